@@ -1,0 +1,107 @@
+-- Document 01, "Table and node": the words of a table, its header, its nodes, and the empty table.
+use mathlib.Core.Bool.{Bool, true, false, cond, _&&_}
+use mathlib.Core.List.{List, [], _∷_, _++_}
+use Prim.Native.Nat.{ℕ, zero, suc, _+_, _-_, _*_, _/_}
+use lib.Dec.{leb, eqb}
+use lib.ListN.{length, getD, take, drop, replicate}
+use Rattle.model.specs.declared.Node.{Node}
+use Rattle.model.specs.declared.Outcome.{Outcome}
+use Rattle.model.specs.declared.Outcome.the-variants.{Done, Refused}
+
+-- the largest word
+abbrev pub MARK : ℕ
+MARK = 18446744073709551615
+
+-- the words of a table, of an order list or of a listing
+abbrev pub Words : Type 0
+Words = List ℕ
+
+-- the word at an index; 0 past the end
+abbrev pub at : Words → ℕ → ℕ
+at t w = getD t w 0
+
+-- Eight words from a multiple of 8 are a line.
+abbrev pub line : ℕ → ℕ
+line w = w / 8
+
+-- ---- the length and the header
+
+-- A table is 8 + 32 times N words long, N from 1 to 65,535.
+unfoldable pub tableLength : ℕ → ℕ
+tableLength n = 8 + 32 * n
+
+-- the N of a slice of this length, if it has one
+unfoldable pub nodesFor : ℕ → ℕ
+nodesFor len = (len - 8) / 32
+
+unfoldable pub lengthOk : ℕ → Bool
+lengthOk len = eqb len (tableLength (nodesFor len)) && leb 1 (nodesFor len) && leb (nodesFor len) 65535
+
+-- header words: the root's node number, and N
+abbrev pub root : Words → ℕ
+root t = at t 1
+
+abbrev pub nodes : Words → ℕ
+nodes t = at t 2
+
+-- a node number: 1 to N
+unfoldable pub inRange : ℕ → ℕ → Bool
+inRange n i = leb 1 i && leb i n
+
+unfoldable pub allZero : Words → Bool
+allZero [] = true
+allZero (w ∷ ws) = eqb w 0 && allZero ws
+
+-- Word 0 is 1; word 1 the root's node number; word 2 is N; words 3 to 7 are 0.
+unfoldable pub headerOk : Words → Bool
+headerOk t =
+    lengthOk (length t) && eqb (at t 0) 1 && eqb (nodes t) (nodesFor (length t)) && allZero (take 5 (drop 3 t)) && inRange (nodes t) (root t)
+
+-- what the header test answers: 0, or 2 for a wrong length or header, or a root outside 1 to N
+unfoldable pub headerNumber : Words → ℕ
+headerNumber t = cond (headerOk t) 0 2
+
+-- ---- nodes
+
+-- Node i begins at word 8 + 32 times (i − 1).
+unfoldable pub nodeStart : ℕ → ℕ
+nodeStart i = 8 + 32 * (i - 1)
+
+-- node i lies in the table
+unfoldable pub hasNode : Words → ℕ → Bool
+hasNode t i = leb 1 i && leb (nodeStart i + 32) (length t)
+
+-- a node of zeros; what a number that no node has reads as
+unfoldable pub blank : Node
+blank = record { left = 0; sibling = 0; level = 0; fence = 0; slots = replicate 24 0 }
+
+-- the node that begins at word w: left, right sibling, level, fence; words 4 to 7; then 12 slots, a key word and a pointer word each
+unfoldable pub nodeFrom : Words → ℕ → Node
+nodeFrom t w =
+    record { left = at t w; sibling = at t (w + 1); level = at t (w + 2); fence = at t (w + 3); slots = take 24 (drop (w + 8) t) }
+
+-- A node is read into one record that holds its slots.
+unfoldable pub node : Words → ℕ → Node
+node t i = cond (hasNode t i) (nodeFrom t (nodeStart i)) blank
+
+-- words 4 to 7 of node i
+unfoldable pub spare : Words → ℕ → Words
+spare t i = take 4 (drop (nodeStart i + 4) t)
+
+-- ---- the empty table
+
+-- An empty table has root 1, a leaf with left MARK; every other node word is 0.
+unfoldable pub empty : ℕ → Words
+empty n = (1 ∷ 1 ∷ n ∷ replicate 5 0) ++ (MARK ∷ replicate (32 * n - 1) 0)
+
+-- Making tests only the length: what it answers, and the words that it leaves.
+unfoldable pub making : Words → Outcome
+making t = cond (lengthOk (length t)) Done (Refused 2)
+
+unfoldable pub made : Words → Words
+made t = cond (lengthOk (length t)) (empty (nodesFor (length t))) t
+
+-- Document 01's number for each case: 0 where the call does its work.
+abbrev pub outcomeNumber : Outcome → ℕ
+outcomeNumber Done = 0
+outcomeNumber (Refused n) = n

@@ -1,0 +1,47 @@
+// The types that the calls take and answer with. A table, an order list and a listing are plain slices of words.
+
+// A node by value (document 01's record): its header words, and its 12 slots as key word, pointer word, key word, ..
+pub struct Node {
+    pub left: u64,
+    pub sibling: u64,
+    pub level: u64,
+    pub fence: u64,
+    pub slots: [u64; 24],
+}
+
+// What reading a code answers.
+pub enum Parsed {
+    Key(u64),
+    Refused(u8),
+}
+
+// What printing a key answers: 0 and the code's characters, or the refusal's number and 12 zero bytes.
+pub struct Printed {
+    pub number: u8,
+    pub text: [u8; 12],
+}
+
+// What a search answers.
+pub enum Answer {
+    Found(u64),
+    Absent,
+    Refused(u8),
+}
+
+// What a listing answers: how many pairs it wrote, and whether more were left.
+pub enum Listed {
+    Pairs { count: u64, more: bool },
+    Refused(u8),
+}
+
+// What making and carry-out answer.
+pub enum Outcome {
+    Done,
+    Refused(u8),
+}
+
+// What a write answers: how many stores and how many flushes its order list has.
+pub enum Written {
+    Done { stores: u64, flushes: u64 },
+    Refused(u8),
+}
