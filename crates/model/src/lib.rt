@@ -45,3 +45,25 @@ pub enum Written {
     Done { stores: u64, flushes: u64 },
     Refused(u8),
 }
+
+// Nodes with something unfinished: none, one (which), or more than one.
+pub enum Few {
+    Zero,
+    One(u64),
+    Many,
+}
+
+// Nodes whose sibling lacks its slot in the parent: none, one (the parent, and the node), or more than one.
+pub enum Missing {
+    Nowhere,
+    Under { parent: u64, node: u64 },
+    Several,
+}
+
+// What a settled table has none of: hidden slots, each counted at its node; nodes that still show slots from their sibling's
+// fence up; nodes whose sibling lacks its slot in the parent.
+pub struct Unfinished {
+    pub hidden: Few,
+    pub trailing: Few,
+    pub missing: Missing,
+}

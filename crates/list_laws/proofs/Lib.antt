@@ -1,0 +1,2 @@
+-- Laws on Booleans and lists.
+pub mod Tools

@@ -1,0 +1,138 @@
+-- Booleans and lists: tests as facts, what holds of each element, lists joined, lookups.
+use mathlib.Core.Path.{_≡_, refl, ap, sym, _∙_}
+use mathlib.Core.Bool.{Bool, true, false, not, _&&_, _||_, false≢true}
+use mathlib.Core.Logic.{_↔_}
+use mathlib.Core.List.{List, [], _∷_, _++_, map, append-assoc}
+use mathlib.Core.Option.{Option, none, some}
+use Prim.Native.Nat.{ℕ, zero, suc, _+_, _≤_, _<_}
+use native.Mathlib.Omega.{arith}
+use lib.Dec.{eqb, ltb, leb}
+use borrow.Author.Tests.{ltb-true, ltb-false, leb-true, leb-false, eqb-true, eqb-false, eq-eqb, ne-eqb, lt-ltb, le-ltb, le-leb, lt-leb}
+use Rattle.model.specs.declared.Answer.{Answer}
+use Rattle.model.specs.declared.Answer.the-variants.{Found, Absent}
+use Rattle.model.specs.Slots.{Slot}
+use Rattle.model.specs.Search.{firstWith, answerOf, lookup}
+use Rattle.model.specs.Reached.{filter, flat}
+use Rattle.model.specs.SoundTest.{all}
+
+pub and-iff : (a b : Bool) → (a && b ≡ true) ↔ ((a ≡ true) × (b ≡ true))
+and-iff true b = (λ e. (refl, e), λ p. p .1)
+and-iff false b = (λ e. absurd (false≢true e), λ p. p .0)
+
+pub eqb-iff : (a b : ℕ) → (eqb a b ≡ true) ↔ (a ≡ b)
+eqb-iff a b = (eqb-true a b, eq-eqb a b)
+
+pub leb-iff : (a b : ℕ) → (leb a b ≡ true) ↔ (a ≤ b)
+leb-iff a b = (leb-true a b, le-leb a b)
+
+-- `simp decode at h` turns a true conjunction of tests into the tuple of its facts, and `simp decode (..)` proves one
+pub ruleset decode = (and-iff, eqb-iff, leb-iff)
+
+pub or-right : (a b : Bool) → b ≡ true → a || b ≡ true
+or-right true b e = refl
+or-right false b e = e
+
+pub or-false-iff : (a b : Bool) → (a || b ≡ false) ↔ ((a ≡ false) × (b ≡ false))
+or-false-iff true b = (λ e. absurd (false≢true (sym e)), λ u. u .0)
+or-false-iff false b = (λ e. (refl, e), λ u. u .1)
+
+abbrev pub Each {ℓ} : {A : Type ℓ} → (A → Type 0) → List A → Type 0
+Each P [] = Unit {0}
+Each P (x ∷ xs) = P x × Each P xs
+
+pub Each-append {ℓ} : {A : Type ℓ} (P : A → Type 0) (xs ys : List A) → Each P xs → Each P ys → Each P (xs ++ ys)
+Each-append P [] ys a b = b
+Each-append P (x ∷ xs) ys a b = (a .0, Each-append P xs ys (a .1) b)
+
+pub Each-split {ℓ} : {A : Type ℓ} (P : A → Type 0) (xs ys : List A) → Each P (xs ++ ys) → Each P xs × Each P ys
+Each-split P [] ys a = (tt, a)
+Each-split P (x ∷ xs) ys a = let u = Each-split P xs ys (a .1) in ((a .0, u .0), u .1)
+
+pub Each-map {ℓ} : {A : Type ℓ} (P Q : A → Type 0) (xs : List A) → ((x : A) → P x → Q x) → Each P xs → Each Q xs
+Each-map P Q [] g a = tt
+Each-map P Q (x ∷ xs) g a = (g x (a .0), Each-map P Q xs g (a .1))
+
+pub all-each {ℓ} : {A : Type ℓ} (p : A → Bool) (xs : List A) → (all p xs ≡ true) ↔ Each (λ (x : A). p x ≡ true) xs
+unfolding all
+all-each p [] = (λ e. tt, λ u. refl)
+all-each p (x ∷ xs) = (λ e. let h = simp and-iff at e in (h .0, all-each p xs .0 (h .1)), λ u. simp and-iff (u .0, all-each p xs .1 (u .1)))
+
+pub all-append {ℓ} : {A : Type ℓ} (p : A → Bool) (xs ys : List A) → (all p (xs ++ ys) ≡ true) ↔ ((all p xs ≡ true) × (all p ys ≡ true))
+unfolding all
+all-append p [] ys = (λ e. (refl, e), λ u. u .1)
+all-append p (x ∷ xs) ys = (λ e. let h = simp and-iff at e in let g = all-append p xs ys .0 (h .1) in (simp and-iff (h .0, g .0), g .1), λ u. let h = simp and-iff at (u .0) in simp and-iff (h .0, all-append p xs ys .1 (h .1, u .1)))
+
+pub flat-append {ℓ} : {A B : Type ℓ} (g : A → List B) (xs ys : List A) → flat g (xs ++ ys) ≡ flat g xs ++ flat g ys
+unfolding flat
+flat-append g [] ys = refl
+flat-append g (x ∷ xs) ys = rw (flat-append g xs ys, append-assoc)
+
+pub flat-flat {ℓ} : {A B C : Type ℓ} (g : B → List C) (h : A → List B) (xs : List A) → flat g (flat h xs) ≡ flat (λ (x : A). flat g (h x)) xs
+unfolding flat
+flat-flat g h [] = refl
+flat-flat g h (x ∷ xs) = rw (flat-append, flat-flat g h xs)
+
+pub flat-single {ℓ} : {A : Type ℓ} (xs : List A) → flat (λ (x : A). x ∷ []) xs ≡ xs
+unfolding flat
+flat-single [] = refl
+flat-single (x ∷ xs) = ap (λ l. x ∷ l) (flat-single xs)
+
+pub Each-flat {ℓ} : {A B : Type ℓ} (P : B → Type 0) (g : A → List B) (xs : List A) → Each P (flat g xs) → Each (λ (x : A). Each P (g x)) xs
+unfolding flat
+Each-flat P g [] h = tt
+Each-flat P g (x ∷ xs) h = let u = Each-split P (g x) (flat g xs) h in (u .0, Each-flat P g xs (u .1))
+
+pub Each-filter : (P : Slot → Type 0) (q : Slot → Bool) (ss : List Slot) → Each P ss → Each (λ (s : Slot). P s × (q s ≡ true)) (filter q ss)
+unfolding filter
+Each-filter P q [] h = tt
+Each-filter P q (s ∷ ss) h = go (q s) refl (Each-filter P q ss (h .1))
+  where
+    go : (b : Bool) → q s ≡ b → Each (λ (s : Slot). P s × (q s ≡ true)) (filter q ss) → Each (λ (s : Slot). P s × (q s ≡ true)) (filter q (s ∷ ss))
+    go true c ih = rw (c, filter) ((h .0, c), ih)
+    go false c ih = rw (c, filter) ih
+
+-- lookups in joined lists: no slot of ss has the key k
+abbrev pub Misses : ℕ → List Slot → Type 0
+Misses k ss = Each (λ (s : Slot). s .key ≡ k → ⊥) ss
+
+pub first-nil : (k : ℕ) (b : List Slot) → Misses k b → firstWith k b ≡ none
+unfolding firstWith
+first-nil k [] m = refl
+first-nil k (s ∷ b) m = rw (ne-eqb (s .key) k (m .0), firstWith) (first-nil k b (m .1))
+
+pub first-l : (k : ℕ) (a b : List Slot) → Misses k a → firstWith k (a ++ b) ≡ firstWith k b
+unfolding firstWith
+first-l k [] b m = refl
+first-l k (s ∷ a) b m = rw (ne-eqb (s .key) k (m .0), firstWith) (first-l k a b (m .1))
+
+pub first-r : (k : ℕ) (a b : List Slot) → Misses k b → firstWith k (a ++ b) ≡ firstWith k a
+unfolding firstWith
+first-r k [] b m = first-nil k b m
+first-r k (s ∷ a) b m = ap (λ (x : Option Slot). elim (eqb (s .key) k) as (λ c. Option Slot) [ true ↦ some s | false ↦ x ]) (first-r k a b m)
+
+pub first-filter : (k : ℕ) (q : Slot → Bool) (ss : List Slot) → ((s : Slot) → s .key ≡ k → q s ≡ true) → firstWith k (filter q ss) ≡ firstWith k ss
+unfolding firstWith filter
+first-filter k q [] h = refl
+first-filter k q (s ∷ ss) h = go (q s) (eqb (s .key) k) refl refl (first-filter k q ss h)
+  where
+    go : (a b : Bool) → q s ≡ a → eqb (s .key) k ≡ b → firstWith k (filter q ss) ≡ firstWith k ss → firstWith k (filter q (s ∷ ss)) ≡ firstWith k (s ∷ ss)
+    go true true e c ih = rw (e, c, firstWith, filter)
+    go true false e c ih = rw (e, c, firstWith, filter) ih
+    go false true e c ih = absurd (false≢true (sym e ∙ h s (eqb-true (s .key) k c)))
+    go false false e c ih = rw (e, c, firstWith, filter) ih
+
+pub lookup-nil : (k : ℕ) (b : List Slot) → Misses k b → lookup k b ≡ Absent
+unfolding lookup
+lookup-nil k b m = ap answerOf (first-nil k b m)
+
+pub lookup-l : (k : ℕ) (a b : List Slot) → Misses k a → lookup k (a ++ b) ≡ lookup k b
+unfolding lookup
+lookup-l k a b m = ap answerOf (first-l k a b m)
+
+pub lookup-r : (k : ℕ) (a b : List Slot) → Misses k b → lookup k (a ++ b) ≡ lookup k a
+unfolding lookup
+lookup-r k a b m = ap answerOf (first-r k a b m)
+
+pub lookup-filter : (k : ℕ) (q : Slot → Bool) (ss : List Slot) → ((s : Slot) → s .key ≡ k → q s ≡ true) → lookup k (filter q ss) ≡ lookup k ss
+unfolding lookup
+lookup-filter k q ss h = ap answerOf (first-filter k q ss h)

@@ -1,0 +1,136 @@
+-- Demand 3 as one claim over all sequences of insertions, deletions and repairs, whole or cut.
+use mathlib.Core.Path.{_≡_}
+use mathlib.Core.Bool.{Bool, true, false}
+use mathlib.Core.List.{List, [], _∷_}
+use Prim.Native.Nat.{ℕ, zero, suc, _≤_}
+use lib.Dec.{eqb}
+use lib.ListN.{length}
+use Rattle.model.specs.declared.Answer.{Answer}
+use Rattle.model.specs.Table.{Words, empty}
+use Rattle.model.specs.Slots.{Slot}
+use Rattle.model.specs.Search.{search, lookup}
+use Rattle.model.specs.Reached.{mapOf}
+use Rattle.model.specs.SoundTest.{settled}
+use Rattle.model.specs.Orders.{Order, carriedOut, carryNumber}
+use Rattle.model.specs.Cuts.{CutImage}
+use Rattle.model.specs.Writes.{Call, insertion, deletion, repair, repaired}
+use Rattle.model.specs.Refusals.{parentFull, elevenIn, tenIn, refusal, unlessRefused, ordersOf, written, writtenNumber, ordersAnswered, tableAfter, listAfter}
+use Rattle.model.specs.Ledger.{Ledger, fedOf, ledgerRefusal, End, completed, cutAfter, feed}
+
+-- ---- events and histories
+
+-- what becomes of an accepted call's orders: all are carried out, or a cut falls after c of them and memory is then m
+pub data Fate : Type 0 where
+  whole : Fate
+  cut : (c : ℕ) → (m : Words) → Fate
+
+-- a call, the order list as it was lent, and its fate
+pub record Event : Type 0 where
+  pub call : Call
+  pub lent : Words
+  pub fate : Fate
+
+-- the latest event first: the tail of a history is the history before it
+abbrev pub History : Type 0
+History = List Event
+
+-- memory, and the working copy
+pub record State : Type 0 where
+  pub memory : Words
+  pub working : Words
+
+-- the number that the call answers, and its orders where it is accepted
+abbrev pub numberOf : State → Event → ℕ
+numberOf s e = refusal (e .call) (length (e .lent)) (s .working)
+
+abbrev pub eventOrders : State → Event → List Order
+eventOrders s e = ordersOf (e .call) (s .working)
+
+-- the orders that the call answered, and the lent list after the call
+abbrev pub answered : State → Event → ℕ
+answered s e = ordersAnswered (written (e .call) (length (e .lent)) (s .working))
+
+abbrev pub listOf : State → Event → Words
+listOf s e = listAfter (e .call) (e .lent) (s .working)
+
+-- Whole: memory is what the carry-out call makes of it with the lent list and the orders answered. Cut: memory is m, reloaded.
+abbrev pub afterFate : Fate → State → Event → State
+afterFate whole s e =
+    record { memory = carriedOut (answered s e) (listOf s e) (s .memory); working = tableAfter (e .call) (length (e .lent)) (s .working) }
+afterFate (cut c m) s e = record { memory = m; working = m }
+
+-- a refused call has no orders, and changes nothing
+unfoldable pub step : State → Event → State
+step s e = unlessRefused (numberOf s e) (afterFate (e .fate) s e) s
+
+-- the state after a history that starts with an empty table of n nodes, stored whole in memory and copied as the working copy
+unfoldable pub runAll : (n : ℕ) → History → State
+runAll n [] = record { memory = empty n; working = empty n }
+runAll n (e ∷ h) = step (runAll n h) e
+
+-- a cut falls within its list, and memory is then an image that it may leave
+abbrev pub FateMay : Fate → State → Event → Type 0
+FateMay whole s e = Unit {0}
+FateMay (cut c m) s e = (c ≤ length (eventOrders s e)) × CutImage c (s .memory) (eventOrders s e) m
+
+unfoldable pub May : (n : ℕ) → History → Type 0
+May n [] = Unit {0}
+May n (e ∷ h) = May n h × (numberOf (runAll n h) e ≡ 0 → FateMay (e .fate) (runAll n h) e)
+
+-- ---- the ledger along a history
+
+abbrev pub endOf : Fate → State → Event → End
+endOf whole s e = completed
+endOf (cut c m) s e = cutAfter c (eqb c (length (eventOrders s e)))
+
+-- the choice is made once for each event, on what happened up to it, and stays: the ledger of a longer history is fed onto this one
+unfoldable pub ledgerAfter : (choose : History → Bool) → (n : ℕ) → History → Ledger
+ledgerAfter choose n [] = []
+ledgerAfter choose n (e ∷ h) =
+    feed (e .call) (length (e .lent)) (fedOf (numberOf (runAll n h) e)) (endOf (e .fate) (runAll n h) e) (choose (e ∷ h)) (ledgerAfter choose n h)
+
+-- ---- what holds at the start and after each event
+
+-- every search, in memory and in the working copy, answers as the ledger: found with its recording, absent exactly if it has none
+pub record Agrees (s : State) (ps : Ledger) : Type 0 where
+  pub in-memory : (k : ℕ) → search (s .memory) k ≡ lookup k ps
+  pub in-working : (k : ℕ) → search (s .working) k ≡ lookup k ps
+
+-- all of the call's orders were carried out
+abbrev pub Completed : Fate → State → Event → Type 0
+Completed whole s e = Unit {0}
+Completed (cut c m) s e = c ≡ length (eventOrders s e)
+
+abbrev pub Carried : Fate → State → Event → Type 0
+Carried whole s e = carryNumber (answered s e) (listOf s e) (s .memory) ≡ 0
+Carried (cut c m) s e = Unit {0}
+
+-- a repair keeps the map
+abbrev pub Keeps : Call → State → State → Type 0
+Keeps (insertion k r) s s′ = Unit {0}
+Keeps (deletion k) s s′ = Unit {0}
+Keeps repair s s′ = mapOf (s′ .working) ≡ mapOf (s .working)
+
+-- of the event e that took s to s′, where the ledger was ps
+pub record Right (e : Event) (s s′ : State) (ps : Ledger) : Type 0 where
+  -- accepted or refused as in the ledger, with the same number
+  pub same-number : numberOf s e ≡ ledgerRefusal (e .call) (length (e .lent)) (fedOf (numberOf s e)) ps
+  pub answers-it : writtenNumber (written (e .call) (length (e .lent)) (s .working)) ≡ numberOf s e
+  -- 10, 11 and 12 only on their conditions
+  pub ten-only : numberOf s e ≡ 10 → tenIn (e .call) (repaired (s .working)) ≡ true
+  pub eleven-only : numberOf s e ≡ 11 → elevenIn (e .call) (repaired (s .working)) ≡ true
+  pub twelve-only : numberOf s e ≡ 12 → parentFull (s .working) ≡ true
+  -- the carry-out of a whole list is not refused; a completed list leaves memory equal to the working copy, and nothing unfinished
+  pub carried : numberOf s e ≡ 0 → Carried (e .fate) s e
+  pub equal : numberOf s e ≡ 0 → Completed (e .fate) s e → s′ .memory ≡ s′ .working
+  pub finished : numberOf s e ≡ 0 → Completed (e .fate) s e → (settled (s′ .memory) ≡ true) × (settled (s′ .working) ≡ true)
+  pub repair-keeps : Keeps (e .call) s s′
+
+abbrev pub Kept : (choose : History → Bool) → (n : ℕ) → History → Type 0
+Kept choose n [] = Agrees (runAll n []) (ledgerAfter choose n [])
+Kept choose n (e ∷ h) =
+    Agrees (runAll n (e ∷ h)) (ledgerAfter choose n (e ∷ h)) × Right e (runAll n h) (runAll n (e ∷ h)) (ledgerAfter choose n h)
+
+-- Demand 3: for every N there is a way to take or omit the cut changes such that, after every history that may happen, all of it holds.
+abbrev pub Demand3 : Type 0
+Demand3 = (n : ℕ) → 1 ≤ n → n ≤ 65535 → (choose : History → Bool) × ((h : History) → May n h → Kept choose n h)

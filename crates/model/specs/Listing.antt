@@ -1,0 +1,48 @@
+-- Document 01, "Search": a listing of the map's pairs in a range of keys.
+use mathlib.Core.Bool.{Bool, true, false, cond, _&&_}
+use mathlib.Core.List.{List, [], _∷_, _++_}
+use Prim.Native.Nat.{ℕ, _*_, _/_}
+use lib.Dec.{leb, ltb}
+use lib.ListN.{length, take, drop}
+use Rattle.model.specs.declared.Listed.{Listed}
+use Rattle.model.specs.declared.Listed.the-variants.{Pairs, Refused}
+use Rattle.model.specs.Table.{Words, headerOk}
+use Rattle.model.specs.Slots.{Slot}
+use Rattle.model.specs.Reached.{filter, mapOf}
+use Rattle.model.specs.SoundTest.{sound}
+
+-- the map's pairs in the range, rising; lowest above highest gives none
+unfoldable pub inRangeOf : ℕ → ℕ → List Slot → List Slot
+inRangeOf low high ps = filter (λ (s : Slot). leb low (s .key) && leb (s .key) high) ps
+
+-- those of which whole pairs fit into a slice of this length
+abbrev pub fitting : ℕ → List Slot → List Slot
+fitting words ps = take (words / 2) ps
+
+-- pairs as words: key, recording
+unfoldable pub pairWords : List Slot → Words
+pairWords [] = []
+pairWords (s ∷ ss) = s .key ∷ s .pointer ∷ pairWords ss
+
+-- the number of pairs written and whether more were left, where ps are the pairs in the range
+unfoldable pub listed : List Slot → ℕ → Listed
+listed ps words = Pairs (length (fitting words ps)) (ltb (length (fitting words ps)) (length ps))
+
+-- the slice then: the pairs written; other words stay
+unfoldable pub listedWords : List Slot → Words → Words
+listedWords ps out = pairWords (fitting (length out) ps) ++ drop (2 * length (fitting (length out) ps)) out
+
+-- What a listing refuses with: 2, then 4; else 0.
+unfoldable pub listNumber : Words → ℕ
+listNumber t = cond (headerOk t) (cond (sound t) 0 4) 2
+
+unfoldable pub list : Words → ℕ → ℕ → Words → Listed
+list t low high out = elim (sound t) [ true ↦ listed (inRangeOf low high (mapOf t)) (length out) | false ↦ Refused (listNumber t) ]
+
+unfoldable pub listOut : Words → ℕ → ℕ → Words → Words
+listOut t low high out = elim (sound t) [ true ↦ listedWords (inRangeOf low high (mapOf t)) out | false ↦ out ]
+
+-- Document 01's number for each case: 0 where the call does its work.
+abbrev pub listedNumber : Listed → ℕ
+listedNumber (Pairs count more) = 0
+listedNumber (Refused n) = n

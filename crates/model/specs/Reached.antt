@@ -1,0 +1,83 @@
+-- Document 01, "Search": the nodes reached, the map, and a listing.
+use mathlib.Core.Bool.{Bool, true, false, cond, _&&_}
+use mathlib.Core.List.{List, [], _∷_, _++_, map}
+use Prim.Native.Nat.{ℕ, zero, suc, _+_, _*_, _/_}
+use lib.Dec.{leb, ltb, eqb}
+use lib.ListN.{length, take, drop}
+use Rattle.model.specs.declared.Listed.{Listed}
+use Rattle.model.specs.declared.Listed.the-variants.{Pairs, Refused}
+use Rattle.model.specs.Table.{Words, headerOk}
+use Rattle.model.specs.Slots.{Slot, View, view, height}
+use Rattle.model.specs.Search.{within}
+
+unfoldable pub filter {ℓ} : {A : Type ℓ} → (A → Bool) → List A → List A
+filter p [] = []
+filter p (x ∷ xs) = elim (p x) [ true ↦ x ∷ filter p xs | false ↦ filter p xs ]
+
+unfoldable pub flat {ℓ} : {A B : Type ℓ} → (A → List B) → List A → List B
+flat g [] = []
+flat g (x ∷ xs) = g x ++ flat g xs
+
+abbrev pub headOr : ℕ → List ℕ → ℕ
+headOr d [] = d
+headOr d (x ∷ xs) = x
+
+abbrev pub pointers : List Slot → List ℕ
+pointers ss = map (λ (s : Slot). s .pointer) ss
+
+-- ---- the nodes reached
+
+-- the shown slots whose key is below their node's sibling's fence; the others are ignored
+unfoldable pub kept : View → ℕ → List Slot
+kept v n = filter (λ (s : Slot). within v n (s .key)) (v .shown n)
+
+-- the children that an inner node names: left, then by its kept slots
+abbrev pub named : View → ℕ → List ℕ
+named v n = v .left n ∷ pointers (kept v n)
+
+-- the leftmost child of n, and the node that comes after n's last child on their level; 0 for none
+unfoldable pub firstChild : View → ℕ → ℕ
+firstChild v n = elim (eqb n 0) [ true ↦ 0 | false ↦ v .left n ]
+
+abbrev pub nextChild : View → ℕ → ℕ
+nextChild v n = firstChild v (v .sibling n)
+
+module _ (v : View) where
+  -- nodes of one level in a row that e follows, with each one's sibling after it where the row lacks that
+  unfoldable pub fillRow : List ℕ → ℕ → List ℕ
+  fillRow [] e = []
+  fillRow (n ∷ ns) e = elim (eqb (v .sibling n) (headOr e ns)) [ true ↦ n ∷ fillRow ns e | false ↦ n ∷ v .sibling n ∷ fillRow ns e ]
+
+  -- the nodes reached from n on the level below; from a leaf none
+  unfoldable pub children : ℕ → List ℕ
+  children n = elim (eqb (v .level n) 0) [ true ↦ [] | false ↦ fillRow (named v n) (nextChild v n) ]
+
+  -- the nodes reached from a row d levels above the leaves, row by row; and the row of the leaves
+  unfoldable pub reachedFrom : ℕ → List ℕ → List ℕ
+  reachedFrom zero ns = ns
+  reachedFrom (suc d) ns = ns ++ reachedFrom d (flat children ns)
+
+  unfoldable pub leavesFrom : ℕ → List ℕ → List ℕ
+  leavesFrom zero ns = ns
+  leavesFrom (suc d) ns = leavesFrom d (flat children ns)
+
+-- the nodes reached from the root, and the leaves among them, each row from left to right.
+-- On a sound table these are the nodes of document 01's sentence, which Sound.antt renders literally.
+abbrev pub reached : View → List ℕ
+reached v = reachedFrom v (height v) (v .root ∷ [])
+
+abbrev pub leaves : View → List ℕ
+leaves v = leavesFrom v (height v) (v .root ∷ [])
+
+-- ---- the map
+
+-- Every shown slot of a reached leaf whose key is below the leaf's sibling's fence, as (key, recording).
+unfoldable pub mapping : View → List Slot
+mapping v = flat (kept v) (leaves v)
+
+abbrev pub mapOf : Words → List Slot
+mapOf t = mapping (view t)
+
+-- What a leaf's pointer says: the recording's number.
+abbrev pub recording : Slot → ℕ
+recording s = s .pointer

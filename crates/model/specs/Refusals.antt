@@ -1,0 +1,115 @@
+-- Document 01, "What refuses, and with which number": for each writing call, the numbers in their order; and what a call answers.
+use mathlib.Core.Bool.{Bool, true, false, cond, not, _&&_, _||_}
+use mathlib.Core.List.{List, [], _∷_}
+use mathlib.Core.Option.{Option, none, some}
+use Prim.Native.Nat.{ℕ, zero, suc, _+_}
+use lib.Dec.{eqb, ltb}
+use lib.ListN.{length}
+use Rattle.model.specs.declared.Written.{Written}
+use Rattle.model.specs.declared.Written.the-variants.{Done, Refused}
+use Rattle.model.specs.Table.{MARK, Words, headerOk}
+use Rattle.model.specs.Slots.{Slot, View, view, height, full}
+use Rattle.model.specs.Reached.{mapOf, recording}
+use Rattle.model.specs.SoundTest.{sound, Leftover, nothing, hiddenIn, missingIn, bothIn, leftover}
+use Rattle.model.specs.Orders.{Store, Order, apply, orders, storeCount, flushCount, listWith}
+use Rattle.model.specs.Writes.{unreachable, repaired, run, rootInRun, Call, insertion, deletion, repair, storesOf}
+
+-- ---- the conditions of 12, 11 and 10
+
+-- 12: repair would find 11 shown slots in the parent
+abbrev pub fullParent : View → Option Leftover → Bool
+fullParent v none = false
+fullParent v (some nothing) = false
+fullParent v (some (hiddenIn x)) = false
+fullParent v (some (missingIn p a trailing)) = full (v .shown p)
+fullParent v (some (bothIn p a)) = full (v .shown p)
+
+unfoldable pub parentFull : Words → Bool
+parentFull t = fullParent (view t) (leftover (view t))
+
+-- 11: the run includes a root at level 15
+unfoldable pub tooHigh : Words → (k : ℕ) → Bool
+tooHigh t k = rootInRun t k && eqb (height (view t)) 15
+
+-- 10: fewer unreachable nodes than the run's length, plus 1 for a new root
+unfoldable pub tooFew : Words → (k : ℕ) → Bool
+tooFew t k = ltb (length (unreachable t)) (run t k + cond (rootInRun t k) 1 0)
+
+-- ---- the numbers in their order
+
+pub record Test : Type 0 where
+  pub holds : Bool
+  pub number : ℕ
+
+abbrev pub test : Bool → ℕ → Test
+test b n = record { holds = b; number = n }
+
+-- the number of the first test that holds; 0 where none does: accepted
+abbrev pub firstNumber : List Test → ℕ
+firstNumber [] = 0
+firstNumber (c ∷ cs) = cond (c .holds) (c .number) (firstNumber cs)
+
+unfoldable pub hasKey : ℕ → List Slot → Bool
+hasKey k [] = false
+hasKey k (s ∷ ss) = eqb (s .key) k || hasKey k ss
+
+unfoldable pub hasRecording : ℕ → List Slot → Bool
+hasRecording r [] = false
+hasRecording r (s ∷ ss) = eqb (recording s) r || hasRecording r ss
+
+-- 6, 7, 8, 9, 11, 10, by a map; 11 and 10 ask more than the map and are handed in
+abbrev pub mapTests : Call → (eleven ten : Bool) → List Slot → List Test
+mapTests (insertion k r) eleven ten ps =
+    test (eqb r 0 || eqb r MARK) 6 ∷ test (hasKey k ps) 7 ∷ test (hasRecording r ps) 8 ∷ test eleven 11 ∷ test ten 10 ∷ []
+mapTests (deletion k) eleven ten ps = test (not (hasKey k ps)) 9 ∷ []
+mapTests repair eleven ten ps = []
+
+-- from 5 on: 5 by the order list's length, 12 handed in
+abbrev pub testsFrom5 : Call → (words : ℕ) → (twelve eleven ten : Bool) → List Slot → List Test
+testsFrom5 x words twelve eleven ten ps = test (ltb words 2560) 5 ∷ test twelve 12 ∷ mapTests x eleven ten ps
+
+-- 11 and 10 apply to an insertion, on the table t as repair would leave it
+abbrev pub elevenIn : Call → Words → Bool
+elevenIn (insertion k r) t = tooHigh t k
+elevenIn (deletion k) t = false
+elevenIn repair t = false
+
+abbrev pub tenIn : Call → Words → Bool
+tenIn (insertion k r) t = tooFew t k
+tenIn (deletion k) t = false
+tenIn repair t = false
+
+-- The number that a writing call refuses with, on table t with an order list of so many words; 0: accepted.
+unfoldable pub refusal : Call → (words : ℕ) → Words → ℕ
+refusal x words t =
+    firstNumber (test (not (headerOk t)) 2 ∷ test (not (sound t)) 4 ∷ testsFrom5 x words (parentFull t) (elevenIn x (repaired t)) (tenIn x (repaired t)) (mapOf (repaired t)))
+
+-- ---- what a writing call does: all of it follows from its number and its stores
+
+abbrev pub unlessRefused {ℓ} : {A : Type ℓ} → ℕ → A → A → A
+unlessRefused zero done refused = done
+unlessRefused (suc n) done refused = refused
+
+abbrev pub ordersOf : Call → Words → List Order
+ordersOf x t = orders (storesOf x t)
+
+-- An accepted write answers its stores and its flushes.
+unfoldable pub written : Call → (words : ℕ) → Words → Written
+written x words t =
+    unlessRefused (refusal x words t) (Done (storeCount (ordersOf x t)) (flushCount (ordersOf x t))) (Refused (refusal x words t))
+
+-- the working copy, and the lent order list, after the call
+unfoldable pub tableAfter : Call → (words : ℕ) → Words → Words
+tableAfter x words t = unlessRefused (refusal x words t) (apply (storesOf x t) t) t
+
+unfoldable pub listAfter : Call → Words → Words → Words
+listAfter x lent t = unlessRefused (refusal x (length lent) t) (listWith (ordersOf x t) lent) lent
+
+-- Document 01's number for each case, 0 where the call is accepted, and the orders that it answered
+abbrev pub writtenNumber : Written → ℕ
+writtenNumber (Done stores flushes) = 0
+writtenNumber (Refused n) = n
+
+abbrev pub ordersAnswered : Written → ℕ
+ordersAnswered (Done stores flushes) = stores + flushes
+ordersAnswered (Refused n) = 0

@@ -1,0 +1,86 @@
+-- Document 01, "Search": finding the leaf, finding the slot in it, and the answer.
+use mathlib.Core.Bool.{Bool, true, false, cond, _&&_, _||_}
+use mathlib.Core.List.{List, [], _∷_}
+use mathlib.Core.Option.{Option, none, some}
+use Prim.Native.Nat.{ℕ, zero, suc}
+use lib.Dec.{leb, ltb, eqb}
+use Rattle.model.specs.declared.Answer.{Answer}
+use Rattle.model.specs.declared.Answer.the-variants.{Found, Absent, Refused}
+use Rattle.model.specs.Table.{Words, inRange, headerOk}
+use Rattle.model.specs.Slots.{Slot, View, view, height}
+
+-- key k is below the fence of node s; number 0, for no node, bounds no key
+unfoldable pub below : View → ℕ → ℕ → Bool
+below v s k = eqb s 0 || ltb k (v .fence s)
+
+-- k is below the fence of n's sibling; with sibling 0 every key is
+abbrev pub within : View → ℕ → ℕ → Bool
+within v n k = below v (v .sibling n) k
+
+-- If the sibling is not 0 and k is at least the sibling's fence, move there; at most one move a level.
+unfoldable pub moved : View → ℕ → ℕ → ℕ
+moved v n k = elim (within v n k) [ true ↦ n | false ↦ v .sibling n ]
+
+-- In an inner node go down by the last shown slot whose key is at most k, else by left (p).
+unfoldable pub route : ℕ → ℕ → List Slot → ℕ
+route k p [] = p
+route k p (s ∷ ss) = elim (leb (s .key) k) [ true ↦ route k (s .pointer) ss | false ↦ route k p ss ]
+
+abbrev pub down : View → ℕ → ℕ → ℕ
+down v n k = route k (v .left n) (v .shown n)
+
+-- ---- finding the leaf
+
+-- node n is in 1 to N and on level l
+unfoldable pub onLevel : View → ℕ → ℕ → Bool
+onLevel v l n = inRange (v .nodes) n && eqb (v .level n) l
+
+-- coming to n on level l: it is on that level, and so is its sibling, where it has one
+unfoldable pub passes : View → ℕ → ℕ → Bool
+passes v l n = onLevel v l n && (eqb (v .sibling n) 0 || onLevel v l (v .sibling n))
+
+module _ (v : View) where
+  -- the leaf for k, coming to n on level l; none where a test fails
+  unfoldable pub locate : ℕ → ℕ → ℕ → Option ℕ
+  locate zero n k = elim (passes v 0 n) [ true ↦ some (moved v n k) | false ↦ none ]
+  locate (suc l) n k = elim (passes v (suc l) n) [ true ↦ locate l (down v (moved v n k) k) k | false ↦ none ]
+
+  -- the nodes that a search for k stands on, coming to n on level l, the highest first
+  unfoldable pub pathFrom : ℕ → ℕ → ℕ → List ℕ
+  pathFrom zero n k = moved v n k ∷ []
+  pathFrom (suc l) n k = let m = moved v n k in m ∷ pathFrom l (down v m k) k
+
+abbrev pub path : View → ℕ → List ℕ
+path v k = pathFrom v (height v) (v .root) k
+
+-- ---- finding the slot, and the answer
+
+-- the first shown slot whose key is k
+unfoldable pub firstWith : ℕ → List Slot → Option Slot
+firstWith k [] = none
+firstWith k (s ∷ ss) = elim (eqb (s .key) k) [ true ↦ some s | false ↦ firstWith k ss ]
+
+-- the answer from the slot found
+abbrev pub answerOf : Option Slot → Answer
+answerOf none = Absent
+answerOf (some s) = Found (s .pointer)
+
+unfoldable pub lookup : ℕ → List Slot → Answer
+lookup k ss = answerOf (firstWith k ss)
+
+-- the answer from the leaf, where one was found
+abbrev pub answerIn : View → ℕ → Option ℕ → Answer
+answerIn v k none = Refused 3
+answerIn v k (some n) = lookup k (v .shown n)
+
+unfoldable pub searchView : View → ℕ → Answer
+searchView v k = elim (leb (height v) 15) [ true ↦ answerIn v k (locate v (height v) (v .root) k) | false ↦ Refused 3 ]
+
+unfoldable pub search : Words → ℕ → Answer
+search t k = elim (headerOk t) [ true ↦ searchView (view t) k | false ↦ Refused 2 ]
+
+-- Document 01's number for each case: 0 for found and absent. And the recording, where there is one.
+abbrev pub answerNumber : Answer → ℕ
+answerNumber (Found r) = 0
+answerNumber Absent = 0
+answerNumber (Refused n) = n

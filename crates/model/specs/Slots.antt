@@ -1,0 +1,69 @@
+-- Document 01, "Table and node": the slots of a node, in use, shown and hidden; and what is read of each node of a table.
+use mathlib.Core.Bool.{Bool, true, false, _&&_}
+use mathlib.Core.List.{List, [], _∷_}
+use Prim.Native.Nat.{ℕ}
+use lib.Dec.{eqb}
+use lib.ListN.{length, getD}
+use Rattle.model.specs.Table.{Words, node, spare, allZero, nodes, root}
+
+pub record Slot : Type 0 where
+  pub key : ℕ
+  pub pointer : ℕ
+
+abbrev pub slot : ℕ → ℕ → Slot
+slot k p = record { key = k; pointer = p }
+
+-- slots, a key word and a pointer word each
+unfoldable pub slotsOf : Words → List Slot
+slotsOf [] = []
+slotsOf (k ∷ []) = []
+slotsOf (k ∷ p ∷ ws) = slot k p ∷ slotsOf ws
+
+-- The slots in use end before the first pointer 0.
+unfoldable pub inUse : List Slot → List Slot
+inUse [] = []
+inUse (s ∷ ss) = elim (eqb (s .pointer) 0) [ true ↦ [] | false ↦ s ∷ inUse ss ]
+
+-- A slot in use is hidden if its pointer equals the pointer before it; the others are shown. p is the pointer before the first slot.
+unfoldable pub shown : ℕ → List Slot → List Slot
+shown p [] = []
+shown p (s ∷ ss) = elim (eqb (s .pointer) p) [ true ↦ shown (s .pointer) ss | false ↦ s ∷ shown (s .pointer) ss ]
+
+unfoldable pub hidden : ℕ → List Slot → List Slot
+hidden p [] = []
+hidden p (s ∷ ss) = elim (eqb (s .pointer) p) [ true ↦ s ∷ hidden (s .pointer) ss | false ↦ hidden (s .pointer) ss ]
+
+-- A node is full with 11 shown slots.
+unfoldable pub full : List Slot → Bool
+full ss = eqb (length ss) 11
+
+-- the slots in use of node i
+unfoldable pub used : Words → ℕ → List Slot
+used t i = inUse (slotsOf (node t i .slots))
+
+-- What search, reached nodes, the map and soundness read of a table: N, the root, and of each node its header words, its shown slots,
+-- how many slots are hidden, and whether words 4 to 7 and slot 11's pointer are 0. (For slot 0 the pointer before it is left.)
+pub record View : Type 0 where
+  pub nodes : ℕ
+  pub root : ℕ
+  pub left : ℕ → ℕ
+  pub sibling : ℕ → ℕ
+  pub level : ℕ → ℕ
+  pub fence : ℕ → ℕ
+  pub shown : ℕ → List Slot
+  pub hidden : ℕ → ℕ
+  pub clear : ℕ → Bool
+
+unfoldable pub clearIn : Words → ℕ → Bool
+clearIn t i = allZero (spare t i) && eqb (getD (node t i .slots) 23 0) 0
+
+abbrev pub viewFrom : Words → ℕ → View
+viewFrom t r =
+    record { nodes = nodes t; root = r; left = λ (i : ℕ). node t i .left; sibling = λ (i : ℕ). node t i .sibling; level = λ (i : ℕ). node t i .level; fence = λ (i : ℕ). node t i .fence; shown = λ (i : ℕ). shown (node t i .left) (used t i); hidden = λ (i : ℕ). length (hidden (node t i .left) (used t i)); clear = λ (i : ℕ). clearIn t i }
+
+abbrev pub view : Words → View
+view t = viewFrom t (root t)
+
+-- the root's level
+abbrev pub height : View → ℕ
+height v = v .level (v .root)

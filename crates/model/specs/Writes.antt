@@ -1,0 +1,169 @@
+-- Document 01, "Orders": insertion, deletion and repair, each as its list of stores on a table.
+use mathlib.Core.Bool.{Bool, true, false, not}
+use mathlib.Core.List.{List, [], _∷_, _++_, map}
+use mathlib.Core.Option.{Option, none, some}
+use Prim.Native.Nat.{ℕ, zero, suc, pred, _+_, _-_}
+use lib.Dec.{eqb}
+use lib.ListN.{length, getD, take, drop, replicate}
+use Rattle.model.specs.Table.{MARK, Words, nodes, root, nodeStart}
+use Rattle.model.specs.Slots.{Slot, slot, View, view, height, used, full}
+use Rattle.model.specs.Search.{path}
+use Rattle.model.specs.Reached.{filter, headOr, reached}
+use Rattle.model.specs.SoundTest.{all, elem, Leftover, nothing, hiddenIn, missingIn, bothIn, leftover}
+use Rattle.model.specs.Listing.{pairWords}
+use Rattle.model.specs.Orders.{Store, put, apply}
+use Rattle.model.specs.Shifts.{inNode, pointerWord, shiftIn, shiftOut, close, placeOf, hiddenPlace}
+
+-- ---- shifts in a node of a table
+
+-- shift (k, x) in at its place among the shown slots of node n
+unfoldable pub shiftInAt : Words → (n k x : ℕ) → List Store
+shiftInAt t n k x = let v = view t in map (inNode n) (shiftIn (v .left n) (v .shown n) (placeOf k (v .shown n)) k x)
+
+-- shift the slot of key k out of node n
+unfoldable pub shiftOutAt : Words → (n k : ℕ) → List Store
+shiftOutAt t n k = let v = view t in map (inNode n) (shiftOut (v .left n) (v .shown n) (placeOf k (v .shown n)))
+
+-- close the hidden slot of node n
+unfoldable pub closeAt : Words → (n : ℕ) → List Store
+closeAt t n = map (inNode n) (close (used t n) (hiddenPlace (view t .left n) (used t n)))
+
+-- ---- fresh nodes
+
+-- from, from + 1, .., count of them
+unfoldable pub numbers : (from count : ℕ) → List ℕ
+numbers from zero = []
+numbers from (suc n) = from ∷ numbers (suc from) n
+
+-- the nodes of these that are not reached
+unfoldable pub unreached : Words → List ℕ → List ℕ
+unreached t ns = filter (λ (n : ℕ). not (elem n (reached (view t)))) ns
+
+-- the unreachable nodes
+unfoldable pub unreachable : Words → List ℕ
+unreachable t = unreached t (numbers 1 (nodes t))
+
+-- the first unreachable node after a, going round from N to 1; 0 if there is none
+unfoldable pub fresh : Words → (a : ℕ) → ℕ
+fresh t a = headOr 0 (unreached t (numbers (suc a) (nodes t - a) ++ numbers 1 (pred a)))
+
+-- ---- split and new root
+
+-- the stores of words from word w on, in rising order
+unfoldable pub putAll : ℕ → Words → List Store
+putAll w [] = []
+putAll w (x ∷ xs) = put w x ∷ putAll (suc w) xs
+
+-- the 32 words of a node; the rest is 0
+unfoldable pub nodeWords : (left sibling level fence : ℕ) → List Slot → Words
+nodeWords left sibling level fence ss =
+    (left ∷ sibling ∷ level ∷ fence ∷ replicate 4 0) ++ take 24 (pairWords ss ++ replicate 24 0)
+
+-- slot 5 of node a
+abbrev pub middle : Words → (a : ℕ) → Slot
+middle t a = getD (view t .shown a) 5 (slot 0 0)
+
+-- B takes A's old sibling, A's level, and key 5 as fence. A leaf's B takes slots 5 to 10 and left MARK; an inner B takes pointer 5 as
+-- left and slots 6 to 10.
+unfoldable pub splitWords : Words → (a : ℕ) → Words
+splitWords t a =
+    let v = view t in
+    elim (eqb (v .level a) 0) [
+      | true ↦ nodeWords MARK (v .sibling a) (v .level a) (middle t a .key) (drop 5 (v .shown a))
+      | false ↦ nodeWords (middle t a .pointer) (v .sibling a) (v .level a) (middle t a .key) (drop 6 (v .shown a))
+    ]
+
+-- Split full A into B: all 32 words of B in rising order; A's sibling := B; A's pointer 5 := 0; shift B in at the parent p.
+unfoldable pub split : Words → (a b p : ℕ) → List Store
+split t a b p =
+    putAll (nodeStart b) (splitWords t a) ++ (put (suc (nodeStart a)) b ∷ put (pointerWord a 5) 0 ∷ shiftInAt t p (middle t a .key) b)
+
+-- New root: all 32 words of a node with left the old root, one level up, the rest 0; then header word 1.
+unfoldable pub newRoot : Words → List Store
+newRoot t =
+    let r = fresh t (root t) in
+    putAll (nodeStart r) (nodeWords (root t) 0 (suc (height (view t))) 0 []) ++ (put 1 r ∷ [])
+
+-- ---- repair
+
+-- storing 0 in the pointer of A's first slot from B's fence up
+unfoldable pub cutOff : Words → (a : ℕ) → List Store
+cutOff t a = let v = view t in put (pointerWord a (placeOf (v .fence (v .sibling a)) (v .shown a))) 0 ∷ []
+
+-- shift B, the sibling of A, in at the parent p
+unfoldable pub attach : Words → (p a : ℕ) → List Store
+attach t p a = let v = view t in shiftInAt t p (v .fence (v .sibling a)) (v .sibling a)
+
+-- Repair: close, then cut A, then shift B in at the parent; a step for which the leftover has no matter is left out.
+unfoldable pub repairOf : Words → Option Leftover → List Store
+repairOf t none = []
+repairOf t (some nothing) = []
+repairOf t (some (hiddenIn x)) = closeAt t x
+repairOf t (some (missingIn p a false)) = attach t p a
+repairOf t (some (missingIn p a true)) = cutOff t a ++ attach t p a
+repairOf t (some (bothIn p a)) = closeAt t p ++ attach (apply (closeAt t p) t) p a
+
+unfoldable pub repairStores : Words → List Store
+repairStores t = repairOf t (leftover (view t))
+
+-- the table as repair would leave it
+unfoldable pub repaired : Words → Words
+repaired t = apply (repairStores t) t
+
+-- ---- insertion and deletion
+
+-- the node on level l that the search for k stands on
+unfoldable pub standing : Words → (l k : ℕ) → ℕ
+standing t l k = getD (path (view t) k) (height (view t) - l) 0
+
+-- the unbroken run of full nodes from the leaf upward: the longest end of the path all of whose nodes are full
+unfoldable pub runIn : View → List ℕ → ℕ
+runIn v [] = 0
+runIn v (n ∷ ns) = elim (all (λ (m : ℕ). full (v .shown m)) (n ∷ ns)) [ true ↦ length (n ∷ ns) | false ↦ runIn v ns ]
+
+unfoldable pub run : Words → (k : ℕ) → ℕ
+run t k = runIn (view t) (path (view t) k)
+
+-- the run includes the root
+unfoldable pub rootInRun : Words → (k : ℕ) → Bool
+rootInRun t k = eqb (run t k) (suc (height (view t)))
+
+-- the run's lowest n nodes split, from the highest down; the parent is looked up after the split above it
+unfoldable pub splits : (n : ℕ) → Words → (k : ℕ) → List Store
+splits zero t k = []
+splits (suc l) t k =
+    let a = standing t l k in
+    let ss = split t a (fresh t a) (standing t (suc l) k) in
+    ss ++ splits l (apply ss t) k
+
+unfoldable pub rootStores : Words → (k : ℕ) → List Store
+rootStores t k = elim (rootInRun t k) [ true ↦ newRoot t | false ↦ [] ]
+
+-- Insertion after repair: a new root if the run includes the root; the splits; shift in at the leaf.
+unfoldable pub insertSettled : Words → (k r : ℕ) → List Store
+insertSettled t k r =
+    let s₁ = rootStores t k in
+    let t₁ = apply s₁ t in
+    let s₂ = splits (run t k) t₁ k in
+    let t₂ = apply s₂ t₁ in
+    s₁ ++ (s₂ ++ shiftInAt t₂ (standing t₂ 0 k) k r)
+
+unfoldable pub insertStores : Words → (k r : ℕ) → List Store
+insertStores t k r = repairStores t ++ insertSettled (repaired t) k r
+
+-- Deletion: repair, then shift out.
+unfoldable pub deleteStores : Words → (k : ℕ) → List Store
+deleteStores t k = repairStores t ++ shiftOutAt (repaired t) (standing (repaired t) 0 k) k
+
+-- ---- the writing calls
+
+pub data Call : Type 0 where
+  insertion : (k r : ℕ) → Call
+  deletion : (k : ℕ) → Call
+  repair : Call
+
+-- the stores of an accepted call, in document 01's order
+unfoldable pub storesOf : Call → Words → List Store
+storesOf (insertion k r) t = insertStores t k r
+storesOf (deletion k) t = deleteStores t k
+storesOf repair t = repairStores t

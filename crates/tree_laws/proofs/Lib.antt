@@ -1,0 +1,2 @@
+-- Laws of sound tables.
+pub mod Rows

@@ -1,0 +1,1 @@
+// Laws of sound tables, in proofs/: rows of nodes, search and listing against the map. No code.
