@@ -28,6 +28,17 @@ leb-iff a b = (leb-true a b, le-leb a b)
 -- `simp decode at h` turns a true conjunction of tests into the tuple of its facts, and `simp decode (..)` proves one
 pub ruleset decode = (and-iff, eqb-iff, leb-iff)
 
+-- a test whose facts fail is not passed
+pub refuted : (b : Bool) → (b ≡ true → ⊥) → b ≡ false
+refuted true h = absurd (h refl)
+refuted false h = refl
+
+-- tests that say the same are equal
+pub same-test : (a b : Bool) → ((a ≡ true) ↔ (b ≡ true)) → a ≡ b
+same-test true b h = sym (h .0 refl)
+same-test false true h = h .1 refl
+same-test false false h = refl
+
 pub or-right : (a b : Bool) → b ≡ true → a || b ≡ true
 or-right true b e = refl
 or-right false b e = e

@@ -1,0 +1,5 @@
+-- Laws of a table's header, of its nodes and of the empty table, from their definitions in `model`.
+pub mod Words
+pub mod Header
+pub mod Nodes
+pub mod Empty

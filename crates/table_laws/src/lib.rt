@@ -1,0 +1,1 @@
+// Laws of a table's words, in proofs/; no code.
