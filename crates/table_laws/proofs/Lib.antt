@@ -3,3 +3,4 @@ pub mod Words
 pub mod Header
 pub mod Nodes
 pub mod Empty
+pub mod SlotWords

@@ -1,0 +1,73 @@
+-- `isrc::all_of` meets its contract. The loop's invariant: what is left decides as the whole does.
+use borrow.Author.Needs.{needs}
+use borrow.Author.Tests.{not-true, not-false}
+use mathlib.Core.Path.{_≡_, sym, ap, _∙_}
+use mathlib.Core.Bool.{Bool, _&&_}
+use Prim.Native.Nat.{_+_, _≤_, _-_}
+use lib.ListN.{length, drop, drop-of-length-le}
+use Rattle.model.specs.Codes.{every}
+use Rattle.isrc.specs.Kinds.{test}
+use Rattle.isrc.proofs.Characters.{every-at}
+use Rattle.isrc.proofs.all_of.Statement.{statement}
+use Rattle.isrc.proofs.all_of.Tie as tie
+
+abbrev Inv-loop : tie.InvT-loop
+Inv-loop kind text i₀ i = (i ≤ length text) × (every (test kind) (drop i text) ≡ every (test kind) text)
+
+abbrev μ-loop : tie.MeasureT-loop
+μ-loop kind text i₀ i = length text - i
+
+-- a turn's character decides with what follows it
+turn : (c : tie.After-is-of Inv-loop μ-loop) (s : Bool) → c .is-of .result ≡ s
+    → let a = c .before .before .before in
+    let kind = a .before .before .args .kind in
+    let text = a .before .before .args .text .now in
+    (s && every (test kind) (drop (a .loop .i + 1) text)) ≡ every (test kind) text
+turn c s e =
+    let a = c .before .before .before in
+    let kind = a .before .before .args .kind in
+    let text = a .before .before .args .text .now in
+    sym (every-at (test kind) text (a .loop .i) _ s (c .before .before .loop-test .taken) (c .is-of .ensures) e) ∙ a .loop .inv .1
+
+loop-holds : tie.Need-loop-holds Inv-loop μ-loop
+loop-holds c = search needs
+
+shared-slice-read-is-of : tie.Need-shared-slice-read-is-of Inv-loop μ-loop
+shared-slice-read-is-of c = search needs
+
+is-of-requires : tie.Need-is-of-requires Inv-loop μ-loop
+is-of-requires c κs = search needs
+
+returns : tie.Need-returns Inv-loop μ-loop
+returns c = turn (c .before) _ (not-true _ (c .if1 .taken))
+
+add-i : tie.Need-add-i Inv-loop μ-loop
+add-i c = search needs
+
+loop-less : tie.Need-loop-less Inv-loop μ-loop
+loop-less c = search needs
+
+loop-again : tie.Need-loop-again Inv-loop μ-loop
+loop-again c = (search needs, turn (c .before) _ (not-false _ (c .if1 .left)))
+
+returns-2 : tie.Need-returns-2 Inv-loop μ-loop
+unfolding every
+returns-2 c =
+    let s = c .before .before .before in
+    let e = drop-of-length-le (s .args .text .now) (c .loop-test .left) in
+    sym (ap (every (test (s .args .kind))) e) ∙ c .before .loop .inv .1
+
+pub all-of-spec : {M : Type 1} → statement M
+all-of-spec =
+    tie.close
+    (tie.spec
+    Inv-loop
+    μ-loop
+    loop-holds
+    shared-slice-read-is-of
+    is-of-requires
+    returns
+    add-i
+    loop-less
+    loop-again
+    returns-2)
