@@ -109,7 +109,7 @@ Carried (cut c m) s e = Unit {0}
 abbrev pub Keeps : Call → State → State → Type 0
 Keeps (insertion k r) s s′ = Unit {0}
 Keeps (deletion k) s s′ = Unit {0}
-Keeps repair s s′ = mapOf (s′ .working) ≡ mapOf (s .working)
+Keeps repair s s′ = (mapOf (s′ .memory) ≡ mapOf (s .memory)) × (mapOf (s′ .working) ≡ mapOf (s .working))
 
 -- of the event e that took s to s′, where the ledger was ps
 pub record Right (e : Event) (s s′ : State) (ps : Ledger) : Type 0 where
@@ -122,7 +122,8 @@ pub record Right (e : Event) (s s′ : State) (ps : Ledger) : Type 0 where
   pub twelve-only : numberOf s e ≡ 12 → parentFull (s .working) ≡ true
   -- the carry-out of a whole list is not refused; a completed list leaves memory equal to the working copy, and nothing unfinished
   pub carried : numberOf s e ≡ 0 → Carried (e .fate) s e
-  pub equal : numberOf s e ≡ 0 → Completed (e .fate) s e → s′ .memory ≡ s′ .working
+  pub equal : numberOf s e ≡ 0 → Completed (e .fate) s e
+      → (let left = tableAfter (e .call) (length (e .lent)) (s .working) in (s′ .memory ≡ left) × (s′ .working ≡ left))
   pub finished : numberOf s e ≡ 0 → Completed (e .fate) s e → (settled (s′ .memory) ≡ true) × (settled (s′ .working) ≡ true)
   pub repair-keeps : Keeps (e .call) s s′
 

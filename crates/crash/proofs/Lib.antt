@@ -1,0 +1,6 @@
+-- Demand 3 from the laws of the single calls; and drawings that do not hold.
+pub mod Laws
+pub mod Numbers
+pub mod Reduce
+pub mod Images
+pub mod Drawings

@@ -1,0 +1,152 @@
+-- A call's number on a sound table is the ledger's, fed that number's 10, 11 or 12; and each of these comes only on its condition.
+use mathlib.Core.Path.{_≡_, refl, sym, _∙_}
+use mathlib.Core.Logic.{_≢_}
+use mathlib.Core.Bool.{Bool, true, false, cond, _||_, false≢true}
+use mathlib.Core.List.{List, [], _∷_, map}
+use mathlib.Core.Option.{Option, none, some}
+use Prim.Native.Nat.{ℕ, suc, _≤_}
+use native.Mathlib.Omega.{arith}
+use lib.Dec.{eqb, ltb}
+use borrow.Author.Tests.{eqb-true, eqb-false, eq-eqb, ne-eqb, ltb-false, leb-true}
+use lib.ListN.{length}
+use Rattle.model.specs.Table.{Words, headerOk}
+use Rattle.model.specs.Slots.{View, view, full}
+use Rattle.model.specs.Reached.{mapOf}
+use Rattle.model.specs.SoundTest.{settled, settledView, sound, soundView, Leftover, nothing, hiddenIn, missingIn, bothIn, isNothing, leftover, isAllowed, room}
+use Rattle.model.specs.Writes.{Call, insertion, deletion, repair, repaired}
+use Rattle.model.specs.Refusals.{fullParent, parentFull, Test, test, firstNumber, testsFrom5, elevenIn, tenIn, refusal}
+use Rattle.model.specs.Ledger.{Ledger, fedOf, ledgerRefusal}
+use Rattle.list_laws.proofs.Tools.{and-iff}
+
+-- ---- sound tables: what refusals 2 and 12 see of them
+
+pub sound-header : (t : Words) → sound t ≡ true → headerOk t ≡ true
+unfolding sound
+sound-header t h = (simp and-iff at h) .0
+
+nothing-allowed : (v : View) (o : Option Leftover) → isNothing o ≡ true → isAllowed v o ≡ true
+nothing-allowed v none e = e
+nothing-allowed v (some nothing) e = refl
+nothing-allowed v (some (hiddenIn x)) e = refl
+nothing-allowed v (some (missingIn p a trailing)) e = absurd (false≢true e)
+nothing-allowed v (some (bothIn p a)) e = absurd (false≢true e)
+
+pub settled-sound : (t : Words) → settled t ≡ true → sound t ≡ true
+unfolding settled sound settledView soundView
+settled-sound t h = let (a, (b, c)) = simp and-iff at h in simp and-iff (a, (b, nothing-allowed (view t) (leftover (view t)) c))
+
+room-not-full : (v : View) (p : ℕ) → room v p ≡ true → full (v .shown p) ≡ false
+unfolding room full
+room-not-full v p h = let r : length (v .shown p) ≤ 10 = leb-true _ _ h in ne-eqb (length (v .shown p)) 11 (λ e. omega arith)
+
+allowed-not-full : (v : View) (o : Option Leftover) → isAllowed v o ≡ true → fullParent v o ≡ false
+allowed-not-full v none e = refl
+allowed-not-full v (some nothing) e = refl
+allowed-not-full v (some (hiddenIn x)) e = refl
+allowed-not-full v (some (missingIn p a trailing)) e = room-not-full v p e
+allowed-not-full v (some (bothIn p a)) e = room-not-full v p e
+
+-- the parent that lacks a slot has room: a sound table is never refused with 12
+pub parent-not-full : (t : Words) → sound t ≡ true → parentFull t ≡ false
+unfolding sound soundView parentFull
+parent-not-full t h = let (a, (b, c)) = simp and-iff at h in allowed-not-full (view t) (leftover (view t)) c
+
+-- a sound table's tests: those from 5 on
+abbrev tests : Call → (words : ℕ) → Words → List Test
+tests x words t = testsFrom5 x words (parentFull t) (elevenIn x (repaired t)) (tenIn x (repaired t)) (mapOf (repaired t))
+
+pub from-five : (x : Call) (words : ℕ) (t : Words) → sound t ≡ true → refusal x words t ≡ firstNumber (tests x words t)
+unfolding refusal
+from-five x words t fine = rw (sound-header t fine, fine)
+
+-- ---- the ledger's tests: where the call's number is 10, 11 or 12, it is fed and refuses at that number's place
+
+abbrev isFed : ℕ → Bool
+isFed n = eqb n 10 || (eqb n 11 || eqb n 12)
+
+-- what was fed tells a test of 10, 11 or 12 whether it holds
+abbrev refed : (fed : ℕ) → Test → Test
+refed fed c = test (cond (isFed (c .number)) (eqb fed (c .number)) (c .holds)) (c .number)
+
+-- one test of number n, which holds or not by b, before others that come to r
+refed-one : (b : Bool) (n r : ℕ) (rest : ℕ → ℕ) → rest (fedOf r) ≡ r
+    → (let fed = fedOf (cond b n r) in cond (cond (isFed n) (eqb fed n) b) n (rest fed)) ≡ cond b n r
+refed-one true n r rest ih = go (isFed n)
+  where
+    go : (f : Bool) → (let fed = cond f n 0 in cond (cond f (eqb fed n) true) n (rest fed)) ≡ n
+    go true = rw (eq-eqb n n refl)
+    go false = refl
+refed-one false n r rest ih = go (isFed n) (isFed r) (λ f z. false≢true (rw z at f)) ih
+  where
+    go : (f g : Bool) → (f ≡ true → n ≢ 0) → rest (cond g r 0) ≡ r → cond (cond f (eqb (cond g r 0) n) false) n (rest (cond g r 0)) ≡ r
+    go false g z ih = ih
+    go true true z ih = same (eqb r n) refl
+      where
+        same : (q : Bool) → eqb r n ≡ q → cond q n (rest r) ≡ r
+        same true e = sym (eqb-true r n e)
+        same false e = ih
+    go true false z ih = rw (ne-eqb 0 n (λ e. z refl (sym e))) ih
+
+refed-first : (cs : List Test) → firstNumber (map (refed (fedOf (firstNumber cs))) cs) ≡ firstNumber cs
+refed-first [] = refl
+refed-first (c ∷ cs) = refed-one (c .holds) (c .number) (firstNumber cs) (λ fed. firstNumber (map (refed fed) cs)) (refed-first cs)
+
+ledger-number : (x : Call) (words : ℕ) (twelve eleven ten : Bool) (ps : Ledger)
+    → (let n = firstNumber (testsFrom5 x words twelve eleven ten ps) in ledgerRefusal x words (fedOf n) ps ≡ n)
+unfolding ledgerRefusal
+ledger-number (insertion k r) words twelve eleven ten ps = refed-first (testsFrom5 (insertion k r) words twelve eleven ten ps)
+ledger-number (deletion k) words twelve eleven ten ps = refed-first (testsFrom5 (deletion k) words twelve eleven ten ps)
+ledger-number repair words twelve eleven ten ps = refed-first (testsFrom5 repair words twelve eleven ten ps)
+
+-- the same number as in the ledger
+pub number-in-ledger : (x : Call) (words : ℕ) (t : Words) → sound t ≡ true
+    → refusal x words t ≡ ledgerRefusal x words (fedOf (refusal x words t)) (mapOf (repaired t))
+number-in-ledger x words t fine =
+    rw (from-five x words t fine) (sym (ledger-number x words (parentFull t) (elevenIn x (repaired t)) (tenIn x (repaired t)) (mapOf (repaired t))))
+
+-- ---- a number comes only where a test of it holds
+
+abbrev holdsFor : ℕ → List Test → Bool
+holdsFor n [] = false
+holdsFor n (c ∷ cs) = cond (eqb (c .number) n) (c .holds || holdsFor n cs) (holdsFor n cs)
+
+first-holds : (n : ℕ) (cs : List Test) → n ≢ 0 → firstNumber cs ≡ n → holdsFor n cs ≡ true
+first-holds n [] z e = absurd (z (sym e))
+first-holds n (c ∷ cs) z e = go (c .holds) (eqb (c .number) n) refl e (first-holds n cs z)
+  where
+    go : (b q : Bool) → eqb (c .number) n ≡ q → cond b (c .number) (firstNumber cs) ≡ n → (firstNumber cs ≡ n → holdsFor n cs ≡ true)
+        → cond q (b || holdsFor n cs) (holdsFor n cs) ≡ true
+    go true true f e ih = refl
+    go true false f e ih = absurd (eqb-false (c .number) n f e)
+    go false true f e ih = ih e
+    go false false f e ih = ih e
+
+number-holds : (n : ℕ) (x : Call) (words : ℕ) (t : Words) → sound t ≡ true → n ≢ 0 → refusal x words t ≡ n → holdsFor n (tests x words t) ≡ true
+number-holds n x words t fine z e = first-holds n (tests x words t) z (sym (from-five x words t fine) ∙ e)
+
+alone : (b : Bool) → b || false ≡ true → b ≡ true
+alone true e = refl
+alone false e = e
+
+pub only-twelve : (x : Call) (words : ℕ) (t : Words) → sound t ≡ true → refusal x words t ≡ 12 → parentFull t ≡ true
+only-twelve (insertion k r) words t fine e = alone _ (number-holds 12 (insertion k r) words t fine (omega arith) e)
+only-twelve (deletion k) words t fine e = alone _ (number-holds 12 (deletion k) words t fine (omega arith) e)
+only-twelve repair words t fine e = alone _ (number-holds 12 repair words t fine (omega arith) e)
+
+pub only-eleven : (x : Call) (words : ℕ) (t : Words) → sound t ≡ true → refusal x words t ≡ 11 → elevenIn x (repaired t) ≡ true
+only-eleven (insertion k r) words t fine e = alone _ (number-holds 11 (insertion k r) words t fine (omega arith) e)
+only-eleven (deletion k) words t fine e = number-holds 11 (deletion k) words t fine (omega arith) e
+only-eleven repair words t fine e = number-holds 11 repair words t fine (omega arith) e
+
+pub only-ten : (x : Call) (words : ℕ) (t : Words) → sound t ≡ true → refusal x words t ≡ 10 → tenIn x (repaired t) ≡ true
+only-ten (insertion k r) words t fine e = alone _ (number-holds 10 (insertion k r) words t fine (omega arith) e)
+only-ten (deletion k) words t fine e = number-holds 10 (deletion k) words t fine (omega arith) e
+only-ten repair words t fine e = number-holds 10 repair words t fine (omega arith) e
+
+first-passed : (b : Bool) (n r : ℕ) → cond b (suc n) r ≡ 0 → b ≡ false
+first-passed true n r e = absurd (omega arith)
+first-passed false n r e = refl
+
+-- an accepted call was lent 2,560 words
+pub accepted-long : (x : Call) (words : ℕ) (t : Words) → sound t ≡ true → refusal x words t ≡ 0 → 2560 ≤ words
+accepted-long x words t fine e = ltb-false words 2560 (first-passed (ltb words 2560) 4 _ (sym (from-five x words t fine) ∙ e))

@@ -1,0 +1,1 @@
+// Demand 3 from the laws of the single calls, in proofs/. No code.

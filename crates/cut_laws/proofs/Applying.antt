@@ -1,0 +1,142 @@
+-- Applying stores and carrying orders out: lengths, lists in a row, agreement word by word; flushes change no word.
+use mathlib.Core.Path.{_≡_, refl, sym, ap, _∙_}
+use mathlib.Core.Logic.{_≢_}
+use mathlib.Core.List.{List, [], _∷_, _++_}
+use Prim.Native.Nat.{ℕ, zero, suc, _+_, _-_, _≤_}
+use native.Mathlib.Omega.{arith}
+use native.Mathlib.Numerals.{unary-clauses}
+use lib.ListN.{length, take, set, length-set}
+use lib.Seq.{take-nil, getD-set-other}
+use Rattle.model.specs.Table.{Words, at, line}
+use Rattle.model.specs.Orders.{Store, Order, store, flush, apply, carry, storeCount, flushCount}
+use Rattle.cut_laws.specs.Unflushed.{storesIn}
+
+-- ---- stores
+
+pub length-apply : (ss : List Store) (t : Words) → length (apply ss t) ≡ length t
+unfolding apply
+length-apply [] t = refl
+length-apply (s ∷ ss) t = length-apply ss _ ∙ length-set t (s .word) (s .value)
+
+pub apply-nil : (t : Words) → apply [] t ≡ t
+unfolding apply
+apply-nil t = refl
+
+pub apply-append : (a b : List Store) (t : Words) → apply (a ++ b) t ≡ apply b (apply a t)
+unfolding apply
+apply-append [] b t = refl
+apply-append (s ∷ a) b t = apply-append a b _
+
+-- one store more, at the end
+pub apply-snoc : (ss : List Store) (s : Store) (t : Words) → apply (ss ++ (s ∷ [])) t ≡ set (apply ss t) (s .word) (s .value)
+unfolding apply
+apply-snoc ss s t = apply-append ss (s ∷ []) t
+
+-- a first part of two lists in a row
+pub take-append {ℓ} : {A : Type ℓ} (n : ℕ) (a b : List A) → take n (a ++ b) ≡ take n a ++ take (n - length a) b
+take-append n [] b = simp (take-nil, unary-clauses)
+take-append zero (x ∷ a) b = let e : 0 - length (x ∷ a) ≡ 0 = omega arith in rw e
+take-append (suc n) (x ∷ a) b = simp unary-clauses (ap (λ l. x ∷ l) (take-append n a b))
+
+-- What holds after each first part of a, and from there after each first part of b, holds after each first part of both.
+pub always-append : (P : Words → Type 0) (a b : List Store) (t : Words) → ((i : ℕ) → P (apply (take i a) t)) → ((i : ℕ) → P (apply (take i b) (apply a t))) → (i : ℕ) → P (apply (take i (a ++ b)) t)
+unfolding apply
+always-append P [] b t f g i = g i
+always-append P (s ∷ a) b t f g zero = f 0
+always-append P (s ∷ a) b t f g (suc i) = always-append P a b _ (λ k. f (suc k)) g i
+
+-- ---- orders
+
+pub length-carry : (os : List Order) (t : Words) → length (carry os t) ≡ length t
+unfolding carry
+length-carry [] t = refl
+length-carry (store s ∷ os) t = length-carry os _ ∙ length-set t (s .word) (s .value)
+length-carry (flush l ∷ os) t = length-carry os t
+
+pub carry-nil : (t : Words) → carry [] t ≡ t
+unfolding carry
+carry-nil t = refl
+
+pub carry-append : (a b : List Order) (t : Words) → carry (a ++ b) t ≡ carry b (carry a t)
+unfolding carry
+carry-append [] b t = refl
+carry-append (store s ∷ a) b t = carry-append a b _
+carry-append (flush l ∷ a) b t = carry-append a b t
+
+-- only the stores among the orders matter
+pub carry-stores : (os : List Order) (t : Words) → carry os t ≡ apply (storesIn os) t
+unfolding carry apply storesIn
+carry-stores [] t = refl
+carry-stores (store s ∷ os) t = carry-stores os _
+carry-stores (flush l ∷ os) t = carry-stores os t
+
+pub storesIn-append : (a b : List Order) → storesIn (a ++ b) ≡ storesIn a ++ storesIn b
+unfolding storesIn
+storesIn-append [] b = refl
+storesIn-append (store s ∷ a) b = ap (λ l. s ∷ l) (storesIn-append a b)
+storesIn-append (flush l ∷ a) b = storesIn-append a b
+
+-- the stores among the first c orders are the first stores
+pub storesIn-take : (c : ℕ) (os : List Order) → storesIn (take c os) ≡ take (storeCount (take c os)) (storesIn os)
+unfolding storesIn storeCount
+storesIn-take zero os = refl
+storesIn-take (suc c) [] = refl
+storesIn-take (suc c) (store s ∷ os) = ap (λ l. s ∷ l) (storesIn-take c os)
+storesIn-take (suc c) (flush l ∷ os) = storesIn-take c os
+
+-- ---- counts
+
+pub storeCount-stores : (os : List Order) → storeCount os ≡ length (storesIn os)
+unfolding storesIn storeCount
+storeCount-stores [] = refl
+storeCount-stores (store s ∷ os) = ap suc (storeCount-stores os)
+storeCount-stores (flush l ∷ os) = storeCount-stores os
+
+pub storeCount-append : (a b : List Order) → storeCount (a ++ b) ≡ storeCount a + storeCount b
+unfolding storeCount
+storeCount-append [] b = omega arith
+storeCount-append (store s ∷ a) b = omega (arith, storeCount-append a b)
+storeCount-append (flush l ∷ a) b = storeCount-append a b
+
+pub flushCount-append : (a b : List Order) → flushCount (a ++ b) ≡ flushCount a + flushCount b
+unfolding flushCount
+flushCount-append [] b = omega arith
+flushCount-append (store s ∷ a) b = flushCount-append a b
+flushCount-append (flush l ∷ a) b = omega (arith, flushCount-append a b)
+
+-- each order is a store or a flush
+pub counts-length : (os : List Order) → storeCount os + flushCount os ≡ length os
+unfolding storeCount flushCount
+counts-length [] = refl
+counts-length (store s ∷ os) = omega (arith, counts-length os)
+counts-length (flush l ∷ os) = omega (arith, counts-length os)
+
+-- more orders, at least as many stores
+pub storeCount-take-le : (i j : ℕ) (os : List Order) → i ≤ j → storeCount (take i os) ≤ storeCount (take j os)
+unfolding storeCount
+storeCount-take-le zero j os h = omega arith
+storeCount-take-le (suc i) zero os h = absurd (omega arith)
+storeCount-take-le (suc i) (suc j) [] h = omega arith
+storeCount-take-le (suc i) (suc j) (store s ∷ os) h = omega (arith, storeCount-take-le i j os (omega arith))
+storeCount-take-le (suc i) (suc j) (flush l ∷ os) h = storeCount-take-le i j os (omega arith)
+
+-- ---- word by word
+
+-- a store writes the same into two tables that agree at a word
+set-agree : (t u : Words) (a x w : ℕ) → length t ≡ length u → at t w ≡ at u w → at (set t a x) w ≡ at (set u a x) w
+set-agree [] [] a x w l e = refl
+set-agree [] (z ∷ u) a x w l e = absurd (omega arith)
+set-agree (y ∷ t) [] a x w l e = absurd (omega arith)
+set-agree (y ∷ t) (z ∷ u) zero x zero l e = refl
+set-agree (y ∷ t) (z ∷ u) zero x (suc w) l e = e
+set-agree (y ∷ t) (z ∷ u) (suc a) x zero l e = e
+set-agree (y ∷ t) (z ∷ u) (suc a) x (suc w) l e = set-agree t u a x w (omega arith) e
+
+pub apply-agree : (ss : List Store) (t u : Words) (w : ℕ) → length t ≡ length u → at t w ≡ at u w → at (apply ss t) w ≡ at (apply ss u) w
+unfolding apply
+apply-agree [] t u w l e = e
+apply-agree (s ∷ ss) t u w l e = apply-agree ss _ _ w (simp length-set l) (set-agree t u (s .word) (s .value) w l e)
+
+-- a store to another line leaves a word
+pub set-elsewhere : (t : Words) (s : Store) (w : ℕ) → line (s .word) ≢ line w → at (set t (s .word) (s .value)) w ≡ at t w
+set-elsewhere t s w k = getD-set-other t (s .word) w (s .value) 0 (λ q. k (ap line (sym q)))

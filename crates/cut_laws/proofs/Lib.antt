@@ -1,0 +1,10 @@
+-- Laws of order lists and cuts.
+pub mod Applying
+pub mod FlushRule
+pub mod LastFlush
+pub mod Unflushed
+pub mod Images
+pub mod Cuts
+pub mod ExactImages
+pub mod Lent
+pub mod Phases

@@ -1,0 +1,3 @@
+-- Names for an order list while it grows, and for what is unflushed in it.
+pub mod Growing
+pub mod Unflushed

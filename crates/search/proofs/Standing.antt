@@ -1,0 +1,175 @@
+-- Where a search stands on a level, and what it answers from there.
+use mathlib.Core.Path.{_≡_, refl, ap, sym, _∙_, subst}
+use mathlib.Core.Bool.{Bool, true, false, cond, _&&_, _||_, false≢true}
+use mathlib.Core.List.{List}
+use mathlib.Core.Option.{Option, none, some}
+use Prim.Native.Nat.{ℕ, zero, suc, _-_, _≤_, _<_}
+use native.Mathlib.Omega.{arith}
+use lib.Dec.{eqb, ltb, leb}
+use lib.ListN.{length}
+use borrow.Author.Tests.{eq-eqb, ne-eqb, lt-ltb, le-ltb, eqb-true, eqb-false, le-leb, lt-leb}
+use Rattle.model.specs.declared.Answer.{Answer}
+use Rattle.model.specs.declared.Answer.the-variants.{Found, Absent, Refused}
+use Rattle.model.specs.declared.Node.{Node}
+use Rattle.model.specs.Table.{Words, inRange, headerOk, headerNumber, hasNode, node, root}
+use Rattle.model.specs.Slots.{Slot, View, view, height, used}
+use Rattle.model.specs.Search.{below, within, moved, route, down, onLevel, passes, locate, lookup, answerIn, searchView, search}
+use Rattle.table_laws.proofs.Header.{header-iff, header-number-iff, header-number-refused}
+use Rattle.table_laws.proofs.Nodes.{has-node-range}
+use Rattle.node.specs.Word.{wordOf}
+use Rattle.node.proofs.WordLaws.{word-level, word-sibling, word-fence}
+use Rattle.list_laws.proofs.Tools.{decode, and-iff, refuted}
+use Rattle.search.specs.Scan.{shownFrom, standOn}
+
+-- ---- onLevel, from the words
+
+pub level-out : (t : Words) (l n : ℕ) → headerOk t ≡ true → hasNode t n ≡ false → false ≡ onLevel (view t) l n
+unfolding onLevel
+level-out t l n h e = sym (rw (sym (has-node-range t n h) ∙ e))
+
+pub level-in : (t : Words) (l n w : ℕ) → headerOk t ≡ true → hasNode t n ≡ true → w ≡ wordOf t n 2 → eqb w l ≡ onLevel (view t) l n
+unfolding onLevel
+level-in t l n w h e q = rw (sym (has-node-range t n h) ∙ e, q, word-level t n)
+
+-- ---- standOn, by the tests in the order of the code
+
+stand-pass : (v : View) (l n k : ℕ) (b : Bool) → passes v l n ≡ b → standOn v l n k ≡ cond b (moved v n k) 0
+unfolding standOn
+stand-pass v l n k b e = rw e
+
+stay : (v : View) (n k : ℕ) → within v n k ≡ true → moved v n k ≡ n
+unfolding moved
+stay v n k e = rw (e, moved)
+
+move : (v : View) (n k : ℕ) → within v n k ≡ false → moved v n k ≡ v .sibling n
+unfolding moved
+move v n k e = rw (e, moved)
+
+module _ (v : View) (l n k : ℕ) where
+  pub stand-off : onLevel v l n ≡ false → 0 ≡ standOn v l n k
+  unfolding passes
+  stand-off e = sym (stand-pass v l n k false (rw e))
+
+  module _ (on : onLevel v l n ≡ true) where
+    pub stand-last : v .sibling n ≡ 0 → n ≡ standOn v l n k
+    unfolding passes below
+    stand-last e =
+        let t : eqb (v .sibling n) 0 ≡ true = eq-eqb _ _ e in
+        sym (stand-pass v l n k true (rw (on, t)) ∙ stay v n k (rw t))
+
+    module _ (z : v .sibling n ≡ 0 → ⊥) where
+      pub stand-lost : onLevel v l (v .sibling n) ≡ false → 0 ≡ standOn v l n k
+      unfolding passes
+      stand-lost e = sym (stand-pass v l n k false (rw (on, ne-eqb (v .sibling n) 0 z, e)))
+
+      pub stand-here : onLevel v l (v .sibling n) ≡ true → k < v .fence (v .sibling n) → n ≡ standOn v l n k
+      unfolding passes below
+      stand-here e h = sym (stand-pass v l n k true (rw (on, ne-eqb (v .sibling n) 0 z, e)) ∙ stay v n k (rw (ne-eqb (v .sibling n) 0 z, lt-ltb k (v .fence (v .sibling n)) h)))
+
+      pub stand-right : onLevel v l (v .sibling n) ≡ true → v .fence (v .sibling n) ≤ k → v .sibling n ≡ standOn v l n k
+      unfolding passes below
+      stand-right e h = sym (stand-pass v l n k true (rw (on, ne-eqb (v .sibling n) 0 z, e)) ∙ move v n k (rw (ne-eqb (v .sibling n) 0 z, le-ltb k (v .fence (v .sibling n)) h)))
+
+-- ---- the answer from where it stands
+
+-- a node that is stood on is no 0: 0 says that a test failed
+pub stand-nowhere : (v : View) (l n k : ℕ) → standOn v l n k ≡ 0 → passes v l n ≡ false
+unfolding standOn passes onLevel inRange moved below
+stand-nowhere v l n k e = refuted (passes v l n) (λ p. go p (within v n k) refl)
+  where
+    go : passes v l n ≡ true → (b : Bool) → within v n k ≡ b → ⊥
+    go p true w =
+        let q = simp decode at p in
+        let x : n ≡ 0 = sym (stand-pass v l n k true p ∙ stay v n k w) ∙ e in
+        omega (arith, q .0 .0 .0)
+    go p false w =
+        let x : v .sibling n ≡ 0 = sym (stand-pass v l n k true p ∙ move v n k w) ∙ e in
+        false≢true (sym w ∙ rw (eq-eqb (v .sibling n) 0 x))
+
+stand-somewhere : (v : View) (l n k m : ℕ) → m ≡ standOn v l n k → (m ≡ 0 → ⊥) → (passes v l n ≡ true) × (moved v n k ≡ m)
+stand-somewhere v l n k m e z = go (passes v l n) refl
+  where
+    go : (b : Bool) → passes v l n ≡ b → (passes v l n ≡ true) × (moved v n k ≡ m)
+    go true p = (p, sym (stand-pass v l n k true p) ∙ sym e)
+    go false p = absurd (z (e ∙ stand-pass v l n k false p))
+
+pub refused-here : (v : View) (l n k m : ℕ) → m ≡ standOn v l n k → m ≡ 0 → Refused 3 ≡ answerIn v k (locate v l n k)
+unfolding locate
+refused-here v zero n k m e z = rw (stand-nowhere v zero n k (sym e ∙ z), locate)
+refused-here v (suc l) n k m e z = rw (stand-nowhere v (suc l) n k (sym e ∙ z), locate)
+
+pub leaf-here : (v : View) (l n k m : ℕ) → m ≡ standOn v l n k → (m ≡ 0 → ⊥) → l ≡ 0 → lookup k (v .shown m) ≡ answerIn v k (locate v l n k)
+unfolding locate
+leaf-here v zero n k m e z q = let h = stand-somewhere v zero n k m e z in rw (h .0, h .1, locate)
+leaf-here v (suc l) n k m e z q = absurd (omega arith)
+
+pub inner-here : (v : View) (l n k m c : ℕ) → m ≡ standOn v l n k → (m ≡ 0 → ⊥) → (l ≡ 0 → ⊥) → c ≡ down v m k → answerIn v k (locate v (l - 1) c k) ≡ answerIn v k (locate v l n k)
+unfolding locate
+inner-here v zero n k m c e z q d = absurd (q refl)
+inner-here v (suc l) n k m c e z q d =
+    let h = stand-somewhere v (suc l) n k m e z in
+    let o : suc l - 1 ≡ l = omega arith in
+    rw (h .0, h .1, locate, o, d)
+
+-- ---- the same, from the words that the code has read: s the sibling, f the sibling's fence
+
+module _ (t : Words) (l n k s : ℕ) (on : true ≡ onLevel (view t) l n) (e : s ≡ wordOf t n 1) where
+  q : s ≡ node t n .sibling
+  q = e ∙ word-sibling t n
+
+  pub word-last : s ≡ 0 → n ≡ standOn (view t) l n k
+  word-last z = stand-last (view t) l n k (sym on) (sym q ∙ z)
+
+  pub word-lost : (s ≡ 0 → ⊥) → false ≡ onLevel (view t) l s → 0 ≡ standOn (view t) l n k
+  word-lost z h = stand-lost (view t) l n k (sym on) (λ y. z (q ∙ y)) (sym (subst (λ (m : ℕ). false ≡ onLevel (view t) l m) q h))
+
+  module _ (z : s ≡ 0 → ⊥) (h : true ≡ onLevel (view t) l s) (f : ℕ) (g : f ≡ wordOf t s 3) where
+    bound : f ≡ node t (node t n .sibling) .fence
+    bound = g ∙ word-fence t s ∙ ap (λ (m : ℕ). node t m .fence) q
+
+    right : onLevel (view t) l (node t n .sibling) ≡ true
+    right = sym (subst (λ (m : ℕ). true ≡ onLevel (view t) l m) q h)
+
+    pub word-here : k < f → n ≡ standOn (view t) l n k
+    word-here r = stand-here (view t) l n k (sym on) (λ y. z (q ∙ y)) right (subst (λ (x : ℕ). k < x) bound r)
+
+    pub word-right : f ≤ k → s ≡ standOn (view t) l n k
+    word-right r = q ∙ stand-right (view t) l n k (sym on) (λ y. z (q ∙ y)) right (subst (λ (x : ℕ). x ≤ k) bound r)
+
+-- ---- the same, from the record that the code has read: x is node m
+
+module _ (t : Words) (l n k m : ℕ) (e : m ≡ standOn (view t) l n k) (z : m ≡ 0 → ⊥) (x : Node) (q : x ≡ node t m) where
+  pub leaf-answer : (r : Answer) → r ≡ lookup k (shownFrom (x .left) (x .slots) 0) → l ≡ 0 → r ≡ answerIn (view t) k (locate (view t) l n k)
+  unfolding used
+  leaf-answer r h o = h ∙ ap (λ (y : Node). lookup k (shownFrom (y .left) (y .slots) 0)) q ∙ leaf-here (view t) l n k m e z o
+
+  pub inner-answer : (c : ℕ) (r : Answer) → c ≡ route k (x .left) (shownFrom (x .left) (x .slots) 0) → (l ≡ 0 → ⊥) → r ≡ answerIn (view t) k (locate (view t) (l - 1) c k)
+      → r ≡ answerIn (view t) k (locate (view t) l n k)
+  unfolding used
+  inner-answer c r h o g = g ∙ inner-here (view t) l n k m c e z o (h ∙ ap (λ (y : Node). route k (y .left) (shownFrom (y .left) (y .slots) 0)) q)
+
+-- ---- the whole search
+
+pub passed-header : (t : Words) (n : ℕ) → n ≡ headerNumber t → n ≡ 0 → headerOk t ≡ true
+passed-header t n e z = header-number-iff t .0 (sym e ∙ z)
+
+pub failed-header : (t : Words) (n : ℕ) → n ≡ headerNumber t → (n ≡ 0 → ⊥) → headerOk t ≡ false
+failed-header t n e z = header-number-refused t (λ y. z (e ∙ y))
+
+pub header-words : (t : Words) → headerOk t ≡ true → 40 ≤ length t
+header-words t h = let f = header-iff t .0 h in omega (arith, f .size .long, f .size .some)
+
+pub bad-header : (t : Words) (k : ℕ) → headerOk t ≡ false → Refused 2 ≡ search t k
+unfolding search
+bad-header t k h = rw (h, search)
+
+pub too-high : (t : Words) (k w : ℕ) → headerOk t ≡ true → w ≡ wordOf t (root t) 2 → 15 < w → Refused 3 ≡ search t k
+unfolding search searchView
+too-high t k w h e r = let b : leb (height (view t)) 15 ≡ false = rw (sym (word-level t (root t)) ∙ sym e) (lt-leb w 15 r) in rw (h, search) (rw (b, searchView))
+
+pub from-root : (t : Words) (k w : ℕ) (r : Answer) → headerOk t ≡ true → w ≡ wordOf t (root t) 2 → w ≤ 15 → r ≡ answerIn (view t) k (locate (view t) w (root t) k) → r ≡ search t k
+unfolding search searchView
+from-root t k w r h e o g =
+    let q : height (view t) ≡ w = sym (e ∙ word-level t (root t)) in
+    let b : leb (height (view t)) 15 ≡ true = rw q (le-leb w 15 o) in
+    g ∙ sym (rw (h, search) (rw (b, searchView) (rw q)))

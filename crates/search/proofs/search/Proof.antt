@@ -1,0 +1,49 @@
+-- `search::search` meets its contract.
+use native.Mathlib.Omega.{arith}
+use Rattle.search.proofs.Standing.{passed-header, failed-header, header-words, bad-header, too-high, from-root}
+use borrow.Author.Needs.{needs}
+use Rattle.search.proofs.search.Statement.{statement}
+use Rattle.search.proofs.search.Tie as tie
+
+header-requires : tie.Need-header-requires
+header-requires c κs = search needs
+
+returns : tie.Need-returns
+returns c = let h = c .before in let a = h .before .before .args in bad-header (a .table .now) (a .key) (failed-header _ _ (h .header .ensures) (c .if1 .taken))
+
+shared-slice-read-root : tie.Need-shared-slice-read-root
+shared-slice-read-root c = let h = c .before .before in omega (arith, header-words (h .before .before .args .table .now) (passed-header _ _ (h .header .ensures) (c .before .if1 .left)))
+
+word-requires : tie.Need-word-requires
+word-requires c κs = search needs
+
+returns-2 : tie.Need-returns-2
+returns-2 c =
+    let w = c .before in
+    let h = w .before .before .before in
+    let a = h .before .before .args in
+    too-high (a .table .now) (a .key) _ (passed-header _ _ (h .header .ensures) (w .before .before .if1 .left)) (w .word .ensures) (c .if2 .taken)
+
+descend-requires : tie.Need-descend-requires
+descend-requires c κs =
+    let e = c .before .before .before in
+    passed-header _ _ (e .before .header .ensures) (e .if1 .left)
+
+returns-3 : tie.Need-returns-3
+returns-3 c =
+    let w = c .before .before in
+    let h = w .before .before .before in
+    let a = h .before .before .args in
+    from-root (a .table .now) (a .key) _ _ (passed-header _ _ (h .header .ensures) (w .before .before .if1 .left)) (w .word .ensures) (c .before .if2 .left) (c .descend .ensures)
+
+pub search-spec : {M : Type 1} → statement M
+search-spec =
+    tie.close
+    (tie.spec
+    header-requires
+    returns
+    shared-slice-read-root
+    word-requires
+    returns-2
+    descend-requires
+    returns-3)
