@@ -2,7 +2,7 @@
 use mathlib.Core.Path.{_≡_, refl, ap, sym, _∙_}
 use mathlib.Core.Bool.{Bool, true, false, not, _&&_, _||_, false≢true}
 use mathlib.Core.Logic.{_↔_}
-use mathlib.Core.List.{List, [], _∷_, _++_, map, append-assoc}
+use mathlib.Core.List.{List, [], _∷_, _++_, map, append-assoc, List·Memᴰ, List·Memᴰ·head, List·Memᴰ·tail}
 use Prim.Native.Nat.{ℕ, zero, suc, _+_, _≤_, _<_}
 use native.Mathlib.Omega.{arith}
 use lib.Dec.{eqb, ltb, leb}
@@ -231,3 +231,16 @@ pub each-leaf : (v : View) (P : ℕ → Type 0) (d : ℕ) (ns : List ℕ) → Ea
 unfolding leavesFrom
 each-leaf v P zero ns h = each-here v P zero ns h
 each-leaf v P (suc d) ns h = each-leaf v P d (flat (children v) ns) (each-lower v P d ns h)
+
+-- a row that is filled up keeps its nodes
+pub fill-mem : (v : View) {n : ℕ} {ns : List ℕ} (e : ℕ) → List·Memᴰ n ns → List·Memᴰ n (fillRow v ns e)
+fill-mem v {n = n} e (List·Memᴰ·head {x = m} {xs = ms} q) = go (eqb (v .sibling m) (headOr e ms)) refl
+  where
+    go : (b : Bool) → eqb (v .sibling m) (headOr e ms) ≡ b → List·Memᴰ n (fillRow v (m ∷ ms) e)
+    go true c = rw (link-yes v m ms e c) (List·Memᴰ·head q)
+    go false c = rw (link-no v m ms e c) (List·Memᴰ·head q)
+fill-mem v {n = n} e (List·Memᴰ·tail {x = m} {xs = ms} t) = go (eqb (v .sibling m) (headOr e ms)) refl (fill-mem v e t)
+  where
+    go : (b : Bool) → eqb (v .sibling m) (headOr e ms) ≡ b → List·Memᴰ n (fillRow v ms e) → List·Memᴰ n (fillRow v (m ∷ ms) e)
+    go true c ih = rw (link-yes v m ms e c) (List·Memᴰ·tail ih)
+    go false c ih = rw (link-no v m ms e c) (List·Memᴰ·tail (List·Memᴰ·tail ih))

@@ -1,0 +1,20 @@
+-- What each case of an answer gives.
+use mathlib.Core.Path.{_≡_, refl, sym, ap}
+use Prim.Native.Nat.{ℕ}
+use Rattle.model.specs.declared.Answer.{Answer}
+use Rattle.model.specs.declared.Answer.the-variants.{Found, Absent, Refused}
+use Rattle.model.specs.declared.Outcome.{Outcome}
+use Rattle.model.specs.declared.Parsed.{Parsed}
+use Rattle.model.specs.Codes.{parsedNumber}
+use Rattle.model.specs.Table.{outcomeNumber}
+use Rattle.host.specs.Answers.{searchNumber, foundOr, keyOr}
+
+-- an answer that is this one has its number, and puts its word
+pub answered : (x y : Answer) (old : ℕ) → x ≡ y → (searchNumber y ≡ searchNumber x) × (foundOr y old ≡ foundOr x old)
+answered x y old e = (sym (ap searchNumber e), sym (ap (λ (z : Answer). foundOr z old) e))
+
+pub come-out : (x y : Outcome) → x ≡ y → outcomeNumber y ≡ outcomeNumber x
+come-out x y e = sym (ap outcomeNumber e)
+
+pub was-read : (x y : Parsed) (old : ℕ) → x ≡ y → (parsedNumber y ≡ parsedNumber x) × (keyOr y old ≡ keyOr x old)
+was-read x y old e = (sym (ap parsedNumber e), sym (ap (λ (z : Parsed). keyOr z old) e))

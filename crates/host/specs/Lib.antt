@@ -1,0 +1,2 @@
+-- What the C entry points answer.
+pub mod Answers

@@ -1,0 +1,61 @@
+// The C entry points, on numbers and slices: include/catalogue.h has their prototypes. An answer is put into a lent word only where
+// the call does its work.
+use model::Answer;
+use model::Outcome;
+use model::Parsed;
+ghost use mathlib.Core.Path.{_≡_};
+ghost use Rattle.model.specs.Codes.{parse, print, parsedNumber};
+ghost use Rattle.model.specs.Table.{making, made, outcomeNumber};
+ghost use Rattle.model.specs.Search.{search};
+ghost use Rattle.host.specs.Answers.{searchNumber, foundOr, keyOr};
+
+// 0, or 2.
+#[no_mangle]
+pub extern "C" fn catalogue_make(table: &mut [u64]) -> u64
+    ensures { λ r. ⌜ (r ≡ outcomeNumber (making (now (table .entry)))) × (now (table .exit) ≡ made (now (table .entry))) ⌝ }
+{
+    match node::make(table) {
+        Outcome::Done => 0,
+        Outcome::Refused(n) => n as u64,
+    }
+}
+
+// 0 and the recording where the key is found, 255 where it is absent, else 2 or 3.
+#[no_mangle]
+pub extern "C" fn catalogue_search(table: &[u64], key: u64, recording: &mut u64) -> u64
+    ensures { λ r. ⌜ (r ≡ searchNumber (search (now (table .entry)) key)) × (now (recording .exit) ≡ foundOr (search (now (table .entry)) key) (now (recording .entry))) ⌝ }
+{
+    match search::search(table, key) {
+        Answer::Found(r) => {
+            *recording = r;
+            0
+        }
+        Answer::Absent => 255,
+        Answer::Refused(n) => n as u64,
+    }
+}
+
+// 0 and the code's key, or 1.
+#[no_mangle]
+pub extern "C" fn catalogue_parse(text: &[u8], key: &mut u64) -> u64
+    ensures { λ r. ⌜ (r ≡ parsedNumber (parse (now (text .entry)))) × (now (key .exit) ≡ keyOr (parse (now (text .entry))) (now (key .entry))) ⌝ }
+{
+    match isrc::parse(text) {
+        Parsed::Key(k) => {
+            *key = k;
+            0
+        }
+        Parsed::Refused(n) => n as u64,
+    }
+}
+
+// 0 and the key's code, or 1 and 12 zero bytes.
+#[no_mangle]
+pub extern "C" fn catalogue_print(key: u64, text: &mut [u8; 12]) -> u64
+    ensures { λ r. ⌜ (r ≡ print key .number) × (now (text .exit) ≡ print key .text) ⌝ }
+{
+    let printed = isrc::print(key);
+    let t = printed.text;
+    *text = t;
+    printed.number as u64
+}

@@ -1,0 +1,118 @@
+-- The kept slots of a good node: they rise from its fence up to its sibling's; what is ignored comes after them.
+use mathlib.Core.Path.{_≡_, refl, ap, _∙_}
+use mathlib.Core.Bool.{Bool, true, false, not}
+use mathlib.Core.Logic.{_↔_, _≢_}
+use mathlib.Core.List.{List, [], _∷_, _++_}
+use Prim.Native.Nat.{ℕ, zero, suc, _≤_, _<_}
+use native.Mathlib.Omega.{arith}
+use lib.Dec.{eqb}
+use lib.ListN.{length}
+use borrow.Author.Tests.{eqb-false, not-true}
+use Rattle.model.specs.Table.{Words, node}
+use Rattle.model.specs.Slots.{Slot, slotsOf, inUse, shown, used, View, viewFrom}
+use Rattle.model.specs.Search.{within}
+use Rattle.model.specs.Reached.{filter, kept}
+use Rattle.model.specs.SoundTest.{rising, comeFirst, keysOk, leafOk, innerOk}
+use Rattle.model.specs.Shifts.{placeOf}
+use Rattle.list_laws.proofs.Tools.{decode, all-each, Each, Each-map, Each-filter}
+use Rattle.tree_laws.proofs.Members.{mem-each, mem-filter, filter-all, filter-none, filter-whole}
+use Rattle.tree_laws.proofs.Rows.{Good, leaf-ok, inner-ok}
+use Rattle.tree_laws.proofs.Cover.{below-true, below-false}
+use Rattle.tree_laws.proofs.Rising.{rising-weaken, rising-from, place-between}
+
+-- what is shown of a node from its sibling's fence up
+abbrev pub ignored : View → ℕ → List Slot
+ignored v n = filter (λ (s : Slot). not (within v n (s .key))) (v .shown n)
+
+pub kept-within : (v : View) (n : ℕ) → Each (λ (s : Slot). within v n (s .key) ≡ true) (kept v n)
+unfolding kept
+kept-within v n = Each-map _ (λ (s : Slot). within v n (s .key) ≡ true) (filter (λ (s : Slot). within v n (s .key)) (v .shown n)) (λ s h. h .1)
+    (Each-filter (λ (s : Slot). Unit {0}) (λ (s : Slot). within v n (s .key)) (v .shown n) (units (v .shown n)))
+  where
+    units : (ss : List Slot) → Each (λ (s : Slot). Unit {0}) ss
+    units [] = tt
+    units (s ∷ ss) = (tt, units ss)
+
+pub kept-below : (v : View) (n : ℕ) → v .sibling n ≢ 0 → Each (λ (s : Slot). s .key < v .fence (v .sibling n)) (kept v n)
+kept-below v n z = Each-map (λ (s : Slot). within v n (s .key) ≡ true) (λ (s : Slot). s .key < v .fence (v .sibling n)) (kept v n) (λ s h. below-true v (s .key) (v .sibling n) z h) (kept-within v n)
+
+-- ---- a good node
+
+-- by cases: a leaf, or a node above the leaves
+pub by-level : (v : View) (P : ℕ → Type 0) (n : ℕ) → (v .level n ≡ 0 → P n) → ((d : ℕ) → v .level n ≡ suc d → P n) → P n
+by-level v P n a b = go (v .level n) refl
+  where
+    go : (l : ℕ) → v .level n ≡ l → P n
+    go zero e = a e
+    go (suc d) e = b d e
+
+-- its keys rise from its fence, in an inner node from above it
+pub inner-rises : (v : View) (d n : ℕ) → Good v n → v .level n ≡ suc d → rising (suc (v .fence n)) (kept v n) ≡ true
+unfolding innerOk keysOk
+inner-rises v d n g e = (simp decode at (inner-ok v d n g e)) .0 .0
+
+pub kept-rises : (v : View) (n : ℕ) → Good v n → rising (v .fence n) (kept v n) ≡ true
+unfolding leafOk keysOk
+kept-rises v n g = by-level v (λ (n : ℕ). rising (v .fence n) (kept v n) ≡ true) n (λ e. (simp decode at (leaf-ok v n g e)) .1 .0)
+    (λ d e. rising-weaken (v .fence n) (suc (v .fence n)) (kept v n) (omega arith) (inner-rises v d n g e))
+
+pub kept-from : (v : View) (n : ℕ) → Good v n → Each (λ (s : Slot). v .fence n ≤ s .key) (kept v n)
+kept-from v n g = rising-from (v .fence n) (kept v n) (kept-rises v n g)
+
+-- the ignored slots come last
+kept-first : (v : View) (n : ℕ) → Good v n → comeFirst (λ (s : Slot). within v n (s .key)) (v .shown n) ≡ true
+unfolding leafOk innerOk keysOk
+kept-first v n g = by-level v (λ (n : ℕ). comeFirst (λ (s : Slot). within v n (s .key)) (v .shown n) ≡ true) n (λ e. (simp decode at (leaf-ok v n g e)) .1 .1) (λ d e. (simp decode at (inner-ok v d n g e)) .0 .1)
+
+pub first-split : (q : Slot → Bool) (ss : List Slot) → comeFirst q ss ≡ true → ss ≡ filter q ss ++ filter (λ (s : Slot). not (q s)) ss
+unfolding comeFirst filter
+first-split q [] h = refl
+first-split q (s ∷ ss) h = go (q s) refl (first-split q ss)
+  where
+    go : (b : Bool) → q s ≡ b → (comeFirst q ss ≡ true → ss ≡ filter q ss ++ filter (λ (s : Slot). not (q s)) ss) → s ∷ ss ≡ filter q (s ∷ ss) ++ filter (λ (s : Slot). not (q s)) (s ∷ ss)
+    go true c ih = rw (c, filter) (ap (λ (l : List Slot). s ∷ l) (ih (rw (c, comeFirst) at h)))
+    go false c ih =
+        let w = all-each (λ (x : Slot). not (q x)) ss .0 (rw (c, comeFirst) at h) in
+        let e : filter q ss ≡ [] = filter-none q ss (Each-map (λ (x : Slot). not (q x) ≡ true) (λ (x : Slot). q x ≡ false) ss (λ x y. not-true (q x) y) w) in
+        let f : filter (λ (x : Slot). not (q x)) ss ≡ ss = filter-all (λ (x : Slot). not (q x)) ss w in
+        rw (c, filter, e, f)
+
+pub shown-split : (v : View) (n : ℕ) → Good v n → v .shown n ≡ kept v n ++ ignored v n
+unfolding kept
+shown-split v n g = first-split (λ (s : Slot). within v n (s .key)) (v .shown n) (kept-first v n g)
+
+ignored-from : (v : View) (n : ℕ) → Each (λ (s : Slot). v .fence (v .sibling n) ≤ s .key) (ignored v n)
+ignored-from v n = mem-each _ (ignored v n) (λ s m. below-false v (s .key) (v .sibling n) (not-true _ (mem-filter (λ (s : Slot). not (within v n (s .key))) s (v .shown n) .0 m .1)) .1)
+
+-- they begin at the place of the sibling's fence
+pub cut-place : (v : View) (n : ℕ) → Good v n → v .sibling n ≢ 0 → placeOf (v .fence (v .sibling n)) (v .shown n) ≡ length (kept v n)
+cut-place v n g z = ap (placeOf (v .fence (v .sibling n))) (shown-split v n g) ∙ place-between (v .fence (v .sibling n)) (kept v n) (ignored v n) (kept-below v n z) (ignored-from v n)
+
+-- nothing is ignored exactly if as many slots are kept as are shown
+pub kept-whole : (v : View) (n : ℕ) → (length (kept v n) ≡ length (v .shown n)) ↔ (kept v n ≡ v .shown n)
+unfolding kept
+kept-whole v n = (λ e. filter-all (λ (s : Slot). within v n (s .key)) (v .shown n) (filter-whole (λ (s : Slot). within v n (s .key)) (v .shown n) e), λ e. ap length e)
+
+-- ---- no shown slot of a table has pointer 0
+
+in-use : (ss : List Slot) → Each (λ (s : Slot). s .pointer ≢ 0) (inUse ss)
+unfolding inUse
+in-use [] = tt
+in-use (s ∷ ss) = go (eqb (s .pointer) 0) refl (in-use ss)
+  where
+    go : (b : Bool) → eqb (s .pointer) 0 ≡ b → Each (λ (s : Slot). s .pointer ≢ 0) (inUse ss) → Each (λ (s : Slot). s .pointer ≢ 0) (inUse (s ∷ ss))
+    go true c ih = rw (c, inUse) tt
+    go false c ih = rw (c, inUse) (eqb-false (s .pointer) 0 c, ih)
+
+pub each-shown : (P : Slot → Type 0) (p : ℕ) (ss : List Slot) → Each P ss → Each P (shown p ss)
+unfolding shown
+each-shown P p [] h = tt
+each-shown P p (s ∷ ss) h = go (eqb (s .pointer) p) refl (each-shown P (s .pointer) ss (h .1))
+  where
+    go : (b : Bool) → eqb (s .pointer) p ≡ b → Each P (shown (s .pointer) ss) → Each P (shown p (s ∷ ss))
+    go true c ih = rw (c, shown) ih
+    go false c ih = rw (c, shown) (h .0, ih)
+
+pub shown-pointers : (t : Words) (r i : ℕ) → Each (λ (s : Slot). s .pointer ≢ 0) (viewFrom t r .shown i)
+unfolding used
+shown-pointers t r i = each-shown (λ (s : Slot). s .pointer ≢ 0) (node t i .left) (used t i) (in-use (slotsOf (node t i .slots)))

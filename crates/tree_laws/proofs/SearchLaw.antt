@@ -1,0 +1,226 @@
+-- A search on a sound table: the nodes it stands on, level by level, and its answer, which is that of a lookup in the map.
+use mathlib.Core.Path.{_≡_, refl, ap, sym, _∙_}
+use mathlib.Core.Bool.{Bool, true, false, _&&_, _||_, false≢true}
+use mathlib.Core.Logic.{_↔_, _≢_, ⊎-elim}
+use mathlib.Core.List.{List, [], _∷_, _++_, List·Memᴰ, List·Memᴰ·not-nil, List·Memᴰ·cases-cons, Memᴰ·cast}
+use mathlib.Core.Option.{some}
+use Prim.Native.Nat.{ℕ, zero, suc, _-_, _≤_, _<_}
+use native.Mathlib.Omega.{arith}
+use lib.Dec.{eqb}
+use lib.ListN.{length, getD}
+use borrow.Author.Tests.{eqb-false, le-leb}
+use Rattle.model.specs.declared.Answer.the-variants.{Found, Absent, Refused}
+use Rattle.model.specs.Table.{Words, inRange}
+use Rattle.model.specs.Slots.{Slot, slot, View, view, height}
+use Rattle.model.specs.Search.{below, within, moved, down, onLevel, passes, locate, pathFrom, path, lookup, answerIn, searchView, search}
+use Rattle.model.specs.Reached.{flat, headOr, kept, named, nextChild, children, leavesFrom, reached, leaves, mapping, mapOf}
+use Rattle.model.specs.SoundTest.{soundView, sound}
+use Rattle.list_laws.proofs.Tools.{decode, or-right, Each, Each-map, Each-flat, Misses, lookup-l, lookup-r, lookup-filter}
+use Rattle.tree_laws.proofs.Members.{each-mem, each-index}
+use Rattle.tree_laws.proofs.Rows.{Good, At, Row, Inner, inners, sib-facts, linked-cons, fill-mem}
+use Rattle.tree_laws.proofs.Cover.{cover, cover-in, cover-out, cover-has, cover-mem, cover-fence, cover-child, cover-flat, stays, below-true, within-up-to, step-down, step-whole, down-named, nexts}
+use Rattle.tree_laws.proofs.Levels.{Orderly, sound-orderly, sound-parts, Level, level-lower, level-root, level-at, level-leaves, rowAt, row-below, row-reached, reached-row, row-tail, head-least}
+use Rattle.tree_laws.proofs.Rising.{found-iff, absent-iff, lookup-answers}
+use Rattle.tree_laws.proofs.MapLaw.{map-rising, leaf-part}
+
+-- ---- one level
+
+-- what holds of the node that covers k on level d
+pub record Covers (v : View) (k d n : ℕ) : Type 0 where
+  pub good : Good v n
+  pub at : At v d n
+  pub inside : within v n k ≡ true
+  pub fence : v .fence n ≤ k
+
+pub covers : (v : View) (k d : ℕ) (ns : List ℕ) → Level v d ns → Covers v k d (cover v k ns)
+covers v k d ns l =
+    let r = l .row in
+    let g = cover-has v k (Good v) ns (r .good) (r .chain) (l .some) in
+    let a = cover-has v k (At v d) ns (r .at) (r .chain) (l .some) in
+    record { good = g .0; at = a .0; inside = g .1; fence = cover-fence v k ns (r .chain) (l .some) (rw (l .first) (omega arith)) }
+
+-- and of no other node of the row
+pub cover-only : (v : View) (k d n : ℕ) (ns : List ℕ) → Row v d ns → List·Memᴰ n ns → v .fence n ≤ k → within v n k ≡ true → cover v k ns ≡ n
+cover-only v k d n [] r m f w = absurd (List·Memᴰ·not-nil m)
+cover-only v k d n (x ∷ xs) r m f w = go (within v x k) refl (λ t. cover-only v k d n xs (row-tail v d x xs r) t f w)
+  where
+    late : within v x k ≡ true → List·Memᴰ n xs → ⊥
+    late c t =
+        let u = linked-cons v x xs 0 .0 (r .chain) in
+        let h = head-least v d n xs (row-tail v d x xs r) t in
+        let l : k < v .fence (headOr 0 xs) = below-true v k (headOr 0 xs) (h .0) (ap (λ (y : ℕ). below v y k) (sym (u .0)) ∙ c) in
+        omega (arith, h .1)
+
+    go : (b : Bool) → within v x k ≡ b → (List·Memᴰ n xs → cover v k xs ≡ n) → cover v k (x ∷ xs) ≡ n
+    go true c ih = cover-in v k x xs c ∙ ⊎-elim (λ e. sym e) (λ t. absurd (late c t)) (List·Memᴰ·cases-cons m)
+    go false c ih = cover-out v k x xs c ∙ ⊎-elim (λ e. absurd (false≢true (sym c ∙ ap (λ (y : ℕ). within v y k) (sym e) ∙ w))) ih (List·Memᴰ·cases-cons m)
+
+-- the step of a search from m, which covers k on level d + 1, to c, which covers k on level d
+pub record Step (v : View) (k d m c : ℕ) : Type 0 where
+  pub moves : moved v (down v m k) k ≡ c
+  pub child : List·Memᴰ c (children v m)
+  pub good : Good v (down v m k)
+  pub at : At v d (down v m k)
+  -- where m names all its children, no move is needed
+  pub straight : children v m ≡ named v m → down v m k ≡ c
+
+pub step : (v : View) (k d : ℕ) (ns : List ℕ) → Level v (suc d) ns → Step v k d (cover v k ns) (cover v k (flat (children v) ns))
+step v k d ns l =
+    let r = l .row in
+    let i = inners v d ns (r .good) (r .at) in
+    let w = level-lower v d ns l .row in
+    let m = cover v k ns in
+    let ci = cover-has v k (Inner v d) ns i (r .chain) (l .some) in
+    let cg = cover-has v k (λ (n : ℕ). Each (Good v) (children v n)) ns (Each-flat (Good v) (children v) ns (w .good)) (r .chain) (l .some) .0 in
+    let ca = cover-has v k (λ (n : ℕ). Each (At v d) (children v n)) ns (Each-flat (At v d) (children v) ns (w .at)) (r .chain) (l .some) .0 in
+    let cn = cover-has v k (λ (n : ℕ). within v n k ≡ true → below v (nextChild v n) k ≡ true) ns (nexts v k d ns i (r .at) (r .chain)) (r .chain) (l .some) .0 (ci .1) in
+    let e = cover-flat v k d ns i (r .at) (r .chain) (w .good) (w .at) (l .some) in
+    let t : List·Memᴰ (down v m k) (children v m) = rw (ci .0 .kids) (fill-mem v (nextChild v m) (down-named v k m (ci .1))) in
+    record {
+      moves = step-down v k d m (ci .0) cg ca (ci .1) cn ∙ sym e;
+      child = rw e (cover-child v k d m (ci .0) cn);
+      good = each-mem (Good v) cg t;
+      at = each-mem (At v d) ca t;
+      straight = λ q. step-whole v k d m (ci .0) ca q (ci .1) cn ∙ sym e;
+    }
+
+-- ---- the path
+
+passes-good : (v : View) (d n : ℕ) → Good v n → At v d n → passes v d n ≡ true
+unfolding passes onLevel
+passes-good v d n g a = simp decode ((a .range, a .level), go (eqb (v .sibling n) 0) refl)
+  where
+    go : (b : Bool) → eqb (v .sibling n) 0 ≡ b → eqb (v .sibling n) 0 || (inRange (v .nodes) (v .sibling n) && eqb (v .level (v .sibling n)) d) ≡ true
+    go true c = rw c
+    go false c = let w = sib-facts v n g (eqb-false _ _ c) in or-right (eqb (v .sibling n) 0) _ (simp decode (w .range, w .level ∙ a .level))
+
+module _ (v : View) (k : ℕ) where
+  locate-from : (d n : ℕ) (ns : List ℕ) → Level v d ns → Good v n → At v d n → moved v n k ≡ cover v k ns → locate v d n k ≡ some (cover v k (leavesFrom v d ns))
+  unfolding locate leavesFrom
+  locate-from zero n ns l g a e = rw (passes-good v 0 n g a, locate) (ap some e)
+  locate-from (suc d) n ns l g a e =
+      let s = step v k d ns l in
+      let q : down v (moved v n k) k ≡ down v (cover v k ns) k = ap (λ (m : ℕ). down v m k) e in
+      rw (passes-good v (suc d) n g a, locate) (rw q (locate-from d (down v (cover v k ns) k) (flat (children v) ns) (level-lower v d ns l) (s .good) (s .at) (s .moves)))
+
+  path-from : (d i n : ℕ) (ns : List ℕ) → Level v d ns → moved v n k ≡ cover v k ns → i ≤ d → getD (pathFrom v d n k) i 0 ≡ cover v k (leavesFrom v i ns)
+  unfolding pathFrom leavesFrom
+  path-from zero zero n ns l e h = e
+  path-from zero (suc i) n ns l e h = absurd (omega arith)
+  path-from (suc d) zero n ns l e h = e
+  path-from (suc d) (suc i) n ns l e h =
+      path-from d i (down v (moved v n k) k) (flat (children v) ns) (level-lower v d ns l) (ap (λ (m : ℕ). moved v (down v m k) k) e ∙ step v k d ns l .moves) (omega arith)
+
+  pub path-length-from : (d n : ℕ) → length (pathFrom v d n k) ≡ suc d
+  unfolding pathFrom
+  path-length-from zero n = refl
+  path-length-from (suc d) n = ap suc (path-length-from d (down v (moved v n k) k))
+
+-- a path has one node on each level
+pub path-length : (v : View) (k : ℕ) → length (path v k) ≡ suc (height v)
+path-length v k = path-length-from v k (height v) (v .root)
+
+root-covers : (v : View) (k : ℕ) → Orderly v → moved v (v .root) k ≡ cover v k (v .root ∷ [])
+root-covers v k o =
+    let b : within v (v .root) k ≡ true = rw (o .top .sibling) (unfold below in refl) in
+    stays v k (v .root) b ∙ sym (cover-in v k (v .root) [] b)
+
+-- the one on level d covers k there
+pub path-at : (v : View) (k d : ℕ) → Orderly v → d ≤ height v → getD (path v k) (height v - d) 0 ≡ cover v k (rowAt v d)
+path-at v k d o h = path-from v k (height v) (height v - d) (v .root) (v .root ∷ []) (level-root v (o .top) (o .good)) (root-covers v k o) (omega arith)
+
+-- the leaf for k
+abbrev pub leafFor : View → ℕ → ℕ
+leafFor v k = cover v k (leaves v)
+
+pub locate-leaf : (v : View) (k : ℕ) → Orderly v → locate v (height v) (v .root) k ≡ some (leafFor v k)
+locate-leaf v k o =
+    let l = level-root v (o .top) (o .good) in
+    locate-from v k (height v) (v .root) (v .root ∷ []) l (l .row .good .0) (l .row .at .0) (root-covers v k o)
+
+pub path-root : (v : View) (k : ℕ) → Orderly v → getD (path v k) 0 0 ≡ v .root
+unfolding leavesFrom
+path-root v k o =
+    let b : within v (v .root) k ≡ true = rw (o .top .sibling) (unfold below in refl) in
+    path-from v k (height v) 0 (v .root) (v .root ∷ []) (level-root v (o .top) (o .good)) (root-covers v k o) (omega arith) ∙ cover-in v k (v .root) [] b
+
+pub path-leaf : (v : View) (k : ℕ) → Orderly v → getD (path v k) (height v) 0 ≡ leafFor v k
+path-leaf v k o = let e : height v - 0 ≡ height v = omega arith in rw e at (path-at v k 0 o (omega arith))
+
+-- the node of the path on level d
+pub record Stands (v : View) (k d n : ℕ) : Type 0 where
+  pub reached : List·Memᴰ n (reached v)
+  pub covers : Covers v k d n
+
+pub path-stands : (v : View) (k d : ℕ) → Orderly v → d ≤ height v → Stands v k d (getD (path v k) (height v - d) 0)
+path-stands v k d o h =
+    let l = level-at v d o h in
+    rw (path-at v k d o h) (record { reached = row-reached v _ d h (cover-mem v k (rowAt v d) (l .row .chain) (l .some)); covers = covers v k d (rowAt v d) l })
+
+-- each node but the root is a child of the one before it, found by going down and moving at most once
+pub path-step : (v : View) (k d : ℕ) → Orderly v → d < height v → Step v k d (getD (path v k) (height v - suc d) 0) (getD (path v k) (height v - d) 0)
+path-step v k d o h = rw (path-at v k d o (omega arith), path-at v k (suc d) o h, row-below v d h) (step v k d (rowAt v (suc d)) (level-at v (suc d) o h))
+
+pub path-reached : (v : View) (k : ℕ) → Orderly v → Each (λ (n : ℕ). List·Memᴰ n (reached v)) (path v k)
+path-reached v k o = each-index (λ (n : ℕ). List·Memᴰ n (reached v)) (path v k) 0 (λ i h.
+    let l : i ≤ height v = omega (arith, path-length v k) in
+    let e : height v - (height v - i) ≡ i = omega arith in
+    rw e at (path-stands v k (height v - i) o (omega arith) .reached))
+
+-- a node is reached exactly if the search for its own fence stands on it
+pub reached-iff : (v : View) (n : ℕ) → Orderly v → List·Memᴰ n (reached v) ↔ ((v .level n ≤ height v) × (getD (path v (v .fence n)) (height v - v .level n) 0 ≡ n))
+reached-iff v n o = (
+  λ m.
+      let r = reached-row v n o m in
+      let w = within-up-to v (v .fence n) n (each-mem (Good v) (o .good) m) (omega arith) in
+      (r .level, path-at v (v .fence n) (v .level n) o (r .level) ∙ cover-only v (v .fence n) (v .level n) n (rowAt v (v .level n)) (level-at v (v .level n) o (r .level) .row) (r .row) (omega arith) w),
+  λ u. Memᴰ·cast (sym (u .1)) (path-stands v (v .fence n) (v .level n) o (u .0) .reached),
+)
+
+-- ---- the leaf
+
+pub leaf-covers : (v : View) (k : ℕ) → Orderly v → Covers v k 0 (leafFor v k)
+leaf-covers v k o = covers v k 0 (leaves v) (level-leaves v o)
+
+pub leaf-mem : (v : View) (k : ℕ) → Orderly v → List·Memᴰ (leafFor v k) (leaves v)
+leaf-mem v k o = let l = level-leaves v o in cover-mem v k (leaves v) (l .row .chain) (l .some)
+
+-- a leaf answers for the keys of its range
+pub range-lookup : (v : View) (k x : ℕ) → Orderly v → List·Memᴰ x (leaves v) → v .fence x ≤ k → within v x k ≡ true → lookup k (mapping v) ≡ lookup k (v .shown x)
+unfolding kept
+range-lookup v k x o m f w =
+    let p = leaf-part v x o m in
+    let a = flat (kept v) (p .left) in
+    let b = flat (kept v) (p .right) in
+    ap (lookup k) (p .parts)
+    ∙ lookup-l k a (kept v x ++ b) (Each-map (λ (s : Slot). s .key < v .fence x) (λ (s : Slot). s .key ≡ k → ⊥) a (λ s h e. omega arith) (p .low))
+    ∙ lookup-r k (kept v x) b (Each-map (λ (s : Slot). within v x (s .key) ≡ false) (λ (s : Slot). s .key ≡ k → ⊥) b (λ s h e. false≢true (sym h ∙ ap (within v x) e ∙ w)) (p .high))
+    ∙ lookup-filter k (λ (s : Slot). within v x (s .key)) (v .shown x) (λ s e. ap (within v x) e ∙ w)
+
+-- and it is the only one whose range has the key
+pub leaf-only : (v : View) (k x : ℕ) → Orderly v → List·Memᴰ x (leaves v) → v .fence x ≤ k → within v x k ≡ true → leafFor v k ≡ x
+leaf-only v k x o m f w = cover-only v k 0 x (leaves v) (level-leaves v o .row) m f w
+
+-- ---- the answer
+
+pub search-view : (v : View) (k : ℕ) → soundView v ≡ true → searchView v k ≡ lookup k (mapping v)
+unfolding searchView
+search-view v k h =
+    let o = sound-orderly v h in
+    let c = leaf-covers v k o in
+    rw (le-leb (height v) 15 (o .top .level), searchView) (ap (answerIn v k) (locate-leaf v k o) ∙ sym (range-lookup v k (leafFor v k) o (leaf-mem v k o) (c .fence) (c .inside)))
+
+-- On a sound table a search for any key answers as a lookup in the map.
+pub search-law : (t : Words) (k : ℕ) → sound t ≡ true → search t k ≡ lookup k (mapOf t)
+unfolding search
+search-law t k h = let u = sound-parts t .0 h in rw (u .0, search) (search-view (view t) k (u .1))
+
+-- It finds r exactly if the map has (k, r), it is absent exactly if the map has no pair with key k, and it is never refused.
+pub search-found : (t : Words) (k r : ℕ) → sound t ≡ true → (search t k ≡ Found r) ↔ List·Memᴰ (slot k r) (mapOf t)
+search-found t k r h = let o = sound-orderly (view t) (sound-parts t .0 h .1) in rw (search-law t k h) (found-iff 0 k r (mapOf t) (map-rising (view t) o))
+
+pub search-absent : (t : Words) (k : ℕ) → sound t ≡ true → (search t k ≡ Absent) ↔ Misses k (mapOf t)
+search-absent t k h = rw (search-law t k h) (absent-iff k (mapOf t))
+
+pub search-answers : (t : Words) (k n : ℕ) → sound t ≡ true → search t k ≢ Refused n
+search-answers t k n h = rw (search-law t k h) (lookup-answers k n (mapOf t))

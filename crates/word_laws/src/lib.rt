@@ -1,0 +1,1 @@
+// Laws of a store seen by the nodes of a table, in proofs/. No code.

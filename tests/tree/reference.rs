@@ -1,0 +1,633 @@
+//! Document 01 once more, for tests only: nodes as records, explicit sets and library maps. It shares no code with the crates.
+#![allow(dead_code)]
+use std::collections::{BTreeMap, BTreeSet, HashMap};
+
+pub const MARK: u64 = u64::MAX;
+pub const LIST_WORDS: usize = 2560;
+
+#[derive(Clone, Debug, PartialEq, Eq)]
+pub enum Answer {
+    Found(u64),
+    Absent,
+    Refused(u64),
+}
+
+#[derive(Clone, Copy, Debug, PartialEq, Eq)]
+pub struct Slot {
+    pub key: u64,
+    pub pointer: u64,
+}
+
+#[derive(Clone, Debug)]
+pub struct Node {
+    pub left: u64,
+    pub sibling: u64,
+    pub level: u64,
+    pub fence: u64,
+    pub spare: [u64; 4],
+    pub slots: [Slot; 12],
+}
+
+impl Node {
+    /// The slots in use end before the first pointer 0.
+    pub fn used(&self) -> usize {
+        self.slots.iter().position(|s| s.pointer == 0).unwrap_or(12)
+    }
+
+    /// Places of the slots in use, told apart: shown, then hidden.
+    pub fn places(&self) -> (Vec<usize>, Vec<usize>) {
+        let (mut shown, mut hidden) = (Vec::new(), Vec::new());
+        for i in 0..self.used() {
+            let before = if i == 0 { self.left } else { self.slots[i - 1].pointer };
+            if self.slots[i].pointer == before {
+                hidden.push(i)
+            } else {
+                shown.push(i)
+            }
+        }
+        (shown, hidden)
+    }
+
+    pub fn shown(&self) -> Vec<Slot> {
+        self.places().0.iter().map(|&i| self.slots[i]).collect()
+    }
+}
+
+/// Where node i begins.
+pub fn start(i: u64) -> usize {
+    8 + 32 * (i as usize - 1)
+}
+
+pub fn nodes_for(len: usize) -> Option<u64> {
+    if len < 40 || (len - 8) % 32 != 0 || (len - 8) / 32 > 65535 {
+        None
+    } else {
+        Some(((len - 8) / 32) as u64)
+    }
+}
+
+/// What refusal 2 tests.
+pub fn header_ok(t: &[u64]) -> bool {
+    match nodes_for(t.len()) {
+        None => false,
+        Some(n) => t[0] == 1 && t[2] == n && t[3..8].iter().all(|&w| w == 0) && (1..=n).contains(&t[1]),
+    }
+}
+
+pub fn make(n: u64) -> Vec<u64> {
+    let mut t = vec![0; 8 + 32 * n as usize];
+    t[0] = 1;
+    t[1] = 1;
+    t[2] = n;
+    t[8] = MARK;
+    t
+}
+
+pub fn node(t: &[u64], i: u64) -> Node {
+    let w = &t[start(i)..start(i) + 32];
+    let mut slots = [Slot { key: 0, pointer: 0 }; 12];
+    for (s, pair) in slots.iter_mut().zip(w[8..].chunks(2)) {
+        *s = Slot { key: pair[0], pointer: pair[1] };
+    }
+    Node { left: w[0], sibling: w[1], level: w[2], fence: w[3], spare: [w[4], w[5], w[6], w[7]], slots }
+}
+
+pub fn search(t: &[u64], k: u64) -> Answer {
+    if !header_ok(t) {
+        return Answer::Refused(2);
+    }
+    let n = t[2];
+    let inside = |i: u64| (1..=n).contains(&i);
+    let mut at = t[1];
+    let mut level = node(t, at).level;
+    if level > 15 {
+        return Answer::Refused(3);
+    }
+    loop {
+        if !inside(at) || node(t, at).level != level {
+            return Answer::Refused(3);
+        }
+        let mut x = node(t, at);
+        if x.sibling != 0 {
+            if !inside(x.sibling) || node(t, x.sibling).level != level {
+                return Answer::Refused(3);
+            }
+            let right = node(t, x.sibling);
+            if k >= right.fence {
+                x = right;
+            }
+        }
+        if level == 0 {
+            return match x.shown().iter().find(|s| s.key == k) {
+                Some(s) => Answer::Found(s.pointer),
+                None => Answer::Absent,
+            };
+        }
+        at = x.shown().iter().filter(|s| s.key <= k).last().map_or(x.left, |s| s.pointer);
+        level -= 1;
+    }
+}
+
+#[derive(Clone, Copy, Debug, PartialEq, Eq)]
+pub enum Leftover {
+    Nothing,
+    Hidden { node: u64 },
+    Missing { parent: u64, a: u64, trailing: bool },
+    Both { parent: u64, a: u64 },
+}
+
+pub struct Tree {
+    pub reached: BTreeMap<u64, Node>,
+    pub leftover: Leftover,
+    pub map: BTreeMap<u64, u64>,
+}
+
+/// A sound table's tree, by the sentences of 'Sound tables'; None for a table that is not sound. The header is right.
+pub fn judge(t: &[u64]) -> Option<Tree> {
+    let n = t[2];
+    let inside = |i: u64| (1..=n).contains(&i);
+    let below = |x: &Node, k: u64| x.sibling == 0 || k < node(t, x.sibling).fence;
+
+    // Reached nodes: the closure under left, sibling, and shown slots below the sibling's fence.
+    let mut reached: BTreeMap<u64, Node> = BTreeMap::new();
+    let mut parents: HashMap<u64, BTreeSet<u64>> = HashMap::new();
+    let mut todo = vec![t[1]];
+    while let Some(i) = todo.pop() {
+        if reached.contains_key(&i) {
+            continue;
+        }
+        let x = node(t, i);
+        if x.sibling != 0 {
+            if !inside(x.sibling) {
+                return None;
+            }
+            todo.push(x.sibling);
+        }
+        if x.level > 0 {
+            let mut ways = vec![(x.fence, x.left)];
+            ways.extend(x.shown().iter().filter(|s| below(&x, s.key)).map(|s| (s.key, s.pointer)));
+            for (fence, c) in ways {
+                if !inside(c) {
+                    return None;
+                }
+                let child = node(t, c);
+                if child.level.checked_add(1) != Some(x.level) || child.fence != fence {
+                    return None;
+                }
+                parents.entry(c).or_default().insert(i);
+                todo.push(c);
+            }
+        }
+        reached.insert(i, x);
+    }
+
+    let root = &reached[&t[1]];
+    if root.fence != 0 || root.sibling != 0 || root.level > 15 {
+        return None;
+    }
+
+    // Each node by itself; what is hidden or trailing.
+    let mut hidden: Vec<u64> = Vec::new();
+    let mut trailing: BTreeSet<u64> = BTreeSet::new();
+    for (&i, x) in &reached {
+        if x.spare != [0; 4] || x.slots[11].pointer != 0 {
+            return None;
+        }
+        if x.level == 0 && x.left != MARK {
+            return None;
+        }
+        let mut low = if x.level == 0 { x.fence.checked_sub(1) } else { Some(x.fence) };
+        let mut past = false;
+        for s in x.shown() {
+            if below(x, s.key) {
+                if past || low.map_or(false, |l| s.key <= l) {
+                    return None;
+                }
+                low = Some(s.key);
+            } else {
+                past = true;
+            }
+        }
+        if past {
+            trailing.insert(i);
+        }
+        hidden.extend(x.places().1.iter().map(|_| i));
+    }
+
+    // Siblings join each level from left to right.
+    let mut levels: BTreeMap<u64, BTreeMap<u64, u64>> = BTreeMap::new();
+    for (&i, x) in &reached {
+        if levels.entry(x.level).or_default().insert(x.fence, i).is_some() {
+            return None;
+        }
+    }
+    for row in levels.values() {
+        let order: Vec<u64> = row.values().copied().collect();
+        for (j, i) in order.iter().enumerate() {
+            if reached[i].sibling != order.get(j + 1).copied().unwrap_or(0) {
+                return None;
+            }
+        }
+    }
+
+    // The map, and its recordings.
+    let mut map = BTreeMap::new();
+    let mut recordings = BTreeSet::new();
+    for x in reached.values().filter(|x| x.level == 0) {
+        for s in x.shown().into_iter().filter(|s| below(x, s.key)) {
+            if s.pointer == MARK || !recordings.insert(s.pointer) {
+                return None;
+            }
+            map.insert(s.key, s.pointer);
+        }
+    }
+
+    // One parent each but the root, and one that lacks its slot.
+    let mut lacking = Vec::new();
+    for &i in reached.keys() {
+        match parents.get(&i).map_or(0, |p| p.len()) {
+            0 if i == t[1] => {}
+            0 => lacking.push(i),
+            1 => {}
+            _ => return None,
+        }
+    }
+    let leftover = match lacking[..] {
+        [] => {
+            if !trailing.is_empty() {
+                return None;
+            }
+            match hidden[..] {
+                [] => Leftover::Nothing,
+                [x] => Leftover::Hidden { node: x },
+                _ => return None,
+            }
+        }
+        [b] => {
+            let a = *reached.iter().find(|(_, x)| x.sibling == b)?.0;
+            let parent = *parents.get(&a)?.iter().next()?;
+            let p = &reached[&parent];
+            let fence = reached[&b].fence;
+            let routed = p.shown().iter().filter(|s| s.key <= fence).last().map_or(p.left, |s| s.pointer);
+            if routed != a || p.shown().len() > 10 || trailing.iter().any(|&x| x != a) {
+                return None;
+            }
+            match hidden[..] {
+                [] => Leftover::Missing { parent, a, trailing: !trailing.is_empty() },
+                [x] if x == parent && trailing.is_empty() => Leftover::Both { parent, a },
+                _ => return None,
+            }
+        }
+        _ => return None,
+    };
+    Some(Tree { reached, leftover, map })
+}
+
+#[derive(Clone, Debug, PartialEq, Eq)]
+pub enum Listed {
+    Pairs { count: u64, more: bool },
+    Refused(u64),
+}
+
+/// A listing: the answer, and the slice after it.
+pub fn list(t: &[u64], low: u64, high: u64, out: &[u64]) -> (Listed, Vec<u64>) {
+    if !header_ok(t) {
+        return (Listed::Refused(2), out.to_vec());
+    }
+    let Some(tree) = judge(t) else { return (Listed::Refused(4), out.to_vec()) };
+    let pairs: Vec<(u64, u64)> = tree.map.into_iter().filter(|&(k, _)| low <= k && k <= high).collect();
+    let count = pairs.len().min(out.len() / 2);
+    let mut words = out.to_vec();
+    for (i, &(k, r)) in pairs[..count].iter().enumerate() {
+        words[2 * i] = k;
+        words[2 * i + 1] = r;
+    }
+    (Listed::Pairs { count: count as u64, more: count < pairs.len() }, words)
+}
+
+// ---- writes
+
+#[derive(Clone, Copy, Debug, PartialEq, Eq)]
+pub enum Order {
+    Store(usize, u64),
+    Flush(u64),
+}
+
+/// A table with the stores made on it so far.
+pub struct Writer {
+    pub t: Vec<u64>,
+    pub stores: Vec<(usize, u64)>,
+}
+
+impl Writer {
+    pub fn new(t: &[u64]) -> Writer {
+        Writer { t: t.to_vec(), stores: Vec::new() }
+    }
+
+    fn store(&mut self, w: usize, x: u64) {
+        self.t[w] = x;
+        self.stores.push((w, x));
+    }
+
+    fn key(&mut self, n: u64, i: usize, x: u64) {
+        self.store(start(n) + 8 + 2 * i, x)
+    }
+
+    fn pointer(&mut self, n: u64, i: usize, x: u64) {
+        self.store(start(n) + 9 + 2 * i, x)
+    }
+
+    fn before(&self, n: u64, p: usize) -> u64 {
+        let x = node(&self.t, n);
+        if p == 0 { x.left } else { x.slots[p - 1].pointer }
+    }
+
+    fn shift_in(&mut self, n: u64, k: u64, x: u64) {
+        let shown = node(&self.t, n).shown();
+        let p = shown.iter().position(|s| s.key > k).unwrap_or(shown.len());
+        self.pointer(n, shown.len() + 1, 0);
+        for i in (p..shown.len()).rev() {
+            let s = node(&self.t, n).slots[i];
+            self.pointer(n, i + 1, s.pointer);
+            self.key(n, i + 1, s.key);
+        }
+        let before = self.before(n, p);
+        self.pointer(n, p, before);
+        self.key(n, p, k);
+        self.pointer(n, p, x);
+    }
+
+    fn close(&mut self, n: u64, p: usize, used: usize) {
+        for i in p..used - 1 {
+            let s = node(&self.t, n).slots[i + 1];
+            self.key(n, i, s.key);
+            self.pointer(n, i, s.pointer);
+        }
+        self.pointer(n, used - 1, 0);
+    }
+
+    fn shift_out(&mut self, n: u64, k: u64) {
+        let shown = node(&self.t, n).shown();
+        let p = shown.iter().position(|s| s.key == k).unwrap();
+        let before = self.before(n, p);
+        self.pointer(n, p, before);
+        self.close(n, p, shown.len());
+    }
+
+    fn whole_node(&mut self, n: u64, words: [u64; 32]) {
+        for (j, &x) in words.iter().enumerate() {
+            self.store(start(n) + j, x);
+        }
+    }
+
+    fn repair(&mut self, leftover: Leftover) {
+        match leftover {
+            Leftover::Nothing => {}
+            Leftover::Hidden { node: x } => self.close_hidden(x),
+            Leftover::Missing { parent, a, trailing } => {
+                if trailing {
+                    let x = node(&self.t, a);
+                    let fence = node(&self.t, x.sibling).fence;
+                    let place = (0..x.used()).find(|&i| x.slots[i].key >= fence).unwrap();
+                    self.pointer(a, place, 0);
+                }
+                self.attach(parent, a);
+            }
+            Leftover::Both { parent, a } => {
+                self.close_hidden(parent);
+                self.attach(parent, a);
+            }
+        }
+    }
+
+    fn close_hidden(&mut self, n: u64) {
+        let x = node(&self.t, n);
+        self.close(n, x.places().1[0], x.used());
+    }
+
+    fn attach(&mut self, parent: u64, a: u64) {
+        let b = node(&self.t, a).sibling;
+        let fence = node(&self.t, b).fence;
+        self.shift_in(parent, fence, b);
+    }
+
+    /// The nodes from the root down that lead to k, on a settled table.
+    fn path(&self, k: u64) -> Vec<u64> {
+        let mut way = vec![self.t[1]];
+        loop {
+            let x = node(&self.t, *way.last().unwrap());
+            if x.level == 0 {
+                return way;
+            }
+            way.push(x.shown().iter().filter(|s| s.key <= k).last().map_or(x.left, |s| s.pointer));
+        }
+    }
+
+    fn full(&self, n: u64) -> bool {
+        node(&self.t, n).shown().len() == 11
+    }
+
+    fn run(&self, k: u64) -> (usize, usize) {
+        let path = self.path(k);
+        (path.iter().rev().take_while(|&&n| self.full(n)).count(), path.len())
+    }
+
+    fn unreachable(&self) -> BTreeSet<u64> {
+        let reached = judge(&self.t).expect("a sound table").reached;
+        (1..=self.t[2]).filter(|i| !reached.contains_key(i)).collect()
+    }
+
+    fn fresh(&self, a: u64) -> u64 {
+        let free = self.unreachable();
+        *free.range(a + 1..).next().or(free.iter().next()).expect("a fresh node")
+    }
+
+    fn new_root(&mut self) {
+        let old = self.t[1];
+        let r = self.fresh(old);
+        let mut words = [0; 32];
+        words[0] = old;
+        words[2] = node(&self.t, old).level + 1;
+        self.whole_node(r, words);
+        self.store(1, r);
+    }
+
+    fn split(&mut self, a: u64, parent: u64) {
+        let x = node(&self.t, a);
+        let b = self.fresh(a);
+        let mut words = [0; 32];
+        let from = if x.level == 0 { 5 } else { 6 };
+        words[0] = if x.level == 0 { MARK } else { x.slots[5].pointer };
+        words[1] = x.sibling;
+        words[2] = x.level;
+        words[3] = x.slots[5].key;
+        for (j, s) in x.slots[from..11].iter().enumerate() {
+            words[8 + 2 * j] = s.key;
+            words[9 + 2 * j] = s.pointer;
+        }
+        self.whole_node(b, words);
+        self.store(start(a) + 1, b);
+        self.pointer(a, 5, 0);
+        self.shift_in(parent, words[3], b);
+    }
+
+    fn insert(&mut self, k: u64, r: u64) {
+        let (run, depth) = self.run(k);
+        if run == depth {
+            self.new_root();
+        }
+        for level in (0..run).rev() {
+            let path = self.path(k);
+            self.split(path[path.len() - 1 - level], path[path.len() - 2 - level]);
+        }
+        let leaf = *self.path(k).last().unwrap();
+        self.shift_in(leaf, k, r);
+    }
+}
+
+#[derive(Clone, Copy, Debug, PartialEq, Eq)]
+pub enum Call {
+    Insert(u64, u64),
+    Delete(u64),
+    Repair,
+}
+
+/// The stores of an accepted call and the table that it leaves, or its refusal number.
+pub fn write(t: &[u64], list_words: usize, call: Call) -> Result<Writer, u64> {
+    if !header_ok(t) {
+        return Err(2);
+    }
+    let tree = judge(t).ok_or(4u64)?;
+    if list_words < LIST_WORDS {
+        return Err(5);
+    }
+    let parent = match tree.leftover {
+        Leftover::Missing { parent, .. } | Leftover::Both { parent, .. } => Some(parent),
+        _ => None,
+    };
+    if parent.map_or(false, |p| node(t, p).shown().len() == 11) {
+        return Err(12);
+    }
+    let mut w = Writer::new(t);
+    w.repair(tree.leftover);
+    match call {
+        Call::Insert(k, r) => {
+            if r == 0 || r == MARK {
+                return Err(6);
+            }
+            if tree.map.contains_key(&k) {
+                return Err(7);
+            }
+            if tree.map.values().any(|&x| x == r) {
+                return Err(8);
+            }
+            let (run, depth) = w.run(k);
+            let new_root = run == depth;
+            if new_root && node(&w.t, w.t[1]).level == 15 {
+                return Err(11);
+            }
+            if w.unreachable().len() < run + new_root as usize {
+                return Err(10);
+            }
+            w.insert(k, r);
+        }
+        Call::Delete(k) => {
+            if !tree.map.contains_key(&k) {
+                return Err(9);
+            }
+            let leaf = *w.path(k).last().unwrap();
+            w.shift_out(leaf, k);
+        }
+        Call::Repair => {}
+    }
+    Ok(w)
+}
+
+/// A line is flushed before a store to another line, and at the end.
+pub fn orders(stores: &[(usize, u64)]) -> Vec<Order> {
+    let mut list = Vec::new();
+    let mut open = None;
+    for &(w, x) in stores {
+        let line = (w / 8) as u64;
+        if let Some(l) = open.filter(|&l| l != line) {
+            list.push(Order::Flush(l));
+        }
+        list.push(Order::Store(w, x));
+        open = Some(line);
+    }
+    list.extend(open.map(Order::Flush));
+    list
+}
+
+pub fn encode(orders: &[Order]) -> Vec<u64> {
+    orders
+        .iter()
+        .flat_map(|o| match *o {
+            Order::Store(w, x) => [w as u64, x],
+            Order::Flush(l) => [MARK, l],
+        })
+        .collect()
+}
+
+/// The table after carry-out of the first c orders of a list of words, or the refusal number.
+pub fn carry_out(t: &[u64], list: &[u64], c: u64) -> Result<Vec<u64>, u64> {
+    if !header_ok(t) {
+        return Err(2);
+    }
+    if c > (list.len() / 2) as u64 {
+        return Err(13);
+    }
+    let first = &list[..2 * c as usize];
+    for o in first.chunks(2) {
+        let inside = if o[0] == MARK { o[1] < (t.len() / 8) as u64 } else { o[0] < t.len() as u64 };
+        if !inside {
+            return Err(13);
+        }
+    }
+    let mut after = t.to_vec();
+    for o in first.chunks(2).filter(|o| o[0] != MARK) {
+        after[o[0] as usize] = o[1];
+    }
+    Ok(after)
+}
+
+/// Every image that a cut after the given orders may leave: each line as at its last flush, then some first part of its later stores.
+pub fn images(t: &[u64], happened: &[Order]) -> Vec<Vec<u64>> {
+    let lines: BTreeSet<usize> = happened.iter().filter_map(|o| if let Order::Store(w, _) = o { Some(w / 8) } else { None }).collect();
+    let mut all = vec![t.to_vec()];
+    for l in lines {
+        let last = happened.iter().rposition(|o| *o == Order::Flush(l as u64)).map_or(0, |i| i + 1);
+        let to_line = |o: &Order| if let Order::Store(w, x) = *o { (w / 8 == l).then_some((w, x)) } else { None };
+        let early: Vec<(usize, u64)> = happened[..last].iter().filter_map(to_line).collect();
+        let later: Vec<(usize, u64)> = happened[last..].iter().filter_map(to_line).collect();
+        let mut next = Vec::new();
+        for m in &all {
+            for part in 0..=later.len() {
+                let mut image = m.clone();
+                for &(w, x) in early.iter().chain(&later[..part]) {
+                    image[w] = x;
+                }
+                next.push(image);
+            }
+        }
+        all = next;
+    }
+    all
+}
+
+// ---- random numbers (xorshift), so that a seed reproduces a run
+
+pub struct Random(pub u64);
+
+impl Random {
+    pub fn next(&mut self) -> u64 {
+        self.0 ^= self.0 << 13;
+        self.0 ^= self.0 >> 7;
+        self.0 ^= self.0 << 17;
+        self.0
+    }
+
+    pub fn below(&mut self, n: u64) -> u64 {
+        self.next() % n
+    }
+}
