@@ -1,0 +1,2 @@
+-- Every store of every write.
+pub mod Phase

@@ -1,0 +1,57 @@
+-- A phase of a write: its stores, each first part of which leaves a sound table with the old map or the new one. Phases join.
+use mathlib.Core.Path.{_≡_, refl, _∙_}
+use mathlib.Core.Logic.{_⊎_, inl, inr, ⊎-map}
+use mathlib.Core.Bool.{true}
+use mathlib.Core.List.{List, [], _++_}
+use Prim.Native.Nat.{ℕ, _+_, _≤_, _<_}
+use native.Mathlib.Omega.{arith}
+use lib.ListN.{length, take}
+use lib.Seq.{take-nil}
+use Rattle.model.specs.Table.{Words}
+use Rattle.model.specs.Slots.{Slot}
+use Rattle.model.specs.Reached.{mapOf}
+use Rattle.model.specs.SoundTest.{settled, sound}
+use Rattle.model.specs.Orders.{Store, apply, orders}
+use Rattle.list_laws.proofs.Tools.{Each, Each-append}
+use Rattle.cut_laws.proofs.Applying.{apply-append, always-append, length-apply}
+use Rattle.cut_laws.proofs.FlushRule.{length-orders-append}
+use Rattle.cut_laws.proofs.Lent.{StoresInside}
+use Rattle.tree_laws.proofs.Leftovers.{settled-sound}
+
+-- the stores ss take table t, in at most b orders, to a settled table whose map is m
+pub record Phase (b : ℕ) (t : Words) (ss : List Store) (m : List Slot) : Type 0 where
+  pub part-sound : (j : ℕ) → sound (apply (take j ss) t) ≡ true
+  pub part-map : (j : ℕ) → (mapOf (apply (take j ss) t) ≡ mapOf t) ⊎ (mapOf (apply (take j ss) t) ≡ m)
+  pub settles : settled (apply ss t) ≡ true
+  pub maps : mapOf (apply ss t) ≡ m
+  pub few : length (orders ss) ≤ b
+  pub inside : StoresInside (length t) ss
+
+-- no store
+pub phase-nil : (t : Words) → settled t ≡ true → Phase 0 t [] (mapOf t)
+unfolding apply orders
+phase-nil t s =
+    record {
+      part-sound = λ j. rw (take-nil {A = Store} j) (settled-sound t s);
+      part-map = λ j. rw (take-nil {A = Store} j) (inl refl);
+      settles = s;
+      maps = refl;
+      few = omega arith;
+      inside = tt;
+    }
+
+-- a phase that keeps the map, then another
+pub phase-append : (b c : ℕ) (t : Words) (ss us : List Store) (m : List Slot) → Phase b t ss (mapOf t) → Phase c (apply ss t) us m → Phase (b + c) t (ss ++ us) m
+phase-append b c t ss us m f g =
+    record {
+      part-sound = always-append (λ (u : Words). sound u ≡ true) ss us t (f .part-sound) (g .part-sound);
+      part-map = always-append (λ (u : Words). (mapOf u ≡ mapOf t) ⊎ (mapOf u ≡ m)) ss us t (λ j. inl (once (f .part-map j))) (λ j. ⊎-map (λ e. e ∙ f .maps) (λ e. e) (g .part-map j));
+      settles = rw (apply-append ss us t) (g .settles);
+      maps = rw (apply-append ss us t) (g .maps);
+      few = omega (arith, length-orders-append ss us, f .few, g .few);
+      inside = Each-append _ ss us (f .inside) (rw (length-apply ss t) at (g .inside));
+    }
+  where
+    once : {A : Type 0} → A ⊎ A → A
+    once (inl a) = a
+    once (inr a) = a
