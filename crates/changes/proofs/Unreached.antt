@@ -1,0 +1,302 @@
+-- A node that is not reached may hold anything: reached nodes, map, soundness and leftover stay.
+use mathlib.Core.Path.{_≡_, refl, ap, sym, _∙_, subst}
+use mathlib.Core.Bool.{Bool, true, false, _||_}
+use mathlib.Core.Logic.{_≢_}
+use mathlib.Core.List.{List, [], _∷_, _++_, List·Memᴰ}
+use Prim.Native.Nat.{ℕ, zero, suc, _≤_}
+use native.Mathlib.Omega.{arith}
+use lib.Dec.{eqb, ltb}
+use Rattle.model.specs.Table.{inRange}
+use Rattle.model.specs.Slots.{Slot, View, height}
+use Rattle.model.specs.Search.{below, within}
+use Rattle.model.specs.Reached.{filter, flat, headOr, pointers, kept, named, firstChild, nextChild, fillRow, children, reachedFrom, leavesFrom, reached, leaves, mapping}
+use Rattle.model.specs.SoundTest.{all, elem, siblingOk, comeFirst, linked, childOk, slotOk, Leftover, nothing, hiddenIn, missingIn, bothIn, room, hasRoom}
+use Rattle.list_laws.proofs.Tools.{decode, Each, Each-split, Each-map}
+use Rattle.tree_laws.proofs.Members.{each-mem, mem-each, each-both}
+use Rattle.tree_laws.proofs.Rows.{Good, link-head, link-tail, children-inner, leaf-ok, inner-ok, each-here, each-lower, each-leaf}
+use Rattle.tree_laws.proofs.Kept.{by-level}
+use Rattle.tree_laws.proofs.Levels.{RootFacts, Orderly, Bounded, reached-bounds}
+use Rattle.tree_laws.proofs.Gaps.{Gap}
+use Rattle.tree_laws.proofs.Leftovers.{children-of, gap-children, Left, NoneHidden, NoneTrailing, NoneMissing, HiddenOnly, TrailingOnly, MissingOnly}
+use Rattle.changes.proofs.Lists.{Off, not-in, mem-here, flat-each}
+use Rattle.changes.proofs.Parts.{KeysOk, LeafOk, leaf-iff, InnerOk, inner-iff, good-parts, good-leaf, good-inner, no-children, HasLeft, Keeps, same-room}
+use Rattle.changes.proofs.Parents.{sibling-reached, child-reached}
+
+filter-ext : (p q : Slot → Bool) → ((s : Slot) → p s ≡ q s) → (ss : List Slot) → filter p ss ≡ filter q ss
+filter-ext p q e ss = ap (λ (t : Slot → Bool). filter t ss) (λ i s. e s i)
+
+fill-names : (v : View) (P : ℕ → Type 0) (ns : List ℕ) (e : ℕ) → Each P (fillRow v ns e) → Each P ns
+fill-names v P [] e h = tt
+fill-names v P (n ∷ ns) e h = (link-head v P n ns e h, fill-names v P ns e (link-tail v P n ns e h))
+
+each-and : (C P Q : ℕ → Type 0) (ns : List ℕ) → ((n : ℕ) → C n → P n → Q n) → Each C ns → Each P ns → Each Q ns
+each-and C P Q ns g c p = Each-map (λ (n : ℕ). C n × P n) Q ns (λ n h. g n (h .0) (h .1)) (each-both C P ns c p)
+
+-- the two views differ at most at node b
+pub record AgreeBut (v v′ : View) (b : ℕ) : Type 0 where
+  pub nodes : v′ .nodes ≡ v .nodes
+  pub root : v′ .root ≡ v .root
+  pub left : (n : ℕ) → n ≢ b → v′ .left n ≡ v .left n
+  pub sibling : (n : ℕ) → n ≢ b → v′ .sibling n ≡ v .sibling n
+  pub level : (n : ℕ) → n ≢ b → v′ .level n ≡ v .level n
+  pub fence : (n : ℕ) → n ≢ b → v′ .fence n ≡ v .fence n
+  pub shown : (n : ℕ) → n ≢ b → v′ .shown n ≡ v .shown n
+  pub hidden : (n : ℕ) → n ≢ b → v′ .hidden n ≡ v .hidden n
+  pub clear : (n : ℕ) → 1 ≤ n → n ≢ b → v′ .clear n ≡ v .clear n
+
+module _ (v v′ : View) (b : ℕ) (same : AgreeBut v v′ b) where
+  below-agree : (s k : ℕ) → s ≢ b → below v′ s k ≡ below v s k
+  unfolding below
+  below-agree s k z = ap (λ (x : ℕ). eqb s 0 || ltb k x) (same .fence s z)
+
+  first-agree : (s : ℕ) → s ≢ b → firstChild v′ s ≡ firstChild v s
+  unfolding firstChild
+  first-agree s z = ap (λ (x : ℕ). elim (eqb s 0) as (λ c. ℕ) [ true ↦ 0 | false ↦ x ]) (same .left s z)
+
+  -- n, its sibling and its children are not b
+  record Clear (n : ℕ) : Type 0 where
+    some : 1 ≤ n
+    own : n ≢ b
+    sibling : v .sibling n ≢ b
+    names : v .level n ≢ 0 → Off b (named v n)
+    below : Off b (children v n)
+
+  module _ (n : ℕ) (c : Clear n) where
+    within-agree : (k : ℕ) → within v′ n k ≡ within v n k
+    within-agree k = ap (λ (m : ℕ). below v′ m k) (same .sibling n (c .own)) ∙ below-agree (v .sibling n) k (c .sibling)
+
+    kept-agree : kept v′ n ≡ kept v n
+    unfolding kept
+    kept-agree = ap (filter (λ (s : Slot). within v′ n (s .key))) (same .shown n (c .own)) ∙ filter-ext _ _ (λ s. within-agree (s .key)) (v .shown n)
+
+    next-agree : nextChild v′ n ≡ nextChild v n
+    next-agree = ap (firstChild v′) (same .sibling n (c .own)) ∙ first-agree (v .sibling n) (c .sibling)
+
+    named-agree : named v′ n ≡ named v n
+    named-agree = ap (λ (m : ℕ). m ∷ pointers (kept v′ n)) (same .left n (c .own)) ∙ ap (λ (ks : List Slot). v .left n ∷ pointers ks) kept-agree
+
+  fill-agree : (ns : List ℕ) (e : ℕ) → Off b ns → fillRow v′ ns e ≡ fillRow v ns e
+  unfolding fillRow
+  fill-agree [] e h = refl
+  fill-agree (n ∷ ns) e h =
+      ap (λ (s : ℕ). elim (eqb s (headOr e ns)) as (λ c. List ℕ) [ true ↦ n ∷ fillRow v′ ns e | false ↦ n ∷ s ∷ fillRow v′ ns e ]) (same .sibling n (h .0))
+      ∙ ap (λ (l : List ℕ). elim (eqb (v .sibling n) (headOr e ns)) as (λ c. List ℕ) [ true ↦ n ∷ l | false ↦ n ∷ v .sibling n ∷ l ]) (fill-agree ns e (h .1))
+
+  linked-agree : (ns : List ℕ) (e : ℕ) → Off b ns → linked v′ ns e ≡ linked v ns e
+  unfolding linked
+  linked-agree [] e h = refl
+  linked-agree (n ∷ ns) e h = rw (same .sibling n (h .0), linked-agree ns e (h .1))
+
+  children-agree : (n : ℕ) → Clear n → children v′ n ≡ children v n
+  children-agree n c = by-level v (λ (m : ℕ). children v′ n ≡ children v n) n
+      (λ l. no-children v′ n (same .level n (c .own) ∙ l) ∙ sym (no-children v n l))
+      (λ d l.
+      children-inner v′ d n (same .level n (c .own) ∙ l) ∙ ap (λ (r : List ℕ). fillRow v′ r (nextChild v′ n)) (named-agree n c)
+      ∙ ap (fillRow v′ (named v n)) (next-agree n c) ∙ fill-agree (named v n) (nextChild v n) (c .names (λ z. omega arith)) ∙ sym (children-inner v d n l))
+
+  -- ---- the conditions of a clear node
+
+  range-agree : inRange (v′ .nodes) ≡ inRange (v .nodes)
+  range-agree = ap inRange (same .nodes)
+
+  sib-agree : (n : ℕ) → Clear n → siblingOk v′ n ≡ siblingOk v n
+  unfolding siblingOk
+  sib-agree n c = rw (same .sibling n (c .own), same .nodes, same .level (v .sibling n) (c .sibling), same .level n (c .own), same .fence n (c .own), same .fence (v .sibling n) (c .sibling))
+
+  keys-agree : (n low : ℕ) → Clear n → KeysOk v n low → KeysOk v′ n low
+  keys-agree n low c k = record {
+    rise = rw (kept-agree n c) (k .rise);
+    first = ap (comeFirst (λ (s : Slot). within v′ n (s .key))) (same .shown n (c .own)) ∙ ap (λ (q : Slot → Bool). comeFirst q (v .shown n)) (λ i s. within-agree n c (s .key) i) ∙ k .first;
+  }
+
+  child-agree : (l k m : ℕ) → m ≢ b → childOk v′ l k m ≡ childOk v l k m
+  unfolding childOk
+  child-agree l k m z = rw (same .level m z, same .fence m z)
+
+  slots-agree : (l : ℕ) (ss : List Slot) → Off b (pointers ss) → all (slotOk v′ l) ss ≡ all (slotOk v l) ss
+  unfolding all slotOk
+  slots-agree l [] h = refl
+  slots-agree l (s ∷ ss) h = rw (child-agree l (s .key) (s .pointer) (h .0), slots-agree l ss (h .1))
+
+  leaf-agree : (n : ℕ) → Clear n → LeafOk v n → LeafOk v′ n
+  leaf-agree n c k = record { left = same .left n (c .own) ∙ k .left; keys = rw (same .fence n (c .own)) (keys-agree n (v .fence n) c (k .keys)) }
+
+  inner-agree : (d n : ℕ) → v .level n ≡ suc d → Clear n → InnerOk v n → InnerOk v′ n
+  inner-agree d n l c k =
+      let q = c .own in
+      let z = c .names (λ y. omega arith) in
+      record {
+        keys = rw (same .fence n q) (keys-agree n (suc (v .fence n)) c (k .keys));
+        left = rw (same .level n q, same .fence n q, same .left n q) (child-agree (v .level n) (v .fence n) (v .left n) (z .0) ∙ k .left);
+        slots = rw (same .level n q, kept-agree n c) (slots-agree (v .level n) (kept v n) (z .1) ∙ k .slots);
+        range = rw (children-agree n c, same .nodes) (k .range);
+        chain = rw (children-agree n c, next-agree n c) (linked-agree (children v n) (nextChild v n) (c .below) ∙ k .chain);
+      }
+
+  good-agree : (n : ℕ) → Clear n → Good v n → Good v′ n
+  good-agree n c g = go (v .level n) refl
+    where
+      u : (v .clear n ≡ true) × (siblingOk v n ≡ true)
+      u = good-parts v n g
+
+      go : (d : ℕ) → v .level n ≡ d → Good v′ n
+      go zero l = good-leaf v′ n (same .level n (c .own) ∙ l) (same .clear n (c .some) (c .own) ∙ u .0) (sib-agree n c ∙ u .1) (leaf-iff v′ n .1 (leaf-agree n c (leaf-iff v n .0 (leaf-ok v n g l))))
+      go (suc d) l = good-inner v′ d n (same .level n (c .own) ∙ l) (same .clear n (c .some) (c .own) ∙ u .0) (sib-agree n c ∙ u .1) (inner-iff v′ n .1 (inner-agree d n l c (inner-iff v n .0 (inner-ok v d n g l))))
+
+  -- ---- the nodes reached, and the map
+
+  reached-agree : (d : ℕ) (ns : List ℕ) → Each Clear (reachedFrom v d ns) → reachedFrom v′ d ns ≡ reachedFrom v d ns
+  unfolding reachedFrom
+  reached-agree zero ns h = refl
+  reached-agree (suc d) ns h =
+      let u = Each-split Clear ns (reachedFrom v d (flat (children v) ns)) h in
+      ap (λ (l : List ℕ). ns ++ l) (ap (reachedFrom v′ d) (flat-each (children v′) (children v) ns (Each-map Clear (λ (n : ℕ). children v′ n ≡ children v n) ns children-agree (u .0))) ∙ reached-agree d (flat (children v) ns) (u .1))
+
+  leaves-agree : (d : ℕ) (ns : List ℕ) → Each Clear (reachedFrom v d ns) → leavesFrom v′ d ns ≡ leavesFrom v d ns
+  unfolding leavesFrom
+  leaves-agree zero ns h = refl
+  leaves-agree (suc d) ns h =
+      ap (leavesFrom v′ d) (flat-each (children v′) (children v) ns (Each-map Clear (λ (n : ℕ). children v′ n ≡ children v n) ns children-agree (each-here v Clear (suc d) ns h)))
+      ∙ leaves-agree d (flat (children v) ns) (each-lower v Clear d ns h)
+
+  module _ (o : Orderly v) (nonzero : b ≢ 0) (fresh : elem b (reached v) ≡ false) where
+    not-b : (n : ℕ) → List·Memᴰ n (reached v) → n ≢ b
+    not-b n m e = not-in b (reached v) fresh (rw e at m)
+
+    clear : (n : ℕ) → List·Memᴰ n (reached v) → Clear n
+    unfolding inRange
+    clear n m =
+        let kids : Off b (children v n) = mem-each (λ (c : ℕ). c ≢ b) (children v n) (λ c h. not-b c (child-reached v n c o m h)) in
+        let r = simp decode at (each-mem (Bounded v (height v)) (reached-bounds v o) m .0) in
+        record {
+          some = r .0;
+          own = not-b n m;
+          sibling = λ e. not-b (v .sibling n) (sibling-reached v n o m (λ z. nonzero (sym e ∙ z))) e;
+          names = λ z. fill-names v (λ (c : ℕ). c ≢ b) (named v n) (nextChild v n) (rw (children-of v n z) at kids);
+          below = kids;
+        }
+
+    clears : Each Clear (reached v)
+    clears = mem-each Clear (reached v) clear
+
+    root-clear : Clear (v .root)
+    root-clear = each-here v Clear (height v) (v .root ∷ []) clears .0
+
+    same-height : height v′ ≡ height v
+    same-height = ap (v′ .level) (same .root) ∙ same .level (v .root) (root-clear .own)
+
+    same-reached : reached v′ ≡ reached v
+    same-reached = ap (λ (d : ℕ). reachedFrom v′ d (v′ .root ∷ [])) same-height ∙ ap (λ (n : ℕ). reachedFrom v′ (height v) (n ∷ [])) (same .root) ∙ reached-agree (height v) (v .root ∷ []) clears
+
+    same-mapping : mapping v′ ≡ mapping v
+    unfolding mapping
+    same-mapping = ap (flat (kept v′)) (ap (λ (d : ℕ). leavesFrom v′ d (v′ .root ∷ [])) same-height ∙ ap (λ (n : ℕ). leavesFrom v′ (height v) (n ∷ [])) (same .root) ∙ leaves-agree (height v) (v .root ∷ []) clears)
+        ∙ flat-each (kept v′) (kept v) (leaves v) (Each-map Clear (λ (n : ℕ). kept v′ n ≡ kept v n) (leaves v) (λ n c. kept-agree n c) (each-leaf v Clear (height v) (v .root ∷ []) clears))
+
+    same-top : RootFacts v′
+    same-top =
+        let z = root-clear .own in
+        record {
+          range = rw (same .root, same .nodes) (o .top .range);
+          level = rw same-height (o .top .level);
+          fence = rw (same .root) (same .fence (v .root) z ∙ o .top .fence);
+          sibling = rw (same .root) (same .sibling (v .root) z ∙ o .top .sibling);
+        }
+
+    same-orderly : Orderly v′
+    same-orderly = record {
+      top = same-top;
+      good = rw same-reached (each-and Clear (Good v) (Good v′) (reached v) good-agree clears (o .good));
+      once = rw same-reached (o .once);
+      recordings = rw same-mapping (o .recordings);
+    }
+
+    -- ---- what is left
+
+    moved-each : (P Q : ℕ → Type 0) → ((n : ℕ) → Clear n → P n → Q n) → Each P (reached v) → Each Q (reached v′)
+    moved-each P Q g h = rw same-reached (each-and Clear P Q (reached v) g clears h)
+
+    hidden-at : (k n : ℕ) → Clear n → v .hidden n ≡ k → v′ .hidden n ≡ k
+    hidden-at k n c e = same .hidden n (c .own) ∙ e
+
+    keeps-at : (n : ℕ) → Clear n → kept v n ≡ v .shown n → kept v′ n ≡ v′ .shown n
+    keeps-at n c e = kept-agree n c ∙ e ∙ sym (same .shown n (c .own))
+
+    names-at : (n : ℕ) → Clear n → (v .level n ≢ 0 → children v n ≡ named v n) → v′ .level n ≢ 0 → children v′ n ≡ named v′ n
+    names-at n c h z = children-agree n c ∙ h (λ e. z (same .level n (c .own) ∙ e)) ∙ sym (named-agree n c)
+
+    gap-at : (a p : ℕ) → List·Memᴰ a (reached v) → Clear p → (z : v .level p ≢ 0) → Gap v a (named v p) (nextChild v p) → Gap v′ a (named v′ p) (nextChild v′ p)
+    gap-at a p m c z g =
+        let u = Each-split (λ (n : ℕ). n ≢ b) (g .before) (a ∷ g .after) (subst (λ (l : List ℕ). Off b l) (g .shape) (c .names z)) in
+        record {
+          before = g .before;
+          after = g .after;
+          shape = named-agree p c ∙ g .shape;
+          joined-before = linked-agree (g .before) a (u .0) ∙ g .joined-before;
+          lacks = λ e. g .lacks (sym (same .sibling a (not-b a m)) ∙ e ∙ ap (λ (x : ℕ). headOr x (g .after)) (next-agree p c));
+          joined-after = ap (linked v′ (g .after)) (next-agree p c) ∙ linked-agree (g .after) (nextChild v p) (u .1 .1) ∙ g .joined-after;
+        }
+
+    no-hidden : NoneHidden v → NoneHidden v′
+    no-hidden = moved-each (λ (n : ℕ). v .hidden n ≡ 0) (λ (n : ℕ). v′ .hidden n ≡ 0) (hidden-at 0)
+
+    no-trailing : NoneTrailing v → NoneTrailing v′
+    no-trailing = moved-each (λ (n : ℕ). kept v n ≡ v .shown n) (λ (n : ℕ). kept v′ n ≡ v′ .shown n) keeps-at
+
+    no-missing : NoneMissing v → NoneMissing v′
+    no-missing = moved-each (λ (n : ℕ). v .level n ≢ 0 → children v n ≡ named v n) (λ (n : ℕ). v′ .level n ≢ 0 → children v′ n ≡ named v′ n) names-at
+
+    only-hidden : (x : ℕ) → HiddenOnly v x → HiddenOnly v′ x
+    only-hidden x h = record {
+      member = rw same-reached (h .member);
+      here = hidden-at 1 x (clear x (h .member)) (h .here);
+      others = moved-each (λ (n : ℕ). n ≢ x → v .hidden n ≡ 0) (λ (n : ℕ). n ≢ x → v′ .hidden n ≡ 0) (λ n c q z. hidden-at 0 n c (q z)) (h .others);
+    }
+
+    only-trailing : (a : ℕ) → TrailingOnly v a → TrailingOnly v′ a
+    only-trailing a h =
+        let c = clear a (h .member) in
+        record {
+          member = rw same-reached (h .member);
+          here = λ e. h .here (sym (kept-agree a c) ∙ e ∙ same .shown a (c .own));
+          others = moved-each (λ (n : ℕ). n ≢ a → kept v n ≡ v .shown n) (λ (n : ℕ). n ≢ a → kept v′ n ≡ v′ .shown n) (λ n c q z. keeps-at n c (q z)) (h .others);
+        }
+
+    only-missing : (p a : ℕ) → MissingOnly v p a → MissingOnly v′ p a
+    only-missing p a h =
+        let c = clear p (h .member) in
+        let z = h .here .0 in
+        let m = child-reached v p a o (h .member) (rw (gap-children v p a z (h .here .1)) (mem-here a (h .here .1 .before) (v .sibling a ∷ h .here .1 .after))) in
+        record {
+          member = rw same-reached (h .member);
+          here = ((λ e. z (sym (same .level p (c .own)) ∙ e)), gap-at a p m c z (h .here .1));
+          others = moved-each (λ (n : ℕ). n ≢ p → v .level n ≢ 0 → children v n ≡ named v n) (λ (n : ℕ). n ≢ p → v′ .level n ≢ 0 → children v′ n ≡ named v′ n) (λ n c q y. names-at n c (q y)) (h .others);
+        }
+
+    same-left : (y : Leftover) → Left v y → Left v′ y
+    same-left nothing l = (no-hidden (l .0), no-trailing (l .1), no-missing (l .2))
+    same-left (hiddenIn x) l = (only-hidden x (l .0), no-trailing (l .1), no-missing (l .2))
+    same-left (missingIn p a false) l = (no-hidden (l .0), no-trailing (l .1), only-missing p a (l .2))
+    same-left (missingIn p a true) l = (no-hidden (l .0), only-trailing a (l .1), only-missing p a (l .2))
+    same-left (bothIn p a) l = (only-hidden p (l .0), no-trailing (l .1), only-missing p a (l .2))
+
+    room-at : (p : ℕ) → List·Memᴰ p (reached v) → room v p ≡ true → room v′ p ≡ true
+    room-at p m = same-room v v′ p (same .shown p (not-b p m))
+
+    room-stays : (y : Leftover) → Left v y → hasRoom v y ≡ true → hasRoom v′ y ≡ true
+    room-stays nothing l r = r
+    room-stays (hiddenIn x) l r = r
+    room-stays (missingIn p a true) l r = room-at p (l .2 .member) r
+    room-stays (missingIn p a false) l r = room-at p (l .2 .member) r
+    room-stays (bothIn p a) l r = room-at p (l .2 .member) r
+
+  -- whatever b holds, the leftover, the map and the nodes reached stay
+  pub unreached-keeps : (y : Leftover) → HasLeft v y → b ≢ 0 → elem b (reached v) ≡ false → Keeps v v′ y
+  unreached-keeps y l z e =
+      let o = l .orderly in
+      record {
+        left = record { orderly = same-orderly o z e; left = same-left o z e y (l .left) };
+        mapping = same-mapping o z e;
+        reached = same-reached o z e;
+        room = room-stays o z e y (l .left);
+      }

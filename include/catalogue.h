@@ -1,0 +1,74 @@
+/*
+ * The catalogue index: finds a recording by its ISRC code in a table of 64-bit words that may lie in persistent memory.
+ * Link with libhost.a (rt staticlib host).
+ *
+ * A table is 8 + 32 * N words, N from 1 to 65,535 nodes. Every call takes any words and any length: it does its work or returns a
+ * refusal number, and a refusal changes no lent word. A word that an answer is put into is left alone unless the call does its work.
+ * Lent slices may not overlap. A slice of length 0 still wants a pointer that is not null. One writer; readers only read.
+ *
+ * A writing call changes the working copy and fills an order list of at least CATALOGUE_LIST_WORDS words, two words an order:
+ * a store is its word index and its value, a flush is CATALOGUE_MARK and a line number (eight words from a multiple of 8 are a line;
+ * lay the table at a multiple of 64 bytes, so that a line is a cache line). The host then carries the orders out on persistent
+ * memory, in order: each store, and at a flush the line written back and fenced. It may be cut off between any two orders; the
+ * table reloaded from memory answers every search as before the change or as after it, and the next writing call repairs it.
+ *
+ *     static uint64_t memory[8 + 32 * 100], working[8 + 32 * 100], orders[CATALOGUE_LIST_WORDS];
+ *     uint64_t key, recording, stores, flushes;
+ *     size_t words = sizeof working / sizeof working[0];
+ *
+ *     catalogue_make(working, words);
+ *     memcpy(memory, working, sizeof working);
+ *     if (catalogue_parse((const uint8_t *)"AA0001912345", 12, &key) == 0
+ *         && catalogue_insert(working, words, orders, CATALOGUE_LIST_WORDS, key, 7, &stores, &flushes) == 0)
+ *         catalogue_carry_out(memory, words, orders, CATALOGUE_LIST_WORDS, stores + flushes);
+ *     if (catalogue_search(memory, words, key, &recording) == 0)
+ *         printf("%llu\n", (unsigned long long)recording);
+ */
+#ifndef CATALOGUE_H
+#define CATALOGUE_H
+
+#include <stddef.h>
+#include <stdint.h>
+
+#ifdef __cplusplus
+extern "C" {
+#endif
+
+#define CATALOGUE_MARK UINT64_MAX
+#define CATALOGUE_LIST_WORDS 2560
+
+/* What the calls return: 0 where a call does its work, else one of these. */
+enum {
+    CATALOGUE_NO_CODE = 1,          /* text is not a code, or a key has no code */
+    CATALOGUE_NO_TABLE = 2,         /* wrong length or header, or root outside 1 to N */
+    CATALOGUE_SEARCH_LOST = 3,      /* search: a node number, level or sibling is wrong on its way */
+    CATALOGUE_NOT_SOUND = 4,        /* write or listing: the table is not sound */
+    CATALOGUE_SHORT_LIST = 5,       /* order list under 2,560 words */
+    CATALOGUE_BAD_RECORDING = 6,    /* recording is 0 or CATALOGUE_MARK */
+    CATALOGUE_KEY_PRESENT = 7,      /* code already in the map */
+    CATALOGUE_RECORDING_PRESENT = 8, /* recording in the map under another code */
+    CATALOGUE_KEY_ABSENT = 9,       /* deletion: code absent */
+    CATALOGUE_NO_NODES = 10,        /* fewer unreachable nodes than the splits need */
+    CATALOGUE_TOO_HIGH = 11,        /* the root at level 15 would have to split */
+    CATALOGUE_PARENT_FULL = 12,     /* repair would find 11 shown slots in the parent */
+    CATALOGUE_BAD_ORDERS = 13,      /* carry-out: more orders than the list has, or one outside the table */
+    CATALOGUE_ABSENT = 255          /* search: the key is absent */
+};
+
+/* The key of a code of 12 characters. 0 or 1. */
+uint64_t catalogue_parse(const uint8_t *text, size_t length, uint64_t *key);
+
+/* The code of a key, into exactly 12 bytes; a key without a code gives 1 and 12 zero bytes. */
+uint64_t catalogue_print(uint64_t key, uint8_t *text);
+
+/* An empty table in these words. 0 or 2. */
+uint64_t catalogue_make(uint64_t *table, size_t words);
+
+/* 0 and the recording where the key is found, 255 where it is absent, else 2 or 3. */
+uint64_t catalogue_search(const uint64_t *table, size_t words, uint64_t key, uint64_t *recording);
+
+#ifdef __cplusplus
+}
+#endif
+
+#endif
