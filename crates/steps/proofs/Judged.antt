@@ -1,0 +1,74 @@
+-- What refusals 11 and 10 ask of the table as repair would leave it, judged by the table itself.
+use mathlib.Core.Path.{_≡_, refl, ap, _∙_}
+use mathlib.Core.Bool.{Bool, true, false, cond, _&&_}
+use mathlib.Core.List.{List, [], _∷_, List·Memᴰ}
+use Prim.Native.Nat.{ℕ, suc, _+_}
+use lib.Dec.{eqb, ltb}
+use lib.ListN.{length}
+use Rattle.model.specs.Table.{Words}
+use Rattle.model.specs.Slots.{View, view, height, full}
+use Rattle.model.specs.Search.{path}
+use Rattle.model.specs.Reached.{kept, reached}
+use Rattle.model.specs.SoundTest.{all, leftover, sound}
+use Rattle.model.specs.Writes.{unreachable, repaired, standing, runIn, run, rootInRun}
+use Rattle.model.specs.Refusals.{tooHigh, tooFew}
+use Rattle.list_laws.proofs.Tools.{Each, Each-map}
+use Rattle.tree_laws.proofs.Levels.{sound-orderly, sound-parts}
+use Rattle.tree_laws.proofs.SearchLaw.{path-reached}
+use Rattle.steps.proofs.RepairedView.{lackingIn, RepairedView, repaired-view}
+
+-- the longest end of a path all of whose nodes pass the test
+unfoldable pub runBy : (ℕ → Bool) → List ℕ → ℕ
+runBy q [] = 0
+runBy q (n ∷ ns) = elim (all q (n ∷ ns)) [ true ↦ length (n ∷ ns) | false ↦ runBy q ns ]
+
+-- node n is full when repair is done: with its kept slots, and the one that it lacks
+abbrev pub fullLater : View → ℕ → Bool
+fullLater v n = eqb (length (kept v n) + lackingIn (leftover v) n) 11
+
+abbrev pub runLater : View → (k : ℕ) → ℕ
+runLater v k = runBy (fullLater v) (path v k)
+
+all-same : (p q : ℕ → Bool) (ns : List ℕ) → Each (λ (n : ℕ). p n ≡ q n) ns → all p ns ≡ all q ns
+unfolding all
+all-same p q [] e = refl
+all-same p q (n ∷ ns) e = rw (e .0, all-same p q ns (e .1))
+
+run-same : (v : View) (q : ℕ → Bool) (ns : List ℕ) → Each (λ (n : ℕ). full (v .shown n) ≡ q n) ns → runIn v ns ≡ runBy q ns
+unfolding runIn runBy
+run-same v q [] e = refl
+run-same v q (n ∷ ns) e =
+    ap (λ (b : Bool). elim b as (λ b. ℕ) [ true ↦ length (n ∷ ns) | false ↦ runIn v ns ]) (all-same (λ (m : ℕ). full (v .shown m)) q (n ∷ ns) e)
+    ∙ ap (λ (r : ℕ). elim (all q (n ∷ ns)) as (λ b. ℕ) [ true ↦ length (n ∷ ns) | false ↦ r ]) (run-same v q ns (e .1))
+
+module _ (t : Words) (s : sound t ≡ true) where
+  r : RepairedView t
+  r = repaired-view t s
+
+  pub full-later : (n : ℕ) → List·Memᴰ n (reached (view t)) → full (view (repaired t) .shown n) ≡ fullLater (view t) n
+  unfolding full
+  full-later n m = ap (λ (l : ℕ). eqb l 11) (r .count n m)
+
+  pub standing-later : (l k : ℕ) → standing (repaired t) l k ≡ standing t l k
+  unfolding standing
+  standing-later l k = rw (r .path k, r .height)
+
+  pub run-later : (k : ℕ) → run (repaired t) k ≡ runLater (view t) k
+  unfolding run
+  run-later k =
+      let o = sound-orderly (view t) (sound-parts t .0 s .1) in
+      ap (runIn (view (repaired t))) (r .path k)
+      ∙ run-same (view (repaired t)) (fullLater (view t)) (path (view t) k) (Each-map (λ (n : ℕ). List·Memᴰ n (reached (view t))) (λ (n : ℕ). full (view (repaired t) .shown n) ≡ fullLater (view t) n) (path (view t) k) (λ n m. full-later n m) (path-reached (view t) k o))
+
+  pub root-in-run-later : (k : ℕ) → rootInRun (repaired t) k ≡ eqb (runLater (view t) k) (suc (height (view t)))
+  unfolding rootInRun
+  root-in-run-later k = rw (run-later k, r .height)
+
+  -- 11 and 10
+  pub too-high-later : (k : ℕ) → tooHigh (repaired t) k ≡ (eqb (runLater (view t) k) (suc (height (view t))) && eqb (height (view t)) 15)
+  unfolding tooHigh
+  too-high-later k = rw (root-in-run-later k, r .height)
+
+  pub too-few-later : (k : ℕ) → tooFew (repaired t) k ≡ ltb (length (unreachable t)) (runLater (view t) k + cond (eqb (runLater (view t) k) (suc (height (view t)))) 1 0)
+  unfolding tooFew
+  too-few-later k = rw (run-later k, root-in-run-later k, r .unreachable)
