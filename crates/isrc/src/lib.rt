@@ -120,7 +120,7 @@ fn character_of(d: u64) -> u8
 }
 
 // Fills the text with x's last digits, as characters.
-fn write_digits(text: &mut [u8], base: u64, x: u64)
+pub fn write_digits(text: &mut [u8], base: u64, x: u64)
     requires { ⌜ (1 ≤ base) × (base ≤ 36) ⌝ }
     ensures { λ _. ⌜ now (text .exit) ≡ map character (digits base (length (now (text .entry))) x) ⌝ }
 {

@@ -1,0 +1,4 @@
+-- What the functions and laws of this crate speak of, beyond document 01's definitions.
+pub mod Input
+pub mod Line
+pub mod Text
