@@ -21,7 +21,7 @@ fn way_after(way: u64, before: u64, k: u64, p: u64, key: u64) -> u64
 }
 
 // The child that an inner node's slots lead to: by the last shown slot whose key is at most the key, else by left.
-fn route(slots: [u64; 24], left: u64, key: u64) -> u64
+pub fn route(slots: [u64; 24], left: u64, key: u64) -> u64
     ensures { λ r. ⌜ r ≡ route key left (shownFrom left slots 0) ⌝ }
 {
     let mut way = left;

@@ -1,3 +1,4 @@
+-- `search::route` meets its contract. The loop's invariant: the slots from i on lead, from the way so far, where all of them do.
 use Prim.Native.Nat.{_≤_, _-_}
 use mathlib.Core.Path.{_≡_, refl, sym, ap, _∙_}
 use native.Mathlib.Omega.{arith}

@@ -1,0 +1,64 @@
+-- One level of a search's descent from the words of a table, and the node on a level that it stands on.
+use mathlib.Core.Path.{_≡_, ap, sym, _∙_}
+use Prim.Native.Nat.{ℕ, zero, suc, _-_, _≤_, _<_}
+use native.Mathlib.Omega.{arith}
+use lib.ListN.{getD}
+use borrow.Author.Tests.{eq-eqb}
+use Rattle.model.specs.declared.Node.{Node}
+use Rattle.model.specs.Table.{Words, node, root}
+use Rattle.model.specs.Slots.{View, view, used}
+use Rattle.model.specs.Search.{below, moved, route, down, pathFrom}
+use Rattle.model.specs.Writes.{standing}
+use Rattle.tree_laws.proofs.Cover.{stays, moves, below-low, below-high}
+use Rattle.node.specs.Word.{wordOf}
+use Rattle.node.proofs.WordLaws.{word-level, word-sibling, word-fence}
+use Rattle.search.specs.Scan.{shownFrom}
+
+-- ---- the move on a level, from the words that the code has read: s the sibling, f the sibling's fence
+
+module _ (t : Words) (n k s : ℕ) (e : s ≡ wordOf t n 1) where
+  q : s ≡ view t .sibling n
+  q = e ∙ word-sibling t n
+
+  pub moved-last : s ≡ 0 → n ≡ moved (view t) n k
+  unfolding below
+  moved-last z = let h : view t .sibling n ≡ 0 = sym q ∙ z in sym (stays (view t) k n (rw (eq-eqb _ _ h)))
+
+  module _ (f : ℕ) (g : f ≡ wordOf t s 3) where
+    bound : f ≡ view t .fence (view t .sibling n)
+    bound = g ∙ word-fence t s ∙ ap (λ (m : ℕ). view t .fence m) q
+
+    pub moved-here : k < f → n ≡ moved (view t) n k
+    moved-here h = sym (stays (view t) k n (below-high (view t) k (view t .sibling n) (rw bound at h)))
+
+    pub moved-right : (s ≡ 0 → ⊥) → f ≤ k → s ≡ moved (view t) n k
+    moved-right z h = q ∙ sym (moves (view t) k n (below-low (view t) k (view t .sibling n) (λ y. z (q ∙ y)) (rw bound at h)))
+
+-- the way down, from the record that the code has read: x is node m
+pub down-read : (t : Words) (m k : ℕ) (x : Node) (r : ℕ) → x ≡ node t m → r ≡ route k (x .left) (shownFrom (x .left) (x .slots) 0) → r ≡ down (view t) m k
+unfolding used
+down-read t m k x r q h = h ∙ ap (λ (y : Node). route k (y .left) (shownFrom (y .left) (y .slots) 0)) q
+
+-- ---- a descent
+
+-- the node on level j that a descent for k stands on, coming to n on level l
+abbrev pub nodeOn : View → (l n k j : ℕ) → ℕ
+nodeOn v l n k j = getD (pathFrom v l n k) (l - j) 0
+
+pub on-here : (v : View) (l n k j : ℕ) → l ≤ j → nodeOn v l n k j ≡ moved v n k
+unfolding pathFrom
+on-here v zero n k j h = let e : 0 - j ≡ 0 = omega arith in rw e
+on-here v (suc l) n k j h = let e : suc l - j ≡ 0 = omega arith in rw e
+
+pub on-lower : (v : View) (l n k j m c : ℕ) → j < l → m ≡ moved v n k → c ≡ down v m k → nodeOn v (l - 1) c k j ≡ nodeOn v l n k j
+unfolding pathFrom
+on-lower v zero n k j m c h p d = absurd (omega arith)
+on-lower v (suc l) n k j m c h p d =
+    let e : suc l - j ≡ suc (l - j) = omega arith in
+    let o : suc l - 1 ≡ l = omega arith in
+    rw (e, o, d, p)
+
+-- the whole descent
+pub on-top : (t : Words) (l k j : ℕ) → l ≡ wordOf t (root t) 2 → nodeOn (view t) l (root t) k j ≡ standing t j k
+unfolding standing
+on-top t l k j e = rw (e ∙ word-level t (root t))

@@ -1,0 +1,7 @@
+-- Laws that the functions' proofs cite, and what the run is on a settled table.
+pub mod Descent
+pub mod Members
+pub mod Unreached
+pub mod Partition
+pub mod SlotCounts
+pub mod Running

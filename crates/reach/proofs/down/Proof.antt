@@ -1,0 +1,20 @@
+-- `reach::down` meets its contract.
+use Rattle.reach.proofs.Descent.{down-read}
+use borrow.Author.Needs.{needs}
+use Rattle.reach.proofs.down.Statement.{statement}
+use Rattle.reach.proofs.down.Tie as tie
+
+read-requires : tie.Need-read-requires
+read-requires c κs = search needs
+
+route-requires : tie.Need-route-requires
+route-requires c κs = search needs
+
+returns : tie.Need-returns
+returns c =
+    let d = c .before .before in
+    let a = d .before .before .args in
+    down-read (a .table .now) (a .m) (a .key) (d .read .result) _ (d .read .ensures) (c .route .ensures)
+
+pub down-spec : {M : Type 1} → statement M
+down-spec = tie.close (tie.spec read-requires route-requires returns)

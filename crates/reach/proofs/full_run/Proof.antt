@@ -1,0 +1,98 @@
+-- `reach::full_run` meets its contract. The loop's invariant: the running count over the rest of the path is the run.
+use mathlib.Core.Path.{_≡_, _∙_}
+use Prim.Native.Nat.{_+_, _≤_}
+use native.Mathlib.Omega.{arith}
+use Rattle.model.specs.Slots.{view}
+use Rattle.model.specs.Search.{pathFrom, path}
+use Rattle.reach.specs.Runs.{fullIn, endRun, runFrom}
+use Rattle.reach.proofs.Members.{sound-words, sound-height}
+use Rattle.reach.proofs.Running.{after-most, run-lower, run-last, run-top, run-read}
+use borrow.Author.Needs.{needs}
+use Rattle.reach.proofs.full_run.Statement.{statement}
+use Rattle.reach.proofs.full_run.Tie as tie
+
+abbrev Inv-loop : tie.InvT-loop
+Inv-loop table key parent n₀ top level₀ count₀ n level count =
+    let p = fullIn (view table) parent in
+    (top ≤ 15) × (count + level ≤ top) × (runFrom p count (pathFrom (view table) level n key) ≡ endRun p (path (view table) key))
+
+abbrev μ-loop : tie.MeasureT-loop
+μ-loop table key parent n₀ top level₀ count₀ n level count = level
+
+shared-slice-read-n : tie.Need-shared-slice-read-n Inv-loop μ-loop
+shared-slice-read-n c = let s = c .before .before in omega (arith, sound-words (s .args .table .now) (s .pre))
+
+word-requires : tie.Need-word-requires Inv-loop μ-loop
+word-requires c κs = search needs
+
+loop-holds : tie.Need-loop-holds Inv-loop μ-loop
+loop-holds c =
+    let s = c .before .before .before in
+    let a = s .args in
+    let h = sound-height (a .table .now) _ (s .pre) (c .word .ensures) in
+    (h, omega arith, run-top (a .table .now) (a .key) (a .parent) _ (c .word .ensures))
+
+moved-requires : tie.Need-moved-requires Inv-loop μ-loop
+moved-requires c κs = search needs
+
+run-after-requires : tie.Need-run-after-requires Inv-loop μ-loop
+run-after-requires c κs = search needs
+
+down-requires : tie.Need-down-requires Inv-loop μ-loop
+down-requires c κs = search needs
+
+sub-level : tie.Need-sub-level Inv-loop μ-loop
+sub-level c = search needs
+
+loop-less : tie.Need-loop-less Inv-loop μ-loop
+loop-less c = search needs
+
+loop-again : tie.Need-loop-again Inv-loop μ-loop
+loop-again c =
+    let r = c .before in
+    let l = r .before .before .before in
+    let a = l .before .before .before .before .args in
+    let v = view (a .table .now) in
+    let p = fullIn v (a .parent) in (
+      l .loop .inv .0,
+      omega (arith, r .run-after .ensures, after-most p (l .loop .count) (r .before .moved .result)),
+      run-lower p v (l .loop .n) (a .key) _ (l .loop .count) _ (r .before .moved .ensures) (r .run-after .ensures) (l .loop .level) _ (r .before .before .loop-test .taken) (c .down .ensures) ∙ l .loop .inv .2,
+    )
+
+moved-requires-2 : tie.Need-moved-requires-2 Inv-loop μ-loop
+moved-requires-2 c κs = search needs
+
+run-after-requires-2 : tie.Need-run-after-requires-2 Inv-loop μ-loop
+run-after-requires-2 c κs = search needs
+
+add-t12 : tie.Need-add-t12 Inv-loop μ-loop
+add-t12 c = search needs
+
+returns : tie.Need-returns Inv-loop μ-loop
+returns c =
+    let l = c .before .before .before in
+    let w = l .before in
+    let a = w .before .before .before .args in
+    let v = view (a .table .now) in
+    run-read (a .table .now) (a .key) (a .parent) _ _ (w .word .ensures)
+    (run-last (fullIn v (a .parent)) v (l .loop .n) (a .key) _ (l .loop .count) _ (c .before .moved2 .ensures) (c .run-after2 .ensures) (l .loop .level) (c .before .before .loop-test .left) ∙ l .loop .inv .2)
+
+pub full-run-spec : {M : Type 1} → statement M
+full-run-spec =
+    tie.close
+    (tie.spec
+    Inv-loop
+    μ-loop
+    shared-slice-read-n
+    word-requires
+    loop-holds
+    moved-requires
+    run-after-requires
+    down-requires
+    sub-level
+    loop-less
+    loop-again
+    moved-requires-2
+    run-after-requires-2
+    add-t12
+    returns)

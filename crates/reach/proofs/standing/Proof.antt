@@ -1,0 +1,69 @@
+-- `reach::standing` meets its contract. The loop's invariant: the descent from here on stands on the level where the whole one does.
+use mathlib.Core.Path.{_≡_, sym, _∙_}
+use native.Mathlib.Omega.{arith}
+use Rattle.model.specs.Slots.{view}
+use Rattle.model.specs.Writes.{standing}
+use Rattle.search.proofs.Standing.{header-words}
+use Rattle.reach.proofs.Descent.{nodeOn, on-here, on-lower, on-top}
+use borrow.Author.Needs.{needs}
+use Rattle.reach.proofs.standing.Statement.{statement}
+use Rattle.reach.proofs.standing.Tie as tie
+
+abbrev Inv-loop : tie.InvT-loop
+Inv-loop table level key n₀ l₀ n l = nodeOn (view table) l n key level ≡ standing table level key
+
+abbrev μ-loop : tie.MeasureT-loop
+μ-loop table level key n₀ l₀ n l = l
+
+shared-slice-read-n : tie.Need-shared-slice-read-n Inv-loop μ-loop
+shared-slice-read-n c = let s = c .before .before in omega (arith, header-words (s .args .table .now) (s .pre))
+
+word-requires : tie.Need-word-requires Inv-loop μ-loop
+word-requires c κs = search needs
+
+loop-holds : tie.Need-loop-holds Inv-loop μ-loop
+loop-holds c = let a = c .before .before .before .args in on-top (a .table .now) _ (a .key) (a .level) (c .word .ensures)
+
+moved-requires : tie.Need-moved-requires Inv-loop μ-loop
+moved-requires c κs = search needs
+
+down-requires : tie.Need-down-requires Inv-loop μ-loop
+down-requires c κs = search needs
+
+sub-l : tie.Need-sub-l Inv-loop μ-loop
+sub-l c = search needs
+
+loop-less : tie.Need-loop-less Inv-loop μ-loop
+loop-less c = search needs
+
+loop-again : tie.Need-loop-again Inv-loop μ-loop
+loop-again c =
+    let l = c .before .before .before in
+    let a = l .before .before .before .before .args in
+    on-lower (view (a .table .now)) (l .loop .l) (l .loop .n) (a .key) (a .level) _ _ (c .before .before .loop-test .taken) (c .before .moved .ensures) (c .down .ensures) ∙ l .loop .inv
+
+moved-requires-2 : tie.Need-moved-requires-2 Inv-loop μ-loop
+moved-requires-2 c κs = search needs
+
+returns : tie.Need-returns Inv-loop μ-loop
+returns c =
+    let l = c .before .before in
+    let a = l .before .before .before .before .args in
+    c .moved2 .ensures ∙ sym (on-here (view (a .table .now)) (l .loop .l) (l .loop .n) (a .key) (a .level) (c .before .loop-test .left)) ∙ l .loop .inv
+
+pub standing-spec : {M : Type 1} → statement M
+standing-spec =
+    tie.close
+    (tie.spec
+    Inv-loop
+    μ-loop
+    shared-slice-read-n
+    word-requires
+    loop-holds
+    moved-requires
+    down-requires
+    sub-l
+    loop-less
+    loop-again
+    moved-requires-2
+    returns)

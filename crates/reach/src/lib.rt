@@ -1,0 +1,219 @@
+// Where a search stands on each level, which nodes are reached, and what is counted before a write. Nothing is written.
+ghost use mathlib.Core.Path.{_≡_};
+ghost use mathlib.Core.Bool.{true};
+ghost use Prim.Native.Nat.{_+_, _-_, _≤_, _<_};
+ghost use lib.ListN.{length};
+ghost use Rattle.model.specs.Table.{headerOk, nodes};
+ghost use Rattle.model.specs.Slots.{view};
+ghost use Rattle.model.specs.Search.{moved, down};
+ghost use Rattle.model.specs.Reached.{headOr, kept, reached};
+ghost use Rattle.model.specs.SoundTest.{elem, sound};
+ghost use Rattle.model.specs.Writes.{numbers, unreached, unreachable, fresh, standing};
+ghost use Rattle.search.specs.Scan.{shownFrom};
+ghost use Rattle.reach.specs.Counts.{keptFrom, countAfter};
+ghost use Rattle.reach.specs.Runs.{fullIn, runAfter, fullRun};
+
+// The unbroken run of full nodes from the leaf upward: its length, and whether it includes the root.
+pub struct Run {
+    pub length: u64,
+    pub root: bool,
+}
+
+// ---- where a search stands
+
+// Where a search stands on a level, coming to node n: on n or its sibling.
+fn moved(table: &[u64], n: u64, key: u64) -> u64
+    ensures { λ r. ⌜ r ≡ moved (view (now (table .entry))) n key ⌝ }
+{
+    let sibling = node::word(table, n, 1);
+    if sibling == 0 {
+        return n;
+    }
+    if key < node::word(table, sibling, 3) {
+        return n;
+    }
+    sibling
+}
+
+// The child that a search goes down to from node m.
+fn down(table: &[u64], m: u64, key: u64) -> u64
+    ensures { λ r. ⌜ r ≡ down (view (now (table .entry))) m key ⌝ }
+{
+    let x = node::read(table, m);
+    let slots = x.slots;
+    let left = x.left;
+    search::route(slots, left, key)
+}
+
+// The node on a level that the search for a key stands on. A level above the root's gives the root's.
+pub fn standing(table: &[u64], level: u64, key: u64) -> u64
+    requires { ⌜ headerOk (now table) ≡ true ⌝ }
+    ensures { λ r. ⌜ r ≡ standing (now (table .entry)) level key ⌝ }
+{
+    let mut n = table[1];
+    let mut l = node::word(table, n, 2);
+    while level < l {
+        let m = moved(table, n, key);
+        n = down(table, m, key);
+        l -= 1;
+    }
+    moved(table, n, key)
+}
+
+// ---- reached nodes
+
+// Whether node n is reached: the search for its own fence, stopped on its level, stands on it. Any number may be asked.
+pub fn is_reached(table: &[u64], n: u64) -> bool
+    requires { ⌜ sound (now table) ≡ true ⌝ }
+    ensures { λ r. ⌜ r ≡ elem n (reached (view (now (table .entry)))) ⌝ }
+{
+    let level = node::word(table, n, 2);
+    let fence = node::word(table, n, 3);
+    standing(table, level, fence) == n
+}
+
+// The first unreachable node of these, from first to last; 0 if there is none.
+fn first_unreached(table: &[u64], first: u64, last: u64) -> u64
+    requires { ⌜ sound (now table) ≡ true ⌝ }
+    requires { ⌜ last ≤ 65535 ⌝ }
+    ensures { λ r. ⌜ r ≡ headOr 0 (unreached (now (table .entry)) (numbers first (last + 1 - first))) ⌝ }
+{
+    let mut n = first;
+    while n <= last {
+        if !is_reached(table, n) {
+            return n;
+        }
+        n += 1;
+    }
+    0
+}
+
+// The first unreachable node after node a, going round from N to 1; 0 if there is none.
+pub fn fresh(table: &[u64], a: u64) -> u64
+    requires { ⌜ sound (now table) ≡ true ⌝ }
+    requires { ⌜ 1 ≤ a ⌝ }
+    requires { ⌜ a ≤ nodes (now table) ⌝ }
+    ensures { λ r. ⌜ r ≡ fresh (now (table .entry)) a ⌝ }
+{
+    let n = first_unreached(table, a + 1, table[2]);
+    if n != 0 {
+        return n;
+    }
+    first_unreached(table, 1, a - 1)
+}
+
+// How many nodes are unreachable, from the count of those reached.
+pub fn unreachable(table: &[u64], count: u64) -> u64
+    requires { ⌜ sound (now table) ≡ true ⌝ }
+    requires { ⌜ count ≡ length (reached (view (now table))) ⌝ }
+    ensures { λ r. ⌜ r ≡ length (unreachable (now (table .entry))) ⌝ }
+{
+    table[2] - count
+}
+
+// ---- slots counted
+
+// The count after a slot (k, p) in use: one more where the slot is shown and its key is below the sibling's fence, the bound.
+fn count_after(count: u64, before: u64, k: u64, p: u64, sibling: u64, bound: u64) -> u64
+    requires { ⌜ count < 12 ⌝ }
+    ensures { λ r. ⌜ r ≡ countAfter count before k p sibling bound ⌝ }
+{
+    if p == before {
+        return count;
+    }
+    if sibling == 0 {
+        return count + 1;
+    }
+    if k < bound {
+        return count + 1;
+    }
+    count
+}
+
+// How many of a node's slots are shown with a key below the sibling's fence, the bound; with sibling 0 all that are shown.
+fn count_slots(slots: [u64; 24], left: u64, sibling: u64, bound: u64) -> u64
+    ensures { λ r. ⌜ r ≡ length (keptFrom sibling bound (shownFrom left slots 0)) ⌝ }
+{
+    let mut count = 0;
+    let mut before = left;
+    let mut i = 0;
+    while i < 12 {
+        let p = slots[2 * i + 1];
+        if p == 0 {
+            return count;
+        }
+        count = count_after(count, before, slots[2 * i], p, sibling, bound);
+        before = p;
+        i += 1;
+    }
+    count
+}
+
+// How many slots node n shows.
+pub fn shown_count(table: &[u64], n: u64) -> u64
+    ensures { λ r. ⌜ r ≡ length (view (now (table .entry)) .shown n) ⌝ }
+{
+    let x = node::read(table, n);
+    let slots = x.slots;
+    let left = x.left;
+    count_slots(slots, left, 0, 0)
+}
+
+// How many of them it keeps.
+pub fn kept_count(table: &[u64], n: u64) -> u64
+    ensures { λ r. ⌜ r ≡ length (kept (view (now (table .entry))) n) ⌝ }
+{
+    let x = node::read(table, n);
+    let slots = x.slots;
+    let left = x.left;
+    let sibling = x.sibling;
+    let bound = node::word(table, sibling, 3);
+    count_slots(slots, left, sibling, bound)
+}
+
+// ---- the run of full nodes
+
+// Whether node n will be full when the table is repaired; parent is the node that is to get a slot then, 0 for none.
+fn is_full(table: &[u64], n: u64, parent: u64) -> bool
+    ensures { λ r. ⌜ r ≡ fullIn (view (now (table .entry))) parent n ⌝ }
+{
+    let kept = kept_count(table, n);
+    if n == parent {
+        return kept == 10;
+    }
+    kept == 11
+}
+
+// The running count of full nodes after node n, with the count so far: 0 after one that is not full.
+fn run_after(table: &[u64], count: u64, n: u64, parent: u64) -> u64
+    requires { ⌜ count ≤ 15 ⌝ }
+    ensures { λ r. ⌜ r ≡ runAfter (fullIn (view (now (table .entry))) parent) count n ⌝ }
+{
+    if is_full(table, n, parent) {
+        return count + 1;
+    }
+    0
+}
+
+// The run for a key, on the table as repair would leave it.
+pub fn full_run(table: &[u64], key: u64, parent: u64) -> Run
+    requires { ⌜ sound (now table) ≡ true ⌝ }
+    ensures { λ r. ⌜ r ≡ fullRun (now (table .entry)) key parent ⌝ }
+{
+    let mut n = table[1];
+    let top = node::word(table, n, 2);
+    let mut level = top;
+    let mut count = 0;
+    while 0 < level {
+        let m = moved(table, n, key);
+        count = run_after(table, count, m, parent);
+        n = down(table, m, key);
+        level -= 1;
+    }
+    let leaf = moved(table, n, key);
+    let length = run_after(table, count, leaf, parent);
+    Run {
+        length: length,
+        root: length == top + 1,
+    }
+}
