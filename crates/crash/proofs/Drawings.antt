@@ -19,7 +19,7 @@ use Rattle.model.specs.Writes.{numbers, Call, insertion, deletion, storesOf}
 use Rattle.model.specs.Refusals.{hasKey, refusal, ordersOf, tableAfter}
 use Rattle.model.specs.Ledger.{change}
 use Rattle.model.proofs.Everything.{everything}
-use Rattle.crash.proofs.Laws.{OldOrNew}
+use Rattle.steps.proofs.Calls.{OldOrNew}
 use Rattle.crash.proofs.Images.{values, withLine, imageOf, imageOf-image}
 
 -- ---- the tables

@@ -14,11 +14,8 @@ use Rattle.model.specs.Cuts.{CutImage}
 use Rattle.model.specs.Writes.{Call, storesOf}
 use Rattle.model.specs.Refusals.{refusal, ordersOf}
 use Rattle.model.specs.Ledger.{change}
-use Rattle.list_laws.proofs.Tools.{Each}
-
--- the stores of a list lie in a table of so many words
-abbrev pub StoresInside : ℕ → List Store → Type 0
-StoresInside n ss = Each (λ (s : Store). s .word < n) ss
+use Rattle.cut_laws.proofs.Lent.{StoresInside}
+use Rattle.steps.proofs.Calls.{Steps}
 
 -- ---- stores, orders, cuts and carry-out, on any table
 
@@ -32,24 +29,6 @@ pub record CutLaws : Type 0 where
   -- the carry-out of all that a call listed is not refused, and applies its stores
   pub carried : (t : Words) (ss : List Store) (lent : Words) → headerOk t ≡ true → StoresInside (length t) ss → 2 * length (orders ss) ≤ length lent
       → (let all = length (orders ss) in let list = listWith (orders ss) lent in (carryNumber all list t ≡ 0) × (carriedOut all list t ≡ apply ss t))
-
--- ---- an accepted call
-
--- the map of t′ is t's, or what call x makes of it
-abbrev pub OldOrNew : Call → Words → Words → Type 0
-OldOrNew x t t′ = (mapOf t′ ≡ mapOf t) ⊎ (mapOf t′ ≡ change x (mapOf t))
-
--- what the stores of call x do to table t
-pub record Steps (x : Call) (t : Words) : Type 0 where
-  -- every first part of them leaves a sound table with the old map or the new one
-  pub part-sound : (j : ℕ) → sound (apply (take j (storesOf x t)) t) ≡ true
-  pub part-map : (j : ℕ) → OldOrNew x t (apply (take j (storesOf x t)) t)
-  -- all of them leave a settled table with the new map
-  pub all-settled : settled (apply (storesOf x t) t) ≡ true
-  pub all-map : mapOf (apply (storesOf x t) t) ≡ change x (mapOf t)
-  -- they make at most 1,121 orders, and lie in the table
-  pub few : length (ordersOf x t) ≤ 1121
-  pub stores-inside : StoresInside (length t) (storesOf x t)
 
 -- ---- all that demand 3 rests on
 

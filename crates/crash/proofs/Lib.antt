@@ -2,5 +2,6 @@
 pub mod Laws
 pub mod Numbers
 pub mod Reduce
+pub mod Demand3
 pub mod Images
 pub mod Drawings

@@ -17,39 +17,13 @@ use Rattle.model.specs.Writes.{Call, insertion, deletion, repair, repaired}
 use Rattle.model.specs.Refusals.{fullParent, parentFull, Test, test, firstNumber, testsFrom5, elevenIn, tenIn, refusal}
 use Rattle.model.specs.Ledger.{Ledger, fedOf, ledgerRefusal}
 use Rattle.list_laws.proofs.Tools.{and-iff}
+use Rattle.steps.proofs.Numbers.{parent-not-full}
 
 -- ---- sound tables: what refusals 2 and 12 see of them
 
 pub sound-header : (t : Words) → sound t ≡ true → headerOk t ≡ true
 unfolding sound
 sound-header t h = (simp and-iff at h) .0
-
-nothing-allowed : (v : View) (o : Option Leftover) → isNothing o ≡ true → isAllowed v o ≡ true
-nothing-allowed v none e = e
-nothing-allowed v (some nothing) e = refl
-nothing-allowed v (some (hiddenIn x)) e = refl
-nothing-allowed v (some (missingIn p a trailing)) e = absurd (false≢true e)
-nothing-allowed v (some (bothIn p a)) e = absurd (false≢true e)
-
-pub settled-sound : (t : Words) → settled t ≡ true → sound t ≡ true
-unfolding settled sound settledView soundView
-settled-sound t h = let (a, (b, c)) = simp and-iff at h in simp and-iff (a, (b, nothing-allowed (view t) (leftover (view t)) c))
-
-room-not-full : (v : View) (p : ℕ) → room v p ≡ true → full (v .shown p) ≡ false
-unfolding room full
-room-not-full v p h = let r : length (v .shown p) ≤ 10 = leb-true _ _ h in ne-eqb (length (v .shown p)) 11 (λ e. omega arith)
-
-allowed-not-full : (v : View) (o : Option Leftover) → isAllowed v o ≡ true → fullParent v o ≡ false
-allowed-not-full v none e = refl
-allowed-not-full v (some nothing) e = refl
-allowed-not-full v (some (hiddenIn x)) e = refl
-allowed-not-full v (some (missingIn p a trailing)) e = room-not-full v p e
-allowed-not-full v (some (bothIn p a)) e = room-not-full v p e
-
--- the parent that lacks a slot has room: a sound table is never refused with 12
-pub parent-not-full : (t : Words) → sound t ≡ true → parentFull t ≡ false
-unfolding sound soundView parentFull
-parent-not-full t h = let (a, (b, c)) = simp and-iff at h in allowed-not-full (view t) (leftover (view t)) c
 
 -- a sound table's tests: those from 5 on
 abbrev tests : Call → (words : ℕ) → Words → List Test

@@ -23,8 +23,11 @@ use Rattle.model.specs.Writes.{Call, insertion, deletion, repair, storesOf, rep
 use Rattle.model.specs.Refusals.{refusal, unlessRefused, ordersOf, written, writtenNumber, ordersAnswered, tableAfter, listAfter}
 use Rattle.model.specs.Ledger.{Ledger, change, fedOf, ledgerRefusal, End, cutAfter, taken, feed}
 use Rattle.model.specs.Demand3.{Fate, whole, cut, Event, History, State, numberOf, answered, listOf, afterFate, step, runAll, FateMay, May, endOf, ledgerAfter, Agrees, Completed, Carried, Keeps, Right, Kept, Demand3}
-use Rattle.crash.proofs.Laws.{OldOrNew, Steps, Laws}
-use Rattle.crash.proofs.Numbers.{sound-header, settled-sound, parent-not-full, from-five, number-in-ledger, only-twelve, only-eleven, only-ten, accepted-long}
+use Rattle.tree_laws.proofs.Leftovers.{settled-sound}
+use Rattle.steps.proofs.Calls.{OldOrNew, Steps}
+use Rattle.steps.proofs.Numbers.{parent-not-full}
+use Rattle.crash.proofs.Laws.{Laws}
+use Rattle.crash.proofs.Numbers.{sound-header, from-five, number-in-ledger, only-twelve, only-eleven, only-ten, accepted-long}
 
 -- ---- equality of maps is decided
 

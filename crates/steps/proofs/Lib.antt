@@ -10,3 +10,14 @@ pub mod RepairedView
 pub mod Judged
 pub mod Accepted
 pub mod Deletion
+pub mod Fresh
+pub mod WholeNode
+pub mod Standing
+pub mod NewRoot
+pub mod Split
+pub mod Splits
+pub mod Run
+pub mod Insertion
+pub mod Calls
+pub mod Numbers
+pub mod EmptyTable

@@ -1,0 +1,140 @@
+-- A new root: every store leaves a settled table with the same map, and the search path grows by the new root.
+use mathlib.Core.Path.{_≡_, refl, ap, sym, _∙_}
+use mathlib.Core.Bool.{true}
+use mathlib.Core.List.{List, [], _∷_, List·Memᴰ, List·Memᴰ·head, List·Memᴰ·tail}
+use Prim.Native.Nat.{ℕ, suc, _≤_, _<_}
+use native.Mathlib.Omega.{arith}
+use lib.ListN.{length, set}
+use Rattle.model.specs.Table.{Words, root, nodes, nodeStart}
+use Rattle.model.specs.Slots.{View, view, height}
+use Rattle.model.specs.Search.{below}
+use Rattle.model.specs.Reached.{reached, mapping, mapOf}
+use Rattle.model.specs.SoundTest.{nothing, settled, sound}
+use Rattle.model.specs.Orders.{put, apply, ordersAfter, orders}
+use Rattle.model.specs.Writes.{unreachable, fresh, putAll, nodeWords, newRoot, standing}
+use Rattle.table_laws.proofs.Header.{header-iff}
+use Rattle.word_laws.proofs.LinkStores.{root-view, root-header}
+use Rattle.word_laws.proofs.NewNodes.{NewNode, length-node-words, new-node}
+use Rattle.tree_laws.proofs.SearchLaw.{Stands}
+use Rattle.cut_laws.proofs.Applying.{apply-append}
+use Rattle.changes.proofs.Updates.{withRoot}
+use Rattle.changes.proofs.NewRoot.{AboveRoot, Rooted, new-root}
+use Rattle.steps.proofs.Phase.{Phase}
+use Rattle.steps.proofs.Stages.{SettledWith, stage-phase, phase-until}
+use Rattle.steps.proofs.Views.{fine-sound, fine-settled, view-fine}
+use Rattle.steps.proofs.Fresh.{Free, fresh-free, free-other, takes-one}
+use Rattle.steps.proofs.WholeNode.{Stays, whole-stage, whole-stays}
+use Rattle.steps.proofs.Standing.{root-reached, standing-stands, standing-is, stands, stands-same, stays-height, stays-stands}
+
+module _ (t : Words) (s : settled t ≡ true) (low : height (view t) < 15) (some : 0 < length (unreachable t)) where
+  abbrev v : View
+  v = view t
+
+  abbrev r : ℕ
+  r = fresh t (root t)
+
+  f : Free t r
+  f = fresh-free t (root t) s (root-reached t s) some
+
+  -- ---- the new root's words
+
+  abbrev ws : Words
+  ws = nodeWords (root t) 0 (suc (height v)) 0 []
+
+  abbrev t₁ : Words
+  t₁ = apply (putAll (nodeStart r) ws) t
+
+  abbrev v₁ : View
+  v₁ = view t₁
+
+  long : length ws ≡ 32
+  long = length-node-words (root t) 0 (suc (height v)) 0 []
+
+  stays : Stays t r t₁
+  stays = whole-stays t r ws s f long
+
+  new : NewNode v₁ r (root t) 0 (suc (height v)) 0 []
+  new = new-node t r (root t) 0 (suc (height v)) 0 [] (f .there) tt (omega arith)
+
+  same-height : height v₁ ≡ height v
+  same-height = stays-height t r s f t₁ stays
+
+  above : AboveRoot v₁ r
+  above = record {
+    range = rw (stays .others .nodes) (f .range);
+    fresh = rw (stays .reached) (f .unreached);
+    left = new .left ∙ sym (stays .others .root);
+    sibling = new .sibling;
+    level = new .level ∙ ap suc (sym same-height);
+    low = omega (arith, same-height);
+    fence = new .fence;
+    shows = new .shown;
+    hides = new .hidden;
+    clear = new .clear;
+  }
+
+  rooted : Rooted v₁ (withRoot v₁ r) r
+  rooted = new-root v₁ r (stays .fine .left) above
+
+  -- ---- header word 1
+
+  abbrev t₂ : Words
+  t₂ = set t₁ 1 r
+
+  seen : view t₂ ≡ withRoot v₁ r
+  seen = root-view t₁ r (stays .fine .header)
+
+  settles : SettledWith (mapOf t) t₂
+  settles =
+      let h = stays .fine .header in
+      let f = view-fine t₁ t₂ (withRoot v₁ r) seen (root-header t₁ r h (above .range) ∙ sym h) h nothing (rooted .left) refl in
+      (fine-settled t₂ f, ap mapping seen ∙ rooted .mapping ∙ stays .mapping)
+
+  link-phase : Phase 2 t₁ (put 1 r ∷ []) (mapOf t)
+  link-phase = phase-until 2 t₁ (put 1 r ∷ []) (unfold orders ordersAfter in omega arith) (omega (arith, header-iff t₁ .0 (stays .fine .header) .size .long), tt) (mapOf t)
+      ((fine-sound t₁ nothing (stays .fine), refl), settles)
+
+  -- New root: every first part of its stores leaves a sound table with the same map.
+  pub root-phase : Phase 38 t (newRoot t) (mapOf t)
+  unfolding newRoot
+  root-phase = stage-phase 36 2 t (putAll (nodeStart r) ws) (put 1 r ∷ []) (mapOf t) (whole-stage t r ws s f long) link-phase
+
+  -- ---- what it leaves
+
+  reach : reached (view t₂) ≡ r ∷ reached v
+  reach = ap reached seen ∙ rooted .reached ∙ ap (λ (l : List ℕ). r ∷ l) (stays .reached)
+
+  up : height (view t₂) ≡ suc (height v)
+  up = ap height seen ∙ new .level
+
+  old-stands : (k d n : ℕ) → Stands v k d n → Stands (view t₂) k d n
+  old-stands k d n c =
+      let e = stays-stands t r s f t₁ stays k d n c in
+      rw seen (stands-same v₁ (withRoot v₁ r) k d n (rooted .left .orderly) (rw (rooted .reached) (List·Memᴰ·tail (e .reached))) refl refl refl refl e)
+
+  top-stands : (k : ℕ) → Stands (view t₂) k (suc (height v)) r
+  unfolding below
+  top-stands k = rw seen (stands (withRoot v₁ r) k (suc (height v)) r (rooted .left .orderly) (rw (rooted .reached) (List·Memᴰ·head refl)) (new .level) (rw (new .fence) (omega arith)) (rw (new .sibling)))
+
+  after : apply (newRoot t) t ≡ t₂
+  unfolding newRoot apply
+  after = apply-append (putAll (nodeStart r) ws) (put 1 r ∷ []) t
+
+  pub root-height : height (view (apply (newRoot t) t)) ≡ suc (height (view t))
+  root-height = rw after up
+
+  pub root-takes : length (unreachable t) ≡ suc (length (unreachable (apply (newRoot t) t)))
+  root-takes = rw after (takes-one t t₂ s (settles .0) (ap (λ (x : View). x .nodes) seen ∙ stays .others .nodes) (ap length reach))
+
+  -- the path to k has the nodes that it had, and above them the new root, which shows nothing
+  pub root-standing : (k d : ℕ) → d ≤ height (view t) → standing (apply (newRoot t) t) d k ≡ standing t d k
+  root-standing k d h = rw after (standing-is t₂ (settles .0) k d (standing t d k) (old-stands k d (standing t d k) (standing-stands t s k d h)))
+
+  pub root-shown : (n : ℕ) → List·Memᴰ n (reached (view t)) → view (apply (newRoot t) t) .shown n ≡ view t .shown n
+  root-shown n m = rw after (ap (λ (x : View). x .shown n) seen ∙ stays .others .shown n (free-other t r s f n m))
+
+  pub root-top : (k : ℕ) → standing (apply (newRoot t) t) (suc (height (view t))) k ≡ fresh t (root t)
+  root-top k = rw after (standing-is t₂ (settles .0) k (suc (height v)) r (top-stands k))
+
+  pub root-shows : (k : ℕ) → view (apply (newRoot t) t) .shown (standing (apply (newRoot t) t) (suc (height (view t))) k) ≡ []
+  root-shows k = ap (view (apply (newRoot t) t) .shown) (root-top k) ∙ rw after (ap (λ (x : View). x .shown r) seen ∙ new .shown)
