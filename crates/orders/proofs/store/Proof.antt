@@ -1,0 +1,73 @@
+-- `orders::store` meets its contract.
+use native.Mathlib.Omega.{arith}
+use Rattle.orders.proofs.Turning.{room-due, Place, room-place, store-done}
+use lib.ListN.{length-set}
+use Rattle.model.specs.Orders.{put}
+use Rattle.orders.specs.Desk.{desk}
+use borrow.Author.Needs.{needs}
+use Rattle.orders.proofs.store.Statement.{statement}
+use Rattle.orders.proofs.store.Tie as tie
+
+place : (c : tie.After-slice-known3) → Place (put (c .before .before .before .before .before .before .args .w) (c .before .before .before .before .before .before .args .x)) (desk (c .before .before .before .before .before .before .args .table .now) (c .before .before .before .before .before .before .args .list .now) (c .before .before .before .before .before .before .args .pen)) (desk (c .before .before .before .before .before .before .args .table .now) (c .before .before .turn .last .0) (c .before .before .turn .result))
+place c = room-place _ _ _ (c .before .before .before .before .before .before .pre) (c .before .before .turn .ensures _)
+
+add-line : tie.Need-add-line
+add-line c = search needs
+
+turn-requires : tie.Need-turn-requires
+turn-requires c κs = room-due _ _ _ _ _ (c .before .before .before .pre)
+
+mul-table : tie.Need-mul-table
+mul-table c = search needs
+
+slice-write-table : tie.Need-slice-write-table
+slice-write-table c = search needs
+
+mul-list : tie.Need-mul-list
+mul-list c = omega (arith, place c)
+
+slice-write-list : tie.Need-slice-write-list
+slice-write-list c = omega (arith, place c)
+
+add-list : tie.Need-add-list
+add-list c = omega (arith, place c)
+
+mul-list-2 : tie.Need-mul-list-2
+mul-list-2 c = omega (arith, place c)
+
+slice-write-list-2 : tie.Need-slice-write-list-2
+slice-write-list-2 c = simp length-set (omega (arith, place c))
+
+add-t9 : tie.Need-add-t9
+add-t9 c = omega (arith, place c)
+
+add-t10 : tie.Need-add-t10
+add-t10 c = omega (arith, place (c .before))
+
+same-length : tie.Need-same-length
+same-length c = search needs
+
+same-length-2 : tie.Need-same-length-2
+same-length-2 c = search needs
+
+returns : tie.Need-returns
+returns c = store-done _ _ _ _ _ _ _ (c .before .before .before .turn .ensures _)
+
+pub store-spec : {M : Type 1} → statement M
+store-spec =
+    tie.close
+    (tie.spec
+    add-line
+    turn-requires
+    mul-table
+    slice-write-table
+    mul-list
+    slice-write-list
+    add-list
+    mul-list-2
+    slice-write-list-2
+    add-t9
+    add-t10
+    same-length
+    same-length-2
+    returns)

@@ -1,0 +1,2 @@
+-- What the functions of this crate do.
+pub mod Desk

@@ -1,0 +1,68 @@
+-- The shifts of a node of the table, as those of the record read from it.
+use mathlib.Core.Path.{_≡_, refl, ap, sym, _∙_}
+use mathlib.Core.Bool.{Bool, true, false}
+use mathlib.Core.List.{List, [], _∷_, map}
+use Prim.Native.Nat.{ℕ, suc, _+_, _≤_}
+use native.Mathlib.Omega.{arith}
+use lib.Dec.{eqb}
+use lib.ListN.{length}
+use Rattle.model.specs.declared.Node.{Node}
+use Rattle.model.specs.Table.{Words, nodeStart, hasNode, node}
+use Rattle.model.specs.Slots.{Slot, inUse, shown, hidden, used, view}
+use Rattle.model.specs.Shifts.{SlotStore, keyTo, pointerTo, inNode, placeOf, hiddenPlace}
+use Rattle.model.specs.Writes.{shiftInAt, shiftOutAt, closeAt, cutOff, attach}
+use Rattle.node.specs.Word.{startOf, wordOf}
+use Rattle.node.proofs.Answers.{start-some}
+use Rattle.node.proofs.WordLaws.{word-sibling, word-fence}
+use Rattle.table_laws.proofs.Nodes.{has-node-iff}
+use Rattle.shift.specs.Stores.{inUseOf, inFrom, slotIn, slotOut, gapClosed}
+
+in-node-from : (n : ℕ) (ss : List SlotStore) → map (inNode n) ss ≡ map (inFrom (nodeStart n)) ss
+in-node-from n [] = refl
+in-node-from n (keyTo i x ∷ ss) = rw (in-node-from n ss)
+in-node-from n (pointerTo i x ∷ ss) = rw (in-node-from n ss)
+
+-- where nothing is hidden all slots in use are shown
+pub shown-all : (p : ℕ) (ss : List Slot) → length (hidden p ss) ≡ 0 → shown p ss ≡ ss
+unfolding shown hidden
+shown-all p [] h = refl
+shown-all p (s ∷ ss) h = go (eqb (s .pointer) p) refl h (shown-all (s .pointer) ss)
+  where
+    go : (b : Bool) → eqb (s .pointer) p ≡ b → length (hidden p (s ∷ ss)) ≡ 0 → (length (hidden (s .pointer) ss) ≡ 0 → shown (s .pointer) ss ≡ ss) → shown p (s ∷ ss) ≡ s ∷ ss
+    go true e g ih = absurd (omega (arith, rw (e, hidden) at g))
+    go false e g ih = rw (e, shown) (ap (λ (us : List Slot). s ∷ us) (ih (rw (e, hidden) at g)))
+
+module _ (t : Words) (n w : ℕ) (h : hasNode t n ≡ true) (e : w ≡ startOf t n) where
+  pub starts : w ≡ nodeStart n
+  starts = e ∙ start-some t n h
+
+  pub node-fits : w + 32 ≤ length t
+  unfolding nodeStart
+  node-fits = omega (arith, starts, has-node-iff t n .0 h)
+
+  module _ (x : Node) (q : x ≡ node t n) where
+    pub close-as : (p : ℕ) → p ≡ hiddenPlace (x .left) (inUseOf (x .slots)) → closeAt t n ≡ gapClosed w (x .slots) p
+    unfolding closeAt gapClosed used inUseOf
+    close-as p g = rw (g, q, starts, in-node-from)
+
+    module _ (z : view t .hidden n ≡ 0) where
+      pub shown-is : view t .shown n ≡ inUseOf (x .slots)
+      unfolding inUseOf used
+      shown-is = rw q (shown-all _ _ z)
+
+      pub shift-in-as : (k v : ℕ) → shiftInAt t n k v ≡ slotIn w x k v
+      unfolding shiftInAt slotIn
+      shift-in-as k v = rw (shown-is, q, starts, in-node-from)
+
+      pub shift-out-as : (k : ℕ) → shiftOutAt t n k ≡ slotOut w x k
+      unfolding shiftOutAt slotOut
+      shift-out-as k = rw (shown-is, q, starts, in-node-from)
+
+      pub cut-as : (f p : ℕ) → f ≡ wordOf t (x .sibling) 3 → p ≡ placeOf f (inUseOf (x .slots)) → cutOff t n ≡ inFrom w (pointerTo p 0) ∷ []
+      unfolding cutOff
+      cut-as f p ef ep = rw (shown-is, ep, ef, word-fence, q, starts)
+
+-- B by the words that the code reads: its number and its fence
+pub attach-as : (t : Words) (p a b f : ℕ) → b ≡ wordOf t a 1 → f ≡ wordOf t b 3 → attach t p a ≡ shiftInAt t p f b
+unfolding attach
+attach-as t p a b f eb ef = rw (ef, word-fence, eb, word-sibling)

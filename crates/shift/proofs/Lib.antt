@@ -1,0 +1,7 @@
+-- Laws that the functions' proofs cite.
+pub mod InUse
+pub mod Moves
+pub mod Shifting
+pub mod AtNode
+pub mod NodeWords
+pub mod Splitting

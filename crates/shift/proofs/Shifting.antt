@@ -1,0 +1,104 @@
+-- A shift in, a shift out and a close, step by step on a desk; and the shifts of a node of the table as those of its record.
+use mathlib.Core.Path.{_≡_, refl, ap, sym, _∙_}
+use mathlib.Core.List.{List, [], _∷_, _++_, map, map-append}
+use Prim.Native.Nat.{ℕ, suc, pred, _+_}
+use native.Mathlib.Numerals.{add-one}
+use native.Mathlib.Omega.{arith}
+use lib.ListN.{length, take, drop}
+use Rattle.model.specs.declared.Node.{Node}
+use Rattle.model.specs.Table.{Words}
+use Rattle.model.specs.Orders.{Store}
+use Rattle.model.specs.Shifts.{keyTo, pointerTo, lastPointer, shiftIn, shiftOut, close, placeOf}
+use Rattle.orders.specs.Desk.{Desk, stored, storedAll, Room}
+use Rattle.orders.proofs.Rest.{Rest, rest-start, rest-same, rest-one, rest-next, rest-first, rest-after, rest-none, rest-all}
+use Rattle.shift.specs.Stores.{inUseOf, inFrom, movesUp, movesDown, slotIn, slotOut, gapClosed}
+
+-- ---- shift in: a store, the moves, three stores
+
+module _ (w : ℕ) (n : Node) (k x p m b : ℕ) (ep : p ≡ placeOf k (inUseOf (n .slots))) (em : m ≡ length (inUseOf (n .slots))) (eb : b ≡ lastPointer (n .left) (take p (inUseOf (n .slots)))) (d : Desk) (r : Room (slotIn w n k x) d) where
+  in-steps : slotIn w n k x ≡ inFrom w (pointerTo (m + 1) 0) ∷ (movesUp w (n .slots) p ++ (inFrom w (pointerTo p b) ∷ inFrom w (keyTo p k) ∷ inFrom w (pointerTo p x) ∷ []))
+  unfolding slotIn shiftIn
+  in-steps = rw (eb, em, ep, add-one, map-append)
+
+  in₀ : Rest (inFrom w (pointerTo (m + 1) 0) ∷ (movesUp w (n .slots) p ++ (inFrom w (pointerTo p b) ∷ inFrom w (keyTo p k) ∷ inFrom w (pointerTo p x) ∷ []))) d (storedAll (slotIn w n k x) d)
+  in₀ = rest-same _ _ _ _ in-steps (rest-start _ d r)
+
+  pub in-first : Room (inFrom w (pointerTo (m + 1) 0) ∷ []) d
+  in-first = rest-one _ _ _ _ in₀
+
+  module _ (d₁ : Desk) (q₁ : d₁ ≡ stored (inFrom w (pointerTo (m + 1) 0)) d) where
+    in₁ : Rest (movesUp w (n .slots) p ++ (inFrom w (pointerTo p b) ∷ inFrom w (keyTo p k) ∷ inFrom w (pointerTo p x) ∷ [])) d₁ (storedAll (slotIn w n k x) d)
+    in₁ = rest-next _ _ _ _ in₀ d₁ q₁
+
+    pub in-moves : Room (movesUp w (n .slots) p) d₁
+    in-moves = rest-first _ _ _ _ in₁
+
+    module _ (d₂ : Desk) (q₂ : d₂ ≡ storedAll (movesUp w (n .slots) p) d₁) where
+      in₂ : Rest (inFrom w (pointerTo p b) ∷ inFrom w (keyTo p k) ∷ inFrom w (pointerTo p x) ∷ []) d₂ (storedAll (slotIn w n k x) d)
+      in₂ = rest-after (movesUp w (n .slots) p) _ _ _ in₁ d₂ q₂
+
+      pub in-hiding : Room (inFrom w (pointerTo p b) ∷ []) d₂
+      in-hiding = rest-one _ _ _ _ in₂
+
+      module _ (d₃ : Desk) (q₃ : d₃ ≡ stored (inFrom w (pointerTo p b)) d₂) where
+        in₃ : Rest (inFrom w (keyTo p k) ∷ inFrom w (pointerTo p x) ∷ []) d₃ (storedAll (slotIn w n k x) d)
+        in₃ = rest-next _ _ _ _ in₂ d₃ q₃
+
+        pub in-key : Room (inFrom w (keyTo p k) ∷ []) d₃
+        in-key = rest-one _ _ _ _ in₃
+
+        module _ (d₄ : Desk) (q₄ : d₄ ≡ stored (inFrom w (keyTo p k)) d₃) where
+          in₄ : Rest (inFrom w (pointerTo p x) ∷ []) d₄ (storedAll (slotIn w n k x) d)
+          in₄ = rest-next _ _ _ _ in₃ d₄ q₄
+
+          pub in-last : Room (inFrom w (pointerTo p x) ∷ []) d₄
+          in-last = in₄ .room
+
+          pub in-done : (d₅ : Desk) → d₅ ≡ stored (inFrom w (pointerTo p x)) d₄ → d₅ ≡ storedAll (slotIn w n k x) d
+          in-done d₅ q₅ = rest-none _ _ (rest-next _ _ _ _ in₄ d₅ q₅)
+
+-- ---- closing a gap: the moves, a store
+
+module _ (w : ℕ) (ws : Words) (p m : ℕ) (em : m ≡ pred (length (inUseOf ws))) (d : Desk) (r : Room (gapClosed w ws p) d) where
+  gap-steps : gapClosed w ws p ≡ movesDown w ws p ++ (inFrom w (pointerTo m 0) ∷ [])
+  unfolding gapClosed close
+  gap-steps = rw (em, map-append)
+
+  gap₀ : Rest (movesDown w ws p ++ (inFrom w (pointerTo m 0) ∷ [])) d (storedAll (gapClosed w ws p) d)
+  gap₀ = rest-same _ _ _ _ gap-steps (rest-start _ d r)
+
+  pub gap-moves : Room (movesDown w ws p) d
+  gap-moves = rest-first _ _ _ _ gap₀
+
+  module _ (d₁ : Desk) (q₁ : d₁ ≡ storedAll (movesDown w ws p) d) where
+    gap₁ : Rest (inFrom w (pointerTo m 0) ∷ []) d₁ (storedAll (gapClosed w ws p) d)
+    gap₁ = rest-after (movesDown w ws p) _ _ _ gap₀ d₁ q₁
+
+    pub gap-last : Room (inFrom w (pointerTo m 0) ∷ []) d₁
+    gap-last = gap₁ .room
+
+    pub gap-done : (d₂ : Desk) → d₂ ≡ stored (inFrom w (pointerTo m 0)) d₁ → d₂ ≡ storedAll (gapClosed w ws p) d
+    gap-done d₂ q₂ = rest-none _ _ (rest-next _ _ _ _ gap₁ d₂ q₂)
+
+-- ---- shift out: a store, the gap closed
+
+module _ (w : ℕ) (n : Node) (k p b : ℕ) (ep : p ≡ placeOf k (inUseOf (n .slots))) (eb : b ≡ lastPointer (n .left) (take p (inUseOf (n .slots)))) (d : Desk) (r : Room (slotOut w n k) d) where
+  out-steps : slotOut w n k ≡ inFrom w (pointerTo p b) ∷ gapClosed w (n .slots) p
+  unfolding slotOut shiftOut gapClosed
+  out-steps = rw (eb, ep)
+
+  out₀ : Rest (inFrom w (pointerTo p b) ∷ gapClosed w (n .slots) p) d (storedAll (slotOut w n k) d)
+  out₀ = rest-same _ _ _ _ out-steps (rest-start _ d r)
+
+  pub out-first : Room (inFrom w (pointerTo p b) ∷ []) d
+  out-first = rest-one _ _ _ _ out₀
+
+  module _ (d₁ : Desk) (q₁ : d₁ ≡ stored (inFrom w (pointerTo p b)) d) where
+    out₁ : Rest (gapClosed w (n .slots) p) d₁ (storedAll (slotOut w n k) d)
+    out₁ = rest-next _ _ _ _ out₀ d₁ q₁
+
+    pub out-rest : Room (gapClosed w (n .slots) p) d₁
+    out-rest = out₁ .room
+
+    pub out-done : (d₂ : Desk) → d₂ ≡ storedAll (gapClosed w (n .slots) p) d₁ → d₂ ≡ storedAll (slotOut w n k) d
+    out-done d₂ q₂ = rest-all _ _ _ out₁ d₂ q₂

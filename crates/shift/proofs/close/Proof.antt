@@ -1,0 +1,50 @@
+-- `shift::close` meets its contract.
+use Rattle.orders.proofs.Rest.{room-as, stored-as}
+use Rattle.shift.proofs.AtNode.{node-fits, close-as}
+use borrow.Author.Needs.{needs}
+use Rattle.shift.proofs.close.Statement.{statement}
+use Rattle.shift.proofs.close.Tie as tie
+
+start-requires : tie.Need-start-requires
+start-requires c κs = search needs
+
+read-requires : tie.Need-read-requires
+read-requires c κs = search needs
+
+hidden-place-requires : tie.Need-hidden-place-requires
+hidden-place-requires c κs = search needs
+
+close-gap-requires : tie.Need-close-gap-requires
+close-gap-requires c κs =
+    let after-hidden-place = c .before .before in
+    let after-read = after-hidden-place .before .before in
+    let after-start = after-read .before .before in
+    let entry = after-start .before .before .before .before in
+    (node-fits _ _ _ (entry .pre .0) (after-start .start .ensures), (after-hidden-place .hidden-place .ensures .1, room-as _ _ _ (close-as _ _ _ (entry .pre .0) (after-start .start .ensures) _ (after-read .read .ensures) _ (after-hidden-place .hidden-place .ensures .0)) (entry .pre .1)))
+
+same-length : tie.Need-same-length
+same-length c = search needs
+
+same-length-2 : tie.Need-same-length-2
+same-length-2 c = search needs
+
+returns : tie.Need-returns
+returns c =
+    let after-close-gap = c .before .before .before .before in
+    let after-hidden-place = after-close-gap .before .before .before in
+    let after-read = after-hidden-place .before .before in
+    let after-start = after-read .before .before in
+    let entry = after-start .before .before .before .before in
+    stored-as _ _ _ (close-as _ _ _ (entry .pre .0) (after-start .start .ensures) _ (after-read .read .ensures) _ (after-hidden-place .hidden-place .ensures .0)) _ (after-close-gap .close-gap .ensures)
+
+pub close-spec : {M : Type 1} → statement M
+close-spec =
+    tie.close
+    (tie.spec
+    start-requires
+    read-requires
+    hidden-place-requires
+    close-gap-requires
+    same-length
+    same-length-2
+    returns)

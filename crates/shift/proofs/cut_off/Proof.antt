@@ -1,0 +1,57 @@
+-- `shift::cut_off` meets its contract.
+use native.Mathlib.Omega.{arith}
+use Rattle.orders.proofs.Rest.{room-as, stored-as, stored-one}
+use Rattle.shift.proofs.AtNode.{node-fits, cut-as}
+use borrow.Author.Needs.{needs}
+use Rattle.shift.proofs.cut_off.Statement.{statement}
+use Rattle.shift.proofs.cut_off.Tie as tie
+
+start-requires : tie.Need-start-requires
+start-requires c κs = search needs
+
+read-requires : tie.Need-read-requires
+read-requires c κs = search needs
+
+word-requires : tie.Need-word-requires
+word-requires c κs = search needs
+
+place-requires : tie.Need-place-requires
+place-requires c κs = search needs
+
+put-pointer-requires : tie.Need-put-pointer-requires
+put-pointer-requires c κs =
+    let after-place = c .before .before in
+    let after-word = after-place .before in
+    let after-read = after-word .before .before .before in
+    let after-start = after-read .before .before in
+    let entry = after-start .before .before .before .before in
+    (omega (arith, after-place .place .ensures .1), (node-fits _ _ _ (entry .pre .0) (after-start .start .ensures), room-as _ _ _ (cut-as _ _ _ (entry .pre .0) (after-start .start .ensures) _ (after-read .read .ensures) (entry .pre .1 .0) _ _ (after-word .word .ensures) (after-place .place .ensures .0)) (entry .pre .1 .1)))
+
+same-length : tie.Need-same-length
+same-length c = search needs
+
+same-length-2 : tie.Need-same-length-2
+same-length-2 c = search needs
+
+returns : tie.Need-returns
+returns c =
+    let after-put-pointer = c .before .before .before .before in
+    let after-place = after-put-pointer .before .before .before in
+    let after-word = after-place .before in
+    let after-read = after-word .before .before .before in
+    let after-start = after-read .before .before in
+    let entry = after-start .before .before .before .before in
+    stored-as _ _ _ (cut-as _ _ _ (entry .pre .0) (after-start .start .ensures) _ (after-read .read .ensures) (entry .pre .1 .0) _ _ (after-word .word .ensures) (after-place .place .ensures .0)) _ (stored-one _ _ _ (after-put-pointer .put-pointer .ensures))
+
+pub cut-off-spec : {M : Type 1} → statement M
+cut-off-spec =
+    tie.close
+    (tie.spec
+    start-requires
+    read-requires
+    word-requires
+    place-requires
+    put-pointer-requires
+    same-length
+    same-length-2
+    returns)

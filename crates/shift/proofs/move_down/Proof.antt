@@ -1,0 +1,121 @@
+-- `shift::move_down` meets its contract. The loop's invariant: the moves from slot i on are left, and lead to what all of them lead to.
+use Prim.Native.Nat.{_+_, _-_, _≤_}
+use mathlib.Core.Path.{_≡_, refl, sym, ap, _∙_}
+use native.Mathlib.Omega.{arith}
+use lib.ListN.{length}
+use Rattle.orders.specs.Desk.{desk, storedAll}
+use Rattle.orders.proofs.Rest.{Rest, rest-start, rest-same, two-first, two-second, two-after, rest-none}
+use Rattle.shift.specs.Stores.{inUseOf, movesDown}
+use Rattle.shift.proofs.InUse.{in-use-short}
+use Rattle.shift.proofs.Moves.{down-next, down-end}
+use borrow.Author.Needs.{needs}
+use Rattle.shift.proofs.move_down.Statement.{statement}
+use Rattle.shift.proofs.move_down.Tie as tie
+
+abbrev Inv-loop : tie.InvT-loop
+Inv-loop table₀ list₀ w p slots n at₀ i₀ table list at i = (i ≤ 12) × (n ≤ 12) × (n ≡ length (inUseOf slots)) × (length table ≡ length table₀) × (length list ≡ length list₀) × Rest (movesDown w slots i) (desk table list at) (storedAll (movesDown w slots p) (desk table₀ list₀ at₀))
+
+abbrev μ-loop : tie.MeasureT-loop
+μ-loop table₀ list₀ w p slots n at₀ i₀ table list at i = 12 - i
+
+count-requires : tie.Need-count-requires Inv-loop μ-loop
+count-requires c κs = search needs
+
+loop-holds : tie.Need-loop-holds Inv-loop μ-loop
+loop-holds c = let s = c .before .before .before .args .t5 in (omega arith, omega (arith, in-use-short s), c .count .ensures .0, refl, refl, rest-start _ _ (c .before .before .before .pre .1 .1))
+
+add-loop : tie.Need-add-loop Inv-loop μ-loop
+add-loop c = search needs
+
+add-put-key : tie.Need-add-put-key Inv-loop μ-loop
+add-put-key c = search needs
+
+mul-put-key : tie.Need-mul-put-key Inv-loop μ-loop
+mul-put-key c = search needs
+
+mul-put-key-2 : tie.Need-mul-put-key-2 Inv-loop μ-loop
+mul-put-key-2 c = search needs
+
+array-read-put-key : tie.Need-array-read-put-key Inv-loop μ-loop
+array-read-put-key c = search needs
+
+put-key-requires : tie.Need-put-key-requires Inv-loop μ-loop
+put-key-requires c κs =
+    let at-loop = c .before .before .before in
+    let entry = at-loop .before .before .before .before in
+    let l = at-loop .loop in (omega arith, (omega arith, two-first _ _ _ _ _ _ (down-next _ (entry .args .t5) (l .i) (omega arith)) (l .inv .5)))
+
+add-put-pointer : tie.Need-add-put-pointer Inv-loop μ-loop
+add-put-pointer c = search needs
+
+mul-put-pointer : tie.Need-mul-put-pointer Inv-loop μ-loop
+mul-put-pointer c = search needs
+
+add-put-pointer-2 : tie.Need-add-put-pointer-2 Inv-loop μ-loop
+add-put-pointer-2 c = search needs
+
+mul-put-pointer-2 : tie.Need-mul-put-pointer-2 Inv-loop μ-loop
+mul-put-pointer-2 c = search needs
+
+array-read-put-pointer : tie.Need-array-read-put-pointer Inv-loop μ-loop
+array-read-put-pointer c = search needs
+
+put-pointer-requires : tie.Need-put-pointer-requires Inv-loop μ-loop
+put-pointer-requires c κs =
+    let after-put-key = c .before .before .before .before .before .before in
+    let at-loop = after-put-key .before .before .before .before in
+    let entry = at-loop .before .before .before .before in
+    let l = at-loop .loop in (omega arith, (omega arith, two-second _ _ _ _ _ _ (down-next _ (entry .args .t5) (l .i) (omega arith)) (l .inv .5) _ (after-put-key .put-key .ensures)))
+
+add-i : tie.Need-add-i Inv-loop μ-loop
+add-i c = search needs
+
+loop-less : tie.Need-loop-less Inv-loop μ-loop
+loop-less c = search needs
+
+loop-again : tie.Need-loop-again Inv-loop μ-loop
+loop-again c =
+    let after-put-pointer = c .before .before .before .before in
+    let after-put-key = after-put-pointer .before .before .before .before .before .before .before in
+    let at-loop = after-put-key .before .before .before .before in
+    let entry = at-loop .before .before .before .before in
+    let l = at-loop .loop in (omega arith, l .inv .1, l .inv .2, search needs, search needs, two-after _ _ _ _ _ _ (down-next _ (entry .args .t5) (l .i) (omega arith)) (l .inv .5) _ _ (after-put-key .put-key .ensures) (after-put-pointer .put-pointer .ensures))
+
+same-length : tie.Need-same-length Inv-loop μ-loop
+same-length c = search needs
+
+same-length-2 : tie.Need-same-length-2 Inv-loop μ-loop
+same-length-2 c = search needs
+
+returns : tie.Need-returns Inv-loop μ-loop
+returns c =
+    let at-loop = c .before in
+    let entry = at-loop .before .before .before .before in
+    let l = at-loop .loop in rest-none _ _ (rest-same _ _ _ _ (down-end _ (entry .args .t5) (l .i) (omega arith)) (l .inv .5))
+
+pub move-down-spec : {M : Type 1} → statement M
+move-down-spec =
+    tie.close
+    (tie.spec
+    Inv-loop
+    μ-loop
+    count-requires
+    loop-holds
+    add-loop
+    add-put-key
+    mul-put-key
+    mul-put-key-2
+    array-read-put-key
+    put-key-requires
+    add-put-pointer
+    mul-put-pointer
+    add-put-pointer-2
+    mul-put-pointer-2
+    array-read-put-pointer
+    put-pointer-requires
+    add-i
+    loop-less
+    loop-again
+    same-length
+    same-length-2
+    returns)

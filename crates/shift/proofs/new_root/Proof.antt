@@ -1,0 +1,77 @@
+-- `shift::new_root` meets its contract, step by step.
+use native.Mathlib.Omega.{arith}
+use Rattle.shift.proofs.AtNode.{node-fits}
+use Rattle.shift.proofs.Splitting.{level-is, root-words, root-link, root-done}
+use borrow.Author.Needs.{needs}
+use Rattle.shift.proofs.new_root.Statement.{statement}
+use Rattle.shift.proofs.new_root.Tie as tie
+
+start-requires : tie.Need-start-requires
+start-requires c κs = search needs
+
+slice-read-root : tie.Need-slice-read-root
+slice-read-root c =
+    let after-start = c .before in
+    let entry = after-start .before .before .before .before in
+    omega (arith, node-fits _ _ _ (entry .pre .0) (after-start .start .ensures))
+
+word-requires : tie.Need-word-requires
+word-requires c κs = search needs
+
+array-write-words : tie.Need-array-write-words
+array-write-words c = search needs
+
+add-words : tie.Need-add-words
+add-words c =
+    let after-start = c .before .before .before in
+    let entry = after-start .before .before .before .before in
+    omega (arith, level-is _ _ _ _ (entry .pre .0) (after-start .start .ensures) (c .word .ensures), entry .pre .1 .0)
+
+array-write-words-2 : tie.Need-array-write-words-2
+array-write-words-2 c = search needs
+
+put-words-requires : tie.Need-put-words-requires
+put-words-requires c κs =
+    let after-word = c .before .before in
+    let after-start = after-word .before .before .before in
+    let entry = after-start .before .before .before .before in
+    (node-fits _ _ _ (entry .pre .0) (after-start .start .ensures), root-words _ _ _ _ (entry .pre .0) (after-start .start .ensures) (after-word .word .ensures) _ (entry .pre .1 .1))
+
+store-requires : tie.Need-store-requires
+store-requires c κs =
+    let after-put-words = c .before .before .before .before .before .before in
+    let after-word = after-put-words .before .before .before in
+    let after-start = after-word .before .before .before in
+    let entry = after-start .before .before .before .before in
+    root-link _ _ _ _ (entry .pre .0) (after-start .start .ensures) (after-word .word .ensures) _ (entry .pre .1 .1) _ (after-put-words .put-words .ensures)
+
+same-length : tie.Need-same-length
+same-length c = search needs
+
+same-length-2 : tie.Need-same-length-2
+same-length-2 c = search needs
+
+returns : tie.Need-returns
+returns c =
+    let after-store = c .before .before .before .before in
+    let after-put-words = after-store .before .before .before .before .before .before .before in
+    let after-word = after-put-words .before .before .before in
+    let after-start = after-word .before .before .before in
+    let entry = after-start .before .before .before .before in
+    root-done _ _ _ _ (entry .pre .0) (after-start .start .ensures) (after-word .word .ensures) _ (entry .pre .1 .1) _ (after-put-words .put-words .ensures) _ (after-store .store .ensures)
+
+pub new-root-spec : {M : Type 1} → statement M
+new-root-spec =
+    tie.close
+    (tie.spec
+    start-requires
+    slice-read-root
+    word-requires
+    array-write-words
+    add-words
+    array-write-words-2
+    put-words-requires
+    store-requires
+    same-length
+    same-length-2
+    returns)

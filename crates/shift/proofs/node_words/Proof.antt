@@ -1,0 +1,99 @@
+-- `shift::node_words` meets its contract. The loop's invariant: the first j slot words from slot `from` on are in place, the others are 0.
+use Prim.Native.Nat.{_+_, _-_, _*_, _≤_}
+use mathlib.Core.Path.{_≡_, refl}
+use native.Mathlib.Omega.{arith}
+use lib.ListN.{length, drop}
+use Rattle.shift.specs.Stores.{inUseOf}
+use Rattle.shift.proofs.NodeWords.{partly, fill-next, fill-end}
+use borrow.Author.Needs.{needs}
+use Rattle.shift.proofs.node_words.Statement.{statement}
+use Rattle.shift.proofs.node_words.Tie as tie
+
+abbrev Inv-loop : tie.InvT-loop
+Inv-loop left sibling level fence from slots words₀ first end j₀ words j = (from ≤ 12) × (end ≤ 24) × (first ≡ 2 * from) × (end ≡ 2 * length (inUseOf slots)) × (j ≤ end - first) × (length slots ≡ 24) × (length words ≡ 32) × (words ≡ partly left sibling level fence (drop (2 * from) slots) j)
+
+abbrev μ-loop : tie.MeasureT-loop
+μ-loop left sibling level fence from slots words₀ first end j₀ words j = 24 - j
+
+array-write-words : tie.Need-array-write-words Inv-loop μ-loop
+array-write-words c = search needs
+
+array-write-words-2 : tie.Need-array-write-words-2 Inv-loop μ-loop
+array-write-words-2 c = search needs
+
+array-write-words-3 : tie.Need-array-write-words-3 Inv-loop μ-loop
+array-write-words-3 c = search needs
+
+array-write-words-4 : tie.Need-array-write-words-4 Inv-loop μ-loop
+array-write-words-4 c = search needs
+
+mul-first : tie.Need-mul-first Inv-loop μ-loop
+mul-first c = search needs
+
+count-requires : tie.Need-count-requires Inv-loop μ-loop
+count-requires c κs = search needs
+
+mul-end : tie.Need-mul-end Inv-loop μ-loop
+mul-end c = search needs
+
+loop-holds : tie.Need-loop-holds Inv-loop μ-loop
+loop-holds c = (c .before .pre, omega (arith, c .count .ensures .1), refl, omega (arith, c .count .ensures .0), omega arith, search needs, refl, refl)
+
+add-loop : tie.Need-add-loop Inv-loop μ-loop
+add-loop c = search needs
+
+add-words : tie.Need-add-words Inv-loop μ-loop
+add-words c = search needs
+
+mul-words : tie.Need-mul-words Inv-loop μ-loop
+mul-words c = search needs
+
+array-read-words : tie.Need-array-read-words Inv-loop μ-loop
+array-read-words c = search needs
+
+add-words-2 : tie.Need-add-words-2 Inv-loop μ-loop
+add-words-2 c = search needs
+
+mul-words-2 : tie.Need-mul-words-2 Inv-loop μ-loop
+mul-words-2 c = search needs
+
+array-write-words-5 : tie.Need-array-write-words-5 Inv-loop μ-loop
+array-write-words-5 c = search needs
+
+add-j : tie.Need-add-j Inv-loop μ-loop
+add-j c = search needs
+
+loop-less : tie.Need-loop-less Inv-loop μ-loop
+loop-less c = search needs
+
+loop-again : tie.Need-loop-again Inv-loop μ-loop
+loop-again c = let l = c .before .loop in (l .inv .0, l .inv .1, l .inv .2, l .inv .3, omega arith, l .inv .5, search needs, fill-next _ _ _ _ (c .before .before .before .args .t5) (c .before .before .before .args .from) (l .j) _ (l .inv .7) (omega arith) (omega arith))
+
+returns : tie.Need-returns Inv-loop μ-loop
+returns c = let l = c .before .loop in fill-end _ _ _ _ (c .before .before .before .args .t5) (c .before .before .before .args .from) (l .j) _ (l .inv .7) (l .inv .5) (omega arith)
+
+pub node-words-spec : {M : Type 1} → statement M
+node-words-spec =
+    tie.close
+    (tie.spec
+    Inv-loop
+    μ-loop
+    array-write-words
+    array-write-words-2
+    array-write-words-3
+    array-write-words-4
+    mul-first
+    count-requires
+    mul-end
+    loop-holds
+    add-loop
+    add-words
+    mul-words
+    array-read-words
+    add-words-2
+    mul-words-2
+    array-write-words-5
+    add-j
+    loop-less
+    loop-again
+    returns)

@@ -1,0 +1,58 @@
+-- `shift::slot_out` meets its contract, step by step.
+use native.Mathlib.Omega.{arith}
+use Rattle.shift.specs.Stores.{inUseOf}
+use Rattle.shift.proofs.InUse.{place-within}
+use Rattle.shift.proofs.Shifting.{out-first, out-rest, out-done}
+use borrow.Author.Needs.{needs}
+use Rattle.shift.proofs.slot_out.Statement.{statement}
+use Rattle.shift.proofs.slot_out.Tie as tie
+
+place-requires : tie.Need-place-requires
+place-requires c κs = search needs
+
+pointer-before-requires : tie.Need-pointer-before-requires
+pointer-before-requires c κs =
+    let entry = c .before .before .before .before in
+    omega (arith, c .place .ensures .0, place-within (entry .args .k) (inUseOf (entry .args .n .slots)))
+
+put-pointer-requires : tie.Need-put-pointer-requires
+put-pointer-requires c κs =
+    let after-pointer-before = c .before .before in
+    let after-place = after-pointer-before .before in
+    let entry = after-place .before .before .before .before in
+    (omega (arith, after-place .place .ensures .1), (omega arith, out-first _ (entry .args .n) _ _ _ (after-place .place .ensures .0) (after-pointer-before .pointer-before .ensures) _ (entry .pre .1)))
+
+close-gap-requires : tie.Need-close-gap-requires
+close-gap-requires c κs =
+    let after-put-pointer = c .before .before .before .before .before .before in
+    let after-pointer-before = after-put-pointer .before .before .before in
+    let after-place = after-pointer-before .before in
+    let entry = after-place .before .before .before .before in
+    (omega arith, (omega (arith, after-place .place .ensures .1), out-rest _ (entry .args .n) _ _ _ (after-place .place .ensures .0) (after-pointer-before .pointer-before .ensures) _ (entry .pre .1) _ (after-put-pointer .put-pointer .ensures)))
+
+same-length : tie.Need-same-length
+same-length c = search needs
+
+same-length-2 : tie.Need-same-length-2
+same-length-2 c = search needs
+
+returns : tie.Need-returns
+returns c =
+    let after-close-gap = c .before .before .before .before in
+    let after-put-pointer = after-close-gap .before .before .before .before .before .before .before in
+    let after-pointer-before = after-put-pointer .before .before .before in
+    let after-place = after-pointer-before .before in
+    let entry = after-place .before .before .before .before in
+    out-done _ (entry .args .n) _ _ _ (after-place .place .ensures .0) (after-pointer-before .pointer-before .ensures) _ (entry .pre .1) _ (after-put-pointer .put-pointer .ensures) _ (after-close-gap .close-gap .ensures)
+
+pub slot-out-spec : {M : Type 1} → statement M
+slot-out-spec =
+    tie.close
+    (tie.spec
+    place-requires
+    pointer-before-requires
+    put-pointer-requires
+    close-gap-requires
+    same-length
+    same-length-2
+    returns)

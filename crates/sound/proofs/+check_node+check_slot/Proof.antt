@@ -1,0 +1,211 @@
+-- `sound::check_node` and `sound::check_slot` meet their contracts: the level falls. The loop keeps what checking the ways from i on, from the present state, comes to.
+use Prim.Native.Nat.{ℕ, _+_, _-_, _*_, _≤_, _<_}
+use mathlib.Core.Path.{_≡_, refl, sym, _∙_}
+use native.Mathlib.Omega.{arith}
+use borrow.Author.Tests.{not-true, not-false}
+use Rattle.model.specs.Slots.{view}
+use Rattle.sound.proofs.CheckLaws.{node-unsound, node-over, node-elsewhere, node-wrong, node-leaf, node-inner, stands-has, slot-right, slot-lacks, restChecked, rest-end, rest-next, rest-start}
+use borrow.Author.Needs.{needs}
+use borrow.Fn.Kinds.{In}
+use borrow.Fn.PlainCycle.{Measures, is, falls, and}
+use Rattle.sound.proofs.check_node.Reads as check-node
+use Rattle.sound.proofs.check_node.Kinds as check-node-kinds
+use Rattle.sound.proofs.+check_node+check_slot.Lts-check_node as check-node-lts
+use Rattle.sound.proofs.check_slot.Reads as check-slot
+use Rattle.sound.proofs.check_slot.Kinds as check-slot-kinds
+use Rattle.sound.proofs.+check_node+check_slot.Lts-check_slot as check-slot-lts
+use Rattle.node.proofs.word.Reads as word-reads
+use Rattle.sound.proofs.look_at.Reads as look-at-reads
+use Rattle.sound.proofs.next_child.Reads as next-child-reads
+use Rattle.sound.proofs.note.Reads as note-reads
+use Rattle.sound.proofs.pointer_from.Reads as pointer-from-reads
+use Rattle.sound.proofs.stands.Reads as stands-reads
+use Rattle.sound.proofs.together.Reads as together-reads
+use Rattle.sound.proofs.ways_of.Reads as ways-of-reads
+use Rattle.sound.proofs.word_at.Reads as word-at-reads
+use Rattle.sound.proofs.+check_node+check_slot.{statement}
+use Rattle.sound.proofs.+check_node+check_slot.Tie.{close}
+
+abbrev μ-check-node : Measures 1 check-node-kinds.ps ℕ
+μ-check-node κs a = 2 * a .1 .1 .0
+
+abbrev μ-check-slot : Measures 1 check-slot-kinds.ps ℕ
+μ-check-slot κs a = 2 * a .1 .1 .0 + 1
+
+abbrev check-node-at : ℕ → In 1 check-node-kinds.ps
+check-node-at t =
+    and 1 check-node-kinds.ps (is 1 check-node-kinds.ps μ-check-node t) check-node.Pre
+
+abbrev check-node-below : ℕ → In 1 check-node-kinds.ps
+check-node-below t =
+    and 1 check-node-kinds.ps (falls 1 check-node-kinds.ps _<_ μ-check-node t) check-node.Pre
+
+abbrev check-slot-at : ℕ → In 1 check-slot-kinds.ps
+check-slot-at t =
+    and 1 check-slot-kinds.ps (is 1 check-slot-kinds.ps μ-check-slot t) check-slot.Pre
+
+abbrev check-slot-below : ℕ → In 1 check-slot-kinds.ps
+check-slot-below t =
+    and 1 check-slot-kinds.ps (falls 1 check-slot-kinds.ps _<_ μ-check-slot t) check-slot.Pre
+
+abbrev check-node-calls : ℕ → check-node-lts.Claims
+check-node-calls t = (word-at-reads.Asked, word-at-reads.Learnt, stands-reads.Asked, stands-reads.Learnt, look-at-reads.Asked, look-at-reads.Learnt, together-reads.Asked, together-reads.Learnt, ways-of-reads.Asked, ways-of-reads.Learnt, next-child-reads.Asked, next-child-reads.Learnt, pointer-from-reads.Asked, pointer-from-reads.Learnt, check-slot-below t, check-slot.Post)
+
+abbrev check-slot-calls : ℕ → check-slot-lts.Claims
+check-slot-calls t = (word-reads.Asked, word-reads.Learnt, check-node-below t, check-node.Post, note-reads.Asked, note-reads.Learnt)
+
+abbrev check-node-Inv-loop : check-node-lts.InvT-loop
+check-node-Inv-loop table n level fence right count state₀ w next ways keys pointers i₀ state i = (i ≤ w .count) × (restChecked (view table) n (level - 1) w i next state ≡ restChecked (view table) n (level - 1) w 0 next state₀)
+
+abbrev check-node-μ-loop : check-node-lts.MeasureT-loop
+check-node-μ-loop table n level fence right count state₀ w next ways keys pointers i₀ state i = ways - i
+
+check-node-enum-told : (t : ℕ) → check-node-lts.Need-enum-told (check-node-calls t) (check-node-at t) check-node.Post check-node-Inv-loop check-node-μ-loop
+check-node-enum-told t c = search needs
+
+check-node-enum-known-seen : (t : ℕ) → check-node-lts.Need-enum-known-seen (check-node-calls t) (check-node-at t) check-node.Post check-node-Inv-loop check-node-μ-loop
+check-node-enum-known-seen t c = search needs
+
+check-node-word-at-requires : (t : ℕ) → check-node-lts.Need-word-at-requires (check-node-calls t) (check-node-at t) check-node.Post check-node-Inv-loop check-node-μ-loop
+check-node-word-at-requires t c κs = search needs
+
+check-node-returns : (t : ℕ) → check-node-lts.Need-returns (check-node-calls t) (check-node-at t) check-node.Post check-node-Inv-loop check-node-μ-loop
+check-node-returns t c = node-over _ _ _ _ _ _ _ _ _ (c .before .before .before .seen .given .1) (c .before .word-at .ensures) (c .if1 .taken)
+
+check-node-stands-requires : (t : ℕ) → check-node-lts.Need-stands-requires (check-node-calls t) (check-node-at t) check-node.Post check-node-Inv-loop check-node-μ-loop
+check-node-stands-requires t c κs = search needs
+
+check-node-returns-2 : (t : ℕ) → check-node-lts.Need-returns-2 (check-node-calls t) (check-node-at t) check-node.Post check-node-Inv-loop check-node-μ-loop
+check-node-returns-2 t c = node-elsewhere _ _ _ _ _ _ (sym (c .before .stands .ensures) ∙ not-true _ (c .if2 .taken))
+
+check-node-look-at-requires : (t : ℕ) → check-node-lts.Need-look-at-requires (check-node-calls t) (check-node-at t) check-node.Post check-node-Inv-loop check-node-μ-loop
+check-node-look-at-requires t c κs = (c .before .before .before .before .before .before .before .before .pre .1, stands-has _ _ _ _ _ (c .before .before .before .before .before .before .before .before .pre .1) (sym (c .before .stands .ensures) ∙ not-false _ (c .if2 .left)))
+
+check-node-returns-3 : (t : ℕ) → check-node-lts.Need-returns-3 (check-node-calls t) (check-node-at t) check-node.Post check-node-Inv-loop check-node-μ-loop
+check-node-returns-3 t c = node-wrong _ _ _ _ _ _ _ (c .before .before .look-at .ensures) (not-true _ (c .if3 .taken))
+
+check-node-add-t20 : (t : ℕ) → check-node-lts.Need-add-t20 (check-node-calls t) (check-node-at t) check-node.Post check-node-Inv-loop check-node-μ-loop
+check-node-add-t20 t c = search needs
+
+check-node-together-requires : (t : ℕ) → check-node-lts.Need-together-requires (check-node-calls t) (check-node-at t) check-node.Post check-node-Inv-loop check-node-μ-loop
+check-node-together-requires t c κs = search needs
+
+check-node-returns-4 : (t : ℕ) → check-node-lts.Need-returns-4 (check-node-calls t) (check-node-at t) check-node.Post check-node-Inv-loop check-node-μ-loop
+check-node-returns-4 t c = node-leaf _ _ _ _ _ _ (c .before .before .before .before .before .look-at .ensures) (sym (c .before .before .before .before .before .before .before .stands .ensures) ∙ not-false _ (c .before .before .before .before .before .before .if2 .left)) (not-false _ (c .before .before .before .if3 .left)) _ _ _ _ _ (c .before .before .before .before .before .before .before .before .before .before .before .seen .given .1) (c .before .before .before .before .before .before .before .before .before .word-at .ensures) (c .before .before .before .before .before .before .before .before .if1 .left) (c .before .together .ensures) (c .if4 .taken)
+
+check-node-ways-of-requires : (t : ℕ) → check-node-lts.Need-ways-of-requires (check-node-calls t) (check-node-at t) check-node.Post check-node-Inv-loop check-node-μ-loop
+check-node-ways-of-requires t c κs = search needs
+
+check-node-next-child-requires : (t : ℕ) → check-node-lts.Need-next-child-requires (check-node-calls t) (check-node-at t) check-node.Post check-node-Inv-loop check-node-μ-loop
+check-node-next-child-requires t c κs = search needs
+
+check-node-loop-holds : (t : ℕ) → check-node-lts.Need-loop-holds (check-node-calls t) (check-node-at t) check-node.Post check-node-Inv-loop check-node-μ-loop
+check-node-loop-holds t c = (omega arith, refl)
+
+check-node-add-pointer-from : (t : ℕ) → check-node-lts.Need-add-pointer-from (check-node-calls t) (check-node-at t) check-node.Post check-node-Inv-loop check-node-μ-loop
+check-node-add-pointer-from t c = search needs
+
+check-node-pointer-from-requires : (t : ℕ) → check-node-lts.Need-pointer-from-requires (check-node-calls t) (check-node-at t) check-node.Post check-node-Inv-loop check-node-μ-loop
+check-node-pointer-from-requires t c κs = search needs
+
+check-node-sub-check-slot : (t : ℕ) → check-node-lts.Need-sub-check-slot (check-node-calls t) (check-node-at t) check-node.Post check-node-Inv-loop check-node-μ-loop
+check-node-sub-check-slot t c = search needs
+
+check-node-mul-check-slot : (t : ℕ) → check-node-lts.Need-mul-check-slot (check-node-calls t) (check-node-at t) check-node.Post check-node-Inv-loop check-node-μ-loop
+check-node-mul-check-slot t c = search needs
+
+check-node-array-read-check-slot : (t : ℕ) → check-node-lts.Need-array-read-check-slot (check-node-calls t) (check-node-at t) check-node.Post check-node-Inv-loop check-node-μ-loop
+check-node-array-read-check-slot t c = search needs
+
+check-node-mul-check-slot-2 : (t : ℕ) → check-node-lts.Need-mul-check-slot-2 (check-node-calls t) (check-node-at t) check-node.Post check-node-Inv-loop check-node-μ-loop
+check-node-mul-check-slot-2 t c = search needs
+
+check-node-array-read-check-slot-2 : (t : ℕ) → check-node-lts.Need-array-read-check-slot-2 (check-node-calls t) (check-node-at t) check-node.Post check-node-Inv-loop check-node-μ-loop
+check-node-array-read-check-slot-2 t c = search needs
+
+check-node-check-slot-requires : (t : ℕ) → check-node-lts.Need-check-slot-requires (check-node-calls t) (check-node-at t) check-node.Post check-node-Inv-loop check-node-μ-loop
+check-node-check-slot-requires t c κs = (omega (arith, c .before .before .before .before .before .before .before .before .before .before .before .before .before .before .before .before .before .before .before .before .before .pre .0, c .before .before .before .before .before .before .before .if4 .left), c .before .before .before .before .before .before .before .before .before .before .before .before .before .before .before .before .before .before .before .before .before .pre .1)
+
+check-node-add-i : (t : ℕ) → check-node-lts.Need-add-i (check-node-calls t) (check-node-at t) check-node.Post check-node-Inv-loop check-node-μ-loop
+check-node-add-i t c = search needs
+
+check-node-loop-less : (t : ℕ) → check-node-lts.Need-loop-less (check-node-calls t) (check-node-at t) check-node.Post check-node-Inv-loop check-node-μ-loop
+check-node-loop-less t c = search needs
+
+check-node-loop-again : (t : ℕ) → check-node-lts.Need-loop-again (check-node-calls t) (check-node-at t) check-node.Post check-node-Inv-loop check-node-μ-loop
+check-node-loop-again t c = let l = c .before .before .before .loop in (omega arith, rest-next _ _ _ _ (l .i) _ (l .state) _ _ (c .before .before .loop-test .taken) (c .before .pointer-from .ensures) (c .check-slot .ensures) ∙ l .inv .1)
+
+check-node-returns-5 : (t : ℕ) → check-node-lts.Need-returns-5 (check-node-calls t) (check-node-at t) check-node.Post check-node-Inv-loop check-node-μ-loop
+check-node-returns-5 t c = node-unsound _ _ _ _ _ _ (c .enum-told .given .1)
+
+check-node-returns-6 : (t : ℕ) → check-node-lts.Need-returns-6 (check-node-calls t) (check-node-at t) check-node.Post check-node-Inv-loop check-node-μ-loop
+check-node-returns-6 t c = let l = c .before .loop in sym (rest-end _ _ _ _ (l .i) _ (l .state) (c .loop-test .left)) ∙ l .inv .1 ∙ rest-start _ _ _ _ _ _ (c .before .before .before .before .before .ways-of .ensures .0) (c .before .before .before .before .next-child .ensures) ∙ node-inner _ _ _ _ _ _ (c .before .before .before .before .before .before .before .before .before .before .before .look-at .ensures) (sym (c .before .before .before .before .before .before .before .before .before .before .before .before .before .stands .ensures) ∙ not-false _ (c .before .before .before .before .before .before .before .before .before .before .before .before .if2 .left)) (not-false _ (c .before .before .before .before .before .before .before .before .before .if3 .left)) _ _ _ _ _ (c .before .before .before .before .before .before .before .before .before .before .before .before .before .before .before .before .before .seen .given .1) (c .before .before .before .before .before .before .before .before .before .before .before .before .before .before .before .word-at .ensures) (c .before .before .before .before .before .before .before .before .before .before .before .before .before .before .if1 .left) (c .before .before .before .before .before .before .before .together .ensures) (c .before .before .before .before .before .before .if4 .left)
+
+check-slot-word-requires : (t : ℕ) → check-slot-lts.Need-word-requires (check-slot-calls t) (check-slot-at t) check-slot.Post
+check-slot-word-requires t c κs = search needs
+
+check-slot-check-node-requires : (t : ℕ) → check-slot-lts.Need-check-node-requires (check-slot-calls t) (check-slot-at t) check-slot.Post
+check-slot-check-node-requires t c κs = search needs
+
+check-slot-returns : (t : ℕ) → check-slot-lts.Need-returns (check-slot-calls t) (check-slot-at t) check-slot.Post
+check-slot-returns t c = slot-right _ _ _ _ _ _ _ _ (c .before .before .word .ensures) _ (c .check-node .ensures) (c .before .if1 .taken)
+
+check-slot-word-requires-2 : (t : ℕ) → check-slot-lts.Need-word-requires-2 (check-slot-calls t) (check-slot-at t) check-slot.Post
+check-slot-word-requires-2 t c κs = search needs
+
+check-slot-note-requires : (t : ℕ) → check-slot-lts.Need-note-requires (check-slot-calls t) (check-slot-at t) check-slot.Post
+check-slot-note-requires t c κs = search needs
+
+check-slot-check-node-requires-2 : (t : ℕ) → check-slot-lts.Need-check-node-requires-2 (check-slot-calls t) (check-slot-at t) check-slot.Post
+check-slot-check-node-requires-2 t c κs = search needs
+
+check-slot-check-node-requires-3 : (t : ℕ) → check-slot-lts.Need-check-node-requires-3 (check-slot-calls t) (check-slot-at t) check-slot.Post
+check-slot-check-node-requires-3 t c κs = search needs
+
+check-slot-returns-2 : (t : ℕ) → check-slot-lts.Need-returns-2 (check-slot-calls t) (check-slot-at t) check-slot.Post
+check-slot-returns-2 t c = slot-lacks _ _ _ _ _ _ _ _ (c .before .before .before .before .before .word .ensures) _ _ _ _ (c .before .before .before .word2 .ensures) (c .before .before .note .ensures) (c .before .check-node2 .ensures) (c .check-node3 .ensures) (c .before .before .before .before .if1 .left)
+
+pub +check-node+check-slot-spec : {M : Type 1} → statement M
++check-node+check-slot-spec = close μ-check-node μ-check-slot (λ t. check-node-lts.spec (check-node-calls t)
+    (check-node-at t)
+    check-node.Post
+    check-node-Inv-loop
+    check-node-μ-loop
+    (check-node-enum-told t)
+    (check-node-enum-known-seen t)
+    (check-node-word-at-requires t)
+    (check-node-returns t)
+    (check-node-stands-requires t)
+    (check-node-returns-2 t)
+    (check-node-look-at-requires t)
+    (check-node-returns-3 t)
+    (check-node-add-t20 t)
+    (check-node-together-requires t)
+    (check-node-returns-4 t)
+    (check-node-ways-of-requires t)
+    (check-node-next-child-requires t)
+    (check-node-loop-holds t)
+    (check-node-add-pointer-from t)
+    (check-node-pointer-from-requires t)
+    (check-node-sub-check-slot t)
+    (check-node-mul-check-slot t)
+    (check-node-array-read-check-slot t)
+    (check-node-mul-check-slot-2 t)
+    (check-node-array-read-check-slot-2 t)
+    (check-node-check-slot-requires t)
+    (check-node-add-i t)
+    (check-node-loop-less t)
+    (check-node-loop-again t)
+    (check-node-returns-5 t)
+    (check-node-returns-6 t))
+    λ t. check-slot-lts.spec (check-slot-calls t)
+    (check-slot-at t)
+    check-slot.Post
+    (check-slot-word-requires t)
+    (check-slot-check-node-requires t)
+    (check-slot-returns t)
+    (check-slot-word-requires-2 t)
+    (check-slot-note-requires t)
+    (check-slot-check-node-requires-2 t)
+    (check-slot-check-node-requires-3 t)
+    (check-slot-returns-2 t)

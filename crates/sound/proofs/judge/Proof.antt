@@ -1,0 +1,87 @@
+-- `sound::judge` meets its contract.
+use mathlib.Core.Path.{refl}
+use Rattle.sound.proofs.JudgeLaws.{judge-both, judge-many}
+use borrow.Author.Needs.{needs}
+use Rattle.sound.proofs.judge.Statement.{statement}
+use Rattle.sound.proofs.judge.Tie as tie
+
+enum-told : tie.Need-enum-told
+enum-told c = search needs
+
+enum-told-2 : tie.Need-enum-told-2
+enum-told-2 c = search needs
+
+missing-alone-requires : tie.Need-missing-alone-requires
+missing-alone-requires c κs = search needs
+
+enum-known-trailing : tie.Need-enum-known-trailing
+enum-known-trailing c = search needs
+
+with-trailing-requires : tie.Need-with-trailing-requires
+with-trailing-requires c κs = search needs
+
+enum-told-3 : tie.Need-enum-told-3
+enum-told-3 c = search needs
+
+enum-known-hidden : tie.Need-enum-known-hidden
+enum-known-hidden c = search needs
+
+enum-told-4 : tie.Need-enum-told-4
+enum-told-4 c = search needs
+
+with-hidden-requires : tie.Need-with-hidden-requires
+with-hidden-requires c κs = search needs
+
+enum-told-5 : tie.Need-enum-told-5
+enum-told-5 c = search needs
+
+enum-told-6 : tie.Need-enum-told-6
+enum-told-6 c = search needs
+
+enum-told-7 : tie.Need-enum-told-7
+enum-told-7 c = search needs
+
+returns : tie.Need-returns
+returns c = judge-both (c .before .before .before .before .before .args .u) _ _ _ (c .before .before .before .enum-told .given .1) (c .before .enum-told2 .given .1) (c .missing-alone .ensures)
+
+returns-2 : tie.Need-returns-2
+returns-2 c = judge-both (c .before .before .before .before .before .before .args .u) _ _ _ (c .before .before .before .before .enum-told .given .1) (c .before .before .trailing .given .1) (c .with-trailing .ensures)
+
+returns-3 : tie.Need-returns-3
+returns-3 c = judge-both (c .before .before .before .before .args .u) _ _ _ (c .before .before .enum-told .given .1) (c .enum-told3 .given .1) refl
+
+returns-4 : tie.Need-returns-4
+returns-4 c = judge-both (c .before .before .before .before .before .before .args .u) _ _ _ (c .before .before .before .before .hidden .given .1) (c .before .enum-told4 .given .1) (c .with-hidden .ensures)
+
+returns-5 : tie.Need-returns-5
+returns-5 c = judge-both (c .before .before .before .before .before .args .u) _ _ _ (c .before .before .before .hidden .given .1) (c .enum-told5 .given .1) refl
+
+returns-6 : tie.Need-returns-6
+returns-6 c = judge-both (c .before .before .before .before .before .args .u) _ _ _ (c .before .before .before .hidden .given .1) (c .enum-told6 .given .1) refl
+
+returns-7 : tie.Need-returns-7
+returns-7 c = judge-many (c .before .before .args .u) (c .enum-told7 .given .1)
+
+pub judge-spec : {M : Type 1} → statement M
+judge-spec =
+    tie.close
+    (tie.spec
+    enum-told
+    enum-told-2
+    missing-alone-requires
+    enum-known-trailing
+    with-trailing-requires
+    enum-told-3
+    enum-known-hidden
+    enum-told-4
+    with-hidden-requires
+    enum-told-5
+    enum-told-6
+    enum-told-7
+    returns
+    returns-2
+    returns-3
+    returns-4
+    returns-5
+    returns-6
+    returns-7)

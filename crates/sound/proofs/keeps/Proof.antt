@@ -1,0 +1,13 @@
+-- `sound::keeps` meets its contract.
+use Rattle.sound.proofs.ScanLaws.{keeps-all, keeps-below}
+use Rattle.sound.proofs.keeps.Statement.{statement}
+use Rattle.sound.proofs.keeps.Tie as tie
+
+returns : tie.Need-returns
+returns c = keeps-all _ _ _ (c .if1 .taken)
+
+returns-2 : tie.Need-returns-2
+returns-2 c = keeps-below _ _ _ (c .if1 .left)
+
+pub keeps-spec : {M : Type 1} → statement M
+keeps-spec = tie.close (tie.spec returns returns-2)

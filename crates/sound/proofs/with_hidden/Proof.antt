@@ -1,0 +1,31 @@
+-- `sound::with_hidden` meets its contract.
+use Rattle.sound.proofs.JudgeLaws.{hidden-nowhere, hidden-other, hidden-parent}
+use borrow.Author.Needs.{needs}
+use Rattle.sound.proofs.with_hidden.Statement.{statement}
+use Rattle.sound.proofs.with_hidden.Tie as tie
+
+enum-told : tie.Need-enum-told
+enum-told c = search needs
+
+enum-known-missing : tie.Need-enum-known-missing
+enum-known-missing c = search needs
+
+returns : tie.Need-returns
+returns c = hidden-other (c .before .before .before .before .args .missing) _ _ (c .before .before .missing .given .1) (c .before .before .before .before .args .q) (c .if1 .taken)
+
+enum-told-2 : tie.Need-enum-told-2
+enum-told-2 c = search needs
+
+returns-2 : tie.Need-returns-2
+returns-2 c = hidden-nowhere (c .before .before .args .missing) (c .before .before .args .q) (c .enum-told .given .1)
+
+returns-3 : tie.Need-returns-3
+returns-3 c = hidden-parent (c .before .before .before .before .args .missing) _ _ (c .before .before .missing .given .1) (c .before .before .before .before .args .q) (c .if1 .left)
+
+returns-4 : tie.Need-returns-4
+returns-4 c = search needs
+
+pub with-hidden-spec : {M : Type 1} → statement M
+with-hidden-spec =
+    tie.close
+    (tie.spec enum-told enum-known-missing returns enum-told-2 returns-2 returns-3 returns-4)

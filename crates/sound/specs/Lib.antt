@@ -1,0 +1,5 @@
+-- What the functions of the check answer.
+pub mod Scan
+pub mod Nodes
+pub mod Hits
+pub mod Checked
