@@ -1,2 +1,6 @@
 pub mod Everything
 pub mod Worked
+pub mod Tables
+pub mod Quick
+pub mod Trials
+pub mod Unsound
