@@ -6,10 +6,16 @@ extern "C" {
     fn catalogue_print(key: u64, text: *mut u8) -> u64;
     fn catalogue_make(table: *mut u64, words: usize) -> u64;
     fn catalogue_search(table: *const u64, words: usize, key: u64, recording: *mut u64) -> u64;
+    fn catalogue_list(table: *const u64, words: usize, low: u64, high: u64, out: *mut u64, out_words: usize, pairs: *mut u64, more: *mut u64) -> u64;
+    fn catalogue_insert(table: *mut u64, words: usize, orders: *mut u64, order_words: usize, key: u64, recording: u64, stores: *mut u64, flushes: *mut u64) -> u64;
+    fn catalogue_delete(table: *mut u64, words: usize, orders: *mut u64, order_words: usize, key: u64, stores: *mut u64, flushes: *mut u64) -> u64;
+    fn catalogue_repair(table: *mut u64, words: usize, orders: *mut u64, order_words: usize, stores: *mut u64, flushes: *mut u64) -> u64;
+    fn catalogue_carry_out(table: *mut u64, words: usize, orders: *const u64, order_words: usize, c: u64) -> u64;
 }
 
 const GUARD: u64 = 0x5a5a_a5a5_0ff0_f00f;
 const GUARDS: usize = 16;
+const UNTOUCHED: u64 = 0xdead_beef_dead_beef;
 
 /// Words with guards around them.
 pub struct Lent {
@@ -29,24 +35,31 @@ impl Lent {
         self.words[GUARDS..].as_mut_ptr()
     }
 
-    /// The words after the call; the guards must be whole.
+    /// The words after the calls; the guards must be whole.
     pub fn back(&self) -> &[u64] {
         let whole = |part: &[u64]| part.iter().all(|&w| w == GUARD);
         assert!(whole(&self.words[..GUARDS]) && whole(&self.words[GUARDS + self.len..]), "a guard word was written");
         &self.words[GUARDS..GUARDS + self.len]
     }
+
+    /// A search of these words: the number, and the recording where the call put one.
+    pub fn search(&mut self, key: u64) -> (u64, Option<u64>) {
+        let mut recording = UNTOUCHED;
+        let n = unsafe { catalogue_search(self.pointer(), self.len, key, &mut recording) };
+        (n, put(recording))
+    }
 }
 
-const UNTOUCHED: u64 = 0xdead_beef_dead_beef;
+/// What an answer's word holds, where something was put into it.
+fn put(word: u64) -> Option<u64> {
+    (word != UNTOUCHED).then_some(word)
+}
 
-/// The number, and the recording where the call put one.
 pub fn search(t: &[u64], key: u64) -> (u64, Option<u64>) {
     let mut table = Lent::new(t);
-    let mut recording = Lent::new(&[UNTOUCHED]);
-    let n = unsafe { catalogue_search(table.pointer(), t.len(), key, recording.pointer()) };
+    let answer = table.search(key);
     assert!(table.back() == t, "a search wrote to the table");
-    let r = recording.back()[0];
-    (n, (r != UNTOUCHED).then_some(r))
+    answer
 }
 
 pub fn make(t: &[u64]) -> (u64, Vec<u64>) {
@@ -56,10 +69,9 @@ pub fn make(t: &[u64]) -> (u64, Vec<u64>) {
 }
 
 pub fn parse(text: &[u8]) -> (u64, Option<u64>) {
-    let mut key = Lent::new(&[UNTOUCHED]);
-    let n = unsafe { catalogue_parse(text.as_ptr(), text.len(), key.pointer()) };
-    let k = key.back()[0];
-    (n, (k != UNTOUCHED).then_some(k))
+    let mut key = UNTOUCHED;
+    let n = unsafe { catalogue_parse(text.as_ptr(), text.len(), &mut key) };
+    (n, put(key))
 }
 
 pub fn print(key: u64) -> (u64, [u8; 12]) {
@@ -67,4 +79,48 @@ pub fn print(key: u64) -> (u64, [u8; 12]) {
     let n = unsafe { catalogue_print(key, text[8..].as_mut_ptr()) };
     assert!(text[..8].iter().chain(&text[20..]).all(|&b| b == 0xa5), "a guard byte was written");
     (n, text[8..20].try_into().unwrap())
+}
+
+/// The number, the count and whether more were left where the call put them, and the slice after it.
+pub fn list(t: &[u64], low: u64, high: u64, out: &[u64]) -> (u64, Option<(u64, u64)>, Vec<u64>) {
+    let (mut table, mut slice) = (Lent::new(t), Lent::new(out));
+    let (mut pairs, mut more) = (UNTOUCHED, UNTOUCHED);
+    let n = unsafe { catalogue_list(table.pointer(), t.len(), low, high, slice.pointer(), out.len(), &mut pairs, &mut more) };
+    assert!(table.back() == t, "a listing wrote to the table");
+    (n, put(pairs).zip(put(more)), slice.back().to_vec())
+}
+
+/// What a write left: its number, its counts where it put them, the table and the order list.
+#[derive(Debug, PartialEq)]
+pub struct Wrote {
+    pub number: u64,
+    pub counts: Option<(u64, u64)>,
+    pub table: Vec<u64>,
+    pub list: Vec<u64>,
+}
+
+fn wrote(t: &[u64], list: &[u64], call: impl FnOnce(*mut u64, *mut u64, *mut u64, *mut u64) -> u64) -> Wrote {
+    let (mut table, mut orders) = (Lent::new(t), Lent::new(list));
+    let (mut stores, mut flushes) = (UNTOUCHED, UNTOUCHED);
+    let number = call(table.pointer(), orders.pointer(), &mut stores, &mut flushes);
+    Wrote { number, counts: put(stores).zip(put(flushes)), table: table.back().to_vec(), list: orders.back().to_vec() }
+}
+
+pub fn insert(t: &[u64], list: &[u64], key: u64, recording: u64) -> Wrote {
+    wrote(t, list, |a, b, s, f| unsafe { catalogue_insert(a, t.len(), b, list.len(), key, recording, s, f) })
+}
+
+pub fn delete(t: &[u64], list: &[u64], key: u64) -> Wrote {
+    wrote(t, list, |a, b, s, f| unsafe { catalogue_delete(a, t.len(), b, list.len(), key, s, f) })
+}
+
+pub fn repair(t: &[u64], list: &[u64]) -> Wrote {
+    wrote(t, list, |a, b, s, f| unsafe { catalogue_repair(a, t.len(), b, list.len(), s, f) })
+}
+
+pub fn carry_out(t: &[u64], list: &[u64], c: u64) -> (u64, Vec<u64>) {
+    let (mut table, mut orders) = (Lent::new(t), Lent::new(list));
+    let n = unsafe { catalogue_carry_out(table.pointer(), t.len(), orders.pointer(), list.len(), c) };
+    assert!(orders.back() == list, "carry-out wrote to the list");
+    (n, table.back().to_vec())
 }

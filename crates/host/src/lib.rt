@@ -6,6 +6,7 @@ use model::Parsed;
 ghost use mathlib.Core.Path.{_≡_};
 ghost use Rattle.model.specs.Codes.{parse, print, parsedNumber};
 ghost use Rattle.model.specs.Table.{making, made, outcomeNumber};
+ghost use Rattle.model.specs.Orders.{carryOut, carriedOut};
 ghost use Rattle.model.specs.Search.{search};
 ghost use Rattle.host.specs.Answers.{searchNumber, foundOr, keyOr};
 
@@ -58,4 +59,15 @@ pub extern "C" fn catalogue_print(key: u64, text: &mut [u8; 12]) -> u64
     let t = printed.text;
     *text = t;
     printed.number as u64
+}
+
+// 0, or 2 or 13.
+#[no_mangle]
+pub extern "C" fn catalogue_carry_out(table: &mut [u64], orders: &[u64], c: u64) -> u64
+    ensures { λ r. ⌜ (r ≡ outcomeNumber (carryOut c (now (orders .entry)) (now (table .entry)))) × (now (table .exit) ≡ carriedOut c (now (orders .entry)) (now (table .entry))) ⌝ }
+{
+    match carry::carry_out(table, orders, c) {
+        Outcome::Done => 0,
+        Outcome::Refused(n) => n as u64,
+    }
 }

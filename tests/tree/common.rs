@@ -1,0 +1,113 @@
+//! What the test programs share: failing with a script that reproduces, keys to ask for, tables grown and damaged.
+#![allow(dead_code)]
+use crate::reference::*;
+
+/// A check that failed says what and how to reproduce it, and ends the run.
+pub fn expect(ok: bool, seed: u64, t: &[u64], what: impl FnOnce() -> String) {
+    if !ok {
+        println!("FAILED: {}\nseed {seed}\ntable {t:?}", what());
+        std::process::exit(1);
+    }
+}
+
+/// Keys worth asking for: those in the table's words, their neighbours, and the ends.
+pub fn keys(t: &[u64], random: &mut Random) -> Vec<u64> {
+    let mut ks = vec![0, 1, MARK - 1, MARK];
+    for _ in 0..if t.is_empty() { 0 } else { 12 } {
+        let w = t[random.below(t.len() as u64) as usize];
+        ks.extend([w.wrapping_sub(1), w, w.wrapping_add(1)]);
+    }
+    ks
+}
+
+pub fn some_call(span: u64, random: &mut Random) -> Call {
+    let k = random.below(span);
+    match random.below(8) {
+        0 | 1 => Call::Delete(k),
+        2 if random.below(8) == 0 => Call::Repair,
+        _ => Call::Insert(k, if random.below(40) == 0 { [0, MARK][random.below(2) as usize] } else { 1 + random.below(1_000_000) }),
+    }
+}
+
+/// A table by random insertions and deletions, some of them cut off: settled, or with any leftover.
+pub fn grown(most: u64, random: &mut Random) -> Vec<u64> {
+    let n = 1 + random.below(most);
+    let mut t = make(n);
+    let span = [30, 200, MARK][random.below(3) as usize];
+    for _ in 0..random.below(14 * n) {
+        let call = some_call(span, random);
+        if let Ok(w) = write(&t, LIST_WORDS, call) {
+            let part = if random.below(8) == 0 { random.below(w.stores.len() as u64 + 1) as usize } else { w.stores.len() };
+            store(&mut t, &w.stores[..part]);
+        }
+    }
+    // Half the time a split is cut off in the middle.
+    for _ in 0..if random.below(2) == 0 { 30 } else { 0 } {
+        if let Ok(w) = write(&t, LIST_WORDS, Call::Insert(random.below(span), 1 + random.below(1_000_000))) {
+            if w.stores.len() > 30 {
+                store(&mut t, &w.stores[..random.below(w.stores.len() as u64) as usize]);
+                break;
+            }
+        }
+    }
+    t
+}
+
+pub fn store(t: &mut [u64], stores: &[(usize, u64)]) {
+    for &(w, x) in stores {
+        t[w] = x;
+    }
+}
+
+/// One to three words changed.
+pub fn damaged(t: &[u64], random: &mut Random) -> Vec<u64> {
+    let mut d = t.to_vec();
+    for _ in 0..1 + random.below(3) {
+        let w = random.below(d.len() as u64) as usize;
+        d[w] = match random.below(8) {
+            0 => 0,
+            1 => MARK,
+            2 => random.below(d[2].wrapping_add(2).max(1)),
+            3 => d[random.below(d.len() as u64) as usize],
+            4 => d[w].wrapping_add(1),
+            5 => d[w].wrapping_sub(1),
+            6 => random.below(20),
+            _ => random.next(),
+        };
+    }
+    d
+}
+
+/// Any words of a length; mostly with a right header, so that the calls look further.
+pub fn any_words(len: usize, random: &mut Random) -> Vec<u64> {
+    let most = [1, 4, 40, MARK][random.below(4) as usize];
+    let mut t: Vec<u64> = (0..len).map(|_| random.below(most)).collect();
+    if let Some(n) = nodes_for(len).filter(|_| most > 1) {
+        t[..8].copy_from_slice(&[1, 1 + random.below(n), n, 0, 0, 0, 0, 0]);
+    }
+    t
+}
+
+pub fn kind(leftover: Leftover) -> usize {
+    match leftover {
+        Leftover::Nothing => 0,
+        Leftover::Hidden { .. } => 1,
+        Leftover::Missing { trailing: false, .. } => 2,
+        Leftover::Missing { trailing: true, .. } => 3,
+        Leftover::Both { .. } => 4,
+    }
+}
+
+/// Every leftover was met, so that the test says something of each.
+pub fn all_met(kinds: &[u64; 5], seed: u64) {
+    println!("tables: settled {}, (a) {}, (b) {}, (b) with trailing slots {}, (c) {}", kinds[0], kinds[1], kinds[2], kinds[3], kinds[4]);
+    expect(kinds.iter().all(|&n| n > 0), seed, &[], || "a leftover was not met".into());
+}
+
+/// Seed and size of a run, from the command line.
+pub fn arguments(default: u64) -> (u64, u64) {
+    let number = |i, other| std::env::args().nth(i).map_or(other, |s: String| s.parse().expect("a number"));
+    let (seed, size) = (number(1, 20261115), number(2, default));
+    println!("seed {seed}, size {size}");
+    (seed, size)
+}

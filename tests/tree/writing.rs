@@ -1,0 +1,135 @@
+//! Long random scripts of writes against the reference: answers, tables word by word, order lists order by order, carry-out; and damaged
+//! tables, where nothing may change on a refusal.
+mod calls;
+mod common;
+mod reference;
+
+use calls::Wrote;
+use common::*;
+use reference::*;
+
+/// What a call must leave, by the reference.
+fn wanted(t: &[u64], list: &[u64], call: Call) -> (Wrote, Vec<Order>) {
+    match write(t, list.len(), call) {
+        Err(number) => (Wrote { number, counts: None, table: t.to_vec(), list: list.to_vec() }, vec![]),
+        Ok(w) => {
+            let os = orders(&w.stores);
+            let mut words = list.to_vec();
+            let listed = encode(&os);
+            words[..listed.len()].copy_from_slice(&listed);
+            let stores = w.stores.len() as u64;
+            (Wrote { number: 0, counts: Some((stores, os.len() as u64 - stores)), table: w.t, list: words }, os)
+        }
+    }
+}
+
+fn called(t: &[u64], list: &[u64], call: Call) -> Wrote {
+    match call {
+        Call::Insert(k, r) => calls::insert(t, list, k, r),
+        Call::Delete(k) => calls::delete(t, list, k),
+        Call::Repair => calls::repair(t, list),
+    }
+}
+
+/// The call's answer, table and list are the reference's; its orders.
+fn same_write(t: &[u64], list: &[u64], call: Call, seed: u64) -> (Wrote, Vec<Order>) {
+    let (want, os) = wanted(t, list, call);
+    let got = called(t, list, call);
+    expect(got == want, seed, t, || {
+        format!("{call:?} with {} words for orders: wanted {:?} {:?}, got {:?} {:?}; first orders {:?}", list.len(), want.number, want.counts, got.number, got.counts, &got.list[..got.list.len().min(40)])
+    });
+    (want, os)
+}
+
+fn main() {
+    let (seed, size) = arguments(200_000);
+    let mut random = Random(seed);
+    let mut passed = 0;
+
+    // The unstarred worked line: recording 0 returns 6; 1 is taken.
+    let blank = vec![0; LIST_WORDS];
+    expect(calls::insert(&make(1), &blank, 5, 0).number == 6, seed, &[], || "recording 0".into());
+    expect(calls::insert(&make(1), &blank, 5, 1).number == 0, seed, &[], || "recording 1".into());
+    passed += 1;
+
+    // Scripts from empty tables; the list keeps what earlier calls left in it; memory follows by carry-out.
+    let mut numbers = [0u64; 14];
+    let mut done = 0;
+    while done < size {
+        let n = 1 + match random.below(40) {
+            0 => random.below(300),
+            1..=9 => random.below(40),
+            _ => random.below(8),
+        };
+        let span = [8, 60, 40 * n, MARK][random.below(4) as usize];
+        let mut working = make(n);
+        let mut memory = working.clone();
+        let mut list = vec![0; LIST_WORDS + random.below(3) as usize];
+        for _ in 0..20 + random.below(20 * n.min(60)) {
+            let short = random.below(60) == 0;
+            let lent = if short { list[..random.below(LIST_WORDS as u64) as usize].to_vec() } else { list.clone() };
+            let call = some_call(span, &mut random);
+            let (after, os) = same_write(&working, &lent, call, seed);
+            numbers[after.number as usize] += 1;
+            done += 1;
+            if after.number == 0 {
+                let c = after.counts.map_or(0, |(s, f)| s + f);
+                let carried = calls::carry_out(&memory, &after.list, c);
+                expect(carried == (0, after.table.clone()), seed, &memory, || format!("carry-out of {call:?}"));
+                let part = random.below(os.len() as u64 + 1);
+                let cut = calls::carry_out(&memory, &after.list, part);
+                let want = carry_out(&memory, &after.list, part);
+                expect(Ok(cut.1.clone()) == want && cut.0 == 0, seed, &memory, || format!("carry-out of the first {part} orders of {call:?}"));
+                working = after.table;
+                memory = carried.1;
+                list = after.list;
+            }
+        }
+    }
+    println!("calls {done}; by number: {numbers:?}");
+    expect([0, 5, 6, 7, 8, 9, 10].iter().all(|&n: &usize| numbers[n] > 0), seed, &[], || "a number was not met".into());
+    passed += 1;
+
+    // Tables with every leftover, whole and damaged, and any words: each call as the reference, nothing changed on refusal.
+    let mut kinds = [0; 5];
+    for i in 0..size / 40 {
+        let t = grown(if i % 50 == 0 { 60 } else { 9 }, &mut random);
+        kinds[kind(judge(&t).expect("a grown table is sound").leftover)] += 1;
+        let list: Vec<u64> = (0..LIST_WORDS as u64).collect();
+        let mut tables = vec![t.clone()];
+        tables.extend((0..6).map(|_| damaged(&t, &mut random)));
+        tables.push(any_words(random.below(400) as usize, &mut random));
+        for d in tables {
+            let ks = keys(&d, &mut random);
+            let k = ks[random.below(ks.len() as u64) as usize];
+            for call in [Call::Repair, Call::Delete(k), Call::Insert(k, 1 + random.below(1_000_000)), Call::Insert(random.next(), k)] {
+                same_write(&d, &list, call, seed);
+            }
+        }
+    }
+    all_met(&kinds, seed);
+    passed += 1;
+
+    // Carry-out of any words.
+    for _ in 0..size {
+        let (a, b) = (random.below(120) as usize, random.below(24) as usize);
+        let t = any_words(a, &mut random);
+        let mut list: Vec<u64> = (0..b).map(|_| random.below(2 * t.len() as u64 + 2)).collect();
+        for w in list.iter_mut().step_by(2) {
+            if random.below(3) == 0 {
+                *w = MARK;
+            }
+        }
+        let c = if random.below(20) == 0 { random.next() } else { random.below(b as u64 + 1) };
+        let got = calls::carry_out(&t, &list, c);
+        let want = carry_out(&t, &list, c);
+        let right = match &want {
+            Ok(after) => got == (0, after.clone()),
+            Err(n) => got == (*n, t.clone()),
+        };
+        expect(right, seed, &t, || format!("carry-out of {c} orders of {list:?}: wanted {want:?}, got {got:?}"));
+    }
+    passed += 1;
+
+    println!("{passed} passed, 0 failed");
+}
