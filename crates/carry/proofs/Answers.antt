@@ -1,6 +1,6 @@
 -- What carry-out answers and leaves, from the tests in their order.
 use mathlib.Core.Path.{_≡_, refl, sym, _∙_}
-use mathlib.Core.Bool.{Bool, true, false, cond, _&&_}
+use mathlib.Core.Bool.{Bool, true, false, _&&_}
 use Prim.Native.Nat.{ℕ, _/_, _≤_, _<_}
 use native.Mathlib.Nat.{sub-zero}
 use lib.Dec.{leb}

@@ -1,17 +1,17 @@
 -- Orders taken one by one: the next of the first c, and the end.
 use mathlib.Core.Path.{_≡_, refl, ap, sym, _∙_}
-use mathlib.Core.Bool.{Bool, true, false, cond, _&&_}
-use mathlib.Core.List.{List, [], _∷_, _++_}
+use mathlib.Core.Bool.{Bool, true, false, _&&_}
+use mathlib.Core.List.{List, [], _∷_}
 use Prim.Native.Nat.{ℕ, zero, suc, _+_, _-_, _*_, _/_, _≤_, _<_}
 use native.Mathlib.Numerals.{add-one}
 use native.Mathlib.Omega.{arith}
 use lib.Dec.{ltb}
 use borrow.Author.Tests.{eq-eqb, ne-eqb, ltb-true}
-use lib.ListN.{length, take, drop, set}
+use lib.ListN.{length, drop, set}
 use Rattle.list_laws.proofs.Tools.{and-iff}
 use Rattle.cut_laws.proofs.Applying.{carry-append}
 use Rattle.model.specs.Table.{MARK, Words, at}
-use Rattle.model.specs.Orders.{Order, store, flush, orderOf, decode, inside, allInside, carry}
+use Rattle.model.specs.Orders.{Order, orderOf, decode, inside, allInside, carry}
 use Rattle.carry.specs.Firsts.{firsts}
 
 double-suc : (i : ℕ) → 2 * suc i ≡ suc (suc (2 * i))

@@ -5,13 +5,14 @@ use Rattle.model.specs.declared.Answer.{Answer}
 use Rattle.model.specs.declared.Answer.the-variants.{Found, Absent, Refused}
 use Rattle.model.specs.declared.Outcome.{Outcome}
 use Rattle.model.specs.declared.Parsed.{Parsed}
-use Rattle.model.specs.Codes.{parsedNumber}
+use Rattle.model.specs.Codes.{parsedNumber, keyOr}
 use Rattle.model.specs.Table.{outcomeNumber}
-use Rattle.host.specs.Answers.{searchNumber, foundOr, keyOr}
+use Rattle.model.specs.Search.{recordingOr}
+use Rattle.host.specs.Answers.{searchNumber}
 
 -- an answer that is this one has its number, and puts its word
-pub answered : (x y : Answer) (old : ℕ) → x ≡ y → (searchNumber y ≡ searchNumber x) × (foundOr y old ≡ foundOr x old)
-answered x y old e = (sym (ap searchNumber e), sym (ap (λ (z : Answer). foundOr z old) e))
+pub answered : (x y : Answer) (old : ℕ) → x ≡ y → (searchNumber y ≡ searchNumber x) × (recordingOr y old ≡ recordingOr x old)
+answered x y old e = (sym (ap searchNumber e), sym (ap (λ (z : Answer). recordingOr z old) e))
 
 pub come-out : (x y : Outcome) → x ≡ y → outcomeNumber y ≡ outcomeNumber x
 come-out x y e = sym (ap outcomeNumber e)

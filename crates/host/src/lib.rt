@@ -4,11 +4,11 @@ use model::Answer;
 use model::Outcome;
 use model::Parsed;
 ghost use mathlib.Core.Path.{_≡_};
-ghost use Rattle.model.specs.Codes.{parse, print, parsedNumber};
+ghost use Rattle.model.specs.Codes.{parse, print, parsedNumber, keyOr};
 ghost use Rattle.model.specs.Table.{making, made, outcomeNumber};
 ghost use Rattle.model.specs.Orders.{carryOut, carriedOut};
-ghost use Rattle.model.specs.Search.{search};
-ghost use Rattle.host.specs.Answers.{searchNumber, foundOr, keyOr};
+ghost use Rattle.model.specs.Search.{search, recordingOr};
+ghost use Rattle.host.specs.Answers.{searchNumber};
 
 // 0, or 2.
 #[no_mangle]
@@ -24,7 +24,7 @@ pub extern "C" fn catalogue_make(table: &mut [u64]) -> u64
 // 0 and the recording where the key is found, 255 where it is absent, else 2 or 3.
 #[no_mangle]
 pub extern "C" fn catalogue_search(table: &[u64], key: u64, recording: &mut u64) -> u64
-    ensures { λ r. ⌜ (r ≡ searchNumber (search (now (table .entry)) key)) × (now (recording .exit) ≡ foundOr (search (now (table .entry)) key) (now (recording .entry))) ⌝ }
+    ensures { λ r. ⌜ (r ≡ searchNumber (search (now (table .entry)) key)) × (now (recording .exit) ≡ recordingOr (search (now (table .entry)) key) (now (recording .entry))) ⌝ }
 {
     match search::search(table, key) {
         Answer::Found(r) => {

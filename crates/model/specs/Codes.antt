@@ -70,3 +70,8 @@ print k = cond (hasCode k) (record { number = 0; text = spelling k }) (record { 
 abbrev pub parsedNumber : Parsed → ℕ
 parsedNumber (Key k) = 0
 parsedNumber (Refused n) = n
+
+-- the key that a lent word then holds; it stays where there is none
+abbrev pub keyOr : Parsed → ℕ → ℕ
+keyOr (Key k) old = k
+keyOr (Refused n) old = old

@@ -46,3 +46,12 @@ listOut t low high out = elim (sound t) [ true ↦ listedWords (inRangeOf low hi
 abbrev pub listedNumber : Listed → ℕ
 listedNumber (Pairs count more) = 0
 listedNumber (Refused n) = n
+
+-- the count, and 1 where more were left, 0 where not, that lent words then hold; they stay where there is none
+abbrev pub countOr : Listed → ℕ → ℕ
+countOr (Pairs count more) old = count
+countOr (Refused n) old = old
+
+abbrev pub moreOr : Listed → ℕ → ℕ
+moreOr (Pairs count more) old = cond more 1 0
+moreOr (Refused n) old = old

@@ -113,3 +113,12 @@ writtenNumber (Refused n) = n
 abbrev pub ordersAnswered : Written → ℕ
 ordersAnswered (Done stores flushes) = stores + flushes
 ordersAnswered (Refused n) = 0
+
+-- the two counts that lent words then hold; they stay where there is none
+abbrev pub storesOr : Written → ℕ → ℕ
+storesOr (Done stores flushes) old = stores
+storesOr (Refused n) old = old
+
+abbrev pub flushesOr : Written → ℕ → ℕ
+flushesOr (Done stores flushes) old = flushes
+flushesOr (Refused n) old = old

@@ -79,8 +79,14 @@ searchView v k = elim (leb (height v) 15) [ true ↦ answerIn v k (locate v (hei
 unfoldable pub search : Words → ℕ → Answer
 search t k = elim (headerOk t) [ true ↦ searchView (view t) k | false ↦ Refused 2 ]
 
--- Document 01's number for each case: 0 for found and absent. And the recording, where there is one.
+-- Document 01's number for each case: 0 for found and absent.
 abbrev pub answerNumber : Answer → ℕ
 answerNumber (Found r) = 0
 answerNumber Absent = 0
 answerNumber (Refused n) = n
+
+-- the recording that a lent word then holds; it stays where there is none
+abbrev pub recordingOr : Answer → ℕ → ℕ
+recordingOr (Found r) old = r
+recordingOr Absent old = old
+recordingOr (Refused n) old = old

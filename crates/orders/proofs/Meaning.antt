@@ -1,18 +1,16 @@
 -- What a finished desk holds: the stores applied, their orders in the lent list, and the two counts.
-use mathlib.Core.Path.{_≡_, refl, sym, ap, _∙_}
+use mathlib.Core.Path.{_≡_, refl, sym, _∙_}
 use mathlib.Core.List.{List, [], _∷_, _++_, append-nil}
-use mathlib.Core.Option.{Option, none, some}
-use Prim.Native.Nat.{ℕ, suc, _+_, _*_, _≤_}
+use Prim.Native.Nat.{_+_, _*_, _≤_}
 use native.Mathlib.Omega.{arith}
 use lib.ListN.{length, length-append}
 use lib.Seq.{append-snoc}
 use Rattle.model.specs.Table.{Words}
 use Rattle.model.specs.Orders.{Store, Order, store, flush, apply, carry, orders, storeCount, flushCount, listWith}
-use Rattle.cut_laws.specs.Growing.{added, openAfter, closing}
 use Rattle.cut_laws.proofs.Applying.{carry-append, storeCount-append, flushCount-append}
 use Rattle.cut_laws.proofs.FlushRule.{orders-closed, orders-apply}
 use Rattle.cut_laws.proofs.Lent.{StoresInside, listWith-nil, listWith-store, listWith-flush}
-use Rattle.orders.specs.Desk.{Desk, start, openAt, noted, notedAll, storedAll, finished, Room}
+use Rattle.orders.specs.Desk.{Desk, start, noted, notedAll, storedAll, finished, Room}
 use Rattle.orders.proofs.Steps.{notedAll-append, storedAll-noted, storedAll-open}
 
 -- the desk holds these orders, begun on table t and the lent list

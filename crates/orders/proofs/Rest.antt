@@ -1,9 +1,9 @@
 -- Stores that are left to make on a desk, as a routine goes on: one made, some made, all made.
-use mathlib.Core.Path.{_≡_, refl, sym, ap, _∙_}
+use mathlib.Core.Path.{_≡_, refl, sym, _∙_}
 use mathlib.Core.List.{List, [], _∷_, _++_}
 use Rattle.model.specs.Orders.{Store}
 use Rattle.orders.specs.Desk.{Desk, stored, storedAll, Room}
-use Rattle.orders.proofs.Steps.{storedAll-append, storedAll-nil}
+use Rattle.orders.proofs.Steps.{storedAll-append}
 use Rattle.orders.proofs.Rooms.{room-append, room-cons}
 
 -- there is room for the stores, and they lead to desk x

@@ -1,18 +1,17 @@
 -- Room for stores: for lists in a row, for the first of them, and what it says of the lengths.
-use mathlib.Core.Path.{_≡_, refl, sym, ap, _∙_}
+use mathlib.Core.Path.{_≡_}
 use mathlib.Core.Logic.{_↔_}
-use mathlib.Core.List.{List, [], _∷_, _++_, append-nil}
+use mathlib.Core.List.{List, [], _∷_, _++_}
 use mathlib.Core.Option.{Option, none, some}
-use Prim.Native.Nat.{ℕ, suc, _+_, _*_, _≤_}
+use Prim.Native.Nat.{ℕ, _+_, _*_, _≤_}
 use native.Mathlib.Omega.{arith}
 use lib.ListN.{length, length-append}
-use Rattle.list_laws.proofs.Tools.{Each, Each-append, Each-split}
+use Rattle.list_laws.proofs.Tools.{Each-append, Each-split}
 use Rattle.model.specs.Table.{line}
-use Rattle.model.specs.Orders.{Store, Order, store, flush}
+use Rattle.model.specs.Orders.{Store, store}
 use Rattle.cut_laws.specs.Growing.{due, added, openAfter, closing}
 use Rattle.cut_laws.proofs.FlushRule.{added-append, openAfter-append}
-use Rattle.cut_laws.proofs.Lent.{StoresInside}
-use Rattle.orders.specs.Desk.{Desk, openAt, notedAll, stored, storedAll, closed, Room}
+use Rattle.orders.specs.Desk.{Desk, openAt, stored, storedAll, closed, Room}
 use Rattle.orders.proofs.Steps.{noted-at, noted-list-length, noted-table-length, noted-counts, storedAll-noted, storedAll-open}
 
 -- ---- what stores leave: the place, lengths, counts

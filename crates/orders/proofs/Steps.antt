@@ -1,17 +1,17 @@
 -- The desk after orders and after stores: lists in a row, the place, the open line, lengths and counts.
 use mathlib.Core.Path.{_≡_, refl, sym, ap, _∙_}
 use mathlib.Core.List.{List, [], _∷_, _++_}
-use mathlib.Core.Option.{Option, none, some}
-use Prim.Native.Nat.{ℕ, suc, _+_, _*_, _≤_}
+use mathlib.Core.Option.{Option, some}
+use Prim.Native.Nat.{ℕ, _+_, _*_}
 use native.Mathlib.Numerals.{add-one}
 use native.Mathlib.Omega.{arith}
-use lib.ListN.{length, length-set, length-append}
+use lib.ListN.{length, length-set}
 use Rattle.model.specs.Table.{line}
 use Rattle.model.specs.Orders.{Store, Order, store, flush, apply, carry}
 use Rattle.cut_laws.specs.Growing.{due, added, openAfter}
 use Rattle.cut_laws.proofs.Applying.{carry-stores, length-carry}
 use Rattle.cut_laws.proofs.FlushRule.{added-stores}
-use Rattle.orders.specs.Desk.{Desk, openOf, openAt, noted, notedAll, stored, storedAll}
+use Rattle.orders.specs.Desk.{Desk, openAt, noted, notedAll, stored, storedAll}
 
 pub notedAll-append : (a b : List Order) (d : Desk) → notedAll (a ++ b) d ≡ notedAll b (notedAll a d)
 unfolding notedAll

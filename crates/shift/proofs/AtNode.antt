@@ -1,14 +1,14 @@
 -- The shifts of a node of the table, as those of the record read from it.
-use mathlib.Core.Path.{_≡_, refl, ap, sym, _∙_}
+use mathlib.Core.Path.{_≡_, refl, ap, _∙_}
 use mathlib.Core.Bool.{Bool, true, false}
 use mathlib.Core.List.{List, [], _∷_, map}
-use Prim.Native.Nat.{ℕ, suc, _+_, _≤_}
+use Prim.Native.Nat.{ℕ, _+_, _≤_}
 use native.Mathlib.Omega.{arith}
 use lib.Dec.{eqb}
 use lib.ListN.{length}
 use Rattle.model.specs.declared.Node.{Node}
 use Rattle.model.specs.Table.{Words, nodeStart, hasNode, node}
-use Rattle.model.specs.Slots.{Slot, inUse, shown, hidden, used, view}
+use Rattle.model.specs.Slots.{Slot, shown, hidden, used, view}
 use Rattle.model.specs.Shifts.{SlotStore, keyTo, pointerTo, inNode, placeOf, hiddenPlace}
 use Rattle.model.specs.Writes.{shiftInAt, shiftOutAt, closeAt, cutOff, attach}
 use Rattle.node.specs.Word.{startOf, wordOf}

@@ -1,5 +1,5 @@
 -- The slots in use of a node's slot words: one by one, from a slot on, and as words.
-use mathlib.Core.Path.{_≡_, refl, ap, sym, _∙_, subst}
+use mathlib.Core.Path.{_≡_, refl, ap, sym, _∙_}
 use mathlib.Core.Bool.{Bool, true, false}
 use mathlib.Core.List.{List, [], _∷_, _++_}
 use Prim.Native.Nat.{ℕ, zero, suc, _+_, _-_, _*_, _<_, _≤_}
@@ -9,7 +9,7 @@ use native.Mathlib.Nat.{add-zero}
 use lib.Seq.{getD-drop, take-suc}
 use lib.Dec.{eqb, ltb}
 use lib.ListN.{length, getD, take, drop, length-drop}
-use borrow.Author.Tests.{eq-eqb, ne-eqb, eqb-true, eqb-false, lt-ltb, le-ltb}
+use borrow.Author.Tests.{eq-eqb, ne-eqb, lt-ltb, le-ltb}
 use Rattle.model.specs.Table.{Words, at}
 use Rattle.model.specs.Slots.{Slot, slot, slotsOf, inUse}
 use Rattle.model.specs.Shifts.{lastPointer, placeOf, hiddenPlace}

@@ -1,15 +1,15 @@
 -- The moves that make and close a gap, slot by slot.
-use mathlib.Core.Path.{_≡_, refl, ap, sym, _∙_}
+use mathlib.Core.Path.{_≡_}
 use mathlib.Core.List.{List, [], _∷_, _++_, map}
-use Prim.Native.Nat.{ℕ, zero, suc, _+_, _-_, _*_, _<_, _≤_}
+use Prim.Native.Nat.{ℕ, suc, _+_, _-_, _*_, _<_, _≤_}
 use native.Mathlib.Numerals.{add-one}
 use native.Mathlib.Omega.{arith}
-use lib.ListN.{length, getD, take, drop, length-take, length-drop, drop-of-length-le}
+use lib.ListN.{length, take, drop, length-drop, drop-of-length-le}
 use lib.Seq.{getD-drop, take-suc, take-all, length-take-le}
 use Rattle.model.specs.Table.{Words, at}
 use Rattle.model.specs.Slots.{Slot, slot}
 use Rattle.model.specs.Orders.{Store}
-use Rattle.model.specs.Shifts.{SlotStore, keyTo, pointerTo, moveUp, moveDown}
+use Rattle.model.specs.Shifts.{keyTo, pointerTo, moveUp, moveDown}
 use Rattle.shift.specs.Stores.{inUseOf, inFrom, movesUp, movesDown}
 use Rattle.shift.proofs.InUse.{in-use-cons, in-use-at}
 

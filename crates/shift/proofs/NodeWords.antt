@@ -1,17 +1,17 @@
 -- The 32 words of a node: filled from slot words one by one, and stored one by one.
-use mathlib.Core.Path.{_≡_, refl, ap, sym, _∙_}
-use mathlib.Core.List.{List, [], _∷_, _++_, append-assoc}
+use mathlib.Core.Path.{_≡_, refl, ap, _∙_}
+use mathlib.Core.List.{[], _∷_, _++_, append-assoc}
 use Prim.Native.Nat.{ℕ, zero, suc, _+_, _-_, _*_, _<_, _≤_}
 use native.Mathlib.Numerals.{add-one}
 use native.Mathlib.Nat.{add-suc}
 use native.Mathlib.Omega.{arith}
-use lib.ListN.{length, getD, take, drop, set, replicate, length-append, length-drop, length-take, drop-of-length-le}
-use lib.Seq.{drop-cons, take-suc, take-all, take-at, set-at, append-snoc, getD-drop, length-take-le}
+use lib.ListN.{length, take, drop, set, replicate, length-append, length-drop, drop-of-length-le}
+use lib.Seq.{drop-cons, take-suc, take-all, set-at, append-snoc, getD-drop, length-take-le}
 use Rattle.cut_laws.proofs.Applying.{take-append}
 use Rattle.table_laws.proofs.Words.{take-replicate}
 use Rattle.model.specs.Table.{Words, at}
-use Rattle.model.specs.Slots.{Slot, slot}
-use Rattle.model.specs.Orders.{Store, put}
+use Rattle.model.specs.Slots.{slot}
+use Rattle.model.specs.Orders.{put}
 use Rattle.model.specs.Listing.{pairWords}
 use Rattle.model.specs.Writes.{putAll, nodeWords}
 use Rattle.shift.specs.Stores.{inUseOf}

@@ -1,24 +1,27 @@
 -- A shift in, a shift out and a close, step by step on a desk; and the shifts of a node of the table as those of its record.
-use mathlib.Core.Path.{_≡_, refl, ap, sym, _∙_}
-use mathlib.Core.List.{List, [], _∷_, _++_, map, map-append}
-use Prim.Native.Nat.{ℕ, suc, pred, _+_}
+use mathlib.Core.Path.{_≡_}
+use mathlib.Core.List.{[], _∷_, _++_, map-append}
+use Prim.Native.Nat.{ℕ, pred, _+_}
 use native.Mathlib.Numerals.{add-one}
-use native.Mathlib.Omega.{arith}
-use lib.ListN.{length, take, drop}
+use lib.ListN.{length, take}
 use Rattle.model.specs.declared.Node.{Node}
 use Rattle.model.specs.Table.{Words}
-use Rattle.model.specs.Orders.{Store}
 use Rattle.model.specs.Shifts.{keyTo, pointerTo, lastPointer, shiftIn, shiftOut, close, placeOf}
 use Rattle.orders.specs.Desk.{Desk, stored, storedAll, Room}
 use Rattle.orders.proofs.Rest.{Rest, rest-start, rest-same, rest-one, rest-next, rest-first, rest-after, rest-none, rest-all}
 use Rattle.shift.specs.Stores.{inUseOf, inFrom, movesUp, movesDown, slotIn, slotOut, gapClosed}
 
+-- what the code has found of key k in a record: its place p, and the pointer b before that
+pub record Gauged (n : Node) (k p b : ℕ) : Type 0 where
+  pub place : p ≡ placeOf k (inUseOf (n .slots))
+  pub pointer : b ≡ lastPointer (n .left) (take p (inUseOf (n .slots)))
+
 -- ---- shift in: a store, the moves, three stores
 
-module _ (w : ℕ) (n : Node) (k x p m b : ℕ) (ep : p ≡ placeOf k (inUseOf (n .slots))) (em : m ≡ length (inUseOf (n .slots))) (eb : b ≡ lastPointer (n .left) (take p (inUseOf (n .slots)))) (d : Desk) (r : Room (slotIn w n k x) d) where
+module _ (w : ℕ) (n : Node) (k x p m b : ℕ) (c : Gauged n k p b) (em : m ≡ length (inUseOf (n .slots))) (d : Desk) (r : Room (slotIn w n k x) d) where
   in-steps : slotIn w n k x ≡ inFrom w (pointerTo (m + 1) 0) ∷ (movesUp w (n .slots) p ++ (inFrom w (pointerTo p b) ∷ inFrom w (keyTo p k) ∷ inFrom w (pointerTo p x) ∷ []))
   unfolding slotIn shiftIn
-  in-steps = rw (eb, em, ep, add-one, map-append)
+  in-steps = rw (c .pointer, em, c .place, add-one, map-append)
 
   in₀ : Rest (inFrom w (pointerTo (m + 1) 0) ∷ (movesUp w (n .slots) p ++ (inFrom w (pointerTo p b) ∷ inFrom w (keyTo p k) ∷ inFrom w (pointerTo p x) ∷ []))) d (storedAll (slotIn w n k x) d)
   in₀ = rest-same _ _ _ _ in-steps (rest-start _ d r)
@@ -82,10 +85,10 @@ module _ (w : ℕ) (ws : Words) (p m : ℕ) (em : m ≡ pred (length (inUseOf ws
 
 -- ---- shift out: a store, the gap closed
 
-module _ (w : ℕ) (n : Node) (k p b : ℕ) (ep : p ≡ placeOf k (inUseOf (n .slots))) (eb : b ≡ lastPointer (n .left) (take p (inUseOf (n .slots)))) (d : Desk) (r : Room (slotOut w n k) d) where
+module _ (w : ℕ) (n : Node) (k p b : ℕ) (c : Gauged n k p b) (d : Desk) (r : Room (slotOut w n k) d) where
   out-steps : slotOut w n k ≡ inFrom w (pointerTo p b) ∷ gapClosed w (n .slots) p
   unfolding slotOut shiftOut gapClosed
-  out-steps = rw (eb, ep)
+  out-steps = rw (c .pointer, c .place)
 
   out₀ : Rest (inFrom w (pointerTo p b) ∷ gapClosed w (n .slots) p) d (storedAll (slotOut w n k) d)
   out₀ = rest-same _ _ _ _ out-steps (rest-start _ d r)

@@ -1,17 +1,17 @@
 -- Split and new root, step by step on a desk.
-use mathlib.Core.Path.{_≡_, refl, ap, sym, _∙_}
-use mathlib.Core.Bool.{Bool, true, false, cond}
-use mathlib.Core.List.{List, [], _∷_, _++_}
-use Prim.Native.Nat.{ℕ, suc, _+_, _*_, _≤_, _<_}
+use mathlib.Core.Path.{_≡_, refl, ap, _∙_}
+use mathlib.Core.Bool.{Bool, true, false}
+use mathlib.Core.List.{[], _∷_, _++_}
+use Prim.Native.Nat.{ℕ, _+_, _≤_}
 use native.Mathlib.Numerals.{add-one}
 use native.Mathlib.Omega.{arith}
 use lib.Dec.{eqb}
-use lib.ListN.{length, getD, drop, set, replicate}
+use lib.ListN.{length, drop, set, replicate}
 use borrow.Author.Tests.{eq-eqb, ne-eqb}
 use Rattle.model.specs.declared.Node.{Node}
-use Rattle.model.specs.Table.{MARK, Words, at, root, nodeStart, hasNode, node}
+use Rattle.model.specs.Table.{MARK, Words, at, root, hasNode, node}
 use Rattle.model.specs.Slots.{Slot, slot, view, height}
-use Rattle.model.specs.Orders.{Store, put}
+use Rattle.model.specs.Orders.{put}
 use Rattle.model.specs.Shifts.{pointerTo}
 use Rattle.model.specs.Listing.{pairWords}
 use Rattle.model.specs.Writes.{fresh, putAll, nodeWords, middle, splitWords, split, newRoot}

@@ -1,6 +1,6 @@
 -- `shift::hidden_place` meets its contract. The loop's invariant: what the slots from i on count, and i, make the whole.
 use Prim.Native.Nat.{_+_, _-_, _≤_}
-use mathlib.Core.Path.{_≡_, refl, ap, _∙_}
+use mathlib.Core.Path.{_≡_, ap, _∙_}
 use native.Mathlib.Omega.{arith}
 use lib.ListN.{length}
 use Rattle.shift.specs.Stores.{inUseOf}

@@ -1,6 +1,6 @@
 -- `shift::move_down` meets its contract. The loop's invariant: the moves from slot i on are left, and lead to what all of them lead to.
-use Prim.Native.Nat.{_+_, _-_, _≤_}
-use mathlib.Core.Path.{_≡_, refl, sym, ap, _∙_}
+use Prim.Native.Nat.{_-_, _≤_}
+use mathlib.Core.Path.{_≡_, refl}
 use native.Mathlib.Omega.{arith}
 use lib.ListN.{length}
 use Rattle.orders.specs.Desk.{desk, storedAll}

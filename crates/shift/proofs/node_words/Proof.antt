@@ -1,5 +1,5 @@
 -- `shift::node_words` meets its contract. The loop's invariant: the first j slot words from slot `from` on are in place, the others are 0.
-use Prim.Native.Nat.{_+_, _-_, _*_, _≤_}
+use Prim.Native.Nat.{_-_, _*_, _≤_}
 use mathlib.Core.Path.{_≡_, refl}
 use native.Mathlib.Omega.{arith}
 use lib.ListN.{length, drop}

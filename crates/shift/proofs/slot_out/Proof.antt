@@ -2,10 +2,13 @@
 use native.Mathlib.Omega.{arith}
 use Rattle.shift.specs.Stores.{inUseOf}
 use Rattle.shift.proofs.InUse.{place-within}
-use Rattle.shift.proofs.Shifting.{out-first, out-rest, out-done}
+use Rattle.shift.proofs.Shifting.{Gauged, out-first, out-rest, out-done}
 use borrow.Author.Needs.{needs}
 use Rattle.shift.proofs.slot_out.Statement.{statement}
 use Rattle.shift.proofs.slot_out.Tie as tie
+
+gauged : (c : tie.After-pointer-before) → Gauged (c .before .before .before .before .before .args .n) (c .before .before .before .before .before .args .k) (c .before .place .result) (c .pointer-before .result)
+gauged c = record { place = c .before .place .ensures .0; pointer = c .pointer-before .ensures }
 
 place-requires : tie.Need-place-requires
 place-requires c κs = search needs
@@ -20,7 +23,7 @@ put-pointer-requires c κs =
     let after-pointer-before = c .before .before in
     let after-place = after-pointer-before .before in
     let entry = after-place .before .before .before .before in
-    (omega (arith, after-place .place .ensures .1), (omega arith, out-first _ (entry .args .n) _ _ _ (after-place .place .ensures .0) (after-pointer-before .pointer-before .ensures) _ (entry .pre .1)))
+    (omega (arith, after-place .place .ensures .1), (omega arith, out-first _ _ _ _ _ (gauged after-pointer-before) _ (entry .pre .1)))
 
 close-gap-requires : tie.Need-close-gap-requires
 close-gap-requires c κs =
@@ -28,7 +31,7 @@ close-gap-requires c κs =
     let after-pointer-before = after-put-pointer .before .before .before in
     let after-place = after-pointer-before .before in
     let entry = after-place .before .before .before .before in
-    (omega arith, (omega (arith, after-place .place .ensures .1), out-rest _ (entry .args .n) _ _ _ (after-place .place .ensures .0) (after-pointer-before .pointer-before .ensures) _ (entry .pre .1) _ (after-put-pointer .put-pointer .ensures)))
+    (omega arith, (omega (arith, after-place .place .ensures .1), out-rest _ _ _ _ _ (gauged after-pointer-before) _ (entry .pre .1) _ (after-put-pointer .put-pointer .ensures)))
 
 same-length : tie.Need-same-length
 same-length c = search needs
@@ -41,9 +44,8 @@ returns c =
     let after-close-gap = c .before .before .before .before in
     let after-put-pointer = after-close-gap .before .before .before .before .before .before .before in
     let after-pointer-before = after-put-pointer .before .before .before in
-    let after-place = after-pointer-before .before in
-    let entry = after-place .before .before .before .before in
-    out-done _ (entry .args .n) _ _ _ (after-place .place .ensures .0) (after-pointer-before .pointer-before .ensures) _ (entry .pre .1) _ (after-put-pointer .put-pointer .ensures) _ (after-close-gap .close-gap .ensures)
+    let entry = after-pointer-before .before .before .before .before .before in
+    out-done _ _ _ _ _ (gauged after-pointer-before) _ (entry .pre .1) _ (after-put-pointer .put-pointer .ensures) _ (after-close-gap .close-gap .ensures)
 
 pub slot-out-spec : {M : Type 1} → statement M
 slot-out-spec =

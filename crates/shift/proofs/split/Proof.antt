@@ -1,10 +1,13 @@
 -- `shift::split` meets its contract, step by step.
 use native.Mathlib.Omega.{arith}
 use Rattle.shift.proofs.AtNode.{node-fits}
-use Rattle.shift.proofs.Splitting.{six, split-words, split-link, split-cut, split-parent, split-done}
+use Rattle.shift.proofs.Splitting.{Parts, six, split-words, split-link, split-cut, split-parent, split-done}
 use borrow.Author.Needs.{needs}
 use Rattle.shift.proofs.split.Statement.{statement}
 use Rattle.shift.proofs.split.Tie as tie
+
+parts : (c : tie.After-read2) → Parts (c .before .before .before .before .before .before .before .before .before .before .before .before .args .table .now) (c .before .before .before .before .before .before .before .before .before .before .before .before .args .a) (c .before .before .before .before .before .before .before .before .before .before .before .before .args .b) (c .before .before .before .before .before .before .before .before .before .before .before .before .args .p) (c .before .before .before .before .before .before .before .before .start .result) (c .before .before .before .before .start2 .result) (c .before .before .start3 .result) (c .before .before .before .before .before .before .read .result) (c .read2 .result)
+parts c = record { lower = c .before .before .before .before .before .before .before .before .before .before .before .before .pre .0; lower-start = c .before .before .before .before .before .before .before .before .start .ensures; lower-read = c .before .before .before .before .before .before .read .ensures; lower-plain = c .before .before .before .before .before .before .before .before .before .before .before .before .pre .1 .0; enough = c .before .before .before .before .before .before .before .before .before .before .before .before .pre .1 .1 .0; upper = c .before .before .before .before .before .before .before .before .before .before .before .before .pre .1 .1 .1 .0; upper-start = c .before .before .before .before .start2 .ensures; above = c .before .before .before .before .before .before .before .before .before .before .before .before .pre .1 .1 .1 .1 .0; above-start = c .before .before .start3 .ensures; above-read = c .read2 .ensures; above-plain = c .before .before .before .before .before .before .before .before .before .before .before .before .pre .1 .1 .1 .1 .1 .0 }
 
 start-requires : tie.Need-start-requires
 start-requires c κs = search needs
@@ -25,25 +28,15 @@ array-read-key : tie.Need-array-read-key
 array-read-key c = search needs
 
 upper-words-requires : tie.Need-upper-words-requires
-upper-words-requires c κs =
-    let after-read2 = c .before in
-    let after-start3 = after-read2 .before .before in
-    let after-start2 = after-start3 .before .before in
-    let after-read = after-start2 .before .before in
-    let after-start = after-read .before .before in
-    let entry = after-start .before .before .before .before in
-    six _ _ _ _ _ _ _ _ _ (record { lower = entry .pre .0; lower-start = after-start .start .ensures; lower-read = after-read .read .ensures; lower-plain = entry .pre .1 .0; enough = entry .pre .1 .1 .0; upper = entry .pre .1 .1 .1 .0; upper-start = after-start2 .start2 .ensures; above = entry .pre .1 .1 .1 .1 .0; above-start = after-start3 .start3 .ensures; above-read = after-read2 .read2 .ensures; above-plain = entry .pre .1 .1 .1 .1 .1 .0 })
+upper-words-requires c κs = six _ _ _ _ _ _ _ _ _ (parts (c .before))
 
 put-words-requires : tie.Need-put-words-requires
 put-words-requires c κs =
     let after-upper-words = c .before .before in
     let after-read2 = after-upper-words .before .before in
-    let after-start3 = after-read2 .before .before in
-    let after-start2 = after-start3 .before .before in
-    let after-read = after-start2 .before .before in
-    let after-start = after-read .before .before in
-    let entry = after-start .before .before .before .before in
-    (node-fits _ _ _ (entry .pre .1 .1 .1 .0) (after-start2 .start2 .ensures), split-words _ _ _ _ _ _ _ _ _ (record { lower = entry .pre .0; lower-start = after-start .start .ensures; lower-read = after-read .read .ensures; lower-plain = entry .pre .1 .0; enough = entry .pre .1 .1 .0; upper = entry .pre .1 .1 .1 .0; upper-start = after-start2 .start2 .ensures; above = entry .pre .1 .1 .1 .1 .0; above-start = after-start3 .start3 .ensures; above-read = after-read2 .read2 .ensures; above-plain = entry .pre .1 .1 .1 .1 .1 .0 }) _ (after-upper-words .upper-words .ensures) _ (entry .pre .1 .1 .1 .1 .1 .1))
+    let after-start2 = after-read2 .before .before .before .before in
+    let entry = after-start2 .before .before .before .before .before .before .before .before in
+    (node-fits _ _ _ (entry .pre .1 .1 .1 .0) (after-start2 .start2 .ensures), split-words _ _ _ _ _ _ _ _ _ (parts after-read2) _ (after-upper-words .upper-words .ensures) _ (entry .pre .1 .1 .1 .1 .1 .1))
 
 add-store : tie.Need-add-store
 add-store c =
@@ -56,12 +49,8 @@ store-requires c κs =
     let after-put-words = c .before .before .before .before .before .before in
     let after-upper-words = after-put-words .before .before .before in
     let after-read2 = after-upper-words .before .before in
-    let after-start3 = after-read2 .before .before in
-    let after-start2 = after-start3 .before .before in
-    let after-read = after-start2 .before .before in
-    let after-start = after-read .before .before in
-    let entry = after-start .before .before .before .before in
-    split-link _ _ _ _ _ _ _ _ _ (record { lower = entry .pre .0; lower-start = after-start .start .ensures; lower-read = after-read .read .ensures; lower-plain = entry .pre .1 .0; enough = entry .pre .1 .1 .0; upper = entry .pre .1 .1 .1 .0; upper-start = after-start2 .start2 .ensures; above = entry .pre .1 .1 .1 .1 .0; above-start = after-start3 .start3 .ensures; above-read = after-read2 .read2 .ensures; above-plain = entry .pre .1 .1 .1 .1 .1 .0 }) _ (after-upper-words .upper-words .ensures) _ (entry .pre .1 .1 .1 .1 .1 .1) _ (after-put-words .put-words .ensures)
+    let entry = after-read2 .before .before .before .before .before .before .before .before .before .before .before .before in
+    split-link _ _ _ _ _ _ _ _ _ (parts after-read2) _ (after-upper-words .upper-words .ensures) _ (entry .pre .1 .1 .1 .1 .1 .1) _ (after-put-words .put-words .ensures)
 
 put-pointer-requires : tie.Need-put-pointer-requires
 put-pointer-requires c κs =
@@ -69,12 +58,9 @@ put-pointer-requires c κs =
     let after-put-words = after-store .before .before .before .before .before .before .before in
     let after-upper-words = after-put-words .before .before .before in
     let after-read2 = after-upper-words .before .before in
-    let after-start3 = after-read2 .before .before in
-    let after-start2 = after-start3 .before .before in
-    let after-read = after-start2 .before .before in
-    let after-start = after-read .before .before in
+    let after-start = after-read2 .before .before .before .before .before .before .before .before in
     let entry = after-start .before .before .before .before in
-    (omega arith, (omega (arith, node-fits _ _ _ (entry .pre .0) (after-start .start .ensures), after-put-words .put-words .kept, after-store .store .kept), split-cut _ _ _ _ _ _ _ _ _ (record { lower = entry .pre .0; lower-start = after-start .start .ensures; lower-read = after-read .read .ensures; lower-plain = entry .pre .1 .0; enough = entry .pre .1 .1 .0; upper = entry .pre .1 .1 .1 .0; upper-start = after-start2 .start2 .ensures; above = entry .pre .1 .1 .1 .1 .0; above-start = after-start3 .start3 .ensures; above-read = after-read2 .read2 .ensures; above-plain = entry .pre .1 .1 .1 .1 .1 .0 }) _ (after-upper-words .upper-words .ensures) _ (entry .pre .1 .1 .1 .1 .1 .1) _ (after-put-words .put-words .ensures) _ (after-store .store .ensures)))
+    (omega arith, (omega (arith, node-fits _ _ _ (entry .pre .0) (after-start .start .ensures), after-put-words .put-words .kept, after-store .store .kept), split-cut _ _ _ _ _ _ _ _ _ (parts after-read2) _ (after-upper-words .upper-words .ensures) _ (entry .pre .1 .1 .1 .1 .1 .1) _ (after-put-words .put-words .ensures) _ (after-store .store .ensures)))
 
 slot-in-requires : tie.Need-slot-in-requires
 slot-in-requires c κs =
@@ -84,11 +70,8 @@ slot-in-requires c κs =
     let after-upper-words = after-put-words .before .before .before in
     let after-read2 = after-upper-words .before .before in
     let after-start3 = after-read2 .before .before in
-    let after-start2 = after-start3 .before .before in
-    let after-read = after-start2 .before .before in
-    let after-start = after-read .before .before in
-    let entry = after-start .before .before .before .before in
-    (omega (arith, node-fits _ _ _ (entry .pre .1 .1 .1 .1 .0) (after-start3 .start3 .ensures), after-put-words .put-words .kept, after-store .store .kept, after-put-pointer .put-pointer .kept), split-parent _ _ _ _ _ _ _ _ _ (record { lower = entry .pre .0; lower-start = after-start .start .ensures; lower-read = after-read .read .ensures; lower-plain = entry .pre .1 .0; enough = entry .pre .1 .1 .0; upper = entry .pre .1 .1 .1 .0; upper-start = after-start2 .start2 .ensures; above = entry .pre .1 .1 .1 .1 .0; above-start = after-start3 .start3 .ensures; above-read = after-read2 .read2 .ensures; above-plain = entry .pre .1 .1 .1 .1 .1 .0 }) _ (after-upper-words .upper-words .ensures) _ (entry .pre .1 .1 .1 .1 .1 .1) _ (after-put-words .put-words .ensures) _ (after-store .store .ensures) _ (after-put-pointer .put-pointer .ensures))
+    let entry = after-start3 .before .before .before .before .before .before .before .before .before .before in
+    (omega (arith, node-fits _ _ _ (entry .pre .1 .1 .1 .1 .0) (after-start3 .start3 .ensures), after-put-words .put-words .kept, after-store .store .kept, after-put-pointer .put-pointer .kept), split-parent _ _ _ _ _ _ _ _ _ (parts after-read2) _ (after-upper-words .upper-words .ensures) _ (entry .pre .1 .1 .1 .1 .1 .1) _ (after-put-words .put-words .ensures) _ (after-store .store .ensures) _ (after-put-pointer .put-pointer .ensures))
 
 same-length : tie.Need-same-length
 same-length c =
@@ -114,12 +97,8 @@ returns c =
     let after-put-words = after-store .before .before .before .before .before .before .before in
     let after-upper-words = after-put-words .before .before .before in
     let after-read2 = after-upper-words .before .before in
-    let after-start3 = after-read2 .before .before in
-    let after-start2 = after-start3 .before .before in
-    let after-read = after-start2 .before .before in
-    let after-start = after-read .before .before in
-    let entry = after-start .before .before .before .before in
-    split-done _ _ _ _ _ _ _ _ _ (record { lower = entry .pre .0; lower-start = after-start .start .ensures; lower-read = after-read .read .ensures; lower-plain = entry .pre .1 .0; enough = entry .pre .1 .1 .0; upper = entry .pre .1 .1 .1 .0; upper-start = after-start2 .start2 .ensures; above = entry .pre .1 .1 .1 .1 .0; above-start = after-start3 .start3 .ensures; above-read = after-read2 .read2 .ensures; above-plain = entry .pre .1 .1 .1 .1 .1 .0 }) _ (after-upper-words .upper-words .ensures) _ (entry .pre .1 .1 .1 .1 .1 .1) _ (after-put-words .put-words .ensures) _ (after-store .store .ensures) _ (after-put-pointer .put-pointer .ensures) _ (after-slot-in .slot-in .ensures)
+    let entry = after-read2 .before .before .before .before .before .before .before .before .before .before .before .before in
+    split-done _ _ _ _ _ _ _ _ _ (parts after-read2) _ (after-upper-words .upper-words .ensures) _ (entry .pre .1 .1 .1 .1 .1 .1) _ (after-put-words .put-words .ensures) _ (after-store .store .ensures) _ (after-put-pointer .put-pointer .ensures) _ (after-slot-in .slot-in .ensures)
 
 pub split-spec : {M : Type 1} → statement M
 split-spec =
