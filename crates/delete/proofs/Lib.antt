@@ -1,0 +1,2 @@
+-- The laws behind the deletion call.
+pub mod Deleting
