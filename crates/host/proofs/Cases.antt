@@ -8,7 +8,9 @@ use Rattle.model.specs.declared.Parsed.{Parsed}
 use Rattle.model.specs.Codes.{parsedNumber, keyOr}
 use Rattle.model.specs.Table.{outcomeNumber}
 use Rattle.model.specs.Search.{recordingOr}
-use Rattle.host.specs.Answers.{searchNumber}
+use Rattle.model.specs.declared.Written.{Written}
+use Rattle.model.specs.Refusals.{writtenNumber, storesOr, flushesOr}
+use Rattle.host.specs.Answers.{searchNumber, Wrote}
 
 -- an answer that is this one has its number, and puts its word
 pub answered : (x y : Answer) (old : ℕ) → x ≡ y → (searchNumber y ≡ searchNumber x) × (recordingOr y old ≡ recordingOr x old)
@@ -19,3 +21,11 @@ come-out x y e = sym (ap outcomeNumber e)
 
 pub was-read : (x y : Parsed) (old : ℕ) → x ≡ y → (parsedNumber y ≡ parsedNumber x) × (keyOr y old ≡ keyOr x old)
 was-read x y old e = (sym (ap parsedNumber e), sym (ap (λ (z : Parsed). keyOr z old) e))
+
+pub has-written : (x y : Written) (stores flushes : ℕ) → x ≡ y → Wrote x (writtenNumber y) stores (storesOr y stores) flushes (flushesOr y flushes)
+has-written x y stores flushes e =
+    record {
+      number-is = sym (ap writtenNumber e);
+      stores-are = sym (ap (λ (z : Written). storesOr z stores) e);
+      flushes-are = sym (ap (λ (z : Written). flushesOr z flushes) e);
+    }

@@ -3,12 +3,16 @@
 use model::Answer;
 use model::Outcome;
 use model::Parsed;
+use model::Written;
 ghost use mathlib.Core.Path.{_≡_};
 ghost use Rattle.model.specs.Codes.{parse, print, parsedNumber, keyOr};
 ghost use Rattle.model.specs.Table.{making, made, outcomeNumber};
 ghost use Rattle.model.specs.Orders.{carryOut, carriedOut};
 ghost use Rattle.model.specs.Search.{search, recordingOr};
-ghost use Rattle.host.specs.Answers.{searchNumber};
+ghost use Rattle.model.specs.Writes.{repair, deletion};
+ghost use Rattle.model.specs.Refusals.{written, tableAfter, listAfter};
+ghost use lib.ListN.{length};
+ghost use Rattle.host.specs.Answers.{searchNumber, Wrote};
 
 // 0, or 2.
 #[no_mangle]
@@ -69,5 +73,53 @@ pub extern "C" fn catalogue_carry_out(table: &mut [u64], orders: &[u64], c: u64)
     match carry::carry_out(table, orders, c) {
         Outcome::Done => 0,
         Outcome::Refused(n) => n as u64,
+    }
+}
+
+// 0 and the two counts, or the refusal number; likewise below.
+#[no_mangle]
+pub extern "C" fn catalogue_repair(
+    table: &mut [u64],
+    orders: &mut [u64],
+    stores: &mut u64,
+    flushes: &mut u64,
+) -> u64
+    ensures { λ r. ⌜ Wrote (written repair (length (now (orders .entry))) (now (table .entry))) r (now (stores .entry)) (now (stores .exit)) (now (flushes .entry)) (now (flushes .exit)) ⌝ }
+    ensures { λ r. ⌜ (now (table .exit) ≡ tableAfter repair (length (now (orders .entry))) (now (table .entry))) × (now (orders .exit) ≡ listAfter repair (now (orders .entry)) (now (table .entry))) ⌝ }
+{
+    match repair::repair(table, orders) {
+        Written::Done {
+            stores: s,
+            flushes: f,
+        } => {
+            *stores = s;
+            *flushes = f;
+            0
+        }
+        Written::Refused(n) => n as u64,
+    }
+}
+
+#[no_mangle]
+pub extern "C" fn catalogue_delete(
+    table: &mut [u64],
+    orders: &mut [u64],
+    key: u64,
+    stores: &mut u64,
+    flushes: &mut u64,
+) -> u64
+    ensures { λ r. ⌜ Wrote (written (deletion key) (length (now (orders .entry))) (now (table .entry))) r (now (stores .entry)) (now (stores .exit)) (now (flushes .entry)) (now (flushes .exit)) ⌝ }
+    ensures { λ r. ⌜ (now (table .exit) ≡ tableAfter (deletion key) (length (now (orders .entry))) (now (table .entry))) × (now (orders .exit) ≡ listAfter (deletion key) (now (orders .entry)) (now (table .entry))) ⌝ }
+{
+    match delete::delete(table, orders, key) {
+        Written::Done {
+            stores: s,
+            flushes: f,
+        } => {
+            *stores = s;
+            *flushes = f;
+            0
+        }
+        Written::Refused(n) => n as u64,
     }
 }
