@@ -15,8 +15,11 @@ use Rattle.model.specs.Search.{below, within}
 use Rattle.model.specs.Reached.{headOr, pointers, kept, named, firstChild, nextChild, fillRow, children, reached, leaves, mapping}
 use Rattle.model.specs.SoundTest.{all, elem, siblingOk, rising, comeFirst, linked, childOk, slotOk, nothing, missingIn}
 use Rattle.model.specs.Shifts.{placeOf}
-use Rattle.list_laws.proofs.Tools.{decode, and-iff, or-right, Each, Each-append, Each-split, Each-map, all-each, all-append}
-use Rattle.tree_laws.proofs.Members.{each-mem, each-both, filter-all}
+use Rattle.list_laws.proofs.Tools.{decode, and-iff, or-right, Each, Each-append, Each-split, Each-map, all-each, all-append, at-or-off}
+use Rattle.list_laws.proofs.Members.{each-mem, each-both, mem-here}
+use Rattle.list_laws.proofs.Filters.{filter-all}
+use Rattle.list_laws.proofs.Distinct.{distinct-middle}
+use Rattle.list_laws.proofs.Lists.{cons-same}
 use Rattle.tree_laws.proofs.Rows.{Good, At, Named, Inner, inner, left-range, not-zero, sib-facts, inner-ok, linked-cons, first-child}
 use Rattle.tree_laws.proofs.Cover.{below-true}
 use Rattle.tree_laws.proofs.Rising.{rising-cons, rising-from, rising-raise, rising-join, Apart, rising-apart, place-between}
@@ -24,7 +27,6 @@ use Rattle.tree_laws.proofs.Kept.{kept-within}
 use Rattle.tree_laws.proofs.Levels.{Orderly, level-leaves}
 use Rattle.tree_laws.proofs.Gaps.{Gap, fill-whole}
 use Rattle.tree_laws.proofs.Leftovers.{NothingUnfinished, MissingOnly, gap-children, children-of}
-use Rattle.changes.proofs.Lists.{at-or-off, mem-here, distinct-middle}
 use Rattle.changes.proofs.Updates.{update-at, update-off, withShown}
 use Rattle.changes.proofs.Parts.{InnerOk, inner-iff, good-parts, good-inner, HasLeft, finished-left, Keeps}
 use Rattle.changes.proofs.Shown.{finished-own, each-first, shown-reached, shown-mapping, shown-orderly}
@@ -41,18 +43,15 @@ record Around (left : ℕ) (ss : List Slot) (before : List ℕ) (a : ℕ) (after
   lower : left ∷ pointers low ≡ before ++ a ∷ []
   upper : pointers high ≡ after
 
-tail-same : (x y : ℕ) (xs ys : List ℕ) → x ∷ xs ≡ y ∷ ys → (x ≡ y) × (xs ≡ ys)
-tail-same x y xs ys e = ((cc), (cc))
-
 never : (bs : List ℕ) (a : ℕ) (after : List ℕ) → [] ≡ bs ++ a ∷ after → ⊥
 never [] a after e = let z : _≡_ {A = ℕ} 0 1 = cc in omega arith
 never (x ∷ bs) a after e = let z : _≡_ {A = ℕ} 0 1 = cc in omega arith
 
 around : (left : ℕ) (ss : List Slot) (before : List ℕ) (a : ℕ) (after : List ℕ) → left ∷ pointers ss ≡ before ++ a ∷ after → Around left ss before a after
-around left ss [] a after e = let u = tail-same left a (pointers ss) after e in record { low = []; high = ss; shape = refl; lower = ap (λ (n : ℕ). n ∷ []) (u .0); upper = u .1 }
-around left [] (x ∷ bs) a after e = absurd (never bs a after (tail-same left x [] (bs ++ a ∷ after) e .1))
+around left ss [] a after e = let u = cons-same left a (pointers ss) after e in record { low = []; high = ss; shape = refl; lower = ap (λ (n : ℕ). n ∷ []) (u .0); upper = u .1 }
+around left [] (x ∷ bs) a after e = absurd (never bs a after (cons-same left x [] (bs ++ a ∷ after) e .1))
 around left (s ∷ ss) (x ∷ bs) a after e =
-    let u = tail-same left x (s .pointer ∷ pointers ss) (bs ++ a ∷ after) e in
+    let u = cons-same left x (s .pointer ∷ pointers ss) (bs ++ a ∷ after) e in
     let r = around (s .pointer) ss bs a after (u .1) in
     record { low = s ∷ r .low; high = r .high; shape = ap (λ (l : List Slot). s ∷ l) (r .shape); lower = ap (λ (n : ℕ). n ∷ s .pointer ∷ pointers (r .low)) (u .0) ∙ ap (λ (l : List ℕ). x ∷ l) (r .lower); upper = r .upper }
 
@@ -60,13 +59,13 @@ module _ (v : View) where
   -- the last of them is a, and its fence is below k: so are their keys
   low-below : (k left : ℕ) (ss : List Slot) (before : List ℕ) (a : ℕ) → left ∷ pointers ss ≡ before ++ a ∷ [] → Each (λ (s : Slot). v .fence (s .pointer) ≡ s .key) ss → rising (suc (v .fence left)) ss ≡ true
       → v .fence a < k → (v .fence left < k) × Each (λ (s : Slot). s .key < k) ss
-  low-below k left [] [] a e n r h = let q = tail-same left a [] [] e .0 in (let y : v .fence left ≡ v .fence a = ap (v .fence) q in omega arith, tt)
-  low-below k left [] (x ∷ bs) a e n r h = absurd (never bs a [] (tail-same left x [] (bs ++ a ∷ []) e .1))
-  low-below k left (s ∷ ss) [] a e n r h = absurd (never [] (s .pointer) (pointers ss) (sym (tail-same left a (s .pointer ∷ pointers ss) [] e .1)))
+  low-below k left [] [] a e n r h = let q = cons-same left a [] [] e .0 in (let y : v .fence left ≡ v .fence a = ap (v .fence) q in omega arith, tt)
+  low-below k left [] (x ∷ bs) a e n r h = absurd (never bs a [] (cons-same left x [] (bs ++ a ∷ []) e .1))
+  low-below k left (s ∷ ss) [] a e n r h = absurd (never [] (s .pointer) (pointers ss) (sym (cons-same left a (s .pointer ∷ pointers ss) [] e .1)))
   low-below k left (s ∷ ss) (x ∷ bs) a e n r h =
       let u = rising-cons (suc (v .fence left)) s ss .0 r in
       let q = n .0 in
-      let w = low-below k (s .pointer) ss bs a (tail-same left x (s .pointer ∷ pointers ss) (bs ++ a ∷ []) e .1) (n .1) (rw (ap suc q) (u .1)) h in
+      let w = low-below k (s .pointer) ss bs a (cons-same left x (s .pointer ∷ pointers ss) (bs ++ a ∷ []) e .1) (n .1) (rw (ap suc q) (u .1)) h in
       let y = w .0 in
       let z = u .0 in
       (omega arith, (omega arith, w .1))

@@ -13,13 +13,13 @@ use Rattle.model.specs.Search.{below, within}
 use Rattle.model.specs.Reached.{filter, pointers, kept, named, firstChild, nextChild, children, reached, leaves, mapping}
 use Rattle.model.specs.SoundTest.{comeFirst, linked, missingIn, room}
 use Rattle.model.specs.Shifts.{placeOf}
-use Rattle.list_laws.proofs.Tools.{Each-map}
-use Rattle.tree_laws.proofs.Members.{mem-each, filter-all, filter-short}
+use Rattle.list_laws.proofs.Tools.{Each-map, at-or-off}
+use Rattle.list_laws.proofs.Members.{mem-each}
+use Rattle.list_laws.proofs.Filters.{filter-all, filter-short}
 use Rattle.tree_laws.proofs.Rows.{Good}
 use Rattle.tree_laws.proofs.Kept.{kept-within, ignored, shown-split, cut-place}
 use Rattle.tree_laws.proofs.Gaps.{Gap}
 use Rattle.tree_laws.proofs.Leftovers.{NoneTrailing, MissingOnly}
-use Rattle.changes.proofs.Lists.{at-or-off}
 use Rattle.changes.proofs.Updates.{update, update-at, update-off, withShown}
 use Rattle.changes.proofs.Parts.{HasLeft, Keeps, same-room}
 use Rattle.changes.proofs.Shown.{kept-own, children-kept, good-kept, each-first, children-same, shown-reached, shown-mapping, shown-orderly}

@@ -9,11 +9,10 @@ use Rattle.model.specs.Slots.{View}
 use Rattle.model.specs.Search.{below}
 use Rattle.model.specs.Reached.{kept, firstChild, fillRow, children, reachedFrom, leavesFrom, reached, mapping}
 use Rattle.model.specs.SoundTest.{siblingOk, keysOk, linked, childOk, slotOk, leafOk, innerOk, nodeOk, rootOk, orderly, Leftover, nothing, hiddenIn, missingIn, bothIn, hasRoom}
-use Rattle.list_laws.proofs.Tools.{Each, Each-map}
+use Rattle.list_laws.proofs.Tools.{Each, Each-map, at-or-off}
 use Rattle.tree_laws.proofs.Levels.{Orderly, orderly-iff}
 use Rattle.tree_laws.proofs.Gaps.{Gap}
 use Rattle.tree_laws.proofs.Leftovers.{Left, NoneHidden, NoneTrailing, NoneMissing, HiddenOnly, MissingOnly}
-use Rattle.changes.proofs.Lists.{at-or-off}
 use Rattle.changes.proofs.Updates.{update, update-at, update-off, hiddenBy, withHidden}
 use Rattle.changes.proofs.Parts.{HasLeft, Keeps, same-room}
 

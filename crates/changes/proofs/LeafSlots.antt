@@ -14,14 +14,16 @@ use Rattle.model.specs.SoundTest.{elem, distinct, siblingOk, rising, comeFirst,
 use Rattle.model.specs.Shifts.{placeOf}
 use Rattle.model.specs.Refusals.{hasKey, hasRecording}
 use Rattle.model.specs.Ledger.{enter, leave}
-use Rattle.list_laws.proofs.Tools.{Each, Each-map, flat-append}
-use Rattle.tree_laws.proofs.Members.{filter-all}
+use Rattle.list_laws.proofs.Tools.{Each, Each-map, flat-append, at-or-off}
+use Rattle.list_laws.proofs.Members.{flat-each, elem-cons}
+use Rattle.list_laws.proofs.Filters.{filter-all}
+use Rattle.list_laws.proofs.Distinct.{distinct-middle}
 use Rattle.tree_laws.proofs.Rows.{Good, leaf-ok}
 use Rattle.tree_laws.proofs.Rising.{lower, upper, lower-upper, absent-iff}
 use Rattle.tree_laws.proofs.SearchLaw.{leafFor}
 use Rattle.tree_laws.proofs.Leftovers.{NothingUnfinished, settled-iff}
 use Rattle.tree_laws.proofs.PlaceOf.{Place, place-of, InsertPlace, place-absent, DeletePlace, place-found}
-use Rattle.changes.proofs.Lists.{Off, at-or-off, flat-each, elem-cons, distinct-middle}
+use Rattle.changes.proofs.Lists.{Off}
 use Rattle.changes.proofs.Updates.{update-at, update-off, withShown}
 use Rattle.changes.proofs.Parts.{leaf-iff, good-parts, good-leaf, no-children, HasLeft, all-finished, finished-left, settled-left, Settles}
 use Rattle.changes.proofs.Shown.{kept-own, finished-own, each-first, shown-reached, shown-leaves, shown-orderly}

@@ -14,7 +14,8 @@ use Rattle.model.specs.Search.{below, within}
 use Rattle.model.specs.Reached.{filter, flat, pointers, kept, named, firstChild, nextChild, children, reachedFrom, leavesFrom, reached, leaves, mapping}
 use Rattle.model.specs.SoundTest.{all, elem, siblingOk, rising, comeFirst, linked, slotOk, nothing, missingIn, room}
 use Rattle.list_laws.proofs.Tools.{decode, and-iff, or-right, Each, Each-map, Each-split, all-append}
-use Rattle.tree_laws.proofs.Members.{each-mem, mem-each, each-both, filter-all, elem-append, elem-false}
+use Rattle.list_laws.proofs.Members.{elem-none, each-mem, mem-each, each-both, elem-append, elem-false, flat-each}
+use Rattle.list_laws.proofs.Filters.{filter-all}
 use Rattle.tree_laws.proofs.Rows.{Good, At, not-zero, sib-facts, inner-ok, leaf-ok, children-inner}
 use Rattle.tree_laws.proofs.Cover.{below-low, below-high, below-true}
 use Rattle.tree_laws.proofs.Rising.{rising-cons, rising-from, Apart, rising-apart}
@@ -22,7 +23,7 @@ use Rattle.tree_laws.proofs.Kept.{by-level, kept-rises, kept-within}
 use Rattle.tree_laws.proofs.Levels.{Orderly, level-leaves}
 use Rattle.tree_laws.proofs.Gaps.{Gap, fill-whole}
 use Rattle.tree_laws.proofs.Leftovers.{NothingUnfinished, NoneHidden, TrailingOnly, MissingOnly}
-use Rattle.changes.proofs.Lists.{Off, not-in, flat-each}
+use Rattle.changes.proofs.Lists.{Off}
 use Rattle.changes.proofs.Updates.{update-at, update-off, withSibling}
 use Rattle.changes.proofs.Splice.{splice, splice-nil, splice-none, splice-each, splice-flat, mem-splice, distinct-splice}
 use Rattle.changes.proofs.Parts.{KeysOk, LeafOk, leaf-iff, InnerOk, inner-iff, good-parts, good-leaf, good-inner, no-children, names-linked, HasLeft, all-finished, same-room}
@@ -84,10 +85,10 @@ module _ (v : View) (A B : ℕ) (low : List Slot) (s : Slot) (high : List Slot) 
   not-B = not-zero v B (p .b-range)
 
   other : B ≢ A
-  other e = not-in A (reached v) (rw e at (p .b-fresh)) (p .a-reached)
+  other e = elem-none A (reached v) .0 (rw e at (p .b-fresh)) (p .a-reached)
 
   apart : v .sibling A ≢ B
-  apart e = not-in B (reached v) (p .b-fresh) (rw e at (sibling-reached v A o (p .a-reached) (λ z. not-B (sym e ∙ z))))
+  apart e = elem-none B (reached v) .0 (p .b-fresh) (rw e at (sibling-reached v A o (p .a-reached) (λ z. not-B (sym e ∙ z))))
 
   above : v .fence A < v .fence B
   above = let h = above-first (v .fence A) low (s .key) (p .some-low) (rise-A .left) lower in let e = p .b-fence in omega arith

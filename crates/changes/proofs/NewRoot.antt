@@ -9,7 +9,7 @@ use Rattle.model.specs.Search.{below}
 use Rattle.model.specs.Reached.{filter, flat, pointers, kept, named, firstChild, nextChild, fillRow, children, reachedFrom, leavesFrom, reached, mapping}
 use Rattle.model.specs.SoundTest.{all, elem, siblingOk, rising, comeFirst, keysOk, linked, childOk, slotOk, leafOk, innerOk, nodeOk, nothing}
 use Rattle.list_laws.proofs.Tools.{decode, and-iff, Each-map}
-use Rattle.tree_laws.proofs.Members.{distinct-cons}
+use Rattle.list_laws.proofs.Distinct.{distinct-cons}
 use Rattle.tree_laws.proofs.Rows.{Good, children-inner, linked-cons}
 use Rattle.tree_laws.proofs.Levels.{Orderly}
 use Rattle.tree_laws.proofs.Gaps.{fill-whole}

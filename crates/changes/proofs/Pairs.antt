@@ -17,7 +17,7 @@ use Rattle.model.specs.Shifts.{placeOf}
 use Rattle.model.specs.Refusals.{hasKey, hasRecording}
 use Rattle.model.specs.Ledger.{enter, leave}
 use Rattle.list_laws.proofs.Tools.{or-false-iff, Each, Misses}
-use Rattle.tree_laws.proofs.Members.{elem-append}
+use Rattle.list_laws.proofs.Members.{elem-append}
 use Rattle.tree_laws.proofs.Rising.{lower, upper}
 
 -- ---- the tests of keys and recordings

@@ -1,8 +1,8 @@
 -- A view by its parts: what a good node is, and orderly with a leftover; what a change keeps of them.
-use mathlib.Core.Path.{_≡_, ap, sym, _∙_}
+use mathlib.Core.Path.{_≡_, ap, _∙_}
 use mathlib.Core.Bool.{true}
 use mathlib.Core.Logic.{_↔_, _≢_}
-use mathlib.Core.List.{List, [], _∷_}
+use mathlib.Core.List.{List}
 use mathlib.Core.Option.{some}
 use Prim.Native.Nat.{ℕ, suc}
 use native.Mathlib.Omega.{arith}
@@ -10,16 +10,18 @@ use lib.Dec.{leb}
 use lib.ListN.{length}
 use borrow.Author.Tests.{eqb-true, eq-eqb, ne-eqb}
 use Rattle.model.specs.Table.{MARK, inRange}
-use Rattle.model.specs.Slots.{Slot, View, height}
+use Rattle.model.specs.Slots.{Slot, View}
 use Rattle.model.specs.Search.{within}
 use Rattle.model.specs.Reached.{kept, named, nextChild, children, reached, mapping}
 use Rattle.model.specs.SoundTest.{all, siblingOk, rising, comeFirst, keysOk, linked, childOk, slotOk, leafOk, innerOk, nodeOk, orderly, Leftover, nothing, leftover, room, hasRoom, settledView, soundView}
 use Rattle.list_laws.proofs.Tools.{and-iff, Each, Each-map}
-use Rattle.tree_laws.proofs.Members.{each-both}
-use Rattle.tree_laws.proofs.Rows.{Good, Row}
-use Rattle.tree_laws.proofs.Levels.{Orderly, orderly-iff, level-root}
-use Rattle.tree_laws.proofs.Gaps.{fill-whole}
-use Rattle.tree_laws.proofs.Leftovers.{NothingUnfinished, children-of, Left, leftover-iff, settled-iff, sound-iff}
+use Rattle.list_laws.proofs.Members.{each-both}
+use Rattle.tree_laws.proofs.Rows.{Good}
+use Rattle.tree_laws.proofs.Levels.{Orderly, orderly-iff}
+use Rattle.tree_laws.proofs.Leftovers.{NothingUnfinished, Left, leftover-iff, settled-iff, sound-iff}
+pub use Rattle.tree_laws.proofs.Rows.{no-children}
+pub use Rattle.tree_laws.proofs.Leftovers.{names-linked}
+pub use Rattle.tree_laws.proofs.Levels.{top-row}
 
 -- ---- a good node
 
@@ -66,22 +68,6 @@ unfolding innerOk
 inner-iff v n = (
   λ h. let u = simp and-iff at h in record { keys = keys-iff v n (suc (v .fence n)) .0 (u .0); left = u .1 .0; slots = u .1 .1 .0; range = u .1 .1 .1 .0; chain = u .1 .1 .1 .1 },
   λ k. simp and-iff (keys-iff v n (suc (v .fence n)) .1 (k .keys), (k .left, (k .slots, (k .range, k .chain)))),
-)
-
-pub no-children : (v : View) (n : ℕ) → v .level n ≡ 0 → children v n ≡ []
-unfolding children
-no-children v n e = rw (eq-eqb (v .level n) 0 e, children)
-
-pub top-row : (v : View) → Orderly v → Row v (height v) (v .root ∷ [])
-top-row v o = level-root v (o .top) (o .good) .row
-
--- ---- what a node names
-
--- it names all its children exactly if those that it names are linked
-pub names-linked : (v : View) (n : ℕ) → v .level n ≢ 0 → (children v n ≡ named v n) ↔ (linked v (named v n) (nextChild v n) ≡ true)
-names-linked v n z = (
-  λ e. fill-whole v (named v n) (nextChild v n) .0 (sym (children-of v n z) ∙ e),
-  λ l. children-of v n z ∙ fill-whole v (named v n) (nextChild v n) .1 l,
 )
 
 -- ---- a leftover

@@ -1,24 +1,24 @@
 -- Other shown slots in one node: what else stays, where its children stay.
 use mathlib.Core.Path.{_≡_, refl, ap, sym, _∙_}
-use mathlib.Core.Bool.{Bool, true, false, not}
+use mathlib.Core.Bool.{true, false}
 use mathlib.Core.Logic.{_≢_}
-use mathlib.Core.List.{List, [], _∷_, _++_}
-use Prim.Native.Nat.{ℕ, zero, suc}
+use mathlib.Core.List.{List, [], _∷_}
+use Prim.Native.Nat.{ℕ, suc}
 use lib.Dec.{eqb}
 use Rattle.model.specs.Table.{MARK, inRange}
 use Rattle.model.specs.Slots.{Slot, View, height}
 use Rattle.model.specs.Search.{below, within}
-use Rattle.model.specs.Reached.{filter, flat, pointers, kept, firstChild, nextChild, fillRow, children, reachedFrom, leavesFrom, reached, leaves, mapping}
+use Rattle.model.specs.Reached.{flat, pointers, kept, firstChild, nextChild, fillRow, children, reached, leaves, mapping}
 use Rattle.model.specs.SoundTest.{distinct, siblingOk, comeFirst, keysOk, linked, childOk, slotOk, leafOk, innerOk, nodeOk}
-use Rattle.list_laws.proofs.Tools.{Each, Each-map, all-each}
-use Rattle.tree_laws.proofs.Members.{mem-each, filter-none}
-use Rattle.tree_laws.proofs.Rows.{Good, leaf-ok, inner-ok}
+use Rattle.list_laws.proofs.Tools.{Each, Each-map, at-or-off}
+use Rattle.list_laws.proofs.Members.{mem-each, flat-each}
+use Rattle.tree_laws.proofs.Rows.{Good, leaf-ok, inner-ok, reached-agree, leaves-agree}
 use Rattle.tree_laws.proofs.Kept.{by-level}
 use Rattle.tree_laws.proofs.Levels.{Orderly}
 use Rattle.tree_laws.proofs.Leftovers.{NothingUnfinished}
-use Rattle.changes.proofs.Lists.{at-or-off, flat-each}
 use Rattle.changes.proofs.Updates.{update, update-off, shownBy, withShown}
 use Rattle.changes.proofs.Parts.{KeysOk, leaf-iff, InnerOk, inner-iff, good-parts, good-leaf, good-inner}
+pub use Rattle.tree_laws.proofs.Kept.{first-part, each-first}
 
 -- ---- what is asked of a node reads the headers and its own shown slots only
 
@@ -43,18 +43,6 @@ module _ (v : View) (g : ℕ → List Slot) (n : ℕ) (e : g n ≡ v .shown n) w
   }
 
 -- ---- the same kept slots
-
--- the slots that pass a test, where they come first
-pub first-part : (q : Slot → Bool) (a b : List Slot) → Each (λ (s : Slot). q s ≡ true) a → Each (λ (s : Slot). q s ≡ false) b → (filter q (a ++ b) ≡ a) × (comeFirst q (a ++ b) ≡ true)
-unfolding filter comeFirst
-first-part q [] [] x y = (refl, refl)
-first-part q [] (s ∷ b) x y = (rw (y .0, filter) (filter-none q b (y .1)), rw (y .0, comeFirst) (all-each (λ (t : Slot). not (q t)) b .1 (Each-map (λ (t : Slot). q t ≡ false) (λ (t : Slot). not (q t) ≡ true) b (λ t e. ap not e) (y .1))))
-first-part q (s ∷ a) b x y = let u = first-part q a b (x .1) y in (rw (x .0, filter) (ap (λ (l : List Slot). s ∷ l) (u .0)), rw (x .0, comeFirst) (u .1))
-
-pub each-first : (q : Slot → Bool) (ss : List Slot) → Each (λ (s : Slot). q s ≡ true) ss → comeFirst q ss ≡ true
-unfolding comeFirst
-each-first q [] h = refl
-each-first q (s ∷ ss) h = rw (h .0, comeFirst) (each-first q ss (h .1))
 
 module _ (v : View) (g : ℕ → List Slot) (n : ℕ) (e : kept (shownBy v g) n ≡ kept v n) where
   pub children-kept : children (shownBy v g) n ≡ children v n
@@ -82,17 +70,6 @@ module _ (v : View) (g : ℕ → List Slot) (n : ℕ) (e : kept (shownBy v g) n 
 
 -- ---- the same children everywhere: the same nodes are reached
 
-module _ (v v′ : View) (same : (n : ℕ) → children v′ n ≡ children v n) where
-  reached-same : (d : ℕ) (ns : List ℕ) → reachedFrom v′ d ns ≡ reachedFrom v d ns
-  unfolding reachedFrom
-  reached-same zero ns = refl
-  reached-same (suc d) ns = ap (λ (l : List ℕ). ns ++ l) (ap (reachedFrom v′ d) (flat-each (children v′) (children v) ns (mem-each _ ns (λ n m. same n))) ∙ reached-same d (flat (children v) ns))
-
-  leaves-same : (d : ℕ) (ns : List ℕ) → leavesFrom v′ d ns ≡ leavesFrom v d ns
-  unfolding leavesFrom
-  leaves-same zero ns = refl
-  leaves-same (suc d) ns = ap (leavesFrom v′ d) (flat-each (children v′) (children v) ns (mem-each _ ns (λ n m. same n))) ∙ leaves-same d (flat (children v) ns)
-
 module _ (v : View) (x : ℕ) (ss : List Slot) (same : children (withShown v x ss) x ≡ children v x) where
   abbrev v′ : View
   v′ = withShown v x ss
@@ -104,10 +81,10 @@ module _ (v : View) (x : ℕ) (ss : List Slot) (same : children (withShown v x s
   children-same = at-or-off (λ (n : ℕ). children v′ n ≡ children v n) x same (λ n z. children-own v _ n (off n z))
 
   pub shown-reached : reached (withShown v x ss) ≡ reached v
-  shown-reached = reached-same v v′ children-same (height v) (v .root ∷ [])
+  shown-reached = reached-agree v v′ (height v) (v .root ∷ []) (mem-each _ (reached v) (λ n m. children-same n))
 
   pub shown-leaves : leaves (withShown v x ss) ≡ leaves v
-  shown-leaves = leaves-same v v′ children-same (height v) (v .root ∷ [])
+  shown-leaves = leaves-agree v v′ (height v) (v .root ∷ []) (mem-each _ (reached v) (λ n m. children-same n))
 
   -- x is no leaf, or keeps the same slots
   pub shown-mapping : Each (λ (n : ℕ). n ≡ x → kept (withShown v x ss) x ≡ kept v x) (leaves v) → mapping (withShown v x ss) ≡ mapping v

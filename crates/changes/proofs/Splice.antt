@@ -2,7 +2,7 @@
 use mathlib.Core.Path.{_≡_, refl, ap, sym, _∙_}
 use mathlib.Core.Bool.{Bool, true, false}
 use mathlib.Core.Logic.{_≢_, _⊎_, inl, inr}
-use mathlib.Core.List.{List, [], _∷_, _++_, append-assoc, List·Memᴰ, List·Memᴰ·head, List·Memᴰ·tail, List·Memᴰ·not-nil, List·Memᴰ·cases-cons}
+use mathlib.Core.List.{List, [], _∷_, _++_, append-assoc, List·Memᴰ, List·Memᴰ·head, List·Memᴰ·tail, List·Memᴰ·not-nil, List·Memᴰ·cases-cons, Memᴰ·append-right}
 use Prim.Native.Nat.{ℕ, suc}
 use lib.Dec.{eqb}
 use lib.ListN.{length}
@@ -10,8 +10,9 @@ use borrow.Author.Tests.{eqb-true, eqb-false, eq-eqb, ne-eqb}
 use Rattle.model.specs.Reached.{flat, headOr}
 use Rattle.model.specs.SoundTest.{elem, distinct}
 use Rattle.list_laws.proofs.Tools.{Each}
-use Rattle.tree_laws.proofs.Members.{elem-false, distinct-cons, Once}
-use Rattle.changes.proofs.Lists.{Off, elem-cons}
+use Rattle.list_laws.proofs.Members.{elem-false, elem-cons}
+use Rattle.list_laws.proofs.Distinct.{distinct-cons, Once}
+use Rattle.changes.proofs.Lists.{Off}
 
 -- b put in after a
 unfoldable pub splice : ℕ → ℕ → List ℕ → List ℕ
@@ -96,6 +97,9 @@ module _ (a b : ℕ) where
       go true c (inr t) ih = rw (eqb-true n a c, splice-at ns) (List·Memᴰ·tail (List·Memᴰ·tail (ih t)))
       go false c (inl e) ih = rw (splice-off n ns (eqb-false n a c)) (List·Memᴰ·head e)
       go false c (inr t) ih = rw (splice-off n ns (eqb-false n a c)) (List·Memᴰ·tail (ih t))
+
+  pub splice-in : (ns : List ℕ) → Once a ns → List·Memᴰ b (splice a b ns)
+  splice-in ns o = rw (o .shape, splice-append (o .before) (a ∷ o .after), splice-at (o .after)) (Memᴰ·append-right (splice a b (o .before)) (List·Memᴰ·tail (List·Memᴰ·head refl)))
 
   pub distinct-splice : (ns : List ℕ) → distinct ns ≡ true → elem b ns ≡ false → distinct (splice a b ns) ≡ true
   distinct-splice [] d h = rw splice-nil d

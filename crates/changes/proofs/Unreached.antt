@@ -2,7 +2,7 @@
 use mathlib.Core.Path.{_≡_, refl, ap, sym, _∙_, subst}
 use mathlib.Core.Bool.{Bool, true, false, _||_}
 use mathlib.Core.Logic.{_≢_}
-use mathlib.Core.List.{List, [], _∷_, _++_, List·Memᴰ}
+use mathlib.Core.List.{List, [], _∷_, List·Memᴰ}
 use Prim.Native.Nat.{ℕ, zero, suc, _≤_}
 use native.Mathlib.Omega.{arith}
 use lib.Dec.{eqb, ltb}
@@ -11,14 +11,15 @@ use Rattle.model.specs.Slots.{Slot, View, height}
 use Rattle.model.specs.Search.{below, within}
 use Rattle.model.specs.Reached.{filter, flat, headOr, pointers, kept, named, firstChild, nextChild, fillRow, children, reachedFrom, leavesFrom, reached, leaves, mapping}
 use Rattle.model.specs.SoundTest.{all, elem, siblingOk, comeFirst, linked, childOk, slotOk, Leftover, nothing, hiddenIn, missingIn, bothIn, room, hasRoom}
-use Rattle.list_laws.proofs.Tools.{decode, Each, Each-split, Each-map}
-use Rattle.tree_laws.proofs.Members.{each-mem, mem-each, each-both}
-use Rattle.tree_laws.proofs.Rows.{Good, link-head, link-tail, children-inner, leaf-ok, inner-ok, each-here, each-lower, each-leaf}
+use Rattle.list_laws.proofs.Tools.{Each, Each-split, Each-map}
+use Rattle.list_laws.proofs.Members.{elem-none, each-mem, mem-each, each-both, mem-here, flat-each}
+use Rattle.list_laws.proofs.Distinct.{UpTo}
+use Rattle.tree_laws.proofs.Rows.{Good, link-head, link-tail, children-inner, leaf-ok, inner-ok, each-here, each-leaf, SameChildren, reached-agree, leaves-agree}
 use Rattle.tree_laws.proofs.Kept.{by-level}
-use Rattle.tree_laws.proofs.Levels.{RootFacts, Orderly, Bounded, reached-bounds}
+use Rattle.tree_laws.proofs.Levels.{RootFacts, Orderly, reached-numbers}
 use Rattle.tree_laws.proofs.Gaps.{Gap}
 use Rattle.tree_laws.proofs.Leftovers.{children-of, gap-children, Left, NoneHidden, NoneTrailing, NoneMissing, HiddenOnly, TrailingOnly, MissingOnly}
-use Rattle.changes.proofs.Lists.{Off, not-in, mem-here, flat-each}
+use Rattle.changes.proofs.Lists.{Off}
 use Rattle.changes.proofs.Parts.{KeysOk, LeafOk, leaf-iff, InnerOk, inner-iff, good-parts, good-leaf, good-inner, no-children, HasLeft, Keeps, same-room}
 use Rattle.changes.proofs.Parents.{sibling-reached, child-reached}
 
@@ -145,29 +146,14 @@ module _ (v v′ : View) (b : ℕ) (same : AgreeBut v v′ b) where
 
   -- ---- the nodes reached, and the map
 
-  reached-agree : (d : ℕ) (ns : List ℕ) → Each Clear (reachedFrom v d ns) → reachedFrom v′ d ns ≡ reachedFrom v d ns
-  unfolding reachedFrom
-  reached-agree zero ns h = refl
-  reached-agree (suc d) ns h =
-      let u = Each-split Clear ns (reachedFrom v d (flat (children v) ns)) h in
-      ap (λ (l : List ℕ). ns ++ l) (ap (reachedFrom v′ d) (flat-each (children v′) (children v) ns (Each-map Clear (λ (n : ℕ). children v′ n ≡ children v n) ns children-agree (u .0))) ∙ reached-agree d (flat (children v) ns) (u .1))
-
-  leaves-agree : (d : ℕ) (ns : List ℕ) → Each Clear (reachedFrom v d ns) → leavesFrom v′ d ns ≡ leavesFrom v d ns
-  unfolding leavesFrom
-  leaves-agree zero ns h = refl
-  leaves-agree (suc d) ns h =
-      ap (leavesFrom v′ d) (flat-each (children v′) (children v) ns (Each-map Clear (λ (n : ℕ). children v′ n ≡ children v n) ns children-agree (each-here v Clear (suc d) ns h)))
-      ∙ leaves-agree d (flat (children v) ns) (each-lower v Clear d ns h)
-
   module _ (o : Orderly v) (nonzero : b ≢ 0) (fresh : elem b (reached v) ≡ false) where
     not-b : (n : ℕ) → List·Memᴰ n (reached v) → n ≢ b
-    not-b n m e = not-in b (reached v) fresh (rw e at m)
+    not-b n m e = elem-none b (reached v) .0 fresh (rw e at m)
 
     clear : (n : ℕ) → List·Memᴰ n (reached v) → Clear n
-    unfolding inRange
     clear n m =
         let kids : Off b (children v n) = mem-each (λ (c : ℕ). c ≢ b) (children v n) (λ c h. not-b c (child-reached v n c o m h)) in
-        let r = simp decode at (each-mem (Bounded v (height v)) (reached-bounds v o) m .0) in
+        let r = each-mem (UpTo (v .nodes)) (reached-numbers v o) m in
         record {
           some = r .0;
           own = not-b n m;
@@ -185,12 +171,15 @@ module _ (v v′ : View) (b : ℕ) (same : AgreeBut v v′ b) where
     same-height : height v′ ≡ height v
     same-height = ap (v′ .level) (same .root) ∙ same .level (v .root) (root-clear .own)
 
+    same-children : Each (SameChildren v v′) (reached v)
+    same-children = Each-map Clear (SameChildren v v′) (reached v) children-agree clears
+
     same-reached : reached v′ ≡ reached v
-    same-reached = ap (λ (d : ℕ). reachedFrom v′ d (v′ .root ∷ [])) same-height ∙ ap (λ (n : ℕ). reachedFrom v′ (height v) (n ∷ [])) (same .root) ∙ reached-agree (height v) (v .root ∷ []) clears
+    same-reached = ap (λ (d : ℕ). reachedFrom v′ d (v′ .root ∷ [])) same-height ∙ ap (λ (n : ℕ). reachedFrom v′ (height v) (n ∷ [])) (same .root) ∙ reached-agree v v′ (height v) (v .root ∷ []) same-children
 
     same-mapping : mapping v′ ≡ mapping v
     unfolding mapping
-    same-mapping = ap (flat (kept v′)) (ap (λ (d : ℕ). leavesFrom v′ d (v′ .root ∷ [])) same-height ∙ ap (λ (n : ℕ). leavesFrom v′ (height v) (n ∷ [])) (same .root) ∙ leaves-agree (height v) (v .root ∷ []) clears)
+    same-mapping = ap (flat (kept v′)) (ap (λ (d : ℕ). leavesFrom v′ d (v′ .root ∷ [])) same-height ∙ ap (λ (n : ℕ). leavesFrom v′ (height v) (n ∷ [])) (same .root) ∙ leaves-agree v v′ (height v) (v .root ∷ []) same-children)
         ∙ flat-each (kept v′) (kept v) (leaves v) (Each-map Clear (λ (n : ℕ). kept v′ n ≡ kept v n) (leaves v) (λ n c. kept-agree n c) (each-leaf v Clear (height v) (v .root ∷ []) clears))
 
     same-top : RootFacts v′

@@ -7,7 +7,7 @@ use Prim.Native.Nat.{ℕ}
 use lib.Dec.{eqb}
 use borrow.Author.Tests.{eq-eqb, ne-eqb}
 use Rattle.model.specs.Slots.{Slot, View}
-use Rattle.changes.proofs.Lists.{at-or-off}
+use Rattle.list_laws.proofs.Tools.{at-or-off}
 
 -- the function g with the value a at x
 unfoldable pub update {ℓ} : {A : Type ℓ} → (ℕ → A) → ℕ → A → ℕ → A

@@ -6,21 +6,11 @@ use Prim.Native.Nat.{ℕ, zero, suc, _≤_, _<_}
 use native.Mathlib.Omega.{arith}
 use lib.Dec.{ltb}
 use borrow.Author.Tests.{ltb-true, ltb-false}
-use lib.ListN.{length, take, set, length-set, List·getD-eq-default}
+use lib.ListN.{length, take, List·getD-eq-default}
 use Rattle.model.specs.Table.{Words, at, line}
-use Rattle.model.specs.Orders.{Store, Order, store, flush, apply, carry}
+use Rattle.model.specs.Orders.{Order, flush, apply, carry}
 use Rattle.model.specs.Cuts.{upToFlush, laterStores, Image}
-
-apply-length : (ss : List Store) (t : Words) → length (apply ss t) ≡ length t
-unfolding apply
-apply-length [] t = refl
-apply-length (s ∷ ss) t = apply-length ss (set t (s .word) (s .value)) ∙ length-set t (s .word) (s .value)
-
-carry-length : (os : List Order) (t : Words) → length (carry os t) ≡ length t
-unfolding carry
-carry-length [] t = refl
-carry-length (store s ∷ os) t = carry-length os (set t (s .word) (s .value)) ∙ length-set t (s .word) (s .value)
-carry-length (flush l ∷ os) t = carry-length os t
+use Rattle.cut_laws.proofs.Applying.{length-apply, length-carry}
 
 -- the first n values of g
 unfoldable pub values : (n : ℕ) → (ℕ → ℕ) → Words
@@ -51,7 +41,7 @@ module _ (arrived : ℕ → ℕ) (t : Words) (os : List Order) where
 
   line-length : (l : ℕ) → length (withLine l) ≡ length t
   unfolding withLine
-  line-length l = apply-length (take (arrived l) (laterStores l os)) (carry (upToFlush l os) t) ∙ carry-length (upToFlush l os) t
+  line-length l = length-apply (take (arrived l) (laterStores l os)) (carry (upToFlush l os) t) ∙ length-carry (upToFlush l os) t
 
   image-word : (l w : ℕ) → line w ≡ l → at imageOf w ≡ at (withLine l) w
   unfolding imageOf

@@ -3,27 +3,19 @@ use mathlib.Core.Path.{_≡_, refl, sym, _∙_}
 use mathlib.Core.Logic.{_≢_}
 use mathlib.Core.Bool.{Bool, true, false, cond, _||_, false≢true}
 use mathlib.Core.List.{List, [], _∷_, map}
-use mathlib.Core.Option.{Option, none, some}
-use Prim.Native.Nat.{ℕ, suc, _≤_}
+use Prim.Native.Nat.{ℕ}
 use native.Mathlib.Omega.{arith}
-use lib.Dec.{eqb, ltb}
-use borrow.Author.Tests.{eqb-true, eqb-false, eq-eqb, ne-eqb, ltb-false, leb-true}
-use lib.ListN.{length}
-use Rattle.model.specs.Table.{Words, headerOk}
-use Rattle.model.specs.Slots.{View, view, full}
+use lib.Dec.{eqb}
+use borrow.Author.Tests.{eqb-true, eqb-false, eq-eqb, ne-eqb}
+use Rattle.model.specs.Table.{Words}
 use Rattle.model.specs.Reached.{mapOf}
-use Rattle.model.specs.SoundTest.{settled, settledView, sound, soundView, Leftover, nothing, hiddenIn, missingIn, bothIn, isNothing, leftover, isAllowed, room}
+use Rattle.model.specs.SoundTest.{sound}
 use Rattle.model.specs.Writes.{Call, insertion, deletion, repair, repaired}
-use Rattle.model.specs.Refusals.{fullParent, parentFull, Test, test, firstNumber, testsFrom5, elevenIn, tenIn, refusal}
+use Rattle.model.specs.Refusals.{parentFull, Test, test, firstNumber, testsFrom5, elevenIn, tenIn, refusal}
 use Rattle.model.specs.Ledger.{Ledger, fedOf, ledgerRefusal}
-use Rattle.list_laws.proofs.Tools.{and-iff}
-use Rattle.steps.proofs.Numbers.{parent-not-full}
+use Rattle.tree_laws.proofs.Levels.{sound-header}
 
 -- ---- sound tables: what refusals 2 and 12 see of them
-
-pub sound-header : (t : Words) → sound t ≡ true → headerOk t ≡ true
-unfolding sound
-sound-header t h = (simp and-iff at h) .0
 
 -- a sound table's tests: those from 5 on
 abbrev tests : Call → (words : ℕ) → Words → List Test
@@ -116,11 +108,3 @@ pub only-ten : (x : Call) (words : ℕ) (t : Words) → sound t ≡ true → ref
 only-ten (insertion k r) words t fine e = alone _ (number-holds 10 (insertion k r) words t fine (omega arith) e)
 only-ten (deletion k) words t fine e = number-holds 10 (deletion k) words t fine (omega arith) e
 only-ten repair words t fine e = number-holds 10 repair words t fine (omega arith) e
-
-first-passed : (b : Bool) (n r : ℕ) → cond b (suc n) r ≡ 0 → b ≡ false
-first-passed true n r e = absurd (omega arith)
-first-passed false n r e = refl
-
--- an accepted call was lent 2,560 words
-pub accepted-long : (x : Call) (words : ℕ) (t : Words) → sound t ≡ true → refusal x words t ≡ 0 → 2560 ≤ words
-accepted-long x words t fine e = ltb-false words 2560 (first-passed (ltb words 2560) 4 _ (sym (from-five x words t fine) ∙ e))

@@ -24,10 +24,12 @@ use Rattle.model.specs.Refusals.{refusal, unlessRefused, ordersOf, written, wri
 use Rattle.model.specs.Ledger.{Ledger, change, fedOf, ledgerRefusal, End, cutAfter, taken, feed}
 use Rattle.model.specs.Demand3.{Fate, whole, cut, Event, History, State, numberOf, answered, listOf, afterFate, step, runAll, FateMay, May, endOf, ledgerAfter, Agrees, Completed, Carried, Keeps, Right, Kept, Demand3}
 use Rattle.tree_laws.proofs.Leftovers.{settled-sound}
+use Rattle.tree_laws.proofs.Levels.{sound-header}
 use Rattle.steps.proofs.Calls.{OldOrNew, Steps}
 use Rattle.steps.proofs.Numbers.{parent-not-full}
+use Rattle.steps.proofs.Accepted.{accepted-iff}
 use Rattle.crash.proofs.Laws.{Laws}
-use Rattle.crash.proofs.Numbers.{sound-header, from-five, number-in-ledger, only-twelve, only-eleven, only-ten, accepted-long}
+use Rattle.crash.proofs.Numbers.{from-five, number-in-ledger, only-twelve, only-eleven, only-ten}
 
 -- ---- equality of maps is decided
 
@@ -149,7 +151,7 @@ module _ (L : Laws) where
 
     fits : 2 * length (orders ss) ≤ length (e .lent)
     fits =
-        let long : 2560 ≤ length (e .lent) = accepted-long x (length (e .lent)) t fine ok in
+        let long : 2560 ≤ length (e .lent) = accepted-iff x (length (e .lent)) t .0 ok .long in
         let few : length (orders ss) ≤ 1121 = steps .few in
         omega arith
 

@@ -4,12 +4,12 @@ use mathlib.Core.Logic.{_≢_}
 use mathlib.Core.List.{List, [], _∷_, _++_}
 use Prim.Native.Nat.{ℕ, zero, suc, _+_, _-_, _≤_}
 use native.Mathlib.Omega.{arith}
-use native.Mathlib.Numerals.{unary-clauses}
 use lib.ListN.{length, take, set, length-set}
-use lib.Seq.{take-nil, getD-set-other}
+use lib.Seq.{getD-set-other}
 use Rattle.model.specs.Table.{Words, at, line}
 use Rattle.model.specs.Orders.{Store, Order, store, flush, apply, carry, storeCount, flushCount}
 use Rattle.cut_laws.specs.Unflushed.{storesIn}
+pub use Rattle.list_laws.proofs.Lists.{take-append}
 
 -- ---- stores
 
@@ -31,12 +31,6 @@ apply-append (s ∷ a) b t = apply-append a b _
 pub apply-snoc : (ss : List Store) (s : Store) (t : Words) → apply (ss ++ (s ∷ [])) t ≡ set (apply ss t) (s .word) (s .value)
 unfolding apply
 apply-snoc ss s t = apply-append ss (s ∷ []) t
-
--- a first part of two lists in a row
-pub take-append {ℓ} : {A : Type ℓ} (n : ℕ) (a b : List A) → take n (a ++ b) ≡ take n a ++ take (n - length a) b
-take-append n [] b = simp (take-nil, unary-clauses)
-take-append zero (x ∷ a) b = let e : 0 - length (x ∷ a) ≡ 0 = omega arith in rw e
-take-append (suc n) (x ∷ a) b = simp unary-clauses (ap (λ l. x ∷ l) (take-append n a b))
 
 -- What holds after each first part of a, and from there after each first part of b, holds after each first part of both.
 pub always-append : (P : Words → Type 0) (a b : List Store) (t : Words) → ((i : ℕ) → P (apply (take i a) t)) → ((i : ℕ) → P (apply (take i b) (apply a t))) → (i : ℕ) → P (apply (take i (a ++ b)) t)

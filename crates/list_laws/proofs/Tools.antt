@@ -1,14 +1,13 @@
--- Booleans and lists: tests as facts, what holds of each element, lists joined, lookups.
+-- Booleans, numbers and lists: tests as facts, numbers compared, what holds of each element, lists joined, lookups.
 use mathlib.Core.Path.{_≡_, refl, ap, sym, _∙_}
 use mathlib.Core.Bool.{Bool, true, false, not, _&&_, _||_, false≢true}
-use mathlib.Core.Logic.{_↔_}
-use mathlib.Core.List.{List, [], _∷_, _++_, map, append-assoc}
+use mathlib.Core.Logic.{_↔_, _≢_, _⊎_, inl, inr, ⊎-elim}
+use mathlib.Core.List.{List, [], _∷_, _++_, append-assoc}
 use mathlib.Core.Option.{Option, none, some}
-use Prim.Native.Nat.{ℕ, zero, suc, _+_, _≤_, _<_}
+use Prim.Native.Nat.{ℕ, suc, _+_, _*_, _≤_, _<_}
 use native.Mathlib.Omega.{arith}
 use lib.Dec.{eqb, ltb, leb}
-use borrow.Author.Tests.{ltb-true, ltb-false, leb-true, leb-false, eqb-true, eqb-false, eq-eqb, ne-eqb, lt-ltb, le-ltb, le-leb, lt-leb}
-use Rattle.model.specs.declared.Answer.{Answer}
+use borrow.Author.Tests.{ltb-true, ltb-false, leb-true, eqb-true, eqb-false, eq-eqb, ne-eqb, le-leb}
 use Rattle.model.specs.declared.Answer.the-variants.{Found, Absent}
 use Rattle.model.specs.Slots.{Slot}
 use Rattle.model.specs.Search.{firstWith, answerOf, lookup}
@@ -28,6 +27,14 @@ leb-iff a b = (leb-true a b, le-leb a b)
 -- `simp decode at h` turns a true conjunction of tests into the tuple of its facts, and `simp decode (..)` proves one
 pub ruleset decode = (and-iff, eqb-iff, leb-iff)
 
+pub not-iff : (b : Bool) → (not b ≡ true) ↔ (b ≡ false)
+not-iff true = (λ e. sym e, λ e. sym e)
+not-iff false = (λ e. refl, λ e. refl)
+
+pub not-false-iff : (b : Bool) → (not b ≡ false) ↔ (b ≡ true)
+not-false-iff true = (λ e. refl, λ e. refl)
+not-false-iff false = (λ e. sym e, λ e. sym e)
+
 -- a test whose facts fail is not passed
 pub refuted : (b : Bool) → (b ≡ true → ⊥) → b ≡ false
 refuted true h = absurd (h refl)
@@ -46,6 +53,32 @@ or-right false b e = e
 pub or-false-iff : (a b : Bool) → (a || b ≡ false) ↔ ((a ≡ false) × (b ≡ false))
 or-false-iff true b = (λ e. absurd (false≢true (sym e)), λ u. u .0)
 or-false-iff false b = (λ e. (refl, e), λ u. u .1)
+
+-- ---- two numbers compared
+
+pub same-or-not : (a b : ℕ) → (a ≡ b) ⊎ (a ≢ b)
+same-or-not a b = go (eqb a b) refl
+  where
+    go : (t : Bool) → eqb a b ≡ t → (a ≡ b) ⊎ (a ≢ b)
+    go true c = inl (eqb-true a b c)
+    go false c = inr (eqb-false a b c)
+
+-- by cases: n is x or not
+pub at-or-off : (P : ℕ → Type 0) (x : ℕ) → P x → ((n : ℕ) → n ≢ x → P n) → (n : ℕ) → P n
+at-or-off P x a o n = ⊎-elim (λ e. rw e a) (o n) (same-or-not n x)
+
+pub compared : (a b : ℕ) → (a < b) ⊎ ((a ≡ b) ⊎ (b < a))
+compared a b = go (ltb a b) refl (ltb b a) refl
+  where
+    go : (s : Bool) → ltb a b ≡ s → (t : Bool) → ltb b a ≡ t → (a < b) ⊎ ((a ≡ b) ⊎ (b < a))
+    go true p t q = inl (ltb-true a b p)
+    go false p true q = inr (inr (ltb-true b a q))
+    go false p false q = inr (inl (let x = ltb-false a b p in let y = ltb-false b a q in omega arith))
+
+pub double-suc : (i : ℕ) → 2 * suc i ≡ suc (suc (2 * i))
+double-suc i = omega arith
+
+-- ---- what holds of each element
 
 abbrev pub Each {ℓ} : {A : Type ℓ} → (A → Type 0) → List A → Type 0
 Each P [] = Unit {0}
@@ -73,6 +106,12 @@ unfolding all
 all-append p [] ys = (λ e. (refl, e), λ u. u .1)
 all-append p (x ∷ xs) ys = (λ e. let h = simp and-iff at e in let g = all-append p xs ys .0 (h .1) in (simp and-iff (h .0, g .0), g .1), λ u. let h = simp and-iff at (u .0) in simp and-iff (h .0, all-append p xs ys .1 (h .1, u .1)))
 
+-- tests that agree on each element
+pub all-same {ℓ} : {A : Type ℓ} (p q : A → Bool) (xs : List A) → Each (λ (x : A). p x ≡ q x) xs → all p xs ≡ all q xs
+unfolding all
+all-same p q [] h = refl
+all-same p q (x ∷ xs) h = rw (h .0, all-same p q xs (h .1))
+
 pub flat-append {ℓ} : {A B : Type ℓ} (g : A → List B) (xs ys : List A) → flat g (xs ++ ys) ≡ flat g xs ++ flat g ys
 unfolding flat
 flat-append g [] ys = refl
@@ -93,12 +132,12 @@ unfolding flat
 Each-flat P g [] h = tt
 Each-flat P g (x ∷ xs) h = let u = Each-split P (g x) (flat g xs) h in (u .0, Each-flat P g xs (u .1))
 
-pub Each-filter : (P : Slot → Type 0) (q : Slot → Bool) (ss : List Slot) → Each P ss → Each (λ (s : Slot). P s × (q s ≡ true)) (filter q ss)
+pub Each-filter {ℓ} : {A : Type ℓ} (P : A → Type 0) (q : A → Bool) (xs : List A) → Each P xs → Each (λ (x : A). P x × (q x ≡ true)) (filter q xs)
 unfolding filter
 Each-filter P q [] h = tt
-Each-filter P q (s ∷ ss) h = go (q s) refl (Each-filter P q ss (h .1))
+Each-filter {A = A} P q (x ∷ xs) h = go (q x) refl (Each-filter P q xs (h .1))
   where
-    go : (b : Bool) → q s ≡ b → Each (λ (s : Slot). P s × (q s ≡ true)) (filter q ss) → Each (λ (s : Slot). P s × (q s ≡ true)) (filter q (s ∷ ss))
+    go : (b : Bool) → q x ≡ b → Each (λ (x : A). P x × (q x ≡ true)) (filter q xs) → Each (λ (x : A). P x × (q x ≡ true)) (filter q (x ∷ xs))
     go true c ih = rw (c, filter) ((h .0, c), ih)
     go false c ih = rw (c, filter) ih
 
@@ -131,6 +170,14 @@ first-filter k q (s ∷ ss) h = go (q s) (eqb (s .key) k) refl refl (first-filte
     go true false e c ih = rw (e, c, firstWith, filter) ih
     go false true e c ih = absurd (false≢true (sym e ∙ h s (eqb-true (s .key) k c)))
     go false false e c ih = rw (e, c, firstWith, filter) ih
+
+pub lookup-here : (k : ℕ) (s : Slot) (ss : List Slot) → s .key ≡ k → lookup k (s ∷ ss) ≡ Found (s .pointer)
+unfolding lookup firstWith
+lookup-here k s ss e = rw (eq-eqb (s .key) k e, firstWith)
+
+pub lookup-past : (k : ℕ) (s : Slot) (ss : List Slot) → s .key ≢ k → lookup k (s ∷ ss) ≡ lookup k ss
+unfolding lookup firstWith
+lookup-past k s ss z = rw (ne-eqb (s .key) k z, firstWith)
 
 pub lookup-nil : (k : ℕ) (b : List Slot) → Misses k b → lookup k b ≡ Absent
 unfolding lookup

@@ -6,31 +6,25 @@ use native.Mathlib.Omega.{arith}
 use lib.Dec.{eqb, leb}
 use lib.ListN.{length}
 use borrow.Author.Tests.{eqb-true, eq-eqb, leb-true, leb-false}
-use Rattle.model.specs.Table.{Words, headerOk, root, nodes}
+use Rattle.model.specs.Table.{Words, root, nodes}
 use Rattle.model.specs.Slots.{view, height}
 use Rattle.model.specs.Reached.{reached}
 use Rattle.model.specs.SoundTest.{elem, sound}
 use Rattle.model.specs.Writes.{standing}
 use Rattle.list_laws.proofs.Tools.{same-test}
+use Rattle.list_laws.proofs.Members.{elem-iff}
 use Rattle.table_laws.proofs.Header.{header-iff}
-use Rattle.tree_laws.proofs.Members.{elem-iff}
-use Rattle.tree_laws.proofs.Levels.{Orderly, sound-orderly, sound-parts}
 use Rattle.tree_laws.proofs.SearchLaw.{path-root, reached-iff}
 use Rattle.node.specs.Word.{wordOf}
 use Rattle.node.proofs.WordLaws.{word-level, word-fence}
 use Rattle.search.proofs.Standing.{header-words}
-
-pub sound-header : (t : Words) → sound t ≡ true → headerOk t ≡ true
-sound-header t h = sound-parts t .0 h .0
+pub use Rattle.tree_laws.proofs.Levels.{sound-header, orderly-of}
 
 pub sound-words : (t : Words) → sound t ≡ true → 40 ≤ length t
 sound-words t h = header-words t (sound-header t h)
 
 pub sound-few : (t : Words) → sound t ≡ true → nodes t ≤ 65535
 sound-few t h = header-iff t .0 (sound-header t h) .size .few
-
-pub orderly-of : (t : Words) → sound t ≡ true → Orderly (view t)
-orderly-of t h = sound-orderly (view t) (sound-parts t .0 h .1)
 
 pub sound-height : (t : Words) (top : ℕ) → sound t ≡ true → top ≡ wordOf t (root t) 2 → top ≤ 15
 sound-height t top h e = rw (e ∙ word-level t (root t)) (orderly-of t h .top .level)

@@ -15,7 +15,7 @@ use Rattle.model.specs.Search.{moved, down, pathFrom, path}
 use Rattle.model.specs.Reached.{kept, reached}
 use Rattle.model.specs.SoundTest.{all, settled}
 use Rattle.model.specs.Writes.{runIn, run, rootInRun}
-use Rattle.list_laws.proofs.Tools.{Each, Each-map, same-test}
+use Rattle.list_laws.proofs.Tools.{Each, Each-map, same-test, all-same}
 use Rattle.tree_laws.proofs.Rows.{not-zero}
 use Rattle.tree_laws.proofs.Levels.{settled-parts}
 use Rattle.tree_laws.proofs.Shape.{shape-view}
@@ -83,11 +83,6 @@ module _ (p : ℕ → Bool) where
       go false e = refl
 
 -- tests that agree on the elements have the same longest end
-all-same : (p q : ℕ → Bool) (ns : List ℕ) → Each (λ (n : ℕ). p n ≡ q n) ns → all p ns ≡ all q ns
-unfolding all
-all-same p q [] h = refl
-all-same p q (n ∷ ns) h = rw (h .0, all-same p q ns (h .1))
-
 pub end-same : (p q : ℕ → Bool) (ns : List ℕ) → Each (λ (n : ℕ). p n ≡ q n) ns → endRun p ns ≡ endRun q ns
 end-same p q [] h = unfold endRun in refl
 end-same p q (n ∷ ns) h = go (all q (n ∷ ns)) refl (all-same p q (n ∷ ns) h) (end-same p q ns (h .1))

@@ -13,7 +13,8 @@ use Rattle.model.specs.Table.{Words, at, node}
 use Rattle.model.specs.Slots.{Slot, view, used}
 use Rattle.model.specs.Search.{below}
 use Rattle.model.specs.Reached.{filter, kept}
-use Rattle.tree_laws.proofs.Members.{mem-each, filter-yes, filter-no, filter-all}
+use Rattle.list_laws.proofs.Members.{mem-each}
+use Rattle.list_laws.proofs.Filters.{filter-yes, filter-no, filter-all}
 use Rattle.node.specs.Word.{wordOf}
 use Rattle.node.proofs.WordLaws.{word-fence}
 use Rattle.search.specs.Scan.{shownFrom}

@@ -11,16 +11,8 @@ use Rattle.model.specs.Slots.{view}
 use Rattle.model.specs.Reached.{filter, headOr, reached}
 use Rattle.model.specs.SoundTest.{elem}
 use Rattle.model.specs.Writes.{numbers, unreached, fresh}
-use Rattle.tree_laws.proofs.Members.{filter-yes, filter-no}
-
-pub filter-append {ℓ} : {A : Type ℓ} (q : A → Bool) (xs ys : List A) → filter q (xs ++ ys) ≡ filter q xs ++ filter q ys
-unfolding filter
-filter-append q [] ys = refl
-filter-append {A = A} q (x ∷ xs) ys = go (q x) refl (filter-append q xs ys)
-  where
-    go : (b : Bool) → q x ≡ b → filter q (xs ++ ys) ≡ filter q xs ++ filter q ys → filter q (x ∷ xs ++ ys) ≡ filter q (x ∷ xs) ++ filter q ys
-    go true c ih = filter-yes q x (xs ++ ys) c ∙ ap (λ (l : List A). x ∷ l) ih ∙ ap (λ (l : List A). l ++ filter q ys) (sym (filter-yes q x xs c))
-    go false c ih = filter-no q x (xs ++ ys) c ∙ ih ∙ ap (λ (l : List A). l ++ filter q ys) (sym (filter-no q x xs c))
+use Rattle.list_laws.proofs.Filters.{filter-yes, filter-no}
+pub use Rattle.list_laws.proofs.Filters.{filter-append}
 
 module _ (t : Words) where
   pub unreached-yes : (n : ℕ) (ns : List ℕ) → elem n (reached (view t)) ≡ false → unreached t (n ∷ ns) ≡ n ∷ unreached t ns

@@ -1,18 +1,18 @@
 -- What one more slot does to the way down, and to what is found in a leaf.
 use mathlib.Core.Path.{_≡_, refl, ap, sym, _∙_, subst}
-use mathlib.Core.Bool.{Bool, true, false, cond}
+use mathlib.Core.Bool.{Bool, true, false}
 use mathlib.Core.List.{List, [], _∷_}
-use mathlib.Core.Option.{Option, none, some}
 use Prim.Native.Nat.{ℕ, suc, _+_, _*_, _<_, _≤_}
 use native.Mathlib.Numerals.{add-one}
 use lib.Dec.{eqb, leb}
 use lib.ListN.{length, drop}
-use borrow.Author.Tests.{eq-eqb, ne-eqb, eqb-true, eqb-false}
+use borrow.Author.Tests.{eqb-true, eqb-false}
 use Rattle.model.specs.declared.Answer.{Answer}
 use Rattle.model.specs.declared.Answer.the-variants.{Found, Absent}
 use Rattle.model.specs.Table.{Words, at}
 use Rattle.model.specs.Slots.{Slot, slot, slotsOf, inUse, shown}
-use Rattle.model.specs.Search.{route, firstWith, answerOf, lookup}
+use Rattle.model.specs.Search.{route, firstWith, lookup}
+use Rattle.list_laws.proofs.Tools.{lookup-here, lookup-past}
 use Rattle.table_laws.proofs.SlotWords.{slots-cons, slots-end, shown-stop, shown-skip, shown-take}
 use Rattle.search.specs.Scan.{shownFrom, wayAfter}
 
@@ -56,33 +56,16 @@ pub absent-end : (key : ℕ) (x : Answer) (ss : List Slot) → ss ≡ [] → loo
 unfolding lookup firstWith
 absent-end key x ss n h = sym (ap (lookup key) n) ∙ h
 
--- a shown slot with the key is found, one with another key is passed over
-first-hit : (key : ℕ) (s : Slot) (ts : List Slot) → s .key ≡ key → firstWith key (s ∷ ts) ≡ some s
-unfolding firstWith
-first-hit key s ts e = rw (eq-eqb (s .key) key e, firstWith)
-
-first-miss : (key : ℕ) (s : Slot) (ts : List Slot) → (s .key ≡ key → ⊥) → firstWith key (s ∷ ts) ≡ firstWith key ts
-unfolding firstWith
-first-miss key s ts e = rw (ne-eqb (s .key) key e, firstWith)
-
-pub found-first : (key k p : ℕ) (ts : List Slot) → k ≡ key → lookup key (slot k p ∷ ts) ≡ Found p
-unfolding lookup
-found-first key k p ts e = ap answerOf (first-hit key (slot k p) ts e)
-
-pub passed-first : (key k p : ℕ) (ts : List Slot) → (k ≡ key → ⊥) → lookup key (slot k p ∷ ts) ≡ lookup key ts
-unfolding lookup
-passed-first key k p ts e = ap answerOf (first-miss key (slot k p) ts e)
-
 -- the same for the next turn of a loop over slots, in the rest form: what is left answers as the whole does
 module _ (before : ℕ) (ws : Words) (i p : ℕ) (h : 2 * i + 1 < length ws) (e : at ws (2 * i + 1) ≡ p) (z : p ≡ 0 → ⊥) where
   pub way-next : (key way w x : ℕ) → w ≡ wayAfter way before (at ws (2 * i)) p key → route key way (shownFrom before ws i) ≡ x → route key w (shownFrom p ws (i + 1)) ≡ x
   way-next key way w x q r = rw (q, add-one i) (way-step before ws i p h e key way z ∙ r)
 
   pub found-at : (key : ℕ) (x : Answer) → (p ≡ before → ⊥) → at ws (2 * i) ≡ key → lookup key (shownFrom before ws i) ≡ x → Found p ≡ x
-  found-at key x d q r = sym (ap (lookup key) (shown-at before ws i p h e z d) ∙ found-first key _ p _ q) ∙ r
+  found-at key x d q r = sym (ap (lookup key) (shown-at before ws i p h e z d) ∙ lookup-here key _ _ q) ∙ r
 
   pub next-hidden : (key : ℕ) (x : Answer) → p ≡ before → lookup key (shownFrom before ws i) ≡ x → lookup key (shownFrom p ws (i + 1)) ≡ x
   next-hidden key x d r = rw (add-one i) (sym (ap (lookup key) (hidden-at before ws i p h e z d)) ∙ r)
 
   pub next-shown : (key : ℕ) (x : Answer) → (p ≡ before → ⊥) → (at ws (2 * i) ≡ key → ⊥) → lookup key (shownFrom before ws i) ≡ x → lookup key (shownFrom p ws (i + 1)) ≡ x
-  next-shown key x d q r = rw (add-one i) (sym (ap (lookup key) (shown-at before ws i p h e z d) ∙ passed-first key _ p _ q) ∙ r)
+  next-shown key x d q r = rw (add-one i) (sym (ap (lookup key) (shown-at before ws i p h e z d) ∙ lookup-past key _ _ q) ∙ r)

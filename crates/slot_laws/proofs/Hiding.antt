@@ -12,6 +12,7 @@ use Rattle.model.specs.Shifts.{lastPointer, hiddenPlace}
 use Rattle.model.specs.Reached.{pointers}
 use Rattle.model.specs.SoundTest.{elem, distinct}
 use Rattle.list_laws.proofs.Tools.{Each, and-iff, or-false-iff}
+use Rattle.list_laws.proofs.Slots.{each-shown, in-use-some}
 
 -- ---- joined lists
 
@@ -91,8 +92,8 @@ parts [] = record { behind = []; shape = refl; used = tt; stops = tt }
 parts (s ∷ ss) = go (eqb (s .pointer) 0) refl (parts ss)
   where
     go : (b : Bool) → eqb (s .pointer) 0 ≡ b → Parts ss → Parts (s ∷ ss)
-    go true e ih = let n : inUse (s ∷ ss) ≡ [] = rw (e, inUse) in record { behind = s ∷ ss; shape = rw n; used = rw n tt; stops = eqb-true (s .pointer) 0 e }
-    go false e ih = let n : inUse (s ∷ ss) ≡ s ∷ inUse ss = rw (e, inUse) in record { behind = ih .behind; shape = rw n (ap (λ (l : List Slot). s ∷ l) (ih .shape)); used = rw n (eqb-false (s .pointer) 0 e, ih .used); stops = ih .stops }
+    go true e ih = let n : inUse (s ∷ ss) ≡ [] = rw (e, inUse) in record { behind = s ∷ ss; shape = rw n; used = in-use-some (s ∷ ss); stops = eqb-true (s .pointer) 0 e }
+    go false e ih = let n : inUse (s ∷ ss) ≡ s ∷ inUse ss = rw (e, inUse) in record { behind = ih .behind; shape = rw n (ap (λ (l : List Slot). s ∷ l) (ih .shape)); used = in-use-some (s ∷ ss); stops = ih .stops }
 
 -- they end before a pointer that is 0
 pub in-use-before : (all : List Slot) (m : ℕ) → getD all m (slot 0 0) .pointer ≡ 0 → length (inUse all) ≤ m
@@ -176,13 +177,7 @@ distinct-shown p (s ∷ ss) u d =
     (u .0, (λ q. eqb-false p (s .pointer) (n .0) (sym q)), distinct-shown (s .pointer) ss (u .1) (e .1))
 
 pub shown-used : (p : ℕ) (ss : List Slot) → Each Used ss → Each Used (shown p ss)
-unfolding shown
-shown-used p [] u = tt
-shown-used p (s ∷ ss) u = go (eqb (s .pointer) p) refl (shown-used (s .pointer) ss (u .1))
-  where
-    go : (b : Bool) → eqb (s .pointer) p ≡ b → Each Used (shown (s .pointer) ss) → Each Used (shown p (s ∷ ss))
-    go true e ih = rw (e, shown) ih
-    go false e ih = rw (e, shown) (u .0, ih)
+shown-used = each-shown Used
 
 -- ---- what the slots of a node show and hide, after the pointer p
 

@@ -7,7 +7,7 @@ use lib.ListN.{length, length-append}
 use Rattle.model.specs.Slots.{Slot, slot}
 use Rattle.model.specs.Shifts.{SlotStore, keyTo, pointerTo, lastPointer, moveUp, moveDown}
 use Rattle.list_laws.proofs.Tools.{Each}
-use Rattle.slot_laws.proofs.Steps.{doAll, Until, Along, all-append, until-append, until-end}
+use Rattle.list_laws.proofs.Steps.{doAll, Until, Along, all-append, until-append, until-end}
 use Rattle.slot_laws.proofs.Hiding.{Used, last-append}
 use Rattle.slot_laws.proofs.SlotStores.{setKey, setPointer, doSlotStore, doSlotStores, set-key-at, set-pointer-at}
 

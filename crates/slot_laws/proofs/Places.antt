@@ -4,12 +4,12 @@ use mathlib.Core.Bool.{Bool, true, false}
 use mathlib.Core.List.{List, [], _∷_, _++_}
 use Prim.Native.Nat.{ℕ, suc, pred, _+_, _*_, _-_, _≤_, _<_}
 use native.Mathlib.Omega.{arith}
-use lib.Dec.{eqb, ltb}
+use lib.Dec.{eqb}
 use lib.ListN.{length, take, drop, length-append, length-drop}
 use Rattle.model.specs.Slots.{Slot, hidden}
-use Rattle.model.specs.Shifts.{SlotStore, keyTo, pointerTo, lastPointer, moveUp, moveDown, shiftIn, shiftOut, close, placeOf, hiddenPlace}
+use Rattle.model.specs.Shifts.{SlotStore, keyTo, pointerTo, lastPointer, moveUp, moveDown, shiftIn, shiftOut, close, hiddenPlace}
 use Rattle.list_laws.proofs.Tools.{Each, Each-append, Each-map}
-use Rattle.slot_laws.proofs.Steps.{Along, along-each}
+use Rattle.list_laws.proofs.Steps.{Along, along-each}
 use Rattle.slot_laws.proofs.SlotStores.{doSlotStore, place, pointerAt, KeepsZero, keeps-zero}
 
 -- ---- the number of stores
@@ -38,16 +38,7 @@ shift-out-count left ss p h = close-count ss p h
 
 -- ---- the places
 
--- the place of a key, and of a hidden slot
-pub place-of-le : (k : ℕ) (ss : List Slot) → placeOf k ss ≤ length ss
-unfolding placeOf
-place-of-le k [] = omega arith
-place-of-le k (s ∷ ss) = go (ltb (s .key) k) refl (place-of-le k ss)
-  where
-    go : (b : Bool) → ltb (s .key) k ≡ b → placeOf k ss ≤ length ss → placeOf k (s ∷ ss) ≤ length (s ∷ ss)
-    go true e ih = rw (e, placeOf) (omega arith)
-    go false e ih = rw (e, placeOf) (omega arith)
-
+-- the place of a hidden slot
 pub hidden-place-lt : (p : ℕ) (us : List Slot) → length (hidden p us) ≡ 1 → hiddenPlace p us < length us
 unfolding hidden hiddenPlace
 hidden-place-lt p [] h = absurd (omega arith)

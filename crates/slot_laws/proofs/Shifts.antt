@@ -8,7 +8,7 @@ use lib.Seq.{length-take-le, split-at, drop-at}
 use Rattle.model.specs.Slots.{Slot, slot, inUse, shown, hidden}
 use Rattle.model.specs.Shifts.{keyTo, pointerTo, lastPointer, moveUp, moveDown, shiftIn, shiftOut, close, hiddenPlace}
 use Rattle.list_laws.proofs.Tools.{Each}
-use Rattle.slot_laws.proofs.Steps.{doAll, Until, AtFirst, until-append, until-end}
+use Rattle.list_laws.proofs.Steps.{doAll, Until, AtFirst, until-append, until-end}
 use Rattle.slot_laws.proofs.Hiding.{Stops, parts, AllShown, all-used, all-split, all-insert, all-shown, not-hidden, last-used, Shows, MayHide, shows-all, shows-gap, OneHidden, one-hidden}
 use Rattle.slot_laws.proofs.SlotStores.{setKey, setPointer, doSlotStore, doSlotStores, set-key-at, set-pointer-at}
 use Rattle.slot_laws.proofs.Moves.{first, moved-up, move-up-along, move-down-until}

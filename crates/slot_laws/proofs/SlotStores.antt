@@ -6,7 +6,7 @@ use native.Mathlib.Omega.{arith}
 use lib.ListN.{length, getD}
 use Rattle.model.specs.Slots.{Slot, slot}
 use Rattle.model.specs.Shifts.{SlotStore, keyTo, pointerTo}
-use Rattle.slot_laws.proofs.Steps.{doAll}
+use Rattle.list_laws.proofs.Steps.{doAll}
 
 unfoldable pub setKey : List Slot → ℕ → ℕ → List Slot
 setKey [] i x = []

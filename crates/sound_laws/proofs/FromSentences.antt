@@ -2,42 +2,34 @@
 use mathlib.Core.Path.{_≡_, refl, ap, sym, _∙_, subst}
 use mathlib.Core.Bool.{Bool, true, false}
 use mathlib.Core.Logic.{_≢_, _⊎_, inl, inr}
-use mathlib.Core.List.{List, [], _∷_, map, append-nil, List·Memᴰ·not-nil, List·Memᴰ·eq-of-singleton}
+use mathlib.Core.List.{List, [], _∷_, map, List·Memᴰ, List·Memᴰ·not-nil, Memᴰ·of-map}
 use mathlib.Core.Option.{some}
 use Prim.Native.Nat.{ℕ, zero, suc, _≤_, _<_}
 use native.Mathlib.Omega.{arith}
 use lib.Dec.{eqb}
 use lib.ListN.{length, length-append}
 use borrow.Author.Tests.{eq-eqb, ne-eqb, lt-ltb}
-use Rattle.model.specs.declared.Few.{Few}
-use Rattle.model.specs.declared.Few.the-variants.{Zero, One}
-use Rattle.model.specs.declared.Missing.{Missing}
-use Rattle.model.specs.declared.Missing.the-variants.{Nowhere, Under}
 use Rattle.model.specs.Table.{MARK, inRange}
 use Rattle.model.specs.Slots.{Slot, slot, View, height}
 use Rattle.model.specs.Search.{within}
 use Rattle.model.specs.Reached.{kept, named, nextChild, fillRow, children, reached, leaves, mapping, recording}
-use Rattle.model.specs.SoundTest.{all, distinct, siblingOk, comeFirst, keysOk, linked, childOk, slotOk, leafOk, innerOk, nodeOk, rootOk, orderly, addFew, addMissing, total, times, unfinished, unfinishedAt, Leftover, nothing, hiddenIn, missingIn, bothIn, leftover, room, hasRoom}
+use Rattle.model.specs.SoundTest.{all, distinct, siblingOk, comeFirst, keysOk, linked, childOk, slotOk, leafOk, innerOk, nodeOk, orderly, Leftover, nothing, hiddenIn, missingIn, bothIn, leftover, room, hasRoom}
 use Rattle.model.specs.Sound.{Reached, at-root, by-sibling, Child, left-child, Lacks, Trails, Hides, SettledBut, OneHidden, LacksSlot, TrailingSlots, IsLeft}
-use Rattle.list_laws.proofs.Tools.{decode, and-iff, leb-iff, Each, all-each}
-use Rattle.tree_laws.proofs.Rows.{Good, Row, children-inner, linked-cons}
-use Rattle.sound_laws.proofs.Numbers.{same-or-not}
-use Rattle.sound_laws.proofs.Members.{In, in-each, distinct-cons, distinct-flat, in-map, map-flat, index-of, once-distinct}
-use Rattle.sound_laws.proofs.Sums.{SingleFew, SingleMissing, few-counts, missing-counts, none-sum, one-sum}
-use Rattle.sound_laws.proofs.Leftovers.{total-hidden, total-trailing, total-missing, hiddenOf, trailingOf, missingOf, amounts-leftover, lacks-or, slot-lacking, Shortage, shortage, shortage-is, shortage-same}
-use Rattle.sound_laws.proofs.Neighbours.{Follows, in-follows, Lost, in-fill, linked-fill, none-row, one-row}
-use Rattle.sound_laws.proofs.Fences.{rise-rising, climbs-distinct}
-use Rattle.sound_laws.proofs.Joined.{Joined, Stray, in-kept, kept-child, child-named, named-child, child-inner, child-reached, parent-same, named-climbs, reached-level, gap-child, gap-parent, gap-reached, gap-next, gap-sibling}
-use Rattle.sound_laws.proofs.Levels.{rows-all, no-children}
-use Rattle.sound_laws.proofs.Listed.{AllGood, listed-reached, reached-listed, listed-distinct, leaf-listed, leaves-distinct, mapped}
-use Rattle.sound_laws.proofs.AtNode.{split-kept, none-trailing, one-trailing, at-hidden, at-trailing, leaf-missing, inner-missing}
+use Rattle.list_laws.proofs.Tools.{and-iff, leb-iff, same-or-not, Each, Each-map, all-each}
+use Rattle.list_laws.proofs.Members.{mem-each, index-of, elem-none, map-flat}
+use Rattle.list_laws.proofs.Distinct.{distinct-cons, distinct-flat, once-distinct}
+use Rattle.tree_laws.proofs.Rows.{Good, range-iff, no-children, children-inner}
+use Rattle.tree_laws.proofs.Levels.{RootFacts, orderly-iff, row-distinct}
+use Rattle.tree_laws.proofs.Rising.{rising-from-rise}
+use Rattle.tree_laws.proofs.Kept.{kept-within, first-part, each-first}
+use Rattle.tree_laws.proofs.Leftovers.{names-linked, NoneMissing, HiddenOnly, TrailingOnly, MissingOnly, Left, leftover-iff}
+use Rattle.sound_laws.proofs.Neighbours.{Follows, in-follows, Lost, in-fill, linked-fill, lost-linked, lost-gap}
+use Rattle.sound_laws.proofs.Leftovers.{lacks-or, MissingAt, Shortage, shortage, shortage-same}
+use Rattle.sound_laws.proofs.Joined.{Joined, Stray, in-kept, kept-child, child-named, named-child, child-inner, child-reached, parent-same, named-ascend, reached-level, gap-child, gap-parent, gap-reached, gap-next, gap-sibling}
+use Rattle.sound_laws.proofs.Listed.{rows-all, AllGood, listed-reached, reached-listed, listed-distinct, leaf-listed, leaves-distinct, mapped}
 
 positive : {n : ℕ} → n ≢ 0 → 1 ≤ n
 positive z = omega arith
-
-pub in-range : {n i : ℕ} → 1 ≤ i → i ≤ n → inRange n i ≡ true
-unfolding inRange
-in-range a b = simp decode (a, b)
 
 module _ (v : View) (x : Leftover) (s : SettledBut v x) (i : IsLeft v x) where
   pub settled-joined : Joined v
@@ -98,37 +90,41 @@ module _ (v : View) (x : Leftover) (s : SettledBut v x) (i : IsLeft v x) where
             let f = j .sibling-right lost-reached (t .there) in
             absurd (omega arith)
 
+    pub lost-at : MissingAt x p a
+    lost-at = subst (λ (q : ℕ). MissingAt x q a) (sym lost-p) (subst (MissingAt x (lost-shortage .p)) (sym lost-a) (lost-shortage .at))
+
   -- ---- every reached node is good
 
   abbrev rowOf : ℕ → List ℕ
   rowOf p = fillRow v (named v p) (nextChild v p)
 
   -- what is listed below a reached node is reached, and in 1 to N
-  fill-reached : {p : ℕ} → Reached v p → 0 < v .level p → (c : ℕ) → In c (rowOf p) → Reached v c × (inRange (v .nodes) c ≡ true)
+  fill-reached : {p : ℕ} → Reached v p → 0 < v .level p → (c : ℕ) → List·Memᴰ c (rowOf p) → Reached v c × (inRange (v .nodes) c ≡ true)
   fill-reached {p} r l c m = go (in-fill v (nextChild v p) (named v p) m)
     where
-      go : In c (named v p) ⊎ ((a : ℕ) × (e : ℕ) × Lost v (named v p) (nextChild v p) a e × (c ≡ v .sibling a)) → Reached v c × (inRange (v .nodes) c ≡ true)
-      go (inl k) = let d = named-child v p l k in let h = j .child-number r d in (child-reached v r d, in-range (h .0) (h .1))
+      go : List·Memᴰ c (named v p) ⊎ ((a : ℕ) × (e : ℕ) × Lost v (named v p) (nextChild v p) a e × (c ≡ v .sibling a)) → Reached v c × (inRange (v .nodes) c ≡ true)
+      go (inl k) = let d = named-child v p l k in let h = j .child-number r d in (child-reached v r d, range-iff _ _ .1 h)
       go (inr u) =
           let z = lost-stray r l (u .2) .there in
           let ra = gap-reached v j r l (u .2 .follows) in
-          (subst (Reached v) (sym (u .3)) (by-sibling ra z), subst (λ (n : ℕ). inRange (v .nodes) n ≡ true) (sym (u .3)) (in-range (positive z) (s .sibling-number ra z)))
+          (subst (Reached v) (sym (u .3)) (by-sibling ra z), subst (λ (n : ℕ). inRange (v .nodes) n ≡ true) (sym (u .3)) (range-iff _ _ .1 (positive z, s .sibling-number ra z)))
 
-  children-reached : (n c : ℕ) → Reached v n → In c (children v n) → Reached v c
+  children-reached : (n c : ℕ) → Reached v n → List·Memᴰ c (children v n) → Reached v c
   children-reached n c r m = go (v .level n) refl
     where
       go : (d : ℕ) → v .level n ≡ d → Reached v c
-      go zero e = absurd (no-children v e m)
-      go (suc d) e = fill-reached r (omega arith) c (subst (In c) (children-inner v d n e) m) .0
+      go zero e = absurd (List·Memᴰ·not-nil (rw (no-children v n e) at m))
+      go (suc d) e = fill-reached r (omega arith) c (subst (List·Memᴰ c) (children-inner v d n e) m) .0
 
   comes-first : {n : ℕ} → Reached v n → comeFirst (λ (u : Slot). within v n (u .key)) (v .shown n) ≡ true
   comes-first {n} r = go x (s .keys-below r) i
     where
       plain : v .shown n ≡ kept v n → comeFirst (λ (u : Slot). within v n (u .key)) (v .shown n) ≡ true
-      plain e = split-kept v n [] (e ∙ sym (append-nil (kept v n))) (λ u m. absurd (List·Memᴰ·not-nil m))
+      plain e = subst (λ (us : List Slot). comeFirst (λ (u : Slot). within v n (u .key)) us ≡ true) (sym e) (each-first _ (kept v n) (kept-within v n))
 
       trailing : (a : ℕ) → ((n ≡ a → ⊥) → v .shown n ≡ kept v n) → TrailingSlots v a → (n ≡ a) ⊎ (n ≢ a) → comeFirst (λ (u : Slot). within v n (u .key)) (v .shown n) ≡ true
-      trailing a h t (inl e) = subst (λ (k : ℕ). comeFirst (λ (u : Slot). within v k (u .key)) (v .shown k) ≡ true) (sym e) (split-kept v a (t .ignored) (t .last) (λ u m. t .from-b-up m))
+      trailing a h t (inl e) = subst (λ (k : ℕ). comeFirst (λ (u : Slot). within v k (u .key)) (v .shown k) ≡ true) (sym e)
+          (subst (λ (us : List Slot). comeFirst (λ (u : Slot). within v a (u .key)) us ≡ true) (sym (t .last)) (first-part _ (kept v a) (t .ignored) (kept-within v a) (mem-each (λ (u : Slot). within v a (u .key) ≡ false) (t .ignored) (λ u m. t .from-b-up m)) .1))
       trailing a h t (inr z) = plain (h z)
 
       go : (y : Leftover) → ((Trails y n → ⊥) → v .shown n ≡ kept v n) → IsLeft v y → comeFirst (λ (u : Slot). within v n (u .key)) (v .shown n) ≡ true
@@ -138,9 +134,9 @@ module _ (v : View) (x : Leftover) (s : SettledBut v x) (i : IsLeft v x) where
       go (missingIn p a false) h y = plain (h (λ t. t))
       go (bothIn p a) h y = plain (h (λ t. t))
 
-  keys-ok : {n : ℕ} (low : ℕ) → Reached v n → ((u : Slot) → In u (kept v n) → low ≤ u .key) → keysOk v n low ≡ true
+  keys-ok : {n : ℕ} (low : ℕ) → Reached v n → ((u : Slot) → List·Memᴰ u (kept v n) → low ≤ u .key) → keysOk v n low ≡ true
   unfolding keysOk
-  keys-ok {n} low r h = and-iff _ _ .1 (rise-rising low (kept v n) (in-each (λ (u : Slot). low ≤ u .key) (kept v n) h) (s .keys-rise r), comes-first r)
+  keys-ok {n} low r h = and-iff _ _ .1 (rising-from-rise low (kept v n) (s .keys-rise r) (mem-each (λ (u : Slot). low ≤ u .key) (kept v n) h), comes-first r)
 
   sibling-ok : {n : ℕ} → Reached v n → siblingOk v n ≡ true
   unfolding siblingOk
@@ -150,7 +146,7 @@ module _ (v : View) (x : Leftover) (s : SettledBut v x) (i : IsLeft v x) where
       go (inl e) = rw (eq-eqb (v .sibling n) 0 e, siblingOk)
       go (inr z) =
           rw (ne-eqb (v .sibling n) 0 z, siblingOk)
-          (and-iff _ _ .1 (in-range (positive z) (s .sibling-number r z), and-iff _ _ .1 (eq-eqb _ _ (s .sibling-level r z), lt-ltb _ _ (s .sibling-right r z))))
+          (and-iff _ _ .1 (range-iff _ _ .1 (positive z, s .sibling-number r z), and-iff _ _ .1 (eq-eqb _ _ (s .sibling-level r z), lt-ltb _ _ (s .sibling-right r z))))
 
   child-ok : (l k : ℕ) {c : ℕ} → suc (v .level c) ≡ l → v .fence c ≡ k → childOk v l k c ≡ true
   unfolding childOk
@@ -159,7 +155,7 @@ module _ (v : View) (x : Leftover) (s : SettledBut v x) (i : IsLeft v x) where
   slots-ok : {n : ℕ} → Reached v n → 0 < v .level n → all (slotOk v (v .level n)) (kept v n) ≡ true
   unfolding slotOk
   slots-ok {n} r l =
-      all-each (slotOk v (v .level n)) (kept v n) .1 (in-each (λ (u : Slot). slotOk v (v .level n) u ≡ true) (kept v n)
+      all-each (slotOk v (v .level n)) (kept v n) .1 (mem-each (λ (u : Slot). slotOk v (v .level n) u ≡ true) (kept v n)
       (λ u m. let w = in-kept v n m in child-ok (v .level n) (u .key) (s .child-level r (kept-child v n l m)) (s .slot-fence r l (w .0) (w .1))))
 
   inner-ok : {n : ℕ} (d : ℕ) → Reached v n → v .level n ≡ suc d → innerOk v n ≡ true
@@ -174,7 +170,7 @@ module _ (v : View) (x : Leftover) (s : SettledBut v x) (i : IsLeft v x) where
           and-iff _ _ .1 (
             slots-ok r l,
             and-iff _ _ .1 (
-              all-each (inRange (v .nodes)) (children v n) .1 (subst (Each (λ (c : ℕ). inRange (v .nodes) c ≡ true)) (sym q) (in-each (λ (c : ℕ). inRange (v .nodes) c ≡ true) (rowOf n) (λ c m. fill-reached r l c m .1))),
+              all-each (inRange (v .nodes)) (children v n) .1 (subst (Each (λ (c : ℕ). inRange (v .nodes) c ≡ true)) (sym q) (mem-each (λ (c : ℕ). inRange (v .nodes) c ≡ true) (rowOf n) (λ c m. fill-reached r l c m .1))),
               subst (λ (ks : List ℕ). linked v ks (nextChild v n) ≡ true) (sym q) (linked-fill v (nextChild v n) (named v n) (λ a c o. lost-next r l o)),
             ),
           ),
@@ -194,130 +190,97 @@ module _ (v : View) (x : Leftover) (s : SettledBut v x) (i : IsLeft v x) where
       go (suc d) e = rw (ne-eqb (v .level n) 0 (λ q. omega arith)) (inner-ok d r e)
 
   module _ (range : inRange (v .nodes) (v .root) ≡ true) where
-    top-row : Row v (height v) (v .root ∷ [])
-    top-row =
-        record { good = (node-ok at-root, tt); at = (record { range = range; level = refl }, tt); chain = linked-cons v (v .root) [] 0 .1 (s .root-sibling, (unfold linked in refl)) }
+    root-facts : RootFacts v
+    root-facts = record { range = range; level = s .root-level; fence = s .root-fence; sibling = s .root-sibling }
 
     pub all-good : AllGood v
-    all-good =
-        record { top = top-row; deep = in-each (Good v) (reached v) (λ n m. node-ok (rows-all v (Reached v) children-reached (height v) (v .root ∷ []) (λ k h. subst (Reached v) (sym (List·Memᴰ·eq-of-singleton h)) at-root) n m)) }
+    all-good = record { top = root-facts; good = Each-map (Reached v) (Good v) (reached v) (λ n r. node-ok r) (rows-all v (Reached v) children-reached (height v) (v .root ∷ []) (at-root, tt)) }
 
-    -- ---- the whole tree
-
-    root-ok : rootOk v ≡ true
-    unfolding rootOk
-    root-ok = and-iff _ _ .1 (range, and-iff _ _ .1 (leb-iff _ _ .1 (s .root-level), and-iff _ _ .1 (eq-eqb _ _ (s .root-fence), eq-eqb _ _ (s .root-sibling))))
+    -- ---- recording numbers
 
     recordings : ℕ → List ℕ
     recordings n = map recording (kept v n)
 
-    leaf-once : (n : ℕ) → In n (leaves v) → distinct (recordings n) ≡ true
+    leaf-once : (n : ℕ) → List·Memᴰ n (leaves v) → distinct (recordings n) ≡ true
     unfolding recordings
     leaf-once n m = let u = leaf-listed v all-good m in once-distinct recording (slot 0 0) (kept v n) (λ a b h k e. s .recording-once (u .0) (u .1) h (u .0) (u .1) k e .1)
 
-    leaves-once : (m n c : ℕ) → In m (leaves v) → In n (leaves v) → In c (recordings m) → In c (recordings n) → m ≡ n
+    leaves-once : (m n c : ℕ) → List·Memᴰ m (leaves v) → List·Memᴰ n (leaves v) → List·Memᴰ c (recordings m) → List·Memᴰ c (recordings n) → m ≡ n
     unfolding recordings
     leaves-once m n c a b h k =
         let ra = leaf-listed v all-good a in
         let rb = leaf-listed v all-good b in
-        let u = in-map recording (kept v m) h in
-        let w = in-map recording (kept v n) k in
+        let u = Memᴰ·of-map recording (kept v m) h in
+        let w = Memᴰ·of-map recording (kept v n) k in
         let f = index-of (slot 0 0) (u .1) in
         let g = index-of (slot 0 0) (w .1) in
-        s .recording-once (ra .0) (ra .1) (f .1) (rb .0) (rb .1) (g .1) (ap recording (sym (f .2)) ∙ sym (u .2) ∙ w .2 ∙ ap recording (g .2)) .0
+        s .recording-once (ra .0) (ra .1) (f .1) (rb .0) (rb .1) (g .1) (ap recording (sym (f .2)) ∙ u .2 ∙ sym (w .2) ∙ ap recording (g .2)) .0
 
     recordings-distinct : distinct (MARK ∷ map recording (mapping v)) ≡ true
     unfolding recordings mapping
     recordings-distinct =
         distinct-cons MARK (map recording (mapping v)) .1 (
-          (λ m. let u = in-map recording (mapping v) m in let w = mapped v all-good (u .1) in s .recording-number (w .1) (w .2) (w .3) .1 (sym (u .2))),
+          elem-none MARK (map recording (mapping v)) .1 (λ m. let u = Memᴰ·of-map recording (mapping v) m in let w = mapped v all-good (u .1) in s .recording-number (w .1) (w .2) (w .3) .1 (u .2)),
           subst (λ (l : List ℕ). distinct l ≡ true) (sym (map-flat recording (kept v) (leaves v))) (distinct-flat recordings (leaves v) (leaves-distinct v all-good) leaf-once leaves-once),
         )
 
     pub orderly-ok : orderly v ≡ true
-    unfolding orderly
-    orderly-ok = and-iff _ _ .1 (root-ok, and-iff _ _ .1 (all-each (nodeOk v) (reached v) .1 (all-good .deep), and-iff _ _ .1 (listed-distinct v all-good, recordings-distinct)))
+    orderly-ok = orderly-iff v .1 (record { top = root-facts; good = all-good .good; once = listed-distinct v all-good; recordings = recordings-distinct })
 
     -- ---- what is unfinished
 
-    few-sum-none : (g : ℕ → Few) → ((n : ℕ) → Reached v n → g n ≡ Zero) → total Zero addFew g (reached v) ≡ Zero
-    few-sum-none g h = none-sum Few Zero addFew SingleFew few-counts g (reached v) (λ n m. h n (listed-reached v all-good m))
+    listed : (P : ℕ → Type 0) → ((n : ℕ) → Reached v n → P n) → Each P (reached v)
+    listed P h = mem-each P (reached v) (λ n m. h n (listed-reached v all-good m))
 
-    few-sum-one : (g : ℕ → Few) (q : ℕ) → Reached v q → g q ≡ One q → ((n : ℕ) → Reached v n → n ≢ q → g n ≡ Zero) → total Zero addFew g (reached v) ≡ One q
-    few-sum-one g q r e h =
-        one-sum Few Zero addFew SingleFew few-counts g (One q) (reached v) (listed-distinct v all-good)
-        (record { place = q; inside = reached-listed v all-good r; counts = e; others = λ n m z. h n (listed-reached v all-good m) z })
+    hidden-only : {q : ℕ} → OneHidden v q → ((n : ℕ) → Reached v n → n ≢ q → v .hidden n ≡ 0) → HiddenOnly v q
+    hidden-only {q} o h = record { member = reached-listed v all-good (o .0); here = o .1; others = listed (λ (n : ℕ). n ≢ q → v .hidden n ≡ 0) h }
 
-    hidden-sum : total Zero addFew (λ (n : ℕ). unfinishedAt v n .hidden) (reached v) ≡ hiddenOf x
-    hidden-sum = go x i (λ n r z. at-hidden v n ∙ ap (times n) (s .none-hidden r z))
+    trailing-only : {a : ℕ} → Reached v a → TrailingSlots v a → ((n : ℕ) → Reached v n → n ≢ a → kept v n ≡ v .shown n) → TrailingOnly v a
+    trailing-only {a} r t h = record { member = reached-listed v all-good r; here = longer; others = listed (λ (n : ℕ). n ≢ a → kept v n ≡ v .shown n) h }
       where
-        one : (q : ℕ) → OneHidden v q → ((n : ℕ) → Reached v n → n ≢ q → unfinishedAt v n .hidden ≡ Zero) → total Zero addFew (λ (n : ℕ). unfinishedAt v n .hidden) (reached v) ≡ One q
-        one q o h = few-sum-one (λ (n : ℕ). unfinishedAt v n .hidden) q (o .0) (at-hidden v q ∙ ap (times q) (o .1)) h
+        longer : kept v a ≢ v .shown a
+        longer e = let h = ap length (t .last) ∙ length-append (kept v a) (t .ignored) in let k = t .some-are in let q = ap length e in omega arith
 
-        go : (y : Leftover) → IsLeft v y → ((n : ℕ) → Reached v n → (Hides y n → ⊥) → unfinishedAt v n .hidden ≡ Zero) → total Zero addFew (λ (n : ℕ). unfinishedAt v n .hidden) (reached v) ≡ hiddenOf y
-        go nothing k h = few-sum-none _ (λ n r. h n r (λ z. z))
-        go (hiddenIn q) k h = one q k h
-        go (missingIn p a t) k h = few-sum-none _ (λ n r. h n r (λ z. z))
-        go (bothIn p a) k h = one p (k .1) h
+    -- no sibling is lost in the row of n
+    no-lost : (n : ℕ) → ((a c : ℕ) → Lost v (named v n) (nextChild v n) a c → ⊥) → v .level n ≢ 0 → children v n ≡ named v n
+    no-lost n h z = names-linked v n z .1 (lost-linked v (nextChild v n) (named v n) h)
 
-    longer : {a : ℕ} → TrailingSlots v a → length (kept v a) ≢ length (v .shown a)
-    longer {a} t e = let h = ap length (t .last) ∙ length-append (kept v a) (t .ignored) in let k = t .some-are in omega arith
+    -- what holds of each node q and each b whose sibling is lost in the row of q
+    abbrev EachLost : (ℕ → ℕ → Type 0) → Type 0
+    EachLost M = (q b c : ℕ) → Reached v q → 0 < v .level q → Lost v (named v q) (nextChild v q) b c → M q b
 
-    trailing-sum : total Zero addFew (λ (n : ℕ). unfinishedAt v n .trailing) (reached v) ≡ trailingOf x
-    trailing-sum = go x i (λ n r z. at-trailing v n ∙ none-trailing v n (s .keys-below r z))
-      where
-        go : (y : Leftover) → IsLeft v y → ((n : ℕ) → Reached v n → (Trails y n → ⊥) → unfinishedAt v n .trailing ≡ Zero) → total Zero addFew (λ (n : ℕ). unfinishedAt v n .trailing) (reached v) ≡ trailingOf y
-        go nothing k h = few-sum-none _ (λ n r. h n r (λ z. z))
-        go (hiddenIn q) k h = few-sum-none _ (λ n r. h n r (λ z. z))
-        go (missingIn p a true) k h = few-sum-one _ a (k .0 .a-reached) (at-trailing v a ∙ one-trailing v a (longer (k .1))) h
-        go (missingIn p a false) k h = few-sum-none _ (λ n r. h n r (λ z. z))
-        go (bothIn p a) k h = few-sum-none _ (λ n r. h n r (λ z. z))
-
-    -- a node with no lost sibling in its row counts nothing missing
-    no-missing : (n : ℕ) → ((l : 0 < v .level n) (a c : ℕ) → Lost v (named v n) (nextChild v n) a c → ⊥) → unfinishedAt v n .missing ≡ Nowhere
-    no-missing n h = go (v .level n) refl
-      where
-        go : (d : ℕ) → v .level n ≡ d → unfinishedAt v n .missing ≡ Nowhere
-        go zero e = leaf-missing v n e
-        go (suc d) e = let l : 0 < v .level n = omega arith in inner-missing v n l ∙ none-row v n (nextChild v n) (named v n) (h l)
-
-    module _ {p a : ℕ} (k : LacksSlot v p a) (e : missingOf x ≡ Under p a) where
+    module _ {p a : ℕ} (k : LacksSlot v p a) (at : EachLost (λ (q b : ℕ). (q ≡ p) × (b ≡ a))) where
       inner-p : 0 < v .level p
       inner-p = child-inner v (k .parent .1)
-
-      row-distinct : distinct (named v p) ≡ true
-      row-distinct = climbs-distinct v (named v p) (named-climbs v j (k .parent .0) inner-p)
 
       lost-there : (c : ℕ) → Follows (nextChild v p) a c (named v p) → v .sibling a ≡ c → ⊥
       lost-there c f q = let u = gap-parent v j (k .parent .0) inner-p f (λ z. k .b-there (q ∙ z)) in k .b-lacks (u .1) (subst (Child v (u .0)) (sym q) (u .2))
 
-      p-missing : unfinishedAt v p .missing ≡ Under p a
-      p-missing =
+      missing-only : MissingOnly v p a
+      missing-only =
           let u = in-follows (nextChild v p) (child-named v (k .parent .1)) in
-          inner-missing v p inner-p ∙ one-row v p (named v p) row-distinct (record { next = u .0; lost = record { follows = u .1; other = lost-there (u .0) (u .1) }; only = λ b c o. lost-a (k .parent .0) inner-p o ∙ shortage-is v x (lost-shortage (k .parent .0) inner-p o) e .1 })
+          let d = row-distinct v (named v p) (named-ascend v j (k .parent .0) inner-p) in
+          record {
+            member = reached-listed v all-good (k .parent .0);
+            here = ((λ z. omega (arith, inner-p)), lost-gap v (named v p) d (record { follows = u .1; other = lost-there (u .0) (u .1) }) (λ b c o. at p b c (k .parent .0) inner-p o .1));
+            others = listed (λ (n : ℕ). n ≢ p → v .level n ≢ 0 → children v n ≡ named v n) (λ n r z i. no-lost n (λ b c o. z (at n b c r (positive i) o .0)) i);
+          }
 
-      pub one-missing : total Nowhere addMissing (λ (n : ℕ). unfinishedAt v n .missing) (reached v) ≡ Under p a
-      one-missing =
-          one-sum Missing Nowhere addMissing SingleMissing missing-counts (λ (n : ℕ). unfinishedAt v n .missing) (Under p a) (reached v) (listed-distinct v all-good)
-          (record { place = p; inside = reached-listed v all-good (k .parent .0); counts = p-missing; others = λ n m z. no-missing n (λ l b c o. let r = listed-reached v all-good m in z (lost-p r l o ∙ shortage-is v x (lost-shortage r l o) e .0)) })
+    none-missing : EachLost (λ (q b : ℕ). ⊥) → NoneMissing v
+    none-missing h = listed (λ (n : ℕ). v .level n ≢ 0 → children v n ≡ named v n) (λ n r i. no-lost n (λ b c o. h n b c r (positive i) o) i)
 
-    missing-sum : total Nowhere addMissing (λ (n : ℕ). unfinishedAt v n .missing) (reached v) ≡ missingOf x
-    missing-sum = go (slot-lacking v x i)
+    left-is : Left v x
+    left-is = go x i (λ n r z. s .none-hidden r z) (λ n r z. sym (s .keys-below r z)) (λ q b c r l o. lost-at r l o)
       where
-        clash : {p a : ℕ} → Nowhere ≡ Under p a → ⊥
-        clash e = let z : _≡_ {A = ℕ} 0 1 = cc in omega arith
-
-        go : (missingOf x ≡ Nowhere) ⊎ ((p : ℕ) × (a : ℕ) × LacksSlot v p a × (missingOf x ≡ Under p a)) → total Nowhere addMissing (λ (n : ℕ). unfinishedAt v n .missing) (reached v) ≡ missingOf x
-        go (inl e) =
-            none-sum Missing Nowhere addMissing SingleMissing missing-counts (λ (n : ℕ). unfinishedAt v n .missing) (reached v)
-            (λ n m. no-missing n (λ l a c o. clash (sym e ∙ lost-shortage (listed-reached v all-good m) l o .amount)))
-            ∙ sym e
-        go (inr u) = one-missing (u .2) (u .3) ∙ sym (u .3)
+        go : (y : Leftover) → IsLeft v y → ((n : ℕ) → Reached v n → (Hides y n → ⊥) → v .hidden n ≡ 0) → ((n : ℕ) → Reached v n → (Trails y n → ⊥) → kept v n ≡ v .shown n) → EachLost (MissingAt y) → Left v y
+        go nothing k h t m = (listed _ (λ n r. h n r (λ z. z)), listed _ (λ n r. t n r (λ z. z)), none-missing m)
+        go (hiddenIn q) k h t m = (hidden-only k h, listed _ (λ n r. t n r (λ z. z)), none-missing m)
+        go (missingIn p a false) k h t m = (listed _ (λ n r. h n r (λ z. z)), listed _ (λ n r. t n r (λ z. z)), missing-only k m)
+        go (missingIn p a true) k h t m = (listed _ (λ n r. h n r (λ z. z)), trailing-only (k .0 .a-reached) (k .1) t, missing-only (k .0) m)
+        go (bothIn p a) k h t m = (hidden-only (k .1) h, listed _ (λ n r. t n r (λ z. z)), missing-only (k .0) m)
 
     pub leftover-is : leftover v ≡ some x
-    unfolding leftover unfinished
-    leftover-is =
-        amounts-leftover (unfinished v) x (record { hidden = total-hidden (unfinishedAt v) (reached v) ∙ hidden-sum; trailing = total-trailing (unfinishedAt v) (reached v) ∙ trailing-sum; missing = total-missing (unfinishedAt v) (reached v) ∙ missing-sum })
+    leftover-is = leftover-iff v (listed-distinct v all-good) x .1 left-is
 
     pub has-room : hasRoom v x ≡ true
     has-room = go x i

@@ -2,19 +2,22 @@
 use mathlib.Core.Path.{_≡_, refl, ap, sym, _∙_, subst}
 use mathlib.Core.Bool.{true}
 use mathlib.Core.Logic.{_≢_, _⊎_, inl, inr}
-use mathlib.Core.List.{List·Memᴰ, List·Memᴰ·head, List·Memᴰ·tail, List·Memᴰ·cases-cons}
+use mathlib.Core.List.{List·Memᴰ, List·Memᴰ·head, List·Memᴰ·tail, List·Memᴰ·cases-cons, Memᴰ·map, Memᴰ·of-map}
 use Prim.Native.Nat.{ℕ, suc, _≤_, _<_}
 use native.Mathlib.Omega.{arith}
-use borrow.Author.Tests.{ne-eqb, ltb-true}
 use Rattle.model.specs.Slots.{Slot, View, height}
-use Rattle.model.specs.Search.{below, within}
+use Rattle.model.specs.Search.{within}
 use Rattle.model.specs.Reached.{pointers, kept, named, firstChild, nextChild}
 use Rattle.model.specs.Sound.{Reached, at-root, by-left, by-sibling, by-slot, Child, left-child, slot-child, Rise}
+use Rattle.list_laws.proofs.Tools.{same-or-not, compared}
+use Rattle.list_laws.proofs.Members.{mem-each}
+use Rattle.list_laws.proofs.Filters.{mem-filter}
 use Rattle.tree_laws.proofs.Rows.{first-child}
-use Rattle.sound_laws.proofs.Numbers.{same-or-not, compared}
-use Rattle.sound_laws.proofs.Members.{In, in-each, in-filter, filter-in, in-map, map-in}
+use Rattle.tree_laws.proofs.Cover.{below-true}
+use Rattle.tree_laws.proofs.Levels.{Ascending}
+use Rattle.tree_laws.proofs.Rising.{rising-from-rise}
 use Rattle.sound_laws.proofs.Neighbours.{Follows, follows-in}
-use Rattle.sound_laws.proofs.Fences.{Climbs, slots-climb, Place, inner, final, place}
+use Rattle.sound_laws.proofs.Fences.{slots-ascend, Place, inner, final, place}
 
 -- the sentences on levels, children and siblings that no leftover excuses
 pub record Joined (v : View) : Type 0 where
@@ -33,27 +36,27 @@ pub record Joined (v : View) : Type 0 where
 -- ---- children and the nodes that are named
 
 module _ (v : View) where
-  pub kept-in : {p : ℕ} {s : Slot} → In s (v .shown p) → within v p (s .key) ≡ true → In s (kept v p)
+  pub kept-in : {p : ℕ} {s : Slot} → List·Memᴰ s (v .shown p) → within v p (s .key) ≡ true → List·Memᴰ s (kept v p)
   unfolding kept
-  kept-in {p} m w = filter-in (λ (s : Slot). within v p (s .key)) m w
+  kept-in {p} {s} m w = mem-filter (λ (s : Slot). within v p (s .key)) s (v .shown p) .1 (m, w)
 
-  pub in-kept : (p : ℕ) {s : Slot} → In s (kept v p) → In s (v .shown p) × (within v p (s .key) ≡ true)
+  pub in-kept : (p : ℕ) {s : Slot} → List·Memᴰ s (kept v p) → List·Memᴰ s (v .shown p) × (within v p (s .key) ≡ true)
   unfolding kept
-  in-kept p m = in-filter (λ (s : Slot). within v p (s .key)) (v .shown p) m
+  in-kept p {s} m = mem-filter (λ (s : Slot). within v p (s .key)) s (v .shown p) .0 m
 
-  pub child-named : {p c : ℕ} → Child v p c → In c (named v p)
+  pub child-named : {p c : ℕ} → Child v p c → List·Memᴰ c (named v p)
   child-named (left-child l) = List·Memᴰ·head refl
-  child-named (slot-child l m w) = List·Memᴰ·tail (map-in (λ (s : Slot). s .pointer) (kept-in m w))
+  child-named (slot-child l m w) = List·Memᴰ·tail (Memᴰ·map (λ (s : Slot). s .pointer) (kept-in m w))
 
-  pub kept-child : (p : ℕ) {s : Slot} → 0 < v .level p → In s (kept v p) → Child v p (s .pointer)
+  pub kept-child : (p : ℕ) {s : Slot} → 0 < v .level p → List·Memᴰ s (kept v p) → Child v p (s .pointer)
   kept-child p l m = let u = in-kept p m in slot-child l (u .0) (u .1)
 
-  pub named-child : (p : ℕ) {c : ℕ} → 0 < v .level p → In c (named v p) → Child v p c
+  pub named-child : (p : ℕ) {c : ℕ} → 0 < v .level p → List·Memᴰ c (named v p) → Child v p c
   named-child p {c} l m = go (List·Memᴰ·cases-cons m)
     where
-      go : (c ≡ v .left p) ⊎ In c (pointers (kept v p)) → Child v p c
+      go : (c ≡ v .left p) ⊎ List·Memᴰ c (pointers (kept v p)) → Child v p c
       go (inl e) = subst (Child v p) (sym e) (left-child l)
-      go (inr k) = let u = in-map (λ (s : Slot). s .pointer) (kept v p) k in subst (Child v p) (sym (u .2)) (kept-child p l (u .1))
+      go (inr k) = let u = Memᴰ·of-map (λ (s : Slot). s .pointer) (kept v p) k in subst (Child v p) (u .2) (kept-child p l (u .1))
 
   pub child-inner : {p c : ℕ} → Child v p c → 0 < v .level p
   child-inner (left-child l) = l
@@ -62,10 +65,6 @@ module _ (v : View) where
   pub child-reached : {p c : ℕ} → Reached v p → Child v p c → Reached v c
   child-reached r (left-child l) = by-left r l
   child-reached r (slot-child l m w) = by-slot r l m w
-
-  within-below : {n k : ℕ} → v .sibling n ≢ 0 → within v n k ≡ true → k < v .fence (v .sibling n)
-  unfolding below
-  within-below {n} {k} z w = ltb-true k (v .fence (v .sibling n)) (rw (ne-eqb (v .sibling n) 0 z) at w)
 
   -- b lies between a and c, or after a where c is 0, and is no node's child
   pub record Stray (a c b : ℕ) : Type 0 where
@@ -83,7 +82,7 @@ module _ (v : View) (j : Joined v) where
 
   pub child-below : {p c : ℕ} → Reached v p → Child v p c → v .sibling p ≢ 0 → v .fence c < v .fence (v .sibling p)
   child-below r (left-child l) z = let e = j .left-fence r l in let s = j .sibling-right r z in omega arith
-  child-below r (slot-child l m w) z = let e = j .slot-fence r l m w in let a = within-below v z w in omega arith
+  child-below r (slot-child l m w) z = let e = j .slot-fence r l m w in let a = below-true v _ _ z w in omega arith
 
   -- no node has two parents
   pub parent-same : {p q c : ℕ} → Reached v p → Child v p c → Reached v q → Child v q c → q ≡ p
@@ -118,13 +117,14 @@ module _ (v : View) (j : Joined v) where
       go (inr (inl f)) = j .apart r s same-level f
       go (inr (inr f)) = let u = j .sibling-next r s same-level f in let k = j .sibling-right r other in let h = same-fence in absurd (omega (arith, u .1))
 
-  pub named-climbs : {p : ℕ} → Reached v p → 0 < v .level p → Climbs v (named v p)
-  named-climbs {p} r l = (
-    in-each (λ (m : ℕ). v .fence (v .left p) < v .fence m) (pointers (kept v p)) (λ c m. higher c (in-map (λ (s : Slot). s .pointer) (kept v p) m)),
-    slots-climb v (kept v p) (in-each (λ (s : Slot). v .fence (s .pointer) ≡ s .key) (kept v p) (λ s m. let u = in-kept v p m in j .slot-fence r l (u .0) (u .1))) (j .keys-rise r),
+  pub named-ascend : {p : ℕ} → Reached v p → 0 < v .level p → Ascending v (named v p)
+  named-ascend {p} r l = (
+    mem-each (λ (m : ℕ). v .fence (v .left p) < v .fence m) (pointers (kept v p)) (λ c m. higher c (Memᴰ·of-map (λ (s : Slot). s .pointer) (kept v p) m)),
+    slots-ascend v 0 (kept v p) (rising-from-rise 0 (kept v p) (j .keys-rise r) (mem-each (λ (s : Slot). 0 ≤ s .key) (kept v p) (λ s m. omega arith)))
+        (mem-each (λ (s : Slot). v .fence (s .pointer) ≡ s .key) (kept v p) (λ s m. let u = in-kept v p m in j .slot-fence r l (u .0) (u .1))),
   )
     where
-      higher : (c : ℕ) → (s : Slot) × In s (kept v p) × (c ≡ s .pointer) → v .fence (v .left p) < v .fence c
+      higher : (c : ℕ) → (s : Slot) × List·Memᴰ s (kept v p) × (s .pointer ≡ c) → v .fence (v .left p) < v .fence c
       higher c u =
           let w = in-kept v p (u .1) in
           let e = j .slot-fence r l (w .0) (w .1) in
@@ -143,7 +143,7 @@ module _ (v : View) (j : Joined v) where
 
   module _ {p a c : ℕ} (r : Reached v p) (l : 0 < v .level p) (f : Follows (nextChild v p) a c (named v p)) where
     gap-place : Place v (named v p) (nextChild v p) a c
-    gap-place = place v (named v p) (named-climbs r l) f
+    gap-place = place v (named v p) (named-ascend r l) f
 
     pub gap-child : Child v p a
     gap-child = named-child v p l (follows-in f)
@@ -196,7 +196,7 @@ module _ (v : View) (j : Joined v) where
         left-of : v .fence q < v .fence p → ⊥
         left-of o = let u = j .sibling-next r s (sym same-level) o in let x = child-below s k (u .0) in let y = child-from r gap-child in omega (arith, u .1)
 
-        inside : In b (named v p) → Place v (named v p) (nextChild v p) a c → ⊥
+        inside : List·Memᴰ b (named v p) → Place v (named v p) (nextChild v p) a c → ⊥
         inside m (inner i g h) = either (h b m)
           where
             either : (v .fence b ≤ v .fence a) ⊎ (v .fence c ≤ v .fence b) → ⊥

@@ -1,146 +1,72 @@
--- The leftovers: the counts that each amounts to, and what it excuses.
-use mathlib.Core.Path.{_≡_, refl, ap, sym, _∙_, subst}
-use mathlib.Core.Bool.{Bool, true, false, cond}
-use mathlib.Core.Logic.{_⊎_, inl, inr}
-use mathlib.Core.List.{List, [], _∷_}
-use mathlib.Core.Option.{Option, none, some}
-use Prim.Native.Nat.{ℕ}
+-- The leftovers: what each says of the nodes that it does not excuse, and the node that lacks its slot.
+use mathlib.Core.Path.{_≡_, refl, ap, sym, _∙_}
+use mathlib.Core.Bool.{true, false}
+use mathlib.Core.Logic.{_≢_, _⊎_, inr, ⊎-elim}
+use mathlib.Core.List.{List·Memᴰ}
+use Prim.Native.Nat.{ℕ, _<_}
 use native.Mathlib.Omega.{arith}
-use lib.Dec.{eqb}
-use borrow.Author.Tests.{eq-eqb, eqb-true}
-use Rattle.model.specs.declared.Few.{Few}
-use Rattle.model.specs.declared.Few.the-variants.{Zero, One, Many}
-use Rattle.model.specs.declared.Missing.{Missing}
-use Rattle.model.specs.declared.Missing.the-variants.{Nowhere, Under, Several}
-use Rattle.model.specs.declared.Unfinished.{Unfinished}
 use Rattle.model.specs.Slots.{View}
+use Rattle.model.specs.Reached.{kept, named, nextChild, children, reached}
 use Rattle.model.specs.Sound.{Lacks, Trails, Hides, LacksSlot, IsLeft}
-use Rattle.model.specs.SoundTest.{addFew, addMissing, total, Leftover, nothing, hiddenIn, missingIn, bothIn, finished, together, leftoverFrom, leftoverOf}
-use Rattle.sound_laws.proofs.Numbers.{same-or-not}
+use Rattle.model.specs.SoundTest.{Leftover, nothing, hiddenIn, missingIn, bothIn}
+use Rattle.list_laws.proofs.Tools.{same-or-not}
+use Rattle.list_laws.proofs.Members.{each-mem}
+use Rattle.tree_laws.proofs.Sums.{only-other}
+use Rattle.tree_laws.proofs.Gaps.{Gap}
+use Rattle.tree_laws.proofs.Leftovers.{names-linked, NoneHidden, NoneTrailing, NoneMissing, HiddenOnly, TrailingOnly, MissingOnly, Left}
+use Rattle.sound_laws.proofs.Neighbours.{Lost, linked-lost, gap-only}
 
--- ---- the counts
+-- ---- a listed node that is not excused
 
-module _ (g : ℕ → Unfinished) where
-  pub total-hidden : (xs : List ℕ) → total finished together g xs .hidden ≡ total Zero addFew (λ (n : ℕ). g n .hidden) xs
-  total-hidden [] = refl
-  total-hidden (x ∷ xs) = ap (addFew (g x .hidden)) (total-hidden xs)
+module _ (v : View) {n : ℕ} (m : List·Memᴰ n (reached v)) where
+  shows-all : NoneHidden v → v .hidden n ≡ 0
+  shows-all h = each-mem (λ (k : ℕ). v .hidden k ≡ 0) h m
 
-  pub total-trailing : (xs : List ℕ) → total finished together g xs .trailing ≡ total Zero addFew (λ (n : ℕ). g n .trailing) xs
-  total-trailing [] = refl
-  total-trailing (x ∷ xs) = ap (addFew (g x .trailing)) (total-trailing xs)
+  shows-else : {q : ℕ} → HiddenOnly v q → n ≢ q → v .hidden n ≡ 0
+  shows-else {q} h = only-other q (reached v) (v .hidden q ≡ 1) (λ (k : ℕ). v .hidden k ≡ 0) h n m
 
-  pub total-missing : (xs : List ℕ) → total finished together g xs .missing ≡ total Nowhere addMissing (λ (n : ℕ). g n .missing) xs
-  total-missing [] = refl
-  total-missing (x ∷ xs) = ap (addMissing (g x .missing)) (total-missing xs)
+  pub none-hidden : (x : Leftover) → Left v x → (Hides x n → ⊥) → v .hidden n ≡ 0
+  none-hidden nothing l z = shows-all (l .0)
+  none-hidden (hiddenIn q) l z = shows-else (l .0) z
+  none-hidden (missingIn p a false) l z = shows-all (l .0)
+  none-hidden (missingIn p a true) l z = shows-all (l .0)
+  none-hidden (bothIn p a) l z = shows-else (l .0) z
 
-abbrev pub hiddenOf : Leftover → Few
-hiddenOf nothing = Zero
-hiddenOf (hiddenIn x) = One x
-hiddenOf (missingIn p a trailing) = Zero
-hiddenOf (bothIn p a) = One p
+  pub keeps-all : NoneTrailing v → kept v n ≡ v .shown n
+  keeps-all h = each-mem (λ (k : ℕ). kept v k ≡ v .shown k) h m
 
-abbrev pub trailingOf : Leftover → Few
-trailingOf nothing = Zero
-trailingOf (hiddenIn x) = Zero
-trailingOf (missingIn p a true) = One a
-trailingOf (missingIn p a false) = Zero
-trailingOf (bothIn p a) = Zero
+  pub keeps-else : {a : ℕ} → TrailingOnly v a → n ≢ a → kept v n ≡ v .shown n
+  keeps-else {a} h = only-other a (reached v) (kept v a ≢ v .shown a) (λ (k : ℕ). kept v k ≡ v .shown k) h n m
 
-abbrev pub missingOf : Leftover → Missing
-missingOf nothing = Nowhere
-missingOf (hiddenIn x) = Nowhere
-missingOf (missingIn p a trailing) = Under p a
-missingOf (bothIn p a) = Under p a
+  pub keys-below : (x : Leftover) → Left v x → (Trails x n → ⊥) → kept v n ≡ v .shown n
+  keys-below nothing l z = keeps-all (l .1)
+  keys-below (hiddenIn q) l z = keeps-all (l .1)
+  keys-below (missingIn p a false) l z = keeps-all (l .1)
+  keys-below (missingIn p a true) l z = keeps-else (l .1) z
+  keys-below (bothIn p a) l z = keeps-all (l .1)
 
--- the three counts are those of x
-pub record Amounts (u : Unfinished) (x : Leftover) : Type 0 where
-  pub hidden : u .hidden ≡ hiddenOf x
-  pub trailing : u .trailing ≡ trailingOf x
-  pub missing : u .missing ≡ missingOf x
+  module _ {a c : ℕ} (i : 0 < v .level n) (o : Lost v (named v n) (nextChild v n) a c) where
+    inner : v .level n ≢ 0
+    inner z = omega arith
 
-from-amounts : (x : Leftover) → leftoverFrom (hiddenOf x) (trailingOf x) (missingOf x) ≡ some x
-from-amounts nothing = refl
-from-amounts (hiddenIn x) = refl
-from-amounts (missingIn p a true) = rw (eq-eqb a a refl)
-from-amounts (missingIn p a false) = refl
-from-amounts (bothIn p a) = rw (eq-eqb p p refl)
+    lost-none : (v .level n ≢ 0 → children v n ≡ named v n) → ⊥
+    lost-none h = linked-lost v (named v n) (names-linked v n inner .0 (h inner)) o
 
-pub amounts-leftover : (u : Unfinished) (x : Leftover) → Amounts u x → leftoverOf u ≡ some x
-unfolding leftoverOf
-amounts-leftover u x h =
-    ap (λ (a : Few). leftoverFrom a (u .trailing) (u .missing)) (h .hidden)
-    ∙ ap (λ (a : Few). leftoverFrom (hiddenOf x) a (u .missing)) (h .trailing)
-    ∙ ap (λ (a : Missing). leftoverFrom (hiddenOf x) (trailingOf x) a) (h .missing) ∙ from-amounts x
+    lost-only : {p b : ℕ} → MissingOnly v p b → a ≡ b
+    lost-only {p} {b} g = ⊎-elim
+        (λ e. gap-only v (named v p) (g .here .1) (rw e at o))
+        (λ z. absurd (lost-none (only-other p (reached v) ((v .level p ≢ 0) × Gap v b (named v p) (nextChild v p)) (λ (k : ℕ). v .level k ≢ 0 → children v k ≡ named v k) g n m z))) (same-or-not n p)
 
--- what leftoverFrom answers, if it answers one, has these counts
-abbrev Fits : Few → Few → Missing → Option Leftover → Type 0
-Fits a b m none = Unit {0}
-Fits a b m (some x) = (a ≡ hiddenOf x) × (b ≡ trailingOf x) × (m ≡ missingOf x)
+    lost-never : NoneMissing v → ⊥
+    lost-never h = lost-none (each-mem (λ (k : ℕ). v .level k ≢ 0 → children v k ≡ named v k) h m)
 
-fits-if : (a b : Few) (m : Missing) (x : Leftover) (t : Bool) → (t ≡ true → Fits a b m (some x)) → Fits a b m (cond t (some x) none)
-fits-if a b m x true h = h refl
-fits-if a b m x false h = tt
-
-fits : (a b : Few) (m : Missing) → Fits a b m (leftoverFrom a b m)
-fits Zero Zero Nowhere = (refl, refl, refl)
-fits Zero Zero (Under p a) = (refl, refl, refl)
-fits Zero Zero Several = tt
-fits Zero (One x) Nowhere = tt
-fits Zero (One x) (Under p a) = fits-if _ _ _ _ (eqb x a) (λ e. (refl, ap One (eqb-true x a e), refl))
-fits Zero (One x) Several = tt
-fits Zero Many m = tt
-fits (One q) Zero Nowhere = (refl, refl, refl)
-fits (One q) Zero (Under p a) = fits-if _ _ _ _ (eqb q p) (λ e. (ap One (eqb-true q p e), refl, refl))
-fits (One q) Zero Several = tt
-fits (One q) (One x) m = tt
-fits (One q) Many m = tt
-fits Many y m = tt
-
-pub leftover-amounts : (u : Unfinished) (x : Leftover) → leftoverOf u ≡ some x → Amounts u x
-unfolding leftoverOf
-leftover-amounts u x h =
-    let w = subst (Fits (u .hidden) (u .trailing) (u .missing)) h (fits (u .hidden) (u .trailing) (u .missing)) in
-    record { hidden = w .0; trailing = w .1; missing = w .2 }
-
--- ---- what is excused
-
--- the node that a count excuses
-abbrev pub Excused : Few → ℕ → Type 0
-Excused Zero n = ⊥
-Excused (One q) n = n ≡ q
-Excused Many n = Unit {0}
-
-pub hides : (x : Leftover) (n : ℕ) → Excused (hiddenOf x) n → Hides x n
-hides nothing n e = e
-hides (hiddenIn q) n e = e
-hides (missingIn p a t) n e = e
-hides (bothIn p a) n e = e
-
-pub trails : (x : Leftover) (n : ℕ) → Excused (trailingOf x) n → Trails x n
-trails nothing n e = e
-trails (hiddenIn q) n e = e
-trails (missingIn p a true) n e = e
-trails (missingIn p a false) n e = e
-trails (bothIn p a) n e = e
-
-pub missing-cases : (x : Leftover) → (missingOf x ≡ Nowhere) ⊎ ((p : ℕ) × (a : ℕ) × (missingOf x ≡ Under p a))
-missing-cases nothing = inl refl
-missing-cases (hiddenIn q) = inl refl
-missing-cases (missingIn p a t) = inr (p, a, refl)
-missing-cases (bothIn p a) = inr (p, a, refl)
-
-pub lacks : (v : View) (x : Leftover) {p a b : ℕ} → missingOf x ≡ Under p a → b ≡ v .sibling a → Lacks v x b
-lacks v nothing e q = absurd (let z : _≡_ {A = ℕ} 0 1 = cc in omega arith)
-lacks v (hiddenIn n) e q = absurd (let z : _≡_ {A = ℕ} 0 1 = cc in omega arith)
-lacks v (missingIn p c t) {a = a} e q = let f : a ≡ c = cc in q ∙ ap (v .sibling) f
-lacks v (bothIn p c) {a = a} e q = let f : a ≡ c = cc in q ∙ ap (v .sibling) f
-
-pub trails-a : (x : Leftover) {p a n : ℕ} → missingOf x ≡ Under p a → Trails x n → n ≡ a
-trails-a nothing e t = absurd t
-trails-a (hiddenIn q) e t = absurd t
-trails-a (missingIn p c true) {a = a} e t = let f : c ≡ a = cc in t ∙ f
-trails-a (missingIn p c false) e t = absurd t
-trails-a (bothIn p c) e t = absurd t
+    -- a sibling that the row of n lacks is the one that lacks its slot
+    pub lost-lacks : (x : Leftover) → Left v x → Lacks v x (v .sibling a)
+    lost-lacks nothing l = absurd (lost-never (l .2))
+    lost-lacks (hiddenIn q) l = absurd (lost-never (l .2))
+    lost-lacks (missingIn p b false) l = ap (v .sibling) (lost-only (l .2))
+    lost-lacks (missingIn p b true) l = ap (v .sibling) (lost-only (l .2))
+    lost-lacks (bothIn p b) l = ap (v .sibling) (lost-only (l .2))
 
 -- ---- the node that lacks its slot
 
@@ -150,13 +76,18 @@ lacks-or v (hiddenIn q) n = inr (λ h. h)
 lacks-or v (missingIn p a t) n = same-or-not n (v .sibling a)
 lacks-or v (bothIn p a) n = same-or-not n (v .sibling a)
 
--- the leftover has a node that lacks its slot, or not
-pub slot-lacking : (v : View) (x : Leftover) → IsLeft v x → (missingOf x ≡ Nowhere) ⊎ ((p : ℕ) × (a : ℕ) × LacksSlot v p a × (missingOf x ≡ Under p a))
-slot-lacking v nothing i = inl refl
-slot-lacking v (hiddenIn q) i = inl refl
-slot-lacking v (missingIn p a true) i = inr (p, a, i .0, refl)
-slot-lacking v (missingIn p a false) i = inr (p, a, i, refl)
-slot-lacking v (bothIn p a) i = inr (p, a, i .0, refl)
+-- p lacks the slot of a's sibling
+abbrev pub MissingAt : Leftover → ℕ → ℕ → Type 0
+MissingAt nothing p a = ⊥
+MissingAt (hiddenIn q) p a = ⊥
+MissingAt (missingIn q b t) p a = (p ≡ q) × (a ≡ b)
+MissingAt (bothIn q b) p a = (p ≡ q) × (a ≡ b)
+
+missing-same : (x : Leftover) (p q : ℕ) {a b : ℕ} → MissingAt x p a → MissingAt x q b → a ≡ b
+missing-same nothing p q g h = absurd g
+missing-same (hiddenIn r) p q g h = absurd g
+missing-same (missingIn r c t) p q g h = g .1 ∙ sym (h .1)
+missing-same (bothIn r c) p q g h = g .1 ∙ sym (h .1)
 
 -- b lacks its slot in p, after a, in the leftover x
 pub record Shortage (v : View) (x : Leftover) (b : ℕ) : Type 0 where
@@ -164,18 +95,14 @@ pub record Shortage (v : View) (x : Leftover) (b : ℕ) : Type 0 where
   pub a : ℕ
   pub slot : LacksSlot v p a
   pub is : b ≡ v .sibling a
-  pub amount : missingOf x ≡ Under p a
+  pub at : MissingAt x p a
 
 pub shortage : (v : View) (x : Leftover) {b : ℕ} → IsLeft v x → Lacks v x b → Shortage v x b
 shortage v nothing i l = absurd l
 shortage v (hiddenIn q) i l = absurd l
-shortage v (missingIn p a true) i l = record { p = p; a = a; slot = i .0; is = l; amount = refl }
-shortage v (missingIn p a false) i l = record { p = p; a = a; slot = i; is = l; amount = refl }
-shortage v (bothIn p a) i l = record { p = p; a = a; slot = i .0; is = l; amount = refl }
-
-pub shortage-is : (v : View) (x : Leftover) {b p a : ℕ} (g : Shortage v x b) → missingOf x ≡ Under p a → (g .p ≡ p) × (g .a ≡ a)
-shortage-is v x {b} {p} {a} g e = let f : Under (g .p) (g .a) ≡ Under p a = sym (g .amount) ∙ e in (cc, cc)
+shortage v (missingIn p a true) i l = record { p = p; a = a; slot = i .0; is = l; at = (refl, refl) }
+shortage v (missingIn p a false) i l = record { p = p; a = a; slot = i; is = l; at = (refl, refl) }
+shortage v (bothIn p a) i l = record { p = p; a = a; slot = i .0; is = l; at = (refl, refl) }
 
 pub shortage-same : (v : View) (x : Leftover) {b c : ℕ} → Shortage v x b → Shortage v x c → b ≡ c
-shortage-same v x g h =
-    g .is ∙ ap (v .sibling) (shortage-is v x g (h .amount) .1) ∙ sym (h .is)
+shortage-same v x g h = g .is ∙ ap (v .sibling) (missing-same x (g .p) (h .p) (g .at) (h .at)) ∙ sym (h .is)

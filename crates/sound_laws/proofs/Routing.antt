@@ -1,25 +1,21 @@
 -- Routing in a row of rising fences: a key between two neighbours goes to the first.
-use mathlib.Core.Path.{_≡_, refl, ap, sym, _∙_}
+use mathlib.Core.Path.{_≡_, ap, sym, _∙_}
 use mathlib.Core.Logic.{_≢_, _⊎_, inl, inr}
-use mathlib.Core.List.{List, [], _∷_, List·Memᴰ·cases-cons}
+use mathlib.Core.List.{List, [], _∷_, List·Memᴰ, List·Memᴰ·cases-cons}
 use Prim.Native.Nat.{ℕ, _≤_, _<_}
 use native.Mathlib.Omega.{arith}
-use borrow.Author.Tests.{le-leb, lt-leb}
+use borrow.Author.Tests.{le-leb}
 use Rattle.model.specs.Slots.{Slot, View}
 use Rattle.model.specs.Search.{route}
 use Rattle.model.specs.Reached.{pointers}
 use Rattle.list_laws.proofs.Tools.{Each}
-use Rattle.sound_laws.proofs.Fences.{Climbs}
-use Rattle.sound_laws.proofs.Members.{In, each-in}
+use Rattle.list_laws.proofs.Members.{each-mem}
+use Rattle.tree_laws.proofs.Levels.{Ascending}
+use Rattle.tree_laws.proofs.Cover.{route-none}
 use Rattle.sound_laws.proofs.Neighbours.{Follows, follows-in, follows-cases, follows-none}
 
-pub route-none : (k p : ℕ) (ss : List Slot) → Each (λ (s : Slot). k < s .key) ss → route k p ss ≡ p
-unfolding route
-route-none k p [] h = refl
-route-none k p (s ∷ ss) h = rw (lt-leb (s .key) k (h .0), route) (route-none k p ss (h .1))
-
 -- a key from a's fence up and below the next one's goes to a
-pub route-follows : (v : View) (k : ℕ) {e a c : ℕ} (p : ℕ) (ss : List Slot) → Climbs v (p ∷ pointers ss) → Each (λ (s : Slot). v .fence (s .pointer) ≡ s .key) ss → Each (λ (s : Slot). s .pointer ≢ 0) ss
+pub route-follows : (v : View) (k : ℕ) {e a c : ℕ} (p : ℕ) (ss : List Slot) → Ascending v (p ∷ pointers ss) → Each (λ (s : Slot). v .fence (s .pointer) ≡ s .key) ss → Each (λ (s : Slot). s .pointer ≢ 0) ss
     → Follows e a c (p ∷ pointers ss) → v .fence a ≤ k → (c ≢ 0 → k < v .fence c) → route k p ss ≡ a
 unfolding route
 route-follows v k {e} {a} {c} p [] h f z o low high = go (follows-cases o)
@@ -33,13 +29,13 @@ route-follows v k {e} {a} {c} p (s ∷ ss) h f z o low high = go (follows-cases 
     higher [] b t g = tt
     higher (u ∷ us) b t g = (let x = t .0 in let y = g .0 in omega arith, higher us b (t .1) (g .1))
 
-    lower : (a ≡ s .pointer) ⊎ In a (pointers ss) → s .key ≤ k
+    lower : (a ≡ s .pointer) ⊎ List·Memᴰ a (pointers ss) → s .key ≤ k
     lower (inl q) = let x = ap (v .fence) q in let y = f .0 in omega arith
-    lower (inr m) = let x = each-in (λ (n : ℕ). v .fence (s .pointer) < v .fence n) (h .1 .0) m in let y = f .0 in omega arith
+    lower (inr m) = let x = each-mem (λ (n : ℕ). v .fence (s .pointer) < v .fence n) (h .1 .0) m in let y = f .0 in omega arith
 
     go : ((a ≡ p) × (c ≡ s .pointer)) ⊎ Follows e a c (s .pointer ∷ pointers ss)
         → (Follows e a c (s .pointer ∷ pointers ss) → v .fence a ≤ k → (c ≢ 0 → k < v .fence c) → route k (s .pointer) ss ≡ a) → route k p (s ∷ ss) ≡ a
     go (inl u) ih =
         let b : k < v .fence (s .pointer) = let x = ap (v .fence) (u .1) in let y = high (λ q. z .0 (sym (u .1) ∙ q)) in omega arith in
-        route-none k p (s ∷ ss) (let y = f .0 in omega arith, higher ss b (h .1 .0) (f .1)) ∙ sym (u .0)
+        route-none v k p (s ∷ ss) (let y = f .0 in omega arith, higher ss b (h .1 .0) (f .1)) ∙ sym (u .0)
     go (inr i) ih = rw (le-leb (s .key) k (lower (List·Memᴰ·cases-cons (follows-in i))), route) (ih i low high)

@@ -11,11 +11,12 @@ use Rattle.model.specs.Orders.{Store, orders}
 use Rattle.model.specs.Shifts.{SlotStore, keyTo, pointerTo, keyWord, inNode, lastPointer, moveUp, moveDown, shiftIn, shiftOut, close, placeOf, hiddenPlace}
 use Rattle.model.specs.Writes.{shiftInAt, shiftOutAt, closeAt}
 use Rattle.list_laws.proofs.Tools.{Each, Each-map}
+use Rattle.list_laws.proofs.Members.{mem-each}
+use Rattle.list_laws.proofs.Slots.{place-length}
 use Rattle.table_laws.proofs.Nodes.{has-node-iff}
 use Rattle.slot_laws.proofs.SlotStores.{place}
-use Rattle.slot_laws.proofs.Places.{Below, place-of-le, hidden-place-lt, shift-in-count, close-count, shift-in-places, shift-out-places, close-places}
+use Rattle.slot_laws.proofs.Places.{Below, hidden-place-lt, shift-in-count, close-count, shift-in-places, shift-out-places, close-places}
 use Rattle.word_laws.proofs.SlotRuns.{slot-into}
-use Rattle.tree_laws.proofs.Members.{mem-each}
 use Rattle.cut_laws.specs.Growing.{changesFrom, lineChanges}
 use Rattle.cut_laws.proofs.FlushRule.{orders-length, orders-flushCount, Rising, Falling, rising-changes, falling-changes}
 use Rattle.cut_laws.proofs.Lent.{StoresInside}
@@ -136,11 +137,11 @@ module _ (t : Words) (x : ℕ) where
     unfolding shiftInAt
     shift-in-few =
         let qs = shiftIn left ss (placeOf k ss) k y in
-        omega (arith, falling-few x (suc (length ss)) qs (omega arith) (shift-in-falls left ss (placeOf k ss) k y (place-of-le k ss)), shift-in-count left ss (placeOf k ss) k y)
+        omega (arith, falling-few x (suc (length ss)) qs (omega arith) (shift-in-falls left ss (placeOf k ss) k y (place-length k ss)), shift-in-count left ss (placeOf k ss) k y)
 
     pub shift-in-inside : hasNode t x ≡ true → StoresInside (length t) (shiftInAt t x k y)
     unfolding shiftInAt
-    shift-in-inside n = slots-inside t x (shiftIn left ss (placeOf k ss) k y) n (shift-in-places left ss (placeOf k ss) k y 12 (place-of-le k ss) (omega arith))
+    shift-in-inside n = slots-inside t x (shiftIn left ss (placeOf k ss) k y) n (shift-in-places left ss (placeOf k ss) k y 12 (place-length k ss) (omega arith))
 
   module _ (k : ℕ) (few : length (view t .shown x) ≤ 11) (there : placeOf k (view t .shown x) < length (view t .shown x)) where
     pub shift-out-few : length (orders (shiftOutAt t x k)) ≤ 25

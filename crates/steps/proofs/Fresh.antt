@@ -11,9 +11,9 @@ use Rattle.model.specs.Slots.{view}
 use Rattle.model.specs.Reached.{reached}
 use Rattle.model.specs.SoundTest.{elem, settled}
 use Rattle.model.specs.Writes.{unreached, unreachable, fresh}
+use Rattle.list_laws.proofs.Members.{elem-none}
 use Rattle.table_laws.proofs.Nodes.{has-node-range}
 use Rattle.tree_laws.proofs.Rows.{not-zero}
-use Rattle.changes.proofs.Lists.{not-in}
 use Rattle.changes.proofs.Parents.{sibling-reached}
 use Rattle.changes.proofs.Counts.{unreachable-count, fresh-unreachable}
 use Rattle.steps.proofs.Views.{settled-fine}
@@ -36,7 +36,7 @@ fresh-free t a s m h =
 -- it is no reached node, nor a sibling of one
 module _ (t : Words) (b : ℕ) (s : settled t ≡ true) (f : Free t b) where
   pub free-other : (n : ℕ) → List·Memᴰ n (reached (view t)) → n ≢ b
-  free-other n m e = not-in b (reached (view t)) (f .unreached) (rw e at m)
+  free-other n m e = elem-none b (reached (view t)) .0 (f .unreached) (rw e at m)
 
   pub free-sibling : (n : ℕ) → List·Memᴰ n (reached (view t)) → view t .sibling n ≢ b
   free-sibling n m e = free-other (view t .sibling n) (sibling-reached (view t) n (settled-fine t s .left .orderly) m (λ z. f .some (sym e ∙ z))) e

@@ -12,8 +12,8 @@ use Rattle.model.specs.Reached.{kept, reached}
 use Rattle.model.specs.SoundTest.{all, leftover, sound}
 use Rattle.model.specs.Writes.{unreachable, repaired, standing, runIn, run, rootInRun}
 use Rattle.model.specs.Refusals.{tooHigh, tooFew}
-use Rattle.list_laws.proofs.Tools.{Each, Each-map}
-use Rattle.tree_laws.proofs.Levels.{sound-orderly, sound-parts}
+use Rattle.list_laws.proofs.Tools.{Each, Each-map, all-same}
+use Rattle.tree_laws.proofs.Levels.{orderly-of}
 use Rattle.tree_laws.proofs.SearchLaw.{path-reached}
 use Rattle.steps.proofs.RepairedView.{lackingIn, RepairedView, repaired-view}
 
@@ -28,11 +28,6 @@ fullLater v n = eqb (length (kept v n) + lackingIn (leftover v) n) 11
 
 abbrev pub runLater : View → (k : ℕ) → ℕ
 runLater v k = runBy (fullLater v) (path v k)
-
-all-same : (p q : ℕ → Bool) (ns : List ℕ) → Each (λ (n : ℕ). p n ≡ q n) ns → all p ns ≡ all q ns
-unfolding all
-all-same p q [] e = refl
-all-same p q (n ∷ ns) e = rw (e .0, all-same p q ns (e .1))
 
 run-same : (v : View) (q : ℕ → Bool) (ns : List ℕ) → Each (λ (n : ℕ). full (v .shown n) ≡ q n) ns → runIn v ns ≡ runBy q ns
 unfolding runIn runBy
@@ -56,7 +51,7 @@ module _ (t : Words) (s : sound t ≡ true) where
   pub run-later : (k : ℕ) → run (repaired t) k ≡ runLater (view t) k
   unfolding run
   run-later k =
-      let o = sound-orderly (view t) (sound-parts t .0 s .1) in
+      let o = orderly-of t s in
       ap (runIn (view (repaired t))) (r .path k)
       ∙ run-same (view (repaired t)) (fullLater (view t)) (path (view t) k) (Each-map (λ (n : ℕ). List·Memᴰ n (reached (view t))) (λ (n : ℕ). full (view (repaired t) .shown n) ≡ fullLater (view t) n) (path (view t) k) (λ n m. full-later n m) (path-reached (view t) k o))
 

@@ -9,25 +9,25 @@ use lib.ListN.{length, take, drop, getD}
 use lib.Seq.{split-at}
 use Rattle.model.specs.Table.{MARK, Words}
 use Rattle.model.specs.Slots.{Slot, slot, View, view}
-use Rattle.model.specs.Reached.{pointers, flat, kept, reached, mapOf}
+use Rattle.model.specs.Reached.{pointers, kept, reached, mapOf}
 use Rattle.model.specs.SoundTest.{elem, distinct, nothing, hiddenIn, settled}
 use Rattle.model.specs.Shifts.{shiftOut, placeOf}
 use Rattle.model.specs.Writes.{shiftInAt, shiftOutAt, standing}
 use Rattle.model.specs.Refusals.{hasKey, hasRecording}
 use Rattle.model.specs.Ledger.{enter, leave}
 use Rattle.list_laws.proofs.Tools.{Each, Each-append}
+use Rattle.list_laws.proofs.Members.{each-mem, each-take, each-drop, elem-cons}
+use Rattle.list_laws.proofs.Distinct.{distinct-middle}
+use Rattle.list_laws.proofs.Steps.{until-map, first-map}
 use Rattle.slot_laws.proofs.Hiding.{Used, AllShown, distinct-shown}
 use Rattle.slot_laws.proofs.Shifts.{put-in-shown}
-use Rattle.slot_laws.proofs.Steps.{AtFirst, until-map}
 use Rattle.word_laws.proofs.Stores.{doStore}
 use Rattle.word_laws.proofs.ShiftViews.{Changed, withSlot, withoutSlot, view-used, view-shown, shift-in-view, shift-out-view}
-use Rattle.tree_laws.proofs.Members.{each-mem, each-take, each-drop, elem-append, distinct-cons, distinct-append}
 use Rattle.tree_laws.proofs.Rows.{leaf-ok}
 use Rattle.tree_laws.proofs.Levels.{mem-leaves}
-use Rattle.tree_laws.proofs.MapLaw.{leaf-part}
+use Rattle.tree_laws.proofs.MapLaw.{leaf-recordings}
 use Rattle.tree_laws.proofs.SearchLaw.{leafFor, leaf-mem, leaf-covers}
 use Rattle.tree_laws.proofs.PlaceOf.{standing-leaf}
-use Rattle.changes.proofs.Lists.{elem-cons, distinct-middle}
 use Rattle.changes.proofs.Updates.{withShown, withHidden}
 use Rattle.changes.proofs.Parts.{leaf-iff, Settles}
 use Rattle.changes.proofs.Hidden.{hide}
@@ -41,12 +41,6 @@ use Rattle.steps.proofs.Views.{changed-view, shown-view, same-view, Fin
 pub not-pointed : (x : ℕ) (ss : List Slot) → elem x (pointers ss) ≡ false → Each (λ (s : Slot). x ≢ s .pointer) ss
 not-pointed x [] h = tt
 not-pointed x (s ∷ ss) h = let u = elem-cons x (s .pointer) (pointers ss) .0 h in (u .0, not-pointed x ss (u .1))
-
--- the same steps, with what follows from each condition
-first-map : {A S : Type 0} (f : A → S → S) (P P′ Q Q′ R R′ : S → Type 0) → ((s : S) → P s → P′ s) → ((s : S) → Q s → Q′ s) → ((s : S) → R s → R′ s)
-    → (qs : List A) (s : S) → AtFirst f P Q R qs s → AtFirst f P′ Q′ R′ qs s
-first-map f P P′ Q Q′ R R′ a b c [] s h = a s h
-first-map f P P′ Q Q′ R R′ a b c (q ∷ qs) s h = (a s (h .0), until-map f Q Q′ R R′ b c qs (f q s) (h .1))
 
 module _ (t : Words) (s : settled t ≡ true) (k : ℕ) where
   abbrev v : View
@@ -104,16 +98,7 @@ module _ (t : Words) (s : settled t ≡ true) (k : ℕ) where
 
     -- no pointer of the leaf is twice in it, or MARK
     leaf-pointers : distinct (MARK ∷ pointers ss) ≡ true
-    leaf-pointers =
-        let o = fine .left .orderly in
-        let q = leaf-part v x o (leaf-mem v k o) in
-        let a = flat (kept v) (q .left) in
-        let b = flat (kept v) (q .right) in
-        let keeps : kept v x ≡ ss = each-mem (λ (n : ℕ). kept v n ≡ v .shown n) (fine .left .left .1) x-reached in
-        let e : pointers (mapOf t) ≡ pointers a ++ (pointers ss ++ pointers b) =
-        ap pointers (q .parts ∙ ap (λ (l : List Slot). a ++ (l ++ b)) keeps) ∙ map-append _ a (ss ++ b) ∙ ap (λ (l : List ℕ). pointers a ++ l) (map-append _ ss b) in
-        let d = distinct-cons MARK (pointers a ++ (pointers ss ++ pointers b)) .0 (rw e at (o .recordings)) in
-        distinct-cons MARK (pointers ss) .1 (elem-append MARK (pointers ss) (pointers b) .0 (elem-append MARK (pointers a) _ .0 (d .0) .1) .0, distinct-append (pointers ss) (pointers b) .0 (distinct-append (pointers a) _ .0 (d .1) .1) .0)
+    leaf-pointers = rw (each-mem (λ (n : ℕ). kept v n ≡ v .shown n) (fine .left .left .1) x-reached) at (leaf-recordings v x (fine .left .orderly) (leaf-mem v k (fine .left .orderly)))
 
     out-shown : AllShown (v .left x) (withoutSlot t x k)
     out-shown =

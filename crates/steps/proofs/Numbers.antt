@@ -15,12 +15,12 @@ use Rattle.model.specs.Reached.{mapOf}
 use Rattle.model.specs.SoundTest.{elem, sound, Leftover, nothing, hiddenIn, missingIn, bothIn, room, hasRoom}
 use Rattle.model.specs.Writes.{repaired, Call, insertion, deletion, repair}
 use Rattle.model.specs.Refusals.{fullParent, parentFull, tooHigh, tooFew, Test, test, firstNumber, hasKey, hasRecording, mapTests, elevenIn, tenIn, refusal}
-use Rattle.list_laws.proofs.Tools.{Each}
-use Rattle.tree_laws.proofs.Levels.{sound-parts}
-use Rattle.changes.proofs.Lists.{elem-cons}
+use Rattle.list_laws.proofs.Members.{elem-cons}
+use Rattle.tree_laws.proofs.Levels.{sound-header}
 use Rattle.changes.proofs.Parts.{has-left-iff}
 use Rattle.steps.proofs.Views.{sound-fine}
 use Rattle.steps.proofs.Repair.{repaired-map}
+pub use Rattle.steps.proofs.Accepted.{Passed}
 
 -- ---- 12
 
@@ -47,12 +47,9 @@ testsOn x words t = test (ltb words 2560) 5 ∷ mapTests x (elevenIn x (repaired
 
 pub number-on-sound : (x : Call) (words : ℕ) (t : Words) → sound t ≡ true → refusal x words t ≡ firstNumber (testsOn x words t)
 unfolding refusal
-number-on-sound x words t s = rw (sound-parts t .0 s .0, s, parent-not-full t s, repaired-map t s)
+number-on-sound x words t s = rw (sound-header t s, s, parent-not-full t s, repaired-map t s)
 
 -- ---- a number comes exactly if its test holds and no earlier one does
-
-abbrev pub Passed : List Test → Type 0
-Passed cs = Each (λ (c : Test). c .holds ≡ false) cs
 
 -- n is neither 0 nor a number of these tests
 abbrev Other : ℕ → List Test → Type 0

@@ -15,19 +15,18 @@ use Rattle.model.specs.SoundTest.{elem, Leftover, nothing, hiddenIn, missingIn,
 use Rattle.model.specs.Orders.{apply, ordersAfter, orders}
 use Rattle.model.specs.Shifts.{placeOf}
 use Rattle.model.specs.Writes.{shiftInAt, closeAt, cutOff, attach, repairOf, repairStores, repaired}
+use Rattle.list_laws.proofs.Members.{each-mem, elem-cons, mem-here}
+use Rattle.list_laws.proofs.Steps.{Until, until-map}
 use Rattle.table_laws.proofs.Nodes.{has-node-iff}
 use Rattle.slot_laws.proofs.Hiding.{AllShown}
 use Rattle.slot_laws.proofs.Shifts.{put-in-shown}
-use Rattle.slot_laws.proofs.Steps.{Until, until-map}
 use Rattle.word_laws.proofs.Stores.{doStore, after-whole}
 use Rattle.word_laws.proofs.ShiftViews.{Changed, withSlot, view-shown, shift-in-view, close-view, cut-view, shift-in-same}
-use Rattle.tree_laws.proofs.Members.{each-mem}
 use Rattle.tree_laws.proofs.Rows.{Good, not-zero}
 use Rattle.tree_laws.proofs.Levels.{Orderly, Bounded, reached-bounds}
 use Rattle.tree_laws.proofs.Kept.{ignored, shown-split, cut-place, kept-whole}
 use Rattle.tree_laws.proofs.Leftovers.{MissingOnly, gap-children}
 use Rattle.cut_laws.proofs.Lent.{StoresInside}
-use Rattle.changes.proofs.Lists.{elem-cons, mem-here}
 use Rattle.changes.proofs.Updates.{withShown, withHidden}
 use Rattle.changes.proofs.Parts.{has-left-iff, Keeps}
 use Rattle.changes.proofs.Hidden.{unhide, hide-missing, unhide-missing}

@@ -17,12 +17,12 @@ use Rattle.model.specs.SoundTest.{elem, Leftover, nothing, hiddenIn, missingIn,
 use Rattle.model.specs.Orders.{apply}
 use Rattle.model.specs.Shifts.{placeOf}
 use Rattle.model.specs.Writes.{closeAt, cutOff, attach, repairOf, repaired, numbers, unreached, unreachable, fresh}
-use Rattle.tree_laws.proofs.Members.{each-mem}
-use Rattle.tree_laws.proofs.Levels.{Orderly, sound-orderly, sound-parts}
-use Rattle.tree_laws.proofs.Leftovers.{NoneTrailing, HiddenOnly}
+use Rattle.list_laws.proofs.Tools.{at-or-off}
+use Rattle.list_laws.proofs.Members.{each-mem}
 use Rattle.word_laws.proofs.ShiftViews.{Changed}
+use Rattle.tree_laws.proofs.Levels.{Orderly, orderly-of}
+use Rattle.tree_laws.proofs.Leftovers.{NoneTrailing, HiddenOnly}
 use Rattle.cut_laws.proofs.Applying.{apply-append, apply-nil}
-use Rattle.changes.proofs.Lists.{at-or-off}
 use Rattle.changes.proofs.Updates.{withHidden}
 use Rattle.changes.proofs.Parts.{has-left-iff, Keeps}
 use Rattle.changes.proofs.Hidden.{unhide, unhide-missing}
@@ -227,7 +227,7 @@ module _ (t : Words) (s : sound t ≡ true) where
   orderly-later = settled-fine (repaired t) (repaired-settled t s) .left .orderly
 
   orderly-now : Orderly (view t)
-  orderly-now = sound-orderly (view t) (sound-parts t .0 s .1)
+  orderly-now = orderly-of t s
 
   -- the nodes of a list that are not reached
   same-unreached : (ns : List ℕ) → unreached (repaired t) ns ≡ unreached t ns

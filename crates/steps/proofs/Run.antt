@@ -11,16 +11,11 @@ use Rattle.model.specs.Slots.{View, view, height, full}
 use Rattle.model.specs.Search.{path}
 use Rattle.model.specs.SoundTest.{all, settled}
 use Rattle.model.specs.Writes.{standing, runIn, run}
-use Rattle.list_laws.proofs.Tools.{Each, all-each}
-use Rattle.tree_laws.proofs.Members.{each-index}
+use Rattle.list_laws.proofs.Tools.{all-each}
+use Rattle.list_laws.proofs.Members.{each-index, each-at}
 use Rattle.tree_laws.proofs.SearchLaw.{path-length}
 use Rattle.steps.proofs.Views.{settled-fine, reached-usable, shown-few}
 use Rattle.steps.proofs.Standing.{standing-stands}
-
-each-at {ℓ} : {A : Type ℓ} (P : A → Type 0) (xs : List A) (d : A) (i : ℕ) → i < length xs → Each P xs → P (getD xs i d)
-each-at P [] d i h e = absurd (omega arith)
-each-at P (x ∷ xs) d zero h e = e .0
-each-at P (x ∷ xs) d (suc i) h e = each-at P xs d i (omega arith) (e .1)
 
 -- ---- of any list of nodes
 

@@ -2,7 +2,7 @@
 use mathlib.Core.Path.{_≡_, refl, ap, sym, _∙_}
 use mathlib.Core.Bool.{Bool, true, false, _||_}
 use mathlib.Core.Logic.{_≢_}
-use mathlib.Core.List.{List, [], _∷_, _++_, append-nil}
+use mathlib.Core.List.{List, [], _∷_, append-nil}
 use Prim.Native.Nat.{ℕ, zero, suc, _+_, _-_, _≤_, _<_}
 use native.Mathlib.Omega.{arith}
 use lib.Dec.{eqb, ltb}
@@ -13,19 +13,11 @@ use Rattle.model.specs.Slots.{View, height}
 use Rattle.model.specs.Search.{below, within, path}
 use Rattle.model.specs.Reached.{filter, flat, children, reachedFrom, leavesFrom, reached, leaves}
 use Rattle.list_laws.proofs.Tools.{Each, Each-map}
-use Rattle.tree_laws.proofs.Members.{filter-yes, filter-no, filter-all, filter-none}
+use Rattle.list_laws.proofs.Filters.{filter-all, filter-none, filter-append}
 use Rattle.tree_laws.proofs.Rows.{At}
 use Rattle.tree_laws.proofs.Cover.{cover}
 use Rattle.tree_laws.proofs.Levels.{Orderly, Level, level-lower, level-root, rowAt, row-leaves}
 use Rattle.tree_laws.proofs.SearchLaw.{path-at, path-length}
-
-pub filter-append {ℓ} : {A : Type ℓ} (q : A → Bool) (a b : List A) → filter q (a ++ b) ≡ filter q a ++ filter q b
-filter-append q [] b = unfold filter in refl
-filter-append {A = A} q (x ∷ a) b = go (q x) refl (filter-append q a b)
-  where
-    go : (c : Bool) → q x ≡ c → filter q (a ++ b) ≡ filter q a ++ filter q b → filter q (x ∷ a ++ b) ≡ filter q (x ∷ a) ++ filter q b
-    go true c ih = rw (filter-yes q x (a ++ b) c, filter-yes q x a c) (ap (λ (l : List A). x ∷ l) ih)
-    go false c ih = rw (filter-no q x (a ++ b) c, filter-no q x a c) ih
 
 -- ---- the row of a level has the reached nodes of that level, in their order
 

@@ -2,7 +2,7 @@
 use mathlib.Core.Path.{_≡_, refl, ap, sym, _∙_}
 use mathlib.Core.Bool.{Bool, true, false}
 use mathlib.Core.Logic.{_≢_}
-use mathlib.Core.List.{List, [], _∷_, _++_, List·Memᴰ, List·Memᴰ·head, List·Memᴰ·tail, Memᴰ·append-right}
+use mathlib.Core.List.{List, map, [], _∷_, _++_, List·Memᴰ}
 use Prim.Native.Nat.{ℕ, zero, suc, _≤_, _<_}
 use native.Mathlib.Omega.{arith}
 use lib.Dec.{eqb, ltb}
@@ -12,28 +12,30 @@ use borrow.Author.Tests.{eq-eqb, ne-eqb, le-leb, lt-ltb, ltb-true, ltb-false}
 use Rattle.model.specs.Table.{MARK, Words, nodeStart, hasNode}
 use Rattle.model.specs.Slots.{Slot, slot, View, view, height}
 use Rattle.model.specs.Search.{below}
-use Rattle.model.specs.Reached.{flat, kept, reached, leaves, mapping, mapOf, recording}
+use Rattle.model.specs.Reached.{kept, reached, leaves, mapping, mapOf, recording}
 use Rattle.model.specs.SoundTest.{nothing, missingIn, room, settled}
 use Rattle.model.specs.Orders.{Store, put, apply, ordersAfter, orders}
 use Rattle.model.specs.Shifts.{pointerWord, lastPointer, placeOf}
 use Rattle.model.specs.Writes.{shiftInAt, unreachable, fresh, putAll, nodeWords, middle, splitWords, split, cutOff, attach, standing}
-use Rattle.list_laws.proofs.Tools.{or-right, Each, Each-split, Each-map}
-use Rattle.slot_laws.proofs.Hiding.{AllShown, all-split}
+use Rattle.list_laws.proofs.Tools.{or-right, Each, Each-split}
+use Rattle.list_laws.proofs.Members.{each-mem, elem-false}
+use Rattle.list_laws.proofs.Distinct.{once, distinct-cons}
+use Rattle.list_laws.proofs.Lists.{each-map}
 use Rattle.table_laws.proofs.Nodes.{has-node-iff}
+use Rattle.slot_laws.proofs.Hiding.{AllShown, all-split}
 use Rattle.word_laws.proofs.LinkStores.{SiblingView, sibling-view, sibling-header}
 use Rattle.word_laws.proofs.ShiftViews.{withSlot, view-shown, shift-in-same}
 use Rattle.word_laws.proofs.NewNodes.{NewNode, length-node-words, new-node}
-use Rattle.tree_laws.proofs.Members.{each-mem, Once, once}
 use Rattle.tree_laws.proofs.Rows.{Good}
 use Rattle.tree_laws.proofs.Kept.{cut-place}
 use Rattle.tree_laws.proofs.Levels.{Orderly, mem-leaves}
-use Rattle.tree_laws.proofs.Leftovers.{NothingUnfinished, settled-sound}
+use Rattle.tree_laws.proofs.Leftovers.{NothingUnfinished}
 use Rattle.tree_laws.proofs.SearchLaw.{Stands}
-use Rattle.tree_laws.proofs.MapLaw.{map-rises, leaf-part}
+use Rattle.tree_laws.proofs.MapLaw.{leaf-recordings}
 use Rattle.cut_laws.proofs.Applying.{apply-append}
 use Rattle.changes.proofs.Parts.{all-finished}
 use Rattle.changes.proofs.Updates.{update-at, update-off, withShown, withSibling, sibling-change}
-use Rattle.changes.proofs.Splice.{splice, splice-at, splice-append, mem-splice, length-splice}
+use Rattle.changes.proofs.Splice.{splice, mem-splice, length-splice, splice-in}
 use Rattle.changes.proofs.Cut.{cut-keeps}
 use Rattle.changes.proofs.Attach.{attach-settles}
 use Rattle.changes.proofs.Parents.{Parent}
@@ -50,10 +52,8 @@ use Rattle.steps.proofs.Standing.{standing-stands, standing-parent, sta
 leaf-marks : (t : Words) (a : ℕ) → settled t ≡ true → List·Memᴰ a (reached (view t)) → view t .level a ≡ 0 → Each (λ (s : Slot). recording s ≢ MARK) (view t .shown a)
 leaf-marks t a s m e =
     let l = settled-fine t s .left in
-    let o = l .orderly in
-    let p = leaf-part (view t) a o (mem-leaves (view t) a o .1 (m, e)) in
-    let h = Each-map _ (λ (s : Slot). recording s ≢ MARK) (mapOf t) (λ s u. u .1) (map-rises t (settled-sound t s) .recordings-number) in
-    let k = Each-split (λ (s : Slot). recording s ≢ MARK) (kept (view t) a) (flat (kept (view t)) (p .right)) (Each-split (λ (s : Slot). recording s ≢ MARK) (flat (kept (view t)) (p .left)) _ (rw (p .parts) at h) .1) .0 in
+    let d = leaf-recordings (view t) a (l .orderly) (mem-leaves (view t) a (l .orderly) .1 (m, e)) in
+    let k = each-map (λ (n : ℕ). n ≢ MARK) recording (kept (view t) a) .0 (elem-false MARK (map recording (kept (view t) a)) .0 (distinct-cons MARK (map recording (kept (view t) a)) .0 d .0)) in
     rw (each-mem (NothingUnfinished (view t)) (all-finished (view t) l) m .keeps) at k
 
 -- what B takes of A, which shows low, s and high
@@ -105,9 +105,6 @@ module _ (t : Words) (a : ℕ) (s : settled t ≡ true) (m : List·Memᴰ a (rea
         leaf = λ z. absurd (omega arith);
         inner = λ z. (refl, refl);
       }
-
-spliced : (a b : ℕ) (ns : List ℕ) → Once a ns → List·Memᴰ b (splice a b ns)
-spliced a b ns o = rw (o .shape, splice-append a b (o .before) (a ∷ o .after), splice-at a b (o .after)) (Memᴰ·append-right (splice a b (o .before)) (List·Memᴰ·tail (List·Memᴰ·head refl)))
 
 -- the split of the node on level l that stands for k
 abbrev pub splitFor : Words → (l k : ℕ) → List Store
@@ -377,7 +374,7 @@ module _ (t : Words) (k l : ℕ) (h : Splittable t k l) where
   b-stands g =
       let e : w .sibling b ≡ v .sibling a = ap (λ (x : View). x .sibling b) seen ∙ update-off (v₁ .sibling) a b b (λ q. not-a (sym q)) ∙ new .sibling in
       let o = once a (reached v) (settled-fine t s .left .orderly .once) (stands-a .reached) in
-      stands w k l b orderly-w (rw reach (spliced a b (reached v) o)) (ap (λ (x : View). x .level b) seen ∙ new .level ∙ stands-a .covers .at .level) (rw fence-b g)
+      stands w k l b orderly-w (rw reach (splice-in a b (reached v) o)) (ap (λ (x : View). x .level b) seen ∙ new .level ∙ stands-a .covers .at .level) (rw fence-b g)
       (rw (e, fence-same (v .sibling a) (free-sibling t b s f a (stands-a .reached))) (stands-a .covers .inside))
 
   pub split-room : length (view (apply (splitFor t l k) t) .shown (standing (apply (splitFor t l k) t) l k)) ≤ 6

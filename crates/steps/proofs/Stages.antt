@@ -15,7 +15,7 @@ use Rattle.model.specs.Reached.{mapOf}
 use Rattle.model.specs.SoundTest.{settled, sound}
 use Rattle.model.specs.Orders.{Store, apply, orders}
 use Rattle.list_laws.proofs.Tools.{Each-append}
-use Rattle.slot_laws.proofs.Steps.{Until, AtFirst, first-start}
+use Rattle.list_laws.proofs.Steps.{Until, AtFirst, first-start}
 use Rattle.word_laws.proofs.Stores.{doStore, before-whole, after-whole, between-first, after-first}
 use Rattle.tree_laws.proofs.Leftovers.{settled-sound}
 use Rattle.cut_laws.proofs.Applying.{apply-append, always-append, length-apply}

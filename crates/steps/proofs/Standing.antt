@@ -11,7 +11,7 @@ use Rattle.model.specs.Search.{below, within}
 use Rattle.model.specs.Reached.{reached}
 use Rattle.model.specs.SoundTest.{settled}
 use Rattle.model.specs.Writes.{standing}
-use Rattle.tree_laws.proofs.Members.{each-mem}
+use Rattle.list_laws.proofs.Members.{each-mem}
 use Rattle.tree_laws.proofs.Rows.{Good}
 use Rattle.tree_laws.proofs.Levels.{Orderly, level-at, rowAt, reached-row, Bounded, reached-bounds}
 use Rattle.tree_laws.proofs.SearchLaw.{Stands, cover-only, path-stands}

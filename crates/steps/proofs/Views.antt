@@ -5,22 +5,19 @@ use mathlib.Core.Bool.{true}
 use mathlib.Core.List.{List, List·Memᴰ}
 use Prim.Native.Nat.{ℕ, zero, suc, _≤_}
 use native.Mathlib.Omega.{arith}
-use lib.ListN.{length}
 use Rattle.model.specs.Table.{Words, headerOk, hasNode, node}
-use Rattle.model.specs.Slots.{Slot, slotsOf, View, view, height, clearIn, used}
+use Rattle.model.specs.Slots.{Slot, View, view, height}
 use Rattle.model.specs.Reached.{reached, mapping, mapOf}
 use Rattle.model.specs.SoundTest.{Leftover, nothing, hasRoom, settled, sound}
-use Rattle.list_laws.proofs.Tools.{decode}
+use Rattle.list_laws.proofs.Members.{each-mem}
 use Rattle.table_laws.proofs.Nodes.{has-node-range}
-use Rattle.slot_laws.proofs.Hiding.{in-use-before, shown-and-hidden}
-use Rattle.word_laws.proofs.SlotWords.{at-pointer}
 use Rattle.word_laws.proofs.ShiftViews.{Changed}
-use Rattle.tree_laws.proofs.Members.{each-mem}
 use Rattle.tree_laws.proofs.Rows.{Good, inner, left-range, not-zero, leaf-ok}
 use Rattle.tree_laws.proofs.Levels.{Orderly, sound-parts, settled-parts, Bounded, reached-bounds}
 use Rattle.changes.proofs.Updates.{update-same, hiddenBy, withShown, withHidden, SlotsChange, slots-change, hidden-change, shown-change}
 use Rattle.changes.proofs.Parts.{good-parts, leaf-iff, HasLeft, settled-left, sound-left, Keeps, Settles}
 use Rattle.steps.proofs.Stages.{SoundWith, SettledWith}
+pub use Rattle.word_laws.proofs.ShiftViews.{used-few, shown-few}
 
 -- ---- the view after a change of one node
 
@@ -129,11 +126,3 @@ module _ (t : Words) (n : ℕ) (h : headerOk t ≡ true) (o : Orderly (view t)) 
   reached-usable =
       let b = each-mem (Bounded (view t) (height (view t))) (reached-bounds (view t) o) m in
       record { there = has-node-range t n h ∙ b .0; clear = good-parts (view t) n good .0; left = left-some (view t .level n) refl }
-
--- a clear node has at most 11 slots in use
-pub used-few : (t : Words) (n : ℕ) → view t .clear n ≡ true → length (used t n) ≤ 11
-unfolding clearIn used
-used-few t n c = in-use-before (slotsOf (node t n .slots)) 11 (sym (at-pointer 11 (node t n .slots)) ∙ (simp decode at c) .1)
-
-pub shown-few : (t : Words) (n : ℕ) → view t .clear n ≡ true → length (view t .shown n) ≤ 11
-shown-few t n c = omega (arith, used-few t n c, shown-and-hidden (view t .left n) (used t n))

@@ -12,8 +12,8 @@ use Rattle.model.specs.SoundTest.{nothing, settled}
 use Rattle.model.specs.Orders.{Store, put, apply, orders}
 use Rattle.model.specs.Writes.{putAll}
 use Rattle.list_laws.proofs.Tools.{Each}
+use Rattle.list_laws.proofs.Steps.{until-map}
 use Rattle.table_laws.proofs.Nodes.{has-node-iff}
-use Rattle.slot_laws.proofs.Steps.{until-map}
 use Rattle.word_laws.proofs.Stores.{doStore}
 use Rattle.word_laws.proofs.Frames.{Elsewhere, else-header}
 use Rattle.word_laws.proofs.Views.{ElseView, else-view}

@@ -1,17 +1,13 @@
 -- A node's slot words as slots, one by one.
-use mathlib.Core.Path.{_≡_, refl, ap, sym, _∙_}
+use mathlib.Core.Path.{_≡_, refl}
 use mathlib.Core.List.{List, [], _∷_}
-use mathlib.Core.Bool.{true, false}
 use Prim.Native.Nat.{ℕ, zero, suc, _+_, _*_, _<_, _≤_}
 use native.Mathlib.Omega.{arith}
-use lib.Dec.{eqb}
-use lib.ListN.{length, getD, drop}
+use lib.ListN.{length, drop}
 use borrow.Author.Tests.{eq-eqb, ne-eqb}
 use Rattle.model.specs.Table.{Words, at}
 use Rattle.model.specs.Slots.{Slot, slot, slotsOf, inUse, shown}
-
-double-suc : (i : ℕ) → 2 * suc i ≡ suc (suc (2 * i))
-double-suc i = omega arith
+use Rattle.list_laws.proofs.Tools.{double-suc}
 
 double-one : (i : ℕ) → 2 * suc i + 1 ≡ suc (suc (2 * i + 1))
 double-one i = omega arith

@@ -11,9 +11,10 @@ use Rattle.model.specs.Slots.{Slot, View}
 use Rattle.model.specs.Search.{below, within, moved, route, down}
 use Rattle.model.specs.Reached.{filter, flat, headOr, pointers, kept, named, firstChild, nextChild, fillRow, children}
 use Rattle.model.specs.SoundTest.{rising, linked}
-use Rattle.list_laws.proofs.Tools.{decode, or-right, or-false-iff, Each, Each-split}
-use Rattle.tree_laws.proofs.Members.{mem-each}
+use Rattle.list_laws.proofs.Tools.{decode, or-right, or-false-iff, Each, Each-split, Each-map}
+use Rattle.list_laws.proofs.Members.{mem-each}
 use Rattle.tree_laws.proofs.Rows.{Good, At, not-zero, sib-facts, Named, Inner, link-yes, link-no, link-head, link-tail, linked-cons, head-row, chain-tail, first-child, left-range}
+use Rattle.tree_laws.proofs.Rising.{rising-from}
 
 -- the node of a row that covers k: the first whose sibling's fence is above k
 unfoldable pub cover : View → ℕ → List ℕ → ℕ
@@ -160,10 +161,13 @@ module _ (v : View) (k : ℕ) where
           rw p (cover-out n _ (below-low (v .sibling n) (not-zero v _ ((rw p at a) .1 .0 .range)) (omega (arith, b .fence)))
           ∙ cover-out (v .sibling n) _ (ap (λ x. below v x k) w ∙ below-low s z h))
 
+  pub route-none : (p : ℕ) (ss : List Slot) → Each (λ (s : Slot). k < s .key) ss → route k p ss ≡ p
+  unfolding route
+  route-none p [] h = refl
+  route-none p (s ∷ ss) h = rw (lt-leb (s .key) k (h .0), route) (route-none p ss (h .1))
+
   route-high : (p lo : ℕ) (ss : List Slot) → rising lo ss ≡ true → k < lo → route k p ss ≡ p
-  unfolding route rising
-  route-high p lo [] r h = refl
-  route-high p lo (s ∷ ss) r h = let u = simp decode at r in rw (lt-leb (s .key) k (omega arith), route) (route-high p (suc (s .key)) ss (u .1) (omega arith))
+  route-high p lo ss r h = route-none p ss (Each-map (λ (s : Slot). lo ≤ s .key) (λ (s : Slot). k < s .key) ss (λ s l. omega arith) (rising-from lo ss r))
 
   -- going down by the named nodes and then moving at most once leads to the covering node of the filled row
   route-cover : (d p lo : ℕ) (ss : List Slot) (e : ℕ) → Each (Good v) (fillRow v (p ∷ pointers ss) e) → Each (At v d) (fillRow v (p ∷ pointers ss) e) → linked v (fillRow v (p ∷ pointers ss) e) e ≡ true

@@ -14,7 +14,8 @@ use Rattle.model.specs.declared.Missing.the-variants.{Nowhere, Under, Several}
 use Rattle.model.specs.Slots.{View}
 use Rattle.model.specs.Reached.{headOr, fillRow}
 use Rattle.model.specs.SoundTest.{linked, addMissing, together, missingAt, rowUnfinished}
-use Rattle.tree_laws.proofs.Rows.{link-yes, link-no, linked-cons}
+use Rattle.list_laws.proofs.Lists.{cons-same}
+use Rattle.tree_laws.proofs.Rows.{link-yes, link-no, linked-cons, head-append}
 use Rattle.tree_laws.proofs.Sums.{missing-atom}
 
 -- ---- what a row lacks
@@ -63,25 +64,15 @@ pub record Gap (v : View) (a : ℕ) (ns : List ℕ) (e : ℕ) : Type 0 where
   pub lacks : v .sibling a ≢ headOr e after
   pub joined-after : linked v after e ≡ true
 
-head-before : (e a : ℕ) (before after : List ℕ) → headOr e (before ++ a ∷ after) ≡ headOr a before
-head-before e a [] after = refl
-head-before e a (x ∷ xs) after = refl
-
-cons-head : (x y : ℕ) (xs ys : List ℕ) → x ∷ xs ≡ y ∷ ys → x ≡ y
-cons-head x y xs ys e = cc
-
-cons-tail : (x y : ℕ) (xs ys : List ℕ) → x ∷ xs ≡ y ∷ ys → xs ≡ ys
-cons-tail x y xs ys e = cc
-
 under-same : (p a q b : ℕ) → Under p a ≡ Under q b → (p ≡ q) × (a ≡ b)
 under-same p a q b e = ((cc), (cc))
 
-gap-more : (v : View) (a n : ℕ) (ns : List ℕ) (e : ℕ) → v .sibling n ≡ headOr e ns → Gap v a ns e → Gap v a (n ∷ ns) e
+pub gap-more : (v : View) (a n : ℕ) (ns : List ℕ) (e : ℕ) → v .sibling n ≡ headOr e ns → Gap v a ns e → Gap v a (n ∷ ns) e
 gap-more v a n ns e c g = record {
   before = n ∷ g .before;
   after = g .after;
   shape = ap (λ (l : List ℕ). n ∷ l) (g .shape);
-  joined-before = linked-cons v n (g .before) a .1 (c ∙ ap (headOr e) (g .shape) ∙ head-before e a (g .before) (g .after), g .joined-before);
+  joined-before = linked-cons v n (g .before) a .1 (c ∙ ap (headOr e) (g .shape) ∙ sym (head-append e (g .before) (a ∷ g .after)), g .joined-before);
   lacks = g .lacks;
   joined-after = g .joined-after;
 }
@@ -93,15 +84,15 @@ gap-cases v a n ns e g = go (g .before) (g .after) (g .shape) (g .joined-before)
     go : (before after : List ℕ) → n ∷ ns ≡ before ++ a ∷ after → linked v before a ≡ true → v .sibling a ≢ headOr e after → linked v after e ≡ true
         → ((a ≡ n) × (v .sibling n ≢ headOr e ns) × (linked v ns e ≡ true)) ⊎ ((v .sibling n ≡ headOr e ns) × Gap v a ns e)
     go [] after s l k r =
-        let h : n ≡ a = cons-head n a ns after s in
-        let t : ns ≡ after = cons-tail n a ns after s in
+        let h : n ≡ a = cons-same n a ns after s .0 in
+        let t : ns ≡ after = cons-same n a ns after s .1 in
         inl (sym h, (λ q. k (ap (λ (x : ℕ). v .sibling x) (sym h) ∙ q ∙ ap (headOr e) t)), rw t r)
     go (m ∷ before) after s l k r =
-        let h : n ≡ m = cons-head n m ns (before ++ a ∷ after) s in
-        let t : ns ≡ before ++ a ∷ after = cons-tail n m ns (before ++ a ∷ after) s in
+        let h : n ≡ m = cons-same n m ns (before ++ a ∷ after) s .0 in
+        let t : ns ≡ before ++ a ∷ after = cons-same n m ns (before ++ a ∷ after) s .1 in
         let u = linked-cons v m before a .0 l in
         inr (
-          ap (λ (x : ℕ). v .sibling x) h ∙ u .0 ∙ sym (head-before e a before after) ∙ ap (headOr e) (sym t),
+          ap (λ (x : ℕ). v .sibling x) h ∙ u .0 ∙ head-append e before (a ∷ after) ∙ ap (headOr e) (sym t),
           record { before = before; after = after; shape = t; joined-before = u .1; lacks = k; joined-after = r },
         )
 
@@ -146,7 +137,7 @@ fill-whole v [] e = (λ q. refl, λ q. refl)
 fill-whole v (n ∷ ns) e = go (eqb (v .sibling n) (headOr e ns)) refl (fill-whole v ns e)
   where
     go : (b : Bool) → eqb (v .sibling n) (headOr e ns) ≡ b → (fillRow v ns e ≡ ns) ↔ (linked v ns e ≡ true) → (fillRow v (n ∷ ns) e ≡ n ∷ ns) ↔ (linked v (n ∷ ns) e ≡ true)
-    go true c ih = rw (link-yes v n ns e c) (λ q. linked-cons v n ns e .1 (eqb-true _ _ c, ih .0 (cons-tail n n _ ns q)), λ l. ap (λ (x : List ℕ). n ∷ x) (ih .1 (linked-cons v n ns e .0 l .1)))
+    go true c ih = rw (link-yes v n ns e c) (λ q. linked-cons v n ns e .1 (eqb-true _ _ c, ih .0 (cons-same n n _ ns q .1)), λ l. ap (λ (x : List ℕ). n ∷ x) (ih .1 (linked-cons v n ns e .0 l .1)))
     go false c ih = rw (link-no v n ns e c) (λ q. absurd (omega (arith, ap length q, fill-long v ns e)), λ l. absurd (eqb-false _ _ c (linked-cons v n ns e .0 l .0)))
 
 -- a row with one gap after a gets a's sibling there
@@ -157,4 +148,4 @@ fill-gap v a ns e g = ap (λ (l : List ℕ). fillRow v l e) (g .shape) ∙ go (g
     go [] l = link-no v a (g .after) e (ne-eqb _ _ (g .lacks)) ∙ ap (λ (x : List ℕ). a ∷ v .sibling a ∷ x) (fill-whole v (g .after) e .1 (g .joined-after))
     go (n ∷ ns) l =
         let u = linked-cons v n ns a .0 l in
-        link-yes v n (ns ++ a ∷ g .after) e (eq-eqb _ _ (u .0 ∙ sym (head-before e a ns (g .after)))) ∙ ap (λ (x : List ℕ). n ∷ x) (go ns (u .1))
+        link-yes v n (ns ++ a ∷ g .after) e (eq-eqb _ _ (u .0 ∙ head-append e ns (a ∷ g .after))) ∙ ap (λ (x : List ℕ). n ∷ x) (go ns (u .1))

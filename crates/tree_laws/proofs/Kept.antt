@@ -5,20 +5,22 @@ use mathlib.Core.Logic.{_↔_, _≢_}
 use mathlib.Core.List.{List, [], _∷_, _++_}
 use Prim.Native.Nat.{ℕ, zero, suc, _≤_, _<_}
 use native.Mathlib.Omega.{arith}
-use lib.Dec.{eqb}
 use lib.ListN.{length}
-use borrow.Author.Tests.{eqb-false, not-true}
+use borrow.Author.Tests.{not-true}
 use Rattle.model.specs.Table.{Words, node}
-use Rattle.model.specs.Slots.{Slot, slotsOf, inUse, shown, used, View, viewFrom}
+use Rattle.model.specs.Slots.{Slot, slotsOf, shown, used, View, viewFrom}
 use Rattle.model.specs.Search.{within}
 use Rattle.model.specs.Reached.{filter, kept}
 use Rattle.model.specs.SoundTest.{rising, comeFirst, keysOk, leafOk, innerOk}
 use Rattle.model.specs.Shifts.{placeOf}
 use Rattle.list_laws.proofs.Tools.{decode, all-each, Each, Each-map, Each-filter}
-use Rattle.tree_laws.proofs.Members.{mem-each, mem-filter, filter-all, filter-none, filter-whole}
+use Rattle.list_laws.proofs.Members.{mem-each}
+use Rattle.list_laws.proofs.Filters.{mem-filter, filter-all, filter-none, filter-whole}
+use Rattle.list_laws.proofs.Slots.{in-use-some}
 use Rattle.tree_laws.proofs.Rows.{Good, leaf-ok, inner-ok}
 use Rattle.tree_laws.proofs.Cover.{below-true, below-false}
 use Rattle.tree_laws.proofs.Rising.{rising-weaken, rising-from, place-between}
+pub use Rattle.list_laws.proofs.Slots.{each-shown}
 
 -- what is shown of a node from its sibling's fence up
 abbrev pub ignored : View → ℕ → List Slot
@@ -60,7 +62,7 @@ pub kept-from : (v : View) (n : ℕ) → Good v n → Each (λ (s : Slot). v .fe
 kept-from v n g = rising-from (v .fence n) (kept v n) (kept-rises v n g)
 
 -- the ignored slots come last
-kept-first : (v : View) (n : ℕ) → Good v n → comeFirst (λ (s : Slot). within v n (s .key)) (v .shown n) ≡ true
+pub kept-first : (v : View) (n : ℕ) → Good v n → comeFirst (λ (s : Slot). within v n (s .key)) (v .shown n) ≡ true
 unfolding leafOk innerOk keysOk
 kept-first v n g = by-level v (λ (n : ℕ). comeFirst (λ (s : Slot). within v n (s .key)) (v .shown n) ≡ true) n (λ e. (simp decode at (leaf-ok v n g e)) .1 .1) (λ d e. (simp decode at (inner-ok v d n g e)) .0 .1)
 
@@ -76,6 +78,18 @@ first-split q (s ∷ ss) h = go (q s) refl (first-split q ss)
         let e : filter q ss ≡ [] = filter-none q ss (Each-map (λ (x : Slot). not (q x) ≡ true) (λ (x : Slot). q x ≡ false) ss (λ x y. not-true (q x) y) w) in
         let f : filter (λ (x : Slot). not (q x)) ss ≡ ss = filter-all (λ (x : Slot). not (q x)) ss w in
         rw (c, filter, e, f)
+
+-- the slots that pass a test, where they come first
+pub first-part : (q : Slot → Bool) (a b : List Slot) → Each (λ (s : Slot). q s ≡ true) a → Each (λ (s : Slot). q s ≡ false) b → (filter q (a ++ b) ≡ a) × (comeFirst q (a ++ b) ≡ true)
+unfolding filter comeFirst
+first-part q [] [] x y = (refl, refl)
+first-part q [] (s ∷ b) x y = (rw (y .0, filter) (filter-none q b (y .1)), rw (y .0, comeFirst) (all-each (λ (t : Slot). not (q t)) b .1 (Each-map (λ (t : Slot). q t ≡ false) (λ (t : Slot). not (q t) ≡ true) b (λ t e. ap not e) (y .1))))
+first-part q (s ∷ a) b x y = let u = first-part q a b (x .1) y in (rw (x .0, filter) (ap (λ (l : List Slot). s ∷ l) (u .0)), rw (x .0, comeFirst) (u .1))
+
+pub each-first : (q : Slot → Bool) (ss : List Slot) → Each (λ (s : Slot). q s ≡ true) ss → comeFirst q ss ≡ true
+unfolding comeFirst
+each-first q [] h = refl
+each-first q (s ∷ ss) h = rw (h .0, comeFirst) (each-first q ss (h .1))
 
 pub shown-split : (v : View) (n : ℕ) → Good v n → v .shown n ≡ kept v n ++ ignored v n
 unfolding kept
@@ -95,24 +109,6 @@ kept-whole v n = (λ e. filter-all (λ (s : Slot). within v n (s .key)) (v .show
 
 -- ---- no shown slot of a table has pointer 0
 
-in-use : (ss : List Slot) → Each (λ (s : Slot). s .pointer ≢ 0) (inUse ss)
-unfolding inUse
-in-use [] = tt
-in-use (s ∷ ss) = go (eqb (s .pointer) 0) refl (in-use ss)
-  where
-    go : (b : Bool) → eqb (s .pointer) 0 ≡ b → Each (λ (s : Slot). s .pointer ≢ 0) (inUse ss) → Each (λ (s : Slot). s .pointer ≢ 0) (inUse (s ∷ ss))
-    go true c ih = rw (c, inUse) tt
-    go false c ih = rw (c, inUse) (eqb-false (s .pointer) 0 c, ih)
-
-pub each-shown : (P : Slot → Type 0) (p : ℕ) (ss : List Slot) → Each P ss → Each P (shown p ss)
-unfolding shown
-each-shown P p [] h = tt
-each-shown P p (s ∷ ss) h = go (eqb (s .pointer) p) refl (each-shown P (s .pointer) ss (h .1))
-  where
-    go : (b : Bool) → eqb (s .pointer) p ≡ b → Each P (shown (s .pointer) ss) → Each P (shown p (s ∷ ss))
-    go true c ih = rw (c, shown) ih
-    go false c ih = rw (c, shown) (h .0, ih)
-
 pub shown-pointers : (t : Words) (r i : ℕ) → Each (λ (s : Slot). s .pointer ≢ 0) (viewFrom t r .shown i)
 unfolding used
-shown-pointers t r i = each-shown (λ (s : Slot). s .pointer ≢ 0) (node t i .left) (used t i) (in-use (slotsOf (node t i .slots)))
+shown-pointers t r i = each-shown (λ (s : Slot). s .pointer ≢ 0) (node t i .left) (used t i) (in-use-some (slotsOf (node t i .slots)))

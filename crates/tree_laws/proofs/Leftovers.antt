@@ -17,9 +17,9 @@ use Rattle.model.specs.declared.Unfinished.{Unfinished}
 use Rattle.model.specs.Table.{Words}
 use Rattle.model.specs.Slots.{View, view}
 use Rattle.model.specs.Reached.{kept, named, nextChild, fillRow, children, reached}
-use Rattle.model.specs.SoundTest.{distinct, finished, addFew, addMissing, together, times, trailingIn, own, rowUnfinished, unfinishedAt, unfinished, Leftover, nothing, hiddenIn, missingIn, bothIn, leftover, hasRoom, isNothing, isAllowed, orderly, settledView, soundView, settled, sound}
+use Rattle.model.specs.SoundTest.{distinct, linked, finished, addFew, addMissing, together, times, trailingIn, own, rowUnfinished, unfinishedAt, unfinished, Leftover, nothing, hiddenIn, missingIn, bothIn, leftover, hasRoom, isNothing, isAllowed, orderly, settledView, soundView, settled, sound}
 use Rattle.list_laws.proofs.Tools.{and-iff, Each}
-use Rattle.tree_laws.proofs.Members.{each-mem, each-iff}
+use Rattle.list_laws.proofs.Members.{each-mem, each-iff}
 use Rattle.tree_laws.proofs.Levels.{Orderly, orderly-iff, sound-parts, settled-parts}
 use Rattle.tree_laws.proofs.Gaps.{row-only, row-nowhere, Gap, row-under, fill-whole, fill-gap}
 use Rattle.tree_laws.proofs.Kept.{by-level, kept-whole}
@@ -96,6 +96,13 @@ missing-inner v n z = rw (at-inner v n z)
 pub children-of : (v : View) (n : ℕ) → v .level n ≢ 0 → children v n ≡ fillRow v (named v n) (nextChild v n)
 unfolding children
 children-of v n z = rw (ne-eqb (v .level n) 0 z, children)
+
+-- a node names all its children exactly if those that it names are linked
+pub names-linked : (v : View) (n : ℕ) → v .level n ≢ 0 → (children v n ≡ named v n) ↔ (linked v (named v n) (nextChild v n) ≡ true)
+names-linked v n z = (
+  λ e. fill-whole v (named v n) (nextChild v n) .0 (sym (children-of v n z) ∙ e),
+  λ l. children-of v n z ∙ fill-whole v (named v n) (nextChild v n) .1 l,
+)
 
 -- a node that lacks the slot of a's sibling has that sibling as a child all the same
 pub gap-children : (v : View) (p a : ℕ) → v .level p ≢ 0 → (g : Gap v a (named v p) (nextChild v p)) → children v p ≡ g .before ++ a ∷ v .sibling a ∷ g .after
@@ -233,7 +240,7 @@ module _ (v : View) (d : distinct (reached v) ≡ true) where
 
 -- ---- settled and sound by their parts
 
-is-nothing : (o : Option Leftover) → (isNothing o ≡ true) ↔ (o ≡ some nothing)
+pub is-nothing : (o : Option Leftover) → (isNothing o ≡ true) ↔ (o ≡ some nothing)
 is-nothing none = (λ e. absurd (false≢true e), λ e. (let z : _≡_ {A = ℕ} 0 1 = cc in absurd (omega arith)))
 is-nothing (some nothing) = (λ e. refl, λ e. refl)
 is-nothing (some (hiddenIn x)) = (λ e. absurd (false≢true e), λ e. (let z : _≡_ {A = ℕ} 0 1 = cc in absurd (omega arith)))
@@ -263,7 +270,7 @@ pub record SoundTree (v : View) : Type 0 where
   pub left : Left v leftover
   pub room : hasRoom v leftover ≡ true
 
-is-allowed : (v : View) (o : Option Leftover) → (isAllowed v o ≡ true) ↔ ((x : Leftover) × (o ≡ some x) × (hasRoom v x ≡ true))
+pub is-allowed : (v : View) (o : Option Leftover) → (isAllowed v o ≡ true) ↔ ((x : Leftover) × (o ≡ some x) × (hasRoom v x ≡ true))
 is-allowed v none = (λ e. absurd (false≢true e), λ u. (let q = u .1 in let z : _≡_ {A = ℕ} 0 1 = cc in absurd (omega arith)))
 is-allowed v (some x) = (λ e. (x, refl, e), λ u. ap (isAllowed v) (u .1) ∙ u .2)
 

@@ -11,8 +11,9 @@ use Rattle.model.specs.Slots.{View, view, height}
 use Rattle.model.specs.Reached.{flat, headOr, children, reachedFrom, leavesFrom, reached, leaves, mapping, recording}
 use Rattle.model.specs.SoundTest.{elem, distinct, linked, nodeOk, rootOk, orderly, settledView, soundView, settled, sound}
 use Rattle.list_laws.proofs.Tools.{decode, and-iff, all-each, Each, Each-map, Each-append}
-use Rattle.tree_laws.proofs.Members.{each-mem, elem-false, distinct-cons, distinct-append, Once, once, UpTo, pigeonhole}
-use Rattle.tree_laws.proofs.Rows.{Good, At, Row, Deep, inner, not-zero, sib-facts, linked-cons, first-child, left-range, head-children, deep-here, deep-lower, row-lower}
+use Rattle.list_laws.proofs.Members.{each-mem, elem-false}
+use Rattle.list_laws.proofs.Distinct.{distinct-cons, distinct-append, Once, once, UpTo, pigeonhole}
+use Rattle.tree_laws.proofs.Rows.{Good, At, Row, Deep, inner, not-zero, sib-facts, linked-cons, first-child, left-range, head-children, deep-here, deep-lower, row-lower, range-iff}
 
 -- ---- an orderly tree by its parts
 
@@ -55,6 +56,12 @@ pub sound-parts : (t : Words) → (sound t ≡ true) ↔ ((headerOk t ≡ true) 
 unfolding sound
 sound-parts t = and-iff (headerOk t) (soundView (view t))
 
+pub sound-header : (t : Words) → sound t ≡ true → headerOk t ≡ true
+sound-header t h = sound-parts t .0 h .0
+
+pub orderly-of : (t : Words) → sound t ≡ true → Orderly (view t)
+orderly-of t h = sound-orderly (view t) (sound-parts t .0 h .1)
+
 pub settled-parts : (t : Words) → (settled t ≡ true) ↔ ((headerOk t ≡ true) × (settledView (view t) ≡ true))
 unfolding settled
 settled-parts t = and-iff (headerOk t) (settledView (view t))
@@ -91,6 +98,9 @@ pub level-root : (v : View) → RootFacts v → Each (Good v) (reached v) → Le
 level-root v t g =
     let n = v .root in
     record { row = record { good = deep-here v (height v) (n ∷ []) g; at = (record { range = t .range; level = refl }, tt); chain = linked-cons v n [] 0 .1 (t .sibling, unfold linked in refl) }; deep = g; some = not-zero v n (t .range); first = t .fence }
+
+pub top-row : (v : View) → Orderly v → Row v (height v) (v .root ∷ [])
+top-row v o = level-root v (o .top) (o .good) .row
 
 pub level-at : (v : View) (d : ℕ) → Orderly v → d ≤ height v → Level v d (rowAt v d)
 level-at v d o h = level-down v (height v - d) d (height v) (v .root ∷ []) (omega arith) (level-root v (o .top) (o .good))
@@ -226,10 +236,12 @@ once-follows v t g = once-from v (height v) (v .root ∷ []) (level-root v t g)
 pub reached-bounds : (v : View) → Orderly v → Each (Bounded v (height v)) (reached v)
 reached-bounds v o = levels-below v (height v) (v .root ∷ []) (level-root v (o .top) (o .good))
 
--- at most N nodes are reached
+-- they are numbers from 1 to N, so at most N
+pub reached-numbers : (v : View) → Orderly v → Each (UpTo (v .nodes)) (reached v)
+reached-numbers v o = Each-map (Bounded v (height v)) (UpTo (v .nodes)) (reached v) (λ n h. range-iff (v .nodes) n .0 (h .0)) (reached-bounds v o)
+
 pub reached-few : (v : View) → Orderly v → length (reached v) ≤ v .nodes
-unfolding inRange
-reached-few v o = pigeonhole (v .nodes) (reached v) (o .once) (Each-map (Bounded v (height v)) (UpTo (v .nodes)) (reached v) (λ n h. simp decode at (h .0)) (reached-bounds v o))
+reached-few v o = pigeonhole (v .nodes) (reached v) (o .once) (reached-numbers v o)
 
 -- a node stands once among those of its level
 pub row-once : (v : View) (n d : ℕ) → Orderly v → d ≤ height v → List·Memᴰ n (rowAt v d) → Once n (rowAt v d)

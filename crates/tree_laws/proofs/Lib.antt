@@ -3,6 +3,7 @@ pub mod Members
 pub mod Rows
 pub mod Cover
 pub mod Levels
+pub mod Parents
 pub mod Rising
 pub mod Kept
 pub mod MapLaw
@@ -13,3 +14,4 @@ pub mod Leftovers
 pub mod Shape
 pub mod ListLaw
 pub mod PlaceOf
+pub mod Unreachable

@@ -18,7 +18,8 @@ use Rattle.model.specs.SoundTest.{rising, sound}
 use Rattle.model.specs.Sound.{Rise}
 use Rattle.model.specs.Listing.{inRangeOf, fitting, pairWords, listed, listedWords, list, listOut}
 use Rattle.list_laws.proofs.Tools.{decode, Each, Each-map}
-use Rattle.tree_laws.proofs.Members.{each-mem, mem-each, mem-filter, filter-none}
+use Rattle.list_laws.proofs.Members.{each-mem, mem-each}
+use Rattle.list_laws.proofs.Filters.{mem-filter, filter-none}
 use Rattle.tree_laws.proofs.Rising.{rising-filter, rise-from-rising, Apart, rising-apart}
 use Rattle.tree_laws.proofs.MapLaw.{map-rises}
 

@@ -9,13 +9,15 @@ use Rattle.model.specs.Table.{MARK, Words, root}
 use Rattle.model.specs.Slots.{Slot, View, view}
 use Rattle.model.specs.Search.{within}
 use Rattle.model.specs.Reached.{flat, kept, leaves, mapping, mapOf, recording}
-use Rattle.model.specs.SoundTest.{distinct, rising, sound}
+use Rattle.model.specs.SoundTest.{elem, distinct, rising, sound}
 use Rattle.model.specs.Sound.{Rise}
 use Rattle.list_laws.proofs.Tools.{Each, Each-map, Each-append, Each-filter, flat-append}
-use Rattle.tree_laws.proofs.Members.{each-both, elem-false, distinct-cons}
+use Rattle.list_laws.proofs.Members.{each-both, elem-false, each-mem, map-flat}
+use Rattle.list_laws.proofs.Distinct.{distinct-cons, flat-off, distinct-part}
+use Rattle.list_laws.proofs.Lists.{each-map}
 use Rattle.tree_laws.proofs.Rows.{Row, not-zero, sib-facts, linked-cons}
 use Rattle.tree_laws.proofs.Cover.{below-low}
-use Rattle.tree_laws.proofs.Levels.{Orderly, sound-orderly, sound-parts, Level, level-leaves, row-tail, head-least, leaf-once}
+use Rattle.tree_laws.proofs.Levels.{Orderly, Level, level-leaves, row-tail, head-least, leaf-once, orderly-of}
 use Rattle.tree_laws.proofs.Rising.{rising-join, rising-from, rise-from-rising, keys-distinct}
 use Rattle.tree_laws.proofs.Kept.{kept-below, kept-rises, shown-pointers}
 
@@ -72,10 +74,6 @@ map-pointers t = go (leaves (view t))
     go (n ∷ ns) = Each-append (λ (s : Slot). recording s ≢ 0) (kept (view t) n) (flat (kept (view t)) ns)
         (Each-map _ (λ (s : Slot). recording s ≢ 0) (kept (view t) n) (λ s h. h .0) (Each-filter (λ (s : Slot). s .pointer ≢ 0) (λ (s : Slot). within (view t) n (s .key)) (view t .shown n) (shown-pointers t (root t) n))) (go ns)
 
-each-map : (P : ℕ → Type 0) (g : Slot → ℕ) (ss : List Slot) → Each P (map g ss) → Each (λ (s : Slot). P (g s)) ss
-each-map P g [] h = tt
-each-map P g (s ∷ ss) h = (h .0, each-map P g ss (h .1))
-
 pub record MapRises (m : List Slot) : Type 0 where
   pub rising : rising 0 m ≡ true
   pub rise : Rise m
@@ -85,7 +83,7 @@ pub record MapRises (m : List Slot) : Type 0 where
 
 pub map-rises : (t : Words) → sound t ≡ true → MapRises (mapOf t)
 map-rises t h =
-    let o = sound-orderly (view t) (sound-parts t .0 h .1) in
+    let o = orderly-of t h in
     let r = map-rising (view t) o in
     let u = distinct-cons MARK (map recording (mapOf t)) .0 (o .recordings) in
     record {
@@ -93,7 +91,7 @@ map-rises t h =
       rise = rise-from-rising 0 (mapOf t) r;
       keys-once = keys-distinct 0 (mapOf t) r;
       recordings-once = u .1;
-      recordings-number = each-both (λ (s : Slot). recording s ≢ 0) (λ (s : Slot). recording s ≢ MARK) (mapOf t) (map-pointers t) (each-map (λ (n : ℕ). n ≢ MARK) recording (mapOf t) (elem-false MARK (map recording (mapOf t)) .0 (u .0)));
+      recordings-number = each-both (λ (s : Slot). recording s ≢ 0) (λ (s : Slot). recording s ≢ MARK) (mapOf t) (map-pointers t) (each-map (λ (n : ℕ). n ≢ MARK) recording (mapOf t) .0 (elem-false MARK (map recording (mapOf t)) .0 (u .0)));
     }
 
 -- ---- one leaf's part of the map
@@ -108,6 +106,14 @@ pub record LeafPart (v : View) (x : ℕ) : Type 0 where
   pub parts : mapping v ≡ flat (kept v) left ++ (kept v x ++ flat (kept v) right)
   pub low : Each (λ (s : Slot). s .key < v .fence x) (flat (kept v) left)
   pub high : Each (λ (s : Slot). within v x (s .key) ≡ false) (flat (kept v) right)
+
+-- a leaf's recordings differ, and none is MARK
+pub leaf-recordings : (v : View) (x : ℕ) → Orderly v → List·Memᴰ x (leaves v) → distinct (MARK ∷ map recording (kept v x)) ≡ true
+unfolding mapping
+leaf-recordings v x o m =
+    let own : ℕ → List ℕ = λ n. map recording (kept v n) in
+    let u = distinct-cons MARK (flat own (leaves v)) .0 (rw (map-flat recording (kept v) (leaves v)) at (o .recordings)) in
+    distinct-cons MARK (own x) .1 (each-mem (λ (n : ℕ). elem MARK (own n) ≡ false) (flat-off own (leaves v) MARK (u .0)) m, distinct-part own (leaves v) x (u .1) m)
 
 row-rest : (v : View) (d : ℕ) (ls rs : List ℕ) → Row v d (ls ++ rs) → Row v d rs
 row-rest v d [] rs r = r

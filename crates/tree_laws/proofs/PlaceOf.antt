@@ -15,7 +15,7 @@ use Rattle.model.specs.SoundTest.{rising}
 use Rattle.model.specs.Shifts.{placeOf}
 use Rattle.model.specs.Writes.{standing}
 use Rattle.list_laws.proofs.Tools.{Each, Each-map, Each-append, Each-split, Misses}
-use Rattle.tree_laws.proofs.Members.{each-mem, each-take, each-drop}
+use Rattle.list_laws.proofs.Members.{each-mem, each-take, each-drop}
 use Rattle.tree_laws.proofs.Rows.{Good}
 use Rattle.tree_laws.proofs.Cover.{cover, stays, below-past}
 use Rattle.tree_laws.proofs.Levels.{Orderly, rowAt, row-leaves, mem-leaves}

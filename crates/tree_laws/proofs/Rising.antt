@@ -8,7 +8,7 @@ use Prim.Native.Nat.{ℕ, suc, _≤_, _<_}
 use native.Mathlib.Omega.{arith}
 use lib.Dec.{eqb, ltb}
 use lib.ListN.{length, take, drop, take-append-drop}
-use borrow.Author.Tests.{ltb-true, ltb-false, eqb-true, eqb-false, eq-eqb, ne-eqb, lt-ltb, le-ltb}
+use borrow.Author.Tests.{ltb-true, ltb-false, eqb-true, eqb-false, lt-ltb, le-ltb}
 use Rattle.model.specs.declared.Answer.the-variants.{Found, Absent, Refused}
 use Rattle.model.specs.Slots.{Slot, slot}
 use Rattle.model.specs.Search.{firstWith, answerOf, lookup}
@@ -16,8 +16,11 @@ use Rattle.model.specs.Reached.{filter}
 use Rattle.model.specs.SoundTest.{distinct, rising}
 use Rattle.model.specs.Sound.{Rise}
 use Rattle.model.specs.Shifts.{placeOf}
-use Rattle.list_laws.proofs.Tools.{decode, Each, Each-map, Misses, lookup-nil}
-use Rattle.tree_laws.proofs.Members.{each-mem, each-drop, each-both, filter-yes, filter-no, elem-false, distinct-cons}
+use Rattle.list_laws.proofs.Tools.{decode, Each, Each-map, Misses, lookup-nil, lookup-here, lookup-past}
+use Rattle.list_laws.proofs.Members.{each-mem, each-drop, each-both, elem-false}
+use Rattle.list_laws.proofs.Filters.{filter-yes, filter-no}
+use Rattle.list_laws.proofs.Distinct.{distinct-cons}
+pub use Rattle.list_laws.proofs.Slots.{place-length}
 
 pub rising-cons : (lo : ℕ) (s : Slot) (ss : List Slot) → (rising lo (s ∷ ss) ≡ true) ↔ ((lo ≤ s .key) × (rising (suc (s .key)) ss ≡ true))
 unfolding rising
@@ -110,14 +113,6 @@ same-key lo (s ∷ ss) x y r p q e =
 
 -- ---- lookups
 
-lookup-yes : (k : ℕ) (s : Slot) (ss : List Slot) → eqb (s .key) k ≡ true → lookup k (s ∷ ss) ≡ Found (s .pointer)
-unfolding lookup firstWith
-lookup-yes k s ss c = rw (c, firstWith)
-
-lookup-no : (k : ℕ) (s : Slot) (ss : List Slot) → eqb (s .key) k ≡ false → lookup k (s ∷ ss) ≡ lookup k ss
-unfolding lookup firstWith
-lookup-no k s ss c = rw (c, firstWith)
-
 -- what was found is there
 pub lookup-mem : (k r : ℕ) (ss : List Slot) → lookup k ss ≡ Found r → List·Memᴰ (slot k r) ss
 unfolding lookup firstWith
@@ -126,26 +121,26 @@ lookup-mem k r (s ∷ ss) h = go (eqb (s .key) k) refl (lookup-mem k r ss)
   where
     go : (b : Bool) → eqb (s .key) k ≡ b → (lookup k ss ≡ Found r → List·Memᴰ (slot k r) ss) → List·Memᴰ (slot k r) (s ∷ ss)
     go true c ih =
-        let y : Found (s .pointer) ≡ Found r = sym (lookup-yes k s ss c) ∙ h in
+        let y : Found (s .pointer) ≡ Found r = sym (lookup-here k s ss (eqb-true (s .key) k c)) ∙ h in
         let p : s .pointer ≡ r = cc in
         List·Memᴰ·head (λ i. record { key = sym (eqb-true (s .key) k c) i; pointer = sym p i })
-    go false c ih = List·Memᴰ·tail (ih (sym (lookup-no k s ss c) ∙ h))
+    go false c ih = List·Memᴰ·tail (ih (sym (lookup-past k s ss (eqb-false (s .key) k c)) ∙ h))
 
 pub mem-lookup : (lo k r : ℕ) (ss : List Slot) → rising lo ss ≡ true → List·Memᴰ (slot k r) ss → lookup k ss ≡ Found r
 mem-lookup lo k r [] h m = absurd (List·Memᴰ·not-nil m)
 mem-lookup lo k r (s ∷ ss) h m =
     let u = rising-cons lo s ss .0 h in
-    ⊎-elim (λ e. lookup-yes k s ss (eq-eqb (s .key) k (ap (λ (x : Slot). x .key) (sym e))) ∙ ap (λ (x : Slot). Found (x .pointer)) (sym e))
+    ⊎-elim (λ e. lookup-here k s ss (ap (λ (x : Slot). x .key) (sym e)) ∙ ap (λ (x : Slot). Found (x .pointer)) (sym e))
     (λ t. let l = each-mem (λ (x : Slot). suc (s .key) ≤ x .key) (rising-from (suc (s .key)) ss (u .1)) t in
-    lookup-no k s ss (ne-eqb (s .key) k (λ e. omega arith)) ∙ mem-lookup (suc (s .key)) k r ss (u .1) t) (List·Memᴰ·cases-cons m)
+    lookup-past k s ss (λ e. omega arith) ∙ mem-lookup (suc (s .key)) k r ss (u .1) t) (List·Memᴰ·cases-cons m)
 
 pub lookup-misses : (k : ℕ) (ss : List Slot) → lookup k ss ≡ Absent → Misses k ss
 lookup-misses k [] h = tt
 lookup-misses k (s ∷ ss) h = go (eqb (s .key) k) refl (lookup-misses k ss)
   where
     go : (b : Bool) → eqb (s .key) k ≡ b → (lookup k ss ≡ Absent → Misses k ss) → Misses k (s ∷ ss)
-    go true c ih = let y : Found (s .pointer) ≡ Absent = sym (lookup-yes k s ss c) ∙ h in let z : _≡_ {A = ℕ} 0 1 = cc in absurd (omega arith)
-    go false c ih = (eqb-false (s .key) k c, ih (sym (lookup-no k s ss c) ∙ h))
+    go true c ih = let y : Found (s .pointer) ≡ Absent = sym (lookup-here k s ss (eqb-true (s .key) k c)) ∙ h in let z : _≡_ {A = ℕ} 0 1 = cc in absurd (omega arith)
+    go false c ih = (eqb-false (s .key) k c, ih (sym (lookup-past k s ss (eqb-false (s .key) k c)) ∙ h))
 
 pub found-iff : (lo k r : ℕ) (ss : List Slot) → rising lo ss ≡ true → (lookup k ss ≡ Found r) ↔ List·Memᴰ (slot k r) ss
 found-iff lo k r ss h = (lookup-mem k r ss, mem-lookup lo k r ss h)
@@ -191,9 +186,6 @@ by-place k P e o i (s ∷ ss) = go (ltb (s .key) k) refl (by-place k P e o i ss)
     go : (b : Bool) → ltb (s .key) k ≡ b → P ss (placeOf k ss) → P (s ∷ ss) (placeOf k (s ∷ ss))
     go true c ih = rw (place-yes k s ss c) (i s ss (ltb-true (s .key) k c) ih)
     go false c ih = rw (place-no k s ss c) (o s ss (ltb-false (s .key) k c))
-
-pub place-length : (k : ℕ) (ss : List Slot) → placeOf k ss ≤ length ss
-place-length k = by-place k (λ ss p. p ≤ length ss) (omega arith) (λ s ss l. omega arith) (λ s ss l ih. omega arith)
 
 pub lower-below : (k : ℕ) (ss : List Slot) → Each (λ (s : Slot). s .key < k) (lower k ss)
 lower-below k = by-place k (λ ss p. Each (λ (s : Slot). s .key < k) (take p ss)) tt (λ s ss l. tt) (λ s ss l ih. (l, ih))

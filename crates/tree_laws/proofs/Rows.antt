@@ -1,17 +1,18 @@
 -- Rows of nodes: the children of a row of good nodes are a row.
 use mathlib.Core.Path.{_≡_, refl, ap, sym, _∙_}
-use mathlib.Core.Bool.{Bool, true, false, not, _&&_, _||_, false≢true}
+use mathlib.Core.Bool.{Bool, true, false}
 use mathlib.Core.Logic.{_↔_}
-use mathlib.Core.List.{List, [], _∷_, _++_, map, append-assoc, List·Memᴰ, List·Memᴰ·head, List·Memᴰ·tail}
+use mathlib.Core.List.{List, [], _∷_, _++_, List·Memᴰ, List·Memᴰ·head, List·Memᴰ·tail}
 use Prim.Native.Nat.{ℕ, zero, suc, _+_, _≤_, _<_}
 use native.Mathlib.Omega.{arith}
-use lib.Dec.{eqb, ltb, leb}
-use borrow.Author.Tests.{ltb-true, ltb-false, leb-true, leb-false, eqb-true, eqb-false, eq-eqb, ne-eqb, lt-ltb, le-ltb, le-leb, lt-leb}
+use lib.Dec.{eqb}
+use borrow.Author.Tests.{eqb-true, eq-eqb, ne-eqb}
 use Rattle.model.specs.Table.{inRange}
-use Rattle.model.specs.Slots.{Slot, View, height}
-use Rattle.model.specs.Reached.{filter, flat, headOr, pointers, kept, named, firstChild, nextChild, fillRow, children, reachedFrom, leavesFrom}
+use Rattle.model.specs.Slots.{Slot, View}
+use Rattle.model.specs.Reached.{flat, headOr, pointers, kept, named, firstChild, nextChild, fillRow, children, reachedFrom, leavesFrom}
 use Rattle.model.specs.SoundTest.{all, siblingOk, rising, linked, childOk, slotOk, leafOk, innerOk, nodeOk, keysOk}
-use Rattle.list_laws.proofs.Tools.{decode, and-iff, Each, Each-append, Each-split, all-each, all-append, flat-append, flat-flat, flat-single}
+use Rattle.list_laws.proofs.Tools.{decode, and-iff, Each, Each-append, Each-split, all-each}
+use Rattle.list_laws.proofs.Members.{flat-each}
 
 abbrev pub Good : View → ℕ → Type 0
 Good v n = nodeOk v n ≡ true
@@ -25,9 +26,12 @@ pub record Row (v : View) (d : ℕ) (ns : List ℕ) : Type 0 where
   pub at : Each (At v d) ns
   pub chain : linked v ns 0 ≡ true
 
-pub not-zero : (v : View) (n : ℕ) → inRange (v .nodes) n ≡ true → n ≡ 0 → ⊥
+pub range-iff : (n i : ℕ) → (inRange n i ≡ true) ↔ ((1 ≤ i) × (i ≤ n))
 unfolding inRange
-not-zero v n h e = let g = (simp decode at h) .0 in omega arith
+range-iff n i = (λ h. simp decode at h, λ h. simp decode h)
+
+pub not-zero : (v : View) (n : ℕ) → inRange (v .nodes) n ≡ true → n ≡ 0 → ⊥
+not-zero v n h e = let g = range-iff (v .nodes) n .0 h .0 in omega arith
 
 pub record SibFacts (v : View) (n : ℕ) : Type 0 where
   pub range : inRange (v .nodes) (v .sibling n) ≡ true
@@ -53,6 +57,10 @@ leaf-ok v n g e = rw (eq-eqb (v .level n) 0 e) at ((simp and-iff at g) .1 .1)
 pub record Named (v : View) (d : ℕ) (s : Slot) : Type 0 where
   pub level : v .level (s .pointer) ≡ d
   pub fence : v .fence (s .pointer) ≡ s .key
+
+pub no-children : (v : View) (n : ℕ) → v .level n ≡ 0 → children v n ≡ []
+unfolding children
+no-children v n e = rw (eq-eqb (v .level n) 0 e, children)
 
 pub children-inner : (v : View) (d n : ℕ) → v .level n ≡ suc d → children v n ≡ fillRow v (named v n) (nextChild v n)
 unfolding children
@@ -142,7 +150,7 @@ chain-tail v n ns e z h = go (eqb (v .sibling n) (headOr e ns)) refl
     go true c = linked-cons v _ _ z .0 (rw (link-yes v n ns e c) at h) .1
     go false c = linked-cons v _ _ z .0 (linked-cons v _ _ z .0 (rw (link-no v n ns e c) at h) .1) .1
 
-head-append : (e : ℕ) (xs ys : List ℕ) → headOr (headOr e ys) xs ≡ headOr e (xs ++ ys)
+pub head-append : (e : ℕ) (xs ys : List ℕ) → headOr (headOr e ys) xs ≡ headOr e (xs ++ ys)
 head-append e [] ys = refl
 head-append e (x ∷ xs) ys = refl
 
@@ -244,3 +252,20 @@ fill-mem v {n = n} e (List·Memᴰ·tail {x = m} {xs = ms} t) = go (eqb (v .sibl
     go : (b : Bool) → eqb (v .sibling m) (headOr e ms) ≡ b → List·Memᴰ n (fillRow v ms e) → List·Memᴰ n (fillRow v (m ∷ ms) e)
     go true c ih = rw (link-yes v m ms e c) (List·Memᴰ·tail ih)
     go false c ih = rw (link-no v m ms e c) (List·Memᴰ·tail (List·Memᴰ·tail ih))
+
+-- views whose children agree on the nodes of one list the same nodes
+module _ (v w : View) where
+  abbrev pub SameChildren : ℕ → Type 0
+  SameChildren n = children w n ≡ children v n
+
+  pub reached-agree : (d : ℕ) (ns : List ℕ) → Each SameChildren (reachedFrom v d ns) → reachedFrom w d ns ≡ reachedFrom v d ns
+  unfolding reachedFrom
+  reached-agree zero ns h = refl
+  reached-agree (suc d) ns h =
+      let u = Each-split SameChildren ns (reachedFrom v d (flat (children v) ns)) h in
+      ap (λ (l : List ℕ). ns ++ l) (ap (reachedFrom w d) (flat-each (children w) (children v) ns (u .0)) ∙ reached-agree d (flat (children v) ns) (u .1))
+
+  pub leaves-agree : (d : ℕ) (ns : List ℕ) → Each SameChildren (reachedFrom v d ns) → leavesFrom w d ns ≡ leavesFrom v d ns
+  unfolding leavesFrom
+  leaves-agree zero ns h = refl
+  leaves-agree (suc d) ns h = ap (leavesFrom w d) (flat-each (children w) (children v) ns (each-here v SameChildren (suc d) ns h)) ∙ leaves-agree d (flat (children v) ns) (each-lower v SameChildren d ns h)

@@ -16,10 +16,10 @@ use Rattle.model.specs.Search.{below, within, moved, down, onLevel, passes, loc
 use Rattle.model.specs.Reached.{flat, headOr, kept, named, nextChild, children, leavesFrom, reached, leaves, mapping, mapOf}
 use Rattle.model.specs.SoundTest.{soundView, sound}
 use Rattle.list_laws.proofs.Tools.{decode, or-right, Each, Each-map, Each-flat, Misses, lookup-l, lookup-r, lookup-filter}
-use Rattle.tree_laws.proofs.Members.{each-mem, each-index}
+use Rattle.list_laws.proofs.Members.{each-mem, each-index}
 use Rattle.tree_laws.proofs.Rows.{Good, At, Row, Inner, inners, sib-facts, linked-cons, fill-mem}
 use Rattle.tree_laws.proofs.Cover.{cover, cover-in, cover-out, cover-has, cover-mem, cover-fence, cover-child, cover-flat, stays, below-true, within-up-to, step-down, step-whole, down-named, nexts}
-use Rattle.tree_laws.proofs.Levels.{Orderly, sound-orderly, sound-parts, Level, level-lower, level-root, level-at, level-leaves, rowAt, row-below, row-reached, reached-row, row-tail, head-least}
+use Rattle.tree_laws.proofs.Levels.{Orderly, sound-orderly, sound-parts, Level, level-lower, level-root, level-at, level-leaves, rowAt, row-below, row-reached, reached-row, row-tail, head-least, orderly-of}
 use Rattle.tree_laws.proofs.Rising.{found-iff, absent-iff, lookup-answers}
 use Rattle.tree_laws.proofs.MapLaw.{map-rising, leaf-part}
 
@@ -217,7 +217,7 @@ search-law t k h = let u = sound-parts t .0 h in rw (u .0, search) (search-view 
 
 -- It finds r exactly if the map has (k, r), it is absent exactly if the map has no pair with key k, and it is never refused.
 pub search-found : (t : Words) (k r : ℕ) → sound t ≡ true → (search t k ≡ Found r) ↔ List·Memᴰ (slot k r) (mapOf t)
-search-found t k r h = let o = sound-orderly (view t) (sound-parts t .0 h .1) in rw (search-law t k h) (found-iff 0 k r (mapOf t) (map-rising (view t) o))
+search-found t k r h = let o = orderly-of t h in rw (search-law t k h) (found-iff 0 k r (mapOf t) (map-rising (view t) o))
 
 pub search-absent : (t : Words) (k : ℕ) → sound t ≡ true → (search t k ≡ Absent) ↔ Misses k (mapOf t)
 search-absent t k h = rw (search-law t k h) (absent-iff k (mapOf t))

@@ -11,9 +11,9 @@ use Rattle.model.specs.Search.{within}
 use Rattle.model.specs.Reached.{flat, kept, children, reached, leaves}
 use Rattle.model.specs.SoundTest.{distinct, linked, sound}
 use Rattle.list_laws.proofs.Tools.{Each}
-use Rattle.tree_laws.proofs.Members.{each-mem, each-both}
+use Rattle.list_laws.proofs.Members.{each-mem, each-both}
 use Rattle.tree_laws.proofs.Rows.{Good, At}
-use Rattle.tree_laws.proofs.Levels.{Orderly, sound-orderly, sound-parts, level-at, rowAt, row-leaves, row-root, row-below, row-reached, reached-row, mem-leaves, Ascending, ascending, Bounded, reached-bounds, reached-few}
+use Rattle.tree_laws.proofs.Levels.{Orderly, level-at, rowAt, row-leaves, row-root, row-below, row-reached, reached-row, mem-leaves, Ascending, ascending, Bounded, reached-bounds, reached-few, orderly-of}
 use Rattle.tree_laws.proofs.Kept.{kept-within, kept-from, ignored, shown-split}
 
 -- keys from n's fence up to below its sibling's
@@ -62,4 +62,4 @@ shape-view v o = record {
 }
 
 pub shape : (t : Words) → sound t ≡ true → Shape (view t)
-shape t h = shape-view (view t) (sound-orderly (view t) (sound-parts t .0 h .1))
+shape t h = shape-view (view t) (orderly-of t h)

@@ -15,7 +15,8 @@ use Rattle.model.specs.declared.Missing.the-variants.{Nowhere, Under, Several}
 use Rattle.model.specs.declared.Unfinished.{Unfinished}
 use Rattle.model.specs.SoundTest.{distinct, finished, addFew, addMissing, together, total, Leftover, nothing, hiddenIn, missingIn, bothIn, leftoverFrom, leftoverOf}
 use Rattle.list_laws.proofs.Tools.{Each, Each-map}
-use Rattle.tree_laws.proofs.Members.{each-mem, each-both, elem-false, distinct-cons}
+use Rattle.list_laws.proofs.Members.{each-mem, each-both, elem-false}
+use Rattle.list_laws.proofs.Distinct.{distinct-cons}
 
 -- ---- the sum is commutative and associative, with unit `finished`
 

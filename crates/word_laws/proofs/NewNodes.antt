@@ -11,10 +11,10 @@ use Rattle.model.specs.Slots.{Slot, slot, slotsOf, shown, hidden, clearIn, used
 use Rattle.model.specs.Orders.{apply}
 use Rattle.model.specs.Listing.{pairWords}
 use Rattle.model.specs.Writes.{putAll, nodeWords}
-use Rattle.list_laws.proofs.Tools.{decode}
+use Rattle.list_laws.proofs.Tools.{decode, double-suc}
 use Rattle.slot_laws.proofs.Hiding.{Stops, AllShown, Shows, shows-all}
 use Rattle.slot_laws.proofs.SlotStores.{pointerAt}
-use Rattle.word_laws.proofs.SlotWords.{double-suc, at-pointer}
+use Rattle.word_laws.proofs.SlotWords.{at-pointer}
 use Rattle.word_laws.proofs.NodeStores.{node-stored, spare-stored}
 
 abbrev zeros : ℕ → List Slot

@@ -11,9 +11,9 @@ use Rattle.model.specs.Table.{Words, at, hasNode, nodeStart, node, nodeFrom, sp
 use Rattle.model.specs.Orders.{apply}
 use Rattle.model.specs.Writes.{putAll}
 use Rattle.list_laws.proofs.Tools.{Each}
+use Rattle.list_laws.proofs.Steps.{Along}
 use Rattle.table_laws.proofs.Words.{at-part}
 use Rattle.table_laws.proofs.Nodes.{has-node-iff, node-in}
-use Rattle.slot_laws.proofs.Steps.{Along}
 use Rattle.word_laws.proofs.Stores.{doStore, after-whole}
 use Rattle.word_laws.proofs.Outside.{Into, outside-along}
 use Rattle.word_laws.proofs.Frames.{Elsewhere, has-node-same}

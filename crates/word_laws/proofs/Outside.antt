@@ -8,8 +8,8 @@ use lib.Seq.{getD-set-other, ext-getD}
 use Rattle.model.specs.Table.{Words, at}
 use Rattle.model.specs.Orders.{Store}
 use Rattle.list_laws.proofs.Tools.{Each}
+use Rattle.list_laws.proofs.Steps.{Along, along-each}
 use Rattle.table_laws.proofs.Words.{at-part}
-use Rattle.slot_laws.proofs.Steps.{Along, along-each}
 use Rattle.word_laws.proofs.Stores.{doStore}
 
 -- t′ is as long as t and has its words but for some of the n words from a on

@@ -1,23 +1,22 @@
 -- Shift in, shift out, close and cut seen by the view of the table, store by store: of every other node nothing changes.
 use mathlib.Core.Path.{_≡_, refl, sym, _∙_, fun-ext}
-use mathlib.Core.Bool.{Bool, true, false}
+use mathlib.Core.Bool.{true}
 use mathlib.Core.List.{List}
 use Prim.Native.Nat.{ℕ, _+_, _≤_, _<_}
 use native.Mathlib.Omega.{arith}
-use lib.Dec.{eqb}
 use lib.ListN.{length, take, set, length-take, length-drop}
-use borrow.Author.Tests.{eqb-true, eqb-false}
 use Rattle.model.specs.Table.{Words, at, headerOk, hasNode, nodeStart, node}
 use Rattle.model.specs.Slots.{Slot, slotsOf, clearIn, used, view}
 use Rattle.model.specs.Shifts.{SlotStore, pointerTo, pointerWord, shiftIn, shiftOut, close, placeOf, hiddenPlace}
 use Rattle.model.specs.Writes.{shiftInAt, shiftOutAt, closeAt}
-use Rattle.list_laws.proofs.Tools.{decode, Each}
+use Rattle.list_laws.proofs.Tools.{decode, Each, at-or-off}
+use Rattle.list_laws.proofs.Slots.{place-length}
+use Rattle.list_laws.proofs.Steps.{Until, Along, AtFirst, until-both, first-both}
 use Rattle.table_laws.proofs.Nodes.{has-node-iff}
-use Rattle.slot_laws.proofs.Steps.{Until, Along, AtFirst, until-both, first-both}
 use Rattle.slot_laws.proofs.Hiding.{Used, parts, shown-used, AllShown, Shows, MayHide, in-use-before, shown-and-hidden}
 use Rattle.slot_laws.proofs.SlotStores.{setPointer, doSlotStore, pointerAt, KeepsZero, keeps-zero}
 use Rattle.slot_laws.proofs.Shifts.{putIn, takeOut, shape-of, shift-in-slots, shift-out-slots, close-slots, cut-slots}
-use Rattle.slot_laws.proofs.Places.{place-of-le, hidden-place-lt, shift-in-places, shift-out-places, close-places, shift-in-zero, shift-out-zero, close-zero, zero-along}
+use Rattle.slot_laws.proofs.Places.{hidden-place-lt, shift-in-places, shift-out-places, close-places, shift-in-zero, shift-out-zero, close-zero, zero-along}
 use Rattle.word_laws.proofs.Stores.{doStore}
 use Rattle.word_laws.proofs.Frames.{header-same}
 use Rattle.word_laws.proofs.SlotWords.{at-pointer, length-slots}
@@ -56,6 +55,14 @@ pub view-shown : (t : Words) (n : ℕ) → view t .hidden n ≡ 0 → AllShown (
 unfolding used
 view-shown t n h = shape-of (view t .left n) (view t .shown n) (slotsOf (node t n .slots)) (record { shows = refl; hides = h }) .shown-all
 
+-- a clear node has at most 11 slots in use
+pub used-few : (t : Words) (n : ℕ) → view t .clear n ≡ true → length (used t n) ≤ 11
+unfolding clearIn used
+used-few t n c = in-use-before (slotsOf (node t n .slots)) 11 (sym (at-pointer 11 (node t n .slots)) ∙ (simp decode at c) .1)
+
+pub shown-few : (t : Words) (n : ℕ) → view t .clear n ≡ true → length (view t .shown n) ≤ 11
+shown-few t n c = omega (arith, used-few t n c, shown-and-hidden (view t .left n) (used t n))
+
 -- ---- a clear node x of t, and its slots
 
 abbrev slotsIn : Words → ℕ → List Slot
@@ -65,14 +72,6 @@ slotsIn t x = slotsOf (node t x .slots)
 abbrev Fits : Words → ℕ → List Slot → ℕ → List Slot → Type 0
 Fits t x ss h all = Shows (view t .left x) ss h all × (pointerAt all 11 ≡ 0)
 
--- by cases: n is x or not
-at-or-off : (P : ℕ → Type 0) (x : ℕ) → P x → ((n : ℕ) → (n ≡ x → ⊥) → P n) → (n : ℕ) → P n
-at-or-off P x a o n = go (eqb n x) refl
-  where
-    go : (b : Bool) → eqb n x ≡ b → P n
-    go true e = rw (eqb-true n x e) a
-    go false e = o n (eqb-false n x e)
-
 module _ (t : Words) (x : ℕ) (i : hasNode t x ≡ true) (c : view t .clear x ≡ true) where
   slots-long : length (slotsIn t x) ≡ 12
   unfolding nodeStart
@@ -81,14 +80,6 @@ module _ (t : Words) (x : ℕ) (i : hasNode t x ≡ true) (c : view t .clear x �
   last-zero : pointerAt (slotsIn t x) 11 ≡ 0
   unfolding clearIn
   last-zero = sym (at-pointer 11 (node t x .slots)) ∙ (simp decode at c) .1
-
-  -- n slots in use, 11 at most
-  used-few : length (used t x) ≤ 11
-  unfolding used
-  used-few = in-use-before (slotsIn t x) 11 last-zero
-
-  shown-few : length (view t .shown x) ≤ 11
-  shown-few = omega (arith, used-few, shown-and-hidden (view t .left x) (used t x))
 
   start : (h : ℕ) → view t .hidden x ≡ h → Shows (view t .left x) (view t .shown x) h (slotsIn t x)
   unfolding used
@@ -135,14 +126,14 @@ module _ (t : Words) (x : ℕ) (i : hasNode t x ≡ true) (c : view t .clear x �
       let qs = close us (hiddenPlace l us) in
       let p = hidden-place-lt l us h in
       run t x (Fits t x ss 1) (Fits t x ss 0) (Changed t x ss 1) (Changed t x ss 0) i (changed ss 1) (changed ss 0) qs t (slotsIn t x)
-      (close-places us (hiddenPlace l us) 12 p (omega (arith, used-few))) (only-start t x)
-      (until-both doSlotStore (Shows l ss 1) Zero (Shows l ss 0) Zero qs (slotsIn t x) (close-slots l (slotsIn t x) h) (zeros qs (close-zero us (hiddenPlace l us) 11 p used-few)))
+      (close-places us (hiddenPlace l us) 12 p (omega (arith, used-few t x c))) (only-start t x)
+      (until-both doSlotStore (Shows l ss 1) Zero (Shows l ss 0) Zero qs (slotsIn t x) (close-slots l (slotsIn t x) h) (zeros qs (close-zero us (hiddenPlace l us) 11 p (used-few t x c))))
 
   -- Storing 0 in the pointer of slot p, where nothing is hidden, leaves node x with the slots before it.
   pub cut-view : (p : ℕ) → view t .hidden x ≡ 0 → p < length (view t .shown x) → Changed t x (take p (view t .shown x)) 0 (set t (pointerWord x p) 0)
   cut-view p h l =
       let ss = view t .shown x in
-      let few : p < 12 = omega (arith, shown-few) in
+      let few : p < 12 = omega (arith, shown-few t x c) in
       changed (take p ss) 0 (set t (pointerWord x p) 0) (setPointer (slotsIn t x) p 0) (only-put t t x (slotsIn t x) (pointerTo p 0) i few (only-start t x))
       (cut-slots (view t .left x) ss (slotsIn t x) p (start 0 h) l, keeps-zero 11 (pointerTo p 0) (slotsIn t x) (λ e. refl) last-zero)
 
@@ -158,7 +149,7 @@ module _ (t : Words) (x : ℕ) (i : hasNode t x ≡ true) (c : view t .clear x �
         let p = placeOf k ss in
         let new = withSlot t x k y in
         let qs = shiftIn l ss p k y in
-        let o = place-of-le k ss in
+        let o = place-length k ss in
         run t x (λ (all : List Slot). MayHide l ss all × Zero all) (Fits t x new 0) (λ (t′ : Words). (h : ℕ) × (h ≤ 1) × Changed t x ss h t′) (Changed t x new 0) i
         (λ t′ all u f. (f .0 .0, f .0 .1, changed ss (f .0 .0) t′ all u (f .0 .2, f .1))) (changed new 0) qs t (slotsIn t x) (shift-in-places l ss p k y 12 o (omega arith)) (only-start t x)
         (until-both doSlotStore (MayHide l ss) Zero (Shows l new 0) Zero qs (slotsIn t x) (shift-in-slots l ss (slotsIn t x) p k y z (start 0 h) (rw slots-long (omega arith)) o a)
@@ -175,9 +166,9 @@ module _ (t : Words) (x : ℕ) (i : hasNode t x ≡ true) (c : view t .clear x �
         let new = withoutSlot t x k in
         let qs = shiftOut l ss p in
         run-first t x (Fits t x ss 0) (Fits t x new 1) (Fits t x new 0) (Changed t x ss 0) (Changed t x new 1) (Changed t x new 0) i
-        (changed ss 0) (changed new 1) (changed new 0) qs t (slotsIn t x) (shift-out-places l ss p 12 o (omega (arith, shown-few))) (only-start t x)
+        (changed ss 0) (changed new 1) (changed new 0) qs t (slotsIn t x) (shift-out-places l ss p 12 o (omega (arith, shown-few t x c))) (only-start t x)
         (first-both doSlotStore (Shows l ss 0) (Shows l new 1) (Shows l new 0) Zero qs (slotsIn t x) (shift-out-slots l ss (slotsIn t x) p z (start 0 h) o a)
-        (zeros qs (shift-out-zero l ss p 11 o shown-few)))
+        (zeros qs (shift-out-zero l ss p 11 o (shown-few t x c))))
 
 -- a shift in is the same list of stores wherever the node's left and shown slots are the same
 pub shift-in-same : (t t′ : Words) (x k y : ℕ) → view t′ .left x ≡ view t .left x → view t′ .shown x ≡ view t .shown x → shiftInAt t′ x k y ≡ shiftInAt t x k y

@@ -11,8 +11,8 @@ use Rattle.model.specs.Slots.{Slot, slotsOf}
 use Rattle.model.specs.Orders.{apply}
 use Rattle.model.specs.Shifts.{SlotStore, keyTo, pointerTo, keyWord, pointerWord, inNode}
 use Rattle.list_laws.proofs.Tools.{Each}
+use Rattle.list_laws.proofs.Steps.{doAll, Until, AtFirst}
 use Rattle.table_laws.proofs.Nodes.{node-in}
-use Rattle.slot_laws.proofs.Steps.{doAll, Until, AtFirst}
 use Rattle.slot_laws.proofs.SlotStores.{setKey, setPointer, doSlotStore, doSlotStores}
 use Rattle.slot_laws.proofs.Places.{Below}
 use Rattle.word_laws.proofs.Stores.{doStore}

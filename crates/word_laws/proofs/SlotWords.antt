@@ -6,10 +6,8 @@ use native.Mathlib.Omega.{arith}
 use lib.ListN.{length, set}
 use Rattle.model.specs.Table.{Words, at}
 use Rattle.model.specs.Slots.{Slot, slot, slotsOf}
+use Rattle.list_laws.proofs.Tools.{double-suc}
 use Rattle.slot_laws.proofs.SlotStores.{setKey, setPointer, pointerAt}
-
-pub double-suc : (i : ℕ) → 2 * suc i ≡ suc (suc (2 * i))
-double-suc i = omega arith
 
 pub slots-of-key : (i : ℕ) (ws : Words) (y : ℕ) → slotsOf (set ws (2 * i) y) ≡ setKey (slotsOf ws) i y
 unfolding slotsOf setKey

@@ -1,11 +1,11 @@
 -- Stores applied to a table one after another.
-use mathlib.Core.Path.{_≡_, refl, _∙_}
+use mathlib.Core.Path.{_≡_, refl}
 use mathlib.Core.List.{List, [], _∷_, _++_}
 use Prim.Native.Nat.{ℕ, _<_}
 use lib.ListN.{length, take, set}
 use Rattle.model.specs.Table.{Words}
 use Rattle.model.specs.Orders.{Store, apply}
-use Rattle.slot_laws.proofs.Steps.{doAll, Until, AtFirst, first-between, first-end, until-append, until-before, until-end}
+use Rattle.list_laws.proofs.Steps.{doAll, Until, AtFirst, first-between, first-end, until-append, until-before, until-end}
 
 -- a store, as a step from table to table
 abbrev pub doStore : Store → Words → Words

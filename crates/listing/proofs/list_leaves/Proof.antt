@@ -1,0 +1,89 @@
+-- `listing::list_leaves` meets its contract. The loop keeps what is ahead: a row of leaves, and what taking their pairs comes to.
+use mathlib.Core.Path.{_≡_, refl, sym, _∙_}
+use mathlib.Core.Bool.{false≢true}
+use lib.ListN.{length}
+use borrow.Author.Needs.{needs}
+use Rattle.model.specs.Slots.{view}
+use Rattle.model.specs.Reached.{mapOf}
+use Rattle.model.specs.Listing.{inRangeOf}
+use Rattle.tree_laws.proofs.Levels.{sound-parts}
+use Rattle.listing.specs.Taking.{sheet, begun, allTaken}
+use Rattle.listing.proofs.Pairs.{Spent, spent-after, spent-stop}
+use Rattle.listing.proofs.Leaves.{onward, Ahead, ahead-first, ahead-end, ahead-past, ahead-fewer, ahead-next}
+use Rattle.listing.proofs.list_leaves.Statement.{statement}
+use Rattle.listing.proofs.list_leaves.Tie as tie
+
+abbrev Inv-loop : tie.InvT-loop
+Inv-loop table low high out₀ p₀ leaf₀ out p leaf = (length out ≡ length out₀) × Spent (sheet out p) × Ahead (view table) low high leaf (sheet out p) (allTaken (inRangeOf low high (mapOf table)) (begun out₀))
+
+abbrev μ-loop : tie.MeasureT-loop
+μ-loop table low high out₀ p₀ leaf₀ out p leaf = length (onward (view table) leaf)
+
+standing-requires : tie.Need-standing-requires Inv-loop μ-loop
+standing-requires c κs = sound-parts _ .0 (c .before .before .pre) .0
+
+loop-holds : tie.Need-loop-holds Inv-loop μ-loop
+loop-holds c = (refl, λ e. absurd (false≢true e), ahead-first _ _ _ _ _ (begun (c .before .before .before .args .out .now)) (c .before .before .before .pre) (c .standing .ensures))
+
+same-length : tie.Need-same-length Inv-loop μ-loop
+same-length c = search needs
+
+returns : tie.Need-returns Inv-loop μ-loop
+returns c = let l = c .before .before .loop in sym (spent-stop _ _ (l .inv .1) (c .if1 .taken)) ∙ l .inv .2 .rest
+
+read-requires : tie.Need-read-requires Inv-loop μ-loop
+read-requires c κs = search needs
+
+same-length-2 : tie.Need-same-length-2 Inv-loop μ-loop
+same-length-2 c = search needs
+
+returns-2 : tie.Need-returns-2 Inv-loop μ-loop
+returns-2 c =
+    let r = c .before .before in
+    let l = r .before .before .before in
+    ahead-past _ _ _ _ _ _ (l .before .before .before .before .pre) _ (r .read .ensures) (r .before .before .loop-test .taken) (l .loop .inv .2) (c .if2 .taken)
+
+word-requires : tie.Need-word-requires Inv-loop μ-loop
+word-requires c κs = search needs
+
+list-leaf-requires : tie.Need-list-leaf-requires Inv-loop μ-loop
+list-leaf-requires c κs = search needs
+
+loop-less : tie.Need-loop-less Inv-loop μ-loop
+loop-less c =
+    let r = c .before .before .before .before .before .before .before in
+    let l = r .before .before .before in
+    ahead-fewer _ _ _ _ _ _ (l .before .before .before .before .pre) _ (r .read .ensures) (r .before .before .loop-test .taken) (l .loop .inv .2)
+
+loop-again : tie.Need-loop-again Inv-loop μ-loop
+loop-again c =
+    let b = c .before .before in
+    let r = b .before .before .before .before .before in
+    let l = r .before .before .before in
+    (search needs, spent-after _ _ _ (l .loop .inv .1) (b .list-leaf .ensures), ahead-next _ _ _ _ _ _ (l .before .before .before .before .pre) _ (r .read .ensures) (r .before .before .loop-test .taken) (l .loop .inv .2) _ _ (b .before .before .word .ensures) (b .list-leaf .ensures))
+
+same-length-3 : tie.Need-same-length-3 Inv-loop μ-loop
+same-length-3 c = search needs
+
+returns-3 : tie.Need-returns-3 Inv-loop μ-loop
+returns-3 c = let l = c .before .loop in ahead-end _ _ _ _ _ _ (l .inv .2) (c .loop-test .left)
+
+pub list-leaves-spec : {M : Type 1} → statement M
+list-leaves-spec =
+    tie.close
+    (tie.spec
+    Inv-loop
+    μ-loop
+    standing-requires
+    loop-holds
+    same-length
+    returns
+    read-requires
+    same-length-2
+    returns-2
+    word-requires
+    list-leaf-requires
+    loop-less
+    loop-again
+    same-length-3
+    returns-3)

@@ -1,0 +1,2 @@
+-- What the functions of a listing answer.
+pub mod Taking
