@@ -67,6 +67,30 @@ uint64_t catalogue_make(uint64_t *table, size_t words);
 /* 0 and the recording where the key is found, 255 where it is absent, else 2 or 3. */
 uint64_t catalogue_search(const uint64_t *table, size_t words, uint64_t key, uint64_t *recording);
 
+/*
+ * The pairs (key, recording) with low <= key <= high, rising, into out while whole pairs fit; *pairs is their number, *more 1 where
+ * more were left, else 0. 0, or 2 or 4.
+ */
+uint64_t catalogue_list(const uint64_t *table, size_t words, uint64_t low, uint64_t high, uint64_t *out, size_t out_words,
+                        uint64_t *pairs, uint64_t *more);
+
+/*
+ * The writing calls, on the working copy. Each repairs what a cut left first. 0, with the order list filled and its stores and flushes
+ * counted (at most 1,121 together), or the refusal number. Insertion: 2, 4, 5, 12, 6, 7, 8, 11, 10.
+ */
+uint64_t catalogue_insert(uint64_t *table, size_t words, uint64_t *orders, size_t order_words, uint64_t key, uint64_t recording,
+                          uint64_t *stores, uint64_t *flushes);
+
+/* Deletion: 2, 4, 5, 12, 9. */
+uint64_t catalogue_delete(uint64_t *table, size_t words, uint64_t *orders, size_t order_words, uint64_t key, uint64_t *stores,
+                          uint64_t *flushes);
+
+/* Repair: 2, 4, 5, 12. A settled table gives 0 orders. */
+uint64_t catalogue_repair(uint64_t *table, size_t words, uint64_t *orders, size_t order_words, uint64_t *stores, uint64_t *flushes);
+
+/* Applies the first c orders of a list to a table. 0, or 2 or 13. */
+uint64_t catalogue_carry_out(uint64_t *table, size_t words, const uint64_t *orders, size_t order_words, uint64_t c);
+
 #ifdef __cplusplus
 }
 #endif

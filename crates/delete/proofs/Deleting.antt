@@ -8,7 +8,7 @@ use Rattle.model.specs.Table.{Words, headerOk}
 use Rattle.model.specs.Reached.{mapOf}
 use Rattle.model.specs.SoundTest.{sound}
 use Rattle.model.specs.Orders.{Store}
-use Rattle.model.specs.Writes.{shiftOutAt, standing, repairStores, repaired, deleteStores, Call, deletion, storesOf}
+use Rattle.model.specs.Writes.{shiftOutAt, standing, repairStores, repaired, deleteStores, deletion, storesOf}
 use Rattle.model.specs.Refusals.{hasKey, refusal}
 use Rattle.steps.proofs.Views.{settled-fine}
 use Rattle.steps.proofs.Standing.{standing-stands}

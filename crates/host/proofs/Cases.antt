@@ -1,5 +1,5 @@
 -- What each case of an answer gives.
-use mathlib.Core.Path.{_≡_, refl, sym, ap}
+use mathlib.Core.Path.{_≡_, refl, sym, ap, _∙_}
 use Prim.Native.Nat.{ℕ}
 use Rattle.model.specs.declared.Answer.{Answer}
 use Rattle.model.specs.declared.Answer.the-variants.{Found, Absent, Refused}
@@ -10,7 +10,9 @@ use Rattle.model.specs.Table.{outcomeNumber}
 use Rattle.model.specs.Search.{recordingOr}
 use Rattle.model.specs.declared.Written.{Written}
 use Rattle.model.specs.Refusals.{writtenNumber, storesOr, flushesOr}
-use Rattle.host.specs.Answers.{searchNumber, Wrote}
+use Rattle.model.specs.declared.Listed.{Listed}
+use Rattle.model.specs.Listing.{listedNumber, countOr, moreOr}
+use Rattle.host.specs.Answers.{searchNumber, Wrote, Showed}
 
 -- an answer that is this one has its number, and puts its word
 pub answered : (x y : Answer) (old : ℕ) → x ≡ y → (searchNumber y ≡ searchNumber x) × (recordingOr y old ≡ recordingOr x old)
@@ -28,4 +30,12 @@ has-written x y stores flushes e =
       number-is = sym (ap writtenNumber e);
       stores-are = sym (ap (λ (z : Written). storesOr z stores) e);
       flushes-are = sym (ap (λ (z : Written). flushesOr z flushes) e);
+    }
+
+pub has-shown : (x y : Listed) (pairs more m : ℕ) → x ≡ y → m ≡ moreOr y more → Showed x (listedNumber y) pairs (countOr y pairs) more m
+has-shown x y pairs more m e q =
+    record {
+      number-is = sym (ap listedNumber e);
+      pairs-are = sym (ap (λ (z : Listed). countOr z pairs) e);
+      more-is = q ∙ sym (ap (λ (z : Listed). moreOr z more) e);
     }

@@ -1,6 +1,7 @@
 // The C entry points, on numbers and slices: include/catalogue.h has their prototypes. An answer is put into a lent word only where
 // the call does its work.
 use model::Answer;
+use model::Listed;
 use model::Outcome;
 use model::Parsed;
 use model::Written;
@@ -9,10 +10,12 @@ ghost use Rattle.model.specs.Codes.{parse, print, parsedNumber, keyOr};
 ghost use Rattle.model.specs.Table.{making, made, outcomeNumber};
 ghost use Rattle.model.specs.Orders.{carryOut, carriedOut};
 ghost use Rattle.model.specs.Search.{search, recordingOr};
-ghost use Rattle.model.specs.Writes.{repair, deletion};
+ghost use Rattle.model.specs.Writes.{insertion, deletion, repair};
 ghost use Rattle.model.specs.Refusals.{written, tableAfter, listAfter};
 ghost use lib.ListN.{length};
-ghost use Rattle.host.specs.Answers.{searchNumber, Wrote};
+ghost use Rattle.host.specs.Answers.{searchNumber, Wrote, Showed};
+ghost use Rattle.model.specs.Listing.{list, listOut};
+ghost use mathlib.Core.Bool.{cond};
 
 // 0, or 2.
 #[no_mangle]
@@ -112,6 +115,65 @@ pub extern "C" fn catalogue_delete(
     ensures { λ r. ⌜ (now (table .exit) ≡ tableAfter (deletion key) (length (now (orders .entry))) (now (table .entry))) × (now (orders .exit) ≡ listAfter (deletion key) (now (orders .entry)) (now (table .entry))) ⌝ }
 {
     match delete::delete(table, orders, key) {
+        Written::Done {
+            stores: s,
+            flushes: f,
+        } => {
+            *stores = s;
+            *flushes = f;
+            0
+        }
+        Written::Refused(n) => n as u64,
+    }
+}
+
+// 0, the pairs written and 1 or 0 for more left, or 2 or 4.
+#[no_mangle]
+pub extern "C" fn catalogue_list(
+    table: &[u64],
+    low: u64,
+    high: u64,
+    out: &mut [u64],
+    pairs: &mut u64,
+    more: &mut u64,
+) -> u64
+    ensures { λ r. ⌜ Showed (list (now (table .entry)) low high (now (out .entry))) r (now (pairs .entry)) (now (pairs .exit)) (now (more .entry)) (now (more .exit)) ⌝ }
+    ensures { λ r. ⌜ now (out .exit) ≡ listOut (now (table .entry)) low high (now (out .entry)) ⌝ }
+{
+    match listing::list(table, low, high, out) {
+        Listed::Pairs { count, more: left } => {
+            *pairs = count;
+            *more = one_if(left);
+            0
+        }
+        Listed::Refused(n) => n as u64,
+    }
+}
+
+// 1 for true, 0 for false.
+fn one_if(b: bool) -> u64
+    ensures { λ r. ⌜ r ≡ cond b 1 0 ⌝ }
+{
+    if b {
+        return 1;
+    }
+    0
+}
+
+// As repair and deletion: 0 and the two counts, or the refusal number.
+#[no_mangle]
+pub extern "C" fn catalogue_insert(
+    table: &mut [u64],
+    orders: &mut [u64],
+    key: u64,
+    recording: u64,
+    stores: &mut u64,
+    flushes: &mut u64,
+) -> u64
+    ensures { λ r. ⌜ Wrote (written (insertion key recording) (length (now (orders .entry))) (now (table .entry))) r (now (stores .entry)) (now (stores .exit)) (now (flushes .entry)) (now (flushes .exit)) ⌝ }
+    ensures { λ r. ⌜ (now (table .exit) ≡ tableAfter (insertion key recording) (length (now (orders .entry))) (now (table .entry))) × (now (orders .exit) ≡ listAfter (insertion key recording) (now (orders .entry)) (now (table .entry))) ⌝ }
+{
+    match insert::insert(table, orders, key, recording) {
         Written::Done {
             stores: s,
             flushes: f,

@@ -1,5 +1,5 @@
 -- The end of a writing call: a refusal changes no word, and the stores, made and finished, are what the call promises.
-use mathlib.Core.Path.{_≡_, refl, ap, sym, _∙_}
+use mathlib.Core.Path.{_≡_, refl, ap, _∙_}
 use mathlib.Core.Logic.{_≢_}
 use mathlib.Core.List.{[], append-nil}
 use Prim.Native.Nat.{ℕ, zero, suc, _*_, _≤_}

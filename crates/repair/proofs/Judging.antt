@@ -30,7 +30,6 @@ use Rattle.sound.specs.declared.Checked.{Checked}
 use Rattle.sound.specs.declared.Checked.the-variants.{Unsound, Sound}
 use Rattle.sound.specs.Checked.{meant, checked}
 use Rattle.sound.proofs.JudgeLaws.{SoundWith, checked-sound, checked-unsound}
-use Rattle.repair.specs.declared.Judged.{Judged}
 use Rattle.repair.specs.declared.Judged.the-variants.{Refused, Ready}
 use Rattle.repair.specs.Judged.{sharedTests, shared, readyWith, judged}
 

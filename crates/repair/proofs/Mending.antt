@@ -1,5 +1,5 @@
 -- The repair of a sound table, by its leftover: its stores, and what the shifts need of the nodes.
-use mathlib.Core.Path.{_≡_, refl, ap, sym, _∙_}
+use mathlib.Core.Path.{_≡_, ap, sym, _∙_}
 use mathlib.Core.Bool.{Bool, true, false}
 use mathlib.Core.List.{List, [], _++_, List·Memᴰ}
 use mathlib.Core.Option.{some}

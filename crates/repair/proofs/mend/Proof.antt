@@ -1,5 +1,5 @@
 -- `repair::mend` meets its contract.
-use mathlib.Core.Path.{sym, _∙_}
+use mathlib.Core.Path.{sym}
 use Rattle.orders.proofs.Steps.{storedAll-nil}
 use Rattle.orders.proofs.Rest.{room-as, stored-as}
 use Rattle.repair.proofs.Mending.{nothing-stores, close-stores, close-there, attach-stores, cut-attach-stores, attach-plain, both-stores, both-there, closed-plain, closed-room, closed-attached}

@@ -1,0 +1,88 @@
+-- The tests of an insertion from 6 on, one by one.
+use mathlib.Core.Path.{_≡_, ap, sym, _∙_}
+use mathlib.Core.Logic.{_≢_}
+use mathlib.Core.Bool.{Bool, true, false, cond, _&&_}
+use Prim.Native.Nat.{ℕ, _+_}
+use native.Mathlib.Omega.{arith}
+use native.Mathlib.Nat.{add-zero}
+use lib.Dec.{eqb, leb, ltb}
+use lib.ListN.{length}
+use borrow.Author.Tests.{eq-eqb, ne-eqb, leb-true, le-leb, ltb-true, lt-ltb}
+use Rattle.model.specs.Table.{MARK, Words, root}
+use Rattle.model.specs.Slots.{view, height}
+use Rattle.model.specs.Reached.{mapOf}
+use Rattle.model.specs.SoundTest.{sound}
+use Rattle.model.specs.Writes.{unreachable}
+use Rattle.model.specs.Refusals.{hasKey, hasRecording}
+use Rattle.list_laws.proofs.Tools.{same-test}
+use Rattle.node.specs.Word.{wordOf}
+use Rattle.node.proofs.WordLaws.{word-level}
+use Rattle.reach.specs.declared.Run.{Run}
+use Rattle.sound.specs.declared.Hit.{Hit}
+use Rattle.sound.specs.declared.Hit.the-variants.{At, Nowhere}
+use Rattle.sound.specs.Hits.{isHit, hitIn}
+use Rattle.sound.proofs.OnceLaws.{found-recording}
+use Rattle.insert.specs.Tests.{highRun, fewFor, numberFor}
+
+-- ---- 8
+
+module _ (t : Words) (r : ℕ) (s : sound t ≡ true) (h : Hit) (e : h ≡ hitIn (view t) r) where
+  answered : isHit h ≡ hasRecording r (mapOf t)
+  answered = ap isHit e ∙ found-recording t r s
+
+  pub recording-at : (n i : ℕ) → h ≡ At n i → true ≡ hasRecording r (mapOf t)
+  recording-at n i q = sym (ap isHit q) ∙ answered
+
+  pub recording-nowhere : h ≡ Nowhere → false ≡ hasRecording r (mapOf t)
+  recording-nowhere q = sym (ap isHit q) ∙ answered
+
+-- ---- 11 and 10
+
+pub not-whole : (t : Words) (run : Run) → run .root ≡ false → false ≡ highRun t run
+not-whole t run e = sym (ap (λ (b : Bool). b && eqb (height (view t)) 15) e)
+
+pub root-level : (t : Words) (run : Run) (w : ℕ) → run .root ≡ true → w ≡ wordOf t (root t) 2 → eqb w 15 ≡ highRun t run
+root-level t run w e q = ap (λ (l : ℕ). eqb l 15) (q ∙ word-level t (root t)) ∙ sym (ap (λ (b : Bool). b && eqb (height (view t)) 15) e)
+
+-- with a new root, one more is needed
+pub few-whole : (free n : ℕ) (b : Bool) → b ≡ true → leb free n ≡ ltb free (n + cond b 1 0)
+few-whole free n b e = rw e (same-test (leb free n) (ltb free (n + 1)) (λ h. lt-ltb free (n + 1) (omega (arith, leb-true free n h)), λ h. le-leb free n (omega (arith, ltb-true free (n + 1) h))))
+
+pub few-part : (free n : ℕ) (b : Bool) → b ≡ false → ltb free n ≡ ltb free (n + cond b 1 0)
+few-part free n b e = rw (e, add-zero)
+
+-- ---- the first that holds
+
+module _ (t : Words) (k r : ℕ) (run : Run) where
+  pub six-zero : r ≡ 0 → 6 ≡ numberFor t k r run
+  unfolding numberFor
+  six-zero z = rw (eq-eqb r 0 z, numberFor)
+
+  module _ (z : r ≢ 0) where
+    pub six-mark : r ≡ MARK → 6 ≡ numberFor t k r run
+    unfolding numberFor
+    six-mark m = rw (ne-eqb r 0 z, eq-eqb r MARK m, numberFor)
+
+    module _ (m : r ≢ MARK) (a : Bool) (ea : a ≡ hasKey k (mapOf t)) where
+      pub seven : a ≡ true → 7 ≡ numberFor t k r run
+      unfolding numberFor
+      seven h = rw (ne-eqb r 0 z, ne-eqb r MARK m, sym ea ∙ h, numberFor)
+
+      module _ (fa : a ≡ false) (b : Bool) (eb : b ≡ hasRecording r (mapOf t)) where
+        pub eight : b ≡ true → 8 ≡ numberFor t k r run
+        unfolding numberFor
+        eight h = rw (ne-eqb r 0 z, ne-eqb r MARK m, sym ea ∙ fa, sym eb ∙ h, numberFor)
+
+        module _ (fb : b ≡ false) (c : Bool) (ec : c ≡ highRun t run) where
+          pub eleven : c ≡ true → 11 ≡ numberFor t k r run
+          unfolding numberFor
+          eleven h = rw (ne-eqb r 0 z, ne-eqb r MARK m, sym ea ∙ fa, sym eb ∙ fb, ← ec, h, numberFor)
+
+          module _ (fc : c ≡ false) (free : ℕ) (ef : free ≡ length (unreachable t)) (d : Bool) (ed : d ≡ fewFor free run) where
+            pub ten : d ≡ true → 10 ≡ numberFor t k r run
+            unfolding numberFor
+            ten h = rw (ne-eqb r 0 z, ne-eqb r MARK m, sym ea ∙ fa, sym eb ∙ fb, ← ec, fc, ← ef, ← ed, h, numberFor)
+
+            pub none-holds : d ≡ false → 0 ≡ numberFor t k r run
+            unfolding numberFor
+            none-holds h = rw (ne-eqb r 0 z, ne-eqb r MARK m, sym ea ∙ fa, sym eb ∙ fb, ← ec, fc, ← ef, ← ed, h, numberFor)
