@@ -110,6 +110,25 @@ fn main() {
     all_met(&kinds, seed);
     passed += 1;
 
+    // Damage by the million: small tables, one to three words changed, one call on each.
+    let list: Vec<u64> = (0..LIST_WORDS as u64).collect();
+    let mut refused = 0;
+    for _ in 0..size / 40 {
+        let t = grown(4, &mut random);
+        for _ in 0..250 {
+            let d = damaged(&t, &mut random);
+            let k = d[random.below(d.len() as u64) as usize];
+            let call = match random.below(4) {
+                0 => Call::Repair,
+                1 => Call::Delete(k),
+                _ => Call::Insert(k ^ random.below(3), 1 + random.below(1_000_000)),
+            };
+            refused += (same_write(&d, &list, call, seed).0.number != 0) as u64;
+        }
+    }
+    println!("damaged tables {}, refused {refused}", size / 40 * 250);
+    passed += 1;
+
     // Carry-out of any words.
     for _ in 0..size {
         let (a, b) = (random.below(120) as usize, random.below(24) as usize);
