@@ -56,6 +56,23 @@ fn main() {
     }
     passed += 1;
 
+    // Codes: random ones read and print back, and one character changed is judged as the form says.
+    for _ in 0..100_000 {
+        let letters = b"ABCDEFGHIJKLMNOPQRSTUVWXYZ0123456789";
+        let mut code: Vec<u8> = (0..12).map(|i| letters[random.below([26, 26, 36, 36, 36, 10, 10, 10, 10, 10, 10, 10][i]) as usize + if i > 4 { 26 } else { 0 }]).collect();
+        let value = |c: &u8| letters.iter().position(|l| l == c).map_or(0, |i| if i < 26 { i as u64 + 10 } else { i as u64 - 26 });
+        let key = code[..5].iter().fold(0, |n, c| n * 36 + value(c)) * 10_000_000 + code[5..].iter().fold(0, |n, c| n * 10 + value(c));
+        expect(calls::parse(&code) == (0, Some(key)), seed, &[key], || format!("reading {code:?}"));
+        let (number, text) = calls::print(key);
+        expect(number == 0 && text[..] == code[..], seed, &[key], || format!("printing {key}"));
+        let (i, c) = (random.below(12) as usize, random.below(256) as u8);
+        code[i] = c;
+        let fits = if i < 2 { c.is_ascii_uppercase() } else if i < 5 { c.is_ascii_uppercase() || c.is_ascii_digit() } else { c.is_ascii_digit() };
+        expect((calls::parse(&code).0 == 0) == fits, seed, &[c as u64], || format!("reading {code:?}"));
+    }
+    expect(calls::print(604_661_760_000_000) == (1, [0; 12]), seed, &[], || "the key after the last code".into());
+    passed += 1;
+
     // Any words of every length.
     for len in 0..420 {
         for _ in 0..6 {

@@ -38,6 +38,7 @@ fn same_write(t: &[u64], list: &[u64], call: Call, seed: u64) -> (Wrote, Vec<Ord
     expect(got == want, seed, t, || {
         format!("{call:?} with {} words for orders: wanted {:?} {:?}, got {:?} {:?}; first orders {:?}", list.len(), want.number, want.counts, got.number, got.counts, &got.list[..got.list.len().min(40)])
     });
+    expect(os.len() <= 1121, seed, t, || format!("{call:?} made {} orders", os.len()));
     (want, os)
 }
 

@@ -7,3 +7,4 @@ pub mod Lists
 pub mod Counts
 pub mod Slots
 pub mod Steps
+pub mod OrdinaryMap
