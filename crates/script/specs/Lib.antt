@@ -1,0 +1,2 @@
+-- What a request is answered with, and what is printed of the answer.
+pub mod Spoken
