@@ -1,7 +1,6 @@
 -- What is printed from the answer and the list is document 01's text of the request; so the whole input prints the printer's bytes.
 use mathlib.Core.Path.{_≡_, refl, _∙_, fun-ext}
 use mathlib.Core.Logic.{_≢_}
-use mathlib.Core.Bool.{true}
 use mathlib.Core.List.{List, [], _∷_, _++_, append-assoc}
 use Prim.Native.Nat.{ℕ, zero, suc, _+_, _*_, _≤_}
 use native.Mathlib.Omega.{arith}
@@ -14,10 +13,10 @@ use Rattle.model.specs.Table.{MARK, Words}
 use Rattle.model.specs.Orders.{Store, Order, orders, storeCount, flushCount, decode, listWith}
 use Rattle.model.specs.Writes.{Call, insertion, deletion, storesOf}
 use Rattle.model.specs.Refusals.{refusal, unlessRefused, ordersOf, written, tableAfter, listAfter}
-use Rattle.model.specs.Printer.{Bytes, ordersText, Desk, Reply, reply, doCall, printer}
+use Rattle.model.specs.Printer.{Bytes, ordersText, Desk, Reply, doCall, printer}
 use Rattle.script_bytes.specs.declared.Request.{Request}
 use Rattle.script_bytes.specs.declared.Request.the-variants.{Insertion, Deletion, Refused}
-use Rattle.script_bytes.specs.Input.{doRequest, printOn, opening, Reading, readByte, readBytes, readPieces, joined, finished}
+use Rattle.script_bytes.specs.Input.{doRequest, printOn, opening, readPieces, joined, finished}
 use Rattle.script_bytes.proofs.Input.{printer-read}
 use Rattle.cut_laws.specs.Unflushed.{storesIn}
 use Rattle.cut_laws.proofs.Applying.{counts-length}
