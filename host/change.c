@@ -1,0 +1,72 @@
+/* A change of a table: read from words, planned by the library, printed. */
+#include "change.h"
+
+#include <inttypes.h>
+#include <stdio.h>
+#include <string.h>
+
+#include "text.h"
+
+int change_read(struct change *c, enum kind kind, char **words)
+{
+    *c = (struct change){.kind = kind};
+    if (kind == REPAIR)
+        return 0;
+    int status = read_code_word(words[0], &c->key);
+    if (status != 0)
+        return status;
+    if (kind == ADD && !read_number(words[1], strlen(words[1]), &c->recording))
+        return fail(BAD_USAGE, "%.40s: " RECORDINGS, words[1]);
+    return 0;
+}
+
+uint64_t change_plan(struct change *c, struct table *t)
+{
+    switch (c->kind) {
+    case ADD:
+        return catalogue_insert(t->working, t->words, c->orders, CATALOGUE_LIST_WORDS, c->key, c->recording, &c->stores, &c->flushes);
+    case REMOVE:
+        return catalogue_delete(t->working, t->words, c->orders, CATALOGUE_LIST_WORDS, c->key, &c->stores, &c->flushes);
+    default:
+        return catalogue_repair(t->working, t->words, c->orders, CATALOGUE_LIST_WORDS, &c->stores, &c->flushes);
+    }
+}
+
+/* Which word of which node a store goes to. */
+static void print_place(uint64_t word)
+{
+    static const char *const node_words[] = {"left", "sibling", "level", "fence"};
+    if (word < HEADER_WORDS) {
+        printf(word == 1 ? "the root's number" : "header");
+        return;
+    }
+    uint64_t within = (word - HEADER_WORDS) % NODE_WORDS;
+    printf("node %" PRIu64 ", ", (word - HEADER_WORDS) / NODE_WORDS + 1);
+    if (within < 4)
+        printf("%s", node_words[within]);
+    else if (within < 8)
+        printf("word %" PRIu64, within);
+    else
+        printf("%s %" PRIu64, within % 2 == 0 ? "key" : "pointer", (within - 8) / 2);
+}
+
+void change_print(const struct change *c)
+{
+    for (uint64_t i = 0; i < c->stores + c->flushes; i++) {
+        uint64_t first = c->orders[2 * i], second = c->orders[2 * i + 1];
+        printf("%4" PRIu64 "  ", i + 1);
+        if (first == CATALOGUE_MARK) {
+            printf("flush %" PRIu64 "\n", second);
+            continue;
+        }
+        int length = printf("store %" PRIu64 " %" PRIu64, first, second);
+        printf("%*s", length < 34 ? 34 - length : 2, "");
+        print_place(first);
+        printf("\n");
+    }
+}
+
+void change_print_counts(const struct change *c)
+{
+    printf(" (%" PRIu64 " store%s, %" PRIu64 " flush%s)\n", c->stores, c->stores == 1 ? "" : "s", c->flushes, c->flushes == 1 ? "" : "es");
+}

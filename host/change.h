@@ -1,0 +1,31 @@
+/* A change of a table: read from words, planned by the library, printed. */
+#ifndef CHANGE_H
+#define CHANGE_H
+
+#include <stdint.h>
+
+#include "catalogue.h"
+#include "table.h"
+
+enum kind { ADD, REMOVE, REPAIR };
+
+struct change {
+    enum kind kind;
+    uint64_t key, recording;
+    uint64_t stores, flushes; /* of the list, once planned */
+    uint64_t orders[CATALOGUE_LIST_WORDS];
+};
+
+/* From the words after the table: a code and a recording, a code, or nothing. 0, or an exit status after saying why. */
+int change_read(struct change *c, enum kind kind, char **words);
+
+/* Makes the change on the working copy and its orders in the list. 0, or the refusal number; then nothing moved. */
+uint64_t change_plan(struct change *c, struct table *t);
+
+/* The orders, numbered as --cut counts them, with the place of each in the table. */
+void change_print(const struct change *c);
+
+/* " (4 stores, 1 flush)", the end of a line. */
+void change_print_counts(const struct change *c);
+
+#endif

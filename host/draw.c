@@ -1,0 +1,121 @@
+/* What a table is, said and drawn. */
+#include "draw.h"
+
+#include <inttypes.h>
+#include <stdio.h>
+#include <stdlib.h>
+
+#include "change.h"
+#include "text.h"
+#include "tree.h"
+
+/* The library judges: a repair of the working copy is refused, has stores, or has none. It uses the copy up. */
+static int judge(struct table *t, const struct tree *tree)
+{
+    struct change c = {.kind = REPAIR};
+    char text[EXPLANATION];
+    uint64_t number = change_plan(&c, t);
+    if (number != 0)
+        return fail((int)number, "%s", explain(number, t->name, 0, 0, text));
+    printf("%s is %s: %zu code%s in %zu of %" PRIu64 " nodes\n", t->name, c.stores == 0 ? "settled" : "sound", tree_codes(tree),
+           tree_codes(tree) == 1 ? "" : "s", tree->count, tree->nodes);
+    struct leftover l = tree_leftover(tree);
+    if (c.stores != 0)
+        leftover_print(&l);
+    return 0;
+}
+
+int check(struct table *t)
+{
+    struct tree tree;
+    int status = tree_walk(&tree, t->memory) ? judge(t, &tree) : fail(BAD_FILE, "not enough memory");
+    tree_free(&tree);
+    return status;
+}
+
+/* ---- drawing */
+
+/* By level from the top, then from left to right. */
+static int by_place(const void *a, const void *b, void *tree)
+{
+    uint32_t m = *(const uint32_t *)a, n = *(const uint32_t *)b;
+    uint64_t level_m = tree_word(tree, m, LEVEL), level_n = tree_word(tree, n, LEVEL);
+    if (level_m != level_n)
+        return level_m > level_n ? -1 : 1;
+    uint64_t fence_m = tree_word(tree, m, FENCE), fence_n = tree_word(tree, n, FENCE);
+    if (fence_m != fence_n)
+        return fence_m < fence_n ? -1 : 1;
+    return m < n ? -1 : m > n;
+}
+
+static void draw_way(const struct tree *tree, uint64_t n)
+{
+    printf("-> node %" PRIu64 "%s", n, tree_has(tree, n) ? "" : ", which the table does not have");
+}
+
+static void draw_head(const struct tree *tree, uint32_t n)
+{
+    char key[KEY_TEXT];
+    uint64_t sibling = tree_word(tree, n, SIBLING);
+    printf("  node %u%s, fence %s", n, n == tree->root ? ", the root" : "", key_text(tree_word(tree, n, FENCE), key));
+    if (sibling != 0) {
+        printf(", sibling ");
+        draw_way(tree, sibling);
+    }
+    if (n != tree->root && tree->parent[n] == 0)
+        printf(", lacks its slot");
+    printf("\n");
+}
+
+static void draw_slot(const struct tree *tree, uint32_t n, unsigned slot)
+{
+    static const char *const kinds[] = {[FREE] = "", [SHOWN] = "", [HIDDEN] = "   hidden", [TRAILING] = "   trailing"};
+    enum slot kind = tree_slot(tree, n, slot);
+    if (kind == FREE)
+        return;
+    char key[KEY_TEXT];
+    printf("    %2u  %-12s  ", slot, key_text(tree_key(tree, n, slot), key));
+    if (tree_word(tree, n, LEVEL) > 0)
+        draw_way(tree, tree_pointer(tree, n, slot));
+    else
+        printf("%" PRIu64, tree_pointer(tree, n, slot));
+    printf("%s\n", kinds[kind]);
+}
+
+static void draw_node(const struct tree *tree, uint32_t n)
+{
+    draw_head(tree, n);
+    if (tree_word(tree, n, LEVEL) > 0) {
+        printf("        left          ");
+        draw_way(tree, tree_word(tree, n, LEFT));
+        printf("\n");
+    }
+    for (unsigned i = 0; i < SLOTS; i++)
+        draw_slot(tree, n, i);
+}
+
+static void draw(struct tree *tree)
+{
+    qsort_r(tree->reached, tree->count, sizeof *tree->reached, by_place, tree);
+    for (size_t i = 0; i < tree->count; i++) {
+        uint32_t n = tree->reached[i];
+        uint64_t level = tree_word(tree, n, LEVEL);
+        if (i == 0 || level != tree_word(tree, tree->reached[i - 1], LEVEL))
+            printf("\nlevel %" PRIu64 "%s\n", level, level == 0 ? ": code and recording" : "");
+        draw_node(tree, n);
+    }
+}
+
+int show(struct table *t)
+{
+    struct tree tree;
+    int status = BAD_FILE;
+    if (tree_walk(&tree, t->memory)) {
+        status = judge(t, &tree);
+        draw(&tree);
+    } else {
+        fail(status, "not enough memory");
+    }
+    tree_free(&tree);
+    return status;
+}

@@ -1,0 +1,13 @@
+/* What a table is, said and drawn. */
+#ifndef DRAW_H
+#define DRAW_H
+
+#include "table.h"
+
+/* Settled, sound with its leftover, or not sound: one line. 0, or an exit status after saying why. */
+int check(struct table *t);
+
+/* The same, then the tree, a node to a paragraph. */
+int show(struct table *t);
+
+#endif

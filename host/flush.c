@@ -1,0 +1,123 @@
+/* Carrying an order list out on memory: whole stores, and at each flush the line written back and fenced. */
+#include "flush.h"
+
+#include <stdbool.h>
+#include <stddef.h>
+#include <string.h>
+#include <time.h>
+
+#include "catalogue.h"
+
+#define LINE_WORDS 8
+
+/* Keeps the compiler's order, on any processor; writes nothing back. */
+static void only_fence(void *address)
+{
+    (void)address;
+    __atomic_thread_fence(__ATOMIC_SEQ_CST);
+}
+
+static bool always(void)
+{
+    return true;
+}
+
+#if defined(__x86_64__)
+#include <cpuid.h>
+#include <immintrin.h>
+
+/* Feature bits of cpuid leaf 7 (in ebx) and of leaf 1 (in edx). */
+#define CLWB_BIT (1u << 24)
+#define CLFLUSHOPT_BIT (1u << 23)
+#define CLFLUSH_BIT (1u << 19)
+
+static bool leaf_7_has(unsigned bit)
+{
+    unsigned a, b, c, d;
+    return __get_cpuid_count(7, 0, &a, &b, &c, &d) && (b & bit);
+}
+
+static bool has_clwb(void)
+{
+    return leaf_7_has(CLWB_BIT);
+}
+
+static bool has_clflushopt(void)
+{
+    return leaf_7_has(CLFLUSHOPT_BIT);
+}
+
+static bool has_clflush(void)
+{
+    unsigned a, b, c, d;
+    return __get_cpuid(1, &a, &b, &c, &d) && (d & CLFLUSH_BIT);
+}
+
+/* The fence after each: later stores wait until the line is on its way to memory. */
+__attribute__((target("clwb"))) static void by_clwb(void *address)
+{
+    _mm_clwb(address);
+    _mm_sfence();
+}
+
+__attribute__((target("clflushopt"))) static void by_clflushopt(void *address)
+{
+    _mm_clflushopt(address);
+    _mm_sfence();
+}
+
+static void by_clflush(void *address)
+{
+    _mm_clflush(address);
+    _mm_sfence();
+}
+#endif
+
+/* Best first: clwb may keep the line in the cache; clflush waits for each line before it. */
+static const struct {
+    struct flush flush;
+    bool (*has)(void);
+} ways[] = {
+#if defined(__x86_64__)
+    {{"clwb", by_clwb}, has_clwb},
+    {{"clflushopt", by_clflushopt}, has_clflushopt},
+    {{"clflush", by_clflush}, has_clflush},
+#endif
+    {{"none", only_fence}, always},
+};
+
+const struct flush *flush_best(void)
+{
+    size_t i = 0;
+    while (!ways[i].has())
+        i++;
+    return &ways[i].flush;
+}
+
+const struct flush *flush_named(const char *name)
+{
+    for (size_t i = 0; i < sizeof ways / sizeof ways[0]; i++)
+        if (strcmp(ways[i].flush.name, name) == 0 && ways[i].has())
+            return &ways[i].flush;
+    return NULL;
+}
+
+static void pause_for(uint64_t microseconds)
+{
+    struct timespec left = {.tv_sec = (time_t)(microseconds / 1000000), .tv_nsec = (long)(microseconds % 1000000) * 1000};
+    if (microseconds > 0)
+        nanosleep(&left, NULL);
+}
+
+void carry_out(uint64_t *memory, const uint64_t *orders, uint64_t count, const struct carrying *how)
+{
+    for (uint64_t i = 0; i < count; i++) {
+        uint64_t first = orders[2 * i], second = orders[2 * i + 1];
+        pause_for(how->pause);
+        if (first == CATALOGUE_MARK)
+            how->flush->line(&memory[LINE_WORDS * second]);
+        else
+            /* One whole store of 8 bytes, after every store before it. */
+            __atomic_store_n(&memory[first], second, __ATOMIC_RELEASE);
+    }
+}

@@ -1,0 +1,54 @@
+"""Runs the tests of the program: all.py PLAIN SANITIZED. The last line is 'N passed, 0 failed'."""
+import multiprocessing
+import os
+import shutil
+import sys
+import tempfile
+import time
+import traceback
+
+import commands
+import cuts
+import files
+import replay
+from drive import FOUND_SOMETHING, Program
+
+
+def run(work):
+    """A test in a folder of its own: a line about it, and whether it passed."""
+    program, test, place = work
+    folder = tempfile.mkdtemp(dir=place)
+    began = time.monotonic()
+    name = f"{program.name}: {test.__name__}"
+    try:
+        said = test(program, folder)
+    except Exception:
+        return f"{traceback.format_exc()}FAILED: {name}; its files are in {folder}", False
+    shutil.rmtree(folder)
+    return f"{name} ({time.monotonic() - began:.1f} s){': ' + said if said else ''}", True
+
+
+def main():
+    plain = Program([sys.argv[1]], "plain", True)
+    sanitized = Program([sys.argv[2]], "with sanitizers", False)
+    watched = ["valgrind", "-q", "--leak-check=full", "--errors-for-leak-kinds=all", f"--error-exitcode={FOUND_SOMETHING}", sys.argv[1]]
+    valgrind = Program(watched, "under valgrind", False)
+    everything = commands.TESTS + files.TESTS + cuts.TESTS + replay.TESTS
+    # valgrind takes half a second to start: each kind of work once.
+    once = [commands.the_worked_orders, commands.drawing, commands.loading, commands.a_tree_of_sixteen_levels]
+    # Files in memory where there is such a place: the tests say nothing of a disk.
+    place = tempfile.mkdtemp(prefix="catalogue-", dir="/dev/shm" if os.access("/dev/shm", os.W_OK) else None)
+    os.chmod(place, 0o755)
+    works = [(valgrind, t, place) for t in once] + [(plain, t, place) for t in everything + [files.little_memory]]
+    works += [(sanitized, t, place) for t in everything]
+    with multiprocessing.Pool() as pool:
+        for line, passed in pool.imap(run, works):
+            print(line, flush=True)
+            if not passed:
+                sys.exit(1)
+    shutil.rmtree(place)
+    print(f"{len(works)} passed, 0 failed")
+
+
+if __name__ == "__main__":
+    main()

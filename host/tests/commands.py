@@ -1,0 +1,288 @@
+"""Every command, and every refusal that a user can cause."""
+import os
+import pty
+import re
+import subprocess
+
+from drive import *
+
+HUNDRED = os.path.join(os.path.dirname(os.path.abspath(__file__)), "..", "..", "host", "hundred.csv")
+
+
+def help_has_an_example_of_each(program, folder):
+    for words in (["--help"], ["add", "--help"]):
+        text = program.done(*words)
+        for command in "make add remove find list load repair orders check show".split():
+            assert re.search(rf"^      catalogue {command} ", text, re.M), command
+        for option in "--cut --again --each --flush --pause".split():
+            assert re.search(rf"^      catalogue .* {option}\b", text, re.M), option
+
+
+def wrong_command_lines(program, folder):
+    t = f"{folder}/t"
+    program.done("make", t, 2)
+    program.refuses(BAD_USAGE, "usage: catalogue COMMAND")
+    program.refuses(BAD_USAGE, "no command fly", "fly", t)
+    program.refuses(BAD_USAGE, "no option --fast", "check", t, "--fast")
+    wrong = [["make", t], ["add", t, code(1)], ["remove", t], ["find", t], ["list", t, code(1)], ["load", t], ["repair"], ["orders", t]]
+    wrong += [["orders", t, "add", code(1)], ["orders", t, "load", "x"], ["check"], ["show"], ["check", t, "x"], ["add", t, code(1), 1, 2]]
+    wrong += [["check", t, "--cut", 1], ["load", t, "x", "--cut", 1], ["add", t, code(1), 1, "--each"], ["find", t, code(1), "--again"]]
+    wrong += [["add", t, code(1), 1] + 9 * ["x"], ["list", t, "--flush", "none"]]
+    for words in wrong:
+        program.refuses(BAD_USAGE, "usage: catalogue ", *words)
+    program.refuses(BAD_USAGE, "--cut takes a number", "repair", t, "--cut")
+    program.refuses(BAD_USAGE, "--cut takes a number", "repair", t, "--cut", "-1")
+    program.refuses(BAD_USAGE, "--flush takes clwb", "repair", t, "--flush", "often")
+    program.refuses(BAD_USAGE, "--flush takes clwb", "repair", t, "--flush")
+    program.refuses(BAD_USAGE, "--pause takes a number", "repair", t, "--pause", "long")
+
+
+def making(program, folder):
+    t = f"{folder}/t"
+    assert program.done("make", t, 1) == f"made {t} with 1 node\n"
+    assert read_words(t) == [1, 1, 1, 0, 0, 0, 0, 0, MARK] + 31 * [0]
+    program.refuses(BAD_FILE, "exists already", "make", t, 3)
+    for nodes in (0, 65536, 2**64 - 1):
+        program.refuses(NO_TABLE, f"1 to 65535 nodes, not {nodes}", "make", f"{folder}/u", nodes)
+    for nodes in ("many", "", "-1", 2**64):
+        program.refuses(BAD_USAGE, "1 to 65535 nodes", "make", f"{folder}/u", nodes)
+    program.refuses(BAD_FILE, "cannot be made", "make", f"{folder}/none/u", 1)
+    assert not os.path.exists(f"{folder}/u")
+    program.done("make", f"{folder}/u", 65535)
+    assert os.path.getsize(f"{folder}/u") == 8 * (8 + 32 * 65535)
+    assert program.done("check", f"{folder}/u") == f"{folder}/u is settled: 0 codes in 1 of 65535 nodes\n"
+    os.remove(f"{folder}/u")
+
+
+def the_worked_orders(program, folder):
+    """Document 01's printed example, order by order."""
+    t = f"{folder}/t"
+    program.done("make", t, 4)
+    out = program.done("orders", t, "add", "AA-000-19-12345", 7)
+    assert [" ".join(l.split()[1:4]) for l in out.splitlines()[:-1]] == [
+        "store 19 0", f"store 17 {MARK}", "store 16 172627201912345", "store 17 7", "flush 2"], out
+    assert program.done("add", t, "AA-000-19-12345", 7) == "added AA0001912345,7 (4 stores, 1 flush)\n"
+    out = program.done("orders", t, "remove", "AA-000-19-12345")
+    assert [" ".join(l.split()[1:4]) for l in out.splitlines()[:-1]] == [f"store 17 {MARK}", "store 17 0", "flush 2"], out
+    assert program.done("orders", t, "repair") == "not made (0 stores, 0 flushes)\n"
+    assert program.done("remove", t, "AA0001912345") == "removed AA0001912345 (2 stores, 1 flush)\n"
+    assert program.done("repair", t) == "nothing to repair (0 stores, 0 flushes)\n"
+
+
+def orders_are_what_is_carried_out(program, folder):
+    """Every way to flush leaves the same words: those of the printed orders. Printing them changes nothing."""
+    t = f"{folder}/t"
+    fill(program, t, 9, [(code(i), i) for i in range(10, 40)])
+    flags = open("/proc/cpuinfo").read().split()
+    here = [how for how in ("clwb", "clflushopt", "clflush", "none") if how in flags or how == "none"]
+    for i, how in enumerate(here):
+        for change in (["add", code(50 + i), 50 + i], ["remove", code(10 + i)]):
+            before = read_words(t)
+            orders = orders_of(program.done("orders", t, *change))
+            assert read_words(t) == before
+            program.done(change[0], t, *change[1:], "--flush", how)
+            assert read_words(t) == carried_out(before, orders), how
+
+
+def codes_as_people_type_them(program, folder):
+    t = f"{folder}/t"
+    program.done("make", t, 1)
+    program.done("add", t, "AA-000-19-12345", 7)
+    for typed in ("AA0001912345", "AA-000-19-12345", "AA 000 19 12345", " AA-000 1912345 -"):
+        assert program.done("find", t, typed) == "7\n"
+    for typed in ("", "-", "aa0001912345", "1A0001912345", "AA00019123456", "AA000191234", "AA000191234X", "AA000_19_12345", "ÄA000191234"):
+        program.refuses(NO_CODE, "not a code", "find", t, typed)
+        program.refuses(NO_CODE, "not a code", "add", t, typed, 8)
+        program.refuses(NO_CODE, "not a code", "remove", t, typed)
+        program.refuses(NO_CODE, "not a code", "list", t, typed, code(1))
+        program.refuses(NO_CODE, "not a code", "list", t, code(1), typed)
+        program.refuses(NO_CODE, "not a code", "orders", t, "remove", typed)
+    for recording in ("", "x", "1.5", "-1", "+1", " 1", 2**64, 10**30):
+        program.refuses(BAD_USAGE, "a recording is", "add", t, code(1), recording)
+    assert listed(program.done("list", t)) == [("AA0001912345", 7)]
+
+
+def refusals_of_changes(program, folder):
+    t = f"{folder}/t"
+    fill(program, t, 1, [(code(i), 100 + i) for i in range(10)])
+    program.refuses(BAD_RECORDING, "^catalogue: 0: a recording is", "add", t, code(50), 0)
+    program.refuses(BAD_RECORDING, f"{MARK}: a recording is", "add", t, code(50), MARK)
+    program.refuses(CODE_THERE, f"{code(3)} is in .* already", "add", t, code(3), 7)
+    program.refuses(CODE_THERE, f"{code(3)} is in .* already", "add", t, code(3), 103)
+    program.refuses(RECORDING_THERE, "recording 103 is in .* under another code", "add", t, code(50), 103)
+    program.refuses(NOT_THERE, f"{code(50)} is not in", "remove", t, code(50))
+    program.refuses(ABSENT, f"{code(50)} is not in", "find", t, code(50))
+    program.done("add", t, code(50), MARK - 1)
+    program.refuses(NO_NODES, "is full: .* more nodes than are free", "add", t, code(51), 1)
+    program.refuses(NO_NODES, "is full", "orders", t, "add", code(51), 1)
+    program.refuses(BAD_USAGE, "this change has 2[0-9] orders; nothing was changed", "remove", t, code(0), "--cut", 99)
+    program.refuses(BAD_USAGE, "this change has 0 orders", "repair", t, "--cut", 1)
+
+
+def a_tree_of_sixteen_levels(program, folder):
+    """Refusal 11: every node from the root at level 15 to the leaf is full. An inner node may have no slots: few nodes are enough."""
+    nodes, rows = [], {level: [] for level in range(16)}
+
+    def node(left, level, fence, slots):
+        nodes.append([left, 0, level, fence, 0, 0, 0, 0] + [w for s in slots for w in s] + (24 - 2 * len(slots)) * [0])
+        rows[level].append((fence, len(nodes)))
+        return len(nodes)
+
+    way = node(MARK, 0, 0, [(key(code(10 * i)), 1 + i) for i in range(11)])
+    for level in range(1, 16):
+        slots = []
+        for i in range(11):
+            fence, child = key("ZZ0000000000") + 1000 * level + i, MARK
+            for below in range(level):
+                child = node(child, below, fence, [])
+            slots.append((fence, child))
+        way = node(way, level, 0, slots)
+    for row in rows.values():
+        for (_, a), (_, b) in zip(sorted(row), sorted(row)[1:]):
+            nodes[a - 1][1] = b
+    t = f"{folder}/t"
+    write_words(t, [1, way, len(nodes), 0, 0, 0, 0, 0] + [w for n in nodes for w in n])
+    assert "settled: 11 codes" in program.done("check", t)
+    assert "level 15" in program.done("show", t)
+    program.refuses(TOO_HIGH, "is full: its tree has 16 levels", "add", t, code(5), 500)
+    program.done("add", t, "ZZ0009999999", 500)
+    program.done("remove", t, code(10))
+    program.done("add", t, code(5), 501)
+    assert listed(program.done("list", t, code(0), code(30))) == [(code(0), 1), (code(5), 501), (code(20), 3), (code(30), 4)]
+
+
+def searching_and_listing(program, folder):
+    t = f"{folder}/t"
+    pairs = [(code(3 * i), 1000 - i) for i in range(60)]
+    fill(program, t, 30, pairs[::2] + pairs[1::2])
+    for c, r in pairs:
+        assert program.done("find", t, c) == f"{r}\n"
+    program.refuses(ABSENT, "is not in", "find", t, code(1))
+    assert listed(program.done("list", t)) == pairs
+    assert listed(program.done("list", t, "AA0000000000", "ZZZZZ9999999")) == pairs
+    assert listed(program.done("list", t, code(10), "AA-000-19-00030")) == [p for p in pairs if code(10) <= p[0] <= code(30)]
+    assert program.done("list", t, code(30), code(30)) == f"{code(30)},990\n"
+    assert program.done("list", t, code(31), code(10)) == ""
+
+
+def loading(program, folder):
+    t, csv = f"{folder}/t", f"{folder}/csv"
+
+    def file(text):
+        with open(csv, "w", newline="") as f:
+            f.write(text)
+
+    def stops(status, pattern, text, added, there=0):
+        """The bad line is named; the lines before it are in the table."""
+        file(text)
+        status_got, out, err = program("load", t, csv)
+        assert (status_got, out) == (status, f"{added} added, {there} there already\n"), (text, status_got, out, err)
+        assert re.fullmatch(f"catalogue: {csv}, {pattern}; what came before is kept\n", err), err
+
+    program.done("make", t, 3)
+    file(f"{code(1)},1\n AA-000-19-00002 , 2 \r\n{code(3)},003")
+    assert program.done("load", t, csv) == "3 added, 0 there already\n"
+    file("")
+    assert program.done("load", t, csv) == "0 added, 0 there already\n"
+    form = "not of the form code,recording; a recording is .*"
+    stops(BAD_LINE, f"line 1: {form}", "code,recording\n", 0)
+    stops(BAD_LINE, f"line 2: {form}", f"{code(4)},4\n\n{code(5)},5\n", 1)
+    stops(BAD_LINE, f"line 1: {form}", f"{code(5)}\n", 0)
+    stops(BAD_LINE, f"line 1: {form}", f"{code(5)},5,6\n", 0)
+    stops(BAD_LINE, f"line 1: {form}", f"{code(5)},5\0\n", 0)
+    stops(BAD_LINE, f"line 1: {form}", f"{code(5)},{2**64}\n", 0)
+    stops(BAD_LINE, f"line 2: {form}", f"{code(5)},5\n" + 5000 * "x", 1)
+    stops(BAD_LINE, f"line 1: {form}", f"{code(9)},{241 * ' '}12345\n", 0)
+    stops(NO_CODE, "line 1: not a code, .*", "AA00019,6\n", 0)
+    stops(BAD_RECORDING, "line 2: 0: a recording is .*", f"{code(6)},6\n{code(7)},0\n{code(8)},8\n", 1)
+    stops(RECORDING_THERE, "line 1: recording 6 is in .*", f"{code(7)},6\n", 0)
+    stops(CODE_THERE, f"line 1: {code(6)} is in .* already", f"{code(6)},7\n", 0)
+    there = "already with this recording .--again passes over such lines."
+    stops(CODE_THERE, f"line 2: .* {there}", f"{code(7)},7\n{code(6)},6\n{code(8)},8\n", 1)
+    assert program.done("load", t, csv, "--again") == "1 added, 2 there already\n"
+    stops(NO_NODES, "line 9: .* is full: .*", "".join(f"{code(i)},{i}\n" for i in range(9, 60)), 8)
+    assert listed(program.done("list", t)) == [(code(i), i) for i in range(1, 17)]
+    program.refuses(BAD_FILE, "cannot be opened", "load", t, f"{folder}/none")
+    before = contents(t)
+    status, _, err = program("load", t, folder)
+    assert status == BAD_FILE and "cannot be read" in err and contents(t) == before, err
+
+
+def acknowledging(program, folder):
+    t = f"{folder}/t"
+    program.done("make", t, 40)
+    with open(HUNDRED) as f:
+        lines = f.read()
+    assert program.done("load", t, HUNDRED, "--each") == lines + "100 added, 0 there already\n"
+    assert program.done("list", t) == lines
+
+
+def progress_on_a_terminal(program, folder):
+    t = f"{folder}/t"
+    program.done("make", t, 40)
+    ours, theirs = pty.openpty()
+    run = program.start("load", t, HUNDRED, stdout=subprocess.PIPE, stderr=theirs, stdin=subprocess.DEVNULL)
+    os.close(theirs)
+    drawn = ""
+    try:
+        while part := os.read(ours, 65536):
+            drawn += part.decode()
+    except OSError:
+        pass  # the terminal's other end is closed
+    os.close(ours)
+    out, _ = run.communicate(timeout=120)
+    assert run.returncode == 0 and out == "100 added, 0 there already\n", (run.returncode, out)
+    assert re.match(r"1 lines loaded\r", drawn) and drawn.endswith("100 lines loaded\r\n"), drawn
+
+
+def answers_that_cannot_be_printed(program, folder):
+    t = f"{folder}/t"
+    fill(program, t, 3, [(code(i), i) for i in range(1, 12)])
+    for words in (["find", t, code(1)], ["list", t], ["show", t], ["--help"]):
+        with open("/dev/full", "w") as full:
+            run = program.start(*words, stdout=full, stderr=subprocess.PIPE)
+            _, err = run.communicate(timeout=120)
+        assert run.returncode == BAD_FILE and "cannot be printed" in err, (run.returncode, err)
+
+
+def drawing(program, folder):
+    """A cut split, drawn to the letter: nodes by level, fences, trailing slots, the leftover; then a hidden slot."""
+    t = f"{folder}/t"
+    fill(program, t, 3, [(code(10 * i), 100 + i) for i in range(1, 12)])
+    orders = orders_of(program.done("orders", t, "add", code(115), 112))
+    linked = 1 + orders.index((9, 3))
+    program.done("add", t, code(115), 112, "--cut", linked)
+    first = "".join(f"    {i:2}  {code(10 + 10 * i)}  {101 + i}\n" for i in range(5))
+    moved = [(code(60 + 10 * i), 106 + i) for i in range(6)]
+    assert program.done("show", t) == (
+        f"{t} is sound: 11 codes in 3 of 3 nodes\n"
+        "leftover (b): node 3, the sibling of node 1, lacks its slot in node 2; node 1 has 6 trailing slots\n"
+        "\nlevel 1\n  node 2, the root, fence #0\n        left          -> node 1\n"
+        "\nlevel 0: code and recording\n  node 1, fence #0, sibling -> node 3\n" + first
+        + "".join(f"    {i + 5:2}  {c}  {r}   trailing\n" for i, (c, r) in enumerate(moved))
+        + f"  node 3, fence {code(60)}, lacks its slot\n"
+        + "".join(f"    {i:2}  {c}  {r}\n" for i, (c, r) in enumerate(moved))), program.done("show", t)
+    program.done("repair", t)
+    program.done("remove", t, code(20), "--cut", 1)
+    out = program.done("show", t)
+    assert "leftover (a): node 1 has a hidden slot, slot 1\n" in out and f"     1  {code(20)}  101   hidden\n" in out, out
+
+
+def the_first_hour(program, folder):
+    """A hundred codes loaded, a change cut off, the leftover drawn, repaired; every code found again."""
+    t = f"{folder}/room.cat"
+    program.done("make", t, 40)
+    program.done("load", t, HUNDRED)
+    program.done("add", t, "XK-A04-74-99990", 2001)
+    assert program.done("add", t, "XK-A04-74-99991", 2002, "--cut", 40).startswith("cut off after 40 of ")
+    assert "leftover (b)" in program.done("show", t)
+    assert program.done("repair", t).startswith("repaired (")
+    assert "settled" in program.done("check", t)
+    with open(HUNDRED) as f:
+        for c, r in listed(f.read()):
+            assert program.done("find", t, c) == f"{r}\n"
+
+
+TESTS = [help_has_an_example_of_each, wrong_command_lines, making, the_worked_orders, orders_are_what_is_carried_out,
+         codes_as_people_type_them, refusals_of_changes, a_tree_of_sixteen_levels, searching_and_listing, loading, acknowledging,
+         progress_on_a_terminal, answers_that_cannot_be_printed, drawing, the_first_hour]

@@ -1,0 +1,115 @@
+"""Runs the program and reads its tables: what the tests share."""
+import os
+import re
+import struct
+import subprocess
+
+MARK = 2**64 - 1
+# Exit statuses.
+NO_CODE, NO_TABLE, LOST, NOT_SOUND = 1, 2, 3, 4
+BAD_RECORDING, CODE_THERE, RECORDING_THERE, NOT_THERE, NO_NODES, TOO_HIGH = 6, 7, 8, 9, 10, 11
+ABSENT, BAD_USAGE, BAD_LINE, BAD_FILE = 255, 64, 65, 74
+# What a sanitizer or valgrind that found something ends a program with.
+FOUND_SOMETHING = 99
+
+
+class Program:
+    """A build of the program, perhaps under valgrind."""
+
+    def __init__(self, command, name, quick):
+        self.command, self.name, self.quick = command, name, quick
+        options = f"exitcode={FOUND_SOMETHING}"
+        self.environment = dict(os.environ, ASAN_OPTIONS=options, UBSAN_OPTIONS="halt_on_error=1:" + options, LSAN_OPTIONS=options)
+
+    def start(self, *words, **how):
+        return subprocess.Popen(self.command + [str(w) for w in words], env=self.environment, text=True, **how)
+
+    def __call__(self, *words, **how):
+        """Exit status, standard output and standard error."""
+        run = self.start(*words, stdout=subprocess.PIPE, stderr=subprocess.PIPE, stdin=subprocess.DEVNULL, **how)
+        out, err = run.communicate(timeout=120)
+        check_ending(run.returncode, err, words)
+        return run.returncode, out, err
+
+    def done(self, *words, **how):
+        """What a command that succeeds prints."""
+        status, out, err = self(*words, **how)
+        assert status == 0 and err == "", (words, status, out, err)
+        return out
+
+    def refuses(self, status, pattern, *words, **how):
+        """A refusal: its status, one line of message that the pattern fits, no answer, and every file named as it was."""
+        before = [contents(w) for w in words]
+        got, out, err = self(*words, **how)
+        assert got == status and re.search(pattern, err) and out == "", (words, status, pattern, got, out, err)
+        assert err.startswith("catalogue: ") and err.count("\n") == 1, err
+        assert [contents(w) for w in words] == before, (words, "a file was changed")
+
+
+def check_ending(status, err, words):
+    assert status >= 0 and status != FOUND_SOMETHING, (words, status, err)
+
+
+def contents(path):
+    if not os.path.isfile(str(path)):
+        return None
+    with open(path, "rb") as f:
+        return f.read()
+
+
+def read_words(path):
+    data = contents(path)
+    return list(struct.unpack(f"<{len(data) // 8}Q", data))
+
+
+def write_words(path, words):
+    with open(path, "wb") as f:
+        f.write(struct.pack(f"<{len(words)}Q", *words))
+
+
+def key(code):
+    return int(code[:5], 36) * 10**7 + int(code[5:])
+
+
+def code(i):
+    """Codes in rising order."""
+    return f"AA00019{i:05}"
+
+
+def listed(out):
+    """The pairs that list prints, in its order."""
+    return [(c, int(r)) for c, r in (line.split(",") for line in out.splitlines())]
+
+
+def orders_of(out):
+    """The orders that the command orders prints, a store as its word and value and a flush as None; and its last line's counts."""
+    found = []
+    lines = out.splitlines()
+    for number, line in enumerate(lines[:-1], 1):
+        parts = line.split()
+        assert int(parts[0]) == number and parts[1] in ("store", "flush"), line
+        found.append((int(parts[2]), int(parts[3])) if parts[1] == "store" else None)
+    counts = re.fullmatch(r"not made \((\d+) stores?, (\d+) flush(?:es)?\)", lines[-1])
+    assert counts, lines[-1]
+    stores, flushes = int(counts[1]), int(counts[2])
+    assert stores == sum(o is not None for o in found) and stores + flushes == len(found), out
+    return found
+
+
+def carried_out(words, orders):
+    """The table's words after these orders."""
+    after = list(words)
+    for order in orders:
+        if order:
+            after[order[0]] = order[1]
+    return after
+
+
+def fill(program, path, nodes, pairs):
+    """A new table with these pairs, added in this order."""
+    csv = path + ".csv"
+    with open(csv, "w") as f:
+        f.writelines(f"{c},{r}\n" for c, r in pairs)
+    program.done("make", path, nodes)
+    program.done("load", path, csv)
+    os.remove(csv)

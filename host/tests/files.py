@@ -1,0 +1,195 @@
+"""Files that are no tables, read-only, in use, or changed by another program meanwhile: a clear error, and the file stays as it is."""
+import fcntl
+import os
+import re
+import resource
+import shutil
+import signal
+import struct
+import subprocess
+
+from drive import *
+
+
+def reading(t):
+    return [["find", t, code(1)], ["list", t], ["check", t], ["show", t], ["orders", t, "add", code(50), 50], ["orders", t, "repair"]]
+
+
+def writing(t, csv):
+    return [["add", t, code(50), 50], ["remove", t, code(1)], ["repair", t], ["load", t, csv], ["add", t, code(50), 50, "--cut", 0]]
+
+
+def table(program, folder, nodes=4):
+    """A small table, and a file to load."""
+    t, csv = f"{folder}/t", f"{folder}/csv"
+    fill(program, t, nodes, [(code(i), i) for i in range(1, 20)])
+    with open(csv, "w") as f:
+        f.write(f"{code(60)},60\n")
+    return t, csv
+
+
+def no_tables(program, folder):
+    t, csv = table(program, folder)
+    good = contents(t)
+    header = read_words(t)[:8]
+
+    def with_header(at, word):
+        words = read_words(t)
+        words[at] = word
+        return struct.pack(f"<{len(words)}Q", *words)
+
+    bad = [b"", b"\n", good[:100], good[:319], good[:-1], good[:-8], good[:-256], good + b"\0", good + bytes(8), good + bytes(256)]
+    bad += [bytes(len(good)), b"\xff" * len(good), b"code,recording\n" * 68 + b"1234", os.urandom(len(good))]
+    # One node more than a table may have.
+    bad.append(bytes(8 * (8 + 32 * 65536)))
+    bad += [with_header(at, word) for at in range(8) for word in (header[at] + 5, MARK)] + [with_header(1, 0), with_header(2, 0)]
+    for data in bad:
+        with open(t, "wb") as f:
+            f.write(data)
+        for words in reading(t) + writing(t, csv):
+            program.refuses(NO_TABLE, "is not a table|bytes, but its header says", *words)
+    return f"{len(bad)} files"
+
+
+def other_files(program, folder):
+    t, csv = table(program, folder)
+    os.mkfifo(f"{folder}/pipe")
+    others = [(f"{folder}/none", "there is no file .*catalogue make"), (f"{t}/x", "cannot be opened")]
+    others += [(folder, "not an ordinary file|directory"), (f"{folder}/pipe", "not an ordinary file"), ("/dev/null", "not an ordinary file")]
+    for path, pattern in others:
+        for words in reading(path) + writing(path, csv):
+            program.refuses(BAD_FILE, pattern, *words)
+
+
+def read_only(program, folder):
+    t, csv = table(program, folder)
+    os.chmod(t, 0o444)
+    for words in writing(t, csv):
+        program.refuses(BAD_FILE, "is read-only", *words)
+    for words in reading(t):
+        program.done(*words)
+    if os.geteuid() != 0:
+        return None
+    # Another user, whom the system refuses; where that user can run the program at all.
+    other = {"user": 65534, "group": 65534}
+    try:
+        program.done("--help", **other)
+    except (OSError, subprocess.SubprocessError):
+        return None
+    os.chmod(t, 0o644)
+    os.chmod(folder, 0o755)
+    for words in writing(t, csv):
+        program.refuses(BAD_FILE, "is read-only", *words, **other)
+    for words in reading(t):
+        program.done(*words, **other)
+    os.chmod(t, 0o600)
+    for words in reading(t):
+        program.refuses(BAD_FILE, "cannot be opened: Permission denied", *words, **other)
+    return "also as another user"
+
+
+def in_use(program, folder):
+    t, csv = table(program, folder)
+    with open(t, "rb") as f:
+        fcntl.flock(f, fcntl.LOCK_EX)
+        for words in reading(t) + writing(t, csv):
+            program.refuses(BAD_FILE, "is in use by another program", *words)
+        fcntl.flock(f, fcntl.LOCK_SH)
+        for words in reading(t):
+            program.done(*words)
+        for words in writing(t, csv):
+            program.refuses(BAD_FILE, "is in use by another program", *words)
+
+
+def changed_while_it_loads(program, folder, meddle):
+    """A load that waits for its second line while something happens to the table: its end, and its standard error."""
+    t, csv = f"{folder}/t", f"{folder}/csv"
+    for path in os.listdir(folder):
+        os.remove(f"{folder}/{path}")
+    table(program, folder)
+    os.remove(csv)
+    os.mkfifo(csv)
+    load = program.start("load", t, csv, "--each", stdout=subprocess.PIPE, stderr=subprocess.PIPE)
+    with open(csv, "wb", buffering=0) as lines:
+        lines.write(f"{code(60)},60\n".encode())
+        assert load.stdout.readline() == f"{code(60)},60\n"
+        meddle(t, load.pid)
+        after = contents(t)
+        try:
+            lines.write(f"{code(61)},61\n".encode())
+        except BrokenPipeError:
+            pass
+    out, err = load.stdout.read(), load.stderr.read()
+    load.wait()
+    check_ending(load.returncode, err, ["load"])
+    return load.returncode, out, err, after, contents(t)
+
+
+def write_at(word, value):
+    def meddle(t, _):
+        with open(t, "r+b") as f:
+            f.seek(8 * word)
+            f.write(struct.pack("<Q", value))
+    return meddle
+
+
+def replace(t, _):
+    shutil.copy(t, t + ".new")
+    os.rename(t + ".new", t)
+
+
+def changed_meanwhile(program, folder):
+    words = 8 + 32 * 4
+    meddling = [write_at(word, 77) for word in (0, 1, 5, 8, 20, 8 + 32 * 3, words - 1)]
+    meddling += [lambda t, _, w=w: os.truncate(t, 8 * w) for w in (0, words - 32, words + 32)]
+    for meddle in meddling:
+        status, out, err, before, after = changed_while_it_loads(program, folder, meddle)
+        assert status == BAD_FILE and "was changed by another program meanwhile" in err and "stopped before line 2" in err, (status, err)
+        assert out == "1 added, 0 there already\n" and after == before, out
+    for meddle in (lambda t, _: os.remove(t), replace):
+        status, out, err, before, after = changed_while_it_loads(program, folder, meddle)
+        assert status == BAD_FILE and "was removed or replaced by another program" in err and after == before, (status, err)
+    # The signal that a mapped file gives once it is shorter.
+    status, out, err, before, after = changed_while_it_loads(program, folder, lambda _, pid: os.kill(pid, signal.SIGBUS))
+    assert status == BAD_FILE and "was cut short by another program" in err and after == before, (status, err)
+    # Nothing happens, or nothing but a new date: both lines are added.
+    for meddle in (lambda t, _: None, lambda t, _: os.utime(t, (1, 1))):
+        status, out, err, _, _ = changed_while_it_loads(program, folder, meddle)
+        assert status == 0 and out == f"{code(61)},61\n2 added, 0 there already\n", (status, out, err)
+
+    # While it loads, others are held off.
+    def others(t, _):
+        program.refuses(BAD_FILE, "in use", "add", t, code(70), 70)
+        program.refuses(BAD_FILE, "in use", "find", t, code(1))
+    assert changed_while_it_loads(program, folder, others)[0] == 0
+    return f"{len(meddling) + 6} ways"
+
+
+def a_disk_that_is_full(program, folder):
+    """A table that cannot be written whole is not left behind."""
+    def small_files():
+        resource.setrlimit(resource.RLIMIT_FSIZE, (1000, 1000))
+    how = {"preexec_fn": small_files, "restore_signals": False}
+    program.refuses(BAD_FILE, "cannot be written: File too large", "make", f"{folder}/t", 100, **how)
+    assert os.listdir(folder) == []
+
+
+def little_memory(program, folder):
+    """However little memory there is: the answer, or a clear error."""
+    t = f"{folder}/t"
+    program.done("make", t, 65535)
+    program.done("add", t, code(1), 1)
+    whole = [(words, program.done(*words)) for words in reading(t)]
+    ended = {0: 0, BAD_FILE: 0}
+    for megabytes in range(8, 88, 6):
+        def limit():
+            resource.setrlimit(resource.RLIMIT_AS, (megabytes << 20, megabytes << 20))
+        for words, answer in whole:
+            status, out, err = program(*words, preexec_fn=limit)
+            assert (status, out, err) == (0, answer, "") or status == BAD_FILE and re.fullmatch("catalogue: .*\n", err), (words, status, err)
+            ended[status] += 1
+    assert all(ended.values()), ended
+    return f"{ended[0]} answers, {ended[BAD_FILE]} errors"
+
+
+TESTS = [no_tables, other_files, read_only, in_use, changed_meanwhile, a_disk_that_is_full]

@@ -1,0 +1,139 @@
+"""Long random runs: commands against a plain list, and damaged tables."""
+import random
+
+from drive import *
+
+CODES = [code(7 * i) for i in range(300)]
+
+
+def expected(plain, change, words):
+    """The exit status that a plain list gives a change."""
+    if change == "remove":
+        return 0 if words[0] in plain else NOT_THERE
+    c, r = words
+    if r in (0, MARK):
+        return BAD_RECORDING
+    if c in plain:
+        return CODE_THERE
+    return RECORDING_THERE if r in plain.values() else 0
+
+
+def some_change(plain, chance):
+    c = chance.choice(CODES)
+    if chance.random() < 0.25:
+        return "remove", [chance.choice(list(plain)) if plain and chance.random() < 0.7 else c]
+    return "add", [c, chance.choice([0, MARK] + list(plain.values())[:3]) if chance.random() < 0.1 else chance.randrange(1, 10**6)]
+
+
+def after(plain, change, words):
+    then = dict(plain)
+    if change == "add":
+        then[words[0]] = words[1]
+    else:
+        del then[words[0]]
+    return then
+
+
+def step(program, t, plain, chance):
+    """One command and its answer by the plain list; the list after it."""
+    kind = chance.randrange(10)
+    change, words = some_change(plain, chance)
+    status = expected(plain, change, words)
+    if kind < 5:
+        got, out, err = program(change, t, *words)
+        assert got == status, (change, words, got, status, err)
+        return after(plain, change, words) if status == 0 else plain
+    if kind == 5:
+        got, out, err = program(change, t, *words, "--cut", chance.randrange(30))
+        if got == BAD_USAGE or status != 0:
+            assert got == (status or BAD_USAGE), (change, words, got, err)
+            return plain
+        now = dict(listed(program.done("list", t)))
+        assert now in (plain, after(plain, change, words)), (change, words)
+        return now
+    if kind == 6:
+        low, high = chance.choice(CODES), chance.choice(CODES)
+        assert listed(program.done("list", t, low, high)) == sorted(p for p in plain.items() if low <= p[0] <= high)
+    elif kind == 7:
+        got, out, err = program("orders", t, change, *words)
+        assert got == status, (change, words, got, status, err)
+    elif kind == 8:
+        assert f" {len(plain)} code" in program.done(chance.choice(["check", "show"]), t)
+        if chance.random() < 0.3:
+            program.done("repair", t)
+            assert "settled" in program.done("check", t)
+    else:
+        c = chance.choice(CODES)
+        got, out, err = program("find", t, c)
+        assert (got, out) == ((0, f"{plain[c]}\n") if c in plain else (ABSENT, "")), (c, got, out, err)
+    return plain
+
+
+def a_long_run(program, folder):
+    chance = random.Random(2026)
+    t = f"{folder}/t"
+    program.done("make", t, 300)
+    plain, most, count = {}, 0, 3000 if program.quick else 300
+    for _ in range(count):
+        plain = step(program, t, plain, chance)
+        most = max(most, len(plain))
+    assert listed(program.done("list", t)) == sorted(plain.items())
+    for c in CODES[::1 if program.quick else 6]:
+        assert program("find", t, c)[:2] == ((0, f"{plain[c]}\n") if c in plain else (ABSENT, ""))
+    return f"{count} commands, {most} codes at most"
+
+
+def damaged_tables(program, folder):
+    """Words changed at random: every command comes to an end without a crash; those that look at the whole table agree; none changes a
+    table that is not sound."""
+    chance = random.Random(1115)
+    t = f"{folder}/t"
+    fill(program, t, 40, [(code(i), 1 + i) for i in range(120)])
+    good = read_words(t)
+    unsound = 0
+    for _ in range(250 if program.quick else 60):
+        words = list(good)
+        for _ in range(chance.randrange(1, 4)):
+            # Mostly words of nodes in use, so that the damage is met.
+            at = chance.randrange(8, 8 + 32 * 28)
+            some = [0, MARK, 2**32 + 1, chance.randrange(42), chance.choice(good), words[at] ^ 1, chance.randrange(2**64)]
+            words[at] = chance.choice(some)
+        write_words(t, words)
+        before = contents(t)
+        status = program("check", t)[0]
+        assert status in (0, NOT_SOUND), status
+        unsound += status != 0
+        assert program("list", t)[0] == status and program("show", t)[0] == status
+        assert program("orders", t, "add", code(500), 500)[0] == status
+        assert program("find", t, code(chance.randrange(120)))[0] in (0, ABSENT, LOST)
+        assert contents(t) == before
+        if status != 0:
+            for change in (["repair"], ["add", code(500), 500], ["remove", code(3)]):
+                program.refuses(NOT_SOUND, "is not sound", change[0], t, *change[1:])
+        else:
+            program.done("repair", t)
+            assert "settled" in program.done("check", t)
+    return f"{unsound} not sound"
+
+
+def nodes_that_are_not_there(program, folder):
+    """Refusal 3: a root whose left child, slot or sibling is no node of the table, in every way that a number can be wrong."""
+    t = f"{folder}/t"
+    fill(program, t, 3, [(code(i), 1 + i) for i in range(12)])
+    good = read_words(t)
+    root = 8 + 32 * (good[1] - 1)
+    left, sibling, pointer = root, root + 1, root + 9
+    for n in (4, 5, 2**16, 2**32 + 1, 2**58 + 1, 2**63, MARK):
+        for at, lost, other in ((left, code(0), code(11)), (pointer, code(11), code(0)), (sibling, code(0), None)):
+            words = list(good)
+            words[at] = n
+            write_words(t, words)
+            program.refuses(LOST, f"is damaged on the way to {lost}", "find", t, lost)
+            program.refuses(NOT_SOUND, "is not sound", "list", t)
+            status, out, err = program("show", t)
+            assert status == NOT_SOUND and f"-> node {n}, which the table does not have" in out and "is not sound" in err, out
+            if other:
+                assert program.done("find", t, other) == f"{int(other[-5:]) + 1}\n"
+
+
+TESTS = [a_long_run, damaged_tables, nodes_that_are_not_there]

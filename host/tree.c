@@ -1,0 +1,158 @@
+/* The tree in a table's words, walked for people: any words are taken, and nothing is read outside of them. */
+#include "tree.h"
+
+#include <stdio.h>
+#include <stdlib.h>
+
+#include "table.h"
+
+bool tree_has(const struct tree *tree, uint64_t n)
+{
+    return n >= 1 && n <= tree->nodes;
+}
+
+uint64_t tree_word(const struct tree *tree, uint64_t n, unsigned word)
+{
+    return tree->words[HEADER_WORDS + NODE_WORDS * (n - 1) + word];
+}
+
+uint64_t tree_key(const struct tree *tree, uint64_t n, unsigned slot)
+{
+    return tree_word(tree, n, 8 + 2 * slot);
+}
+
+uint64_t tree_pointer(const struct tree *tree, uint64_t n, unsigned slot)
+{
+    return tree_word(tree, n, 9 + 2 * slot);
+}
+
+/* A key from the sibling's fence up is the sibling's. */
+static bool within(const struct tree *tree, uint64_t n, uint64_t key)
+{
+    uint64_t sibling = tree_word(tree, n, SIBLING);
+    return !tree_has(tree, sibling) || key < tree_word(tree, sibling, FENCE);
+}
+
+enum slot tree_slot(const struct tree *tree, uint64_t n, unsigned slot)
+{
+    uint64_t before = tree_word(tree, n, LEFT);
+    for (unsigned i = 0; i < slot; i++) {
+        before = tree_pointer(tree, n, i);
+        if (before == 0)
+            return FREE;
+    }
+    uint64_t pointer = tree_pointer(tree, n, slot);
+    if (pointer == 0)
+        return FREE;
+    if (pointer == before)
+        return HIDDEN;
+    return within(tree, n, tree_key(tree, n, slot)) ? SHOWN : TRAILING;
+}
+
+/* ---- the walk */
+
+/* Adds node n once; by way of a parent, or of a sibling (parent 0). */
+static void reach(struct tree *tree, uint64_t n, uint32_t parent)
+{
+    if (!tree_has(tree, n))
+        return;
+    if (!tree->seen[n]) {
+        tree->seen[n] = true;
+        tree->reached[tree->count++] = (uint32_t)n;
+    }
+    if (parent != 0)
+        tree->parent[n] = parent;
+}
+
+static void reach_from(struct tree *tree, uint32_t n)
+{
+    reach(tree, tree_word(tree, n, SIBLING), 0);
+    if (tree_word(tree, n, LEVEL) == 0)
+        return;
+    reach(tree, tree_word(tree, n, LEFT), n);
+    for (unsigned i = 0; i < SLOTS; i++)
+        if (tree_slot(tree, n, i) == SHOWN)
+            reach(tree, tree_pointer(tree, n, i), n);
+}
+
+bool tree_walk(struct tree *tree, const uint64_t *words)
+{
+    *tree = (struct tree){.words = words, .root = words[1], .nodes = words[2]};
+    tree->reached = calloc(tree->nodes + 1, sizeof *tree->reached);
+    tree->seen = calloc(tree->nodes + 1, sizeof *tree->seen);
+    tree->parent = calloc(tree->nodes + 1, sizeof *tree->parent);
+    if (!tree->reached || !tree->seen || !tree->parent)
+        return false;
+    reach(tree, tree->root, 0);
+    /* The list grows while it is gone through; a node enters it once, so that any words come to an end. */
+    for (size_t i = 0; i < tree->count; i++)
+        reach_from(tree, tree->reached[i]);
+    return true;
+}
+
+void tree_free(struct tree *tree)
+{
+    free(tree->reached);
+    free(tree->seen);
+    free(tree->parent);
+}
+
+/* ---- what a sound table holds */
+
+static unsigned count_slots(const struct tree *tree, uint64_t n, enum slot kind)
+{
+    unsigned count = 0;
+    for (unsigned i = 0; i < SLOTS; i++)
+        count += tree_slot(tree, n, i) == kind;
+    return count;
+}
+
+size_t tree_codes(const struct tree *tree)
+{
+    size_t codes = 0;
+    for (size_t i = 0; i < tree->count; i++)
+        if (tree_word(tree, tree->reached[i], LEVEL) == 0)
+            codes += count_slots(tree, tree->reached[i], SHOWN);
+    return codes;
+}
+
+static void find_hidden(const struct tree *tree, uint32_t n, struct leftover *l)
+{
+    for (unsigned i = 0; i < SLOTS; i++)
+        if (tree_slot(tree, n, i) == HIDDEN) {
+            l->hidden_node = n;
+            l->hidden_slot = i;
+        }
+}
+
+struct leftover tree_leftover(const struct tree *tree)
+{
+    struct leftover l = {0};
+    for (size_t i = 0; i < tree->count; i++) {
+        uint32_t n = tree->reached[i];
+        uint64_t sibling = tree_word(tree, n, SIBLING);
+        find_hidden(tree, n, &l);
+        if (tree_has(tree, sibling) && tree->parent[sibling] == 0) {
+            l.missing = (uint32_t)sibling;
+            l.beside = n;
+            l.parent = tree->parent[n];
+            l.trailing = count_slots(tree, n, TRAILING);
+        }
+    }
+    return l;
+}
+
+void leftover_print(const struct leftover *l)
+{
+    if (l->missing == 0) {
+        printf("leftover (a): node %u has a hidden slot, slot %u\n", l->hidden_node, l->hidden_slot);
+        return;
+    }
+    printf("leftover (%c): node %u, the sibling of node %u, lacks its slot in node %u", l->hidden_node ? 'c' : 'b', l->missing, l->beside,
+           l->parent);
+    if (l->hidden_node)
+        printf(", which has a hidden slot, slot %u", l->hidden_slot);
+    if (l->trailing)
+        printf("; node %u has %u trailing slot%s", l->beside, l->trailing, l->trailing == 1 ? "" : "s");
+    printf("\n");
+}
