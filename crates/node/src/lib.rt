@@ -81,16 +81,19 @@ pub fn start(table: &[u64], i: u64) -> usize
     8 + 32 * (i as usize - 1)
 }
 
-// The 24 slot words from index first on.
+// The 24 slot words from index first on, a slot a turn: the compiler then sees each word apart, and a reader of a few slots does not copy all.
 fn slots_from(table: &[u64], first: usize) -> [u64; 24]
     requires { ⌜ first + 24 ≤ length (now table) ⌝ }
     ensures { λ r. ⌜ r ≡ take 24 (drop first (now (table .entry))) ⌝ }
 {
     let mut slots = [0u64; 24];
-    let mut j = 0;
-    while j < 24 {
-        slots[j] = table[first + j];
-        j += 1;
+    let mut i = 0;
+    while i < 12 {
+        let key = 2 * i;
+        let pointer = key + 1;
+        slots[key] = table[first + key];
+        slots[pointer] = table[first + pointer];
+        i += 1;
     }
     slots
 }

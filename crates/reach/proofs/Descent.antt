@@ -4,15 +4,13 @@ use Prim.Native.Nat.{ℕ, zero, suc, _-_, _≤_, _<_}
 use native.Mathlib.Omega.{arith}
 use lib.ListN.{getD}
 use borrow.Author.Tests.{eq-eqb}
-use Rattle.model.specs.declared.Node.{Node}
 use Rattle.model.specs.Table.{Words, node, root}
-use Rattle.model.specs.Slots.{View, view, used}
-use Rattle.model.specs.Search.{below, moved, route, down, pathFrom}
+use Rattle.model.specs.Slots.{View, view}
+use Rattle.model.specs.Search.{below, moved, down, pathFrom}
 use Rattle.model.specs.Writes.{standing}
 use Rattle.tree_laws.proofs.Cover.{stays, moves, below-low, below-high}
 use Rattle.node.specs.Word.{wordOf}
 use Rattle.node.proofs.WordLaws.{word-level, word-sibling, word-fence}
-use Rattle.search.specs.Scan.{shownFrom}
 
 -- ---- the move on a level, from the words that the code has read: s the sibling, f the sibling's fence
 
@@ -33,11 +31,6 @@ module _ (t : Words) (n k s : ℕ) (e : s ≡ wordOf t n 1) where
 
     pub moved-right : (s ≡ 0 → ⊥) → f ≤ k → s ≡ moved (view t) n k
     moved-right z h = q ∙ sym (moves (view t) k n (below-low (view t) k (view t .sibling n) (λ y. z (q ∙ y)) (rw bound at h)))
-
--- the way down, from the record that the code has read: x is node m
-pub down-read : (t : Words) (m k : ℕ) (x : Node) (r : ℕ) → x ≡ node t m → r ≡ route k (x .left) (shownFrom (x .left) (x .slots) 0) → r ≡ down (view t) m k
-unfolding used
-down-read t m k x r q h = h ∙ ap (λ (y : Node). route k (y .left) (shownFrom (y .left) (y .slots) 0)) q
 
 -- ---- a descent
 

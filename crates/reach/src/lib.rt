@@ -5,7 +5,7 @@ ghost use Prim.Native.Nat.{_+_, _-_, _≤_, _<_};
 ghost use lib.ListN.{length};
 ghost use Rattle.model.specs.Table.{headerOk, nodes};
 ghost use Rattle.model.specs.Slots.{view};
-ghost use Rattle.model.specs.Search.{moved, down};
+ghost use Rattle.model.specs.Search.{moved};
 ghost use Rattle.model.specs.Reached.{headOr, kept, reached};
 ghost use Rattle.model.specs.SoundTest.{elem, sound};
 ghost use Rattle.model.specs.Writes.{numbers, unreached, unreachable, fresh, standing};
@@ -35,16 +35,6 @@ fn moved(table: &[u64], n: u64, key: u64) -> u64
     sibling
 }
 
-// The child that a search goes down to from node m.
-fn down(table: &[u64], m: u64, key: u64) -> u64
-    ensures { λ r. ⌜ r ≡ down (view (now (table .entry))) m key ⌝ }
-{
-    let x = node::read(table, m);
-    let slots = x.slots;
-    let left = x.left;
-    search::route(slots, left, key)
-}
-
 // The node on a level that the search for a key stands on. A level above the root's gives the root's.
 pub fn standing(table: &[u64], level: u64, key: u64) -> u64
     requires { ⌜ headerOk (now table) ≡ true ⌝ }
@@ -54,7 +44,7 @@ pub fn standing(table: &[u64], level: u64, key: u64) -> u64
     let mut l = node::word(table, n, 2);
     while level < l {
         let m = moved(table, n, key);
-        n = down(table, m, key);
+        n = search::down(table, m, key);
         l -= 1;
     }
     moved(table, n, key)
@@ -207,7 +197,7 @@ pub fn full_run(table: &[u64], key: u64, parent: u64) -> Run
     while 0 < level {
         let m = moved(table, n, key);
         count = run_after(table, count, m, parent);
-        n = down(table, m, key);
+        n = search::down(table, m, key);
         level -= 1;
     }
     let leaf = moved(table, n, key);

@@ -1,25 +1,24 @@
 -- Where a search stands on a level, and what it answers from there.
 use mathlib.Core.Path.{_≡_, refl, ap, sym, _∙_, subst}
-use mathlib.Core.Bool.{Bool, true, false, cond, _&&_, _||_, false≢true}
-use mathlib.Core.List.{List}
+use mathlib.Core.Bool.{Bool, true, false, cond, false≢true}
 use mathlib.Core.Option.{Option, none, some}
 use Prim.Native.Nat.{ℕ, zero, suc, _-_, _≤_, _<_}
 use native.Mathlib.Omega.{arith}
-use lib.Dec.{eqb, ltb, leb}
+use lib.Dec.{eqb, leb}
 use lib.ListN.{length}
-use borrow.Author.Tests.{eq-eqb, ne-eqb, lt-ltb, le-ltb, eqb-true, eqb-false, le-leb, lt-leb}
+use borrow.Author.Tests.{eq-eqb, ne-eqb, lt-ltb, le-ltb, le-leb, lt-leb}
 use Rattle.model.specs.declared.Answer.{Answer}
-use Rattle.model.specs.declared.Answer.the-variants.{Found, Absent, Refused}
+use Rattle.model.specs.declared.Answer.the-variants.{Refused}
 use Rattle.model.specs.declared.Node.{Node}
 use Rattle.model.specs.Table.{Words, inRange, headerOk, headerNumber, hasNode, node, root}
-use Rattle.model.specs.Slots.{Slot, View, view, height, used}
+use Rattle.model.specs.Slots.{View, view, height, used}
 use Rattle.model.specs.Search.{below, within, moved, route, down, onLevel, passes, locate, lookup, answerIn, searchView, search}
 use Rattle.table_laws.proofs.Header.{header-iff, header-number-iff, header-number-refused}
 use Rattle.table_laws.proofs.Nodes.{has-node-range}
 use Rattle.node.specs.Word.{wordOf}
 use Rattle.node.proofs.WordLaws.{word-level, word-sibling, word-fence}
-use Rattle.list_laws.proofs.Tools.{decode, and-iff, refuted}
-use Rattle.search.specs.Scan.{shownFrom, standOn}
+use Rattle.list_laws.proofs.Tools.{decode, refuted}
+use Rattle.search.specs.Scan.{shownFrom, standOn, leafOr}
 
 -- ---- onLevel, from the words
 
@@ -93,23 +92,44 @@ stand-somewhere v l n k m e z = go (passes v l n) refl
     go true p = (p, sym (stand-pass v l n k true p) ∙ sym e)
     go false p = absurd (z (e ∙ stand-pass v l n k false p))
 
-pub refused-here : (v : View) (l n k m : ℕ) → m ≡ standOn v l n k → m ≡ 0 → Refused 3 ≡ answerIn v k (locate v l n k)
+pub refused-here : (v : View) (l n k m : ℕ) → m ≡ standOn v l n k → m ≡ 0 → 0 ≡ leafOr 0 (locate v l n k)
 unfolding locate
 refused-here v zero n k m e z = rw (stand-nowhere v zero n k (sym e ∙ z), locate)
 refused-here v (suc l) n k m e z = rw (stand-nowhere v (suc l) n k (sym e ∙ z), locate)
 
-pub leaf-here : (v : View) (l n k m : ℕ) → m ≡ standOn v l n k → (m ≡ 0 → ⊥) → l ≡ 0 → lookup k (v .shown m) ≡ answerIn v k (locate v l n k)
+pub leaf-here : (v : View) (l n k m : ℕ) → m ≡ standOn v l n k → (m ≡ 0 → ⊥) → l ≡ 0 → m ≡ leafOr 0 (locate v l n k)
 unfolding locate
 leaf-here v zero n k m e z q = let h = stand-somewhere v zero n k m e z in rw (h .0, h .1, locate)
 leaf-here v (suc l) n k m e z q = absurd (omega arith)
 
-pub inner-here : (v : View) (l n k m c : ℕ) → m ≡ standOn v l n k → (m ≡ 0 → ⊥) → (l ≡ 0 → ⊥) → c ≡ down v m k → answerIn v k (locate v (l - 1) c k) ≡ answerIn v k (locate v l n k)
+pub inner-here : (v : View) (l n k m c r : ℕ) → m ≡ standOn v l n k → (m ≡ 0 → ⊥) → (l ≡ 0 → ⊥) → c ≡ down v m k → r ≡ leafOr 0 (locate v (l - 1) c k) → r ≡ leafOr 0 (locate v l n k)
 unfolding locate
-inner-here v zero n k m c e z q d = absurd (q refl)
-inner-here v (suc l) n k m c e z q d =
+inner-here v zero n k m c r e z q d g = absurd (q refl)
+inner-here v (suc l) n k m c r e z q d g =
     let h = stand-somewhere v (suc l) n k m e z in
     let o : suc l - 1 ≡ l = omega arith in
-    rw (h .0, h .1, locate, o, d)
+    g ∙ rw (h .0, h .1, locate, o, d)
+
+some-leaf : (o : Option ℕ) (m : ℕ) → m ≡ leafOr 0 o → (m ≡ 0 → ⊥) → o ≡ some m
+some-leaf none m e z = absurd (z e)
+some-leaf (some n) m e z = ap some (sym e)
+
+-- no leaf is number 0
+locate-leaf : (v : View) (n k : ℕ) (b : Bool) → passes v 0 n ≡ b → leafOr 0 (locate v 0 n k) ≡ 0 → locate v 0 n k ≡ none
+unfolding locate
+locate-leaf v n k false p e = rw (p, locate)
+locate-leaf v n k true p e =
+    let z : moved v n k ≡ 0 = rw (p, locate) at e in
+    absurd (false≢true (sym (stand-nowhere v 0 n k (stand-pass v 0 n k true p ∙ z)) ∙ p))
+
+locate-inner : (v : View) (l n k : ℕ) (b : Bool) → passes v (suc l) n ≡ b → (leafOr 0 (locate v l (down v (moved v n k) k) k) ≡ 0 → locate v l (down v (moved v n k) k) k ≡ none) → leafOr 0 (locate v (suc l) n k) ≡ 0 → locate v (suc l) n k ≡ none
+unfolding locate
+locate-inner v l n k false p ih e = rw (p, locate)
+locate-inner v l n k true p ih e = rw (p, locate) (ih (rw (p, locate) at e))
+
+no-leaf : (v : View) (l n k : ℕ) → leafOr 0 (locate v l n k) ≡ 0 → locate v l n k ≡ none
+no-leaf v zero n k e = locate-leaf v n k (passes v 0 n) refl e
+no-leaf v (suc l) n k e = locate-inner v l n k (passes v (suc l) n) refl (no-leaf v l (down v (moved v n k) k) k) e
 
 -- ---- the same, from the words that the code has read: s the sibling, f the sibling's fence
 
@@ -138,15 +158,14 @@ module _ (t : Words) (l n k s : ℕ) (on : true ≡ onLevel (view t) l n) (e : s
 
 -- ---- the same, from the record that the code has read: x is node m
 
-module _ (t : Words) (l n k m : ℕ) (e : m ≡ standOn (view t) l n k) (z : m ≡ 0 → ⊥) (x : Node) (q : x ≡ node t m) where
-  pub leaf-answer : (r : Answer) → r ≡ lookup k (shownFrom (x .left) (x .slots) 0) → l ≡ 0 → r ≡ answerIn (view t) k (locate (view t) l n k)
+module _ (t : Words) (m k : ℕ) (x : Node) (q : x ≡ node t m) where
+  pub down-read : (r : ℕ) → r ≡ route k (x .left) (shownFrom (x .left) (x .slots) 0) → r ≡ down (view t) m k
   unfolding used
-  leaf-answer r h o = h ∙ ap (λ (y : Node). lookup k (shownFrom (y .left) (y .slots) 0)) q ∙ leaf-here (view t) l n k m e z o
+  down-read r h = h ∙ ap (λ (y : Node). route k (y .left) (shownFrom (y .left) (y .slots) 0)) q
 
-  pub inner-answer : (c : ℕ) (r : Answer) → c ≡ route k (x .left) (shownFrom (x .left) (x .slots) 0) → (l ≡ 0 → ⊥) → r ≡ answerIn (view t) k (locate (view t) (l - 1) c k)
-      → r ≡ answerIn (view t) k (locate (view t) l n k)
+  pub answer-read : (r : Answer) → r ≡ lookup k (shownFrom (x .left) (x .slots) 0) → r ≡ lookup k (view t .shown m)
   unfolding used
-  inner-answer c r h o g = g ∙ inner-here (view t) l n k m c e z o (h ∙ ap (λ (y : Node). route k (y .left) (shownFrom (y .left) (y .slots) 0)) q)
+  answer-read r h = h ∙ ap (λ (y : Node). lookup k (shownFrom (y .left) (y .slots) 0)) q
 
 -- ---- the whole search
 
@@ -167,9 +186,16 @@ pub too-high : (t : Words) (k w : ℕ) → headerOk t ≡ true → w ≡ wordOf 
 unfolding search searchView
 too-high t k w h e r = let b : leb (height (view t)) 15 ≡ false = rw (sym (word-level t (root t)) ∙ sym e) (lt-leb w 15 r) in rw (h, search) (rw (b, searchView))
 
-pub from-root : (t : Words) (k w : ℕ) (r : Answer) → headerOk t ≡ true → w ≡ wordOf t (root t) 2 → w ≤ 15 → r ≡ answerIn (view t) k (locate (view t) w (root t) k) → r ≡ search t k
-unfolding search searchView
-from-root t k w r h e o g =
-    let q : height (view t) ≡ w = sym (e ∙ word-level t (root t)) in
-    let b : leb (height (view t)) 15 ≡ true = rw q (le-leb w 15 o) in
-    g ∙ sym (rw (h, search) (rw (b, searchView) (rw q)))
+module _ (t : Words) (k w : ℕ) (h : headerOk t ≡ true) (e : w ≡ wordOf t (root t) 2) (o : w ≤ 15) where
+  from-root : answerIn (view t) k (locate (view t) w (root t) k) ≡ search t k
+  unfolding search searchView
+  from-root =
+      let q : height (view t) ≡ w = sym (e ∙ word-level t (root t)) in
+      let b : leb (height (view t)) 15 ≡ true = rw q (le-leb w 15 o) in
+      sym (rw (h, search) (rw (b, searchView) (rw q)))
+
+  pub lost : (m : ℕ) → m ≡ leafOr 0 (locate (view t) w (root t) k) → m ≡ 0 → Refused 3 ≡ search t k
+  lost m g z = ap (answerIn (view t) k) (sym (no-leaf (view t) w (root t) k (sym g ∙ z))) ∙ from-root
+
+  pub answered : (m : ℕ) (r : Answer) → m ≡ leafOr 0 (locate (view t) w (root t) k) → (m ≡ 0 → ⊥) → r ≡ lookup k (view t .shown m) → r ≡ search t k
+  answered m r g z a = a ∙ ap (answerIn (view t) k) (sym (some-leaf (locate (view t) w (root t) k) m g z)) ∙ from-root

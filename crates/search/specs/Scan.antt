@@ -1,6 +1,7 @@
 -- The slots of a node, taken one by one.
-use mathlib.Core.Bool.{Bool, true, false, cond}
-use mathlib.Core.List.{List, [], _∷_}
+use mathlib.Core.Bool.{cond}
+use mathlib.Core.List.{List}
+use mathlib.Core.Option.{Option, none, some}
 use Prim.Native.Nat.{ℕ}
 use lib.Dec.{eqb, leb}
 use lib.ListN.{drop}
@@ -19,3 +20,8 @@ wayAfter way before k p key = cond (eqb p before) way (cond (leb k key) p way)
 -- where a search stands, coming to n on level l; 0 where a test fails
 unfoldable pub standOn : View → (l n k : ℕ) → ℕ
 standOn v l n k = cond (passes v l n) (moved v n k) 0
+
+-- the leaf found, or this number where a test failed
+abbrev pub leafOr : ℕ → Option ℕ → ℕ
+leafOr z none = z
+leafOr z (some n) = n

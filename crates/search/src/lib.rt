@@ -4,8 +4,8 @@ ghost use mathlib.Core.Path.{_≡_};
 ghost use mathlib.Core.Bool.{true};
 ghost use Rattle.model.specs.Table.{headerOk};
 ghost use Rattle.model.specs.Slots.{view};
-ghost use Rattle.model.specs.Search.{onLevel, route, locate, lookup, answerIn, search};
-ghost use Rattle.search.specs.Scan.{shownFrom, wayAfter, standOn};
+ghost use Rattle.model.specs.Search.{onLevel, route, down, locate, lookup, search};
+ghost use Rattle.search.specs.Scan.{shownFrom, wayAfter, standOn, leafOr};
 
 // The way down after a slot in use: its pointer where it is shown and its key is at most the key looked for.
 fn way_after(way: u64, before: u64, k: u64, p: u64, key: u64) -> u64
@@ -21,7 +21,7 @@ fn way_after(way: u64, before: u64, k: u64, p: u64, key: u64) -> u64
 }
 
 // The child that an inner node's slots lead to: by the last shown slot whose key is at most the key, else by left.
-pub fn route(slots: [u64; 24], left: u64, key: u64) -> u64
+fn route(slots: [u64; 24], left: u64, key: u64) -> u64
     ensures { λ r. ⌜ r ≡ route key left (shownFrom left slots 0) ⌝ }
 {
     let mut way = left;
@@ -37,6 +37,16 @@ pub fn route(slots: [u64; 24], left: u64, key: u64) -> u64
         i += 1;
     }
     way
+}
+
+// The child that a search goes down to from node m.
+pub fn down(table: &[u64], m: u64, key: u64) -> u64
+    ensures { λ r. ⌜ r ≡ down (view (now (table .entry))) m key ⌝ }
+{
+    let x = node::read(table, m);
+    let slots = x.slots;
+    let left = x.left;
+    route(slots, left, key)
 }
 
 // What a leaf's slots answer: by the first shown slot whose key is the key.
@@ -59,6 +69,16 @@ fn in_leaf(slots: [u64; 24], left: u64, key: u64) -> Answer
         i += 1;
     }
     Answer::Absent
+}
+
+// What node m answers, as a leaf.
+fn answer_in(table: &[u64], m: u64, key: u64) -> Answer
+    ensures { λ r. ⌜ r ≡ lookup key (view (now (table .entry)) .shown m) ⌝ }
+{
+    let x = node::read(table, m);
+    let slots = x.slots;
+    let left = x.left;
+    in_leaf(slots, left, key)
 }
 
 // Whether node n is in 1 to N and on this level.
@@ -93,22 +113,19 @@ fn stand(table: &[u64], n: u64, level: u64, key: u64) -> u64
     sibling
 }
 
-// The answer, coming to node n on the level given, which falls with each call.
-fn descend(table: &[u64], n: u64, level: u64, key: u64) -> Answer
+// The leaf for a key, coming to node n on the level given, which falls with each call; 0 where a test fails.
+fn descend(table: &[u64], n: u64, level: u64, key: u64) -> u64
     requires { ⌜ headerOk (now table) ≡ true ⌝ }
-    ensures { λ r. ⌜ r ≡ answerIn (view (now (table .entry))) key (locate (view (now (table .entry))) level n key) ⌝ }
+    ensures { λ r. ⌜ r ≡ leafOr 0 (locate (view (now (table .entry))) level n key) ⌝ }
 {
     let m = stand(table, n, level, key);
     if m == 0 {
-        return Answer::Refused(3);
+        return 0;
     }
-    let x = node::read(table, m);
-    let slots = x.slots;
-    let left = x.left;
     if level == 0 {
-        return in_leaf(slots, left, key);
+        return m;
     }
-    let child = route(slots, left, key);
+    let child = down(table, m, key);
     descend(table, child, level - 1, key)
 }
 
@@ -124,5 +141,9 @@ pub fn search(table: &[u64], key: u64) -> Answer
     if 15 < top {
         return Answer::Refused(3);
     }
-    descend(table, root, top, key)
+    let leaf = descend(table, root, top, key);
+    if leaf == 0 {
+        return Answer::Refused(3);
+    }
+    answer_in(table, leaf, key)
 }

@@ -1,5 +1,5 @@
 -- `search::descend` meets its contract; its level falls with each call.
-use Rattle.search.proofs.Standing.{refused-here, leaf-answer, inner-answer}
+use Rattle.search.proofs.Standing.{refused-here, leaf-here, inner-here}
 use borrow.Author.Needs.{needs}
 use Prim.Native.Nat.{ℕ, _<_}
 use borrow.Fn.Kinds.{In}
@@ -7,9 +7,7 @@ use borrow.Fn.PlainCycle.{Measures, is, falls, and}
 use Rattle.search.proofs.descend.Reads as descend
 use Rattle.search.proofs.descend.Kinds as descend-kinds
 use Rattle.search.proofs.+descend.Lts-descend as descend-lts
-use Rattle.node.proofs.read.Reads as read-reads
-use Rattle.search.proofs.in_leaf.Reads as in-leaf-reads
-use Rattle.search.proofs.route.Reads as route-reads
+use Rattle.search.proofs.down.Reads as down-reads
 use Rattle.search.proofs.stand.Reads as stand-reads
 use Rattle.search.proofs.+descend.{statement}
 use Rattle.search.proofs.+descend.Tie.{close}
@@ -26,12 +24,8 @@ descend-below t = and 1 descend-kinds.ps (falls 1 descend-kinds.ps _<_ μ-descen
 descend-stand-requires : (t : ℕ) → descend-lts.Need-stand-requires (
   stand-reads.Asked,
   stand-reads.Learnt,
-  read-reads.Asked,
-  read-reads.Learnt,
-  in-leaf-reads.Asked,
-  in-leaf-reads.Learnt,
-  route-reads.Asked,
-  route-reads.Learnt,
+  down-reads.Asked,
+  down-reads.Learnt,
   descend-below t,
   descend.Post,
 ) (descend-at t) descend.Post
@@ -40,12 +34,8 @@ descend-stand-requires t c κs = search needs
 descend-returns : (t : ℕ) → descend-lts.Need-returns (
   stand-reads.Asked,
   stand-reads.Learnt,
-  read-reads.Asked,
-  read-reads.Learnt,
-  in-leaf-reads.Asked,
-  in-leaf-reads.Learnt,
-  route-reads.Asked,
-  route-reads.Learnt,
+  down-reads.Asked,
+  down-reads.Learnt,
   descend-below t,
   descend.Post,
 ) (descend-at t) descend.Post
@@ -53,75 +43,34 @@ descend-returns t c =
     let a = c .before .before .before .args in
     refused-here _ (a .level) (a .n) (a .key) _ (c .before .stand .ensures) (c .if1 .taken)
 
-descend-read-requires : (t : ℕ) → descend-lts.Need-read-requires (
-  stand-reads.Asked,
-  stand-reads.Learnt,
-  read-reads.Asked,
-  read-reads.Learnt,
-  in-leaf-reads.Asked,
-  in-leaf-reads.Learnt,
-  route-reads.Asked,
-  route-reads.Learnt,
-  descend-below t,
-  descend.Post,
-) (descend-at t) descend.Post
-descend-read-requires t c κs = search needs
-
-descend-in-leaf-requires : (t : ℕ) → descend-lts.Need-in-leaf-requires (
-  stand-reads.Asked,
-  stand-reads.Learnt,
-  read-reads.Asked,
-  read-reads.Learnt,
-  in-leaf-reads.Asked,
-  in-leaf-reads.Learnt,
-  route-reads.Asked,
-  route-reads.Learnt,
-  descend-below t,
-  descend.Post,
-) (descend-at t) descend.Post
-descend-in-leaf-requires t c κs = search needs
-
 descend-returns-2 : (t : ℕ) → descend-lts.Need-returns-2 (
   stand-reads.Asked,
   stand-reads.Learnt,
-  read-reads.Asked,
-  read-reads.Learnt,
-  in-leaf-reads.Asked,
-  in-leaf-reads.Learnt,
-  route-reads.Asked,
-  route-reads.Learnt,
+  down-reads.Asked,
+  down-reads.Learnt,
   descend-below t,
   descend.Post,
 ) (descend-at t) descend.Post
 descend-returns-2 t c =
-    let d = c .before .before .before in
-    let s = d .before .before in
+    let s = c .before .before in
     let a = s .before .before .args in
-    leaf-answer (a .table .now) (a .level) (a .n) (a .key) _ (s .stand .ensures) (d .before .if1 .left) (d .read .result) (d .read .ensures) _ (c .in-leaf .ensures) (c .before .if2 .taken)
+    leaf-here _ (a .level) (a .n) (a .key) _ (s .stand .ensures) (c .before .if1 .left) (c .if2 .taken)
 
-descend-route-requires : (t : ℕ) → descend-lts.Need-route-requires (
+descend-down-requires : (t : ℕ) → descend-lts.Need-down-requires (
   stand-reads.Asked,
   stand-reads.Learnt,
-  read-reads.Asked,
-  read-reads.Learnt,
-  in-leaf-reads.Asked,
-  in-leaf-reads.Learnt,
-  route-reads.Asked,
-  route-reads.Learnt,
+  down-reads.Asked,
+  down-reads.Learnt,
   descend-below t,
   descend.Post,
 ) (descend-at t) descend.Post
-descend-route-requires t c κs = search needs
+descend-down-requires t c κs = search needs
 
 descend-sub-descend : (t : ℕ) → descend-lts.Need-sub-descend (
   stand-reads.Asked,
   stand-reads.Learnt,
-  read-reads.Asked,
-  read-reads.Learnt,
-  in-leaf-reads.Asked,
-  in-leaf-reads.Learnt,
-  route-reads.Asked,
-  route-reads.Learnt,
+  down-reads.Asked,
+  down-reads.Learnt,
   descend-below t,
   descend.Post,
 ) (descend-at t) descend.Post
@@ -130,12 +79,8 @@ descend-sub-descend t c = search needs
 descend-descend-requires : (t : ℕ) → descend-lts.Need-descend-requires (
   stand-reads.Asked,
   stand-reads.Learnt,
-  read-reads.Asked,
-  read-reads.Learnt,
-  in-leaf-reads.Asked,
-  in-leaf-reads.Learnt,
-  route-reads.Asked,
-  route-reads.Learnt,
+  down-reads.Asked,
+  down-reads.Learnt,
   descend-below t,
   descend.Post,
 ) (descend-at t) descend.Post
@@ -144,32 +89,23 @@ descend-descend-requires t c κs = search needs
 descend-returns-3 : (t : ℕ) → descend-lts.Need-returns-3 (
   stand-reads.Asked,
   stand-reads.Learnt,
-  read-reads.Asked,
-  read-reads.Learnt,
-  in-leaf-reads.Asked,
-  in-leaf-reads.Learnt,
-  route-reads.Asked,
-  route-reads.Learnt,
+  down-reads.Asked,
+  down-reads.Learnt,
   descend-below t,
   descend.Post,
 ) (descend-at t) descend.Post
 descend-returns-3 t c =
-    let r = c .before in
-    let d = r .before .before .before in
-    let s = d .before .before in
+    let d = c .before in
+    let s = d .before .before .before in
     let a = s .before .before .args in
-    inner-answer (a .table .now) (a .level) (a .n) (a .key) _ (s .stand .ensures) (d .before .if1 .left) (d .read .result) (d .read .ensures) _ _ (r .route .ensures) (r .before .if2 .left) (c .descend .ensures)
+    inner-here _ (a .level) (a .n) (a .key) _ _ _ (s .stand .ensures) (d .before .before .if1 .left) (d .before .if2 .left) (d .down .ensures) (c .descend .ensures)
 
 pub +descend-spec : {M : Type 1} → statement M
 +descend-spec = close μ-descend λ t. descend-lts.spec (
   stand-reads.Asked,
   stand-reads.Learnt,
-  read-reads.Asked,
-  read-reads.Learnt,
-  in-leaf-reads.Asked,
-  in-leaf-reads.Learnt,
-  route-reads.Asked,
-  route-reads.Learnt,
+  down-reads.Asked,
+  down-reads.Learnt,
   descend-below t,
   descend.Post,
 )
@@ -177,10 +113,8 @@ pub +descend-spec : {M : Type 1} → statement M
     descend.Post
     (descend-stand-requires t)
     (descend-returns t)
-    (descend-read-requires t)
-    (descend-in-leaf-requires t)
     (descend-returns-2 t)
-    (descend-route-requires t)
+    (descend-down-requires t)
     (descend-sub-descend t)
     (descend-descend-requires t)
     (descend-returns-3 t)

@@ -1,6 +1,6 @@
 -- `search::search` meets its contract.
 use native.Mathlib.Omega.{arith}
-use Rattle.search.proofs.Standing.{passed-header, failed-header, header-words, bad-header, too-high, from-root}
+use Rattle.search.proofs.Standing.{passed-header, failed-header, header-words, bad-header, too-high, lost, answered}
 use borrow.Author.Needs.{needs}
 use Rattle.search.proofs.search.Statement.{statement}
 use Rattle.search.proofs.search.Tie as tie
@@ -31,10 +31,22 @@ descend-requires c κs =
 
 returns-3 : tie.Need-returns-3
 returns-3 c =
-    let w = c .before .before in
+    let d = c .before in
+    let w = d .before .before in
     let h = w .before .before .before in
     let a = h .before .before .args in
-    from-root (a .table .now) (a .key) _ _ (passed-header _ _ (h .header .ensures) (w .before .before .if1 .left)) (w .word .ensures) (c .before .if2 .left) (c .descend .ensures)
+    lost (a .table .now) (a .key) _ (passed-header _ _ (h .header .ensures) (w .before .before .if1 .left)) (w .word .ensures) (d .before .if2 .left) _ (d .descend .ensures) (c .if3 .taken)
+
+answer-in-requires : tie.Need-answer-in-requires
+answer-in-requires c κs = search needs
+
+returns-4 : tie.Need-returns-4
+returns-4 c =
+    let d = c .before .before in
+    let w = d .before .before in
+    let h = w .before .before .before in
+    let a = h .before .before .args in
+    answered (a .table .now) (a .key) _ (passed-header _ _ (h .header .ensures) (w .before .before .if1 .left)) (w .word .ensures) (d .before .if2 .left) _ _ (d .descend .ensures) (c .before .if3 .left) (c .answer-in .ensures)
 
 pub search-spec : {M : Type 1} → statement M
 search-spec =
@@ -46,4 +58,6 @@ search-spec =
     word-requires
     returns-2
     descend-requires
-    returns-3)
+    returns-3
+    answer-in-requires
+    returns-4)

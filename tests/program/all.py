@@ -28,6 +28,14 @@ def run(work):
     return f"{name} ({time.monotonic() - began:.1f} s){': ' + said if said else ''}", True
 
 
+def roomy(folder):
+    """Whether the tests' files may go there."""
+    if not os.access(folder, os.W_OK):
+        return False
+    about = os.statvfs(folder)
+    return about.f_bavail * about.f_frsize > 1 << 28
+
+
 def main():
     plain = Program([sys.argv[1]], "plain", True)
     sanitized = Program([sys.argv[2]], "with sanitizers", False)
@@ -37,7 +45,7 @@ def main():
     # valgrind takes half a second to start: each kind of work once.
     once = [commands.the_worked_orders, commands.drawing, commands.loading, commands.a_tree_of_sixteen_levels]
     # Files in memory where there is such a place: the tests say nothing of a disk.
-    place = tempfile.mkdtemp(prefix="catalogue-", dir="/dev/shm" if os.access("/dev/shm", os.W_OK) else None)
+    place = tempfile.mkdtemp(prefix="catalogue-", dir="/dev/shm" if roomy("/dev/shm") else None)
     os.chmod(place, 0o755)
     works = [(valgrind, t, place) for t in once] + [(plain, t, place) for t in everything + [files.little_memory]]
     works += [(sanitized, t, place) for t in everything]

@@ -1,8 +1,8 @@
--- `reach::down` meets its contract.
-use Rattle.reach.proofs.Descent.{down-read}
+-- `search::down` meets its contract.
+use Rattle.search.proofs.Standing.{down-read}
 use borrow.Author.Needs.{needs}
-use Rattle.reach.proofs.down.Statement.{statement}
-use Rattle.reach.proofs.down.Tie as tie
+use Rattle.search.proofs.down.Statement.{statement}
+use Rattle.search.proofs.down.Tie as tie
 
 read-requires : tie.Need-read-requires
 read-requires c κs = search needs
@@ -14,7 +14,7 @@ returns : tie.Need-returns
 returns c =
     let d = c .before .before in
     let a = d .before .before .args in
-    down-read (a .table .now) (a .m) (a .key) (d .read .result) _ (d .read .ensures) (c .route .ensures)
+    down-read (a .table .now) (a .m) (a .key) (d .read .result) (d .read .ensures) _ (c .route .ensures)
 
 pub down-spec : {M : Type 1} → statement M
 down-spec = tie.close (tie.spec read-requires route-requires returns)
