@@ -6,4 +6,5 @@ pub mod LookLaws
 pub mod CheckLaws
 pub mod HitLaws
 pub mod OnceLaws
+pub mod PassLaws
 pub mod JudgeLaws

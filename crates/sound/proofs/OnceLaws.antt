@@ -104,22 +104,28 @@ module _ (t : Words) (leaf left : ℕ) where
   abbrev rest : List ℕ
   rest = recordings (view t) (along (view t) left leaf)
 
-  pub rest-none : leaf ≡ 0 → distinct rest ≡ true
-  unfolding recordings flat distinct
-  rest-none z = ap (λ (ns : List ℕ). distinct (recordings (view t) ns)) (ap (along (view t) left) z ∙ along-none (view t) left)
+  pub no-leaf : leaf ≡ 0 → rest ≡ []
+  unfolding recordings flat
+  no-leaf z = ap (recordings (view t)) (ap (along (view t) left) z ∙ along-none (view t) left)
 
-  pub rest-no-more : left ≡ 0 → distinct rest ≡ true
-  unfolding recordings flat distinct along
-  rest-no-more z = ap (λ (c : ℕ). distinct (recordings (view t) (along (view t) c leaf))) z
+  pub no-more : left ≡ 0 → rest ≡ []
+  unfolding recordings flat along
+  no-more z = ap (λ (c : ℕ). recordings (view t) (along (view t) c leaf)) z
+
+  pub rest-none : rest ≡ [] → distinct rest ≡ true
+  unfolding distinct
+  rest-none z = ap distinct z
 
   module _ (w : Ways) (next c : ℕ) (e : slotsIn w ≡ ways (view t) leaf) (q : next ≡ wordOf t leaf 1) (z : leaf ≡ 0 → ⊥) (more : left ≡ suc c) where
-    rest-split : distinct rest ≡ (onceBefore (pointersFrom w 1) (recordings (view t) (along (view t) c next)) && distinct (recordings (view t) (along (view t) c next)))
-    rest-split =
+    pub rest-parts : rest ≡ pointersFrom w 1 ++ recordings (view t) (along (view t) c next)
+    rest-parts =
         let sibling : view t .sibling leaf ≡ next = sym (q ∙ word-sibling t leaf) in
         let here : map recording (kept (view t) leaf) ≡ pointersFrom w 1 = sym (ways-numbers w 1 ∙ kept-numbers (view t) leaf w e) in
         let first : along (view t) left leaf ≡ leaf ∷ along (view t) c next = ap (λ (k : ℕ). along (view t) k leaf) more ∙ along-more (view t) c leaf z ∙ ap (λ (k : ℕ). leaf ∷ along (view t) c k) sibling in
-        ap distinct (ap (recordings (view t)) first ∙ recordings-cons (view t) leaf (along (view t) c next) ∙ ap (λ (xs : List ℕ). xs ++ recordings (view t) (along (view t) c next)) here)
-        ∙ distinct-append (pointersFrom w 1) (recordings (view t) (along (view t) c next))
+        ap (recordings (view t)) first ∙ recordings-cons (view t) leaf (along (view t) c next) ∙ ap (λ (xs : List ℕ). xs ++ recordings (view t) (along (view t) c next)) here
+
+    rest-split : distinct rest ≡ (onceBefore (pointersFrom w 1) (recordings (view t) (along (view t) c next)) && distinct (recordings (view t) (along (view t) c next)))
+    rest-split = ap distinct rest-parts ∙ distinct-append (pointersFrom w 1) (recordings (view t) (along (view t) c next))
 
     pub rest-twice : false ≡ onceBefore (pointersFrom w 1) (recordings (view t) (along (view t) c next)) → distinct rest ≡ false
     rest-twice h = rest-split ∙ ap (λ (b : Bool). b && distinct (recordings (view t) (along (view t) c next))) (sym h)
@@ -129,7 +135,7 @@ module _ (t : Words) (leaf left : ℕ) where
 
 -- the whole chain, with MARK before it
 module _ (t : Words) (first n : ℕ) (e : first ≡ firstLeaf (view t)) (q : n ≡ nodes t) where
-  whole-is : along (view t) n first ≡ chain (view t)
+  pub whole-is : along (view t) n first ≡ chain (view t)
   unfolding chain
   whole-is = ap (λ (c : ℕ). along (view t) c first) q ∙ ap (along (view t) (nodes t)) e
 
@@ -137,11 +143,12 @@ module _ (t : Words) (first n : ℕ) (e : first ≡ firstLeaf (view t)) (q : n �
   unfolding distinct
   whole-mark h = sym (ap (λ (b : Bool). not b && distinct (recordings (view t) (chain (view t)))) (sym (h ∙ ap (λ (ns : List ℕ). elem MARK (recordings (view t) ns)) whole-is)))
 
-  pub whole-rest : (b : Bool) (leaf left : ℕ) → false ≡ elem MARK (recordings (view t) (along (view t) n first)) → distinct (recordings (view t) (along (view t) left leaf)) ≡ distinct (recordings (view t) (along (view t) n first)) → distinct (recordings (view t) (along (view t) left leaf)) ≡ b → b ≡ distinct (MARK ∷ recordings (view t) (chain (view t)))
+  pub whole-else : (b : Bool) → false ≡ elem MARK (recordings (view t) (along (view t) n first)) → distinct (recordings (view t) (chain (view t))) ≡ b → b ≡ distinct (MARK ∷ recordings (view t) (chain (view t)))
   unfolding distinct
-  whole-rest b leaf left h i r =
-      sym (ap (λ (x : Bool). not x && distinct (recordings (view t) (chain (view t)))) (sym (h ∙ ap (λ (ns : List ℕ). elem MARK (recordings (view t) ns)) whole-is))
-      ∙ ap (λ (ns : List ℕ). distinct (recordings (view t) ns)) (sym whole-is) ∙ sym i ∙ r)
+  whole-else b h r = sym (ap (λ (x : Bool). not x && distinct (recordings (view t) (chain (view t)))) (sym (h ∙ ap (λ (ns : List ℕ). elem MARK (recordings (view t) ns)) whole-is)) ∙ r)
+
+  pub whole-rest : (b : Bool) (leaf left : ℕ) → false ≡ elem MARK (recordings (view t) (along (view t) n first)) → distinct (recordings (view t) (along (view t) left leaf)) ≡ distinct (recordings (view t) (along (view t) n first)) → distinct (recordings (view t) (along (view t) left leaf)) ≡ b → b ≡ distinct (MARK ∷ recordings (view t) (chain (view t)))
+  whole-rest b leaf left h i r = whole-else b h (ap (λ (ns : List ℕ). distinct (recordings (view t) ns)) (sym whole-is) ∙ sym i ∙ r)
 
 pub hit-chain : (t : Words) (first n r : ℕ) (h : Hit) → first ≡ firstLeaf (view t) → n ≡ nodes t → h ≡ hitAlong (view t) n first r → h ≡ hitIn (view t) r
 hit-chain t first n r h e q i = i ∙ ap (firstHit (view t) r) (whole-is t first n e q)

@@ -3,3 +3,4 @@ pub mod Scan
 pub mod Nodes
 pub mod Hits
 pub mod Checked
+pub mod Passes

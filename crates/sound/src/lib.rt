@@ -3,23 +3,32 @@ use model::Few;
 use model::Missing;
 use model::Node;
 use model::Unfinished;
+use numbers::Entry;
 use walk_laws::Tally;
 ghost use mathlib.Core.Path.{_≡_};
 ghost use mathlib.Core.Bool.{true, cond};
 ghost use mathlib.Core.List.{_∷_};
 ghost use Prim.Native.Nat.{_≤_, _<_};
+ghost use lib.ListN.{length};
 ghost use Rattle.model.specs.Table.{MARK, at, headerOk, hasNode};
 ghost use Rattle.model.specs.Slots.{view, clearIn};
-ghost use Rattle.model.specs.Reached.{headOr, nextChild};
+ghost use Rattle.model.specs.Reached.{filter, headOr, nextChild};
 ghost use Rattle.model.specs.SoundTest.{elem, distinct, siblingOk, addFew, addMissing, together, times, leftoverOf, leftoverFrom, room, hasRoom, sound};
 ghost use Rattle.walk_laws.specs.Walk.{stands, ways, check, walk};
 ghost use Rattle.walk_laws.specs.Chain.{along, firstLeaf, chain};
+ghost use Rattle.numbers.specs.Cells.{CELLS, outcome, enteredIf, enteredAll, Tells};
 ghost use Rattle.sound.specs.Scan.{keeps, reaches, stillFair, surveyedSlot, surveyed, begun, wayAdded, gathered, firstWay, usedIn, slotsIn, pointersFrom};
 ghost use Rattle.sound.specs.Nodes.{standing, leafFair, lookOf, noted, slotChecked};
 ghost use Rattle.sound.specs.Hits.{recordings, onceBefore, hitAlong, hitIn};
+ghost use Rattle.sound.specs.Passes.{inPass};
 ghost use Rattle.sound.specs.Checked.{meant, verdictOf, checked};
 
 const MARK: u64 = 18446744073709551615;
+
+// A pass over the recording numbers takes those whose rest by this prime lies in a range; narrower ranges than this are not tried.
+const RESIDUES: u64 = 65521;
+
+const NARROWEST: u64 = 64;
 
 // ---- the slots of one node
 
@@ -638,8 +647,9 @@ fn leaf_once(table: &[u64], w: Ways, next: u64, most: u64) -> bool
     true
 }
 
-// No recording number is in the map twice, and none is MARK.
-fn recordings_once(table: &[u64]) -> bool
+// No recording number is in the map twice, and none is MARK: each is compared with all after it. The last resort, for numbers chosen so
+// that they crowd the same cells.
+fn compared_once(table: &[u64]) -> bool
     ensures { λ r. ⌜ r ≡ distinct (MARK ∷ recordings (view (now (table .entry))) (chain (view (now (table .entry))))) ⌝ }
 {
     let mut leaf = first_leaf(table);
@@ -658,6 +668,111 @@ fn recordings_once(table: &[u64]) -> bool
             return false;
         }
         leaf = next;
+    }
+    true
+}
+
+// ---- the recording numbers, entered in passes
+
+// Whether a recording number is one of the pass from low on, below high.
+fn in_pass(number: u64, low: u64, high: u64) -> bool
+    ensures { λ r. ⌜ r ≡ inPass low high number ⌝ }
+{
+    let residue = number % RESIDUES;
+    if residue < low {
+        return false;
+    }
+    residue < high
+}
+
+// Enters a number, if it is one of the pass.
+fn enter_one(cells: &mut [u64], number: u64, low: u64, high: u64) -> Entry
+    requires { ⌜ length (now cells) ≡ CELLS ⌝ }
+    ensures { λ r. ⌜ outcome r (now (cells .exit)) ≡ enteredIf (inPass low high) (now (cells .entry)) number ⌝ }
+{
+    if !in_pass(number, low, high) {
+        return Entry::Entered;
+    }
+    numbers::enter(cells, number)
+}
+
+// Enters those of a leaf's recording numbers, its first way left aside, that are of the pass.
+fn enter_leaf(cells: &mut [u64], w: Ways, low: u64, high: u64) -> Entry
+    requires { ⌜ length (now cells) ≡ CELLS ⌝ }
+    requires { ⌜ w .count ≤ 13 ⌝ }
+    ensures { λ r. ⌜ outcome r (now (cells .exit)) ≡ enteredAll (inPass low high) (pointersFrom w 1) (now (cells .entry)) ⌝ }
+{
+    let count = w.count;
+    let pointers = w.pointers;
+    let mut i = 1;
+    while i < count {
+        let entry = enter_one(cells, pointers[i], low, high);
+        match entry {
+            Entry::Entered => {}
+            Entry::Known => return Entry::Known,
+            Entry::Full => return Entry::Full,
+        }
+        i += 1;
+    }
+    Entry::Entered
+}
+
+// Enters those of all leaves.
+fn enter_leaves(cells: &mut [u64], table: &[u64], low: u64, high: u64) -> Entry
+    requires { ⌜ length (now cells) ≡ CELLS ⌝ }
+    ensures { λ r. ⌜ outcome r (now (cells .exit)) ≡ enteredAll (inPass low high) (recordings (view (now (table .entry))) (chain (view (now (table .entry))))) (now (cells .entry)) ⌝ }
+{
+    let mut leaf = first_leaf(table);
+    let mut left = word_at(table, 2);
+    while leaf != 0 {
+        if left == 0 {
+            return Entry::Entered;
+        }
+        let w = ways_of(table, leaf);
+        let entry = enter_leaf(cells, w, low, high);
+        match entry {
+            Entry::Entered => {}
+            Entry::Known => return Entry::Known,
+            Entry::Full => return Entry::Full,
+        }
+        leaf = node::word(table, leaf, 1);
+        left -= 1;
+    }
+    Entry::Entered
+}
+
+// Whether a number of the pass is in the map twice, unless the cells get full.
+fn pass(table: &[u64], low: u64, high: u64) -> Entry
+    ensures { λ r. ⌜ Tells r (filter (inPass low high) (recordings (view (now (table .entry))) (chain (view (now (table .entry)))))) ⌝ }
+{
+    let mut cells = [0u64; 8319];
+    enter_leaves(&mut cells, table, low, high)
+}
+
+// No recording number is in the map twice, and none is MARK. The first pass takes all; where the cells get full, half its range is tried.
+fn recordings_once(table: &[u64]) -> bool
+    ensures { λ r. ⌜ r ≡ distinct (MARK ∷ recordings (view (now (table .entry))) (chain (view (now (table .entry))))) ⌝ }
+{
+    let first = first_leaf(table);
+    if appears(table, first, word_at(table, 2), MARK) {
+        return false;
+    }
+    let mut low = 0;
+    let mut width = 65536;
+    while low < RESIDUES {
+        let entry = pass(table, low, low + width);
+        match entry {
+            Entry::Entered => {
+                low += width;
+            }
+            Entry::Known => return false,
+            Entry::Full => {
+                if width <= NARROWEST {
+                    return compared_once(table);
+                }
+                width = width / 2;
+            }
+        }
     }
     true
 }

@@ -1,23 +1,25 @@
--- `sound::recordings_once` meets its contract. The loop keeps whether no number is twice in the leaves left to pass.
-use Prim.Native.Nat.{_-_}
-use mathlib.Core.Path.{_≡_, refl, sym, _∙_}
+-- `sound::recordings_once` meets its contract. The loop keeps that no number of the passes so far is twice.
+use Prim.Native.Nat.{_+_, _-_, _≤_, _<_}
+use mathlib.Core.Path.{_≡_, sym, _∙_}
 use mathlib.Core.Bool.{true, false}
 use native.Mathlib.Omega.{arith}
-use borrow.Author.Tests.{not-true, not-false}
 use Rattle.model.specs.Slots.{view}
+use Rattle.model.specs.Reached.{filter}
 use Rattle.model.specs.SoundTest.{distinct}
-use Rattle.walk_laws.specs.Chain.{along}
+use Rattle.walk_laws.specs.Chain.{chain}
 use Rattle.sound.specs.Hits.{recordings}
-use Rattle.sound.proofs.OnceLaws.{rest-none, rest-no-more, rest-twice, rest-next, whole-mark, whole-rest}
+use Rattle.sound.specs.Passes.{RESIDUES, inPass}
+use Rattle.sound.proofs.OnceLaws.{whole-mark, whole-else}
+use Rattle.sound.proofs.PassLaws.{pass-start, pass-more, pass-twice, pass-all}
 use borrow.Author.Needs.{needs}
 use Rattle.sound.proofs.recordings_once.Statement.{statement}
 use Rattle.sound.proofs.recordings_once.Tie as tie
 
 abbrev Inv-loop : tie.InvT-loop
-Inv-loop table leaf₀ left₀ leaf left = distinct (recordings (view table) (along (view table) left leaf)) ≡ distinct (recordings (view table) (along (view table) left₀ leaf₀))
+Inv-loop table first low₀ width₀ low width = (0 < width) × (width ≤ 65536) × (distinct (filter (inPass 0 low) (recordings (view table) (chain (view table)))) ≡ true)
 
 abbrev μ-loop : tie.MeasureT-loop
-μ-loop table leaf₀ left₀ leaf left = left
+μ-loop table first low₀ width₀ low width = (RESIDUES - low) + width
 
 first-leaf-requires : tie.Need-first-leaf-requires Inv-loop μ-loop
 first-leaf-requires c κs = search needs
@@ -32,34 +34,49 @@ returns : tie.Need-returns Inv-loop μ-loop
 returns c = whole-mark (c .before .before .before .before .before .args .table .now) _ _ (c .before .before .before .first-leaf .ensures) (c .before .before .word-at .ensures) (sym (c .if1 .taken) ∙ c .before .appears .ensures)
 
 loop-holds : tie.Need-loop-holds Inv-loop μ-loop
-loop-holds c = refl
+loop-holds c = (omega arith, omega arith, pass-start _)
 
-returns-2 : tie.Need-returns-2 Inv-loop μ-loop
-returns-2 c = let t = c .before .before .before .before .before .before .before .before .args .table .now in let l = c .before .before .loop in whole-rest t _ _ (c .before .before .before .before .before .before .first-leaf .ensures) (c .before .before .before .before .before .word-at .ensures) true (l .leaf) (l .left) (sym (c .before .before .before .if1 .left) ∙ c .before .before .before .before .appears .ensures) (l .inv) (rest-no-more t (l .leaf) (l .left) (c .if2 .taken))
+add-pass : tie.Need-add-pass Inv-loop μ-loop
+add-pass c = search needs
 
-ways-of-requires : tie.Need-ways-of-requires Inv-loop μ-loop
-ways-of-requires c κs = search needs
+pass-requires : tie.Need-pass-requires Inv-loop μ-loop
+pass-requires c κs = search needs
 
-word-requires : tie.Need-word-requires Inv-loop μ-loop
-word-requires c κs = search needs
+enum-told : tie.Need-enum-told Inv-loop μ-loop
+enum-told c = search needs
 
-sub-left : tie.Need-sub-left Inv-loop μ-loop
-sub-left c = search needs
-
-leaf-once-requires : tie.Need-leaf-once-requires Inv-loop μ-loop
-leaf-once-requires c κs = c .before .ways-of .ensures .1
-
-returns-3 : tie.Need-returns-3 Inv-loop μ-loop
-returns-3 c = let t = c .before .before .before .before .before .before .before .before .before .before .before .before .args .table .now in let l = c .before .before .before .before .before .before .loop in whole-rest t _ _ (c .before .before .before .before .before .before .before .before .before .before .first-leaf .ensures) (c .before .before .before .before .before .before .before .before .before .word-at .ensures) false (l .leaf) (l .left) (sym (c .before .before .before .before .before .before .before .if1 .left) ∙ c .before .before .before .before .before .before .before .before .appears .ensures) (l .inv) (rest-twice t (l .leaf) (l .left) _ _ (l .left - 1) (c .before .before .before .ways-of .ensures .0) (c .before .before .word .ensures) (c .before .before .before .before .before .loop-test .taken) (omega (arith, c .before .before .before .before .if2 .left)) (sym (not-true _ (c .if3 .taken)) ∙ c .before .leaf-once .ensures))
+add-low : tie.Need-add-low Inv-loop μ-loop
+add-low c = search needs
 
 loop-less : tie.Need-loop-less Inv-loop μ-loop
 loop-less c = search needs
 
 loop-again : tie.Need-loop-again Inv-loop μ-loop
-loop-again c = let l = c .before .before .before .before .before .before .loop in rest-next (c .before .before .before .before .before .before .before .before .before .before .before .before .args .table .now) (l .leaf) (l .left) _ _ (l .left - 1) (c .before .before .before .ways-of .ensures .0) (c .before .before .word .ensures) (c .before .before .before .before .before .loop-test .taken) (omega (arith, c .before .before .before .before .if2 .left)) (sym (not-false _ (c .if3 .left)) ∙ c .before .leaf-once .ensures) ∙ l .inv
+loop-again c = let l = c .before .before .before .before .loop in (l .inv .0, l .inv .1, pass-more _ (l .low) (l .low + l .width) _ (c .before .before .pass .ensures) (l .inv .2) (c .enum-told .given .1))
+
+enum-told-2 : tie.Need-enum-told-2 Inv-loop μ-loop
+enum-told-2 c = search needs
+
+returns-2 : tie.Need-returns-2 Inv-loop μ-loop
+returns-2 c = let l = c .before .before .before .before .loop in whole-else (c .before .before .before .before .before .before .before .before .before .before .args .table .now) _ _ (c .before .before .before .before .before .before .before .before .first-leaf .ensures) (c .before .before .before .before .before .before .before .word-at .ensures) false (sym (c .before .before .before .before .before .if1 .left) ∙ c .before .before .before .before .before .before .appears .ensures) (pass-twice _ (l .low) (l .low + l .width) _ (c .before .before .pass .ensures) (c .enum-told2 .given .1))
+
+enum-told-3 : tie.Need-enum-told-3 Inv-loop μ-loop
+enum-told-3 c = search needs
+
+compared-once-requires : tie.Need-compared-once-requires Inv-loop μ-loop
+compared-once-requires c κs = search needs
+
+returns-3 : tie.Need-returns-3 Inv-loop μ-loop
+returns-3 c = c .compared-once .ensures
+
+loop-less-2 : tie.Need-loop-less-2 Inv-loop μ-loop
+loop-less-2 c = search needs
+
+loop-again-2 : tie.Need-loop-again-2 Inv-loop μ-loop
+loop-again-2 c = let l = c .before .before .before .before .before .loop in (omega arith, omega arith, l .inv .2)
 
 returns-4 : tie.Need-returns-4 Inv-loop μ-loop
-returns-4 c = let t = c .before .before .before .before .before .before .before .args .table .now in let l = c .before .loop in whole-rest t _ _ (c .before .before .before .before .before .first-leaf .ensures) (c .before .before .before .before .word-at .ensures) true (l .leaf) (l .left) (sym (c .before .before .if1 .left) ∙ c .before .before .before .appears .ensures) (l .inv) (rest-none t (l .leaf) (l .left) (c .loop-test .left))
+returns-4 c = let l = c .before .loop in whole-else (c .before .before .before .before .before .before .before .args .table .now) _ _ (c .before .before .before .before .before .first-leaf .ensures) (c .before .before .before .before .word-at .ensures) true (sym (c .before .before .if1 .left) ∙ c .before .before .before .appears .ensures) (pass-all _ (l .low) (c .loop-test .left) (l .inv .2))
 
 pub recordings-once-spec : {M : Type 1} → statement M
 recordings-once-spec =
@@ -72,12 +89,17 @@ recordings-once-spec =
     appears-requires
     returns
     loop-holds
-    returns-2
-    ways-of-requires
-    word-requires
-    sub-left
-    leaf-once-requires
-    returns-3
+    add-pass
+    pass-requires
+    enum-told
+    add-low
     loop-less
     loop-again
+    enum-told-2
+    returns-2
+    enum-told-3
+    compared-once-requires
+    returns-3
+    loop-less-2
+    loop-again-2
     returns-4)

@@ -1,0 +1,87 @@
+-- `numbers::enter` meets its contract. The loop keeps what the tries that are left come to.
+use Prim.Native.Nat.{_-_, _≤_}
+use mathlib.Core.Path.{_≡_, sym, _∙_}
+use native.Mathlib.Omega.{arith}
+use lib.ListN.{length, length-set}
+use Rattle.numbers.specs.Cells.{CELLS, tried, entered}
+use Rattle.numbers.proofs.Trying.{no-number, some-number, tried-known, tried-free, tried-more, tried-end}
+use borrow.Author.Needs.{needs}
+use Rattle.numbers.proofs.enter.Statement.{statement}
+use Rattle.numbers.proofs.enter.Tie as tie
+
+abbrev Inv-loop : tie.InvT-loop
+Inv-loop cells₀ number at₀ end cells at = (length cells ≡ CELLS) × (end ≤ CELLS) × (tried cells number at (end - at) ≡ entered cells₀ number)
+
+abbrev μ-loop : tie.MeasureT-loop
+μ-loop cells₀ number at₀ end cells at = end - at
+
+returns : tie.Need-returns Inv-loop μ-loop
+returns c = no-number _ _ (c .if1 .taken)
+
+add-end : tie.Need-add-end Inv-loop μ-loop
+add-end c = search needs
+
+loop-holds : tie.Need-loop-holds Inv-loop μ-loop
+loop-holds c = (c .before .pre, omega arith, some-number _ _ (c .if1 .left))
+
+mul-held : tie.Need-mul-held Inv-loop μ-loop
+mul-held c = search needs
+
+slice-read-held : tie.Need-slice-read-held Inv-loop μ-loop
+slice-read-held c = search needs
+
+same-length : tie.Need-same-length Inv-loop μ-loop
+same-length c = search needs
+
+returns-2 : tie.Need-returns-2 Inv-loop μ-loop
+returns-2 c = tried-known _ _ _ _ (c .before .before .loop-test .taken) (c .if2 .taken) ∙ c .before .before .before .loop .inv .2
+
+mul-cells : tie.Need-mul-cells Inv-loop μ-loop
+mul-cells c = search needs
+
+slice-write-cells : tie.Need-slice-write-cells Inv-loop μ-loop
+slice-write-cells c = search needs
+
+same-length-2 : tie.Need-same-length-2 Inv-loop μ-loop
+same-length-2 c = simp length-set (c .before .before .before .before .loop .inv .0 ∙ sym (c .before .before .before .before .before .before .pre))
+
+returns-3 : tie.Need-returns-3 Inv-loop μ-loop
+returns-3 c = tried-free _ _ _ _ (c .before .before .before .loop-test .taken) (c .before .if2 .left) (c .if3 .taken) ∙ c .before .before .before .before .loop .inv .2
+
+add-at : tie.Need-add-at Inv-loop μ-loop
+add-at c = search needs
+
+loop-less : tie.Need-loop-less Inv-loop μ-loop
+loop-less c = search needs
+
+loop-again : tie.Need-loop-again Inv-loop μ-loop
+loop-again c = let l = c .before .before .before .before .loop in (l .inv .0, l .inv .1, tried-more _ _ _ _ (c .before .before .before .loop-test .taken) (c .before .if2 .left) (c .if3 .left) ∙ l .inv .2)
+
+same-length-3 : tie.Need-same-length-3 Inv-loop μ-loop
+same-length-3 c = search needs
+
+returns-4 : tie.Need-returns-4 Inv-loop μ-loop
+returns-4 c = tried-end _ _ _ _ (c .loop-test .left) ∙ c .before .loop .inv .2
+
+pub enter-spec : {M : Type 1} → statement M
+enter-spec =
+    tie.close
+    (tie.spec
+    Inv-loop
+    μ-loop
+    returns
+    add-end
+    loop-holds
+    mul-held
+    slice-read-held
+    same-length
+    returns-2
+    mul-cells
+    slice-write-cells
+    same-length-2
+    returns-3
+    add-at
+    loop-less
+    loop-again
+    same-length-3
+    returns-4)

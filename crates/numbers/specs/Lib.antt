@@ -1,0 +1,2 @@
+-- What entering a number comes to.
+pub mod Cells
