@@ -17,7 +17,7 @@ use Rattle.list_laws.proofs.Filters.{filter-yes, filter-no}
 use Rattle.list_laws.proofs.Distinct.{distinct-cons, distinct-middle}
 use Rattle.numbers.specs.declared.Entry.{Entry}
 use Rattle.numbers.specs.declared.Entry.the-variants.{Entered, Known, Full}
-use Rattle.numbers.specs.Cells.{PLACES, TRIES, CELLS, Outcome, outcome, tried, entered, followed, enteredIf, enteredAll, Tells}
+use Rattle.numbers.specs.Cells.{PLACES, TRIES, CELLS, mixed, Outcome, outcome, tried, entered, followed, enteredIf, enteredAll, Tells}
 use Rattle.numbers.proofs.Held.{Told, told, Related, related-none, related-more, known-number}
 
 -- ---- a list in two parts
@@ -65,7 +65,7 @@ module _ (next : Words → Outcome) (whole o : Outcome) (e : Entry) (after : Wor
 -- ---- what the answer tells
 
 abbrev Rel : Words → List ℕ → Type 0
-Rel = Related (λ (r : ℕ). r % PLACES) TRIES CELLS
+Rel = Related (λ (r : ℕ). mixed r % PLACES) TRIES CELLS
 
 -- a number comes first or after others
 moved : (y : ℕ) (xs zs : List ℕ) → distinct (y ∷ (xs ++ zs)) ≡ distinct (xs ++ y ∷ zs)
@@ -81,9 +81,9 @@ tells-same Full us vs q h = tt
 
 -- one number more
 module _ (y : ℕ) (xs zs : List ℕ) (cs : Words) (g : Rel cs xs) (next : Words → Outcome) (ih : (after : Words) → Rel after (y ∷ xs) → Tells (next after .answer) (y ∷ (xs ++ zs))) where
-  tells-told : y ≢ 0 → (e : Entry) (after : Words) → Told cs y (y % PLACES) TRIES e after → Tells (followed (outcome e after) next .answer) (xs ++ y ∷ zs)
-  tells-told d Entered after s = tells-same (next after .answer) (y ∷ (xs ++ zs)) (xs ++ y ∷ zs) (moved y xs zs) (ih after (related-more (λ (r : ℕ). r % PLACES) TRIES CELLS cs xs g y d (omega arith) after s))
-  tells-told d Known after s = twice y xs zs (known-number (λ (r : ℕ). r % PLACES) TRIES CELLS cs xs g y d (omega arith) (s .0) (s .1))
+  tells-told : y ≢ 0 → (e : Entry) (after : Words) → Told cs y (mixed y % PLACES) TRIES e after → Tells (followed (outcome e after) next .answer) (xs ++ y ∷ zs)
+  tells-told d Entered after s = tells-same (next after .answer) (y ∷ (xs ++ zs)) (xs ++ y ∷ zs) (moved y xs zs) (ih after (related-more (λ (r : ℕ). mixed r % PLACES) TRIES CELLS cs xs g y d (omega arith) after s))
+  tells-told d Known after s = twice y xs zs (known-number (λ (r : ℕ). mixed r % PLACES) TRIES CELLS cs xs g y d (omega arith) (s .0) (s .1))
   tells-told d Full after s = tt
 
   tells-entered : Tells (followed (entered cs y) next .answer) (xs ++ y ∷ zs)
@@ -92,7 +92,7 @@ module _ (y : ℕ) (xs zs : List ℕ) (cs : Words) (g : Rel cs xs) (next : Words
     where
       go : (b : Bool) → eqb y 0 ≡ b → Tells (followed (entered cs y) next .answer) (xs ++ y ∷ zs)
       go true e = rw (e, entered) tt
-      go false e = rw (e, entered) (tells-told (eqb-false y 0 e) (tried cs y (y % PLACES) TRIES .answer) (tried cs y (y % PLACES) TRIES .cells) (told cs y (y % PLACES) TRIES))
+      go false e = rw (e, entered) (tells-told (eqb-false y 0 e) (tried cs y (mixed y % PLACES) TRIES .answer) (tried cs y (mixed y % PLACES) TRIES .cells) (told cs y (mixed y % PLACES) TRIES))
 
 tells-rest : (p : ℕ → Bool) (ys xs : List ℕ) (cs : Words) → Rel cs xs → Tells (enteredAll p ys cs .answer) (xs ++ filter p ys)
 unfolding enteredAll filter
@@ -105,4 +105,4 @@ tells-rest p (y ∷ ys) xs cs g = go (p y) refl (λ zs after h. tells-rest p ys 
 
 pub all-tells : (p : ℕ → Bool) (ys : List ℕ) (e : Entry) (after : Words) → outcome e after ≡ enteredAll p ys (replicate CELLS 0) → Tells e (filter p ys)
 all-tells p ys e after q =
-    subst (λ (x : Entry). Tells x (filter p ys)) (sym (ap (λ (o : Outcome). o .answer) q)) (tells-rest p ys [] (replicate CELLS 0) (related-none (λ (r : ℕ). r % PLACES) TRIES CELLS))
+    subst (λ (x : Entry). Tells x (filter p ys)) (sym (ap (λ (o : Outcome). o .answer) q)) (tells-rest p ys [] (replicate CELLS 0) (related-none (λ (r : ℕ). mixed r % PLACES) TRIES CELLS))

@@ -7,15 +7,21 @@ use lib.ListN.{getD, set}
 use borrow.Author.Tests.{eq-eqb, ne-eqb}
 use Rattle.model.specs.Table.{Words}
 use Rattle.numbers.specs.declared.Entry.the-variants.{Entered, Known, Full}
-use Rattle.numbers.specs.Cells.{PLACES, TRIES, outcome, tried, entered}
+use Rattle.numbers.specs.Cells.{PLACES, SPREAD, TRIES, mixed, outcome, tried, entered}
+
+pub mixed-below : (r : ℕ) → mixed r < SPREAD
+unfolding mixed
+mixed-below r = omega arith
 
 pub no-number : (cs : Words) (r : ℕ) → r ≡ 0 → outcome Full cs ≡ entered cs r
 unfolding entered
 no-number cs r z = rw (eq-eqb r 0 z, entered)
 
-pub some-number : (cs : Words) (r : ℕ) → (r ≡ 0 → ⊥) → tried cs r (r % PLACES) (r % PLACES + TRIES - r % PLACES) ≡ entered cs r
+pub some-number : (cs : Words) (r m : ℕ) → m ≡ mixed r → (r ≡ 0 → ⊥) → tried cs r (m % PLACES) (m % PLACES + TRIES - m % PLACES) ≡ entered cs r
 unfolding entered
-some-number cs r z = let e : r % PLACES + TRIES - r % PLACES ≡ TRIES = omega arith in ap (tried cs r (r % PLACES)) e ∙ rw (ne-eqb r 0 z, entered)
+some-number cs r m q z =
+    let e : m % PLACES + TRIES - m % PLACES ≡ TRIES = omega arith in
+    ap (tried cs r (m % PLACES)) e ∙ rw (q, ne-eqb r 0 z, entered)
 
 module _ (cs : Words) (r i end : ℕ) where
   tried-next : i < end → tried cs r i (end - i) ≡ tried cs r i (suc (end - (i + 1)))

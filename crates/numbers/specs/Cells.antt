@@ -2,7 +2,7 @@
 use mathlib.Core.Path.{_≡_}
 use mathlib.Core.Bool.{Bool, true, false}
 use mathlib.Core.List.{List, [], _∷_}
-use Prim.Native.Nat.{ℕ, zero, suc, _+_, _%_}
+use Prim.Native.Nat.{ℕ, zero, suc, _+_, _*_, _%_}
 use lib.Dec.{eqb}
 use lib.ListN.{getD, set}
 use Rattle.model.specs.Table.{Words}
@@ -10,8 +10,15 @@ use Rattle.model.specs.SoundTest.{distinct}
 use Rattle.numbers.specs.declared.Entry.{Entry}
 use Rattle.numbers.specs.declared.Entry.the-variants.{Entered, Known, Full}
 
+abbrev pub SPREAD : ℕ
+SPREAD = 4294967291
+
+-- a number scattered over 0 to SPREAD - 1: numbers that follow each other, or in equal steps, fall apart
+unfoldable pub mixed : ℕ → ℕ
+mixed r = (r % 2147483647) * 2246822519 % SPREAD
+
 abbrev pub PLACES : ℕ
-PLACES = 8191
+PLACES = 32749
 
 abbrev pub TRIES : ℕ
 TRIES = 128
@@ -37,7 +44,7 @@ tried cs r i (suc m) =
 
 -- 0, which marks a free cell, is not entered
 unfoldable pub entered : Words → ℕ → Outcome
-entered cs r = elim (eqb r 0) [ true ↦ outcome Full cs | false ↦ tried cs r (r % PLACES) TRIES ]
+entered cs r = elim (eqb r 0) [ true ↦ outcome Full cs | false ↦ tried cs r (mixed r % PLACES) TRIES ]
 
 -- after a number that was entered the next one; a number that is known, or finds no cell, is the last
 abbrev pub followed : Outcome → (Words → Outcome) → Outcome

@@ -1,10 +1,14 @@
 // A set of numbers in a slice of cells, by open addressing: 0 is a free cell.
 ghost use mathlib.Core.Path.{_≡_};
 ghost use lib.ListN.{length};
-ghost use Rattle.numbers.specs.Cells.{CELLS, outcome, entered};
+ghost use Rattle.numbers.specs.Cells.{CELLS, mixed, outcome, entered};
 
-// A number's first place is its rest by this prime; so many cells from there on are tried, so that no path goes round.
-const PLACES: u64 = 8191;
+// Numbers are scattered below this prime.
+const SPREAD: u64 = 4294967291;
+
+// A number's first place is the rest of the scattered number by this prime; so many cells from there on are tried, so that no path goes
+// round.
+const PLACES: u64 = 32749;
 
 const TRIES: usize = 128;
 
@@ -15,6 +19,13 @@ pub enum Entry {
     Full,
 }
 
+// A number scattered: numbers that follow each other, or in equal steps, as recording numbers do, then crowd no cells.
+pub fn mixed(number: u64) -> u64
+    ensures { λ r. ⌜ r ≡ mixed number ⌝ }
+{
+    (number % 2147483647) * 2246822519 % SPREAD
+}
+
 // Enters a number in the first free cell of its path, unless it is met before that.
 pub fn enter(cells: &mut [u64], number: u64) -> Entry
     requires { ⌜ length (now cells) ≡ CELLS ⌝ }
@@ -23,7 +34,7 @@ pub fn enter(cells: &mut [u64], number: u64) -> Entry
     if number == 0 {
         return Entry::Full;
     }
-    let mut at = (number % PLACES) as usize;
+    let mut at = (mixed(number) % PLACES) as usize;
     let end = at + TRIES;
     while at < end {
         let held = cells[at];

@@ -3,7 +3,7 @@ use mathlib.Core.Path.{_≡_, refl, ap, sym, subst, _∙_}
 use mathlib.Core.Bool.{Bool, true, false, false≢true}
 use mathlib.Core.Logic.{_↔_, _⊎_, inl, inr, ⊎-elim}
 use mathlib.Core.List.{List, [], _∷_}
-use Prim.Native.Nat.{ℕ, _+_, _-_, _≤_, _<_, _%_}
+use Prim.Native.Nat.{ℕ, _+_, _-_, _≤_, _<_}
 use native.Mathlib.Omega.{arith}
 use lib.Dec.{leb, ltb}
 use lib.ListN.{getD}
@@ -21,24 +21,25 @@ use Rattle.list_laws.proofs.Distinct.{distinct-cons}
 use Rattle.node.specs.Word.{wordOf}
 use Rattle.walk_laws.specs.Walk.{ways}
 use Rattle.walk_laws.specs.Chain.{along, firstLeaf, chain}
-use Rattle.numbers.specs.Cells.{Outcome, outcome, followed, enteredIf, enteredAll, Tells}
+use Rattle.numbers.specs.Cells.{SPREAD, mixed, Outcome, outcome, followed, enteredIf, enteredAll, Tells}
+use Rattle.numbers.proofs.Trying.{mixed-below}
 use Rattle.numbers.proofs.Once.{all-append, Last, goes-on, ends}
 use Rattle.sound.specs.declared.Ways.{Ways}
 use Rattle.sound.specs.Scan.{slotsIn, pointersFrom}
 use Rattle.sound.specs.Hits.{recordings, numbersFrom}
 use Rattle.sound.proofs.HitLaws.{numbers-end, numbers-next, ways-numbers}
 use Rattle.sound.proofs.OnceLaws.{rest-parts, whole-is}
-use Rattle.sound.specs.Passes.{RESIDUES, inPass}
+use Rattle.sound.specs.Passes.{inPass}
 
 -- ---- one number
 
-pub pass-below : (low high r : ℕ) → r % RESIDUES < low → false ≡ inPass low high r
+pub pass-below : (low high r m : ℕ) → m ≡ mixed r → m < low → false ≡ inPass low high r
 unfolding inPass
-pass-below low high r h = sym (rw (lt-leb low (r % RESIDUES) h))
+pass-below low high r m q h = sym (rw (← q, lt-leb low m h))
 
-pub pass-from : (low high r : ℕ) → low ≤ r % RESIDUES → ltb (r % RESIDUES) high ≡ inPass low high r
+pub pass-from : (low high r m : ℕ) → m ≡ mixed r → low ≤ m → ltb m high ≡ inPass low high r
 unfolding inPass
-pass-from low high r h = sym (rw (le-leb low (r % RESIDUES) h))
+pass-from low high r m q h = sym (rw (← q, le-leb low m h))
 
 -- ---- the leaves, number by number
 
@@ -119,11 +120,11 @@ once-joined p q s c (x ∷ xs) a b =
     let v = once-cons q x xs .0 b in
     once-cons s x xs .1 ((λ e. ⊎-elim (u .0) (v .0) (c x e)), once-joined p q s c xs (u .1) (v .1))
 
-in-pass : (low high r : ℕ) → (inPass low high r ≡ true) ↔ ((low ≤ r % RESIDUES) × (r % RESIDUES < high))
+in-pass : (low high r : ℕ) → (inPass low high r ≡ true) ↔ ((low ≤ mixed r) × (mixed r < high))
 unfolding inPass
 in-pass low high r = (
-  (λ h. let u = and-iff (leb low (r % RESIDUES)) (ltb (r % RESIDUES) high) .0 h in (leb-true _ _ (u .0), ltb-true _ _ (u .1))),
-  λ h. and-iff (leb low (r % RESIDUES)) (ltb (r % RESIDUES) high) .1 (le-leb _ _ (h .0), lt-ltb _ _ (h .1)),
+  (λ h. let u = and-iff (leb low (mixed r)) (ltb (mixed r) high) .0 h in (leb-true _ _ (u .0), ltb-true _ _ (u .1))),
+  λ h. and-iff (leb low (mixed r)) (ltb (mixed r) high) .1 (le-leb _ _ (h .0), lt-ltb _ _ (h .1)),
 )
 
 module _ (xs : List ℕ) where
@@ -136,14 +137,14 @@ module _ (xs : List ℕ) where
     pass-more a q = once-joined (inPass 0 low) (inPass low high) (inPass 0 high) part xs a (subst (λ (x : Entry). Tells x (filter (inPass low high) xs)) q h)
       where
         part : (x : ℕ) → inPass 0 high x ≡ true → (inPass 0 low x ≡ true) ⊎ (inPass low high x ≡ true)
-        part x t = go (ltb (x % RESIDUES) low) refl
+        part x t = go (ltb (mixed x) low) refl
           where
-            go : (b : Bool) → ltb (x % RESIDUES) low ≡ b → (inPass 0 low x ≡ true) ⊎ (inPass low high x ≡ true)
-            go true l = inl (in-pass 0 low x .1 (omega arith, ltb-true (x % RESIDUES) low l))
-            go false l = inr (in-pass low high x .1 (ltb-false (x % RESIDUES) low l, in-pass 0 high x .0 t .1))
+            go : (b : Bool) → ltb (mixed x) low ≡ b → (inPass 0 low x ≡ true) ⊎ (inPass low high x ≡ true)
+            go true l = inl (in-pass 0 low x .1 (omega arith, ltb-true (mixed x) low l))
+            go false l = inr (in-pass low high x .1 (ltb-false (mixed x) low l, in-pass 0 high x .0 t .1))
 
     pub pass-twice : e ≡ Known → distinct xs ≡ false
     pass-twice q = twice-part (inPass low high) xs (subst (λ (x : Entry). Tells x (filter (inPass low high) xs)) q h)
 
-  pub pass-all : (low : ℕ) → RESIDUES ≤ low → distinct (filter (inPass 0 low) xs) ≡ true → distinct xs ≡ true
-  pass-all low l h = sym (ap distinct (filter-all (inPass 0 low) xs (mem-each (λ (x : ℕ). inPass 0 low x ≡ true) xs (λ x m. in-pass 0 low x .1 (omega arith, omega (arith, l)))))) ∙ h
+  pub pass-all : (low : ℕ) → SPREAD ≤ low → distinct (filter (inPass 0 low) xs) ≡ true → distinct xs ≡ true
+  pass-all low l h = sym (ap distinct (filter-all (inPass 0 low) xs (mem-each (λ (x : ℕ). inPass 0 low x ≡ true) xs (λ x m. in-pass 0 low x .1 (omega arith, omega (arith, l, mixed-below x)))))) ∙ h

@@ -1,10 +1,8 @@
 -- The recording numbers of one pass.
 use mathlib.Core.Bool.{Bool, _&&_}
-use Prim.Native.Nat.{ℕ, _%_}
+use Prim.Native.Nat.{ℕ}
 use lib.Dec.{leb, ltb}
-
-abbrev pub RESIDUES : ℕ
-RESIDUES = 65521
+use Rattle.numbers.specs.Cells.{mixed}
 
 unfoldable pub inPass : ℕ → ℕ → ℕ → Bool
-inPass low high r = leb low (r % RESIDUES) && ltb (r % RESIDUES) high
+inPass low high r = leb low (mixed r) && ltb (mixed r) high

@@ -25,10 +25,10 @@ ghost use Rattle.sound.specs.Checked.{meant, verdictOf, checked};
 
 const MARK: u64 = 18446744073709551615;
 
-// A pass over the recording numbers takes those whose rest by this prime lies in a range; narrower ranges than this are not tried.
-const RESIDUES: u64 = 65521;
+// A pass over the recording numbers takes those that are scattered into a range below this prime; ranges narrower than this are not tried.
+const SPREAD: u64 = 4294967291;
 
-const NARROWEST: u64 = 64;
+const NARROWEST: u64 = 4194304;
 
 // ---- the slots of one node
 
@@ -678,11 +678,11 @@ fn compared_once(table: &[u64]) -> bool
 fn in_pass(number: u64, low: u64, high: u64) -> bool
     ensures { λ r. ⌜ r ≡ inPass low high number ⌝ }
 {
-    let residue = number % RESIDUES;
-    if residue < low {
+    let place = numbers::mixed(number);
+    if place < low {
         return false;
     }
-    residue < high
+    place < high
 }
 
 // Enters a number, if it is one of the pass.
@@ -745,7 +745,7 @@ fn enter_leaves(cells: &mut [u64], table: &[u64], low: u64, high: u64) -> Entry
 fn pass(table: &[u64], low: u64, high: u64) -> Entry
     ensures { λ r. ⌜ Tells r (filter (inPass low high) (recordings (view (now (table .entry))) (chain (view (now (table .entry)))))) ⌝ }
 {
-    let mut cells = [0u64; 8319];
+    let mut cells = [0u64; 32877];
     enter_leaves(&mut cells, table, low, high)
 }
 
@@ -758,8 +758,8 @@ fn recordings_once(table: &[u64]) -> bool
         return false;
     }
     let mut low = 0;
-    let mut width = 65536;
-    while low < RESIDUES {
+    let mut width = 4294967296;
+    while low < SPREAD {
         let entry = pass(table, low, low + width);
         match entry {
             Entry::Entered => {

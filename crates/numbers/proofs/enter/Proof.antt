@@ -18,11 +18,14 @@ abbrev μ-loop : tie.MeasureT-loop
 returns : tie.Need-returns Inv-loop μ-loop
 returns c = no-number _ _ (c .if1 .taken)
 
+mixed-requires : tie.Need-mixed-requires Inv-loop μ-loop
+mixed-requires c κs = search needs
+
 add-end : tie.Need-add-end Inv-loop μ-loop
 add-end c = search needs
 
 loop-holds : tie.Need-loop-holds Inv-loop μ-loop
-loop-holds c = (c .before .pre, omega arith, some-number _ _ (c .if1 .left))
+loop-holds c = (c .before .before .before .pre, omega arith, some-number _ _ _ (c .mixed .ensures) (c .before .if1 .left))
 
 mul-held : tie.Need-mul-held Inv-loop μ-loop
 mul-held c = search needs
@@ -43,7 +46,7 @@ slice-write-cells : tie.Need-slice-write-cells Inv-loop μ-loop
 slice-write-cells c = search needs
 
 same-length-2 : tie.Need-same-length-2 Inv-loop μ-loop
-same-length-2 c = simp length-set (c .before .before .before .before .loop .inv .0 ∙ sym (c .before .before .before .before .before .before .pre))
+same-length-2 c = simp length-set (c .before .before .before .before .loop .inv .0 ∙ sym (c .before .before .before .before .before .before .before .before .pre))
 
 returns-3 : tie.Need-returns-3 Inv-loop μ-loop
 returns-3 c = tried-free _ _ _ _ (c .before .before .before .loop-test .taken) (c .before .if2 .left) (c .if3 .taken) ∙ c .before .before .before .before .loop .inv .2
@@ -70,6 +73,7 @@ enter-spec =
     Inv-loop
     μ-loop
     returns
+    mixed-requires
     add-end
     loop-holds
     mul-held

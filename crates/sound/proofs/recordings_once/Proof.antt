@@ -8,7 +8,8 @@ use Rattle.model.specs.Reached.{filter}
 use Rattle.model.specs.SoundTest.{distinct}
 use Rattle.walk_laws.specs.Chain.{chain}
 use Rattle.sound.specs.Hits.{recordings}
-use Rattle.sound.specs.Passes.{RESIDUES, inPass}
+use Rattle.numbers.specs.Cells.{SPREAD}
+use Rattle.sound.specs.Passes.{inPass}
 use Rattle.sound.proofs.OnceLaws.{whole-mark, whole-else}
 use Rattle.sound.proofs.PassLaws.{pass-start, pass-more, pass-twice, pass-all}
 use borrow.Author.Needs.{needs}
@@ -16,10 +17,10 @@ use Rattle.sound.proofs.recordings_once.Statement.{statement}
 use Rattle.sound.proofs.recordings_once.Tie as tie
 
 abbrev Inv-loop : tie.InvT-loop
-Inv-loop table first low₀ width₀ low width = (0 < width) × (width ≤ 65536) × (distinct (filter (inPass 0 low) (recordings (view table) (chain (view table)))) ≡ true)
+Inv-loop table first low₀ width₀ low width = (0 < width) × (width ≤ 4294967296) × (distinct (filter (inPass 0 low) (recordings (view table) (chain (view table)))) ≡ true)
 
 abbrev μ-loop : tie.MeasureT-loop
-μ-loop table first low₀ width₀ low width = (RESIDUES - low) + width
+μ-loop table first low₀ width₀ low width = (SPREAD - low) + width
 
 first-leaf-requires : tie.Need-first-leaf-requires Inv-loop μ-loop
 first-leaf-requires c κs = search needs
