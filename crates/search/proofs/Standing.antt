@@ -92,15 +92,25 @@ stand-somewhere v l n k m e z = go (passes v l n) refl
     go true p = (p, sym (stand-pass v l n k true p) ∙ sym e)
     go false p = absurd (z (e ∙ stand-pass v l n k false p))
 
+leaf-passed : (v : View) (n k : ℕ) → passes v 0 n ≡ true → locate v 0 n k ≡ some (moved v n k)
+unfolding locate
+leaf-passed v n k p = rw (p, locate)
+
+leaf-failed : (v : View) (n k : ℕ) → passes v 0 n ≡ false → locate v 0 n k ≡ none
+unfolding locate
+leaf-failed v n k p = rw (p, locate)
+
 pub refused-here : (v : View) (l n k m : ℕ) → m ≡ standOn v l n k → m ≡ 0 → 0 ≡ leafOr 0 (locate v l n k)
 unfolding locate
 refused-here v zero n k m e z = rw (stand-nowhere v zero n k (sym e ∙ z), locate)
 refused-here v (suc l) n k m e z = rw (stand-nowhere v (suc l) n k (sym e ∙ z), locate)
 
-pub leaf-here : (v : View) (l n k m : ℕ) → m ≡ standOn v l n k → (m ≡ 0 → ⊥) → l ≡ 0 → m ≡ leafOr 0 (locate v l n k)
-unfolding locate
-leaf-here v zero n k m e z q = let h = stand-somewhere v zero n k m e z in rw (h .0, h .1, locate)
-leaf-here v (suc l) n k m e z q = absurd (omega arith)
+pub leaf-here : (v : View) (l n k m : ℕ) → l ≡ 0 → m ≡ standOn v 0 n k → m ≡ leafOr 0 (locate v l n k)
+leaf-here v l n k m o e = rw o (go (passes v 0 n) refl)
+  where
+    go : (b : Bool) → passes v 0 n ≡ b → m ≡ leafOr 0 (locate v 0 n k)
+    go true p = e ∙ stand-pass v 0 n k true p ∙ ap (leafOr 0) (sym (leaf-passed v n k p))
+    go false p = e ∙ stand-pass v 0 n k false p ∙ ap (leafOr 0) (sym (leaf-failed v n k p))
 
 pub inner-here : (v : View) (l n k m c r : ℕ) → m ≡ standOn v l n k → (m ≡ 0 → ⊥) → (l ≡ 0 → ⊥) → c ≡ down v m k → r ≡ leafOr 0 (locate v (l - 1) c k) → r ≡ leafOr 0 (locate v l n k)
 unfolding locate
@@ -114,12 +124,15 @@ some-leaf : (o : Option ℕ) (m : ℕ) → m ≡ leafOr 0 o → (m ≡ 0 → ⊥
 some-leaf none m e z = absurd (z e)
 some-leaf (some n) m e z = ap some (sym e)
 
+-- the same where the way down was looked up from n before
+pub inner-same : (v : View) (l n k m c r : ℕ) → m ≡ standOn v l n k → (m ≡ 0 → ⊥) → (l ≡ 0 → ⊥) → m ≡ n → c ≡ down v n k → r ≡ leafOr 0 (locate v (l - 1) c k) → r ≡ leafOr 0 (locate v l n k)
+inner-same v l n k m c r e z q s d g = inner-here v l n k m c r e z q (d ∙ ap (λ (x : ℕ). down v x k) (sym s)) g
+
 -- no leaf is number 0
 locate-leaf : (v : View) (n k : ℕ) (b : Bool) → passes v 0 n ≡ b → leafOr 0 (locate v 0 n k) ≡ 0 → locate v 0 n k ≡ none
-unfolding locate
-locate-leaf v n k false p e = rw (p, locate)
+locate-leaf v n k false p e = leaf-failed v n k p
 locate-leaf v n k true p e =
-    let z : moved v n k ≡ 0 = rw (p, locate) at e in
+    let z : moved v n k ≡ 0 = sym (ap (leafOr 0) (leaf-passed v n k p)) ∙ e in
     absurd (false≢true (sym (stand-nowhere v 0 n k (stand-pass v 0 n k true p ∙ z)) ∙ p))
 
 locate-inner : (v : View) (l n k : ℕ) (b : Bool) → passes v (suc l) n ≡ b → (leafOr 0 (locate v l (down v (moved v n k) k) k) ≡ 0 → locate v l (down v (moved v n k) k) k ≡ none) → leafOr 0 (locate v (suc l) n k) ≡ 0 → locate v (suc l) n k ≡ none

@@ -118,15 +118,20 @@ fn descend(table: &[u64], n: u64, level: u64, key: u64) -> u64
     requires { ⌜ headerOk (now table) ≡ true ⌝ }
     ensures { λ r. ⌜ r ≡ leafOr 0 (locate (view (now (table .entry))) level n key) ⌝ }
 {
+    if level == 0 {
+        return stand(table, n, 0, key);
+    }
+    // The way down from n, where a search mostly stands, does not wait for the sibling's fence.
+    let child = down(table, n, key);
     let m = stand(table, n, level, key);
     if m == 0 {
         return 0;
     }
-    if level == 0 {
-        return m;
+    if m == n {
+        return descend(table, child, level - 1, key);
     }
-    let child = down(table, m, key);
-    descend(table, child, level - 1, key)
+    let other = down(table, m, key);
+    descend(table, other, level - 1, key)
 }
 
 // The recording of a key, or that it is absent; 2 and 3 as document 01 lays down.

@@ -1,5 +1,5 @@
 -- `search::descend` meets its contract; its level falls with each call.
-use Rattle.search.proofs.Standing.{refused-here, leaf-here, inner-here}
+use Rattle.search.proofs.Standing.{refused-here, leaf-here, inner-here, inner-same}
 use borrow.Author.Needs.{needs}
 use Prim.Native.Nat.{ℕ, _<_}
 use borrow.Fn.Kinds.{In}
@@ -41,20 +41,7 @@ descend-returns : (t : ℕ) → descend-lts.Need-returns (
 ) (descend-at t) descend.Post
 descend-returns t c =
     let a = c .before .before .before .args in
-    refused-here _ (a .level) (a .n) (a .key) _ (c .before .stand .ensures) (c .if1 .taken)
-
-descend-returns-2 : (t : ℕ) → descend-lts.Need-returns-2 (
-  stand-reads.Asked,
-  stand-reads.Learnt,
-  down-reads.Asked,
-  down-reads.Learnt,
-  descend-below t,
-  descend.Post,
-) (descend-at t) descend.Post
-descend-returns-2 t c =
-    let s = c .before .before in
-    let a = s .before .before .args in
-    leaf-here _ (a .level) (a .n) (a .key) _ (s .stand .ensures) (c .before .if1 .left) (c .if2 .taken)
+    leaf-here _ (a .level) (a .n) (a .key) _ (c .before .if1 .taken) (c .stand .ensures)
 
 descend-down-requires : (t : ℕ) → descend-lts.Need-down-requires (
   stand-reads.Asked,
@@ -65,6 +52,29 @@ descend-down-requires : (t : ℕ) → descend-lts.Need-down-requires (
   descend.Post,
 ) (descend-at t) descend.Post
 descend-down-requires t c κs = search needs
+
+descend-stand-requires-2 : (t : ℕ) → descend-lts.Need-stand-requires-2 (
+  stand-reads.Asked,
+  stand-reads.Learnt,
+  down-reads.Asked,
+  down-reads.Learnt,
+  descend-below t,
+  descend.Post,
+) (descend-at t) descend.Post
+descend-stand-requires-2 t c κs = search needs
+
+descend-returns-2 : (t : ℕ) → descend-lts.Need-returns-2 (
+  stand-reads.Asked,
+  stand-reads.Learnt,
+  down-reads.Asked,
+  down-reads.Learnt,
+  descend-below t,
+  descend.Post,
+) (descend-at t) descend.Post
+descend-returns-2 t c =
+    let s = c .before in
+    let a = s .before .before .before .before .args in
+    refused-here _ (a .level) (a .n) (a .key) _ (s .stand2 .ensures) (c .if2 .taken)
 
 descend-sub-descend : (t : ℕ) → descend-lts.Need-sub-descend (
   stand-reads.Asked,
@@ -95,10 +105,54 @@ descend-returns-3 : (t : ℕ) → descend-lts.Need-returns-3 (
   descend.Post,
 ) (descend-at t) descend.Post
 descend-returns-3 t c =
-    let d = c .before in
-    let s = d .before .before .before in
-    let a = s .before .before .args in
-    inner-here _ (a .level) (a .n) (a .key) _ _ _ (s .stand .ensures) (d .before .before .if1 .left) (d .before .if2 .left) (d .down .ensures) (c .descend .ensures)
+    let s = c .before .before .before in
+    let d = s .before in
+    let a = d .before .before .before .args in
+    inner-same _ (a .level) (a .n) (a .key) _ _ _ (s .stand2 .ensures) (c .before .before .if2 .left) (d .before .if1 .left) (c .before .if3 .taken) (d .down .ensures) (c .descend .ensures)
+
+descend-down-requires-2 : (t : ℕ) → descend-lts.Need-down-requires-2 (
+  stand-reads.Asked,
+  stand-reads.Learnt,
+  down-reads.Asked,
+  down-reads.Learnt,
+  descend-below t,
+  descend.Post,
+) (descend-at t) descend.Post
+descend-down-requires-2 t c κs = search needs
+
+descend-sub-descend-2 : (t : ℕ) → descend-lts.Need-sub-descend-2 (
+  stand-reads.Asked,
+  stand-reads.Learnt,
+  down-reads.Asked,
+  down-reads.Learnt,
+  descend-below t,
+  descend.Post,
+) (descend-at t) descend.Post
+descend-sub-descend-2 t c = search needs
+
+descend-descend-requires-2 : (t : ℕ) → descend-lts.Need-descend-requires-2 (
+  stand-reads.Asked,
+  stand-reads.Learnt,
+  down-reads.Asked,
+  down-reads.Learnt,
+  descend-below t,
+  descend.Post,
+) (descend-at t) descend.Post
+descend-descend-requires-2 t c κs = search needs
+
+descend-returns-4 : (t : ℕ) → descend-lts.Need-returns-4 (
+  stand-reads.Asked,
+  stand-reads.Learnt,
+  down-reads.Asked,
+  down-reads.Learnt,
+  descend-below t,
+  descend.Post,
+) (descend-at t) descend.Post
+descend-returns-4 t c =
+    let o = c .before in
+    let s = o .before .before .before in
+    let a = s .before .before .before .before .args in
+    inner-here _ (a .level) (a .n) (a .key) _ _ _ (s .stand2 .ensures) (o .before .before .if2 .left) (s .before .before .if1 .left) (o .down2 .ensures) (c .descend2 .ensures)
 
 pub +descend-spec : {M : Type 1} → statement M
 +descend-spec = close μ-descend λ t. descend-lts.spec (
@@ -113,8 +167,13 @@ pub +descend-spec : {M : Type 1} → statement M
     descend.Post
     (descend-stand-requires t)
     (descend-returns t)
-    (descend-returns-2 t)
     (descend-down-requires t)
+    (descend-stand-requires-2 t)
+    (descend-returns-2 t)
     (descend-sub-descend t)
     (descend-descend-requires t)
     (descend-returns-3 t)
+    (descend-down-requires-2 t)
+    (descend-sub-descend-2 t)
+    (descend-descend-requires-2 t)
+    (descend-returns-4 t)

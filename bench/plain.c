@@ -1,0 +1,199 @@
+/* The catalogue's table from the C side: a packing routine, a search with the same moves, without tests and with them, a read pass. */
+#include "plain.h"
+
+enum { HEADER_WORDS = 8, NODE_WORDS = 32, SLOTS = 12, FIRST_SLOT = 8 };
+enum { MOST_NODES = 65535, MOST_LEVEL = 15 };
+enum { LEFT = 0, SIBLING = 1, LEVEL = 2, FENCE = 3 };
+
+/* Slots filled of the 11 that a node may show: 73 %, near the fill of a tree grown by random insertions. */
+enum { FILL = 8 };
+
+#define MARK UINT64_MAX
+
+static uint64_t *node_at(uint64_t *table, uint64_t number)
+{
+    return table + HEADER_WORDS + NODE_WORDS * (number - 1);
+}
+
+static const uint64_t *seen_at(const uint64_t *table, uint64_t number)
+{
+    return table + HEADER_WORDS + NODE_WORDS * (number - 1);
+}
+
+/* Groups of this size that hold so many. */
+static size_t groups(size_t many, size_t size)
+{
+    return (many + size - 1) / size;
+}
+
+size_t plain_nodes(size_t keys)
+{
+    size_t row = groups(keys, FILL), all = row;
+    while (row > 1) {
+        row = groups(row, FILL + 1);
+        all += row;
+    }
+    return all;
+}
+
+/* A row of nodes on one level: the first one's place in the packing, and how many. */
+struct row {
+    size_t first;
+    size_t count;
+};
+
+static void join(uint64_t *table, const uint64_t *place, struct row row, uint64_t level)
+{
+    for (size_t i = 0; i < row.count; i++) {
+        uint64_t *node = node_at(table, place[row.first + i]);
+        node[LEVEL] = level;
+        node[SIBLING] = i + 1 < row.count ? place[row.first + i + 1] : 0;
+    }
+}
+
+static void pack_leaf(uint64_t *leaf, const uint64_t *keys, const uint64_t *recordings, size_t count)
+{
+    leaf[LEFT] = MARK;
+    for (size_t i = 0; i < count; i++) {
+        leaf[FIRST_SLOT + 2 * i] = keys[i];
+        leaf[FIRST_SLOT + 2 * i + 1] = recordings[i];
+    }
+}
+
+static struct row pack_leaves(uint64_t *table, const uint64_t *place, const uint64_t *keys, const uint64_t *recordings, size_t count)
+{
+    struct row row = {0, groups(count, FILL)};
+    for (size_t i = 0; i < row.count; i++) {
+        size_t from = i * FILL, left = count - from;
+        uint64_t *leaf = node_at(table, place[i]);
+        pack_leaf(leaf, keys + from, recordings + from, left < FILL ? left : FILL);
+        /* The first fence is the root's: 0. */
+        leaf[FENCE] = i == 0 ? 0 : keys[from];
+    }
+    join(table, place, row, 0);
+    return row;
+}
+
+/* The first child goes to left, the others into slots with their fences as keys. */
+static void pack_inner(uint64_t *table, uint64_t *node, const uint64_t *children, size_t count)
+{
+    node[LEFT] = children[0];
+    node[FENCE] = seen_at(table, children[0])[FENCE];
+    for (size_t i = 1; i < count; i++) {
+        node[FIRST_SLOT + 2 * (i - 1)] = seen_at(table, children[i])[FENCE];
+        node[FIRST_SLOT + 2 * (i - 1) + 1] = children[i];
+    }
+}
+
+static struct row pack_above(uint64_t *table, const uint64_t *place, struct row below, uint64_t level)
+{
+    struct row row = {below.first + below.count, groups(below.count, FILL + 1)};
+    for (size_t i = 0; i < row.count; i++) {
+        size_t from = i * (FILL + 1), left = below.count - from;
+        pack_inner(table, node_at(table, place[row.first + i]), place + below.first + from, left < FILL + 1 ? left : FILL + 1);
+    }
+    join(table, place, row, level);
+    return row;
+}
+
+void plain_pack(uint64_t *table, size_t nodes, const uint64_t *place, const uint64_t *keys, const uint64_t *recordings, size_t count)
+{
+    struct row row = pack_leaves(table, place, keys, recordings, count);
+    for (uint64_t level = 1; row.count > 1; level++)
+        row = pack_above(table, place, row, level);
+    table[0] = 1;
+    table[1] = place[row.first];
+    table[2] = nodes;
+}
+
+/* Out of line, so that the move is a branch, which the processor foresees: a conditional move waits for the sibling on every level. */
+__attribute__((noinline, cold)) static const uint64_t *moved(const uint64_t *table, uint64_t sibling)
+{
+    return seen_at(table, sibling);
+}
+
+/* The node itself, or its sibling where the key is not below that one's fence; never the sibling in a settled table. */
+static const uint64_t *stand(const uint64_t *table, uint64_t number, uint64_t key)
+{
+    const uint64_t *node = seen_at(table, number);
+    if (node[SIBLING] != 0 && key >= seen_at(table, node[SIBLING])[FENCE])
+        return moved(table, node[SIBLING]);
+    return node;
+}
+
+/* As the library does it: every slot in use is looked at, since only a sound node's keys rise. */
+static uint64_t route(const uint64_t *node, uint64_t key)
+{
+    uint64_t way = node[LEFT], before = node[LEFT];
+    for (const uint64_t *slot = node + FIRST_SLOT; slot < node + FIRST_SLOT + 2 * SLOTS && slot[1] != 0; slot += 2) {
+        if (slot[1] != before && slot[0] <= key)
+            way = slot[1];
+        before = slot[1];
+    }
+    return way;
+}
+
+static uint64_t in_leaf(const uint64_t *leaf, uint64_t key)
+{
+    uint64_t before = leaf[LEFT];
+    for (const uint64_t *slot = leaf + FIRST_SLOT; slot < leaf + FIRST_SLOT + 2 * SLOTS && slot[1] != 0; slot += 2) {
+        if (slot[1] != before && slot[0] == key)
+            return slot[1];
+        before = slot[1];
+    }
+    return 0;
+}
+
+uint64_t plain_search(const uint64_t *table, uint64_t key)
+{
+    uint64_t number = table[1];
+    for (uint64_t level = seen_at(table, number)[LEVEL]; level > 0; level--)
+        number = route(stand(table, number, key), key);
+    return in_leaf(stand(table, number, key), key);
+}
+
+/* The number of nodes, where length, header and root are as the library wants them; else 0. */
+static uint64_t tested_nodes(const uint64_t *table, size_t words)
+{
+    uint64_t nodes = words < HEADER_WORDS ? 0 : (words - HEADER_WORDS) / NODE_WORDS;
+    if (nodes == 0 || nodes > MOST_NODES || HEADER_WORDS + NODE_WORDS * nodes != words || table[0] != 1 || table[2] != nodes)
+        return 0;
+    for (size_t w = 3; w < HEADER_WORDS; w++)
+        if (table[w] != 0)
+            return 0;
+    return table[1] >= 1 && table[1] <= nodes ? nodes : 0;
+}
+
+static int on_level(const uint64_t *table, uint64_t nodes, uint64_t number, uint64_t level)
+{
+    return number >= 1 && number <= nodes && seen_at(table, number)[LEVEL] == level;
+}
+
+uint64_t plain_tested_search(const uint64_t *table, size_t words, uint64_t key)
+{
+    uint64_t nodes = tested_nodes(table, words);
+    if (nodes == 0)
+        return 0;
+    uint64_t number = table[1], level = seen_at(table, number)[LEVEL];
+    if (level > MOST_LEVEL)
+        return 0;
+    for (;; level--) {
+        if (!on_level(table, nodes, number, level))
+            return 0;
+        uint64_t sibling = seen_at(table, number)[SIBLING];
+        if (sibling != 0 && !on_level(table, nodes, sibling, level))
+            return 0;
+        const uint64_t *node = stand(table, number, key);
+        if (level == 0)
+            return in_leaf(node, key);
+        number = route(node, key);
+    }
+}
+
+uint64_t plain_read_pass(const uint64_t *table, size_t nodes)
+{
+    uint64_t sum = 0;
+    for (size_t w = HEADER_WORDS; w < HEADER_WORDS + NODE_WORDS * nodes; w++)
+        sum += table[w];
+    return sum;
+}

@@ -1,0 +1,227 @@
+//! The tables: as text for the terminal, as Markdown for docs/BENCHMARKS.md.
+use crate::counts::{self, CHANGES, ORDERS};
+use crate::results::{Results, Spread};
+use crate::{COUNTS, DELETION, HITS, INSERTION, MISSES, NODES, OTHERS, OURS, PAPER_FLUSHES, SPLITTING, TABLE, TREE};
+use std::fmt::Write;
+
+/// A table of ready cells under a line that says what they are.
+pub struct Table {
+    title: String,
+    head: Vec<String>,
+    rows: Vec<Vec<String>>,
+}
+
+impl Table {
+    fn new(title: &str, head: &[&str]) -> Table {
+        Table { title: title.to_string(), head: head.iter().map(|h| h.to_string()).collect(), rows: Vec::new() }
+    }
+
+    pub fn text(&self) -> String {
+        let lines = || std::iter::once(&self.head).chain(&self.rows);
+        let width = |column: usize| lines().map(|row| row[column].chars().count()).max().unwrap_or(0);
+        let widths: Vec<usize> = (0..self.head.len()).map(width).collect();
+        let mut out = format!("{}\n", self.title);
+        for row in lines() {
+            let cells: Vec<String> = row.iter().zip(&widths).map(|(cell, &w)| format!("{cell:>w$}")).collect();
+            let _ = writeln!(out, "  {}", cells.join("  "));
+        }
+        out
+    }
+
+    pub fn markdown(&self) -> String {
+        let line = |cells: &[String]| format!("| {} |\n", cells.join(" | "));
+        let rule = format!("|{}\n", "---:|".repeat(self.head.len()));
+        let rows: String = self.rows.iter().map(|row| line(row)).collect();
+        format!("{}\n\n{}{}{}", self.title, line(&self.head), rule, rows)
+    }
+}
+
+// ---- cells
+
+/// 400000 as 400,000.
+pub fn grouped(n: usize) -> String {
+    let digits = n.to_string();
+    let mut out = String::new();
+    for (i, c) in digits.chars().enumerate() {
+        if i > 0 && (digits.len() - i) % 3 == 0 {
+            out.push(',');
+        }
+        out.push(c);
+    }
+    out
+}
+
+/// Three digits that count, or fewer.
+fn figure(x: f64) -> String {
+    match x {
+        x if x < 0.0 => format!("-{}", figure(-x)),
+        x if x >= 99.95 => grouped(x.round() as usize),
+        x if x >= 9.995 => format!("{x:.1}"),
+        x if x >= 0.0995 || x == 0.0 => format!("{x:.2}"),
+        x if x >= 0.00995 => format!("{x:.3}"),
+        x => format!("{x:.5}"),
+    }
+}
+
+fn or_dash(x: Option<f64>) -> String {
+    x.map_or("-".to_string(), figure)
+}
+
+fn ratio(a: Option<f64>, b: Option<f64>) -> String {
+    or_dash(a.zip(b).map(|(a, b)| a / b))
+}
+
+fn spread(s: Option<Spread>, unit: f64) -> String {
+    s.map_or("-".to_string(), |s| {
+        let cell = |x: f64| figure(x / unit);
+        format!("{} ({} .. {})", cell(s.median), cell(s.min), cell(s.max))
+    })
+}
+
+// ---- search
+
+fn search_rows(results: &Results) -> Vec<(&'static str, usize)> {
+    [HITS, MISSES].into_iter().flat_map(|part| results.sizes(part, OURS).into_iter().map(move |size| (part, size))).collect()
+}
+
+fn search_times(results: &Results) -> Table {
+    let names: Vec<&str> = std::iter::once(OURS).chain(OTHERS).collect();
+    let head: Vec<&str> = ["", "keys"].into_iter().chain(names.iter().copied()).collect();
+    let mut table = Table::new("Search, ns per query: median (least .. most)", &head);
+    for (part, size) in search_rows(results) {
+        let mut row = vec![part.to_string(), grouped(size)];
+        row.extend(names.iter().map(|name| spread(results.get(part, name, size), 1.0)));
+        table.rows.push(row);
+    }
+    table
+}
+
+fn search_ratios(results: &Results) -> Table {
+    let head: Vec<&str> = ["", "keys", "nodes", "levels", "ours, ns"].into_iter().chain(OTHERS).collect();
+    let mut table = Table::new("Search: our time divided by the other's time", &head);
+    for (part, size) in search_rows(results) {
+        let ours = results.median(part, OURS, size);
+        let exact = |what| results.median(TABLE, what, size).map_or("-".to_string(), |x| grouped(x as usize));
+        let mut row = vec![part.to_string(), grouped(size), exact("nodes"), exact("levels"), or_dash(ours)];
+        row.extend(OTHERS.iter().map(|name| ratio(ours, results.median(part, name, size))));
+        table.rows.push(row);
+    }
+    table
+}
+
+// ---- changes
+
+/// The parts of a change.
+const PARTS: [&str; 5] = ["check", "plan", "stores", "stores, flushed", "whole call"];
+
+fn change_times(results: &Results, part: &'static str) -> Table {
+    let head: Vec<&str> = ["nodes", "read pass"].into_iter().chain(PARTS).collect();
+    let mut table = Table::new(&format!("A change, {part}, µs: median (least .. most)"), &head);
+    for nodes in results.sizes(NODES, "read pass") {
+        let mut row = vec![grouped(nodes), spread(results.get(NODES, "read pass", nodes), 1e3)];
+        row.extend(PARTS.map(|what| spread(results.get(part, what, nodes), 1e3)));
+        table.rows.push(row);
+    }
+    table
+}
+
+fn change_ratios(results: &Results) -> Table {
+    let head: Vec<&str> = ["", "nodes", "read pass, µs"].into_iter().chain(PARTS).chain(["stores listed", "flushes listed"]).collect();
+    let mut table = Table::new("A change: each part's time divided by the time of one plain read pass over the same nodes", &head);
+    for part in [INSERTION, SPLITTING, DELETION] {
+        for nodes in results.sizes(NODES, "read pass") {
+            let pass = results.median(NODES, "read pass", nodes);
+            let mut row = vec![part.to_string(), grouped(nodes), or_dash(pass.map(|ns| ns / 1e3))];
+            row.extend(PARTS.map(|what| ratio(results.median(part, what, nodes), pass)));
+            row.extend(["stores listed", "flushes listed"].map(|what| or_dash(results.median(part, what, nodes))));
+            table.rows.push(row);
+        }
+    }
+    table
+}
+
+// ---- stores and flushes
+
+fn count_table(results: &Results, size: usize, large: usize) -> Table {
+    let at_large = format!("512 B, {} keys: flushes", grouped(large));
+    let head = ["", "keys", "ours: stores", "ours: flushes", "512 B: stores", "512 B: flushes", "ours / 512 B, flushes", &at_large, "paper: flushes"];
+    let mut table = Table::new("Stores and flushes, means over all changes from empty to the number of keys, and back to empty in the same order", &head);
+    for change in CHANGES {
+        for order in ORDERS {
+            let mean = |who, what, size| results.median(COUNTS, &counts::name(who, order, change, what), size);
+            let paper = if change == CHANGES[0] && order == ORDERS[0] { PAPER_FLUSHES.to_string() } else { "-".to_string() };
+            let flushes = (mean(OURS, "flushes", size), mean(TREE, "flushes", size));
+            let cells = [mean(OURS, "stores", size), flushes.0, mean(TREE, "stores", size), flushes.1].map(or_dash);
+            let mut row = vec![format!("{order} {change}"), grouped(size)];
+            row.extend(cells);
+            row.extend([ratio(flushes.0, flushes.1), or_dash(mean(TREE, "flushes", large)), paper]);
+            table.rows.push(row);
+        }
+    }
+    table
+}
+
+// ---- growth
+
+/// How many times as long for twice as many, between two sizes.
+fn per_doubling(from: (usize, Option<f64>), to: (usize, Option<f64>)) -> String {
+    let factor = from.1.zip(to.1).map(|(a, b)| {
+        let exponent = (b / a).ln() / (to.0 as f64 / from.0 as f64).ln();
+        exponent.exp2()
+    });
+    or_dash(factor)
+}
+
+fn growth(results: &Results, title: &str, unit: &str, sizes: &[usize], figures: &[(&str, &str, &str)]) -> Table {
+    let steps: Vec<String> = sizes.windows(2).map(|w| format!("{} to {} {unit}", grouped(w[0]), grouped(w[1]))).collect();
+    let head: Vec<&str> = std::iter::once("").chain(steps.iter().map(String::as_str)).collect();
+    let mut table = Table::new(title, &head);
+    for &(label, part, what) in figures {
+        let at = |size| (size, results.median(part, what, size));
+        let mut row = vec![label.to_string()];
+        row.extend(sizes.windows(2).map(|w| per_doubling(at(w[0]), at(w[1]))));
+        table.rows.push(row);
+    }
+    table
+}
+
+fn search_growth(results: &Results) -> Table {
+    let names: Vec<&str> = std::iter::once(OURS).chain(OTHERS).collect();
+    let figures: Vec<(&str, &str, &str)> = names.iter().map(|name| (*name, HITS, *name)).collect();
+    growth(results, "Growth of a search that hits: times as long for twice as many keys", "keys", &results.sizes(HITS, OURS), &figures)
+}
+
+fn change_growth(results: &Results) -> Table {
+    let figures = [
+        ("read pass", NODES, "read pass"),
+        ("insertion: check", INSERTION, "check"),
+        ("insertion: plan", INSERTION, "plan"),
+        ("insertion: stores", INSERTION, "stores"),
+        ("insertion: whole call", INSERTION, "whole call"),
+        ("insertion, split: plan", SPLITTING, "plan"),
+        ("insertion, split: whole call", SPLITTING, "whole call"),
+        ("deletion: check", DELETION, "check"),
+        ("deletion: plan", DELETION, "plan"),
+        ("deletion: stores", DELETION, "stores"),
+        ("deletion: whole call", DELETION, "whole call"),
+    ];
+    growth(results, "Growth of a change: times as long for twice as many nodes", "nodes", &results.sizes(NODES, "read pass"), &figures)
+}
+
+// ---- all of them
+
+/// Times in full, for the terminal only.
+pub fn times(results: &Results) -> Vec<Table> {
+    vec![search_times(results), change_times(results, INSERTION), change_times(results, SPLITTING), change_times(results, DELETION)]
+}
+
+/// The tables of the document.
+pub fn ratios(results: &Results, counted: (usize, usize)) -> Vec<Table> {
+    vec![
+        search_ratios(results),
+        change_ratios(results),
+        count_table(results, counted.0, counted.1),
+        search_growth(results),
+        change_growth(results),
+    ]
+}
