@@ -15,7 +15,7 @@ use Rattle.model.specs.SoundTest.{times}
 use Rattle.table_laws.proofs.SlotWords.{slots-cons, slots-end}
 use Rattle.sound.specs.declared.Survey.{Survey}
 use Rattle.sound.specs.declared.Ways.{Ways}
-use Rattle.sound.specs.Scan.{usedIn, keeps, reaches, stillFair, hiding, trailed, keeping, surveyedSlot, surveyed, taken, wayAdded, gathered, span, waysFrom}
+use Rattle.sound.specs.Scan.{usedIn, keeps, reaches, stillFair, hiding, trailed, keeping, surveyedSlot, surveyed, taken, isWay, wayAdded, gathered, span, waysFrom}
 
 pub keeps-all : (s e k : ℕ) → s ≡ 0 → true ≡ keeps s e k
 unfolding keeps
@@ -73,27 +73,32 @@ module _ (sibling e k p : ℕ) (s : Survey) where
 
 -- ---- a slot of the ways
 
+module _ (sibling e before k p : ℕ) where
+  pub hidden-way : p ≡ before → false ≡ isWay sibling e before k p
+  unfolding isWay
+  hidden-way h = rw (eq-eqb p before h)
+
+  pub shown-way : (p ≡ before → ⊥) → keeps sibling e k ≡ isWay sibling e before k p
+  unfolding isWay
+  shown-way h = rw (ne-eqb p before h)
+
 module _ (sibling e before k p : ℕ) (w : Ways) where
-  pub way-hidden : p ≡ before → w ≡ wayAdded sibling e before k p w
+  pub way-no : false ≡ isWay sibling e before k p → w ≡ wayAdded sibling e before k p w
   unfolding wayAdded
-  way-hidden h = rw (eq-eqb p before h)
+  way-no h = rw (← h)
+
+  pub way-yes : true ≡ isWay sibling e before k p → taken k p w ≡ wayAdded sibling e before k p w
+  unfolding wayAdded
+  way-yes h = rw (← h)
+
+  pub way-hidden : p ≡ before → w ≡ wayAdded sibling e before k p w
+  way-hidden h = way-no (hidden-way sibling e before k p h)
 
   pub way-trailing : (p ≡ before → ⊥) → keeps sibling e k ≡ false → w ≡ wayAdded sibling e before k p w
-  unfolding wayAdded
-  way-trailing h c = rw (ne-eqb p before h, c)
+  way-trailing h c = way-no (sym c ∙ shown-way sibling e before k p h)
 
   pub way-taken : (p ≡ before → ⊥) → keeps sibling e k ≡ true → taken k p w ≡ wayAdded sibling e before k p w
-  unfolding wayAdded
-  way-taken h c = rw (ne-eqb p before h, c)
-
-  pub way-count : (r : Ways) → r ≡ wayAdded sibling e before k p w → r .count ≤ w .count + 1
-  unfolding wayAdded
-  way-count r q = go (eqb p before) (keeps sibling e k) q
-    where
-      go : (a b : Bool) → r ≡ cond a w (cond b (taken k p w) w) → r .count ≤ w .count + 1
-      go true b q = omega (arith, ap (λ (x : Ways). x .count) q)
-      go false true q = omega (arith, ap (λ (x : Ways). x .count) q)
-      go false false q = omega (arith, ap (λ (x : Ways). x .count) q)
+  way-taken h c = way-yes (sym c ∙ shown-way sibling e before k p h)
 
 -- ---- the slots in use, one by one
 

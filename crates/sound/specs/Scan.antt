@@ -52,8 +52,12 @@ begun fence left strict = record { fair = true; trailing = false; strict = stric
 abbrev pub taken : ℕ → ℕ → Ways → Ways
 taken k p w = record { count = w .count + 1; keys = set (w .keys) (w .count) k; pointers = set (w .pointers) (w .count) p }
 
+-- a slot in use is shown and kept
+unfoldable pub isWay : ℕ → ℕ → ℕ → ℕ → ℕ → Bool
+isWay sibling e before k p = not (eqb p before) && keeps sibling e k
+
 unfoldable pub wayAdded : ℕ → ℕ → ℕ → ℕ → ℕ → Ways → Ways
-wayAdded sibling e before k p w = cond (eqb p before) w (cond (keeps sibling e k) (taken k p w) w)
+wayAdded sibling e before k p w = cond (isWay sibling e before k p) (taken k p w) w
 
 unfoldable pub gathered : ℕ → ℕ → ℕ → List Slot → Ways → Ways
 gathered sibling e before [] w = w

@@ -17,7 +17,7 @@ ghost use Rattle.model.specs.SoundTest.{elem, distinct, siblingOk, addFew, addM
 ghost use Rattle.walk_laws.specs.Walk.{stands, ways, check, walk};
 ghost use Rattle.walk_laws.specs.Chain.{along, firstLeaf, chain};
 ghost use Rattle.numbers.specs.Cells.{CELLS, outcome, enteredIf, enteredAll, Tells};
-ghost use Rattle.sound.specs.Scan.{keeps, reaches, stillFair, surveyedSlot, surveyed, begun, wayAdded, gathered, firstWay, usedIn, slotsIn, pointersFrom};
+ghost use Rattle.sound.specs.Scan.{keeps, reaches, stillFair, surveyedSlot, surveyed, begun, isWay, gathered, firstWay, usedIn, slotsIn, pointersFrom};
 ghost use Rattle.sound.specs.Nodes.{standing, leafFair, lookOf, noted, slotChecked};
 ghost use Rattle.sound.specs.Hits.{recordings, onceBefore, hitAlong, hitIn};
 ghost use Rattle.sound.specs.Passes.{inPass};
@@ -144,27 +144,14 @@ fn survey_slots(x: Node, strict: bool, bound: u64) -> Survey
     s
 }
 
-// One way more, where the slot is shown and kept.
-fn add_way(w: Ways, sibling: u64, bound: u64, before: u64, key: u64, pointer: u64) -> Ways
-    requires { ⌜ w .count < 13 ⌝ }
-    ensures { λ r. ⌜ r ≡ wayAdded sibling bound before key pointer w ⌝ }
+// Whether a slot is shown and kept.
+fn is_way(sibling: u64, bound: u64, before: u64, key: u64, pointer: u64) -> bool
+    ensures { λ r. ⌜ r ≡ isWay sibling bound before key pointer ⌝ }
 {
     if pointer == before {
-        return w;
+        return false;
     }
-    if !keeps(sibling, bound, key) {
-        return w;
-    }
-    let at = w.count;
-    let mut keys = w.keys;
-    let mut pointers = w.pointers;
-    keys[at] = key;
-    pointers[at] = pointer;
-    Ways {
-        count: at + 1,
-        keys: keys,
-        pointers: pointers,
-    }
+    keeps(sibling, bound, key)
 }
 
 // The ways down from a node whose sibling's fence is the bound.
@@ -177,23 +164,33 @@ fn gather(x: Node, bound: u64) -> Ways
     let mut pointers = [0u64; 13];
     keys[0] = x.fence;
     pointers[0] = x.left;
-    let mut w = Ways {
-        count: 1,
-        keys: keys,
-        pointers: pointers,
-    };
+    let mut count = 1;
     let mut before = x.left;
     let mut i = 0;
     while i < 12 {
-        let p = slots[2 * i + 1];
-        if p == 0 {
-            return w;
+        let key = slots[2 * i];
+        let pointer = slots[2 * i + 1];
+        if pointer == 0 {
+            return Ways {
+                count: count,
+                keys: keys,
+                pointers: pointers,
+            };
         }
-        w = add_way(w, x.sibling, bound, before, slots[2 * i], p);
-        before = p;
+        let way = is_way(x.sibling, bound, before, key, pointer);
+        before = pointer;
         i += 1;
+        if way {
+            keys[count] = key;
+            pointers[count] = pointer;
+            count += 1;
+        }
     }
-    w
+    Ways {
+        count: count,
+        keys: keys,
+        pointers: pointers,
+    }
 }
 
 // Node n, so many times.
