@@ -32,6 +32,7 @@ extern "C" {
     fn plain_nodes(keys: usize) -> usize;
     fn plain_pack(table: *mut u64, nodes: usize, place: *const u64, keys: *const u64, recordings: *const u64, count: usize);
     fn plain_search(table: *const u64, key: u64) -> u64;
+    fn plain_foreseen_search(table: *const u64, key: u64) -> u64;
     fn plain_tested_search(table: *const u64, words: usize, key: u64) -> u64;
     fn plain_read_pass(table: *const u64, nodes: usize) -> u64;
 
@@ -209,6 +210,12 @@ pub fn pack(pairs: &[(u64, u64)], place: &[u64], nodes: usize) -> Words {
 #[inline(always)]
 pub fn search_plain(table: &[u64], key: u64) -> u64 {
     unsafe { plain_search(table.as_ptr(), key) }
+}
+
+/// The same with the move to a sibling as a branch.
+#[inline(always)]
+pub fn search_foreseen(table: &[u64], key: u64) -> u64 {
+    unsafe { plain_foreseen_search(table.as_ptr(), key) }
 }
 
 /// As `search`, by C with the same tests.

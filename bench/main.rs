@@ -30,12 +30,13 @@ pub const SPLITTING: &str = "insertion, split";
 pub const COUNTS: &str = "counts";
 pub const OURS: &str = "ours";
 pub const PLAIN: &str = "plain C";
+pub const FORESEEN: &str = "plain C, branch";
 pub const TESTED: &str = "C, same tests";
 pub const TREE: &str = "C FAST+FAIR, 512 B";
 pub const RUST: &str = "Rust BTreeMap";
 pub const CPP: &str = "C++ std::map";
 pub const SORTED: &str = "sorted array";
-pub const OTHERS: [&str; 6] = [PLAIN, TESTED, TREE, RUST, CPP, SORTED];
+pub const OTHERS: [&str; 7] = [PLAIN, FORESEEN, TESTED, TREE, RUST, CPP, SORTED];
 
 /// What is measured: keys for the searches, nodes for the changes, keys for the counts (ours and the 512-byte tree; that tree alone).
 struct Sizes {

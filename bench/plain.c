@@ -106,14 +106,22 @@ void plain_pack(uint64_t *table, size_t nodes, const uint64_t *place, const uint
     table[2] = nodes;
 }
 
+/* The node itself, or its sibling where the key is not below that one's fence; never the sibling in a settled table. */
+static const uint64_t *stand(const uint64_t *table, uint64_t number, uint64_t key)
+{
+    const uint64_t *node = seen_at(table, number);
+    if (node[SIBLING] != 0 && key >= seen_at(table, node[SIBLING])[FENCE])
+        return seen_at(table, node[SIBLING]);
+    return node;
+}
+
 /* Out of line, so that the move is a branch, which the processor foresees: a conditional move waits for the sibling on every level. */
 __attribute__((noinline, cold)) static const uint64_t *moved(const uint64_t *table, uint64_t sibling)
 {
     return seen_at(table, sibling);
 }
 
-/* The node itself, or its sibling where the key is not below that one's fence; never the sibling in a settled table. */
-static const uint64_t *stand(const uint64_t *table, uint64_t number, uint64_t key)
+static const uint64_t *stand_foreseen(const uint64_t *table, uint64_t number, uint64_t key)
 {
     const uint64_t *node = seen_at(table, number);
     if (node[SIBLING] != 0 && key >= seen_at(table, node[SIBLING])[FENCE])
@@ -152,6 +160,14 @@ uint64_t plain_search(const uint64_t *table, uint64_t key)
     return in_leaf(stand(table, number, key), key);
 }
 
+uint64_t plain_foreseen_search(const uint64_t *table, uint64_t key)
+{
+    uint64_t number = table[1];
+    for (uint64_t level = seen_at(table, number)[LEVEL]; level > 0; level--)
+        number = route(stand_foreseen(table, number, key), key);
+    return in_leaf(stand_foreseen(table, number, key), key);
+}
+
 /* The number of nodes, where length, header and root are as the library wants them; else 0. */
 static uint64_t tested_nodes(const uint64_t *table, size_t words)
 {
@@ -183,7 +199,7 @@ uint64_t plain_tested_search(const uint64_t *table, size_t words, uint64_t key)
         uint64_t sibling = seen_at(table, number)[SIBLING];
         if (sibling != 0 && !on_level(table, nodes, sibling, level))
             return 0;
-        const uint64_t *node = stand(table, number, key);
+        const uint64_t *node = stand_foreseen(table, number, key);
         if (level == 0)
             return in_leaf(node, key);
         number = route(node, key);

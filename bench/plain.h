@@ -17,7 +17,10 @@ void plain_pack(uint64_t *table, size_t nodes, const uint64_t *place, const uint
 /* The recording of the key, or 0 where it is absent. The table must be sound. */
 uint64_t plain_search(const uint64_t *table, uint64_t key);
 
-/* The same with every test that the library's search makes, on any words. A refusal gives 0 too. */
+/* The same with the move to a sibling as a branch, whatever the compiler would choose. */
+uint64_t plain_foreseen_search(const uint64_t *table, uint64_t key);
+
+/* That one with every test that the library's search makes, on any words. A refusal gives 0 too. */
 uint64_t plain_tested_search(const uint64_t *table, size_t words, uint64_t key);
 
 /* The sum of all words of nodes 1 .. nodes. */

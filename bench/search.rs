@@ -2,7 +2,7 @@
 use crate::calls::{self, CppMap, FastFair, Orders, Words};
 use crate::keys::{Keys, Random};
 use crate::results::{timed, Results, Spread};
-use crate::{CPP, HITS, MISSES, OURS, PLAIN, RUNS, RUST, SEED, SORTED, TABLE, TESTED, TREE};
+use crate::{CPP, FORESEEN, HITS, MISSES, OURS, PLAIN, RUNS, RUST, SEED, SORTED, TABLE, TESTED, TREE};
 use std::collections::BTreeMap;
 use std::hint::black_box;
 
@@ -27,6 +27,7 @@ trait Contender {
 
 struct Ours<'a>(&'a Words);
 struct Plain<'a>(&'a Words);
+struct Foreseen<'a>(&'a Words);
 struct Tested<'a>(&'a Words);
 struct Sorted {
     keys: Vec<u64>,
@@ -48,6 +49,15 @@ impl Contender for Plain<'_> {
     }
     fn find(&self, key: u64) -> u64 {
         calls::search_plain(self.0, key)
+    }
+}
+
+impl Contender for Foreseen<'_> {
+    fn name(&self) -> &'static str {
+        FORESEEN
+    }
+    fn find(&self, key: u64) -> u64 {
+        calls::search_foreseen(self.0, key)
     }
 }
 
@@ -137,7 +147,7 @@ fn contenders<'a>(table: &'a Words, keys: &Keys) -> Vec<Box<dyn Contender + 'a>>
     rising.sort_unstable();
     let (keys, recordings) = rising.into_iter().unzip();
     let sorted = Sorted { keys, recordings };
-    vec![Box::new(Ours(table)), Box::new(Plain(table)), Box::new(Tested(table)), Box::new(fastfair), Box::new(rust), Box::new(cpp), Box::new(sorted)]
+    vec![Box::new(Ours(table)), Box::new(Plain(table)), Box::new(Foreseen(table)), Box::new(Tested(table)), Box::new(fastfair), Box::new(rust), Box::new(cpp), Box::new(sorted)]
 }
 
 /// Every present key and every absent one, against the list of pairs itself. A wrong answer ends the program.
