@@ -18,7 +18,7 @@ use Rattle.table_laws.proofs.Nodes.{has-node-range}
 use Rattle.node.specs.Word.{wordOf}
 use Rattle.node.proofs.WordLaws.{word-level, word-sibling, word-fence}
 use Rattle.list_laws.proofs.Tools.{decode, refuted}
-use Rattle.search.specs.Scan.{shownFrom, standOn, leafOr}
+use Rattle.search.specs.Scan.{shownFrom, standOn, arrive}
 
 -- ---- onLevel, from the words
 
@@ -92,6 +92,30 @@ stand-somewhere v l n k m e z = go (passes v l n) refl
     go true p = (p, sym (stand-pass v l n k true p) ∙ sym e)
     go false p = absurd (z (e ∙ stand-pass v l n k false p))
 
+-- ---- coming down to level 0
+
+pub arrived : (v : View) (l n k : ℕ) → l ≡ 0 → n ≡ arrive v l n k
+unfolding arrive
+arrived v l n k o = rw o
+
+pub refused-here : (v : View) (l n k m : ℕ) → (l ≡ 0 → ⊥) → m ≡ standOn v l n k → m ≡ 0 → 0 ≡ arrive v l n k
+unfolding arrive
+refused-here v zero n k m o e z = absurd (o refl)
+refused-here v (suc l) n k m o e z = rw (stand-nowhere v (suc l) n k (sym e ∙ z), arrive)
+
+pub inner-here : (v : View) (l n k m c r : ℕ) → m ≡ standOn v l n k → (m ≡ 0 → ⊥) → (l ≡ 0 → ⊥) → c ≡ down v m k → r ≡ arrive v (l - 1) c k → r ≡ arrive v l n k
+unfolding arrive
+inner-here v zero n k m c r e z q d g = absurd (q refl)
+inner-here v (suc l) n k m c r e z q d g =
+    let h = stand-somewhere v (suc l) n k m e z in
+    let o : suc l - 1 ≡ l = omega arith in
+    g ∙ rw (h .0, h .1, arrive, o, d)
+
+-- the same where the way down was looked up from n before
+pub inner-same : (v : View) (l n k m c r : ℕ) → m ≡ standOn v l n k → (m ≡ 0 → ⊥) → (l ≡ 0 → ⊥) → m ≡ n → c ≡ down v n k → r ≡ arrive v (l - 1) c k → r ≡ arrive v l n k
+inner-same v l n k m c r e z q s d g = inner-here v l n k m c r e z q (d ∙ ap (λ (x : ℕ). down v x k) (sym s)) g
+
+-- the leaf is found from there
 leaf-passed : (v : View) (n k : ℕ) → passes v 0 n ≡ true → locate v 0 n k ≡ some (moved v n k)
 unfolding locate
 leaf-passed v n k p = rw (p, locate)
@@ -100,49 +124,35 @@ leaf-failed : (v : View) (n k : ℕ) → passes v 0 n ≡ false → locate v 0 n
 unfolding locate
 leaf-failed v n k p = rw (p, locate)
 
-pub refused-here : (v : View) (l n k m : ℕ) → m ≡ standOn v l n k → m ≡ 0 → 0 ≡ leafOr 0 (locate v l n k)
-unfolding locate
-refused-here v zero n k m e z = rw (stand-nowhere v zero n k (sym e ∙ z), locate)
-refused-here v (suc l) n k m e z = rw (stand-nowhere v (suc l) n k (sym e ∙ z), locate)
+nowhere : (v : View) (k : ℕ) → locate v 0 0 k ≡ none
+unfolding locate passes onLevel inRange
+nowhere v k = refl
 
-pub leaf-here : (v : View) (l n k m : ℕ) → l ≡ 0 → m ≡ standOn v 0 n k → m ≡ leafOr 0 (locate v l n k)
-leaf-here v l n k m o e = rw o (go (passes v 0 n) refl)
-  where
-    go : (b : Bool) → passes v 0 n ≡ b → m ≡ leafOr 0 (locate v 0 n k)
-    go true p = e ∙ stand-pass v 0 n k true p ∙ ap (leafOr 0) (sym (leaf-passed v n k p))
-    go false p = e ∙ stand-pass v 0 n k false p ∙ ap (leafOr 0) (sym (leaf-failed v n k p))
+module _ (v : View) (l n k : ℕ) (p : passes v (suc l) n ≡ true) where
+  locate-passed : locate v (suc l) n k ≡ locate v l (down v (moved v n k) k) k
+  unfolding locate
+  locate-passed = rw (p, locate)
 
-pub inner-here : (v : View) (l n k m c r : ℕ) → m ≡ standOn v l n k → (m ≡ 0 → ⊥) → (l ≡ 0 → ⊥) → c ≡ down v m k → r ≡ leafOr 0 (locate v (l - 1) c k) → r ≡ leafOr 0 (locate v l n k)
-unfolding locate
-inner-here v zero n k m c r e z q d g = absurd (q refl)
-inner-here v (suc l) n k m c r e z q d g =
-    let h = stand-somewhere v (suc l) n k m e z in
-    let o : suc l - 1 ≡ l = omega arith in
-    g ∙ rw (h .0, h .1, locate, o, d)
+  arrive-passed : arrive v (suc l) n k ≡ arrive v l (down v (moved v n k) k) k
+  unfolding arrive
+  arrive-passed = rw (p, arrive)
 
-some-leaf : (o : Option ℕ) (m : ℕ) → m ≡ leafOr 0 o → (m ≡ 0 → ⊥) → o ≡ some m
-some-leaf none m e z = absurd (z e)
-some-leaf (some n) m e z = ap some (sym e)
+module _ (v : View) (l n k : ℕ) (p : passes v (suc l) n ≡ false) where
+  locate-failed : locate v (suc l) n k ≡ none
+  unfolding locate
+  locate-failed = rw (p, locate)
 
--- the same where the way down was looked up from n before
-pub inner-same : (v : View) (l n k m c r : ℕ) → m ≡ standOn v l n k → (m ≡ 0 → ⊥) → (l ≡ 0 → ⊥) → m ≡ n → c ≡ down v n k → r ≡ leafOr 0 (locate v (l - 1) c k) → r ≡ leafOr 0 (locate v l n k)
-inner-same v l n k m c r e z q s d g = inner-here v l n k m c r e z q (d ∙ ap (λ (x : ℕ). down v x k) (sym s)) g
+  arrive-failed : arrive v (suc l) n k ≡ 0
+  unfolding arrive
+  arrive-failed = rw (p, arrive)
 
--- no leaf is number 0
-locate-leaf : (v : View) (n k : ℕ) (b : Bool) → passes v 0 n ≡ b → leafOr 0 (locate v 0 n k) ≡ 0 → locate v 0 n k ≡ none
-locate-leaf v n k false p e = leaf-failed v n k p
-locate-leaf v n k true p e =
-    let z : moved v n k ≡ 0 = sym (ap (leafOr 0) (leaf-passed v n k p)) ∙ e in
-    absurd (false≢true (sym (stand-nowhere v 0 n k (stand-pass v 0 n k true p ∙ z)) ∙ p))
+arrive-step : (v : View) (l n k : ℕ) (b : Bool) → passes v (suc l) n ≡ b → locate v l (down v (moved v n k) k) k ≡ locate v 0 (arrive v l (down v (moved v n k) k) k) k → locate v (suc l) n k ≡ locate v 0 (arrive v (suc l) n k) k
+arrive-step v l n k true p ih = locate-passed v l n k p ∙ ih ∙ ap (λ (x : ℕ). locate v 0 x k) (sym (arrive-passed v l n k p))
+arrive-step v l n k false p ih = locate-failed v l n k p ∙ sym (ap (λ (x : ℕ). locate v 0 x k) (arrive-failed v l n k p) ∙ nowhere v k)
 
-locate-inner : (v : View) (l n k : ℕ) (b : Bool) → passes v (suc l) n ≡ b → (leafOr 0 (locate v l (down v (moved v n k) k) k) ≡ 0 → locate v l (down v (moved v n k) k) k ≡ none) → leafOr 0 (locate v (suc l) n k) ≡ 0 → locate v (suc l) n k ≡ none
-unfolding locate
-locate-inner v l n k false p ih e = rw (p, locate)
-locate-inner v l n k true p ih e = rw (p, locate) (ih (rw (p, locate) at e))
-
-no-leaf : (v : View) (l n k : ℕ) → leafOr 0 (locate v l n k) ≡ 0 → locate v l n k ≡ none
-no-leaf v zero n k e = locate-leaf v n k (passes v 0 n) refl e
-no-leaf v (suc l) n k e = locate-inner v l n k (passes v (suc l) n) refl (no-leaf v l (down v (moved v n k) k) k) e
+arrive-locate : (v : View) (l n k : ℕ) → locate v l n k ≡ locate v 0 (arrive v l n k) k
+arrive-locate v zero n k = ap (λ (x : ℕ). locate v 0 x k) (arrived v 0 n k refl)
+arrive-locate v (suc l) n k = arrive-step v l n k (passes v (suc l) n) refl (arrive-locate v l (down v (moved v n k) k) k)
 
 -- ---- the same, from the words that the code has read: s the sibling, f the sibling's fence
 
@@ -207,8 +217,15 @@ module _ (t : Words) (k w : ℕ) (h : headerOk t ≡ true) (e : w ≡ wordOf t (
       let b : leb (height (view t)) 15 ≡ true = rw q (le-leb w 15 o) in
       sym (rw (h, search) (rw (b, searchView) (rw q)))
 
-  pub lost : (m : ℕ) → m ≡ leafOr 0 (locate (view t) w (root t) k) → m ≡ 0 → Refused 3 ≡ search t k
-  lost m g z = ap (answerIn (view t) k) (sym (no-leaf (view t) w (root t) k (sym g ∙ z))) ∙ from-root
+  module _ (n m : ℕ) (g : n ≡ arrive (view t) w (root t) k) (q : m ≡ standOn (view t) 0 n k) where
+    leaf-search : answerIn (view t) k (locate (view t) 0 n k) ≡ search t k
+    leaf-search = ap (λ (x : ℕ). answerIn (view t) k (locate (view t) 0 x k)) g ∙ ap (answerIn (view t) k) (sym (arrive-locate (view t) w (root t) k)) ∙ from-root
 
-  pub answered : (m : ℕ) (r : Answer) → m ≡ leafOr 0 (locate (view t) w (root t) k) → (m ≡ 0 → ⊥) → r ≡ lookup k (view t .shown m) → r ≡ search t k
-  answered m r g z a = a ∙ ap (answerIn (view t) k) (sym (some-leaf (locate (view t) w (root t) k) m g z)) ∙ from-root
+    pub lost : m ≡ 0 → Refused 3 ≡ search t k
+    lost z = ap (answerIn (view t) k) (sym (leaf-failed (view t) n k (stand-nowhere (view t) 0 n k (sym q ∙ z)))) ∙ leaf-search
+
+    pub answered : (r : Answer) → (m ≡ 0 → ⊥) → r ≡ lookup k (view t .shown m) → r ≡ search t k
+    answered r z a = let h = stand-somewhere (view t) 0 n k m q z in a ∙ ap (λ (x : ℕ). lookup k (view t .shown x)) (sym (h .1)) ∙ ap (answerIn (view t) k) (sym (leaf-passed (view t) n k (h .0))) ∙ leaf-search
+
+    pub answered-here : (r : Answer) → (m ≡ 0 → ⊥) → m ≡ n → r ≡ lookup k (view t .shown n) → r ≡ search t k
+    answered-here r z s a = answered r z (a ∙ ap (λ (x : ℕ). lookup k (view t .shown x)) (sym s))

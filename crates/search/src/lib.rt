@@ -4,8 +4,8 @@ ghost use mathlib.Core.Path.{_≡_};
 ghost use mathlib.Core.Bool.{true};
 ghost use Rattle.model.specs.Table.{headerOk};
 ghost use Rattle.model.specs.Slots.{view};
-ghost use Rattle.model.specs.Search.{onLevel, route, down, locate, lookup, search};
-ghost use Rattle.search.specs.Scan.{shownFrom, wayAfter, standOn, leafOr};
+ghost use Rattle.model.specs.Search.{onLevel, route, down, lookup, search};
+ghost use Rattle.search.specs.Scan.{shownFrom, wayAfter, standOn, arrive};
 
 // The way down after a slot in use: its pointer where it is shown and its key is at most the key looked for.
 fn way_after(way: u64, before: u64, k: u64, p: u64, key: u64) -> u64
@@ -113,15 +113,16 @@ fn stand(table: &[u64], n: u64, level: u64, key: u64) -> u64
     sibling
 }
 
-// The leaf for a key, coming to node n on the level given, which falls with each call; 0 where a test fails.
+// The node that a search for a key comes to on level 0, coming to node n on the level given, which falls with each call; 0 where a test
+// fails on the way.
 fn descend(table: &[u64], n: u64, level: u64, key: u64) -> u64
     requires { ⌜ headerOk (now table) ≡ true ⌝ }
-    ensures { λ r. ⌜ r ≡ leafOr 0 (locate (view (now (table .entry))) level n key) ⌝ }
+    ensures { λ r. ⌜ r ≡ arrive (view (now (table .entry))) level n key ⌝ }
 {
     if level == 0 {
-        return stand(table, n, 0, key);
+        return n;
     }
-    // The way down from n, where a search mostly stands, does not wait for the sibling's fence.
+    // A search mostly stands on n: its way down is looked up first, so that it does not wait for the sibling's fence.
     let child = down(table, n, key);
     let m = stand(table, n, level, key);
     if m == 0 {
@@ -147,8 +148,14 @@ pub fn search(table: &[u64], key: u64) -> Answer
         return Answer::Refused(3);
     }
     let leaf = descend(table, root, top, key);
-    if leaf == 0 {
+    // As on the way down: the leaf is mostly the one come to.
+    let answer = answer_in(table, leaf, key);
+    let m = stand(table, leaf, 0, key);
+    if m == 0 {
         return Answer::Refused(3);
     }
-    answer_in(table, leaf, key)
+    if m == leaf {
+        return answer;
+    }
+    answer_in(table, m, key)
 }

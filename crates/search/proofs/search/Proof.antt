@@ -1,6 +1,6 @@
 -- `search::search` meets its contract.
 use native.Mathlib.Omega.{arith}
-use Rattle.search.proofs.Standing.{passed-header, failed-header, header-words, bad-header, too-high, lost, answered}
+use Rattle.search.proofs.Standing.{passed-header, failed-header, header-words, bad-header, too-high, lost, answered, answered-here}
 use borrow.Author.Needs.{needs}
 use Rattle.search.proofs.search.Statement.{statement}
 use Rattle.search.proofs.search.Tie as tie
@@ -29,24 +29,44 @@ descend-requires c κs =
     let e = c .before .before .before in
     passed-header _ _ (e .before .header .ensures) (e .if1 .left)
 
-returns-3 : tie.Need-returns-3
-returns-3 c =
-    let d = c .before in
-    let w = d .before .before in
-    let h = w .before .before .before in
-    let a = h .before .before .args in
-    lost (a .table .now) (a .key) _ (passed-header _ _ (h .header .ensures) (w .before .before .if1 .left)) (w .word .ensures) (d .before .if2 .left) _ (d .descend .ensures) (c .if3 .taken)
-
 answer-in-requires : tie.Need-answer-in-requires
 answer-in-requires c κs = search needs
 
-returns-4 : tie.Need-returns-4
-returns-4 c =
-    let d = c .before .before in
+stand-requires : tie.Need-stand-requires
+stand-requires c κs =
+    let e = c .before .before .before .before .before in
+    passed-header _ _ (e .before .header .ensures) (e .if1 .left)
+
+returns-3 : tie.Need-returns-3
+returns-3 c =
+    let s = c .before in
+    let d = s .before .before in
     let w = d .before .before in
     let h = w .before .before .before in
     let a = h .before .before .args in
-    answered (a .table .now) (a .key) _ (passed-header _ _ (h .header .ensures) (w .before .before .if1 .left)) (w .word .ensures) (d .before .if2 .left) _ _ (d .descend .ensures) (c .before .if3 .left) (c .answer-in .ensures)
+    lost (a .table .now) (a .key) _ (passed-header _ _ (h .header .ensures) (w .before .before .if1 .left)) (w .word .ensures) (d .before .if2 .left) _ _ (d .descend .ensures) (s .stand .ensures) (c .if3 .taken)
+
+returns-4 : tie.Need-returns-4
+returns-4 c =
+    let s = c .before .before in
+    let r = s .before in
+    let d = r .before in
+    let w = d .before .before in
+    let h = w .before .before .before in
+    let a = h .before .before .args in
+    answered-here (a .table .now) (a .key) _ (passed-header _ _ (h .header .ensures) (w .before .before .if1 .left)) (w .word .ensures) (d .before .if2 .left) _ _ (d .descend .ensures) (s .stand .ensures) _ (c .before .if3 .left) (c .if4 .taken) (r .answer-in .ensures)
+
+answer-in-requires-2 : tie.Need-answer-in-requires-2
+answer-in-requires-2 c κs = search needs
+
+returns-5 : tie.Need-returns-5
+returns-5 c =
+    let s = c .before .before .before in
+    let d = s .before .before in
+    let w = d .before .before in
+    let h = w .before .before .before in
+    let a = h .before .before .args in
+    answered (a .table .now) (a .key) _ (passed-header _ _ (h .header .ensures) (w .before .before .if1 .left)) (w .word .ensures) (d .before .if2 .left) _ _ (d .descend .ensures) (s .stand .ensures) _ (c .before .before .if3 .left) (c .answer-in2 .ensures)
 
 pub search-spec : {M : Type 1} → statement M
 search-spec =
@@ -58,6 +78,9 @@ search-spec =
     word-requires
     returns-2
     descend-requires
-    returns-3
     answer-in-requires
-    returns-4)
+    stand-requires
+    returns-3
+    returns-4
+    answer-in-requires-2
+    returns-5)
