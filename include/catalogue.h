@@ -5,6 +5,7 @@
  * A table is 8 + 32 * N words, N from 1 to 65,535 nodes. Every call takes any words and any length: it does its work or returns a
  * refusal number, and a refusal changes no lent word. A word that an answer is put into is left alone unless the call does its work.
  * Lent slices may not overlap. A slice of length 0 still wants a pointer that is not null. One writer; readers only read.
+ * No call asks for memory. Listing and the writing calls need 300 KB of stack, the others 2 KB.
  *
  * A writing call changes the working copy and fills an order list of at least CATALOGUE_LIST_WORDS words, two words an order:
  * a store is its word index and its value, a flush is CATALOGUE_MARK and a line number (eight words from a multiple of 8 are a line;
