@@ -1,9 +1,8 @@
 -- The laws of single calls that demand 3 rests on, as records over document 01's definitions.
 use mathlib.Core.Path.{_≡_}
-use mathlib.Core.Logic.{_⊎_}
 use mathlib.Core.Bool.{true}
 use mathlib.Core.List.{List, []}
-use Prim.Native.Nat.{ℕ, _+_, _*_, _≤_, _<_}
+use Prim.Native.Nat.{ℕ, _+_, _*_, _≤_}
 use lib.ListN.{length, take}
 use Rattle.model.specs.Table.{Words, headerOk, empty}
 use Rattle.model.specs.Search.{search, lookup}
@@ -11,9 +10,8 @@ use Rattle.model.specs.Reached.{mapOf}
 use Rattle.model.specs.SoundTest.{settled, sound}
 use Rattle.model.specs.Orders.{Store, Order, apply, orders, storeCount, flushCount, listWith, carryNumber, carriedOut}
 use Rattle.model.specs.Cuts.{CutImage}
-use Rattle.model.specs.Writes.{Call, storesOf}
-use Rattle.model.specs.Refusals.{refusal, ordersOf}
-use Rattle.model.specs.Ledger.{change}
+use Rattle.model.specs.Writes.{Call}
+use Rattle.model.specs.Refusals.{refusal}
 use Rattle.cut_laws.proofs.Lent.{StoresInside}
 use Rattle.steps.proofs.Calls.{Steps}
 

@@ -1,6 +1,6 @@
 -- Sound tables and stores that break one sentence each of document 01's "Sound tables", judged by the definitions.
 use mathlib.Core.Path.{_≡_, refl}
-use mathlib.Core.Bool.{Bool, true, false, not, _&&_}
+use mathlib.Core.Bool.{Bool, true, not, _&&_}
 use mathlib.Core.List.{List, [], _∷_, _++_}
 use Prim.Native.Nat.{ℕ, zero, suc, pred, _+_}
 use lib.ListN.{replicate}

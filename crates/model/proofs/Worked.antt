@@ -1,6 +1,5 @@
 -- The starred lines of document 01's "Worked on paper", proved from the definitions as one claim.
 use mathlib.Core.Path.{_≡_, refl}
-use mathlib.Core.Bool.{Bool, true, false}
 use mathlib.Core.List.{List, [], _∷_, _++_, map}
 use Prim.Native.Nat.{ℕ, zero, suc, pred, _+_, _*_}
 use lib.ListN.{length, replicate}
@@ -12,7 +11,7 @@ use Rattle.model.specs.Codes.{parse, print}
 use Rattle.model.specs.Table.{MARK, Words, making, made, empty, node, nodes, root}
 use Rattle.model.specs.Slots.{Slot, slot, shown, hidden, inUse, view}
 use Rattle.model.specs.Search.{route}
-use Rattle.model.specs.Orders.{orders, storeCount, flushCount, Store}
+use Rattle.model.specs.Orders.{orders, storeCount, flushCount}
 use Rattle.model.specs.Shifts.{shiftIn, inNode}
 use Rattle.model.specs.Writes.{insertion}
 use Rattle.model.specs.Refusals.{written, tableAfter}

@@ -1,13 +1,11 @@
 -- Demand 3 as one claim over all sequences of insertions, deletions and repairs, whole or cut.
 use mathlib.Core.Path.{_≡_}
-use mathlib.Core.Bool.{Bool, true, false}
+use mathlib.Core.Bool.{Bool, true}
 use mathlib.Core.List.{List, [], _∷_}
-use Prim.Native.Nat.{ℕ, zero, suc, _≤_}
+use Prim.Native.Nat.{ℕ, _≤_}
 use lib.Dec.{eqb}
 use lib.ListN.{length}
-use Rattle.model.specs.declared.Answer.{Answer}
 use Rattle.model.specs.Table.{Words, empty}
-use Rattle.model.specs.Slots.{Slot}
 use Rattle.model.specs.Search.{search, lookup}
 use Rattle.model.specs.Reached.{mapOf}
 use Rattle.model.specs.SoundTest.{settled}

@@ -1,5 +1,5 @@
 -- Document 01, "Search": a listing of the map's pairs in a range of keys.
-use mathlib.Core.Bool.{Bool, true, false, cond, _&&_}
+use mathlib.Core.Bool.{true, false, cond, _&&_}
 use mathlib.Core.List.{List, [], _∷_, _++_}
 use Prim.Native.Nat.{ℕ, _*_, _/_}
 use lib.Dec.{leb, ltb}

@@ -1,7 +1,7 @@
 -- Document 01, "Orders": stores and flushes, their words in a lent list, the flush rule, and carry-out.
 use mathlib.Core.Bool.{Bool, true, false, cond, _&&_}
 use mathlib.Core.List.{List, [], _∷_, _++_}
-use Prim.Native.Nat.{ℕ, zero, suc, _*_, _/_}
+use Prim.Native.Nat.{ℕ, suc, _*_, _/_}
 use lib.Dec.{eqb, ltb, leb}
 use lib.ListN.{length, take, drop, set}
 use Rattle.model.specs.declared.Outcome.{Outcome}

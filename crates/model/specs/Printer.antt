@@ -9,7 +9,7 @@ use Rattle.model.specs.declared.Parsed.the-variants.{Key, Refused}
 use Rattle.model.specs.Text.{ascii}
 use Rattle.model.specs.Codes.{isDigit, every, value, number, parse}
 use Rattle.model.specs.Table.{MARK, Words, empty}
-use Rattle.model.specs.Orders.{Store, Order, store, flush, storeCount, flushCount}
+use Rattle.model.specs.Orders.{Order, store, flush, storeCount, flushCount}
 use Rattle.model.specs.Writes.{Call, insertion, deletion}
 use Rattle.model.specs.Refusals.{refusal, ordersOf, tableAfter, listAfter, unlessRefused}
 

@@ -1,12 +1,9 @@
 -- Document 01, "Search": the nodes reached, the map, and a listing.
-use mathlib.Core.Bool.{Bool, true, false, cond, _&&_}
+use mathlib.Core.Bool.{Bool, true, false}
 use mathlib.Core.List.{List, [], _∷_, _++_, map}
-use Prim.Native.Nat.{ℕ, zero, suc, _+_, _*_, _/_}
-use lib.Dec.{leb, ltb, eqb}
-use lib.ListN.{length, take, drop}
-use Rattle.model.specs.declared.Listed.{Listed}
-use Rattle.model.specs.declared.Listed.the-variants.{Pairs, Refused}
-use Rattle.model.specs.Table.{Words, headerOk}
+use Prim.Native.Nat.{ℕ, zero, suc, _+_}
+use lib.Dec.{eqb}
+use Rattle.model.specs.Table.{Words}
 use Rattle.model.specs.Slots.{Slot, View, view, height}
 use Rattle.model.specs.Search.{within}
 

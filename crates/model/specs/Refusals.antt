@@ -1,5 +1,5 @@
 -- Document 01, "What refuses, and with which number": for each writing call, the numbers in their order; and what a call answers.
-use mathlib.Core.Bool.{Bool, true, false, cond, not, _&&_, _||_}
+use mathlib.Core.Bool.{Bool, false, cond, not, _&&_, _||_}
 use mathlib.Core.List.{List, [], _∷_}
 use mathlib.Core.Option.{Option, none, some}
 use Prim.Native.Nat.{ℕ, zero, suc, _+_}
@@ -11,7 +11,7 @@ use Rattle.model.specs.Table.{MARK, Words, headerOk}
 use Rattle.model.specs.Slots.{Slot, View, view, height, full}
 use Rattle.model.specs.Reached.{mapOf, recording}
 use Rattle.model.specs.SoundTest.{sound, Leftover, nothing, hiddenIn, missingIn, bothIn, leftover}
-use Rattle.model.specs.Orders.{Store, Order, apply, orders, storeCount, flushCount, listWith}
+use Rattle.model.specs.Orders.{Order, apply, orders, storeCount, flushCount, listWith}
 use Rattle.model.specs.Writes.{unreachable, repaired, run, rootInRun, Call, insertion, deletion, repair, storesOf}
 
 -- ---- the conditions of 12, 11 and 10

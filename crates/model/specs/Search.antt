@@ -1,5 +1,5 @@
 -- Document 01, "Search": finding the leaf, finding the slot in it, and the answer.
-use mathlib.Core.Bool.{Bool, true, false, cond, _&&_, _||_}
+use mathlib.Core.Bool.{Bool, true, false, _&&_, _||_}
 use mathlib.Core.List.{List, [], _∷_}
 use mathlib.Core.Option.{Option, none, some}
 use Prim.Native.Nat.{ℕ, zero, suc}
@@ -78,12 +78,6 @@ searchView v k = elim (leb (height v) 15) [ true ↦ answerIn v k (locate v (hei
 
 unfoldable pub search : Words → ℕ → Answer
 search t k = elim (headerOk t) [ true ↦ searchView (view t) k | false ↦ Refused 2 ]
-
--- Document 01's number for each case: 0 for found and absent.
-abbrev pub answerNumber : Answer → ℕ
-answerNumber (Found r) = 0
-answerNumber Absent = 0
-answerNumber (Refused n) = n
 
 -- the recording that a lent word then holds; it stays where there is none
 abbrev pub recordingOr : Answer → ℕ → ℕ

@@ -1,5 +1,5 @@
 -- Document 01, "Orders": the stores of a shift in, a shift out and a close, over any number of slots.
-use mathlib.Core.Bool.{Bool, true, false}
+use mathlib.Core.Bool.{true, false}
 use mathlib.Core.List.{List, [], _∷_, _++_}
 use Prim.Native.Nat.{ℕ, suc, pred, _+_, _*_}
 use lib.Dec.{eqb, ltb}

@@ -1,9 +1,9 @@
 -- Document 01, "Sound tables", sentence by sentence. SoundTest.antt has the same as a test that computes.
 use mathlib.Core.Path.{_≡_}
-use mathlib.Core.Logic.{_≢_, _⊎_}
-use mathlib.Core.Bool.{Bool, true, false}
+use mathlib.Core.Logic.{_≢_}
+use mathlib.Core.Bool.{true, false}
 use mathlib.Core.List.{List, [], _∷_, _++_, List·Memᴰ}
-use Prim.Native.Nat.{ℕ, zero, suc, _≤_, _<_}
+use Prim.Native.Nat.{ℕ, suc, _≤_, _<_}
 use lib.ListN.{length, getD}
 use Rattle.model.specs.Table.{MARK, Words, headerOk}
 use Rattle.model.specs.Slots.{Slot, slot, View, view, height}

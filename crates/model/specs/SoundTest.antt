@@ -1,6 +1,6 @@
 -- Document 01, "Sound tables", as a test that computes on any words. Sound.antt has it sentence by sentence; the two say the same.
 use mathlib.Core.Bool.{Bool, true, false, cond, not, _&&_, _||_}
-use mathlib.Core.List.{List, [], _∷_, _++_, map}
+use mathlib.Core.List.{List, [], _∷_, map}
 use mathlib.Core.Option.{Option, none, some}
 use Prim.Native.Nat.{ℕ, zero, suc}
 use lib.Dec.{leb, ltb, eqb}
@@ -13,7 +13,7 @@ use Rattle.model.specs.declared.Unfinished.{Unfinished}
 use Rattle.model.specs.Table.{MARK, Words, inRange, headerOk}
 use Rattle.model.specs.Slots.{Slot, View, view, height}
 use Rattle.model.specs.Search.{within}
-use Rattle.model.specs.Reached.{filter, flat, headOr, pointers, kept, named, nextChild, fillRow, children, reached, leaves, mapping, recording}
+use Rattle.model.specs.Reached.{headOr, kept, named, nextChild, children, reached, mapping, recording}
 
 unfoldable pub all {ℓ} : {A : Type ℓ} → (A → Bool) → List A → Bool
 all p [] = true

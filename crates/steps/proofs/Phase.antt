@@ -3,7 +3,7 @@ use mathlib.Core.Path.{_≡_, refl, _∙_}
 use mathlib.Core.Logic.{_⊎_, inl, inr, ⊎-map}
 use mathlib.Core.Bool.{true}
 use mathlib.Core.List.{List, [], _++_}
-use Prim.Native.Nat.{ℕ, _+_, _≤_, _<_}
+use Prim.Native.Nat.{ℕ, _+_, _≤_}
 use native.Mathlib.Omega.{arith}
 use lib.ListN.{length, take}
 use lib.Seq.{take-nil}
@@ -12,7 +12,7 @@ use Rattle.model.specs.Slots.{Slot}
 use Rattle.model.specs.Reached.{mapOf}
 use Rattle.model.specs.SoundTest.{settled, sound}
 use Rattle.model.specs.Orders.{Store, apply, orders}
-use Rattle.list_laws.proofs.Tools.{Each, Each-append}
+use Rattle.list_laws.proofs.Tools.{Each-append}
 use Rattle.cut_laws.proofs.Applying.{apply-append, always-append, length-apply}
 use Rattle.cut_laws.proofs.FlushRule.{length-orders-append}
 use Rattle.cut_laws.proofs.Lent.{StoresInside}

@@ -1,11 +1,11 @@
 -- `search::route` meets its contract. The loop's invariant: the slots from i on lead, from the way so far, where all of them do.
 use Prim.Native.Nat.{_≤_, _-_}
-use mathlib.Core.Path.{_≡_, refl, sym, ap, _∙_}
+use mathlib.Core.Path.{_≡_, refl}
 use native.Mathlib.Omega.{arith}
 use borrow.Author.Needs.{needs}
 use lib.ListN.{length}
 use Rattle.model.specs.Search.{route}
-use Rattle.search.specs.Scan.{shownFrom, wayAfter}
+use Rattle.search.specs.Scan.{shownFrom}
 use Rattle.search.proofs.Scans.{none-past, none-at, way-next, way-end}
 use Rattle.search.proofs.route.Statement.{statement}
 use Rattle.search.proofs.route.Tie as tie
