@@ -2,7 +2,7 @@
 use mathlib.Core.Path.{_≡_, refl, ap, sym, _∙_}
 use mathlib.Core.Bool.{Bool, true, false, _&&_}
 use mathlib.Core.List.{List, [], _∷_, _++_}
-use Prim.Native.Nat.{ℕ, zero, suc, _-_, _≤_, _<_}
+use Prim.Native.Nat.{ℕ, suc, _-_, _≤_, _<_}
 use native.Mathlib.Omega.{arith}
 use lib.Dec.{leb}
 use lib.ListN.{length, getD}
@@ -17,13 +17,13 @@ use Rattle.model.specs.Writes.{standing}
 use Rattle.list_laws.proofs.Tools.{decode, refuted, Each, Each-map}
 use Rattle.table_laws.proofs.Header.{header-iff}
 use Rattle.tree_laws.proofs.Members.{filter-none, UpTo, pigeonhole}
-use Rattle.tree_laws.proofs.Rows.{At, Row, not-zero, linked-cons}
+use Rattle.tree_laws.proofs.Rows.{At, Row, linked-cons}
 use Rattle.tree_laws.proofs.Levels.{Orderly, sound-orderly, sound-parts, level-leaves, ascending, row-tail, row-distinct}
 use Rattle.tree_laws.proofs.Rising.{rising-from}
-use Rattle.tree_laws.proofs.MapLaw.{row-rises, leaf-part}
+use Rattle.tree_laws.proofs.MapLaw.{row-rises, row-rest, leaf-part}
 use Rattle.tree_laws.proofs.SearchLaw.{leafFor, leaf-mem, leaf-covers, path-leaf}
 use Rattle.walk_laws.specs.Chain.{along}
-use Rattle.walk_laws.proofs.ChainLaw.{along-none, along-more}
+use Rattle.walk_laws.proofs.ChainLaw.{along-none, along-more, along-row}
 use Rattle.node.specs.Word.{wordOf}
 use Rattle.node.proofs.WordLaws.{word-fence}
 use Rattle.search.specs.Scan.{shownFrom}
@@ -71,24 +71,12 @@ unfolding inRange
 row-few v d ns r =
     pigeonhole (v .nodes) ns (row-distinct v ns (ascending v d ns r)) (Each-map (At v d) (UpTo (v .nodes)) ns (λ n a. simp decode at (a .range)) (r .at))
 
-row-rest : (v : View) (d : ℕ) (ls rs : List ℕ) → Row v d (ls ++ rs) → Row v d rs
-row-rest v d [] rs r = r
-row-rest v d (n ∷ ls) rs r = row-rest v d ls rs (row-tail v d n (ls ++ rs) r)
-
--- a row is what is passed along the siblings from its first node on
-along-row : (v : View) (d c : ℕ) (ns : List ℕ) → Row v d ns → length ns ≤ c → along v c (headOr 0 ns) ≡ ns
-along-row v d c [] r h = along-none v c
-along-row v d zero (n ∷ ns) r h = absurd (omega arith)
-along-row v d (suc c) (n ∷ ns) r h =
-    along-more v c n (not-zero v n (r .at .0 .range)) ∙ ap (λ (k : ℕ). n ∷ along v c k) (linked-cons v n ns 0 .0 (r .chain) .0)
-    ∙ ap (λ (ms : List ℕ). n ∷ ms) (along-row v d c ns (row-tail v d n ns r) (omega arith))
-
 -- the leaves from n on, and their pairs in the range
 abbrev pub onward : View → ℕ → List ℕ
 onward v n = along v (v .nodes) n
 
 onward-row : (v : View) (ns : List ℕ) → Row v 0 ns → onward v (headOr 0 ns) ≡ ns
-onward-row v ns r = along-row v 0 (v .nodes) ns r (row-few v 0 ns r)
+onward-row v ns r = along-row v 0 (v .nodes) ns (r .at) (r .chain) (row-few v 0 ns r)
 
 abbrev pairsFrom : View → (low high n : ℕ) → List Slot
 pairsFrom v low high n = inRangeOf low high (flat (kept v) (onward v n))

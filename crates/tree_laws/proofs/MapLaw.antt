@@ -115,7 +115,7 @@ leaf-recordings v x o m =
     let u = distinct-cons MARK (flat own (leaves v)) .0 (rw (map-flat recording (kept v) (leaves v)) at (o .recordings)) in
     distinct-cons MARK (own x) .1 (each-mem (λ (n : ℕ). elem MARK (own n) ≡ false) (flat-off own (leaves v) MARK (u .0)) m, distinct-part own (leaves v) x (u .1) m)
 
-row-rest : (v : View) (d : ℕ) (ls rs : List ℕ) → Row v d (ls ++ rs) → Row v d rs
+pub row-rest : (v : View) (d : ℕ) (ls rs : List ℕ) → Row v d (ls ++ rs) → Row v d rs
 row-rest v d [] rs r = r
 row-rest v d (n ∷ ls) rs r = row-rest v d ls rs (row-tail v d n (ls ++ rs) r)
 

@@ -25,7 +25,7 @@ unfolding along
 along-more v c n z = rw (ne-eqb n 0 z, along)
 
 -- a row that ends is what is passed from its first node on
-along-row : (v : View) (d c : ℕ) (ns : List ℕ) → Each (At v d) ns → linked v ns 0 ≡ true → length ns ≤ c → along v c (headOr 0 ns) ≡ ns
+pub along-row : (v : View) (d c : ℕ) (ns : List ℕ) → Each (At v d) ns → linked v ns 0 ≡ true → length ns ≤ c → along v c (headOr 0 ns) ≡ ns
 along-row v d c [] a l h = along-none v c
 along-row v d zero (n ∷ ns) a l h = absurd (omega arith)
 along-row v d (suc c) (n ∷ ns) a l h =
