@@ -13,7 +13,7 @@ use Rattle.numbers.specs.declared.Entry.the-variants.{Entered, Known, Fu
 abbrev pub SPREAD : ℕ
 SPREAD = 4294967291
 
--- a number scattered over 0 to SPREAD - 1: numbers that follow each other, or in equal steps, fall apart
+-- a number scattered over 0 to SPREAD - 1: numbers that follow each other, or in small equal steps, fall apart
 unfoldable pub mixed : ℕ → ℕ
 mixed r = (r % 2147483647) * 2246822519 % SPREAD
 

@@ -19,7 +19,8 @@ pub enum Entry {
     Full,
 }
 
-// A number scattered: numbers that follow each other, or in equal steps, as recording numbers do, then crowd no cells.
+// A number scattered, so that numbers that follow each other, or in small equal steps, crowd no cells. Those that leave one rest by
+// 2,147,483,647 still do.
 pub fn mixed(number: u64) -> u64
     ensures { λ r. ⌜ r ≡ mixed number ⌝ }
 {
