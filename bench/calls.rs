@@ -3,6 +3,10 @@ use std::alloc::{alloc_zeroed, dealloc, handle_alloc_error, Layout};
 use std::ffi::{c_char, c_int, c_void, CStr};
 use std::ops::{Deref, DerefMut};
 
+#[path = "../tests/calls/declared.rs"]
+mod declared;
+use declared::*;
+
 const LIST_WORDS: usize = 2560;
 const NODE_WORDS: usize = 32;
 const HEADER_WORDS: usize = 8;
@@ -22,13 +26,6 @@ struct Carrying {
 }
 
 extern "C" {
-    fn catalogue_make(table: *mut u64, words: usize) -> u64;
-    fn catalogue_search(table: *const u64, words: usize, key: u64, recording: *mut u64) -> u64;
-    fn catalogue_insert(table: *mut u64, words: usize, orders: *mut u64, order_words: usize, key: u64, recording: u64, stores: *mut u64, flushes: *mut u64) -> u64;
-    fn catalogue_delete(table: *mut u64, words: usize, orders: *mut u64, order_words: usize, key: u64, stores: *mut u64, flushes: *mut u64) -> u64;
-    fn catalogue_repair(table: *mut u64, words: usize, orders: *mut u64, order_words: usize, stores: *mut u64, flushes: *mut u64) -> u64;
-    fn catalogue_carry_out(table: *mut u64, words: usize, orders: *const u64, order_words: usize, c: u64) -> u64;
-
     fn plain_nodes(keys: usize) -> usize;
     fn plain_pack(table: *mut u64, nodes: usize, place: *const u64, keys: *const u64, recordings: *const u64, count: usize);
     fn plain_search(table: *const u64, key: u64) -> u64;

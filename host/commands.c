@@ -8,6 +8,7 @@
 
 #include "catalogue.h"
 #include "draw.h"
+#include "help.h"
 #include "table.h"
 #include "text.h"
 
@@ -15,9 +16,8 @@
 
 static int plan(struct table *t, struct change *c)
 {
-    char text[EXPLANATION];
     uint64_t number = change_plan(c, t);
-    return number == 0 ? 0 : fail((int)number, "%s", explain(number, t->name, c->key, c->recording, text));
+    return number == 0 ? 0 : refuse(number, t->name, c->key, c->recording);
 }
 
 static void say_done(const struct change *c)
@@ -34,7 +34,7 @@ static void say_done(const struct change *c)
 }
 
 /* A cut change: whatever a power cut leaves of it is a first part of its stores, so that a count of orders shows every case. */
-static int make_change(struct table *t, struct line *l)
+static int make_change(struct table *t, struct command_line *l)
 {
     struct change *c = &l->change;
     int status = plan(t, c);
@@ -43,9 +43,11 @@ static int make_change(struct table *t, struct line *l)
     uint64_t all = c->stores + c->flushes, count = l->given & CUT ? l->cut : all;
     if (count > all)
         return fail(BAD_USAGE, "--cut %" PRIu64 ": this change has %" PRIu64 " orders; nothing was changed", count, all);
-    status = table_carry_out(t, c->orders, count, &l->options.carrying);
+    status = table_carry_out(t, c->orders, count);
     if (status == 0)
         status = table_settle(t);
+    if (status == 0)
+        status = table_compare(t);
     if (status == 0 && count < all)
         printf("cut off after %" PRIu64 " of %" PRIu64 " orders; show draws what is left\n", count, all);
     if (status == 0 && count == all)
@@ -53,7 +55,7 @@ static int make_change(struct table *t, struct line *l)
     return status;
 }
 
-static int print_orders(struct table *t, struct line *l)
+static int print_orders(struct table *t, struct command_line *l)
 {
     int status = plan(t, &l->change);
     if (status != 0)
@@ -64,93 +66,114 @@ static int print_orders(struct table *t, struct line *l)
     return 0;
 }
 
-static int find(struct table *t, struct line *l)
+static int find(struct table *t, struct command_line *l)
 {
     uint64_t recording;
-    char text[EXPLANATION];
     uint64_t number = catalogue_search(t->working, t->words, l->low, &recording);
     if (number != 0)
-        return fail((int)number, "%s", explain(number, t->name, l->low, 0, text));
+        return refuse(number, t->name, l->low, 0);
     printf("%" PRIu64 "\n", recording);
     return 0;
 }
 
-static int list(struct table *t, struct line *l)
+static int list(struct table *t, struct command_line *l)
 {
     /* A node of a sound table has at most 11 pairs: all of them fit, and none are left. */
     size_t room = 2 * 11 * (t->words / NODE_WORDS);
     uint64_t *pairs = calloc(room, sizeof *pairs), count = 0, more;
     if (!pairs)
         return fail(BAD_FILE, "not enough memory");
-    char text[EXPLANATION], code[KEY_TEXT];
+    char code[KEY_TEXT];
     uint64_t number = catalogue_list(t->working, t->words, l->low, l->high, pairs, room, &count, &more);
     if (number != 0)
-        fail((int)number, "%s", explain(number, t->name, 0, 0, text));
+        refuse(number, t->name, 0, 0);
     for (uint64_t i = 0; i < count; i++)
         printf("%s,%" PRIu64 "\n", key_text(pairs[2 * i], code), pairs[2 * i + 1]);
     free(pairs);
     return (int)number;
 }
 
-static int load_file(struct table *t, struct line *l)
+static int load_file(struct table *t, struct command_line *l)
 {
-    return load(t, l->words[2], &l->options);
+    return load(t, l->words[2], &l->load);
 }
 
-static int check_table(struct table *t, struct line *l)
+static int check_table(struct table *t, struct command_line *l)
 {
     (void)l;
     return check(t);
 }
 
-static int show_table(struct table *t, struct line *l)
+static int show_table(struct table *t, struct command_line *l)
 {
     (void)l;
     return show(t);
 }
 
+static int copy_table(struct table *t, struct command_line *l)
+{
+    return table_copy(t, l->words[2], l->nodes);
+}
+
 /* ---- the commands */
 
-static int with_table(struct line *l, bool writing, int (*work)(struct table *t, struct line *l))
+static int with_table(struct command_line *l, bool writing, int (*work)(struct table *t, struct command_line *l))
 {
     struct table t;
-    int status = table_open(&t, l->words[1], writing);
+    int status = table_open(&t, l->words[1], writing, &l->table);
     if (status == 0)
         status = work(&t, l);
     table_close(&t);
     return status;
 }
 
-static int command_make(struct line *l)
+/* The number of nodes of a new table, from a word. */
+static int read_nodes(struct command_line *l, const char *word)
 {
-    uint64_t nodes;
-    if (!read_number(l->words[2], strlen(l->words[2]), &nodes))
-        return fail(BAD_USAGE, "%.40s: a table has 1 to %d nodes", l->words[2], MOST_NODES);
-    int status = table_make(l->words[1], nodes);
-    if (status == 0)
-        printf("made %s with %" PRIu64 " node%s\n", l->words[1], nodes, nodes == 1 ? "" : "s");
-    return status;
+    return read_number(word, strlen(word), &l->nodes) ? 0 : fail(BAD_USAGE, "%.40s: a table has 1 to %d nodes", word, MOST_NODES);
 }
 
-static int command_add(struct line *l)
+static int say_made(const char *name, uint64_t nodes)
+{
+    printf("made %s with %" PRIu64 " node%s\n", name, nodes, nodes == 1 ? "" : "s");
+    return 0;
+}
+
+static int command_make(struct command_line *l)
+{
+    int status = read_nodes(l, l->words[2]);
+    if (status == 0)
+        status = table_make(l->words[1], l->nodes);
+    return status != 0 ? status : say_made(l->words[1], l->nodes);
+}
+
+static int command_copy(struct command_line *l)
+{
+    int status = read_nodes(l, l->words[3]);
+    if (status == 0)
+        status = with_table(l, false, copy_table);
+    return status != 0 ? status : say_made(l->words[2], l->nodes);
+}
+
+static int command_add(struct command_line *l)
 {
     int status = change_read(&l->change, ADD, l->words + 2);
     return status != 0 ? status : with_table(l, true, make_change);
 }
 
-static int command_remove(struct line *l)
+static int command_remove(struct command_line *l)
 {
     int status = change_read(&l->change, REMOVE, l->words + 2);
     return status != 0 ? status : with_table(l, true, make_change);
 }
 
-static int command_repair(struct line *l)
+static int command_repair(struct command_line *l)
 {
     int status = change_read(&l->change, REPAIR, NULL);
     return status != 0 ? status : with_table(l, true, make_change);
 }
 
-static int command_orders(struct line *l)
+static int command_orders(struct command_line *l)
 {
     static const struct {
         const char *name;
@@ -165,13 +188,16 @@ static int command_orders(struct line *l)
     return WRONG_FORM;
 }
 
-static int command_find(struct line *l)
+static int command_find(struct command_line *l)
 {
+    /* A search may not run beside a change yet; it waits for its turn. */
+    if (!(l->given & WAITING))
+        l->table.wait = FOREVER;
     int status = read_code_word(l->words[2], &l->low);
     return status != 0 ? status : with_table(l, false, find);
 }
 
-static int command_list(struct line *l)
+static int command_list(struct command_line *l)
 {
     l->high = UINT64_MAX;
     if (l->count == 3)
@@ -184,31 +210,65 @@ static int command_list(struct line *l)
     return status != 0 ? status : with_table(l, false, list);
 }
 
-static int command_load(struct line *l)
+static int command_load(struct command_line *l)
 {
     return with_table(l, true, load_file);
 }
 
-static int command_check(struct line *l)
+static int command_check(struct command_line *l)
 {
     return with_table(l, false, check_table);
 }
 
-static int command_show(struct line *l)
+static int command_show(struct command_line *l)
 {
     return with_table(l, false, show_table);
 }
 
+static int command_help(struct command_line *l)
+{
+    const struct command *c = NULL;
+    if (l->count == 2 && !(c = command_named(l->words[1])))
+        return BAD_USAGE;
+    help(c);
+    return 0;
+}
+
 const struct command commands[] = {
-    {"make", "TABLE NODES", 3, 3, 0, command_make},
-    {"add", "TABLE CODE RECORDING [--cut C]", 4, 4, CUT | CARRYING, command_add},
-    {"remove", "TABLE CODE [--cut C]", 3, 3, CUT | CARRYING, command_remove},
-    {"find", "TABLE CODE", 3, 3, 0, command_find},
-    {"list", "TABLE [FROM TO]", 2, 4, 0, command_list},
-    {"load", "TABLE FILE.csv [--again] [--each]", 3, 3, LOADING | CARRYING, command_load},
-    {"repair", "TABLE [--cut C]", 2, 2, CUT | CARRYING, command_repair},
-    {"orders", "TABLE add CODE RECORDING, .. remove CODE, or .. repair", 3, 5, 0, command_orders},
-    {"check", "TABLE", 2, 2, 0, command_check},
-    {"show", "TABLE", 2, 2, 0, command_show},
-    {NULL, NULL, 0, 0, 0, NULL},
+    {"make", "TABLE NODES", "a new, empty table of 1 to 65535 nodes; allow one for every 4 codes", "make room.cat 100", 3, 3, 0,
+     command_make},
+    {"add", "TABLE CODE RECORDING", "a new code", "add room.cat AA-000-19-12345 7", 4, 4, CUT | CARRYING | WAITING, command_add},
+    {"remove", "TABLE CODE", "a code taken out", "remove room.cat AA-000-19-12345", 3, 3, CUT | CARRYING | WAITING, command_remove},
+    {"find", "TABLE CODE", "prints the code's recording", "find room.cat AA0001912345", 3, 3, WAITING, command_find},
+    {"list", "TABLE [FROM TO]", "prints the codes from FROM to TO, or all, as lines code,recording that load reads",
+     "list room.cat AA0000000000 AAZZZ9999999", 2, 4, WAITING, command_list},
+    {"load", "TABLE FILE.csv",
+     "adds the lines code,recording of a file, or of standard input where it is -.\n"
+     "A byte-order mark, a header line, empty lines, spaces and quotes around the fields\n"
+     "are passed over. Loading stops at the first bad line; the first 20 are told",
+     "load room.cat codes.csv", 3, 3, LOADING | CARRYING | WAITING, command_load},
+    {"repair", "TABLE", "finishes what a power cut left unfinished (add, remove and load do so first)", "repair room.cat", 2, 2,
+     CUT | CARRYING | WAITING, command_repair},
+    {"copy", "TABLE NEW NODES", "a new table of NODES nodes, as many as TABLE has or more, with the same codes",
+     "copy room.cat larger.cat 200", 4, 4, WAITING, command_copy},
+    {"orders", "TABLE CHANGE ..",
+     "prints the stores and flushes of a change without making it: add CODE RECORDING,\nremove CODE, or repair",
+     "orders room.cat add AA0001912345 7", 3, 5, WAITING, command_orders},
+    {"check", "TABLE", "says whether the table is settled, sound with a leftover, or not sound", "check room.cat", 2, 2, WAITING,
+     command_check},
+    {"show", "TABLE", "draws the tree by level, with hidden and trailing slots and the leftover; #N is a\nkey that no code has",
+     "show room.cat", 2, 2, WAITING, command_show},
+    {"help", "[COMMAND]", "this text, or that of one command", "help load", 1, 2, 0, command_help},
+    {NULL, NULL, NULL, NULL, 0, 0, 0, NULL},
 };
+
+const struct command *command_named(const char *name)
+{
+    const struct command *c = commands;
+    while (c->name && strcmp(c->name, name) != 0)
+        c++;
+    if (c->name)
+        return c;
+    fail(BAD_USAGE, "there is no command %.40s (catalogue --help tells more)", name);
+    return NULL;
+}

@@ -13,10 +13,9 @@
 static int judge(struct table *t, const struct tree *tree)
 {
     struct change c = {.kind = REPAIR};
-    char text[EXPLANATION];
     uint64_t number = change_plan(&c, t);
     if (number != 0)
-        return fail((int)number, "%s", explain(number, t->name, 0, 0, text));
+        return refuse(number, t->name, 0, 0);
     printf("%s is %s: %zu code%s in %zu of %" PRIu64 " nodes\n", t->name, c.stores == 0 ? "settled" : "sound", tree_codes(tree),
            tree_codes(tree) == 1 ? "" : "s", tree->count, tree->nodes);
     struct leftover l = tree_leftover(tree);
@@ -28,7 +27,7 @@ static int judge(struct table *t, const struct tree *tree)
 int check(struct table *t)
 {
     struct tree tree;
-    int status = tree_walk(&tree, t->memory) ? judge(t, &tree) : fail(BAD_FILE, "not enough memory");
+    int status = tree_walk(&tree, t->expected) ? judge(t, &tree) : fail(BAD_FILE, "not enough memory");
     tree_free(&tree);
     return status;
 }
@@ -110,7 +109,7 @@ int show(struct table *t)
 {
     struct tree tree;
     int status = BAD_FILE;
-    if (tree_walk(&tree, t->memory)) {
+    if (tree_walk(&tree, t->expected)) {
         status = judge(t, &tree);
         draw(&tree);
     } else {

@@ -1,20 +1,21 @@
 /* Carrying an order list out on memory: whole stores, and at each flush the line written back and fenced. */
 #include "flush.h"
 
-#include <stdbool.h>
+#include <errno.h>
 #include <stddef.h>
 #include <string.h>
+#include <sys/mman.h>
 #include <time.h>
+#include <unistd.h>
 
 #include "catalogue.h"
 
-#define LINE_WORDS 8
-
 /* Keeps the compiler's order, on any processor; writes nothing back. */
-static void only_fence(void *address)
+static bool only_fence(void *address)
 {
     (void)address;
     __atomic_thread_fence(__ATOMIC_SEQ_CST);
+    return true;
 }
 
 static bool always(void)
@@ -54,22 +55,25 @@ static bool has_clflush(void)
 }
 
 /* The fence after each: later stores wait until the line is on its way to memory. */
-__attribute__((target("clwb"))) static void by_clwb(void *address)
+__attribute__((target("clwb"))) static bool by_clwb(void *address)
 {
     _mm_clwb(address);
     _mm_sfence();
+    return true;
 }
 
-__attribute__((target("clflushopt"))) static void by_clflushopt(void *address)
+__attribute__((target("clflushopt"))) static bool by_clflushopt(void *address)
 {
     _mm_clflushopt(address);
     _mm_sfence();
+    return true;
 }
 
-static void by_clflush(void *address)
+static bool by_clflush(void *address)
 {
     _mm_clflush(address);
     _mm_sfence();
+    return true;
 }
 #endif
 
@@ -102,6 +106,22 @@ const struct flush *flush_named(const char *name)
     return NULL;
 }
 
+static bool by_page(void *address)
+{
+    uintptr_t page = (uintptr_t)sysconf(_SC_PAGESIZE), from = (uintptr_t)address & ~(page - 1);
+    int status;
+    do
+        status = msync((void *)from, page, MS_SYNC);
+    while (status != 0 && errno == EINTR);
+    return status == 0;
+}
+
+const struct flush *flush_by_page(void)
+{
+    static const struct flush way = {"page", by_page};
+    return &way;
+}
+
 static void pause_for(uint64_t microseconds)
 {
     struct timespec left = {.tv_sec = (time_t)(microseconds / 1000000), .tv_nsec = (long)(microseconds % 1000000) * 1000};
@@ -109,15 +129,16 @@ static void pause_for(uint64_t microseconds)
         nanosleep(&left, NULL);
 }
 
-void carry_out(uint64_t *memory, const uint64_t *orders, uint64_t count, const struct carrying *how)
+bool carry_out(uint64_t *memory, const uint64_t *orders, uint64_t count, const struct carrying *how)
 {
     for (uint64_t i = 0; i < count; i++) {
         uint64_t first = orders[2 * i], second = orders[2 * i + 1];
         pause_for(how->pause);
-        if (first == CATALOGUE_MARK)
-            how->flush->line(&memory[LINE_WORDS * second]);
-        else
+        if (first != CATALOGUE_MARK)
             /* One whole store of 8 bytes, after every store before it. */
             __atomic_store_n(&memory[first], second, __ATOMIC_RELEASE);
+        else if (!how->flush->line(&memory[LINE_WORDS * second]))
+            return false;
     }
+    return true;
 }

@@ -2,6 +2,9 @@
 #ifndef HELP_H
 #define HELP_H
 
-void help(void);
+#include "commands.h"
+
+/* All of it, or what there is to say of one command. */
+void help(const struct command *only);
 
 #endif

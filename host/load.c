@@ -3,147 +3,180 @@
 
 #include <errno.h>
 #include <inttypes.h>
+#include <signal.h>
 #include <stdio.h>
 #include <string.h>
-#include <time.h>
-#include <unistd.h>
 
 #include "change.h"
+#include "progress.h"
+#include "rows.h"
 #include "text.h"
 
-/* Longer than any line of that form that people write. */
-#define LINE_ROOM 256
+/* Bad lines that are shown; the others are counted. */
+#define SHOWN_BAD 20
 
 struct loading {
     struct table *table;
     const struct load_options *options;
     const char *name;
-    FILE *in;
-    bool terminal;
-    struct timespec drawn; /* when the progress line was last drawn */
-    uint64_t lines, added, there;
+    struct rows rows;
+    struct progress progress;
+    uint64_t added, there, bad;
+    int first_bad;    /* the first bad line's exit status */
+    uint64_t stopped; /* the bad line that ended the loading, 0 for none: the lines after it are only read */
     struct change change;
 };
 
-/* The next line without its end; false at the end of the file. A line that is too long has the length LINE_ROOM and lacks the rest. */
-static bool next_line(FILE *in, char line[LINE_ROOM], size_t *length)
+/* ---- signals */
+
+static volatile sig_atomic_t signalled;
+
+static void on_signal(int number)
 {
-    int c = getc(in);
-    if (c == EOF)
-        return false;
-    *length = 0;
-    for (; c != EOF && c != '\n'; c = getc(in)) {
-        if (*length == LINE_ROOM)
-            return true;
-        line[(*length)++] = (char)c;
-    }
-    if (*length > 0 && line[*length - 1] == '\r')
-        --*length;
-    return true;
+    signalled = number;
 }
 
-/* The code and the recording of a line, with any spaces around them. 0, 1 or BAD_LINE. */
-static int read_line(struct change *c, const char *line, size_t length)
+/* The first signal ends the load between two changes; a second one ends the program at once, which a sound table survives too. */
+static void watch_signal(int number)
 {
-    const char *comma = memchr(line, ',', length);
-    if (!comma || length == LINE_ROOM)
-        return BAD_LINE;
-    const char *from = comma + 1, *to = line + length;
-    while (from < to && *from == ' ')
-        from++;
-    while (to > from && to[-1] == ' ')
-        to--;
-    if (!read_number(from, (size_t)(to - from), &c->recording))
-        return BAD_LINE;
-    return (int)read_code(line, (size_t)(comma - line), &c->key);
+    /* No restart: a signal also ends the wait for a line. */
+    struct sigaction before, action = {.sa_handler = on_signal, .sa_flags = (int)SA_RESETHAND};
+    if (sigaction(number, NULL, &before) == 0 && before.sa_handler != SIG_IGN)
+        sigaction(number, &action, NULL);
 }
+
+/* ---- a line */
 
 /* The table has this code with this recording. */
 static bool there_already(const struct loading *l)
 {
     uint64_t recording;
-    return catalogue_search(l->table->memory, l->table->words, l->change.key, &recording) == 0 && recording == l->change.recording;
+    return catalogue_search(l->table->expected, l->table->words, l->change.key, &recording) == 0 && recording == l->change.recording;
 }
 
-static int bad_line(const struct loading *l, int status)
+/* A line that cannot be loaded, told; the load ends here unless it keeps going. */
+static void bad_line(struct loading *l, int status)
 {
-    char text[EXPLANATION] = "not of the form code,recording; " RECORDINGS;
+    char text[ROW_TEXT], why[EXPLANATION] = "not of the form code,recording; " RECORDINGS;
+    if (l->bad++ == 0)
+        l->first_bad = status;
+    if (l->stopped == 0 && !l->options->keep_going)
+        l->stopped = l->rows.number;
+    if (l->bad > SHOWN_BAD)
+        return;
     if (status != BAD_LINE)
-        explain((uint64_t)status, l->table->name, l->change.key, l->change.recording, text);
+        explain((uint64_t)status, l->table->name, l->change.key, l->change.recording, why);
     const char *hint = status == CATALOGUE_KEY_PRESENT && there_already(l) ? " with this recording (--again passes over such lines)" : "";
-    return fail(status, "%s, line %" PRIu64 ": %s%s; what came before is kept", l->name, l->lines, text, hint);
+    progress_clear(&l->progress);
+    fail(status, "%s, line %" PRIu64 ", \"%s\": %s%s", l->name, l->rows.number, rows_text(&l->rows, text), why, hint);
 }
 
-static int load_line(struct loading *l, const char *line, size_t length)
-{
-    struct change *c = &l->change;
-    int status = read_line(c, line, length);
-    if (status != 0)
-        return bad_line(l, status);
-    status = (int)change_plan(c, l->table);
-    if (status == CATALOGUE_KEY_PRESENT && l->options->again && there_already(l)) {
-        l->there++;
-        return 0;
-    }
-    if (status != 0)
-        return bad_line(l, status);
-    status = table_carry_out(l->table, c->orders, c->stores + c->flushes, &l->options->carrying);
-    if (status != 0)
-        return fail(status, "%s: stopped before line %" PRIu64, l->name, l->lines);
-    l->added++;
-    return 0;
-}
-
-/* An acknowledgement: the code is in memory before it is printed. */
+/* The table has the line: its orders are carried out, or it was there. */
 static void acknowledge(const struct loading *l)
 {
     char code[KEY_TEXT];
+    if (!l->options->each)
+        return;
     printf("%s,%" PRIu64 "\n", key_text(l->change.key, code), l->change.recording);
     fflush(stdout);
 }
 
-/* A line on the terminal, ten times a second at most. It ends at its own beginning, so that the next one or a message covers it. */
-static void draw_progress(struct loading *l)
+/* The line's code added to the table: 0, or an exit status that ends the load. */
+static int add(struct loading *l)
 {
-    struct timespec now;
-    clock_gettime(CLOCK_MONOTONIC, &now);
-    int64_t passed = (now.tv_sec - l->drawn.tv_sec) * INT64_C(1000000000) + (now.tv_nsec - l->drawn.tv_nsec);
-    if (passed < 100000000)
-        return;
-    l->drawn = now;
-    fprintf(stderr, "%" PRIu64 " lines loaded\r", l->lines);
+    struct change *c = &l->change;
+    uint64_t number = change_plan(c, l->table);
+    if (number == CATALOGUE_BAD_RECORDING || number == CATALOGUE_KEY_PRESENT || number == CATALOGUE_RECORDING_PRESENT) {
+        bad_line(l, (int)number);
+        return 0;
+    }
+    int status = number == 0 ? table_carry_out(l->table, c->orders, c->stores + c->flushes)
+                             : refuse(number, l->table->name, c->key, c->recording);
+    if (status != 0)
+        return fail(status, "%s: stopped before line %" PRIu64 "; what came before is kept", l->name, l->rows.number);
+    l->added++;
+    acknowledge(l);
+    return 0;
 }
+
+static int load_line(struct loading *l)
+{
+    int status = rows_read(&l->rows, &l->change.key, &l->change.recording);
+    if (status == ROW_PASSED || (status == 0 && l->stopped > 0))
+        return 0;
+    if (status != 0) {
+        bad_line(l, status);
+        return 0;
+    }
+    if (!l->options->again || !there_already(l))
+        return add(l);
+    l->there++;
+    acknowledge(l);
+    return 0;
+}
+
+/* ---- the file */
 
 static int load_lines(struct loading *l)
 {
-    char line[LINE_ROOM];
-    size_t length;
     int status = 0;
-    while (status == 0 && next_line(l->in, line, &length)) {
-        l->lines++;
-        status = load_line(l, line, length);
-        if (status == 0 && l->options->each)
-            acknowledge(l);
-        if (status == 0 && l->terminal)
-            draw_progress(l);
+    while (status == 0 && !signalled && rows_next(&l->rows)) {
+        status = load_line(l);
+        if (status == 0)
+            progress_step(&l->progress, l->rows.number);
     }
-    if (ferror(l->in))
-        status = fail(BAD_FILE, "%s cannot be read further: %s", l->name, strerror(errno));
+    int why = errno;
+    progress_clear(&l->progress);
+    if (signalled)
+        return fail(BY_SIGNAL + signalled, "%s: ended by a signal after line %" PRIu64 "; what came before is kept", l->name,
+                    l->rows.number);
+    if (ferror(l->rows.in))
+        return fail(BAD_FILE, "%s cannot be read further: %s", l->name, strerror(why));
     return status;
+}
+
+/* What became of the bad lines. */
+static void say_bad(const struct loading *l)
+{
+    char shown[32] = "";
+    if (l->bad > SHOWN_BAD)
+        snprintf(shown, sizeof shown, ", the first %d shown", SHOWN_BAD);
+    if (l->stopped > 0)
+        fail(0, "%s: %" PRIu64 " bad line%s%s; nothing was loaded from line %" PRIu64 " on (--keep-going loads the good lines)", l->name,
+             l->bad, l->bad == 1 ? "" : "s", shown, l->stopped);
+    else if (l->bad > SHOWN_BAD)
+        fail(0, "%s: %" PRIu64 " bad lines%s", l->name, l->bad, shown);
+}
+
+/* The closing line. */
+static void say_loaded(const struct loading *l)
+{
+    say_bad(l);
+    printf("%" PRIu64 " added, %" PRIu64 " there already", l->added, l->there);
+    if (l->bad > 0)
+        printf(", %" PRIu64 " bad line%s", l->bad, l->bad == 1 ? "" : "s");
+    printf("\n");
 }
 
 int load(struct table *t, const char *name, const struct load_options *options)
 {
-    struct loading l = {.table = t, .options = options, .name = name, .terminal = isatty(STDERR_FILENO), .change = {.kind = ADD}};
-    l.in = fopen(name, "re");
-    if (!l.in)
+    bool standard = strcmp(name, "-") == 0;
+    struct loading l = {.table = t, .options = options, .name = standard ? "standard input" : name, .change = {.kind = ADD}};
+    l.rows.in = standard ? stdin : fopen(name, "re");
+    if (!l.rows.in)
         return fail(BAD_FILE, "%s cannot be opened: %s", name, strerror(errno));
+    watch_signal(SIGINT);
+    watch_signal(SIGTERM);
+    progress_begin(&l.progress, l.name, rows_count(l.rows.in));
     int status = load_lines(&l);
-    fclose(l.in);
-    if (l.terminal && status == 0)
-        fprintf(stderr, "%" PRIu64 " lines loaded\n", l.lines);
+    if (!standard)
+        fclose(l.rows.in);
     /* What came before a bad line is kept, and must last as well. */
     int settled = table_settle(t);
-    printf("%" PRIu64 " added, %" PRIu64 " there already\n", l.added, l.there);
-    return status != 0 ? status : settled;
+    if (status != BAD_FILE && settled == 0)
+        settled = table_compare(t);
+    say_loaded(&l);
+    if (settled != 0)
+        return settled;
+    return status != 0 ? status : l.first_bad;
 }

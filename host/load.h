@@ -4,16 +4,18 @@
 
 #include <stdbool.h>
 
-#include "flush.h"
 #include "table.h"
 
 struct load_options {
-    bool again; /* pass over lines that the table has already */
-    bool each;  /* print each code once its orders are carried out */
-    struct carrying carrying;
+    bool again;      /* pass over lines that the table has already */
+    bool keep_going; /* pass over bad lines */
+    bool each;       /* print each line once the table has it */
 };
 
-/* Stops at the first bad line and names it; what came before is kept. 0, or an exit status after saying why. */
+/*
+ * Adds the lines of the file, or of standard input where its name is -. A bad line ends it, unless told to keep going; the lines after it
+ * are only read then, to tell which of them are bad. What came before is kept. 0, or an exit status after saying why.
+ */
 int load(struct table *t, const char *name, const struct load_options *options);
 
 #endif

@@ -1,4 +1,4 @@
-/* A table in a file: made, opened, and changed by order lists. */
+/* A table in a file: made, opened, changed by order lists, copied. */
 #include "table.h"
 
 #include <errno.h>
@@ -8,11 +8,15 @@
 #include <string.h>
 #include <sys/file.h>
 #include <sys/mman.h>
-#include <sys/stat.h>
+#include <time.h>
 #include <unistd.h>
 
 #include "catalogue.h"
+#include "newfile.h"
 #include "text.h"
+
+/* Milliseconds between two tries to lock the file. */
+#define LOCK_PAUSE 20
 
 static size_t words_for(uint64_t nodes)
 {
@@ -21,54 +25,30 @@ static size_t words_for(uint64_t nodes)
 
 /* ---- making */
 
-static bool write_words(int file, const uint64_t *words, size_t count)
+/* Room for a table of so many nodes, zeroed and to be freed; null after saying why, with the exit status. */
+static uint64_t *room_for(uint64_t nodes, size_t *words, int *status)
 {
-    const char *next = (const char *)words;
-    size_t left = count * sizeof *words;
-    while (left > 0) {
-        ssize_t n = write(file, next, left);
-        if (n < 0 && errno == EINTR)
-            continue;
-        if (n <= 0)
-            return false;
-        next += n;
-        left -= (size_t)n;
+    *words = nodes <= MOST_NODES ? words_for(nodes) : 0;
+    uint64_t *table = calloc(*words + 1, sizeof *table);
+    if (!table) {
+        *status = fail(BAD_FILE, "not enough memory for %" PRIu64 " nodes", nodes);
+        return NULL;
     }
-    return true;
-}
-
-/* Word 0 goes last: a file that was left half made is no table. */
-static bool write_table(int file, uint64_t *table, size_t words)
-{
-    uint64_t first = table[0];
-    table[0] = 0;
-    return write_words(file, table, words) && fsync(file) == 0 && lseek(file, 0, SEEK_SET) == 0 && write_words(file, &first, 1)
-           && fsync(file) == 0;
+    uint64_t number = catalogue_make(table, *words);
+    if (number == 0)
+        return table;
+    *status = fail((int)number, "a table has 1 to %d nodes, not %" PRIu64, MOST_NODES, nodes);
+    free(table);
+    return NULL;
 }
 
 int table_make(const char *name, uint64_t nodes)
 {
-    size_t words = nodes <= MOST_NODES ? words_for(nodes) : 0;
-    uint64_t *table = calloc(words + 1, sizeof *table);
-    if (!table)
-        return fail(BAD_FILE, "not enough memory for %" PRIu64 " nodes", nodes);
-    uint64_t number = catalogue_make(table, words);
-    int status = 0;
-    if (number != 0) {
-        status = fail((int)number, "a table has 1 to %d nodes, not %" PRIu64, MOST_NODES, nodes);
-    } else {
-        int file = open(name, O_WRONLY | O_CREAT | O_EXCL | O_CLOEXEC, 0666);
-        if (file < 0 && errno == EEXIST)
-            status = fail(BAD_FILE, "%s exists already and stays as it is", name);
-        else if (file < 0)
-            status = fail(BAD_FILE, "%s cannot be made: %s", name, strerror(errno));
-        else if (!write_table(file, table, words)) {
-            status = fail(BAD_FILE, "%s cannot be written: %s", name, strerror(errno));
-            unlink(name);
-        }
-        if (file >= 0)
-            close(file);
-    }
+    size_t words;
+    int status;
+    uint64_t *table = room_for(nodes, &words, &status);
+    if (table)
+        status = new_file(name, table, words);
     free(table);
     return status;
 }
@@ -84,16 +64,27 @@ static int open_failed(const char *name, bool writing)
     return fail(BAD_FILE, "%s cannot be opened: %s", name, strerror(errno));
 }
 
-/* The file, locked: any number of readers, or one writer. Programs that take no lock are noticed by what they store. */
-static int open_locked(struct table *t)
+/* Any number of readers, or one writer. Programs that take no lock are noticed by what they store. */
+static int lock(const struct table *t, uint64_t seconds)
+{
+    const struct timespec moment = {.tv_nsec = LOCK_PAUSE * 1000000L};
+    for (uint64_t waited = 0; flock(t->file, (t->writing ? LOCK_EX : LOCK_SH) | LOCK_NB) != 0; waited += LOCK_PAUSE) {
+        if (errno != EWOULDBLOCK)
+            return fail(BAD_FILE, "%s cannot be locked: %s", t->name, strerror(errno));
+        if (waited / 1000 >= seconds)
+            return fail(BAD_FILE, "%s is in use by another program; try again later, or with --wait SECONDS", t->name);
+        if (waited == 1000)
+            fail(0, "waiting for %s, which another program uses", t->name);
+        nanosleep(&moment, NULL);
+    }
+    return 0;
+}
+
+static int open_locked(struct table *t, uint64_t seconds)
 {
     /* A pipe of that name must not hold the program up. */
     t->file = open(t->name, (t->writing ? O_RDWR : O_RDONLY) | O_CLOEXEC | O_NONBLOCK);
-    if (t->file < 0)
-        return open_failed(t->name, t->writing);
-    if (flock(t->file, (t->writing ? LOCK_EX : LOCK_SH) | LOCK_NB) != 0)
-        return fail(BAD_FILE, errno == EWOULDBLOCK ? "%s is in use by another program; try again later" : "%s cannot be locked", t->name);
-    return 0;
+    return t->file < 0 ? open_failed(t->name, t->writing) : lock(t, seconds);
 }
 
 /* The number of words by the file's length. */
@@ -111,32 +102,42 @@ static int measure(struct table *t)
     if (bytes < sizeof(uint64_t) * words_for(1) || bytes > sizeof(uint64_t) * words_for(MOST_NODES) || bytes % sizeof(uint64_t) != 0)
         return fail(CATALOGUE_NO_TABLE, "%s is not a table, or was cut short: no table is %" PRIu64 " bytes long", t->name, bytes);
     t->words = bytes / sizeof(uint64_t);
+    t->left = about;
     return 0;
 }
 
-static int map(struct table *t)
+/*
+ * On persistent memory MAP_SYNC makes the flush instructions enough. Elsewhere it is refused; there a flush is a wait for the disk, unless
+ * the user leaves that out.
+ */
+static int map(struct table *t, const struct table_options *options)
 {
     size_t bytes = t->words * sizeof(uint64_t);
     int access = PROT_READ | (t->writing ? PROT_WRITE : 0);
-    /* On persistent memory MAP_SYNC makes the flush instructions enough; elsewhere it is refused. */
     void *at = mmap(NULL, bytes, access, MAP_SHARED_VALIDATE | MAP_SYNC, t->file, 0);
-    if (at == MAP_FAILED)
+    bool persistent = at != MAP_FAILED;
+    if (!persistent)
         at = mmap(NULL, bytes, access, MAP_SHARED, t->file, 0);
     if (at == MAP_FAILED)
         return fail(BAD_FILE, "%s cannot be mapped: %s", t->name, strerror(errno));
     t->mapped = at;
+    t->carrying = options->carrying;
+    if (!persistent && options->fast)
+        fail(0, "--fast: a power cut before this command ends can destroy the whole of %s, older codes too", t->name);
+    else if (!persistent)
+        t->carrying.flush = flush_by_page();
     return 0;
 }
 
-static int copy(struct table *t)
+static int copy_words(struct table *t)
 {
     size_t bytes = t->words * sizeof(uint64_t);
-    t->memory = malloc(bytes);
+    t->expected = malloc(bytes);
     t->working = malloc(bytes);
-    if (!t->memory || !t->working)
+    if (!t->expected || !t->working)
         return fail(BAD_FILE, "not enough memory for %s", t->name);
-    memcpy(t->memory, t->mapped, bytes);
-    memcpy(t->working, t->memory, bytes);
+    memcpy(t->expected, t->mapped, bytes);
+    memcpy(t->working, t->expected, bytes);
     return 0;
 }
 
@@ -146,70 +147,157 @@ static int test_header(const struct table *t)
     uint64_t none = 0;
     if (catalogue_carry_out(t->working, t->words, &none, 1, 0) == 0)
         return 0;
-    uint64_t nodes = t->memory[2];
-    if (t->memory[0] == 1 && nodes >= 1 && nodes <= MOST_NODES && words_for(nodes) != t->words)
+    uint64_t nodes = t->expected[2];
+    if (t->expected[0] == 1 && nodes >= 1 && nodes <= MOST_NODES && words_for(nodes) != t->words)
         return fail(CATALOGUE_NO_TABLE, "%s has %zu bytes, but its header says %" PRIu64 " nodes, which take %zu", t->name,
                     t->words * sizeof(uint64_t), nodes, words_for(nodes) * sizeof(uint64_t));
-    char text[EXPLANATION];
-    return fail(CATALOGUE_NO_TABLE, "%s", explain(CATALOGUE_NO_TABLE, t->name, 0, 0, text));
+    return refuse(CATALOGUE_NO_TABLE, t->name, 0, 0);
 }
 
-int table_open(struct table *t, const char *name, bool writing)
+/* Waits until the disk has the mapped words. */
+static int sync_words(struct table *t)
+{
+    if (msync(t->mapped, t->words * sizeof(uint64_t), MS_SYNC) != 0)
+        return fail(BAD_FILE, "%s did not reach the disk: %s", t->name, strerror(errno));
+    t->unsettled = false;
+    return 0;
+}
+
+/*
+ * A program that was killed may have left stores on the way to the disk. They come before any of ours: a flush waits for its own line
+ * alone.
+ */
+static int begin_writing(struct table *t)
+{
+    return t->writing ? sync_words(t) : 0;
+}
+
+int table_open(struct table *t, const char *name, bool writing, const struct table_options *options)
 {
     *t = (struct table){.name = name, .file = -1, .writing = writing};
-    int status = open_locked(t);
+    int status = open_locked(t, options->wait);
     if (status == 0)
         status = measure(t);
     if (status == 0)
-        status = map(t);
+        status = map(t, options);
     if (status == 0)
-        status = copy(t);
+        status = copy_words(t);
     if (status == 0)
         status = test_header(t);
+    if (status == 0)
+        status = begin_writing(t);
     return status;
 }
 
 /* ---- changing */
 
-/* The file still has its name, its length and the words that this program left in it. */
-static int still_ours(const struct table *t)
+static bool same_time(struct timespec a, struct timespec b)
+{
+    return a.tv_sec == b.tv_sec && a.tv_nsec == b.tv_nsec;
+}
+
+static bool differs(const struct table *t, size_t word, size_t count)
+{
+    return memcmp(t->mapped + word, t->expected + word, count * sizeof(uint64_t)) != 0;
+}
+
+/* A line that the orders store to differs from what this program left there. */
+static bool line_differs(const struct table *t, const uint64_t *orders, uint64_t count)
+{
+    for (uint64_t i = 0; i < count; i++) {
+        uint64_t line = orders[2 * i] / LINE_WORDS * LINE_WORDS;
+        if (line < t->words && differs(t, line, LINE_WORDS))
+            return true;
+    }
+    return false;
+}
+
+/*
+ * The file still has its name, its length and the words that this program left in it. All words are compared where the file's times have
+ * moved; another program's stores to a mapping of its own need not move them, so the lines that the orders go to are compared always, and
+ * all words once more at the end.
+ */
+static int still_ours(struct table *t, const uint64_t *orders, uint64_t count)
 {
     struct stat ours, named;
-    size_t bytes = t->words * sizeof(uint64_t);
     if (fstat(t->file, &ours) != 0 || stat(t->name, &named) != 0 || ours.st_dev != named.st_dev || ours.st_ino != named.st_ino)
         return fail(BAD_FILE, "%s was removed or replaced by another program; nothing more was changed", t->name);
-    if ((uint64_t)ours.st_size != bytes || memcmp(t->mapped, t->memory, bytes) != 0)
+    bool changed = (uint64_t)ours.st_size != t->words * sizeof(uint64_t);
+    bool compare = !orders || !same_time(ours.st_mtim, t->left.st_mtim) || !same_time(ours.st_ctim, t->left.st_ctim);
+    if (!changed)
+        changed = compare ? differs(t, 0, t->words) : line_differs(t, orders, count);
+    if (changed)
         return fail(BAD_FILE, "%s was changed by another program meanwhile; nothing more was changed", t->name);
+    t->left = ours;
     return 0;
 }
 
-int table_carry_out(struct table *t, const uint64_t *orders, uint64_t count, const struct carrying *how)
+int table_carry_out(struct table *t, const uint64_t *orders, uint64_t count)
 {
-    int status = still_ours(t);
+    int status = still_ours(t, orders, count);
     if (status != 0)
         return status;
     /* Before the first real store: the library refuses orders outside the table. */
-    uint64_t number = catalogue_carry_out(t->memory, t->words, orders, CATALOGUE_LIST_WORDS, count);
-    char text[EXPLANATION];
+    uint64_t number = catalogue_carry_out(t->expected, t->words, orders, CATALOGUE_LIST_WORDS, count);
     if (number != 0)
-        return fail((int)number, "%s", explain(number, t->name, 0, 0, text));
-    carry_out(t->mapped, orders, count, how);
+        return refuse(number, t->name, 0, 0);
+    /* A list that ends with a flush of its page leaves nothing on the way. */
+    if (count > 0 && (t->carrying.flush != flush_by_page() || orders[2 * (count - 1)] != CATALOGUE_MARK))
+        t->unsettled = true;
+    if (!carry_out(t->mapped, orders, count, &t->carrying))
+        return fail(BAD_FILE, "%s did not reach the disk: %s; the change was cut off", t->name, strerror(errno));
+    /* Our own stores move the file's times. */
+    fstat(t->file, &t->left);
     return 0;
 }
 
 int table_settle(struct table *t)
 {
-    /* Persistent memory has the words already; an ordinary disk gets them here. */
-    if (msync(t->mapped, t->words * sizeof(uint64_t), MS_SYNC) != 0)
-        return fail(BAD_FILE, "%s did not reach the disk: %s", t->name, strerror(errno));
-    return 0;
+    return t->unsettled ? sync_words(t) : 0;
+}
+
+int table_compare(struct table *t)
+{
+    return still_ours(t, NULL, 0);
+}
+
+/* ---- copying */
+
+/* A node's words do not depend on the number of nodes: a larger table has the same nodes, and more that no way leads to. */
+static int enlarge(struct table *t, uint64_t *larger, size_t words, uint64_t nodes)
+{
+    uint64_t orders[CATALOGUE_LIST_WORDS], stores, flushes;
+    uint64_t number = catalogue_repair(t->working, t->words, orders, CATALOGUE_LIST_WORDS, &stores, &flushes);
+    if (number == 0) {
+        memcpy(larger, t->working, t->words * sizeof(uint64_t));
+        larger[2] = nodes;
+        number = catalogue_repair(larger, words, orders, CATALOGUE_LIST_WORDS, &stores, &flushes);
+    }
+    return number == 0 ? 0 : refuse(number, t->name, 0, 0);
+}
+
+int table_copy(struct table *t, const char *name, uint64_t nodes)
+{
+    uint64_t has = t->expected[2];
+    if (nodes < has)
+        return fail(BAD_USAGE, "%s has %" PRIu64 " nodes; a copy has as many or more, up to %d", t->name, has, MOST_NODES);
+    size_t words;
+    int status;
+    uint64_t *larger = room_for(nodes, &words, &status);
+    if (!larger)
+        return status;
+    status = enlarge(t, larger, words, nodes);
+    if (status == 0)
+        status = new_file(name, larger, words);
+    free(larger);
+    return status;
 }
 
 void table_close(struct table *t)
 {
     if (t->mapped)
         munmap(t->mapped, t->words * sizeof(uint64_t));
-    free(t->memory);
+    free(t->expected);
     free(t->working);
     if (t->file >= 0)
         close(t->file);

@@ -1,10 +1,11 @@
-/* A table in a file: made, opened, and changed by order lists. */
+/* A table in a file: made, opened, changed by order lists, copied. */
 #ifndef TABLE_H
 #define TABLE_H
 
 #include <stdbool.h>
 #include <stddef.h>
 #include <stdint.h>
+#include <sys/stat.h>
 
 #include "flush.h"
 
@@ -12,14 +13,27 @@
 #define NODE_WORDS 32
 #define MOST_NODES 65535
 
+/* Seconds that are no limit. */
+#define FOREVER UINT64_MAX
+
+/* How a table is opened and changed, as the command line says. */
+struct table_options {
+    uint64_t wait; /* seconds for programs that have the file locked */
+    bool fast;     /* on an ordinary disk: waits for the disk once, at the end, and not at each flush */
+    struct carrying carrying;
+};
+
 struct table {
     const char *name;
     int file;
     bool writing;
+    bool unsettled; /* stores were carried out that no flush has brought to the disk */
     size_t words;
-    uint64_t *mapped;  /* the file's words: persistent memory, where the file system gives it */
-    uint64_t *memory;  /* what the mapped words should hold, to notice another program's stores */
-    uint64_t *working; /* the working copy, which the library's calls change */
+    uint64_t *mapped;   /* the file's words: persistent memory, where the file system gives it */
+    uint64_t *expected; /* what the mapped words should hold, to notice another program's stores */
+    uint64_t *working;  /* the working copy, which the library's calls change */
+    struct stat left;   /* the file as this program left it */
+    struct carrying carrying;
 };
 
 /* These return 0, or an exit status after saying why. */
@@ -28,13 +42,19 @@ struct table {
 int table_make(const char *name, uint64_t nodes);
 
 /* An opened table is closed by table_close, also where the opening failed. */
-int table_open(struct table *t, const char *name, bool writing);
+int table_open(struct table *t, const char *name, bool writing, const struct table_options *options);
 
 /* The first count orders of a list, on the mapped words, unless another program changed them. */
-int table_carry_out(struct table *t, const uint64_t *orders, uint64_t count, const struct carrying *how);
+int table_carry_out(struct table *t, const uint64_t *orders, uint64_t count);
 
 /* Waits until the file has what was carried out. */
 int table_settle(struct table *t);
+
+/* The file has what this program left there, and nothing else. */
+int table_compare(struct table *t);
+
+/* A new file with a table of so many nodes, at least as many as this one has, and with its codes. Uses the working copy up. */
+int table_copy(struct table *t, const char *name, uint64_t nodes);
 
 void table_close(struct table *t);
 

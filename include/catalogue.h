@@ -1,11 +1,22 @@
 /*
  * The catalogue index: finds a recording by its ISRC code in a table of 64-bit words that may lie in persistent memory.
- * Link with libhost.a (rt staticlib host).
+ * Link with libcatalogue.a (rt staticlib catalogue).
  *
  * A table is 8 + 32 * N words, N from 1 to 65,535 nodes. Every call takes any words and any length: it does its work or returns a
  * refusal number, and a refusal changes no lent word. A word that an answer is put into is left alone unless the call does its work.
  * Lent slices may not overlap. A slice of length 0 still wants a pointer that is not null. One writer; readers only read.
  * No call asks for memory. Listing and the writing calls need 300 KB of stack, the others 2 KB.
+ *
+ * The header is words 0 to 7: 1, the root's node number, N, and five zeros. Node i begins at word 8 + 32 * (i - 1); its 32 words are
+ * four lines, the slots' words a key and a pointer in turn:
+ *
+ *      0 left    1 sibling    2 level    3 fence    4 to 7: 0
+ *      8 key     9 pointer   10 key     11 pointer   ..   14 key   15 pointer     slots 0 to 3
+ *     16 key    17 pointer   18 key     19 pointer   ..   22 key   23 pointer     slots 4 to 7
+ *     24 key    25 pointer   26 key     27 pointer   ..   30 key   31 pointer     slots 8 to 11
+ *
+ * A leaf has level 0 and left CATALOGUE_MARK, and its pointers are recordings; an inner node's left and pointers are its children's
+ * numbers. The fence is the lowest key that the node may hold, the sibling the node to its right, or 0.
  *
  * A writing call changes the working copy and fills an order list of at least CATALOGUE_LIST_WORDS words, two words an order:
  * a store is its word index and its value, a flush is CATALOGUE_MARK and a line number (eight words from a multiple of 8 are a line;
@@ -35,6 +46,12 @@
 extern "C" {
 #endif
 
+/*
+ * The version of these declarations. It is raised by each change of a name, a parameter or the meaning of a word, so a program that was
+ * compiled with one header and linked with another library sees it: catalogue_version() is the library's.
+ */
+#define CATALOGUE_VERSION 1
+
 #define CATALOGUE_MARK UINT64_MAX
 #define CATALOGUE_LIST_WORDS 2560
 
@@ -55,6 +72,9 @@ enum {
     CATALOGUE_BAD_ORDERS = 13,      /* carry-out: more orders than the list has, or one outside the table */
     CATALOGUE_ABSENT = 255          /* search: the key is absent */
 };
+
+/* The CATALOGUE_VERSION that the library was built for. */
+uint64_t catalogue_version(void);
 
 /* The key of a code of 12 characters. 0 or 1. */
 uint64_t catalogue_parse(const uint8_t *text, size_t length, uint64_t *key);

@@ -1,4 +1,4 @@
-"""Runs the tests of the program: all.py PLAIN SANITIZED. The last line is 'N passed, 0 failed'."""
+"""Runs the tests of the program: all.py PLAIN SANITIZED [words for make]. The last line is 'N passed, 0 failed'."""
 import multiprocessing
 import os
 import shutil
@@ -10,6 +10,9 @@ import traceback
 import commands
 import cuts
 import files
+import installing
+import loads
+import pages
 import replay
 from drive import FOUND_SOMETHING, Program
 
@@ -41,15 +44,18 @@ def main():
     sanitized = Program([sys.argv[2]], "with sanitizers", False)
     watched = ["valgrind", "-q", "--leak-check=full", "--errors-for-leak-kinds=all", f"--error-exitcode={FOUND_SOMETHING}", sys.argv[1]]
     valgrind = Program(watched, "under valgrind", False)
-    everything = commands.TESTS + files.TESTS + cuts.TESTS + replay.TESTS
+    everything = commands.TESTS + loads.TESTS + files.TESTS + cuts.TESTS + replay.TESTS
     # valgrind takes half a second to start: each kind of work once.
-    once = [commands.the_worked_orders, commands.drawing, commands.loading, commands.a_tree_of_sixteen_levels]
+    once = [commands.the_worked_orders, commands.drawing, loads.lines_from_standard_input, loads.larger_copies,
+            commands.a_tree_of_sixteen_levels]
     # Files in memory where there is such a place: the tests say nothing of a disk.
     place = tempfile.mkdtemp(prefix="catalogue-", dir="/dev/shm" if roomy("/dev/shm") else None)
     os.chmod(place, 0o755)
-    works = [(valgrind, t, place) for t in once] + [(plain, t, place) for t in everything + [files.little_memory]]
+    works = [(plain, loads.progress_elsewhere, place)] + [(valgrind, t, place) for t in once]
+    works += [(plain, t, place) for t in everything + pages.TESTS + installing.TESTS + [files.little_memory]]
     works += [(sanitized, t, place) for t in everything]
-    with multiprocessing.Pool() as pool:
+    # One more than there are processors: some tests wait for the clock.
+    with multiprocessing.Pool(os.cpu_count() + 1) as pool:
         for line, passed in pool.imap(run, works):
             print(line, flush=True)
             if not passed:

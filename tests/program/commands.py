@@ -1,21 +1,68 @@
 """Every command, and every refusal that a user can cause."""
 import os
-import pty
 import re
 import subprocess
 
 from drive import *
 
-HUNDRED = os.path.join(os.path.dirname(os.path.abspath(__file__)), "..", "..", "host", "hundred.csv")
+HOST = os.path.join(os.path.dirname(os.path.abspath(__file__)), "..", "..", "host")
+HUNDRED = os.path.join(HOST, "hundred.csv")
+
+
+COMMANDS = "make add remove find list load repair copy orders check show help".split()
+OPTIONS = "--again --keep-going --each --cut --wait --fast --flush --pause --help --version".split()
 
 
 def help_has_an_example_of_each(program, folder):
-    for words in (["--help"], ["add", "--help"]):
-        text = program.done(*words)
-        for command in "make add remove find list load repair orders check show".split():
-            assert re.search(rf"^      catalogue {command} ", text, re.M), command
-        for option in "--cut --again --each --flush --pause".split():
-            assert re.search(rf"^      catalogue .* {option}\b", text, re.M), option
+    text = program.done("--help")
+    assert program.done("-h") == program.done("help") == text
+    for command in COMMANDS:
+        assert re.search(rf"^  {command} .*\n(   .*\n)*      catalogue {command} ", text, re.M), command
+    for option in OPTIONS:
+        assert re.search(rf"^  {option}\b.*\n(   .*\n)*      catalogue .*{option}\b", text, re.M), option
+    assert max(len(line) for line in text.splitlines()) <= 120
+    statuses = re.search(r"^Exit status: (.*?)\.$", text, re.M | re.S)[1]
+    numbers = [int(item.split()[0]) for item in re.split(";\\s", statuses)]
+    assert numbers == [0] + list(range(1, 5)) + [5] + list(range(6, 14)) + [64, 65, 74, 130, 143, 255], statuses
+
+
+def help_of_one_command(program, folder):
+    whole = program.done("--help")
+    for command in COMMANDS:
+        text = program.done("help", command)
+        assert text == program.done(command, "--help") == program.done("-h", command), text
+        assert text.startswith(f"  {command} ") and all(line in whole for line in text.splitlines()), text
+    assert "--again" in program.done("help", "load") and "--again" not in program.done("help", "add")
+    program.refuses(BAD_USAGE, "no command fly", "help", "fly")
+    program.refuses(BAD_USAGE, "no command fly", "fly", "--help")
+    assert re.fullmatch(r"catalogue \d+(\.\d+)*\n", program.done("--version"))
+
+
+def the_manual_page(program, folder):
+    """Everything that help lists is in the manual page."""
+    with open(os.path.join(HOST, "catalogue.1.in")) as f:
+        page = f.read().replace("\\-", "-").replace("\\fR", "").replace("\\fI", "").replace("\\fB", "")
+    text = program.done("--help")
+    for form in re.findall(r"^  ((?:--)?[a-z].*?)(?:   .*)?$", text.split("Exit status")[0], re.M):
+        name, _, rest = form.partition(" ")
+        assert re.search(rf"^\.B[RI]? \"?{re.escape(name)}\b", page, re.M), form
+    for number, name in re.findall(r"(\d+) ([a-z][^;]*?)[;.]\s", re.search(r"^Exit status: .*?\.$", text, re.M | re.S)[0] + " "):
+        assert re.search(rf"^{number}\n{' '.join(name.split())}$", page, re.M), (number, name)
+
+
+def words_and_options(program, folder):
+    t, dashed = f"{folder}/t", "--cut"
+    program.done("make", t, 2)
+    assert program.done("add", t, code(1), 1, "--cut=3").startswith("cut off after 3 of ")
+    assert program.done("add", "--cut", 4, t, code(1), 1).startswith("cut off after 4 of ")
+    program.done("--wait=1", "repair", "--", t)
+    program.done("make", "--", dashed, 2, cwd=folder)
+    program.done("add", dashed.join(["./", ""]), code(1), 1, cwd=folder)
+    assert program.done("find", "--", dashed, code(1), cwd=folder) == "1\n"
+    program.refuses(BAD_USAGE, "--again takes no value", "load", t, "x", "--again=1")
+    program.refuses(BAD_USAGE, "--cut takes a number", "repair", t, "--cut=")
+    program.refuses(BAD_USAGE, "no option --cuts=3", "repair", t, "--cuts=3")
+    program.refuses(BAD_USAGE, "usage: catalogue check TABLE ", "check", t, "--", "--help")
 
 
 def wrong_command_lines(program, folder):
@@ -23,15 +70,17 @@ def wrong_command_lines(program, folder):
     program.done("make", t, 2)
     program.refuses(BAD_USAGE, "usage: catalogue COMMAND")
     program.refuses(BAD_USAGE, "no command fly", "fly", t)
-    program.refuses(BAD_USAGE, "no option --fast", "check", t, "--fast")
+    program.refuses(BAD_USAGE, "no option --faster", "check", t, "--faster")
     wrong = [["make", t], ["add", t, code(1)], ["remove", t], ["find", t], ["list", t, code(1)], ["load", t], ["repair"], ["orders", t]]
     wrong += [["orders", t, "add", code(1)], ["orders", t, "load", "x"], ["check"], ["show"], ["check", t, "x"], ["add", t, code(1), 1, 2]]
     wrong += [["check", t, "--cut", 1], ["load", t, "x", "--cut", 1], ["add", t, code(1), 1, "--each"], ["find", t, code(1), "--again"]]
-    wrong += [["add", t, code(1), 1] + 9 * ["x"], ["list", t, "--flush", "none"]]
+    wrong += [["add", t, code(1), 1] + 9 * ["x"], ["list", t, "--flush", "none"], ["find", t, code(1), "--fast"], ["help", "add", "x"]]
+    wrong += [["copy", t, f"{folder}/u"], ["make", f"{folder}/u", 1, "--wait", 1], ["add", t, code(1), 1, "--keep-going"]]
     for words in wrong:
         program.refuses(BAD_USAGE, "usage: catalogue ", *words)
     program.refuses(BAD_USAGE, "--cut takes a number", "repair", t, "--cut")
     program.refuses(BAD_USAGE, "--cut takes a number", "repair", t, "--cut", "-1")
+    program.refuses(BAD_USAGE, "--wait takes a number", "repair", t, "--wait", "0.5")
     program.refuses(BAD_USAGE, "--flush takes clwb", "repair", t, "--flush", "often")
     program.refuses(BAD_USAGE, "--flush takes clwb", "repair", t, "--flush")
     program.refuses(BAD_USAGE, "--pause takes a number", "repair", t, "--pause", "long")
@@ -84,13 +133,22 @@ def orders_are_what_is_carried_out(program, folder):
             assert read_words(t) == carried_out(before, orders), how
 
 
+def fast_says_what_it_risks(program, folder):
+    t = f"{folder}/t"
+    program.done("make", t, 1)
+    status, out, err = program("add", t, code(1), 1, "--fast")
+    assert status == 0 and out.startswith("added "), (status, out)
+    assert err == f"catalogue: --fast: a power cut before this command ends can destroy the whole of {t}, older codes too\n", err
+
+
 def codes_as_people_type_them(program, folder):
     t = f"{folder}/t"
     program.done("make", t, 1)
     program.done("add", t, "AA-000-19-12345", 7)
-    for typed in ("AA0001912345", "AA-000-19-12345", "AA 000 19 12345", " AA-000 1912345 -"):
+    for typed in ("AA0001912345", "AA-000-19-12345", "AA 000 19 12345", " AA-000 1912345 -", "aa-000-19-12345", f"#{key('AA0001912345')}"):
         assert program.done("find", t, typed) == "7\n"
-    for typed in ("", "-", "aa0001912345", "1A0001912345", "AA00019123456", "AA000191234", "AA000191234X", "AA000_19_12345", "ÄA000191234"):
+    no_codes = ["", "-", "1A0001912345", "AA00019123456", "AA000191234", "AA000191234X", "AA000_19_12345", "ÄA000191234"]
+    for typed in no_codes + ["#", "#x", f"#{2**64}"]:
         program.refuses(NO_CODE, "not a code", "find", t, typed)
         program.refuses(NO_CODE, "not a code", "add", t, typed, 8)
         program.refuses(NO_CODE, "not a code", "remove", t, typed)
@@ -113,7 +171,7 @@ def refusals_of_changes(program, folder):
     program.refuses(NOT_THERE, f"{code(50)} is not in", "remove", t, code(50))
     program.refuses(ABSENT, f"{code(50)} is not in", "find", t, code(50))
     program.done("add", t, code(50), MARK - 1)
-    program.refuses(NO_NODES, "is full: .* more nodes than are free", "add", t, code(51), 1)
+    program.refuses(NO_NODES, f"is full: .* more nodes than are free; catalogue copy {t} NEW NODES", "add", t, code(51), 1)
     program.refuses(NO_NODES, "is full", "orders", t, "add", code(51), 1)
     program.refuses(BAD_USAGE, "this change has 2[0-9] orders; nothing was changed", "remove", t, code(0), "--cut", 99)
     program.refuses(BAD_USAGE, "this change has 0 orders", "repair", t, "--cut", 1)
@@ -165,76 +223,6 @@ def searching_and_listing(program, folder):
     assert program.done("list", t, code(31), code(10)) == ""
 
 
-def loading(program, folder):
-    t, csv = f"{folder}/t", f"{folder}/csv"
-
-    def file(text):
-        with open(csv, "w", newline="") as f:
-            f.write(text)
-
-    def stops(status, pattern, text, added, there=0):
-        """The bad line is named; the lines before it are in the table."""
-        file(text)
-        status_got, out, err = program("load", t, csv)
-        assert (status_got, out) == (status, f"{added} added, {there} there already\n"), (text, status_got, out, err)
-        assert re.fullmatch(f"catalogue: {csv}, {pattern}; what came before is kept\n", err), err
-
-    program.done("make", t, 3)
-    file(f"{code(1)},1\n AA-000-19-00002 , 2 \r\n{code(3)},003")
-    assert program.done("load", t, csv) == "3 added, 0 there already\n"
-    file("")
-    assert program.done("load", t, csv) == "0 added, 0 there already\n"
-    form = "not of the form code,recording; a recording is .*"
-    stops(BAD_LINE, f"line 1: {form}", "code,recording\n", 0)
-    stops(BAD_LINE, f"line 2: {form}", f"{code(4)},4\n\n{code(5)},5\n", 1)
-    stops(BAD_LINE, f"line 1: {form}", f"{code(5)}\n", 0)
-    stops(BAD_LINE, f"line 1: {form}", f"{code(5)},5,6\n", 0)
-    stops(BAD_LINE, f"line 1: {form}", f"{code(5)},5\0\n", 0)
-    stops(BAD_LINE, f"line 1: {form}", f"{code(5)},{2**64}\n", 0)
-    stops(BAD_LINE, f"line 2: {form}", f"{code(5)},5\n" + 5000 * "x", 1)
-    stops(BAD_LINE, f"line 1: {form}", f"{code(9)},{241 * ' '}12345\n", 0)
-    stops(NO_CODE, "line 1: not a code, .*", "AA00019,6\n", 0)
-    stops(BAD_RECORDING, "line 2: 0: a recording is .*", f"{code(6)},6\n{code(7)},0\n{code(8)},8\n", 1)
-    stops(RECORDING_THERE, "line 1: recording 6 is in .*", f"{code(7)},6\n", 0)
-    stops(CODE_THERE, f"line 1: {code(6)} is in .* already", f"{code(6)},7\n", 0)
-    there = "already with this recording .--again passes over such lines."
-    stops(CODE_THERE, f"line 2: .* {there}", f"{code(7)},7\n{code(6)},6\n{code(8)},8\n", 1)
-    assert program.done("load", t, csv, "--again") == "1 added, 2 there already\n"
-    stops(NO_NODES, "line 9: .* is full: .*", "".join(f"{code(i)},{i}\n" for i in range(9, 60)), 8)
-    assert listed(program.done("list", t)) == [(code(i), i) for i in range(1, 17)]
-    program.refuses(BAD_FILE, "cannot be opened", "load", t, f"{folder}/none")
-    before = contents(t)
-    status, _, err = program("load", t, folder)
-    assert status == BAD_FILE and "cannot be read" in err and contents(t) == before, err
-
-
-def acknowledging(program, folder):
-    t = f"{folder}/t"
-    program.done("make", t, 40)
-    with open(HUNDRED) as f:
-        lines = f.read()
-    assert program.done("load", t, HUNDRED, "--each") == lines + "100 added, 0 there already\n"
-    assert program.done("list", t) == lines
-
-
-def progress_on_a_terminal(program, folder):
-    t = f"{folder}/t"
-    program.done("make", t, 40)
-    ours, theirs = pty.openpty()
-    run = program.start("load", t, HUNDRED, stdout=subprocess.PIPE, stderr=theirs, stdin=subprocess.DEVNULL)
-    os.close(theirs)
-    drawn = ""
-    try:
-        while part := os.read(ours, 65536):
-            drawn += part.decode()
-    except OSError:
-        pass  # the terminal's other end is closed
-    os.close(ours)
-    out, _ = run.communicate(timeout=120)
-    assert run.returncode == 0 and out == "100 added, 0 there already\n", (run.returncode, out)
-    assert re.match(r"1 lines loaded\r", drawn) and drawn.endswith("100 lines loaded\r\n"), drawn
-
-
 def answers_that_cannot_be_printed(program, folder):
     t = f"{folder}/t"
     fill(program, t, 3, [(code(i), i) for i in range(1, 12)])
@@ -283,6 +271,6 @@ def the_first_hour(program, folder):
             assert program.done("find", t, c) == f"{r}\n"
 
 
-TESTS = [help_has_an_example_of_each, wrong_command_lines, making, the_worked_orders, orders_are_what_is_carried_out,
-         codes_as_people_type_them, refusals_of_changes, a_tree_of_sixteen_levels, searching_and_listing, loading, acknowledging,
-         progress_on_a_terminal, answers_that_cannot_be_printed, drawing, the_first_hour]
+TESTS = [help_has_an_example_of_each, help_of_one_command, the_manual_page, words_and_options, wrong_command_lines, making,
+         the_worked_orders, orders_are_what_is_carried_out, fast_says_what_it_risks, codes_as_people_type_them, refusals_of_changes,
+         a_tree_of_sixteen_levels, searching_and_listing, answers_that_cannot_be_printed, drawing, the_first_hour]

@@ -1,5 +1,6 @@
 """Files that are no tables, read-only, in use, or changed by another program meanwhile: a clear error, and the file stays as it is."""
 import fcntl
+import mmap
 import os
 import re
 import resource
@@ -7,6 +8,7 @@ import shutil
 import signal
 import struct
 import subprocess
+import time
 
 from drive import *
 
@@ -89,11 +91,13 @@ def read_only(program, folder):
 
 
 def in_use(program, folder):
+    """A table that another program has locked: a refusal, or a wait; a search waits without being told to."""
     t, csv = table(program, folder)
     with open(t, "rb") as f:
         fcntl.flock(f, fcntl.LOCK_EX)
         for words in reading(t) + writing(t, csv):
-            program.refuses(BAD_FILE, "is in use by another program", *words)
+            wait = ["--wait", 0] if words[0] == "find" else []
+            program.refuses(BAD_FILE, "is in use by another program; try again later, or with --wait", *words, *wait)
         fcntl.flock(f, fcntl.LOCK_SH)
         for words in reading(t):
             program.done(*words)
@@ -101,7 +105,24 @@ def in_use(program, folder):
             program.refuses(BAD_FILE, "is in use by another program", *words)
 
 
-def changed_while_it_loads(program, folder, meddle):
+def waiting(program, folder):
+    t, csv = table(program, folder)
+    commands = [["find", t, code(1)], ["find", t, code(2), "--wait", 60], ["add", t, code(50), 50, "--wait", 60]]
+    with open(t, "rb") as f:
+        fcntl.flock(f, fcntl.LOCK_EX)
+        runs = [program.start(*words, stdout=subprocess.PIPE, stderr=subprocess.PIPE) for words in commands]
+        began = time.monotonic()
+        status, _, err = program("repair", t, "--wait=2")
+        assert status == BAD_FILE and "waiting for" in err and "is in use" in err and 1.9 < time.monotonic() - began < 30, err
+        assert [run.poll() for run in runs] == 3 * [None]
+        fcntl.flock(f, fcntl.LOCK_UN)
+    for run, answer in zip(runs, ("1\n", "2\n", "added ")):
+        out, err = run.communicate(timeout=60)
+        assert run.returncode == 0 and out.startswith(answer), (out, err)
+        assert err == f"catalogue: waiting for {t}, which another program uses\n", err
+
+
+def changed_while_it_loads(program, folder, meddle, prepare=lambda t: None):
     """A load that waits for its second line while something happens to the table: its end, and its standard error."""
     t, csv = f"{folder}/t", f"{folder}/csv"
     for path in os.listdir(folder):
@@ -109,10 +130,13 @@ def changed_while_it_loads(program, folder, meddle):
     table(program, folder)
     os.remove(csv)
     os.mkfifo(csv)
+    prepare(t)
     load = program.start("load", t, csv, "--each", stdout=subprocess.PIPE, stderr=subprocess.PIPE)
     with open(csv, "wb", buffering=0) as lines:
         lines.write(f"{code(60)},60\n".encode())
         assert load.stdout.readline() == f"{code(60)},60\n"
+        # Past the moment to which some systems round a file's times.
+        time.sleep(0.02)
         meddle(t, load.pid)
         after = contents(t)
         try:
@@ -144,7 +168,8 @@ def changed_meanwhile(program, folder):
     meddling += [lambda t, _, w=w: os.truncate(t, 8 * w) for w in (0, words - 32, words + 32)]
     for meddle in meddling:
         status, out, err, before, after = changed_while_it_loads(program, folder, meddle)
-        assert status == BAD_FILE and "was changed by another program meanwhile" in err and "stopped before line 2" in err, (status, err)
+        assert status == BAD_FILE and err.count("\n") == 2, (status, err)
+        assert "was changed by another program meanwhile" in err and "stopped before line 2" in err, err
         assert out == "1 added, 0 there already\n" and after == before, out
     for meddle in (lambda t, _: os.remove(t), replace):
         status, out, err, before, after = changed_while_it_loads(program, folder, meddle)
@@ -160,9 +185,38 @@ def changed_meanwhile(program, folder):
     # While it loads, others are held off.
     def others(t, _):
         program.refuses(BAD_FILE, "in use", "add", t, code(70), 70)
-        program.refuses(BAD_FILE, "in use", "find", t, code(1))
+        program.refuses(BAD_FILE, "in use", "find", t, code(1), "--wait", 0)
     assert changed_while_it_loads(program, folder, others)[0] == 0
     return f"{len(meddling) + 6} ways"
+
+
+def changed_by_a_mapping(program, folder):
+    """Stores to another program's own mapping do not move the file's times: those to a line that is stored to are noticed before, the
+    others at the end."""
+    nodes, maps = 4, {}
+
+    def stored(word):
+        def meddle(t, _):
+            maps[t][8 * word:8 * word + 8] = struct.pack("<Q", 77)
+        return meddle
+
+    def mapped(t):
+        with open(t, "r+b") as f:
+            maps[t] = mmap.mmap(f.fileno(), 0)
+        # The page is there for writing from now on.
+        maps[t][-8:] = bytes(8)
+
+    status, out, err, before, after = changed_while_it_loads(program, folder, stored(8 + 32 * (nodes - 1)), mapped)
+    assert status == BAD_FILE and "was changed by another program meanwhile" in err and "stopped" not in err, (status, err)
+    assert out == f"{code(61)},61\n2 added, 0 there already\n" and after != before, out
+    maps.clear()
+    # The line that the next code goes to.
+    t = f"{folder}/u"
+    fill(program, t, nodes, [(code(i), i) for i in range(1, 20)] + [(code(60), 60)])
+    line = next(o[0] for o in orders_of(program.done("orders", t, "add", code(61), 61)) if o) // 8 * 8
+    status, out, err, before, after = changed_while_it_loads(program, folder, stored(line), mapped)
+    assert status == BAD_FILE and "was changed by another program meanwhile" in err and "stopped before line 2" in err, (status, err)
+    assert out == "1 added, 0 there already\n" and after == before, out
 
 
 def a_disk_that_is_full(program, folder):
@@ -192,4 +246,4 @@ def little_memory(program, folder):
     return f"{ended[0]} answers, {ended[BAD_FILE]} errors"
 
 
-TESTS = [no_tables, other_files, read_only, in_use, changed_meanwhile, a_disk_that_is_full]
+TESTS = [no_tables, other_files, read_only, in_use, waiting, changed_meanwhile, changed_by_a_mapping, a_disk_that_is_full]

@@ -1,17 +1,9 @@
 //! The C entry points, wrapped for tests: every lent slice has guard words on both sides, and a call that touches one fails the test.
 #![allow(dead_code)]
 
-extern "C" {
-    fn catalogue_parse(text: *const u8, length: usize, key: *mut u64) -> u64;
-    fn catalogue_print(key: u64, text: *mut u8) -> u64;
-    fn catalogue_make(table: *mut u64, words: usize) -> u64;
-    fn catalogue_search(table: *const u64, words: usize, key: u64, recording: *mut u64) -> u64;
-    fn catalogue_list(table: *const u64, words: usize, low: u64, high: u64, out: *mut u64, out_words: usize, pairs: *mut u64, more: *mut u64) -> u64;
-    fn catalogue_insert(table: *mut u64, words: usize, orders: *mut u64, order_words: usize, key: u64, recording: u64, stores: *mut u64, flushes: *mut u64) -> u64;
-    fn catalogue_delete(table: *mut u64, words: usize, orders: *mut u64, order_words: usize, key: u64, stores: *mut u64, flushes: *mut u64) -> u64;
-    fn catalogue_repair(table: *mut u64, words: usize, orders: *mut u64, order_words: usize, stores: *mut u64, flushes: *mut u64) -> u64;
-    fn catalogue_carry_out(table: *mut u64, words: usize, orders: *const u64, order_words: usize, c: u64) -> u64;
-}
+#[path = "../calls/declared.rs"]
+mod declared;
+use declared::*;
 
 const GUARD: u64 = 0x5a5a_a5a5_0ff0_f00f;
 const GUARDS: usize = 16;
@@ -81,20 +73,20 @@ pub fn print(key: u64) -> (u64, [u8; 12]) {
     (n, text[8..20].try_into().unwrap())
 }
 
-/// The number, the count and whether more were left where the call put them, and the slice after it.
-pub fn list(t: &[u64], low: u64, high: u64, out: &[u64]) -> (u64, Option<(u64, u64)>, Vec<u64>) {
+/// The number; the count and whether more were left, each where the call put it; and the slice after it.
+pub fn list(t: &[u64], low: u64, high: u64, out: &[u64]) -> (u64, [Option<u64>; 2], Vec<u64>) {
     let (mut table, mut slice) = (Lent::new(t), Lent::new(out));
     let (mut pairs, mut more) = (UNTOUCHED, UNTOUCHED);
     let n = unsafe { catalogue_list(table.pointer(), t.len(), low, high, slice.pointer(), out.len(), &mut pairs, &mut more) };
     assert!(table.back() == t, "a listing wrote to the table");
-    (n, put(pairs).zip(put(more)), slice.back().to_vec())
+    (n, [put(pairs), put(more)], slice.back().to_vec())
 }
 
-/// What a write left: its number, its counts where it put them, the table and the order list.
+/// What a write left: its number, its stores and its flushes, each where it put it, the table and the order list.
 #[derive(Debug, PartialEq)]
 pub struct Wrote {
     pub number: u64,
-    pub counts: Option<(u64, u64)>,
+    pub counts: [Option<u64>; 2],
     pub table: Vec<u64>,
     pub list: Vec<u64>,
 }
@@ -103,7 +95,14 @@ fn wrote(t: &[u64], list: &[u64], call: impl FnOnce(*mut u64, *mut u64, *mut u64
     let (mut table, mut orders) = (Lent::new(t), Lent::new(list));
     let (mut stores, mut flushes) = (UNTOUCHED, UNTOUCHED);
     let number = call(table.pointer(), orders.pointer(), &mut stores, &mut flushes);
-    Wrote { number, counts: put(stores).zip(put(flushes)), table: table.back().to_vec(), list: orders.back().to_vec() }
+    Wrote { number, counts: [put(stores), put(flushes)], table: table.back().to_vec(), list: orders.back().to_vec() }
+}
+
+impl Wrote {
+    /// How many orders an accepted write answered.
+    pub fn orders(&self) -> u64 {
+        self.counts.iter().map(|n| n.expect("a count")).sum()
+    }
 }
 
 pub fn insert(t: &[u64], list: &[u64], key: u64, recording: u64) -> Wrote {

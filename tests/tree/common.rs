@@ -1,6 +1,8 @@
 //! What the test programs share: failing with a script that reproduces, keys to ask for, tables grown and damaged.
 #![allow(dead_code)]
+use crate::calls::{self, Lent, Wrote};
 use crate::reference::*;
+use std::collections::{BTreeMap, BTreeSet};
 
 /// A check that failed says what and how to reproduce it, and ends the run.
 pub fn expect(ok: bool, seed: u64, t: &[u64], what: impl FnOnce() -> String) {
@@ -25,7 +27,12 @@ pub fn some_call(span: u64, random: &mut Random) -> Call {
     match random.below(8) {
         0 | 1 => Call::Delete(k),
         2 if random.below(8) == 0 => Call::Repair,
-        _ => Call::Insert(k, if random.below(40) == 0 { [0, MARK][random.below(2) as usize] } else { 1 + random.below(1_000_000) }),
+        // Now and then a recording that is refused, or one that is often in the map already.
+        _ => Call::Insert(k, match random.below(40) {
+            0 => [0, MARK][random.below(2) as usize],
+            1..=6 => 1 + random.below(6),
+            _ => 1 + random.below(1_000_000),
+        }),
     }
 }
 
@@ -86,6 +93,70 @@ pub fn any_words(len: usize, random: &mut Random) -> Vec<u64> {
         t[..8].copy_from_slice(&[1, 1 + random.below(n), n, 0, 0, 0, 0, 0]);
     }
     t
+}
+
+/// What a call must leave, by the reference's answer to it.
+fn wanted(t: &[u64], list: &[u64], answer: Result<Writer, u64>) -> (Wrote, Vec<Order>) {
+    match answer {
+        Err(number) => (Wrote { number, counts: [None; 2], table: t.to_vec(), list: list.to_vec() }, vec![]),
+        Ok(w) => {
+            let os = orders(&w.stores);
+            let mut words = list.to_vec();
+            let listed = encode(&os);
+            words[..listed.len()].copy_from_slice(&listed);
+            let stores = w.stores.len() as u64;
+            (Wrote { number: 0, counts: [Some(stores), Some(os.len() as u64 - stores)], table: w.t, list: words }, os)
+        }
+    }
+}
+
+pub fn called(t: &[u64], list: &[u64], call: Call) -> Wrote {
+    match call {
+        Call::Insert(k, r) => calls::insert(t, list, k, r),
+        Call::Delete(k) => calls::delete(t, list, k),
+        Call::Repair => calls::repair(t, list),
+    }
+}
+
+/// The call's answer, table and list are the reference's; its orders.
+pub fn same_write(t: &[u64], list: &[u64], call: Call, seed: u64) -> (Wrote, Vec<Order>) {
+    same_as(write(t, list.len(), call), t, list, call, seed)
+}
+
+pub fn same_as(answer: Result<Writer, u64>, t: &[u64], list: &[u64], call: Call, seed: u64) -> (Wrote, Vec<Order>) {
+    let (want, os) = wanted(t, list, answer);
+    let got = called(t, list, call);
+    expect(got == want, seed, t, || {
+        format!("{call:?} with {} words for orders: wanted {:?} {:?}, got {:?} {:?}; first orders {:?}", list.len(), want.number, want.counts, got.number, got.counts, &got.list[..got.list.len().min(40)])
+    });
+    expect(os.len() <= 1121, seed, t, || format!("{call:?} made {} orders", os.len()));
+    (want, os)
+}
+
+/// Every search of these words for the keys asked answers as the map.
+pub fn answers(t: &[u64], map: &BTreeMap<u64, u64>, asked: &BTreeSet<u64>) -> bool {
+    let mut table = Lent::new(t);
+    let right = asked.iter().all(|k| {
+        let want = map.get(k).map_or((255, None), |&r| (0, Some(r)));
+        table.search(*k) == want
+    });
+    table.back();
+    right
+}
+
+/// The map after an accepted call.
+pub fn changed(map: &BTreeMap<u64, u64>, call: Call) -> BTreeMap<u64, u64> {
+    let mut new = map.clone();
+    match call {
+        Call::Insert(k, r) => {
+            new.insert(k, r);
+        }
+        Call::Delete(k) => {
+            new.remove(&k);
+        }
+        Call::Repair => {}
+    }
+    new
 }
 
 pub fn kind(leftover: Leftover) -> usize {

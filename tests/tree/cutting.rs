@@ -3,43 +3,9 @@ mod calls;
 mod common;
 mod reference;
 
-use calls::Lent;
 use common::*;
 use reference::*;
 use std::collections::{BTreeMap, BTreeSet};
-
-/// Every search of these words for the keys asked answers as the map.
-fn answers(t: &[u64], map: &BTreeMap<u64, u64>, asked: &BTreeSet<u64>) -> bool {
-    let mut table = Lent::new(t);
-    let right = asked.iter().all(|k| {
-        let want = map.get(k).map_or((255, None), |&r| (0, Some(r)));
-        table.search(*k) == want
-    });
-    table.back();
-    right
-}
-
-fn changed(map: &BTreeMap<u64, u64>, call: Call) -> BTreeMap<u64, u64> {
-    let mut new = map.clone();
-    match call {
-        Call::Insert(k, r) => {
-            new.insert(k, r);
-        }
-        Call::Delete(k) => {
-            new.remove(&k);
-        }
-        Call::Repair => {}
-    }
-    new
-}
-
-fn write_in(t: &[u64], list: &[u64], call: Call) -> calls::Wrote {
-    match call {
-        Call::Insert(k, r) => calls::insert(t, list, k, r),
-        Call::Delete(k) => calls::delete(t, list, k),
-        Call::Repair => calls::repair(t, list),
-    }
-}
 
 fn main() {
     let (seed, size) = arguments(3_000);
@@ -54,14 +20,13 @@ fn main() {
         let mut ledger = BTreeMap::new();
         for _ in 0..10 + random.below(14 * n) {
             let call = some_call(span, &mut random);
-            let after = write_in(&t, &list, call);
+            let after = called(&t, &list, call);
             if after.number != 0 {
                 continue;
             }
             writes += 1;
             let new = changed(&ledger, call);
-            let (stores, flushes) = after.counts.expect("counts");
-            let words = &after.list[..2 * (stores + flushes) as usize];
+            let words = &after.list[..2 * after.orders() as usize];
             let os: Vec<Order> = words.chunks(2).map(|o| if o[0] == MARK { Order::Flush(o[1]) } else { Order::Store(o[0] as usize, o[1]) }).collect();
             let asked: BTreeSet<u64> = ledger.keys().chain(new.keys()).flat_map(|k| [k.wrapping_sub(1), *k, k.wrapping_add(1)]).collect();
             let mut went_on = None;

@@ -74,7 +74,7 @@ fn place(i: u64) -> usize {
 fn taken(t: &[u64], list: &[u64]) -> bool {
     let w = calls::repair(t, list);
     assert!(w.table == t && w.list == list, "a repair of a settled table, or a refused one, wrote");
-    assert!(matches!((w.number, w.counts), (0, Some((0, 0))) | (4, None)), "repair gave {} {:?}", w.number, w.counts);
+    assert!(matches!((w.number, w.counts), (0, [Some(0), Some(0)]) | (4, [None, None])), "repair gave {} {:?}", w.number, w.counts);
     w.number == 0
 }
 

@@ -22,8 +22,8 @@ fn same_list(t: &[u64], low: u64, high: u64, len: usize, seed: u64) {
     let want = list(t, low, high, &out);
     let got = calls::list(t, low, high, &out);
     let right = match want.0 {
-        Listed::Pairs { count, more } => got == (0, Some((count, more as u64)), want.1.clone()),
-        Listed::Refused(n) => got == (n, None, out),
+        Listed::Pairs { count, more } => got == (0, [Some(count), Some(more as u64)], want.1.clone()),
+        Listed::Refused(n) => got == (n, [None; 2], out),
     };
     expect(right, seed, t, || format!("list {low} to {high} into {len} words: wanted {want:?}, got {got:?}"));
 }

@@ -498,6 +498,11 @@ pub fn write(t: &[u64], list_words: usize, call: Call) -> Result<Writer, u64> {
         return Err(2);
     }
     let tree = judge(t).ok_or(4u64)?;
+    write_judged(t, &tree, list_words, call)
+}
+
+/// As `write`, on a sound table with its tree.
+pub fn write_judged(t: &[u64], tree: &Tree, list_words: usize, call: Call) -> Result<Writer, u64> {
     if list_words < LIST_WORDS {
         return Err(5);
     }

@@ -4,43 +4,8 @@ mod calls;
 mod common;
 mod reference;
 
-use calls::Wrote;
 use common::*;
 use reference::*;
-
-/// What a call must leave, by the reference.
-fn wanted(t: &[u64], list: &[u64], call: Call) -> (Wrote, Vec<Order>) {
-    match write(t, list.len(), call) {
-        Err(number) => (Wrote { number, counts: None, table: t.to_vec(), list: list.to_vec() }, vec![]),
-        Ok(w) => {
-            let os = orders(&w.stores);
-            let mut words = list.to_vec();
-            let listed = encode(&os);
-            words[..listed.len()].copy_from_slice(&listed);
-            let stores = w.stores.len() as u64;
-            (Wrote { number: 0, counts: Some((stores, os.len() as u64 - stores)), table: w.t, list: words }, os)
-        }
-    }
-}
-
-fn called(t: &[u64], list: &[u64], call: Call) -> Wrote {
-    match call {
-        Call::Insert(k, r) => calls::insert(t, list, k, r),
-        Call::Delete(k) => calls::delete(t, list, k),
-        Call::Repair => calls::repair(t, list),
-    }
-}
-
-/// The call's answer, table and list are the reference's; its orders.
-fn same_write(t: &[u64], list: &[u64], call: Call, seed: u64) -> (Wrote, Vec<Order>) {
-    let (want, os) = wanted(t, list, call);
-    let got = called(t, list, call);
-    expect(got == want, seed, t, || {
-        format!("{call:?} with {} words for orders: wanted {:?} {:?}, got {:?} {:?}; first orders {:?}", list.len(), want.number, want.counts, got.number, got.counts, &got.list[..got.list.len().min(40)])
-    });
-    expect(os.len() <= 1121, seed, t, || format!("{call:?} made {} orders", os.len()));
-    (want, os)
-}
 
 fn main() {
     let (seed, size) = arguments(200_000);
@@ -74,8 +39,7 @@ fn main() {
             numbers[after.number as usize] += 1;
             done += 1;
             if after.number == 0 {
-                let c = after.counts.map_or(0, |(s, f)| s + f);
-                let carried = calls::carry_out(&memory, &after.list, c);
+                let carried = calls::carry_out(&memory, &after.list, after.orders());
                 expect(carried == (0, after.table.clone()), seed, &memory, || format!("carry-out of {call:?}"));
                 let part = random.below(os.len() as u64 + 1);
                 let cut = calls::carry_out(&memory, &after.list, part);
@@ -88,7 +52,7 @@ fn main() {
         }
     }
     println!("calls {done}; by number: {numbers:?}");
-    expect([0, 5, 6, 7, 8, 9, 10].iter().all(|&n: &usize| numbers[n] > 0), seed, &[], || "a number was not met".into());
+    expect([0, 5, 6, 7, 8, 9, 10].iter().all(|&n: &usize| numbers[n] >= size / 100), seed, &[], || "a number was not met often enough".into());
     passed += 1;
 
     // Tables with every leftover, whole and damaged, and any words: each call as the reference, nothing changed on refusal.

@@ -1,4 +1,5 @@
 // Carry-out: the first c orders of a list, applied to a table.
+use model::MARK;
 use model::Outcome;
 ghost use mathlib.Core.Path.{_≡_};
 ghost use mathlib.Core.Bool.{true};
@@ -7,8 +8,6 @@ ghost use Prim.Native.Nat.{_*_, _≤_};
 ghost use lib.ListN.{length};
 ghost use Rattle.model.specs.Orders.{orderOf, inside, allInside, carry, carryOut, carriedOut};
 ghost use Rattle.carry.specs.Firsts.{firsts};
-
-const MARK: u64 = 18446744073709551615;
 
 // Whether the order of these two words lies in a table of so many words.
 fn is_inside(len: usize, a: u64, b: u64) -> bool

@@ -2,7 +2,7 @@
 use mathlib.Core.Path.{_≡_, refl, sym, ap, _∙_}
 use mathlib.Core.Logic.{_≢_}
 use mathlib.Core.List.{List, [], _∷_, _++_}
-use Prim.Native.Nat.{ℕ, zero, suc, _+_, _-_, _≤_}
+use Prim.Native.Nat.{ℕ, zero, suc, _+_, _≤_}
 use native.Mathlib.Omega.{arith}
 use lib.ListN.{length, take, set, length-set}
 use lib.Seq.{getD-set-other}
@@ -26,11 +26,6 @@ pub apply-append : (a b : List Store) (t : Words) → apply (a ++ b) t ≡ apply
 unfolding apply
 apply-append [] b t = refl
 apply-append (s ∷ a) b t = apply-append a b _
-
--- one store more, at the end
-pub apply-snoc : (ss : List Store) (s : Store) (t : Words) → apply (ss ++ (s ∷ [])) t ≡ set (apply ss t) (s .word) (s .value)
-unfolding apply
-apply-snoc ss s t = apply-append ss (s ∷ []) t
 
 -- What holds after each first part of a, and from there after each first part of b, holds after each first part of both.
 pub always-append : (P : Words → Type 0) (a b : List Store) (t : Words) → ((i : ℕ) → P (apply (take i a) t)) → ((i : ℕ) → P (apply (take i b) (apply a t))) → (i : ℕ) → P (apply (take i (a ++ b)) t)

@@ -15,7 +15,7 @@ use Rattle.model.specs.Table.{Words, line}
 use Rattle.model.specs.Orders.{Store, store, flush, apply, carry, ordersAfter, orders, storeCount, flushCount}
 use Rattle.cut_laws.specs.Growing.{due, added, openAfter, closing, openOrders, openLine, changesFrom, lineChanges}
 use Rattle.cut_laws.specs.Unflushed.{storesIn}
-use Rattle.cut_laws.proofs.Applying.{carry-stores, storesIn-append, storesIn-take, storeCount-stores, flushCount-append, counts-length}
+use Rattle.cut_laws.proofs.Applying.{carry-stores, storesIn-append, storesIn-take, storeCount-stores, counts-length}
 
 -- ---- the rule's two cases
 
@@ -39,15 +39,6 @@ unfolding openAfter
 openAfter-append o [] b = refl
 openAfter-append o (s ∷ a) b = openAfter-append (some (line (s .word))) a b
 
--- one store more adds the flush that is due and the store, and leaves its own line open
-pub added-snoc : (o : Option ℕ) (ss : List Store) (s : Store) → added o (ss ++ (s ∷ [])) ≡ added o ss ++ (due (openAfter o ss) s ++ (store s ∷ []))
-unfolding added
-added-snoc o ss s = added-append o ss (s ∷ [])
-
-pub openAfter-snoc : (o : Option ℕ) (ss : List Store) (s : Store) → openAfter o (ss ++ (s ∷ [])) ≡ some (line (s .word))
-unfolding openAfter
-openAfter-snoc o ss s = openAfter-append o ss (s ∷ [])
-
 -- the flush that is due, by cases
 pub due-same : (l : ℕ) (s : Store) → line (s .word) ≡ l → due (some l) s ≡ []
 due-same l s e = rw (eq-eqb (line (s .word)) l e)
@@ -61,7 +52,8 @@ unfolding ordersAfter added openAfter
 after-added l [] = refl
 after-added l (s ∷ ss) = go (ℕ-discrete (line (s .word)) l) (after-added (line (s .word)) ss)
   where
-    go : Dec (line (s .word) ≡ l) → ordersAfter (line (s .word)) ss ≡ added (some (line (s .word))) ss ++ closing (openAfter (some (line (s .word))) ss) → ordersAfter l (s ∷ ss) ≡ (due (some l) s ++ (store s ∷ added (some (line (s .word))) ss)) ++ closing (openAfter (some (line (s .word))) ss)
+    go : Dec (line (s .word) ≡ l) → ordersAfter (line (s .word)) ss ≡ added (some (line (s .word))) ss ++ closing (openAfter (some (line (s .word))) ss)
+        → ordersAfter l (s ∷ ss) ≡ (due (some l) s ++ (store s ∷ added (some (line (s .word))) ss)) ++ closing (openAfter (some (line (s .word))) ss)
     go (yes e) ih = rw (after-same l s ss e, due-same l s e) (ap (λ q. store s ∷ q) (ap (λ (k : ℕ). ordersAfter k ss) (sym e) ∙ ih))
     go (no k) ih = rw (after-other l s ss k, due-other l s k) (ap (λ q. flush l ∷ store s ∷ q) ih)
 
@@ -100,29 +92,11 @@ orders-take-apply c ss t = rw (carry-stores (take c (orders ss)) t, storesIn-tak
 
 -- ---- counts
 
-pub added-storeCount : (o : Option ℕ) (ss : List Store) → storeCount (added o ss) ≡ length ss
-added-storeCount o ss = storeCount-stores (added o ss) ∙ ap length (added-stores o ss)
-
 pub orders-storeCount : (ss : List Store) → storeCount (orders ss) ≡ length ss
 orders-storeCount ss = storeCount-stores (orders ss) ∙ ap length (orders-stores ss)
 
 pub orders-length : (ss : List Store) → length (orders ss) ≡ length ss + flushCount (orders ss)
 orders-length ss = omega (arith, counts-length (orders ss), orders-storeCount ss)
-
-due-flushCount : (l : ℕ) (s : Store) → flushCount (due (some l) s) ≡ cond (eqb (line (s .word)) l) 0 1
-unfolding flushCount
-due-flushCount l s = elim (eqb (line (s .word)) l) as (λ b. flushCount (cond b [] (flush l ∷ [])) ≡ cond b 0 1) [ true ↦ refl | false ↦ refl ]
-
--- a growing list has a flush for each change of line
-pub added-flushCount : (l : ℕ) (ss : List Store) → flushCount (added (some l) ss) ≡ changesFrom l ss
-unfolding added changesFrom flushCount
-added-flushCount l [] = refl
-added-flushCount l (s ∷ ss) = flushCount-append (due (some l) s) _ ∙ rw (due-flushCount l s, added-flushCount (line (s .word)) ss)
-
-pub open-flushCount : (ss : List Store) → flushCount (openOrders ss) ≡ lineChanges ss
-unfolding added lineChanges flushCount
-open-flushCount [] = refl
-open-flushCount (s ∷ ss) = added-flushCount (line (s .word)) ss
 
 after-flushCount : (l : ℕ) (ss : List Store) → flushCount (ordersAfter l ss) ≡ suc (changesFrom l ss)
 unfolding ordersAfter flushCount changesFrom
@@ -144,16 +118,6 @@ change-le : (b : Bool) → cond b 0 1 ≤ 1
 change-le true = omega arith
 change-le false = omega arith
 
-pub changes-le : (l : ℕ) (ss : List Store) → changesFrom l ss ≤ length ss
-unfolding changesFrom
-changes-le l [] = omega arith
-changes-le l (s ∷ ss) = omega (arith, change-le (eqb (line (s .word)) l), changes-le (line (s .word)) ss)
-
-pub orders-flushCount-le : (ss : List Store) → flushCount (orders ss) ≤ length ss
-unfolding orders flushCount
-orders-flushCount-le [] = omega arith
-orders-flushCount-le (s ∷ ss) = omega (arith, after-flushCount (line (s .word)) ss, changes-le (line (s .word)) ss)
-
 -- stores that follow change line at most once more than by themselves
 changes-orders : (l : ℕ) (ss : List Store) → changesFrom l ss ≤ flushCount (orders ss)
 unfolding changesFrom orders flushCount
@@ -165,31 +129,14 @@ unfolding changesFrom
 changes-append l [] b = omega (arith, changes-orders l b)
 changes-append l (s ∷ a) b = omega (arith, changes-append (line (s .word)) a b)
 
-changes-grow : (l : ℕ) (a b : List Store) → changesFrom l a ≤ changesFrom l (a ++ b)
-unfolding changesFrom
-changes-grow l [] b = omega arith
-changes-grow l (s ∷ a) b = omega (arith, changes-grow (line (s .word)) a b)
-
 pub flushCount-orders-append : (a b : List Store) → flushCount (orders (a ++ b)) ≤ flushCount (orders a) + flushCount (orders b)
 unfolding orders flushCount
 flushCount-orders-append [] b = omega arith
 flushCount-orders-append (s ∷ a) b = omega (arith, after-flushCount (line (s .word)) (a ++ b), after-flushCount (line (s .word)) a, changes-append (line (s .word)) a b)
 
-pub flushCount-orders-grow : (a b : List Store) → flushCount (orders a) ≤ flushCount (orders (a ++ b))
-unfolding orders flushCount
-flushCount-orders-grow [] b = omega arith
-flushCount-orders-grow (s ∷ a) b = omega (arith, after-flushCount (line (s .word)) (a ++ b), after-flushCount (line (s .word)) a, changes-grow (line (s .word)) a b)
-
--- Bounds add over the parts of a write; a part has no more orders than the whole.
+-- Bounds add over the parts of a write.
 pub length-orders-append : (a b : List Store) → length (orders (a ++ b)) ≤ length (orders a) + length (orders b)
 length-orders-append a b = omega (arith, orders-length (a ++ b), orders-length a, orders-length b, length-append a b, flushCount-orders-append a b)
-
-pub length-orders-grow : (a b : List Store) → length (orders a) ≤ length (orders (a ++ b))
-length-orders-grow a b = omega (arith, orders-length (a ++ b), orders-length a, length-append a b, flushCount-orders-grow a b)
-
--- the closed list is longer by the flush at the end
-pub length-openOrders : (ss : List Store) → length (orders ss) ≡ length (openOrders ss) + length (closing (openLine ss))
-length-openOrders ss = ap length (orders-closed ss) ∙ length-append (openOrders ss) (closing (openLine ss))
 
 -- lines that never fall, or never rise, from one store to the next, l before the first
 abbrev pub Rising : ℕ → List Store → Type 0

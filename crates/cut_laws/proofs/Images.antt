@@ -31,7 +31,8 @@ by-first-parts t os m e f = record { long = e; lines = λ l. (take (f l .0) (lat
 -- where no flush follows, what a first part of the orders leaves is an image of all
 pub first-part-image : (a b : List Order) (t : Words) → flushCount b ≡ 0 → Image t (a ++ b) (carry a t)
 first-part-image a b t e =
-    by-first-parts t (a ++ b) (carry a t) (length-carry a t) (λ l. (length (laterStores l a), λ w q. rw (upToFlush-before l b (no-flush l b e) a, laterStores-before l b (no-flush l b e) a, take-append-seam (laterStores l a) (laterStores l b)) (rw q at (sym (line-current a t w)))))
+    by-first-parts t (a ++ b) (carry a t) (length-carry a t)
+    (λ l. (length (laterStores l a), λ w q. rw (upToFlush-before l b (no-flush l b e) a, laterStores-before l b (no-flush l b e) a, take-append-seam (laterStores l a) (laterStores l b)) (rw q at (sym (line-current a t w)))))
 
 -- what the orders leave is an image
 pub carry-image : (os : List Order) (t : Words) → Image t os (carry os t)
@@ -59,8 +60,11 @@ unfolding laterStores
 flush-fewer os k t m i = by-first-parts t os m (i .long) (λ l. go l (flushed l (flush k ∷ [])) refl)
   where
     go : (l : ℕ) (b : Bool) → flushed l (flush k ∷ []) ≡ b → (n : ℕ) × HoldsFirst t os m l n
-    go l true e =
-        (length (laterStores l os), λ w h. rw (upToFlush-after l (flush k ∷ []) e os, laterStores-after l (flush k ∷ []) e os, take-nil, apply-nil, carry-append, carry-one-flush) at (first-parts i l .1 w h) ∙ rw take-length (rw h at (sym (line-current os t w))))
+    go l true e = (
+      length (laterStores l os),
+      λ w h. rw (upToFlush-after l (flush k ∷ []) e os, laterStores-after l (flush k ∷ []) e os, take-nil, apply-nil, carry-append, carry-one-flush) at (first-parts i l .1 w h)
+          ∙ rw take-length (rw h at (sym (line-current os t w))),
+    )
     go l false e =
         (first-parts i l .0, λ w h. rw (upToFlush-before l (flush k ∷ []) e os, laterStores-before l (flush k ∷ []) e os, append-nil) at (first-parts i l .1 w h))
 

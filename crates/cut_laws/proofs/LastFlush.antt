@@ -113,13 +113,15 @@ unfolding carry apply upToFlush laterStores flushed
 line-current [] t w = refl
 line-current (flush k ∷ os) t w = go (flushed (line w) (flush k ∷ os)) refl (line-current os t w)
   where
-    go : (b : Bool) → flushed (line w) (flush k ∷ os) ≡ b → at (apply (laterStores (line w) os) (carry (upToFlush (line w) os) t)) w ≡ at (carry os t) w → at (apply (laterStores (line w) os) (carry (upToFlush (line w) (flush k ∷ os)) t)) w ≡ at (carry os t) w
+    go : (b : Bool) → flushed (line w) (flush k ∷ os) ≡ b → at (apply (laterStores (line w) os) (carry (upToFlush (line w) os) t)) w ≡ at (carry os t) w
+        → at (apply (laterStores (line w) os) (carry (upToFlush (line w) (flush k ∷ os)) t)) w ≡ at (carry os t) w
     go true e ih = rw e ih
     go false e ih = rw e (rw (upToFlush-nil (line w) os (or-false-iff (eqb k (line w)) (flushed (line w) os) .0 e .1)) at ih)
 line-current (store s ∷ os) t w =
     go (flushed (line w) os) (eqb (line (s .word)) (line w)) refl refl (line-current os _ w)
   where
-    go : (b q : Bool) → flushed (line w) os ≡ b → eqb (line (s .word)) (line w) ≡ q → at (apply (laterStores (line w) os) (carry (upToFlush (line w) os) (set t (s .word) (s .value)))) w ≡ at (carry os (set t (s .word) (s .value))) w → at (apply (cond (q && not b) (s ∷ laterStores (line w) os) (laterStores (line w) os)) (carry (cond b (store s ∷ upToFlush (line w) os) []) t)) w ≡ at (carry os (set t (s .word) (s .value))) w
+    go : (b q : Bool) → flushed (line w) os ≡ b → eqb (line (s .word)) (line w) ≡ q → at (apply (laterStores (line w) os) (carry (upToFlush (line w) os) (set t (s .word) (s .value)))) w ≡ at (carry os (set t (s .word) (s .value))) w
+        → at (apply (cond (q && not b) (s ∷ laterStores (line w) os) (laterStores (line w) os)) (carry (cond b (store s ∷ upToFlush (line w) os) []) t)) w ≡ at (carry os (set t (s .word) (s .value))) w
     go true true e f ih = ih
     go true false e f ih = ih
     go false true e f ih = rw (upToFlush-nil (line w) os e) at ih

@@ -9,12 +9,13 @@ use native.Mathlib.Omega.{arith}
 use native.Mathlib.Decide.{ℕ-discrete}
 use lib.Dec.{ltb, leb}
 use borrow.Author.Tests.{ltb-true, lt-ltb, le-leb, ne-eqb}
-use lib.ListN.{length, getD, take, drop, set, length-append, length-drop}
+use lib.ListN.{length, getD, take, drop, set, length-append}
 use lib.Seq.{take-append-le, take-length, set-at, drop-cons, append-snoc}
 use Rattle.list_laws.proofs.Tools.{Each, and-iff, decode as facts}
 use Rattle.model.specs.Table.{MARK, Words, line, lengthOk, nodesFor, tableLength, headerOk}
 use Rattle.model.specs.Orders.{Store, Order, store, flush, apply, carry, ordersAfter, orders, encode, decode, listWith, allInside, carryNumber, carriedOut}
 use Rattle.cut_laws.specs.Unflushed.{storesIn}
+use Rattle.cut_laws.specs.Inside.{StoresInside}
 use Rattle.cut_laws.proofs.FlushRule.{after-same, after-other, orders-apply}
 
 -- ---- the words
@@ -35,14 +36,12 @@ pub listWith-nil : (lent : Words) → listWith [] lent ≡ lent
 unfolding listWith encode
 listWith-nil lent = refl
 
--- the list keeps its length where the orders fit
-pub length-listWith : (os : List Order) (lent : Words) → 2 * length os ≤ length lent → length (listWith os lent) ≡ length lent
-unfolding listWith
-length-listWith os lent h = simp (length-append, length-encode, length-drop) (omega arith)
-
 set-two : (p lent : Words) (n x y : ℕ) → length p ≡ n → suc n < length lent → set (set (p ++ drop n lent) n x) (suc n) y ≡ (p ++ (x ∷ y ∷ [])) ++ drop (suc (suc n)) lent
 set-two p lent n x y e h =
-    rw (drop-cons lent n 0 (omega arith), drop-cons lent (suc n) 0 h, set-at p (getD lent n 0) (getD lent (suc n) 0 ∷ drop (suc (suc n)) lent) x n e, ← (append-snoc p x (getD lent (suc n) 0 ∷ drop (suc (suc n)) lent)), set-at (p ++ (x ∷ [])) (getD lent (suc n) 0) (drop (suc (suc n)) lent) y (suc n) (simp length-append (omega arith))) (simp append-assoc)
+    let rest = drop (suc (suc n)) lent in
+    let next = getD lent (suc n) 0 in
+    rw (drop-cons lent n 0 (omega arith), drop-cons lent (suc n) 0 h, set-at p (getD lent n 0) (next ∷ rest) x n e, ← (append-snoc p x (next ∷ rest)), set-at (p ++ (x ∷ [])) next rest y (suc n) (simp length-append (omega arith)))
+    (simp append-assoc)
 
 listWith-snoc : (os : List Order) (o : Order) (lent : Words) (x y : ℕ) → encode (o ∷ []) ≡ x ∷ y ∷ [] → 2 * length os + 2 ≤ length lent → set (set (listWith os lent) (2 * length os) x) (2 * length os + 1) y ≡ listWith (os ++ (o ∷ [])) lent
 unfolding listWith
@@ -95,10 +94,6 @@ header-length t e =
     let a : length t ≡ 8 + 32 * n = u .0 .0 .0 .0 .0 .0 in
     let b : n ≤ 65535 = u .0 .0 .0 .0 .1 in
     (omega arith, omega arith)
-
--- every store is to a word below n
-abbrev pub StoresInside : ℕ → List Store → Type 0
-StoresInside n ss = Each (λ (s : Store). s .word < n) ss
 
 -- where stores are inside a whole number of lines, so are the flushes of their lines
 after-inside : (n : ℕ) (ss : List Store) (l : ℕ) → n ≡ 8 * (n / 8) → l < n / 8 → StoresInside n ss → allInside n (ordersAfter l ss) ≡ true

@@ -7,4 +7,3 @@ pub mod Images
 pub mod Cuts
 pub mod ExactImages
 pub mod Lent
-pub mod Phases

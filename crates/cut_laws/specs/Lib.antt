@@ -1,3 +1,4 @@
--- Names for an order list while it grows, and for what is unflushed in it.
+-- Names for an order list while it grows, for what is unflushed in it, and for stores that lie in a table.
 pub mod Growing
 pub mod Unflushed
+pub mod Inside

@@ -1,6 +1,6 @@
 // The deletion call: repair, then the slot of the key is shifted out of its leaf.
 use model::Written;
-use repair::Judged;
+use write::Judged;
 ghost use mathlib.Core.Path.{_≡_};
 ghost use lib.ListN.{length};
 ghost use Rattle.model.specs.Writes.{deletion};
@@ -11,14 +11,14 @@ pub fn delete(table: &mut [u64], list: &mut [u64], key: u64) -> Written
     ensures { λ r. ⌜ now (table .exit) ≡ tableAfter (deletion key) (length (now (list .entry))) (now (table .entry)) ⌝ }
     ensures { λ r. ⌜ now (list .exit) ≡ listAfter (deletion key) (now (list .entry)) (now (table .entry)) ⌝ }
 {
-    let judgement = repair::judge(table, list.len());
+    let judgement = write::judge(table, list.len());
     match judgement {
         Judged::Refused(n) => Written::Refused(n),
         Judged::Ready { left, reached: _ } => {
-            if !repair::has_key(table, key) {
+            if !write::has_key(table, key) {
                 return Written::Refused(9);
             }
-            let mended = repair::mend(table, list, repair::begin(), left);
+            let mended = write::mend(table, list, write::begin(), left);
             let leaf = reach::standing(table, 0, key);
             let out = shift::shift_out(table, list, mended, leaf, key);
             let done = orders::finish(list, out);

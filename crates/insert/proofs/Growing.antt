@@ -9,13 +9,12 @@ use borrow.Author.Tests.{ltb-false}
 use Rattle.model.specs.Table.{MARK, Words, nodes, root, headerOk, hasNode}
 use Rattle.model.specs.Slots.{view, height}
 use Rattle.model.specs.SoundTest.{settled}
-use Rattle.model.specs.Writes.{unreachable, fresh, run, rootInRun, rootStores}
+use Rattle.model.specs.Writes.{unreachable, fresh, run, rootInRun, rootStores, newRootAt}
 use Rattle.model.specs.Refusals.{tooFew}
 use Rattle.table_laws.proofs.Header.{header-iff}
-use Rattle.steps.proofs.Views.{settled-fine}
-use Rattle.steps.proofs.Fresh.{fresh-free}
-use Rattle.steps.proofs.Standing.{root-reached}
-use Rattle.shift.specs.Stores.{newRootAt}
+use Rattle.step_laws.proofs.Views.{settled-fine}
+use Rattle.step_laws.proofs.Fresh.{fresh-free}
+use Rattle.step_laws.proofs.Standing.{root-reached}
 use Rattle.shift.proofs.Splitting.{new-root-fresh}
 
 -- ---- the root of a table with a right header

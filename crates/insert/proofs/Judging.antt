@@ -9,7 +9,7 @@ use lib.Dec.{eqb}
 use lib.ListN.{length}
 use borrow.Author.Tests.{ne-eqb}
 use Rattle.model.specs.Table.{Words}
-use Rattle.model.specs.Slots.{view, full}
+use Rattle.model.specs.Slots.{nodeView, view, full}
 use Rattle.model.specs.Search.{path}
 use Rattle.model.specs.Reached.{kept, reached}
 use Rattle.model.specs.SoundTest.{Leftover, nothing, hiddenIn, missingIn, bothIn, leftover, sound}
@@ -20,15 +20,14 @@ use Rattle.tree_laws.proofs.Rows.{not-zero}
 use Rattle.tree_laws.proofs.Levels.{Orderly, sound-orderly, sound-parts}
 use Rattle.tree_laws.proofs.Shape.{shape-view}
 use Rattle.tree_laws.proofs.SearchLaw.{path-reached}
-use Rattle.steps.proofs.Accepted.{Enters, accepted-iff}
-use Rattle.steps.proofs.RepairedView.{lackingIn, repaired-view}
-use Rattle.steps.proofs.Judged.{full-later}
+use Rattle.step_laws.proofs.RepairedView.{lackingIn, repaired-view}
+use Rattle.step_laws.proofs.Judged.{full-later}
 use Rattle.reach.specs.declared.Run.{Run}
 use Rattle.reach.specs.Runs.{fullIn, fullRun}
 use Rattle.reach.proofs.Running.{run-of}
 use Rattle.sound.specs.declared.Leftover as said
 use Rattle.sound.specs.Checked.{meant}
-use Rattle.repair.proofs.Judging.{Passed, ready-number}
+use Rattle.write.proofs.Judging.{Passed, ready-number}
 use Rattle.insert.specs.Tests.{parentOf, runOf, numberFor}
 
 -- the one slot more is that of the parent that lacks one
@@ -42,22 +41,20 @@ pub run-judged : (t : Words) (y : Leftover) (k : ℕ) → sound t ≡ true → l
 run-judged t y k s e =
     let v = view t in
     let o : Orderly v = sound-orderly v (sound-parts t .0 s .1) in
-    let judged : (n : ℕ) → List·Memᴰ n (reached v) → fullIn v (parentOf y) n ≡ full (view (repaired t) .shown n) =
-    λ n m. unfold fullIn in ap (λ (i : ℕ). eqb (length (kept v n) + i) 11) (lacking-is y n (not-zero v n (shape-view v o .range m)) ∙ ap (λ (z : Option Leftover). lackingIn z n) (sym e)) ∙ sym (full-later t s n m) in
-    run-of t (repaired t) k (parentOf y) (repaired-view t s .path k) (Each-map (λ (n : ℕ). List·Memᴰ n (reached v)) (λ (n : ℕ). fullIn v (parentOf y) n ≡ full (view (repaired t) .shown n)) (path v k) judged (path-reached v k o))
+    let judged : (n : ℕ) → List·Memᴰ n (reached v) → fullIn v (parentOf y) n ≡ full (nodeView (repaired t) n .shown) =
+    λ n m. unfold fullIn in
+    ap (λ (i : ℕ). eqb (length (kept v n) + i) 11) (lacking-is y n (not-zero v n (shape-view v o .range m)) ∙ ap (λ (z : Option Leftover). lackingIn z n) (sym e)) ∙ sym (full-later t s n m) in
+    run-of t (repaired t) k (parentOf y) (repaired-view t s .path k) (Each-map (λ (n : ℕ). List·Memᴰ n (reached v)) (λ (n : ℕ). fullIn v (parentOf y) n ≡ full (nodeView (repaired t) n .shown)) (path v k) judged (path-reached v k o))
 
-module _ (words : ℕ) (t : Words) (x : said.Leftover) (n : ℕ) (p : Passed words t x n) (k r parent : ℕ) (b : parent ≡ parentOf (meant x)) (run : Run) (e : run ≡ fullRun t k parent) where
-  pub run-later : run ≡ runOf (repaired t) k
-  run-later = e ∙ ap (fullRun t k) b ∙ run-judged t (meant x) k (p .found .is-sound) (p .found .leftover-is)
+module _ {words : ℕ} {t : Words} {x : said.Leftover} {n : ℕ} (p : Passed words t x n) (k : ℕ) where
+  pub run-later : {parent : ℕ} {run : Run} → parent ≡ parentOf (meant x) → run ≡ fullRun t k parent → run ≡ runOf (repaired t) k
+  run-later b e = e ∙ ap (fullRun t k) b ∙ run-judged t (meant x) k (p .found .is-sound) (p .found .leftover-is)
 
-  number-is : numberFor t k r (runOf (repaired t) k) ≡ refusal (insertion k r) words t
+  number-is : (r : ℕ) → numberFor t k r (runOf (repaired t) k) ≡ refusal (insertion k r) words t
   unfolding numberFor tooHigh tooFew
-  number-is =
+  number-is r =
       let v = repaired-view t (p .found .is-sound) in
       sym (ready-number words t (insertion k r) x n p ∙ rw (v .height, v .unreachable))
 
-  pub insert-number : (m : ℕ) → m ≡ numberFor t k r run → refusal (insertion k r) words t ≡ m
-  insert-number m q = sym (q ∙ ap (numberFor t k r) run-later ∙ number-is)
-
-  pub insert-enters : (m : ℕ) → m ≡ numberFor t k r run → m ≡ 0 → Enters k r (repaired t)
-  insert-enters m q z = accepted-iff (insertion k r) words t .0 (insert-number m q ∙ z) .allows
+  pub insert-number : (r : ℕ) {parent : ℕ} {run : Run} {m : ℕ} → parent ≡ parentOf (meant x) → run ≡ fullRun t k parent → m ≡ numberFor t k r run → refusal (insertion k r) words t ≡ m
+  insert-number r b e q = sym (q ∙ ap (numberFor t k r) (run-later b e) ∙ number-is r)

@@ -7,7 +7,7 @@ use native.Mathlib.Numerals.{add-one}
 use native.Mathlib.Omega.{arith}
 use lib.ListN.{length}
 use Rattle.model.specs.Table.{Words, nodes, inRange, headerOk, hasNode}
-use Rattle.model.specs.Slots.{view}
+use Rattle.model.specs.Slots.{nodeView, view}
 use Rattle.model.specs.Reached.{reached}
 use Rattle.model.specs.SoundTest.{settled, sound}
 use Rattle.model.specs.Orders.{apply}
@@ -15,20 +15,23 @@ use Rattle.model.specs.Writes.{fresh, split, standing, splits}
 use Rattle.list_laws.proofs.Tools.{decode}
 use Rattle.tree_laws.proofs.Shape.{shape-view}
 use Rattle.tree_laws.proofs.Leftovers.{settled-sound}
-use Rattle.steps.proofs.Views.{settled-fine}
-use Rattle.steps.proofs.Fresh.{fresh-free}
-use Rattle.steps.proofs.Standing.{standing-stands}
-use Rattle.steps.proofs.Split.{splitFor, Splittable}
-use Rattle.steps.proofs.Splits.{Ready, ready-first, ready-next}
+use Rattle.step_laws.proofs.Views.{settled-fine}
+use Rattle.step_laws.proofs.Fresh.{fresh-free}
+use Rattle.step_laws.proofs.Standing.{standing-stands}
+use Rattle.step_laws.specs.Parts.{splitFor, FullNode, Splittable, Ready}
+use Rattle.step_laws.proofs.Splits.{ready-first, ready-next}
 use Rattle.orders.specs.declared.Pen.{Pen}
 use Rattle.orders.specs.Desk.{Desk, desk, storedAll, Room}
 use Rattle.orders.proofs.Rest.{Rest, rest-same, rest-first, rest-after}
-use Rattle.repair.proofs.Parts.{part-table}
-use Rattle.repair.proofs.Mending.{Plain, settled-plain}
+use Rattle.write.proofs.Parts.{part-table}
+use Rattle.write.proofs.Mending.{Plain, settled-plain}
 
 -- ---- one split
 
-module _ (t : Words) (k l : ℕ) (h : Splittable t k l) where
+module _ {t : Words} {k l : ℕ} (s : Splittable t k l) where
+  abbrev h : FullNode t k l
+  h = s .node
+
   pub split-header : headerOk t ≡ true
   split-header = settled-fine t (h .settled) .header
 
@@ -41,7 +44,7 @@ module _ (t : Words) (k l : ℕ) (h : Splittable t k l) where
   lower-reached : List·Memᴰ (standing t l k) (reached (view t))
   lower-reached = standing-stands t (h .settled) k l (omega (arith, h .high)) .reached
 
-  module _ (a : ℕ) (ea : a ≡ standing t l k) where
+  module _ {a : ℕ} (ea : a ≡ standing t l k) where
     pub lower-range : (1 ≤ a) × (a ≤ nodes t)
     unfolding inRange
     lower-range =
@@ -51,12 +54,12 @@ module _ (t : Words) (k l : ℕ) (h : Splittable t k l) where
     pub lower-plain : Plain t a
     lower-plain = rw ea (settled-plain t _ (h .settled) lower-reached)
 
-    pub lower-full : 6 ≤ length (view t .shown a)
+    pub lower-full : 6 ≤ length (nodeView t a .shown)
     lower-full = rw ea (omega (arith, h .full))
 
-    module _ (b : ℕ) (eb : b ≡ fresh t a) (p : ℕ) (ep : p ≡ standing t (l + 1) k) where
+    module _ {b : ℕ} (eb : b ≡ fresh t a) {p : ℕ} (ep : p ≡ standing t (l + 1) k) where
       pub upper-there : hasNode t b ≡ true
-      upper-there = rw (eb, ea) (fresh-free t (standing t l k) (h .settled) lower-reached (h .some) .there)
+      upper-there = rw (eb, ea) (fresh-free t (standing t l k) (h .settled) lower-reached (s .some) .there)
 
       pub parent-plain : Plain t p
       parent-plain = rw (ep, add-one) (settled-plain t _ (h .settled) (standing-stands t (h .settled) k (suc l) (h .high) .reached))
@@ -82,10 +85,10 @@ module _ (t : Words) (k : ℕ) where
 
   module _ (l : ℕ) (lent : Words) (pen : Pen) (x : Desk) (pos : 0 < l) (w : Rest (splits l t k) (desk t lent pen) x) where
     rest : Rest (splitFor t (l - 1) k ++ splits (l - 1) (apply (splitFor t (l - 1) k) t) k) (desk t lent pen) x
-    rest = rest-same _ _ (desk t lent pen) x (highest l pos) w
+    rest = rest-same (highest l pos) w
 
     pub next-room : Room (splitFor t (l - 1) k) (desk t lent pen)
-    next-room = rest-first _ _ (desk t lent pen) x rest
+    next-room = rest-first _ _ rest
 
     -- the split is made
     module _ (t₁ list : Words) (at : Pen) (q : desk t₁ list at ≡ storedAll (splitFor t (l - 1) k) (desk t lent pen)) where
@@ -96,7 +99,7 @@ module _ (t : Words) (k : ℕ) where
       next-ready r = rw table-is (after-highest l pos r)
 
       pub next-rest : Rest (splits (l - 1) t₁ k) (desk t₁ list at) x
-      next-rest = rest-same _ _ (desk t₁ list at) x (ap (λ (u : Words). splits (l - 1) u k) (sym table-is)) (rest-after _ _ (desk t lent pen) x rest (desk t₁ list at) q)
+      next-rest = rest-same (ap (λ (u : Words). splits (l - 1) u k) (sym table-is)) (rest-after _ _ rest q)
 
 pub splits-done : (l : ℕ) (t : Words) (k : ℕ) (d x : Desk) → l ≤ 0 → Rest (splits l t k) d x → d ≡ x
 unfolding splits storedAll

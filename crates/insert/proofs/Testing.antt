@@ -6,22 +6,22 @@ use Prim.Native.Nat.{ℕ, _+_}
 use native.Mathlib.Omega.{arith}
 use native.Mathlib.Nat.{add-zero}
 use lib.Dec.{eqb, leb, ltb}
-use lib.ListN.{length}
+use lib.ListN.{length, drop}
 use borrow.Author.Tests.{eq-eqb, ne-eqb, leb-true, le-leb, ltb-true, lt-ltb}
 use Rattle.model.specs.Table.{MARK, Words, root}
 use Rattle.model.specs.Slots.{view, height}
 use Rattle.model.specs.Reached.{mapOf}
 use Rattle.model.specs.SoundTest.{sound}
-use Rattle.model.specs.Writes.{unreachable}
-use Rattle.model.specs.Refusals.{hasKey, hasRecording}
+use Rattle.model.specs.Writes.{unreachable, insertion}
+use Rattle.model.specs.Refusals.{firstNumber, hasRecording, mapTests}
 use Rattle.list_laws.proofs.Tools.{same-test}
 use Rattle.node.specs.Word.{wordOf}
 use Rattle.node.proofs.WordLaws.{word-level}
 use Rattle.reach.specs.declared.Run.{Run}
-use Rattle.sound.specs.declared.Hit.{Hit}
-use Rattle.sound.specs.declared.Hit.the-variants.{At, Nowhere}
-use Rattle.sound.specs.Hits.{isHit, hitIn}
-use Rattle.sound.proofs.OnceLaws.{found-recording}
+use Rattle.leaves.specs.declared.Hit.{Hit}
+use Rattle.leaves.specs.declared.Hit.the-variants.{At, Nowhere}
+use Rattle.leaves.specs.Hits.{isHit, hitIn}
+use Rattle.leaves.proofs.FoundLaws.{found-recording}
 use Rattle.insert.specs.Tests.{highRun, fewFor, numberFor}
 
 -- ---- 8
@@ -53,36 +53,23 @@ few-part free n b e = rw (e, add-zero)
 
 -- ---- the first that holds
 
+pub test-holds : (b : Bool) (n rest : ℕ) → b ≡ true → n ≡ cond b n rest
+test-holds b n rest e = rw e
+
+pub test-passed : (b : Bool) (n rest : ℕ) → b ≡ false → cond b n rest ≡ rest
+test-passed b n rest e = rw e
+
+-- 6 is two tests in the code
 module _ (t : Words) (k r : ℕ) (run : Run) where
   pub six-zero : r ≡ 0 → 6 ≡ numberFor t k r run
   unfolding numberFor
   six-zero z = rw (eq-eqb r 0 z, numberFor)
 
-  module _ (z : r ≢ 0) where
-    pub six-mark : r ≡ MARK → 6 ≡ numberFor t k r run
-    unfolding numberFor
-    six-mark m = rw (ne-eqb r 0 z, eq-eqb r MARK m, numberFor)
+  pub six-mark : r ≢ 0 → r ≡ MARK → 6 ≡ numberFor t k r run
+  unfolding numberFor
+  six-mark z m = rw (ne-eqb r 0 z, eq-eqb r MARK m, numberFor)
 
-    module _ (m : r ≢ MARK) (a : Bool) (ea : a ≡ hasKey k (mapOf t)) where
-      pub seven : a ≡ true → 7 ≡ numberFor t k r run
-      unfolding numberFor
-      seven h = rw (ne-eqb r 0 z, ne-eqb r MARK m, sym ea ∙ h, numberFor)
-
-      module _ (fa : a ≡ false) (b : Bool) (eb : b ≡ hasRecording r (mapOf t)) where
-        pub eight : b ≡ true → 8 ≡ numberFor t k r run
-        unfolding numberFor
-        eight h = rw (ne-eqb r 0 z, ne-eqb r MARK m, sym ea ∙ fa, sym eb ∙ h, numberFor)
-
-        module _ (fb : b ≡ false) (c : Bool) (ec : c ≡ highRun t run) where
-          pub eleven : c ≡ true → 11 ≡ numberFor t k r run
-          unfolding numberFor
-          eleven h = rw (ne-eqb r 0 z, ne-eqb r MARK m, sym ea ∙ fa, sym eb ∙ fb, ← ec, h, numberFor)
-
-          module _ (fc : c ≡ false) (free : ℕ) (ef : free ≡ length (unreachable t)) (d : Bool) (ed : d ≡ fewFor free run) where
-            pub ten : d ≡ true → 10 ≡ numberFor t k r run
-            unfolding numberFor
-            ten h = rw (ne-eqb r 0 z, ne-eqb r MARK m, sym ea ∙ fa, sym eb ∙ fb, ← ec, fc, ← ef, ← ed, h, numberFor)
-
-            pub none-holds : d ≡ false → 0 ≡ numberFor t k r run
-            unfolding numberFor
-            none-holds h = rw (ne-eqb r 0 z, ne-eqb r MARK m, sym ea ∙ fa, sym eb ∙ fb, ← ec, fc, ← ef, ← ed, h, numberFor)
+  pub not-six : r ≢ 0 → r ≢ MARK
+      → numberFor t k r run ≡ firstNumber (drop 1 (mapTests (insertion k r) (highRun t run) (fewFor (length (unreachable t)) run) (mapOf t)))
+  unfolding numberFor
+  not-six z m = rw (ne-eqb r 0 z, ne-eqb r MARK m, numberFor)

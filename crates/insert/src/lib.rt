@@ -1,10 +1,11 @@
 // The insertion call: repair, a new root if the run of full nodes includes the root, the splits of the run, the pair shifted in.
+use leaves::Hit;
+use model::MARK;
 use model::Written;
 use orders::Pen;
 use reach::Run;
-use repair::Judged;
-use sound::Hit;
 use sound::Leftover;
+use write::Judged;
 ghost use mathlib.Core.Path.{_≡_};
 ghost use mathlib.Core.Bool.{true, false};
 ghost use Prim.Native.Nat.{_+_};
@@ -15,14 +16,10 @@ ghost use Rattle.model.specs.Reached.{mapOf, reached};
 ghost use Rattle.model.specs.SoundTest.{settled, sound};
 ghost use Rattle.model.specs.Writes.{rootInRun, splits, rootStores, insertSettled, insertion};
 ghost use Rattle.model.specs.Refusals.{tooHigh, tooFew, hasRecording, written, tableAfter, listAfter};
-ghost use Rattle.steps.proofs.Accepted.{Enters};
-ghost use Rattle.steps.proofs.Split.{splitFor, Splittable};
-ghost use Rattle.steps.proofs.Splits.{Ready};
+ghost use Rattle.step_laws.specs.Parts.{Enters, splitFor, Splittable, Ready};
 ghost use Rattle.sound.specs.Checked.{meant};
 ghost use Rattle.orders.specs.Desk.{desk, storedAll, Room};
 ghost use Rattle.insert.specs.Tests.{parentOf, highRun, fewFor, numberFor, runOf};
-
-const MARK: u64 = 18446744073709551615;
 
 // ---- the tests from 6 on
 
@@ -47,7 +44,7 @@ fn has_recording(table: &[u64], recording: u64) -> bool
     requires { ⌜ sound (now table) ≡ true ⌝ }
     ensures { λ r. ⌜ r ≡ hasRecording recording (mapOf (now (table .entry))) ⌝ }
 {
-    let hit = sound::find_recording(table, recording);
+    let hit = leaves::find_recording(table, recording);
     match hit {
         Hit::At { node: _, slot: _ } => true,
         Hit::Nowhere => false,
@@ -88,7 +85,7 @@ fn number(table: &[u64], key: u64, recording: u64, run: Run, count: u64) -> u8
     if recording == MARK {
         return 6;
     }
-    if repair::has_key(table, key) {
+    if write::has_key(table, key) {
         return 7;
     }
     if has_recording(table, recording) {
@@ -112,7 +109,8 @@ fn grow(table: &mut [u64], list: &mut [u64], pen: Pen, key: u64, whole: bool) ->
     requires { ⌜ tooFew (now table) key ≡ false ⌝ }
     requires { ⌜ whole ≡ rootInRun (now table) key ⌝ }
     requires { ⌜ Room (rootStores (now table) key) (desk (now table) (now list) pen) ⌝ }
-    ensures { λ r. ⌜ desk (now (table .exit)) (now (list .exit)) r ≡ storedAll (rootStores (now (table .entry)) key) (desk (now (table .entry)) (now (list .entry)) pen) ⌝ }
+    ensures { λ r. ⌜ desk (now (table .exit)) (now (list .exit)) r
+        ≡ storedAll (rootStores (now (table .entry)) key) (desk (now (table .entry)) (now (list .entry)) pen) ⌝ }
 {
     if !whole {
         return pen;
@@ -126,7 +124,8 @@ fn grow(table: &mut [u64], list: &mut [u64], pen: Pen, key: u64, whole: bool) ->
 fn split_at(table: &mut [u64], list: &mut [u64], pen: Pen, key: u64, l: u64) -> Pen
     requires { ⌜ Splittable (now table) key l ⌝ }
     requires { ⌜ Room (splitFor (now table) l key) (desk (now table) (now list) pen) ⌝ }
-    ensures { λ r. ⌜ desk (now (table .exit)) (now (list .exit)) r ≡ storedAll (splitFor (now (table .entry)) l key) (desk (now (table .entry)) (now (list .entry)) pen) ⌝ }
+    ensures { λ r. ⌜ desk (now (table .exit)) (now (list .exit)) r
+        ≡ storedAll (splitFor (now (table .entry)) l key) (desk (now (table .entry)) (now (list .entry)) pen) ⌝ }
 {
     let a = reach::standing(table, l, key);
     let b = reach::fresh(table, a);
@@ -138,7 +137,8 @@ fn split_at(table: &mut [u64], list: &mut [u64], pen: Pen, key: u64, l: u64) -> 
 fn split_run(table: &mut [u64], list: &mut [u64], pen: Pen, key: u64, count: u64) -> Pen
     requires { ⌜ Ready count (now table) key ⌝ }
     requires { ⌜ Room (splits count (now table) key) (desk (now table) (now list) pen) ⌝ }
-    ensures { λ r. ⌜ desk (now (table .exit)) (now (list .exit)) r ≡ storedAll (splits count (now (table .entry)) key) (desk (now (table .entry)) (now (list .entry)) pen) ⌝ }
+    ensures { λ r. ⌜ desk (now (table .exit)) (now (list .exit)) r
+        ≡ storedAll (splits count (now (table .entry)) key) (desk (now (table .entry)) (now (list .entry)) pen) ⌝ }
 {
     let mut at = pen;
     let mut l = count;
@@ -155,7 +155,8 @@ fn enter(table: &mut [u64], list: &mut [u64], pen: Pen, key: u64, recording: u64
     requires { ⌜ Enters key recording (now table) ⌝ }
     requires { ⌜ run ≡ runOf (now table) key ⌝ }
     requires { ⌜ Room (insertSettled (now table) key recording) (desk (now table) (now list) pen) ⌝ }
-    ensures { λ r. ⌜ desk (now (table .exit)) (now (list .exit)) r ≡ storedAll (insertSettled (now (table .entry)) key recording) (desk (now (table .entry)) (now (list .entry)) pen) ⌝ }
+    ensures { λ r. ⌜ desk (now (table .exit)) (now (list .exit)) r
+        ≡ storedAll (insertSettled (now (table .entry)) key recording) (desk (now (table .entry)) (now (list .entry)) pen) ⌝ }
 {
     let grown = grow(table, list, pen, key, run.root);
     let split = split_run(table, list, grown, key, run.length);
@@ -169,7 +170,7 @@ pub fn insert(table: &mut [u64], list: &mut [u64], key: u64, recording: u64) -> 
     ensures { λ r. ⌜ now (table .exit) ≡ tableAfter (insertion key recording) (length (now (list .entry))) (now (table .entry)) ⌝ }
     ensures { λ r. ⌜ now (list .exit) ≡ listAfter (insertion key recording) (now (list .entry)) (now (table .entry)) ⌝ }
 {
-    let judgement = repair::judge(table, list.len());
+    let judgement = write::judge(table, list.len());
     match judgement {
         Judged::Refused(n) => Written::Refused(n),
         Judged::Ready { left, reached } => {
@@ -178,7 +179,7 @@ pub fn insert(table: &mut [u64], list: &mut [u64], key: u64, recording: u64) -> 
             if n != 0 {
                 return Written::Refused(n);
             }
-            let mended = repair::mend(table, list, repair::begin(), left);
+            let mended = write::mend(table, list, write::begin(), left);
             let entered = enter(table, list, mended, key, recording, run);
             let done = orders::finish(list, entered);
             Written::Done {

@@ -11,7 +11,6 @@ use lib.Seq.{take-all, take-add, length-take-le}
 use lib.Arith.{digits-lt, digits-div}
 use borrow.Author.Tests.{eqb-true, eq-eqb}
 use Rattle.model.specs.declared.Parsed.the-variants.{Key, Refused}
-use Rattle.model.specs.declared.Printed.{Printed}
 use Rattle.model.specs.Codes.{isDigit, isLetter, isLetterOrDigit, every, isCode, value, number, keyOf, parse, digits, spelling, hasCode, print}
 use Rattle.isrc.specs.Order.{textBelow}
 use Rattle.isrc.proofs.Digits.{Below, number-bound, readOn-number, digits-readOn, digits-number, number-below, readings-below}
@@ -154,13 +153,3 @@ print-other k h = go (hasCode k) refl
     go : (b : Bool) → hasCode k ≡ b → print k ≡ record { number = 1; text = replicate 12 0 }
     go true e = absurd (h e)
     go false e = rw e
-
-pub number-zero : (k : ℕ) → print k .number ≡ 0 → hasCode k ≡ true
-unfolding print
-number-zero k e = go (hasCode k) e
-  where
-    go : (b : Bool)
-        → cond {A = Printed} b (record { number = 0; text = spelling k }) (record { number = 1; text = replicate 12 0 }) .number ≡ 0
-        → b ≡ true
-    go true q = refl
-    go false q = absurd (omega arith)

@@ -8,7 +8,7 @@ use borrow.Author.Tests.{ltb-true, lt-ltb}
 use Rattle.model.specs.declared.Parsed.the-variants.{Key}
 use Rattle.model.specs.Codes.{isCode, keyOf, parse, spelling, hasCode, print}
 use Rattle.isrc.specs.Order.{textBelow}
-use Rattle.isrc.proofs.Codes.{code, key-below, spelling-key, codes-order, parse-code, parsed, spelled, key-has-code, print-code, number-zero}
+use Rattle.isrc.proofs.Codes.{code, spelling-key, codes-order, parse-code, parsed, spelled, key-has-code, print-code}
 
 -- Printing a code's key gives the code back.
 pub print-keyOf : (text : List ℕ) → isCode text ≡ true → print (keyOf text) ≡ record { number = 0; text = text }
@@ -33,17 +33,11 @@ prints-iff-read k = (
   λ t. let p = parsed (t .0) k (t .1) in rw (p .1) at (key-has-code (t .0) (p .0)),
 )
 
-pub prints-iff : (k : ℕ) → (print k .number ≡ 0) ↔ (hasCode k ≡ true)
-prints-iff k = (number-zero k, λ e. rw (print-code k e))
-
 -- Codes are in the order of their keys.
 pub code-order : (a b : List ℕ) → isCode a ≡ true → isCode b ≡ true → (textBelow a b ≡ true) ↔ (keyOf a < keyOf b)
 code-order a b e f =
     let o = codes-order a b (code a e) (code b f) in
     (λ h. ltb-true (keyOf a) (keyOf b) (sym o ∙ h), λ h. o ∙ lt-ltb (keyOf a) (keyOf b) h)
-
-pub key-bound : (text : List ℕ) → isCode text ≡ true → keyOf text < 604661760000000
-key-bound text e = key-below text (code text e)
 
 -- Two codes with one key are the same text.
 pub one-code : (a b : List ℕ) → isCode a ≡ true → isCode b ≡ true → keyOf a ≡ keyOf b → a ≡ b

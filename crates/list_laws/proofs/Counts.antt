@@ -56,7 +56,11 @@ numbers-length a (suc n) = ap suc (numbers-length (suc a) n)
 pub numbers-each : (from count : ℕ) → Each (λ (n : ℕ). (from ≤ n) × (n < from + count)) (numbers from count)
 unfolding numbers
 numbers-each from zero = tt
-numbers-each from (suc c) = ((omega arith, omega arith), Each-map (λ (n : ℕ). (suc from ≤ n) × (n < suc from + c)) (λ (n : ℕ). (from ≤ n) × (n < from + suc c)) (numbers (suc from) c) (λ n h. let a = h .0 in let b = h .1 in (omega arith, omega arith)) (numbers-each (suc from) c))
+numbers-each from (suc c) = (
+  (omega arith, omega arith),
+  Each-map (λ (n : ℕ). (suc from ≤ n) × (n < suc from + c)) (λ (n : ℕ). (from ≤ n) × (n < from + suc c))
+      (numbers (suc from) c) (λ n h. let a = h .0 in let b = h .1 in (omega arith, omega arith)) (numbers-each (suc from) c),
+)
 
 pub numbers-append : (from a b : ℕ) → numbers from (a + b) ≡ numbers from a ++ numbers (from + a) b
 unfolding numbers

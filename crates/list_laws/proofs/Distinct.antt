@@ -131,7 +131,12 @@ distinct-flat g (n ∷ ns) d e a =
     let u = distinct-cons n ns .0 d in
     let off : (c : ℕ) → List·Memᴰ c (g n) → List·Memᴰ c (flat g ns) → ⊥ = λ c m k.
     let w = mem-flat g c ns .0 k in elem-none n ns .0 (u .0) (Memᴰ·cast (a n (w .0) c (List·Memᴰ·head refl) (List·Memᴰ·tail (w .1)) m (w .2)) (w .1)) in
-    distinct-append (g n) (flat g ns) .1 (e n (List·Memᴰ·head refl), distinct-flat g ns (u .1) (λ m k. e m (List·Memᴰ·tail k)) (λ m k c i o. a m k c (List·Memᴰ·tail i) (List·Memᴰ·tail o)), mem-each (λ (c : ℕ). elem c (flat g ns) ≡ false) (g n) (λ c m. elem-none c (flat g ns) .1 (off c m)))
+    distinct-append (g n) (flat g ns) .1 (
+      e n (List·Memᴰ·head refl),
+      distinct-flat g ns (u .1) (λ m k. e m (List·Memᴰ·tail k)) (λ m k c i o. a m k c (List·Memᴰ·tail i) (List·Memᴰ·tail o)),
+      mem-each
+          (λ (c : ℕ). elem c (flat g ns) ≡ false) (g n) (λ c m. elem-none c (flat g ns) .1 (off c m)),
+    )
 
 -- ---- by index
 

@@ -25,15 +25,6 @@ filter-append {A = A} q (x ∷ a) b = go (q x) refl (filter-append q a b)
     go true c ih = rw (filter-yes q x (a ++ b) c, filter-yes q x a c) (ap (λ (l : List A). x ∷ l) ih)
     go false c ih = rw (filter-no q x (a ++ b) c, filter-no q x a c) ih
 
--- tests that agree on each element
-pub filter-each {ℓ} : {A : Type ℓ} (p q : A → Bool) (xs : List A) → Each (λ (x : A). p x ≡ q x) xs → filter p xs ≡ filter q xs
-filter-each p q [] h = unfold filter in refl
-filter-each {A = A} p q (x ∷ xs) h = go (q x) refl (filter-each p q xs (h .1))
-  where
-    go : (b : Bool) → q x ≡ b → filter p xs ≡ filter q xs → filter p (x ∷ xs) ≡ filter q (x ∷ xs)
-    go true c ih = rw (filter-yes p x xs (h .0 ∙ c), filter-yes q x xs c) (ap (λ (l : List A). x ∷ l) ih)
-    go false c ih = rw (filter-no p x xs (h .0 ∙ c), filter-no q x xs c) ih
-
 pub mem-filter {ℓ} : {A : Type ℓ} (q : A → Bool) (x : A) (xs : List A) → List·Memᴰ x (filter q xs) ↔ (List·Memᴰ x xs × (q x ≡ true))
 unfolding filter
 mem-filter q x [] = (λ m. absurd (List·Memᴰ·not-nil m), λ m. m .0)

@@ -6,5 +6,6 @@ pub mod Distinct
 pub mod Lists
 pub mod Counts
 pub mod Slots
+pub mod Recordings
 pub mod Steps
 pub mod OrdinaryMap

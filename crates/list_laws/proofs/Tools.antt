@@ -4,15 +4,16 @@ use mathlib.Core.Bool.{Bool, true, false, not, _&&_, _||_, false≢true}
 use mathlib.Core.Logic.{_↔_, _≢_, _⊎_, inl, inr, ⊎-elim}
 use mathlib.Core.List.{List, [], _∷_, _++_, append-assoc}
 use mathlib.Core.Option.{Option, none, some}
-use Prim.Native.Nat.{ℕ, suc, _+_, _*_, _≤_, _<_}
+use Prim.Native.Nat.{ℕ, suc, _*_, _≤_, _<_}
 use native.Mathlib.Omega.{arith}
 use lib.Dec.{eqb, ltb, leb}
 use borrow.Author.Tests.{ltb-true, ltb-false, leb-true, eqb-true, eqb-false, eq-eqb, ne-eqb, le-leb}
-use Rattle.model.specs.declared.Answer.the-variants.{Found, Absent}
-use Rattle.model.specs.Slots.{Slot}
+use Rattle.model.specs.declared.Answer.the-variants.{Found}
+use Rattle.model.specs.Slots.{Slot, recording}
 use Rattle.model.specs.Search.{firstWith, answerOf, lookup}
 use Rattle.model.specs.Reached.{filter, flat}
 use Rattle.model.specs.SoundTest.{all}
+pub use Rattle.list_laws.specs.Each.{Each}
 
 pub and-iff : (a b : Bool) → (a && b ≡ true) ↔ ((a ≡ true) × (b ≡ true))
 and-iff true b = (λ e. (refl, e), λ p. p .1)
@@ -80,10 +81,6 @@ double-suc i = omega arith
 
 -- ---- what holds of each element
 
-abbrev pub Each {ℓ} : {A : Type ℓ} → (A → Type 0) → List A → Type 0
-Each P [] = Unit {0}
-Each P (x ∷ xs) = P x × Each P xs
-
 pub Each-append {ℓ} : {A : Type ℓ} (P : A → Type 0) (xs ys : List A) → Each P xs → Each P ys → Each P (xs ++ ys)
 Each-append P [] ys a b = b
 Each-append P (x ∷ xs) ys a b = (a .0, Each-append P xs ys (a .1) b)
@@ -141,7 +138,7 @@ Each-filter {A = A} P q (x ∷ xs) h = go (q x) refl (Each-filter P q xs (h .1))
     go true c ih = rw (c, filter) ((h .0, c), ih)
     go false c ih = rw (c, filter) ih
 
--- lookups in joined lists: no slot of ss has the key k
+-- the slot found, in joined lists: no slot of ss has the key k
 abbrev pub Misses : ℕ → List Slot → Type 0
 Misses k ss = Each (λ (s : Slot). s .key ≡ k → ⊥) ss
 
@@ -171,26 +168,19 @@ first-filter k q (s ∷ ss) h = go (q s) (eqb (s .key) k) refl refl (first-filte
     go false true e c ih = absurd (false≢true (sym e ∙ h s (eqb-true (s .key) k c)))
     go false false e c ih = rw (e, c, firstWith, filter) ih
 
-pub lookup-here : (k : ℕ) (s : Slot) (ss : List Slot) → s .key ≡ k → lookup k (s ∷ ss) ≡ Found (s .pointer)
-unfolding lookup firstWith
-lookup-here k s ss e = rw (eq-eqb (s .key) k e, firstWith)
+pub first-here : (k : ℕ) (s : Slot) (ss : List Slot) → s .key ≡ k → firstWith k (s ∷ ss) ≡ some s
+unfolding firstWith
+first-here k s ss e = rw (eq-eqb (s .key) k e, firstWith)
+
+pub first-past : (k : ℕ) (s : Slot) (ss : List Slot) → s .key ≢ k → firstWith k (s ∷ ss) ≡ firstWith k ss
+unfolding firstWith
+first-past k s ss z = rw (ne-eqb (s .key) k z, firstWith)
+
+-- the answer from it
+pub lookup-here : (k : ℕ) (s : Slot) (ss : List Slot) → s .key ≡ k → lookup k (s ∷ ss) ≡ Found (recording s)
+unfolding lookup
+lookup-here k s ss e = ap answerOf (first-here k s ss e)
 
 pub lookup-past : (k : ℕ) (s : Slot) (ss : List Slot) → s .key ≢ k → lookup k (s ∷ ss) ≡ lookup k ss
-unfolding lookup firstWith
-lookup-past k s ss z = rw (ne-eqb (s .key) k z, firstWith)
-
-pub lookup-nil : (k : ℕ) (b : List Slot) → Misses k b → lookup k b ≡ Absent
 unfolding lookup
-lookup-nil k b m = ap answerOf (first-nil k b m)
-
-pub lookup-l : (k : ℕ) (a b : List Slot) → Misses k a → lookup k (a ++ b) ≡ lookup k b
-unfolding lookup
-lookup-l k a b m = ap answerOf (first-l k a b m)
-
-pub lookup-r : (k : ℕ) (a b : List Slot) → Misses k b → lookup k (a ++ b) ≡ lookup k a
-unfolding lookup
-lookup-r k a b m = ap answerOf (first-r k a b m)
-
-pub lookup-filter : (k : ℕ) (q : Slot → Bool) (ss : List Slot) → ((s : Slot) → s .key ≡ k → q s ≡ true) → lookup k (filter q ss) ≡ lookup k ss
-unfolding lookup
-lookup-filter k q ss h = ap answerOf (first-filter k q ss h)
+lookup-past k s ss z = ap answerOf (first-past k s ss z)

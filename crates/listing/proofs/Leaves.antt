@@ -8,13 +8,14 @@ use lib.Dec.{leb}
 use lib.ListN.{length, getD}
 use Rattle.model.specs.declared.Node.{Node}
 use Rattle.model.specs.Table.{Words, inRange, node}
-use Rattle.model.specs.Slots.{Slot, View, view, height, used}
+use Rattle.model.specs.Slots.{Slot, View, nodeView, view, height, used}
 use Rattle.model.specs.Search.{below, within, path}
 use Rattle.model.specs.Reached.{filter, flat, headOr, kept, mapping, mapOf}
 use Rattle.model.specs.SoundTest.{sound}
 use Rattle.model.specs.Listing.{inRangeOf}
 use Rattle.model.specs.Writes.{standing}
 use Rattle.list_laws.proofs.Tools.{decode, refuted, Each, Each-map}
+use Rattle.list_laws.proofs.Filters.{filter-append}
 use Rattle.table_laws.proofs.Header.{header-iff}
 use Rattle.tree_laws.proofs.Members.{filter-none, UpTo, pigeonhole}
 use Rattle.tree_laws.proofs.Rows.{At, Row, linked-cons}
@@ -26,8 +27,7 @@ use Rattle.walk_laws.specs.Chain.{along}
 use Rattle.walk_laws.proofs.ChainLaw.{along-none, along-more, along-row}
 use Rattle.node.specs.Word.{wordOf}
 use Rattle.node.proofs.WordLaws.{word-fence}
-use Rattle.search.specs.Scan.{shownFrom}
-use Rattle.reach.proofs.Unreached.{filter-append}
+use Rattle.slots.specs.Scan.{shownFrom, keeps}
 use Rattle.listing.specs.Taking.{Sheet, allTaken, wants, wanted}
 use Rattle.listing.proofs.Pairs.{taken-append}
 
@@ -56,12 +56,12 @@ filter-both {A = A} p q (x ∷ xs) = go (q x) (p x) refl refl (filter-both p q x
 -- x is node n as the code has read it, b its sibling's fence
 leaf-pairs : (t : Words) (low high n : ℕ) (x : Node) (b : ℕ) → x ≡ node t n → b ≡ wordOf t (x .sibling) 3
     → wanted (record { low = low; high = high; sibling = x .sibling; bound = b }) (shownFrom (x .left) (x .slots) 0) ≡ inRangeOf low high (kept (view t) n)
-unfolding wanted wants inRangeOf kept used below
+unfolding wanted wants inRangeOf kept used below keeps
 leaf-pairs t low high n x b q e =
-    let f : b ≡ view t .fence (x .sibling) = e ∙ word-fence t (x .sibling) in
+    let f : b ≡ nodeView t (x .sibling) .fence = e ∙ word-fence t (x .sibling) in
     ap (λ (w : ℕ). wanted (record { low = low; high = high; sibling = x .sibling; bound = w }) (shownFrom (x .left) (x .slots) 0)) f
-    ∙ ap (λ (y : Node). wanted (record { low = low; high = high; sibling = y .sibling; bound = view t .fence (y .sibling) }) (shownFrom (y .left) (y .slots) 0)) q
-    ∙ sym (filter-both (λ (s : Slot). leb low (s .key) && leb (s .key) high) (λ (s : Slot). within (view t) n (s .key)) (view t .shown n))
+    ∙ ap (λ (y : Node). wanted (record { low = low; high = high; sibling = y .sibling; bound = nodeView t (y .sibling) .fence }) (shownFrom (y .left) (y .slots) 0)) q
+    ∙ sym (filter-both (λ (s : Slot). leb low (s .key) && leb (s .key) high) (λ (s : Slot). within (view t) n (s .key)) (nodeView t n .shown))
 
 -- ---- the leaves along the siblings
 
@@ -86,38 +86,42 @@ unfolding inRangeOf flat filter allTaken
 no-leaf v low high n x z = ap (λ (ns : List ℕ). allTaken (inRangeOf low high (flat (kept v) ns)) x) (ap (onward v) z ∙ along-none v (v .nodes))
 
 module _ (v : View) (n : ℕ) (some : 1 ≤ v .nodes) (z : n ≡ 0 → ⊥) (row : Row v 0 (onward v n)) where
-  onward-cons : onward v n ≡ n ∷ onward v (v .sibling n)
+  onward-cons : onward v n ≡ n ∷ onward v (v .node n .sibling)
   onward-cons =
       let c = v .nodes - 1 in
       let more : v .nodes ≡ suc c = omega arith in
-      let ns = along v c (v .sibling n) in
+      let ns = along v c (v .node n .sibling) in
       let first : onward v n ≡ n ∷ ns = ap (λ (m : ℕ). along v m n) more ∙ along-more v c n z in
       let tail : Row v 0 (n ∷ ns) = rw first at row in
-      let next : v .sibling n ≡ headOr 0 ns = linked-cons v n ns 0 .0 (tail .chain) .0 in
+      let next : v .node n .sibling ≡ headOr 0 ns = linked-cons v n ns 0 .0 (tail .chain) .0 in
       let rest = row-tail v 0 n ns tail in
       first ∙ ap (λ (ms : List ℕ). n ∷ ms) (sym (ap (onward v) next ∙ onward-row v ns rest))
 
-  row-here : Row v 0 (n ∷ onward v (v .sibling n))
+  row-here : Row v 0 (n ∷ onward v (v .node n .sibling))
   row-here = rw onward-cons at row
 
-  row-next : Row v 0 (onward v (v .sibling n))
-  row-next = row-tail v 0 n (onward v (v .sibling n)) row-here
+  row-next : Row v 0 (onward v (v .node n .sibling))
+  row-next = row-tail v 0 n (onward v (v .node n .sibling)) row-here
 
-  fewer : length (onward v (v .sibling n)) < length (onward v n)
+  fewer : length (onward v (v .node n .sibling)) < length (onward v n)
   fewer = omega (arith, ap length onward-cons)
 
   -- past the range
-  range-past : (low high : ℕ) → high < v .fence n → pairsFrom v low high n ≡ []
-  range-past low high h = ap (λ (ns : List ℕ). inRangeOf low high (flat (kept v) ns)) onward-cons ∙ range-outside low high later (Each-map (λ (s : Slot). v .fence n ≤ s .key) (λ (s : Slot). low ≤ s .key → s .key ≤ high → ⊥) later (λ s f l u. omega arith) (rising-from (v .fence n) later (row-rises v 0 n (onward v (v .sibling n)) row-here)))
+  range-past : (low high : ℕ) → high < v .node n .fence → pairsFrom v low high n ≡ []
+  range-past low high h =
+      ap (λ (ns : List ℕ). inRangeOf low high (flat (kept v) ns)) onward-cons
+      ∙ range-outside low high later
+      (Each-map (λ (s : Slot). v .node n .fence ≤ s .key) (λ (s : Slot). low ≤ s .key → s .key ≤ high → ⊥) later (λ s f l u. omega arith)
+      (rising-from (v .node n .fence) later (row-rises v 0 n (onward v (v .node n .sibling)) row-here)))
     where
       later : List Slot
-      later = flat (kept v) (n ∷ onward v (v .sibling n))
+      later = flat (kept v) (n ∷ onward v (v .node n .sibling))
 
   -- one leaf more
-  next-leaf : (low high : ℕ) (x : Sheet) → allTaken (pairsFrom v low high (v .sibling n)) (allTaken (inRangeOf low high (kept v n)) x) ≡ allTaken (pairsFrom v low high n) x
+  next-leaf : (low high : ℕ) (x : Sheet) → allTaken (pairsFrom v low high (v .node n .sibling)) (allTaken (inRangeOf low high (kept v n)) x) ≡ allTaken (pairsFrom v low high n) x
   unfolding flat
   next-leaf low high x =
-      let ns = onward v (v .sibling n) in
+      let ns = onward v (v .node n .sibling) in
       sym (ap (λ (ns : List ℕ). allTaken (inRangeOf low high (flat (kept v) ns)) x) onward-cons
       ∙ ap (λ (ss : List Slot). allTaken ss x) (range-append low high (kept v n) (flat (kept v) ns))
       ∙ taken-append (inRangeOf low high (kept v n)) (inRangeOf low high (flat (kept v) ns)) x)
@@ -140,7 +144,7 @@ ahead-from v low high x o =
     let earlier = flat (kept v) (p .left) in
     let later = flat (kept v) (n ∷ p .right) in
     let f = leaf-covers v low o .fence in
-    let none : inRangeOf low high earlier ≡ [] = range-outside low high earlier (Each-map (λ (s : Slot). s .key < v .fence n) (λ (s : Slot). low ≤ s .key → s .key ≤ high → ⊥) earlier (λ s k l u. omega arith) (p .low)) in
+    let none : inRangeOf low high earlier ≡ [] = range-outside low high earlier (Each-map (λ (s : Slot). s .key < v .node n .fence) (λ (s : Slot). low ≤ s .key → s .key ≤ high → ⊥) earlier (λ s k l u. omega arith) (p .low)) in
     let whole : inRangeOf low high (mapping v) ≡ inRangeOf low high later = ap (inRangeOf low high) (p .parts) ∙ range-append low high earlier later ∙ ap (λ (ss : List Slot). ss ++ inRangeOf low high later) none in
     record { row = rw last row; rest = rw (last, whole) }
 
@@ -165,10 +169,10 @@ module _ (t : Words) (low high n : ℕ) (x end : Sheet) (h : sound t ≡ true) w
     pub ahead-past : high < m .fence → x ≡ end
     unfolding allTaken
     ahead-past f =
-        let f : high < view t .fence n = rw q at f in
+        let f : high < nodeView t n .fence = rw q at f in
         sym (ap (λ (ss : List Slot). allTaken ss x) (range-past (view t) n some-node z (a .row) low high f)) ∙ a .rest
 
-    next : m .sibling ≡ view t .sibling n
+    next : m .sibling ≡ nodeView t n .sibling
     next = ap (λ (k : Node). k .sibling) q
 
     pub ahead-fewer : length (onward (view t) (m .sibling)) < length (onward (view t) n)

@@ -1,44 +1,36 @@
 -- What one more pair or slot does to a listing, as the code meets it.
 use mathlib.Core.Path.{_≡_, refl, ap, sym, _∙_}
-use mathlib.Core.Bool.{Bool, true, false, cond, _&&_, _||_, and-true, and-false}
-use mathlib.Core.List.{List, []}
-use Prim.Native.Nat.{ℕ, suc, _+_, _*_, _/_, _≤_, _<_}
-use native.Mathlib.Numerals.{add-one}
-use lib.Dec.{eqb, leb, ltb}
+use mathlib.Core.Bool.{Bool, true, false, cond, not, _&&_, and-true, and-false}
+use mathlib.Core.List.{List, [], _∷_}
+use Prim.Native.Nat.{ℕ, _/_, _≤_, _<_}
+use lib.Dec.{eqb, leb}
 use lib.ListN.{length}
-use borrow.Author.Tests.{eq-eqb, ne-eqb, eqb-true, eqb-false, le-leb, lt-leb}
-use Rattle.model.specs.Table.{Words, at}
-use Rattle.model.specs.Slots.{Slot, slot}
+use borrow.Author.Tests.{eq-eqb, ne-eqb, le-leb, lt-leb}
+use Rattle.model.specs.Slots.{Slot, slot, shown}
 use Rattle.model.specs.Reached.{filter}
-use Rattle.tree_laws.proofs.Members.{filter-yes, filter-no}
-use Rattle.search.specs.Scan.{shownFrom}
-use Rattle.search.proofs.Scans.{hidden-at, shown-at}
+use Rattle.slots.specs.Scan.{keeps}
+use Rattle.slots.proofs.Scans.{picked}
 use Rattle.listing.specs.declared.Window.{Window}
 use Rattle.listing.specs.Taking.{Sheet, written, passed, taken, allTaken, wants, wanted, slotTaken}
 
 -- ---- the window
 
 module _ (w : Window) (k : ℕ) where
-  abbrev keeps : Bool
-  keeps = eqb (w .sibling) 0 || ltb k (w .bound)
+  abbrev kept : Bool
+  kept = keeps (w .sibling) (w .bound) k
 
   pub wants-low : k < w .low → false ≡ wants w k
   unfolding wants
-  wants-low h = sym (and-false keeps) ∙ ap (λ (b : Bool). keeps && (b && leb k (w .high))) (sym (lt-leb (w .low) k h))
+  wants-low h = sym (and-false kept) ∙ ap (λ (b : Bool). kept && (b && leb k (w .high))) (sym (lt-leb (w .low) k h))
 
   pub wants-high : w .high < k → false ≡ wants w k
   unfolding wants
-  wants-high h = sym (ap (λ (b : Bool). keeps && (leb (w .low) k && b)) (lt-leb k (w .high) h) ∙ rw (and-false (leb (w .low) k), and-false keeps))
+  wants-high h = sym (ap (λ (b : Bool). kept && (leb (w .low) k && b)) (lt-leb k (w .high) h) ∙ rw (and-false (leb (w .low) k), and-false kept))
 
-  wants-kept : w .low ≤ k → k ≤ w .high → keeps ≡ wants w k
+  pub wants-kept : w .low ≤ k → k ≤ w .high → kept ≡ wants w k
   unfolding wants
-  wants-kept l h = sym (ap (λ (b : Bool). keeps && (b && leb k (w .high))) (le-leb (w .low) k l) ∙ ap (λ (b : Bool). keeps && b) (le-leb k (w .high) h) ∙ and-true keeps)
-
-  pub wants-last : w .low ≤ k → k ≤ w .high → w .sibling ≡ 0 → true ≡ wants w k
-  wants-last l h z = ap (λ (b : Bool). b || ltb k (w .bound)) (sym (eq-eqb (w .sibling) 0 z)) ∙ wants-kept l h
-
-  pub wants-below : w .low ≤ k → k ≤ w .high → (w .sibling ≡ 0 → ⊥) → ltb k (w .bound) ≡ wants w k
-  wants-below l h z = ap (λ (b : Bool). b || ltb k (w .bound)) (sym (ne-eqb (w .sibling) 0 z)) ∙ wants-kept l h
+  wants-kept l h =
+      sym (ap (λ (b : Bool). kept && (b && leb k (w .high))) (le-leb (w .low) k l) ∙ ap (λ (b : Bool). kept && b) (le-leb k (w .high) h) ∙ and-true kept)
 
 -- ---- a pair
 
@@ -53,51 +45,36 @@ pair-written s x h = ap (λ (b : Bool). cond b (passed x) (written s x)) (sym (l
 -- ---- a slot in use
 
 module _ (w : Window) (before k p : ℕ) (x : Sheet) where
+  abbrev taking : Bool → Bool → Sheet
+  taking hidden wanted = cond (not hidden && wanted) (taken (slot k p) x) x
+
   pub slot-hidden : p ≡ before → x ≡ slotTaken w before k p x
   unfolding slotTaken
-  slot-hidden h = ap (λ (b : Bool). cond b x (cond (wants w k) (taken (slot k p) x) x)) (sym (eq-eqb p before h))
+  slot-hidden h = ap (λ (b : Bool). taking b (wants w k)) (sym (eq-eqb p before h))
 
-  slot-shown : (p ≡ before → ⊥) → cond (wants w k) (taken (slot k p) x) x ≡ slotTaken w before k p x
+  slot-shown : (p ≡ before → ⊥) → taking false (wants w k) ≡ slotTaken w before k p x
   unfolding slotTaken
-  slot-shown h = ap (λ (b : Bool). cond b x (cond (wants w k) (taken (slot k p) x) x)) (sym (ne-eqb p before h))
+  slot-shown h = ap (λ (b : Bool). taking b (wants w k)) (sym (ne-eqb p before h))
 
   pub slot-unwanted : (p ≡ before → ⊥) → wants w k ≡ false → x ≡ slotTaken w before k p x
-  slot-unwanted h c = ap (λ (b : Bool). cond b (taken (slot k p) x) x) (sym c) ∙ slot-shown h
+  slot-unwanted h c = ap (taking false) (sym c) ∙ slot-shown h
 
   pub slot-wanted : (y : Sheet) → (p ≡ before → ⊥) → wants w k ≡ true → y ≡ taken (slot k p) x → y ≡ slotTaken w before k p x
-  slot-wanted y h c q = q ∙ ap (λ (b : Bool). cond b (taken (slot k p) x) x) (sym c) ∙ slot-shown h
+  slot-wanted y h c q = q ∙ ap (taking false) (sym c) ∙ slot-shown h
 
--- ---- the slots of a leaf, one by one: what is left to take, from the present sheet
+  -- the slots of a leaf, one more: what is left to take, from the present sheet
+  pub slots-more : (y : Sheet) (ss : List Slot) → y ≡ slotTaken w before k p x → allTaken (wanted w (shown before (slot k p ∷ ss))) x ≡ allTaken (wanted w (shown p ss)) y
+  unfolding wanted allTaken slotTaken
+  slots-more y ss q =
+      ap (λ (l : List Slot). allTaken l x) (picked (λ (s : Slot). wants w (s .key)) before (slot k p) ss) ∙ go (not (eqb p before) && wants w k) ∙ ap (allTaken rest) (sym q)
+    where
+      rest : List Slot
+      rest = wanted w (shown p ss)
 
-module _ (w : Window) (before : ℕ) (ws : Words) (i : ℕ) (x : Sheet) where
-  abbrev rest : Sheet
-  rest = allTaken (wanted w (shownFrom before ws i)) x
+      go : (b : Bool) → allTaken (cond b (slot k p ∷ rest) rest) x ≡ allTaken rest (cond b (taken (slot k p) x) x)
+      go true = refl
+      go false = refl
 
-  pub slots-end : shownFrom before ws i ≡ [] → rest ≡ x
-  unfolding wanted filter allTaken
-  slots-end n = ap (λ (ss : List Slot). allTaken (wanted w ss) x) n
-
-  module _ (p : ℕ) (h : 2 * i + 1 < length ws) (e : at ws (2 * i + 1) ≡ p) (z : p ≡ 0 → ⊥) where
-    step : allTaken (wanted w (shownFrom p ws (suc i))) (slotTaken w before (at ws (2 * i)) p x) ≡ rest
-    unfolding wanted allTaken
-    step = go (eqb p before) (wants w k) refl refl
-      where
-        k : ℕ
-        k = at ws (2 * i)
-
-        later : Sheet → Sheet
-        later = allTaken (wanted w (shownFrom p ws (suc i)))
-
-        go : (a b : Bool) → eqb p before ≡ a → wants w k ≡ b → later (slotTaken w before k p x) ≡ rest
-        go true b q c =
-            let d = eqb-true p before q in
-            ap later (sym (slot-hidden w before k p x d)) ∙ ap (λ (ss : List Slot). allTaken (wanted w ss) x) (sym (hidden-at before ws i p h e z d))
-        go false false q c =
-            let d = eqb-false p before q in
-            ap later (sym (slot-unwanted w before k p x d c)) ∙ ap (λ (ss : List Slot). allTaken ss x) (sym (filter-no _ _ _ c)) ∙ ap (λ (ss : List Slot). allTaken (wanted w ss) x) (sym (shown-at before ws i p h e z d))
-        go false true q c =
-            let d = eqb-false p before q in
-            ap later (sym (slot-wanted w before k p x _ d c refl)) ∙ ap (λ (ss : List Slot). allTaken ss x) (sym (filter-yes _ _ _ c)) ∙ ap (λ (ss : List Slot). allTaken (wanted w ss) x) (sym (shown-at before ws i p h e z d))
-
-    pub slots-next : (y : Sheet) → y ≡ slotTaken w before (at ws (2 * i)) p x → allTaken (wanted w (shownFrom p ws (i + 1))) y ≡ rest
-    slots-next y q = rw (q, add-one i) step
+pub slots-none : (w : Window) (before : ℕ) (x : Sheet) → allTaken (wanted w (shown before [])) x ≡ x
+unfolding wanted filter allTaken shown
+slots-none w before x = refl

@@ -1,12 +1,13 @@
 -- A listing pair by pair: each is written while whole pairs fit, and the first that does not fit is noted.
-use mathlib.Core.Bool.{Bool, true, false, cond, _&&_, _||_}
+use mathlib.Core.Bool.{Bool, true, false, cond, not, _&&_}
 use mathlib.Core.List.{List, [], _∷_}
 use Prim.Native.Nat.{ℕ, _+_, _*_, _/_}
-use lib.Dec.{leb, ltb, eqb}
+use lib.Dec.{leb, eqb}
 use lib.ListN.{length, set}
 use Rattle.model.specs.Table.{Words}
 use Rattle.model.specs.Slots.{Slot, slot}
 use Rattle.model.specs.Reached.{filter}
+use Rattle.slots.specs.Scan.{keeps}
 use Rattle.listing.specs.declared.Progress.{Progress}
 use Rattle.listing.specs.declared.Window.{Window}
 
@@ -40,13 +41,13 @@ allTaken (s ∷ ss) x = allTaken ss (taken s x)
 
 -- ---- a leaf's slots
 
--- a key is in the range, and below the sibling's fence; with sibling 0 every key is
+-- a key is kept, and in the range
 unfoldable pub wants : Window → ℕ → Bool
-wants w k = (eqb (w .sibling) 0 || ltb k (w .bound)) && (leb (w .low) k && leb k (w .high))
+wants w k = keeps (w .sibling) (w .bound) k && (leb (w .low) k && leb k (w .high))
 
 unfoldable pub wanted : Window → List Slot → List Slot
 wanted w ss = filter (λ (s : Slot). wants w (s .key)) ss
 
 -- a slot (k, p) in use more, with the pointer before it
 unfoldable pub slotTaken : Window → (before k p : ℕ) → Sheet → Sheet
-slotTaken w before k p x = cond (eqb p before) x (cond (wants w k) (taken (slot k p) x) x)
+slotTaken w before k p x = cond (not (eqb p before) && wants w k) (taken (slot k p) x) x

@@ -7,7 +7,7 @@ ghost use Rattle.model.specs.Slots.{slot};
 ghost use Rattle.model.specs.Reached.{mapOf};
 ghost use Rattle.model.specs.SoundTest.{sound};
 ghost use Rattle.model.specs.Listing.{inRangeOf, list, listOut};
-ghost use Rattle.search.specs.Scan.{shownFrom};
+ghost use Rattle.slots.specs.Scan.{shownFrom};
 ghost use Rattle.listing.specs.Taking.{sheet, begun, taken, allTaken, wants, wanted, slotTaken};
 
 // How far a listing has come: the pairs written, and whether one was left that did not fit.
@@ -34,10 +34,7 @@ fn wants(w: Window, key: u64) -> bool
     if w.high < key {
         return false;
     }
-    if w.sibling == 0 {
-        return true;
-    }
-    key < w.bound
+    slots::keeps(w.sibling, w.bound, key)
 }
 
 // One pair more: written where it fits whole, else noted as left.

@@ -3,4 +3,3 @@ pub mod Worked
 pub mod Tables
 pub mod Quick
 pub mod Trials
-pub mod Unsound

@@ -7,25 +7,16 @@ use native.Mathlib.Nat.{le-of-suc-le-suc, not-suc-le-zero, add-assoc, add-comm, 
 use native.Mathlib.Omega.{arith}
 use native.Mathlib.Numerals.{sub-one}
 use lib.Dec.{leb, eqb, leb·suc-suc, leb·zero}
-use lib.ListN.{length, getD, take, drop, drop-of-length-le}
+use lib.ListN.{length, getD, take, drop}
 use lib.Seq.{getD-drop, drop-drop}
 use borrow.Author.Tests.{leb-true, leb-false, eqb-true}
 use Rattle.model.specs.declared.Node.{Node}
 use Rattle.model.specs.Table.{Words, allZero, blank, nodes, root, tableLength, nodeStart, hasNode, node, nodeFrom, spare}
-use Rattle.model.specs.Slots.{Slot, slotsOf, inUse, shown, hidden, used, clearIn, View, view}
+use Rattle.model.specs.Slots.{slotsOf, inUse, shown, hidden, used, clearIn, NodeView, View, view}
 
--- what a view says of one node
-pub record NodeView : Type 0 where
-  pub left : ℕ
-  pub sibling : ℕ
-  pub level : ℕ
-  pub fence : ℕ
-  pub shown : List Slot
-  pub hidden : ℕ
-  pub clear : Bool
-
-abbrev pub nodeView : Node → Words → NodeView
-nodeView n spares =
+-- what a view says of one node, by the words read once
+abbrev pub readNode : Node → Words → NodeView
+readNode n spares =
     let ss = inUse (slotsOf (n .slots)) in
     let visible = shown (n .left) ss in
     let count = length (hidden (n .left) ss) in
@@ -33,21 +24,20 @@ nodeView n spares =
     record { left = n .left; sibling = n .sibling; level = n .level; fence = n .fence; shown = visible; hidden = count; clear = clear }
 
 abbrev pub viewBy : (n r : ℕ) → (ℕ → NodeView) → View
-viewBy n r g =
-    record { nodes = n; root = r; left = λ (i : ℕ). g i .left; sibling = λ (i : ℕ). g i .sibling; level = λ (i : ℕ). g i .level; fence = λ (i : ℕ). g i .fence; shown = λ (i : ℕ). g i .shown; hidden = λ (i : ℕ). g i .hidden; clear = λ (i : ℕ). g i .clear }
+viewBy n r g = record { nodes = n; root = r; node = g }
 
 -- n nodes, the first at word 0
 abbrev pub row : (n : ℕ) → Words → List NodeView
 row zero ws = []
-row (suc n) ws = nodeView (nodeFrom ws 0) (take 4 (drop 4 ws)) ∷ row n (drop 32 ws)
+row (suc n) ws = readNode (nodeFrom ws 0) (take 4 (drop 4 ws)) ∷ row n (drop 32 ws)
 
--- by number: 0, which no node has and which reads as blank but for words 4 to 7, those of node 1; then nodes 1 to N
+-- by number: 0, which no node has; then nodes 1 to N
 abbrev pub nodeViews : Words → List NodeView
-nodeViews t = nodeView blank (take 4 (drop 12 t)) ∷ row (nodes t) (drop 8 t)
+nodeViews t = readNode blank [] ∷ row (nodes t) (drop 8 t)
 
 -- the view of words of the length that their header says, or not
 abbrev pub quickBy : Words → Bool → View
-quickBy t true = let ns = nodeViews t in viewBy (nodes t) (root t) (λ (i : ℕ). getD ns i (nodeView blank []))
+quickBy t true = let ns = nodeViews t in viewBy (nodes t) (root t) (λ (i : ℕ). getD ns i (readNode blank []))
 quickBy t false = view t
 
 unfoldable pub quick : Words → View
@@ -60,7 +50,7 @@ unfolding nodeFrom
 from-drop a w ws = simp (getD-drop, drop-drop, add-assoc)
 
 row-at : (n i : ℕ) (ws : Words) (d : NodeView) → i < n
-    → getD (row n ws) i d ≡ nodeView (nodeFrom ws (32 * i)) (take 4 (drop (32 * i + 4) ws))
+    → getD (row n ws) i d ≡ readNode (nodeFrom ws (32 * i)) (take 4 (drop (32 * i + 4) ws))
 row-at zero i ws d h = absurd (not-suc-le-zero h)
 row-at (suc n) zero ws d h = refl
 row-at (suc n) (suc i) ws d h =
@@ -73,22 +63,21 @@ past (suc n) (suc i) ws d h = past n i (drop 32 ws) d (le-of-suc-le-suc h)
 
 -- by whether the table has node i + 1
 read-next : (t : Words) → length t ≡ 8 + 32 * nodes t → (i : ℕ) (b : Bool) → leb (8 + 32 * i + 32) (length t) ≡ b
-    → getD (row (nodes t) (drop 8 t)) i (nodeView blank []) ≡ nodeView (cond b (nodeFrom t (8 + 32 * i)) blank) (take 4 (drop (8 + 32 * i + 4) t))
+    → getD (row (nodes t) (drop 8 t)) i (readNode blank []) ≡ readNode (cond b (nodeFrom t (8 + 32 * i)) blank) (cond b (take 4 (drop (8 + 32 * i + 4) t)) [])
 read-next t e i true h =
     let le : 8 + 32 * i + 32 ≤ length t = leb-true (8 + 32 * i + 32) (length t) h in
-    row-at (nodes t) i (drop 8 t) (nodeView blank []) (omega (arith, e, le)) ∙ simp (from-drop, drop-drop, add-assoc)
+    row-at (nodes t) i (drop 8 t) (readNode blank []) (omega (arith, e, le)) ∙ simp (from-drop, drop-drop, add-assoc)
 read-next t e i false h =
     let lt : length t < 8 + 32 * i + 32 = leb-false (8 + 32 * i + 32) (length t) h in
-    let none : drop (8 + 32 * i + 4) t ≡ [] = drop-of-length-le t {i = 8 + 32 * i + 4} (omega (arith, e, lt)) in
-    past (nodes t) i (drop 8 t) (nodeView blank []) (omega (arith, e, lt)) ∙ rw none
+    past (nodes t) i (drop 8 t) (readNode blank []) (omega (arith, e, lt))
 
 read : (t : Words) → length t ≡ tableLength (nodes t) → (i : ℕ)
-    → getD (nodeViews t) i (nodeView blank []) ≡ nodeView (node t i) (spare t i)
+    → getD (nodeViews t) i (readNode blank []) ≡ readNode (node t i) (spare t i)
 unfolding tableLength node spare nodeStart hasNode
 read t e zero = refl
 read t e (suc i) = simp (leb·suc-suc 0 i, leb·zero, sub-one) (read-next t e i (leb (8 + 32 * i + 32) (length t)) refl)
 
-plain : (t : Words) → viewBy (nodes t) (root t) (λ (i : ℕ). nodeView (node t i) (spare t i)) ≡ view t
+plain : (t : Words) → viewBy (nodes t) (root t) (λ (i : ℕ). readNode (node t i) (spare t i)) ≡ view t
 unfolding used clearIn
 plain t = refl
 

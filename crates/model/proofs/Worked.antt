@@ -8,8 +8,8 @@ use Rattle.model.specs.declared.Outcome.the-variants.{Done, Refused as M
 use Rattle.model.specs.declared.Written.the-variants.{Done as WriteDone, Refused as WriteRefused}
 use Rattle.model.specs.Text.{ascii}
 use Rattle.model.specs.Codes.{parse, print}
-use Rattle.model.specs.Table.{MARK, Words, making, made, empty, node, nodes, root}
-use Rattle.model.specs.Slots.{Slot, slot, shown, hidden, inUse, view}
+use Rattle.model.specs.Table.{MARK, Words, making, made, empty, root}
+use Rattle.model.specs.Slots.{Slot, slot, shown, hidden, inUse, nodeView}
 use Rattle.model.specs.Search.{route}
 use Rattle.model.specs.Orders.{orders, storeCount, flushCount}
 use Rattle.model.specs.Shifts.{shiftIn, inNode}
@@ -59,7 +59,7 @@ pub record Worked : Type 0 where
   -- Shift in with n = 10: p = 0 gives 24 stores, 3 flushes; p = 10 gives 4 and 1.
   pub shifts : (shiftCounts 0 ≡ 24 ∷ 3 ∷ []) × (shiftCounts 10 ≡ 4 ∷ 1 ∷ [])
   -- Root leaf with keys 10, 20 .. 110, N = 3, insert 115: new root 2, sibling 3, fence 60; 75 stores, 13 flushes.
-  pub splits : (written (insertion 115 7) 2560 (rootLeaf 3) ≡ WriteDone 75 13) × (root afterSplit ≡ 2) × (view afterSplit .sibling 1 ≡ 3) × (view afterSplit .fence 3 ≡ 60)
+  pub splits : (written (insertion 115 7) 2560 (rootLeaf 3) ≡ WriteDone 75 13) × (root afterSplit ≡ 2) × (nodeView afterSplit 1 .sibling ≡ 3) × (nodeView afterSplit 3 .fence ≡ 60)
   -- The same with N = 2 returns 10.
   pub no-room : written (insertion 115 7) 2560 (rootLeaf 2) ≡ WriteRefused 10
   -- The order printer's two lines, and the ten that it prints.

@@ -8,11 +8,12 @@ use lib.ListN.{length}
 use Rattle.model.specs.Table.{Words, empty}
 use Rattle.model.specs.Search.{search, lookup}
 use Rattle.model.specs.Reached.{mapOf}
-use Rattle.model.specs.SoundTest.{settled}
+use Rattle.model.specs.Sound.{Settled}
 use Rattle.model.specs.Orders.{Order, carriedOut, carryNumber}
 use Rattle.model.specs.Cuts.{CutImage}
 use Rattle.model.specs.Writes.{Call, insertion, deletion, repair, repaired}
-use Rattle.model.specs.Refusals.{parentFull, elevenIn, tenIn, refusal, unlessRefused, ordersOf, written, writtenNumber, ordersAnswered, tableAfter, listAfter}
+use Rattle.model.specs.Refusals.{parentFull, elevenIn, tenIn, refusal, unlessRefused}
+use Rattle.model.specs.Refusals.{ordersOf, written, writtenNumber, ordersAnswered, tableAfter, listAfter}
 use Rattle.model.specs.Ledger.{Ledger, fedOf, ledgerRefusal, End, completed, cutAfter, feed}
 
 -- ---- events and histories
@@ -122,7 +123,7 @@ pub record Right (e : Event) (s s′ : State) (ps : Ledger) : Type 0 where
   pub carried : numberOf s e ≡ 0 → Carried (e .fate) s e
   pub equal : numberOf s e ≡ 0 → Completed (e .fate) s e
       → (let left = tableAfter (e .call) (length (e .lent)) (s .working) in (s′ .memory ≡ left) × (s′ .working ≡ left))
-  pub finished : numberOf s e ≡ 0 → Completed (e .fate) s e → (settled (s′ .memory) ≡ true) × (settled (s′ .working) ≡ true)
+  pub finished : numberOf s e ≡ 0 → Completed (e .fate) s e → Settled (s′ .memory) × Settled (s′ .working)
   pub repair-keeps : Keeps (e .call) s s′
 
 abbrev pub Kept : (choose : History → Bool) → (n : ℕ) → History → Type 0

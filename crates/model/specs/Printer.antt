@@ -114,7 +114,8 @@ unfoldable pub doCall : Call → Desk → Reply
 doCall x d =
     let n = refusal x (length (d .list)) (d .table) in
     unlessRefused n
-    (reply (ordersText (ordersOf x (d .table)) (ordersOf x (d .table))) (record { table = tableAfter x (length (d .list)) (d .table); list = listAfter x (d .list) (d .table) }))
+    (reply (ordersText (ordersOf x (d .table)) (ordersOf x (d .table)))
+    (record { table = tableAfter x (length (d .list)) (d .table); list = listAfter x (d .list) (d .table) }))
     (reply (refusedLine n) d)
 
 -- the call for a code that was read, or its refusal

@@ -6,6 +6,7 @@ use lib.Dec.{eqb}
 use Rattle.model.specs.Table.{Words}
 use Rattle.model.specs.Slots.{Slot, View, view, height}
 use Rattle.model.specs.Search.{within}
+pub use Rattle.model.specs.Slots.{recording}
 
 unfoldable pub filter {ℓ} : {A : Type ℓ} → (A → Bool) → List A → List A
 filter p [] = []
@@ -26,28 +27,28 @@ pointers ss = map (λ (s : Slot). s .pointer) ss
 
 -- the shown slots whose key is below their node's sibling's fence; the others are ignored
 unfoldable pub kept : View → ℕ → List Slot
-kept v n = filter (λ (s : Slot). within v n (s .key)) (v .shown n)
+kept v n = filter (λ (s : Slot). within v n (s .key)) (v .node n .shown)
 
 -- the children that an inner node names: left, then by its kept slots
 abbrev pub named : View → ℕ → List ℕ
-named v n = v .left n ∷ pointers (kept v n)
+named v n = v .node n .left ∷ pointers (kept v n)
 
 -- the leftmost child of n, and the node that comes after n's last child on their level; 0 for none
 unfoldable pub firstChild : View → ℕ → ℕ
-firstChild v n = elim (eqb n 0) [ true ↦ 0 | false ↦ v .left n ]
+firstChild v n = elim (eqb n 0) [ true ↦ 0 | false ↦ v .node n .left ]
 
 abbrev pub nextChild : View → ℕ → ℕ
-nextChild v n = firstChild v (v .sibling n)
+nextChild v n = firstChild v (v .node n .sibling)
 
 module _ (v : View) where
   -- nodes of one level in a row that e follows, with each one's sibling after it where the row lacks that
   unfoldable pub fillRow : List ℕ → ℕ → List ℕ
   fillRow [] e = []
-  fillRow (n ∷ ns) e = elim (eqb (v .sibling n) (headOr e ns)) [ true ↦ n ∷ fillRow ns e | false ↦ n ∷ v .sibling n ∷ fillRow ns e ]
+  fillRow (n ∷ ns) e = elim (eqb (v .node n .sibling) (headOr e ns)) [ true ↦ n ∷ fillRow ns e | false ↦ n ∷ v .node n .sibling ∷ fillRow ns e ]
 
   -- the nodes reached from n on the level below; from a leaf none
   unfoldable pub children : ℕ → List ℕ
-  children n = elim (eqb (v .level n) 0) [ true ↦ [] | false ↦ fillRow (named v n) (nextChild v n) ]
+  children n = elim (eqb (v .node n .level) 0) [ true ↦ [] | false ↦ fillRow (named v n) (nextChild v n) ]
 
   -- the nodes reached from a row d levels above the leaves, row by row; and the row of the leaves
   unfoldable pub reachedFrom : ℕ → List ℕ → List ℕ
@@ -74,7 +75,3 @@ mapping v = flat (kept v) (leaves v)
 
 abbrev pub mapOf : Words → List Slot
 mapOf t = mapping (view t)
-
--- What a leaf's pointer says: the recording's number.
-abbrev pub recording : Slot → ℕ
-recording s = s .pointer

@@ -8,8 +8,8 @@ use lib.ListN.{length}
 use Rattle.model.specs.declared.Written.{Written}
 use Rattle.model.specs.declared.Written.the-variants.{Done, Refused}
 use Rattle.model.specs.Table.{MARK, Words, headerOk}
-use Rattle.model.specs.Slots.{Slot, View, view, height, full}
-use Rattle.model.specs.Reached.{mapOf, recording}
+use Rattle.model.specs.Slots.{Slot, recording, View, view, height, full}
+use Rattle.model.specs.Reached.{mapOf}
 use Rattle.model.specs.SoundTest.{sound, Leftover, nothing, hiddenIn, missingIn, bothIn, leftover}
 use Rattle.model.specs.Orders.{Order, apply, orders, storeCount, flushCount, listWith}
 use Rattle.model.specs.Writes.{unreachable, repaired, run, rootInRun, Call, insertion, deletion, repair, storesOf}
@@ -21,8 +21,8 @@ abbrev pub fullParent : View → Option Leftover → Bool
 fullParent v none = false
 fullParent v (some nothing) = false
 fullParent v (some (hiddenIn x)) = false
-fullParent v (some (missingIn p a trailing)) = full (v .shown p)
-fullParent v (some (bothIn p a)) = full (v .shown p)
+fullParent v (some (missingIn p a trailing)) = full (v .node p .shown)
+fullParent v (some (bothIn p a)) = full (v .node p .shown)
 
 unfoldable pub parentFull : Words → Bool
 parentFull t = fullParent (view t) (leftover (view t))
@@ -82,7 +82,8 @@ tenIn repair t = false
 -- The number that a writing call refuses with, on table t with an order list of so many words; 0: accepted.
 unfoldable pub refusal : Call → (words : ℕ) → Words → ℕ
 refusal x words t =
-    firstNumber (test (not (headerOk t)) 2 ∷ test (not (sound t)) 4 ∷ testsFrom5 x words (parentFull t) (elevenIn x (repaired t)) (tenIn x (repaired t)) (mapOf (repaired t)))
+    let t′ = repaired t in
+    firstNumber (test (not (headerOk t)) 2 ∷ test (not (sound t)) 4 ∷ testsFrom5 x words (parentFull t) (elevenIn x t′) (tenIn x t′) (mapOf t′))
 
 -- ---- what a writing call does: all of it follows from its number and its stores
 

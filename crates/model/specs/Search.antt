@@ -7,19 +7,19 @@ use lib.Dec.{leb, ltb, eqb}
 use Rattle.model.specs.declared.Answer.{Answer}
 use Rattle.model.specs.declared.Answer.the-variants.{Found, Absent, Refused}
 use Rattle.model.specs.Table.{Words, inRange, headerOk}
-use Rattle.model.specs.Slots.{Slot, View, view, height}
+use Rattle.model.specs.Slots.{Slot, recording, View, view, height}
 
 -- key k is below the fence of node s; number 0, for no node, bounds no key
 unfoldable pub below : View → ℕ → ℕ → Bool
-below v s k = eqb s 0 || ltb k (v .fence s)
+below v s k = eqb s 0 || ltb k (v .node s .fence)
 
 -- k is below the fence of n's sibling; with sibling 0 every key is
 abbrev pub within : View → ℕ → ℕ → Bool
-within v n k = below v (v .sibling n) k
+within v n k = below v (v .node n .sibling) k
 
 -- If the sibling is not 0 and k is at least the sibling's fence, move there; at most one move a level.
 unfoldable pub moved : View → ℕ → ℕ → ℕ
-moved v n k = elim (within v n k) [ true ↦ n | false ↦ v .sibling n ]
+moved v n k = elim (within v n k) [ true ↦ n | false ↦ v .node n .sibling ]
 
 -- In an inner node go down by the last shown slot whose key is at most k, else by left (p).
 unfoldable pub route : ℕ → ℕ → List Slot → ℕ
@@ -27,17 +27,17 @@ route k p [] = p
 route k p (s ∷ ss) = elim (leb (s .key) k) [ true ↦ route k (s .pointer) ss | false ↦ route k p ss ]
 
 abbrev pub down : View → ℕ → ℕ → ℕ
-down v n k = route k (v .left n) (v .shown n)
+down v n k = route k (v .node n .left) (v .node n .shown)
 
 -- ---- finding the leaf
 
 -- node n is in 1 to N and on level l
 unfoldable pub onLevel : View → ℕ → ℕ → Bool
-onLevel v l n = inRange (v .nodes) n && eqb (v .level n) l
+onLevel v l n = inRange (v .nodes) n && eqb (v .node n .level) l
 
 -- coming to n on level l: it is on that level, and so is its sibling, where it has one
 unfoldable pub passes : View → ℕ → ℕ → Bool
-passes v l n = onLevel v l n && (eqb (v .sibling n) 0 || onLevel v l (v .sibling n))
+passes v l n = onLevel v l n && (eqb (v .node n .sibling) 0 || onLevel v l (v .node n .sibling))
 
 module _ (v : View) where
   -- the leaf for k, coming to n on level l; none where a test fails
@@ -63,7 +63,7 @@ firstWith k (s ∷ ss) = elim (eqb (s .key) k) [ true ↦ some s | false ↦ fir
 -- the answer from the slot found
 abbrev pub answerOf : Option Slot → Answer
 answerOf none = Absent
-answerOf (some s) = Found (s .pointer)
+answerOf (some s) = Found (recording s)
 
 unfoldable pub lookup : ℕ → List Slot → Answer
 lookup k ss = answerOf (firstWith k ss)
@@ -71,7 +71,7 @@ lookup k ss = answerOf (firstWith k ss)
 -- the answer from the leaf, where one was found
 abbrev pub answerIn : View → ℕ → Option ℕ → Answer
 answerIn v k none = Refused 3
-answerIn v k (some n) = lookup k (v .shown n)
+answerIn v k (some n) = lookup k (v .node n .shown)
 
 unfoldable pub searchView : View → ℕ → Answer
 searchView v k = elim (leb (height v) 15) [ true ↦ answerIn v k (locate v (height v) (v .root) k) | false ↦ Refused 3 ]

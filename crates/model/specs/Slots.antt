@@ -19,6 +19,18 @@ slotsOf [] = []
 slotsOf (k ∷ []) = []
 slotsOf (k ∷ p ∷ ws) = slot k p ∷ slotsOf ws
 
+-- and back
+abbrev pub slotWords : List Slot → Words
+slotWords [] = []
+slotWords (s ∷ ss) = s .key ∷ s .pointer ∷ slotWords ss
+
+-- What a leaf's pointer says: a recording number.
+abbrev pub recordingOf : (pointer : ℕ) → ℕ
+recordingOf p = p
+
+abbrev pub recording : Slot → ℕ
+recording s = recordingOf (s .pointer)
+
 -- The slots in use end before the first pointer 0.
 unfoldable pub inUse : List Slot → List Slot
 inUse [] = []
@@ -43,27 +55,42 @@ used t i = inUse (slotsOf (node t i .slots))
 
 -- What search, reached nodes, the map and soundness read of a table: N, the root, and of each node its header words, its shown slots,
 -- how many slots are hidden, and whether words 4 to 7 and slot 11's pointer are 0. (For slot 0 the pointer before it is left.)
+pub record NodeView : Type 0 where
+  pub left : ℕ
+  pub sibling : ℕ
+  pub level : ℕ
+  pub fence : ℕ
+  pub shown : List Slot
+  pub hidden : ℕ
+  pub clear : Bool
+
 pub record View : Type 0 where
   pub nodes : ℕ
   pub root : ℕ
-  pub left : ℕ → ℕ
-  pub sibling : ℕ → ℕ
-  pub level : ℕ → ℕ
-  pub fence : ℕ → ℕ
-  pub shown : ℕ → List Slot
-  pub hidden : ℕ → ℕ
-  pub clear : ℕ → Bool
+  pub node : ℕ → NodeView
 
 unfoldable pub clearIn : Words → ℕ → Bool
 clearIn t i = allZero (spare t i) && eqb (getD (node t i .slots) 23 0) 0
 
+abbrev pub nodeView : Words → ℕ → NodeView
+nodeView t i =
+    let n = node t i in
+    record {
+      left = n .left;
+      sibling = n .sibling;
+      level = n .level;
+      fence = n .fence;
+      shown = shown (n .left) (used t i);
+      hidden = length (hidden (n .left) (used t i));
+      clear = clearIn t i;
+    }
+
 abbrev pub viewFrom : Words → ℕ → View
-viewFrom t r =
-    record { nodes = nodes t; root = r; left = λ (i : ℕ). node t i .left; sibling = λ (i : ℕ). node t i .sibling; level = λ (i : ℕ). node t i .level; fence = λ (i : ℕ). node t i .fence; shown = λ (i : ℕ). shown (node t i .left) (used t i); hidden = λ (i : ℕ). length (hidden (node t i .left) (used t i)); clear = λ (i : ℕ). clearIn t i }
+viewFrom t r = record { nodes = nodes t; root = r; node = nodeView t }
 
 abbrev pub view : Words → View
 view t = viewFrom t (root t)
 
 -- the root's level
 abbrev pub height : View → ℕ
-height v = v .level (v .root)
+height v = v .node (v .root) .level

@@ -6,9 +6,9 @@ use mathlib.Core.List.{List, [], _∷_, _++_, List·Memᴰ}
 use Prim.Native.Nat.{ℕ, suc, _≤_, _<_}
 use lib.ListN.{length, getD}
 use Rattle.model.specs.Table.{MARK, Words, headerOk}
-use Rattle.model.specs.Slots.{Slot, slot, View, view, height}
+use Rattle.model.specs.Slots.{Slot, slot, recording, View, view, height}
 use Rattle.model.specs.Search.{within, down}
-use Rattle.model.specs.Reached.{kept, recording}
+use Rattle.model.specs.Reached.{kept}
 use Rattle.model.specs.SoundTest.{Leftover, nothing, hiddenIn, missingIn, bothIn}
 
 -- ---- reached nodes and children
@@ -17,14 +17,14 @@ use Rattle.model.specs.SoundTest.{Leftover, nothing, hiddenIn, missingIn
 -- slots of a leaf lead to no node.)
 pub data Reached (v : View) : ℕ → Type 0 where
   at-root : Reached v (v .root)
-  by-left : {n : ℕ} → Reached v n → 0 < v .level n → Reached v (v .left n)
-  by-sibling : {n : ℕ} → Reached v n → v .sibling n ≢ 0 → Reached v (v .sibling n)
-  by-slot : {n : ℕ} {s : Slot} → Reached v n → 0 < v .level n → List·Memᴰ s (v .shown n) → within v n (s .key) ≡ true → Reached v (s .pointer)
+  by-left : {n : ℕ} → Reached v n → 0 < v .node n .level → Reached v (v .node n .left)
+  by-sibling : {n : ℕ} → Reached v n → v .node n .sibling ≢ 0 → Reached v (v .node n .sibling)
+  by-slot : {n : ℕ} {s : Slot} → Reached v n → 0 < v .node n .level → List·Memᴰ s (v .node n .shown) → within v n (s .key) ≡ true → Reached v (s .pointer)
 
 -- c is a child of p: its left child, or the child of a slot that leads to a node
 pub data Child (v : View) (p : ℕ) : ℕ → Type 0 where
-  left-child : 0 < v .level p → Child v p (v .left p)
-  slot-child : {s : Slot} → 0 < v .level p → List·Memᴰ s (v .shown p) → within v p (s .key) ≡ true → Child v p (s .pointer)
+  left-child : 0 < v .node p .level → Child v p (v .node p .left)
+  slot-child : {s : Slot} → 0 < v .node p .level → List·Memᴰ s (v .node p .shown) → within v p (s .key) ≡ true → Child v p (s .pointer)
 
 -- ---- what a leftover excuses
 
@@ -32,8 +32,8 @@ pub data Child (v : View) (p : ℕ) : ℕ → Type 0 where
 abbrev pub Lacks : View → Leftover → ℕ → Type 0
 Lacks v nothing n = ⊥
 Lacks v (hiddenIn x) n = ⊥
-Lacks v (missingIn p a trailing) n = n ≡ v .sibling a
-Lacks v (bothIn p a) n = n ≡ v .sibling a
+Lacks v (missingIn p a trailing) n = n ≡ v .node a .sibling
+Lacks v (bothIn p a) n = n ≡ v .node a .sibling
 
 -- the node whose last shown slots may be from its sibling's fence up: A
 abbrev pub Trails : Leftover → ℕ → Type 0
@@ -61,67 +61,67 @@ Rise (s ∷ u ∷ ss) = (s .key < u .key) × Rise (u ∷ ss)
 module _ (v : View) (x : Leftover) where
   pub record SettledBut : Type 0 where
     -- The root has fence 0, sibling 0 and level at most 15.
-    pub root-fence : v .fence (v .root) ≡ 0
-    pub root-sibling : v .sibling (v .root) ≡ 0
+    pub root-fence : v .node (v .root) .fence ≡ 0
+    pub root-sibling : v .node (v .root) .sibling ≡ 0
     pub root-level : height v ≤ 15
     -- A child's level is one less than its parent's.
-    pub child-level : {p c : ℕ} → Reached v p → Child v p c → suc (v .level c) ≡ v .level p
+    pub child-level : {p c : ℕ} → Reached v p → Child v p c → suc (v .node c .level) ≡ v .node p .level
     -- Child numbers, and siblings other than 0, are in 1 to N.
     pub child-number : {p c : ℕ} → Reached v p → Child v p c → (1 ≤ c) × (c ≤ v .nodes)
-    pub sibling-number : {n : ℕ} → Reached v n → v .sibling n ≢ 0 → v .sibling n ≤ v .nodes
+    pub sibling-number : {n : ℕ} → Reached v n → v .node n .sibling ≢ 0 → v .node n .sibling ≤ v .nodes
     -- Each reached node has one parent, except the root.
     pub one-parent : {c : ℕ} → Reached v c → c ≢ v .root → (Lacks v x c → ⊥)
         → (p : ℕ) × Reached v p × Child v p c × ((q : ℕ) → Reached v q → Child v q c → q ≡ p)
     -- A left child's fence is its parent's; a slot's child has the slot's key as fence.
-    pub left-fence : {p : ℕ} → Reached v p → 0 < v .level p → v .fence (v .left p) ≡ v .fence p
-    pub slot-fence : {p : ℕ} {s : Slot} → Reached v p → 0 < v .level p → List·Memᴰ s (v .shown p) → within v p (s .key) ≡ true
-        → v .fence (s .pointer) ≡ s .key
+    pub left-fence : {p : ℕ} → Reached v p → 0 < v .node p .level → v .node (v .node p .left) .fence ≡ v .node p .fence
+    pub slot-fence : {p : ℕ} {s : Slot} → Reached v p → 0 < v .node p .level → List·Memᴰ s (v .node p .shown) → within v p (s .key) ≡ true
+        → v .node (s .pointer) .fence ≡ s .key
     -- In each reached node words 4 to 7 and slot 11's pointer are 0.
-    pub words-zero : {n : ℕ} → Reached v n → v .clear n ≡ true
+    pub words-zero : {n : ℕ} → Reached v n → v .node n .clear ≡ true
     -- A leaf's left is MARK.
-    pub leaf-left : {n : ℕ} → Reached v n → v .level n ≡ 0 → v .left n ≡ MARK
+    pub leaf-left : {n : ℕ} → Reached v n → v .node n .level ≡ 0 → v .node n .left ≡ MARK
     -- Shown keys rise strictly, are at least the fence (above it in an inner node) and below the sibling's fence.
     pub keys-rise : {n : ℕ} → Reached v n → Rise (kept v n)
-    pub keys-from : {n : ℕ} {s : Slot} → Reached v n → List·Memᴰ s (kept v n) → v .fence n ≤ s .key
-    pub keys-above : {n : ℕ} {s : Slot} → Reached v n → 0 < v .level n → List·Memᴰ s (kept v n) → v .fence n < s .key
-    pub keys-below : {n : ℕ} → Reached v n → (Trails x n → ⊥) → v .shown n ≡ kept v n
+    pub keys-from : {n : ℕ} {s : Slot} → Reached v n → List·Memᴰ s (kept v n) → v .node n .fence ≤ s .key
+    pub keys-above : {n : ℕ} {s : Slot} → Reached v n → 0 < v .node n .level → List·Memᴰ s (kept v n) → v .node n .fence < s .key
+    pub keys-below : {n : ℕ} → Reached v n → (Trails x n → ⊥) → v .node n .shown ≡ kept v n
     -- Siblings join each level from left to right: its nodes have different fences, and each one's sibling is the next, 0 for the last.
-    pub apart : {m n : ℕ} → Reached v m → Reached v n → v .level m ≡ v .level n → v .fence m ≡ v .fence n → m ≡ n
-    pub sibling-level : {n : ℕ} → Reached v n → v .sibling n ≢ 0 → v .level (v .sibling n) ≡ v .level n
-    pub sibling-right : {n : ℕ} → Reached v n → v .sibling n ≢ 0 → v .fence n < v .fence (v .sibling n)
-    pub sibling-next : {m n : ℕ} → Reached v m → Reached v n → v .level m ≡ v .level n → v .fence n < v .fence m
-        → (v .sibling n ≢ 0) × (v .fence (v .sibling n) ≤ v .fence m)
+    pub apart : {m n : ℕ} → Reached v m → Reached v n → v .node m .level ≡ v .node n .level → v .node m .fence ≡ v .node n .fence → m ≡ n
+    pub sibling-level : {n : ℕ} → Reached v n → v .node n .sibling ≢ 0 → v .node (v .node n .sibling) .level ≡ v .node n .level
+    pub sibling-right : {n : ℕ} → Reached v n → v .node n .sibling ≢ 0 → v .node n .fence < v .node (v .node n .sibling) .fence
+    pub sibling-next : {m n : ℕ} → Reached v m → Reached v n → v .node m .level ≡ v .node n .level → v .node n .fence < v .node m .fence
+        → (v .node n .sibling ≢ 0) × (v .node (v .node n .sibling) .fence ≤ v .node m .fence)
     -- No recording number is in the map twice, and none is 0 or MARK.
-    pub recording-once : {m n i j : ℕ} → Reached v m → v .level m ≡ 0 → i < length (kept v m) → Reached v n → v .level n ≡ 0 → j < length (kept v n)
+    pub recording-once : {m n i j : ℕ} → Reached v m → v .node m .level ≡ 0 → i < length (kept v m) → Reached v n → v .node n .level ≡ 0 → j < length (kept v n)
         → recording (getD (kept v m) i (slot 0 0)) ≡ recording (getD (kept v n) j (slot 0 0)) → (m ≡ n) × (i ≡ j)
-    pub recording-number : {n : ℕ} {s : Slot} → Reached v n → v .level n ≡ 0 → List·Memᴰ s (kept v n) → (recording s ≢ 0) × (recording s ≢ MARK)
+    pub recording-number : {n : ℕ} {s : Slot} → Reached v n → v .node n .level ≡ 0 → List·Memᴰ s (kept v n) → (recording s ≢ 0) × (recording s ≢ MARK)
     -- Nothing is hidden.
-    pub none-hidden : {n : ℕ} → Reached v n → (Hides x n → ⊥) → v .hidden n ≡ 0
+    pub none-hidden : {n : ℕ} → Reached v n → (Hides x n → ⊥) → v .node n .hidden ≡ 0
 
 -- ---- the leftovers
 
 -- (a), and in (c): one hidden slot, in node n
 abbrev pub OneHidden : View → ℕ → Type 0
-OneHidden v n = Reached v n × (v .hidden n ≡ 1)
+OneHidden v n = Reached v n × (v .node n .hidden ≡ 1)
 
 -- (b) and (c): B, reached only as sibling of A, lacks its slot in the parent p, which routes B's fence to A and shows at most 10 slots; B's
 -- fence is above A's fence and, where B has a sibling, below that one's
 pub record LacksSlot (v : View) (p a : ℕ) : Type 0 where
   pub a-reached : Reached v a
-  pub b-there : v .sibling a ≢ 0
-  pub b-only : {n : ℕ} → Reached v n → v .sibling n ≡ v .sibling a → n ≡ a
-  pub b-lacks : {n : ℕ} → Reached v n → Child v n (v .sibling a) → ⊥
+  pub b-there : v .node a .sibling ≢ 0
+  pub b-only : {n : ℕ} → Reached v n → v .node n .sibling ≡ v .node a .sibling → n ≡ a
+  pub b-lacks : {n : ℕ} → Reached v n → Child v n (v .node a .sibling) → ⊥
   pub parent : Reached v p × Child v p a
-  pub routes : down v p (v .fence (v .sibling a)) ≡ a
-  pub room-left : length (v .shown p) ≤ 10
-  pub above-a : v .fence a < v .fence (v .sibling a)
-  pub below-next : v .sibling (v .sibling a) ≢ 0 → v .fence (v .sibling a) < v .fence (v .sibling (v .sibling a))
+  pub routes : down v p (v .node (v .node a .sibling) .fence) ≡ a
+  pub room-left : length (v .node p .shown) ≤ 10
+  pub above-a : v .node a .fence < v .node (v .node a .sibling) .fence
+  pub below-next : v .node (v .node a .sibling) .sibling ≢ 0 → v .node (v .node a .sibling) .fence < v .node (v .node (v .node a .sibling) .sibling) .fence
 
 -- A's last shown slots are some from B's fence up; those are ignored
 pub record TrailingSlots (v : View) (a : ℕ) : Type 0 where
   pub ignored : List Slot
   pub some-are : 0 < length ignored
-  pub last : v .shown a ≡ kept v a ++ ignored
+  pub last : v .node a .shown ≡ kept v a ++ ignored
   pub from-b-up : {s : Slot} → List·Memᴰ s ignored → within v a (s .key) ≡ false
 
 abbrev pub IsLeft : View → Leftover → Type 0

@@ -11,9 +11,9 @@ use Rattle.model.specs.declared.Missing.{Missing}
 use Rattle.model.specs.declared.Missing.the-variants.{Nowhere, Under, Several}
 use Rattle.model.specs.declared.Unfinished.{Unfinished}
 use Rattle.model.specs.Table.{MARK, Words, inRange, headerOk}
-use Rattle.model.specs.Slots.{Slot, View, view, height}
+use Rattle.model.specs.Slots.{Slot, recording, View, view, height}
 use Rattle.model.specs.Search.{within}
-use Rattle.model.specs.Reached.{headOr, kept, named, nextChild, children, reached, mapping, recording}
+use Rattle.model.specs.Reached.{headOr, kept, named, nextChild, children, reached, mapping}
 
 unfoldable pub all {ℓ} : {A : Type ℓ} → (A → Bool) → List A → Bool
 all p [] = true
@@ -32,7 +32,8 @@ distinct (x ∷ xs) = not (elem x xs) && distinct xs
 -- a sibling other than 0 is in 1 to N, on the same level, with a higher fence
 unfoldable pub siblingOk : View → ℕ → Bool
 siblingOk v n =
-    eqb (v .sibling n) 0 || (inRange (v .nodes) (v .sibling n) && (eqb (v .level (v .sibling n)) (v .level n) && ltb (v .fence n) (v .fence (v .sibling n))))
+    let s = v .node n .sibling in
+    eqb s 0 || (inRange (v .nodes) s && (eqb (v .node s .level) (v .node n .level) && ltb (v .node n .fence) (v .node s .fence)))
 
 -- keys rise strictly, and the first is at least low
 unfoldable pub rising : ℕ → List Slot → Bool
@@ -46,35 +47,36 @@ comeFirst p (s ∷ ss) = elim (p s) [ true ↦ comeFirst p ss | false ↦ all (�
 
 -- the kept slots rise from low, and those from the sibling's fence up come last
 unfoldable pub keysOk : View → ℕ → ℕ → Bool
-keysOk v n low = rising low (kept v n) && comeFirst (λ (s : Slot). within v n (s .key)) (v .shown n)
+keysOk v n low = rising low (kept v n) && comeFirst (λ (s : Slot). within v n (s .key)) (v .node n .shown)
 
 -- each node's sibling is the next one of the row, that of the last is e
 module _ (v : View) where
   unfoldable pub linked : List ℕ → ℕ → Bool
   linked [] e = true
-  linked (n ∷ ns) e = eqb (v .sibling n) (headOr e ns) && linked ns e
+  linked (n ∷ ns) e = eqb (v .node n .sibling) (headOr e ns) && linked ns e
 
 -- c is one level below l and has the fence k
 unfoldable pub childOk : View → ℕ → ℕ → ℕ → Bool
-childOk v l k c = eqb (suc (v .level c)) l && eqb (v .fence c) k
+childOk v l k c = eqb (suc (v .node c .level)) l && eqb (v .node c .fence) k
 
 unfoldable pub slotOk : View → ℕ → Slot → Bool
 slotOk v l s = childOk v l (s .key) (s .pointer)
 
 unfoldable pub leafOk : View → ℕ → Bool
-leafOk v n = eqb (v .left n) MARK && keysOk v n (v .fence n)
+leafOk v n = eqb (v .node n .left) MARK && keysOk v n (v .node n .fence)
 
 unfoldable pub innerOk : View → ℕ → Bool
 innerOk v n =
-    keysOk v n (suc (v .fence n)) && (childOk v (v .level n) (v .fence n) (v .left n) && (all (slotOk v (v .level n)) (kept v n) && (all (inRange (v .nodes)) (children v n) && linked v (children v n) (nextChild v n))))
+    keysOk v n (suc (v .node n .fence)) && (childOk v (v .node n .level) (v .node n .fence) (v .node n .left)
+    && (all (slotOk v (v .node n .level)) (kept v n) && (all (inRange (v .nodes)) (children v n) && linked v (children v n) (nextChild v n))))
 
 unfoldable pub nodeOk : View → ℕ → Bool
-nodeOk v n = v .clear n && (siblingOk v n && elim (eqb (v .level n) 0) [ true ↦ leafOk v n | false ↦ innerOk v n ])
+nodeOk v n = v .node n .clear && (siblingOk v n && elim (eqb (v .node n .level) 0) [ true ↦ leafOk v n | false ↦ innerOk v n ])
 
 -- ---- the whole tree
 
 unfoldable pub rootOk : View → Bool
-rootOk v = inRange (v .nodes) (v .root) && (leb (height v) 15 && (eqb (v .fence (v .root)) 0 && eqb (v .sibling (v .root)) 0))
+rootOk v = inRange (v .nodes) (v .root) && (leb (height v) 15 && (eqb (v .node (v .root) .fence) 0 && eqb (v .node (v .root) .sibling) 0))
 
 -- everything but what may be unfinished: no node is reached twice, no recording number is in the map twice, and none is MARK
 unfoldable pub orderly : View → Bool
@@ -115,11 +117,11 @@ times n (suc zero) = One n
 times n (suc (suc k)) = Many
 
 unfoldable pub trailingIn : View → ℕ → Few
-trailingIn v n = elim (eqb (length (kept v n)) (length (v .shown n))) [ true ↦ Zero | false ↦ One n ]
+trailingIn v n = elim (eqb (length (kept v n)) (length (v .node n .shown))) [ true ↦ Zero | false ↦ One n ]
 
 -- in node n itself
 unfoldable pub own : View → ℕ → Unfinished
-own v n = record { hidden = times n (v .hidden n); trailing = trailingIn v n; missing = Nowhere }
+own v n = record { hidden = times n (v .node n .hidden); trailing = trailingIn v n; missing = Nowhere }
 
 abbrev pub missingAt : ℕ → ℕ → Unfinished
 missingAt p a = record { hidden = Zero; trailing = Zero; missing = Under p a }
@@ -129,11 +131,11 @@ module _ (v : View) (p : ℕ) where
   unfoldable pub rowUnfinished : List ℕ → ℕ → Unfinished
   rowUnfinished [] e = finished
   rowUnfinished (n ∷ ns) e =
-      elim (eqb (v .sibling n) (headOr e ns)) [ true ↦ rowUnfinished ns e | false ↦ together (missingAt p n) (rowUnfinished ns e) ]
+      elim (eqb (v .node n .sibling) (headOr e ns)) [ true ↦ rowUnfinished ns e | false ↦ together (missingAt p n) (rowUnfinished ns e) ]
 
 unfoldable pub unfinishedAt : View → ℕ → Unfinished
 unfinishedAt v n =
-    together (own v n) (elim (eqb (v .level n) 0) [ true ↦ finished | false ↦ rowUnfinished v n (named v n) (nextChild v n) ])
+    together (own v n) (elim (eqb (v .node n .level) 0) [ true ↦ finished | false ↦ rowUnfinished v n (named v n) (nextChild v n) ])
 
 unfoldable pub unfinished : View → Unfinished
 unfinished v = total finished together (unfinishedAt v) (reached v)
@@ -172,7 +174,7 @@ leftover v = leftoverOf (unfinished v)
 
 -- node p shows at most 10 slots
 unfoldable pub room : View → ℕ → Bool
-room v p = leb (length (v .shown p)) 10
+room v p = leb (length (v .node p .shown)) 10
 
 -- the parent that lacks a slot has room for it
 abbrev pub hasRoom : View → Leftover → Bool

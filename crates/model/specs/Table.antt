@@ -84,9 +84,9 @@ nodeFrom t w =
 unfoldable pub node : Words → ℕ → Node
 node t i = cond (hasNode t i) (nodeFrom t (nodeStart i)) blank
 
--- words 4 to 7 of node i
+-- words 4 to 7 of node i; none for a number that no node has
 unfoldable pub spare : Words → ℕ → Words
-spare t i = take 4 (drop (nodeStart i + 4) t)
+spare t i = cond (hasNode t i) (take 4 (drop (nodeStart i + 4) t)) []
 
 -- ---- the empty table
 

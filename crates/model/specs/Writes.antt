@@ -6,11 +6,10 @@ use Prim.Native.Nat.{ℕ, zero, suc, pred, _+_, _-_}
 use lib.Dec.{eqb}
 use lib.ListN.{length, getD, take, drop, replicate}
 use Rattle.model.specs.Table.{MARK, Words, nodes, root, nodeStart}
-use Rattle.model.specs.Slots.{Slot, slot, View, view, height, used, full}
+use Rattle.model.specs.Slots.{Slot, slot, slotWords, View, nodeView, view, height, used, full}
 use Rattle.model.specs.Search.{path}
 use Rattle.model.specs.Reached.{filter, headOr, reached}
 use Rattle.model.specs.SoundTest.{all, elem, Leftover, nothing, hiddenIn, missingIn, bothIn, leftover}
-use Rattle.model.specs.Listing.{pairWords}
 use Rattle.model.specs.Orders.{Store, put, apply}
 use Rattle.model.specs.Shifts.{inNode, pointerWord, shiftIn, shiftOut, close, placeOf, hiddenPlace}
 
@@ -18,15 +17,15 @@ use Rattle.model.specs.Shifts.{inNode, pointerWord, shiftIn, shiftOut, c
 
 -- shift (k, x) in at its place among the shown slots of node n
 unfoldable pub shiftInAt : Words → (n k x : ℕ) → List Store
-shiftInAt t n k x = let v = view t in map (inNode n) (shiftIn (v .left n) (v .shown n) (placeOf k (v .shown n)) k x)
+shiftInAt t n k x = let v = view t in map (inNode n) (shiftIn (v .node n .left) (v .node n .shown) (placeOf k (v .node n .shown)) k x)
 
 -- shift the slot of key k out of node n
 unfoldable pub shiftOutAt : Words → (n k : ℕ) → List Store
-shiftOutAt t n k = let v = view t in map (inNode n) (shiftOut (v .left n) (v .shown n) (placeOf k (v .shown n)))
+shiftOutAt t n k = let v = view t in map (inNode n) (shiftOut (v .node n .left) (v .node n .shown) (placeOf k (v .node n .shown)))
 
 -- close the hidden slot of node n
 unfoldable pub closeAt : Words → (n : ℕ) → List Store
-closeAt t n = map (inNode n) (close (used t n) (hiddenPlace (view t .left n) (used t n)))
+closeAt t n = map (inNode n) (close (used t n) (hiddenPlace (nodeView t n .left) (used t n)))
 
 -- ---- fresh nodes
 
@@ -57,20 +56,20 @@ putAll w (x ∷ xs) = put w x ∷ putAll (suc w) xs
 -- the 32 words of a node; the rest is 0
 unfoldable pub nodeWords : (left sibling level fence : ℕ) → List Slot → Words
 nodeWords left sibling level fence ss =
-    (left ∷ sibling ∷ level ∷ fence ∷ replicate 4 0) ++ take 24 (pairWords ss ++ replicate 24 0)
+    (left ∷ sibling ∷ level ∷ fence ∷ replicate 4 0) ++ take 24 (slotWords ss ++ replicate 24 0)
 
 -- slot 5 of node a
 abbrev pub middle : Words → (a : ℕ) → Slot
-middle t a = getD (view t .shown a) 5 (slot 0 0)
+middle t a = getD (nodeView t a .shown) 5 (slot 0 0)
 
 -- B takes A's old sibling, A's level, and key 5 as fence. A leaf's B takes slots 5 to 10 and left MARK; an inner B takes pointer 5 as
 -- left and slots 6 to 10.
 unfoldable pub splitWords : Words → (a : ℕ) → Words
 splitWords t a =
     let v = view t in
-    elim (eqb (v .level a) 0) [
-      | true ↦ nodeWords MARK (v .sibling a) (v .level a) (middle t a .key) (drop 5 (v .shown a))
-      | false ↦ nodeWords (middle t a .pointer) (v .sibling a) (v .level a) (middle t a .key) (drop 6 (v .shown a))
+    elim (eqb (v .node a .level) 0) [
+      | true ↦ nodeWords MARK (v .node a .sibling) (v .node a .level) (middle t a .key) (drop 5 (v .node a .shown))
+      | false ↦ nodeWords (middle t a .pointer) (v .node a .sibling) (v .node a .level) (middle t a .key) (drop 6 (v .node a .shown))
     ]
 
 -- Split full A into B: all 32 words of B in rising order; A's sibling := B; A's pointer 5 := 0; shift B in at the parent p.
@@ -79,20 +78,21 @@ split t a b p =
     putAll (nodeStart b) (splitWords t a) ++ (put (suc (nodeStart a)) b ∷ put (pointerWord a 5) 0 ∷ shiftInAt t p (middle t a .key) b)
 
 -- New root: all 32 words of a node with left the old root, one level up, the rest 0; then header word 1.
+abbrev pub newRootAt : Words → (r : ℕ) → List Store
+newRootAt t r = putAll (nodeStart r) (nodeWords (root t) 0 (suc (height (view t))) 0 []) ++ (put 1 r ∷ [])
+
 unfoldable pub newRoot : Words → List Store
-newRoot t =
-    let r = fresh t (root t) in
-    putAll (nodeStart r) (nodeWords (root t) 0 (suc (height (view t))) 0 []) ++ (put 1 r ∷ [])
+newRoot t = newRootAt t (fresh t (root t))
 
 -- ---- repair
 
 -- storing 0 in the pointer of A's first slot from B's fence up
 unfoldable pub cutOff : Words → (a : ℕ) → List Store
-cutOff t a = let v = view t in put (pointerWord a (placeOf (v .fence (v .sibling a)) (v .shown a))) 0 ∷ []
+cutOff t a = let v = view t in put (pointerWord a (placeOf (v .node (v .node a .sibling) .fence) (v .node a .shown))) 0 ∷ []
 
 -- shift B, the sibling of A, in at the parent p
 unfoldable pub attach : Words → (p a : ℕ) → List Store
-attach t p a = let v = view t in shiftInAt t p (v .fence (v .sibling a)) (v .sibling a)
+attach t p a = let v = view t in shiftInAt t p (v .node (v .node a .sibling) .fence) (v .node a .sibling)
 
 -- Repair: close, then cut A, then shift B in at the parent; a step for which the leftover has no matter is left out.
 unfoldable pub repairOf : Words → Option Leftover → List Store
@@ -116,10 +116,11 @@ repaired t = apply (repairStores t) t
 unfoldable pub standing : Words → (l k : ℕ) → ℕ
 standing t l k = getD (path (view t) k) (height (view t) - l) 0
 
--- the unbroken run of full nodes from the leaf upward: the longest end of the path all of whose nodes are full
-unfoldable pub runIn : View → List ℕ → ℕ
-runIn v [] = 0
-runIn v (n ∷ ns) = elim (all (λ (m : ℕ). full (v .shown m)) (n ∷ ns)) [ true ↦ length (n ∷ ns) | false ↦ runIn v ns ]
+module _ (v : View) where
+  -- the unbroken run of full nodes from the leaf upward: the longest end of the path all of whose nodes are full
+  unfoldable pub runIn : List ℕ → ℕ
+  runIn [] = 0
+  runIn (n ∷ ns) = elim (all (λ (m : ℕ). full (v .node m .shown)) (n ∷ ns)) [ true ↦ length (n ∷ ns) | false ↦ runIn ns ]
 
 unfoldable pub run : Words → (k : ℕ) → ℕ
 run t k = runIn (view t) (path (view t) k)

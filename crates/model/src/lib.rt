@@ -1,5 +1,8 @@
 // The types that the calls take and answer with. A table, an order list and a listing are plain slices of words.
 
+// The largest word (document 01's MARK): left of a leaf, and a flush in an order list.
+pub const MARK: u64 = 18446744073709551615;
+
 // A node by value (document 01's record): its header words, and its 12 slots as key word, pointer word, key word, ..
 pub struct Node {
     pub left: u64,

@@ -1,4 +1,5 @@
 // The header test, reading a node, and making a table.
+use model::MARK;
 use model::Node;
 use model::Outcome;
 ghost use mathlib.Core.Path.{_≡_};
@@ -6,8 +7,6 @@ ghost use Prim.Native.Nat.{_+_, _≤_};
 ghost use lib.ListN.{length, take, drop, replicate};
 ghost use Rattle.model.specs.Table.{headerNumber, hasNode, node, making, made};
 ghost use Rattle.node.specs.Word.{nodesIn, startOf, wordOf};
-
-const MARK: u64 = 18446744073709551615;
 
 // The N of a slice of this length; 0 for a wrong length.
 fn nodes_in(len: usize) -> u64

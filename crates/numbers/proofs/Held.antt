@@ -36,7 +36,15 @@ Told cs r i m Full after = Unit {0}
 
 told-more : (cs after : Words) (r i m : ℕ) (e : Entry) → (getD cs i 0 ≢ r) → (getD cs i 0 ≢ 0) → Told cs r (suc i) m e after → Told cs r i (suc m) e after
 told-more cs after r i m Entered n z h =
-    record { at = h .at; from = omega (arith, h .from); inside = omega (arith, h .inside); free = h .free; stored = h .stored; passed = λ j a b. ⊎-elim (λ e. ((λ q. z (ap (λ (k : ℕ). getD cs k 0) (sym e) ∙ q)), λ q. n (ap (λ (k : ℕ). getD cs k 0) (sym e) ∙ q))) (λ d. h .passed j (omega arith) b) (same-or-not j i) }
+    record {
+      at = h .at;
+      from = omega (arith, h .from);
+      inside = omega (arith, h .inside);
+      free = h .free;
+      stored = h .stored;
+      passed = λ j a b. ⊎-elim (λ e. ((λ q. z (ap (λ (k : ℕ). getD cs k 0) (sym e) ∙ q)), λ q. n (ap (λ (k : ℕ). getD cs k 0) (sym e) ∙ q)))
+          (λ d. h .passed j (omega arith) b) (same-or-not j i);
+    }
 told-more cs after r i m Known n z h = h
 told-more cs after r i m Full n z h = tt
 
@@ -45,7 +53,8 @@ unfolding tried
 told cs r i zero = tt
 told cs r i (suc m) = go (eqb (getD cs i 0) r) refl (eqb (getD cs i 0) 0) refl (told cs r (suc i) m)
   where
-    go : (b : Bool) → eqb (getD cs i 0) r ≡ b → (d : Bool) → eqb (getD cs i 0) 0 ≡ d → Told cs r (suc i) m (tried cs r (suc i) m .answer) (tried cs r (suc i) m .cells) → Told cs r i (suc m) (tried cs r i (suc m) .answer) (tried cs r i (suc m) .cells)
+    go : (b : Bool) → eqb (getD cs i 0) r ≡ b → (d : Bool) → eqb (getD cs i 0) 0 ≡ d → Told cs r (suc i) m (tried cs r (suc i) m .answer) (tried cs r (suc i) m .cells)
+        → Told cs r i (suc m) (tried cs r i (suc m) .answer) (tried cs r i (suc m) .cells)
     go true e d q ih = rw (e, tried) (i, eqb-true (getD cs i 0) r e)
     go false e true q ih = rw (e, q, tried) (record { at = i; from = omega arith; inside = omega arith; free = eqb-true (getD cs i 0) 0 q; stored = refl; passed = λ j a b. absurd (omega arith) })
     go false e false q ih = rw (e, q, tried) (told-more cs (tried cs r (suc i) m .cells) r i m (tried cs r (suc i) m .answer) (eqb-false (getD cs i 0) r e) (eqb-false (getD cs i 0) 0 q) ih)

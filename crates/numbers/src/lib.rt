@@ -4,13 +4,16 @@ ghost use lib.ListN.{length};
 ghost use Rattle.numbers.specs.Cells.{CELLS, mixed, outcome, entered};
 
 // Numbers are scattered below this prime.
-const SPREAD: u64 = 4294967291;
+pub const SPREAD: u64 = 4294967291;
 
 // A number's first place is the rest of the scattered number by this prime; so many cells from there on are tried, so that no path goes
 // round.
 const PLACES: u64 = 32749;
 
 const TRIES: usize = 128;
+
+// So many cells are lent: the first places, and the tries from the last of them.
+pub const CELLS: usize = 32877;
 
 // What entering a number came to. Full says only that its cells are taken; 0 is never entered.
 pub enum Entry {

@@ -9,7 +9,8 @@ use Rattle.model.specs.Table.{Words}
 use Rattle.model.specs.Orders.{Store, Order, store, flush, apply, carry, orders, storeCount, flushCount, listWith}
 use Rattle.cut_laws.proofs.Applying.{carry-append, storeCount-append, flushCount-append}
 use Rattle.cut_laws.proofs.FlushRule.{orders-closed, orders-apply}
-use Rattle.cut_laws.proofs.Lent.{StoresInside, listWith-nil, listWith-store, listWith-flush}
+use Rattle.cut_laws.specs.Inside.{StoresInside}
+use Rattle.cut_laws.proofs.Lent.{listWith-nil, listWith-store, listWith-flush}
 use Rattle.orders.specs.Desk.{Desk, start, noted, notedAll, storedAll, finished, Room}
 use Rattle.orders.proofs.Steps.{notedAll-append, storedAll-noted, storedAll-open}
 
@@ -28,9 +29,21 @@ begun t lent = record { table = refl; list = sym (listWith-nil lent); at = omega
 one-more : (t lent : Words) (os : List Order) (o : Order) (d : Desk) → 2 * length os + 2 ≤ length lent → Holds t lent os d → Holds t lent (os ++ (o ∷ [])) (noted o d)
 unfolding noted carry storeCount flushCount
 one-more t lent os (store s) d h i =
-    record { table = rw (carry-append os (store s ∷ []) t, i .table); list = rw (i .at, i .list) (listWith-store os s lent h); at = omega (arith, length-append os (store s ∷ []), i .at); stores = omega (arith, storeCount-append os (store s ∷ []), i .stores); flushes = omega (arith, flushCount-append os (store s ∷ []), i .flushes) }
+    record {
+      table = rw (carry-append os (store s ∷ []) t, i .table);
+      list = rw (i .at, i .list) (listWith-store os s lent h);
+      at = omega (arith, length-append os (store s ∷ []), i .at);
+      stores = omega (arith, storeCount-append os (store s ∷ []), i .stores);
+      flushes = omega (arith, flushCount-append os (store s ∷ []), i .flushes);
+    }
 one-more t lent os (flush l) d h i =
-    record { table = rw (carry-append os (flush l ∷ []) t, i .table); list = rw (i .at, i .list) (listWith-flush os l lent h); at = omega (arith, length-append os (flush l ∷ []), i .at); stores = omega (arith, storeCount-append os (flush l ∷ []), i .stores); flushes = omega (arith, flushCount-append os (flush l ∷ []), i .flushes) }
+    record {
+      table = rw (carry-append os (flush l ∷ []) t, i .table);
+      list = rw (i .at, i .list) (listWith-flush os l lent h);
+      at = omega (arith, length-append os (flush l ∷ []), i .at);
+      stores = omega (arith, storeCount-append os (flush l ∷ []), i .stores);
+      flushes = omega (arith, flushCount-append os (flush l ∷ []), i .flushes);
+    }
 
 -- orders noted after others, where all of them fit
 noted-holds : (t lent : Words) (os ps : List Order) (d : Desk) → 2 * length (os ++ ps) ≤ length lent → Holds t lent os d → Holds t lent (os ++ ps) (notedAll ps d)

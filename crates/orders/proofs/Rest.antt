@@ -1,9 +1,11 @@
 -- Stores that are left to make on a desk, as a routine goes on: one made, some made, all made.
-use mathlib.Core.Path.{_≡_, refl, sym, _∙_}
+use mathlib.Core.Path.{_≡_, refl, ap, sym, _∙_}
 use mathlib.Core.List.{List, [], _∷_, _++_}
+use lib.ListN.{length}
 use Rattle.model.specs.Orders.{Store}
-use Rattle.orders.specs.Desk.{Desk, stored, storedAll, Room}
-use Rattle.orders.proofs.Steps.{storedAll-append}
+use Rattle.cut_laws.specs.Growing.{added}
+use Rattle.orders.specs.Desk.{Desk, openAt, stored, storedAll, Room}
+use Rattle.orders.proofs.Steps.{storedAll-append, storedAll-noted, noted-table-length, noted-list-length}
 use Rattle.orders.proofs.Rooms.{room-append, room-cons}
 
 -- there is room for the stores, and they lead to desk x
@@ -11,48 +13,55 @@ pub record Rest (ss : List Store) (d x : Desk) : Type 0 where
   pub room : Room ss d
   pub leads : storedAll ss d ≡ x
 
-pub rest-start : (ss : List Store) (d : Desk) → Room ss d → Rest ss d (storedAll ss d)
-rest-start ss d r = record { room = r; leads = refl }
+pub rest-start : {ss : List Store} {d : Desk} → Room ss d → Rest ss d (storedAll ss d)
+rest-start r = record { room = r; leads = refl }
 
 -- the same stores, written otherwise
-pub rest-same : (ss us : List Store) (d x : Desk) → ss ≡ us → Rest ss d x → Rest us d x
-rest-same ss us d x e r = rw (← e) r
+pub rest-same : {ss us : List Store} {d x : Desk} → ss ≡ us → Rest ss d x → Rest us d x
+rest-same e r = rw (← e) r
 
-module _ (s : Store) (ss : List Store) (d x : Desk) (r : Rest (s ∷ ss) d x) where
+module _ {s : Store} {ss : List Store} {d x : Desk} (r : Rest (s ∷ ss) d x) where
   pub rest-one : Room (s ∷ []) d
   rest-one = room-cons s ss d (r .room) .0
 
-  pub rest-next : (e : Desk) → e ≡ stored s d → Rest ss e x
+  pub rest-next : {e : Desk} → e ≡ stored s d → Rest ss e x
   unfolding storedAll
-  rest-next e q = rw q (record { room = room-cons s ss d (r .room) .1; leads = r .leads })
+  rest-next q = rw q (record { room = room-cons s ss d (r .room) .1; leads = r .leads })
 
-module _ (a b : List Store) (d x : Desk) (r : Rest (a ++ b) d x) where
+module _ (a b : List Store) {d x : Desk} (r : Rest (a ++ b) d x) where
   pub rest-first : Room a d
   rest-first = room-append a b d .0 (r .room) .0
 
-  pub rest-after : (e : Desk) → e ≡ storedAll a d → Rest b e x
-  rest-after e q = rw q (record { room = room-append a b d .0 (r .room) .1; leads = sym (storedAll-append a b d) ∙ r .leads })
+  pub rest-after : {e : Desk} → e ≡ storedAll a d → Rest b e x
+  rest-after q = rw q (record { room = room-append a b d .0 (r .room) .1; leads = sym (storedAll-append a b d) ∙ r .leads })
 
-pub rest-none : (d x : Desk) → Rest [] d x → d ≡ x
+pub rest-none : {d x : Desk} → Rest [] d x → d ≡ x
 unfolding storedAll
-rest-none d x r = r .leads
+rest-none r = r .leads
 
-pub rest-all : (ss : List Store) (d x : Desk) → Rest ss d x → (e : Desk) → e ≡ storedAll ss d → e ≡ x
-rest-all ss d x r e q = q ∙ r .leads
+pub rest-all : {ss : List Store} {d x : Desk} → Rest ss d x → {e : Desk} → e ≡ storedAll ss d → e ≡ x
+rest-all r q = q ∙ r .leads
+
+-- stores change no length
+pub stored-sizes : (ss : List Store) (d : Desk) → (length (storedAll ss d .table) ≡ length (d .table)) × (length (storedAll ss d .list) ≡ length (d .list))
+stored-sizes ss d = rw storedAll-noted (noted-table-length (added (openAt d) ss) d, noted-list-length (added (openAt d) ss) d)
+
+pub rest-size : (us : List Store) (e : Desk) {ss : List Store} {d : Desk} → Rest ss d (storedAll us e) → length (d .table) ≡ length (e .table)
+rest-size us e {ss} {d} r = sym (stored-sizes ss d .0) ∙ ap (λ (f : Desk). length (f .table)) (r .leads) ∙ stored-sizes us e .0
 
 -- two stores made, one after the other
-module _ (ss us : List Store) (s u : Store) (d x : Desk) (q : ss ≡ s ∷ u ∷ us) (r : Rest ss d x) where
+module _ {ss us : List Store} {s u : Store} {d x : Desk} (q : ss ≡ s ∷ u ∷ us) (r : Rest ss d x) where
   both : Rest (s ∷ u ∷ us) d x
-  both = rest-same ss (s ∷ u ∷ us) d x q r
+  both = rest-same q r
 
   pub two-first : Room (s ∷ []) d
-  two-first = rest-one s (u ∷ us) d x both
+  two-first = rest-one both
 
-  pub two-second : (e : Desk) → e ≡ stored s d → Room (u ∷ []) e
-  two-second e g = rest-one u us e x (rest-next s (u ∷ us) d x both e g)
+  pub two-second : {e : Desk} → e ≡ stored s d → Room (u ∷ []) e
+  two-second g = rest-one (rest-next both g)
 
-  pub two-after : (e f : Desk) → e ≡ stored s d → f ≡ stored u e → Rest us f x
-  two-after e f g h = rest-next u us e x (rest-next s (u ∷ us) d x both e g) f h
+  pub two-after : {e f : Desk} → e ≡ stored s d → f ≡ stored u e → Rest us f x
+  two-after g h = rest-next (rest-next both g) h
 
 -- stores written in another way: room for them, and where they lead
 module _ (ss us : List Store) (d : Desk) (q : ss ≡ us) where

@@ -41,7 +41,10 @@ closed-grows o [] = omega arith
 closed-grows o (s ∷ ss) = omega (arith, closing-short o, length-append (due o s) (store s ∷ added (some (line (s .word))) ss), length-append (added o (s ∷ ss)) (closing (openAfter o (s ∷ ss))))
 
 closed-append : (o : Option ℕ) (a b : List Store) → length (closed o (a ++ b)) ≡ length (added o a) + length (closed (openAfter o a) b)
-closed-append o a b = rw (added-append o a b, openAfter-append o a b) (omega (arith, length-append (added o a ++ added (openAfter o a) b) (closing (openAfter (openAfter o a) b)), length-append (added o a) (added (openAfter o a) b), length-append (added (openAfter o a) b) (closing (openAfter (openAfter o a) b))))
+closed-append o a b =
+    let later = added (openAfter o a) b in
+    let last = closing (openAfter (openAfter o a) b) in
+    rw (added-append o a b, openAfter-append o a b) (omega (arith, length-append (added o a ++ later) last, length-append (added o a) later, length-append later last))
 
 -- ---- room for lists in a row
 
@@ -55,7 +58,10 @@ module _ (a b : List Store) (d : Desk) where
 
   pub room-append : Room (a ++ b) d ↔ (Room a d × Room b (storedAll a d))
   room-append = (
-    λ r. let u = Each-split _ a b (r .inside) in (record { inside = u .0; space = omega (arith, less); counts = r .counts }, record { inside = rw (stored-table-length a d) (u .1); space = omega (arith, both, stored-at a d, stored-list-length a d); counts = omega (arith, stored-at a d, stored-counts a d) }),
+    λ r. let u = Each-split _ a b (r .inside) in (
+      record { inside = u .0; space = omega (arith, less); counts = r .counts },
+      record { inside = rw (stored-table-length a d) (u .1); space = omega (arith, both, stored-at a d, stored-list-length a d); counts = omega (arith, stored-at a d, stored-counts a d) },
+    ),
     λ u. record { inside = Each-append _ a b (u .0 .inside) (rw (stored-table-length a d) at (u .1 .inside)); space = omega (arith, both, stored-at a d, stored-list-length a d); counts = u .0 .counts },
   )
 

@@ -27,10 +27,6 @@ pub storedAll-nil : (d : Desk) → storedAll [] d ≡ d
 unfolding storedAll
 storedAll-nil d = refl
 
-pub storedAll-cons : (s : Store) (ss : List Store) (d : Desk) → storedAll (s ∷ ss) d ≡ storedAll ss (stored s d)
-unfolding storedAll
-storedAll-cons s ss d = refl
-
 -- ---- orders
 
 pub noted-at : (os : List Order) (d : Desk) → notedAll os d .pen .at ≡ d .pen .at + 2 * length os

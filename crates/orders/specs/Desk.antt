@@ -8,7 +8,7 @@ use lib.ListN.{length, set}
 use Rattle.model.specs.Table.{MARK, Words, line}
 use Rattle.model.specs.Orders.{Store, Order, store, flush}
 use Rattle.cut_laws.specs.Growing.{due, added, openAfter, closing}
-use Rattle.cut_laws.proofs.Lent.{StoresInside}
+use Rattle.cut_laws.specs.Inside.{StoresInside}
 use Rattle.orders.specs.declared.Pen.{Pen}
 
 pub record Desk : Type 0 where
@@ -38,9 +38,10 @@ filled l a x y = set (set l a x) (a + 1) y
 
 unfoldable pub noted : Order → Desk → Desk
 noted (store s) d =
-    record { table = set (d .table) (s .word) (s .value); list = filled (d .list) (d .pen .at) (s .word) (s .value); pen = record { at = d .pen .at + 2; line = line (s .word) + 1; stores = d .pen .stores + 1; flushes = d .pen .flushes } }
+    desk (set (d .table) (s .word) (s .value)) (filled (d .list) (d .pen .at) (s .word) (s .value))
+    (record { at = d .pen .at + 2; line = line (s .word) + 1; stores = d .pen .stores + 1; flushes = d .pen .flushes })
 noted (flush l) d =
-    record { table = d .table; list = filled (d .list) (d .pen .at) MARK l; pen = record { at = d .pen .at + 2; line = 0; stores = d .pen .stores; flushes = d .pen .flushes + 1 } }
+    desk (d .table) (filled (d .list) (d .pen .at) MARK l) (record { at = d .pen .at + 2; line = 0; stores = d .pen .stores; flushes = d .pen .flushes + 1 })
 
 unfoldable pub notedAll : List Order → Desk → Desk
 notedAll [] d = d

@@ -1,11 +1,10 @@
 // The order list of a write: each store is made on the working copy and listed, after the flush that is due.
+use model::MARK;
 ghost use mathlib.Core.Path.{_≡_};
 ghost use mathlib.Core.List.{[], _∷_};
 ghost use Rattle.model.specs.Table.{Words};
 ghost use Rattle.model.specs.Orders.{put};
 ghost use Rattle.orders.specs.Desk.{desk, stored, turned, finished, Room};
-
-const MARK: u64 = 18446744073709551615;
 
 // How far a write has come in its list: the words filled, the line that is open plus 1 (0 for none), and the two counts.
 pub struct Pen {

@@ -5,9 +5,10 @@ use native.Mathlib.Omega.{arith}
 use lib.ListN.{getD}
 use borrow.Author.Tests.{eq-eqb}
 use Rattle.model.specs.Table.{Words, node, root}
-use Rattle.model.specs.Slots.{View, view}
+use Rattle.model.specs.Slots.{View, nodeView, view}
 use Rattle.model.specs.Search.{below, moved, down, pathFrom}
 use Rattle.model.specs.Writes.{standing}
+use Rattle.view_laws.proofs.NodeViews.{fenceOf}
 use Rattle.tree_laws.proofs.Cover.{stays, moves, below-low, below-high}
 use Rattle.node.specs.Word.{wordOf}
 use Rattle.node.proofs.WordLaws.{word-level, word-sibling, word-fence}
@@ -15,22 +16,22 @@ use Rattle.node.proofs.WordLaws.{word-level, word-sibling, word-fence}
 -- ---- the move on a level, from the words that the code has read: s the sibling, f the sibling's fence
 
 module _ (t : Words) (n k s : ℕ) (e : s ≡ wordOf t n 1) where
-  q : s ≡ view t .sibling n
+  q : s ≡ nodeView t n .sibling
   q = e ∙ word-sibling t n
 
   pub moved-last : s ≡ 0 → n ≡ moved (view t) n k
   unfolding below
-  moved-last z = let h : view t .sibling n ≡ 0 = sym q ∙ z in sym (stays (view t) k n (rw (eq-eqb _ _ h)))
+  moved-last z = let h : nodeView t n .sibling ≡ 0 = sym q ∙ z in sym (stays (view t) k n (rw (eq-eqb _ _ h)))
 
   module _ (f : ℕ) (g : f ≡ wordOf t s 3) where
-    bound : f ≡ view t .fence (view t .sibling n)
-    bound = g ∙ word-fence t s ∙ ap (λ (m : ℕ). view t .fence m) q
+    bound : f ≡ nodeView t (nodeView t n .sibling) .fence
+    bound = g ∙ word-fence t s ∙ ap (fenceOf (view t)) q
 
     pub moved-here : k < f → n ≡ moved (view t) n k
-    moved-here h = sym (stays (view t) k n (below-high (view t) k (view t .sibling n) (rw bound at h)))
+    moved-here h = sym (stays (view t) k n (below-high (view t) k (nodeView t n .sibling) (rw bound at h)))
 
     pub moved-right : (s ≡ 0 → ⊥) → f ≤ k → s ≡ moved (view t) n k
-    moved-right z h = q ∙ sym (moves (view t) k n (below-low (view t) k (view t .sibling n) (λ y. z (q ∙ y)) (rw bound at h)))
+    moved-right z h = q ∙ sym (moves (view t) k n (below-low (view t) k (nodeView t n .sibling) (λ y. z (q ∙ y)) (rw bound at h)))
 
 -- ---- a descent
 

@@ -7,10 +7,11 @@ use lib.Dec.{eqb, leb}
 use lib.ListN.{length}
 use borrow.Author.Tests.{eqb-true, eq-eqb, leb-true, leb-false}
 use Rattle.model.specs.Table.{Words, root, nodes}
-use Rattle.model.specs.Slots.{view, height}
+use Rattle.model.specs.Slots.{nodeView, view, height}
 use Rattle.model.specs.Reached.{reached}
 use Rattle.model.specs.SoundTest.{elem, sound}
 use Rattle.model.specs.Writes.{standing}
+use Rattle.view_laws.proofs.NodeViews.{levelOf}
 use Rattle.list_laws.proofs.Tools.{same-test}
 use Rattle.list_laws.proofs.Members.{elem-iff}
 use Rattle.table_laws.proofs.Header.{header-iff}
@@ -35,23 +36,23 @@ unfolding standing
 top-most t l k h o = let e : height (view t) - l ≡ 0 = omega arith in rw e (path-root (view t) k (orderly-of t h))
 
 -- n is reached exactly if the search for its fence, stopped on its level, stands on it
-pub reached-stands : (t : Words) (n : ℕ) → sound t ≡ true → eqb (standing t (view t .level n) (view t .fence n)) n ≡ elem n (reached (view t))
+pub reached-stands : (t : Words) (n : ℕ) → sound t ≡ true → eqb (standing t (nodeView t n .level) (nodeView t n .fence)) n ≡ elem n (reached (view t))
 unfolding standing
 reached-stands t n h =
     let v = view t in
-    let r = standing t (v .level n) (v .fence n) in
+    let r = standing t (v .node n .level) (v .node n .fence) in
     let i = reached-iff v n (orderly-of t h) in
-    let low : r ≡ n → v .level n ≤ height v = λ e. not-above e (leb (v .level n) (height v)) refl in
+    let low : r ≡ n → v .node n .level ≤ height v = λ e. not-above e (leb (v .node n .level) (height v)) refl in
     same-test (eqb r n) (elem n (reached v)) (
       λ b. let e = eqb-true r n b in elem-iff n (reached v) .1 (i .1 (low e, e)),
       λ b. eq-eqb r n (i .0 (elem-iff n (reached v) .0 b) .1),
     )
   where
-    not-above : standing t (view t .level n) (view t .fence n) ≡ n → (b : Bool) → leb (view t .level n) (height (view t)) ≡ b → view t .level n ≤ height (view t)
+    not-above : standing t (nodeView t n .level) (nodeView t n .fence) ≡ n → (b : Bool) → leb (nodeView t n .level) (height (view t)) ≡ b → nodeView t n .level ≤ height (view t)
     not-above e true c = leb-true _ _ c
     not-above e false c =
-        let o = leb-false (view t .level n) (height (view t)) c in
-        absurd (omega (arith, ap (λ (m : ℕ). view t .level m) (sym (top-most t (view t .level n) (view t .fence n) h o) ∙ e)))
+        let o = leb-false (nodeView t n .level) (height (view t)) c in
+        absurd (omega (arith, ap (levelOf (view t)) (sym (top-most t (nodeView t n .level) (nodeView t n .fence) h o) ∙ e)))
 
 -- the same, from the words that the code has read
 pub stands-there : (t : Words) (n l f r : ℕ) → sound t ≡ true → l ≡ wordOf t n 2 → f ≡ wordOf t n 3 → r ≡ standing t l f → eqb r n ≡ elem n (reached (view t))

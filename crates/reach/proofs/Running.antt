@@ -1,6 +1,6 @@
 -- The running count over a list is its longest end all of whose elements pass; and the run of full nodes.
 use mathlib.Core.Path.{_≡_, refl, ap, sym, _∙_}
-use mathlib.Core.Bool.{Bool, true, false, cond, _&&_, false≢true}
+use mathlib.Core.Bool.{Bool, true, false, cond, _&&_}
 use mathlib.Core.List.{List, [], _∷_, List·Memᴰ}
 use Prim.Native.Nat.{ℕ, zero, suc, _+_, _-_, _≤_, _<_}
 use native.Mathlib.Numerals.{add-one}
@@ -10,7 +10,7 @@ use lib.Dec.{eqb}
 use lib.ListN.{length}
 use borrow.Author.Tests.{eqb-true, eq-eqb, ne-eqb}
 use Rattle.model.specs.Table.{Words, root}
-use Rattle.model.specs.Slots.{Slot, View, view, height, full}
+use Rattle.model.specs.Slots.{Slot, View, nodeView, view, height, full}
 use Rattle.model.specs.Search.{moved, down, pathFrom, path}
 use Rattle.model.specs.Reached.{kept, reached}
 use Rattle.model.specs.SoundTest.{all, settled}
@@ -40,26 +40,6 @@ module _ (p : ℕ → Bool) where
   end-whole : (ns : List ℕ) → all p ns ≡ true → endRun p ns ≡ length ns
   end-whole [] e = unfold endRun in refl
   end-whole (n ∷ ns) e = end-all n ns e
-
-  pub end-most : (ns : List ℕ) → endRun p ns ≤ length ns
-  end-most [] = unfold endRun in omega arith
-  end-most (n ∷ ns) = go (all p (n ∷ ns)) refl (end-most ns)
-    where
-      go : (b : Bool) → all p (n ∷ ns) ≡ b → endRun p ns ≤ length ns → endRun p (n ∷ ns) ≤ suc (length ns)
-      go true e ih = rw (end-all n ns e) (omega arith)
-      go false e ih = rw (end-not n ns e) (omega arith)
-
-  end-part : (ns : List ℕ) → all p ns ≡ false → endRun p ns < length ns
-  end-part [] e = unfold all in absurd (false≢true (sym e))
-  end-part (n ∷ ns) e = rw (end-not n ns e) (omega (arith, end-most ns))
-
-  -- the longest end is the whole list exactly if all pass
-  pub end-root : (ns : List ℕ) → eqb (endRun p ns) (length ns) ≡ all p ns
-  end-root ns = go (all p ns) refl
-    where
-      go : (b : Bool) → all p ns ≡ b → eqb (endRun p ns) (length ns) ≡ b
-      go true e = eq-eqb _ _ (end-whole ns e)
-      go false e = let l = end-part ns e in ne-eqb (endRun p ns) (length ns) (λ (q : endRun p ns ≡ length ns). omega arith)
 
   -- the running count from a count on: it goes on counting where all pass, and otherwise counts the longest end
   run-on : (count : ℕ) (ns : List ℕ) → runFrom p count ns ≡ cond (all p ns) (count + length ns) (endRun p ns)
@@ -92,10 +72,10 @@ end-same p q (n ∷ ns) h = go (all q (n ∷ ns)) refl (all-same p q (n ∷ ns) 
     go false e w ih = end-not p n ns (w ∙ e) ∙ ih ∙ sym (end-not q n ns e)
 
 -- the model's run is the longest end of full nodes
-pub run-in : (v : View) (ns : List ℕ) → runIn v ns ≡ endRun (λ (m : ℕ). full (v .shown m)) ns
+pub run-in : (v : View) (ns : List ℕ) → runIn v ns ≡ endRun (λ (m : ℕ). full (v .node m .shown)) ns
 unfolding runIn endRun
 run-in v [] = refl
-run-in v (n ∷ ns) = ap (λ (x : ℕ). elim (all (λ (m : ℕ). full (v .shown m)) (n ∷ ns)) as (λ c. ℕ) [ true ↦ suc (length ns) | false ↦ x ]) (run-in v ns)
+run-in v (n ∷ ns) = ap (λ (x : ℕ). elim (all (λ (m : ℕ). full (v .node m .shown)) (n ∷ ns)) as (λ c. ℕ) [ true ↦ suc (length ns) | false ↦ x ]) (run-in v ns)
 
 -- ---- the run, going down a path
 
@@ -139,16 +119,16 @@ run-read t k parent top len e q = rw (add-one top, e ∙ word-level t (root t), 
 -- ---- the run of the model
 
 -- u has the run that was counted in t where both have the same path, and each of its nodes is full in u as it was judged in t
-pub run-of : (t u : Words) (k parent : ℕ) → path (view u) k ≡ path (view t) k → Each (λ (n : ℕ). fullIn (view t) parent n ≡ full (view u .shown n)) (path (view t) k)
+pub run-of : (t u : Words) (k parent : ℕ) → path (view u) k ≡ path (view t) k → Each (λ (n : ℕ). fullIn (view t) parent n ≡ full (nodeView u n .shown)) (path (view t) k)
     → fullRun t k parent ≡ record { length = run u k; root = rootInRun u k }
 unfolding fullRun run rootInRun
 run-of t u k parent e h =
     let w : endRun (fullIn (view t) parent) (path (view t) k) ≡ runIn (view u) (path (view u) k) =
-    end-same (fullIn (view t) parent) (λ (m : ℕ). full (view u .shown m)) (path (view t) k) h ∙ sym (run-in (view u) (path (view t) k)) ∙ ap (runIn (view u)) (sym e) in
+    end-same (fullIn (view t) parent) (λ (m : ℕ). full (nodeView u m .shown)) (path (view t) k) h ∙ sym (run-in (view u) (path (view t) k)) ∙ ap (runIn (view u)) (sym e) in
     let g : height (view t) ≡ height (view u) = omega (arith, path-length (view t) k, path-length (view u) k, ap length e) in
     rw (w, g)
 
-full-kept : (v : View) (n : ℕ) → kept v n ≡ v .shown n → eqb (length (kept v n)) 11 ≡ full (v .shown n)
+full-kept : (v : View) (n : ℕ) → kept v n ≡ v .node n .shown → eqb (length (kept v n)) 11 ≡ full (v .node n .shown)
 unfolding full
 full-kept v n e = ap (λ (ss : List Slot). eqb (length ss) 11) e
 
@@ -158,5 +138,5 @@ run-settled t k h =
     let v = view t in
     let s = settled-iff v .0 (settled-parts t .0 h .1) in
     let some : (n : ℕ) → List·Memᴰ n (reached v) → n ≡ 0 → ⊥ = λ n m. not-zero v n (shape-view v (s .orderly) .range m) in
-    let judged : (n : ℕ) → List·Memᴰ n (reached v) → fullIn v 0 n ≡ full (v .shown n) = λ n m. sym (full-other v 0 n _ refl (some n m)) ∙ full-kept v n (settled-node v n s m .keeps) in
-    run-of t t k 0 refl (Each-map (λ (n : ℕ). List·Memᴰ n (reached v)) (λ (n : ℕ). fullIn v 0 n ≡ full (v .shown n)) (path v k) judged (path-reached v k (s .orderly)))
+    let judged : (n : ℕ) → List·Memᴰ n (reached v) → fullIn v 0 n ≡ full (v .node n .shown) = λ n m. sym (full-other v 0 n _ refl (some n m)) ∙ full-kept v n (settled-node v n s m .keeps) in
+    run-of t t k 0 refl (Each-map (λ (n : ℕ). List·Memᴰ n (reached v)) (λ (n : ℕ). fullIn v 0 n ≡ full (v .node n .shown)) (path v k) judged (path-reached v k (s .orderly)))

@@ -11,8 +11,7 @@ use Rattle.model.specs.Slots.{view}
 use Rattle.model.specs.Reached.{filter, headOr, reached}
 use Rattle.model.specs.SoundTest.{elem}
 use Rattle.model.specs.Writes.{numbers, unreached, fresh}
-use Rattle.list_laws.proofs.Filters.{filter-yes, filter-no}
-pub use Rattle.list_laws.proofs.Filters.{filter-append}
+use Rattle.list_laws.proofs.Filters.{filter-yes, filter-no, filter-append}
 
 module _ (t : Words) where
   pub unreached-yes : (n : ℕ) (ns : List ℕ) → elem n (reached (view t)) ≡ false → unreached t (n ∷ ns) ≡ n ∷ unreached t ns

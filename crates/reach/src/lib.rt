@@ -1,7 +1,7 @@
 // Where a search stands on each level, which nodes are reached, and what is counted before a write. Nothing is written.
 ghost use mathlib.Core.Path.{_≡_};
 ghost use mathlib.Core.Bool.{true};
-ghost use Prim.Native.Nat.{_+_, _-_, _≤_, _<_};
+ghost use Prim.Native.Nat.{_+_, _-_, _≤_};
 ghost use lib.ListN.{length};
 ghost use Rattle.model.specs.Table.{headerOk, nodes};
 ghost use Rattle.model.specs.Slots.{view};
@@ -9,8 +9,6 @@ ghost use Rattle.model.specs.Search.{moved};
 ghost use Rattle.model.specs.Reached.{headOr, kept, reached};
 ghost use Rattle.model.specs.SoundTest.{elem, sound};
 ghost use Rattle.model.specs.Writes.{numbers, unreached, unreachable, fresh, standing};
-ghost use Rattle.search.specs.Scan.{shownFrom};
-ghost use Rattle.reach.specs.Counts.{keptFrom, countAfter};
 ghost use Rattle.reach.specs.Runs.{fullIn, runAfter, fullRun};
 
 // The unbroken run of full nodes from the leaf upward: its length, and whether it includes the root.
@@ -103,50 +101,14 @@ pub fn unreachable(table: &[u64], count: u64) -> u64
 
 // ---- slots counted
 
-// The count after a slot (k, p) in use: one more where the slot is shown and its key is below the sibling's fence, the bound.
-fn count_after(count: u64, before: u64, k: u64, p: u64, sibling: u64, bound: u64) -> u64
-    requires { ⌜ count < 12 ⌝ }
-    ensures { λ r. ⌜ r ≡ countAfter count before k p sibling bound ⌝ }
-{
-    if p == before {
-        return count;
-    }
-    if sibling == 0 {
-        return count + 1;
-    }
-    if k < bound {
-        return count + 1;
-    }
-    count
-}
-
-// How many of a node's slots are shown with a key below the sibling's fence, the bound; with sibling 0 all that are shown.
-fn count_slots(slots: [u64; 24], left: u64, sibling: u64, bound: u64) -> u64
-    ensures { λ r. ⌜ r ≡ length (keptFrom sibling bound (shownFrom left slots 0)) ⌝ }
-{
-    let mut count = 0;
-    let mut before = left;
-    let mut i = 0;
-    while i < 12 {
-        let p = slots[2 * i + 1];
-        if p == 0 {
-            return count;
-        }
-        count = count_after(count, before, slots[2 * i], p, sibling, bound);
-        before = p;
-        i += 1;
-    }
-    count
-}
-
 // How many slots node n shows.
 pub fn shown_count(table: &[u64], n: u64) -> u64
-    ensures { λ r. ⌜ r ≡ length (view (now (table .entry)) .shown n) ⌝ }
+    ensures { λ r. ⌜ r ≡ length (view (now (table .entry)) .node n .shown) ⌝ }
 {
     let x = node::read(table, n);
     let slots = x.slots;
     let left = x.left;
-    count_slots(slots, left, 0, 0)
+    slots::shown_count(slots, left)
 }
 
 // How many of them it keeps.
@@ -158,7 +120,7 @@ pub fn kept_count(table: &[u64], n: u64) -> u64
     let left = x.left;
     let sibling = x.sibling;
     let bound = node::word(table, sibling, 3);
-    count_slots(slots, left, sibling, bound)
+    slots::kept_count(slots, left, sibling, bound)
 }
 
 // ---- the run of full nodes

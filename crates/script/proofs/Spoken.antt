@@ -1,11 +1,13 @@
--- What is printed from the answer and the list is document 01's text of the request; so the whole input prints the printer's bytes.
-use mathlib.Core.Path.{_≡_, refl, _∙_, fun-ext}
+-- What is printed from the answer and the list is document 01's text of the request; so the calls over all pieces print the printer's bytes.
+use mathlib.Core.Path.{_≡_, refl, sym, ap, _∙_}
+use mathlib.Core.Bool.{Bool, true, false}
 use mathlib.Core.Logic.{_≢_}
-use mathlib.Core.List.{List, [], _∷_, _++_, append-assoc}
-use Prim.Native.Nat.{ℕ, zero, suc, _+_, _*_, _≤_}
+use mathlib.Core.List.{List, [], _∷_, _++_, append-nil, append-assoc}
+use Prim.Native.Nat.{ℕ, zero, suc, _+_, _*_, _≤_, _<_}
 use native.Mathlib.Omega.{arith}
-use lib.ListN.{length, take, drop}
-use lib.Seq.{take-append-le, take-length}
+use lib.Dec.{eqb}
+use lib.ListN.{length, take, drop, take-append-drop, drop-of-length-le}
+use lib.Seq.{take-append-le, take-length, drop-drop}
 use Rattle.list_laws.proofs.Tools.{Each}
 use Rattle.model.specs.declared.Written.{Written}
 use Rattle.model.specs.declared.Written.the-variants as written-as
@@ -13,18 +15,24 @@ use Rattle.model.specs.Table.{MARK, Words}
 use Rattle.model.specs.Orders.{Store, Order, orders, storeCount, flushCount, decode, listWith}
 use Rattle.model.specs.Writes.{Call, insertion, deletion, storesOf}
 use Rattle.model.specs.Refusals.{refusal, unlessRefused, ordersOf, written, tableAfter, listAfter}
-use Rattle.model.specs.Printer.{Bytes, ordersText, Desk, Reply, doCall, printer}
+use Rattle.model.specs.Printer.{Bytes, ordersText, Desk, Reply, reply, doCall, firstDesk, printer}
 use Rattle.script_bytes.specs.declared.Request.{Request}
 use Rattle.script_bytes.specs.declared.Request.the-variants.{Insertion, Deletion, Refused}
-use Rattle.script_bytes.specs.Input.{doRequest, printOn, opening, readPieces, joined, finished}
-use Rattle.script_bytes.proofs.Input.{printer-read}
+use Rattle.script_bytes.specs.declared.LineState.{LineState}
+use Rattle.script_bytes.specs.Line.{begin, lineIn, request, begun}
+use Rattle.script_bytes.specs.declared.LineRead.{LineRead}
+use Rattle.script_bytes.specs.Text.{Begins, orderLines, doneLine, spoken}
+use Rattle.script_bytes.specs.Input.{Reading, reading, readByte, readBytes, doRequest, printOn, readPieces, joined, lineDone, finished}
+use Rattle.script_bytes.proofs.Input.{bytes-append, line-done, line-used, printer-read}
 use Rattle.cut_laws.specs.Unflushed.{storesIn}
 use Rattle.cut_laws.proofs.Applying.{counts-length}
 use Rattle.cut_laws.proofs.FlushRule.{orders-stores}
-use Rattle.cut_laws.proofs.Lent.{StoresInside, header-length, decode-encode}
-use Rattle.steps.proofs.Accepted.{accepted-iff}
-use Rattle.steps.proofs.Calls.{accepted}
-use Rattle.script.specs.Spoken.{deskOf, answerOf, answerTo, orderLines, doneLine, spoken, speakOn}
+use Rattle.cut_laws.specs.Inside.{StoresInside}
+use Rattle.cut_laws.proofs.Lent.{header-length, decode-encode}
+use Rattle.step_laws.proofs.Accepted.{accepted-iff}
+use Rattle.step_laws.proofs.Calls.{accepted}
+use Rattle.script.specs.Spoken.{deskOf, answerOf, answerTo, Left, silent, Told, After, told}
+use Rattle.script.specs.declared.Said.{Said}
 
 -- ---- the table and the list after a call
 
@@ -99,15 +107,134 @@ request-spoken (Insertion k r) d = rw call-list (call-spoken (insertion k r) d _
 request-spoken (Deletion k) d = rw call-list (call-spoken (deletion k) d _ refl)
 request-spoken (Refused n) d = refl
 
+-- ---- what the calls leave
+
+pub ended-left : (q : Request) (s : LineState) → q ≡ request s → (t l : Words) {a : Written} {t′ l′ : Words} → Acted q t l a t′ l′
+    → {out : Bytes} {n : ℕ} → Begins out n (spoken a l′) → Left (doRequest (request s) (deskOf t l)) t′ l′ out n
+ended-left q s e t l h b =
+    record { whole = rw (b .first, h .0, h .1 .0, h .1 .1, e, request-spoken (request s) (deskOf t l)); within = b .within }
+
+-- at the end of the input
+module _ (s : LineState) (b : Bool) (e : b ≡ begun (s .place)) {t l : Words} {out : Bytes} where
+  pub finish-line : b ≡ true → (d : Desk) {n : ℕ} → Left (doRequest (request s) d) t l out n → Left (finished printOn (silent s d)) t l out n
+  unfolding finished printOn
+  finish-line f d h = rw (← e, f) h
+
+  pub finish-none : b ≡ false → Left (finished printOn (silent s (deskOf t l))) t l out 0
+  unfolding finished
+  finish-none f = rw (← e, f) (record { whole = refl; within = omega arith })
+
+-- the bytes of a piece up to its first line feed
+module _ (s : LineState) (piece : Bytes) (x : LineRead) (e : x ≡ lineIn s piece) (d : Desk) where
+  used-part : (x .used ≤ length piece) × (0 < length piece → 0 < x .used)
+  used-part = rw e (line-used s piece)
+
+  line-part : readBytes printOn (silent s d) (take (x .used) piece) ≡ lineDone printOn x (reply [] d)
+  line-part = rw e (line-done printOn s (reply [] d) piece)
+
+  pub part-read : {t l : Words} {out : Bytes} → d ≡ deskOf t l → x .ended ≡ false
+      → Told (silent s d) piece (record { line = x .line; used = x .used; printed = 0 }) t l out
+  unfolding lineDone
+  part-read f g =
+      record {
+        read = line-part ∙ rw (g, f);
+        used-within = used-part .0;
+        used-some = used-part .1;
+        printed-within = omega arith;
+      }
+
+  pub line-told : (s′ : LineState) {t l : Words} {out : Bytes} {n : ℕ} → s′ ≡ begin → x .ended ≡ true → Left (doRequest (request (x .line)) d) t l out n
+      → Told (silent s d) piece (record { line = s′; used = x .used; printed = n }) t l out
+  unfolding lineDone printOn
+  line-told s′ f g h =
+      record {
+        read = line-part ∙ rw (g, f, ← h .whole);
+        used-within = used-part .0;
+        used-some = used-part .1;
+        printed-within = h .within;
+      }
+
+-- ---- what was printed before
+
+-- these bytes printed before
+abbrev after : Bytes → Reading Reply → Reading Reply
+after bs x = reading (x .line) (reply (bs ++ x .state .bytes) (x .state .desk))
+
+byte-after : (bs : Bytes) (x : Reading Reply) (b : ℕ) → readByte printOn (after bs x) b ≡ after bs (readByte printOn x b)
+unfolding readByte printOn
+byte-after bs x b = go (eqb b 10) refl
+  where
+    go : (t : Bool) → eqb b 10 ≡ t → readByte printOn (after bs x) b ≡ after bs (readByte printOn x b)
+    go true e = rw (e, append-assoc)
+    go false e = rw e
+
+bytes-after : (bs : Bytes) (x : Reading Reply) (input : Bytes) → readBytes printOn (after bs x) input ≡ after bs (readBytes printOn x input)
+unfolding readBytes
+bytes-after bs x [] = refl
+bytes-after bs x (b ∷ input) = rw (byte-after bs x b) (bytes-after bs (readByte printOn x b) input)
+
+finish-after : (bs : Bytes) (x : Reading Reply) → (finished printOn (after bs x)) .bytes ≡ bs ++ (finished printOn x) .bytes
+unfolding finished printOn
+finish-after bs x = go (begun (x .line .place)) refl
+  where
+    go : (t : Bool) → begun (x .line .place) ≡ t → (finished printOn (after bs x)) .bytes ≡ bs ++ (finished printOn x) .bytes
+    go true e = rw (e, append-assoc)
+    go false e = rw e
+
+silent-after : (s : LineState) (d : Desk) (bs : Bytes) → reading s (reply bs d) ≡ after bs (silent s d)
+silent-after s d bs = ap (λ (cs : Bytes). reading s (reply cs d)) (sym (append-nil bs))
+
+-- ---- a piece read line by line
+
+-- two readings with the same line and desk, whatever was printed
+pub record Same (x y : Reading Reply) : Type 0 where
+  pub line-same : x .line ≡ y .line
+  pub desk-same : x .state .desk ≡ y .state .desk
+
+pub same-start : (x : Reading Reply) → Same x x
+same-start x = record { line-same = refl; desk-same = refl }
+
+-- what is left of the piece, after one line more of it
+pub same-line : (s : LineState) (d : Desk) (piece : Bytes) (i : ℕ) (r : Said) {t l : Words} {out : Bytes} {y : Reading Reply}
+    → Told (silent s d) (drop i piece) r t l out → Same (readBytes printOn (silent s d) (drop i piece)) y
+    → Same (readBytes printOn (silent (r .line) (deskOf t l)) (drop (i + r .used) piece)) y
+same-line s d piece i r {t} {l} {out} h e =
+    let rest = drop i piece in
+    let bs = take (r .printed) out in
+    let on = readBytes printOn (silent (r .line) (deskOf t l)) (drop (i + r .used) piece) in
+    let split : readBytes printOn (silent s d) rest ≡ after bs on =
+    ap (readBytes printOn (silent s d)) (sym (take-append-drop (r .used) rest))
+    ∙ bytes-append printOn (silent s d) (take (r .used) rest) (drop (r .used) rest)
+    ∙ ap (λ (x : Reading Reply). readBytes printOn x (drop (r .used) rest)) (h .read ∙ silent-after (r .line) (deskOf t l) bs)
+    ∙ bytes-after bs (silent (r .line) (deskOf t l)) (drop (r .used) rest)
+    ∙ ap (λ (xs : Bytes). after bs (readBytes printOn (silent (r .line) (deskOf t l)) xs)) (drop-drop (r .used) i piece) in
+    record {
+      line-same = sym (ap (λ (x : Reading Reply). x .line) split) ∙ e .line-same;
+      desk-same = sym (ap (λ (x : Reading Reply). x .state .desk) split) ∙ e .desk-same;
+    }
+
+-- at its end
+pub same-end : (x : Reading Reply) (piece : Bytes) (i : ℕ) (s : LineState) {t l : Words} → length piece ≤ i
+    → Same (readBytes printOn (silent s (deskOf t l)) (drop i piece)) (readBytes printOn x piece) → After x piece s t l
+unfolding readBytes
+same-end x piece i s {t} {l} h e =
+    let f : Same (silent s (deskOf t l)) (readBytes printOn x piece) = rw (drop-of-length-le piece h) at e in
+    record { line-is = sym (f .line-same); desk-is = sym (f .desk-same) }
+
 -- ---- the whole input
 
-pub speak-print : (q : Request) (x : Reply) → speakOn q x ≡ printOn q x
-unfolding speakOn printOn
-speak-print q x = rw request-spoken
+told-after : (s : LineState) (d : Desk) (ps : List Bytes) (bs : Bytes)
+    → (finished printOn (readPieces printOn (reading s (reply bs d)) ps)) .bytes ≡ bs ++ told s d ps
+unfolding readPieces told
+told-after s d [] bs = ap (λ (x : Reading Reply). (finished printOn x) .bytes) (silent-after s d bs) ∙ finish-after bs (silent s d)
+told-after s d (p ∷ ps) bs =
+    let y = readBytes printOn (silent s d) p in
+    let all : Reading Reply → Bytes = λ (x : Reading Reply). (finished printOn (readPieces printOn x ps)) .bytes in
+    ap (λ (x : Reading Reply). all (readBytes printOn x p)) (silent-after s d bs)
+    ∙ ap all (bytes-after bs (silent s d) p)
+    ∙ told-after (y .line) (y .state .desk) ps (bs ++ y .state .bytes)
+    ∙ append-assoc bs (y .state .bytes) (told (y .line) (y .state .desk) ps)
 
-speak-is : speakOn ≡ printOn
-speak-is = fun-ext (λ q. fun-ext (λ x. speak-print q x))
-
--- The requests of an input in pieces of any size, each carried out and its answer spoken, print the printer's bytes.
-pub printer-folded : (ps : List Bytes) → (finished speakOn (readPieces speakOn opening ps)) .bytes ≡ printer (joined ps)
-printer-folded ps = rw speak-is (printer-read ps)
+-- Each piece's bytes printed by themselves, one after the other, and those of the end, are the printer's.
+pub printer-told : (ps : List Bytes) → told begin firstDesk ps ≡ printer (joined ps)
+printer-told ps = sym (told-after begin firstDesk ps []) ∙ printer-read ps

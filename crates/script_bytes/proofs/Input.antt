@@ -2,9 +2,10 @@
 use mathlib.Core.Path.{_≡_, refl, sym, ap, _∙_}
 use mathlib.Core.Bool.{Bool, true, false, cond, _&&_, _||_}
 use mathlib.Core.List.{List, [], _∷_, _++_, append-nil, append-assoc}
-use Prim.Native.Nat.{ℕ, suc, _+_, _*_, _<_}
+use Prim.Native.Nat.{ℕ, suc, _+_, _*_, _≤_, _<_}
+use native.Mathlib.Omega.{arith}
 use lib.Dec.{eqb, ltb, leb}
-use lib.ListN.{length, getD, drop}
+use lib.ListN.{length, getD, take, drop}
 use lib.Seq.{drop-cons}
 use borrow.Author.Tests.{eqb-true}
 use Rattle.model.specs.declared.Parsed.{Parsed}
@@ -13,9 +14,10 @@ use Rattle.model.specs.Table.{MARK}
 use Rattle.model.specs.Codes.{isDigit, value, parse}
 use Rattle.model.specs.Writes.{insertion, deletion}
 use Rattle.model.specs.Printer.{Bytes, atFirst, lines, fields, Form, plus, minus, other, formOf, Desk, Reply, reply, withKey, doForm, doLine, doLines, firstDesk, printer}
-use Rattle.script_bytes.specs.Line.{begin, nextPlace, withCharacter, withDigit, entered, step, after, insertionOf, deletionOf, request, requestOf, begun}
-use Rattle.script_bytes.specs.Input.{Reading, reading, readByte, readBytes, readPieces, joined, finished, carried, doRequest, printOn, opening}
+use Rattle.script_bytes.specs.Line.{begin, nextPlace, withCharacter, withDigit, entered, step, after, further, lineIn, insertionOf, deletionOf, request, requestOf, begun}
+use Rattle.script_bytes.specs.Input.{Reading, reading, readByte, readBytes, readPieces, joined, lineDone, finished, carried, doRequest, printOn, opening}
 use Rattle.script_bytes.specs.declared.LineState.{LineState}
+use Rattle.script_bytes.specs.declared.LineRead.{LineRead}
 use Rattle.script_bytes.specs.declared.Request.{Request}
 use Rattle.script_bytes.specs.declared.Place.{Place}
 use Rattle.script_bytes.specs.declared.Place.the-variants.{Start, Sign, CodeStart, Code, RecordingStart, Recording, Other}
@@ -144,10 +146,33 @@ module _ {A : Type 0} (act : Request → A → A) where
   unfolding readBytes
   bytes-at x input i h = rw (drop-cons input i 0 h)
 
+  -- The first line of a piece, or all of it where it has no line feed.
+  pub line-done : (s : LineState) (a : A) (bs : Bytes) → readBytes act (reading s a) (take ((lineIn s bs) .used) bs) ≡ lineDone act (lineIn s bs) a
+  unfolding readBytes lineIn lineDone
+  line-done s a [] = refl
+  line-done s a (b ∷ bs) = go (eqb b 10) refl (line-done (step s b) a bs)
+    where
+      go : (t : Bool) → eqb b 10 ≡ t → readBytes act (reading (step s b) a) (take ((lineIn (step s b) bs) .used) bs) ≡ lineDone act (lineIn (step s b) bs) a
+          → readBytes act (reading s a) (take ((lineIn s (b ∷ bs)) .used) (b ∷ bs)) ≡ lineDone act (lineIn s (b ∷ bs)) a
+      go true e ih = rw (lineIn, e, readBytes, eqb-true b 10 e, byte-feed)
+      go false e ih = rw (lineIn, e, readBytes, byte-other act s a b e) ih
+
   pub pieces-read : (x : Reading A) (ps : List Bytes) → readPieces act x ps ≡ readBytes act x (joined ps)
   unfolding readPieces readBytes joined
   pieces-read x [] = refl
   pieces-read x (p ∷ ps) = pieces-read (readBytes act x p) ps ∙ sym (bytes-append x p (joined ps))
+
+-- it uses no more than the piece has, and at least one byte of a piece that has any
+pub line-used : (s : LineState) (bs : Bytes) → ((lineIn s bs) .used ≤ length bs) × (0 < length bs → 0 < (lineIn s bs) .used)
+unfolding lineIn
+line-used s [] = (omega arith, λ h. h)
+line-used s (b ∷ bs) = go (eqb b 10) (lineIn (step s b) bs) (line-used (step s b) bs .0)
+  where
+    go : (t : Bool) (x : LineRead) → x .used ≤ length bs
+        → ((cond t (record { line = s; used = 1; ended = true }) (further x)) .used ≤ length (b ∷ bs))
+        × (0 < length (b ∷ bs) → 0 < (cond t (record { line = s; used = 1; ended = true }) (further x)) .used)
+    go true x h = (omega arith, λ p. omega arith)
+    go false x h = (omega arith, λ p. omega arith)
 
 -- ---- the printer
 

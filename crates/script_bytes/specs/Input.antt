@@ -6,6 +6,7 @@ use lib.Dec.{eqb}
 use Rattle.model.specs.Writes.{insertion, deletion}
 use Rattle.model.specs.Printer.{Bytes, fields, formOf, refusedLine, Desk, Reply, reply, doCall, firstDesk}
 use Rattle.script_bytes.specs.declared.LineState.{LineState}
+use Rattle.script_bytes.specs.declared.LineRead.{LineRead}
 use Rattle.script_bytes.specs.declared.Request.{Request}
 use Rattle.script_bytes.specs.declared.Request.the-variants.{Insertion, Deletion, Refused}
 use Rattle.script_bytes.specs.Line.{begin, step, request, requestOf, begun}
@@ -34,6 +35,10 @@ readPieces act x (p ∷ ps) = readPieces act (readBytes act x p) ps
 unfoldable pub joined : List Bytes → Bytes
 joined [] = []
 joined (p ∷ ps) = p ++ joined ps
+
+-- what a line read leaves: carried out where it has ended, and a new one begun
+unfoldable pub lineDone : {A : Type 0} → (Request → A → A) → LineRead → A → Reading A
+lineDone act x a = cond (x .ended) (reading begin (act (request (x .line)) a)) (reading (x .line) a)
 
 -- at the end of the input a line without a line feed counts unless it is empty
 unfoldable pub finished : {A : Type 0} → (Request → A → A) → Reading A → A

@@ -1,7 +1,7 @@
 -- A line read byte by byte: the state after its bytes, and what that state asks.
 use mathlib.Core.Bool.{Bool, true, false, cond, _&&_, _||_}
 use mathlib.Core.List.{[], _∷_}
-use Prim.Native.Nat.{ℕ, _+_, _*_}
+use Prim.Native.Nat.{ℕ, suc, _+_, _*_}
 use lib.Dec.{eqb, ltb, leb}
 use lib.ListN.{set, replicate}
 use Rattle.model.specs.declared.Parsed.{Parsed}
@@ -12,6 +12,7 @@ use Rattle.model.specs.Printer.{Bytes, Form, plus, minus, other}
 use Rattle.script_bytes.specs.declared.Place.{Place}
 use Rattle.script_bytes.specs.declared.Place.the-variants.{Start, Sign, CodeStart, Code, RecordingStart, Recording, Other}
 use Rattle.script_bytes.specs.declared.LineState.{LineState}
+use Rattle.script_bytes.specs.declared.LineRead.{LineRead}
 use Rattle.script_bytes.specs.declared.Request.{Request}
 use Rattle.script_bytes.specs.declared.Request.the-variants.{Insertion, Deletion, Refused}
 
@@ -70,6 +71,17 @@ step s b = entered (nextPlace (s .place) (s .plus) b) s b
 unfoldable pub after : LineState → Bytes → LineState
 after s [] = s
 after s (b ∷ bs) = after (step s b) bs
+
+-- ---- the line that a piece of the input goes on with
+
+-- the same read with one byte more before it
+abbrev pub further : LineRead → LineRead
+further x = record { line = x .line; used = suc (x .used); ended = x .ended }
+
+-- up to the piece's first line feed, which is used too; all of it where it has none
+unfoldable pub lineIn : LineState → Bytes → LineRead
+lineIn s [] = record { line = s; used = 0; ended = false }
+lineIn s (b ∷ bs) = cond (eqb b 10) (record { line = s; used = 1; ended = true }) (further (lineIn (step s b) bs))
 
 -- ---- what a line asks
 

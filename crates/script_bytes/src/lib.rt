@@ -2,18 +2,19 @@
 ghost use mathlib.Core.Path.{_≡_};
 ghost use mathlib.Core.Bool.{cond};
 ghost use mathlib.Core.List.{[], _∷_};
-ghost use Prim.Native.Nat.{_+_, _≤_, _<_};
+ghost use Prim.Native.Nat.{_+_, _*_, _/_, _≤_, _<_, min};
 ghost use lib.Dec.{eqb};
-ghost use lib.ListN.{length};
+ghost use lib.ListN.{length, take};
 ghost use Rattle.model.specs.Text.{ascii};
 ghost use Rattle.model.specs.Codes.{isDigit};
-ghost use Rattle.model.specs.Orders.{orderOf};
+ghost use Rattle.model.specs.Orders.{orderOf, decode};
 ghost use Rattle.model.specs.Printer.{decimal, numbersText, printed, orderText, refusedLine};
-ghost use Rattle.script_bytes.specs.Line.{begin, nextPlace, moved, withSign, withCharacter, withDigit, step, codeOf, insertionOf, deletionOf, request, begun};
-ghost use Rattle.script_bytes.specs.Text.{Put};
+ghost use Rattle.script_bytes.specs.Line.{begin, nextPlace, moved, withSign, withCharacter, withDigit, step};
+ghost use Rattle.script_bytes.specs.Line.{lineIn, codeOf, insertionOf, deletionOf, request, begun};
+ghost use Rattle.script_bytes.specs.Text.{Put, Begins, orderLines, spoken};
+use model::MARK;
 use model::Parsed;
-
-const MARK: u64 = 18446744073709551615;
+use model::Written;
 
 // Where in a line's form its bytes so far end.
 pub enum Place {
@@ -34,6 +35,13 @@ pub struct LineState {
     pub code: [u8; 12],
     pub count: usize,
     pub recording: u64,
+}
+
+// A piece of the input read up to its first line feed: the line so far, how many bytes were used, and whether the line has ended.
+pub struct LineRead {
+    pub line: LineState,
+    pub used: usize,
+    pub ended: bool,
 }
 
 // What a line asks for; a line of another form is refused with 0, a code that is none with 1.
@@ -173,7 +181,7 @@ fn with_digit(s: LineState, b: u8) -> LineState
 }
 
 // The line with one byte more, which is no line feed.
-pub fn take(s: LineState, b: u8) -> LineState
+fn take(s: LineState, b: u8) -> LineState
     ensures { λ r. ⌜ r ≡ step s b ⌝ }
 {
     let before = s.place;
@@ -183,6 +191,31 @@ pub fn take(s: LineState, b: u8) -> LineState
         Place::Code => with_character(s, b),
         Place::Recording => with_digit(s, b),
         _ => moved(s, place),
+    }
+}
+
+// The line with the bytes of a piece up to its first line feed, which is used too; with all of them where it has none.
+pub fn read_line(line: LineState, piece: &[u8]) -> LineRead
+    ensures { λ r. ⌜ r ≡ lineIn line (now (piece .entry)) ⌝ }
+{
+    let mut s = line;
+    let mut i = 0;
+    while i < piece.len() {
+        let b = piece[i];
+        if b == b'\n' {
+            return LineRead {
+                line: s,
+                used: i + 1,
+                ended: true,
+            };
+        }
+        s = take(s, b);
+        i += 1;
+    }
+    LineRead {
+        line: s,
+        used: i,
+        ended: false,
     }
 }
 
@@ -352,4 +385,49 @@ pub fn put_refused(out: &mut [u8], at: usize, number: u8) -> usize
     ensures { λ r. ⌜ Put (now (out .entry)) at (refusedLine number) (now (out .exit)) r ⌝ }
 {
     put_one(out, at, b"refused", number as u64)
+}
+
+// How many orders are printed: as many as the answer counts, and no more than the list has.
+fn spoken_count(words: usize, stores: u64, flushes: u64) -> usize
+    ensures { λ r. ⌜ r ≡ min (stores + flushes) (words / 2) ⌝ }
+{
+    let most = words / 2;
+    if (most as u64) < stores {
+        return most;
+    }
+    if most as u64 - stores < flushes {
+        return most;
+    }
+    (stores + flushes) as usize
+}
+
+// The lines of the first orders of a list, from the buffer's start on.
+fn put_orders(out: &mut [u8], list: &[u64], count: usize) -> usize
+    requires { ⌜ 2 * count ≤ length (now list) ⌝ }
+    requires { ⌜ 48 * count ≤ length (now out) ⌝ }
+    ensures { λ r. ⌜ Put (now (out .entry)) 0 (orderLines (take count (decode (now (list .entry))))) (now (out .exit)) r ⌝ }
+{
+    let mut at = 0;
+    let mut i = 0;
+    while i < count {
+        at = put_order(out, at, list[2 * i], list[2 * i + 1]);
+        i += 1;
+    }
+    at
+}
+
+// All that a request is answered with, from its answer and the list after it, at the buffer's start; how many bytes they are.
+// A list's word has 24 bytes, half an order's 48, and the last line has 48.
+pub fn put_answer(out: &mut [u8], list: &[u64], answer: Written) -> usize
+    requires { ⌜ 24 * length (now list) + 48 ≤ length (now out) ⌝ }
+    ensures { λ r. ⌜ Begins (now (out .exit)) r (spoken answer (now (list .entry))) ⌝ }
+{
+    match answer {
+        Written::Done { stores, flushes } => {
+            let count = spoken_count(list.len(), stores, flushes);
+            let next = put_orders(out, list, count);
+            put_done(out, next, stores, flushes)
+        }
+        Written::Refused(n) => put_refused(out, 0, n),
+    }
 }

@@ -2,6 +2,7 @@
 // and the lines that the printer prints.
 use libc::STDIN_FILENO;
 use libc::STDOUT_FILENO;
+use script_bytes::LineRead;
 use script_bytes::LineState;
 use script_bytes::Request;
 
@@ -32,21 +33,23 @@ fn show(request: Request) {
     io::write_all(STDOUT_FILENO, b"\n");
 }
 
-// The line after one byte more of the input; at a line feed it is shown, and a new one starts.
-fn read_byte(s: LineState, b: u8) -> LineState {
-    if b == b'\n' {
-        show(script_bytes::judge(s));
+// A line that has ended is shown, and a new one starts.
+fn shown(read: LineRead) -> LineState {
+    let line = read.line;
+    if read.ended {
+        show(script_bytes::judge(line));
         return script_bytes::start();
     }
-    script_bytes::take(s, b)
+    line
 }
 
 fn read_piece(line: LineState, piece: &[u8]) -> LineState {
     let mut s = line;
     let mut i = 0;
     while i < piece.len() {
-        s = read_byte(s, piece[i]);
-        i += 1;
+        let read = script_bytes::read_line(s, &piece[i..]);
+        s = shown(read);
+        i += read.used;
     }
     s
 }

@@ -11,14 +11,15 @@ use Rattle.model.specs.declared.Answer.{Answer}
 use Rattle.model.specs.declared.Answer.the-variants.{Refused}
 use Rattle.model.specs.declared.Node.{Node}
 use Rattle.model.specs.Table.{Words, inRange, headerOk, headerNumber, hasNode, node, root}
-use Rattle.model.specs.Slots.{View, view, height, used}
+use Rattle.model.specs.Slots.{View, nodeView, view, height, used}
 use Rattle.model.specs.Search.{below, within, moved, route, down, onLevel, passes, locate, lookup, answerIn, searchView, search}
 use Rattle.table_laws.proofs.Header.{header-iff, header-number-iff, header-number-refused}
 use Rattle.table_laws.proofs.Nodes.{has-node-range}
 use Rattle.node.specs.Word.{wordOf}
 use Rattle.node.proofs.WordLaws.{word-level, word-sibling, word-fence}
 use Rattle.list_laws.proofs.Tools.{decode, refuted}
-use Rattle.search.specs.Scan.{shownFrom, standOn, arrive}
+use Rattle.slots.specs.Scan.{shownFrom}
+use Rattle.search.specs.Descent.{standOn, arrive}
 
 -- ---- onLevel, from the words
 
@@ -40,7 +41,7 @@ stay : (v : View) (n k : ℕ) → within v n k ≡ true → moved v n k ≡ n
 unfolding moved
 stay v n k e = rw (e, moved)
 
-move : (v : View) (n k : ℕ) → within v n k ≡ false → moved v n k ≡ v .sibling n
+move : (v : View) (n k : ℕ) → within v n k ≡ false → moved v n k ≡ v .node n .sibling
 unfolding moved
 move v n k e = rw (e, moved)
 
@@ -50,24 +51,24 @@ module _ (v : View) (l n k : ℕ) where
   stand-off e = sym (stand-pass v l n k false (rw e))
 
   module _ (on : onLevel v l n ≡ true) where
-    pub stand-last : v .sibling n ≡ 0 → n ≡ standOn v l n k
+    pub stand-last : v .node n .sibling ≡ 0 → n ≡ standOn v l n k
     unfolding passes below
     stand-last e =
-        let t : eqb (v .sibling n) 0 ≡ true = eq-eqb _ _ e in
+        let t : eqb (v .node n .sibling) 0 ≡ true = eq-eqb _ _ e in
         sym (stand-pass v l n k true (rw (on, t)) ∙ stay v n k (rw t))
 
-    module _ (z : v .sibling n ≡ 0 → ⊥) where
-      pub stand-lost : onLevel v l (v .sibling n) ≡ false → 0 ≡ standOn v l n k
+    module _ (z : v .node n .sibling ≡ 0 → ⊥) where
+      pub stand-lost : onLevel v l (v .node n .sibling) ≡ false → 0 ≡ standOn v l n k
       unfolding passes
-      stand-lost e = sym (stand-pass v l n k false (rw (on, ne-eqb (v .sibling n) 0 z, e)))
+      stand-lost e = sym (stand-pass v l n k false (rw (on, ne-eqb (v .node n .sibling) 0 z, e)))
 
-      pub stand-here : onLevel v l (v .sibling n) ≡ true → k < v .fence (v .sibling n) → n ≡ standOn v l n k
+      pub stand-here : onLevel v l (v .node n .sibling) ≡ true → k < v .node (v .node n .sibling) .fence → n ≡ standOn v l n k
       unfolding passes below
-      stand-here e h = sym (stand-pass v l n k true (rw (on, ne-eqb (v .sibling n) 0 z, e)) ∙ stay v n k (rw (ne-eqb (v .sibling n) 0 z, lt-ltb k (v .fence (v .sibling n)) h)))
+      stand-here e h = sym (stand-pass v l n k true (rw (on, ne-eqb (v .node n .sibling) 0 z, e)) ∙ stay v n k (rw (ne-eqb (v .node n .sibling) 0 z, lt-ltb k (v .node (v .node n .sibling) .fence) h)))
 
-      pub stand-right : onLevel v l (v .sibling n) ≡ true → v .fence (v .sibling n) ≤ k → v .sibling n ≡ standOn v l n k
+      pub stand-right : onLevel v l (v .node n .sibling) ≡ true → v .node (v .node n .sibling) .fence ≤ k → v .node n .sibling ≡ standOn v l n k
       unfolding passes below
-      stand-right e h = sym (stand-pass v l n k true (rw (on, ne-eqb (v .sibling n) 0 z, e)) ∙ move v n k (rw (ne-eqb (v .sibling n) 0 z, le-ltb k (v .fence (v .sibling n)) h)))
+      stand-right e h = sym (stand-pass v l n k true (rw (on, ne-eqb (v .node n .sibling) 0 z, e)) ∙ move v n k (rw (ne-eqb (v .node n .sibling) 0 z, le-ltb k (v .node (v .node n .sibling) .fence) h)))
 
 -- ---- the answer from where it stands
 
@@ -82,8 +83,8 @@ stand-nowhere v l n k e = refuted (passes v l n) (λ p. go p (within v n k) refl
         let x : n ≡ 0 = sym (stand-pass v l n k true p ∙ stay v n k w) ∙ e in
         omega (arith, q .0 .0 .0)
     go p false w =
-        let x : v .sibling n ≡ 0 = sym (stand-pass v l n k true p ∙ move v n k w) ∙ e in
-        false≢true (sym w ∙ rw (eq-eqb (v .sibling n) 0 x))
+        let x : v .node n .sibling ≡ 0 = sym (stand-pass v l n k true p ∙ move v n k w) ∙ e in
+        false≢true (sym w ∙ rw (eq-eqb (v .node n .sibling) 0 x))
 
 stand-somewhere : (v : View) (l n k m : ℕ) → m ≡ standOn v l n k → (m ≡ 0 → ⊥) → (passes v l n ≡ true) × (moved v n k ≡ m)
 stand-somewhere v l n k m e z = go (passes v l n) refl
@@ -186,7 +187,7 @@ module _ (t : Words) (m k : ℕ) (x : Node) (q : x ≡ node t m) where
   unfolding used
   down-read r h = h ∙ ap (λ (y : Node). route k (y .left) (shownFrom (y .left) (y .slots) 0)) q
 
-  pub answer-read : (r : Answer) → r ≡ lookup k (shownFrom (x .left) (x .slots) 0) → r ≡ lookup k (view t .shown m)
+  pub answer-read : (r : Answer) → r ≡ lookup k (shownFrom (x .left) (x .slots) 0) → r ≡ lookup k (nodeView t m .shown)
   unfolding used
   answer-read r h = h ∙ ap (λ (y : Node). lookup k (shownFrom (y .left) (y .slots) 0)) q
 
@@ -209,23 +210,35 @@ pub too-high : (t : Words) (k w : ℕ) → headerOk t ≡ true → w ≡ wordOf 
 unfolding search searchView
 too-high t k w h e r = let b : leb (height (view t)) 15 ≡ false = rw (sym (word-level t (root t)) ∙ sym e) (lt-leb w 15 r) in rw (h, search) (rw (b, searchView))
 
-module _ (t : Words) (k w : ℕ) (h : headerOk t ≡ true) (e : w ≡ wordOf t (root t) 2) (o : w ≤ 15) where
-  from-root : answerIn (view t) k (locate (view t) w (root t) k) ≡ search t k
+-- what an answer from a leaf needs: the search came from the root down to n on level 0, and stands on m
+pub record Stands (t : Words) (k n m : ℕ) : Type 0 where
+  pub top : ℕ
+  pub header : headerOk t ≡ true
+  pub level : top ≡ wordOf t (root t) 2
+  pub low : top ≤ 15
+  pub came : n ≡ arrive (view t) top (root t) k
+  pub stands : m ≡ standOn (view t) 0 n k
+
+module _ (t : Words) (k n m : ℕ) (s : Stands t k n m) where
+  from-root : answerIn (view t) k (locate (view t) (s .top) (root t) k) ≡ search t k
   unfolding search searchView
   from-root =
-      let q : height (view t) ≡ w = sym (e ∙ word-level t (root t)) in
-      let b : leb (height (view t)) 15 ≡ true = rw q (le-leb w 15 o) in
-      sym (rw (h, search) (rw (b, searchView) (rw q)))
+      let q : height (view t) ≡ s .top = sym (s .level ∙ word-level t (root t)) in
+      let b : leb (height (view t)) 15 ≡ true = rw q (le-leb (s .top) 15 (s .low)) in
+      sym (rw (s .header, search) (rw (b, searchView) (rw q)))
 
-  module _ (n m : ℕ) (g : n ≡ arrive (view t) w (root t) k) (q : m ≡ standOn (view t) 0 n k) where
-    leaf-search : answerIn (view t) k (locate (view t) 0 n k) ≡ search t k
-    leaf-search = ap (λ (x : ℕ). answerIn (view t) k (locate (view t) 0 x k)) g ∙ ap (answerIn (view t) k) (sym (arrive-locate (view t) w (root t) k)) ∙ from-root
+  leaf-search : answerIn (view t) k (locate (view t) 0 n k) ≡ search t k
+  leaf-search =
+      ap (λ (x : ℕ). answerIn (view t) k (locate (view t) 0 x k)) (s .came)
+      ∙ ap (answerIn (view t) k) (sym (arrive-locate (view t) (s .top) (root t) k)) ∙ from-root
 
-    pub lost : m ≡ 0 → Refused 3 ≡ search t k
-    lost z = ap (answerIn (view t) k) (sym (leaf-failed (view t) n k (stand-nowhere (view t) 0 n k (sym q ∙ z)))) ∙ leaf-search
+  pub lost : m ≡ 0 → Refused 3 ≡ search t k
+  lost z = ap (answerIn (view t) k) (sym (leaf-failed (view t) n k (stand-nowhere (view t) 0 n k (sym (s .stands) ∙ z)))) ∙ leaf-search
 
-    pub answered : (r : Answer) → (m ≡ 0 → ⊥) → r ≡ lookup k (view t .shown m) → r ≡ search t k
-    answered r z a = let h = stand-somewhere (view t) 0 n k m q z in a ∙ ap (λ (x : ℕ). lookup k (view t .shown x)) (sym (h .1)) ∙ ap (answerIn (view t) k) (sym (leaf-passed (view t) n k (h .0))) ∙ leaf-search
+  pub answered : (r : Answer) → (m ≡ 0 → ⊥) → r ≡ lookup k (nodeView t m .shown) → r ≡ search t k
+  answered r z a =
+      let h = stand-somewhere (view t) 0 n k m (s .stands) z in
+      a ∙ ap (λ (x : ℕ). lookup k (nodeView t x .shown)) (sym (h .1)) ∙ ap (answerIn (view t) k) (sym (leaf-passed (view t) n k (h .0))) ∙ leaf-search
 
-    pub answered-here : (r : Answer) → (m ≡ 0 → ⊥) → m ≡ n → r ≡ lookup k (view t .shown n) → r ≡ search t k
-    answered-here r z s a = answered r z (a ∙ ap (λ (x : ℕ). lookup k (view t .shown x)) (sym s))
+  pub answered-here : (r : Answer) → (m ≡ 0 → ⊥) → m ≡ n → r ≡ lookup k (nodeView t n .shown) → r ≡ search t k
+  answered-here r z e a = answered r z (a ∙ ap (λ (x : ℕ). lookup k (nodeView t x .shown)) (sym e))

@@ -4,40 +4,8 @@ ghost use mathlib.Core.Path.{_≡_};
 ghost use mathlib.Core.Bool.{true};
 ghost use Rattle.model.specs.Table.{headerOk};
 ghost use Rattle.model.specs.Slots.{view};
-ghost use Rattle.model.specs.Search.{onLevel, route, down, lookup, search};
-ghost use Rattle.search.specs.Scan.{shownFrom, wayAfter, standOn, arrive};
-
-// The way down after a slot in use: its pointer where it is shown and its key is at most the key looked for.
-fn way_after(way: u64, before: u64, k: u64, p: u64, key: u64) -> u64
-    ensures { λ r. ⌜ r ≡ wayAfter way before k p key ⌝ }
-{
-    if p == before {
-        return way;
-    }
-    if k <= key {
-        return p;
-    }
-    way
-}
-
-// The child that an inner node's slots lead to: by the last shown slot whose key is at most the key, else by left.
-fn route(slots: [u64; 24], left: u64, key: u64) -> u64
-    ensures { λ r. ⌜ r ≡ route key left (shownFrom left slots 0) ⌝ }
-{
-    let mut way = left;
-    let mut before = left;
-    let mut i = 0;
-    while i < 12 {
-        let p = slots[2 * i + 1];
-        if p == 0 {
-            return way;
-        }
-        way = way_after(way, before, slots[2 * i], p, key);
-        before = p;
-        i += 1;
-    }
-    way
-}
+ghost use Rattle.model.specs.Search.{onLevel, down, lookup, search};
+ghost use Rattle.search.specs.Descent.{standOn, arrive};
 
 // The child that a search goes down to from node m.
 pub fn down(table: &[u64], m: u64, key: u64) -> u64
@@ -46,39 +14,17 @@ pub fn down(table: &[u64], m: u64, key: u64) -> u64
     let x = node::read(table, m);
     let slots = x.slots;
     let left = x.left;
-    route(slots, left, key)
-}
-
-// What a leaf's slots answer: by the first shown slot whose key is the key.
-fn in_leaf(slots: [u64; 24], left: u64, key: u64) -> Answer
-    ensures { λ r. ⌜ r ≡ lookup key (shownFrom left slots 0) ⌝ }
-{
-    let mut before = left;
-    let mut i = 0;
-    while i < 12 {
-        let p = slots[2 * i + 1];
-        if p == 0 {
-            return Answer::Absent;
-        }
-        if p != before {
-            if slots[2 * i] == key {
-                return Answer::Found(p);
-            }
-        }
-        before = p;
-        i += 1;
-    }
-    Answer::Absent
+    slots::route(slots, left, key)
 }
 
 // What node m answers, as a leaf.
 fn answer_in(table: &[u64], m: u64, key: u64) -> Answer
-    ensures { λ r. ⌜ r ≡ lookup key (view (now (table .entry)) .shown m) ⌝ }
+    ensures { λ r. ⌜ r ≡ lookup key (view (now (table .entry)) .node m .shown) ⌝ }
 {
     let x = node::read(table, m);
     let slots = x.slots;
     let left = x.left;
-    in_leaf(slots, left, key)
+    slots::find(slots, left, key)
 }
 
 // Whether node n is in 1 to N and on this level.

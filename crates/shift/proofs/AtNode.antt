@@ -8,14 +8,15 @@ use lib.Dec.{eqb}
 use lib.ListN.{length}
 use Rattle.model.specs.declared.Node.{Node}
 use Rattle.model.specs.Table.{Words, nodeStart, hasNode, node}
-use Rattle.model.specs.Slots.{Slot, shown, hidden, used, view}
+use Rattle.model.specs.Slots.{Slot, shown, hidden, used, nodeView}
 use Rattle.model.specs.Shifts.{SlotStore, keyTo, pointerTo, inNode, placeOf, hiddenPlace}
 use Rattle.model.specs.Writes.{shiftInAt, shiftOutAt, closeAt, cutOff, attach}
 use Rattle.node.specs.Word.{startOf, wordOf}
 use Rattle.node.proofs.Answers.{start-some}
 use Rattle.node.proofs.WordLaws.{word-sibling, word-fence}
 use Rattle.table_laws.proofs.Nodes.{has-node-iff}
-use Rattle.shift.specs.Stores.{inUseOf, inFrom, slotIn, slotOut, gapClosed}
+use Rattle.slots.specs.Scan.{inUseOf}
+use Rattle.shift.specs.Stores.{inFrom, slotIn, slotOut, gapClosed}
 
 in-node-from : (n : ℕ) (ss : List SlotStore) → map (inNode n) ss ≡ map (inFrom (nodeStart n)) ss
 in-node-from n [] = refl
@@ -45,8 +46,8 @@ module _ (t : Words) (n w : ℕ) (h : hasNode t n ≡ true) (e : w ≡ startOf t
     unfolding closeAt gapClosed used inUseOf
     close-as p g = rw (g, q, starts, in-node-from)
 
-    module _ (z : view t .hidden n ≡ 0) where
-      pub shown-is : view t .shown n ≡ inUseOf (x .slots)
+    module _ (z : nodeView t n .hidden ≡ 0) where
+      pub shown-is : nodeView t n .shown ≡ inUseOf (x .slots)
       unfolding inUseOf used
       shown-is = rw q (shown-all _ _ z)
 

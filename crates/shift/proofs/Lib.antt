@@ -1,5 +1,4 @@
 -- Laws that the functions' proofs cite.
-pub mod InUse
 pub mod Moves
 pub mod Shifting
 pub mod AtNode

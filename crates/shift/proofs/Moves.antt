@@ -10,8 +10,9 @@ use Rattle.model.specs.Table.{Words, at}
 use Rattle.model.specs.Slots.{Slot, slot}
 use Rattle.model.specs.Orders.{Store}
 use Rattle.model.specs.Shifts.{keyTo, pointerTo, moveUp, moveDown}
-use Rattle.shift.specs.Stores.{inUseOf, inFrom, movesUp, movesDown}
-use Rattle.shift.proofs.InUse.{in-use-cons, in-use-at}
+use Rattle.slots.specs.Scan.{inUseOf}
+use Rattle.shift.specs.Stores.{inFrom, movesUp, movesDown}
+use Rattle.slots.proofs.Places.{in-use-cons, in-use-at}
 
 -- ---- up: the last slot moves first
 

@@ -10,12 +10,11 @@ use lib.Seq.{drop-cons, take-suc, take-all, set-at, append-snoc, getD-drop, leng
 use Rattle.cut_laws.proofs.Applying.{take-append}
 use Rattle.table_laws.proofs.Words.{take-replicate}
 use Rattle.model.specs.Table.{Words, at}
-use Rattle.model.specs.Slots.{slot}
+use Rattle.model.specs.Slots.{slotWords}
 use Rattle.model.specs.Orders.{put}
-use Rattle.model.specs.Listing.{pairWords}
 use Rattle.model.specs.Writes.{putAll, nodeWords}
-use Rattle.shift.specs.Stores.{inUseOf}
-use Rattle.shift.proofs.InUse.{in-use-short, in-use-cons}
+use Rattle.slots.specs.Scan.{inUseOf}
+use Rattle.slots.proofs.Places.{in-use-short, in-use-cons}
 
 -- ---- stored one by one
 
@@ -40,8 +39,7 @@ abbrev pub partly : (left sibling level fence : ℕ) → Words → ℕ → Words
 partly left sibling level fence s j = (left ∷ sibling ∷ level ∷ fence ∷ replicate 4 0) ++ (take j s ++ replicate (24 - j) 0)
 
 -- the slots in use from slot m on, as words
-pair-words : (k m : ℕ) (ws : Words) → k ≡ length (inUseOf ws) - m → pairWords (drop m (inUseOf ws)) ≡ take (2 * k) (drop (2 * m) ws)
-unfolding pairWords
+pair-words : (k m : ℕ) (ws : Words) → k ≡ length (inUseOf ws) - m → slotWords (drop m (inUseOf ws)) ≡ take (2 * k) (drop (2 * m) ws)
 pair-words zero m ws e = rw (drop-of-length-le (inUseOf ws) {i = m} (omega arith))
 pair-words (suc k) m ws e =
     let h : m < length (inUseOf ws) = omega arith in
@@ -65,7 +63,7 @@ module _ (left sibling level fence : ℕ) (ws : Words) (from j : ℕ) (us : Word
   unfolding nodeWords
   fill-end h q = e ∙ ap (λ (s : Words). (left ∷ sibling ∷ level ∷ fence ∷ replicate 4 0) ++ s) rest
     where
-      rest : take j (drop (2 * from) ws) ++ replicate (24 - j) 0 ≡ take 24 (pairWords (drop from (inUseOf ws)) ++ replicate 24 0)
+      rest : take j (drop (2 * from) ws) ++ replicate (24 - j) 0 ≡ take 24 (slotWords (drop from (inUseOf ws)) ++ replicate 24 0)
       rest =
           let k : 2 * (length (inUseOf ws) - from) ≡ j = omega arith in
           let l : length (take j (drop (2 * from) ws)) ≡ j = length-take-le j (drop (2 * from) ws) (rw length-drop (omega (arith, in-use-short ws))) in

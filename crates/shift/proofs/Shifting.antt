@@ -9,7 +9,8 @@ use Rattle.model.specs.Table.{Words}
 use Rattle.model.specs.Shifts.{keyTo, pointerTo, lastPointer, shiftIn, shiftOut, close, placeOf}
 use Rattle.orders.specs.Desk.{Desk, stored, storedAll, Room}
 use Rattle.orders.proofs.Rest.{Rest, rest-start, rest-same, rest-one, rest-next, rest-first, rest-after, rest-none, rest-all}
-use Rattle.shift.specs.Stores.{inUseOf, inFrom, movesUp, movesDown, slotIn, slotOut, gapClosed}
+use Rattle.slots.specs.Scan.{inUseOf}
+use Rattle.shift.specs.Stores.{inFrom, movesUp, movesDown, slotIn, slotOut, gapClosed}
 
 -- what the code has found of key k in a record: its place p, and the pointer b before that
 pub record Gauged (n : Node) (k p b : ℕ) : Type 0 where
@@ -18,47 +19,10 @@ pub record Gauged (n : Node) (k p b : ℕ) : Type 0 where
 
 -- ---- shift in: a store, the moves, three stores
 
-module _ (w : ℕ) (n : Node) (k x p m b : ℕ) (c : Gauged n k p b) (em : m ≡ length (inUseOf (n .slots))) (d : Desk) (r : Room (slotIn w n k x) d) where
-  in-steps : slotIn w n k x ≡ inFrom w (pointerTo (m + 1) 0) ∷ (movesUp w (n .slots) p ++ (inFrom w (pointerTo p b) ∷ inFrom w (keyTo p k) ∷ inFrom w (pointerTo p x) ∷ []))
-  unfolding slotIn shiftIn
-  in-steps = rw (c .pointer, em, c .place, add-one, map-append)
-
-  in₀ : Rest (inFrom w (pointerTo (m + 1) 0) ∷ (movesUp w (n .slots) p ++ (inFrom w (pointerTo p b) ∷ inFrom w (keyTo p k) ∷ inFrom w (pointerTo p x) ∷ []))) d (storedAll (slotIn w n k x) d)
-  in₀ = rest-same _ _ _ _ in-steps (rest-start _ d r)
-
-  pub in-first : Room (inFrom w (pointerTo (m + 1) 0) ∷ []) d
-  in-first = rest-one _ _ _ _ in₀
-
-  module _ (d₁ : Desk) (q₁ : d₁ ≡ stored (inFrom w (pointerTo (m + 1) 0)) d) where
-    in₁ : Rest (movesUp w (n .slots) p ++ (inFrom w (pointerTo p b) ∷ inFrom w (keyTo p k) ∷ inFrom w (pointerTo p x) ∷ [])) d₁ (storedAll (slotIn w n k x) d)
-    in₁ = rest-next _ _ _ _ in₀ d₁ q₁
-
-    pub in-moves : Room (movesUp w (n .slots) p) d₁
-    in-moves = rest-first _ _ _ _ in₁
-
-    module _ (d₂ : Desk) (q₂ : d₂ ≡ storedAll (movesUp w (n .slots) p) d₁) where
-      in₂ : Rest (inFrom w (pointerTo p b) ∷ inFrom w (keyTo p k) ∷ inFrom w (pointerTo p x) ∷ []) d₂ (storedAll (slotIn w n k x) d)
-      in₂ = rest-after (movesUp w (n .slots) p) _ _ _ in₁ d₂ q₂
-
-      pub in-hiding : Room (inFrom w (pointerTo p b) ∷ []) d₂
-      in-hiding = rest-one _ _ _ _ in₂
-
-      module _ (d₃ : Desk) (q₃ : d₃ ≡ stored (inFrom w (pointerTo p b)) d₂) where
-        in₃ : Rest (inFrom w (keyTo p k) ∷ inFrom w (pointerTo p x) ∷ []) d₃ (storedAll (slotIn w n k x) d)
-        in₃ = rest-next _ _ _ _ in₂ d₃ q₃
-
-        pub in-key : Room (inFrom w (keyTo p k) ∷ []) d₃
-        in-key = rest-one _ _ _ _ in₃
-
-        module _ (d₄ : Desk) (q₄ : d₄ ≡ stored (inFrom w (keyTo p k)) d₃) where
-          in₄ : Rest (inFrom w (pointerTo p x) ∷ []) d₄ (storedAll (slotIn w n k x) d)
-          in₄ = rest-next _ _ _ _ in₃ d₄ q₄
-
-          pub in-last : Room (inFrom w (pointerTo p x) ∷ []) d₄
-          in-last = in₄ .room
-
-          pub in-done : (d₅ : Desk) → d₅ ≡ stored (inFrom w (pointerTo p x)) d₄ → d₅ ≡ storedAll (slotIn w n k x) d
-          in-done d₅ q₅ = rest-none _ _ (rest-next _ _ _ _ in₄ d₅ q₅)
+pub in-steps : (w : ℕ) (n : Node) (k x p m b : ℕ) → Gauged n k p b → m ≡ length (inUseOf (n .slots))
+    → slotIn w n k x ≡ inFrom w (pointerTo (m + 1) 0) ∷ (movesUp w (n .slots) p ++ (inFrom w (pointerTo p b) ∷ inFrom w (keyTo p k) ∷ inFrom w (pointerTo p x) ∷ []))
+unfolding slotIn shiftIn
+in-steps w n k x p m b c em = rw (c .pointer, em, c .place, add-one, map-append)
 
 -- ---- closing a gap: the moves, a store
 
@@ -68,20 +32,20 @@ module _ (w : ℕ) (ws : Words) (p m : ℕ) (em : m ≡ pred (length (inUseOf ws
   gap-steps = rw (em, map-append)
 
   gap₀ : Rest (movesDown w ws p ++ (inFrom w (pointerTo m 0) ∷ [])) d (storedAll (gapClosed w ws p) d)
-  gap₀ = rest-same _ _ _ _ gap-steps (rest-start _ d r)
+  gap₀ = rest-same gap-steps (rest-start r)
 
   pub gap-moves : Room (movesDown w ws p) d
-  gap-moves = rest-first _ _ _ _ gap₀
+  gap-moves = rest-first _ _ gap₀
 
   module _ (d₁ : Desk) (q₁ : d₁ ≡ storedAll (movesDown w ws p) d) where
     gap₁ : Rest (inFrom w (pointerTo m 0) ∷ []) d₁ (storedAll (gapClosed w ws p) d)
-    gap₁ = rest-after (movesDown w ws p) _ _ _ gap₀ d₁ q₁
+    gap₁ = rest-after (movesDown w ws p) _ gap₀ q₁
 
     pub gap-last : Room (inFrom w (pointerTo m 0) ∷ []) d₁
     gap-last = gap₁ .room
 
     pub gap-done : (d₂ : Desk) → d₂ ≡ stored (inFrom w (pointerTo m 0)) d₁ → d₂ ≡ storedAll (gapClosed w ws p) d
-    gap-done d₂ q₂ = rest-none _ _ (rest-next _ _ _ _ gap₁ d₂ q₂)
+    gap-done d₂ q₂ = rest-none (rest-next gap₁ q₂)
 
 -- ---- shift out: a store, the gap closed
 
@@ -91,17 +55,17 @@ module _ (w : ℕ) (n : Node) (k p b : ℕ) (c : Gauged n k p b) (d : Desk) (r :
   out-steps = rw (c .pointer, c .place)
 
   out₀ : Rest (inFrom w (pointerTo p b) ∷ gapClosed w (n .slots) p) d (storedAll (slotOut w n k) d)
-  out₀ = rest-same _ _ _ _ out-steps (rest-start _ d r)
+  out₀ = rest-same out-steps (rest-start r)
 
   pub out-first : Room (inFrom w (pointerTo p b) ∷ []) d
-  out-first = rest-one _ _ _ _ out₀
+  out-first = rest-one out₀
 
   module _ (d₁ : Desk) (q₁ : d₁ ≡ stored (inFrom w (pointerTo p b)) d) where
     out₁ : Rest (gapClosed w (n .slots) p) d₁ (storedAll (slotOut w n k) d)
-    out₁ = rest-next _ _ _ _ out₀ d₁ q₁
+    out₁ = rest-next out₀ q₁
 
     pub out-rest : Room (gapClosed w (n .slots) p) d₁
     out-rest = out₁ .room
 
     pub out-done : (d₂ : Desk) → d₂ ≡ storedAll (gapClosed w (n .slots) p) d₁ → d₂ ≡ storedAll (slotOut w n k) d
-    out-done d₂ q₂ = rest-all _ _ _ out₁ d₂ q₂
+    out-done d₂ q₂ = rest-all out₁ q₂

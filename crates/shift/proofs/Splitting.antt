@@ -10,17 +10,17 @@ use lib.ListN.{length, drop, set, replicate}
 use borrow.Author.Tests.{eq-eqb, ne-eqb}
 use Rattle.model.specs.declared.Node.{Node}
 use Rattle.model.specs.Table.{MARK, Words, at, root, hasNode, node}
-use Rattle.model.specs.Slots.{Slot, slot, view, height}
+use Rattle.model.specs.Slots.{Slot, slot, nodeView, view, height}
 use Rattle.model.specs.Orders.{put}
 use Rattle.model.specs.Shifts.{pointerTo}
-use Rattle.model.specs.Listing.{pairWords}
-use Rattle.model.specs.Writes.{fresh, putAll, nodeWords, middle, splitWords, split, newRoot}
+use Rattle.model.specs.Writes.{fresh, putAll, nodeWords, middle, splitWords, split, newRootAt, newRoot}
 use Rattle.node.specs.Word.{startOf, wordOf}
 use Rattle.node.proofs.WordLaws.{word-level}
 use Rattle.orders.specs.Desk.{Desk, stored, storedAll, Room}
-use Rattle.orders.proofs.Rest.{Rest, rest-start, rest-same, rest-one, rest-next, rest-first, rest-after, rest-none, rest-all}
-use Rattle.shift.specs.Stores.{inUseOf, inFrom, slotIn, middleOf, upperWords, newRootAt}
-use Rattle.shift.proofs.InUse.{in-use-at}
+use Rattle.orders.proofs.Rest.{Rest, rest-start, rest-same, rest-next, rest-first, rest-after, rest-none}
+use Rattle.slots.specs.Scan.{inUseOf}
+use Rattle.shift.specs.Stores.{inFrom, slotIn, middleOf, upperWords}
+use Rattle.slots.proofs.Places.{in-use-at}
 use Rattle.shift.proofs.AtNode.{starts, shown-is, shift-in-as}
 
 -- ---- the words of B
@@ -44,17 +44,17 @@ pub record Parts (t : Words) (a b p w u v : ℕ) (x y : Node) : Type 0 where
   pub lower : hasNode t a ≡ true
   pub lower-start : w ≡ startOf t a
   pub lower-read : x ≡ node t a
-  pub lower-plain : view t .hidden a ≡ 0
-  pub enough : 6 ≤ length (view t .shown a)
+  pub lower-plain : nodeView t a .hidden ≡ 0
+  pub enough : 6 ≤ length (nodeView t a .shown)
   pub upper : hasNode t b ≡ true
   pub upper-start : u ≡ startOf t b
   pub above : hasNode t p ≡ true
   pub above-start : v ≡ startOf t p
   pub above-read : y ≡ node t p
-  pub above-plain : view t .hidden p ≡ 0
+  pub above-plain : nodeView t p .hidden ≡ 0
 
-module _ (t : Words) (a b p w u v : ℕ) (x y : Node) (c : Parts t a b p w u v x y) where
-  all : view t .shown a ≡ inUseOf (x .slots)
+module _ {t : Words} {a b p w u v : ℕ} {x y : Node} (c : Parts t a b p w u v x y) where
+  all : nodeView t a .shown ≡ inUseOf (x .slots)
   all = shown-is t a w (c .lower) (c .lower-start) x (c .lower-read) (c .lower-plain)
 
   pub six : 6 ≤ length (inUseOf (x .slots))
@@ -64,57 +64,26 @@ module _ (t : Words) (a b p w u v : ℕ) (x y : Node) (c : Parts t a b p w u v x
   unfolding splitWords upperWords
   words-as = rw (c .lower-read) (go (eqb (node t a .level) 0) refl)
     where
-      all-read : view t .shown a ≡ inUseOf (node t a .slots)
+      all-read : nodeView t a .shown ≡ inUseOf (node t a .slots)
       all-read = all ∙ ap (λ (n : Node). inUseOf (n .slots)) (c .lower-read)
 
       go : (b : Bool) → eqb (node t a .level) 0 ≡ b → splitWords t a ≡ upperWords (node t a)
       go true e = rw (e, splitWords) (rw all-read)
       go false e = rw (e, splitWords) (rw all-read)
 
-  module _ (ws : Words) (q : ws ≡ upperWords x) (d : Desk) (r : Room (split t a b p) d) where
-    key-as : middle t a .key ≡ at (x .slots) 10
-    key-as = rw all (ap (λ (s : Slot). s .key) (middle-at x six))
+  key-as : middle t a .key ≡ at (x .slots) 10
+  key-as = rw all (ap (λ (s : Slot). s .key) (middle-at x six))
 
-    split-steps : split t a b p ≡ putAll u ws ++ (put (w + 1) b ∷ inFrom w (pointerTo 5 0) ∷ slotIn v y (at (x .slots) 10) b)
-    unfolding split
-    split-steps =
-        rw (words-as, ← q, key-as, shift-in-as t p v (c .above) (c .above-start) y (c .above-read) (c .above-plain), ← (starts t a w (c .lower) (c .lower-start)), ← (starts t b u (c .upper) (c .upper-start)), add-one)
-
-    split₀ : Rest (putAll u ws ++ (put (w + 1) b ∷ inFrom w (pointerTo 5 0) ∷ slotIn v y (at (x .slots) 10) b)) d (storedAll (split t a b p) d)
-    split₀ = rest-same _ _ _ _ split-steps (rest-start _ d r)
-
-    pub split-words : Room (putAll u ws) d
-    split-words = rest-first _ _ _ _ split₀
-
-    module _ (d₁ : Desk) (q₁ : d₁ ≡ storedAll (putAll u ws) d) where
-      split₁ : Rest (put (w + 1) b ∷ inFrom w (pointerTo 5 0) ∷ slotIn v y (at (x .slots) 10) b) d₁ (storedAll (split t a b p) d)
-      split₁ = rest-after (putAll u ws) _ _ _ split₀ d₁ q₁
-
-      pub split-link : Room (put (w + 1) b ∷ []) d₁
-      split-link = rest-one _ _ _ _ split₁
-
-      module _ (d₂ : Desk) (q₂ : d₂ ≡ stored (put (w + 1) b) d₁) where
-        split₂ : Rest (inFrom w (pointerTo 5 0) ∷ slotIn v y (at (x .slots) 10) b) d₂ (storedAll (split t a b p) d)
-        split₂ = rest-next _ _ _ _ split₁ d₂ q₂
-
-        pub split-cut : Room (inFrom w (pointerTo 5 0) ∷ []) d₂
-        split-cut = rest-one _ _ _ _ split₂
-
-        module _ (d₃ : Desk) (q₃ : d₃ ≡ stored (inFrom w (pointerTo 5 0)) d₂) where
-          split₃ : Rest (slotIn v y (at (x .slots) 10) b) d₃ (storedAll (split t a b p) d)
-          split₃ = rest-next _ _ _ _ split₂ d₃ q₃
-
-          pub split-parent : Room (slotIn v y (at (x .slots) 10) b) d₃
-          split-parent = split₃ .room
-
-          pub split-done : (d₄ : Desk) → d₄ ≡ storedAll (slotIn v y (at (x .slots) 10) b) d₃ → d₄ ≡ storedAll (split t a b p) d
-          split-done d₄ q₄ = rest-all _ _ _ split₃ d₄ q₄
+  pub split-steps : {ws : Words} → ws ≡ upperWords x → split t a b p ≡ putAll u ws ++ (put (w + 1) b ∷ inFrom w (pointerTo 5 0) ∷ slotIn v y (at (x .slots) 10) b)
+  unfolding split
+  split-steps q =
+      rw (words-as, ← q, key-as, shift-in-as t p v (c .above) (c .above-start) y (c .above-read) (c .above-plain), ← (starts t a w (c .lower) (c .lower-start)), ← (starts t b u (c .upper) (c .upper-start)), add-one)
 
 -- ---- new root
 
 -- document 01's new root
 pub new-root-fresh : (t : Words) → newRoot t ≡ newRootAt t (fresh t (root t))
-unfolding newRoot newRootAt
+unfolding newRoot
 new-root-fresh t = refl
 
 module _ (t : Words) (n w l : ℕ) (h : hasNode t n ≡ true) (e : w ≡ startOf t n) (el : l ≡ wordOf t (root t) 2) where
@@ -126,18 +95,18 @@ module _ (t : Words) (n w l : ℕ) (h : hasNode t n ≡ true) (e : w ≡ startOf
     words = set (set (replicate 32 0) 0 (root t)) 2 (l + 1)
 
     root-steps : newRootAt t n ≡ putAll w words ++ (put 1 n ∷ [])
-    unfolding newRootAt nodeWords pairWords
+    unfolding nodeWords
     root-steps = rw (← level-is, ← (starts t n w h e), add-one)
 
     pub root-words : Room (putAll w words) d
-    root-words = rest-first _ _ _ _ (rest-same _ _ _ _ root-steps (rest-start _ d r))
+    root-words = rest-first _ _ (rest-same root-steps (rest-start r))
 
     module _ (d₁ : Desk) (q₁ : d₁ ≡ storedAll (putAll w words) d) where
       root₁ : Rest (put 1 n ∷ []) d₁ (storedAll (newRootAt t n) d)
-      root₁ = rest-after (putAll w words) _ _ _ (rest-same _ _ _ _ root-steps (rest-start _ d r)) d₁ q₁
+      root₁ = rest-after (putAll w words) _ (rest-same root-steps (rest-start r)) q₁
 
       pub root-link : Room (put 1 n ∷ []) d₁
       root-link = root₁ .room
 
       pub root-done : (d₂ : Desk) → d₂ ≡ stored (put 1 n) d₁ → d₂ ≡ storedAll (newRootAt t n) d
-      root-done d₂ q₂ = rest-none _ _ (rest-next _ _ _ _ root₁ d₂ q₂)
+      root-done d₂ q₂ = rest-none (rest-next root₁ q₂)

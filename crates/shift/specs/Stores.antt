@@ -1,19 +1,16 @@
--- The slots in use of a record, and stores to the node that begins at a word.
+-- Stores to the node that begins at a word and was read as a record.
 use mathlib.Core.Bool.{cond}
-use mathlib.Core.List.{List, [], _∷_, _++_, map}
+use mathlib.Core.List.{List, [], map}
 use Prim.Native.Nat.{ℕ, suc, _+_, _*_}
 use lib.Dec.{eqb}
 use lib.ListN.{getD, drop}
 use Rattle.model.specs.declared.Node.{Node}
-use Rattle.model.specs.Table.{MARK, Words, root, nodeStart}
-use Rattle.model.specs.Slots.{Slot, slot, slotsOf, inUse, view, height}
+use Rattle.model.specs.Table.{MARK, Words}
+use Rattle.model.specs.Slots.{Slot, slot}
 use Rattle.model.specs.Orders.{Store, put}
 use Rattle.model.specs.Shifts.{SlotStore, keyTo, pointerTo, moveUp, moveDown, shiftIn, shiftOut, close, placeOf}
-use Rattle.model.specs.Writes.{putAll, nodeWords}
-
--- the slots in use among a node's slot words
-unfoldable pub inUseOf : Words → List Slot
-inUseOf ws = inUse (slotsOf ws)
+use Rattle.model.specs.Writes.{nodeWords}
+use Rattle.slots.specs.Scan.{inUseOf}
 
 -- a store to a slot of the node that begins at word w
 abbrev pub inFrom : ℕ → SlotStore → Store
@@ -53,7 +50,3 @@ upperWords n =
     cond (eqb (n .level) 0)
     (nodeWords MARK (n .sibling) (n .level) (middleOf n .key) (drop 5 (inUseOf (n .slots))))
     (nodeWords (middleOf n .pointer) (n .sibling) (n .level) (middleOf n .key) (drop 6 (inUseOf (n .slots))))
-
--- a new root in node r; document 01's is in the first unreachable node after the old root
-unfoldable pub newRootAt : Words → (r : ℕ) → List Store
-newRootAt t r = putAll (nodeStart r) (nodeWords (root t) 0 (suc (height (view t))) 0 []) ++ (put 1 r ∷ [])

@@ -1,93 +1,19 @@
 // Shifts, cutting off, split and new root on the nodes of the working copy: each store is made and listed.
+use model::MARK;
 use model::Node;
 use orders::Pen;
 ghost use mathlib.Core.Path.{_≡_};
 ghost use mathlib.Core.Bool.{true};
 ghost use mathlib.Core.List.{[], _∷_, _++_};
-ghost use Prim.Native.Nat.{pred, _+_, _≤_, _<_};
-ghost use lib.ListN.{length, take, drop};
+ghost use Prim.Native.Nat.{_+_, _≤_, _<_};
+ghost use lib.ListN.{length, drop};
 ghost use Rattle.model.specs.Table.{MARK, hasNode};
 ghost use Rattle.model.specs.Slots.{view, height};
-ghost use Rattle.model.specs.Shifts.{keyTo, pointerTo, lastPointer, placeOf, hiddenPlace};
-ghost use Rattle.model.specs.Writes.{shiftInAt, shiftOutAt, closeAt, putAll, nodeWords, split, cutOff, attach};
+ghost use Rattle.model.specs.Shifts.{keyTo, pointerTo};
+ghost use Rattle.model.specs.Writes.{shiftInAt, shiftOutAt, closeAt, putAll, nodeWords, split, newRootAt, cutOff, attach};
 ghost use Rattle.orders.specs.Desk.{desk, stored, storedAll, Room};
-ghost use Rattle.shift.specs.Stores.{inUseOf, inFrom, movesUp, movesDown, slotIn, slotOut, gapClosed, upperWords, newRootAt};
-
-const MARK: u64 = 18446744073709551615;
-
-// How many slots are in use.
-fn count(slots: [u64; 24]) -> usize
-    ensures { λ r. ⌜ r ≡ length (inUseOf slots) ⌝ }
-    ensures { λ r. ⌜ r ≤ 12 ⌝ }
-{
-    let mut i = 0;
-    while i < 12 {
-        if slots[2 * i + 1] == 0 {
-            return i;
-        }
-        i += 1;
-    }
-    i
-}
-
-// The place of key k: before the first slot in use whose key is not below it.
-fn place(slots: [u64; 24], k: u64) -> usize
-    ensures { λ r. ⌜ r ≡ placeOf k (inUseOf slots) ⌝ }
-    ensures { λ r. ⌜ r ≤ 12 ⌝ }
-{
-    let mut i = 0;
-    while i < 12 {
-        if slots[2 * i + 1] == 0 {
-            return i;
-        }
-        if k <= slots[2 * i] {
-            return i;
-        }
-        i += 1;
-    }
-    i
-}
-
-// The place of the first hidden slot.
-fn hidden_place(slots: [u64; 24], left: u64) -> usize
-    ensures { λ r. ⌜ r ≡ hiddenPlace left (inUseOf slots) ⌝ }
-    ensures { λ r. ⌜ r ≤ 12 ⌝ }
-{
-    let mut before = left;
-    let mut i = 0;
-    while i < 12 {
-        let p = slots[2 * i + 1];
-        if p == 0 {
-            return i;
-        }
-        if p == before {
-            return i;
-        }
-        before = p;
-        i += 1;
-    }
-    i
-}
-
-// The pointer before place p.
-fn pointer_before(slots: [u64; 24], left: u64, p: usize) -> u64
-    requires { ⌜ p ≤ length (inUseOf slots) ⌝ }
-    ensures { λ r. ⌜ r ≡ lastPointer left (take p (inUseOf slots)) ⌝ }
-{
-    if p == 0 {
-        return left;
-    }
-    slots[2 * (p - 1) + 1]
-}
-
-fn one_less(n: usize) -> usize
-    ensures { λ r. ⌜ r ≡ pred n ⌝ }
-{
-    if n == 0 {
-        return 0;
-    }
-    n - 1
-}
+ghost use Rattle.slots.specs.Scan.{inUseOf};
+ghost use Rattle.shift.specs.Stores.{inFrom, movesUp, movesDown, slotIn, slotOut, gapClosed, upperWords};
 
 // Pointer i := x, in the node that begins at word w.
 fn put_pointer(table: &mut [u64], list: &mut [u64], pen: Pen, w: usize, i: usize, x: u64) -> Pen
@@ -123,7 +49,7 @@ fn move_up(
     ensures { λ r. ⌜ desk (now (table .exit)) (now (list .exit)) r ≡ storedAll (movesUp w slots p) (desk (now (table .entry)) (now (list .entry)) pen) ⌝ }
 {
     let mut at = pen;
-    let mut i = count(slots);
+    let mut i = slots::count(slots);
     while p < i {
         at = put_pointer(table, list, at, w, i, slots[2 * (i - 1) + 1]);
         at = put_key(table, list, at, w, i, slots[2 * (i - 1)]);
@@ -146,7 +72,7 @@ fn move_down(
     requires { ⌜ Room (movesDown w slots p) (desk (now table) (now list) pen) ⌝ }
     ensures { λ r. ⌜ desk (now (table .exit)) (now (list .exit)) r ≡ storedAll (movesDown w slots p) (desk (now (table .entry)) (now (list .entry)) pen) ⌝ }
 {
-    let n = count(slots);
+    let n = slots::count(slots);
     let mut at = pen;
     let mut i = p;
     while i + 1 < n {
@@ -165,9 +91,9 @@ fn slot_in(table: &mut [u64], list: &mut [u64], pen: Pen, w: usize, n: Node, k: 
 {
     let slots = n.slots;
     let left = n.left;
-    let p = place(slots, k);
-    let m = count(slots);
-    let before = pointer_before(slots, left, p);
+    let p = slots::place(slots, k);
+    let m = slots::count(slots);
+    let before = slots::pointer_before(slots, left, p);
     let zeroed = put_pointer(table, list, pen, w, m + 1, 0);
     let moved = move_up(table, list, zeroed, w, slots, p);
     let hidden = put_pointer(table, list, moved, w, p, before);
@@ -189,7 +115,7 @@ fn close_gap(
     requires { ⌜ Room (gapClosed w slots p) (desk (now table) (now list) pen) ⌝ }
     ensures { λ r. ⌜ desk (now (table .exit)) (now (list .exit)) r ≡ storedAll (gapClosed w slots p) (desk (now (table .entry)) (now (list .entry)) pen) ⌝ }
 {
-    let last = one_less(count(slots));
+    let last = slots::last(slots);
     let moved = move_down(table, list, pen, w, slots, p);
     put_pointer(table, list, moved, w, last, 0)
 }
@@ -202,8 +128,8 @@ fn slot_out(table: &mut [u64], list: &mut [u64], pen: Pen, w: usize, n: Node, k:
 {
     let slots = n.slots;
     let left = n.left;
-    let p = place(slots, k);
-    let before = pointer_before(slots, left, p);
+    let p = slots::place(slots, k);
+    let before = slots::pointer_before(slots, left, p);
     let hidden = put_pointer(table, list, pen, w, p, before);
     close_gap(table, list, hidden, w, slots, p)
 }
@@ -213,9 +139,10 @@ fn slot_out(table: &mut [u64], list: &mut [u64], pen: Pen, w: usize, n: Node, k:
 // Shifts (k, x) in at its place among the shown slots of node n.
 pub fn shift_in(table: &mut [u64], list: &mut [u64], pen: Pen, n: u64, k: u64, x: u64) -> Pen
     requires { ⌜ hasNode (now table) n ≡ true ⌝ }
-    requires { ⌜ view (now table) .hidden n ≡ 0 ⌝ }
+    requires { ⌜ view (now table) .node n .hidden ≡ 0 ⌝ }
     requires { ⌜ Room (shiftInAt (now table) n k x) (desk (now table) (now list) pen) ⌝ }
-    ensures { λ r. ⌜ desk (now (table .exit)) (now (list .exit)) r ≡ storedAll (shiftInAt (now (table .entry)) n k x) (desk (now (table .entry)) (now (list .entry)) pen) ⌝ }
+    ensures { λ r. ⌜ desk (now (table .exit)) (now (list .exit)) r
+        ≡ storedAll (shiftInAt (now (table .entry)) n k x) (desk (now (table .entry)) (now (list .entry)) pen) ⌝ }
 {
     let w = node::start(table, n);
     let read = node::read(table, n);
@@ -225,9 +152,10 @@ pub fn shift_in(table: &mut [u64], list: &mut [u64], pen: Pen, n: u64, k: u64, x
 // Shifts the slot of key k out of node n.
 pub fn shift_out(table: &mut [u64], list: &mut [u64], pen: Pen, n: u64, k: u64) -> Pen
     requires { ⌜ hasNode (now table) n ≡ true ⌝ }
-    requires { ⌜ view (now table) .hidden n ≡ 0 ⌝ }
+    requires { ⌜ view (now table) .node n .hidden ≡ 0 ⌝ }
     requires { ⌜ Room (shiftOutAt (now table) n k) (desk (now table) (now list) pen) ⌝ }
-    ensures { λ r. ⌜ desk (now (table .exit)) (now (list .exit)) r ≡ storedAll (shiftOutAt (now (table .entry)) n k) (desk (now (table .entry)) (now (list .entry)) pen) ⌝ }
+    ensures { λ r. ⌜ desk (now (table .exit)) (now (list .exit)) r
+        ≡ storedAll (shiftOutAt (now (table .entry)) n k) (desk (now (table .entry)) (now (list .entry)) pen) ⌝ }
 {
     let w = node::start(table, n);
     let read = node::read(table, n);
@@ -238,37 +166,40 @@ pub fn shift_out(table: &mut [u64], list: &mut [u64], pen: Pen, n: u64, k: u64) 
 pub fn close(table: &mut [u64], list: &mut [u64], pen: Pen, n: u64) -> Pen
     requires { ⌜ hasNode (now table) n ≡ true ⌝ }
     requires { ⌜ Room (closeAt (now table) n) (desk (now table) (now list) pen) ⌝ }
-    ensures { λ r. ⌜ desk (now (table .exit)) (now (list .exit)) r ≡ storedAll (closeAt (now (table .entry)) n) (desk (now (table .entry)) (now (list .entry)) pen) ⌝ }
+    ensures { λ r. ⌜ desk (now (table .exit)) (now (list .exit)) r
+        ≡ storedAll (closeAt (now (table .entry)) n) (desk (now (table .entry)) (now (list .entry)) pen) ⌝ }
 {
     let w = node::start(table, n);
     let read = node::read(table, n);
     let slots = read.slots;
     let left = read.left;
-    let p = hidden_place(slots, left);
+    let p = slots::hidden_place(slots, left);
     close_gap(table, list, pen, w, slots, p)
 }
 
 // Stores 0 in the pointer of A's first slot from its sibling's fence up.
 pub fn cut_off(table: &mut [u64], list: &mut [u64], pen: Pen, a: u64) -> Pen
     requires { ⌜ hasNode (now table) a ≡ true ⌝ }
-    requires { ⌜ view (now table) .hidden a ≡ 0 ⌝ }
+    requires { ⌜ view (now table) .node a .hidden ≡ 0 ⌝ }
     requires { ⌜ Room (cutOff (now table) a) (desk (now table) (now list) pen) ⌝ }
-    ensures { λ r. ⌜ desk (now (table .exit)) (now (list .exit)) r ≡ storedAll (cutOff (now (table .entry)) a) (desk (now (table .entry)) (now (list .entry)) pen) ⌝ }
+    ensures { λ r. ⌜ desk (now (table .exit)) (now (list .exit)) r
+        ≡ storedAll (cutOff (now (table .entry)) a) (desk (now (table .entry)) (now (list .entry)) pen) ⌝ }
 {
     let w = node::start(table, a);
     let read = node::read(table, a);
     let slots = read.slots;
     let fence = node::word(table, read.sibling, 3);
-    let p = place(slots, fence);
+    let p = slots::place(slots, fence);
     put_pointer(table, list, pen, w, p, 0)
 }
 
 // Shifts B, the sibling of A, in at the parent p.
 pub fn attach(table: &mut [u64], list: &mut [u64], pen: Pen, p: u64, a: u64) -> Pen
     requires { ⌜ hasNode (now table) p ≡ true ⌝ }
-    requires { ⌜ view (now table) .hidden p ≡ 0 ⌝ }
+    requires { ⌜ view (now table) .node p .hidden ≡ 0 ⌝ }
     requires { ⌜ Room (attach (now table) p a) (desk (now table) (now list) pen) ⌝ }
-    ensures { λ r. ⌜ desk (now (table .exit)) (now (list .exit)) r ≡ storedAll (attach (now (table .entry)) p a) (desk (now (table .entry)) (now (list .entry)) pen) ⌝ }
+    ensures { λ r. ⌜ desk (now (table .exit)) (now (list .exit)) r
+        ≡ storedAll (attach (now (table .entry)) p a) (desk (now (table .entry)) (now (list .entry)) pen) ⌝ }
 {
     let b = node::word(table, a, 1);
     let fence = node::word(table, b, 3);
@@ -278,11 +209,12 @@ pub fn attach(table: &mut [u64], list: &mut [u64], pen: Pen, p: u64, a: u64) -> 
 // Cuts A off, then shifts B in at the parent; both nodes are read before the first store.
 pub fn cut_attach(table: &mut [u64], list: &mut [u64], pen: Pen, p: u64, a: u64) -> Pen
     requires { ⌜ hasNode (now table) p ≡ true ⌝ }
-    requires { ⌜ view (now table) .hidden p ≡ 0 ⌝ }
+    requires { ⌜ view (now table) .node p .hidden ≡ 0 ⌝ }
     requires { ⌜ hasNode (now table) a ≡ true ⌝ }
-    requires { ⌜ view (now table) .hidden a ≡ 0 ⌝ }
+    requires { ⌜ view (now table) .node a .hidden ≡ 0 ⌝ }
     requires { ⌜ Room (cutOff (now table) a ++ attach (now table) p a) (desk (now table) (now list) pen) ⌝ }
-    ensures { λ r. ⌜ desk (now (table .exit)) (now (list .exit)) r ≡ storedAll (cutOff (now (table .entry)) a ++ attach (now (table .entry)) p a) (desk (now (table .entry)) (now (list .entry)) pen) ⌝ }
+    ensures { λ r. ⌜ desk (now (table .exit)) (now (list .exit)) r
+        ≡ storedAll (cutOff (now (table .entry)) a ++ attach (now (table .entry)) p a) (desk (now (table .entry)) (now (list .entry)) pen) ⌝ }
 {
     let b = node::word(table, a, 1);
     let fence = node::word(table, b, 3);
@@ -312,7 +244,7 @@ fn node_words(
     words[2] = level;
     words[3] = fence;
     let first = 2 * from;
-    let end = 2 * count(slots);
+    let end = 2 * slots::count(slots);
     let mut j = 0;
     while first + j < end {
         words[8 + j] = slots[first + j];
@@ -352,13 +284,14 @@ fn put_words(table: &mut [u64], list: &mut [u64], pen: Pen, w: usize, words: [u6
 // first store.
 pub fn split(table: &mut [u64], list: &mut [u64], pen: Pen, a: u64, b: u64, p: u64) -> Pen
     requires { ⌜ hasNode (now table) a ≡ true ⌝ }
-    requires { ⌜ view (now table) .hidden a ≡ 0 ⌝ }
-    requires { ⌜ 6 ≤ length (view (now table) .shown a) ⌝ }
+    requires { ⌜ view (now table) .node a .hidden ≡ 0 ⌝ }
+    requires { ⌜ 6 ≤ length (view (now table) .node a .shown) ⌝ }
     requires { ⌜ hasNode (now table) b ≡ true ⌝ }
     requires { ⌜ hasNode (now table) p ≡ true ⌝ }
-    requires { ⌜ view (now table) .hidden p ≡ 0 ⌝ }
+    requires { ⌜ view (now table) .node p .hidden ≡ 0 ⌝ }
     requires { ⌜ Room (split (now table) a b p) (desk (now table) (now list) pen) ⌝ }
-    ensures { λ r. ⌜ desk (now (table .exit)) (now (list .exit)) r ≡ storedAll (split (now (table .entry)) a b p) (desk (now (table .entry)) (now (list .entry)) pen) ⌝ }
+    ensures { λ r. ⌜ desk (now (table .exit)) (now (list .exit)) r
+        ≡ storedAll (split (now (table .entry)) a b p) (desk (now (table .entry)) (now (list .entry)) pen) ⌝ }
 {
     let w = node::start(table, a);
     let full = node::read(table, a);
@@ -379,7 +312,8 @@ pub fn new_root(table: &mut [u64], list: &mut [u64], pen: Pen, r: u64) -> Pen
     requires { ⌜ hasNode (now table) r ≡ true ⌝ }
     requires { ⌜ height (view (now table)) < MARK ⌝ }
     requires { ⌜ Room (newRootAt (now table) r) (desk (now table) (now list) pen) ⌝ }
-    ensures { λ q. ⌜ desk (now (table .exit)) (now (list .exit)) q ≡ storedAll (newRootAt (now (table .entry)) r) (desk (now (table .entry)) (now (list .entry)) pen) ⌝ }
+    ensures { λ q. ⌜ desk (now (table .exit)) (now (list .exit)) q
+        ≡ storedAll (newRootAt (now (table .entry)) r) (desk (now (table .entry)) (now (list .entry)) pen) ⌝ }
 {
     let w = node::start(table, r);
     let root = table[1];

@@ -131,11 +131,6 @@ unfolding lastPointer
 all-split p [] ys h = (tt, h)
 all-split p (s ∷ xs) ys h = let u = all-split (s .pointer) xs ys (h .2) in ((h .0, h .1, u .0), u .1)
 
-pub all-join : (p : ℕ) (xs ys : List Slot) → AllShown p xs → AllShown (lastPointer p xs) ys → AllShown p (xs ++ ys)
-unfolding lastPointer
-all-join p [] ys a b = b
-all-join p (s ∷ xs) ys a b = (a .0, a .1, all-join (s .pointer) xs ys (a .2) b)
-
 pub all-shown : (p : ℕ) (ss : List Slot) → AllShown p ss → shown p ss ≡ ss
 unfolding shown
 all-shown p [] h = refl
@@ -233,7 +228,16 @@ module _ (p : ℕ) (s : Slot) (us : List Slot) (u : Each Used (s ∷ us)) where
   unfolding shown hiddenPlace lastPointer
   hidden-later q g =
       let e = ne-eqb (s .pointer) p q in
-      record { key = g .key; before = s ∷ g .before; after = g .after; shape = ap (λ (l : List Slot). s ∷ l) (g .shape); place = rw (e, hiddenPlace) (ap suc (g .place)); used = g .used; shows = rw (e, shown) (ap (λ (l : List Slot). s ∷ l) (g .shows)); all = (u .0, q, g .all) }
+      record {
+        key = g .key;
+        before = s ∷ g .before;
+        after = g .after;
+        shape = ap (λ (l : List Slot). s ∷ l) (g .shape);
+        place = rw (e, hiddenPlace) (ap suc (g .place));
+        used = g .used;
+        shows = rw (e, shown) (ap (λ (l : List Slot). s ∷ l) (g .shows));
+        all = (u .0, q, g .all);
+      }
 
 pub one-hidden : (p : ℕ) (us : List Slot) → Each Used us → length (hidden p us) ≡ 1 → OneHidden p us
 unfolding hidden

@@ -49,24 +49,6 @@ set-pointer-at [] s r (suc n) x e = absurd (omega arith)
 set-pointer-at (y ∷ a) s r zero x e = absurd (omega arith)
 set-pointer-at (y ∷ a) s r (suc n) x e = ap (λ (l : List Slot). y ∷ l) (set-pointer-at a s r n x (omega arith))
 
--- ---- their number
-
-length-key : (ss : List Slot) (i x : ℕ) → length (setKey ss i x) ≡ length ss
-unfolding setKey
-length-key [] i x = refl
-length-key (s ∷ ss) zero x = refl
-length-key (s ∷ ss) (suc i) x = ap suc (length-key ss i x)
-
-length-pointer : (ss : List Slot) (i x : ℕ) → length (setPointer ss i x) ≡ length ss
-unfolding setPointer
-length-pointer [] i x = refl
-length-pointer (s ∷ ss) zero x = refl
-length-pointer (s ∷ ss) (suc i) x = ap suc (length-pointer ss i x)
-
-pub length-slot-store : (q : SlotStore) (ss : List Slot) → length (doSlotStore q ss) ≡ length ss
-length-slot-store (keyTo i x) ss = length-key ss i x
-length-slot-store (pointerTo i x) ss = length-pointer ss i x
-
 -- ---- a pointer that is 0 stays 0 under all stores but one of another number to it
 
 abbrev pub KeepsZero : ℕ → SlotStore → Type 0

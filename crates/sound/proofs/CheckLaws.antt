@@ -10,9 +10,10 @@ use lib.ListN.{getD}
 use borrow.Author.Tests.{eq-eqb, ne-eqb, le-leb, lt-leb}
 use Rattle.model.specs.declared.Unfinished.{Unfinished}
 use Rattle.model.specs.Table.{Words, root, nodes, inRange, headerOk, hasNode}
-use Rattle.model.specs.Slots.{Slot, slot, View, view, height}
+use Rattle.model.specs.Slots.{Slot, slot, View, nodeView, view, height}
 use Rattle.model.specs.Reached.{headOr, pointers, nextChild, flat}
 use Rattle.model.specs.SoundTest.{finished, together, missingAt, own}
+use Rattle.view_laws.proofs.NodeViews.{levelOf}
 use Rattle.list_laws.proofs.Tools.{and-iff}
 use Rattle.table_laws.proofs.Nodes.{has-node-range}
 use Rattle.node.specs.Word.{wordOf}
@@ -24,10 +25,10 @@ use Rattle.walk_laws.proofs.Sums.{joint}
 use Rattle.walk_laws.proofs.Run.{visits, check-fold, fold-unsound, visit-yes, visit-unfit, visit-over, met}
 use Rattle.walk_laws.proofs.Local.{visits-yes, visits-no}
 use Rattle.sound.specs.declared.Look.{Look}
-use Rattle.sound.specs.declared.Ways.{Ways}
-use Rattle.sound.specs.Scan.{span, slotsIn, waysFrom, pointersFrom}
+use Rattle.slots.specs.declared.Ways.{Ways}
+use Rattle.slots.specs.Gathered.{span, slotsIn, waysFrom, pointersFrom}
 use Rattle.sound.specs.Nodes.{standing, lookOf, noted, slotChecked}
-use Rattle.sound.proofs.ScanLaws.{ways-end, ways-next}
+use Rattle.slots.proofs.Kept.{ways-end, ways-next}
 
 -- ---- a visit that is refused, and one that is not
 
@@ -37,7 +38,9 @@ check-unsound v d x = check-fold v d x Unsound ∙ fold-unsound v (visits v d x)
 refused : (v : View) (d : ℕ) (x : Visit) (s : Tally) → visit v x s ≡ Unsound → check v d x s ≡ Unsound
 unfolding visits
 refused v zero x s e = check-fold v zero x s ∙ e
-refused v (suc d) x s e = check-fold v (suc d) x s ∙ ap (fold (visit v) (flat (visits v d) (visitsBelow v d (x .node)))) e ∙ fold-unsound v (flat (visits v d) (visitsBelow v d (x .node)))
+refused v (suc d) x s e =
+    check-fold v (suc d) x s ∙ ap (fold (visit v) (flat (visits v d) (visitsBelow v d (x .node)))) e
+    ∙ fold-unsound v (flat (visits v d) (visitsBelow v d (x .node)))
 
 check-leaf : (v : View) (x : Visit) (c : ℕ) (u : Unfinished) → fits v x ≡ true → c < v .nodes → check v 0 x (Visited c u) ≡ Visited (suc c) (together u (met v x))
 unfolding check
@@ -73,32 +76,51 @@ module _ (v : View) (n l k r : ℕ) where
       let a : aloneOk v n ≡ false = sym (ap (λ (y : Look). y .alone) e) ∙ h in
       unfit s (rw (a, and-false (stands v here)))
 
-  module _ (x : Look) (e : x ≡ lookOf v n) (st : stands v here ≡ true) (al : x .alone ≡ true) where
-    fit : fits v here ≡ true
-    unfolding fits lookOf
-    fit = and-iff (stands v here) (aloneOk v n) .1 (st, sym (ap (λ (y : Look). y .alone) e) ∙ al)
+-- a node on level l that fits, met after others with so much unfinished; w is unfinished together with what is in it
+pub record Met (v : View) (n l k r : ℕ) (s : Tally) (w : Unfinished) : Type 0 where
+  pub count : ℕ
+  pub so-far : Unfinished
+  pub tally : s ≡ Visited count so-far
+  pub few : count < v .nodes
+  pub fit : fits v (standing n l k r) ≡ true
+  pub all : w ≡ together so-far (met v (standing n l k r))
 
-    found : (u w : Unfinished) → w ≡ together u (x .own) → w ≡ together u (met v here)
-    unfolding lookOf met
-    found u w q = q ∙ ap (λ (y : Look). together u (y .own)) e
+pub few-met : (c m n : ℕ) → m ≡ n → c < m → c < n
+few-met c m n q h = omega arith
 
-    after : (c : ℕ) (u w : Unfinished) → w ≡ together u (x .own) → Visited (c + 1) w ≡ Visited (suc c) (together u (met v here))
-    after c u w q = ap (λ (i : ℕ). Visited i w) (add-one c) ∙ ap (Visited (suc c)) (found u w q)
+module _ (v : View) (n l k r : ℕ) (x : Look) (e : x ≡ lookOf v n) where
+  pub node-fits : (b : Bool) → b ≡ stands v (standing n l k r) → b ≡ true → x .alone ≡ true → fits v (standing n l k r) ≡ true
+  unfolding fits lookOf
+  node-fits b st q al = and-iff (stands v (standing n l k r)) (aloneOk v n) .1 (sym st ∙ q, sym (ap (λ (y : Look). y .alone) e) ∙ al)
 
-    pub node-leaf : (s : Tally) (c m : ℕ) (u w : Unfinished) → s ≡ Visited c u → m ≡ v .nodes → c < m → w ≡ together u (x .own) → l ≡ 0 → Visited (c + 1) w ≡ check v l here s
-    node-leaf s c m u w i q h p z = after c u w p ∙ sym (ap (check v l here) i ∙ ap (λ (d : ℕ). check v d here (Visited c u)) z ∙ check-leaf v here c u fit (omega arith))
+  pub node-all : (u w : Unfinished) → w ≡ together u (x .own) → w ≡ together u (met v (standing n l k r))
+  unfolding lookOf met
+  node-all u w p = p ∙ ap (λ (y : Look). together u (y .own)) e
 
-    pub node-inner : (s : Tally) (c m : ℕ) (u w : Unfinished) → s ≡ Visited c u → m ≡ v .nodes → c < m → w ≡ together u (x .own) → (l ≡ 0 → ⊥)
-        → fold (check v (l - 1)) (visitsOf v n (l - 1) (ways v n) (nextChild v n)) (Visited (c + 1) w) ≡ check v l here s
-    node-inner s c m u w i q h p z =
-        let d : l ≡ suc (l - 1) = omega arith in
-        ap (fold (check v (l - 1)) (visitsOf v n (l - 1) (ways v n) (nextChild v n))) (after c u w p)
-        ∙ sym (ap (check v l here) i ∙ ap (λ (d : ℕ). check v d here (Visited c u)) d ∙ check-inner v (l - 1) here c u fit (omega arith))
+module _ {v : View} {n l k r : ℕ} {s : Tally} {w : Unfinished} (m : Met v n l k r s w) where
+  abbrev visited : Visit
+  visited = standing n l k r
+
+  after : Visited (m .count + 1) w ≡ Visited (suc (m .count)) (together (m .so-far) (met v visited))
+  after = ap (λ (i : ℕ). Visited i w) (add-one (m .count)) ∙ ap (Visited (suc (m .count))) (m .all)
+
+  pub node-leaf : l ≡ 0 → Visited (m .count + 1) w ≡ check v l visited s
+  node-leaf z =
+      after
+      ∙ sym (ap (check v l visited) (m .tally) ∙ ap (λ (d : ℕ). check v d visited (Visited (m .count) (m .so-far))) z ∙ check-leaf v visited (m .count) (m .so-far) (m .fit) (m .few))
+
+  pub node-inner : (l ≡ 0 → ⊥) → fold (check v (l - 1)) (visitsOf v n (l - 1) (ways v n) (nextChild v n)) (Visited (m .count + 1) w) ≡ check v l visited s
+  node-inner z =
+      let d : l ≡ suc (l - 1) = omega arith in
+      ap (fold (check v (l - 1)) (visitsOf v n (l - 1) (ways v n) (nextChild v n))) after
+      ∙ sym
+      (ap (check v l visited) (m .tally) ∙ ap (λ (e : ℕ). check v e visited (Visited (m .count) (m .so-far))) d
+      ∙ check-inner v (l - 1) visited (m .count) (m .so-far) (m .fit) (m .few))
 
 -- a node that stands somewhere is in the table
-pub stands-has : (t : Words) (n l k r : ℕ) → headerOk t ≡ true → stands (view t) (standing n l k r) ≡ true → hasNode t n ≡ true
+pub stands-has : (t : Words) (n l k r : ℕ) → headerOk t ≡ true → (b : Bool) → b ≡ stands (view t) (standing n l k r) → b ≡ true → hasNode t n ≡ true
 unfolding stands
-stands-has t n l k r h e = has-node-range t n h ∙ and-iff (inRange (nodes t) n) _ .0 e .0
+stands-has t n l k r h b e q = has-node-range t n h ∙ and-iff (inRange (nodes t) n) _ .0 (sym e ∙ q) .0
 
 -- ---- a slot
 
@@ -118,19 +140,23 @@ way-noted v zero n l k r p a (Visited c u) = visit-way v n l k r p a c u
 way-noted v (suc d) n l k r p a (Visited c u) = ap (fold (check v d) (visitsBelow v d n)) (visit-way v n l k r p a c u)
 
 module _ (t : Words) (p d k c r : ℕ) (s : Tally) (b : ℕ) (e : b ≡ wordOf t c 1) where
-  is-sibling : view t .sibling c ≡ b
+  is-sibling : nodeView t c .sibling ≡ b
   is-sibling = sym (e ∙ word-sibling t c)
 
   pub slot-right : (u : Tally) → u ≡ check (view t) d (standing c d k r) s → b ≡ r → u ≡ slotChecked (view t) p d k c r s
   unfolding slotChecked
-  slot-right u q h = q ∙ rw (visits-yes (view t) p d (slot k c) [] r (eq-eqb (view t .sibling c) r (is-sibling ∙ h))) (unfold visitsOf in refl)
+  slot-right u q h = q ∙ rw (visits-yes (view t) p d (slot k c) [] r (eq-eqb (nodeView t c .sibling) r (is-sibling ∙ h))) (unfold visitsOf in refl)
 
-  pub slot-lacks : (f : ℕ) (x y u : Tally) → f ≡ wordOf t b 3 → y ≡ noted p c s → x ≡ check (view t) d (standing c d k b) y → u ≡ check (view t) d (standing b d f r) x → (b ≡ r → ⊥) → u ≡ slotChecked (view t) p d k c r s
+  pub slot-lacks : (f : ℕ) (x y u : Tally) → f ≡ wordOf t b 3 → y ≡ noted p c s → x ≡ check (view t) d (standing c d k b) y
+      → u ≡ check (view t) d (standing b d f r) x → (b ≡ r → ⊥) → u ≡ slotChecked (view t) p d k c r s
   unfolding slotChecked
   slot-lacks f x y u g n i q h =
-      q ∙ ap (λ (z : ℕ). check (view t) d (standing b d z r) x) (g ∙ word-fence t b) ∙ ap (check (view t) d (standing b d (view t .fence b) r)) (i ∙ ap (check (view t) d (standing c d k b)) n)
-      ∙ ap (λ (z : ℕ). check (view t) d (standing z d (view t .fence z) r) (check (view t) d (standing c d k z) (noted p c s))) (sym is-sibling)
-      ∙ rw (visits-no (view t) p d (slot k c) [] r (ne-eqb (view t .sibling c) r (λ z. h (sym is-sibling ∙ z)))) (unfold visitsOf in ap (check (view t) d (standing (view t .sibling c) d (view t .fence (view t .sibling c)) r)) (sym (way-noted (view t) d c d k (view t .sibling c) p c s)))
+      let second = check (view t) d (standing (nodeView t c .sibling) d (nodeView t (nodeView t c .sibling) .fence) r) in
+      q ∙ ap (λ (z : ℕ). check (view t) d (standing b d z r) x) (g ∙ word-fence t b)
+      ∙ ap (check (view t) d (standing b d (nodeView t b .fence) r)) (i ∙ ap (check (view t) d (standing c d k b)) n)
+      ∙ ap (λ (z : ℕ). check (view t) d (standing z d (nodeView t z .fence) r) (check (view t) d (standing c d k z) (noted p c s))) (sym is-sibling)
+      ∙ rw (visits-no (view t) p d (slot k c) [] r (ne-eqb (nodeView t c .sibling) r (λ z. h (sym is-sibling ∙ z))))
+      (unfold visitsOf in ap second (sym (way-noted (view t) d c d k (nodeView t c .sibling) p c s)))
 
 -- ---- the ways of a node, one by one
 
@@ -148,42 +174,53 @@ pointer-here w i e h = sym (ap (λ (ss : List Slot). headOr e (pointers ss)) (wa
 slots-law : (v : View) (p d : ℕ) (s : Slot) (ss : List Slot) (e : ℕ) (y : Tally)
     → fold (check v d) (visitsOf v p d (s ∷ ss) e) y ≡ fold (check v d) (visitsOf v p d ss e) (slotChecked v p d (s .key) (s .pointer) (headOr e (pointers ss)) y)
 unfolding slotChecked
-slots-law v p d s ss e y = go (eqb (v .sibling (s .pointer)) (headOr e (pointers ss))) refl
+slots-law v p d s ss e y = go (eqb (v .node (s .pointer) .sibling) (headOr e (pointers ss))) refl
   where
-    go : (b : Bool) → eqb (v .sibling (s .pointer)) (headOr e (pointers ss)) ≡ b
+    go : (b : Bool) → eqb (v .node (s .pointer) .sibling) (headOr e (pointers ss)) ≡ b
         → fold (check v d) (visitsOf v p d (s ∷ ss) e) y ≡ fold (check v d) (visitsOf v p d ss e) (fold (check v d) (visitsOf v p d (s ∷ []) (headOr e (pointers ss))) y)
     go true c = rw (visits-yes v p d s ss e c, visits-yes v p d s [] (headOr e (pointers ss)) c) (unfold visitsOf in refl)
     go false c = rw (visits-no v p d s ss e c, visits-no v p d s [] (headOr e (pointers ss)) c) (unfold visitsOf in refl)
 
-module _ (v : View) (n d : ℕ) (w : Ways) (i e : ℕ) (s : Tally) where
-  pub rest-end : w .count ≤ i → restChecked v n d w i e s ≡ s
-  unfolding restChecked
-  rest-end h = ap (λ (ss : List Slot). fold (check v d) (visitsOf v n d ss e) s) (ways-end w i h) ∙ (unfold visitsOf in refl)
+-- checking the ways from i on, from the present state, comes to what checking all from the first state comes to
+pub record Rest (v : View) (n d : ℕ) (w : Ways) (e : ℕ) (s₀ s : Tally) (i : ℕ) : Type 0 where
+  pub among : i ≤ w .count
+  pub comes-to : restChecked v n d w i e s ≡ restChecked v n d w 0 e s₀
 
-  pub rest-next : (a : ℕ) (u : Tally) → i < w .count → a ≡ headOr e (pointersFrom w (i + 1)) → u ≡ slotChecked v n d (getD (w .keys) i 0) (getD (w .pointers) i 0) a s → restChecked v n d w (i + 1) e u ≡ restChecked v n d w i e s
+module _ {v : View} {n d : ℕ} {w : Ways} {e : ℕ} {s₀ s : Tally} {i : ℕ} (k : Rest v n d w e s₀ s i) where
+  pub rest-next : (a : ℕ) (u : Tally) → i < w .count → a ≡ headOr e (pointersFrom w (i + 1)) → u ≡ slotChecked v n d (getD (w .keys) i 0) (getD (w .pointers) i 0) a s
+      → Rest v n d w e s₀ u (i + 1)
   unfolding restChecked
   rest-next a u h p q =
-      ap (fold (check v d) (visitsOf v n d (waysFrom w (i + 1)) e)) (q ∙ ap (λ (z : ℕ). slotChecked v n d (getD (w .keys) i 0) (getD (w .pointers) i 0) z s) p)
-      ∙ sym (ap (λ (ss : List Slot). fold (check v d) (visitsOf v n d ss e) s) (ways-next w i h) ∙ slots-law v n d (slot (getD (w .keys) i 0) (getD (w .pointers) i 0)) (waysFrom w (i + 1)) e s)
+      record {
+        among = omega arith;
+        comes-to =
+            ap (fold (check v d) (visitsOf v n d (waysFrom w (i + 1)) e)) (q ∙ ap (λ (z : ℕ). slotChecked v n d (getD (w .keys) i 0) (getD (w .pointers) i 0) z s) p)
+            ∙ sym
+            (ap (λ (ss : List Slot). fold (check v d) (visitsOf v n d ss e) s) (ways-next w i h)
+            ∙ slots-law v n d (slot (getD (w .keys) i 0) (getD (w .pointers) i 0)) (waysFrom w (i + 1)) e s)
+            ∙ k .comes-to;
+      }
 
-pub rest-start : (v : View) (n d : ℕ) (w : Ways) (e : ℕ) (s : Tally) → slotsIn w ≡ ways v n → e ≡ nextChild v n → restChecked v n d w 0 e s ≡ fold (check v d) (visitsOf v n d (ways v n) (nextChild v n)) s
-unfolding restChecked waysFrom
-rest-start v n d w e s p q =
-    let z : w .count - 0 ≡ w .count = omega arith in
-    ap (λ (m : ℕ). fold (check v d) (visitsOf v n d (span (w .keys) (w .pointers) 0 m) e) s) z
-    ∙ ap (λ (ss : List Slot). fold (check v d) (visitsOf v n d ss e) s) p ∙ ap (λ (k : ℕ). fold (check v d) (visitsOf v n d (ways v n) k) s) q
+  pub rest-done : w .count ≤ i → slotsIn w ≡ ways v n → e ≡ nextChild v n → s ≡ fold (check v d) (visitsOf v n d (ways v n) (nextChild v n)) s₀
+  unfolding restChecked waysFrom
+  rest-done h p q =
+      let z : w .count - 0 ≡ w .count = omega arith in
+      sym (ap (λ (ss : List Slot). fold (check v d) (visitsOf v n d ss e) s) (ways-end w i h) ∙ (unfold visitsOf in refl)) ∙ k .comes-to
+      ∙ ap (λ (m : ℕ). fold (check v d) (visitsOf v n d (span (w .keys) (w .pointers) 0 m) e) s₀) z
+      ∙ ap (λ (ss : List Slot). fold (check v d) (visitsOf v n d ss e) s₀) p ∙ ap (λ (m : ℕ). fold (check v d) (visitsOf v n d (ways v n) m) s₀) q
 
 -- ---- the whole walk
 
 pub walk-high : (t : Words) (r l : ℕ) → r ≡ root t → l ≡ wordOf t r 2 → 15 < l → Unsound ≡ walk (view t)
 unfolding walk
 walk-high t r l e q h =
-    let z : leb (height (view t)) 15 ≡ false = lt-leb (height (view t)) 15 (omega (arith, q ∙ word-level t r ∙ ap (view t .level) e)) in
+    let z : leb (height (view t)) 15 ≡ false = lt-leb (height (view t)) 15 (omega (arith, q ∙ word-level t r ∙ ap (levelOf (view t)) e)) in
     rw (z, walk)
 
 pub walk-low : (t : Words) (r l : ℕ) (s : Tally) → r ≡ root t → l ≡ wordOf t r 2 → l ≤ 15 → s ≡ check (view t) l (standing r l 0 0) (Visited 0 finished) → s ≡ walk (view t)
 unfolding walk
 walk-low t r l s e q h i =
-    let top : l ≡ height (view t) = q ∙ word-level t r ∙ ap (view t .level) e in
+    let top : l ≡ height (view t) = q ∙ word-level t r ∙ ap (levelOf (view t)) e in
     let z : leb (height (view t)) 15 ≡ true = le-leb (height (view t)) 15 (omega arith) in
-    i ∙ ap (λ (k : ℕ). check (view t) k (standing r k 0 0) (Visited 0 finished)) top ∙ ap (λ (k : ℕ). check (view t) (height (view t)) (standing k (height (view t)) 0 0) (Visited 0 finished)) e ∙ rw (z, walk)
+    i ∙ ap (λ (k : ℕ). check (view t) k (standing r k 0 0) (Visited 0 finished)) top
+    ∙ ap (λ (k : ℕ). check (view t) (height (view t)) (standing k (height (view t)) 0 0) (Visited 0 finished)) e ∙ rw (z, walk)

@@ -2,11 +2,11 @@
 use mathlib.Core.Path.{_≡_, refl, ap, sym, _∙_}
 use mathlib.Core.Bool.{Bool, true, false, _&&_, false≢true, and-false}
 use mathlib.Core.Logic.{_↔_}
-use mathlib.Core.List.{List, [], _∷_}
+use mathlib.Core.List.{List, _∷_}
 use mathlib.Core.Option.{Option, none, some}
-use Prim.Native.Nat.{ℕ, zero, suc}
+use Prim.Native.Nat.{ℕ}
 use native.Mathlib.Omega.{arith}
-use lib.Dec.{leb, leb·suc-suc}
+use lib.Dec.{leb}
 use lib.ListN.{length}
 use borrow.Author.Tests.{eq-eqb, ne-eqb}
 use Rattle.model.specs.declared.Node.{Node}
@@ -15,31 +15,27 @@ use Rattle.model.specs.declared.Few.the-variants.{Zero, One, Many}
 use Rattle.model.specs.declared.Missing.{Missing}
 use Rattle.model.specs.declared.Missing.the-variants.{Nowhere, Under}
 use Rattle.model.specs.declared.Unfinished.{Unfinished}
-use Rattle.model.specs.Table.{MARK, Words, at, headerOk, headerNumber, node}
-use Rattle.model.specs.Slots.{Slot, slot, shown, used, View, view}
+use Rattle.model.specs.Table.{MARK, Words, headerOk, headerNumber, node}
+use Rattle.model.specs.Slots.{used, View, view}
 use Rattle.model.specs.Reached.{reached}
 use Rattle.model.specs.SoundTest as model
 use Rattle.model.specs.SoundTest.{distinct, leftoverFrom, leftoverOf, leftover, isAllowed, hasRoom, room, soundView, sound}
-use Rattle.list_laws.proofs.Tools.{and-iff, refuted, Each}
-use Rattle.tree_laws.proofs.Members.{filter-all}
+use Rattle.list_laws.proofs.Tools.{and-iff, refuted}
 use Rattle.table_laws.proofs.Header.{header-number-iff, header-number-refused}
 use Rattle.walk_laws.specs.declared.Tally as tally
 use Rattle.walk_laws.specs.declared.Tally.{Tally}
 use Rattle.walk_laws.specs.Walk.{walk}
 use Rattle.walk_laws.specs.Chain.{chain}
 use Rattle.walk_laws.proofs.WalkLaw.{InOrder, in-order-iff, Passed, walk-iff, judged, sound-walk}
-use Rattle.sound.specs.declared.Ways.{Ways}
 use Rattle.sound.specs.declared.Leftover.{Leftover}
 use Rattle.sound.specs.declared.Leftover.the-variants.{Nothing, HiddenIn, MissingIn, BothIn}
 use Rattle.sound.specs.declared.Verdict.{Verdict}
 use Rattle.sound.specs.declared.Verdict.the-variants.{Allowed, TooMuch}
 use Rattle.sound.specs.declared.Checked.the-variants.{Unsound, Sound}
-use Rattle.sound.specs.Scan.{usedIn, keeps, gathered, firstWay, span, slotsIn}
-use Rattle.sound.specs.Hits.{recordings}
+use Rattle.slots.specs.Scan.{shownFrom}
+use Rattle.leaves.specs.Hits.{recordings}
 use Rattle.sound.specs.Checked.{meant, said, verdictOf, soundWith, checked}
-use Rattle.sound.proofs.ScanMeans.{isKept, gather-means}
-use Rattle.sound.proofs.LookLaws.{few-used}
-use Rattle.sound.proofs.OnceLaws.{recordings-mapping}
+use Rattle.leaves.proofs.FoundLaws.{recordings-mapping}
 
 -- ---- what is unfinished
 
@@ -69,7 +65,9 @@ module _ (m : Missing) where
 module _ (u : Unfinished) where
   pub judge-both : (h t : Few) (r : Verdict) → u .hidden ≡ h → u .trailing ≡ t → r ≡ verdictOf (leftoverFrom h t (u .missing)) → r ≡ verdictOf (leftoverOf u)
   unfolding leftoverOf
-  judge-both h t r p q e = e ∙ ap (λ (x : Few). verdictOf (leftoverFrom x t (u .missing))) (sym p) ∙ ap (λ (x : Few). verdictOf (leftoverFrom (u .hidden) x (u .missing))) (sym q)
+  judge-both h t r p q e =
+      e ∙ ap (λ (x : Few). verdictOf (leftoverFrom x t (u .missing))) (sym p)
+      ∙ ap (λ (x : Few). verdictOf (leftoverFrom (u .hidden) x (u .missing))) (sym q)
 
   pub judge-many : u .hidden ≡ Many → TooMuch ≡ verdictOf (leftoverOf u)
   unfolding leftoverOf
@@ -77,23 +75,9 @@ module _ (u : Unfinished) where
 
 -- ---- room in the parent
 
-every-kept : (ss : List Slot) → Each (λ (s : Slot). isKept 0 0 s ≡ true) ss
-unfolding keeps
-every-kept [] = tt
-every-kept (s ∷ ss) = (refl, every-kept ss)
-
-span-length : (ks ps : Words) (i m : ℕ) → length (span ks ps i m) ≡ m
-unfolding span
-span-length ks ps i zero = refl
-span-length ks ps i (suc m) = ap suc (span-length ks ps (suc i) m)
-
-pub room-is : (t : Words) (n : ℕ) (x : Node) (w : Ways) → x ≡ node t n → w ≡ gathered 0 0 (x .left) (usedIn (x .slots) 0) (firstWay (x .fence) (x .left)) → leb (w .count) 11 ≡ room (view t) n
-unfolding room used span
-room-is t n x w e q =
-    let all-shown : slotsIn w ≡ slot (node t n .fence) (node t n .left) ∷ view t .shown n = ap slotsIn (q ∙ ap (λ (y : Node). gathered 0 0 (y .left) (usedIn (y .slots) 0) (firstWay (y .fence) (y .left))) e)
-    ∙ gather-means 0 0 (used t n) (node t n .left) (firstWay (node t n .fence) (node t n .left)) (omega (arith, few-used t n), omega (arith, few-used t n))
-    ∙ ap (λ (ss : List Slot). slot (node t n .fence) (node t n .left) ∷ ss) (filter-all (isKept 0 0) (view t .shown n) (every-kept (view t .shown n))) in
-    ap (λ (k : ℕ). leb k 11) (sym (span-length (w .keys) (w .pointers) 0 (w .count)) ∙ ap length all-shown) ∙ leb·suc-suc (length (view t .shown n)) 10
+pub room-is : (t : Words) (n : ℕ) (x : Node) (r : ℕ) → x ≡ node t n → r ≡ length (shownFrom (x .left) (x .slots) 0) → leb r 10 ≡ room (view t) n
+unfolding room used
+room-is t n x r e q = ap (λ (k : ℕ). leb k 10) (q ∙ ap (λ (y : Node). length (shownFrom (y .left) (y .slots) 0)) e)
 
 pub room-of : (v : View) (x y : Leftover) (b : Bool) → x ≡ y → b ≡ hasRoom v (meant y) → b ≡ hasRoom v (meant x)
 room-of v x y b q e = e ∙ sym (ap (λ (l : Leftover). hasRoom v (meant l)) q)
@@ -140,39 +124,52 @@ module _ (t : Words) where
   pub wrong-walk : headerOk t ≡ true → (s : Tally) → s ≡ walk (view t) → s ≡ tally.the-variants.Unsound → Unsound ≡ checked t
   wrong-walk h s e q = refused (sound-view h ∙ ap (judged (view t)) (sym e ∙ q))
 
-  module _ (h : headerOk t ≡ true) (s : Tally) (c : ℕ) (u : Unfinished) (e : s ≡ walk (view t)) (q : s ≡ tally.the-variants.Visited c u) (r : Verdict) (v : r ≡ verdictOf (leftoverOf u)) where
-    passed : Passed (view t) c u
-    passed = walk-iff (view t) c u .0 (sym e ∙ q)
+-- a table whose walk reached so many nodes and found so much unfinished, and the verdict on that
+pub record Found (t : Words) (r : Verdict) : Type 0 where
+  pub count : ℕ
+  pub unfinished : Unfinished
+  pub header : headerOk t ≡ true
+  pub walked : walk (view t) ≡ tally.the-variants.Visited count unfinished
+  pub verdict : r ≡ verdictOf (leftoverOf unfinished)
 
-    ordered : InOrder (view t)
-    ordered = in-order-iff (view t) .0 (and-iff _ _ .1 (passed .root-ok, passed .nodes-ok))
+module _ {t : Words} {r : Verdict} (f : Found t r) where
+  abbrev once : Bool
+  once = distinct (MARK ∷ recordings (view t) (chain (view t)))
 
-    sound-is : sound t ≡ (distinct (MARK ∷ recordings (view t) (chain (view t))) && isAllowed (view t) (leftoverOf u))
-    sound-is =
-        sound-view h ∙ ap (judged (view t)) (sym e ∙ q)
-        ∙ ap (λ (rs : List ℕ). distinct (MARK ∷ rs) && isAllowed (view t) (leftoverOf u)) (sym (recordings-mapping (view t) ordered))
+  passed : Passed (view t) (f .count) (f .unfinished)
+  passed = walk-iff (view t) (f .count) (f .unfinished) .0 (f .walked)
 
-    not-allowed : isAllowed (view t) (leftoverOf u) ≡ false → Unsound ≡ checked t
-    not-allowed a = refused (sound-is ∙ rw (a, and-false (distinct (MARK ∷ recordings (view t) (chain (view t))))))
+  ordered : InOrder (view t)
+  ordered = in-order-iff (view t) .0 (and-iff _ _ .1 (passed .root-ok, passed .nodes-ok))
 
-    pub wrong-leftover : r ≡ TooMuch → Unsound ≡ checked t
-    wrong-leftover m = not-allowed (ap (isAllowed (view t)) (too-much (leftoverOf u) r v m))
+  sound-is : sound t ≡ (once && isAllowed (view t) (leftoverOf (f .unfinished)))
+  sound-is =
+      sound-view t (f .header) ∙ ap (judged (view t)) (f .walked)
+      ∙ ap (λ (rs : List ℕ). distinct (MARK ∷ rs) && isAllowed (view t) (leftoverOf (f .unfinished))) (sym (recordings-mapping (view t) ordered))
 
-    module _ (x : Leftover) (a : r ≡ Allowed x) where
-      pub wrong-room : hasRoom (view t) (meant x) ≡ false → Unsound ≡ checked t
-      wrong-room f = not-allowed (ap (isAllowed (view t)) (allowed-is (leftoverOf u) x r v a) ∙ f)
+  not-allowed : isAllowed (view t) (leftoverOf (f .unfinished)) ≡ false → Unsound ≡ checked t
+  not-allowed a = refused t (sound-is ∙ rw (a, and-false once))
 
-      pub wrong-recordings : distinct (MARK ∷ recordings (view t) (chain (view t))) ≡ false → Unsound ≡ checked t
-      wrong-recordings f = refused (sound-is ∙ rw f)
+  pub wrong-leftover : r ≡ TooMuch → Unsound ≡ checked t
+  wrong-leftover m = not-allowed (ap (isAllowed (view t)) (too-much (leftoverOf (f .unfinished)) r (f .verdict) m))
 
-      pub all-right : hasRoom (view t) (meant x) ≡ true → distinct (MARK ∷ recordings (view t) (chain (view t))) ≡ true → Sound x c ≡ checked t
-      unfolding checked leftover
-      all-right f g =
-          let l = allowed-is (leftoverOf u) x r v a in
-          let yes-sound : sound t ≡ true = sound-is ∙ rw g (ap (isAllowed (view t)) l ∙ f) in
-          rw (yes-sound, checked)
-          (ap (λ (y : Leftover). Sound y c) (sym (said-meant x)) ∙ ap (Sound (said (meant x))) (passed .count-is)
-          ∙ ap (λ (o : Option model.Leftover). soundWith o (length (reached (view t)))) (sym (ap leftoverOf (sym (passed .unfinished-is)) ∙ l)))
+  module _ (x : Leftover) (a : r ≡ Allowed x) where
+    allowed : leftoverOf (f .unfinished) ≡ some (meant x)
+    allowed = allowed-is (leftoverOf (f .unfinished)) x r (f .verdict) a
+
+    pub wrong-room : hasRoom (view t) (meant x) ≡ false → Unsound ≡ checked t
+    wrong-room h = not-allowed (ap (isAllowed (view t)) allowed ∙ h)
+
+    pub wrong-recordings : once ≡ false → Unsound ≡ checked t
+    wrong-recordings g = refused t (sound-is ∙ rw g)
+
+    pub all-right : hasRoom (view t) (meant x) ≡ true → once ≡ true → Sound x (f .count) ≡ checked t
+    unfolding checked leftover
+    all-right h g =
+        let yes-sound : sound t ≡ true = sound-is ∙ rw g (ap (isAllowed (view t)) allowed ∙ h) in
+        rw (yes-sound, checked)
+        (ap (λ (y : Leftover). Sound y (f .count)) (sym (said-meant x)) ∙ ap (Sound (said (meant x))) (passed .count-is)
+        ∙ ap (λ (o : Option model.Leftover). soundWith o (length (reached (view t)))) (sym (ap leftoverOf (sym (passed .unfinished-is)) ∙ allowed)))
 
 -- ---- what an answer of the check says
 
@@ -187,7 +184,11 @@ sound-some t e n = let u = simp and-iff at e in false≢true (sym (ap (isAllowed
 
 sound-with : (o : Option model.Leftover) (n c : ℕ) (x : Leftover) → (soundWith o n ≡ Sound x c) ↔ ((o ≡ some (meant x)) × (c ≡ n))
 sound-with none n c x = (λ e. let z : _≡_ {A = ℕ} 0 1 = cc in absurd (omega arith), λ u. let z : _≡_ {A = ℕ} 0 1 = cc in absurd (omega arith))
-sound-with (some y) n c x = (λ e. let z : said y ≡ x = cc in (ap some (sym (meant-said y) ∙ ap meant z), cc), λ u. let z : y ≡ meant x = cc in ap (λ (l : model.Leftover). Sound (said l) n) z ∙ ap (λ (l : Leftover). Sound l n) (said-meant x) ∙ ap (Sound x) (sym (u .1)))
+sound-with (some y) n c x = (
+  λ e. let z : said y ≡ x = cc in (ap some (sym (meant-said y) ∙ ap meant z), cc),
+  λ u. let z : y ≡ meant x = cc in
+      ap (λ (l : model.Leftover). Sound (said l) n) z ∙ ap (λ (l : Leftover). Sound l n) (said-meant x) ∙ ap (Sound x) (sym (u .1)),
+)
 
 pub checked-sound : (t : Words) (x : Leftover) (c : ℕ) → (checked t ≡ Sound x c) ↔ SoundWith t x c
 unfolding checked
@@ -195,7 +196,8 @@ checked-sound t x c = go (sound t) refl
   where
     go : (b : Bool) → sound t ≡ b → (checked t ≡ Sound x c) ↔ SoundWith t x c
     go true e = (
-      λ q. let u = sound-with (leftover (view t)) (length (reached (view t))) c x .0 (rw (e, checked) at q) in record { is-sound = e; leftover-is = u .0; reached-are = u .1 },
+      λ q. let u = sound-with (leftover (view t)) (length (reached (view t))) c x .0 (rw (e, checked) at q) in
+          record { is-sound = e; leftover-is = u .0; reached-are = u .1 },
       λ s. rw (e, checked) (sound-with (leftover (view t)) (length (reached (view t))) c x .1 (s .leftover-is, s .reached-are)),
     )
     go false e = (λ q. let r : Unsound ≡ Sound x c = rw (e, checked) at q in let z : _≡_ {A = ℕ} 0 1 = cc in absurd (omega arith), λ s. absurd (false≢true (sym e ∙ s .is-sound)))

@@ -1,25 +1,36 @@
 -- What the functions over one node answer, from what they read.
-use mathlib.Core.Path.{_≡_, ap, sym, _∙_}
-use mathlib.Core.Bool.{Bool, true, false, _&&_}
-use Prim.Native.Nat.{ℕ, _+_, _-_, _≤_, _<_}
+use mathlib.Core.Path.{_≡_, refl, ap, sym, _∙_}
+use mathlib.Core.Bool.{Bool, true, false, cond, _&&_}
+use Prim.Native.Nat.{ℕ, zero, suc, _+_, _-_, _≤_, _<_}
 use native.Mathlib.Omega.{arith}
 use lib.Dec.{ltb, eqb}
-use lib.ListN.{length, List·getD-eq-default}
 use borrow.Author.Tests.{eq-eqb, ne-eqb, lt-ltb}
-use Rattle.model.specs.Table.{MARK, Words, at, nodes, inRange, headerOk, nodeStart, hasNode, node, spare}
+use borrow.Author.Count.{below-more}
+use Rattle.model.specs.declared.Few.the-variants.{Zero, One, Many}
+use Rattle.model.specs.Table.{MARK, Words, at, nodes, inRange, headerOk, nodeStart, hasNode, node}
 use Rattle.model.specs.Slots.{view, clearIn}
 use Rattle.model.specs.Reached.{firstChild, nextChild}
-use Rattle.model.specs.SoundTest.{siblingOk}
+use Rattle.model.specs.SoundTest.{siblingOk, times}
 use Rattle.list_laws.proofs.Tools.{decode, and-iff, refuted}
 use Rattle.table_laws.proofs.Words.{part-zero-iff}
-use Rattle.table_laws.proofs.Nodes.{has-node-range}
+use Rattle.table_laws.proofs.Nodes.{has-node-range, spare-in}
 use Rattle.node.specs.Word.{wordOf}
 use Rattle.node.proofs.WordLaws.{word-left, word-sibling, word-level, word-fence, word-slot}
 use Rattle.walk_laws.specs.Walk.{stands}
 use Rattle.sound.specs.Nodes.{standing, leafFair}
 
-pub past-end : (t : Words) (w : ℕ) → length t ≤ w → 0 ≡ at t w
-past-end t w h = sym (List·getD-eq-default t 0 {n = w} h)
+-- ---- counts
+
+pub times-one : (n k : ℕ) → k ≡ 1 → One n ≡ times n k
+times-one n k e = ap (times n) (sym e)
+
+pub times-many : (n k : ℕ) → (k ≡ 0 → ⊥) → (k ≡ 1 → ⊥) → Many ≡ times n k
+times-many n zero z o = absurd (z refl)
+times-many n (suc zero) z o = absurd (o refl)
+times-many n (suc (suc k)) z o = refl
+
+pub found-if : (n : ℕ) (a b : Bool) → a ≡ b → cond b (One n) Zero ≡ cond a (One n) Zero
+found-if n a b e = rw e
 
 -- ---- the words that must be 0
 
@@ -27,48 +38,67 @@ word-at : (t : Words) (n j : ℕ) → hasNode t n ≡ true → j < 32 → wordOf
 unfolding wordOf
 word-at t n j h l = rw (h, lt-ltb j 32 l)
 
-module _ (t : Words) (n : ℕ) (h : hasNode t n ≡ true) where
-  pub clear-not : (j w : ℕ) → 4 ≤ j → j < 8 → w ≡ wordOf t n j → (w ≡ 0 → ⊥) → false ≡ clearIn t n
-  unfolding clearIn spare
-  clear-not j w l u q z =
+-- those of words 4 to 7 that are before j
+pub record Zeros (t : Words) (n j : ℕ) : Type 0 where
+  pub has : hasNode t n ≡ true
+  pub low : 4 ≤ j
+  pub high : j ≤ 8
+  pub zero : (k : ℕ) → k < j → 4 ≤ k → wordOf t n k ≡ 0
+
+module _ {t : Words} {n j : ℕ} (z : Zeros t n j) where
+  pub clear-not : (w : ℕ) → j < 8 → w ≡ wordOf t n j → (w ≡ 0 → ⊥) → false ≡ clearIn t n
+  unfolding clearIn
+  clear-not w u q d =
       sym
       (refuted _
-      (λ e. z (q ∙ word-at t n j h (omega arith) ∙ part-zero-iff t (nodeStart n + 4) 4 .0 ((simp and-iff at e) .0) (nodeStart n + j) (omega arith) (omega arith))))
+      (λ e. d
+      (q ∙ word-at t n j (z .has) (omega arith)
+      ∙ part-zero-iff t (nodeStart n + 4) 4 .0 (rw (spare-in t n (z .has)) at ((simp and-iff at e) .0)) (nodeStart n + j) (omega arith) (omega arith))))
 
-  pub clear-all : (w : ℕ) → ((j : ℕ) → j < 8 → 4 ≤ j → wordOf t n j ≡ 0) → w ≡ wordOf t n 31 → eqb w 0 ≡ clearIn t n
-  unfolding clearIn spare
-  clear-all w z q =
-      let zeros = part-zero-iff t (nodeStart n + 4) 4 .1 (λ i l u. inside i (i - nodeStart n) (omega arith) (omega arith) (omega arith)) in
-      rw zeros (ap (λ (k : ℕ). eqb k 0) (q ∙ word-slot t n 23 (omega arith)))
+  pub clear-more : (w : ℕ) → j < 8 → w ≡ wordOf t n j → w ≡ 0 → Zeros t n (j + 1)
+  clear-more w u q d = record { has = z .has; low = omega arith; high = omega arith; zero = below-more _ _ (z .zero) (λ l. sym q ∙ d) }
+
+  pub clear-all : (w : ℕ) → 8 ≤ j → w ≡ wordOf t n 31 → eqb w 0 ≡ clearIn t n
+  unfolding clearIn
+  clear-all w u q =
+      let zeros = part-zero-iff t (nodeStart n + 4) 4 .1 (λ i l v. inside i (i - nodeStart n) (omega arith) (omega arith) (omega arith)) in
+      rw (spare-in t n (z .has), zeros) (ap (λ (k : ℕ). eqb k 0) (q ∙ word-slot t n 23 (omega arith)))
     where
-      inside : (i j : ℕ) → j < 8 → 4 ≤ j → i ≡ nodeStart n + j → at t i ≡ 0
-      inside i j u l e = ap (at t) e ∙ sym (word-at t n j h (omega arith)) ∙ z j u l
+      inside : (i k : ℕ) → k < 8 → 4 ≤ k → i ≡ nodeStart n + k → at t i ≡ 0
+      inside i k v l e = ap (at t) e ∙ sym (word-at t n k (z .has) (omega arith)) ∙ z .zero k (omega arith) l
 
--- ---- the sibling
+-- ---- the sibling, s, of node n
 
-module _ (t : Words) (n s : ℕ) (h : headerOk t ≡ true) (e : s ≡ wordOf t n 1) where
+pub record Sibling (t : Words) (n s : ℕ) : Type 0 where
+  pub header : headerOk t ≡ true
+  pub read : s ≡ wordOf t n 1
+
+module _ {t : Words} {n s : ℕ} (k : Sibling t n s) where
   is-sibling : node t n .sibling ≡ s
-  is-sibling = sym (e ∙ word-sibling t n)
+  is-sibling = sym (k .read ∙ word-sibling t n)
 
   pub sibling-none : s ≡ 0 → true ≡ siblingOk (view t) n
   unfolding siblingOk
   sibling-none z = rw (eq-eqb (node t n .sibling) 0 (is-sibling ∙ z))
 
-  some : (s ≡ 0 → ⊥) → siblingOk (view t) n ≡ (inRange (nodes t) s && (eqb (node t s .level) (node t n .level) && ltb (node t n .fence) (node t s .fence)))
-  unfolding siblingOk
-  some z = rw (is-sibling, ne-eqb s 0 z)
+  module _ (z : s ≡ 0 → ⊥) where
+    some : siblingOk (view t) n ≡ (inRange (nodes t) s && (eqb (node t s .level) (node t n .level) && ltb (node t n .fence) (node t s .fence)))
+    unfolding siblingOk
+    some = rw (is-sibling, ne-eqb s 0 z)
 
-  pub sibling-out : (s ≡ 0 → ⊥) → hasNode t s ≡ false → false ≡ siblingOk (view t) n
-  sibling-out z o = sym (some z ∙ rw (← has-node-range t s h, o))
+    pub sibling-out : hasNode t s ≡ false → false ≡ siblingOk (view t) n
+    sibling-out o = sym (some ∙ rw (← has-node-range t s (k .header), o))
 
-  pub sibling-other : (a b : ℕ) → (s ≡ 0 → ⊥) → a ≡ wordOf t s 2 → b ≡ wordOf t n 2 → (a ≡ b → ⊥) → false ≡ siblingOk (view t) n
-  sibling-other a b z p q d =
-      sym (refuted _ (λ o. d (p ∙ word-level t s ∙ (simp decode at (sym (some z) ∙ o)) .1 .0 ∙ sym (q ∙ word-level t n))))
+    module _ (a b : ℕ) (p : a ≡ wordOf t s 2) (q : b ≡ wordOf t n 2) where
+      pub sibling-other : (a ≡ b → ⊥) → false ≡ siblingOk (view t) n
+      sibling-other d = sym (refuted _ (λ o. d (p ∙ word-level t s ∙ (simp decode at (sym some ∙ o)) .1 .0 ∙ sym (q ∙ word-level t n))))
 
-  pub sibling-right : (a b x y : ℕ) → (s ≡ 0 → ⊥) → hasNode t s ≡ true → a ≡ wordOf t s 2 → b ≡ wordOf t n 2 → a ≡ b → x ≡ wordOf t n 3 → y ≡ wordOf t s 3 → ltb x y ≡ siblingOk (view t) n
-  sibling-right a b x y z o p q d f g =
-      let level : node t s .level ≡ node t n .level = sym (p ∙ word-level t s) ∙ d ∙ q ∙ word-level t n in
-      sym (some z ∙ rw (← has-node-range t s h, o, eq-eqb (node t s .level) (node t n .level) level, ← word-fence t n, ← word-fence t s, ← f, ← g))
+      pub sibling-right : (x y : ℕ) → hasNode t s ≡ true → a ≡ b → x ≡ wordOf t n 3 → y ≡ wordOf t s 3 → ltb x y ≡ siblingOk (view t) n
+      sibling-right x y o d f g =
+          let level : node t s .level ≡ node t n .level = sym (p ∙ word-level t s) ∙ d ∙ q ∙ word-level t n in
+          sym
+          (some
+          ∙ rw (← has-node-range t s (k .header), o, eq-eqb (node t s .level) (node t n .level) level, ← word-fence t n, ← word-fence t s, ← f, ← g))
 
 -- ---- the node after the last child
 
@@ -97,10 +127,13 @@ module _ (t : Words) (n l k r : ℕ) (h : headerOk t ≡ true) where
   unfolding stands
   stands-fence w q d = sym (refuted _ (λ e. d (q ∙ word-fence t n ∙ (simp decode at e) .1 .1 .0)))
 
-  pub stands-all : (a b c : ℕ) → hasNode t n ≡ true → a ≡ wordOf t n 2 → a ≡ l → b ≡ wordOf t n 3 → b ≡ k → c ≡ wordOf t n 1 → eqb c r ≡ stands (view t) (standing n l k r)
+  pub stands-all : (a b c : ℕ) → hasNode t n ≡ true → a ≡ wordOf t n 2 → a ≡ l → b ≡ wordOf t n 3 → b ≡ k → c ≡ wordOf t n 1
+      → eqb c r ≡ stands (view t) (standing n l k r)
   unfolding stands
   stands-all a b c o p p′ q q′ s =
-      rw (← has-node-range t n h, o, eq-eqb (node t n .level) l (sym (p ∙ word-level t n) ∙ p′), eq-eqb (node t n .fence) k (sym (q ∙ word-fence t n) ∙ q′), s, word-sibling t n)
+      let level : eqb (node t n .level) l ≡ true = eq-eqb (node t n .level) l (sym (p ∙ word-level t n) ∙ p′) in
+      let fence : eqb (node t n .fence) k ≡ true = eq-eqb (node t n .fence) k (sym (q ∙ word-fence t n) ∙ q′) in
+      rw (← has-node-range t n h, o, level, fence, s, word-sibling t n)
 
 -- ---- a leaf's left
 

@@ -1,196 +1,28 @@
-// The check of a whole table: whether it is sound, what is left over, how many nodes are reached; and the finder of a recording number.
+// The check of a whole table: whether it is sound, what is left over, how many nodes are reached.
 use model::Few;
+use model::MARK;
 use model::Missing;
-use model::Node;
 use model::Unfinished;
-use numbers::Entry;
+use slots::Ways;
 use walk_laws::Tally;
 ghost use mathlib.Core.Path.{_≡_};
-ghost use mathlib.Core.Bool.{true, cond};
-ghost use mathlib.Core.List.{_∷_};
-ghost use Prim.Native.Nat.{_≤_, _<_};
-ghost use lib.ListN.{length};
-ghost use Rattle.model.specs.Table.{MARK, at, headerOk, hasNode};
+ghost use mathlib.Core.Bool.{true, cond, _&&_};
+ghost use Prim.Native.Nat.{_≤_};
+ghost use Rattle.model.specs.Table.{headerOk, hasNode};
 ghost use Rattle.model.specs.Slots.{view, clearIn};
-ghost use Rattle.model.specs.Reached.{filter, headOr, nextChild};
-ghost use Rattle.model.specs.SoundTest.{elem, distinct, siblingOk, addFew, addMissing, together, times, leftoverOf, leftoverFrom, room, hasRoom, sound};
-ghost use Rattle.walk_laws.specs.Walk.{stands, ways, check, walk};
-ghost use Rattle.walk_laws.specs.Chain.{along, firstLeaf, chain};
-ghost use Rattle.numbers.specs.Cells.{CELLS, outcome, enteredIf, enteredAll, Tells};
-ghost use Rattle.sound.specs.Scan.{keeps, reaches, stillFair, surveyedSlot, surveyed, begun, isWay, gathered, firstWay, usedIn, slotsIn, pointersFrom};
+ghost use Rattle.model.specs.Reached.{headOr, nextChild};
+ghost use Rattle.model.specs.SoundTest.{siblingOk, addFew, addMissing, together, times, leftoverOf, leftoverFrom, room, hasRoom, sound};
+ghost use Rattle.walk_laws.specs.Walk.{stands, check, walk};
+ghost use Rattle.slots.specs.Gathered.{pointersFrom};
 ghost use Rattle.sound.specs.Nodes.{standing, leafFair, lookOf, noted, slotChecked};
-ghost use Rattle.sound.specs.Hits.{recordings, onceBefore, hitAlong, hitIn};
-ghost use Rattle.sound.specs.Passes.{inPass};
 ghost use Rattle.sound.specs.Checked.{meant, verdictOf, checked};
 
-const MARK: u64 = 18446744073709551615;
+// ---- one node
 
-// A pass over the recording numbers takes those that are scattered into a range below this prime; ranges narrower than this are not tried.
-const SPREAD: u64 = 4294967291;
-
-const NARROWEST: u64 = 4194304;
-
-// ---- the slots of one node
-
-// What is known after some of a node's slots in use: whether the kept ones rise and come first; whether some are not kept; the key that
-// the next kept one must reach, or exceed where strict; the pointer before it; how many are hidden.
-struct Survey {
-    fair: bool,
-    trailing: bool,
-    strict: bool,
-    low: u64,
-    before: u64,
-    hidden: u64,
-}
-
-// The ways down from a node: left, with the node's fence as key, then its kept slots.
-struct Ways {
-    count: usize,
-    keys: [u64; 13],
-    pointers: [u64; 13],
-}
-
-// Whether the key of a slot is below the sibling's fence; with sibling 0 every key is.
-fn keeps(sibling: u64, bound: u64, key: u64) -> bool
-    ensures { λ r. ⌜ r ≡ keeps sibling bound key ⌝ }
-{
-    if sibling == 0 {
-        return true;
-    }
-    key < bound
-}
-
-// Whether a key is above low; where not strict, or low itself.
-fn reaches(strict: bool, low: u64, key: u64) -> bool
-    ensures { λ r. ⌜ r ≡ reaches strict low key ⌝ }
-{
-    if strict {
-        return low < key;
-    }
-    low <= key
-}
-
-// Whether the kept slots rise and come first, one more of this key counted.
-fn still_fair(s: Survey, key: u64) -> bool
-    ensures { λ r. ⌜ r ≡ stillFair s key ⌝ }
-{
-    if !s.fair {
-        return false;
-    }
-    if s.trailing {
-        return false;
-    }
-    reaches(s.strict, s.low, key)
-}
-
-// One slot in use more.
-fn survey_slot(s: Survey, sibling: u64, bound: u64, key: u64, pointer: u64) -> Survey
-    requires { ⌜ s .hidden < 12 ⌝ }
-    ensures { λ r. ⌜ r ≡ surveyedSlot sibling bound key pointer s ⌝ }
-{
-    if pointer == s.before {
-        return Survey {
-            fair: s.fair,
-            trailing: s.trailing,
-            strict: s.strict,
-            low: s.low,
-            before: pointer,
-            hidden: s.hidden + 1,
-        };
-    }
-    if !keeps(sibling, bound, key) {
-        return Survey {
-            fair: s.fair,
-            trailing: true,
-            strict: s.strict,
-            low: s.low,
-            before: pointer,
-            hidden: s.hidden,
-        };
-    }
-    let fair = still_fair(s, key);
-    Survey {
-        fair: fair,
-        trailing: s.trailing,
-        strict: true,
-        low: key,
-        before: pointer,
-        hidden: s.hidden,
-    }
-}
-
-// All slots in use of a node whose sibling's fence is the bound; in an inner node the keys must be above its fence.
-fn survey_slots(x: Node, strict: bool, bound: u64) -> Survey
-    ensures { λ r. ⌜ r ≡ surveyed (x .sibling) bound (usedIn (x .slots) 0) (begun (x .fence) (x .left) strict) ⌝ }
-{
-    let slots = x.slots;
-    let mut s = Survey {
-        fair: true,
-        trailing: false,
-        strict: strict,
-        low: x.fence,
-        before: x.left,
-        hidden: 0,
-    };
-    let mut i = 0;
-    while i < 12 {
-        let p = slots[2 * i + 1];
-        if p == 0 {
-            return s;
-        }
-        s = survey_slot(s, x.sibling, bound, slots[2 * i], p);
-        i += 1;
-    }
-    s
-}
-
-// Whether a slot is shown and kept.
-fn is_way(sibling: u64, bound: u64, before: u64, key: u64, pointer: u64) -> bool
-    ensures { λ r. ⌜ r ≡ isWay sibling bound before key pointer ⌝ }
-{
-    if pointer == before {
-        return false;
-    }
-    keeps(sibling, bound, key)
-}
-
-// The ways down from a node whose sibling's fence is the bound.
-fn gather(x: Node, bound: u64) -> Ways
-    ensures { λ r. ⌜ (r ≡ gathered (x .sibling) bound (x .left) (usedIn (x .slots) 0) (firstWay (x .fence) (x .left))) ⌝ }
-    ensures { λ r. ⌜ r .count ≤ 13 ⌝ }
-{
-    let slots = x.slots;
-    let mut keys = [0u64; 13];
-    let mut pointers = [0u64; 13];
-    keys[0] = x.fence;
-    pointers[0] = x.left;
-    let mut count = 1;
-    let mut before = x.left;
-    let mut i = 0;
-    while i < 12 {
-        let key = slots[2 * i];
-        let pointer = slots[2 * i + 1];
-        if pointer == 0 {
-            return Ways {
-                count: count,
-                keys: keys,
-                pointers: pointers,
-            };
-        }
-        let way = is_way(x.sibling, bound, before, key, pointer);
-        before = pointer;
-        i += 1;
-        if way {
-            keys[count] = key;
-            pointers[count] = pointer;
-            count += 1;
-        }
-    }
-    Ways {
-        count: count,
-        keys: keys,
-        pointers: pointers,
-    }
+// What is seen of a node without its children: whether it is in order, and what is unfinished in it.
+struct Look {
+    alone: bool,
+    own: Unfinished,
 }
 
 // Node n, so many times.
@@ -214,24 +46,6 @@ fn if_found(n: u64, found: bool) -> Few
         return Few::One(n);
     }
     Few::Zero
-}
-
-// ---- one node
-
-// What is seen of a node without its children: whether it is in order, and what is unfinished in it.
-struct Look {
-    alone: bool,
-    own: Unfinished,
-}
-
-// A word of the table; 0 past the end.
-fn word_at(table: &[u64], w: usize) -> u64
-    ensures { λ r. ⌜ r ≡ at (now (table .entry)) w ⌝ }
-{
-    if table.len() <= w {
-        return 0;
-    }
-    table[w]
 }
 
 // Words 4 to 7 and slot 11's pointer are 0.
@@ -280,6 +94,21 @@ fn leaf_fair(fair: bool, level: u64, left: u64) -> bool
     fair
 }
 
+// Whether node n is in order without its children, where fair says that its kept slots rise and come first.
+fn in_order(table: &[u64], n: u64, fair: bool, level: u64, left: u64) -> bool
+    requires { ⌜ headerOk (now table) ≡ true ⌝ }
+    requires { ⌜ hasNode (now table) n ≡ true ⌝ }
+    ensures { λ r. ⌜ r ≡ (clearIn (now (table .entry)) n && (siblingOk (view (now (table .entry))) n && leafFair fair level left)) ⌝ }
+{
+    if !clear(table, n) {
+        return false;
+    }
+    if !sibling_ok(table, n) {
+        return false;
+    }
+    leaf_fair(fair, level, left)
+}
+
 // Whether node n is in order without its children, and what is unfinished in it.
 fn look_at(table: &[u64], n: u64) -> Look
     requires { ⌜ headerOk (now table) ≡ true ⌝ }
@@ -288,38 +117,17 @@ fn look_at(table: &[u64], n: u64) -> Look
 {
     let x = node::read(table, n);
     let bound = node::word(table, x.sibling, 3);
-    let s = survey_slots(x, x.level != 0, bound);
+    let s = slots::survey_slots(x, x.level != 0, bound);
+    let alone = in_order(table, n, s.fair, x.level, x.left);
     let own = Unfinished {
         hidden: times(n, s.hidden),
         trailing: if_found(n, s.trailing),
         missing: Missing::Nowhere,
     };
-    if !clear(table, n) {
-        return Look {
-            alone: false,
-            own: own,
-        };
-    }
-    if !sibling_ok(table, n) {
-        return Look {
-            alone: false,
-            own: own,
-        };
-    }
     Look {
-        alone: leaf_fair(s.fair, x.level, x.left),
+        alone: alone,
         own: own,
     }
-}
-
-// The ways down from node n.
-fn ways_of(table: &[u64], n: u64) -> Ways
-    ensures { λ r. ⌜ slotsIn r ≡ ways (view (now (table .entry))) n ⌝ }
-    ensures { λ r. ⌜ r .count ≤ 13 ⌝ }
-{
-    let x = node::read(table, n);
-    let bound = node::word(table, x.sibling, 3);
-    gather(x, bound)
 }
 
 // The node that comes after n's last child; 0 for none.
@@ -445,7 +253,7 @@ fn check_node(table: &[u64], n: u64, level: u64, fence: u64, right: u64, seen: T
     match seen {
         Tally::Unsound => Tally::Unsound,
         Tally::Visited { count, unfinished } => {
-            if word_at(table, 2) <= count {
+            if leaves::word_at(table, 2) <= count {
                 return Tally::Unsound;
             }
             if !stands(table, n, level, fence, right) {
@@ -463,7 +271,7 @@ fn check_node(table: &[u64], n: u64, level: u64, fence: u64, right: u64, seen: T
             if level == 0 {
                 return state;
             }
-            let w = ways_of(table, n);
+            let w = leaves::ways_of(table, n);
             let next = next_child(table, n);
             let ways = w.count;
             let keys = w.keys;
@@ -506,7 +314,7 @@ fn walk(table: &[u64]) -> Tally
     requires { ⌜ headerOk (now table) ≡ true ⌝ }
     ensures { λ r. ⌜ r ≡ walk (view (now (table .entry))) ⌝ }
 {
-    let root = word_at(table, 1);
+    let root = leaves::word_at(table, 1);
     let top = node::word(table, root, 2);
     if 15 < top {
         return Tally::Unsound;
@@ -527,251 +335,6 @@ fn walk(table: &[u64]) -> Tally
             unfinished: none,
         },
     )
-}
-
-// ---- the leaves, one by one
-
-// Where a recording number is in the map: in which leaf, and at which place among the leaf's slots of the map.
-pub enum Hit {
-    At { node: u64, slot: u64 },
-    Nowhere,
-}
-
-// The leftmost leaf: from the root down by left; 0 where the root is too high.
-fn first_leaf(table: &[u64]) -> u64
-    ensures { λ r. ⌜ r ≡ firstLeaf (view (now (table .entry))) ⌝ }
-{
-    let root = word_at(table, 1);
-    let top = node::word(table, root, 2);
-    if 15 < top {
-        return 0;
-    }
-    let mut n = root;
-    let mut level = top;
-    while 0 < level {
-        n = node::word(table, n, 0);
-        level -= 1;
-    }
-    n
-}
-
-// The first slot of the map with this recording number, in the leaves from the first along the siblings, at most so many.
-fn find_from(table: &[u64], first: u64, most: u64, recording: u64) -> Hit
-    ensures { λ r. ⌜ r ≡ hitAlong (view (now (table .entry))) most first recording ⌝ }
-{
-    let mut leaf = first;
-    let mut left = most;
-    let mut slot = 0;
-    'leaves: loop {
-        if leaf == 0 {
-            return Hit::Nowhere;
-        }
-        if left == 0 {
-            return Hit::Nowhere;
-        }
-        let w = ways_of(table, leaf);
-        let count = w.count;
-        let pointers = w.pointers;
-        slot = 0;
-        while slot + 1 < count {
-            if pointers[slot + 1] == recording {
-                break 'leaves;
-            }
-            slot += 1;
-        }
-        leaf = node::word(table, leaf, 1);
-        left -= 1;
-    }
-    Hit::At {
-        node: leaf,
-        slot: slot as u64,
-    }
-}
-
-// Where this recording number is in the map.
-pub fn find_recording(table: &[u64], recording: u64) -> Hit
-    ensures { λ r. ⌜ r ≡ hitIn (view (now (table .entry))) recording ⌝ }
-{
-    let first = first_leaf(table);
-    find_from(table, first, word_at(table, 2), recording)
-}
-
-// Whether a recording number is among the leaves' slots of the map.
-fn appears(table: &[u64], first: u64, most: u64, recording: u64) -> bool
-    ensures { λ r. ⌜ r ≡ elem recording (recordings (view (now (table .entry))) (along (view (now (table .entry))) most first)) ⌝ }
-{
-    let hit = find_from(table, first, most, recording);
-    match hit {
-        Hit::At { node: _, slot: _ } => true,
-        Hit::Nowhere => false,
-    }
-}
-
-// Whether one of the ways from i on has this pointer.
-fn repeats(w: Ways, i: usize, pointer: u64) -> bool
-    requires { ⌜ w .count ≤ 13 ⌝ }
-    ensures { λ r. ⌜ r ≡ elem pointer (pointersFrom w i) ⌝ }
-{
-    let count = w.count;
-    let pointers = w.pointers;
-    let mut j = i;
-    while j < count {
-        if pointers[j] == pointer {
-            return true;
-        }
-        j += 1;
-    }
-    false
-}
-
-// Whether no recording number of a leaf, its first way left aside, comes again in it or in the leaves after it.
-fn leaf_once(table: &[u64], w: Ways, next: u64, most: u64) -> bool
-    requires { ⌜ w .count ≤ 13 ⌝ }
-    ensures { λ r. ⌜ r ≡ onceBefore (pointersFrom w 1) (recordings (view (now (table .entry))) (along (view (now (table .entry))) most next)) ⌝ }
-{
-    let count = w.count;
-    let pointers = w.pointers;
-    let mut i = 1;
-    while i < count {
-        if repeats(w, i + 1, pointers[i]) {
-            return false;
-        }
-        if appears(table, next, most, pointers[i]) {
-            return false;
-        }
-        i += 1;
-    }
-    true
-}
-
-// No recording number is in the map twice, and none is MARK: each is compared with all after it. The last resort, for numbers chosen so
-// that they crowd the same cells.
-fn compared_once(table: &[u64]) -> bool
-    ensures { λ r. ⌜ r ≡ distinct (MARK ∷ recordings (view (now (table .entry))) (chain (view (now (table .entry))))) ⌝ }
-{
-    let mut leaf = first_leaf(table);
-    let mut left = word_at(table, 2);
-    if appears(table, leaf, left, MARK) {
-        return false;
-    }
-    while leaf != 0 {
-        if left == 0 {
-            return true;
-        }
-        let w = ways_of(table, leaf);
-        let next = node::word(table, leaf, 1);
-        left -= 1;
-        if !leaf_once(table, w, next, left) {
-            return false;
-        }
-        leaf = next;
-    }
-    true
-}
-
-// ---- the recording numbers, entered in passes
-
-// Whether a recording number is one of the pass from low on, below high.
-fn in_pass(number: u64, low: u64, high: u64) -> bool
-    ensures { λ r. ⌜ r ≡ inPass low high number ⌝ }
-{
-    let place = numbers::mixed(number);
-    if place < low {
-        return false;
-    }
-    place < high
-}
-
-// Enters a number, if it is one of the pass.
-fn enter_one(cells: &mut [u64], number: u64, low: u64, high: u64) -> Entry
-    requires { ⌜ length (now cells) ≡ CELLS ⌝ }
-    ensures { λ r. ⌜ outcome r (now (cells .exit)) ≡ enteredIf (inPass low high) (now (cells .entry)) number ⌝ }
-{
-    if !in_pass(number, low, high) {
-        return Entry::Entered;
-    }
-    numbers::enter(cells, number)
-}
-
-// Enters those of a leaf's recording numbers, its first way left aside, that are of the pass.
-fn enter_leaf(cells: &mut [u64], w: Ways, low: u64, high: u64) -> Entry
-    requires { ⌜ length (now cells) ≡ CELLS ⌝ }
-    requires { ⌜ w .count ≤ 13 ⌝ }
-    ensures { λ r. ⌜ outcome r (now (cells .exit)) ≡ enteredAll (inPass low high) (pointersFrom w 1) (now (cells .entry)) ⌝ }
-{
-    let count = w.count;
-    let pointers = w.pointers;
-    let mut i = 1;
-    while i < count {
-        let entry = enter_one(cells, pointers[i], low, high);
-        match entry {
-            Entry::Entered => {}
-            Entry::Known => return Entry::Known,
-            Entry::Full => return Entry::Full,
-        }
-        i += 1;
-    }
-    Entry::Entered
-}
-
-// Enters those of all leaves.
-fn enter_leaves(cells: &mut [u64], table: &[u64], low: u64, high: u64) -> Entry
-    requires { ⌜ length (now cells) ≡ CELLS ⌝ }
-    ensures { λ r. ⌜ outcome r (now (cells .exit)) ≡ enteredAll (inPass low high) (recordings (view (now (table .entry))) (chain (view (now (table .entry))))) (now (cells .entry)) ⌝ }
-{
-    let mut leaf = first_leaf(table);
-    let mut left = word_at(table, 2);
-    while leaf != 0 {
-        if left == 0 {
-            return Entry::Entered;
-        }
-        let w = ways_of(table, leaf);
-        let entry = enter_leaf(cells, w, low, high);
-        match entry {
-            Entry::Entered => {}
-            Entry::Known => return Entry::Known,
-            Entry::Full => return Entry::Full,
-        }
-        leaf = node::word(table, leaf, 1);
-        left -= 1;
-    }
-    Entry::Entered
-}
-
-// Whether a number of the pass is in the map twice, unless the cells get full.
-fn pass(table: &[u64], low: u64, high: u64) -> Entry
-    ensures { λ r. ⌜ Tells r (filter (inPass low high) (recordings (view (now (table .entry))) (chain (view (now (table .entry)))))) ⌝ }
-{
-    let mut cells = [0u64; 32877];
-    enter_leaves(&mut cells, table, low, high)
-}
-
-// No recording number is in the map twice, and none is MARK. The first pass takes all; where the cells get full, half its range is tried.
-fn recordings_once(table: &[u64]) -> bool
-    ensures { λ r. ⌜ r ≡ distinct (MARK ∷ recordings (view (now (table .entry))) (chain (view (now (table .entry))))) ⌝ }
-{
-    let first = first_leaf(table);
-    if appears(table, first, word_at(table, 2), MARK) {
-        return false;
-    }
-    let mut low = 0;
-    let mut width = 4294967296;
-    while low < SPREAD {
-        let entry = pass(table, low, low + width);
-        match entry {
-            Entry::Entered => {
-                low += width;
-            }
-            Entry::Known => return false,
-            Entry::Full => {
-                if width <= NARROWEST {
-                    return compared_once(table);
-                }
-                width = width / 2;
-            }
-        }
-    }
-    true
 }
 
 // ---- the leftover, and the whole check
@@ -885,21 +448,14 @@ fn judge(u: Unfinished) -> Verdict
     }
 }
 
-// Whether node n shows at most 10 slots. Without a sibling every shown slot is kept: its ways are left and all of these.
+// Whether node n shows at most 10 slots.
 fn room(table: &[u64], n: u64) -> bool
     ensures { λ r. ⌜ r ≡ room (view (now (table .entry))) n ⌝ }
 {
     let x = node::read(table, n);
     let slots = x.slots;
-    let alone = Node {
-        left: x.left,
-        sibling: 0,
-        level: x.level,
-        fence: x.fence,
-        slots: slots,
-    };
-    let w = gather(alone, 0);
-    w.count <= 11
+    let left = x.left;
+    slots::shown_count(slots, left) <= 10
 }
 
 // Whether the parent that lacks a slot has room for it.
@@ -936,7 +492,7 @@ pub fn check(table: &[u64]) -> Checked
                     if !has_room(table, left) {
                         return Checked::Unsound;
                     }
-                    if !recordings_once(table) {
+                    if !recordings::once(table) {
                         return Checked::Unsound;
                     }
                     Checked::Sound {

@@ -8,11 +8,12 @@ use native.Mathlib.Omega.{arith}
 use lib.ListN.{length, length-append, getD}
 use borrow.Author.Tests.{leb-true, not-true}
 use Rattle.model.specs.Table.{MARK, inRange}
-use Rattle.model.specs.Slots.{Slot, slot, View}
+use Rattle.model.specs.Slots.{Slot, slot, View, recording}
 use Rattle.model.specs.Search.{within, route, down}
-use Rattle.model.specs.Reached.{flat, kept, named, nextChild, children, reached, leaves, mapping, recording}
+use Rattle.model.specs.Reached.{flat, kept, named, nextChild, children, reached, leaves, mapping}
 use Rattle.model.specs.SoundTest.{elem, distinct, leafOk, nodeOk, Leftover, nothing, hiddenIn, missingIn, bothIn, room, hasRoom}
 use Rattle.model.specs.Sound.{Reached, by-sibling, Child, left-child, slot-child, Lacks, SettledBut, OneHidden, LacksSlot, TrailingSlots, IsLeft}
+use Rattle.view_laws.proofs.NodeViews.{levelOf}
 use Rattle.list_laws.proofs.Tools.{decode, and-iff, all-each}
 use Rattle.list_laws.proofs.Members.{each-mem, mem-each, getD-in, elem-none, mem-flat, map-flat}
 use Rattle.list_laws.proofs.Filters.{mem-filter}
@@ -47,16 +48,16 @@ module _ (v : View) (o : Orderly v) where
 
   record InnerFacts (p : ℕ) : Type 0 where
     pub d : ℕ
-    pub level : v .level p ≡ suc d
+    pub level : v .node p .level ≡ suc d
     pub facts : Inner v d p
 
-  inner-facts : {p : ℕ} → Reached v p → 0 < v .level p → InnerFacts p
-  inner-facts {p} r l = let u = above-zero (v .level p) l in record { d = u .0; level = u .1; facts = inner v (u .0) p (good-of r) (u .1) }
+  inner-facts : {p : ℕ} → Reached v p → 0 < v .node p .level → InnerFacts p
+  inner-facts {p} r l = let u = above-zero (v .node p .level) l in record { d = u .0; level = u .1; facts = inner v (u .0) p (good-of r) (u .1) }
 
-  named-slot : {p : ℕ} {s : Slot} (r : Reached v p) (l : 0 < v .level p) → List·Memᴰ s (kept v p) → Named v (inner-facts r l .d) s
+  named-slot : {p : ℕ} {s : Slot} (r : Reached v p) (l : 0 < v .node p .level) → List·Memᴰ s (kept v p) → Named v (inner-facts r l .d) s
   named-slot r l m = each-mem (Named v (inner-facts r l .d)) (inner-facts r l .facts .names) m
 
-  child-level : {p c : ℕ} → Reached v p → Child v p c → suc (v .level c) ≡ v .level p
+  child-level : {p c : ℕ} → Reached v p → Child v p c → suc (v .node c .level) ≡ v .node p .level
   child-level {p} r (left-child l) = let f = inner-facts r l in let a = f .facts .leftLevel in let b = f .level in omega arith
   child-level {p} r (slot-child l m k) = let f = inner-facts r l in let a = named-slot r l (kept-in v m k) .level in let b = f .level in omega arith
 
@@ -65,8 +66,8 @@ module _ (v : View) (o : Orderly v) where
       let f = inner-facts r (child-inner v k) in
       range-iff (v .nodes) c .0 (each-mem (λ (n : ℕ). inRange (v .nodes) n ≡ true) (all-each (inRange (v .nodes)) (children v p) .0 (f .facts .range)) (child-children v w k))
 
-  keys-above : {n : ℕ} {s : Slot} → Reached v n → 0 < v .level n → List·Memᴰ s (kept v n) → v .fence n < s .key
-  keys-above {n} r l m = let u = above-zero (v .level n) l in each-mem (λ (s : Slot). suc (v .fence n) ≤ s .key) (rising-from (suc (v .fence n)) (kept v n) (inner-rises v (u .0) n (good-of r) (u .1))) m
+  keys-above : {n : ℕ} {s : Slot} → Reached v n → 0 < v .node n .level → List·Memᴰ s (kept v n) → v .node n .fence < s .key
+  keys-above {n} r l m = let u = above-zero (v .node n .level) l in each-mem (λ (s : Slot). suc (v .node n .fence) ≤ s .key) (rising-from (suc (v .node n .fence)) (kept v n) (inner-rises v (u .0) n (good-of r) (u .1))) m
 
   -- two nodes of one row
   record Together (m n : ℕ) : Type 0 where
@@ -77,13 +78,13 @@ module _ (v : View) (o : Orderly v) where
     pub other : List·Memᴰ n row
 
   -- reached nodes on one level stand in one row
-  together : {m n : ℕ} → Reached v m → Reached v n → v .level m ≡ v .level n → Together m n
+  together : {m n : ℕ} → Reached v m → Reached v n → v .node m .level ≡ v .node n .level → Together m n
   together {m} {n} rm rn e =
       let a = reached-row v m o (reached-listed v w rm) in
       let b = reached-row v n o (reached-listed v w rn) in
-      record { level = v .level m; row = rowAt v (v .level m); is-row = level-at v (v .level m) o (a .level) .row; one = a .row; other = subst (λ (d : ℕ). List·Memᴰ n (rowAt v d)) (sym e) (b .row) }
+      record { level = v .node m .level; row = rowAt v (v .node m .level); is-row = level-at v (v .node m .level) o (a .level) .row; one = a .row; other = subst (λ (d : ℕ). List·Memᴰ n (rowAt v d)) (sym e) (b .row) }
 
-  siblings : {n : ℕ} → Reached v n → v .sibling n ≢ 0 → SibFacts v n
+  siblings : {n : ℕ} → Reached v n → v .node n .sibling ≢ 0 → SibFacts v n
   siblings {n} r z = sib-facts v n (good-of r) z
 
   pub order-joined : Joined v
@@ -93,7 +94,7 @@ module _ (v : View) (o : Orderly v) where
         child-number = child-number;
         left-fence = λ r l. inner-facts r l .facts .leftFence;
         slot-fence = λ r l m k. named-slot r l (kept-in v m k) .fence;
-        keys-rise = λ {n} r. rise-from-rising (v .fence n) (kept v n) (kept-rises v n (good-of r));
+        keys-rise = λ {n} r. rise-from-rising (v .node n .fence) (kept v n) (kept-rises v n (good-of r));
         keys-above = keys-above;
         apart = λ {m} {n} a b e f. let t = together a b e in row-apart v m n (t .row) (ascending v (t .level) (t .row) (t .is-row)) (t .one) (t .other) f;
         sibling-level = λ r z. siblings r z .level;
@@ -104,11 +105,11 @@ module _ (v : View) (o : Orderly v) where
   abbrev j : Joined v
   j = order-joined
 
-  leaf-left : {n : ℕ} → Reached v n → v .level n ≡ 0 → v .left n ≡ MARK
+  leaf-left : {n : ℕ} → Reached v n → v .node n .level ≡ 0 → v .node n .left ≡ MARK
   unfolding leafOk
   leaf-left {n} r e = (simp decode at (leaf-ok v n (good-of r) e)) .0
 
-  words-zero : {n : ℕ} → Reached v n → v .clear n ≡ true
+  words-zero : {n : ℕ} → Reached v n → v .node n .clear ≡ true
   unfolding nodeOk
   words-zero {n} r = (simp and-iff at (good-of r)) .0
 
@@ -121,11 +122,11 @@ module _ (v : View) (o : Orderly v) where
   unfolding recordings mapping
   recordings-once = subst (λ (l : List ℕ). distinct l ≡ true) (map-flat recording (kept v) (leaves v)) (distinct-cons MARK (map recording (mapping v)) .0 (o .recordings) .1)
 
-  leaf-once : {n : ℕ} → Reached v n → v .level n ≡ 0 → (elem MARK (recordings n) ≡ false) × (distinct (recordings n) ≡ true)
+  leaf-once : {n : ℕ} → Reached v n → v .node n .level ≡ 0 → (elem MARK (recordings n) ≡ false) × (distinct (recordings n) ≡ true)
   unfolding recordings
   leaf-once {n} r e = distinct-cons MARK (map recording (kept v n)) .0 (leaf-recordings v n o (listed-leaf v o r e))
 
-  recording-once : {m n a b : ℕ} → Reached v m → v .level m ≡ 0 → a < length (kept v m) → Reached v n → v .level n ≡ 0 → b < length (kept v n)
+  recording-once : {m n a b : ℕ} → Reached v m → v .node m .level ≡ 0 → a < length (kept v m) → Reached v n → v .node n .level ≡ 0 → b < length (kept v n)
       → recording (getD (kept v m) a (slot 0 0)) ≡ recording (getD (kept v n) b (slot 0 0)) → (m ≡ n) × (a ≡ b)
   unfolding recordings
   recording-once {m} {n} {a} {b} rm em ha rn en hb e =
@@ -133,7 +134,7 @@ module _ (v : View) (o : Orderly v) where
       (Memᴰ·cast e (Memᴰ·map recording (getD-in (slot 0 0) (kept v n) b hb))) in
       (q, distinct-once recording (slot 0 0) (kept v m) a b (leaf-once rm em .1) ha (subst (λ (k : ℕ). b < length (kept v k)) (sym q) hb) (e ∙ ap (λ (k : ℕ). recording (getD (kept v k) b (slot 0 0))) (sym q)))
 
-  recording-not-mark : {n : ℕ} {s : Slot} → Reached v n → v .level n ≡ 0 → List·Memᴰ s (kept v n) → recording s ≢ MARK
+  recording-not-mark : {n : ℕ} {s : Slot} → Reached v n → v .node n .level ≡ 0 → List·Memᴰ s (kept v n) → recording s ≢ MARK
   unfolding recordings
   recording-not-mark {n} r e m q = elem-none MARK (map recording (kept v n)) .0 (leaf-once r e .0) (Memᴰ·cast (sym q) (Memᴰ·map recording m))
 
@@ -147,19 +148,19 @@ module _ (v : View) (o : Orderly v) where
     ignored = ignored v a;
     some-are = longer (λ e. h .here (kept-whole v a .0 e)) (ap length split ∙ length-append (kept v a) (ignored v a));
     last = split;
-    from-b-up = λ {s} m. not-true _ (mem-filter (λ (s : Slot). not (within v a (s .key))) s (v .shown a) .0 m .1);
+    from-b-up = λ {s} m. not-true _ (mem-filter (λ (s : Slot). not (within v a (s .key))) s (v .node a .shown) .0 m .1);
   }
     where
-      split : v .shown a ≡ kept v a ++ ignored v a
+      split : v .node a .shown ≡ kept v a ++ ignored v a
       split = shown-split v a (each-mem (Good v) (o .good) (h .member))
 
-      longer : length (kept v a) ≢ length (v .shown a) → length (v .shown a) ≡ length (kept v a) + length (ignored v a) → 0 < length (ignored v a)
+      longer : length (kept v a) ≢ length (v .node a .shown) → length (v .node a .shown) ≡ length (kept v a) + length (ignored v a) → 0 < length (ignored v a)
       longer n e = omega arith
 
   -- a sibling that is missing is lost in the row of p
   record LostIn (p a : ℕ) : Type 0 where
     pub parent : Reached v p
-    pub inner : 0 < v .level p
+    pub inner : 0 < v .node p .level
     pub next : ℕ
     pub lost : Lost v (named v p) (nextChild v p) a next
 
@@ -171,9 +172,9 @@ module _ (v : View) (o : Orderly v) where
   missing-child g = let t = lost-in g in gap-child v j (t .parent) (t .inner) (t .lost .follows)
 
   parent-other : {p a : ℕ} → MissingOnly v p a → p ≢ a
-  parent-other g q = let e = ap (v .level) q in let h = child-level (lost-in g .parent) (missing-child g) in omega arith
+  parent-other g q = let e = ap (levelOf v) q in let h = child-level (lost-in g .parent) (missing-child g) in omega arith
 
-  lacks-slot : {p a : ℕ} → MissingOnly v p a → kept v p ≡ v .shown p → room v p ≡ true → LacksSlot v p a
+  lacks-slot : {p a : ℕ} → MissingOnly v p a → kept v p ≡ v .node p .shown → room v p ≡ true → LacksSlot v p a
   unfolding room
   lacks-slot {p} {a} g plain fits =
       record {
@@ -183,7 +184,7 @@ module _ (v : View) (o : Orderly v) where
         b-lacks = λ r k. stray .alone r k;
         parent = (t .parent, missing-child g);
         routes = routes;
-        room-left = leb-true (length (v .shown p)) 10 fits;
+        room-left = leb-true (length (v .node p .shown)) 10 fits;
         above-a = stray .above;
         below-next = λ z. j .sibling-right (by-sibling ra (stray .there)) z;
       }
@@ -194,16 +195,16 @@ module _ (v : View) (o : Orderly v) where
       ra : Reached v a
       ra = gap-reached v j (t .parent) (t .inner) (t .lost .follows)
 
-      stray : Stray v a (t .next) (v .sibling a)
+      stray : Stray v a (t .next) (v .node a .sibling)
       stray = gap-sibling v j (t .parent) (t .inner) (t .lost .follows) ra refl (omega arith) (λ z. gap-next v j (t .parent) (t .inner) (t .lost .follows) z .2) (t .lost .other)
 
-      routes : down v p (v .fence (v .sibling a)) ≡ a
+      routes : down v p (v .node (v .node a .sibling) .fence) ≡ a
       routes =
-          let k = v .fence (v .sibling a) in
+          let k = v .node (v .node a .sibling) .fence in
           let above = stray .above in
-          ap (route k (v .left p)) (sym plain)
-          ∙ route-follows v k (v .left p) (kept v p) (named-ascend v j (t .parent) (t .inner))
-          (mem-each (λ (s : Slot). v .fence (s .pointer) ≡ s .key) (kept v p) (λ s m. named-slot (t .parent) (t .inner) m .fence))
+          ap (route k (v .node p .left)) (sym plain)
+          ∙ route-follows v k (v .node p .left) (kept v p) (named-ascend v j (t .parent) (t .inner))
+          (mem-each (λ (s : Slot). v .node (s .pointer) .fence ≡ s .key) (kept v p) (λ s m. named-slot (t .parent) (t .inner) m .fence))
           (mem-each (λ (s : Slot). s .pointer ≢ 0) (kept v p) (λ s m q. let h = child-number (t .parent) (kept-child v p (t .inner) m) in omega arith))
           (t .lost .follows) (omega arith) (stray .below)
 
@@ -223,19 +224,19 @@ module _ (v : View) (o : Orderly v) where
         Parent : Type 0
         Parent = (p : ℕ) × Reached v p × Child v p c × ((q : ℕ) → Reached v q → Child v q c → q ≡ p)
 
-        in-row : (p : ℕ) → Reached v p → 0 < v .level p → List·Memᴰ c (named v p) ⊎ ((a : ℕ) × (e : ℕ) × Lost v (named v p) (nextChild v p) a e × (c ≡ v .sibling a)) → Parent
+        in-row : (p : ℕ) → Reached v p → 0 < v .node p .level → List·Memᴰ c (named v p) ⊎ ((a : ℕ) × (e : ℕ) × Lost v (named v p) (nextChild v p) a e × (c ≡ v .node a .sibling)) → Parent
         in-row p rp i (inl m) = let k = named-child v p i m in (p, rp, k, λ q rq h. parent-same v j rp k rq h)
         in-row p rp i (inr u) = absurd (n (subst (Lacks v x) (sym (u .3)) (lost-lacks v (reached-listed v w rp) i (u .2) x l)))
 
-        at-level : (p d : ℕ) → Reached v p → v .level p ≡ d → List·Memᴰ c (children v p) → Parent
+        at-level : (p d : ℕ) → Reached v p → v .node p .level ≡ d → List·Memᴰ c (children v p) → Parent
         at-level p zero rp e m = absurd (List·Memᴰ·not-nil (rw (no-children v p e) at m))
         at-level p (suc d) rp e m = in-row p rp (omega arith) (in-fill v (nextChild v p) (named v p) (subst (List·Memᴰ c) (children-inner v d p e) m))
 
         go : (c ≡ v .root) ⊎ List·Memᴰ c (flat (children v) (reached v)) → Parent
         go (inl e) = absurd (z e)
-        go (inr m) = let u = mem-flat (children v) c (reached v) .0 m in at-level (u .0) (v .level (u .0)) (listed-reached v w (u .1)) refl (u .2)
+        go (inr m) = let u = mem-flat (children v) c (reached v) .0 m in at-level (u .0) (v .node (u .0) .level) (listed-reached v w (u .1)) refl (u .2)
 
-    pub settled-but : ((n : ℕ) (s : Slot) → List·Memᴰ s (v .shown n) → s .pointer ≢ 0) → SettledBut v x
+    pub settled-but : ((n : ℕ) (s : Slot) → List·Memᴰ s (v .node n .shown) → s .pointer ≢ 0) → SettledBut v x
     settled-but no-zero =
         record {
           root-fence = o .top .fence;
@@ -250,7 +251,7 @@ module _ (v : View) (o : Orderly v) where
           words-zero = words-zero;
           leaf-left = leaf-left;
           keys-rise = j .keys-rise;
-          keys-from = λ {n} {s} r m. each-mem (λ (u : Slot). v .fence n ≤ u .key) (kept-from v n (good-of r)) m;
+          keys-from = λ {n} {s} r m. each-mem (λ (u : Slot). v .node n .fence ≤ u .key) (kept-from v n (good-of r)) m;
           keys-above = keys-above;
           keys-below = λ r z. sym (keys-below v (reached-listed v w r) x l z);
           apart = j .apart;

@@ -48,9 +48,9 @@ module _ (v : View) (w : AllGood v) where
   listed-below {n} {c} m k = rw listed-children (List·Memᴰ·tail (mem-flat (children v) c (reached v) .1 (n, m, k)))
 
   pub child-children : {p c : ℕ} → Child v p c → List·Memᴰ c (children v p)
-  child-children {p} {c} k = go (v .level p) refl
+  child-children {p} {c} k = go (v .node p .level) refl
     where
-      go : (d : ℕ) → v .level p ≡ d → List·Memᴰ c (children v p)
+      go : (d : ℕ) → v .node p .level ≡ d → List·Memᴰ c (children v p)
       go zero e = absurd (let h = child-inner v k in omega arith)
       go (suc d) e = subst (List·Memᴰ c) (sym (children-inner v d p e)) (fill-mem v (nextChild v p) (child-named v k))
 
@@ -66,16 +66,16 @@ module _ (v : View) (w : AllGood v) where
   Both n = List·Memᴰ n (reached v) × Reached v n
 
   both-below : (n c : ℕ) → Both n → List·Memᴰ c (children v n) → Both c
-  both-below n c b m = (listed-below (b .0) m, go (v .level n) refl)
+  both-below n c b m = (listed-below (b .0) m, go (v .node n .level) refl)
     where
-      in-row : (d : ℕ) → v .level n ≡ suc d → List·Memᴰ c (named v n) ⊎ ((a : ℕ) × (e : ℕ) × Lost v (named v n) (nextChild v n) a e × (c ≡ v .sibling a)) → Reached v c
+      in-row : (d : ℕ) → v .node n .level ≡ suc d → List·Memᴰ c (named v n) ⊎ ((a : ℕ) × (e : ℕ) × Lost v (named v n) (nextChild v n) a e × (c ≡ v .node a .sibling)) → Reached v c
       in-row d e (inl k) = child-reached v (b .1) (named-child v n (omega arith) k)
       in-row d e (inr u) =
           let ra = child-reached v (b .1) (named-child v n (omega arith) (follows-in (u .2 .follows))) in
           let z = not-zero v c (each-mem (λ (x : ℕ). inRange (v .nodes) x ≡ true) (all-each (inRange (v .nodes)) (children v n) .0 (inner v d n (each-mem (Good v) (w .good) (b .0)) e .range)) m) in
           subst (Reached v) (sym (u .3)) (by-sibling ra (λ q. z (u .3 ∙ q)))
 
-      go : (d : ℕ) → v .level n ≡ d → Reached v c
+      go : (d : ℕ) → v .node n .level ≡ d → Reached v c
       go zero e = absurd (List·Memᴰ·not-nil (rw (no-children v n e) at m))
       go (suc d) e = in-row d e (in-fill v (nextChild v n) (named v n) (subst (List·Memᴰ c) (children-inner v d n e) m))
 
@@ -87,13 +87,13 @@ module _ (v : View) (w : AllGood v) where
 
   -- ---- the leaves and the map
 
-  pub leaf-listed : {n : ℕ} → List·Memᴰ n (leaves v) → Reached v n × (v .level n ≡ 0)
+  pub leaf-listed : {n : ℕ} → List·Memᴰ n (leaves v) → Reached v n × (v .node n .level ≡ 0)
   leaf-listed {n} m = (listed-reached (mem-reached v n (height v) (v .root ∷ []) .1 (height v, omega arith, m)), each-mem (At v 0) (leaf-level .at) m .level)
 
   pub leaves-distinct : distinct (leaves v) ≡ true
   leaves-distinct = row-distinct v (leaves v) (ascending v 0 (leaves v) leaf-level)
 
-  pub mapped : {s : Slot} → List·Memᴰ s (mapping v) → (n : ℕ) × Reached v n × (v .level n ≡ 0) × List·Memᴰ s (kept v n)
+  pub mapped : {s : Slot} → List·Memᴰ s (mapping v) → (n : ℕ) × Reached v n × (v .node n .level ≡ 0) × List·Memᴰ s (kept v n)
   unfolding mapping
   mapped {s} m = let u = mem-flat (kept v) s (leaves v) .0 m in let k = leaf-listed (u .1) in (u .0, k .0, k .1, u .2)
 
@@ -101,9 +101,9 @@ pub orderly-good : (v : View) → Orderly v → AllGood v
 orderly-good v o = record { top = o .top; good = o .good }
 
 module _ (v : View) (o : Orderly v) where
-  pub listed-leaf : {n : ℕ} → Reached v n → v .level n ≡ 0 → List·Memᴰ n (leaves v)
+  pub listed-leaf : {n : ℕ} → Reached v n → v .node n .level ≡ 0 → List·Memᴰ n (leaves v)
   listed-leaf {n} r e = mem-leaves v n o .1 (reached-listed v (orderly-good v o) r, e)
 
-  pub in-map-of : {s : Slot} {n : ℕ} → Reached v n → v .level n ≡ 0 → List·Memᴰ s (kept v n) → List·Memᴰ s (mapping v)
+  pub in-map-of : {s : Slot} {n : ℕ} → Reached v n → v .node n .level ≡ 0 → List·Memᴰ s (kept v n) → List·Memᴰ s (mapping v)
   unfolding mapping
   in-map-of {s} {n} r e m = mem-flat (kept v) s (leaves v) .1 (n, listed-leaf r e, m)

@@ -9,10 +9,11 @@ use borrow.Author.Tests.{eqb-true, eqb-false}
 use Rattle.model.specs.Slots.{View}
 use Rattle.model.specs.Reached.{headOr, fillRow}
 use Rattle.model.specs.SoundTest.{elem, distinct, linked}
+use Rattle.view_laws.proofs.NodeViews.{siblingOf}
 use Rattle.list_laws.proofs.Tools.{same-or-not}
 use Rattle.list_laws.proofs.Members.{elem-none}
 use Rattle.list_laws.proofs.Distinct.{distinct-cons}
-use Rattle.tree_laws.proofs.Rows.{link-yes, link-no, linked-cons, head-row, chain-tail, head-append}
+use Rattle.tree_laws.proofs.Rows.{link-yes, link-no, linked-cons, head-row, head-append}
 use Rattle.tree_laws.proofs.Gaps.{Gap, gap-more}
 
 -- c comes right after a in a row that e follows
@@ -38,12 +39,12 @@ follows-none f = elim f [ ]
 module _ (v : View) where
   -- ---- linked rows
 
-  pub linked-follows : {e a c : ℕ} (ns : List ℕ) → linked v ns e ≡ true → Follows e a c ns → v .sibling a ≡ c
+  pub linked-follows : {e a c : ℕ} (ns : List ℕ) → linked v ns e ≡ true → Follows e a c ns → v .node a .sibling ≡ c
   linked-follows [] l f = absurd (follows-none f)
   linked-follows {e} {a} {c} (n ∷ ns) l f = let u = linked-cons v n ns e .0 l in go (u .0) (follows-cases f) (linked-follows ns (u .1))
     where
-      go : v .sibling n ≡ headOr e ns → ((a ≡ n) × (c ≡ headOr e ns)) ⊎ Follows e a c ns → (Follows e a c ns → v .sibling a ≡ c) → v .sibling a ≡ c
-      go s (inl w) ih = ap (v .sibling) (w .0) ∙ s ∙ sym (w .1)
+      go : v .node n .sibling ≡ headOr e ns → ((a ≡ n) × (c ≡ headOr e ns)) ⊎ Follows e a c ns → (Follows e a c ns → v .node a .sibling ≡ c) → v .node a .sibling ≡ c
+      go s (inl w) ih = ap (siblingOf v) (w .0) ∙ s ∙ sym (w .1)
       go s (inr k) ih = ih k
 
   -- ---- rows filled with what they lack
@@ -51,19 +52,19 @@ module _ (v : View) where
   -- a's sibling is not the next one, c
   pub record Lost (ns : List ℕ) (e a c : ℕ) : Type 0 where
     pub follows : Follows e a c ns
-    pub other : v .sibling a ≡ c → ⊥
+    pub other : v .node a .sibling ≡ c → ⊥
 
   lost-later : {ns : List ℕ} {e a c : ℕ} (n : ℕ) → Lost ns e a c → Lost (n ∷ ns) e a c
   lost-later n l = record { follows = there (l .follows); other = l .other }
 
   -- a node of the filled row is one of the row, or the sibling of one that lost it
-  pub in-fill : (e : ℕ) {x : ℕ} (ns : List ℕ) → List·Memᴰ x (fillRow v ns e) → List·Memᴰ x ns ⊎ ((a : ℕ) × (c : ℕ) × Lost ns e a c × (x ≡ v .sibling a))
+  pub in-fill : (e : ℕ) {x : ℕ} (ns : List ℕ) → List·Memᴰ x (fillRow v ns e) → List·Memᴰ x ns ⊎ ((a : ℕ) × (c : ℕ) × Lost ns e a c × (x ≡ v .node a .sibling))
   unfolding fillRow
   in-fill e [] m = inl m
-  in-fill e {x} (n ∷ ns) m = go (eqb (v .sibling n) (headOr e ns)) refl (in-fill e ns)
+  in-fill e {x} (n ∷ ns) m = go (eqb (v .node n .sibling) (headOr e ns)) refl (in-fill e ns)
     where
       Fill : List ℕ → Type 0
-      Fill ks = List·Memᴰ x ks ⊎ ((a : ℕ) × (c : ℕ) × Lost ks e a c × (x ≡ v .sibling a))
+      Fill ks = List·Memᴰ x ks ⊎ ((a : ℕ) × (c : ℕ) × Lost ks e a c × (x ≡ v .node a .sibling))
 
       later : Fill ns → Fill (n ∷ ns)
       later (inl k) = inl (List·Memᴰ·tail k)
@@ -73,41 +74,28 @@ module _ (v : View) where
       yes-case (inl p) ih = inl (List·Memᴰ·head p)
       yes-case (inr k) ih = later (ih k)
 
-      no-case : eqb (v .sibling n) (headOr e ns) ≡ false → (x ≡ v .sibling n) ⊎ List·Memᴰ x (fillRow v ns e) → (List·Memᴰ x (fillRow v ns e) → Fill ns) → Fill (n ∷ ns)
+      no-case : eqb (v .node n .sibling) (headOr e ns) ≡ false → (x ≡ v .node n .sibling) ⊎ List·Memᴰ x (fillRow v ns e) → (List·Memᴰ x (fillRow v ns e) → Fill ns) → Fill (n ∷ ns)
       no-case t (inl p) ih = inr (n, headOr e ns, record { follows = here refl refl; other = eqb-false _ _ t }, p)
       no-case t (inr k) ih = later (ih k)
 
-      first : eqb (v .sibling n) (headOr e ns) ≡ false → (x ≡ n) ⊎ List·Memᴰ x (v .sibling n ∷ fillRow v ns e) → (List·Memᴰ x (fillRow v ns e) → Fill ns) → Fill (n ∷ ns)
+      first : eqb (v .node n .sibling) (headOr e ns) ≡ false → (x ≡ n) ⊎ List·Memᴰ x (v .node n .sibling ∷ fillRow v ns e) → (List·Memᴰ x (fillRow v ns e) → Fill ns) → Fill (n ∷ ns)
       first t (inl p) ih = inl (List·Memᴰ·head p)
       first t (inr k) ih = no-case t (List·Memᴰ·cases-cons k) ih
 
-      go : (b : Bool) → eqb (v .sibling n) (headOr e ns) ≡ b → (List·Memᴰ x (fillRow v ns e) → Fill ns) → Fill (n ∷ ns)
+      go : (b : Bool) → eqb (v .node n .sibling) (headOr e ns) ≡ b → (List·Memᴰ x (fillRow v ns e) → Fill ns) → Fill (n ∷ ns)
       go true t ih = yes-case (List·Memᴰ·cases-cons (rw (link-yes v n ns e t) at m)) ih
       go false t ih = first t (List·Memᴰ·cases-cons (rw (link-no v n ns e t) at m)) ih
 
-  -- a filled row is linked just if a lost sibling's sibling is the next one
-  pub fill-linked : {e a c : ℕ} (ns : List ℕ) → linked v (fillRow v ns e) e ≡ true → Lost ns e a c → v .sibling (v .sibling a) ≡ c
-  fill-linked [] l o = absurd (follows-none (o .follows))
-  fill-linked {e} {a} {c} (n ∷ ns) l o = go (eqb (v .sibling n) (headOr e ns)) refl (follows-cases (o .follows)) (fill-linked ns (chain-tail v n ns e e l))
-    where
-      go : (b : Bool) → eqb (v .sibling n) (headOr e ns) ≡ b → ((a ≡ n) × (c ≡ headOr e ns)) ⊎ Follows e a c ns → (Lost ns e a c → v .sibling (v .sibling a) ≡ c) → v .sibling (v .sibling a) ≡ c
-      go true t (inl w) ih = absurd (o .other (ap (v .sibling) (w .0) ∙ eqb-true _ _ t ∙ sym (w .1)))
-      go true t (inr k) ih = ih (record { follows = k; other = o .other })
-      go false t (inl w) ih =
-          let u = linked-cons v _ _ e .0 (linked-cons v _ _ e .0 (rw (link-no v n ns e t) at l) .1) in
-          ap (λ (x : ℕ). v .sibling (v .sibling x)) (w .0) ∙ u .0 ∙ head-row v ns e e ∙ sym (w .1)
-      go false t (inr k) ih = ih (record { follows = k; other = o .other })
-
-  pub linked-fill : (e : ℕ) (ns : List ℕ) → ((a c : ℕ) → Lost ns e a c → v .sibling (v .sibling a) ≡ c) → linked v (fillRow v ns e) e ≡ true
+  pub linked-fill : (e : ℕ) (ns : List ℕ) → ((a c : ℕ) → Lost ns e a c → v .node (v .node a .sibling) .sibling ≡ c) → linked v (fillRow v ns e) e ≡ true
   unfolding fillRow linked
   linked-fill e [] h = refl
-  linked-fill e (n ∷ ns) h = go (eqb (v .sibling n) (headOr e ns)) refl (linked-fill e ns (λ a c l. h a c (lost-later n l)))
+  linked-fill e (n ∷ ns) h = go (eqb (v .node n .sibling) (headOr e ns)) refl (linked-fill e ns (λ a c l. h a c (lost-later n l)))
     where
-      go : (b : Bool) → eqb (v .sibling n) (headOr e ns) ≡ b → linked v (fillRow v ns e) e ≡ true → linked v (fillRow v (n ∷ ns) e) e ≡ true
+      go : (b : Bool) → eqb (v .node n .sibling) (headOr e ns) ≡ b → linked v (fillRow v ns e) e ≡ true → linked v (fillRow v (n ∷ ns) e) e ≡ true
       go true t ih = rw (link-yes v n ns e t) (linked-cons v n (fillRow v ns e) e .1 (eqb-true _ _ t ∙ sym (head-row v ns e e), ih))
       go false t ih =
           let l : Lost (n ∷ ns) e n (headOr e ns) = record { follows = here refl refl; other = eqb-false _ _ t } in
-          rw (link-no v n ns e t) (linked-cons v n (v .sibling n ∷ fillRow v ns e) e .1 (refl, linked-cons v (v .sibling n) (fillRow v ns e) e .1 (h n (headOr e ns) l ∙ sym (head-row v ns e e), ih)))
+          rw (link-no v n ns e t) (linked-cons v n (v .node n .sibling ∷ fillRow v ns e) e .1 (refl, linked-cons v (v .node n .sibling) (fillRow v ns e) e .1 (h n (headOr e ns) l ∙ sym (head-row v ns e e), ih)))
 
   -- ---- linked rows lose no sibling, and rows with one gap lose one
 
@@ -118,7 +106,7 @@ module _ (v : View) where
   lost-linked e [] h = unfold linked in refl
   lost-linked e (n ∷ ns) h =
       ⊎-elim (λ q. linked-cons v n ns e .1 (q, lost-linked e ns (λ a c l. h a c (lost-later n l))))
-      (λ z. absurd (h n (headOr e ns) (record { follows = here refl refl; other = z }))) (same-or-not (v .sibling n) (headOr e ns))
+      (λ z. absurd (h n (headOr e ns) (record { follows = here refl refl; other = z }))) (same-or-not (v .node n .sibling) (headOr e ns))
 
   follows-at : (e a : ℕ) (before after : List ℕ) → Follows e a (headOr e after) (before ++ a ∷ after)
   follows-at e a [] after = here refl refl
@@ -131,7 +119,7 @@ module _ (v : View) where
   only-middle [] after l r o = ⊎-elim (λ w. w .0) (λ k. absurd (linked-lost after r (record { follows = k; other = o .other }))) (follows-cases (o .follows))
   only-middle {e} {a} (n ∷ before) after l r o =
       let u = linked-cons v n before a .0 l in
-      ⊎-elim (λ w. absurd (o .other (ap (v .sibling) (w .0) ∙ u .0 ∙ head-append e before (a ∷ after) ∙ sym (w .1))))
+      ⊎-elim (λ w. absurd (o .other (ap (siblingOf v) (w .0) ∙ u .0 ∙ head-append e before (a ∷ after) ∙ sym (w .1))))
       (λ k. only-middle before after (u .1) r (record { follows = k; other = o .other })) (follows-cases (o .follows))
 
   pub gap-only : {e a b c : ℕ} (ns : List ℕ) → Gap v a ns e → Lost ns e b c → b ≡ a
@@ -139,12 +127,12 @@ module _ (v : View) where
 
   pub lost-gap : {e a c : ℕ} (ns : List ℕ) → distinct ns ≡ true → Lost ns e a c → ((b d : ℕ) → Lost ns e b d → b ≡ a) → Gap v a ns e
   lost-gap [] d o only = absurd (follows-none (o .follows))
-  lost-gap {e} {a} {c} (n ∷ ns) d o only = let u = distinct-cons n ns .0 d in go (same-or-not (v .sibling n) (headOr e ns)) (u .0) (lost-gap ns (u .1))
+  lost-gap {e} {a} {c} (n ∷ ns) d o only = let u = distinct-cons n ns .0 d in go (same-or-not (v .node n .sibling) (headOr e ns)) (u .0) (lost-gap ns (u .1))
     where
-      later : v .sibling n ≡ headOr e ns → Lost ns e a c
-      later q = ⊎-elim (λ w. absurd (o .other (ap (v .sibling) (w .0) ∙ q ∙ sym (w .1)))) (λ k. record { follows = k; other = o .other }) (follows-cases (o .follows))
+      later : v .node n .sibling ≡ headOr e ns → Lost ns e a c
+      later q = ⊎-elim (λ w. absurd (o .other (ap (siblingOf v) (w .0) ∙ q ∙ sym (w .1)))) (λ k. record { follows = k; other = o .other }) (follows-cases (o .follows))
 
-      go : (v .sibling n ≡ headOr e ns) ⊎ (v .sibling n ≢ headOr e ns) → elem n ns ≡ false → (Lost ns e a c → ((b d : ℕ) → Lost ns e b d → b ≡ a) → Gap v a ns e) → Gap v a (n ∷ ns) e
+      go : (v .node n .sibling ≡ headOr e ns) ⊎ (v .node n .sibling ≢ headOr e ns) → elem n ns ≡ false → (Lost ns e a c → ((b d : ℕ) → Lost ns e b d → b ≡ a) → Gap v a ns e) → Gap v a (n ∷ ns) e
       go (inl q) x ih = gap-more v a n ns e q (ih (later q) (λ b d l. only b d (lost-later n l)))
       go (inr z) x ih =
           let s : n ≡ a = only n (headOr e ns) (record { follows = here refl refl; other = z }) in
@@ -153,6 +141,6 @@ module _ (v : View) where
             after = ns;
             shape = ap (λ (m : ℕ). m ∷ ns) s;
             joined-before = unfold linked in refl;
-            lacks = λ q. z (ap (v .sibling) s ∙ q);
+            lacks = λ q. z (ap (siblingOf v) s ∙ q);
             joined-after = lost-linked e ns (λ b d l. elem-none n ns .0 x (Memᴰ·cast (s ∙ sym (only b d (lost-later n l))) (follows-in (l .follows))));
           }

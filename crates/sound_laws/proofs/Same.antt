@@ -23,7 +23,7 @@ use Rattle.sound_laws.proofs.FromTest.{is-left, settled-but}
 
 -- shown slots are in use: none has pointer 0
 abbrev pub NoZero : View → Type 0
-NoZero v = (n : ℕ) (s : Slot) → List·Memᴰ s (v .shown n) → s .pointer ≢ 0
+NoZero v = (n : ℕ) (s : Slot) → List·Memᴰ s (v .node n .shown) → s .pointer ≢ 0
 
 -- what the test says of a leftover x
 pub record Passes (v : View) (x : Leftover) : Type 0 where
@@ -69,7 +69,7 @@ pub reached-same : (v : View) → orderly v ≡ true → (n : ℕ) → Reached v
 reached-same v h n = let w = orderly-good v (orderly-iff v .0 h) in (λ r. elem-iff n (reached v) .1 (reached-listed v w r), λ e. listed-reached v w (elem-iff n (reached v) .0 e))
 
 -- The map is every shown slot of a reached leaf whose key is below the leaf's sibling's fence.
-pub map-same : (v : View) → orderly v ≡ true → (s : Slot) → List·Memᴰ s (mapping v) ↔ ((n : ℕ) × Reached v n × (v .level n ≡ 0) × List·Memᴰ s (kept v n))
+pub map-same : (v : View) → orderly v ≡ true → (s : Slot) → List·Memᴰ s (mapping v) ↔ ((n : ℕ) × Reached v n × (v .node n .level ≡ 0) × List·Memᴰ s (kept v n))
 map-same v h s = let o = orderly-iff v .0 h in (λ m. mapped v (orderly-good v o) m, λ u. in-map-of v o (u .1) (u .2) (u .3))
 
 -- ---- tables

@@ -1,16 +1,16 @@
 -- The empty table: its length, its header, its nodes, and what making leaves.
 use mathlib.Core.Bool.{Bool, true, false}
-use mathlib.Core.Path.{_≡_, refl, sym, _∙_}
+use mathlib.Core.Path.{_≡_, refl, _∙_}
 use mathlib.Core.List.{[], _∷_}
 use Prim.Native.Nat.{ℕ, _+_, _-_, _*_, _≤_}
 use native.Mathlib.Nat.{add-zero}
 use native.Mathlib.Omega.{arith}
 use lib.ListN.{length, take, drop, replicate, length-replicate}
 use lib.Seq.{drop-append-add, getD-drop}
-use Rattle.model.specs.Table.{MARK, Words, at, tableLength, lengthOk, allZero, headerOk, nodeStart, hasNode, blank, nodeFrom, node, spare, empty, made}
+use Rattle.model.specs.Table.{MARK, at, tableLength, allZero, headerOk, nodeStart, hasNode, blank, nodeFrom, node, spare, empty}
 use Rattle.table_laws.proofs.Words.{at-replicate, take-replicate, drop-replicate, part-zero-iff}
-use Rattle.table_laws.proofs.Header.{header-iff, length-iff}
-use Rattle.table_laws.proofs.Nodes.{has-node-iff, node-in, node-out}
+use Rattle.table_laws.proofs.Header.{header-iff}
+use Rattle.table_laws.proofs.Nodes.{has-node-iff, node-in, node-out, spare-in}
 
 word-count : (n : ℕ) → length (empty n) ≡ 9 + (32 * n - 1)
 unfolding empty
@@ -68,18 +68,5 @@ empty-blank n i h = go (hasNode (empty n) i) refl
     go false e = node-out (empty n) i e
 
 pub empty-spare : (n i : ℕ) → 1 ≤ i → i ≤ n → spare (empty n) i ≡ replicate 4 0
-unfolding spare nodeStart
-empty-spare n i l u = empty-part n (nodeStart i + 4) 4 (omega arith) (omega arith)
-
--- Making leaves a table with an accepted header, as long as it was.
-pub made-header : (t : Words) → lengthOk (length t) ≡ true → headerOk (made t) ≡ true
-unfolding made
-made-header t h = let f = length-iff (length t) _ .0 (h, refl) in rw h (empty-header _ (f .some) (f .few))
-
-pub length-made : (t : Words) → length (made t) ≡ length t
-unfolding made tableLength
-length-made t = go (lengthOk (length t)) refl
-  where
-    go : (b : Bool) → lengthOk (length t) ≡ b → length (made t) ≡ length t
-    go true e = let f = length-iff (length t) _ .0 (e, refl) in rw e (length-empty _ (f .some) ∙ sym (f .long))
-    go false e = rw e
+unfolding nodeStart
+empty-spare n i l u = spare-in (empty n) i (has-node-iff (empty n) i .1 (omega (arith, word-count n))) ∙ empty-part n (nodeStart i + 4) 4 (omega arith) (omega arith)

@@ -4,8 +4,8 @@ use mathlib.Core.Path.{_≡_}
 use mathlib.Core.Logic.{_↔_}
 use Prim.Native.Nat.{ℕ, _+_, _*_, _≤_}
 use native.Mathlib.Omega.{arith}
-use lib.ListN.{length}
-use Rattle.model.specs.Table.{Words, nodes, inRange, headerOk, nodeStart, hasNode, node, nodeFrom, blank}
+use lib.ListN.{length, take, drop}
+use Rattle.model.specs.Table.{Words, nodes, inRange, headerOk, nodeStart, hasNode, node, nodeFrom, blank, spare}
 use Rattle.list_laws.proofs.Tools.{decode, same-test}
 use Rattle.table_laws.proofs.Header.{header-iff}
 
@@ -23,6 +23,10 @@ has-node-range t i h =
 pub node-in : (t : Words) (i : ℕ) → hasNode t i ≡ true → node t i ≡ nodeFrom t (nodeStart i)
 unfolding node
 node-in t i h = rw h
+
+pub spare-in : (t : Words) (i : ℕ) → hasNode t i ≡ true → spare t i ≡ take 4 (drop (nodeStart i + 4) t)
+unfolding spare
+spare-in t i h = rw h
 
 pub node-out : (t : Words) (i : ℕ) → hasNode t i ≡ false → node t i ≡ blank
 unfolding node

@@ -30,21 +30,21 @@ module _ (v : View) (k : ℕ) where
   unfolding cover
   cover-out n ns h = rw (h, cover)
 
-  pub below-low : (s : ℕ) → s ≢ 0 → v .fence s ≤ k → below v s k ≡ false
+  pub below-low : (s : ℕ) → s ≢ 0 → v .node s .fence ≤ k → below v s k ≡ false
   unfolding below
-  below-low s z h = rw (ne-eqb s 0 z, le-ltb k (v .fence s) h)
+  below-low s z h = rw (ne-eqb s 0 z, le-ltb k (v .node s .fence) h)
 
-  pub below-high : (s : ℕ) → k < v .fence s → below v s k ≡ true
+  pub below-high : (s : ℕ) → k < v .node s .fence → below v s k ≡ true
   unfolding below
-  below-high s h = or-right (eqb s 0) _ (lt-ltb k (v .fence s) h)
+  below-high s h = or-right (eqb s 0) _ (lt-ltb k (v .node s .fence) h)
 
-  pub below-false : (s : ℕ) → below v s k ≡ false → (s ≢ 0) × (v .fence s ≤ k)
+  pub below-false : (s : ℕ) → below v s k ≡ false → (s ≢ 0) × (v .node s .fence ≤ k)
   unfolding below
-  below-false s h = let u = or-false-iff _ _ .0 h in (eqb-false s 0 (u .0), ltb-false k (v .fence s) (u .1))
+  below-false s h = let u = or-false-iff _ _ .0 h in (eqb-false s 0 (u .0), ltb-false k (v .node s .fence) (u .1))
 
-  pub below-true : (s : ℕ) → s ≢ 0 → below v s k ≡ true → k < v .fence s
+  pub below-true : (s : ℕ) → s ≢ 0 → below v s k ≡ true → k < v .node s .fence
   unfolding below
-  below-true s z h = ltb-true k (v .fence s) (rw (ne-eqb s 0 z) at h)
+  below-true s z h = ltb-true k (v .node s .fence) (rw (ne-eqb s 0 z) at h)
 
   pub below-mono : (s j : ℕ) → below v s k ≡ true → j ≤ k → below v s j ≡ true
   unfolding below
@@ -52,7 +52,7 @@ module _ (v : View) (k : ℕ) where
     where
       go : (b : Bool) → eqb s 0 ≡ b → below v s j ≡ true
       go true c = rw c
-      go false c = or-right (eqb s 0) _ (lt-ltb j (v .fence s) (omega (arith, below-true s (eqb-false s 0 c) h)))
+      go false c = or-right (eqb s 0) _ (lt-ltb j (v .node s .fence) (omega (arith, below-true s (eqb-false s 0 c) h)))
 
   -- a key that is not below s is above every key that is
   pub below-past : (s j : ℕ) → below v s k ≡ true → below v s j ≡ false → k < j
@@ -63,18 +63,18 @@ module _ (v : View) (k : ℕ) where
       go false c = leb-false j k c
 
   -- a key up to the fence of a good node is below its sibling's
-  pub within-up-to : (n : ℕ) → Good v n → k ≤ v .fence n → within v n k ≡ true
-  within-up-to n g h = go (eqb (v .sibling n) 0) refl
+  pub within-up-to : (n : ℕ) → Good v n → k ≤ v .node n .fence → within v n k ≡ true
+  within-up-to n g h = go (eqb (v .node n .sibling) 0) refl
     where
-      go : (b : Bool) → eqb (v .sibling n) 0 ≡ b → within v n k ≡ true
+      go : (b : Bool) → eqb (v .node n .sibling) 0 ≡ b → within v n k ≡ true
       go true c = unfold below in rw c
-      go false c = below-high (v .sibling n) (omega (arith, sib-facts v n g (eqb-false _ _ c) .fence))
+      go false c = below-high (v .node n .sibling) (omega (arith, sib-facts v n g (eqb-false _ _ c) .fence))
 
   pub stays : (n : ℕ) → within v n k ≡ true → moved v n k ≡ n
   unfolding moved
   stays n h = rw (h, moved)
 
-  pub moves : (n : ℕ) → within v n k ≡ false → moved v n k ≡ v .sibling n
+  pub moves : (n : ℕ) → within v n k ≡ false → moved v n k ≡ v .node n .sibling
   unfolding moved
   moves n h = rw (h, moved)
 
@@ -85,32 +85,32 @@ module _ (v : View) (k : ℕ) where
   cover-has P [] p c z = absurd (z refl)
   cover-has P (n ∷ ns) p c z = go (within v n k) refl (linked-cons v n ns 0 .0 c) (cover-has P ns (p .1))
     where
-      go : (b : Bool) → within v n k ≡ b → (v .sibling n ≡ headOr 0 ns) × (linked v ns 0 ≡ true) → (linked v ns 0 ≡ true → headOr 0 ns ≢ 0 → P (cover v k ns) × (within v (cover v k ns) k ≡ true))
+      go : (b : Bool) → within v n k ≡ b → (v .node n .sibling ≡ headOr 0 ns) × (linked v ns 0 ≡ true) → (linked v ns 0 ≡ true → headOr 0 ns ≢ 0 → P (cover v k ns) × (within v (cover v k ns) k ≡ true))
           → P (cover v k (n ∷ ns)) × (within v (cover v k (n ∷ ns)) k ≡ true)
       go true i u ih = rw (cover-in n ns i) (p .0, i)
-      go false i u ih = rw (cover-out n ns i) (ih (u .1) (λ y. below-false (v .sibling n) i .0 (u .0 ∙ y)))
+      go false i u ih = rw (cover-out n ns i) (ih (u .1) (λ y. below-false (v .node n .sibling) i .0 (u .0 ∙ y)))
 
   pub cover-mem : (ns : List ℕ) → linked v ns 0 ≡ true → headOr 0 ns ≢ 0 → List·Memᴰ (cover v k ns) ns
   cover-mem ns c z = cover-has (λ (n : ℕ). List·Memᴰ n ns) ns (mem-each (λ (n : ℕ). List·Memᴰ n ns) ns (λ n m. m)) c z .0
 
   -- its fence is at most k where that of the first is
-  pub cover-fence : (ns : List ℕ) → linked v ns 0 ≡ true → headOr 0 ns ≢ 0 → v .fence (headOr 0 ns) ≤ k → v .fence (cover v k ns) ≤ k
+  pub cover-fence : (ns : List ℕ) → linked v ns 0 ≡ true → headOr 0 ns ≢ 0 → v .node (headOr 0 ns) .fence ≤ k → v .node (cover v k ns) .fence ≤ k
   cover-fence [] l z h = absurd (z refl)
   cover-fence (n ∷ ns) l z h = go (within v n k) refl (linked-cons v n ns 0 .0 l) (cover-fence ns)
     where
-      go : (b : Bool) → within v n k ≡ b → (v .sibling n ≡ headOr 0 ns) × (linked v ns 0 ≡ true) → (linked v ns 0 ≡ true → headOr 0 ns ≢ 0 → v .fence (headOr 0 ns) ≤ k → v .fence (cover v k ns) ≤ k)
-          → v .fence (cover v k (n ∷ ns)) ≤ k
+      go : (b : Bool) → within v n k ≡ b → (v .node n .sibling ≡ headOr 0 ns) × (linked v ns 0 ≡ true) → (linked v ns 0 ≡ true → headOr 0 ns ≢ 0 → v .node (headOr 0 ns) .fence ≤ k → v .node (cover v k ns) .fence ≤ k)
+          → v .node (cover v k (n ∷ ns)) .fence ≤ k
       go true c u ih = rw (cover-in n ns c) h
-      go false c u ih = let w = below-false (v .sibling n) c in rw (cover-out n ns c) (ih (u .1) (λ y. w .0 (u .0 ∙ y)) (rw (u .0) at (w .1)))
+      go false c u ih = let w = below-false (v .node n .sibling) c in rw (cover-out n ns c) (ih (u .1) (λ y. w .0 (u .0 ∙ y)) (rw (u .0) at (w .1)))
 
   -- a linked row whose end is not above k does not cover k
-  cover-none : (d : ℕ) (cs r : List ℕ) (e : ℕ) → Each (Good v) cs → Each (At v d) cs → linked v cs e ≡ true → e ≢ 0 → v .fence e ≤ k
-      → (cover v k (cs ++ r) ≡ cover v k r) × (headOr e cs ≢ 0) × (v .fence (headOr e cs) ≤ k)
+  cover-none : (d : ℕ) (cs r : List ℕ) (e : ℕ) → Each (Good v) cs → Each (At v d) cs → linked v cs e ≡ true → e ≢ 0 → v .node e .fence ≤ k
+      → (cover v k (cs ++ r) ≡ cover v k r) × (headOr e cs ≢ 0) × (v .node (headOr e cs) .fence ≤ k)
   cover-none d [] r e g a c z h = (refl, z, h)
   cover-none d (n ∷ cs) r e g a c z h =
       let u = linked-cons v n cs e .0 c in
       let ih = cover-none d cs r e (g .1) (a .1) (u .1) z h in
-      let y : v .fence (v .sibling n) ≡ v .fence (headOr e cs) = ap (λ x. v .fence x) (u .0) in
+      let y : v .node (v .node n .sibling) .fence ≡ v .node (headOr e cs) .fence = ap (λ x. v .node x .fence) (u .0) in
       let b = sib-facts v n (g .0) (λ y. ih .1 (sym (u .0) ∙ y)) in
       (cover-out n (cs ++ r) (ap (λ x. below v x k) (u .0) ∙ below-low (headOr e cs) (ih .1) (ih .2)) ∙ ih .0, not-zero v n (a .0 .range), omega (arith, b .fence, ih .2))
 
@@ -135,31 +135,31 @@ module _ (v : View) (k : ℕ) where
 
   -- the row's part from n on, where the node named after n is above k
   cover-at : (n : ℕ) (ns : List ℕ) (e : ℕ) → linked v (fillRow v (n ∷ ns) e) e ≡ true → below v (headOr e ns) k ≡ true → moved v n k ≡ cover v k (fillRow v (n ∷ ns) e)
-  cover-at n ns e c h = go (eqb (v .sibling n) (headOr e ns)) (within v n k) refl refl
+  cover-at n ns e c h = go (eqb (v .node n .sibling) (headOr e ns)) (within v n k) refl refl
     where
-      go : (b i : Bool) → eqb (v .sibling n) (headOr e ns) ≡ b → within v n k ≡ i → moved v n k ≡ cover v k (fillRow v (n ∷ ns) e)
+      go : (b i : Bool) → eqb (v .node n .sibling) (headOr e ns) ≡ b → within v n k ≡ i → moved v n k ≡ cover v k (fillRow v (n ∷ ns) e)
       go true true q i = rw (link-yes v n ns e q) (stays n i ∙ sym (cover-in n _ i))
       go true false q i = absurd (false≢true (sym i ∙ ap (λ x. below v x k) (eqb-true _ _ q) ∙ h))
       go false true q i = rw (link-no v n ns e q) (stays n i ∙ sym (cover-in n _ i))
       go false false q i =
           let p = link-no v n ns e q in
-          let w = linked-cons v (v .sibling n) (fillRow v ns e) e .0 (linked-cons v n _ e .0 (rw p at c) .1) .0 in
-          rw p (moves n i ∙ sym (cover-out n _ i ∙ cover-in (v .sibling n) _ (ap (λ x. below v x k) (w ∙ head-row v ns e e) ∙ h)))
+          let w = linked-cons v (v .node n .sibling) (fillRow v ns e) e .0 (linked-cons v n _ e .0 (rw p at c) .1) .0 in
+          rw p (moves n i ∙ sym (cover-out n _ i ∙ cover-in (v .node n .sibling) _ (ap (λ x. below v x k) (w ∙ head-row v ns e e) ∙ h)))
 
   -- the row's part from n on, where the node s named after n is not above k
   cover-skip : (d n s : ℕ) (ns : List ℕ) (e : ℕ) → Each (Good v) (fillRow v (n ∷ s ∷ ns) e) → Each (At v d) (fillRow v (n ∷ s ∷ ns) e) → linked v (fillRow v (n ∷ s ∷ ns) e) e ≡ true
-      → s ≢ 0 → v .fence s ≤ k → cover v k (fillRow v (n ∷ s ∷ ns) e) ≡ cover v k (fillRow v (s ∷ ns) e)
-  cover-skip d n s ns e g a c z h = go (eqb (v .sibling n) s) refl
+      → s ≢ 0 → v .node s .fence ≤ k → cover v k (fillRow v (n ∷ s ∷ ns) e) ≡ cover v k (fillRow v (s ∷ ns) e)
+  cover-skip d n s ns e g a c z h = go (eqb (v .node n .sibling) s) refl
     where
-      go : (b : Bool) → eqb (v .sibling n) s ≡ b → cover v k (fillRow v (n ∷ s ∷ ns) e) ≡ cover v k (fillRow v (s ∷ ns) e)
+      go : (b : Bool) → eqb (v .node n .sibling) s ≡ b → cover v k (fillRow v (n ∷ s ∷ ns) e) ≡ cover v k (fillRow v (s ∷ ns) e)
       go true q = rw (link-yes v n (s ∷ ns) e q) (cover-out n _ (ap (λ x. below v x k) (eqb-true _ _ q) ∙ below-low s z h))
       go false q =
           let p = link-no v n (s ∷ ns) e q in
-          let w : v .sibling (v .sibling n) ≡ s = linked-cons v (v .sibling n) (fillRow v (s ∷ ns) e) e .0 (linked-cons v n _ e .0 (rw p at c) .1) .0 ∙ head-row v (s ∷ ns) e e in
-          let b = sib-facts v (v .sibling n) ((rw p at g) .1 .0) (λ y. z (sym w ∙ y)) in
-          let y : v .fence (v .sibling (v .sibling n)) ≡ v .fence s = ap (λ x. v .fence x) w in
-          rw p (cover-out n _ (below-low (v .sibling n) (not-zero v _ ((rw p at a) .1 .0 .range)) (omega (arith, b .fence)))
-          ∙ cover-out (v .sibling n) _ (ap (λ x. below v x k) w ∙ below-low s z h))
+          let w : v .node (v .node n .sibling) .sibling ≡ s = linked-cons v (v .node n .sibling) (fillRow v (s ∷ ns) e) e .0 (linked-cons v n _ e .0 (rw p at c) .1) .0 ∙ head-row v (s ∷ ns) e e in
+          let b = sib-facts v (v .node n .sibling) ((rw p at g) .1 .0) (λ y. z (sym w ∙ y)) in
+          let y : v .node (v .node (v .node n .sibling) .sibling) .fence ≡ v .node s .fence = ap (λ x. v .node x .fence) w in
+          rw p (cover-out n _ (below-low (v .node n .sibling) (not-zero v _ ((rw p at a) .1 .0 .range)) (omega (arith, b .fence)))
+          ∙ cover-out (v .node n .sibling) _ (ap (λ x. below v x k) w ∙ below-low s z h))
 
   pub route-none : (p : ℕ) (ss : List Slot) → Each (λ (s : Slot). k < s .key) ss → route k p ss ≡ p
   unfolding route
@@ -195,7 +195,7 @@ module _ (v : View) (k : ℕ) where
   route-whole d p lo [] e c a n r h = sym (cover-in p [] (ap (λ x. below v x k) (linked-cons v p [] e .0 c .0) ∙ h))
   route-whole d p lo (s ∷ ss) e c a n r h = go (leb (s .key) k) refl (linked-cons v p _ e .0 c) (λ c. route-whole d (s .pointer) _ ss e c (a .1) (n .1) ((simp decode at r) .1) h)
     where
-      go : (b : Bool) → leb (s .key) k ≡ b → (v .sibling p ≡ s .pointer) × (linked v (s .pointer ∷ pointers ss) e ≡ true)
+      go : (b : Bool) → leb (s .key) k ≡ b → (v .node p .sibling ≡ s .pointer) × (linked v (s .pointer ∷ pointers ss) e ≡ true)
           → (linked v (s .pointer ∷ pointers ss) e ≡ true → route k (s .pointer) ss ≡ cover v k (s .pointer ∷ pointers ss)) → route k p (s ∷ ss) ≡ cover v k (p ∷ s .pointer ∷ pointers ss)
       go true q u ih =
           let z = not-zero v (s .pointer) (a .0 .range) in
@@ -217,9 +217,9 @@ module _ (v : View) (k : ℕ) where
       go false false e c ih = rw (e, c, route, filter) (ih p)
 
   -- in a node that covers k the ignored slots lead nowhere
-  pub down-kept : (n : ℕ) → within v n k ≡ true → down v n k ≡ route k (v .left n) (kept v n)
+  pub down-kept : (n : ℕ) → within v n k ≡ true → down v n k ≡ route k (v .node n .left) (kept v n)
   unfolding kept
-  down-kept n h = sym (route-filter (v .left n) (λ (s : Slot). within v n (s .key)) (v .shown n) (λ s l. below-mono (v .sibling n) (s .key) h l))
+  down-kept n h = sym (route-filter (v .node n .left) (λ (s : Slot). within v n (s .key)) (v .node n .shown) (λ s l. below-mono (v .node n .sibling) (s .key) h l))
 
   route-named : (p : ℕ) (ss : List Slot) → List·Memᴰ (route k p ss) (p ∷ pointers ss)
   unfolding route
@@ -231,36 +231,36 @@ module _ (v : View) (k : ℕ) where
       go false c ih = rw (c, route) (⊎-elim (λ e. List·Memᴰ·head e) (λ t. List·Memᴰ·tail (List·Memᴰ·tail t)) (List·Memᴰ·cases-cons (ih p)))
 
   pub down-named : (n : ℕ) → within v n k ≡ true → List·Memᴰ (down v n k) (named v n)
-  down-named n h = rw (down-kept n h) (route-named (v .left n) (kept v n))
+  down-named n h = rw (down-kept n h) (route-named (v .node n .left) (kept v n))
 
   -- the search's step down from the covering node m
   pub step-down : (d m : ℕ) → Inner v d m → Each (Good v) (children v m) → Each (At v d) (children v m) → within v m k ≡ true → below v (nextChild v m) k ≡ true
       → moved v (down v m k) k ≡ cover v k (children v m)
   step-down d m i g a h e =
       ap (λ x. moved v x k) (down-kept m h)
-      ∙ rw (i .kids) (route-cover d (v .left m) (suc (v .fence m)) (kept v m) (nextChild v m) (rw (i .kids) at g) (rw (i .kids) at a) (rw (i .kids) at (i .chain)) (i .names) (i .rise) e)
+      ∙ rw (i .kids) (route-cover d (v .node m .left) (suc (v .node m .fence)) (kept v m) (nextChild v m) (rw (i .kids) at g) (rw (i .kids) at a) (rw (i .kids) at (i .chain)) (i .names) (i .rise) e)
 
   -- the same where m names all its children
   pub step-whole : (d m : ℕ) → Inner v d m → Each (At v d) (children v m) → children v m ≡ named v m → within v m k ≡ true → below v (nextChild v m) k ≡ true
       → down v m k ≡ cover v k (children v m)
   step-whole d m i a w h e =
-      down-kept m h ∙ rw w (route-whole d (v .left m) (suc (v .fence m)) (kept v m) (nextChild v m) (rw w at (i .chain)) ((rw w at a) .1) (i .names) (i .rise) e)
+      down-kept m h ∙ rw w (route-whole d (v .node m .left) (suc (v .node m .fence)) (kept v m) (nextChild v m) (rw w at (i .chain)) ((rw w at a) .1) (i .names) (i .rise) e)
 
   -- ---- the row below
 
   -- the first child of the node after n, none where n is the last
-  next-low : (d n : ℕ) (ns : List ℕ) → v .sibling n ≡ headOr 0 ns → Each (Inner v d) ns → within v n k ≡ false → (nextChild v n ≢ 0) × (v .fence (nextChild v n) ≤ k)
-  next-low d n [] e i h = absurd (below-false (v .sibling n) h .0 e)
+  next-low : (d n : ℕ) (ns : List ℕ) → v .node n .sibling ≡ headOr 0 ns → Each (Inner v d) ns → within v n k ≡ false → (nextChild v n ≢ 0) × (v .node (nextChild v n) .fence ≤ k)
+  next-low d n [] e i h = absurd (below-false (v .node n .sibling) h .0 e)
   next-low d n (m ∷ ns) e i h =
-      let u = below-false (v .sibling n) h in
-      let w = first-child v (v .sibling n) (u .0) ∙ ap (λ x. v .left x) e in
-      rw w (not-zero v (v .left m) (left-range v d m (i .0)), omega (arith, i .0 .leftFence, rw e at (u .1)))
+      let u = below-false (v .node n .sibling) h in
+      let w = first-child v (v .node n .sibling) (u .0) ∙ ap (λ x. v .node x .left) e in
+      rw w (not-zero v (v .node m .left) (left-range v d m (i .0)), omega (arith, i .0 .leftFence, rw e at (u .1)))
 
-  next-high : (d n : ℕ) (ns : List ℕ) → v .sibling n ≡ headOr 0 ns → Each (Inner v d) ns → Each (At v (suc d)) ns → within v n k ≡ true → below v (nextChild v n) k ≡ true
+  next-high : (d n : ℕ) (ns : List ℕ) → v .node n .sibling ≡ headOr 0 ns → Each (Inner v d) ns → Each (At v (suc d)) ns → within v n k ≡ true → below v (nextChild v n) k ≡ true
   next-high d n [] e i a h = rw e (unfold firstChild below in refl)
   next-high d n (m ∷ ns) e i a h =
       let z = not-zero v m (a .0 .range) in
-      rw (e, first-child v m z) (below-high (v .left m) (omega (arith, i .0 .leftFence, below-true m z (rw e at h))))
+      rw (e, first-child v m z) (below-high (v .node m .left) (omega (arith, i .0 .leftFence, below-true m z (rw e at h))))
 
   -- a node that covers k has no child after it that is not above k
   pub nexts : (d : ℕ) (ns : List ℕ) → Each (Inner v d) ns → Each (At v (suc d)) ns → linked v ns 0 ≡ true → Each (λ (n : ℕ). within v n k ≡ true → below v (nextChild v n) k ≡ true) ns
@@ -268,21 +268,21 @@ module _ (v : View) (k : ℕ) where
   nexts d (n ∷ ns) i a c = let u = linked-cons v n ns 0 .0 c in (next-high d n ns (u .0) (i .1) (a .1), nexts d ns (i .1) (a .1) (u .1))
 
   cover-fill : (m : ℕ) (ms r : List ℕ) (e z : ℕ) → linked v (fillRow v (m ∷ ms) z) e ≡ true → below v e k ≡ true → cover v k (fillRow v (m ∷ ms) z ++ r) ≡ cover v k (fillRow v (m ∷ ms) z)
-  cover-fill m ms r e z l h = go (eqb (v .sibling m) (headOr z ms)) refl
+  cover-fill m ms r e z l h = go (eqb (v .node m .sibling) (headOr z ms)) refl
     where
-      go : (b : Bool) → eqb (v .sibling m) (headOr z ms) ≡ b → cover v k (fillRow v (m ∷ ms) z ++ r) ≡ cover v k (fillRow v (m ∷ ms) z)
+      go : (b : Bool) → eqb (v .node m .sibling) (headOr z ms) ≡ b → cover v k (fillRow v (m ∷ ms) z ++ r) ≡ cover v k (fillRow v (m ∷ ms) z)
       go true c = let q = link-yes v m ms z c in rw q (cover-some m (fillRow v ms z) r e (rw q at l) h)
-      go false c = let q = link-no v m ms z c in rw q (cover-some m (v .sibling m ∷ fillRow v ms z) r e (rw q at l) h)
+      go false c = let q = link-no v m ms z c in rw q (cover-some m (v .node m .sibling ∷ fillRow v ms z) r e (rw q at l) h)
 
   pub cover-child : (d m : ℕ) → Inner v d m → below v (nextChild v m) k ≡ true → List·Memᴰ (cover v k (children v m)) (children v m)
-  cover-child d m i h = rw (i .kids) (go (eqb (v .sibling (v .left m)) (headOr (nextChild v m) (pointers (kept v m)))) refl)
+  cover-child d m i h = rw (i .kids) (go (eqb (v .node (v .node m .left) .sibling) (headOr (nextChild v m) (pointers (kept v m)))) refl)
     where
-      go : (b : Bool) → eqb (v .sibling (v .left m)) (headOr (nextChild v m) (pointers (kept v m))) ≡ b → List·Memᴰ (cover v k (fillRow v (named v m) (nextChild v m))) (fillRow v (named v m) (nextChild v m))
-      go true c = let q = link-yes v (v .left m) (pointers (kept v m)) (nextChild v m) c in rw q (cover-member (v .left m) _ (nextChild v m) (rw q at (rw (i .kids) at (i .chain))) h)
-      go false c = let q = link-no v (v .left m) (pointers (kept v m)) (nextChild v m) c in rw q (cover-member (v .left m) _ (nextChild v m) (rw q at (rw (i .kids) at (i .chain))) h)
+      go : (b : Bool) → eqb (v .node (v .node m .left) .sibling) (headOr (nextChild v m) (pointers (kept v m))) ≡ b → List·Memᴰ (cover v k (fillRow v (named v m) (nextChild v m))) (fillRow v (named v m) (nextChild v m))
+      go true c = let q = link-yes v (v .node m .left) (pointers (kept v m)) (nextChild v m) c in rw q (cover-member (v .node m .left) _ (nextChild v m) (rw q at (rw (i .kids) at (i .chain))) h)
+      go false c = let q = link-no v (v .node m .left) (pointers (kept v m)) (nextChild v m) c in rw q (cover-member (v .node m .left) _ (nextChild v m) (rw q at (rw (i .kids) at (i .chain))) h)
 
   cover-children : (d n : ℕ) (r : List ℕ) (e : ℕ) → Inner v d n → linked v (children v n) e ≡ true → below v e k ≡ true → cover v k (children v n ++ r) ≡ cover v k (children v n)
-  cover-children d n r e i l h = rw (i .kids) (cover-fill (v .left n) (pointers (kept v n)) r e (nextChild v n) (rw (i .kids) at l) h)
+  cover-children d n r e i l h = rw (i .kids) (cover-fill (v .node n .left) (pointers (kept v n)) r e (nextChild v n) (rw (i .kids) at l) h)
 
   -- the covering node one level down is a child of the covering node
   pub cover-flat : (d : ℕ) (ns : List ℕ) → Each (Inner v d) ns → Each (At v (suc d)) ns → linked v ns 0 ≡ true → Each (Good v) (flat (children v) ns) → Each (At v d) (flat (children v) ns)
@@ -291,7 +291,7 @@ module _ (v : View) (k : ℕ) where
   cover-flat d [] i a c g b z = absurd (z refl)
   cover-flat d (n ∷ ns) i a c g b z = go (within v n k) refl (cover-flat d ns (i .1) (a .1) (u .1) (gs .1) (bs .1))
     where
-      u : (v .sibling n ≡ headOr 0 ns) × (linked v ns 0 ≡ true)
+      u : (v .node n .sibling ≡ headOr 0 ns) × (linked v ns 0 ≡ true)
       u = linked-cons v n ns 0 .0 c
 
       gs : Each (Good v) (children v n) × Each (Good v) (flat (children v) ns)
@@ -305,4 +305,4 @@ module _ (v : View) (k : ℕ) where
       go true h ih = rw (cover-in n ns h) (cover-children d n _ (nextChild v n) (i .0) (i .0 .chain) (next-high d n ns (u .0) (i .1) (a .1) h))
       go false h ih =
           let w = next-low d n ns (u .0) (i .1) h in
-          rw (cover-out n ns h) (cover-none d (children v n) (flat (children v) ns) (nextChild v n) (gs .0) (bs .0) (i .0 .chain) (w .0) (w .1) .0 ∙ ih (λ y. below-false (v .sibling n) h .0 (u .0 ∙ y)))
+          rw (cover-out n ns h) (cover-none d (children v n) (flat (children v) ns) (nextChild v n) (gs .0) (bs .0) (i .0 .chain) (w .0) (w .1) .0 ∙ ih (λ y. below-false (v .node n .sibling) h .0 (u .0 ∙ y)))

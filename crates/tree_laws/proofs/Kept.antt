@@ -24,47 +24,47 @@ pub use Rattle.list_laws.proofs.Slots.{each-shown}
 
 -- what is shown of a node from its sibling's fence up
 abbrev pub ignored : View → ℕ → List Slot
-ignored v n = filter (λ (s : Slot). not (within v n (s .key))) (v .shown n)
+ignored v n = filter (λ (s : Slot). not (within v n (s .key))) (v .node n .shown)
 
 pub kept-within : (v : View) (n : ℕ) → Each (λ (s : Slot). within v n (s .key) ≡ true) (kept v n)
 unfolding kept
-kept-within v n = Each-map _ (λ (s : Slot). within v n (s .key) ≡ true) (filter (λ (s : Slot). within v n (s .key)) (v .shown n)) (λ s h. h .1)
-    (Each-filter (λ (s : Slot). Unit {0}) (λ (s : Slot). within v n (s .key)) (v .shown n) (units (v .shown n)))
+kept-within v n = Each-map _ (λ (s : Slot). within v n (s .key) ≡ true) (filter (λ (s : Slot). within v n (s .key)) (v .node n .shown)) (λ s h. h .1)
+    (Each-filter (λ (s : Slot). Unit {0}) (λ (s : Slot). within v n (s .key)) (v .node n .shown) (units (v .node n .shown)))
   where
     units : (ss : List Slot) → Each (λ (s : Slot). Unit {0}) ss
     units [] = tt
     units (s ∷ ss) = (tt, units ss)
 
-pub kept-below : (v : View) (n : ℕ) → v .sibling n ≢ 0 → Each (λ (s : Slot). s .key < v .fence (v .sibling n)) (kept v n)
-kept-below v n z = Each-map (λ (s : Slot). within v n (s .key) ≡ true) (λ (s : Slot). s .key < v .fence (v .sibling n)) (kept v n) (λ s h. below-true v (s .key) (v .sibling n) z h) (kept-within v n)
+pub kept-below : (v : View) (n : ℕ) → v .node n .sibling ≢ 0 → Each (λ (s : Slot). s .key < v .node (v .node n .sibling) .fence) (kept v n)
+kept-below v n z = Each-map (λ (s : Slot). within v n (s .key) ≡ true) (λ (s : Slot). s .key < v .node (v .node n .sibling) .fence) (kept v n) (λ s h. below-true v (s .key) (v .node n .sibling) z h) (kept-within v n)
 
 -- ---- a good node
 
 -- by cases: a leaf, or a node above the leaves
-pub by-level : (v : View) (P : ℕ → Type 0) (n : ℕ) → (v .level n ≡ 0 → P n) → ((d : ℕ) → v .level n ≡ suc d → P n) → P n
-by-level v P n a b = go (v .level n) refl
+pub by-level : (v : View) (P : ℕ → Type 0) (n : ℕ) → (v .node n .level ≡ 0 → P n) → ((d : ℕ) → v .node n .level ≡ suc d → P n) → P n
+by-level v P n a b = go (v .node n .level) refl
   where
-    go : (l : ℕ) → v .level n ≡ l → P n
+    go : (l : ℕ) → v .node n .level ≡ l → P n
     go zero e = a e
     go (suc d) e = b d e
 
 -- its keys rise from its fence, in an inner node from above it
-pub inner-rises : (v : View) (d n : ℕ) → Good v n → v .level n ≡ suc d → rising (suc (v .fence n)) (kept v n) ≡ true
+pub inner-rises : (v : View) (d n : ℕ) → Good v n → v .node n .level ≡ suc d → rising (suc (v .node n .fence)) (kept v n) ≡ true
 unfolding innerOk keysOk
 inner-rises v d n g e = (simp decode at (inner-ok v d n g e)) .0 .0
 
-pub kept-rises : (v : View) (n : ℕ) → Good v n → rising (v .fence n) (kept v n) ≡ true
+pub kept-rises : (v : View) (n : ℕ) → Good v n → rising (v .node n .fence) (kept v n) ≡ true
 unfolding leafOk keysOk
-kept-rises v n g = by-level v (λ (n : ℕ). rising (v .fence n) (kept v n) ≡ true) n (λ e. (simp decode at (leaf-ok v n g e)) .1 .0)
-    (λ d e. rising-weaken (v .fence n) (suc (v .fence n)) (kept v n) (omega arith) (inner-rises v d n g e))
+kept-rises v n g = by-level v (λ (n : ℕ). rising (v .node n .fence) (kept v n) ≡ true) n (λ e. (simp decode at (leaf-ok v n g e)) .1 .0)
+    (λ d e. rising-weaken (v .node n .fence) (suc (v .node n .fence)) (kept v n) (omega arith) (inner-rises v d n g e))
 
-pub kept-from : (v : View) (n : ℕ) → Good v n → Each (λ (s : Slot). v .fence n ≤ s .key) (kept v n)
-kept-from v n g = rising-from (v .fence n) (kept v n) (kept-rises v n g)
+pub kept-from : (v : View) (n : ℕ) → Good v n → Each (λ (s : Slot). v .node n .fence ≤ s .key) (kept v n)
+kept-from v n g = rising-from (v .node n .fence) (kept v n) (kept-rises v n g)
 
 -- the ignored slots come last
-pub kept-first : (v : View) (n : ℕ) → Good v n → comeFirst (λ (s : Slot). within v n (s .key)) (v .shown n) ≡ true
+pub kept-first : (v : View) (n : ℕ) → Good v n → comeFirst (λ (s : Slot). within v n (s .key)) (v .node n .shown) ≡ true
 unfolding leafOk innerOk keysOk
-kept-first v n g = by-level v (λ (n : ℕ). comeFirst (λ (s : Slot). within v n (s .key)) (v .shown n) ≡ true) n (λ e. (simp decode at (leaf-ok v n g e)) .1 .1) (λ d e. (simp decode at (inner-ok v d n g e)) .0 .1)
+kept-first v n g = by-level v (λ (n : ℕ). comeFirst (λ (s : Slot). within v n (s .key)) (v .node n .shown) ≡ true) n (λ e. (simp decode at (leaf-ok v n g e)) .1 .1) (λ d e. (simp decode at (inner-ok v d n g e)) .0 .1)
 
 pub first-split : (q : Slot → Bool) (ss : List Slot) → comeFirst q ss ≡ true → ss ≡ filter q ss ++ filter (λ (s : Slot). not (q s)) ss
 unfolding comeFirst filter
@@ -91,24 +91,24 @@ unfolding comeFirst
 each-first q [] h = refl
 each-first q (s ∷ ss) h = rw (h .0, comeFirst) (each-first q ss (h .1))
 
-pub shown-split : (v : View) (n : ℕ) → Good v n → v .shown n ≡ kept v n ++ ignored v n
+pub shown-split : (v : View) (n : ℕ) → Good v n → v .node n .shown ≡ kept v n ++ ignored v n
 unfolding kept
-shown-split v n g = first-split (λ (s : Slot). within v n (s .key)) (v .shown n) (kept-first v n g)
+shown-split v n g = first-split (λ (s : Slot). within v n (s .key)) (v .node n .shown) (kept-first v n g)
 
-ignored-from : (v : View) (n : ℕ) → Each (λ (s : Slot). v .fence (v .sibling n) ≤ s .key) (ignored v n)
-ignored-from v n = mem-each _ (ignored v n) (λ s m. below-false v (s .key) (v .sibling n) (not-true _ (mem-filter (λ (s : Slot). not (within v n (s .key))) s (v .shown n) .0 m .1)) .1)
+ignored-from : (v : View) (n : ℕ) → Each (λ (s : Slot). v .node (v .node n .sibling) .fence ≤ s .key) (ignored v n)
+ignored-from v n = mem-each _ (ignored v n) (λ s m. below-false v (s .key) (v .node n .sibling) (not-true _ (mem-filter (λ (s : Slot). not (within v n (s .key))) s (v .node n .shown) .0 m .1)) .1)
 
 -- they begin at the place of the sibling's fence
-pub cut-place : (v : View) (n : ℕ) → Good v n → v .sibling n ≢ 0 → placeOf (v .fence (v .sibling n)) (v .shown n) ≡ length (kept v n)
-cut-place v n g z = ap (placeOf (v .fence (v .sibling n))) (shown-split v n g) ∙ place-between (v .fence (v .sibling n)) (kept v n) (ignored v n) (kept-below v n z) (ignored-from v n)
+pub cut-place : (v : View) (n : ℕ) → Good v n → v .node n .sibling ≢ 0 → placeOf (v .node (v .node n .sibling) .fence) (v .node n .shown) ≡ length (kept v n)
+cut-place v n g z = ap (placeOf (v .node (v .node n .sibling) .fence)) (shown-split v n g) ∙ place-between (v .node (v .node n .sibling) .fence) (kept v n) (ignored v n) (kept-below v n z) (ignored-from v n)
 
 -- nothing is ignored exactly if as many slots are kept as are shown
-pub kept-whole : (v : View) (n : ℕ) → (length (kept v n) ≡ length (v .shown n)) ↔ (kept v n ≡ v .shown n)
+pub kept-whole : (v : View) (n : ℕ) → (length (kept v n) ≡ length (v .node n .shown)) ↔ (kept v n ≡ v .node n .shown)
 unfolding kept
-kept-whole v n = (λ e. filter-all (λ (s : Slot). within v n (s .key)) (v .shown n) (filter-whole (λ (s : Slot). within v n (s .key)) (v .shown n) e), λ e. ap length e)
+kept-whole v n = (λ e. filter-all (λ (s : Slot). within v n (s .key)) (v .node n .shown) (filter-whole (λ (s : Slot). within v n (s .key)) (v .node n .shown) e), λ e. ap length e)
 
 -- ---- no shown slot of a table has pointer 0
 
-pub shown-pointers : (t : Words) (r i : ℕ) → Each (λ (s : Slot). s .pointer ≢ 0) (viewFrom t r .shown i)
+pub shown-pointers : (t : Words) (r i : ℕ) → Each (λ (s : Slot). s .pointer ≢ 0) (viewFrom t r .node i .shown)
 unfolding used
 shown-pointers t r i = each-shown (λ (s : Slot). s .pointer ≢ 0) (node t i .left) (used t i) (in-use-some (slotsOf (node t i .slots)))

@@ -17,7 +17,8 @@ use Rattle.model.specs.declared.Unfinished.{Unfinished}
 use Rattle.model.specs.Table.{Words}
 use Rattle.model.specs.Slots.{View, view}
 use Rattle.model.specs.Reached.{kept, named, nextChild, fillRow, children, reached}
-use Rattle.model.specs.SoundTest.{distinct, linked, finished, addFew, addMissing, together, times, trailingIn, own, rowUnfinished, unfinishedAt, unfinished, Leftover, nothing, hiddenIn, missingIn, bothIn, leftover, hasRoom, isNothing, isAllowed, orderly, settledView, soundView, settled, sound}
+use Rattle.model.specs.SoundTest.{distinct, linked, finished, addFew, addMissing, together, times, trailingIn, own, rowUnfinished, unfinishedAt, unfinished}
+use Rattle.model.specs.SoundTest.{Leftover, nothing, hiddenIn, missingIn, bothIn, leftover, hasRoom, isNothing, isAllowed, orderly, settledView, soundView, settled, sound}
 use Rattle.list_laws.proofs.Tools.{and-iff, Each}
 use Rattle.list_laws.proofs.Members.{each-mem, each-iff}
 use Rattle.tree_laws.proofs.Levels.{Orderly, orderly-iff, sound-parts, settled-parts}
@@ -37,47 +38,47 @@ times-one n zero x = (λ e. (let q : _≡_ {A = ℕ} 0 1 = cc in absurd (omega a
 times-one n (suc zero) x = (λ e. ((cc), refl), λ u. ap One (u .0))
 times-one n (suc (suc h)) x = (λ e. (let q : _≡_ {A = ℕ} 0 1 = cc in absurd (omega arith)), λ u. absurd (omega (arith, u .1)))
 
-trailing-yes : (v : View) (n : ℕ) → eqb (length (kept v n)) (length (v .shown n)) ≡ true → trailingIn v n ≡ Zero
+trailing-yes : (v : View) (n : ℕ) → eqb (length (kept v n)) (length (v .node n .shown)) ≡ true → trailingIn v n ≡ Zero
 unfolding trailingIn
 trailing-yes v n c = rw (c, trailingIn)
 
-trailing-no : (v : View) (n : ℕ) → eqb (length (kept v n)) (length (v .shown n)) ≡ false → trailingIn v n ≡ One n
+trailing-no : (v : View) (n : ℕ) → eqb (length (kept v n)) (length (v .node n .shown)) ≡ false → trailingIn v n ≡ One n
 unfolding trailingIn
 trailing-no v n c = rw (c, trailingIn)
 
-pub trailing-zero : (v : View) (n : ℕ) → (trailingIn v n ≡ Zero) ↔ (kept v n ≡ v .shown n)
-trailing-zero v n = (λ e. go (eqb (length (kept v n)) (length (v .shown n))) refl e, λ e. trailing-yes v n (eq-eqb _ _ (ap length e)))
+pub trailing-zero : (v : View) (n : ℕ) → (trailingIn v n ≡ Zero) ↔ (kept v n ≡ v .node n .shown)
+trailing-zero v n = (λ e. go (eqb (length (kept v n)) (length (v .node n .shown))) refl e, λ e. trailing-yes v n (eq-eqb _ _ (ap length e)))
   where
-    go : (b : Bool) → eqb (length (kept v n)) (length (v .shown n)) ≡ b → trailingIn v n ≡ Zero → kept v n ≡ v .shown n
+    go : (b : Bool) → eqb (length (kept v n)) (length (v .node n .shown)) ≡ b → trailingIn v n ≡ Zero → kept v n ≡ v .node n .shown
     go true c e = kept-whole v n .0 (eqb-true _ _ c)
     go false c e = let h : One n ≡ Zero = sym (trailing-no v n c) ∙ e in let q : _≡_ {A = ℕ} 0 1 = cc in absurd (omega arith)
 
-pub trailing-one : (v : View) (n x : ℕ) → (trailingIn v n ≡ One x) ↔ ((n ≡ x) × (kept v n ≢ v .shown n))
-trailing-one v n x = (λ e. go (eqb (length (kept v n)) (length (v .shown n))) refl e, λ u. trailing-no v n (ne-eqb _ _ (λ q. u .1 (kept-whole v n .0 q))) ∙ ap One (u .0))
+pub trailing-one : (v : View) (n x : ℕ) → (trailingIn v n ≡ One x) ↔ ((n ≡ x) × (kept v n ≢ v .node n .shown))
+trailing-one v n x = (λ e. go (eqb (length (kept v n)) (length (v .node n .shown))) refl e, λ u. trailing-no v n (ne-eqb _ _ (λ q. u .1 (kept-whole v n .0 q))) ∙ ap One (u .0))
   where
-    go : (b : Bool) → eqb (length (kept v n)) (length (v .shown n)) ≡ b → trailingIn v n ≡ One x → (n ≡ x) × (kept v n ≢ v .shown n)
+    go : (b : Bool) → eqb (length (kept v n)) (length (v .node n .shown)) ≡ b → trailingIn v n ≡ One x → (n ≡ x) × (kept v n ≢ v .node n .shown)
     go true c e = let h : Zero ≡ One x = sym (trailing-yes v n c) ∙ e in let q : _≡_ {A = ℕ} 0 1 = cc in absurd (omega arith)
     go false c e = let h : One n ≡ One x = sym (trailing-no v n c) ∙ e in ((cc), λ q. eqb-false _ _ c (ap length q))
 
 -- ---- one node
 
-at-leaf : (v : View) (n : ℕ) → v .level n ≡ 0 → unfinishedAt v n ≡ together (own v n) finished
+at-leaf : (v : View) (n : ℕ) → v .node n .level ≡ 0 → unfinishedAt v n ≡ together (own v n) finished
 unfolding unfinishedAt
-at-leaf v n e = rw (eq-eqb (v .level n) 0 e, unfinishedAt)
+at-leaf v n e = rw (eq-eqb (v .node n .level) 0 e, unfinishedAt)
 
-at-inner : (v : View) (n : ℕ) → v .level n ≢ 0 → unfinishedAt v n ≡ together (own v n) (rowUnfinished v n (named v n) (nextChild v n))
+at-inner : (v : View) (n : ℕ) → v .node n .level ≢ 0 → unfinishedAt v n ≡ together (own v n) (rowUnfinished v n (named v n) (nextChild v n))
 unfolding unfinishedAt
-at-inner v n z = rw (ne-eqb (v .level n) 0 z, unfinishedAt)
+at-inner v n z = rw (ne-eqb (v .node n .level) 0 z, unfinishedAt)
 
 few-right : (x y : Few) → y ≡ Zero → addFew x y ≡ x
 few-right Zero y e = e
 few-right (One x) y e = rw e
 few-right Many y e = refl
 
-by-leaf : (v : View) (P : Type 0) (n : ℕ) → (v .level n ≡ 0 → P) → (v .level n ≢ 0 → P) → P
+by-leaf : (v : View) (P : Type 0) (n : ℕ) → (v .node n .level ≡ 0 → P) → (v .node n .level ≢ 0 → P) → P
 by-leaf v P n a b = by-level v (λ (n : ℕ). P) n a (λ d e. b (λ z. omega arith))
 
-pub at-hidden : (v : View) (n : ℕ) → unfinishedAt v n .hidden ≡ times n (v .hidden n)
+pub at-hidden : (v : View) (n : ℕ) → unfinishedAt v n .hidden ≡ times n (v .node n .hidden)
 unfolding own
 at-hidden v n = by-leaf v _ n (λ e. rw (at-leaf v n e) (few-right _ Zero refl)) (λ z. rw (at-inner v n z) (few-right _ _ (row-only v n (named v n) (nextChild v n) .0)))
 
@@ -85,49 +86,49 @@ pub at-trailing : (v : View) (n : ℕ) → unfinishedAt v n .trailing ≡ traili
 unfolding own
 at-trailing v n = by-leaf v _ n (λ e. rw (at-leaf v n e) (few-right _ Zero refl)) (λ z. rw (at-inner v n z) (few-right _ _ (row-only v n (named v n) (nextChild v n) .1)))
 
-pub missing-leaf : (v : View) (n : ℕ) → v .level n ≡ 0 → unfinishedAt v n .missing ≡ Nowhere
+pub missing-leaf : (v : View) (n : ℕ) → v .node n .level ≡ 0 → unfinishedAt v n .missing ≡ Nowhere
 unfolding own
 missing-leaf v n e = rw (at-leaf v n e)
 
-pub missing-inner : (v : View) (n : ℕ) → v .level n ≢ 0 → unfinishedAt v n .missing ≡ rowUnfinished v n (named v n) (nextChild v n) .missing
+pub missing-inner : (v : View) (n : ℕ) → v .node n .level ≢ 0 → unfinishedAt v n .missing ≡ rowUnfinished v n (named v n) (nextChild v n) .missing
 unfolding own
 missing-inner v n z = rw (at-inner v n z)
 
-pub children-of : (v : View) (n : ℕ) → v .level n ≢ 0 → children v n ≡ fillRow v (named v n) (nextChild v n)
+pub children-of : (v : View) (n : ℕ) → v .node n .level ≢ 0 → children v n ≡ fillRow v (named v n) (nextChild v n)
 unfolding children
-children-of v n z = rw (ne-eqb (v .level n) 0 z, children)
+children-of v n z = rw (ne-eqb (v .node n .level) 0 z, children)
 
 -- a node names all its children exactly if those that it names are linked
-pub names-linked : (v : View) (n : ℕ) → v .level n ≢ 0 → (children v n ≡ named v n) ↔ (linked v (named v n) (nextChild v n) ≡ true)
+pub names-linked : (v : View) (n : ℕ) → v .node n .level ≢ 0 → (children v n ≡ named v n) ↔ (linked v (named v n) (nextChild v n) ≡ true)
 names-linked v n z = (
   λ e. fill-whole v (named v n) (nextChild v n) .0 (sym (children-of v n z) ∙ e),
   λ l. children-of v n z ∙ fill-whole v (named v n) (nextChild v n) .1 l,
 )
 
 -- a node that lacks the slot of a's sibling has that sibling as a child all the same
-pub gap-children : (v : View) (p a : ℕ) → v .level p ≢ 0 → (g : Gap v a (named v p) (nextChild v p)) → children v p ≡ g .before ++ a ∷ v .sibling a ∷ g .after
+pub gap-children : (v : View) (p a : ℕ) → v .node p .level ≢ 0 → (g : Gap v a (named v p) (nextChild v p)) → children v p ≡ g .before ++ a ∷ v .node a .sibling ∷ g .after
 gap-children v p a z g = children-of v p z ∙ fill-gap v a (named v p) (nextChild v p) g
 
-hidden-zero : (v : View) (n : ℕ) → (unfinishedAt v n .hidden ≡ Zero) ↔ (v .hidden n ≡ 0)
-hidden-zero v n = rw (at-hidden v n) (times-zero n (v .hidden n))
+hidden-zero : (v : View) (n : ℕ) → (unfinishedAt v n .hidden ≡ Zero) ↔ (v .node n .hidden ≡ 0)
+hidden-zero v n = rw (at-hidden v n) (times-zero n (v .node n .hidden))
 
-hidden-one : (v : View) (n x : ℕ) → (unfinishedAt v n .hidden ≡ One x) ↔ ((n ≡ x) × (v .hidden n ≡ 1))
-hidden-one v n x = rw (at-hidden v n) (times-one n (v .hidden n) x)
+hidden-one : (v : View) (n x : ℕ) → (unfinishedAt v n .hidden ≡ One x) ↔ ((n ≡ x) × (v .node n .hidden ≡ 1))
+hidden-one v n x = rw (at-hidden v n) (times-one n (v .node n .hidden) x)
 
-trails-zero : (v : View) (n : ℕ) → (unfinishedAt v n .trailing ≡ Zero) ↔ (kept v n ≡ v .shown n)
+trails-zero : (v : View) (n : ℕ) → (unfinishedAt v n .trailing ≡ Zero) ↔ (kept v n ≡ v .node n .shown)
 trails-zero v n = rw (at-trailing v n) (trailing-zero v n)
 
-trails-one : (v : View) (n x : ℕ) → (unfinishedAt v n .trailing ≡ One x) ↔ ((n ≡ x) × (kept v n ≢ v .shown n))
+trails-one : (v : View) (n x : ℕ) → (unfinishedAt v n .trailing ≡ One x) ↔ ((n ≡ x) × (kept v n ≢ v .node n .shown))
 trails-one v n x = rw (at-trailing v n) (trailing-one v n x)
 
-lacks-nowhere : (v : View) (n : ℕ) → (unfinishedAt v n .missing ≡ Nowhere) ↔ (v .level n ≢ 0 → children v n ≡ named v n)
+lacks-nowhere : (v : View) (n : ℕ) → (unfinishedAt v n .missing ≡ Nowhere) ↔ (v .node n .level ≢ 0 → children v n ≡ named v n)
 lacks-nowhere v n = (
   λ e z. children-of v n z ∙ fill-whole v (named v n) (nextChild v n) .1 (row-nowhere v n (named v n) (nextChild v n) .0 (sym (missing-inner v n z) ∙ e)),
   λ h. by-leaf v _ n (λ e. missing-leaf v n e)
       (λ z. missing-inner v n z ∙ row-nowhere v n (named v n) (nextChild v n) .1 (fill-whole v (named v n) (nextChild v n) .0 (sym (children-of v n z) ∙ h z))),
 )
 
-lacks-under : (v : View) (n q a : ℕ) → (unfinishedAt v n .missing ≡ Under q a) ↔ ((n ≡ q) × (v .level n ≢ 0) × Gap v a (named v n) (nextChild v n))
+lacks-under : (v : View) (n q a : ℕ) → (unfinishedAt v n .missing ≡ Under q a) ↔ ((n ≡ q) × (v .node n .level ≢ 0) × Gap v a (named v n) (nextChild v n))
 lacks-under v n q a = (
   λ e. by-leaf v _ n (λ l. (let h : Nowhere ≡ Under q a = sym (missing-leaf v n l) ∙ e in let z : _≡_ {A = ℕ} 0 1 = cc in absurd (omega arith)))
       (λ z. let u = row-under v n (named v n) (nextChild v n) q a .0 (sym (missing-inner v n z) ∙ e) in (u .0, z, u .1)),
@@ -136,9 +137,9 @@ lacks-under v n q a = (
 
 -- nothing is unfinished at node n: no hidden slot, every shown slot is kept, and an inner node names all its children
 pub record NothingUnfinished (v : View) (n : ℕ) : Type 0 where
-  pub shows : v .hidden n ≡ 0
-  pub keeps : kept v n ≡ v .shown n
-  pub names : v .level n ≢ 0 → children v n ≡ named v n
+  pub shows : v .node n .hidden ≡ 0
+  pub keeps : kept v n ≡ v .node n .shown
+  pub names : v .node n .level ≢ 0 → children v n ≡ named v n
 
 pub nothing-iff : (v : View) (n : ℕ) → (unfinishedAt v n ≡ finished) ↔ NothingUnfinished v n
 nothing-iff v n = (
@@ -153,25 +154,25 @@ nothing-iff v n = (
 -- ---- the whole tree: which reached node has what
 
 abbrev pub NoneHidden : View → Type 0
-NoneHidden v = Each (λ (n : ℕ). v .hidden n ≡ 0) (reached v)
+NoneHidden v = Each (λ (n : ℕ). v .node n .hidden ≡ 0) (reached v)
 
 abbrev pub NoneTrailing : View → Type 0
-NoneTrailing v = Each (λ (n : ℕ). kept v n ≡ v .shown n) (reached v)
+NoneTrailing v = Each (λ (n : ℕ). kept v n ≡ v .node n .shown) (reached v)
 
 abbrev pub NoneMissing : View → Type 0
-NoneMissing v = Each (λ (n : ℕ). v .level n ≢ 0 → children v n ≡ named v n) (reached v)
+NoneMissing v = Each (λ (n : ℕ). v .node n .level ≢ 0 → children v n ≡ named v n) (reached v)
 
 -- x has one hidden slot, and no other node has one
 abbrev pub HiddenOnly : View → ℕ → Type 0
-HiddenOnly v x = OnlyAt x (reached v) (v .hidden x ≡ 1) (λ (n : ℕ). v .hidden n ≡ 0)
+HiddenOnly v x = OnlyAt x (reached v) (v .node x .hidden ≡ 1) (λ (n : ℕ). v .node n .hidden ≡ 0)
 
 -- a shows slots from its sibling's fence up, and no other node does
 abbrev pub TrailingOnly : View → ℕ → Type 0
-TrailingOnly v a = OnlyAt a (reached v) (kept v a ≢ v .shown a) (λ (n : ℕ). kept v n ≡ v .shown n)
+TrailingOnly v a = OnlyAt a (reached v) (kept v a ≢ v .node a .shown) (λ (n : ℕ). kept v n ≡ v .node n .shown)
 
 -- p lacks the slot of a's sibling, and no other node lacks a slot
 abbrev pub MissingOnly : View → ℕ → ℕ → Type 0
-MissingOnly v p a = OnlyAt p (reached v) ((v .level p ≢ 0) × Gap v a (named v p) (nextChild v p)) (λ (n : ℕ). v .level n ≢ 0 → children v n ≡ named v n)
+MissingOnly v p a = OnlyAt p (reached v) ((v .node p .level ≢ 0) × Gap v a (named v p) (nextChild v p)) (λ (n : ℕ). v .node n .level ≢ 0 → children v n ≡ named v n)
 
 abbrev pub Left : View → Leftover → Type 0
 Left v nothing = NoneHidden v × NoneTrailing v × NoneMissing v

@@ -7,8 +7,8 @@ use Prim.Native.Nat.{ℕ, zero, suc, _+_, _-_, _≤_, _<_}
 use native.Mathlib.Omega.{arith}
 use lib.ListN.{length}
 use Rattle.model.specs.Table.{MARK, Words, inRange, headerOk}
-use Rattle.model.specs.Slots.{View, view, height}
-use Rattle.model.specs.Reached.{flat, headOr, children, reachedFrom, leavesFrom, reached, leaves, mapping, recording}
+use Rattle.model.specs.Slots.{View, view, height, recording}
+use Rattle.model.specs.Reached.{flat, headOr, children, reachedFrom, leavesFrom, reached, leaves, mapping}
 use Rattle.model.specs.SoundTest.{elem, distinct, linked, nodeOk, rootOk, orderly, settledView, soundView, settled, sound}
 use Rattle.list_laws.proofs.Tools.{decode, and-iff, all-each, Each, Each-map, Each-append}
 use Rattle.list_laws.proofs.Members.{each-mem, elem-false}
@@ -20,8 +20,8 @@ use Rattle.tree_laws.proofs.Rows.{Good, At, Row, Deep, inner, not-zero,
 pub record RootFacts (v : View) : Type 0 where
   pub range : inRange (v .nodes) (v .root) ≡ true
   pub level : height v ≤ 15
-  pub fence : v .fence (v .root) ≡ 0
-  pub sibling : v .sibling (v .root) ≡ 0
+  pub fence : v .node (v .root) .fence ≡ 0
+  pub sibling : v .node (v .root) .sibling ≡ 0
 
 pub root-iff : (v : View) → (rootOk v ≡ true) ↔ RootFacts v
 unfolding rootOk
@@ -47,10 +47,6 @@ pub sound-orderly : (v : View) → soundView v ≡ true → Orderly v
 unfolding soundView
 sound-orderly v h = orderly-iff v .0 (and-iff _ _ .0 h .0)
 
-pub settled-orderly : (v : View) → settledView v ≡ true → Orderly v
-unfolding settledView
-settled-orderly v h = orderly-iff v .0 (and-iff _ _ .0 h .0)
-
 -- a table's header is right, and its view is sound
 pub sound-parts : (t : Words) → (sound t ≡ true) ↔ ((headerOk t ≡ true) × (soundView (view t) ≡ true))
 unfolding sound
@@ -73,7 +69,7 @@ pub record Level (v : View) (d : ℕ) (ns : List ℕ) : Type 0 where
   pub row : Row v d ns
   pub deep : Deep v d ns
   pub some : headOr 0 ns ≢ 0
-  pub first : v .fence (headOr 0 ns) ≡ 0
+  pub first : v .node (headOr 0 ns) .fence ≡ 0
 
 -- the nodes of level d, from left to right
 abbrev pub rowAt : View → ℕ → List ℕ
@@ -84,8 +80,13 @@ level-lower v d [] l = absurd (l .some refl)
 level-lower v d (n ∷ ns) l =
     let r = l .row in
     let i = inner v d n (r .good .0) (r .at .0 .level) in
-    let e : headOr 0 (flat (children v) (n ∷ ns)) ≡ v .left n = head-children v d (n ∷ ns) (r .at) ∙ first-child v n (l .some) in
-    record { row = row-lower v d (n ∷ ns) r (l .deep); deep = deep-lower v d (n ∷ ns) (l .deep); some = λ q. not-zero v (v .left n) (left-range v d n i) (sym e ∙ q); first = ap (λ (x : ℕ). v .fence x) e ∙ i .leftFence ∙ l .first }
+    let e : headOr 0 (flat (children v) (n ∷ ns)) ≡ v .node n .left = head-children v d (n ∷ ns) (r .at) ∙ first-child v n (l .some) in
+    record {
+      row = row-lower v d (n ∷ ns) r (l .deep);
+      deep = deep-lower v d (n ∷ ns) (l .deep);
+      some = λ q. not-zero v (v .node n .left) (left-range v d n i) (sym e ∙ q);
+      first = ap (λ (x : ℕ). v .node x .fence) e ∙ i .leftFence ∙ l .first;
+    }
 
 -- i levels down
 pub level-down : (v : View) (i j d : ℕ) (ns : List ℕ) → d ≡ i + j → Level v d ns → Level v j (leavesFrom v i ns)
@@ -97,7 +98,12 @@ level-down v (suc i) j (suc d) ns e l = level-down v i j d (flat (children v) ns
 pub level-root : (v : View) → RootFacts v → Each (Good v) (reached v) → Level v (height v) (v .root ∷ [])
 level-root v t g =
     let n = v .root in
-    record { row = record { good = deep-here v (height v) (n ∷ []) g; at = (record { range = t .range; level = refl }, tt); chain = linked-cons v n [] 0 .1 (t .sibling, unfold linked in refl) }; deep = g; some = not-zero v n (t .range); first = t .fence }
+    record {
+      row = record { good = deep-here v (height v) (n ∷ []) g; at = (record { range = t .range; level = refl }, tt); chain = linked-cons v n [] 0 .1 (t .sibling, unfold linked in refl) };
+      deep = g;
+      some = not-zero v n (t .range);
+      first = t .fence;
+    }
 
 pub top-row : (v : View) → Orderly v → Row v (height v) (v .root ∷ [])
 top-row v o = level-root v (o .top) (o .good) .row
@@ -143,20 +149,20 @@ pub row-reached : (v : View) (n d : ℕ) → d ≤ height v → List·Memᴰ n (
 row-reached v n d h m = mem-reached v n (height v) (v .root ∷ []) .1 (height v - d, omega arith, m)
 
 pub record InRow (v : View) (n : ℕ) : Type 0 where
-  pub level : v .level n ≤ height v
-  pub row : List·Memᴰ n (rowAt v (v .level n))
+  pub level : v .node n .level ≤ height v
+  pub row : List·Memᴰ n (rowAt v (v .node n .level))
 
 pub reached-row : (v : View) (n : ℕ) → Orderly v → List·Memᴰ n (reached v) → InRow v n
 reached-row v n o m =
     let u = mem-reached v n (height v) (v .root ∷ []) .0 m in
     let i = u .0 in
     let l = level-down v i (height v - i) (height v) (v .root ∷ []) (omega (arith, u .1)) (level-root v (o .top) (o .good)) in
-    let e : v .level n ≡ height v - i = each-mem (At v (height v - i)) (l .row .at) (u .2) .level in
-    let q : height v - v .level n ≡ i = omega (arith, u .1) in
+    let e : v .node n .level ≡ height v - i = each-mem (At v (height v - i)) (l .row .at) (u .2) .level in
+    let q : height v - v .node n .level ≡ i = omega (arith, u .1) in
     record { level = omega arith; row = rw q (u .2) }
 
 -- the leaves are the reached nodes of level 0
-pub mem-leaves : (v : View) (n : ℕ) → Orderly v → List·Memᴰ n (leaves v) ↔ (List·Memᴰ n (reached v) × (v .level n ≡ 0))
+pub mem-leaves : (v : View) (n : ℕ) → Orderly v → List·Memᴰ n (leaves v) ↔ (List·Memᴰ n (reached v) × (v .node n .level ≡ 0))
 mem-leaves v n o = (
   λ m. (mem-reached v n (height v) (v .root ∷ []) .1 (height v, omega arith, m), each-mem (At v 0) (level-leaves v o .row .at) m .level),
   λ u. rw (row-leaves v) at (rw (u .1) at (reached-row v n o (u .0) .row)),
@@ -166,50 +172,50 @@ mem-leaves v n o = (
 
 abbrev pub Ascending : View → List ℕ → Type 0
 Ascending v [] = Unit {0}
-Ascending v (n ∷ ns) = Each (λ (m : ℕ). v .fence n < v .fence m) ns × Ascending v ns
+Ascending v (n ∷ ns) = Each (λ (m : ℕ). v .node n .fence < v .node m .fence) ns × Ascending v ns
 
 pub row-tail : (v : View) (d n : ℕ) (ns : List ℕ) → Row v d (n ∷ ns) → Row v d ns
 row-tail v d n ns r = record { good = r .good .1; at = r .at .1; chain = linked-cons v n ns 0 .0 (r .chain) .1 }
 
-row-above : (v : View) (d n : ℕ) (ns : List ℕ) → Row v d (n ∷ ns) → Each (λ (m : ℕ). v .fence n < v .fence m) ns
+row-above : (v : View) (d n : ℕ) (ns : List ℕ) → Row v d (n ∷ ns) → Each (λ (m : ℕ). v .node n .fence < v .node m .fence) ns
 row-above v d n [] r = tt
 row-above v d n (m ∷ ms) r =
     let u = linked-cons v n (m ∷ ms) 0 .0 (r .chain) in
     let s = sib-facts v n (r .good .0) (λ z. not-zero v m (r .at .1 .0 .range) (sym (u .0) ∙ z)) in
-    let l : v .fence n < v .fence m = rw (u .0) at (s .fence) in
-    (l, Each-map (λ (k : ℕ). v .fence m < v .fence k) (λ (k : ℕ). v .fence n < v .fence k) ms (λ k h. omega arith) (row-above v d m ms (row-tail v d n (m ∷ ms) r)))
+    let l : v .node n .fence < v .node m .fence = rw (u .0) at (s .fence) in
+    (l, Each-map (λ (k : ℕ). v .node m .fence < v .node k .fence) (λ (k : ℕ). v .node n .fence < v .node k .fence) ms (λ k h. omega arith) (row-above v d m ms (row-tail v d n (m ∷ ms) r)))
 
 pub ascending : (v : View) (d : ℕ) (ns : List ℕ) → Row v d ns → Ascending v ns
 ascending v d [] r = tt
 ascending v d (n ∷ ns) r = (row-above v d n ns r, ascending v d ns (row-tail v d n ns r))
 
 -- the first node of a row has its lowest fence
-pub head-least : (v : View) (d n : ℕ) (ns : List ℕ) → Row v d ns → List·Memᴰ n ns → (headOr 0 ns ≢ 0) × (v .fence (headOr 0 ns) ≤ v .fence n)
+pub head-least : (v : View) (d n : ℕ) (ns : List ℕ) → Row v d ns → List·Memᴰ n ns → (headOr 0 ns ≢ 0) × (v .node (headOr 0 ns) .fence ≤ v .node n .fence)
 head-least v d n [] r m = absurd (List·Memᴰ·not-nil m)
 head-least v d n (x ∷ xs) r m = (
   not-zero v x (r .at .0 .range),
   ⊎-elim (λ e. rw e (omega arith))
-      (λ t. let h = each-mem (λ (y : ℕ). v .fence x < v .fence y) (ascending v d (x ∷ xs) r .0) t in omega arith) (List·Memᴰ·cases-cons m),
+      (λ t. let h = each-mem (λ (y : ℕ). v .node x .fence < v .node y .fence) (ascending v d (x ∷ xs) r .0) t in omega arith) (List·Memᴰ·cases-cons m),
 )
 
 pub row-distinct : (v : View) (ns : List ℕ) → Ascending v ns → distinct ns ≡ true
 row-distinct v [] a = unfold distinct in refl
 row-distinct v (n ∷ ns) a =
-    let apart : (m : ℕ) → v .fence n < v .fence m → m ≢ n = λ m h e. omega (arith, ap (λ (x : ℕ). v .fence x) e) in
-    distinct-cons n ns .1 (elem-false n ns .1 (Each-map (λ (m : ℕ). v .fence n < v .fence m) (λ (m : ℕ). m ≢ n) ns apart (a .0)), row-distinct v ns (a .1))
+    let apart : (m : ℕ) → v .node n .fence < v .node m .fence → m ≢ n = λ m h e. omega (arith, ap (λ (x : ℕ). v .node x .fence) e) in
+    distinct-cons n ns .1 (elem-false n ns .1 (Each-map (λ (m : ℕ). v .node n .fence < v .node m .fence) (λ (m : ℕ). m ≢ n) ns apart (a .0)), row-distinct v ns (a .1))
 
 -- nodes of one row with the same fence are one
-pub row-apart : (v : View) (m n : ℕ) (ns : List ℕ) → Ascending v ns → List·Memᴰ m ns → List·Memᴰ n ns → v .fence m ≡ v .fence n → m ≡ n
+pub row-apart : (v : View) (m n : ℕ) (ns : List ℕ) → Ascending v ns → List·Memᴰ m ns → List·Memᴰ n ns → v .node m .fence ≡ v .node n .fence → m ≡ n
 row-apart v m n [] a x y e = absurd (List·Memᴰ·not-nil x)
-row-apart v m n (k ∷ ks) a x y e = ⊎-elim (λ p. ⊎-elim (λ q. p ∙ sym q) (λ q. absurd (far n q (ap (λ (x : ℕ). v .fence x) (sym p) ∙ e))) (List·Memᴰ·cases-cons y))
-    (λ p. ⊎-elim (λ q. absurd (far m p (ap (λ (x : ℕ). v .fence x) (sym q) ∙ sym e))) (λ q. row-apart v m n ks (a .1) p q e) (List·Memᴰ·cases-cons y)) (List·Memᴰ·cases-cons x)
+row-apart v m n (k ∷ ks) a x y e = ⊎-elim (λ p. ⊎-elim (λ q. p ∙ sym q) (λ q. absurd (far n q (ap (λ (x : ℕ). v .node x .fence) (sym p) ∙ e))) (List·Memᴰ·cases-cons y))
+    (λ p. ⊎-elim (λ q. absurd (far m p (ap (λ (x : ℕ). v .node x .fence) (sym q) ∙ sym e))) (λ q. row-apart v m n ks (a .1) p q e) (List·Memᴰ·cases-cons y)) (List·Memᴰ·cases-cons x)
   where
-    far : (j : ℕ) → List·Memᴰ j ks → v .fence k ≡ v .fence j → ⊥
-    far j h q = let l = each-mem (λ (m : ℕ). v .fence k < v .fence m) (a .0) h in omega arith
+    far : (j : ℕ) → List·Memᴰ j ks → v .node k .fence ≡ v .node j .fence → ⊥
+    far j h q = let l = each-mem (λ (m : ℕ). v .node k .fence < v .node m .fence) (a .0) h in omega arith
 
 -- a node number, on level d at most
 abbrev pub Bounded : View → ℕ → ℕ → Type 0
-Bounded v d n = (inRange (v .nodes) n ≡ true) × (v .level n ≤ d)
+Bounded v d n = (inRange (v .nodes) n ≡ true) × (v .node n .level ≤ d)
 
 levels-below : (v : View) (d : ℕ) (ns : List ℕ) → Level v d ns → Each (Bounded v d) (reachedFrom v d ns)
 unfolding reachedFrom
@@ -226,7 +232,7 @@ once-from v (suc d) ns l =
     let lower = reachedFrom v d (flat (children v) ns) in
     let b = levels-below v d (flat (children v) ns) (level-lower v d ns l) in
     let off : (n : ℕ) → At v (suc d) n → elem n lower ≡ false = λ n a.
-    elem-false n lower .1 (Each-map (Bounded v d) (λ (m : ℕ). m ≢ n) lower (λ m h e. omega (arith, h .1, a .level, ap (λ (x : ℕ). v .level x) e)) b) in
+    elem-false n lower .1 (Each-map (Bounded v d) (λ (m : ℕ). m ≢ n) lower (λ m h e. omega (arith, h .1, a .level, ap (λ (x : ℕ). v .node x .level) e)) b) in
     distinct-append ns lower .1 (row-distinct v ns (ascending v (suc d) ns (l .row)), once-from v d (flat (children v) ns) (level-lower v d ns l), Each-map (At v (suc d)) (λ (n : ℕ). elem n lower ≡ false) ns off (l .row .at))
 
 -- that no node is reached twice follows from the rest
@@ -242,10 +248,6 @@ reached-numbers v o = Each-map (Bounded v (height v)) (UpTo (v .nodes)) (reached
 
 pub reached-few : (v : View) → Orderly v → length (reached v) ≤ v .nodes
 reached-few v o = pigeonhole (v .nodes) (reached v) (o .once) (reached-numbers v o)
-
--- a node stands once among those of its level
-pub row-once : (v : View) (n d : ℕ) → Orderly v → d ≤ height v → List·Memᴰ n (rowAt v d) → Once n (rowAt v d)
-row-once v n d o h m = once n (rowAt v d) (row-distinct v (rowAt v d) (ascending v d (rowAt v d) (level-at v d o h .row))) m
 
 pub leaf-once : (v : View) (n : ℕ) → Orderly v → List·Memᴰ n (leaves v) → Once n (leaves v)
 leaf-once v n o m = once n (leaves v) (row-distinct v (leaves v) (ascending v 0 (leaves v) (level-leaves v o .row))) m

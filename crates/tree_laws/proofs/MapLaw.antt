@@ -6,15 +6,16 @@ use mathlib.Core.List.{List, [], _∷_, _++_, map, append-nil, List·Memᴰ, Lis
 use Prim.Native.Nat.{ℕ, _≤_, _<_}
 use native.Mathlib.Omega.{arith}
 use Rattle.model.specs.Table.{MARK, Words, root}
-use Rattle.model.specs.Slots.{Slot, View, view}
+use Rattle.model.specs.Slots.{Slot, View, nodeView, view, recording}
 use Rattle.model.specs.Search.{within}
-use Rattle.model.specs.Reached.{flat, kept, leaves, mapping, mapOf, recording}
+use Rattle.model.specs.Reached.{flat, kept, leaves, mapping, mapOf, pointers}
 use Rattle.model.specs.SoundTest.{elem, distinct, rising, sound}
 use Rattle.model.specs.Sound.{Rise}
 use Rattle.list_laws.proofs.Tools.{Each, Each-map, Each-append, Each-filter, flat-append}
 use Rattle.list_laws.proofs.Members.{each-both, elem-false, each-mem, map-flat}
 use Rattle.list_laws.proofs.Distinct.{distinct-cons, flat-off, distinct-part}
 use Rattle.list_laws.proofs.Lists.{each-map}
+use Rattle.list_laws.proofs.Recordings.{recordings-apart}
 use Rattle.tree_laws.proofs.Rows.{Row, not-zero, sib-facts, linked-cons}
 use Rattle.tree_laws.proofs.Cover.{below-low}
 use Rattle.tree_laws.proofs.Levels.{Orderly, Level, level-leaves, row-tail, head-least, leaf-once, orderly-of}
@@ -23,27 +24,27 @@ use Rattle.tree_laws.proofs.Kept.{kept-below, kept-rises, shown-pointer
 
 -- ---- the kept slots along a row
 
-pub row-rises : (v : View) (d n : ℕ) (ns : List ℕ) → Row v d (n ∷ ns) → rising (v .fence n) (flat (kept v) (n ∷ ns)) ≡ true
+pub row-rises : (v : View) (d n : ℕ) (ns : List ℕ) → Row v d (n ∷ ns) → rising (v .node n .fence) (flat (kept v) (n ∷ ns)) ≡ true
 unfolding flat
 row-rises v d n [] r = rw (append-nil (kept v n)) (kept-rises v n (r .good .0))
 row-rises v d n (m ∷ ns) r =
     let u = linked-cons v n (m ∷ ns) 0 .0 (r .chain) in
-    let z : v .sibling n ≢ 0 = λ q. not-zero v m (r .at .1 .0 .range) (sym (u .0) ∙ q) in
-    let l : v .fence n < v .fence m = rw (u .0) at (sib-facts v n (r .good .0) z .fence) in
-    rising-join (v .fence n) (v .fence m) (kept v n) (flat (kept v) (m ∷ ns)) (omega arith) (kept-rises v n (r .good .0)) (rw (u .0) at (kept-below v n z)) (row-rises v d m ns (row-tail v d n (m ∷ ns) r))
+    let z : v .node n .sibling ≢ 0 = λ q. not-zero v m (r .at .1 .0 .range) (sym (u .0) ∙ q) in
+    let l : v .node n .fence < v .node m .fence = rw (u .0) at (sib-facts v n (r .good .0) z .fence) in
+    rising-join (v .node n .fence) (v .node m .fence) (kept v n) (flat (kept v) (m ∷ ns)) (omega arith) (kept-rises v n (r .good .0)) (rw (u .0) at (kept-below v n z)) (row-rises v d m ns (row-tail v d n (m ∷ ns) r))
 
 -- the nodes before x in a row hold keys below x's fence only
-row-low : (v : View) (d x : ℕ) (ls rs : List ℕ) → Row v d (ls ++ x ∷ rs) → Each (λ (s : Slot). s .key < v .fence x) (flat (kept v) ls)
+row-low : (v : View) (d x : ℕ) (ls rs : List ℕ) → Row v d (ls ++ x ∷ rs) → Each (λ (s : Slot). s .key < v .node x .fence) (flat (kept v) ls)
 unfolding flat
 row-low v d x [] rs r = tt
 row-low v d x (n ∷ ls) rs r =
     let u = linked-cons v n (ls ++ x ∷ rs) 0 .0 (r .chain) in
     let t = row-tail v d n (ls ++ x ∷ rs) r in
     let h = head-least v d x (ls ++ x ∷ rs) t (Memᴰ·append-right ls {t = x ∷ rs} (List·Memᴰ·head refl)) in
-    let z : v .sibling n ≢ 0 = λ q. h .0 (sym (u .0) ∙ q) in
-    let w : v .fence (v .sibling n) ≤ v .fence x = rw (u .0) (h .1) in
-    Each-append (λ (s : Slot). s .key < v .fence x) (kept v n) (flat (kept v) ls)
-    (Each-map (λ (s : Slot). s .key < v .fence (v .sibling n)) (λ (s : Slot). s .key < v .fence x) (kept v n) (λ s q. omega arith) (kept-below v n z)) (row-low v d x ls rs t)
+    let z : v .node n .sibling ≢ 0 = λ q. h .0 (sym (u .0) ∙ q) in
+    let w : v .node (v .node n .sibling) .fence ≤ v .node x .fence = rw (u .0) (h .1) in
+    Each-append (λ (s : Slot). s .key < v .node x .fence) (kept v n) (flat (kept v) ls)
+    (Each-map (λ (s : Slot). s .key < v .node (v .node n .sibling) .fence) (λ (s : Slot). s .key < v .node x .fence) (kept v n) (λ s q. omega arith) (kept-below v n z)) (row-low v d x ls rs t)
 
 -- those after x hold keys from x's sibling's fence up only
 row-high : (v : View) (d x : ℕ) (rs : List ℕ) → Row v d (x ∷ rs) → Each (λ (s : Slot). within v x (s .key) ≡ false) (flat (kept v) rs)
@@ -53,7 +54,8 @@ row-high v d x (m ∷ rs) r =
     let u = linked-cons v x (m ∷ rs) 0 .0 (r .chain) in
     let t = row-tail v d x (m ∷ rs) r in
     let f = row-rises v d m rs t in
-    Each-map (λ (s : Slot). v .fence m ≤ s .key) (λ (s : Slot). within v x (s .key) ≡ false) (flat (kept v) (m ∷ rs)) (λ s q. rw (u .0) (below-low v (s .key) m (not-zero v m (t .at .0 .range)) q)) (rising-from (v .fence m) (flat (kept v) (m ∷ rs)) f)
+    Each-map (λ (s : Slot). v .node m .fence ≤ s .key) (λ (s : Slot). within v x (s .key) ≡ false) (flat (kept v) (m ∷ rs))
+    (λ s q. rw (u .0) (below-low v (s .key) m (not-zero v m (t .at .0 .range)) q)) (rising-from (v .node m .fence) (flat (kept v) (m ∷ rs)) f)
 
 -- ---- the map
 
@@ -72,7 +74,7 @@ map-pointers t = go (leaves (view t))
     go : (ns : List ℕ) → Each (λ (s : Slot). recording s ≢ 0) (flat (kept (view t)) ns)
     go [] = tt
     go (n ∷ ns) = Each-append (λ (s : Slot). recording s ≢ 0) (kept (view t) n) (flat (kept (view t)) ns)
-        (Each-map _ (λ (s : Slot). recording s ≢ 0) (kept (view t) n) (λ s h. h .0) (Each-filter (λ (s : Slot). s .pointer ≢ 0) (λ (s : Slot). within (view t) n (s .key)) (view t .shown n) (shown-pointers t (root t) n))) (go ns)
+        (Each-map _ (λ (s : Slot). recording s ≢ 0) (kept (view t) n) (λ s h. h .0) (Each-filter (λ (s : Slot). s .pointer ≢ 0) (λ (s : Slot). within (view t) n (s .key)) (nodeView t n .shown) (shown-pointers t (root t) n))) (go ns)
 
 pub record MapRises (m : List Slot) : Type 0 where
   pub rising : rising 0 m ≡ true
@@ -104,7 +106,7 @@ pub record LeafPart (v : View) (x : ℕ) : Type 0 where
   pub not-left : Each (λ (n : ℕ). n ≢ x) left
   pub not-right : Each (λ (n : ℕ). n ≢ x) right
   pub parts : mapping v ≡ flat (kept v) left ++ (kept v x ++ flat (kept v) right)
-  pub low : Each (λ (s : Slot). s .key < v .fence x) (flat (kept v) left)
+  pub low : Each (λ (s : Slot). s .key < v .node x .fence) (flat (kept v) left)
   pub high : Each (λ (s : Slot). within v x (s .key) ≡ false) (flat (kept v) right)
 
 -- a leaf's recordings differ, and none is MARK
@@ -114,6 +116,10 @@ leaf-recordings v x o m =
     let own : ℕ → List ℕ = λ n. map recording (kept v n) in
     let u = distinct-cons MARK (flat own (leaves v)) .0 (rw (map-flat recording (kept v) (leaves v)) at (o .recordings)) in
     distinct-cons MARK (own x) .1 (each-mem (λ (n : ℕ). elem MARK (own n) ≡ false) (flat-off own (leaves v) MARK (u .0)) m, distinct-part own (leaves v) x (u .1) m)
+
+-- so do its pointers
+pub leaf-pointers : (v : View) (x : ℕ) → Orderly v → List·Memᴰ x (leaves v) → distinct (MARK ∷ pointers (kept v x)) ≡ true
+leaf-pointers v x o m = recordings-apart MARK (kept v x) (leaf-recordings v x o m)
 
 pub row-rest : (v : View) (d : ℕ) (ls rs : List ℕ) → Row v d (ls ++ rs) → Row v d rs
 row-rest v d [] rs r = r

@@ -21,30 +21,30 @@ abbrev NoneOr : List ℕ → ℕ → Type 0
 NoneOr ns n = (n ≡ 0) ⊎ List·Memᴰ n ns
 
 module _ (v : View) where
-  row-siblings : (ns : List ℕ) → linked v ns 0 ≡ true → Each (λ (n : ℕ). NoneOr ns (v .sibling n)) ns
+  row-siblings : (ns : List ℕ) → linked v ns 0 ≡ true → Each (λ (n : ℕ). NoneOr ns (v .node n .sibling)) ns
   row-siblings [] l = tt
   row-siblings (n ∷ []) l = (inl (linked-cons v n [] 0 .0 l .0), tt)
   row-siblings (n ∷ m ∷ ns) l =
       let u = linked-cons v n (m ∷ ns) 0 .0 l in (
         inr (List·Memᴰ·tail (List·Memᴰ·head (u .0))),
-        Each-map (λ (x : ℕ). NoneOr (m ∷ ns) (v .sibling x)) (λ (x : ℕ). NoneOr (n ∷ m ∷ ns) (v .sibling x)) (m ∷ ns) (λ x h. ⊎-elim (λ z. inl z) (λ t. inr (List·Memᴰ·tail t)) h) (row-siblings (m ∷ ns) (u .1)),
+        Each-map (λ (x : ℕ). NoneOr (m ∷ ns) (v .node x .sibling)) (λ (x : ℕ). NoneOr (n ∷ m ∷ ns) (v .node x .sibling)) (m ∷ ns) (λ x h. ⊎-elim (λ z. inl z) (λ t. inr (List·Memᴰ·tail t)) h) (row-siblings (m ∷ ns) (u .1)),
       )
 
-  siblings-from : (d : ℕ) (ns : List ℕ) → Row v d ns → Deep v d ns → Each (λ (n : ℕ). NoneOr (reachedFrom v d ns) (v .sibling n)) (reachedFrom v d ns)
+  siblings-from : (d : ℕ) (ns : List ℕ) → Row v d ns → Deep v d ns → Each (λ (n : ℕ). NoneOr (reachedFrom v d ns) (v .node n .sibling)) (reachedFrom v d ns)
   unfolding reachedFrom
   siblings-from zero ns r g = row-siblings ns (r .chain)
   siblings-from (suc d) ns r g =
       let low = reachedFrom v d (flat (children v) ns) in
-      let P : ℕ → Type 0 = λ (n : ℕ). NoneOr (ns ++ low) (v .sibling n) in
+      let P : ℕ → Type 0 = λ (n : ℕ). NoneOr (ns ++ low) (v .node n .sibling) in
       Each-append P ns low
-      (Each-map (λ (n : ℕ). NoneOr ns (v .sibling n)) P ns (λ n h. ⊎-elim (λ z. inl z) (λ t. inr (Memᴰ·append-left low t)) h) (row-siblings ns (r .chain)))
-      (Each-map (λ (n : ℕ). NoneOr low (v .sibling n)) P low (λ n h. ⊎-elim (λ z. inl z) (λ t. inr (Memᴰ·append-right ns t)) h) (siblings-from d (flat (children v) ns) (row-lower v d ns r g) (deep-lower v d ns g)))
+      (Each-map (λ (n : ℕ). NoneOr ns (v .node n .sibling)) P ns (λ n h. ⊎-elim (λ z. inl z) (λ t. inr (Memᴰ·append-left low t)) h) (row-siblings ns (r .chain)))
+      (Each-map (λ (n : ℕ). NoneOr low (v .node n .sibling)) P low (λ n h. ⊎-elim (λ z. inl z) (λ t. inr (Memᴰ·append-right ns t)) h) (siblings-from d (flat (children v) ns) (row-lower v d ns r g) (deep-lower v d ns g)))
 
   -- a reached node's sibling is reached
-  pub sibling-from : (d n : ℕ) (ns : List ℕ) → Row v d ns → Deep v d ns → List·Memᴰ n (reachedFrom v d ns) → v .sibling n ≢ 0 → List·Memᴰ (v .sibling n) (reachedFrom v d ns)
-  sibling-from d n ns r g m z = ⊎-elim (λ e. absurd (z e)) (λ t. t) (each-mem (λ (n : ℕ). NoneOr (reachedFrom v d ns) (v .sibling n)) (siblings-from d ns r g) m)
+  pub sibling-from : (d n : ℕ) (ns : List ℕ) → Row v d ns → Deep v d ns → List·Memᴰ n (reachedFrom v d ns) → v .node n .sibling ≢ 0 → List·Memᴰ (v .node n .sibling) (reachedFrom v d ns)
+  sibling-from d n ns r g m z = ⊎-elim (λ e. absurd (z e)) (λ t. t) (each-mem (λ (n : ℕ). NoneOr (reachedFrom v d ns) (v .node n .sibling)) (siblings-from d ns r g) m)
 
-  pub sibling-reached : (n : ℕ) → Orderly v → List·Memᴰ n (reached v) → v .sibling n ≢ 0 → List·Memᴰ (v .sibling n) (reached v)
+  pub sibling-reached : (n : ℕ) → Orderly v → List·Memᴰ n (reached v) → v .node n .sibling ≢ 0 → List·Memᴰ (v .node n .sibling) (reached v)
   sibling-reached n o = sibling-from (height v) n (v .root ∷ []) (top-row v o) (o .good)
 
   -- ---- children
@@ -74,19 +74,20 @@ module _ (v : View) where
   pub distinct-children : (p : ℕ) → Orderly v → List·Memᴰ p (reached v) → distinct (children v p) ≡ true
   distinct-children p o m = distinct-part (children v) (reached v) p (children-once o) m
 
-  levels-from : (d : ℕ) (ns : List ℕ) → Row v d ns → Deep v d ns → Each (λ (n : ℕ). Each (λ (c : ℕ). v .level n ≡ suc (v .level c)) (children v n)) (reachedFrom v d ns)
+  levels-from : (d : ℕ) (ns : List ℕ) → Row v d ns → Deep v d ns → Each (λ (n : ℕ). Each (λ (c : ℕ). v .node n .level ≡ suc (v .node c .level)) (children v n)) (reachedFrom v d ns)
   unfolding reachedFrom
-  levels-from zero ns r g = Each-map (At v 0) (λ (n : ℕ). Each (λ (c : ℕ). v .level n ≡ suc (v .level c)) (children v n)) ns (λ n a. rw (no-children v n (a .level)) tt) (r .at)
+  levels-from zero ns r g = Each-map (At v 0) (λ (n : ℕ). Each (λ (c : ℕ). v .node n .level ≡ suc (v .node c .level)) (children v n)) ns (λ n a. rw (no-children v n (a .level)) tt) (r .at)
   levels-from (suc d) ns r g =
       let low = reachedFrom v d (flat (children v) ns) in
-      let P : ℕ → Type 0 = λ (n : ℕ). Each (λ (c : ℕ). v .level n ≡ suc (v .level c)) (children v n) in
+      let P : ℕ → Type 0 = λ (n : ℕ). Each (λ (c : ℕ). v .node n .level ≡ suc (v .node c .level)) (children v n) in
       let r′ = row-lower v d ns r g in
       Each-append P ns low (here ns (r .at) (Each-flat (At v d) (children v) ns (r′ .at))) (levels-from d (flat (children v) ns) r′ (deep-lower v d ns g))
     where
-      here : (ns : List ℕ) → Each (At v (suc d)) ns → Each (λ (n : ℕ). Each (At v d) (children v n)) ns → Each (λ (n : ℕ). Each (λ (c : ℕ). v .level n ≡ suc (v .level c)) (children v n)) ns
+      here : (ns : List ℕ) → Each (At v (suc d)) ns → Each (λ (n : ℕ). Each (At v d) (children v n)) ns → Each (λ (n : ℕ). Each (λ (c : ℕ). v .node n .level ≡ suc (v .node c .level)) (children v n)) ns
       here [] a h = tt
-      here (n ∷ ns) a h = (Each-map (At v d) (λ (c : ℕ). v .level n ≡ suc (v .level c)) (children v n) (λ c q. let x = a .0 .level in let y = q .level in omega arith) (h .0), here ns (a .1) (h .1))
+      here (n ∷ ns) a h = (Each-map (At v d) (λ (c : ℕ). v .node n .level ≡ suc (v .node c .level)) (children v n) (λ c q. let x = a .0 .level in let y = q .level in omega arith) (h .0), here ns (a .1) (h .1))
 
   -- children stand one level down
-  pub child-level : (p c : ℕ) → Orderly v → List·Memᴰ p (reached v) → List·Memᴰ c (children v p) → v .level p ≡ suc (v .level c)
-  child-level p c o m h = each-mem (λ (c : ℕ). v .level p ≡ suc (v .level c)) (each-mem (λ (n : ℕ). Each (λ (c : ℕ). v .level n ≡ suc (v .level c)) (children v n)) (levels-from (height v) (v .root ∷ []) (top-row v o) (o .good)) m) h
+  pub child-level : (p c : ℕ) → Orderly v → List·Memᴰ p (reached v) → List·Memᴰ c (children v p) → v .node p .level ≡ suc (v .node c .level)
+  child-level p c o m h = each-mem (λ (c : ℕ). v .node p .level ≡ suc (v .node c .level))
+      (each-mem (λ (n : ℕ). Each (λ (c : ℕ). v .node n .level ≡ suc (v .node c .level)) (children v n)) (levels-from (height v) (v .root ∷ []) (top-row v o) (o .good)) m) h

@@ -3,43 +3,29 @@ use mathlib.Core.Path.{_≡_, refl, ap, sym, _∙_}
 use mathlib.Core.Bool.{true, false}
 use mathlib.Core.Logic.{_≢_, ⊎-elim}
 use mathlib.Core.List.{List, _∷_, _++_, append-assoc, List·Memᴰ, List·Memᴰ·append-cases, Memᴰ·append-right}
-use Prim.Native.Nat.{ℕ, suc, _-_, _≤_, _<_}
+use mathlib.Core.Option.{some}
+use Prim.Native.Nat.{ℕ, suc, _≤_, _<_}
 use native.Mathlib.Omega.{arith}
-use lib.ListN.{length, getD, drop, length-drop}
-use Rattle.model.specs.declared.Answer.the-variants.{Found, Absent}
+use lib.ListN.{length, drop, length-drop}
 use Rattle.model.specs.Table.{Words}
 use Rattle.model.specs.Slots.{Slot, slot, View, view, height}
-use Rattle.model.specs.Search.{within, moved, down, path, lookup}
-use Rattle.model.specs.Reached.{flat, kept, named, children, reached, leaves, mapping}
+use Rattle.model.specs.Search.{within, firstWith}
+use Rattle.model.specs.Reached.{flat, kept, reached, leaves, mapping}
 use Rattle.model.specs.SoundTest.{rising}
 use Rattle.model.specs.Shifts.{placeOf}
 use Rattle.model.specs.Writes.{standing}
 use Rattle.list_laws.proofs.Tools.{Each, Each-map, Each-append, Each-split, Misses}
 use Rattle.list_laws.proofs.Members.{each-mem, each-take, each-drop}
 use Rattle.tree_laws.proofs.Rows.{Good}
-use Rattle.tree_laws.proofs.Cover.{cover, stays, below-past}
+use Rattle.tree_laws.proofs.Cover.{cover, below-past}
 use Rattle.tree_laws.proofs.Levels.{Orderly, rowAt, row-leaves, mem-leaves}
-use Rattle.tree_laws.proofs.Rising.{lower, upper, lower-upper, lower-below, upper-from, upper-above, upper-first, rising-insert, rising-weaken, rising-from, Apart, rising-apart, rising-join, rising-raise, rising-cons, lookup-misses, lookup-mem}
+use Rattle.tree_laws.proofs.Rising.{lower, upper, lower-upper, lower-below, upper-from, upper-above, upper-first, rising-insert, rising-weaken, rising-from, Apart, rising-apart, rising-join, rising-raise, rising-cons, first-mem}
 use Rattle.tree_laws.proofs.Kept.{kept-rises, kept-within}
 use Rattle.tree_laws.proofs.MapLaw.{map-rising, leaf-part}
-use Rattle.tree_laws.proofs.SearchLaw.{path-at, path-stands, path-step, leafFor, leaf-mem, leaf-covers}
+use Rattle.tree_laws.proofs.SearchLaw.{path-at, leafFor, leaf-mem, leaf-covers}
 use Rattle.tree_laws.proofs.Leftovers.{SettledTree, settled-node}
 
 -- ---- the path in a settled tree
-
--- from the node m of level d + 1 to the node n of level d: straight down, without a move
-pub record Straight (v : View) (k m n : ℕ) : Type 0 where
-  pub straight : down v m k ≡ n
-  pub stays : moved v n k ≡ n
-  pub named : children v m ≡ named v m
-
-pub path-straight : (v : View) (k d : ℕ) → SettledTree v → d < height v → Straight v k (getD (path v k) (height v - suc d) 0) (getD (path v k) (height v - d) 0)
-path-straight v k d s h =
-    let o = s .orderly in
-    let m = path-stands v k (suc d) o h in
-    let n = path-stands v k d o (omega arith) in
-    let e = settled-node v _ s (m .reached) .names (λ z. omega (arith, m .covers .at .level)) in
-    record { straight = path-step v k d o h .straight e; stays = stays v k _ (n .covers .inside); named = e }
 
 pub standing-at : (t : Words) (l k : ℕ) → Orderly (view t) → l ≤ height (view t) → standing t l k ≡ cover (view t) k (rowAt (view t) l)
 unfolding standing
@@ -54,12 +40,12 @@ standing-leaf t k o = standing-at t 0 k o (omega arith) ∙ ap (cover (view t) k
 pub record Place (v : View) (k : ℕ) (ss : List Slot) : Type 0 where
   pub leaf : List·Memᴰ (leafFor v k) (leaves v)
   pub reached : List·Memᴰ (leafFor v k) (reached v)
-  pub level : v .level (leafFor v k) ≡ 0
+  pub level : v .node (leafFor v k) .level ≡ 0
   pub good : Good v (leafFor v k)
-  pub fence : v .fence (leafFor v k) ≤ k
+  pub fence : v .node (leafFor v k) .fence ≤ k
   pub inside : within v (leafFor v k) k ≡ true
   pub slots : kept v (leafFor v k) ≡ ss
-  pub rises : rising (v .fence (leafFor v k)) ss ≡ true
+  pub rises : rising (v .node (leafFor v k) .fence) ss ≡ true
   pub within : Each (λ (s : Slot). within v (leafFor v k) (s .key) ≡ true) ss
   -- the leaves on both sides
   pub left : List ℕ
@@ -87,7 +73,7 @@ place-orderly v k o =
     let r = kept-rises v x (c .good) in
     let a = flat (kept v) (p .left) in
     let b = flat (kept v) (p .right) in
-    let over : Each (λ (s : Slot). k < s .key) b = Each-map (λ (s : Slot). within v x (s .key) ≡ false) (λ (s : Slot). k < s .key) b (λ s h. below-past v k (v .sibling x) (s .key) (c .inside) h) (p .high) in
+    let over : Each (λ (s : Slot). k < s .key) b = Each-map (λ (s : Slot). within v x (s .key) ≡ false) (λ (s : Slot). k < s .key) b (λ s h. below-past v k (v .node x .sibling) (s .key) (c .inside) h) (p .high) in
     record {
       leaf = m;
       reached = mem-leaves v x o .0 m .0;
@@ -104,13 +90,13 @@ place-orderly v k o =
       not-left = p .not-left;
       not-right = p .not-right;
       map = p .parts ∙ ap (λ (l : List Slot). a ++ (l ++ b)) (lower-upper k ss) ∙ around a (lower k ss) (upper k ss) b;
-      low = Each-append (λ (s : Slot). s .key < k) a (lower k ss) (Each-map (λ (s : Slot). s .key < v .fence x) (λ (s : Slot). s .key < k) a (λ s h. omega (arith, c .fence)) (p .low)) (lower-below k ss);
-      high = Each-append (λ (s : Slot). k ≤ s .key) (upper k ss) b (upper-from (v .fence x) k ss r) (Each-map (λ (s : Slot). k < s .key) (λ (s : Slot). k ≤ s .key) b (λ s h. omega arith) over);
+      low = Each-append (λ (s : Slot). s .key < k) a (lower k ss) (Each-map (λ (s : Slot). s .key < v .node x .fence) (λ (s : Slot). s .key < k) a (λ s h. omega (arith, c .fence)) (p .low)) (lower-below k ss);
+      high = Each-append (λ (s : Slot). k ≤ s .key) (upper k ss) b (upper-from (v .node x .fence) k ss r) (Each-map (λ (s : Slot). k < s .key) (λ (s : Slot). k ≤ s .key) b (λ s h. omega arith) over);
       beyond = over;
     }
 
 -- in a settled tree the leaf's slots are those it shows
-pub place-of : (v : View) (k : ℕ) → SettledTree v → Place v k (v .shown (leafFor v k))
+pub place-of : (v : View) (k : ℕ) → SettledTree v → Place v k (v .node (leafFor v k) .shown)
 place-of v k s =
     let p = place-orderly v k (s .orderly) in
     rw (settled-node v (leafFor v k) s (p .reached) .keeps) at p
@@ -121,20 +107,22 @@ place-of v k s =
 pub record InsertPlace (v : View) (k x : ℕ) (ss : List Slot) (left right : List ℕ) : Type 0 where
   pub misses : Misses k ss
   pub above : Each (λ (s : Slot). k < s .key) (upper k ss ++ flat (kept v) right)
-  pub rises : rising (v .fence (leafFor v k)) (lower k ss ++ slot k x ∷ upper k ss) ≡ true
+  pub rises : rising (v .node (leafFor v k) .fence) (lower k ss ++ slot k x ∷ upper k ss) ≡ true
   pub within : Each (λ (s : Slot). within v (leafFor v k) (s .key) ≡ true) (lower k ss ++ slot k x ∷ upper k ss)
   pub map-rises : rising 0 ((flat (kept v) left ++ lower k ss) ++ slot k x ∷ (upper k ss ++ flat (kept v) right)) ≡ true
 
 rising-put : (k x : ℕ) (a b : List Slot) → Apart 0 a b → Each (λ (s : Slot). s .key < k) a → Each (λ (s : Slot). k < s .key) b → rising 0 (a ++ slot k x ∷ b) ≡ true
 rising-put k x a b r l h = rising-join 0 k a (slot k x ∷ b) (omega arith) (r .left) l (rising-cons k (slot k x) b .1 (omega arith, rising-raise 0 (suc k) b (r .right) h))
 
-pub place-absent : (v : View) (k x : ℕ) (ss : List Slot) → Orderly v → (p : Place v k ss) → lookup k (mapping v) ≡ Absent → InsertPlace v k x ss (p .left) (p .right)
+pub place-absent : (v : View) (k x : ℕ) (ss : List Slot) → Orderly v → (p : Place v k ss) → Misses k (mapping v) → InsertPlace v k x ss (p .left) (p .right)
 place-absent v k x ss o p e =
     let a = flat (kept v) (p .left) ++ lower k ss in
     let b = upper k ss ++ flat (kept v) (p .right) in
-    let mi = Each-split (λ (s : Slot). s .key ≡ k → ⊥) a b (rw (p .map) at (lookup-misses k (mapping v) e)) in
-    let m : Misses k ss = rw (← lower-upper k ss) at (Each-append (λ (s : Slot). s .key ≡ k → ⊥) (lower k ss) (upper k ss) (Each-split (λ (s : Slot). s .key ≡ k → ⊥) (flat (kept v) (p .left)) (lower k ss) (mi .0) .1) (Each-split (λ (s : Slot). s .key ≡ k → ⊥) (upper k ss) (flat (kept v) (p .right)) (mi .1) .0)) in
-    let f = v .fence (leafFor v k) in
+    let mi = Each-split (λ (s : Slot). s .key ≡ k → ⊥) a b (rw (p .map) at e) in
+    let m : Misses k ss = rw (← lower-upper k ss) at
+    (Each-append (λ (s : Slot). s .key ≡ k → ⊥) (lower k ss) (upper k ss) (Each-split (λ (s : Slot). s .key ≡ k → ⊥) (flat (kept v) (p .left)) (lower k ss) (mi .0) .1)
+    (Each-split (λ (s : Slot). s .key ≡ k → ⊥) (upper k ss) (flat (kept v) (p .right)) (mi .1) .0)) in
+    let f = v .node (leafFor v k) .fence in
     let w : Slot → Type 0 = λ (s : Slot). within v (leafFor v k) (s .key) ≡ true in
     let above : Each (λ (s : Slot). k < s .key) b = Each-append (λ (s : Slot). k < s .key) (upper k ss) (flat (kept v) (p .right)) (upper-above f k ss (p .rises) m) (p .beyond) in
     let r = rising-apart 0 a b (ap (rising 0) (sym (p .map)) ∙ map-rising v o) in
@@ -154,19 +142,19 @@ pub record DeletePlace (v : View) (k x : ℕ) (ss : List Slot) (left right : Lis
   pub in-use : placeOf k ss < length ss
   pub map : mapping v ≡ (flat (kept v) left ++ lower k ss) ++ slot k x ∷ (drop (suc (placeOf k ss)) ss ++ flat (kept v) right)
   pub above : Each (λ (s : Slot). k < s .key) (drop (suc (placeOf k ss)) ss ++ flat (kept v) right)
-  pub rises : rising (v .fence (leafFor v k)) (lower k ss ++ drop (suc (placeOf k ss)) ss) ≡ true
+  pub rises : rising (v .node (leafFor v k) .fence) (lower k ss ++ drop (suc (placeOf k ss)) ss) ≡ true
   pub within : Each (λ (s : Slot). within v (leafFor v k) (s .key) ≡ true) (lower k ss ++ drop (suc (placeOf k ss)) ss)
   pub map-rises : rising 0 ((flat (kept v) left ++ lower k ss) ++ (drop (suc (placeOf k ss)) ss ++ flat (kept v) right)) ≡ true
 
-pub place-found : (v : View) (k x : ℕ) (ss : List Slot) → Orderly v → (p : Place v k ss) → lookup k (mapping v) ≡ Found x → DeletePlace v k x ss (p .left) (p .right)
+pub place-found : (v : View) (k x : ℕ) (ss : List Slot) → Orderly v → (p : Place v k ss) → firstWith k (mapping v) ≡ some (slot k x) → DeletePlace v k x ss (p .left) (p .right)
 place-found v k x ss o p e =
     let a = flat (kept v) (p .left) ++ lower k ss in
     let c = flat (kept v) (p .right) in
     let q = placeOf k ss in
     let tl = drop (suc q) ss in
-    let f = v .fence (leafFor v k) in
+    let f = v .node (leafFor v k) .fence in
     let w : Slot → Type 0 = λ (s : Slot). within v (leafFor v k) (s .key) ≡ true in
-    let m : List·Memᴰ (slot k x) (a ++ (upper k ss ++ c)) = rw (p .map) at (lookup-mem k x (mapping v) e) in
+    let m : List·Memᴰ (slot k x) (a ++ (upper k ss ++ c)) = rw (p .map) at (first-mem k (slot k x) (mapping v) e .0) in
     let mu : List·Memᴰ (slot k x) (upper k ss) = ⊎-elim (λ h. absurd (omega (arith, each-mem (λ (s : Slot). s .key < k) (p .low) h)))
     (λ h. ⊎-elim (λ t. t) (λ t. absurd (omega (arith, each-mem (λ (s : Slot). k < s .key) (p .beyond) t))) (List·Memᴰ·append-cases {a = slot k x} (upper k ss) h)) (List·Memᴰ·append-cases {a = slot k x} a m) in
     let u : upper k ss ≡ slot k x ∷ tl = upper-first f k x ss (p .rises) (rw (← lower-upper k ss) at (Memᴰ·append-right (lower k ss) mu)) in

@@ -2,7 +2,7 @@
 use mathlib.Core.Path.{_≡_, refl, ap, sym, _∙_}
 use mathlib.Core.Bool.{Bool, true, false}
 use mathlib.Core.Logic.{_↔_, _≢_, ⊎-elim}
-use mathlib.Core.List.{List, [], _∷_, _++_, map, List·Memᴰ, List·Memᴰ·head, List·Memᴰ·tail, List·Memᴰ·not-nil, List·Memᴰ·cases-cons}
+use mathlib.Core.List.{List, [], _∷_, _++_, map, List·Memᴰ, List·Memᴰ·head, List·Memᴰ·tail, List·Memᴰ·not-nil, List·Memᴰ·cases-cons, Memᴰ·cast}
 use mathlib.Core.Option.{Option, none, some}
 use Prim.Native.Nat.{ℕ, suc, _≤_, _<_}
 use native.Mathlib.Omega.{arith}
@@ -10,13 +10,13 @@ use lib.Dec.{eqb, ltb}
 use lib.ListN.{length, take, drop, take-append-drop}
 use borrow.Author.Tests.{ltb-true, ltb-false, eqb-true, eqb-false, lt-ltb, le-ltb}
 use Rattle.model.specs.declared.Answer.the-variants.{Found, Absent, Refused}
-use Rattle.model.specs.Slots.{Slot, slot}
+use Rattle.model.specs.Slots.{Slot, slot, recording}
 use Rattle.model.specs.Search.{firstWith, answerOf, lookup}
 use Rattle.model.specs.Reached.{filter}
 use Rattle.model.specs.SoundTest.{distinct, rising}
 use Rattle.model.specs.Sound.{Rise}
 use Rattle.model.specs.Shifts.{placeOf}
-use Rattle.list_laws.proofs.Tools.{decode, Each, Each-map, Misses, lookup-nil, lookup-here, lookup-past}
+use Rattle.list_laws.proofs.Tools.{decode, Each, Each-map, Misses, first-nil, first-here, first-past}
 use Rattle.list_laws.proofs.Members.{each-mem, each-drop, each-both, elem-false}
 use Rattle.list_laws.proofs.Filters.{filter-yes, filter-no}
 use Rattle.list_laws.proofs.Distinct.{distinct-cons}
@@ -103,50 +103,60 @@ keys-distinct lo (s ∷ ss) r =
     other k [] h = tt
     other k (x ∷ xs) h = (λ e. omega (arith, h .0), other k xs (h .1))
 
-pub same-key : (lo : ℕ) (ss : List Slot) (x y : Slot) → rising lo ss ≡ true → List·Memᴰ x ss → List·Memᴰ y ss → x .key ≡ y .key → x ≡ y
-same-key lo [] x y r p q e = absurd (List·Memᴰ·not-nil p)
-same-key lo (s ∷ ss) x y r p q e =
-    let u = rising-cons lo s ss .0 r in
-    let far : (z : Slot) → List·Memᴰ z ss → s .key ≡ z .key → ⊥ = λ z m d. let l = each-mem (λ (w : Slot). suc (s .key) ≤ w .key) (rising-from (suc (s .key)) ss (u .1)) m in omega arith in
-    ⊎-elim (λ a. ⊎-elim (λ b. a ∙ sym b) (λ b. absurd (far y b (ap (λ (w : Slot). w .key) (sym a) ∙ e))) (List·Memᴰ·cases-cons q))
-    (λ a. ⊎-elim (λ b. absurd (far x a (ap (λ (w : Slot). w .key) (sym b) ∙ sym e))) (λ b. same-key (suc (s .key)) ss x y (u .1) a b e) (List·Memᴰ·cases-cons q)) (List·Memᴰ·cases-cons p)
+-- ---- the slot found
 
--- ---- lookups
+some-inj : (x y : Slot) → some x ≡ some y → x ≡ y
+some-inj x y e = ap (λ (o : Option Slot). elim o as (λ c. Slot) [ none ↦ x | some z ↦ z ]) e
 
 -- what was found is there
-pub lookup-mem : (k r : ℕ) (ss : List Slot) → lookup k ss ≡ Found r → List·Memᴰ (slot k r) ss
-unfolding lookup firstWith
-lookup-mem k r [] h = let z : _≡_ {A = ℕ} 0 1 = cc in absurd (omega arith)
-lookup-mem k r (s ∷ ss) h = go (eqb (s .key) k) refl (lookup-mem k r ss)
+pub first-mem : (k : ℕ) (s : Slot) (ss : List Slot) → firstWith k ss ≡ some s → List·Memᴰ s ss × (s .key ≡ k)
+unfolding firstWith
+first-mem k s [] h = let z : _≡_ {A = ℕ} 0 1 = cc in absurd (omega arith)
+first-mem k s (x ∷ ss) h = go (eqb (x .key) k) refl (first-mem k s ss)
   where
-    go : (b : Bool) → eqb (s .key) k ≡ b → (lookup k ss ≡ Found r → List·Memᴰ (slot k r) ss) → List·Memᴰ (slot k r) (s ∷ ss)
+    go : (b : Bool) → eqb (x .key) k ≡ b → (firstWith k ss ≡ some s → List·Memᴰ s ss × (s .key ≡ k)) → List·Memᴰ s (x ∷ ss) × (s .key ≡ k)
     go true c ih =
-        let y : Found (s .pointer) ≡ Found r = sym (lookup-here k s ss (eqb-true (s .key) k c)) ∙ h in
-        let p : s .pointer ≡ r = cc in
-        List·Memᴰ·head (λ i. record { key = sym (eqb-true (s .key) k c) i; pointer = sym p i })
-    go false c ih = List·Memᴰ·tail (ih (sym (lookup-past k s ss (eqb-false (s .key) k c)) ∙ h))
+        let e = eqb-true (x .key) k c in
+        let q : x ≡ s = some-inj x s (sym (first-here k x ss e) ∙ h) in
+        (List·Memᴰ·head (sym q), ap (λ (y : Slot). y .key) (sym q) ∙ e)
+    go false c ih = let u = ih (sym (first-past k x ss (eqb-false (x .key) k c)) ∙ h) in (List·Memᴰ·tail (u .0), u .1)
 
-pub mem-lookup : (lo k r : ℕ) (ss : List Slot) → rising lo ss ≡ true → List·Memᴰ (slot k r) ss → lookup k ss ≡ Found r
-mem-lookup lo k r [] h m = absurd (List·Memᴰ·not-nil m)
-mem-lookup lo k r (s ∷ ss) h m =
-    let u = rising-cons lo s ss .0 h in
-    ⊎-elim (λ e. lookup-here k s ss (ap (λ (x : Slot). x .key) (sym e)) ∙ ap (λ (x : Slot). Found (x .pointer)) (sym e))
-    (λ t. let l = each-mem (λ (x : Slot). suc (s .key) ≤ x .key) (rising-from (suc (s .key)) ss (u .1)) t in
-    lookup-past k s ss (λ e. omega arith) ∙ mem-lookup (suc (s .key)) k r ss (u .1) t) (List·Memᴰ·cases-cons m)
+pub mem-first : (lo : ℕ) (s : Slot) (ss : List Slot) → rising lo ss ≡ true → List·Memᴰ s ss → firstWith (s .key) ss ≡ some s
+mem-first lo s [] h m = absurd (List·Memᴰ·not-nil m)
+mem-first lo s (x ∷ ss) h m =
+    let u = rising-cons lo x ss .0 h in
+    ⊎-elim (λ e. first-here (s .key) x ss (ap (λ (y : Slot). y .key) (sym e)) ∙ ap some (sym e))
+    (λ t. let l = each-mem (λ (y : Slot). suc (x .key) ≤ y .key) (rising-from (suc (x .key)) ss (u .1)) t in
+    first-past (s .key) x ss (λ e. omega arith) ∙ mem-first (suc (x .key)) s ss (u .1) t) (List·Memᴰ·cases-cons m)
 
-pub lookup-misses : (k : ℕ) (ss : List Slot) → lookup k ss ≡ Absent → Misses k ss
-lookup-misses k [] h = tt
-lookup-misses k (s ∷ ss) h = go (eqb (s .key) k) refl (lookup-misses k ss)
+pub first-misses : (k : ℕ) (ss : List Slot) → firstWith k ss ≡ none → Misses k ss
+first-misses k [] h = tt
+first-misses k (s ∷ ss) h = go (eqb (s .key) k) refl (first-misses k ss)
   where
-    go : (b : Bool) → eqb (s .key) k ≡ b → (lookup k ss ≡ Absent → Misses k ss) → Misses k (s ∷ ss)
-    go true c ih = let y : Found (s .pointer) ≡ Absent = sym (lookup-here k s ss (eqb-true (s .key) k c)) ∙ h in let z : _≡_ {A = ℕ} 0 1 = cc in absurd (omega arith)
-    go false c ih = (eqb-false (s .key) k c, ih (sym (lookup-past k s ss (eqb-false (s .key) k c)) ∙ h))
+    go : (b : Bool) → eqb (s .key) k ≡ b → (firstWith k ss ≡ none → Misses k ss) → Misses k (s ∷ ss)
+    go true c ih = let y : some s ≡ none = sym (first-here k s ss (eqb-true (s .key) k c)) ∙ h in let z : _≡_ {A = ℕ} 0 1 = cc in absurd (omega arith)
+    go false c ih = (eqb-false (s .key) k c, ih (sym (first-past k s ss (eqb-false (s .key) k c)) ∙ h))
+
+-- ---- the answer from it
+
+answer-found : (o : Option Slot) (r : ℕ) → answerOf o ≡ Found r → (s : Slot) × (o ≡ some s) × (recording s ≡ r)
+answer-found none r e = let z : _≡_ {A = ℕ} 0 1 = cc in absurd (omega arith)
+answer-found (some s) r e = let p : recording s ≡ r = cc in (s, refl, p)
+
+answer-none : (o : Option Slot) → answerOf o ≡ Absent → o ≡ none
+answer-none none e = refl
+answer-none (some s) e = let z : _≡_ {A = ℕ} 0 1 = cc in absurd (omega arith)
 
 pub found-iff : (lo k r : ℕ) (ss : List Slot) → rising lo ss ≡ true → (lookup k ss ≡ Found r) ↔ List·Memᴰ (slot k r) ss
-found-iff lo k r ss h = (lookup-mem k r ss, mem-lookup lo k r ss h)
+unfolding lookup
+found-iff lo k r ss h = (
+  λ e. let u = answer-found (firstWith k ss) r e in let m = first-mem k (u .0) ss (u .1) in Memᴰ·cast (sym (λ i. slot (m .1 i) (u .2 i))) (m .0),
+  λ m. ap answerOf (mem-first lo (slot k r) ss h m),
+)
 
 pub absent-iff : (k : ℕ) (ss : List Slot) → (lookup k ss ≡ Absent) ↔ Misses k ss
-absent-iff k ss = (lookup-misses k ss, lookup-nil k ss)
+unfolding lookup
+absent-iff k ss = (λ e. first-misses k ss (answer-none (firstWith k ss) e), λ m. ap answerOf (first-nil k ss m))
 
 pub lookup-answers : (k n : ℕ) (ss : List Slot) → lookup k ss ≢ Refused n
 unfolding lookup

@@ -12,10 +12,10 @@ use borrow.Author.Tests.{eqb-false, le-leb}
 use Rattle.model.specs.declared.Answer.the-variants.{Found, Absent, Refused}
 use Rattle.model.specs.Table.{Words, inRange}
 use Rattle.model.specs.Slots.{Slot, slot, View, view, height}
-use Rattle.model.specs.Search.{below, within, moved, down, onLevel, passes, locate, pathFrom, path, lookup, answerIn, searchView, search}
+use Rattle.model.specs.Search.{below, within, moved, down, onLevel, passes, locate, pathFrom, path, lookup, answerIn, searchView, search, firstWith, answerOf}
 use Rattle.model.specs.Reached.{flat, headOr, kept, named, nextChild, children, leavesFrom, reached, leaves, mapping, mapOf}
 use Rattle.model.specs.SoundTest.{soundView, sound}
-use Rattle.list_laws.proofs.Tools.{decode, or-right, Each, Each-map, Each-flat, Misses, lookup-l, lookup-r, lookup-filter}
+use Rattle.list_laws.proofs.Tools.{decode, or-right, Each, Each-map, Each-flat, Misses, first-l, first-r, first-filter}
 use Rattle.list_laws.proofs.Members.{each-mem, each-index}
 use Rattle.tree_laws.proofs.Rows.{Good, At, Row, Inner, inners, sib-facts, linked-cons, fill-mem}
 use Rattle.tree_laws.proofs.Cover.{cover, cover-in, cover-out, cover-has, cover-mem, cover-fence, cover-child, cover-flat, stays, below-true, within-up-to, step-down, step-whole, down-named, nexts}
@@ -30,7 +30,7 @@ pub record Covers (v : View) (k d n : ℕ) : Type 0 where
   pub good : Good v n
   pub at : At v d n
   pub inside : within v n k ≡ true
-  pub fence : v .fence n ≤ k
+  pub fence : v .node n .fence ≤ k
 
 pub covers : (v : View) (k d : ℕ) (ns : List ℕ) → Level v d ns → Covers v k d (cover v k ns)
 covers v k d ns l =
@@ -40,7 +40,7 @@ covers v k d ns l =
     record { good = g .0; at = a .0; inside = g .1; fence = cover-fence v k ns (r .chain) (l .some) (rw (l .first) (omega arith)) }
 
 -- and of no other node of the row
-pub cover-only : (v : View) (k d n : ℕ) (ns : List ℕ) → Row v d ns → List·Memᴰ n ns → v .fence n ≤ k → within v n k ≡ true → cover v k ns ≡ n
+pub cover-only : (v : View) (k d n : ℕ) (ns : List ℕ) → Row v d ns → List·Memᴰ n ns → v .node n .fence ≤ k → within v n k ≡ true → cover v k ns ≡ n
 cover-only v k d n [] r m f w = absurd (List·Memᴰ·not-nil m)
 cover-only v k d n (x ∷ xs) r m f w = go (within v x k) refl (λ t. cover-only v k d n xs (row-tail v d x xs r) t f w)
   where
@@ -48,7 +48,7 @@ cover-only v k d n (x ∷ xs) r m f w = go (within v x k) refl (λ t. cover-only
     late c t =
         let u = linked-cons v x xs 0 .0 (r .chain) in
         let h = head-least v d n xs (row-tail v d x xs r) t in
-        let l : k < v .fence (headOr 0 xs) = below-true v k (headOr 0 xs) (h .0) (ap (λ (y : ℕ). below v y k) (sym (u .0)) ∙ c) in
+        let l : k < v .node (headOr 0 xs) .fence = below-true v k (headOr 0 xs) (h .0) (ap (λ (y : ℕ). below v y k) (sym (u .0)) ∙ c) in
         omega (arith, h .1)
 
     go : (b : Bool) → within v x k ≡ b → (List·Memᴰ n xs → cover v k xs ≡ n) → cover v k (x ∷ xs) ≡ n
@@ -88,11 +88,11 @@ step v k d ns l =
 
 passes-good : (v : View) (d n : ℕ) → Good v n → At v d n → passes v d n ≡ true
 unfolding passes onLevel
-passes-good v d n g a = simp decode ((a .range, a .level), go (eqb (v .sibling n) 0) refl)
+passes-good v d n g a = simp decode ((a .range, a .level), go (eqb (v .node n .sibling) 0) refl)
   where
-    go : (b : Bool) → eqb (v .sibling n) 0 ≡ b → eqb (v .sibling n) 0 || (inRange (v .nodes) (v .sibling n) && eqb (v .level (v .sibling n)) d) ≡ true
+    go : (b : Bool) → eqb (v .node n .sibling) 0 ≡ b → eqb (v .node n .sibling) 0 || (inRange (v .nodes) (v .node n .sibling) && eqb (v .node (v .node n .sibling) .level) d) ≡ true
     go true c = rw c
-    go false c = let w = sib-facts v n g (eqb-false _ _ c) in or-right (eqb (v .sibling n) 0) _ (simp decode (w .range, w .level ∙ a .level))
+    go false c = let w = sib-facts v n g (eqb-false _ _ c) in or-right (eqb (v .node n .sibling) 0) _ (simp decode (w .range, w .level ∙ a .level))
 
 module _ (v : View) (k : ℕ) where
   locate-from : (d n : ℕ) (ns : List ℕ) → Level v d ns → Good v n → At v d n → moved v n k ≡ cover v k ns → locate v d n k ≡ some (cover v k (leavesFrom v d ns))
@@ -168,13 +168,13 @@ path-reached v k o = each-index (λ (n : ℕ). List·Memᴰ n (reached v)) (path
     rw e at (path-stands v k (height v - i) o (omega arith) .reached))
 
 -- a node is reached exactly if the search for its own fence stands on it
-pub reached-iff : (v : View) (n : ℕ) → Orderly v → List·Memᴰ n (reached v) ↔ ((v .level n ≤ height v) × (getD (path v (v .fence n)) (height v - v .level n) 0 ≡ n))
+pub reached-iff : (v : View) (n : ℕ) → Orderly v → List·Memᴰ n (reached v) ↔ ((v .node n .level ≤ height v) × (getD (path v (v .node n .fence)) (height v - v .node n .level) 0 ≡ n))
 reached-iff v n o = (
   λ m.
       let r = reached-row v n o m in
-      let w = within-up-to v (v .fence n) n (each-mem (Good v) (o .good) m) (omega arith) in
-      (r .level, path-at v (v .fence n) (v .level n) o (r .level) ∙ cover-only v (v .fence n) (v .level n) n (rowAt v (v .level n)) (level-at v (v .level n) o (r .level) .row) (r .row) (omega arith) w),
-  λ u. Memᴰ·cast (sym (u .1)) (path-stands v (v .fence n) (v .level n) o (u .0) .reached),
+      let w = within-up-to v (v .node n .fence) n (each-mem (Good v) (o .good) m) (omega arith) in
+      (r .level, path-at v (v .node n .fence) (v .node n .level) o (r .level) ∙ cover-only v (v .node n .fence) (v .node n .level) n (rowAt v (v .node n .level)) (level-at v (v .node n .level) o (r .level) .row) (r .row) (omega arith) w),
+  λ u. Memᴰ·cast (sym (u .1)) (path-stands v (v .node n .fence) (v .node n .level) o (u .0) .reached),
 )
 
 -- ---- the leaf
@@ -185,30 +185,26 @@ leaf-covers v k o = covers v k 0 (leaves v) (level-leaves v o)
 pub leaf-mem : (v : View) (k : ℕ) → Orderly v → List·Memᴰ (leafFor v k) (leaves v)
 leaf-mem v k o = let l = level-leaves v o in cover-mem v k (leaves v) (l .row .chain) (l .some)
 
--- a leaf answers for the keys of its range
-pub range-lookup : (v : View) (k x : ℕ) → Orderly v → List·Memᴰ x (leaves v) → v .fence x ≤ k → within v x k ≡ true → lookup k (mapping v) ≡ lookup k (v .shown x)
+-- a leaf has the slot of a key of its range
+pub range-first : (v : View) (k x : ℕ) → Orderly v → List·Memᴰ x (leaves v) → v .node x .fence ≤ k → within v x k ≡ true → firstWith k (mapping v) ≡ firstWith k (v .node x .shown)
 unfolding kept
-range-lookup v k x o m f w =
+range-first v k x o m f w =
     let p = leaf-part v x o m in
     let a = flat (kept v) (p .left) in
     let b = flat (kept v) (p .right) in
-    ap (lookup k) (p .parts)
-    ∙ lookup-l k a (kept v x ++ b) (Each-map (λ (s : Slot). s .key < v .fence x) (λ (s : Slot). s .key ≡ k → ⊥) a (λ s h e. omega arith) (p .low))
-    ∙ lookup-r k (kept v x) b (Each-map (λ (s : Slot). within v x (s .key) ≡ false) (λ (s : Slot). s .key ≡ k → ⊥) b (λ s h e. false≢true (sym h ∙ ap (within v x) e ∙ w)) (p .high))
-    ∙ lookup-filter k (λ (s : Slot). within v x (s .key)) (v .shown x) (λ s e. ap (within v x) e ∙ w)
-
--- and it is the only one whose range has the key
-pub leaf-only : (v : View) (k x : ℕ) → Orderly v → List·Memᴰ x (leaves v) → v .fence x ≤ k → within v x k ≡ true → leafFor v k ≡ x
-leaf-only v k x o m f w = cover-only v k 0 x (leaves v) (level-leaves v o .row) m f w
+    ap (firstWith k) (p .parts)
+    ∙ first-l k a (kept v x ++ b) (Each-map (λ (s : Slot). s .key < v .node x .fence) (λ (s : Slot). s .key ≡ k → ⊥) a (λ s h e. omega arith) (p .low))
+    ∙ first-r k (kept v x) b (Each-map (λ (s : Slot). within v x (s .key) ≡ false) (λ (s : Slot). s .key ≡ k → ⊥) b (λ s h e. false≢true (sym h ∙ ap (within v x) e ∙ w)) (p .high))
+    ∙ first-filter k (λ (s : Slot). within v x (s .key)) (v .node x .shown) (λ s e. ap (within v x) e ∙ w)
 
 -- ---- the answer
 
 pub search-view : (v : View) (k : ℕ) → soundView v ≡ true → searchView v k ≡ lookup k (mapping v)
-unfolding searchView
+unfolding searchView lookup
 search-view v k h =
     let o = sound-orderly v h in
     let c = leaf-covers v k o in
-    rw (le-leb (height v) 15 (o .top .level), searchView) (ap (answerIn v k) (locate-leaf v k o) ∙ sym (range-lookup v k (leafFor v k) o (leaf-mem v k o) (c .fence) (c .inside)))
+    rw (le-leb (height v) 15 (o .top .level), searchView) (ap (answerIn v k) (locate-leaf v k o) ∙ ap answerOf (sym (range-first v k (leafFor v k) o (leaf-mem v k o) (c .fence) (c .inside))))
 
 -- On a sound table a search for any key answers as a lookup in the map.
 pub search-law : (t : Words) (k : ℕ) → sound t ≡ true → search t k ≡ lookup k (mapOf t)

@@ -18,15 +18,15 @@ use Rattle.tree_laws.proofs.Kept.{kept-within, kept-from, ignored, show
 
 -- keys from n's fence up to below its sibling's
 abbrev pub InRange : View → ℕ → Slot → Type 0
-InRange v n s = (v .fence n ≤ s .key) × (within v n (s .key) ≡ true)
+InRange v n s = (v .node n .fence ≤ s .key) × (within v n (s .key) ≡ true)
 
 pub record Shape (v : View) : Type 0 where
   -- every reached node is in range, on the root's level or below it
   pub range : {n : ℕ} → List·Memᴰ n (reached v) → inRange (v .nodes) n ≡ true
-  pub level : {n : ℕ} → List·Memᴰ n (reached v) → v .level n ≤ height v
+  pub level : {n : ℕ} → List·Memᴰ n (reached v) → v .node n .level ≤ height v
   -- it stands in the row of its level, and what stands there is reached
-  pub row-of : {n : ℕ} → List·Memᴰ n (reached v) → List·Memᴰ n (rowAt v (v .level n))
-  pub row-in : {n d : ℕ} → d ≤ height v → List·Memᴰ n (rowAt v d) → List·Memᴰ n (reached v) × (v .level n ≡ d)
+  pub row-of : {n : ℕ} → List·Memᴰ n (reached v) → List·Memᴰ n (rowAt v (v .node n .level))
+  pub row-in : {n d : ℕ} → d ≤ height v → List·Memᴰ n (rowAt v d) → List·Memᴰ n (reached v) × (v .node n .level ≡ d)
   -- the root's row is the root, the leaves' row the leaves, and each other row has the children of the row above
   pub root-row : rowAt v (height v) ≡ v .root ∷ []
   pub leaf-row : rowAt v 0 ≡ leaves v
@@ -38,10 +38,10 @@ pub record Shape (v : View) : Type 0 where
   pub once : distinct (reached v) ≡ true
   pub few : length (reached v) ≤ v .nodes
   -- the leaves are the reached nodes of level 0
-  pub leaves-are : (n : ℕ) → List·Memᴰ n (leaves v) ↔ (List·Memᴰ n (reached v) × (v .level n ≡ 0))
+  pub leaves-are : (n : ℕ) → List·Memᴰ n (leaves v) ↔ (List·Memᴰ n (reached v) × (v .node n .level ≡ 0))
   -- a node's kept keys lie from its fence up to below its sibling's, and what else it shows comes after them
   pub keys : {n : ℕ} → List·Memᴰ n (reached v) → Each (InRange v n) (kept v n)
-  pub shows : {n : ℕ} → List·Memᴰ n (reached v) → v .shown n ≡ kept v n ++ ignored v n
+  pub shows : {n : ℕ} → List·Memᴰ n (reached v) → v .node n .shown ≡ kept v n ++ ignored v n
 
 pub shape-view : (v : View) → Orderly v → Shape v
 shape-view v o = record {
@@ -57,7 +57,7 @@ shape-view v o = record {
   once = o .once;
   few = reached-few v o;
   leaves-are = λ n. mem-leaves v n o;
-  keys = λ {n} m. each-both (λ (s : Slot). v .fence n ≤ s .key) (λ (s : Slot). within v n (s .key) ≡ true) (kept v n) (kept-from v n (each-mem (Good v) (o .good) m)) (kept-within v n);
+  keys = λ {n} m. each-both (λ (s : Slot). v .node n .fence ≤ s .key) (λ (s : Slot). within v n (s .key) ≡ true) (kept v n) (kept-from v n (each-mem (Good v) (o .good) m)) (kept-within v n);
   shows = λ {n} m. shown-split v n (each-mem (Good v) (o .good) m);
 }
 

@@ -69,12 +69,6 @@ missing-comm Several Several = refl
 pub same-unfinished : (x y : Unfinished) → x .hidden ≡ y .hidden → x .trailing ≡ y .trailing → x .missing ≡ y .missing → x ≡ y
 same-unfinished x y a b c = λ i. record { hidden = a i; trailing = b i; missing = c i }
 
-pub together-unit : (x : Unfinished) → together finished x ≡ x
-together-unit x = refl
-
-pub together-unit-right : (x : Unfinished) → together x finished ≡ x
-together-unit-right x = same-unfinished _ _ (few-unit (x .hidden)) (few-unit (x .trailing)) (missing-unit (x .missing))
-
 pub together-assoc : (x y z : Unfinished) → together (together x y) z ≡ together x (together y z)
 together-assoc x y z = same-unfinished _ _ (few-assoc (x .hidden) (y .hidden) (z .hidden)) (few-assoc (x .trailing) (y .trailing) (z .trailing)) (missing-assoc (x .missing) (y .missing) (z .missing))
 

@@ -16,7 +16,3 @@ unreachableIn v = filter (λ (n : ℕ). not (elem n (reached v))) (numbers 1 (v 
 
 pub unreachable-count : (v : View) → Orderly v → length (unreachableIn v) + length (reached v) ≡ v .nodes
 unreachable-count v o = count-without (v .nodes) (reached v) (o .once) (reached-numbers v o)
-
--- the same nodes reached leave the same unreachable
-pub same-unreachable : (v v′ : View) → v′ .nodes ≡ v .nodes → reached v′ ≡ reached v → unreachableIn v′ ≡ unreachableIn v
-same-unreachable v v′ e r = λ i. filter (λ (n : ℕ). not (elem n (r i))) (numbers 1 (e i))

@@ -9,6 +9,7 @@ use borrow.Author.Tests.{ne-eqb, le-leb}
 use Rattle.model.specs.Slots.{View, height}
 use Rattle.model.specs.Reached.{flat, headOr, children, reachedFrom, leavesFrom, leaves}
 use Rattle.model.specs.SoundTest.{linked}
+use Rattle.view_laws.proofs.NodeViews.{leftOf}
 use Rattle.list_laws.proofs.Tools.{Each}
 use Rattle.tree_laws.proofs.Rows.{At, not-zero, linked-cons, first-child, head-children}
 use Rattle.tree_laws.proofs.Levels.{Level, level-lower, level-down}
@@ -20,7 +21,7 @@ unfolding along
 along-none v zero = refl
 along-none v (suc c) = refl
 
-pub along-more : (v : View) (c n : ℕ) → (n ≡ 0 → ⊥) → along v (suc c) n ≡ n ∷ along v c (v .sibling n)
+pub along-more : (v : View) (c n : ℕ) → (n ≡ 0 → ⊥) → along v (suc c) n ≡ n ∷ along v c (v .node n .sibling)
 unfolding along
 along-more v c n z = rw (ne-eqb n 0 z, along)
 
@@ -36,8 +37,8 @@ leftmost-head : (v : View) (d n : ℕ) (ns : List ℕ) → Level v d ns → head
 unfolding leftmost leavesFrom
 leftmost-head v zero n ns l e = sym e
 leftmost-head v (suc d) n ns l e =
-    let first : headOr 0 (flat (children v) ns) ≡ v .left n = head-children v d ns (l .row .at) ∙ first-child v (headOr 0 ns) (l .some) ∙ ap (v .left) e in
-    leftmost-head v d (v .left n) (flat (children v) ns) (level-lower v d ns l) first
+    let first : headOr 0 (flat (children v) ns) ≡ v .node n .left = head-children v d ns (l .row .at) ∙ first-child v (headOr 0 ns) (l .some) ∙ ap (leftOf v) e in
+    leftmost-head v d (v .node n .left) (flat (children v) ns) (level-lower v d ns l) first
 
 leaves-few : (v : View) (d : ℕ) (ns : List ℕ) → length (leavesFrom v d ns) ≤ length (reachedFrom v d ns)
 unfolding leavesFrom reachedFrom

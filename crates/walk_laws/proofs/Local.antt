@@ -18,16 +18,16 @@ use Rattle.walk_laws.proofs.Sums.{depthFirst}
 use Rattle.walk_laws.proofs.Run.{visits}
 
 -- what aloneOk says of the sibling
-alone-sibling : (v : View) (n : ℕ) → aloneOk v n ≡ true → (v .sibling n ≡ 0 → ⊥) → v .level (v .sibling n) ≡ v .level n
+alone-sibling : (v : View) (n : ℕ) → aloneOk v n ≡ true → (v .node n .sibling ≡ 0 → ⊥) → v .node (v .node n .sibling) .level ≡ v .node n .level
 unfolding aloneOk siblingOk
-alone-sibling v n h z = (simp decode at (rw (ne-eqb (v .sibling n) 0 z) at ((simp and-iff at h) .1 .0))) .1 .0
+alone-sibling v n h z = (simp decode at (rw (ne-eqb (v .node n .sibling) 0 z) at ((simp and-iff at h) .1 .0))) .1 .0
 
 -- a visit that fits, as a record of facts
 pub record Fits (v : View) (x : Visit) : Type 0 where
   pub range : inRange (v .nodes) (x .node) ≡ true
-  pub level : v .level (x .node) ≡ x .level
-  pub fence : v .fence (x .node) ≡ x .fence
-  pub right : v .sibling (x .node) ≡ x .right
+  pub level : v .node (x .node) .level ≡ x .level
+  pub fence : v .node (x .node) .fence ≡ x .fence
+  pub right : v .node (x .node) .sibling ≡ x .right
   pub alone : aloneOk v (x .node) ≡ true
 
 pub fits-iff : (v : View) (x : Visit) → (fits v x ≡ true) ↔ Fits v x
@@ -37,14 +37,14 @@ fits-iff v x = (
   λ u. simp decode ((u .range, (u .level, (u .fence, u .right))), u .alone),
 )
 
-pub visits-yes : (v : View) (p d : ℕ) (s : Slot) (ss : List Slot) (e : ℕ) → eqb (v .sibling (s .pointer)) (headOr e (pointers ss)) ≡ true
+pub visits-yes : (v : View) (p d : ℕ) (s : Slot) (ss : List Slot) (e : ℕ) → eqb (v .node (s .pointer) .sibling) (headOr e (pointers ss)) ≡ true
     → visitsOf v p d (s ∷ ss) e ≡ record { node = s .pointer; level = d; fence = s .key; right = headOr e (pointers ss); way = finished } ∷ visitsOf v p d ss e
 unfolding visitsOf
 visits-yes v p d s ss e c = rw (c, visitsOf)
 
-pub visits-no : (v : View) (p d : ℕ) (s : Slot) (ss : List Slot) (e : ℕ) → eqb (v .sibling (s .pointer)) (headOr e (pointers ss)) ≡ false
-    → visitsOf v p d (s ∷ ss) e ≡ record { node = s .pointer; level = d; fence = s .key; right = v .sibling (s .pointer); way = missingAt p (s .pointer) }
-    ∷ record { node = v .sibling (s .pointer); level = d; fence = v .fence (v .sibling (s .pointer)); right = headOr e (pointers ss); way = finished } ∷ visitsOf v p d ss e
+pub visits-no : (v : View) (p d : ℕ) (s : Slot) (ss : List Slot) (e : ℕ) → eqb (v .node (s .pointer) .sibling) (headOr e (pointers ss)) ≡ false
+    → visitsOf v p d (s ∷ ss) e ≡ record { node = s .pointer; level = d; fence = s .key; right = v .node (s .pointer) .sibling; way = missingAt p (s .pointer) }
+    ∷ record { node = v .node (s .pointer) .sibling; level = d; fence = v .node (v .node (s .pointer) .sibling) .fence; right = headOr e (pointers ss); way = finished } ∷ visitsOf v p d ss e
 unfolding visitsOf
 visits-no v p d s ss e c = rw (c, visitsOf)
 
@@ -54,11 +54,11 @@ nodesOf xs = map (λ (x : Visit). x .node) xs
 pub visits-nodes : (v : View) (p d : ℕ) (ss : List Slot) (e : ℕ) → nodesOf (visitsOf v p d ss e) ≡ fillRow v (pointers ss) e
 unfolding visitsOf fillRow
 visits-nodes v p d [] e = refl
-visits-nodes v p d (s ∷ ss) e = go (eqb (v .sibling (s .pointer)) (headOr e (pointers ss))) refl (visits-nodes v p d ss e)
+visits-nodes v p d (s ∷ ss) e = go (eqb (v .node (s .pointer) .sibling) (headOr e (pointers ss))) refl (visits-nodes v p d ss e)
   where
-    go : (b : Bool) → eqb (v .sibling (s .pointer)) (headOr e (pointers ss)) ≡ b → nodesOf (visitsOf v p d ss e) ≡ fillRow v (pointers ss) e → nodesOf (visitsOf v p d (s ∷ ss) e) ≡ fillRow v (pointers (s ∷ ss)) e
+    go : (b : Bool) → eqb (v .node (s .pointer) .sibling) (headOr e (pointers ss)) ≡ b → nodesOf (visitsOf v p d ss e) ≡ fillRow v (pointers ss) e → nodesOf (visitsOf v p d (s ∷ ss) e) ≡ fillRow v (pointers (s ∷ ss)) e
     go true c ih = rw (visits-yes v p d s ss e c, link-yes v (s .pointer) (pointers ss) e c) (ap (λ (l : List ℕ). s .pointer ∷ l) ih)
-    go false c ih = rw (visits-no v p d s ss e c, link-no v (s .pointer) (pointers ss) e c) (ap (λ (l : List ℕ). s .pointer ∷ v .sibling (s .pointer) ∷ l) ih)
+    go false c ih = rw (visits-no v p d s ss e c, link-no v (s .pointer) (pointers ss) e c) (ap (λ (l : List ℕ). s .pointer ∷ v .node (s .pointer) .sibling ∷ l) ih)
 
 -- what nodeOk asks of a row of children, with what aloneOk asks of each
 pub record RowOk (v : View) (d : ℕ) (ss : List Slot) (e : ℕ) : Type 0 where
@@ -70,9 +70,9 @@ pub record RowOk (v : View) (d : ℕ) (ss : List Slot) (e : ℕ) : Type 0 where
 pub row-to : (v : View) (p d : ℕ) (ss : List Slot) (e : ℕ) → Each (Fits v) (visitsOf v p d ss e) → RowOk v d ss e
 unfolding all slotOk childOk linked
 row-to v p d [] e h = unfold fillRow in record { names = refl; range = refl; chain = refl; alone = refl }
-row-to v p d (s ∷ ss) e h = go (eqb (v .sibling (s .pointer)) (headOr e (pointers ss))) refl (row-to v p d ss e)
+row-to v p d (s ∷ ss) e h = go (eqb (v .node (s .pointer) .sibling) (headOr e (pointers ss))) refl (row-to v p d ss e)
   where
-    go : (b : Bool) → eqb (v .sibling (s .pointer)) (headOr e (pointers ss)) ≡ b → (Each (Fits v) (visitsOf v p d ss e) → RowOk v d ss e) → RowOk v d (s ∷ ss) e
+    go : (b : Bool) → eqb (v .node (s .pointer) .sibling) (headOr e (pointers ss)) ≡ b → (Each (Fits v) (visitsOf v p d ss e) → RowOk v d ss e) → RowOk v d (s ∷ ss) e
     go true c ih =
         let u = rw (visits-yes v p d s ss e c) at h in
         let w = ih (u .1) in
@@ -98,16 +98,16 @@ row-to v p d (s ∷ ss) e h = go (eqb (v .sibling (s .pointer)) (headOr e (point
 pub row-from : (v : View) (p d : ℕ) (ss : List Slot) (e : ℕ) → RowOk v d ss e → Each (Fits v) (visitsOf v p d ss e)
 unfolding all slotOk childOk linked
 row-from v p d [] e h = unfold visitsOf in tt
-row-from v p d (s ∷ ss) e h = go (eqb (v .sibling (s .pointer)) (headOr e (pointers ss))) refl (row-from v p d ss e)
+row-from v p d (s ∷ ss) e h = go (eqb (v .node (s .pointer) .sibling) (headOr e (pointers ss))) refl (row-from v p d ss e)
   where
-    go : (b : Bool) → eqb (v .sibling (s .pointer)) (headOr e (pointers ss)) ≡ b → (RowOk v d ss e → Each (Fits v) (visitsOf v p d ss e)) → Each (Fits v) (visitsOf v p d (s ∷ ss) e)
+    go : (b : Bool) → eqb (v .node (s .pointer) .sibling) (headOr e (pointers ss)) ≡ b → (RowOk v d ss e → Each (Fits v) (visitsOf v p d ss e)) → Each (Fits v) (visitsOf v p d (s ∷ ss) e)
     go true c ih =
         let q = link-yes v (s .pointer) (pointers ss) e c in
         let a = simp decode at (h .names) in
         let r = simp decode at (rw q at (h .range)) in
         let l = simp decode at (rw q at (h .chain)) in
         let o = simp decode at (rw q at (h .alone)) in
-        let lv : v .level (s .pointer) ≡ d = omega (arith, a .0 .0) in
+        let lv : v .node (s .pointer) .level ≡ d = omega (arith, a .0 .0) in
         rw (visits-yes v p d s ss e c) (
           record { range = r .0; level = lv; fence = a .0 .1; right = eqb-true _ _ c; alone = o .0 },
           ih (record { names = a .1; range = r .1; chain = l .1; alone = o .1 }),
@@ -118,7 +118,7 @@ row-from v p d (s ∷ ss) e h = go (eqb (v .sibling (s .pointer)) (headOr e (poi
         let r = simp decode at (rw q at (h .range)) in
         let l = simp decode at (rw q at (h .chain)) in
         let o = simp decode at (rw q at (h .alone)) in
-        let lv : v .level (s .pointer) ≡ d = omega (arith, a .0 .0) in
+        let lv : v .node (s .pointer) .level ≡ d = omega (arith, a .0 .0) in
         rw (visits-no v p d s ss e c) (
           record { range = r .0; level = lv; fence = a .0 .1; right = refl; alone = o .0 },
           (
@@ -129,15 +129,15 @@ row-from v p d (s ∷ ss) e h = go (eqb (v .sibling (s .pointer)) (headOr e (poi
 
 pub good-alone : (v : View) (n : ℕ) → Good v n → aloneOk v n ≡ true
 unfolding nodeOk aloneOk innerOk
-good-alone v n h = let u = simp and-iff at h in simp and-iff (u .0, (u .1 .0, go (eqb (v .level n) 0) (u .1 .1)))
+good-alone v n h = let u = simp and-iff at h in simp and-iff (u .0, (u .1 .0, go (eqb (v .node n .level) 0) (u .1 .1)))
   where
-    go : (b : Bool) → (elim b as (λ c. Bool) [ true ↦ leafOk v n | false ↦ innerOk v n ]) ≡ true → (elim b as (λ c. Bool) [ true ↦ leafOk v n | false ↦ keysOk v n (suc (v .fence n)) ]) ≡ true
+    go : (b : Bool) → (elim b as (λ c. Bool) [ true ↦ leafOk v n | false ↦ innerOk v n ]) ≡ true → (elim b as (λ c. Bool) [ true ↦ leafOk v n | false ↦ keysOk v n (suc (v .node n .fence)) ]) ≡ true
     go true e = e
     go false e = (simp and-iff at e) .0
 
-good-leaf : (v : View) (n : ℕ) → v .level n ≡ 0 → aloneOk v n ≡ true → Good v n
+good-leaf : (v : View) (n : ℕ) → v .node n .level ≡ 0 → aloneOk v n ≡ true → Good v n
 unfolding nodeOk aloneOk
-good-leaf v n e h = let u = simp and-iff at h in simp and-iff (u .0, (u .1 .0, rw (eq-eqb (v .level n) 0 e) (rw (eq-eqb (v .level n) 0 e) at (u .1 .1))))
+good-leaf v n e h = let u = simp and-iff at h in simp and-iff (u .0, (u .1 .0, rw (eq-eqb (v .node n .level) 0 e) (rw (eq-eqb (v .node n .level) 0 e) at (u .1 .1))))
 
 -- what nodeOk asks of the children of n, on level d
 record ChildrenOk (v : View) (d n : ℕ) : Type 0 where
@@ -145,18 +145,18 @@ record ChildrenOk (v : View) (d n : ℕ) : Type 0 where
   pub range : all (inRange (v .nodes)) (fillRow v (named v n) (nextChild v n)) ≡ true
   pub chain : linked v (fillRow v (named v n) (nextChild v n)) (nextChild v n) ≡ true
 
-good-children : (v : View) (d n : ℕ) → v .level n ≡ suc d → Good v n → ChildrenOk v d n
+good-children : (v : View) (d n : ℕ) → v .node n .level ≡ suc d → Good v n → ChildrenOk v d n
 unfolding nodeOk innerOk all slotOk
 good-children v d n e h =
-    let u = simp and-iff at (rw (ne-eqb (v .level n) 0 (λ z. omega arith)) at ((simp and-iff at h) .1 .1)) in
+    let u = simp and-iff at (rw (ne-eqb (v .node n .level) 0 (λ z. omega arith)) at ((simp and-iff at h) .1 .1)) in
     let q = children-inner v d n e in
     record { names = rw (← e) (simp and-iff (u .1 .0, u .1 .1 .0)); range = rw (← q) (u .1 .1 .1 .0); chain = rw (← q) (u .1 .1 .1 .1) }
 
-children-good : (v : View) (d n : ℕ) → v .level n ≡ suc d → aloneOk v n ≡ true → ChildrenOk v d n → Good v n
+children-good : (v : View) (d n : ℕ) → v .node n .level ≡ suc d → aloneOk v n ≡ true → ChildrenOk v d n → Good v n
 unfolding nodeOk aloneOk innerOk all slotOk
 children-good v d n e h k =
     let u = simp and-iff at h in
-    let z = ne-eqb (v .level n) 0 (λ z. omega arith) in
+    let z = ne-eqb (v .node n .level) 0 (λ z. omega arith) in
     let q = children-inner v d n e in
     let w = simp and-iff at (rw (← e) at (k .names)) in
     simp and-iff (u .0, (u .1 .0, rw z (simp and-iff (rw z at (u .1 .1), (w .0, (w .1, (rw q (k .range), rw q (k .chain))))))))
@@ -164,9 +164,9 @@ children-good v d n e h k =
 pub visits-level : (v : View) (p d : ℕ) (ss : List Slot) (e : ℕ) → Each (λ (x : Visit). x .level ≡ d) (visitsOf v p d ss e)
 unfolding visitsOf
 visits-level v p d [] e = tt
-visits-level v p d (s ∷ ss) e = go (eqb (v .sibling (s .pointer)) (headOr e (pointers ss))) refl (visits-level v p d ss e)
+visits-level v p d (s ∷ ss) e = go (eqb (v .node (s .pointer) .sibling) (headOr e (pointers ss))) refl (visits-level v p d ss e)
   where
-    go : (b : Bool) → eqb (v .sibling (s .pointer)) (headOr e (pointers ss)) ≡ b → Each (λ (x : Visit). x .level ≡ d) (visitsOf v p d ss e) → Each (λ (x : Visit). x .level ≡ d) (visitsOf v p d (s ∷ ss) e)
+    go : (b : Bool) → eqb (v .node (s .pointer) .sibling) (headOr e (pointers ss)) ≡ b → Each (λ (x : Visit). x .level ≡ d) (visitsOf v p d ss e) → Each (λ (x : Visit). x .level ≡ d) (visitsOf v p d (s ∷ ss) e)
     go true c ih = rw (visits-yes v p d s ss e c) (refl, ih)
     go false c ih = rw (visits-no v p d s ss e c) (refl, (refl, ih))
 

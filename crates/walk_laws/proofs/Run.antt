@@ -77,7 +77,8 @@ pub fold-outcome : (v : View) (xs : List Visit) (c : ℕ) (u : Unfinished) → c
 fold-outcome v [] c u h = unfold outcome in unfold allowed in unfold all in rw (add-zero c, le-leb c (v .nodes) h, unit-right joint u)
 fold-outcome v (x ∷ xs) c u h = go (fits v x) (ltb c (v .nodes)) refl refl (fold-outcome v xs (suc c) (together u (met v x)))
   where
-    go : (a b : Bool) → fits v x ≡ a → ltb c (v .nodes) ≡ b → (suc c ≤ v .nodes → fold (visit v) xs (Visited (suc c) (together u (met v x))) ≡ outcome v xs (suc c) (together u (met v x))) → fold (visit v) (x ∷ xs) (Visited c u) ≡ outcome v (x ∷ xs) c u
+    go : (a b : Bool) → fits v x ≡ a → ltb c (v .nodes) ≡ b → (suc c ≤ v .nodes → fold (visit v) xs (Visited (suc c) (together u (met v x))) ≡ outcome v xs (suc c) (together u (met v x)))
+        → fold (visit v) (x ∷ xs) (Visited c u) ≡ outcome v (x ∷ xs) c u
     go true true e l ih =
         let less = ltb-true c (v .nodes) l in
         ap (fold (visit v) xs) (visit-yes v x c u e less) ∙ ih less ∙ (unfold outcome in unfold allowed in unfold all in rw (e, suc-add c (length xs), add-suc c (length xs), joint .assoc u (met v x) (sum joint (met v) xs)))

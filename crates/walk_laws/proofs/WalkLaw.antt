@@ -11,8 +11,8 @@ use lib.ListN.{length, length-append}
 use borrow.Author.Tests.{eq-eqb, ne-eqb, leb-true, le-leb}
 use Rattle.model.specs.declared.Unfinished.{Unfinished}
 use Rattle.model.specs.Table.{MARK, inRange}
-use Rattle.model.specs.Slots.{Slot, View, height}
-use Rattle.model.specs.Reached.{flat, headOr, pointers, named, nextChild, children, reachedFrom, reached, mapping, recording}
+use Rattle.model.specs.Slots.{Slot, View, height, recording}
+use Rattle.model.specs.Reached.{flat, headOr, pointers, named, nextChild, children, reachedFrom, reached, mapping}
 use Rattle.model.specs.SoundTest.{all, distinct, nodeOk, rootOk, finished, together, missingAt, rowUnfinished, own, unfinishedAt, unfinished, orderly, leftoverOf, leftover, isAllowed, soundView}
 use Rattle.list_laws.proofs.Tools.{decode, and-iff, refuted, same-test, Each, Each-append, Each-split, Each-map, all-each}
 use Rattle.tree_laws.proofs.Members.{UpTo, pigeonhole}
@@ -31,21 +31,22 @@ use Rattle.walk_laws.proofs.Local.{Fits, fits-iff, nodesOf, visits-node
 ways-row : (v : View) (p d : ℕ) (ss : List Slot) (e : ℕ) → sum joint (λ (x : Visit). x .way) (visitsOf v p d ss e) ≡ rowUnfinished v p (pointers ss) e
 unfolding visitsOf rowUnfinished
 ways-row v p d [] e = refl
-ways-row v p d (s ∷ ss) e = go (eqb (v .sibling (s .pointer)) (headOr e (pointers ss))) refl (ways-row v p d ss e)
+ways-row v p d (s ∷ ss) e = go (eqb (v .node (s .pointer) .sibling) (headOr e (pointers ss))) refl (ways-row v p d ss e)
   where
-    go : (b : Bool) → eqb (v .sibling (s .pointer)) (headOr e (pointers ss)) ≡ b → sum joint (λ (x : Visit). x .way) (visitsOf v p d ss e) ≡ rowUnfinished v p (pointers ss) e → sum joint (λ (x : Visit). x .way) (visitsOf v p d (s ∷ ss) e) ≡ rowUnfinished v p (pointers (s ∷ ss)) e
+    go : (b : Bool) → eqb (v .node (s .pointer) .sibling) (headOr e (pointers ss)) ≡ b → sum joint (λ (x : Visit). x .way) (visitsOf v p d ss e) ≡ rowUnfinished v p (pointers ss) e
+        → sum joint (λ (x : Visit). x .way) (visitsOf v p d (s ∷ ss) e) ≡ rowUnfinished v p (pointers (s ∷ ss)) e
     go true c ih = rw (c, visitsOf, rowUnfinished) ih
     go false c ih = rw (c, visitsOf, rowUnfinished) (ap (together (missingAt p (s .pointer))) ih)
 
-unfinished-leaf : (v : View) (n : ℕ) → v .level n ≡ 0 → unfinishedAt v n ≡ together (own v n) finished
+unfinished-leaf : (v : View) (n : ℕ) → v .node n .level ≡ 0 → unfinishedAt v n ≡ together (own v n) finished
 unfolding unfinishedAt
-unfinished-leaf v n e = rw (eq-eqb (v .level n) 0 e)
+unfinished-leaf v n e = rw (eq-eqb (v .node n .level) 0 e)
 
-unfinished-inner : (v : View) (d n : ℕ) → v .level n ≡ suc d → unfinishedAt v n ≡ together (own v n) (rowUnfinished v n (named v n) (nextChild v n))
+unfinished-inner : (v : View) (d n : ℕ) → v .node n .level ≡ suc d → unfinishedAt v n ≡ together (own v n) (rowUnfinished v n (named v n) (nextChild v n))
 unfolding unfinishedAt
-unfinished-inner v d n e = rw (ne-eqb (v .level n) 0 (λ z. omega arith))
+unfinished-inner v d n e = rw (ne-eqb (v .node n .level) 0 (λ z. omega arith))
 
-below-nodes : (v : View) (d n : ℕ) → v .level n ≡ suc d → nodesOf (visitsBelow v d n) ≡ children v n
+below-nodes : (v : View) (d n : ℕ) → v .node n .level ≡ suc d → nodesOf (visitsBelow v d n) ≡ children v n
 unfolding visitsBelow
 below-nodes v d n e = visits-nodes v n d (ways v n) (nextChild v n) ∙ sym (children-inner v d n e)
 

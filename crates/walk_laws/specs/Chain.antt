@@ -9,12 +9,12 @@ module _ (v : View) where
   -- d levels down from n, by left
   unfoldable pub leftmost : ℕ → ℕ → ℕ
   leftmost zero n = n
-  leftmost (suc d) n = leftmost d (v .left n)
+  leftmost (suc d) n = leftmost d (v .node n .left)
 
   -- n and the nodes along the siblings, at most c; 0 is no node
   unfoldable pub along : ℕ → ℕ → List ℕ
   along zero n = []
-  along (suc c) n = elim (eqb n 0) [ true ↦ [] | false ↦ n ∷ along c (v .sibling n) ]
+  along (suc c) n = elim (eqb n 0) [ true ↦ [] | false ↦ n ∷ along c (v .node n .sibling) ]
 
 -- the leftmost leaf; 0 for none where the root is too high
 unfoldable pub firstLeaf : View → ℕ

@@ -22,11 +22,12 @@ pub record Visit : Type 0 where
 -- what is asked of the visited node's header
 unfoldable pub stands : View → Visit → Bool
 stands v x =
-    inRange (v .nodes) (x .node) && (eqb (v .level (x .node)) (x .level) && (eqb (v .fence (x .node)) (x .fence) && eqb (v .sibling (x .node)) (x .right)))
+    let n = v .node (x .node) in
+    inRange (v .nodes) (x .node) && (eqb (n .level) (x .level) && (eqb (n .fence) (x .fence) && eqb (n .sibling) (x .right)))
 
 -- what nodeOk asks of the node without its children
 unfoldable pub aloneOk : View → ℕ → Bool
-aloneOk v n = v .clear n && (siblingOk v n && elim (eqb (v .level n) 0) [ true ↦ leafOk v n | false ↦ keysOk v n (suc (v .fence n)) ])
+aloneOk v n = v .node n .clear && (siblingOk v n && elim (eqb (v .node n .level) 0) [ true ↦ leafOk v n | false ↦ keysOk v n (suc (v .node n .fence)) ])
 
 unfoldable pub fits : View → Visit → Bool
 fits v x = stands v x && aloneOk v (x .node)
@@ -36,14 +37,17 @@ module _ (v : View) (p d : ℕ) where
   unfoldable pub visitsOf : List Slot → ℕ → List Visit
   visitsOf [] e = []
   visitsOf (s ∷ ss) e =
-      elim (eqb (v .sibling (s .pointer)) (headOr e (pointers ss))) [
+      elim (eqb (v .node (s .pointer) .sibling) (headOr e (pointers ss))) [
         | true ↦ record { node = s .pointer; level = d; fence = s .key; right = headOr e (pointers ss); way = finished } ∷ visitsOf ss e
-        | false ↦ record { node = s .pointer; level = d; fence = s .key; right = v .sibling (s .pointer); way = missingAt p (s .pointer) } ∷ record { node = v .sibling (s .pointer); level = d; fence = v .fence (v .sibling (s .pointer)); right = headOr e (pointers ss); way = finished } ∷ visitsOf ss e
+        | false ↦
+            let b = v .node (s .pointer) .sibling in
+            record { node = s .pointer; level = d; fence = s .key; right = b; way = missingAt p (s .pointer) }
+            ∷ record { node = b; level = d; fence = v .node b .fence; right = headOr e (pointers ss); way = finished } ∷ visitsOf ss e
       ]
 
 -- the ways down from n: left, as a slot with n's fence as key, then the kept slots
 abbrev pub ways : View → ℕ → List Slot
-ways v n = slot (v .fence n) (v .left n) ∷ kept v n
+ways v n = slot (v .node n .fence) (v .node n .left) ∷ kept v n
 
 -- the visits below n, on level d
 unfoldable pub visitsBelow : View → ℕ → ℕ → List Visit

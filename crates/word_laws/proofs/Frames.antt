@@ -1,17 +1,18 @@
 -- The frame laws: what of a table's header and nodes reads the same after stores to a stretch of words, and after stores to one node.
 use mathlib.Core.Path.{_≡_, refl, sym, _∙_}
 use mathlib.Core.Bool.{Bool, true, false, cond}
+use mathlib.Core.Logic.{_≢_}
 use Prim.Native.Nat.{ℕ, zero, suc, _+_, _≤_, _<_}
 use native.Mathlib.Nat.{add-zero}
 use native.Mathlib.Omega.{arith}
 use lib.ListN.{length, set, length-set}
 use lib.Seq.{getD-set-same}
 use Rattle.model.specs.declared.Node.{Node}
-use Rattle.model.specs.Table.{Words, at, headerOk, hasNode, nodeStart, node, nodeFrom, blank, spare}
-use Rattle.model.specs.Slots.{clearIn, used}
-use Rattle.model.specs.Orders.{put}
+use Rattle.model.specs.Table.{Words, at, nodes, root, headerOk, hasNode, nodeStart, node, nodeFrom, blank, spare}
+use Rattle.model.specs.Slots.{clearIn, used, nodeView}
+use Rattle.view_laws.proofs.NodeViews.{AllBut}
 use Rattle.table_laws.proofs.Nodes.{has-node-iff, node-in}
-use Rattle.word_laws.proofs.Outside.{Outside, outside-start, outside-store, same-part}
+use Rattle.word_laws.proofs.Outside.{Outside, part-same, same-part}
 
 pub has-node-same : (t t′ : Words) (i : ℕ) → length t′ ≡ length t → hasNode t′ i ≡ hasNode t i
 unfolding hasNode
@@ -37,12 +38,35 @@ reads-fence : Reads (λ (m : Node). m .fence) 3
 unfolding nodeFrom
 reads-fence t w = refl
 
+-- ---- the header
+
+-- t′ is as long as t and has its header, word by word
+pub record SameHeader (t t′ : Words) : Type 0 where
+  pub long : length t′ ≡ length t
+  pub words : (w : ℕ) → w < 8 → at t′ w ≡ at t w
+
+pub header-refl : (t : Words) → SameHeader t t
+header-refl t = record { long = refl; words = λ w h. refl }
+
+pub header-trans : (t u x : Words) → SameHeader t u → SameHeader u x → SameHeader t x
+header-trans t u x f g = record { long = g .long ∙ f .long; words = λ w h. g .words w h ∙ f .words w h }
+
+module _ {t t′ : Words} (h : SameHeader t t′) where
+  pub same-ok : headerOk t′ ≡ headerOk t
+  unfolding headerOk
+  same-ok = rw (h .long, h .words 0 (omega arith), h .words 1 (omega arith), h .words 2 (omega arith), part-same t t′ (h .long) 3 5 (λ w p q. h .words w (omega arith)))
+
+  pub same-root : root t′ ≡ root t
+  same-root = h .words 1 (omega arith)
+
+  pub same-nodes : nodes t′ ≡ nodes t
+  same-nodes = h .words 2 (omega arith)
+
 -- ---- words that are not in the stretch
 
 module _ (a k : ℕ) (t t′ : Words) (o : Outside a k t t′) where
-  pub header-same : 8 ≤ a → headerOk t′ ≡ headerOk t
-  unfolding headerOk
-  header-same h = rw (o .long, o .same 0 (omega arith), o .same 1 (omega arith), o .same 2 (omega arith), same-part a k t t′ o 3 5 (omega arith))
+  pub header-same : 8 ≤ a → SameHeader t t′
+  header-same h = record { long = o .long; words = λ w l. o .same w (omega arith) }
 
   -- something that is read of a node, where it is read as before of the node's words
   read-same : {A : Type 0} (g : Node → A) (n : ℕ) → g (nodeFrom t′ (nodeStart n)) ≡ g (nodeFrom t (nodeStart n)) → g (node t′ n) ≡ g (node t n)
@@ -70,7 +94,7 @@ module _ (a k : ℕ) (t t′ : Words) (o : Outside a k t t′) where
 
   pub spare-same : (n : ℕ) → ((w : ℕ) → nodeStart n + 4 ≤ w → w < nodeStart n + 4 + 4 → a ≤ w → w < a + k → ⊥) → spare t′ n ≡ spare t n
   unfolding spare
-  spare-same n z = same-part a k t t′ o (nodeStart n + 4) 4 z
+  spare-same n z = rw (has-node-same t t′ n (o .long), same-part a k t t′ o (nodeStart n + 4) 4 z)
 
   pub slots-same : (n : ℕ) → ((w : ℕ) → nodeStart n + 8 ≤ w → w < nodeStart n + 8 + 24 → a ≤ w → w < a + k → ⊥) → node t′ n .slots ≡ node t n .slots
   unfolding nodeFrom
@@ -85,41 +109,35 @@ module _ (a k : ℕ) (t t′ : Words) (o : Outside a k t t′) where
     slots = slots-same n (λ w p q. z w (omega arith) (omega arith)) i;
   }
 
+-- what is read of a node, by its words
+pub view-same : (t t′ : Words) (n : ℕ) → node t′ n ≡ node t n → spare t′ n ≡ spare t n → nodeView t′ n ≡ nodeView t n
+unfolding used clearIn
+view-same t t′ n e f = rw (e, f)
+
 -- ---- stores to the words of node x
 
 -- t′ has t's words but for some of node x
 abbrev pub Elsewhere : ℕ → Words → Words → Type 0
 Elsewhere x t t′ = Outside (nodeStart x) 32 t t′
 
-pub store-elsewhere : (t t′ : Words) (x j y : ℕ) → j < 32 → Elsewhere x t t′ → Elsewhere x t (set t′ (nodeStart x + j) y)
-store-elsewhere t t′ x j y h o = outside-store (nodeStart x) 32 t t′ (put (nodeStart x + j) y) (omega arith) o
-
-pub else-header : (t t′ : Words) (x : ℕ) → Elsewhere x t t′ → headerOk t′ ≡ headerOk t
+pub else-header : (t t′ : Words) (x : ℕ) → Elsewhere x t t′ → SameHeader t t′
 unfolding nodeStart
 else-header t t′ x o = header-same (nodeStart x) 32 t t′ o (omega arith)
 
-pub header-set : (t : Words) (w y : ℕ) → 8 ≤ w → headerOk (set t w y) ≡ headerOk t
-header-set t w y h = header-same w 1 t (set t w y) (outside-store w 1 t t (put w y) (omega arith) (outside-start w 1 t)) h
-
 -- every other node is as before
 module _ (t t′ : Words) (x : ℕ) (o : Elsewhere x t t′) (h : 1 ≤ x) where
-  pub node-else : (n : ℕ) → (n ≡ x → ⊥) → node t′ n ≡ node t n
+  node-else : (n : ℕ) → n ≢ x → node t′ n ≡ node t n
   unfolding node nodeStart hasNode
   node-else zero z = refl
   node-else (suc n) z = node-same (nodeStart x) 32 t t′ o (suc n) (λ w p q r s. z (omega arith))
 
-  pub used-else : (n : ℕ) → (n ≡ x → ⊥) → used t′ n ≡ used t n
-  unfolding used
-  used-else n z = rw (node-else n z)
+  spare-else : (n : ℕ) → n ≢ x → spare t′ n ≡ spare t n
+  unfolding spare nodeStart hasNode
+  spare-else zero z = refl
+  spare-else (suc n) z = spare-same (nodeStart x) 32 t t′ o (suc n) (λ w p q r s. z (omega arith))
 
-  -- (for number 0 these are the words of node 1)
-  pub spare-else : (n : ℕ) → 1 ≤ n → (n ≡ x → ⊥) → spare t′ n ≡ spare t n
-  unfolding nodeStart
-  spare-else n g z = spare-same (nodeStart x) 32 t t′ o n (λ w p q r s. z (omega arith))
-
-  pub clear-else : (n : ℕ) → 1 ≤ n → (n ≡ x → ⊥) → clearIn t′ n ≡ clearIn t n
-  unfolding clearIn
-  clear-else n g z = rw (spare-else n g z, node-else n z)
+  pub view-else : AllBut (nodeView t) (nodeView t′) x
+  view-else = record { else = λ n z. view-same t t′ n (node-else n z) (spare-else n z); here = refl }
 
 -- ---- a store to a header word of node x
 
@@ -135,9 +153,3 @@ left-stored = word-stored (λ (m : Node). m .left) 0 reads-left (omega arith)
 
 pub sibling-stored : (t : Words) (x y : ℕ) → hasNode t x ≡ true → node (set t (nodeStart x + 1) y) x .sibling ≡ y
 sibling-stored = word-stored (λ (m : Node). m .sibling) 1 reads-sibling (omega arith)
-
-pub level-stored : (t : Words) (x y : ℕ) → hasNode t x ≡ true → node (set t (nodeStart x + 2) y) x .level ≡ y
-level-stored = word-stored (λ (m : Node). m .level) 2 reads-level (omega arith)
-
-pub fence-stored : (t : Words) (x y : ℕ) → hasNode t x ≡ true → node (set t (nodeStart x + 3) y) x .fence ≡ y
-fence-stored = word-stored (λ (m : Node). m .fence) 3 reads-fence (omega arith)

@@ -1,33 +1,21 @@
 -- The two stores that link a node: a sibling's number, and the root's number in the header.
-use mathlib.Core.Path.{_≡_, ap, _∙_, fun-ext}
-use mathlib.Core.Bool.{true}
+use mathlib.Core.Path.{_≡_, _∙_}
+use mathlib.Core.Bool.{true, _&&_}
 use Prim.Native.Nat.{ℕ, suc, _+_}
 use native.Mathlib.Numerals.{add-one}
 use native.Mathlib.Omega.{arith}
+use lib.Dec.{eqb}
 use lib.ListN.{length, set, length-set}
 use lib.Seq.{getD-set-same}
-use Rattle.model.specs.declared.Node.{Node}
-use Rattle.model.specs.Table.{Words, at, nodes, root, inRange, headerOk, hasNode, nodeStart, node, spare}
-use Rattle.model.specs.Slots.{inUse, slotsOf, shown, hidden, clearIn, used, View, viewFrom, view}
+use Rattle.model.specs.Table.{Words, at, nodes, inRange, headerOk, hasNode, nodeStart, node, spare, allZero}
+use Rattle.model.specs.Slots.{inUse, slotsOf, shown, hidden, clearIn, used, nodeView, viewFrom, view}
 use Rattle.model.specs.Orders.{put}
 use Rattle.list_laws.proofs.Tools.{decode}
+use Rattle.view_laws.proofs.NodeViews.{ButAt, joining}
 use Rattle.table_laws.proofs.Header.{header-iff}
 use Rattle.table_laws.proofs.Nodes.{has-node-iff}
 use Rattle.word_laws.proofs.Outside.{Outside, outside-start, outside-store, outside-wider}
-use Rattle.word_laws.proofs.Frames.{left-same, level-same, fence-same, spare-same, slots-same, node-same, header-same, Elsewhere, node-else, sibling-stored}
-
--- v′ is v but for node a's sibling, which is b
-pub record SiblingView (v v′ : View) (a b : ℕ) : Type 0 where
-  pub nodes : v′ .nodes ≡ v .nodes
-  pub root : v′ .root ≡ v .root
-  pub left : v′ .left ≡ v .left
-  pub level : v′ .level ≡ v .level
-  pub fence : v′ .fence ≡ v .fence
-  pub shown : v′ .shown ≡ v .shown
-  pub hidden : v′ .hidden ≡ v .hidden
-  pub clear : v′ .clear ≡ v .clear
-  pub sibling-else : (n : ℕ) → (n ≡ a → ⊥) → v′ .sibling n ≡ v .sibling n
-  pub sibling-at : v′ .sibling a ≡ b
+use Rattle.word_laws.proofs.Frames.{SameHeader, left-same, level-same, fence-same, spare-same, slots-same, node-same, view-same, Elsewhere, else-header, view-else, sibling-stored}
 
 module _ (t : Words) (a b : ℕ) (h : hasNode t a ≡ true) where
   abbrev t′ : Words
@@ -39,40 +27,39 @@ module _ (t : Words) (a b : ℕ) (h : hasNode t a ≡ true) where
   elsewhere : Elsewhere a t t′
   elsewhere = outside-wider (nodeStart a + 1) 1 (nodeStart a) 32 t t′ (omega arith) (omega arith) outside
 
-  lefts : (n : ℕ) → node t′ n .left ≡ node t n .left
+  lefts : node t′ a .left ≡ node t a .left
   unfolding nodeStart
-  lefts n = left-same (nodeStart a + 1) 1 t t′ outside n (omega arith)
+  lefts = left-same (nodeStart a + 1) 1 t t′ outside a (omega arith)
 
-  slots : (n : ℕ) → node t′ n .slots ≡ node t n .slots
+  slots : node t′ a .slots ≡ node t a .slots
   unfolding nodeStart
-  slots n = slots-same (nodeStart a + 1) 1 t t′ outside n (omega arith)
+  slots = slots-same (nodeStart a + 1) 1 t t′ outside a (omega arith)
 
-  spares : (n : ℕ) → spare t′ n ≡ spare t n
+  spares : spare t′ a ≡ spare t a
   unfolding nodeStart
-  spares n = spare-same (nodeStart a + 1) 1 t t′ outside n (omega arith)
+  spares = spare-same (nodeStart a + 1) 1 t t′ outside a (omega arith)
 
-  view′ : SiblingView (view t) (view t′) a b
+  view′ : ButAt (nodeView t) (nodeView t′) a (joining (nodeView t a) b)
   unfolding nodeStart used clearIn
   view′ = record {
-    nodes = outside .same 2 (omega arith);
-    root = outside .same 1 (omega arith);
-    left = fun-ext lefts;
-    level = fun-ext (λ n. level-same (nodeStart a + 1) 1 t t′ outside n (omega arith));
-    fence = fun-ext (λ n. fence-same (nodeStart a + 1) 1 t t′ outside n (omega arith));
-    shown = fun-ext (λ n. rw (lefts n, slots n));
-    hidden = fun-ext (λ n. rw (lefts n, slots n));
-    clear = fun-ext (λ n. rw (spares n, slots n));
-    sibling-else = λ n z. ap (λ (m : Node). m .sibling) (node-else t t′ a elsewhere (has-node-iff t a .0 h .0) n z);
-    sibling-at = sibling-stored t a b h;
+    else = view-else t t′ a elsewhere (has-node-iff t a .0 h .0) .else;
+    here = λ i. record {
+      left = lefts i;
+      sibling = sibling-stored t a b h i;
+      level = level-same (nodeStart a + 1) 1 t t′ outside a (omega arith) i;
+      fence = fence-same (nodeStart a + 1) 1 t t′ outside a (omega arith) i;
+      shown = shown (lefts i) (inUse (slotsOf (slots i)));
+      hidden = length (hidden (lefts i) (inUse (slotsOf (slots i))));
+      clear = allZero (spares i) && eqb (at (slots i) 23) 0;
+    };
   }
 
   -- A's sibling := B
-  pub sibling-view : SiblingView (view t) (view (set t (suc (nodeStart a)) b)) a b
+  pub sibling-view : ButAt (nodeView t) (nodeView (set t (suc (nodeStart a)) b)) a (joining (nodeView t a) b)
   sibling-view = rw add-one at view′
 
-  pub sibling-header : headerOk (set t (suc (nodeStart a)) b) ≡ headerOk t
-  unfolding nodeStart
-  sibling-header = rw (add-one (nodeStart a)) at (header-same (nodeStart a + 1) 1 t t′ outside (omega arith))
+  pub sibling-header : SameHeader t (set t (suc (nodeStart a)) b)
+  sibling-header = rw (add-one (nodeStart a)) at (else-header t t′ a elsewhere)
 
 -- ---- header word 1
 
@@ -93,21 +80,11 @@ module _ (t : Words) (r : ℕ) (h : headerOk t ≡ true) where
 
   -- everything but the root is as before
   pub root-view : view (set t 1 r) ≡ viewFrom t r
-  unfolding used clearIn
   root-view = λ i. record {
     nodes = root-outside .same 2 (omega arith) i;
     root = root-stored i;
-    left = λ (n : ℕ). root-nodes n i .left;
-    sibling = λ (n : ℕ). root-nodes n i .sibling;
-    level = λ (n : ℕ). root-nodes n i .level;
-    fence = λ (n : ℕ). root-nodes n i .fence;
-    shown = λ (n : ℕ). shown (root-nodes n i .left) (inUse (slotsOf (root-nodes n i .slots)));
-    hidden = λ (n : ℕ). length (hidden (root-nodes n i .left) (inUse (slotsOf (root-nodes n i .slots))));
-    clear = λ (n : ℕ). clears n i;
+    node = λ (n : ℕ). view-same t (set t 1 r) n (root-nodes n) (root-spares n) i;
   }
-    where
-      clears : (n : ℕ) → clearIn (set t 1 r) n ≡ clearIn t n
-      clears n = rw (root-spares n, root-nodes n)
 
   pub root-header : inRange (nodes t) r ≡ true → headerOk (set t 1 r) ≡ true
   unfolding inRange

@@ -7,11 +7,11 @@ use native.Mathlib.Omega.{arith}
 use lib.ListN.{length, take, replicate, length-append, length-take, length-replicate}
 use lib.Seq.{take-append-add, take-take, getD-append-add}
 use Rattle.model.specs.Table.{Words, at, hasNode, nodeStart, node, nodeFrom, spare, allZero}
-use Rattle.model.specs.Slots.{Slot, slot, slotsOf, shown, hidden, clearIn, used, View, view}
+use Rattle.model.specs.Slots.{Slot, slot, slotsOf, slotWords, clearIn, used, nodeView}
 use Rattle.model.specs.Orders.{apply}
-use Rattle.model.specs.Listing.{pairWords}
 use Rattle.model.specs.Writes.{putAll, nodeWords}
 use Rattle.list_laws.proofs.Tools.{decode, double-suc}
+use Rattle.view_laws.proofs.NodeViews.{newNode}
 use Rattle.slot_laws.proofs.Hiding.{Stops, AllShown, Shows, shows-all}
 use Rattle.slot_laws.proofs.SlotStores.{pointerAt}
 use Rattle.word_laws.proofs.SlotWords.{at-pointer}
@@ -20,12 +20,12 @@ use Rattle.word_laws.proofs.NodeStores.{node-stored, spare-stored}
 abbrev zeros : ℕ → List Slot
 zeros m = replicate m (slot 0 0)
 
-slots-of-pairs : (n m : ℕ) (ss : List Slot) → slotsOf (take (2 * n) (pairWords ss ++ replicate (2 * m) 0)) ≡ take n (ss ++ zeros m)
-unfolding slotsOf pairWords
-slots-of-pairs zero m ss = refl
-slots-of-pairs (suc n) zero [] = rw (double-suc n)
-slots-of-pairs (suc n) (suc m) [] = rw (double-suc n, double-suc m) (ap (λ (l : List Slot). slot 0 0 ∷ l) (slots-of-pairs n m []))
-slots-of-pairs (suc n) m (s ∷ ss) = rw (double-suc n) (ap (λ (l : List Slot). s ∷ l) (slots-of-pairs n m ss))
+slots-of-words : (n m : ℕ) (ss : List Slot) → slotsOf (take (2 * n) (slotWords ss ++ replicate (2 * m) 0)) ≡ take n (ss ++ zeros m)
+unfolding slotsOf
+slots-of-words zero m ss = refl
+slots-of-words (suc n) zero [] = rw (double-suc n)
+slots-of-words (suc n) (suc m) [] = rw (double-suc n, double-suc m) (ap (λ (l : List Slot). slot 0 0 ∷ l) (slots-of-words n m []))
+slots-of-words (suc n) m (s ∷ ss) = rw (double-suc n) (ap (λ (l : List Slot). s ∷ l) (slots-of-words n m ss))
 
 zeros-stop : (j m : ℕ) → Stops (take j (zeros m))
 zeros-stop zero m = tt
@@ -64,19 +64,9 @@ module _ (left sibling level fence : ℕ) (ss : List Slot) where
 
   words-slots : length ss ≤ 12 → slotsOf (nodeFrom words 0 .slots) ≡ filled ss
   unfolding nodeWords nodeFrom
-  words-slots h = rw (take-take 24 24 (pairWords ss ++ replicate 24 0) (omega arith)) (slots-of-pairs 12 12 ss ∙ filled-take ss h)
+  words-slots h = rw (take-take 24 24 (slotWords ss ++ replicate 24 0) (omega arith)) (slots-of-words 12 12 ss ∙ filled-take ss h)
 
 -- ---- the node
-
--- node b has left l, sibling s, level d, fence f, shows ss, hides nothing and is clear
-pub record NewNode (v : View) (b l s d f : ℕ) (ss : List Slot) : Type 0 where
-  pub left : v .left b ≡ l
-  pub sibling : v .sibling b ≡ s
-  pub level : v .level b ≡ d
-  pub fence : v .fence b ≡ f
-  pub shown : v .shown b ≡ ss
-  pub hidden : v .hidden b ≡ 0
-  pub clear : v .clear b ≡ true
 
 module _ (t : Words) (b left sibling level fence : ℕ) (ss : List Slot) (h : hasNode t b ≡ true) (a : AllShown left ss) (l : length ss ≤ 11) where
   abbrev after : Words
@@ -102,14 +92,26 @@ module _ (t : Words) (b left sibling level fence : ℕ) (ss : List Slot) (h : ha
   made-last : at (node after b .slots) 23 ≡ 0
   made-last = at-pointer 11 (node after b .slots) ∙ rw made-slots (filled-last ss l)
 
-  pub new-node : NewNode (view (apply (putAll (nodeStart b) (nodeWords left sibling level fence ss)) t)) b left sibling level fence ss
-  unfolding nodeWords nodeFrom used clearIn
-  new-node = record {
-    left = made-left;
-    sibling = rw made;
-    level = rw made;
-    fence = rw made;
-    shown = rw made-left (shows .shows);
-    hidden = rw made-left (shows .hides);
-    clear = simp decode (made-spare, made-last);
+  made-shown : nodeView after b .shown ≡ ss
+  unfolding used
+  made-shown = rw made-left (shows .shows)
+
+  made-hidden : nodeView after b .hidden ≡ 0
+  unfolding used
+  made-hidden = rw made-left (shows .hides)
+
+  made-clear : nodeView after b .clear ≡ true
+  unfolding clearIn
+  made-clear = simp decode (made-spare, made-last)
+
+  pub new-node : nodeView (apply (putAll (nodeStart b) (nodeWords left sibling level fence ss)) t) b ≡ newNode left sibling level fence ss
+  unfolding nodeWords nodeFrom
+  new-node = λ i. record {
+    left = made i .left;
+    sibling = made i .sibling;
+    level = made i .level;
+    fence = made i .fence;
+    shown = made-shown i;
+    hidden = made-hidden i;
+    clear = made-clear i;
   }

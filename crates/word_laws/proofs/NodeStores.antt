@@ -13,7 +13,7 @@ use Rattle.model.specs.Writes.{putAll}
 use Rattle.list_laws.proofs.Tools.{Each}
 use Rattle.list_laws.proofs.Steps.{Along}
 use Rattle.table_laws.proofs.Words.{at-part}
-use Rattle.table_laws.proofs.Nodes.{has-node-iff, node-in}
+use Rattle.table_laws.proofs.Nodes.{has-node-iff, node-in, spare-in}
 use Rattle.word_laws.proofs.Stores.{doStore, after-whole}
 use Rattle.word_laws.proofs.Outside.{Into, outside-along}
 use Rattle.word_laws.proofs.Frames.{Elsewhere, has-node-same}
@@ -76,5 +76,4 @@ module _ (t : Words) (b : ℕ) (ws : Words) (h : hasNode t b ≡ true) (l : leng
       word j g = stored-word (nodeStart b) ws t fits j (omega arith)
 
   pub spare-stored : spare (apply (putAll (nodeStart b) ws) t) b ≡ take 4 (drop 4 ws)
-  unfolding spare
-  spare-stored = stored-part (nodeStart b) ws t fits 4 4 (omega arith)
+  spare-stored = spare-in stored b has-stored ∙ stored-part (nodeStart b) ws t fits 4 4 (omega arith)

@@ -33,10 +33,15 @@ outside-along a n t qs e = along-each doStore (Outside a n t) (Into a n) (λ q t
 pub outside-wider : (a n b m : ℕ) (t t′ : Words) → b ≤ a → a + n ≤ b + m → Outside a n t t′ → Outside b m t t′
 outside-wider a n b m t t′ h g o = record { long = o .long; same = λ w z. o .same w (λ l u. z (omega arith) (omega arith)) }
 
--- the k words from c on, none of which is in the stretch
-module _ (a n : ℕ) (t t′ : Words) (o : Outside a n t t′) where
-  pub same-part : (c k : ℕ) → ((w : ℕ) → c ≤ w → w < c + k → a ≤ w → w < a + n → ⊥) → take k (drop c t′) ≡ take k (drop c t)
-  same-part c k z =
-      ext-getD 0 (take k (drop c t′)) (take k (drop c t)) (simp (length-take, length-drop, o .long)) (λ i h.
-      let g : i < k = omega (arith, simp length-take at h) in
-      at-part t′ c k i g ∙ o .same (c + i) (z (c + i) (omega arith) (omega arith)) ∙ sym (at-part t c k i g))
+-- k words from c on that are the same, word by word
+pub part-same : (t t′ : Words) → length t′ ≡ length t → (c k : ℕ) → ((w : ℕ) → c ≤ w → w < c + k → at t′ w ≡ at t w)
+    → take k (drop c t′) ≡ take k (drop c t)
+part-same t t′ l c k e =
+    ext-getD 0 (take k (drop c t′)) (take k (drop c t)) (simp (length-take, length-drop, l)) (λ i h.
+    let g : i < k = omega (arith, simp length-take at h) in
+    at-part t′ c k i g ∙ e (c + i) (omega arith) (omega arith) ∙ sym (at-part t c k i g))
+
+-- none of which is in the stretch
+pub same-part : (a n : ℕ) (t t′ : Words) → Outside a n t t′ → (c k : ℕ)
+    → ((w : ℕ) → c ≤ w → w < c + k → a ≤ w → w < a + n → ⊥) → take k (drop c t′) ≡ take k (drop c t)
+same-part a n t t′ o c k z = part-same t t′ (o .long) c k (λ w p q. o .same w (z w p q))

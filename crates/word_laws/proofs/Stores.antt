@@ -1,11 +1,11 @@
 -- Stores applied to a table one after another.
 use mathlib.Core.Path.{_≡_, refl}
-use mathlib.Core.List.{List, [], _∷_, _++_}
+use mathlib.Core.List.{List, [], _∷_}
 use Prim.Native.Nat.{ℕ, _<_}
 use lib.ListN.{length, take, set}
 use Rattle.model.specs.Table.{Words}
 use Rattle.model.specs.Orders.{Store, apply}
-use Rattle.list_laws.proofs.Steps.{doAll, Until, AtFirst, first-between, first-end, until-append, until-before, until-end}
+use Rattle.list_laws.proofs.Steps.{doAll, Until, AtFirst, first-between, first-end, until-before, until-end}
 
 -- a store, as a step from table to table
 abbrev pub doStore : Store → Words → Words
@@ -31,7 +31,3 @@ module _ (P Q R : Words → Type 0) (qs : List Store) (t : Words) (a : AtFirst d
 
   pub after-first : 0 < length qs → R (apply qs t)
   after-first g = rw (apply-all qs t) (first-end doStore P Q R qs t a g)
-
--- one list of stores after another
-pub until-then : (P Q R : Words → Type 0) (qs rs : List Store) (t : Words) → Until doStore P Q qs t → Until doStore P R rs (apply qs t) → Until doStore P R (qs ++ rs) t
-until-then P Q R qs rs t a b = until-append doStore P Q R qs rs t a (rw (apply-all qs t) at b)

@@ -2,12 +2,59 @@
 use mathlib.Core.Path.{sym, _∙_}
 use native.Mathlib.Omega.{arith}
 use borrow.Author.Tests.{not-true, not-false}
-use Rattle.repair.proofs.Judging.{judged-refused, judged-ready}
-use Rattle.repair.proofs.Ending.{refused-call, call-room, finish-room, done-call}
-use Rattle.delete.proofs.Deleting.{delete-refused, delete-accepted, mend-room, mended-header, leaf-plain, out-room, all-stored}
+use lib.ListN.{length}
+use Rattle.model.specs.Writes.{deletion}
+use Rattle.write.proofs.Judging.{Passed, judged-ready}
+use Rattle.write.proofs.Ending.{refused-call, judge-refuses, Begun, mend-room, finish-room, done-call}
+use Rattle.delete.proofs.Deleting.{delete-refused, delete-accepted, out, delete-stores, mended-header, leaf-plain, out-room, out-stored}
 use borrow.Author.Needs.{needs}
 use Rattle.delete.proofs.delete.Statement.{statement}
 use Rattle.delete.proofs.delete.Tie as tie
+
+-- ---- the places, and what is known at them
+
+abbrev entry : tie.After-judge → tie.Start
+entry c = c .before .before .before .before
+
+abbrev refused : tie.After-known-told → tie.After-judgement
+refused c = c .before
+
+abbrev ready : tie.After-has-key → tie.After-judgement2
+ready c = c .before .before .before
+
+abbrev kept : tie.After-begin → tie.Else1
+kept c = c .before .before .before
+
+abbrev mended : tie.After-standing-arg → tie.After-mend
+mended c = c .before .before .before .before .before
+
+abbrev stood : tie.After-shift-out-arg2 → tie.After-standing
+stood c = c .before .before
+
+abbrev shifted : tie.After-finish-arg → tie.After-shift-out
+shifted c = c .before .before .before .before .before
+
+abbrev finished : tie.After-slice-known7 → tie.After-finish
+finished c = c .before .before
+
+abbrev asked : tie.After-judgement2 → tie.Start
+asked c = entry (c .before .before)
+
+passed : (c : tie.After-judgement2) → let v = c .judgement2 .given .0 in Passed (length (asked c .args .list .now)) (asked c .args .table .now) (v .0) (v .1 .0)
+passed c = judged-ready _ _ _ _ (sym (c .before .before .judge .ensures) ∙ c .judgement2 .given .1)
+
+abbrev told : tie.After-begin → tie.After-judgement2
+told c = ready (kept c .before)
+
+begun : (c : tie.After-begin) → let a = asked (told c) .args in Begun (deletion (a .key)) (a .table .now) (a .list .now) (c .begin .result) (out (a .key))
+begun c = record {
+  is-sound = passed (told c) .found .is-sound;
+  accepted = delete-accepted (passed (told c)) _ (kept c .before .has-key .ensures) (not-false _ (kept c .if1 .left));
+  first = c .begin .ensures;
+  stores = delete-stores _ _;
+}
+
+-- ---- the answers
 
 judge-requires : tie.Need-judge-requires
 judge-requires c κs = search needs
@@ -19,48 +66,37 @@ enum-known-judgement-2 : tie.Need-enum-known-judgement-2
 enum-known-judgement-2 c = search needs
 
 has-key-requires : tie.Need-has-key-requires
-has-key-requires c κs = judged-ready _ _ _ _ (sym (c .before .before .before .before .judge .ensures) ∙ c .before .before .judgement2 .given .1) .found .is-sound
+has-key-requires c κs = passed (c .before .before) .found .is-sound
 
 same-length : tie.Need-same-length
 same-length c = search needs
 
 returns : tie.Need-returns
-returns c = let p = judged-ready _ _ _ _ (sym (c .before .before .before .before .before .before .judge .ensures) ∙ c .before .before .before .before .judgement2 .given .1) in
-    refused-call _ _ _ 9 (λ z. omega arith) (delete-refused _ _ _ _ p _ _ (c .before .has-key .ensures) (not-true _ (c .if1 .taken)))
+returns c = refused-call _ _ _ 9 (λ z. omega arith) (delete-refused (passed (ready (c .before))) _ (c .before .has-key .ensures) (not-true _ (c .if1 .taken)))
 
 begin-requires : tie.Need-begin-requires
 begin-requires c κs = search needs
 
 mend-requires : tie.Need-mend-requires
-mend-requires c κs = let begin = c in
-    let p = judged-ready _ _ _ _ (sym (begin .before .before .before .before .before .before .before .before .before .judge .ensures) ∙ begin .before .before .before .before .before .before .before .judgement2 .given .1) in
-    let e = delete-accepted _ _ _ _ p _ _ (begin .before .before .before .before .has-key .ensures) (not-false _ (begin .before .before .before .if1 .left)) in
-    (p .found .is-sound, (p .found .leftover-is, mend-room _ _ _ _ (call-room _ _ _ e _ (begin .begin .ensures))))
+mend-requires c κs = let f = passed (told c) .found in (f .is-sound, (f .leftover-is, mend-room (begun c)))
 
 standing-requires : tie.Need-standing-requires
-standing-requires c κs = let begin = c .before .before .before .before .before .before in
-    let p = judged-ready _ _ _ _ (sym (begin .before .before .before .before .before .before .before .before .before .judge .ensures) ∙ begin .before .before .before .before .before .before .before .judgement2 .given .1) in
-    mended-header _ _ _ (begin .before .before .before .before .before .before .before .before .before .before .before .before .before .args .key) (p .found .is-sound) _ _ _ (c .before .before .before .before .before .mend .ensures)
+standing-requires c κs = let m = mended c in mended-header (begun (m .before)) (m .mend .ensures)
 
 shift-out-requires : tie.Need-shift-out-requires
-shift-out-requires c κs = let begin = c .before .before .before .before .before .before .before .before .before in
-    let p = judged-ready _ _ _ _ (sym (begin .before .before .before .before .before .before .before .before .before .judge .ensures) ∙ begin .before .before .before .before .before .before .before .judgement2 .given .1) in
-    let e = delete-accepted _ _ _ _ p _ _ (begin .before .before .before .before .has-key .ensures) (not-false _ (begin .before .before .before .if1 .left)) in
-    let n = leaf-plain _ _ _ _ (p .found .is-sound) _ _ _ (c .before .before .before .before .before .before .before .before .mend .ensures) _ (c .before .before .standing .ensures) in
-    (n .there, (n .plain, out-room _ _ _ _ (p .found .is-sound) _ _ _ (c .before .before .before .before .before .before .before .before .mend .ensures) _ (c .before .before .standing .ensures) (call-room _ _ _ e _ (begin .begin .ensures))))
+shift-out-requires c κs = let s = stood c in let m = mended (s .before) in let b = begun (m .before) in
+    let n = leaf-plain b (m .mend .ensures) (s .standing .ensures) in
+    (n .there, (n .plain, out-room b (m .mend .ensures) (s .standing .ensures)))
 
 finish-requires : tie.Need-finish-requires
-finish-requires c κs = let begin = c .before .before .before .before .before .before .before .before .before .before .before .before .before .before .before in
-    let p = judged-ready _ _ _ _ (sym (begin .before .before .before .before .before .before .before .before .before .judge .ensures) ∙ begin .before .before .before .before .before .before .before .judgement2 .given .1) in
-    let e = delete-accepted _ _ _ _ p _ _ (begin .before .before .before .before .has-key .ensures) (not-false _ (begin .before .before .before .if1 .left)) in
-    finish-room _ _ _ e _ (begin .begin .ensures) _ _ _ (all-stored _ _ _ _ (p .found .is-sound) _ _ _ (c .before .before .before .before .before .before .before .before .before .before .before .before .before .before .mend .ensures) _ (c .before .before .before .before .before .before .before .before .standing .ensures) _ (c .before .before .before .before .before .shift-out .ensures))
+finish-requires c κs = let o = shifted c in let s = stood (o .before) in let m = mended (s .before) in let b = begun (m .before) in let g = m .mend .ensures in
+    finish-room b g (out-stored b g (s .standing .ensures) (o .shift-out .ensures))
 
 same-length-2 : tie.Need-same-length-2
 same-length-2 c = search needs
 
 returns-2 : tie.Need-returns-2
-returns-2 c = let u = judged-refused _ _ _ (sym (c .before .before .before .judge .ensures) ∙ c .before .judgement .given .1) in
-    refused-call _ _ _ _ (u .0) (u .1 _)
+returns-2 c = let j = refused c in judge-refuses _ _ _ _ (sym (j .before .before .judge .ensures) ∙ j .judgement .given .1)
 
 same-length-3 : tie.Need-same-length-3
 same-length-3 c = search needs
@@ -69,10 +105,9 @@ same-length-4 : tie.Need-same-length-4
 same-length-4 c = search needs
 
 returns-3 : tie.Need-returns-3
-returns-3 c = let begin = c .before .before .before .before .before .before .before .before .before .before .before .before .before .before .before .before .before .before in
-    let p = judged-ready _ _ _ _ (sym (begin .before .before .before .before .before .before .before .before .before .judge .ensures) ∙ begin .before .before .before .before .before .before .before .judgement2 .given .1) in
-    let e = delete-accepted _ _ _ _ p _ _ (begin .before .before .before .before .has-key .ensures) (not-false _ (begin .before .before .before .if1 .left)) in
-    done-call _ _ _ e _ (begin .begin .ensures) _ _ _ (all-stored _ _ _ _ (p .found .is-sound) _ _ _ (c .before .before .before .before .before .before .before .before .before .before .before .before .before .before .before .before .before .mend .ensures) _ (c .before .before .before .before .before .before .before .before .before .before .before .standing .ensures) _ (c .before .before .before .before .before .before .before .before .shift-out .ensures)) _ _ (c .before .before .finish .ensures)
+returns-3 c = let f = finished c in let o = shifted (f .before) in let s = stood (o .before) in let m = mended (s .before) in
+    let b = begun (m .before) in let g = m .mend .ensures in
+    done-call b g (out-stored b g (s .standing .ensures) (o .shift-out .ensures)) (f .finish .ensures)
 
 pub delete-spec : {M : Type 1} → statement M
 delete-spec =

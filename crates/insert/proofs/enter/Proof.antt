@@ -1,30 +1,44 @@
 -- `insert::enter` meets its contract.
-use Rattle.insert.proofs.Entering.{run-root, root-room, run-ready, splits-room, split-header, leaf-plain, in-room, all-entered}
+use Rattle.insert.proofs.Entering.{Enterable, run-root, root-room, run-ready, splits-room, split-header, leaf-plain, in-room, all-entered}
 use borrow.Author.Needs.{needs}
 use Rattle.insert.proofs.enter.Statement.{statement}
 use Rattle.insert.proofs.enter.Tie as tie
 
+-- ---- the places, and what is known at them
+
+abbrev entry : tie.After-grow-arg2 → tie.Start
+entry c = c .before .before .before .before
+
+abbrev grown : tie.After-split-run-arg2 → tie.After-grow
+grown c = c .before .before .before .before .before .before
+
+abbrev split : tie.After-standing-arg → tie.After-split-run
+split c = c .before .before .before .before .before
+
+abbrev stood : tie.After-shift-in-arg2 → tie.After-standing
+stood c = c .before .before
+
+abbrev last : tie.After-slice-known8 → tie.After-shift-in
+last c = c .before .before .before .before
+
+handed : (c : tie.After-grow-arg2) → let a = entry c .args in Enterable (a .table .now) (a .list .now) (a .pen) (a .key) (a .recording) (a .run)
+handed c = let e = entry c .pre in record { is-settled = e .0; enters = e .1 .0; run-is = e .1 .1 .0; room = e .1 .1 .1 }
+
+-- ---- the answers
+
 grow-requires : tie.Need-grow-requires
-grow-requires c κs = let entry = c .before .before .before .before in
-    let q = entry .pre .1 .1 .0 in
-    (entry .pre .0, (entry .pre .1 .0 .not-high, (entry .pre .1 .0 .enough, (run-root _ _ _ q, root-room _ _ _ _ _ _ q (entry .pre .1 .1 .1)))))
+grow-requires c κs = let h = handed c in (h .is-settled, (h .enters .not-high, (h .enters .enough, (run-root h, root-room h))))
 
 split-run-requires : tie.Need-split-run-requires
-split-run-requires c κs = let entry = c .before .before .before .before .before .before .before .before .before .before .before in
-    let q = entry .pre .1 .1 .0 in
-    let g = c .before .before .before .before .before .before .grow .ensures in
-    (run-ready _ _ _ _ _ _ q _ _ _ g (entry .pre .0) (entry .pre .1 .0), splits-room _ _ _ _ _ _ q _ _ _ g (entry .pre .0) (entry .pre .1 .0) (entry .pre .1 .1 .1))
+split-run-requires c κs = let g = grown c in let h = handed (g .before) in (run-ready h (g .grow .ensures), splits-room h (g .grow .ensures))
 
 standing-requires : tie.Need-standing-requires
-standing-requires c κs = let entry = c .before .before .before .before .before .before .before .before .before .before .before .before .before .before .before .before .before in
-    split-header _ _ _ _ _ _ (entry .pre .1 .1 .0) _ _ _ (c .before .before .before .before .before .before .before .before .before .before .before .before .grow .ensures) (entry .pre .0) (entry .pre .1 .0) _ _ _ (c .before .before .before .before .before .split-run .ensures)
+standing-requires c κs = let s = split c in let g = grown (s .before) in split-header (handed (g .before)) (g .grow .ensures) (s .split-run .ensures)
 
 shift-in-requires : tie.Need-shift-in-requires
-shift-in-requires c κs = let entry = c .before .before .before .before .before .before .before .before .before .before .before .before .before .before .before .before .before .before .before .before in
-    let q = entry .pre .1 .1 .0 in
-    let g = c .before .before .before .before .before .before .before .before .before .before .before .before .before .before .before .grow .ensures in
-    let n = leaf-plain _ _ _ _ _ _ q _ _ _ g (entry .pre .0) (entry .pre .1 .0) _ _ _ (c .before .before .before .before .before .before .before .before .split-run .ensures) _ (c .before .before .standing .ensures) in
-    (n .there, (n .plain, in-room _ _ _ _ _ _ q _ _ _ g (entry .pre .0) (entry .pre .1 .0) _ _ _ (c .before .before .before .before .before .before .before .before .split-run .ensures) _ (c .before .before .standing .ensures) (entry .pre .1 .1 .1)))
+shift-in-requires c κs = let n = stood c in let s = split (n .before) in let g = grown (s .before) in let h = handed (g .before) in
+    let p = leaf-plain h (g .grow .ensures) (s .split-run .ensures) (n .standing .ensures) in
+    (p .there, (p .plain, in-room h (g .grow .ensures) (s .split-run .ensures) (n .standing .ensures)))
 
 same-length : tie.Need-same-length
 same-length c = search needs
@@ -33,8 +47,8 @@ same-length-2 : tie.Need-same-length-2
 same-length-2 c = search needs
 
 returns : tie.Need-returns
-returns c = let entry = c .before .before .before .before .before .before .before .before .before .before .before .before .before .before .before .before .before .before .before .before .before .before .before .before .before in
-    all-entered _ _ _ _ _ _ (entry .pre .1 .1 .0) _ _ _ (c .before .before .before .before .before .before .before .before .before .before .before .before .before .before .before .before .before .before .before .before .grow .ensures) (entry .pre .0) (entry .pre .1 .0) _ _ _ (c .before .before .before .before .before .before .before .before .before .before .before .before .before .split-run .ensures) _ (c .before .before .before .before .before .before .before .standing .ensures) _ (c .before .before .before .before .shift-in .ensures)
+returns c = let i = last c in let n = stood (i .before) in let s = split (n .before) in let g = grown (s .before) in
+    all-entered (handed (g .before)) (g .grow .ensures) (s .split-run .ensures) (n .standing .ensures) (i .shift-in .ensures)
 
 pub enter-spec : {M : Type 1} → statement M
 enter-spec =

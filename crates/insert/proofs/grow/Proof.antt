@@ -9,21 +9,37 @@ use borrow.Author.Needs.{needs}
 use Rattle.insert.proofs.grow.Statement.{statement}
 use Rattle.insert.proofs.grow.Tie as tie
 
+-- ---- the places
+
+abbrev whole : tie.Then1 → tie.Start
+whole c = c .before .before .before
+
+abbrev entry : tie.Else1 → tie.Start
+entry c = c .before .before .before
+
+abbrev rooted : tie.After-fresh → tie.Else1
+rooted c = c .before .before .before
+
+abbrev freed : tie.After-new-root-arg2 → tie.After-fresh
+freed c = c .before .before
+
+abbrev last : tie.After-slice-known5 → tie.After-new-root
+last c = c .before .before .before .before
+
+-- ---- the answers
+
 returns : tie.Need-returns
-returns c = stored-as _ _ _ (no-root _ _ _ (c .before .before .before .pre .1 .1 .1 .0) (not-true _ (c .if1 .taken))) _ (sym (storedAll-nil _))
+returns c = stored-as _ _ _ (no-root _ _ _ (whole c .pre .1 .1 .1 .0) (not-true _ (c .if1 .taken))) _ (sym (storedAll-nil _))
 
 slice-read-root : tie.Need-slice-read-root
-slice-read-root c = root-read _ (settled-header _ (c .before .before .before .before .pre .0))
+slice-read-root c = root-read _ (settled-header _ (entry (c .before) .pre .0))
 
 fresh-requires : tie.Need-fresh-requires
-fresh-requires c κs = let h = settled-header _ (c .before .before .before .before .before .pre .0) in
-    (settled-sound _ (c .before .before .before .before .before .pre .0), (root-some _ h, root-in _ h))
+fresh-requires c κs = let s = entry (c .before .before) .pre .0 in let h = settled-header _ s in (settled-sound _ s, (root-some _ h, root-in _ h))
 
 new-root-requires : tie.Need-new-root-requires
-new-root-requires c κs = let entry = c .before .before .before .before .before .before .before .before in
-    let w = not-false _ (c .before .before .before .before .before .if1 .left) in
-    let q = entry .pre .1 .1 .1 .0 in
-    (root-there _ _ _ q w (entry .pre .0) (entry .pre .1 .1 .0) _ (c .before .before .fresh .ensures), (root-low _ _ _ q w (entry .pre .0), room-as _ _ _ (root-stores _ _ _ q w _ (c .before .before .fresh .ensures)) (entry .pre .1 .1 .1 .1)))
+new-root-requires c κs = let f = freed c in let e = entry (rooted f) .pre in let q = e .1 .1 .1 in let w = not-false _ (rooted f .if1 .left) in
+    (root-there _ _ _ (q .0) w (e .0) (e .1 .1 .0) _ (f .fresh .ensures), (root-low _ _ _ (q .0) w (e .0), room-as _ _ _ (root-stores _ _ _ (q .0) w _ (f .fresh .ensures)) (q .1)))
 
 same-length : tie.Need-same-length
 same-length c = search needs
@@ -32,8 +48,8 @@ same-length-2 : tie.Need-same-length-2
 same-length-2 c = search needs
 
 returns-2 : tie.Need-returns-2
-returns-2 c = let entry = c .before .before .before .before .before .before .before .before .before .before .before .before .before in
-    stored-as _ _ _ (root-stores _ _ _ (entry .pre .1 .1 .1 .0) (not-false _ (c .before .before .before .before .before .before .before .before .before .before .if1 .left)) _ (c .before .before .before .before .before .before .before .fresh .ensures)) _ (c .before .before .before .before .new-root .ensures)
+returns-2 c = let r = last c in let f = freed (r .before) in let e = rooted f in
+    stored-as _ _ _ (root-stores _ _ _ (entry e .pre .1 .1 .1 .0) (not-false _ (e .if1 .left)) _ (f .fresh .ensures)) _ (r .new-root .ensures)
 
 pub grow-spec : {M : Type 1} → statement M
 grow-spec =

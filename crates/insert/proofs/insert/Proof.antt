@@ -1,12 +1,63 @@
 -- `insert::insert` meets its contract.
-use mathlib.Core.Path.{sym, _∙_}
-use Rattle.repair.proofs.Judging.{judged-refused, judged-ready}
-use Rattle.repair.proofs.Ending.{refused-call, call-room, finish-room, done-call}
-use Rattle.insert.proofs.Judging.{run-later, insert-number, insert-enters}
-use Rattle.insert.proofs.Entering.{mend-room, enter-settled, enter-enters, enter-run, enter-room, all-stored}
+use mathlib.Core.Path.{_≡_, sym, _∙_}
+use lib.ListN.{length}
+use Rattle.model.specs.Writes.{insertion}
+use Rattle.model.specs.Refusals.{refusal}
+use Rattle.write.proofs.Judging.{Passed, judged-ready}
+use Rattle.write.proofs.Ending.{refused-call, judge-refuses, Begun, mend-room, mended-settled, rest-room, finish-room, done-call}
+use Rattle.insert.proofs.Judging.{run-later, insert-number}
+use Rattle.insert.proofs.Entering.{entering, insert-stores, enter-enters, enter-run}
 use borrow.Author.Needs.{needs}
 use Rattle.insert.proofs.insert.Statement.{statement}
 use Rattle.insert.proofs.insert.Tie as tie
+
+-- ---- the places, and what is known at them
+
+abbrev entry : tie.After-judge → tie.Start
+entry c = c .before .before .before .before
+
+abbrev refused : tie.After-known-told → tie.After-judgement
+refused c = c .before
+
+abbrev ready : tie.After-parent-of → tie.After-judgement2
+ready c = c .before .before .before
+
+abbrev ran : tie.After-number → tie.After-parent-of
+ran c = c .before .before .before
+
+abbrev kept : tie.After-begin → tie.Else1
+kept c = c .before .before .before
+
+abbrev mended : tie.After-enter-arg2 → tie.After-mend
+mended c = c .before .before .before .before .before .before
+
+abbrev entered : tie.After-finish-arg → tie.After-enter
+entered c = c .before .before .before .before .before
+
+abbrev finished : tie.After-slice-known7 → tie.After-finish
+finished c = c .before .before
+
+abbrev asked : tie.After-judgement2 → tie.Start
+asked c = entry (c .before .before)
+
+passed : (c : tie.After-judgement2) → let v = c .judgement2 .given .0 in Passed (length (asked c .args .list .now)) (asked c .args .table .now) (v .0) (v .1 .0)
+passed c = judged-ready _ _ _ _ (sym (c .before .before .judge .ensures) ∙ c .judgement2 .given .1)
+
+numbered : (c : tie.After-number) → let a = asked (ready (ran c)) .args in refusal (insertion (a .key) (a .recording)) (length (a .list .now)) (a .table .now) ≡ c .number .result
+numbered c = insert-number (passed (ready (ran c))) _ _ (ran c .parent-of .ensures) (c .before .before .full-run .ensures) (c .number .ensures)
+
+abbrev told : tie.After-begin → tie.After-judgement2
+told c = ready (ran (kept c .before))
+
+begun : (c : tie.After-begin) → let a = asked (told c) .args in Begun (insertion (a .key) (a .recording)) (a .table .now) (a .list .now) (c .begin .result) (entering (a .key) (a .recording))
+begun c = record {
+  is-sound = passed (told c) .found .is-sound;
+  accepted = numbered (kept c .before) ∙ kept c .if1 .left;
+  first = c .begin .ensures;
+  stores = insert-stores _ _ _;
+}
+
+-- ---- the answers
 
 judge-requires : tie.Need-judge-requires
 judge-requires c κs = search needs
@@ -21,48 +72,36 @@ parent-of-requires : tie.Need-parent-of-requires
 parent-of-requires c κs = search needs
 
 full-run-requires : tie.Need-full-run-requires
-full-run-requires c κs = judged-ready _ _ _ _ (sym (c .before .before .before .before .before .judge .ensures) ∙ c .before .before .before .judgement2 .given .1) .found .is-sound
+full-run-requires c κs = passed (ready c) .found .is-sound
 
 number-requires : tie.Need-number-requires
-number-requires c κs = let p = judged-ready _ _ _ _ (sym (c .before .before .before .before .before .before .before .judge .ensures) ∙ c .before .before .before .before .before .judgement2 .given .1) in
-    (p .found .is-sound, p .found .reached-are)
+number-requires c κs = let f = passed (ready (c .before .before)) .found in (f .is-sound, f .reached-are)
 
 same-length : tie.Need-same-length
 same-length c = search needs
 
 returns : tie.Need-returns
-returns c = let p = judged-ready _ _ _ _ (sym (c .before .before .before .before .before .before .before .before .before .judge .ensures) ∙ c .before .before .before .before .before .before .before .judgement2 .given .1) in
-    refused-call _ _ _ _ (c .if1 .taken) (insert-number _ _ _ _ p _ _ _ (c .before .before .before .before .parent-of .ensures) _ (c .before .before .before .full-run .ensures) _ (c .before .number .ensures))
+returns c = refused-call _ _ _ _ (c .if1 .taken) (numbered (c .before))
 
 begin-requires : tie.Need-begin-requires
 begin-requires c κs = search needs
 
 mend-requires : tie.Need-mend-requires
-mend-requires c κs = let begin = c in
-    let p = judged-ready _ _ _ _ (sym (begin .before .before .before .before .before .before .before .before .before .before .before .before .judge .ensures) ∙ begin .before .before .before .before .before .before .before .before .before .before .judgement2 .given .1) in
-    let e = insert-number _ _ _ _ p _ _ _ (begin .before .before .before .before .before .before .before .parent-of .ensures) _ (begin .before .before .before .before .before .before .full-run .ensures) _ (begin .before .before .before .before .number .ensures) ∙ begin .before .before .before .if1 .left in
-    (p .found .is-sound, (p .found .leftover-is, mend-room _ _ _ _ _ (call-room _ _ _ e _ (begin .begin .ensures))))
+mend-requires c κs = let f = passed (told c) .found in (f .is-sound, (f .leftover-is, mend-room (begun c)))
 
 enter-requires : tie.Need-enter-requires
-enter-requires c κs = let begin = c .before .before .before .before .before .before .before in
-    let p = judged-ready _ _ _ _ (sym (begin .before .before .before .before .before .before .before .before .before .before .before .before .judge .ensures) ∙ begin .before .before .before .before .before .before .before .before .before .before .judgement2 .given .1) in
-    let e = insert-number _ _ _ _ p _ _ _ (begin .before .before .before .before .before .before .before .parent-of .ensures) _ (begin .before .before .before .before .before .before .full-run .ensures) _ (begin .before .before .before .before .number .ensures) ∙ begin .before .before .before .if1 .left in
-    let g = c .before .before .before .before .before .before .mend .ensures in
-    let s = p .found .is-sound in
-    (enter-settled _ _ _ (begin .before .before .before .before .before .before .before .before .before .before .before .before .before .before .before .before .args .key) (begin .before .before .before .before .before .before .before .before .before .before .before .before .before .before .before .before .args .recording) s _ _ _ g, (enter-enters _ _ _ _ _ s _ _ _ g (insert-enters _ _ _ _ p _ _ _ (begin .before .before .before .before .before .before .before .parent-of .ensures) _ (begin .before .before .before .before .before .before .full-run .ensures) _ (begin .before .before .before .before .number .ensures) (begin .before .before .before .if1 .left)), (enter-run _ _ _ (begin .before .before .before .before .before .before .before .before .before .before .before .before .before .before .before .before .args .key) (begin .before .before .before .before .before .before .before .before .before .before .before .before .before .before .before .before .args .recording) s _ _ _ g _ (run-later _ _ _ _ p (begin .before .before .before .before .before .before .before .before .before .before .before .before .before .before .before .before .args .key) (begin .before .before .before .before .before .before .before .before .before .before .before .before .before .before .before .before .args .recording) _ (begin .before .before .before .before .before .before .before .parent-of .ensures) _ (begin .before .before .before .before .before .before .full-run .ensures)), enter-room _ _ _ _ _ s _ _ _ g (call-room _ _ _ e _ (begin .begin .ensures)))))
+enter-requires c κs = let m = mended c in let g = m .mend .ensures in let b = begun (m .before) in let p = ran (kept (m .before) .before) in
+    let run = run-later (passed (ready p)) (asked (ready p) .args .key) (p .parent-of .ensures) (kept (m .before) .before .before .before .full-run .ensures) in
+    (mended-settled b g, (enter-enters b g, (enter-run b g run, rest-room b g)))
 
 finish-requires : tie.Need-finish-requires
-finish-requires c κs = let begin = c .before .before .before .before .before .before .before .before .before .before .before .before .before in
-    let p = judged-ready _ _ _ _ (sym (begin .before .before .before .before .before .before .before .before .before .before .before .before .judge .ensures) ∙ begin .before .before .before .before .before .before .before .before .before .before .judgement2 .given .1) in
-    let e = insert-number _ _ _ _ p _ _ _ (begin .before .before .before .before .before .before .before .parent-of .ensures) _ (begin .before .before .before .before .before .before .full-run .ensures) _ (begin .before .before .before .before .number .ensures) ∙ begin .before .before .before .if1 .left in
-    finish-room _ _ _ e _ (begin .begin .ensures) _ _ _ (all-stored _ _ _ _ _ (p .found .is-sound) _ _ _ (c .before .before .before .before .before .before .before .before .before .before .before .before .mend .ensures) _ (c .before .before .before .before .before .enter .ensures))
+finish-requires c κs = let e = entered c in let m = mended (e .before) in finish-room (begun (m .before)) (m .mend .ensures) (e .enter .ensures)
 
 same-length-2 : tie.Need-same-length-2
 same-length-2 c = search needs
 
 returns-2 : tie.Need-returns-2
-returns-2 c = let u = judged-refused _ _ _ (sym (c .before .before .before .judge .ensures) ∙ c .before .judgement .given .1) in
-    refused-call _ _ _ _ (u .0) (u .1 _)
+returns-2 c = let j = refused c in judge-refuses _ _ _ _ (sym (j .before .before .judge .ensures) ∙ j .judgement .given .1)
 
 same-length-3 : tie.Need-same-length-3
 same-length-3 c = search needs
@@ -71,10 +110,8 @@ same-length-4 : tie.Need-same-length-4
 same-length-4 c = search needs
 
 returns-3 : tie.Need-returns-3
-returns-3 c = let begin = c .before .before .before .before .before .before .before .before .before .before .before .before .before .before .before .before in
-    let p = judged-ready _ _ _ _ (sym (begin .before .before .before .before .before .before .before .before .before .before .before .before .judge .ensures) ∙ begin .before .before .before .before .before .before .before .before .before .before .judgement2 .given .1) in
-    let e = insert-number _ _ _ _ p _ _ _ (begin .before .before .before .before .before .before .before .parent-of .ensures) _ (begin .before .before .before .before .before .before .full-run .ensures) _ (begin .before .before .before .before .number .ensures) ∙ begin .before .before .before .if1 .left in
-    done-call _ _ _ e _ (begin .begin .ensures) _ _ _ (all-stored _ _ _ _ _ (p .found .is-sound) _ _ _ (c .before .before .before .before .before .before .before .before .before .before .before .before .before .before .before .mend .ensures) _ (c .before .before .before .before .before .before .before .before .enter .ensures)) _ _ (c .before .before .finish .ensures)
+returns-3 c = let f = finished c in let e = entered (f .before) in let m = mended (e .before) in
+    done-call (begun (m .before)) (m .mend .ensures) (e .enter .ensures) (f .finish .ensures)
 
 pub insert-spec : {M : Type 1} → statement M
 insert-spec =

@@ -1,9 +1,55 @@
--- `insert::number` meets its contract.
+-- `insert::number` meets its contract: after each test that does not hold, the number is that of the tests left.
+use mathlib.Core.Path.{_≡_, ap, sym, _∙_}
+use mathlib.Core.List.{List}
+use Prim.Native.Nat.{ℕ}
+use lib.ListN.{length, drop}
+use Rattle.model.specs.Reached.{mapOf}
+use Rattle.model.specs.Writes.{unreachable, insertion}
+use Rattle.model.specs.Refusals.{Test, firstNumber, mapTests}
 use Rattle.tree_laws.proofs.Levels.{sound-parts}
-use Rattle.insert.proofs.Testing.{six-zero, six-mark, seven, eight, eleven, ten, none-holds}
+use Rattle.insert.specs.Tests.{highRun, fewFor, numberFor}
+use Rattle.insert.proofs.Testing.{test-holds, test-passed, six-zero, six-mark, not-six}
 use borrow.Author.Needs.{needs}
 use Rattle.insert.proofs.number.Statement.{statement}
 use Rattle.insert.proofs.number.Tie as tie
+
+-- ---- the places, and what is known at them
+
+abbrev entry : tie.Else2 → tie.Start
+entry c = c .before .before .before
+
+abbrev keyed : tie.Else3 → tie.Else2
+keyed c = c .before .before
+
+abbrev fresh : tie.Else4 → tie.Else3
+fresh c = c .before .before
+
+abbrev low : tie.Else5 → tie.Else4
+low c = c .before .before
+
+abbrev tests : tie.Start → List Test
+tests s = let a = s .args in mapTests (insertion (a .key) (a .recording)) (highRun (a .table .now) (a .run)) (fewFor (length (unreachable (a .table .now))) (a .run)) (mapOf (a .table .now))
+
+-- the number is that of the tests from the i-th on
+abbrev From : tie.Start → ℕ → Type 0
+From s i = let a = s .args in numberFor (a .table .now) (a .key) (a .recording) (a .run) ≡ firstNumber (drop i (tests s))
+
+from₇ : (c : tie.Else2) → From (entry c) 1
+from₇ c = not-six _ _ _ _ (c .before .if1 .left) (c .if2 .left)
+
+from₈ : (c : tie.Else3) → From (entry (keyed c)) 2
+from₈ c = from₇ (keyed c) ∙ test-passed _ _ _ (sym (c .before .has-key .ensures) ∙ c .if3 .left)
+
+from₁₁ : (c : tie.Else4) → From (entry (keyed (fresh c))) 3
+from₁₁ c = from₈ (fresh c) ∙ test-passed _ _ _ (sym (c .before .has-recording .ensures) ∙ c .if4 .left)
+
+from₁₀ : (c : tie.Else5) → From (entry (keyed (fresh (low c)))) 4
+from₁₀ c = from₁₁ (low c) ∙ test-passed _ _ _ (sym (c .before .too-high .ensures) ∙ c .if5 .left)
+
+few : (c : tie.After-too-few) → let a = entry (keyed (fresh (low (c .before .before)))) .args in fewFor (length (unreachable (a .table .now))) (a .run) ≡ c .too-few .result
+few c = ap (λ (n : ℕ). fewFor n (entry (keyed (fresh (low (c .before .before)))) .args .run)) (sym (c .before .unreachable .ensures)) ∙ sym (c .too-few .ensures)
+
+-- ---- the answers
 
 returns : tie.Need-returns
 returns c = six-zero _ _ _ _ (c .if1 .taken)
@@ -15,19 +61,19 @@ has-key-requires : tie.Need-has-key-requires
 has-key-requires c κs = search needs
 
 returns-3 : tie.Need-returns-3
-returns-3 c = seven _ _ _ _ (c .before .before .before .if1 .left) (c .before .before .if2 .left) _ (c .before .has-key .ensures) (c .if3 .taken)
+returns-3 c = test-holds _ _ _ (sym (c .before .has-key .ensures) ∙ c .if3 .taken) ∙ sym (from₇ (c .before .before))
 
 has-recording-requires : tie.Need-has-recording-requires
 has-recording-requires c κs = search needs
 
 returns-4 : tie.Need-returns-4
-returns-4 c = eight _ _ _ _ (c .before .before .before .before .before .if1 .left) (c .before .before .before .before .if2 .left) _ (c .before .before .before .has-key .ensures) (c .before .before .if3 .left) _ (c .before .has-recording .ensures) (c .if4 .taken)
+returns-4 c = test-holds _ _ _ (sym (c .before .has-recording .ensures) ∙ c .if4 .taken) ∙ sym (from₈ (c .before .before))
 
 too-high-requires : tie.Need-too-high-requires
-too-high-requires c κs = sound-parts _ .0 (c .before .before .before .before .before .before .before .pre .0) .0
+too-high-requires c κs = sound-parts _ .0 (entry (keyed (fresh c)) .pre .0) .0
 
 returns-5 : tie.Need-returns-5
-returns-5 c = eleven _ _ _ _ (c .before .before .before .before .before .before .before .if1 .left) (c .before .before .before .before .before .before .if2 .left) _ (c .before .before .before .before .before .has-key .ensures) (c .before .before .before .before .if3 .left) _ (c .before .before .before .has-recording .ensures) (c .before .before .if4 .left) _ (c .before .too-high .ensures) (c .if5 .taken)
+returns-5 c = test-holds _ _ _ (sym (c .before .too-high .ensures) ∙ c .if5 .taken) ∙ sym (from₁₁ (c .before .before))
 
 unreachable-requires : tie.Need-unreachable-requires
 unreachable-requires c κs = search needs
@@ -36,10 +82,10 @@ too-few-requires : tie.Need-too-few-requires
 too-few-requires c κs = search needs
 
 returns-6 : tie.Need-returns-6
-returns-6 c = ten _ _ _ _ (c .before .before .before .before .before .before .before .before .before .before .if1 .left) (c .before .before .before .before .before .before .before .before .before .if2 .left) _ (c .before .before .before .before .before .before .before .before .has-key .ensures) (c .before .before .before .before .before .before .before .if3 .left) _ (c .before .before .before .before .before .before .has-recording .ensures) (c .before .before .before .before .before .if4 .left) _ (c .before .before .before .before .too-high .ensures) (c .before .before .before .if5 .left) _ (c .before .before .unreachable .ensures) _ (c .before .too-few .ensures) (c .if6 .taken)
+returns-6 c = test-holds _ _ _ (few (c .before) ∙ c .if6 .taken) ∙ sym (from₁₀ (c .before .before .before))
 
 returns-7 : tie.Need-returns-7
-returns-7 c = none-holds _ _ _ _ (c .before .before .before .before .before .before .before .before .before .before .if1 .left) (c .before .before .before .before .before .before .before .before .before .if2 .left) _ (c .before .before .before .before .before .before .before .before .has-key .ensures) (c .before .before .before .before .before .before .before .if3 .left) _ (c .before .before .before .before .before .before .has-recording .ensures) (c .before .before .before .before .before .if4 .left) _ (c .before .before .before .before .too-high .ensures) (c .before .before .before .if5 .left) _ (c .before .before .unreachable .ensures) _ (c .before .too-few .ensures) (c .if6 .left)
+returns-7 c = sym (from₁₀ (c .before .before .before) ∙ test-passed _ _ _ (few (c .before) ∙ c .if6 .left))
 
 pub number-spec : {M : Type 1} → statement M
 number-spec =

@@ -6,27 +6,43 @@ use borrow.Author.Needs.{needs}
 use Rattle.insert.proofs.split_at.Statement.{statement}
 use Rattle.insert.proofs.split_at.Tie as tie
 
+-- ---- the places
+
+abbrev entry : tie.After-standing-arg → tie.Start
+entry c = c .before .before .before
+
+abbrev stood : tie.After-fresh-arg → tie.After-standing
+stood c = c .before
+
+abbrev freed : tie.After-standing-arg2 → tie.After-fresh
+freed c = c .before
+
+abbrev above : tie.After-split-arg2 → tie.After-standing2
+above c = c .before .before
+
+abbrev last : tie.After-slice-known4 → tie.After-split
+last c = c .before .before .before .before
+
+-- ---- the answers
+
 standing-requires : tie.Need-standing-requires
-standing-requires c κs = split-header _ _ _ (c .before .before .before .pre .0)
+standing-requires c κs = split-header (entry c .pre .0)
 
 fresh-requires : tie.Need-fresh-requires
-fresh-requires c κs = let u = lower-range _ _ _ (c .before .before .before .before .before .pre .0) _ (c .before .standing .ensures) in
-    (split-sound _ _ _ (c .before .before .before .before .before .pre .0), (u .0, u .1))
+fresh-requires c κs = let s = stood c in let h = entry (s .before) .pre .0 in
+    let u = lower-range h (s .standing .ensures) in (split-sound h, (u .0, u .1))
 
 add-standing : tie.Need-add-standing
-add-standing c = omega (arith, split-low _ _ _ (c .before .before .before .before .before .before .before .pre .0))
+add-standing c = omega (arith, split-low (entry (stood (freed c .before) .before) .pre .0))
 
 standing-requires-2 : tie.Need-standing-requires-2
-standing-requires-2 c κs = split-header _ _ _ (c .before .before .before .before .before .before .before .pre .0)
+standing-requires-2 c κs = split-header (entry (stood (freed c .before) .before) .pre .0)
 
 split-requires : tie.Need-split-requires
-split-requires c κs = let h = c .before .before .before .before .before .before .before .before .before .before .pre .0 in
-    let ea = c .before .before .before .before .before .before .standing .ensures in
-    let eb = c .before .before .before .before .fresh .ensures in
-    let ep = c .before .before .standing2 .ensures in
-    let a = lower-plain _ _ _ h _ ea in
-    let p = parent-plain _ _ _ h _ ea _ eb _ ep in
-    (a .there, (a .plain, (lower-full _ _ _ h _ ea, (upper-there _ _ _ h _ ea _ eb _ ep, (p .there, (p .plain, room-as _ _ _ (split-as _ _ _ h _ ea _ eb _ ep) (c .before .before .before .before .before .before .before .before .before .before .pre .1)))))))
+split-requires c κs = let m = above c in let f = freed (m .before) in let s = stood (f .before) in let e = entry (s .before) .pre in
+    let h = e .0 in let ea = s .standing .ensures in let eb = f .fresh .ensures in let ep = m .standing2 .ensures in
+    let a = lower-plain h ea in let p = parent-plain h ea eb ep in
+    (a .there, (a .plain, (lower-full h ea, (upper-there h ea eb ep, (p .there, (p .plain, room-as _ _ _ (split-as h ea eb ep) (e .1)))))))
 
 same-length : tie.Need-same-length
 same-length c = search needs
@@ -35,7 +51,8 @@ same-length-2 : tie.Need-same-length-2
 same-length-2 c = search needs
 
 returns : tie.Need-returns
-returns c = stored-as _ _ _ (split-as _ _ _ (c .before .before .before .before .before .before .before .before .before .before .before .before .before .before .before .pre .0) _ (c .before .before .before .before .before .before .before .before .before .before .before .standing .ensures) _ (c .before .before .before .before .before .before .before .before .before .fresh .ensures) _ (c .before .before .before .before .before .before .before .standing2 .ensures)) _ (c .before .before .before .before .split .ensures)
+returns c = let d = last c in let m = above (d .before) in let f = freed (m .before) in let s = stood (f .before) in
+    stored-as _ _ _ (split-as (entry (s .before) .pre .0) (s .standing .ensures) (f .fresh .ensures) (m .standing2 .ensures)) _ (d .split .ensures)
 
 pub split-at-spec : {M : Type 1} → statement M
 split-at-spec =

@@ -3,7 +3,7 @@ use mathlib.Core.Path.{_≡_, refl}
 use native.Mathlib.Omega.{arith}
 use lib.ListN.{length}
 use Rattle.model.specs.Writes.{splits}
-use Rattle.steps.proofs.Splits.{Ready}
+use Rattle.step_laws.specs.Parts.{Ready}
 use Rattle.orders.specs.Desk.{desk, storedAll}
 use Rattle.orders.proofs.Rest.{Rest, rest-start}
 use Rattle.insert.proofs.Splitting.{next-splittable, next-room, next-ready, next-rest, splits-done}
@@ -12,13 +12,14 @@ use Rattle.insert.proofs.split_run.Statement.{statement}
 use Rattle.insert.proofs.split_run.Tie as tie
 
 abbrev Inv-loop : tie.InvT-loop
-Inv-loop table₀ list₀ key count at₀ l₀ table list at l = (length table ≡ length table₀) × (length list ≡ length list₀) × Ready l table key × Rest (splits l table key) (desk table list at) (storedAll (splits count table₀ key) (desk table₀ list₀ at₀))
+Inv-loop table₀ list₀ key count at₀ l₀ table list at l =
+    (length table ≡ length table₀) × (length list ≡ length list₀) × Ready l table key × Rest (splits l table key) (desk table list at) (storedAll (splits count table₀ key) (desk table₀ list₀ at₀))
 
 abbrev μ-loop : tie.MeasureT-loop
 μ-loop table₀ list₀ key count at₀ l₀ table list at l = l
 
 loop-holds : tie.Need-loop-holds Inv-loop μ-loop
-loop-holds c = (refl, refl, c .before .before .pre .0, rest-start _ _ (c .before .before .pre .1))
+loop-holds c = (refl, refl, c .before .before .pre .0, rest-start (c .before .before .pre .1))
 
 sub-l : tie.Need-sub-l Inv-loop μ-loop
 sub-l c = search needs

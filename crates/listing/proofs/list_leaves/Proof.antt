@@ -14,10 +14,25 @@ use Rattle.listing.proofs.list_leaves.Statement.{statement}
 use Rattle.listing.proofs.list_leaves.Tie as tie
 
 abbrev Inv-loop : tie.InvT-loop
-Inv-loop table low high out₀ p₀ leaf₀ out p leaf = (length out ≡ length out₀) × Spent (sheet out p) × Ahead (view table) low high leaf (sheet out p) (allTaken (inRangeOf low high (mapOf table)) (begun out₀))
+Inv-loop table low high out₀ p₀ leaf₀ out p leaf =
+    (length out ≡ length out₀) × Spent (sheet out p)
+    × Ahead (view table) low high leaf (sheet out p) (allTaken (inRangeOf low high (mapOf table)) (begun out₀))
 
 abbrev μ-loop : tie.MeasureT-loop
 μ-loop table low high out₀ p₀ leaf₀ out p leaf = length (onward (view table) leaf)
+
+-- the places: the start, the turn of the loop in which a leaf was read, and the record read there
+abbrev entry : tie.At-loop Inv-loop μ-loop → tie.Start Inv-loop μ-loop
+entry c = c .before .before .before .before
+
+abbrev turn : tie.After-read Inv-loop μ-loop → tie.In-loop Inv-loop μ-loop
+turn c = c .before .before
+
+abbrev leaf : tie.After-word Inv-loop μ-loop → tie.After-read Inv-loop μ-loop
+leaf c = c .before .before .before
+
+abbrev window : tie.After-list-leaf Inv-loop μ-loop → tie.After-word Inv-loop μ-loop
+window c = c .before .before
 
 standing-requires : tie.Need-standing-requires Inv-loop μ-loop
 standing-requires c κs = sound-parts _ .0 (c .before .before .pre) .0
@@ -40,8 +55,9 @@ same-length-2 c = search needs
 returns-2 : tie.Need-returns-2 Inv-loop μ-loop
 returns-2 c =
     let r = c .before .before in
-    let l = r .before .before .before in
-    ahead-past _ _ _ _ _ _ (l .before .before .before .before .pre) _ (r .read .ensures) (r .before .before .loop-test .taken) (l .loop .inv .2) (c .if2 .taken)
+    let i = turn r in
+    let l = i .before in
+    ahead-past _ _ _ _ _ _ (entry l .pre) _ (r .read .ensures) (i .loop-test .taken) (l .loop .inv .2) (c .if2 .taken)
 
 word-requires : tie.Need-word-requires Inv-loop μ-loop
 word-requires c κs = search needs
@@ -51,16 +67,22 @@ list-leaf-requires c κs = search needs
 
 loop-less : tie.Need-loop-less Inv-loop μ-loop
 loop-less c =
-    let r = c .before .before .before .before .before .before .before in
-    let l = r .before .before .before in
-    ahead-fewer _ _ _ _ _ _ (l .before .before .before .before .pre) _ (r .read .ensures) (r .before .before .loop-test .taken) (l .loop .inv .2)
+    let r = leaf (window (c .before .before)) in
+    let i = turn r in
+    let l = i .before in
+    ahead-fewer _ _ _ _ _ _ (entry l .pre) _ (r .read .ensures) (i .loop-test .taken) (l .loop .inv .2)
 
 loop-again : tie.Need-loop-again Inv-loop μ-loop
 loop-again c =
     let b = c .before .before in
-    let r = b .before .before .before .before .before in
-    let l = r .before .before .before in
-    (search needs, spent-after _ _ _ (l .loop .inv .1) (b .list-leaf .ensures), ahead-next _ _ _ _ _ _ (l .before .before .before .before .pre) _ (r .read .ensures) (r .before .before .loop-test .taken) (l .loop .inv .2) _ _ (b .before .before .word .ensures) (b .list-leaf .ensures))
+    let w = window b in
+    let r = leaf w in
+    let i = turn r in
+    let l = i .before in (
+      search needs,
+      spent-after _ _ _ (l .loop .inv .1) (b .list-leaf .ensures),
+      ahead-next _ _ _ _ _ _ (entry l .pre) _ (r .read .ensures) (i .loop-test .taken) (l .loop .inv .2) _ _ (w .word .ensures) (b .list-leaf .ensures),
+    )
 
 same-length-3 : tie.Need-same-length-3 Inv-loop μ-loop
 same-length-3 c = search needs

@@ -22,7 +22,11 @@ same-length : tie.Need-same-length
 same-length c = search needs
 
 returns-3 : tie.Need-returns-3
-returns-3 c = let b = c .before .before in slot-wanted _ _ _ _ _ _ (b .before .before .before .before .if1 .left) (sym (b .before .before .before .wants .ensures) ∙ not-false _ (b .before .before .if2 .left)) (b .take-pair .ensures)
+returns-3 c =
+    let b = c .before .before in
+    let e = b .before .before in
+    let w = e .before in
+    slot-wanted _ _ _ _ _ _ (w .before .if1 .left) (sym (w .wants .ensures) ∙ not-false _ (e .if2 .left)) (b .take-pair .ensures)
 
 pub take-slot-spec : {M : Type 1} → statement M
 take-slot-spec =

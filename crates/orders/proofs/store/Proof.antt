@@ -8,8 +8,19 @@ use borrow.Author.Needs.{needs}
 use Rattle.orders.proofs.store.Statement.{statement}
 use Rattle.orders.proofs.store.Tie as tie
 
-place : (c : tie.After-slice-known3) → Place (put (c .before .before .before .before .before .before .args .w) (c .before .before .before .before .before .before .args .x)) (desk (c .before .before .before .before .before .before .args .table .now) (c .before .before .before .before .before .before .args .list .now) (c .before .before .before .before .before .before .args .pen)) (desk (c .before .before .before .before .before .before .args .table .now) (c .before .before .turn .last .0) (c .before .before .turn .result))
-place c = room-place _ _ _ (c .before .before .before .before .before .before .pre) (c .before .before .turn .ensures _)
+-- ---- the places
+
+abbrev turned : tie.After-slice-known3 → tie.After-turn
+turned c = c .before .before
+
+abbrev entry : tie.After-turn → tie.Start
+entry c = c .before .before .before .before
+
+place : (c : tie.After-slice-known3) → let a = entry (turned c) .args in
+    Place (put (a .w) (a .x)) (desk (a .table .now) (a .list .now) (a .pen)) (desk (a .table .now) (turned c .turn .last .0) (turned c .turn .result))
+place c = room-place _ _ _ (entry (turned c) .pre) (turned c .turn .ensures _)
+
+-- ---- the answers
 
 add-line : tie.Need-add-line
 add-line c = search needs

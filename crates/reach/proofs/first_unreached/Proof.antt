@@ -13,6 +13,10 @@ Inv-loop table first last n₀ n = firstFrom table n last ≡ firstFrom table fi
 abbrev μ-loop : tie.MeasureT-loop
 μ-loop table first last n₀ n = last + 1 - n
 
+-- the turn of the loop in which a node was asked for
+abbrev asked : tie.After-is-reached Inv-loop μ-loop → tie.In-loop Inv-loop μ-loop
+asked c = c .before
+
 loop-holds : tie.Need-loop-holds Inv-loop μ-loop
 loop-holds c = search needs
 
@@ -21,9 +25,9 @@ is-reached-requires c κs = search needs
 
 returns : tie.Need-returns Inv-loop μ-loop
 returns c =
-    let l = c .before .before .before in
-    let a = l .before .before .args in
-    sym (first-here (a .table .now) (l .loop .n) (a .last) (c .before .before .loop-test .taken) (sym (c .before .is-reached .ensures) ∙ not-true _ (c .if1 .taken))) ∙ l .loop .inv
+    let r = c .before in
+    let e = asked r in
+    sym (first-here _ _ _ (e .loop-test .taken) (sym (r .is-reached .ensures) ∙ not-true _ (c .if1 .taken))) ∙ e .before .loop .inv
 
 add-n : tie.Need-add-n Inv-loop μ-loop
 add-n c = search needs
@@ -33,15 +37,12 @@ loop-less c = search needs
 
 loop-again : tie.Need-loop-again Inv-loop μ-loop
 loop-again c =
-    let l = c .before .before .before in
-    let a = l .before .before .args in
-    first-later (a .table .now) (l .loop .n) (a .last) (c .before .before .loop-test .taken) (sym (c .before .is-reached .ensures) ∙ not-false _ (c .if1 .left)) ∙ l .loop .inv
+    let r = c .before in
+    let e = asked r in
+    first-later _ _ _ (e .loop-test .taken) (sym (r .is-reached .ensures) ∙ not-false _ (c .if1 .left)) ∙ e .before .loop .inv
 
 returns-2 : tie.Need-returns-2 Inv-loop μ-loop
-returns-2 c =
-    let l = c .before in
-    let a = l .before .before .args in
-    sym (first-none (a .table .now) (l .loop .n) (a .last) (c .loop-test .left)) ∙ l .loop .inv
+returns-2 c = sym (first-none _ _ _ (c .loop-test .left)) ∙ c .before .loop .inv
 
 pub first-unreached-spec : {M : Type 1} → statement M
 first-unreached-spec =

@@ -19,8 +19,15 @@ Inv-loop table key parent n₀ top level₀ count₀ n level count =
 abbrev μ-loop : tie.MeasureT-loop
 μ-loop table key parent n₀ top level₀ count₀ n level count = level
 
+-- the places: the turn of the loop in which a move was made, and the start
+abbrev turn : tie.After-moved Inv-loop μ-loop → tie.In-loop Inv-loop μ-loop
+turn c = c .before
+
+abbrev entry : tie.At-loop Inv-loop μ-loop → tie.Start Inv-loop μ-loop
+entry c = c .before .before .before .before
+
 shared-slice-read-n : tie.Need-shared-slice-read-n Inv-loop μ-loop
-shared-slice-read-n c = let s = c .before .before in omega (arith, sound-words (s .args .table .now) (s .pre))
+shared-slice-read-n c = let s = c .before .before in omega (arith, sound-words _ (s .pre))
 
 word-requires : tie.Need-word-requires Inv-loop μ-loop
 word-requires c κs = search needs
@@ -28,9 +35,8 @@ word-requires c κs = search needs
 loop-holds : tie.Need-loop-holds Inv-loop μ-loop
 loop-holds c =
     let s = c .before .before .before in
-    let a = s .args in
-    let h = sound-height (a .table .now) _ (s .pre) (c .word .ensures) in
-    (h, omega arith, run-top (a .table .now) (a .key) (a .parent) _ (c .word .ensures))
+    let h = sound-height _ _ (s .pre) (c .word .ensures) in
+    (h, omega arith, run-top _ _ _ _ (c .word .ensures))
 
 moved-requires : tie.Need-moved-requires Inv-loop μ-loop
 moved-requires c κs = search needs
@@ -50,13 +56,14 @@ loop-less c = search needs
 loop-again : tie.Need-loop-again Inv-loop μ-loop
 loop-again c =
     let r = c .before in
-    let l = r .before .before .before in
-    let a = l .before .before .before .before .args in
-    let v = view (a .table .now) in
-    let p = fullIn v (a .parent) in (
+    let m = r .before in
+    let i = turn m in
+    let l = i .before in
+    let a = entry l .args in (
       l .loop .inv .0,
-      omega (arith, r .run-after .ensures, after-most p (l .loop .count) (r .before .moved .result)),
-      run-lower p v (l .loop .n) (a .key) _ (l .loop .count) _ (r .before .moved .ensures) (r .run-after .ensures) (l .loop .level) _ (r .before .before .loop-test .taken) (c .down .ensures) ∙ l .loop .inv .2,
+      omega (arith, r .run-after .ensures, after-most (fullIn (view (a .table .now)) (a .parent)) (l .loop .count) (m .moved .result)),
+      run-lower _ _ (l .loop .n) _ _ (l .loop .count) _ (m .moved .ensures) (r .run-after .ensures) (l .loop .level) _ (i .loop-test .taken) (c .down .ensures)
+          ∙ l .loop .inv .2,
     )
 
 moved-requires-2 : tie.Need-moved-requires-2 Inv-loop μ-loop
@@ -70,12 +77,11 @@ add-t12 c = search needs
 
 returns : tie.Need-returns Inv-loop μ-loop
 returns c =
-    let l = c .before .before .before in
-    let w = l .before in
-    let a = w .before .before .before .args in
-    let v = view (a .table .now) in
-    run-read (a .table .now) (a .key) (a .parent) _ _ (w .word .ensures)
-    (run-last (fullIn v (a .parent)) v (l .loop .n) (a .key) _ (l .loop .count) _ (c .before .moved2 .ensures) (c .run-after2 .ensures) (l .loop .level) (c .before .before .loop-test .left) ∙ l .loop .inv .2)
+    let m = c .before in
+    let e = m .before in
+    let l = e .before in
+    run-read _ _ _ _ _ (l .before .word .ensures)
+    (run-last _ _ (l .loop .n) _ _ (l .loop .count) _ (m .moved2 .ensures) (c .run-after2 .ensures) (l .loop .level) (e .loop-test .left) ∙ l .loop .inv .2)
 
 pub full-run-spec : {M : Type 1} → statement M
 full-run-spec =

@@ -10,14 +10,13 @@ read-requires c κs = search needs
 word-requires : tie.Need-word-requires
 word-requires c κs = search needs
 
-count-slots-requires : tie.Need-count-slots-requires
-count-slots-requires c κs = search needs
+kept-count-requires : tie.Need-kept-count-requires
+kept-count-requires c κs = search needs
 
 returns : tie.Need-returns
 returns c =
-    let d = c .before .before .before in
-    let a = d .before .before .args in
-    kept-read (a .table .now) (a .n) (d .read .result) (d .read .ensures) _ _ (c .before .word .ensures) (c .count-slots .ensures)
+    let w = c .before in
+    kept-read _ _ _ (w .before .before .read .ensures) _ _ (w .word .ensures) (c .kept-count .ensures)
 
 pub kept-count-spec : {M : Type 1} → statement M
-kept-count-spec = tie.close (tie.spec read-requires word-requires count-slots-requires returns)
+kept-count-spec = tie.close (tie.spec read-requires word-requires kept-count-requires returns)

@@ -7,14 +7,12 @@ use Rattle.reach.proofs.shown_count.Tie as tie
 read-requires : tie.Need-read-requires
 read-requires c κs = search needs
 
-count-slots-requires : tie.Need-count-slots-requires
-count-slots-requires c κs = search needs
+shown-count-requires : tie.Need-shown-count-requires
+shown-count-requires c κs = search needs
 
 returns : tie.Need-returns
 returns c =
-    let d = c .before .before in
-    let a = d .before .before .args in
-    shown-read (a .table .now) (a .n) (d .read .result) (d .read .ensures) _ (c .count-slots .ensures)
+    shown-read _ _ _ (c .before .before .read .ensures) _ (c .shown-count .ensures)
 
 pub shown-count-spec : {M : Type 1} → statement M
-shown-count-spec = tie.close (tie.spec read-requires count-slots-requires returns)
+shown-count-spec = tie.close (tie.spec read-requires shown-count-requires returns)

@@ -15,14 +15,18 @@ Inv-loop table level key n₀ l₀ n l = nodeOn (view table) l n key level ≡ s
 abbrev μ-loop : tie.MeasureT-loop
 μ-loop table level key n₀ l₀ n l = l
 
+-- the turn of the loop in which a move was made
+abbrev turn : tie.After-moved Inv-loop μ-loop → tie.In-loop Inv-loop μ-loop
+turn c = c .before
+
 shared-slice-read-n : tie.Need-shared-slice-read-n Inv-loop μ-loop
-shared-slice-read-n c = let s = c .before .before in omega (arith, header-words (s .args .table .now) (s .pre))
+shared-slice-read-n c = let s = c .before .before in omega (arith, header-words _ (s .pre))
 
 word-requires : tie.Need-word-requires Inv-loop μ-loop
 word-requires c κs = search needs
 
 loop-holds : tie.Need-loop-holds Inv-loop μ-loop
-loop-holds c = let a = c .before .before .before .args in on-top (a .table .now) _ (a .key) (a .level) (c .word .ensures)
+loop-holds c = on-top _ _ _ _ (c .word .ensures)
 
 moved-requires : tie.Need-moved-requires Inv-loop μ-loop
 moved-requires c κs = search needs
@@ -38,18 +42,17 @@ loop-less c = search needs
 
 loop-again : tie.Need-loop-again Inv-loop μ-loop
 loop-again c =
-    let l = c .before .before .before in
-    let a = l .before .before .before .before .args in
-    on-lower (view (a .table .now)) (l .loop .l) (l .loop .n) (a .key) (a .level) _ _ (c .before .before .loop-test .taken) (c .before .moved .ensures) (c .down .ensures) ∙ l .loop .inv
+    let m = c .before in
+    let i = turn m in
+    on-lower _ _ (i .before .loop .n) _ _ _ _ (i .loop-test .taken) (m .moved .ensures) (c .down .ensures) ∙ i .before .loop .inv
 
 moved-requires-2 : tie.Need-moved-requires-2 Inv-loop μ-loop
 moved-requires-2 c κs = search needs
 
 returns : tie.Need-returns Inv-loop μ-loop
 returns c =
-    let l = c .before .before in
-    let a = l .before .before .before .before .args in
-    c .moved2 .ensures ∙ sym (on-here (view (a .table .now)) (l .loop .l) (l .loop .n) (a .key) (a .level) (c .before .loop-test .left)) ∙ l .loop .inv
+    let e = c .before in
+    c .moved2 .ensures ∙ sym (on-here _ _ _ _ _ (e .loop-test .left)) ∙ e .before .loop .inv
 
 pub standing-spec : {M : Type 1} → statement M
 standing-spec =

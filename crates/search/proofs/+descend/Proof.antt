@@ -21,139 +21,64 @@ descend-at t = and 1 descend-kinds.ps (is 1 descend-kinds.ps μ-descend t) desce
 abbrev descend-below : ℕ → In 1 descend-kinds.ps
 descend-below t = and 1 descend-kinds.ps (falls 1 descend-kinds.ps _<_ μ-descend t) descend.Pre
 
-descend-returns : (t : ℕ) → descend-lts.Need-returns (
-  down-reads.Asked,
-  down-reads.Learnt,
-  stand-reads.Asked,
-  stand-reads.Learnt,
-  descend-below t,
-  descend.Post,
-) (descend-at t) descend.Post
-descend-returns t c =
-    let a = c .before .before .args in
-    arrived _ (a .level) (a .n) (a .key) (c .if1 .taken)
+-- what is known of the functions called
+abbrev known : ℕ → descend-lts.Claims
+known t = (down-reads.Asked, down-reads.Learnt, stand-reads.Asked, stand-reads.Learnt, descend-below t, descend.Post)
 
-descend-down-requires : (t : ℕ) → descend-lts.Need-down-requires (
-  down-reads.Asked,
-  down-reads.Learnt,
-  stand-reads.Asked,
-  stand-reads.Learnt,
-  descend-below t,
-  descend.Post,
-) (descend-at t) descend.Post
-descend-down-requires t c κs = search needs
+module _ (t : ℕ) where
+  -- the places: from the way down to the first test, from where the search stands to the way down
+  abbrev climbing : descend-lts.After-down (known t) (descend-at t) descend.Post → descend-lts.Else1 (known t) (descend-at t) descend.Post
+  climbing c = c .before
 
-descend-stand-requires : (t : ℕ) → descend-lts.Need-stand-requires (
-  down-reads.Asked,
-  down-reads.Learnt,
-  stand-reads.Asked,
-  stand-reads.Learnt,
-  descend-below t,
-  descend.Post,
-) (descend-at t) descend.Post
-descend-stand-requires t c κs = search needs
+  abbrev foreseen : descend-lts.After-stand (known t) (descend-at t) descend.Post → descend-lts.After-down (known t) (descend-at t) descend.Post
+  foreseen c = c .before
 
-descend-returns-2 : (t : ℕ) → descend-lts.Need-returns-2 (
-  down-reads.Asked,
-  down-reads.Learnt,
-  stand-reads.Asked,
-  stand-reads.Learnt,
-  descend-below t,
-  descend.Post,
-) (descend-at t) descend.Post
-descend-returns-2 t c =
-    let s = c .before in
-    let d = s .before in
-    let a = d .before .before .before .args in
-    refused-here _ (a .level) (a .n) (a .key) _ (d .before .if1 .left) (s .stand .ensures) (c .if2 .taken)
+  abbrev stood : descend-lts.Else2 (known t) (descend-at t) descend.Post → descend-lts.After-stand (known t) (descend-at t) descend.Post
+  stood c = c .before
 
-descend-sub-descend : (t : ℕ) → descend-lts.Need-sub-descend (
-  down-reads.Asked,
-  down-reads.Learnt,
-  stand-reads.Asked,
-  stand-reads.Learnt,
-  descend-below t,
-  descend.Post,
-) (descend-at t) descend.Post
-descend-sub-descend t c = search needs
+  descend-returns : descend-lts.Need-returns (known t) (descend-at t) descend.Post
+  descend-returns c = arrived _ _ _ _ (c .if1 .taken)
 
-descend-descend-requires : (t : ℕ) → descend-lts.Need-descend-requires (
-  down-reads.Asked,
-  down-reads.Learnt,
-  stand-reads.Asked,
-  stand-reads.Learnt,
-  descend-below t,
-  descend.Post,
-) (descend-at t) descend.Post
-descend-descend-requires t c κs = search needs
+  descend-down-requires : descend-lts.Need-down-requires (known t) (descend-at t) descend.Post
+  descend-down-requires c κs = search needs
 
-descend-returns-3 : (t : ℕ) → descend-lts.Need-returns-3 (
-  down-reads.Asked,
-  down-reads.Learnt,
-  stand-reads.Asked,
-  stand-reads.Learnt,
-  descend-below t,
-  descend.Post,
-) (descend-at t) descend.Post
-descend-returns-3 t c =
-    let s = c .before .before .before in
-    let d = s .before in
-    let a = d .before .before .before .args in
-    inner-same _ (a .level) (a .n) (a .key) _ _ _ (s .stand .ensures) (c .before .before .if2 .left) (d .before .if1 .left) (c .before .if3 .taken) (d .down .ensures) (c .descend .ensures)
+  descend-stand-requires : descend-lts.Need-stand-requires (known t) (descend-at t) descend.Post
+  descend-stand-requires c κs = search needs
 
-descend-down-requires-2 : (t : ℕ) → descend-lts.Need-down-requires-2 (
-  down-reads.Asked,
-  down-reads.Learnt,
-  stand-reads.Asked,
-  stand-reads.Learnt,
-  descend-below t,
-  descend.Post,
-) (descend-at t) descend.Post
-descend-down-requires-2 t c κs = search needs
+  descend-returns-2 : descend-lts.Need-returns-2 (known t) (descend-at t) descend.Post
+  descend-returns-2 c = let s = c .before in refused-here _ _ _ _ _ (climbing (foreseen s) .if1 .left) (s .stand .ensures) (c .if2 .taken)
 
-descend-sub-descend-2 : (t : ℕ) → descend-lts.Need-sub-descend-2 (
-  down-reads.Asked,
-  down-reads.Learnt,
-  stand-reads.Asked,
-  stand-reads.Learnt,
-  descend-below t,
-  descend.Post,
-) (descend-at t) descend.Post
-descend-sub-descend-2 t c = search needs
+  descend-sub-descend : descend-lts.Need-sub-descend (known t) (descend-at t) descend.Post
+  descend-sub-descend c = search needs
 
-descend-descend-requires-2 : (t : ℕ) → descend-lts.Need-descend-requires-2 (
-  down-reads.Asked,
-  down-reads.Learnt,
-  stand-reads.Asked,
-  stand-reads.Learnt,
-  descend-below t,
-  descend.Post,
-) (descend-at t) descend.Post
-descend-descend-requires-2 t c κs = search needs
+  descend-descend-requires : descend-lts.Need-descend-requires (known t) (descend-at t) descend.Post
+  descend-descend-requires c κs = search needs
 
-descend-returns-4 : (t : ℕ) → descend-lts.Need-returns-4 (
-  down-reads.Asked,
-  down-reads.Learnt,
-  stand-reads.Asked,
-  stand-reads.Learnt,
-  descend-below t,
-  descend.Post,
-) (descend-at t) descend.Post
-descend-returns-4 t c =
-    let o = c .before in
-    let s = o .before .before .before in
-    let a = s .before .before .before .before .args in
-    inner-here _ (a .level) (a .n) (a .key) _ _ _ (s .stand .ensures) (o .before .before .if2 .left) (s .before .before .if1 .left) (o .down2 .ensures) (c .descend2 .ensures)
+  descend-returns-3 : descend-lts.Need-returns-3 (known t) (descend-at t) descend.Post
+  descend-returns-3 c =
+      let e = c .before .before in
+      let s = stood e in
+      inner-same _ _ _ _ _ _ _ (s .stand .ensures) (e .if2 .left) (climbing (foreseen s) .if1 .left) (c .before .if3 .taken) (foreseen s .down .ensures)
+      (c .descend .ensures)
+
+  descend-down-requires-2 : descend-lts.Need-down-requires-2 (known t) (descend-at t) descend.Post
+  descend-down-requires-2 c κs = search needs
+
+  descend-sub-descend-2 : descend-lts.Need-sub-descend-2 (known t) (descend-at t) descend.Post
+  descend-sub-descend-2 c = search needs
+
+  descend-descend-requires-2 : descend-lts.Need-descend-requires-2 (known t) (descend-at t) descend.Post
+  descend-descend-requires-2 c κs = search needs
+
+  descend-returns-4 : descend-lts.Need-returns-4 (known t) (descend-at t) descend.Post
+  descend-returns-4 c =
+      let o = c .before in
+      let e = o .before .before in
+      let s = stood e in
+      inner-here _ _ _ _ _ _ _ (s .stand .ensures) (e .if2 .left) (climbing (foreseen s) .if1 .left) (o .down2 .ensures) (c .descend2 .ensures)
 
 pub +descend-spec : {M : Type 1} → statement M
-+descend-spec = close μ-descend λ t. descend-lts.spec (
-  down-reads.Asked,
-  down-reads.Learnt,
-  stand-reads.Asked,
-  stand-reads.Learnt,
-  descend-below t,
-  descend.Post,
-)
++descend-spec = close μ-descend λ t. descend-lts.spec (known t)
     (descend-at t)
     descend.Post
     (descend-returns t)

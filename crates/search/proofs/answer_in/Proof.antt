@@ -7,14 +7,14 @@ use Rattle.search.proofs.answer_in.Tie as tie
 read-requires : tie.Need-read-requires
 read-requires c κs = search needs
 
-in-leaf-requires : tie.Need-in-leaf-requires
-in-leaf-requires c κs = search needs
+find-requires : tie.Need-find-requires
+find-requires c κs = search needs
 
 returns : tie.Need-returns
 returns c =
     let d = c .before .before in
     let a = d .before .before .args in
-    answer-read (a .table .now) (a .m) (a .key) (d .read .result) (d .read .ensures) _ (c .in-leaf .ensures)
+    answer-read (a .table .now) (a .m) (a .key) (d .read .result) (d .read .ensures) _ (c .find .ensures)
 
 pub answer-in-spec : {M : Type 1} → statement M
-answer-in-spec = tie.close (tie.spec read-requires in-leaf-requires returns)
+answer-in-spec = tie.close (tie.spec read-requires find-requires returns)

@@ -1,72 +1,79 @@
 -- `search::search` meets its contract.
 use native.Mathlib.Omega.{arith}
-use Rattle.search.proofs.Standing.{passed-header, failed-header, header-words, bad-header, too-high, lost, answered, answered-here}
+use mathlib.Core.Path.{_≡_}
+use mathlib.Core.Bool.{true}
+use Rattle.model.specs.Table.{headerOk}
+use Rattle.search.proofs.Standing.{Stands, passed-header, failed-header, header-words, bad-header, too-high, lost, answered, answered-here}
 use borrow.Author.Needs.{needs}
 use Rattle.search.proofs.search.Statement.{statement}
 use Rattle.search.proofs.search.Tie as tie
+
+-- the places: from the header's test to the start, from the root's level to the header, from the leaf to the level, from the last test to the leaf
+abbrev entry : tie.After-header → tie.Start
+entry c = c .before .before
+
+abbrev opened : tie.After-word → tie.Else1
+opened c = c .before .before
+
+abbrev topped : tie.After-descend → tie.Else2
+topped c = c .before
+
+abbrev landed : tie.After-stand → tie.After-descend
+landed c = c .before .before
+
+-- the header has passed
+passed : (c : tie.Else1) → headerOk (entry (c .before) .args .table .now) ≡ true
+passed c = passed-header _ _ (c .before .header .ensures) (c .if1 .left)
+
+-- where the search stands, and how it came there
+stands : (c : tie.After-stand) → let a = entry (opened (topped (landed c) .before) .before) .args in Stands (a .table .now) (a .key) (landed c .descend .result) (c .stand .result)
+stands c =
+    let d = landed c in
+    let w = topped d .before in
+    record {
+      top = _;
+      header = passed (opened w);
+      level = w .word .ensures;
+      low = topped d .if2 .left;
+      came = d .descend .ensures;
+      stands = c .stand .ensures;
+    }
 
 header-requires : tie.Need-header-requires
 header-requires c κs = search needs
 
 returns : tie.Need-returns
-returns c = let h = c .before in let a = h .before .before .args in bad-header (a .table .now) (a .key) (failed-header _ _ (h .header .ensures) (c .if1 .taken))
+returns c = bad-header _ _ (failed-header _ _ (c .before .header .ensures) (c .if1 .taken))
 
 shared-slice-read-root : tie.Need-shared-slice-read-root
-shared-slice-read-root c = let h = c .before .before in omega (arith, header-words (h .before .before .args .table .now) (passed-header _ _ (h .header .ensures) (c .before .if1 .left)))
+shared-slice-read-root c = omega (arith, header-words _ (passed (c .before)))
 
 word-requires : tie.Need-word-requires
 word-requires c κs = search needs
 
 returns-2 : tie.Need-returns-2
-returns-2 c =
-    let w = c .before in
-    let h = w .before .before .before in
-    let a = h .before .before .args in
-    too-high (a .table .now) (a .key) _ (passed-header _ _ (h .header .ensures) (w .before .before .if1 .left)) (w .word .ensures) (c .if2 .taken)
+returns-2 c = let w = c .before in too-high _ _ _ (passed (opened w)) (w .word .ensures) (c .if2 .taken)
 
 descend-requires : tie.Need-descend-requires
-descend-requires c κs =
-    let e = c .before .before .before in
-    passed-header _ _ (e .before .header .ensures) (e .if1 .left)
+descend-requires c κs = passed (opened (c .before))
 
 answer-in-requires : tie.Need-answer-in-requires
 answer-in-requires c κs = search needs
 
 stand-requires : tie.Need-stand-requires
-stand-requires c κs =
-    let e = c .before .before .before .before .before in
-    passed-header _ _ (e .before .header .ensures) (e .if1 .left)
+stand-requires c κs = passed (opened (topped (c .before) .before))
 
 returns-3 : tie.Need-returns-3
-returns-3 c =
-    let s = c .before in
-    let d = s .before .before in
-    let w = d .before .before in
-    let h = w .before .before .before in
-    let a = h .before .before .args in
-    lost (a .table .now) (a .key) _ (passed-header _ _ (h .header .ensures) (w .before .before .if1 .left)) (w .word .ensures) (d .before .if2 .left) _ _ (d .descend .ensures) (s .stand .ensures) (c .if3 .taken)
+returns-3 c = lost _ _ _ _ (stands (c .before)) (c .if3 .taken)
 
 returns-4 : tie.Need-returns-4
-returns-4 c =
-    let s = c .before .before in
-    let r = s .before in
-    let d = r .before in
-    let w = d .before .before in
-    let h = w .before .before .before in
-    let a = h .before .before .args in
-    answered-here (a .table .now) (a .key) _ (passed-header _ _ (h .header .ensures) (w .before .before .if1 .left)) (w .word .ensures) (d .before .if2 .left) _ _ (d .descend .ensures) (s .stand .ensures) _ (c .before .if3 .left) (c .if4 .taken) (r .answer-in .ensures)
+returns-4 c = let e = c .before in answered-here _ _ _ _ (stands (e .before)) _ (e .if3 .left) (c .if4 .taken) (e .before .before .answer-in .ensures)
 
 answer-in-requires-2 : tie.Need-answer-in-requires-2
 answer-in-requires-2 c κs = search needs
 
 returns-5 : tie.Need-returns-5
-returns-5 c =
-    let s = c .before .before .before in
-    let d = s .before .before in
-    let w = d .before .before in
-    let h = w .before .before .before in
-    let a = h .before .before .args in
-    answered (a .table .now) (a .key) _ (passed-header _ _ (h .header .ensures) (w .before .before .if1 .left)) (w .word .ensures) (d .before .if2 .left) _ _ (d .descend .ensures) (s .stand .ensures) _ (c .before .before .if3 .left) (c .answer-in2 .ensures)
+returns-5 c = let e = c .before .before in answered _ _ _ _ (stands (e .before)) _ (e .if3 .left) (c .answer-in2 .ensures)
 
 pub search-spec : {M : Type 1} → statement M
 search-spec =

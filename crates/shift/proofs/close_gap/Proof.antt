@@ -1,32 +1,25 @@
 -- `shift::close_gap` meets its contract, step by step.
-use mathlib.Core.Path.{ap, _∙_}
-use Prim.Native.Nat.{pred}
 use native.Mathlib.Omega.{arith}
 use Rattle.shift.proofs.Shifting.{gap-moves, gap-last, gap-done}
 use borrow.Author.Needs.{needs}
 use Rattle.shift.proofs.close_gap.Statement.{statement}
 use Rattle.shift.proofs.close_gap.Tie as tie
 
-count-requires : tie.Need-count-requires
-count-requires c κs = search needs
-
-one-less-requires : tie.Need-one-less-requires
-one-less-requires c κs = search needs
+last-requires : tie.Need-last-requires
+last-requires c κs = search needs
 
 move-down-requires : tie.Need-move-down-requires
 move-down-requires c κs =
-    let after-one-less = c .before .before in
-    let after-count = after-one-less .before in
-    let entry = after-count .before .before .before in
-    (omega arith, (omega arith, gap-moves _ (entry .args .slots) _ _ (after-one-less .one-less .ensures ∙ ap pred (after-count .count .ensures .0)) _ (entry .pre .1 .1)))
+    let after-last = c .before .before in
+    let entry = after-last .before .before .before in
+    (omega arith, (omega arith, gap-moves _ (entry .args .slots) _ _ (after-last .last .ensures .0) _ (entry .pre .1 .1)))
 
 put-pointer-requires : tie.Need-put-pointer-requires
 put-pointer-requires c κs =
     let after-move-down = c .before .before .before .before .before .before in
-    let after-one-less = after-move-down .before .before .before in
-    let after-count = after-one-less .before in
-    let entry = after-count .before .before .before in
-    (omega (arith, after-one-less .one-less .ensures, after-count .count .ensures .1), (omega arith, gap-last _ (entry .args .slots) _ _ (after-one-less .one-less .ensures ∙ ap pred (after-count .count .ensures .0)) _ (entry .pre .1 .1) _ (after-move-down .move-down .ensures)))
+    let after-last = after-move-down .before .before .before in
+    let entry = after-last .before .before .before in
+    (omega (arith, after-last .last .ensures .1), (omega arith, gap-last _ (entry .args .slots) _ _ (after-last .last .ensures .0) _ (entry .pre .1 .1) _ (after-move-down .move-down .ensures)))
 
 same-length : tie.Need-same-length
 same-length c = search needs
@@ -38,17 +31,15 @@ returns : tie.Need-returns
 returns c =
     let after-put-pointer = c .before .before .before .before in
     let after-move-down = after-put-pointer .before .before .before .before .before .before .before in
-    let after-one-less = after-move-down .before .before .before in
-    let after-count = after-one-less .before in
-    let entry = after-count .before .before .before in
-    gap-done _ (entry .args .slots) _ _ (after-one-less .one-less .ensures ∙ ap pred (after-count .count .ensures .0)) _ (entry .pre .1 .1) _ (after-move-down .move-down .ensures) _ (after-put-pointer .put-pointer .ensures)
+    let after-last = after-move-down .before .before .before in
+    let entry = after-last .before .before .before in
+    gap-done _ (entry .args .slots) _ _ (after-last .last .ensures .0) _ (entry .pre .1 .1) _ (after-move-down .move-down .ensures) _ (after-put-pointer .put-pointer .ensures)
 
 pub close-gap-spec : {M : Type 1} → statement M
 close-gap-spec =
     tie.close
     (tie.spec
-    count-requires
-    one-less-requires
+    last-requires
     move-down-requires
     put-pointer-requires
     same-length

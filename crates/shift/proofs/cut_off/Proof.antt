@@ -6,6 +6,25 @@ use borrow.Author.Needs.{needs}
 use Rattle.shift.proofs.cut_off.Statement.{statement}
 use Rattle.shift.proofs.cut_off.Tie as tie
 
+-- ---- the places
+
+abbrev to-entry : tie.After-start → tie.Start
+to-entry c = c .before .before .before .before
+
+abbrev to-start : tie.After-read → tie.After-start
+to-start c = c .before .before
+
+abbrev to-read : tie.After-word → tie.After-read
+to-read c = c .before .before .before
+
+abbrev to-place : tie.After-put-pointer-arg2 → tie.After-place
+to-place c = c .before .before
+
+abbrev to-put-pointer : tie.After-slice-known4 → tie.After-put-pointer
+to-put-pointer c = c .before .before .before .before
+
+-- ---- the answers
+
 start-requires : tie.Need-start-requires
 start-requires c κs = search needs
 
@@ -20,12 +39,19 @@ place-requires c κs = search needs
 
 put-pointer-requires : tie.Need-put-pointer-requires
 put-pointer-requires c κs =
-    let after-place = c .before .before in
+    let after-place = to-place c in
     let after-word = after-place .before in
-    let after-read = after-word .before .before .before in
-    let after-start = after-read .before .before in
-    let entry = after-start .before .before .before .before in
-    (omega (arith, after-place .place .ensures .1), (node-fits _ _ _ (entry .pre .0) (after-start .start .ensures), room-as _ _ _ (cut-as _ _ _ (entry .pre .0) (after-start .start .ensures) _ (after-read .read .ensures) (entry .pre .1 .0) _ _ (after-word .word .ensures) (after-place .place .ensures .0)) (entry .pre .1 .1)))
+    let after-read = to-read after-word in
+    let after-start = to-start after-read in
+    let entry = to-entry after-start in (
+      omega (arith, after-place .place .ensures .1),
+      (
+        node-fits _ _ _ (entry .pre .0) (after-start .start .ensures),
+        room-as _ _ _
+            (cut-as _ _ _ (entry .pre .0) (after-start .start .ensures) _ (after-read .read .ensures) (entry .pre .1 .0) _ _ (after-word .word .ensures) (after-place .place .ensures .0))
+            (entry .pre .1 .1),
+      ),
+    )
 
 same-length : tie.Need-same-length
 same-length c = search needs
@@ -35,13 +61,15 @@ same-length-2 c = search needs
 
 returns : tie.Need-returns
 returns c =
-    let after-put-pointer = c .before .before .before .before in
-    let after-place = after-put-pointer .before .before .before in
+    let after-put-pointer = to-put-pointer c in
+    let after-place = to-place (after-put-pointer .before) in
     let after-word = after-place .before in
-    let after-read = after-word .before .before .before in
-    let after-start = after-read .before .before in
-    let entry = after-start .before .before .before .before in
-    stored-as _ _ _ (cut-as _ _ _ (entry .pre .0) (after-start .start .ensures) _ (after-read .read .ensures) (entry .pre .1 .0) _ _ (after-word .word .ensures) (after-place .place .ensures .0)) _ (stored-one _ _ _ (after-put-pointer .put-pointer .ensures))
+    let after-read = to-read after-word in
+    let after-start = to-start after-read in
+    let entry = to-entry after-start in
+    stored-as _ _ _
+    (cut-as _ _ _ (entry .pre .0) (after-start .start .ensures) _ (after-read .read .ensures) (entry .pre .1 .0) _ _ (after-word .word .ensures) (after-place .place .ensures .0)) _
+    (stored-one _ _ _ (after-put-pointer .put-pointer .ensures))
 
 pub cut-off-spec : {M : Type 1} → statement M
 cut-off-spec =

@@ -5,24 +5,42 @@ use native.Mathlib.Omega.{arith}
 use lib.ListN.{length}
 use Rattle.orders.specs.Desk.{desk, storedAll}
 use Rattle.orders.proofs.Rest.{Rest, rest-start, rest-same, two-first, two-second, two-after, rest-none}
-use Rattle.shift.specs.Stores.{inUseOf, movesDown}
-use Rattle.shift.proofs.InUse.{in-use-short}
+use Rattle.slots.specs.Scan.{inUseOf}
+use Rattle.shift.specs.Stores.{movesDown}
+use Rattle.slots.proofs.Places.{in-use-short}
 use Rattle.shift.proofs.Moves.{down-next, down-end}
 use borrow.Author.Needs.{needs}
 use Rattle.shift.proofs.move_down.Statement.{statement}
 use Rattle.shift.proofs.move_down.Tie as tie
 
 abbrev Inv-loop : tie.InvT-loop
-Inv-loop table₀ list₀ w p slots n at₀ i₀ table list at i = (i ≤ 12) × (n ≤ 12) × (n ≡ length (inUseOf slots)) × (length table ≡ length table₀) × (length list ≡ length list₀) × Rest (movesDown w slots i) (desk table list at) (storedAll (movesDown w slots p) (desk table₀ list₀ at₀))
+Inv-loop table₀ list₀ w p slots n at₀ i₀ table list at i =
+    (i ≤ 12) × (n ≤ 12) × (n ≡ length (inUseOf slots)) × (length table ≡ length table₀) × (length list ≡ length list₀) × Rest (movesDown w slots i) (desk table list at) (storedAll (movesDown w slots p) (desk table₀ list₀ at₀))
 
 abbrev μ-loop : tie.MeasureT-loop
 μ-loop table₀ list₀ w p slots n at₀ i₀ table list at i = 12 - i
+
+-- ---- the places
+
+abbrev to-entry : tie.After-count Inv-loop μ-loop → tie.Start Inv-loop μ-loop
+to-entry c = c .before .before .before
+
+abbrev to-loop : tie.After-put-key-arg2 Inv-loop μ-loop → tie.At-loop Inv-loop μ-loop
+to-loop c = c .before .before .before
+
+abbrev to-put-key : tie.After-put-pointer-arg2 Inv-loop μ-loop → tie.After-put-key Inv-loop μ-loop
+to-put-key c = c .before .before .before .before .before .before
+
+abbrev to-put-pointer : tie.After-slice-known6 Inv-loop μ-loop → tie.After-put-pointer Inv-loop μ-loop
+to-put-pointer c = c .before .before .before .before
+
+-- ---- the answers
 
 count-requires : tie.Need-count-requires Inv-loop μ-loop
 count-requires c κs = search needs
 
 loop-holds : tie.Need-loop-holds Inv-loop μ-loop
-loop-holds c = let s = c .before .before .before .args .t5 in (omega arith, omega (arith, in-use-short s), c .count .ensures .0, refl, refl, rest-start _ _ (c .before .before .before .pre .1 .1))
+loop-holds c = let s = to-entry c .args .t5 in (omega arith, omega (arith, in-use-short s), c .count .ensures .0, refl, refl, rest-start (to-entry c .pre .1 .1))
 
 add-loop : tie.Need-add-loop Inv-loop μ-loop
 add-loop c = search needs
@@ -41,9 +59,9 @@ array-read-put-key c = search needs
 
 put-key-requires : tie.Need-put-key-requires Inv-loop μ-loop
 put-key-requires c κs =
-    let at-loop = c .before .before .before in
-    let entry = at-loop .before .before .before .before in
-    let l = at-loop .loop in (omega arith, (omega arith, two-first _ _ _ _ _ _ (down-next _ (entry .args .t5) (l .i) (omega arith)) (l .inv .5)))
+    let at-loop = to-loop c in
+    let entry = to-entry (at-loop .before) in
+    let l = at-loop .loop in (omega arith, (omega arith, two-first (down-next _ (entry .args .t5) (l .i) (omega arith)) (l .inv .5)))
 
 add-put-pointer : tie.Need-add-put-pointer Inv-loop μ-loop
 add-put-pointer c = search needs
@@ -62,10 +80,10 @@ array-read-put-pointer c = search needs
 
 put-pointer-requires : tie.Need-put-pointer-requires Inv-loop μ-loop
 put-pointer-requires c κs =
-    let after-put-key = c .before .before .before .before .before .before in
-    let at-loop = after-put-key .before .before .before .before in
-    let entry = at-loop .before .before .before .before in
-    let l = at-loop .loop in (omega arith, (omega arith, two-second _ _ _ _ _ _ (down-next _ (entry .args .t5) (l .i) (omega arith)) (l .inv .5) _ (after-put-key .put-key .ensures)))
+    let after-put-key = to-put-key c in
+    let at-loop = to-loop (after-put-key .before) in
+    let entry = to-entry (at-loop .before) in
+    let l = at-loop .loop in (omega arith, (omega arith, two-second (down-next _ (entry .args .t5) (l .i) (omega arith)) (l .inv .5) (after-put-key .put-key .ensures)))
 
 add-i : tie.Need-add-i Inv-loop μ-loop
 add-i c = search needs
@@ -75,11 +93,12 @@ loop-less c = search needs
 
 loop-again : tie.Need-loop-again Inv-loop μ-loop
 loop-again c =
-    let after-put-pointer = c .before .before .before .before in
-    let after-put-key = after-put-pointer .before .before .before .before .before .before .before in
-    let at-loop = after-put-key .before .before .before .before in
-    let entry = at-loop .before .before .before .before in
-    let l = at-loop .loop in (omega arith, l .inv .1, l .inv .2, search needs, search needs, two-after _ _ _ _ _ _ (down-next _ (entry .args .t5) (l .i) (omega arith)) (l .inv .5) _ _ (after-put-key .put-key .ensures) (after-put-pointer .put-pointer .ensures))
+    let after-put-pointer = to-put-pointer c in
+    let after-put-key = to-put-key (after-put-pointer .before) in
+    let at-loop = to-loop (after-put-key .before) in
+    let entry = to-entry (at-loop .before) in
+    let l = at-loop .loop in
+    (omega arith, l .inv .1, l .inv .2, search needs, search needs, two-after (down-next _ (entry .args .t5) (l .i) (omega arith)) (l .inv .5) (after-put-key .put-key .ensures) (after-put-pointer .put-pointer .ensures))
 
 same-length : tie.Need-same-length Inv-loop μ-loop
 same-length c = search needs
@@ -90,8 +109,8 @@ same-length-2 c = search needs
 returns : tie.Need-returns Inv-loop μ-loop
 returns c =
     let at-loop = c .before in
-    let entry = at-loop .before .before .before .before in
-    let l = at-loop .loop in rest-none _ _ (rest-same _ _ _ _ (down-end _ (entry .args .t5) (l .i) (omega arith)) (l .inv .5))
+    let entry = to-entry (at-loop .before) in
+    let l = at-loop .loop in rest-none (rest-same (down-end _ (entry .args .t5) (l .i) (omega arith)) (l .inv .5))
 
 pub move-down-spec : {M : Type 1} → statement M
 move-down-spec =

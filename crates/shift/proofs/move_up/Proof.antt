@@ -5,24 +5,42 @@ use native.Mathlib.Omega.{arith}
 use lib.ListN.{length}
 use Rattle.orders.specs.Desk.{desk, storedAll}
 use Rattle.orders.proofs.Rest.{Rest, rest-start, rest-same, two-first, two-second, two-after, rest-none}
-use Rattle.shift.specs.Stores.{inUseOf, movesUp}
-use Rattle.shift.proofs.InUse.{in-use-short}
+use Rattle.slots.specs.Scan.{inUseOf}
+use Rattle.shift.specs.Stores.{movesUp}
+use Rattle.slots.proofs.Places.{in-use-short}
 use Rattle.shift.proofs.Moves.{upTo, up-start, up-next, up-end}
 use borrow.Author.Needs.{needs}
 use Rattle.shift.proofs.move_up.Statement.{statement}
 use Rattle.shift.proofs.move_up.Tie as tie
 
 abbrev Inv-loop : tie.InvT-loop
-Inv-loop table₀ list₀ w p slots at₀ i₀ table list at i = (i ≤ 12) × (i ≤ length (inUseOf slots)) × (length table ≡ length table₀) × (length list ≡ length list₀) × Rest (upTo w slots p i) (desk table list at) (storedAll (movesUp w slots p) (desk table₀ list₀ at₀))
+Inv-loop table₀ list₀ w p slots at₀ i₀ table list at i =
+    (i ≤ 12) × (i ≤ length (inUseOf slots)) × (length table ≡ length table₀) × (length list ≡ length list₀) × Rest (upTo w slots p i) (desk table list at) (storedAll (movesUp w slots p) (desk table₀ list₀ at₀))
 
 abbrev μ-loop : tie.MeasureT-loop
 μ-loop table₀ list₀ w p slots at₀ i₀ table list at i = i
+
+-- ---- the places
+
+abbrev to-entry : tie.After-count Inv-loop μ-loop → tie.Start Inv-loop μ-loop
+to-entry c = c .before .before .before
+
+abbrev to-loop : tie.After-put-pointer-arg2 Inv-loop μ-loop → tie.At-loop Inv-loop μ-loop
+to-loop c = c .before .before .before
+
+abbrev to-put-pointer : tie.After-put-key-arg2 Inv-loop μ-loop → tie.After-put-pointer Inv-loop μ-loop
+to-put-pointer c = c .before .before .before .before .before .before
+
+abbrev to-put-key : tie.After-slice-known6 Inv-loop μ-loop → tie.After-put-key Inv-loop μ-loop
+to-put-key c = c .before .before .before .before
+
+-- ---- the answers
 
 count-requires : tie.Need-count-requires Inv-loop μ-loop
 count-requires c κs = search needs
 
 loop-holds : tie.Need-loop-holds Inv-loop μ-loop
-loop-holds c = let s = c .before .before .before .args .t5 in (omega (arith, in-use-short s), omega arith, refl, refl, rest-same _ _ _ _ (up-start _ s _ _ (c .count .ensures .0)) (rest-start _ _ (c .before .before .before .pre .1)))
+loop-holds c = let s = to-entry c .args .t5 in (omega (arith, in-use-short s), omega arith, refl, refl, rest-same (up-start _ s _ _ (c .count .ensures .0)) (rest-start (to-entry c .pre .1)))
 
 sub-put-pointer : tie.Need-sub-put-pointer Inv-loop μ-loop
 sub-put-pointer c = search needs
@@ -40,7 +58,7 @@ array-read-put-pointer : tie.Need-array-read-put-pointer Inv-loop μ-loop
 array-read-put-pointer c = search needs
 
 put-pointer-requires : tie.Need-put-pointer-requires Inv-loop μ-loop
-put-pointer-requires c κs = let l = c .before .before .before .loop in (omega arith, (omega arith, two-first _ _ _ _ _ _ (up-next _ _ _ (l .i) (omega arith) (l .inv .1)) (l .inv .4)))
+put-pointer-requires c κs = let l = to-loop c .loop in (omega arith, (omega arith, two-first (up-next _ _ _ (l .i) (omega arith) (l .inv .1)) (l .inv .4)))
 
 sub-put-key : tie.Need-sub-put-key Inv-loop μ-loop
 sub-put-key c = search needs
@@ -56,9 +74,9 @@ array-read-put-key c = search needs
 
 put-key-requires : tie.Need-put-key-requires Inv-loop μ-loop
 put-key-requires c κs =
-    let after-put-pointer = c .before .before .before .before .before .before in
-    let at-loop = after-put-pointer .before .before .before .before in
-    let l = at-loop .loop in (omega arith, (omega arith, two-second _ _ _ _ _ _ (up-next _ _ _ (l .i) (omega arith) (l .inv .1)) (l .inv .4) _ (after-put-pointer .put-pointer .ensures)))
+    let after-put-pointer = to-put-pointer c in
+    let at-loop = to-loop (after-put-pointer .before) in
+    let l = at-loop .loop in (omega arith, (omega arith, two-second (up-next _ _ _ (l .i) (omega arith) (l .inv .1)) (l .inv .4) (after-put-pointer .put-pointer .ensures)))
 
 sub-i : tie.Need-sub-i Inv-loop μ-loop
 sub-i c = search needs
@@ -68,10 +86,10 @@ loop-less c = search needs
 
 loop-again : tie.Need-loop-again Inv-loop μ-loop
 loop-again c =
-    let after-put-key = c .before .before .before .before in
-    let after-put-pointer = after-put-key .before .before .before .before .before .before .before in
-    let at-loop = after-put-pointer .before .before .before .before in
-    let l = at-loop .loop in (omega arith, omega arith, search needs, search needs, two-after _ _ _ _ _ _ (up-next _ _ _ (l .i) (omega arith) (l .inv .1)) (l .inv .4) _ _ (after-put-pointer .put-pointer .ensures) (after-put-key .put-key .ensures))
+    let after-put-key = to-put-key c in
+    let after-put-pointer = to-put-pointer (after-put-key .before) in
+    let at-loop = to-loop (after-put-pointer .before) in
+    let l = at-loop .loop in (omega arith, omega arith, search needs, search needs, two-after (up-next _ _ _ (l .i) (omega arith) (l .inv .1)) (l .inv .4) (after-put-pointer .put-pointer .ensures) (after-put-key .put-key .ensures))
 
 same-length : tie.Need-same-length Inv-loop μ-loop
 same-length c = search needs
@@ -80,7 +98,7 @@ same-length-2 : tie.Need-same-length-2 Inv-loop μ-loop
 same-length-2 c = search needs
 
 returns : tie.Need-returns Inv-loop μ-loop
-returns c = let l = c .before .loop in rest-none _ _ (rest-same _ _ _ _ (up-end _ _ _ (l .i) (omega arith)) (l .inv .4))
+returns c = let l = c .before .loop in rest-none (rest-same (up-end _ _ _ (l .i) (omega arith)) (l .inv .4))
 
 pub move-up-spec : {M : Type 1} → statement M
 move-up-spec =

@@ -6,13 +6,32 @@ use borrow.Author.Needs.{needs}
 use Rattle.shift.proofs.new_root.Statement.{statement}
 use Rattle.shift.proofs.new_root.Tie as tie
 
+-- ---- the places
+
+abbrev to-entry : tie.After-start → tie.Start
+to-entry c = c .before .before .before .before
+
+abbrev to-start : tie.After-word → tie.After-start
+to-start c = c .before .before .before
+
+abbrev to-word : tie.After-put-words-arg2 → tie.After-word
+to-word c = c .before .before
+
+abbrev to-put-words : tie.After-store-arg2 → tie.After-put-words
+to-put-words c = c .before .before .before .before .before .before
+
+abbrev to-store : tie.After-slice-known7 → tie.After-store
+to-store c = c .before .before .before .before
+
+-- ---- the answers
+
 start-requires : tie.Need-start-requires
 start-requires c κs = search needs
 
 slice-read-root : tie.Need-slice-read-root
 slice-read-root c =
     let after-start = c .before in
-    let entry = after-start .before .before .before .before in
+    let entry = to-entry after-start in
     omega (arith, node-fits _ _ _ (entry .pre .0) (after-start .start .ensures))
 
 word-requires : tie.Need-word-requires
@@ -23,8 +42,8 @@ array-write-words c = search needs
 
 add-words : tie.Need-add-words
 add-words c =
-    let after-start = c .before .before .before in
-    let entry = after-start .before .before .before .before in
+    let after-start = to-start c in
+    let entry = to-entry after-start in
     omega (arith, level-is _ _ _ _ (entry .pre .0) (after-start .start .ensures) (c .word .ensures), entry .pre .1 .0)
 
 array-write-words-2 : tie.Need-array-write-words-2
@@ -32,17 +51,17 @@ array-write-words-2 c = search needs
 
 put-words-requires : tie.Need-put-words-requires
 put-words-requires c κs =
-    let after-word = c .before .before in
-    let after-start = after-word .before .before .before in
-    let entry = after-start .before .before .before .before in
+    let after-word = to-word c in
+    let after-start = to-start after-word in
+    let entry = to-entry after-start in
     (node-fits _ _ _ (entry .pre .0) (after-start .start .ensures), root-words _ _ _ _ (entry .pre .0) (after-start .start .ensures) (after-word .word .ensures) _ (entry .pre .1 .1))
 
 store-requires : tie.Need-store-requires
 store-requires c κs =
-    let after-put-words = c .before .before .before .before .before .before in
-    let after-word = after-put-words .before .before .before in
-    let after-start = after-word .before .before .before in
-    let entry = after-start .before .before .before .before in
+    let after-put-words = to-put-words c in
+    let after-word = to-word (after-put-words .before) in
+    let after-start = to-start after-word in
+    let entry = to-entry after-start in
     root-link _ _ _ _ (entry .pre .0) (after-start .start .ensures) (after-word .word .ensures) _ (entry .pre .1 .1) _ (after-put-words .put-words .ensures)
 
 same-length : tie.Need-same-length
@@ -53,11 +72,11 @@ same-length-2 c = search needs
 
 returns : tie.Need-returns
 returns c =
-    let after-store = c .before .before .before .before in
-    let after-put-words = after-store .before .before .before .before .before .before .before in
-    let after-word = after-put-words .before .before .before in
-    let after-start = after-word .before .before .before in
-    let entry = after-start .before .before .before .before in
+    let after-store = to-store c in
+    let after-put-words = to-put-words (after-store .before) in
+    let after-word = to-word (after-put-words .before) in
+    let after-start = to-start after-word in
+    let entry = to-entry after-start in
     root-done _ _ _ _ (entry .pre .0) (after-start .start .ensures) (after-word .word .ensures) _ (entry .pre .1 .1) _ (after-put-words .put-words .ensures) _ (after-store .store .ensures)
 
 pub new-root-spec : {M : Type 1} → statement M

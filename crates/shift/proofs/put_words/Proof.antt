@@ -13,13 +13,14 @@ use Rattle.shift.proofs.put_words.Statement.{statement}
 use Rattle.shift.proofs.put_words.Tie as tie
 
 abbrev Inv-loop : tie.InvT-loop
-Inv-loop table₀ list₀ w words at₀ j₀ table list at j = (j ≤ 32) × (length words ≡ 32) × (length table ≡ length table₀) × (length list ≡ length list₀) × Rest (putAll (w + j) (drop j words)) (desk table list at) (storedAll (putAll w words) (desk table₀ list₀ at₀))
+Inv-loop table₀ list₀ w words at₀ j₀ table list at j =
+    (j ≤ 32) × (length words ≡ 32) × (length table ≡ length table₀) × (length list ≡ length list₀) × Rest (putAll (w + j) (drop j words)) (desk table list at) (storedAll (putAll w words) (desk table₀ list₀ at₀))
 
 abbrev μ-loop : tie.MeasureT-loop
 μ-loop table₀ list₀ w words at₀ j₀ table list at j = 32 - j
 
 loop-holds : tie.Need-loop-holds Inv-loop μ-loop
-loop-holds c = (omega arith, search needs, refl, refl, rest-same _ _ _ _ (rw add-zero) (rest-start _ _ (c .before .before .pre .1)))
+loop-holds c = (omega arith, search needs, refl, refl, rest-same (rw add-zero) (rest-start (c .before .before .pre .1)))
 
 add-store : tie.Need-add-store Inv-loop μ-loop
 add-store c = search needs
@@ -31,7 +32,7 @@ array-read-store : tie.Need-array-read-store Inv-loop μ-loop
 array-read-store c = search needs
 
 store-requires : tie.Need-store-requires Inv-loop μ-loop
-store-requires c κs = let l = c .before .before .before .loop in rest-one _ _ _ _ (rest-same _ _ _ _ (put-next _ _ (l .j) (omega arith)) (l .inv .4))
+store-requires c κs = let l = c .before .before .before .loop in rest-one (rest-same (put-next _ _ (l .j) (omega arith)) (l .inv .4))
 
 add-j : tie.Need-add-j Inv-loop μ-loop
 add-j c = search needs
@@ -43,7 +44,7 @@ loop-again : tie.Need-loop-again Inv-loop μ-loop
 loop-again c =
     let after-store = c .before .before .before .before in
     let at-loop = after-store .before .before .before .before in
-    let l = at-loop .loop in (omega arith, l .inv .1, search needs, search needs, rest-next _ _ _ _ (rest-same _ _ _ _ (put-next _ _ (l .j) (omega arith)) (l .inv .4)) _ (after-store .store .ensures))
+    let l = at-loop .loop in (omega arith, l .inv .1, search needs, search needs, rest-next (rest-same (put-next _ _ (l .j) (omega arith)) (l .inv .4)) (after-store .store .ensures))
 
 same-length : tie.Need-same-length Inv-loop μ-loop
 same-length c = search needs
@@ -52,7 +53,7 @@ same-length-2 : tie.Need-same-length-2 Inv-loop μ-loop
 same-length-2 c = search needs
 
 returns : tie.Need-returns Inv-loop μ-loop
-returns c = let l = c .before .loop in rest-none _ _ (rest-same _ _ _ _ (put-end _ _ (l .j) (omega arith)) (l .inv .4))
+returns c = let l = c .before .loop in rest-none (rest-same (put-end _ _ (l .j) (omega arith)) (l .inv .4))
 
 pub put-words-spec : {M : Type 1} → statement M
 put-words-spec =

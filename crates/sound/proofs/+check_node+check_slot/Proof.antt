@@ -1,10 +1,11 @@
--- `sound::check_node` and `sound::check_slot` meet their contracts: the level falls. The loop keeps what checking the ways from i on, from the present state, comes to.
-use Prim.Native.Nat.{ℕ, _+_, _-_, _*_, _≤_, _<_}
-use mathlib.Core.Path.{_≡_, refl, sym, _∙_}
+-- `sound::check_node` and `sound::check_slot` meet their contracts: the level falls. The loop keeps what checking the ways from i on, from the
+-- present state, comes to.
+use Prim.Native.Nat.{ℕ, _+_, _-_, _*_, _<_}
+use mathlib.Core.Path.{refl, sym, _∙_}
 use native.Mathlib.Omega.{arith}
 use borrow.Author.Tests.{not-true, not-false}
 use Rattle.model.specs.Slots.{view}
-use Rattle.sound.proofs.CheckLaws.{node-unsound, node-over, node-elsewhere, node-wrong, node-leaf, node-inner, stands-has, slot-right, slot-lacks, restChecked, rest-end, rest-next, rest-start}
+use Rattle.sound.proofs.CheckLaws.{node-unsound, node-over, node-elsewhere, node-wrong, Met, few-met, node-fits, node-all, node-leaf, node-inner, stands-has, slot-right, slot-lacks, Rest, rest-next, rest-done}
 use borrow.Author.Needs.{needs}
 use borrow.Fn.Kinds.{In}
 use borrow.Fn.PlainCycle.{Measures, is, falls, and}
@@ -21,8 +22,8 @@ use Rattle.sound.proofs.note.Reads as note-reads
 use Rattle.sound.proofs.pointer_from.Reads as pointer-from-reads
 use Rattle.sound.proofs.stands.Reads as stands-reads
 use Rattle.sound.proofs.together.Reads as together-reads
-use Rattle.sound.proofs.ways_of.Reads as ways-of-reads
-use Rattle.sound.proofs.word_at.Reads as word-at-reads
+use Rattle.leaves.proofs.ways_of.Reads as ways-of-reads
+use Rattle.leaves.proofs.word_at.Reads as word-at-reads
 use Rattle.sound.proofs.+check_node+check_slot.{statement}
 use Rattle.sound.proofs.+check_node+check_slot.Tie.{close}
 
@@ -49,16 +50,81 @@ check-slot-below t =
     and 1 check-slot-kinds.ps (falls 1 check-slot-kinds.ps _<_ μ-check-slot t) check-slot.Pre
 
 abbrev check-node-calls : ℕ → check-node-lts.Claims
-check-node-calls t = (word-at-reads.Asked, word-at-reads.Learnt, stands-reads.Asked, stands-reads.Learnt, look-at-reads.Asked, look-at-reads.Learnt, together-reads.Asked, together-reads.Learnt, ways-of-reads.Asked, ways-of-reads.Learnt, next-child-reads.Asked, next-child-reads.Learnt, pointer-from-reads.Asked, pointer-from-reads.Learnt, check-slot-below t, check-slot.Post)
+check-node-calls t = (
+  word-at-reads.Asked,
+  word-at-reads.Learnt,
+  stands-reads.Asked,
+  stands-reads.Learnt,
+  look-at-reads.Asked,
+  look-at-reads.Learnt,
+  together-reads.Asked,
+  together-reads.Learnt,
+  ways-of-reads.Asked,
+  ways-of-reads.Learnt,
+  next-child-reads.Asked,
+  next-child-reads.Learnt,
+  pointer-from-reads.Asked,
+  pointer-from-reads.Learnt,
+  check-slot-below t,
+  check-slot.Post,
+)
 
 abbrev check-slot-calls : ℕ → check-slot-lts.Claims
 check-slot-calls t = (word-reads.Asked, word-reads.Learnt, check-node-below t, check-node.Post, note-reads.Asked, note-reads.Learnt)
 
 abbrev check-node-Inv-loop : check-node-lts.InvT-loop
-check-node-Inv-loop table n level fence right count state₀ w next ways keys pointers i₀ state i = (i ≤ w .count) × (restChecked (view table) n (level - 1) w i next state ≡ restChecked (view table) n (level - 1) w 0 next state₀)
+check-node-Inv-loop table n level fence right count state₀ w next ways keys pointers i₀ state i = Rest (view table) n (level - 1) w next state₀ state i
 
 abbrev check-node-μ-loop : check-node-lts.MeasureT-loop
 check-node-μ-loop table n level fence right count state₀ w next ways keys pointers i₀ state i = ways - i
+
+-- the places of check_node: the start, the tally taken apart, N read, the node's standing, what was seen of it, all unfinished, its ways
+module _ (t : ℕ) where
+  abbrev start : check-node-lts.After-seen (check-node-calls t) (check-node-at t) check-node.Post check-node-Inv-loop check-node-μ-loop
+      → check-node-lts.Start (check-node-calls t) (check-node-at t) check-node.Post check-node-Inv-loop check-node-μ-loop
+  start c = c .before .before .before
+
+  abbrev counted : check-node-lts.After-word-at (check-node-calls t) (check-node-at t) check-node.Post check-node-Inv-loop check-node-μ-loop
+      → check-node-lts.After-seen (check-node-calls t) (check-node-at t) check-node.Post check-node-Inv-loop check-node-μ-loop
+  counted c = c .before .before
+
+  abbrev stood : check-node-lts.After-stands (check-node-calls t) (check-node-at t) check-node.Post check-node-Inv-loop check-node-μ-loop
+      → check-node-lts.After-word-at (check-node-calls t) (check-node-at t) check-node.Post check-node-Inv-loop check-node-μ-loop
+  stood c = c .before .before
+
+  abbrev looked : check-node-lts.After-look-at (check-node-calls t) (check-node-at t) check-node.Post check-node-Inv-loop check-node-μ-loop
+      → check-node-lts.After-stands (check-node-calls t) (check-node-at t) check-node.Post check-node-Inv-loop check-node-μ-loop
+  looked c = c .before .before
+
+  abbrev summed : check-node-lts.After-together (check-node-calls t) (check-node-at t) check-node.Post check-node-Inv-loop check-node-μ-loop
+      → check-node-lts.After-look-at (check-node-calls t) (check-node-at t) check-node.Post check-node-Inv-loop check-node-μ-loop
+  summed c = c .before .before .before .before
+
+  abbrev inner : check-node-lts.After-ways-of (check-node-calls t) (check-node-at t) check-node.Post check-node-Inv-loop check-node-μ-loop
+      → check-node-lts.After-together (check-node-calls t) (check-node-at t) check-node.Post check-node-Inv-loop check-node-μ-loop
+  inner c = c .before .before
+
+  abbrev turn : check-node-lts.At-loop (check-node-calls t) (check-node-at t) check-node.Post check-node-Inv-loop check-node-μ-loop
+      → check-node-lts.After-ways-of (check-node-calls t) (check-node-at t) check-node.Post check-node-Inv-loop check-node-μ-loop
+  turn c = c .before .before .before .before
+
+  abbrev met : (c : check-node-lts.After-together (check-node-calls t) (check-node-at t) check-node.Post check-node-Inv-loop check-node-μ-loop)
+      → let a = start (counted (stood (looked (summed c)))) .args in Met (view (a .table .now)) (a .n) (a .level) (a .fence) (a .right) (a .seen) (c .together .result)
+  met c =
+      let l = summed c in
+      let s = looked l in
+      let w = stood s in
+      let u = counted w .seen .given in
+      let a = start (counted w) .args in
+      record {
+        count = u .0 .0;
+        so-far = u .0 .1 .0;
+        tally = u .1;
+        few = few-met _ _ _ (w .word-at .ensures) (s .before .if1 .left);
+        fit =
+            node-fits _ _ _ _ _ _ (l .look-at .ensures) _ (s .stands .ensures) (not-false _ (l .before .if2 .left)) (not-false _ (c .before .before .if3 .left));
+        all = node-all _ _ (a .level) (a .fence) (a .right) _ (l .look-at .ensures) (u .0 .1 .0) _ (c .together .ensures);
+      }
 
 check-node-enum-told : (t : ℕ) → check-node-lts.Need-enum-told (check-node-calls t) (check-node-at t) check-node.Post check-node-Inv-loop check-node-μ-loop
 check-node-enum-told t c = search needs
@@ -70,7 +136,7 @@ check-node-word-at-requires : (t : ℕ) → check-node-lts.Need-word-at-requires
 check-node-word-at-requires t c κs = search needs
 
 check-node-returns : (t : ℕ) → check-node-lts.Need-returns (check-node-calls t) (check-node-at t) check-node.Post check-node-Inv-loop check-node-μ-loop
-check-node-returns t c = node-over _ _ _ _ _ _ _ _ _ (c .before .before .before .seen .given .1) (c .before .word-at .ensures) (c .if1 .taken)
+check-node-returns t c = node-over _ _ _ _ _ _ _ _ _ (counted t (c .before) .seen .given .1) (c .before .word-at .ensures) (c .if1 .taken)
 
 check-node-stands-requires : (t : ℕ) → check-node-lts.Need-stands-requires (check-node-calls t) (check-node-at t) check-node.Post check-node-Inv-loop check-node-μ-loop
 check-node-stands-requires t c κs = search needs
@@ -79,7 +145,9 @@ check-node-returns-2 : (t : ℕ) → check-node-lts.Need-returns-2 (check-node-c
 check-node-returns-2 t c = node-elsewhere _ _ _ _ _ _ (sym (c .before .stands .ensures) ∙ not-true _ (c .if2 .taken))
 
 check-node-look-at-requires : (t : ℕ) → check-node-lts.Need-look-at-requires (check-node-calls t) (check-node-at t) check-node.Post check-node-Inv-loop check-node-μ-loop
-check-node-look-at-requires t c κs = (c .before .before .before .before .before .before .before .before .pre .1, stands-has _ _ _ _ _ (c .before .before .before .before .before .before .before .before .pre .1) (sym (c .before .stands .ensures) ∙ not-false _ (c .if2 .left)))
+check-node-look-at-requires t c κs =
+    let a = start t (counted t (stood t (c .before))) in
+    (a .pre .1, stands-has _ _ _ _ _ (a .pre .1) _ (c .before .stands .ensures) (not-false _ (c .if2 .left)))
 
 check-node-returns-3 : (t : ℕ) → check-node-lts.Need-returns-3 (check-node-calls t) (check-node-at t) check-node.Post check-node-Inv-loop check-node-μ-loop
 check-node-returns-3 t c = node-wrong _ _ _ _ _ _ _ (c .before .before .look-at .ensures) (not-true _ (c .if3 .taken))
@@ -91,7 +159,7 @@ check-node-together-requires : (t : ℕ) → check-node-lts.Need-together-requir
 check-node-together-requires t c κs = search needs
 
 check-node-returns-4 : (t : ℕ) → check-node-lts.Need-returns-4 (check-node-calls t) (check-node-at t) check-node.Post check-node-Inv-loop check-node-μ-loop
-check-node-returns-4 t c = node-leaf _ _ _ _ _ _ (c .before .before .before .before .before .look-at .ensures) (sym (c .before .before .before .before .before .before .before .stands .ensures) ∙ not-false _ (c .before .before .before .before .before .before .if2 .left)) (not-false _ (c .before .before .before .if3 .left)) _ _ _ _ _ (c .before .before .before .before .before .before .before .before .before .before .before .seen .given .1) (c .before .before .before .before .before .before .before .before .before .word-at .ensures) (c .before .before .before .before .before .before .before .before .if1 .left) (c .before .together .ensures) (c .if4 .taken)
+check-node-returns-4 t c = node-leaf (met t (c .before)) (c .if4 .taken)
 
 check-node-ways-of-requires : (t : ℕ) → check-node-lts.Need-ways-of-requires (check-node-calls t) (check-node-at t) check-node.Post check-node-Inv-loop check-node-μ-loop
 check-node-ways-of-requires t c κs = search needs
@@ -100,7 +168,7 @@ check-node-next-child-requires : (t : ℕ) → check-node-lts.Need-next-child-re
 check-node-next-child-requires t c κs = search needs
 
 check-node-loop-holds : (t : ℕ) → check-node-lts.Need-loop-holds (check-node-calls t) (check-node-at t) check-node.Post check-node-Inv-loop check-node-μ-loop
-check-node-loop-holds t c = (omega arith, refl)
+check-node-loop-holds t c = record { among = omega arith; comes-to = refl }
 
 check-node-add-pointer-from : (t : ℕ) → check-node-lts.Need-add-pointer-from (check-node-calls t) (check-node-at t) check-node.Post check-node-Inv-loop check-node-μ-loop
 check-node-add-pointer-from t c = search needs
@@ -124,7 +192,10 @@ check-node-array-read-check-slot-2 : (t : ℕ) → check-node-lts.Need-array-rea
 check-node-array-read-check-slot-2 t c = search needs
 
 check-node-check-slot-requires : (t : ℕ) → check-node-lts.Need-check-slot-requires (check-node-calls t) (check-node-at t) check-node.Post check-node-Inv-loop check-node-μ-loop
-check-node-check-slot-requires t c κs = (omega (arith, c .before .before .before .before .before .before .before .before .before .before .before .before .before .before .before .before .before .before .before .before .before .pre .0, c .before .before .before .before .before .before .before .if4 .left), c .before .before .before .before .before .before .before .before .before .before .before .before .before .before .before .before .before .before .before .before .before .pre .1)
+check-node-check-slot-requires t c κs =
+    let w = turn t (c .before .before) in
+    let a = start t (counted t (stood t (looked t (summed t (inner t w))))) in
+    (omega (arith, a .pre .0, w .before .if4 .left), a .pre .1)
 
 check-node-add-i : (t : ℕ) → check-node-lts.Need-add-i (check-node-calls t) (check-node-at t) check-node.Post check-node-Inv-loop check-node-μ-loop
 check-node-add-i t c = search needs
@@ -133,13 +204,18 @@ check-node-loop-less : (t : ℕ) → check-node-lts.Need-loop-less (check-node-c
 check-node-loop-less t c = search needs
 
 check-node-loop-again : (t : ℕ) → check-node-lts.Need-loop-again (check-node-calls t) (check-node-at t) check-node.Post check-node-Inv-loop check-node-μ-loop
-check-node-loop-again t c = let l = c .before .before .before .loop in (omega arith, rest-next _ _ _ _ (l .i) _ (l .state) _ _ (c .before .before .loop-test .taken) (c .before .pointer-from .ensures) (c .check-slot .ensures) ∙ l .inv .1)
+check-node-loop-again t c =
+    let l = c .before .before in
+    rest-next (l .before .loop .inv) _ _ (l .loop-test .taken) (c .before .pointer-from .ensures) (c .check-slot .ensures)
 
 check-node-returns-5 : (t : ℕ) → check-node-lts.Need-returns-5 (check-node-calls t) (check-node-at t) check-node.Post check-node-Inv-loop check-node-μ-loop
 check-node-returns-5 t c = node-unsound _ _ _ _ _ _ (c .enum-told .given .1)
 
 check-node-returns-6 : (t : ℕ) → check-node-lts.Need-returns-6 (check-node-calls t) (check-node-at t) check-node.Post check-node-Inv-loop check-node-μ-loop
-check-node-returns-6 t c = let l = c .before .loop in sym (rest-end _ _ _ _ (l .i) _ (l .state) (c .loop-test .left)) ∙ l .inv .1 ∙ rest-start _ _ _ _ _ _ (c .before .before .before .before .before .ways-of .ensures .0) (c .before .before .before .before .next-child .ensures) ∙ node-inner _ _ _ _ _ _ (c .before .before .before .before .before .before .before .before .before .before .before .look-at .ensures) (sym (c .before .before .before .before .before .before .before .before .before .before .before .before .before .stands .ensures) ∙ not-false _ (c .before .before .before .before .before .before .before .before .before .before .before .before .if2 .left)) (not-false _ (c .before .before .before .before .before .before .before .before .before .if3 .left)) _ _ _ _ _ (c .before .before .before .before .before .before .before .before .before .before .before .before .before .before .before .before .before .seen .given .1) (c .before .before .before .before .before .before .before .before .before .before .before .before .before .before .before .word-at .ensures) (c .before .before .before .before .before .before .before .before .before .before .before .before .before .before .if1 .left) (c .before .before .before .before .before .before .before .together .ensures) (c .before .before .before .before .before .before .if4 .left)
+check-node-returns-6 t c =
+    let w = turn t (c .before) in
+    rest-done (c .before .loop .inv) (c .loop-test .left) (w .ways-of .ensures .0) (c .before .before .before .before .next-child .ensures)
+    ∙ node-inner (met t (inner t w)) (w .before .if4 .left)
 
 check-slot-word-requires : (t : ℕ) → check-slot-lts.Need-word-requires (check-slot-calls t) (check-slot-at t) check-slot.Post
 check-slot-word-requires t c κs = search needs
@@ -163,7 +239,10 @@ check-slot-check-node-requires-3 : (t : ℕ) → check-slot-lts.Need-check-node-
 check-slot-check-node-requires-3 t c κs = search needs
 
 check-slot-returns-2 : (t : ℕ) → check-slot-lts.Need-returns-2 (check-slot-calls t) (check-slot-at t) check-slot.Post
-check-slot-returns-2 t c = slot-lacks _ _ _ _ _ _ _ _ (c .before .before .before .before .before .word .ensures) _ _ _ _ (c .before .before .before .word2 .ensures) (c .before .before .note .ensures) (c .before .check-node2 .ensures) (c .check-node3 .ensures) (c .before .before .before .before .if1 .left)
+check-slot-returns-2 t c =
+    let w = c .before .before .before in
+    slot-lacks _ _ _ _ _ _ _ _ (w .before .before .word .ensures) _ _ _ _ (w .word2 .ensures) (c .before .before .note .ensures)
+    (c .before .check-node2 .ensures) (c .check-node3 .ensures) (w .before .if1 .left)
 
 pub +check-node+check-slot-spec : {M : Type 1} → statement M
 +check-node+check-slot-spec = close μ-check-node μ-check-slot (λ t. check-node-lts.spec (check-node-calls t)

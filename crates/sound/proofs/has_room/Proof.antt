@@ -29,10 +29,10 @@ returns-2 : tie.Need-returns-2
 returns-2 c = search needs
 
 returns-3 : tie.Need-returns-3
-returns-3 c = room-of _ (c .before .before .before .before .before .args .left) _ _ (c .before .before .left .given .1) (c .room .ensures)
+returns-3 c = let l = c .before .before in room-of _ (l .before .before .before .args .left) _ _ (l .left .given .1) (c .room .ensures)
 
 returns-4 : tie.Need-returns-4
-returns-4 c = room-of _ (c .before .before .before .before .before .args .left) _ _ (c .before .before .left2 .given .1) (c .room2 .ensures)
+returns-4 c = let l = c .before .before in room-of _ (l .before .before .before .args .left) _ _ (l .left2 .given .1) (c .room2 .ensures)
 
 pub has-room-spec : {M : Type 1} → statement M
 has-room-spec =

@@ -1,6 +1,6 @@
 -- `sound::if_found` meets its contract.
 use mathlib.Core.Bool.{true, false}
-use Rattle.sound.proofs.ScanLaws.{found-if}
+use Rattle.sound.proofs.NodeLaws.{found-if}
 use Rattle.sound.proofs.if_found.Statement.{statement}
 use Rattle.sound.proofs.if_found.Tie as tie
 

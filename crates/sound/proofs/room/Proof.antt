@@ -7,11 +7,11 @@ use Rattle.sound.proofs.room.Tie as tie
 read-requires : tie.Need-read-requires
 read-requires c κs = search needs
 
-gather-requires : tie.Need-gather-requires
-gather-requires c κs = search needs
+shown-count-requires : tie.Need-shown-count-requires
+shown-count-requires c κs = search needs
 
 returns : tie.Need-returns
-returns c = room-is _ _ _ _ (c .before .before .before .read .ensures) (c .before .gather .ensures .0)
+returns c = room-is _ _ _ _ (c .before .before .read .ensures) (c .shown-count .ensures)
 
 pub room-spec : {M : Type 1} → statement M
-room-spec = tie.close (tie.spec read-requires gather-requires returns)
+room-spec = tie.close (tie.spec read-requires shown-count-requires returns)

@@ -1,5 +1,5 @@
 -- `sound::times` meets its contract.
-use Rattle.sound.proofs.ScanLaws.{times-one, times-many}
+use Rattle.sound.proofs.NodeLaws.{times-one, times-many}
 use borrow.Author.Needs.{needs}
 use Rattle.sound.proofs.times.Statement.{statement}
 use Rattle.sound.proofs.times.Tie as tie

@@ -4,6 +4,10 @@ use borrow.Author.Needs.{needs}
 use Rattle.sound.proofs.with_hidden.Statement.{statement}
 use Rattle.sound.proofs.with_hidden.Tie as tie
 
+-- where the parent and the node are known
+abbrev start : tie.After-missing → tie.Start
+start c = c .before .before
+
 enum-told : tie.Need-enum-told
 enum-told c = search needs
 
@@ -11,7 +15,10 @@ enum-known-missing : tie.Need-enum-known-missing
 enum-known-missing c = search needs
 
 returns : tie.Need-returns
-returns c = hidden-other (c .before .before .before .before .args .missing) _ _ (c .before .before .missing .given .1) (c .before .before .before .before .args .q) (c .if1 .taken)
+returns c =
+    let m = c .before .before in
+    let a = start m .args in
+    hidden-other (a .missing) _ _ (m .missing .given .1) (a .q) (c .if1 .taken)
 
 enum-told-2 : tie.Need-enum-told-2
 enum-told-2 c = search needs
@@ -20,7 +27,10 @@ returns-2 : tie.Need-returns-2
 returns-2 c = hidden-nowhere (c .before .before .args .missing) (c .before .before .args .q) (c .enum-told .given .1)
 
 returns-3 : tie.Need-returns-3
-returns-3 c = hidden-parent (c .before .before .before .before .args .missing) _ _ (c .before .before .missing .given .1) (c .before .before .before .before .args .q) (c .if1 .left)
+returns-3 c =
+    let m = c .before .before in
+    let a = start m .args in
+    hidden-parent (a .missing) _ _ (m .missing .given .1) (a .q) (c .if1 .left)
 
 returns-4 : tie.Need-returns-4
 returns-4 c = search needs

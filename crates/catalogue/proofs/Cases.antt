@@ -1,0 +1,41 @@
+-- What each case of an answer gives.
+use mathlib.Core.Path.{_≡_, sym, ap, subst, _∙_}
+use Prim.Native.Nat.{ℕ}
+use lib.ListN.{length}
+use Rattle.model.specs.declared.Answer.{Answer}
+use Rattle.model.specs.declared.Parsed.{Parsed}
+use Rattle.model.specs.Codes.{parsedNumber, keyOr}
+use Rattle.model.specs.Table.{Words}
+use Rattle.model.specs.Writes.{Call}
+use Rattle.model.specs.Search.{recordingOr}
+use Rattle.model.specs.declared.Written.{Written}
+use Rattle.model.specs.Refusals.{written, tableAfter, listAfter}
+use Rattle.model.specs.declared.Listed.{Listed}
+use Rattle.model.specs.Listing.{listedNumber, countOr, moreOr}
+use Rattle.catalogue.specs.Answers.{searchNumber, Counted, Wrote, Showed}
+
+-- an answer that is this one has its number, and puts its word
+pub answered : (x y : Answer) (old : ℕ) → x ≡ y → (searchNumber y ≡ searchNumber x) × (recordingOr y old ≡ recordingOr x old)
+answered x y old e = (sym (ap searchNumber e), sym (ap (λ (z : Answer). recordingOr z old) e))
+
+pub was-read : (x y : Parsed) (old : ℕ) → x ≡ y → (parsedNumber y ≡ parsedNumber x) × (keyOr y old ≡ keyOr x old)
+was-read x y old e = (sym (ap parsedNumber e), sym (ap (λ (z : Parsed). keyOr z old) e))
+
+-- what a write leaves, whose answer is a
+pub has-written : (x : Call) (t lent : Words) {t′ lent′ : Words} {a : Written} {number stores stores′ flushes flushes′ : ℕ}
+    → (a ≡ written x (length lent) t) × ((t′ ≡ tableAfter x (length lent) t) × (lent′ ≡ listAfter x lent t))
+    → Counted a number stores stores′ flushes flushes′ → Wrote x number t t′ lent lent′ stores stores′ flushes flushes′
+has-written x t lent {number = number} {stores} {stores′} {flushes} {flushes′} h k =
+    record {
+      answer-is = subst (λ (z : Written). Counted z number stores stores′ flushes flushes′) (h .0) k;
+      table-is = h .1 .0;
+      list-is = h .1 .1;
+    }
+
+pub has-shown : (x y : Listed) (pairs more m : ℕ) → x ≡ y → m ≡ moreOr y more → Showed x (listedNumber y) pairs (countOr y pairs) more m
+has-shown x y pairs more m e q =
+    record {
+      number-is = sym (ap listedNumber e);
+      pairs-are = sym (ap (λ (z : Listed). countOr z pairs) e);
+      more-is = q ∙ sym (ap (λ (z : Listed). moreOr z more) e);
+    }

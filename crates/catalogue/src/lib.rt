@@ -1,0 +1,192 @@
+// The C entry points, on numbers and slices: include/catalogue.h has their prototypes, in this order. An answer is put into a lent word
+// only where the call does its work.
+use model::Answer;
+use model::Listed;
+use model::Outcome;
+use model::Parsed;
+use model::Written;
+ghost use mathlib.Core.Path.{_≡_};
+ghost use Rattle.model.specs.Codes.{parse, print, parsedNumber, keyOr};
+ghost use Rattle.model.specs.Table.{making, made, outcomeNumber};
+ghost use Rattle.model.specs.Orders.{carryOut, carriedOut};
+ghost use Rattle.model.specs.Search.{search, recordingOr};
+ghost use Rattle.model.specs.Writes.{insertion, deletion, repair};
+ghost use Rattle.catalogue.specs.Answers.{version, searchNumber, Counted, Wrote, Showed};
+ghost use Rattle.model.specs.Listing.{list, listOut};
+ghost use mathlib.Core.Bool.{cond};
+
+// The version of the calls' shapes; the header's CATALOGUE_VERSION is the same.
+#[no_mangle]
+pub extern "C" fn catalogue_version() -> u64
+    ensures { λ r. ⌜ r ≡ version ⌝ }
+{
+    1
+}
+
+// 0 and the code's key, or 1.
+#[no_mangle]
+pub extern "C" fn catalogue_parse(text: &[u8], key: &mut u64) -> u64
+    ensures { λ r. ⌜ r ≡ parsedNumber (parse (now (text .entry))) ⌝ }
+    ensures { λ r. ⌜ now (key .exit) ≡ keyOr (parse (now (text .entry))) (now (key .entry)) ⌝ }
+{
+    match isrc::parse(text) {
+        Parsed::Key(k) => {
+            *key = k;
+            0
+        }
+        Parsed::Refused(n) => n as u64,
+    }
+}
+
+// 0 and the key's code, or 1 and 12 zero bytes.
+#[no_mangle]
+pub extern "C" fn catalogue_print(key: u64, text: &mut [u8; 12]) -> u64
+    ensures { λ r. ⌜ r ≡ print key .number ⌝ }
+    ensures { λ r. ⌜ now (text .exit) ≡ print key .text ⌝ }
+{
+    let printed = isrc::print(key);
+    let t = printed.text;
+    *text = t;
+    printed.number as u64
+}
+
+// Document 01's number of an outcome.
+fn number_of(outcome: Outcome) -> u64
+    ensures { λ r. ⌜ r ≡ outcomeNumber outcome ⌝ }
+{
+    match outcome {
+        Outcome::Done => 0,
+        Outcome::Refused(n) => n as u64,
+    }
+}
+
+// 0, or 2.
+#[no_mangle]
+pub extern "C" fn catalogue_make(table: &mut [u64]) -> u64
+    ensures { λ r. ⌜ r ≡ outcomeNumber (making (now (table .entry))) ⌝ }
+    ensures { λ r. ⌜ now (table .exit) ≡ made (now (table .entry)) ⌝ }
+{
+    number_of(node::make(table))
+}
+
+// 0 and the recording where the key is found, 255 where it is absent, else 2 or 3.
+#[no_mangle]
+pub extern "C" fn catalogue_search(table: &[u64], key: u64, recording: &mut u64) -> u64
+    ensures { λ r. ⌜ r ≡ searchNumber (search (now (table .entry)) key) ⌝ }
+    ensures { λ r. ⌜ now (recording .exit) ≡ recordingOr (search (now (table .entry)) key) (now (recording .entry)) ⌝ }
+{
+    match search::search(table, key) {
+        Answer::Found(r) => {
+            *recording = r;
+            0
+        }
+        Answer::Absent => 255,
+        Answer::Refused(n) => n as u64,
+    }
+}
+
+// 1 for true, 0 for false.
+fn one_if(b: bool) -> u64
+    ensures { λ r. ⌜ r ≡ cond b 1 0 ⌝ }
+{
+    if b {
+        return 1;
+    }
+    0
+}
+
+// 0, the pairs written and 1 or 0 for more left, or 2 or 4.
+#[no_mangle]
+pub extern "C" fn catalogue_list(
+    table: &[u64],
+    low: u64,
+    high: u64,
+    out: &mut [u64],
+    pairs: &mut u64,
+    more: &mut u64,
+) -> u64
+    ensures { λ r. ⌜ Showed (list (now (table .entry)) low high (now (out .entry))) r
+        (now (pairs .entry)) (now (pairs .exit)) (now (more .entry)) (now (more .exit)) ⌝ }
+    ensures { λ r. ⌜ now (out .exit) ≡ listOut (now (table .entry)) low high (now (out .entry)) ⌝ }
+{
+    match listing::list(table, low, high, out) {
+        Listed::Pairs { count, more: left } => {
+            *pairs = count;
+            *more = one_if(left);
+            0
+        }
+        Listed::Refused(n) => n as u64,
+    }
+}
+
+// A write's number, and its counts into the lent words where it was done.
+fn put_counts(answer: Written, stores: &mut u64, flushes: &mut u64) -> u64
+    ensures { λ r. ⌜ Counted answer r (now (stores .entry)) (now (stores .exit)) (now (flushes .entry)) (now (flushes .exit)) ⌝ }
+{
+    match answer {
+        Written::Done {
+            stores: s,
+            flushes: f,
+        } => {
+            *stores = s;
+            *flushes = f;
+            0
+        }
+        Written::Refused(n) => n as u64,
+    }
+}
+
+// 0 and the two counts, or the refusal number; likewise below.
+#[no_mangle]
+pub extern "C" fn catalogue_insert(
+    table: &mut [u64],
+    orders: &mut [u64],
+    key: u64,
+    recording: u64,
+    stores: &mut u64,
+    flushes: &mut u64,
+) -> u64
+    ensures { λ r. ⌜ Wrote (insertion key recording) r (now (table .entry)) (now (table .exit)) (now (orders .entry)) (now (orders .exit))
+        (now (stores .entry)) (now (stores .exit)) (now (flushes .entry)) (now (flushes .exit)) ⌝ }
+{
+    let answer = insert::insert(table, orders, key, recording);
+    put_counts(answer, stores, flushes)
+}
+
+#[no_mangle]
+pub extern "C" fn catalogue_delete(
+    table: &mut [u64],
+    orders: &mut [u64],
+    key: u64,
+    stores: &mut u64,
+    flushes: &mut u64,
+) -> u64
+    ensures { λ r. ⌜ Wrote (deletion key) r (now (table .entry)) (now (table .exit)) (now (orders .entry)) (now (orders .exit))
+        (now (stores .entry)) (now (stores .exit)) (now (flushes .entry)) (now (flushes .exit)) ⌝ }
+{
+    let answer = delete::delete(table, orders, key);
+    put_counts(answer, stores, flushes)
+}
+
+#[no_mangle]
+pub extern "C" fn catalogue_repair(
+    table: &mut [u64],
+    orders: &mut [u64],
+    stores: &mut u64,
+    flushes: &mut u64,
+) -> u64
+    ensures { λ r. ⌜ Wrote repair r (now (table .entry)) (now (table .exit)) (now (orders .entry)) (now (orders .exit))
+        (now (stores .entry)) (now (stores .exit)) (now (flushes .entry)) (now (flushes .exit)) ⌝ }
+{
+    let answer = repair::repair(table, orders);
+    put_counts(answer, stores, flushes)
+}
+
+// 0, or 2 or 13.
+#[no_mangle]
+pub extern "C" fn catalogue_carry_out(table: &mut [u64], orders: &[u64], c: u64) -> u64
+    ensures { λ r. ⌜ r ≡ outcomeNumber (carryOut c (now (orders .entry)) (now (table .entry))) ⌝ }
+    ensures { λ r. ⌜ now (table .exit) ≡ carriedOut c (now (orders .entry)) (now (table .entry)) ⌝ }
+{
+    number_of(carry::carry_out(table, orders, c))
+}

@@ -1,7 +1,0 @@
--- Demand 3 from the laws of the single calls; and drawings that do not hold.
-pub mod Laws
-pub mod Numbers
-pub mod Reduce
-pub mod Demand3
-pub mod Images
-pub mod Drawings

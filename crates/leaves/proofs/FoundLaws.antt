@@ -1,0 +1,87 @@
+-- The finder finds a number exactly if it is there.
+use mathlib.Core.Path.{_≡_, refl, ap, sym, _∙_}
+use mathlib.Core.Bool.{Bool, true, false, _||_, or-assoc}
+use mathlib.Core.List.{List, [], _∷_, _++_, map}
+use Prim.Native.Nat.{ℕ, suc}
+use lib.Dec.{eqb}
+use borrow.Author.Tests.{eqb-true, eqb-false, eq-eqb, ne-eqb}
+use Rattle.model.specs.Table.{Words, nodes}
+use Rattle.model.specs.Slots.{Slot, View, view}
+use Rattle.model.specs.Reached.{flat, kept, recording, mapping, mapOf}
+use Rattle.model.specs.SoundTest.{elem, sound}
+use Rattle.model.specs.Refusals.{hasRecording}
+use Rattle.tree_laws.proofs.Levels.{sound-parts}
+use Rattle.walk_laws.specs.Chain.{along, firstLeaf, chain}
+use Rattle.walk_laws.proofs.WalkLaw.{InOrder, sound-in-order}
+use Rattle.walk_laws.proofs.ChainLaw.{chain-leaves}
+use Rattle.leaves.specs.declared.Hit.{Hit}
+use Rattle.leaves.specs.Hits.{recordings, hitAmong, firstHit, hitAlong, hitIn, isHit}
+
+pub elem-append : (x : ℕ) (xs ys : List ℕ) → elem x (xs ++ ys) ≡ (elem x xs || elem x ys)
+unfolding elem
+elem-append x [] ys = refl
+elem-append x (y ∷ xs) ys = ap (λ (b : Bool). eqb x y || b) (elem-append x xs ys) ∙ sym (or-assoc (eqb x y) (elem x xs) (elem x ys))
+
+map-append : (ss ts : List Slot) → map recording (ss ++ ts) ≡ map recording ss ++ map recording ts
+map-append [] ts = refl
+map-append (s ∷ ss) ts = ap (λ (l : List ℕ). recording s ∷ l) (map-append ss ts)
+
+pub recordings-cons : (v : View) (n : ℕ) (ns : List ℕ) → recordings v (n ∷ ns) ≡ map recording (kept v n) ++ recordings v ns
+unfolding recordings flat
+recordings-cons v n ns = map-append (kept v n) (flat (kept v) ns)
+
+-- ---- the finder finds a number exactly if it is there
+
+eqb-turn : (x y : ℕ) → eqb x y ≡ eqb y x
+eqb-turn x y = go (eqb x y) refl
+  where
+    go : (b : Bool) → eqb x y ≡ b → eqb x y ≡ eqb y x
+    go true e = e ∙ sym (eq-eqb y x (sym (eqb-true x y e)))
+    go false e = e ∙ sym (ne-eqb y x (λ q. eqb-false x y e (sym q)))
+
+hit-among : (r n i : ℕ) (xs : List ℕ) (later : Hit) → isHit (hitAmong r n i xs later) ≡ (elem r xs || isHit later)
+unfolding hitAmong elem
+hit-among r n i [] later = refl
+hit-among r n i (x ∷ xs) later = go (eqb x r) refl (hit-among r n (suc i) xs later)
+  where
+    go : (b : Bool) → eqb x r ≡ b → isHit (hitAmong r n (suc i) xs later) ≡ (elem r xs || isHit later) → isHit (hitAmong r n i (x ∷ xs) later) ≡ (elem r (x ∷ xs) || isHit later)
+    go true e ih = rw (e, hitAmong) (rw (eqb-turn r x, e))
+    go false e ih = rw (e, hitAmong) (ih ∙ rw (eqb-turn r x, e))
+
+pub hit-elem : (v : View) (r : ℕ) (ns : List ℕ) → isHit (firstHit v r ns) ≡ elem r (recordings v ns)
+unfolding firstHit
+hit-elem v r [] = unfold recordings in unfold flat in unfold elem in refl
+hit-elem v r (n ∷ ns) =
+    hit-among r n 0 (map recording (kept v n)) (firstHit v r ns) ∙ ap (λ (b : Bool). elem r (map recording (kept v n)) || b) (hit-elem v r ns)
+    ∙ sym (ap (elem r) (recordings-cons v n ns) ∙ elem-append r (map recording (kept v n)) (recordings v ns))
+
+pub hit-is : (b : Bool) (h : Hit) (v : View) (c n r : ℕ) → h ≡ hitAlong v c n r → b ≡ isHit h → b ≡ elem r (recordings v (along v c n))
+hit-is b h v c n r e q = q ∙ ap isHit e ∙ hit-elem v r (along v c n)
+
+-- ---- the whole chain
+
+module _ (t : Words) (first n : ℕ) (e : first ≡ firstLeaf (view t)) (q : n ≡ nodes t) where
+  pub whole-is : along (view t) n first ≡ chain (view t)
+  unfolding chain
+  whole-is = ap (λ (c : ℕ). along (view t) c first) q ∙ ap (along (view t) (nodes t)) e
+
+pub hit-chain : (t : Words) (first n r : ℕ) (h : Hit) → first ≡ firstLeaf (view t) → n ≡ nodes t → h ≡ hitAlong (view t) n first r → h ≡ hitIn (view t) r
+hit-chain t first n r h e q i = i ∙ ap (firstHit (view t) r) (whole-is t first n e q)
+
+-- ---- on a table whose walk was not refused
+
+pub recordings-mapping : (v : View) → InOrder v → recordings v (chain v) ≡ map recording (mapping v)
+unfolding recordings mapping
+recordings-mapping v o = ap (λ (ns : List ℕ). map recording (flat (kept v) ns)) (chain-leaves v o)
+
+elem-recording : (r : ℕ) (ss : List Slot) → elem r (map recording ss) ≡ hasRecording r ss
+unfolding elem hasRecording
+elem-recording r [] = refl
+elem-recording r (s ∷ ss) = ap (λ (b : Bool). b || elem r (map recording ss)) (eqb-turn r (recording s)) ∙ ap (λ (b : Bool). eqb (recording s) r || b) (elem-recording r ss)
+
+-- the finder finds a number exactly if the map has it
+hit-recording : (v : View) (r : ℕ) → InOrder v → isHit (hitIn v r) ≡ hasRecording r (mapping v)
+hit-recording v r o = hit-elem v r (chain v) ∙ ap (elem r) (recordings-mapping v o) ∙ elem-recording r (mapping v)
+
+pub found-recording : (t : Words) (r : ℕ) → sound t ≡ true → isHit (hitIn (view t) r) ≡ hasRecording r (mapOf t)
+found-recording t r h = hit-recording (view t) r (sound-in-order (view t) (sound-parts t .0 h .1))

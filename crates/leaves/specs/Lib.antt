@@ -1,0 +1,2 @@
+-- Where a recording number is.
+pub mod Hits

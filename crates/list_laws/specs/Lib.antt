@@ -1,0 +1,2 @@
+-- What holds of each item of a list.
+pub mod Each

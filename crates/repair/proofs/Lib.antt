@@ -1,5 +1,0 @@
--- The laws behind the functions of this crate, and those that the other writing calls cite.
-pub mod Judging
-pub mod Parts
-pub mod Mending
-pub mod Ending

@@ -1,0 +1,91 @@
+-- `slots::hidden_place` meets its contract. The loop keeps that i and the place among the slots from i on make the whole.
+use Prim.Native.Nat.{ℕ, _+_, _-_, _≤_}
+use mathlib.Core.Path.{_≡_, sym, _∙_}
+use mathlib.Core.List.{List}
+use native.Mathlib.Omega.{arith}
+use lib.ListN.{length}
+use Rattle.model.specs.Slots.{Slot}
+use Rattle.model.specs.Shifts.{hiddenPlace}
+use Rattle.slots.specs.Scan.{usedFrom, inUseOf}
+use Rattle.slots.proofs.Scans.{scan-past, scan-stop, scan-more}
+use Rattle.slots.proofs.Places.{hidden-none, hidden-here, hidden-later}
+use borrow.Author.Needs.{needs}
+use Rattle.slots.proofs.hidden_place.Statement.{statement}
+use Rattle.slots.proofs.hidden_place.Tie as tie
+
+abbrev Inv-loop : tie.InvT-loop
+Inv-loop left slots before₀ i₀ before i =
+    (i ≤ 12) × (length slots ≡ 24) × (i + hiddenPlace before (usedFrom slots i) ≡ hiddenPlace left (inUseOf slots))
+
+abbrev μ-loop : tie.MeasureT-loop
+μ-loop left slots before₀ i₀ before i = 12 - i
+
+loop-holds : tie.Need-loop-holds Inv-loop μ-loop
+unfolding inUseOf
+loop-holds c = search needs
+
+-- the state at the head of the loop, and what the place so far and slots come to
+abbrev turn : tie.Else1 Inv-loop μ-loop → tie.At-loop Inv-loop μ-loop
+turn c = c .before .before
+
+abbrev comes : tie.At-loop Inv-loop μ-loop → List Slot → ℕ
+comes c ss = c .loop .i + hiddenPlace (c .loop .before) ss
+
+mul-p : tie.Need-mul-p Inv-loop μ-loop
+mul-p c = search needs
+
+add-p : tie.Need-add-p Inv-loop μ-loop
+add-p c = search needs
+
+mul-p-2 : tie.Need-mul-p-2 Inv-loop μ-loop
+mul-p-2 c = search needs
+
+array-read-p : tie.Need-array-read-p Inv-loop μ-loop
+array-read-p c = search needs
+
+returns : tie.Need-returns Inv-loop μ-loop
+returns c =
+    let l = c .before .before in
+    (sym (hidden-none _ (l .loop .before)) ∙ scan-stop (comes l) _ (l .loop .i) (l .loop .inv .2) (omega arith) (c .if1 .taken), omega arith)
+
+returns-2 : tie.Need-returns-2 Inv-loop μ-loop
+returns-2 c =
+    let l = turn (c .before) in
+    (scan-more (comes l) _ (l .loop .i) (l .loop .inv .2) (omega arith) (c .before .if1 .left) (hidden-here _ _ _ _ _ (c .if2 .taken)), omega arith)
+
+add-i : tie.Need-add-i Inv-loop μ-loop
+add-i c = search needs
+
+loop-less : tie.Need-loop-less Inv-loop μ-loop
+loop-less c = search needs
+
+loop-again : tie.Need-loop-again Inv-loop μ-loop
+loop-again c =
+    let l = turn (c .before) in (
+      omega arith,
+      l .loop .inv .1,
+      scan-more (comes l) _ (l .loop .i) (l .loop .inv .2) (omega arith) (c .before .if1 .left) (hidden-later _ _ _ _ _ (c .if2 .left)),
+    )
+
+returns-3 : tie.Need-returns-3 Inv-loop μ-loop
+returns-3 c =
+    let l = c .before in
+    (sym (hidden-none _ (l .loop .before)) ∙ scan-past (comes l) _ (l .loop .i) (l .loop .inv .2) (omega arith), omega arith)
+
+pub hidden-place-spec : {M : Type 1} → statement M
+hidden-place-spec =
+    tie.close
+    (tie.spec
+    Inv-loop
+    μ-loop
+    loop-holds
+    mul-p
+    add-p
+    mul-p-2
+    array-read-p
+    returns
+    returns-2
+    add-i
+    loop-less
+    loop-again
+    returns-3)

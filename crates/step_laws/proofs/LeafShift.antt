@@ -1,0 +1,142 @@
+-- A pair shifted in at its leaf, and one shifted out: each store leaves a sound table, and one store changes the map.
+use mathlib.Core.Path.{_≡_, refl, ap, _∙_}
+use mathlib.Core.Logic.{_≢_}
+use mathlib.Core.Bool.{true, false}
+use mathlib.Core.List.{List, [], _∷_, _++_, map-append, List·Memᴰ}
+use Prim.Native.Nat.{ℕ, suc, _≤_}
+use native.Mathlib.Omega.{arith}
+use lib.ListN.{length, take, drop, getD}
+use lib.Seq.{split-at}
+use Rattle.model.specs.Table.{MARK, Words}
+use Rattle.model.specs.Slots.{Slot, slot, View, nodeView, view}
+use Rattle.model.specs.Reached.{pointers, kept, reached, mapOf}
+use Rattle.model.specs.SoundTest.{elem, distinct, nothing, hiddenIn, settled}
+use Rattle.model.specs.Shifts.{shiftOut, placeOf}
+use Rattle.model.specs.Writes.{shiftInAt, shiftOutAt, standing}
+use Rattle.model.specs.Refusals.{hasKey, hasRecording}
+use Rattle.model.specs.Ledger.{enter, leave}
+use Rattle.list_laws.proofs.Tools.{Each, Each-append}
+use Rattle.list_laws.proofs.Members.{each-mem, each-take, each-drop, elem-cons}
+use Rattle.list_laws.proofs.Distinct.{distinct-middle}
+use Rattle.list_laws.proofs.Steps.{until-map, first-map}
+use Rattle.slot_laws.proofs.Hiding.{Used, AllShown, distinct-shown}
+use Rattle.slot_laws.proofs.Shifts.{put-in-shown}
+use Rattle.word_laws.proofs.Stores.{doStore}
+use Rattle.word_laws.proofs.Frames.{same-ok}
+use Rattle.word_laws.proofs.ShiftViews.{Changed, withSlot, withoutSlot, view-used, view-shown, shift-in-view, shift-out-view}
+use Rattle.tree_laws.proofs.Rows.{leaf-ok}
+use Rattle.tree_laws.proofs.Levels.{mem-leaves}
+use Rattle.tree_laws.proofs.MapLaw.{leaf-pointers}
+use Rattle.tree_laws.proofs.SearchLaw.{leafFor, leaf-mem, leaf-covers}
+use Rattle.tree_laws.proofs.PlaceOf.{standing-leaf}
+use Rattle.change_laws.proofs.Updates.{withShown, withHidden}
+use Rattle.change_laws.proofs.Parts.{leaf-iff, Settles}
+use Rattle.change_laws.proofs.Hidden.{hide}
+use Rattle.change_laws.proofs.LeafSlots.{NewPair, enter-leaf, enter-fresh, leave-leaf, leave-place}
+use Rattle.step_laws.proofs.Phase.{Phase}
+use Rattle.step_laws.proofs.Stages.{SoundWith, SettledWith, phase-until, phase-first}
+use Rattle.step_laws.proofs.Bounds.{shift-in-few, shift-in-inside, shift-out-few, shift-out-inside}
+use Rattle.step_laws.proofs.Views.{changed-view, shown-view, same-view, Fine, settled-fine, view-sound, view-settles, view-same, may-hide, Usable, reached-usable, shown-few}
+
+-- a pointer that no slot has
+pub not-pointed : (x : ℕ) (ss : List Slot) → elem x (pointers ss) ≡ false → Each (λ (s : Slot). x ≢ s .pointer) ss
+not-pointed x [] h = tt
+not-pointed x (s ∷ ss) h = let u = elem-cons x (s .pointer) (pointers ss) .0 h in (u .0, not-pointed x ss (u .1))
+
+module _ (t : Words) (s : settled t ≡ true) (k : ℕ) where
+  abbrev v : View
+  v = view t
+
+  abbrev x : ℕ
+  x = leafFor (view t) k
+
+  fine : Fine t nothing
+  fine = settled-fine t s
+
+  x-reached : List·Memᴰ x (reached v)
+  x-reached = mem-leaves v x (fine .left .orderly) .0 (leaf-mem v k (fine .left .orderly)) .0
+
+  use-x : Usable t x
+  use-x = reached-usable t x (fine .header) (fine .left .orderly) x-reached
+
+  no-hidden : v .node x .hidden ≡ 0
+  no-hidden = each-mem (λ (n : ℕ). v .node n .hidden ≡ 0) (fine .left .left .0) x-reached
+
+  left-mark : v .node x .left ≡ MARK
+  left-mark = let c = leaf-covers v k (fine .left .orderly) in leaf-iff v x .0 (leaf-ok v x (c .good) (c .at .level)) .left
+
+  standing-x : standing t 0 k ≡ x
+  standing-x = standing-leaf t k (fine .left .orderly)
+
+  -- ---- shift in
+
+  module _ (r : ℕ) (new : NewPair (view t) k r) (some : r ≢ 0) (room : length (nodeView t (leafFor (view t) k) .shown) ≤ 10) where
+    in-shown : AllShown (v .node x .left) (withSlot t x k r)
+    in-shown = put-in-shown (v .node x .left) (v .node x .shown) (placeOf k (v .node x .shown)) k r (view-shown t x no-hidden) some (λ e. new .not-mark (e ∙ left-mark)) (not-pointed r (v .node x .shown) (enter-fresh v k r (fine .left) new))
+
+    entered : (t′ : Words) → Changed t x (withSlot t x k r) 0 t′ → SettledWith (enter k r (mapOf t)) t′
+    entered t′ c = view-settles t t′ _ (shown-view t x (withSlot t x k r) 0 t′ c no-hidden) (same-ok (c .header)) (fine .header) _ (enter-leaf v k r (fine .left) new)
+
+    shifted-in : Phase 27 t (shiftInAt t x k r) (enter k r (mapOf t))
+    shifted-in = phase-until 27 t (shiftInAt t x k r) (shift-in-few t x k r room) (shift-in-inside t x k r room (use-x .there)) (enter k r (mapOf t))
+        (until-map doStore _ (SoundWith (mapOf t)) _ (SettledWith (enter k r (mapOf t))) (may-hide t x nothing (hiddenIn x) fine no-hidden (hide v x (fine .left) x-reached) refl) entered (shiftInAt t x k r) t
+        (shift-in-view t x (use-x .there) (use-x .clear) (use-x .left) no-hidden k r room in-shown))
+
+  -- The pair (k, r) is shifted in at its leaf, which has room for it.
+  pub leaf-shift-in : (r : ℕ) → hasKey k (mapOf t) ≡ false → hasRecording r (mapOf t) ≡ false → r ≢ 0 → r ≢ MARK → length (nodeView t (standing t 0 k) .shown) ≤ 10
+      → Phase 27 t (shiftInAt t (standing t 0 k) k r) (enter k r (mapOf t))
+  leaf-shift-in r no-key no-recording some not-mark room =
+      rw standing-x (shifted-in r (record { no-key = no-key; no-recording = no-recording; not-mark = not-mark }) some (rw standing-x at room))
+
+  -- ---- shift out
+
+  module _ (has : hasKey k (mapOf t) ≡ true) where
+    abbrev ss : List Slot
+    ss = v .node x .shown
+
+    abbrev p : ℕ
+    p = placeOf k ss
+
+    -- no pointer of the leaf is twice in it, or MARK
+    own-pointers : distinct (MARK ∷ pointers ss) ≡ true
+    own-pointers = rw (each-mem (λ (n : ℕ). kept v n ≡ v .node n .shown) (fine .left .left .1) x-reached) at (leaf-pointers v x (fine .left .orderly) (leaf-mem v k (fine .left .orderly)))
+
+    out-shown : AllShown (v .node x .left) (withoutSlot t x k)
+    out-shown =
+        let low = take p ss in
+        let it = getD ss p (slot 0 0) in
+        let rest = drop (suc p) ss in
+        let u = view-used t x in
+        let e : pointers ss ≡ pointers low ++ it .pointer ∷ pointers rest = ap pointers (split-at ss p (slot 0 0) (leave-place v k (fine .left) has)) ∙ map-append _ low (it ∷ rest) in
+        let d = distinct-middle (it .pointer) (MARK ∷ pointers low) (pointers rest) .0 (rw e at own-pointers) .1 in
+        distinct-shown (v .node x .left) (low ++ rest) (Each-append Used low rest (each-take Used p ss u) (each-drop Used (suc p) ss u))
+        (ap (λ (n : ℕ). distinct (n ∷ pointers (low ++ rest))) left-mark ∙ ap (λ (l : List ℕ). distinct (MARK ∷ l)) (map-append _ low rest) ∙ d)
+
+    abbrev less : View
+    less = withShown v x (withoutSlot t x k)
+
+    settles : Settles v less (leave k (mapOf t))
+    settles = leave-leaf v k (fine .left) has
+
+    unchanged : (t′ : Words) → Changed t x ss 0 t′ → SoundWith (mapOf t) t′
+    unchanged t′ c = view-same t t′ nothing fine (same-view t x ss 0 t′ c refl no-hidden) (same-ok (c .header))
+
+    hiding : (t′ : Words) → Changed t x (withoutSlot t x k) 1 t′ → SoundWith (leave k (mapOf t)) t′
+    hiding t′ c =
+        let h = hide less x (settles .left) (rw (settles .reached) x-reached) in
+        view-sound t t′ (withHidden less x 1) (changed-view t x (withoutSlot t x k) 1 t′ c) (same-ok (c .header)) (fine .header) (hiddenIn x) (h .left) refl _ (h .mapping ∙ settles .mapping)
+
+    gone : (t′ : Words) → Changed t x (withoutSlot t x k) 0 t′ → SettledWith (leave k (mapOf t)) t′
+    gone t′ c = view-settles t t′ less (shown-view t x (withoutSlot t x k) 0 t′ c no-hidden) (same-ok (c .header)) (fine .header) _ settles
+
+    shifted-out : Phase 25 t (shiftOutAt t x k) (leave k (mapOf t))
+    shifted-out =
+        let few = shown-few t x (use-x .clear) in
+        let i = leave-place v k (fine .left) has in
+        phase-first 25 t (shiftOutAt t x k) (shift-out-few t x k few i) (shift-out-inside t x k few i (use-x .there)) (leave k (mapOf t))
+        (first-map doStore _ (SoundWith (mapOf t)) _ (SoundWith (leave k (mapOf t))) _ (SettledWith (leave k (mapOf t))) unchanged hiding gone (shiftOutAt t x k) t
+        (shift-out-view t x (use-x .there) (use-x .clear) (use-x .left) no-hidden k i out-shown)) (unfold shiftOutAt shiftOut in omega arith)
+
+    -- The pair of k is shifted out of its leaf.
+    pub leaf-shift-out : Phase 25 t (shiftOutAt t (standing t 0 k) k) (leave k (mapOf t))
+    leaf-shift-out = rw standing-x shifted-out

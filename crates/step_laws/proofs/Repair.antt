@@ -1,0 +1,260 @@
+-- Repair: close, cut and attach, store by store. Every store leaves a sound table with the same map, and the last a settled one.
+use mathlib.Core.Path.{_≡_, refl, ap, sym, _∙_}
+use mathlib.Core.Logic.{_≢_}
+use mathlib.Core.Bool.{true, false}
+use mathlib.Core.List.{List, [], _∷_, _++_, append-assoc, List·Memᴰ}
+use mathlib.Core.Option.{some}
+use Prim.Native.Nat.{ℕ, _≤_, _<_}
+use native.Mathlib.Omega.{arith}
+use lib.ListN.{length, length-append}
+use borrow.Author.Tests.{leb-true}
+use Rattle.model.specs.Table.{Words, nodeStart}
+use Rattle.model.specs.Slots.{Slot, NodeView, View, nodeView, view, height}
+use Rattle.model.specs.Reached.{pointers, kept, children, reached, mapOf}
+use Rattle.model.specs.SoundTest.{elem, Leftover, nothing, hiddenIn, missingIn, bothIn, room, hasRoom, settled, sound}
+use Rattle.model.specs.Orders.{apply, ordersAfter, orders}
+use Rattle.model.specs.Shifts.{placeOf}
+use Rattle.model.specs.Writes.{shiftInAt, closeAt, cutOff, attach, repairOf, repairStores, repaired}
+use Rattle.view_laws.proofs.NodeViews.{levelOf, fenceOf, stays-all, left-eq, shown-eq, sibling-eq}
+use Rattle.list_laws.proofs.Members.{each-mem, elem-cons, mem-here}
+use Rattle.list_laws.proofs.Steps.{Until, until-map}
+use Rattle.table_laws.proofs.Nodes.{has-node-iff}
+use Rattle.slot_laws.proofs.Hiding.{AllShown}
+use Rattle.slot_laws.proofs.Shifts.{put-in-shown}
+use Rattle.word_laws.proofs.Stores.{doStore, after-whole}
+use Rattle.word_laws.proofs.Frames.{same-ok}
+use Rattle.word_laws.proofs.ShiftViews.{Changed, withSlot, view-shown, shift-in-view, close-view, cut-view, shift-in-same}
+use Rattle.tree_laws.proofs.Rows.{Good, not-zero}
+use Rattle.tree_laws.proofs.Levels.{Orderly, Bounded, reached-bounds}
+use Rattle.tree_laws.proofs.Kept.{ignored, shown-split, cut-place, kept-whole}
+use Rattle.tree_laws.proofs.Leftovers.{MissingOnly, gap-children}
+use Rattle.cut_laws.specs.Inside.{StoresInside}
+use Rattle.change_laws.proofs.Updates.{withShown, withHidden}
+use Rattle.change_laws.proofs.Parts.{has-left-iff, Keeps}
+use Rattle.change_laws.proofs.Hidden.{unhide, hide-missing, unhide-missing}
+use Rattle.change_laws.proofs.Cut.{kept-take, cut-keeps}
+use Rattle.change_laws.proofs.Parents.{child-reached, child-level}
+use Rattle.change_laws.proofs.Attach.{attach-fresh, attach-settles}
+use Rattle.step_laws.proofs.Phase.{Phase, phase-nil}
+use Rattle.step_laws.proofs.Stages.{SoundWith, SettledWith, Stage, stage-until, stage-whole, stage-phase, phase-until, phase-within}
+use Rattle.step_laws.proofs.Bounds.{shift-in-few, shift-in-inside, close-few, close-inside}
+use Rattle.step_laws.proofs.Views.{shown-view, hidden-view, same-view, Fine, fine-sound, sound-fine, fine-settled, view-fine, view-keeps, view-settles, keeps-settles, view-same, may-hide, Usable, reached-usable, used-few, shown-few}
+use Rattle.step_laws.proofs.LeafShift.{not-pointed}
+
+-- ---- close
+
+module _ (t : Words) (x : ℕ) (y : Leftover) (f : Fine t y) (m : List·Memᴰ x (reached (view t))) (one : nodeView t x .hidden ≡ 1) where
+  use-x : Usable t x
+  use-x = reached-usable t x (f .header) (f .left .orderly) m
+
+  closing : Until doStore (Changed t x (nodeView t x .shown) 1) (Changed t x (nodeView t x .shown) 0) (closeAt t x) t
+  closing = close-view t x (use-x .there) (use-x .clear) one
+
+  pub close-changed : Changed t x (nodeView t x .shown) 0 (apply (closeAt t x) t)
+  close-changed = after-whole (Changed t x (nodeView t x .shown) 1) (Changed t x (nodeView t x .shown) 0) (closeAt t x) t closing
+
+  closed : (t′ : Words) → Changed t x (nodeView t x .shown) 0 t′ → view t′ ≡ withHidden (view t) x 0
+  closed t′ c = hidden-view t x (nodeView t x .shown) 0 t′ c refl
+
+  pub close-seen : view (apply (closeAt t x) t) ≡ withHidden (view t) x 0
+  close-seen = closed (apply (closeAt t x) t) close-changed
+
+  still : (t′ : Words) → Changed t x (nodeView t x .shown) 1 t′ → SoundWith (mapOf t) t′
+  still t′ c = view-same t t′ y f (same-view t x (nodeView t x .shown) 1 t′ c refl one) (same-ok (c .header))
+
+  few : length (orders (closeAt t x)) ≤ 24
+  few = close-few t x (used-few t x (use-x .clear)) one
+
+  inside : StoresInside (length t) (closeAt t x)
+  inside = close-inside t x (used-few t x (use-x .clear)) one (use-x .there)
+
+  close-settles : Keeps (view t) (withHidden (view t) x 0) nothing → Phase 24 t (closeAt t x) (mapOf t)
+  close-settles k = phase-until 24 t (closeAt t x) few inside (mapOf t) (until-map doStore _ (SoundWith (mapOf t)) _ (SettledWith (mapOf t)) still
+      (λ t′ c. view-settles t t′ _ (closed t′ c) (same-ok (c .header)) (f .header) (mapOf t) (keeps-settles (view t) _ k)) (closeAt t x) t closing)
+
+  close-keeps : (y′ : Leftover) → Keeps (view t) (withHidden (view t) x 0) y′ → hasRoom (view t) y′ ≡ true → Stage 24 t (closeAt t x) × Fine (apply (closeAt t x) t) y′
+  close-keeps y′ k r = (
+    stage-until 24 t (closeAt t x) few inside (until-map doStore _ (SoundWith (mapOf t)) _ (SoundWith (mapOf t)) still (λ t′ c. view-keeps t t′ _ (closed t′ c) (same-ok (c .header)) (f .header) y′ k r) (closeAt t x) t closing),
+    view-fine t _ _ close-seen (same-ok (close-changed .header)) (f .header) y′ (k .left) (k .room r),
+  )
+
+-- (a): the hidden slot is closed
+pub close-phase : (t : Words) (x : ℕ) → Fine t (hiddenIn x) → Phase 24 t (closeAt t x) (mapOf t)
+close-phase t x f = let u = f .left .left .0 in close-settles t x (hiddenIn x) f (u .member) (u .here) (unhide (view t) x (f .left))
+
+-- (c): the hidden slot of the parent is closed, and leaves (b)
+pub close-stage : (t : Words) (p a : ℕ) → Fine t (bothIn p a) → Stage 24 t (closeAt t p) × Fine (apply (closeAt t p) t) (missingIn p a false)
+close-stage t p a f = let u = f .left .left .0 in close-keeps t p (bothIn p a) f (u .member) (u .here) (missingIn p a false) (unhide-missing (view t) p a (f .left)) (f .room)
+
+-- ---- a's sibling, which lacks its slot in p
+
+module _ (v : View) (p a : ℕ) (o : Orderly v) (g : MissingOnly v p a) where
+  abbrev before : List ℕ
+  before = g .here .1 .before
+
+  abbrev after : List ℕ
+  after = g .here .1 .after
+
+  -- the children of p have a and then its sibling
+  row : children v p ≡ before ++ a ∷ v .node a .sibling ∷ after
+  row = gap-children v p a (g .here .0) (g .here .1)
+
+  a-child : List·Memᴰ a (children v p)
+  a-child = rw row (mem-here a before (v .node a .sibling ∷ after))
+
+  sibling-child : List·Memᴰ (v .node a .sibling) (children v p)
+  sibling-child = rw (row ∙ sym (append-assoc before (a ∷ []) (v .node a .sibling ∷ after))) (mem-here (v .node a .sibling) (before ++ a ∷ []) after)
+
+  pub sibling-some : v .node a .sibling ≢ 0
+  sibling-some = not-zero v (v .node a .sibling) (each-mem (Bounded v (height v)) (reached-bounds v o) (child-reached v p (v .node a .sibling) o (g .member) sibling-child) .0)
+
+  pub a-reached : List·Memᴰ a (reached v)
+  a-reached = child-reached v p a o (g .member) a-child
+
+  -- a is one level below p
+  pub parent-other : p ≢ a
+  parent-other q = omega (arith, child-level v p a o (g .member) a-child, ap (levelOf v) q)
+
+-- ---- attach
+
+module _ (t : Words) (p a : ℕ) (f : Fine t (missingIn p a false)) where
+  abbrev k : ℕ
+  k = nodeView t (nodeView t a .sibling) .fence
+
+  abbrev b : ℕ
+  b = nodeView t a .sibling
+
+  lacks : MissingOnly (view t) p a
+  lacks = f .left .left .2
+
+  use-p : Usable t p
+  use-p = reached-usable t p (f .header) (f .left .orderly) (lacks .member)
+
+  p-shows : nodeView t p .hidden ≡ 0
+  p-shows = each-mem (λ (n : ℕ). nodeView t n .hidden ≡ 0) (f .left .left .0) (lacks .member)
+
+  p-keeps : kept (view t) p ≡ nodeView t p .shown
+  p-keeps = each-mem (λ (n : ℕ). kept (view t) n ≡ nodeView t n .shown) (f .left .left .1) (lacks .member)
+
+  room-p : length (nodeView t p .shown) ≤ 10
+  unfolding room
+  room-p = leb-true _ _ (f .room)
+
+  new-shown : AllShown (nodeView t p .left) (withSlot t p k b)
+  new-shown =
+      let u = elem-cons b (nodeView t p .left) (pointers (nodeView t p .shown)) .0 (ap (λ (ks : List Slot). elem b (nodeView t p .left ∷ pointers ks)) (sym p-keeps) ∙ attach-fresh (view t) p a (f .left)) in
+      put-in-shown (nodeView t p .left) (nodeView t p .shown) (placeOf k (nodeView t p .shown)) k b (view-shown t p p-shows) (sibling-some (view t) p a (f .left .orderly) lacks) (u .0) (not-pointed b (nodeView t p .shown) (u .1))
+
+  attaching : Until doStore (λ (t′ : Words). (h : ℕ) × (h ≤ 1) × Changed t p (nodeView t p .shown) h t′) (Changed t p (withSlot t p k b) 0) (attach t p a) t
+  unfolding attach
+  attaching = shift-in-view t p (use-p .there) (use-p .clear) (use-p .left) p-shows k b room-p new-shown
+
+  pub attach-changed : Changed t p (withSlot t p (nodeView t (nodeView t a .sibling) .fence) (nodeView t a .sibling)) 0 (apply (attach t p a) t)
+  attach-changed = after-whole _ (Changed t p (withSlot t p k b) 0) (attach t p a) t attaching
+
+  pub attach-seen : view (apply (attach t p a) t) ≡ withShown (view t) p (withSlot t p (nodeView t (nodeView t a .sibling) .fence) (nodeView t a .sibling))
+  attach-seen = shown-view t p (withSlot t p k b) 0 (apply (attach t p a) t) attach-changed p-shows
+
+  -- (b) without slots to cut: the sibling's slot is shifted in at the parent
+  pub attach-phase : Phase 27 t (attach t p a) (mapOf t)
+  attach-phase = phase-until 27 t (attach t p a) (unfold attach in shift-in-few t p k b room-p) (unfold attach in shift-in-inside t p k b room-p (use-p .there)) (mapOf t)
+      (until-map doStore _ (SoundWith (mapOf t)) _ (SettledWith (mapOf t)) (may-hide t p (missingIn p a false) (bothIn p a) f p-shows (hide-missing (view t) p a (f .left)) (f .room))
+      (λ t′ c. view-settles t t′ _ (shown-view t p _ 0 t′ c p-shows) (same-ok (c .header)) (f .header) (mapOf t) (keeps-settles (view t) _ (attach-settles (view t) p a (f .left)))) (attach t p a) t attaching)
+
+-- ---- cut
+
+module _ (t : Words) (p a : ℕ) (f : Fine t (missingIn p a true)) where
+  abbrev v : View
+  v = view t
+
+  abbrev place : ℕ
+  place = placeOf (v .node (v .node a .sibling) .fence) (v .node a .shown)
+
+  missing : MissingOnly v p a
+  missing = f .left .left .2
+
+  a-there : List·Memᴰ a (reached v)
+  a-there = a-reached v p a (f .left .orderly) missing
+
+  use-a : Usable t a
+  use-a = reached-usable t a (f .header) (f .left .orderly) a-there
+
+  good-a : Good v a
+  good-a = each-mem (Good v) (f .left .orderly .good) a-there
+
+  b-some : v .node a .sibling ≢ 0
+  b-some = sibling-some v p a (f .left .orderly) missing
+
+  a-shows : v .node a .hidden ≡ 0
+  a-shows = each-mem (λ (n : ℕ). v .node n .hidden ≡ 0) (f .left .left .0) a-there
+
+  -- the place is behind the kept slots, and some slots are from it on
+  place-in : place < length (v .node a .shown)
+  place-in =
+      let z : length (kept v a) ≢ length (v .node a .shown) = λ e. f .left .left .1 .here (kept-whole v a .0 e) in
+      omega (arith, cut-place v a good-a b-some, ap length (shown-split v a good-a), length-append (kept v a) (ignored v a))
+
+  pub cut-changed : Changed t a (kept (view t) a) 0 (apply (cutOff t a) t)
+  unfolding cutOff apply
+  cut-changed = rw (← kept-take v a good-a b-some) at (cut-view t a (use-a .there) (use-a .clear) place a-shows place-in)
+
+  pub cut-seen : view (apply (cutOff t a) t) ≡ withShown (view t) a (kept (view t) a)
+  cut-seen = shown-view t a (kept v a) 0 (apply (cutOff t a) t) cut-changed a-shows
+
+  cuts : Keeps v (withShown v a (kept v a)) (missingIn p a false)
+  cuts = cut-keeps v p a (f .left)
+
+  pub cut-fine : Fine (apply (cutOff t a) t) (missingIn p a false)
+  cut-fine = view-fine t _ _ cut-seen (same-ok (cut-changed .header)) (f .header) (missingIn p a false) (cuts .left) (cuts .room (f .room))
+
+  -- (b) with slots to cut: one store
+  pub cut-stage : Stage 2 t (cutOff t a)
+  cut-stage = stage-until 2 t (cutOff t a) (unfold cutOff orders ordersAfter in omega arith) in-table
+      (unfold cutOff apply in ((fine-sound t (missingIn p a true) f, refl), view-keeps t _ _ cut-seen (same-ok (cut-changed .header)) (f .header) (missingIn p a false) cuts (f .room)))
+    where
+      in-table : StoresInside (length t) (cutOff t a)
+      in-table = unfold cutOff nodeStart in (omega (arith, place-in, shown-few t a (use-a .clear), has-node-iff t a .0 (use-a .there)), tt)
+
+  -- the attach after it is the one that the uncut table has
+  pub cut-attach : attach (apply (cutOff t a) t) p a ≡ attach t p a
+  unfolding attach
+  cut-attach =
+      let t′ = apply (cutOff t a) t in
+      let c = cut-changed .node in
+      let e : nodeView t′ a .sibling ≡ v .node a .sibling = sibling-eq (c .here) in
+      let q : nodeView t′ (nodeView t′ a .sibling) .fence ≡ v .node (v .node a .sibling) .fence = ap (fenceOf (view t′)) e ∙ stays-all (λ (m : NodeView). m .fence) _ _ a _ c refl (v .node a .sibling) in
+      let same = c .else p (parent-other v p a (f .left .orderly) missing) in
+      ap (λ (j : ℕ). shiftInAt t′ p j (nodeView t′ a .sibling)) q ∙ ap (shiftInAt t′ p (v .node (v .node a .sibling) .fence)) e
+      ∙ shift-in-same t t′ p (v .node (v .node a .sibling) .fence) (v .node a .sibling) (left-eq same) (shown-eq same)
+
+-- ---- repair
+
+-- the leftover of a sound table decides its repair
+pub repair-of : (t : Words) (y : Leftover) → Fine t y → repairStores t ≡ repairOf t (some y)
+unfolding repairStores
+repair-of t y f = ap (repairOf t) (has-left-iff (view t) y .1 (f .left) .1)
+
+phase-of : (t : Words) (y : Leftover) → Fine t y → Phase 51 t (repairOf t (some y)) (mapOf t)
+unfolding repairOf
+phase-of t nothing f = phase-within 0 51 t [] (mapOf t) (omega arith) (phase-nil t (fine-settled t f))
+phase-of t (hiddenIn x) f = phase-within 24 51 t (closeAt t x) (mapOf t) (omega arith) (close-phase t x f)
+phase-of t (missingIn p a false) f = phase-within 27 51 t (attach t p a) (mapOf t) (omega arith) (attach-phase t p a f)
+phase-of t (missingIn p a true) f =
+    phase-within 29 51 t (cutOff t a ++ attach t p a) (mapOf t) (omega arith)
+    (rw (cut-attach t p a f) at (stage-phase 2 27 t (cutOff t a) (attach (apply (cutOff t a) t) p a) (mapOf t) (cut-stage t p a f)
+    (rw (stage-whole 2 t (cutOff t a) (cut-stage t p a f) .1) at (attach-phase (apply (cutOff t a) t) p a (cut-fine t p a f)))))
+phase-of t (bothIn p a) f =
+    let u = close-stage t p a f in
+    stage-phase 24 27 t (closeAt t p) (attach (apply (closeAt t p) t) p a) (mapOf t) (u .0) (rw (stage-whole 24 t (closeAt t p) (u .0) .1) at (attach-phase (apply (closeAt t p) t) p a (u .1)))
+
+-- Repair of a sound table: every first part of its stores leaves a sound table with the same map, and all of them a settled one.
+pub repair-phase : (t : Words) → sound t ≡ true → Phase 51 t (repairStores t) (mapOf t)
+repair-phase t s = let u = sound-fine t s in rw (repair-of t (u .0) (u .1)) (phase-of t (u .0) (u .1))
+
+pub repaired-settled : (t : Words) → sound t ≡ true → settled (repaired t) ≡ true
+unfolding repaired
+repaired-settled t s = repair-phase t s .settles
+
+pub repaired-map : (t : Words) → sound t ≡ true → mapOf (repaired t) ≡ mapOf t
+unfolding repaired
+repaired-map t s = repair-phase t s .maps

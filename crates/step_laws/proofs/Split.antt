@@ -1,0 +1,378 @@
+-- A full node split: every store leaves a sound table with the same map, and the last a settled one.
+use mathlib.Core.Path.{_≡_, refl, ap, sym, _∙_}
+use mathlib.Core.Bool.{Bool, true, false}
+use mathlib.Core.Logic.{_≢_}
+use mathlib.Core.List.{List, [], _∷_, _++_, List·Memᴰ}
+use Prim.Native.Nat.{ℕ, zero, suc, _≤_, _<_}
+use native.Mathlib.Omega.{arith}
+use lib.Dec.{eqb, ltb}
+use lib.ListN.{length, take, drop, set, length-drop}
+use lib.Seq.{split-at, drop-cons, length-take-le}
+use borrow.Author.Tests.{eq-eqb, ne-eqb, le-leb, lt-ltb, ltb-true, ltb-false}
+use Rattle.model.specs.Table.{MARK, Words, nodes, nodeStart, hasNode}
+use Rattle.model.specs.Slots.{Slot, slot, NodeView, nodeView, View, view, height}
+use Rattle.model.specs.Search.{below}
+use Rattle.model.specs.Reached.{pointers, kept, reached, mapping, mapOf}
+use Rattle.model.specs.SoundTest.{nothing, missingIn, room, settled}
+use Rattle.model.specs.Orders.{Store, put, apply, ordersAfter, orders}
+use Rattle.model.specs.Shifts.{pointerWord, lastPointer, placeOf}
+use Rattle.model.specs.Writes.{shiftInAt, putAll, nodeWords, middle, splitWords, split, cutOff, attach, standing}
+use Rattle.view_laws.proofs.NodeViews.{siblingOf, levelOf, fenceOf, shownOf, fence-eq, left-eq, level-eq, shown-eq, sibling-eq}
+use Rattle.list_laws.proofs.Tools.{or-right, Each, Each-split}
+use Rattle.list_laws.proofs.Members.{each-mem, elem-false}
+use Rattle.list_laws.proofs.Distinct.{once, distinct-cons}
+use Rattle.list_laws.proofs.Lists.{each-map}
+use Rattle.table_laws.proofs.Nodes.{has-node-iff}
+use Rattle.slot_laws.proofs.Hiding.{AllShown, all-split}
+use Rattle.word_laws.proofs.Frames.{SameHeader, same-ok, same-root, same-nodes}
+use Rattle.word_laws.proofs.LinkStores.{sibling-view, sibling-header}
+use Rattle.word_laws.proofs.ShiftViews.{withSlot, view-shown, shift-in-same}
+use Rattle.tree_laws.proofs.Rows.{Good}
+use Rattle.tree_laws.proofs.Kept.{cut-place}
+use Rattle.tree_laws.proofs.Levels.{Orderly, mem-leaves}
+use Rattle.tree_laws.proofs.Leftovers.{NothingUnfinished}
+use Rattle.tree_laws.proofs.SearchLaw.{Stands}
+use Rattle.tree_laws.proofs.MapLaw.{leaf-pointers}
+use Rattle.cut_laws.proofs.Applying.{apply-append}
+use Rattle.change_laws.proofs.Parts.{all-finished}
+use Rattle.change_laws.proofs.Updates.{update-at, update-off, withShown, withSibling, sibling-change}
+use Rattle.change_laws.proofs.Splice.{splice, mem-splice, length-splice, splice-in}
+use Rattle.change_laws.proofs.Cut.{cut-keeps}
+use Rattle.change_laws.proofs.Attach.{attach-settles}
+use Rattle.change_laws.proofs.Parents.{Parent}
+use Rattle.change_laws.proofs.Link.{upperLeft, upperSlots, upperPart, Splits, Linked, link, link-kept}
+use Rattle.step_laws.specs.Parts.{splitInto, FullNode}
+use Rattle.step_laws.proofs.Phase.{Phase}
+use Rattle.step_laws.proofs.Stages.{Stage, stage-until, stage-whole, stage-phase}
+use Rattle.step_laws.proofs.Views.{Fine, fine-sound, fine-settled, settled-fine, view-fine, reached-usable}
+use Rattle.step_laws.proofs.Repair.{sibling-some, a-reached, cut-fine, cut-seen, cut-stage, cut-attach, attach-seen, attach-phase}
+use Rattle.step_laws.proofs.Fresh.{Free, free-other, free-sibling}
+use Rattle.step_laws.proofs.WholeNode.{Stays, whole-stage, whole-stays}
+use Rattle.step_laws.proofs.Standing.{standing-stands, standing-parent, standing-is, stands, stands-same, stays-height, stays-stands}
+
+-- the pointers of a leaf are not MARK
+leaf-marks : (t : Words) (a : ℕ) → settled t ≡ true → List·Memᴰ a (reached (view t)) → nodeView t a .level ≡ 0 → Each (λ (s : Slot). s .pointer ≢ MARK) (nodeView t a .shown)
+leaf-marks t a s m e =
+    let l = settled-fine t s .left in
+    let d = leaf-pointers (view t) a (l .orderly) (mem-leaves (view t) a (l .orderly) .1 (m, e)) in
+    let ps = pointers (kept (view t) a) in
+    let k = each-map (λ (n : ℕ). n ≢ MARK) (λ (s : Slot). s .pointer) (kept (view t) a) .0 (elem-false MARK ps .0 (distinct-cons MARK ps .0 d .0)) in
+    rw (each-mem (NothingUnfinished (view t)) (all-finished (view t) l) m .keeps) at k
+
+-- what B takes of A, which is full
+module _ (t : Words) (a : ℕ) (s : settled t ≡ true) (m : List·Memᴰ a (reached (view t))) (full : length (nodeView t a .shown) ≡ 11) where
+  abbrev ss : List Slot
+  ss = nodeView t a .shown
+
+  shape : ss ≡ take 5 ss ++ middle t a ∷ drop 6 ss
+  shape = split-at ss 5 (slot 0 0) (omega arith)
+
+  upper-shape : drop 5 ss ≡ middle t a ∷ drop 6 ss
+  upper-shape = drop-cons ss 5 (slot 0 0) (omega arith)
+
+  hides : nodeView t a .hidden ≡ 0
+  hides = each-mem (NothingUnfinished (view t)) (all-finished (view t) (settled-fine t s .left)) m .shows
+
+  upper-shown : AllShown (lastPointer (nodeView t a .left) (take 5 ss)) (middle t a ∷ drop 6 ss)
+  upper-shown = all-split (nodeView t a .left) (take 5 ss) (middle t a ∷ drop 6 ss) (rw shape at (view-shown t a hides)) .1
+
+  abbrev left : ℕ → ℕ
+  left d = upperLeft d (middle t a)
+
+  abbrev slots : ℕ → List Slot
+  slots d = upperSlots d (middle t a) (drop 6 ss)
+
+  upper-words : splitWords t a ≡ nodeWords (left (nodeView t a .level)) (nodeView t a .sibling) (nodeView t a .level) (middle t a .key) (slots (nodeView t a .level))
+  unfolding splitWords
+  upper-words = go (nodeView t a .level) refl
+    where
+      go : (d : ℕ) → nodeView t a .level ≡ d → splitWords t a ≡ nodeWords (left d) (nodeView t a .sibling) (nodeView t a .level) (middle t a .key) (slots d)
+      go zero e = rw (eq-eqb (nodeView t a .level) 0 e, splitWords, upper-shape)
+      go (suc d) e = rw (ne-eqb (nodeView t a .level) 0 (λ z. omega arith), splitWords)
+
+  upper-all : AllShown (left (nodeView t a .level)) (slots (nodeView t a .level))
+  upper-all = go (nodeView t a .level) refl
+    where
+      go : (d : ℕ) → nodeView t a .level ≡ d → AllShown (left d) (slots d)
+      go zero e = (upper-shown .0, Each-split (λ (s : Slot). s .pointer ≢ MARK) (take 5 ss) (middle t a ∷ drop 6 ss) (rw shape at (leaf-marks t a s m e)) .1 .0, upper-shown .2)
+      go (suc d) e = upper-shown .2
+
+  upper-few : length (slots (nodeView t a .level)) ≤ 6
+  upper-few = go (nodeView t a .level)
+    where
+      go : (d : ℕ) → length (slots d) ≤ 6
+      go zero = omega (arith, length-drop 6 ss)
+      go (suc d) = omega (arith, length-drop 6 ss)
+
+-- ---- into a free node b
+
+module _ (t : Words) (k l : ℕ) (h : FullNode t k l) (b : ℕ) (f : Free t b) where
+  s : settled t ≡ true
+  s = h .settled
+
+  abbrev v : View
+  v = view t
+
+  abbrev a : ℕ
+  a = standing t l k
+
+  abbrev p : ℕ
+  p = standing t (suc l) k
+
+  stands-a : Stands v k l a
+  stands-a = standing-stands t s k l (omega (arith, h .high))
+
+  stands-p : Stands v k (suc l) p
+  stands-p = standing-stands t s k (suc l) (h .high)
+
+  not-a : a ≡ b → ⊥
+  not-a = free-other t b s f a (stands-a .reached)
+
+  not-p : p ≡ b → ⊥
+  not-p = free-other t b s f p (stands-p .reached)
+
+  -- ---- B's 32 words
+
+  abbrev t₁ : Words
+  t₁ = apply (putAll (nodeStart b) (splitWords t a)) t
+
+  abbrev v₁ : View
+  v₁ = view t₁
+
+  abbrev mid : Slot
+  mid = middle t a
+
+  abbrev high : List Slot
+  high = drop 6 (v .node a .shown)
+
+  abbrev d : ℕ
+  d = v .node a .level
+
+  words : splitWords t a ≡ nodeWords (upperLeft d mid) (v .node a .sibling) d (mid .key) (upperSlots d mid high)
+  words = upper-words t a s (stands-a .reached) (h .full)
+
+  few : length (upperSlots d mid high) ≤ 6
+  few = upper-few t a s (stands-a .reached) (h .full)
+
+  stays : Stays t b (upperPart (v .node a) mid high) t₁
+  stays = rw words (whole-stays t b (upperLeft d mid) (v .node a .sibling) d (mid .key) (upperSlots d mid high) s f (upper-all t a s (stands-a .reached) (h .full)) (omega (arith, few)))
+
+  new : nodeView t₁ b ≡ upperPart (v .node a) mid high
+  new = stays .node .here
+
+  write : Stage 36 t (putAll (nodeStart b) (splitWords t a))
+  write = rw words (whole-stage t b (upperLeft d mid) (v .node a .sibling) d (mid .key) (upperSlots d mid high) s f)
+
+  s₁ : settled t₁ ≡ true
+  s₁ = fine-settled t₁ (stays .fine)
+
+  parent : Parent v₁ a p
+  parent =
+      let x = standing-is t₁ s₁ k l a (stays-stands t b s f _ t₁ stays k l a stands-a) in
+      let y = standing-is t₁ s₁ k (suc l) p (stays-stands t b s f _ t₁ stays k (suc l) p stands-p) in
+      let w = standing-parent t₁ s₁ k l (omega (arith, h .high, stays-height t b s f _ t₁ stays)) in
+      rw (x, y) at w
+
+  low-length : length (take 5 (v .node a .shown)) ≡ 5
+  low-length = length-take-le 5 (v .node a .shown) (omega (arith, h .full))
+
+  parts : Splits v₁ a b (take 5 (v .node a .shown)) (middle t a) (drop 6 (v .node a .shown))
+  parts = record {
+    a-reached = rw (stays .reached) (stands-a .reached);
+    a-shows = shown-eq (stays .node .else a not-a) ∙ shape t a s (stands-a .reached) (h .full);
+    some-low = omega (arith, low-length);
+    not-root = λ e. omega (arith, ap (levelOf v) (sym (same-root (stays .header)) ∙ e), stands-a .covers .at .level, h .high);
+    b-fresh = rw (stays .reached) (f .unreached);
+    b-range = rw (same-nodes (stays .header)) (f .range);
+    b-node = new ∙ ap (λ (n : NodeView). upperPart n mid high) (sym (stays .node .else a not-a));
+  }
+
+  linked : Linked v₁ (withSibling v₁ a b) a b p
+  linked = link v₁ a b (take 5 (v .node a .shown)) (middle t a) (drop 6 (v .node a .shown)) p (stays .fine .left) parts parent
+
+  -- the parent is another node
+  other : p ≡ a → ⊥
+  other e = omega (arith, stands-p .covers .at .level, ap (levelOf v) e, stands-a .covers .at .level)
+
+  -- ---- A's sibling := B
+
+  abbrev t₂ : Words
+  t₂ = set t₁ (suc (nodeStart a)) b
+
+  has-a : hasNode t₁ a ≡ true
+  has-a = reached-usable t₁ a (stays .fine .header) (stays .fine .left .orderly) (parts .a-reached) .there
+
+  linked-header : SameHeader t₁ t₂
+  linked-header = sibling-header t₁ a b has-a
+
+  seen₂ : view t₂ ≡ withSibling v₁ a b
+  seen₂ = sibling-change v₁ (view t₂) a b (same-nodes linked-header) (same-root linked-header) (sibling-view t₁ a b has-a)
+
+  roomy₁ : room v₁ p ≡ true
+  unfolding room
+  roomy₁ = rw (shown-eq (stays .node .else p not-p)) (le-leb (length (v .node p .shown)) 10 (h .roomy))
+
+  fine₂ : Fine t₂ (missingIn p a true)
+  fine₂ = view-fine t₁ t₂ (withSibling v₁ a b) seen₂ (same-ok linked-header) (stays .fine .header) (missingIn p a true) (linked .left) (linked .room roomy₁)
+
+  map₂ : mapOf t₂ ≡ mapOf t₁
+  map₂ = ap mapping seen₂ ∙ linked .mapping
+
+  link-stage : Stage 2 t₁ (put (suc (nodeStart a)) b ∷ [])
+  link-stage = stage-until 2 t₁ (put (suc (nodeStart a)) b ∷ []) (unfold orders ordersAfter in omega arith) (unfold nodeStart in omega (arith, has-node-iff t₁ a .0 has-a), tt)
+      ((fine-sound t₁ nothing (stays .fine), refl), (fine-sound t₂ (missingIn p a true) fine₂, map₂))
+
+  -- ---- A's pointer 5 := 0
+
+  kept-a : kept (view t₂) a ≡ take 5 (v .node a .shown)
+  kept-a = ap (λ (x : View). kept x a) seen₂ ∙ link-kept v₁ a b (take 5 (v .node a .shown)) (middle t a) (drop 6 (v .node a .shown)) (stays .fine .left) parts
+
+  cut-there : placeOf (nodeView t₂ (nodeView t₂ a .sibling) .fence) (nodeView t₂ a .shown) ≡ 5
+  cut-there =
+      let o = fine₂ .left .orderly in
+      let g = fine₂ .left .left .2 in
+      cut-place (view t₂) a (each-mem (Good (view t₂)) (o .good) (a-reached (view t₂) p a o g)) (sibling-some (view t₂) p a o g) ∙ ap length kept-a ∙ low-length
+
+  cut-same : cutOff t₂ a ≡ put (pointerWord a 5) 0 ∷ []
+  unfolding cutOff
+  cut-same = ap (λ (n : ℕ). put (pointerWord a n) 0 ∷ []) cut-there
+
+  abbrev t₃ : Words
+  t₃ = apply (cutOff t₂ a) t₂
+
+  fine₃ : Fine t₃ (missingIn p a false)
+  fine₃ = cut-fine t₂ p a fine₂
+
+  -- ---- B shifted in at the parent
+
+  attach-same : attach t₃ p a ≡ shiftInAt t p (middle t a .key) b
+  unfolding attach
+  attach-same =
+      let c = sibling-view t₁ a b has-a in
+      let e : nodeView t₂ a .sibling ≡ b = sibling-eq (c .here) in
+      let q : nodeView t₂ (nodeView t₂ a .sibling) .fence ≡ middle t a .key = ap (fenceOf (view t₂)) e ∙ fence-eq (c .else b (λ z. not-a (sym z))) ∙ fence-eq new in
+      let same : nodeView t₂ p ≡ nodeView t p = c .else p other ∙ stays .node .else p not-p in
+      cut-attach t₂ p a fine₂ ∙ ap (λ (j : ℕ). shiftInAt t₂ p j (nodeView t₂ a .sibling)) q ∙ ap (shiftInAt t₂ p (middle t a .key)) e
+      ∙ shift-in-same t t₂ p (middle t a .key) b (left-eq same) (shown-eq same)
+
+  map₃ : mapOf t₃ ≡ mapOf t
+  map₃ = stage-whole 2 t₂ (cutOff t₂ a) (cut-stage t₂ p a fine₂) .1 ∙ map₂ ∙ stays .mapping
+
+  last-phase : Phase 27 t₃ (shiftInAt t p (middle t a .key) b) (mapOf t)
+  last-phase = rw (attach-same, map₃) at (attach-phase t₃ p a fine₃)
+
+  cut-phase : Phase 29 t₂ (put (pointerWord a 5) 0 ∷ shiftInAt t p (middle t a .key) b) (mapOf t)
+  cut-phase = rw cut-same at (stage-phase 2 27 t₂ (cutOff t₂ a) (shiftInAt t p (middle t a .key) b) (mapOf t) (cut-stage t₂ p a fine₂) last-phase)
+
+  link-phase : Phase 31 t₁ (put (suc (nodeStart a)) b ∷ put (pointerWord a 5) 0 ∷ shiftInAt t p (middle t a .key) b) (mapOf t)
+  unfolding apply
+  link-phase = stage-phase 2 29 t₁ (put (suc (nodeStart a)) b ∷ []) (put (pointerWord a 5) 0 ∷ shiftInAt t p (middle t a .key) b) (mapOf t) link-stage cut-phase
+
+  -- Split: every first part of its stores leaves a sound table with the same map.
+  pub split-phase : Phase 67 t (splitInto t l k b) (mapOf t)
+  unfolding split
+  split-phase = stage-phase 36 31 t (putAll (nodeStart b) (splitWords t a)) _ (mapOf t) write link-phase
+
+  -- ---- what it leaves
+
+  abbrev done : Words
+  done = apply (splitInto t l k b) t
+
+  abbrev w : View
+  w = view done
+
+  same-done : done ≡ apply (attach t₃ p a) t₃
+  unfolding split apply
+  same-done = apply-append (putAll (nodeStart b) (splitWords t a)) _ t
+      ∙ ap (λ (q : List Store). apply (shiftInAt t p (middle t a .key) b) (apply q t₂)) (sym cut-same) ∙ ap (λ (q : List Store). apply q t₃) (sym attach-same)
+
+  seen₃ : view t₃ ≡ withShown (withSibling v₁ a b) a (take 5 (v .node a .shown))
+  seen₃ = cut-seen t₂ p a fine₂ ∙ ap (withShown (view t₂) a) kept-a ∙ ap (λ (x : View). withShown x a (take 5 (v .node a .shown))) seen₂
+
+  -- with these slots shown in p
+  abbrev more : List Slot
+  more = withSlot t₃ p (nodeView t₃ (nodeView t₃ a .sibling) .fence) (nodeView t₃ a .sibling)
+
+  seen : w ≡ withShown (withShown (withSibling v₁ a b) a (take 5 (v .node a .shown))) p more
+  seen = ap view same-done ∙ attach-seen t₃ p a fine₃ ∙ ap (λ (x : View). withShown x p more) seen₃
+
+  level-same : (n : ℕ) → (n ≡ b → ⊥) → w .node n .level ≡ v .node n .level
+  level-same n z = ap (λ (x : View). x .node n .level) seen ∙ level-eq (stays .node .else n z)
+
+  fence-same : (n : ℕ) → (n ≡ b → ⊥) → w .node n .fence ≡ v .node n .fence
+  fence-same n z = ap (λ (x : View). x .node n .fence) seen ∙ fence-eq (stays .node .else n z)
+
+  sibling-same : (n : ℕ) → (n ≡ a → ⊥) → (n ≡ b → ⊥) → w .node n .sibling ≡ v .node n .sibling
+  sibling-same n y z = ap (λ (x : View). x .node n .sibling) seen ∙ update-off (siblingOf v₁) a b n y ∙ sibling-eq (stays .node .else n z)
+
+  reach : reached w ≡ splice a b (reached v)
+  reach =
+      ap (λ (x : Words). reached (view x)) same-done ∙ ap reached (attach-seen t₃ p a fine₃) ∙ attach-settles (view t₃) p a (fine₃ .left) .reached
+      ∙ ap reached (cut-seen t₂ p a fine₂) ∙ cut-keeps (view t₂) p a (fine₂ .left) .reached ∙ ap reached seen₂ ∙ linked .reached ∙ ap (splice a b) (stays .reached)
+
+  pub split-settled : settled (apply (splitInto t l k b) t) ≡ true
+  split-settled = split-phase .settles
+
+  orderly-w : Orderly w
+  orderly-w = settled-fine done split-settled .left .orderly
+
+  pub split-height : height (view (apply (splitInto t l k b) t)) ≡ height (view t)
+  split-height = ap height seen ∙ stays-height t b s f _ t₁ stays
+
+  pub split-nodes : nodes (apply (splitInto t l k b) t) ≡ nodes t
+  split-nodes = ap (λ (x : View). x .nodes) seen ∙ same-nodes (stays .header)
+
+  pub split-takes : length (reached (view (apply (splitInto t l k b) t))) ≡ suc (length (reached (view t)))
+  split-takes = ap length reach ∙ length-splice a b (reached v) (once a (reached v) (settled-fine t s .left .orderly .once) (stands-a .reached))
+
+  -- on the other levels the same nodes stand for k
+  others-stand : (d n : ℕ) → (n ≡ a → ⊥) → Stands v k d n → Stands w k d n
+  others-stand d n z c =
+      let y = free-other t b s f n (c .reached) in
+      stands-same v w k d n orderly-w (rw reach (mem-splice a b n (reached v) (c .reached))) (level-same n y) (fence-same n y) (sibling-same n z y) (fence-same (v .node n .sibling) (free-sibling t b s f n (c .reached))) c
+
+  pub split-standing : (d : ℕ) → d ≤ height (view t) → d ≢ l → standing (apply (splitInto t l k b) t) d k ≡ standing t d k
+  split-standing d g z =
+      let c = standing-stands t s k d g in
+      standing-is done split-settled k d (standing t d k) (others-stand d (standing t d k) (λ e. z (sym (c .covers .at .level) ∙ ap (levelOf v) e ∙ stands-a .covers .at .level)) c)
+
+  -- and below them show what they showed
+  pub split-shown : (d : ℕ) → d < l → nodeView (apply (splitInto t l k b) t) (standing t d k) .shown ≡ nodeView t (standing t d k) .shown
+  split-shown d g =
+      let n = standing t d k in
+      let c = standing-stands t s k d (omega (arith, h .high)) in
+      let y : n ≡ a → ⊥ = λ e. omega (arith, c .covers .at .level, ap (levelOf v) e, stands-a .covers .at .level) in
+      let z : n ≡ p → ⊥ = λ e. omega (arith, c .covers .at .level, ap (levelOf v) e, stands-p .covers .at .level) in
+      ap (λ (x : View). x .node n .shown) seen ∙ update-off _ p more n z ∙ update-off (shownOf v₁) a (take 5 (v .node a .shown)) n y ∙ shown-eq (stays .node .else n (free-other t b s f n (c .reached)))
+
+  -- on level l it is A or B, and both have room
+  shown-a : w .node a .shown ≡ take 5 (v .node a .shown)
+  shown-a = ap (λ (x : View). x .node a .shown) seen ∙ update-off _ p more a (λ e. other (sym e)) ∙ update-at (shownOf v₁) a (take 5 (v .node a .shown))
+
+  shown-b : w .node b .shown ≡ upperSlots d mid high
+  shown-b = ap (λ (x : View). x .node b .shown) seen ∙ update-off _ p more b (λ e. not-p (sym e)) ∙ update-off (shownOf v₁) a (take 5 (v .node a .shown)) b (λ e. not-a (sym e)) ∙ shown-eq new
+
+  fence-b : w .node b .fence ≡ middle t a .key
+  fence-b = ap (λ (x : View). x .node b .fence) seen ∙ fence-eq new
+
+  a-stands : k < middle t a .key → Stands w k l a
+  unfolding below
+  a-stands g =
+      let e : w .node a .sibling ≡ b = ap (λ (x : View). x .node a .sibling) seen ∙ update-at (siblingOf v₁) a b in
+      stands w k l a orderly-w (rw reach (mem-splice a b a (reached v) (stands-a .reached))) (level-same a not-a ∙ stands-a .covers .at .level) (rw (fence-same a not-a) (stands-a .covers .fence))
+      (rw e (or-right (eqb b 0) _ (lt-ltb k (w .node b .fence) (rw fence-b g))))
+
+  b-stands : middle t a .key ≤ k → Stands w k l b
+  unfolding below
+  b-stands g =
+      let e : w .node b .sibling ≡ v .node a .sibling = ap (λ (x : View). x .node b .sibling) seen ∙ update-off (siblingOf v₁) a b b (λ q. not-a (sym q)) ∙ sibling-eq new in
+      let o = once a (reached v) (settled-fine t s .left .orderly .once) (stands-a .reached) in
+      stands w k l b orderly-w (rw reach (splice-in a b (reached v) o)) (ap (λ (x : View). x .node b .level) seen ∙ level-eq new ∙ stands-a .covers .at .level) (rw fence-b g)
+      (rw (e, fence-same (v .node a .sibling) (free-sibling t b s f a (stands-a .reached))) (stands-a .covers .inside))
+
+  pub split-room : length (nodeView (apply (splitInto t l k b) t) (standing (apply (splitInto t l k b) t) l k) .shown) ≤ 6
+  split-room = go (ltb k (middle t a .key)) refl
+    where
+      go : (c : Bool) → ltb k (middle t a .key) ≡ c → length (w .node (standing done l k) .shown) ≤ 6
+      go true c = rw (standing-is done split-settled k l a (a-stands (ltb-true _ _ c)), shown-a, low-length) (omega arith)
+      go false c = rw (standing-is done split-settled k l b (b-stands (ltb-false _ _ c)), shown-b) few

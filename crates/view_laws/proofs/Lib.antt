@@ -1,0 +1,2 @@
+-- Laws on what is read of the nodes of a table.
+pub mod NodeViews

@@ -1,0 +1,116 @@
+// What every writing call begins with: its refusals 2, 4, 5 and 12, the first pen and the repair; and whether the map has a key.
+use model::Answer;
+use orders::Pen;
+use sound::Checked;
+use sound::Leftover;
+ghost use mathlib.Core.Path.{_≡_};
+ghost use mathlib.Core.Bool.{true};
+ghost use mathlib.Core.Option.{some};
+ghost use Rattle.model.specs.Slots.{view};
+ghost use Rattle.model.specs.Reached.{mapOf};
+ghost use Rattle.model.specs.SoundTest.{leftover, sound};
+ghost use Rattle.model.specs.Writes.{repairStores};
+ghost use Rattle.model.specs.Refusals.{fullParent, hasKey};
+ghost use Rattle.sound.specs.Checked.{meant};
+ghost use Rattle.orders.specs.Desk.{desk, storedAll, Room};
+ghost use Rattle.write.specs.Judged.{judged, firstPen};
+
+// What the tests that all writing calls share answer: a refusal's number, or what repair has to do and how many nodes are reached.
+pub enum Judged {
+    Refused(u8),
+    Ready { left: Leftover, reached: u64 },
+}
+
+// Whether repair would find 11 shown slots in the parent.
+fn parent_full(table: &[u64], left: Leftover) -> bool
+    ensures { λ r. ⌜ r ≡ fullParent (view (now (table .entry))) (some (meant left)) ⌝ }
+{
+    match left {
+        Leftover::Nothing => false,
+        Leftover::HiddenIn(_) => false,
+        Leftover::MissingIn {
+            parent,
+            node: _,
+            trailing: _,
+        } => reach::shown_count(table, parent) == 11,
+        Leftover::BothIn { parent, node: _ } => reach::shown_count(table, parent) == 11,
+    }
+}
+
+// The tests that all writing calls share, with an order list of so many words.
+pub fn judge(table: &[u64], words: usize) -> Judged
+    ensures { λ r. ⌜ r ≡ judged words (now (table .entry)) ⌝ }
+{
+    if node::header(table) != 0 {
+        return Judged::Refused(2);
+    }
+    let answer = sound::check(table);
+    match answer {
+        Checked::Unsound => Judged::Refused(4),
+        Checked::Sound { leftover, reached } => {
+            if words < 2560 {
+                return Judged::Refused(5);
+            }
+            if parent_full(table, leftover) {
+                return Judged::Refused(12);
+            }
+            Judged::Ready {
+                left: leftover,
+                reached: reached,
+            }
+        }
+    }
+}
+
+// Whether the map has the key.
+pub fn has_key(table: &[u64], key: u64) -> bool
+    requires { ⌜ sound (now table) ≡ true ⌝ }
+    ensures { λ r. ⌜ r ≡ hasKey key (mapOf (now (table .entry))) ⌝ }
+{
+    let answer = search::search(table, key);
+    match answer {
+        Answer::Found(_) => true,
+        Answer::Absent => false,
+        Answer::Refused(_) => false,
+    }
+}
+
+// A pen before the first order.
+pub fn begin() -> Pen
+    ensures { λ r. ⌜ r ≡ firstPen ⌝ }
+{
+    Pen {
+        at: 0,
+        line: 0,
+        stores: 0,
+        flushes: 0,
+    }
+}
+
+// Repairs a sound table.
+pub fn mend(table: &mut [u64], list: &mut [u64], pen: Pen, left: Leftover) -> Pen
+    requires { ⌜ sound (now table) ≡ true ⌝ }
+    requires { ⌜ leftover (view (now table)) ≡ some (meant left) ⌝ }
+    requires { ⌜ Room (repairStores (now table)) (desk (now table) (now list) pen) ⌝ }
+    ensures { λ r. ⌜ desk (now (table .exit)) (now (list .exit)) r
+        ≡ storedAll (repairStores (now (table .entry))) (desk (now (table .entry)) (now (list .entry)) pen) ⌝ }
+{
+    match left {
+        Leftover::Nothing => pen,
+        Leftover::HiddenIn(x) => shift::close(table, list, pen, x),
+        Leftover::MissingIn {
+            parent,
+            node,
+            trailing,
+        } => {
+            if trailing {
+                return shift::cut_attach(table, list, pen, parent, node);
+            }
+            shift::attach(table, list, pen, parent, node)
+        }
+        Leftover::BothIn { parent, node } => {
+            let closed = shift::close(table, list, pen, parent);
+            shift::attach(table, list, closed, parent, node)
+        }
+    }
+}

@@ -1,0 +1,134 @@
+/* The command line: words, and options anywhere between them. */
+#include "command_line.h"
+
+#include <stddef.h>
+#include <string.h>
+
+#include "text.h"
+
+static bool read_cut(struct command_line *l, const char *value)
+{
+    return read_number(value, strlen(value), &l->cut);
+}
+
+static bool read_wait(struct command_line *l, const char *value)
+{
+    return read_number(value, strlen(value), &l->table.wait);
+}
+
+static bool read_flush(struct command_line *l, const char *value)
+{
+    return (l->table.carrying.flush = flush_named(value)) != NULL;
+}
+
+static bool read_pause(struct command_line *l, const char *value)
+{
+    return read_number(value, strlen(value), &l->table.carrying.pause);
+}
+
+static bool set_fast(struct command_line *l, const char *value)
+{
+    (void)value;
+    return l->table.fast = true;
+}
+
+static bool set_again(struct command_line *l, const char *value)
+{
+    (void)value;
+    return l->load.again = true;
+}
+
+static bool set_each(struct command_line *l, const char *value)
+{
+    (void)value;
+    return l->load.each = true;
+}
+
+static bool set_keep_going(struct command_line *l, const char *value)
+{
+    (void)value;
+    return l->load.keep_going = true;
+}
+
+static bool set_help(struct command_line *l, const char *value)
+{
+    (void)value;
+    return l->help = true;
+}
+
+static bool set_version(struct command_line *l, const char *value)
+{
+    (void)value;
+    return l->version = true;
+}
+
+const struct option options[] = {
+    {"--again", NULL, NULL, "passes over lines that the table has already", "load room.cat codes.csv --again", LOADING, set_again},
+    {"--keep-going", NULL, NULL, "passes over bad lines and loads the rest; the exit status is that of the first bad line",
+     "load room.cat codes.csv --keep-going", LOADING, set_keep_going},
+    {"--each", NULL, NULL, "prints each line once the table has it", "load room.cat codes.csv --each", LOADING, set_each},
+    {"--cut", "C", "a number of orders", "stops after C orders, as a power cut does", "add room.cat AA0001912345 7 --cut=2", CUT,
+     read_cut},
+    {"--wait", "SECONDS", "a number of seconds",
+     "waits so long for a program that has the table locked; find waits without end,\nthe others not at all unless told to",
+     "add room.cat AA0001912345 7 --wait 10", WAITING, read_wait},
+    {"--fast", NULL, NULL,
+     "on an ordinary disk: waits for the disk once, at the end, and not at each flush.\n"
+     "A power cut before the end can destroy the whole table, older codes too",
+     "load new.cat codes.csv --fast", CARRYING, set_fast},
+    {"--flush", "HOW", "clwb, clflushopt, clflush or none, where the processor has it",
+     "clwb, clflushopt, clflush or none instead of the best that the processor has;\nfor persistent memory and --fast",
+     "add room.cat AA0001912345 7 --flush clflush", CARRYING, read_flush},
+    {"--pause", "N", "a number of microseconds", "waits N microseconds before each order, to pull the plug or kill -9 between two of them",
+     "load room.cat codes.csv --pause 100000", CARRYING, read_pause},
+    {"--help", NULL, NULL, "this text, or that of one command; -h is the same", "load --help", 0, set_help},
+    {"--version", NULL, NULL, "the program's version", "--version", 0, set_version},
+    {NULL, NULL, NULL, NULL, NULL, 0, NULL},
+};
+
+/* The option of that name, which ends at the length. */
+static const struct option *option_named(const char *name, size_t length)
+{
+    if (length == 2 && strncmp(name, "-h", 2) == 0)
+        return option_named("--help", strlen("--help"));
+    for (const struct option *o = options; o->name; o++)
+        if (strlen(o->name) == length && strncmp(o->name, name, length) == 0)
+            return o;
+    return NULL;
+}
+
+/* An option, and its value behind = or in the next word; then *at is that word. */
+static int read_option(struct command_line *l, int count, char **words, int *at)
+{
+    char *word = words[*at], *equals = strchr(word, '=');
+    const struct option *o = option_named(word, equals ? (size_t)(equals - word) : strlen(word));
+    if (!o)
+        return fail(BAD_USAGE, "there is no option %.40s (catalogue --help tells more)", word);
+    if (!o->form && equals)
+        return fail(BAD_USAGE, "%s takes no value", o->name);
+    const char *value = equals ? equals + 1 : "";
+    if (o->form && !equals && *at + 1 < count)
+        value = words[++*at];
+    l->given |= o->kind;
+    return o->read(l, value) ? 0 : fail(BAD_USAGE, "%s takes %s", o->name, o->takes);
+}
+
+int command_line_read(struct command_line *l, int count, char **words)
+{
+    bool only_words = false;
+    l->table.carrying.flush = flush_best();
+    for (int i = 0; i < count; i++) {
+        bool option = !only_words && (strncmp(words[i], "--", 2) == 0 || strcmp(words[i], "-h") == 0);
+        if (option && strcmp(words[i], "--") == 0) {
+            only_words = true;
+        } else if (option) {
+            int status = read_option(l, count, words, &i);
+            if (status != 0)
+                return status;
+        } else if (l->count < MOST_WORDS) {
+            /* A word too many is kept as a count alone. */
+            l->words[l->count++] = words[i];
+        }
+    }
+    return 0;
+}

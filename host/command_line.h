@@ -1,0 +1,47 @@
+/* The command line: words, and options anywhere between them. */
+#ifndef COMMAND_LINE_H
+#define COMMAND_LINE_H
+
+#include <stdbool.h>
+#include <stdint.h>
+
+#include "change.h"
+#include "load.h"
+#include "table.h"
+
+/* One more than any command takes. */
+#define MOST_WORDS 6
+
+/* Kinds of options, for which commands take which. */
+enum { CUT = 1, LOADING = 2, CARRYING = 4, WAITING = 8 };
+
+struct command_line {
+    char *words[MOST_WORDS]; /* the command, the table, and what follows */
+    int count;
+    unsigned given; /* kinds of options */
+    bool help, version;
+    uint64_t cut;
+    struct table_options table;
+    struct load_options load;
+    /* What a command reads from its words. */
+    uint64_t low, high, nodes;
+    struct change change;
+};
+
+struct option {
+    const char *name;
+    const char *form;    /* what it takes, in a word; null for nothing */
+    const char *takes;   /* the same in a message */
+    const char *about;   /* for --help, a line or more */
+    const char *example; /* for --help */
+    unsigned kind;       /* 0 for every command */
+    bool (*read)(struct command_line *l, const char *value);
+};
+
+/* The last one has no name. */
+extern const struct option options[];
+
+/* 0, or an exit status after saying why. */
+int command_line_read(struct command_line *l, int count, char **words);
+
+#endif

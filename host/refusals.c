@@ -1,0 +1,73 @@
+/* The exit statuses in one list: the library's refusal numbers and the program's own. */
+#include "refusals.h"
+
+#include <inttypes.h>
+#include <signal.h>
+#include <stdio.h>
+#include <string.h>
+
+#include "catalogue.h"
+#include "text.h"
+
+const struct refusal refusals[] = {
+    {CATALOGUE_NO_CODE, "no code", "not a code, which has two letters, three letters or digits and seven digits, as AA-000-19-12345"},
+    {CATALOGUE_NO_TABLE, "no table", "{table} is not a table: its header or its length is wrong"},
+    {CATALOGUE_SEARCH_LOST, "damaged on a search's way",
+     "{table} is damaged on the way to {code}: a node number, a level or a sibling is wrong"},
+    {CATALOGUE_NOT_SOUND, "not sound",
+     "{table} is not sound: a failing disk, another program, or a power cut during --fast or on a disk that does not keep what it was told "
+     "to keep has damaged it; find still answers where its way is whole"},
+    {CATALOGUE_SHORT_LIST, "order list too short", "the order list is too short"},
+    {CATALOGUE_BAD_RECORDING, "recording 0 or too large", "{recording}: " RECORDINGS},
+    {CATALOGUE_KEY_PRESENT, "code there already", "{code} is in {table} already"},
+    {CATALOGUE_RECORDING_PRESENT, "recording there already", "recording {recording} is in {table} under another code"},
+    {CATALOGUE_KEY_ABSENT, "code to remove absent", "{code} is not in {table}"},
+    {CATALOGUE_NO_NODES, "no free nodes",
+     "{table} is full: adding {code} takes more nodes than are free; catalogue copy {table} NEW NODES makes a larger table"},
+    {CATALOGUE_TOO_HIGH, "tree too high", "{table} is full: its tree has 16 levels and adding {code} would take one more"},
+    {CATALOGUE_PARENT_FULL, "no room for a repair", "{table} cannot be repaired: the node where a slot is missing is full"},
+    {CATALOGUE_BAD_ORDERS, "order outside the table", "an order lies outside of {table}"},
+    {BAD_USAGE, "wrong command line", NULL},
+    {BAD_LINE, "wrong line in a file to load", NULL},
+    {BAD_FILE, "a file cannot be read or written, or another program uses it or changed it", NULL},
+    {BY_SIGNAL + SIGINT, "load ended by an interrupt", NULL},
+    {BY_SIGNAL + SIGTERM, "load ended by a request to terminate", NULL},
+    {CATALOGUE_ABSENT, "code to find absent", "{code} is not in {table}"},
+    {0, NULL, NULL},
+};
+
+static const char *message_of(uint64_t number)
+{
+    const struct refusal *r = refusals;
+    while (r->name && r->number != number)
+        r++;
+    return r->message;
+}
+
+const char *explain(uint64_t number, const char *table, uint64_t key, uint64_t recording, char text[EXPLANATION])
+{
+    char code[KEY_TEXT], digits[KEY_TEXT];
+    snprintf(digits, sizeof digits, "%" PRIu64, recording);
+    const struct {
+        const char *name, *value;
+    } fields[] = {{"{table}", table}, {"{code}", key_text(key, code)}, {"{recording}", digits}};
+    const char *from = message_of(number);
+    if (!from) {
+        snprintf(text, EXPLANATION, "refused with the number %" PRIu64, number);
+        return text;
+    }
+    size_t used = 0;
+    while (*from && used < EXPLANATION - 1) {
+        size_t taken = 1;
+        text[used] = *from;
+        text[used + 1] = '\0';
+        for (size_t i = 0; i < sizeof fields / sizeof fields[0]; i++)
+            if (strncmp(from, fields[i].name, strlen(fields[i].name)) == 0) {
+                taken = strlen(fields[i].name);
+                snprintf(text + used, EXPLANATION - used, "%s", fields[i].value);
+            }
+        used += strlen(text + used);
+        from += taken;
+    }
+    return text;
+}

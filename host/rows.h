@@ -1,0 +1,39 @@
+/* The lines `code,recording` of a file, as people and spreadsheets write them. */
+#ifndef ROWS_H
+#define ROWS_H
+
+#include <stdbool.h>
+#include <stdint.h>
+#include <stdio.h>
+
+/* Longer than any line of that form that people write. */
+#define ROW_ROOM 256
+
+struct rows {
+    FILE *in;
+    uint64_t number; /* of the last line read, from 1 */
+    bool begun;      /* a line that is not empty was read: the next one is no header */
+    /* The last line, without its end; one that is too long lacks the rest. */
+    char text[ROW_ROOM];
+    size_t length;
+    bool too_long;
+};
+
+/* Number of lines to come, where the file can be gone through twice; else 0. */
+uint64_t rows_count(FILE *in);
+
+/* The next line; false at the end of the file. */
+bool rows_next(struct rows *r);
+
+enum { ROW_PASSED = -1 };
+
+/* The last line's code and recording: 0, the refusal number 1, BAD_LINE, or ROW_PASSED for an empty line or a header. */
+int rows_read(struct rows *r, uint64_t *key, uint64_t *recording);
+
+/* Room for rows_text. */
+#define ROW_TEXT 64
+
+/* The last line as a message shows it: its beginning, without control characters; the text given is filled and returned. */
+const char *rows_text(const struct rows *r, char text[ROW_TEXT]);
+
+#endif

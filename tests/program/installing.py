@@ -1,0 +1,77 @@
+"""make install, and what the Makefile builds again."""
+import os
+import re
+import subprocess
+import sys
+
+from commands import HOST
+from drive import *
+
+EXAMPLE = r"""
+#include <stdio.h>
+#include "catalogue.h"
+int main(void)
+{
+    uint64_t table[8 + 32 * 2], orders[CATALOGUE_LIST_WORDS], key, recording, stores, flushes;
+    size_t words = sizeof table / sizeof table[0];
+    if (catalogue_make(table, words) != 0 || catalogue_parse((const uint8_t *)"AA0001912345", 12, &key) != 0
+        || catalogue_insert(table, words, orders, CATALOGUE_LIST_WORDS, key, 7, &stores, &flushes) != 0
+        || catalogue_search(table, words, key, &recording) != 0)
+        return 1;
+    printf("%d\n", (int)recording);
+}
+"""
+
+
+def make(*words):
+    run = subprocess.run(["make", "--no-print-directory", "-C", HOST, *sys.argv[3:], *words], text=True, capture_output=True)
+    assert run.returncode == 0, run.stderr
+    return run.stdout
+
+
+def installed(program, folder):
+    """Each file under its place; a C program is built with what the pkg-config file says, and the manual page is one."""
+    make("install", f"PREFIX={folder}/usr")
+    place = f"{folder}/usr"
+    files = {os.path.relpath(os.path.join(at, f), place) for at, _, names in os.walk(place) for f in names}
+    assert files == {"bin/catalogue", "include/catalogue.h", "lib/libcatalogue.a", "lib/pkgconfig/catalogue.pc",
+                     "share/man/man1/catalogue.1"}, files
+    version = program.done("--version")
+    assert Program([f"{place}/bin/catalogue"], "installed", True).done("--version") == version
+    with open(f"{place}/share/man/man1/catalogue.1") as f:
+        page = f.read()
+    assert version.strip() in page and "@" not in page, page[:200]
+    with open(f"{place}/lib/pkgconfig/catalogue.pc") as f:
+        described = f.read()
+    assert f"Version: {version.split()[1]}\n" in described and "@" not in described, described
+    values = {"prefix": place, "libdir": f"{place}/lib", "includedir": f"{place}/include"}
+    named = dict(line.split(": ", 1) for line in described.splitlines() if ": " in line)
+    libs, cflags = (re.sub(r"\$\{(\w+)\}", lambda m: values[m[1]], named[which]).split() for which in ("Libs", "Cflags"))
+    source, built = f"{folder}/use.c", f"{folder}/use"
+    with open(source, "w") as f:
+        f.write(EXAMPLE)
+    subprocess.run(["gcc", *cflags, source, *libs, "-o", built], check=True)
+    assert subprocess.run([built], text=True, capture_output=True, check=True).stdout == "7\n"
+
+
+def installed_below_another_root(program, folder):
+    make("install", "PREFIX=/usr", f"DESTDIR={folder}/root")
+    with open(f"{folder}/root/usr/lib/pkgconfig/catalogue.pc") as f:
+        assert f.read().startswith("prefix=/usr\n")
+
+
+def an_edited_crate_is_built_again(program, folder):
+    """As make sees it, where a file of a crate is newer than the library."""
+    if any(word.startswith("LIBRARY=") for word in sys.argv[3:]):
+        return "not with another library"
+    assert "rt staticlib" not in make("-n")
+    for path in ("search/src/lib.rt", "model/specs/Search.antt", "search/proofs"):
+        path = os.path.join("..", "crates", path)
+        if os.path.isdir(os.path.join(HOST, path)):
+            path = next(os.path.join(at, f) for at, _, names in os.walk(os.path.join(HOST, path)) for f in names)
+            path = os.path.relpath(path, HOST)
+        assert "rt staticlib" in make("-n", "-W", path), path
+    return None
+
+
+TESTS = [installed, installed_below_another_root, an_edited_crate_is_built_again]

@@ -1,0 +1,278 @@
+"""Loading: the forms of a line, bad lines, standard input, progress, signals; and tables of other sizes."""
+import itertools
+import os
+import pty
+import re
+import shutil
+import signal
+import subprocess
+import time
+
+from commands import HUNDRED
+from drive import *
+
+FORM = "not of the form code,recording; a recording is .*"
+
+
+def write(path, text, encoding="utf-8"):
+    with open(path, "w", newline="", encoding=encoding) as f:
+        f.write(text)
+
+
+def stops(program, t, csv, status, told, text, added):
+    """Bad lines are told with number and text; the lines before the first are in the table, none after it."""
+    write(csv, text)
+    got, out, err = program("load", t, csv)
+    count = f"{len(told)} bad line{'s' if len(told) > 1 else ''}"
+    assert (got, out) == (status, f"{added} added, 0 there already, {count}\n"), (text, got, out, err)
+    lines = err.splitlines()
+    for line, (number, shown, why) in zip(lines, told):
+        assert re.fullmatch(f'catalogue: {csv}, line {number}, "{re.escape(shown)}": {why}', line), (line, number, shown, why)
+    last = f"catalogue: {csv}: {count}; nothing was loaded from line {told[0][0]} on .--keep-going loads the good lines."
+    assert len(lines) == len(told) + 1 and re.fullmatch(last, lines[-1]), err
+
+
+def bad_lines(program, folder):
+    t, csv = f"{folder}/t", f"{folder}/csv"
+    program.done("make", t, 3)
+
+    def one(status, number, shown, why, text, added):
+        stops(program, t, csv, status, [(number, shown, why)], text, added)
+
+    one(BAD_LINE, 1, code(5), FORM, f"{code(5)}\n", 0)
+    one(BAD_LINE, 1, f"{code(5)},", FORM, f"{code(5)},\n", 0)
+    one(BAD_LINE, 1, f"{code(5)},x", FORM, f"{code(5)},x\n", 0)
+    one(BAD_LINE, 1, f"{code(5)},5,6", FORM, f"{code(5)},5,6\n", 0)
+    one(BAD_LINE, 1, f"{code(5)},5?", FORM, f"{code(5)},5\0\n", 0)
+    one(BAD_LINE, 1, f"{code(5)},{2**64}", FORM, f"{code(5)},{2**64}\n", 0)
+    one(BAD_LINE, 2, 61 * "x" + "..", FORM, f"{code(5)},5\n" + 5000 * "x", 1)
+    one(BAD_LINE, 1, f"{code(9)},{48 * ' '}..", FORM, f"{code(9)},{241 * ' '}12345\n", 0)
+    one(BAD_LINE, 2, "code,recording", FORM, f"{code(1)},1\ncode,recording\n", 1)
+    one(NO_CODE, 1, "AA00019,6", "not a code, .*", "AA00019,6\n", 0)
+    one(BAD_RECORDING, 2, f"{code(7)},0", "0: a recording is .*", f"{code(6)},6\n{code(7)},0\n{code(8)},8\n", 1)
+    one(RECORDING_THERE, 1, f"{code(7)},6", "recording 6 is in .*", f"{code(7)},6\n", 0)
+    one(CODE_THERE, 1, f"{code(6)},7", f"{code(6)} is in .* already", f"{code(6)},7\n", 0)
+    there = "already with this recording .--again passes over such lines."
+    one(CODE_THERE, 2, f"{code(6)},6", f".* {there}", f"{code(7)},7\n{code(6)},6\n{code(8)},8\n", 1)
+    assert program.done("load", t, csv, "--again") == "1 added, 2 there already\n"
+    # Every bad line is told, the first status is the exit status.
+    some = [(2, "x", FORM), (4, "AA1,4", "not a code, .*"), (5, ",", FORM)]
+    stops(program, t, csv, BAD_LINE, some, f"{code(2)},2\nx\n{code(3)},3\nAA1,4\n,\n{code(4)},4\n", 1)
+    program.refuses(BAD_FILE, "cannot be opened", "load", t, f"{folder}/none")
+    before = contents(t)
+    status, _, err = program("load", t, folder)
+    assert status == BAD_FILE and "cannot be read" in err and contents(t) == before, err
+
+
+def many_bad_lines(program, folder):
+    """Twenty are shown, all are counted; --keep-going loads the rest."""
+    t, csv = f"{folder}/t", f"{folder}/csv"
+    program.done("make", t, 30)
+    write(csv, "".join(f"{code(i)},{i if i % 2 else 'x'}\n" for i in range(1, 51)))
+    status, out, err = program("load", t, csv)
+    assert (status, out) == (BAD_LINE, "1 added, 0 there already, 25 bad lines\n"), (status, out)
+    assert err.count(": not of the form") == 20 and "line 40, " in err and "line 42, " not in err, err
+    assert err.endswith(f"{csv}: 25 bad lines, the first 20 shown; nothing was loaded from line 2 on (--keep-going loads the good lines)\n")
+    status, out, err = program("load", t, csv, "--keep-going", "--again")
+    assert (status, out) == (BAD_LINE, "24 added, 1 there already, 25 bad lines\n"), (status, out)
+    assert err.count("\n") == 21 and err.endswith(": 25 bad lines, the first 20 shown\n"), err
+    assert listed(program.done("list", t)) == [(code(i), i) for i in range(1, 51, 2)]
+    # Refusals of single lines are bad lines too; a full table ends the load all the same.
+    write(csv, f"{code(1)},9\n{code(60)},0\n{code(61)},3\nAA,1\n{code(62)},62\n")
+    status, out, err = program("load", t, csv, "--keep-going")
+    assert (status, out) == (CODE_THERE, "1 added, 0 there already, 4 bad lines\n") and err.count("\n") == 4, (status, out, err)
+    program.done("make", f"{folder}/u", 1)
+    write(csv, "x\n" + "".join(f"{code(i)},{i}\n" for i in range(1, 30)))
+    status, out, err = program("load", f"{folder}/u", csv, "--keep-going")
+    assert (status, out) == (NO_NODES, "11 added, 0 there already, 1 bad line\n"), (status, out)
+    assert err.endswith(f"catalogue: {csv}: stopped before line 13; what came before is kept\n") and "is full" in err, err
+
+
+def lines_as_people_write_them(program, folder):
+    t, csv = f"{folder}/t", f"{folder}/csv"
+    rows = [f"{code(1)},1", " AA-000-19-00002 , 2 ", f"{code(3)},003", f'"{code(4)}","4"', f'"aa-000-19-00005",5', f'{code(6)}," 6 "', "",
+            "  ", f"\taa 000 19 00007\t,\t7\t", "#5,8"]
+    want = [("#5", 8)] + [(code(i), i) for i in range(1, 8)]
+    heads = ("", "code,recording\n", "ISRC,Recording\n", '\n"ISRC code","Recording number"\n')
+    files = list(itertools.product(heads, ("utf-8", "utf-8-sig"), ("\n", "\r\n"), (True, False)))
+    for head, encoding, end, ended in files if program.quick else files[::5]:
+        write(csv, head.replace("\n", end) + end.join(rows) + (end if ended else ""), encoding)
+        program.done("make", t, 3)
+        assert program.done("load", t, csv) == "8 added, 0 there already\n"
+        assert listed(program.done("list", t)) == want
+        os.remove(t)
+    program.done("make", t, 3)
+    for text in ("", "\n\r\n", "code,recording\n", "\ufeff"):
+        write(csv, text)
+        assert program.done("load", t, csv) == "0 added, 0 there already\n"
+
+
+def lines_from_standard_input(program, folder):
+    t = f"{folder}/t"
+    program.done("make", t, 40)
+    with open(HUNDRED) as lines:
+        run = program.start("load", t, "-", stdin=lines, stdout=subprocess.PIPE, stderr=subprocess.PIPE)
+        assert run.communicate(timeout=120) == ("100 added, 0 there already\n", "")
+    run = program.start("load", t, "-", stdin=subprocess.PIPE, stdout=subprocess.PIPE, stderr=subprocess.PIPE)
+    out, err = run.communicate(f"{code(1)},1\nx\n", timeout=120)
+    assert run.returncode == BAD_LINE and out == "1 added, 0 there already, 1 bad line\n", (run.returncode, out)
+    assert err.startswith('catalogue: standard input, line 2, "x": not of the form'), err
+
+
+def acknowledging(program, folder):
+    t = f"{folder}/t"
+    program.done("make", t, 40)
+    with open(HUNDRED) as f:
+        lines = f.read()
+    assert program.done("load", t, HUNDRED, "--each") == lines + "100 added, 0 there already\n"
+    assert program.done("list", t) == lines
+    assert program.done("load", t, HUNDRED, "--each", "--again") == lines + "0 added, 100 there already\n"
+
+
+def passing_over_what_is_there(program, folder):
+    """--again looks a code up before it tries to add it: lines that are there need no sound table, and another recording is still told."""
+    t, csv = f"{folder}/t", f"{folder}/csv"
+    fill(program, t, 9, [(code(i), i) for i in range(1, 30)])
+    write(csv, "".join(f"{code(i)},{i}\n" for i in range(1, 30)) + f"{code(5)},6\n")
+    status, out, err = program("load", t, csv, "--again")
+    assert (status, out) == (CODE_THERE, "0 added, 29 there already, 1 bad line\n"), (status, out, err)
+    write(csv, f"{code(1)},1\n")
+    words = read_words(t)
+    words[8 + 32 * (words[1] - 1) + 4] = 1
+    write_words(t, words)
+    assert program.done("load", t, csv, "--again") == "0 added, 1 there already\n"
+    write(csv, f"{code(50)},50\n")
+    status, out, err = program("load", t, csv, "--again")
+    assert status == NOT_SOUND and "is not sound" in err and "stopped before line 1" in err and out == "0 added, 0 there already\n", err
+
+
+def progress_on_a_terminal(program, folder):
+    t = f"{folder}/t"
+    program.done("make", t, 40)
+    ours, theirs = pty.openpty()
+    run = program.start("load", t, HUNDRED, "--pause", 1000, stdout=subprocess.PIPE, stderr=theirs, stdin=subprocess.DEVNULL)
+    os.close(theirs)
+    drawn = ""
+    try:
+        while part := os.read(ours, 65536):
+            drawn += part.decode()
+    except OSError:
+        pass  # the terminal's other end is closed
+    os.close(ours)
+    out, _ = run.communicate(timeout=120)
+    assert run.returncode == 0 and out == "100 added, 0 there already\n", (run.returncode, out)
+    assert drawn.startswith("1 of 100 lines, ") and drawn.endswith("\r\033[K"), drawn
+    some = drawn.split("\r")[1:-1]
+    assert some and all(re.fullmatch(r"\d+ of 100 lines, \d+(\.\d)? a second(, \d+ s left)?\033\[K", d) for d in some), drawn
+
+
+def progress_elsewhere(program, folder):
+    """A line every ten seconds, with what is known: of a pipe not how many lines there are."""
+    t = f"{folder}/t"
+    program.done("make", t, 40)
+    shutil.copy(t, t + "2")
+    began = time.monotonic()
+    how = {"stdin": subprocess.PIPE, "stdout": subprocess.PIPE, "stderr": subprocess.PIPE}
+    runs = [program.start("load", *words, "--pause", 250000, **how) for words in ((t, HUNDRED), (t + "2", "-"))]
+    with open(HUNDRED) as f:
+        runs[1].stdin.write(f.read())
+        runs[1].stdin.flush()
+    for run, all_of_them in zip(runs, (" of 100", "")):
+        line = run.stderr.readline()
+        name = "standard input" if run == runs[1] else HUNDRED
+        left = r", \d+ (s|min) left" if all_of_them else ""
+        assert re.fullmatch(rf"catalogue: {name}: \d+{all_of_them} lines, \d+\.\d a second{left}\n", line), line
+        assert 9.5 < time.monotonic() - began < 30
+        run.send_signal(signal.SIGTERM)
+    for run in runs:
+        run.communicate(timeout=120)
+        assert run.returncode == 128 + signal.SIGTERM
+
+
+def ended_by_a_signal(program, folder):
+    """Between two changes, with a closing line; also while it waits for a line."""
+    t, csv = f"{folder}/t", f"{folder}/csv"
+    for number in (signal.SIGINT, signal.SIGTERM):
+        for waiting in (False, True):
+            program.done("make", t, 40)
+            if waiting:
+                run = program.start("load", t, "-", "--each", stdin=subprocess.PIPE, stdout=subprocess.PIPE, stderr=subprocess.PIPE)
+                run.stdin.write(f"{code(1)},1\n{code(2)},2\n")
+                run.stdin.flush()
+            else:
+                run = program.start("load", t, HUNDRED, "--each", "--pause", 20000, stdout=subprocess.PIPE, stderr=subprocess.PIPE)
+            first = run.stdout.readline() + run.stdout.readline()
+            # It waits for the third line, or is in the midst of its orders.
+            time.sleep(0.05)
+            run.send_signal(number)
+            run.wait(timeout=60)
+            lines, err = (first + run.stdout.read()).splitlines(), run.stderr.read()
+            assert run.returncode == 128 + number and lines[-1] == f"{len(lines) - 1} added, 0 there already", (run.returncode, lines)
+            assert re.fullmatch(f"catalogue: .*: ended by a signal after line {len(lines) - 1}; what came before is kept\n", err), err
+            assert "settled" in program.done("check", t)
+            assert listed(program.done("list", t)) == sorted(listed("\n".join(lines[:-1])))
+            run.stdout.close(), run.stderr.close(), run.stdin and run.stdin.close()
+            os.remove(t)
+    # A signal that the caller has the program ignore is ignored.
+    program.done("make", t, 40)
+    run = program.start("load", t, "-", "--each", stdin=subprocess.PIPE, stdout=subprocess.PIPE, stderr=subprocess.PIPE,
+                        preexec_fn=lambda: signal.signal(signal.SIGINT, signal.SIG_IGN))
+    run.stdin.write(f"{code(1)},1\n")
+    run.stdin.flush()
+    run.stdout.readline()
+    run.send_signal(signal.SIGINT)
+    out, _ = run.communicate(f"{code(2)},2\n", timeout=60)
+    assert run.returncode == 0 and out == f"{code(2)},2\n2 added, 0 there already\n", (run.returncode, out)
+
+
+def what_list_prints_loads_back(program, folder):
+    """Sorted input, keys without a code and all, at the advised four codes a node; also the other way round."""
+    t, u, csv = f"{folder}/t", f"{folder}/u", f"{folder}/csv"
+    count = 800
+    pairs = [(f"#{i}", 5000 + i) for i in range(1, 40)] + [(code(i), 1 + i) for i in range(count - 39)]
+    for order in (pairs, pairs[::-1]):
+        fill(program, t, count // 4, order)
+        write(csv, program.done("list", t))
+        program.done("make", u, count // 4)
+        assert program.done("load", u, csv) == f"{count} added, 0 there already\n"
+        assert program.done("list", u) == contents(csv).decode()
+        os.remove(t), os.remove(u)
+
+
+def larger_copies(program, folder):
+    """A leftover is finished in the copy, the table itself stays as it is."""
+    t, u = f"{folder}/t", f"{folder}/u"
+    fill(program, t, 3, [(code(10 * i), 100 + i) for i in range(1, 12)])
+    linked = 1 + orders_of(program.done("orders", t, "add", code(115), 112)).index((9, 3))
+    program.done("add", t, code(115), 112, "--cut", linked)
+    before = contents(t)
+    assert program.done("copy", t, u, 9) == f"made {u} with 9 nodes\n" and contents(t) == before
+    assert program.done("check", u) == f"{u} is settled: 11 codes in 3 of 9 nodes\n"
+    assert program.done("list", u) == program.done("list", t)
+
+
+def copies_of_all_sorts(program, folder):
+    t, u, csv = f"{folder}/t", f"{folder}/u", f"{folder}/csv"
+    fill(program, t, 1, [(code(10 * i), 100 + i) for i in range(1, 12)])
+    program.refuses(BAD_USAGE, "1 to 65535 nodes", "copy", t, u, "many")
+    program.refuses(NO_TABLE, "1 to 65535 nodes, not 65536", "copy", t, u, 65536)
+    program.refuses(BAD_FILE, "exists already and stays", "copy", t, t, 5)
+    program.refuses(BAD_FILE, "there is no file", "copy", f"{folder}/none", u, 5)
+    assert not os.path.exists(u)
+    # A full table: its copy takes more codes, and has no smaller copy.
+    program.refuses(NO_NODES, "catalogue copy", "add", t, code(5), 5)
+    program.done("copy", t, u, 40)
+    write(csv, "".join(f"{code(i)},{i}\n" for i in range(1, 60) if i % 10))
+    program.done("load", u, csv)
+    assert listed(program.done("list", u))[:3] == [(code(1), 1), (code(2), 2), (code(3), 3)]
+    program.refuses(BAD_USAGE, "has 40 nodes; a copy has as many or more", "copy", u, f"{folder}/v", 39)
+    program.done("copy", u, f"{folder}/same", 40)
+    assert contents(f"{folder}/same") == contents(u)
+    words = read_words(u)
+    words[8 + 4] = 1
+    write_words(u, words)
+    program.refuses(NOT_SOUND, "is not sound", "copy", u, f"{folder}/v", 50)
+
+
+TESTS = [bad_lines, many_bad_lines, lines_as_people_write_them, lines_from_standard_input, acknowledging, passing_over_what_is_there,
+         progress_on_a_terminal, ended_by_a_signal, what_list_prints_loads_back, larger_copies, copies_of_all_sorts]

@@ -1,0 +1,209 @@
+"""What an ordinary disk may hold after a power cut. The system writes the pages of a mapped file back whenever it likes and in any order;
+only a sync makes sure of some. Between any two syncs of the program every mix of old and new pages must be a sound table with the map
+before the change or after it, and must have all that was acknowledged."""
+import itertools
+import os
+import random
+import shutil
+import subprocess
+from mmap import PAGESIZE as PAGE
+
+from drive import *
+
+MIXES = 32
+SYNCS = os.environ.get("SYNCS_LIBRARY", "")
+
+
+def preloaded(program, folder, *words, **environment):
+    """Runs a command with its syncs written down: the exit status, what it printed, and its messages."""
+    printed = f"{folder}/printed"
+    with open(printed, "w") as out:
+        environment = dict(program.environment, SYNCS=f"{folder}/syncs", LD_PRELOAD=SYNCS, **environment)
+        run = subprocess.Popen(program.command + [str(w) for w in words], env=environment, stdout=out, stderr=subprocess.PIPE, text=True)
+        err = run.communicate(timeout=120)[1]
+    return run.returncode, contents(printed).decode(), err
+
+
+def recorded(program, folder, *words):
+    """Runs a command that succeeds; the syncs that it made, in order: the words of each, and for an msync what the file held."""
+    status, printed, err = preloaded(program, folder, *words)
+    assert status == 0, (words, status, err)
+    found, log = [], f"{folder}/syncs"
+    with open(log, "rb") as f:
+        for line in f:
+            call = line.decode().split()
+            image = f.read(int(call[4])) if call[0] == "msync" else None
+            found.append((call, image))
+    os.remove(log)
+    return found, printed
+
+
+class Disk:
+    """A file's pages, each with the contents that it may have on the disk, oldest first."""
+
+    def __init__(self, data):
+        self.pages = [[data[i:i + PAGE]] for i in range(0, len(data), PAGE)]
+
+    def written(self, data):
+        """The program has stored this; any page of it may be on its way."""
+        for i, versions in enumerate(self.pages):
+            page = data[PAGE * i:PAGE * i + PAGE]
+            if page != versions[-1]:
+                versions.append(page)
+
+    def synced(self, start, length):
+        for i in range(start // PAGE, min(-(-(start + length) // PAGE), len(self.pages))):
+            del self.pages[i][:-1]
+
+    def mixes(self, chance):
+        """Every mix, or some at random."""
+        count = 1
+        for versions in self.pages:
+            count *= len(versions)
+        if count <= MIXES:
+            return [b"".join(mix) for mix in itertools.product(*self.pages)]
+        return [b"".join(chance.choice(versions) for versions in self.pages) for _ in range(MIXES)]
+
+
+class Judge:
+    """The map of each mix, as the program lists it; None where it is not sound."""
+
+    def __init__(self, program, folder):
+        self.program, self.path, self.known = program, f"{folder}/mix", {}
+
+    def map_of(self, mix):
+        if mix not in self.known:
+            with open(self.path, "wb") as f:
+                f.write(mix)
+            status, out, err = self.program("list", self.path)
+            assert status in (0, NOT_SOUND, NO_TABLE), (status, err)
+            self.known[mix] = dict(listed(out)) if status == 0 else None
+        return self.known[mix]
+
+
+def full_leaves(program, t, leaves, nodes):
+    """A table of several pages in which nearly every addition splits a leaf: rising codes leave five to a leaf, six more fill it. Codes and
+    free nodes lie on pages far from each other."""
+    rising = [30 * leaf + 6 * i for leaf in range(leaves) for i in range(5)]
+    between = [30 * leaf + i for leaf in range(leaves) for i in (1, 2, 3, 4, 5, 7)]
+    random.Random(7).shuffle(between)
+    fill(program, t, nodes, [(code(i), 1 + i) for i in rising + between])
+    return dict(listed(program.done("list", t)))
+
+
+def cut_between_syncs(program, folder, t, before, after, command, chance):
+    """The mixes of pages that a cut in the midst of a change may leave, and those whose map is neither the one before nor the one after."""
+    judge, disk, mixes, wrong = Judge(program, folder), Disk(contents(t)), set(), set()
+    syncs, _ = recorded(program, folder, *command)
+    for call, image in [s for s in syncs if s[0][0] == "msync"]:
+        disk.written(image)
+        here = disk.mixes(chance)
+        mixes.update(here)
+        wrong.update(m for m in here if judge.map_of(m) not in (before, after))
+        disk.synced(int(call[1]), int(call[2]))
+    # The program has answered: the change is on the disk.
+    disk.written(contents(t))
+    last = disk.mixes(chance)
+    wrong.update(m for m in last if judge.map_of(m) != after)
+    return mixes | set(last), wrong
+
+
+def some_changes(program, folder, count, *options):
+    """Additions and deletions one after another: how many changes, mixes, and mixes that a power cut must not leave."""
+    chance, t = random.Random(20261116), f"{folder}/t"
+    now = full_leaves(program, t, 60, 300)
+    seen = wrong = 0
+    for i in range(count):
+        if i % 3 == 2:
+            c = chance.choice(list(now))
+            after = {k: r for k, r in now.items() if k != c}
+            command = ["remove", t, c]
+        else:
+            c = chance.choice([code(k) for k in range(1800) if code(k) not in now])
+            after = dict(now, **{c: 10000 + i})
+            command = ["add", t, c, after[c]]
+        mixes, bad = cut_between_syncs(program, folder, t, now, after, command + list(options), chance)
+        seen, wrong, now = seen + len(mixes), wrong + len(bad), after
+    assert dict(listed(program.done("list", t))) == now
+    return f"{count} changes, {seen} mixes of pages", wrong
+
+
+def any_mix_of_pages(program, folder):
+    said, wrong = some_changes(program, folder, 150)
+    assert wrong == 0, f"{said}, {wrong} of them not sound, or without what was acknowledged"
+    return said
+
+
+def mixes_with_fast(program, folder):
+    """What --fast risks is there, and the test sees it."""
+    said, wrong = some_changes(program, folder, 30, "--fast")
+    assert wrong > 0, said
+    return f"{said}, {wrong} of them not sound"
+
+
+def a_load_and_its_acknowledgements(program, folder):
+    """Each line that a load has printed by a sync is in every mix of pages there, and at most the one under way beside them."""
+    chance, t, csv = random.Random(5), f"{folder}/t", f"{folder}/csv"
+    have = full_leaves(program, t, 30, 200)
+    lines = [(code(30 * leaf + 13 + i), 10000 + 30 * leaf + i) for leaf in range(30) for i in range(3)]
+    chance.shuffle(lines)
+    with open(csv, "w") as f:
+        f.writelines(f"{c},{r}\n" for c, r in lines)
+    judge, disk, seen = Judge(program, folder), Disk(contents(t)), 0
+    syncs, printed = recorded(program, folder, "load", t, csv, "--each")
+    for call, image in syncs:
+        done = printed[:int(call[3])].count("\n")
+        some = dict(have, **dict(lines[:done]))
+        disk.written(image)
+        for mix in disk.mixes(chance):
+            assert judge.map_of(mix) in (some, dict(some, **dict(lines[done:done + 1]))), (done, call)
+            seen += 1
+        disk.synced(int(call[1]), int(call[2]))
+    disk.written(contents(t))
+    assert [judge.map_of(m) for m in disk.mixes(chance)] == [dict(have, **dict(lines))]
+    return f"{len(syncs)} syncs, {seen} mixes"
+
+
+def what_a_killed_program_left(program, folder):
+    """Before its first store a change waits for all that is on its way to the disk, whoever stored it."""
+    t = f"{folder}/t"
+    full_leaves(program, t, 30, 200)
+    for command in (["add", t, code(8), 9000], ["remove", t, code(5)], ["repair", t]):
+        before = contents(t)
+        call, image = recorded(program, folder, *command)[0][0]
+        assert call[:2] == ["msync", "0"] and int(call[2]) >= len(before) and image == before, call
+
+
+def a_disk_that_fails(program, folder):
+    """A sync that fails ends the change where it is, with a message and no answer; the table is sound, and the next change goes on."""
+    t, u = f"{folder}/t", f"{folder}/u"
+    before = full_leaves(program, t, 30, 200)
+    after = dict(before, **{code(8): 9000})
+    shutil.copy(t, u)
+    syncs = len(recorded(program, folder, "add", u, code(8), 9000)[0])
+    for failing in range(1, syncs + 1):
+        shutil.copy(t, u)
+        status, out, err = preloaded(program, folder, "add", u, code(8), 9000, SYNCS_FAIL=str(failing))
+        assert status == BAD_FILE and out == "" and "did not reach the disk: Input/output error" in err, (failing, status, out, err)
+        assert contents(u) == contents(t) if failing == 1 else dict(listed(program.done("list", u))) in (before, after)
+        program.done("repair", u)
+        assert "settled" in program.done("check", u)
+    return f"{syncs} syncs"
+
+
+def a_new_table_is_there_whole(program, folder):
+    """Written under another name, synced, renamed, the folder synced; nothing else stays."""
+    t = f"{folder}/t"
+    for command, name in ((["make", t, 50], t), (["copy", t, f"{t}2", 90], f"{t}2")):
+        calls = [call for call, _ in recorded(program, folder, *command)[0]]
+        other = calls[0][1]
+        assert other.startswith(name + ".") and calls == [["fsync", other], ["rename", other, name], ["fsync", folder]], calls
+    # Where there is no such rename.
+    assert preloaded(program, folder, "make", f"{t}3", 50, SYNCS_NO_RENAME="1")[0] == 0
+    assert contents(f"{t}3") == contents(t)
+    assert preloaded(program, folder, "make", t, 9, SYNCS_NO_RENAME="1")[0] == BAD_FILE
+    assert sorted(os.listdir(folder)) == ["printed", "syncs", "t", "t2", "t3"]
+
+
+TESTS = [any_mix_of_pages, mixes_with_fast, a_load_and_its_acknowledgements, what_a_killed_program_left, a_disk_that_fails,
+         a_new_table_is_there_whole]

@@ -1,0 +1,288 @@
+//! Sentences of document 01 on tables and numbers worked by hand. No answer here is the reference's.
+mod calls;
+mod reference;
+mod tower;
+
+use reference::{Random, MARK};
+use std::fmt::Debug;
+use tower::{tower, Floor};
+
+/// A call gives what it must, or the run ends with the call and the table.
+fn gives<T: PartialEq + Debug>(call: &str, t: &[u64], got: T, want: T) {
+    if got != want {
+        println!("FAILED: {call}: wanted {want:?}, got {got:?}\ntable {t:?}");
+        std::process::exit(1);
+    }
+}
+
+/// Left, sibling, level and fence, and the slots.
+type Words<'a> = ([u64; 4], &'a [(u64, u64)]);
+
+const FREE: Words = ([0; 4], &[]);
+
+/// A table of these nodes, 1, 2 ..
+fn table(root: u64, nodes: &[Words]) -> Vec<u64> {
+    let mut t = vec![1, root, nodes.len() as u64, 0, 0, 0, 0, 0];
+    for (head, slots) in nodes {
+        let mut words = [0; 32];
+        words[..4].copy_from_slice(head);
+        for (i, &(key, pointer)) in slots.iter().enumerate() {
+            words[8 + 2 * i] = key;
+            words[9 + 2 * i] = pointer;
+        }
+        t.extend(words);
+    }
+    t
+}
+
+/// With one word changed.
+fn with(t: &[u64], word: usize, value: u64) -> Vec<u64> {
+    let mut d = t.to_vec();
+    d[word] = value;
+    d
+}
+
+fn finds(t: &[u64], key: u64, recording: u64) {
+    gives(&format!("search for {key}"), t, calls::search(t, key), (0, Some(recording)));
+}
+
+/// A search's number other than 0; the word for the recording stays.
+fn search_gives(t: &[u64], key: u64, number: u64) {
+    gives(&format!("search for {key}"), t, calls::search(t, key), (number, None));
+}
+
+const FULL: [(u64, u64); 11] = [(10, 1), (20, 2), (30, 3), (40, 4), (50, 5), (60, 6), (70, 7), (80, 8), (90, 9), (100, 10), (110, 11)];
+
+/// Nodes of levels `top` down to 0, each the left child of the one before; the leaf has (5, 50).
+fn chain(top: u64) -> Vec<u64> {
+    let pair = [(5, 50)];
+    let nodes: Vec<Words> = (0..=top).map(|i| ([if i == top { MARK } else { i + 2 }, 0, top - i, 0], if i == top { &pair[..] } else { &[] })).collect();
+    table(1, &nodes)
+}
+
+fn root_levels() {
+    let list = [0; 2560];
+    let t = chain(15);
+    finds(&t, 5, 50);
+    search_gives(&t, 6, 255);
+    gives("repair", &t, calls::repair(&t, &list).number, 0);
+    gives("listing", &t, calls::list(&t, 0, MARK, &[7; 4]), (0, [Some(1), Some(0)], vec![5, 50, 7, 7]));
+    let t = chain(16);
+    search_gives(&t, 5, 3);
+    gives("repair", &t, calls::repair(&t, &list).number, 4);
+    gives("listing", &t, calls::list(&t, 0, MARK, &[7; 4]), (4, [None; 2], vec![7; 4]));
+    search_gives(&with(&chain(15), 10, MARK), 5, 3);
+}
+
+/// The root with two leaves; a search refuses with 3 for what it reads and not for the rest.
+fn search_refusals() {
+    // Node 1 begins at word 8, node 2 at 40, node 3 at 72.
+    let t = table(1, &[([2, 0, 1, 0], &[(40, 3)]), ([MARK, 3, 0, 0], &[(10, 100)]), ([MARK, 0, 0, 40], &[(50, 500)]), FREE]);
+    finds(&t, 10, 100);
+    finds(&t, 50, 500);
+    // A node number outside 1 to N: left, a slot's child, a leaf's sibling, the root's sibling.
+    for outside in [0, 5, 1 << 32, MARK] {
+        search_gives(&with(&t, 8, outside), 10, 3);
+        finds(&with(&t, 8, outside), 50, 500);
+    }
+    for outside in [5, MARK] {
+        search_gives(&with(&t, 17, outside), 50, 3);
+        finds(&with(&t, 17, outside), 10, 100);
+        search_gives(&with(&t, 41, outside), 10, 3);
+        finds(&with(&t, 41, outside), 50, 500);
+        search_gives(&with(&t, 9, outside), 10, 3);
+    }
+    // A child not one level down.
+    for level in [1, 2, MARK] {
+        search_gives(&with(&t, 42, level), 10, 3);
+        finds(&with(&t, 42, level), 50, 500);
+    }
+    search_gives(&with(&t, 10, 2), 10, 3);
+    search_gives(&with(&t, 10, 2), 50, 3);
+    // A sibling on another level, moved to or not.
+    let t = table(1, &[([MARK, 2, 0, 0], &[(10, 100)]), ([MARK, 0, 0, 40], &[(50, 500)])]);
+    finds(&t, 10, 100);
+    finds(&t, 50, 500);
+    for level in [1, MARK] {
+        search_gives(&with(&t, 42, level), 10, 3);
+        search_gives(&with(&t, 42, level), 50, 3);
+    }
+    // 2 before 3.
+    search_gives(&with(&with(&t, 42, 1), 3, 1), 10, 2);
+}
+
+fn absent_search() {
+    let t = table(1, &[([MARK, 0, 0, 0], &[(20, 5), (25, 5), (30, 6)])]);
+    finds(&t, 20, 5);
+    finds(&t, 30, 6);
+    for key in [0, 19, 21, 25, 31, MARK] {
+        search_gives(&t, key, 255);
+    }
+}
+
+fn listing_refusals() {
+    let listed = |t: &[u64]| calls::list(t, 0, MARK, &[7; 5]);
+    let t = table(1, &[([MARK, 0, 0, 0], &[(20, 5), (30, 6)])]);
+    gives("listing", &t, listed(&t), (0, [Some(2), Some(0)], vec![20, 5, 30, 6, 7]));
+    // A leaf's left is not MARK: 4. With a wrong header, root or length as well: 2.
+    let bad = with(&t, 8, 1);
+    gives("listing", &bad, listed(&bad), (4, [None; 2], vec![7; 5]));
+    for (word, value) in [(0, 2), (1, 0), (1, 2), (2, 2), (3, 1), (7, 1)] {
+        let worse = with(&bad, word, value);
+        gives("listing", &worse, listed(&worse), (2, [None; 2], vec![7; 5]));
+    }
+    gives("listing", &bad[..39], listed(&bad[..39]), (2, [None; 2], vec![7; 5]));
+}
+
+/// c is at most half the list's length rounded down, and only the first c orders are looked at.
+fn carry_out_counts() {
+    let t = table(1, &[([MARK, 0, 0, 0], &[])]);
+    let list = [39, 7, MARK, 4, 40, 1, MARK, 5, 16];
+    let stored = with(&t, 39, 7);
+    let carried = |words: usize, c: u64| {
+        let (number, after) = calls::carry_out(&t, &list[..words], c);
+        let left = if after == t { "as before" } else if after == stored { "stored" } else { "other words" };
+        (number, left)
+    };
+    // (words of the list, c): what is answered and left. Word 40 and line 5 are outside 40 words.
+    for (words, c, want) in [
+        (0, 0, (0, "as before")),
+        (0, 1, (13, "as before")),
+        (1, 0, (0, "as before")),
+        (1, 1, (13, "as before")),
+        (2, 1, (0, "stored")),
+        (2, 2, (13, "as before")),
+        (3, 1, (0, "stored")),
+        (3, 2, (13, "as before")),
+        (4, 2, (0, "stored")),
+        (5, 2, (0, "stored")),
+        (5, 3, (13, "as before")),
+        (9, 2, (0, "stored")),
+        (9, 3, (13, "as before")),
+        (9, 4, (13, "as before")),
+        (9, 5, (13, "as before")),
+        (9, 1 << 63, (13, "as before")),
+        (9, MARK, (13, "as before")),
+    ] {
+        gives(&format!("carry-out of {c} orders of {:?}", &list[..words]), &t, carried(words, c), want);
+    }
+    gives("carry-out of a flush outside", &t, calls::carry_out(&t, &list[6..], 1), (13, t.clone()));
+    gives("carry-out on no table", &t[..39], calls::carry_out(&t[..39], &list, MARK), (2, t[..39].to_vec()));
+}
+
+/// Fresh nodes are the first unreachable ones after the node being split, going round; for a new root after the old one.
+fn fresh_nodes() {
+    let list = [0; 2560];
+    let leaf: Words = ([MARK, 0, 0, 0], &FULL);
+    // (N, the root leaf that is full): the new root and the leaf's new sibling.
+    for (n, old, root, sibling) in [(3, 1, 2, 3), (4, 1, 2, 3), (4, 2, 3, 4), (4, 3, 4, 1), (4, 4, 1, 2), (3, 3, 1, 2), (6, 5, 6, 1)] {
+        let mut nodes = vec![FREE; n];
+        nodes[old as usize - 1] = leaf;
+        let t = table(old, &nodes);
+        let after = calls::insert(&t, &list, 115, 12);
+        gives("insertion of 115", &t, (after.number, after.counts), (0, [Some(75), Some(13)]));
+        nodes[old as usize - 1] = ([MARK, sibling, 0, 0], &FULL);
+        nodes[root as usize - 1] = ([old, 0, 1, 0], &[]);
+        nodes[sibling as usize - 1] = ([MARK, 0, 0, 60], &[(60, 6), (70, 7), (80, 8), (90, 9), (100, 10), (110, 11), (115, 12)]);
+        let mut want = table(root, &nodes);
+        // Pointer 5 of the old leaf is 0; the new root has the slot (60, sibling).
+        want[8 + 32 * (old as usize - 1) + 19] = 0;
+        want[8 + 32 * (root as usize - 1) + 8] = 60;
+        want[8 + 32 * (root as usize - 1) + 9] = sibling;
+        gives("insertion of 115", &t, after.table, want);
+    }
+    // A leaf below a root with room, in a table of 5: (the leaf, the root): the leaf's new sibling.
+    for (a, root, b) in [(3, 2, 4), (5, 2, 1), (4, 5, 1), (2, 3, 4), (5, 1, 2), (4, 3, 5)] {
+        let mut nodes = [FREE; 5];
+        nodes[a as usize - 1] = leaf;
+        nodes[root as usize - 1] = ([a, 0, 1, 0], &[]);
+        let t = table(root, &nodes);
+        let after = calls::insert(&t, &list, 5, 12);
+        let sibling = after.table[8 + 32 * (a as usize - 1) + 1];
+        gives("insertion of 5", &t, (after.number, after.table[1], sibling), (0, root, b));
+    }
+}
+
+/// All nodes from a root at level 15 down to a leaf are full: 11, however few nodes are free. From level 14, 16 nodes are needed: else 10.
+fn too_high() {
+    let random = &mut Random(20_261_118);
+    for (root, free, number) in [(15, 0, 11), (15, 1, 11), (15, 17, 11), (15, 100, 11), (14, 0, 10), (14, 15, 10), (14, 16, 0), (14, 17, 0)] {
+        let x = tower(&vec![Floor { slots: 11, place: 3 }; root + 1], free, random);
+        let after = calls::insert(&x.t, &[0; 2560], x.key, 1);
+        gives(&format!("insertion of {} into full nodes up to level {root}, {free} free", x.key), &x.t, after.number, number);
+        if number == 0 {
+            let level = after.table[8 + 32 * (after.table[1] as usize - 1) + 2];
+            gives("the new root's level", &x.t, level, 15);
+            finds(&after.table, x.key, 1);
+        } else {
+            gives("a refused insertion", &x.t, (after.counts, after.table == x.t, after.list == [0; 2560]), ([None; 2], true, true));
+        }
+    }
+}
+
+/// N is at most 65,535: 2,097,128 words are a table, 32 more are none.
+fn largest_table() {
+    let words = vec![7; 2_097_160];
+    let (number, t) = calls::make(&words[..2_097_128]);
+    gives("making in 2,097,128 words", &[], (number, &t[..8]), (0, &[1, 1, 65_535, 0, 0, 0, 0, 0]));
+    gives("making in 2,097,128 words", &[], (t[8], t[9..].iter().all(|&w| w == 0)), (MARK, true));
+    let after = calls::insert(&t, &[0; 2560], 5, 50);
+    gives("insertion into 65,535 nodes", &[], (after.number, after.counts), (0, [Some(4), Some(1)]));
+    gives("search in 65,535 nodes", &[], calls::search(&after.table, 5), (0, Some(50)));
+    gives("listing of 65,535 nodes", &[], calls::list(&after.table, 0, MARK, &[7; 3]), (0, [Some(1), Some(0)], vec![5, 50, 7]));
+
+    let (number, same) = calls::make(&words);
+    gives("making in 2,097,160 words", &[], (number, same == words), (2, true));
+    let mut larger = t;
+    larger.extend([0; 32]);
+    larger[2] = 65_536;
+    gives("search in 65,536 nodes", &[], calls::search(&larger, 5), (2, None));
+    gives("listing of 65,536 nodes", &[], calls::list(&larger, 0, MARK, &[7; 2]), (2, [None; 2], vec![7; 2]));
+    gives("repair of 65,536 nodes", &[], calls::repair(&larger, &[0; 2560]).number, 2);
+    gives("carry-out on 65,536 nodes", &[], calls::carry_out(&larger, &[], 0).0, 2);
+}
+
+fn codes() {
+    let printed = |key: u64| {
+        let (number, text) = calls::print(key);
+        (number, String::from_utf8_lossy(&text).into_owned())
+    };
+    let none = "\0".repeat(12);
+    for (key, number, text) in [
+        (172_627_201_912_345, 0, "AA0001912345"),
+        // The lowest code, and the key before it, A9ZZZ9999999.
+        (172_627_200_000_000, 0, "AA0000000000"),
+        (172_627_199_999_999, 1, &none),
+        // The highest code, and the keys after it, the first of which would be 100000000000 in base 36 and 10.
+        (604_661_759_999_999, 0, "ZZZZZ9999999"),
+        (604_661_760_000_000, 1, &none),
+        (604_661_760_000_001, 1, &none),
+        (604_661_760_000_000 + 172_627_201_912_345, 1, &none),
+        (604_661_760_000_000 * 36 + 172_627_201_912_345, 1, &none),
+        (MARK, 1, &none),
+        (0, 1, &none),
+    ] {
+        gives(&format!("printing of {key}"), &[], printed(key), (number, text.to_string()));
+    }
+    gives("reading of 1A0001912345", &[], calls::parse(b"1A0001912345"), (1, None));
+    gives("reading of ZZZZZ9999999", &[], calls::parse(b"ZZZZZ9999999"), (0, Some(604_661_759_999_999)));
+}
+
+fn main() {
+    let vectors: [(&str, fn()); 9] = [
+        ("a root at level 15 is searched, one at 16 refused", root_levels),
+        ("search's 3 in each of its causes", search_refusals),
+        ("an absent search leaves its word", absent_search),
+        ("a listing's 2 before 4", listing_refusals),
+        ("carry-out's c", carry_out_counts),
+        ("fresh nodes after the node being split, going round", fresh_nodes),
+        ("11 before 10", too_high),
+        ("N up to 65,535", largest_table),
+        ("codes up to the last", codes),
+    ];
+    for (name, vector) in vectors {
+        vector();
+        println!("{name}");
+    }
+    println!("{} passed, 0 failed", vectors.len());
+}
