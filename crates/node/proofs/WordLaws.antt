@@ -1,4 +1,4 @@
--- The words of a node are the fields of its record, and its spare words.
+-- The words of a node are the fields of its record.
 use mathlib.Core.Bool.{Bool, true, false, cond, _&&_}
 use mathlib.Core.Path.{_≡_, refl, sym}
 use Prim.Native.Nat.{ℕ, _+_, _<_}
@@ -7,7 +7,7 @@ use native.Mathlib.Omega.{arith}
 use lib.Dec.{ltb, lit<}
 use borrow.Author.Tests.{lt-ltb}
 use Rattle.model.specs.declared.Node.{Node}
-use Rattle.model.specs.Table.{Words, at, nodeStart, hasNode, blank, nodeFrom, node, spare}
+use Rattle.model.specs.Table.{Words, at, nodeStart, hasNode, blank, nodeFrom, node}
 use Rattle.table_laws.proofs.Words.{at-part, at-replicate}
 use Rattle.node.specs.Word.{wordOf}
 
@@ -39,7 +39,3 @@ word-fence t i = word-field (λ n. n .fence) t i 3 (lit< tt) refl refl
 pub word-slot : (t : Words) (i j : ℕ) → j < 24 → wordOf t i (8 + j) ≡ at (node t i .slots) j
 unfolding nodeFrom blank
 word-slot t i j h = word-field (λ n. at (n .slots) j) t i (8 + j) (omega arith) (rw (← add-assoc, at-part)) (at-replicate 24 j)
-
-pub word-spare : (t : Words) (i j : ℕ) → hasNode t i ≡ true → j < 4 → wordOf t i (4 + j) ≡ at (spare t i) j
-unfolding wordOf spare
-word-spare t i j e h = let u : 4 + j < 32 = omega arith in rw (e, lt-ltb (4 + j) 32 u, at-part, add-assoc)

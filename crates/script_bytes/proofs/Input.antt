@@ -5,8 +5,7 @@ use mathlib.Core.List.{List, [], _∷_, _++_, append-nil, append-assoc}
 use Prim.Native.Nat.{ℕ, suc, _+_, _*_, _≤_, _<_}
 use native.Mathlib.Omega.{arith}
 use lib.Dec.{eqb, ltb, leb}
-use lib.ListN.{length, getD, take, drop}
-use lib.Seq.{drop-cons}
+use lib.ListN.{length, take}
 use borrow.Author.Tests.{eqb-true}
 use Rattle.model.specs.declared.Parsed.{Parsed}
 use Rattle.model.specs.declared.Parsed.the-variants as parsed
@@ -141,11 +140,6 @@ module _ {A : Type 0} (act : Request → A → A) where
   bytes-append x [] ys = refl
   bytes-append x (b ∷ xs) ys = bytes-append (readByte act x b) xs ys
 
-  pub bytes-at : (x : Reading A) (input : Bytes) (i : ℕ) → i < length input
-      → readBytes act x (drop i input) ≡ readBytes act (readByte act x (getD input i 0)) (drop (suc i) input)
-  unfolding readBytes
-  bytes-at x input i h = rw (drop-cons input i 0 h)
-
   -- The first line of a piece, or all of it where it has no line feed.
   pub line-done : (s : LineState) (a : A) (bs : Bytes) → readBytes act (reading s a) (take ((lineIn s bs) .used) bs) ≡ lineDone act (lineIn s bs) a
   unfolding readBytes lineIn lineDone
@@ -192,10 +186,6 @@ unfolding doForm doRequest
 form-asked (plus code r) d = asked-key (parse code) r d
 form-asked (minus code) d = asked-gone (parse code) d
 form-asked other d = refl
-
-pub line-asked : (l : Bytes) (d : Desk) → doLine l d ≡ doRequest (request (after begin l)) d
-unfolding doLine
-line-asked l d = form-asked (formOf (fields l)) d ∙ ap (λ (q : Request). doRequest q d) (sym (line-judged l))
 
 carried-lines : (ls : List Bytes) (x : Reply) → (carried printOn ls x) .bytes ≡ x .bytes ++ doLines ls (x .desk)
 unfolding carried printOn doLines doLine

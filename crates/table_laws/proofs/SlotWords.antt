@@ -1,12 +1,11 @@
 -- A node's slot words as slots, one by one.
 use mathlib.Core.Path.{_≡_, refl}
-use mathlib.Core.List.{List, [], _∷_}
+use mathlib.Core.List.{[], _∷_}
 use Prim.Native.Nat.{ℕ, zero, suc, _+_, _*_, _<_, _≤_}
 use native.Mathlib.Omega.{arith}
 use lib.ListN.{length, drop}
-use borrow.Author.Tests.{eq-eqb, ne-eqb}
 use Rattle.model.specs.Table.{Words, at}
-use Rattle.model.specs.Slots.{Slot, slot, slotsOf, inUse, shown}
+use Rattle.model.specs.Slots.{slot, slotsOf}
 use Rattle.list_laws.proofs.Tools.{double-suc}
 
 double-one : (i : ℕ) → 2 * suc i + 1 ≡ suc (suc (2 * i + 1))
@@ -29,17 +28,3 @@ slots-end (k ∷ []) zero h = refl
 slots-end (k ∷ []) (suc i) h = refl
 slots-end (k ∷ p ∷ ws) zero h = absurd (omega arith)
 slots-end (k ∷ p ∷ ws) (suc i) h = slots-end ws i (omega arith)
-
--- ---- the shown slots, from a slot on
-
-pub shown-stop : (p k : ℕ) (ss : List Slot) → shown p (inUse (slot k 0 ∷ ss)) ≡ []
-unfolding inUse shown
-shown-stop p k ss = refl
-
-pub shown-skip : (p k : ℕ) (ss : List Slot) → (p ≡ 0 → ⊥) → shown p (inUse (slot k p ∷ ss)) ≡ shown p (inUse ss)
-unfolding inUse shown
-shown-skip p k ss z = rw (ne-eqb p 0 z, inUse) (rw (eq-eqb p p refl, shown))
-
-pub shown-take : (p k q : ℕ) (ss : List Slot) → (q ≡ 0 → ⊥) → (q ≡ p → ⊥) → shown p (inUse (slot k q ∷ ss)) ≡ slot k q ∷ shown q (inUse ss)
-unfolding inUse shown
-shown-take p k q ss z d = rw (ne-eqb q 0 z, inUse) (rw (ne-eqb q p d, shown))
