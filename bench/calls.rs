@@ -28,9 +28,9 @@ struct Carrying {
 extern "C" {
     fn plain_nodes(keys: usize) -> usize;
     fn plain_pack(table: *mut u64, nodes: usize, place: *const u64, keys: *const u64, recordings: *const u64, count: usize);
-    fn plain_search(table: *const u64, key: u64) -> u64;
-    fn plain_foreseen_search(table: *const u64, key: u64) -> u64;
-    fn plain_tested_search(table: *const u64, words: usize, key: u64) -> u64;
+    fn plain_search(table: *const u64, key: u64, next: *mut u64) -> u64;
+    fn plain_foreseen_search(table: *const u64, key: u64, next: *mut u64) -> u64;
+    fn plain_tested_search(table: *const u64, words: usize, key: u64, next: *mut u64) -> u64;
     fn plain_read_pass(table: *const u64, nodes: usize) -> u64;
 
     fn fastfair_new(keys: usize) -> *mut c_void;
@@ -141,13 +141,16 @@ pub fn make(table: &mut [u64]) -> u64 {
     unsafe { catalogue_make(table.as_mut_ptr(), table.len()) }
 }
 
-/// The recording, or 0 where the key is absent. A refusal ends the program.
+/// A recording, or 0 and the next key up; that is 0 where none is higher.
+pub type Found = (u64, u64);
+
+/// The answer of the library. A refusal ends the program.
 #[inline(always)]
-pub fn search(table: &[u64], key: u64) -> u64 {
-    let mut recording = 0;
-    let number = unsafe { catalogue_search(table.as_ptr(), table.len(), key, &mut recording) };
+pub fn search(table: &[u64], key: u64) -> Found {
+    let (mut recording, mut next, mut higher) = (0, 0, 0);
+    let number = unsafe { catalogue_search(table.as_ptr(), table.len(), key, &mut recording, &mut next, &mut higher) };
     assert!(number == 0 || number == ABSENT, "a search was refused");
-    recording
+    (recording, next)
 }
 
 pub fn insert(table: &mut [u64], orders: &mut Orders, key: u64, recording: u64) -> u64 {
@@ -205,20 +208,23 @@ pub fn pack(pairs: &[(u64, u64)], place: &[u64], nodes: usize) -> Words {
 
 /// As `search`, by plain C.
 #[inline(always)]
-pub fn search_plain(table: &[u64], key: u64) -> u64 {
-    unsafe { plain_search(table.as_ptr(), key) }
+pub fn search_plain(table: &[u64], key: u64) -> Found {
+    let mut next = 0;
+    (unsafe { plain_search(table.as_ptr(), key, &mut next) }, next)
 }
 
 /// The same with the move to a sibling as a branch.
 #[inline(always)]
-pub fn search_foreseen(table: &[u64], key: u64) -> u64 {
-    unsafe { plain_foreseen_search(table.as_ptr(), key) }
+pub fn search_foreseen(table: &[u64], key: u64) -> Found {
+    let mut next = 0;
+    (unsafe { plain_foreseen_search(table.as_ptr(), key, &mut next) }, next)
 }
 
 /// As `search`, by C with the same tests.
 #[inline(always)]
-pub fn search_tested(table: &[u64], key: u64) -> u64 {
-    unsafe { plain_tested_search(table.as_ptr(), table.len(), key) }
+pub fn search_tested(table: &[u64], key: u64) -> Found {
+    let mut next = 0;
+    (unsafe { plain_tested_search(table.as_ptr(), table.len(), key, &mut next) }, next)
 }
 
 /// The sum of all words of nodes 1 .. nodes.

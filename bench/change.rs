@@ -12,7 +12,7 @@ const MOST: usize = 64;
 const SIZE_CAP: f64 = 60e9;
 
 /// What a call answers to a list that is too short.
-const SHORT_LIST: u64 = 5;
+pub const SHORT_LIST: u64 = 5;
 
 /// Nodes that no packed table reaches, for splits to take.
 const SPARE: usize = 64;
@@ -25,7 +25,7 @@ const LACKING: u64 = 3;
 const KINDS: [&str; 3] = [INSERTION, DELETION, SPLITTING];
 
 /// The most keys that a packed table of so many nodes holds.
-fn keys_for(nodes: usize) -> usize {
+pub fn keys_for(nodes: usize) -> usize {
     let (mut low, mut high) = (1, 16 * nodes);
     while low + 1 < high {
         let middle = (low + high) / 2;
@@ -123,7 +123,7 @@ impl Bench {
         let after = if kind < 2 { &self.working } else { &self.crowded };
         assert!(number == 0 && calls::carry_plain(&mut self.memory, &orders) == 0, "{}: {number}", KINDS[kind]);
         assert!(*self.memory == **after, "{}: memory differs", KINDS[kind]);
-        assert_eq!(calls::search(&self.memory, key), if kind == 1 { 0 } else { self.recording }, "{}", KINDS[kind]);
+        assert_eq!(calls::search(&self.memory, key).0, if kind == 1 { 0 } else { self.recording }, "{}", KINDS[kind]);
         if kind == 2 {
             self.unsplit(&orders);
             self.flusher.carry(&mut self.memory, &orders);

@@ -31,7 +31,7 @@ fn ours(keys: &[u64]) -> Sums {
         for (&key, recording) in keys.iter().zip(1..) {
             let number = if which == 0 { calls::insert(&mut working, &mut orders, key, recording) } else { calls::delete(&mut working, &mut orders, key) };
             assert!(number == 0 && calls::carry_plain(&mut memory, &orders) == 0, "key {key}: {number}");
-            assert_eq!(calls::search(&memory, key), if which == 0 { recording } else { 0 }, "key {key}");
+            assert_eq!(calls::search(&memory, key).0, if which == 0 { recording } else { 0 }, "key {key}");
             *sum = (sum.0 + orders.stores, sum.1 + orders.flushes);
         }
         assert!(*memory == *working, "memory and working copy differ");

@@ -8,6 +8,7 @@ mod plot;
 mod report;
 mod results;
 mod search;
+mod walk;
 
 use results::Results;
 use std::fs;
@@ -28,6 +29,7 @@ pub const INSERTION: &str = "insertion";
 pub const DELETION: &str = "deletion";
 pub const SPLITTING: &str = "insertion, split";
 pub const COUNTS: &str = "counts";
+pub const WALK: &str = "empty leaves";
 pub const OURS: &str = "ours";
 pub const PLAIN: &str = "plain C";
 pub const FORESEEN: &str = "plain C, branch";
@@ -53,6 +55,7 @@ fn measure(sizes: &Sizes) -> Results {
     let mut results = Results::default();
     search::measure(&mut results, sizes.search);
     change::measure(&mut results, sizes.nodes);
+    walk::measure(&mut results, sizes.nodes);
     counts::measure(&mut results, sizes.counted.0, sizes.counted.1);
     results
 }

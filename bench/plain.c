@@ -152,20 +152,46 @@ static uint64_t in_leaf(const uint64_t *leaf, uint64_t key)
     return 0;
 }
 
-uint64_t plain_search(const uint64_t *table, uint64_t key)
+/* The leaf's first shown slot with a larger key, and below the sibling's fence where there is one; 0 for none. */
+static uint64_t above(const uint64_t *leaf, const uint64_t *sibling, uint64_t key)
+{
+    uint64_t before = leaf[LEFT];
+    for (const uint64_t *slot = leaf + FIRST_SLOT; slot < leaf + FIRST_SLOT + 2 * SLOTS && slot[1] != 0; slot += 2) {
+        if (slot[1] != before && slot[0] > key && (!sibling || slot[0] < sibling[FENCE]))
+            return slot[0];
+        before = slot[1];
+    }
+    return 0;
+}
+
+/* The recording, or 0 and the next key up, from this leaf on along the siblings. */
+static uint64_t answer(const uint64_t *table, const uint64_t *leaf, uint64_t key, uint64_t *next)
+{
+    uint64_t recording = in_leaf(leaf, key);
+    if (recording != 0)
+        return recording;
+    for (uint64_t found = 0; leaf && found == 0; *next = found) {
+        const uint64_t *sibling = leaf[SIBLING] != 0 ? seen_at(table, leaf[SIBLING]) : NULL;
+        found = above(leaf, sibling, key);
+        leaf = sibling;
+    }
+    return 0;
+}
+
+uint64_t plain_search(const uint64_t *table, uint64_t key, uint64_t *next)
 {
     uint64_t number = table[1];
     for (uint64_t level = seen_at(table, number)[LEVEL]; level > 0; level--)
         number = route(stand(table, number, key), key);
-    return in_leaf(stand(table, number, key), key);
+    return answer(table, stand(table, number, key), key, next);
 }
 
-uint64_t plain_foreseen_search(const uint64_t *table, uint64_t key)
+uint64_t plain_foreseen_search(const uint64_t *table, uint64_t key, uint64_t *next)
 {
     uint64_t number = table[1];
     for (uint64_t level = seen_at(table, number)[LEVEL]; level > 0; level--)
         number = route(stand_foreseen(table, number, key), key);
-    return in_leaf(stand_foreseen(table, number, key), key);
+    return answer(table, stand_foreseen(table, number, key), key, next);
 }
 
 /* The number of nodes, where length, header and root are as the library wants them; else 0. */
@@ -185,7 +211,25 @@ static int on_level(const uint64_t *table, uint64_t nodes, uint64_t number, uint
     return number >= 1 && number <= nodes && seen_at(table, number)[LEVEL] == level;
 }
 
-uint64_t plain_tested_search(const uint64_t *table, size_t words, uint64_t key)
+/* As answer, with each sibling tested and at most as many leaves entered as there are nodes. */
+static uint64_t tested_answer(const uint64_t *table, uint64_t nodes, const uint64_t *leaf, uint64_t key, uint64_t *next)
+{
+    uint64_t recording = in_leaf(leaf, key), found = 0;
+    if (recording != 0)
+        return recording;
+    for (uint64_t entered = 1; leaf && found == 0; entered++) {
+        uint64_t number = leaf[SIBLING];
+        if (entered > nodes || (number != 0 && !on_level(table, nodes, number, 0)))
+            return 0;
+        const uint64_t *sibling = number != 0 ? seen_at(table, number) : NULL;
+        found = above(leaf, sibling, key);
+        leaf = sibling;
+    }
+    *next = found;
+    return 0;
+}
+
+uint64_t plain_tested_search(const uint64_t *table, size_t words, uint64_t key, uint64_t *next)
 {
     uint64_t nodes = tested_nodes(table, words);
     if (nodes == 0)
@@ -201,7 +245,7 @@ uint64_t plain_tested_search(const uint64_t *table, size_t words, uint64_t key)
             return 0;
         const uint64_t *node = stand_foreseen(table, number, key);
         if (level == 0)
-            return in_leaf(node, key);
+            return tested_answer(table, nodes, node, key, next);
         number = route(node, key);
     }
 }

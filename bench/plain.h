@@ -14,14 +14,14 @@ size_t plain_nodes(size_t keys);
  */
 void plain_pack(uint64_t *table, size_t nodes, const uint64_t *place, const uint64_t *keys, const uint64_t *recordings, size_t count);
 
-/* The recording of the key, or 0 where it is absent. The table must be sound. */
-uint64_t plain_search(const uint64_t *table, uint64_t key);
+/* The recording of the key; 0 where it is absent, and then *next is the next key up, 0 for none. The table must be sound. */
+uint64_t plain_search(const uint64_t *table, uint64_t key, uint64_t *next);
 
 /* The same with the move to a sibling as a branch, whatever the compiler would choose. */
-uint64_t plain_foreseen_search(const uint64_t *table, uint64_t key);
+uint64_t plain_foreseen_search(const uint64_t *table, uint64_t key, uint64_t *next);
 
-/* That one with every test that the library's search makes, on any words. A refusal gives 0 too. */
-uint64_t plain_tested_search(const uint64_t *table, size_t words, uint64_t key);
+/* That one with every test that the library's search makes, on any words. A refusal gives 0 too, and leaves *next. */
+uint64_t plain_tested_search(const uint64_t *table, size_t words, uint64_t key, uint64_t *next);
 
 /* The sum of all words of nodes 1 .. nodes. */
 uint64_t plain_read_pass(const uint64_t *table, size_t nodes);

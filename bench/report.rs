@@ -1,7 +1,7 @@
 //! The tables: as text for the terminal, as Markdown for docs/BENCHMARKS.md.
 use crate::counts::{self, CHANGES, ORDERS};
 use crate::results::{Results, Spread};
-use crate::{COUNTS, DELETION, HITS, INSERTION, MISSES, NODES, OTHERS, OURS, PAPER_FLUSHES, SPLITTING, TABLE, TREE};
+use crate::{COUNTS, DELETION, HITS, INSERTION, MISSES, NODES, OTHERS, OURS, PAPER_FLUSHES, SPLITTING, TABLE, TREE, WALK};
 use std::fmt::Write;
 
 /// A table of ready cells under a line that says what they are.
@@ -140,6 +140,20 @@ fn change_ratios(results: &Results) -> Table {
     table
 }
 
+// ---- empty leaves
+
+/// A difference may be lost in the spread, and below 0.
+fn walk_ratios(results: &Results) -> Table {
+    let head = ["nodes", "leaves", "search, µs", "insertion: check, µs", "insertion: tests of code and recording, µs", "tests / search"];
+    let mut table = Table::new("An absent code with all leaves above it empty: the search looks through them for the next code up, an insertion's tests do not", &head);
+    for nodes in results.sizes(WALK, "search") {
+        let median = |what| results.get(WALK, what, nodes).map_or(f64::NAN, |s| s.median);
+        let micro = |what| figure(median(what) / 1e3);
+        table.rows.push(vec![grouped(nodes), grouped(median("leaves") as usize), micro("search"), micro("check"), micro("tests"), figure(median("tests") / median("search"))]);
+    }
+    table
+}
+
 // ---- stores and flushes
 
 fn count_table(results: &Results, size: usize, large: usize) -> Table {
@@ -220,6 +234,7 @@ pub fn ratios(results: &Results, counted: (usize, usize)) -> Vec<Table> {
     vec![
         search_ratios(results),
         change_ratios(results),
+        walk_ratios(results),
         count_table(results, counted.0, counted.1),
         search_growth(results),
         change_growth(results),

@@ -3,7 +3,7 @@ use crate::calls::{self, CppMap, FastFair, Orders, Words};
 use crate::keys::{Keys, Random};
 use crate::results::{timed, Results, Spread};
 use crate::{CPP, FORESEEN, HITS, MISSES, OURS, PLAIN, RUNS, RUST, SEED, SORTED, TABLE, TESTED, TREE};
-use std::collections::BTreeMap;
+use std::collections::{BTreeMap, BTreeSet};
 use std::hint::black_box;
 
 /// Each run asks so many keys; drawn anew, so that no run of a small table is a short loop that the processor learns.
@@ -39,7 +39,7 @@ impl Contender for Ours<'_> {
         OURS
     }
     fn find(&self, key: u64) -> u64 {
-        calls::search(self.0, key)
+        calls::search(self.0, key).0
     }
 }
 
@@ -48,7 +48,7 @@ impl Contender for Plain<'_> {
         PLAIN
     }
     fn find(&self, key: u64) -> u64 {
-        calls::search_plain(self.0, key)
+        calls::search_plain(self.0, key).0
     }
 }
 
@@ -57,7 +57,7 @@ impl Contender for Foreseen<'_> {
         FORESEEN
     }
     fn find(&self, key: u64) -> u64 {
-        calls::search_foreseen(self.0, key)
+        calls::search_foreseen(self.0, key).0
     }
 }
 
@@ -66,7 +66,7 @@ impl Contender for Tested<'_> {
         TESTED
     }
     fn find(&self, key: u64) -> u64 {
-        calls::search_tested(self.0, key)
+        calls::search_tested(self.0, key).0
     }
 }
 
@@ -160,6 +160,16 @@ fn verify(contender: &dyn Contender, keys: &Keys) {
     }
 }
 
+/// The next key up of every absent key, by the ways that look for it: the library and plain C.
+fn verify_next(table: &Words, keys: &Keys) {
+    let present: BTreeSet<u64> = keys.present.iter().copied().collect();
+    for &key in &keys.absent {
+        let next = present.range(key..).next().copied().unwrap_or(0);
+        let given = [calls::search(table, key), calls::search_plain(table, key), calls::search_foreseen(table, key), calls::search_tested(table, key)];
+        assert_eq!(given, [(0, next); 4], "the next key up of {key}: ours, then plain C");
+    }
+}
+
 /// The right sum of the answers to these queries.
 fn expected(keys: &Keys, queries: &[u64]) -> u64 {
     let map: std::collections::HashMap<u64, u64> = keys.pairs().into_iter().collect();
@@ -204,6 +214,7 @@ pub fn measure(results: &mut Results, sizes: &[usize]) {
         }
         let all = contenders(&table, &keys);
         all.iter().for_each(|c| verify(c.as_ref(), &keys));
+        verify_next(&table, &keys);
         results.add(TABLE, "nodes", size, "nodes", Spread::exact(reached as f64));
         results.add(TABLE, "levels", size, "levels", Spread::exact(levels(&table) as f64));
         for (part, queries) in [(HITS, draw(&keys.present)), (MISSES, keys.absent.clone())] {

@@ -1,8 +1,10 @@
 /* The program `catalogue`: recordings by their codes, in a table that survives a power cut. */
+#include <inttypes.h>
 #include <signal.h>
 #include <stdio.h>
 #include <unistd.h>
 
+#include "catalogue.h"
 #include "command_line.h"
 #include "commands.h"
 #include "help.h"
@@ -48,12 +50,23 @@ static void on_bus_error(int number)
     _exit(BAD_FILE);
 }
 
+/* A library of another version takes other words. */
+static int test_library(void)
+{
+    uint64_t version = catalogue_version();
+    if (version == CATALOGUE_VERSION)
+        return 0;
+    return fail(BAD_FILE, "built for version %d of the library and linked with version %" PRIu64, CATALOGUE_VERSION, version);
+}
+
 int main(int count, char **words)
 {
     static struct command_line l;
     struct sigaction action = {.sa_handler = on_bus_error};
     sigaction(SIGBUS, &action, NULL);
-    int status = command_line_read(&l, count - 1, words + 1);
+    int status = test_library();
+    if (status == 0)
+        status = command_line_read(&l, count - 1, words + 1);
     if (status == 0)
         status = run_or_tell(&l);
     if ((fflush(stdout) != 0 || ferror(stdout)) && status == 0)

@@ -66,10 +66,22 @@ static int print_orders(struct table *t, struct command_line *l)
     return 0;
 }
 
+/* The code is not there; the next one up, or null for none. */
+static int say_absent(const char *table, uint64_t key, const uint64_t *next)
+{
+    char code[KEY_TEXT], above[KEY_TEXT];
+    key_text(key, code);
+    if (!next)
+        return fail(CATALOGUE_ABSENT, "%s is not in %s, and no code there is higher", code, table);
+    return fail(CATALOGUE_ABSENT, "%s is not in %s; the next code up is %s", code, table, key_text(*next, above));
+}
+
 static int find(struct table *t, struct command_line *l)
 {
-    uint64_t recording;
-    uint64_t number = catalogue_search(t->working, t->words, l->low, &recording);
+    uint64_t recording, next, higher;
+    uint64_t number = catalogue_search(t->working, t->words, l->low, &recording, &next, &higher);
+    if (number == CATALOGUE_ABSENT)
+        return say_absent(t->name, l->low, higher ? &next : NULL);
     if (number != 0)
         return refuse(number, t->name, l->low, 0);
     printf("%" PRIu64 "\n", recording);
@@ -239,7 +251,8 @@ const struct command commands[] = {
      command_make},
     {"add", "TABLE CODE RECORDING", "a new code", "add room.cat AA-000-19-12345 7", 4, 4, CUT | CARRYING | WAITING, command_add},
     {"remove", "TABLE CODE", "a code taken out", "remove room.cat AA-000-19-12345", 3, 3, CUT | CARRYING | WAITING, command_remove},
-    {"find", "TABLE CODE", "prints the code's recording", "find room.cat AA0001912345", 3, 3, WAITING, command_find},
+    {"find", "TABLE CODE", "prints the code's recording; where the code is absent, tells the next one up",
+     "find room.cat AA0001912345", 3, 3, WAITING, command_find},
     {"list", "TABLE [FROM TO]", "prints the codes from FROM to TO, or all, as lines code,recording that load reads",
      "list room.cat AA0000000000 AAZZZ9999999", 2, 4, WAITING, command_list},
     {"load", "TABLE FILE.csv",

@@ -50,8 +50,9 @@ static void watch_signal(int number)
 /* The table has this code with this recording. */
 static bool there_already(const struct loading *l)
 {
-    uint64_t recording;
-    return catalogue_search(l->table->expected, l->table->words, l->change.key, &recording) == 0 && recording == l->change.recording;
+    uint64_t recording, next, higher;
+    uint64_t number = catalogue_search(l->table->expected, l->table->words, l->change.key, &recording, &next, &higher);
+    return number == 0 && recording == l->change.recording;
 }
 
 /* A line that cannot be loaded, told; the load ends here unless it keeps going. */

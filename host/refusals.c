@@ -13,7 +13,7 @@ const struct refusal refusals[] = {
     {CATALOGUE_NO_CODE, "no code", "not a code, which has two letters, three letters or digits and seven digits, as AA-000-19-12345"},
     {CATALOGUE_NO_TABLE, "no table", "{table} is not a table: its header or its length is wrong"},
     {CATALOGUE_SEARCH_LOST, "damaged on a search's way",
-     "{table} is damaged on the way to {code}: a node number, a level or a sibling is wrong"},
+     "{table} is damaged on the way to {code}, or to the next code up: a node number, a level or a sibling is wrong"},
     {CATALOGUE_NOT_SOUND, "not sound",
      "{table} is not sound: a failing disk, another program, or a power cut during --fast or on a disk that does not keep what it was told "
      "to keep has damaged it; find still answers where its way is whole"},
@@ -32,7 +32,7 @@ const struct refusal refusals[] = {
     {BAD_FILE, "a file cannot be read or written, or another program uses it or changed it", NULL},
     {BY_SIGNAL + SIGINT, "load ended by an interrupt", NULL},
     {BY_SIGNAL + SIGTERM, "load ended by a request to terminate", NULL},
-    {CATALOGUE_ABSENT, "code to find absent", "{code} is not in {table}"},
+    {CATALOGUE_ABSENT, "code to find absent", NULL},
     {0, NULL, NULL},
 };
 

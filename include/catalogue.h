@@ -25,7 +25,7 @@
  * table reloaded from memory answers every search as before the change or as after it, and the next writing call repairs it.
  *
  *     static uint64_t memory[8 + 32 * 100], working[8 + 32 * 100], orders[CATALOGUE_LIST_WORDS];
- *     uint64_t key, recording, stores, flushes;
+ *     uint64_t key, recording, next, higher, stores, flushes;
  *     size_t words = sizeof working / sizeof working[0];
  *
  *     catalogue_make(working, words);
@@ -33,7 +33,7 @@
  *     if (catalogue_parse((const uint8_t *)"AA0001912345", 12, &key) == 0
  *         && catalogue_insert(working, words, orders, CATALOGUE_LIST_WORDS, key, 7, &stores, &flushes) == 0)
  *         catalogue_carry_out(memory, words, orders, CATALOGUE_LIST_WORDS, stores + flushes);
- *     if (catalogue_search(memory, words, key, &recording) == 0)
+ *     if (catalogue_search(memory, words, key, &recording, &next, &higher) == 0)
  *         printf("%llu\n", (unsigned long long)recording);
  */
 #ifndef CATALOGUE_H
@@ -50,7 +50,7 @@ extern "C" {
  * The version of these declarations. It is raised by each change of a name, a parameter or the meaning of a word, so a program that was
  * compiled with one header and linked with another library sees it: catalogue_version() is the library's.
  */
-#define CATALOGUE_VERSION 1
+#define CATALOGUE_VERSION 2
 
 #define CATALOGUE_MARK UINT64_MAX
 #define CATALOGUE_LIST_WORDS 2560
@@ -59,7 +59,7 @@ extern "C" {
 enum {
     CATALOGUE_NO_CODE = 1,          /* text is not a code, or a key has no code */
     CATALOGUE_NO_TABLE = 2,         /* wrong length or header, or root outside 1 to N */
-    CATALOGUE_SEARCH_LOST = 3,      /* search: a node number, level or sibling is wrong on its way */
+    CATALOGUE_SEARCH_LOST = 3,      /* search: a node number, level or sibling is wrong on its way, or its leaves go round in a ring */
     CATALOGUE_NOT_SOUND = 4,        /* write or listing: the table is not sound */
     CATALOGUE_SHORT_LIST = 5,       /* order list under 2,560 words */
     CATALOGUE_BAD_RECORDING = 6,    /* recording is 0 or CATALOGUE_MARK */
@@ -85,8 +85,13 @@ uint64_t catalogue_print(uint64_t key, uint8_t *text);
 /* An empty table in these words. 0 or 2. */
 uint64_t catalogue_make(uint64_t *table, size_t words);
 
-/* 0 and the recording where the key is found, 255 where it is absent, else 2 or 3. */
-uint64_t catalogue_search(const uint64_t *table, size_t words, uint64_t key, uint64_t *recording);
+/*
+ * 0 and *recording where the key is found. 255 where it is absent: then *higher is 1 and *next the next key up in the map, or *higher is 0
+ * and *next stays, for no key is higher. Else 2 or 3. A word that is not named for a case stays.
+ * The next key is looked for from the leaf where the search ended and on along the siblings, past leaves that are empty; a leaf there that
+ * fails the search's tests, or more leaves than the table has nodes, give 3. Any key may be the next one, CATALOGUE_MARK too.
+ */
+uint64_t catalogue_search(const uint64_t *table, size_t words, uint64_t key, uint64_t *recording, uint64_t *next, uint64_t *higher);
 
 /*
  * The pairs (key, recording) with low <= key <= high, rising, into out while whole pairs fit; *pairs is their number, *more 1 where

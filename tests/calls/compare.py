@@ -1,5 +1,6 @@
 """The C calls three times: in the header, in the Rust declaration and in the Rattle source. Their names, their parameters in order, by name
-and kind, and their return types must be the same. Then faults are planted in each text, and each must be seen."""
+and kind, and their return types must be the same, and so must the header's version and the one that the source answers. Then faults are
+planted in each text, and each must be seen."""
 import re
 import sys
 
@@ -70,6 +71,15 @@ def from_rattle(text):
     return all_read(calls, r"no_mangle", text)
 
 
+def versions(header, rattle):
+    """The number that the header defines, and the one that the source's body gives."""
+    defined = re.findall(r"^#define CATALOGUE_VERSION (\d+)$", header, re.M)
+    answered = re.findall(r"fn catalogue_version\(\).*?\n\{\s*(\d+)\s*\}", rattle, re.S)
+    if len(defined) != 1 or len(answered) != 1:
+        raise Unread(f"versions {defined} and {answered}")
+    return defined[0], answered[0]
+
+
 def returned(back):
     return one(r"-> (u64|usize)", back)[0] if back.strip() else "nothing"
 
@@ -91,10 +101,12 @@ def differences(header, rust, rattle):
     """What is not the same in the three texts; [] where they agree."""
     try:
         texts = {"the header": from_header(header), "the Rust declaration": from_rust(rust), "the Rattle source": from_rattle(rattle)}
+        defined, answered = versions(header, rattle)
     except Unread as e:
         return [str(e)]
     first = texts["the header"]
     found = [] if first else ["no call in the header"]
+    found += [] if defined == answered else [f"the header has version {defined}, the Rattle source {answered}"]
     for where, calls in texts.items():
         found += [f"{name} is in the header and not in {where}" for name in first.keys() - calls.keys()]
         found += [f"{name} is in {where} and not in the header" for name in calls.keys() - first.keys()]
@@ -115,19 +127,30 @@ FAULTS = [
     (0, "uint8_t *text);", "uint64_t *text);"),
     (0, "uint64_t catalogue_repair", "uint64_t catalogue_mend"),
     (0, ", uint64_t c)", ")"),
+    (0, "uint64_t *next, uint64_t *higher", "uint64_t *higher, uint64_t *next"),
+    (0, "#define CATALOGUE_VERSION", "#define CATALOGUE_VERSION 99\n#define OTHER"),
+    (0, "#define CATALOGUE_VERSION", "#define CATALOGUE_VERSIONS"),
     (1, "low: u64, high: u64", "high: u64, low: u64"),
     (1, "recording: *mut u64", "recording: *const u64"),
     (1, "text: *mut u8", "text: *mut u64"),
     (1, "out_words: usize, ", ""),
     (1, "c: u64) -> u64", "c: u64)"),
     (1, "fn catalogue_delete", "fn catalogue_remove"),
+    (1, ", higher: *mut u64", ""),
     (2, "table: &[u64], key: u64", "table: &mut [u64], key: u64"),
     (2, "text: &mut [u8; 12]", "text: &mut [u8]"),
     (2, "orders: &[u64], c: u64", "c: u64, orders: &[u64]"),
     (2, "#[no_mangle]\npub extern \"C\" fn catalogue_make", "pub extern \"C\" fn catalogue_make"),
     (2, "-> u64\n    ensures", "-> usize\n    ensures"),
     (2, "fn one_if", "#[no_mangle]\nfn one_if"),
+    (2, "next: &mut u64", "next: u64"),
 ]
+
+
+def planted(text, old, new):
+    """The text with its first old as new; where it has a space or an open bracket the text may have the lines of its layout."""
+    pattern = r"\s+".join(map(re.escape, old.split())).replace(r"\(", r"\(\s*")
+    return re.sub(pattern, lambda _: new, text, count=1)
 
 
 def main():
@@ -139,7 +162,7 @@ def main():
         sys.exit(1)
     for which, old, new in FAULTS:
         changed = list(texts)
-        changed[which] = texts[which].replace(old, new, 1)
+        changed[which] = planted(texts[which], old, new)
         if changed[which] == texts[which]:
             sys.exit(f"FAILED: {old!r} is not in {sys.argv[1 + which]}")
         if not differences(*changed):

@@ -169,7 +169,7 @@ def refusals_of_changes(program, folder):
     program.refuses(CODE_THERE, f"{code(3)} is in .* already", "add", t, code(3), 103)
     program.refuses(RECORDING_THERE, "recording 103 is in .* under another code", "add", t, code(50), 103)
     program.refuses(NOT_THERE, f"{code(50)} is not in", "remove", t, code(50))
-    program.refuses(ABSENT, f"{code(50)} is not in", "find", t, code(50))
+    program.refuses(ABSENT, f"{code(50)} is not in {t}, and no code there is higher$", "find", t, code(50))
     program.done("add", t, code(50), MARK - 1)
     program.refuses(NO_NODES, f"is full: .* more nodes than are free; catalogue copy {t} NEW NODES", "add", t, code(51), 1)
     program.refuses(NO_NODES, "is full", "orders", t, "add", code(51), 1)
@@ -215,12 +215,33 @@ def searching_and_listing(program, folder):
     fill(program, t, 30, pairs[::2] + pairs[1::2])
     for c, r in pairs:
         assert program.done("find", t, c) == f"{r}\n"
-    program.refuses(ABSENT, "is not in", "find", t, code(1))
+    program.refuses(ABSENT, f"^catalogue: {code(1)} is not in {t}; the next code up is {code(3)}$", "find", t, code(1))
     assert listed(program.done("list", t)) == pairs
     assert listed(program.done("list", t, "AA0000000000", "ZZZZZ9999999")) == pairs
     assert listed(program.done("list", t, code(10), "AA-000-19-00030")) == [p for p in pairs if code(10) <= p[0] <= code(30)]
     assert program.done("list", t, code(30), code(30)) == f"{code(30)},990\n"
     assert program.done("list", t, code(31), code(10)) == ""
+
+
+def the_next_code_up(program, folder):
+    """Of an absent code: past leaves that are empty, before the first code and after the last; a key that no code has as # and its number."""
+    t = f"{folder}/t"
+    fill(program, t, 30, [(code(10 * i), 1 + i) for i in range(1, 60)])
+    for i in range(20, 45):
+        program.done("remove", t, code(10 * i))
+    up = lambda c: f"^catalogue: {c} is not in {t}; the next code up is "
+    for asked, next_one in ((code(9), code(10)), (code(11), code(20)), (code(191), code(450)), (code(200), code(450)), (code(449), code(450))):
+        program.refuses(ABSENT, up(asked) + next_one + "$", "find", t, asked)
+    program.refuses(ABSENT, up("#0") + code(10) + "$", "find", t, "#0")
+    for asked in (code(591), "ZZZZZ9999999", f"#{MARK}"):
+        program.refuses(ABSENT, f"{asked} is not in {t}, and no code there is higher$", "find", t, asked)
+    program.done("add", t, f"#{MARK}", 1000)
+    program.done("add", t, "#7", 1001)
+    program.refuses(ABSENT, up("ZZZZZ9999999") + f"#{MARK}$", "find", t, "ZZZZZ9999999")
+    program.refuses(ABSENT, up("#0") + "#7$", "find", t, "#0")
+    empty = f"{folder}/empty"
+    program.done("make", empty, 1)
+    program.refuses(ABSENT, f"{code(1)} is not in {empty}, and no code there is higher$", "find", empty, code(1))
 
 
 def answers_that_cannot_be_printed(program, folder):
@@ -273,4 +294,4 @@ def the_first_hour(program, folder):
 
 TESTS = [help_has_an_example_of_each, help_of_one_command, the_manual_page, words_and_options, wrong_command_lines, making,
          the_worked_orders, orders_are_what_is_carried_out, fast_says_what_it_risks, codes_as_people_type_them, refusals_of_changes,
-         a_tree_of_sixteen_levels, searching_and_listing, answers_that_cannot_be_printed, drawing, the_first_hour]
+         a_tree_of_sixteen_levels, searching_and_listing, the_next_code_up, answers_that_cannot_be_printed, drawing, the_first_hour]

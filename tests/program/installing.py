@@ -7,16 +7,21 @@ import sys
 from commands import HOST
 from drive import *
 
+# The header's folder: the repository's, unless the words for make name another.
+INCLUDE = next((word.split("=", 1)[1] for word in sys.argv if word.startswith("INCLUDE=")), os.path.join(HOST, "..", "include"))
+
 EXAMPLE = r"""
 #include <stdio.h>
 #include "catalogue.h"
 int main(void)
 {
-    uint64_t table[8 + 32 * 2], orders[CATALOGUE_LIST_WORDS], key, recording, stores, flushes;
+    uint64_t table[8 + 32 * 2], orders[CATALOGUE_LIST_WORDS], key, recording, next, higher, stores, flushes;
     size_t words = sizeof table / sizeof table[0];
-    if (catalogue_make(table, words) != 0 || catalogue_parse((const uint8_t *)"AA0001912345", 12, &key) != 0
+    if (catalogue_version() != CATALOGUE_VERSION || catalogue_make(table, words) != 0
+        || catalogue_parse((const uint8_t *)"AA0001912345", 12, &key) != 0
         || catalogue_insert(table, words, orders, CATALOGUE_LIST_WORDS, key, 7, &stores, &flushes) != 0
-        || catalogue_search(table, words, key, &recording) != 0)
+        || catalogue_search(table, words, key, &recording, &next, &higher) != 0
+        || catalogue_search(table, words, 0, &recording, &next, &higher) != CATALOGUE_ABSENT || higher != 1 || next != key)
         return 1;
     printf("%d\n", (int)recording);
 }
@@ -74,4 +79,19 @@ def an_edited_crate_is_built_again(program, folder):
     return None
 
 
-TESTS = [installed, installed_below_another_root, an_edited_crate_is_built_again]
+def a_library_of_another_version(program, folder):
+    """A program that was compiled with another header than its library's says so and does nothing."""
+    with open(f"{INCLUDE}/catalogue.h") as f:
+        header = f.read()
+    other = re.sub(r"(?m)^#define CATALOGUE_VERSION \d+$", "#define CATALOGUE_VERSION 99", header)
+    assert other != header
+    with open(f"{folder}/catalogue.h", "w") as f:
+        f.write(other)
+    make(f"OUT={folder}/out", f"INCLUDE={folder}")
+    stale = Program([f"{folder}/out/catalogue"], "of another version", True)
+    for words in (["make", f"{folder}/t", 1], ["--help"]):
+        stale.refuses(BAD_FILE, r"^catalogue: built for version 99 of the library and linked with version \d+$", *words)
+    assert not os.path.exists(f"{folder}/t")
+
+
+TESTS = [installed, installed_below_another_root, an_edited_crate_is_built_again, a_library_of_another_version]

@@ -63,10 +63,19 @@ def step(program, t, plain, chance):
             program.done("repair", t)
             assert "settled" in program.done("check", t)
     else:
-        c = chance.choice(CODES)
-        got, out, err = program("find", t, c)
-        assert (got, out) == ((0, f"{plain[c]}\n") if c in plain else (ABSENT, "")), (c, got, out, err)
+        finds(program, t, plain, chance.choice(CODES + [code(7 * chance.randrange(300) + 3)]))
     return plain
+
+
+def finds(program, t, plain, c):
+    """A search by the plain list: the recording, or the next code up."""
+    got, out, err = program("find", t, c)
+    if c in plain:
+        assert (got, out, err) == (0, f"{plain[c]}\n", ""), (c, got, out, err)
+        return
+    above = min((k for k in plain if k > c), default=None)
+    said = f"; the next code up is {above}" if above else ", and no code there is higher"
+    assert (got, out, err) == (ABSENT, "", f"catalogue: {c} is not in {t}{said}\n"), (c, got, out, err)
 
 
 def a_long_run(program, folder):
@@ -79,7 +88,7 @@ def a_long_run(program, folder):
         most = max(most, len(plain))
     assert listed(program.done("list", t)) == sorted(plain.items())
     for c in CODES[::1 if program.quick else 6]:
-        assert program("find", t, c)[:2] == ((0, f"{plain[c]}\n") if c in plain else (ABSENT, ""))
+        finds(program, t, plain, c)
     return f"{count} commands, {most} codes at most"
 
 

@@ -1,4 +1,5 @@
-//! The C entry points, wrapped for tests: every lent slice has guard words on both sides, and a call that touches one fails the test.
+//! The C entry points, wrapped for tests: every lent slice and every lent word has guard words on both sides, and a call that touches one
+//! fails the test.
 #![allow(dead_code)]
 
 #[path = "../calls/declared.rs"]
@@ -34,20 +35,62 @@ impl Lent {
         &self.words[GUARDS..GUARDS + self.len]
     }
 
-    /// A search of these words: the number, and the recording where the call put one.
-    pub fn search(&mut self, key: u64) -> (u64, Option<u64>) {
-        let mut recording = UNTOUCHED;
-        let n = unsafe { catalogue_search(self.pointer(), self.len, key, &mut recording) };
-        (n, put(recording))
+    pub fn search(&mut self, key: u64) -> Looked {
+        let [mut recording, mut next, mut higher] = [Word::new(), Word::new(), Word::new()];
+        let number = unsafe { catalogue_search(self.pointer(), self.len, key, recording.pointer(), next.pointer(), higher.pointer()) };
+        Looked { number, recording: recording.put(), next: next.put(), higher: higher.put() }
     }
 }
 
-/// What an answer's word holds, where something was put into it.
-fn put(word: u64) -> Option<u64> {
-    (word != UNTOUCHED).then_some(word)
+/// A word that an answer is put into, with guards around it.
+struct Word([u64; 5]);
+
+impl Word {
+    fn new() -> Word {
+        Word([GUARD, GUARD, UNTOUCHED, GUARD, GUARD])
+    }
+
+    fn pointer(&mut self) -> *mut u64 {
+        self.0[2..].as_mut_ptr()
+    }
+
+    /// What the word holds, where something was put into it.
+    fn put(&self) -> Option<u64> {
+        let [a, b, word, c, d] = self.0;
+        assert!([a, b, c, d] == [GUARD; 4], "a guard word was written");
+        (word != UNTOUCHED).then_some(word)
+    }
 }
 
-pub fn search(t: &[u64], key: u64) -> (u64, Option<u64>) {
+/// What a search left: its number, and each lent word where it put something there.
+#[derive(Clone, Copy, Debug, PartialEq)]
+pub struct Looked {
+    pub number: u64,
+    pub recording: Option<u64>,
+    pub next: Option<u64>,
+    pub higher: Option<u64>,
+}
+
+/// The key is there: its recording alone is put.
+pub fn found(recording: u64) -> Looked {
+    Looked { number: 0, recording: Some(recording), next: None, higher: None }
+}
+
+/// The key is absent: with the next key up, or with none, and then only that there is none is put.
+pub fn absent(next: Option<u64>) -> Looked {
+    Looked { number: 255, recording: None, next, higher: Some(next.is_some() as u64) }
+}
+
+/// Every lent word stays.
+pub fn refused(number: u64) -> Looked {
+    Looked { number, recording: None, next: None, higher: None }
+}
+
+pub fn version() -> u64 {
+    unsafe { catalogue_version() }
+}
+
+pub fn search(t: &[u64], key: u64) -> Looked {
     let mut table = Lent::new(t);
     let answer = table.search(key);
     assert!(table.back() == t, "a search wrote to the table");
@@ -61,9 +104,9 @@ pub fn make(t: &[u64]) -> (u64, Vec<u64>) {
 }
 
 pub fn parse(text: &[u8]) -> (u64, Option<u64>) {
-    let mut key = UNTOUCHED;
-    let n = unsafe { catalogue_parse(text.as_ptr(), text.len(), &mut key) };
-    (n, put(key))
+    let mut key = Word::new();
+    let n = unsafe { catalogue_parse(text.as_ptr(), text.len(), key.pointer()) };
+    (n, key.put())
 }
 
 pub fn print(key: u64) -> (u64, [u8; 12]) {
@@ -76,10 +119,10 @@ pub fn print(key: u64) -> (u64, [u8; 12]) {
 /// The number; the count and whether more were left, each where the call put it; and the slice after it.
 pub fn list(t: &[u64], low: u64, high: u64, out: &[u64]) -> (u64, [Option<u64>; 2], Vec<u64>) {
     let (mut table, mut slice) = (Lent::new(t), Lent::new(out));
-    let (mut pairs, mut more) = (UNTOUCHED, UNTOUCHED);
-    let n = unsafe { catalogue_list(table.pointer(), t.len(), low, high, slice.pointer(), out.len(), &mut pairs, &mut more) };
+    let (mut pairs, mut more) = (Word::new(), Word::new());
+    let n = unsafe { catalogue_list(table.pointer(), t.len(), low, high, slice.pointer(), out.len(), pairs.pointer(), more.pointer()) };
     assert!(table.back() == t, "a listing wrote to the table");
-    (n, [put(pairs), put(more)], slice.back().to_vec())
+    (n, [pairs.put(), more.put()], slice.back().to_vec())
 }
 
 /// What a write left: its number, its stores and its flushes, each where it put it, the table and the order list.
@@ -93,9 +136,9 @@ pub struct Wrote {
 
 fn wrote(t: &[u64], list: &[u64], call: impl FnOnce(*mut u64, *mut u64, *mut u64, *mut u64) -> u64) -> Wrote {
     let (mut table, mut orders) = (Lent::new(t), Lent::new(list));
-    let (mut stores, mut flushes) = (UNTOUCHED, UNTOUCHED);
-    let number = call(table.pointer(), orders.pointer(), &mut stores, &mut flushes);
-    Wrote { number, counts: [put(stores), put(flushes)], table: table.back().to_vec(), list: orders.back().to_vec() }
+    let (mut stores, mut flushes) = (Word::new(), Word::new());
+    let number = call(table.pointer(), orders.pointer(), stores.pointer(), flushes.pointer());
+    Wrote { number, counts: [stores.put(), flushes.put()], table: table.back().to_vec(), list: orders.back().to_vec() }
 }
 
 impl Wrote {

@@ -1,8 +1,9 @@
 //! What the test programs share: failing with a script that reproduces, keys to ask for, tables grown and damaged.
 #![allow(dead_code)]
-use crate::calls::{self, Lent, Wrote};
+use crate::calls::{self, Lent, Looked, Wrote};
 use crate::reference::*;
 use std::collections::{BTreeMap, BTreeSet};
+use std::ops::Bound;
 
 /// A check that failed says what and how to reproduce it, and ends the run.
 pub fn expect(ok: bool, seed: u64, t: &[u64], what: impl FnOnce() -> String) {
@@ -64,6 +65,30 @@ pub fn store(t: &mut [u64], stores: &[(usize, u64)]) {
     for &(w, x) in stores {
         t[w] = x;
     }
+}
+
+/// Slot p put into a node, the ones from p on moved up by one.
+pub fn put_slot(t: &mut [u64], n: u64, p: usize, key: u64, pointer: u64) {
+    let (from, to) = (start(n) + 8 + 2 * p, start(n) + 30);
+    t.copy_within(from..to, from + 2);
+    t[from] = key;
+    t[from + 1] = pointer;
+}
+
+/// Slot p taken out of a node, the ones after it moved down by one.
+pub fn take_slot(t: &mut [u64], n: u64, p: usize) {
+    let (from, to) = (start(n) + 8 + 2 * p, start(n) + 32);
+    t.copy_within(from + 2..to, from);
+}
+
+/// The pointer before slot p.
+pub fn before(t: &[u64], n: u64, p: usize) -> u64 {
+    if p == 0 { t[start(n)] } else { t[start(n) + 7 + 2 * p] }
+}
+
+/// Slot p is hidden; where the node is an inner one its child then lacks its slot, (c).
+pub fn hide(t: &mut [u64], n: u64, p: usize) {
+    t[start(n) + 9 + 2 * p] = before(t, n, p);
 }
 
 /// One to three words changed.
@@ -133,13 +158,33 @@ pub fn same_as(answer: Result<Writer, u64>, t: &[u64], list: &[u64], call: Call,
     (want, os)
 }
 
+/// What a call must leave of this answer.
+pub fn looked(answer: &Answer) -> Looked {
+    match *answer {
+        Answer::Found(r) => calls::found(r),
+        Answer::Absent(next) => calls::absent(next),
+        Answer::Refused(number) => calls::refused(number),
+    }
+}
+
+/// What a map answers.
+pub fn lookup(map: &BTreeMap<u64, u64>, k: u64) -> Answer {
+    let above = || map.range((Bound::Excluded(k), Bound::Unbounded)).next().map(|(&next, _)| next);
+    map.get(&k).map_or_else(|| Answer::Absent(above()), |&r| Answer::Found(r))
+}
+
+/// A search as the reference's.
+pub fn same_search(t: &[u64], k: u64, seed: u64) -> Answer {
+    let want = search(t, k);
+    let got = calls::search(t, k);
+    expect(got == looked(&want), seed, t, || format!("search for {k}: wanted {want:?}, got {got:?}"));
+    want
+}
+
 /// Every search of these words for the keys asked answers as the map.
 pub fn answers(t: &[u64], map: &BTreeMap<u64, u64>, asked: &BTreeSet<u64>) -> bool {
     let mut table = Lent::new(t);
-    let right = asked.iter().all(|k| {
-        let want = map.get(k).map_or((255, None), |&r| (0, Some(r)));
-        table.search(*k) == want
-    });
+    let right = asked.iter().all(|&k| table.search(k) == looked(&lookup(map, k)));
     table.back();
     right
 }

@@ -99,7 +99,7 @@ fn try_kind((name, recording, most): Kind, codes: u64, seed: u64, random: &mut R
     }
     let unused = (1..).find(|&r| (0..codes).all(|i| recording(i) != r)).unwrap();
     let added = calls::insert(&t, list, 7 * (codes / 2) + 1, unused);
-    expect(added.number == 0 && calls::search(&added.table, 7 * (codes / 2) + 1) == (0, Some(unused)), seed, &[], || format!("{codes} codes, recordings {name}: {unused} was not added"));
+    expect(added.number == 0 && calls::search(&added.table, 7 * (codes / 2) + 1) == calls::found(unused), seed, &[], || format!("{codes} codes, recordings {name}: {unused} was not added"));
 }
 
 fn main() {

@@ -1,21 +1,11 @@
-//! Making, search and listing against the reference: on settled tables, on every leftover, on tables damaged in every field, on any words.
+//! Making, search and listing against the reference: on settled tables, on every leftover, on tables damaged in every field, on any words,
+//! and on leaves joined in any way, for the next code up.
 mod calls;
 mod common;
 mod reference;
 
 use common::*;
 use reference::*;
-
-fn same_search(t: &[u64], k: u64, seed: u64) {
-    let want = search(t, k);
-    let got = calls::search(t, k);
-    let right = match want {
-        Answer::Found(r) => got == (0, Some(r)),
-        Answer::Absent => got == (255, None),
-        Answer::Refused(n) => got == (n, None),
-    };
-    expect(right, seed, t, || format!("search for {k}: wanted {want:?}, got {got:?}"));
-}
 
 fn same_list(t: &[u64], low: u64, high: u64, len: usize, seed: u64) {
     let out: Vec<u64> = (0..len as u64).map(|w| w + 7_000_000).collect();
@@ -37,6 +27,69 @@ fn same_reading(t: &[u64], random: &mut Random, seed: u64) {
     let (low, high) = (any(), any());
     same_list(t, low, high, random.below(40) as usize, seed);
     same_list(t, 0, MARK, random.below(40) as usize, seed);
+}
+
+// ---- leaves joined in any way
+
+/// Leaves with few slots or none, mostly joined to a ring, some with a sibling that is no leaf of the table, or none at all; the root is
+/// one of them, or a node above one.
+fn joined(random: &mut Random) -> Vec<u64> {
+    let n = 1 + random.below(7);
+    let mut t = make(n);
+    let sound_siblings = random.below(2) == 0;
+    for i in 1..=n {
+        let w = start(i);
+        let sibling = match random.below(if sound_siblings { 8 } else { 12 }) {
+            0..=6 => i % n + 1,
+            7 => 1 + random.below(n),
+            8 | 9 => 0,
+            10 => n + 1,
+            _ => MARK,
+        };
+        let level = (!sound_siblings && random.below(12) == 0) as u64;
+        let fence = [0, 10 * i, random.below(100), MARK][random.below(4) as usize];
+        t[w..w + 4].copy_from_slice(&[MARK, sibling, level, fence]);
+        for s in 0..[0, 0, 1, 3, 12][random.below(5) as usize] {
+            t[w + 8 + 2 * s] = [random.below(100), 10 * i + s as u64, MARK][random.below(3) as usize];
+            // Now and then hidden.
+            t[w + 9 + 2 * s] = if random.below(4) == 0 { before(&t, i, s) } else { 1 + random.below(1_000) };
+        }
+    }
+    t[1] = 1 + random.below(n);
+    if random.below(4) == 0 {
+        let w = start(t[1]);
+        t[w] = 1 + random.below(n);
+        t[w + 2] = 1;
+    }
+    t
+}
+
+/// How often the neighbour was found or known to be none in the first leaf, and further on; and how often the search was refused by the
+/// count of leaves alone, and otherwise.
+#[derive(Debug, Default)]
+struct Joined {
+    found: [u64; 2],
+    none: [u64; 2],
+    too_many: u64,
+    lost: u64,
+}
+
+impl Joined {
+    fn tally(&mut self, t: &[u64], k: u64, answer: &Answer) {
+        let further = || (next_up(t, last_leaf(t, k).expect("a leaf"), k).expect("a neighbour or none").1 > 1) as usize;
+        let ring = (1..=t[2]).all(|i| node(t, i).level == 0 && (1..=t[2]).contains(&node(t, i).sibling));
+        match answer {
+            Answer::Found(_) => {}
+            Answer::Absent(Some(_)) => self.found[further()] += 1,
+            Answer::Absent(None) => self.none[further()] += 1,
+            Answer::Refused(_) if ring => self.too_many += 1,
+            Answer::Refused(_) => self.lost += 1,
+        }
+    }
+
+    fn least(&self) -> u64 {
+        *self.found.iter().chain(&self.none).chain([&self.too_many, &self.lost]).min().unwrap()
+    }
 }
 
 fn main() {
@@ -88,8 +141,9 @@ fn main() {
         let t = grown(if i % 4 == 0 { 60 } else { 14 }, &mut random);
         let tree = judge(&t).expect("a grown table is sound");
         kinds[kind(tree.leftover)] += 1;
-        for (&k, &r) in &tree.map {
-            expect(search(&t, k) == Answer::Found(r), seed, &t, || "the reference's search against its map".into());
+        let ks = keys(&t, &mut random);
+        for &k in tree.map.keys().chain(&ks) {
+            expect(search(&t, k) == lookup(&tree.map, k), seed, &t, || format!("the reference's search for {k} against its map"));
         }
         same_reading(&t, &mut random, seed);
         for _ in 0..8 {
@@ -98,6 +152,21 @@ fn main() {
         }
     }
     all_met(&kinds, seed);
+    passed += 1;
+
+    // Leaves joined in any way.
+    let mut met = Joined::default();
+    for _ in 0..size {
+        let t = joined(&mut random);
+        let mut ks: Vec<u64> = keys(&t, &mut random);
+        ks.extend((0..10).map(|_| random.below(100)));
+        for k in ks {
+            let answer = same_search(&t, k, seed);
+            met.tally(&t, k, &answer);
+        }
+    }
+    println!("the neighbour of an absent key: {met:?}");
+    expect(met.least() >= size / 2, seed, &[], || "a case of the neighbour was not met often enough".into());
     passed += 1;
 
     println!("{passed} passed, 0 failed");

@@ -1,4 +1,5 @@
-//! Document 01 once more, for tests only: nodes as records, explicit sets and library maps. It shares no code with the crates.
+//! Document 01, as the later requests changed it, once more, for tests only: nodes as records, explicit sets and library maps. It shares no
+//! code with the crates.
 #![allow(dead_code)]
 use std::collections::{BTreeMap, BTreeSet, HashMap};
 
@@ -8,7 +9,8 @@ pub const LIST_WORDS: usize = 2560;
 #[derive(Clone, Debug, PartialEq, Eq)]
 pub enum Answer {
     Found(u64),
-    Absent,
+    /// With the next code up, or none.
+    Absent(Option<u64>),
     Refused(u64),
 }
 
@@ -93,24 +95,33 @@ pub fn node(t: &[u64], i: u64) -> Node {
 }
 
 pub fn search(t: &[u64], k: u64) -> Answer {
-    if !header_ok(t) {
-        return Answer::Refused(2);
+    match last_leaf(t, k) {
+        Err(number) => Answer::Refused(number),
+        Ok(x) => match x.shown().iter().find(|s| s.key == k) {
+            Some(s) => Answer::Found(s.pointer),
+            None => next_up(t, x, k).map_or(Answer::Refused(3), |(next, _)| Answer::Absent(next)),
+        },
     }
-    let n = t[2];
-    let inside = |i: u64| (1..=n).contains(&i);
+}
+
+/// The leaf that the search for k ends in, or the refusal number.
+pub fn last_leaf(t: &[u64], k: u64) -> Result<Node, u64> {
+    if !header_ok(t) {
+        return Err(2);
+    }
     let mut at = t[1];
     let mut level = node(t, at).level;
     if level > 15 {
-        return Answer::Refused(3);
+        return Err(3);
     }
     loop {
-        if !inside(at) || node(t, at).level != level {
-            return Answer::Refused(3);
+        if !stands(t, at, level) {
+            return Err(3);
         }
         let mut x = node(t, at);
         if x.sibling != 0 {
-            if !inside(x.sibling) || node(t, x.sibling).level != level {
-                return Answer::Refused(3);
+            if !stands(t, x.sibling, level) {
+                return Err(3);
             }
             let right = node(t, x.sibling);
             if k >= right.fence {
@@ -118,14 +129,35 @@ pub fn search(t: &[u64], k: u64) -> Answer {
             }
         }
         if level == 0 {
-            return match x.shown().iter().find(|s| s.key == k) {
-                Some(s) => Answer::Found(s.pointer),
-                None => Answer::Absent,
-            };
+            return Ok(x);
         }
         at = x.shown().iter().filter(|s| s.key <= k).last().map_or(x.left, |s| s.pointer);
         level -= 1;
     }
+}
+
+/// The search's tests of a node that it reads: its number is in 1 to N, and it is on the level.
+fn stands(t: &[u64], i: u64, level: u64) -> bool {
+    (1..=t[2]).contains(&i) && node(t, i).level == level
+}
+
+/// From the search's last leaf on along the siblings: the first shown slot, below its own leaf's sibling's fence, with a larger key; and how
+/// many leaves were entered for it. None where a leaf fails the search's tests, or more than N leaves would be entered.
+pub fn next_up(t: &[u64], last: Node, k: u64) -> Option<(Option<u64>, u64)> {
+    let mut x = last;
+    for entered in 1..=t[2] {
+        if x.sibling != 0 && !stands(t, x.sibling, 0) {
+            return None;
+        }
+        let end = if x.sibling == 0 { None } else { Some(node(t, x.sibling)) };
+        let above = x.shown().into_iter().find(|s| s.key > k && end.as_ref().map_or(true, |right| s.key < right.fence));
+        match (above, end) {
+            (Some(s), _) => return Some((Some(s.key), entered)),
+            (None, None) => return Some((None, entered)),
+            (None, Some(right)) => x = right,
+        }
+    }
+    None
 }
 
 #[derive(Clone, Copy, Debug, PartialEq, Eq)]

@@ -23,29 +23,6 @@ fn floors(root: usize, run: usize, random: &mut Random) -> Vec<Floor> {
 
 // ---- leftovers
 
-/// Slot p put into a node, the ones from p on moved up by one.
-fn put_slot(t: &mut [u64], n: u64, p: usize, key: u64, pointer: u64) {
-    let (from, to) = (start(n) + 8 + 2 * p, start(n) + 30);
-    t.copy_within(from..to, from + 2);
-    t[from] = key;
-    t[from + 1] = pointer;
-}
-
-/// Slot p taken out of a node, the ones after it moved down by one.
-fn take_slot(t: &mut [u64], n: u64, p: usize) {
-    let (from, to) = (start(n) + 8 + 2 * p, start(n) + 32);
-    t.copy_within(from + 2..to, from);
-}
-
-fn before(t: &[u64], n: u64, p: usize) -> u64 {
-    if p == 0 { t[start(n)] } else { t[start(n) + 7 + 2 * p] }
-}
-
-/// Slot p is hidden; where the node is an inner one its child then lacks its slot, (c).
-fn hide(t: &mut [u64], n: u64, p: usize) {
-    t[start(n) + 9 + 2 * p] = before(t, n, p);
-}
-
 /// The tower's table settled, or with a leftover on or off its path, so that repair gives the path its floors again.
 fn left_over(tower: &Tower, random: &mut Random) -> Vec<u64> {
     let mut t = tower.t.clone();
@@ -132,7 +109,7 @@ impl Met {
             }
             for image in seen {
                 self.images += 1;
-                let taken = calls::search(&image, k) == (0, Some(r));
+                let taken = calls::search(&image, k) == calls::found(r);
                 let map = if taken { &new } else { &old };
                 let what = || format!("{call:?} cut after {c} of {} orders", os.len());
                 expect(answers(&image, map, &asked), seed, &image, || what() + ": searches agree with neither map");
@@ -248,14 +225,7 @@ fn main() {
             let w = start(n) + random.below(32) as usize;
             d[w] = [0, MARK, d[w].wrapping_add(1), d[w].wrapping_sub(1), d[random.below(d.len() as u64) as usize]][random.below(5) as usize];
             refused += (met.tried(&d, Call::Insert(tower.key, random.next())).0.number == 4) as u64;
-            let want = search(&d, tower.key);
-            let got = calls::search(&d, tower.key);
-            let right = match want {
-                Answer::Found(r) => got == (0, Some(r)),
-                Answer::Absent => got == (255, None),
-                Answer::Refused(n) => got == (n, None),
-            };
-            expect(right, seed, &d, || format!("search for {}: wanted {want:?}, got {got:?}", tower.key));
+            same_search(&d, tower.key, seed);
         }
     }
     println!("damaged tables {}, not sound {refused}", 60 * size);

@@ -43,12 +43,17 @@ fn with(t: &[u64], word: usize, value: u64) -> Vec<u64> {
 }
 
 fn finds(t: &[u64], key: u64, recording: u64) {
-    gives(&format!("search for {key}"), t, calls::search(t, key), (0, Some(recording)));
+    gives(&format!("search for {key}"), t, calls::search(t, key), calls::found(recording));
 }
 
-/// A search's number other than 0; the word for the recording stays.
+/// The key is absent, and this one is the next up.
+fn lacks(t: &[u64], key: u64, next: Option<u64>) {
+    gives(&format!("search for {key}"), t, calls::search(t, key), calls::absent(next));
+}
+
+/// A search's refusal; every lent word stays.
 fn search_gives(t: &[u64], key: u64, number: u64) {
-    gives(&format!("search for {key}"), t, calls::search(t, key), (number, None));
+    gives(&format!("search for {key}"), t, calls::search(t, key), calls::refused(number));
 }
 
 const FULL: [(u64, u64); 11] = [(10, 1), (20, 2), (30, 3), (40, 4), (50, 5), (60, 6), (70, 7), (80, 8), (90, 9), (100, 10), (110, 11)];
@@ -64,7 +69,8 @@ fn root_levels() {
     let list = [0; 2560];
     let t = chain(15);
     finds(&t, 5, 50);
-    search_gives(&t, 6, 255);
+    lacks(&t, 6, None);
+    lacks(&t, 0, Some(5));
     gives("repair", &t, calls::repair(&t, &list).number, 0);
     gives("listing", &t, calls::list(&t, 0, MARK, &[7; 4]), (0, [Some(1), Some(0)], vec![5, 50, 7, 7]));
     let t = chain(16);
@@ -115,9 +121,104 @@ fn absent_search() {
     let t = table(1, &[([MARK, 0, 0, 0], &[(20, 5), (25, 5), (30, 6)])]);
     finds(&t, 20, 5);
     finds(&t, 30, 6);
-    for key in [0, 19, 21, 25, 31, MARK] {
-        search_gives(&t, key, 255);
+    // The hidden slot's key is absent, and is no neighbour.
+    for (key, next) in [(0, Some(20)), (19, Some(20)), (21, Some(30)), (25, Some(30)), (29, Some(30)), (31, None), (MARK - 1, None), (MARK, None)] {
+        lacks(&t, key, next);
     }
+    // MARK is a key like any other, and the next one up of those below it.
+    let t = table(1, &[([MARK, 0, 0, 0], &[(0, 5), (20, 6), (MARK, 7)])]);
+    finds(&t, 0, 5);
+    finds(&t, MARK, 7);
+    for (key, next) in [(1, Some(20)), (19, Some(20)), (21, Some(MARK)), (MARK - 1, Some(MARK))] {
+        lacks(&t, key, next);
+    }
+    lacks(&table(1, &[([MARK, 0, 0, 0], &[])]), MARK, None);
+    // 'First' goes by place in the leaf, where keys do not rise.
+    let t = table(1, &[([MARK, 0, 0, 0], &[(40, 1), (30, 2), (50, 3)])]);
+    lacks(&t, 10, Some(40));
+    lacks(&t, 35, Some(40));
+    lacks(&t, 45, Some(50));
+}
+
+/// The neighbour is looked for along the siblings, in leaves that may be empty.
+fn neighbours_further_on() {
+    // Node 1 begins at word 8, node 2 at 40, node 3 at 72, node 4 at 104, node 5 at 136.
+    let root: Words = ([2, 0, 1, 0], &[(40, 3), (60, 4), (80, 5)]);
+    let t = table(1, &[root, ([MARK, 3, 0, 0], &[(10, 1)]), ([MARK, 4, 0, 40], &[]), ([MARK, 5, 0, 60], &[]), ([MARK, 0, 0, 80], &[(80, 4), (85, 5)])]);
+    for (key, next) in [(0, Some(10)), (11, Some(80)), (40, Some(80)), (59, Some(80)), (60, Some(80)), (79, Some(80)), (81, Some(85)), (86, None)] {
+        lacks(&t, key, next);
+    }
+    gives("repair", &t, calls::repair(&t, &[0; 2560]).counts, [Some(0); 2]);
+    // The last leaf empty too: none from 11 on.
+    let none = with(&t, 145, 0);
+    lacks(&none, 9, Some(10));
+    for key in [11, 40, 70, 80, 86] {
+        lacks(&none, key, None);
+    }
+    // A slot that is not below its leaf's sibling's fence is no neighbour: the sibling's is. Nor is a hidden one.
+    let t = table(1, &[([MARK, 2, 0, 0], &[(10, 1), (40, 6), (60, 7)]), ([MARK, 0, 0, 40], &[(45, 8), (50, 8), (60, 7)])]);
+    lacks(&t, 9, Some(10));
+    lacks(&t, 20, Some(45));
+    lacks(&t, 46, Some(60));
+    lacks(&t, 61, None);
+    // A leaf further on that fails the tests is met only where no slot before it answers.
+    let t = table(1, &[([MARK, 2, 0, 0], &[(10, 1)]), ([MARK, 3, 0, 40], &[(45, 2)]), ([MARK, 4, 0, 60], &[]), ([MARK, 0, 0, 80], &[(90, 3)])]);
+    lacks(&t, 9, Some(10));
+    lacks(&t, 50, Some(90));
+    for (word, value) in [(73, 5), (73, MARK), (106, 1), (106, MARK)] {
+        let bad = with(&t, word, value);
+        lacks(&bad, 9, Some(10));
+        lacks(&bad, 20, Some(45));
+        finds(&bad, 45, 2);
+        search_gives(&bad, 46, 3);
+    }
+    // The sibling of the search's last leaf is tested before its slots are used, also after a move; not where the key is there.
+    for (word, value) in [(41, 5), (41, MARK), (74, 1)] {
+        let bad = with(&t, word, value);
+        search_gives(&bad, 41, 3);
+        finds(&bad, 45, 2);
+        lacks(&bad, 9, Some(10));
+    }
+}
+
+/// At most N leaves are entered for the neighbour, the search's last and repeats counted.
+fn rings_of_leaves() {
+    // A leaf that is its own sibling. With fence 0 no slot is below it, and the search moves to the leaf itself.
+    let t = table(1, &[([MARK, 1, 0, 0], &[(10, 1)])]);
+    finds(&t, 10, 1);
+    search_gives(&t, 9, 3);
+    search_gives(&t, 11, 3);
+    let t = with(&t, 11, 50);
+    finds(&t, 10, 1);
+    lacks(&t, 9, Some(10));
+    search_gives(&t, 11, 3);
+    search_gives(&t, 60, 3);
+    // N leaves in a row without end: the last one's slots count, and that it has no sibling.
+    let three: [Words; 3] = [([MARK, 2, 0, 0], &[]), ([MARK, 3, 0, 20], &[]), ([MARK, 0, 0, 40], &[(50, 5)])];
+    let t = table(1, &three);
+    lacks(&t, 0, Some(50));
+    lacks(&t, 20, Some(50));
+    lacks(&with(&t, 81, 0), 0, None);
+    // The third leaf's sibling is the first, with fence 0: none of its slots counts, and a fourth leaf may not be entered.
+    let ring = with(&t, 73, 1);
+    for key in [0, 20, 49, 51] {
+        search_gives(&ring, key, 3);
+    }
+    // Fences above every key: no move, and every slot counts. The third of three leaves still answers, from each start.
+    let far: [Words; 3] = [([MARK, 2, 0, MARK], &[]), ([MARK, 3, 0, MARK], &[]), ([MARK, 1, 0, MARK], &[(50, 5)])];
+    for root in 1..=3 {
+        let ring = table(root, &far);
+        lacks(&ring, 49, Some(50));
+        search_gives(&ring, 51, 3);
+        // The same ring in a table of more nodes goes round more often, to the same end.
+        let larger = table(root, &[far[0], far[1], far[2], FREE, FREE]);
+        lacks(&larger, 49, Some(50));
+        search_gives(&larger, 51, 3);
+    }
+    // A slot that comes round: the search for 45 moves to leaf 3 and goes on to leaf 1, where 70 is below leaf 2's fence.
+    let round = table(2, &[([MARK, 2, 0, 0], &[(70, 1)]), ([MARK, 3, 0, 90], &[]), ([MARK, 1, 0, 40], &[])]);
+    lacks(&round, 45, Some(70));
+    search_gives(&round, 70, 3);
 }
 
 fn listing_refusals() {
@@ -228,7 +329,8 @@ fn largest_table() {
     gives("making in 2,097,128 words", &[], (t[8], t[9..].iter().all(|&w| w == 0)), (MARK, true));
     let after = calls::insert(&t, &[0; 2560], 5, 50);
     gives("insertion into 65,535 nodes", &[], (after.number, after.counts), (0, [Some(4), Some(1)]));
-    gives("search in 65,535 nodes", &[], calls::search(&after.table, 5), (0, Some(50)));
+    gives("search in 65,535 nodes", &[], calls::search(&after.table, 5), calls::found(50));
+    gives("search in 65,535 nodes", &[], calls::search(&after.table, 4), calls::absent(Some(5)));
     gives("listing of 65,535 nodes", &[], calls::list(&after.table, 0, MARK, &[7; 3]), (0, [Some(1), Some(0)], vec![5, 50, 7]));
 
     let (number, same) = calls::make(&words);
@@ -236,7 +338,7 @@ fn largest_table() {
     let mut larger = t;
     larger.extend([0; 32]);
     larger[2] = 65_536;
-    gives("search in 65,536 nodes", &[], calls::search(&larger, 5), (2, None));
+    gives("search in 65,536 nodes", &[], calls::search(&larger, 5), calls::refused(2));
     gives("listing of 65,536 nodes", &[], calls::list(&larger, 0, MARK, &[7; 2]), (2, [None; 2], vec![7; 2]));
     gives("repair of 65,536 nodes", &[], calls::repair(&larger, &[0; 2560]).number, 2);
     gives("carry-out on 65,536 nodes", &[], calls::carry_out(&larger, &[], 0).0, 2);
@@ -269,10 +371,12 @@ fn codes() {
 }
 
 fn main() {
-    let vectors: [(&str, fn()); 9] = [
+    let vectors: [(&str, fn()); 11] = [
         ("a root at level 15 is searched, one at 16 refused", root_levels),
         ("search's 3 in each of its causes", search_refusals),
-        ("an absent search leaves its word", absent_search),
+        ("an absent key's neighbour", absent_search),
+        ("neighbours along the siblings", neighbours_further_on),
+        ("rings of leaves", rings_of_leaves),
         ("a listing's 2 before 4", listing_refusals),
         ("carry-out's c", carry_out_counts),
         ("fresh nodes after the node being split, going round", fresh_nodes),

@@ -13,12 +13,12 @@ use Rattle.model.specs.Refusals.{written, tableAfter, listAfter, writtenNumber,
 
 -- the version of the calls' shapes: raised by each change of a name, a parameter or what a word means
 abbrev pub version : ℕ
-version = 1
+version = 2
 
 -- a search of C's: 0 for found, 255 for absent
 abbrev pub searchNumber : Answer → ℕ
 searchNumber (Found r) = 0
-searchNumber Absent = 255
+searchNumber (Absent x) = 255
 searchNumber (Refused n) = n
 
 -- a write's answer: its number, and the two counts in lent words, which stay on refusal

@@ -2,6 +2,7 @@
 // only where the call does its work.
 use model::Answer;
 use model::Listed;
+use model::Next;
 use model::Outcome;
 use model::Parsed;
 use model::Written;
@@ -9,7 +10,7 @@ ghost use mathlib.Core.Path.{_≡_};
 ghost use Rattle.model.specs.Codes.{parse, print, parsedNumber, keyOr};
 ghost use Rattle.model.specs.Table.{making, made, outcomeNumber};
 ghost use Rattle.model.specs.Orders.{carryOut, carriedOut};
-ghost use Rattle.model.specs.Search.{search, recordingOr};
+ghost use Rattle.model.specs.Search.{search, recordingOr, nextOr, higherOr};
 ghost use Rattle.model.specs.Writes.{insertion, deletion, repair};
 ghost use Rattle.catalogue.specs.Answers.{version, searchNumber, Counted, Wrote, Showed};
 ghost use Rattle.model.specs.Listing.{list, listOut};
@@ -20,7 +21,7 @@ ghost use mathlib.Core.Bool.{cond};
 pub extern "C" fn catalogue_version() -> u64
     ensures { λ r. ⌜ r ≡ version ⌝ }
 {
-    1
+    2
 }
 
 // 0 and the code's key, or 1.
@@ -69,18 +70,37 @@ pub extern "C" fn catalogue_make(table: &mut [u64]) -> u64
     number_of(node::make(table))
 }
 
-// 0 and the recording where the key is found, 255 where it is absent, else 2 or 3.
+// 0 and the recording where the key is found; 255 where it is absent, with 1 and the next key up, or 0 where there is none; else 2 or 3.
 #[no_mangle]
-pub extern "C" fn catalogue_search(table: &[u64], key: u64, recording: &mut u64) -> u64
+pub extern "C" fn catalogue_search(
+    table: &[u64],
+    key: u64,
+    recording: &mut u64,
+    next: &mut u64,
+    higher: &mut u64,
+) -> u64
     ensures { λ r. ⌜ r ≡ searchNumber (search (now (table .entry)) key) ⌝ }
     ensures { λ r. ⌜ now (recording .exit) ≡ recordingOr (search (now (table .entry)) key) (now (recording .entry)) ⌝ }
+    ensures { λ r. ⌜ now (next .exit) ≡ nextOr (search (now (table .entry)) key) (now (next .entry)) ⌝ }
+    ensures { λ r. ⌜ now (higher .exit) ≡ higherOr (search (now (table .entry)) key) (now (higher .entry)) ⌝ }
 {
     match search::search(table, key) {
         Answer::Found(r) => {
             *recording = r;
             0
         }
-        Answer::Absent => 255,
+        Answer::Absent(up) => {
+            match up {
+                Next::Key(k) => {
+                    *next = k;
+                    *higher = 1;
+                }
+                Next::Nothing => {
+                    *higher = 0;
+                }
+            }
+            255
+        }
         Answer::Refused(n) => n as u64,
     }
 }

@@ -7,6 +7,7 @@ use Prim.Native.Nat.{ℕ, suc, _+_, _*_}
 use lib.Dec.{eqb}
 use lib.ListN.{length, take, drop, set, replicate}
 use Rattle.model.specs.declared.Answer.the-variants.{Found, Absent}
+use Rattle.model.specs.declared.Next.the-variants.{Nothing}
 use Rattle.model.specs.Table.{MARK, Words, nodes, root, empty, nodeStart, line}
 use Rattle.model.specs.Slots.{Slot, slot, View, view, used, nodeView}
 use Rattle.model.specs.Search.{searchView, search}
@@ -81,7 +82,7 @@ pub record KeyFirst : Type 0 where
   pub right-maps : mapsOfParts (shiftBy moveUp) twoSlots ≡ replicate 8 twoPairs ++ ((slot 10 101 ∷ twoPairs) ∷ [])
   -- key first: a shown slot pairs 20 with the recording of 30, and 30 is lost
   pub wrong-pair : mapOf keyFirstCut ≡ slot 20 102 ∷ slot 20 103 ∷ []
-  pub lost : search keyFirstCut 30 ≡ Absent
+  pub lost : search keyFirstCut 30 ≡ Absent Nothing
   pub neither : OldOrNew (insertion 10 101) twoSlots keyFirstCut → ⊥
   pub unsound : sound keyFirstCut ≡ false
 
@@ -124,10 +125,10 @@ pub record FirstKey : Type 0 where
   -- no key read as 0: the search for 50 leaves A for the empty B
   pub emptied-settled : settled emptied ≡ true
   pub finds-fifty : search emptied 50 ≡ Found 105
-  pub misses-fifty : searchView (byFirstKey 0 (view emptied)) 50 ≡ Absent
+  pub misses-fifty : searchView (byFirstKey 0 (view emptied)) 50 ≡ Absent Nothing
   -- no key read as the largest: the search for 60 stays in A and finds what the map does not have
   pub trailing-sound : sound trailing ≡ true
-  pub sixty-absent : search trailing 60 ≡ Absent
+  pub sixty-absent : search trailing 60 ≡ Absent Nothing
   pub finds-sixty : searchView (byFirstKey MARK (view trailing)) 60 ≡ Found 106
 
 pub first-key : FirstKey
@@ -154,7 +155,7 @@ shiftCut = apply (take 2 (storesOf (insertion 10 101) twoSlots)) twoSlots
 
 pub record EqualKeys : Type 0 where
   pub right-map : mapOf shiftCut ≡ twoPairs
-  pub right-answer : search shiftCut 40 ≡ Absent
+  pub right-answer : search shiftCut 40 ≡ Absent Nothing
   -- the deleted code 40 leads to its neighbour's recording
   pub wrong-map : mapping (hidingByKeys shiftCut) ≡ twoPairs ++ (slot 40 103 ∷ [])
   pub wrong-answer : searchView (hidingByKeys shiftCut) 40 ≡ Found 103
@@ -242,7 +243,7 @@ pub record FlushedAtEnd : Type 0 where
   -- the link arrives before B, whose fence is still 0: every pair is lost
   pub wrong-image : CutImage 66 fullLeaf (flushedAtEnd (storesOf nextKey fullLeaf)) unorderedImage
   pub lost : mapOf unorderedImage ≡ []
-  pub lost-ten : search unorderedImage 10 ≡ Absent
+  pub lost-ten : search unorderedImage 10 ≡ Absent Nothing
   pub neither : OldOrNew nextKey fullLeaf unorderedImage → ⊥
 
 pub flushed-at-end : FlushedAtEnd

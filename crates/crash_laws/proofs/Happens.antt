@@ -6,6 +6,7 @@ use Prim.Native.Nat.{ℕ, _≤_}
 use native.Mathlib.Omega.{arith}
 use lib.ListN.{length, take, replicate}
 use Rattle.model.specs.declared.Answer.the-variants.{Found, Absent}
+use Rattle.model.specs.declared.Next.the-variants.{Key, Nothing}
 use Rattle.model.specs.Table.{Words}
 use Rattle.model.specs.Search.{search}
 use Rattle.model.specs.SoundTest.{settled, sound}
@@ -63,9 +64,9 @@ pub record Computed : Type 0 where
       × (numberOf (runAll 1 inserted) (event (insertion 10 101) (cut 3 image)) ≡ 0) × (numberOf (runAll 1 cutShort) (event (deletion 20) whole) ≡ 0)
   pub seven-orders : length ordersCut ≡ 7
   pub image-sound : (sound image ≡ true) × (settled image ≡ false)
-  pub image-has : (search image 20 ≡ Found 102) × (search image 10 ≡ Absent)
+  pub image-has : (search image 20 ≡ Found 102) × (search image 10 ≡ Absent (Key 20))
   pub reloaded : (runAll 1 cutShort .memory ≡ image) × (runAll 1 cutShort .working ≡ image)
-  pub gone : search (runAll 1 deleted .memory) 20 ≡ Absent
+  pub gone : search (runAll 1 deleted .memory) 20 ≡ Absent Nothing
   pub settled-again : settled (runAll 1 deleted .memory) ≡ true
 
 pub computed : Computed

@@ -1,4 +1,4 @@
--- Entering and leaving are those of an ordinary map: one key changes, every other key keeps its answer.
+-- Entering and leaving are those of an ordinary map: one key changes, every other key keeps its slot.
 use mathlib.Core.Path.{_≡_, refl, sym, ap, _∙_}
 use mathlib.Core.Bool.{Bool, true, false, cond}
 use mathlib.Core.List.{List, [], _∷_}
@@ -6,9 +6,8 @@ use mathlib.Core.Option.{Option, none, some}
 use Prim.Native.Nat.{ℕ}
 use lib.Dec.{eqb, ltb}
 use borrow.Author.Tests.{eqb-true, eqb-false, ne-eqb}
-use Rattle.model.specs.declared.Answer.the-variants.{Found, Absent}
 use Rattle.model.specs.Slots.{Slot, slot}
-use Rattle.model.specs.Search.{firstWith, answerOf, lookup}
+use Rattle.model.specs.Search.{firstWith}
 use Rattle.model.specs.Refusals.{hasKey}
 use Rattle.model.specs.Ledger.{enter, leave}
 use Rattle.list_laws.proofs.Tools.{or-false-iff, first-nil, first-here, first-past}
@@ -21,7 +20,8 @@ front j k r ps = go (eqb k j) refl
     go true e = rw e (first-here j (slot k r) ps (eqb-true k j e))
     go false e = rw e (first-past j (slot k r) ps (eqb-false k j e))
 
-enter-first : (j k r : ℕ) (ps : List Slot) → hasKey k ps ≡ false → firstWith j (enter k r ps) ≡ cond (eqb k j) (some (slot k r)) (firstWith j ps)
+-- a pair more
+pub enter-first : (j k r : ℕ) (ps : List Slot) → hasKey k ps ≡ false → firstWith j (enter k r ps) ≡ cond (eqb k j) (some (slot k r)) (firstWith j ps)
 unfolding enter hasKey
 enter-first j k r [] h = front j k r []
 enter-first j k r (s ∷ ps) h = go (ltb k (s .key)) (eqb (s .key) j) refl refl (enter-first j k r ps)
@@ -40,7 +40,8 @@ enter-first j k r (s ∷ ps) h = go (ltb k (s .key)) (eqb (s .key) j) refl refl 
         let o = eqb-false (s .key) j e in
         rw q (first-past j s (enter k r ps) o ∙ ih (u .1) ∙ ap (λ (x : Option Slot). cond (eqb k j) (some (slot k r)) x) (sym (first-past j s ps o)))
 
-leave-first : (j k : ℕ) (ps : List Slot) → firstWith j (leave k ps) ≡ cond (eqb k j) none (firstWith j ps)
+-- a pair less
+pub leave-first : (j k : ℕ) (ps : List Slot) → firstWith j (leave k ps) ≡ cond (eqb k j) none (firstWith j ps)
 unfolding leave
 leave-first j k [] = rw (first-nil j [] tt) (same (eqb k j))
   where
@@ -64,17 +65,3 @@ leave-first j k (s ∷ ps) = go (eqb (s .key) k) (eqb k j) (eqb (s .key) j) refl
     go false false false p q e ih =
         let o = eqb-false (s .key) j e in
         rw (p, q) (first-past j s (leave k ps) o ∙ ih ∙ rw q (sym (first-past j s ps o)))
-
--- ---- the answers
-
-answer-cond : (b : Bool) (x y : Option Slot) → answerOf (cond b x y) ≡ cond b (answerOf x) (answerOf y)
-answer-cond true x y = refl
-answer-cond false x y = refl
-
-pub enter-lookup : (j k r : ℕ) (ps : List Slot) → hasKey k ps ≡ false → lookup j (enter k r ps) ≡ cond (eqb k j) (Found r) (lookup j ps)
-unfolding lookup
-enter-lookup j k r ps h = ap answerOf (enter-first j k r ps h) ∙ answer-cond (eqb k j) (some (slot k r)) (firstWith j ps)
-
-pub leave-lookup : (j k : ℕ) (ps : List Slot) → lookup j (leave k ps) ≡ cond (eqb k j) Absent (lookup j ps)
-unfolding lookup
-leave-lookup j k ps = ap answerOf (leave-first j k ps) ∙ answer-cond (eqb k j) none (firstWith j ps)

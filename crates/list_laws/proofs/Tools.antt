@@ -7,10 +7,12 @@ use mathlib.Core.Option.{Option, none, some}
 use Prim.Native.Nat.{ℕ, suc, _*_, _≤_, _<_}
 use native.Mathlib.Omega.{arith}
 use lib.Dec.{eqb, ltb, leb}
-use borrow.Author.Tests.{ltb-true, ltb-false, leb-true, eqb-true, eqb-false, eq-eqb, ne-eqb, le-leb}
-use Rattle.model.specs.declared.Answer.the-variants.{Found}
-use Rattle.model.specs.Slots.{Slot, recording}
-use Rattle.model.specs.Search.{firstWith, answerOf, lookup}
+use borrow.Author.Tests.{ltb-true, ltb-false, leb-true, eqb-true, eqb-false, eq-eqb, ne-eqb, lt-ltb, le-ltb, le-leb}
+use Rattle.model.specs.declared.Answer.the-variants.{Absent}
+use Rattle.model.specs.declared.Next.{Next}
+use Rattle.model.specs.declared.Next.the-variants.{Key}
+use Rattle.model.specs.Slots.{Slot}
+use Rattle.model.specs.Search.{firstWith, firstAbove, absentOr}
 use Rattle.model.specs.Reached.{filter, flat}
 use Rattle.model.specs.SoundTest.{all}
 pub use Rattle.list_laws.specs.Each.{Each}
@@ -176,11 +178,27 @@ pub first-past : (k : ℕ) (s : Slot) (ss : List Slot) → s .key ≢ k → firs
 unfolding firstWith
 first-past k s ss z = rw (ne-eqb (s .key) k z, firstWith)
 
--- the answer from it
-pub lookup-here : (k : ℕ) (s : Slot) (ss : List Slot) → s .key ≡ k → lookup k (s ∷ ss) ≡ Found (recording s)
-unfolding lookup
-lookup-here k s ss e = ap answerOf (first-here k s ss e)
+-- the next key up, in joined lists
+pub above-here : (k : ℕ) (s : Slot) (ss : List Slot) → k < s .key → firstAbove k (s ∷ ss) ≡ Key (s .key)
+unfolding firstAbove
+above-here k s ss h = rw (lt-ltb k (s .key) h, firstAbove)
 
-pub lookup-past : (k : ℕ) (s : Slot) (ss : List Slot) → s .key ≢ k → lookup k (s ∷ ss) ≡ lookup k ss
-unfolding lookup
-lookup-past k s ss z = ap answerOf (first-past k s ss z)
+pub above-past : (k : ℕ) (s : Slot) (ss : List Slot) → s .key ≤ k → firstAbove k (s ∷ ss) ≡ firstAbove k ss
+unfolding firstAbove
+above-past k s ss h = rw (le-ltb k (s .key) h, firstAbove)
+
+-- no slot of a has a key above k
+pub above-l : (k : ℕ) (a b : List Slot) → Each (λ (s : Slot). s .key ≤ k) a → firstAbove k (a ++ b) ≡ firstAbove k b
+above-l k [] b h = refl
+above-l k (s ∷ a) b h = above-past k s (a ++ b) (h .0) ∙ above-l k a b (h .1)
+
+-- the answer from it
+pub absent-append : (k : ℕ) (a b : List Slot) → absentOr (firstAbove k a) (Absent (firstAbove k b)) ≡ Absent (firstAbove k (a ++ b))
+unfolding firstAbove
+absent-append k [] b = refl
+absent-append k (s ∷ a) b = go (ltb k (s .key)) (absent-append k a b)
+  where
+    go : (c : Bool) → absentOr (firstAbove k a) (Absent (firstAbove k b)) ≡ Absent (firstAbove k (a ++ b))
+        → absentOr (elim c as (λ x. Next) [ true ↦ Key (s .key) | false ↦ firstAbove k a ]) (Absent (firstAbove k b)) ≡ Absent (elim c as (λ x. Next) [ true ↦ Key (s .key) | false ↦ firstAbove k (a ++ b) ])
+    go true ih = refl
+    go false ih = ih

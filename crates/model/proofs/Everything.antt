@@ -21,9 +21,9 @@ unfolding Codes.isDigit Codes.isLetter Codes.isLetterOrDigit Codes.every Codes.i
     Table.tableLength Table.nodesFor Table.lengthOk Table.inRange Table.allZero Table.headerOk Table.headerNumber Table.nodeStart Table.hasNode Table.blank
     Table.nodeFrom Table.node Table.spare Table.empty Table.making Table.made
     Slots.slotsOf Slots.inUse Slots.shown Slots.hidden Slots.full Slots.used Slots.clearIn
-    Search.below Search.moved Search.route Search.onLevel Search.passes Search.locate Search.pathFrom Search.firstWith Search.lookup Search.searchView
-    Search.search
-    Reached.filter Reached.flat Reached.kept Reached.firstChild Reached.fillRow Reached.children Reached.reachedFrom Reached.leavesFrom Reached.mapping
+    Search.below Search.moved Search.route Search.onLevel Search.passes Search.locate Search.pathFrom Search.firstWith Search.filter Search.kept
+    Search.firstAbove Search.nextFrom Search.lookup Search.searchView Search.search
+    Reached.flat Reached.firstChild Reached.fillRow Reached.children Reached.reachedFrom Reached.leavesFrom Reached.mapping
     SoundTest.all SoundTest.elem SoundTest.distinct SoundTest.siblingOk SoundTest.rising SoundTest.comeFirst SoundTest.keysOk SoundTest.linked SoundTest.childOk
     SoundTest.slotOk SoundTest.leafOk SoundTest.innerOk SoundTest.nodeOk SoundTest.rootOk SoundTest.orderly SoundTest.trailingIn SoundTest.own
     SoundTest.rowUnfinished SoundTest.unfinishedAt SoundTest.unfinished SoundTest.leftoverOf SoundTest.leftover SoundTest.room SoundTest.settledView

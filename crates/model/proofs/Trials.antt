@@ -7,6 +7,8 @@ use lib.Dec.{eqb}
 use lib.ListN.{length, take, drop, set}
 use Rattle.model.specs.declared.Answer.{Answer}
 use Rattle.model.specs.declared.Answer.the-variants.{Found, Absent, Refused}
+use Rattle.model.specs.declared.Next.{Next}
+use Rattle.model.specs.declared.Next.the-variants.{Key, Nothing}
 use Rattle.model.specs.Table.{Words, line, headerOk}
 use Rattle.model.specs.Slots.{Slot, View, view}
 use Rattle.model.specs.Search.{searchView, lookup}
@@ -24,13 +26,19 @@ use Rattle.model.proofs.Tables.{ways, stale, oneLevel, twoLevels}
 
 -- ---- answers, maps, words, keys
 
+abbrev pub sameNext : Next → Next → Bool
+sameNext (Key a) (Key b) = eqb a b
+sameNext (Key a) Nothing = false
+sameNext Nothing (Key b) = false
+sameNext Nothing Nothing = true
+
 abbrev pub sameAnswer : Answer → Answer → Bool
 sameAnswer (Found a) (Found b) = eqb a b
-sameAnswer (Found a) Absent = false
+sameAnswer (Found a) (Absent y) = false
 sameAnswer (Found a) (Refused n) = false
-sameAnswer Absent (Found b) = false
-sameAnswer Absent Absent = true
-sameAnswer Absent (Refused n) = false
+sameAnswer (Absent x) (Found b) = false
+sameAnswer (Absent x) (Absent y) = sameNext x y
+sameAnswer (Absent x) (Refused n) = false
 sameAnswer (Refused m) y = false
 
 abbrev pub sameMap : List Slot → List Slot → Bool

@@ -1,16 +1,12 @@
 -- Document 01, "Search": the nodes reached, the map, and a listing.
-use mathlib.Core.Bool.{Bool, true, false}
+use mathlib.Core.Bool.{true, false}
 use mathlib.Core.List.{List, [], _∷_, _++_, map}
-use Prim.Native.Nat.{ℕ, zero, suc, _+_}
+use Prim.Native.Nat.{ℕ, zero, suc}
 use lib.Dec.{eqb}
 use Rattle.model.specs.Table.{Words}
 use Rattle.model.specs.Slots.{Slot, View, view, height}
-use Rattle.model.specs.Search.{within}
 pub use Rattle.model.specs.Slots.{recording}
-
-unfoldable pub filter {ℓ} : {A : Type ℓ} → (A → Bool) → List A → List A
-filter p [] = []
-filter p (x ∷ xs) = elim (p x) [ true ↦ x ∷ filter p xs | false ↦ filter p xs ]
+unfoldable pub use Rattle.model.specs.Search.{filter, kept}
 
 unfoldable pub flat {ℓ} : {A B : Type ℓ} → (A → List B) → List A → List B
 flat g [] = []
@@ -23,11 +19,7 @@ headOr d (x ∷ xs) = x
 abbrev pub pointers : List Slot → List ℕ
 pointers ss = map (λ (s : Slot). s .pointer) ss
 
--- ---- the nodes reached
-
--- the shown slots whose key is below their node's sibling's fence; the others are ignored
-unfoldable pub kept : View → ℕ → List Slot
-kept v n = filter (λ (s : Slot). within v n (s .key)) (v .node n .shown)
+-- ---- the nodes reached, by left, by sibling and by kept slots
 
 -- the children that an inner node names: left, then by its kept slots
 abbrev pub named : View → ℕ → List ℕ

@@ -1,4 +1,4 @@
--- Document 01, "Search": finding the leaf, finding the slot in it, and the answer.
+-- Document 01, "Search": finding the leaf, finding the slot in it, and the answer; request 1: the next code up.
 use mathlib.Core.Bool.{Bool, true, false, _&&_, _||_}
 use mathlib.Core.List.{List, [], _∷_}
 use mathlib.Core.Option.{Option, none, some}
@@ -6,6 +6,8 @@ use Prim.Native.Nat.{ℕ, zero, suc}
 use lib.Dec.{leb, ltb, eqb}
 use Rattle.model.specs.declared.Answer.{Answer}
 use Rattle.model.specs.declared.Answer.the-variants.{Found, Absent, Refused}
+use Rattle.model.specs.declared.Next.{Next}
+use Rattle.model.specs.declared.Next.the-variants.{Key, Nothing}
 use Rattle.model.specs.Table.{Words, inRange, headerOk}
 use Rattle.model.specs.Slots.{Slot, recording, View, view, height}
 
@@ -53,25 +55,60 @@ module _ (v : View) where
 abbrev pub path : View → ℕ → List ℕ
 path v k = pathFrom v (height v) (v .root) k
 
--- ---- finding the slot, and the answer
+-- ---- finding the slot
 
 -- the first shown slot whose key is k
 unfoldable pub firstWith : ℕ → List Slot → Option Slot
 firstWith k [] = none
 firstWith k (s ∷ ss) = elim (eqb (s .key) k) [ true ↦ some s | false ↦ firstWith k ss ]
 
--- the answer from the slot found
-abbrev pub answerOf : Option Slot → Answer
-answerOf none = Absent
-answerOf (some s) = Found (recording s)
+-- ---- the next code up, where the key is absent
 
+unfoldable pub filter {ℓ} : {A : Type ℓ} → (A → Bool) → List A → List A
+filter p [] = []
+filter p (x ∷ xs) = elim (p x) [ true ↦ x ∷ filter p xs | false ↦ filter p xs ]
+
+-- the shown slots whose key is below their node's sibling's fence; the others are ignored
+unfoldable pub kept : View → ℕ → List Slot
+kept v n = filter (λ (s : Slot). within v n (s .key)) (v .node n .shown)
+
+-- the first slot with a larger key
+unfoldable pub firstAbove : ℕ → List Slot → Next
+firstAbove k [] = Nothing
+firstAbove k (s ∷ ss) = elim (ltb k (s .key)) [ true ↦ Key (s .key) | false ↦ firstAbove k ss ]
+
+-- the larger key of a leaf, or what the leaves after it answer
+abbrev pub absentOr : Next → Answer → Answer
+absentOr (Key j) later = Absent (Key j)
+absentOr Nothing later = later
+
+module _ (v : View) where
+  -- It is looked for from leaf n and on along the siblings: the first shown slot, below its own leaf's sibling's fence, with a larger key.
+  -- If a leaf on the way fails the search's tests, or more than c leaves would be entered, the search is refused with 3.
+  unfoldable pub nextFrom : (c n k : ℕ) → Answer
+  nextFrom zero n k = Refused 3
+  nextFrom (suc c) n k =
+      let s = v .node n .sibling in
+      elim (passes v 0 n) [
+        | true ↦ absentOr (firstAbove k (kept v n)) (elim (eqb s 0) [ true ↦ Absent Nothing | false ↦ nextFrom c s k ])
+        | false ↦ Refused 3
+      ]
+
+-- ---- the answer
+
+-- from the slot found; the answer where there is none is given
+abbrev pub answerOf : Option Slot → (absent : Answer) → Answer
+answerOf none absent = absent
+answerOf (some s) absent = Found (recording s)
+
+-- of a list of pairs
 unfoldable pub lookup : ℕ → List Slot → Answer
-lookup k ss = answerOf (firstWith k ss)
+lookup k ss = answerOf (firstWith k ss) (Absent (firstAbove k ss))
 
--- the answer from the leaf, where one was found
+-- from the leaf, where one was found; with it, N leaves may be entered
 abbrev pub answerIn : View → ℕ → Option ℕ → Answer
 answerIn v k none = Refused 3
-answerIn v k (some n) = lookup k (v .node n .shown)
+answerIn v k (some n) = answerOf (firstWith k (v .node n .shown)) (nextFrom v (v .nodes) n k)
 
 unfoldable pub searchView : View → ℕ → Answer
 searchView v k = elim (leb (height v) 15) [ true ↦ answerIn v k (locate v (height v) (v .root) k) | false ↦ Refused 3 ]
@@ -82,5 +119,18 @@ search t k = elim (headerOk t) [ true ↦ searchView (view t) k | false ↦ Refu
 -- the recording that a lent word then holds; it stays where there is none
 abbrev pub recordingOr : Answer → ℕ → ℕ
 recordingOr (Found r) old = r
-recordingOr Absent old = old
+recordingOr (Absent x) old = old
 recordingOr (Refused n) old = old
+
+-- the next key up, and 1 where there is one, 0 where there is none, that lent words then hold; they stay where the key is not absent
+abbrev pub nextOr : Answer → ℕ → ℕ
+nextOr (Found r) old = old
+nextOr (Absent (Key j)) old = j
+nextOr (Absent Nothing) old = old
+nextOr (Refused n) old = old
+
+abbrev pub higherOr : Answer → ℕ → ℕ
+higherOr (Found r) old = old
+higherOr (Absent (Key j)) old = 1
+higherOr (Absent Nothing) old = 0
+higherOr (Refused n) old = old

@@ -24,10 +24,16 @@ pub struct Printed {
     pub text: [u8; 12],
 }
 
-// What a search answers.
+// The nearest higher key, or that there is none.
+pub enum Next {
+    Key(u64),
+    Nothing,
+}
+
+// What a search answers; that a key is absent comes with the next one up.
 pub enum Answer {
     Found(u64),
-    Absent,
+    Absent(Next),
     Refused(u8),
 }
 

@@ -1,25 +1,28 @@
 -- Where a search stands on a level, and what it answers from there.
 use mathlib.Core.Path.{_≡_, refl, ap, sym, _∙_, subst}
-use mathlib.Core.Bool.{Bool, true, false, cond, false≢true}
-use mathlib.Core.Option.{none, some}
+use mathlib.Core.Bool.{Bool, true, false, cond, _||_, false≢true}
+use mathlib.Core.Option.{Option, none, some}
 use Prim.Native.Nat.{ℕ, zero, suc, _-_, _≤_, _<_}
 use native.Mathlib.Omega.{arith}
 use lib.Dec.{eqb, leb}
 use lib.ListN.{length}
 use borrow.Author.Tests.{eq-eqb, ne-eqb, lt-ltb, le-ltb, le-leb, lt-leb}
 use Rattle.model.specs.declared.Answer.{Answer}
-use Rattle.model.specs.declared.Answer.the-variants.{Refused}
+use Rattle.model.specs.declared.Answer.the-variants.{Found, Refused}
 use Rattle.model.specs.declared.Node.{Node}
-use Rattle.model.specs.Table.{Words, inRange, headerOk, headerNumber, hasNode, node, root}
-use Rattle.model.specs.Slots.{View, nodeView, view, height, used}
-use Rattle.model.specs.Search.{below, within, moved, route, down, onLevel, passes, locate, lookup, answerIn, searchView, search}
+use Rattle.model.specs.Table.{Words, inRange, headerOk, headerNumber, hasNode, node, nodes, root}
+use Rattle.model.specs.Slots.{Slot, View, nodeView, view, height, used}
+use Rattle.model.specs.Search.{below, within, moved, route, down, onLevel, passes, locate, firstWith, nextFrom, answerOf, answerIn, searchView, search}
 use Rattle.table_laws.proofs.Header.{header-iff, header-number-iff, header-number-refused}
 use Rattle.table_laws.proofs.Nodes.{has-node-range}
 use Rattle.node.specs.Word.{wordOf}
 use Rattle.node.proofs.WordLaws.{word-level, word-sibling, word-fence}
-use Rattle.list_laws.proofs.Tools.{decode, refuted}
+use Rattle.list_laws.proofs.Tools.{decode, and-iff, or-false-iff, refuted}
+use Rattle.slots.specs.declared.Held.{Held}
+use Rattle.slots.specs.declared.Held.the-variants.{Pointer, Nothing}
 use Rattle.slots.specs.Scan.{shownFrom}
-use Rattle.search.specs.Descent.{standOn, arrive}
+use Rattle.slots.specs.Held.{heldBy}
+use Rattle.search.specs.Descent.{standOn, arrive, answerHeld}
 
 -- ---- onLevel, from the words
 
@@ -92,6 +95,15 @@ stand-somewhere v l n k m e z = go (passes v l n) refl
     go : (b : Bool) → passes v l n ≡ b → (passes v l n ≡ true) × (moved v n k ≡ m)
     go true p = (p, sym (stand-pass v l n k true p) ∙ sym e)
     go false p = absurd (z (e ∙ stand-pass v l n k false p))
+
+-- the node stood on is on the level
+stood-on : (v : View) (l n k m : ℕ) → m ≡ standOn v l n k → (m ≡ 0 → ⊥) → onLevel v l m ≡ true
+unfolding passes below moved
+stood-on v l n k m e z = let u = stand-somewhere v l n k m e z in go (within v n k) refl (u .1) (and-iff (onLevel v l n) _ .0 (u .0))
+  where
+    go : (b : Bool) → within v n k ≡ b → moved v n k ≡ m → (onLevel v l n ≡ true) × (eqb (v .node n .sibling) 0 || onLevel v l (v .node n .sibling) ≡ true) → onLevel v l m ≡ true
+    go true w q p = rw (sym q ∙ stay v n k w) (p .0)
+    go false w q p = rw (sym q ∙ move v n k w) (rw (or-false-iff (eqb (v .node n .sibling) 0) _ .0 w .0) at (p .1))
 
 -- ---- coming down to level 0
 
@@ -187,9 +199,9 @@ module _ (t : Words) (m k : ℕ) (x : Node) (q : x ≡ node t m) where
   unfolding used
   down-read r h = h ∙ ap (λ (y : Node). route k (y .left) (shownFrom (y .left) (y .slots) 0)) q
 
-  pub answer-read : (r : Answer) → r ≡ lookup k (shownFrom (x .left) (x .slots) 0) → r ≡ lookup k (nodeView t m .shown)
+  pub held-read : (r : Held) → r ≡ heldBy (firstWith k (shownFrom (x .left) (x .slots) 0)) → r ≡ heldBy (firstWith k (nodeView t m .shown))
   unfolding used
-  answer-read r h = h ∙ ap (λ (y : Node). lookup k (shownFrom (y .left) (y .slots) 0)) q
+  held-read r h = h ∙ ap (λ (y : Node). heldBy (firstWith k (shownFrom (y .left) (y .slots) 0))) q
 
 -- ---- the whole search
 
@@ -209,6 +221,17 @@ bad-header t k h = rw (h, search)
 pub too-high : (t : Words) (k w : ℕ) → headerOk t ≡ true → w ≡ wordOf t (root t) 2 → 15 < w → Refused 3 ≡ search t k
 unfolding search searchView
 too-high t k w h e r = let b : leb (height (view t)) 15 ≡ false = rw (sym (word-level t (root t)) ∙ sym e) (lt-leb w 15 r) in rw (h, search) (rw (b, searchView))
+
+-- the answer from the slot found
+held-answer : (o : Option Slot) (x : Answer) → answerHeld (heldBy o) x ≡ answerOf o x
+held-answer none x = refl
+held-answer (some s) x = refl
+
+pub held-found : (h : Held) (p : ℕ) (x : Answer) → h ≡ Pointer p → Found p ≡ answerHeld h x
+held-found h p x e = rw e
+
+pub held-none : (h : Held) (r x : Answer) → h ≡ Nothing → r ≡ x → r ≡ answerHeld h x
+held-none h r x e q = rw e q
 
 -- what an answer from a leaf needs: the search came from the root down to n on level 0, and stands on m
 pub record Stands (t : Words) (k n m : ℕ) : Type 0 where
@@ -235,10 +258,18 @@ module _ (t : Words) (k n m : ℕ) (s : Stands t k n m) where
   pub lost : m ≡ 0 → Refused 3 ≡ search t k
   lost z = ap (answerIn (view t) k) (sym (leaf-failed (view t) n k (stand-nowhere (view t) 0 n k (sym (s .stands) ∙ z)))) ∙ leaf-search
 
-  pub answered : (r : Answer) → (m ≡ 0 → ⊥) → r ≡ lookup k (nodeView t m .shown) → r ≡ search t k
-  answered r z a =
-      let h = stand-somewhere (view t) 0 n k m (s .stands) z in
-      a ∙ ap (λ (x : ℕ). lookup k (nodeView t x .shown)) (sym (h .1)) ∙ ap (answerIn (view t) k) (sym (leaf-passed (view t) n k (h .0))) ∙ leaf-search
+  -- the leaf stood on
+  pub stood-level : (m ≡ 0 → ⊥) → onLevel (view t) 0 m ≡ true
+  stood-level z = stood-on (view t) 0 n k m (s .stands) z
 
-  pub answered-here : (r : Answer) → (m ≡ 0 → ⊥) → m ≡ n → r ≡ lookup k (nodeView t n .shown) → r ≡ search t k
-  answered-here r z e a = answered r z (a ∙ ap (λ (x : ℕ). lookup k (nodeView t x .shown)) (sym e))
+  pub stood-here : (m ≡ 0 → ⊥) → m ≡ n → onLevel (view t) 0 n ≡ true
+  stood-here z e = ap (onLevel (view t) 0) (sym e) ∙ stood-level z
+
+  pub answered : (r : Answer) (h : Held) → (m ≡ 0 → ⊥) → h ≡ heldBy (firstWith k (nodeView t m .shown)) → r ≡ answerHeld h (nextFrom (view t) (nodes t) m k) → r ≡ search t k
+  answered r h z e a =
+      let u = stand-somewhere (view t) 0 n k m (s .stands) z in
+      a ∙ ap (λ (y : Held). answerHeld y (nextFrom (view t) (nodes t) m k)) e ∙ held-answer (firstWith k (nodeView t m .shown)) (nextFrom (view t) (nodes t) m k)
+      ∙ ap (λ (x : ℕ). answerIn (view t) k (some x)) (sym (u .1)) ∙ ap (answerIn (view t) k) (sym (leaf-passed (view t) n k (u .0))) ∙ leaf-search
+
+  pub answered-here : (r : Answer) (h : Held) → (m ≡ 0 → ⊥) → m ≡ n → h ≡ heldBy (firstWith k (nodeView t n .shown)) → r ≡ answerHeld h (nextFrom (view t) (nodes t) n k) → r ≡ search t k
+  answered-here r h z e q a = answered r h z (q ∙ ap (λ (x : ℕ). heldBy (firstWith k (nodeView t x .shown))) (sym e)) (a ∙ ap (λ (x : ℕ). answerHeld h (nextFrom (view t) (nodes t) x k)) (sym e))

@@ -1,8 +1,12 @@
--- Where a search stands on each level, as one number: 0 where a test fails.
+-- Where a search stands on each level, as one number: 0 where a test fails; and its answer from the slot of the key.
 use mathlib.Core.Bool.{true, false, cond}
 use Prim.Native.Nat.{ℕ, zero, suc}
-use Rattle.model.specs.Slots.{View}
+use Rattle.model.specs.declared.Answer.{Answer}
+use Rattle.model.specs.declared.Answer.the-variants.{Found}
+use Rattle.model.specs.Slots.{View, recordingOf}
 use Rattle.model.specs.Search.{passes, moved, down}
+use Rattle.slots.specs.declared.Held.{Held}
+use Rattle.slots.specs.declared.Held.the-variants.{Pointer, Nothing}
 
 -- where a search stands, coming to n on level l; 0 where a test fails
 unfoldable pub standOn : View → (l n k : ℕ) → ℕ
@@ -12,3 +16,8 @@ standOn v l n k = cond (passes v l n) (moved v n k) 0
 unfoldable pub arrive : View → (l n k : ℕ) → ℕ
 arrive v zero n k = n
 arrive v (suc l) n k = elim (passes v (suc l) n) [ true ↦ arrive v l (down v (moved v n k) k) k | false ↦ 0 ]
+
+-- from the slot of the key; the answer where there is none is given
+abbrev pub answerHeld : Held → (absent : Answer) → Answer
+answerHeld (Pointer p) absent = Found (recordingOf p)
+answerHeld Nothing absent = absent

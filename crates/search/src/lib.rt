@@ -1,11 +1,15 @@
-// Search: finding the leaf, the slot in it, and the answer. Nothing is written.
+// Search: finding the leaf, the slot in it, and the answer; the next code up. Nothing is written.
 use model::Answer;
+use model::Next;
+use model::Node;
+use slots::Held;
 ghost use mathlib.Core.Path.{_≡_};
 ghost use mathlib.Core.Bool.{true};
-ghost use Rattle.model.specs.Table.{headerOk};
+ghost use Rattle.model.specs.Table.{headerOk, node, nodes};
 ghost use Rattle.model.specs.Slots.{view};
-ghost use Rattle.model.specs.Search.{onLevel, down, lookup, search};
-ghost use Rattle.search.specs.Descent.{standOn, arrive};
+ghost use Rattle.model.specs.Search.{onLevel, down, firstWith, nextFrom, search};
+ghost use Rattle.slots.specs.Held.{heldBy};
+ghost use Rattle.search.specs.Descent.{standOn, arrive, answerHeld};
 
 // The child that a search goes down to from node m.
 pub fn down(table: &[u64], m: u64, key: u64) -> u64
@@ -17,9 +21,9 @@ pub fn down(table: &[u64], m: u64, key: u64) -> u64
     slots::route(slots, left, key)
 }
 
-// What node m answers, as a leaf.
-fn answer_in(table: &[u64], m: u64, key: u64) -> Answer
-    ensures { λ r. ⌜ r ≡ lookup key (view (now (table .entry)) .node m .shown) ⌝ }
+// The slot of a key in node m.
+fn held_in(table: &[u64], m: u64, key: u64) -> Held
+    ensures { λ r. ⌜ r ≡ heldBy (firstWith key (view (now (table .entry)) .node m .shown)) ⌝ }
 {
     let x = node::read(table, m);
     let slots = x.slots;
@@ -81,7 +85,59 @@ fn descend(table: &[u64], n: u64, level: u64, key: u64) -> u64
     descend(table, other, level - 1, key)
 }
 
-// The recording of a key, or that it is absent; 2 and 3 as document 01 lays down.
+// The next key up, looked for from a leaf, which is read, and on along the siblings, in at most N leaves.
+fn next_from(table: &[u64], leaf: u64, read: Node, key: u64) -> Answer
+    requires { ⌜ headerOk (now table) ≡ true ⌝ }
+    requires { ⌜ onLevel (view (now table)) 0 leaf ≡ true ⌝ }
+    requires { ⌜ read ≡ node (now table) leaf ⌝ }
+    ensures { λ r. ⌜ r ≡ nextFrom (view (now (table .entry))) (nodes (now (table .entry))) leaf key ⌝ }
+{
+    let mut x = read;
+    let mut left = table[2];
+    while 0 < left {
+        let slots = x.slots;
+        let sibling = x.sibling;
+        if sibling == 0 {
+            let last = slots::above(slots, x.left, 0, 0, key);
+            return Answer::Absent(last);
+        }
+        if !node::has(table, sibling) {
+            return Answer::Refused(3);
+        }
+        let y = node::read(table, sibling);
+        if y.level != 0 {
+            return Answer::Refused(3);
+        }
+        let next = slots::above(slots, x.left, sibling, y.fence, key);
+        match next {
+            Next::Key(k) => {
+                return Answer::Absent(Next::Key(k));
+            }
+            Next::Nothing => {
+                x = y;
+                left -= 1;
+            }
+        }
+    }
+    Answer::Refused(3)
+}
+
+// The answer from leaf m, with the slot of the key in it. Only where there is none is the next key looked for.
+fn answer(table: &[u64], m: u64, held: Held, key: u64) -> Answer
+    requires { ⌜ headerOk (now table) ≡ true ⌝ }
+    requires { ⌜ onLevel (view (now table)) 0 m ≡ true ⌝ }
+    ensures { λ r. ⌜ r ≡ answerHeld held (nextFrom (view (now (table .entry))) (nodes (now (table .entry))) m key) ⌝ }
+{
+    match held {
+        Held::Pointer(p) => Answer::Found(p),
+        Held::Nothing => {
+            let x = node::read(table, m);
+            next_from(table, m, x, key)
+        }
+    }
+}
+
+// The recording of a key, or that it is absent, with the next key up; 2 and 3 as document 01 and request 1 lay down.
 pub fn search(table: &[u64], key: u64) -> Answer
     ensures { λ r. ⌜ r ≡ search (now (table .entry)) key ⌝ }
 {
@@ -95,13 +151,14 @@ pub fn search(table: &[u64], key: u64) -> Answer
     }
     let leaf = descend(table, root, top, key);
     // As on the way down: the leaf is mostly the one come to.
-    let answer = answer_in(table, leaf, key);
+    let held = held_in(table, leaf, key);
     let m = stand(table, leaf, 0, key);
     if m == 0 {
         return Answer::Refused(3);
     }
     if m == leaf {
-        return answer;
+        return answer(table, leaf, held, key);
     }
-    answer_in(table, m, key)
+    let other = held_in(table, m, key);
+    answer(table, m, other, key)
 }

@@ -10,15 +10,19 @@ use lib.Dec.{eqb, leb, ltb}
 use lib.ListN.{length, getD, set, replicate}
 use lib.Seq.{getD-set-same, getD-set-other}
 use borrow.Author.Tests.{eqb-true, eqb-false, eq-eqb, ne-eqb}
-use Rattle.model.specs.declared.Answer.the-variants.{Found, Absent}
+use Rattle.model.specs.declared.Next.the-variants as next
+use Rattle.model.specs.declared.Next.the-variants.{Key}
 use Rattle.model.specs.Table.{Words}
 use Rattle.model.specs.Slots.{Slot, slot, shown}
-use Rattle.model.specs.Search.{route, firstWith, lookup}
+use Rattle.model.specs.Search.{route, firstWith, firstAbove}
 use Rattle.model.specs.Reached.{filter}
-use Rattle.list_laws.proofs.Tools.{lookup-here, lookup-past}
+use Rattle.list_laws.proofs.Tools.{first-here, first-past, above-here, above-past}
 use Rattle.list_laws.proofs.Members.{mem-each}
 use Rattle.list_laws.proofs.Filters.{filter-all}
 use Rattle.slots.specs.declared.Ways.{Ways}
+use Rattle.slots.specs.declared.Held.the-variants as held
+use Rattle.slots.specs.declared.Held.the-variants.{Pointer}
+use Rattle.slots.specs.Held.{heldBy}
 use Rattle.slots.specs.Scan.{keeps, isKept, keptOf, isWay, wayAfter, countAfter}
 use Rattle.slots.specs.Gathered.{span, waysFrom}
 use Rattle.slots.proofs.Scans.{shown-hide, shown-show, picked}
@@ -44,19 +48,19 @@ way-more key way before k p w ss h = go (eqb p before) (leb k key) refl refl h
 
 -- ---- the slot of a key
 
-pub found-none : (key before : ℕ) → lookup key (shown before []) ≡ Absent
-unfolding lookup firstWith shown
+pub found-none : (key before : ℕ) → heldBy (firstWith key (shown before [])) ≡ held.Nothing
+unfolding firstWith shown
 found-none key before = refl
 
 module _ (key before k p : ℕ) (ss : List Slot) where
-  pub found-here : (p ≡ before → ⊥) → k ≡ key → lookup key (shown before (slot k p ∷ ss)) ≡ Found p
-  found-here d q = ap (lookup key) (shown-show before (slot k p) ss d) ∙ lookup-here key (slot k p) (shown p ss) q
+  pub found-here : (p ≡ before → ⊥) → k ≡ key → heldBy (firstWith key (shown before (slot k p ∷ ss))) ≡ Pointer p
+  found-here d q = ap (λ (x : List Slot). heldBy (firstWith key x)) (shown-show before (slot k p) ss d) ∙ ap heldBy (first-here key (slot k p) (shown p ss) q)
 
-  pub found-later : (p ≡ before → ⊥) → (k ≡ key → ⊥) → lookup key (shown before (slot k p ∷ ss)) ≡ lookup key (shown p ss)
-  found-later d q = ap (lookup key) (shown-show before (slot k p) ss d) ∙ lookup-past key (slot k p) (shown p ss) q
+  pub found-later : (p ≡ before → ⊥) → (k ≡ key → ⊥) → heldBy (firstWith key (shown before (slot k p ∷ ss))) ≡ heldBy (firstWith key (shown p ss))
+  found-later d q = ap (λ (x : List Slot). heldBy (firstWith key x)) (shown-show before (slot k p) ss d) ∙ ap heldBy (first-past key (slot k p) (shown p ss) q)
 
-  pub found-hidden : p ≡ before → lookup key (shown before (slot k p ∷ ss)) ≡ lookup key (shown p ss)
-  found-hidden d = ap (lookup key) (shown-hide before (slot k p) ss d)
+  pub found-hidden : p ≡ before → heldBy (firstWith key (shown before (slot k p ∷ ss))) ≡ heldBy (firstWith key (shown p ss))
+  found-hidden d = ap (λ (x : List Slot). heldBy (firstWith key x)) (shown-hide before (slot k p) ss d)
 
 -- ---- kept slots
 
@@ -106,6 +110,22 @@ module _ (s b before k p : ℕ) where
 pub count-none : (count s b before : ℕ) → count + length (keptOf s b (shown before [])) ≡ count
 unfolding shown filter
 count-none count s b before = omega arith
+
+-- ---- the next key up
+
+pub above-none : (key s b before : ℕ) → firstAbove key (keptOf s b (shown before [])) ≡ next.Nothing
+unfolding firstAbove shown filter
+above-none key s b before = refl
+
+module _ (key s b before k p : ℕ) (ss : List Slot) (w : Bool) (e : w ≡ isWay s b before k p) where
+  pub above-found : w ≡ true → key < k → firstAbove key (keptOf s b (shown before (slot k p ∷ ss))) ≡ Key k
+  above-found h l = ap (firstAbove key) (rw (kept-more s b before k p ss, ← e, h)) ∙ above-here key (slot k p) (keptOf s b (shown p ss)) l
+
+  pub above-low : w ≡ true → k ≤ key → firstAbove key (keptOf s b (shown before (slot k p ∷ ss))) ≡ firstAbove key (keptOf s b (shown p ss))
+  above-low h l = ap (firstAbove key) (rw (kept-more s b before k p ss, ← e, h)) ∙ above-past key (slot k p) (keptOf s b (shown p ss)) l
+
+  pub above-no-way : w ≡ false → firstAbove key (keptOf s b (shown before (slot k p ∷ ss))) ≡ firstAbove key (keptOf s b (shown p ss))
+  above-no-way h = ap (firstAbove key) (rw (kept-more s b before k p ss, ← e, h))
 
 -- ---- the ways
 

@@ -1,14 +1,15 @@
 // The slots of one node, given by value: its slot words, or its record. No table is read, nothing is written.
-use model::Answer;
+use model::Next;
 use model::Node;
 ghost use mathlib.Core.Path.{_≡_};
 ghost use mathlib.Core.List.{_∷_};
 ghost use Prim.Native.Nat.{pred, _≤_, _<_};
 ghost use lib.ListN.{length, take};
 ghost use Rattle.model.specs.Slots.{slot};
-ghost use Rattle.model.specs.Search.{route, lookup};
+ghost use Rattle.model.specs.Search.{route, firstWith, firstAbove};
 ghost use Rattle.model.specs.Shifts.{lastPointer, placeOf, hiddenPlace};
 ghost use Rattle.slots.specs.Scan.{usedFrom, inUseOf, shownFrom, keeps, keptOf, isWay, wayAfter, countAfter};
+ghost use Rattle.slots.specs.Held.{heldBy};
 ghost use Rattle.slots.specs.Surveyed.{reaches, stillFair, surveyedSlot, surveyed, begun};
 ghost use Rattle.slots.specs.Gathered.{slotsIn};
 
@@ -125,29 +126,35 @@ pub fn route(slots: [u64; 24], left: u64, key: u64) -> u64
     way
 }
 
-// What a leaf's slots answer: by the first shown slot whose key is the key.
-pub fn find(slots: [u64; 24], left: u64, key: u64) -> Answer
-    ensures { λ r. ⌜ r ≡ lookup key (shownFrom left slots 0) ⌝ }
+// The slot that holds a key: its pointer, or that there is none.
+pub enum Held {
+    Pointer(u64),
+    Nothing,
+}
+
+// Which of a leaf's slots holds the key: the first shown one whose key it is.
+pub fn find(slots: [u64; 24], left: u64, key: u64) -> Held
+    ensures { λ r. ⌜ r ≡ heldBy (firstWith key (shownFrom left slots 0)) ⌝ }
 {
     let mut before = left;
     let mut i = 0;
     while i < 12 {
         let p = slots[2 * i + 1];
         if p == 0 {
-            return Answer::Absent;
+            return Held::Nothing;
         }
         if p != before {
             if slots[2 * i] == key {
-                return Answer::Found(p);
+                return Held::Pointer(p);
             }
         }
         before = p;
         i += 1;
     }
-    Answer::Absent
+    Held::Nothing
 }
 
-// ---- kept slots: their number, and the ways down
+// ---- kept slots: their number, the next key up, and the ways down
 
 // Whether the key of a slot is below the sibling's fence, the bound; with sibling 0 every key is.
 pub fn keeps(sibling: u64, bound: u64, key: u64) -> bool
@@ -204,6 +211,29 @@ pub fn shown_count(slots: [u64; 24], left: u64) -> u64
     ensures { λ r. ⌜ r ≡ length (shownFrom left slots 0) ⌝ }
 {
     kept_count(slots, left, 0, 0)
+}
+
+// The first key above the key among a leaf's kept slots, the bound being the sibling's fence.
+pub fn above(slots: [u64; 24], left: u64, sibling: u64, bound: u64, key: u64) -> Next
+    ensures { λ r. ⌜ r ≡ firstAbove key (keptOf sibling bound (shownFrom left slots 0)) ⌝ }
+{
+    let mut before = left;
+    let mut i = 0;
+    while i < 12 {
+        let p = slots[2 * i + 1];
+        if p == 0 {
+            return Next::Nothing;
+        }
+        let k = slots[2 * i];
+        if is_way(sibling, bound, before, k, p) {
+            if key < k {
+                return Next::Key(k);
+            }
+        }
+        before = p;
+        i += 1;
+    }
+    Next::Nothing
 }
 
 // The ways down from a node: left, with the node's fence as key, then its kept slots.

@@ -7,6 +7,7 @@ pub mod Parents
 pub mod Rising
 pub mod Kept
 pub mod MapLaw
+pub mod NextLaw
 pub mod SearchLaw
 pub mod Sums
 pub mod Gaps

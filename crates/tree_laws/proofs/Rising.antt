@@ -10,8 +10,9 @@ use lib.Dec.{eqb, ltb}
 use lib.ListN.{length, take, drop, take-append-drop}
 use borrow.Author.Tests.{ltb-true, ltb-false, eqb-true, eqb-false, lt-ltb, le-ltb}
 use Rattle.model.specs.declared.Answer.the-variants.{Found, Absent, Refused}
+use Rattle.model.specs.declared.Next.{Next}
 use Rattle.model.specs.Slots.{Slot, slot, recording}
-use Rattle.model.specs.Search.{firstWith, answerOf, lookup}
+use Rattle.model.specs.Search.{firstWith, firstAbove, answerOf, lookup}
 use Rattle.model.specs.Reached.{filter}
 use Rattle.model.specs.SoundTest.{distinct, rising}
 use Rattle.model.specs.Sound.{Rise}
@@ -139,30 +140,34 @@ first-misses k (s ∷ ss) h = go (eqb (s .key) k) refl (first-misses k ss)
 
 -- ---- the answer from it
 
-answer-found : (o : Option Slot) (r : ℕ) → answerOf o ≡ Found r → (s : Slot) × (o ≡ some s) × (recording s ≡ r)
-answer-found none r e = let z : _≡_ {A = ℕ} 0 1 = cc in absurd (omega arith)
-answer-found (some s) r e = let p : recording s ≡ r = cc in (s, refl, p)
+answer-found : (o : Option Slot) (x : Next) (r : ℕ) → answerOf o (Absent x) ≡ Found r → (s : Slot) × (o ≡ some s) × (recording s ≡ r)
+answer-found none x r e = let z : _≡_ {A = ℕ} 0 1 = cc in absurd (omega arith)
+answer-found (some s) x r e = let p : recording s ≡ r = cc in (s, refl, p)
 
-answer-none : (o : Option Slot) → answerOf o ≡ Absent → o ≡ none
-answer-none none e = refl
-answer-none (some s) e = let z : _≡_ {A = ℕ} 0 1 = cc in absurd (omega arith)
+answer-none : (o : Option Slot) (x y : Next) → answerOf o (Absent x) ≡ Absent y → (o ≡ none) × (x ≡ y)
+answer-none none x y e = let p : x ≡ y = cc in (refl, p)
+answer-none (some s) x y e = let z : _≡_ {A = ℕ} 0 1 = cc in absurd (omega arith)
 
 pub found-iff : (lo k r : ℕ) (ss : List Slot) → rising lo ss ≡ true → (lookup k ss ≡ Found r) ↔ List·Memᴰ (slot k r) ss
 unfolding lookup
 found-iff lo k r ss h = (
-  λ e. let u = answer-found (firstWith k ss) r e in let m = first-mem k (u .0) ss (u .1) in Memᴰ·cast (sym (λ i. slot (m .1 i) (u .2 i))) (m .0),
-  λ m. ap answerOf (mem-first lo (slot k r) ss h m),
+  λ e. let u = answer-found (firstWith k ss) (firstAbove k ss) r e in let m = first-mem k (u .0) ss (u .1) in Memᴰ·cast (sym (λ i. slot (m .1 i) (u .2 i))) (m .0),
+  λ m. ap (λ (o : Option Slot). answerOf o (Absent (firstAbove k ss))) (mem-first lo (slot k r) ss h m),
 )
 
-pub absent-iff : (k : ℕ) (ss : List Slot) → (lookup k ss ≡ Absent) ↔ Misses k ss
+-- absent, with the next key up
+pub absent-iff : (k : ℕ) (x : Next) (ss : List Slot) → (lookup k ss ≡ Absent x) ↔ (Misses k ss × (x ≡ firstAbove k ss))
 unfolding lookup
-absent-iff k ss = (λ e. first-misses k ss (answer-none (firstWith k ss) e), λ m. ap answerOf (first-nil k ss m))
+absent-iff k x ss = (
+  λ e. let u = answer-none (firstWith k ss) (firstAbove k ss) x e in (first-misses k ss (u .0), sym (u .1)),
+  λ m. ap (λ (o : Option Slot). answerOf o (Absent (firstAbove k ss))) (first-nil k ss (m .0)) ∙ ap Absent (sym (m .1)),
+)
 
 pub lookup-answers : (k n : ℕ) (ss : List Slot) → lookup k ss ≢ Refused n
 unfolding lookup
 lookup-answers k n ss = go (firstWith k ss)
   where
-    go : (o : Option Slot) → answerOf o ≢ Refused n
+    go : (o : Option Slot) → answerOf o (Absent (firstAbove k ss)) ≢ Refused n
     go none e = let z : _≡_ {A = ℕ} 0 1 = cc in omega arith
     go (some s) e = let z : _≡_ {A = ℕ} 0 1 = cc in omega arith
 

@@ -1,27 +1,28 @@
 -- A search on a sound table: the nodes it stands on, level by level, and its answer, which is that of a lookup in the map.
 use mathlib.Core.Path.{_≡_, refl, ap, sym, _∙_}
-use mathlib.Core.Bool.{Bool, true, false, _&&_, _||_, false≢true}
+use mathlib.Core.Bool.{Bool, true, false, false≢true}
 use mathlib.Core.Logic.{_↔_, _≢_, ⊎-elim}
 use mathlib.Core.List.{List, [], _∷_, _++_, List·Memᴰ, List·Memᴰ·not-nil, List·Memᴰ·cases-cons, Memᴰ·cast}
-use mathlib.Core.Option.{some}
+use mathlib.Core.Option.{Option, some}
 use Prim.Native.Nat.{ℕ, zero, suc, _-_, _≤_, _<_}
 use native.Mathlib.Omega.{arith}
-use lib.Dec.{eqb}
 use lib.ListN.{length, getD}
-use borrow.Author.Tests.{eqb-false, le-leb}
+use borrow.Author.Tests.{le-leb}
 use Rattle.model.specs.declared.Answer.the-variants.{Found, Absent, Refused}
-use Rattle.model.specs.Table.{Words, inRange}
+use Rattle.model.specs.declared.Next.{Next}
+use Rattle.model.specs.Table.{Words}
 use Rattle.model.specs.Slots.{Slot, slot, View, view, height}
-use Rattle.model.specs.Search.{below, within, moved, down, onLevel, passes, locate, pathFrom, path, lookup, answerIn, searchView, search, firstWith, answerOf}
+use Rattle.model.specs.Search.{below, within, moved, down, locate, pathFrom, path, firstWith, firstAbove, nextFrom, answerOf, lookup, answerIn, searchView, search}
 use Rattle.model.specs.Reached.{flat, headOr, kept, named, nextChild, children, leavesFrom, reached, leaves, mapping, mapOf}
 use Rattle.model.specs.SoundTest.{soundView, sound}
-use Rattle.list_laws.proofs.Tools.{decode, or-right, Each, Each-map, Each-flat, Misses, first-l, first-r, first-filter}
+use Rattle.list_laws.proofs.Tools.{Each, Each-map, Each-flat, Misses, first-l, first-r, first-filter}
 use Rattle.list_laws.proofs.Members.{each-mem, each-index}
-use Rattle.tree_laws.proofs.Rows.{Good, At, Row, Inner, inners, sib-facts, linked-cons, fill-mem}
+use Rattle.tree_laws.proofs.Rows.{Good, At, Row, Inner, inners, linked-cons, fill-mem}
 use Rattle.tree_laws.proofs.Cover.{cover, cover-in, cover-out, cover-has, cover-mem, cover-fence, cover-child, cover-flat, stays, below-true, within-up-to, step-down, step-whole, down-named, nexts}
 use Rattle.tree_laws.proofs.Levels.{Orderly, sound-orderly, sound-parts, Level, level-lower, level-root, level-at, level-leaves, rowAt, row-below, row-reached, reached-row, row-tail, head-least, orderly-of}
 use Rattle.tree_laws.proofs.Rising.{found-iff, absent-iff, lookup-answers}
 use Rattle.tree_laws.proofs.MapLaw.{map-rising, leaf-part}
+use Rattle.tree_laws.proofs.NextLaw.{passes-good, next-law, IsNext, next-least}
 
 -- ---- one level
 
@@ -85,14 +86,6 @@ step v k d ns l =
     }
 
 -- ---- the path
-
-passes-good : (v : View) (d n : ℕ) → Good v n → At v d n → passes v d n ≡ true
-unfolding passes onLevel
-passes-good v d n g a = simp decode ((a .range, a .level), go (eqb (v .node n .sibling) 0) refl)
-  where
-    go : (b : Bool) → eqb (v .node n .sibling) 0 ≡ b → eqb (v .node n .sibling) 0 || (inRange (v .nodes) (v .node n .sibling) && eqb (v .node (v .node n .sibling) .level) d) ≡ true
-    go true c = rw c
-    go false c = let w = sib-facts v n g (eqb-false _ _ c) in or-right (eqb (v .node n .sibling) 0) _ (simp decode (w .range, w .level ∙ a .level))
 
 module _ (v : View) (k : ℕ) where
   locate-from : (d n : ℕ) (ns : List ℕ) → Level v d ns → Good v n → At v d n → moved v n k ≡ cover v k ns → locate v d n k ≡ some (cover v k (leavesFrom v d ns))
@@ -203,20 +196,29 @@ pub search-view : (v : View) (k : ℕ) → soundView v ≡ true → searchView v
 unfolding searchView lookup
 search-view v k h =
     let o = sound-orderly v h in
+    let x = leafFor v k in
     let c = leaf-covers v k o in
-    rw (le-leb (height v) 15 (o .top .level), searchView) (ap (answerIn v k) (locate-leaf v k o) ∙ ap answerOf (sym (range-first v k (leafFor v k) o (leaf-mem v k o) (c .fence) (c .inside))))
+    let m = leaf-mem v k o in
+    rw (le-leb (height v) 15 (o .top .level), searchView)
+    (ap (answerIn v k) (locate-leaf v k o)
+    ∙ ap (λ (s : Option Slot). answerOf s (nextFrom v (v .nodes) x k)) (sym (range-first v k x o m (c .fence) (c .inside)))
+    ∙ ap (answerOf (firstWith k (mapping v))) (next-law v k x o m (c .fence)))
 
 -- On a sound table a search for any key answers as a lookup in the map.
 pub search-law : (t : Words) (k : ℕ) → sound t ≡ true → search t k ≡ lookup k (mapOf t)
 unfolding search
 search-law t k h = let u = sound-parts t .0 h in rw (u .0, search) (search-view (view t) k (u .1))
 
--- It finds r exactly if the map has (k, r), it is absent exactly if the map has no pair with key k, and it is never refused.
+-- It finds r exactly if the map has (k, r), it is absent exactly if the map has no pair with key k, with the next key up in the map,
+-- and it is never refused.
 pub search-found : (t : Words) (k r : ℕ) → sound t ≡ true → (search t k ≡ Found r) ↔ List·Memᴰ (slot k r) (mapOf t)
 search-found t k r h = let o = orderly-of t h in rw (search-law t k h) (found-iff 0 k r (mapOf t) (map-rising (view t) o))
 
-pub search-absent : (t : Words) (k : ℕ) → sound t ≡ true → (search t k ≡ Absent) ↔ Misses k (mapOf t)
-search-absent t k h = rw (search-law t k h) (absent-iff k (mapOf t))
+pub search-absent : (t : Words) (k : ℕ) (x : Next) → sound t ≡ true → (search t k ≡ Absent x) ↔ (Misses k (mapOf t) × (x ≡ firstAbove k (mapOf t)))
+search-absent t k x h = rw (search-law t k h) (absent-iff k x (mapOf t))
+
+pub search-next : (t : Words) (k : ℕ) (x : Next) → sound t ≡ true → search t k ≡ Absent x → IsNext k (mapOf t) x
+search-next t k x h e = rw (search-absent t k x h .0 e .1) (next-least 0 k (mapOf t) (map-rising (view t) (orderly-of t h)))
 
 pub search-answers : (t : Words) (k n : ℕ) → sound t ≡ true → search t k ≢ Refused n
 search-answers t k n h = rw (search-law t k h) (lookup-answers k n (mapOf t))

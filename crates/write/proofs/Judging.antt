@@ -4,26 +4,30 @@ use mathlib.Core.Logic.{_≢_}
 use mathlib.Core.Bool.{Bool, true, false, cond, false≢true}
 use mathlib.Core.List.{List, [], _∷_, _++_}
 use mathlib.Core.Option.{some}
-use Prim.Native.Nat.{ℕ, zero, suc, _≤_, _<_}
+use Prim.Native.Nat.{ℕ, zero, suc, _-_, _≤_, _<_}
 use native.Mathlib.Omega.{arith}
 use lib.Dec.{eqb}
-use lib.ListN.{length}
+use lib.ListN.{length, getD}
 use borrow.Author.Tests.{lt-ltb, le-ltb}
-use Rattle.model.specs.declared.Answer.{Answer}
-use Rattle.model.specs.declared.Answer.the-variants.{Found, Absent}
-use Rattle.model.specs.declared.Answer.the-variants as answer
-use Rattle.model.specs.Table.{Words, headerOk, headerNumber}
-use Rattle.model.specs.Slots.{View, view, full}
-use Rattle.model.specs.Search.{search}
+use Rattle.model.specs.declared.Node.{Node}
+use Rattle.model.specs.Table.{Words, headerOk, headerNumber, node}
+use Rattle.model.specs.Slots.{View, view, nodeView, height, used, full}
+use Rattle.model.specs.Search.{path, firstWith}
 use Rattle.model.specs.Reached.{mapOf}
 use Rattle.model.specs.SoundTest.{sound}
-use Rattle.model.specs.Writes.{repaired, Call, repair}
+use Rattle.model.specs.Writes.{repaired, standing, Call, repair}
 use Rattle.model.specs.Refusals.{fullParent, parentFull, Test, firstNumber, hasKey, mapTests, elevenIn, tenIn, refusal}
 use Rattle.table_laws.proofs.Header.{header-number-refused}
-use Rattle.tree_laws.proofs.SearchLaw.{search-absent, search-answers}
-use Rattle.change_laws.proofs.Pairs.{has-key-iff}
+use Rattle.list_laws.proofs.Tools.{first-nil}
+use Rattle.tree_laws.proofs.Levels.{orderly-of}
+use Rattle.tree_laws.proofs.SearchLaw.{leafFor, leaf-mem, leaf-covers, path-leaf, range-first}
+use Rattle.change_laws.proofs.Pairs.{has-key-iff, has-key-found}
 use Rattle.step_laws.proofs.Accepted.{Allows, Accepted, accepted-iff}
 use Rattle.step_laws.proofs.Numbers.{number-on-sound}
+use Rattle.slots.specs.declared.Held.{Held}
+use Rattle.slots.specs.declared.Held.the-variants.{Pointer, Nothing}
+use Rattle.slots.specs.Scan.{shownFrom}
+use Rattle.slots.specs.Held.{heldBy}
 use Rattle.sound.specs.declared.Leftover.{Leftover}
 use Rattle.sound.specs.declared.Leftover.the-variants.{MissingIn, BothIn}
 use Rattle.sound.specs.declared.Checked.{Checked}
@@ -129,21 +133,39 @@ module _ (words : ℕ) (t : Words) where
 
 -- ---- whether the map has a key
 
-module _ (t : Words) (k : ℕ) (s : sound t ≡ true) (a : Answer) (e : a ≡ search t k) where
-  pub key-absent : a ≡ Absent → false ≡ hasKey k (mapOf t)
-  key-absent q = sym (has-key-iff k (mapOf t) .1 (search-absent t k s .0 (sym e ∙ q)))
+-- the leaf n for k, which is x, holds the slot that the map has for k
+held-map : (t : Words) (k n : ℕ) (x : Node) (h : Held) → sound t ≡ true → n ≡ standing t 0 k → x ≡ node t n → h ≡ heldBy (firstWith k (shownFrom (x .left) (x .slots) 0))
+    → h ≡ heldBy (firstWith k (mapOf t))
+unfolding standing used
+held-map t k n x h s e q f =
+    let v = view t in
+    let o = orderly-of t s in
+    let c = leaf-covers v k o in
+    let d : height v - 0 ≡ height v = omega arith in
+    let l : n ≡ leafFor v k = e ∙ ap (λ (i : ℕ). getD (path v k) i 0) d ∙ path-leaf v k o in
+    f ∙ ap (λ (y : Node). heldBy (firstWith k (shownFrom (y .left) (y .slots) 0))) q ∙ ap (λ (m : ℕ). heldBy (firstWith k (nodeView t m .shown))) l
+    ∙ ap heldBy (sym (range-first v k (leafFor v k) o (leaf-mem v k o) (c .fence) (c .inside)))
 
-  pub key-found : (r : ℕ) → a ≡ Found r → true ≡ hasKey k (mapOf t)
-  key-found r q = go (hasKey k (mapOf t)) refl
+module _ (t : Words) (k n : ℕ) (x : Node) (h : Held) (s : sound t ≡ true) (e : n ≡ standing t 0 k) (q : x ≡ node t n)
+    (f : h ≡ heldBy (firstWith k (shownFrom (x .left) (x .slots) 0))) where
+  pub key-absent : h ≡ Nothing → false ≡ hasKey k (mapOf t)
+  key-absent z = go (hasKey k (mapOf t)) refl
+    where
+      go : (b : Bool) → hasKey k (mapOf t) ≡ b → false ≡ hasKey k (mapOf t)
+      go false g = sym g
+      go true g =
+          let u = has-key-found k (mapOf t) g in
+          let p : Nothing ≡ Pointer (u .0) = sym z ∙ held-map t k n x h s e q f ∙ ap heldBy (u .1) in
+          let i : _≡_ {A = ℕ} 0 1 = cc in absurd (omega arith)
+
+  pub key-found : (r : ℕ) → h ≡ Pointer r → true ≡ hasKey k (mapOf t)
+  key-found r z = go (hasKey k (mapOf t)) refl
     where
       go : (b : Bool) → hasKey k (mapOf t) ≡ b → true ≡ hasKey k (mapOf t)
-      go true h = sym h
-      go false h =
-          let p : Found r ≡ Absent = sym q ∙ e ∙ search-absent t k s .1 (has-key-iff k (mapOf t) .0 h) in
-          let z : _≡_ {A = ℕ} 0 1 = cc in absurd (omega arith)
-
-  pub key-answered : (n : ℕ) → a ≡ answer.Refused n → ⊥
-  key-answered n q = search-answers t k n s (sym e ∙ q)
+      go true g = sym g
+      go false g =
+          let p : Pointer r ≡ Nothing = sym z ∙ held-map t k n x h s e q f ∙ ap heldBy (first-nil k (mapOf t) (has-key-iff k (mapOf t) .0 g)) in
+          let i : _≡_ {A = ℕ} 0 1 = cc in absurd (omega arith)
 
 -- ---- the parent that lacks a slot
 

@@ -1,6 +1,6 @@
 // What every writing call begins with: its refusals 2, 4, 5 and 12, the first pen and the repair; and whether the map has a key.
-use model::Answer;
 use orders::Pen;
+use slots::Held;
 use sound::Checked;
 use sound::Leftover;
 ghost use mathlib.Core.Path.{_≡_};
@@ -62,16 +62,18 @@ pub fn judge(table: &[u64], words: usize) -> Judged
     }
 }
 
-// Whether the map has the key.
+// Whether the map has the key: its leaf alone is looked at, and no next key.
 pub fn has_key(table: &[u64], key: u64) -> bool
     requires { ⌜ sound (now table) ≡ true ⌝ }
     ensures { λ r. ⌜ r ≡ hasKey key (mapOf (now (table .entry))) ⌝ }
 {
-    let answer = search::search(table, key);
-    match answer {
-        Answer::Found(_) => true,
-        Answer::Absent => false,
-        Answer::Refused(_) => false,
+    let leaf = reach::standing(table, 0, key);
+    let x = node::read(table, leaf);
+    let slots = x.slots;
+    let left = x.left;
+    match slots::find(slots, left, key) {
+        Held::Pointer(_) => true,
+        Held::Nothing => false,
     }
 }
 

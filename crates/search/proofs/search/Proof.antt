@@ -3,7 +3,7 @@ use native.Mathlib.Omega.{arith}
 use mathlib.Core.Path.{_≡_}
 use mathlib.Core.Bool.{true}
 use Rattle.model.specs.Table.{headerOk}
-use Rattle.search.proofs.Standing.{Stands, passed-header, failed-header, header-words, bad-header, too-high, lost, answered, answered-here}
+use Rattle.search.proofs.Standing.{Stands, passed-header, failed-header, header-words, bad-header, too-high, lost, stood-level, stood-here, answered, answered-here}
 use borrow.Author.Needs.{needs}
 use Rattle.search.proofs.search.Statement.{statement}
 use Rattle.search.proofs.search.Tie as tie
@@ -57,8 +57,8 @@ returns-2 c = let w = c .before in too-high _ _ _ (passed (opened w)) (w .word .
 descend-requires : tie.Need-descend-requires
 descend-requires c κs = passed (opened (c .before))
 
-answer-in-requires : tie.Need-answer-in-requires
-answer-in-requires c κs = search needs
+held-in-requires : tie.Need-held-in-requires
+held-in-requires c κs = search needs
 
 stand-requires : tie.Need-stand-requires
 stand-requires c κs = passed (opened (topped (c .before) .before))
@@ -66,14 +66,24 @@ stand-requires c κs = passed (opened (topped (c .before) .before))
 returns-3 : tie.Need-returns-3
 returns-3 c = lost _ _ _ _ (stands (c .before)) (c .if3 .taken)
 
-returns-4 : tie.Need-returns-4
-returns-4 c = let e = c .before in answered-here _ _ _ _ (stands (e .before)) _ (e .if3 .left) (c .if4 .taken) (e .before .before .answer-in .ensures)
+answer-requires : tie.Need-answer-requires
+answer-requires c κs = let e = c .before in let s = stands (e .before) in (s .header, stood-here _ _ _ _ s (e .if3 .left) (c .if4 .taken))
 
-answer-in-requires-2 : tie.Need-answer-in-requires-2
-answer-in-requires-2 c κs = search needs
+returns-4 : tie.Need-returns-4
+returns-4 c =
+    let e = c .before .before in
+    answered-here _ _ _ _ (stands (e .before)) _ _ (e .if3 .left) (c .before .if4 .taken) (e .before .before .held-in .ensures) (c .answer .ensures)
+
+held-in-requires-2 : tie.Need-held-in-requires-2
+held-in-requires-2 c κs = search needs
+
+answer-requires-2 : tie.Need-answer-requires-2
+answer-requires-2 c κs = let e = c .before .before in let s = stands (e .before) in (s .header, stood-level _ _ _ _ s (e .if3 .left))
 
 returns-5 : tie.Need-returns-5
-returns-5 c = let e = c .before .before in answered _ _ _ _ (stands (e .before)) _ (e .if3 .left) (c .answer-in2 .ensures)
+returns-5 c =
+    let e = c .before .before .before in
+    answered _ _ _ _ (stands (e .before)) _ _ (e .if3 .left) (c .before .held-in2 .ensures) (c .answer2 .ensures)
 
 pub search-spec : {M : Type 1} → statement M
 search-spec =
@@ -85,9 +95,11 @@ search-spec =
     word-requires
     returns-2
     descend-requires
-    answer-in-requires
+    held-in-requires
     stand-requires
     returns-3
+    answer-requires
     returns-4
-    answer-in-requires-2
+    held-in-requires-2
+    answer-requires-2
     returns-5)

@@ -5,10 +5,11 @@ use mathlib.Core.List.{List}
 use mathlib.Core.Logic.{⊎-elim}
 use native.Mathlib.Omega.{arith}
 use lib.ListN.{length}
-use Rattle.model.specs.declared.Answer.{Answer}
 use Rattle.model.specs.Slots.{Slot, shown}
-use Rattle.model.specs.Search.{lookup}
+use Rattle.model.specs.Search.{firstWith}
+use Rattle.slots.specs.declared.Held.{Held}
 use Rattle.slots.specs.Scan.{shownFrom}
+use Rattle.slots.specs.Held.{heldBy}
 use Rattle.slots.proofs.Scans.{scan-past, scan-stop, scan-more}
 use Rattle.slots.proofs.Kept.{found-none, found-here, found-later, found-hidden}
 use borrow.Author.Needs.{needs}
@@ -17,14 +18,14 @@ use Rattle.slots.proofs.find.Tie as tie
 
 abbrev Inv-loop : tie.InvT-loop
 Inv-loop left key slots before₀ i₀ before i =
-    (i ≤ 12) × (length slots ≡ 24) × (lookup key (shownFrom before slots i) ≡ lookup key (shownFrom left slots 0))
+    (i ≤ 12) × (length slots ≡ 24) × (heldBy (firstWith key (shownFrom before slots i)) ≡ heldBy (firstWith key (shownFrom left slots 0)))
 
 abbrev μ-loop : tie.MeasureT-loop
 μ-loop left key slots before₀ i₀ before i = 12 - i
 
 -- what slots answer, where this pointer is before them
-abbrev answers : tie.At-loop Inv-loop μ-loop → List Slot → Answer
-answers c ss = lookup (c .before .args .key) (shown (c .loop .before) ss)
+abbrev answers : tie.At-loop Inv-loop μ-loop → List Slot → Held
+answers c ss = heldBy (firstWith (c .before .args .key) (shown (c .loop .before) ss))
 
 -- the state at the head of the loop
 abbrev turn : tie.Else1 Inv-loop μ-loop → tie.At-loop Inv-loop μ-loop
