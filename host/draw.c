@@ -16,8 +16,9 @@ static int judge(struct table *t, const struct tree *tree)
     uint64_t number = change_plan(&c, t);
     if (number != 0)
         return refuse(number, t->name, 0, 0);
-    printf("%s is %s: %zu code%s in %zu of %" PRIu64 " nodes\n", t->name, c.stores == 0 ? "settled" : "sound", tree_codes(tree),
-           tree_codes(tree) == 1 ? "" : "s", tree->count, tree->nodes);
+    size_t codes = tree_codes(tree);
+    printf("%s is %s: %zu code%s in %zu of %" PRIu64 " nodes, %" PRIu64 " free\n", t->name, c.stores == 0 ? "settled" : "sound", codes,
+           codes == 1 ? "" : "s", tree->count, tree->nodes, tree->nodes - tree->count);
     struct leftover l = tree_leftover(tree);
     if (c.stores != 0)
         leftover_print(&l);

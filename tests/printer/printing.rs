@@ -249,6 +249,26 @@ fn filled(rising: bool) -> Vec<u8> {
     input.into_bytes()
 }
 
+/// A table of four nodes takes 21 rising codes. They are deleted again, in turn from either end, and as many others come above or below
+/// them: every line is done, since the leaves that are emptied come back.
+fn refilled() -> (Vec<u8>, u64) {
+    let mut input = String::new();
+    let mut done = 0;
+    for round in 0..12u64 {
+        let first = if round % 2 == 0 { 500_000 + 1_000 * round } else { 500_000 - 1_000 * round };
+        let codes: Vec<u64> = (0..21).map(|i| first + 10 * i).collect();
+        for (i, c) in codes.iter().enumerate() {
+            writeln!(input, "+ AA000{c:07} {}", 100 * round + i as u64 + 1).unwrap();
+        }
+        let falling = round % 3 == 0;
+        for i in 0..codes.len() {
+            writeln!(input, "- AA000{:07}", codes[if falling { codes.len() - 1 - i } else { i }]).unwrap();
+        }
+        done += 2 * codes.len() as u64;
+    }
+    (input.into_bytes(), done)
+}
+
 /// A line of any kind; most are insertions and deletions of a few codes.
 fn some_line(codes: u64, random: &mut Random) -> Vec<u8> {
     let mut c = code(random.below(codes)).into_bytes();
@@ -342,6 +362,13 @@ fn main() {
         run.tells_five(&input);
     }
     assert!(run.other_with_five == 2, "a table of five nodes would print the same");
+    passed += 1;
+
+    // Tables filled, emptied and filled again.
+    let (input, lines) = refilled();
+    let before = run.done;
+    run.same("a table filled again and again", &input, Feed::File);
+    assert!(run.done == before + lines, "a line of a table filled again was refused");
     passed += 1;
 
     // Random inputs over several pieces, in all ways.

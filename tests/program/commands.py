@@ -99,7 +99,7 @@ def making(program, folder):
     assert not os.path.exists(f"{folder}/u")
     program.done("make", f"{folder}/u", 65535)
     assert os.path.getsize(f"{folder}/u") == 8 * (8 + 32 * 65535)
-    assert program.done("check", f"{folder}/u") == f"{folder}/u is settled: 0 codes in 1 of 65535 nodes\n"
+    assert program.done("check", f"{folder}/u") == f"{folder}/u is settled: 0 codes in 1 of 65535 nodes, 65534 free\n"
     os.remove(f"{folder}/u")
 
 
@@ -264,7 +264,7 @@ def drawing(program, folder):
     first = "".join(f"    {i:2}  {code(10 + 10 * i)}  {101 + i}\n" for i in range(5))
     moved = [(code(60 + 10 * i), 106 + i) for i in range(6)]
     assert program.done("show", t) == (
-        f"{t} is sound: 11 codes in 3 of 3 nodes\n"
+        f"{t} is sound: 11 codes in 3 of 3 nodes, 0 free\n"
         "leftover (b): node 3, the sibling of node 1, lacks its slot in node 2; node 1 has 6 trailing slots\n"
         "\nlevel 1\n  node 2, the root, fence #0\n        left          -> node 1\n"
         "\nlevel 0: code and recording\n  node 1, fence #0, sibling -> node 3\n" + first
@@ -275,6 +275,25 @@ def drawing(program, folder):
     program.done("remove", t, code(20), "--cut", 1)
     out = program.done("show", t)
     assert "leftover (a): node 1 has a hidden slot, slot 1\n" in out and f"     1  {code(20)}  101   hidden\n" in out, out
+
+
+def nodes_come_free(program, folder):
+    """A full table, and one of its leaves emptied code by code: its node is free, and serves codes elsewhere that the table had no room for."""
+    t = f"{folder}/t"
+    fill(program, t, 3, [(code(10 * i), i) for i in range(1, 17)])
+    program.refuses(NO_NODES, "is full", "add", t, code(165), 99)
+    for i in range(6, 17):
+        assert program.done("check", t) == f"{t} is settled: {22 - i} codes in 3 of 3 nodes, 0 free\n"
+        out = program.done("remove", t, code(10 * i))
+        assert out.endswith(" (5 stores, 3 flushes)\n") == (i == 16), out
+    assert program.done("check", t) == f"{t} is settled: 5 codes in 2 of 3 nodes, 1 free\n"
+    for i in range(1, 8):
+        program.done("add", t, code(i), 100 + i)
+    assert program.done("check", t) == f"{t} is settled: 12 codes in 3 of 3 nodes, 0 free\n"
+    # The leftmost leaf stays, and a leaf that is the root.
+    for c in [code(i) for i in range(1, 8)] + [code(10 * i) for i in range(1, 6)]:
+        program.done("remove", t, c)
+    assert program.done("check", t) == f"{t} is settled: 0 codes in 2 of 3 nodes, 1 free\n"
 
 
 def the_first_hour(program, folder):
@@ -294,4 +313,5 @@ def the_first_hour(program, folder):
 
 TESTS = [help_has_an_example_of_each, help_of_one_command, the_manual_page, words_and_options, wrong_command_lines, making,
          the_worked_orders, orders_are_what_is_carried_out, fast_says_what_it_risks, codes_as_people_type_them, refusals_of_changes,
-         a_tree_of_sixteen_levels, searching_and_listing, the_next_code_up, answers_that_cannot_be_printed, drawing, the_first_hour]
+         a_tree_of_sixteen_levels, searching_and_listing, the_next_code_up, answers_that_cannot_be_printed, drawing, nodes_come_free,
+         the_first_hour]

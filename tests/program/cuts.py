@@ -112,6 +112,28 @@ def removals_and_repairs(program, folder):
     return f"{cuts} cuts"
 
 
+def a_leaf_that_comes_back(program, folder):
+    """The last code of a leaf under a parent with one slot, with two at either place: the leaf's slot and the leaf go; a cut in between
+    leaves an ordinary leftover, and repair attaches the leaf again."""
+    t, cuts = f"{folder}/t", 0
+    for leaves, emptied in ((2, 1), (3, 1), (3, 2)):
+        # Rising codes leave five to a leaf and seven to the last.
+        pairs = [(code(10 * i), 100 + i) for i in range(1, 5 * leaves + 3)]
+        fill(program, t, 9, pairs)
+        codes = [c for c, _ in pairs[5 * emptied:]][:5 if emptied + 1 < leaves else None]
+        for c in codes[1:]:
+            program.done("remove", t, c)
+        before = program.done("check", t)
+        assert f" in {leaves + 1} of 9 nodes, {8 - leaves} free\n" in before, before
+        states, orders = cut_everywhere(program, folder, t, ["remove", codes[0]], [c for c, _ in pairs[::2]] + [codes[0]])
+        assert not program.quick or states == ["settled", "a", "settled", "c", "b", "settled"], states
+        cuts += len(orders) + 1
+        program.done("remove", t, codes[0])
+        assert f" in {leaves} of 9 nodes, {9 - leaves} free\n" in program.done("check", t)
+        os.remove(t)
+    return f"{cuts} cuts"
+
+
 def killed(program, t, csv, chance):
     """A load killed at some moment, mostly so slow that this is in the middle of an order list: the lines that it acknowledged."""
     slow = ["--pause", "50"] if chance.random() < 0.8 else []
@@ -155,4 +177,4 @@ def killed_while_it_loads(program, folder):
     return f"{kills} kills, {len(have)} lines, " + ", ".join(f"{states.count(s)} {s}" for s in sorted(set(states)))
 
 
-TESTS = [a_leaf_that_splits, two_levels_that_split, removals_and_repairs, killed_while_it_loads]
+TESTS = [a_leaf_that_splits, two_levels_that_split, removals_and_repairs, a_leaf_that_comes_back, killed_while_it_loads]

@@ -247,7 +247,7 @@ def larger_copies(program, folder):
     program.done("add", t, code(115), 112, "--cut", linked)
     before = contents(t)
     assert program.done("copy", t, u, 9) == f"made {u} with 9 nodes\n" and contents(t) == before
-    assert program.done("check", u) == f"{u} is settled: 11 codes in 3 of 9 nodes\n"
+    assert program.done("check", u) == f"{u} is settled: 11 codes in 3 of 9 nodes, 6 free\n"
     assert program.done("list", u) == program.done("list", t)
 
 

@@ -4,6 +4,7 @@ before the change or after it, and must have all that was acknowledged."""
 import itertools
 import os
 import random
+import re
 import shutil
 import subprocess
 from mmap import PAGESIZE as PAGE
@@ -128,6 +129,22 @@ def some_changes(program, folder, count, *options):
     return f"{count} changes, {seen} mixes of pages", wrong
 
 
+def leaves_that_come_back(program, folder):
+    """Codes of some leaves taken out one by one, the last ones with the leaf; parent and neighbour lie on pages of their own."""
+    chance, t = random.Random(11), f"{folder}/t"
+    now = full_leaves(program, t, 60, 300)
+    seen, free = 0, []
+    for leaf in (7, 31, 59):
+        for c in [c for c in now if code(30 * leaf) <= c < code(30 * leaf + 30)]:
+            after = {k: r for k, r in now.items() if k != c}
+            mixes, bad = cut_between_syncs(program, folder, t, now, after, ["remove", t, c], chance)
+            assert not bad, f"{len(bad)} of {len(mixes)} mixes not sound, or without what was acknowledged"
+            seen, now = seen + len(mixes), after
+        free.append(int(re.search(r" (\d+) free$", program.done("check", t), re.M)[1]))
+    assert free[0] < free[1] < free[2], free
+    return f"{seen} mixes of pages"
+
+
 def any_mix_of_pages(program, folder):
     said, wrong = some_changes(program, folder, 150)
     assert wrong == 0, f"{said}, {wrong} of them not sound, or without what was acknowledged"
@@ -205,5 +222,5 @@ def a_new_table_is_there_whole(program, folder):
     assert sorted(os.listdir(folder)) == ["printed", "syncs", "t", "t2", "t3"]
 
 
-TESTS = [any_mix_of_pages, mixes_with_fast, a_load_and_its_acknowledgements, what_a_killed_program_left, a_disk_that_fails,
-         a_new_table_is_there_whole]
+TESTS = [any_mix_of_pages, leaves_that_come_back, mixes_with_fast, a_load_and_its_acknowledgements, what_a_killed_program_left,
+         a_disk_that_fails, a_new_table_is_there_whole]

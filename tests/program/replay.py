@@ -1,5 +1,6 @@
 """Long random runs: commands against a plain list, and damaged tables."""
 import random
+import re
 
 from drive import *
 
@@ -58,7 +59,9 @@ def step(program, t, plain, chance):
         got, out, err = program("orders", t, change, *words)
         assert got == status, (change, words, got, status, err)
     elif kind == 8:
-        assert f" {len(plain)} code" in program.done(chance.choice(["check", "show"]), t)
+        out = program.done(chance.choice(["check", "show"]), t)
+        nodes = re.search(rf": {len(plain)} codes? in (\d+) of 300 nodes, (\d+) free\n", out)
+        assert int(nodes[1]) + int(nodes[2]) == 300, out
         if chance.random() < 0.3:
             program.done("repair", t)
             assert "settled" in program.done("check", t)

@@ -23,10 +23,12 @@ pub fn keys(t: &[u64], random: &mut Random) -> Vec<u64> {
     ks
 }
 
-pub fn some_call(span: u64, random: &mut Random) -> Call {
+/// A call on a table with keys below the span. While it shrinks most calls delete a key of the leaf that will be empty soonest.
+pub fn some_call(t: &[u64], span: u64, shrinks: bool, random: &mut Random) -> Call {
     let k = random.below(span);
     match random.below(8) {
         0 | 1 => Call::Delete(k),
+        3..=7 if shrinks => Call::Delete(scarce_key(t, random).unwrap_or(k)),
         2 if random.below(8) == 0 => Call::Repair,
         // Now and then a recording that is refused, or one that is often in the map already.
         _ => Call::Insert(k, match random.below(40) {
@@ -37,26 +39,56 @@ pub fn some_call(span: u64, random: &mut Random) -> Call {
     }
 }
 
+fn leaves(t: &[u64]) -> impl Iterator<Item = Node> + '_ {
+    (1..=t[2]).map(|i| node(t, i)).filter(|x| x.level == 0 && x.used() > 0)
+}
+
+/// A key of a leaf other than the first, with fewer slots in use than the others.
+fn scarce_key(t: &[u64], random: &mut Random) -> Option<u64> {
+    let x = leaves(t).filter(|x| x.fence > 0).min_by_key(|x| x.used())?;
+    Some(x.slots[random.below(x.used() as u64) as usize].key)
+}
+
+/// A key beside one of the leaf with the most slots in use.
+fn crowded_key(t: &[u64], random: &mut Random) -> Option<u64> {
+    let x = leaves(t).max_by_key(|x| x.used())?;
+    Some(x.slots[random.below(x.used() as u64) as usize].key.wrapping_add(1 + random.below(3)))
+}
+
+/// How many nodes the stores go to.
+fn nodes_stored(stores: &[(usize, u64)]) -> usize {
+    stores.iter().filter(|s| s.0 >= 8).map(|s| (s.0 - 8) / 32).collect::<BTreeSet<usize>>().len()
+}
+
+/// A split, or a deletion that frees a leaf, cut off at a store to another node than its first.
+fn cut_off(t: &mut [u64], splits: bool, random: &mut Random) {
+    for _ in 0..24 {
+        let key = if splits { crowded_key(t, random) } else { scarce_key(t, random) };
+        let Some(k) = key else { return };
+        let call = if splits { Call::Insert(k, 1 + random.below(1_000_000)) } else { Call::Delete(k) };
+        let Ok(w) = write(t, LIST_WORDS, call) else { continue };
+        let other = w.stores.iter().position(|s| s.0 / 32 != w.stores[0].0 / 32);
+        match other.filter(|_| nodes_stored(&w.stores) > 2) {
+            Some(first) => return store(t, &w.stores[..first + random.below((w.stores.len() - first) as u64) as usize]),
+            None => store(t, &w.stores),
+        }
+    }
+}
+
 /// A table by random insertions and deletions, some of them cut off: settled, or with any leftover.
 pub fn grown(most: u64, random: &mut Random) -> Vec<u64> {
     let n = 1 + random.below(most);
     let mut t = make(n);
     let span = [30, 200, MARK][random.below(3) as usize];
-    for _ in 0..random.below(14 * n) {
-        let call = some_call(span, random);
+    for i in 0..random.below(14 * n) {
+        let call = some_call(&t, span, i / 30 % 3 == 2, random);
         if let Ok(w) = write(&t, LIST_WORDS, call) {
             let part = if random.below(8) == 0 { random.below(w.stores.len() as u64 + 1) as usize } else { w.stores.len() };
             store(&mut t, &w.stores[..part]);
         }
     }
-    // Half the time a split is cut off in the middle.
-    for _ in 0..if random.below(2) == 0 { 30 } else { 0 } {
-        if let Ok(w) = write(&t, LIST_WORDS, Call::Insert(random.below(span), 1 + random.below(1_000_000))) {
-            if w.stores.len() > 30 {
-                store(&mut t, &w.stores[..random.below(w.stores.len() as u64) as usize]);
-                break;
-            }
-        }
+    if random.below(2) == 0 {
+        cut_off(&mut t, random.below(2) == 0, random);
     }
     t
 }
@@ -187,6 +219,31 @@ pub fn answers(t: &[u64], map: &BTreeMap<u64, u64>, asked: &BTreeSet<u64>) -> bo
     let right = asked.iter().all(|&k| table.search(k) == looked(&lookup(map, k)));
     table.back();
     right
+}
+
+/// An image of a cut after c of a call's orders is as the cut rule says: sound with the map before the call or after it, by every search
+/// asked; before it where c is 0, after it where c is all; and repair settles it with the same map. Gives that map, what was left, and the
+/// table that the repair left.
+pub fn image_holds(image: &[u64], maps: [&BTreeMap<u64, u64>; 2], cut: (usize, usize), asked: &BTreeSet<u64>, seed: u64, call: Call) -> (BTreeMap<u64, u64>, Leftover, Vec<u64>) {
+    let [old, new] = maps;
+    let (c, all) = cut;
+    let what = || format!("{call:?} cut after {c} of {all} orders");
+    let map = if answers(image, new, asked) { new } else { old };
+    expect(answers(image, map, asked), seed, image, || what() + ": searches agree with neither map");
+    let tree = judge(image).filter(|x| x.map == *map);
+    expect(tree.is_some(), seed, image, || what() + ": not sound with that map");
+    expect(c > 0 || map == old, seed, image, || what() + ": is taken");
+    expect(c < all || map == new, seed, image, || what() + ": is omitted");
+    let mended = calls::repair(image, &[0; LIST_WORDS]);
+    let settled = mended.number == 0 && judge(&mended.table).map_or(false, |x| x.leftover == Leftover::Nothing && x.map == *map);
+    expect(settled, seed, image, || what() + ", then repaired: not settled with that map");
+    (map.clone(), tree.unwrap().leftover, mended.table)
+}
+
+/// The orders of an accepted call's list.
+pub fn decode(after: &Wrote) -> Vec<Order> {
+    let words = &after.list[..2 * after.orders() as usize];
+    words.chunks(2).map(|o| if o[0] == MARK { Order::Flush(o[1]) } else { Order::Store(o[0] as usize, o[1]) }).collect()
 }
 
 /// The map after an accepted call.

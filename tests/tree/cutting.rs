@@ -11,40 +11,32 @@ fn main() {
     let (seed, size) = arguments(3_000);
     let mut random = Random(seed);
     let list = vec![0; LIST_WORDS];
-    let (mut writes, mut seen, mut kinds) = (0u64, 0u64, [0; 5]);
+    let (mut writes, mut freed, mut seen, mut kinds) = (0u64, 0u64, 0u64, [0; 5]);
 
     while writes < size {
         let n = 1 + random.below(7);
         let span = [12, 60, MARK][random.below(3) as usize];
         let mut t = make(n);
         let mut ledger = BTreeMap::new();
-        for _ in 0..10 + random.below(14 * n) {
-            let call = some_call(span, &mut random);
+        for i in 0..20 + random.below(30 * n) {
+            let call = some_call(&t, span, i / 30 % 2 == 1, &mut random);
             let after = called(&t, &list, call);
             if after.number != 0 {
                 continue;
             }
             writes += 1;
+            freed += (unreachable(&after.table).len() > unreachable(&t).len()) as u64;
             let new = changed(&ledger, call);
-            let words = &after.list[..2 * after.orders() as usize];
-            let os: Vec<Order> = words.chunks(2).map(|o| if o[0] == MARK { Order::Flush(o[1]) } else { Order::Store(o[0] as usize, o[1]) }).collect();
+            let os = decode(&after);
             let asked: BTreeSet<u64> = ledger.keys().chain(new.keys()).flat_map(|k| [k.wrapping_sub(1), *k, k.wrapping_add(1)]).collect();
             let mut went_on = None;
             for c in 0..=os.len() {
                 for image in images(&t, &os[..c]) {
                     seen += 1;
-                    let map = if answers(&image, &new, &asked) { &new } else { &ledger };
-                    expect(answers(&image, map, &asked), seed, &image, || format!("{call:?} cut after {c} orders: searches agree with neither map"));
-                    let tree = judge(&image);
-                    expect(tree.as_ref().map_or(false, |x| x.map == *map), seed, &image, || format!("{call:?} cut after {c} orders: not sound with that map"));
-                    expect(c != 0 || *map == ledger, seed, &image, || "c = 0 is omitted".into());
-                    expect(c != os.len() || *map == new, seed, &image, || "c = all is taken".into());
-                    kinds[kind(tree.unwrap().leftover)] += 1;
-                    let mended = calls::repair(&image, &list);
-                    let settled = mended.number == 0 && judge(&mended.table).map_or(false, |x| x.leftover == Leftover::Nothing && x.map == *map);
-                    expect(settled, seed, &image, || format!("{call:?} cut after {c} orders, then repaired"));
+                    let (map, leftover, _) = image_holds(&image, [&ledger, &new], (c, os.len()), &asked, seed, call);
+                    kinds[kind(leftover)] += 1;
                     if random.below(40) == 0 {
-                        went_on = Some((image, map.clone()));
+                        went_on = Some((image, map));
                     }
                 }
             }
@@ -55,7 +47,8 @@ fn main() {
             };
         }
     }
-    println!("writes {writes}, images {seen}");
+    println!("writes {writes}, of these {freed} freed a leaf; images {seen}");
     all_met(&kinds, seed);
+    expect(freed >= size / 60, seed, &[], || "too few leaves were freed".into());
     println!("1 passed, 0 failed");
 }

@@ -315,6 +315,12 @@ pub fn judge(t: &[u64]) -> Option<Tree> {
     Some(Tree { reached, leftover, map })
 }
 
+/// The nodes of a sound table that no way leads to.
+pub fn unreachable(t: &[u64]) -> BTreeSet<u64> {
+    let reached = judge(t).expect("a sound table").reached;
+    (1..=t[2]).filter(|i| !reached.contains_key(i)).collect()
+}
+
 #[derive(Clone, Debug, PartialEq, Eq)]
 pub enum Listed {
     Pairs { count: u64, more: bool },
@@ -412,7 +418,7 @@ impl Writer {
         }
     }
 
-    fn repair(&mut self, leftover: Leftover) {
+    pub fn repair(&mut self, leftover: Leftover) {
         match leftover {
             Leftover::Nothing => {}
             Leftover::Hidden { node: x } => self.close_hidden(x),
@@ -464,13 +470,8 @@ impl Writer {
         (path.iter().rev().take_while(|&&n| self.full(n)).count(), path.len())
     }
 
-    fn unreachable(&self) -> BTreeSet<u64> {
-        let reached = judge(&self.t).expect("a sound table").reached;
-        (1..=self.t[2]).filter(|i| !reached.contains_key(i)).collect()
-    }
-
     fn fresh(&self, a: u64) -> u64 {
-        let free = self.unreachable();
+        let free = unreachable(&self.t);
         *free.range(a + 1..).next().or(free.iter().next()).expect("a fresh node")
     }
 
@@ -514,6 +515,21 @@ impl Writer {
         }
         let leaf = *self.path(k).last().unwrap();
         self.shift_in(leaf, k, r);
+    }
+
+    /// On a settled table. A leaf that it empties and that is not its parent's leftmost child comes back: its slot is shifted out at the
+    /// parent, then its sibling stored into its left neighbour's sibling word.
+    fn delete(&mut self, k: u64) {
+        let path = self.path(k);
+        let leaf = *path.last().unwrap();
+        let emptied = node(&self.t, leaf).shown().len() == 1;
+        self.shift_out(leaf, k);
+        let Some(&parent) = path.iter().rev().nth(1).filter(|_| emptied) else { return };
+        let ways = node(&self.t, parent).shown();
+        let Some(place) = ways.iter().position(|s| s.pointer == leaf) else { return };
+        let neighbour = self.before(parent, place);
+        self.shift_out(parent, ways[place].key);
+        self.store(start(neighbour) + 1, node(&self.t, leaf).sibling);
     }
 }
 
@@ -563,7 +579,7 @@ pub fn write_judged(t: &[u64], tree: &Tree, list_words: usize, call: Call) -> Re
             if new_root && node(&w.t, w.t[1]).level == 15 {
                 return Err(11);
             }
-            if w.unreachable().len() < run + new_root as usize {
+            if unreachable(&w.t).len() < run + new_root as usize {
                 return Err(10);
             }
             w.insert(k, r);
@@ -572,8 +588,7 @@ pub fn write_judged(t: &[u64], tree: &Tree, list_words: usize, call: Call) -> Re
             if !tree.map.contains_key(&k) {
                 return Err(9);
             }
-            let leaf = *w.path(k).last().unwrap();
-            w.shift_out(leaf, k);
+            w.delete(k);
         }
         Call::Repair => {}
     }

@@ -304,6 +304,65 @@ fn fresh_nodes() {
     }
 }
 
+/// A deletion's counts and orders, and what the table then is.
+fn deletion_gives(t: &[u64], key: u64, orders: &[[u64; 2]], changed: &[(usize, u64)]) -> Vec<u64> {
+    let after = calls::delete(t, &[7; 2560], key);
+    let flushes = orders.iter().filter(|o| o[0] == MARK).count() as u64;
+    let mut list = orders.concat();
+    list.resize(2560, 7);
+    gives(&format!("deletion of {key}"), t, (after.number, after.counts, after.list), (0, [Some(orders.len() as u64 - flushes), Some(flushes)], list));
+    let want = changed.iter().fold(t.to_vec(), |t, &(word, value)| with(&t, word, value));
+    gives(&format!("deletion of {key}"), t, after.table.clone(), want);
+    after.table
+}
+
+/// A leaf that a deletion empties comes back unless it is its parent's leftmost child.
+fn freed_leaves() {
+    // Node 1 begins at word 8, node 2 at 40, node 3 at 72, node 4 at 104; lines 1, 5, 9, 13.
+    let t = table(2, &[([MARK, 3, 0, 0], &[(10, 1)]), ([1, 0, 1, 0], &[(60, 3)]), ([MARK, 0, 0, 60], &[(70, 6)])]);
+    // Its slot at the parent, the one there is, goes first; then the leaf itself is passed by. Its words stay but for the pointer.
+    let freed = deletion_gives(&t, 70, &[[81, MARK], [81, 0], [MARK, 10], [49, 1], [49, 0], [MARK, 6], [9, 0], [MARK, 1]], &[(81, 0), (49, 0), (9, 0)]);
+    gives("repair", &freed, calls::repair(&freed, &[0; 2560]).counts, [Some(0); 2]);
+    // The leftmost child remains, also as the last leaf; so does a root leaf.
+    let last = deletion_gives(&freed, 10, &[[17, MARK], [17, 0], [MARK, 2]], &[(17, 0)]);
+    lacks(&last, 10, None);
+    deletion_gives(&t, 10, &[[17, MARK], [17, 0], [MARK, 2]], &[(17, 0)]);
+    deletion_gives(&table(1, &[([MARK, 0, 0, 0], &[(5, 50)])]), 5, &[[17, MARK], [17, 0], [MARK, 2]], &[(17, 0)]);
+    // The freed node serves the next split, where there was no other: eleven codes in leaf 1, then a twelfth.
+    let mut grown = freed.clone();
+    for key in 11..=20 {
+        let after = calls::insert(&grown, &[0; 2560], key, key);
+        gives(&format!("insertion of {key}"), &grown, after.number, 0);
+        grown = after.table;
+    }
+    let after = calls::insert(&grown, &[0; 2560], 21, 21);
+    gives("insertion of 21", &grown, (after.number, after.table[9], after.table[48..50].to_vec(), after.table[75]), (0, 3, vec![15, 3], 15));
+    // A leaf between two: its neighbour takes its sibling. A leaf that was empty before is no matter of this deletion, and may be the neighbour.
+    let t = table(1, &[([2, 0, 1, 0], &[(20, 3), (40, 4), (60, 5)]), ([MARK, 3, 0, 0], &[(10, 1)]), ([MARK, 4, 0, 20], &[]), ([MARK, 5, 0, 40], &[(45, 4)]), ([MARK, 0, 0, 60], &[(60, 6)])]);
+    let shown = [[113, MARK], [113, 0], [MARK, 14], [19, 3], [18, 60], [19, 5], [21, 0], [MARK, 2], [73, 5], [MARK, 9]];
+    deletion_gives(&t, 45, &shown, &[(113, 0), (18, 60), (19, 5), (21, 0), (73, 5)]);
+    // The sibling is under another parent: node 6 is the root, 1 and 5 its children, 3 the last child of 1 and 4 the first of 5.
+    let t = table(
+        6,
+        &[([2, 5, 1, 0], &[(20, 3)]), ([MARK, 3, 0, 0], &[(10, 1)]), ([MARK, 4, 0, 20], &[(20, 2)]), ([MARK, 0, 0, 40], &[(45, 4)]), ([4, 0, 1, 40], &[]), ([1, 0, 2, 0], &[(40, 5)])],
+    );
+    deletion_gives(&t, 20, &[[81, MARK], [81, 0], [MARK, 10], [17, 2], [17, 0], [MARK, 2], [41, 4], [MARK, 5]], &[(81, 0), (17, 0), (41, 4)]);
+    // 4 is leftmost at its parent: it remains, though it is not the first of its row.
+    deletion_gives(&t, 45, &[[113, MARK], [113, 0], [MARK, 14]], &[(113, 0)]);
+    // A full parent: 2 stores at the leaf, 2 (11 - p) at the parent, 1 at the neighbour.
+    let keys: Vec<u64> = (0..12).map(|i| 10 * i).collect();
+    let slots: Vec<(u64, u64)> = (1..12).map(|i| (keys[i], i as u64 + 2)).collect();
+    let pairs: Vec<[(u64, u64); 1]> = (0..12).map(|i| [(keys[i] + 1, 100 + i as u64)]).collect();
+    let mut nodes: Vec<Words> = vec![([2, 0, 1, 0], &slots)];
+    nodes.extend((0..12).map(|i| ([MARK, if i < 11 { i as u64 + 3 } else { 0 }, 0, keys[i]], &pairs[i][..])));
+    let t = table(1, &nodes);
+    for p in 0..11 {
+        let after = calls::delete(&t, &[0; 2560], keys[p + 1] + 1);
+        gives(&format!("deletion at slot {p} of 11"), &t, (after.number, after.counts[0]), (0, Some(2 + 2 * (11 - p as u64) + 1)));
+        lacks(&after.table, keys[p + 1] + 1, pairs.get(p + 2).map(|x| x[0].0));
+    }
+}
+
 /// All nodes from a root at level 15 down to a leaf are full: 11, however few nodes are free. From level 14, 16 nodes are needed: else 10.
 fn too_high() {
     let random = &mut Random(20_261_118);
@@ -371,7 +430,7 @@ fn codes() {
 }
 
 fn main() {
-    let vectors: [(&str, fn()); 11] = [
+    let vectors: [(&str, fn()); 12] = [
         ("a root at level 15 is searched, one at 16 refused", root_levels),
         ("search's 3 in each of its causes", search_refusals),
         ("an absent key's neighbour", absent_search),
@@ -380,6 +439,7 @@ fn main() {
         ("a listing's 2 before 4", listing_refusals),
         ("carry-out's c", carry_out_counts),
         ("fresh nodes after the node being split, going round", fresh_nodes),
+        ("leaves that come back", freed_leaves),
         ("11 before 10", too_high),
         ("N up to 65,535", largest_table),
         ("codes up to the last", codes),

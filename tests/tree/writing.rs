@@ -31,10 +31,10 @@ fn main() {
         let mut working = make(n);
         let mut memory = working.clone();
         let mut list = vec![0; LIST_WORDS + random.below(3) as usize];
-        for _ in 0..20 + random.below(20 * n.min(60)) {
+        for i in 0..20 + random.below(20 * n.min(60)) {
             let short = random.below(60) == 0;
             let lent = if short { list[..random.below(LIST_WORDS as u64) as usize].to_vec() } else { list.clone() };
-            let call = some_call(span, &mut random);
+            let call = some_call(&working, span, i / 40 % 3 == 2, &mut random);
             let (after, os) = same_write(&working, &lent, call, seed);
             numbers[after.number as usize] += 1;
             done += 1;

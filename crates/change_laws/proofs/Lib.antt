@@ -13,6 +13,8 @@ pub mod Siblings
 pub mod Link
 pub mod Attach
 pub mod NewRoot
+pub mod Detach
+pub mod Unlink
 pub mod EmptyRoot
 pub mod Unreached
 pub mod Counts

@@ -10,8 +10,8 @@ use borrow.Author.Tests.{eqb-true, eqb-false, eq-eqb, ne-eqb}
 use Rattle.model.specs.Reached.{flat, headOr}
 use Rattle.model.specs.SoundTest.{elem, distinct}
 use Rattle.list_laws.proofs.Tools.{Each}
-use Rattle.list_laws.proofs.Members.{elem-false, elem-cons}
-use Rattle.list_laws.proofs.Distinct.{distinct-cons, Once}
+use Rattle.list_laws.proofs.Members.{elem-iff, elem-false, elem-cons}
+use Rattle.list_laws.proofs.Distinct.{distinct-cons, distinct-middle, Once}
 use Rattle.change_laws.proofs.Lists.{Off}
 
 -- b put in after a
@@ -114,14 +114,39 @@ module _ (a b : ℕ) where
           rw (q, splice-at ns, s) (distinct-cons a (b ∷ ns) .1 (elem-cons a b ns .1 (y, e), distinct-cons b ns .1 (w .1, u .1)))
       go false c u w ih = rw (splice-off n ns (eqb-false n a c)) (distinct-cons n (splice a b ns) .1 (elem-splice n ns (λ t. w .0 (sym t)) (u .0), ih))
 
-  -- one more, where a stands once
+  -- where a stands once, b stands after it
+  pub splice-once : (ns : List ℕ) (o : Once a ns) → splice a b ns ≡ o .before ++ a ∷ b ∷ o .after
+  splice-once ns o =
+      ap (splice a b) (o .shape) ∙ splice-append (o .before) (a ∷ o .after) ∙ ap (λ (l : List ℕ). l ++ splice a b (a ∷ o .after)) (splice-none (o .before) (o .not-before))
+      ∙ ap (λ (l : List ℕ). o .before ++ l) (splice-at (o .after) ∙ ap (λ (l : List ℕ). a ∷ b ∷ l) (splice-none (o .after) (o .not-after)))
+
+  -- one more
   pub length-splice : (ns : List ℕ) → Once a ns → length (splice a b ns) ≡ suc (length ns)
-  length-splice ns o =
-      ap (λ (l : List ℕ). length (splice a b l)) (o .shape) ∙ ap length (splice-append (o .before) (a ∷ o .after))
-      ∙ ap length (ap (λ (l : List ℕ). l ++ splice a b (a ∷ o .after)) (splice-none (o .before) (o .not-before))
-      ∙ ap (λ (l : List ℕ). o .before ++ l) (splice-at (o .after) ∙ ap (λ (l : List ℕ). a ∷ b ∷ l) (splice-none (o .after) (o .not-after))))
-      ∙ one-more (o .before) ∙ ap (λ (l : List ℕ). suc (length l)) (sym (o .shape))
+  length-splice ns o = ap length (splice-once ns o) ∙ one-more (o .before) ∙ ap (λ (l : List ℕ). suc (length l)) (sym (o .shape))
     where
       one-more : (xs : List ℕ) → length (xs ++ a ∷ b ∷ o .after) ≡ suc (length (xs ++ a ∷ o .after))
       one-more [] = refl
       one-more (x ∷ xs) = ap suc (one-more xs)
+
+  -- where all are different, b is none of the others
+  pub splice-new : (ns : List ℕ) → Once a ns → distinct (splice a b ns) ≡ true → elem b ns ≡ false
+  splice-new ns o d =
+      let e = splice-once ns o ∙ sym (append-assoc (o .before) (a ∷ []) (b ∷ o .after)) in
+      ap (elem b) (o .shape ∙ sym (append-assoc (o .before) (a ∷ []) (o .after))) ∙ distinct-middle b (o .before ++ a ∷ []) (o .after) .0 (rw e at d) .0
+
+  -- what holds of each element of the longer list
+  pub each-unsplice : (P : ℕ → Type 0) (ns : List ℕ) → Each P (splice a b ns) → Each P ns
+  each-unsplice P [] h = tt
+  each-unsplice P (n ∷ ns) h = go (eqb n a) refl (each-unsplice P ns)
+    where
+      go : (c : Bool) → eqb n a ≡ c → (Each P (splice a b ns) → Each P ns) → Each P (n ∷ ns)
+      go true e ih = let q = eqb-true n a e in let k = rw (q, splice-at ns) at h in (rw q (k .0), ih (k .1 .1))
+      go false e ih = let k = rw (splice-off n ns (eqb-false n a e)) at h in (k .0, ih (k .1))
+
+  -- a stands in both or in neither
+  pub unsplice-mem : (ns : List ℕ) → List·Memᴰ a (splice a b ns) → List·Memᴰ a ns
+  unsplice-mem ns m = go (elem a ns) refl
+    where
+      go : (c : Bool) → elem a ns ≡ c → List·Memᴰ a ns
+      go true e = elem-iff a ns .0 e
+      go false e = rw (splice-none ns (elem-false a ns .0 e)) at m

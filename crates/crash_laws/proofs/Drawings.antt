@@ -113,9 +113,9 @@ byFirstKey d v =
       node = λ (i : ℕ). (let n = v .node i in record { left = n .left; sibling = n .sibling; level = n .level; fence = firstKey d (n .shown); shown = n .shown; hidden = n .hidden; clear = n .clear });
     }
 
--- leaf A with keys 10 to 50, and its sibling B, with fence 60, emptied by deletions
+-- leaf A with keys 10 to 50, and its sibling B, with fence 60, emptied by deletions, the last of them cut before it frees B
 unfoldable pub emptied : Words
-emptied = afterCalls (nextKey ∷ deleteTens (numbers 6 7)) fullLeaf
+emptied = let t = afterCalls (nextKey ∷ deleteTens (numbers 6 6)) fullLeaf in apply (take 2 (storesOf (deletion 120) t)) t
 
 -- B, with fence 60 and no slots, lacks its slot in the parent, and A still shows its old slots 60 to 110
 unfoldable pub trailing : Words

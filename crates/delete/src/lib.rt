@@ -1,10 +1,34 @@
-// The deletion call: repair, then the slot of the key is shifted out of its leaf.
+// The deletion call: repair, then the slot of the key is shifted out of its leaf; a leaf that this empties is freed, unless it is its
+// parent's leftmost child or the root.
 use model::Written;
+use orders::Pen;
 use write::Judged;
 ghost use mathlib.Core.Path.{_≡_};
+ghost use mathlib.Core.Bool.{true};
 ghost use lib.ListN.{length};
-ghost use Rattle.model.specs.Writes.{deletion};
-ghost use Rattle.model.specs.Refusals.{written, tableAfter, listAfter};
+ghost use Rattle.model.specs.Reached.{mapOf};
+ghost use Rattle.model.specs.SoundTest.{settled};
+ghost use Rattle.model.specs.Writes.{deleteSettled, deletion};
+ghost use Rattle.model.specs.Refusals.{hasKey, written, tableAfter, listAfter};
+ghost use Rattle.orders.specs.Desk.{desk, storedAll, Room};
+
+// The stores after the repair. Leaf and parent are looked up before the first of them.
+fn take_out(table: &mut [u64], list: &mut [u64], pen: Pen, key: u64) -> Pen
+    requires { ⌜ settled (now table) ≡ true ⌝ }
+    requires { ⌜ hasKey key (mapOf (now table)) ≡ true ⌝ }
+    requires { ⌜ Room (deleteSettled (now table) key) (desk (now table) (now list) pen) ⌝ }
+    ensures { λ r. ⌜ desk (now (table .exit)) (now (list .exit)) r
+        ≡ storedAll (deleteSettled (now (table .entry)) key) (desk (now (table .entry)) (now (list .entry)) pen) ⌝ }
+{
+    let leaf = reach::standing(table, 0, key);
+    let parent = reach::standing(table, 1, key);
+    let frees = reach::frees_leaf(table, parent, leaf);
+    let out = shift::shift_out(table, list, pen, leaf, key);
+    if !frees {
+        return out;
+    }
+    shift::free_leaf(table, list, out, parent, leaf)
+}
 
 pub fn delete(table: &mut [u64], list: &mut [u64], key: u64) -> Written
     ensures { λ r. ⌜ r ≡ written (deletion key) (length (now (list .entry))) (now (table .entry)) ⌝ }
@@ -19,8 +43,7 @@ pub fn delete(table: &mut [u64], list: &mut [u64], key: u64) -> Written
                 return Written::Refused(9);
             }
             let mended = write::mend(table, list, write::begin(), left);
-            let leaf = reach::standing(table, 0, key);
-            let out = shift::shift_out(table, list, mended, leaf, key);
+            let out = take_out(table, list, mended, key);
             let done = orders::finish(list, out);
             Written::Done {
                 stores: done.stores,

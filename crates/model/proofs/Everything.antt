@@ -35,7 +35,8 @@ unfolding Codes.isDigit Codes.isLetter Codes.isLetterOrDigit Codes.every Codes.i
     Shifts.lastPointer Shifts.moveUp Shifts.moveDown Shifts.shiftIn Shifts.close Shifts.shiftOut Shifts.placeOf Shifts.hiddenPlace
     Writes.shiftInAt Writes.shiftOutAt Writes.closeAt Writes.numbers Writes.unreached Writes.unreachable Writes.fresh Writes.putAll Writes.nodeWords
     Writes.splitWords Writes.split Writes.newRoot Writes.cutOff Writes.attach Writes.repairOf Writes.repairStores Writes.repaired Writes.standing Writes.runIn
-    Writes.run Writes.rootInRun Writes.splits Writes.rootStores Writes.insertSettled Writes.insertStores Writes.deleteStores Writes.storesOf
+    Writes.run Writes.rootInRun Writes.splits Writes.rootStores Writes.insertSettled Writes.insertStores Writes.childBefore Writes.freesLeaf Writes.freeStores
+    Writes.deleteSettled Writes.deleteStores Writes.storesOf
     Refusals.parentFull Refusals.tooHigh Refusals.tooFew Refusals.hasKey Refusals.hasRecording Refusals.refusal Refusals.written Refusals.tableAfter
     Refusals.listAfter
     Ledger.enter Ledger.leave Ledger.ledgerRefusal Ledger.feed

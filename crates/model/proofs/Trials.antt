@@ -150,25 +150,33 @@ pub data Trial : Type 0 where
   cut : Words → List Call → Trial
   -- with an order list of so many words, each is answered with this number
   number : Words → (words n : ℕ) → List Call → Trial
+  -- after the call these nodes are reached
+  reaches : Words → Call → List ℕ → Trial
 
 abbrev pub passes : (Words → View) → Trial → Bool
 passes look (done t ks xs) = all (wellDone look ks t) xs
 passes look (ended t xs) = all (endsWell look t) xs
 passes look (cut t xs) = all (cutWell look t) xs
 passes look (number t words n xs) = all (λ (x : Call). eqb (refusal x words t) n) xs
+passes look (reaches t x ns) = sameWords (reached (look (apply (storesOf x t) t))) ns
 
 -- the view with each node's words read once serves for the trials
 pub quickly : (ts : List Trial) → all (passes quick) ts ≡ true → all (passes view) ts ≡ true
 quickly ts e = subst (λ (look : Words → View). all (passes look) ts ≡ true) quick-is-view e
 
 -- A few trials, so that each must-fail edit of this crate breaks one of them or a worked line: every cut of a shift over two lines;
--- every store of a split into a fresh node full of stale words; the splits of a full leaf and its full parent, beside emptied leaves. The
--- other trials are in the crate `trials`.
+-- every store of a split into a fresh node full of stale words; the splits of a full leaf and its full parent, beside emptied leaves;
+-- every store of deletions that empty a first, a middle and a last leaf, and which nodes are reached then. The other trials are in the
+-- crate `trials`.
 abbrev pub fewTrials : List Trial
 fewTrials =
     cut (oneLevel 4 []) (insertion 5 7 ∷ [])
     ∷ done (twoLevels (11 ∷ []) [] (stale 1)) (10 ∷ 60 ∷ 110 ∷ []) (insertion 115 7 ∷ [])
     ∷ ended (twoLevels (0 ∷ 0 ∷ 0 ∷ 0 ∷ 0 ∷ 11 ∷ 0 ∷ 0 ∷ 0 ∷ 0 ∷ 0 ∷ 0 ∷ []) (ways 2 11) (stale 3)) (insertion 1000 7 ∷ [])
+    ∷ done (twoLevels (1 ∷ 1 ∷ 1 ∷ []) (ways 2 2) []) (200 ∷ 400 ∷ []) (deletion 10 ∷ deletion 210 ∷ deletion 410 ∷ [])
+    ∷ reaches (twoLevels (1 ∷ 1 ∷ 1 ∷ []) (ways 2 2) []) (deletion 10) (4 ∷ 1 ∷ 2 ∷ 3 ∷ [])
+    ∷ reaches (twoLevels (1 ∷ 1 ∷ 1 ∷ []) (ways 2 2) []) (deletion 210) (4 ∷ 1 ∷ 3 ∷ [])
+    ∷ reaches (twoLevels (1 ∷ 1 ∷ 1 ∷ []) (ways 2 2) []) (deletion 410) (4 ∷ 1 ∷ 2 ∷ [])
     ∷ []
 
 pub few-trials : all (passes view) fewTrials ≡ true

@@ -1,9 +1,9 @@
 -- Document 01, "Orders": insertion, deletion and repair, each as its list of stores on a table.
-use mathlib.Core.Bool.{Bool, true, false, not}
+use mathlib.Core.Bool.{Bool, true, false, not, _&&_}
 use mathlib.Core.List.{List, [], _∷_, _++_, map}
 use mathlib.Core.Option.{Option, none, some}
 use Prim.Native.Nat.{ℕ, zero, suc, pred, _+_, _-_}
-use lib.Dec.{eqb}
+use lib.Dec.{eqb, ltb}
 use lib.ListN.{length, getD, take, drop, replicate}
 use Rattle.model.specs.Table.{MARK, Words, nodes, root, nodeStart}
 use Rattle.model.specs.Slots.{Slot, slot, slotWords, View, nodeView, view, height, used, full}
@@ -11,7 +11,7 @@ use Rattle.model.specs.Search.{path}
 use Rattle.model.specs.Reached.{filter, headOr, reached}
 use Rattle.model.specs.SoundTest.{all, elem, Leftover, nothing, hiddenIn, missingIn, bothIn, leftover}
 use Rattle.model.specs.Orders.{Store, put, apply}
-use Rattle.model.specs.Shifts.{inNode, pointerWord, shiftIn, shiftOut, close, placeOf, hiddenPlace}
+use Rattle.model.specs.Shifts.{inNode, pointerWord, lastPointer, shiftIn, shiftOut, close, placeOf, hiddenPlace}
 
 -- ---- shifts in a node of a table
 
@@ -152,9 +152,31 @@ insertSettled t k r =
 unfoldable pub insertStores : Words → (k r : ℕ) → List Store
 insertStores t k r = repairStores t ++ insertSettled (repaired t) k r
 
--- Deletion: repair, then shift out.
+-- the child of p before its child x
+unfoldable pub childBefore : View → (p x : ℕ) → ℕ
+childBefore v p x = let ss = v .node p .shown in lastPointer (v .node p .left) (take (placeOf (v .node x .fence) ss) ss)
+
+-- The deletion of a slot empties its leaf x, which is not the leftmost child of its parent p; a root leaf has no parent.
+unfoldable pub freesLeaf : Words → (p x : ℕ) → Bool
+freesLeaf t p x = let v = view t in eqb (length (v .node x .shown)) 1 && (ltb 0 (height v) && not (eqb (v .node p .left) x))
+
+-- Shift the slot of leaf x out at the parent p, then store its sibling into its left neighbour's sibling word.
+unfoldable pub freeStores : Words → (p x : ℕ) → List Store
+freeStores t p x =
+    let v = view t in
+    shiftOutAt t p (v .node x .fence) ++ (put (suc (nodeStart (childBefore v p x))) (v .node x .sibling) ∷ [])
+
+-- Deletion after repair: shift out; where that empties a leaf which is not its parent's leftmost child, the leaf is freed. Leaf and
+-- parent are looked up before the first store.
+unfoldable pub deleteSettled : Words → (k : ℕ) → List Store
+deleteSettled t k =
+    let x = standing t 0 k in
+    let p = standing t 1 k in
+    let s₁ = shiftOutAt t x k in
+    s₁ ++ elim (freesLeaf t p x) as (λ b. List Store) [ true ↦ freeStores (apply s₁ t) p x | false ↦ [] ]
+
 unfoldable pub deleteStores : Words → (k : ℕ) → List Store
-deleteStores t k = repairStores t ++ shiftOutAt (repaired t) (standing (repaired t) 0 k) k
+deleteStores t k = repairStores t ++ deleteSettled (repaired t) k
 
 -- ---- the writing calls
 

@@ -4,4 +4,5 @@ pub mod Members
 pub mod Unreached
 pub mod Partition
 pub mod SlotCounts
+pub mod Freeing
 pub mod Running

@@ -8,7 +8,7 @@ ghost use Rattle.model.specs.Slots.{view};
 ghost use Rattle.model.specs.Search.{moved};
 ghost use Rattle.model.specs.Reached.{headOr, kept, reached};
 ghost use Rattle.model.specs.SoundTest.{elem, sound};
-ghost use Rattle.model.specs.Writes.{numbers, unreached, unreachable, fresh, standing};
+ghost use Rattle.model.specs.Writes.{numbers, unreached, unreachable, fresh, standing, freesLeaf};
 ghost use Rattle.reach.specs.Runs.{fullIn, runAfter, fullRun};
 
 // The unbroken run of full nodes from the leaf upward: its length, and whether it includes the root.
@@ -121,6 +121,21 @@ pub fn kept_count(table: &[u64], n: u64) -> u64
     let sibling = x.sibling;
     let bound = node::word(table, sibling, 3);
     slots::kept_count(slots, left, sibling, bound)
+}
+
+// Whether the deletion of a slot empties its leaf x, which is not the leftmost child of its parent p; a root leaf has no parent.
+pub fn frees_leaf(table: &[u64], p: u64, x: u64) -> bool
+    requires { ⌜ headerOk (now table) ≡ true ⌝ }
+    ensures { λ r. ⌜ r ≡ freesLeaf (now (table .entry)) p x ⌝ }
+{
+    if shown_count(table, x) != 1 {
+        return false;
+    }
+    let root = table[1];
+    if node::word(table, root, 2) == 0 {
+        return false;
+    }
+    node::word(table, p, 0) != x
 }
 
 // ---- the run of full nodes

@@ -3,4 +3,5 @@ pub mod Moves
 pub mod Shifting
 pub mod AtNode
 pub mod NodeWords
+pub mod Freeing
 pub mod Splitting

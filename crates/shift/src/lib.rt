@@ -1,4 +1,4 @@
-// Shifts, cutting off, split and new root on the nodes of the working copy: each store is made and listed.
+// Shifts, cutting off, a leaf freed, split and new root on the nodes of the working copy: each store is made and listed.
 use model::MARK;
 use model::Node;
 use orders::Pen;
@@ -10,7 +10,7 @@ ghost use lib.ListN.{length, drop};
 ghost use Rattle.model.specs.Table.{MARK, hasNode};
 ghost use Rattle.model.specs.Slots.{view, height};
 ghost use Rattle.model.specs.Shifts.{keyTo, pointerTo};
-ghost use Rattle.model.specs.Writes.{shiftInAt, shiftOutAt, closeAt, putAll, nodeWords, split, newRootAt, cutOff, attach};
+ghost use Rattle.model.specs.Writes.{shiftInAt, shiftOutAt, closeAt, putAll, nodeWords, split, newRootAt, cutOff, attach, childBefore, freeStores};
 ghost use Rattle.orders.specs.Desk.{desk, stored, storedAll, Room};
 ghost use Rattle.slots.specs.Scan.{inUseOf};
 ghost use Rattle.shift.specs.Stores.{inFrom, movesUp, movesDown, slotIn, slotOut, gapClosed, upperWords};
@@ -222,6 +222,39 @@ pub fn cut_attach(table: &mut [u64], list: &mut [u64], pen: Pen, p: u64, a: u64)
     let parent = node::read(table, p);
     let cut = cut_off(table, list, pen, a);
     slot_in(table, list, cut, w, parent, fence, b)
+}
+
+// ---- a leaf freed
+
+// The child of p before its child x.
+fn child_before(table: &[u64], p: u64, x: u64) -> u64
+    requires { ⌜ hasNode (now table) p ≡ true ⌝ }
+    requires { ⌜ view (now table) .node p .hidden ≡ 0 ⌝ }
+    ensures { λ r. ⌜ r ≡ childBefore (view (now (table .entry))) p x ⌝ }
+{
+    let fence = node::word(table, x, 3);
+    let read = node::read(table, p);
+    let slots = read.slots;
+    let left = read.left;
+    let at = slots::place(slots, fence);
+    slots::pointer_before(slots, left, at)
+}
+
+// Shifts the slot of leaf x out at the parent p, then stores its sibling into its left neighbour's sibling word. Nothing is stored in x.
+pub fn free_leaf(table: &mut [u64], list: &mut [u64], pen: Pen, p: u64, x: u64) -> Pen
+    requires { ⌜ hasNode (now table) p ≡ true ⌝ }
+    requires { ⌜ view (now table) .node p .hidden ≡ 0 ⌝ }
+    requires { ⌜ hasNode (now table) (childBefore (view (now table)) p x) ≡ true ⌝ }
+    requires { ⌜ Room (freeStores (now table) p x) (desk (now table) (now list) pen) ⌝ }
+    ensures { λ r. ⌜ desk (now (table .exit)) (now (list .exit)) r
+        ≡ storedAll (freeStores (now (table .entry)) p x) (desk (now (table .entry)) (now (list .entry)) pen) ⌝ }
+{
+    let fence = node::word(table, x, 3);
+    let sibling = node::word(table, x, 1);
+    let neighbour = child_before(table, p, x);
+    let w = node::start(table, neighbour);
+    let out = shift_out(table, list, pen, p, fence);
+    orders::store(table, list, out, w + 1, sibling)
 }
 
 // ---- split and new root

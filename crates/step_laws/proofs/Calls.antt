@@ -40,7 +40,7 @@ pub record Steps (x : Call) (t : Words) : Type 0 where
 pub call-phase : (x : Call) (t : Words) → sound t ≡ true → Allows x (repaired t) → Phase 1121 t (storesOf x t) (change x (mapOf t))
 unfolding storesOf
 call-phase (insertion k r) t s a = insert-phase t k r s a
-call-phase (deletion k) t s a = phase-within 76 1121 t (deleteStores t k) (leave k (mapOf t)) (omega arith) (delete-phase t k s a)
+call-phase (deletion k) t s a = phase-within 103 1121 t (deleteStores t k) (leave k (mapOf t)) (omega arith) (delete-phase t k s a)
 call-phase repair t s a = phase-within 51 1121 t (repairStores t) (mapOf t) (omega arith) (repair-phase t s)
 
 -- Every accepted call, on any sound table.

@@ -28,14 +28,16 @@ pub record Free (t : Words) (b : ℕ) : Type 0 where
   pub there : hasNode t b ≡ true
   pub some : b ≢ 0
 
+pub unreached-free : (t : Words) (b : ℕ) → settled t ≡ true → inRange (nodes t) b ≡ true → elem b (reached (view t)) ≡ false → Free t b
+unreached-free t b s r u = record { range = r; unreached = u; there = has-node-range t b (settled-fine t s .header) ∙ r; some = not-zero (view t) b r }
+
 -- Where some node is unreachable, the first one after a reached node is free.
 pub fresh-free : (t : Words) (a : ℕ) → settled t ≡ true → List·Memᴰ a (reached (view t)) → 0 < length (unreachable t) → Free t (fresh t a)
 unfolding fresh unreached unreachable
 fresh-free t a s m h =
-    let f = settled-fine t s in
     let v = view t in
-    let u = fresh-unreachable (nodes t) (reached v) a (elem-iff a (reached v) .1 m) (each-mem (UpTo (nodes t)) (reached-numbers v (f .left .orderly)) m) h in
-    record { range = u .0; unreached = u .1; there = has-node-range t (fresh t a) (f .header) ∙ u .0; some = not-zero v (fresh t a) (u .0) }
+    let u = fresh-unreachable (nodes t) (reached v) a (elem-iff a (reached v) .1 m) (each-mem (UpTo (nodes t)) (reached-numbers v (settled-fine t s .left .orderly)) m) h in
+    unreached-free t (fresh t a) s (u .0) (u .1)
 
 -- it is no reached node, nor a sibling of one
 module _ (t : Words) (b : ℕ) (s : settled t ≡ true) (f : Free t b) where

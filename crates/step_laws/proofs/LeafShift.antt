@@ -3,7 +3,7 @@ use mathlib.Core.Path.{_≡_, refl, ap, _∙_}
 use mathlib.Core.Logic.{_≢_}
 use mathlib.Core.Bool.{true, false}
 use mathlib.Core.List.{List, [], _∷_, _++_, map-append, List·Memᴰ}
-use Prim.Native.Nat.{ℕ, suc, _≤_}
+use Prim.Native.Nat.{ℕ, suc, _≤_, _<_}
 use native.Mathlib.Omega.{arith}
 use lib.ListN.{length, take, drop, getD}
 use lib.Seq.{split-at}
@@ -11,6 +11,7 @@ use Rattle.model.specs.Table.{MARK, Words}
 use Rattle.model.specs.Slots.{Slot, slot, View, nodeView, view}
 use Rattle.model.specs.Reached.{pointers, kept, reached, mapOf}
 use Rattle.model.specs.SoundTest.{elem, distinct, nothing, hiddenIn, settled}
+use Rattle.model.specs.Orders.{apply}
 use Rattle.model.specs.Shifts.{shiftOut, placeOf}
 use Rattle.model.specs.Writes.{shiftInAt, shiftOutAt, standing}
 use Rattle.model.specs.Refusals.{hasKey, hasRecording}
@@ -18,10 +19,10 @@ use Rattle.model.specs.Ledger.{enter, leave}
 use Rattle.list_laws.proofs.Tools.{Each, Each-append}
 use Rattle.list_laws.proofs.Members.{each-mem, each-take, each-drop, elem-cons}
 use Rattle.list_laws.proofs.Distinct.{distinct-middle}
-use Rattle.list_laws.proofs.Steps.{until-map, first-map}
+use Rattle.list_laws.proofs.Steps.{AtFirst, until-map, first-map}
 use Rattle.slot_laws.proofs.Hiding.{Used, AllShown, distinct-shown}
 use Rattle.slot_laws.proofs.Shifts.{put-in-shown}
-use Rattle.word_laws.proofs.Stores.{doStore}
+use Rattle.word_laws.proofs.Stores.{doStore, after-first}
 use Rattle.word_laws.proofs.Frames.{same-ok}
 use Rattle.word_laws.proofs.ShiftViews.{Changed, withSlot, withoutSlot, view-used, view-shown, shift-in-view, shift-out-view}
 use Rattle.tree_laws.proofs.Rows.{leaf-ok}
@@ -129,14 +130,33 @@ module _ (t : Words) (s : settled t ≡ true) (k : ℕ) where
     gone : (t′ : Words) → Changed t x (withoutSlot t x k) 0 t′ → SettledWith (leave k (mapOf t)) t′
     gone t′ c = view-settles t t′ less (shown-view t x (withoutSlot t x k) 0 t′ c no-hidden) (same-ok (c .header)) (fine .header) _ settles
 
+    shifting : AtFirst doStore (Changed t x ss 0) (Changed t x (withoutSlot t x k) 1) (Changed t x (withoutSlot t x k) 0) (shiftOutAt t x k) t
+    shifting = shift-out-view t x (use-x .there) (use-x .clear) (use-x .left) no-hidden k (leave-place v k (fine .left) has) out-shown
+
+    stores-some : 0 < length (shiftOutAt t x k)
+    stores-some = unfold shiftOutAt shiftOut in omega arith
+
     shifted-out : Phase 25 t (shiftOutAt t x k) (leave k (mapOf t))
     shifted-out =
         let few = shown-few t x (use-x .clear) in
         let i = leave-place v k (fine .left) has in
         phase-first 25 t (shiftOutAt t x k) (shift-out-few t x k few i) (shift-out-inside t x k few i (use-x .there)) (leave k (mapOf t))
-        (first-map doStore _ (SoundWith (mapOf t)) _ (SoundWith (leave k (mapOf t))) _ (SettledWith (leave k (mapOf t))) unchanged hiding gone (shiftOutAt t x k) t
-        (shift-out-view t x (use-x .there) (use-x .clear) (use-x .left) no-hidden k i out-shown)) (unfold shiftOutAt shiftOut in omega arith)
+        (first-map doStore _ (SoundWith (mapOf t)) _ (SoundWith (leave k (mapOf t))) _ (SettledWith (leave k (mapOf t))) unchanged hiding gone (shiftOutAt t x k) t shifting) stores-some
 
     -- The pair of k is shifted out of its leaf.
     pub leaf-shift-out : Phase 25 t (shiftOutAt t (standing t 0 k) k) (leave k (mapOf t))
     leaf-shift-out = rw standing-x shifted-out
+
+    seen : view (apply (shiftOutAt t x k) t) ≡ less
+    seen = shown-view t x (withoutSlot t x k) 0 _ (after-first (Changed t x ss 0) (Changed t x (withoutSlot t x k) 1) (Changed t x (withoutSlot t x k) 0) (shiftOutAt t x k) t shifting stores-some) no-hidden
+
+    -- what is seen then: the leaf shows the others
+    pub leaf-out-seen : view (apply (shiftOutAt t (standing t 0 k) k) t) ≡ withShown (view t) (standing t 0 k) (withoutSlot t (standing t 0 k) k)
+    leaf-out-seen = rw standing-x seen
+
+    pub leaf-out-reached : reached (view (apply (shiftOutAt t (standing t 0 k) k) t)) ≡ reached (view t)
+    leaf-out-reached = rw standing-x (ap reached seen ∙ settles .reached)
+
+    -- it showed k at its place
+    pub leaf-out-place : placeOf k (nodeView t (standing t 0 k) .shown) < length (nodeView t (standing t 0 k) .shown)
+    leaf-out-place = rw standing-x (leave-place v k (fine .left) has)

@@ -9,10 +9,11 @@ pub mod SamePaths
 pub mod RepairedView
 pub mod Judged
 pub mod Accepted
-pub mod Deletion
 pub mod Fresh
 pub mod WholeNode
 pub mod Standing
+pub mod Freeing
+pub mod Deletion
 pub mod NewRoot
 pub mod Split
 pub mod Splits

@@ -14,7 +14,7 @@ use Rattle.model.proofs.Everything.{everything}
 use Rattle.model.proofs.Worked.{tens, tenSlots, rootLeaf}
 use Rattle.model.proofs.Quick.{quick}
 use Rattle.model.proofs.Tables.{tableOf, leafOf, ways, stale, oneLevel, twoLevels, threeLevels}
-use Rattle.model.proofs.Trials.{Trial, done, cut, number, passes, quickly, allKeys}
+use Rattle.model.proofs.Trials.{Trial, done, ended, cut, number, reaches, passes, quickly, allKeys}
 
 -- the table after the call's first n stores
 abbrev pub cutAfter : (n : ℕ) → Call → Words → Words
@@ -78,9 +78,29 @@ missingSlots =
     ∷ done (cutAfter 33 (insertion 115 7) (twoLevels (11 ∷ []) [] (stale 1))) (10 ∷ 60 ∷ 110 ∷ []) (insertion 55 7 ∷ [])
     ∷ []
 
--- shifts over two lines, and a split: the fresh node is full of stale words, so it must be whole in memory before A leads to it
+-- shifts over two lines; a split, where the fresh node is full of stale words, so it must be whole in memory before A leads to it; a leaf
+-- freed
 abbrev pub cuts : List Trial
-cuts = cut (oneLevel 4 []) (insertion 5 7 ∷ []) ∷ cut (oneLevel 5 []) (deletion 10 ∷ []) ∷ cut (twoLevels (11 ∷ []) [] (stale 1)) (insertion 115 7 ∷ []) ∷ []
+cuts = cut (oneLevel 4 []) (insertion 5 7 ∷ []) ∷ cut (oneLevel 5 []) (deletion 10 ∷ []) ∷ cut (twoLevels (11 ∷ []) [] (stale 1)) (insertion 115 7 ∷ []) ∷ cut (twoLevels (1 ∷ 1 ∷ 1 ∷ []) (ways 2 2) []) (deletion 210 ∷ []) ∷ []
+
+-- an emptied leaf is freed, and no other node: in the middle, at the end, below a full parent, below a second parent; not a root leaf, nor
+-- a leftmost child. Cut between the parent's first store and the last, repair attaches it again; emptied by a cut or a repair, it stays.
+abbrev pub freeing : List Trial
+freeing =
+    small (twoLevels (2 ∷ 1 ∷ 1 ∷ []) (ways 2 2) (stale 1)) (deletion 210 ∷ deletion 410 ∷ deletion 20 ∷ [])
+    ∷ ended (twoLevels (0 ∷ 1 ∷ 0 ∷ 0 ∷ 0 ∷ 0 ∷ 0 ∷ 0 ∷ 0 ∷ 0 ∷ 0 ∷ 0 ∷ []) (ways 2 11) []) (deletion 210 ∷ [])
+    ∷ small (threeLevels (1 ∷ 1 ∷ 1 ∷ []) (ways 2 1) (slot 400 5 ∷ []) []) (deletion 210 ∷ deletion 410 ∷ [])
+    ∷ reaches (oneLevel 1 []) (deletion 10) (1 ∷ [])
+    ∷ reaches (twoLevels (2 ∷ 1 ∷ 1 ∷ []) (ways 2 2) (stale 1)) (deletion 10) (4 ∷ 1 ∷ 2 ∷ 3 ∷ [])
+    ∷ reaches (threeLevels (1 ∷ 1 ∷ 1 ∷ []) (ways 2 1) (slot 400 5 ∷ []) []) (deletion 210) (6 ∷ 4 ∷ 5 ∷ 1 ∷ 3 ∷ [])
+    ∷ reaches (threeLevels (1 ∷ 1 ∷ 1 ∷ []) (ways 2 1) (slot 400 5 ∷ []) []) (deletion 410) (6 ∷ 4 ∷ 5 ∷ 1 ∷ 2 ∷ 3 ∷ [])
+    ∷ reaches (cutAfter 2 (deletion 210) (twoLevels (1 ∷ 1 ∷ 1 ∷ []) (ways 2 2) [])) repair (4 ∷ 1 ∷ 2 ∷ 3 ∷ [])
+    ∷ reaches (cutAfter 3 (deletion 210) (twoLevels (1 ∷ 1 ∷ 1 ∷ []) (ways 2 2) [])) repair (4 ∷ 1 ∷ 2 ∷ 3 ∷ [])
+    ∷ reaches (cutAfter 6 (deletion 210) (twoLevels (1 ∷ 1 ∷ 1 ∷ []) (ways 2 2) [])) repair (4 ∷ 1 ∷ 2 ∷ 3 ∷ [])
+    ∷ reaches (cutAfter 6 (deletion 210) (twoLevels (1 ∷ 1 ∷ 1 ∷ []) (ways 2 2) [])) (deletion 10) (4 ∷ 1 ∷ 2 ∷ 3 ∷ [])
+    ∷ reaches (cutAfter 7 (deletion 210) (twoLevels (1 ∷ 1 ∷ 1 ∷ []) (ways 2 2) [])) repair (4 ∷ 1 ∷ 3 ∷ [])
+    ∷ done (cutAfter 5 (deletion 210) (twoLevels (11 ∷ 1 ∷ []) (ways 2 1) [])) (10 ∷ 60 ∷ 110 ∷ []) (insertion 11 1 ∷ [])
+    ∷ []
 
 -- the numbers in their order; 8 looks at the map alone
 abbrev pub refusals : List Trial
@@ -125,6 +145,10 @@ cut-calls : all (passes view) cuts ≡ true
 unfolding everything tenSlots quick
 cut-calls = quickly cuts refl
 
+freed-leaves : all (passes view) freeing ≡ true
+unfolding everything tenSlots quick
+freed-leaves = quickly freeing refl
+
 refused-calls : all (passes view) refusals ≡ true
 unfolding everything tenSlots quick
 refused-calls = quickly refusals refl
@@ -141,7 +165,9 @@ and-more (t ∷ ts) us e f =
     join (passes view t) (all (passes view) ts) (all (passes view) (ts ++ us)) e (λ h. and-more ts us h f)
 
 abbrev pub allTrials : List Trial
-allTrials = inLeaf ++ (splitting ++ (runs ++ (hiddenSlots ++ (missingSlots ++ (cuts ++ refusals)))))
+allTrials = inLeaf ++ (splitting ++ (runs ++ (hiddenSlots ++ (missingSlots ++ (cuts ++ (freeing ++ refusals))))))
 
 pub trials : all (passes view) allTrials ≡ true
-trials = and-more inLeaf _ in-leaf (and-more splitting _ split-one (and-more runs _ split-two (and-more hiddenSlots _ hidden-slots (and-more missingSlots _ missing-slots (and-more cuts refusals cut-calls refused-calls)))))
+trials =
+    and-more inLeaf _ in-leaf (and-more splitting _ split-one (and-more runs _ split-two (and-more hiddenSlots _ hidden-slots
+    (and-more missingSlots _ missing-slots (and-more cuts _ cut-calls (and-more freeing refusals freed-leaves refused-calls))))))

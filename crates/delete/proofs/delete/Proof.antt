@@ -3,10 +3,11 @@ use mathlib.Core.Path.{sym, _∙_}
 use native.Mathlib.Omega.{arith}
 use borrow.Author.Tests.{not-true, not-false}
 use lib.ListN.{length}
-use Rattle.model.specs.Writes.{deletion}
+use Rattle.model.specs.Table.{Words}
+use Rattle.model.specs.Writes.{deleteSettled, deletion}
 use Rattle.write.proofs.Judging.{Passed, judged-ready}
-use Rattle.write.proofs.Ending.{refused-call, judge-refuses, Begun, mend-room, finish-room, done-call}
-use Rattle.delete.proofs.Deleting.{delete-refused, delete-accepted, out, delete-stores, mended-header, leaf-plain, out-room, out-stored}
+use Rattle.write.proofs.Ending.{refused-call, judge-refuses, Begun, begun-allows, mend-room, mended-table, mended-settled, rest-room, finish-room, done-call}
+use Rattle.delete.proofs.Deleting.{delete-refused, delete-accepted, delete-stores}
 use borrow.Author.Needs.{needs}
 use Rattle.delete.proofs.delete.Statement.{statement}
 use Rattle.delete.proofs.delete.Tie as tie
@@ -25,14 +26,11 @@ ready c = c .before .before .before
 abbrev kept : tie.After-begin → tie.Else1
 kept c = c .before .before .before
 
-abbrev mended : tie.After-standing-arg → tie.After-mend
-mended c = c .before .before .before .before .before
+abbrev mended : tie.After-take-out-arg2 → tie.After-mend
+mended c = c .before .before .before .before .before .before
 
-abbrev stood : tie.After-shift-out-arg2 → tie.After-standing
-stood c = c .before .before
-
-abbrev shifted : tie.After-finish-arg → tie.After-shift-out
-shifted c = c .before .before .before .before .before
+abbrev taken : tie.After-finish-arg → tie.After-take-out
+taken c = c .before .before .before .before .before
 
 abbrev finished : tie.After-slice-known7 → tie.After-finish
 finished c = c .before .before
@@ -46,7 +44,7 @@ passed c = judged-ready _ _ _ _ (sym (c .before .before .judge .ensures) ∙ c .
 abbrev told : tie.After-begin → tie.After-judgement2
 told c = ready (kept c .before)
 
-begun : (c : tie.After-begin) → let a = asked (told c) .args in Begun (deletion (a .key)) (a .table .now) (a .list .now) (c .begin .result) (out (a .key))
+begun : (c : tie.After-begin) → let a = asked (told c) .args in Begun (deletion (a .key)) (a .table .now) (a .list .now) (c .begin .result) (λ (t : Words). deleteSettled t (a .key))
 begun c = record {
   is-sound = passed (told c) .found .is-sound;
   accepted = delete-accepted (passed (told c)) _ (kept c .before .has-key .ensures) (not-false _ (kept c .if1 .left));
@@ -80,17 +78,12 @@ begin-requires c κs = search needs
 mend-requires : tie.Need-mend-requires
 mend-requires c κs = let f = passed (told c) .found in (f .is-sound, (f .leftover-is, mend-room (begun c)))
 
-standing-requires : tie.Need-standing-requires
-standing-requires c κs = let m = mended c in mended-header (begun (m .before)) (m .mend .ensures)
-
-shift-out-requires : tie.Need-shift-out-requires
-shift-out-requires c κs = let s = stood c in let m = mended (s .before) in let b = begun (m .before) in
-    let n = leaf-plain b (m .mend .ensures) (s .standing .ensures) in
-    (n .there, (n .plain, out-room b (m .mend .ensures) (s .standing .ensures)))
+take-out-requires : tie.Need-take-out-requires
+take-out-requires c κs = let m = mended c in let b = begun (m .before) in let g = m .mend .ensures in
+    (mended-settled b g, (rw (← mended-table b g) at (begun-allows b), rest-room b g))
 
 finish-requires : tie.Need-finish-requires
-finish-requires c κs = let o = shifted c in let s = stood (o .before) in let m = mended (s .before) in let b = begun (m .before) in let g = m .mend .ensures in
-    finish-room b g (out-stored b g (s .standing .ensures) (o .shift-out .ensures))
+finish-requires c κs = let o = taken c in let m = mended (o .before) in finish-room (begun (m .before)) (m .mend .ensures) (o .take-out .ensures)
 
 same-length-2 : tie.Need-same-length-2
 same-length-2 c = search needs
@@ -105,9 +98,8 @@ same-length-4 : tie.Need-same-length-4
 same-length-4 c = search needs
 
 returns-3 : tie.Need-returns-3
-returns-3 c = let f = finished c in let o = shifted (f .before) in let s = stood (o .before) in let m = mended (s .before) in
-    let b = begun (m .before) in let g = m .mend .ensures in
-    done-call b g (out-stored b g (s .standing .ensures) (o .shift-out .ensures)) (f .finish .ensures)
+returns-3 c = let f = finished c in let o = taken (f .before) in let m = mended (o .before) in
+    done-call (begun (m .before)) (m .mend .ensures) (o .take-out .ensures) (f .finish .ensures)
 
 pub delete-spec : {M : Type 1} → statement M
 delete-spec =
@@ -121,8 +113,7 @@ delete-spec =
     returns
     begin-requires
     mend-requires
-    standing-requires
-    shift-out-requires
+    take-out-requires
     finish-requires
     same-length-2
     returns-2

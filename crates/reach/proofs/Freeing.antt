@@ -1,0 +1,28 @@
+-- Whether a leaf is freed, by the tests that the code makes: how many slots x shows, the root's level, left of p.
+use mathlib.Core.Path.{_≡_}
+use mathlib.Core.Bool.{false, not}
+use mathlib.Core.Logic.{_≢_}
+use Prim.Native.Nat.{ℕ}
+use native.Mathlib.Omega.{arith}
+use lib.Dec.{eqb}
+use lib.ListN.{length}
+use borrow.Author.Tests.{eq-eqb, ne-eqb, le-ltb, lt-ltb}
+use Rattle.model.specs.Table.{Words, root}
+use Rattle.model.specs.Slots.{nodeView}
+use Rattle.model.specs.Writes.{freesLeaf}
+use Rattle.node.specs.Word.{wordOf}
+use Rattle.node.proofs.WordLaws.{word-left, word-level}
+
+module _ (t : Words) (p x c : ℕ) (e : c ≡ length (nodeView t x .shown)) where
+  pub more-left : c ≢ 1 → false ≡ freesLeaf t p x
+  unfolding freesLeaf
+  more-left z = rw (← e, ne-eqb c 1 z)
+
+  module _ (one : c ≡ 1) (l : ℕ) (f : l ≡ wordOf t (root t) 2) where
+    pub root-leaf : l ≡ 0 → false ≡ freesLeaf t p x
+    unfolding freesLeaf
+    root-leaf z = rw (← e, eq-eqb c 1 one, ← word-level, ← f, le-ltb 0 l (omega arith))
+
+    pub not-leftmost : l ≢ 0 → (w : ℕ) → w ≡ wordOf t p 0 → not (eqb w x) ≡ freesLeaf t p x
+    unfolding freesLeaf
+    not-leftmost z w g = rw (← e, eq-eqb c 1 one, ← word-level, ← f, lt-ltb 0 l (omega arith), g, word-left)

@@ -1,0 +1,264 @@
+-- An empty leaf freed, store by store: sound with the same map, settled at the end, and the leaf reached no more.
+use mathlib.Core.Path.{_≡_, refl, ap, sym, _∙_, subst}
+use mathlib.Core.Bool.{Bool, true, false}
+use mathlib.Core.Logic.{_≢_, _⊎_, inl, inr}
+use mathlib.Core.List.{List, [], _∷_, _++_, map-append, append-nil, List·Memᴰ}
+use mathlib.Core.Option.{some}
+use Prim.Native.Nat.{ℕ, suc, _-_, _<_}
+use native.Mathlib.Omega.{arith}
+use lib.Dec.{ltb}
+use lib.ListN.{length, take, drop, getD, set, length-append}
+use lib.Seq.{split-at, take-all}
+use borrow.Author.Tests.{le-leb, ltb-true, ltb-false}
+use Rattle.model.specs.Table.{Words, nodes, nodeStart, hasNode}
+use Rattle.model.specs.Slots.{Slot, slot, View, nodeView, view}
+use Rattle.model.specs.Reached.{pointers, children, reached, mapping, mapOf}
+use Rattle.model.specs.SoundTest.{elem, distinct, nothing, missingIn, bothIn, leftover, room, settled}
+use Rattle.model.specs.Orders.{Store, put, apply, orders, ordersAfter}
+use Rattle.model.specs.Shifts.{lastPointer, placeOf, shiftOut}
+use Rattle.model.specs.Writes.{shiftOutAt, repaired, childBefore, freeStores}
+use Rattle.view_laws.proofs.NodeViews.{shownOf}
+use Rattle.list_laws.proofs.Lists.{take-append}
+use Rattle.list_laws.proofs.Tools.{Each-append}
+use Rattle.list_laws.proofs.Members.{each-mem, each-take, each-drop}
+use Rattle.list_laws.proofs.Distinct.{distinct-middle}
+use Rattle.list_laws.proofs.Steps.{Until, AtFirst, first-map}
+use Rattle.table_laws.proofs.Nodes.{has-node-iff}
+use Rattle.slot_laws.proofs.Hiding.{Used, AllShown, distinct-shown}
+use Rattle.word_laws.proofs.Stores.{doStore, between-first, after-first}
+use Rattle.word_laws.proofs.Frames.{SameHeader, same-ok, same-root, same-nodes}
+use Rattle.word_laws.proofs.ShiftViews.{Changed, withoutSlot, view-used, shift-out-view}
+use Rattle.word_laws.proofs.LinkStores.{sibling-view, sibling-header}
+use Rattle.tree_laws.proofs.Leftovers.{NothingUnfinished}
+use Rattle.cut_laws.proofs.Applying.{apply-append}
+use Rattle.change_laws.proofs.Updates.{update-at, update-off, withShown, withHidden, withSibling, sibling-change}
+use Rattle.change_laws.proofs.Parts.{has-left-iff, all-finished, Keeps}
+use Rattle.change_laws.proofs.Hidden.{hide-missing}
+use Rattle.change_laws.proofs.Parents.{child-reached, child-level, distinct-children}
+use Rattle.change_laws.proofs.Detach.{detach, child-next, before-child}
+use Rattle.change_laws.proofs.Unlink.{Unlinked, unlink}
+use Rattle.step_laws.proofs.Phase.{Phase}
+use Rattle.step_laws.proofs.Stages.{SoundWith, SettledWith, Stage, stage-until, stage-phase, phase-until}
+use Rattle.step_laws.proofs.Bounds.{shift-out-few, shift-out-inside}
+use Rattle.step_laws.proofs.Views.{changed-view, shown-view, same-view, Fine, fine-sound, fine-settled, settled-fine, view-fine, view-sound, view-same, Usable, reached-usable, shown-few}
+use Rattle.step_laws.proofs.Repair.{repaired-settled}
+use Rattle.step_laws.proofs.RepairedView.{repaired-view}
+
+-- what holds before, between and after the stores alike
+first-until : (P : Words → Type 0) (qs : List Store) (t : Words) → AtFirst doStore P P P qs t → Until doStore P P qs t
+first-until P [] t a = a
+first-until P (q ∷ qs) t a = a
+
+-- p, on level 1, has the empty leaf x as the child of the slot whose key is x's fence
+pub record Freeable (t : Words) (p x : ℕ) : Type 0 where
+  pub settled : settled t ≡ true
+  pub parent : List·Memᴰ p (reached (view t))
+  pub level : nodeView t p .level ≡ 1
+  pub there : placeOf (nodeView t x .fence) (nodeView t p .shown) < length (nodeView t p .shown)
+  pub child : getD (nodeView t p .shown) (placeOf (nodeView t x .fence) (nodeView t p .shown)) (slot 0 0) .pointer ≡ x
+  pub empty : nodeView t x .shown ≡ []
+
+-- x lacks its slot in p, an ordinary leftover, and every node that t reaches is reached
+pub record Lacks (t : Words) (p x : ℕ) (t′ : Words) : Type 0 where
+  pub leftover : (leftover (view t′) ≡ some (bothIn p (childBefore (view t) p x))) ⊎ (leftover (view t′) ≡ some (missingIn p (childBefore (view t) p x) false))
+  pub reached : reached (view t′) ≡ reached (view t)
+
+-- t is settled and reaches these nodes
+abbrev pub SettledReach : List ℕ → Words → Type 0
+SettledReach ns t = (settled t ≡ true) × (reached (view t) ≡ ns)
+
+module _ (t : Words) (p x : ℕ) (h : Freeable t p x) where
+  abbrev v : View
+  v = view t
+
+  abbrev k : ℕ
+  k = v .node x .fence
+
+  abbrev ss : List Slot
+  ss = v .node p .shown
+
+  abbrev low : List Slot
+  low = take (placeOf k ss) ss
+
+  abbrev sl : Slot
+  sl = getD ss (placeOf k ss) (slot 0 0)
+
+  abbrev high : List Slot
+  high = drop (suc (placeOf k ss)) ss
+
+  abbrev a : ℕ
+  a = lastPointer (v .node p .left) low
+
+  abbrev less : View
+  less = withShown v p (low ++ high)
+
+  fine : Fine t nothing
+  fine = settled-fine t (h .settled)
+
+  use-p : Usable t p
+  use-p = reached-usable t p (fine .header) (fine .left .orderly) (h .parent)
+
+  fin : NothingUnfinished v p
+  fin = each-mem (NothingUnfinished v) (all-finished v (fine .left)) (h .parent)
+
+  shape : ss ≡ low ++ sl ∷ high
+  shape = split-at ss (placeOf k ss) (slot 0 0) (h .there)
+
+  det : Keeps v less (missingIn p a false)
+  det = detach v p low sl high (fine .left) (h .parent) 0 (h .level) shape
+
+  roomy : room less p ≡ true
+  unfolding room
+  roomy = rw (update-at (shownOf v) p (low ++ high)) (le-leb (length (low ++ high)) 10 (omega (arith, shown-few t p (use-p .clear), ap length shape, length-append low (sl ∷ high), length-append low high)))
+
+  -- ---- shift out at the parent
+
+  kids : distinct (v .node p .left ∷ pointers ss) ≡ true
+  kids = rw (fin .names (λ z. omega (arith, h .level)) ∙ ap (λ (ks : List Slot). v .node p .left ∷ pointers ks) (fin .keeps)) at (distinct-children v p (fine .left .orderly) (h .parent))
+
+  out-shown : AllShown (v .node p .left) (withoutSlot t p k)
+  out-shown =
+      let u = view-used t p in
+      let e : pointers ss ≡ pointers low ++ sl .pointer ∷ pointers high = ap pointers shape ∙ map-append _ low (sl ∷ high) in
+      let d = distinct-middle (sl .pointer) (v .node p .left ∷ pointers low) (pointers high) .0 (rw e at kids) .1 in
+      distinct-shown (v .node p .left) (low ++ high) (Each-append Used low high (each-take Used (placeOf k ss) ss u) (each-drop Used (suc (placeOf k ss)) ss u))
+      (ap (λ (l : List ℕ). distinct (v .node p .left ∷ l)) (map-append _ low high) ∙ d)
+
+  shifting : AtFirst doStore (Changed t p ss 0) (Changed t p (withoutSlot t p k) 1) (Changed t p (withoutSlot t p k) 0) (shiftOutAt t p k) t
+  shifting = shift-out-view t p (use-p .there) (use-p .clear) (use-p .left) (fin .shows) k (h .there) out-shown
+
+  stores-some : 0 < length (shiftOutAt t p k)
+  stores-some = unfold shiftOutAt shiftOut in omega arith
+
+  unchanged : (t′ : Words) → Changed t p ss 0 t′ → SoundWith (mapOf t) t′
+  unchanged t′ c = view-same t t′ nothing fine (same-view t p ss 0 t′ c refl (fin .shows)) (same-ok (c .header))
+
+  hiding : (t′ : Words) → Changed t p (withoutSlot t p k) 1 t′ → SoundWith (mapOf t) t′
+  hiding t′ c =
+      let b = hide-missing less p a (det .left) in
+      view-sound t t′ (withHidden less p 1) (changed-view t p (withoutSlot t p k) 1 t′ c) (same-ok (c .header)) (fine .header) (bothIn p a) (b .left) (b .room roomy) (mapOf t) (b .mapping ∙ det .mapping)
+
+  gone : (t′ : Words) → Changed t p (withoutSlot t p k) 0 t′ → SoundWith (mapOf t) t′
+  gone t′ c = view-sound t t′ less (shown-view t p (withoutSlot t p k) 0 t′ c (fin .shows)) (same-ok (c .header)) (fine .header) (missingIn p a false) (det .left) roomy (mapOf t) (det .mapping)
+
+  out-stage : Stage 25 t (shiftOutAt t p k)
+  out-stage =
+      let few = shown-few t p (use-p .clear) in
+      let P : Words → Type 0 = SoundWith (mapOf t) in
+      stage-until 25 t (shiftOutAt t p k) (shift-out-few t p k few (h .there)) (shift-out-inside t p k few (h .there) (use-p .there))
+      (first-until P (shiftOutAt t p k) t (first-map doStore _ P _ P _ P unchanged hiding gone (shiftOutAt t p k) t shifting))
+
+  -- ---- the left neighbour's sibling := x's
+
+  abbrev t₁ : Words
+  t₁ = apply (shiftOutAt t p k) t
+
+  out-changed : Changed t p (withoutSlot t p k) 0 t₁
+  out-changed = after-first (Changed t p ss 0) (Changed t p (withoutSlot t p k) 1) (Changed t p (withoutSlot t p k) 0) (shiftOutAt t p k) t shifting stores-some
+
+  seen₁ : view t₁ ≡ less
+  seen₁ = shown-view t p (withoutSlot t p k) 0 t₁ out-changed (fin .shows)
+
+  fine₁ : Fine t₁ (missingIn p a false)
+  fine₁ = view-fine t t₁ less seen₁ (same-ok (out-changed .header)) (fine .header) (missingIn p a false) (det .left) roomy
+
+  a-child : List·Memᴰ a (children v p)
+  a-child = before-child v p low sl high (fine .left) (h .parent) 0 (h .level) shape
+
+  next : v .node a .sibling ≡ x
+  next = child-next v p low sl high (fine .left) (h .parent) 0 (h .level) shape ∙ h .child
+
+  a-leaf : v .node a .level ≡ 0
+  a-leaf = omega (arith, child-level v p a (fine .left .orderly) (h .parent) a-child, h .level)
+
+  apart : x ≢ p
+  apart e = omega (arith, h .there, ap length (ap (shownOf v) (sym e) ∙ h .empty))
+
+  gap : Unlinked less (withSibling less a (v .node x .sibling)) x
+  gap = subst (λ (n : ℕ). Unlinked less (withSibling less a (v .node n .sibling)) n) next (unlink less p a (det .left) a-leaf (ap (shownOf less) next ∙ update-off (shownOf v) p (low ++ high) x apart ∙ h .empty))
+
+  has-a : hasNode t₁ a ≡ true
+  has-a = reached-usable t₁ a (fine₁ .header) (fine₁ .left .orderly) (rw (ap reached seen₁ ∙ det .reached) (child-reached v p a (fine .left .orderly) (h .parent) a-child)) .there
+
+  abbrev t₂ : Words
+  t₂ = set t₁ (suc (nodeStart a)) (v .node x .sibling)
+
+  header₂ : SameHeader t₁ t₂
+  header₂ = sibling-header t₁ a (v .node x .sibling) has-a
+
+  seen₂ : view t₂ ≡ withSibling less a (v .node x .sibling)
+  seen₂ =
+      sibling-change (view t₁) (view t₂) a (v .node x .sibling) (same-nodes header₂) (same-root header₂) (sibling-view t₁ a (v .node x .sibling) has-a)
+      ∙ ap (λ (w : View). withSibling w a (v .node x .sibling)) seen₁
+
+  settles : SettledWith (mapOf t) t₂
+  settles =
+      let f = view-fine t₁ t₂ (withSibling less a (v .node x .sibling)) seen₂ (same-ok header₂) (fine₁ .header) nothing (gap .left) refl in
+      (fine-settled t₂ f, ap mapping seen₂ ∙ gap .mapping ∙ det .mapping)
+
+  link-phase : Phase 2 t₁ (put (suc (nodeStart a)) (v .node x .sibling) ∷ []) (mapOf t)
+  link-phase = phase-until 2 t₁ (put (suc (nodeStart a)) (v .node x .sibling) ∷ []) (unfold orders ordersAfter in omega arith) (unfold nodeStart in omega (arith, has-node-iff t₁ a .0 has-a), tt) (mapOf t)
+      ((fine-sound t₁ (missingIn p a false) fine₁, refl), settles)
+
+  -- An empty leaf is freed: every first part of the stores leaves a sound table with the same map, and all of them a settled one.
+  pub free-phase : Phase 27 t (freeStores t p x) (mapOf t)
+  unfolding freeStores childBefore
+  free-phase = stage-phase 25 2 t (shiftOutAt t p k) (put (suc (nodeStart a)) (v .node x .sibling) ∷ []) (mapOf t) out-stage link-phase
+
+  -- ---- what it leaves
+
+  whole : apply (freeStores t p x) t ≡ t₂
+  unfolding freeStores childBefore apply
+  whole = apply-append (shiftOutAt t p k) (put (suc (nodeStart a)) (v .node x .sibling) ∷ []) t
+
+  seen : view (apply (freeStores t p x) t) ≡ withSibling less a (v .node x .sibling)
+  seen = ap view whole ∙ seen₂
+
+  -- The leaf is reached no more, and no other node is lost.
+  pub free-unreached : elem x (reached (view (apply (freeStores t p x) t))) ≡ false
+  free-unreached = ap (λ (w : View). elem x (reached w)) seen ∙ gap .freed
+
+  pub free-fewer : length (reached (view t)) ≡ suc (length (reached (view (apply (freeStores t p x) t))))
+  free-fewer = ap length (sym (det .reached)) ∙ gap .fewer ∙ ap (λ (w : View). suc (length (reached w))) (sym seen)
+
+  pub free-nodes : nodes (apply (freeStores t p x) t) ≡ nodes t
+  free-nodes = ap (λ (w : View). w .nodes) seen
+
+  -- the left neighbour, which the last store is to
+  pub neighbour-there : hasNode t (childBefore (view t) p x) ≡ true
+  unfolding childBefore
+  neighbour-there = reached-usable t a (fine .header) (fine .left .orderly) (child-reached v p a (fine .left .orderly) (h .parent) a-child) .there
+
+  -- ---- a cut in between
+
+  hidden-left : (t′ : Words) → Changed t p (withoutSlot t p k) 1 t′ → Lacks t p x t′
+  unfolding childBefore
+  hidden-left t′ c =
+      let b = hide-missing less p a (det .left) in
+      let e = changed-view t p (withoutSlot t p k) 1 t′ c in
+      record { leftover = inl (ap leftover e ∙ has-left-iff (withHidden less p 1) (bothIn p a) .1 (b .left) .1); reached = ap reached e ∙ b .reached ∙ det .reached }
+
+  missing-left : Lacks t p x t₁
+  unfolding childBefore
+  missing-left = record { leftover = inr (ap leftover seen₁ ∙ has-left-iff less (missingIn p a false) .1 (det .left) .1); reached = ap reached seen₁ ∙ det .reached }
+
+  first-parts : (j : ℕ) → j < length (freeStores t p x) → take j (freeStores t p x) ≡ take j (shiftOutAt t p k)
+  unfolding freeStores
+  first-parts j i =
+      let ps : List Store = put (suc (nodeStart (childBefore v p x))) (v .node x .sibling) ∷ [] in
+      let n : j - length (shiftOutAt t p k) ≡ 0 = omega (arith, i, length-append (shiftOutAt t p k) ps) in
+      take-append j (shiftOutAt t p k) ps ∙ ap (λ (m : ℕ). take j (shiftOutAt t p k) ++ take m ps) n ∙ append-nil (take j (shiftOutAt t p k))
+
+  -- After the parent's first store and before the last one x lacks its slot.
+  pub free-cut : (j : ℕ) → 0 < j → j < length (freeStores t p x) → Lacks t p x (apply (take j (freeStores t p x)) t)
+  free-cut j g i = rw (first-parts j i) (go (ltb j (length (shiftOutAt t p k))) refl)
+    where
+      go : (b : Bool) → ltb j (length (shiftOutAt t p k)) ≡ b → Lacks t p x (apply (take j (shiftOutAt t p k)) t)
+      go true e = hidden-left _ (between-first (Changed t p ss 0) (Changed t p (withoutSlot t p k) 1) (Changed t p (withoutSlot t p k) 0) (shiftOutAt t p k) t shifting j g (ltb-true j (length (shiftOutAt t p k)) e))
+      go false e = rw (take-all j (shiftOutAt t p k) (ltb-false j (length (shiftOutAt t p k)) e)) missing-left
+
+  -- Repair attaches it again: the table is settled then, and reaches every node that it reached before.
+  pub free-attached : (j : ℕ) → 0 < j → j < length (freeStores t p x) → SettledReach (reached (view t)) (repaired (apply (take j (freeStores t p x)) t))
+  free-attached j g i =
+      let s = free-phase .part-sound j in
+      (repaired-settled _ s, repaired-view _ s .same .reached ∙ free-cut j g i .reached)
