@@ -147,15 +147,21 @@ pub type Found = (u64, u64);
 /// The answer of the library. A refusal ends the program.
 #[inline(always)]
 pub fn search(table: &[u64], key: u64) -> Found {
-    let (mut recording, mut next, mut higher) = (0, 0, 0);
-    let number = unsafe { catalogue_search(table.as_ptr(), table.len(), key, &mut recording, &mut next, &mut higher) };
+    let (mut recording, mut access, mut next, mut higher) = (0, 0, 0, 0);
+    let number = unsafe { catalogue_search(table.as_ptr(), table.len(), key, &mut recording, &mut access, &mut next, &mut higher) };
     assert!(number == 0 || number == ABSENT, "a search was refused");
     (recording, next)
 }
 
+/// With class 0.
 pub fn insert(table: &mut [u64], orders: &mut Orders, key: u64, recording: u64) -> u64 {
     let list = orders.words.as_mut_ptr();
-    unsafe { catalogue_insert(table.as_mut_ptr(), table.len(), list, orders.words.len(), key, recording, &mut orders.stores, &mut orders.flushes) }
+    unsafe { catalogue_insert(table.as_mut_ptr(), table.len(), list, orders.words.len(), key, recording, 0, &mut orders.stores, &mut orders.flushes) }
+}
+
+pub fn set_class(table: &mut [u64], orders: &mut Orders, key: u64, access: u64) -> u64 {
+    let list = orders.words.as_mut_ptr();
+    unsafe { catalogue_set_class(table.as_mut_ptr(), table.len(), list, orders.words.len(), key, access, &mut orders.stores, &mut orders.flushes) }
 }
 
 pub fn delete(table: &mut [u64], orders: &mut Orders, key: u64) -> u64 {

@@ -1,7 +1,7 @@
-//! An insertion and a deletion, split into check, plan and stores, beside a plain read pass over the same nodes.
+//! An insertion, a deletion and a class change, split into check, plan and stores, beside a plain read pass over the same nodes.
 use crate::calls::{self, Flusher, Orders, Words};
 use crate::results::{timed, Results, Spread};
-use crate::{search, DELETION, INSERTION, NODES, RUNS, SPLITTING};
+use crate::{search, CLASS_CHANGE, DELETION, INSERTION, NODES, RUNS, SPLITTING};
 use std::hint::black_box;
 
 /// Nanoseconds that the calls of one run may take; a run has as many changes as fit, from 1 to MOST.
@@ -22,7 +22,7 @@ const PACKED: usize = 8;
 const LACKING: u64 = 3;
 
 /// The kinds of change; a splitting one inserts into a full leaf whose parent has room.
-const KINDS: [&str; 3] = [INSERTION, DELETION, SPLITTING];
+const KINDS: [&str; 4] = [INSERTION, DELETION, SPLITTING, CLASS_CHANGE];
 
 /// The most keys that a packed table of so many nodes holds.
 pub fn keys_for(nodes: usize) -> usize {
@@ -56,20 +56,20 @@ struct Bench {
     memory: Words,
     reached: usize,
     recording: u64,
-    /// Absent keys to insert and delete again; keys that split a leaf.
+    /// Absent keys to insert, give another class and delete again; keys that split a leaf.
     keys: Vec<u64>,
     splitting: Vec<u64>,
     /// The order lists of each kind.
-    lists: [Vec<Orders>; 3],
+    lists: [Vec<Orders>; 4],
     flusher: Flusher,
 }
 
 /// The times of one run, in nanoseconds; of each kind: check, plan and whole call; stores; stores flushed.
 #[derive(Default)]
 struct Run {
-    calls: [[f64; 3]; 3],
-    plain: [f64; 3],
-    flushed: [f64; 3],
+    calls: [[f64; 3]; 4],
+    plain: [f64; 4],
+    flushed: [f64; 4],
     pass: f64,
 }
 
@@ -107,6 +107,7 @@ impl Bench {
         match kind {
             0 => timed(|| calls::insert(&mut self.working, orders, key, self.recording)),
             1 => timed(|| calls::delete(&mut self.working, orders, key)),
+            3 => timed(|| calls::set_class(&mut self.working, orders, key, 2)),
             _ => timed(|| calls::insert(&mut self.crowded, orders, key, self.recording)),
         }
     }
@@ -120,7 +121,7 @@ impl Bench {
     fn rehearse(&mut self, kind: usize, key: u64) {
         let mut orders = Orders::new();
         let number = self.call(kind, key, &mut orders).1;
-        let after = if kind < 2 { &self.working } else { &self.crowded };
+        let after = if kind == 2 { &self.crowded } else { &self.working };
         assert!(number == 0 && calls::carry_plain(&mut self.memory, &orders) == 0, "{}: {number}", KINDS[kind]);
         assert!(*self.memory == **after, "{}: memory differs", KINDS[kind]);
         assert_eq!(calls::search(&self.memory, key).0, if kind == 1 { 0 } else { self.recording }, "{}", KINDS[kind]);
@@ -137,6 +138,7 @@ impl Bench {
         self.splitting.truncate(changes);
         for key in self.keys.clone() {
             self.rehearse(0, key);
+            self.rehearse(3, key);
             self.rehearse(1, key);
         }
         self.crowd();
@@ -160,10 +162,11 @@ impl Bench {
     /// The clock is read around every call, and the run's time is the middle one: a call that the system breaks into falls out. Each
     /// insertion is undone by its deletion, so that the size stays.
     fn run_calls(&mut self, run: &mut Run) {
-        let mut times: [[Vec<f64>; 3]; 3] = Default::default();
+        let mut times: [[Vec<f64>; 3]; 4] = Default::default();
         for key in self.keys.clone() {
-            self.change(0, key, &mut times[0]);
-            self.change(1, key, &mut times[1]);
+            for kind in [0, 3, 1] {
+                self.change(kind, key, &mut times[kind]);
+            }
         }
         for key in self.splitting.clone() {
             self.change(2, key, &mut times[2]);
@@ -214,7 +217,7 @@ fn record(results: &mut Results, runs: &[Run], nodes: usize) {
 
 /// One size, given what its check takes.
 fn measure_size(results: &mut Results, bench: &mut Bench, check: f64) {
-    let changes = ((RUN_TIME / (6.0 * check)) as usize).clamp(1, MOST);
+    let changes = ((RUN_TIME / (8.0 * check)) as usize).clamp(1, MOST);
     bench.rehearse_all(changes);
     // The first run only warms up.
     let runs: Vec<Run> = (0..RUNS + 1).map(|_| bench.run()).skip(1).collect();
@@ -230,8 +233,8 @@ fn measure_size(results: &mut Results, bench: &mut Bench, check: f64) {
 
 /// The sizes in nodes, rising.
 pub fn measure(results: &mut Results, sizes: &[usize]) {
-    // Six calls for a change of each kind, and at least one change in a run; about as many before the runs as in one.
-    let calls = (6 * (RUNS + 2)) as f64;
+    // Eight calls for a change of each kind, and at least one change in a run; about as many before the runs as in one.
+    let calls = (8 * (RUNS + 2)) as f64;
     let mut last = (1.0, 0.0);
     for &size in sizes {
         let expected = last.1 * (size as f64 / last.0).powi(2);

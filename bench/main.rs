@@ -28,6 +28,7 @@ pub const NODES: &str = "all nodes";
 pub const INSERTION: &str = "insertion";
 pub const DELETION: &str = "deletion";
 pub const SPLITTING: &str = "insertion, split";
+pub const CLASS_CHANGE: &str = "class change";
 pub const COUNTS: &str = "counts";
 pub const WALK: &str = "empty leaves";
 pub const OURS: &str = "ours";

@@ -1,7 +1,7 @@
 //! The tables: as text for the terminal, as Markdown for docs/BENCHMARKS.md.
 use crate::counts::{self, CHANGES, ORDERS};
 use crate::results::{Results, Spread};
-use crate::{COUNTS, DELETION, HITS, INSERTION, MISSES, NODES, OTHERS, OURS, PAPER_FLUSHES, SPLITTING, TABLE, TREE, WALK};
+use crate::{CLASS_CHANGE, COUNTS, DELETION, HITS, INSERTION, MISSES, NODES, OTHERS, OURS, PAPER_FLUSHES, SPLITTING, TABLE, TREE, WALK};
 use std::fmt::Write;
 
 /// A table of ready cells under a line that says what they are.
@@ -128,7 +128,7 @@ fn change_times(results: &Results, part: &'static str) -> Table {
 fn change_ratios(results: &Results) -> Table {
     let head: Vec<&str> = ["", "nodes", "read pass, µs"].into_iter().chain(PARTS).chain(["stores listed", "flushes listed"]).collect();
     let mut table = Table::new("A change: each part's time divided by the time of one plain read pass over the same nodes", &head);
-    for part in [INSERTION, SPLITTING, DELETION] {
+    for part in [INSERTION, SPLITTING, DELETION, CLASS_CHANGE] {
         for nodes in results.sizes(NODES, "read pass") {
             let pass = results.median(NODES, "read pass", nodes);
             let mut row = vec![part.to_string(), grouped(nodes), or_dash(pass.map(|ns| ns / 1e3))];
@@ -226,7 +226,9 @@ fn change_growth(results: &Results) -> Table {
 
 /// Times in full, for the terminal only.
 pub fn times(results: &Results) -> Vec<Table> {
-    vec![search_times(results), change_times(results, INSERTION), change_times(results, SPLITTING), change_times(results, DELETION)]
+    let mut tables = vec![search_times(results)];
+    tables.extend([INSERTION, SPLITTING, DELETION, CLASS_CHANGE].map(|part| change_times(results, part)));
+    tables
 }
 
 /// The tables of the document.

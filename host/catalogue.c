@@ -1,4 +1,5 @@
 /* The program `catalogue`: recordings by their codes, in a table that survives a power cut. */
+#include <fcntl.h>
 #include <inttypes.h>
 #include <signal.h>
 #include <stdio.h>
@@ -50,6 +51,17 @@ static void on_bus_error(int number)
     _exit(BAD_FILE);
 }
 
+/*
+ * A standard stream that the caller has closed. Else the table's file would get its number, and what is printed would go into the table.
+ * To read from it, or to write to it, fails as before.
+ */
+static void hold_streams(void)
+{
+    for (int stream = STDIN_FILENO; stream <= STDERR_FILENO; stream++)
+        if (fcntl(stream, F_GETFD) < 0 && open("/dev/null", stream == STDIN_FILENO ? O_WRONLY : O_RDONLY) != stream)
+            _exit(BAD_FILE);
+}
+
 /* A library of another version takes other words. */
 static int test_library(void)
 {
@@ -63,6 +75,7 @@ int main(int count, char **words)
 {
     static struct command_line l;
     struct sigaction action = {.sa_handler = on_bus_error};
+    hold_streams();
     sigaction(SIGBUS, &action, NULL);
     int status = test_library();
     if (status == 0)

@@ -7,9 +7,9 @@
 
 #include "text.h"
 
-int change_read(struct change *c, enum kind kind, char **words)
+int change_read(struct change *c, enum kind kind, char **words, int count)
 {
-    *c = (struct change){.kind = kind};
+    *c = (struct change){.kind = kind, .access = CATALOGUE_OPEN};
     if (kind == REPAIR)
         return 0;
     int status = read_code_word(words[0], &c->key);
@@ -17,6 +17,9 @@ int change_read(struct change *c, enum kind kind, char **words)
         return status;
     if (kind == ADD && !read_number(words[1], strlen(words[1]), &c->recording))
         return fail(BAD_USAGE, "%.40s: " RECORDINGS, words[1]);
+    const char *class = kind == CLASS ? words[1] : kind == ADD && count > 2 ? words[2] : NULL;
+    if (class && !read_class(class, strlen(class), &c->access))
+        return fail(BAD_USAGE, "%.40s: " CLASSES, class);
     return 0;
 }
 
@@ -24,9 +27,12 @@ uint64_t change_plan(struct change *c, struct table *t)
 {
     switch (c->kind) {
     case ADD:
-        return catalogue_insert(t->working, t->words, c->orders, CATALOGUE_LIST_WORDS, c->key, c->recording, &c->stores, &c->flushes);
+        return catalogue_insert(t->working, t->words, c->orders, CATALOGUE_LIST_WORDS, c->key, c->recording, c->access, &c->stores,
+                                &c->flushes);
     case REMOVE:
         return catalogue_delete(t->working, t->words, c->orders, CATALOGUE_LIST_WORDS, c->key, &c->stores, &c->flushes);
+    case CLASS:
+        return catalogue_set_class(t->working, t->words, c->orders, CATALOGUE_LIST_WORDS, c->key, c->access, &c->stores, &c->flushes);
     default:
         return catalogue_repair(t->working, t->words, c->orders, CATALOGUE_LIST_WORDS, &c->stores, &c->flushes);
     }

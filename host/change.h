@@ -7,17 +7,20 @@
 #include "catalogue.h"
 #include "table.h"
 
-enum kind { ADD, REMOVE, REPAIR };
+enum kind { ADD, REMOVE, CLASS, REPAIR };
 
 struct change {
     enum kind kind;
-    uint64_t key, recording;
+    uint64_t key, recording, access; /* the class */
     uint64_t stores, flushes; /* of the list, once planned */
     uint64_t orders[CATALOGUE_LIST_WORDS];
 };
 
-/* From the words after the table: a code and a recording, a code, or nothing. 0, or an exit status after saying why. */
-int change_read(struct change *c, enum kind kind, char **words);
+/*
+ * From the words after the table: a code, a recording and perhaps a class; a code; a code and a class; or nothing. 0, or an exit status
+ * after saying why.
+ */
+int change_read(struct change *c, enum kind kind, char **words, int count);
 
 /* Makes the change on the working copy and its orders in the list. 0, or the refusal number; then nothing moved. */
 uint64_t change_plan(struct change *c, struct table *t);

@@ -22,12 +22,14 @@ static int plan(struct table *t, struct change *c)
 
 static void say_done(const struct change *c)
 {
-    char code[KEY_TEXT];
+    char code[KEY_TEXT], class[KEY_TEXT], pointer[POINTER_TEXT];
     key_text(c->key, code);
     if (c->kind == ADD)
-        printf("added %s,%" PRIu64, code, c->recording);
+        printf("added %s,%s", code, pointer_text(c->recording, c->access, pointer));
     else if (c->kind == REMOVE)
         printf("removed %s", code);
+    else if (c->kind == CLASS)
+        printf("class of %s is %s", code, class_text(c->access, class));
     else
         printf(c->stores == 0 ? "nothing to repair" : "repaired");
     change_print_counts(c);
@@ -78,13 +80,14 @@ static int say_absent(const char *table, uint64_t key, const uint64_t *next)
 
 static int find(struct table *t, struct command_line *l)
 {
-    uint64_t recording, next, higher;
-    uint64_t number = catalogue_search(t->working, t->words, l->low, &recording, &next, &higher);
+    uint64_t recording, access, next, higher;
+    char pointer[POINTER_TEXT];
+    uint64_t number = catalogue_search(t->working, t->words, l->low, &recording, &access, &next, &higher);
     if (number == CATALOGUE_ABSENT)
         return say_absent(t->name, l->low, higher ? &next : NULL);
     if (number != 0)
         return refuse(number, t->name, l->low, 0);
-    printf("%" PRIu64 "\n", recording);
+    printf("%s\n", pointer_text(recording, access, pointer));
     return 0;
 }
 
@@ -95,12 +98,13 @@ static int list(struct table *t, struct command_line *l)
     uint64_t *pairs = calloc(room, sizeof *pairs), count = 0, more;
     if (!pairs)
         return fail(BAD_FILE, "not enough memory");
-    char code[KEY_TEXT];
+    char code[KEY_TEXT], pointer[POINTER_TEXT];
     uint64_t number = catalogue_list(t->working, t->words, l->low, l->high, pairs, room, &count, &more);
     if (number != 0)
         refuse(number, t->name, 0, 0);
     for (uint64_t i = 0; i < count; i++)
-        printf("%s,%" PRIu64 "\n", key_text(pairs[2 * i], code), pairs[2 * i + 1]);
+        printf("%s,%s\n", key_text(pairs[2 * i], code),
+               pointer_text(CATALOGUE_RECORDING(pairs[2 * i + 1]), CATALOGUE_CLASS(pairs[2 * i + 1]), pointer));
     free(pairs);
     return (int)number;
 }
@@ -167,34 +171,42 @@ static int command_copy(struct command_line *l)
     return status != 0 ? status : say_made(l->words[2], l->nodes);
 }
 
+static int change_table(struct command_line *l, enum kind kind)
+{
+    int status = change_read(&l->change, kind, l->words + 2, l->count - 2);
+    return status != 0 ? status : with_table(l, true, make_change);
+}
+
 static int command_add(struct command_line *l)
 {
-    int status = change_read(&l->change, ADD, l->words + 2);
-    return status != 0 ? status : with_table(l, true, make_change);
+    return change_table(l, ADD);
 }
 
 static int command_remove(struct command_line *l)
 {
-    int status = change_read(&l->change, REMOVE, l->words + 2);
-    return status != 0 ? status : with_table(l, true, make_change);
+    return change_table(l, REMOVE);
+}
+
+static int command_class(struct command_line *l)
+{
+    return change_table(l, CLASS);
 }
 
 static int command_repair(struct command_line *l)
 {
-    int status = change_read(&l->change, REPAIR, NULL);
-    return status != 0 ? status : with_table(l, true, make_change);
+    return change_table(l, REPAIR);
 }
 
 static int command_orders(struct command_line *l)
 {
     static const struct {
         const char *name;
-        int words;
+        int least, most;
         enum kind kind;
-    } kinds[] = {{"add", 5, ADD}, {"remove", 4, REMOVE}, {"repair", 3, REPAIR}};
+    } kinds[] = {{"add", 5, 6, ADD}, {"remove", 4, 4, REMOVE}, {"class", 5, 5, CLASS}, {"repair", 3, 3, REPAIR}};
     for (size_t i = 0; i < sizeof kinds / sizeof kinds[0]; i++)
-        if (strcmp(l->words[2], kinds[i].name) == 0 && l->count == kinds[i].words) {
-            int status = change_read(&l->change, kinds[i].kind, l->words + 3);
+        if (strcmp(l->words[2], kinds[i].name) == 0 && l->count >= kinds[i].least && l->count <= kinds[i].most) {
+            int status = change_read(&l->change, kinds[i].kind, l->words + 3, l->count - 3);
             return status != 0 ? status : with_table(l, false, print_orders);
         }
     return WRONG_FORM;
@@ -249,24 +261,28 @@ static int command_help(struct command_line *l)
 const struct command commands[] = {
     {"make", "TABLE NODES", "a new, empty table of 1 to 65535 nodes; allow one for every 4 codes", "make room.cat 100", 3, 3, 0,
      command_make},
-    {"add", "TABLE CODE RECORDING", "a new code", "add room.cat AA-000-19-12345 7", 4, 4, CUT | CARRYING | WAITING, command_add},
+    {"add", "TABLE CODE RECORDING [CLASS]", "a new code, with its recording's class: open (if none is given), room or closed",
+     "add room.cat AA-000-19-12345 7 room", 4, 5, CUT | CARRYING | WAITING, command_add},
     {"remove", "TABLE CODE", "a code taken out", "remove room.cat AA-000-19-12345", 3, 3, CUT | CARRYING | WAITING, command_remove},
-    {"find", "TABLE CODE", "prints the code's recording; where the code is absent, tells the next one up",
+    {"class", "TABLE CODE CLASS", "another class for a code's recording: open, room or closed", "class room.cat AA-000-19-12345 closed",
+     4, 4, CUT | CARRYING | WAITING, command_class},
+    {"find", "TABLE CODE", "prints the code's recording,class; where the code is absent, tells the next one up",
      "find room.cat AA0001912345", 3, 3, WAITING, command_find},
-    {"list", "TABLE [FROM TO]", "prints the codes from FROM to TO, or all, as lines code,recording that load reads",
+    {"list", "TABLE [FROM TO]", "prints the codes from FROM to TO, or all, as lines code,recording,class that load\nreads",
      "list room.cat AA0000000000 AAZZZ9999999", 2, 4, WAITING, command_list},
     {"load", "TABLE FILE.csv",
-     "adds the lines code,recording of a file, or of standard input where it is -.\n"
-     "A byte-order mark, a header line, empty lines, spaces and quotes around the fields\n"
-     "are passed over. Loading stops at the first bad line; the first 20 are told",
+     "adds the lines code,recording or code,recording,class of a file, or of standard input\n"
+     "where it is -; a line without a class is open. A byte-order mark, a header line, empty\n"
+     "lines, spaces and quotes around the fields are passed over. Loading stops at the first\n"
+     "bad line; the first 20 are told",
      "load room.cat codes.csv", 3, 3, LOADING | CARRYING | WAITING, command_load},
-    {"repair", "TABLE", "finishes what a power cut left unfinished (add, remove and load do so first)", "repair room.cat", 2, 2,
+    {"repair", "TABLE", "finishes what a power cut left unfinished (add, remove, class and load do so first)", "repair room.cat", 2, 2,
      CUT | CARRYING | WAITING, command_repair},
     {"copy", "TABLE NEW NODES", "a new table of NODES nodes, as many as TABLE has or more, with the same codes",
      "copy room.cat larger.cat 200", 4, 4, WAITING, command_copy},
     {"orders", "TABLE CHANGE ..",
-     "prints the stores and flushes of a change without making it: add CODE RECORDING,\nremove CODE, or repair",
-     "orders room.cat add AA0001912345 7", 3, 5, WAITING, command_orders},
+     "prints the stores and flushes of a change without making it: add CODE RECORDING\n[CLASS], remove CODE, class CODE CLASS, or repair",
+     "orders room.cat add AA0001912345 7", 3, 6, WAITING, command_orders},
     {"check", "TABLE", "says whether the table is settled, sound with a leftover, or not sound, and how many\nnodes are free for more codes",
      "check room.cat", 2, 2, WAITING, command_check},
     {"show", "TABLE", "draws the tree by level, with hidden and trailing slots and the leftover; #N is a\nkey that no code has",

@@ -67,6 +67,16 @@ static void draw_head(const struct tree *tree, uint32_t n)
     printf("\n");
 }
 
+/* A leaf's left, which hides slot 0, is no recording. */
+static void draw_pointer(uint64_t pointer)
+{
+    char text[POINTER_TEXT];
+    if (pointer == CATALOGUE_MARK)
+        printf("%" PRIu64, pointer);
+    else
+        printf("%s", pointer_text(CATALOGUE_RECORDING(pointer), CATALOGUE_CLASS(pointer), text));
+}
+
 static void draw_slot(const struct tree *tree, uint32_t n, unsigned slot)
 {
     static const char *const kinds[] = {[FREE] = "", [SHOWN] = "", [HIDDEN] = "   hidden", [TRAILING] = "   trailing"};
@@ -78,7 +88,7 @@ static void draw_slot(const struct tree *tree, uint32_t n, unsigned slot)
     if (tree_word(tree, n, LEVEL) > 0)
         draw_way(tree, tree_pointer(tree, n, slot));
     else
-        printf("%" PRIu64, tree_pointer(tree, n, slot));
+        draw_pointer(tree_pointer(tree, n, slot));
     printf("%s\n", kinds[kind]);
 }
 
@@ -101,7 +111,7 @@ static void draw(struct tree *tree)
         uint32_t n = tree->reached[i];
         uint64_t level = tree_word(tree, n, LEVEL);
         if (i == 0 || level != tree_word(tree, tree->reached[i - 1], LEVEL))
-            printf("\nlevel %" PRIu64 "%s\n", level, level == 0 ? ": code and recording" : "");
+            printf("\nlevel %" PRIu64 "%s\n", level, level == 0 ? ": code, recording and class" : "");
         draw_node(tree, n);
     }
 }

@@ -16,8 +16,8 @@ static const char before[] =
     "catalogue COMMAND TABLE ..: recordings by their ISRC codes, in a table that survives a power cut at any moment\n"
     "\n"
     "A table is a file, mapped into memory. A code is typed with or without hyphens and spaces, in capital or small letters\n"
-    "(AA-000-19-12345, in quotes where it has spaces). A recording is a whole number from 1 to 18446744073709551614.\n"
-    "A word after -- is no option.\n"
+    "(AA-000-19-12345, in quotes where it has spaces). A recording is a whole number from 1 to 72057594037927935. Its class\n"
+    "says where it plays: open, everywhere; room, only in the room; closed, not at all. A word after -- is no option.\n"
     "\n";
 
 static const char durability[] =
@@ -32,6 +32,10 @@ static const char durability[] =
 static void print_entry(const char *name, const char *form, const char *about, const char *example)
 {
     int column = printf("  %s%s%s", name, form ? " " : "", form ? form : "");
+    if (column > COLUMN - 2) {
+        printf("\n");
+        column = 0;
+    }
     for (const char *line = about; line; column = 0) {
         const char *end = strchr(line, '\n');
         printf("%*s%.*s\n", COLUMN - column, "", end ? (int)(end - line) : (int)strlen(line), line);

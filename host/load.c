@@ -1,4 +1,4 @@
-/* Loading the lines `code,recording` of a file. */
+/* Loading the lines of a file. */
 #include "load.h"
 
 #include <errno.h>
@@ -25,6 +25,7 @@ struct loading {
     int first_bad;    /* the first bad line's exit status */
     uint64_t stopped; /* the bad line that ended the loading, 0 for none: the lines after it are only read */
     struct change change;
+    bool classed; /* the line has a class */
 };
 
 /* ---- signals */
@@ -47,18 +48,42 @@ static void watch_signal(int number)
 
 /* ---- a line */
 
-/* The table has this code with this recording. */
-static bool there_already(const struct loading *l)
+/* The table has this code with this recording; *access is its class there. */
+static bool recording_there(const struct loading *l, uint64_t *access)
 {
     uint64_t recording, next, higher;
-    uint64_t number = catalogue_search(l->table->expected, l->table->words, l->change.key, &recording, &next, &higher);
+    uint64_t number = catalogue_search(l->table->expected, l->table->words, l->change.key, &recording, access, &next, &higher);
     return number == 0 && recording == l->change.recording;
+}
+
+/* The table has all that the line says: a line without a class says nothing of it. Then the change has the class that is there. */
+static bool there_already(struct loading *l)
+{
+    uint64_t access;
+    if (!recording_there(l, &access) || (l->classed && access != l->change.access))
+        return false;
+    l->change.access = access;
+    return true;
+}
+
+/* What a line that is refused with 7 has in common with the table. */
+static const char *hint_for(struct loading *l, char text[EXPLANATION])
+{
+    uint64_t access;
+    char class[KEY_TEXT];
+    if (!recording_there(l, &access))
+        return "";
+    if (there_already(l))
+        return " with this recording (--again passes over such lines)";
+    snprintf(text, EXPLANATION, " with this recording, and is %s (catalogue class changes that)", class_text(access, class));
+    return text;
 }
 
 /* A line that cannot be loaded, told; the load ends here unless it keeps going. */
 static void bad_line(struct loading *l, int status)
 {
-    char text[ROW_TEXT], why[EXPLANATION] = "not of the form code,recording; " RECORDINGS;
+    char text[ROW_TEXT], hint[EXPLANATION];
+    char why[EXPLANATION] = "not of the form code,recording or code,recording,class; " RECORDINGS ", " CLASSES;
     if (l->bad++ == 0)
         l->first_bad = status;
     if (l->stopped == 0 && !l->options->keep_going)
@@ -67,18 +92,18 @@ static void bad_line(struct loading *l, int status)
         return;
     if (status != BAD_LINE)
         explain((uint64_t)status, l->table->name, l->change.key, l->change.recording, why);
-    const char *hint = status == CATALOGUE_KEY_PRESENT && there_already(l) ? " with this recording (--again passes over such lines)" : "";
+    const char *more = status == CATALOGUE_KEY_PRESENT ? hint_for(l, hint) : "";
     progress_clear(&l->progress);
-    fail(status, "%s, line %" PRIu64 ", \"%s\": %s%s", l->name, l->rows.number, rows_text(&l->rows, text), why, hint);
+    fail(status, "%s, line %" PRIu64 ", \"%s\": %s%s", l->name, l->rows.number, rows_text(&l->rows, text), why, more);
 }
 
 /* The table has the line: its orders are carried out, or it was there. */
 static void acknowledge(const struct loading *l)
 {
-    char code[KEY_TEXT];
+    char code[KEY_TEXT], pointer[POINTER_TEXT];
     if (!l->options->each)
         return;
-    printf("%s,%" PRIu64 "\n", key_text(l->change.key, code), l->change.recording);
+    printf("%s,%s\n", key_text(l->change.key, code), pointer_text(l->change.recording, l->change.access, pointer));
     fflush(stdout);
 }
 
@@ -102,9 +127,14 @@ static int add(struct loading *l)
 
 static int load_line(struct loading *l)
 {
-    int status = rows_read(&l->rows, &l->change.key, &l->change.recording);
+    struct row row = {0};
+    int status = rows_read(&l->rows, &row);
     if (status == ROW_PASSED || (status == 0 && l->stopped > 0))
         return 0;
+    l->change.key = row.key;
+    l->change.recording = row.recording;
+    l->change.access = row.access;
+    l->classed = row.classed;
     if (status != 0) {
         bad_line(l, status);
         return 0;

@@ -1,4 +1,4 @@
-/* Loading the lines `code,recording` of a file. */
+/* Loading the lines of a file. */
 #ifndef LOAD_H
 #define LOAD_H
 

@@ -4,7 +4,7 @@
 
 #include <stdint.h>
 
-/* The program's own, beside the refusal numbers 1 to 13 and 255 for an absent code. */
+/* The program's own, beside the refusal numbers 1 to 14 and 255 for an absent code. */
 enum {
     BAD_USAGE = 64,   /* the command line has another form */
     BAD_LINE = 65,    /* a line of a file to load has another form */
@@ -12,7 +12,8 @@ enum {
     BY_SIGNAL = 128   /* and the signal's number: a load that a signal ended */
 };
 
-#define RECORDINGS "a recording is a whole number from 1 to 18446744073709551614"
+#define RECORDINGS "a recording is a whole number from 1 to 72057594037927935"
+#define CLASSES "a class is open, room or closed"
 
 struct refusal {
     uint64_t number;

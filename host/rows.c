@@ -1,4 +1,4 @@
-/* The lines `code,recording` of a file, as people and spreadsheets write them. */
+/* The lines `code,recording` or `code,recording,class` of a file, as people and spreadsheets write them. */
 #include "rows.h"
 
 #include <string.h>
@@ -79,22 +79,47 @@ static bool has_digit(struct field f)
     return f.from < f.to;
 }
 
-int rows_read(struct rows *r, uint64_t *key, uint64_t *recording)
+static size_t length_of(struct field f)
 {
-    struct field all = trimmed((struct field){r->text, r->text + r->length});
+    return (size_t)(f.to - f.from);
+}
+
+/* The fields of a line, at most MOST_FIELDS, the last one with all that follows; their number. */
+#define MOST_FIELDS 3
+static int split(struct field all, struct field fields[MOST_FIELDS])
+{
+    int count = 0;
+    for (const char *comma = all.from; comma && count < MOST_FIELDS; count++) {
+        fields[count] = (struct field){comma + (count > 0), all.to};
+        comma = memchr(fields[count].from, ',', length_of(fields[count]));
+        if (comma && count + 1 < MOST_FIELDS)
+            fields[count].to = comma;
+        fields[count] = plain(fields[count]);
+    }
+    return count;
+}
+
+int rows_read(struct rows *r, struct row *row)
+{
+    struct field all = trimmed((struct field){r->text, r->text + r->length}), fields[MOST_FIELDS];
     if (all.from == all.to)
         return ROW_PASSED;
     bool first = !r->begun;
     r->begun = true;
-    const char *comma = memchr(all.from, ',', (size_t)(all.to - all.from));
-    if (!comma || r->too_long)
+    int count = split(all, fields);
+    if (count < 2 || r->too_long)
         return BAD_LINE;
-    struct field code = plain((struct field){all.from, comma}), number = plain((struct field){comma + 1, all.to});
-    uint64_t status = read_code(code.from, (size_t)(code.to - code.from), key);
+    struct field code = fields[0], number = fields[1];
+    *row = (struct row){.access = CATALOGUE_OPEN, .classed = count > 2};
+    uint64_t status = read_code(code.from, length_of(code), &row->key);
     /* A header names its columns: no code, and not a digit where the recordings are. */
     if (first && status != 0 && number.from < number.to && !has_digit(number))
         return ROW_PASSED;
-    return read_number(number.from, (size_t)(number.to - number.from), recording) ? (int)status : BAD_LINE;
+    if (!read_number(number.from, length_of(number), &row->recording))
+        return BAD_LINE;
+    if (row->classed && !read_class(fields[2].from, length_of(fields[2]), &row->access))
+        return BAD_LINE;
+    return (int)status;
 }
 
 const char *rows_text(const struct rows *r, char text[ROW_TEXT])

@@ -1,4 +1,4 @@
-/* The lines `code,recording` of a file, as people and spreadsheets write them. */
+/* The lines `code,recording` or `code,recording,class` of a file, as people and spreadsheets write them. */
 #ifndef ROWS_H
 #define ROWS_H
 
@@ -27,8 +27,14 @@ bool rows_next(struct rows *r);
 
 enum { ROW_PASSED = -1 };
 
-/* The last line's code and recording: 0, the refusal number 1, BAD_LINE, or ROW_PASSED for an empty line or a header. */
-int rows_read(struct rows *r, uint64_t *key, uint64_t *recording);
+/* What a line says. */
+struct row {
+    uint64_t key, recording, access;
+    bool classed; /* it has a class; one that has none is open */
+};
+
+/* The last line: 0, the refusal number 1, BAD_LINE, or ROW_PASSED for an empty line or a header. */
+int rows_read(struct rows *r, struct row *row);
 
 /* Room for rows_text. */
 #define ROW_TEXT 64

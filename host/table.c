@@ -87,6 +87,18 @@ static int open_locked(struct table *t, uint64_t seconds)
     return t->file < 0 ? open_failed(t->name, t->writing) : lock(t, seconds);
 }
 
+static bool same_file(const struct stat *a, const struct stat *b)
+{
+    return a->st_dev == b->st_dev && a->st_ino == b->st_ino;
+}
+
+/* What is printed there would go into the table. */
+static bool is_stream(const struct stat *table, int stream)
+{
+    struct stat about;
+    return fstat(stream, &about) == 0 && same_file(table, &about);
+}
+
 /* The number of words by the file's length. */
 static int measure(struct table *t)
 {
@@ -95,6 +107,10 @@ static int measure(struct table *t)
         return fail(BAD_FILE, "%s: %s", t->name, strerror(errno));
     if (!S_ISREG(about.st_mode))
         return fail(BAD_FILE, "%s is not an ordinary file", t->name);
+    if (is_stream(&about, STDERR_FILENO))
+        return BAD_FILE;
+    if (is_stream(&about, STDOUT_FILENO))
+        return fail(BAD_FILE, "%s is where the answer would be printed", t->name);
     /* The superuser may write to any file; one that is marked read-only stays as it is all the same. */
     if (t->writing && (about.st_mode & (S_IWUSR | S_IWGRP | S_IWOTH)) == 0)
         return fail(BAD_FILE, "%s is read-only", t->name);
@@ -220,7 +236,7 @@ static bool line_differs(const struct table *t, const uint64_t *orders, uint64_t
 static int still_ours(struct table *t, const uint64_t *orders, uint64_t count)
 {
     struct stat ours, named;
-    if (fstat(t->file, &ours) != 0 || stat(t->name, &named) != 0 || ours.st_dev != named.st_dev || ours.st_ino != named.st_ino)
+    if (fstat(t->file, &ours) != 0 || stat(t->name, &named) != 0 || !same_file(&ours, &named))
         return fail(BAD_FILE, "%s was removed or replaced by another program; nothing more was changed", t->name);
     bool changed = (uint64_t)ours.st_size != t->words * sizeof(uint64_t);
     bool compare = !orders || !same_time(ours.st_mtim, t->left.st_mtim) || !same_time(ours.st_ctim, t->left.st_ctim);

@@ -5,10 +5,14 @@
 #include <stdarg.h>
 #include <stdio.h>
 #include <string.h>
+#include <strings.h>
 
 #include "catalogue.h"
 
 #define CODE_LENGTH 12
+
+static const char *const classes[] = {[CATALOGUE_OPEN] = "open", [CATALOGUE_ROOM] = "room", [CATALOGUE_CLOSED] = "closed"};
+static const size_t class_count = sizeof classes / sizeof classes[0];
 
 int fail(int status, const char *format, ...)
 {
@@ -66,6 +70,32 @@ const char *key_text(uint64_t key, char text[KEY_TEXT])
         text[CODE_LENGTH] = '\0';
     else
         snprintf(text, KEY_TEXT, "#%" PRIu64, key);
+    return text;
+}
+
+bool read_class(const char *text, size_t length, uint64_t *access)
+{
+    for (size_t i = 0; i < class_count; i++)
+        if (strlen(classes[i]) == length && strncasecmp(classes[i], text, length) == 0) {
+            *access = i;
+            return true;
+        }
+    return false;
+}
+
+const char *class_text(uint64_t access, char text[KEY_TEXT])
+{
+    if (access < class_count)
+        strcpy(text, classes[access]);
+    else
+        snprintf(text, KEY_TEXT, "%" PRIu64, access);
+    return text;
+}
+
+const char *pointer_text(uint64_t recording, uint64_t access, char text[POINTER_TEXT])
+{
+    char class[KEY_TEXT];
+    snprintf(text, POINTER_TEXT, "%" PRIu64 ",%s", recording, class_text(access, class));
     return text;
 }
 

@@ -32,4 +32,16 @@ int read_code_word(const char *word, uint64_t *key);
 /* A key's code, or # and the number where no code has it; the text given is filled and returned. */
 const char *key_text(uint64_t key, char text[KEY_TEXT]);
 
+/* A class by its name, in capital or small letters. */
+bool read_class(const char *text, size_t length, uint64_t *access);
+
+/* A class's name; of a class that no sound table has, its number. The text given is filled and returned. */
+const char *class_text(uint64_t access, char text[KEY_TEXT]);
+
+/* Room for a recording, its class and the final 0. */
+#define POINTER_TEXT 48
+
+/* "7,room", as list and find print it. */
+const char *pointer_text(uint64_t recording, uint64_t access, char text[POINTER_TEXT]);
+
 #endif

@@ -15,8 +15,9 @@
  *     16 key    17 pointer   18 key     19 pointer   ..   22 key   23 pointer     slots 4 to 7
  *     24 key    25 pointer   26 key     27 pointer   ..   30 key   31 pointer     slots 8 to 11
  *
- * A leaf has level 0 and left CATALOGUE_MARK, and its pointers are recordings; an inner node's left and pointers are its children's
- * numbers. The fence is the lowest key that the node may hold, the sibling the node to its right, or 0.
+ * A leaf has level 0 and left CATALOGUE_MARK. Its pointers are recordings with their classes: the low 56 bits are the recording number, the
+ * top 8 the class, who may hear it. An inner node's left and pointers are its children's numbers. The fence is the lowest key that the node
+ * may hold, the sibling the node to its right, or 0.
  *
  * A writing call changes the working copy and fills an order list of at least CATALOGUE_LIST_WORDS words, two words an order:
  * a store is its word index and its value, a flush is CATALOGUE_MARK and a line number (eight words from a multiple of 8 are a line;
@@ -25,15 +26,15 @@
  * table reloaded from memory answers every search as before the change or as after it, and the next writing call repairs it.
  *
  *     static uint64_t memory[8 + 32 * 100], working[8 + 32 * 100], orders[CATALOGUE_LIST_WORDS];
- *     uint64_t key, recording, next, higher, stores, flushes;
+ *     uint64_t key, recording, access, next, higher, stores, flushes;
  *     size_t words = sizeof working / sizeof working[0];
  *
  *     catalogue_make(working, words);
  *     memcpy(memory, working, sizeof working);
  *     if (catalogue_parse((const uint8_t *)"AA0001912345", 12, &key) == 0
- *         && catalogue_insert(working, words, orders, CATALOGUE_LIST_WORDS, key, 7, &stores, &flushes) == 0)
+ *         && catalogue_insert(working, words, orders, CATALOGUE_LIST_WORDS, key, 7, CATALOGUE_OPEN, &stores, &flushes) == 0)
  *         catalogue_carry_out(memory, words, orders, CATALOGUE_LIST_WORDS, stores + flushes);
- *     if (catalogue_search(memory, words, key, &recording, &next, &higher) == 0)
+ *     if (catalogue_search(memory, words, key, &recording, &access, &next, &higher) == 0 && access != CATALOGUE_CLOSED)
  *         printf("%llu\n", (unsigned long long)recording);
  */
 #ifndef CATALOGUE_H
@@ -50,10 +51,22 @@ extern "C" {
  * The version of these declarations. It is raised by each change of a name, a parameter or the meaning of a word, so a program that was
  * compiled with one header and linked with another library sees it: catalogue_version() is the library's.
  */
-#define CATALOGUE_VERSION 2
+#define CATALOGUE_VERSION 3
 
 #define CATALOGUE_MARK UINT64_MAX
 #define CATALOGUE_LIST_WORDS 2560
+
+/* A leaf pointer's two parts, as catalogue_list gives it. */
+#define CATALOGUE_MOST_RECORDING UINT64_C(72057594037927935)
+#define CATALOGUE_RECORDING(pointer) ((uint64_t)(pointer) & CATALOGUE_MOST_RECORDING)
+#define CATALOGUE_CLASS(pointer) ((uint64_t)(pointer) >> 56)
+
+/* Classes. A sound table has no other. */
+enum {
+    CATALOGUE_OPEN = 0,   /* plays everywhere */
+    CATALOGUE_ROOM = 1,   /* plays only in the room */
+    CATALOGUE_CLOSED = 2  /* does not play */
+};
 
 /* What the calls return: 0 where a call does its work, else one of these. */
 enum {
@@ -62,14 +75,15 @@ enum {
     CATALOGUE_SEARCH_LOST = 3,      /* search: a node number, level or sibling is wrong on its way, or its leaves go round in a ring */
     CATALOGUE_NOT_SOUND = 4,        /* write or listing: the table is not sound */
     CATALOGUE_SHORT_LIST = 5,       /* order list under 2,560 words */
-    CATALOGUE_BAD_RECORDING = 6,    /* recording is 0 or CATALOGUE_MARK */
+    CATALOGUE_BAD_RECORDING = 6,    /* recording is 0 or above CATALOGUE_MOST_RECORDING */
     CATALOGUE_KEY_PRESENT = 7,      /* code already in the map */
     CATALOGUE_RECORDING_PRESENT = 8, /* recording in the map under another code */
-    CATALOGUE_KEY_ABSENT = 9,       /* deletion: code absent */
+    CATALOGUE_KEY_ABSENT = 9,       /* deletion or class change: code absent */
     CATALOGUE_NO_NODES = 10,        /* fewer unreachable nodes than the splits need */
     CATALOGUE_TOO_HIGH = 11,        /* the root at level 15 would have to split */
     CATALOGUE_PARENT_FULL = 12,     /* repair would find 11 shown slots in the parent */
     CATALOGUE_BAD_ORDERS = 13,      /* carry-out: more orders than the list has, or one outside the table */
+    CATALOGUE_BAD_CLASS = 14,       /* class above 2; comes straight after 6 */
     CATALOGUE_ABSENT = 255          /* search: the key is absent */
 };
 
@@ -86,15 +100,17 @@ uint64_t catalogue_print(uint64_t key, uint8_t *text);
 uint64_t catalogue_make(uint64_t *table, size_t words);
 
 /*
- * 0 and *recording where the key is found. 255 where it is absent: then *higher is 1 and *next the next key up in the map, or *higher is 0
- * and *next stays, for no key is higher. Else 2 or 3. A word that is not named for a case stays.
+ * 0, *recording and its class *access where the key is found; in a table that is not sound they are what stands there, classes up to 255.
+ * 255 where it is absent: then *higher is 1 and *next the next key up in the map, or *higher is 0 and *next stays, for no key is higher.
+ * Else 2 or 3. A word that is not named for a case stays.
  * The next key is looked for from the leaf where the search ended and on along the siblings, past leaves that are empty; a leaf there that
  * fails the search's tests, or more leaves than the table has nodes, give 3. Any key may be the next one, CATALOGUE_MARK too.
  */
-uint64_t catalogue_search(const uint64_t *table, size_t words, uint64_t key, uint64_t *recording, uint64_t *next, uint64_t *higher);
+uint64_t catalogue_search(const uint64_t *table, size_t words, uint64_t key, uint64_t *recording, uint64_t *access, uint64_t *next,
+                          uint64_t *higher);
 
 /*
- * The pairs (key, recording) with low <= key <= high, rising, into out while whole pairs fit; *pairs is their number, *more 1 where
+ * The pairs (key, whole pointer) with low <= key <= high, rising, into out while whole pairs fit; *pairs is their number, *more 1 where
  * more were left, else 0. 0, or 2 or 4.
  */
 uint64_t catalogue_list(const uint64_t *table, size_t words, uint64_t low, uint64_t high, uint64_t *out, size_t out_words,
@@ -102,14 +118,18 @@ uint64_t catalogue_list(const uint64_t *table, size_t words, uint64_t low, uint6
 
 /*
  * The writing calls, on the working copy. Each repairs what a cut left first. 0, with the order list filled and its stores and flushes
- * counted (at most 1,121 together), or the refusal number. Insertion: 2, 4, 5, 12, 6, 7, 8, 11, 10.
+ * counted (at most 1,121 together), or the refusal number. Insertion: 2, 4, 5, 12, 6, 14, 7, 8, 11, 10.
  */
 uint64_t catalogue_insert(uint64_t *table, size_t words, uint64_t *orders, size_t order_words, uint64_t key, uint64_t recording,
-                          uint64_t *stores, uint64_t *flushes);
+                          uint64_t access, uint64_t *stores, uint64_t *flushes);
 
 /* Deletion: 2, 4, 5, 12, 9. */
 uint64_t catalogue_delete(uint64_t *table, size_t words, uint64_t *orders, size_t order_words, uint64_t key, uint64_t *stores,
                           uint64_t *flushes);
+
+/* Class change of a code, also to the class that it has: one store and one flush, after any repair. 2, 4, 5, 12, 14, 9. */
+uint64_t catalogue_set_class(uint64_t *table, size_t words, uint64_t *orders, size_t order_words, uint64_t key, uint64_t access,
+                             uint64_t *stores, uint64_t *flushes);
 
 /* Repair: 2, 4, 5, 12. A settled table gives 0 orders. */
 uint64_t catalogue_repair(uint64_t *table, size_t words, uint64_t *orders, size_t order_words, uint64_t *stores, uint64_t *flushes);

@@ -37,7 +37,7 @@ fn asked(line: &[u8]) -> Result<Call, u64> {
     match fields[..] {
         [b"+", code, digits] if !code.is_empty() => {
             let r = recording(digits).ok_or(0u64)?;
-            Ok(Call::Insert(key(code).ok_or(1u64)?, r))
+            Ok(Call::Insert(key(code).ok_or(1u64)?, r, 0))
         }
         [b"-", code] if !code.is_empty() => Ok(Call::Delete(key(code).ok_or(1u64)?)),
         _ => Err(0),
@@ -51,8 +51,8 @@ struct Step {
     text: String,
 }
 
-/// The steps of an input on a table of so many nodes; how often each number was printed (0 to 13), and how often `done`.
-fn steps(input: &[u8], nodes: u64, numbers: &mut [u64; 14], done: &mut u64) -> Vec<Step> {
+/// The steps of an input on a table of so many nodes; how often each number was printed (0 to 14), and how often `done`.
+fn steps(input: &[u8], nodes: u64, numbers: &mut [u64; 15], done: &mut u64) -> Vec<Step> {
     let mut table = make(nodes);
     let mut lines: Vec<&[u8]> = input.split(|&b| b == b'\n').collect();
     // What follows the last line feed counts unless it is empty.
@@ -139,7 +139,7 @@ struct Run {
     program: String,
     scratch: String,
     seed: u64,
-    numbers: [u64; 14],
+    numbers: [u64; 15],
     done: u64,
     inputs: u64,
     bytes: usize,
@@ -175,7 +175,7 @@ impl Run {
 
     /// Whether a table of five nodes would print something else of this input.
     fn tells_five(&mut self, input: &[u8]) {
-        let text = |nodes| steps(input, nodes, &mut [0; 14], &mut 0).iter().map(|s| s.text.clone()).collect::<String>();
+        let text = |nodes| steps(input, nodes, &mut [0; 15], &mut 0).iter().map(|s| s.text.clone()).collect::<String>();
         self.other_with_five += (text(4) != text(5)) as u64;
     }
 }
@@ -200,6 +200,7 @@ const SHORT: &[&[u8]] = &[
     b"+ AA0001912345 7\n\n- AA0001912345\n\n",
     b"+ AA0001912345 7\n+ AA0001912345 8\n+ AA0001912346 7\n- AA0001912347\n+ AA0001912345 0\n+ AA0001912346 0\n+ AA0001912346 18446744073709551615",
     b"+ AA0001912345 18446744073709551614\n+ AA0001912346 18446744073709551616\n+ AA0001912346 00000000000000000000018446744073709551614\n",
+    b"+ AA0001912345 72057594037927935\n+ AA0001912346 72057594037927936\n+ AA0001912346 72057594037927937\n+ AA0001912346 00000000000000000000072057594037927934\n+ AA0001912347 144115188075855872\n",
     b"+ ZZZZZ9999999 1\n- ZZZZZ9999999\n+ 1A0001912345 1\n+ aA0001912345 1\n+ AA000191234A 1\n+ AA000191234 1\n+ AA00019123450 1\n+ A\xc3\x84001912345 1\n",
     b"+ 1A0001912345 x\n+ 1A0001912345 \n+ 1A0001912345\n- 1A0001912345 \n- 1A0001912345 7\n",
     b"+  AA0001912345 7\n+ AA0001912345  7\n+ AA0001912345 7 \n + AA0001912345 7\n+AA0001912345 7\n++ AA0001912345 7\n* AA0001912345 7\n+\tAA0001912345\t7\n",
@@ -216,7 +217,7 @@ fn cut_lines() -> Vec<u8> {
     let mut input = Vec::new();
     let mut lines = Vec::new();
     for i in 0..6 {
-        lines.push(format!("+ {} {}\n", code(i), 18446744073709551000 + i));
+        lines.push(format!("+ {} {}\n", code(i), 72057594037927000 + i));
         lines.push(format!("+ {} {}\n", code(i), i + 1));
         lines.push(format!("- {}\n", code(i + 3)));
         lines.push(format!("+ {} 0\n", code(i + 1)));
@@ -281,7 +282,7 @@ fn some_line(codes: u64, random: &mut Random) -> Vec<u8> {
         0 => b"0".to_vec(),
         1 => MARK.to_string().into_bytes(),
         2 => (MARK as u128 + random.below(40) as u128).to_string().into_bytes(),
-        3 => (MARK - 1 - random.below(4)).to_string().into_bytes(),
+        3 => (MOST_RECORDING - 1 + random.below(4)).to_string().into_bytes(),
         4 => [vec![b'0'; many], (1 + random.below(60)).to_string().into_bytes()].concat(),
         5 => vec![b'1' + random.below(9) as u8; many],
         _ => (1 + random.below(90)).to_string().into_bytes(),
@@ -336,7 +337,7 @@ fn main() {
     let (seed, size) = (number(2, 20_261_117), number(3, 60));
     println!("seed {seed}, size {size}");
     let mut random = Random(seed);
-    let mut run = Run { program: arguments[0].clone(), scratch: arguments[1].clone(), seed, numbers: [0; 14], done: 0, inputs: 0, bytes: 0, other_with_five: 0 };
+    let mut run = Run { program: arguments[0].clone(), scratch: arguments[1].clone(), seed, numbers: [0; 15], done: 0, inputs: 0, bytes: 0, other_with_five: 0 };
     let mut passed = 0;
 
     // Short inputs, whole and a byte at a time.
@@ -387,7 +388,7 @@ fn main() {
     println!("inputs {}, bytes {}, lines done {}; refused by number: {:?}", run.inputs, run.bytes, run.done, run.numbers);
     println!("inputs that a table of 5 nodes would print otherwise: {}", run.other_with_five);
     let met = [0, 1, 6, 7, 8, 9, 10].iter().all(|&n: &usize| run.numbers[n] >= 500);
-    assert!(size < 60 || (met && run.done >= 10_000 && run.other_with_five >= 20), "a number was not met often enough");
+    assert!(size < 60 || (met && run.done >= 10_000 && run.other_with_five >= 15), "a number was not met often enough");
     passed += 1;
 
     println!("{passed} passed, 0 failed");

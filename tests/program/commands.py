@@ -1,15 +1,18 @@
 """Every command, and every refusal that a user can cause."""
 import os
 import re
+import shutil
 import subprocess
 
 from drive import *
 
 HOST = os.path.join(os.path.dirname(os.path.abspath(__file__)), "..", "..", "host")
 HUNDRED = os.path.join(HOST, "hundred.csv")
+# A table and its listing, by the program as it was before there were classes.
+BEFORE = os.path.join(os.path.dirname(os.path.abspath(__file__)), "before_classes")
 
 
-COMMANDS = "make add remove find list load repair copy orders check show help".split()
+COMMANDS = "make add remove class find list load repair copy orders check show help".split()
 OPTIONS = "--again --keep-going --each --cut --wait --fast --flush --pause --help --version".split()
 
 
@@ -23,7 +26,7 @@ def help_has_an_example_of_each(program, folder):
     assert max(len(line) for line in text.splitlines()) <= 120
     statuses = re.search(r"^Exit status: (.*?)\.$", text, re.M | re.S)[1]
     numbers = [int(item.split()[0]) for item in re.split(";\\s", statuses)]
-    assert numbers == [0] + list(range(1, 5)) + [5] + list(range(6, 14)) + [64, 65, 74, 130, 143, 255], statuses
+    assert numbers == [0] + list(range(1, 5)) + [5] + list(range(6, 15)) + [64, 65, 74, 130, 143, 255], statuses
 
 
 def help_of_one_command(program, folder):
@@ -58,7 +61,7 @@ def words_and_options(program, folder):
     program.done("--wait=1", "repair", "--", t)
     program.done("make", "--", dashed, 2, cwd=folder)
     program.done("add", dashed.join(["./", ""]), code(1), 1, cwd=folder)
-    assert program.done("find", "--", dashed, code(1), cwd=folder) == "1\n"
+    assert program.done("find", "--", dashed, code(1), cwd=folder) == "1,open\n"
     program.refuses(BAD_USAGE, "--again takes no value", "load", t, "x", "--again=1")
     program.refuses(BAD_USAGE, "--cut takes a number", "repair", t, "--cut=")
     program.refuses(BAD_USAGE, "no option --cuts=3", "repair", t, "--cuts=3")
@@ -72,7 +75,9 @@ def wrong_command_lines(program, folder):
     program.refuses(BAD_USAGE, "no command fly", "fly", t)
     program.refuses(BAD_USAGE, "no option --faster", "check", t, "--faster")
     wrong = [["make", t], ["add", t, code(1)], ["remove", t], ["find", t], ["list", t, code(1)], ["load", t], ["repair"], ["orders", t]]
-    wrong += [["orders", t, "add", code(1)], ["orders", t, "load", "x"], ["check"], ["show"], ["check", t, "x"], ["add", t, code(1), 1, 2]]
+    wrong += [["orders", t, "add", code(1)], ["orders", t, "load", "x"], ["check"], ["show"], ["check", t, "x"], ["add", t, code(1), 1, "open", 2]]
+    wrong += [["class", t, code(1)], ["class", t, code(1), "open", "room"], ["class", t], ["orders", t, "class", code(1)]]
+    wrong += [["orders", t, "class", code(1), "open", "x"], ["orders", t, "add", code(1), 1, "open", "x"], ["class", t, code(1), "room", "--each"]]
     wrong += [["check", t, "--cut", 1], ["load", t, "x", "--cut", 1], ["add", t, code(1), 1, "--each"], ["find", t, code(1), "--again"]]
     wrong += [["add", t, code(1), 1] + 9 * ["x"], ["list", t, "--flush", "none"], ["find", t, code(1), "--fast"], ["help", "add", "x"]]
     wrong += [["copy", t, f"{folder}/u"], ["make", f"{folder}/u", 1, "--wait", 1], ["add", t, code(1), 1, "--keep-going"]]
@@ -110,7 +115,7 @@ def the_worked_orders(program, folder):
     out = program.done("orders", t, "add", "AA-000-19-12345", 7)
     assert [" ".join(l.split()[1:4]) for l in out.splitlines()[:-1]] == [
         "store 19 0", f"store 17 {MARK}", "store 16 172627201912345", "store 17 7", "flush 2"], out
-    assert program.done("add", t, "AA-000-19-12345", 7) == "added AA0001912345,7 (4 stores, 1 flush)\n"
+    assert program.done("add", t, "AA-000-19-12345", 7) == "added AA0001912345,7,open (4 stores, 1 flush)\n"
     out = program.done("orders", t, "remove", "AA-000-19-12345")
     assert [" ".join(l.split()[1:4]) for l in out.splitlines()[:-1]] == [f"store 17 {MARK}", "store 17 0", "flush 2"], out
     assert program.done("orders", t, "repair") == "not made (0 stores, 0 flushes)\n"
@@ -146,17 +151,22 @@ def codes_as_people_type_them(program, folder):
     program.done("make", t, 1)
     program.done("add", t, "AA-000-19-12345", 7)
     for typed in ("AA0001912345", "AA-000-19-12345", "AA 000 19 12345", " AA-000 1912345 -", "aa-000-19-12345", f"#{key('AA0001912345')}"):
-        assert program.done("find", t, typed) == "7\n"
+        assert program.done("find", t, typed) == "7,open\n"
     no_codes = ["", "-", "1A0001912345", "AA00019123456", "AA000191234", "AA000191234X", "AA000_19_12345", "ÄA000191234"]
     for typed in no_codes + ["#", "#x", f"#{2**64}"]:
         program.refuses(NO_CODE, "not a code", "find", t, typed)
         program.refuses(NO_CODE, "not a code", "add", t, typed, 8)
         program.refuses(NO_CODE, "not a code", "remove", t, typed)
+        program.refuses(NO_CODE, "not a code", "class", t, typed, "room")
         program.refuses(NO_CODE, "not a code", "list", t, typed, code(1))
         program.refuses(NO_CODE, "not a code", "list", t, code(1), typed)
         program.refuses(NO_CODE, "not a code", "orders", t, "remove", typed)
     for recording in ("", "x", "1.5", "-1", "+1", " 1", 2**64, 10**30):
         program.refuses(BAD_USAGE, "a recording is", "add", t, code(1), recording)
+    for access in ("", "x", "0", "1", "shut", "open ", "rooms", "clos"):
+        program.refuses(BAD_USAGE, f"^catalogue: {access}: a class is open, room or closed$", "add", t, code(1), 1, access)
+        program.refuses(BAD_USAGE, "a class is", "class", t, "AA0001912345", access)
+        program.refuses(BAD_USAGE, "a class is", "orders", t, "class", "AA0001912345", access)
     assert listed(program.done("list", t)) == [("AA0001912345", 7)]
 
 
@@ -164,13 +174,16 @@ def refusals_of_changes(program, folder):
     t = f"{folder}/t"
     fill(program, t, 1, [(code(i), 100 + i) for i in range(10)])
     program.refuses(BAD_RECORDING, "^catalogue: 0: a recording is", "add", t, code(50), 0)
-    program.refuses(BAD_RECORDING, f"{MARK}: a recording is", "add", t, code(50), MARK)
+    for recording in (MOST_RECORDING + 1, 2**57, MARK - 1, MARK):
+        program.refuses(BAD_RECORDING, f"{recording}: a recording is .* to {MOST_RECORDING}$", "add", t, code(50), recording)
     program.refuses(CODE_THERE, f"{code(3)} is in .* already", "add", t, code(3), 7)
     program.refuses(CODE_THERE, f"{code(3)} is in .* already", "add", t, code(3), 103)
-    program.refuses(RECORDING_THERE, "recording 103 is in .* under another code", "add", t, code(50), 103)
+    for access in CLASSES:
+        program.refuses(RECORDING_THERE, "recording 103 is in .* under another code", "add", t, code(50), 103, access)
+        program.refuses(NOT_THERE, f"{code(50)} is not in {t}$", "class", t, code(50), access)
     program.refuses(NOT_THERE, f"{code(50)} is not in", "remove", t, code(50))
     program.refuses(ABSENT, f"{code(50)} is not in {t}, and no code there is higher$", "find", t, code(50))
-    program.done("add", t, code(50), MARK - 1)
+    program.done("add", t, code(50), MOST_RECORDING)
     program.refuses(NO_NODES, f"is full: .* more nodes than are free; catalogue copy {t} NEW NODES", "add", t, code(51), 1)
     program.refuses(NO_NODES, "is full", "orders", t, "add", code(51), 1)
     program.refuses(BAD_USAGE, "this change has 2[0-9] orders; nothing was changed", "remove", t, code(0), "--cut", 99)
@@ -214,12 +227,12 @@ def searching_and_listing(program, folder):
     pairs = [(code(3 * i), 1000 - i) for i in range(60)]
     fill(program, t, 30, pairs[::2] + pairs[1::2])
     for c, r in pairs:
-        assert program.done("find", t, c) == f"{r}\n"
+        assert program.done("find", t, c) == f"{r},open\n"
     program.refuses(ABSENT, f"^catalogue: {code(1)} is not in {t}; the next code up is {code(3)}$", "find", t, code(1))
     assert listed(program.done("list", t)) == pairs
     assert listed(program.done("list", t, "AA0000000000", "ZZZZZ9999999")) == pairs
     assert listed(program.done("list", t, code(10), "AA-000-19-00030")) == [p for p in pairs if code(10) <= p[0] <= code(30)]
-    assert program.done("list", t, code(30), code(30)) == f"{code(30)},990\n"
+    assert program.done("list", t, code(30), code(30)) == f"{code(30)},990,open\n"
     assert program.done("list", t, code(31), code(10)) == ""
 
 
@@ -261,20 +274,87 @@ def drawing(program, folder):
     orders = orders_of(program.done("orders", t, "add", code(115), 112))
     linked = 1 + orders.index((9, 3))
     program.done("add", t, code(115), 112, "--cut", linked)
-    first = "".join(f"    {i:2}  {code(10 + 10 * i)}  {101 + i}\n" for i in range(5))
+    first = "".join(f"    {i:2}  {code(10 + 10 * i)}  {101 + i},open\n" for i in range(5))
     moved = [(code(60 + 10 * i), 106 + i) for i in range(6)]
     assert program.done("show", t) == (
         f"{t} is sound: 11 codes in 3 of 3 nodes, 0 free\n"
         "leftover (b): node 3, the sibling of node 1, lacks its slot in node 2; node 1 has 6 trailing slots\n"
         "\nlevel 1\n  node 2, the root, fence #0\n        left          -> node 1\n"
-        "\nlevel 0: code and recording\n  node 1, fence #0, sibling -> node 3\n" + first
-        + "".join(f"    {i + 5:2}  {c}  {r}   trailing\n" for i, (c, r) in enumerate(moved))
+        "\nlevel 0: code, recording and class\n  node 1, fence #0, sibling -> node 3\n" + first
+        + "".join(f"    {i + 5:2}  {c}  {r},open   trailing\n" for i, (c, r) in enumerate(moved))
         + f"  node 3, fence {code(60)}, lacks its slot\n"
-        + "".join(f"    {i:2}  {c}  {r}\n" for i, (c, r) in enumerate(moved))), program.done("show", t)
+        + "".join(f"    {i:2}  {c}  {r},open\n" for i, (c, r) in enumerate(moved))), program.done("show", t)
     program.done("repair", t)
     program.done("remove", t, code(20), "--cut", 1)
     out = program.done("show", t)
-    assert "leftover (a): node 1 has a hidden slot, slot 1\n" in out and f"     1  {code(20)}  101   hidden\n" in out, out
+    assert "leftover (a): node 1 has a hidden slot, slot 1\n" in out and f"     1  {code(20)}  101,open   hidden\n" in out, out
+    program.done("repair", t)
+    program.done("class", t, code(10), "closed")
+    program.done("remove", t, code(10), "--cut", 1)
+    out = program.done("show", t)
+    assert f"     0  {code(10)}  {MARK}   hidden\n     1  {code(30)}  103,open\n" in out, out
+
+
+def classes(program, folder):
+    """Who may hear a recording: given with it, changed, found, listed and loaded back."""
+    t, u, csv = f"{folder}/t", f"{folder}/u", f"{folder}/csv"
+    program.done("make", t, 9)
+    for i, access in enumerate(["", "open", "room", "closed", "ROOM", "Closed"]):
+        name = access.lower() or "open"
+        out = program.done("add", t, code(i), 50 + i, *[access] if access else [])
+        assert out.startswith(f"added {code(i)},{50 + i},{name} (4 stores, "), out
+        assert program.done("find", t, code(i)) == f"{50 + i},{name}\n"
+    want = dict(zip(map(code, range(6)), ["open", "open", "room", "closed", "room", "closed"]))
+    assert classes_of(program.done("list", t)) == want
+    for i in range(6):
+        for access in CLASSES + ["open"]:
+            before = read_words(t)
+            # Also where it is the class already; the same line, one store.
+            assert program.done("orders", t, "class", code(i), access).endswith("not made (1 store, 1 flush)\n")
+            assert program.done("class", t, code(i), access) == f"class of {code(i)} is {access} (1 store, 1 flush)\n"
+            assert program.done("find", t, code(i)) == f"{50 + i},{access}\n"
+            changed = [w for w, (a, b) in enumerate(zip(before, read_words(t))) if a != b]
+            assert len(changed) == (classes_of(program.done("list", t))[code(i)] != want[code(i)]), changed
+            want[code(i)] = access
+    program.done("class", t, code(2), "room")
+    program.done("class", t, code(3), "closed")
+    with open(csv, "w") as f:
+        f.write(program.done("list", t))
+    program.done("make", u, 9)
+    assert program.done("load", u, csv) == "6 added, 0 there already\n"
+    assert program.done("list", u) == program.done("list", t)
+    # In a damaged table a search tells what stands there.
+    words = read_words(t)
+    for pointer, said in ((2**56 * 3 + 5, "5,3"), (2**56, "0,room"), (2**64 - 2, f"{MOST_RECORDING - 1},255")):
+        words[8 + 9] = pointer
+        write_words(t, words)
+        assert program.done("find", t, code(0)) == said + "\n"
+        for command in (["list", t], ["class", t, code(0), "open"], ["class", t, code(1), "open"], ["repair", t]):
+            program.refuses(NOT_SOUND, "is not sound", *command)
+        assert f" {said}\n" in program("show", t)[1]
+
+
+def before_there_were_classes(program, folder):
+    """A table that was written before, cut off in the midst of a split: all its recordings are open, and it takes classes. Its listing of
+    that time loads, as open too."""
+    t, u = f"{folder}/t", f"{folder}/u"
+    with open(f"{BEFORE}.csv") as f:
+        pairs = listed(f.read())
+    shutil.copy(f"{BEFORE}.cat", t)
+    os.chmod(t, 0o644)
+    assert program.done("check", t).startswith(f"{t} is sound: 31 codes in 7 of 9 nodes, 2 free\nleftover (b)")
+    assert program.done("list", t) == "".join(f"{c},{r},open\n" for c, r in pairs)
+    for c, r in pairs:
+        assert program.done("find", t, c) == f"{r},open\n"
+    out = program.done("class", t, pairs[3][0], "room")
+    assert out.startswith(f"class of {pairs[3][0]} is room (") and "(1 store" not in out, out
+    assert program.done("class", t, pairs[30][0], "closed").endswith(" (1 store, 1 flush)\n")
+    want = dict({c: "open" for c, _ in pairs}, **{pairs[3][0]: "room", pairs[30][0]: "closed"})
+    assert classes_of(program.done("list", t)) == want and listed(program.done("list", t)) == pairs
+    assert program.done("load", t, f"{BEFORE}.csv", "--again") == "0 added, 31 there already\n"
+    program.done("make", u, 9)
+    assert program.done("load", u, f"{BEFORE}.csv") == "31 added, 0 there already\n"
+    assert program.done("list", u) == "".join(f"{c},{r},open\n" for c, r in pairs)
 
 
 def nodes_come_free(program, folder):
@@ -308,10 +388,10 @@ def the_first_hour(program, folder):
     assert "settled" in program.done("check", t)
     with open(HUNDRED) as f:
         for c, r in listed(f.read()):
-            assert program.done("find", t, c) == f"{r}\n"
+            assert program.done("find", t, c) == f"{r},open\n"
 
 
 TESTS = [help_has_an_example_of_each, help_of_one_command, the_manual_page, words_and_options, wrong_command_lines, making,
          the_worked_orders, orders_are_what_is_carried_out, fast_says_what_it_risks, codes_as_people_type_them, refusals_of_changes,
-         a_tree_of_sixteen_levels, searching_and_listing, the_next_code_up, answers_that_cannot_be_printed, drawing, nodes_come_free,
-         the_first_hour]
+         a_tree_of_sixteen_levels, searching_and_listing, the_next_code_up, answers_that_cannot_be_printed, drawing, classes,
+         before_there_were_classes, nodes_come_free, the_first_hour]

@@ -33,20 +33,22 @@ def found(program, t, codes):
     for c in codes:
         status, out, err = program("find", t, c)
         assert status in (0, ABSENT), (status, out, err)
-        answers[c] = int(out) if status == 0 else None
+        answers[c] = (int(out.split(",")[0]), out.strip().split(",")[1]) if status == 0 else None
     return answers
 
 
 def cut_everywhere(program, folder, t, change, codes):
     """The change cut at every count, or at every ninth for a slow program: the words of the first orders, every other code as before, the
     changed one as before or as after, the same once repaired. The states that were met, in order, and the orders."""
-    before, words = dict(listed(program.done("list", t))), read_words(t)
+    before, words = everything(program.done("list", t)), read_words(t)
     orders = orders_of(program.done("orders", t, *change))
     after = dict(before)
     if change[0] == "add":
-        after[change[1]] = change[2]
+        after[change[1]] = (change[2], change[3] if len(change) > 3 else "open")
     elif change[0] == "remove":
         del after[change[1]]
+    elif change[0] == "class":
+        after[change[1]] = (before[change[1]][0], change[2])
     states, u, made = [], f"{folder}/cut", False
     for c in range(len(orders), -1, -1 if program.quick else -9)[::-1]:
         shutil.copy(t, u)
@@ -55,13 +57,13 @@ def cut_everywhere(program, folder, t, change, codes):
         assert read_words(u) == carried_out(words, orders[:c]), c
         states.append(state(program, u))
         answers = found(program, u, codes)
-        now = dict(listed(program.done("list", u)))
+        now = everything(program.done("list", u))
         assert now == after if made or c == len(orders) else now == before if c == 0 else now in (before, after), c
         made = made or now != before
         assert answers == {k: now.get(k) for k in codes}, c
         settled = states[-1] == "settled"
         assert program.done("repair", u).startswith("nothing to repair (0 " if settled else "repaired ("), c
-        assert state(program, u) == "settled" and dict(listed(program.done("list", u))) == now, c
+        assert state(program, u) == "settled" and everything(program.done("list", u)) == now, c
         assert settled or found(program, u, codes) == answers, c
     return [s for s, _ in itertools.groupby(states)], orders
 
@@ -134,6 +136,25 @@ def a_leaf_that_comes_back(program, folder):
     return f"{cuts} cuts"
 
 
+def classes_that_change(program, folder):
+    """On a settled table one store, and its flush; on one that a cut left unfinished, the repair's before it."""
+    t = f"{folder}/t"
+    fill(program, t, 3, [(code(10 * i), f"{100 + i},{CLASSES[i % 3]}") for i in range(1, 12)])
+    codes, whole, cuts = [code(10 * i) for i in range(1, 12)] + [code(115)], contents(t), 0
+    for c, access in ((10, "open"), (10, "room"), (60, "closed"), (110, "open")):
+        states, orders = cut_everywhere(program, folder, t, ["class", code(c), access], codes)
+        assert states == ["settled"] and len(orders) == 2, (states, orders)
+    for c in range(33, 87, 5 if program.quick else 18):
+        with open(t, "wb") as f:
+            f.write(whole)
+        program.done("add", t, code(115), 112, "room", "--cut", c)
+        left = state(program, t)
+        states, orders = cut_everywhere(program, folder, t, ["class", code(70), "closed"], codes[::3] + [code(70)])
+        assert states[-1] == "settled" and (len(orders) == 2) == (left == "settled"), (c, left, states)
+        cuts += len(orders) + 1
+    return f"{cuts} cuts"
+
+
 def killed(program, t, csv, chance):
     """A load killed at some moment, mostly so slow that this is in the middle of an order list: the lines that it acknowledged."""
     slow = ["--pause", "50"] if chance.random() < 0.8 else []
@@ -177,4 +198,5 @@ def killed_while_it_loads(program, folder):
     return f"{kills} kills, {len(have)} lines, " + ", ".join(f"{states.count(s)} {s}" for s in sorted(set(states)))
 
 
-TESTS = [a_leaf_that_splits, two_levels_that_split, removals_and_repairs, a_leaf_that_comes_back, killed_while_it_loads]
+TESTS = [a_leaf_that_splits, two_levels_that_split, removals_and_repairs, a_leaf_that_comes_back, classes_that_change,
+         killed_while_it_loads]

@@ -9,6 +9,8 @@ MARK = 2**64 - 1
 NO_CODE, NO_TABLE, LOST, NOT_SOUND = 1, 2, 3, 4
 BAD_RECORDING, CODE_THERE, RECORDING_THERE, NOT_THERE, NO_NODES, TOO_HIGH = 6, 7, 8, 9, 10, 11
 ABSENT, BAD_USAGE, BAD_LINE, BAD_FILE = 255, 64, 65, 74
+MOST_RECORDING = 2**56 - 1
+CLASSES = ["open", "room", "closed"]
 # What a sanitizer or valgrind that found something ends a program with.
 FOUND_SOMETHING = 99
 
@@ -77,8 +79,18 @@ def code(i):
 
 
 def listed(out):
-    """The pairs that list prints, in its order."""
-    return [(c, int(r)) for c, r in (line.split(",") for line in out.splitlines())]
+    """The codes and recordings that list prints, in its order; also from lines that have no class."""
+    return [(c, int(r)) for c, r, *_ in (line.split(",") for line in out.splitlines())]
+
+
+def everything(out):
+    """What list prints: each code's recording and class."""
+    return {c: (int(r), access) for c, r, access in (line.split(",") for line in out.splitlines())}
+
+
+def classes_of(out):
+    """The class of each code that list prints."""
+    return {c: access for c, (_, access) in everything(out).items()}
 
 
 def orders_of(out):

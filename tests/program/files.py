@@ -14,11 +14,13 @@ from drive import *
 
 
 def reading(t):
-    return [["find", t, code(1)], ["list", t], ["check", t], ["show", t], ["orders", t, "add", code(50), 50], ["orders", t, "repair"]]
+    return [["find", t, code(1)], ["list", t], ["check", t], ["show", t], ["orders", t, "add", code(50), 50], ["orders", t, "repair"],
+            ["orders", t, "class", code(1), "room"]]
 
 
 def writing(t, csv):
-    return [["add", t, code(50), 50], ["remove", t, code(1)], ["repair", t], ["load", t, csv], ["add", t, code(50), 50, "--cut", 0]]
+    return [["add", t, code(50), 50], ["remove", t, code(1)], ["class", t, code(1), "room"], ["repair", t], ["load", t, csv],
+            ["add", t, code(50), 50, "--cut", 0]]
 
 
 def table(program, folder, nodes=4):
@@ -116,7 +118,7 @@ def waiting(program, folder):
         assert status == BAD_FILE and "waiting for" in err and "is in use" in err and 1.9 < time.monotonic() - began < 30, err
         assert [run.poll() for run in runs] == 3 * [None]
         fcntl.flock(f, fcntl.LOCK_UN)
-    for run, answer in zip(runs, ("1\n", "2\n", "added ")):
+    for run, answer in zip(runs, ("1,open\n", "2,open\n", "added ")):
         out, err = run.communicate(timeout=60)
         assert run.returncode == 0 and out.startswith(answer), (out, err)
         assert err == f"catalogue: waiting for {t}, which another program uses\n", err
@@ -134,7 +136,7 @@ def changed_while_it_loads(program, folder, meddle, prepare=lambda t: None):
     load = program.start("load", t, csv, "--each", stdout=subprocess.PIPE, stderr=subprocess.PIPE)
     with open(csv, "wb", buffering=0) as lines:
         lines.write(f"{code(60)},60\n".encode())
-        assert load.stdout.readline() == f"{code(60)},60\n"
+        assert load.stdout.readline() == f"{code(60)},60,open\n"
         # Past the moment to which some systems round a file's times.
         time.sleep(0.02)
         meddle(t, load.pid)
@@ -180,7 +182,7 @@ def changed_meanwhile(program, folder):
     # Nothing happens, or nothing but a new date: both lines are added.
     for meddle in (lambda t, _: None, lambda t, _: os.utime(t, (1, 1))):
         status, out, err, _, _ = changed_while_it_loads(program, folder, meddle)
-        assert status == 0 and out == f"{code(61)},61\n2 added, 0 there already\n", (status, out, err)
+        assert status == 0 and out == f"{code(61)},61,open\n2 added, 0 there already\n", (status, out, err)
 
     # While it loads, others are held off.
     def others(t, _):
@@ -208,7 +210,7 @@ def changed_by_a_mapping(program, folder):
 
     status, out, err, before, after = changed_while_it_loads(program, folder, stored(8 + 32 * (nodes - 1)), mapped)
     assert status == BAD_FILE and "was changed by another program meanwhile" in err and "stopped" not in err, (status, err)
-    assert out == f"{code(61)},61\n2 added, 0 there already\n" and after != before, out
+    assert out == f"{code(61)},61,open\n2 added, 0 there already\n" and after != before, out
     maps.clear()
     # The line that the next code goes to.
     t = f"{folder}/u"
@@ -217,6 +219,42 @@ def changed_by_a_mapping(program, folder):
     status, out, err, before, after = changed_while_it_loads(program, folder, stored(line), mapped)
     assert status == BAD_FILE and "was changed by another program meanwhile" in err and "stopped before line 2" in err, (status, err)
     assert out == "1 added, 0 there already\n" and after == before, out
+
+
+def closed_streams(program, folder):
+    """A caller that closed standard input, output or error, or all of them: no word of an answer or a message goes into the table."""
+    t, csv = table(program, folder)
+    with open(csv, "a") as f:
+        f.write(f"{code(61)},61\nx\n")
+    whole = contents(t)
+    commands = reading(t) + writing(t, csv) + [["load", t, csv, "--each"], ["add", t, code(50), 50, "--fast"], ["find", t, code(50)]]
+    for words in commands:
+        ends = set()
+        for closed in ([], [0], [1], [2], [1, 2], [0, 1, 2]):
+            with open(t, "wb") as f:
+                f.write(whole)
+            run = program.start(*words, stdin=subprocess.DEVNULL, stdout=subprocess.DEVNULL, stderr=subprocess.DEVNULL,
+                                preexec_fn=lambda: [os.close(stream) for stream in closed])
+            run.wait(timeout=120)
+            check_ending(run.returncode, "", words)
+            ends.add(contents(t))
+            assert run.returncode in (0, ABSENT, BAD_LINE, BAD_FILE), (words, closed, run.returncode)
+        assert len(ends) == 1, (words, "the table depends on the streams")
+
+
+def printed_into_the_table(program, folder):
+    """Output or messages that the shell sends to the end of the table's own file: nothing is written there."""
+    t, csv = table(program, folder)
+    whole = contents(t)
+    for words in reading(t) + writing(t, csv):
+        for stream in ("stdout", "stderr"):
+            with open(t, "ab") as end:
+                how = dict({"stdout": subprocess.PIPE, "stderr": subprocess.PIPE, "stdin": subprocess.DEVNULL}, **{stream: end})
+                run = program.start(*words, **how)
+                out, err = run.communicate(timeout=120)
+            check_ending(run.returncode, err or "", words)
+            assert run.returncode == BAD_FILE and contents(t) == whole, (words, stream, run.returncode)
+            assert stream == "stderr" or "is where the answer would be printed" in err, err
 
 
 def a_disk_that_is_full(program, folder):
@@ -246,4 +284,5 @@ def little_memory(program, folder):
     return f"{ended[0]} answers, {ended[BAD_FILE]} errors"
 
 
-TESTS = [no_tables, other_files, read_only, in_use, waiting, changed_meanwhile, changed_by_a_mapping, a_disk_that_is_full]
+TESTS = [no_tables, other_files, read_only, in_use, waiting, changed_meanwhile, changed_by_a_mapping, closed_streams, printed_into_the_table,
+         a_disk_that_is_full]

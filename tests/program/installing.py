@@ -15,13 +15,15 @@ EXAMPLE = r"""
 #include "catalogue.h"
 int main(void)
 {
-    uint64_t table[8 + 32 * 2], orders[CATALOGUE_LIST_WORDS], key, recording, next, higher, stores, flushes;
+    uint64_t table[8 + 32 * 2], orders[CATALOGUE_LIST_WORDS], key, recording, access, next, higher, stores, flushes;
     size_t words = sizeof table / sizeof table[0];
     if (catalogue_version() != CATALOGUE_VERSION || catalogue_make(table, words) != 0
         || catalogue_parse((const uint8_t *)"AA0001912345", 12, &key) != 0
-        || catalogue_insert(table, words, orders, CATALOGUE_LIST_WORDS, key, 7, &stores, &flushes) != 0
-        || catalogue_search(table, words, key, &recording, &next, &higher) != 0
-        || catalogue_search(table, words, 0, &recording, &next, &higher) != CATALOGUE_ABSENT || higher != 1 || next != key)
+        || catalogue_insert(table, words, orders, CATALOGUE_LIST_WORDS, key, 7, CATALOGUE_ROOM, &stores, &flushes) != 0
+        || catalogue_search(table, words, key, &recording, &access, &next, &higher) != 0 || access != CATALOGUE_ROOM
+        || catalogue_set_class(table, words, orders, CATALOGUE_LIST_WORDS, key, CATALOGUE_CLOSED, &stores, &flushes) != 0
+        || catalogue_search(table, words, key, &recording, &access, &next, &higher) != 0 || access != CATALOGUE_CLOSED
+        || catalogue_search(table, words, 0, &recording, &access, &next, &higher) != CATALOGUE_ABSENT || higher != 1 || next != key)
         return 1;
     printf("%d\n", (int)recording);
 }

@@ -11,7 +11,7 @@ import time
 from commands import HUNDRED
 from drive import *
 
-FORM = "not of the form code,recording; a recording is .*"
+FORM = "not of the form code,recording or code,recording,class; a recording is .*, a class is .*"
 
 
 def write(path, text, encoding="utf-8"):
@@ -42,7 +42,9 @@ def bad_lines(program, folder):
     one(BAD_LINE, 1, code(5), FORM, f"{code(5)}\n", 0)
     one(BAD_LINE, 1, f"{code(5)},", FORM, f"{code(5)},\n", 0)
     one(BAD_LINE, 1, f"{code(5)},x", FORM, f"{code(5)},x\n", 0)
-    one(BAD_LINE, 1, f"{code(5)},5,6", FORM, f"{code(5)},5,6\n", 0)
+    for third in ("6", "0", "", "shut", "open,", "open,open", "open room", '"'):
+        one(BAD_LINE, 1, f"{code(5)},5,{third}", FORM, f"{code(5)},5,{third}\n", 0)
+    one(BAD_LINE, 1, f"{code(5)},,open", FORM, f"{code(5)},,open\n", 0)
     one(BAD_LINE, 1, f"{code(5)},5?", FORM, f"{code(5)},5\0\n", 0)
     one(BAD_LINE, 1, f"{code(5)},{2**64}", FORM, f"{code(5)},{2**64}\n", 0)
     one(BAD_LINE, 2, 61 * "x" + "..", FORM, f"{code(5)},5\n" + 5000 * "x", 1)
@@ -50,8 +52,11 @@ def bad_lines(program, folder):
     one(BAD_LINE, 2, "code,recording", FORM, f"{code(1)},1\ncode,recording\n", 1)
     one(NO_CODE, 1, "AA00019,6", "not a code, .*", "AA00019,6\n", 0)
     one(BAD_RECORDING, 2, f"{code(7)},0", "0: a recording is .*", f"{code(6)},6\n{code(7)},0\n{code(8)},8\n", 1)
+    one(BAD_RECORDING, 1, f"{code(7)},{2**56},room", f"{2**56}: a recording is .*", f"{code(7)},{2**56},room\n", 0)
     one(RECORDING_THERE, 1, f"{code(7)},6", "recording 6 is in .*", f"{code(7)},6\n", 0)
     one(CODE_THERE, 1, f"{code(6)},7", f"{code(6)} is in .* already", f"{code(6)},7\n", 0)
+    another = "already with this recording, and is open .catalogue class changes that."
+    one(CODE_THERE, 1, f"{code(6)},6,room", f".* {another}", f"{code(6)},6,room\n", 0)
     there = "already with this recording .--again passes over such lines."
     one(CODE_THERE, 2, f"{code(6)},6", f".* {there}", f"{code(7)},7\n{code(6)},6\n{code(8)},8\n", 1)
     assert program.done("load", t, csv, "--again") == "1 added, 2 there already\n"
@@ -91,15 +96,16 @@ def many_bad_lines(program, folder):
 def lines_as_people_write_them(program, folder):
     t, csv = f"{folder}/t", f"{folder}/csv"
     rows = [f"{code(1)},1", " AA-000-19-00002 , 2 ", f"{code(3)},003", f'"{code(4)}","4"', f'"aa-000-19-00005",5', f'{code(6)}," 6 "', "",
-            "  ", f"\taa 000 19 00007\t,\t7\t", "#5,8"]
-    want = [("#5", 8)] + [(code(i), i) for i in range(1, 8)]
-    heads = ("", "code,recording\n", "ISRC,Recording\n", '\n"ISRC code","Recording number"\n')
+            "  ", f"\taa 000 19 00007\t,\t7\t", "#5,8", f"{code(8)},9,room", f'"{code(9)}", 10 , " Closed "', f"{code(10)},11,OPEN\t"]
+    want = {"#5": "open", **{code(i): "open" for i in range(1, 8)}, code(8): "room", code(9): "closed", code(10): "open"}
+    heads = ("", "code,recording\n", "ISRC,Recording,Class\n", '\n"ISRC code","Recording number","Who may hear it"\n')
     files = list(itertools.product(heads, ("utf-8", "utf-8-sig"), ("\n", "\r\n"), (True, False)))
     for head, encoding, end, ended in files if program.quick else files[::5]:
         write(csv, head.replace("\n", end) + end.join(rows) + (end if ended else ""), encoding)
         program.done("make", t, 3)
-        assert program.done("load", t, csv) == "8 added, 0 there already\n"
-        assert listed(program.done("list", t)) == want
+        assert program.done("load", t, csv) == "11 added, 0 there already\n"
+        out = program.done("list", t)
+        assert classes_of(out) == want and [r for _, r in listed(out)] == [8, 1, 2, 3, 4, 5, 6, 7, 9, 10, 11], out
         os.remove(t)
     program.done("make", t, 3)
     for text in ("", "\n\r\n", "code,recording\n", "\ufeff"):
@@ -123,10 +129,15 @@ def acknowledging(program, folder):
     t = f"{folder}/t"
     program.done("make", t, 40)
     with open(HUNDRED) as f:
-        lines = f.read()
+        lines = f.read().replace("\n", ",open\n")
     assert program.done("load", t, HUNDRED, "--each") == lines + "100 added, 0 there already\n"
     assert program.done("list", t) == lines
     assert program.done("load", t, HUNDRED, "--each", "--again") == lines + "0 added, 100 there already\n"
+    # A line without a class is there already whatever the class is there, and is acknowledged with that one.
+    first = lines.split(",")[0]
+    program.done("class", t, first, "closed")
+    closed = lines.replace(",open", ",closed", 1)
+    assert program.done("load", t, HUNDRED, "--each", "--again") == closed + "0 added, 100 there already\n"
 
 
 def passing_over_what_is_there(program, folder):
@@ -136,6 +147,11 @@ def passing_over_what_is_there(program, folder):
     write(csv, "".join(f"{code(i)},{i}\n" for i in range(1, 30)) + f"{code(5)},6\n")
     status, out, err = program("load", t, csv, "--again")
     assert (status, out) == (CODE_THERE, "0 added, 29 there already, 1 bad line\n"), (status, out, err)
+    # One with another class is not there already.
+    program.done("class", t, code(7), "room")
+    write(csv, f"{code(6)},6,open\n{code(7)},7,room\n{code(7)},7\n{code(8)},8,room\n")
+    status, out, err = program("load", t, csv, "--again")
+    assert (status, out) == (CODE_THERE, "0 added, 3 there already, 1 bad line\n") and "and is open (catalogue class" in err, (status, out, err)
     write(csv, f"{code(1)},1\n")
     words = read_words(t)
     words[8 + 32 * (words[1] - 1) + 4] = 1
@@ -222,14 +238,14 @@ def ended_by_a_signal(program, folder):
     run.stdout.readline()
     run.send_signal(signal.SIGINT)
     out, _ = run.communicate(f"{code(2)},2\n", timeout=60)
-    assert run.returncode == 0 and out == f"{code(2)},2\n2 added, 0 there already\n", (run.returncode, out)
+    assert run.returncode == 0 and out == f"{code(2)},2,open\n2 added, 0 there already\n", (run.returncode, out)
 
 
 def what_list_prints_loads_back(program, folder):
     """Sorted input, keys without a code and all, at the advised four codes a node; also the other way round."""
     t, u, csv = f"{folder}/t", f"{folder}/u", f"{folder}/csv"
     count = 800
-    pairs = [(f"#{i}", 5000 + i) for i in range(1, 40)] + [(code(i), 1 + i) for i in range(count - 39)]
+    pairs = [(f"#{i}", f"{5000 + i},closed") for i in range(1, 40)] + [(code(i), f"{1 + i},{CLASSES[i % 3]}") for i in range(count - 39)]
     for order in (pairs, pairs[::-1]):
         fill(program, t, count // 4, order)
         write(csv, program.done("list", t))

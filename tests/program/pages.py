@@ -78,7 +78,7 @@ class Judge:
                 f.write(mix)
             status, out, err = self.program("list", self.path)
             assert status in (0, NOT_SOUND, NO_TABLE), (status, err)
-            self.known[mix] = dict(listed(out)) if status == 0 else None
+            self.known[mix] = everything(out) if status == 0 else None
         return self.known[mix]
 
 
@@ -89,7 +89,7 @@ def full_leaves(program, t, leaves, nodes):
     between = [30 * leaf + i for leaf in range(leaves) for i in (1, 2, 3, 4, 5, 7)]
     random.Random(7).shuffle(between)
     fill(program, t, nodes, [(code(i), 1 + i) for i in rising + between])
-    return dict(listed(program.done("list", t)))
+    return everything(program.done("list", t))
 
 
 def cut_between_syncs(program, folder, t, before, after, command, chance):
@@ -110,7 +110,7 @@ def cut_between_syncs(program, folder, t, before, after, command, chance):
 
 
 def some_changes(program, folder, count, *options):
-    """Additions and deletions one after another: how many changes, mixes, and mixes that a power cut must not leave."""
+    """Additions, deletions and class changes one after another: how many changes, mixes, and mixes that a power cut must not leave."""
     chance, t = random.Random(20261116), f"{folder}/t"
     now = full_leaves(program, t, 60, 300)
     seen = wrong = 0
@@ -119,13 +119,17 @@ def some_changes(program, folder, count, *options):
             c = chance.choice(list(now))
             after = {k: r for k, r in now.items() if k != c}
             command = ["remove", t, c]
+        elif i % 5 == 4:
+            c, access = chance.choice(list(now)), chance.choice(CLASSES)
+            after = dict(now, **{c: (now[c][0], access)})
+            command = ["class", t, c, access]
         else:
             c = chance.choice([code(k) for k in range(1800) if code(k) not in now])
-            after = dict(now, **{c: 10000 + i})
-            command = ["add", t, c, after[c]]
+            after = dict(now, **{c: (10000 + i, chance.choice(CLASSES))})
+            command = ["add", t, c, *after[c]]
         mixes, bad = cut_between_syncs(program, folder, t, now, after, command + list(options), chance)
         seen, wrong, now = seen + len(mixes), wrong + len(bad), after
-    assert dict(listed(program.done("list", t))) == now
+    assert everything(program.done("list", t)) == now
     return f"{count} changes, {seen} mixes of pages", wrong
 
 
@@ -166,6 +170,7 @@ def a_load_and_its_acknowledgements(program, folder):
     chance.shuffle(lines)
     with open(csv, "w") as f:
         f.writelines(f"{c},{r}\n" for c, r in lines)
+    lines = [(c, (r, "open")) for c, r in lines]
     judge, disk, seen = Judge(program, folder), Disk(contents(t)), 0
     syncs, printed = recorded(program, folder, "load", t, csv, "--each")
     for call, image in syncs:
@@ -185,7 +190,7 @@ def what_a_killed_program_left(program, folder):
     """Before its first store a change waits for all that is on its way to the disk, whoever stored it."""
     t = f"{folder}/t"
     full_leaves(program, t, 30, 200)
-    for command in (["add", t, code(8), 9000], ["remove", t, code(5)], ["repair", t]):
+    for command in (["add", t, code(8), 9000], ["remove", t, code(5)], ["class", t, code(8), "room"], ["repair", t]):
         before = contents(t)
         call, image = recorded(program, folder, *command)[0][0]
         assert call[:2] == ["msync", "0"] and int(call[2]) >= len(before) and image == before, call
@@ -195,14 +200,14 @@ def a_disk_that_fails(program, folder):
     """A sync that fails ends the change where it is, with a message and no answer; the table is sound, and the next change goes on."""
     t, u = f"{folder}/t", f"{folder}/u"
     before = full_leaves(program, t, 30, 200)
-    after = dict(before, **{code(8): 9000})
+    after = dict(before, **{code(8): (9000, "open")})
     shutil.copy(t, u)
     syncs = len(recorded(program, folder, "add", u, code(8), 9000)[0])
     for failing in range(1, syncs + 1):
         shutil.copy(t, u)
         status, out, err = preloaded(program, folder, "add", u, code(8), 9000, SYNCS_FAIL=str(failing))
         assert status == BAD_FILE and out == "" and "did not reach the disk: Input/output error" in err, (failing, status, out, err)
-        assert contents(u) == contents(t) if failing == 1 else dict(listed(program.done("list", u))) in (before, after)
+        assert contents(u) == contents(t) if failing == 1 else everything(program.done("list", u)) in (before, after)
         program.done("repair", u)
         assert "settled" in program.done("check", u)
     return f"{syncs} syncs"

@@ -9,27 +9,34 @@ CODES = [code(7 * i) for i in range(300)]
 
 def expected(plain, change, words):
     """The exit status that a plain list gives a change."""
-    if change == "remove":
+    if change != "add":
         return 0 if words[0] in plain else NOT_THERE
-    c, r = words
-    if r in (0, MARK):
+    c, r, _ = words
+    if not 1 <= r <= MOST_RECORDING:
         return BAD_RECORDING
     if c in plain:
         return CODE_THERE
-    return RECORDING_THERE if r in plain.values() else 0
+    return RECORDING_THERE if r in [there for there, _ in plain.values()] else 0
 
 
 def some_change(plain, chance):
-    c = chance.choice(CODES)
-    if chance.random() < 0.25:
-        return "remove", [chance.choice(list(plain)) if plain and chance.random() < 0.7 else c]
-    return "add", [c, chance.choice([0, MARK] + list(plain.values())[:3]) if chance.random() < 0.1 else chance.randrange(1, 10**6)]
+    kind, c = chance.random(), chance.choice(CODES)
+    if plain and kind < 0.4 and chance.random() < 0.7:
+        c = chance.choice(list(plain))
+    if kind < 0.25:
+        return "remove", [c]
+    if kind < 0.4:
+        return "class", [c, chance.choice(CLASSES)]
+    some = [0, MOST_RECORDING + 1, MARK] + [r for r, _ in plain.values()][:3]
+    return "add", [c, chance.choice(some) if chance.random() < 0.1 else chance.randrange(1, 10**6), chance.choice(CLASSES)]
 
 
 def after(plain, change, words):
     then = dict(plain)
     if change == "add":
-        then[words[0]] = words[1]
+        then[words[0]] = (words[1], words[2])
+    elif change == "class":
+        then[words[0]] = (then[words[0]][0], words[1])
     else:
         del then[words[0]]
     return then
@@ -49,12 +56,12 @@ def step(program, t, plain, chance):
         if got == BAD_USAGE or status != 0:
             assert got == (status or BAD_USAGE), (change, words, got, err)
             return plain
-        now = dict(listed(program.done("list", t)))
+        now = everything(program.done("list", t))
         assert now in (plain, after(plain, change, words)), (change, words)
         return now
     if kind == 6:
         low, high = chance.choice(CODES), chance.choice(CODES)
-        assert listed(program.done("list", t, low, high)) == sorted(p for p in plain.items() if low <= p[0] <= high)
+        assert everything(program.done("list", t, low, high)) == {c: x for c, x in plain.items() if low <= c <= high}
     elif kind == 7:
         got, out, err = program("orders", t, change, *words)
         assert got == status, (change, words, got, status, err)
@@ -71,10 +78,10 @@ def step(program, t, plain, chance):
 
 
 def finds(program, t, plain, c):
-    """A search by the plain list: the recording, or the next code up."""
+    """A search by the plain list: the recording and its class, or the next code up."""
     got, out, err = program("find", t, c)
     if c in plain:
-        assert (got, out, err) == (0, f"{plain[c]}\n", ""), (c, got, out, err)
+        assert (got, out, err) == (0, f"{plain[c][0]},{plain[c][1]}\n", ""), (c, got, out, err)
         return
     above = min((k for k in plain if k > c), default=None)
     said = f"; the next code up is {above}" if above else ", and no code there is higher"
@@ -89,7 +96,8 @@ def a_long_run(program, folder):
     for _ in range(count):
         plain = step(program, t, plain, chance)
         most = max(most, len(plain))
-    assert listed(program.done("list", t)) == sorted(plain.items())
+    out = program.done("list", t)
+    assert everything(out) == plain and [c for c, _ in listed(out)] == sorted(plain)
     for c in CODES[::1 if program.quick else 6]:
         finds(program, t, plain, c)
     return f"{count} commands, {most} codes at most"
@@ -120,7 +128,7 @@ def damaged_tables(program, folder):
         assert program("find", t, code(chance.randrange(120)))[0] in (0, ABSENT, LOST)
         assert contents(t) == before
         if status != 0:
-            for change in (["repair"], ["add", code(500), 500], ["remove", code(3)]):
+            for change in (["repair"], ["add", code(500), 500], ["remove", code(3)], ["class", code(3), "room"]):
                 program.refuses(NOT_SOUND, "is not sound", change[0], t, *change[1:])
         else:
             program.done("repair", t)
@@ -145,7 +153,7 @@ def nodes_that_are_not_there(program, folder):
             status, out, err = program("show", t)
             assert status == NOT_SOUND and f"-> node {n}, which the table does not have" in out and "is not sound" in err, out
             if other:
-                assert program.done("find", t, other) == f"{int(other[-5:]) + 1}\n"
+                assert program.done("find", t, other) == f"{int(other[-5:]) + 1},open\n"
 
 
 TESTS = [a_long_run, damaged_tables, nodes_that_are_not_there]

@@ -36,9 +36,9 @@ impl Lent {
     }
 
     pub fn search(&mut self, key: u64) -> Looked {
-        let [mut recording, mut next, mut higher] = [Word::new(), Word::new(), Word::new()];
-        let number = unsafe { catalogue_search(self.pointer(), self.len, key, recording.pointer(), next.pointer(), higher.pointer()) };
-        Looked { number, recording: recording.put(), next: next.put(), higher: higher.put() }
+        let [mut recording, mut access, mut next, mut higher] = std::array::from_fn(|_| Word::new());
+        let number = unsafe { catalogue_search(self.pointer(), self.len, key, recording.pointer(), access.pointer(), next.pointer(), higher.pointer()) };
+        Looked { number, recording: recording.put(), access: access.put(), next: next.put(), higher: higher.put() }
     }
 }
 
@@ -67,23 +67,24 @@ impl Word {
 pub struct Looked {
     pub number: u64,
     pub recording: Option<u64>,
+    pub access: Option<u64>,
     pub next: Option<u64>,
     pub higher: Option<u64>,
 }
 
-/// The key is there: its recording alone is put.
-pub fn found(recording: u64) -> Looked {
-    Looked { number: 0, recording: Some(recording), next: None, higher: None }
+/// The key is there: its recording and class alone are put.
+pub fn found(recording: u64, access: u64) -> Looked {
+    Looked { number: 0, recording: Some(recording), access: Some(access), next: None, higher: None }
 }
 
 /// The key is absent: with the next key up, or with none, and then only that there is none is put.
 pub fn absent(next: Option<u64>) -> Looked {
-    Looked { number: 255, recording: None, next, higher: Some(next.is_some() as u64) }
+    Looked { number: 255, recording: None, access: None, next, higher: Some(next.is_some() as u64) }
 }
 
 /// Every lent word stays.
 pub fn refused(number: u64) -> Looked {
-    Looked { number, recording: None, next: None, higher: None }
+    Looked { number, recording: None, access: None, next: None, higher: None }
 }
 
 pub fn version() -> u64 {
@@ -148,12 +149,16 @@ impl Wrote {
     }
 }
 
-pub fn insert(t: &[u64], list: &[u64], key: u64, recording: u64) -> Wrote {
-    wrote(t, list, |a, b, s, f| unsafe { catalogue_insert(a, t.len(), b, list.len(), key, recording, s, f) })
+pub fn insert(t: &[u64], list: &[u64], key: u64, recording: u64, access: u64) -> Wrote {
+    wrote(t, list, |a, b, s, f| unsafe { catalogue_insert(a, t.len(), b, list.len(), key, recording, access, s, f) })
 }
 
 pub fn delete(t: &[u64], list: &[u64], key: u64) -> Wrote {
     wrote(t, list, |a, b, s, f| unsafe { catalogue_delete(a, t.len(), b, list.len(), key, s, f) })
+}
+
+pub fn set_class(t: &[u64], list: &[u64], key: u64, access: u64) -> Wrote {
+    wrote(t, list, |a, b, s, f| unsafe { catalogue_set_class(a, t.len(), b, list.len(), key, access, s, f) })
 }
 
 pub fn repair(t: &[u64], list: &[u64]) -> Wrote {

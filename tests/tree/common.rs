@@ -30,13 +30,33 @@ pub fn some_call(t: &[u64], span: u64, shrinks: bool, random: &mut Random) -> Ca
         0 | 1 => Call::Delete(k),
         3..=7 if shrinks => Call::Delete(scarce_key(t, random).unwrap_or(k)),
         2 if random.below(8) == 0 => Call::Repair,
-        // Now and then a recording that is refused, or one that is often in the map already.
-        _ => Call::Insert(k, match random.below(40) {
-            0 => [0, MARK][random.below(2) as usize],
-            1..=6 => 1 + random.below(6),
-            _ => 1 + random.below(1_000_000),
-        }),
+        2 | 3 if random.below(3) == 0 => Call::SetClass(if random.below(3) == 0 { k } else { some_key(t, random) }, some_class(random)),
+        _ => Call::Insert(k, some_recording(random), some_class(random)),
     }
+}
+
+/// Now and then a recording that is refused, or one that is often in the map already.
+pub fn some_recording(random: &mut Random) -> u64 {
+    match random.below(40) {
+        0 => [0, MOST_RECORDING + 1, MARK][random.below(3) as usize],
+        1..=6 => [1, 2, 3, 4, 5, MOST_RECORDING][random.below(6) as usize],
+        _ => 1 + random.below(1_000_000),
+    }
+}
+
+/// A class, now and then one that is refused.
+pub fn some_class(random: &mut Random) -> u64 {
+    if random.below(40) == 0 { [3, 255, 256, 1 << CLASS, MARK][random.below(5) as usize] } else { random.below(3) }
+}
+
+/// A pointer of a class that there is, of a recording that hardly any other has.
+pub fn some_pointer(random: &mut Random) -> u64 {
+    pointer(1 + random.below(MOST_RECORDING), random.below(3))
+}
+
+/// A key word of a node, often of a slot in use.
+fn some_key(t: &[u64], random: &mut Random) -> u64 {
+    t[start(1 + random.below(t[2])) + 8 + 2 * random.below(5) as usize]
 }
 
 fn leaves(t: &[u64]) -> impl Iterator<Item = Node> + '_ {
@@ -65,7 +85,7 @@ fn cut_off(t: &mut [u64], splits: bool, random: &mut Random) {
     for _ in 0..24 {
         let key = if splits { crowded_key(t, random) } else { scarce_key(t, random) };
         let Some(k) = key else { return };
-        let call = if splits { Call::Insert(k, 1 + random.below(1_000_000)) } else { Call::Delete(k) };
+        let call = if splits { Call::Insert(k, 1 + random.below(1_000_000), random.below(3)) } else { Call::Delete(k) };
         let Ok(w) = write(t, LIST_WORDS, call) else { continue };
         let other = w.stores.iter().position(|s| s.0 / 32 != w.stores[0].0 / 32);
         match other.filter(|_| nodes_stored(&w.stores) > 2) {
@@ -128,11 +148,15 @@ pub fn damaged(t: &[u64], random: &mut Random) -> Vec<u64> {
     let mut d = t.to_vec();
     for _ in 0..1 + random.below(3) {
         let w = random.below(d.len() as u64) as usize;
-        d[w] = match random.below(8) {
+        let other = d[random.below(d.len() as u64) as usize];
+        d[w] = match random.below(10) {
             0 => 0,
             1 => MARK,
             2 => random.below(d[2].wrapping_add(2).max(1)),
-            3 => d[random.below(d.len() as u64) as usize],
+            3 => other,
+            // Another class, or another word's recording under another class.
+            8 => d[w] ^ [1, 2, 3, 4, 255][random.below(5) as usize] << CLASS,
+            9 => other ^ [1, 2, 3][random.below(3) as usize] << CLASS,
             4 => d[w].wrapping_add(1),
             5 => d[w].wrapping_sub(1),
             6 => random.below(20),
@@ -169,8 +193,9 @@ fn wanted(t: &[u64], list: &[u64], answer: Result<Writer, u64>) -> (Wrote, Vec<O
 
 pub fn called(t: &[u64], list: &[u64], call: Call) -> Wrote {
     match call {
-        Call::Insert(k, r) => calls::insert(t, list, k, r),
+        Call::Insert(k, r, c) => calls::insert(t, list, k, r, c),
         Call::Delete(k) => calls::delete(t, list, k),
+        Call::SetClass(k, c) => calls::set_class(t, list, k, c),
         Call::Repair => calls::repair(t, list),
     }
 }
@@ -193,16 +218,16 @@ pub fn same_as(answer: Result<Writer, u64>, t: &[u64], list: &[u64], call: Call,
 /// What a call must leave of this answer.
 pub fn looked(answer: &Answer) -> Looked {
     match *answer {
-        Answer::Found(r) => calls::found(r),
+        Answer::Found(r, c) => calls::found(r, c),
         Answer::Absent(next) => calls::absent(next),
         Answer::Refused(number) => calls::refused(number),
     }
 }
 
-/// What a map answers.
+/// What a map of whole pointers answers.
 pub fn lookup(map: &BTreeMap<u64, u64>, k: u64) -> Answer {
     let above = || map.range((Bound::Excluded(k), Bound::Unbounded)).next().map(|(&next, _)| next);
-    map.get(&k).map_or_else(|| Answer::Absent(above()), |&r| Answer::Found(r))
+    map.get(&k).map_or_else(|| Answer::Absent(above()), |&x| Answer::Found(recording(x), class(x)))
 }
 
 /// A search as the reference's.
@@ -250,11 +275,14 @@ pub fn decode(after: &Wrote) -> Vec<Order> {
 pub fn changed(map: &BTreeMap<u64, u64>, call: Call) -> BTreeMap<u64, u64> {
     let mut new = map.clone();
     match call {
-        Call::Insert(k, r) => {
-            new.insert(k, r);
+        Call::Insert(k, r, c) => {
+            new.insert(k, pointer(r, c));
         }
         Call::Delete(k) => {
             new.remove(&k);
+        }
+        Call::SetClass(k, c) => {
+            new.insert(k, pointer(recording(new[&k]), c));
         }
         Call::Repair => {}
     }

@@ -1,4 +1,5 @@
-//! Large tables: recording numbers in regular and in random order, one of them twice or MARK, against what the test put there.
+//! Large tables: recording numbers in regular and in random order, in all classes, one of them twice, in another class too, or out of range,
+//! against what the test put there.
 mod calls;
 mod common;
 mod reference;
@@ -9,14 +10,14 @@ use reference::*;
 /// A kind of recording numbers: its name, the numbers by their order, and how many codes its largest table has.
 type Kind = (&'static str, fn(u64) -> u64, u64);
 
-/// A number scattered over all words; different for different numbers.
+/// A number scattered over all recordings; different for different numbers.
 fn scattered(i: u64) -> u64 {
-    (i + 1).wrapping_mul(0x9e37_79b9_7f4a_7c15) ^ 0x1234_5678
+    recording((i + 1).wrapping_mul(0x9e37_79b9_7f4a_7c15) ^ 0x1234_5678)
 }
 
 const KINDS: [Kind; 7] = [
     ("1, 2, 3 ..", |i| 1 + i, 60_000),
-    ("falling from the largest", |i| MARK - 1 - i, 30_000),
+    ("falling from the largest", |i| MOST_RECORDING - i, 30_000),
     ("in steps of 1,000", |i| 1_000 * (1 + i), 30_000),
     ("in steps of a prime that places are counted by", |i| 32_749 * (1 + i), 30_000),
     ("random", scattered, 60_000),
@@ -52,9 +53,9 @@ fn level(t: &mut [u64], first: u64, level: u64, below: &[(u64, u64)]) -> Row {
 }
 
 /// A settled table of so many codes, with a few nodes to spare. The leaves are nodes 1, 2 ..
-fn packed(codes: u64, recording: fn(u64) -> u64) -> Vec<u64> {
+fn packed(codes: u64, number: fn(u64) -> u64) -> Vec<u64> {
     let mut t = make(codes / 6 + 8);
-    let pairs: Vec<(u64, u64)> = (0..codes).map(|i| (7 * i, recording(i))).collect();
+    let pairs: Vec<(u64, u64)> = (0..codes).map(|i| (7 * i, pointer(number(i), i * i % 3))).collect();
     let (mut first, mut l) = (1, 0);
     let mut row = level(&mut t, first, l, &pairs);
     while row.len() > 1 {
@@ -65,7 +66,7 @@ fn packed(codes: u64, recording: fn(u64) -> u64) -> Vec<u64> {
     t
 }
 
-/// The word of the recording of code i.
+/// The word of the pointer of code i.
 fn place(i: u64) -> usize {
     start(1 + i / 8) + 9 + 2 * (i % 8) as usize
 }
@@ -78,28 +79,47 @@ fn taken(t: &[u64], list: &[u64]) -> bool {
     w.number == 0
 }
 
-fn try_kind((name, recording, most): Kind, codes: u64, seed: u64, random: &mut Random, list: &[u64]) {
+fn try_kind((name, number, most): Kind, codes: u64, seed: u64, random: &mut Random, list: &[u64]) {
     let codes = codes.min(most);
-    let mut t = packed(codes, recording);
+    let mut t = packed(codes, number);
     expect(taken(&t, list), seed, &[], || format!("{codes} codes, recordings {name}: not taken"));
     // The separately written judge looks for equal numbers its own way.
     expect(codes > 3_000 || judge(&t).is_some(), seed, &[], || format!("{codes} codes: the test's own table is not sound"));
     for _ in 0..8 {
         let (a, b) = (random.below(codes), random.below(codes));
-        let (old, new) = (t[place(b)], if random.below(4) == 0 { MARK } else { t[place(a)] });
+        let old = t[place(b)];
+        let new = match random.below(8) {
+            0 => MARK,
+            1 => pointer(recording(old), 3 + random.below(253)),
+            2 => pointer(0, 1 + random.below(2)),
+            3 => pointer(recording(old), random.below(3)),
+            _ => pointer(recording(t[place(a)]), random.below(3)),
+        };
         // A pointer that equals the one before it, or a leaf's left, hides its slot instead.
         if a.abs_diff(b) == 1 || (new == MARK && b % 8 == 0) {
             continue;
         }
         t[place(b)] = new;
-        expect(taken(&t, list) == (old == new), seed, &[], || format!("{codes} codes, recordings {name}: {b} with the recording of {a}, {new}"));
+        let sound = recording(old) == recording(new) && class(new) <= MOST_CLASS;
+        expect(taken(&t, list) == sound, seed, &[], || format!("{codes} codes, recordings {name}: {b} with {new} for {old}, {a} has {}", t[place(a)]));
         t[place(b)] = old;
-        let found = calls::insert(&t, list, 7 * a + 1, old);
+        let found = calls::insert(&t, list, 7 * a + 1, recording(old), random.below(3));
         expect(found.number == 8 && found.table == t, seed, &[], || format!("{codes} codes, recordings {name}: {old} inserted again gives {}", found.number));
+        let (to, line) = (random.below(3), place(b) as u64 / 8);
+        let set = calls::set_class(&t, list, 7 * b, to);
+        let store = [place(b) as u64, pointer(recording(old), to), MARK, line];
+        expect(set.number == 0 && set.list[..4] == store, seed, &[], || format!("{codes} codes, recordings {name}: class {to} of code {b} gives {}", set.number));
     }
-    let unused = (1..).find(|&r| (0..codes).all(|i| recording(i) != r)).unwrap();
-    let added = calls::insert(&t, list, 7 * (codes / 2) + 1, unused);
-    expect(added.number == 0 && calls::search(&added.table, 7 * (codes / 2) + 1) == calls::found(unused), seed, &[], || format!("{codes} codes, recordings {name}: {unused} was not added"));
+    // Side by side the same recording in two classes: not hidden, and there twice.
+    for b in (1..codes).filter(|b| b % 8 != 0).take(2) {
+        let (old, before) = (t[place(b)], t[place(b - 1)]);
+        t[place(b)] = pointer(recording(before), (class(before) + 1) % 3);
+        expect(!taken(&t, list), seed, &[], || format!("{codes} codes, recordings {name}: {b} has the recording of the code before it in another class"));
+        t[place(b)] = old;
+    }
+    let unused = (1..).find(|&r| (0..codes).all(|i| number(i) != r)).unwrap();
+    let added = calls::insert(&t, list, 7 * (codes / 2) + 1, unused, 2);
+    expect(added.number == 0 && calls::search(&added.table, 7 * (codes / 2) + 1) == calls::found(unused, 2), seed, &[], || format!("{codes} codes, recordings {name}: {unused} was not added"));
 }
 
 fn main() {

@@ -79,7 +79,7 @@ impl Joined {
         let further = || (next_up(t, last_leaf(t, k).expect("a leaf"), k).expect("a neighbour or none").1 > 1) as usize;
         let ring = (1..=t[2]).all(|i| node(t, i).level == 0 && (1..=t[2]).contains(&node(t, i).sibling));
         match answer {
-            Answer::Found(_) => {}
+            Answer::Found(..) => {}
             Answer::Absent(Some(_)) => self.found[further()] += 1,
             Answer::Absent(None) => self.none[further()] += 1,
             Answer::Refused(_) if ring => self.too_many += 1,

@@ -6,9 +6,27 @@ use std::collections::{BTreeMap, BTreeSet, HashMap};
 pub const MARK: u64 = u64::MAX;
 pub const LIST_WORDS: usize = 2560;
 
+/// A leaf pointer's top 8 bits are the class, its low 56 the recording number.
+pub const CLASS: u32 = 56;
+pub const MOST_RECORDING: u64 = 72057594037927935;
+pub const MOST_CLASS: u64 = 2;
+
+pub fn recording(pointer: u64) -> u64 {
+    pointer & MOST_RECORDING
+}
+
+pub fn class(pointer: u64) -> u64 {
+    pointer >> CLASS
+}
+
+pub fn pointer(recording: u64, class: u64) -> u64 {
+    class << CLASS | recording
+}
+
 #[derive(Clone, Debug, PartialEq, Eq)]
 pub enum Answer {
-    Found(u64),
+    /// The recording, and its class.
+    Found(u64, u64),
     /// With the next code up, or none.
     Absent(Option<u64>),
     Refused(u64),
@@ -98,7 +116,7 @@ pub fn search(t: &[u64], k: u64) -> Answer {
     match last_leaf(t, k) {
         Err(number) => Answer::Refused(number),
         Ok(x) => match x.shown().iter().find(|s| s.key == k) {
-            Some(s) => Answer::Found(s.pointer),
+            Some(s) => Answer::Found(recording(s.pointer), class(s.pointer)),
             None => next_up(t, x, k).map_or(Answer::Refused(3), |(next, _)| Answer::Absent(next)),
         },
     }
@@ -171,6 +189,7 @@ pub enum Leftover {
 pub struct Tree {
     pub reached: BTreeMap<u64, Node>,
     pub leftover: Leftover,
+    /// Codes and whole pointers.
     pub map: BTreeMap<u64, u64>,
 }
 
@@ -267,7 +286,7 @@ pub fn judge(t: &[u64]) -> Option<Tree> {
     let mut recordings = BTreeSet::new();
     for x in reached.values().filter(|x| x.level == 0) {
         for s in x.shown().into_iter().filter(|s| below(x, s.key)) {
-            if s.pointer == MARK || !recordings.insert(s.pointer) {
+            if recording(s.pointer) == 0 || class(s.pointer) > MOST_CLASS || !recordings.insert(recording(s.pointer)) {
                 return None;
             }
             map.insert(s.key, s.pointer);
@@ -504,7 +523,7 @@ impl Writer {
         self.shift_in(parent, words[3], b);
     }
 
-    fn insert(&mut self, k: u64, r: u64) {
+    fn insert(&mut self, k: u64, x: u64) {
         let (run, depth) = self.run(k);
         if run == depth {
             self.new_root();
@@ -514,7 +533,7 @@ impl Writer {
             self.split(path[path.len() - 1 - level], path[path.len() - 2 - level]);
         }
         let leaf = *self.path(k).last().unwrap();
-        self.shift_in(leaf, k, r);
+        self.shift_in(leaf, k, x);
     }
 
     /// On a settled table. A leaf that it empties and that is not its parent's leftmost child comes back: its slot is shifted out at the
@@ -531,12 +550,22 @@ impl Writer {
         self.shift_out(parent, ways[place].key);
         self.store(start(neighbour) + 1, node(&self.t, leaf).sibling);
     }
+
+    /// On a settled table that has the code: one store.
+    fn set_class(&mut self, k: u64, to: u64) {
+        let leaf = *self.path(k).last().unwrap();
+        let slots = node(&self.t, leaf).slots;
+        let place = slots.iter().position(|s| s.key == k).unwrap();
+        self.pointer(leaf, place, pointer(recording(slots[place].pointer), to));
+    }
 }
 
 #[derive(Clone, Copy, Debug, PartialEq, Eq)]
 pub enum Call {
-    Insert(u64, u64),
+    /// A key, a recording and its class.
+    Insert(u64, u64, u64),
     Delete(u64),
+    SetClass(u64, u64),
     Repair,
 }
 
@@ -564,14 +593,17 @@ pub fn write_judged(t: &[u64], tree: &Tree, list_words: usize, call: Call) -> Re
     let mut w = Writer::new(t);
     w.repair(tree.leftover);
     match call {
-        Call::Insert(k, r) => {
-            if r == 0 || r == MARK {
+        Call::Insert(k, r, c) => {
+            if r == 0 || r > MOST_RECORDING {
                 return Err(6);
+            }
+            if c > MOST_CLASS {
+                return Err(14);
             }
             if tree.map.contains_key(&k) {
                 return Err(7);
             }
-            if tree.map.values().any(|&x| x == r) {
+            if tree.map.values().any(|&x| recording(x) == r) {
                 return Err(8);
             }
             let (run, depth) = w.run(k);
@@ -582,13 +614,22 @@ pub fn write_judged(t: &[u64], tree: &Tree, list_words: usize, call: Call) -> Re
             if unreachable(&w.t).len() < run + new_root as usize {
                 return Err(10);
             }
-            w.insert(k, r);
+            w.insert(k, pointer(r, c));
         }
         Call::Delete(k) => {
             if !tree.map.contains_key(&k) {
                 return Err(9);
             }
             w.delete(k);
+        }
+        Call::SetClass(k, c) => {
+            if c > MOST_CLASS {
+                return Err(14);
+            }
+            if !tree.map.contains_key(&k) {
+                return Err(9);
+            }
+            w.set_class(k, c);
         }
         Call::Repair => {}
     }

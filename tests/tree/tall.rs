@@ -21,6 +21,10 @@ fn floors(root: usize, run: usize, random: &mut Random) -> Vec<Floor> {
     slots.into_iter().map(|slots| Floor { slots, place: random.below(slots as u64 + 1) as usize }).collect()
 }
 
+fn some_insertion(key: u64, random: &mut Random) -> Call {
+    Call::Insert(key, 1 + random.below(MOST_RECORDING), random.below(3))
+}
+
 // ---- leftovers
 
 /// The tower's table settled, or with a leftover on or off its path, so that repair gives the path its floors again.
@@ -59,7 +63,7 @@ fn left_over(tower: &Tower, random: &mut Random) -> Vec<u64> {
 // ---- what was met
 
 struct Met {
-    numbers: [u64; 14],
+    numbers: [u64; 15],
     /// Accepted insertions by the length of the run split; the second with a new root.
     runs: [[u64; 16]; 2],
     cut_runs: [[u64; 16]; 2],
@@ -92,7 +96,7 @@ impl Met {
 
     /// Every cut of an accepted insertion, and some of the other images of each; each searched, judged, repaired and now and then gone on with.
     fn cuts(&mut self, t: &[u64], call: Call, after: &calls::Wrote, os: &[Order], random: &mut Random) {
-        let Call::Insert(k, r) = call else { panic!("cuts of insertions") };
+        let Call::Insert(k, r, x) = call else { panic!("cuts of insertions") };
         let old = judge(t).expect("a sound table").map;
         let new = changed(&old, call);
         let mut asked: BTreeSet<u64> = new.range(..k).rev().take(30).chain(new.range(k..).take(30)).map(|(&k, _)| k).collect();
@@ -109,7 +113,7 @@ impl Met {
             }
             for image in seen {
                 self.images += 1;
-                let taken = calls::search(&image, k) == calls::found(r);
+                let taken = calls::search(&image, k) == calls::found(r, x);
                 let map = if taken { &new } else { &old };
                 let what = || format!("{call:?} cut after {c} of {} orders", os.len());
                 expect(answers(&image, map, &asked), seed, &image, || what() + ": searches agree with neither map");
@@ -141,7 +145,7 @@ fn split(before: &[u64], after: &[u64]) -> (usize, usize) {
 fn main() {
     let (seed, size) = arguments(8);
     let mut random = Random(seed);
-    let mut met = Met { numbers: [0; 14], runs: [[0; 16]; 2], cut_runs: [[0; 16]; 2], kinds: [0; 5], longest: 0, images: 0, list: (0..LIST_WORDS as u64).collect(), seed };
+    let mut met = Met { numbers: [0; 15], runs: [[0; 16]; 2], cut_runs: [[0; 16]; 2], kinds: [0; 5], longest: 0, images: 0, list: (0..LIST_WORDS as u64).collect(), seed };
     let mut passed = 0;
 
     // Runs of 1 to 15 nodes below a node with room, and runs up to a root at level 0 to 14, which grows: with just the nodes that they need
@@ -157,18 +161,22 @@ fn main() {
                     let t = if root > 0 { left_over(&tower, &mut random) } else { tower.t.clone() };
                     let tree = judge(&t).expect("a tower is sound");
                     met.kinds[kind(tree.leftover)] += 1;
-                    let insertion = Call::Insert(tower.key, random.next());
+                    let insertion = some_insertion(tower.key, &mut random);
                     if free < need {
                         met.gives(&t, insertion, 10);
                         // What is tested before 10.
-                        let (&k, &r) = tree.map.iter().nth(random.below(tree.map.len() as u64) as usize).unwrap();
-                        met.gives(&t, Call::Insert(tower.key, r), 8);
-                        met.gives(&t, Call::Insert(k, r), 7);
-                        met.gives(&t, Call::Insert(k, [0, MARK][random.below(2) as usize]), 6);
+                        let (&k, &x) = tree.map.iter().nth(random.below(tree.map.len() as u64) as usize).unwrap();
+                        met.gives(&t, Call::Insert(tower.key, recording(x), random.below(3)), 8);
+                        met.gives(&t, Call::Insert(k, recording(x), random.below(3)), 7);
+                        met.gives(&t, Call::Insert(k, recording(x), 3), 14);
+                        met.gives(&t, Call::Insert(k, [0, MOST_RECORDING + 1, MARK][random.below(3) as usize], 3), 6);
+                        met.gives(&t, Call::SetClass(tower.key, random.below(3)), 9);
+                        met.gives(&t, Call::SetClass(tower.key, 3), 14);
+                        met.gives(&t, Call::SetClass(k, random.below(3)), 0);
                         met.gives(&t, Call::Delete(tower.key), 9);
                         met.gives(&t, Call::Delete(k), 0);
                         let listed = calls::list(&t, 0, MARK, &vec![7; 2 * tree.map.len() + 2]);
-                        let pairs: Vec<u64> = tree.map.iter().flat_map(|(&k, &r)| [k, r]).chain([7, 7]).collect();
+                        let pairs: Vec<u64> = tree.map.iter().flat_map(|(&k, &x)| [k, x]).chain([7, 7]).collect();
                         expect(listed == (0, [Some(tree.map.len() as u64), Some(0)], pairs), seed, &t, || "a listing of all".into());
                         continue;
                     }
@@ -190,9 +198,9 @@ fn main() {
     for i in 0..8 * size {
         let tower = tower(&floors(15, 16, &mut random), [0, 1, 16, 17, 40][(i % 5) as usize], &mut random);
         let t = left_over(&tower, &mut random);
-        met.gives(&t, Call::Insert(tower.key, random.next()), 11);
+        met.gives(&t, some_insertion(tower.key, &mut random), 11);
         let used = *judge(&t).expect("a tower is sound").map.values().next().unwrap();
-        met.gives(&t, Call::Insert(tower.key, used), 8);
+        met.gives(&t, Call::Insert(tower.key, recording(used), random.below(3)), 8);
     }
     passed += 1;
 
@@ -206,7 +214,7 @@ fn main() {
         let tower = tower(&floors, 16, &mut random);
         let mut t = tower.t.clone();
         hide(&mut t, tower.path[1 + random.below(14) as usize], 0);
-        let insertion = Call::Insert(tower.key, random.next());
+        let insertion = some_insertion(tower.key, &mut random);
         let (after, os) = met.tried(&t, insertion);
         expect(after.number == 0 && os.len() == 933, seed, &t, || format!("{insertion:?} made {} orders, not 933", os.len()));
         if i == 0 {
@@ -224,7 +232,7 @@ fn main() {
             let n = tower.path[random.below(16) as usize];
             let w = start(n) + random.below(32) as usize;
             d[w] = [0, MARK, d[w].wrapping_add(1), d[w].wrapping_sub(1), d[random.below(d.len() as u64) as usize]][random.below(5) as usize];
-            refused += (met.tried(&d, Call::Insert(tower.key, random.next())).0.number == 4) as u64;
+            refused += (met.tried(&d, some_insertion(tower.key, &mut random)).0.number == 4) as u64;
             same_search(&d, tower.key, seed);
         }
     }

@@ -1,7 +1,7 @@
 //! Tall tables, handed in and not grown: a path from the root to a leaf whose nodes have chosen numbers of slots. Every other child on the
 //! way has its own way down, through nodes without slots, to a leaf of a few pairs. Nodes that are not reached hold any words.
 #![allow(dead_code)]
-use crate::reference::{Random, MARK};
+use crate::reference::{pointer, Random, MARK, MOST_RECORDING};
 
 /// The path's node of a level: its slots, and by which way the path goes on (0 is left, p + 1 is slot p); in the leaf, the place where the
 /// tower's key would come in.
@@ -64,7 +64,8 @@ impl Builder<'_> {
         let step = (high - low) / (count as u128 + 2);
         // A leaf's first key may be its fence.
         let lowest = if floor.is_none() && self.random.below(2) == 0 { low } else { low + step };
-        let slots = (0..count).map(|i| ((lowest + step * i as u128) as u64, self.random.next())).collect();
+        let mut any_pointer = || pointer(1 + self.random.below(MOST_RECORDING), self.random.below(3));
+        let slots = (0..count).map(|i| ((lowest + step * i as u128) as u64, any_pointer())).collect();
         if let Some(f) = floor {
             self.key = (low + step * f.place as u128 + step / 2) as u64;
         }

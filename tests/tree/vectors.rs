@@ -43,7 +43,7 @@ fn with(t: &[u64], word: usize, value: u64) -> Vec<u64> {
 }
 
 fn finds(t: &[u64], key: u64, recording: u64) {
-    gives(&format!("search for {key}"), t, calls::search(t, key), calls::found(recording));
+    gives(&format!("search for {key}"), t, calls::search(t, key), calls::found(recording, 0));
 }
 
 /// The key is absent, and this one is the next up.
@@ -280,7 +280,7 @@ fn fresh_nodes() {
         let mut nodes = vec![FREE; n];
         nodes[old as usize - 1] = leaf;
         let t = table(old, &nodes);
-        let after = calls::insert(&t, &list, 115, 12);
+        let after = calls::insert(&t, &list, 115, 12, 0);
         gives("insertion of 115", &t, (after.number, after.counts), (0, [Some(75), Some(13)]));
         nodes[old as usize - 1] = ([MARK, sibling, 0, 0], &FULL);
         nodes[root as usize - 1] = ([old, 0, 1, 0], &[]);
@@ -298,7 +298,7 @@ fn fresh_nodes() {
         nodes[a as usize - 1] = leaf;
         nodes[root as usize - 1] = ([a, 0, 1, 0], &[]);
         let t = table(root, &nodes);
-        let after = calls::insert(&t, &list, 5, 12);
+        let after = calls::insert(&t, &list, 5, 12, 0);
         let sibling = after.table[8 + 32 * (a as usize - 1) + 1];
         gives("insertion of 5", &t, (after.number, after.table[1], sibling), (0, root, b));
     }
@@ -331,11 +331,11 @@ fn freed_leaves() {
     // The freed node serves the next split, where there was no other: eleven codes in leaf 1, then a twelfth.
     let mut grown = freed.clone();
     for key in 11..=20 {
-        let after = calls::insert(&grown, &[0; 2560], key, key);
+        let after = calls::insert(&grown, &[0; 2560], key, key, 0);
         gives(&format!("insertion of {key}"), &grown, after.number, 0);
         grown = after.table;
     }
-    let after = calls::insert(&grown, &[0; 2560], 21, 21);
+    let after = calls::insert(&grown, &[0; 2560], 21, 21, 0);
     gives("insertion of 21", &grown, (after.number, after.table[9], after.table[48..50].to_vec(), after.table[75]), (0, 3, vec![15, 3], 15));
     // A leaf between two: its neighbour takes its sibling. A leaf that was empty before is no matter of this deletion, and may be the neighbour.
     let t = table(1, &[([2, 0, 1, 0], &[(20, 3), (40, 4), (60, 5)]), ([MARK, 3, 0, 0], &[(10, 1)]), ([MARK, 4, 0, 20], &[]), ([MARK, 5, 0, 40], &[(45, 4)]), ([MARK, 0, 0, 60], &[(60, 6)])]);
@@ -363,12 +363,136 @@ fn freed_leaves() {
     }
 }
 
+/// A pointer's class counts 2^56 each.
+const ROOM: u64 = 72057594037927936;
+const CLOSED: u64 = 2 * ROOM;
+
+/// 6, then 14, then 7, then 8; a class is 0 to 2, a recording 1 to 2^56 - 1.
+fn recordings_and_classes() {
+    let list = [0; 2560];
+    let t = table(1, &[([MARK, 0, 0, 0], &[(20, 5), (30, ROOM + 6), (40, CLOSED + ROOM - 1)])]);
+    for (key, recording, access) in [(20, 5, 0), (30, 6, 1), (40, ROOM - 1, 2)] {
+        gives(&format!("search for {key}"), &t, calls::search(&t, key), calls::found(recording, access));
+    }
+    gives("listing", &t, calls::list(&t, 0, MARK, &[7; 6]), (0, [Some(3), Some(0)], vec![20, 5, 30, ROOM + 6, 40, CLOSED + ROOM - 1]));
+    let number = |key, recording, access| calls::insert(&t, &list, key, recording, access).number;
+    for (recording, want) in [(0, 6), (1, 0), (7, 0), (ROOM - 2, 0), (ROOM - 1, 8), (ROOM, 6), (ROOM + 1, 6), (CLOSED + 7, 6), (MARK, 6), (5, 8), (6, 8)] {
+        for access in 0..=2 {
+            gives(&format!("insertion of recording {recording}, class {access}"), &t, number(25, recording, access), want);
+            // A code that is there comes before a recording that is, and after the two tests of what is given.
+            gives(&format!("insertion of 20 again, recording {recording}, class {access}"), &t, number(20, recording, access), if want == 6 { 6 } else { 7 });
+        }
+        for access in [3, 255, 256, ROOM, MARK] {
+            for key in [20, 25] {
+                gives(&format!("insertion of {key}, recording {recording}, class {access}"), &t, number(key, recording, access), if want == 6 { 6 } else { 14 });
+            }
+        }
+    }
+    // The order list has the whole pointer.
+    let after = calls::insert(&make(1), &list, 9, ROOM - 1, 2);
+    gives("insertion", &make(1), after.list[..10].to_vec(), vec![19, 0, 17, MARK, 16, 9, 17, CLOSED + ROOM - 1, MARK, 2]);
+    // 4 and 5 come first.
+    let bad = with(&t, 8, 1);
+    gives("insertion into a table that is not sound", &bad, calls::insert(&bad, &list[..9], 25, 0, 9).number, 4);
+    gives("insertion with a short list", &t, calls::insert(&t, &list[..2559], 25, 0, 9).number, 5);
+}
+
+fn make(nodes: u64) -> Vec<u64> {
+    table(1, &(0..nodes).map(|i| ([if i == 0 { MARK } else { 0 }, 0, 0, 0], &[][..])).collect::<Vec<Words>>())
+}
+
+/// A search answers what stands there; writes and listing take only recordings from 1 on in classes 0 to 2.
+fn pointers_handed_in() {
+    let repaired = |t: &[u64]| calls::repair(t, &[0; 2560]).number;
+    for access in 0..256 {
+        for recording in [0, 1, 9, ROOM - 1] {
+            let pointer = access * ROOM + recording;
+            // Pointer 0 ends the slots; MARK in slot 0 is a leaf's left, and hides it.
+            let t = table(1, &[([MARK, 0, 0, 0], &[(10, 3), (20, pointer), (30, 4)])]);
+            let sound = recording > 0 && access <= 2;
+            if pointer != 0 {
+                gives(&format!("search for {pointer}"), &t, calls::search(&t, 20), calls::found(recording, access));
+            }
+            gives(&format!("repair with pointer {pointer}"), &t, repaired(&t), if sound || pointer == 0 { 0 } else { 4 });
+            gives(&format!("listing with pointer {pointer}"), &t, calls::list(&t, 0, 5, &[]).0, if sound || pointer == 0 { 0 } else { 4 });
+        }
+    }
+    // In a slot that is ignored, or past the slots in use, any pointer may stand.
+    let t = table(2, &[([MARK, 3, 0, 0], &[(10, 3), (60, ROOM), (70, MARK - 1)]), ([1, 0, 1, 0], &[]), ([MARK, 0, 0, 50], &[(50, 0), (60, MARK)])]);
+    gives("repair", &t, repaired(&t), 0);
+    // Slot 0 hidden by the leaf's left, MARK: no recording, though its low bits are one.
+    let t = table(1, &[([MARK, 0, 0, 0], &[(5, MARK), (10, 3)])]);
+    lacks(&t, 5, Some(10));
+    gives("insertion", &t, calls::insert(&t, &[0; 2560], 20, ROOM - 1, 0).number, 0);
+    let t = table(1, &[([MARK, 0, 0, 0], &[(5, MARK), (10, ROOM - 1)])]);
+    gives("repair", &t, repaired(&t), 0);
+    gives("insertion", &t, calls::insert(&t, &[0; 2560], 20, ROOM - 1, 0).number, 8);
+}
+
+/// Whole words that are equal mean hidden; recordings that are equal in two classes mean not sound.
+fn recordings_in_two_classes() {
+    let repaired = |t: &[u64]| calls::repair(t, &[0; 2560]).number;
+    for a in 0..3 {
+        for b in 0..3 {
+            let (x, y) = (a * ROOM + 5, b * ROOM + 5);
+            // Side by side; with a slot between; in the next leaf.
+            let beside = table(1, &[([MARK, 0, 0, 0], &[(10, x), (20, y), (30, 6)])]);
+            gives("repair", &beside, repaired(&beside), if a == b { 0 } else { 4 });
+            gives("search for 20", &beside, calls::search(&beside, 20), if a == b { calls::absent(Some(30)) } else { calls::found(5, b) });
+            let apart = table(1, &[([MARK, 0, 0, 0], &[(10, x), (20, 6), (30, y)])]);
+            gives("repair", &apart, repaired(&apart), 4);
+            let leaves = table(3, &[([MARK, 2, 0, 0], &[(10, x)]), ([MARK, 0, 0, 20], &[(20, y)]), ([1, 0, 1, 0], &[(20, 2)])]);
+            gives("repair", &leaves, repaired(&leaves), 4);
+        }
+    }
+}
+
+/// One store and one flush, after any repair; 14 before 9, and 4 and 5 before both.
+fn class_changes() {
+    let list = [7; 2560];
+    let t = table(1, &[([MARK, 0, 0, 0], &[(20, 5), (30, ROOM + 6), (40, CLOSED + 8)])]);
+    for (key, place, recording) in [(20, 17, 5), (30, 19, 6), (40, 21, 8)] {
+        for access in 0..=2 {
+            let after = calls::set_class(&t, &list, key, access);
+            let pointer = access * ROOM + recording;
+            let mut want = list.to_vec();
+            want[..4].copy_from_slice(&[place as u64, pointer, MARK, 2]);
+            // Also where the code has that class already.
+            gives(&format!("class {access} of {key}"), &t, (after.number, after.counts, after.list), (0, [Some(1), Some(1)], want));
+            gives(&format!("class {access} of {key}"), &t, &after.table, &with(&t, place, pointer));
+            gives(&format!("search for {key}"), &after.table, calls::search(&after.table, key), calls::found(recording, access));
+        }
+    }
+    let refusal = |t: &[u64], words: usize, key: u64, access: u64| {
+        let after = calls::set_class(t, &list[..words], key, access);
+        gives(&format!("a refused class {access} of {key}"), t, (after.counts, after.table == t, after.list == list[..words]), ([None; 2], true, true));
+        after.number
+    };
+    for access in [3, 255, 256, ROOM, MARK] {
+        gives(&format!("class {access}"), &t, [refusal(&t, 2560, 20, access), refusal(&t, 2560, 21, access)], [14, 14]);
+    }
+    gives("class of an absent code", &t, [21, 0, MARK].map(|key| refusal(&t, 2560, key, 1)), [9; 3]);
+    gives("class with a short list", &t, refusal(&t, 2559, 21, 3), 5);
+    gives("class on a table that is not sound", &t, refusal(&with(&t, 8, 1), 2559, 21, 3), 4);
+    gives("class on no table", &t[..39], refusal(&t[..39], 2559, 21, 3), 2);
+    // A hidden slot's key is absent. Its repair comes first: here on the same line, and one flush is enough; there on another.
+    let t = table(1, &[([MARK, 0, 0, 0], &[(20, 5), (25, 5), (30, 6)])]);
+    gives("class of a hidden slot's key", &t, refusal(&t, 2560, 25, 1), 9);
+    let after = calls::set_class(&t, &list, 30, 2);
+    let orders = [18, 30, 19, 6, 21, 0, 19, CLOSED + 6, MARK, 2, 7, 7];
+    gives("class of 30", &t, (after.counts, after.list[..12].to_vec()), ([Some(4), Some(1)], orders.to_vec()));
+    let t = table(2, &[([MARK, 3, 0, 0], &[(10, 3)]), ([1, 0, 1, 0], &[]), ([MARK, 0, 0, 50], &[(60, 6)])]);
+    let after = calls::set_class(&t, &list, 60, 1);
+    let orders = [51, 0, 49, 1, 48, 50, 49, 3, MARK, 6, 81, ROOM + 6, MARK, 10, 7, 7];
+    gives("class of 60", &t, (after.counts, after.list[..16].to_vec()), ([Some(5), Some(2)], orders.to_vec()));
+}
+
 /// All nodes from a root at level 15 down to a leaf are full: 11, however few nodes are free. From level 14, 16 nodes are needed: else 10.
 fn too_high() {
     let random = &mut Random(20_261_118);
     for (root, free, number) in [(15, 0, 11), (15, 1, 11), (15, 17, 11), (15, 100, 11), (14, 0, 10), (14, 15, 10), (14, 16, 0), (14, 17, 0)] {
         let x = tower(&vec![Floor { slots: 11, place: 3 }; root + 1], free, random);
-        let after = calls::insert(&x.t, &[0; 2560], x.key, 1);
+        let after = calls::insert(&x.t, &[0; 2560], x.key, 1, 0);
         gives(&format!("insertion of {} into full nodes up to level {root}, {free} free", x.key), &x.t, after.number, number);
         if number == 0 {
             let level = after.table[8 + 32 * (after.table[1] as usize - 1) + 2];
@@ -386,9 +510,9 @@ fn largest_table() {
     let (number, t) = calls::make(&words[..2_097_128]);
     gives("making in 2,097,128 words", &[], (number, &t[..8]), (0, &[1, 1, 65_535, 0, 0, 0, 0, 0]));
     gives("making in 2,097,128 words", &[], (t[8], t[9..].iter().all(|&w| w == 0)), (MARK, true));
-    let after = calls::insert(&t, &[0; 2560], 5, 50);
+    let after = calls::insert(&t, &[0; 2560], 5, 50, 0);
     gives("insertion into 65,535 nodes", &[], (after.number, after.counts), (0, [Some(4), Some(1)]));
-    gives("search in 65,535 nodes", &[], calls::search(&after.table, 5), calls::found(50));
+    gives("search in 65,535 nodes", &[], calls::search(&after.table, 5), calls::found(50, 0));
     gives("search in 65,535 nodes", &[], calls::search(&after.table, 4), calls::absent(Some(5)));
     gives("listing of 65,535 nodes", &[], calls::list(&after.table, 0, MARK, &[7; 3]), (0, [Some(1), Some(0)], vec![5, 50, 7]));
 
@@ -430,7 +554,7 @@ fn codes() {
 }
 
 fn main() {
-    let vectors: [(&str, fn()); 12] = [
+    let vectors: [(&str, fn()); 16] = [
         ("a root at level 15 is searched, one at 16 refused", root_levels),
         ("search's 3 in each of its causes", search_refusals),
         ("an absent key's neighbour", absent_search),
@@ -440,6 +564,10 @@ fn main() {
         ("carry-out's c", carry_out_counts),
         ("fresh nodes after the node being split, going round", fresh_nodes),
         ("leaves that come back", freed_leaves),
+        ("recordings and classes in range", recordings_and_classes),
+        ("pointers of any class", pointers_handed_in),
+        ("a recording in two classes", recordings_in_two_classes),
+        ("class changes", class_changes),
         ("11 before 10", too_high),
         ("N up to 65,535", largest_table),
         ("codes up to the last", codes),

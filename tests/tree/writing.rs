@@ -14,12 +14,12 @@ fn main() {
 
     // The unstarred worked line: recording 0 returns 6; 1 is taken.
     let blank = vec![0; LIST_WORDS];
-    expect(calls::insert(&make(1), &blank, 5, 0).number == 6, seed, &[], || "recording 0".into());
-    expect(calls::insert(&make(1), &blank, 5, 1).number == 0, seed, &[], || "recording 1".into());
+    expect(calls::insert(&make(1), &blank, 5, 0, 0).number == 6, seed, &[], || "recording 0".into());
+    expect(calls::insert(&make(1), &blank, 5, 1, 0).number == 0, seed, &[], || "recording 1".into());
     passed += 1;
 
     // Scripts from empty tables; the list keeps what earlier calls left in it; memory follows by carry-out.
-    let mut numbers = [0u64; 14];
+    let mut numbers = [0u64; 15];
     let mut done = 0;
     while done < size {
         let n = 1 + match random.below(40) {
@@ -52,7 +52,7 @@ fn main() {
         }
     }
     println!("calls {done}; by number: {numbers:?}");
-    expect([0, 5, 6, 7, 8, 9, 10].iter().all(|&n: &usize| numbers[n] >= size / 100), seed, &[], || "a number was not met often enough".into());
+    expect([0, 5, 6, 7, 8, 9, 10, 14].iter().all(|&n: &usize| numbers[n] >= size / 100), seed, &[], || "a number was not met often enough".into());
     passed += 1;
 
     // Tables with every leftover, whole and damaged, and any words: each call as the reference, nothing changed on refusal.
@@ -67,7 +67,8 @@ fn main() {
         for d in tables {
             let ks = keys(&d, &mut random);
             let k = ks[random.below(ks.len() as u64) as usize];
-            for call in [Call::Repair, Call::Delete(k), Call::Insert(k, 1 + random.below(1_000_000)), Call::Insert(random.next(), k)] {
+            let inserted = [Call::Insert(k, 1 + random.below(1_000_000), some_class(&mut random)), Call::Insert(random.next(), k, random.below(3))];
+            for call in [Call::Repair, Call::Delete(k), Call::SetClass(k, some_class(&mut random))].into_iter().chain(inserted) {
                 same_write(&d, &list, call, seed);
             }
         }
@@ -83,10 +84,11 @@ fn main() {
         for _ in 0..250 {
             let d = damaged(&t, &mut random);
             let k = d[random.below(d.len() as u64) as usize];
-            let call = match random.below(4) {
+            let call = match random.below(5) {
                 0 => Call::Repair,
                 1 => Call::Delete(k),
-                _ => Call::Insert(k ^ random.below(3), 1 + random.below(1_000_000)),
+                2 => Call::SetClass(k, some_class(&mut random)),
+                _ => Call::Insert(k ^ random.below(3), 1 + random.below(1_000_000), random.below(3)),
             };
             refused += (same_write(&d, &list, call, seed).0.number != 0) as u64;
         }

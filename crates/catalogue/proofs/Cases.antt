@@ -7,7 +7,7 @@ use Rattle.model.specs.declared.Parsed.{Parsed}
 use Rattle.model.specs.Codes.{parsedNumber, keyOr}
 use Rattle.model.specs.Table.{Words}
 use Rattle.model.specs.Writes.{Call}
-use Rattle.model.specs.Search.{recordingOr, nextOr, higherOr}
+use Rattle.model.specs.Search.{recordingOr, accessOr, nextOr, higherOr}
 use Rattle.model.specs.declared.Written.{Written}
 use Rattle.model.specs.Refusals.{written, tableAfter, listAfter}
 use Rattle.model.specs.declared.Listed.{Listed}
@@ -15,11 +15,17 @@ use Rattle.model.specs.Listing.{listedNumber, countOr, moreOr}
 use Rattle.catalogue.specs.Answers.{searchNumber, Counted, Wrote, Showed}
 
 -- an answer that is this one has its number, and puts its words
-pub answered : (x y : Answer) (recording next higher : ℕ) → x ≡ y
-    → (searchNumber y ≡ searchNumber x) × ((recordingOr y recording ≡ recordingOr x recording) × ((nextOr y next ≡ nextOr x next) × (higherOr y higher ≡ higherOr x higher)))
-answered x y recording next higher e =
-    let q = sym e in
-    (ap searchNumber q, (ap (λ (z : Answer). recordingOr z recording) q, (ap (λ (z : Answer). nextOr z next) q, ap (λ (z : Answer). higherOr z higher) q)))
+pub answered : (x y : Answer) (recording access next higher : ℕ) → x ≡ y
+    → (searchNumber y ≡ searchNumber x) × ((recordingOr y recording ≡ recordingOr x recording) × ((accessOr y access ≡ accessOr x access)
+    × ((nextOr y next ≡ nextOr x next) × (higherOr y higher ≡ higherOr x higher))))
+answered x y recording access next higher e =
+    let q = sym e in (
+      ap searchNumber q,
+      (
+        ap (λ (z : Answer). recordingOr z recording) q,
+        (ap (λ (z : Answer). accessOr z access) q, (ap (λ (z : Answer). nextOr z next) q, ap (λ (z : Answer). higherOr z higher) q)),
+      ),
+    )
 
 pub was-read : (x y : Parsed) (old : ℕ) → x ≡ y → (parsedNumber y ≡ parsedNumber x) × (keyOr y old ≡ keyOr x old)
 was-read x y old e = (sym (ap parsedNumber e), sym (ap (λ (z : Parsed). keyOr z old) e))

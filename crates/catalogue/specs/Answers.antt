@@ -13,11 +13,11 @@ use Rattle.model.specs.Refusals.{written, tableAfter, listAfter, writtenNumber,
 
 -- the version of the calls' shapes: raised by each change of a name, a parameter or what a word means
 abbrev pub version : ℕ
-version = 2
+version = 3
 
 -- a search of C's: 0 for found, 255 for absent
 abbrev pub searchNumber : Answer → ℕ
-searchNumber (Found r) = 0
+searchNumber (Found r c) = 0
 searchNumber (Absent x) = 255
 searchNumber (Refused n) = n
 

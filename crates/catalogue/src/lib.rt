@@ -10,8 +10,8 @@ ghost use mathlib.Core.Path.{_≡_};
 ghost use Rattle.model.specs.Codes.{parse, print, parsedNumber, keyOr};
 ghost use Rattle.model.specs.Table.{making, made, outcomeNumber};
 ghost use Rattle.model.specs.Orders.{carryOut, carriedOut};
-ghost use Rattle.model.specs.Search.{search, recordingOr, nextOr, higherOr};
-ghost use Rattle.model.specs.Writes.{insertion, deletion, repair};
+ghost use Rattle.model.specs.Search.{search, recordingOr, accessOr, nextOr, higherOr};
+ghost use Rattle.model.specs.Writes.{insertion, deletion, classChange, repair};
 ghost use Rattle.catalogue.specs.Answers.{version, searchNumber, Counted, Wrote, Showed};
 ghost use Rattle.model.specs.Listing.{list, listOut};
 ghost use mathlib.Core.Bool.{cond};
@@ -21,7 +21,7 @@ ghost use mathlib.Core.Bool.{cond};
 pub extern "C" fn catalogue_version() -> u64
     ensures { λ r. ⌜ r ≡ version ⌝ }
 {
-    2
+    3
 }
 
 // 0 and the code's key, or 1.
@@ -70,23 +70,29 @@ pub extern "C" fn catalogue_make(table: &mut [u64]) -> u64
     number_of(node::make(table))
 }
 
-// 0 and the recording where the key is found; 255 where it is absent, with 1 and the next key up, or 0 where there is none; else 2 or 3.
+// 0, the recording and the class where the key is found; 255 where it is absent, with 1 and the next key up, or 0 where there is none; else 2 or 3.
 #[no_mangle]
 pub extern "C" fn catalogue_search(
     table: &[u64],
     key: u64,
     recording: &mut u64,
+    access: &mut u64,
     next: &mut u64,
     higher: &mut u64,
 ) -> u64
     ensures { λ r. ⌜ r ≡ searchNumber (search (now (table .entry)) key) ⌝ }
     ensures { λ r. ⌜ now (recording .exit) ≡ recordingOr (search (now (table .entry)) key) (now (recording .entry)) ⌝ }
+    ensures { λ r. ⌜ now (access .exit) ≡ accessOr (search (now (table .entry)) key) (now (access .entry)) ⌝ }
     ensures { λ r. ⌜ now (next .exit) ≡ nextOr (search (now (table .entry)) key) (now (next .entry)) ⌝ }
     ensures { λ r. ⌜ now (higher .exit) ≡ higherOr (search (now (table .entry)) key) (now (higher .entry)) ⌝ }
 {
     match search::search(table, key) {
-        Answer::Found(r) => {
+        Answer::Found {
+            recording: r,
+            access: c,
+        } => {
             *recording = r;
+            *access = c;
             0
         }
         Answer::Absent(up) => {
@@ -163,13 +169,14 @@ pub extern "C" fn catalogue_insert(
     orders: &mut [u64],
     key: u64,
     recording: u64,
+    access: u64,
     stores: &mut u64,
     flushes: &mut u64,
 ) -> u64
-    ensures { λ r. ⌜ Wrote (insertion key recording) r (now (table .entry)) (now (table .exit)) (now (orders .entry)) (now (orders .exit))
+    ensures { λ r. ⌜ Wrote (insertion key recording access) r (now (table .entry)) (now (table .exit)) (now (orders .entry)) (now (orders .exit))
         (now (stores .entry)) (now (stores .exit)) (now (flushes .entry)) (now (flushes .exit)) ⌝ }
 {
-    let answer = insert::insert(table, orders, key, recording);
+    let answer = insert::insert(table, orders, key, recording, access);
     put_counts(answer, stores, flushes)
 }
 
@@ -185,6 +192,22 @@ pub extern "C" fn catalogue_delete(
         (now (stores .entry)) (now (stores .exit)) (now (flushes .entry)) (now (flushes .exit)) ⌝ }
 {
     let answer = delete::delete(table, orders, key);
+    put_counts(answer, stores, flushes)
+}
+
+#[no_mangle]
+pub extern "C" fn catalogue_set_class(
+    table: &mut [u64],
+    orders: &mut [u64],
+    key: u64,
+    access: u64,
+    stores: &mut u64,
+    flushes: &mut u64,
+) -> u64
+    ensures { λ r. ⌜ Wrote (classChange key access) r (now (table .entry)) (now (table .exit)) (now (orders .entry)) (now (orders .exit))
+        (now (stores .entry)) (now (stores .exit)) (now (flushes .entry)) (now (flushes .exit)) ⌝ }
+{
+    let answer = reclass::set_class(table, orders, key, access);
     put_counts(answer, stores, flushes)
 }
 

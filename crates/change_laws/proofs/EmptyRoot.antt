@@ -8,7 +8,7 @@ use Rattle.model.specs.Table.{MARK, inRange}
 use Rattle.model.specs.Slots.{Slot, View}
 use Rattle.model.specs.Search.{within}
 use Rattle.model.specs.Reached.{filter, flat, kept, reachedFrom, leavesFrom, reached, leaves, mapping}
-use Rattle.model.specs.SoundTest.{elem, distinct, siblingOk, rising, comeFirst, nothing}
+use Rattle.model.specs.SoundTest.{all, elem, distinct, siblingOk, rising, comeFirst, recordingsOk, nothing}
 use Rattle.view_laws.proofs.NodeViews.{newNode, left-eq, sibling-eq, level-eq, fence-eq, shown-eq, hidden-eq, clear-eq}
 use Rattle.tree_laws.proofs.Rows.{Good}
 use Rattle.tree_laws.proofs.Leftovers.{NothingUnfinished}
@@ -42,7 +42,7 @@ module _ (v : View) (leaf : v .node (v .root) ≡ newNode MARK 0 0 0 []) (range 
   finished = record { shows = hidden-eq leaf; keeps = kept-none ∙ sym (shown-eq leaf); names = λ z. absurd (z (level-eq leaf)) }
 
   pub empty-left : HasLeft v nothing
-  unfolding distinct elem
+  unfolding distinct elem all recordingsOk
   empty-left = finished-left v
       (record {
         top = record { range = range; level = omega (arith, level-eq leaf); fence = fence-eq leaf; sibling = sibling-eq leaf };

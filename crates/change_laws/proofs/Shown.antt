@@ -2,14 +2,14 @@
 use mathlib.Core.Path.{_≡_, refl, ap, sym, _∙_}
 use mathlib.Core.Bool.{true, false}
 use mathlib.Core.Logic.{_≢_}
-use mathlib.Core.List.{List, [], _∷_, map}
+use mathlib.Core.List.{List, [], _∷_}
 use Prim.Native.Nat.{ℕ, suc}
 use lib.Dec.{eqb}
-use Rattle.model.specs.Table.{MARK, inRange}
-use Rattle.model.specs.Slots.{Slot, View, height, recording}
+use Rattle.model.specs.Table.{inRange}
+use Rattle.model.specs.Slots.{Slot, View, height}
 use Rattle.model.specs.Search.{below, within}
 use Rattle.model.specs.Reached.{flat, pointers, kept, firstChild, nextChild, fillRow, children, reached, leaves, mapping}
-use Rattle.model.specs.SoundTest.{distinct, siblingOk, comeFirst, keysOk, linked, childOk, slotOk, leafOk, innerOk, nodeOk}
+use Rattle.model.specs.SoundTest.{siblingOk, comeFirst, keysOk, linked, childOk, slotOk, leafOk, innerOk, nodeOk, recordingsOk}
 use Rattle.view_laws.proofs.NodeViews.{shownOf}
 use Rattle.list_laws.proofs.Tools.{Each, Each-map, at-or-off}
 use Rattle.list_laws.proofs.Members.{mem-each, flat-each}
@@ -93,7 +93,7 @@ module _ (v : View) (x : ℕ) (ss : List Slot) (same : children (withShown v x s
   shown-mapping h = ap (flat (kept v′)) shown-leaves ∙ flat-each (kept v′) (kept v) (leaves v) (Each-map (λ (n : ℕ). n ≡ x → kept v′ x ≡ kept v x) (λ (n : ℕ). kept v′ n ≡ kept v n) (leaves v)
       (at-or-off (λ (n : ℕ). (n ≡ x → kept v′ x ≡ kept v x) → kept v′ n ≡ kept v n) x (λ k. k refl) (λ n z k. kept-own v _ n (off n z))) h)
 
-  pub shown-orderly : Orderly v → (Good v x → Good (withShown v x ss) x) → distinct (MARK ∷ map recording (mapping (withShown v x ss))) ≡ true → Orderly (withShown v x ss)
+  pub shown-orderly : Orderly v → (Good v x → Good (withShown v x ss) x) → recordingsOk (mapping (withShown v x ss)) ≡ true → Orderly (withShown v x ss)
   shown-orderly o g d = record {
     top = record { range = o .top .range; level = o .top .level; fence = o .top .fence; sibling = o .top .sibling };
     good = rw shown-reached (Each-map (Good v) (Good v′) (reached v) (at-or-off (λ (n : ℕ). Good v n → Good v′ n) x g (λ n z h. good-own v _ n (off n z) ∙ h)) (o .good));

@@ -34,6 +34,6 @@ laws =
       accepted = accepted;
     }
 
--- For every N and every sequence of insertions, deletions and repairs, whole or cut.
+-- For every N and every sequence of insertions, deletions, class changes and repairs, whole or cut.
 pub demand3 : Demand3
 demand3 = reduce laws

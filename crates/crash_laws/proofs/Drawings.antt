@@ -33,7 +33,7 @@ afterCalls (x ∷ xs) t = afterCalls xs (tableAfter x 2560 t)
 
 -- insertions of 10, 20, .., with the recordings 101, 102, ..; and deletions of such keys
 unfoldable pub insertTens : List ℕ → List Call
-insertTens ns = map (λ (i : ℕ). insertion (10 * i) (100 + i)) ns
+insertTens ns = map (λ (i : ℕ). insertion (10 * i) (100 + i) 0) ns
 
 unfoldable pub deleteTens : List ℕ → List Call
 deleteTens ns = map (λ (i : ℕ). deletion (10 * i)) ns
@@ -50,7 +50,7 @@ unfoldable pub fullLeaf : Words
 fullLeaf = afterCalls (insertTens (numbers 1 11)) (empty 3)
 
 abbrev pub nextKey : Call
-nextKey = insertion 120 112
+nextKey = insertion 120 112 0
 
 -- a map that lacks a key of the old and of the new one is neither
 neither-map : (k : ℕ) (x : Call) (t u : Words) → hasKey k (mapOf u) ≡ false → hasKey k (mapOf t) ≡ true → hasKey k (change x (mapOf t)) ≡ true
@@ -78,12 +78,12 @@ keyFirstCut = apply (take 4 (shiftBy keyFirst)) twoSlots
 
 pub record KeyFirst : Type 0 where
   -- pointer first: the call's own list; the old map until the last store, then the new one
-  pub right-list : shiftBy moveUp ≡ storesOf (insertion 10 101) twoSlots
+  pub right-list : shiftBy moveUp ≡ storesOf (insertion 10 101 0) twoSlots
   pub right-maps : mapsOfParts (shiftBy moveUp) twoSlots ≡ replicate 8 twoPairs ++ ((slot 10 101 ∷ twoPairs) ∷ [])
   -- key first: a shown slot pairs 20 with the recording of 30, and 30 is lost
   pub wrong-pair : mapOf keyFirstCut ≡ slot 20 102 ∷ slot 20 103 ∷ []
   pub lost : search keyFirstCut 30 ≡ Absent Nothing
-  pub neither : OldOrNew (insertion 10 101) twoSlots keyFirstCut → ⊥
+  pub neither : OldOrNew (insertion 10 101 0) twoSlots keyFirstCut → ⊥
   pub unsound : sound keyFirstCut ≡ false
 
 pub key-first : KeyFirst
@@ -93,7 +93,7 @@ key-first = record {
   right-maps = refl;
   wrong-pair = refl;
   lost = refl;
-  neither = neither-map 30 (insertion 10 101) twoSlots keyFirstCut refl refl refl;
+  neither = neither-map 30 (insertion 10 101 0) twoSlots keyFirstCut refl refl refl;
   unsound = refl;
 }
 
@@ -124,12 +124,12 @@ trailing = set (apply (take 66 (storesOf nextKey fullLeaf)) fullLeaf) (pointerWo
 pub record FirstKey : Type 0 where
   -- no key read as 0: the search for 50 leaves A for the empty B
   pub emptied-settled : settled emptied ≡ true
-  pub finds-fifty : search emptied 50 ≡ Found 105
+  pub finds-fifty : search emptied 50 ≡ Found 105 0
   pub misses-fifty : searchView (byFirstKey 0 (view emptied)) 50 ≡ Absent Nothing
   -- no key read as the largest: the search for 60 stays in A and finds what the map does not have
   pub trailing-sound : sound trailing ≡ true
   pub sixty-absent : search trailing 60 ≡ Absent Nothing
-  pub finds-sixty : searchView (byFirstKey MARK (view trailing)) 60 ≡ Found 106
+  pub finds-sixty : searchView (byFirstKey MARK (view trailing)) 60 ≡ Found 106 0
 
 pub first-key : FirstKey
 unfolding everything afterCalls insertTens deleteTens fullLeaf byFirstKey emptied trailing
@@ -151,14 +151,14 @@ hidingByKeys t = record { nodes = nodes t; root = root t; node = λ (i : ℕ). s
 
 -- a shift in that was cut after its second store: slot 2 has the pointer of slot 1, and the key of the deleted pair
 abbrev pub shiftCut : Words
-shiftCut = apply (take 2 (storesOf (insertion 10 101) twoSlots)) twoSlots
+shiftCut = apply (take 2 (storesOf (insertion 10 101 0) twoSlots)) twoSlots
 
 pub record EqualKeys : Type 0 where
   pub right-map : mapOf shiftCut ≡ twoPairs
   pub right-answer : search shiftCut 40 ≡ Absent Nothing
   -- the deleted code 40 leads to its neighbour's recording
   pub wrong-map : mapping (hidingByKeys shiftCut) ≡ twoPairs ++ (slot 40 103 ∷ [])
-  pub wrong-answer : searchView (hidingByKeys shiftCut) 40 ≡ Found 103
+  pub wrong-answer : searchView (hidingByKeys shiftCut) 40 ≡ Found 103 0
 
 pub equal-keys : EqualKeys
 unfolding everything afterCalls insertTens deleteTens twoSlots shownAfter shownByKeys hidingByKeys

@@ -10,7 +10,7 @@ use borrow.Author.Tests.{eqb-true, eqb-false, eq-eqb, ne-eqb}
 use Rattle.model.specs.Table.{Words}
 use Rattle.model.specs.Reached.{mapOf}
 use Rattle.model.specs.SoundTest.{sound}
-use Rattle.model.specs.Writes.{Call, insertion, deletion, repair, repaired}
+use Rattle.model.specs.Writes.{Call, insertion, deletion, classChange, repair, repaired}
 use Rattle.model.specs.Refusals.{parentFull, Test, test, firstNumber, testsFrom5, elevenIn, tenIn, refusal}
 use Rattle.model.specs.Ledger.{Ledger, fedOf, ledgerRefusal}
 use Rattle.tree_laws.proofs.Levels.{sound-header}
@@ -60,8 +60,9 @@ refed-first (c ∷ cs) = refed-one (c .holds) (c .number) (firstNumber cs) (λ f
 ledger-number : (x : Call) (words : ℕ) (twelve eleven ten : Bool) (ps : Ledger)
     → (let n = firstNumber (testsFrom5 x words twelve eleven ten ps) in ledgerRefusal x words (fedOf n) ps ≡ n)
 unfolding ledgerRefusal
-ledger-number (insertion k r) words twelve eleven ten ps = refed-first (testsFrom5 (insertion k r) words twelve eleven ten ps)
+ledger-number (insertion k r c) words twelve eleven ten ps = refed-first (testsFrom5 (insertion k r c) words twelve eleven ten ps)
 ledger-number (deletion k) words twelve eleven ten ps = refed-first (testsFrom5 (deletion k) words twelve eleven ten ps)
+ledger-number (classChange k c) words twelve eleven ten ps = refed-first (testsFrom5 (classChange k c) words twelve eleven ten ps)
 ledger-number repair words twelve eleven ten ps = refed-first (testsFrom5 repair words twelve eleven ten ps)
 
 -- the same number as in the ledger
@@ -95,16 +96,19 @@ alone true e = refl
 alone false e = e
 
 pub only-twelve : (x : Call) (words : ℕ) (t : Words) → sound t ≡ true → refusal x words t ≡ 12 → parentFull t ≡ true
-only-twelve (insertion k r) words t fine e = alone _ (number-holds 12 (insertion k r) words t fine (omega arith) e)
+only-twelve (insertion k r c) words t fine e = alone _ (number-holds 12 (insertion k r c) words t fine (omega arith) e)
 only-twelve (deletion k) words t fine e = alone _ (number-holds 12 (deletion k) words t fine (omega arith) e)
+only-twelve (classChange k c) words t fine e = alone _ (number-holds 12 (classChange k c) words t fine (omega arith) e)
 only-twelve repair words t fine e = alone _ (number-holds 12 repair words t fine (omega arith) e)
 
 pub only-eleven : (x : Call) (words : ℕ) (t : Words) → sound t ≡ true → refusal x words t ≡ 11 → elevenIn x (repaired t) ≡ true
-only-eleven (insertion k r) words t fine e = alone _ (number-holds 11 (insertion k r) words t fine (omega arith) e)
+only-eleven (insertion k r c) words t fine e = alone _ (number-holds 11 (insertion k r c) words t fine (omega arith) e)
 only-eleven (deletion k) words t fine e = number-holds 11 (deletion k) words t fine (omega arith) e
+only-eleven (classChange k c) words t fine e = number-holds 11 (classChange k c) words t fine (omega arith) e
 only-eleven repair words t fine e = number-holds 11 repair words t fine (omega arith) e
 
 pub only-ten : (x : Call) (words : ℕ) (t : Words) → sound t ≡ true → refusal x words t ≡ 10 → tenIn x (repaired t) ≡ true
-only-ten (insertion k r) words t fine e = alone _ (number-holds 10 (insertion k r) words t fine (omega arith) e)
+only-ten (insertion k r c) words t fine e = alone _ (number-holds 10 (insertion k r c) words t fine (omega arith) e)
 only-ten (deletion k) words t fine e = number-holds 10 (deletion k) words t fine (omega arith) e
+only-ten (classChange k c) words t fine e = number-holds 10 (classChange k c) words t fine (omega arith) e
 only-ten repair words t fine e = number-holds 10 repair words t fine (omega arith) e

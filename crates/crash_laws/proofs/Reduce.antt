@@ -20,7 +20,7 @@ use Rattle.model.specs.SoundTest.{sound}
 use Rattle.model.specs.Sound.{Settled}
 use Rattle.model.specs.Orders.{Store, apply, orders, storeCount, flushCount, listWith, carryNumber, carriedOut}
 use Rattle.model.specs.Cuts.{CutImage}
-use Rattle.model.specs.Writes.{Call, insertion, deletion, repair, storesOf, repaired}
+use Rattle.model.specs.Writes.{Call, insertion, deletion, classChange, repair, storesOf, repaired}
 use Rattle.model.specs.Refusals.{refusal, unlessRefused, ordersOf, written, writtenNumber, ordersAnswered, tableAfter, listAfter}
 use Rattle.model.specs.Ledger.{Ledger, change, fedOf, ledgerRefusal, End, cutAfter, taken, feed}
 use Rattle.model.specs.Demand3.{Fate, whole, cut, Event, History, State, numberOf, answered, listOf, afterFate, step, runAll, FateMay, May, endOf, ledgerAfter, Agrees, Completed, Carried, Keeps, Right, Kept, Demand3}
@@ -108,8 +108,9 @@ record Inv (s : State) (ps : Ledger) : Type 0 where
   maps : mapOf (s .working) ≡ ps
 
 map-kept : (x : Call) (s s′ : State) (words fed : ℕ) (end : End) (choice : Bool) (ps : Ledger) → Inv s ps → Inv s′ (feed x words fed end choice ps) → Keeps x s s′
-map-kept (insertion k r) s s′ words fed end choice ps a b = tt
+map-kept (insertion k r c) s s′ words fed end choice ps a b = tt
 map-kept (deletion k) s s′ words fed end choice ps a b = tt
+map-kept (classChange k c) s s′ words fed end choice ps a b = tt
 map-kept repair s s′ words fed end choice ps a b =
     let q : mapOf (s′ .working) ≡ mapOf (s .working) = b .maps ∙ repair-feeds words fed end choice ps ∙ sym (a .maps) in
     (rw (a .both, b .both) q, q)

@@ -50,11 +50,11 @@ module _ {words : ℕ} {t : Words} {x : said.Leftover} {n : ℕ} (p : Passed wor
   pub run-later : {parent : ℕ} {run : Run} → parent ≡ parentOf (meant x) → run ≡ fullRun t k parent → run ≡ runOf (repaired t) k
   run-later b e = e ∙ ap (fullRun t k) b ∙ run-judged t (meant x) k (p .found .is-sound) (p .found .leftover-is)
 
-  number-is : (r : ℕ) → numberFor t k r (runOf (repaired t) k) ≡ refusal (insertion k r) words t
+  number-is : (r c : ℕ) → numberFor t k r c (runOf (repaired t) k) ≡ refusal (insertion k r c) words t
   unfolding numberFor tooHigh tooFew
-  number-is r =
+  number-is r c =
       let v = repaired-view t (p .found .is-sound) in
-      sym (ready-number words t (insertion k r) x n p ∙ rw (v .height, v .unreachable))
+      sym (ready-number words t (insertion k r c) x n p ∙ rw (v .height, v .unreachable))
 
-  pub insert-number : (r : ℕ) {parent : ℕ} {run : Run} {m : ℕ} → parent ≡ parentOf (meant x) → run ≡ fullRun t k parent → m ≡ numberFor t k r run → refusal (insertion k r) words t ≡ m
-  insert-number r b e q = sym (q ∙ ap (numberFor t k r) (run-later b e) ∙ number-is r)
+  pub insert-number : (r c : ℕ) {parent : ℕ} {run : Run} {m : ℕ} → parent ≡ parentOf (meant x) → run ≡ fullRun t k parent → m ≡ numberFor t k r c run → refusal (insertion k r c) words t ≡ m
+  insert-number r c b e q = sym (q ∙ ap (numberFor t k r c) (run-later b e) ∙ number-is r c)

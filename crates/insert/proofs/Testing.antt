@@ -1,14 +1,13 @@
 -- The tests of an insertion from 6 on, one by one.
-use mathlib.Core.Path.{_≡_, ap, sym, _∙_}
-use mathlib.Core.Logic.{_≢_}
-use mathlib.Core.Bool.{Bool, true, false, cond, _&&_}
+use mathlib.Core.Path.{_≡_, refl, ap, sym, _∙_}
+use mathlib.Core.Bool.{Bool, true, false, cond, not, _&&_}
 use Prim.Native.Nat.{ℕ, _+_}
 use native.Mathlib.Omega.{arith}
 use native.Mathlib.Nat.{add-zero}
 use lib.Dec.{eqb, leb, ltb}
-use lib.ListN.{length, drop}
-use borrow.Author.Tests.{eq-eqb, ne-eqb, leb-true, le-leb, ltb-true, lt-ltb}
-use Rattle.model.specs.Table.{MARK, Words, root}
+use lib.ListN.{length}
+use borrow.Author.Tests.{leb-true, le-leb, ltb-true, lt-ltb}
+use Rattle.model.specs.Table.{Words, root}
 use Rattle.model.specs.Slots.{view, height}
 use Rattle.model.specs.Reached.{mapOf}
 use Rattle.model.specs.SoundTest.{sound}
@@ -59,17 +58,14 @@ test-holds b n rest e = rw e
 pub test-passed : (b : Bool) (n rest : ℕ) → b ≡ false → cond b n rest ≡ rest
 test-passed b n rest e = rw e
 
--- 6 is two tests in the code
-module _ (t : Words) (k r : ℕ) (run : Run) where
-  pub six-zero : r ≡ 0 → 6 ≡ numberFor t k r run
-  unfolding numberFor
-  six-zero z = rw (eq-eqb r 0 z, numberFor)
+-- all of them
+pub number-first : (t : Words) (k r c : ℕ) (run : Run) → numberFor t k r c run ≡ firstNumber (mapTests (insertion k r c) (highRun t run) (fewFor (length (unreachable t)) run) (mapOf t))
+unfolding numberFor
+number-first t k r c run = refl
 
-  pub six-mark : r ≢ 0 → r ≡ MARK → 6 ≡ numberFor t k r run
-  unfolding numberFor
-  six-mark z m = rw (ne-eqb r 0 z, eq-eqb r MARK m, numberFor)
+-- a negated test
+pub test-not : (a b : Bool) (n rest : ℕ) → a ≡ b → not a ≡ true → n ≡ cond (not b) n rest
+test-not a b n rest e h = rw (← e, h)
 
-  pub not-six : r ≢ 0 → r ≢ MARK
-      → numberFor t k r run ≡ firstNumber (drop 1 (mapTests (insertion k r) (highRun t run) (fewFor (length (unreachable t)) run) (mapOf t)))
-  unfolding numberFor
-  not-six z m = rw (ne-eqb r 0 z, ne-eqb r MARK m, numberFor)
+pub test-so : (a b : Bool) (n rest : ℕ) → a ≡ b → not a ≡ false → cond (not b) n rest ≡ rest
+test-so a b n rest e h = rw (← e, h)

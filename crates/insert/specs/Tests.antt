@@ -30,5 +30,5 @@ abbrev pub fewFor : (free : ℕ) → Run → Bool
 fewFor free run = ltb free (run .length + cond (run .root) 1 0)
 
 -- the number of the first test from 6 on that holds; 0 where none does
-unfoldable pub numberFor : Words → (k r : ℕ) → Run → ℕ
-numberFor t k r run = firstNumber (mapTests (insertion k r) (highRun t run) (fewFor (length (unreachable t)) run) (mapOf t))
+unfoldable pub numberFor : Words → (k r c : ℕ) → Run → ℕ
+numberFor t k r c run = firstNumber (mapTests (insertion k r c) (highRun t run) (fewFor (length (unreachable t)) run) (mapOf t))

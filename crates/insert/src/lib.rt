@@ -1,6 +1,5 @@
 // The insertion call: repair, a new root if the run of full nodes includes the root, the splits of the run, the pair shifted in.
 use leaves::Hit;
-use model::MARK;
 use model::Written;
 use orders::Pen;
 use reach::Run;
@@ -11,7 +10,7 @@ ghost use mathlib.Core.Bool.{true, false};
 ghost use Prim.Native.Nat.{_+_};
 ghost use lib.ListN.{length};
 ghost use Rattle.model.specs.Table.{headerOk};
-ghost use Rattle.model.specs.Slots.{view};
+ghost use Rattle.model.specs.Slots.{pointerOf, view};
 ghost use Rattle.model.specs.Reached.{mapOf, reached};
 ghost use Rattle.model.specs.SoundTest.{settled, sound};
 ghost use Rattle.model.specs.Writes.{rootInRun, splits, rootStores, insertSettled, insertion};
@@ -74,16 +73,16 @@ fn too_few(free: u64, run: Run) -> bool
 }
 
 // The number of the first test from 6 on that holds; 0 where none does.
-fn number(table: &[u64], key: u64, recording: u64, run: Run, count: u64) -> u8
+fn number(table: &[u64], key: u64, recording: u64, access: u64, run: Run, count: u64) -> u8
     requires { ⌜ sound (now table) ≡ true ⌝ }
     requires { ⌜ count ≡ length (reached (view (now table))) ⌝ }
-    ensures { λ r. ⌜ r ≡ numberFor (now (table .entry)) key recording run ⌝ }
+    ensures { λ r. ⌜ r ≡ numberFor (now (table .entry)) key recording access run ⌝ }
 {
-    if recording == 0 {
+    if !pointer::recording_ok(recording) {
         return 6;
     }
-    if recording == MARK {
-        return 6;
+    if !pointer::class_ok(access) {
+        return 14;
     }
     if write::has_key(table, key) {
         return 7;
@@ -150,37 +149,46 @@ fn split_run(table: &mut [u64], list: &mut [u64], pen: Pen, key: u64, count: u64
 }
 
 // Inserts the pair into a settled table that has room for it.
-fn enter(table: &mut [u64], list: &mut [u64], pen: Pen, key: u64, recording: u64, run: Run) -> Pen
+fn enter(
+    table: &mut [u64],
+    list: &mut [u64],
+    pen: Pen,
+    key: u64,
+    recording: u64,
+    access: u64,
+    run: Run,
+) -> Pen
     requires { ⌜ settled (now table) ≡ true ⌝ }
-    requires { ⌜ Enters key recording (now table) ⌝ }
+    requires { ⌜ Enters key recording access (now table) ⌝ }
     requires { ⌜ run ≡ runOf (now table) key ⌝ }
-    requires { ⌜ Room (insertSettled (now table) key recording) (desk (now table) (now list) pen) ⌝ }
+    requires { ⌜ Room (insertSettled (now table) key (pointerOf recording access)) (desk (now table) (now list) pen) ⌝ }
     ensures { λ r. ⌜ desk (now (table .exit)) (now (list .exit)) r
-        ≡ storedAll (insertSettled (now (table .entry)) key recording) (desk (now (table .entry)) (now (list .entry)) pen) ⌝ }
+        ≡ storedAll (insertSettled (now (table .entry)) key (pointerOf recording access)) (desk (now (table .entry)) (now (list .entry)) pen) ⌝ }
 {
     let grown = grow(table, list, pen, key, run.root);
     let split = split_run(table, list, grown, key, run.length);
     let leaf = reach::standing(table, 0, key);
-    shift::shift_in(table, list, split, leaf, key, recording)
+    let x = pointer::join(recording, access);
+    shift::shift_in(table, list, split, leaf, key, x)
 }
 
 // The insertion call.
-pub fn insert(table: &mut [u64], list: &mut [u64], key: u64, recording: u64) -> Written
-    ensures { λ r. ⌜ r ≡ written (insertion key recording) (length (now (list .entry))) (now (table .entry)) ⌝ }
-    ensures { λ r. ⌜ now (table .exit) ≡ tableAfter (insertion key recording) (length (now (list .entry))) (now (table .entry)) ⌝ }
-    ensures { λ r. ⌜ now (list .exit) ≡ listAfter (insertion key recording) (now (list .entry)) (now (table .entry)) ⌝ }
+pub fn insert(table: &mut [u64], list: &mut [u64], key: u64, recording: u64, access: u64) -> Written
+    ensures { λ r. ⌜ r ≡ written (insertion key recording access) (length (now (list .entry))) (now (table .entry)) ⌝ }
+    ensures { λ r. ⌜ now (table .exit) ≡ tableAfter (insertion key recording access) (length (now (list .entry))) (now (table .entry)) ⌝ }
+    ensures { λ r. ⌜ now (list .exit) ≡ listAfter (insertion key recording access) (now (list .entry)) (now (table .entry)) ⌝ }
 {
     let judgement = write::judge(table, list.len());
     match judgement {
         Judged::Refused(n) => Written::Refused(n),
         Judged::Ready { left, reached } => {
             let run = reach::full_run(table, key, parent_of(left));
-            let n = number(table, key, recording, run, reached);
+            let n = number(table, key, recording, access, run, reached);
             if n != 0 {
                 return Written::Refused(n);
             }
             let mended = write::mend(table, list, write::begin(), left);
-            let entered = enter(table, list, mended, key, recording, run);
+            let entered = enter(table, list, mended, key, recording, access, run);
             let done = orders::finish(list, entered);
             Written::Done {
                 stores: done.stores,

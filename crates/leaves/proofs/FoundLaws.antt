@@ -4,12 +4,12 @@ use mathlib.Core.Bool.{Bool, true, false, _||_, or-assoc}
 use mathlib.Core.List.{List, [], _∷_, _++_, map}
 use Prim.Native.Nat.{ℕ, suc}
 use lib.Dec.{eqb}
-use borrow.Author.Tests.{eqb-true, eqb-false, eq-eqb, ne-eqb}
 use Rattle.model.specs.Table.{Words, nodes}
-use Rattle.model.specs.Slots.{Slot, View, view}
-use Rattle.model.specs.Reached.{flat, kept, recording, mapping, mapOf}
+use Rattle.model.specs.Slots.{Slot, recording, View, view}
+use Rattle.model.specs.Reached.{flat, kept, mapping, mapOf}
 use Rattle.model.specs.SoundTest.{elem, sound}
 use Rattle.model.specs.Refusals.{hasRecording}
+use Rattle.list_laws.proofs.Tools.{eqb-sym}
 use Rattle.tree_laws.proofs.Levels.{sound-parts}
 use Rattle.walk_laws.specs.Chain.{along, firstLeaf, chain}
 use Rattle.walk_laws.proofs.WalkLaw.{InOrder, sound-in-order}
@@ -32,21 +32,14 @@ recordings-cons v n ns = map-append (kept v n) (flat (kept v) ns)
 
 -- ---- the finder finds a number exactly if it is there
 
-eqb-turn : (x y : ℕ) → eqb x y ≡ eqb y x
-eqb-turn x y = go (eqb x y) refl
-  where
-    go : (b : Bool) → eqb x y ≡ b → eqb x y ≡ eqb y x
-    go true e = e ∙ sym (eq-eqb y x (sym (eqb-true x y e)))
-    go false e = e ∙ sym (ne-eqb y x (λ q. eqb-false x y e (sym q)))
-
 hit-among : (r n i : ℕ) (xs : List ℕ) (later : Hit) → isHit (hitAmong r n i xs later) ≡ (elem r xs || isHit later)
 unfolding hitAmong elem
 hit-among r n i [] later = refl
 hit-among r n i (x ∷ xs) later = go (eqb x r) refl (hit-among r n (suc i) xs later)
   where
     go : (b : Bool) → eqb x r ≡ b → isHit (hitAmong r n (suc i) xs later) ≡ (elem r xs || isHit later) → isHit (hitAmong r n i (x ∷ xs) later) ≡ (elem r (x ∷ xs) || isHit later)
-    go true e ih = rw (e, hitAmong) (rw (eqb-turn r x, e))
-    go false e ih = rw (e, hitAmong) (ih ∙ rw (eqb-turn r x, e))
+    go true e ih = rw (e, hitAmong) (rw (eqb-sym r x, e))
+    go false e ih = rw (e, hitAmong) (ih ∙ rw (eqb-sym r x, e))
 
 pub hit-elem : (v : View) (r : ℕ) (ns : List ℕ) → isHit (firstHit v r ns) ≡ elem r (recordings v ns)
 unfolding firstHit
@@ -70,14 +63,18 @@ hit-chain t first n r h e q i = i ∙ ap (firstHit (view t) r) (whole-is t first
 
 -- ---- on a table whose walk was not refused
 
-pub recordings-mapping : (v : View) → InOrder v → recordings v (chain v) ≡ map recording (mapping v)
-unfolding recordings mapping
-recordings-mapping v o = ap (λ (ns : List ℕ). map recording (flat (kept v) ns)) (chain-leaves v o)
+pub chain-mapping : (v : View) → InOrder v → flat (kept v) (chain v) ≡ mapping v
+unfolding mapping
+chain-mapping v o = ap (flat (kept v)) (chain-leaves v o)
+
+recordings-mapping : (v : View) → InOrder v → recordings v (chain v) ≡ map recording (mapping v)
+unfolding recordings
+recordings-mapping v o = ap (map recording) (chain-mapping v o)
 
 elem-recording : (r : ℕ) (ss : List Slot) → elem r (map recording ss) ≡ hasRecording r ss
 unfolding elem hasRecording
 elem-recording r [] = refl
-elem-recording r (s ∷ ss) = ap (λ (b : Bool). b || elem r (map recording ss)) (eqb-turn r (recording s)) ∙ ap (λ (b : Bool). eqb (recording s) r || b) (elem-recording r ss)
+elem-recording r (s ∷ ss) = ap (λ (b : Bool). b || elem r (map recording ss)) (eqb-sym r (recording s)) ∙ ap (λ (b : Bool). eqb (recording s) r || b) (elem-recording r ss)
 
 -- the finder finds a number exactly if the map has it
 hit-recording : (v : View) (r : ℕ) → InOrder v → isHit (hitIn v r) ≡ hasRecording r (mapping v)

@@ -9,8 +9,8 @@ use lib.Dec.{leb}
 use lib.ListN.{getD}
 use borrow.Author.Tests.{eq-eqb, ne-eqb, le-leb, lt-leb}
 use Rattle.model.specs.Table.{Words, root}
-use Rattle.model.specs.Slots.{View, nodeView, view, height}
-use Rattle.model.specs.Reached.{pointers, kept, recording}
+use Rattle.model.specs.Slots.{recordingOf, recording, View, nodeView, view, height}
+use Rattle.model.specs.Reached.{kept}
 use Rattle.model.specs.SoundTest.{elem}
 use Rattle.view_laws.proofs.NodeViews.{levelOf}
 use Rattle.node.specs.Word.{wordOf}
@@ -21,10 +21,10 @@ use Rattle.walk_laws.proofs.ChainLaw.{along-none, along-more}
 use Rattle.leaves.specs.declared.Hit.{Hit}
 use Rattle.leaves.specs.declared.Hit.the-variants.{At, Nowhere}
 use Rattle.slots.specs.declared.Ways.{Ways}
-use Rattle.slots.specs.Gathered.{span, slotsIn, waysFrom, pointersFrom}
-use Rattle.leaves.specs.Hits.{numbersFrom, hitAmong, firstHit, hitAlong}
+use Rattle.slots.specs.Gathered.{span, slotsIn, waysFrom}
+use Rattle.leaves.specs.Hits.{numbersFrom, recordingsFrom, hitAmong, firstHit, hitAlong}
 
--- ---- the numbers of an array
+-- ---- the recording numbers of an array of pointers
 
 numbers-none : (ps : List ℕ) (i : ℕ) → numbersFrom ps i 0 ≡ []
 unfolding numbersFrom
@@ -33,29 +33,32 @@ numbers-none ps i = refl
 pub numbers-end : (ps : List ℕ) (i m : ℕ) → m ≤ i → numbersFrom ps i (m - i) ≡ []
 numbers-end ps i m h = let z : m - i ≡ 0 = omega arith in ap (numbersFrom ps i) z ∙ numbers-none ps i
 
-pub numbers-next : (ps : List ℕ) (i m : ℕ) → i < m → numbersFrom ps i (m - i) ≡ getD ps i 0 ∷ numbersFrom ps (i + 1) (m - (i + 1))
+pub numbers-next : (ps : List ℕ) (i m : ℕ) → i < m → numbersFrom ps i (m - i) ≡ recordingOf (getD ps i 0) ∷ numbersFrom ps (i + 1) (m - (i + 1))
 unfolding numbersFrom
 numbers-next ps i m h =
     let z : m - i ≡ suc (m - (i + 1)) = omega arith in
-    ap (numbersFrom ps i) z ∙ ap (λ (j : ℕ). getD ps i 0 ∷ numbersFrom ps j (m - (i + 1))) (sym (add-one i))
+    ap (numbersFrom ps i) z ∙ ap (λ (j : ℕ). recordingOf (getD ps i 0) ∷ numbersFrom ps j (m - (i + 1))) (sym (add-one i))
 
-span-numbers : (ks ps : List ℕ) (i m : ℕ) → pointers (span ks ps i m) ≡ numbersFrom ps i m
+span-numbers : (ks ps : List ℕ) (i m : ℕ) → map recording (span ks ps i m) ≡ numbersFrom ps i m
 unfolding span numbersFrom
 span-numbers ks ps i zero = refl
-span-numbers ks ps i (suc m) = ap (λ (l : List ℕ). getD ps i 0 ∷ l) (span-numbers ks ps (suc i) m)
+span-numbers ks ps i (suc m) = ap (λ (l : List ℕ). recordingOf (getD ps i 0) ∷ l) (span-numbers ks ps (suc i) m)
 
-pub ways-numbers : (w : Ways) (i : ℕ) → pointersFrom w i ≡ numbersFrom (w .pointers) i (w .count - i)
+pub ways-numbers : (w : Ways) (i : ℕ) → recordingsFrom w i ≡ numbersFrom (w .pointers) i (w .count - i)
 unfolding waysFrom
 ways-numbers w i = span-numbers (w .keys) (w .pointers) i (w .count - i)
 
 -- the ways of a leaf but the first are its slots of the map
-pub kept-numbers : (v : View) (n : ℕ) (w : Ways) → slotsIn w ≡ ways v n → numbersFrom (w .pointers) 1 (w .count - 1) ≡ map recording (kept v n)
-unfolding numbersFrom
-kept-numbers v n w e = go (w .count) (sym (span-numbers (w .keys) (w .pointers) 0 (w .count)) ∙ ap pointers e)
+pub kept-ways : (v : View) (n : ℕ) (w : Ways) → slotsIn w ≡ ways v n → waysFrom w 1 ≡ kept v n
+unfolding waysFrom span
+kept-ways v n w e = go (w .count) e
   where
-    go : (c : ℕ) → numbersFrom (w .pointers) 0 c ≡ v .node n .left ∷ pointers (kept v n) → numbersFrom (w .pointers) 1 (c - 1) ≡ map recording (kept v n)
+    go : (c : ℕ) → span (w .keys) (w .pointers) 0 c ≡ ways v n → span (w .keys) (w .pointers) 1 (c - 1) ≡ kept v n
     go zero q = ap tail q
-    go (suc c) q = let z : suc c - 1 ≡ c = omega arith in ap (numbersFrom (w .pointers) 1) z ∙ ap tail q
+    go (suc c) q = let z : suc c - 1 ≡ c = omega arith in ap (span (w .keys) (w .pointers) 1) z ∙ ap tail q
+
+pub kept-numbers : (v : View) (n : ℕ) (w : Ways) → slotsIn w ≡ ways v n → numbersFrom (w .pointers) 1 (w .count - 1) ≡ map recording (kept v n)
+kept-numbers v n w e = sym (ways-numbers w 1) ∙ ap (map recording) (kept-ways v n w e)
 
 -- ---- is a number among those of an array
 
@@ -64,13 +67,13 @@ module _ (x : ℕ) (ps : List ℕ) (j m : ℕ) where
   unfolding elem
   elem-end h = ap (elem x) (numbers-end ps j m h)
 
-  pub elem-here : j < m → getD ps j 0 ≡ x → elem x (numbersFrom ps j (m - j)) ≡ true
+  pub elem-here : j < m → recordingOf (getD ps j 0) ≡ x → elem x (numbersFrom ps j (m - j)) ≡ true
   unfolding elem
-  elem-here h e = ap (elem x) (numbers-next ps j m h) ∙ rw (eq-eqb x (getD ps j 0) (sym e))
+  elem-here h e = ap (elem x) (numbers-next ps j m h) ∙ rw (eq-eqb x (recordingOf (getD ps j 0)) (sym e))
 
-  pub elem-next : j < m → (getD ps j 0 ≡ x → ⊥) → elem x (numbersFrom ps (j + 1) (m - (j + 1))) ≡ elem x (numbersFrom ps j (m - j))
+  pub elem-next : j < m → (recordingOf (getD ps j 0) ≡ x → ⊥) → elem x (numbersFrom ps (j + 1) (m - (j + 1))) ≡ elem x (numbersFrom ps j (m - j))
   unfolding elem
-  elem-next h e = sym (ap (elem x) (numbers-next ps j m h) ∙ rw (ne-eqb x (getD ps j 0) (λ q. e (sym q))))
+  elem-next h e = sym (ap (elem x) (numbers-next ps j m h) ∙ rw (ne-eqb x (recordingOf (getD ps j 0)) (λ q. e (sym q))))
 
 -- ---- the leftmost leaf
 
@@ -141,13 +144,13 @@ module _ {t : Words} {r : ℕ} {h : Hit} {leaf left m : ℕ} {ps : List ℕ} {i 
   abbrev later : Hit
   later = hitAlong (view t) (left - 1) (nodeView t leaf .sibling) r
 
-  pub hit-here : i + 1 < m → getD ps (i + 1) 0 ≡ r → At leaf i ≡ h
+  pub hit-here : i + 1 < m → recordingOf (getD ps (i + 1) 0) ≡ r → At leaf i ≡ h
   unfolding hitAmong
   hit-here l e =
-      sym (ap (λ (xs : List ℕ). hitAmong r leaf i xs later) (numbers-next ps (i + 1) m l) ∙ rw (eq-eqb (getD ps (i + 1) 0) r e, hitAmong))
+      sym (ap (λ (xs : List ℕ). hitAmong r leaf i xs later) (numbers-next ps (i + 1) m l) ∙ rw (eq-eqb (recordingOf (getD ps (i + 1) 0)) r e, hitAmong))
       ∙ k .comes-to
 
-  pub hit-next : i + 1 < m → (getD ps (i + 1) 0 ≡ r → ⊥) → Within t r h leaf left m ps (i + 1)
+  pub hit-next : i + 1 < m → (recordingOf (getD ps (i + 1) 0) ≡ r → ⊥) → Within t r h leaf left m ps (i + 1)
   unfolding hitAmong
   hit-next l e =
       record {
@@ -155,7 +158,7 @@ module _ {t : Words} {r : ℕ} {h : Hit} {leaf left m : ℕ} {ps : List ℕ} {i 
         low = omega arith;
         comes-to =
             ap (λ (c : ℕ). hitAmong r leaf c (numbersFrom ps (i + 1 + 1) (m - (i + 1 + 1))) later) (add-one i)
-            ∙ sym (ap (λ (xs : List ℕ). hitAmong r leaf i xs later) (numbers-next ps (i + 1) m l) ∙ rw (ne-eqb (getD ps (i + 1) 0) r e, hitAmong))
+            ∙ sym (ap (λ (xs : List ℕ). hitAmong r leaf i xs later) (numbers-next ps (i + 1) m l) ∙ rw (ne-eqb (recordingOf (getD ps (i + 1) 0)) r e, hitAmong))
             ∙ k .comes-to;
       }
 

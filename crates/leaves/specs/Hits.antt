@@ -4,9 +4,11 @@ use mathlib.Core.List.{List, [], _∷_, map}
 use Prim.Native.Nat.{ℕ, zero, suc}
 use lib.Dec.{eqb}
 use lib.ListN.{getD}
-use Rattle.model.specs.Slots.{View}
-use Rattle.model.specs.Reached.{flat, kept, recording}
+use Rattle.model.specs.Slots.{recordingOf, recording, View}
+use Rattle.model.specs.Reached.{flat, kept}
 use Rattle.walk_laws.specs.Chain.{along, chain}
+use Rattle.slots.specs.declared.Ways.{Ways}
+use Rattle.slots.specs.Gathered.{waysFrom}
 use Rattle.leaves.specs.declared.Hit.{Hit}
 use Rattle.leaves.specs.declared.Hit.the-variants.{At, Nowhere}
 
@@ -14,10 +16,14 @@ use Rattle.leaves.specs.declared.Hit.the-variants.{At, Nowhere}
 unfoldable pub recordings : View → List ℕ → List ℕ
 recordings v ns = map recording (flat (kept v) ns)
 
--- the numbers i, i + 1 .. of an array, m of them
+-- the recording numbers of the pointers i, i + 1 .. of an array, m of them
 unfoldable pub numbersFrom : List ℕ → ℕ → ℕ → List ℕ
 numbersFrom ps i zero = []
-numbersFrom ps i (suc m) = getD ps i 0 ∷ numbersFrom ps (suc i) m
+numbersFrom ps i (suc m) = recordingOf (getD ps i 0) ∷ numbersFrom ps (suc i) m
+
+-- of the ways from i on
+abbrev pub recordingsFrom : Ways → ℕ → List ℕ
+recordingsFrom w i = map recording (waysFrom w i)
 
 -- the first r among numbers of leaf n, of which the first has place i; else what comes after them
 unfoldable pub hitAmong : ℕ → ℕ → ℕ → List ℕ → Hit → Hit

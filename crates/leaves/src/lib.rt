@@ -72,7 +72,7 @@ pub fn find_from(table: &[u64], first: u64, most: u64, recording: u64) -> Hit
         let pointers = w.pointers;
         slot = 0;
         while slot + 1 < count {
-            if pointers[slot + 1] == recording {
+            if pointer::recording(pointers[slot + 1]) == recording {
                 break 'leaves;
             }
             slot += 1;

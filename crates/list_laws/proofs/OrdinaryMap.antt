@@ -1,16 +1,17 @@
--- Entering and leaving are those of an ordinary map: one key changes, every other key keeps its slot.
+-- Entering, leaving and a new class are those of an ordinary map: one key changes, every other key keeps its slot.
 use mathlib.Core.Path.{_≡_, refl, sym, ap, _∙_}
 use mathlib.Core.Bool.{Bool, true, false, cond}
-use mathlib.Core.List.{List, [], _∷_}
-use mathlib.Core.Option.{Option, none, some}
+use mathlib.Core.List.{List, [], _∷_, map}
+use mathlib.Core.Option.{Option, none, some, Option·map}
 use Prim.Native.Nat.{ℕ}
 use lib.Dec.{eqb, ltb}
 use borrow.Author.Tests.{eqb-true, eqb-false, ne-eqb}
-use Rattle.model.specs.Slots.{Slot, slot}
+use Rattle.model.specs.Slots.{Slot, slot, withClass, recording}
 use Rattle.model.specs.Search.{firstWith}
 use Rattle.model.specs.Refusals.{hasKey}
-use Rattle.model.specs.Ledger.{enter, leave}
-use Rattle.list_laws.proofs.Tools.{or-false-iff, first-nil, first-here, first-past}
+use Rattle.model.specs.Ledger.{enter, leave, reclass}
+use Rattle.list_laws.proofs.Tools.{eqb-sym, or-false-iff, first-nil, first-here, first-past}
+use Rattle.list_laws.proofs.Recordings.{class-keeps}
 
 -- the slot found for j after the pair (k, r) came before ps
 front : (j k r : ℕ) (ps : List Slot) → firstWith j (slot k r ∷ ps) ≡ cond (eqb k j) (some (slot k r)) (firstWith j ps)
@@ -65,3 +66,61 @@ leave-first j k (s ∷ ps) = go (eqb (s .key) k) (eqb k j) (eqb (s .key) j) refl
     go false false false p q e ih =
         let o = eqb-false (s .key) j e in
         rw (p, q) (first-past j s (leave k ps) o ∙ ih ∙ rw q (sym (first-past j s ps o)))
+
+-- ---- another class
+
+abbrev pub withClassOf : (c : ℕ) → Slot → Slot
+withClassOf c s = slot (s .key) (withClass (s .pointer) c)
+
+-- the pair of k gets class c
+abbrev classed : (k c : ℕ) → Slot → Slot
+classed k c s = cond (eqb (s .key) k) (withClassOf c s) s
+
+classed-key : (k c : ℕ) (s : Slot) → classed k c s .key ≡ s .key
+classed-key k c s = go (eqb (s .key) k)
+  where
+    go : (b : Bool) → cond b (withClassOf c s) s .key ≡ s .key
+    go true = refl
+    go false = refl
+
+classed-recording : (k c : ℕ) (s : Slot) → recording (classed k c s) ≡ recording s
+classed-recording k c s = go (eqb (s .key) k)
+  where
+    go : (b : Bool) → recording (cond b (withClassOf c s) s) ≡ recording s
+    go true = class-keeps (s .pointer) c
+    go false = refl
+
+-- That code then has the class asked for,
+pub reclass-first : (j k c : ℕ) (ps : List Slot) → firstWith j (reclass k c ps) ≡ cond (eqb k j) (Option·map (withClassOf c) (firstWith j ps)) (firstWith j ps)
+unfolding reclass
+reclass-first j k c [] = rw (first-nil j [] tt) (same (eqb k j))
+  where
+    same : (b : Bool) → _≡_ {A = Option Slot} none (cond b none none)
+    same true = refl
+    same false = refl
+reclass-first j k c (s ∷ ps) = go (eqb (s .key) j) refl (reclass-first j k c ps)
+  where
+    here : (b : Bool) → eqb (s .key) k ≡ b → _≡_ {A = Option Slot} (some (classed k c s)) (cond b (some (withClassOf c s)) (some s))
+    here true e = rw e
+    here false e = rw e
+
+    go : (d : Bool) → eqb (s .key) j ≡ d → firstWith j (reclass k c ps) ≡ cond (eqb k j) (Option·map (withClassOf c) (firstWith j ps)) (firstWith j ps)
+        → firstWith j (reclass k c (s ∷ ps)) ≡ cond (eqb k j) (Option·map (withClassOf c) (firstWith j (s ∷ ps))) (firstWith j (s ∷ ps))
+    go true e ih =
+        let o = eqb-true (s .key) j e in
+        let q : eqb (s .key) k ≡ eqb k j = ap (λ (n : ℕ). eqb n k) o ∙ eqb-sym j k in
+        first-here j (classed k c s) (reclass k c ps) (classed-key k c s ∙ o) ∙ here (eqb (s .key) k) refl ∙ rw (q, first-here j s ps o) refl
+    go false e ih =
+        let o = eqb-false (s .key) j e in
+        first-past j (classed k c s) (reclass k c ps) (λ z. o (sym (classed-key k c s) ∙ z)) ∙ ih ∙ rw (first-past j s ps o) refl
+
+-- and nothing else in the map differs: the same keys in the same order, each with its recording.
+pub reclass-keys : (k c : ℕ) (ps : List Slot) → map (λ (s : Slot). s .key) (reclass k c ps) ≡ map (λ (s : Slot). s .key) ps
+unfolding reclass
+reclass-keys k c [] = refl
+reclass-keys k c (s ∷ ps) = rw (classed-key k c s, reclass-keys k c ps)
+
+pub reclass-recordings : (k c : ℕ) (ps : List Slot) → map recording (reclass k c ps) ≡ map recording ps
+unfolding reclass
+reclass-recordings k c [] = refl
+reclass-recordings k c (s ∷ ps) = rw (classed-recording k c s, reclass-recordings k c ps)

@@ -38,8 +38,8 @@ fn wants(w: Window, key: u64) -> bool
 }
 
 // One pair more: written where it fits whole, else noted as left.
-fn take_pair(out: &mut [u64], p: Progress, key: u64, recording: u64) -> Progress
-    ensures { λ r. ⌜ sheet (now (out .exit)) r ≡ taken (slot key recording) (sheet (now (out .entry)) p) ⌝ }
+fn take_pair(out: &mut [u64], p: Progress, key: u64, pointer: u64) -> Progress
+    ensures { λ r. ⌜ sheet (now (out .exit)) r ≡ taken (slot key pointer) (sheet (now (out .entry)) p) ⌝ }
 {
     let count = p.count;
     if out.len() / 2 <= count {
@@ -49,7 +49,7 @@ fn take_pair(out: &mut [u64], p: Progress, key: u64, recording: u64) -> Progress
         };
     }
     out[2 * count] = key;
-    out[2 * count + 1] = recording;
+    out[2 * count + 1] = pointer;
     Progress {
         count: count + 1,
         more: p.more,

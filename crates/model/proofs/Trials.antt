@@ -16,7 +16,7 @@ use Rattle.model.specs.Reached.{mapping, reached, flat}
 use Rattle.model.specs.SoundTest.{all, leftover, soundView, settledView}
 use Rattle.model.specs.Orders.{Store, apply, Order, carry, orders}
 use Rattle.model.specs.Cuts.{upToFlush, laterStores}
-use Rattle.model.specs.Writes.{Call, insertion, deletion, repair, storesOf, repairOf, numbers}
+use Rattle.model.specs.Writes.{Call, insertion, deletion, classChange, repair, storesOf, repairOf, numbers}
 use Rattle.model.specs.Refusals.{refusal}
 use Rattle.model.specs.Ledger.{change}
 use Rattle.model.proofs.Everything.{everything}
@@ -33,10 +33,10 @@ sameNext Nothing (Key b) = false
 sameNext Nothing Nothing = true
 
 abbrev pub sameAnswer : Answer → Answer → Bool
-sameAnswer (Found a) (Found b) = eqb a b
-sameAnswer (Found a) (Absent y) = false
-sameAnswer (Found a) (Refused n) = false
-sameAnswer (Absent x) (Found b) = false
+sameAnswer (Found a c) (Found b d) = eqb a b && eqb c d
+sameAnswer (Found a c) (Absent y) = false
+sameAnswer (Found a c) (Refused n) = false
+sameAnswer (Absent x) (Found b d) = false
 sameAnswer (Absent x) (Absent y) = sameNext x y
 sameAnswer (Absent x) (Refused n) = false
 sameAnswer (Refused m) y = false
@@ -58,7 +58,8 @@ abbrev pub near : ℕ → List ℕ
 near k = pred k ∷ k ∷ suc k ∷ []
 
 abbrev pub nearCall : Call → List ℕ
-nearCall (insertion k r) = near k
+nearCall (insertion k r c) = near k
+nearCall (classChange k c) = near k
 nearCall (deletion k) = near k
 nearCall repair = []
 
@@ -170,9 +171,9 @@ quickly ts e = subst (λ (look : Words → View). all (passes look) ts ≡ true)
 -- crate `trials`.
 abbrev pub fewTrials : List Trial
 fewTrials =
-    cut (oneLevel 4 []) (insertion 5 7 ∷ [])
-    ∷ done (twoLevels (11 ∷ []) [] (stale 1)) (10 ∷ 60 ∷ 110 ∷ []) (insertion 115 7 ∷ [])
-    ∷ ended (twoLevels (0 ∷ 0 ∷ 0 ∷ 0 ∷ 0 ∷ 11 ∷ 0 ∷ 0 ∷ 0 ∷ 0 ∷ 0 ∷ 0 ∷ []) (ways 2 11) (stale 3)) (insertion 1000 7 ∷ [])
+    cut (oneLevel 4 []) (insertion 5 7 0 ∷ [])
+    ∷ done (twoLevels (11 ∷ []) [] (stale 1)) (10 ∷ 60 ∷ 110 ∷ []) (insertion 115 7 0 ∷ [])
+    ∷ ended (twoLevels (0 ∷ 0 ∷ 0 ∷ 0 ∷ 0 ∷ 11 ∷ 0 ∷ 0 ∷ 0 ∷ 0 ∷ 0 ∷ 0 ∷ []) (ways 2 11) (stale 3)) (insertion 1000 7 0 ∷ [])
     ∷ done (twoLevels (1 ∷ 1 ∷ 1 ∷ []) (ways 2 2) []) (200 ∷ 400 ∷ []) (deletion 10 ∷ deletion 210 ∷ deletion 410 ∷ [])
     ∷ reaches (twoLevels (1 ∷ 1 ∷ 1 ∷ []) (ways 2 2) []) (deletion 10) (4 ∷ 1 ∷ 2 ∷ 3 ∷ [])
     ∷ reaches (twoLevels (1 ∷ 1 ∷ 1 ∷ []) (ways 2 2) []) (deletion 210) (4 ∷ 1 ∷ 3 ∷ [])

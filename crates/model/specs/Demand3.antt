@@ -1,4 +1,4 @@
--- Demand 3 as one claim over all sequences of insertions, deletions and repairs, whole or cut.
+-- Demand 3 as one claim over all sequences of insertions, deletions, class changes and repairs, whole or cut.
 use mathlib.Core.Path.{_≡_}
 use mathlib.Core.Bool.{Bool, true}
 use mathlib.Core.List.{List, [], _∷_}
@@ -11,7 +11,7 @@ use Rattle.model.specs.Reached.{mapOf}
 use Rattle.model.specs.Sound.{Settled}
 use Rattle.model.specs.Orders.{Order, carriedOut, carryNumber}
 use Rattle.model.specs.Cuts.{CutImage}
-use Rattle.model.specs.Writes.{Call, insertion, deletion, repair, repaired}
+use Rattle.model.specs.Writes.{Call, insertion, deletion, classChange, repair, repaired}
 use Rattle.model.specs.Refusals.{parentFull, elevenIn, tenIn, refusal, unlessRefused}
 use Rattle.model.specs.Refusals.{ordersOf, written, writtenNumber, ordersAnswered, tableAfter, listAfter}
 use Rattle.model.specs.Ledger.{Ledger, fedOf, ledgerRefusal, End, completed, cutAfter, feed}
@@ -90,7 +90,7 @@ ledgerAfter choose n (e ∷ h) =
 
 -- ---- what holds at the start and after each event
 
--- every search, in memory and in the working copy, answers as the ledger: found with its recording, absent exactly if it has none
+-- every search, in memory and in the working copy, answers as the ledger: found with its recording and class, absent exactly if it has none
 pub record Agrees (s : State) (ps : Ledger) : Type 0 where
   pub in-memory : (k : ℕ) → search (s .memory) k ≡ lookup k ps
   pub in-working : (k : ℕ) → search (s .working) k ≡ lookup k ps
@@ -106,8 +106,9 @@ Carried (cut c m) s e = Unit {0}
 
 -- a repair keeps the map
 abbrev pub Keeps : Call → State → State → Type 0
-Keeps (insertion k r) s s′ = Unit {0}
+Keeps (insertion k r c) s s′ = Unit {0}
 Keeps (deletion k) s s′ = Unit {0}
+Keeps (classChange k c) s s′ = Unit {0}
 Keeps repair s s′ = (mapOf (s′ .memory) ≡ mapOf (s .memory)) × (mapOf (s′ .working) ≡ mapOf (s .working))
 
 -- of the event e that took s to s′, where the ledger was ps

@@ -7,7 +7,7 @@ use lib.ListN.{length, take, drop}
 use Rattle.model.specs.declared.Listed.{Listed}
 use Rattle.model.specs.declared.Listed.the-variants.{Pairs, Refused}
 use Rattle.model.specs.Table.{Words, headerOk}
-use Rattle.model.specs.Slots.{Slot, recording}
+use Rattle.model.specs.Slots.{Slot}
 use Rattle.model.specs.Reached.{filter, mapOf}
 use Rattle.model.specs.SoundTest.{sound}
 
@@ -19,10 +19,10 @@ inRangeOf low high ps = filter (λ (s : Slot). leb low (s .key) && leb (s .key) 
 abbrev pub fitting : ℕ → List Slot → List Slot
 fitting words ps = take (words / 2) ps
 
--- pairs as words: key, recording
+-- pairs as words: key, pointer (recording and class)
 unfoldable pub pairWords : List Slot → Words
 pairWords [] = []
-pairWords (s ∷ ss) = s .key ∷ recording s ∷ pairWords ss
+pairWords (s ∷ ss) = s .key ∷ s .pointer ∷ pairWords ss
 
 -- the number of pairs written and whether more were left, where ps are the pairs in the range
 unfoldable pub listed : List Slot → ℕ → Listed

@@ -124,7 +124,7 @@ withKey (Key k) call d = doCall (call k) d
 withKey (Refused n) call d = reply (refusedLine n) d
 
 unfoldable pub doForm : Form → Desk → Reply
-doForm (plus code r) d = withKey (parse code) (λ (k : ℕ). insertion k r) d
+doForm (plus code r) d = withKey (parse code) (λ (k : ℕ). insertion k r 0) d
 doForm (minus code) d = withKey (parse code) (λ (k : ℕ). deletion k) d
 doForm other d = reply (refusedLine 0) d
 

@@ -5,7 +5,6 @@ use Prim.Native.Nat.{ℕ, zero, suc}
 use lib.Dec.{eqb}
 use Rattle.model.specs.Table.{Words}
 use Rattle.model.specs.Slots.{Slot, View, view, height}
-pub use Rattle.model.specs.Slots.{recording}
 unfoldable pub use Rattle.model.specs.Search.{filter, kept}
 
 unfoldable pub flat {ℓ} : {A B : Type ℓ} → (A → List B) → List A → List B
@@ -61,7 +60,7 @@ leaves v = leavesFrom v (height v) (v .root ∷ [])
 
 -- ---- the map
 
--- Every shown slot of a reached leaf whose key is below the leaf's sibling's fence, as (key, recording).
+-- Every shown slot of a reached leaf whose key is below the leaf's sibling's fence, as (key, pointer): code, recording and class.
 unfoldable pub mapping : View → List Slot
 mapping v = flat (kept v) (leaves v)
 

@@ -7,12 +7,12 @@ use lib.Dec.{eqb, ltb}
 use lib.ListN.{length}
 use Rattle.model.specs.declared.Written.{Written}
 use Rattle.model.specs.declared.Written.the-variants.{Done, Refused}
-use Rattle.model.specs.Table.{MARK, Words, headerOk}
-use Rattle.model.specs.Slots.{Slot, recording, View, view, height, full}
+use Rattle.model.specs.Table.{Words, headerOk}
+use Rattle.model.specs.Slots.{Slot, recording, recordingOk, classOk, View, view, height, full}
 use Rattle.model.specs.Reached.{mapOf}
 use Rattle.model.specs.SoundTest.{sound, Leftover, nothing, hiddenIn, missingIn, bothIn, leftover}
 use Rattle.model.specs.Orders.{Order, apply, orders, storeCount, flushCount, listWith}
-use Rattle.model.specs.Writes.{unreachable, repaired, run, rootInRun, Call, insertion, deletion, repair, storesOf}
+use Rattle.model.specs.Writes.{unreachable, repaired, run, rootInRun, Call, insertion, deletion, classChange, repair, storesOf}
 
 -- ---- the conditions of 12, 11 and 10
 
@@ -57,11 +57,13 @@ unfoldable pub hasRecording : ℕ → List Slot → Bool
 hasRecording r [] = false
 hasRecording r (s ∷ ss) = eqb (recording s) r || hasRecording r ss
 
--- 6, 7, 8, 9, 11, 10, by a map; 11 and 10 ask more than the map and are handed in
+-- 6, 14, 7, 8, 9, 11, 10, by a map; 11 and 10 ask more than the map and are handed in
 abbrev pub mapTests : Call → (eleven ten : Bool) → List Slot → List Test
-mapTests (insertion k r) eleven ten ps =
-    test (eqb r 0 || eqb r MARK) 6 ∷ test (hasKey k ps) 7 ∷ test (hasRecording r ps) 8 ∷ test eleven 11 ∷ test ten 10 ∷ []
+mapTests (insertion k r c) eleven ten ps =
+    test (not (recordingOk r)) 6 ∷ test (not (classOk c)) 14
+    ∷ test (hasKey k ps) 7 ∷ test (hasRecording r ps) 8 ∷ test eleven 11 ∷ test ten 10 ∷ []
 mapTests (deletion k) eleven ten ps = test (not (hasKey k ps)) 9 ∷ []
+mapTests (classChange k c) eleven ten ps = test (not (classOk c)) 14 ∷ test (not (hasKey k ps)) 9 ∷ []
 mapTests repair eleven ten ps = []
 
 -- from 5 on: 5 by the order list's length, 12 handed in
@@ -70,13 +72,15 @@ testsFrom5 x words twelve eleven ten ps = test (ltb words 2560) 5 ∷ test twelv
 
 -- 11 and 10 apply to an insertion, on the table t as repair would leave it
 abbrev pub elevenIn : Call → Words → Bool
-elevenIn (insertion k r) t = tooHigh t k
+elevenIn (insertion k r c) t = tooHigh t k
 elevenIn (deletion k) t = false
+elevenIn (classChange k c) t = false
 elevenIn repair t = false
 
 abbrev pub tenIn : Call → Words → Bool
-tenIn (insertion k r) t = tooFew t k
+tenIn (insertion k r c) t = tooFew t k
 tenIn (deletion k) t = false
+tenIn (classChange k c) t = false
 tenIn repair t = false
 
 -- The number that a writing call refuses with, on table t with an order list of so many words; 0: accepted.

@@ -9,7 +9,7 @@ use Rattle.model.specs.declared.Answer.the-variants.{Found, Absent, Refu
 use Rattle.model.specs.declared.Next.{Next}
 use Rattle.model.specs.declared.Next.the-variants.{Key, Nothing}
 use Rattle.model.specs.Table.{Words, inRange, headerOk}
-use Rattle.model.specs.Slots.{Slot, recording, View, view, height}
+use Rattle.model.specs.Slots.{Slot, recording, class, View, view, height}
 
 -- key k is below the fence of node s; number 0, for no node, bounds no key
 unfoldable pub below : View → ℕ → ℕ → Bool
@@ -99,7 +99,7 @@ module _ (v : View) where
 -- from the slot found; the answer where there is none is given
 abbrev pub answerOf : Option Slot → (absent : Answer) → Answer
 answerOf none absent = absent
-answerOf (some s) absent = Found (recording s)
+answerOf (some s) absent = Found (recording s) (class s)
 
 -- of a list of pairs
 unfoldable pub lookup : ℕ → List Slot → Answer
@@ -116,21 +116,26 @@ searchView v k = elim (leb (height v) 15) [ true ↦ answerIn v k (locate v (hei
 unfoldable pub search : Words → ℕ → Answer
 search t k = elim (headerOk t) [ true ↦ searchView (view t) k | false ↦ Refused 2 ]
 
--- the recording that a lent word then holds; it stays where there is none
+-- the recording, and the class, that lent words then hold; they stay where there is none
 abbrev pub recordingOr : Answer → ℕ → ℕ
-recordingOr (Found r) old = r
+recordingOr (Found r c) old = r
 recordingOr (Absent x) old = old
 recordingOr (Refused n) old = old
 
+abbrev pub accessOr : Answer → ℕ → ℕ
+accessOr (Found r c) old = c
+accessOr (Absent x) old = old
+accessOr (Refused n) old = old
+
 -- the next key up, and 1 where there is one, 0 where there is none, that lent words then hold; they stay where the key is not absent
 abbrev pub nextOr : Answer → ℕ → ℕ
-nextOr (Found r) old = old
+nextOr (Found r c) old = old
 nextOr (Absent (Key j)) old = j
 nextOr (Absent Nothing) old = old
 nextOr (Refused n) old = old
 
 abbrev pub higherOr : Answer → ℕ → ℕ
-higherOr (Found r) old = old
+higherOr (Found r c) old = old
 higherOr (Absent (Key j)) old = 1
 higherOr (Absent Nothing) old = 0
 higherOr (Refused n) old = old

@@ -1,8 +1,8 @@
 -- Document 01, "Table and node": the slots of a node, in use, shown and hidden; and what is read of each node of a table.
 use mathlib.Core.Bool.{Bool, true, false, _&&_}
 use mathlib.Core.List.{List, [], _∷_}
-use Prim.Native.Nat.{ℕ}
-use lib.Dec.{eqb}
+use Prim.Native.Nat.{ℕ, _+_, _*_, _/_, _%_}
+use lib.Dec.{leb, ltb, eqb}
 use lib.ListN.{length, getD}
 use Rattle.model.specs.Table.{Words, node, spare, allZero, nodes, root}
 
@@ -24,12 +24,43 @@ abbrev pub slotWords : List Slot → Words
 slotWords [] = []
 slotWords (s ∷ ss) = s .key ∷ s .pointer ∷ slotWords ss
 
--- What a leaf's pointer says: a recording number.
-abbrev pub recordingOf : (pointer : ℕ) → ℕ
-recordingOf p = p
+-- ---- what a leaf's pointer says
+
+-- 2 to the power 56: so many numbers fit into a pointer's low 56 bits
+abbrev pub RECORDINGS : ℕ
+RECORDINGS = 72057594037927936
+
+-- A leaf pointer's top 8 bits are the class, its low 56 bits the recording number.
+unfoldable pub recordingOf : (pointer : ℕ) → ℕ
+recordingOf p = p % RECORDINGS
+
+unfoldable pub classOf : (pointer : ℕ) → ℕ
+classOf p = p / RECORDINGS
+
+unfoldable pub pointerOf : (recording class : ℕ) → ℕ
+pointerOf r c = c * RECORDINGS + r
+
+-- the pointer with another class
+abbrev pub withClass : (pointer class : ℕ) → ℕ
+withClass p c = pointerOf (recordingOf p) c
 
 abbrev pub recording : Slot → ℕ
 recording s = recordingOf (s .pointer)
+
+abbrev pub class : Slot → ℕ
+class s = classOf (s .pointer)
+
+-- A recording number is from 1 to 72057594037927935; a class is 0 open, 1 room or 2 closed.
+unfoldable pub recordingOk : ℕ → Bool
+recordingOk r = leb 1 r && ltb r RECORDINGS
+
+unfoldable pub classOk : ℕ → Bool
+classOk c = leb c 2
+
+unfoldable pub pointerOk : ℕ → Bool
+pointerOk p = recordingOk (recordingOf p) && classOk (classOf p)
+
+-- ---- in use, shown and hidden
 
 -- The slots in use end before the first pointer 0.
 unfoldable pub inUse : List Slot → List Slot

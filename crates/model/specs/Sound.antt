@@ -6,7 +6,7 @@ use mathlib.Core.List.{List, [], _∷_, _++_, List·Memᴰ}
 use Prim.Native.Nat.{ℕ, suc, _≤_, _<_}
 use lib.ListN.{length, getD}
 use Rattle.model.specs.Table.{MARK, Words, headerOk}
-use Rattle.model.specs.Slots.{Slot, slot, recording, View, view, height}
+use Rattle.model.specs.Slots.{Slot, slot, RECORDINGS, recording, class, View, view, height}
 use Rattle.model.specs.Search.{within, down}
 use Rattle.model.specs.Reached.{kept}
 use Rattle.model.specs.SoundTest.{Leftover, nothing, hiddenIn, missingIn, bothIn}
@@ -91,10 +91,11 @@ module _ (v : View) (x : Leftover) where
     pub sibling-right : {n : ℕ} → Reached v n → v .node n .sibling ≢ 0 → v .node n .fence < v .node (v .node n .sibling) .fence
     pub sibling-next : {m n : ℕ} → Reached v m → Reached v n → v .node m .level ≡ v .node n .level → v .node n .fence < v .node m .fence
         → (v .node n .sibling ≢ 0) × (v .node (v .node n .sibling) .fence ≤ v .node m .fence)
-    -- No recording number is in the map twice, and none is 0 or MARK.
+    -- No recording number is in the map twice. A recording number is from 1 to 72057594037927935, a class from 0 to 2.
     pub recording-once : {m n i j : ℕ} → Reached v m → v .node m .level ≡ 0 → i < length (kept v m) → Reached v n → v .node n .level ≡ 0 → j < length (kept v n)
         → recording (getD (kept v m) i (slot 0 0)) ≡ recording (getD (kept v n) j (slot 0 0)) → (m ≡ n) × (i ≡ j)
-    pub recording-number : {n : ℕ} {s : Slot} → Reached v n → v .node n .level ≡ 0 → List·Memᴰ s (kept v n) → (recording s ≢ 0) × (recording s ≢ MARK)
+    pub recording-number : {n : ℕ} {s : Slot} → Reached v n → v .node n .level ≡ 0 → List·Memᴰ s (kept v n) → (1 ≤ recording s) × (recording s < RECORDINGS)
+    pub class-number : {n : ℕ} {s : Slot} → Reached v n → v .node n .level ≡ 0 → List·Memᴰ s (kept v n) → class s ≤ 2
     -- Nothing is hidden.
     pub none-hidden : {n : ℕ} → Reached v n → (Hides x n → ⊥) → v .node n .hidden ≡ 0
 

@@ -11,7 +11,7 @@ use Rattle.model.specs.declared.Missing.{Missing}
 use Rattle.model.specs.declared.Missing.the-variants.{Nowhere, Under, Several}
 use Rattle.model.specs.declared.Unfinished.{Unfinished}
 use Rattle.model.specs.Table.{MARK, Words, inRange, headerOk}
-use Rattle.model.specs.Slots.{Slot, recording, View, view, height}
+use Rattle.model.specs.Slots.{Slot, recording, pointerOk, View, view, height}
 use Rattle.model.specs.Search.{within}
 use Rattle.model.specs.Reached.{headOr, kept, named, nextChild, children, reached, mapping}
 
@@ -78,9 +78,17 @@ nodeOk v n = v .node n .clear && (siblingOk v n && elim (eqb (v .node n .level) 
 unfoldable pub rootOk : View → Bool
 rootOk v = inRange (v .nodes) (v .root) && (leb (height v) 15 && (eqb (v .node (v .root) .fence) 0 && eqb (v .node (v .root) .sibling) 0))
 
--- everything but what may be unfinished: no node is reached twice, no recording number is in the map twice, and none is MARK
+-- a pair of the map has a recording number and a class that there are
+abbrev pub pairOk : Slot → Bool
+pairOk s = pointerOk (s .pointer)
+
+-- so has each, and no recording number is there twice
+unfoldable pub recordingsOk : List Slot → Bool
+recordingsOk ps = all pairOk ps && distinct (map recording ps)
+
+-- everything but what may be unfinished: no node is reached twice, and the map's recording numbers and classes are right
 unfoldable pub orderly : View → Bool
-orderly v = rootOk v && (all (nodeOk v) (reached v) && (distinct (reached v) && distinct (MARK ∷ map recording (mapping v))))
+orderly v = rootOk v && (all (nodeOk v) (reached v) && (distinct (reached v) && recordingsOk (mapping v)))
 
 -- ---- what is unfinished
 

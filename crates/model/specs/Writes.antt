@@ -1,4 +1,4 @@
--- Document 01, "Orders": insertion, deletion and repair, each as its list of stores on a table.
+-- Document 01, "Orders": insertion, deletion, a changed class and repair, each as its list of stores on a table.
 use mathlib.Core.Bool.{Bool, true, false, not, _&&_}
 use mathlib.Core.List.{List, [], _∷_, _++_, map}
 use mathlib.Core.Option.{Option, none, some}
@@ -6,7 +6,7 @@ use Prim.Native.Nat.{ℕ, zero, suc, pred, _+_, _-_}
 use lib.Dec.{eqb, ltb}
 use lib.ListN.{length, getD, take, drop, replicate}
 use Rattle.model.specs.Table.{MARK, Words, nodes, root, nodeStart}
-use Rattle.model.specs.Slots.{Slot, slot, slotWords, View, nodeView, view, height, used, full}
+use Rattle.model.specs.Slots.{Slot, slot, slotWords, pointerOf, withClass, View, nodeView, view, height, used, full}
 use Rattle.model.specs.Search.{path}
 use Rattle.model.specs.Reached.{filter, headOr, reached}
 use Rattle.model.specs.SoundTest.{all, elem, Leftover, nothing, hiddenIn, missingIn, bothIn, leftover}
@@ -110,7 +110,7 @@ repairStores t = repairOf t (leftover (view t))
 unfoldable pub repaired : Words → Words
 repaired t = apply (repairStores t) t
 
--- ---- insertion and deletion
+-- ---- insertion, deletion and a changed class
 
 -- the node on level l that the search for k stands on
 unfoldable pub standing : Words → (l k : ℕ) → ℕ
@@ -140,17 +140,17 @@ splits (suc l) t k =
 unfoldable pub rootStores : Words → (k : ℕ) → List Store
 rootStores t k = elim (rootInRun t k) [ true ↦ newRoot t | false ↦ [] ]
 
--- Insertion after repair: a new root if the run includes the root; the splits; shift in at the leaf.
-unfoldable pub insertSettled : Words → (k r : ℕ) → List Store
-insertSettled t k r =
+-- Insertion after repair: a new root if the run includes the root; the splits; shift in at the leaf, k with the pointer x.
+unfoldable pub insertSettled : Words → (k x : ℕ) → List Store
+insertSettled t k x =
     let s₁ = rootStores t k in
     let t₁ = apply s₁ t in
     let s₂ = splits (run t k) t₁ k in
     let t₂ = apply s₂ t₁ in
-    s₁ ++ (s₂ ++ shiftInAt t₂ (standing t₂ 0 k) k r)
+    s₁ ++ (s₂ ++ shiftInAt t₂ (standing t₂ 0 k) k x)
 
-unfoldable pub insertStores : Words → (k r : ℕ) → List Store
-insertStores t k r = repairStores t ++ insertSettled (repaired t) k r
+unfoldable pub insertStores : Words → (k x : ℕ) → List Store
+insertStores t k x = repairStores t ++ insertSettled (repaired t) k x
 
 -- the child of p before its child x
 unfoldable pub childBefore : View → (p x : ℕ) → ℕ
@@ -178,15 +178,27 @@ deleteSettled t k =
 unfoldable pub deleteStores : Words → (k : ℕ) → List Store
 deleteStores t k = repairStores t ++ deleteSettled (repaired t) k
 
+-- A changed class is one store, after repair: the pointer of k's slot, with class c.
+unfoldable pub setClassAt : Words → (n k c : ℕ) → List Store
+setClassAt t n k c =
+    let ss = nodeView t n .shown in
+    let p = placeOf k ss in
+    put (pointerWord n p) (withClass (getD ss p (slot 0 0) .pointer) c) ∷ []
+
+unfoldable pub classStores : Words → (k c : ℕ) → List Store
+classStores t k c = repairStores t ++ setClassAt (repaired t) (standing (repaired t) 0 k) k c
+
 -- ---- the writing calls
 
 pub data Call : Type 0 where
-  insertion : (k r : ℕ) → Call
+  insertion : (k r c : ℕ) → Call
   deletion : (k : ℕ) → Call
+  classChange : (k c : ℕ) → Call
   repair : Call
 
 -- the stores of an accepted call, in document 01's order
 unfoldable pub storesOf : Call → Words → List Store
-storesOf (insertion k r) t = insertStores t k r
+storesOf (insertion k r c) t = insertStores t k (pointerOf r c)
 storesOf (deletion k) t = deleteStores t k
+storesOf (classChange k c) t = classStores t k c
 storesOf repair t = repairStores t

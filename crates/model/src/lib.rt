@@ -30,9 +30,9 @@ pub enum Next {
     Nothing,
 }
 
-// What a search answers; that a key is absent comes with the next one up.
+// What a search answers: the recording number and the access class of the key; that a key is absent comes with the next one up.
 pub enum Answer {
-    Found(u64),
+    Found { recording: u64, access: u64 },
     Absent(Next),
     Refused(u8),
 }

@@ -5,9 +5,9 @@ use mathlib.Core.List.{List, [], _∷_, _++_, map}
 use Prim.Native.Nat.{ℕ, suc, _+_, _-_, _≤_, _<_}
 use native.Mathlib.Omega.{arith}
 use lib.ListN.{getD}
-use Rattle.model.specs.Table.{MARK, Words, nodes}
-use Rattle.model.specs.Slots.{nodeView, view}
-use Rattle.model.specs.Reached.{flat, pointers, kept, recording}
+use Rattle.model.specs.Table.{Words, nodes}
+use Rattle.model.specs.Slots.{recordingOf, recording, nodeView, view}
+use Rattle.model.specs.Reached.{flat, kept}
 use Rattle.model.specs.SoundTest.{elem, distinct}
 use Rattle.node.specs.Word.{wordOf}
 use Rattle.node.proofs.WordLaws.{word-sibling}
@@ -15,9 +15,9 @@ use Rattle.walk_laws.specs.Walk.{ways}
 use Rattle.walk_laws.specs.Chain.{along, firstLeaf}
 use Rattle.walk_laws.proofs.ChainLaw.{along-none, along-more}
 use Rattle.slots.specs.declared.Ways.{Ways}
-use Rattle.slots.specs.Gathered.{slotsIn, pointersFrom}
+use Rattle.slots.specs.Gathered.{slotsIn}
 use Rattle.slots.proofs.Kept.{ways-end, ways-next}
-use Rattle.leaves.specs.Hits.{recordings}
+use Rattle.leaves.specs.Hits.{recordings, recordingsFrom}
 use Rattle.leaves.proofs.HitLaws.{ways-numbers, kept-numbers}
 use Rattle.leaves.proofs.FoundLaws.{elem-append, recordings-cons, whole-is}
 use Rattle.recordings.specs.Once.{numbersAlong, allNumbers, onceBefore}
@@ -34,25 +34,23 @@ distinct-append (x ∷ xs) ys =
 pub record Comparing (w : Ways) (ys : List ℕ) (b : Bool) (i : ℕ) : Type 0 where
   pub few : w .count ≤ 13
   pub after-left : 1 ≤ i
-  pub comes-to : onceBefore (pointersFrom w i) ys ≡ b
+  pub comes-to : onceBefore (recordingsFrom w i) ys ≡ b
 
 module _ {w : Ways} {ys : List ℕ} {b : Bool} {i : ℕ} (k : Comparing w ys b i) where
   pub once-end : w .count ≤ i → true ≡ b
   unfolding onceBefore
-  once-end h = sym (ap (λ (xs : List ℕ). onceBefore xs ys) (ap pointers (ways-end w i h))) ∙ k .comes-to
+  once-end h = sym (ap (λ (xs : List ℕ). onceBefore xs ys) (ap (map recording) (ways-end w i h))) ∙ k .comes-to
 
-  module _ (h : i < w .count) where
-    abbrev here : ℕ
-    here = getD (w .pointers) i 0
-
+  module _ (h : i < w .count) (here : ℕ) (own : here ≡ recordingOf (getD (w .pointers) i 0)) where
     abbrev behind : List ℕ
-    behind = pointersFrom w (i + 1)
+    behind = recordingsFrom w (i + 1)
 
     once-step : (not (elem here behind || elem here ys) && onceBefore behind ys) ≡ b
     unfolding onceBefore
     once-step =
         sym
-        (ap (λ (xs : List ℕ). onceBefore xs ys) (ap pointers (ways-next w i h))
+        (ap (λ (xs : List ℕ). onceBefore xs ys) (ap (map recording) (ways-next w i h))
+        ∙ ap (λ (n : ℕ). not (elem n (behind ++ ys)) && onceBefore behind ys) (sym own)
         ∙ ap (λ (a : Bool). not a && onceBefore behind ys) (elem-append here behind ys))
         ∙ k .comes-to
 
@@ -90,59 +88,50 @@ module _ (t : Words) (leaf left : ℕ) where
   no-more z = ap (λ (c : ℕ). recordings (view t) (along (view t) c leaf)) z
 
   pub leaf-first : (w : Ways) (next : ℕ) → slotsIn w ≡ ways (view t) leaf → next ≡ wordOf t leaf 1 → (leaf ≡ 0 → ⊥) → (left ≡ 0 → ⊥)
-      → numbersAlong t left leaf ≡ pointersFrom w 1 ++ numbersAlong t (left - 1) next
+      → numbersAlong t left leaf ≡ recordingsFrom w 1 ++ numbersAlong t (left - 1) next
   leaf-first w next e q z y =
       let more : left ≡ suc (left - 1) = omega arith in
       let sibling : nodeView t leaf .sibling ≡ next = sym (q ∙ word-sibling t leaf) in
-      let here : map recording (kept (view t) leaf) ≡ pointersFrom w 1 = sym (ways-numbers w 1 ∙ kept-numbers (view t) leaf w e) in
+      let here : map recording (kept (view t) leaf) ≡ recordingsFrom w 1 = sym (ways-numbers w 1 ∙ kept-numbers (view t) leaf w e) in
       let first : along (view t) left leaf ≡ leaf ∷ along (view t) (left - 1) next =
       ap (λ (k : ℕ). along (view t) k leaf) more ∙ along-more (view t) (left - 1) leaf z
       ∙ ap (λ (k : ℕ). leaf ∷ along (view t) (left - 1) k) sibling in
       ap (recordings (view t)) first ∙ recordings-cons (view t) leaf (along (view t) (left - 1) next)
       ∙ ap (λ (xs : List ℕ). xs ++ numbersAlong t (left - 1) next) here
 
--- ---- the whole chain, and MARK
+-- ---- the whole chain
 
 module _ (t : Words) (first n : ℕ) (e : first ≡ firstLeaf (view t)) (q : n ≡ nodes t) where
   pub all-along : numbersAlong t n first ≡ allNumbers t
   all-along = ap (recordings (view t)) (whole-is t first n e q)
 
-  pub mark-once : (b : Bool) → b ≡ true → b ≡ elem MARK (numbersAlong t n first) → false ≡ distinct (MARK ∷ allNumbers t)
-  unfolding distinct
-  mark-once b p h = ap (λ (x : Bool). not x && distinct (allNumbers t)) (sym p ∙ h ∙ ap (elem MARK) all-along)
-
-  pub mark-apart : (b : Bool) → b ≡ false → b ≡ elem MARK (numbersAlong t n first) → distinct (MARK ∷ allNumbers t) ≡ distinct (allNumbers t)
-  unfolding distinct
-  mark-apart b p h = ap (λ (x : Bool). not x && distinct (allNumbers t)) (sym (sym p ∙ h ∙ ap (elem MARK) all-along))
-
 -- what is left to compare, from this leaf on, comes to the answer
 pub record Left (t : Words) (leaf left : ℕ) : Type 0 where
-  pub comes-to : distinct (numbersAlong t left leaf) ≡ distinct (MARK ∷ allNumbers t)
+  pub comes-to : distinct (numbersAlong t left leaf) ≡ distinct (allNumbers t)
 
-pub left-all : (t : Words) (first n : ℕ) → first ≡ firstLeaf (view t) → n ≡ nodes t → (b : Bool) → b ≡ false → b ≡ elem MARK (numbersAlong t n first)
-    → Left t first n
-left-all t first n e q b p h = record { comes-to = ap distinct (all-along t first n e q) ∙ sym (mark-apart t first n e q b p h) }
+pub left-all : (t : Words) (first n : ℕ) → first ≡ firstLeaf (view t) → n ≡ nodes t → Left t first n
+left-all t first n e q = record { comes-to = ap distinct (all-along t first n e q) }
 
 module _ {t : Words} {leaf left : ℕ} (k : Left t leaf left) where
-  none-left : numbersAlong t left leaf ≡ [] → true ≡ distinct (MARK ∷ allNumbers t)
+  none-left : numbersAlong t left leaf ≡ [] → true ≡ distinct (allNumbers t)
   unfolding distinct
   none-left z = sym (ap distinct z) ∙ k .comes-to
 
-  pub left-no-leaf : leaf ≡ 0 → true ≡ distinct (MARK ∷ allNumbers t)
+  pub left-no-leaf : leaf ≡ 0 → true ≡ distinct (allNumbers t)
   left-no-leaf z = none-left (no-leaf t leaf left z)
 
-  pub left-no-more : left ≡ 0 → true ≡ distinct (MARK ∷ allNumbers t)
+  pub left-no-more : left ≡ 0 → true ≡ distinct (allNumbers t)
   left-no-more z = none-left (no-more t leaf left z)
 
   module _ (w : Ways) (next : ℕ) (e : slotsIn w ≡ ways (view t) leaf) (q : next ≡ wordOf t leaf 1) (z : leaf ≡ 0 → ⊥) (y : left ≡ 0 → ⊥) where
     abbrev later : List ℕ
     later = numbersAlong t (left - 1) next
 
-    left-step : (onceBefore (pointersFrom w 1) later && distinct later) ≡ distinct (MARK ∷ allNumbers t)
-    left-step = sym (ap distinct (leaf-first t leaf left w next e q z y) ∙ distinct-append (pointersFrom w 1) later) ∙ k .comes-to
+    left-step : (onceBefore (recordingsFrom w 1) later && distinct later) ≡ distinct (allNumbers t)
+    left-step = sym (ap distinct (leaf-first t leaf left w next e q z y) ∙ distinct-append (recordingsFrom w 1) later) ∙ k .comes-to
 
-    pub left-twice : (b : Bool) → b ≡ false → b ≡ onceBefore (pointersFrom w 1) later → false ≡ distinct (MARK ∷ allNumbers t)
+    pub left-twice : (b : Bool) → b ≡ false → b ≡ onceBefore (recordingsFrom w 1) later → false ≡ distinct (allNumbers t)
     left-twice b p h = ap (λ (x : Bool). x && distinct later) (sym p ∙ h) ∙ left-step
 
-    pub left-next : (b : Bool) → b ≡ true → b ≡ onceBefore (pointersFrom w 1) later → Left t next (left - 1)
+    pub left-next : (b : Bool) → b ≡ true → b ≡ onceBefore (recordingsFrom w 1) later → Left t next (left - 1)
     left-next b p h = record { comes-to = ap (λ (x : Bool). x && distinct later) (sym p ∙ h) ∙ left-step }

@@ -8,10 +8,10 @@ use native.Mathlib.Omega.{arith}
 use lib.Dec.{leb, ltb}
 use lib.ListN.{length, getD}
 use borrow.Author.Tests.{le-leb, lt-leb, lt-ltb, leb-true, ltb-true, ltb-false}
-use Rattle.model.specs.Table.{MARK, Words, nodes}
+use Rattle.model.specs.Table.{Words, nodes}
 use Rattle.numbers.specs.declared.Entry.{Entry}
 use Rattle.numbers.specs.declared.Entry.the-variants.{Entered, Known}
-use Rattle.model.specs.Slots.{view}
+use Rattle.model.specs.Slots.{recordingOf, view}
 use Rattle.model.specs.Reached.{filter}
 use Rattle.model.specs.SoundTest.{elem, distinct}
 use Rattle.list_laws.proofs.Tools.{and-iff, refuted, same-test}
@@ -25,8 +25,8 @@ use Rattle.numbers.specs.Cells.{SPREAD, CELLS, mixed, Outcome, outcome, followe
 use Rattle.numbers.proofs.Trying.{mixed-below}
 use Rattle.numbers.proofs.Once.{all-append, Last, goes-on, ends}
 use Rattle.slots.specs.declared.Ways.{Ways}
-use Rattle.slots.specs.Gathered.{slotsIn, pointersFrom}
-use Rattle.leaves.specs.Hits.{numbersFrom}
+use Rattle.slots.specs.Gathered.{slotsIn}
+use Rattle.leaves.specs.Hits.{numbersFrom, recordingsFrom}
 use Rattle.leaves.proofs.HitLaws.{numbers-end, numbers-next, ways-numbers}
 use Rattle.recordings.proofs.OnceLaws.{no-leaf, no-more, leaf-first, all-along}
 use Rattle.recordings.specs.Once.{numbersAlong, allNumbers}
@@ -48,7 +48,7 @@ none-entered : (p : ℕ → Bool) (xs : List ℕ) (cs : Words) → xs ≡ [] →
 unfolding enteredAll
 none-entered p xs cs z = sym (ap (λ (ys : List ℕ). enteredAll p ys cs) z)
 
-pub leaf-all : (p : ℕ → Bool) (w : Ways) (cs : Words) → enteredAll p (numbersFrom (w .pointers) 1 (w .count - 1)) cs ≡ enteredAll p (pointersFrom w 1) cs
+pub leaf-all : (p : ℕ → Bool) (w : Ways) (cs : Words) → enteredAll p (numbersFrom (w .pointers) 1 (w .count - 1)) cs ≡ enteredAll p (recordingsFrom w 1) cs
 leaf-all p w cs = ap (λ (xs : List ℕ). enteredAll p xs cs) (sym (ways-numbers w 1))
 
 -- what is left to enter of a leaf, whose ways are m with the pointers ps, from way i on, into the cells as they are, comes to o
@@ -61,19 +61,19 @@ module _ {p : ℕ → Bool} {ps : List ℕ} {m : ℕ} {o : Outcome} {cs : Words}
   pub leaf-end : m ≤ i → outcome Entered cs ≡ o
   leaf-end h = none-entered p (numbersFrom ps i (m - i)) cs (numbers-end ps i m h) ∙ k .comes-to
 
-  module _ (h : i < m) (e : Entry) (after : Words) (q : outcome e after ≡ enteredIf p cs (getD ps i 0)) where
+  module _ (h : i < m) (r : ℕ) (own : r ≡ recordingOf (getD ps i 0)) (e : Entry) (after : Words) (q : outcome e after ≡ enteredIf p cs r) where
     abbrev later : Words → Outcome
     later = enteredAll p (numbersFrom ps (i + 1) (m - (i + 1)))
 
-    leaf-next : o ≡ followed (enteredIf p cs (getD ps i 0)) later
+    leaf-next : o ≡ followed (enteredIf p cs r) later
     unfolding enteredAll
-    leaf-next = sym (k .comes-to) ∙ ap (λ (xs : List ℕ). enteredAll p xs cs) (numbers-next ps i m h)
+    leaf-next = sym (k .comes-to) ∙ ap (λ (xs : List ℕ). enteredAll p xs cs) (numbers-next ps i m h) ∙ ap (λ (n : ℕ). followed (enteredIf p cs n) later) (sym own)
 
     pub leaf-goes : e ≡ Entered → later after ≡ o
-    leaf-goes a = goes-on later o (enteredIf p cs (getD ps i 0)) e after leaf-next q a
+    leaf-goes a = goes-on later o (enteredIf p cs r) e after leaf-next q a
 
     pub leaf-ends : (s : Entry) → Last s → e ≡ s → outcome s after ≡ o
-    leaf-ends s l a = ends later o (enteredIf p cs (getD ps i 0)) e after leaf-next q s l a
+    leaf-ends s l a = ends later o (enteredIf p cs r) e after leaf-next q s l a
 
 -- what is left to enter from this leaf on, at most so many
 pub record InLeaves (p : ℕ → Bool) (t : Words) (o : Outcome) (cs : Words) (leaf left : ℕ) : Type 0 where
@@ -90,21 +90,21 @@ module _ {p : ℕ → Bool} {t : Words} {o : Outcome} {cs : Words} {leaf left : 
   pub leaves-no-more : left ≡ 0 → outcome Entered cs ≡ o
   leaves-no-more z = none-entered p (numbersAlong t left leaf) cs (no-more t leaf left z) ∙ k .comes-to
 
-  module _ (z : leaf ≡ 0 → ⊥) (y : left ≡ 0 → ⊥) (w : Ways) (i : slotsIn w ≡ ways (view t) leaf) (e : Entry) (after : Words) (q : outcome e after ≡ enteredAll p (pointersFrom w 1) cs) where
+  module _ (z : leaf ≡ 0 → ⊥) (y : left ≡ 0 → ⊥) (w : Ways) (i : slotsIn w ≡ ways (view t) leaf) (e : Entry) (after : Words) (q : outcome e after ≡ enteredAll p (recordingsFrom w 1) cs) where
     abbrev behind : Words → Outcome
     behind = enteredAll p (numbersAlong t (left - 1) (wordOf t leaf 1))
 
-    leaves-next : o ≡ followed (enteredAll p (pointersFrom w 1) cs) behind
+    leaves-next : o ≡ followed (enteredAll p (recordingsFrom w 1) cs) behind
     leaves-next =
         sym (k .comes-to) ∙ ap (λ (xs : List ℕ). enteredAll p xs cs) (leaf-first t leaf left w (wordOf t leaf 1) i refl z y)
-        ∙ all-append p (pointersFrom w 1) (numbersAlong t (left - 1) (wordOf t leaf 1)) cs
+        ∙ all-append p (recordingsFrom w 1) (numbersAlong t (left - 1) (wordOf t leaf 1)) cs
 
     pub leaves-go : e ≡ Entered → (next : ℕ) → next ≡ wordOf t leaf 1 → enteredAll p (numbersAlong t (left - 1) next) after ≡ o
     leaves-go a next n =
-        ap (λ (x : ℕ). enteredAll p (numbersAlong t (left - 1) x) after) n ∙ goes-on behind o (enteredAll p (pointersFrom w 1) cs) e after leaves-next q a
+        ap (λ (x : ℕ). enteredAll p (numbersAlong t (left - 1) x) after) n ∙ goes-on behind o (enteredAll p (recordingsFrom w 1) cs) e after leaves-next q a
 
     pub leaves-end : (s : Entry) → Last s → e ≡ s → outcome s after ≡ o
-    leaves-end s l a = ends behind o (enteredAll p (pointersFrom w 1) cs) e after leaves-next q s l a
+    leaves-end s l a = ends behind o (enteredAll p (recordingsFrom w 1) cs) e after leaves-next q s l a
 
 -- ---- the passes
 
@@ -148,27 +148,26 @@ in-pass low high r = (
   λ h. and-iff (leb low (mixed r)) (ltb (mixed r) high) .1 (le-leb _ _ (h .0), lt-ltb _ _ (h .1)),
 )
 
--- the passes so far took the numbers whose place is below low, and none of those was twice; MARK is no number of the map
+-- the passes so far took the numbers whose place is below low, and none of those was twice
 pub record Passed (t : Words) (low width : ℕ) : Type 0 where
   pub some : 0 < width
   pub small : width ≤ 4294967296
-  pub apart : distinct (MARK ∷ allNumbers t) ≡ distinct (allNumbers t)
   pub so-far : distinct (filter (inPass 0 low) (allNumbers t)) ≡ true
 
-pub pass-start : (t : Words) → distinct (MARK ∷ allNumbers t) ≡ distinct (allNumbers t) → Passed t 0 4294967296
+pub pass-start : (t : Words) → Passed t 0 4294967296
 unfolding distinct
-pass-start t a = record { some = omega arith; small = omega arith; apart = a; so-far = ap distinct (filter-none (inPass 0 0) (allNumbers t) (mem-each (λ (x : ℕ). inPass 0 0 x ≡ false) (allNumbers t) none)) }
+pass-start t = record { some = omega arith; small = omega arith; so-far = ap distinct (filter-none (inPass 0 0) (allNumbers t) (mem-each (λ (x : ℕ). inPass 0 0 x ≡ false) (allNumbers t) none)) }
   where
     none : (x : ℕ) → List·Memᴰ x (allNumbers t) → inPass 0 0 x ≡ false
     none x m = refuted (inPass 0 0 x) (λ h. let u = in-pass 0 0 x .0 h in omega (arith, u .1))
 
 module _ {t : Words} {low width : ℕ} (k : Passed t low width) where
-  pub pass-all : SPREAD ≤ low → true ≡ distinct (MARK ∷ allNumbers t)
+  pub pass-all : SPREAD ≤ low → true ≡ distinct (allNumbers t)
   pass-all l =
       let every : filter (inPass 0 low) (allNumbers t) ≡ allNumbers t =
       filter-all (inPass 0 low) (allNumbers t)
       (mem-each (λ (x : ℕ). inPass 0 low x ≡ true) (allNumbers t) (λ x m. in-pass 0 low x .1 (omega arith, omega (arith, l, mixed-below x)))) in
-      sym (k .apart ∙ sym (ap distinct every) ∙ k .so-far)
+      sym (sym (ap distinct every) ∙ k .so-far)
 
   module _ (e : Entry) (h : Tells e (filter (inPass low (low + width)) (allNumbers t))) where
     pub pass-more : e ≡ Entered → Passed t (low + width) width
@@ -176,7 +175,6 @@ module _ {t : Words} {low width : ℕ} (k : Passed t low width) where
         record {
           some = k .some;
           small = k .small;
-          apart = k .apart;
           so-far =
               once-joined (inPass 0 low) (inPass low (low + width)) (inPass 0 (low + width)) part (allNumbers t) (k .so-far)
               (subst (λ (x : Entry). Tells x (filter (inPass low (low + width)) (allNumbers t))) q h);
@@ -189,8 +187,7 @@ module _ {t : Words} {low width : ℕ} (k : Passed t low width) where
             go true l = inl (in-pass 0 low x .1 (omega arith, ltb-true (mixed x) low l))
             go false l = inr (in-pass low (low + width) x .1 (ltb-false (mixed x) low l, in-pass 0 (low + width) x .0 u .1))
 
-    pub pass-twice : e ≡ Known → false ≡ distinct (MARK ∷ allNumbers t)
+    pub pass-twice : e ≡ Known → false ≡ distinct (allNumbers t)
     pass-twice q =
         sym
-        (k .apart
-        ∙ twice-part (inPass low (low + width)) (allNumbers t) (subst (λ (x : Entry). Tells x (filter (inPass low (low + width)) (allNumbers t))) q h))
+        (twice-part (inPass low (low + width)) (allNumbers t) (subst (λ (x : Entry). Tells x (filter (inPass low (low + width)) (allNumbers t))) q h))

@@ -1,22 +1,59 @@
-// Whether a recording number is in the map twice.
+// Whether the map's recording numbers and classes are right: each in its range, no recording number twice.
 use leaves::Hit;
-use model::MARK;
 use numbers::Entry;
 use slots::Ways;
 ghost use mathlib.Core.Path.{_≡_};
-ghost use mathlib.Core.List.{_∷_};
 ghost use Prim.Native.Nat.{_≤_};
 ghost use lib.ListN.{length};
-ghost use Rattle.model.specs.Table.{MARK};
 ghost use Rattle.model.specs.Reached.{filter};
-ghost use Rattle.model.specs.SoundTest.{elem, distinct};
+ghost use Rattle.model.specs.SoundTest.{all, elem, distinct, pairOk, recordingsOk};
 ghost use Rattle.numbers.specs.Cells.{CELLS, outcome, enteredIf, enteredAll, Tells};
-ghost use Rattle.slots.specs.Gathered.{pointersFrom};
-ghost use Rattle.recordings.specs.Once.{numbersAlong, allNumbers, onceBefore};
+ghost use Rattle.slots.specs.Gathered.{waysFrom};
+ghost use Rattle.leaves.specs.Hits.{recordingsFrom};
+ghost use Rattle.recordings.specs.Once.{numbersAlong, allNumbers, allPairs, onceBefore};
 ghost use Rattle.recordings.specs.Passes.{inPass};
 
 // Where the cells get full, passes narrower than this are not tried.
 const NARROWEST: u64 = 4194304;
+
+// ---- each pair in range
+
+// Whether each pointer of a leaf, its first way left aside, has a recording number and a class that there are.
+fn leaf_ok(w: Ways) -> bool
+    requires { ⌜ w .count ≤ 13 ⌝ }
+    ensures { λ r. ⌜ r ≡ all pairOk (waysFrom w 1) ⌝ }
+{
+    let count = w.count;
+    let pointers = w.pointers;
+    let mut i = 1;
+    while i < count {
+        if !pointer::ok(pointers[i]) {
+            return false;
+        }
+        i += 1;
+    }
+    true
+}
+
+// Whether each pair of the map has.
+fn pairs_ok(table: &[u64]) -> bool
+    ensures { λ r. ⌜ r ≡ all pairOk (allPairs (now (table .entry))) ⌝ }
+{
+    let mut leaf = leaves::first_leaf(table);
+    let mut left = leaves::word_at(table, 2);
+    while leaf != 0 {
+        if left == 0 {
+            return true;
+        }
+        let w = leaves::ways_of(table, leaf);
+        if !leaf_ok(w) {
+            return false;
+        }
+        leaf = node::word(table, leaf, 1);
+        left -= 1;
+    }
+    true
+}
 
 // ---- each number compared with all after it
 
@@ -31,16 +68,16 @@ fn appears(table: &[u64], first: u64, most: u64, recording: u64) -> bool
     }
 }
 
-// Whether one of the ways from i on has this pointer.
-fn repeats(w: Ways, i: usize, pointer: u64) -> bool
+// Whether one of the ways from i on has this recording number.
+fn repeats(w: Ways, i: usize, recording: u64) -> bool
     requires { ⌜ w .count ≤ 13 ⌝ }
-    ensures { λ r. ⌜ r ≡ elem pointer (pointersFrom w i) ⌝ }
+    ensures { λ r. ⌜ r ≡ elem recording (recordingsFrom w i) ⌝ }
 {
     let count = w.count;
     let pointers = w.pointers;
     let mut j = i;
     while j < count {
-        if pointers[j] == pointer {
+        if pointer::recording(pointers[j]) == recording {
             return true;
         }
         j += 1;
@@ -51,16 +88,17 @@ fn repeats(w: Ways, i: usize, pointer: u64) -> bool
 // Whether no recording number of a leaf, its first way left aside, comes again in it or in the leaves after it.
 fn leaf_once(table: &[u64], w: Ways, next: u64, most: u64) -> bool
     requires { ⌜ w .count ≤ 13 ⌝ }
-    ensures { λ r. ⌜ r ≡ onceBefore (pointersFrom w 1) (numbersAlong (now (table .entry)) most next) ⌝ }
+    ensures { λ r. ⌜ r ≡ onceBefore (recordingsFrom w 1) (numbersAlong (now (table .entry)) most next) ⌝ }
 {
     let count = w.count;
     let pointers = w.pointers;
     let mut i = 1;
     while i < count {
-        if repeats(w, i + 1, pointers[i]) {
+        let number = pointer::recording(pointers[i]);
+        if repeats(w, i + 1, number) {
             return false;
         }
-        if appears(table, next, most, pointers[i]) {
+        if appears(table, next, most, number) {
             return false;
         }
         i += 1;
@@ -68,16 +106,13 @@ fn leaf_once(table: &[u64], w: Ways, next: u64, most: u64) -> bool
     true
 }
 
-// No recording number is in the map twice, and none is MARK: each is compared with all after it. The last resort, for numbers chosen so
-// that they crowd the same cells.
+// No recording number is in the map twice: each is compared with all after it. The last resort, for numbers chosen so that they crowd
+// the same cells.
 fn compared_once(table: &[u64]) -> bool
-    ensures { λ r. ⌜ r ≡ distinct (MARK ∷ allNumbers (now (table .entry))) ⌝ }
+    ensures { λ r. ⌜ r ≡ distinct (allNumbers (now (table .entry))) ⌝ }
 {
     let mut leaf = leaves::first_leaf(table);
     let mut left = leaves::word_at(table, 2);
-    if appears(table, leaf, left, MARK) {
-        return false;
-    }
     while leaf != 0 {
         if left == 0 {
             return true;
@@ -121,13 +156,14 @@ fn enter_one(cells: &mut [u64], number: u64, low: u64, high: u64) -> Entry
 fn enter_leaf(cells: &mut [u64], w: Ways, low: u64, high: u64) -> Entry
     requires { ⌜ length (now cells) ≡ CELLS ⌝ }
     requires { ⌜ w .count ≤ 13 ⌝ }
-    ensures { λ r. ⌜ outcome r (now (cells .exit)) ≡ enteredAll (inPass low high) (pointersFrom w 1) (now (cells .entry)) ⌝ }
+    ensures { λ r. ⌜ outcome r (now (cells .exit)) ≡ enteredAll (inPass low high) (recordingsFrom w 1) (now (cells .entry)) ⌝ }
 {
     let count = w.count;
     let pointers = w.pointers;
     let mut i = 1;
     while i < count {
-        let entry = enter_one(cells, pointers[i], low, high);
+        let number = pointer::recording(pointers[i]);
+        let entry = enter_one(cells, number, low, high);
         match entry {
             Entry::Entered => {}
             Entry::Known => return Entry::Known,
@@ -170,14 +206,10 @@ fn pass(table: &[u64], low: u64, high: u64) -> Entry
     enter_leaves(&mut cells, table, low, high)
 }
 
-// No recording number is in the map twice, and none is MARK. The first pass takes all; where the cells get full, half its range is tried.
-pub fn once(table: &[u64]) -> bool
-    ensures { λ r. ⌜ r ≡ distinct (MARK ∷ allNumbers (now (table .entry))) ⌝ }
+// No recording number is in the map twice. The first pass takes all; where the cells get full, half its range is tried.
+fn once(table: &[u64]) -> bool
+    ensures { λ r. ⌜ r ≡ distinct (allNumbers (now (table .entry))) ⌝ }
 {
-    let first = leaves::first_leaf(table);
-    if appears(table, first, leaves::word_at(table, 2), MARK) {
-        return false;
-    }
     let mut low = 0;
     let mut width = 4294967296;
     while low < numbers::SPREAD {
@@ -196,4 +228,14 @@ pub fn once(table: &[u64]) -> bool
         }
     }
     true
+}
+
+// Whether the map's recording numbers and classes are right.
+pub fn ok(table: &[u64]) -> bool
+    ensures { λ r. ⌜ r ≡ recordingsOk (allPairs (now (table .entry))) ⌝ }
+{
+    if !pairs_ok(table) {
+        return false;
+    }
+    once(table)
 }

@@ -61,7 +61,7 @@ abbrev Called : Call → (t lent : Words) → Written → (t′ lent′ : Words)
 Called x t lent a t′ lent′ =
     (a ≡ written x (length lent) t) × ((t′ ≡ tableAfter x (length lent) t) × (lent′ ≡ listAfter x lent t))
 
-pub acted-insertion : (q : Request) (t lent : Words) (k r : ℕ) → q ≡ Insertion k r → (a : Written) (t′ lent′ : Words) → Called (insertion k r) t lent a t′ lent′ → Acted q t lent a t′ lent′
+pub acted-insertion : (q : Request) (t lent : Words) (k r : ℕ) → q ≡ Insertion k r → (a : Written) (t′ lent′ : Words) → Called (insertion k r 0) t lent a t′ lent′ → Acted q t lent a t′ lent′
 unfolding answerTo doRequest
 acted-insertion q t lent k r e a t′ lent′ h = rw (e, call-table, call-list) h
 
@@ -103,7 +103,7 @@ call-spoken x d (suc n) e = rw e
 -- What is printed of a request, from its answer and the list after it, is document 01's text.
 pub request-spoken : (q : Request) (d : Desk) → spoken (answerTo q d) ((doRequest q d) .desk .list) ≡ (doRequest q d) .bytes
 unfolding answerTo doRequest spoken
-request-spoken (Insertion k r) d = rw call-list (call-spoken (insertion k r) d _ refl)
+request-spoken (Insertion k r) d = rw call-list (call-spoken (insertion k r 0) d _ refl)
 request-spoken (Deletion k) d = rw call-list (call-spoken (deletion k) d _ refl)
 request-spoken (Refused n) d = refl
 

@@ -22,7 +22,7 @@ abbrev pub answerOf : Call → Desk → Written
 answerOf x d = written x (length (d .list)) (d .table)
 
 unfoldable pub answerTo : Request → Desk → Written
-answerTo (Insertion k r) d = answerOf (insertion k r) d
+answerTo (Insertion k r) d = answerOf (insertion k r 0) d
 answerTo (Deletion k) d = answerOf (deletion k) d
 answerTo (Refused n) d = written-as.Refused n
 

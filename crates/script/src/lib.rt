@@ -45,7 +45,7 @@ pub fn act(table: &mut [u64], list: &mut [u64], request: Request) -> Written
     ensures { λ r. ⌜ now (list .exit) ≡ (doRequest request (deskOf (now (table .entry)) (now (list .entry)))) .desk .list ⌝ }
 {
     match request {
-        Request::Insertion { key, recording } => insert::insert(table, list, key, recording),
+        Request::Insertion { key, recording } => insert::insert(table, list, key, recording, 0),
         Request::Deletion(key) => delete::delete(table, list, key),
         Request::Refused(n) => Written::Refused(n),
     }

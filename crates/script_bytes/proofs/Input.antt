@@ -170,7 +170,7 @@ line-used s (b ∷ bs) = go (eqb b 10) (lineIn (step s b) bs) (line-used (step s
 
 -- ---- the printer
 
-asked-key : (x : Parsed) (r : ℕ) (d : Desk) → withKey x (λ (k : ℕ). insertion k r) d ≡ doRequest (insertionOf x r) d
+asked-key : (x : Parsed) (r : ℕ) (d : Desk) → withKey x (λ (k : ℕ). insertion k r 0) d ≡ doRequest (insertionOf x r) d
 unfolding doRequest
 asked-key (parsed.Key k) r d = refl
 asked-key (parsed.Refused n) r d = refl

@@ -52,7 +52,7 @@ carried act (l ∷ ls) a = carried act ls (act (requestOf (formOf (fields l))) a
 -- ---- the order printer
 
 unfoldable pub doRequest : Request → Desk → Reply
-doRequest (Insertion k r) d = doCall (insertion k r) d
+doRequest (Insertion k r) d = doCall (insertion k r 0) d
 doRequest (Deletion k) d = doCall (deletion k) d
 doRequest (Refused n) d = reply (refusedLine n) d
 

@@ -11,7 +11,7 @@ use Rattle.model.specs.declared.Answer.{Answer}
 use Rattle.model.specs.declared.Answer.the-variants.{Found, Refused}
 use Rattle.model.specs.declared.Node.{Node}
 use Rattle.model.specs.Table.{Words, inRange, headerOk, headerNumber, hasNode, node, nodes, root}
-use Rattle.model.specs.Slots.{Slot, View, nodeView, view, height, used}
+use Rattle.model.specs.Slots.{Slot, recordingOf, classOf, View, nodeView, view, height, used}
 use Rattle.model.specs.Search.{below, within, moved, route, down, onLevel, passes, locate, firstWith, nextFrom, answerOf, answerIn, searchView, search}
 use Rattle.table_laws.proofs.Header.{header-iff, header-number-iff, header-number-refused}
 use Rattle.table_laws.proofs.Nodes.{has-node-range}
@@ -227,8 +227,8 @@ held-answer : (o : Option Slot) (x : Answer) → answerHeld (heldBy o) x ≡ ans
 held-answer none x = refl
 held-answer (some s) x = refl
 
-pub held-found : (h : Held) (p : ℕ) (x : Answer) → h ≡ Pointer p → Found p ≡ answerHeld h x
-held-found h p x e = rw e
+pub held-found : (h : Held) (p r c : ℕ) (x : Answer) → h ≡ Pointer p → r ≡ recordingOf p → c ≡ classOf p → Found r c ≡ answerHeld h x
+held-found h p r c x e a b = rw (e, a, b)
 
 pub held-none : (h : Held) (r x : Answer) → h ≡ Nothing → r ≡ x → r ≡ answerHeld h x
 held-none h r x e q = rw e q

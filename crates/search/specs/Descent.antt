@@ -3,7 +3,7 @@ use mathlib.Core.Bool.{true, false, cond}
 use Prim.Native.Nat.{ℕ, zero, suc}
 use Rattle.model.specs.declared.Answer.{Answer}
 use Rattle.model.specs.declared.Answer.the-variants.{Found}
-use Rattle.model.specs.Slots.{View, recordingOf}
+use Rattle.model.specs.Slots.{View, recordingOf, classOf}
 use Rattle.model.specs.Search.{passes, moved, down}
 use Rattle.slots.specs.declared.Held.{Held}
 use Rattle.slots.specs.declared.Held.the-variants.{Pointer, Nothing}
@@ -19,5 +19,5 @@ arrive v (suc l) n k = elim (passes v (suc l) n) [ true ↦ arrive v l (down v (
 
 -- from the slot of the key; the answer where there is none is given
 abbrev pub answerHeld : Held → (absent : Answer) → Answer
-answerHeld (Pointer p) absent = Found (recordingOf p)
+answerHeld (Pointer p) absent = Found (recordingOf p) (classOf p)
 answerHeld Nothing absent = absent

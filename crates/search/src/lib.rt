@@ -129,7 +129,10 @@ fn answer(table: &[u64], m: u64, held: Held, key: u64) -> Answer
     ensures { λ r. ⌜ r ≡ answerHeld held (nextFrom (view (now (table .entry))) (nodes (now (table .entry))) m key) ⌝ }
 {
     match held {
-        Held::Pointer(p) => Answer::Found(p),
+        Held::Pointer(p) => Answer::Found {
+            recording: pointer::recording(p),
+            access: pointer::class(p),
+        },
         Held::Nothing => {
             let x = node::read(table, m);
             next_from(table, m, x, key)
@@ -137,7 +140,7 @@ fn answer(table: &[u64], m: u64, held: Held, key: u64) -> Answer
     }
 }
 
-// The recording of a key, or that it is absent, with the next key up; 2 and 3 as document 01 and request 1 lay down.
+// The recording and the class of a key, or that it is absent, with the next key up; 2 and 3 as document 01 and request 1 lay down.
 pub fn search(table: &[u64], key: u64) -> Answer
     ensures { λ r. ⌜ r ≡ search (now (table .entry)) key ⌝ }
 {

@@ -1,4 +1,4 @@
-// Shifts, cutting off, a leaf freed, split and new root on the nodes of the working copy: each store is made and listed.
+// Shifts, another class, cutting off, a leaf freed, split and new root on the nodes of the working copy: each store is made and listed.
 use model::MARK;
 use model::Node;
 use orders::Pen;
@@ -9,8 +9,8 @@ ghost use Prim.Native.Nat.{_+_, _≤_, _<_};
 ghost use lib.ListN.{length, drop};
 ghost use Rattle.model.specs.Table.{MARK, hasNode};
 ghost use Rattle.model.specs.Slots.{view, height};
-ghost use Rattle.model.specs.Shifts.{keyTo, pointerTo};
-ghost use Rattle.model.specs.Writes.{shiftInAt, shiftOutAt, closeAt, putAll, nodeWords, split, newRootAt, cutOff, attach, childBefore, freeStores};
+ghost use Rattle.model.specs.Shifts.{keyTo, pointerTo, placeOf};
+ghost use Rattle.model.specs.Writes.{shiftInAt, shiftOutAt, setClassAt, closeAt, putAll, nodeWords, split, newRootAt, cutOff, attach, childBefore, freeStores};
 ghost use Rattle.orders.specs.Desk.{desk, stored, storedAll, Room};
 ghost use Rattle.slots.specs.Scan.{inUseOf};
 ghost use Rattle.shift.specs.Stores.{inFrom, movesUp, movesDown, slotIn, slotOut, gapClosed, upperWords};
@@ -160,6 +160,24 @@ pub fn shift_out(table: &mut [u64], list: &mut [u64], pen: Pen, n: u64, k: u64) 
     let w = node::start(table, n);
     let read = node::read(table, n);
     slot_out(table, list, pen, w, read, k)
+}
+
+// Gives the slot of key k in node n another class: its pointer := the one with that class.
+pub fn set_class(table: &mut [u64], list: &mut [u64], pen: Pen, n: u64, k: u64, access: u64) -> Pen
+    requires { ⌜ hasNode (now table) n ≡ true ⌝ }
+    requires { ⌜ view (now table) .node n .hidden ≡ 0 ⌝ }
+    requires { ⌜ placeOf k (view (now table) .node n .shown) < length (view (now table) .node n .shown) ⌝ }
+    requires { ⌜ access ≤ 2 ⌝ }
+    requires { ⌜ Room (setClassAt (now table) n k access) (desk (now table) (now list) pen) ⌝ }
+    ensures { λ r. ⌜ desk (now (table .exit)) (now (list .exit)) r
+        ≡ storedAll (setClassAt (now (table .entry)) n k access) (desk (now (table .entry)) (now (list .entry)) pen) ⌝ }
+{
+    let w = node::start(table, n);
+    let read = node::read(table, n);
+    let slots = read.slots;
+    let p = slots::place(slots, k);
+    let x = pointer::with_class(slots[2 * p + 1], access);
+    put_pointer(table, list, pen, w, p, x)
 }
 
 // Closes the hidden slot of node n.

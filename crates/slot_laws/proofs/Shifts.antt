@@ -10,7 +10,7 @@ use Rattle.model.specs.Shifts.{keyTo, pointerTo, lastPointer, moveUp, moveDown,
 use Rattle.list_laws.proofs.Tools.{Each}
 use Rattle.list_laws.proofs.Steps.{doAll, Until, AtFirst, until-append, until-end}
 use Rattle.slot_laws.proofs.Hiding.{Stops, parts, AllShown, all-used, all-split, all-insert, all-shown, not-hidden, last-used, Shows, MayHide, shows-all, shows-gap, OneHidden, one-hidden}
-use Rattle.slot_laws.proofs.SlotStores.{setKey, setPointer, doSlotStore, doSlotStores, set-key-at, set-pointer-at}
+use Rattle.slot_laws.proofs.SlotStores.{setKey, setPointer, doSlotStore, doSlotStores, set-key-at, set-pointer-at, set-pointer-front}
 use Rattle.slot_laws.proofs.Moves.{first, moved-up, move-up-along, move-down-until}
 
 -- a slot more at place p, and a slot less
@@ -180,3 +180,11 @@ cut-slots left ss all p s h =
     let f : all ≡ a ++ g ∷ r = u .shape ∙ ap (λ (y : List Slot). y ++ u .behind) e ∙ append-assoc a _ (u .behind) in
     let q : setPointer all p 0 ≡ a ++ slot (g .key) 0 ∷ r = ap (λ (y : List Slot). setPointer y p 0) f ∙ set-pointer-at a g r p 0 (length-take-le p ss (omega arith)) in
     rw q (shows-all left a _ (all-split left a _ (subst (AllShown left) e (u .shown-all)) .0) refl)
+
+-- ---- another pointer
+
+-- Storing y in the pointer of slot p, where the slots with it are all shown, shows them.
+pub other-slots : (left : ℕ) (ss all : List Slot) (p y : ℕ) → Shows left ss 0 all → p < length ss → AllShown left (setPointer ss p y) → Shows left (setPointer ss p y) 0 (setPointer all p y)
+other-slots left ss all p y s h new =
+    let u = shape-of left ss all s in
+    rw (u .shape, set-pointer-front ss (u .behind) p y h) (shows-all left (setPointer ss p y) (u .behind) new (u .stops))

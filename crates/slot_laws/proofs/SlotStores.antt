@@ -1,7 +1,7 @@
 -- What a store to a slot does to the slots of a node: at its place, to their number, and to pointers that are 0.
 use mathlib.Core.Path.{_≡_, refl, ap, _∙_}
 use mathlib.Core.List.{List, [], _∷_, _++_}
-use Prim.Native.Nat.{ℕ, zero, suc}
+use Prim.Native.Nat.{ℕ, zero, suc, _<_}
 use native.Mathlib.Omega.{arith}
 use lib.ListN.{length, getD}
 use Rattle.model.specs.Slots.{Slot, slot}
@@ -48,6 +48,13 @@ set-pointer-at [] s r zero x e = refl
 set-pointer-at [] s r (suc n) x e = absurd (omega arith)
 set-pointer-at (y ∷ a) s r zero x e = absurd (omega arith)
 set-pointer-at (y ∷ a) s r (suc n) x e = ap (λ (l : List Slot). y ∷ l) (set-pointer-at a s r n x (omega arith))
+
+-- among the first slots
+pub set-pointer-front : (a r : List Slot) (n x : ℕ) → n < length a → setPointer (a ++ r) n x ≡ setPointer a n x ++ r
+unfolding setPointer
+set-pointer-front [] r n x h = absurd (omega arith)
+set-pointer-front (s ∷ a) r zero x h = refl
+set-pointer-front (s ∷ a) r (suc n) x h = ap (λ (l : List Slot). s ∷ l) (set-pointer-front a r n x (omega arith))
 
 -- ---- a pointer that is 0 stays 0 under all stores but one of another number to it
 

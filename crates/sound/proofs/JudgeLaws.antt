@@ -2,7 +2,7 @@
 use mathlib.Core.Path.{_≡_, refl, ap, sym, _∙_}
 use mathlib.Core.Bool.{Bool, true, false, _&&_, false≢true, and-false}
 use mathlib.Core.Logic.{_↔_}
-use mathlib.Core.List.{List, _∷_}
+use mathlib.Core.List.{List}
 use mathlib.Core.Option.{Option, none, some}
 use Prim.Native.Nat.{ℕ}
 use native.Mathlib.Omega.{arith}
@@ -15,11 +15,11 @@ use Rattle.model.specs.declared.Few.the-variants.{Zero, One, Many}
 use Rattle.model.specs.declared.Missing.{Missing}
 use Rattle.model.specs.declared.Missing.the-variants.{Nowhere, Under}
 use Rattle.model.specs.declared.Unfinished.{Unfinished}
-use Rattle.model.specs.Table.{MARK, Words, headerOk, headerNumber, node}
-use Rattle.model.specs.Slots.{used, View, view}
-use Rattle.model.specs.Reached.{reached}
+use Rattle.model.specs.Table.{Words, headerOk, headerNumber, node}
+use Rattle.model.specs.Slots.{Slot, used, View, view}
+use Rattle.model.specs.Reached.{flat, kept, reached}
 use Rattle.model.specs.SoundTest as model
-use Rattle.model.specs.SoundTest.{distinct, leftoverFrom, leftoverOf, leftover, isAllowed, hasRoom, room, soundView, sound}
+use Rattle.model.specs.SoundTest.{recordingsOk, leftoverFrom, leftoverOf, leftover, isAllowed, hasRoom, room, soundView, sound}
 use Rattle.list_laws.proofs.Tools.{and-iff, refuted}
 use Rattle.table_laws.proofs.Header.{header-number-iff, header-number-refused}
 use Rattle.walk_laws.specs.declared.Tally as tally
@@ -33,9 +33,8 @@ use Rattle.sound.specs.declared.Verdict.{Verdict}
 use Rattle.sound.specs.declared.Verdict.the-variants.{Allowed, TooMuch}
 use Rattle.sound.specs.declared.Checked.the-variants.{Unsound, Sound}
 use Rattle.slots.specs.Scan.{shownFrom}
-use Rattle.leaves.specs.Hits.{recordings}
 use Rattle.sound.specs.Checked.{meant, said, verdictOf, soundWith, checked}
-use Rattle.leaves.proofs.FoundLaws.{recordings-mapping}
+use Rattle.leaves.proofs.FoundLaws.{chain-mapping}
 
 -- ---- what is unfinished
 
@@ -133,8 +132,8 @@ pub record Found (t : Words) (r : Verdict) : Type 0 where
   pub verdict : r ≡ verdictOf (leftoverOf unfinished)
 
 module _ {t : Words} {r : Verdict} (f : Found t r) where
-  abbrev once : Bool
-  once = distinct (MARK ∷ recordings (view t) (chain (view t)))
+  abbrev right : Bool
+  right = recordingsOk (flat (kept (view t)) (chain (view t)))
 
   passed : Passed (view t) (f .count) (f .unfinished)
   passed = walk-iff (view t) (f .count) (f .unfinished) .0 (f .walked)
@@ -142,13 +141,13 @@ module _ {t : Words} {r : Verdict} (f : Found t r) where
   ordered : InOrder (view t)
   ordered = in-order-iff (view t) .0 (and-iff _ _ .1 (passed .root-ok, passed .nodes-ok))
 
-  sound-is : sound t ≡ (once && isAllowed (view t) (leftoverOf (f .unfinished)))
+  sound-is : sound t ≡ (right && isAllowed (view t) (leftoverOf (f .unfinished)))
   sound-is =
       sound-view t (f .header) ∙ ap (judged (view t)) (f .walked)
-      ∙ ap (λ (rs : List ℕ). distinct (MARK ∷ rs) && isAllowed (view t) (leftoverOf (f .unfinished))) (sym (recordings-mapping (view t) ordered))
+      ∙ ap (λ (ps : List Slot). recordingsOk ps && isAllowed (view t) (leftoverOf (f .unfinished))) (sym (chain-mapping (view t) ordered))
 
   not-allowed : isAllowed (view t) (leftoverOf (f .unfinished)) ≡ false → Unsound ≡ checked t
-  not-allowed a = refused t (sound-is ∙ rw (a, and-false once))
+  not-allowed a = refused t (sound-is ∙ rw (a, and-false right))
 
   pub wrong-leftover : r ≡ TooMuch → Unsound ≡ checked t
   wrong-leftover m = not-allowed (ap (isAllowed (view t)) (too-much (leftoverOf (f .unfinished)) r (f .verdict) m))
@@ -160,10 +159,10 @@ module _ {t : Words} {r : Verdict} (f : Found t r) where
     pub wrong-room : hasRoom (view t) (meant x) ≡ false → Unsound ≡ checked t
     wrong-room h = not-allowed (ap (isAllowed (view t)) allowed ∙ h)
 
-    pub wrong-recordings : once ≡ false → Unsound ≡ checked t
+    pub wrong-recordings : right ≡ false → Unsound ≡ checked t
     wrong-recordings g = refused t (sound-is ∙ rw g)
 
-    pub all-right : hasRoom (view t) (meant x) ≡ true → once ≡ true → Sound x (f .count) ≡ checked t
+    pub all-right : hasRoom (view t) (meant x) ≡ true → right ≡ true → Sound x (f .count) ≡ checked t
     unfolding checked leftover
     all-right h g =
         let yes-sound : sound t ≡ true = sound-is ∙ rw g (ap (isAllowed (view t)) allowed ∙ h) in

@@ -309,7 +309,7 @@ fn check_slot(
     check_node(table, sibling, level, fence, right, first)
 }
 
-// The check of the whole table but for the recording numbers and the leftover.
+// The check of the whole table but for the recording numbers, the classes and the leftover.
 fn walk(table: &[u64]) -> Tally
     requires { ⌜ headerOk (now table) ≡ true ⌝ }
     ensures { λ r. ⌜ r ≡ walk (view (now (table .entry))) ⌝ }
@@ -492,7 +492,7 @@ pub fn check(table: &[u64]) -> Checked
                     if !has_room(table, left) {
                         return Checked::Unsound;
                     }
-                    if !recordings::once(table) {
+                    if !recordings::ok(table) {
                         return Checked::Unsound;
                     }
                     Checked::Sound {

@@ -9,16 +9,17 @@ use native.Mathlib.Omega.{arith}
 use lib.Dec.{eqb}
 use lib.ListN.{length, length-append}
 use borrow.Author.Tests.{eq-eqb, ne-eqb, lt-ltb}
-use Rattle.model.specs.Table.{MARK, inRange}
-use Rattle.model.specs.Slots.{Slot, slot, View, height, recording}
+use Rattle.model.specs.Table.{inRange}
+use Rattle.model.specs.Slots.{Slot, slot, View, height, recording, class}
 use Rattle.model.specs.Search.{within}
 use Rattle.model.specs.Reached.{kept, named, nextChild, fillRow, children, reached, leaves, mapping}
-use Rattle.model.specs.SoundTest.{all, distinct, siblingOk, comeFirst, keysOk, linked, childOk, slotOk, leafOk, innerOk, nodeOk, orderly, Leftover, nothing, hiddenIn, missingIn, bothIn, leftover, room, hasRoom}
+use Rattle.model.specs.SoundTest.{all, distinct, siblingOk, comeFirst, keysOk, linked, childOk, slotOk, leafOk, innerOk, nodeOk, pairOk, recordingsOk, orderly, Leftover, nothing, hiddenIn, missingIn, bothIn, leftover, room, hasRoom}
 use Rattle.model.specs.Sound.{Reached, at-root, by-sibling, Child, left-child, Lacks, Trails, Hides, SettledBut, OneHidden, LacksSlot, TrailingSlots, IsLeft}
 use Rattle.view_laws.proofs.NodeViews.{levelOf, fenceOf}
 use Rattle.list_laws.proofs.Tools.{and-iff, leb-iff, same-or-not, Each, Each-map, all-each}
-use Rattle.list_laws.proofs.Members.{mem-each, index-of, elem-none, map-flat}
-use Rattle.list_laws.proofs.Distinct.{distinct-cons, distinct-flat, once-distinct}
+use Rattle.list_laws.proofs.Members.{mem-each, index-of, map-flat}
+use Rattle.list_laws.proofs.Distinct.{distinct-flat, once-distinct}
+use Rattle.list_laws.proofs.Recordings.{recording-iff, class-iff, pair-iff, recordings-iff}
 use Rattle.tree_laws.proofs.Rows.{Good, range-iff, no-children, children-inner}
 use Rattle.tree_laws.proofs.Levels.{RootFacts, orderly-iff, row-distinct}
 use Rattle.tree_laws.proofs.Rising.{rising-from-rise}
@@ -229,16 +230,18 @@ module _ (v : View) (x : Leftover) (s : SettledBut v x) (i : IsLeft v x) where
         let g = index-of (slot 0 0) (w .1) in
         s .recording-once (ra .0) (ra .1) (f .1) (rb .0) (rb .1) (g .1) (ap recording (sym (f .2)) ∙ u .2 ∙ sym (w .2) ∙ ap recording (g .2)) .0
 
-    recordings-distinct : distinct (MARK ∷ map recording (mapping v)) ≡ true
+    recordings-ok : recordingsOk (mapping v) ≡ true
     unfolding recordings mapping
-    recordings-distinct =
-        distinct-cons MARK (map recording (mapping v)) .1 (
-          elem-none MARK (map recording (mapping v)) .1 (λ m. let u = Memᴰ·of-map recording (mapping v) m in let w = mapped v all-good (u .1) in s .recording-number (w .1) (w .2) (w .3) .1 (u .2)),
+    recordings-ok =
+        recordings-iff (mapping v) .1 (
+          mem-each (λ (u : Slot). pairOk u ≡ true) (mapping v) (λ u m.
+              let w = mapped v all-good m in
+              pair-iff u .1 (recording-iff (recording u) .1 (s .recording-number (w .1) (w .2) (w .3)), class-iff (class u) .1 (s .class-number (w .1) (w .2) (w .3)))),
           subst (λ (l : List ℕ). distinct l ≡ true) (sym (map-flat recording (kept v) (leaves v))) (distinct-flat recordings (leaves v) (leaves-distinct v all-good) leaf-once leaves-once),
         )
 
     pub orderly-ok : orderly v ≡ true
-    orderly-ok = orderly-iff v .1 (record { top = root-facts; good = all-good .good; once = listed-distinct v all-good; recordings = recordings-distinct })
+    orderly-ok = orderly-iff v .1 (record { top = root-facts; good = all-good .good; once = listed-distinct v all-good; recordings = recordings-ok })
 
     -- ---- what is unfinished
 

@@ -8,16 +8,17 @@ use native.Mathlib.Omega.{arith}
 use lib.ListN.{length, length-append, getD}
 use borrow.Author.Tests.{leb-true, not-true}
 use Rattle.model.specs.Table.{MARK, inRange}
-use Rattle.model.specs.Slots.{Slot, slot, View, recording}
+use Rattle.model.specs.Slots.{Slot, slot, View, recording, class, recordingOk, classOk}
 use Rattle.model.specs.Search.{within, route, down}
 use Rattle.model.specs.Reached.{flat, kept, named, nextChild, children, reached, leaves, mapping}
-use Rattle.model.specs.SoundTest.{elem, distinct, leafOk, nodeOk, Leftover, nothing, hiddenIn, missingIn, bothIn, room, hasRoom}
+use Rattle.model.specs.SoundTest.{distinct, leafOk, nodeOk, pairOk, Leftover, nothing, hiddenIn, missingIn, bothIn, room, hasRoom}
 use Rattle.model.specs.Sound.{Reached, by-sibling, Child, left-child, slot-child, Lacks, SettledBut, OneHidden, LacksSlot, TrailingSlots, IsLeft}
 use Rattle.view_laws.proofs.NodeViews.{levelOf}
-use Rattle.list_laws.proofs.Tools.{decode, and-iff, all-each}
-use Rattle.list_laws.proofs.Members.{each-mem, mem-each, getD-in, elem-none, mem-flat, map-flat}
+use Rattle.list_laws.proofs.Tools.{decode, and-iff, Each, all-each}
+use Rattle.list_laws.proofs.Members.{each-mem, mem-each, getD-in, mem-flat, map-flat}
 use Rattle.list_laws.proofs.Filters.{mem-filter}
-use Rattle.list_laws.proofs.Distinct.{distinct-cons, flat-apart, distinct-once}
+use Rattle.list_laws.proofs.Distinct.{flat-apart, distinct-once}
+use Rattle.list_laws.proofs.Recordings.{recording-iff, class-iff, pair-iff, recordings-iff}
 use Rattle.tree_laws.proofs.Rows.{Good, Row, Inner, Named, inner, leaf-ok, sib-facts, SibFacts, no-children, children-inner, range-iff}
 use Rattle.tree_laws.proofs.Levels.{Orderly, rowAt, level-at, reached-row, ascending, row-apart}
 use Rattle.tree_laws.proofs.Parents.{reached-children}
@@ -28,7 +29,7 @@ use Rattle.tree_laws.proofs.Leftovers.{HiddenOnly, TrailingOnly, MissingOnly, L
 use Rattle.sound_laws.proofs.Neighbours.{there, Lost, in-fill, gap-lost}
 use Rattle.sound_laws.proofs.Fences.{row-next}
 use Rattle.sound_laws.proofs.Leftovers.{none-hidden, keeps-all, keeps-else, keys-below, lost-lacks}
-use Rattle.sound_laws.proofs.Joined.{Joined, Stray, in-kept, kept-in, kept-child, named-child, child-inner, parent-same, sibling-same, named-ascend, gap-child, gap-reached, gap-next, gap-sibling}
+use Rattle.sound_laws.proofs.Joined.{Joined, Stray, kept-in, kept-child, named-child, child-inner, parent-same, sibling-same, named-ascend, gap-child, gap-reached, gap-next, gap-sibling}
 use Rattle.sound_laws.proofs.Routing.{route-follows}
 use Rattle.sound_laws.proofs.Listed.{AllGood, orderly-good, child-children, reached-listed, listed-reached, listed-leaf}
 
@@ -120,11 +121,11 @@ module _ (v : View) (o : Orderly v) where
 
   recordings-once : distinct (flat recordings (leaves v)) ≡ true
   unfolding recordings mapping
-  recordings-once = subst (λ (l : List ℕ). distinct l ≡ true) (map-flat recording (kept v) (leaves v)) (distinct-cons MARK (map recording (mapping v)) .0 (o .recordings) .1)
+  recordings-once = subst (λ (l : List ℕ). distinct l ≡ true) (map-flat recording (kept v) (leaves v)) (recordings-iff (mapping v) .0 (o .recordings) .1)
 
-  leaf-once : {n : ℕ} → Reached v n → v .node n .level ≡ 0 → (elem MARK (recordings n) ≡ false) × (distinct (recordings n) ≡ true)
+  leaf-once : {n : ℕ} → Reached v n → v .node n .level ≡ 0 → Each (λ (s : Slot). pairOk s ≡ true) (kept v n) × (distinct (recordings n) ≡ true)
   unfolding recordings
-  leaf-once {n} r e = distinct-cons MARK (map recording (kept v n)) .0 (leaf-recordings v n o (listed-leaf v o r e))
+  leaf-once {n} r e = recordings-iff (kept v n) .0 (leaf-recordings v n o (listed-leaf v o r e))
 
   recording-once : {m n a b : ℕ} → Reached v m → v .node m .level ≡ 0 → a < length (kept v m) → Reached v n → v .node n .level ≡ 0 → b < length (kept v n)
       → recording (getD (kept v m) a (slot 0 0)) ≡ recording (getD (kept v n) b (slot 0 0)) → (m ≡ n) × (a ≡ b)
@@ -134,9 +135,8 @@ module _ (v : View) (o : Orderly v) where
       (Memᴰ·cast e (Memᴰ·map recording (getD-in (slot 0 0) (kept v n) b hb))) in
       (q, distinct-once recording (slot 0 0) (kept v m) a b (leaf-once rm em .1) ha (subst (λ (k : ℕ). b < length (kept v k)) (sym q) hb) (e ∙ ap (λ (k : ℕ). recording (getD (kept v k) b (slot 0 0))) (sym q)))
 
-  recording-not-mark : {n : ℕ} {s : Slot} → Reached v n → v .node n .level ≡ 0 → List·Memᴰ s (kept v n) → recording s ≢ MARK
-  unfolding recordings
-  recording-not-mark {n} r e m q = elem-none MARK (map recording (kept v n)) .0 (leaf-once r e .0) (Memᴰ·cast (sym q) (Memᴰ·map recording m))
+  pair-ok : {n : ℕ} {s : Slot} → Reached v n → v .node n .level ≡ 0 → List·Memᴰ s (kept v n) → (recordingOk (recording s) ≡ true) × (classOk (class s) ≡ true)
+  pair-ok {n} {s} r e m = pair-iff s .0 (each-mem (λ (u : Slot). pairOk u ≡ true) (leaf-once r e .0) m)
 
   -- ---- what each leftover says
 
@@ -236,8 +236,8 @@ module _ (v : View) (o : Orderly v) where
         go (inl e) = absurd (z e)
         go (inr m) = let u = mem-flat (children v) c (reached v) .0 m in at-level (u .0) (v .node (u .0) .level) (listed-reached v w (u .1)) refl (u .2)
 
-    pub settled-but : ((n : ℕ) (s : Slot) → List·Memᴰ s (v .node n .shown) → s .pointer ≢ 0) → SettledBut v x
-    settled-but no-zero =
+    pub settled-but : SettledBut v x
+    settled-but =
         record {
           root-fence = o .top .fence;
           root-sibling = o .top .sibling;
@@ -259,6 +259,7 @@ module _ (v : View) (o : Orderly v) where
           sibling-right = j .sibling-right;
           sibling-next = j .sibling-next;
           recording-once = recording-once;
-          recording-number = λ r e m. (no-zero _ _ (in-kept v _ m .0), recording-not-mark r e m);
+          recording-number = λ r e m. recording-iff _ .0 (pair-ok r e m .0);
+          class-number = λ r e m. class-iff _ .0 (pair-ok r e m .1);
           none-hidden = λ r z. none-hidden v (reached-listed v w r) x l z;
         }

@@ -1,7 +1,7 @@
 -- Document 01, "Sound tables": the sentences of Sound.antt and the test of SoundTest.antt say the same, on every list of words.
 use mathlib.Core.Path.{_≡_, refl, ap, _∙_}
 use mathlib.Core.Bool.{true}
-use mathlib.Core.Logic.{_↔_, _≢_}
+use mathlib.Core.Logic.{_↔_}
 use mathlib.Core.List.{List·Memᴰ}
 use mathlib.Core.Option.{some}
 use Prim.Native.Nat.{ℕ}
@@ -11,19 +11,14 @@ use Rattle.model.specs.Reached.{kept, reached, mapping}
 use Rattle.model.specs.SoundTest.{elem, orderly, Leftover, nothing, leftover, hasRoom, isNothing, isAllowed, settledView, soundView, settled, sound}
 use Rattle.model.specs.Sound.{Reached, SettledBut, IsLeft, Settled, Sound}
 use Rattle.list_laws.proofs.Tools.{and-iff}
-use Rattle.list_laws.proofs.Members.{each-mem, elem-iff}
+use Rattle.list_laws.proofs.Members.{elem-iff}
 use Rattle.tree_laws.proofs.Levels.{orderly-iff}
-use Rattle.tree_laws.proofs.Kept.{shown-pointers}
 use Rattle.tree_laws.proofs.Leftovers.{leftover-iff, is-nothing, is-allowed}
 use Rattle.sound_laws.proofs.Listed.{orderly-good, listed-reached, reached-listed, mapped, in-map-of}
 use Rattle.sound_laws.proofs.FromSentences.{orderly-ok, leftover-is, has-room}
 use Rattle.sound_laws.proofs.FromTest.{is-left, settled-but}
 
 -- ---- views
-
--- shown slots are in use: none has pointer 0
-abbrev pub NoZero : View → Type 0
-NoZero v = (n : ℕ) (s : Slot) → List·Memᴰ s (v .node n .shown) → s .pointer ≢ 0
 
 -- what the test says of a leftover x
 pub record Passes (v : View) (x : Leftover) : Type 0 where
@@ -32,13 +27,13 @@ pub record Passes (v : View) (x : Leftover) : Type 0 where
   pub room : hasRoom v x ≡ true
 
 -- with the root in 1 to N, the test and the sentences say the same of each leftover
-module _ (v : View) (range : inRange (v .nodes) (v .root) ≡ true) (z : NoZero v) where
+module _ (v : View) (range : inRange (v .nodes) (v .root) ≡ true) where
   pub passes-same : (x : Leftover) → Passes v x ↔ (IsLeft v x × SettledBut v x)
   passes-same x = (
     λ p.
         let o = orderly-iff v .0 (p .orderly) in
         let l = leftover-iff v (o .once) x .0 (p .leftover) in
-        (is-left v o x l (p .room), settled-but v o x l z),
+        (is-left v o x l (p .room), settled-but v o x l),
     λ u. record { orderly = orderly-ok v x (u .1) (u .0) range; leftover = leftover-is v x (u .1) (u .0) range; room = has-room v x (u .1) (u .0) range },
   )
 
@@ -74,9 +69,6 @@ map-same v h s = let o = orderly-iff v .0 h in (λ m. mapped v (orderly-good v o
 
 -- ---- tables
 
-pub view-no-zero : (t : Words) → NoZero (view t)
-view-no-zero t n s m = each-mem (λ (u : Slot). u .pointer ≢ 0) (shown-pointers t (root t) n) m
-
 header-range : (t : Words) → headerOk t ≡ true → inRange (nodes t) (root t) ≡ true
 unfolding headerOk
 header-range t h = (simp and-iff at h) .1
@@ -85,8 +77,8 @@ header-range t h = (simp and-iff at h) .1
 pub settled-same : (t : Words) → (settled t ≡ true) ↔ Settled t
 unfolding settled
 settled-same t = (
-  λ h. let u = and-iff (headerOk t) (settledView (view t)) .0 h in record { header = u .0; settled = settled-view (view t) (header-range t (u .0)) (view-no-zero t) .0 (u .1) },
-  λ s. and-iff (headerOk t) (settledView (view t)) .1 (s .header, settled-view (view t) (header-range t (s .header)) (view-no-zero t) .1 (s .settled)),
+  λ h. let u = and-iff (headerOk t) (settledView (view t)) .0 h in record { header = u .0; settled = settled-view (view t) (header-range t (u .0)) .0 (u .1) },
+  λ s. and-iff (headerOk t) (settledView (view t)) .1 (s .header, settled-view (view t) (header-range t (s .header)) .1 (s .settled)),
 )
 
 -- Sound: the test and the sentences say the same.
@@ -95,11 +87,11 @@ unfolding sound
 sound-same t = (
   λ h.
       let u = and-iff (headerOk t) (soundView (view t)) .0 h in
-      let x = sound-view (view t) (header-range t (u .0)) (view-no-zero t) .0 (u .1) in
+      let x = sound-view (view t) (header-range t (u .0)) .0 (u .1) in
       record { header = u .0; leftover = x .0; left = x .1; settled-but = x .2 },
-  λ s. and-iff (headerOk t) (soundView (view t)) .1 (s .header, sound-view (view t) (header-range t (s .header)) (view-no-zero t) .1 (s .leftover, s .left, s .settled-but)),
+  λ s. and-iff (headerOk t) (soundView (view t)) .1 (s .header, sound-view (view t) (header-range t (s .header)) .1 (s .leftover, s .left, s .settled-but)),
 )
 
 -- A sound table has one leftover: the one that the test finds.
 pub leftover-same : (t : Words) (s : Sound t) → leftover (view t) ≡ some (s .leftover)
-leftover-same t s = passes-same (view t) (header-range t (s .header)) (view-no-zero t) (s .leftover) .1 (s .left, s .settled-but) .leftover
+leftover-same t s = passes-same (view t) (header-range t (s .header)) (s .leftover) .1 (s .left, s .settled-but) .leftover

@@ -5,14 +5,15 @@ use mathlib.Core.Bool.{Bool, true, false, cond, not}
 use mathlib.Core.List.{List, [], _∷_}
 use Prim.Native.Nat.{ℕ, _≤_}
 use native.Mathlib.Omega.{arith}
-use lib.Dec.{eqb, ltb}
-use borrow.Author.Tests.{eqb-false, ne-eqb, ltb-false, le-ltb}
-use Rattle.model.specs.Table.{MARK, Words, headerOk}
+use lib.Dec.{ltb}
+use borrow.Author.Tests.{ltb-false, le-ltb}
+use Rattle.model.specs.Table.{Words, headerOk}
+use Rattle.model.specs.Slots.{classOk}
 use Rattle.model.specs.Reached.{mapOf}
 use Rattle.model.specs.SoundTest.{sound}
-use Rattle.model.specs.Writes.{repaired, Call, insertion, deletion, repair}
+use Rattle.model.specs.Writes.{repaired, Call, insertion, deletion, classChange, repair}
 use Rattle.model.specs.Refusals.{parentFull, Test, test, firstNumber, hasKey, mapTests, elevenIn, tenIn, refusal}
-use Rattle.list_laws.proofs.Tools.{Each, or-false-iff, not-false-iff}
+use Rattle.list_laws.proofs.Tools.{Each, not-false-iff}
 use Rattle.step_laws.specs.Parts.{Enters}
 
 -- ---- no test holds exactly if the number is 0
@@ -31,8 +32,9 @@ none-holds (c ∷ cs) z = (λ e. go (c .holds) e refl (none-holds cs (z .1) .0),
 -- ---- what each call asks of the table as repair would leave it
 
 abbrev pub Allows : Call → Words → Type 0
-Allows (insertion k r) t = Enters k r t
+Allows (insertion k r c) t = Enters k r c t
 Allows (deletion k) t = hasKey k (mapOf t) ≡ true
+Allows (classChange k c) t = (classOk c ≡ true) × (hasKey k (mapOf t) ≡ true)
 Allows repair t = Unit {0}
 
 pub record Accepted (x : Call) (words : ℕ) (t : Words) : Type 0 where
@@ -48,16 +50,19 @@ abbrev later : Call → Words → List Test
 later x t = mapTests x (elevenIn x t) (tenIn x t) (mapOf t)
 
 later-numbers : (x : Call) (t : Words) → Each (λ (c : Test). c .number ≢ 0) (later x t)
-later-numbers (insertion k r) t = ((λ e. omega arith), ((λ e. omega arith), ((λ e. omega arith), ((λ e. omega arith), ((λ e. omega arith), tt)))))
+later-numbers (insertion k r c) t = ((λ e. omega arith), ((λ e. omega arith), ((λ e. omega arith), ((λ e. omega arith), ((λ e. omega arith), ((λ e. omega arith), tt))))))
 later-numbers (deletion k) t = ((λ e. omega arith), tt)
+later-numbers (classChange k c) t = ((λ e. omega arith), ((λ e. omega arith), tt))
 later-numbers repair t = tt
 
 allows-iff : (x : Call) (t : Words) → Passed (later x t) ↔ Allows x t
-allows-iff (insertion k r) t = (
-  λ h. let u = or-false-iff (eqb r 0) (eqb r MARK) .0 (h .0) in record { some = eqb-false r 0 (u .0); not-mark = eqb-false r MARK (u .1); no-key = h .1 .0; no-recording = h .1 .1 .0; not-high = h .1 .1 .1 .0; enough = h .1 .1 .1 .1 .0 },
-  λ a. (or-false-iff (eqb r 0) (eqb r MARK) .1 (ne-eqb r 0 (a .some), ne-eqb r MARK (a .not-mark)), (a .no-key, (a .no-recording, (a .not-high, (a .enough, tt))))),
+allows-iff (insertion k r c) t = (
+  λ h.
+      record { recording-ok = not-false-iff _ .0 (h .0); class-ok = not-false-iff _ .0 (h .1 .0); no-key = h .1 .1 .0; no-recording = h .1 .1 .1 .0; not-high = h .1 .1 .1 .1 .0; enough = h .1 .1 .1 .1 .1 .0 },
+  λ a. (not-false-iff _ .1 (a .recording-ok), (not-false-iff _ .1 (a .class-ok), (a .no-key, (a .no-recording, (a .not-high, (a .enough, tt)))))),
 )
 allows-iff (deletion k) t = (λ h. not-false-iff _ .0 (h .0), λ a. (not-false-iff _ .1 a, tt))
+allows-iff (classChange k c) t = (λ h. (not-false-iff _ .0 (h .0), not-false-iff _ .0 (h .1 .0)), λ a. (not-false-iff _ .1 (a .0), (not-false-iff _ .1 (a .1), tt)))
 allows-iff repair t = (λ h. tt, λ a. tt)
 
 -- A call is accepted exactly if all of this holds.

@@ -116,12 +116,13 @@ rising-from x p [] b r = unfold orders in omega arith
 rising-from x p (q ∷ qs) b r = rising-few x q qs b (r .1)
 
 -- stores to the twelve slots of a node of the table lie in the table
+pub slot-inside : (t : Words) (x : ℕ) (q : SlotStore) → hasNode t x ≡ true → Below 12 q → inNode x q .word < length t
+unfolding nodeStart
+slot-inside t x q n h = omega (arith, slot-into x q h, has-node-iff t x .0 n)
+
 slots-inside : (t : Words) (x : ℕ) (qs : List SlotStore) → hasNode t x ≡ true → Each (Below 12) qs → StoresInside (length t) (map (inNode x) qs)
 slots-inside t x [] n b = tt
-slots-inside t x (q ∷ qs) n b = (one q (b .0), slots-inside t x qs n (b .1))
-  where
-    one : (q : SlotStore) → Below 12 q → inNode x q .word < length t
-    one q h = unfold nodeStart in omega (arith, slot-into x q h, has-node-iff t x .0 n)
+slots-inside t x (q ∷ qs) n b = (slot-inside t x q n (b .0), slots-inside t x qs n (b .1))
 
 -- ---- in node x of a table
 

@@ -9,15 +9,16 @@ use Rattle.model.specs.Table.{Words}
 use Rattle.model.specs.Reached.{mapOf}
 use Rattle.model.specs.SoundTest.{settled, sound}
 use Rattle.model.specs.Orders.{apply}
-use Rattle.model.specs.Writes.{deleteStores, repairStores, repaired, Call, insertion, deletion, repair, storesOf}
+use Rattle.model.specs.Writes.{deleteStores, classStores, repairStores, repaired, Call, insertion, deletion, classChange, repair, storesOf}
 use Rattle.model.specs.Refusals.{refusal, ordersOf}
-use Rattle.model.specs.Ledger.{leave, change}
+use Rattle.model.specs.Ledger.{leave, reclass, change}
 use Rattle.cut_laws.specs.Inside.{StoresInside}
 use Rattle.step_laws.proofs.Phase.{Phase}
 use Rattle.step_laws.proofs.Stages.{phase-within}
 use Rattle.step_laws.proofs.Repair.{repair-phase}
 use Rattle.step_laws.proofs.Accepted.{Allows, accepted-iff}
 use Rattle.step_laws.proofs.Deletion.{delete-phase}
+use Rattle.step_laws.proofs.ClassChange.{class-phase}
 use Rattle.step_laws.proofs.Insertion.{insert-phase}
 
 -- the map of t′ is t's, or what call x makes of it
@@ -39,8 +40,9 @@ pub record Steps (x : Call) (t : Words) : Type 0 where
 -- Where the table as repair would leave it allows a call, its stores are a phase that makes its change.
 pub call-phase : (x : Call) (t : Words) → sound t ≡ true → Allows x (repaired t) → Phase 1121 t (storesOf x t) (change x (mapOf t))
 unfolding storesOf
-call-phase (insertion k r) t s a = insert-phase t k r s a
+call-phase (insertion k r c) t s a = insert-phase t k r c s a
 call-phase (deletion k) t s a = phase-within 103 1121 t (deleteStores t k) (leave k (mapOf t)) (omega arith) (delete-phase t k s a)
+call-phase (classChange k c) t s a = phase-within 53 1121 t (classStores t k c) (reclass k c (mapOf t)) (omega arith) (class-phase t k c s (a .0) (a .1))
 call-phase repair t s a = phase-within 51 1121 t (repairStores t) (mapOf t) (omega arith) (repair-phase t s)
 
 -- Every accepted call, on any sound table.

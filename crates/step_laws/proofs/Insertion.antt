@@ -8,13 +8,15 @@ use lib.Dec.{eqb}
 use lib.ListN.{length}
 use borrow.Author.Tests.{eqb-true, eqb-false, ltb-false}
 use Rattle.model.specs.Table.{Words, root}
-use Rattle.model.specs.Slots.{nodeView, view, height}
+use Rattle.model.specs.Slots.{pointerOf, nodeView, view, height}
 use Rattle.model.specs.Reached.{mapOf}
 use Rattle.model.specs.SoundTest.{settled, sound}
 use Rattle.model.specs.Orders.{apply}
 use Rattle.model.specs.Writes.{shiftInAt, unreachable, fresh, newRoot, standing, run, rootInRun, splits, rootStores, insertSettled, insertStores, repaired}
 use Rattle.model.specs.Refusals.{tooHigh, tooFew}
 use Rattle.model.specs.Ledger.{enter}
+use Rattle.list_laws.proofs.Recordings.{recording-of, recording-iff, pair-of}
+use Rattle.change_laws.proofs.LeafSlots.{NewPair}
 use Rattle.step_laws.specs.Parts.{Enters, Ready}
 use Rattle.step_laws.proofs.Phase.{Phase, phase-nil, phase-append}
 use Rattle.step_laws.proofs.Stages.{phase-within}
@@ -96,10 +98,11 @@ module _ (t : Words) (s : settled t ≡ true) (k : ℕ) where
             let l : n ≤ h = omega (arith, run-short t s k, z) in
             rw (e, rootStores) (phase-within 0 38 t [] (mapOf t) (omega arith) (phase-nil t s), record { settled = s; high = l; full = run-full t s k; above = run-above t s k l; enough = omega arith })
 
--- Insertion into a settled table, where refusals 6, 7, 8, 11 and 10 do not apply: the pair enters the map.
-pub insert-settled : (t : Words) (k r : ℕ) → settled t ≡ true → Enters k r t → Phase (38 + (15 * 67 + 27)) t (insertSettled t k r) (enter k r (mapOf t))
+-- Insertion into a settled table, where refusals 6, 14, 7, 8, 11 and 10 do not apply: the pair enters the map.
+pub insert-settled : (t : Words) (k r c : ℕ) → settled t ≡ true → Enters k r c t → Phase (38 + (15 * 67 + 27)) t (insertSettled t k (pointerOf r c)) (enter k (pointerOf r c) (mapOf t))
 unfolding insertSettled
-insert-settled t k r s e =
+insert-settled t k r c s e =
+    let x = pointerOf r c in
     let n = run t k in
     let a = root-first t s k (e .not-high) (e .enough) in
     let t₁ = apply (rootStores t k) t in
@@ -107,13 +110,15 @@ insert-settled t k r s e =
     let t₂ = apply (splits n t₁ k) t₁ in
     let m : mapOf t₂ ≡ mapOf t = b .maps ∙ a .0 .maps in
     let few : n * 67 ≤ 15 * 67 = omega (arith, a .1 .high, height-low t₁ (a .1 .settled)) in
-    let c : Phase 27 t₂ (shiftInAt t₂ (standing t₂ 0 k) k r) (enter k r (mapOf t)) =
-    rw m at (leaf-shift-in t₂ (b .settles) k r (rw m (e .no-key)) (rw m (e .no-recording)) (e .some) (e .not-mark) (splits-room n t₁ k (a .1))) in
-    phase-append 38 (15 * 67 + 27) t (rootStores t k) _ (enter k r (mapOf t)) (a .0)
-    (phase-append (15 * 67) 27 t₁ (splits n t₁ k) _ (enter k r (mapOf t)) (phase-within (n * 67) (15 * 67) t₁ (splits n t₁ k) (mapOf t₁) few b) c)
+    let own = recording-of r c (recording-iff r .0 (e .recording-ok) .1) in
+    let new : NewPair (view t₂) k x = record { no-key = rw m (e .no-key); no-recording = rw (m, own) (e .no-recording); ok = pair-of k r c (e .recording-ok) (e .class-ok) } in
+    let d : Phase 27 t₂ (shiftInAt t₂ (standing t₂ 0 k) k x) (enter k x (mapOf t)) = rw m at (leaf-shift-in t₂ (b .settles) k x new (splits-room n t₁ k (a .1))) in
+    phase-append 38 (15 * 67 + 27) t (rootStores t k) _ (enter k x (mapOf t)) (a .0)
+    (phase-append (15 * 67) 27 t₁ (splits n t₁ k) _ (enter k x (mapOf t)) (phase-within (n * 67) (15 * 67) t₁ (splits n t₁ k) (mapOf t₁) few b) d)
 
 -- An accepted insertion: at most 51 orders of repair, 38 of a new root, 67 of each of 15 splits, and 27 of the shift in.
-pub insert-phase : (t : Words) (k r : ℕ) → sound t ≡ true → Enters k r (repaired t) → Phase 1121 t (insertStores t k r) (enter k r (mapOf t))
+pub insert-phase : (t : Words) (k r c : ℕ) → sound t ≡ true → Enters k r c (repaired t) → Phase 1121 t (insertStores t k (pointerOf r c)) (enter k (pointerOf r c) (mapOf t))
 unfolding insertStores
-insert-phase t k r s e =
-    rw (repaired-map t s) at (after-repair (38 + (15 * 67 + 27)) t (insertSettled (repaired t) k r) (enter k r (mapOf (repaired t))) s (insert-settled (repaired t) k r (repaired-settled t s) e))
+insert-phase t k r c s e =
+    let x = pointerOf r c in
+    rw (repaired-map t s) at (after-repair (38 + (15 * 67 + 27)) t (insertSettled (repaired t) k x) (enter k x (mapOf (repaired t))) s (insert-settled (repaired t) k r c (repaired-settled t s) e))

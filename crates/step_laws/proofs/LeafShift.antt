@@ -1,42 +1,46 @@
--- A pair shifted in at its leaf, and one shifted out: each store leaves a sound table, and one store changes the map.
+-- A pair shifted in at its leaf, one shifted out, and one with another class: each store leaves a sound table, and one store changes the map.
 use mathlib.Core.Path.{_≡_, refl, ap, _∙_}
 use mathlib.Core.Logic.{_≢_}
 use mathlib.Core.Bool.{true, false}
 use mathlib.Core.List.{List, [], _∷_, _++_, map-append, List·Memᴰ}
 use Prim.Native.Nat.{ℕ, suc, _≤_, _<_}
 use native.Mathlib.Omega.{arith}
-use lib.ListN.{length, take, drop, getD}
-use lib.Seq.{split-at}
+use lib.ListN.{length, take, drop, getD, set}
+use lib.Seq.{split-at, getD-at, length-take-le}
 use Rattle.model.specs.Table.{MARK, Words}
-use Rattle.model.specs.Slots.{Slot, slot, View, nodeView, view}
+use Rattle.model.specs.Slots.{Slot, slot, withClass, classOk, View, nodeView, view}
 use Rattle.model.specs.Reached.{pointers, kept, reached, mapOf}
 use Rattle.model.specs.SoundTest.{elem, distinct, nothing, hiddenIn, settled}
-use Rattle.model.specs.Orders.{apply}
-use Rattle.model.specs.Shifts.{shiftOut, placeOf}
-use Rattle.model.specs.Writes.{shiftInAt, shiftOutAt, standing}
-use Rattle.model.specs.Refusals.{hasKey, hasRecording}
-use Rattle.model.specs.Ledger.{enter, leave}
+use Rattle.model.specs.Orders.{put, apply, orders, ordersAfter}
+use Rattle.model.specs.Shifts.{pointerTo, pointerWord, shiftOut, placeOf}
+use Rattle.model.specs.Writes.{shiftInAt, shiftOutAt, setClassAt, standing}
+use Rattle.model.specs.Refusals.{hasKey}
+use Rattle.model.specs.Ledger.{enter, leave, reclass}
 use Rattle.list_laws.proofs.Tools.{Each, Each-append}
 use Rattle.list_laws.proofs.Members.{each-mem, each-take, each-drop, elem-cons}
 use Rattle.list_laws.proofs.Distinct.{distinct-middle}
+use Rattle.list_laws.proofs.Recordings.{pair-pointer, pointers-apart}
 use Rattle.list_laws.proofs.Steps.{AtFirst, until-map, first-map}
 use Rattle.slot_laws.proofs.Hiding.{Used, AllShown, distinct-shown}
+use Rattle.slot_laws.proofs.SlotStores.{setPointer, set-pointer-at}
 use Rattle.slot_laws.proofs.Shifts.{put-in-shown}
 use Rattle.word_laws.proofs.Stores.{doStore, after-first}
 use Rattle.word_laws.proofs.Frames.{same-ok}
-use Rattle.word_laws.proofs.ShiftViews.{Changed, withSlot, withoutSlot, view-used, view-shown, shift-in-view, shift-out-view}
+use Rattle.word_laws.proofs.ShiftViews.{Changed, withSlot, withoutSlot, view-used, view-shown, shift-in-view, shift-out-view, pointer-view}
 use Rattle.tree_laws.proofs.Rows.{leaf-ok}
 use Rattle.tree_laws.proofs.Levels.{mem-leaves}
 use Rattle.tree_laws.proofs.MapLaw.{leaf-pointers}
 use Rattle.tree_laws.proofs.SearchLaw.{leafFor, leaf-mem, leaf-covers}
 use Rattle.tree_laws.proofs.PlaceOf.{standing-leaf}
+use Rattle.tree_laws.proofs.Leftovers.{settled-sound}
 use Rattle.change_laws.proofs.Updates.{withShown, withHidden}
 use Rattle.change_laws.proofs.Parts.{leaf-iff, Settles}
 use Rattle.change_laws.proofs.Hidden.{hide}
-use Rattle.change_laws.proofs.LeafSlots.{NewPair, enter-leaf, enter-fresh, leave-leaf, leave-place}
+use Rattle.change_laws.proofs.Pairs.{slotTo}
+use Rattle.change_laws.proofs.LeafSlots.{NewPair, enter-leaf, enter-fresh, leave-leaf, leave-place, ClassPlace, class-leaf}
 use Rattle.step_laws.proofs.Phase.{Phase}
 use Rattle.step_laws.proofs.Stages.{SoundWith, SettledWith, phase-until, phase-first}
-use Rattle.step_laws.proofs.Bounds.{shift-in-few, shift-in-inside, shift-out-few, shift-out-inside}
+use Rattle.step_laws.proofs.Bounds.{shift-in-few, shift-in-inside, shift-out-few, shift-out-inside, slot-inside}
 use Rattle.step_laws.proofs.Views.{changed-view, shown-view, same-view, Fine, settled-fine, view-sound, view-settles, view-same, may-hide, Usable, reached-usable, shown-few}
 
 -- a pointer that no slot has
@@ -71,23 +75,24 @@ module _ (t : Words) (s : settled t ≡ true) (k : ℕ) where
 
   -- ---- shift in
 
-  module _ (r : ℕ) (new : NewPair (view t) k r) (some : r ≢ 0) (room : length (nodeView t (leafFor (view t) k) .shown) ≤ 10) where
-    in-shown : AllShown (v .node x .left) (withSlot t x k r)
-    in-shown = put-in-shown (v .node x .left) (v .node x .shown) (placeOf k (v .node x .shown)) k r (view-shown t x no-hidden) some (λ e. new .not-mark (e ∙ left-mark)) (not-pointed r (v .node x .shown) (enter-fresh v k r (fine .left) new))
+  module _ (y : ℕ) (new : NewPair (view t) k y) (room : length (nodeView t (leafFor (view t) k) .shown) ≤ 10) where
+    in-shown : AllShown (v .node x .left) (withSlot t x k y)
+    in-shown =
+        let u = pair-pointer (slot k y) (new .ok) in
+        put-in-shown (v .node x .left) (v .node x .shown) (placeOf k (v .node x .shown)) k y (view-shown t x no-hidden) (u .0) (λ e. u .1 (e ∙ left-mark)) (not-pointed y (v .node x .shown) (enter-fresh v k y (fine .left) new))
 
-    entered : (t′ : Words) → Changed t x (withSlot t x k r) 0 t′ → SettledWith (enter k r (mapOf t)) t′
-    entered t′ c = view-settles t t′ _ (shown-view t x (withSlot t x k r) 0 t′ c no-hidden) (same-ok (c .header)) (fine .header) _ (enter-leaf v k r (fine .left) new)
+    entered : (t′ : Words) → Changed t x (withSlot t x k y) 0 t′ → SettledWith (enter k y (mapOf t)) t′
+    entered t′ c = view-settles t t′ _ (shown-view t x (withSlot t x k y) 0 t′ c no-hidden) (same-ok (c .header)) (fine .header) _ (enter-leaf v k y (fine .left) new)
 
-    shifted-in : Phase 27 t (shiftInAt t x k r) (enter k r (mapOf t))
-    shifted-in = phase-until 27 t (shiftInAt t x k r) (shift-in-few t x k r room) (shift-in-inside t x k r room (use-x .there)) (enter k r (mapOf t))
-        (until-map doStore _ (SoundWith (mapOf t)) _ (SettledWith (enter k r (mapOf t))) (may-hide t x nothing (hiddenIn x) fine no-hidden (hide v x (fine .left) x-reached) refl) entered (shiftInAt t x k r) t
-        (shift-in-view t x (use-x .there) (use-x .clear) (use-x .left) no-hidden k r room in-shown))
+    shifted-in : Phase 27 t (shiftInAt t x k y) (enter k y (mapOf t))
+    shifted-in = phase-until 27 t (shiftInAt t x k y) (shift-in-few t x k y room) (shift-in-inside t x k y room (use-x .there)) (enter k y (mapOf t))
+        (until-map doStore _ (SoundWith (mapOf t)) _ (SettledWith (enter k y (mapOf t))) (may-hide t x nothing (hiddenIn x) fine no-hidden (hide v x (fine .left) x-reached) refl) entered (shiftInAt t x k y) t
+        (shift-in-view t x (use-x .there) (use-x .clear) (use-x .left) no-hidden k y room in-shown))
 
-  -- The pair (k, r) is shifted in at its leaf, which has room for it.
-  pub leaf-shift-in : (r : ℕ) → hasKey k (mapOf t) ≡ false → hasRecording r (mapOf t) ≡ false → r ≢ 0 → r ≢ MARK → length (nodeView t (standing t 0 k) .shown) ≤ 10
-      → Phase 27 t (shiftInAt t (standing t 0 k) k r) (enter k r (mapOf t))
-  leaf-shift-in r no-key no-recording some not-mark room =
-      rw standing-x (shifted-in r (record { no-key = no-key; no-recording = no-recording; not-mark = not-mark }) some (rw standing-x at room))
+  -- k with the pointer y is shifted in at its leaf, which has room for it.
+  pub leaf-shift-in : (y : ℕ) → NewPair (view t) k y → length (nodeView t (standing t 0 k) .shown) ≤ 10
+      → Phase 27 t (shiftInAt t (standing t 0 k) k y) (enter k y (mapOf t))
+  leaf-shift-in y new room = rw standing-x (shifted-in y new (rw standing-x at room))
 
   -- ---- shift out
 
@@ -160,3 +165,56 @@ module _ (t : Words) (s : settled t ≡ true) (k : ℕ) where
     -- it showed k at its place
     pub leaf-out-place : placeOf k (nodeView t (standing t 0 k) .shown) < length (nodeView t (standing t 0 k) .shown)
     leaf-out-place = rw standing-x (leave-place v k (fine .left) has)
+
+  -- ---- another class
+
+  module _ (has : hasKey k (mapOf t) ≡ true) (c : ℕ) (ok : classOk c ≡ true) where
+    place-c : ClassPlace v k c
+    place-c = class-leaf v k c (fine .left) has ok
+
+    abbrev all : List Slot
+    all = v .node x .shown
+
+    abbrev at-k : ℕ
+    at-k = placeOf k all
+
+    abbrev y : ℕ
+    y = withClass (place-c .pointer) c
+
+    inside-k : at-k < length all
+    inside-k = leave-place v k (fine .left) has
+
+    taken : length (take at-k all) ≡ at-k
+    taken = length-take-le at-k all (omega (arith, inside-k))
+
+    -- the store is to the pointer of k's slot
+    one-store : setClassAt t x k c ≡ put (pointerWord x at-k) y ∷ []
+    unfolding setClassAt
+    one-store =
+        let e : getD all at-k (slot 0 0) ≡ slot k (place-c .pointer) =
+        ap (λ (l : List Slot). getD l at-k (slot 0 0)) (place-c .shown) ∙ getD-at (take at-k all) (slot k (place-c .pointer)) (drop (suc at-k) all) (slot 0 0) at-k taken in
+        ap (λ (s : Slot). put (pointerWord x at-k) (withClass (s .pointer) c) ∷ []) e
+
+    set-there : setPointer all at-k y ≡ slotTo k y all
+    set-there = ap (λ (l : List Slot). setPointer l at-k y) (place-c .shown) ∙ set-pointer-at (take at-k all) (slot k (place-c .pointer)) (drop (suc at-k) all) at-k y taken
+
+    all-shown : AllShown (v .node x .left) (slotTo k y all)
+    all-shown =
+        let u = pointers-apart (slotTo k y all) (place-c .right) in
+        distinct-shown (v .node x .left) (slotTo k y all) (u .1) (ap (λ (n : ℕ). distinct (n ∷ pointers (slotTo k y all))) left-mark ∙ u .0)
+
+    class-there : Changed t x (slotTo k y all) 0 (set t (pointerWord x at-k) y)
+    class-there = rw set-there at (pointer-view t x (use-x .there) (use-x .clear) at-k y no-hidden inside-k (rw set-there all-shown))
+
+    class-set : SettledWith (reclass k c (mapOf t)) (set t (pointerWord x at-k) y)
+    class-set = view-settles t _ _ (shown-view t x (slotTo k y all) 0 _ class-there no-hidden) (same-ok (class-there .header)) (fine .header) _ (place-c .settles)
+
+    stored : Phase 2 t (put (pointerWord x at-k) y ∷ []) (reclass k c (mapOf t))
+    unfolding orders ordersAfter
+    stored =
+        let few : at-k < 12 = omega (arith, inside-k, shown-few t x (use-x .clear)) in
+        phase-until 2 t (put (pointerWord x at-k) y ∷ []) (omega arith) (slot-inside t x (pointerTo at-k y) (use-x .there) few, tt) (reclass k c (mapOf t)) ((settled-sound t s, refl), class-set)
+
+    -- The slot of k in its leaf gets class c, in one store and one flush.
+    pub leaf-class : Phase 2 t (setClassAt t (standing t 0 k) k c) (reclass k c (mapOf t))
+    leaf-class = rw (standing-x, one-store) stored

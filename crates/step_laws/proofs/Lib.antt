@@ -14,6 +14,7 @@ pub mod WholeNode
 pub mod Standing
 pub mod Freeing
 pub mod Deletion
+pub mod ClassChange
 pub mod NewRoot
 pub mod Split
 pub mod Splits

@@ -1,22 +1,21 @@
 -- What the parts of an insertion ask of the table that they are given: the pair may enter, a node can be split, a run is ready to be split.
 use mathlib.Core.Path.{_≡_}
 use mathlib.Core.Bool.{true, false}
-use mathlib.Core.Logic.{_≢_}
 use mathlib.Core.List.{List}
 use Prim.Native.Nat.{ℕ, suc, _≤_, _<_}
 use lib.ListN.{length}
-use Rattle.model.specs.Table.{MARK, Words}
-use Rattle.model.specs.Slots.{nodeView, view, height}
+use Rattle.model.specs.Table.{Words}
+use Rattle.model.specs.Slots.{recordingOk, classOk, nodeView, view, height}
 use Rattle.model.specs.Reached.{mapOf}
 use Rattle.model.specs.SoundTest.{settled}
 use Rattle.model.specs.Orders.{Store}
 use Rattle.model.specs.Writes.{unreachable, fresh, split, standing}
 use Rattle.model.specs.Refusals.{tooHigh, tooFew, hasKey, hasRecording}
 
--- refusals 6, 7, 8, 11 and 10 do not apply to an insertion of k with r
-pub record Enters (k r : ℕ) (t : Words) : Type 0 where
-  pub some : r ≢ 0
-  pub not-mark : r ≢ MARK
+-- refusals 6, 14, 7, 8, 11 and 10 do not apply to an insertion of k with recording r and class c
+pub record Enters (k r c : ℕ) (t : Words) : Type 0 where
+  pub recording-ok : recordingOk r ≡ true
+  pub class-ok : classOk c ≡ true
   pub no-key : hasKey k (mapOf t) ≡ false
   pub no-recording : hasRecording r (mapOf t) ≡ false
   pub not-high : tooHigh t k ≡ false

@@ -7,8 +7,7 @@ use Prim.Native.Nat.{ℕ, zero, suc, _≤_, _<_}
 use native.Mathlib.Omega.{arith}
 use lib.ListN.{length}
 use borrow.Author.Tests.{not-true}
-use Rattle.model.specs.Table.{Words, node}
-use Rattle.model.specs.Slots.{Slot, slotsOf, shown, used, View, viewFrom}
+use Rattle.model.specs.Slots.{Slot, View}
 use Rattle.model.specs.Search.{within}
 use Rattle.model.specs.Reached.{filter, kept}
 use Rattle.model.specs.SoundTest.{rising, comeFirst, keysOk, leafOk, innerOk}
@@ -16,11 +15,9 @@ use Rattle.model.specs.Shifts.{placeOf}
 use Rattle.list_laws.proofs.Tools.{decode, all-each, Each, Each-map, Each-filter}
 use Rattle.list_laws.proofs.Members.{mem-each}
 use Rattle.list_laws.proofs.Filters.{mem-filter, filter-all, filter-none, filter-whole}
-use Rattle.list_laws.proofs.Slots.{in-use-some}
 use Rattle.tree_laws.proofs.Rows.{Good, leaf-ok, inner-ok}
 use Rattle.tree_laws.proofs.Cover.{below-true, below-false}
 use Rattle.tree_laws.proofs.Rising.{rising-weaken, rising-from, place-between}
-pub use Rattle.list_laws.proofs.Slots.{each-shown}
 
 -- what is shown of a node from its sibling's fence up
 abbrev pub ignored : View → ℕ → List Slot
@@ -106,9 +103,3 @@ cut-place v n g z = ap (placeOf (v .node (v .node n .sibling) .fence)) (shown-sp
 pub kept-whole : (v : View) (n : ℕ) → (length (kept v n) ≡ length (v .node n .shown)) ↔ (kept v n ≡ v .node n .shown)
 unfolding kept
 kept-whole v n = (λ e. filter-all (λ (s : Slot). within v n (s .key)) (v .node n .shown) (filter-whole (λ (s : Slot). within v n (s .key)) (v .node n .shown) e), λ e. ap length e)
-
--- ---- no shown slot of a table has pointer 0
-
-pub shown-pointers : (t : Words) (r i : ℕ) → Each (λ (s : Slot). s .pointer ≢ 0) (viewFrom t r .node i .shown)
-unfolding used
-shown-pointers t r i = each-shown (λ (s : Slot). s .pointer ≢ 0) (node t i .left) (used t i) (in-use-some (slotsOf (node t i .slots)))

@@ -2,14 +2,14 @@
 use mathlib.Core.Path.{_≡_, refl, ap, sym, _∙_}
 use mathlib.Core.Bool.{true, false}
 use mathlib.Core.Logic.{_↔_, _≢_, ⊎-elim}
-use mathlib.Core.List.{List, [], _∷_, _++_, map, List·Memᴰ, List·Memᴰ·not-nil, List·Memᴰ·cases-cons, List·Memᴰ·append-cases, Memᴰ·append-left, Memᴰ·append-right}
+use mathlib.Core.List.{List, [], _∷_, _++_, List·Memᴰ, List·Memᴰ·not-nil, List·Memᴰ·cases-cons, List·Memᴰ·append-cases, Memᴰ·append-left, Memᴰ·append-right}
 use Prim.Native.Nat.{ℕ, zero, suc, _+_, _-_, _≤_, _<_}
 use native.Mathlib.Omega.{arith}
 use lib.ListN.{length}
-use Rattle.model.specs.Table.{MARK, Words, inRange, headerOk}
-use Rattle.model.specs.Slots.{View, view, height, recording}
+use Rattle.model.specs.Table.{Words, inRange, headerOk}
+use Rattle.model.specs.Slots.{View, view, height}
 use Rattle.model.specs.Reached.{flat, headOr, children, reachedFrom, leavesFrom, reached, leaves, mapping}
-use Rattle.model.specs.SoundTest.{elem, distinct, linked, nodeOk, rootOk, orderly, settledView, soundView, settled, sound}
+use Rattle.model.specs.SoundTest.{elem, distinct, linked, nodeOk, rootOk, recordingsOk, orderly, settledView, soundView, settled, sound}
 use Rattle.list_laws.proofs.Tools.{decode, and-iff, all-each, Each, Each-map, Each-append}
 use Rattle.list_laws.proofs.Members.{each-mem, elem-false}
 use Rattle.list_laws.proofs.Distinct.{distinct-cons, distinct-append, Once, once, UpTo, pigeonhole}
@@ -34,7 +34,7 @@ pub record Orderly (v : View) : Type 0 where
   pub top : RootFacts v
   pub good : Each (Good v) (reached v)
   pub once : distinct (reached v) ≡ true
-  pub recordings : distinct (MARK ∷ map recording (mapping v)) ≡ true
+  pub recordings : recordingsOk (mapping v) ≡ true
 
 pub orderly-iff : (v : View) → (orderly v ≡ true) ↔ Orderly v
 unfolding orderly

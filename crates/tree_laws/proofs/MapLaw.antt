@@ -5,22 +5,21 @@ use mathlib.Core.Logic.{_≢_}
 use mathlib.Core.List.{List, [], _∷_, _++_, map, append-nil, List·Memᴰ, List·Memᴰ·head, Memᴰ·append-right}
 use Prim.Native.Nat.{ℕ, _≤_, _<_}
 use native.Mathlib.Omega.{arith}
-use Rattle.model.specs.Table.{MARK, Words, root}
-use Rattle.model.specs.Slots.{Slot, View, nodeView, view, recording}
+use Rattle.model.specs.Table.{MARK, Words}
+use Rattle.model.specs.Slots.{Slot, View, view, recording}
 use Rattle.model.specs.Search.{within}
 use Rattle.model.specs.Reached.{flat, kept, leaves, mapping, mapOf, pointers}
-use Rattle.model.specs.SoundTest.{elem, distinct, rising, sound}
+use Rattle.model.specs.SoundTest.{distinct, rising, pairOk, recordingsOk, sound}
 use Rattle.model.specs.Sound.{Rise}
-use Rattle.list_laws.proofs.Tools.{Each, Each-map, Each-append, Each-filter, flat-append}
-use Rattle.list_laws.proofs.Members.{each-both, elem-false, each-mem, map-flat}
-use Rattle.list_laws.proofs.Distinct.{distinct-cons, flat-off, distinct-part}
-use Rattle.list_laws.proofs.Lists.{each-map}
-use Rattle.list_laws.proofs.Recordings.{recordings-apart}
+use Rattle.list_laws.proofs.Tools.{Each, Each-map, Each-append, Each-flat, flat-append}
+use Rattle.list_laws.proofs.Members.{each-mem, map-flat}
+use Rattle.list_laws.proofs.Distinct.{distinct-part}
+use Rattle.list_laws.proofs.Recordings.{recordings-iff, pointers-apart}
 use Rattle.tree_laws.proofs.Rows.{Row, not-zero, sib-facts, linked-cons}
 use Rattle.tree_laws.proofs.Cover.{below-low}
 use Rattle.tree_laws.proofs.Levels.{Orderly, Level, level-leaves, row-tail, head-least, leaf-once, orderly-of}
 use Rattle.tree_laws.proofs.Rising.{rising-join, rising-from, rise-from-rising, keys-distinct}
-use Rattle.tree_laws.proofs.Kept.{kept-below, kept-rises, shown-pointers}
+use Rattle.tree_laws.proofs.Kept.{kept-below, kept-rises}
 
 -- ---- the kept slots along a row
 
@@ -67,34 +66,19 @@ map-rising v o = let l = level-leaves v o in go (leaves v) l
     go [] l = absurd (l .some refl)
     go (n ∷ ns) l = rw (← l .first) (row-rises v 0 n ns (l .row))
 
-map-pointers : (t : Words) → Each (λ (s : Slot). recording s ≢ 0) (mapOf t)
-unfolding mapping flat kept
-map-pointers t = go (leaves (view t))
-  where
-    go : (ns : List ℕ) → Each (λ (s : Slot). recording s ≢ 0) (flat (kept (view t)) ns)
-    go [] = tt
-    go (n ∷ ns) = Each-append (λ (s : Slot). recording s ≢ 0) (kept (view t) n) (flat (kept (view t)) ns)
-        (Each-map _ (λ (s : Slot). recording s ≢ 0) (kept (view t) n) (λ s h. h .0) (Each-filter (λ (s : Slot). s .pointer ≢ 0) (λ (s : Slot). within (view t) n (s .key)) (nodeView t n .shown) (shown-pointers t (root t) n))) (go ns)
-
 pub record MapRises (m : List Slot) : Type 0 where
   pub rising : rising 0 m ≡ true
   pub rise : Rise m
   pub keys-once : distinct (map (λ (s : Slot). s .key) m) ≡ true
   pub recordings-once : distinct (map recording m) ≡ true
-  pub recordings-number : Each (λ (s : Slot). (recording s ≢ 0) × (recording s ≢ MARK)) m
+  pub pairs-ok : Each (λ (s : Slot). pairOk s ≡ true) m
 
 pub map-rises : (t : Words) → sound t ≡ true → MapRises (mapOf t)
 map-rises t h =
     let o = orderly-of t h in
     let r = map-rising (view t) o in
-    let u = distinct-cons MARK (map recording (mapOf t)) .0 (o .recordings) in
-    record {
-      rising = r;
-      rise = rise-from-rising 0 (mapOf t) r;
-      keys-once = keys-distinct 0 (mapOf t) r;
-      recordings-once = u .1;
-      recordings-number = each-both (λ (s : Slot). recording s ≢ 0) (λ (s : Slot). recording s ≢ MARK) (mapOf t) (map-pointers t) (each-map (λ (n : ℕ). n ≢ MARK) recording (mapOf t) .0 (elem-false MARK (map recording (mapOf t)) .0 (u .0)));
-    }
+    let u = recordings-iff (mapOf t) .0 (o .recordings) in
+    record { rising = r; rise = rise-from-rising 0 (mapOf t) r; keys-once = keys-distinct 0 (mapOf t) r; recordings-once = u .1; pairs-ok = u .0 }
 
 -- ---- one leaf's part of the map
 
@@ -109,17 +93,19 @@ pub record LeafPart (v : View) (x : ℕ) : Type 0 where
   pub low : Each (λ (s : Slot). s .key < v .node x .fence) (flat (kept v) left)
   pub high : Each (λ (s : Slot). within v x (s .key) ≡ false) (flat (kept v) right)
 
--- a leaf's recordings differ, and none is MARK
-pub leaf-recordings : (v : View) (x : ℕ) → Orderly v → List·Memᴰ x (leaves v) → distinct (MARK ∷ map recording (kept v x)) ≡ true
+-- a leaf's recordings are right, and differ
+pub leaf-recordings : (v : View) (x : ℕ) → Orderly v → List·Memᴰ x (leaves v) → recordingsOk (kept v x) ≡ true
 unfolding mapping
 leaf-recordings v x o m =
-    let own : ℕ → List ℕ = λ n. map recording (kept v n) in
-    let u = distinct-cons MARK (flat own (leaves v)) .0 (rw (map-flat recording (kept v) (leaves v)) at (o .recordings)) in
-    distinct-cons MARK (own x) .1 (each-mem (λ (n : ℕ). elem MARK (own n) ≡ false) (flat-off own (leaves v) MARK (u .0)) m, distinct-part own (leaves v) x (u .1) m)
+    let u = recordings-iff (mapping v) .0 (o .recordings) in
+    recordings-iff (kept v x) .1 (
+      each-mem (λ (n : ℕ). Each (λ (s : Slot). pairOk s ≡ true) (kept v n)) (Each-flat (λ (s : Slot). pairOk s ≡ true) (kept v) (leaves v) (u .0)) m,
+      distinct-part (λ n. map recording (kept v n)) (leaves v) x (rw (map-flat recording (kept v) (leaves v)) at (u .1)) m,
+    )
 
--- so do its pointers
+-- so its pointers differ, and none is MARK
 pub leaf-pointers : (v : View) (x : ℕ) → Orderly v → List·Memᴰ x (leaves v) → distinct (MARK ∷ pointers (kept v x)) ≡ true
-leaf-pointers v x o m = recordings-apart MARK (kept v x) (leaf-recordings v x o m)
+leaf-pointers v x o m = pointers-apart (kept v x) (leaf-recordings v x o m) .0
 
 pub row-rest : (v : View) (d : ℕ) (ls rs : List ℕ) → Row v d (ls ++ rs) → Row v d rs
 row-rest v d [] rs r = r

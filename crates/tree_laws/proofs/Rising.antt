@@ -11,12 +11,13 @@ use lib.ListN.{length, take, drop, take-append-drop}
 use borrow.Author.Tests.{ltb-true, ltb-false, eqb-true, eqb-false, lt-ltb, le-ltb}
 use Rattle.model.specs.declared.Answer.the-variants.{Found, Absent, Refused}
 use Rattle.model.specs.declared.Next.{Next}
-use Rattle.model.specs.Slots.{Slot, slot, recording}
+use Rattle.model.specs.Slots.{Slot, slot, recordingOf, classOf, pointerOf, recording, class, recordingOk, classOk}
 use Rattle.model.specs.Search.{firstWith, firstAbove, answerOf, lookup}
 use Rattle.model.specs.Reached.{filter}
-use Rattle.model.specs.SoundTest.{distinct, rising}
+use Rattle.model.specs.SoundTest.{distinct, rising, pairOk}
 use Rattle.model.specs.Sound.{Rise}
 use Rattle.model.specs.Shifts.{placeOf}
+use Rattle.list_laws.proofs.Recordings.{pointer-of, pair-iff}
 use Rattle.list_laws.proofs.Tools.{decode, Each, Each-map, Misses, first-nil, first-here, first-past}
 use Rattle.list_laws.proofs.Members.{each-mem, each-drop, each-both, elem-false}
 use Rattle.list_laws.proofs.Filters.{filter-yes, filter-no}
@@ -140,20 +141,36 @@ first-misses k (s ∷ ss) h = go (eqb (s .key) k) refl (first-misses k ss)
 
 -- ---- the answer from it
 
-answer-found : (o : Option Slot) (x : Next) (r : ℕ) → answerOf o (Absent x) ≡ Found r → (s : Slot) × (o ≡ some s) × (recording s ≡ r)
-answer-found none x r e = let z : _≡_ {A = ℕ} 0 1 = cc in absurd (omega arith)
-answer-found (some s) x r e = let p : recording s ≡ r = cc in (s, refl, p)
+answer-found : (o : Option Slot) (x : Next) (y : ℕ) → answerOf o (Absent x) ≡ Found (recordingOf y) (classOf y) → (s : Slot) × (o ≡ some s) × (s .pointer ≡ y)
+answer-found none x y e = let z : _≡_ {A = ℕ} 0 1 = cc in absurd (omega arith)
+answer-found (some s) x y e =
+    let r : recording s ≡ recordingOf y = cc in
+    let c : class s ≡ classOf y = cc in
+    (s, refl, sym (pointer-of (s .pointer)) ∙ ap (λ (n : ℕ). pointerOf n (class s)) r ∙ ap (pointerOf (recordingOf y)) c ∙ pointer-of y)
 
 answer-none : (o : Option Slot) (x y : Next) → answerOf o (Absent x) ≡ Absent y → (o ≡ none) × (x ≡ y)
 answer-none none x y e = let p : x ≡ y = cc in (refl, p)
 answer-none (some s) x y e = let z : _≡_ {A = ℕ} 0 1 = cc in absurd (omega arith)
 
-pub found-iff : (lo k r : ℕ) (ss : List Slot) → rising lo ss ≡ true → (lookup k ss ≡ Found r) ↔ List·Memᴰ (slot k r) ss
+pub found-iff : (lo k x : ℕ) (ss : List Slot) → rising lo ss ≡ true → (lookup k ss ≡ Found (recordingOf x) (classOf x)) ↔ List·Memᴰ (slot k x) ss
 unfolding lookup
-found-iff lo k r ss h = (
-  λ e. let u = answer-found (firstWith k ss) (firstAbove k ss) r e in let m = first-mem k (u .0) ss (u .1) in Memᴰ·cast (sym (λ i. slot (m .1 i) (u .2 i))) (m .0),
-  λ m. ap (λ (o : Option Slot). answerOf o (Absent (firstAbove k ss))) (mem-first lo (slot k r) ss h m),
+found-iff lo k x ss h = (
+  λ e. let u = answer-found (firstWith k ss) (firstAbove k ss) x e in let m = first-mem k (u .0) ss (u .1) in Memᴰ·cast (sym (λ i. slot (m .1 i) (u .2 i))) (m .0),
+  λ m. ap (λ (o : Option Slot). answerOf o (Absent (firstAbove k ss))) (mem-first lo (slot k x) ss h m),
 )
+
+-- what is found is right where each pair is
+pub found-ok : (k r c : ℕ) (ss : List Slot) → Each (λ (s : Slot). pairOk s ≡ true) ss → lookup k ss ≡ Found r c → (recordingOk r ≡ true) × (classOk c ≡ true)
+unfolding lookup
+found-ok k r c ss h e = go (firstWith k ss) (λ s q. first-mem k s ss q .0) e
+  where
+    go : (o : Option Slot) → ((s : Slot) → o ≡ some s → List·Memᴰ s ss) → answerOf o (Absent (firstAbove k ss)) ≡ Found r c → (recordingOk r ≡ true) × (classOk c ≡ true)
+    go none m q = let z : _≡_ {A = ℕ} 0 1 = cc in absurd (omega arith)
+    go (some s) m q =
+        let a : recording s ≡ r = cc in
+        let b : class s ≡ c = cc in
+        let u = pair-iff s .0 (each-mem (λ (x : Slot). pairOk x ≡ true) h (m s refl)) in
+        (sym (ap recordingOk a) ∙ u .0, sym (ap classOk b) ∙ u .1)
 
 -- absent, with the next key up
 pub absent-iff : (k : ℕ) (x : Next) (ss : List Slot) → (lookup k ss ≡ Absent x) ↔ (Misses k ss × (x ≡ firstAbove k ss))

@@ -11,7 +11,7 @@ use borrow.Author.Tests.{le-leb}
 use Rattle.model.specs.declared.Answer.the-variants.{Found, Absent, Refused}
 use Rattle.model.specs.declared.Next.{Next}
 use Rattle.model.specs.Table.{Words}
-use Rattle.model.specs.Slots.{Slot, slot, View, view, height}
+use Rattle.model.specs.Slots.{Slot, slot, recordingOf, classOf, recordingOk, classOk, View, view, height}
 use Rattle.model.specs.Search.{below, within, moved, down, locate, pathFrom, path, firstWith, firstAbove, nextFrom, answerOf, lookup, answerIn, searchView, search}
 use Rattle.model.specs.Reached.{flat, headOr, kept, named, nextChild, children, leavesFrom, reached, leaves, mapping, mapOf}
 use Rattle.model.specs.SoundTest.{soundView, sound}
@@ -20,8 +20,8 @@ use Rattle.list_laws.proofs.Members.{each-mem, each-index}
 use Rattle.tree_laws.proofs.Rows.{Good, At, Row, Inner, inners, linked-cons, fill-mem}
 use Rattle.tree_laws.proofs.Cover.{cover, cover-in, cover-out, cover-has, cover-mem, cover-fence, cover-child, cover-flat, stays, below-true, within-up-to, step-down, step-whole, down-named, nexts}
 use Rattle.tree_laws.proofs.Levels.{Orderly, sound-orderly, sound-parts, Level, level-lower, level-root, level-at, level-leaves, rowAt, row-below, row-reached, reached-row, row-tail, head-least, orderly-of}
-use Rattle.tree_laws.proofs.Rising.{found-iff, absent-iff, lookup-answers}
-use Rattle.tree_laws.proofs.MapLaw.{map-rising, leaf-part}
+use Rattle.tree_laws.proofs.Rising.{found-iff, found-ok, absent-iff, lookup-answers}
+use Rattle.tree_laws.proofs.MapLaw.{map-rising, map-rises, leaf-part}
 use Rattle.tree_laws.proofs.NextLaw.{passes-good, next-law, IsNext, next-least}
 
 -- ---- one level
@@ -209,10 +209,10 @@ pub search-law : (t : Words) (k : ℕ) → sound t ≡ true → search t k ≡ l
 unfolding search
 search-law t k h = let u = sound-parts t .0 h in rw (u .0, search) (search-view (view t) k (u .1))
 
--- It finds r exactly if the map has (k, r), it is absent exactly if the map has no pair with key k, with the next key up in the map,
--- and it is never refused.
-pub search-found : (t : Words) (k r : ℕ) → sound t ≡ true → (search t k ≡ Found r) ↔ List·Memᴰ (slot k r) (mapOf t)
-search-found t k r h = let o = orderly-of t h in rw (search-law t k h) (found-iff 0 k r (mapOf t) (map-rising (view t) o))
+-- It finds the recording and class of x exactly if the map has (k, x), it is absent exactly if the map has no pair with key k, with the
+-- next key up in the map, and it is never refused.
+pub search-found : (t : Words) (k x : ℕ) → sound t ≡ true → (search t k ≡ Found (recordingOf x) (classOf x)) ↔ List·Memᴰ (slot k x) (mapOf t)
+search-found t k x h = let o = orderly-of t h in rw (search-law t k h) (found-iff 0 k x (mapOf t) (map-rising (view t) o))
 
 pub search-absent : (t : Words) (k : ℕ) (x : Next) → sound t ≡ true → (search t k ≡ Absent x) ↔ (Misses k (mapOf t) × (x ≡ firstAbove k (mapOf t)))
 search-absent t k x h = rw (search-law t k h) (absent-iff k x (mapOf t))
@@ -222,3 +222,7 @@ search-next t k x h e = rw (search-absent t k x h .0 e .1) (next-least 0 k (mapO
 
 pub search-answers : (t : Words) (k n : ℕ) → sound t ≡ true → search t k ≢ Refused n
 search-answers t k n h = rw (search-law t k h) (lookup-answers k n (mapOf t))
+
+-- What it finds is a recording number from 1 to 2 to the power 56, less 1, and a class from 0 to 2.
+pub search-class : (t : Words) (k r c : ℕ) → sound t ≡ true → search t k ≡ Found r c → (recordingOk r ≡ true) × (classOk c ≡ true)
+search-class t k r c h e = found-ok k r c (mapOf t) (map-rises t h .pairs-ok) (sym (search-law t k h) ∙ e)

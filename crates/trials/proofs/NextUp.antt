@@ -39,10 +39,10 @@ pub record NextUp : Type 0 where
   pub by-place : search (apply (key 1 0 30 ∷ []) (oneLevel 2 [])) 5 ≡ Absent (Key 30)
   pub below-fence : search (apply (key 1 0 250 ∷ []) (twoLevels (1 ∷ 1 ∷ []) (ways 2 1) [])) 5 ≡ Absent (Key 210)
   -- A leaf on the way fails the search's tests, the sibling of the search's last one included: a found key is answered all the same.
-  pub outside : (search siblingOutside 205 ≡ Refused 3) × (search siblingOutside 210 ≡ Found 121)
-  pub other-level : (search siblingHigh 205 ≡ Refused 3) × (search siblingHigh 210 ≡ Found 121)
+  pub outside : (search siblingOutside 205 ≡ Refused 3) × (search siblingOutside 210 ≡ Found 121 0)
+  pub other-level : (search siblingHigh 205 ≡ Refused 3) × (search siblingHigh 210 ≡ Found 121 0)
   -- More than N leaves would be entered, repeats counted.
-  pub entered-twice : (search ownSibling 11 ≡ Refused 3) × (search ownSibling 10 ≡ Found 101)
+  pub entered-twice : (search ownSibling 11 ≡ Refused 3) × (search ownSibling 10 ≡ Found 101 0)
   pub round : search ring 500 ≡ Refused 3
   -- The lent words: absent puts the key and 1, or 0 alone; found and refused put neither.
   pub words-key : (nextOr (search (oneLevel 3 []) 5) 8 ≡ 10) × (higherOr (search (oneLevel 3 []) 5) 8 ≡ 1)

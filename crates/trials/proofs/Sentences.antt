@@ -9,9 +9,12 @@ use Rattle.model.specs.declared.Answer.the-variants.{Found, Refused}
 use Rattle.model.specs.declared.Listed.the-variants.{Refused as ListRefused}
 use Rattle.model.specs.Codes.{print}
 use Rattle.model.specs.Table.{MARK, Words, tableLength, lengthOk, empty}
+use Rattle.model.specs.Slots.{pointerOf}
 use Rattle.model.specs.Search.{search, recordingOr}
-use Rattle.model.specs.Listing.{list}
+use Rattle.model.specs.SoundTest.{sound}
+use Rattle.model.specs.Listing.{list, listOut}
 use Rattle.model.specs.Orders.{Order, put, store, flush, apply, encode, carryNumber, carriedOut}
+use Rattle.model.specs.Shifts.{pointerWord}
 use Rattle.model.specs.Writes.{insertion, fresh}
 use Rattle.model.specs.Refusals.{firstNumber, testsFrom5, tooHigh}
 use Rattle.model.proofs.Everything.{everything}
@@ -31,6 +34,13 @@ threeOrders = store (put 16 5) ∷ flush 2 ∷ store (put 40 6) ∷ []
 abbrev pub fullPath : (c n : ℕ) → Words
 fullPath c n = tableOf (suc n) (leafOf 1 0 c ∷ chainFrom (tenSlots 11 1) 2 n)
 
+-- a leaf with a class; one with a recording number and classes that there are not
+abbrev pub classed : Words
+classed = apply (put (pointerWord 1 0) (pointerOf 101 2) ∷ []) (oneLevel 2 [])
+
+abbrev pub strange : Words
+strange = apply (put (pointerWord 1 0) (pointerOf 0 255) ∷ put (pointerWord 1 1) (pointerOf 102 3) ∷ []) (oneLevel 2 [])
+
 pub record Sentences : Type 0 where
   -- A key that no code has is refused: past the last code, also where its last digits spell one.
   pub past-last-code : (print (604661760000000 + 172627201912345) ≡ noCode) × (print MARK ≡ noCode)
@@ -38,8 +48,12 @@ pub record Sentences : Type 0 where
   pub most-nodes : (lengthOk (tableLength 65535) ≡ true) × (lengthOk (tableLength 65536) ≡ false)
   pub fewest-nodes : lengthOk (tableLength 0) ≡ false
   -- A search takes a root on level 15, and refuses one on level 16 with 3; an absent key leaves the lent word.
-  pub highest-root : (search chain 10 ≡ Found 101) × (search (apply (put 1 17 ∷ []) chain) 10 ≡ Refused 3)
+  pub highest-root : (search chain 10 ≡ Found 101 0) × (search (apply (put 1 17 ∷ []) chain) 10 ≡ Refused 3)
   pub absent-stays : recordingOr (search (oneLevel 1 []) 11) 5 ≡ 5
+  -- On a table that is not sound a search answers what stands there: a recording 0, a class above 2.
+  pub as-it-stands : (sound strange ≡ false) × (search strange 10 ≡ Found 0 255) × (search strange 20 ≡ Found 102 3)
+  -- A listing's second word is the whole pointer.
+  pub whole-pointer : listOut classed 0 MARK (replicate 4 0) ≡ 10 ∷ pointerOf 101 2 ∷ 20 ∷ 102 ∷ []
   -- A listing refuses with 2 before 4.
   pub listing-two : list (apply (put 3 1 ∷ put 12 1 ∷ []) (empty 1)) 0 MARK [] ≡ ListRefused 2
   pub listing-four : list (apply (put 12 1 ∷ []) (empty 1)) 0 MARK [] ≡ ListRefused 4
@@ -51,9 +65,10 @@ pub record Sentences : Type 0 where
   pub fresh-after : fresh (tableOf 2 (stale 1 ++ (leafOf 1 0 1 ∷ stale 2))) 2 ≡ 3
   pub fresh-round : fresh (tableOf 3 (stale 2 ++ (leafOf 1 0 1 ∷ []))) 3 ≡ 1
   pub fresh-none : fresh (oneLevel 1 []) 1 ≡ 0
-  -- 12 comes before 6, and 11 before 10.
-  pub twelve-first : firstNumber (testsFrom5 (insertion 1 0) 2560 true true true []) ≡ 12
-  pub eleven-first : firstNumber (testsFrom5 (insertion 1 1) 2560 false true true []) ≡ 11
+  -- 12 comes before 6, 6 before 14, and 11 before 10.
+  pub twelve-first : firstNumber (testsFrom5 (insertion 1 0 3) 2560 true true true []) ≡ 12
+  pub six-first : firstNumber (testsFrom5 (insertion 1 0 3) 2560 false true true []) ≡ 6
+  pub eleven-first : firstNumber (testsFrom5 (insertion 1 1 0) 2560 false true true []) ≡ 11
   -- 11: the run includes a root at level 15; not one at level 14, and not where the run ends below it.
   pub eleven : tooHigh (fullPath 11 15) 0 ≡ true
   pub eleven-not : (tooHigh (fullPath 11 14) 0 ≡ false) × (tooHigh (fullPath 10 15) 0 ≡ false)
@@ -67,6 +82,8 @@ sentences =
       fewest-nodes = refl;
       highest-root = (refl, refl);
       absent-stays = refl;
+      as-it-stands = (refl, refl, refl);
+      whole-pointer = refl;
       listing-two = refl;
       listing-four = refl;
       first-two = (refl, refl);
@@ -76,6 +93,7 @@ sentences =
       fresh-round = refl;
       fresh-none = refl;
       twelve-first = refl;
+      six-first = refl;
       eleven-first = refl;
       eleven = refl;
       eleven-not = (refl, refl);

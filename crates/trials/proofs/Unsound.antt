@@ -5,7 +5,7 @@ use mathlib.Core.List.{List, [], _∷_, _++_}
 use Prim.Native.Nat.{ℕ, zero, suc, pred, _+_}
 use lib.ListN.{replicate}
 use Rattle.model.specs.Table.{MARK, Words, nodeStart}
-use Rattle.model.specs.Slots.{Slot, slot}
+use Rattle.model.specs.Slots.{Slot, slot, RECORDINGS, pointerOf}
 use Rattle.model.specs.SoundTest.{all, sound, settled}
 use Rattle.model.specs.Orders.{Store, put, apply}
 use Rattle.model.specs.Shifts.{keyWord, pointerWord}
@@ -147,9 +147,14 @@ unsoundCases =
     ∷ breaks aside (word 1 1 2 ∷ [])
     ∷ breaks high (word 2 1 0 ∷ [])
     ∷ breaks high (word 4 1 0 ∷ [])
-    -- No recording number is in the map twice, and none is 0 or MARK. (A pointer 0 ends the slots.)
+    -- No recording number is in the map twice, whatever the classes.
     ∷ breaks tree (pointer 1 2 101 ∷ [])
     ∷ breaks tree (pointer 3 0 121 ∷ [])
+    ∷ breaks tree (pointer 1 1 (pointerOf 101 1) ∷ [])
+    ∷ breaks tree (pointer 3 0 (pointerOf 121 2) ∷ [])
+    -- A recording number is from 1 to 72057594037927935, a class from 0 to 2. (A pointer 0 ends the slots.)
+    ∷ breaks tree (pointer 1 1 (pointerOf 0 1) ∷ [])
+    ∷ breaks tree (pointer 1 1 (pointerOf 102 3) ∷ [])
     ∷ breaks tree (pointer 1 1 MARK ∷ [])
     -- (a) One hidden slot: two in one node, in two nodes.
     ∷ breaks tree (pointer 1 1 101 ∷ pointer 1 2 101 ∷ [])
@@ -219,9 +224,11 @@ settledCases =
     ∷ settles tree (key 2 2 5 ∷ key 2 3 250 ∷ pointer 2 3 121 ∷ key 2 11 7 ∷ key 4 3 9 ∷ pointer 4 3 9 ∷ [])
     -- unreachable nodes hold anything
     ∷ settles tree (word 5 1 1 ∷ word 5 2 0 ∷ word 5 4 3 ∷ [])
-    -- a leaf's key may be its fence; keys 0 and MARK, recordings 1 and MARK less 1
+    -- a leaf's key may be its fence; keys 0 and MARK, the least recording and the largest, closed; that one, which MARK's low bits are, in
+    -- slot 0
     ∷ settles tree (key 2 0 200 ∷ [])
-    ∷ settles tree (key 1 0 0 ∷ pointer 1 0 1 ∷ key 3 0 MARK ∷ pointer 3 0 (pred MARK) ∷ [])
+    ∷ settles tree (key 1 0 0 ∷ pointer 1 0 1 ∷ key 3 0 MARK ∷ pointer 3 0 (pointerOf (pred RECORDINGS) 2) ∷ [])
+    ∷ settles tree (pointer 1 0 (pred RECORDINGS) ∷ [])
     ∷ []
 
 pub judged : all passes (unsoundCases ++ (leftoverCases ++ settledCases)) ≡ true

@@ -2,7 +2,7 @@
 use mathlib.Core.Path.{_≡_, refl, ap, sym, _∙_}
 use mathlib.Core.Bool.{Bool, true, false, cond, _&&_, false≢true}
 use mathlib.Core.Logic.{_↔_}
-use mathlib.Core.List.{List, [], _∷_, map, append-nil}
+use mathlib.Core.List.{List, [], _∷_, append-nil}
 use Prim.Native.Nat.{ℕ, zero, suc, _+_, _≤_}
 use native.Mathlib.Omega.{arith}
 use native.Mathlib.Nat.{zero-add}
@@ -10,10 +10,10 @@ use lib.Dec.{eqb, leb}
 use lib.ListN.{length, length-append}
 use borrow.Author.Tests.{eq-eqb, ne-eqb, leb-true, le-leb}
 use Rattle.model.specs.declared.Unfinished.{Unfinished}
-use Rattle.model.specs.Table.{MARK, inRange}
-use Rattle.model.specs.Slots.{Slot, View, height, recording}
+use Rattle.model.specs.Table.{inRange}
+use Rattle.model.specs.Slots.{Slot, View, height}
 use Rattle.model.specs.Reached.{flat, headOr, pointers, named, nextChild, children, reachedFrom, reached, mapping}
-use Rattle.model.specs.SoundTest.{all, distinct, nodeOk, rootOk, finished, together, missingAt, rowUnfinished, own, unfinishedAt, unfinished, orderly, leftoverOf, leftover, isAllowed, soundView}
+use Rattle.model.specs.SoundTest.{all, distinct, nodeOk, rootOk, finished, together, missingAt, rowUnfinished, own, unfinishedAt, unfinished, recordingsOk, orderly, leftoverOf, leftover, isAllowed, soundView}
 use Rattle.list_laws.proofs.Tools.{decode, and-iff, refuted, same-test, Each, Each-append, Each-split, Each-map, all-each}
 use Rattle.tree_laws.proofs.Members.{UpTo, pigeonhole}
 use Rattle.tree_laws.proofs.Rows.{Good, At, Deep, children-inner}
@@ -263,7 +263,7 @@ walk-iff v c u = (
 -- what is left to judge after the walk: the recording numbers and the leftover
 abbrev pub judged : View → Tally → Bool
 judged v Unsound = false
-judged v (Visited c u) = distinct (MARK ∷ map recording (mapping v)) && isAllowed v (leftoverOf u)
+judged v (Visited c u) = recordingsOk (mapping v) && isAllowed v (leftoverOf u)
 
 pub sound-walk : (v : View) → soundView v ≡ judged v (walk v)
 unfolding soundView orderly leftover

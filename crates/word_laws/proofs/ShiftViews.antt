@@ -17,7 +17,7 @@ use Rattle.list_laws.proofs.Steps.{Until, Along, AtFirst, until-both, first-bot
 use Rattle.table_laws.proofs.Nodes.{has-node-iff}
 use Rattle.slot_laws.proofs.Hiding.{Used, parts, shown-used, AllShown, Shows, MayHide, in-use-before, shown-and-hidden}
 use Rattle.slot_laws.proofs.SlotStores.{setPointer, doSlotStore, pointerAt, KeepsZero, keeps-zero}
-use Rattle.slot_laws.proofs.Shifts.{putIn, takeOut, shape-of, shift-in-slots, shift-out-slots, close-slots, cut-slots}
+use Rattle.slot_laws.proofs.Shifts.{putIn, takeOut, shape-of, shift-in-slots, shift-out-slots, close-slots, cut-slots, other-slots}
 use Rattle.slot_laws.proofs.Places.{hidden-place-lt, shift-in-places, shift-out-places, close-places, shift-in-zero, shift-out-zero, close-zero, zero-along}
 use Rattle.word_laws.proofs.Stores.{doStore}
 use Rattle.word_laws.proofs.Frames.{SameHeader, else-header}
@@ -117,6 +117,15 @@ module _ (t : Words) (x : ℕ) (i : hasNode t x ≡ true) (c : nodeView t x .cle
       let few : p < 12 = omega (arith, shown-few t x c) in
       changed (take p ss) 0 (set t (pointerWord x p) 0) (setPointer (slotsIn t x) p 0) (only-put t t x (slotsIn t x) (pointerTo p 0) i few (only-start t x))
       (cut-slots (nodeView t x .left) ss (slotsIn t x) p (start 0 h) l, keeps-zero 11 (pointerTo p 0) (slotsIn t x) (λ e. refl) last-zero)
+
+  -- Storing y in the pointer of slot p, where nothing is hidden and nothing is with it, leaves node x with that pointer there.
+  pub pointer-view : (p y : ℕ) → nodeView t x .hidden ≡ 0 → p < length (nodeView t x .shown) → AllShown (nodeView t x .left) (setPointer (nodeView t x .shown) p y)
+      → Changed t x (setPointer (nodeView t x .shown) p y) 0 (set t (pointerWord x p) y)
+  pointer-view p y h l a =
+      let ss = nodeView t x .shown in
+      let few : p < 11 = omega (arith, shown-few t x c) in
+      changed (setPointer ss p y) 0 (set t (pointerWord x p) y) (setPointer (slotsIn t x) p y) (only-put t t x (slotsIn t x) (pointerTo p y) i (omega arith) (only-start t x))
+      (other-slots (nodeView t x .left) ss (slotsIn t x) p y (start 0 h) l a, keeps-zero 11 (pointerTo p y) (slotsIn t x) (λ e. absurd (omega arith)) last-zero)
 
   module _ (z : nodeView t x .left ≡ 0 → ⊥) (h : nodeView t x .hidden ≡ 0) (k : ℕ) where
     -- Each store of a shift in but the last leaves the view of every other node, and what node x shows, with one slot hidden at most; the

@@ -28,16 +28,16 @@ cast-result : tie.Need-cast-result
 cast-result c = search needs
 
 returns : tie.Need-returns
-returns c = answered _ _ _ _ _ (sym (c .before .before .before .search .ensures) ∙ c .before .r .given .1)
+returns c = answered _ _ _ _ _ _ (sym (c .before .before .before .search .ensures) ∙ c .before .r .given .1)
 
 returns-2 : tie.Need-returns-2
-returns-2 c = let u = c .before .before .before .before in answered _ _ _ _ _ (sym (u .before .before .search .ensures) ∙ u .up .given .1 ∙ ap Absent (c .before .up2 .given .1))
+returns-2 c = let u = c .before .before .before .before in answered _ _ _ _ _ _ (sym (u .before .before .search .ensures) ∙ u .up .given .1 ∙ ap Absent (c .before .up2 .given .1))
 
 returns-3 : tie.Need-returns-3
-returns-3 c = let u = c .before .before .before in answered _ _ _ _ _ (sym (u .before .before .search .ensures) ∙ u .up .given .1 ∙ ap Absent (c .enum-told .given .1))
+returns-3 c = let u = c .before .before .before in answered _ _ _ _ _ _ (sym (u .before .before .search .ensures) ∙ u .up .given .1 ∙ ap Absent (c .enum-told .given .1))
 
 returns-4 : tie.Need-returns-4
-returns-4 c = answered _ _ _ _ _ (sym (c .before .before .before .search .ensures) ∙ c .before .n .given .1)
+returns-4 c = answered _ _ _ _ _ _ (sym (c .before .before .before .search .ensures) ∙ c .before .n .given .1)
 
 pub catalogue-search-spec : {M : Type 1} → statement M
 catalogue-search-spec =

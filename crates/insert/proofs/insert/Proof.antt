@@ -43,18 +43,18 @@ asked c = entry (c .before .before)
 passed : (c : tie.After-judgement2) → let v = c .judgement2 .given .0 in Passed (length (asked c .args .list .now)) (asked c .args .table .now) (v .0) (v .1 .0)
 passed c = judged-ready _ _ _ _ (sym (c .before .before .judge .ensures) ∙ c .judgement2 .given .1)
 
-numbered : (c : tie.After-number) → let a = asked (ready (ran c)) .args in refusal (insertion (a .key) (a .recording)) (length (a .list .now)) (a .table .now) ≡ c .number .result
-numbered c = insert-number (passed (ready (ran c))) _ _ (ran c .parent-of .ensures) (c .before .before .full-run .ensures) (c .number .ensures)
+numbered : (c : tie.After-number) → let a = asked (ready (ran c)) .args in refusal (insertion (a .key) (a .recording) (a .access)) (length (a .list .now)) (a .table .now) ≡ c .number .result
+numbered c = insert-number (passed (ready (ran c))) _ _ _ (ran c .parent-of .ensures) (c .before .before .full-run .ensures) (c .number .ensures)
 
 abbrev told : tie.After-begin → tie.After-judgement2
 told c = ready (ran (kept c .before))
 
-begun : (c : tie.After-begin) → let a = asked (told c) .args in Begun (insertion (a .key) (a .recording)) (a .table .now) (a .list .now) (c .begin .result) (entering (a .key) (a .recording))
+begun : (c : tie.After-begin) → let a = asked (told c) .args in Begun (insertion (a .key) (a .recording) (a .access)) (a .table .now) (a .list .now) (c .begin .result) (entering (a .key) (a .recording) (a .access))
 begun c = record {
   is-sound = passed (told c) .found .is-sound;
   accepted = numbered (kept c .before) ∙ kept c .if1 .left;
   first = c .begin .ensures;
-  stores = insert-stores _ _ _;
+  stores = insert-stores _ _ _ _;
 }
 
 -- ---- the answers

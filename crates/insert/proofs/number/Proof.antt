@@ -8,15 +8,18 @@ use Rattle.model.specs.Writes.{unreachable, insertion}
 use Rattle.model.specs.Refusals.{Test, firstNumber, mapTests}
 use Rattle.tree_laws.proofs.Levels.{sound-parts}
 use Rattle.insert.specs.Tests.{highRun, fewFor, numberFor}
-use Rattle.insert.proofs.Testing.{test-holds, test-passed, six-zero, six-mark, not-six}
+use Rattle.insert.proofs.Testing.{test-holds, test-passed, number-first, test-not, test-so}
 use borrow.Author.Needs.{needs}
 use Rattle.insert.proofs.number.Statement.{statement}
 use Rattle.insert.proofs.number.Tie as tie
 
 -- ---- the places, and what is known at them
 
-abbrev entry : tie.Else2 → tie.Start
+abbrev entry : tie.Else1 → tie.Start
 entry c = c .before .before .before
+
+abbrev ranged : tie.Else2 → tie.Else1
+ranged c = c .before .before
 
 abbrev keyed : tie.Else3 → tie.Else2
 keyed c = c .before .before
@@ -28,34 +31,43 @@ abbrev low : tie.Else5 → tie.Else4
 low c = c .before .before
 
 abbrev tests : tie.Start → List Test
-tests s = let a = s .args in mapTests (insertion (a .key) (a .recording)) (highRun (a .table .now) (a .run)) (fewFor (length (unreachable (a .table .now))) (a .run)) (mapOf (a .table .now))
+tests s = let a = s .args in mapTests (insertion (a .key) (a .recording) (a .access)) (highRun (a .table .now) (a .run)) (fewFor (length (unreachable (a .table .now))) (a .run)) (mapOf (a .table .now))
 
 -- the number is that of the tests from the i-th on
 abbrev From : tie.Start → ℕ → Type 0
-From s i = let a = s .args in numberFor (a .table .now) (a .key) (a .recording) (a .run) ≡ firstNumber (drop i (tests s))
+From s i = let a = s .args in numberFor (a .table .now) (a .key) (a .recording) (a .access) (a .run) ≡ firstNumber (drop i (tests s))
 
-from₇ : (c : tie.Else2) → From (entry c) 1
-from₇ c = not-six _ _ _ _ (c .before .if1 .left) (c .if2 .left)
+from₁₄ : (c : tie.Else1) → From (entry c) 1
+from₁₄ c = number-first _ _ _ _ _ ∙ test-so _ _ _ _ (c .before .recording-ok .ensures) (c .if1 .left)
 
-from₈ : (c : tie.Else3) → From (entry (keyed c)) 2
+from₇ : (c : tie.Else2) → From (entry (ranged c)) 2
+from₇ c = from₁₄ (ranged c) ∙ test-so _ _ _ _ (c .before .class-ok .ensures) (c .if2 .left)
+
+from₈ : (c : tie.Else3) → From (entry (ranged (keyed c))) 3
 from₈ c = from₇ (keyed c) ∙ test-passed _ _ _ (sym (c .before .has-key .ensures) ∙ c .if3 .left)
 
-from₁₁ : (c : tie.Else4) → From (entry (keyed (fresh c))) 3
+from₁₁ : (c : tie.Else4) → From (entry (ranged (keyed (fresh c)))) 4
 from₁₁ c = from₈ (fresh c) ∙ test-passed _ _ _ (sym (c .before .has-recording .ensures) ∙ c .if4 .left)
 
-from₁₀ : (c : tie.Else5) → From (entry (keyed (fresh (low c)))) 4
+from₁₀ : (c : tie.Else5) → From (entry (ranged (keyed (fresh (low c))))) 5
 from₁₀ c = from₁₁ (low c) ∙ test-passed _ _ _ (sym (c .before .too-high .ensures) ∙ c .if5 .left)
 
-few : (c : tie.After-too-few) → let a = entry (keyed (fresh (low (c .before .before)))) .args in fewFor (length (unreachable (a .table .now))) (a .run) ≡ c .too-few .result
-few c = ap (λ (n : ℕ). fewFor n (entry (keyed (fresh (low (c .before .before)))) .args .run)) (sym (c .before .unreachable .ensures)) ∙ sym (c .too-few .ensures)
+few : (c : tie.After-too-few) → let a = entry (ranged (keyed (fresh (low (c .before .before))))) .args in fewFor (length (unreachable (a .table .now))) (a .run) ≡ c .too-few .result
+few c = ap (λ (n : ℕ). fewFor n (entry (ranged (keyed (fresh (low (c .before .before))))) .args .run)) (sym (c .before .unreachable .ensures)) ∙ sym (c .too-few .ensures)
 
 -- ---- the answers
 
+recording-ok-requires : tie.Need-recording-ok-requires
+recording-ok-requires c κs = search needs
+
 returns : tie.Need-returns
-returns c = six-zero _ _ _ _ (c .if1 .taken)
+returns c = test-not _ _ _ _ (c .before .recording-ok .ensures) (c .if1 .taken) ∙ sym (number-first _ _ _ _ _)
+
+class-ok-requires : tie.Need-class-ok-requires
+class-ok-requires c κs = search needs
 
 returns-2 : tie.Need-returns-2
-returns-2 c = six-mark _ _ _ _ (c .before .if1 .left) (c .if2 .taken)
+returns-2 c = test-not _ _ _ _ (c .before .class-ok .ensures) (c .if2 .taken) ∙ sym (from₁₄ (c .before .before))
 
 has-key-requires : tie.Need-has-key-requires
 has-key-requires c κs = search needs
@@ -70,7 +82,7 @@ returns-4 : tie.Need-returns-4
 returns-4 c = test-holds _ _ _ (sym (c .before .has-recording .ensures) ∙ c .if4 .taken) ∙ sym (from₈ (c .before .before))
 
 too-high-requires : tie.Need-too-high-requires
-too-high-requires c κs = sound-parts _ .0 (entry (keyed (fresh c)) .pre .0) .0
+too-high-requires c κs = sound-parts _ .0 (entry (ranged (keyed (fresh c))) .pre .0) .0
 
 returns-5 : tie.Need-returns-5
 returns-5 c = test-holds _ _ _ (sym (c .before .too-high .ensures) ∙ c .if5 .taken) ∙ sym (from₁₁ (c .before .before))
@@ -91,7 +103,9 @@ pub number-spec : {M : Type 1} → statement M
 number-spec =
     tie.close
     (tie.spec
+    recording-ok-requires
     returns
+    class-ok-requires
     returns-2
     has-key-requires
     returns-3

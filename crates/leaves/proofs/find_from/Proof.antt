@@ -1,6 +1,6 @@
 -- `leaves::find_from` meets its contract. Both loops keep what looking on, from the present leaf and slot, comes to.
 use Prim.Native.Nat.{_-_}
-use mathlib.Core.Path.{refl}
+use mathlib.Core.Path.{refl, sym, _∙_}
 use Rattle.model.specs.Slots.{view}
 use Rattle.leaves.specs.Hits.{hitAlong}
 use Rattle.leaves.proofs.HitLaws.{Ahead, Within, hit-no-leaf, hit-no-more, hit-enter, hit-here, hit-next, hit-leave}
@@ -41,14 +41,17 @@ loop-holds c =
 add-loop : tie.Need-add-loop Inv-loop μ-loop Inv-leaves μ-leaves
 add-loop c = search needs
 
-add-if3 : tie.Need-add-if3 Inv-loop μ-loop Inv-leaves μ-leaves
-add-if3 c = search needs
+add-recording : tie.Need-add-recording Inv-loop μ-loop Inv-leaves μ-leaves
+add-recording c = search needs
 
-mul-if3 : tie.Need-mul-if3 Inv-loop μ-loop Inv-leaves μ-leaves
-mul-if3 c = search needs
+mul-recording : tie.Need-mul-recording Inv-loop μ-loop Inv-leaves μ-leaves
+mul-recording c = search needs
 
-array-read-if3 : tie.Need-array-read-if3 Inv-loop μ-loop Inv-leaves μ-leaves
-array-read-if3 c = search needs
+array-read-recording : tie.Need-array-read-recording Inv-loop μ-loop Inv-leaves μ-leaves
+array-read-recording c = search needs
+
+recording-requires : tie.Need-recording-requires Inv-loop μ-loop Inv-leaves μ-leaves
+recording-requires c κs = search needs
 
 add-slot : tie.Need-add-slot Inv-loop μ-loop Inv-leaves μ-leaves
 add-slot c = search needs
@@ -57,7 +60,7 @@ loop-less : tie.Need-loop-less Inv-loop μ-loop Inv-leaves μ-leaves
 loop-less c = search needs
 
 loop-again : tie.Need-loop-again Inv-loop μ-loop Inv-leaves μ-leaves
-loop-again c = hit-next (c .before .before .loop .inv) (c .before .loop-test .taken) (c .if3 .left)
+loop-again c = hit-next (c .before .before .before .loop .inv) (c .before .before .loop-test .taken) (λ e. c .if3 .left (c .before .recording .ensures ∙ e))
 
 word-requires : tie.Need-word-requires Inv-loop μ-loop Inv-leaves μ-leaves
 word-requires c κs = search needs
@@ -72,7 +75,7 @@ leaves-again : tie.Need-leaves-again Inv-loop μ-loop Inv-leaves μ-leaves
 leaves-again c = hit-leave (c .before .before .loop .inv) _ (c .before .loop-test .left) (c .word .ensures)
 
 returns-3 : tie.Need-returns-3 Inv-loop μ-loop Inv-leaves μ-leaves
-returns-3 c = hit-here (c .before .before .loop .inv) (c .before .loop-test .taken) (c .if3 .taken)
+returns-3 c = hit-here (c .before .before .before .loop .inv) (c .before .before .loop-test .taken) (sym (c .before .recording .ensures) ∙ c .if3 .taken)
 
 pub find-from-spec : {M : Type 1} → statement M
 find-from-spec =
@@ -88,9 +91,10 @@ find-from-spec =
     ways-of-requires
     loop-holds
     add-loop
-    add-if3
-    mul-if3
-    array-read-if3
+    add-recording
+    mul-recording
+    array-read-recording
+    recording-requires
     add-slot
     loop-less
     loop-again

@@ -1,6 +1,6 @@
 -- `recordings::compared_once` meets its contract. The loop keeps whether no number is twice in the leaves left to pass.
 use borrow.Author.Tests.{not-true, not-false}
-use Rattle.recordings.proofs.OnceLaws.{Left, mark-once, left-all, left-no-leaf, left-no-more, left-twice, left-next}
+use Rattle.recordings.proofs.OnceLaws.{Left, left-all, left-no-leaf, left-no-more, left-twice, left-next}
 use borrow.Author.Needs.{needs}
 use Rattle.recordings.proofs.compared_once.Statement.{statement}
 use Rattle.recordings.proofs.compared_once.Tie as tie
@@ -11,10 +11,7 @@ Inv-loop table leaf₀ left₀ leaf left = Left table leaf left
 abbrev μ-loop : tie.MeasureT-loop
 μ-loop table leaf₀ left₀ leaf left = left
 
--- the places: the whole table, MARK looked for in it, and a leaf's turn in the loop
-abbrev whole : tie.After-appears Inv-loop μ-loop → tie.After-word-at Inv-loop μ-loop
-whole c = c .before
-
+-- the places: the whole table, and a leaf's turn in the loop
 abbrev table : tie.After-word-at Inv-loop μ-loop → tie.Start Inv-loop μ-loop
 table c = c .before .before .before
 
@@ -27,21 +24,11 @@ first-leaf-requires c κs = search needs
 word-at-requires : tie.Need-word-at-requires Inv-loop μ-loop
 word-at-requires c κs = search needs
 
-appears-requires : tie.Need-appears-requires Inv-loop μ-loop
-appears-requires c κs = search needs
+loop-holds : tie.Need-loop-holds Inv-loop μ-loop
+loop-holds c = left-all (table c .args .table .now) _ _ (c .before .first-leaf .ensures) (c .word-at .ensures)
 
 returns : tie.Need-returns Inv-loop μ-loop
-returns c =
-    let w = whole (c .before) in
-    mark-once (table w .args .table .now) _ _ (w .before .first-leaf .ensures) (w .word-at .ensures) _ (c .if1 .taken) (c .before .appears .ensures)
-
-loop-holds : tie.Need-loop-holds Inv-loop μ-loop
-loop-holds c =
-    let w = whole (c .before) in
-    left-all (table w .args .table .now) _ _ (w .before .first-leaf .ensures) (w .word-at .ensures) _ (c .if1 .left) (c .before .appears .ensures)
-
-returns-2 : tie.Need-returns-2 Inv-loop μ-loop
-returns-2 c = left-no-more (c .before .before .loop .inv) (c .if2 .taken)
+returns c = left-no-more (c .before .before .loop .inv) (c .if1 .taken)
 
 ways-of-requires : tie.Need-ways-of-requires Inv-loop μ-loop
 ways-of-requires c κs = search needs
@@ -55,12 +42,12 @@ sub-left c = search needs
 leaf-once-requires : tie.Need-leaf-once-requires Inv-loop μ-loop
 leaf-once-requires c κs = c .before .ways-of .ensures .1
 
-returns-3 : tie.Need-returns-3 Inv-loop μ-loop
-returns-3 c =
+returns-2 : tie.Need-returns-2 Inv-loop μ-loop
+returns-2 c =
     let w = turn (c .before) in
     let more = w .before in
-    left-twice (more .before .before .loop .inv) _ _ (w .ways-of .ensures .0) (c .before .before .word .ensures) (more .before .loop-test .taken) (more .if2 .left)
-    _ (not-true _ (c .if3 .taken)) (c .before .leaf-once .ensures)
+    left-twice (more .before .before .loop .inv) _ _ (w .ways-of .ensures .0) (c .before .before .word .ensures) (more .before .loop-test .taken) (more .if1 .left)
+    _ (not-true _ (c .if2 .taken)) (c .before .leaf-once .ensures)
 
 loop-less : tie.Need-loop-less Inv-loop μ-loop
 loop-less c = search needs
@@ -69,11 +56,11 @@ loop-again : tie.Need-loop-again Inv-loop μ-loop
 loop-again c =
     let w = turn (c .before) in
     let more = w .before in
-    left-next (more .before .before .loop .inv) _ _ (w .ways-of .ensures .0) (c .before .before .word .ensures) (more .before .loop-test .taken) (more .if2 .left)
-    _ (not-false _ (c .if3 .left)) (c .before .leaf-once .ensures)
+    left-next (more .before .before .loop .inv) _ _ (w .ways-of .ensures .0) (c .before .before .word .ensures) (more .before .loop-test .taken) (more .if1 .left)
+    _ (not-false _ (c .if2 .left)) (c .before .leaf-once .ensures)
 
-returns-4 : tie.Need-returns-4 Inv-loop μ-loop
-returns-4 c = left-no-leaf (c .before .loop .inv) (c .loop-test .left)
+returns-3 : tie.Need-returns-3 Inv-loop μ-loop
+returns-3 c = left-no-leaf (c .before .loop .inv) (c .loop-test .left)
 
 pub compared-once-spec : {M : Type 1} → statement M
 compared-once-spec =
@@ -83,15 +70,13 @@ compared-once-spec =
     μ-loop
     first-leaf-requires
     word-at-requires
-    appears-requires
-    returns
     loop-holds
-    returns-2
+    returns
     ways-of-requires
     word-requires
     sub-left
     leaf-once-requires
-    returns-3
+    returns-2
     loop-less
     loop-again
-    returns-4)
+    returns-3)

@@ -4,8 +4,7 @@ use mathlib.Core.Path.{_≡_, refl, _∙_}
 use Rattle.numbers.specs.declared.Entry.the-variants.{Known, Full}
 use Rattle.numbers.specs.Cells.{enteredAll}
 use Rattle.numbers.proofs.Once.{known-last, full-last}
-use Rattle.slots.specs.Gathered.{pointersFrom}
-use Rattle.leaves.specs.Hits.{numbersFrom}
+use Rattle.leaves.specs.Hits.{numbersFrom, recordingsFrom}
 use Rattle.recordings.specs.Passes.{inPass}
 use Rattle.recordings.proofs.PassLaws.{InLeaf, leaf-all, leaf-end, leaf-goes, leaf-ends}
 use borrow.Author.Needs.{needs}
@@ -24,23 +23,26 @@ abbrev one : tie.After-slice-known2 Inv-loop μ-loop → tie.After-enter-one Inv
 one c = c .before .before
 
 abbrev turn : tie.After-enter-one Inv-loop μ-loop → tie.In-loop Inv-loop μ-loop
-turn c = c .before .before
+turn c = c .before .before .before
 
 abbrev start : tie.At-loop Inv-loop μ-loop → tie.Start Inv-loop μ-loop
 start c = c .before .before .before
 
 all : (c : tie.At-loop Inv-loop μ-loop)
-    → let a = start c .args in enteredAll (inPass (a .low) (a .high)) (numbersFrom (a .w .pointers) 1 (a .w .count - 1)) (a .cells .now) ≡ enteredAll (inPass (a .low) (a .high)) (pointersFrom (a .w) 1) (a .cells .now)
+    → let a = start c .args in enteredAll (inPass (a .low) (a .high)) (numbersFrom (a .w .pointers) 1 (a .w .count - 1)) (a .cells .now) ≡ enteredAll (inPass (a .low) (a .high)) (recordingsFrom (a .w) 1) (a .cells .now)
 all c = let a = start c .args in leaf-all (inPass (a .low) (a .high)) (a .w) (a .cells .now)
 
 loop-holds : tie.Need-loop-holds Inv-loop μ-loop
 loop-holds c = record { few = c .before .before .pre .1; wide = c .before .before .pre .0; comes-to = refl }
 
-mul-enter-one : tie.Need-mul-enter-one Inv-loop μ-loop
-mul-enter-one c = search needs
+mul-recording : tie.Need-mul-recording Inv-loop μ-loop
+mul-recording c = search needs
 
-array-read-enter-one : tie.Need-array-read-enter-one Inv-loop μ-loop
-array-read-enter-one c = search needs
+array-read-recording : tie.Need-array-read-recording Inv-loop μ-loop
+array-read-recording c = search needs
+
+recording-requires : tie.Need-recording-requires Inv-loop μ-loop
+recording-requires c κs = search needs
 
 enter-one-requires : tie.Need-enter-one-requires Inv-loop μ-loop
 enter-one-requires c κs = search needs
@@ -57,7 +59,7 @@ same-length c = search needs
 returns : tie.Need-returns Inv-loop μ-loop
 returns c =
     let o = one (c .before .before) in
-    leaf-ends (turn o .before .loop .inv) (turn o .loop-test .taken) _ _ (o .enter-one .ensures) Known known-last (c .enum-told2 .given .1) ∙ all (turn o .before)
+    leaf-ends (turn o .before .loop .inv) (turn o .loop-test .taken) _ (o .before .before .recording .ensures) _ _ (o .enter-one .ensures) Known known-last (c .enum-told2 .given .1) ∙ all (turn o .before)
 
 enum-told-3 : tie.Need-enum-told-3 Inv-loop μ-loop
 enum-told-3 c = search needs
@@ -68,7 +70,7 @@ same-length-2 c = search needs
 returns-2 : tie.Need-returns-2 Inv-loop μ-loop
 returns-2 c =
     let o = one (c .before .before) in
-    leaf-ends (turn o .before .loop .inv) (turn o .loop-test .taken) _ _ (o .enter-one .ensures) Full full-last (c .enum-told3 .given .1) ∙ all (turn o .before)
+    leaf-ends (turn o .before .loop .inv) (turn o .loop-test .taken) _ (o .before .before .recording .ensures) _ _ (o .enter-one .ensures) Full full-last (c .enum-told3 .given .1) ∙ all (turn o .before)
 
 add-i : tie.Need-add-i Inv-loop μ-loop
 add-i c = search needs
@@ -80,7 +82,7 @@ loop-again : tie.Need-loop-again Inv-loop μ-loop
 loop-again c =
     let o = one (c .before .before) in
     let k = turn o .before .loop .inv in
-    record { few = k .few; wide = search needs; comes-to = leaf-goes k (turn o .loop-test .taken) _ _ (o .enter-one .ensures) (c .enum-told .given .1) }
+    record { few = k .few; wide = search needs; comes-to = leaf-goes k (turn o .loop-test .taken) _ (o .before .before .recording .ensures) _ _ (o .enter-one .ensures) (c .enum-told .given .1) }
 
 same-length-3 : tie.Need-same-length-3 Inv-loop μ-loop
 same-length-3 c = search needs
@@ -95,8 +97,9 @@ enter-leaf-spec =
     Inv-loop
     μ-loop
     loop-holds
-    mul-enter-one
-    array-read-enter-one
+    mul-recording
+    array-read-recording
+    recording-requires
     enter-one-requires
     enum-told
     enum-told-2

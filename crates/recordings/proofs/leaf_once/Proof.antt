@@ -2,7 +2,7 @@
 use Prim.Native.Nat.{_-_}
 use mathlib.Core.Path.{refl}
 use native.Mathlib.Omega.{arith}
-use Rattle.slots.specs.Gathered.{pointersFrom}
+use Rattle.leaves.specs.Hits.{recordingsFrom}
 use Rattle.recordings.specs.Once.{numbersAlong, onceBefore}
 use Rattle.recordings.proofs.OnceLaws.{Comparing, once-end, once-repeats, once-appears, once-next}
 use borrow.Author.Needs.{needs}
@@ -11,7 +11,7 @@ use Rattle.recordings.proofs.leaf_once.Tie as tie
 
 abbrev Inv-loop : tie.InvT-loop
 Inv-loop table w next most count pointers i₀ i =
-    Comparing w (numbersAlong table most next) (onceBefore (pointersFrom w 1) (numbersAlong table most next)) i
+    Comparing w (numbersAlong table most next) (onceBefore (recordingsFrom w 1) (numbersAlong table most next)) i
 
 abbrev μ-loop : tie.MeasureT-loop
 μ-loop table w next most count pointers i₀ i = count - i
@@ -23,14 +23,17 @@ loop-holds c = record { few = c .before .before .pre; after-left = omega arith; 
 abbrev turn : tie.After-appears Inv-loop μ-loop → tie.After-repeats Inv-loop μ-loop
 turn c = c .before .before
 
+mul-recording : tie.Need-mul-recording Inv-loop μ-loop
+mul-recording c = search needs
+
+array-read-recording : tie.Need-array-read-recording Inv-loop μ-loop
+array-read-recording c = search needs
+
+recording-requires : tie.Need-recording-requires Inv-loop μ-loop
+recording-requires c κs = search needs
+
 add-repeats : tie.Need-add-repeats Inv-loop μ-loop
 add-repeats c = search needs
-
-mul-repeats : tie.Need-mul-repeats Inv-loop μ-loop
-mul-repeats c = search needs
-
-array-read-repeats : tie.Need-array-read-repeats Inv-loop μ-loop
-array-read-repeats c = search needs
 
 repeats-requires : tie.Need-repeats-requires Inv-loop μ-loop
 repeats-requires c κs = search needs
@@ -38,21 +41,16 @@ repeats-requires c κs = search needs
 returns : tie.Need-returns Inv-loop μ-loop
 returns c =
     let r = c .before in
-    once-repeats (r .before .before .loop .inv) (r .before .loop-test .taken) _ (c .if1 .taken) (r .repeats .ensures)
-
-mul-appears : tie.Need-mul-appears Inv-loop μ-loop
-mul-appears c = search needs
-
-array-read-appears : tie.Need-array-read-appears Inv-loop μ-loop
-array-read-appears c = search needs
+    let n = r .before in
+    once-repeats (n .before .before .loop .inv) (n .before .loop-test .taken) _ (n .recording .ensures) _ (c .if1 .taken) (r .repeats .ensures)
 
 appears-requires : tie.Need-appears-requires Inv-loop μ-loop
 appears-requires c κs = search needs
 
 returns-2 : tie.Need-returns-2 Inv-loop μ-loop
 returns-2 c =
-    let r = turn (c .before) in
-    once-appears (r .before .before .loop .inv) (r .before .loop-test .taken) _ (c .if2 .taken) (c .before .appears .ensures)
+    let n = turn (c .before) .before in
+    once-appears (n .before .before .loop .inv) (n .before .loop-test .taken) _ (n .recording .ensures) _ (c .if2 .taken) (c .before .appears .ensures)
 
 add-i : tie.Need-add-i Inv-loop μ-loop
 add-i c = search needs
@@ -63,7 +61,8 @@ loop-less c = search needs
 loop-again : tie.Need-loop-again Inv-loop μ-loop
 loop-again c =
     let r = turn (c .before) in
-    once-next (r .before .before .loop .inv) (r .before .loop-test .taken) _ _ (c .before .before .if1 .left) (r .repeats .ensures) (c .if2 .left)
+    let n = r .before in
+    once-next (n .before .before .loop .inv) (n .before .loop-test .taken) _ (n .recording .ensures) _ _ (c .before .before .if1 .left) (r .repeats .ensures) (c .if2 .left)
     (c .before .appears .ensures)
 
 returns-3 : tie.Need-returns-3 Inv-loop μ-loop
@@ -76,13 +75,12 @@ leaf-once-spec =
     Inv-loop
     μ-loop
     loop-holds
+    mul-recording
+    array-read-recording
+    recording-requires
     add-repeats
-    mul-repeats
-    array-read-repeats
     repeats-requires
     returns
-    mul-appears
-    array-read-appears
     appears-requires
     returns-2
     add-i

@@ -2,47 +2,23 @@
 use Prim.Native.Nat.{_+_, _-_}
 use native.Mathlib.Omega.{arith}
 use Rattle.numbers.specs.Cells.{SPREAD}
-use Rattle.recordings.proofs.OnceLaws.{mark-once, mark-apart}
 use Rattle.recordings.proofs.PassLaws.{Passed, pass-start, pass-more, pass-twice, pass-all}
 use borrow.Author.Needs.{needs}
 use Rattle.recordings.proofs.once.Statement.{statement}
 use Rattle.recordings.proofs.once.Tie as tie
 
 abbrev Inv-loop : tie.InvT-loop
-Inv-loop table first low₀ width₀ low width = Passed table low width
+Inv-loop table low₀ width₀ low width = Passed table low width
 
 abbrev μ-loop : tie.MeasureT-loop
-μ-loop table first low₀ width₀ low width = (SPREAD - low) + width
+μ-loop table low₀ width₀ low width = (SPREAD - low) + width
 
--- the places: the whole table, in which MARK is looked for, and a pass's turn in the loop
-abbrev whole : tie.After-appears Inv-loop μ-loop → tie.After-word-at Inv-loop μ-loop
-whole c = c .before
-
-abbrev table : tie.After-word-at Inv-loop μ-loop → tie.Start Inv-loop μ-loop
-table c = c .before .before .before
-
+-- a pass's turn in the loop
 abbrev turn : tie.After-pass Inv-loop μ-loop → tie.At-loop Inv-loop μ-loop
 turn c = c .before .before
 
-first-leaf-requires : tie.Need-first-leaf-requires Inv-loop μ-loop
-first-leaf-requires c κs = search needs
-
-word-at-requires : tie.Need-word-at-requires Inv-loop μ-loop
-word-at-requires c κs = search needs
-
-appears-requires : tie.Need-appears-requires Inv-loop μ-loop
-appears-requires c κs = search needs
-
-returns : tie.Need-returns Inv-loop μ-loop
-returns c =
-    let w = whole (c .before) in
-    mark-once (table w .args .table .now) _ _ (w .before .first-leaf .ensures) (w .word-at .ensures) _ (c .if1 .taken) (c .before .appears .ensures)
-
 loop-holds : tie.Need-loop-holds Inv-loop μ-loop
-loop-holds c =
-    let w = whole (c .before) in
-    let t = table w .args .table .now in
-    pass-start t (mark-apart t _ _ (w .before .first-leaf .ensures) (w .word-at .ensures) _ (c .if1 .left) (c .before .appears .ensures))
+loop-holds c = pass-start _
 
 add-pass : tie.Need-add-pass Inv-loop μ-loop
 add-pass c = search needs
@@ -65,8 +41,8 @@ loop-again c = pass-more (turn (c .before .before) .loop .inv) _ (c .before .bef
 enum-told-2 : tie.Need-enum-told-2 Inv-loop μ-loop
 enum-told-2 c = search needs
 
-returns-2 : tie.Need-returns-2 Inv-loop μ-loop
-returns-2 c = pass-twice (turn (c .before .before) .loop .inv) _ (c .before .before .pass .ensures) (c .enum-told2 .given .1)
+returns : tie.Need-returns Inv-loop μ-loop
+returns c = pass-twice (turn (c .before .before) .loop .inv) _ (c .before .before .pass .ensures) (c .enum-told2 .given .1)
 
 enum-told-3 : tie.Need-enum-told-3 Inv-loop μ-loop
 enum-told-3 c = search needs
@@ -74,8 +50,8 @@ enum-told-3 c = search needs
 compared-once-requires : tie.Need-compared-once-requires Inv-loop μ-loop
 compared-once-requires c κs = search needs
 
-returns-3 : tie.Need-returns-3 Inv-loop μ-loop
-returns-3 c = c .compared-once .ensures
+returns-2 : tie.Need-returns-2 Inv-loop μ-loop
+returns-2 c = c .compared-once .ensures
 
 loop-less-2 : tie.Need-loop-less-2 Inv-loop μ-loop
 loop-less-2 c = search needs
@@ -83,10 +59,10 @@ loop-less-2 c = search needs
 loop-again-2 : tie.Need-loop-again-2 Inv-loop μ-loop
 loop-again-2 c =
     let k = turn (c .before .before .before) .loop .inv in
-    record { some = omega arith; small = omega arith; apart = k .apart; so-far = k .so-far }
+    record { some = omega arith; small = omega arith; so-far = k .so-far }
 
-returns-4 : tie.Need-returns-4 Inv-loop μ-loop
-returns-4 c = pass-all (c .before .loop .inv) (c .loop-test .left)
+returns-3 : tie.Need-returns-3 Inv-loop μ-loop
+returns-3 c = pass-all (c .before .loop .inv) (c .loop-test .left)
 
 pub once-spec : {M : Type 1} → statement M
 once-spec =
@@ -94,10 +70,6 @@ once-spec =
     (tie.spec
     Inv-loop
     μ-loop
-    first-leaf-requires
-    word-at-requires
-    appears-requires
-    returns
     loop-holds
     add-pass
     pass-requires
@@ -106,10 +78,10 @@ once-spec =
     loop-less
     loop-again
     enum-told-2
-    returns-2
+    returns
     enum-told-3
     compared-once-requires
-    returns-3
+    returns-2
     loop-less-2
     loop-again-2
-    returns-4)
+    returns-3)

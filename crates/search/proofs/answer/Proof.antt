@@ -7,6 +7,12 @@ use Rattle.search.proofs.answer.Tie as tie
 enum-known-held : tie.Need-enum-known-held
 enum-known-held c = search needs
 
+recording-requires : tie.Need-recording-requires
+recording-requires c κs = search needs
+
+class-requires : tie.Need-class-requires
+class-requires c κs = search needs
+
 enum-told : tie.Need-enum-told
 enum-told c = search needs
 
@@ -17,7 +23,7 @@ next-from-requires : tie.Need-next-from-requires
 next-from-requires c κs = search needs
 
 returns : tie.Need-returns
-returns c = held-found _ _ _ (c .before .held .given .1)
+returns c = held-found _ _ _ _ _ (c .before .before .before .held .given .1) (c .before .recording .ensures) (c .class .ensures)
 
 returns-2 : tie.Need-returns-2
 returns-2 c = held-none _ _ _ (c .before .before .enum-told .given .1) (c .next-from .ensures)
@@ -25,4 +31,4 @@ returns-2 c = held-none _ _ _ (c .before .before .enum-told .given .1) (c .next-
 pub answer-spec : {M : Type 1} → statement M
 answer-spec =
     tie.close
-    (tie.spec enum-known-held enum-told read-requires next-from-requires returns returns-2)
+    (tie.spec enum-known-held recording-requires class-requires enum-told read-requires next-from-requires returns returns-2)

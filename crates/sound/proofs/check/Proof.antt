@@ -61,13 +61,13 @@ returns-2 c =
     let a = allowed (c .before) in
     wrong-room (found (judged a)) _ (a .verdict .given .1) (sym (c .before .has-room .ensures) ∙ not-true _ (c .if2 .taken))
 
-once-requires : tie.Need-once-requires
-once-requires c κs = search needs
+ok-requires : tie.Need-ok-requires
+ok-requires c κs = search needs
 
 returns-3 : tie.Need-returns-3
 returns-3 c =
     let a = allowed (c .before .before .before) in
-    wrong-recordings (found (judged a)) _ (a .verdict .given .1) (sym (c .before .once .ensures) ∙ not-true _ (c .if3 .taken))
+    wrong-recordings (found (judged a)) _ (a .verdict .given .1) (sym (c .before .ok .ensures) ∙ not-true _ (c .if3 .taken))
 
 returns-4 : tie.Need-returns-4
 returns-4 c = let w = c .before .before in wrong-walk _ (header (w .before)) _ (w .walk .ensures) (c .enum-told .given .1)
@@ -80,7 +80,7 @@ returns-6 c =
     let r = c .before .before .before in
     let a = allowed r in
     all-right (found (judged a)) _ (a .verdict .given .1) (sym (r .has-room .ensures) ∙ not-false _ (c .before .before .if2 .left))
-    (sym (c .before .once .ensures) ∙ not-false _ (c .if3 .left))
+    (sym (c .before .ok .ensures) ∙ not-false _ (c .if3 .left))
 
 pub check-spec : {M : Type 1} → statement M
 check-spec =
@@ -96,7 +96,7 @@ check-spec =
     enum-known-verdict
     has-room-requires
     returns-2
-    once-requires
+    ok-requires
     returns-3
     returns-4
     returns-5
