@@ -20,9 +20,10 @@ fn take_out(table: &mut [u64], list: &mut [u64], pen: Pen, key: u64) -> Pen
     ensures { λ r. ⌜ desk (now (table .exit)) (now (list .exit)) r
         ≡ storedAll (deleteSettled (now (table .entry)) key) (desk (now (table .entry)) (now (list .entry)) pen) ⌝ }
 {
-    let leaf = reach::standing(table, 0, key);
-    let parent = reach::standing(table, 1, key);
-    let frees = reach::frees_leaf(table, parent, leaf);
+    let root = node::root_of(table);
+    let leaf = reach::standing(table, root, 0, key);
+    let parent = reach::standing(table, root, 1, key);
+    let frees = reach::frees_leaf(table, root, parent, leaf);
     let out = shift::shift_out(table, list, pen, leaf, key);
     if !frees {
         return out;

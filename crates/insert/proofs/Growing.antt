@@ -20,14 +20,11 @@ use Rattle.shift.proofs.Splitting.{new-root-fresh}
 -- ---- the root of a table with a right header
 
 module _ (t : Words) (h : headerOk t ≡ true) where
-  pub root-read : 1 < length t
-  root-read = omega (arith, header-iff t .0 h .size .long)
+  pub root-some : (r : ℕ) → r ≡ root t → 1 ≤ r
+  root-some r e = rw e (header-iff t .0 h .root-some)
 
-  pub root-some : 1 ≤ root t
-  root-some = header-iff t .0 h .root-some
-
-  pub root-in : root t ≤ nodes t
-  root-in = header-iff t .0 h .root-in
+  pub root-in : (r : ℕ) → r ≡ root t → r ≤ nodes t
+  root-in r e = rw e (header-iff t .0 h .root-in)
 
 pub settled-header : (t : Words) → settled t ≡ true → headerOk t ≡ true
 settled-header t s = settled-fine t s .header

@@ -8,7 +8,7 @@ use lib.Dec.{eqb, leb, ltb}
 use lib.ListN.{length}
 use borrow.Author.Tests.{leb-true, le-leb, ltb-true, lt-ltb}
 use Rattle.model.specs.Table.{Words, root}
-use Rattle.model.specs.Slots.{view, height}
+use Rattle.model.specs.Slots.{nodeView, view, height}
 use Rattle.model.specs.Reached.{mapOf}
 use Rattle.model.specs.SoundTest.{sound}
 use Rattle.model.specs.Writes.{unreachable, insertion}
@@ -40,8 +40,8 @@ module _ (t : Words) (r : ℕ) (s : sound t ≡ true) (h : Hit) (e : h ≡ hitIn
 pub not-whole : (t : Words) (run : Run) → run .root ≡ false → false ≡ highRun t run
 not-whole t run e = sym (ap (λ (b : Bool). b && eqb (height (view t)) 15) e)
 
-pub root-level : (t : Words) (run : Run) (w : ℕ) → run .root ≡ true → w ≡ wordOf t (root t) 2 → eqb w 15 ≡ highRun t run
-root-level t run w e q = ap (λ (l : ℕ). eqb l 15) (q ∙ word-level t (root t)) ∙ sym (ap (λ (b : Bool). b && eqb (height (view t)) 15) e)
+pub root-level : (t : Words) (run : Run) (r w : ℕ) → run .root ≡ true → r ≡ root t → w ≡ wordOf t r 2 → eqb w 15 ≡ highRun t run
+root-level t run r w e h q = ap (λ (l : ℕ). eqb l 15) (q ∙ word-level t r ∙ ap (λ (m : ℕ). nodeView t m .level) h) ∙ sym (ap (λ (b : Bool). b && eqb (height (view t)) 15) e)
 
 -- with a new root, one more is needed
 pub few-whole : (free n : ℕ) (b : Bool) → b ≡ true → leb free n ≡ ltb free (n + cond b 1 0)

@@ -58,7 +58,7 @@ fn too_high(table: &[u64], run: Run) -> bool
     if !run.root {
         return false;
     }
-    let root = table[1];
+    let root = node::root_of(table);
     node::word(table, root, 2) == 15
 }
 
@@ -114,9 +114,9 @@ fn grow(table: &mut [u64], list: &mut [u64], pen: Pen, key: u64, whole: bool) ->
     if !whole {
         return pen;
     }
-    let root = table[1];
-    let fresh = reach::fresh(table, root);
-    shift::new_root(table, list, pen, fresh)
+    let root = node::root_of(table);
+    let fresh = reach::fresh(table, root, root);
+    shift::new_root(table, list, pen, root, fresh)
 }
 
 // Splits the node on level l that the search for the key stands on.
@@ -126,9 +126,10 @@ fn split_at(table: &mut [u64], list: &mut [u64], pen: Pen, key: u64, l: u64) -> 
     ensures { λ r. ⌜ desk (now (table .exit)) (now (list .exit)) r
         ≡ storedAll (splitFor (now (table .entry)) l key) (desk (now (table .entry)) (now (list .entry)) pen) ⌝ }
 {
-    let a = reach::standing(table, l, key);
-    let b = reach::fresh(table, a);
-    let parent = reach::standing(table, l + 1, key);
+    let root = node::root_of(table);
+    let a = reach::standing(table, root, l, key);
+    let b = reach::fresh(table, root, a);
+    let parent = reach::standing(table, root, l + 1, key);
     shift::split(table, list, pen, a, b, parent)
 }
 
@@ -167,7 +168,7 @@ fn enter(
 {
     let grown = grow(table, list, pen, key, run.root);
     let split = split_run(table, list, grown, key, run.length);
-    let leaf = reach::standing(table, 0, key);
+    let leaf = reach::standing(table, node::root_of(table), 0, key);
     let x = pointer::join(recording, access);
     shift::shift_in(table, list, split, leaf, key, x)
 }
@@ -182,7 +183,7 @@ pub fn insert(table: &mut [u64], list: &mut [u64], key: u64, recording: u64, acc
     match judgement {
         Judged::Refused(n) => Written::Refused(n),
         Judged::Ready { left, reached } => {
-            let run = reach::full_run(table, key, parent_of(left));
+            let run = reach::full_run(table, node::root_of(table), key, parent_of(left));
             let n = number(table, key, recording, access, run, reached);
             if n != 0 {
                 return Written::Refused(n);

@@ -3,7 +3,7 @@ use model::Listed;
 use model::Node;
 ghost use mathlib.Core.Path.{_≡_};
 ghost use mathlib.Core.Bool.{true};
-ghost use Rattle.model.specs.Slots.{slot};
+ghost use Rattle.model.specs.Slots.{slot, view};
 ghost use Rattle.model.specs.Reached.{mapOf};
 ghost use Rattle.model.specs.SoundTest.{sound};
 ghost use Rattle.model.specs.Listing.{inRangeOf, list, listOut};
@@ -97,15 +97,16 @@ fn list_leaf(out: &mut [u64], start: Progress, x: Node, w: Window) -> Progress
 }
 
 // The leaves from the one for the lowest key along the siblings, until a pair is left or the range ends.
-fn list_leaves(table: &[u64], low: u64, high: u64, out: &mut [u64]) -> Progress
+fn list_leaves(table: &[u64], root: u64, low: u64, high: u64, out: &mut [u64]) -> Progress
     requires { ⌜ sound (now table) ≡ true ⌝ }
+    requires { ⌜ root ≡ view (now table) .root ⌝ }
     ensures { λ r. ⌜ sheet (now (out .exit)) r ≡ allTaken (inRangeOf low high (mapOf (now (table .entry)))) (begun (now (out .entry))) ⌝ }
 {
     let mut p = Progress {
         count: 0,
         more: false,
     };
-    let mut leaf = reach::standing(table, 0, low);
+    let mut leaf = reach::standing(table, root, 0, low);
     while leaf != 0 {
         if p.more {
             return p;
@@ -137,7 +138,7 @@ pub fn list(table: &[u64], low: u64, high: u64, out: &mut [u64]) -> Listed
     if !sound::is_sound(table) {
         return Listed::Refused(4);
     }
-    let p = list_leaves(table, low, high, out);
+    let p = list_leaves(table, node::root_of(table), low, high, out);
     Listed::Pairs {
         count: p.count as u64,
         more: p.more,

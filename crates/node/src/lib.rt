@@ -3,9 +3,10 @@ use model::MARK;
 use model::Node;
 use model::Outcome;
 ghost use mathlib.Core.Path.{_≡_};
+ghost use mathlib.Core.Bool.{true};
 ghost use Prim.Native.Nat.{_+_, _≤_};
 ghost use lib.ListN.{length, take, drop, replicate};
-ghost use Rattle.model.specs.Table.{headerNumber, hasNode, node, making, made};
+ghost use Rattle.model.specs.Table.{root, headerOk, headerNumber, hasNode, node, making, made};
 ghost use Rattle.node.specs.Word.{nodesIn, startOf, wordOf};
 
 // The N of a slice of this length; 0 for a wrong length.
@@ -54,6 +55,14 @@ pub fn header(table: &[u64]) -> u8
         return 2;
     }
     0
+}
+
+// The root's number, of a table whose header is right.
+pub fn root_of(table: &[u64]) -> u64
+    requires { ⌜ headerOk (now table) ≡ true ⌝ }
+    ensures { λ r. ⌜ r ≡ root (now (table .entry)) ⌝ }
+{
+    table[1]
 }
 
 // Whether node i lies in the table. The length is divided, so that no number is too large to ask for.

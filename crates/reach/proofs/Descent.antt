@@ -53,6 +53,6 @@ on-lower v (suc l) n k j m c h p d =
     rw (e, o, d, p)
 
 -- the whole descent
-pub on-top : (t : Words) (l k j : ℕ) → l ≡ wordOf t (root t) 2 → nodeOn (view t) l (root t) k j ≡ standing t j k
+pub on-top : (t : Words) (r l k j : ℕ) → r ≡ root t → l ≡ wordOf t r 2 → nodeOn (view t) l r k j ≡ standing t j k
 unfolding standing
-on-top t l k j e = rw (e ∙ word-level t (root t))
+on-top t r l k j h e = rw (e ∙ word-level t r, h)

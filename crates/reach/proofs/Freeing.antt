@@ -18,11 +18,11 @@ module _ (t : Words) (p x c : ℕ) (e : c ≡ length (nodeView t x .shown)) wher
   unfolding freesLeaf
   more-left z = rw (← e, ne-eqb c 1 z)
 
-  module _ (one : c ≡ 1) (l : ℕ) (f : l ≡ wordOf t (root t) 2) where
+  module _ (one : c ≡ 1) (r l : ℕ) (h : r ≡ root t) (f : l ≡ wordOf t r 2) where
     pub root-leaf : l ≡ 0 → false ≡ freesLeaf t p x
     unfolding freesLeaf
-    root-leaf z = rw (← e, eq-eqb c 1 one, ← word-level, ← f, le-ltb 0 l (omega arith))
+    root-leaf z = rw (← e, eq-eqb c 1 one, ← word-level, ← h, ← f, le-ltb 0 l (omega arith))
 
     pub not-leftmost : l ≢ 0 → (w : ℕ) → w ≡ wordOf t p 0 → not (eqb w x) ≡ freesLeaf t p x
     unfolding freesLeaf
-    not-leftmost z w g = rw (← e, eq-eqb c 1 one, ← word-level, ← f, lt-ltb 0 l (omega arith), g, word-left)
+    not-leftmost z w g = rw (← e, eq-eqb c 1 one, ← word-level, ← h, ← f, lt-ltb 0 l (omega arith), g, word-left)

@@ -27,8 +27,8 @@ sound-words t h = header-words t (sound-header t h)
 pub sound-few : (t : Words) → sound t ≡ true → nodes t ≤ 65535
 sound-few t h = header-iff t .0 (sound-header t h) .size .few
 
-pub sound-height : (t : Words) (top : ℕ) → sound t ≡ true → top ≡ wordOf t (root t) 2 → top ≤ 15
-sound-height t top h e = rw (e ∙ word-level t (root t)) (orderly-of t h .top .level)
+pub sound-height : (t : Words) (r top : ℕ) → sound t ≡ true → r ≡ root t → top ≡ wordOf t r 2 → top ≤ 15
+sound-height t r top h q e = rw (e ∙ word-level t r, q) (orderly-of t h .top .level)
 
 -- a search stopped above the root's level stands on the root
 top-most : (t : Words) (l k : ℕ) → sound t ≡ true → height (view t) < l → standing t l k ≡ root t

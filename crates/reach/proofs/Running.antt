@@ -109,12 +109,12 @@ module _ (p : ℕ → Bool) (v : View) (n k m count r : ℕ) (e : m ≡ moved v 
   run-last (suc l) h = absurd (omega arith)
 
 -- the whole path
-pub run-top : (t : Words) (k parent top : ℕ) → top ≡ wordOf t (root t) 2 → runFrom (fullIn (view t) parent) 0 (pathFrom (view t) top (root t) k) ≡ endRun (fullIn (view t) parent) (path (view t) k)
-run-top t k parent top e = rw (e ∙ word-level t (root t)) (run-end (fullIn (view t) parent) (path (view t) k))
+pub run-top : (t : Words) (r k parent top : ℕ) → r ≡ root t → top ≡ wordOf t r 2 → runFrom (fullIn (view t) parent) 0 (pathFrom (view t) top r k) ≡ endRun (fullIn (view t) parent) (path (view t) k)
+run-top t r k parent top h e = rw (e ∙ word-level t r, h) (run-end (fullIn (view t) parent) (path (view t) k))
 
-pub run-read : (t : Words) (k parent top len : ℕ) → top ≡ wordOf t (root t) 2 → len ≡ endRun (fullIn (view t) parent) (path (view t) k) → record { length = len; root = eqb len (top + 1) } ≡ fullRun t k parent
+pub run-read : (t : Words) (r k parent top len : ℕ) → r ≡ root t → top ≡ wordOf t r 2 → len ≡ endRun (fullIn (view t) parent) (path (view t) k) → record { length = len; root = eqb len (top + 1) } ≡ fullRun t k parent
 unfolding fullRun
-run-read t k parent top len e q = rw (add-one top, e ∙ word-level t (root t), q)
+run-read t r k parent top len h e q = rw (add-one top, e ∙ word-level t r, h, q)
 
 -- ---- the run of the model
 

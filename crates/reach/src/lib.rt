@@ -3,7 +3,7 @@ ghost use mathlib.Core.Path.{_≡_};
 ghost use mathlib.Core.Bool.{true};
 ghost use Prim.Native.Nat.{_+_, _-_, _≤_};
 ghost use lib.ListN.{length};
-ghost use Rattle.model.specs.Table.{headerOk, nodes};
+ghost use Rattle.model.specs.Table.{nodes};
 ghost use Rattle.model.specs.Slots.{view};
 ghost use Rattle.model.specs.Search.{moved};
 ghost use Rattle.model.specs.Reached.{headOr, kept, reached};
@@ -33,12 +33,13 @@ fn moved(table: &[u64], n: u64, key: u64) -> u64
     sibling
 }
 
-// The node on a level that the search for a key stands on. A level above the root's gives the root's.
-pub fn standing(table: &[u64], level: u64, key: u64) -> u64
-    requires { ⌜ headerOk (now table) ≡ true ⌝ }
+// The node on a level that the search for a key stands on. A level above the root's gives the root's. The root's number is handed in,
+// here and below.
+pub fn standing(table: &[u64], root: u64, level: u64, key: u64) -> u64
+    requires { ⌜ root ≡ view (now table) .root ⌝ }
     ensures { λ r. ⌜ r ≡ standing (now (table .entry)) level key ⌝ }
 {
-    let mut n = table[1];
+    let mut n = root;
     let mut l = node::word(table, n, 2);
     while level < l {
         let m = moved(table, n, key);
@@ -51,24 +52,26 @@ pub fn standing(table: &[u64], level: u64, key: u64) -> u64
 // ---- reached nodes
 
 // Whether node n is reached: the search for its own fence, stopped on its level, stands on it. Any number may be asked.
-pub fn is_reached(table: &[u64], n: u64) -> bool
+pub fn is_reached(table: &[u64], root: u64, n: u64) -> bool
     requires { ⌜ sound (now table) ≡ true ⌝ }
+    requires { ⌜ root ≡ view (now table) .root ⌝ }
     ensures { λ r. ⌜ r ≡ elem n (reached (view (now (table .entry)))) ⌝ }
 {
     let level = node::word(table, n, 2);
     let fence = node::word(table, n, 3);
-    standing(table, level, fence) == n
+    standing(table, root, level, fence) == n
 }
 
 // The first unreachable node of these, from first to last; 0 if there is none.
-fn first_unreached(table: &[u64], first: u64, last: u64) -> u64
+fn first_unreached(table: &[u64], root: u64, first: u64, last: u64) -> u64
     requires { ⌜ sound (now table) ≡ true ⌝ }
+    requires { ⌜ root ≡ view (now table) .root ⌝ }
     requires { ⌜ last ≤ 65535 ⌝ }
     ensures { λ r. ⌜ r ≡ headOr 0 (unreached (now (table .entry)) (numbers first (last + 1 - first))) ⌝ }
 {
     let mut n = first;
     while n <= last {
-        if !is_reached(table, n) {
+        if !is_reached(table, root, n) {
             return n;
         }
         n += 1;
@@ -77,17 +80,18 @@ fn first_unreached(table: &[u64], first: u64, last: u64) -> u64
 }
 
 // The first unreachable node after node a, going round from N to 1; 0 if there is none.
-pub fn fresh(table: &[u64], a: u64) -> u64
+pub fn fresh(table: &[u64], root: u64, a: u64) -> u64
     requires { ⌜ sound (now table) ≡ true ⌝ }
+    requires { ⌜ root ≡ view (now table) .root ⌝ }
     requires { ⌜ 1 ≤ a ⌝ }
     requires { ⌜ a ≤ nodes (now table) ⌝ }
     ensures { λ r. ⌜ r ≡ fresh (now (table .entry)) a ⌝ }
 {
-    let n = first_unreached(table, a + 1, table[2]);
+    let n = first_unreached(table, root, a + 1, table[2]);
     if n != 0 {
         return n;
     }
-    first_unreached(table, 1, a - 1)
+    first_unreached(table, root, 1, a - 1)
 }
 
 // How many nodes are unreachable, from the count of those reached.
@@ -124,14 +128,13 @@ pub fn kept_count(table: &[u64], n: u64) -> u64
 }
 
 // Whether the deletion of a slot empties its leaf x, which is not the leftmost child of its parent p; a root leaf has no parent.
-pub fn frees_leaf(table: &[u64], p: u64, x: u64) -> bool
-    requires { ⌜ headerOk (now table) ≡ true ⌝ }
+pub fn frees_leaf(table: &[u64], root: u64, p: u64, x: u64) -> bool
+    requires { ⌜ root ≡ view (now table) .root ⌝ }
     ensures { λ r. ⌜ r ≡ freesLeaf (now (table .entry)) p x ⌝ }
 {
     if shown_count(table, x) != 1 {
         return false;
     }
-    let root = table[1];
     if node::word(table, root, 2) == 0 {
         return false;
     }
@@ -163,11 +166,12 @@ fn run_after(table: &[u64], count: u64, n: u64, parent: u64) -> u64
 }
 
 // The run for a key, on the table as repair would leave it.
-pub fn full_run(table: &[u64], key: u64, parent: u64) -> Run
+pub fn full_run(table: &[u64], root: u64, key: u64, parent: u64) -> Run
     requires { ⌜ sound (now table) ≡ true ⌝ }
+    requires { ⌜ root ≡ view (now table) .root ⌝ }
     ensures { λ r. ⌜ r ≡ fullRun (now (table .entry)) key parent ⌝ }
 {
-    let mut n = table[1];
+    let mut n = root;
     let top = node::word(table, n, 2);
     let mut level = top;
     let mut count = 0;

@@ -22,7 +22,7 @@ pub fn set_class(table: &mut [u64], list: &mut [u64], key: u64, access: u64) -> 
                 return Written::Refused(9);
             }
             let mended = write::mend(table, list, write::begin(), left);
-            let leaf = reach::standing(table, 0, key);
+            let leaf = reach::standing(table, node::root_of(table), 0, key);
             let set = shift::set_class(table, list, mended, leaf, key, access);
             let done = orders::finish(list, set);
             Written::Done {

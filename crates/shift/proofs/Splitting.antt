@@ -86,17 +86,17 @@ pub new-root-fresh : (t : Words) → newRoot t ≡ newRootAt t (fresh t (root t)
 unfolding newRoot
 new-root-fresh t = refl
 
-module _ (t : Words) (n w l : ℕ) (h : hasNode t n ≡ true) (e : w ≡ startOf t n) (el : l ≡ wordOf t (root t) 2) where
+module _ (t : Words) (o n w l : ℕ) (eo : o ≡ root t) (h : hasNode t n ≡ true) (e : w ≡ startOf t n) (el : l ≡ wordOf t o 2) where
   pub level-is : l ≡ height (view t)
-  level-is = el ∙ word-level t (root t)
+  level-is = el ∙ word-level t o ∙ ap (λ (m : ℕ). nodeView t m .level) eo
 
   module _ (d : Desk) (r : Room (newRootAt t n) d) where
     abbrev words : Words
-    words = set (set (replicate 32 0) 0 (root t)) 2 (l + 1)
+    words = set (set (replicate 32 0) 0 o) 2 (l + 1)
 
     root-steps : newRootAt t n ≡ putAll w words ++ (put 1 n ∷ [])
     unfolding nodeWords
-    root-steps = rw (← level-is, ← (starts t n w h e), add-one)
+    root-steps = rw (eo, ← level-is, ← (starts t n w h e), add-one)
 
     pub root-words : Room (putAll w words) d
     root-words = rest-first _ _ (rest-same root-steps (rest-start r))

@@ -358,8 +358,9 @@ pub fn split(table: &mut [u64], list: &mut [u64], pen: Pen, a: u64, b: u64, p: u
     slot_in(table, list, cut, above, parent, key, b)
 }
 
-// A new root in node r: all its words, with left the old root, one level up; then header word 1.
-pub fn new_root(table: &mut [u64], list: &mut [u64], pen: Pen, r: u64) -> Pen
+// A new root in node r: all its words, with left the old root, whose number is handed in, one level up; then header word 1.
+pub fn new_root(table: &mut [u64], list: &mut [u64], pen: Pen, root: u64, r: u64) -> Pen
+    requires { ⌜ root ≡ view (now table) .root ⌝ }
     requires { ⌜ hasNode (now table) r ≡ true ⌝ }
     requires { ⌜ height (view (now table)) < MARK ⌝ }
     requires { ⌜ Room (newRootAt (now table) r) (desk (now table) (now list) pen) ⌝ }
@@ -367,7 +368,6 @@ pub fn new_root(table: &mut [u64], list: &mut [u64], pen: Pen, r: u64) -> Pen
         ≡ storedAll (newRootAt (now (table .entry)) r) (desk (now (table .entry)) (now (list .entry)) pen) ⌝ }
 {
     let w = node::start(table, r);
-    let root = table[1];
     let level = node::word(table, root, 2);
     let mut words = [0u64; 32];
     words[0] = root;

@@ -67,7 +67,7 @@ pub fn has_key(table: &[u64], key: u64) -> bool
     requires { ⌜ sound (now table) ≡ true ⌝ }
     ensures { λ r. ⌜ r ≡ hasKey key (mapOf (now (table .entry))) ⌝ }
 {
-    let leaf = reach::standing(table, 0, key);
+    let leaf = reach::standing(table, node::root_of(table), 0, key);
     let x = node::read(table, leaf);
     let slots = x.slots;
     let left = x.left;

@@ -13,8 +13,14 @@ parent c = c .before .before
 abbrev leaf : tie.After-standing2 → tie.After-standing
 leaf c = c .before .before
 
+abbrev read : tie.After-standing → tie.After-root-of
+read c = c .before .before
+
+abbrev start : tie.After-root-of → tie.Start
+start c = c .before .before .before .before
+
 abbrev entry : tie.After-standing → tie.Start
-entry c = c .before .before .before .before
+entry c = start (read c)
 
 abbrev judged : tie.After-shift-out-arg2 → tie.After-frees-leaf
 judged c = c .before .before
@@ -44,14 +50,17 @@ found c = let p = parent c in let x = leaf p in let e = entry x .pre in record {
 
 -- ---- the answers
 
+root-of-requires : tie.Need-root-of-requires
+root-of-requires c κs = settled-header _ (c .before .before .before .pre .0)
+
 standing-requires : tie.Need-standing-requires
-standing-requires c κs = settled-header _ (c .before .before .before .pre .0)
+standing-requires c κs = c .before .root-of .ensures
 
 standing-requires-2 : tie.Need-standing-requires-2
-standing-requires-2 c κs = settled-header _ (entry (c .before) .pre .0)
+standing-requires-2 c κs = read (c .before) .root-of .ensures
 
 frees-leaf-requires : tie.Need-frees-leaf-requires
-frees-leaf-requires c κs = settled-header _ (entry (leaf (c .before)) .pre .0)
+frees-leaf-requires c κs = read (leaf (c .before)) .root-of .ensures
 
 shift-out-requires : tie.Need-shift-out-requires
 shift-out-requires c κs = let f = found (judged c) in (leaf-plain f .there, (leaf-plain f .plain, out-room f))
@@ -91,6 +100,7 @@ pub take-out-spec : {M : Type 1} → statement M
 take-out-spec =
     tie.close
     (tie.spec
+    root-of-requires
     standing-requires
     standing-requires-2
     frees-leaf-requires

@@ -32,14 +32,17 @@ grow-requires c κs = let h = handed c in (h .is-settled, (h .enters .not-high, 
 split-run-requires : tie.Need-split-run-requires
 split-run-requires c κs = let g = grown c in let h = handed (g .before) in (run-ready h (g .grow .ensures), splits-room h (g .grow .ensures))
 
+root-of-requires : tie.Need-root-of-requires
+root-of-requires c κs = let s = split c in let g = grown (s .before) in split-header (handed (g .before)) (g .grow .ensures) (s .split-run .ensures)
+
 standing-requires : tie.Need-standing-requires
-standing-requires c κs = let s = split c in let g = grown (s .before) in split-header (handed (g .before)) (g .grow .ensures) (s .split-run .ensures)
+standing-requires c κs = c .root-of .ensures
 
 join-requires : tie.Need-join-requires
-join-requires c κs = let h = handed (grown (split (c .before) .before) .before) in (recording-low h, class-low h)
+join-requires c κs = let h = handed (grown (split (c .before .before) .before) .before) in (recording-low h, class-low h)
 
 shift-in-requires : tie.Need-shift-in-requires
-shift-in-requires c κs = let j = joined c in let n = j .before in let s = split (n .before) in let g = grown (s .before) in let h = handed (g .before) in
+shift-in-requires c κs = let j = joined c in let n = j .before in let s = split (n .before .before) in let g = grown (s .before) in let h = handed (g .before) in
     let p = leaf-plain h (g .grow .ensures) (s .split-run .ensures) (n .standing .ensures) in
     (p .there, (p .plain, in-room h (g .grow .ensures) (s .split-run .ensures) (n .standing .ensures) (j .join .ensures)))
 
@@ -50,7 +53,7 @@ same-length-2 : tie.Need-same-length-2
 same-length-2 c = search needs
 
 returns : tie.Need-returns
-returns c = let i = last c in let j = joined (i .before) in let n = j .before in let s = split (n .before) in let g = grown (s .before) in
+returns c = let i = last c in let j = joined (i .before) in let n = j .before in let s = split (n .before .before) in let g = grown (s .before) in
     all-entered (handed (g .before)) (g .grow .ensures) (s .split-run .ensures) (n .standing .ensures) (j .join .ensures) (i .shift-in .ensures)
 
 pub enter-spec : {M : Type 1} → statement M
@@ -59,6 +62,7 @@ enter-spec =
     (tie.spec
     grow-requires
     split-run-requires
+    root-of-requires
     standing-requires
     join-requires
     shift-in-requires

@@ -3,6 +3,7 @@ use mathlib.Core.Path.{_≡_, sym, _∙_}
 use lib.ListN.{length}
 use Rattle.model.specs.Writes.{insertion}
 use Rattle.model.specs.Refusals.{refusal}
+use Rattle.tree_laws.proofs.Levels.{sound-header}
 use Rattle.write.proofs.Judging.{Passed, judged-ready}
 use Rattle.write.proofs.Ending.{refused-call, judge-refuses, Begun, mend-room, mended-settled, rest-room, finish-room, done-call}
 use Rattle.insert.proofs.Judging.{run-later, insert-number}
@@ -19,8 +20,11 @@ entry c = c .before .before .before .before
 abbrev refused : tie.After-known-told → tie.After-judgement
 refused c = c .before
 
+abbrev read : tie.After-parent-of → tie.After-root-of
+read c = c .before
+
 abbrev ready : tie.After-parent-of → tie.After-judgement2
-ready c = c .before .before .before
+ready c = read c .before .before .before
 
 abbrev ran : tie.After-number → tie.After-parent-of
 ran c = c .before .before .before
@@ -68,11 +72,14 @@ enum-known-judgement c = search needs
 enum-known-judgement-2 : tie.Need-enum-known-judgement-2
 enum-known-judgement-2 c = search needs
 
+root-of-requires : tie.Need-root-of-requires
+root-of-requires c κs = sound-header _ (passed (c .before .before) .found .is-sound)
+
 parent-of-requires : tie.Need-parent-of-requires
 parent-of-requires c κs = search needs
 
 full-run-requires : tie.Need-full-run-requires
-full-run-requires c κs = passed (ready c) .found .is-sound
+full-run-requires c κs = (passed (ready c) .found .is-sound, read c .root-of .ensures)
 
 number-requires : tie.Need-number-requires
 number-requires c κs = let f = passed (ready (c .before .before)) .found in (f .is-sound, f .reached-are)
@@ -120,6 +127,7 @@ insert-spec =
     judge-requires
     enum-known-judgement
     enum-known-judgement-2
+    root-of-requires
     parent-of-requires
     full-run-requires
     number-requires

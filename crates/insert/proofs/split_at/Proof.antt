@@ -8,8 +8,11 @@ use Rattle.insert.proofs.split_at.Tie as tie
 
 -- ---- the places
 
+abbrev read : tie.After-standing-arg → tie.After-root-of
+read c = c .before
+
 abbrev entry : tie.After-standing-arg → tie.Start
-entry c = c .before .before .before
+entry c = read c .before .before .before .before
 
 abbrev stood : tie.After-fresh-arg → tie.After-standing
 stood c = c .before
@@ -25,18 +28,21 @@ last c = c .before .before .before .before
 
 -- ---- the answers
 
+root-of-requires : tie.Need-root-of-requires
+root-of-requires c κs = split-header (c .before .before .before .pre .0)
+
 standing-requires : tie.Need-standing-requires
-standing-requires c κs = split-header (entry c .pre .0)
+standing-requires c κs = c .before .root-of .ensures
 
 fresh-requires : tie.Need-fresh-requires
 fresh-requires c κs = let s = stood c in let h = entry (s .before) .pre .0 in
-    let u = lower-range h (s .standing .ensures) in (split-sound h, (u .0, u .1))
+    let u = lower-range h (s .standing .ensures) in (split-sound h, (read (s .before) .root-of .ensures, (u .0, u .1)))
 
 add-standing : tie.Need-add-standing
 add-standing c = omega (arith, split-low (entry (stood (freed c .before) .before) .pre .0))
 
 standing-requires-2 : tie.Need-standing-requires-2
-standing-requires-2 c κs = split-header (entry (stood (freed c .before) .before) .pre .0)
+standing-requires-2 c κs = read (stood (freed c .before) .before) .root-of .ensures
 
 split-requires : tie.Need-split-requires
 split-requires c κs = let m = above c in let f = freed (m .before) in let s = stood (f .before) in let e = entry (s .before) .pre in
@@ -58,6 +64,7 @@ pub split-at-spec : {M : Type 1} → statement M
 split-at-spec =
     tie.close
     (tie.spec
+    root-of-requires
     standing-requires
     fresh-requires
     add-standing

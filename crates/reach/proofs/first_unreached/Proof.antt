@@ -8,10 +8,10 @@ use Rattle.reach.proofs.first_unreached.Statement.{statement}
 use Rattle.reach.proofs.first_unreached.Tie as tie
 
 abbrev Inv-loop : tie.InvT-loop
-Inv-loop table first last n₀ n = firstFrom table n last ≡ firstFrom table first last
+Inv-loop table root first last n₀ n = firstFrom table n last ≡ firstFrom table first last
 
 abbrev μ-loop : tie.MeasureT-loop
-μ-loop table first last n₀ n = last + 1 - n
+μ-loop table root first last n₀ n = last + 1 - n
 
 -- the turn of the loop in which a node was asked for
 abbrev asked : tie.After-is-reached Inv-loop μ-loop → tie.In-loop Inv-loop μ-loop

@@ -1,6 +1,4 @@
 -- `reach::frees_leaf` meets its contract, by the test that led to each return.
-use native.Mathlib.Omega.{arith}
-use Rattle.search.proofs.Standing.{header-words}
 use Rattle.reach.proofs.Freeing.{more-left, root-leaf, not-leftmost}
 use borrow.Author.Needs.{needs}
 use Rattle.reach.proofs.frees_leaf.Statement.{statement}
@@ -9,7 +7,10 @@ use Rattle.reach.proofs.frees_leaf.Tie as tie
 -- ---- the places
 
 abbrev counted : tie.After-word → tie.Else1
-counted c = c .before .before
+counted c = c .before
+
+abbrev start : tie.Else1 → tie.Start
+start c = c .before .before .before
 
 abbrev above : tie.After-word2 → tie.Else2
 above c = c .before
@@ -22,9 +23,6 @@ shown-count-requires c κs = search needs
 returns : tie.Need-returns
 returns c = more-left _ _ _ _ (c .before .shown-count .ensures) (c .if1 .taken)
 
-shared-slice-read-root : tie.Need-shared-slice-read-root
-shared-slice-read-root c = let s = c .before .before .before .before in omega (arith, header-words _ (s .pre))
-
 word-requires : tie.Need-word-requires
 word-requires c κs = search needs
 
@@ -32,7 +30,7 @@ returns-2 : tie.Need-returns-2
 returns-2 c =
     let w = c .before in
     let e = counted w in
-    root-leaf _ _ _ _ (e .before .shown-count .ensures) (e .if1 .left) _ (w .word .ensures) (c .if2 .taken)
+    root-leaf _ _ _ _ (e .before .shown-count .ensures) (e .if1 .left) _ _ (start e .pre) (w .word .ensures) (c .if2 .taken)
 
 word-requires-2 : tie.Need-word-requires-2
 word-requires-2 c κs = search needs
@@ -42,7 +40,7 @@ returns-3 c =
     let f = above c in
     let w = f .before in
     let e = counted w in
-    not-leftmost _ _ _ _ (e .before .shown-count .ensures) (e .if1 .left) _ (w .word .ensures) (f .if2 .left) _ (c .word2 .ensures)
+    not-leftmost _ _ _ _ (e .before .shown-count .ensures) (e .if1 .left) _ _ (start e .pre) (w .word .ensures) (f .if2 .left) _ (c .word2 .ensures)
 
 pub frees-leaf-spec : {M : Type 1} → statement M
 frees-leaf-spec =
@@ -50,7 +48,6 @@ frees-leaf-spec =
     (tie.spec
     shown-count-requires
     returns
-    shared-slice-read-root
     word-requires
     returns-2
     word-requires-2

@@ -5,38 +5,35 @@ use native.Mathlib.Omega.{arith}
 use Rattle.model.specs.Slots.{view}
 use Rattle.model.specs.Search.{pathFrom, path}
 use Rattle.reach.specs.Runs.{fullIn, endRun, runFrom}
-use Rattle.reach.proofs.Members.{sound-words, sound-height}
+use Rattle.reach.proofs.Members.{sound-height}
 use Rattle.reach.proofs.Running.{after-most, run-lower, run-last, run-top, run-read}
 use borrow.Author.Needs.{needs}
 use Rattle.reach.proofs.full_run.Statement.{statement}
 use Rattle.reach.proofs.full_run.Tie as tie
 
 abbrev Inv-loop : tie.InvT-loop
-Inv-loop table key parent n₀ top level₀ count₀ n level count =
+Inv-loop table root key parent n₀ top level₀ count₀ n level count =
     let p = fullIn (view table) parent in
     (top ≤ 15) × (count + level ≤ top) × (runFrom p count (pathFrom (view table) level n key) ≡ endRun p (path (view table) key))
 
 abbrev μ-loop : tie.MeasureT-loop
-μ-loop table key parent n₀ top level₀ count₀ n level count = level
+μ-loop table root key parent n₀ top level₀ count₀ n level count = level
 
 -- the places: the turn of the loop in which a move was made, and the start
 abbrev turn : tie.After-moved Inv-loop μ-loop → tie.In-loop Inv-loop μ-loop
 turn c = c .before
 
 abbrev entry : tie.At-loop Inv-loop μ-loop → tie.Start Inv-loop μ-loop
-entry c = c .before .before .before .before
-
-shared-slice-read-n : tie.Need-shared-slice-read-n Inv-loop μ-loop
-shared-slice-read-n c = let s = c .before .before in omega (arith, sound-words _ (s .pre))
+entry c = c .before .before .before
 
 word-requires : tie.Need-word-requires Inv-loop μ-loop
 word-requires c κs = search needs
 
 loop-holds : tie.Need-loop-holds Inv-loop μ-loop
 loop-holds c =
-    let s = c .before .before .before in
-    let h = sound-height _ _ (s .pre) (c .word .ensures) in
-    (h, omega arith, run-top _ _ _ _ (c .word .ensures))
+    let s = c .before .before in
+    let h = sound-height _ _ _ (s .pre .0) (s .pre .1) (c .word .ensures) in
+    (h, omega arith, run-top _ _ _ _ _ (s .pre .1) (c .word .ensures))
 
 moved-requires : tie.Need-moved-requires Inv-loop μ-loop
 moved-requires c κs = search needs
@@ -72,15 +69,15 @@ moved-requires-2 c κs = search needs
 run-after-requires-2 : tie.Need-run-after-requires-2 Inv-loop μ-loop
 run-after-requires-2 c κs = search needs
 
-add-t12 : tie.Need-add-t12 Inv-loop μ-loop
-add-t12 c = search needs
+add-t13 : tie.Need-add-t13 Inv-loop μ-loop
+add-t13 c = search needs
 
 returns : tie.Need-returns Inv-loop μ-loop
 returns c =
     let m = c .before in
     let e = m .before in
     let l = e .before in
-    run-read _ _ _ _ _ (l .before .word .ensures)
+    run-read _ _ _ _ _ _ (entry l .pre .1) (l .before .word .ensures)
     (run-last _ _ (l .loop .n) _ _ (l .loop .count) _ (m .moved2 .ensures) (c .run-after2 .ensures) (l .loop .level) (e .loop-test .left) ∙ l .loop .inv .2)
 
 pub full-run-spec : {M : Type 1} → statement M
@@ -89,7 +86,6 @@ full-run-spec =
     (tie.spec
     Inv-loop
     μ-loop
-    shared-slice-read-n
     word-requires
     loop-holds
     moved-requires
@@ -100,5 +96,5 @@ full-run-spec =
     loop-again
     moved-requires-2
     run-after-requires-2
-    add-t12
+    add-t13
     returns)

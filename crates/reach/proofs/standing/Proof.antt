@@ -1,32 +1,27 @@
 -- `reach::standing` meets its contract. The loop's invariant: the descent from here on stands on the level where the whole one does.
 use mathlib.Core.Path.{_≡_, sym, _∙_}
-use native.Mathlib.Omega.{arith}
 use Rattle.model.specs.Slots.{view}
 use Rattle.model.specs.Writes.{standing}
-use Rattle.search.proofs.Standing.{header-words}
 use Rattle.reach.proofs.Descent.{nodeOn, on-here, on-lower, on-top}
 use borrow.Author.Needs.{needs}
 use Rattle.reach.proofs.standing.Statement.{statement}
 use Rattle.reach.proofs.standing.Tie as tie
 
 abbrev Inv-loop : tie.InvT-loop
-Inv-loop table level key n₀ l₀ n l = nodeOn (view table) l n key level ≡ standing table level key
+Inv-loop table root level key n₀ l₀ n l = nodeOn (view table) l n key level ≡ standing table level key
 
 abbrev μ-loop : tie.MeasureT-loop
-μ-loop table level key n₀ l₀ n l = l
+μ-loop table root level key n₀ l₀ n l = l
 
 -- the turn of the loop in which a move was made
 abbrev turn : tie.After-moved Inv-loop μ-loop → tie.In-loop Inv-loop μ-loop
 turn c = c .before
 
-shared-slice-read-n : tie.Need-shared-slice-read-n Inv-loop μ-loop
-shared-slice-read-n c = let s = c .before .before in omega (arith, header-words _ (s .pre))
-
 word-requires : tie.Need-word-requires Inv-loop μ-loop
 word-requires c κs = search needs
 
 loop-holds : tie.Need-loop-holds Inv-loop μ-loop
-loop-holds c = on-top _ _ _ _ (c .word .ensures)
+loop-holds c = let s = c .before .before in on-top _ _ _ _ _ (s .pre) (c .word .ensures)
 
 moved-requires : tie.Need-moved-requires Inv-loop μ-loop
 moved-requires c κs = search needs
@@ -60,7 +55,6 @@ standing-spec =
     (tie.spec
     Inv-loop
     μ-loop
-    shared-slice-read-n
     word-requires
     loop-holds
     moved-requires

@@ -101,13 +101,16 @@ begin-requires c κs = search needs
 mend-requires : tie.Need-mend-requires
 mend-requires c κs = let f = passed (told c) .found in (f .is-sound, (f .leftover-is, mend-room (begun c)))
 
+root-of-requires : tie.Need-root-of-requires
+root-of-requires c κs = let m = mended c in mended-header (begun (m .before)) (m .mend .ensures)
+
 standing-requires : tie.Need-standing-requires
-standing-requires c κs = let m = mended c in mended-header (begun (m .before)) (m .mend .ensures)
+standing-requires c κs = c .root-of .ensures
 
 set-class-requires : tie.Need-set-class-requires
 set-class-requires c κs =
     let s = stood c in
-    let m = mended (s .before) in
+    let m = mended (s .before .before) in
     let b = begun (m .before) in
     let g = m .mend .ensures in
     let n = leaf-plain b g (s .standing .ensures) in
@@ -117,7 +120,7 @@ finish-requires : tie.Need-finish-requires
 finish-requires c κs =
     let o = stored c in
     let s = stood (o .before) in
-    let m = mended (s .before) in
+    let m = mended (s .before .before) in
     let b = begun (m .before) in
     let g = m .mend .ensures in
     finish-room b g (class-stored b g (s .standing .ensures) (o .set-class .ensures))
@@ -139,7 +142,7 @@ returns-4 c =
     let f = finished c in
     let o = stored (f .before) in
     let s = stood (o .before) in
-    let m = mended (s .before) in
+    let m = mended (s .before .before) in
     let b = begun (m .before) in
     let g = m .mend .ensures in
     done-call b g (class-stored b g (s .standing .ensures) (o .set-class .ensures)) (f .finish .ensures)
@@ -159,6 +162,7 @@ set-class-spec =
     returns-2
     begin-requires
     mend-requires
+    root-of-requires
     standing-requires
     set-class-requires
     finish-requires
