@@ -13,7 +13,7 @@ use Rattle.step_laws.proofs.Calls.{accepted}
 use Rattle.crash_laws.proofs.Laws.{CutLaws, Laws}
 use Rattle.crash_laws.proofs.Reduce.{reduce}
 
-cut-laws : CutLaws
+pub cut-laws : CutLaws
 cut-laws =
     record {
       image-part = λ c t ss m i. let p = image-is-stores ss t c m i in (p .0, p .2);

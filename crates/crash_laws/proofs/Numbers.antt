@@ -27,11 +27,11 @@ from-five x words t fine = rw (sound-header t fine, fine)
 
 -- ---- the ledger's tests: where the call's number is 10, 11 or 12, it is fed and refuses at that number's place
 
-abbrev isFed : ℕ → Bool
+abbrev pub isFed : ℕ → Bool
 isFed n = eqb n 10 || (eqb n 11 || eqb n 12)
 
 -- what was fed tells a test of 10, 11 or 12 whether it holds
-abbrev refed : (fed : ℕ) → Test → Test
+abbrev pub refed : (fed : ℕ) → Test → Test
 refed fed c = test (cond (isFed (c .number)) (eqb fed (c .number)) (c .holds)) (c .number)
 
 -- one test of number n, which holds or not by b, before others that come to r
@@ -53,7 +53,7 @@ refed-one false n r rest ih = go (isFed n) (isFed r) (λ f z. false≢true (rw z
         same false e = ih
     go true false z ih = rw (ne-eqb 0 n (λ e. z refl (sym e))) ih
 
-refed-first : (cs : List Test) → firstNumber (map (refed (fedOf (firstNumber cs))) cs) ≡ firstNumber cs
+pub refed-first : (cs : List Test) → firstNumber (map (refed (fedOf (firstNumber cs))) cs) ≡ firstNumber cs
 refed-first [] = refl
 refed-first (c ∷ cs) = refed-one (c .holds) (c .number) (firstNumber cs) (λ fed. firstNumber (map (refed fed) cs)) (refed-first cs)
 
@@ -73,11 +73,11 @@ number-in-ledger x words t fine =
 
 -- ---- a number comes only where a test of it holds
 
-abbrev holdsFor : ℕ → List Test → Bool
+abbrev pub holdsFor : ℕ → List Test → Bool
 holdsFor n [] = false
 holdsFor n (c ∷ cs) = cond (eqb (c .number) n) (c .holds || holdsFor n cs) (holdsFor n cs)
 
-first-holds : (n : ℕ) (cs : List Test) → n ≢ 0 → firstNumber cs ≡ n → holdsFor n cs ≡ true
+pub first-holds : (n : ℕ) (cs : List Test) → n ≢ 0 → firstNumber cs ≡ n → holdsFor n cs ≡ true
 first-holds n [] z e = absurd (z (sym e))
 first-holds n (c ∷ cs) z e = go (c .holds) (eqb (c .number) n) refl e (first-holds n cs z)
   where
@@ -91,7 +91,7 @@ first-holds n (c ∷ cs) z e = go (c .holds) (eqb (c .number) n) refl e (first-h
 number-holds : (n : ℕ) (x : Call) (words : ℕ) (t : Words) → sound t ≡ true → n ≢ 0 → refusal x words t ≡ n → holdsFor n (tests x words t) ≡ true
 number-holds n x words t fine z e = first-holds n (tests x words t) z (sym (from-five x words t fine) ∙ e)
 
-alone : (b : Bool) → b || false ≡ true → b ≡ true
+pub alone : (b : Bool) → b || false ≡ true → b ≡ true
 alone true e = refl
 alone false e = e
 

@@ -34,7 +34,7 @@ use Rattle.crash_laws.proofs.Numbers.{from-five, number-in-ledger, only
 
 -- ---- equality of maps is decided
 
-Slot-discrete : Discrete Slot
+pub Slot-discrete : Discrete Slot
 Slot-discrete s u = go (ℕ-discrete (s .key) (u .key)) (ℕ-discrete (s .pointer) (u .pointer))
   where
     go : Dec (s .key ≡ u .key) → Dec (s .pointer ≡ u .pointer) → Dec (s ≡ u)
@@ -42,15 +42,15 @@ Slot-discrete s u = go (ℕ-discrete (s .key) (u .key)) (ℕ-discrete (s .pointe
     go (no a) b = no (λ e. a (ap (λ (x : Slot). x .key) e))
     go (yes a) (no b) = no (λ e. b (ap (λ (x : Slot). x .pointer) e))
 
-abbrev isYes : {A : Type 0} → Dec A → Bool
+abbrev pub isYes : {A : Type 0} → Dec A → Bool
 isYes (yes a) = true
 isYes (no k) = false
 
--- of a list that is the old or the new one: the test whether it is the new one tells which
-decided : (old new xs : List Slot) (d : Dec (xs ≡ new)) → (xs ≡ old) ⊎ (xs ≡ new) → xs ≡ cond (isYes d) new old
-decided old new xs (yes e) o = e
-decided old new xs (no k) (inl e) = e
-decided old new xs (no k) (inr e) = absurd (k e)
+-- of what is the old or the new one: the test whether it is the new one tells which
+pub decided : {A : Type 0} (old new x : A) (d : Dec (x ≡ new)) → (x ≡ old) ⊎ (x ≡ new) → x ≡ cond (isYes d) new old
+decided old new x (yes e) o = e
+decided old new x (no k) (inl e) = e
+decided old new x (no k) (inr e) = absurd (k e)
 
 -- ---- what an accepted call answers and leaves
 
@@ -76,7 +76,7 @@ number-answered x words t = go (refusal x words t) (Done (storeCount (ordersOf x
     go zero done e = e
     go (suc n) done e = refl
 
-unless-refused : {A B : Type 0} (R : A → B → Type 0) (n : ℕ) (new old : A) (new′ old′ : B) → (n ≡ 0 → R new new′) → R old old′
+pub unless-refused : {A B : Type 0} (R : A → B → Type 0) (n : ℕ) (new old : A) (new′ old′ : B) → (n ≡ 0 → R new new′) → R old old′
     → R (unlessRefused n new old) (unlessRefused n new′ old′)
 unless-refused R zero new old new′ old′ f h = f refl
 unless-refused R (suc n) new old new′ old′ f h = h

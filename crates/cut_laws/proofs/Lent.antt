@@ -1,7 +1,7 @@
 -- The lent list: its words while orders are added to it, and carry-out of what a write listed.
 use mathlib.Core.Path.{_≡_, refl, ap, _∙_}
 use mathlib.Core.Logic.{_≢_}
-use mathlib.Core.Bool.{true}
+use mathlib.Core.Bool.{true, _&&_}
 use mathlib.Core.List.{List, [], _∷_, _++_, append-assoc}
 use Prim.Native.Nat.{ℕ, zero, suc, _+_, _*_, _/_, _≤_, _<_}
 use native.Mathlib.Numerals.{add-one}
@@ -110,23 +110,28 @@ unfolding allInside orders
 orders-inside n [] d a = refl
 orders-inside n (s ∷ ss) d a = rw (lt-ltb (s .word) n (a .0)) (after-inside n ss (line (s .word)) d (omega arith) (a .1))
 
--- Carry-out of the first c of orders that lie in the table is not refused, and leaves what they leave.
-module _ (os : List Order) (lent t : Words) (c : ℕ) (ok : headerOk t ≡ true) (a : allInside (length t) os ≡ true) (h : c ≤ length os) where
-  read-back : take c (decode (listWith os lent)) ≡ take c os
+-- The first c of orders that lie in the table are read back, and pass the test of 13.
+module _ (os : List Order) (lent t : Words) (c : ℕ) (few : length t ≤ MARK) (a : allInside (length t) os ≡ true) (h : c ≤ length os) where
+  pub read-back : take c (decode (listWith os lent)) ≡ take c os
   unfolding listWith
-  read-back = rw (decode-encode os (drop (2 * length os) lent) (inside-words (length t) os (header-length t ok .1) a)) (take-append-le c os _ h)
+  read-back = rw (decode-encode os (drop (2 * length os) lent) (inside-words (length t) os few a)) (take-append-le c os _ h)
 
   room : leb c (length (listWith os lent) / 2) ≡ true
   unfolding listWith
   room = le-leb c _ (simp (length-append, length-encode) (omega arith))
 
+  pub listed-inside : (leb c (length (listWith os lent) / 2) && allInside (length t) (take c (decode (listWith os lent)))) ≡ true
+  listed-inside = rw (room, read-back) (inside-take (length t) c os a)
+
+-- Carry-out of them is not refused, and leaves what they leave.
+module _ (os : List Order) (lent t : Words) (c : ℕ) (ok : headerOk t ≡ true) (a : allInside (length t) os ≡ true) (h : c ≤ length os) where
   pub listed-number : carryNumber c (listWith os lent) t ≡ 0
   unfolding carryNumber
-  listed-number = rw (ok, room, read-back, inside-take (length t) c os a)
+  listed-number = rw (ok, listed-inside os lent t c (header-length t ok .1) a h)
 
   pub listed-carried : carriedOut c (listWith os lent) t ≡ carry (take c os) t
   unfolding carriedOut
-  listed-carried = rw (listed-number, read-back)
+  listed-carried = rw (listed-number, read-back os lent t c (header-length t ok .1) a h)
 
 -- The same of a write's orders, by its stores.
 module _ (ss : List Store) (lent t : Words) (ok : headerOk t ≡ true) (a : StoresInside (length t) ss) where

@@ -21,7 +21,7 @@ use Rattle.step_laws.specs.Parts.{Enters}
 abbrev pub Passed : List Test → Type 0
 Passed cs = Each (λ (c : Test). c .holds ≡ false) cs
 
-none-holds : (cs : List Test) → Each (λ (c : Test). c .number ≢ 0) cs → (firstNumber cs ≡ 0) ↔ Passed cs
+pub none-holds : (cs : List Test) → Each (λ (c : Test). c .number ≢ 0) cs → (firstNumber cs ≡ 0) ↔ Passed cs
 none-holds [] z = (λ e. tt, λ u. refl)
 none-holds (c ∷ cs) z = (λ e. go (c .holds) e refl (none-holds cs (z .1) .0), λ u. rw (u .0) (none-holds cs (z .1) .1 (u .1)))
   where

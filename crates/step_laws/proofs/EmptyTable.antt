@@ -5,7 +5,8 @@ use mathlib.Core.List.{[]}
 use Prim.Native.Nat.{ℕ, _≤_}
 use native.Mathlib.Omega.{arith}
 use lib.ListN.{replicate}
-use Rattle.model.specs.Table.{MARK, nodes, root, inRange, allZero, node, empty}
+use Rattle.model.specs.declared.Node.{Node}
+use Rattle.model.specs.Table.{MARK, Words, nodes, root, inRange, allZero, node, spare, empty}
 use Rattle.model.specs.Slots.{slotsOf, inUse, shown, hidden, used, clearIn, nodeView, view}
 use Rattle.model.specs.Reached.{mapOf}
 use Rattle.model.specs.SoundTest.{settled}
@@ -16,22 +17,35 @@ use Rattle.tree_laws.proofs.Levels.{settled-parts}
 use Rattle.change_laws.proofs.Parts.{settled-left}
 use Rattle.change_laws.proofs.EmptyRoot.{map-none, empty-left}
 
-module _ (n : ℕ) (low : 1 ≤ n) where
-  leaf : node (empty n) 1 ≡ record { left = MARK; sibling = 0; level = 0; fence = 0; slots = replicate 24 0 }
-  leaf = empty-leaf n low
+abbrev pub emptyLeaf : Node
+emptyLeaf = record { left = MARK; sibling = 0; level = 0; fence = 0; slots = replicate 24 0 }
 
-  shows : nodeView (empty n) 1 .shown ≡ []
+-- what is read of a node that is an empty leaf
+module _ (t : Words) (i : ℕ) (leaf : node t i ≡ emptyLeaf) (spares : spare t i ≡ replicate 4 0) where
+  shows : nodeView t i .shown ≡ []
   unfolding used slotsOf inUse shown
   shows = rw leaf
 
-  hides : nodeView (empty n) 1 .hidden ≡ 0
+  hides : nodeView t i .hidden ≡ 0
   unfolding used slotsOf inUse hidden
   hides = rw leaf
 
-  clear : nodeView (empty n) 1 .clear ≡ true
+  clear : nodeView t i .clear ≡ true
   unfolding clearIn allZero
-  clear = rw (empty-spare n 1 (omega arith) low, leaf)
+  clear = rw (spares, leaf)
 
+  pub leaf-view : nodeView t i ≡ newNode MARK 0 0 0 []
+  leaf-view = λ j. record {
+    left = leaf j .left;
+    sibling = leaf j .sibling;
+    level = leaf j .level;
+    fence = leaf j .fence;
+    shown = shows j;
+    hidden = hides j;
+    clear = clear j;
+  }
+
+module _ (n : ℕ) (low : 1 ≤ n) where
   root-is : root (empty n) ≡ 1
   unfolding empty
   root-is = refl
@@ -40,16 +54,12 @@ module _ (n : ℕ) (low : 1 ≤ n) where
   unfolding empty
   nodes-are = refl
 
+  -- node 1 is an empty leaf
+  pub first-leaf : nodeView (empty n) 1 ≡ newNode MARK 0 0 0 []
+  first-leaf = leaf-view (empty n) 1 (empty-leaf n low) (empty-spare n 1 (omega arith) low)
+
   root-leaf : nodeView (empty n) (root (empty n)) ≡ newNode MARK 0 0 0 []
-  root-leaf = ap (nodeView (empty n)) root-is ∙ (λ i. record {
-    left = leaf i .left;
-    sibling = leaf i .sibling;
-    level = leaf i .level;
-    fence = leaf i .fence;
-    shown = shows i;
-    hidden = hides i;
-    clear = clear i;
-  })
+  root-leaf = ap (nodeView (empty n)) root-is ∙ first-leaf
 
   root-range : inRange (nodes (empty n)) (root (empty n)) ≡ true
   unfolding inRange

@@ -225,9 +225,12 @@ module _ (t : Words) (p x : ℕ) (h : Freeable t p x) where
   free-nodes = ap (λ (w : View). w .nodes) seen
 
   -- the left neighbour, which the last store is to
-  pub neighbour-there : hasNode t (childBefore (view t) p x) ≡ true
+  pub neighbour-reached : List·Memᴰ (childBefore (view t) p x) (reached (view t))
   unfolding childBefore
-  neighbour-there = reached-usable t a (fine .header) (fine .left .orderly) (child-reached v p a (fine .left .orderly) (h .parent) a-child) .there
+  neighbour-reached = child-reached v p a (fine .left .orderly) (h .parent) a-child
+
+  pub neighbour-there : hasNode t (childBefore (view t) p x) ≡ true
+  neighbour-there = reached-usable t (childBefore (view t) p x) (fine .header) (fine .left .orderly) neighbour-reached .there
 
   -- ---- a cut in between
 

@@ -28,7 +28,7 @@ fullLater v n = eqb (length (kept v n) + lackingIn (leftover v) n) 11
 abbrev pub runLater : View → (k : ℕ) → ℕ
 runLater v k = runBy (fullLater v) (path v k)
 
-run-same : (v : View) (q : ℕ → Bool) (ns : List ℕ) → Each (λ (n : ℕ). full (v .node n .shown) ≡ q n) ns → runIn v ns ≡ runBy q ns
+pub run-same : (v : View) (q : ℕ → Bool) (ns : List ℕ) → Each (λ (n : ℕ). full (v .node n .shown) ≡ q n) ns → runIn v ns ≡ runBy q ns
 unfolding runIn runBy
 run-same v q [] e = refl
 run-same v q (n ∷ ns) e =

@@ -28,16 +28,17 @@ room-not-full : (v : View) (p : ℕ) → room v p ≡ true → full (v .node p .
 unfolding room full
 room-not-full v p h = let r : length (v .node p .shown) ≤ 10 = leb-true _ _ h in ne-eqb (length (v .node p .shown)) 11 (λ e. omega arith)
 
--- a sound table's parent that lacks a slot has room for it
+-- a parent that lacks a slot and has room for it
+pub parent-room : (v : View) (y : Leftover) → hasRoom v y ≡ true → fullParent v (some y) ≡ false
+parent-room v nothing h = refl
+parent-room v (hiddenIn x) h = refl
+parent-room v (missingIn p a trailing) h = room-not-full v p h
+parent-room v (bothIn p a) h = room-not-full v p h
+
+-- as a sound table's parent that lacks one does
 pub parent-not-full : (t : Words) → sound t ≡ true → parentFull t ≡ false
 unfolding parentFull
-parent-not-full t s = let u = sound-fine t s in rw (has-left-iff (view t) (u .0) .1 (u .1 .left) .1) (go (u .0) (u .1 .room))
-  where
-    go : (y : Leftover) → hasRoom (view t) y ≡ true → fullParent (view t) (some y) ≡ false
-    go nothing h = refl
-    go (hiddenIn x) h = refl
-    go (missingIn p a trailing) h = room-not-full (view t) p h
-    go (bothIn p a) h = room-not-full (view t) p h
+parent-not-full t s = let u = sound-fine t s in rw (has-left-iff (view t) (u .0) .1 (u .1 .left) .1) (parent-room (view t) (u .0) (u .1 .room))
 
 -- ---- the tests that a sound table leaves
 
@@ -52,7 +53,7 @@ number-on-sound x words t s = rw (sound-header t s, s, parent-not-full t s, repa
 -- ---- a number comes exactly if its test holds and no earlier one does
 
 -- n is neither 0 nor a number of these tests
-abbrev Other : ℕ → List Test → Type 0
+abbrev pub Other : ℕ → List Test → Type 0
 Other n cs = elem n (0 ∷ map (λ (c : Test). c .number) cs) ≡ false
 
 other-cons : (n : ℕ) (c : Test) (cs : List Test) → Other n (c ∷ cs) → (c .number ≢ n) × Other n cs
@@ -69,7 +70,7 @@ not-first n (c ∷ cs) o e = let u = other-cons n c cs o in go (c .holds) e (u .
     go true q z ih = z q
     go false q z ih = ih q
 
-first-iff : (before : List Test) (b : Bool) (n : ℕ) (after : List Test) → Other n before → Other n after → (firstNumber (before ++ test b n ∷ after) ≡ n) ↔ (Passed before × (b ≡ true))
+pub first-iff : (before : List Test) (b : Bool) (n : ℕ) (after : List Test) → Other n before → Other n after → (firstNumber (before ++ test b n ∷ after) ≡ n) ↔ (Passed before × (b ≡ true))
 first-iff [] b n after o a = (λ e. (tt, go b e), λ u. rw (u .1))
   where
     go : (b : Bool) → cond b n (firstNumber after) ≡ n → b ≡ true

@@ -1,0 +1,267 @@
+-- Demand 3 with one or two collections, proved. What is kept: memory is the working copy, sound, and its maps are the ledger.
+use mathlib.Core.Path.{_≡_, refl, sym, ap, _∙_}
+use mathlib.Core.Logic.{_⊎_, inl, inr}
+use mathlib.Core.Bool.{Bool, true, false, cond, false≢true}
+use mathlib.Core.List.{List, [], _∷_, List-discrete}
+use mathlib.Core.Option.{Option, none, some}
+use mathlib.Core.HLevel.{Discrete}
+use Prim.Native.Nat.{ℕ, zero, suc, _+_, _≤_}
+use native.Mathlib.Nat.{le-refl}
+use native.Mathlib.Omega.{arith}
+use lib.Dec.{eqb}
+use borrow.Author.Tests.{eqb-true}
+use lib.ListN.{length}
+use lib.Seq.{take-length}
+use Rattle.model.specs.declared.Written.{Written}
+use Rattle.model.specs.declared.Written.the-variants.{Done, Refused}
+use Rattle.model.specs.Table.{Words}
+use Rattle.model.specs.Slots.{Slot}
+use Rattle.model.specs.Orders.{Store, apply, orders, storeCount, flushCount, listWith}
+use Rattle.model.specs.Cuts.{CutImage}
+use Rattle.model.specs.Refusals.{unlessRefused, writtenNumber, ordersAnswered}
+use Rattle.model.specs.Ledger.{fedOf, End, cutAfter, taken}
+use Rattle.model.specs.Demand3.{Fate, whole, cut, State}
+use Rattle.cut_laws.specs.Inside.{StoresInside}
+use Rattle.cut_laws.proofs.FlushRule.{orders-apply}
+use Rattle.cut_laws.proofs.Lent.{read-back, listed-inside, orders-inside}
+use Rattle.crash_laws.proofs.Reduce.{Slot-discrete, isYes, decided, unless-refused}
+use Rattle.crash_laws.proofs.Demand3.{cut-laws}
+use Rattle.two_laws.specs.Collections.{headerTwo, soundAll, emptyOf, search, Maps, mapsOf, Call, insertion, deletion, classChange, repair, storesOf, ordersOf, refusal, change}
+use Rattle.two_laws.specs.Collections.{written, tableAfter, listAfter, carryNumber, carriedOut}
+use Rattle.two_laws.specs.Sentences.{Settled}
+use Rattle.two_laws.specs.Ledgers.{Ledger, noPairs, listIn, answerFrom, lacking, pairsOf, ledgerRefusal, feed}
+use Rattle.two_laws.specs.Demand3.{Event, History, numberOf, answered, listOf, afterFate, step, runAll, FateMay, May, endOf, ledgerAfter, Agrees, Completed, Carried, Keeps, Right, Kept, Demand3}
+use Rattle.two_laws.proofs.Arrange.{head-iff}
+use Rattle.two_laws.proofs.MapsTwo.{OldOrNew, Steps, accepted-steps}
+use Rattle.two_laws.proofs.SearchTwo.{sound-head}
+use Rattle.two_laws.proofs.SameTwo.{settled-same, settled-sound}
+use Rattle.two_laws.proofs.EmptyTwo.{empty-settled, empty-one-maps, empty-two-maps}
+use Rattle.two_laws.proofs.LedgerTwo.{searched, number-in-ledger, only-twelve, only-eleven, only-ten}
+
+-- ---- equality of maps is decided
+
+Option-discrete : Discrete (Option (List Slot))
+Option-discrete none none = yes refl
+Option-discrete none (some b) = no (λ e. false≢true (sym (ap lacking e)))
+Option-discrete (some a) none = no (λ e. false≢true (ap lacking e))
+Option-discrete (some a) (some b) = go (List-discrete Slot-discrete a b)
+  where
+    go : Dec (a ≡ b) → Dec (some a ≡ some b)
+    go (yes q) = yes (ap some q)
+    go (no k) = no (λ e. k (ap pairsOf e))
+
+Maps-discrete : Discrete Maps
+Maps-discrete m n = go (List-discrete Slot-discrete (m .one) (n .one)) (Option-discrete (m .two) (n .two))
+  where
+    go : Dec (m .one ≡ n .one) → Dec (m .two ≡ n .two) → Dec (m ≡ n)
+    go (yes a) (yes b) = yes (λ i. record { one = a i; two = b i })
+    go (no a) b = no (λ e. a (ap (λ (x : Maps). x .one) e))
+    go (yes a) (no b) = no (λ e. b (ap (λ (x : Maps). x .two) e))
+
+-- ---- carry-out of what a call listed
+
+module _ (ss : List Store) (lent t : Words) (ok : headerTwo t ≡ true) (a : StoresInside (length t) ss) where
+  pub carry-whole : (carryNumber (length (orders ss)) (listWith (orders ss) lent) t ≡ 0) × (carriedOut (length (orders ss)) (listWith (orders ss) lent) t ≡ apply ss t)
+  unfolding carryNumber carriedOut
+  carry-whole =
+      let size = head-iff t .0 ok .facts .size in
+      let inside = orders-inside (length t) ss (omega (arith, size .long)) a in
+      let few : length t ≤ 18446744073709551615 = omega (arith, size .long, size .few) in
+      let n = length (orders ss) in
+      rw (ok, listed-inside (orders ss) lent t n few inside (le-refl n), read-back (orders ss) lent t n few inside (le-refl n), take-length (orders ss)) (refl, orders-apply ss t)
+
+-- ---- what an accepted call answers and leaves
+
+module _ (x : Call) (lent t : Words) (ok : refusal x (length lent) t ≡ 0) where
+  accepted-answer : ordersAnswered (written x (length lent) t) ≡ storeCount (ordersOf x t) + flushCount (ordersOf x t)
+  unfolding written
+  accepted-answer = rw ok
+
+  accepted-table : tableAfter x (length lent) t ≡ apply (storesOf x t) t
+  unfolding tableAfter
+  accepted-table = rw ok
+
+  accepted-list : listAfter x lent t ≡ listWith (ordersOf x t) lent
+  unfolding listAfter
+  accepted-list = rw ok
+
+-- a call answers its number
+number-answered : (x : Call) (words : ℕ) (t : Words) → writtenNumber (written x words t) ≡ refusal x words t
+unfolding written
+number-answered x words t = go (refusal x words t) (Done (storeCount (ordersOf x t)) (flushCount (ordersOf x t))) refl
+  where
+    go : (n : ℕ) (done : Written) → writtenNumber done ≡ 0 → writtenNumber (unlessRefused n done (Refused n)) ≡ n
+    go zero done e = e
+    go (suc n) done e = refl
+
+-- a repair moves nothing in the ledger, so it keeps the map
+repair-feeds : (words fed : ℕ) (end : End) (choice : Bool) (ps : Ledger) → feed repair words fed end choice ps ≡ ps
+unfolding feed
+repair-feeds words fed end choice ps = go (ledgerRefusal repair words fed ps) (taken end choice)
+  where
+    go : (n : ℕ) (b : Bool) → unlessRefused n (cond b ps ps) ps ≡ ps
+    go zero true = refl
+    go zero false = refl
+    go (suc n) b = refl
+
+-- ---- the choice at a cut: is the image's map the new one
+
+abbrev chosen : Fate → Ledger → Bool
+chosen whole new = true
+chosen (cut c m) new = isYes (Maps-discrete (mapsOf m) new)
+
+choose : (n N : ℕ) → History → Bool
+choose n N [] = false
+choose n N (e ∷ h) = chosen (e .fate) (change (e .call) (mapsOf (runAll n N h .working)))
+
+-- what is kept along a history
+record Inv (s : State) (ps : Ledger) : Type 0 where
+  both : s .memory ≡ s .working
+  fine : soundAll (s .working) ≡ true
+  maps : mapsOf (s .working) ≡ ps
+
+map-kept : (x : Call) (s s′ : State) (words fed : ℕ) (end : End) (choice : Bool) (ps : Ledger) → Inv s ps → Inv s′ (feed x words fed end choice ps) → Keeps x s s′
+map-kept (insertion n k r c) s s′ words fed end choice ps a b = tt
+map-kept (deletion n k) s s′ words fed end choice ps a b = tt
+map-kept (classChange n k c) s s′ words fed end choice ps a b = tt
+map-kept repair s s′ words fed end choice ps a b =
+    let q : mapsOf (s′ .working) ≡ mapsOf (s .working) = b .maps ∙ repair-feeds words fed end choice ps ∙ sym (a .maps) in
+    (rw (a .both, b .both) q, q)
+
+agrees : (s : State) (ps : Ledger) → Inv s ps → Agrees s ps
+agrees s ps v = record { in-memory = λ n k. rw (v .both) (answer n k); in-working = answer }
+  where
+    answer : (n k : ℕ) → search n (s .working) k ≡ answerFrom k (listIn n ps)
+    answer n k = searched n (s .working) k (v .fine) ∙ ap (λ (m : Ledger). answerFrom k (listIn n m)) (v .maps)
+
+-- ---- an accepted call on a sound table, in memory and as the working copy
+
+module _ (s : State) (e : Event) (both : s .memory ≡ s .working) (fine : soundAll (s .working) ≡ true) (ok : numberOf s e ≡ 0) where
+  abbrev x : Call
+  x = e .call
+
+  abbrev t : Words
+  t = s .working
+
+  abbrev ss : List Store
+  ss = storesOf x t
+
+  abbrev old : Ledger
+  old = mapsOf t
+
+  abbrev new : Ledger
+  new = change x (mapsOf t)
+
+  steps : Steps x t
+  steps = accepted-steps x (length (e .lent)) t fine ok
+
+  answered-all : answered s e ≡ length (orders ss)
+  answered-all = accepted-answer x (e .lent) t ok ∙ cut-laws .counted (orders ss)
+
+  -- the carry-out of all orders answered, with the lent list as the call left it
+  carried-whole : (carryNumber (answered s e) (listOf s e) (s .memory) ≡ 0) × (carriedOut (answered s e) (listOf s e) (s .memory) ≡ apply ss t)
+  carried-whole =
+      rw (answered-all, accepted-list x (e .lent) t ok, both) (carry-whole ss (e .lent) t (sound-head t fine) (steps .stores-inside))
+
+  -- an image that a cut may leave
+  image-part : (c : ℕ) (m : Words) → CutImage c (s .memory) (orders ss) m → (soundAll m ≡ true) × OldOrNew x t m
+  image-part c m i = let (j, q) = cut-laws .image-part c t ss m (rw both at i) in rw q (steps .part-sound j, steps .part-map j)
+
+  image-all : (c : ℕ) (m : Words) → CutImage c (s .memory) (orders ss) m → c ≡ length (orders ss) → m ≡ apply ss t
+  image-all c m i q = cut-laws .image-all t ss m (rw (both, q) at i)
+
+  image-map : (c : ℕ) (m : Words) → CutImage c (s .memory) (orders ss) m
+      → mapsOf m ≡ cond (taken (cutAfter c (eqb c (length (orders ss)))) (chosen (cut c m) new)) new old
+  image-map zero m i = ap mapsOf (cut-laws .image-none t ss m (rw both at i))
+  image-map (suc c) m i = go (eqb (suc c) (length (orders ss))) refl
+    where
+      go : (all : Bool) → eqb (suc c) (length (orders ss)) ≡ all
+          → mapsOf m ≡ cond (taken (cutAfter (suc c) all) (chosen (cut (suc c) m) new)) new old
+      go true q = ap mapsOf (image-all (suc c) m i (eqb-true _ _ q)) ∙ steps .all-map
+      go false q = decided old new (mapsOf m) (Maps-discrete (mapsOf m) new) (image-part (suc c) m i .1)
+
+  abbrev left : Words
+  left = tableAfter x (length (e .lent)) t
+
+  left-all : left ≡ apply ss t
+  left-all = accepted-table x (e .lent) t ok
+
+  fate-inv : (f : Fate) → FateMay f s e → Inv (afterFate f s e) (cond (taken (endOf f s e) (chosen f new)) new old)
+  fate-inv whole p =
+      record { both = carried-whole .1 ∙ sym left-all; fine = rw left-all (settled-sound _ (steps .all-settled)); maps = rw left-all (steps .all-map) }
+  fate-inv (cut c m) p = record { both = refl; fine = image-part c m (p .1) .0; maps = image-map c m (p .1) }
+
+  -- completed: memory is the working copy that the call left, and so is the working copy after it
+  fate-completed : (f : Fate) → FateMay f s e → Completed f s e → (afterFate f s e .memory ≡ left) × (afterFate f s e .working ≡ left)
+  fate-completed whole p d = (carried-whole .1 ∙ sym left-all, refl)
+  fate-completed (cut c m) p d = let q = image-all c m (p .1) d ∙ sym left-all in (q, q)
+
+  left-settled : Settled left
+  left-settled = settled-same left .0 (rw left-all (steps .all-settled))
+
+  fate-carried : (f : Fate) → Carried f s e
+  fate-carried whole = carried-whole .0
+  fate-carried (cut c m) = tt
+
+-- ---- one event
+
+module _ (s : State) (e : Event) (ps : Ledger) (v : Inv s ps) (p : numberOf s e ≡ 0 → FateMay (e .fate) s e) where
+  abbrev choice : Bool
+  choice = chosen (e .fate) (change (e .call) (mapsOf (s .working)))
+
+  same-number : numberOf s e ≡ ledgerRefusal (e .call) (length (e .lent)) (fedOf (numberOf s e)) ps
+  same-number =
+      rw (v .maps) at (number-in-ledger (e .call) (length (e .lent)) (s .working) (v .fine))
+
+  abbrev after : Ledger
+  after = feed (e .call) (length (e .lent)) (fedOf (numberOf s e)) (endOf (e .fate) s e) choice ps
+
+  step-inv : Inv (step s e) after
+  unfolding step feed
+  step-inv = rw (← same-number) (unless-refused Inv (numberOf s e) _ s _ ps
+      (λ ok. rw (← (v .maps)) (fate-inv s e (v .both) (v .fine) ok (e .fate) (p ok))) v)
+
+  step-completed : numberOf s e ≡ 0 → Completed (e .fate) s e
+      → (let left = tableAfter (e .call) (length (e .lent)) (s .working) in (step s e .memory ≡ left) × (step s e .working ≡ left))
+  unfolding step
+  step-completed ok d = rw ok (fate-completed s e (v .both) (v .fine) ok (e .fate) (p ok) d)
+
+  step-settled : numberOf s e ≡ 0 → Completed (e .fate) s e → Settled (step s e .memory) × Settled (step s e .working)
+  step-settled ok d = let (a, b) = step-completed ok d in let q = left-settled s e (v .both) (v .fine) ok in (rw a q, rw b q)
+
+  step-keeps : Keeps (e .call) s (step s e)
+  step-keeps = map-kept (e .call) s (step s e) (length (e .lent)) _ _ choice ps v step-inv
+
+  step-right : Right e s (step s e) ps
+  step-right = record {
+    same-number = same-number;
+    answers-it = number-answered (e .call) (length (e .lent)) (s .working);
+    ten-only = only-ten (e .call) (length (e .lent)) (s .working) (v .fine);
+    eleven-only = only-eleven (e .call) (length (e .lent)) (s .working) (v .fine);
+    twelve-only = only-twelve (e .call) (length (e .lent)) (s .working) (v .fine);
+    carried = λ ok. fate-carried s e (v .both) (v .fine) ok (e .fate);
+    equal = step-completed;
+    finished = step-settled;
+    repair-keeps = step-keeps;
+  }
+
+-- ---- all histories
+
+module _ (n N : ℕ) (kind : (n ≡ 1) ⊎ (n ≡ 2)) (low : n ≤ N) (high : N ≤ 65535) where
+  start-maps : (n ≡ 1) ⊎ (n ≡ 2) → mapsOf (emptyOf n N) ≡ noPairs n
+  start-maps (inl e) = rw e (empty-one-maps N (omega arith) high)
+  start-maps (inr e) = rw e (empty-two-maps N (omega arith) high)
+
+  inv : (h : History) → May n N h → Inv (runAll n N h) (ledgerAfter (choose n N) n N h)
+  unfolding runAll ledgerAfter May choose
+  inv [] p = record { both = refl; fine = settled-sound _ (empty-settled n N kind low high); maps = start-maps kind }
+  inv (e ∷ h) p = step-inv (runAll n N h) e (ledgerAfter (choose n N) n N h) (inv h (p .0)) (p .1)
+
+  kept : (h : History) → May n N h → Kept (choose n N) n N h
+  unfolding runAll May
+  kept [] p = agrees _ _ (inv [] p)
+  kept (e ∷ h) p = (agrees _ _ (inv (e ∷ h) p), step-right (runAll n N h) e (ledgerAfter (choose n N) n N h) (inv h (p .0)) (p .1))
+
+-- For one collection or two, every N and every sequence of insertions, deletions, class changes and repairs, whole or cut.
+pub demand3 : Demand3
+demand3 n N kind low high = (choose n N, kept n N kind low high)

@@ -1,0 +1,251 @@
+-- Insertion into a settled table in collection n: a new root where the run includes the root, the splits of the run, the pair shifted in at its leaf.
+use mathlib.Core.Path.{_≡_, refl, ap, sym, _∙_}
+use mathlib.Core.Bool.{Bool, true, false, cond, _&&_}
+use mathlib.Core.Logic.{_≢_, _⊎_}
+use mathlib.Core.List.{List, [], List·Memᴰ}
+use Prim.Native.Nat.{ℕ, zero, suc, _+_, _*_, _-_, _≤_, _<_}
+use native.Mathlib.Omega.{arith}
+use lib.Dec.{eqb}
+use lib.ListN.{length}
+use borrow.Author.Tests.{eqb-true, eqb-false, ltb-false}
+use Rattle.model.specs.Table.{Words, at, nodes}
+use Rattle.model.specs.Slots.{pointerOf, nodeView, view, height}
+use Rattle.model.specs.Reached.{reached, mapping}
+use Rattle.model.specs.SoundTest.{settled, nothing}
+use Rattle.model.specs.Orders.{Store, apply}
+use Rattle.model.specs.Ledger.{enter}
+use Rattle.model.specs.Writes.{shiftInAt, standing as standingOf, run as runOf}
+use Rattle.list_laws.proofs.Tools.{Each}
+use Rattle.list_laws.proofs.Recordings.{recording-iff, recording-of, pair-of}
+use Rattle.change_laws.proofs.LeafSlots.{NewPair}
+use Rattle.cut_laws.proofs.Applying.{apply-append}
+use Rattle.step_laws.proofs.Views.{fine-settled}
+use Rattle.step_laws.proofs.Run.{run-short, run-full, run-above}
+use Rattle.step_laws.proofs.Standing.{standing-stands}
+use Rattle.two_laws.specs.Collections.{rootWord, viewOf, mapIn, unreachable, fresh, standing, run, rootInRun, newRootAt, newRoot, splits, rootStores, insertSettled, tooHigh, tooFew}
+use Rattle.two_laws.specs.Parts.{Enters}
+use Rattle.two_laws.proofs.Mask.{mask}
+use Rattle.two_laws.proofs.TwoLaw.{taken, Tree, Low, Course, course-nil, course-append, course-within, long, tree-fine}
+use Rattle.two_laws.proofs.Masked.{mask-shown, mask-reached, mask-height, mask-standing, mask-run}
+use Rattle.two_laws.proofs.Leaf.{leaf-in}
+use Rattle.two_laws.proofs.SplitTwo.{FreeNode, FullIn, splitIn, split-course, two-height, two-takes, two-standing, two-shown, two-room, two-taken, two-nodes}
+use Rattle.two_laws.proofs.RootTwo.{root-course, root-two-height, root-two-takes, root-two-standing, root-two-shown, root-two-shows, root-two-taken, root-two-nodes}
+use Rattle.two_laws.proofs.Arrange.{Arr, root-in, arr-low, arr-word, arr-others, course-arr, free-fresh, unreachable-count}
+
+-- ---- the run
+
+module _ (n : ℕ) (ws : List ℕ) (t : Words) (low : Low (rootWord n) ws) (f : Tree (rootWord n) ws t nothing) (k : ℕ) where
+  abbrev w : ℕ
+  w = rootWord n
+
+  abbrev u : Words
+  u = mask (at t w) (taken ws t) t
+
+  size : 8 ≤ length t
+  size = long w ws t nothing low f
+
+  s : settled u ≡ true
+  s = fine-settled u (tree-fine w ws t nothing low f)
+
+  same-height : height (view u) ≡ height (viewOf n t)
+  same-height = mask-height (at t w) (taken ws t) t size
+
+  same-stands : (d : ℕ) → standingOf u d k ≡ standing n t d k
+  same-stands d = mask-standing (at t w) (taken ws t) t size d k
+
+  same-run : runOf u k ≡ run n t k
+  same-run = mask-run (at t w) (taken ws t) t size k
+
+  pub two-run-short : run n t k ≤ suc (height (viewOf n t))
+  two-run-short = rw (same-run, same-height) at (run-short u s k)
+
+  pub two-run-full : (l : ℕ) → l < run n t k → length (nodeView t (standing n t l k) .shown) ≡ 11
+  two-run-full l h = rw (same-stands l, mask-shown (at t w) (taken ws t) t size (standing n t l k)) at (run-full u s k l (rw same-run h))
+
+  pub two-run-above : run n t k ≤ height (viewOf n t) → length (nodeView t (standing n t (run n t k) k) .shown) ≤ 10
+  two-run-above h = rw (same-run, same-stands (run n t k), mask-shown (at t w) (taken ws t) t size (standing n t (run n t k) k)) at (run-above u s k (rw (same-run, same-height) h))
+
+  pub stands-reached : (d : ℕ) → d ≤ height (viewOf n t) → List·Memᴰ (standing n t d k) (reached (viewOf n t))
+  stands-reached d h = rw (same-stands d, mask-reached (at t w) (taken ws t) t size) at (standing-stands u s k d (rw same-height h) .reached)
+
+-- ---- the splits
+
+-- the tree of collection n is settled beside the others; the lowest m nodes of its path to k are full, the next one has room, and m nodes are
+-- unreachable
+pub record ReadyIn (m n : ℕ) (ws : List ℕ) (t : Words) (k : ℕ) : Type 0 where
+  pub arr : Arr (rootWord n) ws t
+  pub tree : Tree (rootWord n) ws t nothing
+  pub high : m ≤ height (viewOf n t)
+  pub full : (l : ℕ) → l < m → length (nodeView t (standing n t l k) .shown) ≡ 11
+  pub above : length (nodeView t (standing n t m k) .shown) ≤ 10
+  pub enough : m ≤ length (unreachable t)
+
+module _ (l n : ℕ) (ws : List ℕ) (t : Words) (k : ℕ) (r : ReadyIn (suc l) n ws t k) where
+  low : Low (rootWord n) ws
+  low = arr-low (rootWord n) ws t (r .arr)
+
+  abbrev b : ℕ
+  b = fresh t (standing n t l k)
+
+  free : FreeNode (rootWord n) ws t b
+  free = free-fresh (rootWord n) ws t (standing n t l k) (r .arr) (r .tree) (stands-reached n ws t low (r .tree) k l (omega (arith, r .high))) (omega (arith, r .enough))
+
+  given : FullIn (rootWord n) ws t k l
+  given = record { tree = r .tree; high = r .high; full = r .full l (omega arith); roomy = r .above }
+
+  abbrev ss : List Store
+  ss = splitIn (rootWord n) t k l b
+
+  abbrev t′ : Words
+  t′ = apply ss t
+
+  pub first-course : Course 67 (rootWord n) ws t (splitIn (rootWord n) t k l (fresh t (standing n t l k))) (mapping (viewOf n t))
+  first-course = split-course (rootWord n) ws t low k l given b free
+
+  pub ready-next : ReadyIn l n ws (apply (splitIn (rootWord n) t k l (fresh t (standing n t l k))) t) k
+  ready-next =
+      let f = r .tree in
+      let a = course-arr 67 (rootWord n) ws t ss (mapping (viewOf n t)) first-course (r .arr) in
+      let m : nodes t′ ≡ nodes t = two-nodes (rootWord n) ws t low k l given b free in
+      record {
+        arr = a;
+        tree = first-course .whole;
+        high = omega (arith, r .high, two-height (rootWord n) ws t low k l given b free);
+        full = λ d g.
+            ap (λ (m : ℕ). length (nodeView t′ m .shown)) (two-standing (rootWord n) ws t low k l given b free d (omega (arith, r .high)) (λ e. omega arith))
+            ∙ ap length (two-shown (rootWord n) ws t low k l given b free d g) ∙ r .full d (omega arith);
+        above = omega (arith, two-room (rootWord n) ws t low k l given b free);
+        enough = omega (
+          arith,
+          r .enough,
+          unreachable-count (rootWord n) ws t (r .arr) f,
+          unreachable-count (rootWord n) ws t′ a (first-course .whole),
+          m,
+          two-takes (rootWord n) ws t low k l given b free,
+          ap length (two-taken (rootWord n) ws t low k l given b free),
+        );
+      }
+
+pub splits-course : (m n : ℕ) (ws : List ℕ) (t : Words) (k : ℕ) → ReadyIn m n ws t k → Course (m * 67) (rootWord n) ws t (splits n m t k) (mapping (viewOf n t))
+unfolding splits
+splits-course zero n ws t k r = course-nil (rootWord n) ws t (r .tree)
+splits-course (suc l) n ws t k r =
+    let f = first-course l n ws t k r in
+    let ss = splitIn (rootWord n) t k l (fresh t (standing n t l k)) in
+    course-within (67 + l * 67) (suc l * 67) (rootWord n) ws t _ (mapping (viewOf n t)) (omega arith)
+    (course-append 67 (l * 67) (rootWord n) ws t ss (splits n l (apply ss t) k) (mapping (viewOf n t)) f (rw (f .maps) at (splits-course l n ws (apply ss t) k (ready-next l n ws t k r))))
+
+pub splits-room : (m n : ℕ) (ws : List ℕ) (t : Words) (k : ℕ) → ReadyIn m n ws t k → length (nodeView (apply (splits n m t k) t) (standing n (apply (splits n m t k) t) 0 k) .shown) ≤ 10
+unfolding splits apply
+splits-room zero n ws t k r = r .above
+splits-room (suc l) n ws t k r =
+    let ss = splitIn (rootWord n) t k l (fresh t (standing n t l k)) in
+    rw (apply-append ss (splits n l (apply ss t) k) t) (splits-room l n ws (apply ss t) k (ready-next l n ws t k r))
+
+-- ---- the new root, where the run includes the root
+
+module _ (n : ℕ) (ws : List ℕ) (t : Words) (k : ℕ) (a : Arr (rootWord n) ws t) (f : Tree (rootWord n) ws t nothing) where
+  lowly : Low (rootWord n) ws
+  lowly = arr-low (rootWord n) ws t a
+
+  abbrev m : ℕ
+  m = run n t k
+
+  abbrev h : ℕ
+  h = height (viewOf n t)
+
+  module _ (not-top : height (viewOf n t) < 15) (some : 0 < length (unreachable t)) where
+    abbrev q : ℕ
+    q = fresh t (at t (rootWord n))
+
+    root-free : FreeNode (rootWord n) ws t q
+    root-free = free-fresh (rootWord n) ws t (at t (rootWord n)) a f (root-in (viewOf n t) (f .left .orderly)) some
+
+    abbrev t₁ : Words
+    t₁ = apply (newRootAt (rootWord n) t q) t
+
+    word : (rootWord n ≡ 1) ⊎ (rootWord n ≡ 3)
+    word = arr-word (rootWord n) ws t a
+
+    beside : Each (λ (x : ℕ). x ≢ rootWord n) ws
+    beside = arr-others (rootWord n) ws t a
+
+    rooted : Course 38 (rootWord n) ws t (newRootAt (rootWord n) t q) (mapping (viewOf n t))
+    rooted = root-course (rootWord n) ws t lowly word beside f not-top q root-free
+
+    arr₁ : Arr (rootWord n) ws t₁
+    arr₁ = course-arr 38 (rootWord n) ws t (newRootAt (rootWord n) t q) (mapping (viewOf n t)) rooted a
+
+    root-ready : run n t k ≡ suc (height (viewOf n t)) → run n t k + 1 ≤ length (unreachable t) → ReadyIn (run n t k) n ws t₁ k
+    root-ready whole enough = record {
+      arr = arr₁;
+      tree = rooted .whole;
+      high = omega (arith, whole, root-two-height (rootWord n) ws t lowly word beside f not-top q root-free);
+      full = λ l g.
+          ap (λ (m : ℕ). length (nodeView t₁ m .shown)) (root-two-standing (rootWord n) ws t lowly word beside f not-top q root-free k l (omega (arith, whole)))
+          ∙ ap length (root-two-shown (rootWord n) ws t lowly word beside f not-top q root-free (standing n t l k) (stands-reached n ws t lowly f k l (omega (arith, whole)))) ∙ two-run-full n ws t lowly f k l g;
+      above = rw (whole, root-two-shows (rootWord n) ws t lowly word beside f not-top q root-free k) (omega arith);
+      enough = omega (
+        arith,
+        enough,
+        unreachable-count (rootWord n) ws t a f,
+        unreachable-count (rootWord n) ws t₁ arr₁ (rooted .whole),
+        root-two-nodes (rootWord n) ws t lowly word beside f not-top q root-free,
+        root-two-takes (rootWord n) ws t lowly word beside f not-top q root-free,
+        ap length (root-two-taken (rootWord n) ws t lowly word beside f not-top q root-free),
+      );
+    }
+
+    same-root : newRoot n t ≡ newRootAt (rootWord n) t q
+    unfolding newRoot
+    same-root = refl
+
+  -- what 11 and 10 leave
+  module _ (not-high : tooHigh n t k ≡ false) (enough : tooFew n t k ≡ false) where
+    room : run n t k + cond (rootInRun n t k) 1 0 ≤ length (unreachable t)
+    unfolding tooFew
+    room = ltb-false (length (unreachable t)) (run n t k + cond (rootInRun n t k) 1 0) enough
+
+    not-top : rootInRun n t k ≡ true → height (viewOf n t) < 15
+    unfolding tooHigh
+    not-top e = let z = eqb-false h 15 (sym (ap (λ (b : Bool). b && eqb h 15) e) ∙ not-high) in omega (arith, f .left .orderly .top .level, z)
+
+    pub root-first : Course 38 (rootWord n) ws t (rootStores n t k) (mapping (viewOf n t)) × ReadyIn (run n t k) n ws (apply (rootStores n t k) t) k
+    unfolding rootStores apply
+    root-first = go (rootInRun n t k) refl
+      where
+        go : (b : Bool) → rootInRun n t k ≡ b → Course 38 (rootWord n) ws t (rootStores n t k) (mapping (viewOf n t)) × ReadyIn (run n t k) n ws (apply (rootStores n t k) t) k
+        go true e =
+            let whole : m ≡ suc h = unfold rootInRun in eqb-true m (suc h) e in
+            let g : m + 1 ≤ length (unreachable t) = rw e at room in
+            let some : 0 < length (unreachable t) = omega arith in
+            rw (e, rootStores) (rw (same-root (not-top e) some) (rooted (not-top e) some, root-ready (not-top e) some whole g))
+        go false e =
+            let z : m ≡ suc h → ⊥ = unfold rootInRun in eqb-false m (suc h) e in
+            let g : m + 0 ≤ length (unreachable t) = rw e at room in
+            let l : m ≤ h = omega (arith, two-run-short n ws t lowly f k, z) in
+            rw (e, rootStores) (
+              course-within 0 38 (rootWord n) ws t [] (mapping (viewOf n t)) (omega arith) (course-nil (rootWord n) ws t f),
+              record { arr = a; tree = f; high = l; full = two-run-full n ws t lowly f k; above = two-run-above n ws t lowly f k l; enough = omega arith },
+            )
+
+-- Insertion into a settled table, where no refusal applies: the pair enters the map of collection n, and nothing else changes.
+pub insert-course : (n : ℕ) (ws : List ℕ) (t : Words) (k r c : ℕ) → Arr (rootWord n) ws t → Tree (rootWord n) ws t nothing → Enters n k r c t
+    → Course (38 + (15 * 67 + 27)) (rootWord n) ws t (insertSettled n t k (pointerOf r c)) (enter k (pointerOf r c) (mapIn n t))
+unfolding insertSettled
+insert-course n ws t k r c arr f e =
+    let w = rootWord n in
+    let x = pointerOf r c in
+    let m = run n t k in
+    let a = root-first n ws t k arr f (e .not-high) (e .enough) in
+    let t₁ = apply (rootStores n t k) t in
+    let b = splits-course m n ws t₁ k (a .1) in
+    let t₂ = apply (splits n m t₁ k) t₁ in
+    let q : mapIn n t₂ ≡ mapIn n t = b .maps ∙ a .0 .maps in
+    let few : m * 67 ≤ 15 * 67 = omega (arith, a .1 .high, a .1 .tree .left .orderly .top .level) in
+    let l = arr-low w ws t arr in
+    let own = recording-of r c (recording-iff r .0 (e .recording-ok) .1) in
+    let new : NewPair (viewOf n t₂) k x = record { no-key = rw q (e .no-key); no-recording = rw (q, own) (e .no-recording); ok = pair-of k r c (e .recording-ok) (e .class-ok) } in
+    let d : Course 27 w ws t₂ (shiftInAt t₂ (standing n t₂ 0 k) k x) (enter k x (mapIn n t)) = rw q at (leaf-in w ws t₂ l (b .whole) k x new (splits-room m n ws t₁ k (a .1))) in
+    course-append 38 (15 * 67 + 27) w ws t (rootStores n t k) _ (enter k x (mapIn n t)) (a .0)
+    (course-append (15 * 67) 27 w ws t₁ (splits n m t₁ k) _ (enter k x (mapIn n t)) (course-within (m * 67) (15 * 67) w ws t₁ (splits n m t₁ k) (mapIn n t₁) few b) d)

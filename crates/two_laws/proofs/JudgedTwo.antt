@@ -1,0 +1,152 @@
+-- What a write's refusal depends on: its own collection's tree and, of the other, only the count of free nodes.
+use mathlib.Core.Path.{_≡_, refl, ap, sym, _∙_}
+use mathlib.Core.Bool.{Bool, true, false, cond, not, _&&_}
+use mathlib.Core.Logic.{_≢_, _↔_, _⊎_, inl, inr}
+use mathlib.Core.List.{List, [], _∷_, _++_, List·Memᴰ}
+use Prim.Native.Nat.{ℕ, suc, _+_, _-_}
+use native.Mathlib.Omega.{arith}
+use lib.Dec.{eqb, ltb}
+use lib.ListN.{length}
+use lib.Seq.{take-length}
+use Rattle.model.specs.Table.{Words, at, nodes}
+use Rattle.model.specs.Slots.{Slot, View, nodeView, height, full}
+use Rattle.model.specs.Search.{path}
+use Rattle.model.specs.Reached.{filter, reached}
+use Rattle.model.specs.SoundTest.{elem, soundView, leftover}
+use Rattle.model.specs.Writes.{numbers, runIn}
+use Rattle.model.specs.Refusals.{Test, test, firstNumber, fullParent}
+use Rattle.list_laws.proofs.Tools.{Each-map, all-each, same-or-not}
+use Rattle.tree_laws.proofs.Levels.{sound-orderly}
+use Rattle.tree_laws.proofs.SearchLaw.{path-reached}
+use Rattle.cut_laws.proofs.Applying.{length-apply}
+use Rattle.change_laws.proofs.Parts.{has-left-iff, sound-left}
+use Rattle.step_laws.proofs.Judged.{run-same, fullLater, runLater}
+use Rattle.step_laws.proofs.Numbers.{parent-room}
+use Rattle.two_laws.specs.Collections.{rootWord, viewOf, trees, reachedAll, unreached, unreachable, soundAll, mapIn, repaired, repairStores, run, rootInRun, noCollection}
+use Rattle.two_laws.specs.Collections.{Call, insertion, deletion, classChange, repair, seventeenIn, parentFull, tooHigh, tooFew, elevenIn, tenIn, ownMap, mapTests, refusal}
+use Rattle.two_laws.proofs.TwoLaw.{seen}
+use Rattle.two_laws.proofs.Arrange.{all-one, all-two, sound-parts, settled-parts}
+use Rattle.two_laws.proofs.CallsTwo.{Is, repairs}
+use Rattle.two_laws.proofs.AcceptedTwo.{there}
+use Rattle.two_laws.proofs.SearchTwo.{sound-head, sound-view}
+use Rattle.two_laws.proofs.RepairedTwo.{Later, repaired-later}
+
+-- ---- 12 never comes on a sound table
+
+view-parent : (v : View) → soundView v ≡ true → not (fullParent v (leftover v)) ≡ true
+view-parent v s = let u = sound-left v .0 s in rw (has-left-iff v (u .0) .1 (u .1) .1) (ap not (parent-room v (u .0) (u .2)))
+
+pub parent-not-full : (t : Words) → soundAll t ≡ true → parentFull t ≡ false
+unfolding parentFull
+parent-not-full t s =
+    ap not (all-each (λ (v : View). not (fullParent v (leftover v))) (trees t) .1
+    (Each-map (λ (v : View). soundView v ≡ true) (λ (v : View). not (fullParent v (leftover v)) ≡ true) (trees t) view-parent (all-each soundView (trees t) .0 (sound-parts t .0 s .1))))
+
+-- ---- the free nodes
+
+reached-later : (t : Words) → soundAll t ≡ true → reachedAll (repaired t) ≡ reachedAll t
+unfolding repaired
+reached-later t s = go (same-or-not (at t 3) 0)
+  where
+    l : (at (repaired t) 3 ≡ 0) ↔ (at t 3 ≡ 0)
+    l = rw take-length at (repairs t s .part-lack (length (repairStores t)))
+
+    go : (at t 3 ≡ 0) ⊎ (at t 3 ≢ 0) → reachedAll (repaired t) ≡ reachedAll t
+    go (inl z) = all-one (repaired t) (l .1 z) ∙ ap (λ (x : List ℕ). x ++ []) (repaired-later t 1 s (inl refl) .reached) ∙ sym (all-one t z)
+    go (inr z) = all-two (repaired t) (λ y. z (l .0 y)) ∙ ap (λ (x : List ℕ). x ++ (reached (seen 3 (repaired t)) ++ [])) (repaired-later t 1 s (inl refl) .reached)
+        ∙ ap (λ (x : List ℕ). reached (seen 1 t) ++ (x ++ [])) (repaired-later t 3 s (inr (refl, z)) .reached) ∙ sym (all-two t z)
+
+nodes-later : (t : Words) → soundAll t ≡ true → nodes (repaired t) ≡ nodes t
+unfolding repaired
+nodes-later t s =
+    let a = settled-parts (repaired t) .0 (repairs t s .settles) .0 .facts .size .long in
+    let b = sound-parts t .0 s .0 .facts .size .long in
+    omega (arith, a, b, length-apply (repairStores t) t)
+
+pub unreachable-later : (t : Words) → soundAll t ≡ true → unreachable (repaired t) ≡ unreachable t
+unfolding unreachable unreached
+unreachable-later t s = ap (λ (l : List ℕ). filter (λ (n : ℕ). not (elem n l)) (numbers 1 (nodes (repaired t)))) (reached-later t s) ∙ ap (λ (n : ℕ). filter (λ (n : ℕ). not (elem n (reachedAll t))) (numbers 1 n)) (nodes-later t s)
+
+-- ---- the run
+
+module _ (n : ℕ) (t : Words) (s : soundAll t ≡ true) (i : Is (rootWord n) t) (k : ℕ) where
+  r : Later (rootWord n) t (repaired t)
+  r = repaired-later t (rootWord n) s i
+
+  -- a node of the tree is full then exactly if it is with its kept slots, and the one that it lacks
+  pub full-later : (j : ℕ) → List·Memᴰ j (reached (viewOf n t)) → full (nodeView (repaired t) j .shown) ≡ fullLater (viewOf n t) j
+  unfolding full
+  full-later j m = ap (λ (l : ℕ). eqb l 11) (r .count j m)
+
+  pub run-later : run n (repaired t) k ≡ runLater (viewOf n t) k
+  run-later =
+      let o = sound-orderly (viewOf n t) (sound-view (rootWord n) t s i) in
+      ap (runIn (viewOf n (repaired t))) (r .path k)
+      ∙ run-same (viewOf n (repaired t)) (fullLater (viewOf n t)) (path (viewOf n t) k)
+      (Each-map (λ (j : ℕ). List·Memᴰ j (reached (viewOf n t))) (λ (j : ℕ). full (nodeView (repaired t) j .shown) ≡ fullLater (viewOf n t) j) (path (viewOf n t) k) full-later
+      (path-reached (viewOf n t) k o))
+
+  pub root-later : rootInRun n (repaired t) k ≡ eqb (runLater (viewOf n t) k) (suc (height (viewOf n t)))
+  unfolding rootInRun
+  root-later = ap (λ (j : ℕ). eqb j (suc (height (viewOf n (repaired t))))) run-later ∙ ap (λ (h : ℕ). eqb (runLater (viewOf n t) k) (suc h)) (r .height)
+
+  pub high-later : tooHigh n (repaired t) k ≡ (eqb (runLater (viewOf n t) k) (suc (height (viewOf n t))) && eqb (height (viewOf n t)) 15)
+  unfolding tooHigh
+  high-later = ap (λ (b : Bool). b && eqb (height (viewOf n (repaired t))) 15) root-later ∙ ap (λ (h : ℕ). eqb (runLater (viewOf n t) k) (suc (height (viewOf n t))) && eqb h 15) (r .height)
+
+  pub few-later : tooFew n (repaired t) k ≡ ltb (length (unreachable t)) (runLater (viewOf n t) k + cond (eqb (runLater (viewOf n t) k) (suc (height (viewOf n t)))) 1 0)
+  unfolding tooFew
+  few-later =
+      ap (λ (l : List ℕ). ltb (length l) (run n (repaired t) k + cond (rootInRun n (repaired t) k) 1 0)) (unreachable-later t s)
+      ∙ ap (λ (j : ℕ). ltb (length (unreachable t)) (j + cond (rootInRun n (repaired t) k) 1 0)) run-later
+      ∙ ap (λ (b : Bool). ltb (length (unreachable t)) (runLater (viewOf n t) k + cond b 1 0)) root-later
+
+-- ---- the tests that a sound table leaves
+
+-- 5 by the order list's length; 6 to 9 by the arguments and the own map of t; 11 and 10 on the table as repair would leave it
+abbrev pub testsOn : Call → (words : ℕ) → Words → List Test
+testsOn x words t = test (ltb words 2560) 5 ∷ mapTests x (elevenIn x (repaired t)) (tenIn x (repaired t)) (ownMap x t)
+
+map-later : (n : ℕ) (t : Words) → soundAll t ≡ true → noCollection n t ≡ false → mapIn n (repaired t) ≡ mapIn n t
+unfolding repaired
+map-later n t s h = rw take-length at (repairs t s .part-map (length (repairStores t)) (rootWord n) (there n t h .1))
+
+pub own-later : (x : Call) (t : Words) → soundAll t ≡ true → seventeenIn x t ≡ false → ownMap x (repaired t) ≡ ownMap x t
+own-later (insertion n k r c) t s h = map-later n t s h
+own-later (deletion n k) t s h = map-later n t s h
+own-later (classChange n k c) t s h = map-later n t s h
+own-later repair t s h = refl
+
+pub number-on-sound : (x : Call) (words : ℕ) (t : Words) → soundAll t ≡ true → seventeenIn x t ≡ false → refusal x words t ≡ firstNumber (testsOn x words t)
+unfolding refusal
+number-on-sound x words t s h = rw (sound-head t s, h, s, parent-not-full t s, own-later x t s h)
+
+-- ---- what the number depends on
+
+-- the run that a call would split, and its root's level; an insertion has one
+abbrev pub ownRun : Call → Words → ℕ
+ownRun (insertion n k r c) t = runLater (viewOf n t) k
+ownRun (deletion n k) t = 0
+ownRun (classChange n k c) t = 0
+ownRun repair t = 0
+
+abbrev pub ownHeight : Call → Words → ℕ
+ownHeight (insertion n k r c) t = height (viewOf n t)
+ownHeight (deletion n k) t = 0
+ownHeight (classChange n k c) t = 0
+ownHeight repair t = 0
+
+-- by the own map, the own run and height, and the count of free nodes
+abbrev pub numberBy : Call → (words : ℕ) → List Slot → (run high free : ℕ) → ℕ
+numberBy x words ps run high free =
+    firstNumber (test (ltb words 2560) 5 ∷ mapTests x (eqb run (suc high) && eqb high 15) (ltb free (run + cond (eqb run (suc high)) 1 0)) ps)
+
+-- A write's acceptance depends on the other collection only by the count of free nodes.
+pub accept-own : (x : Call) (words : ℕ) (t : Words) → soundAll t ≡ true → seventeenIn x t ≡ false → refusal x words t ≡ numberBy x words (ownMap x t) (ownRun x t) (ownHeight x t) (length (unreachable t))
+accept-own x words t s h = number-on-sound x words t s h ∙ go x h
+  where
+    go : (x : Call) → seventeenIn x t ≡ false → firstNumber (testsOn x words t) ≡ numberBy x words (ownMap x t) (ownRun x t) (ownHeight x t) (length (unreachable t))
+    go (insertion n k r c) h = let i = there n t h .1 in rw (high-later n t s i k, few-later n t s i k)
+    go (deletion n k) h = refl
+    go (classChange n k c) h = refl
+    go repair h = refl

@@ -1,0 +1,93 @@
+-- A pair shifted in at its leaf, one shifted out, and one with another class, in the tree of header word w beside the trees of ws.
+use mathlib.Core.Path.{_≡_}
+use mathlib.Core.Bool.{true, false}
+use mathlib.Core.List.{List, List·Memᴰ}
+use Prim.Native.Nat.{ℕ, _-_, _≤_, _<_}
+use native.Mathlib.Omega.{arith}
+use lib.ListN.{length}
+use Rattle.model.specs.Table.{Words, at, nodes}
+use Rattle.model.specs.Slots.{classOk, nodeView, view}
+use Rattle.model.specs.Reached.{reached, mapping, mapOf}
+use Rattle.model.specs.SoundTest.{elem, settled, nothing}
+use Rattle.model.specs.Shifts.{placeOf}
+use Rattle.model.specs.Writes.{standing, shiftInAt, shiftOutAt, setClassAt}
+use Rattle.model.specs.Refusals.{hasKey}
+use Rattle.model.specs.Ledger.{enter, leave, reclass}
+use Rattle.list_laws.proofs.Tools.{Each}
+use Rattle.list_laws.proofs.Members.{each-mem}
+use Rattle.list_laws.proofs.Distinct.{UpTo}
+use Rattle.tree_laws.proofs.Levels.{reached-numbers}
+use Rattle.tree_laws.proofs.Rows.{Good}
+use Rattle.change_laws.proofs.Parts.{good-parts}
+use Rattle.change_laws.proofs.LeafSlots.{NewPair}
+use Rattle.step_laws.proofs.Views.{Fine, fine-settled, shown-few}
+use Rattle.step_laws.proofs.Standing.{standing-stands}
+use Rattle.step_laws.proofs.LeafShift.{leaf-shift-in, leaf-shift-out, leaf-out-place, leaf-class}
+use Rattle.two_laws.specs.Collections.{standingIn}
+use Rattle.two_laws.proofs.Mask.{mask}
+use Rattle.two_laws.proofs.Masked.{mask-reached, mask-shown, mask-standing, mask-shift-in, mask-shift-out, mask-class}
+use Rattle.two_laws.proofs.Frame.{Away}
+use Rattle.two_laws.proofs.Places.{shift-in-away, shift-out-away, put-away}
+use Rattle.two_laws.proofs.TwoLaw.{seen, taken, Tree, Low, Course, long, tree-fine, seen-map, phase-course}
+
+module _ (w : ℕ) (ws : List ℕ) (t : Words) (low : Low w ws) (f : Tree w ws t nothing) (k : ℕ) where
+  abbrev u : Words
+  u = mask (at t w) (taken ws t) t
+
+  fine : Fine u nothing
+  fine = tree-fine w ws t nothing low f
+
+  s : settled u ≡ true
+  s = fine-settled u fine
+
+  abbrev x : ℕ
+  x = standingIn (seen w t) 0 k
+
+  same-x : standing u 0 k ≡ x
+  same-x = mask-standing (at t w) (taken ws t) t (long w ws t nothing low f) 0 k
+
+  x-reached : List·Memᴰ x (reached (seen w t))
+  x-reached = rw (same-x, mask-reached (at t w) (taken ws t) t (long w ws t nothing low f)) at (standing-stands u s k 0 (omega arith) .reached)
+
+  x-some : 1 ≤ x
+  x-some = each-mem (UpTo (nodes t)) (reached-numbers (seen w t) (f .left .orderly)) x-reached .0
+
+  x-off : elem x (taken ws t) ≡ false
+  x-off = each-mem (λ (n : ℕ). elem n (taken ws t) ≡ false) (f .apart) x-reached
+
+  few : length (nodeView t x .shown) ≤ 11
+  few = shown-few t x (good-parts (seen w t) x (each-mem (Good (seen w t)) (f .left .orderly .good) x-reached) .0)
+
+  size : 8 ≤ length t
+  size = long w ws t nothing low f
+
+  same-map : mapOf u ≡ mapping (seen w t)
+  same-map = seen-map w ws t nothing low f
+
+  -- k with the pointer y is shifted in at its leaf, which has room for it.
+  pub leaf-in : (y : ℕ) → NewPair (seen w t) k y → length (nodeView t (standingIn (seen w t) 0 k) .shown) ≤ 10 → Course 27 w ws t (shiftInAt t (standingIn (seen w t) 0 k) k y) (enter k y (mapping (seen w t)))
+  leaf-in y new room =
+      let n : NewPair (view u) k y = record { no-key = rw same-map (new .no-key); no-recording = rw same-map (new .no-recording); ok = new .ok } in
+      let p = leaf-shift-in u s k y n (rw (same-x, mask-shown (at t w) (taken ws t) t size) room) in
+      phase-course 27 w ws t nothing _ _ low f (rw (same-x, mask-shift-in (at t w) (taken ws t) t size, same-map) at p) (shift-in-away (taken ws t) x x-some x-off t k y room)
+
+  module _ (has : hasKey k (mapping (seen w t)) ≡ true) where
+    has-u : hasKey k (mapOf u) ≡ true
+    has-u = rw same-map has
+
+    place : placeOf k (nodeView t x .shown) < length (nodeView t x .shown)
+    place = rw (same-x, mask-shown (at t w) (taken ws t) t size x) at (leaf-out-place u s k has-u)
+
+    pub out-away : Each (Away (taken ws t)) (shiftOutAt t (standingIn (seen w t) 0 k) k)
+    out-away = shift-out-away (taken ws t) x x-some x-off t k few place
+
+    -- The pair of k is shifted out of its leaf.
+    pub leaf-out : Course 25 w ws t (shiftOutAt t (standingIn (seen w t) 0 k) k) (leave k (mapping (seen w t)))
+    leaf-out = phase-course 25 w ws t nothing _ _ low f (rw (same-x, mask-shift-out (at t w) (taken ws t) t size x k, same-map) at (leaf-shift-out u s k has-u)) out-away
+
+    -- The slot of k in its leaf gets class c.
+    pub leaf-reclass : (c : ℕ) → classOk c ≡ true → Course 2 w ws t (setClassAt t (standingIn (seen w t) 0 k) k c) (reclass k c (mapping (seen w t)))
+    leaf-reclass c ok = phase-course 2 w ws t nothing _ _ low f (rw (same-x, mask-class (at t w) (taken ws t) t size x k c, same-map) at (leaf-class u s k has-u c ok)) away
+      where
+        away : Each (Away (taken ws t)) (setClassAt t x k c)
+        away = unfold setClassAt in (put-away (taken ws t) x x-some x-off _ _ (omega arith) (omega (arith, place, few)), tt)

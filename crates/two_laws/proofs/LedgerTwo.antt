@@ -1,0 +1,136 @@
+-- A call's number on a sound table of one or two collections is the ledger's, fed that number's 10, 11 or 12; a search answers as the ledger.
+use mathlib.Core.Path.{_≡_, refl, ap, sym, _∙_}
+use mathlib.Core.Logic.{_≢_}
+use mathlib.Core.Bool.{Bool, true, false, cond, not, _&&_, _||_, false≢true}
+use mathlib.Core.List.{List, _∷_}
+use mathlib.Core.Option.{Option, none, some}
+use Prim.Native.Nat.{ℕ}
+use native.Mathlib.Omega.{arith}
+use lib.Dec.{eqb}
+use borrow.Author.Tests.{ne-eqb}
+use Rattle.model.specs.declared.Answer.the-variants.{Refused}
+use Rattle.model.specs.Table.{Words, at}
+use Rattle.model.specs.Slots.{Slot}
+use Rattle.model.specs.Refusals.{Test, test, firstNumber}
+use Rattle.model.specs.Ledger.{fedOf}
+use Rattle.crash_laws.proofs.Numbers.{refed-first, holdsFor, first-holds, alone}
+use Rattle.two_laws.specs.Collections.{noCollection, soundAll, mapIn, search, unlessLacking, mapsOf, repaired, Call, insertion, deletion, classChange, repair}
+use Rattle.two_laws.specs.Collections.{seventeenIn, parentFull, elevenIn, tenIn, ownMap, testsFrom5, refusal}
+use Rattle.two_laws.specs.Ledgers.{listIn, answerFrom, lacking, pairsOf, listFor, ledgerRefusal}
+use Rattle.two_laws.proofs.SearchTwo.{sound-head, search-law}
+use Rattle.two_laws.proofs.SameTwo.{by-number}
+use Rattle.two_laws.proofs.JudgedTwo.{own-later}
+
+-- ---- the lists of the ledger that is a table's maps
+
+pub list-there : (n : ℕ) (t : Words) → noCollection n t ≡ false → listIn n (mapsOf t) ≡ some (mapIn n t)
+unfolding mapsOf
+list-there n t h = by-number t (λ (n : ℕ). listIn n (mapsOf t) ≡ some (mapIn n t)) refl (λ z. ap (λ (b : Bool). unlessLacking b (mapIn 2 t)) (ne-eqb (at t 3) 0 z)) n h
+
+-- it lacks the lists of collections that are not there
+pub lacking-same : (n : ℕ) (t : Words) → noCollection n t ≡ lacking (listIn n (mapsOf t))
+unfolding noCollection mapsOf
+lacking-same n t = go (eqb n 1) (eqb n 2) (eqb (at t 3) 0)
+  where
+    go : (a b c : Bool) → (not a && (not b || c)) ≡ lacking (cond a (some (mapIn 1 t)) (cond b (unlessLacking c (mapIn 2 t)) none))
+    go true b c = refl
+    go false true true = refl
+    go false true false = refl
+    go false false c = refl
+
+pub list-lacking : (n : ℕ) (t : Words) → noCollection n t ≡ true → listIn n (mapsOf t) ≡ none
+list-lacking n t h = go (listIn n (mapsOf t)) (sym (lacking-same n t) ∙ h)
+  where
+    go : (l : Option (List Slot)) → lacking l ≡ true → l ≡ none
+    go none e = refl
+    go (some ps) e = absurd (false≢true e)
+
+-- ---- search
+
+no-collection : (n : ℕ) (t : Words) (k : ℕ) → soundAll t ≡ true → noCollection n t ≡ true → search n t k ≡ Refused 17
+unfolding search
+no-collection n t k s h = rw (sound-head t s, h, search)
+
+-- A search of any collection of a sound table answers as its maps.
+pub searched : (n : ℕ) (t : Words) (k : ℕ) → soundAll t ≡ true → search n t k ≡ answerFrom k (listIn n (mapsOf t))
+searched n t k s = go (noCollection n t) refl
+  where
+    go : (b : Bool) → noCollection n t ≡ b → search n t k ≡ answerFrom k (listIn n (mapsOf t))
+    go true h = no-collection n t k s h ∙ ap (answerFrom k) (sym (list-lacking n t h))
+    go false h = search-law n t s h k ∙ ap (answerFrom k) (sym (list-there n t h))
+
+-- ---- the numbers
+
+-- a sound table's tests: 17, and those from 5 on
+abbrev tests : Call → (words : ℕ) → Words → List Test
+tests x words t = testsFrom5 x words (parentFull t) (elevenIn x (repaired t)) (tenIn x (repaired t)) (ownMap x (repaired t))
+
+pub from-five : (x : Call) (words : ℕ) (t : Words) → soundAll t ≡ true → refusal x words t ≡ firstNumber (test (seventeenIn x t) 17 ∷ tests x words t)
+unfolding refusal
+from-five x words t s = rw (sound-head t s, s)
+
+seventeen-same : (x : Call) (t : Words) → seventeenIn x t ≡ lacking (listFor x (mapsOf t))
+seventeen-same (insertion n k r c) t = lacking-same n t
+seventeen-same (deletion n k) t = lacking-same n t
+seventeen-same (classChange n k c) t = lacking-same n t
+seventeen-same repair t = refl
+
+own-pairs : (x : Call) (t : Words) → seventeenIn x t ≡ false → pairsOf (listFor x (mapsOf t)) ≡ ownMap x t
+own-pairs (insertion n k r c) t h = ap pairsOf (list-there n t h)
+own-pairs (deletion n k) t h = ap pairsOf (list-there n t h)
+own-pairs (classChange n k c) t h = ap pairsOf (list-there n t h)
+own-pairs repair t h = refl
+
+-- the ledger's tests: where the call's number is 10, 11 or 12, it is fed and refuses at that number's place
+fed-number : (x : Call) (words : ℕ) (twelve eleven ten : Bool) (ps : List Slot)
+    → (let n = firstNumber (testsFrom5 x words twelve eleven ten ps) in firstNumber (testsFrom5 x words (eqb (fedOf n) 12) (eqb (fedOf n) 11) (eqb (fedOf n) 10) ps) ≡ n)
+fed-number (insertion n k r c) words twelve eleven ten ps = refed-first (testsFrom5 (insertion n k r c) words twelve eleven ten ps)
+fed-number (deletion n k) words twelve eleven ten ps = refed-first (testsFrom5 (deletion n k) words twelve eleven ten ps)
+fed-number (classChange n k c) words twelve eleven ten ps = refed-first (testsFrom5 (classChange n k c) words twelve eleven ten ps)
+fed-number repair words twelve eleven ten ps = refed-first (testsFrom5 repair words twelve eleven ten ps)
+
+-- the same number as in the ledger
+pub number-in-ledger : (x : Call) (words : ℕ) (t : Words) → soundAll t ≡ true → refusal x words t ≡ ledgerRefusal x words (fedOf (refusal x words t)) (mapsOf t)
+number-in-ledger x words t s = go (seventeenIn x t) refl
+  where
+    no-list : seventeenIn x t ≡ true → (m : ℕ) → 17 ≡ ledgerRefusal x words m (mapsOf t)
+    no-list h m = unfold ledgerRefusal in rw (sym (seventeen-same x t) ∙ h)
+
+    own : List Slot → List Test
+    own ps = testsFrom5 x words (parentFull t) (elevenIn x (repaired t)) (tenIn x (repaired t)) ps
+
+    number : seventeenIn x t ≡ false → refusal x words t ≡ firstNumber (own (ownMap x t))
+    number h = from-five x words t s ∙ ap (λ (b : Bool). firstNumber (test b 17 ∷ tests x words t)) h ∙ ap (λ (ps : List Slot). firstNumber (own ps)) (own-later x t s h)
+
+    from-list : seventeenIn x t ≡ false → (m : ℕ) → ledgerRefusal x words m (mapsOf t) ≡ firstNumber (testsFrom5 x words (eqb m 12) (eqb m 11) (eqb m 10) (ownMap x t))
+    from-list h m = unfold ledgerRefusal in rw (sym (seventeen-same x t) ∙ h, own-pairs x t h)
+
+    go : (b : Bool) → seventeenIn x t ≡ b → refusal x words t ≡ ledgerRefusal x words (fedOf (refusal x words t)) (mapsOf t)
+    go true h = from-five x words t s ∙ ap (λ (b : Bool). firstNumber (test b 17 ∷ tests x words t)) h ∙ no-list h (fedOf (refusal x words t))
+    go false h =
+        let e = number h in
+        let q = fed-number x words (parentFull t) (elevenIn x (repaired t)) (tenIn x (repaired t)) (ownMap x t) in
+        e ∙ sym q ∙ sym (from-list h (fedOf (firstNumber (own (ownMap x t))))) ∙ ap (λ (m : ℕ). ledgerRefusal x words (fedOf m) (mapsOf t)) (sym e)
+
+-- ---- 10, 11 and 12 come only on their conditions
+
+number-holds : (m : ℕ) (x : Call) (words : ℕ) (t : Words) → soundAll t ≡ true → m ≢ 0 → refusal x words t ≡ m → holdsFor m (test (seventeenIn x t) 17 ∷ tests x words t) ≡ true
+number-holds m x words t s z e = first-holds m (test (seventeenIn x t) 17 ∷ tests x words t) z (sym (from-five x words t s) ∙ e)
+
+pub only-twelve : (x : Call) (words : ℕ) (t : Words) → soundAll t ≡ true → refusal x words t ≡ 12 → parentFull t ≡ true
+only-twelve (insertion n k r c) words t s e = alone _ (number-holds 12 (insertion n k r c) words t s (omega arith) e)
+only-twelve (deletion n k) words t s e = alone _ (number-holds 12 (deletion n k) words t s (omega arith) e)
+only-twelve (classChange n k c) words t s e = alone _ (number-holds 12 (classChange n k c) words t s (omega arith) e)
+only-twelve repair words t s e = alone _ (number-holds 12 repair words t s (omega arith) e)
+
+pub only-eleven : (x : Call) (words : ℕ) (t : Words) → soundAll t ≡ true → refusal x words t ≡ 11 → elevenIn x (repaired t) ≡ true
+only-eleven (insertion n k r c) words t s e = alone _ (number-holds 11 (insertion n k r c) words t s (omega arith) e)
+only-eleven (deletion n k) words t s e = number-holds 11 (deletion n k) words t s (omega arith) e
+only-eleven (classChange n k c) words t s e = number-holds 11 (classChange n k c) words t s (omega arith) e
+only-eleven repair words t s e = number-holds 11 repair words t s (omega arith) e
+
+pub only-ten : (x : Call) (words : ℕ) (t : Words) → soundAll t ≡ true → refusal x words t ≡ 10 → tenIn x (repaired t) ≡ true
+only-ten (insertion n k r c) words t s e = alone _ (number-holds 10 (insertion n k r c) words t s (omega arith) e)
+only-ten (deletion n k) words t s e = number-holds 10 (deletion n k) words t s (omega arith) e
+only-ten (classChange n k c) words t s e = number-holds 10 (classChange n k c) words t s (omega arith) e
+only-ten repair words t s e = number-holds 10 repair words t s (omega arith) e

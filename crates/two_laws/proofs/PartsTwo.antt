@@ -1,0 +1,154 @@
+-- The parts of a write of collection n on a settled table: the nodes that it reads and stores to, the run that is split, the leaf that is freed.
+use mathlib.Core.Path.{_≡_}
+use mathlib.Core.Bool.{true, false}
+use mathlib.Core.Logic.{inl, inr}
+use mathlib.Core.List.{List, List·Memᴰ}
+use Prim.Native.Nat.{ℕ, suc, _*_, _≤_, _<_}
+use native.Mathlib.Omega.{arith}
+use lib.ListN.{length}
+use borrow.Author.Tests.{ne-eqb}
+use Rattle.model.specs.Table.{Words, at, nodes, hasNode}
+use Rattle.model.specs.Slots.{nodeView, view, height}
+use Rattle.model.specs.Reached.{reached}
+use Rattle.model.specs.SoundTest.{nothing}
+use Rattle.model.specs.Orders.{apply}
+use Rattle.model.specs.Writes.{shiftOutAt, childBefore}
+use Rattle.model.specs.Refusals.{hasKey}
+use Rattle.list_laws.proofs.Members.{each-mem}
+use Rattle.list_laws.proofs.Distinct.{UpTo}
+use Rattle.table_laws.proofs.Nodes.{has-node-iff}
+use Rattle.tree_laws.proofs.Rows.{range-iff}
+use Rattle.tree_laws.proofs.Levels.{reached-numbers}
+use Rattle.two_laws.specs.Collections.{rootWord, viewOf, noCollection, unreachable, fresh, settledAll, mapIn, standing, run, splits, rootStores, freesLeaf, tooHigh, tooFew}
+use Rattle.two_laws.specs.Parts.{splitFor, Splittable, Ready}
+use Rattle.two_laws.proofs.TwoLaw.{Tree, Low}
+use Rattle.two_laws.proofs.Leaf.{leaf-out}
+use Rattle.two_laws.proofs.Arrange.{Arr, arr-low, root-in, tree-settled, settled-tree, free-fresh, course-arr}
+use Rattle.two_laws.proofs.DeleteTwo.{p-reached, before-reached, can-free}
+use Rattle.two_laws.proofs.InsertTwo.{stands-reached, ReadyIn, ready-next, splits-course, root-first}
+use Rattle.two_laws.proofs.CallsTwo.{arranged}
+use Rattle.two_laws.proofs.AcceptedTwo.{there}
+
+-- the collection of an arrangement is there
+arr-there : (n : ℕ) (ws : List ℕ) (t : Words) → Arr (rootWord n) ws t → noCollection n t ≡ false
+unfolding noCollection
+arr-there n ws t r = go r
+  where
+    first : rootWord n ≡ 1 → n ≡ 1
+    first e = omega arith
+
+    second : rootWord n ≡ 3 → n ≡ 2
+    second e = omega arith
+
+    go : Arr (rootWord n) ws t → noCollection n t ≡ false
+    go (inl h) = rw (first (h .0))
+    go (inr (inl h)) = rw (first (h .0))
+    go (inr (inr h)) = rw (second (h .0), ne-eqb (at t 3) 0 (h .1 .1))
+
+ready-out : (m n : ℕ) (ws : List ℕ) (t : Words) (k : ℕ) → ReadyIn m n ws t k → Ready m n t k
+ready-out m n ws t k r = record {
+  collection = arr-there n ws t (r .arr);
+  settled = tree-settled (rootWord n) ws t (r .arr) (r .tree);
+  high = r .high;
+  full = r .full;
+  above = r .above;
+  enough = r .enough;
+}
+
+-- ---- a settled table
+
+-- a node that lies in the table and hides nothing
+pub record Plain (t : Words) (m : ℕ) : Type 0 where
+  pub there : hasNode t m ≡ true
+  pub plain : nodeView t m .hidden ≡ 0
+
+module _ (n : ℕ) (t : Words) (h : noCollection n t ≡ false) (s : settledAll t ≡ true) where
+  abbrev w : ℕ
+  w = rootWord n
+
+  beside : (ws : List ℕ) × Arr w ws t
+  beside = arranged w t (there n t h .1)
+
+  low : Low w (beside .0)
+  low = arr-low w (beside .0) t (beside .1)
+
+  tree : Tree w (beside .0) t nothing
+  tree = settled-tree w (beside .0) t (beside .1) s
+
+  node-there : (m : ℕ) → UpTo (nodes t) m → hasNode t m ≡ true
+  node-there m u = has-node-iff t m .1 (u .0, omega (arith, u .1, tree .head .size .long))
+
+  pub settled-plain : (m : ℕ) → List·Memᴰ m (reached (viewOf n t)) → Plain t m
+  settled-plain m i = record {
+    there = node-there m (each-mem (UpTo (nodes t)) (reached-numbers (viewOf n t) (tree .left .orderly)) i);
+    plain = each-mem (λ (m : ℕ). nodeView t m .hidden ≡ 0) (tree .left .left .0) i;
+  }
+
+  pub root-reached : List·Memᴰ (at t (rootWord n)) (reached (viewOf n t))
+  root-reached = root-in (viewOf n t) (tree .left .orderly)
+
+  pub standing-reached : (d k : ℕ) → d ≤ height (viewOf n t) → List·Memᴰ (standing n t d k) (reached (viewOf n t))
+  standing-reached d k i = stands-reached n (beside .0) t low tree k d i
+
+  -- the fresh node after a reached one lies in the table
+  pub fresh-there : (a : ℕ) → List·Memᴰ a (reached (viewOf n t)) → 0 < length (unreachable t) → hasNode t (fresh t a) ≡ true
+  fresh-there a m i = node-there (fresh t a) (range-iff (nodes t) (fresh t a) .0 (free-fresh w (beside .0) t a (beside .1) tree m i .range))
+
+  -- ---- the new root, where the run includes the root
+
+  pub root-ready : (k : ℕ) → tooHigh n t k ≡ false → tooFew n t k ≡ false → Ready (run n t k) n (apply (rootStores n t k) t) k
+  root-ready k a b = ready-out (run n t k) n (beside .0) (apply (rootStores n t k) t) k (root-first n (beside .0) t k (beside .1) tree a b .1)
+
+-- ---- the run, split from the highest down
+
+module _ (m n : ℕ) (t : Words) (k : ℕ) (r : Ready m n t k) where
+  abbrev ws : List ℕ
+  ws = beside n t (r .collection) (r .settled) .0
+
+  ready-in : ReadyIn m n ws t k
+  ready-in = record { arr = beside n t (r .collection) (r .settled) .1; tree = tree n t (r .collection) (r .settled); high = r .high; full = r .full; above = r .above; enough = r .enough }
+
+  -- Splitting it leaves a settled table.
+  pub splits-settled : settledAll (apply (splits n m t k) t) ≡ true
+  splits-settled = let c = splits-course m n ws t k ready-in in tree-settled (rootWord n) ws _ (course-arr (m * 67) (rootWord n) ws t _ _ c (ready-in .arr)) (c .whole)
+
+module _ (l n : ℕ) (t : Words) (k : ℕ) (r : Ready (suc l) n t k) where
+  -- the highest of them can be split, and then the rest is ready
+  pub ready-first : Splittable n t k l
+  ready-first = record { node = record { collection = r .collection; settled = r .settled; high = r .high; full = r .full l (omega arith); roomy = r .above }; some = omega (arith, r .enough) }
+
+  pub ready-later : Ready l n (apply (splitFor n t l k) t) k
+  ready-later = ready-out l n _ _ k (ready-next l n _ t k (ready-in (suc l) n t k r))
+
+-- ---- the leaf freed after the shift out
+
+module _ (n : ℕ) (t : Words) (h : noCollection n t ≡ false) (s : settledAll t ≡ true) (k : ℕ) (has : hasKey k (mapIn n t) ≡ true) where
+  abbrev t₁ : Words
+  t₁ = apply (shiftOutAt t (standing n t 0 k) k) t
+
+  abbrev rest : List ℕ
+  rest = beside n t h s .0
+
+  abbrev arr : Arr (rootWord n) rest t
+  arr = beside n t h s .1
+
+  out : Tree (rootWord n) rest t₁ nothing
+  out = leaf-out (rootWord n) rest t (low n t h s) (tree n t h s) k has .whole
+
+  -- the shift out leaves a settled table, with the same collections
+  arr₁ : Arr (rootWord n) rest t₁
+  arr₁ = course-arr 25 (rootWord n) rest t _ _ (leaf-out (rootWord n) rest t (low n t h s) (tree n t h s) k has) arr
+
+  pub out-settled : settledAll (apply (shiftOutAt t (standing n t 0 k) k) t) ≡ true
+  out-settled = tree-settled (rootWord n) rest t₁ arr₁ out
+
+  pub out-there : noCollection n (apply (shiftOutAt t (standing n t 0 k) k) t) ≡ false
+  out-there = arr-there n rest t₁ arr₁
+
+  module _ (e : freesLeaf n t (standing n t 1 k) (standing n t 0 k) ≡ true) where
+    pub parent-plain : Plain (apply (shiftOutAt t (standing n t 0 k) k) t) (standing n t 1 k)
+    parent-plain = settled-plain n t₁ out-there out-settled (standing n t 1 k) (p-reached (rootWord n) rest t₁ (low n t h s) out (standing n t 1 k) (standing n t 0 k) (can-free n rest t arr (tree n t h s) k has e))
+
+    pub neighbour-there : (let t₁ = apply (shiftOutAt t (standing n t 0 k) k) t in hasNode t₁ (childBefore (view t₁) (standing n t 1 k) (standing n t 0 k)) ≡ true)
+    neighbour-there =
+        settled-plain n t₁ out-there out-settled _ (before-reached (rootWord n) rest t₁ (low n t h s) out (standing n t 1 k) (standing n t 0 k) (can-free n rest t arr (tree n t h s) k has e)) .there

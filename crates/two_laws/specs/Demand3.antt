@@ -1,0 +1,131 @@
+-- Demand 3 with one or two collections: one claim over all sequences of insertions, deletions, class changes and repairs, whole or cut.
+use mathlib.Core.Path.{_≡_}
+use mathlib.Core.Logic.{_⊎_}
+use mathlib.Core.Bool.{Bool, true}
+use mathlib.Core.List.{List, [], _∷_}
+use Prim.Native.Nat.{ℕ, _≤_}
+use lib.Dec.{eqb}
+use lib.ListN.{length}
+use Rattle.model.specs.Table.{Words}
+use Rattle.model.specs.Orders.{Order}
+use Rattle.model.specs.Cuts.{CutImage}
+use Rattle.model.specs.Refusals.{unlessRefused, writtenNumber, ordersAnswered}
+use Rattle.model.specs.Ledger.{fedOf, End, completed, cutAfter}
+use Rattle.model.specs.Demand3.{Fate, whole, cut, State}
+use Rattle.two_laws.specs.Collections.{emptyOf, search, mapsOf, repaired, Call, insertion, deletion, classChange, repair, ordersOf}
+use Rattle.two_laws.specs.Collections.{parentFull, elevenIn, tenIn, refusal, written, tableAfter, listAfter, carryNumber, carriedOut}
+use Rattle.two_laws.specs.Sentences.{Settled}
+use Rattle.two_laws.specs.Ledgers.{Ledger, noPairs, listIn, answerFrom, ledgerRefusal, feed}
+
+-- ---- events and histories
+
+-- a call, the order list as it was lent, and its fate
+pub record Event : Type 0 where
+  pub call : Call
+  pub lent : Words
+  pub fate : Fate
+
+-- the latest event first: the tail of a history is the history before it
+abbrev pub History : Type 0
+History = List Event
+
+-- the number that the call answers, and its orders where it is accepted
+abbrev pub numberOf : State → Event → ℕ
+numberOf s e = refusal (e .call) (length (e .lent)) (s .working)
+
+abbrev pub eventOrders : State → Event → List Order
+eventOrders s e = ordersOf (e .call) (s .working)
+
+-- the orders that the call answered, and the lent list after the call
+abbrev pub answered : State → Event → ℕ
+answered s e = ordersAnswered (written (e .call) (length (e .lent)) (s .working))
+
+abbrev pub listOf : State → Event → Words
+listOf s e = listAfter (e .call) (e .lent) (s .working)
+
+-- Whole: memory is what the carry-out call makes of it with the lent list and the orders answered. Cut: memory is m, reloaded.
+abbrev pub afterFate : Fate → State → Event → State
+afterFate whole s e =
+    record { memory = carriedOut (answered s e) (listOf s e) (s .memory); working = tableAfter (e .call) (length (e .lent)) (s .working) }
+afterFate (cut c m) s e = record { memory = m; working = m }
+
+-- a refused call has no orders, and changes nothing
+unfoldable pub step : State → Event → State
+step s e = unlessRefused (numberOf s e) (afterFate (e .fate) s e) s
+
+-- the state after a history that starts with an empty table of n collections and N nodes, stored whole in memory and copied as the working copy
+unfoldable pub runAll : (n N : ℕ) → History → State
+runAll n N [] = record { memory = emptyOf n N; working = emptyOf n N }
+runAll n N (e ∷ h) = step (runAll n N h) e
+
+-- a cut falls within its list, and memory is then an image that it may leave
+abbrev pub FateMay : Fate → State → Event → Type 0
+FateMay whole s e = Unit {0}
+FateMay (cut c m) s e = (c ≤ length (eventOrders s e)) × CutImage c (s .memory) (eventOrders s e) m
+
+unfoldable pub May : (n N : ℕ) → History → Type 0
+May n N [] = Unit {0}
+May n N (e ∷ h) = May n N h × (numberOf (runAll n N h) e ≡ 0 → FateMay (e .fate) (runAll n N h) e)
+
+-- ---- the ledger along a history
+
+abbrev pub endOf : Fate → State → Event → End
+endOf whole s e = completed
+endOf (cut c m) s e = cutAfter c (eqb c (length (eventOrders s e)))
+
+-- the choice is made once for each event, on what happened up to it, and stays: the ledger of a longer history is fed onto this one
+unfoldable pub ledgerAfter : (choose : History → Bool) → (n N : ℕ) → History → Ledger
+ledgerAfter choose n N [] = noPairs n
+ledgerAfter choose n N (e ∷ h) =
+    let s = runAll n N h in
+    feed (e .call) (length (e .lent)) (fedOf (numberOf s e)) (endOf (e .fate) s e) (choose (e ∷ h)) (ledgerAfter choose n N h)
+
+-- ---- what holds at the start and after each event
+
+-- every search of every collection, in memory and in the working copy, answers as the ledger: found with its recording and class, absent
+-- exactly if its list has none, 17 exactly if it has no list
+pub record Agrees (s : State) (ps : Ledger) : Type 0 where
+  pub in-memory : (n k : ℕ) → search n (s .memory) k ≡ answerFrom k (listIn n ps)
+  pub in-working : (n k : ℕ) → search n (s .working) k ≡ answerFrom k (listIn n ps)
+
+-- all of the call's orders were carried out
+abbrev pub Completed : Fate → State → Event → Type 0
+Completed whole s e = Unit {0}
+Completed (cut c m) s e = c ≡ length (eventOrders s e)
+
+abbrev pub Carried : Fate → State → Event → Type 0
+Carried whole s e = carryNumber (answered s e) (listOf s e) (s .memory) ≡ 0
+Carried (cut c m) s e = Unit {0}
+
+-- a repair keeps the maps
+abbrev pub Keeps : Call → State → State → Type 0
+Keeps (insertion n k r c) s s′ = Unit {0}
+Keeps (deletion n k) s s′ = Unit {0}
+Keeps (classChange n k c) s s′ = Unit {0}
+Keeps repair s s′ = (mapsOf (s′ .memory) ≡ mapsOf (s .memory)) × (mapsOf (s′ .working) ≡ mapsOf (s .working))
+
+-- of the event e that took s to s′, where the ledger was ps
+pub record Right (e : Event) (s s′ : State) (ps : Ledger) : Type 0 where
+  -- accepted or refused as in the ledger, with the same number
+  pub same-number : numberOf s e ≡ ledgerRefusal (e .call) (length (e .lent)) (fedOf (numberOf s e)) ps
+  pub answers-it : writtenNumber (written (e .call) (length (e .lent)) (s .working)) ≡ numberOf s e
+  -- 10, 11 and 12 only on their conditions
+  pub ten-only : numberOf s e ≡ 10 → tenIn (e .call) (repaired (s .working)) ≡ true
+  pub eleven-only : numberOf s e ≡ 11 → elevenIn (e .call) (repaired (s .working)) ≡ true
+  pub twelve-only : numberOf s e ≡ 12 → parentFull (s .working) ≡ true
+  -- the carry-out of a whole list is not refused; a completed list leaves memory equal to the working copy, and nothing unfinished
+  pub carried : numberOf s e ≡ 0 → Carried (e .fate) s e
+  pub equal : numberOf s e ≡ 0 → Completed (e .fate) s e
+      → (let left = tableAfter (e .call) (length (e .lent)) (s .working) in (s′ .memory ≡ left) × (s′ .working ≡ left))
+  pub finished : numberOf s e ≡ 0 → Completed (e .fate) s e → Settled (s′ .memory) × Settled (s′ .working)
+  pub repair-keeps : Keeps (e .call) s s′
+
+abbrev pub Kept : (choose : History → Bool) → (n N : ℕ) → History → Type 0
+Kept choose n N [] = Agrees (runAll n N []) (ledgerAfter choose n N [])
+Kept choose n N (e ∷ h) =
+    Agrees (runAll n N (e ∷ h)) (ledgerAfter choose n N (e ∷ h)) × Right e (runAll n N h) (runAll n N (e ∷ h)) (ledgerAfter choose n N h)
+
+-- Demand 3: for one collection or two and every N that making takes there is a way to take or omit the cut changes such that, after every
+-- history that may happen, all of it holds.
+abbrev pub Demand3 : Type 0
+Demand3 = (n N : ℕ) → (n ≡ 1) ⊎ (n ≡ 2) → n ≤ N → N ≤ 65535 → (choose : History → Bool) × ((h : History) → May n N h → Kept choose n N h)
