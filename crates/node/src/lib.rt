@@ -7,7 +7,7 @@ ghost use mathlib.Core.Bool.{true};
 ghost use Prim.Native.Nat.{_+_, _≤_};
 ghost use lib.ListN.{length, take, drop, replicate};
 ghost use Rattle.model.specs.Table.{root, headerOk, headerNumber, hasNode, node, making, made};
-ghost use Rattle.node.specs.Word.{nodesIn, startOf, wordOf};
+ghost use Rattle.node.specs.Word.{nodesIn, rootIn, startOf, wordOf};
 
 // The N of a slice of this length; 0 for a wrong length.
 fn nodes_in(len: usize) -> u64
@@ -26,32 +26,39 @@ fn nodes_in(len: usize) -> u64
     n as u64
 }
 
-// 0, or 2 for a wrong length or header, or a root outside 1 to N.
-pub fn header(table: &[u64]) -> u8
-    ensures { λ r. ⌜ r ≡ headerNumber (now (table .entry)) ⌝ }
+// The root's node number, in one look at the header; 0 for a wrong length or header, or a root outside 1 to N.
+pub fn root(table: &[u64]) -> u64
+    ensures { λ r. ⌜ r ≡ rootIn (now (table .entry)) ⌝ }
 {
     let n = nodes_in(table.len());
     if n == 0 {
-        return 2;
+        return 0;
     }
     if table[0] != 1 {
-        return 2;
+        return 0;
     }
     if table[2] != n {
-        return 2;
+        return 0;
     }
     let mut w = 3;
     while w < 8 {
         if table[w] != 0 {
-            return 2;
+            return 0;
         }
         w += 1;
     }
     let root = table[1];
-    if root == 0 {
-        return 2;
-    }
     if n < root {
+        return 0;
+    }
+    root
+}
+
+// 0, or 2 for a wrong length or header, or a root outside 1 to N.
+pub fn header(table: &[u64]) -> u8
+    ensures { λ r. ⌜ r ≡ headerNumber (now (table .entry)) ⌝ }
+{
+    if root(table) == 0 {
         return 2;
     }
     0

@@ -13,7 +13,6 @@ use Rattle.model.specs.declared.Node.{Node}
 use Rattle.model.specs.Table.{Words, headerOk, hasNode, node}
 use Rattle.model.specs.Slots.{View, view, used}
 use Rattle.model.specs.Search.{below, onLevel, passes, kept, firstAbove, absentOr, nextFrom}
-use Rattle.node.proofs.WordLaws.{word-level}
 use Rattle.slots.specs.Scan.{shownFrom, keeps, keptOf}
 use Rattle.slots.proofs.Kept.{all-kept}
 use Rattle.search.proofs.Standing.{level-out, level-in}
@@ -100,11 +99,11 @@ module _ (t : Words) (k : ℕ) (x : Node) (c : ℕ) (r : Answer) (u : Turn t k x
       w q = z (sib ∙ q)
 
       pub turn-out : b ≡ false → Refused 3 ≡ r
-      turn-out e = next-lost (view t) c (u .at) k some (u .on) w (rw sib at (sym (level-out t 0 (x .sibling) h (sym i ∙ e)))) ∙ u .rest
+      turn-out e = next-lost (view t) c (u .at) k some (u .on) w (rw sib at (level-out t 0 (x .sibling) h (sym i ∙ e))) ∙ u .rest
 
       module _ (f : b ≡ true) (y : Node) (q : y ≡ node t (x .sibling)) where
         level : eqb (y .level) 0 ≡ onLevel (view t) 0 (x .sibling)
-        level = level-in t 0 (x .sibling) (y .level) h (sym i ∙ f) (ap (λ (n : Node). n .level) q ∙ sym (word-level t (x .sibling)))
+        level = level-in t 0 (x .sibling) y h (sym i ∙ f) q
 
         pub turn-high : (y .level ≡ 0 → ⊥) → Refused 3 ≡ r
         turn-high e = next-lost (view t) c (u .at) k some (u .on) w (rw sib at (sym level ∙ ne-eqb (y .level) 0 e)) ∙ u .rest

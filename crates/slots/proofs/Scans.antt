@@ -12,7 +12,7 @@ use Rattle.model.specs.Slots.{Slot, slot, slotsOf, inUse, shown, hidden}
 use Rattle.model.specs.Reached.{filter}
 use Rattle.list_laws.proofs.Filters.{filter-yes, filter-no}
 use Rattle.table_laws.proofs.SlotWords.{slots-cons, slots-end}
-use Rattle.slots.specs.Scan.{usedFrom}
+use Rattle.slots.specs.Scan.{usedFrom, inUseOf}
 
 in-use-stop : (k p : ℕ) (ss : List Slot) → p ≡ 0 → inUse (slot k p ∷ ss) ≡ []
 unfolding inUse
@@ -34,6 +34,20 @@ module _ (ws : Words) (i : ℕ) where
     pub used-more : (at ws (2 * i + 1) ≡ 0 → ⊥) → usedFrom ws i ≡ slot (at ws (2 * i)) (at ws (2 * i + 1)) ∷ usedFrom ws (i + 1)
     used-more e =
         rw (add-one i) (ap inUse (slots-cons ws i h) ∙ in-use-more (at ws (2 * i)) (at ws (2 * i + 1)) (drop (suc i) (slotsOf ws)) e)
+
+-- none is in use after as many as are in use
+used-end : (ss : List Slot) → inUse (drop (length (inUse ss)) ss) ≡ []
+unfolding inUse
+used-end [] = refl
+used-end (s ∷ ss) = go (eqb (s .pointer) 0) refl (used-end ss)
+  where
+    go : (b : Bool) → eqb (s .pointer) 0 ≡ b → inUse (drop (length (inUse ss)) ss) ≡ [] → inUse (drop (length (inUse (s ∷ ss))) (s ∷ ss)) ≡ []
+    go true e ih = rw (e, inUse) (rw (e, inUse))
+    go false e ih = rw (e, inUse) ih
+
+pub used-counted : (ws : Words) (n : ℕ) → n ≡ length (inUseOf ws) → usedFrom ws n ≡ []
+unfolding inUseOf
+used-counted ws n e = ap (usedFrom ws) e ∙ used-end (slotsOf ws)
 
 -- A loop over the slots keeps that F, what the present state and the slots left come to, is x. With none left, F of none is x. With a slot
 -- more, what that slot and those after it come to is x: the answer at this slot, or F of the next state.

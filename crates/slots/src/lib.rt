@@ -2,7 +2,7 @@
 use model::Next;
 use model::Node;
 ghost use mathlib.Core.Path.{_≡_};
-ghost use mathlib.Core.List.{_∷_};
+ghost use mathlib.Core.List.{[], _∷_};
 ghost use Prim.Native.Nat.{pred, _≤_, _<_};
 ghost use lib.ListN.{length, take};
 ghost use Rattle.model.specs.Slots.{slot};
@@ -107,14 +107,17 @@ fn way_after(way: u64, before: u64, k: u64, p: u64, key: u64) -> u64
     way
 }
 
-// The child that an inner node's slots lead to: by the last shown slot whose key is at most the key, else by left.
-pub fn route(slots: [u64; 24], left: u64, key: u64) -> u64
+// The child that an inner node's slots lead to: by the last shown slot whose key is at most the key, else by left. None is in use from
+// slot end on: 12 will do, and then the compiler makes a copy for the caller, with no loop and no slot loaded before it is looked at.
+pub fn route(slots: [u64; 24], left: u64, key: u64, end: usize) -> u64
+    requires { ⌜ end ≤ 12 ⌝ }
+    requires { ⌜ usedFrom slots end ≡ [] ⌝ }
     ensures { λ r. ⌜ r ≡ route key left (shownFrom left slots 0) ⌝ }
 {
     let mut way = left;
     let mut before = left;
     let mut i = 0;
-    while i < 12 {
+    while i < end {
         let p = slots[2 * i + 1];
         if p == 0 {
             return way;

@@ -1,4 +1,5 @@
 -- `search::down` meets its contract.
+use Rattle.slots.proofs.Scans.{used-counted}
 use Rattle.search.proofs.Standing.{down-read}
 use borrow.Author.Needs.{needs}
 use Rattle.search.proofs.down.Statement.{statement}
@@ -7,14 +8,17 @@ use Rattle.search.proofs.down.Tie as tie
 read-requires : tie.Need-read-requires
 read-requires c κs = search needs
 
+count-requires : tie.Need-count-requires
+count-requires c κs = search needs
+
 route-requires : tie.Need-route-requires
-route-requires c κs = search needs
+route-requires c κs = (c .count .ensures .1, used-counted _ _ (c .count .ensures .0))
 
 returns : tie.Need-returns
 returns c =
-    let d = c .before .before in
+    let d = c .before .before .before in
     let a = d .before .before .args in
-    down-read (a .table .now) (a .m) (a .key) (d .read .result) (d .read .ensures) _ (c .route .ensures)
+    down-read (a .table .now) (a .m) (a .key) (d .read .result) _ (d .read .ensures) (c .route .ensures)
 
 pub down-spec : {M : Type 1} → statement M
-down-spec = tie.close (tie.spec read-requires route-requires returns)
+down-spec = tie.close (tie.spec read-requires count-requires route-requires returns)

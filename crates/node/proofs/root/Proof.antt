@@ -1,0 +1,94 @@
+-- `node::root` meets its contract. The loop's invariant: the length is a table's, and the words from 3 up to w are 0.
+use Prim.Native.Nat.{ℕ, _-_, _≤_, _<_}
+use mathlib.Core.Path.{_≡_, sym}
+use native.Mathlib.Omega.{arith}
+use borrow.Author.Count.{below-more}
+use borrow.Author.Needs.{needs}
+use lib.ListN.{length}
+use Rattle.model.specs.Table.{at}
+use Rattle.table_laws.proofs.Header.{LengthFacts}
+use Rattle.node.proofs.Answers.{header-nodes, nodes-in-found, root-refused, root-last}
+use Rattle.node.proofs.root.Statement.{statement}
+use Rattle.node.proofs.root.Tie as tie
+
+abbrev Inv-loop : tie.InvT-loop
+Inv-loop table n w₀ w = LengthFacts (length table) n × (3 ≤ w) × (w ≤ 8) × ((k : ℕ) → k < w → 3 ≤ k → at table k ≡ 0)
+
+abbrev μ-loop : tie.MeasureT-loop
+μ-loop table n w₀ w = 8 - w
+
+sized : (c : tie.Else1 Inv-loop μ-loop) → LengthFacts (length (c .before .before .before .args .table .now)) (c .before .nodes-in .result)
+sized c = nodes-in-found _ _ (c .before .nodes-in .ensures) (c .if1 .left)
+
+nodes-in-requires : tie.Need-nodes-in-requires Inv-loop μ-loop
+nodes-in-requires c κs = search needs
+
+returns : tie.Need-returns Inv-loop μ-loop
+returns c = let t = c .before .before .before .args .table .now in sym (root-refused t (λ f. omega (arith, header-nodes t _ (c .before .nodes-in .ensures) f)))
+
+shared-slice-read-if2 : tie.Need-shared-slice-read-if2 Inv-loop μ-loop
+shared-slice-read-if2 c = omega (arith, sized (c .before))
+
+returns-2 : tie.Need-returns-2 Inv-loop μ-loop
+returns-2 c = sym (root-refused _ (λ f. omega arith))
+
+shared-slice-read-if3 : tie.Need-shared-slice-read-if3 Inv-loop μ-loop
+shared-slice-read-if3 c = omega (arith, sized (c .before .before .before))
+
+returns-3 : tie.Need-returns-3 Inv-loop μ-loop
+returns-3 c = let t = c .before .before .before .before .before .before .before .args .table .now in sym (root-refused t (λ f. omega (arith, header-nodes t _ (c .before .before .before .before .before .nodes-in .ensures) f)))
+
+loop-holds : tie.Need-loop-holds Inv-loop μ-loop
+loop-holds c = (sized (c .before .before .before .before), omega arith, omega arith, λ k l u. omega arith)
+
+mul-if4 : tie.Need-mul-if4 Inv-loop μ-loop
+mul-if4 c = search needs
+
+shared-slice-read-if4 : tie.Need-shared-slice-read-if4 Inv-loop μ-loop
+shared-slice-read-if4 c = search needs
+
+returns-4 : tie.Need-returns-4 Inv-loop μ-loop
+returns-4 c = let w = c .before .before .before .loop .w in sym (root-refused _ (λ f. omega (arith, f .zeros w (omega arith) (omega arith))))
+
+add-w : tie.Need-add-w Inv-loop μ-loop
+add-w c = search needs
+
+loop-less : tie.Need-loop-less Inv-loop μ-loop
+loop-less c = search needs
+
+loop-again : tie.Need-loop-again Inv-loop μ-loop
+loop-again c = let inv = c .before .before .before .loop .inv in (inv .0, omega arith, omega arith, below-more _ _ (inv .3) (λ l. c .if4 .left))
+
+shared-slice-read-root : tie.Need-shared-slice-read-root Inv-loop μ-loop
+shared-slice-read-root c = search needs
+
+returns-5 : tie.Need-returns-5 Inv-loop μ-loop
+returns-5 c = sym (root-refused _ (λ f. omega arith))
+
+returns-6 : tie.Need-returns-6 Inv-loop μ-loop
+returns-6 c =
+    let inv = c .before .before .before .loop .inv in
+    root-last _ (λ h. record { size = omega arith; first = omega arith; zeros = λ w l u. inv .3 w (omega arith) l; root-some = h; root-in = omega arith })
+
+pub root-spec : {M : Type 1} → statement M
+root-spec =
+    tie.close
+    (tie.spec
+    Inv-loop
+    μ-loop
+    nodes-in-requires
+    returns
+    shared-slice-read-if2
+    returns-2
+    shared-slice-read-if3
+    returns-3
+    loop-holds
+    mul-if4
+    shared-slice-read-if4
+    returns-4
+    add-w
+    loop-less
+    loop-again
+    shared-slice-read-root
+    returns-5
+    returns-6)
