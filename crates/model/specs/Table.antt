@@ -63,6 +63,13 @@ headerNumber t = cond (headerOk t) 0 2
 
 -- ---- nodes
 
+-- A node's 32 words are four lines; its 12 slots are a key word and a pointer word each:
+--
+--      0 left    1 sibling    2 level    3 fence    4 to 7: 0
+--      8 key     9 pointer   10 key     11 pointer   ..   14 key   15 pointer     slots 0 to 3
+--     16 key    17 pointer   18 key     19 pointer   ..   22 key   23 pointer     slots 4 to 7
+--     24 key    25 pointer   26 key     27 pointer   ..   30 key   31 pointer     slots 8 to 11
+
 -- Node i begins at word 8 + 32 times (i − 1).
 unfoldable pub nodeStart : ℕ → ℕ
 nodeStart i = 8 + 32 * (i - 1)
