@@ -1,11 +1,11 @@
 -- Where a search stands on a level, by the tests in the order of the code, and what it answers from there.
 use mathlib.Core.Path.{_≡_, refl, ap, sym, _∙_, subst}
-use mathlib.Core.Bool.{Bool, true, false, _&&_, and-false}
-use mathlib.Core.Option.{Option, none, some}
+use mathlib.Core.Bool.{Bool, true, false, cond, _&&_, _||_, and-false, false≢true}
+use mathlib.Core.Option.{Option, none, some, Option·some-injective, Option·none-ne-some}
 use Prim.Native.Nat.{ℕ, zero, suc, _-_, _≤_, _<_}
 use native.Mathlib.Omega.{arith}
-use lib.Dec.{eqb, leb}
-use mathlib.Core.List.{[]}
+use lib.Dec.{eqb, leb, ltb}
+use mathlib.Core.List.{List, [], _∷_}
 use lib.ListN.{length, length-take}
 use borrow.Author.Tests.{eqb-true, eqb-false, eq-eqb, ne-eqb, lt-ltb, le-ltb, le-leb, lt-leb, leb-true, leb-false}
 use Rattle.model.specs.declared.Answer.{Answer}
@@ -14,16 +14,18 @@ use Rattle.model.specs.declared.Node.{Node}
 use Rattle.model.specs.Table.{Words, inRange, headerOk, hasNode, node, nodeFrom, blank, nodes, root}
 use Rattle.model.specs.Slots.{Slot, recordingOf, classOf, View, nodeView, view, height, used}
 use Rattle.model.specs.Search.{below, moved, route, down, onLevel, passes, locate, firstWith, nextFrom, answerOf, answerIn, searchView, search}
+use mathlib.Core.Logic.{_≢_}
+use Rattle.list_laws.proofs.Tools.{Each}
+use Rattle.list_laws.proofs.Slots.{each-shown, in-use-some}
 use Rattle.table_laws.proofs.Header.{header-iff}
 use Rattle.table_laws.proofs.Nodes.{has-node-range, node-in, node-out}
 use Rattle.node.specs.Word.{rootIn}
 use Rattle.node.proofs.Answers.{root-none, root-some}
-use Rattle.slots.specs.declared.Held.{Held}
-use Rattle.slots.specs.declared.Held.the-variants.{Pointer, Nothing}
 use Rattle.slots.specs.Scan.{usedFrom, shownFrom}
-use Rattle.slots.specs.Held.{heldBy}
+use Rattle.slots.specs.Held.{pointerIn}
 use Rattle.slots.proofs.Scans.{used-past}
-use Rattle.search.specs.Descent.{wayBelow, arrive, arriveWithin, answerHeld}
+use Rattle.search.specs.Descent.{stood, nowhere, seenIn, standOn, locateWithin, answerHeld}
+use Rattle.search.specs.declared.Stood.{Stood}
 
 pub header-words : (t : Words) → headerOk t ≡ true → 40 ≤ length t
 header-words t h = let f = header-iff t .0 h in omega (arith, f .size .long, f .size .some)
@@ -118,224 +120,259 @@ module _ (t : Words) (l n k : ℕ) (header : headerOk t ≡ true) (x : Node) (q 
         pub read-right : y .fence ≤ k → Stands (view t) l n k (x .sibling)
         read-right h = rw sib (stand-right (view t) l n k on w (rw sib at read-on) (subst (λ (u : ℕ). u ≤ k) bound h))
 
--- ---- the way down
+-- ---- what is seen of the node that it stands on
 
 pub down-read : (t : Words) (m k : ℕ) (x : Node) (r : ℕ) → x ≡ node t m → r ≡ route k (x .left) (shownFrom (x .left) (x .slots) 0) → r ≡ down (view t) m k
 unfolding used
 down-read t m k x r q h = h ∙ ap (λ (y : Node). route k (y .left) (shownFrom (y .left) (y .slots) 0)) q
 
-pub way-lost : (v : View) (l n k : ℕ) → passes v l n ≡ false → 0 ≡ wayBelow v l n k
-unfolding wayBelow
-way-lost v l n k e = rw e
+held-read : (t : Words) (m k : ℕ) (x : Node) (r : ℕ) → x ≡ node t m → r ≡ pointerIn (firstWith k (shownFrom (x .left) (x .slots) 0)) → r ≡ pointerIn (firstWith k (nodeView t m .shown))
+unfolding used
+held-read t m k x r q h = h ∙ ap (λ (y : Node). pointerIn (firstWith k (shownFrom (y .left) (y .slots) 0))) q
 
--- from node m that it stands on, which is x
-pub way-read : (t : Words) (l n k m : ℕ) (x : Node) (r : ℕ) → Stands (view t) l n k m → x ≡ node t m → r ≡ route k (x .left) (shownFrom (x .left) (x .slots) 0) → r ≡ wayBelow (view t) l n k
-unfolding wayBelow
-way-read t l n k m x r s q h = down-read t m k x r q h ∙ sym (rw (s .passed) (ap (λ (u : ℕ). down (view t) u k) (s .on)))
+pub seen-lost : (v : View) (l n k : ℕ) (r : Stood) → r ≡ nowhere → passes v l n ≡ false → r ≡ seenIn v k (standOn v l n k)
+unfolding standOn
+seen-lost v l n k r h e = h ∙ ap (λ (b : Bool). seenIn v k (cond b (some (moved v n k)) none)) (sym e)
+
+stands-on : (v : View) (l n k m : ℕ) → Stands v l n k m → standOn v l n k ≡ some m
+unfolding standOn
+stands-on v l n k m s = rw (s .passed) (ap some (s .on))
+
+-- of node m, which is x
+pub seen-read : (t : Words) (l n k m : ℕ) (x : Node) (on way held : ℕ) → Stands (view t) l n k m → x ≡ node t m → on ≡ m
+    → way ≡ route k (x .left) (shownFrom (x .left) (x .slots) 0) → held ≡ pointerIn (firstWith k (shownFrom (x .left) (x .slots) 0))
+    → stood on way held ≡ seenIn (view t) k (standOn (view t) l n k)
+seen-read t l n k m x on way held s q o w h =
+    ap (λ (u : ℕ). stood u way held) o ∙ ap (λ (u : ℕ). stood m u held) (down-read t m k x way q w) ∙ ap (stood m (down (view t) m k)) (held-read t m k x held q h)
+    ∙ sym (ap (seenIn (view t) k) (stands-on (view t) l n k m s))
 
 -- the node that the code has in hand: n itself, or its sibling after a move
-pub record Hand (t : Words) (n k : ℕ) (read x : Node) (moves : ℕ) : Type 0 where
+pub record Hand (t : Words) (n k : ℕ) (read x : Node) (on moves : ℕ) : Type 0 where
   pub most : moves ≤ 1
-  pub first : moves ≡ 0 → x ≡ read
-  pub moved : moves ≡ 1 → (x ≡ node t (read .sibling)) × Stands (view t) (read .level) n k (read .sibling)
+  pub first : moves ≡ 0 → (x ≡ read) × (on ≡ n)
+  pub moved : moves ≡ 1 → (x ≡ node t (read .sibling)) × (on ≡ read .sibling) × Stands (view t) (read .level) n k (read .sibling)
 
-pub in-hand : (t : Words) (n k : ℕ) (read : Node) → Hand t n k read read 0
-in-hand t n k read = record { most = omega arith; first = λ e. refl; moved = λ e. absurd (omega arith) }
+pub in-hand : (t : Words) (n k : ℕ) (read : Node) → Hand t n k read read n 0
+in-hand t n k read = record { most = omega arith; first = λ e. (refl, refl); moved = λ e. absurd (omega arith) }
 
 pub moved-on : (t : Words) (n k : ℕ) (read y : Node) (moves : ℕ) → moves ≤ 1 → (moves ≡ 1 → ⊥) → y ≡ node t (read .sibling) → Stands (view t) (read .level) n k (read .sibling)
-    → Hand t n k read y (suc moves)
-moved-on t n k read y moves h z e s = record { most = omega arith; first = λ q. absurd (omega arith); moved = λ q. (e, s) }
-
--- a node has 12 slots
-slots-short : (t : Words) (n : ℕ) → length (node t n .slots) ≤ 24
-slots-short t n = go (hasNode t n) refl
-  where
-    go : (b : Bool) → hasNode t n ≡ b → length (node t n .slots) ≤ 24
-    go true e = rw (node-in t n e) (unfold nodeFrom in simp length-take (omega arith))
-    go false e = rw (node-out t n e) (unfold blank in (omega arith))
-
-pub slots-end-read : (t : Words) (n : ℕ) (x : Node) → x ≡ node t n → usedFrom (x .slots) 12 ≡ []
-slots-end-read t n x q = used-past (x .slots) 12 (omega (arith, ap (λ (y : Node). length (y .slots)) q, slots-short t n))
-
-pub hand-end : (t : Words) (n k : ℕ) (read x : Node) (moves : ℕ) → read ≡ node t n → Hand t n k read x moves → usedFrom (x .slots) 12 ≡ []
-hand-end t n k read x moves q h = go moves refl
-  where
-    go : (m : ℕ) → moves ≡ m → usedFrom (x .slots) 12 ≡ []
-    go zero e = slots-end-read t n x (h .first e ∙ q)
-    go (suc m) e = slots-end-read t (read .sibling) x (h .moved (omega (arith, h .most)) .0)
+    → Hand t n k read y (read .sibling) (suc moves)
+moved-on t n k read y moves h z e s = record { most = omega arith; first = λ q. absurd (omega arith); moved = λ q. (e, refl, s) }
 
 -- ---- coming down to level 0
 
-nowhere : (v : View) (l k : ℕ) → passes v l 0 ≡ false
+no-node : (v : View) (l : ℕ) → passes v l 0 ≡ false
 unfolding passes onLevel inRange
-nowhere v l k = refl
+no-node v l = refl
 
 module _ (v : View) (l n k : ℕ) where
-  arrive-passed : passes v (suc l) n ≡ true → arrive v (suc l) n k ≡ arrive v l (down v (moved v n k) k) k
-  unfolding arrive
-  arrive-passed p = rw (p, arrive)
+  locate-failed : passes v l n ≡ false → locate v l n k ≡ none
+  unfolding locate
+  locate-failed p = go l p
+    where
+      go : (l : ℕ) → passes v l n ≡ false → locate v l n k ≡ none
+      go zero p = rw (p, locate)
+      go (suc l) p = rw (p, locate)
 
-  arrive-failed : passes v (suc l) n ≡ false → arrive v (suc l) n k ≡ 0
-  unfolding arrive
-  arrive-failed p = rw (p, arrive)
-
--- from 0 nothing is come to
-arrive-nowhere : (v : View) (l k : ℕ) → arrive v l 0 k ≡ 0
-unfolding arrive
-arrive-nowhere v zero k = refl
-arrive-nowhere v (suc l) k = arrive-failed v l 0 k (nowhere v (suc l) k)
-
--- one level down by the way
-arrive-way : (v : View) (l n k : ℕ) → arrive v (suc l) n k ≡ arrive v l (wayBelow v (suc l) n k) k
-unfolding wayBelow
-arrive-way v l n k = go (passes v (suc l) n) refl
-  where
-    go : (b : Bool) → passes v (suc l) n ≡ b → arrive v (suc l) n k ≡ arrive v l (wayBelow v (suc l) n k) k
-    go true p = arrive-passed v l n k p ∙ rw p
-    go false p = arrive-failed v l n k p ∙ sym (rw p (arrive-nowhere v l k))
-
-module _ (v : View) (low high n k : ℕ) where
-  pub within-low : v .node n .level < low → 0 ≡ arriveWithin v low high n k
-  unfolding arriveWithin
-  within-low h = rw (lt-leb low (v .node n .level) h)
-
-  pub within-high : low ≤ v .node n .level → high < v .node n .level → 0 ≡ arriveWithin v low high n k
-  unfolding arriveWithin
-  within-high h g = rw (le-leb low (v .node n .level) h, lt-leb (v .node n .level) high g)
-
-  within-in : low ≤ v .node n .level → v .node n .level ≤ high → arrive v (v .node n .level) n k ≡ arriveWithin v low high n k
-  unfolding arriveWithin
-  within-in h g = rw (le-leb low (v .node n .level) h, le-leb (v .node n .level) high g)
-
--- on one level above 0
-within-one : (v : View) (l n k : ℕ) → arriveWithin v (suc l) (suc l) n k ≡ arrive v (suc l) n k
-within-one v l n k = go (eqb (v .node n .level) (suc l)) refl
-  where
-    outside : (b : Bool) → leb (suc l) (v .node n .level) ≡ b → (v .node n .level ≡ suc l → ⊥) → 0 ≡ arriveWithin v (suc l) (suc l) n k
-    outside true e z = within-high v (suc l) (suc l) n k (leb-true _ _ e) (omega (arith, leb-true (suc l) (v .node n .level) e, z))
-    outside false e z = within-low v (suc l) (suc l) n k (leb-false _ _ e)
-
-    go : (b : Bool) → eqb (v .node n .level) (suc l) ≡ b → arriveWithin v (suc l) (suc l) n k ≡ arrive v (suc l) n k
-    go true e =
-        let q : v .node n .level ≡ suc l = eqb-true _ _ e in
-        sym (within-in v (suc l) (suc l) n k (omega arith) (omega arith)) ∙ ap (λ (d : ℕ). arrive v d n k) q
-    go false e =
-        let off : onLevel v (suc l) n ≡ false = unfold onLevel in (ap (λ (b : Bool). inRange (v .nodes) n && b) e ∙ and-false (inRange (v .nodes) n)) in
-        sym (outside (leb (suc l) (v .node n .level)) refl (eqb-false _ _ e)) ∙ sym (arrive-failed v l n k (pass-off v (suc l) n off))
-
--- ---- a turn of the loop over the levels at node n, which is x: from it on the same is come to, r
-
-module _ (t : Words) (low high n k : ℕ) (x : Node) (q : x ≡ node t n) (r : ℕ) (inv : arriveWithin (view t) low high n k ≡ r) where
-  level-is : x .level ≡ node t n .level
-  level-is = ap (λ (y : Node). y .level) q
-
-  pub turn-low : x .level < low → 0 ≡ r
-  turn-low h = within-low (view t) low high n k (omega (arith, level-is)) ∙ inv
-
-  module _ (a : low ≤ x .level) where
-    pub turn-high : high < x .level → 0 ≡ r
-    turn-high h = within-high (view t) low high n k (omega (arith, level-is)) (omega (arith, level-is)) ∙ inv
-
-    module _ (b : x .level ≤ high) where
-      arrives : arrive (view t) (x .level) n k ≡ r
-      arrives = ap (λ (l : ℕ). arrive (view t) l n k) level-is ∙ within-in (view t) low high n k (omega (arith, level-is)) (omega (arith, level-is)) ∙ inv
-
-      pub turn-leaf : x .level ≡ 0 → n ≡ r
-      unfolding arrive
-      turn-leaf z = rw z at arrives
-
-      -- the way below: none, on level 1, and further up
-      module _ (w : ℕ) (f : w ≡ wayBelow (view t) (x .level) n k) where
-        pub turn-none : (x .level ≡ 0 → ⊥) → w ≡ 0 → 0 ≡ r
-        turn-none z o =
-            let e : x .level ≡ suc (x .level - 1) = omega arith in
-            sym (arrive-nowhere (view t) (x .level - 1) k) ∙ ap (λ (u : ℕ). arrive (view t) (x .level - 1) u k) (sym o ∙ f ∙ ap (λ (l : ℕ). wayBelow (view t) l n k) e)
-            ∙ sym (arrive-way (view t) (x .level - 1) n k) ∙ ap (λ (l : ℕ). arrive (view t) l n k) (sym e) ∙ arrives
-
-        pub turn-last : x .level ≡ 1 → w ≡ r
-        unfolding arrive
-        turn-last z = f ∙ rw z (sym (arrive-way (view t) 0 n k)) ∙ (rw z at arrives)
-
-        pub turn-down : (x .level ≡ 0 → ⊥) → (x .level ≡ 1 → ⊥) → arriveWithin (view t) (x .level - 1) (x .level - 1) w k ≡ r
-        turn-down z o =
-            let e : x .level ≡ suc (suc (x .level - 2)) = omega arith in
-            let d : x .level - 1 ≡ suc (x .level - 2) = omega arith in
-            ap (λ (l : ℕ). arriveWithin (view t) l l w k) d ∙ within-one (view t) (x .level - 2) w k
-            ∙ ap (λ (u : ℕ). arrive (view t) (suc (x .level - 2)) u k) (f ∙ ap (λ (l : ℕ). wayBelow (view t) l n k) e)
-            ∙ sym (arrive-way (view t) (suc (x .level - 2)) n k) ∙ ap (λ (l : ℕ). arrive (view t) l n k) (sym e) ∙ arrives
-
--- ---- the answer from the leaf come to
-
-leaf-passed : (v : View) (n k : ℕ) → passes v 0 n ≡ true → locate v 0 n k ≡ some (moved v n k)
-unfolding locate
-leaf-passed v n k p = rw (p, locate)
-
-leaf-failed : (v : View) (n k : ℕ) → passes v 0 n ≡ false → locate v 0 n k ≡ none
-unfolding locate
-leaf-failed v n k p = rw (p, locate)
-
-pub leaf-lost : (v : View) (n k : ℕ) → passes v 0 n ≡ false → Refused 3 ≡ answerIn v k (locate v 0 n k)
-leaf-lost v n k p = ap (answerIn v k) (sym (leaf-failed v n k p))
-
-held-answer : (o : Option Slot) (x : Answer) → answerHeld (heldBy o) x ≡ answerOf o x
-held-answer none x = refl
-held-answer (some s) x = refl
-
-pub held-found : (h : Held) (p r c : ℕ) (x : Answer) → h ≡ Pointer p → r ≡ recordingOf p → c ≡ classOf p → Found r c ≡ answerHeld h x
-held-found h p r c x e a b = rw (e, a, b)
-
-pub held-none : (h : Held) (r x : Answer) → h ≡ Nothing → r ≡ x → r ≡ answerHeld h x
-held-none h r x e q = rw e q
-
--- from node m that it stands on, which is x
-pub leaf-read : (t : Words) (n k m : ℕ) (x : Node) (h : Held) (r : Answer) → Stands (view t) 0 n k m → x ≡ node t m → h ≡ heldBy (firstWith k (shownFrom (x .left) (x .slots) 0))
-    → r ≡ answerHeld h (nextFrom (view t) (nodes t) m k) → r ≡ answerIn (view t) k (locate (view t) 0 n k)
-unfolding used
-leaf-read t n k m x h r s q e a =
-    let rest = nextFrom (view t) (nodes t) m k in
-    a ∙ ap (λ (y : Held). answerHeld y rest) (e ∙ ap (λ (y : Node). heldBy (firstWith k (shownFrom (y .left) (y .slots) 0))) q)
-    ∙ held-answer (firstWith k (nodeView t m .shown)) rest
-    ∙ ap (λ (u : ℕ). answerIn (view t) k (some u)) (sym (s .on)) ∙ ap (answerIn (view t) k) (sym (leaf-passed (view t) n k (s .passed)))
-
--- ---- the whole search
-
-module _ (v : View) (l n k : ℕ) where
   locate-passed : passes v (suc l) n ≡ true → locate v (suc l) n k ≡ locate v l (down v (moved v n k) k) k
   unfolding locate
   locate-passed p = rw (p, locate)
 
-  locate-failed : passes v (suc l) n ≡ false → locate v (suc l) n k ≡ none
-  unfolding locate
-  locate-failed p = rw (p, locate)
-
-arrive-locate : (v : View) (l n k : ℕ) → locate v l n k ≡ locate v 0 (arrive v l n k) k
-unfolding arrive
-arrive-locate v zero n k = refl
-arrive-locate v (suc l) n k = go (passes v (suc l) n) refl (arrive-locate v l (down v (moved v n k) k) k)
+-- on level 0 that is the leaf
+locate-leaf : (v : View) (n k : ℕ) → standOn v 0 n k ≡ locate v 0 n k
+unfolding standOn locate
+locate-leaf v n k = go (passes v 0 n) refl
   where
-    go : (b : Bool) → passes v (suc l) n ≡ b → locate v l (down v (moved v n k) k) k ≡ locate v 0 (arrive v l (down v (moved v n k) k) k) k
-        → locate v (suc l) n k ≡ locate v 0 (arrive v (suc l) n k) k
-    go true p ih = locate-passed v l n k p ∙ ih ∙ ap (λ (x : ℕ). locate v 0 x k) (sym (arrive-passed v l n k p))
-    go false p ih = locate-failed v l n k p ∙ sym (ap (λ (x : ℕ). locate v 0 x k) (arrive-failed v l n k p) ∙ leaf-failed v 0 k (nowhere v 0 k))
+    go : (b : Bool) → passes v 0 n ≡ b → cond b (some (moved v n k)) none ≡ locate v 0 n k
+    go true p = sym (rw (p, locate))
+    go false p = sym (rw (p, locate))
+
+-- above it, one level down by the way seen
+locate-way : (v : View) (l n k : ℕ) → locate v l (seenIn v k (standOn v (suc l) n k) .way) k ≡ locate v (suc l) n k
+unfolding standOn
+locate-way v l n k = go (passes v (suc l) n) refl
+  where
+    go : (b : Bool) → passes v (suc l) n ≡ b → locate v l (seenIn v k (cond b (some (moved v n k)) none) .way) k ≡ locate v (suc l) n k
+    go true p = sym (locate-passed v l n k p)
+    go false p = locate-failed v l 0 k (no-node v l) ∙ sym (locate-failed v (suc l) n k p)
+
+module _ (v : View) (low high n k : ℕ) where
+  within-low : v .node n .level < low → none ≡ locateWithin v low high n k
+  unfolding locateWithin
+  within-low h = rw (lt-leb low (v .node n .level) h)
+
+  within-high : low ≤ v .node n .level → high < v .node n .level → none ≡ locateWithin v low high n k
+  unfolding locateWithin
+  within-high h g = rw (le-leb low (v .node n .level) h, lt-leb (v .node n .level) high g)
+
+  within-in : low ≤ v .node n .level → v .node n .level ≤ high → locate v (v .node n .level) n k ≡ locateWithin v low high n k
+  unfolding locateWithin
+  within-in h g = rw (le-leb low (v .node n .level) h, le-leb (v .node n .level) high g)
+
+  within-lost : ((l : ℕ) → passes v l n ≡ false) → none ≡ locateWithin v low high n k
+  unfolding locateWithin
+  within-lost f = go (leb low (v .node n .level) && leb (v .node n .level) high)
+    where
+      go : (b : Bool) → none ≡ cond b (locate v (v .node n .level) n k) none
+      go true = sym (locate-failed v (v .node n .level) n k (f (v .node n .level)))
+      go false = refl
+
+-- on one level
+within-one : (v : View) (l n k : ℕ) → locateWithin v l l n k ≡ locate v l n k
+within-one v l n k = go (eqb (v .node n .level) l) refl
+  where
+    outside : (b : Bool) → leb l (v .node n .level) ≡ b → (v .node n .level ≡ l → ⊥) → none ≡ locateWithin v l l n k
+    outside true e z = within-high v l l n k (leb-true _ _ e) (omega (arith, leb-true l (v .node n .level) e, z))
+    outside false e z = within-low v l l n k (leb-false _ _ e)
+
+    go : (b : Bool) → eqb (v .node n .level) l ≡ b → locateWithin v l l n k ≡ locate v l n k
+    go true e =
+        let q : v .node n .level ≡ l = eqb-true _ _ e in
+        sym (within-in v l l n k (omega arith) (omega arith)) ∙ ap (λ (d : ℕ). locate v d n k) q
+    go false e =
+        let off : onLevel v l n ≡ false = unfold onLevel in (ap (λ (b : Bool). inRange (v .nodes) n && b) e ∙ and-false (inRange (v .nodes) n)) in
+        sym (outside (leb l (v .node n .level)) refl (eqb-false _ _ e)) ∙ sym (locate-failed v l n k (pass-off v l n off))
+
+-- ---- a turn of the loop over the levels at node n: from it on the same leaf is come to, r
+
+module _ (t : Words) (low high n k : ℕ) (r : Option ℕ) (inv : locateWithin (view t) low high n k ≡ r) where
+  -- n is no node of the table
+  pub turn-out : headerOk t ≡ true → hasNode t n ≡ false → none ≡ r
+  turn-out h e = within-lost (view t) low high n k (λ l. pass-off (view t) l n (level-out t l n h e)) ∙ inv
+
+  module _ (x : Node) (q : x ≡ node t n) where
+    level-is : x .level ≡ node t n .level
+    level-is = ap (λ (y : Node). y .level) q
+
+    pub turn-low : x .level < low → none ≡ r
+    turn-low h = within-low (view t) low high n k (omega (arith, level-is)) ∙ inv
+
+    module _ (a : low ≤ x .level) where
+      pub turn-high : high < x .level → none ≡ r
+      turn-high h = within-high (view t) low high n k (omega (arith, level-is)) (omega (arith, level-is)) ∙ inv
+
+      module _ (b : x .level ≤ high) where
+        locates : locate (view t) (x .level) n k ≡ r
+        locates = ap (λ (l : ℕ). locate (view t) l n k) level-is ∙ within-in (view t) low high n k (omega (arith, level-is)) (omega (arith, level-is)) ∙ inv
+
+        -- what is seen of the node stood on
+        module _ (s : Stood) (f : s ≡ seenIn (view t) k (standOn (view t) (x .level) n k)) where
+          pub turn-leaf : x .level ≡ 0 → s ≡ seenIn (view t) k r
+          turn-leaf z = f ∙ ap (λ (l : ℕ). seenIn (view t) k (standOn (view t) l n k)) z ∙ ap (seenIn (view t) k) (locate-leaf (view t) n k ∙ (rw z at locates))
+
+          pub turn-down : (x .level ≡ 0 → ⊥) → locateWithin (view t) (x .level - 1) (x .level - 1) (s .way) k ≡ r
+          turn-down z =
+              let e : x .level ≡ suc (x .level - 1) = omega arith in
+              within-one (view t) (x .level - 1) (s .way) k
+              ∙ ap (λ (y : Stood). locate (view t) (x .level - 1) (y .way) k) (f ∙ ap (λ (l : ℕ). seenIn (view t) k (standOn (view t) l n k)) e)
+              ∙ locate-way (view t) (x .level - 1) n k ∙ ap (λ (l : ℕ). locate (view t) l n k) (sym e) ∙ locates
+
+-- ---- the answer from the leaf come to
+
+-- after a move too the node is on its level
+on-moved : (v : View) (l n k : ℕ) → passes v l n ≡ true → onLevel v l (moved v n k) ≡ true
+unfolding passes moved below
+on-moved v l n k p = go (onLevel v l n) (eqb s 0) (onLevel v l s) (ltb k (v .node s .fence)) refl refl p
+  where
+    s : ℕ
+    s = v .node n .sibling
+
+    go : (a b c d : Bool) → onLevel v l n ≡ a → onLevel v l s ≡ c → (a && (b || c)) ≡ true → onLevel v l (elim (b || d) as (λ e. ℕ) [ true ↦ n | false ↦ s ]) ≡ true
+    go true true c d e f p = e
+    go true false true true e f p = e
+    go true false true false e f p = f
+    go true false false d e f p = absurd (false≢true p)
+    go false b c d e f p = absurd (false≢true p)
+
+-- 0 is on no level
+some-node : (v : View) (m : ℕ) → onLevel v 0 m ≡ true → m ≡ 0 → ⊥
+unfolding onLevel inRange
+some-node v m p z = false≢true (subst (λ (x : ℕ). onLevel v 0 x ≡ true) z p)
+
+-- the leaf come to is on level 0
+leaf-on : (v : View) (n k m : ℕ) → locate v 0 n k ≡ some m → onLevel v 0 m ≡ true
+unfolding locate
+leaf-on v n k m e = go (passes v 0 n) refl e
+  where
+    go : (b : Bool) → passes v 0 n ≡ b → elim b as (λ c. Option ℕ) [ true ↦ some (moved v n k) | false ↦ none ] ≡ some m → onLevel v 0 m ≡ true
+    go true p e = subst (λ (x : ℕ). onLevel v 0 x ≡ true) (Option·some-injective _ _ e) (on-moved v 0 n k p)
+    go false p e = absurd (Option·none-ne-some m e)
+
+located-on : (v : View) (l n k m : ℕ) → locate v l n k ≡ some m → onLevel v 0 m ≡ true
+located-on v zero n k m e = leaf-on v n k m e
+located-on v (suc l) n k m e = located-on v l (seenIn v k (standOn v (suc l) n k) .way) k m (locate-way v l n k ∙ e)
+
+within-on : (v : View) (low high n k m : ℕ) → locateWithin v low high n k ≡ some m → onLevel v 0 m ≡ true
+unfolding locateWithin
+within-on v low high n k m e = go (leb low (v .node n .level) && leb (v .node n .level) high) e
+  where
+    go : (b : Bool) → cond b (locate v (v .node n .level) n k) none ≡ some m → onLevel v 0 m ≡ true
+    go true e = located-on v (v .node n .level) n k m e
+    go false e = absurd (Option·none-ne-some m e)
+
+-- no slot in use has pointer 0
+held-answer : (k : ℕ) (ss : List Slot) (x : Answer) → Each (λ (s : Slot). s .pointer ≢ 0) ss → answerHeld (pointerIn (firstWith k ss)) x ≡ answerOf (firstWith k ss) x
+unfolding firstWith
+held-answer k [] x h = refl
+held-answer k (s ∷ ss) x h = go (eqb (s .key) k) refl (held-answer k ss x (h .1))
+  where
+    go : (b : Bool) → eqb (s .key) k ≡ b → answerHeld (pointerIn (firstWith k ss)) x ≡ answerOf (firstWith k ss) x
+        → answerHeld (pointerIn (firstWith k (s ∷ ss))) x ≡ answerOf (firstWith k (s ∷ ss)) x
+    go true e ih = rw (e, firstWith) (rw (ne-eqb (s .pointer) 0 (h .0)))
+    go false e ih = rw (e, firstWith) ih
+
+shown-some : (t : Words) (m : ℕ) → Each (λ (s : Slot). s .pointer ≢ 0) (nodeView t m .shown)
+unfolding used
+shown-some t m = each-shown _ _ _ (in-use-some _)
+
+pub held-found : (p r c : ℕ) (x : Answer) → (p ≡ 0 → ⊥) → r ≡ recordingOf p → c ≡ classOf p → Found r c ≡ answerHeld p x
+held-found p r c x z a b = rw (ne-eqb p 0 z, a, b)
+
+pub held-none : (p : ℕ) (r x : Answer) → p ≡ 0 → r ≡ x → r ≡ answerHeld p x
+held-none p r x e q = rw (eq-eqb p 0 e) q
+
+-- ---- the whole search
 
 pub bad-header : (t : Words) (k r : ℕ) → r ≡ rootIn t → r ≡ 0 → Refused 2 ≡ search t k
 unfolding search
 bad-header t k r e z = rw (root-none t r e z, search)
 
-from-root : (v : View) (k : ℕ) → answerIn v k (locate v 0 (arriveWithin v 0 15 (v .root) k) k) ≡ searchView v k
+from-root : (v : View) (k : ℕ) → answerIn v k (locateWithin v 0 15 (v .root) k) ≡ searchView v k
 unfolding searchView
 from-root v k = go (leb (height v) 15) refl
   where
-    go : (b : Bool) → leb (height v) 15 ≡ b → answerIn v k (locate v 0 (arriveWithin v 0 15 (v .root) k) k) ≡ searchView v k
-    go true e =
-        ap (λ (n : ℕ). answerIn v k (locate v 0 n k)) (sym (within-in v 0 15 (v .root) k (omega arith) (leb-true _ _ e)))
-        ∙ ap (answerIn v k) (sym (arrive-locate v (height v) (v .root) k)) ∙ sym (rw (e, searchView))
-    go false e =
-        ap (λ (n : ℕ). answerIn v k (locate v 0 n k)) (sym (within-high v 0 15 (v .root) k (omega arith) (leb-false _ _ e)))
-        ∙ ap (answerIn v k) (leaf-failed v 0 k (nowhere v 0 k)) ∙ sym (rw (e, searchView))
+    go : (b : Bool) → leb (height v) 15 ≡ b → answerIn v k (locateWithin v 0 15 (v .root) k) ≡ searchView v k
+    go true e = ap (answerIn v k) (sym (within-in v 0 15 (v .root) k (omega arith) (leb-true _ _ e))) ∙ sym (rw (e, searchView))
+    go false e = ap (answerIn v k) (sym (within-high v 0 15 (v .root) k (omega arith) (leb-false _ _ e))) ∙ sym (rw (e, searchView))
 
-pub answered : (t : Words) (k r n : ℕ) (a : Answer) → r ≡ rootIn t → (r ≡ 0 → ⊥) → n ≡ arriveWithin (view t) 0 15 r k → a ≡ answerIn (view t) k (locate (view t) 0 n k) → a ≡ search t k
-unfolding search
-answered t k r n a e z f g =
-    let u = root-some t r e z in
-    g ∙ ap (λ (m : ℕ). answerIn (view t) k (locate (view t) 0 m k)) (f ∙ ap (λ (m : ℕ). arriveWithin (view t) 0 15 m k) (u .1)) ∙ from-root (view t) k ∙ sym (rw (u .0, search))
+-- what was seen of the leaf come to from root r
+module _ (t : Words) (k r : ℕ) (e : r ≡ rootIn t) (z : r ≡ 0 → ⊥) (s : Stood) (f : s ≡ seenIn (view t) k (locateWithin (view t) 0 15 r k)) where
+  by-root : answerIn (view t) k (locateWithin (view t) 0 15 r k) ≡ search t k
+  unfolding search
+  by-root =
+      let u = root-some t r e z in
+      ap (λ (m : ℕ). answerIn (view t) k (locateWithin (view t) 0 15 m k)) (u .1) ∙ from-root (view t) k ∙ sym (rw (u .0, search))
+
+  -- none, or the one stood on
+  come : (s .node ≡ 0 → locateWithin (view t) 0 15 r k ≡ none) × ((s .node ≡ 0 → ⊥) → locateWithin (view t) 0 15 r k ≡ some (s .node))
+  come = go (locateWithin (view t) 0 15 r k) refl f
+    where
+      go : (o : Option ℕ) → locateWithin (view t) 0 15 r k ≡ o → s ≡ seenIn (view t) k o → (s .node ≡ 0 → o ≡ none) × ((s .node ≡ 0 → ⊥) → o ≡ some (s .node))
+      go none q g = (λ a. refl, λ a. absurd (a (ap (λ (y : Stood). y .node) g)))
+      go (some m) q g =
+          let n : s .node ≡ m = ap (λ (y : Stood). y .node) g in
+          (λ a. absurd (some-node (view t) m (within-on (view t) 0 15 r k m q) (sym n ∙ a)), λ a. ap some (sym n))
+
+  pub answered-lost : s .node ≡ 0 → Refused 3 ≡ search t k
+  answered-lost a = ap (answerIn (view t) k) (sym (come .0 a)) ∙ by-root
+
+  module _ (a : s .node ≡ 0 → ⊥) where
+    pub stood-on : onLevel (view t) 0 (s .node) ≡ true
+    stood-on = within-on (view t) 0 15 r k (s .node) (come .1 a)
+
+    pub answered : (x : Answer) → x ≡ answerHeld (s .held) (nextFrom (view t) (nodes t) (s .node) k) → x ≡ search t k
+    answered x g =
+        let o = firstWith k (nodeView t (s .node) .shown) in
+        let h : s .held ≡ pointerIn o = ap (λ (y : Stood). y .held) (f ∙ ap (seenIn (view t) k) (come .1 a)) in
+        let rest = nextFrom (view t) (nodes t) (s .node) k in
+        g ∙ ap (λ (p : ℕ). answerHeld p rest) h ∙ held-answer k (nodeView t (s .node) .shown) rest (shown-some t (s .node)) ∙ ap (answerIn (view t) k) (sym (come .1 a)) ∙ by-root

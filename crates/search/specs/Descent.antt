@@ -1,28 +1,34 @@
--- Where a search comes to on each level, as one number: 0 where a test fails; and its answer from the slot of the key.
-use mathlib.Core.Bool.{true, false, cond, _&&_}
-use Prim.Native.Nat.{ℕ, zero, suc}
-use lib.Dec.{leb}
+-- What a search sees of the node that it stands on, where it stands on each level, and its answer from the pointer of the key's slot.
+use mathlib.Core.Bool.{Bool, cond, _&&_}
+use mathlib.Core.Option.{Option, none, some}
+use Prim.Native.Nat.{ℕ}
+use lib.Dec.{leb, eqb}
 use Rattle.model.specs.declared.Answer.{Answer}
 use Rattle.model.specs.declared.Answer.the-variants.{Found}
 use Rattle.model.specs.Slots.{View, recordingOf, classOf}
-use Rattle.model.specs.Search.{passes, moved, down}
-use Rattle.slots.specs.declared.Held.{Held}
-use Rattle.slots.specs.declared.Held.the-variants.{Pointer, Nothing}
+use Rattle.model.specs.Search.{passes, moved, down, locate, firstWith}
+use Rattle.slots.specs.Held.{pointerIn}
+use Rattle.search.specs.declared.Stood.{Stood}
 
--- the way down for k, coming to n on level l; 0 where a test fails
-unfoldable pub wayBelow : View → (l n k : ℕ) → ℕ
-wayBelow v l n k = cond (passes v l n) (down v (moved v n k) k) 0
+abbrev pub stood : (n way held : ℕ) → Stood
+stood n way held = record { node = n; way = way; held = held }
 
--- the node come to on level 0, coming to n on level l; 0 where a test fails on the way
-unfoldable pub arrive : View → (l n k : ℕ) → ℕ
-arrive v zero n k = n
-arrive v (suc l) n k = elim (passes v (suc l) n) [ true ↦ arrive v l (down v (moved v n k) k) k | false ↦ 0 ]
+abbrev pub nowhere : Stood
+nowhere = stood 0 0 0
 
--- the same, coming to n on its own level, which must be from low to high
-unfoldable pub arriveWithin : View → (low high n k : ℕ) → ℕ
-arriveWithin v low high n k = let l = v .node n .level in cond (leb low l && leb l high) (arrive v l n k) 0
+-- of node m, where a search for k stands on it; 0 where a test failed
+abbrev pub seenIn : View → (k : ℕ) → Option ℕ → Stood
+seenIn v k none = nowhere
+seenIn v k (some m) = stood m (down v m k) (pointerIn (firstWith k (v .node m .shown)))
 
--- from the slot of the key; the answer where there is none is given
-abbrev pub answerHeld : Held → (absent : Answer) → Answer
-answerHeld (Pointer p) absent = Found (recordingOf p) (classOf p)
-answerHeld Nothing absent = absent
+-- the node that a search for k stands on, coming to n on level l; none where a test fails
+unfoldable pub standOn : View → (l n k : ℕ) → Option ℕ
+standOn v l n k = cond (passes v l n) (some (moved v n k)) none
+
+-- the leaf for k, coming to n on its own level, which must be from low to high
+unfoldable pub locateWithin : View → (low high n k : ℕ) → Option ℕ
+locateWithin v low high n k = let l = v .node n .level in cond (leb low l && leb l high) (locate v l n k) none
+
+-- from the pointer of the key's slot, 0 for none; the answer where there is none is given
+abbrev pub answerHeld : ℕ → (absent : Answer) → Answer
+answerHeld p absent = cond (eqb p 0) absent (Found (recordingOf p) (classOf p))

@@ -2,13 +2,12 @@
 use model::Answer;
 use model::Next;
 use model::Node;
-use slots::Held;
 ghost use mathlib.Core.Path.{_≡_};
 ghost use mathlib.Core.Bool.{true};
 ghost use Rattle.model.specs.Table.{headerOk, node, nodes};
 ghost use Rattle.model.specs.Slots.{view};
-ghost use Rattle.model.specs.Search.{onLevel, down, locate, nextFrom, answerIn, search};
-ghost use Rattle.search.specs.Descent.{wayBelow, arriveWithin, answerHeld};
+ghost use Rattle.model.specs.Search.{onLevel, down, nextFrom, search};
+ghost use Rattle.search.specs.Descent.{nowhere, seenIn, standOn, locateWithin, answerHeld};
 
 // The child that a search goes down to from node m.
 pub fn down(table: &[u64], m: u64, key: u64) -> u64
@@ -21,71 +20,93 @@ pub fn down(table: &[u64], m: u64, key: u64) -> u64
     slots::route(slots, left, key, end)
 }
 
-// The way down for a key from node n, which is read: from n or, after a move, from its sibling; 0 where a test fails. Each is looked at
-// once, and decides by that look alone.
-fn way_below(table: &[u64], n: u64, read: Node, key: u64) -> u64
+// What a search sees of the node that it stands on: its number, the way down, and the pointer of the key's slot, 0 for none.
+struct Stood {
+    node: u64,
+    way: u64,
+    held: u64,
+}
+
+// Where a test fails.
+fn lost() -> Stood
+    ensures { λ r. ⌜ r ≡ nowhere ⌝ }
+{
+    Stood {
+        node: 0,
+        way: 0,
+        held: 0,
+    }
+}
+
+// Coming to node n, which is read: what is seen of n or, after a move, of its sibling. Each is looked at once, and decides by that look alone.
+fn stand(table: &[u64], n: u64, read: Node, key: u64) -> Stood
     requires { ⌜ headerOk (now table) ≡ true ⌝ }
     requires { ⌜ onLevel (view (now table)) (read .level) n ≡ true ⌝ }
     requires { ⌜ read ≡ node (now table) n ⌝ }
-    ensures { λ r. ⌜ r ≡ wayBelow (view (now (table .entry))) (read .level) n key ⌝ }
+    ensures { λ r. ⌜ r ≡ seenIn (view (now (table .entry))) key (standOn (view (now (table .entry))) (read .level) n key) ⌝ }
 {
-    let mut stood = read;
+    let mut x = read;
+    let mut on = n;
     let mut moves = 0u64;
     while moves < 2 {
-        // A search mostly stands on n: its way down is looked up first, so that it does not wait for the sibling's fence.
-        let slots = stood.slots;
-        let way = slots::route(slots, stood.left, key, 12);
+        // A search mostly stands on n: its slots are scanned first, so that it does not wait for the sibling's fence.
+        let slots = x.slots;
+        let seen = slots::scan(slots, x.left, key);
+        let here = Stood {
+            node: on,
+            way: seen.way,
+            held: seen.held,
+        };
         if moves == 1 {
-            return way;
+            return here;
         }
         let sibling = read.sibling;
         if sibling == 0 {
-            return way;
+            return here;
         }
         if !node::has(table, sibling) {
-            return 0;
+            return lost();
         }
         let y = node::read(table, sibling);
         if y.level != read.level {
-            return 0;
+            return lost();
         }
         if key < y.fence {
-            return way;
+            return here;
         }
-        stood = y;
+        x = y;
+        on = sibling;
         moves += 1;
     }
-    0
+    lost()
 }
 
-// The node that a search comes to on level 0, from the root down, a level a turn; 0 where a test fails on the way. The root may be on any
-// level from 0 to 15, each node after it only on the one below. A root that is a leaf is only found to be one: the leaf's look is the next.
-fn descend(table: &[u64], root: u64, key: u64) -> u64
+// What a search sees of its leaf, from the root down, a level a turn. The root may be on any level from 0 to 15, each node after it only on
+// the one below.
+fn descend(table: &[u64], root: u64, key: u64) -> Stood
     requires { ⌜ headerOk (now table) ≡ true ⌝ }
-    ensures { λ r. ⌜ r ≡ arriveWithin (view (now (table .entry))) 0 15 root key ⌝ }
+    ensures { λ r. ⌜ r ≡ seenIn (view (now (table .entry))) key (locateWithin (view (now (table .entry))) 0 15 root key) ⌝ }
 {
     let mut n = root;
     let mut low = 0;
     let mut high = 15;
     loop {
+        if !node::has(table, n) {
+            return lost();
+        }
         let x = node::read(table, n);
         let level = x.level;
         if level < low {
-            return 0;
+            return lost();
         }
         if high < level {
-            return 0;
+            return lost();
         }
+        let s = stand(table, n, x, key);
         if level == 0 {
-            return n;
+            return s;
         }
-        n = way_below(table, n, x, key);
-        if n == 0 {
-            return 0;
-        }
-        if level == 1 {
-            return n;
-        }
+        n = s.way;
         low = level - 1;
         high = level - 1;
     }
@@ -128,56 +149,20 @@ fn next_from(table: &[u64], leaf: u64, read: Node, key: u64) -> Answer
     Answer::Refused(3)
 }
 
-// The answer from leaf m, with the slot of the key in it. Only where there is none is the next key looked for, by looks of its own.
-fn answer(table: &[u64], m: u64, held: Held, key: u64) -> Answer
+// The answer from leaf m, with the pointer of the key's slot in it. Only where there is none is the next key looked for, by looks of its own.
+fn answer(table: &[u64], m: u64, held: u64, key: u64) -> Answer
     requires { ⌜ headerOk (now table) ≡ true ⌝ }
     requires { ⌜ onLevel (view (now table)) 0 m ≡ true ⌝ }
     ensures { λ r. ⌜ r ≡ answerHeld held (nextFrom (view (now (table .entry))) (nodes (now (table .entry))) m key) ⌝ }
 {
-    match held {
-        Held::Pointer(p) => Answer::Found {
-            recording: pointer::recording(p),
-            access: pointer::class(p),
-        },
-        Held::Nothing => {
-            let x = node::read(table, m);
-            next_from(table, m, x, key)
-        }
+    if held != 0 {
+        return Answer::Found {
+            recording: pointer::recording(held),
+            access: pointer::class(held),
+        };
     }
-}
-
-// What a search answers that comes to node n on level 0: from n or, after a move, from its sibling.
-fn answer_at(table: &[u64], n: u64, key: u64) -> Answer
-    requires { ⌜ headerOk (now table) ≡ true ⌝ }
-    ensures { λ r. ⌜ r ≡ answerIn (view (now (table .entry))) key (locate (view (now (table .entry))) 0 n key) ⌝ }
-{
-    if !node::has(table, n) {
-        return Answer::Refused(3);
-    }
-    let x = node::read(table, n);
-    if x.level != 0 {
-        return Answer::Refused(3);
-    }
-    // As on the way down: the leaf is mostly the one come to.
-    let slots = x.slots;
-    let held = slots::find(slots, x.left, key);
-    let sibling = x.sibling;
-    if sibling == 0 {
-        return answer(table, n, held, key);
-    }
-    if !node::has(table, sibling) {
-        return Answer::Refused(3);
-    }
-    let y = node::read(table, sibling);
-    if y.level != 0 {
-        return Answer::Refused(3);
-    }
-    if key < y.fence {
-        return answer(table, n, held, key);
-    }
-    let others = y.slots;
-    let other = slots::find(others, y.left, key);
-    answer(table, sibling, other, key)
+    let x = node::read(table, m);
+    next_from(table, m, x, key)
 }
 
 // The recording and the class of a key, or that it is absent, with the next key up; 2 and 3 as document 01 and request 1 lay down.
@@ -188,6 +173,9 @@ pub fn search(table: &[u64], key: u64) -> Answer
     if root == 0 {
         return Answer::Refused(2);
     }
-    let leaf = descend(table, root, key);
-    answer_at(table, leaf, key)
+    let s = descend(table, root, key);
+    if s.node == 0 {
+        return Answer::Refused(3);
+    }
+    answer(table, s.node, s.held, key)
 }

@@ -22,8 +22,8 @@ use Rattle.list_laws.proofs.Filters.{filter-all}
 use Rattle.slots.specs.declared.Ways.{Ways}
 use Rattle.slots.specs.declared.Held.the-variants as held
 use Rattle.slots.specs.declared.Held.the-variants.{Pointer}
-use Rattle.slots.specs.Held.{heldBy}
-use Rattle.slots.specs.Scan.{keeps, isKept, keptOf, isWay, wayAfter, countAfter}
+use Rattle.slots.specs.Held.{pointerIn, heldBy}
+use Rattle.slots.specs.Scan.{keeps, isKept, keptOf, isWay, wayAfter, heldAfter, countAfter}
 use Rattle.slots.specs.Gathered.{span, waysFrom}
 use Rattle.slots.proofs.Scans.{shown-hide, shown-show, picked}
 
@@ -61,6 +61,46 @@ module _ (key before k p : ℕ) (ss : List Slot) where
 
   pub found-hidden : p ≡ before → heldBy (firstWith key (shown before (slot k p ∷ ss))) ≡ heldBy (firstWith key (shown p ss))
   found-hidden d = ap (λ (x : List Slot). heldBy (firstWith key x)) (shown-hide before (slot k p) ss d)
+
+-- the slot of a key, where the pointer of the first one before is known, 0 for none
+pub pointer-none : (key held before : ℕ) → cond (eqb held 0) (pointerIn (firstWith key (shown before []))) held ≡ held
+unfolding firstWith shown
+pointer-none key held before = go (eqb held 0) refl
+  where
+    go : (b : Bool) → eqb held 0 ≡ b → cond b 0 held ≡ held
+    go true e = sym (eqb-true held 0 e)
+    go false e = refl
+
+module _ (key held before k p : ℕ) (ss : List Slot) where
+  -- with those after this one, and with this one too
+  abbrev later : ℕ
+  later = pointerIn (firstWith key (shown p ss))
+
+  abbrev all : ℕ
+  all = pointerIn (firstWith key (shown before (slot k p ∷ ss)))
+
+  passed-hidden : p ≡ before → all ≡ later
+  passed-hidden d = ap (λ (x : List Slot). pointerIn (firstWith key x)) (shown-hide before (slot k p) ss d)
+
+  passed-other : (p ≡ before → ⊥) → (k ≡ key → ⊥) → all ≡ later
+  passed-other d q = ap (λ (x : List Slot). pointerIn (firstWith key x)) (shown-show before (slot k p) ss d) ∙ ap pointerIn (first-past key (slot k p) (shown p ss) q)
+
+  passed-here : (p ≡ before → ⊥) → k ≡ key → all ≡ p
+  passed-here d q = ap (λ (x : List Slot). pointerIn (firstWith key x)) (shown-show before (slot k p) ss d) ∙ ap pointerIn (first-here key (slot k p) (shown p ss) q)
+
+  pub pointer-more : (h : ℕ) → (p ≡ 0 → ⊥) → h ≡ heldAfter held before k p key → cond (eqb held 0) all held ≡ cond (eqb h 0) later h
+  pointer-more h z e = go (eqb k key) (eqb p before) (eqb held 0) refl refl refl e
+    where
+      same : all ≡ later → cond (eqb held 0) all held ≡ cond (eqb held 0) later held
+      same q = ap (λ (x : ℕ). cond (eqb held 0) x held) q
+
+      go : (a b c : Bool) → eqb k key ≡ a → eqb p before ≡ b → eqb held 0 ≡ c → h ≡ cond a (cond b held (cond c p held)) held
+          → cond (eqb held 0) all held ≡ cond (eqb h 0) later h
+      go true true c i j l e = rw e (same (passed-hidden (eqb-true p before j)))
+      go true false true i j l e = rw (e, l, ne-eqb p 0 z) (passed-here (eqb-false p before j) (eqb-true k key i))
+      go true false false i j l e = rw (e, l)
+      go false true c i j l e = rw e (same (passed-hidden (eqb-true p before j)))
+      go false false c i j l e = rw e (same (passed-other (eqb-false p before j) (eqb-false k key i)))
 
 -- ---- kept slots
 

@@ -8,8 +8,8 @@ ghost use lib.ListN.{length, take};
 ghost use Rattle.model.specs.Slots.{slot};
 ghost use Rattle.model.specs.Search.{route, firstWith, firstAbove};
 ghost use Rattle.model.specs.Shifts.{lastPointer, placeOf, hiddenPlace};
-ghost use Rattle.slots.specs.Scan.{usedFrom, inUseOf, shownFrom, keeps, keptOf, isWay, wayAfter, countAfter};
-ghost use Rattle.slots.specs.Held.{heldBy};
+ghost use Rattle.slots.specs.Scan.{usedFrom, inUseOf, shownFrom, keeps, keptOf, isWay, wayAfter, heldAfter, countAfter};
+ghost use Rattle.slots.specs.Held.{pointerIn, heldBy};
 ghost use Rattle.slots.specs.Surveyed.{reaches, stillFair, surveyedSlot, surveyed, begun};
 ghost use Rattle.slots.specs.Gathered.{slotsIn};
 
@@ -127,6 +127,57 @@ pub fn route(slots: [u64; 24], left: u64, key: u64, end: usize) -> u64
         i += 1;
     }
     way
+}
+
+// The pointer of the first shown slot with the key, after a slot in use; 0 where there is none.
+fn held_after(held: u64, before: u64, k: u64, p: u64, key: u64) -> u64
+    ensures { λ r. ⌜ r ≡ heldAfter held before k p key ⌝ }
+{
+    if k != key {
+        return held;
+    }
+    if p == before {
+        return held;
+    }
+    if held == 0 {
+        return p;
+    }
+    held
+}
+
+// What a search is told by one look at a node's slots: its way down, and the pointer of the first shown slot with the key, 0 for none.
+pub struct Seen {
+    pub way: u64,
+    pub held: u64,
+}
+
+// All 12 slots, for an inner node and for a leaf.
+pub fn scan(slots: [u64; 24], left: u64, key: u64) -> Seen
+    ensures { λ r. ⌜ r .way ≡ route key left (shownFrom left slots 0) ⌝ }
+    ensures { λ r. ⌜ r .held ≡ pointerIn (firstWith key (shownFrom left slots 0)) ⌝ }
+{
+    let mut way = left;
+    let mut held = 0;
+    let mut before = left;
+    let mut i = 0;
+    while i < 12 {
+        let p = slots[2 * i + 1];
+        if p == 0 {
+            return Seen {
+                way: way,
+                held: held,
+            };
+        }
+        let k = slots[2 * i];
+        way = way_after(way, before, k, p, key);
+        held = held_after(held, before, k, p, key);
+        before = p;
+        i += 1;
+    }
+    Seen {
+        way: way,
+        held: held,
+    }
 }
 
 // The slot that holds a key: its pointer, or that there is none.

@@ -1,14 +1,15 @@
--- `search::descend` meets its contract. The loop keeps that from node n on the same is come to as from the root.
-use mathlib.Core.Path.{_≡_, refl}
+-- `search::descend` meets its contract. The loop keeps that from node n on the same leaf is come to as from the root.
+use mathlib.Core.Path.{_≡_, refl, ap, sym, _∙_}
 use Rattle.model.specs.Slots.{view}
-use Rattle.search.specs.Descent.{arriveWithin}
-use Rattle.search.proofs.Standing.{level-some, turn-low, turn-high, turn-leaf, turn-none, turn-last, turn-down}
+use Rattle.search.specs.Descent.{seenIn, locateWithin}
+use Rattle.search.proofs.Standing.{level-in, turn-out, turn-low, turn-high, turn-leaf, turn-down}
+use borrow.Author.Tests.{not-true, not-false, eq-eqb}
 use borrow.Author.Needs.{needs}
 use Rattle.search.proofs.descend.Statement.{statement}
 use Rattle.search.proofs.descend.Tie as tie
 
 abbrev Inv-loop : tie.InvT-loop
-Inv-loop table root key n₀ low₀ high₀ n low high = arriveWithin (view table) low high n key ≡ arriveWithin (view table) 0 15 root key
+Inv-loop table root key n₀ low₀ high₀ n low high = locateWithin (view table) low high n key ≡ locateWithin (view table) 0 15 root key
 
 abbrev μ-loop : tie.MeasureT-loop
 μ-loop table root key n₀ low₀ high₀ n low high = high
@@ -16,46 +17,58 @@ abbrev μ-loop : tie.MeasureT-loop
 loop-holds : tie.Need-loop-holds Inv-loop μ-loop
 loop-holds c = refl
 
+has-requires : tie.Need-has-requires Inv-loop μ-loop
+has-requires c κs = search needs
+
+lost-requires : tie.Need-lost-requires Inv-loop μ-loop
+lost-requires c κs = search needs
+
+returns : tie.Need-returns Inv-loop μ-loop
+returns c =
+    let h = c .before .before in
+    let l = h .before in
+    let a = l .before .before .args in
+    c .lost .ensures ∙ ap (seenIn (view (a .table .now)) (a .key)) (turn-out (a .table .now) (l .loop .low) (l .loop .high) _ _ _ (l .loop .inv) (l .before .before .pre) (sym (h .has .ensures) ∙ not-true _ (c .before .if1 .taken)))
+
 read-requires : tie.Need-read-requires Inv-loop μ-loop
 read-requires c κs = search needs
 
-returns : tie.Need-returns Inv-loop μ-loop
-returns c = let d = c .before in let l = d .before .loop in turn-low _ _ (l .high) _ _ _ (d .read .ensures) _ (l .inv) (c .if1 .taken)
+lost-requires-2 : tie.Need-lost-requires-2 Inv-loop μ-loop
+lost-requires-2 c κs = search needs
 
 returns-2 : tie.Need-returns-2 Inv-loop μ-loop
 returns-2 c =
-    let e = c .before in
-    let d = e .before in
-    turn-high _ _ _ _ _ _ (d .read .ensures) _ (d .before .loop .inv) (e .if1 .left) (c .if2 .taken)
+    let d = c .before .before in
+    let l = d .before .before .before in
+    let a = l .before .before .args in
+    c .lost2 .ensures ∙ ap (seenIn (view (a .table .now)) (a .key)) (turn-low (a .table .now) _ (l .loop .high) _ _ _ (l .loop .inv) _ (d .read .ensures) (c .before .if2 .taken))
+
+lost-requires-3 : tie.Need-lost-requires-3 Inv-loop μ-loop
+lost-requires-3 c κs = search needs
 
 returns-3 : tie.Need-returns-3 Inv-loop μ-loop
 returns-3 c =
-    let f = c .before in
-    let e = f .before in
+    let e = c .before .before in
     let d = e .before in
-    turn-leaf _ _ _ _ _ _ (d .read .ensures) _ (d .before .loop .inv) (e .if1 .left) (f .if2 .left) (c .if3 .taken)
+    let l = d .before .before .before in
+    let a = l .before .before .args in
+    c .lost3 .ensures ∙ ap (seenIn (view (a .table .now)) (a .key)) (turn-high (a .table .now) _ _ _ _ _ (l .loop .inv) _ (d .read .ensures) (e .if2 .left) (c .before .if3 .taken))
 
-way-below-requires : tie.Need-way-below-requires Inv-loop μ-loop
-way-below-requires c κs =
-    let d = c .before .before .before in
-    let h = d .before .before .before .pre in
-    (h, (level-some _ _ _ h (d .read .ensures) (c .if3 .left), d .read .ensures))
+stand-requires : tie.Need-stand-requires Inv-loop μ-loop
+stand-requires c κs =
+    let d = c .before .before in
+    let h = d .before .before in
+    let p = h .before .before .before .pre in
+    (p, (sym (level-in _ _ _ _ p (sym (h .has .ensures) ∙ not-false _ (d .before .if1 .left)) (d .read .ensures)) ∙ eq-eqb (d .read .result .level) _ refl, d .read .ensures))
 
 returns-4 : tie.Need-returns-4 Inv-loop μ-loop
 returns-4 c =
-    let w = c .before in
-    let f = w .before .before in
+    let s = c .before in
+    let f = s .before in
     let e = f .before in
     let d = e .before in
-    turn-none _ _ _ _ _ _ (d .read .ensures) _ (d .before .loop .inv) (e .if1 .left) (f .if2 .left) _ (w .way-below .ensures) (w .before .if3 .left) (c .if4 .taken)
-
-returns-5 : tie.Need-returns-5 Inv-loop μ-loop
-returns-5 c =
-    let w = c .before .before in
-    let f = w .before .before in
-    let e = f .before in
-    let d = e .before in
-    turn-last _ _ _ _ _ _ (d .read .ensures) _ (d .before .loop .inv) (e .if1 .left) (f .if2 .left) _ (w .way-below .ensures) (c .if5 .taken)
+    let l = d .before .before .before in
+    turn-leaf _ _ _ _ _ _ (l .loop .inv) _ (d .read .ensures) (e .if2 .left) (f .if3 .left) _ (s .stand .ensures) (c .if4 .taken)
 
 sub-low : tie.Need-sub-low Inv-loop μ-loop
 sub-low c = search needs
@@ -68,11 +81,12 @@ loop-less c = search needs
 
 loop-again : tie.Need-loop-again Inv-loop μ-loop
 loop-again c =
-    let w = c .before .before in
-    let f = w .before .before in
+    let s = c .before in
+    let f = s .before in
     let e = f .before in
     let d = e .before in
-    turn-down _ _ _ _ _ _ (d .read .ensures) _ (d .before .loop .inv) (e .if1 .left) (f .if2 .left) _ (w .way-below .ensures) (w .before .if3 .left) (c .if5 .left)
+    let l = d .before .before .before in
+    turn-down _ _ _ _ _ _ (l .loop .inv) _ (d .read .ensures) (e .if2 .left) (f .if3 .left) _ (s .stand .ensures) (c .if4 .left)
 
 pub descend-spec : {M : Type 1} → statement M
 descend-spec =
@@ -81,13 +95,16 @@ descend-spec =
     Inv-loop
     μ-loop
     loop-holds
-    read-requires
+    has-requires
+    lost-requires
     returns
+    read-requires
+    lost-requires-2
     returns-2
+    lost-requires-3
     returns-3
-    way-below-requires
+    stand-requires
     returns-4
-    returns-5
     sub-low
     sub-high
     loop-less

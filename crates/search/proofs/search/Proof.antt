@@ -3,7 +3,7 @@ use mathlib.Core.Path.{_≡_}
 use mathlib.Core.Bool.{true}
 use Rattle.model.specs.Table.{headerOk}
 use Rattle.node.proofs.Answers.{root-some}
-use Rattle.search.proofs.Standing.{bad-header, answered}
+use Rattle.search.proofs.Standing.{bad-header, answered-lost, stood-on, answered}
 use borrow.Author.Needs.{needs}
 use Rattle.search.proofs.search.Statement.{statement}
 use Rattle.search.proofs.search.Tie as tie
@@ -21,15 +21,25 @@ returns c = bad-header _ _ _ (c .before .root .ensures) (c .if1 .taken)
 descend-requires : tie.Need-descend-requires
 descend-requires c κs = passed c
 
-answer-at-requires : tie.Need-answer-at-requires
-answer-at-requires c κs = passed (c .before)
-
 returns-2 : tie.Need-returns-2
 returns-2 c =
-    let d = c .before in
+    let d = c .before .before in
     let e = d .before in
-    answered _ _ _ _ _ (e .before .root .ensures) (e .if1 .left) (d .descend .ensures) (c .answer-at .ensures)
+    answered-lost _ _ _ (e .before .root .ensures) (e .if1 .left) _ (d .descend .ensures) (c .if2 .taken)
+
+answer-requires : tie.Need-answer-requires
+answer-requires c κs =
+    let d = c .before .before in
+    let e = d .before in
+    (passed e, stood-on _ _ _ (e .before .root .ensures) (e .if1 .left) _ (d .descend .ensures) (c .if2 .left))
+
+returns-3 : tie.Need-returns-3
+returns-3 c =
+    let s = c .before in
+    let d = s .before .before in
+    let e = d .before in
+    answered _ _ _ (e .before .root .ensures) (e .if1 .left) _ (d .descend .ensures) (s .if2 .left) _ (c .answer .ensures)
 
 pub search-spec : {M : Type 1} → statement M
 search-spec =
-    tie.close (tie.spec root-requires returns descend-requires answer-at-requires returns-2)
+    tie.close (tie.spec root-requires returns descend-requires returns-2 answer-requires returns-3)
