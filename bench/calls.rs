@@ -10,6 +10,8 @@ use declared::*;
 const LIST_WORDS: usize = 2560;
 const NODE_WORDS: usize = 32;
 const HEADER_WORDS: usize = 8;
+/// Pairs in a leaf of a sound table, at most.
+const SLOTS: usize = 11;
 const ABSENT: u64 = 255;
 const LINE_BYTES: usize = 64;
 
@@ -172,6 +174,19 @@ pub fn delete(table: &mut [u64], orders: &mut Orders, key: u64) -> u64 {
 pub fn repair(table: &mut [u64], orders: &mut Orders) -> u64 {
     let list = orders.words.as_mut_ptr();
     unsafe { catalogue_repair(table.as_mut_ptr(), table.len(), list, orders.words.len(), &mut orders.stores, &mut orders.flushes) }
+}
+
+/// The whole map, as pairs of key and pointer.
+pub fn list(table: &[u64]) -> Vec<(u64, u64)> {
+    let mut words = vec![0; 2 * SLOTS * (table.len() / NODE_WORDS)];
+    let (mut pairs, mut more) = (0, 1);
+    let number = unsafe { catalogue_list(table.as_ptr(), table.len(), 0, u64::MAX, words.as_mut_ptr(), words.len(), &mut pairs, &mut more) };
+    assert!(number == 0 && more == 0, "a listing answers {number}, {more} for more");
+    words.chunks(2).take(pairs as usize).map(|pair| (pair[0], pair[1])).collect()
+}
+
+pub fn salvage(table: &[u64], out: &mut [u64], report: &mut [u64], dropped: &mut u64) -> u64 {
+    unsafe { catalogue_salvage(table.as_ptr(), table.len(), out.as_mut_ptr(), out.len(), report.as_mut_ptr(), report.len(), dropped) }
 }
 
 /// All orders of the list on plain memory.

@@ -7,6 +7,7 @@ mod machine;
 mod plot;
 mod report;
 mod results;
+mod salvage;
 mod search;
 mod walk;
 
@@ -31,6 +32,7 @@ pub const SPLITTING: &str = "insertion, split";
 pub const CLASS_CHANGE: &str = "class change";
 pub const COUNTS: &str = "counts";
 pub const WALK: &str = "empty leaves";
+pub const SALVAGE: &str = "salvage";
 pub const OURS: &str = "ours";
 pub const PLAIN: &str = "plain C";
 pub const FORESEEN: &str = "plain C, branch";
@@ -41,7 +43,7 @@ pub const CPP: &str = "C++ std::map";
 pub const SORTED: &str = "sorted array";
 pub const OTHERS: [&str; 7] = [PLAIN, FORESEEN, TESTED, TREE, RUST, CPP, SORTED];
 
-/// What is measured: keys for the searches, nodes for the changes, keys for the counts (ours and the 512-byte tree; that tree alone).
+/// What is measured: keys for the searches and the salvages, nodes for the changes, keys for the counts (ours and the 512-byte tree; that tree alone).
 struct Sizes {
     search: &'static [usize],
     nodes: &'static [usize],
@@ -57,6 +59,7 @@ fn measure(sizes: &Sizes) -> Results {
     search::measure(&mut results, sizes.search);
     change::measure(&mut results, sizes.nodes);
     walk::measure(&mut results, sizes.nodes);
+    salvage::measure(&mut results, sizes.search);
     counts::measure(&mut results, sizes.counted.0, sizes.counted.1);
     results
 }
@@ -80,6 +83,14 @@ fn report(results: &Results, sizes: &Sizes, folder: &Path) {
     write(folder, "plot.svg", &plot::svg(results, &machine[0], sizes.counted.0));
 }
 
+/// Only the salvages, of rising numbers of codes; nothing is written.
+fn only_salvage(sizes: &[&str]) {
+    let sizes: Vec<usize> = sizes.iter().map(|size| size.parse().expect("a number of codes")).collect();
+    let mut results = Results::default();
+    salvage::measure(&mut results, &sizes);
+    report::salvages(&results).iter().for_each(|table| println!("{}", table.text()));
+}
+
 /// A wrong answer is an assertion that fails: the run ends with status 1.
 fn end_on_mismatch() {
     std::panic::set_hook(Box::new(|why| {
@@ -96,10 +107,11 @@ fn main() {
         ["--only-search", which @ (OURS | "plain"), keys, queries] => {
             return search::only(which, keys.parse().expect("a number of keys"), queries.parse().expect("a number of queries"));
         }
+        ["--only-salvage", ref sizes @ ..] if !sizes.is_empty() => return only_salvage(sizes),
         ["--quick", folder] => (QUICK, folder),
         [folder] if !folder.starts_with('-') => (WHOLE, folder),
         _ => {
-            eprintln!("usage: bench [--quick] FOLDER | bench --only-search ours|plain KEYS QUERIES");
+            eprintln!("usage: bench [--quick] FOLDER | bench --only-search ours|plain KEYS QUERIES | bench --only-salvage CODES ..");
             std::process::exit(2);
         }
     };

@@ -1,7 +1,8 @@
 //! The tables: as text for the terminal, as Markdown for docs/BENCHMARKS.md.
 use crate::counts::{self, CHANGES, ORDERS};
 use crate::results::{Results, Spread};
-use crate::{CLASS_CHANGE, COUNTS, DELETION, HITS, INSERTION, MISSES, NODES, OTHERS, OURS, PAPER_FLUSHES, SPLITTING, TABLE, TREE, WALK};
+use crate::salvage::TABLES;
+use crate::{CLASS_CHANGE, COUNTS, DELETION, HITS, INSERTION, MISSES, NODES, OTHERS, OURS, PAPER_FLUSHES, SALVAGE, SPLITTING, TABLE, TREE, WALK};
 use std::fmt::Write;
 
 /// A table of ready cells under a line that says what they are.
@@ -154,6 +155,42 @@ fn walk_ratios(results: &Results) -> Table {
     table
 }
 
+// ---- salvage
+
+fn salvage_times(results: &Results) -> Table {
+    let figures = ["read pass"].into_iter().chain(TABLES);
+    let head: Vec<&str> = ["codes"].into_iter().chain(figures.clone()).collect();
+    let mut table = Table::new("A salvage, µs: median (least .. most)", &head);
+    for codes in results.sizes(SALVAGE, "read pass") {
+        let mut row = vec![grouped(codes)];
+        row.extend(figures.clone().map(|what| spread(results.get(SALVAGE, what, codes), 1e3)));
+        table.rows.push(row);
+    }
+    table
+}
+
+fn salvage_ratios(results: &Results) -> Table {
+    let head = ["salvage", "codes", "nodes", "words changed", "read pass, µs", "call, µs", "call / read pass", "codes kept", "slots dropped"];
+    let mut table = Table::new("Salvage: the call's time divided by the time of one plain read pass over the same nodes", &head);
+    for which in TABLES {
+        for codes in results.sizes(SALVAGE, "read pass") {
+            let [call, pass] = [which, "read pass"].map(|what| results.median(SALVAGE, what, codes));
+            let count = |what: &str| results.get(SALVAGE, what, codes).map_or("-".to_string(), |s| grouped(s.median as usize));
+            let of_this = |what| count(&format!("{which}: {what}"));
+            let micro = |ns: Option<f64>| or_dash(ns.map(|ns| ns / 1e3));
+            let mut row = vec![which.to_string(), grouped(codes), count("nodes"), of_this("words changed"), micro(pass), micro(call), ratio(call, pass)];
+            row.extend([of_this("codes kept"), of_this("slots dropped")]);
+            table.rows.push(row);
+        }
+    }
+    table
+}
+
+/// Only these, for the terminal.
+pub fn salvages(results: &Results) -> Vec<Table> {
+    vec![salvage_times(results), salvage_ratios(results)]
+}
+
 // ---- stores and flushes
 
 fn count_table(results: &Results, size: usize, large: usize) -> Table {
@@ -228,6 +265,7 @@ fn change_growth(results: &Results) -> Table {
 pub fn times(results: &Results) -> Vec<Table> {
     let mut tables = vec![search_times(results)];
     tables.extend([INSERTION, SPLITTING, DELETION, CLASS_CHANGE].map(|part| change_times(results, part)));
+    tables.push(salvage_times(results));
     tables
 }
 
@@ -237,6 +275,7 @@ pub fn ratios(results: &Results, counted: (usize, usize)) -> Vec<Table> {
         search_ratios(results),
         change_ratios(results),
         walk_ratios(results),
+        salvage_ratios(results),
         count_table(results, counted.0, counted.1),
         search_growth(results),
         change_growth(results),

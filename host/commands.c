@@ -9,6 +9,7 @@
 #include "catalogue.h"
 #include "draw.h"
 #include "help.h"
+#include "salvage.h"
 #include "table.h"
 #include "text.h"
 
@@ -131,6 +132,11 @@ static int copy_table(struct table *t, struct command_line *l)
     return table_copy(t, l->words[2], l->nodes);
 }
 
+static int salvage_table(struct table *t, struct command_line *l)
+{
+    return salvage(t, l->words[2]);
+}
+
 /* ---- the commands */
 
 static int with_table(struct command_line *l, bool writing, int (*work)(struct table *t, struct command_line *l))
@@ -244,6 +250,11 @@ static int command_check(struct command_line *l)
     return with_table(l, false, check_table);
 }
 
+static int command_salvage(struct command_line *l)
+{
+    return with_table(l, false, salvage_table);
+}
+
 static int command_show(struct command_line *l)
 {
     return with_table(l, false, show_table);
@@ -280,6 +291,10 @@ const struct command commands[] = {
      CUT | CARRYING | WAITING, command_repair},
     {"copy", "TABLE NEW NODES", "a new table of NODES nodes, as many as TABLE has or more, with the same codes",
      "copy room.cat larger.cat 200", 4, 4, WAITING, command_copy},
+    {"salvage", "TABLE NEW",
+     "a new table of as many nodes with what can be read of TABLE, which is damaged and stays\n"
+     "as it is; prints each slot that is dropped, and why",
+     "salvage room.cat saved.cat", 3, 3, WAITING, command_salvage},
     {"orders", "TABLE CHANGE ..",
      "prints the stores and flushes of a change without making it: add CODE RECORDING\n[CLASS], remove CODE, class CODE CLASS, or repair",
      "orders room.cat add AA0001912345 7", 3, 6, WAITING, command_orders},

@@ -16,7 +16,7 @@ const struct refusal refusals[] = {
      "{table} is damaged on the way to {code}, or to the next code up: a node number, a level or a sibling is wrong"},
     {CATALOGUE_NOT_SOUND, "not sound",
      "{table} is not sound: a failing disk, another program, or a power cut during --fast or on a disk that does not keep what it was told "
-     "to keep has damaged it; find still answers where its way is whole"},
+     "to keep has damaged it; find still answers where its way is whole, and catalogue salvage {table} NEW keeps what can be read"},
     {CATALOGUE_SHORT_LIST, "order list too short", "the order list is too short"},
     {CATALOGUE_BAD_RECORDING, "recording 0 or too large", "{recording}: " RECORDINGS},
     {CATALOGUE_KEY_PRESENT, "code there already", "{code} is in {table} already"},
@@ -28,6 +28,8 @@ const struct refusal refusals[] = {
     {CATALOGUE_PARENT_FULL, "no room for a repair", "{table} cannot be repaired: the node where a slot is missing is full"},
     {CATALOGUE_BAD_ORDERS, "order outside the table", "an order lies outside of {table}"},
     {CATALOGUE_BAD_CLASS, "no such class", CLASSES},
+    {CATALOGUE_OTHER_LENGTH, "salvage into another length", NULL},
+    {CATALOGUE_SHORT_REPORT, "report of a salvage too short", NULL},
     {BAD_USAGE, "wrong command line", NULL},
     {BAD_LINE, "wrong line in a file to load", NULL},
     {BAD_FILE, "a file cannot be read or written, or another program uses it or changed it", NULL},

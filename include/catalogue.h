@@ -5,7 +5,7 @@
  * A table is 8 + 32 * N words, N from 1 to 65,535 nodes. Every call takes any words and any length: it does its work or returns a
  * refusal number, and a refusal changes no lent word. A word that an answer is put into is left alone unless the call does its work.
  * Lent slices may not overlap. A slice of length 0 still wants a pointer that is not null. One writer; readers only read.
- * No call asks for memory. Listing and the writing calls need 300 KB of stack, the others 2 KB.
+ * No call asks for memory. Listing and the writing calls need 300 KB of stack, a salvage 400 KB, the others 2 KB.
  *
  * The header is words 0 to 7: 1, the root's node number, N, and five zeros. Node i begins at word 8 + 32 * (i - 1); its 32 words are
  * four lines, the slots' words a key and a pointer in turn:
@@ -51,7 +51,7 @@ extern "C" {
  * The version of these declarations. It is raised by each change of a name, a parameter or the meaning of a word, so a program that was
  * compiled with one header and linked with another library sees it: catalogue_version() is the library's.
  */
-#define CATALOGUE_VERSION 3
+#define CATALOGUE_VERSION 4
 
 #define CATALOGUE_MARK UINT64_MAX
 #define CATALOGUE_LIST_WORDS 2560
@@ -79,11 +79,13 @@ enum {
     CATALOGUE_KEY_PRESENT = 7,      /* code already in the map */
     CATALOGUE_RECORDING_PRESENT = 8, /* recording in the map under another code */
     CATALOGUE_KEY_ABSENT = 9,       /* deletion or class change: code absent */
-    CATALOGUE_NO_NODES = 10,        /* fewer unreachable nodes than the splits need */
+    CATALOGUE_NO_NODES = 10,        /* fewer unreachable nodes than the splits need; salvage: the packing needs more than N */
     CATALOGUE_TOO_HIGH = 11,        /* the root at level 15 would have to split */
     CATALOGUE_PARENT_FULL = 12,     /* repair would find 11 shown slots in the parent */
     CATALOGUE_BAD_ORDERS = 13,      /* carry-out: more orders than the list has, or one outside the table */
     CATALOGUE_BAD_CLASS = 14,       /* class above 2; comes straight after 6 */
+    CATALOGUE_OTHER_LENGTH = 15,    /* salvage: the second slice is not as long as the table */
+    CATALOGUE_SHORT_REPORT = 16,    /* salvage: report under 36 words for each node */
     CATALOGUE_ABSENT = 255          /* search: the key is absent */
 };
 
@@ -136,6 +138,23 @@ uint64_t catalogue_repair(uint64_t *table, size_t words, uint64_t *orders, size_
 
 /* Applies the first c orders of a list to a table. 0, or 2 or 13. */
 uint64_t catalogue_carry_out(uint64_t *table, size_t words, const uint64_t *orders, size_t order_words, uint64_t c);
+
+/* Why a salvage drops a slot: the first of these that holds. */
+enum {
+    CATALOGUE_DROPPED_RANGE = 1,    /* recording number or class out of range */
+    CATALOGUE_DROPPED_KEY = 2,      /* code already kept */
+    CATALOGUE_DROPPED_RECORDING = 3 /* recording already kept */
+};
+
+/*
+ * Salvage of a damaged table, which stays as it is: out, of the same length, becomes a settled table with the pairs kept. 0, and *dropped
+ * slots were dropped: the report's first words are node, slot and reason of each, in the order met, the others stay. Or 2, 15, 16, 10.
+ * A sound table drops nothing, keeps its map and never gives 10.
+ * It takes as long as some tens of plain read passes over the table, sound or with words changed here and there. It takes longer by the way
+ * that keys are met out of order, and, where the slots in use would need more than N nodes, by the square of the pairs.
+ */
+uint64_t catalogue_salvage(const uint64_t *table, size_t words, uint64_t *out, size_t out_words, uint64_t *report, size_t report_words,
+                           uint64_t *dropped);
 
 #ifdef __cplusplus
 }

@@ -14,4 +14,5 @@ extern "C" {
     pub fn catalogue_set_class(table: *mut u64, words: usize, orders: *mut u64, order_words: usize, key: u64, access: u64, stores: *mut u64, flushes: *mut u64) -> u64;
     pub fn catalogue_repair(table: *mut u64, words: usize, orders: *mut u64, order_words: usize, stores: *mut u64, flushes: *mut u64) -> u64;
     pub fn catalogue_carry_out(table: *mut u64, words: usize, orders: *const u64, order_words: usize, c: u64) -> u64;
+    pub fn catalogue_salvage(table: *const u64, words: usize, out: *mut u64, out_words: usize, report: *mut u64, report_words: usize, dropped: *mut u64) -> u64;
 }

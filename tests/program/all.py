@@ -14,6 +14,7 @@ import installing
 import loads
 import pages
 import replay
+import salvages
 from drive import FOUND_SOMETHING, Program
 
 
@@ -44,15 +45,15 @@ def main():
     sanitized = Program([sys.argv[2]], "with sanitizers", False)
     watched = ["valgrind", "-q", "--leak-check=full", "--errors-for-leak-kinds=all", f"--error-exitcode={FOUND_SOMETHING}", sys.argv[1]]
     valgrind = Program(watched, "under valgrind", False)
-    everything = commands.TESTS + loads.TESTS + files.TESTS + cuts.TESTS + replay.TESTS
+    everything = commands.TESTS + loads.TESTS + files.TESTS + salvages.TESTS + cuts.TESTS + replay.TESTS
     # valgrind takes half a second to start: each kind of work once.
     once = [commands.the_worked_orders, commands.drawing, loads.lines_from_standard_input, loads.larger_copies,
-            commands.a_tree_of_sixteen_levels]
+            commands.a_tree_of_sixteen_levels, salvages.damaged_slots]
     # Files in memory where there is such a place: the tests say nothing of a disk.
     place = tempfile.mkdtemp(prefix="catalogue-", dir="/dev/shm" if roomy("/dev/shm") else None)
     os.chmod(place, 0o755)
     works = [(plain, loads.progress_elsewhere, place)] + [(valgrind, t, place) for t in once]
-    works += [(plain, t, place) for t in everything + pages.TESTS + installing.TESTS + [files.little_memory]]
+    works += [(plain, t, place) for t in everything + pages.TESTS + installing.TESTS + [files.little_memory, files.little_memory_for_a_salvage]]
     works += [(sanitized, t, place) for t in everything]
     # One more than there are processors: some tests wait for the clock.
     with multiprocessing.Pool(os.cpu_count() + 1) as pool:

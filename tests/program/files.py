@@ -23,6 +23,11 @@ def writing(t, csv):
             ["add", t, code(50), 50, "--cut", 0]]
 
 
+def anew(t):
+    """Commands that read the table and make a new one."""
+    return [["copy", t, f"{t}.made", 4], ["salvage", t, f"{t}.made"]]
+
+
 def table(program, folder, nodes=4):
     """A small table, and a file to load."""
     t, csv = f"{folder}/t", f"{folder}/csv"
@@ -50,7 +55,7 @@ def no_tables(program, folder):
     for data in bad:
         with open(t, "wb") as f:
             f.write(data)
-        for words in reading(t) + writing(t, csv):
+        for words in reading(t) + anew(t) + writing(t, csv):
             program.refuses(NO_TABLE, "is not a table|bytes, but its header says", *words)
     return f"{len(bad)} files"
 
@@ -61,7 +66,7 @@ def other_files(program, folder):
     others = [(f"{folder}/none", "there is no file .*catalogue make"), (f"{t}/x", "cannot be opened")]
     others += [(folder, "not an ordinary file|directory"), (f"{folder}/pipe", "not an ordinary file"), ("/dev/null", "not an ordinary file")]
     for path, pattern in others:
-        for words in reading(path) + writing(path, csv):
+        for words in reading(path) + anew(path) + writing(path, csv):
             program.refuses(BAD_FILE, pattern, *words)
 
 
@@ -72,6 +77,9 @@ def read_only(program, folder):
         program.refuses(BAD_FILE, "is read-only", *words)
     for words in reading(t):
         program.done(*words)
+    for words in anew(t):
+        program.done(*words)
+        os.remove(f"{t}.made")
     if os.geteuid() != 0:
         return None
     # Another user, whom the system refuses; where that user can run the program at all.
@@ -86,8 +94,10 @@ def read_only(program, folder):
         program.refuses(BAD_FILE, "is read-only", *words, **other)
     for words in reading(t):
         program.done(*words, **other)
+    for words in anew(t):
+        program.refuses(BAD_FILE, "cannot be made: Permission denied", *words, **other)
     os.chmod(t, 0o600)
-    for words in reading(t):
+    for words in reading(t) + anew(t):
         program.refuses(BAD_FILE, "cannot be opened: Permission denied", *words, **other)
     return "also as another user"
 
@@ -97,12 +107,15 @@ def in_use(program, folder):
     t, csv = table(program, folder)
     with open(t, "rb") as f:
         fcntl.flock(f, fcntl.LOCK_EX)
-        for words in reading(t) + writing(t, csv):
+        for words in reading(t) + anew(t) + writing(t, csv):
             wait = ["--wait", 0] if words[0] == "find" else []
             program.refuses(BAD_FILE, "is in use by another program; try again later, or with --wait", *words, *wait)
         fcntl.flock(f, fcntl.LOCK_SH)
         for words in reading(t):
             program.done(*words)
+        for words in anew(t):
+            program.done(*words)
+            os.remove(f"{t}.made")
         for words in writing(t, csv):
             program.refuses(BAD_FILE, "is in use by another program", *words)
 
@@ -227,7 +240,7 @@ def closed_streams(program, folder):
     with open(csv, "a") as f:
         f.write(f"{code(61)},61\nx\n")
     whole = contents(t)
-    commands = reading(t) + writing(t, csv) + [["load", t, csv, "--each"], ["add", t, code(50), 50, "--fast"], ["find", t, code(50)]]
+    commands = reading(t) + anew(t) + writing(t, csv) + [["load", t, csv, "--each"], ["add", t, code(50), 50, "--fast"], ["find", t, code(50)]]
     for words in commands:
         ends = set()
         for closed in ([], [0], [1], [2], [1, 2], [0, 1, 2]):
@@ -237,23 +250,25 @@ def closed_streams(program, folder):
                                 preexec_fn=lambda: [os.close(stream) for stream in closed])
             run.wait(timeout=120)
             check_ending(run.returncode, "", words)
-            ends.add(contents(t))
+            ends.add((contents(t), contents(f"{t}.made")))
+            if os.path.exists(f"{t}.made"):
+                os.remove(f"{t}.made")
             assert run.returncode in (0, ABSENT, BAD_LINE, BAD_FILE), (words, closed, run.returncode)
-        assert len(ends) == 1, (words, "the table depends on the streams")
+        assert len(ends) == 1, (words, "a table depends on the streams")
 
 
 def printed_into_the_table(program, folder):
     """Output or messages that the shell sends to the end of the table's own file: nothing is written there."""
     t, csv = table(program, folder)
     whole = contents(t)
-    for words in reading(t) + writing(t, csv):
+    for words in reading(t) + anew(t) + writing(t, csv):
         for stream in ("stdout", "stderr"):
             with open(t, "ab") as end:
                 how = dict({"stdout": subprocess.PIPE, "stderr": subprocess.PIPE, "stdin": subprocess.DEVNULL}, **{stream: end})
                 run = program.start(*words, **how)
                 out, err = run.communicate(timeout=120)
             check_ending(run.returncode, err or "", words)
-            assert run.returncode == BAD_FILE and contents(t) == whole, (words, stream, run.returncode)
+            assert run.returncode == BAD_FILE and contents(t) == whole and not os.path.exists(f"{t}.made"), (words, stream, run.returncode)
             assert stream == "stderr" or "is where the answer would be printed" in err, err
 
 
@@ -282,6 +297,28 @@ def little_memory(program, folder):
             ended[status] += 1
     assert all(ended.values()), ended
     return f"{ended[0]} answers, {ended[BAD_FILE]} errors"
+
+
+def little_memory_for_a_salvage(program, folder):
+    """The same, in small steps up to where it is enough: a salvage has the deepest stack."""
+    t, u = f"{folder}/t", f"{folder}/u"
+    program.done("make", t, 65535)
+    program.done("add", t, code(1), 1)
+
+    def ends_with(kilobytes):
+        status, out, err = program("salvage", t, u, preexec_fn=lambda: resource.setrlimit(resource.RLIMIT_AS, (kilobytes << 10,) * 2))
+        if os.path.exists(u):
+            os.remove(u)
+        assert status == 0 and err == "" or status == BAD_FILE and out == "" and re.fullmatch("catalogue: .*\n", err), (kilobytes, status, err)
+        return status
+
+    few, enough = 8 << 10, 512 << 10
+    while enough - few > 256:
+        middle = (few + enough) // 2
+        few, enough = (few, middle) if ends_with(middle) == 0 else (middle, enough)
+    for kilobytes in range(enough - (8 << 10), enough, 256):
+        assert ends_with(kilobytes) == BAD_FILE, kilobytes
+    return f"from {enough} KB on"
 
 
 TESTS = [no_tables, other_files, read_only, in_use, waiting, changed_meanwhile, changed_by_a_mapping, closed_streams, printed_into_the_table,

@@ -216,7 +216,7 @@ def a_disk_that_fails(program, folder):
 def a_new_table_is_there_whole(program, folder):
     """Written under another name, synced, renamed, the folder synced; nothing else stays."""
     t = f"{folder}/t"
-    for command, name in ((["make", t, 50], t), (["copy", t, f"{t}2", 90], f"{t}2")):
+    for command, name in ((["make", t, 50], t), (["copy", t, f"{t}2", 90], f"{t}2"), (["salvage", t, f"{t}4"], f"{t}4")):
         calls = [call for call, _ in recorded(program, folder, *command)[0]]
         other = calls[0][1]
         assert other.startswith(name + ".") and calls == [["fsync", other], ["rename", other, name], ["fsync", folder]], calls
@@ -224,7 +224,8 @@ def a_new_table_is_there_whole(program, folder):
     assert preloaded(program, folder, "make", f"{t}3", 50, SYNCS_NO_RENAME="1")[0] == 0
     assert contents(f"{t}3") == contents(t)
     assert preloaded(program, folder, "make", t, 9, SYNCS_NO_RENAME="1")[0] == BAD_FILE
-    assert sorted(os.listdir(folder)) == ["printed", "syncs", "t", "t2", "t3"]
+    assert preloaded(program, folder, "salvage", f"{t}2", t, SYNCS_NO_RENAME="1")[0] == BAD_FILE
+    assert sorted(os.listdir(folder)) == ["printed", "syncs", "t", "t2", "t3", "t4"]
 
 
 TESTS = [any_mix_of_pages, leaves_that_come_back, mixes_with_fast, a_load_and_its_acknowledgements, what_a_killed_program_left,

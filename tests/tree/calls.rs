@@ -165,6 +165,15 @@ pub fn repair(t: &[u64], list: &[u64]) -> Wrote {
     wrote(t, list, |a, b, s, f| unsafe { catalogue_repair(a, t.len(), b, list.len(), s, f) })
 }
 
+/// The number, the count of dropped slots where it was put, the second slice and the report.
+pub fn salvage(t: &[u64], out: &[u64], report: &[u64]) -> (u64, Option<u64>, Vec<u64>, Vec<u64>) {
+    let (mut table, mut second, mut third) = (Lent::new(t), Lent::new(out), Lent::new(report));
+    let mut dropped = Word::new();
+    let n = unsafe { catalogue_salvage(table.pointer(), t.len(), second.pointer(), out.len(), third.pointer(), report.len(), dropped.pointer()) };
+    assert!(table.back() == t, "a salvage wrote to the table");
+    (n, dropped.put(), second.back().to_vec(), third.back().to_vec())
+}
+
 pub fn carry_out(t: &[u64], list: &[u64], c: u64) -> (u64, Vec<u64>) {
     let (mut table, mut orders) = (Lent::new(t), Lent::new(list));
     let n = unsafe { catalogue_carry_out(table.pointer(), t.len(), orders.pointer(), list.len(), c) };

@@ -11,8 +11,10 @@ use Rattle.model.specs.Search.{recordingOr, accessOr, nextOr, higherOr}
 use Rattle.model.specs.declared.Written.{Written}
 use Rattle.model.specs.Refusals.{written, tableAfter, listAfter}
 use Rattle.model.specs.declared.Listed.{Listed}
+use Rattle.model.specs.declared.Salvaged.{Salvaged}
 use Rattle.model.specs.Listing.{listedNumber, countOr, moreOr}
-use Rattle.catalogue.specs.Answers.{searchNumber, Counted, Wrote, Showed}
+use Rattle.model.specs.Salvage.{salvagedNumber, droppedOr}
+use Rattle.catalogue.specs.Answers.{searchNumber, Counted, Wrote, Showed, Rebuilt}
 
 -- an answer that is this one has its number, and puts its words
 pub answered : (x y : Answer) (recording access next higher : ℕ) → x ≡ y
@@ -48,3 +50,6 @@ has-shown x y pairs more m e q =
       pairs-are = sym (ap (λ (z : Listed). countOr z pairs) e);
       more-is = q ∙ sym (ap (λ (z : Listed). moreOr z more) e);
     }
+
+pub was-rebuilt : (x y : Salvaged) (old : ℕ) → x ≡ y → Rebuilt x (salvagedNumber y) old (droppedOr y old)
+was-rebuilt x y old e = record { number-is = sym (ap salvagedNumber e); dropped-are = sym (ap (λ (z : Salvaged). droppedOr z old) e) }

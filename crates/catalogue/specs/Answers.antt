@@ -5,15 +5,17 @@ use lib.ListN.{length}
 use Rattle.model.specs.declared.Answer.{Answer}
 use Rattle.model.specs.declared.Answer.the-variants.{Found, Absent, Refused}
 use Rattle.model.specs.declared.Listed.{Listed}
+use Rattle.model.specs.declared.Salvaged.{Salvaged}
 use Rattle.model.specs.declared.Written.{Written}
 use Rattle.model.specs.Table.{Words}
 use Rattle.model.specs.Writes.{Call}
 use Rattle.model.specs.Listing.{listedNumber, countOr, moreOr}
 use Rattle.model.specs.Refusals.{written, tableAfter, listAfter, writtenNumber, storesOr, flushesOr}
+use Rattle.model.specs.Salvage.{salvagedNumber, droppedOr}
 
 -- the version of the calls' shapes: raised by each change of a name, a parameter or what a word means
 abbrev pub version : ℕ
-version = 3
+version = 4
 
 -- a search of C's: 0 for found, 255 for absent
 abbrev pub searchNumber : Answer → ℕ
@@ -38,3 +40,8 @@ pub record Showed (x : Listed) (number pairs pairs′ more more′ : ℕ) : Type
   pub number-is : number ≡ listedNumber x
   pub pairs-are : pairs′ ≡ countOr x pairs
   pub more-is : more′ ≡ moreOr x more
+
+-- a salvage's answer: its number, and the count of dropped slots
+pub record Rebuilt (x : Salvaged) (number dropped dropped′ : ℕ) : Type 0 where
+  pub number-is : number ≡ salvagedNumber x
+  pub dropped-are : dropped′ ≡ droppedOr x dropped

@@ -5,6 +5,7 @@ use model::Listed;
 use model::Next;
 use model::Outcome;
 use model::Parsed;
+use model::Salvaged;
 use model::Written;
 ghost use mathlib.Core.Path.{_≡_};
 ghost use Rattle.model.specs.Codes.{parse, print, parsedNumber, keyOr};
@@ -12,7 +13,9 @@ ghost use Rattle.model.specs.Table.{making, made, outcomeNumber};
 ghost use Rattle.model.specs.Orders.{carryOut, carriedOut};
 ghost use Rattle.model.specs.Search.{search, recordingOr, accessOr, nextOr, higherOr};
 ghost use Rattle.model.specs.Writes.{insertion, deletion, classChange, repair};
-ghost use Rattle.catalogue.specs.Answers.{version, searchNumber, Counted, Wrote, Showed};
+ghost use Rattle.catalogue.specs.Answers.{version, searchNumber, Counted, Wrote, Showed, Rebuilt};
+ghost use Rattle.model.specs.Salvage.{salvage, salvageOut, salvageReport};
+ghost use lib.ListN.{length};
 ghost use Rattle.model.specs.Listing.{list, listOut};
 ghost use mathlib.Core.Bool.{cond};
 
@@ -21,7 +24,7 @@ ghost use mathlib.Core.Bool.{cond};
 pub extern "C" fn catalogue_version() -> u64
     ensures { λ r. ⌜ r ≡ version ⌝ }
 {
-    3
+    4
 }
 
 // 0 and the code's key, or 1.
@@ -232,4 +235,26 @@ pub extern "C" fn catalogue_carry_out(table: &mut [u64], orders: &[u64], c: u64)
     ensures { λ r. ⌜ now (table .exit) ≡ carriedOut c (now (orders .entry)) (now (table .entry)) ⌝ }
 {
     number_of(carry::carry_out(table, orders, c))
+}
+
+// 0 and the number of dropped slots, or 2, 15, 16 or 10.
+#[no_mangle]
+pub extern "C" fn catalogue_salvage(
+    table: &[u64],
+    out: &mut [u64],
+    report: &mut [u64],
+    dropped: &mut u64,
+) -> u64
+    ensures { λ r. ⌜ Rebuilt (salvage (now (table .entry)) (length (now (out .entry))) (length (now (report .entry)))) r
+        (now (dropped .entry)) (now (dropped .exit)) ⌝ }
+    ensures { λ r. ⌜ now (out .exit) ≡ salvageOut (now (table .entry)) (now (out .entry)) (length (now (report .entry))) ⌝ }
+    ensures { λ r. ⌜ now (report .exit) ≡ salvageReport (now (table .entry)) (length (now (out .entry))) (now (report .entry)) ⌝ }
+{
+    match salvage::salvage(table, out, report) {
+        Salvaged::Dropped(count) => {
+            *dropped = count;
+            0
+        }
+        Salvaged::Refused(n) => n as u64,
+    }
 }

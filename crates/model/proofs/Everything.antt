@@ -14,6 +14,8 @@ use Rattle.model.specs.Refusals
 use Rattle.model.specs.Ledger
 use Rattle.model.specs.Demand3
 use Rattle.model.specs.Printer
+use Rattle.model.specs.Packing
+use Rattle.model.specs.Salvage
 
 unfoldable pub everything : Unit {0}
 unfolding Codes.isDigit Codes.isLetter Codes.isLetterOrDigit Codes.every Codes.isCode Codes.value Codes.readOn Codes.number Codes.keyOf Codes.parse Codes.character
@@ -44,4 +46,9 @@ unfolding Codes.isDigit Codes.isLetter Codes.isLetterOrDigit Codes.every Codes.i
     Demand3.step Demand3.runAll Demand3.May Demand3.ledgerAfter
     Printer.lines Printer.fields Printer.isRecording Printer.formOf Printer.decimalFrom Printer.decimal Printer.numbersText Printer.orderText Printer.ordersText
     Printer.doCall Printer.doForm Printer.doLine Printer.doLines Printer.printer
+    Packing.groups Packing.bottom Packing.numbered Packing.rowAbove Packing.rowsAbove Packing.packed Packing.rowWords Packing.rowsWords Packing.countRows
+    Packing.packedCount Packing.packedTable
+    Salvage.shownAt Salvage.underFence Salvage.followed Salvage.meetings Salvage.mayEnter Salvage.order Salvage.entered Salvage.outOfRange Salvage.reasonFor
+    Salvage.gatherSlot Salvage.gatherSlots Salvage.collected Salvage.gatherNodes Salvage.gathered Salvage.dropWords Salvage.outgrows Salvage.salvageNumber
+    Salvage.salvage Salvage.salvageOut Salvage.salvageReport
 everything = tt

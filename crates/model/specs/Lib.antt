@@ -1,4 +1,4 @@
--- Document 01 as definitions, a file for each of its sections, in its order.
+-- Document 01 as definitions, a file for each of its sections, in its order; then what change requests add to it.
 pub mod Text
 pub mod Codes
 pub mod Table
@@ -16,3 +16,5 @@ pub mod Refusals
 pub mod Ledger
 pub mod Demand3
 pub mod Printer
+pub mod Packing
+pub mod Salvage

@@ -55,6 +55,12 @@ pub enum Written {
     Refused(u8),
 }
 
+// What a salvage answers: how many slots it dropped.
+pub enum Salvaged {
+    Dropped(u64),
+    Refused(u8),
+}
+
 // Nodes with something unfinished: none, one (which), or more than one.
 pub enum Few {
     Zero,

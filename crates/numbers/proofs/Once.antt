@@ -1,13 +1,10 @@
 -- Numbers entered one by one into free cells: what the answer tells of them.
 use mathlib.Core.Path.{_≡_, refl, ap, sym, subst, _∙_}
 use mathlib.Core.Bool.{Bool, true, false, false≢true}
-use mathlib.Core.Logic.{_≢_}
 use mathlib.Core.List.{List, [], _∷_, _++_, append-nil}
 use Prim.Native.Nat.{ℕ, _%_}
 use native.Mathlib.Omega.{arith}
-use lib.Dec.{eqb}
 use lib.ListN.{replicate}
-use borrow.Author.Tests.{eqb-false}
 use Rattle.model.specs.Table.{Words}
 use Rattle.model.specs.Reached.{filter}
 use Rattle.model.specs.SoundTest.{elem, distinct}
@@ -17,12 +14,13 @@ use Rattle.list_laws.proofs.Filters.{filter-yes, filter-no}
 use Rattle.list_laws.proofs.Distinct.{distinct-cons, distinct-middle}
 use Rattle.numbers.specs.declared.Entry.{Entry}
 use Rattle.numbers.specs.declared.Entry.the-variants.{Entered, Known, Full}
-use Rattle.numbers.specs.Cells.{PLACES, TRIES, CELLS, mixed, Outcome, outcome, tried, entered, followed, enteredIf, enteredAll, Tells}
-use Rattle.numbers.proofs.Held.{Told, told, Related, related-none, related-more, known-number}
+use Rattle.numbers.specs.Cells.{TRIES, CELLS, mixed, Outcome, outcome, entered, followed, enteredIf, enteredAll, Tells}
+use Rattle.numbers.specs.Filed.{Filed}
+use Rattle.numbers.proofs.Filed.{Told, told, filed-none, known-number, new-number, filed-more}
 
 -- ---- a list in two parts
 
-pub if-yes : (p : ℕ → Bool) (cs : Words) (x : ℕ) → p x ≡ true → enteredIf p cs x ≡ entered cs x
+pub if-yes : (p : ℕ → Bool) (cs : Words) (x : ℕ) → p x ≡ true → enteredIf p cs x ≡ entered TRIES cs x
 unfolding enteredIf
 if-yes p cs x e = rw (e, enteredIf)
 
@@ -64,8 +62,10 @@ module _ (next : Words → Outcome) (whole o : Outcome) (e : Entry) (after : Wor
 
 -- ---- what the answer tells
 
-abbrev Rel : Words → List ℕ → Type 0
-Rel = Related (λ (r : ℕ). mixed r % PLACES) TRIES CELLS
+-- the cells hold these numbers, none of them twice
+record Rel (cs : Words) (xs : List ℕ) : Type 0 where
+  filed : Filed TRIES CELLS cs (λ (r : ℕ). elem r xs)
+  apart : distinct xs ≡ true
 
 -- a number comes first or after others
 moved : (y : ℕ) (xs zs : List ℕ) → distinct (y ∷ (xs ++ zs)) ≡ distinct (xs ++ y ∷ zs)
@@ -81,18 +81,16 @@ tells-same Full us vs q h = tt
 
 -- one number more
 module _ (y : ℕ) (xs zs : List ℕ) (cs : Words) (g : Rel cs xs) (next : Words → Outcome) (ih : (after : Words) → Rel after (y ∷ xs) → Tells (next after .answer) (y ∷ (xs ++ zs))) where
-  tells-told : y ≢ 0 → (e : Entry) (after : Words) → Told cs y (mixed y % PLACES) TRIES e after → Tells (followed (outcome e after) next .answer) (xs ++ y ∷ zs)
-  tells-told d Entered after s = tells-same (next after .answer) (y ∷ (xs ++ zs)) (xs ++ y ∷ zs) (moved y xs zs) (ih after (related-more (λ (r : ℕ). mixed r % PLACES) TRIES CELLS cs xs g y d (omega arith) after s))
-  tells-told d Known after s = twice y xs zs (known-number (λ (r : ℕ). mixed r % PLACES) TRIES CELLS cs xs g y d (omega arith) (s .0) (s .1))
-  tells-told d Full after s = tt
+  tells-told : (e : Entry) (after : Words) → Told CELLS cs y (mixed y % CELLS) TRIES e after → Tells (followed (outcome e after) next .answer) (xs ++ y ∷ zs)
+  tells-told Entered after s =
+      let new = new-number TRIES CELLS cs (λ (r : ℕ). elem r xs) (g .filed) y after s in
+      tells-same (next after .answer) (y ∷ (xs ++ zs)) (xs ++ y ∷ zs) (moved y xs zs)
+      (ih after (record { filed = unfold elem in filed-more TRIES CELLS cs (λ (r : ℕ). elem r xs) (g .filed) y after s; apart = distinct-cons y xs .1 (new, g .apart) }))
+  tells-told Known after s = twice y xs zs (known-number TRIES CELLS cs (λ (r : ℕ). elem r xs) (g .filed) y after s)
+  tells-told Full after s = tt
 
-  tells-entered : Tells (followed (entered cs y) next .answer) (xs ++ y ∷ zs)
-  unfolding entered
-  tells-entered = go (eqb y 0) refl
-    where
-      go : (b : Bool) → eqb y 0 ≡ b → Tells (followed (entered cs y) next .answer) (xs ++ y ∷ zs)
-      go true e = rw (e, entered) tt
-      go false e = rw (e, entered) (tells-told (eqb-false y 0 e) (tried cs y (mixed y % PLACES) TRIES .answer) (tried cs y (mixed y % PLACES) TRIES .cells) (told cs y (mixed y % PLACES) TRIES))
+  tells-entered : Tells (followed (entered TRIES cs y) next .answer) (xs ++ y ∷ zs)
+  tells-entered = tells-told (entered TRIES cs y .answer) (entered TRIES cs y .cells) (told CELLS TRIES cs y (g .filed .long) (omega arith))
 
 tells-rest : (p : ℕ → Bool) (ys xs : List ℕ) (cs : Words) → Rel cs xs → Tells (enteredAll p ys cs .answer) (xs ++ filter p ys)
 unfolding enteredAll filter
@@ -105,4 +103,5 @@ tells-rest p (y ∷ ys) xs cs g = go (p y) refl (λ zs after h. tells-rest p ys 
 
 pub all-tells : (p : ℕ → Bool) (ys : List ℕ) (e : Entry) (after : Words) → outcome e after ≡ enteredAll p ys (replicate CELLS 0) → Tells e (filter p ys)
 all-tells p ys e after q =
-    subst (λ (x : Entry). Tells x (filter p ys)) (sym (ap (λ (o : Outcome). o .answer) q)) (tells-rest p ys [] (replicate CELLS 0) (related-none (λ (r : ℕ). mixed r % PLACES) TRIES CELLS))
+    subst (λ (x : Entry). Tells x (filter p ys)) (sym (ap (λ (o : Outcome). o .answer) q))
+    (tells-rest p ys [] (replicate CELLS 0) (record { filed = unfold elem in filed-none TRIES CELLS; apart = unfold distinct in refl }))

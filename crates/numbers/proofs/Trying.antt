@@ -1,46 +1,64 @@
 -- A try at a time: the cells and the tries left.
-use mathlib.Core.Path.{_≡_, ap, sym, _∙_}
-use Prim.Native.Nat.{ℕ, suc, _+_, _-_, _≤_, _<_, _%_}
+use mathlib.Core.Path.{_≡_, refl, ap, sym, _∙_}
+use mathlib.Core.Bool.{Bool, true, false, cond}
+use mathlib.Core.Logic.{_≢_}
+use Prim.Native.Nat.{ℕ, suc, _+_, _-_, _<_, _%_}
 use native.Mathlib.Omega.{arith}
-use native.Mathlib.Numerals.{add-one}
-use lib.ListN.{getD, set}
-use borrow.Author.Tests.{eq-eqb, ne-eqb}
+use lib.Dec.{eqb}
+use lib.ListN.{length, getD, set}
+use borrow.Author.Tests.{eq-eqb, ne-eqb, eqb-false}
 use Rattle.model.specs.Table.{Words}
 use Rattle.numbers.specs.declared.Entry.the-variants.{Entered, Known, Full}
-use Rattle.numbers.specs.Cells.{PLACES, SPREAD, TRIES, mixed, outcome, tried, entered}
+use Rattle.numbers.specs.Cells.{SPREAD, mixed, nextCell, outcome, tried, entered}
 
 pub mixed-below : (r : ℕ) → mixed r < SPREAD
 unfolding mixed
 mixed-below r = omega arith
 
-pub no-number : (cs : Words) (r : ℕ) → r ≡ 0 → outcome Full cs ≡ entered cs r
+-- ---- the next cell
+
+pub next-first : (n i : ℕ) → i + 1 ≡ n → 0 ≡ nextCell n i
+unfolding nextCell
+next-first n i e = rw (eq-eqb (i + 1) n e)
+
+pub next-up : (n i : ℕ) → i + 1 ≢ n → i + 1 ≡ nextCell n i
+unfolding nextCell
+next-up n i e = rw (ne-eqb (i + 1) n e)
+
+pub next-below : (n i : ℕ) → i < n → nextCell n i < n
+unfolding nextCell
+next-below n i h = go (eqb (i + 1) n) refl
+  where
+    go : (b : Bool) → eqb (i + 1) n ≡ b → cond b 0 (i + 1) < n
+    go true e = omega arith
+    go false e = let d = eqb-false (i + 1) n e in omega arith
+
+-- ---- the loop
+
+pub no-number : (m : ℕ) (cs : Words) (r : ℕ) → r ≡ 0 → outcome Full cs ≡ entered m cs r
 unfolding entered
-no-number cs r z = rw (eq-eqb r 0 z, entered)
+no-number m cs r z = rw (eq-eqb r 0 z, entered)
 
-pub some-number : (cs : Words) (r m : ℕ) → m ≡ mixed r → (r ≡ 0 → ⊥) → tried cs r (m % PLACES) (m % PLACES + TRIES - m % PLACES) ≡ entered cs r
+pub some-number : (m : ℕ) (cs : Words) (r i : ℕ) → i ≡ mixed r → (r ≡ 0 → ⊥) → tried (length cs) cs r (i % length cs) m ≡ entered m cs r
 unfolding entered
-some-number cs r m q z =
-    let e : m % PLACES + TRIES - m % PLACES ≡ TRIES = omega arith in
-    ap (tried cs r (m % PLACES)) e ∙ rw (q, ne-eqb r 0 z, entered)
+some-number m cs r i q z = rw (q, ne-eqb r 0 z, entered)
 
-module _ (cs : Words) (r i end : ℕ) where
-  tried-next : i < end → tried cs r i (end - i) ≡ tried cs r i (suc (end - (i + 1)))
-  tried-next h = let z : end - i ≡ suc (end - (i + 1)) = omega arith in ap (tried cs r i) z
+module _ (n : ℕ) (cs : Words) (r i m : ℕ) where
+  tried-next : 0 < m → tried n cs r i m ≡ tried n cs r i (suc (m - 1))
+  tried-next h = let z : m ≡ suc (m - 1) = omega arith in ap (tried n cs r i) z
 
-  pub tried-known : i < end → getD cs i 0 ≡ r → outcome Known cs ≡ tried cs r i (end - i)
+  pub tried-known : 0 < m → getD cs i 0 ≡ r → outcome Known cs ≡ tried n cs r i m
   unfolding tried
   tried-known h e = sym (tried-next h ∙ rw (eq-eqb (getD cs i 0) r e, tried))
 
-  pub tried-free : i < end → (getD cs i 0 ≡ r → ⊥) → getD cs i 0 ≡ 0 → outcome Entered (set cs i r) ≡ tried cs r i (end - i)
+  pub tried-free : 0 < m → (getD cs i 0 ≡ r → ⊥) → getD cs i 0 ≡ 0 → outcome Entered (set cs i r) ≡ tried n cs r i m
   unfolding tried
-  tried-free h n e = sym (tried-next h ∙ rw (ne-eqb (getD cs i 0) r n, eq-eqb (getD cs i 0) 0 e, tried))
+  tried-free h d e = sym (tried-next h ∙ rw (ne-eqb (getD cs i 0) r d, eq-eqb (getD cs i 0) 0 e, tried))
 
-  pub tried-more : i < end → (getD cs i 0 ≡ r → ⊥) → (getD cs i 0 ≡ 0 → ⊥) → tried cs r (i + 1) (end - (i + 1)) ≡ tried cs r i (end - i)
+  pub tried-more : 0 < m → (getD cs i 0 ≡ r → ⊥) → (getD cs i 0 ≡ 0 → ⊥) → (j : ℕ) → j ≡ nextCell n i → tried n cs r j (m - 1) ≡ tried n cs r i m
   unfolding tried
-  tried-more h n z =
-      ap (λ (k : ℕ). tried cs r k (end - (i + 1))) (add-one i)
-      ∙ sym (tried-next h ∙ rw (ne-eqb (getD cs i 0) r n, ne-eqb (getD cs i 0) 0 z, tried))
+  tried-more h d z j q = ap (λ (k : ℕ). tried n cs r k (m - 1)) q ∙ sym (tried-next h ∙ rw (ne-eqb (getD cs i 0) r d, ne-eqb (getD cs i 0) 0 z, tried))
 
-  pub tried-end : end ≤ i → outcome Full cs ≡ tried cs r i (end - i)
+  pub tried-end : m ≡ 0 → outcome Full cs ≡ tried n cs r i m
   unfolding tried
-  tried-end h = let z : end - i ≡ 0 = omega arith in sym (ap (tried cs r i) z)
+  tried-end h = sym (ap (tried n cs r i) h)

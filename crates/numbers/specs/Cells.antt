@@ -1,10 +1,10 @@
 -- Cells that hold numbers, 0 in a free one: what entering a number answers, and the cells after it.
 use mathlib.Core.Path.{_≡_}
-use mathlib.Core.Bool.{Bool, true, false}
+use mathlib.Core.Bool.{Bool, true, false, cond}
 use mathlib.Core.List.{List, [], _∷_}
 use Prim.Native.Nat.{ℕ, zero, suc, _+_, _*_, _%_}
 use lib.Dec.{eqb}
-use lib.ListN.{getD, set}
+use lib.ListN.{length, getD, set}
 use Rattle.model.specs.Table.{Words}
 use Rattle.model.specs.SoundTest.{distinct}
 use Rattle.numbers.specs.declared.Entry.{Entry}
@@ -17,14 +17,11 @@ SPREAD = 4294967291
 unfoldable pub mixed : ℕ → ℕ
 mixed r = (r % 2147483647) * 2246822519 % SPREAD
 
-abbrev pub PLACES : ℕ
-PLACES = 32749
+abbrev pub CELLS : ℕ
+CELLS = 32749
 
 abbrev pub TRIES : ℕ
 TRIES = 128
-
-abbrev pub CELLS : ℕ
-CELLS = PLACES + TRIES
 
 pub record Outcome : Type 0 where
   pub answer : Entry
@@ -33,18 +30,22 @@ pub record Outcome : Type 0 where
 abbrev pub outcome : Entry → Words → Outcome
 outcome e cs = record { answer = e; cells = cs }
 
--- from cell i on, so many tries
-unfoldable pub tried : Words → ℕ → ℕ → ℕ → Outcome
-tried cs r i zero = outcome Full cs
-tried cs r i (suc m) =
+-- the cell after cell i of n; the first comes after the last
+unfoldable pub nextCell : (n i : ℕ) → ℕ
+nextCell n i = cond (eqb (i + 1) n) 0 (i + 1)
+
+-- from cell i of n on, so many tries
+unfoldable pub tried : (n : ℕ) → Words → ℕ → ℕ → ℕ → Outcome
+tried n cs r i zero = outcome Full cs
+tried n cs r i (suc m) =
     elim (eqb (getD cs i 0) r) [
       | true ↦ outcome Known cs
-      | false ↦ elim (eqb (getD cs i 0) 0) [ true ↦ outcome Entered (set cs i r) | false ↦ tried cs r (suc i) m ]
+      | false ↦ elim (eqb (getD cs i 0) 0) [ true ↦ outcome Entered (set cs i r) | false ↦ tried n cs r (nextCell n i) m ]
     ]
 
--- 0, which marks a free cell, is not entered
-unfoldable pub entered : Words → ℕ → Outcome
-entered cs r = elim (eqb r 0) [ true ↦ outcome Full cs | false ↦ tried cs r (mixed r % PLACES) TRIES ]
+-- so many tries; 0, which marks a free cell, is not entered
+unfoldable pub entered : (m : ℕ) → Words → ℕ → Outcome
+entered m cs r = elim (eqb r 0) [ true ↦ outcome Full cs | false ↦ tried (length cs) cs r (mixed r % length cs) m ]
 
 -- after a number that was entered the next one; a number that is known, or finds no cell, is the last
 abbrev pub followed : Outcome → (Words → Outcome) → Outcome
@@ -52,7 +53,7 @@ followed o next = elim (o .answer) [ Entered ↦ next (o .cells) | Known ↦ o |
 
 -- a number, if it passes p
 unfoldable pub enteredIf : (ℕ → Bool) → Words → ℕ → Outcome
-enteredIf p cs x = elim (p x) [ true ↦ entered cs x | false ↦ outcome Entered cs ]
+enteredIf p cs x = elim (p x) [ true ↦ entered TRIES cs x | false ↦ outcome Entered cs ]
 
 -- the numbers that pass p, one by one
 unfoldable pub enteredAll : (ℕ → Bool) → List ℕ → Words → Outcome

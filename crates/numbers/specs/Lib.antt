@@ -1,2 +1,3 @@
--- What entering a number comes to.
+-- What entering a number comes to, and which numbers the cells hold.
 pub mod Cells
+pub mod Filed

@@ -1,19 +1,16 @@
 // A set of numbers in a slice of cells, by open addressing: 0 is a free cell.
 ghost use mathlib.Core.Path.{_≡_};
+ghost use Prim.Native.Nat.{_<_};
 ghost use lib.ListN.{length};
-ghost use Rattle.numbers.specs.Cells.{CELLS, mixed, outcome, entered};
+ghost use Rattle.numbers.specs.Cells.{mixed, nextCell, outcome, entered};
 
 // Numbers are scattered below this prime.
 pub const SPREAD: u64 = 4294967291;
 
-// A number's first place is the rest of the scattered number by this prime; so many cells from there on are tried, so that no path goes
-// round.
-const PLACES: u64 = 32749;
+// Cells, and tries, for a set that is to tell soon that it is crowded.
+pub const CELLS: usize = 32749;
 
-const TRIES: usize = 128;
-
-// So many cells are lent: the first places, and the tries from the last of them.
-pub const CELLS: usize = 32877;
+pub const TRIES: usize = 128;
 
 // What entering a number came to. Full says only that its cells are taken; 0 is never entered.
 pub enum Entry {
@@ -30,17 +27,30 @@ pub fn mixed(number: u64) -> u64
     (number % 2147483647) * 2246822519 % SPREAD
 }
 
-// Enters a number in the first free cell of its path, unless it is met before that.
-pub fn enter(cells: &mut [u64], number: u64) -> Entry
-    requires { ⌜ length (now cells) ≡ CELLS ⌝ }
-    ensures { λ r. ⌜ outcome r (now (cells .exit)) ≡ entered (now (cells .entry)) number ⌝ }
+// The cell after cell at of so many; the first comes after the last.
+fn next_cell(places: usize, at: usize) -> usize
+    requires { ⌜ at < places ⌝ }
+    ensures { λ r. ⌜ r ≡ nextCell places at ⌝ }
+{
+    let next = at + 1;
+    if next == places {
+        return 0;
+    }
+    next
+}
+
+// Enters a number in the first free cell of its path, unless it is met before that. The path has so many cells.
+pub fn enter(cells: &mut [u64], tries: usize, number: u64) -> Entry
+    requires { ⌜ 0 < length (now cells) ⌝ }
+    ensures { λ r. ⌜ outcome r (now (cells .exit)) ≡ entered tries (now (cells .entry)) number ⌝ }
 {
     if number == 0 {
         return Entry::Full;
     }
-    let mut at = (mixed(number) % PLACES) as usize;
-    let end = at + TRIES;
-    while at < end {
+    let places = cells.len();
+    let mut at = (mixed(number) % places as u64) as usize;
+    let mut left = tries;
+    while 0 < left {
         let held = cells[at];
         if held == number {
             return Entry::Known;
@@ -49,7 +59,8 @@ pub fn enter(cells: &mut [u64], number: u64) -> Entry
             cells[at] = number;
             return Entry::Entered;
         }
-        at += 1;
+        at = next_cell(places, at);
+        left -= 1;
     }
     Entry::Full
 }

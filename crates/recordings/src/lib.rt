@@ -149,7 +149,7 @@ fn enter_one(cells: &mut [u64], number: u64, low: u64, high: u64) -> Entry
     if !in_pass(number, low, high) {
         return Entry::Entered;
     }
-    numbers::enter(cells, number)
+    numbers::enter(cells, numbers::TRIES, number)
 }
 
 // Enters those of a leaf's recording numbers, its first way left aside, that are of the pass.

@@ -1,5 +1,6 @@
--- The definitions tried: writes whole and cut, what breaks soundness, single sentences, and request 1's.
+-- The definitions tried: writes whole and cut, what breaks soundness, single sentences, request 1's, and salvages.
 pub mod Calls
 pub mod Unsound
 pub mod Sentences
 pub mod NextUp
+pub mod Salvages

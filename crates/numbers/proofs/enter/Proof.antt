@@ -1,31 +1,33 @@
 -- `numbers::enter` meets its contract. The loop keeps what the tries that are left come to.
-use Prim.Native.Nat.{_-_, _≤_}
-use mathlib.Core.Path.{_≡_, sym, _∙_}
+use Prim.Native.Nat.{_<_}
+use mathlib.Core.Path.{_≡_, refl, _∙_}
 use native.Mathlib.Omega.{arith}
+use native.Mathlib.Nat.{mod-lt}
 use lib.ListN.{length, length-set}
-use Rattle.numbers.specs.Cells.{CELLS, tried, entered}
-use Rattle.numbers.proofs.Trying.{no-number, some-number, tried-known, tried-free, tried-more, tried-end}
+use Rattle.numbers.specs.Cells.{tried, entered}
+use Rattle.numbers.proofs.Trying.{next-below, no-number, some-number, tried-known, tried-free, tried-more, tried-end}
 use borrow.Author.Needs.{needs}
 use Rattle.numbers.proofs.enter.Statement.{statement}
 use Rattle.numbers.proofs.enter.Tie as tie
 
 abbrev Inv-loop : tie.InvT-loop
-Inv-loop cells₀ number at₀ end cells at = (length cells ≡ CELLS) × (end ≤ CELLS) × (tried cells number at (end - at) ≡ entered cells₀ number)
+Inv-loop cells₀ tries number places at₀ left₀ cells at left =
+    (length cells ≡ length cells₀) × (places ≡ length cells₀) × (at < places) × (tried places cells number at left ≡ entered tries cells₀ number)
 
 abbrev μ-loop : tie.MeasureT-loop
-μ-loop cells₀ number at₀ end cells at = end - at
+μ-loop cells₀ tries number places at₀ left₀ cells at left = left
 
 returns : tie.Need-returns Inv-loop μ-loop
-returns c = no-number _ _ (c .if1 .taken)
+returns c = no-number _ _ _ (c .if1 .taken)
 
 mixed-requires : tie.Need-mixed-requires Inv-loop μ-loop
 mixed-requires c κs = search needs
 
-add-end : tie.Need-add-end Inv-loop μ-loop
-add-end c = search needs
+rem-at : tie.Need-rem-at Inv-loop μ-loop
+rem-at c = search needs
 
 loop-holds : tie.Need-loop-holds Inv-loop μ-loop
-loop-holds c = (c .before .before .before .pre, omega arith, some-number _ _ _ (c .mixed .ensures) (c .before .if1 .left))
+loop-holds c = (refl, refl, mod-lt _ (c .before .before .before .pre), some-number _ _ _ _ (c .mixed .ensures) (c .before .if1 .left))
 
 mul-held : tie.Need-mul-held Inv-loop μ-loop
 mul-held c = search needs
@@ -37,7 +39,7 @@ same-length : tie.Need-same-length Inv-loop μ-loop
 same-length c = search needs
 
 returns-2 : tie.Need-returns-2 Inv-loop μ-loop
-returns-2 c = tried-known _ _ _ _ (c .before .before .loop-test .taken) (c .if2 .taken) ∙ c .before .before .before .loop .inv .2
+returns-2 c = tried-known _ _ _ _ _ (c .before .before .loop-test .taken) (c .if2 .taken) ∙ c .before .before .before .loop .inv .3
 
 mul-cells : tie.Need-mul-cells Inv-loop μ-loop
 mul-cells c = search needs
@@ -46,25 +48,32 @@ slice-write-cells : tie.Need-slice-write-cells Inv-loop μ-loop
 slice-write-cells c = search needs
 
 same-length-2 : tie.Need-same-length-2 Inv-loop μ-loop
-same-length-2 c = simp length-set (c .before .before .before .before .loop .inv .0 ∙ sym (c .before .before .before .before .before .before .before .before .pre))
+same-length-2 c = simp length-set (c .before .before .before .before .loop .inv .0)
 
 returns-3 : tie.Need-returns-3 Inv-loop μ-loop
-returns-3 c = tried-free _ _ _ _ (c .before .before .before .loop-test .taken) (c .before .if2 .left) (c .if3 .taken) ∙ c .before .before .before .before .loop .inv .2
+returns-3 c = tried-free _ _ _ _ _ (c .before .before .before .loop-test .taken) (c .before .if2 .left) (c .if3 .taken) ∙ c .before .before .before .before .loop .inv .3
 
-add-at : tie.Need-add-at Inv-loop μ-loop
-add-at c = search needs
+next-cell-requires : tie.Need-next-cell-requires Inv-loop μ-loop
+next-cell-requires c κs = search needs
+
+sub-left : tie.Need-sub-left Inv-loop μ-loop
+sub-left c = search needs
 
 loop-less : tie.Need-loop-less Inv-loop μ-loop
 loop-less c = search needs
 
 loop-again : tie.Need-loop-again Inv-loop μ-loop
-loop-again c = let l = c .before .before .before .before .loop in (l .inv .0, l .inv .1, tried-more _ _ _ _ (c .before .before .before .loop-test .taken) (c .before .if2 .left) (c .if3 .left) ∙ l .inv .2)
+loop-again c =
+    let l = c .before .before .before .before .before .loop in
+    let e = c .next-cell .ensures in
+    let b = next-below _ _ (l .inv .2) in
+    (l .inv .0, refl, omega (arith, e, b), tried-more _ _ _ _ _ (c .before .before .before .before .loop-test .taken) (c .before .before .if2 .left) (c .before .if3 .left) _ e ∙ l .inv .3)
 
 same-length-3 : tie.Need-same-length-3 Inv-loop μ-loop
 same-length-3 c = search needs
 
 returns-4 : tie.Need-returns-4 Inv-loop μ-loop
-returns-4 c = tried-end _ _ _ _ (c .loop-test .left) ∙ c .before .loop .inv .2
+returns-4 c = tried-end _ _ _ _ _ (let t = c .loop-test .left in omega (arith, t)) ∙ c .before .loop .inv .3
 
 pub enter-spec : {M : Type 1} → statement M
 enter-spec =
@@ -74,7 +83,7 @@ enter-spec =
     μ-loop
     returns
     mixed-requires
-    add-end
+    rem-at
     loop-holds
     mul-held
     slice-read-held
@@ -84,7 +93,8 @@ enter-spec =
     slice-write-cells
     same-length-2
     returns-3
-    add-at
+    next-cell-requires
+    sub-left
     loop-less
     loop-again
     same-length-3

@@ -1,0 +1,3 @@
+-- Laws that the functions' proofs cite, and what a caller may know of the pairs.
+pub mod Around
+pub mod Places

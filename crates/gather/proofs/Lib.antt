@@ -1,0 +1,4 @@
+-- Laws that the functions' proofs cite.
+pub mod Pairs
+pub mod Slots
+pub mod Leaves

@@ -1,0 +1,63 @@
+-- `gather::gather` meets its contract.
+use borrow.Author.Needs.{needs}
+use Rattle.model.specs.Salvage.{gathered}
+use Rattle.gather.proofs.Slots.{front-long, front-fits}
+use Rattle.gather.proofs.Leaves.{cleared-standing, closed-pairs}
+use Rattle.gather.proofs.gather.Statement.{statement}
+use Rattle.gather.proofs.gather.Tie as tie
+
+mul-end : tie.Need-mul-end
+mul-end c = search needs
+
+clear-requires : tie.Need-clear-requires
+clear-requires c κs = search needs
+
+gather-nodes-requires : tie.Need-gather-nodes-requires
+gather-nodes-requires c κs =
+    let a = c .before .before .before .before .before .before .before .before .before .before .args in
+    let p = c .before .before .before .before .before .before .before .before .before .before .pre in
+    let k = c .before .before .before .before .clear in
+    (p .0, p .1 .along, cleared-standing (a .table .now) (a .order .now) (a .count) (a .words .now) (a .bound) (a .report .now) (p .1) (k .last .0) (k .ensures), p .1 .most)
+
+slice-relend-prefix-close : tie.Need-slice-relend-prefix-close
+slice-relend-prefix-close c = search needs
+
+slice-aggregate-close : tie.Need-slice-aggregate-close
+slice-aggregate-close c =
+    let g = c .before .before .before .before .before .gather-nodes in
+    front-long (g .last .1 .1 .1 .1 .0) (c .before .before .before .before .before .before .before .before .before .before .before .before .before .before .before .before .args .bound) (g .result) (g .ensures .1 .0)
+
+close-requires : tie.Need-close-requires
+close-requires c κs =
+    let g = c .before .before .before .before .before .gather-nodes in
+    front-fits (g .last .1 .1 .1 .1 .0) (c .before .before .before .before .before .before .before .before .before .before .before .before .before .before .before .before .args .bound) (g .result) (g .ensures .1 .0)
+
+same-length : tie.Need-same-length
+same-length c = search needs
+
+same-length-2 : tie.Need-same-length-2
+same-length-2 c = search needs
+
+returns : tie.Need-returns
+returns c =
+    let a = c .before .before .before .before .before .before .before .before .before .before .before .before .before .before .before .before .before .before .before .args in
+    let g = c .before .before .before .before .before .before .before .before .gather-nodes in
+    let e = g .ensures in
+    let k = c .before .before .close in
+    let w = g .last .1 .1 .1 .1 .0 in
+    let r = g .last .1 .1 .1 .1 .1 .1 .0 in
+    (closed-pairs w (a .bound) r (g .result) (gathered (a .table .now)) (k .last .0) (e .1 .0) (e .0) (k .kept .0) (k .ensures), e .1 .1)
+
+pub gather-spec : {M : Type 1} → statement M
+gather-spec =
+    tie.close
+    (tie.spec
+    mul-end
+    clear-requires
+    gather-nodes-requires
+    slice-relend-prefix-close
+    slice-aggregate-close
+    close-requires
+    same-length
+    same-length-2
+    returns)

@@ -1,0 +1,6 @@
+-- Laws that the functions' proofs cite.
+
+pub mod Filling
+pub mod Leaves
+pub mod Rows
+pub mod Raising

@@ -1,0 +1,6 @@
+-- Laws of packing.
+pub mod Stacks
+pub mod Standing
+pub mod Groups
+pub mod Packed
+pub mod Counts

@@ -1,0 +1,3 @@
+-- What the functions of this crate take and make.
+pub mod Header
+pub mod Bound

@@ -1,0 +1,230 @@
+-- `tour::tour` meets its contract.
+use mathlib.Core.Path.{sym, _∙_}
+use Prim.Native.Nat.{_-_}
+use native.Mathlib.Omega.{arith}
+use lib.ListN.{length-set}
+use borrow.Author.Needs.{needs}
+use Rattle.tour.proofs.Going.{measure}
+use Rattle.tour.proofs.State.{State, marks-long, root-few, state-start, state-pop, pop-less, state-on, state-refused, pass-less, node-few, count-less, state-enter, enter-less, state-end}
+use Rattle.tour.proofs.tour.Statement.{statement}
+use Rattle.tour.proofs.tour.Tie as tie
+
+abbrev Inv-loop : tie.InvT-loop
+Inv-loop table top marks₀ stack₀ ways₀ order₀ root count₀ depth₀ marks stack ways order count depth =
+    State table top marks stack ways order count depth
+
+abbrev μ-loop : tie.MeasureT-loop
+μ-loop table top marks₀ stack₀ ways₀ order₀ root count₀ depth₀ marks stack ways order count depth =
+    measure table ways count depth
+
+shared-slice-read-root : tie.Need-shared-slice-read-root Inv-loop μ-loop
+shared-slice-read-root c = let q = root-few _ _ _ _ _ _ (c .before .before .before .before .before .before .pre) in omega (arith, q .2)
+
+slice-write-marks : tie.Need-slice-write-marks Inv-loop μ-loop
+slice-write-marks c = let q = root-few _ _ _ _ _ _ (c .before .before .before .before .before .before .pre) in let z = marks-long _ _ _ _ _ _ (c .before .before .before .before .before .before .pre) in omega (arith, q .1, z)
+
+cast-stack : tie.Need-cast-stack Inv-loop μ-loop
+cast-stack c = let q = root-few _ _ _ _ _ _ (c .before .before .before .before .before .before .pre) in omega (arith, q .1)
+
+slice-write-stack : tie.Need-slice-write-stack Inv-loop μ-loop
+slice-write-stack c = search needs
+
+slice-write-ways : tie.Need-slice-write-ways Inv-loop μ-loop
+slice-write-ways c = search needs
+
+cast-order : tie.Need-cast-order Inv-loop μ-loop
+cast-order c = let q = root-few _ _ _ _ _ _ (c .before .before .before .before .before .before .pre) in omega (arith, q .1)
+
+slice-write-order : tie.Need-slice-write-order Inv-loop μ-loop
+slice-write-order c = search needs
+
+loop-holds : tie.Need-loop-holds Inv-loop μ-loop
+loop-holds c = state-start _ _ _ _ _ _ (c .before .before .before .before .before .before .pre)
+
+sub-last : tie.Need-sub-last Inv-loop μ-loop
+sub-last c = search needs
+
+mul-n : tie.Need-mul-n Inv-loop μ-loop
+mul-n c = search needs
+
+slice-read-n : tie.Need-slice-read-n Inv-loop μ-loop
+slice-read-n c = search needs
+
+cast-n : tie.Need-cast-n Inv-loop μ-loop
+cast-n c = let d = c .before .before .loop .depth in omega (arith, c .slice-known5 .given (d - 1))
+
+slice-read-w : tie.Need-slice-read-w Inv-loop μ-loop
+slice-read-w c = search needs
+
+loop-less : tie.Need-loop-less Inv-loop μ-loop
+loop-less c = let d = c .before .before .before .loop-test .taken in pop-less _ _ _ _ _ _ _ _ _ (omega (arith, d)) (c .before .before .before .before .loop .inv)
+
+loop-again : tie.Need-loop-again Inv-loop μ-loop
+loop-again c = let d = c .before .before .before .loop-test .taken in state-pop _ _ _ _ _ _ _ _ _ (omega (arith, d)) (c .before .before .before .before .loop .inv) (c .if1 .taken)
+
+look-requires : tie.Need-look-requires Inv-loop μ-loop
+look-requires c κs = search needs
+
+slice-write-ways-2 : tie.Need-slice-write-ways-2 Inv-loop μ-loop
+slice-write-ways-2 c = search needs
+
+may-enter-requires : tie.Need-may-enter-requires Inv-loop μ-loop
+may-enter-requires c κs = search needs
+
+slice-write-marks-2 : tie.Need-slice-write-marks-2 Inv-loop μ-loop
+slice-write-marks-2 c =
+    let l = c .before .before .before .before in
+    let d = l .before .before .before .before .loop-test .taken in
+    let s = l .before .before .before .before .before .loop .inv in
+    let q = node-few _ _ _ _ _ _ _ _ _ (omega (arith, d)) s (l .look .result) (l .look .ensures) (c .before .before .before .if2 .taken) (c .before .may-enter .result) (c .before .may-enter .ensures) (c .if3 .taken) in
+    omega (arith, q, s .long .marks)
+
+cast-order-2 : tie.Need-cast-order-2 Inv-loop μ-loop
+cast-order-2 c =
+    let l = c .before .before .before .before .before in
+    let d = l .before .before .before .before .loop-test .taken in
+    let s = l .before .before .before .before .before .loop .inv in
+    let q = node-few _ _ _ _ _ _ _ _ _ (omega (arith, d)) s (l .look .result) (l .look .ensures) (c .before .before .before .before .if2 .taken) (c .before .before .may-enter .result)
+    (c .before .before .may-enter .ensures) (c .before .if3 .taken) in
+    omega (arith, q)
+
+mul-order : tie.Need-mul-order Inv-loop μ-loop
+mul-order c = search needs
+
+slice-write-order-2 : tie.Need-slice-write-order-2 Inv-loop μ-loop
+slice-write-order-2 c = search needs
+
+add-count : tie.Need-add-count Inv-loop μ-loop
+add-count c = search needs
+
+cast-stack-2 : tie.Need-cast-stack-2 Inv-loop μ-loop
+cast-stack-2 c =
+    let l = c .before .before .before .before .before .before in
+    let d = l .before .before .before .before .loop-test .taken in
+    let s = l .before .before .before .before .before .loop .inv in
+    let q = node-few _ _ _ _ _ _ _ _ _ (omega (arith, d)) s (l .look .result) (l .look .ensures) (c .before .before .before .before .before .if2 .taken) (c .before .before .before .may-enter .result)
+    (c .before .before .before .may-enter .ensures) (c .before .before .if3 .taken) in
+    omega (arith, q)
+
+mul-stack : tie.Need-mul-stack Inv-loop μ-loop
+mul-stack c = search needs
+
+slice-write-stack-2 : tie.Need-slice-write-stack-2 Inv-loop μ-loop
+slice-write-stack-2 c = search needs
+
+slice-write-ways-3 : tie.Need-slice-write-ways-3 Inv-loop μ-loop
+slice-write-ways-3 c =
+    let l = c .before .before .before .before .before .before in
+    let d = l .before .before .before .before .loop-test .taken in
+    let s = l .before .before .before .before .before .loop .inv in
+    let q = count-less _ _ _ _ _ _ _ _ _ (omega (arith, d)) s (l .look .result) (l .look .ensures) (c .before .before .before .before .before .if2 .taken) (c .before .before .before .may-enter .result)
+    (c .before .before .before .may-enter .ensures) (c .before .before .if3 .taken) in
+    simp length-set (omega (arith, q, s .deep, s .few, s .long .ways))
+
+add-depth : tie.Need-add-depth Inv-loop μ-loop
+add-depth c = search needs
+
+loop-less-2 : tie.Need-loop-less-2 Inv-loop μ-loop
+loop-less-2 c =
+    let l = c .before .before .before .before .before .before in
+    let d = l .before .before .before .before .loop-test .taken in
+    let s = l .before .before .before .before .before .loop .inv in
+    enter-less _ _ _ _ _ _ _ _ _ (omega (arith, d)) s (l .look .result) (l .look .ensures) (c .before .before .before .before .before .if2 .taken) (c .before .before .before .may-enter .result)
+    (c .before .before .before .may-enter .ensures) (c .before .before .if3 .taken)
+
+loop-again-2 : tie.Need-loop-again-2 Inv-loop μ-loop
+loop-again-2 c =
+    let l = c .before .before .before .before .before .before in
+    let d = l .before .before .before .before .loop-test .taken in
+    let s = l .before .before .before .before .before .loop .inv in
+    state-enter _ _ _ _ _ _ _ _ _ (omega (arith, d)) s (l .look .result) (l .look .ensures) (c .before .before .before .before .before .if2 .taken) (c .before .before .before .may-enter .result)
+    (c .before .before .before .may-enter .ensures) (c .before .before .if3 .taken)
+
+loop-less-3 : tie.Need-loop-less-3 Inv-loop μ-loop
+loop-less-3 c =
+    let l = c .before .before .before .before in
+    let d = l .before .before .before .before .loop-test .taken in
+    let s = l .before .before .before .before .before .loop .inv in
+    pass-less _ _ _ _ _ _ _ _ _ (omega (arith, d)) s (l .look .result) (l .look .ensures)
+
+loop-again-3 : tie.Need-loop-again-3 Inv-loop μ-loop
+loop-again-3 c =
+    let l = c .before .before .before .before in
+    let d = l .before .before .before .before .loop-test .taken in
+    let s = l .before .before .before .before .before .loop .inv in
+    state-refused _ _ _ _ _ _ _ _ _ (omega (arith, d)) s (l .look .result) (l .look .ensures) (c .before .before .before .if2 .taken) (c .before .may-enter .result) (c .before .may-enter .ensures) (c .if3 .left)
+
+loop-less-4 : tie.Need-loop-less-4 Inv-loop μ-loop
+loop-less-4 c =
+    let l = c .before in
+    let d = l .before .before .before .before .loop-test .taken in
+    let s = l .before .before .before .before .before .loop .inv in
+    pass-less _ _ _ _ _ _ _ _ _ (omega (arith, d)) s (l .look .result) (l .look .ensures)
+
+loop-again-4 : tie.Need-loop-again-4 Inv-loop μ-loop
+loop-again-4 c =
+    let l = c .before in
+    let d = l .before .before .before .before .loop-test .taken in
+    let s = l .before .before .before .before .before .loop .inv in
+    state-on _ _ _ _ _ _ _ _ _ (omega (arith, d)) s (l .look .result) (l .look .ensures) (c .if2 .left)
+
+same-length : tie.Need-same-length Inv-loop μ-loop
+same-length c = c .before .loop .inv .long .marks ∙ sym (marks-long _ _ _ _ _ _ (c .before .before .before .before .before .before .before .before .pre))
+
+same-length-2 : tie.Need-same-length-2 Inv-loop μ-loop
+same-length-2 c = c .before .loop .inv .long .stack ∙ sym (c .before .before .before .before .before .before .before .before .pre .stack)
+
+same-length-3 : tie.Need-same-length-3 Inv-loop μ-loop
+same-length-3 c = c .before .loop .inv .long .ways ∙ sym (c .before .before .before .before .before .before .before .before .pre .ways)
+
+same-length-4 : tie.Need-same-length-4 Inv-loop μ-loop
+same-length-4 c = c .before .loop .inv .long .order ∙ sym (c .before .before .before .before .before .before .before .before .pre .order)
+
+returns : tie.Need-returns Inv-loop μ-loop
+returns c = let s = c .before .loop .inv in (state-end _ _ _ _ _ _ _ _ (let l = c .loop-test .left in omega (arith, l)) s, s .entered-few)
+
+pub tour-spec : {M : Type 1} → statement M
+tour-spec =
+    tie.close
+    (tie.spec
+    Inv-loop
+    μ-loop
+    shared-slice-read-root
+    slice-write-marks
+    cast-stack
+    slice-write-stack
+    slice-write-ways
+    cast-order
+    slice-write-order
+    loop-holds
+    sub-last
+    mul-n
+    slice-read-n
+    cast-n
+    slice-read-w
+    loop-less
+    loop-again
+    look-requires
+    slice-write-ways-2
+    may-enter-requires
+    slice-write-marks-2
+    cast-order-2
+    mul-order
+    slice-write-order-2
+    add-count
+    cast-stack-2
+    mul-stack
+    slice-write-stack-2
+    slice-write-ways-3
+    add-depth
+    loop-less-2
+    loop-again-2
+    loop-less-3
+    loop-again-3
+    loop-less-4
+    loop-again-4
+    same-length
+    same-length-2
+    same-length-3
+    same-length-4
+    returns)
