@@ -13,6 +13,8 @@ const HEADER_WORDS: usize = 8;
 /// Pairs in a leaf of a sound table, at most.
 const SLOTS: usize = 11;
 const ABSENT: u64 = 255;
+/// Tables have one collection.
+const COLLECTION: u64 = 1;
 const LINE_BYTES: usize = 64;
 
 #[repr(C)]
@@ -32,7 +34,7 @@ extern "C" {
     fn plain_pack(table: *mut u64, nodes: usize, place: *const u64, keys: *const u64, recordings: *const u64, count: usize);
     fn plain_search(table: *const u64, key: u64, next: *mut u64) -> u64;
     fn plain_foreseen_search(table: *const u64, key: u64, next: *mut u64) -> u64;
-    fn plain_tested_search(table: *const u64, words: usize, key: u64, next: *mut u64) -> u64;
+    fn plain_tested_search(table: *const u64, words: usize, collection: u64, key: u64, next: *mut u64) -> u64;
     fn plain_read_pass(table: *const u64, nodes: usize) -> u64;
 
     fn fastfair_new(keys: usize) -> *mut c_void;
@@ -140,7 +142,7 @@ impl Orders {
 }
 
 pub fn make(table: &mut [u64]) -> u64 {
-    unsafe { catalogue_make(table.as_mut_ptr(), table.len()) }
+    unsafe { catalogue_make(table.as_mut_ptr(), table.len(), COLLECTION) }
 }
 
 /// A recording, or 0 and the next key up; that is 0 where none is higher.
@@ -150,7 +152,7 @@ pub type Found = (u64, u64);
 #[inline(always)]
 pub fn search(table: &[u64], key: u64) -> Found {
     let (mut recording, mut access, mut next, mut higher) = (0, 0, 0, 0);
-    let number = unsafe { catalogue_search(table.as_ptr(), table.len(), key, &mut recording, &mut access, &mut next, &mut higher) };
+    let number = unsafe { catalogue_search(table.as_ptr(), table.len(), COLLECTION, key, &mut recording, &mut access, &mut next, &mut higher) };
     assert!(number == 0 || number == ABSENT, "a search was refused");
     (recording, next)
 }
@@ -158,17 +160,17 @@ pub fn search(table: &[u64], key: u64) -> Found {
 /// With class 0.
 pub fn insert(table: &mut [u64], orders: &mut Orders, key: u64, recording: u64) -> u64 {
     let list = orders.words.as_mut_ptr();
-    unsafe { catalogue_insert(table.as_mut_ptr(), table.len(), list, orders.words.len(), key, recording, 0, &mut orders.stores, &mut orders.flushes) }
+    unsafe { catalogue_insert(table.as_mut_ptr(), table.len(), COLLECTION, list, orders.words.len(), key, recording, 0, &mut orders.stores, &mut orders.flushes) }
 }
 
 pub fn set_class(table: &mut [u64], orders: &mut Orders, key: u64, access: u64) -> u64 {
     let list = orders.words.as_mut_ptr();
-    unsafe { catalogue_set_class(table.as_mut_ptr(), table.len(), list, orders.words.len(), key, access, &mut orders.stores, &mut orders.flushes) }
+    unsafe { catalogue_set_class(table.as_mut_ptr(), table.len(), COLLECTION, list, orders.words.len(), key, access, &mut orders.stores, &mut orders.flushes) }
 }
 
 pub fn delete(table: &mut [u64], orders: &mut Orders, key: u64) -> u64 {
     let list = orders.words.as_mut_ptr();
-    unsafe { catalogue_delete(table.as_mut_ptr(), table.len(), list, orders.words.len(), key, &mut orders.stores, &mut orders.flushes) }
+    unsafe { catalogue_delete(table.as_mut_ptr(), table.len(), COLLECTION, list, orders.words.len(), key, &mut orders.stores, &mut orders.flushes) }
 }
 
 pub fn repair(table: &mut [u64], orders: &mut Orders) -> u64 {
@@ -180,7 +182,7 @@ pub fn repair(table: &mut [u64], orders: &mut Orders) -> u64 {
 pub fn list(table: &[u64]) -> Vec<(u64, u64)> {
     let mut words = vec![0; 2 * SLOTS * (table.len() / NODE_WORDS)];
     let (mut pairs, mut more) = (0, 1);
-    let number = unsafe { catalogue_list(table.as_ptr(), table.len(), 0, u64::MAX, words.as_mut_ptr(), words.len(), &mut pairs, &mut more) };
+    let number = unsafe { catalogue_list(table.as_ptr(), table.len(), COLLECTION, 0, u64::MAX, words.as_mut_ptr(), words.len(), &mut pairs, &mut more) };
     assert!(number == 0 && more == 0, "a listing answers {number}, {more} for more");
     words.chunks(2).take(pairs as usize).map(|pair| (pair[0], pair[1])).collect()
 }
@@ -245,7 +247,7 @@ pub fn search_foreseen(table: &[u64], key: u64) -> Found {
 #[inline(always)]
 pub fn search_tested(table: &[u64], key: u64) -> Found {
     let mut next = 0;
-    (unsafe { plain_tested_search(table.as_ptr(), table.len(), key, &mut next) }, next)
+    (unsafe { plain_tested_search(table.as_ptr(), table.len(), COLLECTION, key, &mut next) }, next)
 }
 
 /// The sum of all words of nodes 1 .. nodes.

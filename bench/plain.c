@@ -2,6 +2,7 @@
 #include "plain.h"
 
 enum { HEADER_WORDS = 8, NODE_WORDS = 32, SLOTS = 12, FIRST_SLOT = 8 };
+enum { FIRST_ROOT = 1, SECOND_ROOT = 3 };
 enum { MOST_NODES = 65535, MOST_LEVEL = 15 };
 enum { LEFT = 0, SIBLING = 1, LEVEL = 2, FENCE = 3 };
 
@@ -102,7 +103,7 @@ void plain_pack(uint64_t *table, size_t nodes, const uint64_t *place, const uint
     for (uint64_t level = 1; row.count > 1; level++)
         row = pack_above(table, place, row, level);
     table[0] = 1;
-    table[1] = place[row.first];
+    table[FIRST_ROOT] = place[row.first];
     table[2] = nodes;
 }
 
@@ -180,7 +181,7 @@ static uint64_t answer(const uint64_t *table, const uint64_t *leaf, uint64_t key
 
 uint64_t plain_search(const uint64_t *table, uint64_t key, uint64_t *next)
 {
-    uint64_t number = table[1];
+    uint64_t number = table[FIRST_ROOT];
     for (uint64_t level = seen_at(table, number)[LEVEL]; level > 0; level--)
         number = route(stand(table, number, key), key);
     return answer(table, stand(table, number, key), key, next);
@@ -188,7 +189,7 @@ uint64_t plain_search(const uint64_t *table, uint64_t key, uint64_t *next)
 
 uint64_t plain_foreseen_search(const uint64_t *table, uint64_t key, uint64_t *next)
 {
-    uint64_t number = table[1];
+    uint64_t number = table[FIRST_ROOT];
     for (uint64_t level = seen_at(table, number)[LEVEL]; level > 0; level--)
         number = route(stand_foreseen(table, number, key), key);
     return answer(table, stand_foreseen(table, number, key), key, next);
@@ -200,10 +201,18 @@ static uint64_t tested_nodes(const uint64_t *table, size_t words)
     uint64_t nodes = words < HEADER_WORDS ? 0 : (words - HEADER_WORDS) / NODE_WORDS;
     if (nodes == 0 || nodes > MOST_NODES || HEADER_WORDS + NODE_WORDS * nodes != words || table[0] != 1 || table[2] != nodes)
         return 0;
-    for (size_t w = 3; w < HEADER_WORDS; w++)
+    for (size_t w = SECOND_ROOT + 1; w < HEADER_WORDS; w++)
         if (table[w] != 0)
             return 0;
-    return table[1] >= 1 && table[1] <= nodes ? nodes : 0;
+    if (table[SECOND_ROOT] != 0 && (table[SECOND_ROOT] > nodes || nodes == 1))
+        return 0;
+    return table[FIRST_ROOT] >= 1 && table[FIRST_ROOT] <= nodes ? nodes : 0;
+}
+
+/* The root of a collection; 0 where the table has no such collection. */
+static uint64_t tested_root(const uint64_t *table, uint64_t collection)
+{
+    return collection == 1 ? table[FIRST_ROOT] : collection == 2 ? table[SECOND_ROOT] : 0;
 }
 
 static int on_level(const uint64_t *table, uint64_t nodes, uint64_t number, uint64_t level)
@@ -229,12 +238,12 @@ static uint64_t tested_answer(const uint64_t *table, uint64_t nodes, const uint6
     return 0;
 }
 
-uint64_t plain_tested_search(const uint64_t *table, size_t words, uint64_t key, uint64_t *next)
+uint64_t plain_tested_search(const uint64_t *table, size_t words, uint64_t collection, uint64_t key, uint64_t *next)
 {
-    uint64_t nodes = tested_nodes(table, words);
-    if (nodes == 0)
+    uint64_t nodes = tested_nodes(table, words), number = nodes == 0 ? 0 : tested_root(table, collection);
+    if (number == 0)
         return 0;
-    uint64_t number = table[1], level = seen_at(table, number)[LEVEL];
+    uint64_t level = seen_at(table, number)[LEVEL];
     if (level > MOST_LEVEL)
         return 0;
     for (;; level--) {

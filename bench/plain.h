@@ -21,7 +21,7 @@ uint64_t plain_search(const uint64_t *table, uint64_t key, uint64_t *next);
 uint64_t plain_foreseen_search(const uint64_t *table, uint64_t key, uint64_t *next);
 
 /* That one with every test that the library's search makes, on any words. A refusal gives 0 too, and leaves *next. */
-uint64_t plain_tested_search(const uint64_t *table, size_t words, uint64_t key, uint64_t *next);
+uint64_t plain_tested_search(const uint64_t *table, size_t words, uint64_t collection, uint64_t key, uint64_t *next);
 
 /* The sum of all words of nodes 1 .. nodes. */
 uint64_t plain_read_pass(const uint64_t *table, size_t nodes);

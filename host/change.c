@@ -27,12 +27,13 @@ uint64_t change_plan(struct change *c, struct table *t)
 {
     switch (c->kind) {
     case ADD:
-        return catalogue_insert(t->working, t->words, c->orders, CATALOGUE_LIST_WORDS, c->key, c->recording, c->access, &c->stores,
-                                &c->flushes);
+        return catalogue_insert(t->working, t->words, t->collection, c->orders, CATALOGUE_LIST_WORDS, c->key, c->recording, c->access,
+                                &c->stores, &c->flushes);
     case REMOVE:
-        return catalogue_delete(t->working, t->words, c->orders, CATALOGUE_LIST_WORDS, c->key, &c->stores, &c->flushes);
+        return catalogue_delete(t->working, t->words, t->collection, c->orders, CATALOGUE_LIST_WORDS, c->key, &c->stores, &c->flushes);
     case CLASS:
-        return catalogue_set_class(t->working, t->words, c->orders, CATALOGUE_LIST_WORDS, c->key, c->access, &c->stores, &c->flushes);
+        return catalogue_set_class(t->working, t->words, t->collection, c->orders, CATALOGUE_LIST_WORDS, c->key, c->access, &c->stores,
+                                   &c->flushes);
     default:
         return catalogue_repair(t->working, t->words, c->orders, CATALOGUE_LIST_WORDS, &c->stores, &c->flushes);
     }
@@ -43,7 +44,7 @@ static void print_place(uint64_t word)
 {
     static const char *const node_words[] = {"left", "sibling", "level", "fence"};
     if (word < HEADER_WORDS) {
-        printf(word == 1 ? "the root's number" : "header");
+        printf(word == FIRST_ROOT ? "the root's number" : word == SECOND_ROOT ? "the root's number of collection 2" : "header");
         return;
     }
     uint64_t within = (word - HEADER_WORDS) % NODE_WORDS;

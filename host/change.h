@@ -22,7 +22,7 @@ struct change {
  */
 int change_read(struct change *c, enum kind kind, char **words, int count);
 
-/* Makes the change on the working copy and its orders in the list. 0, or the refusal number; then nothing moved. */
+/* Makes the change in the table's collection, on the working copy, and its orders in the list. 0, or the refusal; then nothing moved. */
 uint64_t change_plan(struct change *c, struct table *t);
 
 /* The orders, numbered as --cut counts them, with the place of each in the table. */

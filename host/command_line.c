@@ -26,6 +26,17 @@ static bool read_pause(struct command_line *l, const char *value)
     return read_number(value, strlen(value), &l->table.carrying.pause);
 }
 
+static bool read_collection(struct command_line *l, const char *value)
+{
+    return read_number(value, strlen(value), &l->table.collection);
+}
+
+static bool set_loan(struct command_line *l, const char *value)
+{
+    (void)value;
+    return l->loan = true;
+}
+
 static bool set_fast(struct command_line *l, const char *value)
 {
     (void)value;
@@ -63,6 +74,10 @@ static bool set_version(struct command_line *l, const char *value)
 }
 
 const struct option options[] = {
+    {"--loan", NULL, NULL, "a table of two collections, which share its nodes: 1, the archive's own, and 2, the loan\ncollection",
+     "make room.cat 100 --loan", MAKING, set_loan},
+    {"--collection", "N", "a number, 1 or 2", "works on collection N of the table; 1 where none is named",
+     "add room.cat AA0001912345 7 --collection 2", NAMING, read_collection},
     {"--again", NULL, NULL, "passes over lines that the table has already", "load room.cat codes.csv --again", LOADING, set_again},
     {"--keep-going", NULL, NULL, "passes over bad lines and loads the rest; the exit status is that of the first bad line",
      "load room.cat codes.csv --keep-going", LOADING, set_keep_going},
@@ -117,6 +132,7 @@ int command_line_read(struct command_line *l, int count, char **words)
 {
     bool only_words = false;
     l->table.carrying.flush = flush_best();
+    l->table.collection = 1;
     for (int i = 0; i < count; i++) {
         bool option = !only_words && (strncmp(words[i], "--", 2) == 0 || strcmp(words[i], "-h") == 0);
         if (option && strcmp(words[i], "--") == 0) {

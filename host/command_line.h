@@ -13,7 +13,7 @@
 #define MOST_WORDS 7
 
 /* Kinds of options, for which commands take which. */
-enum { CUT = 1, LOADING = 2, CARRYING = 4, WAITING = 8 };
+enum { CUT = 1, LOADING = 2, CARRYING = 4, WAITING = 8, NAMING = 16, MAKING = 32 };
 
 struct command_line {
     char *words[MOST_WORDS]; /* the command, the table, and what follows */
@@ -21,6 +21,7 @@ struct command_line {
     unsigned given; /* kinds of options */
     bool help, version;
     uint64_t cut;
+    bool loan; /* a new table has two collections */
     struct table_options table;
     struct load_options load;
     /* What a command reads from its words. */

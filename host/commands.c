@@ -18,7 +18,7 @@
 static int plan(struct table *t, struct change *c)
 {
     uint64_t number = change_plan(c, t);
-    return number == 0 ? 0 : refuse(number, t->name, c->key, c->recording);
+    return number == 0 ? 0 : refuse(number, t, c->key, c->recording);
 }
 
 static void say_done(const struct change *c)
@@ -70,24 +70,25 @@ static int print_orders(struct table *t, struct command_line *l)
 }
 
 /* The code is not there; the next one up, or null for none. */
-static int say_absent(const char *table, uint64_t key, const uint64_t *next)
+static int say_absent(const struct table *t, uint64_t key, const uint64_t *next)
 {
-    char code[KEY_TEXT], above[KEY_TEXT];
+    char code[KEY_TEXT], above[KEY_TEXT], part[PART_TEXT];
     key_text(key, code);
+    table_part(t, part);
     if (!next)
-        return fail(CATALOGUE_ABSENT, "%s is not in %s, and no code there is higher", code, table);
-    return fail(CATALOGUE_ABSENT, "%s is not in %s; the next code up is %s", code, table, key_text(*next, above));
+        return fail(CATALOGUE_ABSENT, "%s is not in %s%s, and no code there is higher", code, part, t->name);
+    return fail(CATALOGUE_ABSENT, "%s is not in %s%s; the next code up is %s", code, part, t->name, key_text(*next, above));
 }
 
 static int find(struct table *t, struct command_line *l)
 {
     uint64_t recording, access, next, higher;
     char pointer[POINTER_TEXT];
-    uint64_t number = catalogue_search(t->working, t->words, l->low, &recording, &access, &next, &higher);
+    uint64_t number = catalogue_search(t->working, t->words, t->collection, l->low, &recording, &access, &next, &higher);
     if (number == CATALOGUE_ABSENT)
-        return say_absent(t->name, l->low, higher ? &next : NULL);
+        return say_absent(t, l->low, higher ? &next : NULL);
     if (number != 0)
-        return refuse(number, t->name, l->low, 0);
+        return refuse(number, t, l->low, 0);
     printf("%s\n", pointer_text(recording, access, pointer));
     return 0;
 }
@@ -100,9 +101,9 @@ static int list(struct table *t, struct command_line *l)
     if (!pairs)
         return fail(BAD_FILE, "not enough memory");
     char code[KEY_TEXT], pointer[POINTER_TEXT];
-    uint64_t number = catalogue_list(t->working, t->words, l->low, l->high, pairs, room, &count, &more);
+    uint64_t number = catalogue_list(t->working, t->words, t->collection, l->low, l->high, pairs, room, &count, &more);
     if (number != 0)
-        refuse(number, t->name, 0, 0);
+        refuse(number, t, 0, 0);
     for (uint64_t i = 0; i < count; i++)
         printf("%s,%s\n", key_text(pairs[2 * i], code),
                pointer_text(CATALOGUE_RECORDING(pairs[2 * i + 1]), CATALOGUE_CLASS(pairs[2 * i + 1]), pointer));
@@ -155,9 +156,9 @@ static int read_nodes(struct command_line *l, const char *word)
     return read_number(word, strlen(word), &l->nodes) ? 0 : fail(BAD_USAGE, "%.40s: a table has 1 to %d nodes", word, MOST_NODES);
 }
 
-static int say_made(const char *name, uint64_t nodes)
+static int say_made(const char *name, uint64_t nodes, const char *more)
 {
-    printf("made %s with %" PRIu64 " node%s\n", name, nodes, nodes == 1 ? "" : "s");
+    printf("made %s with %" PRIu64 " node%s%s\n", name, nodes, nodes == 1 ? "" : "s", more);
     return 0;
 }
 
@@ -165,8 +166,8 @@ static int command_make(struct command_line *l)
 {
     int status = read_nodes(l, l->words[2]);
     if (status == 0)
-        status = table_make(l->words[1], l->nodes);
-    return status != 0 ? status : say_made(l->words[1], l->nodes);
+        status = table_make(l->words[1], l->nodes, l->loan ? 2 : 1);
+    return status != 0 ? status : say_made(l->words[1], l->nodes, l->loan ? " and two collections" : "");
 }
 
 static int command_copy(struct command_line *l)
@@ -174,7 +175,7 @@ static int command_copy(struct command_line *l)
     int status = read_nodes(l, l->words[3]);
     if (status == 0)
         status = with_table(l, false, copy_table);
-    return status != 0 ? status : say_made(l->words[2], l->nodes);
+    return status != 0 ? status : say_made(l->words[2], l->nodes, "");
 }
 
 static int change_table(struct command_line *l, enum kind kind)
@@ -212,6 +213,8 @@ static int command_orders(struct command_line *l)
     } kinds[] = {{"add", 5, 6, ADD}, {"remove", 4, 4, REMOVE}, {"class", 5, 5, CLASS}, {"repair", 3, 3, REPAIR}};
     for (size_t i = 0; i < sizeof kinds / sizeof kinds[0]; i++)
         if (strcmp(l->words[2], kinds[i].name) == 0 && l->count >= kinds[i].least && l->count <= kinds[i].most) {
+            if (kinds[i].kind == REPAIR && l->given & NAMING)
+                return WRONG_FORM;
             int status = change_read(&l->change, kinds[i].kind, l->words + 3, l->count - 3);
             return status != 0 ? status : with_table(l, false, print_orders);
         }
@@ -270,24 +273,26 @@ static int command_help(struct command_line *l)
 }
 
 const struct command commands[] = {
-    {"make", "TABLE NODES", "a new, empty table of 1 to 65535 nodes; allow one for every 4 codes", "make room.cat 100", 3, 3, 0,
+    {"make", "TABLE NODES", "a new, empty table of 1 to 65535 nodes; allow one for every 4 codes", "make room.cat 100", 3, 3, MAKING,
      command_make},
     {"add", "TABLE CODE RECORDING [CLASS]", "a new code, with its recording's class: open (if none is given), room or closed",
-     "add room.cat AA-000-19-12345 7 room", 4, 5, CUT | CARRYING | WAITING, command_add},
-    {"remove", "TABLE CODE", "a code taken out", "remove room.cat AA-000-19-12345", 3, 3, CUT | CARRYING | WAITING, command_remove},
+     "add room.cat AA-000-19-12345 7 room", 4, 5, NAMING | CUT | CARRYING | WAITING, command_add},
+    {"remove", "TABLE CODE", "a code taken out", "remove room.cat AA-000-19-12345", 3, 3, NAMING | CUT | CARRYING | WAITING,
+     command_remove},
     {"class", "TABLE CODE CLASS", "another class for a code's recording: open, room or closed", "class room.cat AA-000-19-12345 closed",
-     4, 4, CUT | CARRYING | WAITING, command_class},
+     4, 4, NAMING | CUT | CARRYING | WAITING, command_class},
     {"find", "TABLE CODE", "prints the code's recording,class; where the code is absent, tells the next one up",
-     "find room.cat AA0001912345", 3, 3, WAITING, command_find},
+     "find room.cat AA0001912345", 3, 3, NAMING | WAITING, command_find},
     {"list", "TABLE [FROM TO]", "prints the codes from FROM to TO, or all, as lines code,recording,class that load\nreads",
-     "list room.cat AA0000000000 AAZZZ9999999", 2, 4, WAITING, command_list},
+     "list room.cat AA0000000000 AAZZZ9999999", 2, 4, NAMING | WAITING, command_list},
     {"load", "TABLE FILE.csv",
      "adds the lines code,recording or code,recording,class of a file, or of standard input\n"
      "where it is -; a line without a class is open. A byte-order mark, a header line, empty\n"
      "lines, spaces and quotes around the fields are passed over. Loading stops at the first\n"
      "bad line; the first 20 are told",
-     "load room.cat codes.csv", 3, 3, LOADING | CARRYING | WAITING, command_load},
-    {"repair", "TABLE", "finishes what a power cut left unfinished (add, remove, class and load do so first)", "repair room.cat", 2, 2,
+     "load room.cat codes.csv", 3, 3, NAMING | LOADING | CARRYING | WAITING, command_load},
+    {"repair", "TABLE",
+     "finishes what a power cut left unfinished, in either collection (add, remove, class and\nload do so first)", "repair room.cat", 2, 2,
      CUT | CARRYING | WAITING, command_repair},
     {"copy", "TABLE NEW NODES", "a new table of NODES nodes, as many as TABLE has or more, with the same codes",
      "copy room.cat larger.cat 200", 4, 4, WAITING, command_copy},
@@ -297,10 +302,11 @@ const struct command commands[] = {
      "salvage room.cat saved.cat", 3, 3, WAITING, command_salvage},
     {"orders", "TABLE CHANGE ..",
      "prints the stores and flushes of a change without making it: add CODE RECORDING\n[CLASS], remove CODE, class CODE CLASS, or repair",
-     "orders room.cat add AA0001912345 7", 3, 6, WAITING, command_orders},
+     "orders room.cat add AA0001912345 7", 3, 6, NAMING | WAITING, command_orders},
     {"check", "TABLE", "says whether the table is settled, sound with a leftover, or not sound, and how many\nnodes are free for more codes",
      "check room.cat", 2, 2, WAITING, command_check},
-    {"show", "TABLE", "draws the tree by level, with hidden and trailing slots and the leftover; #N is a\nkey that no code has",
+    {"show", "TABLE",
+     "draws each collection's tree by level, with hidden and trailing slots and the leftover;\n#N is a key that no code has",
      "show room.cat", 2, 2, WAITING, command_show},
     {"help", "[COMMAND]", "this text, or that of one command", "help load", 1, 2, 0, command_help},
     {NULL, NULL, NULL, NULL, 0, 0, 0, NULL},

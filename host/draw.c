@@ -10,26 +10,27 @@
 #include "tree.h"
 
 /* The library judges: a repair of the working copy is refused, has stores, or has none. It uses the copy up. */
-static int judge(struct table *t, const struct tree *tree)
+static int judge(struct table *t, const struct trees *trees)
 {
     struct change c = {.kind = REPAIR};
     uint64_t number = change_plan(&c, t);
     if (number != 0)
-        return refuse(number, t->name, 0, 0);
-    size_t codes = tree_codes(tree);
+        return refuse(number, t, 0, 0);
+    size_t codes = trees_codes(trees), used = trees_nodes(trees);
+    uint64_t nodes = trees->of[0].nodes;
     printf("%s is %s: %zu code%s in %zu of %" PRIu64 " nodes, %" PRIu64 " free\n", t->name, c.stores == 0 ? "settled" : "sound", codes,
-           codes == 1 ? "" : "s", tree->count, tree->nodes, tree->nodes - tree->count);
-    struct leftover l = tree_leftover(tree);
+           codes == 1 ? "" : "s", used, nodes, nodes - used);
+    trees_print(trees);
     if (c.stores != 0)
-        leftover_print(&l);
+        leftover_print(trees);
     return 0;
 }
 
 int check(struct table *t)
 {
-    struct tree tree;
-    int status = tree_walk(&tree, t->expected) ? judge(t, &tree) : fail(BAD_FILE, "not enough memory");
-    tree_free(&tree);
+    struct trees trees;
+    int status = trees_walk(&trees, t->expected) ? judge(t, &trees) : fail(BAD_FILE, "not enough memory");
+    trees_free(&trees);
     return status;
 }
 
@@ -116,16 +117,26 @@ static void draw(struct tree *tree)
     }
 }
 
+/* A node that both roots lead to, which no sound table has, is drawn in each. */
+static void draw_all(struct trees *trees)
+{
+    for (size_t i = 0; i < trees->count; i++) {
+        if (trees->count > 1)
+            printf("\ncollection %zu\n", i + 1);
+        draw(&trees->of[i]);
+    }
+}
+
 int show(struct table *t)
 {
-    struct tree tree;
+    struct trees trees;
     int status = BAD_FILE;
-    if (tree_walk(&tree, t->expected)) {
-        status = judge(t, &tree);
-        draw(&tree);
+    if (trees_walk(&trees, t->expected)) {
+        status = judge(t, &trees);
+        draw_all(&trees);
     } else {
         fail(status, "not enough memory");
     }
-    tree_free(&tree);
+    trees_free(&trees);
     return status;
 }

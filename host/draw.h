@@ -4,10 +4,10 @@
 
 #include "table.h"
 
-/* Settled, sound with its leftover, or not sound: one line. 0, or an exit status after saying why. */
+/* Settled, sound with its leftover, or not sound; a line for each of two collections. 0, or an exit status after saying why. */
 int check(struct table *t);
 
-/* The same, then the tree, a node to a paragraph. */
+/* The same, then each collection's tree, a node to a paragraph. */
 int show(struct table *t);
 
 #endif

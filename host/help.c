@@ -18,6 +18,10 @@ static const char before[] =
     "A table is a file, mapped into memory. A code is typed with or without hyphens and spaces, in capital or small letters\n"
     "(AA-000-19-12345, in quotes where it has spaces). A recording is a whole number from 1 to 72057594037927935. Its class\n"
     "says where it plays: open, everywhere; room, only in the room; closed, not at all. A word after -- is no option.\n"
+    "\n"
+    "A table made with --loan has a second collection, for what travels: it has its own codes and may hold recordings of the\n"
+    "first. add, remove, class, find, list, load and orders work on collection 1, or on 2 with --collection 2; the other\n"
+    "commands work on the whole table.\n"
     "\n";
 
 static const char durability[] =

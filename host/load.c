@@ -52,7 +52,8 @@ static void watch_signal(int number)
 static bool recording_there(const struct loading *l, uint64_t *access)
 {
     uint64_t recording, next, higher;
-    uint64_t number = catalogue_search(l->table->expected, l->table->words, l->change.key, &recording, access, &next, &higher);
+    uint64_t number = catalogue_search(l->table->expected, l->table->words, l->table->collection, l->change.key, &recording,
+                                       access, &next, &higher);
     return number == 0 && recording == l->change.recording;
 }
 
@@ -91,7 +92,7 @@ static void bad_line(struct loading *l, int status)
     if (l->bad > SHOWN_BAD)
         return;
     if (status != BAD_LINE)
-        explain((uint64_t)status, l->table->name, l->change.key, l->change.recording, why);
+        explain((uint64_t)status, l->table, l->change.key, l->change.recording, why);
     const char *more = status == CATALOGUE_KEY_PRESENT ? hint_for(l, hint) : "";
     progress_clear(&l->progress);
     fail(status, "%s, line %" PRIu64 ", \"%s\": %s%s", l->name, l->rows.number, rows_text(&l->rows, text), why, more);
@@ -117,7 +118,7 @@ static int add(struct loading *l)
         return 0;
     }
     int status = number == 0 ? table_carry_out(l->table, c->orders, c->stores + c->flushes)
-                             : refuse(number, l->table->name, c->key, c->recording);
+                             : refuse(number, l->table, c->key, c->recording);
     if (status != 0)
         return fail(status, "%s: stopped before line %" PRIu64 "; what came before is kept", l->name, l->rows.number);
     l->added++;

@@ -13,8 +13,9 @@ struct load_options {
 };
 
 /*
- * Adds the lines of the file, or of standard input where its name is -. A bad line ends it, unless told to keep going; the lines after it
- * are only read then, to tell which of them are bad. What came before is kept. 0, or an exit status after saying why.
+ * Adds the lines of the file, or of standard input where its name is -, to the table's collection. A bad line ends it, unless told to keep
+ * going; the lines after it are only read then, to tell which of them are bad. What came before is kept. 0, or an exit status after saying
+ * why.
  */
 int load(struct table *t, const char *name, const struct load_options *options);
 

@@ -19,17 +19,19 @@ const struct refusal refusals[] = {
      "to keep has damaged it; find still answers where its way is whole, and catalogue salvage {table} NEW keeps what can be read"},
     {CATALOGUE_SHORT_LIST, "order list too short", "the order list is too short"},
     {CATALOGUE_BAD_RECORDING, "recording 0 or too large", "{recording}: " RECORDINGS},
-    {CATALOGUE_KEY_PRESENT, "code there already", "{code} is in {table} already"},
-    {CATALOGUE_RECORDING_PRESENT, "recording there already", "recording {recording} is in {table} under another code"},
-    {CATALOGUE_KEY_ABSENT, "code to change absent", "{code} is not in {table}"},
+    {CATALOGUE_KEY_PRESENT, "code there already", "{code} is in {part}{table} already"},
+    {CATALOGUE_RECORDING_PRESENT, "recording there already", "recording {recording} is in {part}{table} under another code"},
+    {CATALOGUE_KEY_ABSENT, "code to change absent", "{code} is not in {part}{table}"},
     {CATALOGUE_NO_NODES, "no free nodes",
      "{table} is full: adding {code} takes more nodes than are free; catalogue copy {table} NEW NODES makes a larger table"},
-    {CATALOGUE_TOO_HIGH, "tree too high", "{table} is full: its tree has 16 levels and adding {code} would take one more"},
+    {CATALOGUE_TOO_HIGH, "tree too high", "{part}{table} is full: its tree has 16 levels and adding {code} would take one more"},
     {CATALOGUE_PARENT_FULL, "no room for a repair", "{table} cannot be repaired: the node where a slot is missing is full"},
     {CATALOGUE_BAD_ORDERS, "order outside the table", "an order lies outside of {table}"},
     {CATALOGUE_BAD_CLASS, "no such class", CLASSES},
     {CATALOGUE_OTHER_LENGTH, "salvage into another length", NULL},
     {CATALOGUE_SHORT_REPORT, "report of a salvage too short", NULL},
+    {CATALOGUE_NO_COLLECTION, "no such collection",
+     "{table} has no collection {collection}; a table has collection 1, and 2 where it was made with --loan"},
     {BAD_USAGE, "wrong command line", NULL},
     {BAD_LINE, "wrong line in a file to load", NULL},
     {BAD_FILE, "a file cannot be read or written, or another program uses it or changed it", NULL},
@@ -47,13 +49,15 @@ static const char *message_of(uint64_t number)
     return r->message;
 }
 
-const char *explain(uint64_t number, const char *table, uint64_t key, uint64_t recording, char text[EXPLANATION])
+const char *explain(uint64_t number, const struct table *t, uint64_t key, uint64_t recording, char text[EXPLANATION])
 {
-    char code[KEY_TEXT], digits[KEY_TEXT];
+    char code[KEY_TEXT], digits[KEY_TEXT], part[PART_TEXT], collection[KEY_TEXT];
     snprintf(digits, sizeof digits, "%" PRIu64, recording);
+    snprintf(collection, sizeof collection, "%" PRIu64, t->collection);
     const struct {
         const char *name, *value;
-    } fields[] = {{"{table}", table}, {"{code}", key_text(key, code)}, {"{recording}", digits}};
+    } fields[] = {{"{table}", t->name}, {"{part}", table_part(t, part)}, {"{collection}", collection}, {"{code}", key_text(key, code)},
+                  {"{recording}", digits}};
     const char *from = message_of(number);
     if (!from) {
         snprintf(text, EXPLANATION, "refused with the number %" PRIu64, number);

@@ -4,7 +4,9 @@
 
 #include <stdint.h>
 
-/* The program's own, beside the refusal numbers 1 to 16 and 255 for an absent code. */
+#include "table.h"
+
+/* The program's own, beside the refusal numbers 1 to 17 and 255 for an absent code. */
 enum {
     BAD_USAGE = 64,   /* the command line has another form */
     BAD_LINE = 65,    /* a line of a file to load has another form */
@@ -18,7 +20,11 @@ enum {
 struct refusal {
     uint64_t number;
     const char *name;    /* as --help lists it */
-    const char *message; /* with {table}, {code} and {recording} for what is refused; null where the place of the failure says it */
+    /*
+     * With {table}, {part} (what table_part says), {collection}, {code} and {recording} for what is refused; null where the place of the
+     * failure says it.
+     */
+    const char *message;
 };
 
 /* In the order of the numbers; the last one has no name. */
@@ -28,6 +34,6 @@ extern const struct refusal refusals[];
 #define EXPLANATION 512
 
 /* What a refusal number says of this table, key and recording; the text given is filled and returned. */
-const char *explain(uint64_t number, const char *table, uint64_t key, uint64_t recording, char text[EXPLANATION]);
+const char *explain(uint64_t number, const struct table *t, uint64_t key, uint64_t recording, char text[EXPLANATION]);
 
 #endif

@@ -47,7 +47,7 @@ static int read_table(const struct table *t, struct salvaged *s)
     uint64_t number = catalogue_salvage(t->expected, t->words, s->words, t->words, s->report, room, &s->dropped);
     if (number == CATALOGUE_NO_NODES)
         return fail((int)number, "the codes of %s, packed anew, take more nodes than its %" PRIu64, t->name, nodes);
-    return number == 0 ? 0 : refuse(number, t->name, 0, 0);
+    return number == 0 ? 0 : refuse(number, t, 0, 0);
 }
 
 static void say_dropped(const struct tree *from, const uint64_t drop[DROP_WORDS])
@@ -63,29 +63,30 @@ static void say_dropped(const struct tree *from, const uint64_t drop[DROP_WORDS]
            pointer_text(CATALOGUE_RECORDING(held), CATALOGUE_CLASS(held), pointer), node, slot, reasons[drop[2]]);
 }
 
-static void say_salvaged(const struct table *t, const struct salvaged *s, const struct tree *made, const char *name)
+static void say_salvaged(const struct table *t, const struct salvaged *s, const struct trees *made, const char *name)
 {
     const struct tree from = {.words = t->expected};
     for (uint64_t i = 0; i < s->dropped; i++)
         say_dropped(&from, s->report + DROP_WORDS * i);
-    size_t codes = tree_codes(made);
-    printf("made %s with %" PRIu64 " node%s: %zu code%s kept, %" PRIu64 " slot%s dropped, %zu node%s used\n", name, made->nodes,
-           made->nodes == 1 ? "" : "s", codes, codes == 1 ? "" : "s", s->dropped, s->dropped == 1 ? "" : "s", made->count,
-           made->count == 1 ? "" : "s");
+    size_t codes = trees_codes(made), used = trees_nodes(made);
+    uint64_t nodes = made->of[0].nodes;
+    printf("made %s with %" PRIu64 " node%s: %zu code%s kept, %" PRIu64 " slot%s dropped, %zu node%s used\n", name, nodes,
+           nodes == 1 ? "" : "s", codes, codes == 1 ? "" : "s", s->dropped, s->dropped == 1 ? "" : "s", used, used == 1 ? "" : "s");
+    trees_print(made);
 }
 
 int salvage(struct table *t, const char *name)
 {
     struct salvaged s = {0};
-    struct tree made = {0};
+    struct trees made = {0};
     int status = read_table(t, &s);
-    if (status == 0 && !tree_walk(&made, s.words))
+    if (status == 0 && !trees_walk(&made, s.words))
         status = fail(BAD_FILE, "not enough memory for %s", t->name);
     if (status == 0)
         status = new_file(name, s.words, t->words);
     if (status == 0)
         say_salvaged(t, &s, &made, name);
-    tree_free(&made);
+    trees_free(&made);
     free(s.words);
     free(s.report);
     return status;

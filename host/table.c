@@ -4,6 +4,7 @@
 #include <errno.h>
 #include <fcntl.h>
 #include <inttypes.h>
+#include <stdio.h>
 #include <stdlib.h>
 #include <string.h>
 #include <sys/file.h>
@@ -25,8 +26,8 @@ static size_t words_for(uint64_t nodes)
 
 /* ---- making */
 
-/* Room for a table of so many nodes, zeroed and to be freed; null after saying why, with the exit status. */
-static uint64_t *room_for(uint64_t nodes, size_t *words, int *status)
+/* An empty table of so many nodes, to be freed; null after saying why, with the exit status. */
+static uint64_t *room_for(uint64_t nodes, uint64_t collections, size_t *words, int *status)
 {
     *words = nodes <= MOST_NODES ? words_for(nodes) : 0;
     uint64_t *table = calloc(*words + 1, sizeof *table);
@@ -34,19 +35,21 @@ static uint64_t *room_for(uint64_t nodes, size_t *words, int *status)
         *status = fail(BAD_FILE, "not enough memory for %" PRIu64 " nodes", nodes);
         return NULL;
     }
-    uint64_t number = catalogue_make(table, *words);
+    uint64_t number = catalogue_make(table, *words, collections);
     if (number == 0)
         return table;
-    *status = fail((int)number, "a table has 1 to %d nodes, not %" PRIu64, MOST_NODES, nodes);
+    /* A root for each. */
+    *status = fail((int)number, "a table%s has %" PRIu64 " to %d nodes, not %" PRIu64, collections == 1 ? "" : " of two collections",
+                   collections, MOST_NODES, nodes);
     free(table);
     return NULL;
 }
 
-int table_make(const char *name, uint64_t nodes)
+int table_make(const char *name, uint64_t nodes, uint64_t collections)
 {
     size_t words;
     int status;
-    uint64_t *table = room_for(nodes, &words, &status);
+    uint64_t *table = room_for(nodes, collections, &words, &status);
     if (table)
         status = new_file(name, table, words);
     free(table);
@@ -167,7 +170,15 @@ static int test_header(const struct table *t)
     if (t->expected[0] == 1 && nodes >= 1 && nodes <= MOST_NODES && words_for(nodes) != t->words)
         return fail(CATALOGUE_NO_TABLE, "%s has %zu bytes, but its header says %" PRIu64 " nodes, which take %zu", t->name,
                     t->words * sizeof(uint64_t), nodes, words_for(nodes) * sizeof(uint64_t));
-    return refuse(CATALOGUE_NO_TABLE, t->name, 0, 0);
+    return refuse(CATALOGUE_NO_TABLE, t, 0, 0);
+}
+
+/* Any search tells a collection that there is not. */
+static int test_collection(const struct table *t)
+{
+    uint64_t recording, access, next, higher;
+    uint64_t number = catalogue_search(t->working, t->words, t->collection, 0, &recording, &access, &next, &higher);
+    return number == CATALOGUE_NO_COLLECTION ? refuse(number, t, 0, 0) : 0;
 }
 
 /* Waits until the disk has the mapped words. */
@@ -190,7 +201,7 @@ static int begin_writing(struct table *t)
 
 int table_open(struct table *t, const char *name, bool writing, const struct table_options *options)
 {
-    *t = (struct table){.name = name, .file = -1, .writing = writing};
+    *t = (struct table){.name = name, .file = -1, .writing = writing, .collection = options->collection};
     int status = open_locked(t, options->wait);
     if (status == 0)
         status = measure(t);
@@ -200,6 +211,8 @@ int table_open(struct table *t, const char *name, bool writing, const struct tab
         status = copy_words(t);
     if (status == 0)
         status = test_header(t);
+    if (status == 0)
+        status = test_collection(t);
     if (status == 0)
         status = begin_writing(t);
     return status;
@@ -256,7 +269,7 @@ int table_carry_out(struct table *t, const uint64_t *orders, uint64_t count)
     /* Before the first real store: the library refuses orders outside the table. */
     uint64_t number = catalogue_carry_out(t->expected, t->words, orders, CATALOGUE_LIST_WORDS, count);
     if (number != 0)
-        return refuse(number, t->name, 0, 0);
+        return refuse(number, t, 0, 0);
     /* A list that ends with a flush of its page leaves nothing on the way. */
     if (count > 0 && (t->carrying.flush != flush_by_page() || orders[2 * (count - 1)] != CATALOGUE_MARK))
         t->unsettled = true;
@@ -279,7 +292,7 @@ int table_compare(struct table *t)
 
 /* ---- copying */
 
-/* A node's words do not depend on the number of nodes: a larger table has the same nodes, and more that no way leads to. */
+/* A node's words do not depend on the number of nodes: a larger table has the same nodes and roots, and more that no way leads to. */
 static int enlarge(struct table *t, uint64_t *larger, size_t words, uint64_t nodes)
 {
     uint64_t orders[CATALOGUE_LIST_WORDS], stores, flushes;
@@ -289,7 +302,7 @@ static int enlarge(struct table *t, uint64_t *larger, size_t words, uint64_t nod
         larger[2] = nodes;
         number = catalogue_repair(larger, words, orders, CATALOGUE_LIST_WORDS, &stores, &flushes);
     }
-    return number == 0 ? 0 : refuse(number, t->name, 0, 0);
+    return number == 0 ? 0 : refuse(number, t, 0, 0);
 }
 
 int table_copy(struct table *t, const char *name, uint64_t nodes)
@@ -299,7 +312,7 @@ int table_copy(struct table *t, const char *name, uint64_t nodes)
         return fail(BAD_USAGE, "%s has %" PRIu64 " nodes; a copy has as many or more, up to %d", t->name, has, MOST_NODES);
     size_t words;
     int status;
-    uint64_t *larger = room_for(nodes, &words, &status);
+    uint64_t *larger = room_for(nodes, 1, &words, &status);
     if (!larger)
         return status;
     status = enlarge(t, larger, words, nodes);
@@ -307,6 +320,14 @@ int table_copy(struct table *t, const char *name, uint64_t nodes)
         status = new_file(name, larger, words);
     free(larger);
     return status;
+}
+
+const char *table_part(const struct table *t, char text[PART_TEXT])
+{
+    text[0] = '\0';
+    if (t->expected && t->expected[SECOND_ROOT] != 0)
+        snprintf(text, PART_TEXT, "collection %" PRIu64 " of ", t->collection);
+    return text;
 }
 
 void table_close(struct table *t)

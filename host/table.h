@@ -10,6 +10,8 @@
 #include "flush.h"
 
 #define HEADER_WORDS 8
+#define FIRST_ROOT 1  /* header word of collection 1's root */
+#define SECOND_ROOT 3 /* of collection 2's; 0 where the table has one collection */
 #define NODE_WORDS 32
 #define MOST_NODES 65535
 
@@ -20,6 +22,7 @@
 struct table_options {
     uint64_t wait; /* seconds for programs that have the file locked */
     bool fast;     /* on an ordinary disk: waits for the disk once, at the end, and not at each flush */
+    uint64_t collection; /* that the command reads or changes */
     struct carrying carrying;
 };
 
@@ -29,6 +32,7 @@ struct table {
     bool writing;
     bool unsettled; /* stores were carried out that no flush has brought to the disk */
     size_t words;
+    uint64_t collection; /* that is read or changed: one that the table has */
     uint64_t *mapped;   /* the file's words: persistent memory, where the file system gives it */
     uint64_t *expected; /* what the mapped words should hold, to notice another program's stores */
     uint64_t *working;  /* the working copy, which the library's calls change */
@@ -38,8 +42,8 @@ struct table {
 
 /* These return 0, or an exit status after saying why. */
 
-/* A new file with an empty table. */
-int table_make(const char *name, uint64_t nodes);
+/* A new file with an empty table of one collection or two. */
+int table_make(const char *name, uint64_t nodes, uint64_t collections);
 
 /* An opened table is closed by table_close, also where the opening failed. */
 int table_open(struct table *t, const char *name, bool writing, const struct table_options *options);
@@ -53,8 +57,17 @@ int table_settle(struct table *t);
 /* The file has what this program left there, and nothing else. */
 int table_compare(struct table *t);
 
-/* A new file with a table of so many nodes, at least as many as this one has, and with its codes. Uses the working copy up. */
+/*
+ * A new file with a table of so many nodes, at least as many as this one has, and with the codes of all its collections. Uses the working
+ * copy up.
+ */
 int table_copy(struct table *t, const char *name, uint64_t nodes);
+
+/* Room for table_part. */
+#define PART_TEXT 48
+
+/* "collection 2 of ", to stand before the name of a table that has two; "" for another. The text given is filled and returned. */
+const char *table_part(const struct table *t, char text[PART_TEXT]);
 
 void table_close(struct table *t);
 

@@ -27,10 +27,10 @@ int fail(int status, const char *format, ...)
     return status;
 }
 
-int refuse(uint64_t number, const char *table, uint64_t key, uint64_t recording)
+int refuse(uint64_t number, const struct table *t, uint64_t key, uint64_t recording)
 {
     char text[EXPLANATION];
-    return fail((int)number, "%s", explain(number, table, key, recording, text));
+    return fail((int)number, "%s", explain(number, t, key, recording, text));
 }
 
 bool read_number(const char *text, size_t length, uint64_t *number)
@@ -103,5 +103,6 @@ int read_code_word(const char *word, uint64_t *key)
 {
     char text[EXPLANATION];
     uint64_t number = read_code(word, strlen(word), key);
-    return number == 0 ? 0 : fail((int)number, "%.40s: %s", word, explain(number, "", 0, 0, text));
+    const struct table none = {.name = ""};
+    return number == 0 ? 0 : fail((int)number, "%.40s: %s", word, explain(number, &none, 0, 0, text));
 }

@@ -7,6 +7,7 @@
 #include <stdint.h>
 
 #include "refusals.h"
+#include "table.h"
 
 /* Room for a code, or for # and a number, and the final 0. */
 #define KEY_TEXT 24
@@ -14,8 +15,8 @@
 /* Says why on standard error and gives the status back, so that a caller can return it. */
 int fail(int status, const char *format, ...) __attribute__((format(printf, 2, 3)));
 
-/* The same for a refusal number of the library. */
-int refuse(uint64_t number, const char *table, uint64_t key, uint64_t recording);
+/* The same for a refusal number of the library, of a call on this table. */
+int refuse(uint64_t number, const struct table *t, uint64_t key, uint64_t recording);
 
 /* Decimal digits that fit a word. */
 bool read_number(const char *text, size_t length, uint64_t *number);

@@ -75,9 +75,9 @@ static void reach_from(struct tree *tree, uint32_t n)
             reach(tree, tree_pointer(tree, n, i), n);
 }
 
-bool tree_walk(struct tree *tree, const uint64_t *words)
+static bool walk(struct tree *tree, const uint64_t *words, uint64_t root)
 {
-    *tree = (struct tree){.words = words, .root = words[1], .nodes = words[2]};
+    *tree = (struct tree){.words = words, .root = root, .nodes = words[2]};
     tree->reached = calloc(tree->nodes + 1, sizeof *tree->reached);
     tree->seen = calloc(tree->nodes + 1, sizeof *tree->seen);
     tree->parent = calloc(tree->nodes + 1, sizeof *tree->parent);
@@ -90,11 +90,19 @@ bool tree_walk(struct tree *tree, const uint64_t *words)
     return true;
 }
 
-void tree_free(struct tree *tree)
+bool trees_walk(struct trees *trees, const uint64_t *words)
 {
-    free(tree->reached);
-    free(tree->seen);
-    free(tree->parent);
+    *trees = (struct trees){.count = words[SECOND_ROOT] == 0 ? 1 : 2};
+    return walk(&trees->of[0], words, words[FIRST_ROOT]) && (trees->count == 1 || walk(&trees->of[1], words, words[SECOND_ROOT]));
+}
+
+void trees_free(struct trees *trees)
+{
+    for (size_t i = 0; i < MOST_COLLECTIONS; i++) {
+        free(trees->of[i].reached);
+        free(trees->of[i].seen);
+        free(trees->of[i].parent);
+    }
 }
 
 /* ---- what a sound table holds */
@@ -107,7 +115,7 @@ static unsigned count_slots(const struct tree *tree, uint64_t n, enum slot kind)
     return count;
 }
 
-size_t tree_codes(const struct tree *tree)
+static size_t codes_of(const struct tree *tree)
 {
     size_t codes = 0;
     for (size_t i = 0; i < tree->count; i++)
@@ -115,6 +123,41 @@ size_t tree_codes(const struct tree *tree)
             codes += count_slots(tree, tree->reached[i], SHOWN);
     return codes;
 }
+
+size_t trees_codes(const struct trees *trees)
+{
+    size_t codes = 0;
+    for (size_t i = 0; i < trees->count; i++)
+        codes += codes_of(&trees->of[i]);
+    return codes;
+}
+
+size_t trees_nodes(const struct trees *trees)
+{
+    size_t nodes = 0;
+    for (size_t i = 0; i < trees->count; i++)
+        nodes += trees->of[i].count;
+    return nodes;
+}
+
+void trees_print(const struct trees *trees)
+{
+    for (size_t i = 0; trees->count > 1 && i < trees->count; i++) {
+        size_t codes = codes_of(&trees->of[i]), nodes = trees->of[i].count;
+        printf("collection %zu: %zu code%s in %zu node%s\n", i + 1, codes, codes == 1 ? "" : "s", nodes, nodes == 1 ? "" : "s");
+    }
+}
+
+/* ---- what it has unfinished */
+
+struct leftover {
+    uint32_t hidden_node; /* 0 for none */
+    unsigned hidden_slot;
+    uint32_t missing; /* node B, which lacks its slot in the parent; 0 for none */
+    uint32_t beside;  /* node A, whose sibling it is */
+    uint32_t parent;
+    unsigned trailing; /* slots of A from B's fence up */
+};
 
 static void find_hidden(const struct tree *tree, uint32_t n, struct leftover *l)
 {
@@ -125,7 +168,7 @@ static void find_hidden(const struct tree *tree, uint32_t n, struct leftover *l)
         }
 }
 
-struct leftover tree_leftover(const struct tree *tree)
+static struct leftover leftover_of(const struct tree *tree)
 {
     struct leftover l = {0};
     for (size_t i = 0; i < tree->count; i++) {
@@ -142,17 +185,29 @@ struct leftover tree_leftover(const struct tree *tree)
     return l;
 }
 
-void leftover_print(const struct leftover *l)
+/* In a collection, 0 where the table has but one. */
+static void print_one(const struct leftover *l, size_t collection)
 {
+    printf("leftover (%c)", l->missing == 0 ? 'a' : l->hidden_node ? 'c' : 'b');
+    if (collection != 0)
+        printf(" in collection %zu", collection);
     if (l->missing == 0) {
-        printf("leftover (a): node %u has a hidden slot, slot %u\n", l->hidden_node, l->hidden_slot);
+        printf(": node %u has a hidden slot, slot %u\n", l->hidden_node, l->hidden_slot);
         return;
     }
-    printf("leftover (%c): node %u, the sibling of node %u, lacks its slot in node %u", l->hidden_node ? 'c' : 'b', l->missing, l->beside,
-           l->parent);
+    printf(": node %u, the sibling of node %u, lacks its slot in node %u", l->missing, l->beside, l->parent);
     if (l->hidden_node)
         printf(", which has a hidden slot, slot %u", l->hidden_slot);
     if (l->trailing)
         printf("; node %u has %u trailing slot%s", l->beside, l->trailing, l->trailing == 1 ? "" : "s");
     printf("\n");
+}
+
+void leftover_print(const struct trees *trees)
+{
+    for (size_t i = 0; i < trees->count; i++) {
+        struct leftover l = leftover_of(&trees->of[i]);
+        if (l.missing != 0 || l.hidden_node != 0)
+            print_one(&l, trees->count > 1 ? i + 1 : 0);
+    }
 }

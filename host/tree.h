@@ -13,6 +13,7 @@ enum { LEFT, SIBLING, LEVEL, FENCE };
 
 enum slot { FREE, SHOWN, HIDDEN, TRAILING };
 
+/* A collection's tree. */
 struct tree {
     const uint64_t *words;
     uint64_t nodes;
@@ -25,19 +26,17 @@ struct tree {
     uint32_t *parent;
 };
 
-/* What a sound table has unfinished. */
-struct leftover {
-    uint32_t hidden_node; /* 0 for none */
-    unsigned hidden_slot;
-    uint32_t missing; /* node B, which lacks its slot in the parent; 0 for none */
-    uint32_t beside;  /* node A, whose sibling it is */
-    uint32_t parent;
-    unsigned trailing; /* slots of A from B's fence up */
+#define MOST_COLLECTIONS 2
+
+/* The trees of a table's collections, in order. */
+struct trees {
+    struct tree of[MOST_COLLECTIONS];
+    size_t count;
 };
 
-/* The words must have a table's header. False where memory is short; tree_free in either case. */
-bool tree_walk(struct tree *tree, const uint64_t *words);
-void tree_free(struct tree *tree);
+/* The words must have a table's header. False where memory is short; trees_free in either case. */
+bool trees_walk(struct trees *trees, const uint64_t *words);
+void trees_free(struct trees *trees);
 
 /* Node n is one of the table's. */
 bool tree_has(const struct tree *tree, uint64_t n);
@@ -48,11 +47,14 @@ uint64_t tree_key(const struct tree *tree, uint64_t n, unsigned slot);
 uint64_t tree_pointer(const struct tree *tree, uint64_t n, unsigned slot);
 enum slot tree_slot(const struct tree *tree, uint64_t n, unsigned slot);
 
-/* Codes in the map, and what is unfinished, of a sound table. */
-size_t tree_codes(const struct tree *tree);
-struct leftover tree_leftover(const struct tree *tree);
+/* Of a sound table: codes in all its collections, and nodes that have them. */
+size_t trees_codes(const struct trees *trees);
+size_t trees_nodes(const struct trees *trees);
 
-/* "leftover (b): .." on standard output. */
-void leftover_print(const struct leftover *l);
+/* On standard output: "collection 1: 5 codes in 1 node" and so on where there are two; nothing where there is one. */
+void trees_print(const struct trees *trees);
+
+/* "leftover (b): .." on standard output: what a sound table that is not settled has unfinished. */
+void leftover_print(const struct trees *trees);
 
 #endif

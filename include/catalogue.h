@@ -7,8 +7,12 @@
  * Lent slices may not overlap. A slice of length 0 still wants a pointer that is not null. One writer; readers only read.
  * No call asks for memory. Listing and the writing calls need 300 KB of stack, a salvage 400 KB, the others 2 KB.
  *
- * The header is words 0 to 7: 1, the root's node number, N, and five zeros. Node i begins at word 8 + 32 * (i - 1); its 32 words are
- * four lines, the slots' words a key and a pointer in turn:
+ * A table has one collection or two, as it was made: the archive's own, 1, and the loan collection, 2. Each is a tree of its own codes, and
+ * the calls that read or change one name it; a repair names none. The two share the nodes: a node belongs to one tree or is free for
+ * either. A recording may be in both, under any codes, and is in each once at most.
+ *
+ * The header is words 0 to 7: 1, the node number of collection 1's root, N, that of collection 2's root or 0 where there is none, and four
+ * zeros. Node i begins at word 8 + 32 * (i - 1); its 32 words are four lines, the slots' words a key and a pointer in turn:
  *
  *      0 left    1 sibling    2 level    3 fence    4 to 7: 0
  *      8 key     9 pointer   10 key     11 pointer   ..   14 key   15 pointer     slots 0 to 3
@@ -23,18 +27,19 @@
  * a store is its word index and its value, a flush is CATALOGUE_MARK and a line number (eight words from a multiple of 8 are a line;
  * lay the table at a multiple of 64 bytes, so that a line is a cache line). The host then carries the orders out on persistent
  * memory, in order: each store, and at a flush the line written back and fenced. It may be cut off between any two orders; the
- * table reloaded from memory answers every search as before the change or as after it, and the next writing call repairs it.
+ * table reloaded from memory answers every search as before the change or as after it, and every search of the other collection as ever.
+ * The next writing call repairs it, whichever collection it names: a table has at most one change to finish.
  *
  *     static uint64_t memory[8 + 32 * 100], working[8 + 32 * 100], orders[CATALOGUE_LIST_WORDS];
  *     uint64_t key, recording, access, next, higher, stores, flushes;
  *     size_t words = sizeof working / sizeof working[0];
  *
- *     catalogue_make(working, words);
+ *     catalogue_make(working, words, 1);
  *     memcpy(memory, working, sizeof working);
  *     if (catalogue_parse((const uint8_t *)"AA0001912345", 12, &key) == 0
- *         && catalogue_insert(working, words, orders, CATALOGUE_LIST_WORDS, key, 7, CATALOGUE_OPEN, &stores, &flushes) == 0)
+ *         && catalogue_insert(working, words, 1, orders, CATALOGUE_LIST_WORDS, key, 7, CATALOGUE_OPEN, &stores, &flushes) == 0)
  *         catalogue_carry_out(memory, words, orders, CATALOGUE_LIST_WORDS, stores + flushes);
- *     if (catalogue_search(memory, words, key, &recording, &access, &next, &higher) == 0 && access != CATALOGUE_CLOSED)
+ *     if (catalogue_search(memory, words, 1, key, &recording, &access, &next, &higher) == 0 && access != CATALOGUE_CLOSED)
  *         printf("%llu\n", (unsigned long long)recording);
  */
 #ifndef CATALOGUE_H
@@ -51,7 +56,7 @@ extern "C" {
  * The version of these declarations. It is raised by each change of a name, a parameter or the meaning of a word, so a program that was
  * compiled with one header and linked with another library sees it: catalogue_version() is the library's.
  */
-#define CATALOGUE_VERSION 4
+#define CATALOGUE_VERSION 5
 
 #define CATALOGUE_MARK UINT64_MAX
 #define CATALOGUE_LIST_WORDS 2560
@@ -71,21 +76,22 @@ enum {
 /* What the calls return: 0 where a call does its work, else one of these. */
 enum {
     CATALOGUE_NO_CODE = 1,          /* text is not a code, or a key has no code */
-    CATALOGUE_NO_TABLE = 2,         /* wrong length or header, or root outside 1 to N */
+    CATALOGUE_NO_TABLE = 2,         /* wrong length or header, a root outside 1 to N, or two collections where N is 1 */
     CATALOGUE_SEARCH_LOST = 3,      /* search: a node number, level or sibling is wrong on its way, or its leaves go round in a ring */
-    CATALOGUE_NOT_SOUND = 4,        /* write or listing: the table is not sound */
+    CATALOGUE_NOT_SOUND = 4,        /* write or listing: the table is not sound, be it in the other collection */
     CATALOGUE_SHORT_LIST = 5,       /* order list under 2,560 words */
     CATALOGUE_BAD_RECORDING = 6,    /* recording is 0 or above CATALOGUE_MOST_RECORDING */
-    CATALOGUE_KEY_PRESENT = 7,      /* code already in the map */
-    CATALOGUE_RECORDING_PRESENT = 8, /* recording in the map under another code */
-    CATALOGUE_KEY_ABSENT = 9,       /* deletion or class change: code absent */
-    CATALOGUE_NO_NODES = 10,        /* fewer unreachable nodes than the splits need; salvage: the packing needs more than N */
-    CATALOGUE_TOO_HIGH = 11,        /* the root at level 15 would have to split */
+    CATALOGUE_KEY_PRESENT = 7,      /* code already in the collection */
+    CATALOGUE_RECORDING_PRESENT = 8, /* recording in the collection under another code */
+    CATALOGUE_KEY_ABSENT = 9,       /* deletion or class change: code not in the collection */
+    CATALOGUE_NO_NODES = 10,        /* fewer nodes that no root leads to than the splits need; salvage: the packing needs more than N */
+    CATALOGUE_TOO_HIGH = 11,        /* the collection's root at level 15 would have to split */
     CATALOGUE_PARENT_FULL = 12,     /* repair would find 11 shown slots in the parent */
     CATALOGUE_BAD_ORDERS = 13,      /* carry-out: more orders than the list has, or one outside the table */
     CATALOGUE_BAD_CLASS = 14,       /* class above 2; comes straight after 6 */
     CATALOGUE_OTHER_LENGTH = 15,    /* salvage: the second slice is not as long as the table */
     CATALOGUE_SHORT_REPORT = 16,    /* salvage: report under 36 words for each node */
+    CATALOGUE_NO_COLLECTION = 17,   /* collection not 1 or 2, or 2 where the table has one; comes straight after 2 */
     CATALOGUE_ABSENT = 255          /* search: the key is absent */
 };
 
@@ -98,42 +104,47 @@ uint64_t catalogue_parse(const uint8_t *text, size_t length, uint64_t *key);
 /* The code of a key, into exactly 12 bytes; a key without a code gives 1 and 12 zero bytes. */
 uint64_t catalogue_print(uint64_t key, uint8_t *text);
 
-/* An empty table in these words. 0 or 2. */
-uint64_t catalogue_make(uint64_t *table, size_t words);
+/*
+ * An empty table of one collection or two in these words: the root of collection 1 is node 1, that of collection 2 node 2, both empty
+ * leaves. 0; 2 for the length, or for two collections with N = 1; 17 where collections is not 1 or 2.
+ */
+uint64_t catalogue_make(uint64_t *table, size_t words, uint64_t collections);
 
 /*
  * 0, *recording and its class *access where the key is found; in a table that is not sound they are what stands there, classes up to 255.
  * 255 where it is absent: then *higher is 1 and *next the next key up in the map, or *higher is 0 and *next stays, for no key is higher.
- * Else 2 or 3. A word that is not named for a case stays.
+ * Else 2, 17 or 3. A word that is not named for a case stays. Only this collection's nodes are looked at.
  * The next key is looked for from the leaf where the search ended and on along the siblings, past leaves that are empty; a leaf there that
  * fails the search's tests, or more leaves than the table has nodes, give 3. Any key may be the next one, CATALOGUE_MARK too.
  */
-uint64_t catalogue_search(const uint64_t *table, size_t words, uint64_t key, uint64_t *recording, uint64_t *access, uint64_t *next,
-                          uint64_t *higher);
+uint64_t catalogue_search(const uint64_t *table, size_t words, uint64_t collection, uint64_t key, uint64_t *recording, uint64_t *access,
+                          uint64_t *next, uint64_t *higher);
 
 /*
- * The pairs (key, whole pointer) with low <= key <= high, rising, into out while whole pairs fit; *pairs is their number, *more 1 where
- * more were left, else 0. 0, or 2 or 4.
+ * The collection's pairs (key, whole pointer) with low <= key <= high, rising, into out while whole pairs fit; *pairs is their number,
+ * *more 1 where more were left, else 0. 0, or 2, 17 or 4.
  */
-uint64_t catalogue_list(const uint64_t *table, size_t words, uint64_t low, uint64_t high, uint64_t *out, size_t out_words,
-                        uint64_t *pairs, uint64_t *more);
+uint64_t catalogue_list(const uint64_t *table, size_t words, uint64_t collection, uint64_t low, uint64_t high, uint64_t *out,
+                        size_t out_words, uint64_t *pairs, uint64_t *more);
 
 /*
- * The writing calls, on the working copy. Each repairs what a cut left first. 0, with the order list filled and its stores and flushes
- * counted (at most 1,121 together), or the refusal number. Insertion: 2, 4, 5, 12, 6, 14, 7, 8, 11, 10.
+ * The writing calls, on the working copy. Each repairs what a cut left first, in either collection. 0, with the order list filled and its
+ * stores and flushes counted (at most 1,121 together), or the refusal number. Of the other collection only the number of free nodes, for
+ * 10, and that it is sound count for what is refused; its codes and their recordings stay at every store.
+ * Insertion: 2, 17, 4, 5, 12, 6, 14, 7, 8, 11, 10.
  */
-uint64_t catalogue_insert(uint64_t *table, size_t words, uint64_t *orders, size_t order_words, uint64_t key, uint64_t recording,
-                          uint64_t access, uint64_t *stores, uint64_t *flushes);
+uint64_t catalogue_insert(uint64_t *table, size_t words, uint64_t collection, uint64_t *orders, size_t order_words, uint64_t key,
+                          uint64_t recording, uint64_t access, uint64_t *stores, uint64_t *flushes);
 
-/* Deletion: 2, 4, 5, 12, 9. */
-uint64_t catalogue_delete(uint64_t *table, size_t words, uint64_t *orders, size_t order_words, uint64_t key, uint64_t *stores,
-                          uint64_t *flushes);
+/* Deletion: 2, 17, 4, 5, 12, 9. */
+uint64_t catalogue_delete(uint64_t *table, size_t words, uint64_t collection, uint64_t *orders, size_t order_words, uint64_t key,
+                          uint64_t *stores, uint64_t *flushes);
 
-/* Class change of a code, also to the class that it has: one store and one flush, after any repair. 2, 4, 5, 12, 14, 9. */
-uint64_t catalogue_set_class(uint64_t *table, size_t words, uint64_t *orders, size_t order_words, uint64_t key, uint64_t access,
-                             uint64_t *stores, uint64_t *flushes);
+/* Class change of a code, also to the class that it has: one store and one flush, after any repair. 2, 17, 4, 5, 12, 14, 9. */
+uint64_t catalogue_set_class(uint64_t *table, size_t words, uint64_t collection, uint64_t *orders, size_t order_words, uint64_t key,
+                             uint64_t access, uint64_t *stores, uint64_t *flushes);
 
-/* Repair: 2, 4, 5, 12. A settled table gives 0 orders. */
+/* Repair of what a cut left in either collection: 2, 4, 5, 12. A settled table gives 0 orders. */
 uint64_t catalogue_repair(uint64_t *table, size_t words, uint64_t *orders, size_t order_words, uint64_t *stores, uint64_t *flushes);
 
 /* Applies the first c orders of a list to a table. 0, or 2 or 13. */
@@ -147,9 +158,10 @@ enum {
 };
 
 /*
- * Salvage of a damaged table, which stays as it is: out, of the same length, becomes a settled table with the pairs kept. 0, and *dropped
- * slots were dropped: the report's first words are node, slot and reason of each, in the order met, the others stay. Or 2, 15, 16, 10.
- * A sound table drops nothing, keeps its map and never gives 10.
+ * Salvage of a damaged table, which stays as it is: out, of the same length, becomes a settled table with the pairs kept, of as many
+ * collections, collection 1 first; what is there twice is judged in each by itself. 0, and *dropped slots were dropped: the report's first
+ * words are node, slot and reason of each, in the order met, the others stay. Or 2, 15, 16, 10.
+ * A sound table drops nothing, keeps its maps and never gives 10.
  * It takes as long as some tens of plain read passes over the table, sound or with words changed here and there. It takes longer by the way
  * that keys are met out of order, and, where the slots in use would need more than N nodes, by the square of the pairs.
  */

@@ -37,9 +37,9 @@ fn asked(line: &[u8]) -> Result<Call, u64> {
     match fields[..] {
         [b"+", code, digits] if !code.is_empty() => {
             let r = recording(digits).ok_or(0u64)?;
-            Ok(Call::Insert(key(code).ok_or(1u64)?, r, 0))
+            Ok(Call::Insert(1, key(code).ok_or(1u64)?, r, 0))
         }
-        [b"-", code] if !code.is_empty() => Ok(Call::Delete(key(code).ok_or(1u64)?)),
+        [b"-", code] if !code.is_empty() => Ok(Call::Delete(1, key(code).ok_or(1u64)?)),
         _ => Err(0),
     }
 }
@@ -53,7 +53,7 @@ struct Step {
 
 /// The steps of an input on a table of so many nodes; how often each number was printed (0 to 14), and how often `done`.
 fn steps(input: &[u8], nodes: u64, numbers: &mut [u64; 15], done: &mut u64) -> Vec<Step> {
-    let mut table = make(nodes);
+    let mut table = make(nodes, 1);
     let mut lines: Vec<&[u8]> = input.split(|&b| b == b'\n').collect();
     // What follows the last line feed counts unless it is empty.
     if lines.last().map_or(false, |l| l.is_empty()) {

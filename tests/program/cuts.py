@@ -18,7 +18,8 @@ def state(program, t):
     assert drawn.startswith(said)
     hidden, trailing = drawn.count("   hidden\n"), drawn.count("   trailing\n")
     if " is settled: " in said:
-        assert (hidden, trailing) == (0, 0) and "lacks its slot" not in drawn and said.count("\n") == 1, drawn
+        lines = 3 if "\ncollection 1: " in said else 1
+        assert (hidden, trailing) == (0, 0) and "lacks its slot" not in drawn and said.count("\n") == lines, drawn
         return "settled"
     assert " is sound: " in said, said
     letter = re.search(r"^leftover \((.)\)", said, re.M)[1]
@@ -27,21 +28,25 @@ def state(program, t):
     return letter + (str(trailing) if trailing else "")
 
 
-def found(program, t, codes):
+def found(program, t, codes, *words):
     """What find says of each code, None where it is absent."""
     answers = {}
     for c in codes:
-        status, out, err = program("find", t, c)
+        status, out, err = program("find", t, c, *words)
         assert status in (0, ABSENT), (status, out, err)
         answers[c] = (int(out.split(",")[0]), out.strip().split(",")[1]) if status == 0 else None
     return answers
 
 
-def cut_everywhere(program, folder, t, change, codes):
+def cut_everywhere(program, folder, t, change, codes, collection=None):
     """The change cut at every count, or at every ninth for a slow program: the words of the first orders, every other code as before, the
-    changed one as before or as after, the same once repaired. The states that were met, in order, and the orders."""
-    before, words = everything(program.done("list", t)), read_words(t)
-    orders = orders_of(program.done("orders", t, *change))
+    changed one as before or as after, the same once repaired; with a collection named, the other one as ever. The states that were met, in
+    order, and the orders."""
+    own = naming(collection) if collection else []
+    named = own if change[0] != "repair" else []
+    others = lambda table: program.done("list", table, *naming(3 - collection)) if collection else None
+    before, words, beside = everything(program.done("list", t, *own)), read_words(t), others(t)
+    orders = orders_of(program.done("orders", t, *change, *named))
     after = dict(before)
     if change[0] == "add":
         after[change[1]] = (change[2], change[3] if len(change) > 3 else "open")
@@ -52,19 +57,20 @@ def cut_everywhere(program, folder, t, change, codes):
     states, u, made = [], f"{folder}/cut", False
     for c in range(len(orders), -1, -1 if program.quick else -9)[::-1]:
         shutil.copy(t, u)
-        out = program.done(change[0], u, *change[1:], "--cut", c)
+        out = program.done(change[0], u, *change[1:], "--cut", c, *named)
         assert out.startswith(f"cut off after {c} of {len(orders)} orders") == (c < len(orders)), out
         assert read_words(u) == carried_out(words, orders[:c]), c
         states.append(state(program, u))
-        answers = found(program, u, codes)
-        now = everything(program.done("list", u))
+        answers = found(program, u, codes, *own)
+        now = everything(program.done("list", u, *own))
+        assert others(u) == beside, c
         assert now == after if made or c == len(orders) else now == before if c == 0 else now in (before, after), c
         made = made or now != before
         assert answers == {k: now.get(k) for k in codes}, c
         settled = states[-1] == "settled"
         assert program.done("repair", u).startswith("nothing to repair (0 " if settled else "repaired ("), c
-        assert state(program, u) == "settled" and everything(program.done("list", u)) == now, c
-        assert settled or found(program, u, codes) == answers, c
+        assert state(program, u) == "settled" and everything(program.done("list", u, *own)) == now and others(u) == beside, c
+        assert settled or found(program, u, codes, *own) == answers, c
     return [s for s, _ in itertools.groupby(states)], orders
 
 

@@ -8,6 +8,7 @@ MARK = 2**64 - 1
 # Exit statuses.
 NO_CODE, NO_TABLE, LOST, NOT_SOUND = 1, 2, 3, 4
 BAD_RECORDING, CODE_THERE, RECORDING_THERE, NOT_THERE, NO_NODES, TOO_HIGH = 6, 7, 8, 9, 10, 11
+NO_COLLECTION = 17
 ABSENT, BAD_USAGE, BAD_LINE, BAD_FILE = 255, 64, 65, 74
 MOST_RECORDING = 2**56 - 1
 CLASSES = ["open", "room", "closed"]
@@ -117,11 +118,18 @@ def carried_out(words, orders):
     return after
 
 
-def fill(program, path, nodes, pairs):
-    """A new table with these pairs, added in this order."""
+def naming(collection):
+    """The words that name a collection."""
+    return ["--collection", collection]
+
+
+def fill(program, path, nodes, pairs, loans=None):
+    """A new table with these pairs, added in this order; of two collections where the second's are given."""
     csv = path + ".csv"
-    with open(csv, "w") as f:
-        f.writelines(f"{c},{r}\n" for c, r in pairs)
-    program.done("make", path, nodes)
-    program.done("load", path, csv)
-    os.remove(csv)
+    program.done("make", path, nodes, *[] if loans is None else ["--loan"])
+    for named, lines in (([], pairs), (naming(2), loans)):
+        if lines:
+            with open(csv, "w") as f:
+                f.writelines(f"{c},{r}\n" for c, r in lines)
+            program.done("load", path, csv, *named)
+            os.remove(csv)

@@ -18,15 +18,17 @@ int main(void)
     uint64_t table[8 + 32 * 2], saved[8 + 32 * 2], report[36 * 2], orders[CATALOGUE_LIST_WORDS];
     uint64_t key, recording, access, next, higher, stores, flushes, dropped;
     size_t words = sizeof table / sizeof table[0];
-    if (catalogue_version() != CATALOGUE_VERSION || catalogue_make(table, words) != 0
+    if (catalogue_version() != CATALOGUE_VERSION || catalogue_make(table, words, 2) != 0
         || catalogue_parse((const uint8_t *)"AA0001912345", 12, &key) != 0
-        || catalogue_insert(table, words, orders, CATALOGUE_LIST_WORDS, key, 7, CATALOGUE_ROOM, &stores, &flushes) != 0
-        || catalogue_search(table, words, key, &recording, &access, &next, &higher) != 0 || access != CATALOGUE_ROOM
-        || catalogue_set_class(table, words, orders, CATALOGUE_LIST_WORDS, key, CATALOGUE_CLOSED, &stores, &flushes) != 0
-        || catalogue_search(table, words, key, &recording, &access, &next, &higher) != 0 || access != CATALOGUE_CLOSED
-        || catalogue_search(table, words, 0, &recording, &access, &next, &higher) != CATALOGUE_ABSENT || higher != 1 || next != key
+        || catalogue_insert(table, words, 2, orders, CATALOGUE_LIST_WORDS, key, 7, CATALOGUE_ROOM, &stores, &flushes) != 0
+        || catalogue_search(table, words, 2, key, &recording, &access, &next, &higher) != 0 || access != CATALOGUE_ROOM
+        || catalogue_set_class(table, words, 2, orders, CATALOGUE_LIST_WORDS, key, CATALOGUE_CLOSED, &stores, &flushes) != 0
+        || catalogue_search(table, words, 2, key, &recording, &access, &next, &higher) != 0 || access != CATALOGUE_CLOSED
+        || catalogue_search(table, words, 2, 0, &recording, &access, &next, &higher) != CATALOGUE_ABSENT || higher != 1 || next != key
+        || catalogue_search(table, words, 1, 0, &recording, &access, &next, &higher) != CATALOGUE_ABSENT || higher != 0
+        || catalogue_search(table, words, 3, 0, &recording, &access, &next, &higher) != CATALOGUE_NO_COLLECTION
         || catalogue_salvage(table, words, saved, words, report, 36 * 2, &dropped) != 0 || dropped != 0
-        || catalogue_search(saved, words, key, &recording, &access, &next, &higher) != 0 || access != CATALOGUE_CLOSED)
+        || catalogue_search(saved, words, 2, key, &recording, &access, &next, &higher) != 0 || access != CATALOGUE_CLOSED)
         return 1;
     printf("%d\n", (int)recording);
 }

@@ -67,18 +67,22 @@ class Disk:
 
 
 class Judge:
-    """The map of each mix, as the program lists it; None where it is not sound."""
+    """The map of each mix, as the program lists it, of two collections both; None where it is not sound."""
 
-    def __init__(self, program, folder):
-        self.program, self.path, self.known = program, f"{folder}/mix", {}
+    def __init__(self, program, folder, collections=1):
+        self.program, self.path, self.known, self.collections = program, f"{folder}/mix", {}, collections
+
+    def listing(self, *words):
+        status, out, err = self.program("list", self.path, *words)
+        assert status in (0, NOT_SOUND, NO_TABLE), (status, err)
+        return everything(out) if status == 0 else None
 
     def map_of(self, mix):
         if mix not in self.known:
             with open(self.path, "wb") as f:
                 f.write(mix)
-            status, out, err = self.program("list", self.path)
-            assert status in (0, NOT_SOUND, NO_TABLE), (status, err)
-            self.known[mix] = everything(out) if status == 0 else None
+            maps = [self.listing(*naming(n) if self.collections > 1 else []) for n in range(1, self.collections + 1)]
+            self.known[mix] = None if None in maps else maps if self.collections > 1 else maps[0]
         return self.known[mix]
 
 
@@ -92,9 +96,9 @@ def full_leaves(program, t, leaves, nodes):
     return everything(program.done("list", t))
 
 
-def cut_between_syncs(program, folder, t, before, after, command, chance):
+def cut_between_syncs(program, folder, t, before, after, command, chance, collections=1):
     """The mixes of pages that a cut in the midst of a change may leave, and those whose map is neither the one before nor the one after."""
-    judge, disk, mixes, wrong = Judge(program, folder), Disk(contents(t)), set(), set()
+    judge, disk, mixes, wrong = Judge(program, folder, collections), Disk(contents(t)), set(), set()
     syncs, _ = recorded(program, folder, *command)
     for call, image in [s for s in syncs if s[0][0] == "msync"]:
         disk.written(image)
@@ -146,6 +150,23 @@ def leaves_that_come_back(program, folder):
             seen, now = seen + len(mixes), after
         free.append(int(re.search(r" (\d+) free$", program.done("check", t), re.M)[1]))
     assert free[0] < free[1] < free[2], free
+    return f"{seen} mixes of pages"
+
+
+def changes_of_two_collections(program, folder):
+    """Additions to either collection, most of which split a leaf; each mix has the map of the one before or after, and the other's as it was."""
+    chance, t, seen = random.Random(13), f"{folder}/t", 0
+    lines = lambda first: [(code(30 * leaf + i), 1 + 30 * leaf + i) for leaf in range(first, first + 30) for i in (0, 6, 12, 18, 24, 1, 2, 3, 4, 5, 7)]
+    fill(program, t, 300, lines(0), lines(10))
+    now = [everything(program.done("list", t, *naming(n))) for n in (1, 2)]
+    for i in range(40):
+        which = i % 2
+        c = chance.choice([code(k) for k in range(1200) if code(k) not in now[which]])
+        after = list(now)
+        after[which] = dict(now[which], **{c: (10000 + i, chance.choice(CLASSES))})
+        mixes, bad = cut_between_syncs(program, folder, t, now, after, ["add", t, c, *after[which][c], *naming(which + 1)], chance, 2)
+        assert not bad, f"{len(bad)} of {len(mixes)} mixes not sound, or without what was acknowledged"
+        seen, now = seen + len(mixes), after
     return f"{seen} mixes of pages"
 
 
@@ -228,5 +249,5 @@ def a_new_table_is_there_whole(program, folder):
     assert sorted(os.listdir(folder)) == ["printed", "syncs", "t", "t2", "t3", "t4"]
 
 
-TESTS = [any_mix_of_pages, leaves_that_come_back, mixes_with_fast, a_load_and_its_acknowledgements, what_a_killed_program_left,
+TESTS = [any_mix_of_pages, changes_of_two_collections, leaves_that_come_back, mixes_with_fast, a_load_and_its_acknowledgements, what_a_killed_program_left,
          a_disk_that_fails, a_new_table_is_there_whole]

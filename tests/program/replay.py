@@ -19,7 +19,8 @@ def expected(plain, change, words):
     return RECORDING_THERE if r in [there for there, _ in plain.values()] else 0
 
 
-def some_change(plain, chance):
+def some_change(plain, beside, chance):
+    """Recordings of the other collection are as good as any."""
     kind, c = chance.random(), chance.choice(CODES)
     if plain and kind < 0.4 and chance.random() < 0.7:
         c = chance.choice(list(plain))
@@ -27,7 +28,7 @@ def some_change(plain, chance):
         return "remove", [c]
     if kind < 0.4:
         return "class", [c, chance.choice(CLASSES)]
-    some = [0, MOST_RECORDING + 1, MARK] + [r for r, _ in plain.values()][:3]
+    some = [0, MOST_RECORDING + 1, MARK] + [r for r, _ in plain.values()][:3] + [r for r, _ in beside.values()]
     return "add", [c, chance.choice(some) if chance.random() < 0.1 else chance.randrange(1, 10**6), chance.choice(CLASSES)]
 
 
@@ -42,50 +43,51 @@ def after(plain, change, words):
     return then
 
 
-def step(program, t, plain, chance):
-    """One command and its answer by the plain list; the list after it."""
+def step(program, t, plain, chance, *named, beside={}):
+    """One command and its answer by the plain list of the collection named; the list after it. Beside it is the other collection's."""
     kind = chance.randrange(10)
-    change, words = some_change(plain, chance)
+    change, words = some_change(plain, beside, chance)
     status = expected(plain, change, words)
     if kind < 5:
-        got, out, err = program(change, t, *words)
+        got, out, err = program(change, t, *words, *named)
         assert got == status, (change, words, got, status, err)
         return after(plain, change, words) if status == 0 else plain
     if kind == 5:
-        got, out, err = program(change, t, *words, "--cut", chance.randrange(30))
+        got, out, err = program(change, t, *words, "--cut", chance.randrange(30), *named)
         if got == BAD_USAGE or status != 0:
             assert got == (status or BAD_USAGE), (change, words, got, err)
             return plain
-        now = everything(program.done("list", t))
+        now = everything(program.done("list", t, *named))
         assert now in (plain, after(plain, change, words)), (change, words)
         return now
     if kind == 6:
         low, high = chance.choice(CODES), chance.choice(CODES)
-        assert everything(program.done("list", t, low, high)) == {c: x for c, x in plain.items() if low <= c <= high}
+        assert everything(program.done("list", t, low, high, *named)) == {c: x for c, x in plain.items() if low <= c <= high}
     elif kind == 7:
-        got, out, err = program("orders", t, change, *words)
+        got, out, err = program("orders", t, change, *words, *named)
         assert got == status, (change, words, got, status, err)
     elif kind == 8:
         out = program.done(chance.choice(["check", "show"]), t)
-        nodes = re.search(rf": {len(plain)} codes? in (\d+) of 300 nodes, (\d+) free\n", out)
+        nodes = re.search(rf": {len(plain) + len(beside)} codes? in (\d+) of 300 nodes, (\d+) free\n", out)
         assert int(nodes[1]) + int(nodes[2]) == 300, out
         if chance.random() < 0.3:
             program.done("repair", t)
             assert "settled" in program.done("check", t)
     else:
-        finds(program, t, plain, chance.choice(CODES + [code(7 * chance.randrange(300) + 3)]))
+        finds(program, t, plain, chance.choice(CODES + [code(7 * chance.randrange(300) + 3)]), *named)
     return plain
 
 
-def finds(program, t, plain, c):
+def finds(program, t, plain, c, *named):
     """A search by the plain list: the recording and its class, or the next code up."""
-    got, out, err = program("find", t, c)
+    got, out, err = program("find", t, c, *named)
     if c in plain:
         assert (got, out, err) == (0, f"{plain[c][0]},{plain[c][1]}\n", ""), (c, got, out, err)
         return
     above = min((k for k in plain if k > c), default=None)
     said = f"; the next code up is {above}" if above else ", and no code there is higher"
-    assert (got, out, err) == (ABSENT, "", f"catalogue: {c} is not in {t}{said}\n"), (c, got, out, err)
+    part = f"collection {named[1]} of " if named else ""
+    assert (got, out, err) == (ABSENT, "", f"catalogue: {c} is not in {part}{t}{said}\n"), (c, got, out, err)
 
 
 def a_long_run(program, folder):
@@ -101,6 +103,25 @@ def a_long_run(program, folder):
     for c in CODES[::1 if program.quick else 6]:
         finds(program, t, plain, c)
     return f"{count} commands, {most} codes at most"
+
+
+def a_long_run_over_both(program, folder):
+    """Two collections and a plain list for each; a command of one, whole or cut off, leaves the other's list."""
+    chance = random.Random(2027)
+    t = f"{folder}/t"
+    program.done("make", t, 300, "--loan")
+    plain, most, count = [{}, {}], 0, 3000 if program.quick else 300
+    for _ in range(count):
+        which = chance.randrange(2)
+        plain[which] = step(program, t, plain[which], chance, *naming(which + 1), beside=plain[1 - which])
+        most = max(most, len(plain[0]) + len(plain[1]))
+    for which, own in enumerate(plain):
+        assert everything(program.done("list", t, *naming(which + 1))) == own
+        for c in CODES[::2 if program.quick else 12]:
+            finds(program, t, own, c, *naming(which + 1))
+    shared = {r for r, _ in plain[0].values()} & {r for r, _ in plain[1].values()}
+    assert shared or not program.quick
+    return f"{count} commands, {most} codes at most, {len(shared)} recordings in both"
 
 
 def damaged_tables(program, folder):
@@ -156,4 +177,4 @@ def nodes_that_are_not_there(program, folder):
                 assert program.done("find", t, other) == f"{int(other[-5:]) + 1},open\n"
 
 
-TESTS = [a_long_run, damaged_tables, nodes_that_are_not_there]
+TESTS = [a_long_run, a_long_run_over_both, damaged_tables, nodes_that_are_not_there]

@@ -35,9 +35,10 @@ impl Lent {
         &self.words[GUARDS..GUARDS + self.len]
     }
 
-    pub fn search(&mut self, key: u64) -> Looked {
+    pub fn search(&mut self, collection: u64, key: u64) -> Looked {
         let [mut recording, mut access, mut next, mut higher] = std::array::from_fn(|_| Word::new());
-        let number = unsafe { catalogue_search(self.pointer(), self.len, key, recording.pointer(), access.pointer(), next.pointer(), higher.pointer()) };
+        let number =
+            unsafe { catalogue_search(self.pointer(), self.len, collection, key, recording.pointer(), access.pointer(), next.pointer(), higher.pointer()) };
         Looked { number, recording: recording.put(), access: access.put(), next: next.put(), higher: higher.put() }
     }
 }
@@ -91,16 +92,16 @@ pub fn version() -> u64 {
     unsafe { catalogue_version() }
 }
 
-pub fn search(t: &[u64], key: u64) -> Looked {
+pub fn search(t: &[u64], collection: u64, key: u64) -> Looked {
     let mut table = Lent::new(t);
-    let answer = table.search(key);
+    let answer = table.search(collection, key);
     assert!(table.back() == t, "a search wrote to the table");
     answer
 }
 
-pub fn make(t: &[u64]) -> (u64, Vec<u64>) {
+pub fn make(t: &[u64], collections: u64) -> (u64, Vec<u64>) {
     let mut table = Lent::new(t);
-    let n = unsafe { catalogue_make(table.pointer(), t.len()) };
+    let n = unsafe { catalogue_make(table.pointer(), t.len(), collections) };
     (n, table.back().to_vec())
 }
 
@@ -118,10 +119,10 @@ pub fn print(key: u64) -> (u64, [u8; 12]) {
 }
 
 /// The number; the count and whether more were left, each where the call put it; and the slice after it.
-pub fn list(t: &[u64], low: u64, high: u64, out: &[u64]) -> (u64, [Option<u64>; 2], Vec<u64>) {
+pub fn list(t: &[u64], collection: u64, low: u64, high: u64, out: &[u64]) -> (u64, [Option<u64>; 2], Vec<u64>) {
     let (mut table, mut slice) = (Lent::new(t), Lent::new(out));
     let (mut pairs, mut more) = (Word::new(), Word::new());
-    let n = unsafe { catalogue_list(table.pointer(), t.len(), low, high, slice.pointer(), out.len(), pairs.pointer(), more.pointer()) };
+    let n = unsafe { catalogue_list(table.pointer(), t.len(), collection, low, high, slice.pointer(), out.len(), pairs.pointer(), more.pointer()) };
     assert!(table.back() == t, "a listing wrote to the table");
     (n, [pairs.put(), more.put()], slice.back().to_vec())
 }
@@ -149,16 +150,16 @@ impl Wrote {
     }
 }
 
-pub fn insert(t: &[u64], list: &[u64], key: u64, recording: u64, access: u64) -> Wrote {
-    wrote(t, list, |a, b, s, f| unsafe { catalogue_insert(a, t.len(), b, list.len(), key, recording, access, s, f) })
+pub fn insert(t: &[u64], collection: u64, list: &[u64], key: u64, recording: u64, access: u64) -> Wrote {
+    wrote(t, list, |a, b, s, f| unsafe { catalogue_insert(a, t.len(), collection, b, list.len(), key, recording, access, s, f) })
 }
 
-pub fn delete(t: &[u64], list: &[u64], key: u64) -> Wrote {
-    wrote(t, list, |a, b, s, f| unsafe { catalogue_delete(a, t.len(), b, list.len(), key, s, f) })
+pub fn delete(t: &[u64], collection: u64, list: &[u64], key: u64) -> Wrote {
+    wrote(t, list, |a, b, s, f| unsafe { catalogue_delete(a, t.len(), collection, b, list.len(), key, s, f) })
 }
 
-pub fn set_class(t: &[u64], list: &[u64], key: u64, access: u64) -> Wrote {
-    wrote(t, list, |a, b, s, f| unsafe { catalogue_set_class(a, t.len(), b, list.len(), key, access, s, f) })
+pub fn set_class(t: &[u64], collection: u64, list: &[u64], key: u64, access: u64) -> Wrote {
+    wrote(t, list, |a, b, s, f| unsafe { catalogue_set_class(a, t.len(), collection, b, list.len(), key, access, s, f) })
 }
 
 pub fn repair(t: &[u64], list: &[u64]) -> Wrote {

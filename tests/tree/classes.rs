@@ -23,27 +23,28 @@ struct Met {
 fn changed_class(t: &[u64], k: u64, to: u64, met: &mut Met, seed: u64, name: &str) {
     let tree = judge(t).expect("a sound table");
     met.kinds[kind(tree.leftover)] += 1;
-    met.changes[class(tree.map[&k]) as usize][to as usize] += 1;
-    let call = Call::SetClass(k, to);
+    let map = &tree.maps[0];
+    met.changes[class(map[&k]) as usize][to as usize] += 1;
+    let call = Call::SetClass(1, k, to);
     let (after, os) = same_write(t, &[0; LIST_WORDS], call, seed);
     let mut repaired = Writer::new(t);
     repaired.repair(tree.leftover);
     let stores: Vec<(usize, u64)> = os.iter().filter_map(|o| if let Order::Store(w, x) = *o { Some((w, x)) } else { None }).collect();
     let (last, before) = stores.split_last().expect("a store");
-    let one = after.number == 0 && before == &repaired.stores[..] && last.1 == pointer(recording(tree.map[&k]), to);
+    let one = after.number == 0 && before == &repaired.stores[..] && last.1 == pointer(recording(map[&k]), to);
     expect(one, seed, t, || format!("{name}: {call:?} is not the repair's {} stores and one more", repaired.stores.len()));
     expect(os.last() == Some(&Order::Flush(last.0 as u64 / 8)), seed, t, || format!("{name}: {call:?} does not end with its flush"));
     expect(tree.leftover != Leftover::Nothing || after.counts == [Some(1); 2], seed, t, || format!("{name}: {call:?} on a settled table"));
 
-    let new = changed(&tree.map, call);
-    let only = new.iter().filter(|(k, x)| tree.map[k] != **x).count();
-    expect(new.len() == tree.map.len() && only == (class(tree.map[&k]) != to) as usize, seed, t, || format!("{name}: more than one code differs"));
-    let asked: BTreeSet<u64> = tree.map.keys().filter(|x| x.abs_diff(k) < 2 * STEP || *x % 7 == 0).flat_map(|k| [k.wrapping_sub(1), *k, k + 1]).collect();
+    let new = changed(&tree.maps, call);
+    let only = new[0].iter().filter(|(k, x)| map[k] != **x).count();
+    expect(new[0].len() == map.len() && only == (class(map[&k]) != to) as usize, seed, t, || format!("{name}: more than one code differs"));
+    let asked: BTreeSet<u64> = map.keys().filter(|x| x.abs_diff(k) < 2 * STEP || *x % 7 == 0).flat_map(|k| [k.wrapping_sub(1), *k, k + 1]).collect();
     for c in 0..=os.len() {
         for image in images(t, &os[..c]) {
             met.images += 1;
-            let (_, leftover, _) = image_holds(&image, [&tree.map, &new], (c, os.len()), &asked, seed, call);
-            met.left[kind(leftover)] += 1;
+            let held = image_holds(&image, [&tree.maps, &new], (c, os.len()), &asked, seed, call);
+            met.left[kind(held.leftover)] += 1;
         }
     }
 }
@@ -62,7 +63,7 @@ fn main() {
                     let name = format!("{slots} slots, child {child} with {many} codes, parent {parent} of {parents}, {name}");
                     let tree = judge(&t);
                     expect(tree.is_some(), seed, &t, || format!("{name}: the test's own table is not sound"));
-                    let map = tree.unwrap().map;
+                    let map = &tree.unwrap().maps[0];
                     // A code of the leaf, and any other.
                     let fence = node(&t, r.leaves[parent][child]).fence;
                     let own: Vec<u64> = map.range(fence..fence + STEP).map(|(&k, _)| k).collect();

@@ -2,7 +2,7 @@
 #![allow(dead_code)]
 use crate::calls::{self, Lent, Looked, Wrote};
 use crate::reference::*;
-use std::collections::{BTreeMap, BTreeSet};
+use std::collections::BTreeSet;
 use std::ops::Bound;
 
 /// A check that failed says what and how to reproduce it, and ends the run.
@@ -23,16 +23,28 @@ pub fn keys(t: &[u64], random: &mut Random) -> Vec<u64> {
     ks
 }
 
-/// A call on a table with keys below the span. While it shrinks most calls delete a key of the leaf that will be empty soonest.
+/// A call in one of a sound table's collections, with keys below the span. While it shrinks most calls delete a key of the leaf that will be
+/// empty soonest.
 pub fn some_call(t: &[u64], span: u64, shrinks: bool, random: &mut Random) -> Call {
+    let n = some_collection(t, random);
     let k = random.below(span);
     match random.below(8) {
-        0 | 1 => Call::Delete(k),
-        3..=7 if shrinks => Call::Delete(scarce_key(t, random).unwrap_or(k)),
+        0 | 1 => Call::Delete(n, k),
+        3..=7 if shrinks => Call::Delete(n, scarce_key(t, n, random).unwrap_or(k)),
         2 if random.below(8) == 0 => Call::Repair,
-        2 | 3 if random.below(3) == 0 => Call::SetClass(if random.below(3) == 0 { k } else { some_key(t, random) }, some_class(random)),
-        _ => Call::Insert(k, some_recording(random), some_class(random)),
+        2 | 3 if random.below(3) == 0 => Call::SetClass(n, if random.below(3) == 0 { k } else { some_key(t, random) }, some_class(random)),
+        _ => Call::Insert(n, k, some_recording(random), some_class(random)),
     }
+}
+
+/// A collection that the table has.
+pub fn some_collection(t: &[u64], random: &mut Random) -> u64 {
+    if t[3] == 0 { 1 } else { 1 + random.below(2) }
+}
+
+/// A collection of any number, most often 1 or 2.
+pub fn any_collection(random: &mut Random) -> u64 {
+    [1, 1, 1, 2, 2, 2, 0, 3, 1 << 32, MARK][random.below(10) as usize]
 }
 
 /// Now and then a recording that is refused, or one that is often in the map already.
@@ -59,19 +71,24 @@ fn some_key(t: &[u64], random: &mut Random) -> u64 {
     t[start(1 + random.below(t[2])) + 8 + 2 * random.below(5) as usize]
 }
 
-fn leaves(t: &[u64]) -> impl Iterator<Item = Node> + '_ {
-    (1..=t[2]).map(|i| node(t, i)).filter(|x| x.level == 0 && x.used() > 0)
+/// The leaves of a sound table's collection that have slots in use.
+fn leaves(t: &[u64], collection: u64) -> impl Iterator<Item = Node> + '_ {
+    let mut first = node(t, t[root_word(collection)]);
+    while first.level > 0 {
+        first = node(t, first.left);
+    }
+    std::iter::successors(Some(first), |x| (x.sibling != 0).then(|| node(t, x.sibling))).filter(|x| x.used() > 0)
 }
 
 /// A key of a leaf other than the first, with fewer slots in use than the others.
-fn scarce_key(t: &[u64], random: &mut Random) -> Option<u64> {
-    let x = leaves(t).filter(|x| x.fence > 0).min_by_key(|x| x.used())?;
+fn scarce_key(t: &[u64], collection: u64, random: &mut Random) -> Option<u64> {
+    let x = leaves(t, collection).filter(|x| x.fence > 0).min_by_key(|x| x.used())?;
     Some(x.slots[random.below(x.used() as u64) as usize].key)
 }
 
 /// A key beside one of the leaf with the most slots in use.
-fn crowded_key(t: &[u64], random: &mut Random) -> Option<u64> {
-    let x = leaves(t).max_by_key(|x| x.used())?;
+fn crowded_key(t: &[u64], collection: u64, random: &mut Random) -> Option<u64> {
+    let x = leaves(t, collection).max_by_key(|x| x.used())?;
     Some(x.slots[random.below(x.used() as u64) as usize].key.wrapping_add(1 + random.below(3)))
 }
 
@@ -82,10 +99,11 @@ fn nodes_stored(stores: &[(usize, u64)]) -> usize {
 
 /// A split, or a deletion that frees a leaf, cut off at a store to another node than its first.
 fn cut_off(t: &mut [u64], splits: bool, random: &mut Random) {
+    let n = some_collection(t, random);
     for _ in 0..24 {
-        let key = if splits { crowded_key(t, random) } else { scarce_key(t, random) };
+        let key = if splits { crowded_key(t, n, random) } else { scarce_key(t, n, random) };
         let Some(k) = key else { return };
-        let call = if splits { Call::Insert(k, 1 + random.below(1_000_000), random.below(3)) } else { Call::Delete(k) };
+        let call = if splits { Call::Insert(n, k, 1 + random.below(1_000_000), random.below(3)) } else { Call::Delete(n, k) };
         let Ok(w) = write(t, LIST_WORDS, call) else { continue };
         let other = w.stores.iter().position(|s| s.0 / 32 != w.stores[0].0 / 32);
         match other.filter(|_| nodes_stored(&w.stores) > 2) {
@@ -95,13 +113,13 @@ fn cut_off(t: &mut [u64], splits: bool, random: &mut Random) {
     }
 }
 
-/// A table by random insertions and deletions, some of them cut off: settled, or with any leftover.
-pub fn grown(most: u64, random: &mut Random) -> Vec<u64> {
-    let n = 1 + random.below(most);
-    let mut t = make(n);
+/// A table of one collection or two by random insertions and deletions, some of them cut off: settled, or with any leftover.
+pub fn grown(most: u64, collections: u64, random: &mut Random) -> Vec<u64> {
+    let n = collections * (1 + random.below(most));
+    let mut t = make(n, collections);
     let span = [30, 200, MARK][random.below(3) as usize];
     for i in 0..random.below(14 * n) {
-        let call = some_call(&t, span, i / 30 % 3 == 2, random);
+        let call = some_call(&t, span, i / (30 * collections) % 3 == 2, random);
         if let Ok(w) = write(&t, LIST_WORDS, call) {
             let part = if random.below(8) == 0 { random.below(w.stores.len() as u64 + 1) as usize } else { w.stores.len() };
             store(&mut t, &w.stores[..part]);
@@ -166,12 +184,15 @@ pub fn damaged(t: &[u64], random: &mut Random) -> Vec<u64> {
     d
 }
 
-/// Any words of a length; mostly with a right header, so that the calls look further.
-pub fn any_words(len: usize, random: &mut Random) -> Vec<u64> {
+/// Any words of a length; mostly with a right header, so that the calls look further: of two collections where asked for and where it can be.
+pub fn any_words(len: usize, collections: u64, random: &mut Random) -> Vec<u64> {
     let most = [1, 4, 40, MARK][random.below(4) as usize];
     let mut t: Vec<u64> = (0..len).map(|_| random.below(most)).collect();
     if let Some(n) = nodes_for(len).filter(|_| most > 1) {
         t[..8].copy_from_slice(&[1, 1 + random.below(n), n, 0, 0, 0, 0, 0]);
+        if collections == 2 && n > 1 {
+            t[3] = 1 + random.below(n);
+        }
     }
     t
 }
@@ -193,9 +214,9 @@ fn wanted(t: &[u64], list: &[u64], answer: Result<Writer, u64>) -> (Wrote, Vec<O
 
 pub fn called(t: &[u64], list: &[u64], call: Call) -> Wrote {
     match call {
-        Call::Insert(k, r, c) => calls::insert(t, list, k, r, c),
-        Call::Delete(k) => calls::delete(t, list, k),
-        Call::SetClass(k, c) => calls::set_class(t, list, k, c),
+        Call::Insert(n, k, r, c) => calls::insert(t, n, list, k, r, c),
+        Call::Delete(n, k) => calls::delete(t, n, list, k),
+        Call::SetClass(n, k, c) => calls::set_class(t, n, list, k, c),
         Call::Repair => calls::repair(t, list),
     }
 }
@@ -225,44 +246,78 @@ pub fn looked(answer: &Answer) -> Looked {
 }
 
 /// What a map of whole pointers answers.
-pub fn lookup(map: &BTreeMap<u64, u64>, k: u64) -> Answer {
+pub fn lookup(map: &Map, k: u64) -> Answer {
     let above = || map.range((Bound::Excluded(k), Bound::Unbounded)).next().map(|(&next, _)| next);
     map.get(&k).map_or_else(|| Answer::Absent(above()), |&x| Answer::Found(recording(x), class(x)))
 }
 
 /// A search as the reference's.
-pub fn same_search(t: &[u64], k: u64, seed: u64) -> Answer {
-    let want = search(t, k);
-    let got = calls::search(t, k);
-    expect(got == looked(&want), seed, t, || format!("search for {k}: wanted {want:?}, got {got:?}"));
+pub fn same_search(t: &[u64], collection: u64, k: u64, seed: u64) -> Answer {
+    let want = search(t, collection, k);
+    let got = calls::search(t, collection, k);
+    expect(got == looked(&want), seed, t, || format!("search for {k} in collection {collection}: wanted {want:?}, got {got:?}"));
     want
 }
 
-/// Every search of these words for the keys asked answers as the map.
-pub fn answers(t: &[u64], map: &BTreeMap<u64, u64>, asked: &BTreeSet<u64>) -> bool {
+/// A listing into so many words as the reference's.
+pub fn same_list(t: &[u64], collection: u64, low: u64, high: u64, len: usize, seed: u64) {
+    let out: Vec<u64> = (0..len as u64).map(|w| w + 7_000_000).collect();
+    let want = list(t, collection, low, high, &out);
+    let got = calls::list(t, collection, low, high, &out);
+    let right = match want.0 {
+        Listed::Pairs { count, more } => got == (0, [Some(count), Some(more as u64)], want.1.clone()),
+        Listed::Refused(n) => got == (n, [None; 2], out),
+    };
+    expect(right, seed, t, || format!("list {low} to {high} of collection {collection} into {len} words: wanted {want:?}, got {got:?}"));
+}
+
+/// Searches and listings of these words in both collections, and now and then in one that there is not.
+pub fn same_reading(t: &[u64], random: &mut Random, seed: u64) {
+    let ks = keys(t, random);
+    for n in [1, 2, any_collection(random)] {
+        for &k in &ks {
+            same_search(t, n, k, seed);
+        }
+        let mut any = || ks[random.below(ks.len() as u64) as usize];
+        let (low, high) = (any(), any());
+        same_list(t, n, low, high, random.below(40) as usize, seed);
+        same_list(t, n, 0, MARK, random.below(40) as usize, seed);
+    }
+}
+
+/// Every search of these words for the keys asked answers as the map of its collection.
+pub fn answers(t: &[u64], maps: &Maps, asked: &BTreeSet<u64>) -> bool {
     let mut table = Lent::new(t);
-    let right = asked.iter().all(|&k| table.search(k) == looked(&lookup(map, k)));
+    let right = maps.iter().zip(1..).all(|(map, n)| asked.iter().all(|&k| table.search(n, k) == looked(&lookup(map, k))));
     table.back();
     right
 }
 
-/// An image of a cut after c of a call's orders is as the cut rule says: sound with the map before the call or after it, by every search
-/// asked; before it where c is 0, after it where c is all; and repair settles it with the same map. Gives that map, what was left, and the
-/// table that the repair left.
-pub fn image_holds(image: &[u64], maps: [&BTreeMap<u64, u64>; 2], cut: (usize, usize), asked: &BTreeSet<u64>, seed: u64, call: Call) -> (BTreeMap<u64, u64>, Leftover, Vec<u64>) {
+/// What an image of a cut holds: its maps, what is left over and in which collection (0 for nothing), and the table that a repair leaves.
+pub struct Held {
+    pub maps: Maps,
+    pub leftover: Leftover,
+    pub unfinished: u64,
+    pub mended: Vec<u64>,
+}
+
+/// An image of a cut after c of a call's orders is as the cut rule says: sound with the maps before the call or after it, by every search
+/// asked; before it where c is 0, after it where c is all; and repair settles it with the same maps.
+pub fn image_holds(image: &[u64], maps: [&Maps; 2], cut: (usize, usize), asked: &BTreeSet<u64>, seed: u64, call: Call) -> Held {
     let [old, new] = maps;
     let (c, all) = cut;
     let what = || format!("{call:?} cut after {c} of {all} orders");
-    let map = if answers(image, new, asked) { new } else { old };
-    expect(answers(image, map, asked), seed, image, || what() + ": searches agree with neither map");
-    let tree = judge(image).filter(|x| x.map == *map);
-    expect(tree.is_some(), seed, image, || what() + ": not sound with that map");
-    expect(c > 0 || map == old, seed, image, || what() + ": is taken");
-    expect(c < all || map == new, seed, image, || what() + ": is omitted");
+    let maps = if answers(image, new, asked) { new } else { old };
+    expect(answers(image, maps, asked), seed, image, || what() + ": searches agree with the maps neither before nor after");
+    let sound = judge(image).filter(|x| x.maps == *maps);
+    expect(sound.is_some(), seed, image, || what() + ": not sound with these maps");
+    expect(c > 0 || maps == old, seed, image, || what() + ": is taken");
+    expect(c < all || maps == new, seed, image, || what() + ": is omitted");
     let mended = calls::repair(image, &[0; LIST_WORDS]);
-    let settled = mended.number == 0 && judge(&mended.table).map_or(false, |x| x.leftover == Leftover::Nothing && x.map == *map);
-    expect(settled, seed, image, || what() + ", then repaired: not settled with that map");
-    (map.clone(), tree.unwrap().leftover, mended.table)
+    let settled = mended.number == 0 && judge(&mended.table).is_some_and(|x| x.leftover == Leftover::Nothing && x.maps == *maps);
+    expect(settled, seed, image, || what() + ", then repaired: not settled with these maps");
+    let sound = sound.unwrap();
+    Held { maps: maps.clone(), leftover: sound.leftover, unfinished: sound.unfinished, mended: mended.table }
 }
 
 /// The orders of an accepted call's list.
@@ -271,22 +326,28 @@ pub fn decode(after: &Wrote) -> Vec<Order> {
     words.chunks(2).map(|o| if o[0] == MARK { Order::Flush(o[1]) } else { Order::Store(o[0] as usize, o[1]) }).collect()
 }
 
-/// The map after an accepted call.
-pub fn changed(map: &BTreeMap<u64, u64>, call: Call) -> BTreeMap<u64, u64> {
-    let mut new = map.clone();
+/// The maps after an accepted call: that of its collection has changed, the other one stays.
+pub fn changed(maps: &Maps, call: Call) -> Maps {
+    let mut new = maps.clone();
+    let Some(map) = call.collection().map(|n| &mut new[n as usize - 1]) else { return new };
     match call {
-        Call::Insert(k, r, c) => {
-            new.insert(k, pointer(r, c));
+        Call::Insert(_, k, r, c) => {
+            map.insert(k, pointer(r, c));
         }
-        Call::Delete(k) => {
-            new.remove(&k);
+        Call::Delete(_, k) => {
+            map.remove(&k);
         }
-        Call::SetClass(k, c) => {
-            new.insert(k, pointer(recording(new[&k]), c));
+        Call::SetClass(_, k, c) => {
+            map.insert(k, pointer(recording(map[&k]), c));
         }
         Call::Repair => {}
     }
     new
+}
+
+/// The keys of these maps and those beside them.
+pub fn around<'a>(maps: impl IntoIterator<Item = &'a Maps>) -> BTreeSet<u64> {
+    maps.into_iter().flatten().flat_map(|map| map.keys()).flat_map(|k| [k.wrapping_sub(1), *k, k.wrapping_add(1)]).collect()
 }
 
 pub fn kind(leftover: Leftover) -> usize {

@@ -33,7 +33,7 @@ fn freed(t: &[u64], leaf: u64, met: &mut Met, seed: u64, name: &str) {
     settled.repair(tree.leftover);
     let slots = node(&settled.t, leaf).shown();
     expect(slots.len() == 1, seed, t, || format!("{name}: the leaf has {} codes", slots.len()));
-    let call = Call::Delete(slots[0].key);
+    let call = Call::Delete(1, slots[0].key);
     let (after, os) = same_write(t, &[0; LIST_WORDS], call, seed);
     let (free, now) = (unreachable(t), unreachable(&after.table));
     expect(now.len() == free.len() + 1 && now.is_superset(&free) && now.contains(&leaf), seed, t, || format!("{name}: {call:?} freed {free:?} to {now:?}, not {leaf}"));
@@ -42,17 +42,17 @@ fn freed(t: &[u64], leaf: u64, met: &mut Met, seed: u64, name: &str) {
     want[9] = 0;
     expect(words(&after.table) == want, seed, t, || format!("{name}: the freed leaf's words"));
 
-    let new = changed(&tree.map, call);
-    let asked: BTreeSet<u64> = tree.map.keys().filter(|&&k| k.abs_diff(slots[0].key) < 2 * STEP || k % 7 == 0).flat_map(|k| [k.wrapping_sub(1), *k, k + 1]).collect();
+    let new = changed(&tree.maps, call);
+    let asked: BTreeSet<u64> = tree.maps[0].keys().filter(|&&k| k.abs_diff(slots[0].key) < 2 * STEP || k % 7 == 0).flat_map(|k| [k.wrapping_sub(1), *k, k + 1]).collect();
     for c in 0..=os.len() {
         for image in images(t, &os[..c]) {
             met.images += 1;
-            let (map, leftover, mended) = image_holds(&image, [&tree.map, &new], (c, os.len()), &asked, seed, call);
-            met.left[kind(leftover)] += 1;
-            let lacks = matches!(leftover, Leftover::Missing { a, .. } | Leftover::Both { a, .. } if node(&image, a).sibling == leaf);
-            if lacks && map == new {
+            let held = image_holds(&image, [&tree.maps, &new], (c, os.len()), &asked, seed, call);
+            met.left[kind(held.leftover)] += 1;
+            let lacks = matches!(held.leftover, Leftover::Missing { a, .. } | Leftover::Both { a, .. } if node(&image, a).sibling == leaf);
+            if lacks && held.maps == new {
                 met.attached += 1;
-                let empty = judge(&mended).map_or(false, |x| x.reached.get(&leaf).map_or(false, |x| x.used() == 0));
+                let empty = judge(&held.mended).map_or(false, |x| x.reached.get(&leaf).map_or(false, |x| x.used() == 0));
                 expect(empty, seed, &image, || format!("{name}: cut after {c} orders, the leaf is not attached again"));
             }
         }
@@ -107,7 +107,7 @@ enum Range {
 /// A table filled until 10, emptied, and filled again by other codes; how many codes it took each time.
 fn refilled(n: u64, times: u64, order: usize, range: Range, random: &mut Random, seed: u64) -> Vec<usize> {
     let list = [0; LIST_WORDS];
-    let mut t = make(n);
+    let mut t = make(n, 1);
     let mut taken = Vec::new();
     for time in 0..times {
         let first = match range {
@@ -123,7 +123,7 @@ fn refilled(n: u64, times: u64, order: usize, range: Range, random: &mut Random,
         }
         let mut inside = Vec::new();
         for k in keys {
-            let (after, _) = same_write(&t, &list, Call::Insert(k, k + 1, k % 3), seed);
+            let (after, _) = same_write(&t, &list, Call::Insert(1, k, k + 1, k % 3), seed);
             match after.number {
                 0 => inside.push(k),
                 number => {
@@ -138,7 +138,7 @@ fn refilled(n: u64, times: u64, order: usize, range: Range, random: &mut Random,
             inside.reverse();
         }
         for k in inside {
-            let (after, _) = same_write(&t, &list, Call::Delete(k), seed);
+            let (after, _) = same_write(&t, &list, Call::Delete(1, k), seed);
             expect(after.number == 0, seed, &t, || format!("the deletion of {k} gave {}", after.number));
             t = after.table;
         }

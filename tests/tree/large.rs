@@ -54,7 +54,7 @@ fn level(t: &mut [u64], first: u64, level: u64, below: &[(u64, u64)]) -> Row {
 
 /// A settled table of so many codes, with a few nodes to spare. The leaves are nodes 1, 2 ..
 fn packed(codes: u64, number: fn(u64) -> u64) -> Vec<u64> {
-    let mut t = make(codes / 6 + 8);
+    let mut t = make(codes / 6 + 8, 1);
     let pairs: Vec<(u64, u64)> = (0..codes).map(|i| (7 * i, pointer(number(i), i * i % 3))).collect();
     let (mut first, mut l) = (1, 0);
     let mut row = level(&mut t, first, l, &pairs);
@@ -103,10 +103,10 @@ fn try_kind((name, number, most): Kind, codes: u64, seed: u64, random: &mut Rand
         let sound = recording(old) == recording(new) && class(new) <= MOST_CLASS;
         expect(taken(&t, list) == sound, seed, &[], || format!("{codes} codes, recordings {name}: {b} with {new} for {old}, {a} has {}", t[place(a)]));
         t[place(b)] = old;
-        let found = calls::insert(&t, list, 7 * a + 1, recording(old), random.below(3));
+        let found = calls::insert(&t, 1, list, 7 * a + 1, recording(old), random.below(3));
         expect(found.number == 8 && found.table == t, seed, &[], || format!("{codes} codes, recordings {name}: {old} inserted again gives {}", found.number));
         let (to, line) = (random.below(3), place(b) as u64 / 8);
-        let set = calls::set_class(&t, list, 7 * b, to);
+        let set = calls::set_class(&t, 1, list, 7 * b, to);
         let store = [place(b) as u64, pointer(recording(old), to), MARK, line];
         expect(set.number == 0 && set.list[..4] == store, seed, &[], || format!("{codes} codes, recordings {name}: class {to} of code {b} gives {}", set.number));
     }
@@ -118,8 +118,8 @@ fn try_kind((name, number, most): Kind, codes: u64, seed: u64, random: &mut Rand
         t[place(b)] = old;
     }
     let unused = (1..).find(|&r| (0..codes).all(|i| number(i) != r)).unwrap();
-    let added = calls::insert(&t, list, 7 * (codes / 2) + 1, unused, 2);
-    expect(added.number == 0 && calls::search(&added.table, 7 * (codes / 2) + 1) == calls::found(unused, 2), seed, &[], || format!("{codes} codes, recordings {name}: {unused} was not added"));
+    let added = calls::insert(&t, 1, list, 7 * (codes / 2) + 1, unused, 2);
+    expect(added.number == 0 && calls::search(&added.table, 1, 7 * (codes / 2) + 1) == calls::found(unused, 2), seed, &[], || format!("{codes} codes, recordings {name}: {unused} was not added"));
 }
 
 fn main() {

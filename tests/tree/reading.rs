@@ -7,35 +7,13 @@ mod reference;
 use common::*;
 use reference::*;
 
-fn same_list(t: &[u64], low: u64, high: u64, len: usize, seed: u64) {
-    let out: Vec<u64> = (0..len as u64).map(|w| w + 7_000_000).collect();
-    let want = list(t, low, high, &out);
-    let got = calls::list(t, low, high, &out);
-    let right = match want.0 {
-        Listed::Pairs { count, more } => got == (0, [Some(count), Some(more as u64)], want.1.clone()),
-        Listed::Refused(n) => got == (n, [None; 2], out),
-    };
-    expect(right, seed, t, || format!("list {low} to {high} into {len} words: wanted {want:?}, got {got:?}"));
-}
-
-fn same_reading(t: &[u64], random: &mut Random, seed: u64) {
-    let ks = keys(t, random);
-    for &k in &ks {
-        same_search(t, k, seed);
-    }
-    let mut any = || ks[random.below(ks.len() as u64) as usize];
-    let (low, high) = (any(), any());
-    same_list(t, low, high, random.below(40) as usize, seed);
-    same_list(t, 0, MARK, random.below(40) as usize, seed);
-}
-
 // ---- leaves joined in any way
 
 /// Leaves with few slots or none, mostly joined to a ring, some with a sibling that is no leaf of the table, or none at all; the root is
 /// one of them, or a node above one.
 fn joined(random: &mut Random) -> Vec<u64> {
     let n = 1 + random.below(7);
-    let mut t = make(n);
+    let mut t = make(n, 1);
     let sound_siblings = random.below(2) == 0;
     for i in 1..=n {
         let w = start(i);
@@ -76,7 +54,7 @@ struct Joined {
 
 impl Joined {
     fn tally(&mut self, t: &[u64], k: u64, answer: &Answer) {
-        let further = || (next_up(t, last_leaf(t, k).expect("a leaf"), k).expect("a neighbour or none").1 > 1) as usize;
+        let further = || (next_up(t, last_leaf(t, 1, k).expect("a leaf"), k).expect("a neighbour or none").1 > 1) as usize;
         let ring = (1..=t[2]).all(|i| node(t, i).level == 0 && (1..=t[2]).contains(&node(t, i).sibling));
         match answer {
             Answer::Found(..) => {}
@@ -99,13 +77,12 @@ fn main() {
 
     // Making: every length from 0 to some hundreds.
     for len in 0..600 {
-        let before: Vec<u64> = (0..len as u64).map(|w| w * 7 + 1).collect();
-        let (number, after) = calls::make(&before);
-        let right = match nodes_for(len) {
-            Some(n) => number == 0 && after == make(n),
-            None => number == 2 && after == before,
-        };
-        expect(right, seed, &after, || format!("making in {len} words"));
+        for collections in [1, 2, 0, 3, MARK] {
+            let before: Vec<u64> = (0..len as u64).map(|w| w * 7 + 1).collect();
+            let got = calls::make(&before, collections);
+            let want = making(len, collections).map_or_else(|number| (number, before), |t| (0, t));
+            expect(got == want, seed, &got.1, || format!("making {collections} collections in {len} words"));
+        }
     }
     passed += 1;
 
@@ -129,7 +106,7 @@ fn main() {
     // Any words of every length.
     for len in 0..420 {
         for _ in 0..6 {
-            let t = any_words(len, &mut random);
+            let t = any_words(len, 1, &mut random);
             same_reading(&t, &mut random, seed);
         }
     }
@@ -138,12 +115,12 @@ fn main() {
     // Tables with every leftover, whole and damaged.
     let mut kinds = [0; 5];
     for i in 0..size {
-        let t = grown(if i % 4 == 0 { 60 } else { 14 }, &mut random);
+        let t = grown(if i % 4 == 0 { 60 } else { 14 }, 1, &mut random);
         let tree = judge(&t).expect("a grown table is sound");
         kinds[kind(tree.leftover)] += 1;
         let ks = keys(&t, &mut random);
-        for &k in tree.map.keys().chain(&ks) {
-            expect(search(&t, k) == lookup(&tree.map, k), seed, &t, || format!("the reference's search for {k} against its map"));
+        for &k in tree.maps[0].keys().chain(&ks) {
+            expect(search(&t, 1, k) == lookup(&tree.maps[0], k), seed, &t, || format!("the reference's search for {k} against its map"));
         }
         same_reading(&t, &mut random, seed);
         for _ in 0..8 {
@@ -161,7 +138,7 @@ fn main() {
         let mut ks: Vec<u64> = keys(&t, &mut random);
         ks.extend((0..10).map(|_| random.below(100)));
         for k in ks {
-            let answer = same_search(&t, k, seed);
+            let answer = same_search(&t, 1, k, seed);
             met.tally(&t, k, &answer);
         }
     }

@@ -86,21 +86,52 @@ pub fn nodes_for(len: usize) -> Option<u64> {
     }
 }
 
-/// What refusal 2 tests.
+/// What refusal 2 tests. Word 3 is the root of collection 2, 0 for none; a table of one node has no second one.
 pub fn header_ok(t: &[u64]) -> bool {
     match nodes_for(t.len()) {
         None => false,
-        Some(n) => t[0] == 1 && t[2] == n && t[3..8].iter().all(|&w| w == 0) && (1..=n).contains(&t[1]),
+        Some(n) => t[0] == 1 && t[2] == n && (1..=n).contains(&t[1]) && t[3] <= n && (t[3] == 0 || n > 1) && t[4..8].iter().all(|&w| w == 0),
     }
 }
 
-pub fn make(n: u64) -> Vec<u64> {
+/// What refusal 17 tests: a collection that is not 1 or 2, or 2 where word 3 is 0.
+pub fn no_collection(t: &[u64], collection: u64) -> bool {
+    match collection {
+        1 => false,
+        2 => t[3] == 0,
+        _ => true,
+    }
+}
+
+/// The header word of a collection's root.
+pub fn root_word(collection: u64) -> usize {
+    if collection == 1 { 1 } else { 3 }
+}
+
+/// The collections that a table has.
+pub fn collections(t: &[u64]) -> Vec<u64> {
+    [1, 2].into_iter().filter(|&c| !no_collection(t, c)).collect()
+}
+
+/// A table as it is made: an empty leaf for each collection, nodes 1 and 2.
+pub fn make(n: u64, collections: u64) -> Vec<u64> {
     let mut t = vec![0; 8 + 32 * n as usize];
     t[0] = 1;
-    t[1] = 1;
     t[2] = n;
-    t[8] = MARK;
+    for c in 1..=collections {
+        t[root_word(c)] = c;
+        t[start(c)] = MARK;
+    }
     t
+}
+
+/// The table that making leaves in so many words, or the refusal number.
+pub fn making(len: usize, collections: u64) -> Result<Vec<u64>, u64> {
+    match (nodes_for(len), collections) {
+        (None, _) | (Some(1), 2) => Err(2),
+        (Some(n), 1 | 2) => Ok(make(n, collections)),
+        _ => Err(17),
+    }
 }
 
 pub fn node(t: &[u64], i: u64) -> Node {
@@ -112,8 +143,8 @@ pub fn node(t: &[u64], i: u64) -> Node {
     Node { left: w[0], sibling: w[1], level: w[2], fence: w[3], spare: [w[4], w[5], w[6], w[7]], slots }
 }
 
-pub fn search(t: &[u64], k: u64) -> Answer {
-    match last_leaf(t, k) {
+pub fn search(t: &[u64], collection: u64, k: u64) -> Answer {
+    match last_leaf(t, collection, k) {
         Err(number) => Answer::Refused(number),
         Ok(x) => match x.shown().iter().find(|s| s.key == k) {
             Some(s) => Answer::Found(recording(s.pointer), class(s.pointer)),
@@ -122,12 +153,15 @@ pub fn search(t: &[u64], k: u64) -> Answer {
     }
 }
 
-/// The leaf that the search for k ends in, or the refusal number.
-pub fn last_leaf(t: &[u64], k: u64) -> Result<Node, u64> {
+/// The leaf that the search for k in a collection ends in, or the refusal number.
+pub fn last_leaf(t: &[u64], collection: u64, k: u64) -> Result<Node, u64> {
     if !header_ok(t) {
         return Err(2);
     }
-    let mut at = t[1];
+    if no_collection(t, collection) {
+        return Err(17);
+    }
+    let mut at = t[root_word(collection)];
     let mut level = node(t, at).level;
     if level > 15 {
         return Err(3);
@@ -186,15 +220,52 @@ pub enum Leftover {
     Both { parent: u64, a: u64 },
 }
 
-pub struct Tree {
-    pub reached: BTreeMap<u64, Node>,
-    pub leftover: Leftover,
-    /// Codes and whole pointers.
-    pub map: BTreeMap<u64, u64>,
+/// Codes and whole pointers.
+pub type Map = BTreeMap<u64, u64>;
+
+/// A map for each collection that there is.
+pub type Maps = Vec<Map>;
+
+/// A tree that is sound by itself.
+struct Tree {
+    reached: BTreeMap<u64, Node>,
+    leftover: Leftover,
+    map: Map,
 }
 
-/// A sound table's tree, by the sentences of 'Sound tables'; None for a table that is not sound. The header is right.
-pub fn judge(t: &[u64]) -> Option<Tree> {
+/// What a sound table holds.
+pub struct Sound {
+    /// The nodes that a way leads to from any of the roots.
+    pub reached: BTreeMap<u64, Node>,
+    /// The one leftover in the whole table, and the collection that it is in, 0 for none.
+    pub leftover: Leftover,
+    pub unfinished: u64,
+    pub maps: Maps,
+}
+
+/// A table whose header is right: each collection's tree is sound, no node is reached from both roots, and at most one leftover exists.
+/// None for a table that is not sound.
+pub fn judge(t: &[u64]) -> Option<Sound> {
+    let mut all = Sound { reached: BTreeMap::new(), leftover: Leftover::Nothing, unfinished: 0, maps: vec![] };
+    for c in collections(t) {
+        let tree = judge_tree(t, t[root_word(c)])?;
+        if tree.reached.keys().any(|i| all.reached.contains_key(i)) {
+            return None;
+        }
+        if tree.leftover != Leftover::Nothing {
+            if all.unfinished != 0 {
+                return None;
+            }
+            (all.leftover, all.unfinished) = (tree.leftover, c);
+        }
+        all.reached.extend(tree.reached);
+        all.maps.push(tree.map);
+    }
+    Some(all)
+}
+
+/// The tree of a root, by the sentences of 'Sound tables'; None for one that is not sound.
+fn judge_tree(t: &[u64], from: u64) -> Option<Tree> {
     let n = t[2];
     let inside = |i: u64| (1..=n).contains(&i);
     let below = |x: &Node, k: u64| x.sibling == 0 || k < node(t, x.sibling).fence;
@@ -202,7 +273,7 @@ pub fn judge(t: &[u64]) -> Option<Tree> {
     // Reached nodes: the closure under left, sibling, and shown slots below the sibling's fence.
     let mut reached: BTreeMap<u64, Node> = BTreeMap::new();
     let mut parents: HashMap<u64, BTreeSet<u64>> = HashMap::new();
-    let mut todo = vec![t[1]];
+    let mut todo = vec![from];
     while let Some(i) = todo.pop() {
         if reached.contains_key(&i) {
             continue;
@@ -232,7 +303,7 @@ pub fn judge(t: &[u64]) -> Option<Tree> {
         reached.insert(i, x);
     }
 
-    let root = &reached[&t[1]];
+    let root = &reached[&from];
     if root.fence != 0 || root.sibling != 0 || root.level > 15 {
         return None;
     }
@@ -297,7 +368,7 @@ pub fn judge(t: &[u64]) -> Option<Tree> {
     let mut lacking = Vec::new();
     for &i in reached.keys() {
         match parents.get(&i).map_or(0, |p| p.len()) {
-            0 if i == t[1] => {}
+            0 if i == from => {}
             0 => lacking.push(i),
             1 => {}
             _ => return None,
@@ -334,7 +405,7 @@ pub fn judge(t: &[u64]) -> Option<Tree> {
     Some(Tree { reached, leftover, map })
 }
 
-/// The nodes of a sound table that no way leads to.
+/// The nodes of a sound table that no way leads to, from either root.
 pub fn unreachable(t: &[u64]) -> BTreeSet<u64> {
     let reached = judge(t).expect("a sound table").reached;
     (1..=t[2]).filter(|i| !reached.contains_key(i)).collect()
@@ -347,12 +418,17 @@ pub enum Listed {
 }
 
 /// A listing: the answer, and the slice after it.
-pub fn list(t: &[u64], low: u64, high: u64, out: &[u64]) -> (Listed, Vec<u64>) {
+pub fn list(t: &[u64], collection: u64, low: u64, high: u64, out: &[u64]) -> (Listed, Vec<u64>) {
+    let refused = |number| (Listed::Refused(number), out.to_vec());
     if !header_ok(t) {
-        return (Listed::Refused(2), out.to_vec());
+        return refused(2);
     }
-    let Some(tree) = judge(t) else { return (Listed::Refused(4), out.to_vec()) };
-    let pairs: Vec<(u64, u64)> = tree.map.into_iter().filter(|&(k, _)| low <= k && k <= high).collect();
+    if no_collection(t, collection) {
+        return refused(17);
+    }
+    let Some(sound) = judge(t) else { return refused(4) };
+    let map = &sound.maps[collection as usize - 1];
+    let pairs: Vec<(u64, u64)> = map.iter().map(|(&k, &x)| (k, x)).filter(|&(k, _)| low <= k && k <= high).collect();
     let count = pairs.len().min(out.len() / 2);
     let mut words = out.to_vec();
     for (i, &(k, r)) in pairs[..count].iter().enumerate() {
@@ -468,9 +544,9 @@ impl Writer {
         self.shift_in(parent, fence, b);
     }
 
-    /// The nodes from the root down that lead to k, on a settled table.
-    fn path(&self, k: u64) -> Vec<u64> {
-        let mut way = vec![self.t[1]];
+    /// The nodes from a collection's root down that lead to k, on a settled table.
+    fn path(&self, collection: u64, k: u64) -> Vec<u64> {
+        let mut way = vec![self.t[root_word(collection)]];
         loop {
             let x = node(&self.t, *way.last().unwrap());
             if x.level == 0 {
@@ -484,8 +560,8 @@ impl Writer {
         node(&self.t, n).shown().len() == 11
     }
 
-    fn run(&self, k: u64) -> (usize, usize) {
-        let path = self.path(k);
+    fn run(&self, collection: u64, k: u64) -> (usize, usize) {
+        let path = self.path(collection, k);
         (path.iter().rev().take_while(|&&n| self.full(n)).count(), path.len())
     }
 
@@ -494,14 +570,14 @@ impl Writer {
         *free.range(a + 1..).next().or(free.iter().next()).expect("a fresh node")
     }
 
-    fn new_root(&mut self) {
-        let old = self.t[1];
+    fn new_root(&mut self, collection: u64) {
+        let old = self.t[root_word(collection)];
         let r = self.fresh(old);
         let mut words = [0; 32];
         words[0] = old;
         words[2] = node(&self.t, old).level + 1;
         self.whole_node(r, words);
-        self.store(1, r);
+        self.store(root_word(collection), r);
     }
 
     fn split(&mut self, a: u64, parent: u64) {
@@ -523,23 +599,23 @@ impl Writer {
         self.shift_in(parent, words[3], b);
     }
 
-    fn insert(&mut self, k: u64, x: u64) {
-        let (run, depth) = self.run(k);
+    fn insert(&mut self, collection: u64, k: u64, x: u64) {
+        let (run, depth) = self.run(collection, k);
         if run == depth {
-            self.new_root();
+            self.new_root(collection);
         }
         for level in (0..run).rev() {
-            let path = self.path(k);
+            let path = self.path(collection, k);
             self.split(path[path.len() - 1 - level], path[path.len() - 2 - level]);
         }
-        let leaf = *self.path(k).last().unwrap();
+        let leaf = *self.path(collection, k).last().unwrap();
         self.shift_in(leaf, k, x);
     }
 
     /// On a settled table. A leaf that it empties and that is not its parent's leftmost child comes back: its slot is shifted out at the
     /// parent, then its sibling stored into its left neighbour's sibling word.
-    fn delete(&mut self, k: u64) {
-        let path = self.path(k);
+    fn delete(&mut self, collection: u64, k: u64) {
+        let path = self.path(collection, k);
         let leaf = *path.last().unwrap();
         let emptied = node(&self.t, leaf).shown().len() == 1;
         self.shift_out(leaf, k);
@@ -552,8 +628,8 @@ impl Writer {
     }
 
     /// On a settled table that has the code: one store.
-    fn set_class(&mut self, k: u64, to: u64) {
-        let leaf = *self.path(k).last().unwrap();
+    fn set_class(&mut self, collection: u64, k: u64, to: u64) {
+        let leaf = *self.path(collection, k).last().unwrap();
         let slots = node(&self.t, leaf).slots;
         let place = slots.iter().position(|s| s.key == k).unwrap();
         self.pointer(leaf, place, pointer(recording(slots[place].pointer), to));
@@ -562,11 +638,31 @@ impl Writer {
 
 #[derive(Clone, Copy, Debug, PartialEq, Eq)]
 pub enum Call {
-    /// A key, a recording and its class.
-    Insert(u64, u64, u64),
-    Delete(u64),
-    SetClass(u64, u64),
+    /// A collection, a key, a recording and its class; likewise below.
+    Insert(u64, u64, u64, u64),
+    Delete(u64, u64),
+    SetClass(u64, u64, u64),
     Repair,
+}
+
+impl Call {
+    /// The collection that it names; a repair names none.
+    pub fn collection(self) -> Option<u64> {
+        match self {
+            Call::Insert(c, ..) | Call::Delete(c, _) | Call::SetClass(c, ..) => Some(c),
+            Call::Repair => None,
+        }
+    }
+
+    /// The same in another collection.
+    pub fn naming(self, n: u64) -> Call {
+        match self {
+            Call::Insert(_, k, r, c) => Call::Insert(n, k, r, c),
+            Call::Delete(_, k) => Call::Delete(n, k),
+            Call::SetClass(_, k, c) => Call::SetClass(n, k, c),
+            Call::Repair => Call::Repair,
+        }
+    }
 }
 
 /// The stores of an accepted call and the table that it leaves, or its refusal number.
@@ -574,16 +670,19 @@ pub fn write(t: &[u64], list_words: usize, call: Call) -> Result<Writer, u64> {
     if !header_ok(t) {
         return Err(2);
     }
-    let tree = judge(t).ok_or(4u64)?;
-    write_judged(t, &tree, list_words, call)
+    if call.collection().is_some_and(|c| no_collection(t, c)) {
+        return Err(17);
+    }
+    let sound = judge(t).ok_or(4u64)?;
+    write_judged(t, &sound, list_words, call)
 }
 
-/// As `write`, on a sound table with its tree.
-pub fn write_judged(t: &[u64], tree: &Tree, list_words: usize, call: Call) -> Result<Writer, u64> {
+/// As `write`, on a sound table that has the collection.
+pub fn write_judged(t: &[u64], sound: &Sound, list_words: usize, call: Call) -> Result<Writer, u64> {
     if list_words < LIST_WORDS {
         return Err(5);
     }
-    let parent = match tree.leftover {
+    let parent = match sound.leftover {
         Leftover::Missing { parent, .. } | Leftover::Both { parent, .. } => Some(parent),
         _ => None,
     };
@@ -591,45 +690,46 @@ pub fn write_judged(t: &[u64], tree: &Tree, list_words: usize, call: Call) -> Re
         return Err(12);
     }
     let mut w = Writer::new(t);
-    w.repair(tree.leftover);
+    w.repair(sound.leftover);
+    let map = |n: u64| &sound.maps[n as usize - 1];
     match call {
-        Call::Insert(k, r, c) => {
+        Call::Insert(n, k, r, c) => {
             if r == 0 || r > MOST_RECORDING {
                 return Err(6);
             }
             if c > MOST_CLASS {
                 return Err(14);
             }
-            if tree.map.contains_key(&k) {
+            if map(n).contains_key(&k) {
                 return Err(7);
             }
-            if tree.map.values().any(|&x| recording(x) == r) {
+            if map(n).values().any(|&x| recording(x) == r) {
                 return Err(8);
             }
-            let (run, depth) = w.run(k);
+            let (run, depth) = w.run(n, k);
             let new_root = run == depth;
-            if new_root && node(&w.t, w.t[1]).level == 15 {
+            if new_root && node(&w.t, w.t[root_word(n)]).level == 15 {
                 return Err(11);
             }
             if unreachable(&w.t).len() < run + new_root as usize {
                 return Err(10);
             }
-            w.insert(k, pointer(r, c));
+            w.insert(n, k, pointer(r, c));
         }
-        Call::Delete(k) => {
-            if !tree.map.contains_key(&k) {
+        Call::Delete(n, k) => {
+            if !map(n).contains_key(&k) {
                 return Err(9);
             }
-            w.delete(k);
+            w.delete(n, k);
         }
-        Call::SetClass(k, c) => {
+        Call::SetClass(n, k, c) => {
             if c > MOST_CLASS {
                 return Err(14);
             }
-            if !tree.map.contains_key(&k) {
+            if !map(n).contains_key(&k) {
                 return Err(9);
             }
-            w.set_class(k, c);
+            w.set_class(n, k, c);
         }
         Call::Repair => {}
     }

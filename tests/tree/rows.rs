@@ -21,7 +21,7 @@ pub fn rows(codes: &[Vec<usize>], spare: usize, random: &mut Random) -> Rows {
     for i in (1..numbers.len()).rev() {
         numbers.swap(i, random.below(i as u64 + 1) as usize);
     }
-    let mut t = make(numbers.len() as u64);
+    let mut t = make(numbers.len() as u64, 1);
     // What no way leads to may hold anything.
     t[8..].iter_mut().for_each(|w| *w = random.below(40));
     let mut number = || numbers.pop().expect("a number");

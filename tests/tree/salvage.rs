@@ -1,6 +1,6 @@
-//! Salvage against a tour written from document 02's paragraph: on sound tables, on every leftover, on tables damaged in one to a hundred
-//! words, on any words; nodes met from two parents, rings, deep chains, levels up to 2^64 - 1; every refusal, with nothing written; and some
-//! tables worked by hand, without the tour.
+//! Salvage against a tour written from document 02's paragraphs, of tables with one collection and with two: on sound tables, on every
+//! leftover, on tables damaged in one to a hundred words, on any words; nodes met from two parents or from both roots, rings, deep chains,
+//! levels up to 2^64 - 1; every refusal, with nothing written; and some tables worked by hand, without the tour.
 mod calls;
 mod common;
 mod reference;
@@ -10,7 +10,7 @@ use reference::*;
 use std::collections::{BTreeMap, BTreeSet};
 
 /// What became of nodes and slots that a tour met and did not enter or collect.
-const PASSED_OVER: [&str; 8] = [
+const PASSED_OVER: [&str; 9] = [
     "number outside 1 to N",
     "child of a wrong level",
     "sibling of a wrong level",
@@ -19,18 +19,21 @@ const PASSED_OVER: [&str; 8] = [
     "sibling entered before",
     "ring of siblings",
     "slot from the fence up",
+    "entered from the other root",
 ];
 
 /// What a salvage keeps and drops of a table, in the order met.
 #[derive(Default)]
 struct Tour {
-    entered: BTreeSet<u64>,
-    kept: BTreeMap<u64, u64>,
+    /// The nodes entered, and how many collections were begun then.
+    entered: BTreeMap<u64, usize>,
+    /// Of each collection so far; the last one is being toured, and these are its recordings.
+    kept: Maps,
     recordings: BTreeSet<u64>,
     dropped: Vec<[u64; 3]>,
     /// The first parent of each child; and for each of PASSED_OVER how often.
     parents: BTreeMap<u64, u64>,
-    passed: [u64; 8],
+    passed: [u64; 9],
 }
 
 /// The siblings of a node lead back to it.
@@ -48,9 +51,10 @@ impl Tour {
             self.passed[0] += (i != 0) as u64;
         } else if node(t, i).level != level {
             self.passed[if parent != 0 { 1 } else { 2 }] += 1;
-        } else if !self.entered.contains(&i) {
+        } else if !self.entered.contains_key(&i) {
             self.enter(t, i);
         } else {
+            self.passed[8] += (self.entered[&i] < self.kept.len()) as u64;
             self.passed[if parent != 0 { 3 } else { 5 }] += 1;
             self.passed[4] += other as u64;
             self.passed[6] += (parent == 0 && in_ring(t, i)) as u64;
@@ -67,7 +71,7 @@ impl Tour {
 
     /// Left child first, shown slots in order, then a sibling not yet entered.
     fn enter(&mut self, t: &[u64], i: u64) {
-        self.entered.insert(i);
+        self.entered.insert(i, self.kept.len());
         let x = node(t, i);
         let places = self.followed(t, &x);
         if x.level == 0 {
@@ -79,21 +83,33 @@ impl Tour {
         self.meet(t, x.sibling, x.level, 0);
     }
 
-    /// The first holder of a code or a recording keeps it; the first reason that holds is told.
+    /// The first holder of a code or a recording in the collection keeps it; the first reason that holds is told.
     fn collect(&mut self, i: u64, p: usize, s: Slot) {
         let r = recording(s.pointer);
+        let kept = self.kept.last_mut().expect("a collection");
         let reason = if r == 0 || class(s.pointer) > MOST_CLASS {
             1
-        } else if self.kept.contains_key(&s.key) {
+        } else if kept.contains_key(&s.key) {
             2
         } else if self.recordings.contains(&r) {
             3
         } else {
-            self.kept.insert(s.key, s.pointer);
+            kept.insert(s.key, s.pointer);
             self.recordings.insert(r);
             return;
         };
         self.dropped.push([i, p as u64, reason]);
+    }
+
+    /// A collection from its root, whatever its level; one that was entered before is not entered again.
+    fn collection(&mut self, t: &[u64], root: u64) {
+        self.kept.push(Map::new());
+        self.recordings.clear();
+        if self.entered.contains_key(&root) {
+            self.passed[8] += 1;
+        } else {
+            self.enter(t, root);
+        }
     }
 }
 
@@ -104,44 +120,47 @@ struct Made {
     slots: Vec<(u64, u64)>,
 }
 
-/// Pairs packed 11 to a leaf and 12 children to an inner node, from the left, nodes numbered upward from the leaves; none where that takes
-/// more than n nodes.
-fn packed(n: u64, pairs: &BTreeMap<u64, u64>) -> Option<Vec<u64>> {
+/// Pairs packed 11 to a leaf and 12 children to an inner node, from the left, as rows from the leaves up, with nodes numbered upward from the
+/// first number; without pairs one empty leaf.
+fn packed_rows(first: u64, pairs: &Map) -> Vec<Vec<Made>> {
     let pairs: Vec<(u64, u64)> = pairs.iter().map(|(&k, &p)| (k, p)).collect();
     let mut row: Vec<Made> = pairs.chunks(11).map(|c| Made { lowest: c[0].0, left: MARK, slots: c.to_vec() }).collect();
     if row.is_empty() {
-        return Some(make(n));
+        row.push(Made { lowest: 0, left: MARK, slots: vec![] });
     }
     let mut rows: Vec<Vec<Made>> = Vec::new();
-    let mut next = 1;
-    loop {
-        let first = next;
-        next += row.len() as u64;
-        if row.len() == 1 {
-            rows.push(row);
-            break;
-        }
-        let children: Vec<(u64, u64)> = row.iter().enumerate().map(|(i, m)| (m.lowest, first + i as u64)).collect();
+    let mut first = first;
+    while row.len() > 1 {
+        let children: Vec<(u64, u64)> = row.iter().zip(first..).map(|(m, number)| (m.lowest, number)).collect();
+        first += row.len() as u64;
         rows.push(row);
         row = children.chunks(12).map(|c| Made { lowest: c[0].0, left: c[0].1, slots: c[1..].to_vec() }).collect();
     }
-    if next - 1 > n {
-        return None;
-    }
-    let mut t = make(n);
-    t[8] = 0;
-    t[1] = next - 1;
+    rows.push(row);
+    rows
+}
+
+/// A table of n nodes with these maps packed, collection 1 first; none where that takes more than n nodes.
+fn packed(n: u64, maps: &[Map]) -> Option<Vec<u64>> {
+    let mut t = make(n, 0);
     let mut number = 1;
-    for (level, row) in rows.iter().enumerate() {
-        for (i, m) in row.iter().enumerate() {
-            let sibling = if i + 1 < row.len() { number + 1 } else { 0 };
-            let fence = if i == 0 { 0 } else { m.lowest };
-            t[start(number)..start(number) + 4].copy_from_slice(&[m.left, sibling, level as u64, fence]);
-            for (s, &(k, p)) in m.slots.iter().enumerate() {
-                t[start(number) + 8 + 2 * s..][..2].copy_from_slice(&[k, p]);
-            }
-            number += 1;
+    for (map, c) in maps.iter().zip(1..) {
+        let rows = packed_rows(number, map);
+        if number - 1 + rows.iter().map(|row| row.len() as u64).sum::<u64>() > n {
+            return None;
         }
+        for (level, row) in rows.iter().enumerate() {
+            for (i, m) in row.iter().enumerate() {
+                let sibling = if i + 1 < row.len() { number + 1 } else { 0 };
+                let fence = if i == 0 { 0 } else { m.lowest };
+                t[start(number)..start(number) + 4].copy_from_slice(&[m.left, sibling, level as u64, fence]);
+                for (s, &(k, p)) in m.slots.iter().enumerate() {
+                    t[start(number) + 8 + 2 * s..][..2].copy_from_slice(&[k, p]);
+                }
+                number += 1;
+            }
+        }
+        t[root_word(c)] = number - 1;
     }
     Some(t)
 }
@@ -158,7 +177,7 @@ fn salvaged(t: &[u64], out: usize, report: usize) -> Result<(Vec<u64>, Tour), u6
         return Err(16);
     }
     let mut tour = Tour::default();
-    tour.enter(t, t[1]);
+    collections(t).into_iter().for_each(|c| tour.collection(t, t[root_word(c)]));
     let new = packed(t[2], &tour.kept).ok_or(10u64)?;
     Ok((new, tour))
 }
@@ -185,7 +204,7 @@ fn salvage_all(t: &[u64], seed: u64) -> Result<Tour, u64> {
     let most = t.get(2).map_or(0, |&n| if n <= 65535 { 36 * n as usize } else { 0 });
     let tour = same_salvage(t, t.len(), most + most % 7, seed)?;
     let new = packed(t[2], &tour.kept).expect("it fits");
-    let settled = judge(&new).is_some_and(|x| x.map == tour.kept && x.leftover == Leftover::Nothing);
+    let settled = judge(&new).is_some_and(|x| x.maps == tour.kept && x.leftover == Leftover::Nothing);
     expect(settled, seed, t, || "the new table is not settled with the kept pairs".into());
     Ok(tour)
 }
@@ -194,7 +213,7 @@ fn salvage_all(t: &[u64], seed: u64) -> Result<Tour, u64> {
 #[derive(Default)]
 struct Met {
     reasons: [u64; 4],
-    passed: [u64; 8],
+    passed: [u64; 9],
     tens: u64,
     done: u64,
 }
@@ -223,13 +242,13 @@ fn often(n: u64, count: u64) -> bool {
     n > count / 1000 || count < 5_000
 }
 
-/// Sound tables drop nothing, keep the map and are never refused with 10.
+/// Sound tables drop nothing, keep the maps and are never refused with 10.
 fn sound_tables(count: u64, random: &mut Random, seed: u64) {
-    for _ in 0..count {
-        let t = grown(12, random);
+    for i in 0..count {
+        let t = grown(12, 1 + i % 2, random);
         let tour = salvage_all(&t, seed);
-        let map = judge(&t).expect("sound").map;
-        expect(tour.is_ok_and(|x| x.dropped.is_empty() && x.kept == map), seed, &t, || "a sound table is not kept".into());
+        let maps = judge(&t).expect("sound").maps;
+        expect(tour.is_ok_and(|x| x.dropped.is_empty() && x.kept == maps), seed, &t, || "a sound table is not kept".into());
     }
 }
 
@@ -245,8 +264,8 @@ fn damaged_often(t: &[u64], times: u64, random: &mut Random) -> Vec<u64> {
 /// Each reason, 10, and each kind of what is passed over come up; two parents, which few of these tables have, in those after them.
 fn damaged_tables(count: u64, random: &mut Random, seed: u64) {
     let mut met = Met::default();
-    for _ in 0..count {
-        let t = grown(8, random);
+    for i in 0..count {
+        let t = grown(8, 1 + i % 2, random);
         let times = [1, 1, 1, 4, 40][random.below(5) as usize];
         met.count(salvage_all(&damaged_often(&t, times, random), seed));
     }
@@ -256,13 +275,15 @@ fn damaged_tables(count: u64, random: &mut Random, seed: u64) {
     expect(enough, seed, &[], || "a reason, or something that is passed over, hardly came up".into());
 }
 
-/// Three and four levels, in the packing's own form.
+/// Three and four levels, in the packing's own form, of one collection or of two.
 fn larger_tables(count: u64, random: &mut Random, seed: u64) {
     let mut met = Met::default();
-    for _ in 0..count {
+    for i in 0..count {
         let most = [300, 2000][random.below(2) as usize];
-        let pairs: BTreeMap<u64, u64> = (0..133 + random.below(most)).map(|_| (random.next(), some_pointer(random))).collect();
-        let t = packed(pairs.len() as u64 / 8 + random.below(9), &pairs).expect("it fits");
+        let mut some = || -> Map { (0..133 + random.below(most)).map(|_| (random.next(), some_pointer(random))).collect() };
+        let maps: Maps = (0..1 + i % 2).map(|_| some()).collect();
+        let pairs: usize = maps.iter().map(|map| map.len()).sum();
+        let t = packed(pairs as u64 / 8 + random.below(9), &maps).expect("it fits");
         let times = random.below(100);
         met.count(salvage_all(&damaged_often(&t, times, random), seed));
     }
@@ -275,7 +296,8 @@ fn any_tables(count: u64, random: &mut Random, seed: u64) {
     let mut met = Met::default();
     for _ in 0..count {
         let n = 1 + random.below(6);
-        let mut t = any_words(8 + 32 * n as usize, random);
+        let two = 1 + random.below(2);
+        let mut t = any_words(8 + 32 * n as usize, two, random);
         for i in 1..=n {
             let w = start(i);
             t[w + 2] = [0, 0, 0, 1, 1, 2, MARK, MARK - 1][random.below(8) as usize];
@@ -297,7 +319,7 @@ fn any_tables(count: u64, random: &mut Random, seed: u64) {
 /// Leaves in a row, the first ones with so many slots each.
 fn row_of_leaves(slots: &[usize], random: &mut Random) -> Vec<u64> {
     let n = slots.len() as u64;
-    let mut t = make(n);
+    let mut t = make(n, 1);
     for (i, &many) in (1..).zip(slots) {
         let w = start(i);
         t[w..w + 4].copy_from_slice(&[MARK, if i < n { i + 1 } else { 0 }, 0, if i == 1 { 0 } else { 100 * i }]);
@@ -324,7 +346,8 @@ fn refusals(count: u64, random: &mut Random, seed: u64) {
     let mut came = BTreeMap::new();
     let mut try_one = |t: &[u64], out: usize, report: usize| *came.entry(same_salvage(t, out, report, seed).err().unwrap_or(0)).or_insert(0) += 1;
     for _ in 0..count {
-        let t = if random.below(3) == 0 { any_words(random.below(200) as usize, random) } else { damaged(&grown(3, random), random) };
+        let (len, two) = (random.below(200) as usize, 1 + random.below(2));
+        let t = if random.below(3) == 0 { any_words(len, two, random) } else { damaged(&grown(3, two, random), random) };
         let out = if random.below(2) == 0 { t.len() } else { random.below(300) as usize };
         try_one(&t, out, random.below(120) as usize);
     }
@@ -404,6 +427,72 @@ fn worked() -> Vec<Worked> {
     ]
 }
 
+/// With a second collection from this root.
+fn loaned(mut t: Vec<u64>, root: u64) -> Vec<u64> {
+    t[3] = root;
+    t
+}
+
+type WorkedTwo = (&'static str, Vec<u64>, Vec<[u64; 3]>, Vec<u64>);
+
+/// Tables of two collections, the slots that are dropped of each, and the new table.
+fn worked_two() -> Vec<WorkedTwo> {
+    let (leaf, inner) = (|sibling, fence, slots: &[(u64, u64)]| words(MARK, sibling, 0, fence, slots), words);
+    let (empty, twelve) = (words(MARK, 0, 0, 0, &[]), (1..=12).map(|i| (10 * i, i)).collect::<Vec<_>>());
+    let halves = [leaf(2, 0, &twelve[..6]), leaf(0, 70, &twelve[6..]), inner(1, 0, 1, 0, &[(70, 2)])];
+    let packed = [leaf(2, 0, &twelve[..11]), leaf(0, 120, &twelve[11..]), inner(1, 0, 1, 0, &[(120, 2)])];
+    let with = |nodes: &[Vec<u64>; 3], other: Vec<u64>| [nodes.to_vec(), vec![other]].concat();
+    let twice = leaf(0, 0, &[(10, 1), (30, 3), (20, 1), (10, 2)]);
+    vec![
+        ("a code and a recording in both collections; each is judged by itself, collection 1 first",
+         loaned(table(2, 4, &[twice.clone(), twice.clone()]), 1),
+         vec![[2, 2, 3], [2, 3, 2], [1, 2, 3], [1, 3, 2]],
+         loaned(table(1, 4, &[leaf(0, 0, &[(10, 1), (30, 3)]), leaf(0, 0, &[(10, 1), (30, 3)])]), 2)),
+        ("both empty", loaned(table(2, 3, &[empty.clone(), empty.clone()]), 1), vec![], loaned(table(1, 3, &[empty.clone(), empty.clone()]), 2)),
+        ("the nodes of collection 2 are numbered on",
+         loaned(table(3, 9, &with(&halves, twice.clone())), 4),
+         vec![[4, 2, 3], [4, 3, 2]],
+         loaned(table(3, 9, &with(&packed, leaf(0, 0, &[(10, 1), (30, 3)]))), 4)),
+        ("collection 1 without pairs",
+         loaned(table(4, 9, &with(&halves, empty.clone())), 3),
+         vec![],
+         loaned(table(1, 9, &[empty.clone(), leaf(3, 0, &twelve[..11]), leaf(0, 120, &twelve[11..]), inner(2, 0, 1, 0, &[(120, 3)])]), 4)),
+        ("a second root in the midst of the first tree: what the first entered is the first's",
+         loaned(table(3, 4, &with(&halves, empty.clone())), 2),
+         vec![],
+         loaned(table(3, 4, &with(&packed, empty.clone())), 4)),
+        ("equal roots",
+         loaned(table(3, 4, &with(&halves, empty.clone())), 3),
+         vec![],
+         loaned(table(3, 4, &with(&packed, empty.clone())), 4)),
+        ("a second tree that comes to a leaf of the first",
+         loaned(table(3, 5, &[halves[0].clone(), halves[1].clone(), halves[2].clone(), inner(5, 0, 1, 0, &[(70, 2)]), leaf(2, 0, &[(5, 500)])]), 4),
+         vec![],
+         loaned(table(3, 5, &with(&packed, leaf(0, 0, &[(5, 500)]))), 4)),
+    ]
+}
+
+/// Two collections worked by hand; and 10 by the nodes of both.
+fn by_hand_two(seed: u64) {
+    for (name, t, dropped, new) in worked_two() {
+        let n = t[2] as usize;
+        let mut report = dropped.concat();
+        report.resize(36 * n, 7);
+        let got = calls::salvage(&t, &vec![3; t.len()], &vec![7; 36 * n]);
+        expect(got == (0, Some(dropped.len() as u64), new, report), seed, &t, || format!("{name}: {got:?}"));
+        let _ = salvage_all(&t, seed);
+    }
+    // Twelve slots, which no sound leaf has, need three nodes; the other collection one.
+    let twelve: Vec<(u64, u64)> = (1..=12).map(|i| (10 * i, i)).collect();
+    for (n, number) in [(2, 10), (3, 10), (4, 0)] {
+        for roots in [(1, 2), (2, 1)] {
+            let t = loaned(table(roots.0, n, &[words(MARK, 0, 0, 0, &twelve), words(MARK, 0, 0, 0, &[])]), roots.1);
+            let got = calls::salvage(&t, &vec![3; t.len()], &vec![7; 36 * n]).0;
+            expect(got == number, seed, &t, || format!("twelve slots and {n} nodes: {got}"));
+        }
+    }
+}
+
 /// The new table of at most 11 pairs is one leaf; words past the report stay.
 fn by_hand(seed: u64) {
     for (name, t, dropped, kept) in worked() {
@@ -474,7 +563,7 @@ fn siblings(n: u64, with_parents: bool) -> Vec<u64> {
 /// As deep and as long as a table can be; on a thread whose stack holds the reference's calls.
 fn deep_tables(seed: u64) {
     let work = move || {
-        let kept = |t: &[u64]| salvage_all(t, seed).map_or(0, |x| x.kept.len());
+        let kept = |t: &[u64]| salvage_all(t, seed).map_or(0, |x| x.kept[0].len());
         for place in [None, Some(0), Some(5), Some(11)] {
             for (n, level, codes) in [(65_535, 65_534, 2), (4_000, 3_999, 2), (65_535, MARK, 0), (65_535, 65_535, 0), (300, 0, 1), (65_535, 1, 1)] {
                 let t = chain(n, level, place);
@@ -493,6 +582,7 @@ fn main() {
     let (seed, size) = arguments(100_000);
     let mut random = Random(seed);
     by_hand(seed);
+    by_hand_two(seed);
     sound_tables(size / 20, &mut random, seed);
     damaged_tables(size, &mut random, seed);
     larger_tables(size / 200, &mut random, seed);
@@ -500,5 +590,5 @@ fn main() {
     crowded_tables(size / 20, &mut random, seed);
     refusals(size / 20, &mut random, seed);
     deep_tables(seed);
-    println!("8 passed, 0 failed");
+    println!("9 passed, 0 failed");
 }

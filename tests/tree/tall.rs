@@ -22,7 +22,7 @@ fn floors(root: usize, run: usize, random: &mut Random) -> Vec<Floor> {
 }
 
 fn some_insertion(key: u64, random: &mut Random) -> Call {
-    Call::Insert(key, 1 + random.below(MOST_RECORDING), random.below(3))
+    Call::Insert(1, key, 1 + random.below(MOST_RECORDING), random.below(3))
 }
 
 // ---- leftovers
@@ -63,7 +63,7 @@ fn left_over(tower: &Tower, random: &mut Random) -> Vec<u64> {
 // ---- what was met
 
 struct Met {
-    numbers: [u64; 15],
+    numbers: [u64; 18],
     /// Accepted insertions by the length of the run split; the second with a new root.
     runs: [[u64; 16]; 2],
     cut_runs: [[u64; 16]; 2],
@@ -81,7 +81,7 @@ impl Met {
         let (after, os) = same_write(t, &self.list, call, self.seed);
         self.numbers[after.number as usize] += 1;
         self.longest = self.longest.max(os.len());
-        if let (0, Call::Insert(..)) = (after.number, call) {
+        if let (0, Call::Insert(1, ..)) = (after.number, call) {
             let (run, grown) = split(t, &after.table);
             self.runs[grown][run] += 1;
         }
@@ -96,11 +96,11 @@ impl Met {
 
     /// Every cut of an accepted insertion, and some of the other images of each; each searched, judged, repaired and now and then gone on with.
     fn cuts(&mut self, t: &[u64], call: Call, after: &calls::Wrote, os: &[Order], random: &mut Random) {
-        let Call::Insert(k, r, x) = call else { panic!("cuts of insertions") };
-        let old = judge(t).expect("a sound table").map;
+        let Call::Insert(1, k, r, x) = call else { panic!("cuts of insertions") };
+        let old = judge(t).expect("a sound table").maps;
         let new = changed(&old, call);
-        let mut asked: BTreeSet<u64> = new.range(..k).rev().take(30).chain(new.range(k..).take(30)).map(|(&k, _)| k).collect();
-        asked.extend(new.keys().skip(random.below(20) as usize).step_by(20).flat_map(|k| [k.wrapping_sub(1), *k, k + 1]));
+        let mut asked: BTreeSet<u64> = new[0].range(..k).rev().take(30).chain(new[0].range(k..).take(30)).map(|(&k, _)| k).collect();
+        asked.extend(new[0].keys().skip(random.below(20) as usize).step_by(20).flat_map(|k| [k.wrapping_sub(1), *k, k + 1]));
         let seed = self.seed;
         for c in 0..=os.len() {
             let carried = calls::carry_out(t, &after.list, c as u64);
@@ -113,17 +113,17 @@ impl Met {
             }
             for image in seen {
                 self.images += 1;
-                let taken = calls::search(&image, k) == calls::found(r, x);
-                let map = if taken { &new } else { &old };
+                let taken = calls::search(&image, 1, k) == calls::found(r, x);
+                let maps = if taken { &new } else { &old };
                 let what = || format!("{call:?} cut after {c} of {} orders", os.len());
-                expect(answers(&image, map, &asked), seed, &image, || what() + ": searches agree with neither map");
+                expect(answers(&image, maps, &asked), seed, &image, || what() + ": searches agree with neither map");
                 expect((c > 0 || !taken) && (c < os.len() || taken), seed, &image, || what() + ": taken or omitted wrongly");
-                let tree = judge(&image).filter(|x| x.map == *map);
+                let tree = judge(&image).filter(|x| x.maps == *maps);
                 expect(tree.is_some(), seed, &image, || what() + ": not sound with that map");
                 let tree = tree.unwrap();
                 self.kinds[kind(tree.leftover)] += 1;
                 let (mended, _) = same_as(write_judged(&image, &tree, LIST_WORDS, Call::Repair), &image, &self.list, Call::Repair, seed);
-                let settled = mended.number == 0 && (random.below(8) > 0 || judge(&mended.table).map_or(false, |x| x.leftover == Leftover::Nothing && x.map == *map));
+                let settled = mended.number == 0 && (random.below(8) > 0 || judge(&mended.table).map_or(false, |x| x.leftover == Leftover::Nothing && x.maps == *maps));
                 expect(settled, seed, &image, || what() + ", then repaired: not settled with that map");
                 if random.below(100) == 0 {
                     self.gives(&image, call, if taken { 7 } else { 0 });
@@ -145,7 +145,7 @@ fn split(before: &[u64], after: &[u64]) -> (usize, usize) {
 fn main() {
     let (seed, size) = arguments(8);
     let mut random = Random(seed);
-    let mut met = Met { numbers: [0; 15], runs: [[0; 16]; 2], cut_runs: [[0; 16]; 2], kinds: [0; 5], longest: 0, images: 0, list: (0..LIST_WORDS as u64).collect(), seed };
+    let mut met = Met { numbers: [0; 18], runs: [[0; 16]; 2], cut_runs: [[0; 16]; 2], kinds: [0; 5], longest: 0, images: 0, list: (0..LIST_WORDS as u64).collect(), seed };
     let mut passed = 0;
 
     // Runs of 1 to 15 nodes below a node with room, and runs up to a root at level 0 to 14, which grows: with just the nodes that they need
@@ -165,26 +165,26 @@ fn main() {
                     if free < need {
                         met.gives(&t, insertion, 10);
                         // What is tested before 10.
-                        let (&k, &x) = tree.map.iter().nth(random.below(tree.map.len() as u64) as usize).unwrap();
-                        met.gives(&t, Call::Insert(tower.key, recording(x), random.below(3)), 8);
-                        met.gives(&t, Call::Insert(k, recording(x), random.below(3)), 7);
-                        met.gives(&t, Call::Insert(k, recording(x), 3), 14);
-                        met.gives(&t, Call::Insert(k, [0, MOST_RECORDING + 1, MARK][random.below(3) as usize], 3), 6);
-                        met.gives(&t, Call::SetClass(tower.key, random.below(3)), 9);
-                        met.gives(&t, Call::SetClass(tower.key, 3), 14);
-                        met.gives(&t, Call::SetClass(k, random.below(3)), 0);
-                        met.gives(&t, Call::Delete(tower.key), 9);
-                        met.gives(&t, Call::Delete(k), 0);
-                        let listed = calls::list(&t, 0, MARK, &vec![7; 2 * tree.map.len() + 2]);
-                        let pairs: Vec<u64> = tree.map.iter().flat_map(|(&k, &x)| [k, x]).chain([7, 7]).collect();
-                        expect(listed == (0, [Some(tree.map.len() as u64), Some(0)], pairs), seed, &t, || "a listing of all".into());
+                        let map = &tree.maps[0];
+                        let (&k, &x) = map.iter().nth(random.below(map.len() as u64) as usize).unwrap();
+                        met.gives(&t, Call::Insert(1, tower.key, recording(x), random.below(3)), 8);
+                        met.gives(&t, Call::Insert(1, k, recording(x), random.below(3)), 7);
+                        met.gives(&t, Call::Insert(1, k, recording(x), 3), 14);
+                        met.gives(&t, Call::Insert(1, k, [0, MOST_RECORDING + 1, MARK][random.below(3) as usize], 3), 6);
+                        met.gives(&t, Call::SetClass(1, tower.key, random.below(3)), 9);
+                        met.gives(&t, Call::SetClass(1, tower.key, 3), 14);
+                        met.gives(&t, Call::SetClass(1, k, random.below(3)), 0);
+                        met.gives(&t, Call::Delete(1, tower.key), 9);
+                        met.gives(&t, Call::Delete(1, k), 0);
+                        let listed = calls::list(&t, 1, 0, MARK, &vec![7; 2 * map.len() + 2]);
+                        let pairs: Vec<u64> = map.iter().flat_map(|(&k, &x)| [k, x]).chain([7, 7]).collect();
+                        expect(listed == (0, [Some(map.len() as u64), Some(0)], pairs), seed, &t, || "a listing of all".into());
                         continue;
                     }
                     let (after, os) = met.tried(&t, insertion);
                     expect(after.number == 0 && split(&t, &after.table) == (run, new_root as usize), seed, &t, || format!("{insertion:?}: a run of {run} was meant, new root {new_root}"));
-                    let new = changed(&tree.map, insertion);
-                    let asked = new.keys().flat_map(|k| [k.wrapping_sub(1), *k, k.wrapping_add(1)]).collect();
-                    expect(answers(&after.table, &new, &asked), seed, &after.table, || format!("searches after {insertion:?}"));
+                    let new = changed(&tree.maps, insertion);
+                    expect(answers(&after.table, &new, &around([&new])), seed, &after.table, || format!("searches after {insertion:?}"));
                     if round == 0 {
                         met.cuts(&t, insertion, &after, &os, &mut random);
                     }
@@ -199,8 +199,8 @@ fn main() {
         let tower = tower(&floors(15, 16, &mut random), [0, 1, 16, 17, 40][(i % 5) as usize], &mut random);
         let t = left_over(&tower, &mut random);
         met.gives(&t, some_insertion(tower.key, &mut random), 11);
-        let used = *judge(&t).expect("a tower is sound").map.values().next().unwrap();
-        met.gives(&t, Call::Insert(tower.key, recording(used), random.below(3)), 8);
+        let used = *judge(&t).expect("a tower is sound").maps[0].values().next().unwrap();
+        met.gives(&t, Call::Insert(1, tower.key, recording(used), random.below(3)), 8);
     }
     passed += 1;
 
@@ -233,7 +233,7 @@ fn main() {
             let w = start(n) + random.below(32) as usize;
             d[w] = [0, MARK, d[w].wrapping_add(1), d[w].wrapping_sub(1), d[random.below(d.len() as u64) as usize]][random.below(5) as usize];
             refused += (met.tried(&d, some_insertion(tower.key, &mut random)).0.number == 4) as u64;
-            same_search(&d, tower.key, seed);
+            same_search(&d, 1, tower.key, seed);
         }
     }
     println!("damaged tables {}, not sound {refused}", 60 * size);

@@ -1,4 +1,4 @@
-//! Sentences of document 01 on tables and numbers worked by hand. No answer here is the reference's.
+//! Sentences of document 01 and of the requests on tables and numbers worked by hand. No answer here is the reference's.
 mod calls;
 mod reference;
 mod tower;
@@ -43,17 +43,17 @@ fn with(t: &[u64], word: usize, value: u64) -> Vec<u64> {
 }
 
 fn finds(t: &[u64], key: u64, recording: u64) {
-    gives(&format!("search for {key}"), t, calls::search(t, key), calls::found(recording, 0));
+    gives(&format!("search for {key}"), t, calls::search(t, 1, key), calls::found(recording, 0));
 }
 
 /// The key is absent, and this one is the next up.
 fn lacks(t: &[u64], key: u64, next: Option<u64>) {
-    gives(&format!("search for {key}"), t, calls::search(t, key), calls::absent(next));
+    gives(&format!("search for {key}"), t, calls::search(t, 1, key), calls::absent(next));
 }
 
 /// A search's refusal; every lent word stays.
 fn search_gives(t: &[u64], key: u64, number: u64) {
-    gives(&format!("search for {key}"), t, calls::search(t, key), calls::refused(number));
+    gives(&format!("search for {key}"), t, calls::search(t, 1, key), calls::refused(number));
 }
 
 const FULL: [(u64, u64); 11] = [(10, 1), (20, 2), (30, 3), (40, 4), (50, 5), (60, 6), (70, 7), (80, 8), (90, 9), (100, 10), (110, 11)];
@@ -72,11 +72,11 @@ fn root_levels() {
     lacks(&t, 6, None);
     lacks(&t, 0, Some(5));
     gives("repair", &t, calls::repair(&t, &list).number, 0);
-    gives("listing", &t, calls::list(&t, 0, MARK, &[7; 4]), (0, [Some(1), Some(0)], vec![5, 50, 7, 7]));
+    gives("listing", &t, calls::list(&t, 1, 0, MARK, &[7; 4]), (0, [Some(1), Some(0)], vec![5, 50, 7, 7]));
     let t = chain(16);
     search_gives(&t, 5, 3);
     gives("repair", &t, calls::repair(&t, &list).number, 4);
-    gives("listing", &t, calls::list(&t, 0, MARK, &[7; 4]), (4, [None; 2], vec![7; 4]));
+    gives("listing", &t, calls::list(&t, 1, 0, MARK, &[7; 4]), (4, [None; 2], vec![7; 4]));
     search_gives(&with(&chain(15), 10, MARK), 5, 3);
 }
 
@@ -114,7 +114,7 @@ fn search_refusals() {
         search_gives(&with(&t, 42, level), 50, 3);
     }
     // 2 before 3.
-    search_gives(&with(&with(&t, 42, 1), 3, 1), 10, 2);
+    search_gives(&with(&with(&t, 42, 1), 4, 1), 10, 2);
 }
 
 fn absent_search() {
@@ -222,7 +222,7 @@ fn rings_of_leaves() {
 }
 
 fn listing_refusals() {
-    let listed = |t: &[u64]| calls::list(t, 0, MARK, &[7; 5]);
+    let listed = |t: &[u64]| calls::list(t, 1, 0, MARK, &[7; 5]);
     let t = table(1, &[([MARK, 0, 0, 0], &[(20, 5), (30, 6)])]);
     gives("listing", &t, listed(&t), (0, [Some(2), Some(0)], vec![20, 5, 30, 6, 7]));
     // A leaf's left is not MARK: 4. With a wrong header, root or length as well: 2.
@@ -280,7 +280,7 @@ fn fresh_nodes() {
         let mut nodes = vec![FREE; n];
         nodes[old as usize - 1] = leaf;
         let t = table(old, &nodes);
-        let after = calls::insert(&t, &list, 115, 12, 0);
+        let after = calls::insert(&t, 1, &list, 115, 12, 0);
         gives("insertion of 115", &t, (after.number, after.counts), (0, [Some(75), Some(13)]));
         nodes[old as usize - 1] = ([MARK, sibling, 0, 0], &FULL);
         nodes[root as usize - 1] = ([old, 0, 1, 0], &[]);
@@ -298,7 +298,7 @@ fn fresh_nodes() {
         nodes[a as usize - 1] = leaf;
         nodes[root as usize - 1] = ([a, 0, 1, 0], &[]);
         let t = table(root, &nodes);
-        let after = calls::insert(&t, &list, 5, 12, 0);
+        let after = calls::insert(&t, 1, &list, 5, 12, 0);
         let sibling = after.table[8 + 32 * (a as usize - 1) + 1];
         gives("insertion of 5", &t, (after.number, after.table[1], sibling), (0, root, b));
     }
@@ -306,7 +306,7 @@ fn fresh_nodes() {
 
 /// A deletion's counts and orders, and what the table then is.
 fn deletion_gives(t: &[u64], key: u64, orders: &[[u64; 2]], changed: &[(usize, u64)]) -> Vec<u64> {
-    let after = calls::delete(t, &[7; 2560], key);
+    let after = calls::delete(t, 1, &[7; 2560], key);
     let flushes = orders.iter().filter(|o| o[0] == MARK).count() as u64;
     let mut list = orders.concat();
     list.resize(2560, 7);
@@ -331,11 +331,11 @@ fn freed_leaves() {
     // The freed node serves the next split, where there was no other: eleven codes in leaf 1, then a twelfth.
     let mut grown = freed.clone();
     for key in 11..=20 {
-        let after = calls::insert(&grown, &[0; 2560], key, key, 0);
+        let after = calls::insert(&grown, 1, &[0; 2560], key, key, 0);
         gives(&format!("insertion of {key}"), &grown, after.number, 0);
         grown = after.table;
     }
-    let after = calls::insert(&grown, &[0; 2560], 21, 21, 0);
+    let after = calls::insert(&grown, 1, &[0; 2560], 21, 21, 0);
     gives("insertion of 21", &grown, (after.number, after.table[9], after.table[48..50].to_vec(), after.table[75]), (0, 3, vec![15, 3], 15));
     // A leaf between two: its neighbour takes its sibling. A leaf that was empty before is no matter of this deletion, and may be the neighbour.
     let t = table(1, &[([2, 0, 1, 0], &[(20, 3), (40, 4), (60, 5)]), ([MARK, 3, 0, 0], &[(10, 1)]), ([MARK, 4, 0, 20], &[]), ([MARK, 5, 0, 40], &[(45, 4)]), ([MARK, 0, 0, 60], &[(60, 6)])]);
@@ -357,7 +357,7 @@ fn freed_leaves() {
     nodes.extend((0..12).map(|i| ([MARK, if i < 11 { i as u64 + 3 } else { 0 }, 0, keys[i]], &pairs[i][..])));
     let t = table(1, &nodes);
     for p in 0..11 {
-        let after = calls::delete(&t, &[0; 2560], keys[p + 1] + 1);
+        let after = calls::delete(&t, 1, &[0; 2560], keys[p + 1] + 1);
         gives(&format!("deletion at slot {p} of 11"), &t, (after.number, after.counts[0]), (0, Some(2 + 2 * (11 - p as u64) + 1)));
         lacks(&after.table, keys[p + 1] + 1, pairs.get(p + 2).map(|x| x[0].0));
     }
@@ -372,10 +372,10 @@ fn recordings_and_classes() {
     let list = [0; 2560];
     let t = table(1, &[([MARK, 0, 0, 0], &[(20, 5), (30, ROOM + 6), (40, CLOSED + ROOM - 1)])]);
     for (key, recording, access) in [(20, 5, 0), (30, 6, 1), (40, ROOM - 1, 2)] {
-        gives(&format!("search for {key}"), &t, calls::search(&t, key), calls::found(recording, access));
+        gives(&format!("search for {key}"), &t, calls::search(&t, 1, key), calls::found(recording, access));
     }
-    gives("listing", &t, calls::list(&t, 0, MARK, &[7; 6]), (0, [Some(3), Some(0)], vec![20, 5, 30, ROOM + 6, 40, CLOSED + ROOM - 1]));
-    let number = |key, recording, access| calls::insert(&t, &list, key, recording, access).number;
+    gives("listing", &t, calls::list(&t, 1, 0, MARK, &[7; 6]), (0, [Some(3), Some(0)], vec![20, 5, 30, ROOM + 6, 40, CLOSED + ROOM - 1]));
+    let number = |key, recording, access| calls::insert(&t, 1, &list, key, recording, access).number;
     for (recording, want) in [(0, 6), (1, 0), (7, 0), (ROOM - 2, 0), (ROOM - 1, 8), (ROOM, 6), (ROOM + 1, 6), (CLOSED + 7, 6), (MARK, 6), (5, 8), (6, 8)] {
         for access in 0..=2 {
             gives(&format!("insertion of recording {recording}, class {access}"), &t, number(25, recording, access), want);
@@ -389,12 +389,12 @@ fn recordings_and_classes() {
         }
     }
     // The order list has the whole pointer.
-    let after = calls::insert(&make(1), &list, 9, ROOM - 1, 2);
+    let after = calls::insert(&make(1), 1, &list, 9, ROOM - 1, 2);
     gives("insertion", &make(1), after.list[..10].to_vec(), vec![19, 0, 17, MARK, 16, 9, 17, CLOSED + ROOM - 1, MARK, 2]);
     // 4 and 5 come first.
     let bad = with(&t, 8, 1);
-    gives("insertion into a table that is not sound", &bad, calls::insert(&bad, &list[..9], 25, 0, 9).number, 4);
-    gives("insertion with a short list", &t, calls::insert(&t, &list[..2559], 25, 0, 9).number, 5);
+    gives("insertion into a table that is not sound", &bad, calls::insert(&bad, 1, &list[..9], 25, 0, 9).number, 4);
+    gives("insertion with a short list", &t, calls::insert(&t, 1, &list[..2559], 25, 0, 9).number, 5);
 }
 
 fn make(nodes: u64) -> Vec<u64> {
@@ -411,10 +411,10 @@ fn pointers_handed_in() {
             let t = table(1, &[([MARK, 0, 0, 0], &[(10, 3), (20, pointer), (30, 4)])]);
             let sound = recording > 0 && access <= 2;
             if pointer != 0 {
-                gives(&format!("search for {pointer}"), &t, calls::search(&t, 20), calls::found(recording, access));
+                gives(&format!("search for {pointer}"), &t, calls::search(&t, 1, 20), calls::found(recording, access));
             }
             gives(&format!("repair with pointer {pointer}"), &t, repaired(&t), if sound || pointer == 0 { 0 } else { 4 });
-            gives(&format!("listing with pointer {pointer}"), &t, calls::list(&t, 0, 5, &[]).0, if sound || pointer == 0 { 0 } else { 4 });
+            gives(&format!("listing with pointer {pointer}"), &t, calls::list(&t, 1, 0, 5, &[]).0, if sound || pointer == 0 { 0 } else { 4 });
         }
     }
     // In a slot that is ignored, or past the slots in use, any pointer may stand.
@@ -423,10 +423,10 @@ fn pointers_handed_in() {
     // Slot 0 hidden by the leaf's left, MARK: no recording, though its low bits are one.
     let t = table(1, &[([MARK, 0, 0, 0], &[(5, MARK), (10, 3)])]);
     lacks(&t, 5, Some(10));
-    gives("insertion", &t, calls::insert(&t, &[0; 2560], 20, ROOM - 1, 0).number, 0);
+    gives("insertion", &t, calls::insert(&t, 1, &[0; 2560], 20, ROOM - 1, 0).number, 0);
     let t = table(1, &[([MARK, 0, 0, 0], &[(5, MARK), (10, ROOM - 1)])]);
     gives("repair", &t, repaired(&t), 0);
-    gives("insertion", &t, calls::insert(&t, &[0; 2560], 20, ROOM - 1, 0).number, 8);
+    gives("insertion", &t, calls::insert(&t, 1, &[0; 2560], 20, ROOM - 1, 0).number, 8);
 }
 
 /// Whole words that are equal mean hidden; recordings that are equal in two classes mean not sound.
@@ -438,7 +438,7 @@ fn recordings_in_two_classes() {
             // Side by side; with a slot between; in the next leaf.
             let beside = table(1, &[([MARK, 0, 0, 0], &[(10, x), (20, y), (30, 6)])]);
             gives("repair", &beside, repaired(&beside), if a == b { 0 } else { 4 });
-            gives("search for 20", &beside, calls::search(&beside, 20), if a == b { calls::absent(Some(30)) } else { calls::found(5, b) });
+            gives("search for 20", &beside, calls::search(&beside, 1, 20), if a == b { calls::absent(Some(30)) } else { calls::found(5, b) });
             let apart = table(1, &[([MARK, 0, 0, 0], &[(10, x), (20, 6), (30, y)])]);
             gives("repair", &apart, repaired(&apart), 4);
             let leaves = table(3, &[([MARK, 2, 0, 0], &[(10, x)]), ([MARK, 0, 0, 20], &[(20, y)]), ([1, 0, 1, 0], &[(20, 2)])]);
@@ -453,18 +453,18 @@ fn class_changes() {
     let t = table(1, &[([MARK, 0, 0, 0], &[(20, 5), (30, ROOM + 6), (40, CLOSED + 8)])]);
     for (key, place, recording) in [(20, 17, 5), (30, 19, 6), (40, 21, 8)] {
         for access in 0..=2 {
-            let after = calls::set_class(&t, &list, key, access);
+            let after = calls::set_class(&t, 1, &list, key, access);
             let pointer = access * ROOM + recording;
             let mut want = list.to_vec();
             want[..4].copy_from_slice(&[place as u64, pointer, MARK, 2]);
             // Also where the code has that class already.
             gives(&format!("class {access} of {key}"), &t, (after.number, after.counts, after.list), (0, [Some(1), Some(1)], want));
             gives(&format!("class {access} of {key}"), &t, &after.table, &with(&t, place, pointer));
-            gives(&format!("search for {key}"), &after.table, calls::search(&after.table, key), calls::found(recording, access));
+            gives(&format!("search for {key}"), &after.table, calls::search(&after.table, 1, key), calls::found(recording, access));
         }
     }
     let refusal = |t: &[u64], words: usize, key: u64, access: u64| {
-        let after = calls::set_class(t, &list[..words], key, access);
+        let after = calls::set_class(t, 1, &list[..words], key, access);
         gives(&format!("a refused class {access} of {key}"), t, (after.counts, after.table == t, after.list == list[..words]), ([None; 2], true, true));
         after.number
     };
@@ -478,11 +478,11 @@ fn class_changes() {
     // A hidden slot's key is absent. Its repair comes first: here on the same line, and one flush is enough; there on another.
     let t = table(1, &[([MARK, 0, 0, 0], &[(20, 5), (25, 5), (30, 6)])]);
     gives("class of a hidden slot's key", &t, refusal(&t, 2560, 25, 1), 9);
-    let after = calls::set_class(&t, &list, 30, 2);
+    let after = calls::set_class(&t, 1, &list, 30, 2);
     let orders = [18, 30, 19, 6, 21, 0, 19, CLOSED + 6, MARK, 2, 7, 7];
     gives("class of 30", &t, (after.counts, after.list[..12].to_vec()), ([Some(4), Some(1)], orders.to_vec()));
     let t = table(2, &[([MARK, 3, 0, 0], &[(10, 3)]), ([1, 0, 1, 0], &[]), ([MARK, 0, 0, 50], &[(60, 6)])]);
-    let after = calls::set_class(&t, &list, 60, 1);
+    let after = calls::set_class(&t, 1, &list, 60, 1);
     let orders = [51, 0, 49, 1, 48, 50, 49, 3, MARK, 6, 81, ROOM + 6, MARK, 10, 7, 7];
     gives("class of 60", &t, (after.counts, after.list[..16].to_vec()), ([Some(5), Some(2)], orders.to_vec()));
 }
@@ -492,7 +492,7 @@ fn too_high() {
     let random = &mut Random(20_261_118);
     for (root, free, number) in [(15, 0, 11), (15, 1, 11), (15, 17, 11), (15, 100, 11), (14, 0, 10), (14, 15, 10), (14, 16, 0), (14, 17, 0)] {
         let x = tower(&vec![Floor { slots: 11, place: 3 }; root + 1], free, random);
-        let after = calls::insert(&x.t, &[0; 2560], x.key, 1, 0);
+        let after = calls::insert(&x.t, 1, &[0; 2560], x.key, 1, 0);
         gives(&format!("insertion of {} into full nodes up to level {root}, {free} free", x.key), &x.t, after.number, number);
         if number == 0 {
             let level = after.table[8 + 32 * (after.table[1] as usize - 1) + 2];
@@ -504,25 +504,229 @@ fn too_high() {
     }
 }
 
+// ---- two collections
+
+const LEAF: Words = ([MARK, 0, 0, 0], &[]);
+
+/// A table of two collections with these roots.
+fn two(roots: [u64; 2], nodes: &[Words]) -> Vec<u64> {
+    with(&table(roots[0], nodes), 3, roots[1])
+}
+
+/// Making says whether one or two collections exist; with two, nodes 1 and 2 are empty leaves. N = 1 has no room for two.
+fn made_with_two() {
+    for (nodes, collections, want) in [(1, 1, table(1, &[LEAF])), (2, 1, table(1, &[LEAF, FREE])), (2, 2, two([1, 2], &[LEAF, LEAF])), (4, 2, two([1, 2], &[LEAF, LEAF, FREE, FREE]))] {
+        gives(&format!("making {collections} collections with N = {nodes}"), &[], calls::make(&vec![7; 8 + 32 * nodes], collections), (0, want));
+    }
+    for (words, collections, number) in [(40, 2, 2), (40, 0, 17), (40, 3, 17), (72, 0, 17), (72, 3, 17), (72, MARK, 17), (71, 2, 2), (71, 3, 2), (39, 0, 2), (0, 3, 2)] {
+        gives(&format!("making {collections} collections in {words} words"), &[], calls::make(&vec![7; words], collections), (number, vec![7; words]));
+    }
+}
+
+/// The numbers of every call that names a collection: search, listing, insertion, deletion, class change; no lent word changes. Then repair's.
+fn numbers_in(t: &[u64], collection: u64, words: usize) -> [u64; 6] {
+    let (list, out) = (&[7; 2560][..words], [7; 6]);
+    let listed = calls::list(t, collection, 0, MARK, &out);
+    gives("a refused listing", t, (listed.1, listed.2), ([None; 2], out.to_vec()));
+    let written = [calls::insert(t, collection, list, 1, 0, 9), calls::delete(t, collection, list, 1), calls::set_class(t, collection, list, 1, 9), calls::repair(t, list)];
+    let numbers = written.map(|w| {
+        gives("a refused write", t, w.number == 0 || (w.counts == [None; 2] && w.table == t && w.list == list), true);
+        w.number
+    });
+    let looked = calls::search(t, collection, 1);
+    gives("a refused search", t, looked, calls::refused(looked.number));
+    [looked.number, listed.0, numbers[0], numbers[1], numbers[2], numbers[3]]
+}
+
+/// 17 straight after 2: the collection is not 1 or 2, or 2 where word 3 is 0. A repair names none.
+fn no_such_collection() {
+    let one = table(1, &[([MARK, 0, 0, 0], &[(20, 5)]), FREE]);
+    let both = two([1, 2], &[([MARK, 0, 0, 0], &[(20, 5)]), LEAF]);
+    for (t, collections) in [(&one, &[0, 2, 3, 255, 1 << 32, MARK][..]), (&both, &[0, 3, 255, 1 << 32, MARK])] {
+        // The leaf's left is not MARK: not sound. A root on level 16: search's 3.
+        let (bad, high) = (with(t, 8, 1), with(t, 10, 16));
+        for &c in collections {
+            gives(&format!("collection {c}"), t, numbers_in(t, c, 2560), [17, 17, 17, 17, 17, 0]);
+            gives(&format!("collection {c}, short list"), t, numbers_in(t, c, 2559), [17, 17, 17, 17, 17, 5]);
+            gives(&format!("collection {c}, not sound"), &bad, numbers_in(&bad, c, 2559), [17, 17, 17, 17, 17, 4]);
+            gives(&format!("collection {c}, level 16"), &high, numbers_in(&high, c, 2559), [17, 17, 17, 17, 17, 4]);
+            for (word, value) in [(0, 2), (1, 0), (1, 3), (2, 1), (3, 3), (3, MARK), (4, 1), (7, 1)] {
+                let none = with(&bad, word, value);
+                gives(&format!("collection {c}, no table"), &none, numbers_in(&none, c, 2559), [2; 6]);
+            }
+        }
+    }
+}
+
+/// Word 3 above N, or beside a single node, is no table; at a node of the first tree it is not sound, and a search does not notice.
+fn second_roots() {
+    let alone = table(1, &[([MARK, 0, 0, 0], &[(20, 5)])]);
+    for root in [1, 2, MARK] {
+        for c in [1, 2, 3] {
+            gives(&format!("a second root {root} with N = 1"), &alone, numbers_in(&with(&alone, 3, root), c, 2560), [2; 6]);
+        }
+    }
+    // Node 1 over leaves 2 and 3; node 4 over leaf 5; node 6 is a leaf.
+    let nodes: [Words; 6] = [([2, 0, 1, 0], &[(40, 3)]), ([MARK, 3, 0, 0], &[(10, 1)]), ([MARK, 0, 0, 40], &[(50, 2)]), ([5, 0, 1, 0], &[]), ([MARK, 0, 0, 0], &[(10, 1), (60, 3)]), LEAF];
+    let found = |t: &[u64], c: u64, key: u64| calls::search(t, c, key);
+    let none = calls::refused(17);
+    // (word 3): what it gives to a repair, and a search for 10 and for 60 in collection 2.
+    for (root, number, ten, sixty) in [
+        (0, 0, none, none),
+        // The first root, a leaf and the last leaf of its tree.
+        (1, 4, calls::found(1, 0), calls::absent(None)),
+        (2, 4, calls::found(1, 0), calls::absent(None)),
+        (3, 4, calls::absent(Some(50)), calls::absent(None)),
+        // An inner node, the leaf below it, and an empty leaf of their own.
+        (4, 0, calls::found(1, 0), calls::found(3, 0)),
+        (5, 0, calls::found(1, 0), calls::found(3, 0)),
+        (6, 0, calls::absent(None), calls::absent(None)),
+    ] {
+        let t = with(&table(1, &nodes), 3, root);
+        gives(&format!("repair with a second root {root}"), &t, calls::repair(&t, &[0; 2560]).number, number);
+        gives(&format!("listing of 1 with a second root {root}"), &t, calls::list(&t, 1, 0, MARK, &[7; 4]).0, number);
+        gives(&format!("search of 2 with a second root {root}"), &t, [found(&t, 2, 10), found(&t, 2, 60)], [ten, sixty]);
+        gives(&format!("search of 1 with a second root {root}"), &t, [found(&t, 1, 10), found(&t, 1, 60)], [calls::found(1, 0), calls::absent(None)]);
+    }
+    // A second root that is alone sound, the only leaf of the first tree; and two trees that are each sound and share their last leaf.
+    let t = two([1, 2], &[([2, 0, 1, 0], &[]), ([MARK, 0, 0, 0], &[(10, 1)])]);
+    gives("repair, a leaf of both", &t, calls::repair(&t, &[0; 2560]).number, 4);
+    let shared = |last: u64| {
+        let parents: [Words; 2] = [([3, 0, 1, 0], &[(40, 4)]), ([5, 0, 1, 0], if last == 4 { &[(40, 4)] } else { &[(40, 6)] })];
+        two([1, 2], &[parents[0], parents[1], ([MARK, 4, 0, 0], &[(10, 1)]), ([MARK, 0, 0, 40], &[(50, 2)]), ([MARK, last, 0, 0], &[(20, 3)]), ([MARK, 0, 0, 40], &[(60, 4)])])
+    };
+    for (last, number) in [(4, 4), (6, 0)] {
+        gives(&format!("repair, last leaves 4 and {last}"), &shared(last), calls::repair(&shared(last), &[0; 2560]).number, number);
+    }
+}
+
+/// Each collection has its own codes and may hold the other's recordings; a search and a listing are of one, a write is asked by its own map.
+fn two_maps() {
+    let list = [0; 2560];
+    // Node 1 begins at word 8, node 2 at 40.
+    let t = two([1, 2], &[([MARK, 0, 0, 0], &[(20, 5), (30, ROOM + 6)]), ([MARK, 0, 0, 0], &[(25, 6), (30, CLOSED + 5)])]);
+    for (collection, key, want) in [
+        (1, 20, calls::found(5, 0)),
+        (1, 25, calls::absent(Some(30))),
+        (1, 30, calls::found(6, 1)),
+        (1, 31, calls::absent(None)),
+        (2, 20, calls::absent(Some(25))),
+        (2, 25, calls::found(6, 0)),
+        (2, 30, calls::found(5, 2)),
+    ] {
+        gives(&format!("search for {key} in {collection}"), &t, calls::search(&t, collection, key), want);
+    }
+    gives("listing of 1", &t, calls::list(&t, 1, 0, MARK, &[7; 5]), (0, [Some(2), Some(0)], vec![20, 5, 30, ROOM + 6, 7]));
+    gives("listing of 2", &t, calls::list(&t, 2, 26, MARK, &[7; 3]), (0, [Some(1), Some(0)], vec![30, CLOSED + 5, 7]));
+    for (collection, key, recording, number) in [(1, 25, 7, 0), (2, 20, 7, 0), (1, 20, 7, 7), (2, 20, 5, 8), (1, 25, 5, 8), (2, 30, 7, 7), (1, 25, 6, 8), (2, 26, 6, 8)] {
+        gives(&format!("insertion of {key} with {recording} in {collection}"), &t, calls::insert(&t, collection, &list, key, recording, 0).number, number);
+    }
+    gives("deletions", &t, [(1, 20), (1, 25), (2, 20), (2, 25)].map(|(c, key)| calls::delete(&t, c, &list, key).number), [0, 9, 9, 0]);
+    // The same code's class in one and in the other: one store each.
+    for (collection, place, recording) in [(1, 19, 6), (2, 51, 5)] {
+        let after = calls::set_class(&t, collection, &list, 30, 0);
+        gives(&format!("class of 30 in {collection}"), &t, (after.number, after.list[..4].to_vec(), after.table), (0, vec![place, recording, MARK, place / 8], with(&t, place as usize, recording)));
+    }
+    // An insertion in node 2: pointer 1 first, then the slot.
+    let empty = two([1, 2], &[([MARK, 0, 0, 0], &[(20, 5)]), LEAF]);
+    let after = calls::insert(&empty, 2, &list, 20, 5, 1);
+    gives("insertion in 2", &empty, (after.counts, after.list[..10].to_vec()), ([Some(4), Some(1)], vec![51, 0, 49, MARK, 48, 20, 49, ROOM + 5, MARK, 6]));
+    // A tree that is broken: the other one is searched all the same; listings and writes are refused.
+    for (collection, word) in [(2, 10), (1, 42)] {
+        let bad = with(&t, word, 99);
+        gives(&format!("search of {collection}"), &bad, calls::search(&bad, collection, 30).number, 0);
+        gives(&format!("search of {}", 3 - collection), &bad, calls::search(&bad, 3 - collection, 30), calls::refused(3));
+        gives("listings", &bad, [1, 2].map(|c| calls::list(&bad, c, 0, MARK, &[7; 4]).0), [4; 2]);
+        gives("deletions", &bad, [1, 2].map(|c| calls::delete(&bad, c, &list, 30).number), [4; 2]);
+    }
+}
+
+/// New roots of collection 2 are stored in word 3; the two share the free nodes, and a fresh one is reached from neither.
+fn second_root_grows() {
+    let (list, full): (_, Words) = ([0; 2560], ([MARK, 0, 0, 0], &FULL));
+    // (N, the collection, its full root leaf, the other's leaf): the new root and the leaf's new sibling.
+    for (n, collection, own, other, root, sibling) in [(4, 2, 2, 1, 3, 4), (4, 1, 1, 2, 3, 4), (5, 2, 4, 5, 1, 2), (5, 1, 3, 4, 5, 1), (6, 2, 2, 3, 4, 5)] {
+        let mut nodes = vec![FREE; n];
+        nodes[own as usize - 1] = full;
+        nodes[other as usize - 1] = full;
+        let roots = |own| if collection == 1 { [own, other] } else { [other, own] };
+        let t = two(roots(own), &nodes);
+        let after = calls::insert(&t, collection, &list, 115, 12, 0);
+        gives("insertion of 115", &t, (after.number, after.counts), (0, [Some(75), Some(13)]));
+        nodes[own as usize - 1] = ([MARK, sibling, 0, 0], &FULL);
+        nodes[root as usize - 1] = ([own, 0, 1, 0], &[]);
+        nodes[sibling as usize - 1] = ([MARK, 0, 0, 60], &[(60, 6), (70, 7), (80, 8), (90, 9), (100, 10), (110, 11), (115, 12)]);
+        let slot = 8 + 32 * (root as usize - 1) + 8;
+        let want = with(&with(&with(&two(roots(root), &nodes), 8 + 32 * (own as usize - 1) + 19, 0), slot, 60), slot + 1, sibling);
+        gives("insertion of 115", &t, &after.table, &want);
+        // The root's store comes after its last line is flushed, and alone on its line.
+        let word = 2 * collection - 1;
+        gives("the root's store", &t, after.list.windows(6).any(|o| o == [MARK, (8 + 32 * (root - 1) + 31) / 8, word, root, MARK, 0]), true);
+    }
+    // N = 2 and N = 3: eleven codes each and no more; a code out of one makes no room in the other.
+    for t in [two([1, 2], &[full, full]), two([3, 1], &[full, FREE, full])] {
+        gives("insertion into full leaves", &t, [1, 2].map(|c| calls::insert(&t, c, &list, 115, 12, 0).number), [10; 2]);
+    }
+    let less = calls::delete(&two([1, 2], &[full, full]), 1, &list, 10).table;
+    gives("insertion after a deletion", &less, [1, 2].map(|c| calls::insert(&less, c, &list, 115, 12, 0).number), [0, 10]);
+}
+
+/// One leftover in the whole table, and a writer of either finishes it: its repair's stores come first.
+fn finished_by_the_other() {
+    let list = [7; 2560];
+    let hidden: Words = ([MARK, 0, 0, 0], &[(20, 5), (25, 5), (30, 6)]);
+    let orders = |after: &calls::Wrote, want: &[[u64; 2]]| after.list[..2 * want.len() + 2] == [want.concat(), vec![7, 7]].concat();
+    // Closing slot 1 of node 1 (words 18 to 21, line 2) or of node 2 (words 50 to 53, line 6), then the call in the other node.
+    let t = two([1, 2], &[hidden, LEAF]);
+    let after = calls::insert(&t, 2, &list, 9, 7, 0);
+    gives("insertion in 2", &t, (after.number, after.counts), (0, [Some(7), Some(2)]));
+    gives("insertion in 2", &t, orders(&after, &[[18, 30], [19, 6], [21, 0], [MARK, 2], [51, 0], [49, MARK], [48, 9], [49, 7], [MARK, 6]]), true);
+    let t = two([1, 2], &[([MARK, 0, 0, 0], &[(9, 7)]), hidden]);
+    let after = calls::delete(&t, 1, &list, 9);
+    gives("deletion in 1", &t, (after.number, after.counts), (0, [Some(5), Some(2)]));
+    gives("deletion in 1", &t, orders(&after, &[[50, 30], [51, 6], [53, 0], [MARK, 6], [17, MARK], [17, 0], [MARK, 2]]), true);
+    let after = calls::set_class(&t, 1, &list, 9, 2);
+    gives("class in 1", &t, orders(&after, &[[50, 30], [51, 6], [53, 0], [MARK, 6], [17, CLOSED + 7], [MARK, 2]]), true);
+    let after = calls::repair(&t, &list);
+    gives("repair", &t, (after.counts, orders(&after, &[[50, 30], [51, 6], [53, 0], [MARK, 6]])), ([Some(3), Some(1)], true));
+    // Refused, it finishes nothing.
+    for (call, after) in [("deletion", calls::delete(&t, 1, &list, 8)), ("class", calls::set_class(&t, 1, &list, 8, 1)), ("insertion", calls::insert(&t, 1, &list, 8, 7, 0))] {
+        gives(call, &t, (after.number != 0, after.table == t, after.list == list), (true, true, true));
+    }
+    // Two are not sound: a hidden slot in each, or a hidden slot in one and a missing one in the other. Each alone is.
+    let plain: Words = ([MARK, 0, 0, 0], &[(20, 5), (25, 7), (30, 6)]);
+    for (one, other, number) in [(plain, plain, 0), (hidden, plain, 0), (plain, hidden, 0), (hidden, hidden, 4)] {
+        let t = two([1, 2], &[one, other]);
+        gives("repair", &t, calls::repair(&t, &list).number, number);
+    }
+    for (slots, other, number) in [(&[(40, 4)][..], plain, 0), (&[], plain, 0), (&[(40, 4)], hidden, 0), (&[], hidden, 4)] {
+        for which in [0, 1] {
+            let roots = [[2, 1], [1, 2]][which];
+            let t = two(roots, &[other, ([3, 0, 1, 0], slots), ([MARK, 4, 0, 0], &[(10, 1)]), ([MARK, 0, 0, 40], &[(50, 2)])]);
+            gives("repair", &t, calls::repair(&t, &list).number, number);
+        }
+    }
+}
+
 /// N is at most 65,535: 2,097,128 words are a table, 32 more are none.
 fn largest_table() {
     let words = vec![7; 2_097_160];
-    let (number, t) = calls::make(&words[..2_097_128]);
+    let (number, t) = calls::make(&words[..2_097_128], 1);
     gives("making in 2,097,128 words", &[], (number, &t[..8]), (0, &[1, 1, 65_535, 0, 0, 0, 0, 0]));
     gives("making in 2,097,128 words", &[], (t[8], t[9..].iter().all(|&w| w == 0)), (MARK, true));
-    let after = calls::insert(&t, &[0; 2560], 5, 50, 0);
+    let after = calls::insert(&t, 1, &[0; 2560], 5, 50, 0);
     gives("insertion into 65,535 nodes", &[], (after.number, after.counts), (0, [Some(4), Some(1)]));
-    gives("search in 65,535 nodes", &[], calls::search(&after.table, 5), calls::found(50, 0));
-    gives("search in 65,535 nodes", &[], calls::search(&after.table, 4), calls::absent(Some(5)));
-    gives("listing of 65,535 nodes", &[], calls::list(&after.table, 0, MARK, &[7; 3]), (0, [Some(1), Some(0)], vec![5, 50, 7]));
+    gives("search in 65,535 nodes", &[], calls::search(&after.table, 1, 5), calls::found(50, 0));
+    gives("search in 65,535 nodes", &[], calls::search(&after.table, 1, 4), calls::absent(Some(5)));
+    gives("listing of 65,535 nodes", &[], calls::list(&after.table, 1, 0, MARK, &[7; 3]), (0, [Some(1), Some(0)], vec![5, 50, 7]));
 
-    let (number, same) = calls::make(&words);
+    let (number, same) = calls::make(&words, 1);
     gives("making in 2,097,160 words", &[], (number, same == words), (2, true));
     let mut larger = t;
     larger.extend([0; 32]);
     larger[2] = 65_536;
-    gives("search in 65,536 nodes", &[], calls::search(&larger, 5), calls::refused(2));
-    gives("listing of 65,536 nodes", &[], calls::list(&larger, 0, MARK, &[7; 2]), (2, [None; 2], vec![7; 2]));
+    gives("search in 65,536 nodes", &[], calls::search(&larger, 1, 5), calls::refused(2));
+    gives("listing of 65,536 nodes", &[], calls::list(&larger, 1, 0, MARK, &[7; 2]), (2, [None; 2], vec![7; 2]));
     gives("repair of 65,536 nodes", &[], calls::repair(&larger, &[0; 2560]).number, 2);
     gives("carry-out on 65,536 nodes", &[], calls::carry_out(&larger, &[], 0).0, 2);
 }
@@ -554,7 +758,7 @@ fn codes() {
 }
 
 fn main() {
-    let vectors: [(&str, fn()); 16] = [
+    let vectors: [(&str, fn()); 22] = [
         ("a root at level 15 is searched, one at 16 refused", root_levels),
         ("search's 3 in each of its causes", search_refusals),
         ("an absent key's neighbour", absent_search),
@@ -569,6 +773,12 @@ fn main() {
         ("a recording in two classes", recordings_in_two_classes),
         ("class changes", class_changes),
         ("11 before 10", too_high),
+        ("two collections made", made_with_two),
+        ("17 straight after 2", no_such_collection),
+        ("second roots", second_roots),
+        ("two maps", two_maps),
+        ("new roots in word 3", second_root_grows),
+        ("a leftover finished by a writer of the other collection", finished_by_the_other),
         ("N up to 65,535", largest_table),
         ("codes up to the last", codes),
     ];

@@ -15,7 +15,7 @@ use Rattle.model.specs.Salvage.{salvagedNumber, droppedOr}
 
 -- the version of the calls' shapes: raised by each change of a name, a parameter or what a word means
 abbrev pub version : ℕ
-version = 4
+version = 5
 
 -- a search of C's: 0 for found, 255 for absent
 abbrev pub searchNumber : Answer → ℕ

@@ -24,7 +24,7 @@ ghost use mathlib.Core.Bool.{cond};
 pub extern "C" fn catalogue_version() -> u64
     ensures { λ r. ⌜ r ≡ version ⌝ }
 {
-    4
+    5
 }
 
 // 0 and the code's key, or 1.
@@ -64,32 +64,34 @@ fn number_of(outcome: Outcome) -> u64
     }
 }
 
-// 0, or 2.
+// 0, or 2 or 17.
 #[no_mangle]
-pub extern "C" fn catalogue_make(table: &mut [u64]) -> u64
-    ensures { λ r. ⌜ r ≡ outcomeNumber (making (now (table .entry))) ⌝ }
-    ensures { λ r. ⌜ now (table .exit) ≡ made (now (table .entry)) ⌝ }
+pub extern "C" fn catalogue_make(table: &mut [u64], collections: u64) -> u64
+    ensures { λ r. ⌜ r ≡ outcomeNumber (making collections (now (table .entry))) ⌝ }
+    ensures { λ r. ⌜ now (table .exit) ≡ made collections (now (table .entry)) ⌝ }
 {
-    number_of(node::make(table))
+    number_of(node::make(table, collections))
 }
 
-// 0, the recording and the class where the key is found; 255 where it is absent, with 1 and the next key up, or 0 where there is none; else 2 or 3.
+// 0, the recording and the class where the collection has the key; 255 where it is absent, with 1 and the next key up, or 0 where there is none;
+// else 2, 17 or 3.
 #[no_mangle]
 pub extern "C" fn catalogue_search(
     table: &[u64],
+    collection: u64,
     key: u64,
     recording: &mut u64,
     access: &mut u64,
     next: &mut u64,
     higher: &mut u64,
 ) -> u64
-    ensures { λ r. ⌜ r ≡ searchNumber (search (now (table .entry)) key) ⌝ }
-    ensures { λ r. ⌜ now (recording .exit) ≡ recordingOr (search (now (table .entry)) key) (now (recording .entry)) ⌝ }
-    ensures { λ r. ⌜ now (access .exit) ≡ accessOr (search (now (table .entry)) key) (now (access .entry)) ⌝ }
-    ensures { λ r. ⌜ now (next .exit) ≡ nextOr (search (now (table .entry)) key) (now (next .entry)) ⌝ }
-    ensures { λ r. ⌜ now (higher .exit) ≡ higherOr (search (now (table .entry)) key) (now (higher .entry)) ⌝ }
+    ensures { λ r. ⌜ r ≡ searchNumber (search collection (now (table .entry)) key) ⌝ }
+    ensures { λ r. ⌜ now (recording .exit) ≡ recordingOr (search collection (now (table .entry)) key) (now (recording .entry)) ⌝ }
+    ensures { λ r. ⌜ now (access .exit) ≡ accessOr (search collection (now (table .entry)) key) (now (access .entry)) ⌝ }
+    ensures { λ r. ⌜ now (next .exit) ≡ nextOr (search collection (now (table .entry)) key) (now (next .entry)) ⌝ }
+    ensures { λ r. ⌜ now (higher .exit) ≡ higherOr (search collection (now (table .entry)) key) (now (higher .entry)) ⌝ }
 {
-    match search::search(table, key) {
+    match search::search(table, collection, key) {
         Answer::Found {
             recording: r,
             access: c,
@@ -124,21 +126,22 @@ fn one_if(b: bool) -> u64
     0
 }
 
-// 0, the pairs written and 1 or 0 for more left, or 2 or 4.
+// 0, the pairs written and 1 or 0 for more left, or 2, 17 or 4.
 #[no_mangle]
 pub extern "C" fn catalogue_list(
     table: &[u64],
+    collection: u64,
     low: u64,
     high: u64,
     out: &mut [u64],
     pairs: &mut u64,
     more: &mut u64,
 ) -> u64
-    ensures { λ r. ⌜ Showed (list (now (table .entry)) low high (now (out .entry))) r
+    ensures { λ r. ⌜ Showed (list collection (now (table .entry)) low high (now (out .entry))) r
         (now (pairs .entry)) (now (pairs .exit)) (now (more .entry)) (now (more .exit)) ⌝ }
-    ensures { λ r. ⌜ now (out .exit) ≡ listOut (now (table .entry)) low high (now (out .entry)) ⌝ }
+    ensures { λ r. ⌜ now (out .exit) ≡ listOut collection (now (table .entry)) low high (now (out .entry)) ⌝ }
 {
-    match listing::list(table, low, high, out) {
+    match listing::list(table, collection, low, high, out) {
         Listed::Pairs { count, more: left } => {
             *pairs = count;
             *more = one_if(left);
@@ -169,6 +172,7 @@ fn put_counts(answer: Written, stores: &mut u64, flushes: &mut u64) -> u64
 #[no_mangle]
 pub extern "C" fn catalogue_insert(
     table: &mut [u64],
+    collection: u64,
     orders: &mut [u64],
     key: u64,
     recording: u64,
@@ -176,41 +180,43 @@ pub extern "C" fn catalogue_insert(
     stores: &mut u64,
     flushes: &mut u64,
 ) -> u64
-    ensures { λ r. ⌜ Wrote (insertion key recording access) r (now (table .entry)) (now (table .exit)) (now (orders .entry)) (now (orders .exit))
+    ensures { λ r. ⌜ Wrote (insertion collection key recording access) r (now (table .entry)) (now (table .exit)) (now (orders .entry)) (now (orders .exit))
         (now (stores .entry)) (now (stores .exit)) (now (flushes .entry)) (now (flushes .exit)) ⌝ }
 {
-    let answer = insert::insert(table, orders, key, recording, access);
+    let answer = insert::insert(table, orders, collection, key, recording, access);
     put_counts(answer, stores, flushes)
 }
 
 #[no_mangle]
 pub extern "C" fn catalogue_delete(
     table: &mut [u64],
+    collection: u64,
     orders: &mut [u64],
     key: u64,
     stores: &mut u64,
     flushes: &mut u64,
 ) -> u64
-    ensures { λ r. ⌜ Wrote (deletion key) r (now (table .entry)) (now (table .exit)) (now (orders .entry)) (now (orders .exit))
+    ensures { λ r. ⌜ Wrote (deletion collection key) r (now (table .entry)) (now (table .exit)) (now (orders .entry)) (now (orders .exit))
         (now (stores .entry)) (now (stores .exit)) (now (flushes .entry)) (now (flushes .exit)) ⌝ }
 {
-    let answer = delete::delete(table, orders, key);
+    let answer = delete::delete(table, orders, collection, key);
     put_counts(answer, stores, flushes)
 }
 
 #[no_mangle]
 pub extern "C" fn catalogue_set_class(
     table: &mut [u64],
+    collection: u64,
     orders: &mut [u64],
     key: u64,
     access: u64,
     stores: &mut u64,
     flushes: &mut u64,
 ) -> u64
-    ensures { λ r. ⌜ Wrote (classChange key access) r (now (table .entry)) (now (table .exit)) (now (orders .entry)) (now (orders .exit))
+    ensures { λ r. ⌜ Wrote (classChange collection key access) r (now (table .entry)) (now (table .exit)) (now (orders .entry)) (now (orders .exit))
         (now (stores .entry)) (now (stores .exit)) (now (flushes .entry)) (now (flushes .exit)) ⌝ }
 {
-    let answer = reclass::set_class(table, orders, key, access);
+    let answer = reclass::set_class(table, orders, collection, key, access);
     put_counts(answer, stores, flushes)
 }
 

@@ -1,39 +1,275 @@
--- Demand 3, proved: the laws of cuts, of search, of settled tables and of every accepted call, put together.
+-- Demand 3 with one or two collections, proved. What is kept: memory is the working copy, sound, and its maps are the ledger.
+use mathlib.Core.Path.{_≡_, refl, sym, ap, _∙_}
+use mathlib.Core.Logic.{_⊎_, inl, inr}
+use mathlib.Core.Bool.{Bool, true, false, cond, false≢true}
+use mathlib.Core.List.{List, [], _∷_, List-discrete}
+use mathlib.Core.Option.{Option, none, some}
+use mathlib.Core.HLevel.{Discrete}
+use Prim.Native.Nat.{ℕ, zero, suc, _+_, _≤_}
+use native.Mathlib.Decide.{ℕ-discrete}
 use native.Mathlib.Nat.{le-refl}
+use native.Mathlib.Omega.{arith}
+use lib.Dec.{eqb}
+use borrow.Author.Tests.{eqb-true}
 use lib.ListN.{length}
-use Rattle.model.specs.Orders.{orders}
-use Rattle.model.specs.Demand3.{Demand3}
+use Rattle.model.specs.declared.Written.{Written}
+use Rattle.model.specs.declared.Written.the-variants.{Done, Refused}
+use Rattle.model.specs.Table.{Words, emptyOf}
+use Rattle.model.specs.Slots.{Slot}
+use Rattle.model.specs.Orders.{Store, apply, orders, storeCount, flushCount, listWith, carryNumber, carriedOut}
+use Rattle.model.specs.Cuts.{CutImage}
+use Rattle.model.specs.Refusals.{unlessRefused, writtenNumber, ordersAnswered, ordersOf, refusal, written, tableAfter, listAfter}
+use Rattle.model.specs.Ledger.{fedOf, End, cutAfter, taken, change, Ledger, noPairs, listIn, answerFrom, lacking, pairsOf, ledgerRefusal, feed}
+use Rattle.model.specs.Demand3.{Fate, whole, cut, State, Event, History, numberOf, answered, listOf, afterFate, step, runAll, FateMay, May, endOf, ledgerAfter, Agrees, Completed, Carried, Keeps, Right, Kept, Demand3}
+use Rattle.model.specs.SoundTest.{sound}
+use Rattle.model.specs.Search.{search}
+use Rattle.model.specs.Reached.{Maps, mapsOf}
+use Rattle.model.specs.Writes.{Call, insertion, deletion, classChange, repair, storesOf}
+use Rattle.model.specs.Sound.{Settled}
 use Rattle.cut_laws.proofs.Applying.{counts-length}
 use Rattle.cut_laws.proofs.Cuts.{image-is-stores, image-at-none, image-at-all}
 use Rattle.cut_laws.proofs.Lent.{carry-list-number, carry-list-all}
-use Rattle.tree_laws.proofs.SearchLaw.{search-law}
-use Rattle.sound_laws.proofs.Same.{settled-same}
-use Rattle.step_laws.proofs.EmptyTable.{empty-settled, empty-map}
-use Rattle.step_laws.proofs.Calls.{accepted}
-use Rattle.crash_laws.proofs.Laws.{CutLaws, Laws}
-use Rattle.crash_laws.proofs.Reduce.{reduce}
+use Rattle.two_laws.proofs.MapsTwo.{OldOrNew, Steps, accepted-steps}
+use Rattle.two_laws.proofs.SearchTwo.{sound-head}
+use Rattle.two_laws.proofs.SameTwo.{settled-same, settled-sound}
+use Rattle.two_laws.proofs.EmptyTwo.{empty-settled, empty-one-maps, empty-two-maps}
+use Rattle.two_laws.proofs.LedgerTwo.{searched, number-in-ledger, only-twelve, only-eleven, only-ten}
 
-pub cut-laws : CutLaws
-cut-laws =
-    record {
-      image-part = λ c t ss m i. let p = image-is-stores ss t c m i in (p .0, p .2);
-      image-none = λ t ss m i. image-at-none ss t m i;
-      image-all = λ t ss m i. image-at-all ss t (length (orders ss)) m (le-refl _) i;
-      counted = counts-length;
-      carried = λ t ss lent h a l. (carry-list-number ss lent t h a _ (le-refl _), carry-list-all ss lent t h a);
-    }
+-- ---- equality of maps is decided
 
-laws : Laws
-laws =
-    record {
-      cuts = cut-laws;
-      searched = search-law;
-      sentences = λ t. settled-same t .0;
-      empty-settled = empty-settled;
-      empty-map = λ n a b. empty-map n a;
-      accepted = accepted;
-    }
+pub Slot-discrete : Discrete Slot
+Slot-discrete s u = go (ℕ-discrete (s .key) (u .key)) (ℕ-discrete (s .pointer) (u .pointer))
+  where
+    go : Dec (s .key ≡ u .key) → Dec (s .pointer ≡ u .pointer) → Dec (s ≡ u)
+    go (yes a) (yes b) = yes (λ i. record { key = a i; pointer = b i })
+    go (no a) b = no (λ e. a (ap (λ (x : Slot). x .key) e))
+    go (yes a) (no b) = no (λ e. b (ap (λ (x : Slot). x .pointer) e))
 
--- For every N and every sequence of insertions, deletions, class changes and repairs, whole or cut.
+abbrev pub isYes : {A : Type 0} → Dec A → Bool
+isYes (yes a) = true
+isYes (no k) = false
+
+-- of what is the old or the new one: the test whether it is the new one tells which
+pub decided : {A : Type 0} (old new x : A) (d : Dec (x ≡ new)) → (x ≡ old) ⊎ (x ≡ new) → x ≡ cond (isYes d) new old
+decided old new x (yes e) o = e
+decided old new x (no k) (inl e) = e
+decided old new x (no k) (inr e) = absurd (k e)
+
+Option-discrete : Discrete (Option (List Slot))
+Option-discrete none none = yes refl
+Option-discrete none (some b) = no (λ e. false≢true (sym (ap lacking e)))
+Option-discrete (some a) none = no (λ e. false≢true (ap lacking e))
+Option-discrete (some a) (some b) = go (List-discrete Slot-discrete a b)
+  where
+    go : Dec (a ≡ b) → Dec (some a ≡ some b)
+    go (yes q) = yes (ap some q)
+    go (no k) = no (λ e. k (ap pairsOf e))
+
+Maps-discrete : Discrete Maps
+Maps-discrete m n = go (List-discrete Slot-discrete (m .one) (n .one)) (Option-discrete (m .two) (n .two))
+  where
+    go : Dec (m .one ≡ n .one) → Dec (m .two ≡ n .two) → Dec (m ≡ n)
+    go (yes a) (yes b) = yes (λ i. record { one = a i; two = b i })
+    go (no a) b = no (λ e. a (ap (λ (x : Maps). x .one) e))
+    go (yes a) (no b) = no (λ e. b (ap (λ (x : Maps). x .two) e))
+
+-- ---- what an accepted call answers and leaves
+
+module _ (x : Call) (lent t : Words) (ok : refusal x (length lent) t ≡ 0) where
+  accepted-answer : ordersAnswered (written x (length lent) t) ≡ storeCount (ordersOf x t) + flushCount (ordersOf x t)
+  unfolding written
+  accepted-answer = rw ok
+
+  accepted-table : tableAfter x (length lent) t ≡ apply (storesOf x t) t
+  unfolding tableAfter
+  accepted-table = rw ok
+
+  accepted-list : listAfter x lent t ≡ listWith (ordersOf x t) lent
+  unfolding listAfter
+  accepted-list = rw ok
+
+-- a call answers its number
+number-answered : (x : Call) (words : ℕ) (t : Words) → writtenNumber (written x words t) ≡ refusal x words t
+unfolding written
+number-answered x words t = go (refusal x words t) (Done (storeCount (ordersOf x t)) (flushCount (ordersOf x t))) refl
+  where
+    go : (n : ℕ) (done : Written) → writtenNumber done ≡ 0 → writtenNumber (unlessRefused n done (Refused n)) ≡ n
+    go zero done e = e
+    go (suc n) done e = refl
+
+pub unless-refused : {A B : Type 0} (R : A → B → Type 0) (n : ℕ) (new old : A) (new′ old′ : B) → (n ≡ 0 → R new new′) → R old old′
+    → R (unlessRefused n new old) (unlessRefused n new′ old′)
+unless-refused R zero new old new′ old′ f h = f refl
+unless-refused R (suc n) new old new′ old′ f h = h
+
+-- a repair moves nothing in the ledger, so it keeps the map
+repair-feeds : (words fed : ℕ) (end : End) (choice : Bool) (ps : Ledger) → feed repair words fed end choice ps ≡ ps
+unfolding feed
+repair-feeds words fed end choice ps = go (ledgerRefusal repair words fed ps) (taken end choice)
+  where
+    go : (n : ℕ) (b : Bool) → unlessRefused n (cond b ps ps) ps ≡ ps
+    go zero true = refl
+    go zero false = refl
+    go (suc n) b = refl
+
+-- ---- the choice at a cut: is the image's map the new one
+
+abbrev chosen : Fate → Ledger → Bool
+chosen whole new = true
+chosen (cut c m) new = isYes (Maps-discrete (mapsOf m) new)
+
+choose : (n N : ℕ) → History → Bool
+choose n N [] = false
+choose n N (e ∷ h) = chosen (e .fate) (change (e .call) (mapsOf (runAll n N h .working)))
+
+-- what is kept along a history
+record Inv (s : State) (ps : Ledger) : Type 0 where
+  both : s .memory ≡ s .working
+  fine : sound (s .working) ≡ true
+  maps : mapsOf (s .working) ≡ ps
+
+map-kept : (x : Call) (s s′ : State) (words fed : ℕ) (end : End) (choice : Bool) (ps : Ledger) → Inv s ps → Inv s′ (feed x words fed end choice ps) → Keeps x s s′
+map-kept (insertion n k r c) s s′ words fed end choice ps a b = tt
+map-kept (deletion n k) s s′ words fed end choice ps a b = tt
+map-kept (classChange n k c) s s′ words fed end choice ps a b = tt
+map-kept repair s s′ words fed end choice ps a b =
+    let q : mapsOf (s′ .working) ≡ mapsOf (s .working) = b .maps ∙ repair-feeds words fed end choice ps ∙ sym (a .maps) in
+    (rw (a .both, b .both) q, q)
+
+agrees : (s : State) (ps : Ledger) → Inv s ps → Agrees s ps
+agrees s ps v = record { in-memory = λ n k. rw (v .both) (answer n k); in-working = answer }
+  where
+    answer : (n k : ℕ) → search n (s .working) k ≡ answerFrom k (listIn n ps)
+    answer n k = searched n (s .working) k (v .fine) ∙ ap (λ (m : Ledger). answerFrom k (listIn n m)) (v .maps)
+
+-- ---- an accepted call on a sound table, in memory and as the working copy
+
+module _ (s : State) (e : Event) (both : s .memory ≡ s .working) (fine : sound (s .working) ≡ true) (ok : numberOf s e ≡ 0) where
+  abbrev x : Call
+  x = e .call
+
+  abbrev t : Words
+  t = s .working
+
+  abbrev ss : List Store
+  ss = storesOf x t
+
+  abbrev old : Ledger
+  old = mapsOf t
+
+  abbrev new : Ledger
+  new = change x (mapsOf t)
+
+  steps : Steps x t
+  steps = accepted-steps x (length (e .lent)) t fine ok
+
+  answered-all : answered s e ≡ length (orders ss)
+  answered-all = accepted-answer x (e .lent) t ok ∙ counts-length (orders ss)
+
+  -- the carry-out of all orders answered, with the lent list as the call left it
+  carried-whole : (carryNumber (answered s e) (listOf s e) (s .memory) ≡ 0) × (carriedOut (answered s e) (listOf s e) (s .memory) ≡ apply ss t)
+  carried-whole =
+      rw (answered-all, accepted-list x (e .lent) t ok, both) (carry-list-number ss (e .lent) t (sound-head t fine) (steps .stores-inside) _ (le-refl _), carry-list-all ss (e .lent) t (sound-head t fine) (steps .stores-inside))
+
+  -- an image that a cut may leave
+  image-part : (c : ℕ) (m : Words) → CutImage c (s .memory) (orders ss) m → (sound m ≡ true) × OldOrNew x t m
+  image-part c m i = let p = image-is-stores ss t c m (rw both at i) in rw (p .2) (steps .part-sound (p .0), steps .part-map (p .0))
+
+  image-all : (c : ℕ) (m : Words) → CutImage c (s .memory) (orders ss) m → c ≡ length (orders ss) → m ≡ apply ss t
+  image-all c m i q = image-at-all ss t (length (orders ss)) m (le-refl _) (rw (both, q) at i)
+
+  image-map : (c : ℕ) (m : Words) → CutImage c (s .memory) (orders ss) m
+      → mapsOf m ≡ cond (taken (cutAfter c (eqb c (length (orders ss)))) (chosen (cut c m) new)) new old
+  image-map zero m i = ap mapsOf (image-at-none ss t m (rw both at i))
+  image-map (suc c) m i = go (eqb (suc c) (length (orders ss))) refl
+    where
+      go : (all : Bool) → eqb (suc c) (length (orders ss)) ≡ all
+          → mapsOf m ≡ cond (taken (cutAfter (suc c) all) (chosen (cut (suc c) m) new)) new old
+      go true q = ap mapsOf (image-all (suc c) m i (eqb-true _ _ q)) ∙ steps .all-map
+      go false q = decided old new (mapsOf m) (Maps-discrete (mapsOf m) new) (image-part (suc c) m i .1)
+
+  abbrev left : Words
+  left = tableAfter x (length (e .lent)) t
+
+  left-all : left ≡ apply ss t
+  left-all = accepted-table x (e .lent) t ok
+
+  fate-inv : (f : Fate) → FateMay f s e → Inv (afterFate f s e) (cond (taken (endOf f s e) (chosen f new)) new old)
+  fate-inv whole p =
+      record { both = carried-whole .1 ∙ sym left-all; fine = rw left-all (settled-sound _ (steps .all-settled)); maps = rw left-all (steps .all-map) }
+  fate-inv (cut c m) p = record { both = refl; fine = image-part c m (p .1) .0; maps = image-map c m (p .1) }
+
+  -- completed: memory is the working copy that the call left, and so is the working copy after it
+  fate-completed : (f : Fate) → FateMay f s e → Completed f s e → (afterFate f s e .memory ≡ left) × (afterFate f s e .working ≡ left)
+  fate-completed whole p d = (carried-whole .1 ∙ sym left-all, refl)
+  fate-completed (cut c m) p d = let q = image-all c m (p .1) d ∙ sym left-all in (q, q)
+
+  left-settled : Settled left
+  left-settled = settled-same left .0 (rw left-all (steps .all-settled))
+
+  fate-carried : (f : Fate) → Carried f s e
+  fate-carried whole = carried-whole .0
+  fate-carried (cut c m) = tt
+
+-- ---- one event
+
+module _ (s : State) (e : Event) (ps : Ledger) (v : Inv s ps) (p : numberOf s e ≡ 0 → FateMay (e .fate) s e) where
+  abbrev choice : Bool
+  choice = chosen (e .fate) (change (e .call) (mapsOf (s .working)))
+
+  same-number : numberOf s e ≡ ledgerRefusal (e .call) (length (e .lent)) (fedOf (numberOf s e)) ps
+  same-number =
+      rw (v .maps) at (number-in-ledger (e .call) (length (e .lent)) (s .working) (v .fine))
+
+  abbrev after : Ledger
+  after = feed (e .call) (length (e .lent)) (fedOf (numberOf s e)) (endOf (e .fate) s e) choice ps
+
+  step-inv : Inv (step s e) after
+  unfolding step feed
+  step-inv = rw (← same-number) (unless-refused Inv (numberOf s e) _ s _ ps
+      (λ ok. rw (← (v .maps)) (fate-inv s e (v .both) (v .fine) ok (e .fate) (p ok))) v)
+
+  step-completed : numberOf s e ≡ 0 → Completed (e .fate) s e
+      → (let left = tableAfter (e .call) (length (e .lent)) (s .working) in (step s e .memory ≡ left) × (step s e .working ≡ left))
+  unfolding step
+  step-completed ok d = rw ok (fate-completed s e (v .both) (v .fine) ok (e .fate) (p ok) d)
+
+  step-settled : numberOf s e ≡ 0 → Completed (e .fate) s e → Settled (step s e .memory) × Settled (step s e .working)
+  step-settled ok d = let (a, b) = step-completed ok d in let q = left-settled s e (v .both) (v .fine) ok in (rw a q, rw b q)
+
+  step-keeps : Keeps (e .call) s (step s e)
+  step-keeps = map-kept (e .call) s (step s e) (length (e .lent)) _ _ choice ps v step-inv
+
+  step-right : Right e s (step s e) ps
+  step-right = record {
+    same-number = same-number;
+    answers-it = number-answered (e .call) (length (e .lent)) (s .working);
+    ten-only = only-ten (e .call) (length (e .lent)) (s .working) (v .fine);
+    eleven-only = only-eleven (e .call) (length (e .lent)) (s .working) (v .fine);
+    twelve-only = only-twelve (e .call) (length (e .lent)) (s .working) (v .fine);
+    carried = λ ok. fate-carried s e (v .both) (v .fine) ok (e .fate);
+    equal = step-completed;
+    finished = step-settled;
+    repair-keeps = step-keeps;
+  }
+
+-- ---- all histories
+
+module _ (n N : ℕ) (kind : (n ≡ 1) ⊎ (n ≡ 2)) (low : n ≤ N) (high : N ≤ 65535) where
+  start-maps : (n ≡ 1) ⊎ (n ≡ 2) → mapsOf (emptyOf n N) ≡ noPairs n
+  start-maps (inl e) = rw e (empty-one-maps N (omega arith) high)
+  start-maps (inr e) = rw e (empty-two-maps N (omega arith) high)
+
+  inv : (h : History) → May n N h → Inv (runAll n N h) (ledgerAfter (choose n N) n N h)
+  unfolding runAll ledgerAfter May choose
+  inv [] p = record { both = refl; fine = settled-sound _ (empty-settled n N kind low high); maps = start-maps kind }
+  inv (e ∷ h) p = step-inv (runAll n N h) e (ledgerAfter (choose n N) n N h) (inv h (p .0)) (p .1)
+
+  kept : (h : History) → May n N h → Kept (choose n N) n N h
+  unfolding runAll May
+  kept [] p = agrees _ _ (inv [] p)
+  kept (e ∷ h) p = (agrees _ _ (inv (e ∷ h) p), step-right (runAll n N h) e (ledgerAfter (choose n N) n N h) (inv h (p .0)) (p .1))
+
+-- For one collection or two, every N and every sequence of insertions, deletions, class changes and repairs, whole or cut.
 pub demand3 : Demand3
-demand3 = reduce laws
+demand3 n N kind low high = (choose n N, kept n N kind low high)

@@ -11,7 +11,7 @@ use Rattle.model.specs.declared.Next.the-variants.{Nothing}
 use Rattle.model.specs.Table.{MARK, Words, nodes, root, empty, nodeStart, line}
 use Rattle.model.specs.Slots.{Slot, slot, View, view, used, nodeView}
 use Rattle.model.specs.Search.{searchView, search}
-use Rattle.model.specs.Reached.{mapping, mapOf}
+use Rattle.model.specs.Reached.{mapping, mapOf, Maps, mapsOf}
 use Rattle.model.specs.SoundTest.{settled, sound}
 use Rattle.model.specs.Orders.{Store, put, Order, store, flush, apply}
 use Rattle.model.specs.Cuts.{CutImage}
@@ -21,7 +21,7 @@ use Rattle.model.specs.Refusals.{hasKey, refusal, ordersOf, tableAfter}
 use Rattle.model.specs.Ledger.{change}
 use Rattle.model.proofs.Everything.{everything}
 use Rattle.view_laws.proofs.NodeViews.{showing}
-use Rattle.step_laws.proofs.Calls.{OldOrNew}
+use Rattle.two_laws.proofs.MapsTwo.{OldOrNew}
 use Rattle.crash_laws.proofs.Images.{values, withLine, imageOf, imageOf-image}
 
 -- ---- the tables
@@ -33,10 +33,10 @@ afterCalls (x ∷ xs) t = afterCalls xs (tableAfter x 2560 t)
 
 -- insertions of 10, 20, .., with the recordings 101, 102, ..; and deletions of such keys
 unfoldable pub insertTens : List ℕ → List Call
-insertTens ns = map (λ (i : ℕ). insertion (10 * i) (100 + i) 0) ns
+insertTens ns = map (λ (i : ℕ). insertion 1 (10 * i) (100 + i) 0) ns
 
 unfoldable pub deleteTens : List ℕ → List Call
-deleteTens ns = map (λ (i : ℕ). deletion (10 * i)) ns
+deleteTens ns = map (λ (i : ℕ). deletion 1 (10 * i)) ns
 
 -- a leaf with (20, 102) (30, 103); slot 2 is free, and its key word still has 40, which was deleted
 unfoldable pub twoSlots : Words
@@ -50,13 +50,13 @@ unfoldable pub fullLeaf : Words
 fullLeaf = afterCalls (insertTens (numbers 1 11)) (empty 3)
 
 abbrev pub nextKey : Call
-nextKey = insertion 120 112 0
+nextKey = insertion 1 120 112 0
 
 -- a map that lacks a key of the old and of the new one is neither
-neither-map : (k : ℕ) (x : Call) (t u : Words) → hasKey k (mapOf u) ≡ false → hasKey k (mapOf t) ≡ true → hasKey k (change x (mapOf t)) ≡ true
+neither-map : (k : ℕ) (x : Call) (t u : Words) → hasKey k (mapsOf u .one) ≡ false → hasKey k (mapsOf t .one) ≡ true → hasKey k (change x (mapsOf t) .one) ≡ true
     → OldOrNew x t u → ⊥
-neither-map k x t u a b c (inl e) = false≢true (sym a ∙ ap (hasKey k) e ∙ b)
-neither-map k x t u a b c (inr e) = false≢true (sym a ∙ ap (hasKey k) e ∙ c)
+neither-map k x t u a b c (inl e) = false≢true (sym a ∙ ap (λ (m : Maps). hasKey k (m .one)) e ∙ b)
+neither-map k x t u a b c (inr e) = false≢true (sym a ∙ ap (λ (m : Maps). hasKey k (m .one)) e ∙ c)
 
 -- ---- the key copied before the pointer on the way right
 
@@ -71,19 +71,19 @@ shiftBy up = map (inNode 1) (pointerTo 3 0 ∷ (up 0 twoPairs ++ (pointerTo 0 MA
 
 -- the map after each first part of the stores, from none to all
 unfoldable pub mapsOfParts : List Store → Words → List (List Slot)
-mapsOfParts ss t = map (λ (j : ℕ). mapOf (apply (take j ss) t)) (numbers 0 (suc (length ss)))
+mapsOfParts ss t = map (λ (j : ℕ). mapOf 1 (apply (take j ss) t)) (numbers 0 (suc (length ss)))
 
 abbrev pub keyFirstCut : Words
 keyFirstCut = apply (take 4 (shiftBy keyFirst)) twoSlots
 
 pub record KeyFirst : Type 0 where
   -- pointer first: the call's own list; the old map until the last store, then the new one
-  pub right-list : shiftBy moveUp ≡ storesOf (insertion 10 101 0) twoSlots
+  pub right-list : shiftBy moveUp ≡ storesOf (insertion 1 10 101 0) twoSlots
   pub right-maps : mapsOfParts (shiftBy moveUp) twoSlots ≡ replicate 8 twoPairs ++ ((slot 10 101 ∷ twoPairs) ∷ [])
   -- key first: a shown slot pairs 20 with the recording of 30, and 30 is lost
-  pub wrong-pair : mapOf keyFirstCut ≡ slot 20 102 ∷ slot 20 103 ∷ []
-  pub lost : search keyFirstCut 30 ≡ Absent Nothing
-  pub neither : OldOrNew (insertion 10 101 0) twoSlots keyFirstCut → ⊥
+  pub wrong-pair : mapOf 1 keyFirstCut ≡ slot 20 102 ∷ slot 20 103 ∷ []
+  pub lost : search 1 keyFirstCut 30 ≡ Absent Nothing
+  pub neither : OldOrNew (insertion 1 10 101 0) twoSlots keyFirstCut → ⊥
   pub unsound : sound keyFirstCut ≡ false
 
 pub key-first : KeyFirst
@@ -93,7 +93,7 @@ key-first = record {
   right-maps = refl;
   wrong-pair = refl;
   lost = refl;
-  neither = neither-map 30 (insertion 10 101 0) twoSlots keyFirstCut refl refl refl;
+  neither = neither-map 30 (insertion 1 10 101 0) twoSlots keyFirstCut refl refl refl;
   unsound = refl;
 }
 
@@ -115,7 +115,7 @@ byFirstKey d v =
 
 -- leaf A with keys 10 to 50, and its sibling B, with fence 60, emptied by deletions, the last of them cut before it frees B
 unfoldable pub emptied : Words
-emptied = let t = afterCalls (nextKey ∷ deleteTens (numbers 6 6)) fullLeaf in apply (take 2 (storesOf (deletion 120) t)) t
+emptied = let t = afterCalls (nextKey ∷ deleteTens (numbers 6 6)) fullLeaf in apply (take 2 (storesOf (deletion 1 120) t)) t
 
 -- B, with fence 60 and no slots, lacks its slot in the parent, and A still shows its old slots 60 to 110
 unfoldable pub trailing : Words
@@ -124,11 +124,11 @@ trailing = set (apply (take 66 (storesOf nextKey fullLeaf)) fullLeaf) (pointerWo
 pub record FirstKey : Type 0 where
   -- no key read as 0: the search for 50 leaves A for the empty B
   pub emptied-settled : settled emptied ≡ true
-  pub finds-fifty : search emptied 50 ≡ Found 105 0
+  pub finds-fifty : search 1 emptied 50 ≡ Found 105 0
   pub misses-fifty : searchView (byFirstKey 0 (view emptied)) 50 ≡ Absent Nothing
   -- no key read as the largest: the search for 60 stays in A and finds what the map does not have
   pub trailing-sound : sound trailing ≡ true
-  pub sixty-absent : search trailing 60 ≡ Absent Nothing
+  pub sixty-absent : search 1 trailing 60 ≡ Absent Nothing
   pub finds-sixty : searchView (byFirstKey MARK (view trailing)) 60 ≡ Found 106 0
 
 pub first-key : FirstKey
@@ -151,11 +151,11 @@ hidingByKeys t = record { nodes = nodes t; root = root t; node = λ (i : ℕ). s
 
 -- a shift in that was cut after its second store: slot 2 has the pointer of slot 1, and the key of the deleted pair
 abbrev pub shiftCut : Words
-shiftCut = apply (take 2 (storesOf (insertion 10 101 0) twoSlots)) twoSlots
+shiftCut = apply (take 2 (storesOf (insertion 1 10 101 0) twoSlots)) twoSlots
 
 pub record EqualKeys : Type 0 where
-  pub right-map : mapOf shiftCut ≡ twoPairs
-  pub right-answer : search shiftCut 40 ≡ Absent Nothing
+  pub right-map : mapOf 1 shiftCut ≡ twoPairs
+  pub right-answer : search 1 shiftCut 40 ≡ Absent Nothing
   -- the deleted code 40 leads to its neighbour's recording
   pub wrong-map : mapping (hidingByKeys shiftCut) ≡ twoPairs ++ (slot 40 103 ∷ [])
   pub wrong-answer : searchView (hidingByKeys shiftCut) 40 ≡ Found 103 0
@@ -238,12 +238,12 @@ unorderedImage = imageOf onlyLink fullLeaf (take 66 (flushedAtEnd (storesOf next
 pub record FlushedAtEnd : Type 0 where
   -- each line before the next: the link arrives after B, and all eleven pairs stay
   pub right-image : CutImage 75 fullLeaf (ordersOf nextKey fullLeaf) orderedImage
-  pub right-map : mapOf orderedImage ≡ map (λ (i : ℕ). slot (10 * i) (100 + i)) (numbers 1 11)
+  pub right-map : mapOf 1 orderedImage ≡ map (λ (i : ℕ). slot (10 * i) (100 + i)) (numbers 1 11)
   pub right-sound : sound orderedImage ≡ true
   -- the link arrives before B, whose fence is still 0: every pair is lost
   pub wrong-image : CutImage 66 fullLeaf (flushedAtEnd (storesOf nextKey fullLeaf)) unorderedImage
-  pub lost : mapOf unorderedImage ≡ []
-  pub lost-ten : search unorderedImage 10 ≡ Absent Nothing
+  pub lost : mapOf 1 unorderedImage ≡ []
+  pub lost-ten : search 1 unorderedImage 10 ≡ Absent Nothing
   pub neither : OldOrNew nextKey fullLeaf unorderedImage → ⊥
 
 pub flushed-at-end : FlushedAtEnd

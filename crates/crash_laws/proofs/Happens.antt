@@ -1,6 +1,7 @@
 -- A history that may happen, computed: an insertion whole, one cut after three of its seven orders, then a class change and a deletion on
 -- what was reloaded.
 use mathlib.Core.Path.{_≡_, refl}
+use mathlib.Core.Logic.{inl}
 use mathlib.Core.Bool.{Bool, true, false}
 use mathlib.Core.List.{List, [], _∷_}
 use Prim.Native.Nat.{ℕ, _≤_}
@@ -24,27 +25,27 @@ abbrev pub event : Call → Fate → Event
 event x f = record { call = x; lent = replicate 2560 0; fate = f }
 
 abbrev pub inserted : History
-inserted = event (insertion 20 102 1) whole ∷ []
+inserted = event (insertion 1 20 102 1) whole ∷ []
 
 -- memory before the cut, and the orders of the insertion that is cut
 abbrev pub before : Words
-before = runAll 1 inserted .memory
+before = runAll 1 1 inserted .memory
 
 abbrev pub ordersCut : List Order
-ordersCut = eventOrders (runAll 1 inserted) (event (insertion 10 101 0) whole)
+ordersCut = eventOrders (runAll 1 1 inserted) (event (insertion 1 10 101 0) whole)
 
 -- the three orders that happened are stores to one line; two of them arrived
 abbrev pub image : Words
 image = imageOf (λ (l : ℕ). 2) before (take 3 ordersCut)
 
 abbrev pub cutShort : History
-cutShort = event (insertion 10 101 0) (cut 3 image) ∷ inserted
+cutShort = event (insertion 1 10 101 0) (cut 3 image) ∷ inserted
 
 abbrev pub closed : History
-closed = event (classChange 20 2) whole ∷ cutShort
+closed = event (classChange 1 20 2) whole ∷ cutShort
 
 abbrev pub deleted : History
-deleted = event (deletion 20) whole ∷ closed
+deleted = event (deletion 1 20) whole ∷ closed
 
 may-leave : CutImage 3 before ordersCut image
 may-leave = imageOf-image (λ (l : ℕ). 2) before (take 3 ordersCut)
@@ -53,27 +54,27 @@ within-list : 3 ≤ length ordersCut
 unfolding everything
 within-list = omega arith
 
-pub happens : May 1 deleted
+pub happens : May 1 1 deleted
 unfolding May
 happens = ((((tt, λ e. tt), λ e. (within-list, may-leave)), λ e. tt), λ e. tt)
 
 -- what demand 3 says of it
-pub happens-kept : (choose : History → Bool) × Kept choose 1 deleted
-happens-kept = let d = demand3 1 (omega arith) (omega arith) in (d .0, d .1 deleted happens)
+pub happens-kept : (choose : History → Bool) × Kept choose 1 1 deleted
+happens-kept = let d = demand3 1 1 (inl refl) (omega arith) (omega arith) in (d .0, d .1 deleted happens)
 
 -- No call was refused; the image is sound, not settled, and still has the first pair; the class change gives it its class and leaves
 -- nothing unfinished; the deletion takes it.
 pub record Computed : Type 0 where
-  pub all-accepted : (numberOf (runAll 1 []) (event (insertion 20 102 1) whole) ≡ 0)
-      × (numberOf (runAll 1 inserted) (event (insertion 10 101 0) (cut 3 image)) ≡ 0) × (numberOf (runAll 1 cutShort) (event (classChange 20 2) whole) ≡ 0)
-      × (numberOf (runAll 1 closed) (event (deletion 20) whole) ≡ 0)
+  pub all-accepted : (numberOf (runAll 1 1 []) (event (insertion 1 20 102 1) whole) ≡ 0)
+      × (numberOf (runAll 1 1 inserted) (event (insertion 1 10 101 0) (cut 3 image)) ≡ 0) × (numberOf (runAll 1 1 cutShort) (event (classChange 1 20 2) whole) ≡ 0)
+      × (numberOf (runAll 1 1 closed) (event (deletion 1 20) whole) ≡ 0)
   pub seven-orders : length ordersCut ≡ 7
   pub image-sound : (sound image ≡ true) × (settled image ≡ false)
-  pub image-has : (search image 20 ≡ Found 102 1) × (search image 10 ≡ Absent (Key 20))
-  pub reloaded : (runAll 1 cutShort .memory ≡ image) × (runAll 1 cutShort .working ≡ image)
-  pub changed : (search (runAll 1 closed .memory) 20 ≡ Found 102 2) × (settled (runAll 1 closed .memory) ≡ true)
-  pub gone : search (runAll 1 deleted .memory) 20 ≡ Absent Nothing
-  pub settled-again : settled (runAll 1 deleted .memory) ≡ true
+  pub image-has : (search 1 image 20 ≡ Found 102 1) × (search 1 image 10 ≡ Absent (Key 20))
+  pub reloaded : (runAll 1 1 cutShort .memory ≡ image) × (runAll 1 1 cutShort .working ≡ image)
+  pub changed : (search 1 (runAll 1 1 closed .memory) 20 ≡ Found 102 2) × (settled (runAll 1 1 closed .memory) ≡ true)
+  pub gone : search 1 (runAll 1 1 deleted .memory) 20 ≡ Absent Nothing
+  pub settled-again : settled (runAll 1 1 deleted .memory) ≡ true
 
 pub computed : Computed
 unfolding everything values withLine imageOf

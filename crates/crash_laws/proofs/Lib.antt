@@ -1,8 +1,6 @@
--- Demand 3 from the laws of the single calls, a history that may happen, and drawings that do not hold.
-pub mod Laws
-pub mod Numbers
-pub mod Reduce
+-- Demand 3, histories that may happen, and drawings that do not hold.
 pub mod Demand3
 pub mod Images
 pub mod Happens
+pub mod HappensTwo
 pub mod Drawings

@@ -91,8 +91,8 @@ unfolding headerOk lengthOk tableLength
 header-length t e =
     let u = simp facts at e in
     let n : ℕ = nodesFor (length t) in
-    let a : length t ≡ 8 + 32 * n = u .0 .0 .0 .0 .0 .0 in
-    let b : n ≤ 65535 = u .0 .0 .0 .0 .1 in
+    let a : length t ≡ 8 + 32 * n = u .0 .0 .0 in
+    let b : n ≤ 65535 = u .0 .1 in
     (omega arith, omega arith)
 
 -- where stores are inside a whole number of lines, so are the flushes of their lines

@@ -1,4 +1,4 @@
--- The slots of a leaf, and of all leaves entered.
+-- The slots of a leaf, and of all leaves among nodes entered.
 use mathlib.Core.Path.{_≡_, refl, ap, sym, subst, _∙_}
 use mathlib.Core.Bool.{Bool, true, false}
 use mathlib.Core.Logic.{_≢_}
@@ -15,7 +15,7 @@ use Rattle.model.specs.Table.{Words, node}
 use Rattle.model.specs.Slots.{Slot, slot, slotsOf, nodeView}
 use Rattle.model.specs.SoundTest.{rising}
 use Rattle.model.specs.Refusals.{hasRecording}
-use Rattle.model.specs.Salvage.{Placed, underFence, inReach, Gathered, reasonFor, gatherSlot, gatherSlots, collected, gatherNodes, gathered, entered}
+use Rattle.model.specs.Salvage.{Placed, underFence, inReach, Gathered, reasonFor, gatherSlot, gatherSlots, collected, gatherNodes, gatheredAlong}
 use Rattle.tour_laws.specs.Walk.{slotAt, before, slotsFrom}
 use Rattle.tour_laws.proofs.Gathering.{slot-kept, slot-dropped, collected-leaf, collected-inner}
 use Rattle.tour_laws.proofs.Ways.{slots-first, slots-end, slots-hidden, slots-ignored, slots-next, slots-past}
@@ -215,37 +215,33 @@ module _ (t : Words) (n : ℕ) (x : Node) (q : x ≡ node t n) (b : ℕ) (w₀ r
   unfolding gatherSlots
   collecting-none e s = (sym (ap (λ (xs : List Placed). gatherSlots n xs (held w₀ b r₀ t₀)) (leaf-not t n x q e)), (s, record { stay = refl; sum = omega arith; more = omega arith }))
 
--- the next node of those entered, and the end of them
-pub nodes-next : (t order : Words) (count : ℕ) → count ≤ length order → (i : ℕ) → i < count → (g : Gathered)
-    → gatherNodes t (drop (i + 1) (take count order)) (gatherSlots (getD order i 0) (collected t (getD order i 0)) g) ≡ gatherNodes t (drop i (take count order)) g
+-- the next node, and the end of them
+pub nodes-next : (t order : Words) (i : ℕ) → i < length order → (g : Gathered)
+    → gatherNodes t (drop (i + 1) order) (gatherSlots (getD order i 0) (collected t (getD order i 0)) g) ≡ gatherNodes t (drop i order) g
 unfolding gatherNodes
-nodes-next t order count l i h g =
-    let n = getD order i 0 in
+nodes-next t order i h g =
     let s : i + 1 ≡ suc i = omega arith in
-    let long : length (take count order) ≡ count = length-take-le count order l in
-    let now : drop i (take count order) ≡ n ∷ drop (i + 1) (take count order) = drop-cons (take count order) i 0 (omega arith) ∙ ap (λ (y : ℕ). y ∷ drop (suc i) (take count order)) (getD-take count order i 0 h)
-    ∙ ap (λ (y : ℕ). n ∷ drop y (take count order)) (sym s) in
-    sym (ap (λ (ns : List ℕ). gatherNodes t ns g) now)
+    ap (λ (j : ℕ). gatherNodes t (drop j order) (gatherSlots (getD order i 0) (collected t (getD order i 0)) g)) s ∙ sym (ap (λ (ns : List ℕ). gatherNodes t ns g) (drop-cons order i 0 h))
 
-pub nodes-last : (t order : Words) (count i : ℕ) → count ≤ i → (g : Gathered) → gatherNodes t (drop i (take count order)) g ≡ g
+pub nodes-last : (t order : Words) (i : ℕ) → length order ≤ i → (g : Gathered) → gatherNodes t (drop i order) g ≡ g
 unfolding gatherNodes
-nodes-last t order count i h g = let l = length-take count order in ap (λ (ns : List ℕ). gatherNodes t ns g) (drop-of-length-le (take count order) {i = i} (omega arith))
+nodes-last t order i h g = ap (λ (ns : List ℕ). gatherNodes t ns g) (drop-of-length-le order {i = i} h)
 
-module _ (t order : Words) (count b : ℕ) (w₀ r₀ : Words) (along : Along t order count r₀) (most : length (gathered t .kept) ≤ b) where
+module _ (t order : Words) (b : ℕ) (w₀ r₀ : Words) (along : Along order r₀) (most : length (gatheredAlong t order .kept) ≤ b) where
   -- the nodes before place i are gathered
   pub record Walking (w r : Words) (p : Tally) (i : ℕ) : Type 0 where
-    pub few : i ≤ count
-    pub rest : gatherNodes t (drop i (take count order)) (held w b r p) ≡ gathered t
+    pub few : i ≤ length order
+    pub rest : gatherNodes t (drop i order) (held w b r p) ≡ gatheredAlong t order
     pub kept : Kept r₀ none r p (12 * i)
     pub standing : Standing w b p
     pub words : length w ≡ length w₀
     pub report : length r ≡ length r₀
 
   pub walking-start : Standing w₀ b none → Walking w₀ r₀ none 0
-  unfolding gathered
+  unfolding gatheredAlong
   walking-start s = record {
     few = omega arith;
-    rest = ap (λ (ns : List ℕ). gatherNodes t ns (held w₀ b r₀ none)) (along .nodes) ∙ ap (gatherNodes t (entered t)) empty;
+    rest = ap (gatherNodes t order) empty;
     kept = record { stay = refl; sum = omega arith; more = omega arith };
     standing = s;
     words = refl;
@@ -256,7 +252,7 @@ module _ (t order : Words) (count b : ℕ) (w₀ r₀ : Words) (along : Along t 
       empty = ap (λ (l : List Slot). record { kept = l; dropped = dropsIn r₀ 0 }) (no-pairs (take (2 * b) w₀)) ∙ (unfold dropsIn in refl)
 
   module _ (w r : Words) (p : Tally) (i : ℕ) (c : Walking w r p i) where
-    pub walking-room : i < count → Room r p 12
+    pub walking-room : i < length order → Room r p 12
     walking-room h =
         let d = along .drops in
         let f = along .few in
@@ -267,37 +263,37 @@ module _ (t order : Words) (count b : ℕ) (w₀ r₀ : Words) (along : Along t 
     abbrev n : ℕ
     n = getD order i 0
 
-    opened-nodes : i < count → gatherNodes t (drop (i + 1) (take count order)) (gatherSlots n (collected t n) (held w b r p)) ≡ gathered t
-    opened-nodes h = nodes-next t order count (along .enough) i h (held w b r p) ∙ c .rest
+    opened-nodes : i < length order → gatherNodes t (drop (i + 1) order) (gatherSlots n (collected t n) (held w b r p)) ≡ gatheredAlong t order
+    opened-nodes h = nodes-next t order i h (held w b r p) ∙ c .rest
 
-    pub walking-most : i < count → length (gatherSlots n (collected t n) (held w b r p) .kept) ≤ b
+    pub walking-most : i < length order → length (gatherSlots n (collected t n) (held w b r p) .kept) ≤ b
     walking-most h =
-        let a = nodes-grow t (drop (i + 1) (take count order)) (gatherSlots n (collected t n) (held w b r p)) in
+        let a = nodes-grow t (drop (i + 1) order) (gatherSlots n (collected t n) (held w b r p)) in
         let e = ap (λ (u : Gathered). length (u .kept)) (opened-nodes h) in
         omega (arith, a, e, most)
 
-    pub walking-step : i < count → (w′ r′ : Words) (p′ : Tally) → held w′ b r′ p′ ≡ gatherSlots n (collected t n) (held w b r p) → Standing w′ b p′ → Kept r p r′ p′ 12
+    pub walking-step : i < length order → (w′ r′ : Words) (p′ : Tally) → held w′ b r′ p′ ≡ gatherSlots n (collected t n) (held w b r p) → Standing w′ b p′ → Kept r p r′ p′ 12
         → length w′ ≡ length w → length r′ ≡ length r → Walking w′ r′ p′ (i + 1)
     walking-step h w′ r′ p′ e s k u v =
         let m : 12 * i + 12 ≡ 12 * (i + 1) = omega arith in
         record {
           few = omega arith;
-          rest = ap (gatherNodes t (drop (i + 1) (take count order))) e ∙ opened-nodes h;
+          rest = ap (gatherNodes t (drop (i + 1) order)) e ∙ opened-nodes h;
           kept = subst (λ (y : ℕ). Kept r₀ none r′ p′ y) m (kept-then r₀ r r′ none p p′ (12 * i) 12 (c .kept) k);
           standing = s;
           words = u ∙ c .words;
           report = v ∙ c .report;
         }
 
-    pub walking-end : count ≤ i → (held w b r p ≡ gathered t) × (Standing w b p × Kept r₀ none r p (12 * count))
+    pub walking-end : length order ≤ i → (held w b r p ≡ gatheredAlong t order) × (Standing w b p × Kept r₀ none r p (12 * length order))
     walking-end h =
         let f = c .few in
-        let e : i ≡ count = omega arith in
-        (sym (nodes-last t order count i h (held w b r p)) ∙ c .rest, (c .standing, subst (λ (y : ℕ). Kept r₀ none r p (12 * y)) e (c .kept)))
+        let e : i ≡ length order = omega arith in
+        (sym (nodes-last t order i h (held w b r p)) ∙ c .rest, (c .standing, subst (λ (y : ℕ). Kept r₀ none r p (12 * y)) e (c .kept)))
 
 -- ---- the whole
 
-module _ (t order : Words) (count : ℕ) (words : Words) (b : ℕ) (report : Words) (ready : Ready t order count words b report) where
+module _ (t order words : Words) (b : ℕ) (report : Words) (ready : Ready t order words b report) where
   cleared-long : (w : Words) → w ≡ take (2 * b) words ++ replicate (length words - 2 * b) 0 → length w ≡ length words
   cleared-long w e =
       let c = ready .cells in

@@ -9,7 +9,7 @@ use Rattle.model.specs.Table.{Words, at}
 use Rattle.model.specs.Slots.{Slot, slot}
 use Rattle.model.specs.SoundTest.{rising}
 use Rattle.model.specs.Refusals.{hasRecording}
-use Rattle.model.specs.Salvage.{Placed, underFence, entered, Drop, Gathered, gathered}
+use Rattle.model.specs.Salvage.{Placed, underFence, Drop, Gathered, gatheredAlong}
 use Rattle.numbers.specs.Filed.{Filed}
 use Rattle.pack.specs.Rows.{pairsIn}
 use Rattle.gap.specs.Around.{around}
@@ -74,16 +74,14 @@ met t s b i k p = cond (eqb p b) [] (cond (underFence t s k) (placed i k p ∷ [
 abbrev pub none : Tally
 none = record { kept = 0; at = 0; dropped = 0 }
 
--- these nodes are those entered, and the report has room for all their slots
-pub record Along (t order : Words) (count : ℕ) (report : Words) : Type 0 where
-  pub nodes : take count order ≡ entered t
-  pub enough : count ≤ length order
-  pub few : count ≤ 65535
-  pub drops : 36 * count ≤ length report
+-- the report has room for all slots of these nodes
+pub record Along (order report : Words) : Type 0 where
+  pub few : length order ≤ 65535
+  pub drops : 36 * length order ≤ length report
 
 -- the words have room for the pairs kept, and a cell more
-pub record Ready (t order : Words) (count : ℕ) (words : Words) (b : ℕ) (report : Words) : Type 0 where
-  pub along : Along t order count report
+pub record Ready (t order words : Words) (b : ℕ) (report : Words) : Type 0 where
+  pub along : Along order report
   pub cells : 2 * b < length words
   pub small : b < 16777216
-  pub most : length (gathered t .kept) ≤ b
+  pub most : length (gatheredAlong t order .kept) ≤ b

@@ -1,4 +1,4 @@
-// What a salvage gathers along the nodes entered: pairs kept, in the order of their keys, and slots dropped, in the order met, as node,
+// What a salvage gathers along nodes entered: pairs kept, in the order of their keys, and slots dropped, in the order met, as node,
 // slot and reason in the report. The pairs stand around a gap in the first words of a slice of nodes, two words for each that there may be;
 // the words after these are the cells of a set of their recordings.
 use model::Node;
@@ -13,7 +13,7 @@ ghost use lib.Seq.{sets};
 ghost use Rattle.model.specs.Table.{nodes};
 ghost use Rattle.model.specs.Slots.{slot, slotsOf, recordingOf};
 ghost use Rattle.model.specs.Refusals.{hasRecording};
-ghost use Rattle.model.specs.Salvage.{reasonFor, gatherSlot, gatherSlots, collected, gathered};
+ghost use Rattle.model.specs.Salvage.{reasonFor, gatherSlot, gatherSlots, collected, gatheredAlong};
 ghost use Rattle.gap.specs.Around.{Under, Over};
 ghost use Rattle.gather.specs.Held.{placed, pairsOf, held, gatheredIn, met, Standing, Filing, Room, Kept, none, Along, Ready};
 
@@ -227,20 +227,20 @@ fn gather_node(
     p
 }
 
-// The slots of the leaves among the nodes entered, so many, in order.
+// The slots of the leaves among these nodes, in order.
 fn gather_nodes(
     table: &[u64],
     top: u64,
     order: &[u16],
-    count: usize,
     words: &mut [u64],
     bound: usize,
     report: &mut [u64],
 ) -> Tally
-    requires { ⌜ (top ≡ nodes (now table)) × Along (now table) (now order) count (now report) × Standing (now words) bound none
-        × (length (gathered (now table) .kept) ≤ bound) ⌝ }
-    ensures { λ r. ⌜ held (now (words .exit)) bound (now (report .exit)) r ≡ gathered (now (table .entry)) ⌝ }
-    ensures { λ r. ⌜ Standing (now (words .exit)) bound r × Kept (now (report .entry)) none (now (report .exit)) r (12 * count) ⌝ }
+    requires { ⌜ (top ≡ nodes (now table)) × Along (now order) (now report) × Standing (now words) bound none
+        × (length (gatheredAlong (now table) (now order) .kept) ≤ bound) ⌝ }
+    ensures { λ r. ⌜ held (now (words .exit)) bound (now (report .exit)) r ≡ gatheredAlong (now (table .entry)) (now (order .entry)) ⌝ }
+    ensures { λ r. ⌜ Standing (now (words .exit)) bound r
+        × Kept (now (report .entry)) none (now (report .exit)) r (12 * length (now (order .entry))) ⌝ }
 {
     let mut p = Tally {
         kept: 0,
@@ -248,31 +248,29 @@ fn gather_nodes(
         dropped: 0,
     };
     let mut i = 0;
-    while i < count {
+    while i < order.len() {
         p = gather_node(table, top, words, bound, report, p, order[i] as u64);
         i += 1;
     }
     p
 }
 
-// What is gathered along the nodes entered, so many, where at most so many pairs are kept: the pairs in the first words, the dropped slots
-// in the report.
+// What is gathered along these nodes, where at most so many pairs are kept: the pairs in the first words, the dropped slots in the report.
 pub fn gather(
     table: &[u64],
     top: u64,
     order: &[u16],
-    count: usize,
     words: &mut [u64],
     bound: usize,
     report: &mut [u64],
 ) -> Tally
-    requires { ⌜ (top ≡ nodes (now table)) × Ready (now table) (now order) count (now words) bound (now report) ⌝ }
-    ensures { λ r. ⌜ gatheredIn (now (words .exit)) (now (report .exit)) r ≡ gathered (now (table .entry)) ⌝ }
-    ensures { λ r. ⌜ Kept (now (report .entry)) none (now (report .exit)) r (12 * count) ⌝ }
+    requires { ⌜ (top ≡ nodes (now table)) × Ready (now table) (now order) (now words) bound (now report) ⌝ }
+    ensures { λ r. ⌜ gatheredIn (now (words .exit)) (now (report .exit)) r ≡ gatheredAlong (now (table .entry)) (now (order .entry)) ⌝ }
+    ensures { λ r. ⌜ (r .kept ≤ bound) × Kept (now (report .entry)) none (now (report .exit)) r (12 * length (now (order .entry))) ⌝ }
 {
     let end = 2 * bound;
     pack::clear(words, end);
-    let t = gather_nodes(table, top, order, count, words, bound, report);
+    let t = gather_nodes(table, top, order, words, bound, report);
     let kept = t.kept;
     gap::close(&mut words[..end], kept, t.at);
     t

@@ -1,5 +1,5 @@
 -- The tests of an insertion from 6 on, one by one.
-use mathlib.Core.Path.{_≡_, refl, ap, sym, _∙_}
+use mathlib.Core.Path.{_≡_, ap, sym, _∙_}
 use mathlib.Core.Bool.{Bool, true, false, cond, not, _&&_}
 use Prim.Native.Nat.{ℕ, _+_}
 use native.Mathlib.Omega.{arith}
@@ -7,10 +7,10 @@ use native.Mathlib.Nat.{add-zero}
 use lib.Dec.{eqb, leb, ltb}
 use lib.ListN.{length}
 use borrow.Author.Tests.{leb-true, le-leb, ltb-true, lt-ltb}
-use Rattle.model.specs.Table.{Words, root}
-use Rattle.model.specs.Slots.{nodeView, view, height}
-use Rattle.model.specs.Reached.{mapOf}
-use Rattle.model.specs.SoundTest.{sound}
+use Rattle.model.specs.Table.{Words, at, rootWord}
+use Rattle.model.specs.Slots.{View, viewFrom, height}
+use Rattle.model.specs.Reached.{mapping}
+use Rattle.model.specs.SoundTest.{soundView}
 use Rattle.model.specs.Writes.{unreachable, insertion}
 use Rattle.model.specs.Refusals.{firstNumber, hasRecording, mapTests}
 use Rattle.list_laws.proofs.Tools.{same-test}
@@ -25,23 +25,23 @@ use Rattle.insert.specs.Tests.{highRun, fewFor, numberFor}
 
 -- ---- 8
 
-module _ (t : Words) (r : ℕ) (s : sound t ≡ true) (h : Hit) (e : h ≡ hitIn (view t) r) where
-  answered : isHit h ≡ hasRecording r (mapOf t)
-  answered = ap isHit e ∙ found-recording t r s
+module _ (v : View) (r : ℕ) (s : soundView v ≡ true) (h : Hit) (e : h ≡ hitIn v r) where
+  answered : isHit h ≡ hasRecording r (mapping v)
+  answered = ap isHit e ∙ found-recording v r s
 
-  pub recording-at : (n i : ℕ) → h ≡ At n i → true ≡ hasRecording r (mapOf t)
+  pub recording-at : (n i : ℕ) → h ≡ At n i → true ≡ hasRecording r (mapping v)
   recording-at n i q = sym (ap isHit q) ∙ answered
 
-  pub recording-nowhere : h ≡ Nowhere → false ≡ hasRecording r (mapOf t)
+  pub recording-nowhere : h ≡ Nowhere → false ≡ hasRecording r (mapping v)
   recording-nowhere q = sym (ap isHit q) ∙ answered
 
 -- ---- 11 and 10
 
-pub not-whole : (t : Words) (run : Run) → run .root ≡ false → false ≡ highRun t run
-not-whole t run e = sym (ap (λ (b : Bool). b && eqb (height (view t)) 15) e)
+pub not-whole : (v : View) (run : Run) → run .root ≡ false → false ≡ highRun v run
+not-whole v run e = sym (ap (λ (b : Bool). b && eqb (height v) 15) e)
 
-pub root-level : (t : Words) (run : Run) (r w : ℕ) → run .root ≡ true → r ≡ root t → w ≡ wordOf t r 2 → eqb w 15 ≡ highRun t run
-root-level t run r w e h q = ap (λ (l : ℕ). eqb l 15) (q ∙ word-level t r ∙ ap (λ (m : ℕ). nodeView t m .level) h) ∙ sym (ap (λ (b : Bool). b && eqb (height (view t)) 15) e)
+pub root-level : (t : Words) (o : ℕ) (run : Run) (w : ℕ) → run .root ≡ true → w ≡ wordOf t o 2 → eqb w 15 ≡ highRun (viewFrom t o) run
+root-level t o run w e q = ap (λ (l : ℕ). eqb l 15) (q ∙ word-level t o) ∙ sym (ap (λ (b : Bool). b && eqb (height (viewFrom t o)) 15) e)
 
 -- with a new root, one more is needed
 pub few-whole : (free n : ℕ) (b : Bool) → b ≡ true → leb free n ≡ ltb free (n + cond b 1 0)
@@ -58,10 +58,11 @@ test-holds b n rest e = rw e
 pub test-passed : (b : Bool) (n rest : ℕ) → b ≡ false → cond b n rest ≡ rest
 test-passed b n rest e = rw e
 
--- all of them
-pub number-first : (t : Words) (k r c : ℕ) (run : Run) → numberFor t k r c run ≡ firstNumber (mapTests (insertion k r c) (highRun t run) (fewFor (length (unreachable t)) run) (mapOf t))
+-- all of them, by the root that was read
+pub number-first : (n : ℕ) (t : Words) (k r c : ℕ) (run : Run) (root : ℕ) → root ≡ at t (rootWord n)
+    → numberFor n t k r c run ≡ firstNumber (mapTests (insertion n k r c) (highRun (viewFrom t root) run) (fewFor (length (unreachable t)) run) (mapping (viewFrom t root)))
 unfolding numberFor
-number-first t k r c run = refl
+number-first n t k r c run root e = rw e
 
 -- a negated test
 pub test-not : (a b : Bool) (n rest : ℕ) → a ≡ b → not a ≡ true → n ≡ cond (not b) n rest

@@ -4,7 +4,7 @@ use Prim.Native.Nat.{ℕ, _+_}
 use lib.Dec.{eqb, ltb}
 use lib.ListN.{length}
 use Rattle.model.specs.Table.{Words}
-use Rattle.model.specs.Slots.{view, height}
+use Rattle.model.specs.Slots.{View, viewOf, height}
 use Rattle.model.specs.Reached.{mapOf}
 use Rattle.model.specs.SoundTest.{Leftover, nothing, hiddenIn, missingIn, bothIn}
 use Rattle.model.specs.Writes.{unreachable, run, rootInRun, insertion}
@@ -18,17 +18,17 @@ parentOf (hiddenIn x) = 0
 parentOf (missingIn p a trailing) = p
 parentOf (bothIn p a) = p
 
--- the run for key k
-abbrev pub runOf : Words → (k : ℕ) → Run
-runOf t k = record { length = run t k; root = rootInRun t k }
+-- the run for key k in collection n
+abbrev pub runOf : (n : ℕ) → Words → (k : ℕ) → Run
+runOf n t k = record { length = run n t k; root = rootInRun n t k }
 
 -- 11 and 10 for a run
-abbrev pub highRun : Words → Run → Bool
-highRun t run = run .root && eqb (height (view t)) 15
+abbrev pub highRun : View → Run → Bool
+highRun v run = run .root && eqb (height v) 15
 
 abbrev pub fewFor : (free : ℕ) → Run → Bool
 fewFor free run = ltb free (run .length + cond (run .root) 1 0)
 
 -- the number of the first test from 6 on that holds; 0 where none does
-unfoldable pub numberFor : Words → (k r c : ℕ) → Run → ℕ
-numberFor t k r c run = firstNumber (mapTests (insertion k r c) (highRun t run) (fewFor (length (unreachable t)) run) (mapOf t))
+unfoldable pub numberFor : (n : ℕ) → Words → (k r c : ℕ) → Run → ℕ
+numberFor n t k r c run = firstNumber (mapTests (insertion n k r c) (highRun (viewOf n t) run) (fewFor (length (unreachable t)) run) (mapOf n t))

@@ -1,20 +1,20 @@
--- The slots of a node marked one by one, and of all nodes entered.
+-- The slots of a node marked one by one, and of all these nodes.
 use mathlib.Core.Path.{_≡_, refl, ap, sym, subst, _∙_}
 use mathlib.Core.Logic.{_≢_}
 use mathlib.Core.List.{List, []}
 use Prim.Native.Nat.{ℕ, suc, _+_, _-_, _*_, _/_, _%_, _≤_, _<_}
 use native.Mathlib.Omega.{arith}
-use lib.ListN.{length, getD, take, drop, replicate, length-replicate}
+use lib.ListN.{length, getD, drop, replicate, length-replicate}
 use Rattle.model.specs.declared.Node.{Node}
 use Rattle.model.specs.Table.{Words, node}
 use Rattle.model.specs.Slots.{Slot, slot}
-use Rattle.model.specs.Salvage.{Placed, Gathered, gatherSlots, collected, gatherNodes, gathered}
+use Rattle.model.specs.Salvage.{Placed, Gathered, gatherSlots, collected, gatherNodes, gatheredAlong}
 use Rattle.tour_laws.specs.Walk.{before, slotsFrom}
 use Rattle.tour_laws.proofs.Ways.{slots-past}
 use Rattle.bits.proofs.Marks.{none-marked}
 use Rattle.gather.specs.Held.{met}
 use Rattle.gather.proofs.Leaves.{leaf-step, leaf-stop, before-next, before-first, leaf-start, leaf-not, slots-append, nodes-next, nodes-last}
-use Rattle.keeping.specs.Marks.{slotOf, markedTo, Matches, Unmarked, Marked, NodeMarked, Ready}
+use Rattle.keeping.specs.Marks.{slotOf, markedTo, Matches, Unmarked, Marked, NodeMarked}
 use Rattle.keeping.proofs.Marks.{marked-far}
 
 -- slot i of the node entered at place j
@@ -112,32 +112,32 @@ module _ (t order : Words) (j : ℕ) (x : Node) (q : x ≡ node t (getD order j 
 
 -- ---- along the nodes
 
-module _ (t order : Words) (count : ℕ) (ready : Ready t order count) where
+module _ (t order : Words) where
   pub record Counting (ms : Words) (kept j : ℕ) : Type 0 where
-    pub few : j ≤ count
+    pub few : j ≤ length order
     pub most : kept ≤ 12 * j
     pub long : length ms ≡ 12288
     pub clear : Unmarked ms (12 * j)
     pub sofar : Gathered
-    pub rest : gatherNodes t (drop j (take count order)) sofar ≡ gathered t
+    pub rest : gatherNodes t (drop j order) sofar ≡ gatheredAlong t order
     pub matches : Matches (sofar .kept) (markedTo t order ms (12 * j))
     pub count-is : kept ≡ length (sofar .kept)
 
   pub counting-start : Counting (replicate 12288 0) 0 0
-  unfolding gathered
+  unfolding gatheredAlong
   counting-start = record {
     few = omega arith;
     most = omega arith;
     long = length-replicate {A = ℕ} 12288 0;
     clear = λ y h. none-marked 12288 y;
     sofar = record { kept = []; dropped = [] };
-    rest = ap (λ (ns : List ℕ). gatherNodes t ns (record { kept = []; dropped = [] })) (ready .nodes);
+    rest = refl;
     matches = unfold markedTo in record { keys = λ k. refl; recordings = λ r. refl };
     count-is = refl;
   }
 
   module _ (ms : Words) (kept j : ℕ) (c : Counting ms kept j) where
-    pub counting-step : j < count → (ms′ : Words) (r : ℕ) → NodeMarked t order ms ms′ j r → Counting ms′ (kept + r) (j + 1)
+    pub counting-step : j < length order → (ms′ : Words) (r : ℕ) → NodeMarked t order ms ms′ j r → Counting ms′ (kept + r) (j + 1)
     counting-step h ms′ r m =
         let n = getD order j 0 in
         let g = m .goes (c .clear) (c .sofar) (c .matches) in
@@ -147,13 +147,13 @@ module _ (t order : Words) (count : ℕ) (ready : Ready t order count) where
           long = m .long ∙ c .long;
           clear = m .beyond (c .clear);
           sofar = gatherSlots n (collected t n) (c .sofar);
-          rest = nodes-next t order count (let a = ready .long in let b = ready .few in omega arith) j h (c .sofar) ∙ c .rest;
+          rest = nodes-next t order j h (c .sofar) ∙ c .rest;
           matches = g .0;
           count-is = let a = g .1 in let b = c .count-is in omega arith;
         }
 
-    pub counting-end : count ≤ j → (kept ≡ length (gathered t .kept)) × (kept ≤ 12 * count)
+    pub counting-end : length order ≤ j → (kept ≡ length (gatheredAlong t order .kept)) × (kept ≤ 12 * length order)
     counting-end h =
         let f = c .few in
-        let same : c .sofar ≡ gathered t = sym (nodes-last t order count j h (c .sofar)) ∙ c .rest in
+        let same : c .sofar ≡ gatheredAlong t order = sym (nodes-last t order j h (c .sofar)) ∙ c .rest in
         (c .count-is ∙ ap (λ (g : Gathered). length (g .kept)) same, let a = c .most in omega arith)

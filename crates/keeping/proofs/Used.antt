@@ -4,18 +4,17 @@ use mathlib.Core.Logic.{_≢_}
 use mathlib.Core.List.{List, [], _∷_}
 use Prim.Native.Nat.{ℕ, zero, suc, _+_, _*_, _≤_, _<_}
 use native.Mathlib.Omega.{arith}
-use lib.ListN.{length, getD, take, drop}
+use lib.ListN.{length, getD, drop}
 use Rattle.model.specs.declared.Node.{Node}
 use Rattle.model.specs.Table.{Words, node}
 use Rattle.model.specs.Slots.{nodeView, used}
-use Rattle.model.specs.Salvage.{Placed, shownAt, inReach, followed, Gathered, reasonFor, gatherSlot, gatherSlots, collected, gatherNodes, gathered}
+use Rattle.model.specs.Salvage.{Placed, shownAt, inReach, followed, Gathered, reasonFor, gatherSlot, gatherSlots, collected, gatherNodes, gatheredAlong}
 use Rattle.list_laws.proofs.Filters.{filter-short}
 use Rattle.tour_laws.proofs.Ends.{shown-short}
 use Rattle.tour_laws.proofs.Gathering.{slot-kept, slot-dropped, collected-leaf, collected-inner}
 use Rattle.slots.specs.Scan.{inUseOf}
 use Rattle.gather.proofs.Pairs.{enter-length}
 use Rattle.gather.proofs.Leaves.{nodes-next, nodes-last}
-use Rattle.keeping.specs.Marks.{Ready}
 
 -- ---- one node
 
@@ -48,41 +47,41 @@ slots-few n (x ∷ xs) g = let a = slot-few n g x in let b = slots-few n xs (gat
 
 -- ---- along the nodes
 
-module _ (t order : Words) (count : ℕ) (ready : Ready t order count) where
+module _ (t order : Words) where
   -- the nodes before place j were counted
   pub record Using (total j : ℕ) : Type 0 where
-    pub few : j ≤ count
+    pub few : j ≤ length order
     pub most : total ≤ 12 * j
     pub sofar : Gathered
-    pub rest : gatherNodes t (drop j (take count order)) sofar ≡ gathered t
+    pub rest : gatherNodes t (drop j order) sofar ≡ gatheredAlong t order
     pub enough : length (sofar .kept) ≤ total
 
   pub using-start : Using 0 0
-  unfolding gathered
+  unfolding gatheredAlong
   using-start = record {
     few = omega arith;
     most = omega arith;
     sofar = record { kept = []; dropped = [] };
-    rest = ap (λ (ns : List ℕ). gatherNodes t ns (record { kept = []; dropped = [] })) (ready .nodes);
+    rest = refl;
     enough = omega arith;
   }
 
   module _ (total j : ℕ) (c : Using total j) where
-    pub using-step : j < count → (r : ℕ) → (length (collected t (getD order j 0)) ≤ r) × (r ≤ 12) → Using (total + r) (j + 1)
+    pub using-step : j < length order → (r : ℕ) → (length (collected t (getD order j 0)) ≤ r) × (r ≤ 12) → Using (total + r) (j + 1)
     using-step h r m = record {
       few = omega arith;
       most = let a = c .most in let b = m .1 in omega arith;
       sofar = gatherSlots n (collected t n) (c .sofar);
-      rest = nodes-next t order count (let a = ready .long in let b = ready .few in omega arith) j h (c .sofar) ∙ c .rest;
+      rest = nodes-next t order j h (c .sofar) ∙ c .rest;
       enough = let a = c .enough in let b = slots-few n (collected t n) (c .sofar) in let d = m .0 in omega arith;
     }
       where
         n : ℕ
         n = getD order j 0
 
-    pub using-end : count ≤ j → (length (gathered t .kept) ≤ total) × (total ≤ 12 * count)
+    pub using-end : length order ≤ j → (length (gatheredAlong t order .kept) ≤ total) × (total ≤ 12 * length order)
     using-end h =
         let f = c .few in
-        let same = sym (nodes-last t order count j h (c .sofar)) ∙ c .rest in
+        let same = sym (nodes-last t order j h (c .sofar)) ∙ c .rest in
         let a = ap (λ (g : Gathered). length (g .kept)) same in
         (let b = c .enough in omega arith, let m = c .most in omega arith)

@@ -3,11 +3,11 @@ use mathlib.Core.Path.{_≡_}
 use mathlib.Core.Bool.{false, cond}
 use mathlib.Core.List.{List, [], _∷_}
 use Prim.Native.Nat.{ℕ, zero, suc, _+_, _*_, _/_, _%_, _≤_}
-use lib.ListN.{length, getD, take}
+use lib.ListN.{length, getD}
 use Rattle.model.specs.Table.{Words, node}
 use Rattle.model.specs.Slots.{Slot, slot}
 use Rattle.model.specs.Refusals.{hasKey, hasRecording}
-use Rattle.model.specs.Salvage.{Placed, Gathered, gatherSlots, collected, entered}
+use Rattle.model.specs.Salvage.{Placed, Gathered, gatherSlots, collected}
 use Rattle.bits.specs.Bits.{has}
 use Rattle.keeping.specs.declared.Pair.{Pair}
 
@@ -51,9 +51,3 @@ pub record NodeMarked (t order marks after : Words) (j d : ℕ) : Type 0 where
   pub few : d ≤ 12
   pub beyond : Unmarked marks (12 * j) → Unmarked after (12 * (j + 1))
   pub goes : Unmarked marks (12 * j) → let n = getD order j 0 in Goes t order marks after (12 * j) (12 * (j + 1)) n (collected t n) d
-
--- these nodes are those entered
-pub record Ready (t order : Words) (count : ℕ) : Type 0 where
-  pub nodes : take count order ≡ entered t
-  pub long : length order ≡ 65536
-  pub few : count ≤ 65535

@@ -9,9 +9,9 @@ ghost use lib.ListN.{length};
 ghost use Rattle.model.specs.Table.{nodes};
 ghost use Rattle.model.specs.Slots.{slot};
 ghost use Rattle.model.specs.Refusals.{hasKey, hasRecording};
-ghost use Rattle.model.specs.Salvage.{reasonFor, collected, gathered};
+ghost use Rattle.model.specs.Salvage.{reasonFor, collected, gatheredAlong};
 ghost use Rattle.gather.specs.Held.{met};
-ghost use Rattle.keeping.specs.Marks.{slotOf, pairOf, markedTo, Marked, NodeMarked, Ready};
+ghost use Rattle.keeping.specs.Marks.{slotOf, pairOf, markedTo, Marked, NodeMarked};
 
 // ---- slots in use
 
@@ -27,14 +27,14 @@ fn used_slots(table: &[u64], n: u64) -> usize
     slots::count(slots)
 }
 
-// How many slots are in use in the leaves among the nodes entered, so many: no fewer than the pairs kept.
-pub fn count_used(table: &[u64], order: &[u16], count: usize) -> usize
-    requires { ⌜ Ready (now table) (now order) count ⌝ }
-    ensures { λ r. ⌜ (length (gathered (now (table .entry)) .kept) ≤ r) × (r ≤ 12 * count) ⌝ }
+// How many slots are in use in the leaves among these nodes: no fewer than the pairs kept.
+pub fn count_used(table: &[u64], order: &[u16]) -> usize
+    requires { ⌜ length (now order) ≤ 65535 ⌝ }
+    ensures { λ r. ⌜ (length (gatheredAlong (now (table .entry)) (now (order .entry)) .kept) ≤ r) × (r ≤ 12 * length (now (order .entry))) ⌝ }
 {
     let mut used = 0;
     let mut j = 0;
-    while j < count {
+    while j < order.len() {
         used += used_slots(table, order[j] as u64);
         j += 1;
     }
@@ -51,7 +51,7 @@ struct Pair {
 
 // Slot x of the nodes entered, 12 to a node.
 fn slot_of(table: &[u64], order: &[u16], x: usize) -> Pair
-    requires { ⌜ (x < 786420) × (length (now order) ≡ 65536) ⌝ }
+    requires { ⌜ (x < 12 * length (now order)) × (length (now order) ≤ 65535) ⌝ }
     ensures { λ r. ⌜ pairOf r ≡ slotOf (now (table .entry)) (now (order .entry)) x ⌝ }
 {
     let n = node::read(table, order[x / 12] as u64);
@@ -73,7 +73,7 @@ fn clashes(
     key: u64,
     recording: u64,
 ) -> bool
-    requires { ⌜ (end ≤ 786420) × (length (now order) ≡ 65536) × (length (now marks) ≡ 12288) ⌝ }
+    requires { ⌜ (end ≤ 12 * length (now order)) × (length (now order) ≤ 65535) × (length (now marks) ≡ 12288) ⌝ }
     ensures { λ r. ⌜ r ≡ (hasKey key (markedTo (now (table .entry)) (now (order .entry)) (now (marks .entry)) end)
         || hasRecording recording (markedTo (now (table .entry)) (now (order .entry)) (now (marks .entry)) end)) ⌝ }
 {
@@ -95,7 +95,7 @@ fn clashes(
 
 // Whether no reason holds against a pair.
 fn keeps(table: &[u64], order: &[u16], marks: &[u64], end: usize, key: u64, pointer: u64) -> bool
-    requires { ⌜ (end ≤ 786420) × (length (now order) ≡ 65536) × (length (now marks) ≡ 12288) ⌝ }
+    requires { ⌜ (end ≤ 12 * length (now order)) × (length (now order) ≤ 65535) × (length (now marks) ≡ 12288) ⌝ }
     ensures { λ r. ⌜ r ≡ eqb (reasonFor (markedTo (now (table .entry)) (now (order .entry)) (now (marks .entry)) end) (slot key pointer)) 0 ⌝ }
 {
     if !pointer::ok(pointer) {
@@ -117,7 +117,7 @@ fn mark_slot(
     key: u64,
     pointer: u64,
 ) -> usize
-    requires { ⌜ (top ≡ nodes (now table)) × (j < 65535) × (i < 12) × (length (now order) ≡ 65536) × (length (now marks) ≡ 12288) ⌝ }
+    requires { ⌜ (top ≡ nodes (now table)) × (j < length (now order)) × (i < 12) × (length (now order) ≤ 65535) × (length (now marks) ≡ 12288) ⌝ }
     ensures { λ r. ⌜ Marked (now (table .entry)) (now (order .entry)) (now (marks .entry)) (now (marks .exit)) (12 * j + i) key pointer
         (met (now (table .entry)) sibling before i key pointer) r ⌝ }
 {
@@ -136,7 +136,7 @@ fn mark_slot(
 
 // The slots of the node entered at place j, if it is a leaf; the answer is how many are kept.
 fn mark_node(table: &[u64], top: u64, order: &[u16], marks: &mut [u64], j: usize) -> usize
-    requires { ⌜ (top ≡ nodes (now table)) × (j < 65535) × (length (now order) ≡ 65536) × (length (now marks) ≡ 12288) ⌝ }
+    requires { ⌜ (top ≡ nodes (now table)) × (j < length (now order)) × (length (now order) ≤ 65535) × (length (now marks) ≡ 12288) ⌝ }
     ensures { λ r. ⌜ NodeMarked (now (table .entry)) (now (order .entry)) (now (marks .entry)) (now (marks .exit)) j r ⌝ }
 {
     let n = order[j] as u64;
@@ -171,15 +171,15 @@ fn mark_node(table: &[u64], top: u64, order: &[u16], marks: &mut [u64], j: usize
     kept
 }
 
-// How many pairs are kept along the nodes entered, so many.
-pub fn count_kept(table: &[u64], top: u64, order: &[u16], count: usize) -> usize
-    requires { ⌜ (top ≡ nodes (now table)) × Ready (now table) (now order) count ⌝ }
-    ensures { λ r. ⌜ (r ≡ length (gathered (now (table .entry)) .kept)) × (r ≤ 12 * count) ⌝ }
+// How many pairs are kept along these nodes.
+pub fn count_kept(table: &[u64], top: u64, order: &[u16]) -> usize
+    requires { ⌜ (top ≡ nodes (now table)) × (length (now order) ≤ 65535) ⌝ }
+    ensures { λ r. ⌜ (r ≡ length (gatheredAlong (now (table .entry)) (now (order .entry)) .kept)) × (r ≤ 12 * length (now (order .entry))) ⌝ }
 {
     let mut marks = [0u64; 12288];
     let mut kept = 0;
     let mut j = 0;
-    while j < count {
+    while j < order.len() {
         kept += mark_node(table, top, order, &mut marks, j);
         j += 1;
     }

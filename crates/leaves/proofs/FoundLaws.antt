@@ -1,26 +1,23 @@
 -- The finder finds a number exactly if it is there.
 use mathlib.Core.Path.{_≡_, refl, ap, sym, _∙_}
-use mathlib.Core.Bool.{Bool, true, false, _||_, or-assoc}
+use mathlib.Core.Bool.{Bool, true, false, _||_}
 use mathlib.Core.List.{List, [], _∷_, _++_, map}
 use Prim.Native.Nat.{ℕ, suc}
 use lib.Dec.{eqb}
-use Rattle.model.specs.Table.{Words, nodes}
-use Rattle.model.specs.Slots.{Slot, recording, View, view}
-use Rattle.model.specs.Reached.{flat, kept, mapping, mapOf}
-use Rattle.model.specs.SoundTest.{elem, sound}
+use Rattle.model.specs.Table.{Words, at, nodes}
+use Rattle.model.specs.Slots.{Slot, recording, View, viewFrom, view}
+use Rattle.model.specs.Search.{below}
+use Rattle.model.specs.Reached.{flat, kept, mapping}
+use Rattle.model.specs.SoundTest.{elem, soundView}
 use Rattle.model.specs.Refusals.{hasRecording}
 use Rattle.list_laws.proofs.Tools.{eqb-sym}
-use Rattle.tree_laws.proofs.Levels.{sound-parts}
+use Rattle.list_laws.proofs.Members.{elem-join}
 use Rattle.walk_laws.specs.Chain.{along, firstLeaf, chain}
 use Rattle.walk_laws.proofs.WalkLaw.{InOrder, sound-in-order}
 use Rattle.walk_laws.proofs.ChainLaw.{chain-leaves}
+use Rattle.walk_laws.proofs.AnyRoot.{any-along}
 use Rattle.leaves.specs.declared.Hit.{Hit}
 use Rattle.leaves.specs.Hits.{recordings, hitAmong, firstHit, hitAlong, hitIn, isHit}
-
-pub elem-append : (x : ℕ) (xs ys : List ℕ) → elem x (xs ++ ys) ≡ (elem x xs || elem x ys)
-unfolding elem
-elem-append x [] ys = refl
-elem-append x (y ∷ xs) ys = ap (λ (b : Bool). eqb x y || b) (elem-append x xs ys) ∙ sym (or-assoc (eqb x y) (elem x xs) (elem x ys))
 
 map-append : (ss ts : List Slot) → map recording (ss ++ ts) ≡ map recording ss ++ map recording ts
 map-append [] ts = refl
@@ -46,20 +43,26 @@ unfolding firstHit
 hit-elem v r [] = unfold recordings in unfold flat in unfold elem in refl
 hit-elem v r (n ∷ ns) =
     hit-among r n 0 (map recording (kept v n)) (firstHit v r ns) ∙ ap (λ (b : Bool). elem r (map recording (kept v n)) || b) (hit-elem v r ns)
-    ∙ sym (ap (elem r) (recordings-cons v n ns) ∙ elem-append r (map recording (kept v n)) (recordings v ns))
+    ∙ sym (ap (elem r) (recordings-cons v n ns) ∙ elem-join r (map recording (kept v n)) (recordings v ns))
 
 pub hit-is : (b : Bool) (h : Hit) (v : View) (c n r : ℕ) → h ≡ hitAlong v c n r → b ≡ isHit h → b ≡ elem r (recordings v (along v c n))
 hit-is b h v c n r e q = q ∙ ap isHit e ∙ hit-elem v r (along v c n)
 
 -- ---- the whole chain
 
-module _ (t : Words) (first n : ℕ) (e : first ≡ firstLeaf (view t)) (q : n ≡ nodes t) where
-  pub whole-is : along (view t) n first ≡ chain (view t)
-  unfolding chain
-  whole-is = ap (λ (c : ℕ). along (view t) c first) q ∙ ap (along (view t) (nodes t)) e
+pub whole-is : (v : View) (first n : ℕ) → first ≡ firstLeaf v → n ≡ v .nodes → along v n first ≡ chain v
+unfolding chain
+whole-is v first n e q = ap (λ (c : ℕ). along v c first) q ∙ ap (along v (v .nodes)) e
 
-pub hit-chain : (t : Words) (first n r : ℕ) (h : Hit) → first ≡ firstLeaf (view t) → n ≡ nodes t → h ≡ hitAlong (view t) n first r → h ≡ hitIn (view t) r
-hit-chain t first n r h e q i = i ∙ ap (firstHit (view t) r) (whole-is t first n e q)
+-- the leaves and what is in them do not depend on the root that the reading started from
+any-hit : (t : Words) (a b r : ℕ) (ns : List ℕ) → firstHit (viewFrom t a) r ns ≡ firstHit (viewFrom t b) r ns
+unfolding firstHit kept below
+any-hit t a b r ns = refl
+
+pub hit-chain : (t : Words) (root first n r : ℕ) (h : Hit) → first ≡ firstLeaf (viewFrom t root) → n ≡ nodes t → h ≡ hitAlong (view t) n first r → h ≡ hitIn (viewFrom t root) r
+hit-chain t root first n r h e q i =
+    let v = viewFrom t root in
+    i ∙ any-hit t (at t 1) root r (along (view t) n first) ∙ ap (firstHit v r) (any-along t (at t 1) root n first ∙ whole-is v first n e q)
 
 -- ---- on a table whose walk was not refused
 
@@ -80,5 +83,5 @@ elem-recording r (s ∷ ss) = ap (λ (b : Bool). b || elem r (map recording ss))
 hit-recording : (v : View) (r : ℕ) → InOrder v → isHit (hitIn v r) ≡ hasRecording r (mapping v)
 hit-recording v r o = hit-elem v r (chain v) ∙ ap (elem r) (recordings-mapping v o) ∙ elem-recording r (mapping v)
 
-pub found-recording : (t : Words) (r : ℕ) → sound t ≡ true → isHit (hitIn (view t) r) ≡ hasRecording r (mapOf t)
-found-recording t r h = hit-recording (view t) r (sound-in-order (view t) (sound-parts t .0 h .1))
+pub found-recording : (v : View) (r : ℕ) → soundView v ≡ true → isHit (hitIn v r) ≡ hasRecording r (mapping v)
+found-recording v r h = hit-recording v r (sound-in-order v h)

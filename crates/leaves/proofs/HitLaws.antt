@@ -9,14 +9,15 @@ use lib.Dec.{leb}
 use lib.ListN.{getD}
 use borrow.Author.Tests.{eq-eqb, ne-eqb, le-leb, lt-leb}
 use Rattle.model.specs.Table.{Words, root}
-use Rattle.model.specs.Slots.{recordingOf, recording, View, nodeView, view, height}
-use Rattle.model.specs.Reached.{kept}
+use Rattle.model.specs.Slots.{Slot, recordingOf, recording, View, nodeView, viewFrom, view, height}
+use Rattle.model.specs.Search.{below}
+use Rattle.model.specs.Reached.{pointers, kept, named}
 use Rattle.model.specs.SoundTest.{elem}
-use Rattle.view_laws.proofs.NodeViews.{levelOf}
+use Rattle.view_laws.proofs.AnyRoot.{any-kept}
 use Rattle.node.specs.Word.{wordOf}
 use Rattle.node.proofs.WordLaws.{word-left, word-sibling, word-level}
 use Rattle.walk_laws.specs.Walk.{ways}
-use Rattle.walk_laws.specs.Chain.{leftmost, along, firstLeaf}
+use Rattle.walk_laws.specs.Chain.{lastOr, leftmost, along, orSibling, lastChild, rightmost, firstLeaf, lastLeaf}
 use Rattle.walk_laws.proofs.ChainLaw.{along-none, along-more}
 use Rattle.leaves.specs.declared.Hit.{Hit}
 use Rattle.leaves.specs.declared.Hit.the-variants.{At, Nowhere}
@@ -48,17 +49,18 @@ pub ways-numbers : (w : Ways) (i : ℕ) → recordingsFrom w i ≡ numbersFrom (
 unfolding waysFrom
 ways-numbers w i = span-numbers (w .keys) (w .pointers) i (w .count - i)
 
--- the ways of a leaf but the first are its slots of the map
-pub kept-ways : (v : View) (n : ℕ) (w : Ways) → slotsIn w ≡ ways v n → waysFrom w 1 ≡ kept v n
-unfolding waysFrom span
-kept-ways v n w e = go (w .count) e
-  where
-    go : (c : ℕ) → span (w .keys) (w .pointers) 0 c ≡ ways v n → span (w .keys) (w .pointers) 1 (c - 1) ≡ kept v n
-    go zero q = ap tail q
-    go (suc c) q = let z : suc c - 1 ≡ c = omega arith in ap (span (w .keys) (w .pointers) 1) z ∙ ap tail q
+-- the ways of a leaf but the first are its slots of the map, in any tree
+module _ (t : Words) (r n : ℕ) (w : Ways) (is : slotsIn w ≡ ways (view t) n) where
+  pub kept-ways : waysFrom w 1 ≡ kept (viewFrom t r) n
+  unfolding waysFrom span
+  kept-ways = go (w .count) is ∙ any-kept t (root t) r n
+    where
+      go : (c : ℕ) → span (w .keys) (w .pointers) 0 c ≡ ways (view t) n → span (w .keys) (w .pointers) 1 (c - 1) ≡ kept (view t) n
+      go zero q = ap tail q
+      go (suc c) q = let z : suc c - 1 ≡ c = omega arith in ap (span (w .keys) (w .pointers) 1) z ∙ ap tail q
 
-pub kept-numbers : (v : View) (n : ℕ) (w : Ways) → slotsIn w ≡ ways v n → numbersFrom (w .pointers) 1 (w .count - 1) ≡ map recording (kept v n)
-kept-numbers v n w e = sym (ways-numbers w 1) ∙ ap (map recording) (kept-ways v n w e)
+  pub kept-numbers : numbersFrom (w .pointers) 1 (w .count - 1) ≡ map recording (kept (viewFrom t r) n)
+  kept-numbers = sym (ways-numbers w 1) ∙ ap (map recording) kept-ways
 
 -- ---- is a number among those of an array
 
@@ -77,19 +79,24 @@ module _ (x : ℕ) (ps : List ℕ) (j m : ℕ) where
 
 -- ---- the leftmost leaf
 
-module _ (t : Words) (r l : ℕ) (e : r ≡ root t) (q : l ≡ wordOf t r 2) where
-  top : l ≡ height (view t)
-  top = q ∙ word-level t r ∙ ap (levelOf (view t)) e
+module _ (t : Words) (r l : ℕ) (q : l ≡ wordOf t r 2) where
+  abbrev v : View
+  v = viewFrom t r
 
-  pub leaf-none : 15 < l → 0 ≡ firstLeaf (view t)
-  unfolding firstLeaf
-  leaf-none h = let z : leb (height (view t)) 15 ≡ false = lt-leb (height (view t)) 15 (omega (arith, top)) in rw (z, firstLeaf)
+  top : l ≡ height v
+  top = q ∙ word-level t r
 
-  pub leaf-below : l ≤ 15 → leftmost (view t) l r ≡ firstLeaf (view t)
+  pub leaf-none : 15 < l → 0 ≡ firstLeaf (viewFrom t r)
   unfolding firstLeaf
-  leaf-below h =
-      let low : leb (height (view t)) 15 ≡ true = le-leb (height (view t)) 15 (omega (arith, top)) in
-      ap (λ (k : ℕ). leftmost (view t) k r) top ∙ ap (leftmost (view t) (height (view t))) e ∙ rw (low, firstLeaf)
+  leaf-none h = let z : leb (height v) 15 ≡ false = lt-leb (height v) 15 (omega (arith, top)) in rw (z, firstLeaf)
+
+  pub leaf-below : l ≤ 15 → leftmost (viewFrom t r) l r ≡ firstLeaf (viewFrom t r)
+  unfolding firstLeaf
+  leaf-below h = let low : leb (height v) 15 ≡ true = le-leb (height v) 15 (omega (arith, top)) in ap (λ (k : ℕ). leftmost v k r) top ∙ rw (low, firstLeaf)
+
+  pub last-below : rightmost (viewFrom t r) l r ≡ lastLeaf (viewFrom t r)
+  unfolding lastLeaf
+  last-below = ap (λ (k : ℕ). rightmost v k r) top
 
 pub leaf-here : (v : View) (d n m : ℕ) → d ≡ 0 → leftmost v d n ≡ m → n ≡ m
 unfolding leftmost
@@ -99,11 +106,69 @@ leftmost-left : (v : View) (d n : ℕ) → leftmost v d (v .node n .left) ≡ le
 unfolding leftmost
 leftmost-left v d n = refl
 
-pub leaf-down : (t : Words) (n d m : ℕ) → 0 < d → m ≡ wordOf t n 0 → leftmost (view t) (d - 1) m ≡ leftmost (view t) d n
-leaf-down t n zero m h e = absurd (omega arith)
-leaf-down t n (suc d) m h e =
+pub leaf-down : (t : Words) (r n d m : ℕ) → 0 < d → m ≡ wordOf t n 0 → leftmost (viewFrom t r) (d - 1) m ≡ leftmost (viewFrom t r) d n
+leaf-down t r n zero m h e = absurd (omega arith)
+leaf-down t r n (suc d) m h e =
+    let v = viewFrom t r in
     let z : suc d - 1 ≡ d = omega arith in
-    ap (λ (k : ℕ). leftmost (view t) k m) z ∙ ap (leftmost (view t) d) (e ∙ word-left t n) ∙ leftmost-left (view t) d n
+    ap (λ (k : ℕ). leftmost v k m) z ∙ ap (leftmost v d) (e ∙ word-left t n) ∙ leftmost-left v d n
+
+-- ---- the last leaf
+
+-- the last of the ways
+last-span : (ks ps : List ℕ) (e i m : ℕ) → lastOr e (pointers (span ks ps i (suc m))) ≡ getD ps (i + m) 0
+unfolding lastOr span
+last-span ks ps e i zero = let z : i ≡ i + 0 = omega arith in ap (λ (j : ℕ). getD ps j 0) z
+last-span ks ps e i (suc m) = let z : suc i + m ≡ i + suc m = omega arith in last-span ks ps (getD ps i 0) (suc i) m ∙ ap (λ (j : ℕ). getD ps j 0) z
+
+module _ (t : Words) (n : ℕ) (w : Ways) (is : slotsIn w ≡ ways (view t) n) where
+  pub some-way : 1 ≤ w .count
+  unfolding span
+  some-way = go (w .count) is
+    where
+      go : (c : ℕ) → span (w .keys) (w .pointers) 0 c ≡ ways (view t) n → 1 ≤ c
+      go zero q = let z : _≡_ {A = ℕ} 0 1 = cc in absurd (omega arith)
+      go (suc c) q = omega arith
+
+  last-named : getD (w .pointers) (w .count - 1) 0 ≡ lastOr 0 (named (view t) n)
+  last-named =
+      let more : w .count ≡ suc (w .count - 1) = omega (arith, some-way) in
+      let same : 0 + (w .count - 1) ≡ w .count - 1 = omega arith in
+      sym
+      (sym (ap (λ (ss : List Slot). lastOr 0 (pointers ss)) is) ∙ ap (λ (c : ℕ). lastOr 0 (pointers (span (w .keys) (w .pointers) 0 c))) more
+      ∙ last-span (w .keys) (w .pointers) 0 0 (w .count - 1) ∙ ap (λ (i : ℕ). getD (w .pointers) i 0) same)
+
+  module _ (last sibling : ℕ) (l : last ≡ getD (w .pointers) (w .count - 1) 0) (s : sibling ≡ wordOf t last 1) where
+    here : sibling ≡ nodeView t last .sibling
+    here = s ∙ word-sibling t last
+
+    pub last-alone : sibling ≡ 0 → last ≡ lastChild (view t) n
+    unfolding orSibling
+    last-alone z = sym (rw (eq-eqb (nodeView t last .sibling) 0 (sym here ∙ z), orSibling)) ∙ ap (orSibling (view t)) (l ∙ last-named)
+
+    pub last-beside : (sibling ≡ 0 → ⊥) → sibling ≡ lastChild (view t) n
+    unfolding orSibling
+    last-beside z = here ∙ sym (rw (ne-eqb (nodeView t last .sibling) 0 (λ q. z (here ∙ q)), orSibling)) ∙ ap (orSibling (view t)) (l ∙ last-named)
+
+pub last-here : (v : View) (d n m : ℕ) → d ≡ 0 → rightmost v d n ≡ m → n ≡ m
+unfolding rightmost
+last-here v d n m z i = ap (λ (k : ℕ). rightmost v k n) (sym z) ∙ i
+
+-- the last child does not depend on the root that the reading started from
+any-last : (t : Words) (r q n : ℕ) → lastChild (viewFrom t r) n ≡ lastChild (viewFrom t q) n
+unfolding orSibling kept below
+any-last t r q n = refl
+
+rightmost-last : (v : View) (d n : ℕ) → rightmost v d (lastChild v n) ≡ rightmost v (suc d) n
+unfolding rightmost
+rightmost-last v d n = refl
+
+pub last-down : (t : Words) (r n d m : ℕ) → 0 < d → m ≡ lastChild (view t) n → rightmost (viewFrom t r) (d - 1) m ≡ rightmost (viewFrom t r) d n
+last-down t r n zero m h e = absurd (omega arith)
+last-down t r n (suc d) m h e =
+    let v = viewFrom t r in
+    let z : suc d - 1 ≡ d = omega arith in
+    ap (λ (k : ℕ). rightmost v k m) z ∙ ap (rightmost v d) (e ∙ any-last t (root t) r n) ∙ rightmost-last v d n
 
 -- ---- a number in the leaves
 
@@ -136,7 +201,7 @@ module _ {t : Words} {r : ℕ} {h : Hit} {leaf left : ℕ} (k : Ahead t r h leaf
         few = b;
         low = omega arith;
         comes-to =
-            ap (λ (xs : List ℕ). hitAmong r leaf 0 xs (hitAlong (view t) (left - 1) (nodeView t leaf .sibling) r)) (kept-numbers (view t) leaf w e)
+            ap (λ (xs : List ℕ). hitAmong r leaf 0 xs (hitAlong (view t) (left - 1) (nodeView t leaf .sibling) r)) (kept-numbers t (root t) leaf w e)
             ∙ sym (ap (firstHit (view t) r) first) ∙ k .comes-to;
       }
 

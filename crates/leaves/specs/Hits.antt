@@ -31,9 +31,10 @@ hitAmong r n i [] later = later
 hitAmong r n i (x ∷ xs) later = elim (eqb x r) [ true ↦ At n i | false ↦ hitAmong r n (suc i) xs later ]
 
 -- the first number r in the leaves ns, leaf by leaf, each one's slots of the map in turn
-unfoldable pub firstHit : View → ℕ → List ℕ → Hit
-firstHit v r [] = Nowhere
-firstHit v r (n ∷ ns) = hitAmong r n 0 (map recording (kept v n)) (firstHit v r ns)
+module _ (v : View) (r : ℕ) where
+  unfoldable pub firstHit : List ℕ → Hit
+  firstHit [] = Nowhere
+  firstHit (n ∷ ns) = hitAmong r n 0 (map recording (kept v n)) (firstHit ns)
 
 -- in the leaves from n along the siblings, at most c
 abbrev pub hitAlong : View → ℕ → ℕ → ℕ → Hit

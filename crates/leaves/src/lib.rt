@@ -1,11 +1,11 @@
-// The leaves, one by one: the leftmost leaf, and the finder of a recording number along the siblings.
+// The leaves of a tree: the leftmost and the last one, and the finder of a recording number along the siblings.
 use slots::Ways;
 ghost use mathlib.Core.Path.{_≡_};
 ghost use Prim.Native.Nat.{_≤_};
 ghost use Rattle.model.specs.Table.{at};
-ghost use Rattle.model.specs.Slots.{view};
+ghost use Rattle.model.specs.Slots.{view, viewFrom};
 ghost use Rattle.walk_laws.specs.Walk.{ways};
-ghost use Rattle.walk_laws.specs.Chain.{firstLeaf};
+ghost use Rattle.walk_laws.specs.Chain.{firstLeaf, lastChild, lastLeaf};
 ghost use Rattle.slots.specs.Gathered.{slotsIn};
 ghost use Rattle.leaves.specs.Hits.{hitAlong, hitIn};
 
@@ -36,10 +36,9 @@ pub enum Hit {
 }
 
 // The leftmost leaf: from the root down by left; 0 where the root is too high.
-pub fn first_leaf(table: &[u64]) -> u64
-    ensures { λ r. ⌜ r ≡ firstLeaf (view (now (table .entry))) ⌝ }
+pub fn first_leaf(table: &[u64], root: u64) -> u64
+    ensures { λ r. ⌜ r ≡ firstLeaf (viewFrom (now (table .entry)) root) ⌝ }
 {
-    let root = word_at(table, 1);
     let top = node::word(table, root, 2);
     if 15 < top {
         return 0;
@@ -48,6 +47,34 @@ pub fn first_leaf(table: &[u64]) -> u64
     let mut level = top;
     while 0 < level {
         n = node::word(table, n, 0);
+        level -= 1;
+    }
+    n
+}
+
+// The last child of a node without sibling: the last that it names, or that one's sibling.
+fn last_child(table: &[u64], n: u64) -> u64
+    ensures { λ r. ⌜ r ≡ lastChild (view (now (table .entry))) n ⌝ }
+{
+    let w = ways_of(table, n);
+    let count = w.count;
+    let pointers = w.pointers;
+    let last = pointers[count - 1];
+    let sibling = node::word(table, last, 1);
+    if sibling == 0 {
+        return last;
+    }
+    sibling
+}
+
+// The last leaf: from the root down by the last child.
+pub fn last_leaf(table: &[u64], root: u64) -> u64
+    ensures { λ r. ⌜ r ≡ lastLeaf (viewFrom (now (table .entry)) root) ⌝ }
+{
+    let mut n = root;
+    let mut level = node::word(table, root, 2);
+    while 0 < level {
+        n = last_child(table, n);
         level -= 1;
     }
     n
@@ -86,10 +113,10 @@ pub fn find_from(table: &[u64], first: u64, most: u64, recording: u64) -> Hit
     }
 }
 
-// Where this recording number is in the map.
-pub fn find_recording(table: &[u64], recording: u64) -> Hit
-    ensures { λ r. ⌜ r ≡ hitIn (view (now (table .entry))) recording ⌝ }
+// Where this recording number is in the map of a tree.
+pub fn find_recording(table: &[u64], root: u64, recording: u64) -> Hit
+    ensures { λ r. ⌜ r ≡ hitIn (viewFrom (now (table .entry)) root) recording ⌝ }
 {
-    let first = first_leaf(table);
+    let first = first_leaf(table, root);
     find_from(table, first, word_at(table, 2), recording)
 }

@@ -1,6 +1,6 @@
 -- Members of a list: what holds of each, by index, by the test that computes, in joined lists.
 use mathlib.Core.Path.{_≡_, refl, ap, sym, _∙_}
-use mathlib.Core.Bool.{Bool, true, false, _||_, false≢true}
+use mathlib.Core.Bool.{Bool, true, false, _||_, or-assoc, false≢true}
 use mathlib.Core.Logic.{_↔_, _≢_, ⊎-elim}
 use mathlib.Core.List.{List, [], _∷_, _++_, map, map-append, List·Memᴰ, List·Memᴰ·head, List·Memᴰ·tail, List·Memᴰ·not-nil, List·Memᴰ·cases-cons, List·Memᴰ·append-cases, Memᴰ·append-left, Memᴰ·append-right}
 use Prim.Native.Nat.{ℕ, zero, suc, _<_}
@@ -92,6 +92,12 @@ elem-append x a b = (
   λ e. let u = Each-split (λ (n : ℕ). n ≢ x) a b (elem-false x (a ++ b) .0 e) in (elem-false x a .1 (u .0), elem-false x b .1 (u .1)),
   λ u. elem-false x (a ++ b) .1 (Each-append (λ (n : ℕ). n ≢ x) a b (elem-false x a .0 (u .0)) (elem-false x b .0 (u .1))),
 )
+
+-- the same as one test
+pub elem-join : (x : ℕ) (a b : List ℕ) → elem x (a ++ b) ≡ (elem x a || elem x b)
+unfolding elem
+elem-join x [] b = refl
+elem-join x (y ∷ a) b = ap (λ (q : Bool). eqb x y || q) (elem-join x a b) ∙ sym (or-assoc (eqb x y) (elem x a) (elem x b))
 
 pub mem-here : (x : ℕ) (a b : List ℕ) → List·Memᴰ x (a ++ x ∷ b)
 mem-here x a b = Memᴰ·append-right a (List·Memᴰ·head refl)

@@ -8,18 +8,17 @@ use lib.Dec.{leb}
 use lib.ListN.{length, getD}
 use Rattle.model.specs.declared.Node.{Node}
 use Rattle.model.specs.Table.{Words, inRange, node}
-use Rattle.model.specs.Slots.{Slot, View, nodeView, view, height, used}
+use Rattle.model.specs.Slots.{Slot, View, nodeView, viewFrom, height, used}
 use Rattle.model.specs.Search.{below, within, path}
-use Rattle.model.specs.Reached.{filter, flat, headOr, kept, mapping, mapOf}
-use Rattle.model.specs.SoundTest.{sound}
+use Rattle.model.specs.Reached.{filter, flat, headOr, kept, mapping}
+use Rattle.model.specs.SoundTest.{soundView}
 use Rattle.model.specs.Listing.{inRangeOf}
-use Rattle.model.specs.Writes.{standing}
+use Rattle.model.specs.Writes.{standingIn}
 use Rattle.list_laws.proofs.Tools.{decode, refuted, Each, Each-map}
 use Rattle.list_laws.proofs.Filters.{filter-append}
-use Rattle.table_laws.proofs.Header.{header-iff}
 use Rattle.tree_laws.proofs.Members.{filter-none, UpTo, pigeonhole}
-use Rattle.tree_laws.proofs.Rows.{At, Row, linked-cons}
-use Rattle.tree_laws.proofs.Levels.{Orderly, sound-orderly, sound-parts, level-leaves, ascending, row-tail, row-distinct}
+use Rattle.tree_laws.proofs.Rows.{At, Row, linked-cons, range-iff}
+use Rattle.tree_laws.proofs.Levels.{Orderly, sound-orderly, level-leaves, ascending, row-tail, row-distinct}
 use Rattle.tree_laws.proofs.Rising.{rising-from}
 use Rattle.tree_laws.proofs.MapLaw.{row-rises, row-rest, leaf-part}
 use Rattle.tree_laws.proofs.SearchLaw.{leafFor, leaf-mem, leaf-covers, path-leaf}
@@ -54,14 +53,14 @@ filter-both {A = A} p q (x ∷ xs) = go (q x) (p x) refl refl (filter-both p q x
     go false b c d ih = rw (c, filter) ih
 
 -- x is node n as the code has read it, b its sibling's fence
-leaf-pairs : (t : Words) (low high n : ℕ) (x : Node) (b : ℕ) → x ≡ node t n → b ≡ wordOf t (x .sibling) 3
-    → wanted (record { low = low; high = high; sibling = x .sibling; bound = b }) (shownFrom (x .left) (x .slots) 0) ≡ inRangeOf low high (kept (view t) n)
+leaf-pairs : (t : Words) (r low high n : ℕ) (x : Node) (b : ℕ) → x ≡ node t n → b ≡ wordOf t (x .sibling) 3
+    → wanted (record { low = low; high = high; sibling = x .sibling; bound = b }) (shownFrom (x .left) (x .slots) 0) ≡ inRangeOf low high (kept (viewFrom t r) n)
 unfolding wanted wants inRangeOf kept used below keeps
-leaf-pairs t low high n x b q e =
+leaf-pairs t r low high n x b q e =
     let f : b ≡ nodeView t (x .sibling) .fence = e ∙ word-fence t (x .sibling) in
     ap (λ (w : ℕ). wanted (record { low = low; high = high; sibling = x .sibling; bound = w }) (shownFrom (x .left) (x .slots) 0)) f
     ∙ ap (λ (y : Node). wanted (record { low = low; high = high; sibling = y .sibling; bound = nodeView t (y .sibling) .fence }) (shownFrom (y .left) (y .slots) 0)) q
-    ∙ sym (filter-both (λ (s : Slot). leb low (s .key) && leb (s .key) high) (λ (s : Slot). within (view t) n (s .key)) (nodeView t n .shown))
+    ∙ sym (filter-both (λ (s : Slot). leb low (s .key) && leb (s .key) high) (λ (s : Slot). within (viewFrom t r) n (s .key)) (nodeView t n .shown))
 
 -- ---- the leaves along the siblings
 
@@ -126,7 +125,7 @@ module _ (v : View) (n : ℕ) (some : 1 ≤ v .nodes) (z : n ≡ 0 → ⊥) (row
       ∙ ap (λ (ss : List Slot). allTaken ss x) (range-append low high (kept v n) (flat (kept v) ns))
       ∙ taken-append (inRangeOf low high (kept v n)) (inRangeOf low high (flat (kept v) ns)) x)
 
--- ---- on a sound table
+-- ---- in a sound tree
 
 -- what is ahead at leaf n: a row of leaves, and the end that taking their pairs comes to
 pub record Ahead (v : View) (low high n : ℕ) (x end : Sheet) : Type 0 where
@@ -151,37 +150,41 @@ ahead-from v low high x o =
 pub ahead-end : (v : View) (low high n : ℕ) (x end : Sheet) → Ahead v low high n x end → n ≡ 0 → x ≡ end
 ahead-end v low high n x end a z = sym (no-leaf v low high n x z) ∙ a .rest
 
-module _ (t : Words) (low high n : ℕ) (x end : Sheet) (h : sound t ≡ true) where
-  some-node : 1 ≤ view t .nodes
-  some-node = header-iff t .0 (sound-parts t .0 h .0) .size .some
+module _ (t : Words) (r low high n : ℕ) (x end : Sheet) (h : soundView (viewFrom t r) ≡ true) where
+  abbrev v : View
+  v = viewFrom t r
 
-  pub ahead-first : n ≡ standing t 0 low → Ahead (view t) low high n x (allTaken (inRangeOf low high (mapOf t)) x)
-  unfolding standing
+  ordered : Orderly v
+  ordered = sound-orderly v h
+
+  some-node : 1 ≤ v .nodes
+  some-node = let u = range-iff (v .nodes) r .0 (ordered .top .range) in omega arith
+
+  pub ahead-first : n ≡ standingIn v 0 low → Ahead v low high n x (allTaken (inRangeOf low high (mapping v)) x)
+  unfolding standingIn
   ahead-first e =
-      let v = view t in
-      let o = sound-orderly v (sound-parts t .0 h .1) in
+      let o = ordered in
       let top : height v - 0 ≡ height v = omega arith in
       let here : n ≡ leafFor v low = e ∙ ap (λ (i : ℕ). getD (path v low) i 0) top ∙ path-leaf v low o in
       rw here (ahead-from v low high x o)
 
   -- from the record m of leaf n that the code has read
-  module _ (m : Node) (q : m ≡ node t n) (z : n ≡ 0 → ⊥) (a : Ahead (view t) low high n x end) where
+  module _ (m : Node) (q : m ≡ node t n) (z : n ≡ 0 → ⊥) (a : Ahead v low high n x end) where
     pub ahead-past : high < m .fence → x ≡ end
     unfolding allTaken
     ahead-past f =
         let f : high < nodeView t n .fence = rw q at f in
-        sym (ap (λ (ss : List Slot). allTaken ss x) (range-past (view t) n some-node z (a .row) low high f)) ∙ a .rest
+        sym (ap (λ (ss : List Slot). allTaken ss x) (range-past v n some-node z (a .row) low high f)) ∙ a .rest
 
     next : m .sibling ≡ nodeView t n .sibling
     next = ap (λ (k : Node). k .sibling) q
 
-    pub ahead-fewer : length (onward (view t) (m .sibling)) < length (onward (view t) n)
-    ahead-fewer = rw next (fewer (view t) n some-node z (a .row))
+    pub ahead-fewer : length (onward v (m .sibling)) < length (onward v n)
+    ahead-fewer = rw next (fewer v n some-node z (a .row))
 
     pub ahead-next : (b : ℕ) (y : Sheet) → b ≡ wordOf t (m .sibling) 3
         → y ≡ allTaken (wanted (record { low = low; high = high; sibling = m .sibling; bound = b }) (shownFrom (m .left) (m .slots) 0)) x
-        → Ahead (view t) low high (m .sibling) y end
+        → Ahead v low high (m .sibling) y end
     ahead-next b y e w =
-        let v = view t in
-        let here : y ≡ allTaken (inRangeOf low high (kept v n)) x = w ∙ ap (λ (ss : List Slot). allTaken ss x) (leaf-pairs t low high n m b q e) in
+        let here : y ≡ allTaken (inRangeOf low high (kept v n)) x = w ∙ ap (λ (ss : List Slot). allTaken ss x) (leaf-pairs t r low high n m b q e) in
         rw (next, here) (record { row = row-next v n some-node z (a .row); rest = next-leaf v n some-node z (a .row) low high x ∙ a .rest })

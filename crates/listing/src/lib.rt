@@ -3,9 +3,9 @@ use model::Listed;
 use model::Node;
 ghost use mathlib.Core.Path.{_≡_};
 ghost use mathlib.Core.Bool.{true};
-ghost use Rattle.model.specs.Slots.{slot, view};
-ghost use Rattle.model.specs.Reached.{mapOf};
-ghost use Rattle.model.specs.SoundTest.{sound};
+ghost use Rattle.model.specs.Slots.{slot, viewFrom};
+ghost use Rattle.model.specs.Reached.{mapping};
+ghost use Rattle.model.specs.SoundTest.{soundView};
 ghost use Rattle.model.specs.Listing.{inRangeOf, list, listOut};
 ghost use Rattle.slots.specs.Scan.{shownFrom};
 ghost use Rattle.listing.specs.Taking.{sheet, begun, taken, allTaken, wants, wanted, slotTaken};
@@ -98,9 +98,9 @@ fn list_leaf(out: &mut [u64], start: Progress, x: Node, w: Window) -> Progress
 
 // The leaves from the one for the lowest key along the siblings, until a pair is left or the range ends.
 fn list_leaves(table: &[u64], root: u64, low: u64, high: u64, out: &mut [u64]) -> Progress
-    requires { ⌜ sound (now table) ≡ true ⌝ }
-    requires { ⌜ root ≡ view (now table) .root ⌝ }
-    ensures { λ r. ⌜ sheet (now (out .exit)) r ≡ allTaken (inRangeOf low high (mapOf (now (table .entry)))) (begun (now (out .entry))) ⌝ }
+    requires { ⌜ soundView (viewFrom (now table) root) ≡ true ⌝ }
+    ensures { λ r. ⌜ sheet (now (out .exit)) r
+        ≡ allTaken (inRangeOf low high (mapping (viewFrom (now (table .entry)) root))) (begun (now (out .entry))) ⌝ }
 {
     let mut p = Progress {
         count: 0,
@@ -127,18 +127,20 @@ fn list_leaves(table: &[u64], root: u64, low: u64, high: u64, out: &mut [u64]) -
     p
 }
 
-// Lists the map's pairs with keys from low to high, rising; 2 and 4 as document 01 lays down. A refusal changes no word.
-pub fn list(table: &[u64], low: u64, high: u64, out: &mut [u64]) -> Listed
-    ensures { λ r. ⌜ r ≡ list (now (table .entry)) low high (now (out .entry)) ⌝ }
-    ensures { λ r. ⌜ now (out .exit) ≡ listOut (now (table .entry)) low high (now (out .entry)) ⌝ }
+// Lists the pairs of a collection's map with keys from low to high, rising; 2, 17 and 4 as document 01 and request 6 lay down. A refusal
+// changes no word.
+pub fn list(table: &[u64], collection: u64, low: u64, high: u64, out: &mut [u64]) -> Listed
+    ensures { λ r. ⌜ r ≡ list collection (now (table .entry)) low high (now (out .entry)) ⌝ }
+    ensures { λ r. ⌜ now (out .exit) ≡ listOut collection (now (table .entry)) low high (now (out .entry)) ⌝ }
 {
-    if node::header(table) != 0 {
-        return Listed::Refused(2);
+    let number = node::refusal(table, collection);
+    if number != 0 {
+        return Listed::Refused(number);
     }
     if !sound::is_sound(table) {
         return Listed::Refused(4);
     }
-    let p = list_leaves(table, node::root_of(table), low, high, out);
+    let p = list_leaves(table, node::root_of(table, collection), low, high, out);
     Listed::Pairs {
         count: p.count as u64,
         more: p.more,

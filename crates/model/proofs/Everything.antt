@@ -20,35 +20,35 @@ use Rattle.model.specs.Salvage
 unfoldable pub everything : Unit {0}
 unfolding Codes.isDigit Codes.isLetter Codes.isLetterOrDigit Codes.every Codes.isCode Codes.value Codes.readOn Codes.number Codes.keyOf Codes.parse Codes.character
     Codes.digits Codes.spelling Codes.hasCode Codes.print
-    Table.tableLength Table.nodesFor Table.lengthOk Table.inRange Table.allZero Table.headerOk Table.headerNumber Table.nodeStart Table.hasNode Table.blank
-    Table.nodeFrom Table.node Table.spare Table.empty Table.making Table.made
+    Table.tableLength Table.nodesFor Table.lengthOk Table.inRange Table.allZero Table.headerOk Table.headerNumber Table.noCollection Table.nodeStart
+    Table.hasNode Table.blank Table.nodeFrom Table.node Table.spare Table.empty Table.emptyOf Table.makeNumber Table.making Table.made
     Slots.slotsOf Slots.recordingOf Slots.classOf Slots.pointerOf Slots.recordingOk Slots.classOk Slots.pointerOk Slots.inUse Slots.shown Slots.hidden
     Slots.full Slots.used Slots.clearIn
     Search.below Search.moved Search.route Search.onLevel Search.passes Search.locate Search.pathFrom Search.firstWith Search.filter Search.kept
     Search.firstAbove Search.nextFrom Search.lookup Search.searchView Search.search
-    Reached.flat Reached.firstChild Reached.fillRow Reached.children Reached.reachedFrom Reached.leavesFrom Reached.mapping
+    Reached.flat Reached.firstChild Reached.fillRow Reached.children Reached.reachedFrom Reached.leavesFrom Reached.mapping Reached.reachedAll Reached.mapsOf
     SoundTest.all SoundTest.elem SoundTest.distinct SoundTest.siblingOk SoundTest.rising SoundTest.comeFirst SoundTest.keysOk SoundTest.linked SoundTest.childOk
     SoundTest.slotOk SoundTest.leafOk SoundTest.innerOk SoundTest.nodeOk SoundTest.rootOk SoundTest.recordingsOk SoundTest.orderly SoundTest.trailingIn
     SoundTest.own SoundTest.rowUnfinished SoundTest.unfinishedAt SoundTest.unfinished SoundTest.leftoverOf SoundTest.leftover SoundTest.room
-    SoundTest.settledView SoundTest.soundView SoundTest.settled SoundTest.sound
+    SoundTest.settledView SoundTest.soundView SoundTest.leftoverIn SoundTest.oneLeft SoundTest.sound SoundTest.settled
     Listing.inRangeOf Listing.pairWords Listing.listed Listing.listedWords Listing.listNumber Listing.list Listing.listOut
     Orders.apply Orders.carry Orders.ordersAfter Orders.orders Orders.storeCount Orders.flushCount Orders.encode Orders.decode Orders.listWith Orders.allInside
     Orders.carryNumber Orders.carryOut Orders.carriedOut
     Cuts.flushed Cuts.upToFlush Cuts.laterStores
     Shifts.lastPointer Shifts.moveUp Shifts.moveDown Shifts.shiftIn Shifts.close Shifts.shiftOut Shifts.placeOf Shifts.hiddenPlace
     Writes.shiftInAt Writes.shiftOutAt Writes.closeAt Writes.numbers Writes.unreached Writes.unreachable Writes.fresh Writes.putAll Writes.nodeWords
-    Writes.splitWords Writes.split Writes.newRoot Writes.cutOff Writes.attach Writes.repairOf Writes.repairStores Writes.repaired Writes.standing Writes.runIn
-    Writes.run Writes.rootInRun Writes.splits Writes.rootStores Writes.insertSettled Writes.insertStores Writes.childBefore Writes.freesLeaf Writes.freeStores
+    Writes.splitWords Writes.split Writes.newRoot Writes.cutOff Writes.attach Writes.repairOf Writes.repairStores Writes.repaired Writes.standingIn Writes.runIn
+    Writes.rootInRun Writes.splits Writes.rootStores Writes.insertSettled Writes.insertStores Writes.childBefore Writes.freesLeaf Writes.freeStores
     Writes.deleteSettled Writes.deleteStores Writes.setClassAt Writes.classStores Writes.storesOf
     Refusals.parentFull Refusals.tooHigh Refusals.tooFew Refusals.hasKey Refusals.hasRecording Refusals.refusal Refusals.written Refusals.tableAfter
     Refusals.listAfter
-    Ledger.enter Ledger.leave Ledger.reclass Ledger.ledgerRefusal Ledger.feed
+    Ledger.enter Ledger.leave Ledger.reclass Ledger.onMap Ledger.ledgerRefusal Ledger.feed
     Demand3.step Demand3.runAll Demand3.May Demand3.ledgerAfter
     Printer.lines Printer.fields Printer.isRecording Printer.formOf Printer.decimalFrom Printer.decimal Printer.numbersText Printer.orderText Printer.ordersText
     Printer.doCall Printer.doForm Printer.doLine Printer.doLines Printer.printer
     Packing.groups Packing.bottom Packing.numbered Packing.rowAbove Packing.rowsAbove Packing.packed Packing.rowWords Packing.rowsWords Packing.countRows
-    Packing.packedCount Packing.packedTable
-    Salvage.shownAt Salvage.underFence Salvage.followed Salvage.meetings Salvage.mayEnter Salvage.order Salvage.entered Salvage.outOfRange Salvage.reasonFor
-    Salvage.gatherSlot Salvage.gatherSlots Salvage.collected Salvage.gatherNodes Salvage.gathered Salvage.dropWords Salvage.outgrows Salvage.salvageNumber
-    Salvage.salvage Salvage.salvageOut Salvage.salvageReport
+    Packing.packedCount Packing.packedWords Packing.packedBoth Packing.packedTable
+    Salvage.shownAt Salvage.underFence Salvage.followed Salvage.meetings Salvage.mayEnter Salvage.order Salvage.enteredFrom Salvage.entered Salvage.outOfRange
+    Salvage.reasonFor Salvage.gatherSlot Salvage.gatherSlots Salvage.collected Salvage.gatherNodes Salvage.gatheredAlong Salvage.gathered Salvage.keptMaps
+    Salvage.droppedAll Salvage.dropWords Salvage.outgrows Salvage.salvageNumber Salvage.salvage Salvage.salvageOut Salvage.salvageReport
 everything = tt

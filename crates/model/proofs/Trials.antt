@@ -2,6 +2,7 @@
 use mathlib.Core.Path.{_≡_, refl, subst}
 use mathlib.Core.Bool.{Bool, true, false, _&&_, _||_}
 use mathlib.Core.List.{List, [], _∷_, _++_, map}
+use mathlib.Core.Option.{none}
 use Prim.Native.Nat.{ℕ, suc, pred, _*_}
 use lib.Dec.{eqb}
 use lib.ListN.{length, take, drop, set}
@@ -9,20 +10,21 @@ use Rattle.model.specs.declared.Answer.{Answer}
 use Rattle.model.specs.declared.Answer.the-variants.{Found, Absent, Refused}
 use Rattle.model.specs.declared.Next.{Next}
 use Rattle.model.specs.declared.Next.the-variants.{Key, Nothing}
-use Rattle.model.specs.Table.{Words, line, headerOk}
+use Rattle.model.specs.Table.{MARK, Words, at, line, headerOk}
 use Rattle.model.specs.Slots.{Slot, View, view}
 use Rattle.model.specs.Search.{searchView, lookup}
-use Rattle.model.specs.Reached.{mapping, reached, flat}
-use Rattle.model.specs.SoundTest.{all, leftover, soundView, settledView}
+use Rattle.model.specs.Reached.{mapping, mapOf, reached, flat}
+use Rattle.model.specs.SoundTest.{all, leftover, soundView, settledView, settled}
 use Rattle.model.specs.Orders.{Store, apply, Order, carry, orders}
 use Rattle.model.specs.Cuts.{upToFlush, laterStores}
-use Rattle.model.specs.Writes.{Call, insertion, deletion, classChange, repair, storesOf, repairOf, numbers}
+use Rattle.model.specs.Shifts.{pointerWord}
+use Rattle.model.specs.Writes.{nodeWords, Call, insertion, deletion, classChange, repair, storesOf, repairOf, numbers}
 use Rattle.model.specs.Refusals.{refusal}
 use Rattle.model.specs.Ledger.{change}
 use Rattle.model.proofs.Everything.{everything}
 use Rattle.model.proofs.Worked.{tenSlots}
 use Rattle.model.proofs.Quick.{quick, quick-is-view}
-use Rattle.model.proofs.Tables.{ways, stale, oneLevel, twoLevels}
+use Rattle.model.proofs.Tables.{tableOf, leafOf, ways, stale, oneLevel, twoLevels}
 
 -- ---- answers, maps, words, keys
 
@@ -58,10 +60,14 @@ abbrev pub near : ℕ → List ℕ
 near k = pred k ∷ k ∷ suc k ∷ []
 
 abbrev pub nearCall : Call → List ℕ
-nearCall (insertion k r c) = near k
-nearCall (classChange k c) = near k
-nearCall (deletion k) = near k
+nearCall (insertion n k r c) = near k
+nearCall (classChange n k c) = near k
+nearCall (deletion n k) = near k
 nearCall repair = []
+
+-- what a call of collection 1 makes of its map, where there is no other
+abbrev pub changed : Call → List Slot → List Slot
+changed x ps = change x (record { one = ps; two = none }) .one
 
 -- all keys of the map and all fences, with their neighbours
 abbrev pub allKeys : View → List ℕ
@@ -106,13 +112,13 @@ module _ (look : Words → View) where
   abbrev pub wellDone : List ℕ → Words → Call → Bool
   wellDone ks t x =
       let old = mapping (look t) in
-      let new = change x old in
+      let new = changed x old in
       let keys = nearCall x ++ ks in
       eqb (refusal x 2560 t) 0 && until (hasEither keys old new) (λ (u : Words). settledWith new u && answersAs keys new (look u)) (storesOf x t) t
 
   -- the last of it alone
   abbrev pub endsWell : Words → Call → Bool
-  endsWell t x = eqb (refusal x 2560 t) 0 && settledWith (change x (mapping (look t))) (apply (storesOf x t) t)
+  endsWell t x = eqb (refusal x 2560 t) 0 && settledWith (changed x (mapping (look t))) (apply (storesOf x t) t)
 
 -- ---- a call cut
 
@@ -136,7 +142,7 @@ inImages p t os =
 abbrev pub cutWell : (Words → View) → Words → Call → Bool
 cutWell look t x =
     let old = mapping (look t) in
-    let new = change x old in
+    let new = changed x old in
     let os = orders (storesOf x t) in
     all (λ (c : ℕ). inImages (λ (m : Words). soundWith look old m || soundWith look new m) t (take c os)) (numbers 0 (suc (length os)))
 
@@ -171,15 +177,34 @@ quickly ts e = subst (λ (look : Words → View). all (passes look) ts ≡ true)
 -- crate `trials`.
 abbrev pub fewTrials : List Trial
 fewTrials =
-    cut (oneLevel 4 []) (insertion 5 7 0 ∷ [])
-    ∷ done (twoLevels (11 ∷ []) [] (stale 1)) (10 ∷ 60 ∷ 110 ∷ []) (insertion 115 7 0 ∷ [])
-    ∷ ended (twoLevels (0 ∷ 0 ∷ 0 ∷ 0 ∷ 0 ∷ 11 ∷ 0 ∷ 0 ∷ 0 ∷ 0 ∷ 0 ∷ 0 ∷ []) (ways 2 11) (stale 3)) (insertion 1000 7 0 ∷ [])
-    ∷ done (twoLevels (1 ∷ 1 ∷ 1 ∷ []) (ways 2 2) []) (200 ∷ 400 ∷ []) (deletion 10 ∷ deletion 210 ∷ deletion 410 ∷ [])
-    ∷ reaches (twoLevels (1 ∷ 1 ∷ 1 ∷ []) (ways 2 2) []) (deletion 10) (4 ∷ 1 ∷ 2 ∷ 3 ∷ [])
-    ∷ reaches (twoLevels (1 ∷ 1 ∷ 1 ∷ []) (ways 2 2) []) (deletion 210) (4 ∷ 1 ∷ 3 ∷ [])
-    ∷ reaches (twoLevels (1 ∷ 1 ∷ 1 ∷ []) (ways 2 2) []) (deletion 410) (4 ∷ 1 ∷ 2 ∷ [])
+    cut (oneLevel 4 []) (insertion 1 5 7 0 ∷ [])
+    ∷ done (twoLevels (11 ∷ []) [] (stale 1)) (10 ∷ 60 ∷ 110 ∷ []) (insertion 1 115 7 0 ∷ [])
+    ∷ ended (twoLevels (0 ∷ 0 ∷ 0 ∷ 0 ∷ 0 ∷ 11 ∷ 0 ∷ 0 ∷ 0 ∷ 0 ∷ 0 ∷ 0 ∷ []) (ways 2 11) (stale 3)) (insertion 1 1000 7 0 ∷ [])
+    ∷ done (twoLevels (1 ∷ 1 ∷ 1 ∷ []) (ways 2 2) []) (200 ∷ 400 ∷ []) (deletion 1 10 ∷ deletion 1 210 ∷ deletion 1 410 ∷ [])
+    ∷ reaches (twoLevels (1 ∷ 1 ∷ 1 ∷ []) (ways 2 2) []) (deletion 1 10) (4 ∷ 1 ∷ 2 ∷ 3 ∷ [])
+    ∷ reaches (twoLevels (1 ∷ 1 ∷ 1 ∷ []) (ways 2 2) []) (deletion 1 210) (4 ∷ 1 ∷ 3 ∷ [])
+    ∷ reaches (twoLevels (1 ∷ 1 ∷ 1 ∷ []) (ways 2 2) []) (deletion 1 410) (4 ∷ 1 ∷ 2 ∷ [])
     ∷ []
 
 pub few-trials : all (passes view) fewTrials ≡ true
 unfolding everything tenSlots quick
 few-trials = quickly fewTrials refl
+
+-- ---- two collections
+
+-- the root of collection 1 is leaf 3, that of collection 2 the full leaf 2; nodes 1 and 4 are free
+abbrev pub besideFull : Words
+besideFull = set (tableOf 3 (stale 1 ++ (nodeWords MARK 0 0 0 (tenSlots 11 1) ∷ leafOf 1 0 2 ∷ stale 1))) 3 2
+
+abbrev pub grown : Words
+grown = apply (storesOf (insertion 2 115 7 0) besideFull) besideFull
+
+-- The second collection's new root stands in word 3, in a node that neither root reaches, and the first stays. A repair mends the second tree.
+pub record Beside : Type 0 where
+  pub roots : (settled grown ≡ true) × (map (at grown) (1 ∷ 3 ∷ []) ≡ 3 ∷ 4 ∷ [])
+  pub maps : (mapOf 1 grown ≡ mapOf 1 besideFull) × (length (mapOf 2 grown) ≡ 12)
+  pub mended : settled (apply (storesOf repair (set besideFull (pointerWord 2 4) 104)) (set besideFull (pointerWord 2 4) 104)) ≡ true
+
+pub few-beside : Beside
+unfolding everything tenSlots
+few-beside = record { roots = (refl, refl); maps = (refl, refl); mended = refl }

@@ -39,7 +39,7 @@ shiftCounts p =
 
 -- after inserting 115 with 7: the root, its node record's left and first slot, node 1's sibling and that one's fence
 unfoldable pub afterSplit : Words
-afterSplit = tableAfter (insertion 115 7 0) 2560 (rootLeaf 3)
+afterSplit = tableAfter (insertion 1 115 7 0) 2560 (rootLeaf 3)
 
 pub record Worked : Type 0 where
   -- AA0001912345 has key 172627201912345.
@@ -50,8 +50,8 @@ pub record Worked : Type 0 where
   -- 1A0001912345 returns 1.
   pub digit-first : parse (ascii "1A0001912345") ≡ Refused 1
   -- 39 words return 2; 40 words make a table with N = 1.
-  pub short : (ws : Words) → length ws ≡ 39 → making ws ≡ MakingRefused 2
-  pub smallest : (ws : Words) → length ws ≡ 40 → (making ws ≡ Done) × (made ws ≡ empty 1)
+  pub short : (ws : Words) → length ws ≡ 39 → making 1 ws ≡ MakingRefused 2
+  pub smallest : (ws : Words) → length ws ≡ 40 → (making 1 ws ≡ Done) × (made 1 ws ≡ empty 1)
   -- Leaf slots (20,5) (25,5) (30,6): 25 is hidden.
   pub hides : (shown MARK (inUse (slot 20 5 ∷ slot 25 5 ∷ slot 30 6 ∷ [])) ≡ slot 20 5 ∷ slot 30 6 ∷ []) × (hidden MARK (inUse (slot 20 5 ∷ slot 25 5 ∷ slot 30 6 ∷ [])) ≡ slot 25 5 ∷ [])
   -- Left 2, slot (40,3): key 39 goes to node 2, key 40 to node 3.
@@ -59,18 +59,18 @@ pub record Worked : Type 0 where
   -- Shift in with n = 10: p = 0 gives 24 stores, 3 flushes; p = 10 gives 4 and 1.
   pub shifts : (shiftCounts 0 ≡ 24 ∷ 3 ∷ []) × (shiftCounts 10 ≡ 4 ∷ 1 ∷ [])
   -- Root leaf with keys 10, 20 .. 110, N = 3, insert 115: new root 2, sibling 3, fence 60; 75 stores, 13 flushes.
-  pub splits : (written (insertion 115 7 0) 2560 (rootLeaf 3) ≡ WriteDone 75 13) × (root afterSplit ≡ 2) × (nodeView afterSplit 1 .sibling ≡ 3) × (nodeView afterSplit 3 .fence ≡ 60)
+  pub splits : (written (insertion 1 115 7 0) 2560 (rootLeaf 3) ≡ WriteDone 75 13) × (root afterSplit ≡ 2) × (nodeView afterSplit 1 .sibling ≡ 3) × (nodeView afterSplit 3 .fence ≡ 60)
   -- The same with N = 2 returns 10.
-  pub no-room : written (insertion 115 7 0) 2560 (rootLeaf 2) ≡ WriteRefused 10
+  pub no-room : written (insertion 1 115 7 0) 2560 (rootLeaf 2) ≡ WriteRefused 10
   -- The order printer's two lines, and the ten that it prints.
   pub prints : printer (ascii "+ AA0001912345 7\n- AA0001912345\n") ≡ ascii "store 19 0\nstore 17 18446744073709551615\nstore 16 172627201912345\nstore 17 7\nflush 2\ndone 4 1\nstore 17 18446744073709551615\nstore 17 0\nflush 2\ndone 2 1\n"
 
 -- by the length alone
-short : (ws : Words) → length ws ≡ 39 → making ws ≡ MakingRefused 2
+short : (ws : Words) → length ws ≡ 39 → making 1 ws ≡ MakingRefused 2
 unfolding everything
 short ws e = rw (e, making)
 
-smallest : (ws : Words) → length ws ≡ 40 → (making ws ≡ Done) × (made ws ≡ empty 1)
+smallest : (ws : Words) → length ws ≡ 40 → (making 1 ws ≡ Done) × (made 1 ws ≡ empty 1)
 unfolding everything
 smallest ws e = (rw (e, making), rw (e, made))
 

@@ -1,20 +1,21 @@
--- Demand 3 as one claim over all sequences of insertions, deletions, class changes and repairs, whole or cut.
+-- Demand 3 as one claim over all sequences of insertions, deletions, class changes and repairs, of one collection or two, whole or cut.
 use mathlib.Core.Path.{_≡_}
+use mathlib.Core.Logic.{_⊎_}
 use mathlib.Core.Bool.{Bool, true}
 use mathlib.Core.List.{List, [], _∷_}
 use Prim.Native.Nat.{ℕ, _≤_}
 use lib.Dec.{eqb}
 use lib.ListN.{length}
-use Rattle.model.specs.Table.{Words, empty}
-use Rattle.model.specs.Search.{search, lookup}
-use Rattle.model.specs.Reached.{mapOf}
+use Rattle.model.specs.Table.{Words, emptyOf}
+use Rattle.model.specs.Search.{search}
+use Rattle.model.specs.Reached.{mapsOf}
 use Rattle.model.specs.Sound.{Settled}
 use Rattle.model.specs.Orders.{Order, carriedOut, carryNumber}
 use Rattle.model.specs.Cuts.{CutImage}
 use Rattle.model.specs.Writes.{Call, insertion, deletion, classChange, repair, repaired}
 use Rattle.model.specs.Refusals.{parentFull, elevenIn, tenIn, refusal, unlessRefused}
 use Rattle.model.specs.Refusals.{ordersOf, written, writtenNumber, ordersAnswered, tableAfter, listAfter}
-use Rattle.model.specs.Ledger.{Ledger, fedOf, ledgerRefusal, End, completed, cutAfter, feed}
+use Rattle.model.specs.Ledger.{Ledger, noPairs, listIn, answerFrom, fedOf, ledgerRefusal, End, completed, cutAfter, feed}
 
 -- ---- events and histories
 
@@ -62,19 +63,19 @@ afterFate (cut c m) s e = record { memory = m; working = m }
 unfoldable pub step : State → Event → State
 step s e = unlessRefused (numberOf s e) (afterFate (e .fate) s e) s
 
--- the state after a history that starts with an empty table of n nodes, stored whole in memory and copied as the working copy
-unfoldable pub runAll : (n : ℕ) → History → State
-runAll n [] = record { memory = empty n; working = empty n }
-runAll n (e ∷ h) = step (runAll n h) e
+-- the state after a history that starts with an empty table of n collections and N nodes, stored whole in memory and copied as the working copy
+unfoldable pub runAll : (n N : ℕ) → History → State
+runAll n N [] = record { memory = emptyOf n N; working = emptyOf n N }
+runAll n N (e ∷ h) = step (runAll n N h) e
 
 -- a cut falls within its list, and memory is then an image that it may leave
 abbrev pub FateMay : Fate → State → Event → Type 0
 FateMay whole s e = Unit {0}
 FateMay (cut c m) s e = (c ≤ length (eventOrders s e)) × CutImage c (s .memory) (eventOrders s e) m
 
-unfoldable pub May : (n : ℕ) → History → Type 0
-May n [] = Unit {0}
-May n (e ∷ h) = May n h × (numberOf (runAll n h) e ≡ 0 → FateMay (e .fate) (runAll n h) e)
+unfoldable pub May : (n N : ℕ) → History → Type 0
+May n N [] = Unit {0}
+May n N (e ∷ h) = May n N h × (numberOf (runAll n N h) e ≡ 0 → FateMay (e .fate) (runAll n N h) e)
 
 -- ---- the ledger along a history
 
@@ -83,17 +84,19 @@ endOf whole s e = completed
 endOf (cut c m) s e = cutAfter c (eqb c (length (eventOrders s e)))
 
 -- the choice is made once for each event, on what happened up to it, and stays: the ledger of a longer history is fed onto this one
-unfoldable pub ledgerAfter : (choose : History → Bool) → (n : ℕ) → History → Ledger
-ledgerAfter choose n [] = []
-ledgerAfter choose n (e ∷ h) =
-    feed (e .call) (length (e .lent)) (fedOf (numberOf (runAll n h) e)) (endOf (e .fate) (runAll n h) e) (choose (e ∷ h)) (ledgerAfter choose n h)
+unfoldable pub ledgerAfter : (choose : History → Bool) → (n N : ℕ) → History → Ledger
+ledgerAfter choose n N [] = noPairs n
+ledgerAfter choose n N (e ∷ h) =
+    let s = runAll n N h in
+    feed (e .call) (length (e .lent)) (fedOf (numberOf s e)) (endOf (e .fate) s e) (choose (e ∷ h)) (ledgerAfter choose n N h)
 
 -- ---- what holds at the start and after each event
 
--- every search, in memory and in the working copy, answers as the ledger: found with its recording and class, absent exactly if it has none
+-- every search of every collection, in memory and in the working copy, answers as the ledger: found with its recording and class, absent
+-- exactly if its list has none, 17 exactly if it has no list
 pub record Agrees (s : State) (ps : Ledger) : Type 0 where
-  pub in-memory : (k : ℕ) → search (s .memory) k ≡ lookup k ps
-  pub in-working : (k : ℕ) → search (s .working) k ≡ lookup k ps
+  pub in-memory : (n k : ℕ) → search n (s .memory) k ≡ answerFrom k (listIn n ps)
+  pub in-working : (n k : ℕ) → search n (s .working) k ≡ answerFrom k (listIn n ps)
 
 -- all of the call's orders were carried out
 abbrev pub Completed : Fate → State → Event → Type 0
@@ -104,12 +107,12 @@ abbrev pub Carried : Fate → State → Event → Type 0
 Carried whole s e = carryNumber (answered s e) (listOf s e) (s .memory) ≡ 0
 Carried (cut c m) s e = Unit {0}
 
--- a repair keeps the map
+-- a repair keeps the maps
 abbrev pub Keeps : Call → State → State → Type 0
-Keeps (insertion k r c) s s′ = Unit {0}
-Keeps (deletion k) s s′ = Unit {0}
-Keeps (classChange k c) s s′ = Unit {0}
-Keeps repair s s′ = (mapOf (s′ .memory) ≡ mapOf (s .memory)) × (mapOf (s′ .working) ≡ mapOf (s .working))
+Keeps (insertion n k r c) s s′ = Unit {0}
+Keeps (deletion n k) s s′ = Unit {0}
+Keeps (classChange n k c) s s′ = Unit {0}
+Keeps repair s s′ = (mapsOf (s′ .memory) ≡ mapsOf (s .memory)) × (mapsOf (s′ .working) ≡ mapsOf (s .working))
 
 -- of the event e that took s to s′, where the ledger was ps
 pub record Right (e : Event) (s s′ : State) (ps : Ledger) : Type 0 where
@@ -127,11 +130,12 @@ pub record Right (e : Event) (s s′ : State) (ps : Ledger) : Type 0 where
   pub finished : numberOf s e ≡ 0 → Completed (e .fate) s e → Settled (s′ .memory) × Settled (s′ .working)
   pub repair-keeps : Keeps (e .call) s s′
 
-abbrev pub Kept : (choose : History → Bool) → (n : ℕ) → History → Type 0
-Kept choose n [] = Agrees (runAll n []) (ledgerAfter choose n [])
-Kept choose n (e ∷ h) =
-    Agrees (runAll n (e ∷ h)) (ledgerAfter choose n (e ∷ h)) × Right e (runAll n h) (runAll n (e ∷ h)) (ledgerAfter choose n h)
+abbrev pub Kept : (choose : History → Bool) → (n N : ℕ) → History → Type 0
+Kept choose n N [] = Agrees (runAll n N []) (ledgerAfter choose n N [])
+Kept choose n N (e ∷ h) =
+    Agrees (runAll n N (e ∷ h)) (ledgerAfter choose n N (e ∷ h)) × Right e (runAll n N h) (runAll n N (e ∷ h)) (ledgerAfter choose n N h)
 
--- Demand 3: for every N there is a way to take or omit the cut changes such that, after every history that may happen, all of it holds.
+-- Demand 3: for one collection or two and every N that making takes there is a way to take or omit the cut changes such that, after every
+-- history that may happen, all of it holds.
 abbrev pub Demand3 : Type 0
-Demand3 = (n : ℕ) → 1 ≤ n → n ≤ 65535 → (choose : History → Bool) × ((h : History) → May n h → Kept choose n h)
+Demand3 = (n N : ℕ) → (n ≡ 1) ⊎ (n ≡ 2) → n ≤ N → N ≤ 65535 → (choose : History → Bool) × ((h : History) → May n N h → Kept choose n N h)

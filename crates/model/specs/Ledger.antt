@@ -1,45 +1,85 @@
--- Document 01, "The ledger of demand 3": a list of pairs, fed arguments, lengths, the c of a cut, and a 10, 11 or 12; no word of the table.
-use mathlib.Core.Bool.{Bool, true, false, cond, _||_}
+-- Document 01, "The ledger of demand 3": a list of pairs for each collection, fed arguments, lengths, the c of a cut, and a 10, 11 or 12; no word of the table.
+use mathlib.Core.Bool.{Bool, true, false, cond, not, _||_}
 use mathlib.Core.List.{List, [], _∷_, map}
+use mathlib.Core.Option.{Option, none, some, Option·map}
 use Prim.Native.Nat.{ℕ, zero, suc}
 use lib.Dec.{eqb, ltb}
+use Rattle.model.specs.declared.Answer.{Answer}
+use Rattle.model.specs.declared.Answer.the-variants.{Refused}
 use Rattle.model.specs.Slots.{Slot, slot, pointerOf, withClass}
+use Rattle.model.specs.Search.{lookup}
+use Rattle.model.specs.Reached.{Maps, unlessLacking}
 use Rattle.model.specs.Writes.{Call, insertion, deletion, classChange, repair}
-use Rattle.model.specs.Refusals.{firstNumber, testsFrom5, unlessRefused}
+use Rattle.model.specs.Refusals.{test, firstNumber, testsFrom5, unlessRefused}
 
--- code, recording and class, as pairs (key, pointer) in the order of their keys
+-- A list for each collection that the making chose: code, recording and class, as pairs (key, pointer) in the order of their keys.
 abbrev pub Ledger : Type 0
-Ledger = List Slot
+Ledger = Maps
+
+-- empty at first, with n collections
+abbrev pub noPairs : (n : ℕ) → Ledger
+noPairs n = record { one = []; two = unlessLacking (not (eqb n 2)) [] }
+
+-- the list of collection n, where the ledger has one
+abbrev pub listIn : (n : ℕ) → Ledger → Option (List Slot)
+listIn n m = cond (eqb n 1) (some (m .one)) (cond (eqb n 2) (m .two) none)
 
 -- the pair enters
-unfoldable pub enter : (k x : ℕ) → Ledger → Ledger
+unfoldable pub enter : (k x : ℕ) → List Slot → List Slot
 enter k x [] = slot k x ∷ []
 enter k x (s ∷ ss) = cond (ltb k (s .key)) (slot k x ∷ s ∷ ss) (s ∷ enter k x ss)
 
 -- the pair of k leaves
-unfoldable pub leave : (k : ℕ) → Ledger → Ledger
+unfoldable pub leave : (k : ℕ) → List Slot → List Slot
 leave k [] = []
 leave k (s ∷ ss) = cond (eqb (s .key) k) (leave k ss) (s ∷ leave k ss)
 
 -- the pair of k gets class c
-unfoldable pub reclass : (k c : ℕ) → Ledger → Ledger
+unfoldable pub reclass : (k c : ℕ) → List Slot → List Slot
 reclass k c ps = map (λ (s : Slot). cond (eqb (s .key) k) (slot (s .key) (withClass (s .pointer) c)) s) ps
 
--- what an accepted call makes of it
-abbrev pub change : Call → Ledger → Ledger
-change (insertion k r c) ps = enter k (pointerOf r c) ps
-change (deletion k) ps = leave k ps
-change (classChange k c) ps = reclass k c ps
-change repair ps = ps
+-- ---- what an accepted call makes of it: a change belongs to one collection
+
+-- a change of collection n's list
+unfoldable pub onMap : (n : ℕ) → (List Slot → List Slot) → Maps → Maps
+onMap n f m = record { one = cond (eqb n 1) (f (m .one)) (m .one); two = cond (eqb n 1) (m .two) (Option·map f (m .two)) }
+
+abbrev pub change : Call → Maps → Maps
+change (insertion n k r c) m = onMap n (enter k (pointerOf r c)) m
+change (deletion n k) m = onMap n (leave k) m
+change (classChange n k c) m = onMap n (reclass k c) m
+change repair m = m
 
 -- of the answers only a 10, 11 or 12 is fed, else 0
 abbrev pub fedOf : ℕ → ℕ
 fedOf n = cond (eqb n 10 || (eqb n 11 || eqb n 12)) n 0
 
--- The number that the ledger refuses with: 5 by the length of the order list lent, 6, 14, 7, 8, 9 by the arguments and its pairs, and a
--- fed 10, 11 or 12 at that number's place.
+-- what a search for k answers by the list of its collection
+abbrev pub answerFrom : (k : ℕ) → Option (List Slot) → Answer
+answerFrom k none = Refused 17
+answerFrom k (some ps) = lookup k ps
+
+abbrev pub lacking : Option (List Slot) → Bool
+lacking none = true
+lacking (some ps) = false
+
+abbrev pub pairsOf : Option (List Slot) → List Slot
+pairsOf none = []
+pairsOf (some ps) = ps
+
+-- the list of the collection that a call names; a repair asks for none
+abbrev pub listFor : Call → Ledger → Option (List Slot)
+listFor (insertion n k r c) m = listIn n m
+listFor (deletion n k) m = listIn n m
+listFor (classChange n k c) m = listIn n m
+listFor repair m = some []
+
+-- The number that the ledger refuses with: 17 by the collection asked for and those that it has a list of, 5 by the length of the order
+-- list lent, 6, 14, 7, 8, 9 by the arguments and the own list, and a fed 10, 11 or 12 at that number's place.
 unfoldable pub ledgerRefusal : Call → (words fed : ℕ) → Ledger → ℕ
-ledgerRefusal x words fed ps = firstNumber (testsFrom5 x words (eqb fed 12) (eqb fed 11) (eqb fed 10) ps)
+ledgerRefusal x words fed m =
+    let ps = listFor x m in
+    firstNumber (test (lacking ps) 17 ∷ testsFrom5 x words (eqb fed 12) (eqb fed 11) (eqb fed 10) (pairsOf ps))
 
 -- what became of an accepted call's orders: all were carried out; or a cut fell after c of them, and that was all of them, or not
 pub data End : Type 0 where
@@ -55,4 +95,4 @@ taken (cutAfter (suc c) false) choice = choice
 
 -- the ledger after a call
 unfoldable pub feed : Call → (words fed : ℕ) → End → (choice : Bool) → Ledger → Ledger
-feed x words fed end choice ps = unlessRefused (ledgerRefusal x words fed ps) (cond (taken end choice) (change x ps) ps) ps
+feed x words fed end choice m = unlessRefused (ledgerRefusal x words fed m) (cond (taken end choice) (change x m) m) m

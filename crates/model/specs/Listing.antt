@@ -1,12 +1,12 @@
 -- Document 01, "Search": a listing of the map's pairs in a range of keys.
-use mathlib.Core.Bool.{true, false, cond, _&&_}
+use mathlib.Core.Bool.{cond, _&&_}
 use mathlib.Core.List.{List, [], _∷_, _++_}
 use Prim.Native.Nat.{ℕ, _*_, _/_}
-use lib.Dec.{leb, ltb}
+use lib.Dec.{eqb, leb, ltb}
 use lib.ListN.{length, take, drop}
 use Rattle.model.specs.declared.Listed.{Listed}
 use Rattle.model.specs.declared.Listed.the-variants.{Pairs, Refused}
-use Rattle.model.specs.Table.{Words, headerOk}
+use Rattle.model.specs.Table.{Words, headerOk, noCollection}
 use Rattle.model.specs.Slots.{Slot}
 use Rattle.model.specs.Reached.{filter, mapOf}
 use Rattle.model.specs.SoundTest.{sound}
@@ -32,15 +32,17 @@ listed ps words = Pairs (length (fitting words ps)) (ltb (length (fitting words 
 unfoldable pub listedWords : List Slot → Words → Words
 listedWords ps out = pairWords (fitting (length out) ps) ++ drop (2 * length (fitting (length out) ps)) out
 
--- What a listing refuses with: 2, then 4; else 0.
-unfoldable pub listNumber : Words → ℕ
-listNumber t = cond (headerOk t) (cond (sound t) 0 4) 2
+-- What a listing refuses with: 2, then 17, then 4; else 0.
+unfoldable pub listNumber : (n : ℕ) → Words → ℕ
+listNumber n t = cond (headerOk t) (cond (noCollection n t) 17 (cond (sound t) 0 4)) 2
 
-unfoldable pub list : Words → ℕ → ℕ → Words → Listed
-list t low high out = elim (sound t) [ true ↦ listed (inRangeOf low high (mapOf t)) (length out) | false ↦ Refused (listNumber t) ]
+-- the listing of collection n, and the slice then; one that is refused leaves the slice
+unfoldable pub list : (n : ℕ) → Words → (low high : ℕ) → Words → Listed
+list n t low high out =
+    cond (eqb (listNumber n t) 0) (listed (inRangeOf low high (mapOf n t)) (length out)) (Refused (listNumber n t))
 
-unfoldable pub listOut : Words → ℕ → ℕ → Words → Words
-listOut t low high out = elim (sound t) [ true ↦ listedWords (inRangeOf low high (mapOf t)) out | false ↦ out ]
+unfoldable pub listOut : (n : ℕ) → Words → (low high : ℕ) → Words → Words
+listOut n t low high out = cond (eqb (listNumber n t) 0) (listedWords (inRangeOf low high (mapOf n t)) out) out
 
 -- Document 01's number for each case: 0 where the call does its work.
 abbrev pub listedNumber : Listed → ℕ

@@ -1,9 +1,11 @@
--- Change request 5: pairs in rising key order packed into a fresh table, as rows of nodes from the leaves up.
+-- Change request 5: pairs in rising key order packed into a fresh table, as rows of nodes from the leaves up; request 6: of both collections.
 use mathlib.Core.List.{List, [], _∷_, _++_, map}
+use mathlib.Core.Option.{Option, none, some}
 use Prim.Native.Nat.{ℕ, zero, suc, _+_, _-_, _*_}
 use lib.ListN.{length, take, drop, replicate}
 use Rattle.model.specs.Table.{MARK, Words}
 use Rattle.model.specs.Slots.{Slot, slot}
+use Rattle.model.specs.Reached.{Maps}
 use Rattle.model.specs.Writes.{nodeWords}
 
 module _ {A : Type 0} (n : ℕ) where
@@ -82,8 +84,24 @@ countRows (xs ∷ xss) = length xs + countRows xss
 unfoldable pub packedCount : List Slot → ℕ
 packedCount ps = countRows (packed 1 ps)
 
--- the table of n nodes that holds these pairs: the root is the last node in use
-unfoldable pub packedTable : (n : ℕ) → List Slot → Words
-packedTable n ps =
-    let c = packedCount ps in
-    (1 ∷ c ∷ n ∷ replicate 5 0) ++ (rowsWords 0 1 (packed 1 ps) ++ replicate (32 * (n - c)) 0)
+-- their words, the first node being number n
+unfoldable pub packedWords : (n : ℕ) → List Slot → Words
+packedWords n ps = rowsWords 0 n (packed n ps)
+
+-- ---- both collections
+
+-- something of the second collection's pairs; a where that is lacking
+abbrev pub ofSecond : {A : Type 0} → A → (List Slot → A) → Option (List Slot) → A
+ofSecond a f none = a
+ofSecond a f (some qs) = f qs
+
+-- the nodes that the pairs of both need
+unfoldable pub packedBoth : Maps → ℕ
+packedBoth m = packedCount (m .one) + ofSecond 0 packedCount (m .two)
+
+-- The table of N nodes that holds these pairs, collection 1 first, also in numbering the nodes. The root of each is the last of its nodes.
+unfoldable pub packedTable : (N : ℕ) → Maps → Words
+packedTable N m =
+    let c = packedCount (m .one) in
+    (1 ∷ c ∷ N ∷ ofSecond 0 (λ (qs : List Slot). c + packedCount qs) (m .two) ∷ replicate 4 0)
+    ++ (packedWords 1 (m .one) ++ (ofSecond [] (packedWords (suc c)) (m .two) ++ replicate (32 * (N - packedBoth m)) 0))

@@ -124,8 +124,8 @@ withKey (Key k) call d = doCall (call k) d
 withKey (Refused n) call d = reply (refusedLine n) d
 
 unfoldable pub doForm : Form → Desk → Reply
-doForm (plus code r) d = withKey (parse code) (λ (k : ℕ). insertion k r 0) d
-doForm (minus code) d = withKey (parse code) (λ (k : ℕ). deletion k) d
+doForm (plus code r) d = withKey (parse code) (λ (k : ℕ). insertion 1 k r 0) d
+doForm (minus code) d = withKey (parse code) (λ (k : ℕ). deletion 1 k) d
 doForm other d = reply (refusedLine 0) d
 
 unfoldable pub doLine : Bytes → Desk → Reply
@@ -135,7 +135,7 @@ unfoldable pub doLines : List Bytes → Desk → Bytes
 doLines [] d = []
 doLines (l ∷ ls) d = let r = doLine l d in r .bytes ++ doLines ls (r .desk)
 
--- It makes a table with N = 4, and keeps one list of 2,560 zeros.
+-- It makes a table of one collection with N = 4, and keeps one list of 2,560 zeros.
 abbrev pub firstDesk : Desk
 firstDesk = record { table = empty 4; list = replicate 2560 0 }
 

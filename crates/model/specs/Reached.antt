@@ -1,10 +1,11 @@
--- Document 01, "Search": the nodes reached, the map, and a listing.
-use mathlib.Core.Bool.{true, false}
+-- Document 01, "Search": the nodes reached, and the map; request 6: the collections of a table.
+use mathlib.Core.Bool.{Bool, true, false, cond}
 use mathlib.Core.List.{List, [], _∷_, _++_, map}
+use mathlib.Core.Option.{Option, none, some}
 use Prim.Native.Nat.{ℕ, zero, suc}
 use lib.Dec.{eqb}
-use Rattle.model.specs.Table.{Words}
-use Rattle.model.specs.Slots.{Slot, View, view, height}
+use Rattle.model.specs.Table.{Words, at}
+use Rattle.model.specs.Slots.{Slot, View, viewOf, height}
 unfoldable pub use Rattle.model.specs.Search.{filter, kept}
 
 unfoldable pub flat {ℓ} : {A B : Type ℓ} → (A → List B) → List A → List B
@@ -64,5 +65,31 @@ leaves v = leavesFrom v (height v) (v .root ∷ [])
 unfoldable pub mapping : View → List Slot
 mapping v = flat (kept v) (leaves v)
 
-abbrev pub mapOf : Words → List Slot
-mapOf t = mapping (view t)
+-- the map of collection n
+abbrev pub mapOf : (n : ℕ) → Words → List Slot
+mapOf n t = mapping (viewOf n t)
+
+-- ---- the collections of a table
+
+-- Word 3 is the root of collection 2, 0 for none.
+abbrev pub collections : Words → List ℕ
+collections t = cond (eqb (at t 3) 0) (1 ∷ []) (1 ∷ 2 ∷ [])
+
+abbrev pub trees : Words → List View
+trees t = map (λ (n : ℕ). viewOf n t) (collections t)
+
+-- the nodes reached from either root
+unfoldable pub reachedAll : Words → List ℕ
+reachedAll t = flat reached (trees t)
+
+-- the two maps: the second, or its lack
+pub record Maps : Type 0 where
+  pub one : List Slot
+  pub two : Option (List Slot)
+
+abbrev pub unlessLacking : {A : Type 0} → (lacking : Bool) → A → Option A
+unlessLacking true a = none
+unlessLacking false a = some a
+
+unfoldable pub mapsOf : Words → Maps
+mapsOf t = record { one = mapOf 1 t; two = unlessLacking (eqb (at t 3) 0) (mapOf 2 t) }

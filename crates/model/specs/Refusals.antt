@@ -7,14 +7,21 @@ use lib.Dec.{eqb, ltb}
 use lib.ListN.{length}
 use Rattle.model.specs.declared.Written.{Written}
 use Rattle.model.specs.declared.Written.the-variants.{Done, Refused}
-use Rattle.model.specs.Table.{Words, headerOk}
-use Rattle.model.specs.Slots.{Slot, recording, recordingOk, classOk, View, view, height, full}
+use Rattle.model.specs.Table.{Words, headerOk, noCollection}
+use Rattle.model.specs.Slots.{Slot, recording, recordingOk, classOk, View, viewOf, view, height, full}
 use Rattle.model.specs.Reached.{mapOf}
-use Rattle.model.specs.SoundTest.{sound, Leftover, nothing, hiddenIn, missingIn, bothIn, leftover}
+use Rattle.model.specs.SoundTest.{sound, Leftover, nothing, hiddenIn, missingIn, bothIn, leftoverAll}
 use Rattle.model.specs.Orders.{Order, apply, orders, storeCount, flushCount, listWith}
 use Rattle.model.specs.Writes.{unreachable, repaired, run, rootInRun, Call, insertion, deletion, classChange, repair, storesOf}
 
--- ---- the conditions of 12, 11 and 10
+-- ---- the conditions of 17, 12, 11 and 10
+
+-- 17: a call of a collection that is not there
+abbrev pub seventeenIn : Call → Words → Bool
+seventeenIn (insertion n k r c) t = noCollection n t
+seventeenIn (deletion n k) t = noCollection n t
+seventeenIn (classChange n k c) t = noCollection n t
+seventeenIn repair t = false
 
 -- 12: repair would find 11 shown slots in the parent
 abbrev pub fullParent : View → Option Leftover → Bool
@@ -25,15 +32,15 @@ fullParent v (some (missingIn p a trailing)) = full (v .node p .shown)
 fullParent v (some (bothIn p a)) = full (v .node p .shown)
 
 unfoldable pub parentFull : Words → Bool
-parentFull t = fullParent (view t) (leftover (view t))
+parentFull t = fullParent (view t) (leftoverAll t)
 
 -- 11: the run includes a root at level 15
-unfoldable pub tooHigh : Words → (k : ℕ) → Bool
-tooHigh t k = rootInRun t k && eqb (height (view t)) 15
+unfoldable pub tooHigh : (n : ℕ) → Words → (k : ℕ) → Bool
+tooHigh n t k = rootInRun n t k && eqb (height (viewOf n t)) 15
 
 -- 10: fewer unreachable nodes than the run's length, plus 1 for a new root
-unfoldable pub tooFew : Words → (k : ℕ) → Bool
-tooFew t k = ltb (length (unreachable t)) (run t k + cond (rootInRun t k) 1 0)
+unfoldable pub tooFew : (n : ℕ) → Words → (k : ℕ) → Bool
+tooFew n t k = ltb (length (unreachable t)) (run n t k + cond (rootInRun n t k) 1 0)
 
 -- ---- the numbers in their order
 
@@ -57,13 +64,13 @@ unfoldable pub hasRecording : ℕ → List Slot → Bool
 hasRecording r [] = false
 hasRecording r (s ∷ ss) = eqb (recording s) r || hasRecording r ss
 
--- 6, 14, 7, 8, 9, 11, 10, by a map; 11 and 10 ask more than the map and are handed in
+-- 6, 14, 7, 8, 9, 11, 10, by the own map; 11 and 10 ask more than the map and are handed in
 abbrev pub mapTests : Call → (eleven ten : Bool) → List Slot → List Test
-mapTests (insertion k r c) eleven ten ps =
+mapTests (insertion n k r c) eleven ten ps =
     test (not (recordingOk r)) 6 ∷ test (not (classOk c)) 14
     ∷ test (hasKey k ps) 7 ∷ test (hasRecording r ps) 8 ∷ test eleven 11 ∷ test ten 10 ∷ []
-mapTests (deletion k) eleven ten ps = test (not (hasKey k ps)) 9 ∷ []
-mapTests (classChange k c) eleven ten ps = test (not (classOk c)) 14 ∷ test (not (hasKey k ps)) 9 ∷ []
+mapTests (deletion n k) eleven ten ps = test (not (hasKey k ps)) 9 ∷ []
+mapTests (classChange n k c) eleven ten ps = test (not (classOk c)) 14 ∷ test (not (hasKey k ps)) 9 ∷ []
 mapTests repair eleven ten ps = []
 
 -- from 5 on: 5 by the order list's length, 12 handed in
@@ -72,22 +79,30 @@ testsFrom5 x words twelve eleven ten ps = test (ltb words 2560) 5 ∷ test twelv
 
 -- 11 and 10 apply to an insertion, on the table t as repair would leave it
 abbrev pub elevenIn : Call → Words → Bool
-elevenIn (insertion k r c) t = tooHigh t k
-elevenIn (deletion k) t = false
-elevenIn (classChange k c) t = false
+elevenIn (insertion n k r c) t = tooHigh n t k
+elevenIn (deletion n k) t = false
+elevenIn (classChange n k c) t = false
 elevenIn repair t = false
 
 abbrev pub tenIn : Call → Words → Bool
-tenIn (insertion k r c) t = tooFew t k
-tenIn (deletion k) t = false
-tenIn (classChange k c) t = false
+tenIn (insertion n k r c) t = tooFew n t k
+tenIn (deletion n k) t = false
+tenIn (classChange n k c) t = false
 tenIn repair t = false
 
--- The number that a writing call refuses with, on table t with an order list of so many words; 0: accepted.
+-- the map of the collection that a call names; a repair judges by none
+abbrev pub ownMap : Call → Words → List Slot
+ownMap (insertion n k r c) t = mapOf n t
+ownMap (deletion n k) t = mapOf n t
+ownMap (classChange n k c) t = mapOf n t
+ownMap repair t = []
+
+-- The number that a writing call refuses with, on table t with an order list of so many words; 0: accepted. 17 comes straight after 2.
 unfoldable pub refusal : Call → (words : ℕ) → Words → ℕ
 refusal x words t =
     let t′ = repaired t in
-    firstNumber (test (not (headerOk t)) 2 ∷ test (not (sound t)) 4 ∷ testsFrom5 x words (parentFull t) (elevenIn x t′) (tenIn x t′) (mapOf t′))
+    firstNumber (test (not (headerOk t)) 2 ∷ test (seventeenIn x t) 17 ∷ test (not (sound t)) 4
+    ∷ testsFrom5 x words (parentFull t) (elevenIn x t′) (tenIn x t′) (ownMap x t′))
 
 -- ---- what a writing call does: all of it follows from its number and its stores
 

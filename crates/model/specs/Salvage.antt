@@ -1,4 +1,5 @@
--- Change request 5: salvage of a damaged table into a fresh one. Which nodes are entered, in which order; what is gathered along them; the call.
+-- Change request 5: salvage of a damaged table into a fresh one. Which nodes are entered, in which order; what is gathered along them; the
+-- call. Request 6: salvage takes both collections.
 use mathlib.Core.Bool.{Bool, true, false, not, _&&_, _||_}
 use mathlib.Core.List.{List, [], _∷_, _++_, map}
 use Prim.Native.Nat.{ℕ, zero, suc, pred, _+_, _*_}
@@ -6,13 +7,13 @@ use lib.Dec.{eqb, ltb}
 use lib.ListN.{length, drop}
 use Rattle.model.specs.declared.Salvaged.{Salvaged}
 use Rattle.model.specs.declared.Salvaged.the-variants.{Dropped, Refused}
-use Rattle.model.specs.Table.{Words, inRange, nodes, root, headerOk}
-use Rattle.model.specs.Slots.{Slot, pointerOk, recording, nodeView, view, used, height}
-use Rattle.model.specs.Reached.{filter}
+use Rattle.model.specs.Table.{Words, at, inRange, nodes, root, rootWord, headerOk}
+use Rattle.model.specs.Slots.{Slot, pointerOk, recording, nodeView, used}
+use Rattle.model.specs.Reached.{filter, Maps, unlessLacking}
 use Rattle.model.specs.SoundTest.{elem}
 use Rattle.model.specs.Refusals.{test, firstNumber, hasKey, hasRecording, unlessRefused}
 use Rattle.model.specs.Ledger.{enter}
-use Rattle.model.specs.Packing.{packedCount, packedTable}
+use Rattle.model.specs.Packing.{packedBoth, packedTable}
 
 -- ---- the nodes entered
 
@@ -66,13 +67,21 @@ module _ (t : Words) where
   order (suc f) [] es = []
   order (suc f) (x ∷ todo) es = elim (mayEnter t x es) [ true ↦ x .node ∷ order f (meetings t (x .node) ++ todo) (x .node ∷ es) | false ↦ order f todo es ]
 
--- the root, whatever its level
-abbrev pub start : Words → List Meeting
-start t = meet (root t) (height (view t)) ∷ []
+-- a root, whatever its level
+abbrev pub start : Words → (root : ℕ) → List Meeting
+start t r = meet r (nodeView t r .level) ∷ []
 
--- The nodes entered, in order. Each of them meets 14 at most.
-unfoldable pub entered : Words → List ℕ
-entered t = order t (2 + 14 * nodes t) (start t) []
+-- The nodes entered from a root, in order, where es were entered before. Each of them meets 14 at most.
+unfoldable pub enteredFrom : Words → (root : ℕ) → List ℕ → List ℕ
+enteredFrom t r es = order t (2 + 14 * nodes t) (start t r) es
+
+-- Salvage takes both, collection 1 first: a node entered for it is not entered again for collection 2.
+abbrev pub earlier : (n : ℕ) → Words → List ℕ
+earlier n t = elim (eqb n 1) [ true ↦ [] | false ↦ enteredFrom t (root t) [] ]
+
+-- The nodes entered for collection n, in order; without collection 2 its root is 0, which is none.
+unfoldable pub entered : (n : ℕ) → Words → List ℕ
+entered n t = enteredFrom t (at t (rootWord n)) (earlier n t)
 
 -- ---- what is gathered
 
@@ -115,8 +124,20 @@ unfoldable pub gatherNodes : Words → List ℕ → Gathered → Gathered
 gatherNodes t [] g = g
 gatherNodes t (n ∷ ns) g = gatherNodes t ns (gatherSlots n (collected t n) g)
 
-unfoldable pub gathered : Words → Gathered
-gathered t = gatherNodes t (entered t) (record { kept = []; dropped = [] })
+unfoldable pub gatheredAlong : Words → List ℕ → Gathered
+gatheredAlong t ns = gatherNodes t ns (record { kept = []; dropped = [] })
+
+-- Duplicates are judged per collection.
+unfoldable pub gathered : (n : ℕ) → Words → Gathered
+gathered n t = gatheredAlong t (entered n t)
+
+-- the pairs kept of each collection; the second's, or its lack
+unfoldable pub keptMaps : Words → Maps
+keptMaps t = record { one = gathered 1 t .kept; two = unlessLacking (eqb (at t 3) 0) (gathered 2 t .kept) }
+
+-- the slots dropped, collection 1's first
+unfoldable pub droppedAll : Words → List Drop
+droppedAll t = gathered 1 t .dropped ++ gathered 2 t .dropped
 
 -- ---- the call
 
@@ -127,7 +148,7 @@ dropWords (d ∷ ds) = d .node ∷ d .place ∷ d .reason ∷ dropWords ds
 
 -- the packing needs more than N nodes
 unfoldable pub outgrows : Words → Bool
-outgrows t = ltb (nodes t) (packedCount (gathered t .kept))
+outgrows t = ltb (nodes t) (packedBoth (keptMaps t))
 
 -- 2, 15, 16, 10 in that order, for a second slice and a report of so many words; 0: accepted
 unfoldable pub salvageNumber : Words → (out report : ℕ) → ℕ
@@ -137,15 +158,15 @@ salvageNumber t out report =
 -- The answer counts the dropped slots.
 unfoldable pub salvage : Words → (out report : ℕ) → Salvaged
 salvage t out report =
-    unlessRefused (salvageNumber t out report) (Dropped (length (gathered t .dropped))) (Refused (salvageNumber t out report))
+    unlessRefused (salvageNumber t out report) (Dropped (length (droppedAll t))) (Refused (salvageNumber t out report))
 
 -- the second slice, and the report, after the call; the report's words past what is written stay
 unfoldable pub salvageOut : Words → (out : Words) → (report : ℕ) → Words
-salvageOut t out report = unlessRefused (salvageNumber t (length out) report) (packedTable (nodes t) (gathered t .kept)) out
+salvageOut t out report = unlessRefused (salvageNumber t (length out) report) (packedTable (nodes t) (keptMaps t)) out
 
 unfoldable pub salvageReport : Words → (out : ℕ) → (report : Words) → Words
 salvageReport t out report =
-    let ds = gathered t .dropped in
+    let ds = droppedAll t in
     unlessRefused (salvageNumber t out (length report)) (dropWords ds ++ drop (3 * length ds) report) report
 
 -- the number for each case, 0 where the call does its work; and the count that a lent word then holds

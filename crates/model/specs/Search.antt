@@ -8,8 +8,8 @@ use Rattle.model.specs.declared.Answer.{Answer}
 use Rattle.model.specs.declared.Answer.the-variants.{Found, Absent, Refused}
 use Rattle.model.specs.declared.Next.{Next}
 use Rattle.model.specs.declared.Next.the-variants.{Key, Nothing}
-use Rattle.model.specs.Table.{Words, inRange, headerOk}
-use Rattle.model.specs.Slots.{Slot, recording, class, View, view, height}
+use Rattle.model.specs.Table.{Words, inRange, headerOk, noCollection}
+use Rattle.model.specs.Slots.{Slot, recording, class, View, viewOf, height}
 
 -- key k is below the fence of node s; number 0, for no node, bounds no key
 unfoldable pub below : View → ℕ → ℕ → Bool
@@ -113,8 +113,10 @@ answerIn v k (some n) = answerOf (firstWith k (v .node n .shown)) (nextFrom v (v
 unfoldable pub searchView : View → ℕ → Answer
 searchView v k = elim (leb (height v) 15) [ true ↦ answerIn v k (locate v (height v) (v .root) k) | false ↦ Refused 3 ]
 
-unfoldable pub search : Words → ℕ → Answer
-search t k = elim (headerOk t) [ true ↦ searchView (view t) k | false ↦ Refused 2 ]
+-- of collection n: 2, 17, then as its tree answers
+unfoldable pub search : (n : ℕ) → Words → (k : ℕ) → Answer
+search n t k =
+    elim (headerOk t) [ true ↦ elim (noCollection n t) [ true ↦ Refused 17 | false ↦ searchView (viewOf n t) k ] | false ↦ Refused 2 ]
 
 -- the recording, and the class, that lent words then hold; they stay where there is none
 abbrev pub recordingOr : Answer → ℕ → ℕ

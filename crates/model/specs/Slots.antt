@@ -4,7 +4,7 @@ use mathlib.Core.List.{List, [], _∷_}
 use Prim.Native.Nat.{ℕ, _+_, _*_, _/_, _%_}
 use lib.Dec.{leb, ltb, eqb}
 use lib.ListN.{length, getD}
-use Rattle.model.specs.Table.{Words, node, spare, allZero, nodes, root}
+use Rattle.model.specs.Table.{Words, at, node, spare, allZero, nodes, root, rootWord}
 
 pub record Slot : Type 0 where
   pub key : ℕ
@@ -118,6 +118,10 @@ nodeView t i =
 
 abbrev pub viewFrom : Words → ℕ → View
 viewFrom t r = record { nodes = nodes t; root = r; node = nodeView t }
+
+-- of the tree of collection n, and of collection 1
+abbrev pub viewOf : (n : ℕ) → Words → View
+viewOf n t = viewFrom t (at t (rootWord n))
 
 abbrev pub view : Words → View
 view t = viewFrom t (root t)

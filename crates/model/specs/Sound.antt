@@ -1,12 +1,12 @@
 -- Document 01, "Sound tables", sentence by sentence. SoundTest.antt has the same as a test that computes.
 use mathlib.Core.Path.{_≡_}
-use mathlib.Core.Logic.{_≢_}
+use mathlib.Core.Logic.{_≢_, _⊎_}
 use mathlib.Core.Bool.{true, false}
 use mathlib.Core.List.{List, [], _∷_, _++_, List·Memᴰ}
 use Prim.Native.Nat.{ℕ, suc, _≤_, _<_}
 use lib.ListN.{length, getD}
-use Rattle.model.specs.Table.{MARK, Words, headerOk}
-use Rattle.model.specs.Slots.{Slot, slot, RECORDINGS, recording, class, View, view, height}
+use Rattle.model.specs.Table.{MARK, Words, at, headerOk, noCollection}
+use Rattle.model.specs.Slots.{Slot, slot, RECORDINGS, recording, class, View, viewOf, height}
 use Rattle.model.specs.Search.{within, down}
 use Rattle.model.specs.Reached.{kept}
 use Rattle.model.specs.SoundTest.{Leftover, nothing, hiddenIn, missingIn, bothIn}
@@ -134,13 +134,21 @@ IsLeft v (bothIn p a) = LacksSlot v p a × OneHidden v p
 
 -- ---- settled and sound
 
--- where they are used alone they include what refusal 2 tests
+-- No node is reached from both roots.
+abbrev pub Apart : Words → Type 0
+Apart t = at t 3 ≢ 0 → (m : ℕ) → Reached (viewOf 1 t) m → Reached (viewOf 2 t) m → ⊥
+
+-- Each collection that there is, by the sentences of one tree; where they are used alone they include what refusal 2 tests.
 pub record Settled (t : Words) : Type 0 where
   pub header : headerOk t ≡ true
-  pub settled : SettledBut (view t) nothing
+  pub settled : (n : ℕ) → noCollection n t ≡ false → SettledBut (viewOf n t) nothing
+  pub apart : Apart t
 
 pub record Sound (t : Words) : Type 0 where
   pub header : headerOk t ≡ true
-  pub leftover : Leftover
-  pub left : IsLeft (view t) leftover
-  pub settled-but : SettledBut (view t) leftover
+  -- what each collection may have left; at most one leftover exists in the whole table
+  pub leftover : (n : ℕ) → Leftover
+  pub left : (n : ℕ) → noCollection n t ≡ false → IsLeft (viewOf n t) (leftover n)
+  pub settled-but : (n : ℕ) → noCollection n t ≡ false → SettledBut (viewOf n t) (leftover n)
+  pub one-left : at t 3 ≢ 0 → (leftover 1 ≡ nothing) ⊎ (leftover 2 ≡ nothing)
+  pub apart : Apart t

@@ -11,9 +11,9 @@ use Rattle.model.specs.declared.Missing.{Missing}
 use Rattle.model.specs.declared.Missing.the-variants.{Nowhere, Under, Several}
 use Rattle.model.specs.declared.Unfinished.{Unfinished}
 use Rattle.model.specs.Table.{MARK, Words, inRange, headerOk}
-use Rattle.model.specs.Slots.{Slot, recording, pointerOk, View, view, height}
+use Rattle.model.specs.Slots.{Slot, recording, pointerOk, View, height}
 use Rattle.model.specs.Search.{within}
-use Rattle.model.specs.Reached.{headOr, kept, named, nextChild, children, reached, mapping}
+use Rattle.model.specs.Reached.{headOr, kept, named, nextChild, children, reached, mapping, trees, reachedAll}
 
 unfoldable pub all {ℓ} : {A : Type ℓ} → (A → Bool) → List A → Bool
 all p [] = true
@@ -208,8 +208,24 @@ settledView v = orderly v && isNothing (leftover v)
 unfoldable pub soundView : View → Bool
 soundView v = orderly v && isAllowed v (leftover v)
 
-unfoldable pub settled : Words → Bool
-settled t = headerOk t && settledView (view t)
+-- ---- of a table of one or two collections
 
+-- the leftover of the whole table: of the first tree that is not finished
+unfoldable pub leftoverIn : List View → Option Leftover
+leftoverIn [] = some nothing
+leftoverIn (v ∷ vs) = cond (isNothing (leftover v)) (leftoverIn vs) (leftover v)
+
+abbrev pub leftoverAll : Words → Option Leftover
+leftoverAll t = leftoverIn (trees t)
+
+-- all but at most one are settled
+unfoldable pub oneLeft : List View → Bool
+oneLeft [] = true
+oneLeft (v ∷ vs) = cond (settledView v) (oneLeft vs) (all settledView vs)
+
+-- Each tree is sound, no node is reached from both roots, and at most one leftover exists in the whole table.
 unfoldable pub sound : Words → Bool
-sound t = headerOk t && soundView (view t)
+sound t = headerOk t && (all soundView (trees t) && (distinct (reachedAll t) && oneLeft (trees t)))
+
+unfoldable pub settled : Words → Bool
+settled t = headerOk t && (all settledView (trees t) && distinct (reachedAll t))

@@ -1,9 +1,9 @@
--- Document 01, "Table and node": the words of a table, its header, its nodes, and the empty table.
-use mathlib.Core.Bool.{Bool, true, cond, _&&_}
+-- Document 01, "Table and node": the words of a table, its header, its nodes, and the empty table; request 6: one collection or two.
+use mathlib.Core.Bool.{Bool, true, cond, not, _&&_, _||_}
 use mathlib.Core.List.{List, [], _∷_, _++_}
 use Prim.Native.Nat.{ℕ, _+_, _-_, _*_, _/_}
 use lib.Dec.{leb, eqb}
-use lib.ListN.{length, getD, take, drop, replicate}
+use lib.ListN.{length, getD, take, drop, replicate, set}
 use Rattle.model.specs.declared.Node.{Node}
 use Rattle.model.specs.declared.Outcome.{Outcome}
 use Rattle.model.specs.declared.Outcome.the-variants.{Done, Refused}
@@ -44,6 +44,10 @@ root t = at t 1
 abbrev pub nodes : Words → ℕ
 nodes t = at t 2
 
+-- Collection n's root stands in header word 1 or 3.
+abbrev pub rootWord : (n : ℕ) → ℕ
+rootWord n = 2 * n - 1
+
 -- a node number: 1 to N
 unfoldable pub inRange : ℕ → ℕ → Bool
 inRange n i = leb 1 i && leb i n
@@ -52,14 +56,23 @@ unfoldable pub allZero : Words → Bool
 allZero [] = true
 allZero (w ∷ ws) = eqb w 0 && allZero ws
 
--- Word 0 is 1; word 1 the root's node number; word 2 is N; words 3 to 7 are 0.
+-- Word 3 is 0 for no second collection, else its root's node number, and then N is not 1.
+abbrev pub secondOk : Words → Bool
+secondOk t = eqb (at t 3) 0 || (leb (at t 3) (nodes t) && leb 2 (nodes t))
+
+-- Word 0 is 1; word 1 the root's node number; word 2 is N; word 3 the second root's; words 4 to 7 are 0.
 unfoldable pub headerOk : Words → Bool
 headerOk t =
-    lengthOk (length t) && eqb (at t 0) 1 && eqb (nodes t) (nodesFor (length t)) && allZero (take 5 (drop 3 t)) && inRange (nodes t) (root t)
+    lengthOk (length t) && (eqb (at t 0) 1 && (eqb (nodes t) (nodesFor (length t)) && (allZero (take 4 (drop 4 t))
+    && (inRange (nodes t) (root t) && secondOk t))))
 
 -- what the header test answers: 0, or 2 for a wrong length or header, or a root outside 1 to N
 unfoldable pub headerNumber : Words → ℕ
 headerNumber t = cond (headerOk t) 0 2
+
+-- 17: the collection is not 1 or 2, or it is 2 where word 3 is 0
+unfoldable pub noCollection : (n : ℕ) → Words → Bool
+noCollection n t = not (eqb n 1) && (not (eqb n 2) || eqb (at t 3) 0)
 
 -- ---- nodes
 
@@ -101,12 +114,21 @@ spare t i = cond (hasNode t i) (take 4 (drop (nodeStart i + 4) t)) []
 unfoldable pub empty : ℕ → Words
 empty n = (1 ∷ 1 ∷ n ∷ replicate 5 0) ++ (MARK ∷ replicate (32 * n - 1) 0)
 
--- Making tests only the length: what it answers, and the words that it leaves.
-unfoldable pub making : Words → Outcome
-making t = cond (lengthOk (length t)) Done (Refused 2)
+-- With two collections nodes 1 and 2 are empty leaves.
+unfoldable pub emptyOf : (n N : ℕ) → Words
+emptyOf n N = cond (eqb n 2) (set (set (empty N) 3 2) (nodeStart 2) MARK) (empty N)
 
-unfoldable pub made : Words → Words
-made t = cond (lengthOk (length t)) (empty (nodesFor (length t))) t
+-- Making a table of n collections: 2 for a wrong length, or two collections with N = 1; then 17, if n is not 1 or 2; else 0.
+unfoldable pub makeNumber : (n : ℕ) → Words → ℕ
+makeNumber n t =
+    cond (not (lengthOk (length t)) || (eqb n 2 && eqb (nodesFor (length t)) 1)) 2 (cond (not (eqb n 1 || eqb n 2)) 17 0)
+
+-- what it answers, and the words that it leaves
+unfoldable pub making : (n : ℕ) → Words → Outcome
+making n t = cond (eqb (makeNumber n t) 0) Done (Refused (makeNumber n t))
+
+unfoldable pub made : (n : ℕ) → Words → Words
+made n t = cond (eqb (makeNumber n t) 0) (emptyOf n (nodesFor (length t))) t
 
 -- Document 01's number for each case: 0 where the call does its work.
 abbrev pub outcomeNumber : Outcome → ℕ

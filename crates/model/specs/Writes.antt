@@ -5,11 +5,11 @@ use mathlib.Core.Option.{Option, none, some}
 use Prim.Native.Nat.{ℕ, zero, suc, pred, _+_, _-_}
 use lib.Dec.{eqb, ltb}
 use lib.ListN.{length, getD, take, drop, replicate}
-use Rattle.model.specs.Table.{MARK, Words, nodes, root, nodeStart}
-use Rattle.model.specs.Slots.{Slot, slot, slotWords, pointerOf, withClass, View, nodeView, view, height, used, full}
+use Rattle.model.specs.Table.{MARK, Words, at, nodes, rootWord, nodeStart}
+use Rattle.model.specs.Slots.{Slot, slot, slotWords, pointerOf, withClass, View, nodeView, viewFrom, viewOf, view, height, used, full}
 use Rattle.model.specs.Search.{path}
-use Rattle.model.specs.Reached.{filter, headOr, reached}
-use Rattle.model.specs.SoundTest.{all, elem, Leftover, nothing, hiddenIn, missingIn, bothIn, leftover}
+use Rattle.model.specs.Reached.{filter, headOr, reachedAll}
+use Rattle.model.specs.SoundTest.{all, elem, Leftover, nothing, hiddenIn, missingIn, bothIn, leftoverAll}
 use Rattle.model.specs.Orders.{Store, put, apply}
 use Rattle.model.specs.Shifts.{inNode, pointerWord, lastPointer, shiftIn, shiftOut, close, placeOf, hiddenPlace}
 
@@ -34,9 +34,9 @@ unfoldable pub numbers : (from count : ℕ) → List ℕ
 numbers from zero = []
 numbers from (suc n) = from ∷ numbers (suc from) n
 
--- the nodes of these that are not reached
+-- the nodes of these that are reached from neither root
 unfoldable pub unreached : Words → List ℕ → List ℕ
-unreached t ns = filter (λ (n : ℕ). not (elem n (reached (view t)))) ns
+unreached t ns = filter (λ (m : ℕ). not (elem m (reachedAll t))) ns
 
 -- the unreachable nodes
 unfoldable pub unreachable : Words → List ℕ
@@ -77,12 +77,12 @@ unfoldable pub split : Words → (a b p : ℕ) → List Store
 split t a b p =
     putAll (nodeStart b) (splitWords t a) ++ (put (suc (nodeStart a)) b ∷ put (pointerWord a 5) 0 ∷ shiftInAt t p (middle t a .key) b)
 
--- New root: all 32 words of a node with left the old root, one level up, the rest 0; then header word 1.
-abbrev pub newRootAt : Words → (r : ℕ) → List Store
-newRootAt t r = putAll (nodeStart r) (nodeWords (root t) 0 (suc (height (view t))) 0 []) ++ (put 1 r ∷ [])
+-- New root: all 32 words of node r with left the old root, one level up, the rest 0; then the header word w of that root, 1 or 3.
+abbrev pub newRootAt : (w : ℕ) → Words → (r : ℕ) → List Store
+newRootAt w t r = putAll (nodeStart r) (nodeWords (at t w) 0 (suc (height (viewFrom t (at t w)))) 0 []) ++ (put w r ∷ [])
 
-unfoldable pub newRoot : Words → List Store
-newRoot t = newRootAt t (fresh t (root t))
+unfoldable pub newRoot : (n : ℕ) → Words → List Store
+newRoot n t = newRootAt (rootWord n) t (fresh t (at t (rootWord n)))
 
 -- ---- repair
 
@@ -103,18 +103,22 @@ repairOf t (some (missingIn p a false)) = attach t p a
 repairOf t (some (missingIn p a true)) = cutOff t a ++ attach t p a
 repairOf t (some (bothIn p a)) = closeAt t p ++ attach (apply (closeAt t p) t) p a
 
+-- of the one leftover, in whichever tree it is
 unfoldable pub repairStores : Words → List Store
-repairStores t = repairOf t (leftover (view t))
+repairStores t = repairOf t (leftoverAll t)
 
 -- the table as repair would leave it
 unfoldable pub repaired : Words → Words
 repaired t = apply (repairStores t) t
 
--- ---- insertion, deletion and a changed class
+-- ---- insertion, deletion and a changed class, in collection n
 
 -- the node on level l that the search for k stands on
-unfoldable pub standing : Words → (l k : ℕ) → ℕ
-standing t l k = getD (path (view t) k) (height (view t) - l) 0
+unfoldable pub standingIn : View → (l k : ℕ) → ℕ
+standingIn v l k = getD (path v k) (height v - l) 0
+
+abbrev pub standing : (n : ℕ) → Words → (l k : ℕ) → ℕ
+standing n t l k = standingIn (viewOf n t) l k
 
 module _ (v : View) where
   -- the unbroken run of full nodes from the leaf upward: the longest end of the path all of whose nodes are full
@@ -122,43 +126,44 @@ module _ (v : View) where
   runIn [] = 0
   runIn (n ∷ ns) = elim (all (λ (m : ℕ). full (v .node m .shown)) (n ∷ ns)) [ true ↦ length (n ∷ ns) | false ↦ runIn ns ]
 
-unfoldable pub run : Words → (k : ℕ) → ℕ
-run t k = runIn (view t) (path (view t) k)
+abbrev pub run : (n : ℕ) → Words → (k : ℕ) → ℕ
+run n t k = runIn (viewOf n t) (path (viewOf n t) k)
 
 -- the run includes the root
-unfoldable pub rootInRun : Words → (k : ℕ) → Bool
-rootInRun t k = eqb (run t k) (suc (height (view t)))
+unfoldable pub rootInRun : (n : ℕ) → Words → (k : ℕ) → Bool
+rootInRun n t k = eqb (run n t k) (suc (height (viewOf n t)))
 
--- the run's lowest n nodes split, from the highest down; the parent is looked up after the split above it
-unfoldable pub splits : (n : ℕ) → Words → (k : ℕ) → List Store
-splits zero t k = []
-splits (suc l) t k =
-    let a = standing t l k in
-    let ss = split t a (fresh t a) (standing t (suc l) k) in
-    ss ++ splits l (apply ss t) k
+-- the run's lowest m nodes split, from the highest down; the parent is looked up after the split above it
+unfoldable pub splits : (n m : ℕ) → Words → (k : ℕ) → List Store
+splits n zero t k = []
+splits n (suc l) t k =
+    let a = standing n t l k in
+    let ss = split t a (fresh t a) (standing n t (suc l) k) in
+    ss ++ splits n l (apply ss t) k
 
-unfoldable pub rootStores : Words → (k : ℕ) → List Store
-rootStores t k = elim (rootInRun t k) [ true ↦ newRoot t | false ↦ [] ]
+unfoldable pub rootStores : (n : ℕ) → Words → (k : ℕ) → List Store
+rootStores n t k = elim (rootInRun n t k) [ true ↦ newRoot n t | false ↦ [] ]
 
 -- Insertion after repair: a new root if the run includes the root; the splits; shift in at the leaf, k with the pointer x.
-unfoldable pub insertSettled : Words → (k x : ℕ) → List Store
-insertSettled t k x =
-    let s₁ = rootStores t k in
+unfoldable pub insertSettled : (n : ℕ) → Words → (k x : ℕ) → List Store
+insertSettled n t k x =
+    let s₁ = rootStores n t k in
     let t₁ = apply s₁ t in
-    let s₂ = splits (run t k) t₁ k in
+    let s₂ = splits n (run n t k) t₁ k in
     let t₂ = apply s₂ t₁ in
-    s₁ ++ (s₂ ++ shiftInAt t₂ (standing t₂ 0 k) k x)
+    s₁ ++ (s₂ ++ shiftInAt t₂ (standing n t₂ 0 k) k x)
 
-unfoldable pub insertStores : Words → (k x : ℕ) → List Store
-insertStores t k x = repairStores t ++ insertSettled (repaired t) k x
+unfoldable pub insertStores : (n : ℕ) → Words → (k x : ℕ) → List Store
+insertStores n t k x = repairStores t ++ insertSettled n (repaired t) k x
 
 -- the child of p before its child x
 unfoldable pub childBefore : View → (p x : ℕ) → ℕ
 childBefore v p x = let ss = v .node p .shown in lastPointer (v .node p .left) (take (placeOf (v .node x .fence) ss) ss)
 
 -- The deletion of a slot empties its leaf x, which is not the leftmost child of its parent p; a root leaf has no parent.
-unfoldable pub freesLeaf : Words → (p x : ℕ) → Bool
-freesLeaf t p x = let v = view t in eqb (length (v .node x .shown)) 1 && (ltb 0 (height v) && not (eqb (v .node p .left) x))
+unfoldable pub freesLeaf : (n : ℕ) → Words → (p x : ℕ) → Bool
+freesLeaf n t p x =
+    eqb (length (nodeView t x .shown)) 1 && (ltb 0 (height (viewOf n t)) && not (eqb (nodeView t p .left) x))
 
 -- Shift the slot of leaf x out at the parent p, then store its sibling into its left neighbour's sibling word.
 unfoldable pub freeStores : Words → (p x : ℕ) → List Store
@@ -168,37 +173,37 @@ freeStores t p x =
 
 -- Deletion after repair: shift out; where that empties a leaf which is not its parent's leftmost child, the leaf is freed. Leaf and
 -- parent are looked up before the first store.
-unfoldable pub deleteSettled : Words → (k : ℕ) → List Store
-deleteSettled t k =
-    let x = standing t 0 k in
-    let p = standing t 1 k in
+unfoldable pub deleteSettled : (n : ℕ) → Words → (k : ℕ) → List Store
+deleteSettled n t k =
+    let x = standing n t 0 k in
+    let p = standing n t 1 k in
     let s₁ = shiftOutAt t x k in
-    s₁ ++ elim (freesLeaf t p x) as (λ b. List Store) [ true ↦ freeStores (apply s₁ t) p x | false ↦ [] ]
+    s₁ ++ elim (freesLeaf n t p x) as (λ b. List Store) [ true ↦ freeStores (apply s₁ t) p x | false ↦ [] ]
 
-unfoldable pub deleteStores : Words → (k : ℕ) → List Store
-deleteStores t k = repairStores t ++ deleteSettled (repaired t) k
+unfoldable pub deleteStores : (n : ℕ) → Words → (k : ℕ) → List Store
+deleteStores n t k = repairStores t ++ deleteSettled n (repaired t) k
 
--- A changed class is one store, after repair: the pointer of k's slot, with class c.
-unfoldable pub setClassAt : Words → (n k c : ℕ) → List Store
-setClassAt t n k c =
-    let ss = nodeView t n .shown in
+-- A changed class is one store, after repair: the pointer of k's slot in leaf x, with class c.
+unfoldable pub setClassAt : Words → (x k c : ℕ) → List Store
+setClassAt t x k c =
+    let ss = nodeView t x .shown in
     let p = placeOf k ss in
-    put (pointerWord n p) (withClass (getD ss p (slot 0 0) .pointer) c) ∷ []
+    put (pointerWord x p) (withClass (getD ss p (slot 0 0) .pointer) c) ∷ []
 
-unfoldable pub classStores : Words → (k c : ℕ) → List Store
-classStores t k c = repairStores t ++ setClassAt (repaired t) (standing (repaired t) 0 k) k c
+unfoldable pub classStores : (n : ℕ) → Words → (k c : ℕ) → List Store
+classStores n t k c = repairStores t ++ setClassAt (repaired t) (standing n (repaired t) 0 k) k c
 
--- ---- the writing calls
+-- ---- the writing calls; a repair names no collection
 
 pub data Call : Type 0 where
-  insertion : (k r c : ℕ) → Call
-  deletion : (k : ℕ) → Call
-  classChange : (k c : ℕ) → Call
+  insertion : (n k r c : ℕ) → Call
+  deletion : (n k : ℕ) → Call
+  classChange : (n k c : ℕ) → Call
   repair : Call
 
 -- the stores of an accepted call, in document 01's order
 unfoldable pub storesOf : Call → Words → List Store
-storesOf (insertion k r c) t = insertStores t k (pointerOf r c)
-storesOf (deletion k) t = deleteStores t k
-storesOf (classChange k c) t = classStores t k c
+storesOf (insertion n k r c) t = insertStores n t k (pointerOf r c)
+storesOf (deletion n k) t = deleteStores n t k
+storesOf (classChange n k c) t = classStores n t k c
 storesOf repair t = repairStores t

@@ -1,17 +1,16 @@
 -- The definitions' values, from the facts that the functions' tests establish.
-use mathlib.Core.Bool.{Bool, true, false, cond, and-false, false≢true}
+use mathlib.Core.Bool.{Bool, true, false, and-false}
 use mathlib.Core.Path.{_≡_, refl, sym, _∙_}
-use mathlib.Core.Logic.{⊎-elim}
 use Prim.Native.Nat.{ℕ, _+_, _-_, _*_, _/_, _≤_, _<_}
 use native.Mathlib.Omega.{arith}
 use lib.Dec.{leb}
 use lib.ListN.{length, take, drop, replicate}
 use borrow.Author.Tests.{leb-true, le-leb, lt-ltb, le-ltb}
-use Rattle.model.specs.Table.{Words, at, nodeStart, nodesFor, lengthOk, headerOk, headerNumber, root, nodes, hasNode, node, nodeFrom, blank}
-use Rattle.list_laws.proofs.Tools.{refuted, same-test, same-or-not}
-use Rattle.table_laws.proofs.Header.{LengthFacts, length-iff, HeaderFacts, header-iff}
+use Rattle.model.specs.Table.{Words, at, nodeStart, nodesFor, lengthOk, nodes, hasNode, node, nodeFrom, blank}
+use Rattle.list_laws.proofs.Tools.{refuted, same-test}
+use Rattle.table_laws.proofs.Header.{LengthFacts, length-iff, HeaderFacts}
 use Rattle.table_laws.proofs.Nodes.{has-node-iff, node-in, node-out}
-use Rattle.node.specs.Word.{nodesIn, rootIn, startOf, wordOf}
+use Rattle.node.specs.Word.{nodesIn, startOf, wordOf}
 
 pub length-refused : (len : ℕ) → (LengthFacts len (nodesFor len) → ⊥) → lengthOk len ≡ false
 length-refused len h = refuted _ (λ e. h (length-iff len _ .0 (e, refl)))
@@ -24,6 +23,9 @@ pub nodes-in-some : (len n : ℕ) → LengthFacts len n → nodesIn len ≡ n
 unfolding nodesIn
 nodes-in-some len n f = let e = length-iff len n .1 f in rw (e .0) (sym (e .1))
 
+pub nodes-in-sized : (len m n : ℕ) → n ≡ nodesIn len → LengthFacts len m → LengthFacts len n
+nodes-in-sized len m n e f = rw (e, nodes-in-some len m f) f
+
 pub nodes-in-refused : (len : ℕ) → nodesIn len ≡ 0 → lengthOk len ≡ false
 nodes-in-refused len h = refuted _ (λ e. let f = length-iff len _ .0 (e, refl) in omega (arith, f, nodes-in-some len _ f))
 
@@ -34,46 +36,9 @@ nodes-in-found len n e h = go (lengthOk len) refl
     go true q = let f = length-iff len _ .0 (q, refl) in rw (e, nodes-in-some len _ f) f
     go false q = absurd (h (e ∙ nodes-in-none len q))
 
-pub root-refused : (t : Words) → (HeaderFacts t → ⊥) → rootIn t ≡ 0
-unfolding rootIn
-root-refused t h = rw (refuted (headerOk t) (λ e. h (header-iff t .0 e)))
-
 -- the N of the header is that of the length
 pub header-nodes : (t : Words) (n : ℕ) → n ≡ nodesIn (length t) → HeaderFacts t → n ≡ nodes t
 header-nodes t n e f = e ∙ nodes-in-some (length t) (nodes t) (f .size)
-
-pub root-accepted : (t : Words) → HeaderFacts t → rootIn t ≡ root t
-unfolding rootIn
-root-accepted t f = rw (header-iff t .1 f)
-
--- the word that was read is the answer, also where it is 0
-pub root-last : (t : Words) → (1 ≤ root t → HeaderFacts t) → root t ≡ rootIn t
-unfolding rootIn
-root-last t h = go (headerOk t) refl
-  where
-    go : (b : Bool) → headerOk t ≡ b → root t ≡ cond b (root t) 0
-    go true e = refl
-    go false e = ⊎-elim (λ z. z) (λ z. absurd (false≢true (sym e ∙ header-iff t .1 (h (omega arith))))) (same-or-not (root t) 0)
-
--- a root of 0 is no root: the header is refused
-pub root-none : (t : Words) (r : ℕ) → r ≡ rootIn t → r ≡ 0 → headerOk t ≡ false
-root-none t r e z = refuted _ (λ h. let f = header-iff t .0 h in omega (arith, e, z, root-accepted t f, f .root-some))
-
-pub root-some : (t : Words) (r : ℕ) → r ≡ rootIn t → (r ≡ 0 → ⊥) → (headerOk t ≡ true) × (r ≡ root t)
-unfolding rootIn
-root-some t r e z = go (headerOk t) refl e
-  where
-    go : (b : Bool) → headerOk t ≡ b → r ≡ cond b (root t) 0 → (headerOk t ≡ true) × (r ≡ root t)
-    go true h q = (h, q)
-    go false h q = absurd (z q)
-
-pub header-refused : (t : Words) (r : ℕ) → r ≡ rootIn t → r ≡ 0 → 2 ≡ headerNumber t
-unfolding headerNumber
-header-refused t r e z = rw (root-none t r e z)
-
-pub header-accepted : (t : Words) (r : ℕ) → r ≡ rootIn t → (r ≡ 0 → ⊥) → 0 ≡ headerNumber t
-unfolding headerNumber
-header-accepted t r e z = rw (root-some t r e z .0)
 
 pub has-none : (t : Words) (i : ℕ) → (1 ≤ i → 8 + 32 * i ≤ length t → ⊥) → hasNode t i ≡ false
 has-none t i h = refuted _ (λ e. let u = has-node-iff t i .0 e in h (u .0) (u .1))

@@ -2,4 +2,5 @@
 pub mod Answers
 pub mod Loops
 pub mod Making
+pub mod Roots
 pub mod WordLaws

@@ -1,26 +1,81 @@
--- Zeros with four stores are the empty table; what making answers and leaves.
-use mathlib.Core.Bool.{false}
-use mathlib.Core.Path.{_≡_, refl}
+-- What making answers by its tests; zeros with four stores are the empty table, with two more that of two collections.
+use mathlib.Core.Bool.{Bool, true, false, cond, not, _&&_, _||_}
+use mathlib.Core.Path.{_≡_, refl, sym, _∙_}
+use mathlib.Core.Logic.{_≢_}
 use Prim.Native.Nat.{ℕ, _+_, _-_, _*_}
 use native.Mathlib.Omega.{arith}
+use lib.Dec.{eqb}
 use lib.ListN.{length, set, replicate, replicate-append-replicate}
-use Rattle.model.specs.Table.{MARK, Words, lengthOk, empty, making, made}
+use borrow.Author.Tests.{eq-eqb, ne-eqb, eqb-true, eqb-false}
+use Rattle.model.specs.Table.{MARK, Words, nodesFor, lengthOk, nodeStart, empty, emptyOf, makeNumber, making, made}
 use Rattle.model.specs.declared.Outcome.the-variants.{Done, Refused}
+use Rattle.list_laws.proofs.Tools.{refuted}
 use Rattle.table_laws.proofs.Header.{LengthFacts, length-iff}
+
+-- ---- the number
+
+pub number-length : (n : ℕ) (t : Words) → lengthOk (length t) ≡ false → 2 ≡ makeNumber n t
+unfolding makeNumber
+number-length n t h = rw h
+
+module _ (n : ℕ) (t : Words) (N : ℕ) (f : LengthFacts (length t) N) where
+  pub number-one : n ≡ 1 → 0 ≡ makeNumber n t
+  unfolding makeNumber
+  number-one e = rw (length-iff (length t) N .1 f .0, e)
+
+  pub number-other : n ≢ 1 → n ≢ 2 → 17 ≡ makeNumber n t
+  unfolding makeNumber
+  number-other a b = rw (length-iff (length t) N .1 f .0, ne-eqb n 1 a, ne-eqb n 2 b)
+
+  pub number-small : n ≡ 2 → N ≡ 1 → 2 ≡ makeNumber n t
+  unfolding makeNumber
+  number-small e z = let l = length-iff (length t) N .1 f in rw (l .0, e, ← l .1, z)
+
+  pub number-two : n ≡ 2 → N ≢ 1 → 0 ≡ makeNumber n t
+  unfolding makeNumber
+  number-two e z = let l = length-iff (length t) N .1 f in rw (l .0, e, ← l .1, ne-eqb N 1 z)
+
+-- where it is 0: the length is a table's, and any n but 1 is 2, with room for two leaves
+pub record Makes (n : ℕ) (t : Words) : Type 0 where
+  pub size : LengthFacts (length t) (nodesFor (length t))
+  pub two : n ≢ 1 → (n ≡ 2) × (nodesFor (length t) ≢ 1)
+
+pub makes : (n : ℕ) (t : Words) → makeNumber n t ≡ 0 → Makes n t
+unfolding makeNumber
+makes n t z = go (lengthOk (length t)) (eqb n 1) (eqb n 2) (eqb (nodesFor (length t)) 1) refl refl refl refl z
+  where
+    go : (a b c d : Bool) → lengthOk (length t) ≡ a → eqb n 1 ≡ b → eqb n 2 ≡ c → eqb (nodesFor (length t)) 1 ≡ d → cond {A = ℕ} (not a || (c && d)) 2 (cond (not (b || c)) 17 0) ≡ 0 → Makes n t
+    go false b c d p q r s e = absurd (omega (arith, e))
+    go true true c d p q r s e = record { size = length-iff (length t) _ .0 (p, refl); two = λ y. absurd (y (eqb-true n 1 q)) }
+    go true false true true p q r s e = absurd (omega (arith, e))
+    go true false true false p q r s e = record { size = length-iff (length t) _ .0 (p, refl); two = λ y. (eqb-true n 2 r, eqb-false _ 1 s) }
+    go true false false d p q r s e = absurd (omega (arith, e))
+
+-- ---- the answer and the words
 
 abbrev pub stored : Words → ℕ → Words
 stored d n = set (set (set (set d 0 1) 1 1) 2 n) 8 MARK
 
-pub stored-empty : (len n : ℕ) → LengthFacts len n → stored (replicate len 0) n ≡ empty n
+stored-empty : (len n : ℕ) → LengthFacts len n → stored (replicate len 0) n ≡ empty n
 unfolding empty
 stored-empty len n f =
     let e : len ≡ 9 + (32 * n - 1) = omega arith in
     rw (e, ← replicate-append-replicate {A = ℕ} 9 (32 * n - 1) 0)
 
-pub making-refused : (t : Words) → lengthOk (length t) ≡ false → (Refused 2 ≡ making t) × (t ≡ made t)
-unfolding making made
-making-refused t h = rw h (refl, refl)
+module _ (n : ℕ) (t : Words) where
+  pub making-refused : (x : ℕ) → x ≡ makeNumber n t → x ≢ 0 → (Refused x ≡ making n t) × (t ≡ made n t)
+  unfolding making made
+  making-refused x e z = rw (← e, ne-eqb x 0 z) (refl, refl)
 
-pub making-done : (t d : Words) (n : ℕ) → LengthFacts (length t) n → d ≡ replicate (length t) 0 → (Done ≡ making t) × (stored d n ≡ made t)
-unfolding making made
-making-done t d n f e = let l = length-iff (length t) n .1 f in rw (l .0) (refl, rw (e, ← l .1) (stored-empty (length t) n f))
+  module _ (d : Words) (z : makeNumber n t ≡ 0) (N : ℕ) (f : LengthFacts (length t) N) (e : d ≡ replicate (length t) 0) where
+    making-done : (u : Words) → u ≡ emptyOf n N → (Done ≡ making n t) × (u ≡ made n t)
+    unfolding making made
+    making-done u q = rw (z, ← length-iff (length t) N .1 f .1) (refl, q)
+
+    pub making-one : n ≡ 1 → (Done ≡ making n t) × (stored d N ≡ made n t)
+    unfolding emptyOf
+    making-one o = making-done (stored d N) (rw (o, e) (stored-empty (length t) N f))
+
+    pub making-two : n ≡ 2 → (Done ≡ making n t) × (set (set (stored d N) 3 2) 40 MARK ≡ made n t)
+    unfolding emptyOf nodeStart
+    making-two o = making-done (set (set (stored d N) 3 2) 40 MARK) (rw (o, e, stored-empty (length t) N f))

@@ -1,16 +1,20 @@
--- The number of nodes by a slice's length, the root, where a node begins, and one word of a node.
+-- The number of nodes by a slice's length, a collection's root, where a node begins, and one word of a node.
 use mathlib.Core.Bool.{cond, _&&_}
 use Prim.Native.Nat.{ℕ, _+_}
 use lib.Dec.{ltb}
-use Rattle.model.specs.Table.{Words, at, lengthOk, nodesFor, root, headerOk, nodeStart, hasNode}
+use Rattle.model.specs.Table.{Words, at, lengthOk, nodesFor, headerOk, rootWord, noCollection, nodeStart, hasNode}
 
 -- the N of a slice of this length; 0 for a wrong length
 unfoldable pub nodesIn : ℕ → ℕ
 nodesIn len = cond (lengthOk len) (nodesFor len) 0
 
--- the root's node number; 0 where the header is refused
-unfoldable pub rootIn : Words → ℕ
-rootIn t = cond (headerOk t) (root t) 0
+-- collection n's root; 0 where the header is refused, or no such collection is there
+unfoldable pub rootIn : (n : ℕ) → Words → ℕ
+rootIn n t = cond (headerOk t) (cond (noCollection n t) 0 (at t (rootWord n))) 0
+
+-- 2 where the header is refused, 17 where no such collection is there, else 0
+unfoldable pub numberIn : (n : ℕ) → Words → ℕ
+numberIn n t = cond (headerOk t) (cond (noCollection n t) 17 0) 2
 
 -- the index of node i's first word; 0 for a number that no node has
 unfoldable pub startOf : Words → ℕ → ℕ

@@ -3,11 +3,12 @@ use model::MARK;
 use model::Node;
 use model::Outcome;
 ghost use mathlib.Core.Path.{_≡_};
-ghost use mathlib.Core.Bool.{true};
+ghost use mathlib.Core.Bool.{true, false, _&&_, _||_};
 ghost use Prim.Native.Nat.{_+_, _≤_};
+ghost use lib.Dec.{eqb, leb};
 ghost use lib.ListN.{length, take, drop, replicate};
-ghost use Rattle.model.specs.Table.{root, headerOk, headerNumber, hasNode, node, making, made};
-ghost use Rattle.node.specs.Word.{nodesIn, rootIn, startOf, wordOf};
+ghost use Rattle.model.specs.Table.{at, headerOk, headerNumber, rootWord, noCollection, hasNode, node, makeNumber, making, made};
+ghost use Rattle.node.specs.Word.{nodesIn, rootIn, numberIn, startOf, wordOf};
 
 // The N of a slice of this length; 0 for a wrong length.
 fn nodes_in(len: usize) -> u64
@@ -26,9 +27,22 @@ fn nodes_in(len: usize) -> u64
     n as u64
 }
 
-// The root's node number, in one look at the header; 0 for a wrong length or header, or a root outside 1 to N.
-pub fn root(table: &[u64]) -> u64
-    ensures { λ r. ⌜ r ≡ rootIn (now (table .entry)) ⌝ }
+// Header word 3 fits a table of n nodes: 0 for no second collection, else a node number, and then n is not 1.
+fn second_fits(n: u64, second: u64) -> bool
+    ensures { λ r. ⌜ r ≡ (eqb second 0 || (leb second n && leb 2 n)) ⌝ }
+{
+    if second == 0 {
+        return true;
+    }
+    if second <= n {
+        return 2 <= n;
+    }
+    false
+}
+
+// The collection's root, in one look at the header; 0 where it or the collection is refused.
+pub fn root(table: &[u64], collection: u64) -> u64
+    ensures { λ r. ⌜ r ≡ rootIn collection (now (table .entry)) ⌝ }
 {
     let n = nodes_in(table.len());
     if n == 0 {
@@ -40,36 +54,66 @@ pub fn root(table: &[u64]) -> u64
     if table[2] != n {
         return 0;
     }
-    let mut w = 3;
+    let mut w = 4;
     while w < 8 {
         if table[w] != 0 {
             return 0;
         }
         w += 1;
     }
-    let root = table[1];
-    if n < root {
+    let first = table[1];
+    if first == 0 {
         return 0;
     }
-    root
+    if n < first {
+        return 0;
+    }
+    let second = table[3];
+    if !second_fits(n, second) {
+        return 0;
+    }
+    if collection == 1 {
+        return first;
+    }
+    if collection == 2 {
+        return second;
+    }
+    0
 }
 
 // 0, or 2 for a wrong length or header, or a root outside 1 to N.
 pub fn header(table: &[u64]) -> u8
     ensures { λ r. ⌜ r ≡ headerNumber (now (table .entry)) ⌝ }
 {
-    if root(table) == 0 {
+    if root(table, 1) == 0 {
         return 2;
     }
     0
 }
 
-// The root's number, of a table whose header is right.
-pub fn root_of(table: &[u64]) -> u64
-    requires { ⌜ headerOk (now table) ≡ true ⌝ }
-    ensures { λ r. ⌜ r ≡ root (now (table .entry)) ⌝ }
+// 0, or 2 as the header test, then 17 for a collection that the table does not have. Only a refusal looks at the header twice.
+pub fn refusal(table: &[u64], collection: u64) -> u8
+    ensures { λ r. ⌜ r ≡ numberIn collection (now (table .entry)) ⌝ }
 {
-    table[1]
+    if root(table, collection) != 0 {
+        return 0;
+    }
+    if header(table) != 0 {
+        return 2;
+    }
+    17
+}
+
+// The root of a collection that the table has, where its header is right.
+pub fn root_of(table: &[u64], collection: u64) -> u64
+    requires { ⌜ headerOk (now table) ≡ true ⌝ }
+    requires { ⌜ noCollection collection (now table) ≡ false ⌝ }
+    ensures { λ r. ⌜ r ≡ at (now (table .entry)) (rootWord collection) ⌝ }
+{
+    if collection == 1 {
+        return table[1];
+    }
+    table[3]
 }
 
 // Whether node i lies in the table. The length is divided, so that no number is too large to ask for.
@@ -161,19 +205,45 @@ fn zero(table: &mut [u64])
     }
 }
 
-// An empty table over the whole slice. Only the length is tested; a refusal changes no word.
-pub fn make(table: &mut [u64]) -> Outcome
-    ensures { λ r. ⌜ r ≡ making (now (table .entry)) ⌝ }
-    ensures { λ r. ⌜ now (table .exit) ≡ made (now (table .entry)) ⌝ }
+// 0, or why no table of these collections is made in a slice of this length.
+fn make_number(table: &[u64], collections: u64) -> u8
+    ensures { λ r. ⌜ r ≡ makeNumber collections (now (table .entry)) ⌝ }
 {
     let n = nodes_in(table.len());
     if n == 0 {
-        return Outcome::Refused(2);
+        return 2;
     }
+    if collections == 1 {
+        return 0;
+    }
+    if collections != 2 {
+        return 17;
+    }
+    if n == 1 {
+        return 2;
+    }
+    0
+}
+
+// An empty table of one or two collections over the whole slice. Only the length is tested; a refusal changes no word.
+pub fn make(table: &mut [u64], collections: u64) -> Outcome
+    ensures { λ r. ⌜ r ≡ making collections (now (table .entry)) ⌝ }
+    ensures { λ r. ⌜ now (table .exit) ≡ made collections (now (table .entry)) ⌝ }
+{
+    let number = make_number(table, collections);
+    if number != 0 {
+        return Outcome::Refused(number);
+    }
+    let n = nodes_in(table.len());
     zero(table);
     table[0] = 1;
     table[1] = 1;
     table[2] = n;
     table[8] = MARK;
+    if collections == 1 {
+        return Outcome::Done;
+    }
+    table[3] = 2;
+    table[40] = MARK;
     Outcome::Done
 }

@@ -177,12 +177,12 @@ needed-one r left total h = let e = above-one left r h in omega arith
 
 -- ---- a whole leaf
 
-pub leaf-made : (t u ws slots words : Words) (m e j w next fence : ℕ) → slots ≡ slotted (take 11 (drop (11 * j) (pairsIn ws m))) → fence ≡ leafFence ws j → next ≡ nextNumber j e
+pub leaf-made : (t u ws slots words : Words) (z m e j w next fence : ℕ) → slots ≡ slotted (take 11 (drop (11 * j) (pairsIn ws m))) → fence ≡ leafFence ws j → next ≡ nextNumber (z + j) (z + e)
     → words ≡ headWords MARK next 0 fence ++ slots → t ≡ sets u w words
-    → t ≡ sets u w (nodeWords MARK (nextNumber j e) 0 (leafFence ws j) (take 11 (drop (11 * j) (pairsIn ws m))))
-leaf-made t u ws slots words m e j w next fence a b c d f =
-    let q : headWords MARK next 0 fence ++ slots ≡ nodeWords MARK (nextNumber j e) 0 (leafFence ws j) (take 11 (drop (11 * j) (pairsIn ws m))) = rw (a, b, c)
-    (node-made MARK (nextNumber j e) 0 (leafFence ws j) (take 11 (drop (11 * j) (pairsIn ws m)))) in
+    → t ≡ sets u w (nodeWords MARK (nextNumber (z + j) (z + e)) 0 (leafFence ws j) (take 11 (drop (11 * j) (pairsIn ws m))))
+leaf-made t u ws slots words z m e j w next fence a b c d f =
+    let q : headWords MARK next 0 fence ++ slots ≡ nodeWords MARK (nextNumber (z + j) (z + e)) 0 (leafFence ws j) (take 11 (drop (11 * j) (pairsIn ws m))) = rw (a, b, c)
+    (node-made MARK (nextNumber (z + j) (z + e)) 0 (leafFence ws j) (take 11 (drop (11 * j) (pairsIn ws m)))) in
     f ∙ ap (sets u w) (d ∙ q)
 
 -- a whole inner node

@@ -16,6 +16,7 @@ use Rattle.model.specs.Packing.{groups, Made, lowest, leafWith, leafFrom, botto
 use Rattle.list_laws.proofs.Tools.{double-suc}
 use Rattle.table_laws.proofs.SlotWords.{slots-cons}
 use Rattle.word_laws.proofs.NewNodes.{length-node-words}
+use Rattle.word_laws.proofs.SlotWords.{length-slots}
 use Rattle.pack_laws.proofs.Counts.{bottom-length}
 use Rattle.pack.specs.Rows.{pairsIn, nextNumber, leafFence, leafWords}
 
@@ -65,16 +66,8 @@ slots-drop (suc n) [] = rw (double-suc n)
 slots-drop (suc n) (k ∷ []) = rw (double-suc n)
 slots-drop (suc n) (k ∷ p ∷ ws) = rw (double-suc n) (slots-drop n ws)
 
-slots-length : (n : ℕ) (ws : Words) → length ws ≡ 2 * n → length (slotsOf ws) ≡ n
-unfolding slotsOf
-slots-length zero [] h = refl
-slots-length zero (k ∷ ws) h = absurd (omega arith)
-slots-length (suc n) [] h = absurd (omega arith)
-slots-length (suc n) (k ∷ []) h = absurd (omega arith)
-slots-length (suc n) (k ∷ p ∷ ws) h = ap suc (slots-length n ws (omega arith))
-
 pub pairs-length : (ws : Words) (m : ℕ) → 2 * m ≤ length ws → length (pairsIn ws m) ≡ m
-pairs-length ws m h = slots-length m (take (2 * m) ws) (length-take-le (2 * m) ws h)
+pairs-length ws m h = length-slots m (take (2 * m) ws) (length-take-le (2 * m) ws h)
 
 -- ---- leaf j
 
@@ -104,7 +97,7 @@ unfolding nextNumber
 next-is k e [] h = rw (le-ltb (suc k) e (omega arith))
 next-is k e (x ∷ xs) h = rw (lt-ltb (suc k) e (omega arith))
 
-module _ (ws : Words) (m : ℕ) (long : 2 * m ≤ length ws) where
+module _ (ws : Words) (z m : ℕ) (long : 2 * m ≤ length ws) where
   abbrev ps : List Slot
   ps = pairsIn ws m
 
@@ -122,7 +115,7 @@ module _ (ws : Words) (m : ℕ) (long : 2 * m ≤ length ws) where
       let a = getD-take (2 * m) ws (2 * p) 0 (omega arith) in
       rw (ne-eqb (suc i) 0 (λ z. omega arith), e, s, a)
 
-  pub leaf-words : (j : ℕ) → j < leaves → rowWords 0 (suc j) (drop j (bottom ps)) ≡ leafWords ws m leaves j ++ rowWords 0 (suc (suc j)) (drop (suc j) (bottom ps))
+  pub leaf-words : (j : ℕ) → j < leaves → rowWords 0 (suc (z + j)) (drop j (bottom ps)) ≡ leafWords ws z m leaves j ++ rowWords 0 (suc (suc (z + j))) (drop (suc j) (bottom ps))
   unfolding rowWords
   leaf-words j h =
       let n = pairs-length ws m long in
@@ -130,9 +123,9 @@ module _ (ws : Words) (m : ℕ) (long : 2 * m ≤ length ws) where
       let b = bottom-length ps in
       let l = length-drop (suc j) (bottom ps) in
       let len : length (bottom ps) ≡ leaves = b ∙ ap (λ (k : ℕ). suc ((k - 1) / 11)) n in
-      ap (rowWords 0 (suc j)) (bottom-at ps j (rw n h))
-      ∙ ap (λ (k : ℕ). nodeWords MARK k 0 (fenceIn ps j) (take 11 (drop (11 * j) ps)) ++ rowWords 0 (suc (suc j)) rest) (next-is j leaves rest (omega arith))
-      ∙ ap (λ (k : ℕ). nodeWords MARK (nextNumber j leaves) 0 k (take 11 (drop (11 * j) ps)) ++ rowWords 0 (suc (suc j)) rest) (sym (fence-is j h))
+      ap (rowWords 0 (suc (z + j))) (bottom-at ps j (rw n h))
+      ∙ ap (λ (k : ℕ). nodeWords MARK k 0 (fenceIn ps j) (take 11 (drop (11 * j) ps)) ++ rowWords 0 (suc (suc (z + j))) rest) (next-is (z + j) (z + leaves) rest (omega arith))
+      ∙ ap (λ (k : ℕ). nodeWords MARK (nextNumber (z + j) (z + leaves)) 0 k (take 11 (drop (11 * j) ps)) ++ rowWords 0 (suc (suc (z + j))) rest) (sym (fence-is j h))
 
   pub leaves-end : drop leaves (bottom ps) ≡ []
   leaves-end = let n = pairs-length ws m long in let b = bottom-length ps in drop-of-length-le (bottom ps) {i = leaves} (omega (arith, b ∙ ap (λ (k : ℕ). suc ((k - 1) / 11)) n))
@@ -158,37 +151,38 @@ fence-same t ws j h =
     let b = getD-take (22 * suc j) ws (22 * j) 0 (omega arith) in
     ap (λ (k : ℕ). cond (eqb j 0) 0 k) (sym a ∙ ap (λ (l : Words). getD l (22 * j) 0) h ∙ b)
 
-words-same : (t ws : Words) (m e j : ℕ) → take (22 * suc j) t ≡ take (22 * suc j) ws → leafWords t m e j ≡ leafWords ws m e j
-words-same t ws m e j h =
-    ap (λ (k : ℕ). nodeWords MARK (nextNumber j e) 0 k (take 11 (drop (11 * j) (pairsIn t m)))) (fence-same t ws j h)
-    ∙ ap (nodeWords MARK (nextNumber j e) 0 (leafFence ws j)) (slots-same t ws m j h)
+words-same : (t ws : Words) (z m e j : ℕ) → take (22 * suc j) t ≡ take (22 * suc j) ws → leafWords t z m e j ≡ leafWords ws z m e j
+words-same t ws z m e j h =
+    ap (λ (k : ℕ). nodeWords MARK (nextNumber (z + j) (z + e)) 0 k (take 11 (drop (11 * j) (pairsIn t m)))) (fence-same t ws j h)
+    ∙ ap (nodeWords MARK (nextNumber (z + j) (z + e)) 0 (leafFence ws j)) (slots-same t ws m j h)
 
 -- the leaves from j on are written, and the pairs before them stand as they did
-pub record Written (ws : Words) (m e : ℕ) (t : Words) (j : ℕ) : Type 0 where
+pub record Written (ws : Words) (z m e : ℕ) (t : Words) (j : ℕ) : Type 0 where
   pub few : j ≤ e
   pub long : length t ≡ length ws
   pub before : take (22 * j) t ≡ take (22 * j) ws
-  pub after : drop (32 * j) t ≡ rowWords 0 (suc j) (drop j (bottom (pairsIn ws m))) ++ drop (32 * e) ws
+  pub after : drop (32 * j) t ≡ rowWords 0 (suc (z + j)) (drop j (bottom (pairsIn ws m))) ++ drop (32 * e) ws
 
-module _ (ws : Words) (m e : ℕ) (long : 2 * m ≤ length ws) (fits : 32 * e ≤ length ws) (count : e ≡ suc ((m - 1) / 11)) where
-  pub written-start : Written ws m e ws e
+module _ (ws : Words) (z m e : ℕ) (long : 2 * m ≤ length ws) (fits : 32 * e ≤ length ws) (count : e ≡ suc ((m - 1) / 11)) where
+  pub written-start : Written ws z m e ws e
   unfolding rowWords
   written-start = record {
     few = omega arith;
     long = refl;
     before = refl;
-    after = sym (ap (λ (l : List Made). rowWords 0 (suc e) l ++ drop (32 * e) ws) (ap (λ (k : ℕ). drop k (bottom (pairsIn ws m))) count ∙ leaves-end ws m long));
+    after = sym (ap (λ (l : List Made). rowWords 0 (suc (z + e)) l ++ drop (32 * e) ws) (ap (λ (k : ℕ). drop k (bottom (pairsIn ws m))) count ∙ leaves-end ws z m long));
   }
 
-  pub written-step : (t u : Words) (i j : ℕ) → i ≡ suc j → Written ws m e t i → u ≡ sets t (32 * j) (leafWords t m e j) → Written ws m e u j
+  pub written-step : (t u : Words) (i j : ℕ) → i ≡ suc j → Written ws z m e t i → u ≡ sets t (32 * j) (leafWords t z m e j) → Written ws z m e u j
   written-step t u i j n w q =
-      let h : Written ws m e t (suc j) = subst (λ (k : ℕ). Written ws m e t k) n w in
-      let l = leafWords ws m e j in
-      let size : length l ≡ 32 = length-node-words MARK (nextNumber j e) 0 (leafFence ws j) (take 11 (drop (11 * j) (pairsIn ws m))) in
+      let h : Written ws z m e t (suc j) = subst (λ (k : ℕ). Written ws z m e t k) n w in
+      let l = leafWords ws z m e j in
+      let size : length l ≡ 32 = length-node-words MARK (nextNumber (z + j) (z + e)) 0 (leafFence ws j) (take 11 (drop (11 * j) (pairsIn ws m))) in
       let f : 32 * j + 32 ≡ 32 * suc j = omega arith in
+      let i : z + suc j ≡ suc (z + j) = omega arith in
       let few : suc j ≤ e = h .few in
       let tl : length t ≡ length ws = h .long in
-      let same : u ≡ sets t (32 * j) l = q ∙ ap (sets t (32 * j)) (words-same t ws m e j (h .before)) in
+      let same : u ≡ sets t (32 * j) l = q ∙ ap (sets t (32 * j)) (words-same t ws z m e j (h .before)) in
       let split : u ≡ take (32 * j) t ++ (l ++ drop (32 * suc j) t) = same ∙ sets-eq l t (32 * j) (omega arith) ∙ append-assoc (take (32 * j) t) l (drop (32 * j + length l) t)
       ∙ ap (λ (k : ℕ). take (32 * j) t ++ (l ++ drop k t)) (ap (λ (k : ℕ). 32 * j + k) size ∙ f) in
       let head : length (take (32 * j) t) ≡ 32 * j = length-take-le (32 * j) t (omega arith) in
@@ -197,10 +191,10 @@ module _ (ws : Words) (m e : ℕ) (long : 2 * m ≤ length ws) (fits : 32 * e �
         long = ap length same ∙ length-sets t (32 * j) l ∙ tl;
         before = ap (take (22 * j)) split ∙ take-append-le (22 * j) (take (32 * j) t) _ (omega arith) ∙ take-take (22 * j) (32 * j) t (omega arith)
             ∙ sym (take-take (22 * j) (22 * suc j) t (omega arith)) ∙ ap (take (22 * j)) (h .before) ∙ take-take (22 * j) (22 * suc j) ws (omega arith);
-        after = ap (drop (32 * j)) split ∙ drop-at (take (32 * j) t) _ (32 * j) head ∙ ap (λ (r : Words). l ++ r) (h .after)
-            ∙ sym (append-assoc l (rowWords 0 (suc (suc j)) (drop (suc j) (bottom (pairsIn ws m)))) (drop (32 * e) ws))
-            ∙ ap (λ (r : Words). r ++ drop (32 * e) ws) (ap (λ (k : ℕ). leafWords ws m k j ++ rowWords 0 (suc (suc j)) (drop (suc j) (bottom (pairsIn ws m)))) count ∙ sym (leaf-words ws m long j (omega arith)));
+        after = ap (drop (32 * j)) split ∙ drop-at (take (32 * j) t) _ (32 * j) head ∙ ap (λ (r : Words). l ++ r) (h .after ∙ ap (λ (k : ℕ). rowWords 0 (suc k) (drop (suc j) (bottom (pairsIn ws m))) ++ drop (32 * e) ws) i)
+            ∙ sym (append-assoc l (rowWords 0 (suc (suc (z + j))) (drop (suc j) (bottom (pairsIn ws m)))) (drop (32 * e) ws))
+            ∙ ap (λ (r : Words). r ++ drop (32 * e) ws) (ap (λ (k : ℕ). leafWords ws z m k j ++ rowWords 0 (suc (suc (z + j))) (drop (suc j) (bottom (pairsIn ws m)))) count ∙ sym (leaf-words ws z m long j (omega arith)));
       }
 
-  pub written-end : (t : Words) (j : ℕ) → j ≡ 0 → Written ws m e t j → t ≡ rowWords 0 1 (bottom (pairsIn ws m)) ++ drop (32 * e) ws
-  written-end t j z w = let h : Written ws m e t 0 = subst (λ (k : ℕ). Written ws m e t k) z w in h .after
+  pub written-end : (t : Words) (j : ℕ) → j ≡ 0 → Written ws z m e t j → t ≡ rowWords 0 (suc z) (bottom (pairsIn ws m)) ++ drop (32 * e) ws
+  written-end t j y w = let h : Written ws z m e t 0 = subst (λ (k : ℕ). Written ws z m e t k) y w in let q : z + 0 ≡ z = omega arith in h .after ∙ ap (λ (k : ℕ). rowWords 0 (suc k) (bottom (pairsIn ws m)) ++ drop (32 * e) ws) q

@@ -8,7 +8,7 @@ use lib.Seq.{sets}
 use Rattle.model.specs.Table.{MARK, Words, at}
 use Rattle.model.specs.Slots.{Slot, slot, slotsOf, slotWords}
 use Rattle.model.specs.Writes.{nodeWords}
-use Rattle.model.specs.Packing.{Made, groups, innerFrom, packed, rowWords, rowsWords, packedCount}
+use Rattle.model.specs.Packing.{Made, groups, innerFrom, rowWords, packedCount, packedWords}
 
 -- the pairs in the first words
 abbrev pub pairsIn : Words → (m : ℕ) → List Slot
@@ -25,12 +25,12 @@ slotted ss = take 24 (slotWords ss ++ replicate 24 0)
 unfoldable pub nextNumber : (k e : ℕ) → ℕ
 nextNumber k e = cond (ltb (suc k) e) (suc (suc k)) 0
 
--- leaf j of e, of the pairs in the first words
+-- leaf j of e, of the pairs in the first words; z nodes come before the leaves
 unfoldable pub leafFence : Words → (j : ℕ) → ℕ
 leafFence ws j = cond (eqb j 0) 0 (at ws (22 * j))
 
-abbrev pub leafWords : Words → (m e j : ℕ) → Words
-leafWords ws m e j = nodeWords MARK (nextNumber j e) 0 (leafFence ws j) (take 11 (drop (11 * j) (pairsIn ws m)))
+abbrev pub leafWords : Words → (z m e j : ℕ) → Words
+leafWords ws z m e j = nodeWords MARK (nextNumber (z + j) (z + e)) 0 (leafFence ws j) (take 11 (drop (11 * j) (pairsIn ws m)))
 
 -- c nodes from node k on, as children
 unfoldable pub childrenFrom : Words → (k c : ℕ) → List Slot
@@ -54,6 +54,10 @@ raised (suc f) ws k (suc (suc c)) l =
     let n = suc (suc c) in
     raised f (sets ws (32 * (k + n)) (rowWords l (suc (k + n)) (rowOver ws k n))) (k + n) ((n + 11) / 12) (suc l)
 
--- n nodes that hold these pairs
-abbrev pub packedNodes : (n : ℕ) → List Slot → Words
-packedNodes n ps = rowsWords 0 1 (packed 1 ps) ++ replicate (32 * (n - packedCount ps)) 0
+-- the pairs in the words after z nodes
+abbrev pub pairsAfter : (z : ℕ) → Words → (m : ℕ) → List Slot
+pairsAfter z ws m = pairsIn (drop (32 * z) ws) m
+
+-- n nodes: the first z stay, those after them hold these pairs
+abbrev pub packedAfter : (z n : ℕ) → Words → List Slot → Words
+packedAfter z n ws ps = take (32 * z) ws ++ (packedWords (suc z) ps ++ replicate (32 * (n - (z + packedCount ps))) 0)

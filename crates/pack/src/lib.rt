@@ -1,14 +1,15 @@
-// Pairs in the first words of a slice packed into the nodes of a table, in place. Nodes are counted from 0 here: node k begins at word
-// 32 * k, its number is k + 1. A slice of nodes is a table without its header.
+// Pairs in the words of a slice packed into the nodes of a table, in place, after the nodes that are made already. Nodes are counted from 0
+// here: node k begins at word 32 * k, its number is k + 1. A slice of nodes is a table without its header.
 use model::MARK;
 ghost use mathlib.Core.Path.{_≡_};
-ghost use mathlib.Core.List.{_∷_, _++_};
+ghost use mathlib.Core.List.{_++_};
 ghost use Prim.Native.Nat.{suc, min, _+_, _-_, _*_, _/_, _≤_, _<_};
 ghost use lib.ListN.{length, take, drop, replicate};
 ghost use lib.Seq.{sets};
 ghost use Rattle.model.specs.Packing.{bottom, rowWords, packedCount};
 ghost use Rattle.pack_laws.specs.Needed.{nodesAbove, nodesNeeded};
-ghost use Rattle.pack.specs.Rows.{pairsIn, slotted, headWords, nextNumber, childrenFrom, leafFence, leafWords, innerWords, rowOver, raised, packedNodes};
+ghost use Rattle.pack.specs.Rows.{pairsIn, slotted, headWords, nextNumber, childrenFrom, leafFence, leafWords, innerWords, rowOver};
+ghost use Rattle.pack.specs.Rows.{raised, pairsAfter, packedAfter};
 
 // How many leaves so many pairs need.
 fn leaf_count(pairs: usize) -> usize
@@ -114,26 +115,33 @@ fn leaf_fence(nodes: &[u64], j: usize) -> u64
     nodes[22 * j]
 }
 
-// Leaf j of so many.
-fn put_leaf(nodes: &mut [u64], pairs: usize, leaves: usize, j: usize)
-    requires { ⌜ (2 * pairs ≤ length (now nodes)) × (32 * leaves ≤ length (now nodes)) × (j < leaves) × (leaves < 16777216) ⌝ }
-    ensures { λ r. ⌜ now (nodes .exit) ≡ sets (now (nodes .entry)) (32 * j) (leafWords (now (nodes .entry)) pairs leaves j) ⌝ }
+// Leaf j of so many, in the slice from the first of them on.
+fn put_leaf(nodes: &mut [u64], before: usize, pairs: usize, leaves: usize, j: usize)
+    requires { ⌜ (2 * pairs ≤ length (now nodes)) × (32 * leaves ≤ length (now nodes)) × (j < leaves) × (before + leaves < 16777216) ⌝ }
+    ensures { λ r. ⌜ now (nodes .exit) ≡ sets (now (nodes .entry)) (32 * j) (leafWords (now (nodes .entry)) before pairs leaves j) ⌝ }
 {
     let slots = leaf_slots(nodes, pairs, j);
     let fence = leaf_fence(nodes, j);
-    let words = node_words(MARK, next_number(j, leaves), 0, fence, slots);
+    let words = node_words(
+        MARK,
+        next_number(before + j, before + leaves),
+        0,
+        fence,
+        slots,
+    );
     put_words(nodes, 32 * j, words);
 }
 
 // All leaves, from the last down: a leaf's words come after the pairs of the leaves before it.
-fn put_leaves(nodes: &mut [u64], pairs: usize, leaves: usize)
-    requires { ⌜ (2 * pairs ≤ length (now nodes)) × (32 * leaves ≤ length (now nodes)) × (leaves ≡ suc ((pairs - 1) / 11)) × (leaves < 16777216) ⌝ }
-    ensures { λ r. ⌜ now (nodes .exit) ≡ rowWords 0 1 (bottom (pairsIn (now (nodes .entry)) pairs)) ++ drop (32 * leaves) (now (nodes .entry)) ⌝ }
+fn put_leaves(nodes: &mut [u64], before: usize, pairs: usize, leaves: usize)
+    requires { ⌜ (2 * pairs ≤ length (now nodes)) × (32 * leaves ≤ length (now nodes)) × (leaves ≡ suc ((pairs - 1) / 11))
+        × (before + leaves < 16777216) ⌝ }
+    ensures { λ r. ⌜ now (nodes .exit) ≡ rowWords 0 (suc before) (bottom (pairsIn (now (nodes .entry)) pairs)) ++ drop (32 * leaves) (now (nodes .entry)) ⌝ }
 {
     let mut j = leaves;
     while 0 < j {
         j -= 1;
-        put_leaf(nodes, pairs, leaves, j);
+        put_leaf(nodes, before, pairs, leaves, j);
     }
 }
 
@@ -200,12 +208,12 @@ fn put_row(nodes: &mut [u64], first: usize, count: usize, level: u64) -> usize
 }
 
 // The rows above so many leaves, up to the root; the answer is how many nodes there are then.
-fn put_rows(nodes: &mut [u64], leaves: usize) -> usize
-    requires { ⌜ (32 * (leaves + nodesAbove 15 leaves) ≤ length (now nodes)) × (leaves < 65536) ⌝ }
-    ensures { λ r. ⌜ now (nodes .exit) ≡ raised 15 (now (nodes .entry)) 0 leaves 1 ⌝ }
-    ensures { λ r. ⌜ r ≡ leaves + nodesAbove 15 leaves ⌝ }
+fn put_rows(nodes: &mut [u64], before: usize, leaves: usize) -> usize
+    requires { ⌜ (32 * (before + (leaves + nodesAbove 15 leaves)) ≤ length (now nodes)) × (before + leaves < 65536) ⌝ }
+    ensures { λ r. ⌜ now (nodes .exit) ≡ raised 15 (now (nodes .entry)) before leaves 1 ⌝ }
+    ensures { λ r. ⌜ r ≡ before + (leaves + nodesAbove 15 leaves) ⌝ }
 {
-    let mut first = 0usize;
+    let mut first = before;
     let mut row = leaves;
     let mut level = 1u64;
     while level < 16 {
@@ -232,15 +240,17 @@ pub fn clear(nodes: &mut [u64], w: usize)
     }
 }
 
-// The pairs in the first words packed into so many nodes, the whole slice; the answer is the root's number, that of the last node in use.
-pub fn pack(nodes: &mut [u64], pairs: usize, count: usize) -> usize
-    requires { ⌜ (length (now nodes) ≡ 32 * count) × (count ≤ 65535) × (nodesNeeded pairs ≤ count) × (pairs ≤ 16777216) ⌝ }
-    ensures { λ r. ⌜ now (nodes .exit) ≡ packedNodes count (pairsIn (now (nodes .entry)) pairs) ⌝ }
-    ensures { λ r. ⌜ r ≡ packedCount (pairsIn (now (nodes .entry)) pairs) ⌝ }
+// The pairs in the words after the nodes before packed into the nodes that follow these, of so many in all. The answer is the root's number,
+// that of the last node in use; the words after it are 0.
+pub fn pack(nodes: &mut [u64], before: usize, pairs: usize, count: usize) -> usize
+    requires { ⌜ (length (now nodes) ≡ 32 * count) × (count ≤ 65535) × (before + nodesNeeded pairs ≤ count) × (pairs ≤ 16777216) ⌝ }
+    ensures { λ r. ⌜ now (nodes .exit) ≡ packedAfter before count (now (nodes .entry)) (pairsAfter before (now (nodes .entry)) pairs) ⌝ }
+    ensures { λ r. ⌜ r ≡ before + packedCount (pairsAfter before (now (nodes .entry)) pairs) ⌝ }
 {
     let leaves = leaf_count(pairs);
-    put_leaves(nodes, pairs, leaves);
-    let root = put_rows(nodes, leaves);
+    let w = 32 * before;
+    put_leaves(&mut nodes[w..], before, pairs, leaves);
+    let root = put_rows(nodes, before, leaves);
     clear(nodes, 32 * root);
     root
 }

@@ -2,5 +2,7 @@
 pub mod Stacks
 pub mod Standing
 pub mod Groups
-pub mod Packed
 pub mod Counts
+pub mod Enough
+pub mod Packed
+pub mod Fresh

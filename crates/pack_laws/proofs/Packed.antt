@@ -4,24 +4,21 @@ use mathlib.Core.Bool.{true}
 use mathlib.Core.List.{List, [], _∷_, _++_, map}
 use Prim.Native.Nat.{ℕ, zero, suc, _+_, _*_, _-_, _≤_, _<_}
 use native.Mathlib.Omega.{arith}
-use lib.ListN.{length, replicate, length-append, length-replicate}
-use Rattle.model.specs.Table.{MARK, Words, at, nodes, allZero, nodeStart, headerOk}
-use Rattle.model.specs.Slots.{Slot, View, view, viewFrom, height}
+use lib.ListN.{length}
+use Rattle.model.specs.Table.{MARK, Words, at, nodes, nodeStart}
+use Rattle.model.specs.Slots.{Slot, View, viewFrom, height}
 use Rattle.model.specs.Search.{below}
-use Rattle.model.specs.Reached.{flat, headOr, mapping, mapOf, reached}
-use Rattle.model.specs.SoundTest.{rising, linked, recordingsOk, settled}
+use Rattle.model.specs.Reached.{flat, headOr, mapping, reached}
+use Rattle.model.specs.SoundTest.{rising, linked, recordingsOk}
 use Rattle.model.specs.Writes.{numbers}
 use Rattle.view_laws.proofs.NodeViews.{shownOf, left-eq, sibling-eq, level-eq, fence-eq, shown-eq, hidden-eq, clear-eq}
 use Rattle.list_laws.proofs.Tools.{Each, Each-map, Each-append}
 use Rattle.list_laws.proofs.Counts.{numbers-each}
-use Rattle.table_laws.proofs.Header.{header-iff}
-use Rattle.table_laws.proofs.Words.{part-zero-iff}
 use Rattle.tree_laws.proofs.Rows.{range-iff, linked-cons}
-use Rattle.tree_laws.proofs.Levels.{settled-parts}
-use Rattle.tree_laws.proofs.Leftovers.{SettledTree, settled-iff}
-use Rattle.model.specs.Packing.{Made, next, bottom, numbered, rowAbove, rowsAbove, packed, rowsWords, countRows, packedCount, packedTable}
+use Rattle.tree_laws.proofs.Leftovers.{SettledTree}
+use Rattle.model.specs.Packing.{Made, next, bottom, numbered, rowAbove, rowsAbove, packed, rowsWords, countRows}
 use Rattle.pack_laws.proofs.Stacks.{wayTo, waysOf, Plain, Fits, Stack, stack-leaves, stack-up, stack-map, stack-settled, lt-below, below-zero}
-use Rattle.pack_laws.proofs.Standing.{Standing, RowsStanding, rows-standing, length-rows}
+use Rattle.pack_laws.proofs.Standing.{Standing, RowsStanding, rows-standing}
 use Rattle.pack_laws.proofs.Groups.{Before, LeafRow, waysMade, above-ways, above-few, above-some, rows-writable, bottom-slots, bottom-left, bottom-writable, bottom-row}
 
 -- how many leaves a tree of so many levels above them takes
@@ -126,6 +123,11 @@ module _ (v : View) where
 
 -- ---- pairs packed into a table
 
+-- pairs that a tree may hold
+pub record Packable (ps : List Slot) : Type 0 where
+  pub rise : rising 0 ps ≡ true
+  pub recordings : recordingsOk ps ≡ true
+
 -- v is settled with the map ps, and reaches only nodes from n, c of them
 pub record Packs (v : View) (n c : ℕ) (ps : List Slot) : Type 0 where
   pub tree : SettledTree v
@@ -147,47 +149,14 @@ grown-packs v n c ls ps q g m x =
 
 -- Pairs packed from node n on, wherever in a table and whatever else it holds: from the last of their nodes as root the tree is settled, and its map is these pairs.
 pub packs : (t : Words) (n root : ℕ) (ps : List Slot) (pre post : Words) → t ≡ pre ++ (rowsWords 0 n (packed n ps) ++ post) → length pre ≡ nodeStart n → 1 ≤ n
-    → n + countRows (packed n ps) ≤ suc (nodes t) → nodes t ≤ 65535 → suc root ≡ n + countRows (packed n ps) → rising 0 ps ≡ true → recordingsOk ps ≡ true
+    → n + countRows (packed n ps) ≤ suc (nodes t) → nodes t ≤ 65535 → suc root ≡ n + countRows (packed n ps) → Packable ps
     → Packs (viewFrom t root) n (countRows (packed n ps)) ps
 unfolding packed countRows
-packs t n root ps pre post e a b c d z r x =
+packs t n root ps pre post e a b c d z f =
     let xs = bottom ps in
     let v = viewFrom t root in
-    let w = rows-standing t root 0 n (xs ∷ rowsAbove 15 n xs) pre post e a b (bottom-writable ps x, rows-writable 15 n xs b) in
+    let w = rows-standing t root 0 n (xs ∷ rowsAbove 15 n xs) pre post e a b (bottom-writable ps (f .recordings), rows-writable 15 n xs b) in
     let ls = numbers n (length xs) in
-    let base = bottom-stack v n ps b (omega arith) (w .0) r in
+    let base = bottom-stack v n ps b (omega arith) (w .0) (f .rise) in
     let g = climb v n 15 ls 15 0 n root xs ls (omega arith) (omega arith) (omega arith) b (omega arith) (w .0) (w .1) (unfold bottom in omega arith) (omega (arith, takes-enough)) base (numbers-each n (length xs)) in
-    grown-packs v n _ ls ps (sym z) g (row-slots v 0 n xs (w .0) ∙ bottom-slots ps) x
-
--- ---- the fresh table
-
-module _ (n : ℕ) (ps : List Slot) (low : packedCount ps ≤ n) (high : n ≤ 65535) (r : rising 0 ps ≡ true) (x : recordingsOk ps ≡ true) where
-  abbrev t : Words
-  t = packedTable n ps
-
-  abbrev header : Words
-  header = 1 ∷ packedCount ps ∷ n ∷ replicate 5 0
-
-  abbrev body : Words
-  body = rowsWords 0 1 (packed 1 ps)
-
-  long : length t ≡ 8 + 32 * n
-  unfolding packedTable
-  long = length-append header (body ++ replicate (32 * (n - packedCount ps)) 0) ∙ simp (length-append, length-replicate, length-rows) (unfold packedCount in omega arith)
-
-  packed-header : headerOk t ≡ true
-  unfolding packedTable allZero packedCount
-  packed-header =
-      let some = some-rows 1 ps in
-      header-iff t .1 (record { size = record { long = long; some = omega arith; few = high }; first = refl; zeros = part-zero-iff t 3 5 .0 refl; root-some = some; root-in = low })
-
-  packed-view : Packs (view t) 1 (packedCount ps) ps
-  unfolding packedTable packedCount nodeStart
-  packed-view = packs t 1 (packedCount ps) ps header (replicate (32 * (n - packedCount ps)) 0) refl refl (omega arith) (omega arith) high (omega arith) r x
-
-  -- Packed pairs are a settled table, and its map is exactly these pairs.
-  pub packed-settled : settled (packedTable n ps) ≡ true
-  packed-settled = settled-parts t .1 (packed-header, settled-iff (view t) .1 (packed-view .tree))
-
-  pub packed-map : mapOf (packedTable n ps) ≡ ps
-  packed-map = packed-view .pairs
+    grown-packs v n _ ls ps (sym z) g (row-slots v 0 n xs (w .0) ∙ bottom-slots ps) (f .recordings)

@@ -1,14 +1,16 @@
 -- One level of a search's descent from the words of a table, and the node on a level that it stands on.
 use mathlib.Core.Path.{_≡_, ap, sym, _∙_}
+use mathlib.Core.List.{List}
 use Prim.Native.Nat.{ℕ, zero, suc, _-_, _≤_, _<_}
 use native.Mathlib.Omega.{arith}
 use lib.ListN.{getD}
 use borrow.Author.Tests.{eq-eqb}
 use Rattle.model.specs.Table.{Words, node, root}
-use Rattle.model.specs.Slots.{View, nodeView, view}
+use Rattle.model.specs.Slots.{View, nodeView, viewFrom, view}
 use Rattle.model.specs.Search.{below, moved, down, pathFrom}
-use Rattle.model.specs.Writes.{standing}
+use Rattle.model.specs.Writes.{standingIn}
 use Rattle.view_laws.proofs.NodeViews.{fenceOf}
+use Rattle.view_laws.proofs.AnyRoot.{any-path}
 use Rattle.tree_laws.proofs.Cover.{stays, moves, below-low, below-high}
 use Rattle.node.specs.Word.{wordOf}
 use Rattle.node.proofs.WordLaws.{word-level, word-sibling, word-fence}
@@ -53,6 +55,6 @@ on-lower v (suc l) n k j m c h p d =
     rw (e, o, d, p)
 
 -- the whole descent
-pub on-top : (t : Words) (r l k j : ℕ) → r ≡ root t → l ≡ wordOf t r 2 → nodeOn (view t) l r k j ≡ standing t j k
-unfolding standing
-on-top t r l k j h e = rw (e ∙ word-level t r, h)
+pub on-top : (t : Words) (r l k j : ℕ) → l ≡ wordOf t r 2 → nodeOn (view t) l r k j ≡ standingIn (viewFrom t r) j k
+unfolding standingIn
+on-top t r l k j e = rw (e ∙ word-level t r) (ap (λ (ns : List ℕ). getD ns (nodeView t r .level - j) 0) (any-path t (root t) r (nodeView t r .level) r k))

@@ -2,7 +2,6 @@
 pub mod Descent
 pub mod Members
 pub mod Unreached
-pub mod Partition
 pub mod SlotCounts
 pub mod Freeing
 pub mod Running

@@ -10,14 +10,14 @@ use lib.Dec.{eqb}
 use lib.ListN.{length}
 use borrow.Author.Tests.{eqb-true, eq-eqb, ne-eqb}
 use Rattle.model.specs.Table.{Words, root}
-use Rattle.model.specs.Slots.{Slot, View, nodeView, view, height, full}
-use Rattle.model.specs.Search.{moved, down, pathFrom, path}
+use Rattle.model.specs.Slots.{Slot, View, nodeView, viewFrom, viewOf, view, height, full}
+use Rattle.model.specs.Search.{below, moved, down, pathFrom, path}
 use Rattle.model.specs.Reached.{kept, reached}
-use Rattle.model.specs.SoundTest.{all, settled}
+use Rattle.model.specs.SoundTest.{all, settledView}
 use Rattle.model.specs.Writes.{runIn, run, rootInRun}
+use Rattle.view_laws.proofs.AnyRoot.{any-path}
 use Rattle.list_laws.proofs.Tools.{Each, Each-map, same-test, all-same}
 use Rattle.tree_laws.proofs.Rows.{not-zero}
-use Rattle.tree_laws.proofs.Levels.{settled-parts}
 use Rattle.tree_laws.proofs.Shape.{shape-view}
 use Rattle.tree_laws.proofs.SearchLaw.{path-length, path-reached}
 use Rattle.tree_laws.proofs.Leftovers.{settled-iff, settled-node}
@@ -108,35 +108,40 @@ module _ (p : ℕ → Bool) (v : View) (n k m count r : ℕ) (e : m ≡ moved v 
   run-last zero h = rw (q, e)
   run-last (suc l) h = absurd (omega arith)
 
--- the whole path
-pub run-top : (t : Words) (r k parent top : ℕ) → r ≡ root t → top ≡ wordOf t r 2 → runFrom (fullIn (view t) parent) 0 (pathFrom (view t) top r k) ≡ endRun (fullIn (view t) parent) (path (view t) k)
-run-top t r k parent top h e = rw (e ∙ word-level t r, h) (run-end (fullIn (view t) parent) (path (view t) k))
+-- the whole path from a root
+pub run-top : (t : Words) (r k parent top : ℕ) → top ≡ wordOf t r 2
+    → runFrom (fullIn (view t) parent) 0 (pathFrom (view t) top r k) ≡ endRun (fullIn (viewFrom t r) parent) (path (viewFrom t r) k)
+unfolding fullIn kept below
+run-top t r k parent top e =
+    rw (e ∙ word-level t r) (ap (runFrom (fullIn (view t) parent) 0) (any-path t (root t) r (nodeView t r .level) r k) ∙ run-end (fullIn (viewFrom t r) parent) (path (viewFrom t r) k))
 
-pub run-read : (t : Words) (r k parent top len : ℕ) → r ≡ root t → top ≡ wordOf t r 2 → len ≡ endRun (fullIn (view t) parent) (path (view t) k) → record { length = len; root = eqb len (top + 1) } ≡ fullRun t k parent
+pub run-read : (t : Words) (r k parent top len : ℕ) → top ≡ wordOf t r 2 → len ≡ endRun (fullIn (viewFrom t r) parent) (path (viewFrom t r) k)
+    → record { length = len; root = eqb len (top + 1) } ≡ fullRun (viewFrom t r) k parent
 unfolding fullRun
-run-read t r k parent top len h e q = rw (add-one top, e ∙ word-level t r, h, q)
+run-read t r k parent top len e q = rw (add-one top, e ∙ word-level t r, q)
 
 -- ---- the run of the model
 
--- u has the run that was counted in t where both have the same path, and each of its nodes is full in u as it was judged in t
-pub run-of : (t u : Words) (k parent : ℕ) → path (view u) k ≡ path (view t) k → Each (λ (n : ℕ). fullIn (view t) parent n ≡ full (nodeView u n .shown)) (path (view t) k)
-    → fullRun t k parent ≡ record { length = run u k; root = rootInRun u k }
-unfolding fullRun run rootInRun
-run-of t u k parent e h =
-    let w : endRun (fullIn (view t) parent) (path (view t) k) ≡ runIn (view u) (path (view u) k) =
-    end-same (fullIn (view t) parent) (λ (m : ℕ). full (nodeView u m .shown)) (path (view t) k) h ∙ sym (run-in (view u) (path (view t) k)) ∙ ap (runIn (view u)) (sym e) in
-    let g : height (view t) ≡ height (view u) = omega (arith, path-length (view t) k, path-length (view u) k, ap length e) in
+-- u has the run that was counted in a view where both have the same path, and each of its nodes is full in u as it was judged there
+pub run-of : (v : View) (n : ℕ) (u : Words) (k parent : ℕ) → path (viewOf n u) k ≡ path v k → Each (λ (m : ℕ). fullIn v parent m ≡ full (nodeView u m .shown)) (path v k)
+    → fullRun v k parent ≡ record { length = run n u k; root = rootInRun n u k }
+unfolding fullRun rootInRun
+run-of v n u k parent e h =
+    let o = viewOf n u in
+    let w : endRun (fullIn v parent) (path v k) ≡ runIn o (path o k) =
+    end-same (fullIn v parent) (λ (m : ℕ). full (nodeView u m .shown)) (path v k) h ∙ sym (run-in o (path v k)) ∙ ap (runIn o) (sym e) in
+    let g : height v ≡ height o = omega (arith, path-length v k, path-length o k, ap length e) in
     rw (w, g)
 
 full-kept : (v : View) (n : ℕ) → kept v n ≡ v .node n .shown → eqb (length (kept v n)) 11 ≡ full (v .node n .shown)
 unfolding full
 full-kept v n e = ap (λ (ss : List Slot). eqb (length ss) 11) e
 
--- in a settled table no node is to get a slot
-pub run-settled : (t : Words) (k : ℕ) → settled t ≡ true → fullRun t k 0 ≡ record { length = run t k; root = rootInRun t k }
-run-settled t k h =
-    let v = view t in
-    let s = settled-iff v .0 (settled-parts t .0 h .1) in
-    let some : (n : ℕ) → List·Memᴰ n (reached v) → n ≡ 0 → ⊥ = λ n m. not-zero v n (shape-view v (s .orderly) .range m) in
-    let judged : (n : ℕ) → List·Memᴰ n (reached v) → fullIn v 0 n ≡ full (v .node n .shown) = λ n m. sym (full-other v 0 n _ refl (some n m)) ∙ full-kept v n (settled-node v n s m .keeps) in
-    run-of t t k 0 refl (Each-map (λ (n : ℕ). List·Memᴰ n (reached v)) (λ (n : ℕ). fullIn v 0 n ≡ full (v .node n .shown)) (path v k) judged (path-reached v k (s .orderly)))
+-- in a settled tree no node is to get a slot
+pub run-settled : (n : ℕ) (t : Words) (k : ℕ) → settledView (viewOf n t) ≡ true → fullRun (viewOf n t) k 0 ≡ record { length = run n t k; root = rootInRun n t k }
+run-settled n t k h =
+    let v = viewOf n t in
+    let s = settled-iff v .0 h in
+    let some : (m : ℕ) → List·Memᴰ m (reached v) → m ≡ 0 → ⊥ = λ m i. not-zero v m (shape-view v (s .orderly) .range i) in
+    let judged : (m : ℕ) → List·Memᴰ m (reached v) → fullIn v 0 m ≡ full (v .node m .shown) = λ m i. sym (full-other v 0 m _ refl (some m i)) ∙ full-kept v m (settled-node v m s i .keeps) in
+    run-of v n t k 0 refl (Each-map (λ (m : ℕ). List·Memᴰ m (reached v)) (λ (m : ℕ). fullIn v 0 m ≡ full (v .node m .shown)) (path v k) judged (path-reached v k (s .orderly)))

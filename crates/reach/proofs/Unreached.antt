@@ -7,18 +7,17 @@ use Prim.Native.Nat.{ℕ, zero, suc, pred, _+_, _-_, _≤_, _<_}
 use native.Mathlib.Numerals.{add-one, sub-one}
 use native.Mathlib.Omega.{arith}
 use Rattle.model.specs.Table.{Words, nodes}
-use Rattle.model.specs.Slots.{view}
-use Rattle.model.specs.Reached.{filter, headOr, reached}
+use Rattle.model.specs.Reached.{filter, headOr, reachedAll}
 use Rattle.model.specs.SoundTest.{elem}
 use Rattle.model.specs.Writes.{numbers, unreached, fresh}
 use Rattle.list_laws.proofs.Filters.{filter-yes, filter-no, filter-append}
 
 module _ (t : Words) where
-  pub unreached-yes : (n : ℕ) (ns : List ℕ) → elem n (reached (view t)) ≡ false → unreached t (n ∷ ns) ≡ n ∷ unreached t ns
+  pub unreached-yes : (n : ℕ) (ns : List ℕ) → elem n (reachedAll t) ≡ false → unreached t (n ∷ ns) ≡ n ∷ unreached t ns
   unfolding unreached
   unreached-yes n ns e = filter-yes _ n ns (ap not e)
 
-  pub unreached-no : (n : ℕ) (ns : List ℕ) → elem n (reached (view t)) ≡ true → unreached t (n ∷ ns) ≡ unreached t ns
+  pub unreached-no : (n : ℕ) (ns : List ℕ) → elem n (reachedAll t) ≡ true → unreached t (n ∷ ns) ≡ unreached t ns
   unfolding unreached
   unreached-no n ns e = filter-no _ n ns (ap not e)
 
@@ -39,10 +38,10 @@ module _ (t : Words) where
   unfolding numbers unreached filter
   first-none n last h = let e : last + 1 - n ≡ 0 = omega arith in rw e
 
-  pub first-here : (n last : ℕ) → n ≤ last → elem n (reached (view t)) ≡ false → firstFrom n last ≡ n
+  pub first-here : (n last : ℕ) → n ≤ last → elem n (reachedAll t) ≡ false → firstFrom n last ≡ n
   first-here n last h e = rw (row-more n last h, unreached-yes n (numbers (suc n) (last + 1 - suc n)) e)
 
-  pub first-later : (n last : ℕ) → n ≤ last → elem n (reached (view t)) ≡ true → firstFrom (n + 1) last ≡ firstFrom n last
+  pub first-later : (n last : ℕ) → n ≤ last → elem n (reachedAll t) ≡ true → firstFrom (n + 1) last ≡ firstFrom n last
   first-later n last h e = rw (add-one n, row-more n last h, unreached-no n (numbers (suc n) (last + 1 - suc n)) e)
 
   -- ---- going round
@@ -51,9 +50,9 @@ module _ (t : Words) where
   empty-row : (n c : ℕ) → 1 ≤ n → headOr 0 (unreached t (numbers n c)) ≡ 0 → unreached t (numbers n c) ≡ []
   unfolding numbers
   empty-row n zero l h = unfold unreached filter in refl
-  empty-row n (suc c) l h = go (elem n (reached (view t))) refl (empty-row (suc n) c (omega arith))
+  empty-row n (suc c) l h = go (elem n (reachedAll t)) refl (empty-row (suc n) c (omega arith))
     where
-      go : (b : Bool) → elem n (reached (view t)) ≡ b → (headOr 0 (unreached t (numbers (suc n) c)) ≡ 0 → unreached t (numbers (suc n) c) ≡ []) → unreached t (n ∷ numbers (suc n) c) ≡ []
+      go : (b : Bool) → elem n (reachedAll t) ≡ b → (headOr 0 (unreached t (numbers (suc n) c)) ≡ 0 → unreached t (numbers (suc n) c) ≡ []) → unreached t (n ∷ numbers (suc n) c) ≡ []
       go true e ih = unreached-no n _ e ∙ ih (sym (ap (headOr 0) (unreached-no n (numbers (suc n) c) e)) ∙ h)
       go false e ih = let z : n ≡ 0 = sym (ap (headOr 0) (unreached-yes n (numbers (suc n) c) e)) ∙ h in absurd (omega arith)
 

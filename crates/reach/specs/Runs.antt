@@ -4,8 +4,7 @@ use mathlib.Core.List.{List, [], _∷_}
 use Prim.Native.Nat.{ℕ, suc, _+_}
 use lib.Dec.{eqb}
 use lib.ListN.{length}
-use Rattle.model.specs.Table.{Words}
-use Rattle.model.specs.Slots.{View, view, height}
+use Rattle.model.specs.Slots.{View, height}
 use Rattle.model.specs.Search.{path}
 use Rattle.model.specs.Reached.{kept}
 use Rattle.model.specs.SoundTest.{all}
@@ -30,7 +29,7 @@ runFrom p count [] = count
 runFrom p count (n ∷ ns) = runFrom p (runAfter p count n) ns
 
 -- the run for key k, and whether it includes the root
-unfoldable pub fullRun : Words → (k parent : ℕ) → Run
-fullRun t k parent =
-    let run = endRun (fullIn (view t) parent) (path (view t) k) in
-    record { length = run; root = eqb run (suc (height (view t))) }
+unfoldable pub fullRun : View → (k parent : ℕ) → Run
+fullRun v k parent =
+    let run = endRun (fullIn v parent) (path v k) in
+    record { length = run; root = eqb run (suc (height v)) }

@@ -1,14 +1,14 @@
 // Where a search stands on each level, which nodes are reached, and what is counted before a write. Nothing is written.
 ghost use mathlib.Core.Path.{_≡_};
 ghost use mathlib.Core.Bool.{true};
-ghost use Prim.Native.Nat.{_+_, _-_, _≤_};
+ghost use Prim.Native.Nat.{ℕ, _+_, _-_, _≤_};
 ghost use lib.ListN.{length};
-ghost use Rattle.model.specs.Table.{nodes};
-ghost use Rattle.model.specs.Slots.{view};
+ghost use Rattle.model.specs.Table.{at, nodes, rootWord};
+ghost use Rattle.model.specs.Slots.{viewFrom, view};
 ghost use Rattle.model.specs.Search.{moved};
-ghost use Rattle.model.specs.Reached.{headOr, kept, reached};
-ghost use Rattle.model.specs.SoundTest.{elem, sound};
-ghost use Rattle.model.specs.Writes.{numbers, unreached, unreachable, fresh, standing, freesLeaf};
+ghost use Rattle.model.specs.Reached.{headOr, kept, reached, reachedAll};
+ghost use Rattle.model.specs.SoundTest.{elem, soundView, sound};
+ghost use Rattle.model.specs.Writes.{numbers, unreached, unreachable, fresh, standingIn, freesLeaf};
 ghost use Rattle.reach.specs.Runs.{fullIn, runAfter, fullRun};
 
 // The unbroken run of full nodes from the leaf upward: its length, and whether it includes the root.
@@ -33,11 +33,9 @@ fn moved(table: &[u64], n: u64, key: u64) -> u64
     sibling
 }
 
-// The node on a level that the search for a key stands on. A level above the root's gives the root's. The root's number is handed in,
-// here and below.
+// The node on a level that the search for a key stands on, from a root. A level above the root's gives the root's.
 pub fn standing(table: &[u64], root: u64, level: u64, key: u64) -> u64
-    requires { ⌜ root ≡ view (now table) .root ⌝ }
-    ensures { λ r. ⌜ r ≡ standing (now (table .entry)) level key ⌝ }
+    ensures { λ r. ⌜ r ≡ standingIn (viewFrom (now (table .entry)) root) level key ⌝ }
 {
     let mut n = root;
     let mut l = node::word(table, n, 2);
@@ -51,27 +49,40 @@ pub fn standing(table: &[u64], root: u64, level: u64, key: u64) -> u64
 
 // ---- reached nodes
 
-// Whether node n is reached: the search for its own fence, stopped on its level, stands on it. Any number may be asked.
+// Whether node n is reached from a root: the search for its own fence, stopped on its level, stands on it. Any number may be asked.
 pub fn is_reached(table: &[u64], root: u64, n: u64) -> bool
-    requires { ⌜ sound (now table) ≡ true ⌝ }
-    requires { ⌜ root ≡ view (now table) .root ⌝ }
-    ensures { λ r. ⌜ r ≡ elem n (reached (view (now (table .entry)))) ⌝ }
+    requires { ⌜ soundView (viewFrom (now table) root) ≡ true ⌝ }
+    ensures { λ r. ⌜ r ≡ elem n (reached (viewFrom (now (table .entry)) root)) ⌝ }
 {
     let level = node::word(table, n, 2);
     let fence = node::word(table, n, 3);
     standing(table, root, level, fence) == n
 }
 
-// The first unreachable node of these, from first to last; 0 if there is none.
-fn first_unreached(table: &[u64], root: u64, first: u64, last: u64) -> u64
+// Whether it is reached from either root; without a second collection there is one.
+fn is_taken(table: &[u64], n: u64) -> bool
     requires { ⌜ sound (now table) ≡ true ⌝ }
-    requires { ⌜ root ≡ view (now table) .root ⌝ }
+    ensures { λ r. ⌜ r ≡ elem n (reachedAll (now (table .entry))) ⌝ }
+{
+    if is_reached(table, table[1], n) {
+        return true;
+    }
+    let second = table[3];
+    if second == 0 {
+        return false;
+    }
+    is_reached(table, second, n)
+}
+
+// The first unreachable node of these, from first to last; 0 if there is none.
+fn first_unreached(table: &[u64], first: u64, last: u64) -> u64
+    requires { ⌜ sound (now table) ≡ true ⌝ }
     requires { ⌜ last ≤ 65535 ⌝ }
     ensures { λ r. ⌜ r ≡ headOr 0 (unreached (now (table .entry)) (numbers first (last + 1 - first))) ⌝ }
 {
     let mut n = first;
     while n <= last {
-        if !is_reached(table, root, n) {
+        if !is_taken(table, n) {
             return n;
         }
         n += 1;
@@ -80,24 +91,23 @@ fn first_unreached(table: &[u64], root: u64, first: u64, last: u64) -> u64
 }
 
 // The first unreachable node after node a, going round from N to 1; 0 if there is none.
-pub fn fresh(table: &[u64], root: u64, a: u64) -> u64
+pub fn fresh(table: &[u64], a: u64) -> u64
     requires { ⌜ sound (now table) ≡ true ⌝ }
-    requires { ⌜ root ≡ view (now table) .root ⌝ }
     requires { ⌜ 1 ≤ a ⌝ }
     requires { ⌜ a ≤ nodes (now table) ⌝ }
     ensures { λ r. ⌜ r ≡ fresh (now (table .entry)) a ⌝ }
 {
-    let n = first_unreached(table, root, a + 1, table[2]);
+    let n = first_unreached(table, a + 1, table[2]);
     if n != 0 {
         return n;
     }
-    first_unreached(table, root, 1, a - 1)
+    first_unreached(table, 1, a - 1)
 }
 
 // How many nodes are unreachable, from the count of those reached.
 pub fn unreachable(table: &[u64], count: u64) -> u64
     requires { ⌜ sound (now table) ≡ true ⌝ }
-    requires { ⌜ count ≡ length (reached (view (now table))) ⌝ }
+    requires { ⌜ count ≡ length (reachedAll (now table)) ⌝ }
     ensures { λ r. ⌜ r ≡ length (unreachable (now (table .entry))) ⌝ }
 {
     table[2] - count
@@ -127,10 +137,10 @@ pub fn kept_count(table: &[u64], n: u64) -> u64
     slots::kept_count(slots, left, sibling, bound)
 }
 
-// Whether the deletion of a slot empties its leaf x, which is not the leftmost child of its parent p; a root leaf has no parent.
+// Whether the deletion of a slot empties its leaf x, which is not the leftmost child of its parent p, in the collection of that root; a
+// root leaf has no parent.
 pub fn frees_leaf(table: &[u64], root: u64, p: u64, x: u64) -> bool
-    requires { ⌜ root ≡ view (now table) .root ⌝ }
-    ensures { λ r. ⌜ r ≡ freesLeaf (now (table .entry)) p x ⌝ }
+    ensures { λ r. ⌜ ((n : ℕ) → root ≡ at (now (table .entry)) (rootWord n) → r ≡ freesLeaf n (now (table .entry)) p x) ⌝ }
 {
     if shown_count(table, x) != 1 {
         return false;
@@ -165,11 +175,10 @@ fn run_after(table: &[u64], count: u64, n: u64, parent: u64) -> u64
     0
 }
 
-// The run for a key, on the table as repair would leave it.
+// The run for a key from a root, on the table as repair would leave it.
 pub fn full_run(table: &[u64], root: u64, key: u64, parent: u64) -> Run
-    requires { ⌜ sound (now table) ≡ true ⌝ }
-    requires { ⌜ root ≡ view (now table) .root ⌝ }
-    ensures { λ r. ⌜ r ≡ fullRun (now (table .entry)) key parent ⌝ }
+    requires { ⌜ soundView (viewFrom (now table) root) ≡ true ⌝ }
+    ensures { λ r. ⌜ r ≡ fullRun (viewFrom (now (table .entry)) root) key parent ⌝ }
 {
     let mut n = root;
     let top = node::word(table, n, 2);

@@ -5,65 +5,80 @@ use mathlib.Core.List.{List, _++_}
 use Prim.Native.Nat.{ℕ, _≤_, _<_}
 use native.Mathlib.Omega.{arith}
 use lib.ListN.{length}
-use Rattle.model.specs.Table.{Words, headerOk}
-use Rattle.model.specs.Slots.{classOk, nodeView}
-use Rattle.model.specs.Reached.{mapOf}
+use Rattle.model.specs.Table.{Words, at, headerOk, rootWord}
+use Rattle.model.specs.Slots.{classOk, nodeView, viewFrom}
+use Rattle.model.specs.Reached.{mapping, mapOf}
+use Rattle.model.specs.SoundTest.{soundView}
 use Rattle.model.specs.Orders.{Store}
 use Rattle.model.specs.Shifts.{placeOf}
-use Rattle.model.specs.Writes.{setClassAt, standing, repairStores, repaired, classStores, classChange, storesOf}
+use Rattle.model.specs.Writes.{setClassAt, standingIn, standing, repairStores, repaired, classStores, classChange, storesOf}
 use Rattle.model.specs.Refusals.{hasKey, refusal}
 use Rattle.list_laws.proofs.Recordings.{class-iff}
-use Rattle.step_laws.proofs.Views.{settled-fine}
-use Rattle.step_laws.proofs.Standing.{standing-stands}
-use Rattle.step_laws.proofs.LeafShift.{leaf-out-place}
-use Rattle.step_laws.proofs.Repair.{repaired-map}
+use Rattle.two_laws.proofs.CollectionTwo.{settled-head}
+use Rattle.two_laws.proofs.JudgedTwo.{map-later}
+use Rattle.two_laws.proofs.PartsTwo.{Plain, settled-plain, standing-reached, key-place}
 use Rattle.sound.specs.declared.Leftover.{Leftover}
 use Rattle.orders.specs.declared.Pen.{Pen}
 use Rattle.orders.specs.Desk.{Desk, desk, storedAll, Room}
 use Rattle.write.proofs.Judging.{Passed, ready-accepted, ready-number}
-use Rattle.write.proofs.Mending.{Plain, settled-plain}
-use Rattle.write.proofs.Ending.{Begun, begun-allows, mended-table, mended-settled, rest-room}
+use Rattle.write.proofs.Ending.{Begun, begun-allows, mended-table, mended-settled, mended-collection, rest-room}
+use Rattle.write.proofs.Rooted.{root-sound, root-stands, root-key}
 
 -- ---- 14 and 9
 
-module _ {words : ℕ} {t : Words} {x : Leftover} {n : ℕ} (p : Passed words t x n) (k c : ℕ) {a : Bool} (q : a ≡ classOk c) where
-  pub class-refused : a ≡ false → refusal (classChange k c) words t ≡ 14
-  class-refused h = ready-number words t (classChange k c) x n p ∙ rw (sym q ∙ h)
+module _ {o k c words : ℕ} {t : Words} {x : Leftover} {n : ℕ} (p : Passed (classChange o k c) words t x n) {a : Bool} (q : a ≡ classOk c) where
+  pub class-refused : a ≡ false → refusal (classChange o k c) words t ≡ 14
+  class-refused h = ready-number (classChange o k c) words t p ∙ rw (sym q ∙ h)
 
-  module _ (y : a ≡ true) {b : Bool} (e : b ≡ hasKey k (mapOf t)) where
-    pub key-refused : b ≡ false → refusal (classChange k c) words t ≡ 9
-    key-refused h = ready-number words t (classChange k c) x n p ∙ rw (sym q ∙ y, sym e ∙ h)
+  -- the root that was read, and whether its tree has the key
+  module _ (y : a ≡ true) {r : ℕ} (f : r ≡ at t (rootWord o)) where
+    pub tree-sound : soundView (viewFrom t r) ≡ true
+    tree-sound = root-sound o t r f (p .found .is-sound) (p .collection)
 
-    pub class-accepted : b ≡ true → refusal (classChange k c) words t ≡ 0
-    class-accepted h = ready-accepted words t (classChange k c) x n p (sym q ∙ y, ap (hasKey k) (repaired-map t (p .found .is-sound)) ∙ sym e ∙ h)
+    module _ {b : Bool} (e : b ≡ hasKey k (mapping (viewFrom t r))) where
+      has : b ≡ hasKey k (mapOf o t)
+      has = root-key o t r f b k e
+
+      pub key-refused : b ≡ false → refusal (classChange o k c) words t ≡ 9
+      key-refused h = ready-number (classChange o k c) words t p ∙ rw (sym q ∙ y, sym has ∙ h)
+
+      pub class-accepted : b ≡ true → refusal (classChange o k c) words t ≡ 0
+      class-accepted h = ready-accepted (classChange o k c) words t p (sym q ∙ y, ap (hasKey k) (map-later o t (p .found .is-sound) (p .collection)) ∙ sym has ∙ h)
 
 -- ---- the stores: the repair, then the class in its leaf
 
-abbrev pub classed : (k c : ℕ) → Words → List Store
-classed k c t = setClassAt t (standing t 0 k) k c
+abbrev pub classed : (o k c : ℕ) → Words → List Store
+classed o k c t = setClassAt t (standing o t 0 k) k c
 
-pub class-stores : (t : Words) (k c : ℕ) → storesOf (classChange k c) t ≡ repairStores t ++ classed k c (repaired t)
+pub class-stores : (o : ℕ) (t : Words) (k c : ℕ) → storesOf (classChange o k c) t ≡ repairStores t ++ classed o k c (repaired t)
 unfolding storesOf classStores
-class-stores t k c = refl
+class-stores o t k c = refl
 
 -- the repair is made
-module _ {k c : ℕ} {t lent : Words} {pen : Pen} (b : Begun (classChange k c) t lent pen (classed k c)) {t₁ list : Words} {at : Pen}
-    (g : desk t₁ list at ≡ storedAll (repairStores t) (desk t lent pen)) where
+module _ {o k c : ℕ} {t lent : Words} {pen : Pen} (b : Begun (classChange o k c) t lent pen (classed o k c)) {t₁ list : Words} {at₁ : Pen}
+    (g : desk t₁ list at₁ ≡ storedAll (repairStores t) (desk t lent pen)) where
   pub class-low : c ≤ 2
   class-low = class-iff c .0 (begun-allows b .0)
 
   pub mended-header : headerOk t₁ ≡ true
-  mended-header = settled-fine t₁ (mended-settled b g) .header
+  mended-header = settled-head t₁ (mended-settled b g)
 
-  module _ {n : ℕ} (e : n ≡ standing t₁ 0 k) where
+  -- the leaf, by the root that was read
+  module _ {r : ℕ} (f : r ≡ at t₁ (rootWord o)) {n : ℕ} (q : n ≡ standingIn (viewFrom t₁ r) 0 k) where
+    leaf : n ≡ standing o t₁ 0 k
+    leaf = root-stands o t₁ r f n 0 k q
+
     pub leaf-plain : Plain t₁ n
-    leaf-plain = let w = mended-settled b g in settled-plain t₁ n w (rw e (standing-stands t₁ w k 0 (omega arith) .reached))
+    leaf-plain =
+        let h = mended-collection b g in
+        let s = mended-settled b g in
+        rw leaf (settled-plain o t₁ h s _ (standing-reached o t₁ h s 0 k (omega arith)))
 
     pub leaf-place : placeOf k (nodeView t₁ n .shown) < length (nodeView t₁ n .shown)
-    leaf-place = rw e (leaf-out-place t₁ (mended-settled b g) k (rw (mended-table b g) (begun-allows b .1)))
+    leaf-place = rw leaf (key-place o t₁ (mended-collection b g) (mended-settled b g) k (rw (mended-table b g) (begun-allows b .1)))
 
-    pub class-room : Room (setClassAt t₁ n k c) (desk t₁ list at)
-    class-room = rw e (rest-room b g)
+    pub class-room : Room (setClassAt t₁ n k c) (desk t₁ list at₁)
+    class-room = rw leaf (rest-room b g)
 
-    pub class-stored : {d : Desk} → d ≡ storedAll (setClassAt t₁ n k c) (desk t₁ list at) → d ≡ storedAll (classed k c t₁) (desk t₁ list at)
-    class-stored h = rw e at h
+    pub class-stored : {d : Desk} → d ≡ storedAll (setClassAt t₁ n k c) (desk t₁ list at₁) → d ≡ storedAll (classed o k c t₁) (desk t₁ list at₁)
+    class-stored h = rw leaf at h

@@ -6,23 +6,29 @@ ghost use lib.ListN.{length};
 ghost use Rattle.model.specs.Writes.{classChange};
 ghost use Rattle.model.specs.Refusals.{written, tableAfter, listAfter};
 
-pub fn set_class(table: &mut [u64], list: &mut [u64], key: u64, access: u64) -> Written
-    ensures { λ r. ⌜ r ≡ written (classChange key access) (length (now (list .entry))) (now (table .entry)) ⌝ }
-    ensures { λ r. ⌜ now (table .exit) ≡ tableAfter (classChange key access) (length (now (list .entry))) (now (table .entry)) ⌝ }
-    ensures { λ r. ⌜ now (list .exit) ≡ listAfter (classChange key access) (now (list .entry)) (now (table .entry)) ⌝ }
+pub fn set_class(
+    table: &mut [u64],
+    list: &mut [u64],
+    collection: u64,
+    key: u64,
+    access: u64,
+) -> Written
+    ensures { λ r. ⌜ r ≡ written (classChange collection key access) (length (now (list .entry))) (now (table .entry)) ⌝ }
+    ensures { λ r. ⌜ now (table .exit) ≡ tableAfter (classChange collection key access) (length (now (list .entry))) (now (table .entry)) ⌝ }
+    ensures { λ r. ⌜ now (list .exit) ≡ listAfter (classChange collection key access) (now (list .entry)) (now (table .entry)) ⌝ }
 {
-    let judgement = write::judge(table, list.len());
+    let judgement = write::judge(table, collection, list.len());
     match judgement {
         Judged::Refused(n) => Written::Refused(n),
         Judged::Ready { left, reached: _ } => {
             if !pointer::class_ok(access) {
                 return Written::Refused(14);
             }
-            if !write::has_key(table, key) {
+            if !write::has_key(table, node::root_of(table, collection), key) {
                 return Written::Refused(9);
             }
             let mended = write::mend(table, list, write::begin(), left);
-            let leaf = reach::standing(table, node::root_of(table), 0, key);
+            let leaf = reach::standing(table, node::root_of(table, collection), 0, key);
             let set = shift::set_class(table, list, mended, leaf, key, access);
             let done = orders::finish(list, set);
             Written::Done {

@@ -8,10 +8,10 @@ use native.Mathlib.Omega.{arith}
 use lib.Dec.{leb, ltb}
 use lib.ListN.{length, getD}
 use borrow.Author.Tests.{le-leb, lt-leb, lt-ltb, leb-true, ltb-true, ltb-false}
-use Rattle.model.specs.Table.{Words, nodes}
+use Rattle.model.specs.Table.{Words}
 use Rattle.numbers.specs.declared.Entry.{Entry}
 use Rattle.numbers.specs.declared.Entry.the-variants.{Entered, Known}
-use Rattle.model.specs.Slots.{recordingOf, view}
+use Rattle.model.specs.Slots.{recordingOf, View, viewFrom, view}
 use Rattle.model.specs.Reached.{filter}
 use Rattle.model.specs.SoundTest.{elem, distinct}
 use Rattle.list_laws.proofs.Tools.{and-iff, refuted, same-test}
@@ -75,33 +75,33 @@ module _ {p : ℕ → Bool} {ps : List ℕ} {m : ℕ} {o : Outcome} {cs : Words}
     pub leaf-ends : (s : Entry) → Last s → e ≡ s → outcome s after ≡ o
     leaf-ends s l a = ends later o (enteredIf p cs r) e after leaf-next q s l a
 
--- what is left to enter from this leaf on, at most so many
-pub record InLeaves (p : ℕ → Bool) (t : Words) (o : Outcome) (cs : Words) (leaf left : ℕ) : Type 0 where
+-- what is left to enter from this leaf of the tree on, at most so many
+pub record InLeaves (p : ℕ → Bool) (t : Words) (r : ℕ) (o : Outcome) (cs : Words) (leaf left : ℕ) : Type 0 where
   pub wide : length cs ≡ CELLS
-  pub comes-to : enteredAll p (numbersAlong t left leaf) cs ≡ o
+  pub comes-to : enteredAll p (numbersAlong (viewFrom t r) left leaf) cs ≡ o
 
-pub leaves-all : (p : ℕ → Bool) (t cs : Words) (first n : ℕ) → first ≡ firstLeaf (view t) → n ≡ nodes t → enteredAll p (numbersAlong t n first) cs ≡ enteredAll p (allNumbers t) cs
-leaves-all p t cs first n e q = ap (λ (xs : List ℕ). enteredAll p xs cs) (all-along t first n e q)
+pub leaves-all : (p : ℕ → Bool) (v : View) (cs : Words) (first n : ℕ) → first ≡ firstLeaf v → n ≡ v .nodes → enteredAll p (numbersAlong v n first) cs ≡ enteredAll p (allNumbers v) cs
+leaves-all p v cs first n e q = ap (λ (xs : List ℕ). enteredAll p xs cs) (all-along v first n e q)
 
-module _ {p : ℕ → Bool} {t : Words} {o : Outcome} {cs : Words} {leaf left : ℕ} (k : InLeaves p t o cs leaf left) where
+module _ {p : ℕ → Bool} {t : Words} {r : ℕ} {o : Outcome} {cs : Words} {leaf left : ℕ} (k : InLeaves p t r o cs leaf left) where
   pub leaves-no-leaf : leaf ≡ 0 → outcome Entered cs ≡ o
-  leaves-no-leaf z = none-entered p (numbersAlong t left leaf) cs (no-leaf t leaf left z) ∙ k .comes-to
+  leaves-no-leaf z = none-entered p (numbersAlong (viewFrom t r) left leaf) cs (no-leaf (viewFrom t r) leaf left z) ∙ k .comes-to
 
   pub leaves-no-more : left ≡ 0 → outcome Entered cs ≡ o
-  leaves-no-more z = none-entered p (numbersAlong t left leaf) cs (no-more t leaf left z) ∙ k .comes-to
+  leaves-no-more z = none-entered p (numbersAlong (viewFrom t r) left leaf) cs (no-more (viewFrom t r) leaf left z) ∙ k .comes-to
 
   module _ (z : leaf ≡ 0 → ⊥) (y : left ≡ 0 → ⊥) (w : Ways) (i : slotsIn w ≡ ways (view t) leaf) (e : Entry) (after : Words) (q : outcome e after ≡ enteredAll p (recordingsFrom w 1) cs) where
     abbrev behind : Words → Outcome
-    behind = enteredAll p (numbersAlong t (left - 1) (wordOf t leaf 1))
+    behind = enteredAll p (numbersAlong (viewFrom t r) (left - 1) (wordOf t leaf 1))
 
     leaves-next : o ≡ followed (enteredAll p (recordingsFrom w 1) cs) behind
     leaves-next =
-        sym (k .comes-to) ∙ ap (λ (xs : List ℕ). enteredAll p xs cs) (leaf-first t leaf left w (wordOf t leaf 1) i refl z y)
-        ∙ all-append p (recordingsFrom w 1) (numbersAlong t (left - 1) (wordOf t leaf 1)) cs
+        sym (k .comes-to) ∙ ap (λ (xs : List ℕ). enteredAll p xs cs) (leaf-first t r leaf left w (wordOf t leaf 1) i refl z y)
+        ∙ all-append p (recordingsFrom w 1) (numbersAlong (viewFrom t r) (left - 1) (wordOf t leaf 1)) cs
 
-    pub leaves-go : e ≡ Entered → (next : ℕ) → next ≡ wordOf t leaf 1 → enteredAll p (numbersAlong t (left - 1) next) after ≡ o
+    pub leaves-go : e ≡ Entered → (next : ℕ) → next ≡ wordOf t leaf 1 → enteredAll p (numbersAlong (viewFrom t r) (left - 1) next) after ≡ o
     leaves-go a next n =
-        ap (λ (x : ℕ). enteredAll p (numbersAlong t (left - 1) x) after) n ∙ goes-on behind o (enteredAll p (recordingsFrom w 1) cs) e after leaves-next q a
+        ap (λ (x : ℕ). enteredAll p (numbersAlong (viewFrom t r) (left - 1) x) after) n ∙ goes-on behind o (enteredAll p (recordingsFrom w 1) cs) e after leaves-next q a
 
     pub leaves-end : (s : Entry) → Last s → e ≡ s → outcome s after ≡ o
     leaves-end s l a = ends behind o (enteredAll p (recordingsFrom w 1) cs) e after leaves-next q s l a
@@ -149,35 +149,35 @@ in-pass low high r = (
 )
 
 -- the passes so far took the numbers whose place is below low, and none of those was twice
-pub record Passed (t : Words) (low width : ℕ) : Type 0 where
+pub record Passed (v : View) (low width : ℕ) : Type 0 where
   pub some : 0 < width
   pub small : width ≤ 4294967296
-  pub so-far : distinct (filter (inPass 0 low) (allNumbers t)) ≡ true
+  pub so-far : distinct (filter (inPass 0 low) (allNumbers v)) ≡ true
 
-pub pass-start : (t : Words) → Passed t 0 4294967296
+pub pass-start : (v : View) → Passed v 0 4294967296
 unfolding distinct
-pass-start t = record { some = omega arith; small = omega arith; so-far = ap distinct (filter-none (inPass 0 0) (allNumbers t) (mem-each (λ (x : ℕ). inPass 0 0 x ≡ false) (allNumbers t) none)) }
+pass-start v = record { some = omega arith; small = omega arith; so-far = ap distinct (filter-none (inPass 0 0) (allNumbers v) (mem-each (λ (x : ℕ). inPass 0 0 x ≡ false) (allNumbers v) none)) }
   where
-    none : (x : ℕ) → List·Memᴰ x (allNumbers t) → inPass 0 0 x ≡ false
+    none : (x : ℕ) → List·Memᴰ x (allNumbers v) → inPass 0 0 x ≡ false
     none x m = refuted (inPass 0 0 x) (λ h. let u = in-pass 0 0 x .0 h in omega (arith, u .1))
 
-module _ {t : Words} {low width : ℕ} (k : Passed t low width) where
-  pub pass-all : SPREAD ≤ low → true ≡ distinct (allNumbers t)
+module _ {v : View} {low width : ℕ} (k : Passed v low width) where
+  pub pass-all : SPREAD ≤ low → true ≡ distinct (allNumbers v)
   pass-all l =
-      let every : filter (inPass 0 low) (allNumbers t) ≡ allNumbers t =
-      filter-all (inPass 0 low) (allNumbers t)
-      (mem-each (λ (x : ℕ). inPass 0 low x ≡ true) (allNumbers t) (λ x m. in-pass 0 low x .1 (omega arith, omega (arith, l, mixed-below x)))) in
+      let every : filter (inPass 0 low) (allNumbers v) ≡ allNumbers v =
+      filter-all (inPass 0 low) (allNumbers v)
+      (mem-each (λ (x : ℕ). inPass 0 low x ≡ true) (allNumbers v) (λ x m. in-pass 0 low x .1 (omega arith, omega (arith, l, mixed-below x)))) in
       sym (sym (ap distinct every) ∙ k .so-far)
 
-  module _ (e : Entry) (h : Tells e (filter (inPass low (low + width)) (allNumbers t))) where
-    pub pass-more : e ≡ Entered → Passed t (low + width) width
+  module _ (e : Entry) (h : Tells e (filter (inPass low (low + width)) (allNumbers v))) where
+    pub pass-more : e ≡ Entered → Passed v (low + width) width
     pass-more q =
         record {
           some = k .some;
           small = k .small;
           so-far =
-              once-joined (inPass 0 low) (inPass low (low + width)) (inPass 0 (low + width)) part (allNumbers t) (k .so-far)
-              (subst (λ (x : Entry). Tells x (filter (inPass low (low + width)) (allNumbers t))) q h);
+              once-joined (inPass 0 low) (inPass low (low + width)) (inPass 0 (low + width)) part (allNumbers v) (k .so-far)
+              (subst (λ (x : Entry). Tells x (filter (inPass low (low + width)) (allNumbers v))) q h);
         }
       where
         part : (x : ℕ) → inPass 0 (low + width) x ≡ true → (inPass 0 low x ≡ true) ⊎ (inPass low (low + width) x ≡ true)
@@ -187,7 +187,7 @@ module _ {t : Words} {low width : ℕ} (k : Passed t low width) where
             go true l = inl (in-pass 0 low x .1 (omega arith, ltb-true (mixed x) low l))
             go false l = inr (in-pass low (low + width) x .1 (ltb-false (mixed x) low l, in-pass 0 (low + width) x .0 u .1))
 
-    pub pass-twice : e ≡ Known → false ≡ distinct (allNumbers t)
+    pub pass-twice : e ≡ Known → false ≡ distinct (allNumbers v)
     pass-twice q =
         sym
-        (twice-part (inPass low (low + width)) (allNumbers t) (subst (λ (x : Entry). Tells x (filter (inPass low (low + width)) (allNumbers t))) q h))
+        (twice-part (inPass low (low + width)) (allNumbers v) (subst (λ (x : Entry). Tells x (filter (inPass low (low + width)) (allNumbers v))) q h))

@@ -6,7 +6,7 @@ use Prim.Native.Nat.{ℕ, zero, suc, _+_, _-_, _≤_, _<_}
 use native.Mathlib.Omega.{arith}
 use lib.ListN.{getD}
 use Rattle.model.specs.Table.{Words, nodes}
-use Rattle.model.specs.Slots.{Slot, recording, pointerOk, nodeView, view}
+use Rattle.model.specs.Slots.{Slot, recording, pointerOk, View, nodeView, viewFrom, view}
 use Rattle.model.specs.Reached.{flat, kept}
 use Rattle.model.specs.SoundTest.{all, distinct, pairOk, recordingsOk}
 use Rattle.node.specs.Word.{wordOf}
@@ -65,61 +65,62 @@ same-pointers w i = span-pointers (w .keys) (w .pointers) i (w .count - i)
 
 -- ---- the leaves, one by one
 
--- what is left to look at, from this leaf on, comes to the answer
-pub record LeavesLeft (t : Words) (leaf left : ℕ) : Type 0 where
-  pub comes-to : all pairOk (pairsAlong t left leaf) ≡ all pairOk (allPairs t)
+-- what is left to look at, from this leaf of the tree on, comes to the answer
+pub record LeavesLeft (t : Words) (r leaf left : ℕ) : Type 0 where
+  pub comes-to : all pairOk (pairsAlong (viewFrom t r) left leaf) ≡ all pairOk (allPairs (viewFrom t r))
 
-pub leaves-start : (t : Words) (first n : ℕ) → first ≡ firstLeaf (view t) → n ≡ nodes t → LeavesLeft t first n
-leaves-start t first n e q = record { comes-to = ap (λ (ns : List ℕ). all pairOk (flat (kept (view t)) ns)) (whole-is t first n e q) }
+pub leaves-start : (t : Words) (r first n : ℕ) → first ≡ firstLeaf (viewFrom t r) → n ≡ nodes t → LeavesLeft t r first n
+leaves-start t r first n e q = record { comes-to = ap (λ (ns : List ℕ). all pairOk (flat (kept (viewFrom t r)) ns)) (whole-is (viewFrom t r) first n e q) }
 
-module _ {t : Words} {leaf left : ℕ} (k : LeavesLeft t leaf left) where
-  none-left : along (view t) left leaf ≡ [] → true ≡ all pairOk (allPairs t)
+module _ {t : Words} {r leaf left : ℕ} (k : LeavesLeft t r leaf left) where
+  none-left : along (viewFrom t r) left leaf ≡ [] → true ≡ all pairOk (allPairs (viewFrom t r))
   unfolding all flat
-  none-left z = sym (ap (λ (ns : List ℕ). all pairOk (flat (kept (view t)) ns)) z) ∙ k .comes-to
+  none-left z = sym (ap (λ (ns : List ℕ). all pairOk (flat (kept (viewFrom t r)) ns)) z) ∙ k .comes-to
 
-  pub leaves-no-leaf : leaf ≡ 0 → true ≡ all pairOk (allPairs t)
-  leaves-no-leaf z = none-left (ap (along (view t) left) z ∙ along-none (view t) left)
+  pub leaves-no-leaf : leaf ≡ 0 → true ≡ all pairOk (allPairs (viewFrom t r))
+  leaves-no-leaf z = none-left (ap (along (viewFrom t r) left) z ∙ along-none (viewFrom t r) left)
 
-  pub leaves-no-more : left ≡ 0 → true ≡ all pairOk (allPairs t)
+  pub leaves-no-more : left ≡ 0 → true ≡ all pairOk (allPairs (viewFrom t r))
   unfolding along
-  leaves-no-more z = none-left (ap (λ (c : ℕ). along (view t) c leaf) z)
+  leaves-no-more z = none-left (ap (λ (c : ℕ). along (viewFrom t r) c leaf) z)
 
   module _ (w : Ways) (e : slotsIn w ≡ ways (view t) leaf) (z : leaf ≡ 0 → ⊥) (y : left ≡ 0 → ⊥) (b : Bool) (h : b ≡ all pairOk (waysFrom w 1)) where
     abbrev later : Bool
-    later = all pairOk (pairsAlong t (left - 1) (nodeView t leaf .sibling))
+    later = all pairOk (pairsAlong (viewFrom t r) (left - 1) (nodeView t leaf .sibling))
 
-    leaves-step : (b && later) ≡ all pairOk (allPairs t)
+    leaves-step : (b && later) ≡ all pairOk (allPairs (viewFrom t r))
     unfolding flat
     leaves-step =
+        let v = viewFrom t r in
         let more : left ≡ suc (left - 1) = omega arith in
-        let first : along (view t) left leaf ≡ leaf ∷ along (view t) (left - 1) (nodeView t leaf .sibling) =
-        ap (λ (c : ℕ). along (view t) c leaf) more ∙ along-more (view t) (left - 1) leaf z in
-        ap (λ (c : Bool). c && later) (h ∙ ap (all pairOk) (kept-ways (view t) leaf w e))
-        ∙ sym (ap (λ (ns : List ℕ). all pairOk (flat (kept (view t)) ns)) first ∙ all-join pairOk (kept (view t) leaf) (pairsAlong t (left - 1) (nodeView t leaf .sibling)))
+        let first : along v left leaf ≡ leaf ∷ along v (left - 1) (nodeView t leaf .sibling) =
+        ap (λ (c : ℕ). along v c leaf) more ∙ along-more v (left - 1) leaf z in
+        ap (λ (c : Bool). c && later) (h ∙ ap (all pairOk) (kept-ways t r leaf w e))
+        ∙ sym (ap (λ (ns : List ℕ). all pairOk (flat (kept v) ns)) first ∙ all-join pairOk (kept v leaf) (pairsAlong v (left - 1) (nodeView t leaf .sibling)))
         ∙ k .comes-to
 
-    pub leaves-wrong : b ≡ false → false ≡ all pairOk (allPairs t)
+    pub leaves-wrong : b ≡ false → false ≡ all pairOk (allPairs (viewFrom t r))
     leaves-wrong n = ap (λ (c : Bool). c && later) (sym n) ∙ leaves-step
 
-    pub leaves-next : b ≡ true → (next : ℕ) → next ≡ wordOf t leaf 1 → LeavesLeft t next (left - 1)
+    pub leaves-next : b ≡ true → (next : ℕ) → next ≡ wordOf t leaf 1 → LeavesLeft t r next (left - 1)
     leaves-next n next q =
         record {
           comes-to =
-              ap (λ (x : ℕ). all pairOk (pairsAlong t (left - 1) x)) (q ∙ word-sibling t leaf)
+              ap (λ (x : ℕ). all pairOk (pairsAlong (viewFrom t r) (left - 1) x)) (q ∙ word-sibling t leaf)
               ∙ ap (λ (c : Bool). c && later) (sym n) ∙ leaves-step;
         }
 
 -- ---- both tests
 
-numbers-are : (t : Words) → allNumbers t ≡ map recording (allPairs t)
+numbers-are : (v : View) → allNumbers v ≡ map recording (allPairs v)
 unfolding recordings
-numbers-are t = refl
+numbers-are v = refl
 
-module _ (t : Words) (b : Bool) (e : b ≡ all pairOk (allPairs t)) where
-  pub right-no : b ≡ false → false ≡ recordingsOk (allPairs t)
+module _ (v : View) (b : Bool) (e : b ≡ all pairOk (allPairs v)) where
+  pub right-no : b ≡ false → false ≡ recordingsOk (allPairs v)
   unfolding recordingsOk
-  right-no n = ap (λ (c : Bool). c && distinct (map recording (allPairs t))) (sym n ∙ e)
+  right-no n = ap (λ (c : Bool). c && distinct (map recording (allPairs v))) (sym n ∙ e)
 
-  pub right-yes : b ≡ true → (c : Bool) → c ≡ distinct (allNumbers t) → c ≡ recordingsOk (allPairs t)
+  pub right-yes : b ≡ true → (c : Bool) → c ≡ distinct (allNumbers v) → c ≡ recordingsOk (allPairs v)
   unfolding recordingsOk
-  right-yes y c q = q ∙ ap distinct (numbers-are t) ∙ ap (λ (a : Bool). a && distinct (map recording (allPairs t))) (sym y ∙ e)
+  right-yes y c q = q ∙ ap distinct (numbers-are v) ∙ ap (λ (a : Bool). a && distinct (map recording (allPairs v))) (sym y ∙ e)

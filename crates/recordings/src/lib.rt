@@ -1,10 +1,11 @@
-// Whether the map's recording numbers and classes are right: each in its range, no recording number twice.
+// Whether the recording numbers and classes of a tree's map are right: each in its range, no recording number twice.
 use leaves::Hit;
 use numbers::Entry;
 use slots::Ways;
 ghost use mathlib.Core.Path.{_≡_};
 ghost use Prim.Native.Nat.{_≤_};
 ghost use lib.ListN.{length};
+ghost use Rattle.model.specs.Slots.{view, viewFrom};
 ghost use Rattle.model.specs.Reached.{filter};
 ghost use Rattle.model.specs.SoundTest.{all, elem, distinct, pairOk, recordingsOk};
 ghost use Rattle.numbers.specs.Cells.{CELLS, outcome, enteredIf, enteredAll, Tells};
@@ -36,10 +37,10 @@ fn leaf_ok(w: Ways) -> bool
 }
 
 // Whether each pair of the map has.
-fn pairs_ok(table: &[u64]) -> bool
-    ensures { λ r. ⌜ r ≡ all pairOk (allPairs (now (table .entry))) ⌝ }
+fn pairs_ok(table: &[u64], root: u64) -> bool
+    ensures { λ r. ⌜ r ≡ all pairOk (allPairs (viewFrom (now (table .entry)) root)) ⌝ }
 {
-    let mut leaf = leaves::first_leaf(table);
+    let mut leaf = leaves::first_leaf(table, root);
     let mut left = leaves::word_at(table, 2);
     while leaf != 0 {
         if left == 0 {
@@ -59,7 +60,7 @@ fn pairs_ok(table: &[u64]) -> bool
 
 // Whether a recording number is among the leaves' slots of the map.
 fn appears(table: &[u64], first: u64, most: u64, recording: u64) -> bool
-    ensures { λ r. ⌜ r ≡ elem recording (numbersAlong (now (table .entry)) most first) ⌝ }
+    ensures { λ r. ⌜ r ≡ elem recording (numbersAlong (view (now (table .entry))) most first) ⌝ }
 {
     let hit = leaves::find_from(table, first, most, recording);
     match hit {
@@ -88,7 +89,7 @@ fn repeats(w: Ways, i: usize, recording: u64) -> bool
 // Whether no recording number of a leaf, its first way left aside, comes again in it or in the leaves after it.
 fn leaf_once(table: &[u64], w: Ways, next: u64, most: u64) -> bool
     requires { ⌜ w .count ≤ 13 ⌝ }
-    ensures { λ r. ⌜ r ≡ onceBefore (recordingsFrom w 1) (numbersAlong (now (table .entry)) most next) ⌝ }
+    ensures { λ r. ⌜ r ≡ onceBefore (recordingsFrom w 1) (numbersAlong (view (now (table .entry))) most next) ⌝ }
 {
     let count = w.count;
     let pointers = w.pointers;
@@ -108,10 +109,10 @@ fn leaf_once(table: &[u64], w: Ways, next: u64, most: u64) -> bool
 
 // No recording number is in the map twice: each is compared with all after it. The last resort, for numbers chosen so that they crowd
 // the same cells.
-fn compared_once(table: &[u64]) -> bool
-    ensures { λ r. ⌜ r ≡ distinct (allNumbers (now (table .entry))) ⌝ }
+fn compared_once(table: &[u64], root: u64) -> bool
+    ensures { λ r. ⌜ r ≡ distinct (allNumbers (viewFrom (now (table .entry)) root)) ⌝ }
 {
-    let mut leaf = leaves::first_leaf(table);
+    let mut leaf = leaves::first_leaf(table, root);
     let mut left = leaves::word_at(table, 2);
     while leaf != 0 {
         if left == 0 {
@@ -175,11 +176,11 @@ fn enter_leaf(cells: &mut [u64], w: Ways, low: u64, high: u64) -> Entry
 }
 
 // Enters those of all leaves.
-fn enter_leaves(cells: &mut [u64], table: &[u64], low: u64, high: u64) -> Entry
+fn enter_leaves(cells: &mut [u64], table: &[u64], root: u64, low: u64, high: u64) -> Entry
     requires { ⌜ length (now cells) ≡ CELLS ⌝ }
-    ensures { λ r. ⌜ outcome r (now (cells .exit)) ≡ enteredAll (inPass low high) (allNumbers (now (table .entry))) (now (cells .entry)) ⌝ }
+    ensures { λ r. ⌜ outcome r (now (cells .exit)) ≡ enteredAll (inPass low high) (allNumbers (viewFrom (now (table .entry)) root)) (now (cells .entry)) ⌝ }
 {
-    let mut leaf = leaves::first_leaf(table);
+    let mut leaf = leaves::first_leaf(table, root);
     let mut left = leaves::word_at(table, 2);
     while leaf != 0 {
         if left == 0 {
@@ -199,21 +200,21 @@ fn enter_leaves(cells: &mut [u64], table: &[u64], low: u64, high: u64) -> Entry
 }
 
 // Whether a number of the pass is in the map twice, unless the cells get full.
-fn pass(table: &[u64], low: u64, high: u64) -> Entry
-    ensures { λ r. ⌜ Tells r (filter (inPass low high) (allNumbers (now (table .entry)))) ⌝ }
+fn pass(table: &[u64], root: u64, low: u64, high: u64) -> Entry
+    ensures { λ r. ⌜ Tells r (filter (inPass low high) (allNumbers (viewFrom (now (table .entry)) root))) ⌝ }
 {
     let mut cells = [0u64; numbers::CELLS];
-    enter_leaves(&mut cells, table, low, high)
+    enter_leaves(&mut cells, table, root, low, high)
 }
 
 // No recording number is in the map twice. The first pass takes all; where the cells get full, half its range is tried.
-fn once(table: &[u64]) -> bool
-    ensures { λ r. ⌜ r ≡ distinct (allNumbers (now (table .entry))) ⌝ }
+fn once(table: &[u64], root: u64) -> bool
+    ensures { λ r. ⌜ r ≡ distinct (allNumbers (viewFrom (now (table .entry)) root)) ⌝ }
 {
     let mut low = 0;
     let mut width = 4294967296;
     while low < numbers::SPREAD {
-        let entry = pass(table, low, low + width);
+        let entry = pass(table, root, low, low + width);
         match entry {
             Entry::Entered => {
                 low += width;
@@ -221,7 +222,7 @@ fn once(table: &[u64]) -> bool
             Entry::Known => return false,
             Entry::Full => {
                 if width <= NARROWEST {
-                    return compared_once(table);
+                    return compared_once(table, root);
                 }
                 width = width / 2;
             }
@@ -231,11 +232,11 @@ fn once(table: &[u64]) -> bool
 }
 
 // Whether the map's recording numbers and classes are right.
-pub fn ok(table: &[u64]) -> bool
-    ensures { λ r. ⌜ r ≡ recordingsOk (allPairs (now (table .entry))) ⌝ }
+pub fn ok(table: &[u64], root: u64) -> bool
+    ensures { λ r. ⌜ r ≡ recordingsOk (allPairs (viewFrom (now (table .entry)) root)) ⌝ }
 {
-    if !pairs_ok(table) {
+    if !pairs_ok(table, root) {
         return false;
     }
-    once(table)
+    once(table, root)
 }

@@ -12,7 +12,7 @@ pub fn repair(table: &mut [u64], list: &mut [u64]) -> Written
     ensures { λ r. ⌜ now (table .exit) ≡ tableAfter repair (length (now (list .entry))) (now (table .entry)) ⌝ }
     ensures { λ r. ⌜ now (list .exit) ≡ listAfter repair (now (list .entry)) (now (table .entry)) ⌝ }
 {
-    let judgement = write::judge(table, list.len());
+    let judgement = write::judge_any(table, list.len());
     match judgement {
         Judged::Refused(n) => Written::Refused(n),
         Judged::Ready { left, reached: _ } => {

@@ -1,2 +1,6 @@
 -- Laws that the functions' proofs cite.
-pub mod Rebuilt
+pub mod Entering
+pub mod Bounds
+pub mod Filling
+pub mod Both
+pub mod Call

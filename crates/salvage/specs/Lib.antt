@@ -1,3 +1,2 @@
--- What the functions of this crate take and make.
-pub mod Header
-pub mod Bound
+-- What the functions of this crate take and give.
+pub mod Parts

@@ -1,88 +1,193 @@
-// Salvage into a fresh table: what can be read of a damaged table, packed into a second slice, and a report of what was dropped.
+// Salvage into a fresh table: what can be read of a damaged table, packed into a second slice, and a report of what was dropped. Collection 1
+// comes first, in the tour, in the new nodes and in the report.
 use model::Salvaged;
 ghost use mathlib.Core.Path.{_≡_};
-ghost use mathlib.Core.Bool.{true};
+ghost use mathlib.Core.Bool.{true, false};
 ghost use mathlib.Core.List.{_++_};
-ghost use Prim.Native.Nat.{_*_, _≤_};
+ghost use Prim.Native.Nat.{_+_, _*_, _≤_};
 ghost use lib.Dec.{ltb};
-ghost use lib.ListN.{length, take, drop};
+ghost use lib.ListN.{length, drop};
 ghost use Rattle.model.specs.Table.{headerOk, nodes};
 ghost use Rattle.model.specs.Packing.{packedCount, packedTable};
-ghost use Rattle.model.specs.Salvage.{entered, gathered, dropWords, outgrows, salvage, salvageOut, salvageReport};
-ghost use Rattle.pack_laws.specs.Needed.{nodesNeeded};
-ghost use Rattle.pack.specs.Rows.{packedNodes};
-ghost use Rattle.salvage.specs.Header.{headerWords};
-ghost use Rattle.salvage.specs.Bound.{Bounded};
+ghost use Rattle.model.specs.Salvage.{gatheredAlong, keptMaps, droppedAll, outgrows, salvage, salvageOut, salvageReport};
+ghost use Rattle.pack.specs.Rows.{packedAfter};
+ghost use Rattle.salvage.specs.Parts.{headerWords, secondRoot, packedNodes, Toured, neededBoth, Most, Fits, Reported};
 
-// The nodes entered, in order, into the order slice; the answer is how many.
-fn enter_nodes(table: &[u64], top: u64, order: &mut [u16]) -> usize
+// How many nodes were entered: for collection 1, and in all.
+struct Counts {
+    first: usize,
+    all: usize,
+}
+
+// The nodes entered, in order, into the order slice: for collection 1, then for collection 2. Without it its root is 0, which is no node.
+fn enter_nodes(table: &[u64], top: u64, order: &mut [u16]) -> Counts
     requires { ⌜ (headerOk (now table) ≡ true) × (top ≡ nodes (now table)) × (length (now order) ≡ 65536) ⌝ }
-    ensures { λ r. ⌜ (take r (now (order .exit)) ≡ entered (now (table .entry))) × (r ≤ top) ⌝ }
+    ensures { λ r. ⌜ Toured (now (table .entry)) top (now (order .exit)) (r .first) (r .all) ⌝ }
 {
-    let mut marks = [0u8; 65536];
+    let mut marks = [0u64; 1024];
     let mut stack = [0u16; 65536];
     let mut ways = [0u8; 65536];
-    tour::tour(table, top, &mut marks, &mut stack, &mut ways, order)
+    let first = tour::tour(
+        table,
+        top,
+        table[1],
+        &mut marks,
+        &mut stack,
+        &mut ways,
+        order,
+        0,
+    );
+    let all = tour::tour(
+        table,
+        top,
+        table[3],
+        &mut marks,
+        &mut stack,
+        &mut ways,
+        order,
+        first,
+    );
+    Counts {
+        first: first,
+        all: all,
+    }
+}
+
+// ---- whether the packing fits
+
+// How many nodes so many pairs of each collection need; without collection 2 none for it.
+fn needed_both(table: &[u64], one: usize, two: usize) -> usize
+    requires { ⌜ (8 ≤ length (now table)) × (one ≤ 16777216) × (two ≤ 16777216) ⌝ }
+    ensures { λ r. ⌜ r ≡ neededBoth (now (table .entry)) one two ⌝ }
+{
+    let first = pack::needed(one);
+    if table[3] == 0 {
+        return first;
+    }
+    first + pack::needed(two)
+}
+
+// Numbers of pairs, for each collection.
+struct Pairs {
+    one: usize,
+    two: usize,
 }
 
 // At least as many as the pairs kept, and too many for the table only where these are: the slots in use, if their packing fits; else the
 // pairs kept, which takes far longer to know.
-fn most_kept(table: &[u64], top: u64, order: &[u16], count: usize) -> usize
-    requires { ⌜ (headerOk (now table) ≡ true) × (top ≡ nodes (now table)) × (length (now order) ≡ 65536)
-        × (take count (now order) ≡ entered (now table)) × (count ≤ top) ⌝ }
-    ensures { λ r. ⌜ (length (gathered (now (table .entry)) .kept) ≤ r) × (r ≤ 16777216) ⌝ }
-    ensures { λ r. ⌜ ltb top (nodesNeeded r) ≡ outgrows (now (table .entry)) ⌝ }
+fn most_kept(table: &[u64], top: u64, order: &[u16], first: usize, all: usize) -> Pairs
+    requires { ⌜ Toured (now table) top (now order) first all ⌝ }
+    ensures { λ r. ⌜ Most (now (table .entry)) (r .one) (r .two) ⌝ }
+    ensures { λ r. ⌜ ltb top (neededBoth (now (table .entry)) (r .one) (r .two)) ≡ outgrows (now (table .entry)) ⌝ }
 {
-    let used = keeping::count_used(table, order, count);
-    if pack::needed(used) <= top as usize {
-        return used;
+    let one = keeping::count_used(table, &order[..first]);
+    let two = keeping::count_used(table, &order[first..all]);
+    if needed_both(table, one, two) <= top as usize {
+        return Pairs { one: one, two: two };
     }
-    keeping::count_kept(table, top, order, count)
+    let least = keeping::count_kept(table, top, &order[..first]);
+    let other = keeping::count_kept(table, top, &order[first..all]);
+    Pairs {
+        one: least,
+        two: other,
+    }
 }
 
-// What the new table's nodes come to: the root's number, and how many slots were dropped.
+// ---- the new table
+
+// What a collection's nodes come to: the root's number, and how many slots were dropped.
 struct Filled {
     root: usize,
     dropped: usize,
 }
 
-// The nodes of the new table, and the report.
+// The pairs that these nodes hold, at most so many, packed behind the nodes before; and the report.
 fn fill(
     table: &[u64],
     top: u64,
     order: &[u16],
-    count: usize,
     words: &mut [u64],
+    before: usize,
     bound: usize,
     report: &mut [u64],
 ) -> Filled
-    requires { ⌜ (headerOk (now table) ≡ true) × (top ≡ nodes (now table)) × (length (now order) ≡ 65536)
-        × (take count (now order) ≡ entered (now table)) × (count ≤ top) × (length (now words) ≡ 32 * top)
-        × (36 * top ≤ length (now report)) × Bounded (now table) bound ⌝ }
-    ensures { λ r. ⌜ (now (words .exit) ≡ packedNodes (nodes (now (table .entry))) (gathered (now (table .entry)) .kept))
-        × (r .root ≡ packedCount (gathered (now (table .entry)) .kept)) ⌝ }
-    ensures { λ r. ⌜ (r .dropped ≡ length (gathered (now (table .entry)) .dropped))
-        × (now (report .exit) ≡ dropWords (gathered (now (table .entry)) .dropped) ++ drop (3 * r .dropped) (now (report .entry))) ⌝ }
+    requires { ⌜ (top ≡ nodes (now table)) × Fits (now table) (now order) (now words) before bound (now report) ⌝ }
+    ensures { λ r. ⌜ (now (words .exit) ≡ packedAfter before top (now (words .entry)) (gatheredAlong (now (table .entry)) (now (order .entry)) .kept))
+        × (r .root ≡ before + packedCount (gatheredAlong (now (table .entry)) (now (order .entry)) .kept)) ⌝ }
+    ensures { λ r. ⌜ Reported (now (report .entry)) (now (report .exit)) (gatheredAlong (now (table .entry)) (now (order .entry)) .dropped) (r .dropped) ⌝ }
+    ensures { λ r. ⌜ r .dropped ≤ 12 * length (now (order .entry)) ⌝ }
 {
-    let t = gather::gather(table, top, order, count, words, bound, report);
+    let w = 32 * before;
+    let t = gather::gather(table, top, order, &mut words[w..], bound, report);
     let kept = t.kept;
     let dropped = t.dropped;
-    let root = pack::pack(words, kept, top as usize);
+    let root = pack::pack(words, before, kept, top as usize);
     Filled {
         root: root,
         dropped: dropped,
     }
 }
 
-// The header of a table with this root, of so many nodes.
-fn put_header(out: &mut [u64], root: u64, top: u64)
+// The roots' numbers, 0 for no second one, and how many slots were dropped.
+struct Rebuilt {
+    one: usize,
+    two: usize,
+    dropped: usize,
+}
+
+// The nodes of the new table, and the report, where at most so many pairs are kept of each collection.
+fn fill_both(
+    table: &[u64],
+    top: u64,
+    order: &[u16],
+    first: usize,
+    all: usize,
+    words: &mut [u64],
+    bounds: Pairs,
+    report: &mut [u64],
+) -> Rebuilt
+    requires { ⌜ Toured (now table) top (now order) first all × Most (now table) (bounds .one) (bounds .two)
+        × (neededBoth (now table) (bounds .one) (bounds .two) ≤ top) × (length (now words) ≡ 32 * top) × (36 * top ≤ length (now report)) ⌝ }
+    ensures { λ r. ⌜ now (words .exit) ≡ packedNodes top (keptMaps (now (table .entry))) ⌝ }
+    ensures { λ r. ⌜ (r .one ≡ packedCount (keptMaps (now (table .entry)) .one)) × (r .two ≡ secondRoot (keptMaps (now (table .entry)))) ⌝ }
+    ensures { λ r. ⌜ Reported (now (report .entry)) (now (report .exit)) (droppedAll (now (table .entry))) (r .dropped) ⌝ }
+{
+    let f = fill(table, top, &order[..first], words, 0, bounds.one, report);
+    let root = f.root;
+    let dropped = f.dropped;
+    if table[3] == 0 {
+        return Rebuilt {
+            one: root,
+            two: 0,
+            dropped: dropped,
+        };
+    }
+    let w = 3 * dropped;
+    let g = fill(
+        table,
+        top,
+        &order[first..all],
+        words,
+        root,
+        bounds.two,
+        &mut report[w..],
+    );
+    Rebuilt {
+        one: root,
+        two: g.root,
+        dropped: dropped + g.dropped,
+    }
+}
+
+// The header of a table with these roots, of so many nodes.
+fn put_header(out: &mut [u64], root: u64, second: u64, top: u64)
     requires { ⌜ 8 ≤ length (now out) ⌝ }
-    ensures { λ r. ⌜ now (out .exit) ≡ headerWords root top ++ drop 8 (now (out .entry)) ⌝ }
+    ensures { λ r. ⌜ now (out .exit) ≡ headerWords root second top ++ drop 8 (now (out .entry)) ⌝ }
 {
     out[0] = 1;
     out[1] = root;
     out[2] = top;
-    out[3] = 0;
+    out[3] = second;
     out[4] = 0;
     out[5] = 0;
     out[6] = 0;
@@ -94,24 +199,26 @@ fn rebuild(
     table: &[u64],
     top: u64,
     order: &[u16],
-    count: usize,
-    bound: usize,
+    first: usize,
+    all: usize,
     out: &mut [u64],
+    bounds: Pairs,
     report: &mut [u64],
 ) -> usize
-    requires { ⌜ (headerOk (now table) ≡ true) × (top ≡ nodes (now table)) × (length (now order) ≡ 65536)
-        × (take count (now order) ≡ entered (now table)) × (count ≤ top) × (length (now out) ≡ length (now table))
-        × (36 * top ≤ length (now report)) × Bounded (now table) bound ⌝ }
-    ensures { λ r. ⌜ now (out .exit) ≡ packedTable (nodes (now (table .entry))) (gathered (now (table .entry)) .kept) ⌝ }
-    ensures { λ r. ⌜ (r ≡ length (gathered (now (table .entry)) .dropped))
-        × (now (report .exit) ≡ dropWords (gathered (now (table .entry)) .dropped) ++ drop (3 * r) (now (report .entry))) ⌝ }
+    requires { ⌜ Toured (now table) top (now order) first all × Most (now table) (bounds .one) (bounds .two)
+        × (neededBoth (now table) (bounds .one) (bounds .two) ≤ top) × (length (now out) ≡ length (now table)) × (36 * top ≤ length (now report)) ⌝ }
+    ensures { λ r. ⌜ now (out .exit) ≡ packedTable (nodes (now (table .entry))) (keptMaps (now (table .entry))) ⌝ }
+    ensures { λ r. ⌜ Reported (now (report .entry)) (now (report .exit)) (droppedAll (now (table .entry))) r ⌝ }
 {
-    let f = fill(table, top, order, count, &mut out[8..], bound, report);
-    let root = f.root;
+    let f = fill_both(table, top, order, first, all, &mut out[8..], bounds, report);
+    let one = f.one;
+    let two = f.two;
     let dropped = f.dropped;
-    put_header(out, root as u64, top);
+    put_header(out, one as u64, two as u64, top);
     dropped
 }
+
+// ---- the call
 
 // Reads the table and builds a new settled one of the same N in the second slice; 2, 15, 16 and 10 in that order. A refusal changes no
 // word. The stack takes 400 KB.
@@ -131,11 +238,13 @@ pub fn salvage(table: &[u64], out: &mut [u64], report: &mut [u64]) -> Salvaged
         return Salvaged::Refused(16);
     }
     let mut order = [0u16; 65536];
-    let count = enter_nodes(table, top, &mut order);
-    let bound = most_kept(table, top, &order, count);
-    if (top as usize) < pack::needed(bound) {
+    let counts = enter_nodes(table, top, &mut order);
+    let first = counts.first;
+    let all = counts.all;
+    let bounds = most_kept(table, top, &order, first, all);
+    if (top as usize) < needed_both(table, bounds.one, bounds.two) {
         return Salvaged::Refused(10);
     }
-    let dropped = rebuild(table, top, &order, count, bound, out, report);
+    let dropped = rebuild(table, top, &order, first, all, out, bounds, report);
     Salvaged::Dropped(dropped as u64)
 }

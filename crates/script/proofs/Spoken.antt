@@ -29,8 +29,8 @@ use Rattle.cut_laws.proofs.Applying.{counts-length}
 use Rattle.cut_laws.proofs.FlushRule.{orders-stores}
 use Rattle.cut_laws.specs.Inside.{StoresInside}
 use Rattle.cut_laws.proofs.Lent.{header-length, decode-encode}
-use Rattle.step_laws.proofs.Accepted.{accepted-iff}
-use Rattle.step_laws.proofs.Calls.{accepted}
+use Rattle.two_laws.proofs.AcceptedTwo.{accepted-iff}
+use Rattle.two_laws.proofs.MapsTwo.{accepted-steps}
 use Rattle.script.specs.Spoken.{deskOf, answerOf, answerTo, Left, silent, Told, After, told}
 use Rattle.script.specs.declared.Said.{Said}
 
@@ -61,11 +61,11 @@ abbrev Called : Call → (t lent : Words) → Written → (t′ lent′ : Words)
 Called x t lent a t′ lent′ =
     (a ≡ written x (length lent) t) × ((t′ ≡ tableAfter x (length lent) t) × (lent′ ≡ listAfter x lent t))
 
-pub acted-insertion : (q : Request) (t lent : Words) (k r : ℕ) → q ≡ Insertion k r → (a : Written) (t′ lent′ : Words) → Called (insertion k r 0) t lent a t′ lent′ → Acted q t lent a t′ lent′
+pub acted-insertion : (q : Request) (t lent : Words) (k r : ℕ) → q ≡ Insertion k r → (a : Written) (t′ lent′ : Words) → Called (insertion 1 k r 0) t lent a t′ lent′ → Acted q t lent a t′ lent′
 unfolding answerTo doRequest
 acted-insertion q t lent k r e a t′ lent′ h = rw (e, call-table, call-list) h
 
-pub acted-deletion : (q : Request) (t lent : Words) (k : ℕ) → q ≡ Deletion k → (a : Written) (t′ lent′ : Words) → Called (deletion k) t lent a t′ lent′ → Acted q t lent a t′ lent′
+pub acted-deletion : (q : Request) (t lent : Words) (k : ℕ) → q ≡ Deletion k → (a : Written) (t′ lent′ : Words) → Called (deletion 1 k) t lent a t′ lent′ → Acted q t lent a t′ lent′
 unfolding answerTo doRequest
 acted-deletion q t lent k e a t′ lent′ h = rw (e, call-table, call-list) h
 
@@ -90,7 +90,7 @@ call-read : (x : Call) (lent t : Words) → refusal x (length lent) t ≡ 0
 unfolding listWith
 call-read x lent t e =
     let u = accepted-iff x (length lent) t .0 e in
-    let inside = accepted x (length lent) t (u .sound) e .stores-inside in
+    let inside = accepted-steps x (length lent) t (u .sound) e .stores-inside in
     let far : Each (λ (s : Store). s .word ≢ MARK) (storesIn (ordersOf x t)) = rw orders-stores (below-mark (length t) (storesOf x t) (header-length t (u .header) .1) inside) in
     rw (counts-length (ordersOf x t), decode-encode (ordersOf x t) (drop (2 * length (ordersOf x t)) lent) far)
     (take-append-le (length (ordersOf x t)) (ordersOf x t) _ (omega arith) ∙ take-length (ordersOf x t))
@@ -103,8 +103,8 @@ call-spoken x d (suc n) e = rw e
 -- What is printed of a request, from its answer and the list after it, is document 01's text.
 pub request-spoken : (q : Request) (d : Desk) → spoken (answerTo q d) ((doRequest q d) .desk .list) ≡ (doRequest q d) .bytes
 unfolding answerTo doRequest spoken
-request-spoken (Insertion k r) d = rw call-list (call-spoken (insertion k r 0) d _ refl)
-request-spoken (Deletion k) d = rw call-list (call-spoken (deletion k) d _ refl)
+request-spoken (Insertion k r) d = rw call-list (call-spoken (insertion 1 k r 0) d _ refl)
+request-spoken (Deletion k) d = rw call-list (call-spoken (deletion 1 k) d _ refl)
 request-spoken (Refused n) d = refl
 
 -- ---- what the calls leave

@@ -22,8 +22,8 @@ abbrev pub answerOf : Call → Desk → Written
 answerOf x d = written x (length (d .list)) (d .table)
 
 unfoldable pub answerTo : Request → Desk → Written
-answerTo (Insertion k r) d = answerOf (insertion k r 0) d
-answerTo (Deletion k) d = answerOf (deletion k) d
+answerTo (Insertion k r) d = answerOf (insertion 1 k r 0) d
+answerTo (Deletion k) d = answerOf (deletion 1 k) d
 answerTo (Refused n) d = written-as.Refused n
 
 -- ---- what a call leaves

@@ -26,7 +26,7 @@ pub fn first_table() -> [u64; 136]
     ensures { λ r. ⌜ r ≡ firstDesk .table ⌝ }
 {
     let mut table = [0u64; 136];
-    node::make(&mut table);
+    node::make(&mut table, 1);
     table
 }
 
@@ -45,8 +45,8 @@ pub fn act(table: &mut [u64], list: &mut [u64], request: Request) -> Written
     ensures { λ r. ⌜ now (list .exit) ≡ (doRequest request (deskOf (now (table .entry)) (now (list .entry)))) .desk .list ⌝ }
 {
     match request {
-        Request::Insertion { key, recording } => insert::insert(table, list, key, recording, 0),
-        Request::Deletion(key) => delete::delete(table, list, key),
+        Request::Insertion { key, recording } => insert::insert(table, list, 1, key, recording, 0),
+        Request::Deletion(key) => delete::delete(table, list, 1, key),
         Request::Refused(n) => Written::Refused(n),
     }
 }

@@ -170,12 +170,12 @@ line-used s (b ∷ bs) = go (eqb b 10) (lineIn (step s b) bs) (line-used (step s
 
 -- ---- the printer
 
-asked-key : (x : Parsed) (r : ℕ) (d : Desk) → withKey x (λ (k : ℕ). insertion k r 0) d ≡ doRequest (insertionOf x r) d
+asked-key : (x : Parsed) (r : ℕ) (d : Desk) → withKey x (λ (k : ℕ). insertion 1 k r 0) d ≡ doRequest (insertionOf x r) d
 unfolding doRequest
 asked-key (parsed.Key k) r d = refl
 asked-key (parsed.Refused n) r d = refl
 
-asked-gone : (x : Parsed) (d : Desk) → withKey x (λ (k : ℕ). deletion k) d ≡ doRequest (deletionOf x) d
+asked-gone : (x : Parsed) (d : Desk) → withKey x (λ (k : ℕ). deletion 1 k) d ≡ doRequest (deletionOf x) d
 unfolding doRequest
 asked-gone (parsed.Key k) d = refl
 asked-gone (parsed.Refused n) d = refl

@@ -52,8 +52,8 @@ carried act (l ∷ ls) a = carried act ls (act (requestOf (formOf (fields l))) a
 -- ---- the order printer
 
 unfoldable pub doRequest : Request → Desk → Reply
-doRequest (Insertion k r) d = doCall (insertion k r 0) d
-doRequest (Deletion k) d = doCall (deletion k) d
+doRequest (Insertion k r) d = doCall (insertion 1 k r 0) d
+doRequest (Deletion k) d = doCall (deletion 1 k) d
 doRequest (Refused n) d = reply (refusedLine n) d
 
 -- what was printed so far and the desk, after one request more

@@ -11,16 +11,17 @@ use borrow.Author.Tests.{eqb-true, eqb-false, eq-eqb, ne-eqb, lt-ltb, le-ltb, le
 use Rattle.model.specs.declared.Answer.{Answer}
 use Rattle.model.specs.declared.Answer.the-variants.{Found, Refused}
 use Rattle.model.specs.declared.Node.{Node}
-use Rattle.model.specs.Table.{Words, inRange, headerOk, hasNode, node, nodeFrom, blank, nodes, root}
-use Rattle.model.specs.Slots.{Slot, recordingOf, classOf, View, nodeView, view, height, used}
+use Rattle.model.specs.Table.{Words, inRange, headerOk, hasNode, node, nodeFrom, blank, at, nodes, root, rootWord, noCollection}
+use Rattle.model.specs.Slots.{Slot, recordingOf, classOf, View, nodeView, viewFrom, view, height, used}
 use Rattle.model.specs.Search.{below, moved, route, down, onLevel, passes, locate, firstWith, nextFrom, answerOf, answerIn, searchView, search}
 use mathlib.Core.Logic.{_≢_}
 use Rattle.list_laws.proofs.Tools.{Each}
 use Rattle.list_laws.proofs.Slots.{each-shown, in-use-some}
 use Rattle.table_laws.proofs.Header.{header-iff}
 use Rattle.table_laws.proofs.Nodes.{has-node-range, node-in, node-out}
-use Rattle.node.specs.Word.{rootIn}
-use Rattle.node.proofs.Answers.{root-none, root-some}
+use Rattle.view_laws.proofs.AnyRoot.{any-locate, any-answer}
+use Rattle.node.specs.Word.{rootIn, numberIn}
+use Rattle.node.proofs.Roots.{root-there, number-none}
 use Rattle.slots.specs.Scan.{usedFrom, shownFrom}
 use Rattle.slots.specs.Held.{pointerIn}
 use Rattle.slots.proofs.Scans.{used-past}
@@ -39,17 +40,6 @@ level-out t l n h e = rw (sym (has-node-range t n h) ∙ e)
 pub level-in : (t : Words) (l n : ℕ) (x : Node) → headerOk t ≡ true → hasNode t n ≡ true → x ≡ node t n → eqb (x .level) l ≡ onLevel (view t) l n
 unfolding onLevel
 level-in t l n x h e q = rw (sym (has-node-range t n h) ∙ e, q)
-
-pub level-other : (t : Words) (l n : ℕ) (x : Node) → headerOk t ≡ true → (b : Bool) → b ≡ hasNode t n → b ≡ true → x ≡ node t n → (x .level ≡ l → ⊥) → onLevel (view t) l n ≡ false
-level-other t l n x h b i f q z = sym (level-in t l n x h (sym i ∙ f) q) ∙ ne-eqb (x .level) l z
-
--- a node above level 0 is one of the table
-pub level-some : (t : Words) (n : ℕ) (x : Node) → headerOk t ≡ true → x ≡ node t n → (x .level ≡ 0 → ⊥) → onLevel (view t) (x .level) n ≡ true
-level-some t n x h q z = go (hasNode t n) refl
-  where
-    go : (b : Bool) → hasNode t n ≡ b → onLevel (view t) (x .level) n ≡ true
-    go true e = sym (level-in t (x .level) n x h e q) ∙ eq-eqb (x .level) (x .level) refl
-    go false e = absurd (z (ap (λ (y : Node). y .level) (q ∙ node-out t n e) ∙ (unfold blank in refl)))
 
 -- ---- passes and moved, by the tests in the order of the code
 
@@ -108,7 +98,7 @@ module _ (t : Words) (l n k : ℕ) (header : headerOk t ≡ true) (x : Node) (q 
       read-high e = lost-sibling (view t) l n k on w (rw sib at (sym level ∙ ne-eqb (y .level) l e))
 
       module _ (g : y .level ≡ l) where
-        pub read-on : onLevel (view t) l (x .sibling) ≡ true
+        read-on : onLevel (view t) l (x .sibling) ≡ true
         read-on = sym level ∙ eq-eqb (y .level) l g
 
         bound : y .fence ≡ node t (node t n .sibling) .fence
@@ -139,25 +129,23 @@ unfolding standOn
 stands-on v l n k m s = rw (s .passed) (ap some (s .on))
 
 -- of node m, which is x
-pub seen-read : (t : Words) (l n k m : ℕ) (x : Node) (on way held : ℕ) → Stands (view t) l n k m → x ≡ node t m → on ≡ m
+pub seen-read : (t : Words) (l n k m : ℕ) (x : Node) (way held : ℕ) → Stands (view t) l n k m → x ≡ node t m
     → way ≡ route k (x .left) (shownFrom (x .left) (x .slots) 0) → held ≡ pointerIn (firstWith k (shownFrom (x .left) (x .slots) 0))
-    → stood on way held ≡ seenIn (view t) k (standOn (view t) l n k)
-seen-read t l n k m x on way held s q o w h =
-    ap (λ (u : ℕ). stood u way held) o ∙ ap (λ (u : ℕ). stood m u held) (down-read t m k x way q w) ∙ ap (stood m (down (view t) m k)) (held-read t m k x held q h)
+    → stood m way held ≡ seenIn (view t) k (standOn (view t) l n k)
+seen-read t l n k m x way held s q w h =
+    ap (λ (u : ℕ). stood m u held) (down-read t m k x way q w) ∙ ap (stood m (down (view t) m k)) (held-read t m k x held q h)
     ∙ sym (ap (seenIn (view t) k) (stands-on (view t) l n k m s))
 
--- the node that the code has in hand: n itself, or its sibling after a move
-pub record Hand (t : Words) (n k : ℕ) (read x : Node) (on moves : ℕ) : Type 0 where
-  pub most : moves ≤ 1
-  pub first : moves ≡ 0 → (x ≡ read) × (on ≡ n)
-  pub moved : moves ≡ 1 → (x ≡ node t (read .sibling)) × (on ≡ read .sibling) × Stands (view t) (read .level) n k (read .sibling)
+-- a node has 12 slots
+slots-short : (t : Words) (n : ℕ) → length (node t n .slots) ≤ 24
+slots-short t n = go (hasNode t n) refl
+  where
+    go : (b : Bool) → hasNode t n ≡ b → length (node t n .slots) ≤ 24
+    go true e = rw (node-in t n e) (unfold nodeFrom in simp length-take (omega arith))
+    go false e = rw (node-out t n e) (unfold blank in (omega arith))
 
-pub in-hand : (t : Words) (n k : ℕ) (read : Node) → Hand t n k read read n 0
-in-hand t n k read = record { most = omega arith; first = λ e. (refl, refl); moved = λ e. absurd (omega arith) }
-
-pub moved-on : (t : Words) (n k : ℕ) (read y : Node) (moves : ℕ) → moves ≤ 1 → (moves ≡ 1 → ⊥) → y ≡ node t (read .sibling) → Stands (view t) (read .level) n k (read .sibling)
-    → Hand t n k read y (read .sibling) (suc moves)
-moved-on t n k read y moves h z e s = record { most = omega arith; first = λ q. absurd (omega arith); moved = λ q. (e, refl, s) }
+pub slots-end : (t : Words) (n : ℕ) (x : Node) → x ≡ node t n → usedFrom (x .slots) 12 ≡ []
+slots-end t n x q = used-past (x .slots) 12 (omega (arith, ap (λ (y : Node). length (y .slots)) q, slots-short t n))
 
 -- ---- coming down to level 0
 
@@ -333,9 +321,22 @@ held-none p r x e q = rw (eq-eqb p 0 e) q
 
 -- ---- the whole search
 
-pub bad-header : (t : Words) (k r : ℕ) → r ≡ rootIn t → r ≡ 0 → Refused 2 ≡ search t k
-unfolding search
-bad-header t k r e z = rw (root-none t r e z, search)
+pub bad-header : (n : ℕ) (t : Words) (k r x : ℕ) → r ≡ rootIn n t → r ≡ 0 → x ≡ numberIn n t → Refused x ≡ search n t k
+unfolding search numberIn
+bad-header n t k r x e z q = go (headerOk t) (noCollection n t) refl refl
+  where
+    go : (a b : Bool) → headerOk t ≡ a → noCollection n t ≡ b → Refused x ≡ search n t k
+    go false b h c = let w : numberIn n t ≡ 2 = rw h in ap Refused (q ∙ w) ∙ sym (rw (h, search))
+    go true true h c = let w : numberIn n t ≡ 17 = rw (h, c) in ap Refused (q ∙ w) ∙ sym (rw (h, c, search))
+    go true false h c = let w : numberIn n t ≡ 0 = rw (h, c) in absurd (omega (arith, w, number-none n t r e z h))
+
+-- the leaf come to does not depend on the root that the reading started from
+any-within : (t : Words) (r q low high n k : ℕ) → locateWithin (viewFrom t r) low high n k ≡ locateWithin (viewFrom t q) low high n k
+unfolding locateWithin
+any-within t r q low high n k = ap (λ (o : Option ℕ). cond (leb low l && leb l high) o none) (any-locate t r q l n k)
+  where
+    l : ℕ
+    l = node t n .level
 
 from-root : (v : View) (k : ℕ) → answerIn v k (locateWithin v 0 15 (v .root) k) ≡ searchView v k
 unfolding searchView
@@ -346,12 +347,15 @@ from-root v k = go (leb (height v) 15) refl
     go false e = ap (answerIn v k) (sym (within-high v 0 15 (v .root) k (omega arith) (leb-false _ _ e))) ∙ sym (rw (e, searchView))
 
 -- what was seen of the leaf come to from root r
-module _ (t : Words) (k r : ℕ) (e : r ≡ rootIn t) (z : r ≡ 0 → ⊥) (s : Stood) (f : s ≡ seenIn (view t) k (locateWithin (view t) 0 15 r k)) where
-  by-root : answerIn (view t) k (locateWithin (view t) 0 15 r k) ≡ search t k
+module _ (n : ℕ) (t : Words) (k r : ℕ) (e : r ≡ rootIn n t) (z : r ≢ 0) (s : Stood) (f : s ≡ seenIn (view t) k (locateWithin (view t) 0 15 r k)) where
+  by-root : answerIn (view t) k (locateWithin (view t) 0 15 r k) ≡ search n t k
   unfolding search
   by-root =
-      let u = root-some t r e z in
-      ap (λ (m : ℕ). answerIn (view t) k (locateWithin (view t) 0 15 m k)) (u .1) ∙ from-root (view t) k ∙ sym (rw (u .0, search))
+      let u = root-there n t r e z in
+      let q = at t (rootWord n) in
+      let v = viewFrom t q in
+      any-answer t (root t) q k (locateWithin (view t) 0 15 r k) ∙ ap (answerIn v k) (any-within t (root t) q 0 15 r k ∙ ap (λ (i : ℕ). locateWithin v 0 15 i k) (u .2))
+      ∙ from-root v k ∙ sym (rw (u .0, u .1, search))
 
   -- none, or the one stood on
   come : (s .node ≡ 0 → locateWithin (view t) 0 15 r k ≡ none) × ((s .node ≡ 0 → ⊥) → locateWithin (view t) 0 15 r k ≡ some (s .node))
@@ -363,14 +367,14 @@ module _ (t : Words) (k r : ℕ) (e : r ≡ rootIn t) (z : r ≡ 0 → ⊥) (s :
           let n : s .node ≡ m = ap (λ (y : Stood). y .node) g in
           (λ a. absurd (some-node (view t) m (within-on (view t) 0 15 r k m q) (sym n ∙ a)), λ a. ap some (sym n))
 
-  pub answered-lost : s .node ≡ 0 → Refused 3 ≡ search t k
+  pub answered-lost : s .node ≡ 0 → Refused 3 ≡ search n t k
   answered-lost a = ap (answerIn (view t) k) (sym (come .0 a)) ∙ by-root
 
   module _ (a : s .node ≡ 0 → ⊥) where
     pub stood-on : onLevel (view t) 0 (s .node) ≡ true
     stood-on = within-on (view t) 0 15 r k (s .node) (come .1 a)
 
-    pub answered : (x : Answer) → x ≡ answerHeld (s .held) (nextFrom (view t) (nodes t) (s .node) k) → x ≡ search t k
+    pub answered : (x : Answer) → x ≡ answerHeld (s .held) (nextFrom (view t) (nodes t) (s .node) k) → x ≡ search n t k
     answered x g =
         let o = firstWith k (nodeView t (s .node) .shown) in
         let h : s .held ≡ pointerIn o = ap (λ (y : Stood). y .held) (f ∙ ap (seenIn (view t) k) (come .1 a)) in

@@ -1,5 +1,5 @@
 -- What a search sees of the node that it stands on, where it stands on each level, and its answer from the pointer of the key's slot.
-use mathlib.Core.Bool.{Bool, cond, _&&_}
+use mathlib.Core.Bool.{cond, _&&_}
 use mathlib.Core.Option.{Option, none, some}
 use Prim.Native.Nat.{ℕ}
 use lib.Dec.{leb, eqb}

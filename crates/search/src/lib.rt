@@ -17,7 +17,8 @@ pub fn down(table: &[u64], m: u64, key: u64) -> u64
     let slots = x.slots;
     let left = x.left;
     let end = slots::count(slots);
-    slots::route(slots, left, key, end)
+    let seen = slots::scan(slots, left, key, end);
+    seen.way
 }
 
 // What a search sees of the node that it stands on: its number, the way down, and the pointer of the key's slot, 0 for none.
@@ -45,40 +46,35 @@ fn stand(table: &[u64], n: u64, read: Node, key: u64) -> Stood
     requires { ⌜ read ≡ node (now table) n ⌝ }
     ensures { λ r. ⌜ r ≡ seenIn (view (now (table .entry))) key (standOn (view (now (table .entry))) (read .level) n key) ⌝ }
 {
-    let mut x = read;
-    let mut on = n;
-    let mut moves = 0u64;
-    while moves < 2 {
-        // A search mostly stands on n: its slots are scanned first, so that it does not wait for the sibling's fence.
-        let slots = x.slots;
-        let seen = slots::scan(slots, x.left, key);
-        let here = Stood {
-            node: on,
-            way: seen.way,
-            held: seen.held,
-        };
-        if moves == 1 {
-            return here;
-        }
-        let sibling = read.sibling;
-        if sibling == 0 {
-            return here;
-        }
-        if !node::has(table, sibling) {
-            return lost();
-        }
-        let y = node::read(table, sibling);
-        if y.level != read.level {
-            return lost();
-        }
-        if key < y.fence {
-            return here;
-        }
-        x = y;
-        on = sibling;
-        moves += 1;
+    // A search mostly stands on n: its slots are scanned first, so that it does not wait for the sibling's fence.
+    let slots = read.slots;
+    let seen = slots::scan(slots, read.left, key, 12);
+    let here = Stood {
+        node: n,
+        way: seen.way,
+        held: seen.held,
+    };
+    let sibling = read.sibling;
+    if sibling == 0 {
+        return here;
     }
-    lost()
+    if !node::has(table, sibling) {
+        return lost();
+    }
+    let y = node::read(table, sibling);
+    if y.level != read.level {
+        return lost();
+    }
+    if key < y.fence {
+        return here;
+    }
+    let others = y.slots;
+    let moved = slots::scan(others, y.left, key, 12);
+    Stood {
+        node: sibling,
+        way: moved.way,
+        held: moved.held,
+    }
 }
 
 // What a search sees of its leaf, from the root down, a level a turn. The root may be on any level from 0 to 15, each node after it only on
@@ -165,13 +161,15 @@ fn answer(table: &[u64], m: u64, held: u64, key: u64) -> Answer
     next_from(table, m, x, key)
 }
 
-// The recording and the class of a key, or that it is absent, with the next key up; 2 and 3 as document 01 and request 1 lay down.
-pub fn search(table: &[u64], key: u64) -> Answer
-    ensures { λ r. ⌜ r ≡ search (now (table .entry)) key ⌝ }
+// The recording and the class of a key in a collection, or that it is absent, with the next key up; 2, 3 and 17 as document 01 and
+// requests 1 and 6 lay down.
+pub fn search(table: &[u64], collection: u64, key: u64) -> Answer
+    ensures { λ r. ⌜ r ≡ search collection (now (table .entry)) key ⌝ }
 {
-    let root = node::root(table);
+    let root = node::root(table, collection);
     if root == 0 {
-        return Answer::Refused(2);
+        let number = node::refusal(table, collection);
+        return Answer::Refused(number);
     }
     let s = descend(table, root, key);
     if s.node == 0 {

@@ -9,8 +9,8 @@ use lib.Dec.{eqb}
 use lib.ListN.{length, drop, set, replicate}
 use borrow.Author.Tests.{eq-eqb, ne-eqb}
 use Rattle.model.specs.declared.Node.{Node}
-use Rattle.model.specs.Table.{MARK, Words, at, root, hasNode, node}
-use Rattle.model.specs.Slots.{Slot, slot, nodeView, view, height}
+use Rattle.model.specs.Table.{MARK, Words, at, rootWord, hasNode, node}
+use Rattle.model.specs.Slots.{Slot, slot, nodeView, viewFrom, height}
 use Rattle.model.specs.Orders.{put}
 use Rattle.model.specs.Shifts.{pointerTo}
 use Rattle.model.specs.Writes.{fresh, putAll, nodeWords, middle, splitWords, split, newRootAt, newRoot}
@@ -81,20 +81,21 @@ module _ {t : Words} {a b p w u v : ℕ} {x y : Node} (c : Parts t a b p w u v x
 
 -- ---- new root
 
--- document 01's new root
-pub new-root-fresh : (t : Words) → newRoot t ≡ newRootAt t (fresh t (root t))
+-- document 01's new root of collection n
+pub new-root-fresh : (n : ℕ) (t : Words) → newRoot n t ≡ newRootAt (rootWord n) t (fresh t (at t (rootWord n)))
 unfolding newRoot
-new-root-fresh t = refl
+new-root-fresh n t = refl
 
-module _ (t : Words) (o n w l : ℕ) (eo : o ≡ root t) (h : hasNode t n ≡ true) (e : w ≡ startOf t n) (el : l ≡ wordOf t o 2) where
-  pub level-is : l ≡ height (view t)
+-- o is the root that stands in header word x
+module _ (t : Words) (x o n w l : ℕ) (eo : o ≡ at t x) (h : hasNode t n ≡ true) (e : w ≡ startOf t n) (el : l ≡ wordOf t o 2) where
+  pub level-is : l ≡ height (viewFrom t (at t x))
   level-is = el ∙ word-level t o ∙ ap (λ (m : ℕ). nodeView t m .level) eo
 
-  module _ (d : Desk) (r : Room (newRootAt t n) d) where
+  module _ (d : Desk) (r : Room (newRootAt x t n) d) where
     abbrev words : Words
     words = set (set (replicate 32 0) 0 o) 2 (l + 1)
 
-    root-steps : newRootAt t n ≡ putAll w words ++ (put 1 n ∷ [])
+    root-steps : newRootAt x t n ≡ putAll w words ++ (put x n ∷ [])
     unfolding nodeWords
     root-steps = rw (eo, ← level-is, ← (starts t n w h e), add-one)
 
@@ -102,11 +103,11 @@ module _ (t : Words) (o n w l : ℕ) (eo : o ≡ root t) (h : hasNode t n ≡ tr
     root-words = rest-first _ _ (rest-same root-steps (rest-start r))
 
     module _ (d₁ : Desk) (q₁ : d₁ ≡ storedAll (putAll w words) d) where
-      root₁ : Rest (put 1 n ∷ []) d₁ (storedAll (newRootAt t n) d)
+      root₁ : Rest (put x n ∷ []) d₁ (storedAll (newRootAt x t n) d)
       root₁ = rest-after (putAll w words) _ (rest-same root-steps (rest-start r)) q₁
 
-      pub root-link : Room (put 1 n ∷ []) d₁
+      pub root-link : Room (put x n ∷ []) d₁
       root-link = root₁ .room
 
-      pub root-done : (d₂ : Desk) → d₂ ≡ stored (put 1 n) d₁ → d₂ ≡ storedAll (newRootAt t n) d
+      pub root-done : (d₂ : Desk) → d₂ ≡ stored (put x n) d₁ → d₂ ≡ storedAll (newRootAt x t n) d
       root-done d₂ q₂ = rest-none (rest-next root₁ q₂)

@@ -7,8 +7,8 @@ ghost use mathlib.Core.Bool.{true};
 ghost use mathlib.Core.List.{[], _∷_, _++_};
 ghost use Prim.Native.Nat.{_+_, _≤_, _<_};
 ghost use lib.ListN.{length, drop};
-ghost use Rattle.model.specs.Table.{MARK, hasNode};
-ghost use Rattle.model.specs.Slots.{view, height};
+ghost use Rattle.model.specs.Table.{MARK, at, hasNode};
+ghost use Rattle.model.specs.Slots.{viewFrom, view, height};
 ghost use Rattle.model.specs.Shifts.{keyTo, pointerTo, placeOf};
 ghost use Rattle.model.specs.Writes.{shiftInAt, shiftOutAt, setClassAt, closeAt, putAll, nodeWords, split, newRootAt, cutOff, attach, childBefore, freeStores};
 ghost use Rattle.orders.specs.Desk.{desk, stored, storedAll, Room};
@@ -358,20 +358,22 @@ pub fn split(table: &mut [u64], list: &mut [u64], pen: Pen, a: u64, b: u64, p: u
     slot_in(table, list, cut, above, parent, key, b)
 }
 
-// A new root in node r: all its words, with left the old root, whose number is handed in, one level up; then header word 1.
-pub fn new_root(table: &mut [u64], list: &mut [u64], pen: Pen, root: u64, r: u64) -> Pen
-    requires { ⌜ root ≡ view (now table) .root ⌝ }
+// A new root in node r, of the tree whose root stands in that header word: all its words, with left the old root, one level up; then the
+// header word.
+pub fn new_root(table: &mut [u64], list: &mut [u64], pen: Pen, word: usize, r: u64) -> Pen
+    requires { ⌜ word ≤ 3 ⌝ }
     requires { ⌜ hasNode (now table) r ≡ true ⌝ }
-    requires { ⌜ height (view (now table)) < MARK ⌝ }
-    requires { ⌜ Room (newRootAt (now table) r) (desk (now table) (now list) pen) ⌝ }
+    requires { ⌜ height (viewFrom (now table) (at (now table) word)) < MARK ⌝ }
+    requires { ⌜ Room (newRootAt word (now table) r) (desk (now table) (now list) pen) ⌝ }
     ensures { λ q. ⌜ desk (now (table .exit)) (now (list .exit)) q
-        ≡ storedAll (newRootAt (now (table .entry)) r) (desk (now (table .entry)) (now (list .entry)) pen) ⌝ }
+        ≡ storedAll (newRootAt word (now (table .entry)) r) (desk (now (table .entry)) (now (list .entry)) pen) ⌝ }
 {
     let w = node::start(table, r);
+    let root = table[word];
     let level = node::word(table, root, 2);
     let mut words = [0u64; 32];
     words[0] = root;
     words[2] = level + 1;
     let filled = put_words(table, list, pen, w, words);
-    orders::store(table, list, filled, 1, r)
+    orders::store(table, list, filled, word, r)
 }

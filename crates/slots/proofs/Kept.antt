@@ -19,6 +19,7 @@ use Rattle.model.specs.Reached.{filter}
 use Rattle.list_laws.proofs.Tools.{first-here, first-past, above-here, above-past}
 use Rattle.list_laws.proofs.Members.{mem-each}
 use Rattle.list_laws.proofs.Filters.{filter-all}
+use Rattle.slots.specs.declared.Seen.{Seen}
 use Rattle.slots.specs.declared.Ways.{Ways}
 use Rattle.slots.specs.declared.Held.the-variants as held
 use Rattle.slots.specs.declared.Held.the-variants.{Pointer}
@@ -29,11 +30,11 @@ use Rattle.slots.proofs.Scans.{shown-hide, shown-show, picked}
 
 -- ---- the way down
 
-pub way-none : (key way before : ℕ) → route key way (shown before []) ≡ way
+way-none : (key way before : ℕ) → route key way (shown before []) ≡ way
 unfolding route shown
 way-none key way before = refl
 
-pub way-more : (key way before k p w : ℕ) (ss : List Slot) → w ≡ wayAfter way before k p key
+way-more : (key way before k p w : ℕ) (ss : List Slot) → w ≡ wayAfter way before k p key
     → route key way (shown before (slot k p ∷ ss)) ≡ route key w (shown p ss)
 unfolding route
 way-more key way before k p w ss h = go (eqb p before) (leb k key) refl refl h
@@ -62,8 +63,13 @@ module _ (key before k p : ℕ) (ss : List Slot) where
   pub found-hidden : p ≡ before → heldBy (firstWith key (shown before (slot k p ∷ ss))) ≡ heldBy (firstWith key (shown p ss))
   found-hidden d = ap (λ (x : List Slot). heldBy (firstWith key x)) (shown-hide before (slot k p) ss d)
 
--- the slot of a key, where the pointer of the first one before is known, 0 for none
-pub pointer-none : (key held before : ℕ) → cond (eqb held 0) (pointerIn (firstWith key (shown before []))) held ≡ held
+-- ---- what shown slots tell of a key, after the way and the pointer so far
+
+-- the pointer so far or, where that is 0, the later one
+abbrev pointerOr : (held later : ℕ) → ℕ
+pointerOr held later = cond (eqb held 0) later held
+
+pointer-none : (key held before : ℕ) → pointerOr held (pointerIn (firstWith key (shown before []))) ≡ held
 unfolding firstWith shown
 pointer-none key held before = go (eqb held 0) refl
   where
@@ -71,36 +77,29 @@ pointer-none key held before = go (eqb held 0) refl
     go true e = sym (eqb-true held 0 e)
     go false e = refl
 
-module _ (key held before k p : ℕ) (ss : List Slot) where
-  -- with those after this one, and with this one too
-  abbrev later : ℕ
-  later = pointerIn (firstWith key (shown p ss))
+pointer-more : (key held before k p h : ℕ) (ss : List Slot) → (p ≡ 0 → ⊥) → h ≡ heldAfter held before k p key
+    → pointerOr held (pointerIn (firstWith key (shown before (slot k p ∷ ss)))) ≡ pointerOr h (pointerIn (firstWith key (shown p ss)))
+pointer-more key held before k p h ss z e = go (eqb p before) (eqb k key) (eqb held 0) refl refl refl e
+  where
+    s : Slot
+    s = slot k p
 
-  abbrev all : ℕ
-  all = pointerIn (firstWith key (shown before (slot k p ∷ ss)))
+    go : (a b c : Bool) → eqb p before ≡ a → eqb k key ≡ b → eqb held 0 ≡ c → h ≡ cond a held (cond b (cond c p held) held)
+        → pointerOr held (pointerIn (firstWith key (shown before (s ∷ ss)))) ≡ pointerOr h (pointerIn (firstWith key (shown p ss)))
+    go true b c e q o u = rw (u, shown-hide before s ss (eqb-true p before e))
+    go false false c e q o u = rw (u, shown-show before s ss (eqb-false p before e), first-past key s (shown p ss) (eqb-false k key q))
+    go false true true e q o u = rw (u, shown-show before s ss (eqb-false p before e), first-here key s (shown p ss) (eqb-true k key q), o, ne-eqb p 0 z)
+    go false true false e q o u = rw (u, o)
 
-  passed-hidden : p ≡ before → all ≡ later
-  passed-hidden d = ap (λ (x : List Slot). pointerIn (firstWith key x)) (shown-hide before (slot k p) ss d)
+abbrev pub seenAfter : (key way held : ℕ) → List Slot → Seen
+seenAfter key way held ss = record { way = route key way ss; held = pointerOr held (pointerIn (firstWith key ss)) }
 
-  passed-other : (p ≡ before → ⊥) → (k ≡ key → ⊥) → all ≡ later
-  passed-other d q = ap (λ (x : List Slot). pointerIn (firstWith key x)) (shown-show before (slot k p) ss d) ∙ ap pointerIn (first-past key (slot k p) (shown p ss) q)
+pub seen-none : (key way held before : ℕ) → seenAfter key way held (shown before []) ≡ record { way = way; held = held }
+seen-none key way held before = rw (way-none key way before, pointer-none key held before)
 
-  passed-here : (p ≡ before → ⊥) → k ≡ key → all ≡ p
-  passed-here d q = ap (λ (x : List Slot). pointerIn (firstWith key x)) (shown-show before (slot k p) ss d) ∙ ap pointerIn (first-here key (slot k p) (shown p ss) q)
-
-  pub pointer-more : (h : ℕ) → (p ≡ 0 → ⊥) → h ≡ heldAfter held before k p key → cond (eqb held 0) all held ≡ cond (eqb h 0) later h
-  pointer-more h z e = go (eqb k key) (eqb p before) (eqb held 0) refl refl refl e
-    where
-      same : all ≡ later → cond (eqb held 0) all held ≡ cond (eqb held 0) later held
-      same q = ap (λ (x : ℕ). cond (eqb held 0) x held) q
-
-      go : (a b c : Bool) → eqb k key ≡ a → eqb p before ≡ b → eqb held 0 ≡ c → h ≡ cond a (cond b held (cond c p held)) held
-          → cond (eqb held 0) all held ≡ cond (eqb h 0) later h
-      go true true c i j l e = rw e (same (passed-hidden (eqb-true p before j)))
-      go true false true i j l e = rw (e, l, ne-eqb p 0 z) (passed-here (eqb-false p before j) (eqb-true k key i))
-      go true false false i j l e = rw (e, l)
-      go false true c i j l e = rw e (same (passed-hidden (eqb-true p before j)))
-      go false false c i j l e = rw e (same (passed-other (eqb-false p before j) (eqb-false k key i)))
+pub seen-more : (key way held before k p w h : ℕ) (ss : List Slot) → (p ≡ 0 → ⊥) → w ≡ wayAfter way before k p key → h ≡ heldAfter held before k p key
+    → seenAfter key way held (shown before (slot k p ∷ ss)) ≡ seenAfter key w h (shown p ss)
+seen-more key way held before k p w h ss z e f = rw (way-more key way before k p w ss e, pointer-more key held before k p h ss z f)
 
 -- ---- kept slots
 

@@ -43,7 +43,7 @@ wayAfter way before k p key = cond (eqb p before) way (cond (leb k key) p way)
 
 -- the pointer of the first shown one with the key, after it, with that so far; 0 is none
 abbrev pub heldAfter : (held before k p key : ℕ) → ℕ
-heldAfter held before k p key = cond (eqb k key) (cond (eqb p before) held (cond (eqb held 0) p held)) held
+heldAfter held before k p key = cond (eqb p before) held (cond (eqb k key) (cond (eqb held 0) p held) held)
 
 -- the number of shown and kept ones after it, with the number so far
 abbrev pub countAfter : (count sibling bound before k p : ℕ) → ℕ

@@ -107,36 +107,14 @@ fn way_after(way: u64, before: u64, k: u64, p: u64, key: u64) -> u64
     way
 }
 
-// The child that an inner node's slots lead to: by the last shown slot whose key is at most the key, else by left. None is in use from
-// slot end on: 12 will do, and then the compiler makes a copy for the caller, with no loop and no slot loaded before it is looked at.
-pub fn route(slots: [u64; 24], left: u64, key: u64, end: usize) -> u64
-    requires { ⌜ end ≤ 12 ⌝ }
-    requires { ⌜ usedFrom slots end ≡ [] ⌝ }
-    ensures { λ r. ⌜ r ≡ route key left (shownFrom left slots 0) ⌝ }
-{
-    let mut way = left;
-    let mut before = left;
-    let mut i = 0;
-    while i < end {
-        let p = slots[2 * i + 1];
-        if p == 0 {
-            return way;
-        }
-        way = way_after(way, before, slots[2 * i], p, key);
-        before = p;
-        i += 1;
-    }
-    way
-}
-
 // The pointer of the first shown slot with the key, after a slot in use; 0 where there is none.
 fn held_after(held: u64, before: u64, k: u64, p: u64, key: u64) -> u64
     ensures { λ r. ⌜ r ≡ heldAfter held before k p key ⌝ }
 {
-    if k != key {
+    if p == before {
         return held;
     }
-    if p == before {
+    if k != key {
         return held;
     }
     if held == 0 {
@@ -145,14 +123,17 @@ fn held_after(held: u64, before: u64, k: u64, p: u64, key: u64) -> u64
     held
 }
 
-// What a search is told by one look at a node's slots: its way down, and the pointer of the first shown slot with the key, 0 for none.
+// What one look at a node's slots tells of a key: the way down, and the pointer of the first shown slot with the key, 0 for none.
 pub struct Seen {
     pub way: u64,
     pub held: u64,
 }
 
-// All 12 slots, for an inner node and for a leaf.
-pub fn scan(slots: [u64; 24], left: u64, key: u64) -> Seen
+// For an inner node and for a leaf: the way down is by the last shown slot whose key is at most the key, else by left. None is in use from
+// slot end on: 12 will do, and then the compiler makes a copy for the caller, with no loop and no slot loaded before it is looked at.
+pub fn scan(slots: [u64; 24], left: u64, key: u64, end: usize) -> Seen
+    requires { ⌜ end ≤ 12 ⌝ }
+    requires { ⌜ usedFrom slots end ≡ [] ⌝ }
     ensures { λ r. ⌜ r .way ≡ route key left (shownFrom left slots 0) ⌝ }
     ensures { λ r. ⌜ r .held ≡ pointerIn (firstWith key (shownFrom left slots 0)) ⌝ }
 {
@@ -160,7 +141,7 @@ pub fn scan(slots: [u64; 24], left: u64, key: u64) -> Seen
     let mut held = 0;
     let mut before = left;
     let mut i = 0;
-    while i < 12 {
+    while i < end {
         let p = slots[2 * i + 1];
         if p == 0 {
             return Seen {

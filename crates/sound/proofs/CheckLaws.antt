@@ -10,10 +10,9 @@ use lib.ListN.{getD}
 use borrow.Author.Tests.{eq-eqb, ne-eqb, le-leb, lt-leb}
 use Rattle.model.specs.declared.Unfinished.{Unfinished}
 use Rattle.model.specs.Table.{Words, root, nodes, inRange, headerOk, hasNode}
-use Rattle.model.specs.Slots.{Slot, slot, View, nodeView, view, height}
+use Rattle.model.specs.Slots.{Slot, slot, View, nodeView, viewFrom, view, height}
 use Rattle.model.specs.Reached.{headOr, pointers, nextChild, flat}
 use Rattle.model.specs.SoundTest.{finished, together, missingAt, own}
-use Rattle.view_laws.proofs.NodeViews.{levelOf}
 use Rattle.list_laws.proofs.Tools.{and-iff}
 use Rattle.table_laws.proofs.Nodes.{has-node-range}
 use Rattle.node.specs.Word.{wordOf}
@@ -24,6 +23,7 @@ use Rattle.walk_laws.specs.Walk.{Visit, stands, aloneOk, fits, visitsOf, ways, 
 use Rattle.walk_laws.proofs.Sums.{joint}
 use Rattle.walk_laws.proofs.Run.{visits, check-fold, fold-unsound, visit-yes, visit-unfit, visit-over, met}
 use Rattle.walk_laws.proofs.Local.{visits-yes, visits-no}
+use Rattle.walk_laws.proofs.AnyRoot.{any-check}
 use Rattle.sound.specs.declared.Look.{Look}
 use Rattle.slots.specs.declared.Ways.{Ways}
 use Rattle.slots.specs.Gathered.{span, slotsIn, waysFrom, pointersFrom}
@@ -211,16 +211,20 @@ module _ {v : View} {n d : ℕ} {w : Ways} {e : ℕ} {s₀ s : Tally} {i : ℕ} 
 
 -- ---- the whole walk
 
-pub walk-high : (t : Words) (r l : ℕ) → r ≡ root t → l ≡ wordOf t r 2 → 15 < l → Unsound ≡ walk (view t)
-unfolding walk
-walk-high t r l e q h =
-    let z : leb (height (view t)) 15 ≡ false = lt-leb (height (view t)) 15 (omega (arith, q ∙ word-level t r ∙ ap (levelOf (view t)) e)) in
-    rw (z, walk)
+module _ (t : Words) (r l : ℕ) (q : l ≡ wordOf t r 2) where
+  abbrev tree : View
+  tree = viewFrom t r
 
-pub walk-low : (t : Words) (r l : ℕ) (s : Tally) → r ≡ root t → l ≡ wordOf t r 2 → l ≤ 15 → s ≡ check (view t) l (standing r l 0 0) (Visited 0 finished) → s ≡ walk (view t)
-unfolding walk
-walk-low t r l s e q h i =
-    let top : l ≡ height (view t) = q ∙ word-level t r ∙ ap (levelOf (view t)) e in
-    let z : leb (height (view t)) 15 ≡ true = le-leb (height (view t)) 15 (omega arith) in
-    i ∙ ap (λ (k : ℕ). check (view t) k (standing r k 0 0) (Visited 0 finished)) top
-    ∙ ap (λ (k : ℕ). check (view t) (height (view t)) (standing k (height (view t)) 0 0) (Visited 0 finished)) e ∙ rw (z, walk)
+  top : l ≡ height tree
+  top = q ∙ word-level t r
+
+  pub walk-high : 15 < l → Unsound ≡ walk (viewFrom t r)
+  unfolding walk
+  walk-high h = let z : leb (height tree) 15 ≡ false = lt-leb (height tree) 15 (omega (arith, top)) in rw (z, walk)
+
+  pub walk-low : (s : Tally) → l ≤ 15 → s ≡ check (view t) l (standing r l 0 0) (Visited 0 finished) → s ≡ walk (viewFrom t r)
+  unfolding walk
+  walk-low s h i =
+      let z : leb (height tree) 15 ≡ true = le-leb (height tree) 15 (omega (arith, top)) in
+      i ∙ any-check t (root t) r l (standing r l 0 0) (Visited 0 finished)
+      ∙ ap (λ (k : ℕ). check tree k (standing r k 0 0) (Visited 0 finished)) top ∙ rw (z, walk)

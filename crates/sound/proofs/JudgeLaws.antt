@@ -1,8 +1,8 @@
 -- The leftover, the room in the parent, and the whole check, as their code meets them.
 use mathlib.Core.Path.{_≡_, refl, ap, sym, _∙_}
-use mathlib.Core.Bool.{Bool, true, false, _&&_, false≢true, and-false}
+use mathlib.Core.Bool.{Bool, true, false, cond, _&&_, false≢true, and-false}
 use mathlib.Core.Logic.{_↔_}
-use mathlib.Core.List.{List}
+use mathlib.Core.List.{List, [], _∷_}
 use mathlib.Core.Option.{Option, none, some}
 use Prim.Native.Nat.{ℕ}
 use native.Mathlib.Omega.{arith}
@@ -15,13 +15,13 @@ use Rattle.model.specs.declared.Few.the-variants.{Zero, One, Many}
 use Rattle.model.specs.declared.Missing.{Missing}
 use Rattle.model.specs.declared.Missing.the-variants.{Nowhere, Under}
 use Rattle.model.specs.declared.Unfinished.{Unfinished}
-use Rattle.model.specs.Table.{Words, headerOk, headerNumber, node}
-use Rattle.model.specs.Slots.{Slot, used, View, view}
-use Rattle.model.specs.Reached.{flat, kept, reached}
+use Rattle.model.specs.Table.{Words, node}
+use Rattle.model.specs.Slots.{Slot, used, View, viewFrom, view}
+use Rattle.model.specs.Reached.{flat, kept, reached, trees, reachedAll}
 use Rattle.model.specs.SoundTest as model
-use Rattle.model.specs.SoundTest.{recordingsOk, leftoverFrom, leftoverOf, leftover, isAllowed, hasRoom, room, soundView, sound}
-use Rattle.list_laws.proofs.Tools.{and-iff, refuted}
-use Rattle.table_laws.proofs.Header.{header-number-iff, header-number-refused}
+use Rattle.model.specs.SoundTest.{all, orderly, recordingsOk, leftoverFrom, leftoverOf, leftover, isNothing, isAllowed, hasRoom, room, soundView, leftoverIn, leftoverAll, sound}
+use Rattle.list_laws.proofs.Tools.{and-iff}
+use Rattle.view_laws.proofs.AnyRoot.{any-room}
 use Rattle.walk_laws.specs.declared.Tally as tally
 use Rattle.walk_laws.specs.declared.Tally.{Tally}
 use Rattle.walk_laws.specs.Walk.{walk}
@@ -33,7 +33,7 @@ use Rattle.sound.specs.declared.Verdict.{Verdict}
 use Rattle.sound.specs.declared.Verdict.the-variants.{Allowed, TooMuch}
 use Rattle.sound.specs.declared.Checked.the-variants.{Unsound, Sound}
 use Rattle.slots.specs.Scan.{shownFrom}
-use Rattle.sound.specs.Checked.{meant, said, verdictOf, soundWith, checked}
+use Rattle.sound.specs.Checked.{meant, said, verdictOf, soundWith, checkedTree, checked}
 use Rattle.leaves.proofs.FoundLaws.{chain-mapping}
 
 -- ---- what is unfinished
@@ -81,6 +81,12 @@ room-is t n x r e q = ap (λ (k : ℕ). leb k 10) (q ∙ ap (λ (y : Node). leng
 pub room-of : (v : View) (x y : Leftover) (b : Bool) → x ≡ y → b ≡ hasRoom v (meant y) → b ≡ hasRoom v (meant x)
 room-of v x y b q e = e ∙ sym (ap (λ (l : Leftover). hasRoom v (meant l)) q)
 
+pub room-any : (t : Words) (r q : ℕ) (l : model.Leftover) → hasRoom (viewFrom t r) l ≡ hasRoom (viewFrom t q) l
+room-any t r q model.nothing = refl
+room-any t r q (model.hiddenIn x) = refl
+room-any t r q (model.missingIn p a b) = any-room t r q p
+room-any t r q (model.bothIn p a) = any-room t r q p
+
 -- ---- answers and what they mean
 
 meant-said : (y : model.Leftover) → meant (said y) ≡ y
@@ -89,7 +95,7 @@ meant-said (model.hiddenIn x) = refl
 meant-said (model.missingIn p a b) = refl
 meant-said (model.bothIn p a) = refl
 
-said-meant : (x : Leftover) → said (meant x) ≡ x
+pub said-meant : (x : Leftover) → said (meant x) ≡ x
 said-meant Nothing = refl
 said-meant (HiddenIn x) = refl
 said-meant (MissingIn p a b) = refl
@@ -103,111 +109,131 @@ too-much : (o : Option model.Leftover) (r : Verdict) → r ≡ verdictOf o → r
 too-much none r e q = refl
 too-much (some y) r e q = let z : _≡_ {A = ℕ} 0 1 = cc in absurd (omega arith)
 
--- ---- the whole check
+-- ---- the check of a tree
 
-module _ (t : Words) where
-  refused : sound t ≡ false → Unsound ≡ checked t
-  unfolding checked
-  refused e = rw (e, checked)
+module _ (v : View) where
+  refused : soundView v ≡ false → Unsound ≡ checkedTree v
+  unfolding checkedTree
+  refused e = rw (e, checkedTree)
 
-  pub header-ok : (k : ℕ) → k ≡ headerNumber t → k ≡ 0 → headerOk t ≡ true
-  header-ok k e z = header-number-iff t .0 (sym e ∙ z)
+  pub wrong-walk : (s : Tally) → s ≡ walk v → s ≡ tally.the-variants.Unsound → Unsound ≡ checkedTree v
+  wrong-walk s e q = refused (sound-walk v ∙ ap (judged v) (sym e ∙ q))
 
-  pub wrong-header : (k : ℕ) → k ≡ headerNumber t → (k ≡ 0 → ⊥) → Unsound ≡ checked t
-  wrong-header k e z = refused (unfold sound in rw (header-number-refused t (λ q. z (e ∙ q))))
-
-  sound-view : headerOk t ≡ true → sound t ≡ judged (view t) (walk (view t))
-  unfolding sound
-  sound-view h = rw h (sound-walk (view t))
-
-  pub wrong-walk : headerOk t ≡ true → (s : Tally) → s ≡ walk (view t) → s ≡ tally.the-variants.Unsound → Unsound ≡ checked t
-  wrong-walk h s e q = refused (sound-view h ∙ ap (judged (view t)) (sym e ∙ q))
-
--- a table whose walk reached so many nodes and found so much unfinished, and the verdict on that
-pub record Found (t : Words) (r : Verdict) : Type 0 where
+-- a tree whose walk reached so many nodes and found so much unfinished, and the verdict on that
+pub record Found (v : View) (r : Verdict) : Type 0 where
   pub count : ℕ
   pub unfinished : Unfinished
-  pub header : headerOk t ≡ true
-  pub walked : walk (view t) ≡ tally.the-variants.Visited count unfinished
+  pub walked : walk v ≡ tally.the-variants.Visited count unfinished
   pub verdict : r ≡ verdictOf (leftoverOf unfinished)
 
-module _ {t : Words} {r : Verdict} (f : Found t r) where
+module _ {v : View} {r : Verdict} (f : Found v r) where
   abbrev right : Bool
-  right = recordingsOk (flat (kept (view t)) (chain (view t)))
+  right = recordingsOk (flat (kept v) (chain v))
 
-  passed : Passed (view t) (f .count) (f .unfinished)
-  passed = walk-iff (view t) (f .count) (f .unfinished) .0 (f .walked)
+  passed : Passed v (f .count) (f .unfinished)
+  passed = walk-iff v (f .count) (f .unfinished) .0 (f .walked)
 
-  ordered : InOrder (view t)
-  ordered = in-order-iff (view t) .0 (and-iff _ _ .1 (passed .root-ok, passed .nodes-ok))
+  ordered : InOrder v
+  ordered = in-order-iff v .0 (and-iff _ _ .1 (passed .root-ok, passed .nodes-ok))
 
-  sound-is : sound t ≡ (right && isAllowed (view t) (leftoverOf (f .unfinished)))
+  sound-is : soundView v ≡ (right && isAllowed v (leftoverOf (f .unfinished)))
   sound-is =
-      sound-view t (f .header) ∙ ap (judged (view t)) (f .walked)
-      ∙ ap (λ (ps : List Slot). recordingsOk ps && isAllowed (view t) (leftoverOf (f .unfinished))) (sym (chain-mapping (view t) ordered))
+      sound-walk v ∙ ap (judged v) (f .walked)
+      ∙ ap (λ (ps : List Slot). recordingsOk ps && isAllowed v (leftoverOf (f .unfinished))) (sym (chain-mapping v ordered))
 
-  not-allowed : isAllowed (view t) (leftoverOf (f .unfinished)) ≡ false → Unsound ≡ checked t
-  not-allowed a = refused t (sound-is ∙ rw (a, and-false right))
+  not-allowed : isAllowed v (leftoverOf (f .unfinished)) ≡ false → Unsound ≡ checkedTree v
+  not-allowed a = refused v (sound-is ∙ rw (a, and-false right))
 
-  pub wrong-leftover : r ≡ TooMuch → Unsound ≡ checked t
-  wrong-leftover m = not-allowed (ap (isAllowed (view t)) (too-much (leftoverOf (f .unfinished)) r (f .verdict) m))
+  pub wrong-leftover : r ≡ TooMuch → Unsound ≡ checkedTree v
+  wrong-leftover m = not-allowed (ap (isAllowed v) (too-much (leftoverOf (f .unfinished)) r (f .verdict) m))
 
   module _ (x : Leftover) (a : r ≡ Allowed x) where
     allowed : leftoverOf (f .unfinished) ≡ some (meant x)
     allowed = allowed-is (leftoverOf (f .unfinished)) x r (f .verdict) a
 
-    pub wrong-room : hasRoom (view t) (meant x) ≡ false → Unsound ≡ checked t
-    wrong-room h = not-allowed (ap (isAllowed (view t)) allowed ∙ h)
+    pub wrong-room : hasRoom v (meant x) ≡ false → Unsound ≡ checkedTree v
+    wrong-room h = not-allowed (ap (isAllowed v) allowed ∙ h)
 
-    pub wrong-recordings : right ≡ false → Unsound ≡ checked t
-    wrong-recordings g = refused t (sound-is ∙ rw g)
+    pub wrong-recordings : right ≡ false → Unsound ≡ checkedTree v
+    wrong-recordings g = refused v (sound-is ∙ rw g)
 
-    pub all-right : hasRoom (view t) (meant x) ≡ true → right ≡ true → Sound x (f .count) ≡ checked t
-    unfolding checked leftover
+    pub all-right : hasRoom v (meant x) ≡ true → right ≡ true → Sound x (f .count) ≡ checkedTree v
+    unfolding checkedTree leftover
     all-right h g =
-        let yes-sound : sound t ≡ true = sound-is ∙ rw g (ap (isAllowed (view t)) allowed ∙ h) in
-        rw (yes-sound, checked)
+        let yes-sound : soundView v ≡ true = sound-is ∙ rw g (ap (isAllowed v) allowed ∙ h) in
+        rw (yes-sound, checkedTree)
         (ap (λ (y : Leftover). Sound y (f .count)) (sym (said-meant x)) ∙ ap (Sound (said (meant x))) (passed .count-is)
-        ∙ ap (λ (o : Option model.Leftover). soundWith o (length (reached (view t)))) (sym (ap leftoverOf (sym (passed .unfinished-is)) ∙ allowed)))
+        ∙ ap (λ (o : Option model.Leftover). soundWith true o (length (reached v))) (sym (ap leftoverOf (sym (passed .unfinished-is)) ∙ allowed)))
 
--- ---- what an answer of the check says
+-- ---- what an answer says
 
+module _ (b : Bool) (o : Option model.Leftover) (n : ℕ) where
+  with-sound : (c : ℕ) (x : Leftover) → (soundWith b o n ≡ Sound x c) ↔ ((b ≡ true) × ((o ≡ some (meant x)) × (c ≡ n)))
+  with-sound c x = go b o
+    where
+      go : (b : Bool) (o : Option model.Leftover) → (soundWith b o n ≡ Sound x c) ↔ ((b ≡ true) × ((o ≡ some (meant x)) × (c ≡ n)))
+      go false o = (λ e. let z : _≡_ {A = ℕ} 0 1 = cc in absurd (omega arith), λ u. absurd (false≢true (u .0)))
+      go true none = (λ e. let z : _≡_ {A = ℕ} 0 1 = cc in absurd (omega arith), λ u. let z : _≡_ {A = ℕ} 0 1 = cc in absurd (omega arith))
+      go true (some y) = (
+        λ e. let z : said y ≡ x = cc in (refl, (ap some (sym (meant-said y) ∙ ap meant z), cc)),
+        λ u. let z : y ≡ meant x = cc in
+            ap (λ (l : model.Leftover). Sound (said l) n) z ∙ ap (λ (l : Leftover). Sound l n) (said-meant x) ∙ ap (Sound x) (sym (u .1 .1)),
+      )
+
+  with-unsound : (b ≡ true → o ≡ none → ⊥) → (soundWith b o n ≡ Unsound) ↔ (b ≡ false)
+  with-unsound h = go b o h
+    where
+      go : (b : Bool) (o : Option model.Leftover) → (b ≡ true → o ≡ none → ⊥) → (soundWith b o n ≡ Unsound) ↔ (b ≡ false)
+      go false o h = (λ e. refl, λ e. refl)
+      go true none h = absurd (h refl refl)
+      go true (some y) h = (λ e. let z : _≡_ {A = ℕ} 0 1 = cc in absurd (omega arith), λ e. absurd (false≢true (sym e)))
+
+-- of a tree
+pub record SoundTree (v : View) (x : Leftover) (c : ℕ) : Type 0 where
+  pub is-sound : soundView v ≡ true
+  pub leftover-is : leftover v ≡ some (meant x)
+  pub reached-are : c ≡ length (reached v)
+
+module _ (v : View) where
+  some-left : soundView v ≡ true → leftover v ≡ none → ⊥
+  unfolding soundView
+  some-left e n = false≢true (sym (ap (isAllowed v) n) ∙ and-iff (orderly v) (isAllowed v (leftover v)) .0 e .1)
+
+  pub tree-sound : (x : Leftover) (c : ℕ) → checkedTree v ≡ Sound x c → SoundTree v x c
+  unfolding checkedTree
+  tree-sound x c q = let u = with-sound (soundView v) (leftover v) (length (reached v)) c x .0 q in record { is-sound = u .0; leftover-is = u .1 .0; reached-are = u .1 .1 }
+
+  pub tree-unsound : checkedTree v ≡ Unsound → soundView v ≡ false
+  unfolding checkedTree
+  tree-unsound q = with-unsound (soundView v) (leftover v) (length (reached v)) some-left .0 q
+
+-- of a table
 pub record SoundWith (t : Words) (x : Leftover) (c : ℕ) : Type 0 where
   pub is-sound : sound t ≡ true
-  pub leftover-is : leftover (view t) ≡ some (meant x)
-  pub reached-are : c ≡ length (reached (view t))
+  pub leftover-is : leftoverAll t ≡ some (meant x)
+  pub reached-are : c ≡ length (reachedAll t)
 
-sound-some : (t : Words) → sound t ≡ true → leftover (view t) ≡ none → ⊥
-unfolding sound soundView
-sound-some t e n = let u = simp and-iff at e in false≢true (sym (ap (isAllowed (view t)) n) ∙ u .1 .1)
+some-of : (vs : List View) → all soundView vs ≡ true → leftoverIn vs ≡ none → ⊥
+unfolding all leftoverIn
+some-of [] s n = let z : _≡_ {A = ℕ} 0 1 = cc in absurd (omega arith)
+some-of (v ∷ vs) s n = let u = and-iff _ _ .0 s in go (isNothing (leftover v)) n (some-left v (u .0)) (some-of vs (u .1))
+  where
+    go : (b : Bool) → cond b (leftoverIn vs) (leftover v) ≡ none → (leftover v ≡ none → ⊥) → (leftoverIn vs ≡ none → ⊥) → ⊥
+    go true n a b = b n
+    go false n a b = a n
 
-sound-with : (o : Option model.Leftover) (n c : ℕ) (x : Leftover) → (soundWith o n ≡ Sound x c) ↔ ((o ≡ some (meant x)) × (c ≡ n))
-sound-with none n c x = (λ e. let z : _≡_ {A = ℕ} 0 1 = cc in absurd (omega arith), λ u. let z : _≡_ {A = ℕ} 0 1 = cc in absurd (omega arith))
-sound-with (some y) n c x = (
-  λ e. let z : said y ≡ x = cc in (ap some (sym (meant-said y) ∙ ap meant z), cc),
-  λ u. let z : y ≡ meant x = cc in
-      ap (λ (l : model.Leftover). Sound (said l) n) z ∙ ap (λ (l : Leftover). Sound l n) (said-meant x) ∙ ap (Sound x) (sym (u .1)),
-)
+sound-some : (t : Words) → sound t ≡ true → leftoverAll t ≡ none → ⊥
+unfolding sound
+sound-some t e = some-of (trees t) ((simp and-iff at e) .1 .0)
 
 pub checked-sound : (t : Words) (x : Leftover) (c : ℕ) → (checked t ≡ Sound x c) ↔ SoundWith t x c
 unfolding checked
-checked-sound t x c = go (sound t) refl
-  where
-    go : (b : Bool) → sound t ≡ b → (checked t ≡ Sound x c) ↔ SoundWith t x c
-    go true e = (
-      λ q. let u = sound-with (leftover (view t)) (length (reached (view t))) c x .0 (rw (e, checked) at q) in
-          record { is-sound = e; leftover-is = u .0; reached-are = u .1 },
-      λ s. rw (e, checked) (sound-with (leftover (view t)) (length (reached (view t))) c x .1 (s .leftover-is, s .reached-are)),
+checked-sound t x c =
+    let i = with-sound (sound t) (leftoverAll t) (length (reachedAll t)) c x in (
+      λ q. let u = i .0 q in record { is-sound = u .0; leftover-is = u .1 .0; reached-are = u .1 .1 },
+      λ s. i .1 (s .is-sound, (s .leftover-is, s .reached-are)),
     )
-    go false e = (λ q. let r : Unsound ≡ Sound x c = rw (e, checked) at q in let z : _≡_ {A = ℕ} 0 1 = cc in absurd (omega arith), λ s. absurd (false≢true (sym e ∙ s .is-sound)))
 
 pub checked-unsound : (t : Words) → (checked t ≡ Unsound) ↔ (sound t ≡ false)
 unfolding checked
-checked-unsound t = (λ q. refuted (sound t) (λ e. none-left e (rw (e, checked) at q)), λ e. rw (e, checked))
-  where
-    neither : (o : Option model.Leftover) (n : ℕ) → soundWith o n ≡ Unsound → o ≡ none
-    neither none n e = refl
-    neither (some y) n e = let z : _≡_ {A = ℕ} 0 1 = cc in absurd (omega arith)
-
-    none-left : sound t ≡ true → soundWith (leftover (view t)) (length (reached (view t))) ≡ Unsound → ⊥
-    none-left e q = sound-some t e (neither (leftover (view t)) (length (reached (view t))) q)
+checked-unsound t = with-unsound (sound t) (leftoverAll t) (length (reachedAll t)) (sound-some t)

@@ -3,3 +3,4 @@ pub mod NodeLaws
 pub mod LookLaws
 pub mod CheckLaws
 pub mod JudgeLaws
+pub mod TreesLaws

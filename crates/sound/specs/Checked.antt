@@ -1,11 +1,11 @@
 -- What the check of a table answers, in model's words.
-use mathlib.Core.Bool.{true, false}
+use mathlib.Core.Bool.{Bool, true, false, cond}
 use mathlib.Core.Option.{Option, none, some}
 use Prim.Native.Nat.{ℕ}
 use lib.ListN.{length}
 use Rattle.model.specs.Table.{Words}
-use Rattle.model.specs.Slots.{view}
-use Rattle.model.specs.Reached.{reached}
+use Rattle.model.specs.Slots.{View}
+use Rattle.model.specs.Reached.{reached, reachedAll}
 use Rattle.model.specs.SoundTest as model
 use Rattle.sound.specs.declared.Leftover.{Leftover}
 use Rattle.sound.specs.declared.Leftover.the-variants.{Nothing, HiddenIn, MissingIn, BothIn}
@@ -31,10 +31,19 @@ abbrev pub verdictOf : Option model.Leftover → Verdict
 verdictOf none = TooMuch
 verdictOf (some x) = Allowed (said x)
 
--- what the check answers: the leftover and the number of nodes reached, if the table is sound
-abbrev pub soundWith : Option model.Leftover → ℕ → Checked
-soundWith none c = Unsound
-soundWith (some x) c = Sound (said x) c
+-- what a check answers: the leftover and the number of nodes reached, if it is sound
+abbrev pub soundWith : (sound : Bool) → Option model.Leftover → ℕ → Checked
+soundWith false o c = Unsound
+soundWith true none c = Unsound
+soundWith true (some x) c = Sound (said x) c
+
+-- of one tree, and of a table
+unfoldable pub checkedTree : View → Checked
+checkedTree v = soundWith (model.soundView v) (model.leftover v) (length (reached v))
 
 unfoldable pub checked : Words → Checked
-checked t = elim (model.sound t) [ true ↦ soundWith (model.leftover (view t)) (length (reached (view t))) | false ↦ Unsound ]
+checked t = soundWith (model.sound t) (model.leftoverAll t) (length (reachedAll t))
+
+-- for two sound trees without a common node, with these leftovers and so many nodes: in one of them nothing may be left
+abbrev pub joined : Leftover → Leftover → ℕ → Checked
+joined x y c = cond (model.isNothing (some (meant x))) (Sound y c) (cond (model.isNothing (some (meant y))) (Sound x c) Unsound)

@@ -7,15 +7,16 @@ use slots::Ways;
 use walk_laws::Tally;
 ghost use mathlib.Core.Path.{_≡_};
 ghost use mathlib.Core.Bool.{true, cond, _&&_};
+ghost use mathlib.Core.Option.{some};
 ghost use Prim.Native.Nat.{_≤_};
 ghost use Rattle.model.specs.Table.{headerOk, hasNode};
-ghost use Rattle.model.specs.Slots.{view, clearIn};
+ghost use Rattle.model.specs.Slots.{view, viewFrom, clearIn};
 ghost use Rattle.model.specs.Reached.{headOr, nextChild};
-ghost use Rattle.model.specs.SoundTest.{siblingOk, addFew, addMissing, together, times, leftoverOf, leftoverFrom, room, hasRoom, sound};
+ghost use Rattle.model.specs.SoundTest.{siblingOk, addFew, addMissing, together, times, leftoverOf, leftoverFrom, room, hasRoom, isNothing, sound};
 ghost use Rattle.walk_laws.specs.Walk.{stands, check, walk};
 ghost use Rattle.slots.specs.Gathered.{pointersFrom};
 ghost use Rattle.sound.specs.Nodes.{standing, leafFair, lookOf, noted, slotChecked};
-ghost use Rattle.sound.specs.Checked.{meant, verdictOf, checked};
+ghost use Rattle.sound.specs.Checked.{meant, verdictOf, checkedTree, joined, checked};
 
 // ---- one node
 
@@ -309,12 +310,11 @@ fn check_slot(
     check_node(table, sibling, level, fence, right, first)
 }
 
-// The check of the whole table but for the recording numbers, the classes and the leftover.
-fn walk(table: &[u64]) -> Tally
+// The check of a whole tree but for the recording numbers, the classes and the leftover.
+fn walk(table: &[u64], root: u64) -> Tally
     requires { ⌜ headerOk (now table) ≡ true ⌝ }
-    ensures { λ r. ⌜ r ≡ walk (view (now (table .entry))) ⌝ }
+    ensures { λ r. ⌜ r ≡ walk (viewFrom (now (table .entry)) root) ⌝ }
 {
-    let root = leaves::word_at(table, 1);
     let top = node::word(table, root, 2);
     if 15 < top {
         return Tally::Unsound;
@@ -474,14 +474,12 @@ fn has_room(table: &[u64], left: Leftover) -> bool
     }
 }
 
-// The whole check, on any slice: the leftover and the number of nodes reached, if the table is sound.
-pub fn check(table: &[u64]) -> Checked
-    ensures { λ r. ⌜ r ≡ checked (now (table .entry)) ⌝ }
+// The check of one tree: the leftover and the number of nodes reached, if it is sound.
+fn check_tree(table: &[u64], root: u64) -> Checked
+    requires { ⌜ headerOk (now table) ≡ true ⌝ }
+    ensures { λ r. ⌜ r ≡ checkedTree (viewFrom (now (table .entry)) root) ⌝ }
 {
-    if node::header(table) != 0 {
-        return Checked::Unsound;
-    }
-    let seen = walk(table);
+    let seen = walk(table, root);
     match seen {
         Tally::Unsound => Checked::Unsound,
         Tally::Visited { count, unfinished } => {
@@ -492,13 +490,85 @@ pub fn check(table: &[u64]) -> Checked
                     if !has_room(table, left) {
                         return Checked::Unsound;
                     }
-                    if !recordings::ok(table) {
+                    if !recordings::ok(table, root) {
                         return Checked::Unsound;
                     }
                     Checked::Sound {
                         leftover: left,
                         reached: count,
                     }
+                }
+            }
+        }
+    }
+}
+
+// Whether nothing is left.
+fn is_nothing(left: Leftover) -> bool
+    ensures { λ r. ⌜ r ≡ isNothing (some (meant left)) ⌝ }
+{
+    match left {
+        Leftover::Nothing => true,
+        Leftover::HiddenIn(_) => false,
+        Leftover::MissingIn {
+            parent: _,
+            node: _,
+            trailing: _,
+        } => false,
+        Leftover::BothIn { parent: _, node: _ } => false,
+    }
+}
+
+// The answer for two sound trees that share no node: the whole table has at most one leftover.
+fn joined(first: Leftover, second: Leftover, reached: u64) -> Checked
+    ensures { λ r. ⌜ r ≡ joined first second reached ⌝ }
+{
+    if is_nothing(first) {
+        return Checked::Sound {
+            leftover: second,
+            reached: reached,
+        };
+    }
+    if is_nothing(second) {
+        return Checked::Sound {
+            leftover: first,
+            reached: reached,
+        };
+    }
+    Checked::Unsound
+}
+
+// The whole check, on any slice: the leftover and the number of nodes reached, if the table is sound. Two sound trees share a node
+// exactly if they share their last leaf, since siblings and last children lead there from any node.
+pub fn check(table: &[u64]) -> Checked
+    ensures { λ r. ⌜ r ≡ checked (now (table .entry)) ⌝ }
+{
+    if node::header(table) != 0 {
+        return Checked::Unsound;
+    }
+    let first = leaves::word_at(table, 1);
+    let second = leaves::word_at(table, 3);
+    let one = check_tree(table, first);
+    if second == 0 {
+        return one;
+    }
+    match one {
+        Checked::Unsound => Checked::Unsound,
+        Checked::Sound {
+            leftover: left,
+            reached: count,
+        } => {
+            let two = check_tree(table, second);
+            match two {
+                Checked::Unsound => Checked::Unsound,
+                Checked::Sound {
+                    leftover: other,
+                    reached: more,
+                } => {
+                    if leaves::last_leaf(table, first) == leaves::last_leaf(table, second) {
+                        return Checked::Unsound;
+                    }
+                    joined(left, other, count + more)
                 }
             }
         }

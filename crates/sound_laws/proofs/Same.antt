@@ -1,15 +1,15 @@
--- Document 01, "Sound tables": the sentences of Sound.antt and the test of SoundTest.antt say the same, on every list of words.
+-- Document 01, "Sound tables": the sentences of Sound.antt and the test of SoundTest.antt say the same of every tree.
 use mathlib.Core.Path.{_≡_, refl, ap, _∙_}
 use mathlib.Core.Bool.{true}
 use mathlib.Core.Logic.{_↔_}
 use mathlib.Core.List.{List·Memᴰ}
 use mathlib.Core.Option.{some}
 use Prim.Native.Nat.{ℕ}
-use Rattle.model.specs.Table.{Words, inRange, headerOk, nodes, root}
-use Rattle.model.specs.Slots.{Slot, View, view}
+use Rattle.model.specs.Table.{inRange, nodes, root}
+use Rattle.model.specs.Slots.{Slot, View}
 use Rattle.model.specs.Reached.{kept, reached, mapping}
-use Rattle.model.specs.SoundTest.{elem, orderly, Leftover, nothing, leftover, hasRoom, isNothing, isAllowed, settledView, soundView, settled, sound}
-use Rattle.model.specs.Sound.{Reached, SettledBut, IsLeft, Settled, Sound}
+use Rattle.model.specs.SoundTest.{elem, orderly, Leftover, nothing, leftover, hasRoom, isNothing, isAllowed, settledView, soundView}
+use Rattle.model.specs.Sound.{Reached, SettledBut, IsLeft}
 use Rattle.list_laws.proofs.Tools.{and-iff}
 use Rattle.list_laws.proofs.Members.{elem-iff}
 use Rattle.tree_laws.proofs.Levels.{orderly-iff}
@@ -66,32 +66,3 @@ reached-same v h n = let w = orderly-good v (orderly-iff v .0 h) in (λ r. elem-
 -- The map is every shown slot of a reached leaf whose key is below the leaf's sibling's fence.
 pub map-same : (v : View) → orderly v ≡ true → (s : Slot) → List·Memᴰ s (mapping v) ↔ ((n : ℕ) × Reached v n × (v .node n .level ≡ 0) × List·Memᴰ s (kept v n))
 map-same v h s = let o = orderly-iff v .0 h in (λ m. mapped v (orderly-good v o) m, λ u. in-map-of v o (u .1) (u .2) (u .3))
-
--- ---- tables
-
-header-range : (t : Words) → headerOk t ≡ true → inRange (nodes t) (root t) ≡ true
-unfolding headerOk
-header-range t h = (simp and-iff at h) .1
-
--- Settled: the test and the sentences say the same.
-pub settled-same : (t : Words) → (settled t ≡ true) ↔ Settled t
-unfolding settled
-settled-same t = (
-  λ h. let u = and-iff (headerOk t) (settledView (view t)) .0 h in record { header = u .0; settled = settled-view (view t) (header-range t (u .0)) .0 (u .1) },
-  λ s. and-iff (headerOk t) (settledView (view t)) .1 (s .header, settled-view (view t) (header-range t (s .header)) .1 (s .settled)),
-)
-
--- Sound: the test and the sentences say the same.
-pub sound-same : (t : Words) → (sound t ≡ true) ↔ Sound t
-unfolding sound
-sound-same t = (
-  λ h.
-      let u = and-iff (headerOk t) (soundView (view t)) .0 h in
-      let x = sound-view (view t) (header-range t (u .0)) .0 (u .1) in
-      record { header = u .0; leftover = x .0; left = x .1; settled-but = x .2 },
-  λ s. and-iff (headerOk t) (soundView (view t)) .1 (s .header, sound-view (view t) (header-range t (s .header)) .1 (s .leftover, s .left, s .settled-but)),
-)
-
--- A sound table has one leftover: the one that the test finds.
-pub leftover-same : (t : Words) (s : Sound t) → leftover (view t) ≡ some (s .leftover)
-leftover-same t s = passes-same (view t) (header-range t (s .header)) (s .leftover) .1 (s .left, s .settled-but) .leftover

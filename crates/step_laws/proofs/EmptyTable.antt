@@ -1,21 +1,15 @@
--- The empty table is settled, and its map is empty.
-use mathlib.Core.Path.{_≡_, refl, ap, _∙_}
+-- What is read of a node that is an empty leaf, as node 1 of the empty table.
+use mathlib.Core.Path.{_≡_}
 use mathlib.Core.Bool.{true}
 use mathlib.Core.List.{[]}
 use Prim.Native.Nat.{ℕ, _≤_}
 use native.Mathlib.Omega.{arith}
 use lib.ListN.{replicate}
 use Rattle.model.specs.declared.Node.{Node}
-use Rattle.model.specs.Table.{MARK, Words, nodes, root, inRange, allZero, node, spare, empty}
-use Rattle.model.specs.Slots.{slotsOf, inUse, shown, hidden, used, clearIn, nodeView, view}
-use Rattle.model.specs.Reached.{mapOf}
-use Rattle.model.specs.SoundTest.{settled}
-use Rattle.list_laws.proofs.Tools.{decode}
+use Rattle.model.specs.Table.{MARK, Words, allZero, node, spare, empty}
+use Rattle.model.specs.Slots.{slotsOf, inUse, shown, hidden, used, clearIn, nodeView}
 use Rattle.view_laws.proofs.NodeViews.{newNode}
-use Rattle.table_laws.proofs.Empty.{empty-header, empty-leaf, empty-spare}
-use Rattle.tree_laws.proofs.Levels.{settled-parts}
-use Rattle.change_laws.proofs.Parts.{settled-left}
-use Rattle.change_laws.proofs.EmptyRoot.{map-none, empty-left}
+use Rattle.table_laws.proofs.Empty.{empty-leaf, empty-spare}
 
 abbrev pub emptyLeaf : Node
 emptyLeaf = record { left = MARK; sibling = 0; level = 0; fence = 0; slots = replicate 24 0 }
@@ -46,27 +40,6 @@ module _ (t : Words) (i : ℕ) (leaf : node t i ≡ emptyLeaf) (spares : spare t
   }
 
 module _ (n : ℕ) (low : 1 ≤ n) where
-  root-is : root (empty n) ≡ 1
-  unfolding empty
-  root-is = refl
-
-  nodes-are : nodes (empty n) ≡ n
-  unfolding empty
-  nodes-are = refl
-
   -- node 1 is an empty leaf
   pub first-leaf : nodeView (empty n) 1 ≡ newNode MARK 0 0 0 []
   first-leaf = leaf-view (empty n) 1 (empty-leaf n low) (empty-spare n 1 (omega arith) low)
-
-  root-leaf : nodeView (empty n) (root (empty n)) ≡ newNode MARK 0 0 0 []
-  root-leaf = ap (nodeView (empty n)) root-is ∙ first-leaf
-
-  root-range : inRange (nodes (empty n)) (root (empty n)) ≡ true
-  unfolding inRange
-  root-range = simp decode (omega (arith, root-is), omega (arith, root-is, nodes-are))
-
-  pub empty-map : mapOf (empty n) ≡ []
-  empty-map = map-none (view (empty n)) root-leaf root-range
-
-  pub empty-settled : n ≤ 65535 → settled (empty n) ≡ true
-  empty-settled high = settled-parts (empty n) .1 (empty-header n low high, settled-left (view (empty n)) .1 (empty-left (view (empty n)) root-leaf root-range))

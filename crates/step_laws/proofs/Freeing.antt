@@ -10,13 +10,14 @@ use lib.Dec.{ltb}
 use lib.ListN.{length, take, drop, getD, set, length-append}
 use lib.Seq.{split-at, take-all}
 use borrow.Author.Tests.{le-leb, ltb-true, ltb-false}
-use Rattle.model.specs.Table.{Words, nodes, nodeStart, hasNode}
+use Rattle.model.specs.Table.{Words, nodeStart, hasNode}
 use Rattle.model.specs.Slots.{Slot, slot, View, nodeView, view}
-use Rattle.model.specs.Reached.{pointers, children, reached, mapping, mapOf}
-use Rattle.model.specs.SoundTest.{elem, distinct, nothing, missingIn, bothIn, leftover, room, settled}
+use Rattle.model.specs.Reached.{pointers, children, reached, mapping}
+use Rattle.model.specs.SoundTest.{elem, distinct, nothing, missingIn, bothIn, leftover, room}
 use Rattle.model.specs.Orders.{Store, put, apply, orders, ordersAfter}
 use Rattle.model.specs.Shifts.{lastPointer, placeOf, shiftOut}
-use Rattle.model.specs.Writes.{shiftOutAt, repaired, childBefore, freeStores}
+use Rattle.model.specs.Writes.{shiftOutAt, childBefore, freeStores}
+use Rattle.tree_laws.specs.OneTree.{settledOne, mapOne}
 use Rattle.view_laws.proofs.NodeViews.{shownOf}
 use Rattle.list_laws.proofs.Lists.{take-append}
 use Rattle.list_laws.proofs.Tools.{Each-append}
@@ -41,8 +42,6 @@ use Rattle.step_laws.proofs.Phase.{Phase}
 use Rattle.step_laws.proofs.Stages.{SoundWith, SettledWith, Stage, stage-until, stage-phase, phase-until}
 use Rattle.step_laws.proofs.Bounds.{shift-out-few, shift-out-inside}
 use Rattle.step_laws.proofs.Views.{changed-view, shown-view, same-view, Fine, fine-sound, fine-settled, settled-fine, view-fine, view-sound, view-same, Usable, reached-usable, shown-few}
-use Rattle.step_laws.proofs.Repair.{repaired-settled}
-use Rattle.step_laws.proofs.RepairedView.{repaired-view}
 
 -- what holds before, between and after the stores alike
 first-until : (P : Words → Type 0) (qs : List Store) (t : Words) → AtFirst doStore P P P qs t → Until doStore P P qs t
@@ -51,7 +50,7 @@ first-until P (q ∷ qs) t a = a
 
 -- p, on level 1, has the empty leaf x as the child of the slot whose key is x's fence
 pub record Freeable (t : Words) (p x : ℕ) : Type 0 where
-  pub settled : settled t ≡ true
+  pub settled : settledOne t ≡ true
   pub parent : List·Memᴰ p (reached (view t))
   pub level : nodeView t p .level ≡ 1
   pub there : placeOf (nodeView t x .fence) (nodeView t p .shown) < length (nodeView t p .shown)
@@ -62,10 +61,6 @@ pub record Freeable (t : Words) (p x : ℕ) : Type 0 where
 pub record Lacks (t : Words) (p x : ℕ) (t′ : Words) : Type 0 where
   pub leftover : (leftover (view t′) ≡ some (bothIn p (childBefore (view t) p x))) ⊎ (leftover (view t′) ≡ some (missingIn p (childBefore (view t) p x) false))
   pub reached : reached (view t′) ≡ reached (view t)
-
--- t is settled and reaches these nodes
-abbrev pub SettledReach : List ℕ → Words → Type 0
-SettledReach ns t = (settled t ≡ true) × (reached (view t) ≡ ns)
 
 module _ (t : Words) (p x : ℕ) (h : Freeable t p x) where
   abbrev v : View
@@ -130,21 +125,21 @@ module _ (t : Words) (p x : ℕ) (h : Freeable t p x) where
   stores-some : 0 < length (shiftOutAt t p k)
   stores-some = unfold shiftOutAt shiftOut in omega arith
 
-  unchanged : (t′ : Words) → Changed t p ss 0 t′ → SoundWith (mapOf t) t′
+  unchanged : (t′ : Words) → Changed t p ss 0 t′ → SoundWith (mapOne t) t′
   unchanged t′ c = view-same t t′ nothing fine (same-view t p ss 0 t′ c refl (fin .shows)) (same-ok (c .header))
 
-  hiding : (t′ : Words) → Changed t p (withoutSlot t p k) 1 t′ → SoundWith (mapOf t) t′
+  hiding : (t′ : Words) → Changed t p (withoutSlot t p k) 1 t′ → SoundWith (mapOne t) t′
   hiding t′ c =
       let b = hide-missing less p a (det .left) in
-      view-sound t t′ (withHidden less p 1) (changed-view t p (withoutSlot t p k) 1 t′ c) (same-ok (c .header)) (fine .header) (bothIn p a) (b .left) (b .room roomy) (mapOf t) (b .mapping ∙ det .mapping)
+      view-sound t t′ (withHidden less p 1) (changed-view t p (withoutSlot t p k) 1 t′ c) (same-ok (c .header)) (fine .header) (bothIn p a) (b .left) (b .room roomy) (mapOne t) (b .mapping ∙ det .mapping)
 
-  gone : (t′ : Words) → Changed t p (withoutSlot t p k) 0 t′ → SoundWith (mapOf t) t′
-  gone t′ c = view-sound t t′ less (shown-view t p (withoutSlot t p k) 0 t′ c (fin .shows)) (same-ok (c .header)) (fine .header) (missingIn p a false) (det .left) roomy (mapOf t) (det .mapping)
+  gone : (t′ : Words) → Changed t p (withoutSlot t p k) 0 t′ → SoundWith (mapOne t) t′
+  gone t′ c = view-sound t t′ less (shown-view t p (withoutSlot t p k) 0 t′ c (fin .shows)) (same-ok (c .header)) (fine .header) (missingIn p a false) (det .left) roomy (mapOne t) (det .mapping)
 
   out-stage : Stage 25 t (shiftOutAt t p k)
   out-stage =
       let few = shown-few t p (use-p .clear) in
-      let P : Words → Type 0 = SoundWith (mapOf t) in
+      let P : Words → Type 0 = SoundWith (mapOne t) in
       stage-until 25 t (shiftOutAt t p k) (shift-out-few t p k few (h .there)) (shift-out-inside t p k few (h .there) (use-p .there))
       (first-until P (shiftOutAt t p k) t (first-map doStore _ P _ P _ P unchanged hiding gone (shiftOutAt t p k) t shifting))
 
@@ -191,19 +186,19 @@ module _ (t : Words) (p x : ℕ) (h : Freeable t p x) where
       sibling-change (view t₁) (view t₂) a (v .node x .sibling) (same-nodes header₂) (same-root header₂) (sibling-view t₁ a (v .node x .sibling) has-a)
       ∙ ap (λ (w : View). withSibling w a (v .node x .sibling)) seen₁
 
-  settles : SettledWith (mapOf t) t₂
+  settles : SettledWith (mapOne t) t₂
   settles =
       let f = view-fine t₁ t₂ (withSibling less a (v .node x .sibling)) seen₂ (same-ok header₂) (fine₁ .header) nothing (gap .left) refl in
       (fine-settled t₂ f, ap mapping seen₂ ∙ gap .mapping ∙ det .mapping)
 
-  link-phase : Phase 2 t₁ (put (suc (nodeStart a)) (v .node x .sibling) ∷ []) (mapOf t)
-  link-phase = phase-until 2 t₁ (put (suc (nodeStart a)) (v .node x .sibling) ∷ []) (unfold orders ordersAfter in omega arith) (unfold nodeStart in omega (arith, has-node-iff t₁ a .0 has-a), tt) (mapOf t)
+  link-phase : Phase 2 t₁ (put (suc (nodeStart a)) (v .node x .sibling) ∷ []) (mapOne t)
+  link-phase = phase-until 2 t₁ (put (suc (nodeStart a)) (v .node x .sibling) ∷ []) (unfold orders ordersAfter in omega arith) (unfold nodeStart in omega (arith, has-node-iff t₁ a .0 has-a), tt) (mapOne t)
       ((fine-sound t₁ (missingIn p a false) fine₁, refl), settles)
 
   -- An empty leaf is freed: every first part of the stores leaves a sound table with the same map, and all of them a settled one.
-  pub free-phase : Phase 27 t (freeStores t p x) (mapOf t)
+  pub free-phase : Phase 27 t (freeStores t p x) (mapOne t)
   unfolding freeStores childBefore
-  free-phase = stage-phase 25 2 t (shiftOutAt t p k) (put (suc (nodeStart a)) (v .node x .sibling) ∷ []) (mapOf t) out-stage link-phase
+  free-phase = stage-phase 25 2 t (shiftOutAt t p k) (put (suc (nodeStart a)) (v .node x .sibling) ∷ []) (mapOne t) out-stage link-phase
 
   -- ---- what it leaves
 
@@ -221,16 +216,10 @@ module _ (t : Words) (p x : ℕ) (h : Freeable t p x) where
   pub free-fewer : length (reached (view t)) ≡ suc (length (reached (view (apply (freeStores t p x) t))))
   free-fewer = ap length (sym (det .reached)) ∙ gap .fewer ∙ ap (λ (w : View). suc (length (reached w))) (sym seen)
 
-  pub free-nodes : nodes (apply (freeStores t p x) t) ≡ nodes t
-  free-nodes = ap (λ (w : View). w .nodes) seen
-
   -- the left neighbour, which the last store is to
   pub neighbour-reached : List·Memᴰ (childBefore (view t) p x) (reached (view t))
   unfolding childBefore
   neighbour-reached = child-reached v p a (fine .left .orderly) (h .parent) a-child
-
-  pub neighbour-there : hasNode t (childBefore (view t) p x) ≡ true
-  neighbour-there = reached-usable t (childBefore (view t) p x) (fine .header) (fine .left .orderly) neighbour-reached .there
 
   -- ---- a cut in between
 
@@ -259,9 +248,3 @@ module _ (t : Words) (p x : ℕ) (h : Freeable t p x) where
       go : (b : Bool) → ltb j (length (shiftOutAt t p k)) ≡ b → Lacks t p x (apply (take j (shiftOutAt t p k)) t)
       go true e = hidden-left _ (between-first (Changed t p ss 0) (Changed t p (withoutSlot t p k) 1) (Changed t p (withoutSlot t p k) 0) (shiftOutAt t p k) t shifting j g (ltb-true j (length (shiftOutAt t p k)) e))
       go false e = rw (take-all j (shiftOutAt t p k) (ltb-false j (length (shiftOutAt t p k)) e)) missing-left
-
-  -- Repair attaches it again: the table is settled then, and reaches every node that it reached before.
-  pub free-attached : (j : ℕ) → 0 < j → j < length (freeStores t p x) → SettledReach (reached (view t)) (repaired (apply (take j (freeStores t p x)) t))
-  free-attached j g i =
-      let s = free-phase .part-sound j in
-      (repaired-settled _ s, repaired-view _ s .same .reached ∙ free-cut j g i .reached)

@@ -9,13 +9,14 @@ use lib.ListN.{length, take, drop, getD, set}
 use lib.Seq.{split-at, getD-at, length-take-le}
 use Rattle.model.specs.Table.{MARK, Words}
 use Rattle.model.specs.Slots.{Slot, slot, withClass, classOk, View, nodeView, view}
-use Rattle.model.specs.Reached.{pointers, kept, reached, mapOf}
-use Rattle.model.specs.SoundTest.{elem, distinct, nothing, hiddenIn, settled}
+use Rattle.model.specs.Reached.{pointers, kept, reached}
+use Rattle.model.specs.SoundTest.{elem, distinct, nothing, hiddenIn}
 use Rattle.model.specs.Orders.{put, apply, orders, ordersAfter}
 use Rattle.model.specs.Shifts.{pointerTo, pointerWord, shiftOut, placeOf}
-use Rattle.model.specs.Writes.{shiftInAt, shiftOutAt, setClassAt, standing}
+use Rattle.model.specs.Writes.{shiftInAt, shiftOutAt, setClassAt}
 use Rattle.model.specs.Refusals.{hasKey}
 use Rattle.model.specs.Ledger.{enter, leave, reclass}
+use Rattle.tree_laws.specs.OneTree.{settledOne, mapOne, standingOne}
 use Rattle.list_laws.proofs.Tools.{Each, Each-append}
 use Rattle.list_laws.proofs.Members.{each-mem, each-take, each-drop, elem-cons}
 use Rattle.list_laws.proofs.Distinct.{distinct-middle}
@@ -48,7 +49,7 @@ pub not-pointed : (x : ℕ) (ss : List Slot) → elem x (pointers ss) ≡ false 
 not-pointed x [] h = tt
 not-pointed x (s ∷ ss) h = let u = elem-cons x (s .pointer) (pointers ss) .0 h in (u .0, not-pointed x ss (u .1))
 
-module _ (t : Words) (s : settled t ≡ true) (k : ℕ) where
+module _ (t : Words) (s : settledOne t ≡ true) (k : ℕ) where
   abbrev v : View
   v = view t
 
@@ -70,7 +71,7 @@ module _ (t : Words) (s : settled t ≡ true) (k : ℕ) where
   left-mark : v .node x .left ≡ MARK
   left-mark = let c = leaf-covers v k (fine .left .orderly) in leaf-iff v x .0 (leaf-ok v x (c .good) (c .at .level)) .left
 
-  standing-x : standing t 0 k ≡ x
+  standing-x : standingOne t 0 k ≡ x
   standing-x = standing-leaf t k (fine .left .orderly)
 
   -- ---- shift in
@@ -81,22 +82,22 @@ module _ (t : Words) (s : settled t ≡ true) (k : ℕ) where
         let u = pair-pointer (slot k y) (new .ok) in
         put-in-shown (v .node x .left) (v .node x .shown) (placeOf k (v .node x .shown)) k y (view-shown t x no-hidden) (u .0) (λ e. u .1 (e ∙ left-mark)) (not-pointed y (v .node x .shown) (enter-fresh v k y (fine .left) new))
 
-    entered : (t′ : Words) → Changed t x (withSlot t x k y) 0 t′ → SettledWith (enter k y (mapOf t)) t′
+    entered : (t′ : Words) → Changed t x (withSlot t x k y) 0 t′ → SettledWith (enter k y (mapOne t)) t′
     entered t′ c = view-settles t t′ _ (shown-view t x (withSlot t x k y) 0 t′ c no-hidden) (same-ok (c .header)) (fine .header) _ (enter-leaf v k y (fine .left) new)
 
-    shifted-in : Phase 27 t (shiftInAt t x k y) (enter k y (mapOf t))
-    shifted-in = phase-until 27 t (shiftInAt t x k y) (shift-in-few t x k y room) (shift-in-inside t x k y room (use-x .there)) (enter k y (mapOf t))
-        (until-map doStore _ (SoundWith (mapOf t)) _ (SettledWith (enter k y (mapOf t))) (may-hide t x nothing (hiddenIn x) fine no-hidden (hide v x (fine .left) x-reached) refl) entered (shiftInAt t x k y) t
+    shifted-in : Phase 27 t (shiftInAt t x k y) (enter k y (mapOne t))
+    shifted-in = phase-until 27 t (shiftInAt t x k y) (shift-in-few t x k y room) (shift-in-inside t x k y room (use-x .there)) (enter k y (mapOne t))
+        (until-map doStore _ (SoundWith (mapOne t)) _ (SettledWith (enter k y (mapOne t))) (may-hide t x nothing (hiddenIn x) fine no-hidden (hide v x (fine .left) x-reached) refl) entered (shiftInAt t x k y) t
         (shift-in-view t x (use-x .there) (use-x .clear) (use-x .left) no-hidden k y room in-shown))
 
   -- k with the pointer y is shifted in at its leaf, which has room for it.
-  pub leaf-shift-in : (y : ℕ) → NewPair (view t) k y → length (nodeView t (standing t 0 k) .shown) ≤ 10
-      → Phase 27 t (shiftInAt t (standing t 0 k) k y) (enter k y (mapOf t))
+  pub leaf-shift-in : (y : ℕ) → NewPair (view t) k y → length (nodeView t (standingOne t 0 k) .shown) ≤ 10
+      → Phase 27 t (shiftInAt t (standingOne t 0 k) k y) (enter k y (mapOne t))
   leaf-shift-in y new room = rw standing-x (shifted-in y new (rw standing-x at room))
 
   -- ---- shift out
 
-  module _ (has : hasKey k (mapOf t) ≡ true) where
+  module _ (has : hasKey k (mapOne t) ≡ true) where
     abbrev ss : List Slot
     ss = v .node x .shown
 
@@ -121,18 +122,18 @@ module _ (t : Words) (s : settled t ≡ true) (k : ℕ) where
     abbrev less : View
     less = withShown v x (withoutSlot t x k)
 
-    settles : Settles v less (leave k (mapOf t))
+    settles : Settles v less (leave k (mapOne t))
     settles = leave-leaf v k (fine .left) has
 
-    unchanged : (t′ : Words) → Changed t x ss 0 t′ → SoundWith (mapOf t) t′
+    unchanged : (t′ : Words) → Changed t x ss 0 t′ → SoundWith (mapOne t) t′
     unchanged t′ c = view-same t t′ nothing fine (same-view t x ss 0 t′ c refl no-hidden) (same-ok (c .header))
 
-    hiding : (t′ : Words) → Changed t x (withoutSlot t x k) 1 t′ → SoundWith (leave k (mapOf t)) t′
+    hiding : (t′ : Words) → Changed t x (withoutSlot t x k) 1 t′ → SoundWith (leave k (mapOne t)) t′
     hiding t′ c =
         let h = hide less x (settles .left) (rw (settles .reached) x-reached) in
         view-sound t t′ (withHidden less x 1) (changed-view t x (withoutSlot t x k) 1 t′ c) (same-ok (c .header)) (fine .header) (hiddenIn x) (h .left) refl _ (h .mapping ∙ settles .mapping)
 
-    gone : (t′ : Words) → Changed t x (withoutSlot t x k) 0 t′ → SettledWith (leave k (mapOf t)) t′
+    gone : (t′ : Words) → Changed t x (withoutSlot t x k) 0 t′ → SettledWith (leave k (mapOne t)) t′
     gone t′ c = view-settles t t′ less (shown-view t x (withoutSlot t x k) 0 t′ c no-hidden) (same-ok (c .header)) (fine .header) _ settles
 
     shifting : AtFirst doStore (Changed t x ss 0) (Changed t x (withoutSlot t x k) 1) (Changed t x (withoutSlot t x k) 0) (shiftOutAt t x k) t
@@ -141,34 +142,34 @@ module _ (t : Words) (s : settled t ≡ true) (k : ℕ) where
     stores-some : 0 < length (shiftOutAt t x k)
     stores-some = unfold shiftOutAt shiftOut in omega arith
 
-    shifted-out : Phase 25 t (shiftOutAt t x k) (leave k (mapOf t))
+    shifted-out : Phase 25 t (shiftOutAt t x k) (leave k (mapOne t))
     shifted-out =
         let few = shown-few t x (use-x .clear) in
         let i = leave-place v k (fine .left) has in
-        phase-first 25 t (shiftOutAt t x k) (shift-out-few t x k few i) (shift-out-inside t x k few i (use-x .there)) (leave k (mapOf t))
-        (first-map doStore _ (SoundWith (mapOf t)) _ (SoundWith (leave k (mapOf t))) _ (SettledWith (leave k (mapOf t))) unchanged hiding gone (shiftOutAt t x k) t shifting) stores-some
+        phase-first 25 t (shiftOutAt t x k) (shift-out-few t x k few i) (shift-out-inside t x k few i (use-x .there)) (leave k (mapOne t))
+        (first-map doStore _ (SoundWith (mapOne t)) _ (SoundWith (leave k (mapOne t))) _ (SettledWith (leave k (mapOne t))) unchanged hiding gone (shiftOutAt t x k) t shifting) stores-some
 
     -- The pair of k is shifted out of its leaf.
-    pub leaf-shift-out : Phase 25 t (shiftOutAt t (standing t 0 k) k) (leave k (mapOf t))
+    pub leaf-shift-out : Phase 25 t (shiftOutAt t (standingOne t 0 k) k) (leave k (mapOne t))
     leaf-shift-out = rw standing-x shifted-out
 
     seen : view (apply (shiftOutAt t x k) t) ≡ less
     seen = shown-view t x (withoutSlot t x k) 0 _ (after-first (Changed t x ss 0) (Changed t x (withoutSlot t x k) 1) (Changed t x (withoutSlot t x k) 0) (shiftOutAt t x k) t shifting stores-some) no-hidden
 
     -- what is seen then: the leaf shows the others
-    pub leaf-out-seen : view (apply (shiftOutAt t (standing t 0 k) k) t) ≡ withShown (view t) (standing t 0 k) (withoutSlot t (standing t 0 k) k)
+    pub leaf-out-seen : view (apply (shiftOutAt t (standingOne t 0 k) k) t) ≡ withShown (view t) (standingOne t 0 k) (withoutSlot t (standingOne t 0 k) k)
     leaf-out-seen = rw standing-x seen
 
-    pub leaf-out-reached : reached (view (apply (shiftOutAt t (standing t 0 k) k) t)) ≡ reached (view t)
+    pub leaf-out-reached : reached (view (apply (shiftOutAt t (standingOne t 0 k) k) t)) ≡ reached (view t)
     leaf-out-reached = rw standing-x (ap reached seen ∙ settles .reached)
 
     -- it showed k at its place
-    pub leaf-out-place : placeOf k (nodeView t (standing t 0 k) .shown) < length (nodeView t (standing t 0 k) .shown)
+    pub leaf-out-place : placeOf k (nodeView t (standingOne t 0 k) .shown) < length (nodeView t (standingOne t 0 k) .shown)
     leaf-out-place = rw standing-x (leave-place v k (fine .left) has)
 
   -- ---- another class
 
-  module _ (has : hasKey k (mapOf t) ≡ true) (c : ℕ) (ok : classOk c ≡ true) where
+  module _ (has : hasKey k (mapOne t) ≡ true) (c : ℕ) (ok : classOk c ≡ true) where
     place-c : ClassPlace v k c
     place-c = class-leaf v k c (fine .left) has ok
 
@@ -206,15 +207,15 @@ module _ (t : Words) (s : settled t ≡ true) (k : ℕ) where
     class-there : Changed t x (slotTo k y all) 0 (set t (pointerWord x at-k) y)
     class-there = rw set-there at (pointer-view t x (use-x .there) (use-x .clear) at-k y no-hidden inside-k (rw set-there all-shown))
 
-    class-set : SettledWith (reclass k c (mapOf t)) (set t (pointerWord x at-k) y)
+    class-set : SettledWith (reclass k c (mapOne t)) (set t (pointerWord x at-k) y)
     class-set = view-settles t _ _ (shown-view t x (slotTo k y all) 0 _ class-there no-hidden) (same-ok (class-there .header)) (fine .header) _ (place-c .settles)
 
-    stored : Phase 2 t (put (pointerWord x at-k) y ∷ []) (reclass k c (mapOf t))
+    stored : Phase 2 t (put (pointerWord x at-k) y ∷ []) (reclass k c (mapOne t))
     unfolding orders ordersAfter
     stored =
         let few : at-k < 12 = omega (arith, inside-k, shown-few t x (use-x .clear)) in
-        phase-until 2 t (put (pointerWord x at-k) y ∷ []) (omega arith) (slot-inside t x (pointerTo at-k y) (use-x .there) few, tt) (reclass k c (mapOf t)) ((settled-sound t s, refl), class-set)
+        phase-until 2 t (put (pointerWord x at-k) y ∷ []) (omega arith) (slot-inside t x (pointerTo at-k y) (use-x .there) few, tt) (reclass k c (mapOne t)) ((settled-sound t s, refl), class-set)
 
     -- The slot of k in its leaf gets class c, in one store and one flush.
-    pub leaf-class : Phase 2 t (setClassAt t (standing t 0 k) k c) (reclass k c (mapOf t))
+    pub leaf-class : Phase 2 t (setClassAt t (standingOne t 0 k) k c) (reclass k c (mapOne t))
     leaf-class = rw (standing-x, one-store) stored

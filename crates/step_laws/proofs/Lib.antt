@@ -14,12 +14,8 @@ pub mod WholeNode
 pub mod Standing
 pub mod Freeing
 pub mod Deletion
-pub mod ClassChange
 pub mod NewRoot
 pub mod Split
-pub mod Splits
 pub mod Run
-pub mod Insertion
-pub mod Calls
 pub mod Numbers
 pub mod EmptyTable

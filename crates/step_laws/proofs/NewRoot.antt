@@ -5,13 +5,14 @@ use mathlib.Core.List.{List, [], _∷_, List·Memᴰ, List·Memᴰ·head, List·
 use Prim.Native.Nat.{ℕ, suc, _≤_, _<_}
 use native.Mathlib.Omega.{arith}
 use lib.ListN.{length, set}
-use Rattle.model.specs.Table.{Words, root, nodes, nodeStart}
+use Rattle.model.specs.Table.{Words, root, nodeStart}
 use Rattle.model.specs.Slots.{NodeView, View, nodeView, view, height}
 use Rattle.model.specs.Search.{below}
-use Rattle.model.specs.Reached.{reached, mapping, mapOf}
-use Rattle.model.specs.SoundTest.{nothing, settled}
+use Rattle.model.specs.Reached.{reached, mapping}
+use Rattle.model.specs.SoundTest.{nothing}
 use Rattle.model.specs.Orders.{put, apply, ordersAfter, orders}
-use Rattle.model.specs.Writes.{putAll, nodeWords, newRootAt, standing}
+use Rattle.model.specs.Writes.{putAll, nodeWords}
+use Rattle.tree_laws.specs.OneTree.{settledOne, mapOne, rootAtOne, standingOne}
 use Rattle.view_laws.proofs.NodeViews.{shownOf, newNode, sibling-eq, level-eq, fence-eq, shown-eq}
 use Rattle.table_laws.proofs.Header.{header-iff}
 use Rattle.word_laws.proofs.Frames.{same-root, same-nodes}
@@ -28,7 +29,7 @@ use Rattle.step_laws.proofs.WholeNode.{Stays, whole-stage, whole-stays}
 use Rattle.step_laws.proofs.Standing.{standing-stands, standing-is, stands, stands-same, stays-height, stays-stands}
 
 -- into a free node r
-module _ (t : Words) (s : settled t ≡ true) (low : height (view t) < 15) (r : ℕ) (f : Free t r) where
+module _ (t : Words) (s : settledOne t ≡ true) (low : height (view t) < 15) (r : ℕ) (f : Free t r) where
   abbrev v : View
   v = view t
 
@@ -74,19 +75,19 @@ module _ (t : Words) (s : settled t ≡ true) (low : height (view t) < 15) (r : 
   seen : view t₂ ≡ withRoot v₁ r
   seen = root-view t₁ r (stays .fine .header)
 
-  settles : SettledWith (mapOf t) t₂
+  settles : SettledWith (mapOne t) t₂
   settles =
       let h = stays .fine .header in
       let f = view-fine t₁ t₂ (withRoot v₁ r) seen (root-header t₁ r h (above .range) ∙ sym h) h nothing (rooted .left) refl in
       (fine-settled t₂ f, ap mapping seen ∙ rooted .mapping ∙ stays .mapping)
 
-  link-phase : Phase 2 t₁ (put 1 r ∷ []) (mapOf t)
-  link-phase = phase-until 2 t₁ (put 1 r ∷ []) (unfold orders ordersAfter in omega arith) (omega (arith, header-iff t₁ .0 (stays .fine .header) .size .long), tt) (mapOf t)
+  link-phase : Phase 2 t₁ (put 1 r ∷ []) (mapOne t)
+  link-phase = phase-until 2 t₁ (put 1 r ∷ []) (unfold orders ordersAfter in omega arith) (omega (arith, header-iff t₁ .0 (stays .fine .header) .size .long), tt) (mapOne t)
       ((fine-sound t₁ nothing (stays .fine), refl), settles)
 
   -- New root: every first part of its stores leaves a sound table with the same map.
-  pub root-phase : Phase 38 t (newRootAt t r) (mapOf t)
-  root-phase = stage-phase 36 2 t (putAll (nodeStart r) ws) (put 1 r ∷ []) (mapOf t) (whole-stage t r (root t) 0 (suc (height v)) 0 [] s f) link-phase
+  pub root-phase : Phase 38 t (rootAtOne t r) (mapOne t)
+  root-phase = stage-phase 36 2 t (putAll (nodeStart r) ws) (put 1 r ∷ []) (mapOne t) (whole-stage t r (root t) 0 (suc (height v)) 0 [] s f) link-phase
 
   -- ---- what it leaves
 
@@ -105,28 +106,25 @@ module _ (t : Words) (s : settled t ≡ true) (low : height (view t) < 15) (r : 
   unfolding below
   top-stands k = rw seen (stands (withRoot v₁ r) k (suc (height v)) r (rooted .left .orderly) (rw (rooted .reached) (List·Memᴰ·head refl)) (level-eq new) (rw (fence-eq new) (omega arith)) (rw (sibling-eq new)))
 
-  after : apply (newRootAt t r) t ≡ t₂
+  after : apply (rootAtOne t r) t ≡ t₂
   unfolding apply
   after = apply-append (putAll (nodeStart r) ws) (put 1 r ∷ []) t
 
-  pub root-height : height (view (apply (newRootAt t r) t)) ≡ suc (height (view t))
+  pub root-height : height (view (apply (rootAtOne t r) t)) ≡ suc (height (view t))
   root-height = rw after up
 
-  pub root-nodes : nodes (apply (newRootAt t r) t) ≡ nodes t
-  root-nodes = rw after (ap (λ (x : View). x .nodes) seen ∙ same-nodes (stays .header))
-
-  pub root-takes : length (reached (view (apply (newRootAt t r) t))) ≡ suc (length (reached (view t)))
+  pub root-takes : length (reached (view (apply (rootAtOne t r) t))) ≡ suc (length (reached (view t)))
   root-takes = rw after (ap length reach)
 
   -- the path to k has the nodes that it had, and above them the new root, which shows nothing
-  pub root-standing : (k d : ℕ) → d ≤ height (view t) → standing (apply (newRootAt t r) t) d k ≡ standing t d k
-  root-standing k d h = rw after (standing-is t₂ (settles .0) k d (standing t d k) (old-stands k d (standing t d k) (standing-stands t s k d h)))
+  pub root-standing : (k d : ℕ) → d ≤ height (view t) → standingOne (apply (rootAtOne t r) t) d k ≡ standingOne t d k
+  root-standing k d h = rw after (standing-is t₂ (settles .0) k d (standingOne t d k) (old-stands k d (standingOne t d k) (standing-stands t s k d h)))
 
-  pub root-shown : (n : ℕ) → List·Memᴰ n (reached (view t)) → nodeView (apply (newRootAt t r) t) n .shown ≡ nodeView t n .shown
+  pub root-shown : (n : ℕ) → List·Memᴰ n (reached (view t)) → nodeView (apply (rootAtOne t r) t) n .shown ≡ nodeView t n .shown
   root-shown n m = rw after (ap (λ (x : View). x .node n .shown) seen ∙ shown-eq (stays .node .else n (free-other t r s f n m)))
 
-  pub root-top : (k : ℕ) → standing (apply (newRootAt t r) t) (suc (height (view t))) k ≡ r
+  pub root-top : (k : ℕ) → standingOne (apply (rootAtOne t r) t) (suc (height (view t))) k ≡ r
   root-top k = rw after (standing-is t₂ (settles .0) k (suc (height v)) r (top-stands k))
 
-  pub root-shows : (k : ℕ) → view (apply (newRootAt t r) t) .node (standing (apply (newRootAt t r) t) (suc (height (view t))) k) .shown ≡ []
-  root-shows k = ap (shownOf (view (apply (newRootAt t r) t))) (root-top k) ∙ rw after (ap (λ (x : View). x .node r .shown) seen ∙ shown-eq new)
+  pub root-shows : (k : ℕ) → view (apply (rootAtOne t r) t) .node (standingOne (apply (rootAtOne t r) t) (suc (height (view t))) k) .shown ≡ []
+  root-shows k = ap (shownOf (view (apply (rootAtOne t r) t))) (root-top k) ∙ rw after (ap (λ (x : View). x .node r .shown) seen ∙ shown-eq new)

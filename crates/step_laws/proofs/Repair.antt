@@ -10,11 +10,12 @@ use lib.ListN.{length, length-append}
 use borrow.Author.Tests.{leb-true}
 use Rattle.model.specs.Table.{Words, nodeStart}
 use Rattle.model.specs.Slots.{Slot, NodeView, View, nodeView, view, height}
-use Rattle.model.specs.Reached.{pointers, kept, children, reached, mapOf}
-use Rattle.model.specs.SoundTest.{elem, Leftover, nothing, hiddenIn, missingIn, bothIn, room, hasRoom, settled, sound}
+use Rattle.model.specs.Reached.{pointers, kept, children, reached}
+use Rattle.model.specs.SoundTest.{elem, Leftover, nothing, hiddenIn, missingIn, bothIn, room, hasRoom}
 use Rattle.model.specs.Orders.{apply, ordersAfter, orders}
 use Rattle.model.specs.Shifts.{placeOf}
-use Rattle.model.specs.Writes.{shiftInAt, closeAt, cutOff, attach, repairOf, repairStores, repaired}
+use Rattle.model.specs.Writes.{shiftInAt, closeAt, cutOff, attach, repairOf}
+use Rattle.tree_laws.specs.OneTree.{settledOne, soundOne, mapOne, repairOne, repairedOne}
 use Rattle.view_laws.proofs.NodeViews.{levelOf, fenceOf, stays-all, left-eq, shown-eq, sibling-eq}
 use Rattle.list_laws.proofs.Members.{each-mem, elem-cons, mem-here}
 use Rattle.list_laws.proofs.Steps.{Until, until-map}
@@ -59,7 +60,7 @@ module _ (t : Words) (x : ℕ) (y : Leftover) (f : Fine t y) (m : List·Memᴰ x
   pub close-seen : view (apply (closeAt t x) t) ≡ withHidden (view t) x 0
   close-seen = closed (apply (closeAt t x) t) close-changed
 
-  still : (t′ : Words) → Changed t x (nodeView t x .shown) 1 t′ → SoundWith (mapOf t) t′
+  still : (t′ : Words) → Changed t x (nodeView t x .shown) 1 t′ → SoundWith (mapOne t) t′
   still t′ c = view-same t t′ y f (same-view t x (nodeView t x .shown) 1 t′ c refl one) (same-ok (c .header))
 
   few : length (orders (closeAt t x)) ≤ 24
@@ -68,18 +69,18 @@ module _ (t : Words) (x : ℕ) (y : Leftover) (f : Fine t y) (m : List·Memᴰ x
   inside : StoresInside (length t) (closeAt t x)
   inside = close-inside t x (used-few t x (use-x .clear)) one (use-x .there)
 
-  close-settles : Keeps (view t) (withHidden (view t) x 0) nothing → Phase 24 t (closeAt t x) (mapOf t)
-  close-settles k = phase-until 24 t (closeAt t x) few inside (mapOf t) (until-map doStore _ (SoundWith (mapOf t)) _ (SettledWith (mapOf t)) still
-      (λ t′ c. view-settles t t′ _ (closed t′ c) (same-ok (c .header)) (f .header) (mapOf t) (keeps-settles (view t) _ k)) (closeAt t x) t closing)
+  close-settles : Keeps (view t) (withHidden (view t) x 0) nothing → Phase 24 t (closeAt t x) (mapOne t)
+  close-settles k = phase-until 24 t (closeAt t x) few inside (mapOne t) (until-map doStore _ (SoundWith (mapOne t)) _ (SettledWith (mapOne t)) still
+      (λ t′ c. view-settles t t′ _ (closed t′ c) (same-ok (c .header)) (f .header) (mapOne t) (keeps-settles (view t) _ k)) (closeAt t x) t closing)
 
   close-keeps : (y′ : Leftover) → Keeps (view t) (withHidden (view t) x 0) y′ → hasRoom (view t) y′ ≡ true → Stage 24 t (closeAt t x) × Fine (apply (closeAt t x) t) y′
   close-keeps y′ k r = (
-    stage-until 24 t (closeAt t x) few inside (until-map doStore _ (SoundWith (mapOf t)) _ (SoundWith (mapOf t)) still (λ t′ c. view-keeps t t′ _ (closed t′ c) (same-ok (c .header)) (f .header) y′ k r) (closeAt t x) t closing),
+    stage-until 24 t (closeAt t x) few inside (until-map doStore _ (SoundWith (mapOne t)) _ (SoundWith (mapOne t)) still (λ t′ c. view-keeps t t′ _ (closed t′ c) (same-ok (c .header)) (f .header) y′ k r) (closeAt t x) t closing),
     view-fine t _ _ close-seen (same-ok (close-changed .header)) (f .header) y′ (k .left) (k .room r),
   )
 
 -- (a): the hidden slot is closed
-pub close-phase : (t : Words) (x : ℕ) → Fine t (hiddenIn x) → Phase 24 t (closeAt t x) (mapOf t)
+pub close-phase : (t : Words) (x : ℕ) → Fine t (hiddenIn x) → Phase 24 t (closeAt t x) (mapOne t)
 close-phase t x f = let u = f .left .left .0 in close-settles t x (hiddenIn x) f (u .member) (u .here) (unhide (view t) x (f .left))
 
 -- (c): the hidden slot of the parent is closed, and leaves (b)
@@ -156,10 +157,10 @@ module _ (t : Words) (p a : ℕ) (f : Fine t (missingIn p a false)) where
   attach-seen = shown-view t p (withSlot t p k b) 0 (apply (attach t p a) t) attach-changed p-shows
 
   -- (b) without slots to cut: the sibling's slot is shifted in at the parent
-  pub attach-phase : Phase 27 t (attach t p a) (mapOf t)
-  attach-phase = phase-until 27 t (attach t p a) (unfold attach in shift-in-few t p k b room-p) (unfold attach in shift-in-inside t p k b room-p (use-p .there)) (mapOf t)
-      (until-map doStore _ (SoundWith (mapOf t)) _ (SettledWith (mapOf t)) (may-hide t p (missingIn p a false) (bothIn p a) f p-shows (hide-missing (view t) p a (f .left)) (f .room))
-      (λ t′ c. view-settles t t′ _ (shown-view t p _ 0 t′ c p-shows) (same-ok (c .header)) (f .header) (mapOf t) (keeps-settles (view t) _ (attach-settles (view t) p a (f .left)))) (attach t p a) t attaching)
+  pub attach-phase : Phase 27 t (attach t p a) (mapOne t)
+  attach-phase = phase-until 27 t (attach t p a) (unfold attach in shift-in-few t p k b room-p) (unfold attach in shift-in-inside t p k b room-p (use-p .there)) (mapOne t)
+      (until-map doStore _ (SoundWith (mapOne t)) _ (SettledWith (mapOne t)) (may-hide t p (missingIn p a false) (bothIn p a) f p-shows (hide-missing (view t) p a (f .left)) (f .room))
+      (λ t′ c. view-settles t t′ _ (shown-view t p _ 0 t′ c p-shows) (same-ok (c .header)) (f .header) (mapOne t) (keeps-settles (view t) _ (attach-settles (view t) p a (f .left)))) (attach t p a) t attaching)
 
 -- ---- cut
 
@@ -230,31 +231,27 @@ module _ (t : Words) (p a : ℕ) (f : Fine t (missingIn p a true)) where
 -- ---- repair
 
 -- the leftover of a sound table decides its repair
-pub repair-of : (t : Words) (y : Leftover) → Fine t y → repairStores t ≡ repairOf t (some y)
-unfolding repairStores
+pub repair-of : (t : Words) (y : Leftover) → Fine t y → repairOne t ≡ repairOf t (some y)
+unfolding repairOne
 repair-of t y f = ap (repairOf t) (has-left-iff (view t) y .1 (f .left) .1)
 
-phase-of : (t : Words) (y : Leftover) → Fine t y → Phase 51 t (repairOf t (some y)) (mapOf t)
+phase-of : (t : Words) (y : Leftover) → Fine t y → Phase 51 t (repairOf t (some y)) (mapOne t)
 unfolding repairOf
-phase-of t nothing f = phase-within 0 51 t [] (mapOf t) (omega arith) (phase-nil t (fine-settled t f))
-phase-of t (hiddenIn x) f = phase-within 24 51 t (closeAt t x) (mapOf t) (omega arith) (close-phase t x f)
-phase-of t (missingIn p a false) f = phase-within 27 51 t (attach t p a) (mapOf t) (omega arith) (attach-phase t p a f)
+phase-of t nothing f = phase-within 0 51 t [] (mapOne t) (omega arith) (phase-nil t (fine-settled t f))
+phase-of t (hiddenIn x) f = phase-within 24 51 t (closeAt t x) (mapOne t) (omega arith) (close-phase t x f)
+phase-of t (missingIn p a false) f = phase-within 27 51 t (attach t p a) (mapOne t) (omega arith) (attach-phase t p a f)
 phase-of t (missingIn p a true) f =
-    phase-within 29 51 t (cutOff t a ++ attach t p a) (mapOf t) (omega arith)
-    (rw (cut-attach t p a f) at (stage-phase 2 27 t (cutOff t a) (attach (apply (cutOff t a) t) p a) (mapOf t) (cut-stage t p a f)
+    phase-within 29 51 t (cutOff t a ++ attach t p a) (mapOne t) (omega arith)
+    (rw (cut-attach t p a f) at (stage-phase 2 27 t (cutOff t a) (attach (apply (cutOff t a) t) p a) (mapOne t) (cut-stage t p a f)
     (rw (stage-whole 2 t (cutOff t a) (cut-stage t p a f) .1) at (attach-phase (apply (cutOff t a) t) p a (cut-fine t p a f)))))
 phase-of t (bothIn p a) f =
     let u = close-stage t p a f in
-    stage-phase 24 27 t (closeAt t p) (attach (apply (closeAt t p) t) p a) (mapOf t) (u .0) (rw (stage-whole 24 t (closeAt t p) (u .0) .1) at (attach-phase (apply (closeAt t p) t) p a (u .1)))
+    stage-phase 24 27 t (closeAt t p) (attach (apply (closeAt t p) t) p a) (mapOne t) (u .0) (rw (stage-whole 24 t (closeAt t p) (u .0) .1) at (attach-phase (apply (closeAt t p) t) p a (u .1)))
 
 -- Repair of a sound table: every first part of its stores leaves a sound table with the same map, and all of them a settled one.
-pub repair-phase : (t : Words) → sound t ≡ true → Phase 51 t (repairStores t) (mapOf t)
+pub repair-phase : (t : Words) → soundOne t ≡ true → Phase 51 t (repairOne t) (mapOne t)
 repair-phase t s = let u = sound-fine t s in rw (repair-of t (u .0) (u .1)) (phase-of t (u .0) (u .1))
 
-pub repaired-settled : (t : Words) → sound t ≡ true → settled (repaired t) ≡ true
-unfolding repaired
+pub repaired-settled : (t : Words) → soundOne t ≡ true → settledOne (repairedOne t) ≡ true
+unfolding repairedOne
 repaired-settled t s = repair-phase t s .settles
-
-pub repaired-map : (t : Words) → sound t ≡ true → mapOf (repaired t) ≡ mapOf t
-unfolding repaired
-repaired-map t s = repair-phase t s .maps

@@ -9,18 +9,19 @@ use native.Mathlib.Omega.{arith}
 use lib.Dec.{eqb}
 use lib.ListN.{length, take, drop, length-append, take-append-drop}
 use borrow.Author.Tests.{eq-eqb, ne-eqb}
-use Rattle.model.specs.Table.{Words, nodes}
+use Rattle.model.specs.Table.{Words}
 use Rattle.model.specs.Slots.{Slot, slot, nodeView, View, view, height}
 use Rattle.model.specs.Search.{path}
 use Rattle.model.specs.Reached.{kept, reached}
-use Rattle.model.specs.SoundTest.{Leftover, nothing, hiddenIn, missingIn, bothIn, leftover, sound}
+use Rattle.model.specs.SoundTest.{Leftover, nothing, hiddenIn, missingIn, bothIn, leftover}
 use Rattle.model.specs.Orders.{apply}
 use Rattle.model.specs.Shifts.{placeOf}
-use Rattle.model.specs.Writes.{closeAt, cutOff, attach, repairOf, repaired, unreached, unreachable}
+use Rattle.model.specs.Writes.{closeAt, cutOff, attach, repairOf}
+use Rattle.tree_laws.specs.OneTree.{soundOne, repairedOne}
 use Rattle.view_laws.proofs.NodeViews.{fenceOf, bare, stays-all, fence-eq, shown-eq, sibling-eq}
 use Rattle.list_laws.proofs.Tools.{at-or-off}
 use Rattle.list_laws.proofs.Members.{each-mem}
-use Rattle.word_laws.proofs.Frames.{SameHeader, header-refl, header-trans, same-root, same-nodes}
+use Rattle.word_laws.proofs.Frames.{SameHeader, header-refl, header-trans, same-root}
 use Rattle.word_laws.proofs.ShiftViews.{Changed}
 use Rattle.tree_laws.proofs.Levels.{Orderly, orderly-of}
 use Rattle.tree_laws.proofs.Leftovers.{NoneTrailing, HiddenOnly}
@@ -178,43 +179,39 @@ mends t (bothIn p a) f =
 -- ---- the table after repair
 
 pub record RepairedView (t : Words) : Type 0 where
-  pub same : SameTree t (repaired t)
+  pub same : SameTree t (repairedOne t)
   -- what a reached node shows, and how many slots that are
-  pub shown : (n : ℕ) → List·Memᴰ n (reached (view t)) → nodeView (repaired t) n .shown ≡ slotsLater (view t) (leftover (view t)) n
-  pub count : (n : ℕ) → List·Memᴰ n (reached (view t)) → length (nodeView (repaired t) n .shown) ≡ length (kept (view t) n) + lackingIn (leftover (view t)) n
+  pub shown : (n : ℕ) → List·Memᴰ n (reached (view t)) → nodeView (repairedOne t) n .shown ≡ slotsLater (view t) (leftover (view t)) n
+  pub count : (n : ℕ) → List·Memᴰ n (reached (view t)) → length (nodeView (repairedOne t) n .shown) ≡ length (kept (view t) n) + lackingIn (leftover (view t)) n
   -- every search stands on the same nodes
-  pub height : height (view (repaired t)) ≡ height (view t)
-  pub path : (k : ℕ) → path (view (repaired t)) k ≡ path (view t) k
-  pub unreachable : unreachable (repaired t) ≡ unreachable t
+  pub height : height (view (repairedOne t)) ≡ height (view t)
+  pub path : (k : ℕ) → path (view (repairedOne t)) k ≡ path (view t) k
 
-module _ (t : Words) (s : sound t ≡ true) where
-  mended : SameTree t (repaired t) × ShowsLater t (repaired t) (slotsLater (view t) (leftover (view t)))
-  unfolding repaired
+module _ (t : Words) (s : soundOne t ≡ true) where
+  mended : SameTree t (repairedOne t) × ShowsLater t (repairedOne t) (slotsLater (view t) (leftover (view t)))
+  unfolding repairedOne
   mended =
       let u = sound-fine t s in
       rw (repair-of t (u .0) (u .1), has-left-iff (view t) (u .0) .1 (u .1 .left) .1) (mends t (u .0) (u .1))
 
-  same : SameTree t (repaired t)
+  same : SameTree t (repairedOne t)
   same = mended .0
 
-  orderly-later : Orderly (view (repaired t))
-  orderly-later = settled-fine (repaired t) (repaired-settled t s) .left .orderly
+  orderly-later : Orderly (view (repairedOne t))
+  orderly-later = settled-fine (repairedOne t) (repaired-settled t s) .left .orderly
 
   orderly-now : Orderly (view t)
   orderly-now = orderly-of t s
 
   pub repaired-view : RepairedView t
-  unfolding unreachable unreached
   repaired-view =
       let v = view t in
-      let w = view (repaired t) in
+      let w = view (repairedOne t) in
       let r : w .root ≡ v .root = same-root (same .header) in
-      let n : w .nodes ≡ v .nodes = same-nodes (same .header) in
       record {
         same = same;
         height = height-same v w orderly-now orderly-later r (same .bare) (same .reached);
         path = path-same v w orderly-now orderly-later r (same .bare) (same .reached);
-        unreachable = rw (same .reached, n);
         shown = mended .1;
         count = λ n m. ap length (mended .1 n m) ∙ length-later v (leftover v) n;
       }

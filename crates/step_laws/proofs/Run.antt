@@ -9,8 +9,9 @@ use borrow.Author.Tests.{eqb-true, eqb-false}
 use Rattle.model.specs.Table.{Words}
 use Rattle.model.specs.Slots.{View, nodeView, view, height, full}
 use Rattle.model.specs.Search.{path}
-use Rattle.model.specs.SoundTest.{all, settled}
-use Rattle.model.specs.Writes.{standing, runIn, run}
+use Rattle.model.specs.SoundTest.{all}
+use Rattle.model.specs.Writes.{runIn, standingIn}
+use Rattle.tree_laws.specs.OneTree.{settledOne, standingOne, runOne}
 use Rattle.list_laws.proofs.Tools.{all-each}
 use Rattle.list_laws.proofs.Members.{each-index, each-at}
 use Rattle.tree_laws.proofs.SearchLaw.{path-length}
@@ -55,24 +56,23 @@ run-ends v (n ∷ ns) = go (all (isFull v) (n ∷ ns)) refl (run-ends v ns)
 
 -- ---- of the path to k
 
-module _ (t : Words) (s : settled t ≡ true) (k : ℕ) where
-  ends : Ends (view t) (path (view t) k) (run t k)
-  unfolding run
+module _ (t : Words) (s : settledOne t ≡ true) (k : ℕ) where
+  ends : Ends (view t) (path (view t) k) (runOne t k)
   ends = run-ends (view t) (path (view t) k)
 
-  pub run-short : run t k ≤ suc (height (view t))
+  pub run-short : runOne t k ≤ suc (height (view t))
   run-short = omega (arith, ends .short, path-length (view t) k)
 
-  pub run-full : (l : ℕ) → l < run t k → length (nodeView t (standing t l k) .shown) ≡ 11
-  unfolding standing full
+  pub run-full : (l : ℕ) → l < runOne t k → length (nodeView t (standingOne t l k) .shown) ≡ 11
+  unfolding standingIn full
   run-full l h = eqb-true _ 11 (ends .full (height (view t) - l) (omega (arith, path-length (view t) k)) (omega (arith, path-length (view t) k, run-short)))
 
   -- where the run does not include the root, the node above it has room
-  pub run-above : run t k ≤ height (view t) → length (nodeView t (standing t (run t k) k) .shown) ≤ 10
-  unfolding standing full
+  pub run-above : runOne t k ≤ height (view t) → length (nodeView t (standingOne t (runOne t k) k) .shown) ≤ 10
+  unfolding standingIn full
   run-above h =
-      let n = run t k in
-      let z = eqb-false (length (nodeView t (standing t n k) .shown)) 11 (ends .stop (height (view t) - n) (omega (arith, path-length (view t) k))) in
+      let n = runOne t k in
+      let z = eqb-false (length (nodeView t (standingOne t n k) .shown)) 11 (ends .stop (height (view t) - n) (omega (arith, path-length (view t) k))) in
       let f = settled-fine t s in
-      let m = shown-few t (standing t n k) (reached-usable t (standing t n k) (f .header) (f .left .orderly) (standing-stands t s k n h .reached) .clear) in
+      let m = shown-few t (standingOne t n k) (reached-usable t (standingOne t n k) (f .header) (f .left .orderly) (standing-stands t s k n h .reached) .clear) in
       omega (arith, z, m)

@@ -9,14 +9,15 @@ use lib.Dec.{eqb, ltb}
 use lib.ListN.{length, take, drop, set, length-drop}
 use lib.Seq.{split-at, drop-cons, length-take-le}
 use borrow.Author.Tests.{eq-eqb, ne-eqb, le-leb, lt-ltb, ltb-true, ltb-false}
-use Rattle.model.specs.Table.{MARK, Words, nodes, nodeStart, hasNode}
+use Rattle.model.specs.Table.{MARK, Words, nodeStart, hasNode}
 use Rattle.model.specs.Slots.{Slot, slot, NodeView, nodeView, View, view, height}
 use Rattle.model.specs.Search.{below}
-use Rattle.model.specs.Reached.{pointers, kept, reached, mapping, mapOf}
-use Rattle.model.specs.SoundTest.{nothing, missingIn, room, settled}
+use Rattle.model.specs.Reached.{pointers, kept, reached, mapping}
+use Rattle.model.specs.SoundTest.{nothing, missingIn, room}
 use Rattle.model.specs.Orders.{Store, put, apply, ordersAfter, orders}
 use Rattle.model.specs.Shifts.{pointerWord, lastPointer, placeOf}
-use Rattle.model.specs.Writes.{shiftInAt, putAll, nodeWords, middle, splitWords, split, cutOff, attach, standing}
+use Rattle.model.specs.Writes.{shiftInAt, putAll, nodeWords, middle, splitWords, split, cutOff, attach}
+use Rattle.tree_laws.specs.OneTree.{settledOne, mapOne, standingOne}
 use Rattle.view_laws.proofs.NodeViews.{siblingOf, levelOf, fenceOf, shownOf, fence-eq, left-eq, level-eq, shown-eq, sibling-eq}
 use Rattle.list_laws.proofs.Tools.{or-right, Each, Each-split}
 use Rattle.list_laws.proofs.Members.{each-mem, elem-false}
@@ -51,7 +52,7 @@ use Rattle.step_laws.proofs.WholeNode.{Stays, whole-stage, whole-stays}
 use Rattle.step_laws.proofs.Standing.{standing-stands, standing-parent, standing-is, stands, stands-same, stays-height, stays-stands}
 
 -- the pointers of a leaf are not MARK
-leaf-marks : (t : Words) (a : ℕ) → settled t ≡ true → List·Memᴰ a (reached (view t)) → nodeView t a .level ≡ 0 → Each (λ (s : Slot). s .pointer ≢ MARK) (nodeView t a .shown)
+leaf-marks : (t : Words) (a : ℕ) → settledOne t ≡ true → List·Memᴰ a (reached (view t)) → nodeView t a .level ≡ 0 → Each (λ (s : Slot). s .pointer ≢ MARK) (nodeView t a .shown)
 leaf-marks t a s m e =
     let l = settled-fine t s .left in
     let d = leaf-pointers (view t) a (l .orderly) (mem-leaves (view t) a (l .orderly) .1 (m, e)) in
@@ -60,7 +61,7 @@ leaf-marks t a s m e =
     rw (each-mem (NothingUnfinished (view t)) (all-finished (view t) l) m .keeps) at k
 
 -- what B takes of A, which is full
-module _ (t : Words) (a : ℕ) (s : settled t ≡ true) (m : List·Memᴰ a (reached (view t))) (full : length (nodeView t a .shown) ≡ 11) where
+module _ (t : Words) (a : ℕ) (s : settledOne t ≡ true) (m : List·Memᴰ a (reached (view t))) (full : length (nodeView t a .shown) ≡ 11) where
   abbrev ss : List Slot
   ss = nodeView t a .shown
 
@@ -107,17 +108,17 @@ module _ (t : Words) (a : ℕ) (s : settled t ≡ true) (m : List·Memᴰ a (rea
 -- ---- into a free node b
 
 module _ (t : Words) (k l : ℕ) (h : FullNode t k l) (b : ℕ) (f : Free t b) where
-  s : settled t ≡ true
+  s : settledOne t ≡ true
   s = h .settled
 
   abbrev v : View
   v = view t
 
   abbrev a : ℕ
-  a = standing t l k
+  a = standingOne t l k
 
   abbrev p : ℕ
-  p = standing t (suc l) k
+  p = standingOne t (suc l) k
 
   stands-a : Stands v k l a
   stands-a = standing-stands t s k l (omega (arith, h .high))
@@ -163,7 +164,7 @@ module _ (t : Words) (k l : ℕ) (h : FullNode t k l) (b : ℕ) (f : Free t b) w
   write : Stage 36 t (putAll (nodeStart b) (splitWords t a))
   write = rw words (whole-stage t b (upperLeft d mid) (v .node a .sibling) d (mid .key) (upperSlots d mid high) s f)
 
-  s₁ : settled t₁ ≡ true
+  s₁ : settledOne t₁ ≡ true
   s₁ = fine-settled t₁ (stays .fine)
 
   parent : Parent v₁ a p
@@ -215,7 +216,7 @@ module _ (t : Words) (k l : ℕ) (h : FullNode t k l) (b : ℕ) (f : Free t b) w
   fine₂ : Fine t₂ (missingIn p a true)
   fine₂ = view-fine t₁ t₂ (withSibling v₁ a b) seen₂ (same-ok linked-header) (stays .fine .header) (missingIn p a true) (linked .left) (linked .room roomy₁)
 
-  map₂ : mapOf t₂ ≡ mapOf t₁
+  map₂ : mapOne t₂ ≡ mapOne t₁
   map₂ = ap mapping seen₂ ∙ linked .mapping
 
   link-stage : Stage 2 t₁ (put (suc (nodeStart a)) b ∷ [])
@@ -255,23 +256,23 @@ module _ (t : Words) (k l : ℕ) (h : FullNode t k l) (b : ℕ) (f : Free t b) w
       cut-attach t₂ p a fine₂ ∙ ap (λ (j : ℕ). shiftInAt t₂ p j (nodeView t₂ a .sibling)) q ∙ ap (shiftInAt t₂ p (middle t a .key)) e
       ∙ shift-in-same t t₂ p (middle t a .key) b (left-eq same) (shown-eq same)
 
-  map₃ : mapOf t₃ ≡ mapOf t
+  map₃ : mapOne t₃ ≡ mapOne t
   map₃ = stage-whole 2 t₂ (cutOff t₂ a) (cut-stage t₂ p a fine₂) .1 ∙ map₂ ∙ stays .mapping
 
-  last-phase : Phase 27 t₃ (shiftInAt t p (middle t a .key) b) (mapOf t)
+  last-phase : Phase 27 t₃ (shiftInAt t p (middle t a .key) b) (mapOne t)
   last-phase = rw (attach-same, map₃) at (attach-phase t₃ p a fine₃)
 
-  cut-phase : Phase 29 t₂ (put (pointerWord a 5) 0 ∷ shiftInAt t p (middle t a .key) b) (mapOf t)
-  cut-phase = rw cut-same at (stage-phase 2 27 t₂ (cutOff t₂ a) (shiftInAt t p (middle t a .key) b) (mapOf t) (cut-stage t₂ p a fine₂) last-phase)
+  cut-phase : Phase 29 t₂ (put (pointerWord a 5) 0 ∷ shiftInAt t p (middle t a .key) b) (mapOne t)
+  cut-phase = rw cut-same at (stage-phase 2 27 t₂ (cutOff t₂ a) (shiftInAt t p (middle t a .key) b) (mapOne t) (cut-stage t₂ p a fine₂) last-phase)
 
-  link-phase : Phase 31 t₁ (put (suc (nodeStart a)) b ∷ put (pointerWord a 5) 0 ∷ shiftInAt t p (middle t a .key) b) (mapOf t)
+  link-phase : Phase 31 t₁ (put (suc (nodeStart a)) b ∷ put (pointerWord a 5) 0 ∷ shiftInAt t p (middle t a .key) b) (mapOne t)
   unfolding apply
-  link-phase = stage-phase 2 29 t₁ (put (suc (nodeStart a)) b ∷ []) (put (pointerWord a 5) 0 ∷ shiftInAt t p (middle t a .key) b) (mapOf t) link-stage cut-phase
+  link-phase = stage-phase 2 29 t₁ (put (suc (nodeStart a)) b ∷ []) (put (pointerWord a 5) 0 ∷ shiftInAt t p (middle t a .key) b) (mapOne t) link-stage cut-phase
 
   -- Split: every first part of its stores leaves a sound table with the same map.
-  pub split-phase : Phase 67 t (splitInto t l k b) (mapOf t)
+  pub split-phase : Phase 67 t (splitInto t l k b) (mapOne t)
   unfolding split
-  split-phase = stage-phase 36 31 t (putAll (nodeStart b) (splitWords t a)) _ (mapOf t) write link-phase
+  split-phase = stage-phase 36 31 t (putAll (nodeStart b) (splitWords t a)) _ (mapOne t) write link-phase
 
   -- ---- what it leaves
 
@@ -310,7 +311,7 @@ module _ (t : Words) (k l : ℕ) (h : FullNode t k l) (b : ℕ) (f : Free t b) w
       ap (λ (x : Words). reached (view x)) same-done ∙ ap reached (attach-seen t₃ p a fine₃) ∙ attach-settles (view t₃) p a (fine₃ .left) .reached
       ∙ ap reached (cut-seen t₂ p a fine₂) ∙ cut-keeps (view t₂) p a (fine₂ .left) .reached ∙ ap reached seen₂ ∙ linked .reached ∙ ap (splice a b) (stays .reached)
 
-  pub split-settled : settled (apply (splitInto t l k b) t) ≡ true
+  pub split-settled : settledOne (apply (splitInto t l k b) t) ≡ true
   split-settled = split-phase .settles
 
   orderly-w : Orderly w
@@ -318,9 +319,6 @@ module _ (t : Words) (k l : ℕ) (h : FullNode t k l) (b : ℕ) (f : Free t b) w
 
   pub split-height : height (view (apply (splitInto t l k b) t)) ≡ height (view t)
   split-height = ap height seen ∙ stays-height t b s f _ t₁ stays
-
-  pub split-nodes : nodes (apply (splitInto t l k b) t) ≡ nodes t
-  split-nodes = ap (λ (x : View). x .nodes) seen ∙ same-nodes (stays .header)
 
   pub split-takes : length (reached (view (apply (splitInto t l k b) t))) ≡ suc (length (reached (view t)))
   split-takes = ap length reach ∙ length-splice a b (reached v) (once a (reached v) (settled-fine t s .left .orderly .once) (stands-a .reached))
@@ -331,15 +329,15 @@ module _ (t : Words) (k l : ℕ) (h : FullNode t k l) (b : ℕ) (f : Free t b) w
       let y = free-other t b s f n (c .reached) in
       stands-same v w k d n orderly-w (rw reach (mem-splice a b n (reached v) (c .reached))) (level-same n y) (fence-same n y) (sibling-same n z y) (fence-same (v .node n .sibling) (free-sibling t b s f n (c .reached))) c
 
-  pub split-standing : (d : ℕ) → d ≤ height (view t) → d ≢ l → standing (apply (splitInto t l k b) t) d k ≡ standing t d k
+  pub split-standing : (d : ℕ) → d ≤ height (view t) → d ≢ l → standingOne (apply (splitInto t l k b) t) d k ≡ standingOne t d k
   split-standing d g z =
       let c = standing-stands t s k d g in
-      standing-is done split-settled k d (standing t d k) (others-stand d (standing t d k) (λ e. z (sym (c .covers .at .level) ∙ ap (levelOf v) e ∙ stands-a .covers .at .level)) c)
+      standing-is done split-settled k d (standingOne t d k) (others-stand d (standingOne t d k) (λ e. z (sym (c .covers .at .level) ∙ ap (levelOf v) e ∙ stands-a .covers .at .level)) c)
 
   -- and below them show what they showed
-  pub split-shown : (d : ℕ) → d < l → nodeView (apply (splitInto t l k b) t) (standing t d k) .shown ≡ nodeView t (standing t d k) .shown
+  pub split-shown : (d : ℕ) → d < l → nodeView (apply (splitInto t l k b) t) (standingOne t d k) .shown ≡ nodeView t (standingOne t d k) .shown
   split-shown d g =
-      let n = standing t d k in
+      let n = standingOne t d k in
       let c = standing-stands t s k d (omega (arith, h .high)) in
       let y : n ≡ a → ⊥ = λ e. omega (arith, c .covers .at .level, ap (levelOf v) e, stands-a .covers .at .level) in
       let z : n ≡ p → ⊥ = λ e. omega (arith, c .covers .at .level, ap (levelOf v) e, stands-p .covers .at .level) in
@@ -370,9 +368,9 @@ module _ (t : Words) (k l : ℕ) (h : FullNode t k l) (b : ℕ) (f : Free t b) w
       stands w k l b orderly-w (rw reach (splice-in a b (reached v) o)) (ap (λ (x : View). x .node b .level) seen ∙ level-eq new ∙ stands-a .covers .at .level) (rw fence-b g)
       (rw (e, fence-same (v .node a .sibling) (free-sibling t b s f a (stands-a .reached))) (stands-a .covers .inside))
 
-  pub split-room : length (nodeView (apply (splitInto t l k b) t) (standing (apply (splitInto t l k b) t) l k) .shown) ≤ 6
+  pub split-room : length (nodeView (apply (splitInto t l k b) t) (standingOne (apply (splitInto t l k b) t) l k) .shown) ≤ 6
   split-room = go (ltb k (middle t a .key)) refl
     where
-      go : (c : Bool) → ltb k (middle t a .key) ≡ c → length (w .node (standing done l k) .shown) ≤ 6
+      go : (c : Bool) → ltb k (middle t a .key) ≡ c → length (w .node (standingOne done l k) .shown) ≤ 6
       go true c = rw (standing-is done split-settled k l a (a-stands (ltb-true _ _ c)), shown-a, low-length) (omega arith)
       go false c = rw (standing-is done split-settled k l b (b-stands (ltb-false _ _ c)), shown-b) few

@@ -11,9 +11,8 @@ use lib.Seq.{take-all, take-length}
 use borrow.Author.Tests.{ltb-true, ltb-false}
 use Rattle.model.specs.Table.{Words}
 use Rattle.model.specs.Slots.{Slot}
-use Rattle.model.specs.Reached.{mapOf}
-use Rattle.model.specs.SoundTest.{settled, sound}
 use Rattle.model.specs.Orders.{Store, apply, orders}
+use Rattle.tree_laws.specs.OneTree.{settledOne, soundOne, mapOne}
 use Rattle.list_laws.proofs.Tools.{Each-append}
 use Rattle.list_laws.proofs.Steps.{Until, AtFirst, first-start}
 use Rattle.word_laws.proofs.Stores.{doStore, before-whole, after-whole, between-first, after-first}
@@ -25,14 +24,14 @@ use Rattle.step_laws.proofs.Phase.{Phase}
 
 -- a sound table, a settled table, whose map is m
 abbrev pub SoundWith : List Slot → Words → Type 0
-SoundWith m t = (sound t ≡ true) × (mapOf t ≡ m)
+SoundWith m t = (soundOne t ≡ true) × (mapOne t ≡ m)
 
 abbrev pub SettledWith : List Slot → Words → Type 0
-SettledWith m t = (settled t ≡ true) × (mapOf t ≡ m)
+SettledWith m t = (settledOne t ≡ true) × (mapOne t ≡ m)
 
 -- in at most b orders, each first part of the stores leaves a sound table with the map of t
 pub record Stage (b : ℕ) (t : Words) (ss : List Store) : Type 0 where
-  pub part : (j : ℕ) → SoundWith (mapOf t) (apply (take j ss) t)
+  pub part : (j : ℕ) → SoundWith (mapOne t) (apply (take j ss) t)
   pub few : length (orders ss) ≤ b
   pub inside : StoresInside (length t) ss
 
@@ -45,34 +44,34 @@ every-part P ss t f w j = go (ltb j (length ss)) refl
     go false e = rw (take-all j ss (ltb-false j (length ss) e)) w
 
 module _ (b : ℕ) (t : Words) (ss : List Store) (few : length (orders ss) ≤ b) (inside : StoresInside (length t) ss) where
-  pub stage-until : Until doStore (SoundWith (mapOf t)) (SoundWith (mapOf t)) ss t → Stage b t ss
+  pub stage-until : Until doStore (SoundWith (mapOne t)) (SoundWith (mapOne t)) ss t → Stage b t ss
   stage-until a =
-      let P : Words → Type 0 = SoundWith (mapOf t) in
+      let P : Words → Type 0 = SoundWith (mapOne t) in
       record { part = every-part P ss t (before-whole P P ss t a) (after-whole P P ss t a); few = few; inside = inside }
 
   module _ (m : List Slot) where
     -- each first part but the whole is sound with one of the two maps, and the whole settled with m
-    phase-parts : ((j : ℕ) → j < length ss → (sound (apply (take j ss) t) ≡ true) × ((mapOf (apply (take j ss) t) ≡ mapOf t) ⊎ (mapOf (apply (take j ss) t) ≡ m))) → SettledWith m (apply ss t) → Phase b t ss m
+    phase-parts : ((j : ℕ) → j < length ss → (soundOne (apply (take j ss) t) ≡ true) × ((mapOne (apply (take j ss) t) ≡ mapOne t) ⊎ (mapOne (apply (take j ss) t) ≡ m))) → SettledWith m (apply ss t) → Phase b t ss m
     phase-parts f w =
-        let P : Words → Type 0 = λ (u : Words). (sound u ≡ true) × ((mapOf u ≡ mapOf t) ⊎ (mapOf u ≡ m)) in
+        let P : Words → Type 0 = λ (u : Words). (soundOne u ≡ true) × ((mapOne u ≡ mapOne t) ⊎ (mapOne u ≡ m)) in
         let part = every-part P ss t f (settled-sound (apply ss t) (w .0), inr (w .1)) in
         record { part-sound = λ j. part j .0; part-map = λ j. part j .1; settles = w .0; maps = w .1; few = few; inside = inside }
 
     -- the last store makes the change
-    pub phase-until : Until doStore (SoundWith (mapOf t)) (SettledWith m) ss t → Phase b t ss m
+    pub phase-until : Until doStore (SoundWith (mapOne t)) (SettledWith m) ss t → Phase b t ss m
     phase-until a =
-        let P : Words → Type 0 = SoundWith (mapOf t) in
+        let P : Words → Type 0 = SoundWith (mapOne t) in
         phase-parts (λ j h. let u = before-whole P (SettledWith m) ss t a j h in (u .0, inl (u .1))) (after-whole P (SettledWith m) ss t a)
 
     -- the first store makes it
-    pub phase-first : AtFirst doStore (SoundWith (mapOf t)) (SoundWith m) (SettledWith m) ss t → 0 < length ss → Phase b t ss m
+    pub phase-first : AtFirst doStore (SoundWith (mapOne t)) (SoundWith m) (SettledWith m) ss t → 0 < length ss → Phase b t ss m
     phase-first a some =
-        let P : Words → Type 0 = SoundWith (mapOf t) in
+        let P : Words → Type 0 = SoundWith (mapOne t) in
         let Q : Words → Type 0 = SoundWith m in
         phase-parts (λ j h. go j h (first-start doStore P Q (SettledWith m) ss t a) (between-first P Q (SettledWith m) ss t a)) (after-first P Q (SettledWith m) ss t a some)
       where
-        go : (j : ℕ) → j < length ss → SoundWith (mapOf t) t → ((i : ℕ) → 0 < i → i < length ss → SoundWith m (apply (take i ss) t))
-            → (sound (apply (take j ss) t) ≡ true) × ((mapOf (apply (take j ss) t) ≡ mapOf t) ⊎ (mapOf (apply (take j ss) t) ≡ m))
+        go : (j : ℕ) → j < length ss → SoundWith (mapOne t) t → ((i : ℕ) → 0 < i → i < length ss → SoundWith m (apply (take i ss) t))
+            → (soundOne (apply (take j ss) t) ≡ true) × ((mapOne (apply (take j ss) t) ≡ mapOne t) ⊎ (mapOne (apply (take j ss) t) ≡ m))
         go zero h s f = unfold apply in (s .0, inl (s .1))
         go (suc i) h s f = let u = f (suc i) (omega arith) h in (u .0, inr (u .1))
 
@@ -80,7 +79,7 @@ module _ (b : ℕ) (t : Words) (ss : List Store) (few : length (orders ss) ≤ b
 pub phase-within : (b c : ℕ) (t : Words) (ss : List Store) (m : List Slot) → b ≤ c → Phase b t ss m → Phase c t ss m
 phase-within b c t ss m h f = record { part-sound = f .part-sound; part-map = f .part-map; settles = f .settles; maps = f .maps; few = omega (arith, f .few); inside = f .inside }
 
-pub stage-whole : (b : ℕ) (t : Words) (ss : List Store) → Stage b t ss → SoundWith (mapOf t) (apply ss t)
+pub stage-whole : (b : ℕ) (t : Words) (ss : List Store) → Stage b t ss → SoundWith (mapOne t) (apply ss t)
 stage-whole b t ss f = rw take-length at (f .part (length ss))
 
 -- a stage, then a phase
@@ -88,8 +87,8 @@ pub stage-phase : (b c : ℕ) (t : Words) (ss us : List Store) (m : List Slot) �
 stage-phase b c t ss us m f g =
     let s = stage-whole b t ss f in
     record {
-      part-sound = always-append (λ (u : Words). sound u ≡ true) ss us t (λ j. f .part j .0) (g .part-sound);
-      part-map = always-append (λ (u : Words). (mapOf u ≡ mapOf t) ⊎ (mapOf u ≡ m)) ss us t (λ j. inl (f .part j .1)) (λ j. ⊎-map (λ e. e ∙ s .1) (λ e. e) (g .part-map j));
+      part-sound = always-append (λ (u : Words). soundOne u ≡ true) ss us t (λ j. f .part j .0) (g .part-sound);
+      part-map = always-append (λ (u : Words). (mapOne u ≡ mapOne t) ⊎ (mapOne u ≡ m)) ss us t (λ j. inl (f .part j .1)) (λ j. ⊎-map (λ e. e ∙ s .1) (λ e. e) (g .part-map j));
       settles = rw (apply-append ss us t) (g .settles);
       maps = rw (apply-append ss us t) (g .maps);
       few = omega (arith, length-orders-append ss us, f .few, g .few);

@@ -9,8 +9,8 @@ use Rattle.model.specs.Table.{Words, root}
 use Rattle.model.specs.Slots.{NodeView, View, nodeView, view, height}
 use Rattle.model.specs.Search.{below, within}
 use Rattle.model.specs.Reached.{reached}
-use Rattle.model.specs.SoundTest.{settled}
-use Rattle.model.specs.Writes.{standing}
+use Rattle.model.specs.Writes.{standingIn}
+use Rattle.tree_laws.specs.OneTree.{settledOne, standingOne}
 use Rattle.view_laws.proofs.NodeViews.{levelOf, fence-eq, level-eq, sibling-eq}
 use Rattle.list_laws.proofs.Members.{each-mem}
 use Rattle.word_laws.proofs.Frames.{same-root}
@@ -25,7 +25,7 @@ use Rattle.step_laws.proofs.WholeNode.{Stays}
 
 -- ---- of one table
 
-module _ (t : Words) (s : settled t ≡ true) where
+module _ (t : Words) (s : settledOne t ≡ true) where
   o : Orderly (view t)
   o = settled-fine t s .left .orderly
 
@@ -33,16 +33,16 @@ module _ (t : Words) (s : settled t ≡ true) where
   root-reached = rw (reached-children (view t) o) (List·Memᴰ·head refl)
 
   module _ (k : ℕ) where
-    pub standing-stands : (d : ℕ) → d ≤ height (view t) → Stands (view t) k d (standing t d k)
-    unfolding standing
+    pub standing-stands : (d : ℕ) → d ≤ height (view t) → Stands (view t) k d (standingOne t d k)
+    unfolding standingIn
     standing-stands d h = path-stands (view t) k d o h
 
-    pub standing-parent : (d : ℕ) → d < height (view t) → Parent (view t) (standing t d k) (standing t (suc d) k)
-    unfolding standing
+    pub standing-parent : (d : ℕ) → d < height (view t) → Parent (view t) (standingOne t d k) (standingOne t (suc d) k)
+    unfolding standingIn
     standing-parent d h = path-parent (view t) k d o h
 
     -- only one node of a level stands for k
-    pub standing-is : (d n : ℕ) → Stands (view t) k d n → standing t d k ≡ n
+    pub standing-is : (d n : ℕ) → Stands (view t) k d n → standingOne t d k ≡ n
     standing-is d n c =
         let v = view t in
         let l = c .covers .at .level in
@@ -68,7 +68,7 @@ stands-same v w k d n o m l f b g c = stands w k d n o m (l ∙ c .covers .at .l
     (ap (λ (x : ℕ). eqb x 0 || ltb k (w .node x .fence)) b ∙ ap (λ (x : ℕ). eqb (v .node n .sibling) 0 || ltb k x) g ∙ c .covers .inside)
 
 -- what a free node holds does not matter
-module _ (t : Words) (b : ℕ) (s : settled t ≡ true) (f : Free t b) (x : NodeView) (t′ : Words) (u : Stays t b x t′) where
+module _ (t : Words) (b : ℕ) (s : settledOne t ≡ true) (f : Free t b) (x : NodeView) (t′ : Words) (u : Stays t b x t′) where
   pub stays-height : height (view t′) ≡ height (view t)
   stays-height = ap (levelOf (view t′)) (same-root (u .header)) ∙ level-eq (u .node .else (root t) (free-other t b s f (root t) (root-reached t s)))
 

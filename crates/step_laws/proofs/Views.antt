@@ -7,8 +7,9 @@ use Prim.Native.Nat.{ℕ, zero, suc, _≤_}
 use native.Mathlib.Omega.{arith}
 use Rattle.model.specs.Table.{Words, headerOk, hasNode, node}
 use Rattle.model.specs.Slots.{Slot, View, nodeView, view, height}
-use Rattle.model.specs.Reached.{reached, mapping, mapOf}
-use Rattle.model.specs.SoundTest.{Leftover, nothing, hasRoom, settled, sound}
+use Rattle.model.specs.Reached.{reached, mapping}
+use Rattle.model.specs.SoundTest.{Leftover, nothing, hasRoom}
+use Rattle.tree_laws.specs.OneTree.{settledOne, soundOne, mapOne}
 use Rattle.list_laws.proofs.Members.{each-mem}
 use Rattle.table_laws.proofs.Nodes.{has-node-range}
 use Rattle.word_laws.proofs.Frames.{same-ok, same-root, same-nodes}
@@ -44,19 +45,19 @@ pub record Fine (t : Words) (y : Leftover) : Type 0 where
   pub left : HasLeft (view t) y
   pub room : hasRoom (view t) y ≡ true
 
-pub fine-sound : (t : Words) (y : Leftover) → Fine t y → sound t ≡ true
+pub fine-sound : (t : Words) (y : Leftover) → Fine t y → soundOne t ≡ true
 fine-sound t y f = sound-parts t .1 (f .header, sound-left (view t) .1 (y, f .left, f .room))
 
-pub sound-fine : (t : Words) → sound t ≡ true → (y : Leftover) × Fine t y
+pub sound-fine : (t : Words) → soundOne t ≡ true → (y : Leftover) × Fine t y
 sound-fine t s =
     let u = sound-parts t .0 s in
     let w = sound-left (view t) .0 (u .1) in
     (w .0, record { header = u .0; left = w .1; room = w .2 })
 
-pub fine-settled : (t : Words) → Fine t nothing → settled t ≡ true
+pub fine-settled : (t : Words) → Fine t nothing → settledOne t ≡ true
 fine-settled t f = settled-parts t .1 (f .header, settled-left (view t) .1 (f .left))
 
-pub settled-fine : (t : Words) → settled t ≡ true → Fine t nothing
+pub settled-fine : (t : Words) → settledOne t ≡ true → Fine t nothing
 settled-fine t s = let u = settled-parts t .0 s in record { header = u .0; left = settled-left (view t) .0 (u .1); room = refl }
 
 -- ---- a table t′ whose view is w, where t has a right header
@@ -68,8 +69,8 @@ module _ (t t′ : Words) (w : View) (e : view t′ ≡ w) (q : headerOk t′ �
   pub view-sound : (y : Leftover) → HasLeft w y → hasRoom w y ≡ true → (m : List Slot) → mapping w ≡ m → SoundWith m t′
   view-sound y l r m g = (fine-sound t′ y (view-fine y l r), ap mapping e ∙ g)
 
-  pub view-keeps : (y : Leftover) → Keeps (view t) w y → hasRoom (view t) y ≡ true → SoundWith (mapOf t) t′
-  view-keeps y k r = view-sound y (k .left) (k .room r) (mapOf t) (k .mapping)
+  pub view-keeps : (y : Leftover) → Keeps (view t) w y → hasRoom (view t) y ≡ true → SoundWith (mapOne t) t′
+  view-keeps y k r = view-sound y (k .left) (k .room r) (mapOne t) (k .mapping)
 
   pub view-settles : (m : List Slot) → Settles (view t) w m → SettledWith m t′
   view-settles m s = (fine-settled t′ (view-fine nothing (s .left) refl), ap mapping e ∙ s .mapping)
@@ -79,15 +80,15 @@ pub keeps-settles : (v w : View) → Keeps v w nothing → Settles v w (mapping 
 keeps-settles v w k = record { left = k .left; mapping = k .mapping; reached = k .reached }
 
 -- nothing that is seen has changed
-pub view-same : (t t′ : Words) (y : Leftover) → Fine t y → view t′ ≡ view t → headerOk t′ ≡ headerOk t → SoundWith (mapOf t) t′
-view-same t t′ y f e q = view-sound t t′ (view t) e q (f .header) y (f .left) (f .room) (mapOf t) refl
+pub view-same : (t t′ : Words) (y : Leftover) → Fine t y → view t′ ≡ view t → headerOk t′ ≡ headerOk t → SoundWith (mapOne t) t′
+view-same t t′ y f e q = view-sound t t′ (view t) e q (f .header) y (f .left) (f .room) (mapOne t) refl
 
 -- a node of t shows what it showed and hides one slot at most: t has y left, or y′ with that slot
 pub may-hide : (t : Words) (x : ℕ) (y y′ : Leftover) → Fine t y → nodeView t x .hidden ≡ 0 → Keeps (view t) (withHidden (view t) x 1) y′ → hasRoom (view t) y′ ≡ true
-    → (t′ : Words) → (h : ℕ) × (h ≤ 1) × Changed t x (nodeView t x .shown) h t′ → SoundWith (mapOf t) t′
+    → (t′ : Words) → (h : ℕ) × (h ≤ 1) × Changed t x (nodeView t x .shown) h t′ → SoundWith (mapOne t) t′
 may-hide t x y y′ f z k r t′ u = go (u .0) (u .1) (u .2)
   where
-    go : (h : ℕ) → h ≤ 1 → Changed t x (nodeView t x .shown) h t′ → SoundWith (mapOf t) t′
+    go : (h : ℕ) → h ≤ 1 → Changed t x (nodeView t x .shown) h t′ → SoundWith (mapOne t) t′
     go zero q c = view-same t t′ y f (same-view t x (nodeView t x .shown) 0 t′ c refl z) (same-ok (c .header))
     go (suc zero) q c = view-keeps t t′ (withHidden (view t) x 1) (hidden-view t x (nodeView t x .shown) 1 t′ c refl) (same-ok (c .header)) (f .header) y′ k r
     go (suc (suc h)) q c = absurd (omega arith)

@@ -7,10 +7,11 @@ use native.Mathlib.Omega.{arith}
 use lib.ListN.{length}
 use Rattle.model.specs.Table.{Words, line, nodeStart}
 use Rattle.model.specs.Slots.{Slot, NodeView, nodeView, view}
-use Rattle.model.specs.Reached.{reached, mapOf}
-use Rattle.model.specs.SoundTest.{nothing, settled}
+use Rattle.model.specs.Reached.{reached}
+use Rattle.model.specs.SoundTest.{nothing}
 use Rattle.model.specs.Orders.{Store, put, apply, orders}
 use Rattle.model.specs.Writes.{putAll, nodeWords}
+use Rattle.tree_laws.specs.OneTree.{settledOne, mapOne}
 use Rattle.list_laws.proofs.Tools.{Each}
 use Rattle.view_laws.proofs.NodeViews.{ButAt, newNode}
 use Rattle.list_laws.proofs.Steps.{until-map}
@@ -66,13 +67,13 @@ put-all-few b (x ∷ ws) e =
 -- t′ is t but that the free node b is n
 pub record Stays (t : Words) (b : ℕ) (n : NodeView) (t′ : Words) : Type 0 where
   pub fine : Fine t′ nothing
-  pub mapping : mapOf t′ ≡ mapOf t
+  pub mapping : mapOne t′ ≡ mapOne t
   pub reached : reached (view t′) ≡ reached (view t)
   pub header : SameHeader t t′
   pub node : ButAt (nodeView t) (nodeView t′) b n
 
 -- Whatever a free node holds, the table is settled, with the same map and the same nodes reached.
-pub free-stays : (t : Words) (b : ℕ) → settled t ≡ true → Free t b → (t′ : Words) → Elsewhere b t t′ → Stays t b (nodeView t′ b) t′
+pub free-stays : (t : Words) (b : ℕ) → settledOne t ≡ true → Free t b → (t′ : Words) → Elsewhere b t t′ → Stays t b (nodeView t′ b) t′
 free-stays t b s f t′ o =
     let h = else-header t t′ b o in
     let e = view-else t t′ b o (has-node-iff t b .0 (f .there) .0) in
@@ -87,7 +88,7 @@ free-stays t b s f t′ o =
 
 -- ---- the stores
 
-module _ (t : Words) (b left sibling level fence : ℕ) (ss : List Slot) (s : settled t ≡ true) (f : Free t b) where
+module _ (t : Words) (b left sibling level fence : ℕ) (ss : List Slot) (s : settledOne t ≡ true) (f : Free t b) where
   abbrev words : Words
   words = nodeWords left sibling level fence ss
 
@@ -97,12 +98,12 @@ module _ (t : Words) (b left sibling level fence : ℕ) (ss : List Slot) (s : se
   inside : StoresInside (length t) (putAll (nodeStart b) words)
   inside = put-all-inside (length t) (nodeStart b) words (unfold nodeStart in omega (arith, long, has-node-iff t b .0 (f .there)))
 
-  still : (t′ : Words) → Elsewhere b t t′ → SoundWith (mapOf t) t′
+  still : (t′ : Words) → Elsewhere b t t′ → SoundWith (mapOne t) t′
   still t′ o = let u = free-stays t b s f t′ o in (fine-sound t′ nothing (u .fine), u .mapping)
 
   pub whole-stage : Stage 36 t (putAll (nodeStart b) (nodeWords left sibling level fence ss))
   whole-stage = stage-until 36 t (putAll (nodeStart b) words) (put-all-few b words long) inside
-      (until-map doStore (Elsewhere b t) (SoundWith (mapOf t)) (Elsewhere b t) (SoundWith (mapOf t)) still still (putAll (nodeStart b) words) t (put-all-along t b words (omega (arith, long))))
+      (until-map doStore (Elsewhere b t) (SoundWith (mapOne t)) (Elsewhere b t) (SoundWith (mapOne t)) still still (putAll (nodeStart b) words) t (put-all-along t b words (omega (arith, long))))
 
   pub whole-stays : AllShown left ss → length ss ≤ 11
       → Stays t b (newNode left sibling level fence ss) (apply (putAll (nodeStart b) (nodeWords left sibling level fence ss)) t)

@@ -24,7 +24,7 @@ pub empty-header : (n : ℕ) → 1 ≤ n → n ≤ 65535 → headerOk (empty n) 
 unfolding empty allZero tableLength
 empty-header n l u =
     header-iff (empty n) .1
-    (record { size = record { long = length-empty n l; some = l; few = u }; first = refl; zeros = part-zero-iff (empty n) 3 5 .0 refl; root-some = omega arith; root-in = l })
+    (record { size = record { long = length-empty n l; some = l; few = u }; first = refl; zeros = part-zero-iff (empty n) 4 4 .0 refl; root-some = omega arith; root-in = l; two = λ z. absurd (z refl) })
 
 -- Every word after left of node 1 is 0.
 drop-nine : (n a : ℕ) → drop (9 + a) (empty n) ≡ replicate (32 * n - 1 - a) 0

@@ -1,34 +1,29 @@
 -- The state of the loop against the definition.
 use mathlib.Core.Path.{_≡_, refl, ap, sym, subst, _∙_}
 use mathlib.Core.Bool.{Bool, true, false, not, _&&_, cond}
-use mathlib.Core.Logic.{_≢_, _⊎_, inl, inr, ⊎-elim}
-use mathlib.Core.List.{List, [], _∷_, _++_, append-assoc, append-nil}
+use mathlib.Core.Logic.{_⊎_, ⊎-elim}
+use mathlib.Core.List.{List, [], _∷_, _++_, append-nil}
 use Prim.Native.Nat.{ℕ, zero, suc, _+_, _-_, _*_, _≤_, _<_}
 use native.Mathlib.Omega.{arith}
 use lib.Dec.{eqb, leb}
-use lib.ListN.{length, getD, set, take, length-set}
-use lib.Seq.{getD-set-same, getD-set-other, take-suc}
+use lib.ListN.{length, getD, set, take, length-set, length-append}
+use lib.Seq.{getD-set-same, getD-set-other, take-suc-set, length-take-le}
 use borrow.Author.Tests.{eq-eqb, ne-eqb}
-use Rattle.model.specs.Table.{Words, inRange, nodes, root}
-use Rattle.model.specs.Slots.{nodeView, view, height}
+use Rattle.model.specs.Table.{Words, inRange, nodes}
+use Rattle.model.specs.Slots.{nodeView}
 use Rattle.model.specs.Reached.{flat}
 use Rattle.model.specs.SoundTest.{elem}
 use Rattle.list_laws.proofs.Tools.{leb-iff, same-or-not, refuted}
 use Rattle.list_laws.proofs.Distinct.{pigeonhole}
-use Rattle.model.specs.Salvage.{Meeting, meet, meetings}
-use Rattle.model.specs.Salvage.{mayEnter, entered}
+use Rattle.model.specs.Salvage.{Meeting, meet, meetings, mayEnter, start, enteredFrom}
+use Rattle.bits.specs.Bits.{has, put}
+use Rattle.bits.proofs.Marks.{has-put-same, has-put-other}
 use Rattle.tour_laws.specs.Walk.{waysFrom, Frame, frame, todoOf}
-use Rattle.tour_laws.specs.Visits.{onto}
 use Rattle.tour_laws.proofs.Steps.{may-iff}
-use Rattle.tour_laws.proofs.Ends.{Numbers, no-numbers, more-numbers}
-use Rattle.tour_laws.proofs.Remaining.{remaining, remaining-none, remaining-yes, remaining-no, remaining-start}
+use Rattle.tour_laws.proofs.Ends.{Numbers}
+use Rattle.tour_laws.proofs.Remaining.{remaining, remaining-none, remaining-no, remaining-start, remaining-enter, more-last, elem-last}
 use Rattle.tour.specs.declared.Sight.{Sight}
-use Rattle.tour.specs.Loop.{Looked, unmarked}
-
--- the nodes in the first words, the last first
-unfoldable pub nodesTo : Words → ℕ → List ℕ
-nodesTo ws zero = []
-nodesTo ws (suc c) = getD ws c 0 ∷ nodesTo ws c
+use Rattle.tour.specs.Loop.{Looked, Marked, unmarked}
 
 -- the stack, the top first
 unfoldable pub framesTo : Words → Words → ℕ → List Frame
@@ -44,11 +39,30 @@ toGo ws (suc d) = suc (14 - getD ws d 0) + toGo ws d
 unfoldable pub measure : Words → Words → ℕ → ℕ → ℕ
 measure t ws count depth = 15 * (nodes t - count) + toGo ws depth
 
-pub record Going (t ms st ws os : Words) (count depth : ℕ) : Type 0 where
-  pub rest : onto (remaining t (todoOf t (framesTo st ws depth)) (nodesTo os count)) (nodesTo os count) ≡ onto (entered t) []
-  pub numbers : Numbers t (nodesTo os count)
+-- whole are the nodes entered in the end, those from before with them
+pub record Going (t : Words) (whole : List ℕ) (ms st ws os : Words) (count depth : ℕ) : Type 0 where
+  pub rest : take count os ++ remaining t (todoOf t (framesTo st ws depth)) (take count os) ≡ whole
+  pub numbers : Numbers t (take count os)
+  pub inside : count ≤ length os
   pub deep : depth ≤ count
-  pub marked : (n : ℕ) → inRange (nodes t) n ≡ true → eqb (getD ms n 0) 0 ≡ not (elem n (nodesTo os count))
+  pub marked : Marked t ms (take count os)
+
+-- ---- marks
+
+pub same-may : (t ms : Words) (es : List ℕ) (i l : ℕ) → Marked t ms es → unmarked t ms i l ≡ mayEnter t (meet i l) es
+unfolding unmarked mayEnter
+same-may t ms es i l m = go (inRange (nodes t) i) refl
+  where
+    go : (b : Bool) → inRange (nodes t) i ≡ b → (b && (eqb (nodeView t i .level) l && not (has ms i))) ≡ (b && (eqb (nodeView t i .level) l && not (elem i es)))
+    go true c = ap (λ (y : Bool). eqb (nodeView t i .level) l && not y) (m i c)
+    go false c = refl
+
+-- one mark more
+marked-last : (t ms : Words) (es : List ℕ) (i : ℕ) → i < 64 * length ms → Marked t ms es → Marked t (put ms i) (es ++ i ∷ [])
+unfolding elem
+marked-last t ms es i l m n h =
+    let same : has (put ms i) n ≡ elem n (i ∷ es) = ⊎-elim (λ e. let q = ap (has (put ms i)) e ∙ has-put-same ms i l in rw (q, eq-eqb n i e)) (λ e. rw (has-put-other ms i n l e, ne-eqb n i e) (m n h)) (same-or-not n i) in
+    same ∙ sym (elem-last n i es)
 
 -- ---- words set past the part in use
 
@@ -62,20 +76,10 @@ unfolding framesTo
 frames-stack st ws zero i x h = refl
 frames-stack st ws (suc d) i x h = rw (getD-set-other st i d x 0 (λ z. omega arith)) (ap (λ (l : List Frame). frame (getD st d 0) (getD ws d 0) ∷ l) (frames-stack st ws d i x (omega arith)))
 
-nodes-set : (os : Words) (c i x : ℕ) → c ≤ i → nodesTo (set os i x) c ≡ nodesTo os c
-unfolding nodesTo
-nodes-set os zero i x h = refl
-nodes-set os (suc c) i x h = rw (getD-set-other os i c x 0 (λ z. omega arith)) (ap (λ (l : List ℕ). getD os c 0 ∷ l) (nodes-set os c i x (omega arith)))
-
 go-set : (ws : Words) (d i x : ℕ) → d ≤ i → toGo (set ws i x) d ≡ toGo ws d
 unfolding toGo
 go-set ws zero i x h = refl
 go-set ws (suc d) i x h = rw (getD-set-other ws i d x 0 (λ z. omega arith)) (ap (λ (m : ℕ). suc (14 - getD ws d 0) + m) (go-set ws d i x (omega arith)))
-
-pub nodes-length : (os : Words) (c : ℕ) → length (nodesTo os c) ≡ c
-unfolding nodesTo
-nodes-length os zero = refl
-nodes-length os (suc c) = ap suc (nodes-length os c)
 
 -- the top's next way is set
 top-set : (st ws : Words) (d z : ℕ) → d < length ws → framesTo st (set ws d z) (suc d) ≡ frame (getD st d 0) z ∷ framesTo st ws d
@@ -87,9 +91,9 @@ unfolding waysFrom
 ways-over t n zero h = absurd (omega arith)
 ways-over t n (suc j) h = rw (refuted (leb j 12) (λ e. let u = leb-iff j 12 .0 e in omega arith), waysFrom)
 
-module _ (t ms st ws os : Words) (count d : ℕ) (s : Going t ms st ws os count (suc d)) where
+module _ (t : Words) (whole : List ℕ) (ms st ws os : Words) (count d : ℕ) (s : Going t whole ms st ws os count (suc d)) where
   abbrev es : List ℕ
-  es = nodesTo os count
+  es = take count os
 
   abbrev later : List Meeting
   later = todoOf t (framesTo st ws d)
@@ -99,13 +103,14 @@ module _ (t ms st ws os : Words) (count d : ℕ) (s : Going t ms st ws os count 
   opened = refl
 
   pub few : count ≤ nodes t
-  few = omega (arith, nodes-length os count, pigeonhole (nodes t) es (s .numbers .apart) (s .numbers .range))
+  few = omega (arith, length-take-le count os (s .inside), pigeonhole (nodes t) es (s .numbers .apart) (s .numbers .range))
 
   -- the top is done
-  pub going-pop : 13 < getD ws d 0 → Going t ms st ws os count d
+  pub going-pop : 13 < getD ws d 0 → Going t whole ms st ws os count d
   going-pop h = record {
-    rest = ap (λ (l : List Meeting). onto (remaining t l es) es) (sym (opened ∙ ap (λ (l : List Meeting). l ++ later) (ways-over t (getD st d 0) (getD ws d 0) h))) ∙ s .rest;
+    rest = ap (λ (l : List Meeting). es ++ remaining t l es) (sym (opened ∙ ap (λ (l : List Meeting). l ++ later) (ways-over t (getD st d 0) (getD ws d 0) h))) ∙ s .rest;
     numbers = s .numbers;
+    inside = s .inside;
     deep = omega (arith, s .deep);
     marked = s .marked;
   }
@@ -124,11 +129,12 @@ module _ (t ms st ws os : Words) (count d : ℕ) (s : Going t ms st ws os count 
     less-pass = let e = getD-set-same ws d (r .way) 0 lw in let q = go-set ws d d (r .way) (omega arith) in omega (arith, e, q, k .1, k .2)
 
     -- nothing was met
-    pub going-on : r .meets ≡ false → Going t ms st (set ws d (r .way)) os count (suc d)
+    pub going-on : r .meets ≡ false → Going t whole ms st (set ws d (r .way)) os count (suc d)
     going-on m = record {
-      rest = ap (λ (l : List Meeting). onto (remaining t l es) es)
+      rest = ap (λ (l : List Meeting). es ++ remaining t l es)
           (set-todo ∙ sym (opened ∙ ap (λ (l : List Meeting). l ++ later) (k .0 ∙ ap (λ (b : Bool). cond b (meet (r .node) (r .level) ∷ []) [] ++ waysFrom t (getD st d 0) (r .way)) m))) ∙ s .rest;
       numbers = s .numbers;
+      inside = s .inside;
       deep = s .deep;
       marked = s .marked;
     }
@@ -140,42 +146,37 @@ module _ (t ms st ws os : Words) (count d : ℕ) (s : Going t ms st ws os count 
       met : todoOf t (framesTo st ws (suc d)) ≡ x ∷ (waysFrom t (getD st d 0) (r .way) ++ later)
       met = opened ∙ ap (λ (l : List Meeting). l ++ later) (k .0 ∙ ap (λ (b : Bool). cond b (meet (r .node) (r .level) ∷ []) [] ++ waysFrom t (getD st d 0) (r .way)) m)
 
-      same-may : unmarked t ms (r .node) (r .level) ≡ mayEnter t x es
-      unfolding unmarked mayEnter
-      same-may = go (inRange (nodes t) (r .node)) refl
-        where
-          go : (b : Bool) → inRange (nodes t) (r .node) ≡ b → (b && (eqb (nodeView t (r .node) .level) (r .level) && eqb (getD ms (r .node) 0) 0)) ≡ (b && (eqb (nodeView t (r .node) .level) (r .level) && not (elem (r .node) es)))
-          go true c = ap (λ (y : Bool). eqb (nodeView t (r .node) .level) (r .level) && y) (s .marked (r .node) c)
-          go false c = refl
+      same : unmarked t ms (r .node) (r .level) ≡ mayEnter t x es
+      same = same-may t ms es (r .node) (r .level) (s .marked)
 
       -- it may not be entered
-      pub going-refused : unmarked t ms (r .node) (r .level) ≡ false → Going t ms st (set ws d (r .way)) os count (suc d)
+      pub going-refused : unmarked t ms (r .node) (r .level) ≡ false → Going t whole ms st (set ws d (r .way)) os count (suc d)
       going-refused c = record {
-        rest = ap (λ (l : List Meeting). onto (remaining t l es) es) set-todo
-            ∙ ap (λ (l : List ℕ). onto l es) (sym (ap (λ (l : List Meeting). remaining t l es) met ∙ remaining-no t x (waysFrom t (getD st d 0) (r .way) ++ later) es (sym same-may ∙ c)))
+        rest = ap (λ (l : List Meeting). es ++ remaining t l es) set-todo
+            ∙ ap (λ (l : List ℕ). es ++ l) (sym (ap (λ (l : List Meeting). remaining t l es) met ∙ remaining-no t x (waysFrom t (getD st d 0) (r .way) ++ later) es (sym same ∙ c)))
             ∙ s .rest;
         numbers = s .numbers;
+        inside = s .inside;
         deep = s .deep;
         marked = s .marked;
       }
 
       module _ (c : unmarked t ms (r .node) (r .level) ≡ true) where
         may : mayEnter t x es ≡ true
-        may = sym same-may ∙ c
+        may = sym same ∙ c
 
         pub in-range : inRange (nodes t) (r .node) ≡ true
         in-range = may-iff t x es .0 may .0
 
-        more : Numbers t (r .node ∷ es)
-        more = more-numbers t x es may (s .numbers)
+        more : Numbers t (es ++ r .node ∷ [])
+        more = more-last t x es may (s .numbers)
 
         pub room : count < nodes t
-        room = omega (arith, nodes-length os count, pigeonhole (nodes t) (r .node ∷ es) (more .apart) (more .range))
+        room = omega (arith, length-take-le count os (s .inside), length-append es (r .node ∷ []), pigeonhole (nodes t) (es ++ r .node ∷ []) (more .apart) (more .range))
 
-        module _ (lm : r .node < length ms) (ls : suc d < length st) (lv : suc d < length ws) (lo : count < length os) where
-          new-es : nodesTo (set os count (r .node)) (suc count) ≡ r .node ∷ es
-          unfolding nodesTo
-          new-es = rw (getD-set-same os count (r .node) 0 lo) (ap (λ (l : List ℕ). r .node ∷ l) (nodes-set os count count (r .node) (omega arith)))
+        module _ (lm : r .node < 64 * length ms) (ls : suc d < length st) (lv : suc d < length ws) (lo : count < length os) where
+          new-es : take (suc count) (set os count (r .node)) ≡ es ++ r .node ∷ []
+          new-es = take-suc-set os count (r .node) lo
 
           new-frames : framesTo (set st (suc d) (r .node)) (set (set ws d (r .way)) (suc d) 0) (suc (suc d)) ≡ frame (r .node) 0 ∷ frame (getD st d 0) (r .way) ∷ framesTo st ws d
           new-frames =
@@ -185,22 +186,19 @@ module _ (t ms st ws os : Words) (count d : ℕ) (s : Going t ms st ws os count 
               ∙ ap (λ (n : ℕ). frame n 0 ∷ framesTo (set st (suc d) (r .node)) v (suc d)) (getD-set-same st (suc d) (r .node) 0 ls)
               ∙ ap (λ (l : List Frame). frame (r .node) 0 ∷ l) (frames-stack st v (suc d) (suc d) (r .node) (omega arith) ∙ top-set st ws d (r .way) lw)
 
-          new-marks : (n : ℕ) → inRange (nodes t) n ≡ true → eqb (getD (set ms (r .node) 1) n 0) 0 ≡ not (elem n (r .node ∷ es))
-          unfolding elem
-          new-marks n h = ⊎-elim
-              (λ e. let q : getD (set ms (r .node) 1) n 0 ≡ 1 = ap (λ (y : ℕ). getD (set ms (r .node) 1) y 0) e ∙ getD-set-same ms (r .node) 1 0 lm in rw (q, eq-eqb n (r .node) e))
-              (λ e. rw (getD-set-other ms (r .node) n 1 0 (λ z. e z), ne-eqb n (r .node) e) (s .marked n h)) (same-or-not n (r .node))
-
           -- it is entered
-          pub going-enter : Going t (set ms (r .node) 1) (set st (suc d) (r .node)) (set (set ws d (r .way)) (suc d) 0) (set os count (r .node)) (suc count) (suc (suc d))
+          pub going-enter : Going t whole (put ms (r .node)) (set st (suc d) (r .node)) (set (set ws d (r .way)) (suc d) 0) (set os count (r .node)) (suc count) (suc (suc d))
+          unfolding todoOf flat waysFrom
           going-enter = record {
-            rest = ap (λ (l : List ℕ). onto (remaining t (todoOf t (framesTo (set st (suc d) (r .node)) (set (set ws d (r .way)) (suc d) 0) (suc (suc d)))) l) l) new-es
-                ∙ ap (λ (l : List Frame). onto (remaining t (todoOf t l) (r .node ∷ es)) (r .node ∷ es)) new-frames
-                ∙ sym (ap (λ (l : List ℕ). onto l es) (ap (λ (l : List Meeting). remaining t l es) met ∙ remaining-yes t x (waysFrom t (getD st d 0) (r .way) ++ later) es (s .numbers) may) ∙ (unfold onto todoOf flat waysFrom in refl))
+            rest = ap (λ (l : List ℕ). l ++ remaining t (todoOf t (framesTo (set st (suc d) (r .node)) (set (set ws d (r .way)) (suc d) 0) (suc (suc d)))) l) new-es
+                ∙ ap (λ (l : List Frame). (es ++ r .node ∷ []) ++ remaining t (todoOf t l) (es ++ r .node ∷ [])) new-frames
+                ∙ remaining-enter t x (waysFrom t (getD st d 0) (r .way) ++ later) es (s .numbers) may
+                ∙ ap (λ (l : List Meeting). es ++ remaining t l es) (sym met)
                 ∙ s .rest;
             numbers = subst (λ (l : List ℕ). Numbers t l) (sym new-es) more;
+            inside = omega (arith, lo, length-set os count (r .node));
             deep = omega (arith, s .deep);
-            marked = λ n h. new-marks n h ∙ ap (λ (l : List ℕ). not (elem n l)) (sym new-es);
+            marked = subst (λ (l : List ℕ). Marked t (put ms (r .node)) l) (sym new-es) (marked-last t ms es (r .node) lm (s .marked));
           }
 
           pub less-enter : measure t (set (set ws d (r .way)) (suc d) 0) (suc count) (suc (suc d)) < measure t ws count (suc d)
@@ -214,48 +212,42 @@ module _ (t ms st ws os : Words) (count d : ℕ) (s : Going t ms st ws os count 
 
 -- ---- the beginning and the end
 
-pub going-start : (t ms st ws os : Words) → inRange (nodes t) (root t) ≡ true → root t < length ms → 0 < length st → 0 < length ws → 0 < length os → ((n : ℕ) → getD ms n 0 ≡ 0)
-    → Going t (set ms (root t) 1) (set st 0 (root t)) (set ws 0 0) (set os 0 (root t)) 1 1
-unfolding elem
-going-start t ms st ws os range lm ls lw lo clear =
-    let r = root t in
-    let x = meet r (height (view t)) in
-    let may : mayEnter t x [] ≡ true = may-iff t x [] .1 (range, refl, refl) in
-    let new-es : nodesTo (set os 0 r) 1 ≡ r ∷ [] = unfold nodesTo in rw (getD-set-same os 0 r 0 lo) in
-    let new-frames : framesTo (set st 0 r) (set ws 0 0) 1 ≡ frame r 0 ∷ [] = unfold framesTo in rw (getD-set-same st 0 r 0 ls, getD-set-same ws 0 0 0 lw) in
-    let all : entered t ≡ r ∷ remaining t (meetings t r ++ []) (r ∷ []) = remaining-start t ∙ remaining-yes t x [] [] (no-numbers t) may in
-    let same : onto (r ∷ remaining t (meetings t r ++ []) (r ∷ [])) [] ≡ onto (remaining t (todoOf t (frame r 0 ∷ [])) (r ∷ [])) (r ∷ []) = unfold onto todoOf flat waysFrom in refl in
-    record {
-      rest = ap (λ (l : List ℕ). onto (remaining t (todoOf t (framesTo (set st 0 r) (set ws 0 0) 1)) l) l) new-es
-          ∙ ap (λ (l : List Frame). onto (remaining t (todoOf t l) (r ∷ [])) (r ∷ [])) new-frames
-          ∙ sym (ap (λ (l : List ℕ). onto l []) all ∙ same);
-      numbers = subst (λ (l : List ℕ). Numbers t l) (sym new-es) (more-numbers t x [] may (no-numbers t));
-      deep = omega arith;
-      marked = λ n k. mark n r (same-or-not n r) lm (clear n) ∙ ap (λ (l : List ℕ). not (elem n l)) (sym new-es);
-    }
-  where
-    mark : (n r : ℕ) → (n ≡ r) ⊎ (n ≢ r) → r < length ms → getD ms n 0 ≡ 0 → eqb (getD (set ms r 1) n 0) 0 ≡ not (elem n (r ∷ []))
-    mark n r (inl e) l z = let q : getD (set ms r 1) n 0 ≡ 1 = ap (λ (y : ℕ). getD (set ms r 1) y 0) e ∙ getD-set-same ms r 1 0 l in rw (q, eq-eqb n r e)
-    mark n r (inr e) l z = rw (getD-set-other ms r n 1 0 (λ w. e w), ne-eqb n r e, z)
+module _ (t : Words) (r : ℕ) (os : Words) (before : ℕ) where
+  abbrev earlier : List ℕ
+  earlier = take before os
 
--- the first words in order, from those with the last first
-onto-take : (os : Words) (c : ℕ) (xs : List ℕ) → c ≤ length os → onto (nodesTo os c) xs ≡ take c os ++ xs
-unfolding onto nodesTo
-onto-take os zero xs h = refl
-onto-take os (suc c) xs h =
-    onto-take os c (getD os c 0 ∷ xs) (omega arith)
-    ∙ sym (append-assoc (take c os) (getD os c 0 ∷ []) xs)
-    ∙ ap (λ (l : List ℕ). l ++ xs) (sym (take-suc os c 0 (omega arith)))
+  abbrev all : List ℕ
+  all = earlier ++ enteredFrom t r earlier
 
-onto-onto : (xs ys zs : List ℕ) → onto (onto xs ys) zs ≡ onto ys (xs ++ zs)
-unfolding onto
-onto-onto [] ys zs = refl
-onto-onto (x ∷ xs) ys zs = onto-onto xs (x ∷ ys) zs
+  module _ (u : Numbers t earlier) where
+    whole-is : all ≡ earlier ++ remaining t (start t r) earlier
+    whole-is = ap (λ (l : List ℕ). earlier ++ l) (remaining-start t r earlier u)
 
-pub going-end : (t ms st ws os : Words) (count : ℕ) → count ≤ length os → Going t ms st ws os count 0 → take count os ≡ entered t
-unfolding onto
-going-end t ms st ws os count l s =
-    let es = nodesTo os count in
+    -- the root may not be entered
+    pub none-more : mayEnter t (meet r (nodeView t r .level)) earlier ≡ false → earlier ≡ all
+    none-more c = sym (whole-is ∙ ap (λ (l : List ℕ). earlier ++ l) (remaining-no t (meet r (nodeView t r .level)) [] earlier c ∙ remaining-none t earlier) ∙ append-nil earlier)
+
+    pub going-start : (ms st ws : Words) → mayEnter t (meet r (nodeView t r .level)) earlier ≡ true → Marked t ms earlier → r < 64 * length ms → 0 < length st → 0 < length ws → before < length os
+        → Going t all (put ms r) (set st 0 r) (set ws 0 0) (set os before r) (suc before) 1
+    going-start ms st ws may m lm ls lw lo =
+        let x = meet r (nodeView t r .level) in
+        let new-es : take (suc before) (set os before r) ≡ earlier ++ r ∷ [] = take-suc-set os before r lo in
+        let new-frames : framesTo (set st 0 r) (set ws 0 0) 1 ≡ frame r 0 ∷ [] = unfold framesTo in rw (getD-set-same st 0 r 0 ls, getD-set-same ws 0 0 0 lw) in
+        let todo : todoOf t (frame r 0 ∷ []) ≡ meetings t r ++ [] = unfold todoOf flat waysFrom in refl in
+        record {
+          rest = ap (λ (l : List ℕ). l ++ remaining t (todoOf t (framesTo (set st 0 r) (set ws 0 0) 1)) l) new-es
+              ∙ ap (λ (l : List Frame). (earlier ++ r ∷ []) ++ remaining t (todoOf t l) (earlier ++ r ∷ [])) new-frames
+              ∙ ap (λ (l : List Meeting). (earlier ++ r ∷ []) ++ remaining t l (earlier ++ r ∷ [])) todo
+              ∙ remaining-enter t x [] earlier u may
+              ∙ sym whole-is;
+          numbers = subst (λ (l : List ℕ). Numbers t l) (sym new-es) (more-last t x earlier may u);
+          inside = omega (arith, lo, length-set os before r);
+          deep = omega arith;
+          marked = subst (λ (l : List ℕ). Marked t (put ms r) l) (sym new-es) (marked-last t ms earlier r lm m);
+        }
+
+pub going-end : (t : Words) (whole : List ℕ) (ms st ws os : Words) (count : ℕ) → Going t whole ms st ws os count 0 → take count os ≡ whole
+going-end t whole ms st ws os count s =
+    let es = take count os in
     let e : todoOf t (framesTo st ws 0) ≡ [] = unfold framesTo todoOf flat in refl in
-    let q : es ≡ onto (entered t) [] = sym (ap (λ (l : List ℕ). onto l es) (ap (λ (l : List Meeting). remaining t l es) e ∙ remaining-none t es)) ∙ s .rest in
-    sym (append-nil (take count os)) ∙ sym (onto-take os count [] l) ∙ ap (λ (l : List ℕ). onto l []) q ∙ onto-onto (entered t) [] [] ∙ append-nil (entered t)
+    sym (append-nil es) ∙ ap (λ (l : List ℕ). es ++ l) (sym (ap (λ (l : List Meeting). remaining t l es) e ∙ remaining-none t es)) ∙ s .rest

@@ -1,6 +1,6 @@
 -- The laws that the small functions cite.
 use mathlib.Core.Path.{_≡_, refl, ap, sym, subst, _∙_}
-use mathlib.Core.Bool.{Bool, true, false, _&&_, cond}
+use mathlib.Core.Bool.{Bool, true, false, not, _&&_, cond}
 use mathlib.Core.Logic.{_≢_}
 use mathlib.Core.List.{List, [], _∷_, _++_}
 use Prim.Native.Nat.{ℕ, zero, suc, pred, _+_, _-_, _*_, _≤_, _<_}
@@ -16,6 +16,7 @@ use Rattle.model.specs.Slots.{Slot, slot, slotsOf}
 use Rattle.list_laws.proofs.Tools.{decode, leb-iff, refuted, double-suc}
 use Rattle.tree_laws.proofs.Rows.{range-iff}
 use Rattle.model.specs.Salvage.{Meeting, meet, meetings, underFence, inReach}
+use Rattle.bits.specs.Bits.{has}
 use Rattle.tour_laws.specs.Walk.{slotAt, placedAt, before, waysFrom}
 use Rattle.tour_laws.proofs.Ways.{ways-leaf, ways-left, ways-end, ways-hidden, ways-ignored, ways-next, ways-sibling}
 use Rattle.tour.specs.Loop.{pointerBefore, unmarked}
@@ -39,7 +40,7 @@ may-level t ms i l h = rw (ne-eqb (node t i .level) l h) (go (inRange (nodes t) 
     go true = refl
     go false = refl
 
-pub may-mark : (t ms : Words) (top i l : ℕ) → top ≡ nodes t → inRange top i ≡ true → node t i .level ≡ l → eqb (getD ms i 0) 0 ≡ unmarked t ms i l
+pub may-mark : (t ms : Words) (top i l : ℕ) → top ≡ nodes t → inRange top i ≡ true → node t i .level ≡ l → not (has ms i) ≡ unmarked t ms i l
 unfolding unmarked
 may-mark t ms top i l e h k = let q : inRange (nodes t) i ≡ true = subst (λ (m : ℕ). inRange m i ≡ true) e h in rw (q, eq-eqb (node t i .level) l k)
 

@@ -1,11 +1,12 @@
 // The tour of a salvage: the nodes entered, in order. A stack of nodes, each with the way to look at next, stands for what is still to be met.
 use model::Node;
 ghost use mathlib.Core.Path.{_≡_};
+ghost use mathlib.Core.List.{_++_};
 ghost use Prim.Native.Nat.{pred, _≤_};
 ghost use lib.ListN.{length, take};
 ghost use Rattle.model.specs.Table.{nodes, inRange};
-ghost use Rattle.model.specs.Salvage.{underFence, entered};
-ghost use Rattle.tour.specs.Loop.{Looked, Ready, pointerBefore, unmarked};
+ghost use Rattle.model.specs.Salvage.{underFence, enteredFrom};
+ghost use Rattle.tour.specs.Loop.{Looked, Marked, Ready, pointerBefore, unmarked};
 
 // What a way leads to: a node and the level that it must have, if it meets one; and the way after it.
 struct Sight {
@@ -123,8 +124,8 @@ fn look(table: &[u64], top: u64, n: u64, w: u8) -> Sight
 }
 
 // Whether a node may be entered: its number in range, on the level that it must have, and not marked.
-fn may_enter(table: &[u64], top: u64, marks: &[u8], i: u64, level: u64) -> bool
-    requires { ⌜ (top ≡ nodes (now table)) × (top ≤ 65535) × (length (now marks) ≡ 65536) ⌝ }
+fn may_enter(table: &[u64], top: u64, marks: &[u64], i: u64, level: u64) -> bool
+    requires { ⌜ (top ≡ nodes (now table)) × (top ≤ 65535) × (length (now marks) ≡ 1024) ⌝ }
     ensures { λ r. ⌜ r ≡ unmarked (now (table .entry)) (now (marks .entry)) i level ⌝ }
 {
     if !in_range(top, i) {
@@ -133,28 +134,35 @@ fn may_enter(table: &[u64], top: u64, marks: &[u8], i: u64, level: u64) -> bool
     if node::read(table, i).level != level {
         return false;
     }
-    marks[i as usize] == 0
+    !bits::has(marks, i as usize)
 }
 
-// The nodes entered, in order, into the order slice; the answer is how many. Of the other slices the marks must be 0.
+// The nodes entered from a root, in order, put after so many that were entered before; the answer is how many there are then. Nodes are
+// marked when they are entered.
 pub fn tour(
     table: &[u64],
     top: u64,
-    marks: &mut [u8],
+    root: u64,
+    marks: &mut [u64],
     stack: &mut [u16],
     ways: &mut [u8],
     order: &mut [u16],
+    before: usize,
 ) -> usize
-    requires { ⌜ Ready (now table) top (now marks) (now stack) (now ways) (now order) ⌝ }
-    ensures { λ r. ⌜ take r (now (order .exit)) ≡ entered (now (table .entry)) ⌝ }
-    ensures { λ r. ⌜ r ≤ top ⌝ }
+    requires { ⌜ Ready (now table) top (now marks) (now stack) (now ways) (now order) before ⌝ }
+    ensures { λ r. ⌜ take r (now (order .exit))
+        ≡ take before (now (order .entry)) ++ enteredFrom (now (table .entry)) root (take before (now (order .entry))) ⌝ }
+    ensures { λ r. ⌜ Marked (now (table .entry)) (now (marks .exit)) (take r (now (order .exit))) ⌝ }
+    ensures { λ r. ⌜ (before ≤ r) × (r ≤ top) ⌝ }
 {
-    let root = table[1];
-    marks[root as usize] = 1;
+    if !may_enter(table, top, marks, root, node::read(table, root).level) {
+        return before;
+    }
+    bits::put(marks, root as usize);
     stack[0] = root as u16;
     ways[0] = 0;
-    order[0] = root as u16;
-    let mut count = 1;
+    order[before] = root as u16;
+    let mut count = before + 1;
     let mut depth = 1;
     while 0 < depth {
         let last = depth - 1;
@@ -167,7 +175,7 @@ pub fn tour(
             ways[last] = seen.way;
             if seen.meets {
                 if may_enter(table, top, marks, seen.node, seen.level) {
-                    marks[seen.node as usize] = 1;
+                    bits::put(marks, seen.node as usize);
                     order[count] = seen.node as u16;
                     count += 1;
                     stack[depth] = seen.node as u16;

@@ -1,4 +1,4 @@
--- The call: from any words that it accepts a settled table of the same N with just the kept pairs; a sound table drops nothing and keeps its map.
+-- The call: from any words that it accepts a settled table of the same N with just the kept pairs; a sound table drops nothing and keeps its maps.
 use mathlib.Core.Path.{_≡_, refl, _∙_}
 use mathlib.Core.Bool.{Bool, true, false, not}
 use mathlib.Core.Logic.{_↔_}
@@ -10,13 +10,13 @@ use lib.ListN.{length}
 use borrow.Author.Tests.{eq-eqb, le-ltb, ltb-false}
 use Rattle.model.specs.declared.Salvaged.the-variants.{Dropped}
 use Rattle.model.specs.Table.{Words, nodes, headerOk}
-use Rattle.model.specs.Reached.{mapOf}
+use Rattle.model.specs.Reached.{mapsOf}
 use Rattle.model.specs.SoundTest.{settled, sound}
 use Rattle.model.specs.Refusals.{test, firstNumber}
-use Rattle.model.specs.Packing.{packedCount, packedTable}
-use Rattle.model.specs.Salvage.{gathered, outgrows, salvageNumber, salvage, salvageOut}
+use Rattle.model.specs.Packing.{packedBoth, packedTable}
+use Rattle.model.specs.Salvage.{keptMaps, outgrows, salvageNumber, salvage, salvageOut}
 use Rattle.table_laws.proofs.Header.{header-iff}
-use Rattle.tree_laws.proofs.Levels.{sound-header}
+use Rattle.two_laws.proofs.SearchTwo.{sound-head}
 use Rattle.tour_laws.proofs.Sound.{tour-sound}
 use Rattle.tour_laws.proofs.Packable.{salvage-settled, sound-fits}
 
@@ -44,14 +44,14 @@ module _ (t out : Words) (report : ℕ) (e : salvageNumber t (length out) report
   p : Passes t (length out) report
   p = passes-iff t (length out) report .0 e
 
-  out-is : salvageOut t out report ≡ packedTable (nodes t) (gathered t .kept)
+  out-is : salvageOut t out report ≡ packedTable (nodes t) (keptMaps t)
   unfolding salvageOut
   out-is = rw e
 
-  enough : packedCount (gathered t .kept) ≤ nodes t
-  enough = ltb-false (nodes t) (packedCount (gathered t .kept)) (unfold outgrows in p .fits)
+  enough : packedBoth (keptMaps t) ≤ nodes t
+  enough = ltb-false (nodes t) (packedBoth (keptMaps t)) (unfold outgrows in p .fits)
 
-  both : (settled (packedTable (nodes t) (gathered t .kept)) ≡ true) × (mapOf (packedTable (nodes t) (gathered t .kept)) ≡ gathered t .kept)
+  both : (settled (packedTable (nodes t) (keptMaps t)) ≡ true) × (mapsOf (packedTable (nodes t) (keptMaps t)) ≡ keptMaps t)
   both = salvage-settled t (nodes t) enough (header-iff t .0 (p .header) .size .few)
 
   -- A new settled table.
@@ -62,20 +62,21 @@ module _ (t out : Words) (report : ℕ) (e : salvageNumber t (length out) report
   pub salvaged-nodes : nodes (salvageOut t out report) ≡ nodes t
   salvaged-nodes = rw out-is (unfold packedTable in refl)
 
-  pub salvaged-map : mapOf (salvageOut t out report) ≡ gathered t .kept
-  salvaged-map = rw out-is (both .1)
+  -- Each collection's map is just its kept pairs; a collection that was lacking is lacking.
+  pub salvaged-maps : mapsOf (salvageOut t out report) ≡ keptMaps t
+  salvaged-maps = rw out-is (both .1)
 
 module _ (t out : Words) (report : ℕ) (s : sound t ≡ true) (l : length out ≡ length t) (r : 36 * nodes t ≤ report) where
   sound-passes : salvageNumber t (length out) report ≡ 0
   sound-passes =
       passes-iff t (length out) report .1
-      (record { header = sound-header t s; long = eq-eqb (length out) (length t) l; roomy = le-ltb report (36 * nodes t) r; fits = unfold outgrows in le-ltb (nodes t) (packedCount (gathered t .kept)) (sound-fits t s) })
+      (record { header = sound-head t s; long = eq-eqb (length out) (length t) l; roomy = le-ltb report (36 * nodes t) r; fits = unfold outgrows in le-ltb (nodes t) (packedBoth (keptMaps t)) (sound-fits t s) })
 
   -- A sound table drops nothing.
   pub sound-drops-none : salvage t (length out) report ≡ Dropped 0
   unfolding salvage
   sound-drops-none = rw (sound-passes, tour-sound t s .1)
 
-  -- It gives the same map.
-  pub sound-same-map : mapOf (salvageOut t out report) ≡ mapOf t
-  sound-same-map = salvaged-map t out report sound-passes ∙ tour-sound t s .0
+  -- It gives the same maps.
+  pub sound-same-maps : mapsOf (salvageOut t out report) ≡ mapsOf t
+  sound-same-maps = salvaged-maps t out report sound-passes ∙ tour-sound t s .0

@@ -1,21 +1,21 @@
 -- The tour ends: from any words, the fuel suffices for every meeting.
 use mathlib.Core.Path.{_≡_, refl, ap, sym, _∙_}
-use mathlib.Core.Bool.{Bool, true, false, cond}
-use mathlib.Core.List.{List, [], _∷_, _++_, map}
+use mathlib.Core.Bool.{Bool, true, false, cond, _||_}
+use mathlib.Core.List.{List, [], _∷_, _++_, map, append-nil}
 use Prim.Native.Nat.{ℕ, zero, suc, pred, _+_, _-_, _*_, _≤_}
 use native.Mathlib.Omega.{arith}
 use lib.Dec.{eqb}
 use lib.ListN.{length, take, drop, replicate, length-append}
-use Rattle.model.specs.Table.{Words, nodes, node, nodeFrom, nodeStart, hasNode, blank}
+use Rattle.model.specs.Table.{Words, at, nodes, root, node, nodeFrom, nodeStart, hasNode, blank}
 use Rattle.model.specs.Slots.{Slot, slot, nodeView, slotsOf, inUse, used}
-use Rattle.model.specs.SoundTest.{distinct}
-use Rattle.list_laws.proofs.Tools.{Each}
+use Rattle.model.specs.SoundTest.{elem, distinct}
+use Rattle.list_laws.proofs.Tools.{Each, Each-split, Each-append}
 use Rattle.list_laws.proofs.Filters.{filter-short}
-use Rattle.list_laws.proofs.Distinct.{distinct-cons, UpTo, pigeonhole}
+use Rattle.list_laws.proofs.Distinct.{distinct-cons, distinct-middle, UpTo, pigeonhole}
 use Rattle.tree_laws.proofs.Rows.{range-iff}
-use Rattle.model.specs.Salvage.{Placed, Meeting, meet, shownAt, followed, meetings, mayEnter, order, start, entered}
-use Rattle.tour_laws.specs.Visits.{unmet, onto}
-use Rattle.tour_laws.proofs.Steps.{order-yes, order-no, unmet-yes, unmet-no, may-iff}
+use Rattle.model.specs.Salvage.{Placed, Meeting, meet, shownAt, followed, meetings, mayEnter, order, start, enteredFrom, entered}
+use Rattle.tour_laws.specs.Visits.{unmet}
+use Rattle.tour_laws.proofs.Steps.{order-yes, order-no, unmet-yes, unmet-no, may-iff, may-elem}
 
 -- ---- a node meets 14 at most
 
@@ -154,28 +154,61 @@ module _ (t : Words) where
           let w = need-no x todo es in
           order-no t f x todo es c ∙ q u (omega (arith, w)) (omega (arith, w)) ∙ sym (order-no t k x todo es c)
 
-  -- the nodes entered, one by one onto those before
-  order-numbers : (f : ℕ) (todo : List Meeting) (es : List ℕ) → Numbers t es → Numbers t (onto (order t f todo es) es)
-  unfolding order onto
+  -- only which nodes were entered before counts
+  pub order-elem : (f : ℕ) (todo : List Meeting) (es fs : List ℕ) → ((n : ℕ) → elem n es ≡ elem n fs) → order t f todo es ≡ order t f todo fs
+  unfolding order
+  order-elem zero todo es fs h = refl
+  order-elem (suc f) [] es fs h = refl
+  order-elem (suc f) (x ∷ todo) es fs h = go (mayEnter t x es) refl (order-elem f (meetings t (x .node) ++ todo) (x .node ∷ es) (x .node ∷ fs)) (order-elem f todo es fs h)
+    where
+      same : mayEnter t x es ≡ mayEnter t x fs
+      same = may-elem t x es fs (h (x .node))
+
+      go : (b : Bool) → mayEnter t x es ≡ b → (((n : ℕ) → elem n (x .node ∷ es) ≡ elem n (x .node ∷ fs)) → order t f (meetings t (x .node) ++ todo) (x .node ∷ es) ≡ order t f (meetings t (x .node) ++ todo) (x .node ∷ fs))
+          → order t f todo es ≡ order t f todo fs → order t (suc f) (x ∷ todo) es ≡ order t (suc f) (x ∷ todo) fs
+      go true c p q = order-yes t f x todo es c ∙ ap (λ (l : List ℕ). x .node ∷ l) (p (λ n. unfold elem in ap (λ (b : Bool). eqb n (x .node) || b) (h n))) ∙ sym (order-yes t f x todo fs (sym same ∙ c))
+      go false c p q = order-no t f x todo es c ∙ q ∙ sym (order-no t f x todo fs (sym same ∙ c))
+
+  -- the nodes entered, and those before
+  pub order-numbers : (f : ℕ) (todo : List Meeting) (es : List ℕ) → Numbers t es → Numbers t (order t f todo es ++ es)
+  unfolding order
   order-numbers zero todo es u = u
   order-numbers (suc f) [] es u = u
   order-numbers (suc f) (x ∷ todo) es u = go (mayEnter t x es) refl (order-numbers f (meetings t (x .node) ++ todo) (x .node ∷ es)) (order-numbers f todo es u)
     where
-      go : (b : Bool) → mayEnter t x es ≡ b → (Numbers t (x .node ∷ es) → Numbers t (onto (order t f (meetings t (x .node) ++ todo) (x .node ∷ es)) (x .node ∷ es)))
-          → Numbers t (onto (order t f todo es) es) → Numbers t (onto (order t (suc f) (x ∷ todo) es) es)
-      go true c p q = rw (order-yes t f x todo es c) (p (more-numbers x es c u))
+      first : (ns : List ℕ) → Numbers t (ns ++ x .node ∷ es) → Numbers t (x .node ∷ ns ++ es)
+      first ns w =
+          let e = Each-split (UpTo (nodes t)) ns (x .node ∷ es) (w .range) in
+          record { apart = distinct-cons (x .node) (ns ++ es) .1 (distinct-middle (x .node) ns es .0 (w .apart)); range = (e .1 .0, Each-append (UpTo (nodes t)) ns es (e .0) (e .1 .1)) }
+
+      go : (b : Bool) → mayEnter t x es ≡ b → (Numbers t (x .node ∷ es) → Numbers t (order t f (meetings t (x .node) ++ todo) (x .node ∷ es) ++ x .node ∷ es))
+          → Numbers t (order t f todo es ++ es) → Numbers t (order t (suc f) (x ∷ todo) es ++ es)
+      go true c p q = rw (order-yes t f x todo es c) (first (order t f (meetings t (x .node) ++ todo) (x .node ∷ es)) (p (more-numbers x es c u)))
       go false c p q = rw (order-no t f x todo es c) q
 
--- Each node is entered once, and its number is in 1 to N.
-pub entered-once : (t : Words) → Numbers t (onto (entered t) [])
+-- ---- from a root
+
+module _ (t : Words) (r : ℕ) (es : List ℕ) (u : Numbers t es) where
+  pub from-numbers : Numbers t (enteredFrom t r es ++ es)
+  unfolding enteredFrom
+  from-numbers = order-numbers t (2 + 14 * nodes t) (start t r) es u
+
+  -- The tour takes every meeting, from any words.
+  pub tour-ends : unmet t (2 + 14 * nodes t) (start t r) es ≡ []
+  tour-ends = unmet-none t (2 + 14 * nodes t) (start t r) es u (unfold need in omega arith)
+
+  -- More fuel changes nothing.
+  pub more-fuel : (k : ℕ) → order t (2 + 14 * nodes t + k) (start t r) es ≡ enteredFrom t r es
+  unfolding enteredFrom need
+  more-fuel k = order-same t (2 + 14 * nodes t + k) (2 + 14 * nodes t) (start t r) es u (omega arith) (omega arith)
+
+-- ---- for both collections
+
+pub first-numbers : (t : Words) → Numbers t (entered 1 t)
 unfolding entered
-entered-once t = order-numbers t (2 + 14 * nodes t) (start t) [] (no-numbers t)
+first-numbers t = rw (append-nil (enteredFrom t (root t) [])) at (from-numbers t (root t) [] (no-numbers t))
 
--- The tour takes every meeting, from any words.
-pub tour-ends : (t : Words) → unmet t (2 + 14 * nodes t) (start t) [] ≡ []
-tour-ends t = unmet-none t (2 + 14 * nodes t) (start t) [] (no-numbers t) (unfold need in omega arith)
-
--- More fuel changes nothing.
-pub more-fuel : (t : Words) (k : ℕ) → order t (2 + 14 * nodes t + k) (start t) [] ≡ entered t
-unfolding entered need
-more-fuel t k = order-same t (2 + 14 * nodes t + k) (2 + 14 * nodes t) (start t) [] (no-numbers t) (omega arith) (omega arith)
+-- Each node is entered once, for one of the collections, and its number is in 1 to N.
+pub entered-once : (t : Words) → Numbers t (entered 2 t ++ entered 1 t)
+unfolding entered
+entered-once t = from-numbers t (at t 3) (entered 1 t) (first-numbers t)

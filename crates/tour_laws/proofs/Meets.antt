@@ -8,13 +8,14 @@ use native.Mathlib.Omega.{arith}
 use lib.Dec.{eqb, ltb}
 use borrow.Author.Tests.{ne-eqb}
 use Rattle.model.specs.Table.{Words, inRange}
-use Rattle.model.specs.Slots.{Slot, slot, View, nodeView, view, shown, used}
+use Rattle.model.specs.Slots.{Slot, slot, View, nodeView, viewFrom, shown, used}
 use Rattle.model.specs.Search.{below, within}
 use Rattle.model.specs.Reached.{filter, pointers, kept, named, nextChild, reached}
 use Rattle.list_laws.proofs.Tools.{Each, Each-append, same-or-not, refuted}
 use Rattle.list_laws.proofs.Members.{each-mem, mem-each}
 use Rattle.list_laws.proofs.Filters.{filter-yes, filter-no}
 use Rattle.tree_laws.proofs.Rows.{Good, not-zero, sib-facts, children-inner, fill-mem, range-iff}
+use Rattle.tree_laws.proofs.Kept.{by-level}
 use Rattle.tree_laws.proofs.Levels.{Orderly}
 use Rattle.tree_laws.proofs.Parents.{sibling-reached, child-reached}
 use Rattle.model.specs.Salvage.{Placed, Meeting, meet, shownAt, underFence, inReach, followed, meetings}
@@ -61,10 +62,10 @@ follows-in v s k r = rw (r, ne-eqb s 0 (not-zero v s r))
 follows : (v : View) (n k : ℕ) → SiblingIn v n → (not (inRange (v .nodes) (v .node n .sibling)) || ltb k (v .node (v .node n .sibling) .fence)) ≡ within v n k
 follows v n k h = ⊎-elim (λ z. subst (λ (s : ℕ). (not (inRange (v .nodes) s) || ltb k (v .node s .fence)) ≡ below v s k) (sym z) (follows-zero v k)) (λ r. follows-in v (v .node n .sibling) k r) h
 
-pub followed-kept : (t : Words) (n : ℕ) → SiblingIn (view t) n → map (λ (x : Placed). x .slot) (followed t n) ≡ kept (view t) n
+pub followed-kept : (t : Words) (r n : ℕ) → SiblingIn (viewFrom t r) n → map (λ (x : Placed). x .slot) (followed t n) ≡ kept (viewFrom t r) n
 unfolding followed underFence kept
-followed-kept t n h =
-    let v = view t in
+followed-kept t r n h =
+    let v = viewFrom t r in
     map-filter (λ (x : Placed). x .slot) (inReach t n) (λ (s : Slot). within v n (s .key)) (λ x. follows v n (x .slot .key) h) (shownAt (v .node n .left) 0 (used t n))
     ∙ ap (λ (l : List Slot). filter (λ (s : Slot). within v n (s .key)) l) (shown-at (v .node n .left) 0 (used t n))
 
@@ -93,9 +94,9 @@ meetings-inner t d n e = ap (λ (l : ℕ). ways t n l (eqb l 0)) e ∙ ap (ways 
 abbrev pub Known : View → Meeting → Type 0
 Known v x = (x .node ≡ 0) ⊎ List·Memᴰ (x .node) (reached v)
 
-module _ (t : Words) (o : Orderly (view t)) where
+module _ (t : Words) (r : ℕ) (o : Orderly (viewFrom t r)) where
   abbrev v : View
-  v = view t
+  v = viewFrom t r
 
   sibling-known : (n l : ℕ) → List·Memᴰ n (reached v) → Known v (meet (v .node n .sibling) l)
   sibling-known n l m = ⊎-elim (λ z. inl z) (λ z. inr (sibling-reached v n o m z)) (same-or-not (v .node n .sibling) 0)
@@ -113,13 +114,17 @@ module _ (t : Words) (o : Orderly (view t)) where
 
   pub further-known : (d n : ℕ) → v .node n .level ≡ suc d → List·Memᴰ n (reached v) → Each (Known v) (furtherMet t d n)
   further-known d n e m =
-      let q = followed-kept t n (good-sibling v n (each-mem (Good v) (o .good) m)) in
+      let q = followed-kept t r n (good-sibling v n (each-mem (Good v) (o .good) m)) in
       Each-append (Known v) (map (λ (x : Placed). meet (x .slot .pointer) d) (followed t n)) (meet (v .node n .sibling) (suc d) ∷ [])
       (placed-known d (followed t n) (rw q (slots-known d (kept v n) (mem-each (λ (c : ℕ). Known v (meet c d)) (pointers (kept v n)) (λ c i. named-known d n d c e m (List·Memᴰ·tail i))))))
       (sibling-known n (suc d) m, tt)
 
   pub inner-known : (d n : ℕ) → v .node n .level ≡ suc d → List·Memᴰ n (reached v) → Each (Known v) (meetings t n)
   inner-known d n e m = rw (meetings-inner t d n e) (named-known d n d (v .node n .left) e m (List·Memᴰ·head refl), further-known d n e m)
+
+  -- of a leaf too
+  pub reached-known : (n : ℕ) → List·Memᴰ n (reached v) → Each (Known v) (meetings t n)
+  reached-known n m = by-level v (λ (n : ℕ). List·Memᴰ n (reached v) → Each (Known v) (meetings t n)) n (λ e m. rw (meetings-leaf t n e) (sibling-known n 0 m, tt)) (λ d e m. inner-known d n e m) m
 
   pub left-reached : (d n : ℕ) → v .node n .level ≡ suc d → List·Memᴰ n (reached v) → List·Memᴰ (v .node n .left) (reached v)
   left-reached d n e m = child-reached v n (v .node n .left) o m (rw (children-inner v d n e) (fill-mem v {ns = named v n} (nextChild v n) (List·Memᴰ·head refl)))

@@ -1,30 +1,28 @@
 -- What a salvage gathers can be packed: its keys rise, its recordings differ, recordings and classes are in range. So its table is settled, with
--- just the kept pairs as its map.
-use mathlib.Core.Path.{_≡_, refl, ap, sym, subst, _∙_}
-use mathlib.Core.Bool.{true, false}
+-- just the kept pairs as its maps.
+use mathlib.Core.Path.{_≡_, refl, sym, subst, _∙_}
+use mathlib.Core.Bool.{Bool, true, false}
 use mathlib.Core.List.{List, [], _∷_, _++_, map}
+use mathlib.Core.Option.{some, Option·none-ne-some, Option·some-injective}
 use Prim.Native.Nat.{ℕ, zero, suc, _≤_}
 use native.Mathlib.Omega.{arith}
-use Rattle.model.specs.Table.{Words, nodes}
+use lib.Dec.{eqb}
+use Rattle.model.specs.Table.{Words, at, nodes}
 use Rattle.model.specs.Slots.{Slot, slot, recordingOf, recording}
-use Rattle.model.specs.Reached.{mapOf}
+use Rattle.model.specs.Reached.{unlessLacking, mapsOf}
 use Rattle.model.specs.SoundTest.{all, elem, distinct, rising, recordingsOk, settled, sound}
 use Rattle.model.specs.Refusals.{hasKey, hasRecording}
 use Rattle.model.specs.Ledger.{enter}
-use Rattle.model.specs.Packing.{packedCount, packedTable}
-use Rattle.model.specs.Salvage.{Placed, Gathered, outOfRange, reasonFor, gatherSlot, gatherSlots, collected, gatherNodes, gathered}
+use Rattle.model.specs.Packing.{packedBoth, packedTable}
+use Rattle.model.specs.Salvage.{Placed, Gathered, outOfRange, reasonFor, gatherSlot, gatherSlots, collected, gatherNodes, gatheredAlong, gathered, keptMaps}
 use Rattle.list_laws.proofs.Recordings.{recordings-middle}
 use Rattle.tree_laws.proofs.Rising.{lower, upper, lower-upper, lower-below, upper-above, rising-insert}
 use Rattle.change_laws.proofs.Pairs.{has-key-iff, has-recording, enter-at}
-use Rattle.pack_laws.proofs.Packed.{packed-settled, packed-map}
-use Rattle.pack_laws.proofs.Counts.{sound-enough}
+use Rattle.pack_laws.proofs.Packed.{Packable}
+use Rattle.pack_laws.proofs.Fresh.{packed-settled, packed-maps}
+use Rattle.pack_laws.proofs.Enough.{sound-enough}
 use Rattle.tour_laws.proofs.Gathering.{range-iff, no-reason, slot-kept, slot-dropped}
 use Rattle.tour_laws.proofs.Sound.{tour-sound}
-
--- pairs that can be packed
-pub record Packable (ps : List Slot) : Type 0 where
-  pub rise : rising 0 ps ≡ true
-  pub recordings : recordingsOk ps ≡ true
 
 module _ (k p : ℕ) (ps : List Slot) (f : Packable ps) (range : outOfRange p ≡ false) (key : hasKey k ps ≡ false) (own : hasRecording (recordingOf p) ps ≡ false) where
   abbrev a : List Slot
@@ -74,20 +72,28 @@ unfolding gatherNodes
 nodes-fit t [] g f = f
 nodes-fit t (n ∷ ns) g f = nodes-fit t ns (gatherSlots n (collected t n) g) (slots-fit n (collected t n) g f)
 
-pub gathered-packable : (t : Words) → Packable (gathered t .kept)
-unfolding gathered
-gathered-packable t = nodes-fit t _ _ (record { rise = unfold rising in refl; recordings = unfold recordingsOk all distinct in refl })
+pub gathered-packable : (n : ℕ) (t : Words) → Packable (gathered n t .kept)
+unfolding gathered gatheredAlong
+gathered-packable n t = nodes-fit t _ _ (record { rise = unfold rising in refl; recordings = unfold recordingsOk all distinct in refl })
 
 -- ---- the salvaged table
 
+-- the second collection's pairs, where it is there
+second-packable : (t : Words) (qs : List Slot) → keptMaps t .two ≡ some qs → Packable qs
+unfolding keptMaps
+second-packable t qs e = go (eqb (at t 3) 0) e
+  where
+    go : (b : Bool) → unlessLacking b (gathered 2 t .kept) ≡ some qs → Packable qs
+    go true h = absurd (Option·none-ne-some qs h)
+    go false h = subst Packable (Option·some-injective (gathered 2 t .kept) qs h) (gathered-packable 2 t)
+
 -- What is salvaged from any words makes a settled table with just the kept pairs, if the nodes suffice.
-pub salvage-settled : (t : Words) (n : ℕ) → packedCount (gathered t .kept) ≤ n → n ≤ 65535
-    → (settled (packedTable n (gathered t .kept)) ≡ true) × (mapOf (packedTable n (gathered t .kept)) ≡ gathered t .kept)
-salvage-settled t n l h =
-    let ps = gathered t .kept in
-    let f = gathered-packable t in
-    (packed-settled n ps l h (f .rise) (f .recordings), packed-map n ps l h (f .rise) (f .recordings))
+pub salvage-settled : (t : Words) (N : ℕ) → packedBoth (keptMaps t) ≤ N → N ≤ 65535
+    → (settled (packedTable N (keptMaps t)) ≡ true) × (mapsOf (packedTable N (keptMaps t)) ≡ keptMaps t)
+salvage-settled t N l h =
+    let f : Packable (keptMaps t .one) = unfold keptMaps in gathered-packable 1 t in
+    (packed-settled N (keptMaps t) l h f (second-packable t), packed-maps N (keptMaps t) l h f (second-packable t))
 
 -- A sound table never gives 10.
-pub sound-fits : (t : Words) → sound t ≡ true → packedCount (gathered t .kept) ≤ nodes t
+pub sound-fits : (t : Words) → sound t ≡ true → packedBoth (keptMaps t) ≤ nodes t
 sound-fits t h = rw (tour-sound t h .0) (sound-enough t h)

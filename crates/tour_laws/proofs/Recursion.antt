@@ -1,14 +1,16 @@
 -- The list of meetings and the recursion enter the same nodes in the same order, from any words.
 use mathlib.Core.Path.{_≡_, refl, ap, sym, subst, _∙_}
-use mathlib.Core.Bool.{Bool, true, false}
+use mathlib.Core.Bool.{Bool, true, false, _||_}
 use mathlib.Core.List.{List, [], _∷_, _++_, append-nil}
 use Prim.Native.Nat.{ℕ, zero, suc, _+_, _*_, _≤_}
 use native.Mathlib.Omega.{arith}
+use lib.Dec.{eqb}
 use lib.ListN.{length, length-append}
-use Rattle.model.specs.Table.{Words, nodes}
-use Rattle.model.specs.Salvage.{Meeting, meetings, mayEnter, start, entered}
+use Rattle.model.specs.Table.{Words, at, nodes, root}
+use Rattle.model.specs.SoundTest.{elem}
+use Rattle.model.specs.Salvage.{Meeting, meetings, mayEnter, start, enteredFrom, entered}
 use Rattle.tour_laws.specs.Visits.{visit, onto}
-use Rattle.tour_laws.proofs.Ends.{Numbers, no-numbers, more-numbers, need, need-yes, need-no}
+use Rattle.tour_laws.proofs.Ends.{Numbers, no-numbers, more-numbers, need, need-yes, need-no, order-elem}
 use Rattle.tour_laws.proofs.Remaining.{remaining, remaining-none, remaining-yes, remaining-no, remaining-start}
 
 module _ (t : Words) where
@@ -77,12 +79,42 @@ module _ (t : Words) where
             more = omega (arith, b .more, ap length e);
           }
 
--- The tour as a list of meetings is the recursion.
-pub tour-visits : (t : Words) → onto (entered t) [] ≡ visit t (1 + 14 * nodes t) (start t) []
+-- From a root, after nodes entered before, the tour as a list of meetings is the recursion.
+root-visits : (t : Words) (r : ℕ) (es : List ℕ) → Numbers t es → onto (enteredFrom t r es) es ≡ visit t (1 + 14 * nodes t) (start t r) es
 unfolding onto
+root-visits t r es u =
+    let f = 1 + 14 * nodes t in
+    let enough : need t (start t r) es ≤ f = unfold need in omega arith in
+    let first : enteredFrom t r es ≡ remaining t (start t r) es = remaining-start t r es u in
+    let v = visits t f (start t r) es u enough in
+    ap (λ (l : List ℕ). onto l es) first ∙ ap (λ (l : List Meeting). final t l es) (sym (append-nil (start t r))) ∙ v .same [] ∙ ap (λ (l : List ℕ). onto l (visit t f (start t r) es)) (remaining-none t (visit t f (start t r) es))
+
+elem-onto : (n : ℕ) (xs es : List ℕ) → elem n (onto xs es) ≡ (elem n xs || elem n es)
+unfolding onto elem
+elem-onto n [] es = refl
+elem-onto n (x ∷ xs) es = elem-onto n xs (x ∷ es) ∙ (unfold elem in or-swap (elem n xs) (eqb n x) (elem n es))
+  where
+    or-swap : (a b c : Bool) → (a || (b || c)) ≡ ((b || a) || c)
+    or-swap true true c = refl
+    or-swap true false c = refl
+    or-swap false true c = refl
+    or-swap false false c = refl
+
+same-elems : (n : ℕ) (xs : List ℕ) → elem n xs ≡ elem n (onto xs [])
+unfolding elem
+same-elems n xs = sym (elem-onto n xs [] ∙ or-false (elem n xs))
+  where
+    or-false : (a : Bool) → (a || false) ≡ a
+    or-false true = refl
+    or-false false = refl
+
+-- The tour is the recursion from the root of collection 1, then from the root of collection 2.
+pub tour-visits : (t : Words) → let f = 1 + 14 * nodes t in onto (entered 2 t) (onto (entered 1 t) []) ≡ visit t f (start t (at t 3)) (visit t f (start t (root t)) [])
+unfolding entered
 tour-visits t =
     let f = 1 + 14 * nodes t in
-    let enough : need t (start t) [] ≤ f = unfold need in omega arith in
-    let first : entered t ≡ remaining t (start t) [] = remaining-start t in
-    let v = visits t f (start t) [] (no-numbers t) enough in
-    ap (λ (l : List ℕ). onto l []) first ∙ ap (λ (l : List Meeting). final t l []) (sym (append-nil (start t))) ∙ v .same [] ∙ ap (λ (l : List ℕ). onto l (visit t f (start t) [])) (remaining-none t (visit t f (start t) []))
+    let es = onto (entered 1 t) [] in
+    let first : es ≡ visit t f (start t (root t)) [] = root-visits t (root t) [] (no-numbers t) in
+    let u : Numbers t es = subst (λ (l : List ℕ). Numbers t l) (sym first) (visits t f (start t (root t)) [] (no-numbers t) (unfold need in omega arith) .numbers) in
+    let same : entered 2 t ≡ enteredFrom t (at t 3) es = unfold enteredFrom in order-elem t (2 + 14 * nodes t) (start t (at t 3)) (entered 1 t) es (λ n. same-elems n (entered 1 t)) in
+    ap (λ (l : List ℕ). onto l es) same ∙ root-visits t (at t 3) es u ∙ ap (visit t f (start t (at t 3))) first

@@ -1,27 +1,32 @@
--- A salvage of a sound table drops nothing and keeps its map.
+-- A salvage of a sound table drops nothing and keeps its maps.
 use mathlib.Core.Path.{_≡_, refl, ap, sym, subst, _∙_}
-use mathlib.Core.Bool.{true}
-use mathlib.Core.Logic.{_≢_}
-use mathlib.Core.List.{List, [], _∷_, _++_, map, map-append, append-nil, append-assoc}
+use mathlib.Core.Bool.{true, false}
+use mathlib.Core.Logic.{_≢_, _⊎_, inl, inr}
+use mathlib.Core.List.{List, [], _∷_, _++_, map, map-append, append-nil, append-assoc, List·Memᴰ}
+use mathlib.Core.Option.{none, some}
 use Prim.Native.Nat.{ℕ, suc, _<_}
 use native.Mathlib.Omega.{arith}
-use Rattle.model.specs.Table.{Words}
-use Rattle.model.specs.Slots.{Slot, recording, View, view}
-use Rattle.model.specs.Reached.{filter, flat, kept, leaves, mapping, mapOf}
-use Rattle.model.specs.SoundTest.{pairOk, sound}
+use borrow.Author.Tests.{eq-eqb, ne-eqb}
+use Rattle.model.specs.Table.{Words, at}
+use Rattle.model.specs.Slots.{Slot, recording, View, viewFrom, viewOf}
+use Rattle.model.specs.Reached.{filter, flat, kept, reached, leaves, mapping, mapOf, mapsOf}
+use Rattle.model.specs.SoundTest.{elem, pairOk, sound}
 use Rattle.model.specs.Ledger.{enter}
-use Rattle.model.specs.Salvage.{Placed, followed, entered, Gathered, reasonFor, gatherSlot, gatherSlots, collected, gatherNodes, gathered}
-use Rattle.list_laws.proofs.Tools.{Each, Each-split, Each-map}
-use Rattle.list_laws.proofs.Members.{elem-append}
-use Rattle.list_laws.proofs.Distinct.{distinct-middle}
+use Rattle.model.specs.Salvage.{Placed, followed, enteredFrom, entered, Gathered, reasonFor, gatherSlot, gatherSlots, collected, gatherNodes, gatheredAlong, gathered, keptMaps, droppedAll}
+use Rattle.list_laws.proofs.Tools.{Each, Each-split, Each-map, same-or-not}
+use Rattle.list_laws.proofs.Members.{each-mem, elem-none, elem-append}
+use Rattle.list_laws.proofs.Distinct.{distinct-append, distinct-middle}
 use Rattle.tree_laws.proofs.Rows.{Good}
 use Rattle.tree_laws.proofs.Kept.{by-level}
-use Rattle.tree_laws.proofs.Levels.{level-leaves, orderly-of}
+use Rattle.tree_laws.proofs.Levels.{Orderly, level-leaves}
 use Rattle.tree_laws.proofs.Rising.{rising-apart}
 use Rattle.tree_laws.proofs.MapLaw.{MapRises, map-rises}
 use Rattle.change_laws.proofs.Pairs.{has-key-iff, has-recording, enter-at}
+use Rattle.two_laws.proofs.SameTwo.{each-sound, first-there, second-there}
+use Rattle.two_laws.proofs.CollectionTwo.{collection-orderly}
+use Rattle.tour_laws.proofs.Remaining.{none-entered}
 use Rattle.tour_laws.proofs.Meets.{SiblingIn, good-sibling, followed-kept}
-use Rattle.tour_laws.proofs.Entered.{leavesIn, leaf-in, inner-out, entered-leaves}
+use Rattle.tour_laws.proofs.Entered.{leavesIn, leaf-in, inner-out, entered-leaves, entered-reached}
 use Rattle.tour_laws.proofs.Gathering.{range-iff, no-reason, slot-kept, collected-leaf, collected-inner}
 
 -- pairs as a sound table has them
@@ -66,13 +71,13 @@ module _ (all : List Slot) (f : MapRises all) where
       let u = slot-gathers n g x (map (λ (x : Placed). x .slot) xs ++ ss) e in
       kept-then g (gatherSlot n g x) (gatherSlots n xs (gatherSlot n g x)) _ ss u (slots-gather n xs (gatherSlot n g x) ss (u .rest))
 
-  module _ (t : Words) where
+  module _ (t : Words) (r : ℕ) where
     abbrev v : View
-    v = view t
+    v = viewFrom t r
 
     leaf-gathers : (n : ℕ) (g : Gathered) (ss : List Slot) → v .node n .level ≡ 0 → SiblingIn v n → Rest g (kept v n ++ ss) → Kept g (gatherSlots n (collected t n) g) ss
     leaf-gathers n g ss l s e =
-        rw (collected-leaf t n l) (slots-gather n (followed t n) g ss (ap (λ (l : List Slot). g .kept ++ (l ++ ss)) (followed-kept t n s) ∙ e))
+        rw (collected-leaf t n l) (slots-gather n (followed t n) g ss (ap (λ (l : List Slot). g .kept ++ (l ++ ss)) (followed-kept t r n s) ∙ e))
 
     inner-gathers : (d n : ℕ) (g : Gathered) (ss : List Slot) → v .node n .level ≡ suc d → Rest g ss → Kept g (gatherSlots n (collected t n) g) ss
     inner-gathers d n g ss l e = rw (collected-inner t n (λ z. omega arith)) (slots-gather n [] g ss e)
@@ -99,13 +104,61 @@ module _ (all : List Slot) (f : MapRises all) where
             let u = inner-gathers d n g (flat (kept v) (leavesIn t ns)) l (subst (λ (x : List ℕ). Rest g (flat (kept v) x)) q e) in
             kept-then g h (gatherNodes t ns h) _ [] u (ih (subst (λ (x : List ℕ). Each (SiblingIn v) x) q s) (u .rest)))
 
--- A sound table drops nothing and gives the same map.
-pub tour-sound : (t : Words) → sound t ≡ true → (gathered t .kept ≡ mapOf t) × (gathered t .dropped ≡ [])
-unfolding mapping gathered
-tour-sound t h =
-    let v = view t in
-    let o = orderly-of t h in
-    let q = entered-leaves t o in
-    let s : Each (SiblingIn v) (leavesIn t (entered t)) = rw q (Each-map (Good v) (SiblingIn v) (leaves v) (λ n g. good-sibling v n g) (level-leaves v o .row .good)) in
-    let u = nodes-gather (mapOf t) (map-rises t h) t (entered t) (record { kept = []; dropped = [] }) s (ap (flat (kept v)) q) in
-    (sym (append-nil _) ∙ u .rest, u .dropped)
+-- a sound tree none of whose nodes was entered before: its map is kept, and nothing is dropped
+module _ (t : Words) (r : ℕ) (o : Orderly (viewFrom t r)) (es : List ℕ) (h : (j : ℕ) → List·Memᴰ j (reached (viewFrom t r)) → elem j es ≡ false) where
+  abbrev g : Gathered
+  g = gatheredAlong t (enteredFrom t r es)
+
+  tree-gathers : (g .kept ≡ mapping (viewFrom t r)) × (g .dropped ≡ [])
+  unfolding mapping gatheredAlong
+  tree-gathers =
+      let v = viewFrom t r in
+      let q = entered-leaves t r o es h in
+      let s : Each (SiblingIn v) (leavesIn t (enteredFrom t r es)) = rw q (Each-map (Good v) (SiblingIn v) (leaves v) (λ n g. good-sibling v n g) (level-leaves v o .row .good)) in
+      let u = nodes-gather (mapping v) (map-rises v o) t r (enteredFrom t r es) (record { kept = []; dropped = [] }) s (ap (flat (kept v)) q) in
+      (sym (append-nil _) ∙ u .rest, u .dropped)
+
+-- Without collection 2 a salvage is that of collection 1.
+module _ (t : Words) (z : at t 3 ≡ 0) where
+  no-second : gathered 2 t .dropped ≡ []
+  unfolding gathered gatheredAlong entered gatherNodes
+  no-second = rw (z, none-entered t (entered 1 t))
+
+  pub alone-maps : keptMaps t ≡ record { one = gathered 1 t .kept; two = none }
+  unfolding keptMaps
+  alone-maps = rw (eq-eqb (at t 3) 0 z)
+
+  pub alone-dropped : droppedAll t ≡ gathered 1 t .dropped
+  unfolding droppedAll
+  alone-dropped = rw no-second (append-nil (gathered 1 t .dropped))
+
+-- With it, both are kept.
+pub beside-maps : (t : Words) → at t 3 ≢ 0 → keptMaps t ≡ record { one = gathered 1 t .kept; two = some (gathered 2 t .kept) }
+unfolding keptMaps
+beside-maps t z = rw (ne-eqb (at t 3) 0 z)
+
+module _ (t : Words) (s : sound t ≡ true) where
+  one : (gathered 1 t .kept ≡ mapOf 1 t) × (gathered 1 t .dropped ≡ [])
+  unfolding gathered entered
+  one = tree-gathers t (at t 1) (collection-orderly 1 t s (first-there t)) [] (λ j m. unfold elem in refl)
+
+  -- no node of the second tree is entered from the first root
+  fresh : at t 3 ≢ 0 → (j : ℕ) → List·Memᴰ j (reached (viewOf 2 t)) → elem j (entered 1 t) ≡ false
+  unfolding entered
+  fresh z j m = elem-none j (entered 1 t) .1 (λ i.
+      let k = each-mem (λ (n : ℕ). List·Memᴰ n (reached (viewOf 1 t))) (entered-reached t (at t 1) (collection-orderly 1 t s (first-there t)) []) i in
+      let off = distinct-append (reached (viewOf 1 t)) (reached (viewOf 2 t)) .0 (rw (append-nil (reached (viewOf 2 t))) at (each-sound t .0 s .once z)) .2 in
+      elem-none j (reached (viewOf 2 t)) .0 (each-mem (λ (n : ℕ). elem n (reached (viewOf 2 t)) ≡ false) off k) m)
+
+  two : at t 3 ≢ 0 → (gathered 2 t .kept ≡ mapOf 2 t) × (gathered 2 t .dropped ≡ [])
+  unfolding gathered entered
+  two z = tree-gathers t (at t 3) (collection-orderly 2 t s (second-there t z)) (entered 1 t) (fresh z)
+
+  -- A sound table drops nothing and gives the same maps.
+  pub tour-sound : (keptMaps t ≡ mapsOf t) × (droppedAll t ≡ [])
+  unfolding keptMaps droppedAll mapsOf
+  tour-sound = go (same-or-not (at t 3) 0)
+    where
+      go : (at t 3 ≡ 0) ⊎ (at t 3 ≢ 0) → (keptMaps t ≡ mapsOf t) × (droppedAll t ≡ [])
+      go (inl z) = (rw (eq-eqb (at t 3) 0 z, one .0), alone-dropped t z ∙ one .1)
+      go (inr z) = (rw (one .0, two z .0), rw (one .1, two z .1))

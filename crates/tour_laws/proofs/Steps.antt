@@ -35,3 +35,8 @@ module _ (t : Words) where
     λ h. let u = simp decode at h in (u .0, u .1 .0, not-iff _ .0 (u .1 .1)),
     λ u. simp decode (u .0, (u .1, not-iff _ .1 (u .2))),
   )
+
+  -- only whether it was entered before counts
+  pub may-elem : (x : Meeting) (es fs : List ℕ) → elem (x .node) es ≡ elem (x .node) fs → mayEnter t x es ≡ mayEnter t x fs
+  unfolding mayEnter
+  may-elem x es fs h = rw h

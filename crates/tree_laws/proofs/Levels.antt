@@ -9,7 +9,8 @@ use lib.ListN.{length}
 use Rattle.model.specs.Table.{Words, inRange, headerOk}
 use Rattle.model.specs.Slots.{View, view, height}
 use Rattle.model.specs.Reached.{flat, headOr, children, reachedFrom, leavesFrom, reached, leaves, mapping}
-use Rattle.model.specs.SoundTest.{elem, distinct, linked, nodeOk, rootOk, recordingsOk, orderly, settledView, soundView, settled, sound}
+use Rattle.model.specs.SoundTest.{elem, distinct, linked, nodeOk, rootOk, recordingsOk, orderly, settledView, soundView}
+use Rattle.tree_laws.specs.OneTree.{settledOne, soundOne}
 use Rattle.list_laws.proofs.Tools.{decode, and-iff, all-each, Each, Each-map, Each-append}
 use Rattle.list_laws.proofs.Members.{each-mem, elem-false}
 use Rattle.list_laws.proofs.Distinct.{distinct-cons, distinct-append, Once, once, UpTo, pigeonhole}
@@ -48,18 +49,15 @@ unfolding soundView
 sound-orderly v h = orderly-iff v .0 (and-iff _ _ .0 h .0)
 
 -- a table's header is right, and its view is sound
-pub sound-parts : (t : Words) → (sound t ≡ true) ↔ ((headerOk t ≡ true) × (soundView (view t) ≡ true))
-unfolding sound
+pub sound-parts : (t : Words) → (soundOne t ≡ true) ↔ ((headerOk t ≡ true) × (soundView (view t) ≡ true))
+unfolding soundOne
 sound-parts t = and-iff (headerOk t) (soundView (view t))
 
-pub sound-header : (t : Words) → sound t ≡ true → headerOk t ≡ true
-sound-header t h = sound-parts t .0 h .0
-
-pub orderly-of : (t : Words) → sound t ≡ true → Orderly (view t)
+pub orderly-of : (t : Words) → soundOne t ≡ true → Orderly (view t)
 orderly-of t h = sound-orderly (view t) (sound-parts t .0 h .1)
 
-pub settled-parts : (t : Words) → (settled t ≡ true) ↔ ((headerOk t ≡ true) × (settledView (view t) ≡ true))
-unfolding settled
+pub settled-parts : (t : Words) → (settledOne t ≡ true) ↔ ((headerOk t ≡ true) × (settledView (view t) ≡ true))
+unfolding settledOne
 settled-parts t = and-iff (headerOk t) (settledView (view t))
 
 -- ---- levels

@@ -15,4 +15,3 @@ pub mod Leftovers
 pub mod Shape
 pub mod ListLaw
 pub mod PlaceOf
-pub mod Unreachable

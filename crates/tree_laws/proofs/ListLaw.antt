@@ -1,4 +1,4 @@
--- A listing on a sound table: the first of the map's pairs in the range, rising, as many as fit; and whether there are more.
+-- A listing of a map: the first of its pairs in the range, rising, as many as fit; and whether there are more.
 use mathlib.Core.Path.{_≡_, refl, ap, sym, _∙_}
 use mathlib.Core.Bool.{Bool, true, false, _&&_}
 use mathlib.Core.Logic.{_↔_, ⊎-elim}
@@ -13,43 +13,41 @@ use borrow.Author.Tests.{ltb-true, lt-ltb, leb-true, lt-leb}
 use Rattle.model.specs.declared.Listed.the-variants.{Pairs}
 use Rattle.model.specs.Table.{Words}
 use Rattle.model.specs.Slots.{Slot}
-use Rattle.model.specs.Reached.{mapOf}
-use Rattle.model.specs.SoundTest.{rising, sound}
+use Rattle.model.specs.SoundTest.{rising}
 use Rattle.model.specs.Sound.{Rise}
-use Rattle.model.specs.Listing.{inRangeOf, fitting, pairWords, listed, listedWords, list, listOut}
+use Rattle.model.specs.Listing.{inRangeOf, fitting, pairWords, listed, listedWords}
 use Rattle.list_laws.proofs.Tools.{decode, Each, Each-map}
 use Rattle.list_laws.proofs.Members.{each-mem, mem-each}
 use Rattle.list_laws.proofs.Filters.{mem-filter, filter-none}
 use Rattle.tree_laws.proofs.Rising.{rising-filter, rise-from-rising, Apart, rising-apart}
-use Rattle.tree_laws.proofs.MapLaw.{map-rises}
 
 -- the pairs written: the first of those in the range, as many as fit whole
-abbrev pub written : Words → (low high : ℕ) → Words → List Slot
-written t low high out = fitting (length out) (inRangeOf low high (mapOf t))
+abbrev pub written : List Slot → (low high : ℕ) → Words → List Slot
+written m low high out = fitting (length out) (inRangeOf low high m)
 
 -- whether the map has more in the range
-abbrev pub more : Words → (low high : ℕ) → Words → Bool
-more t low high out = ltb (length (written t low high out)) (length (inRangeOf low high (mapOf t)))
+abbrev pub more : List Slot → (low high : ℕ) → Words → Bool
+more m low high out = ltb (length (written m low high out)) (length (inRangeOf low high m))
 
 -- s is a pair of the map whose key is from low to high
-abbrev pub Listable : Words → (low high : ℕ) → Slot → Type 0
-Listable t low high s = List·Memᴰ s (mapOf t) × (low ≤ s .key) × (s .key ≤ high)
+abbrev pub Listable : List Slot → (low high : ℕ) → Slot → Type 0
+Listable m low high s = List·Memᴰ s m × (low ≤ s .key) × (s .key ≤ high)
 
-pub record Listing (t : Words) (low high : ℕ) (out : Words) : Type 0 where
-  pub answer : list t low high out ≡ Pairs (length (written t low high out)) (more t low high out)
-  pub slice : listOut t low high out ≡ pairWords (written t low high out) ++ drop (2 * length (written t low high out)) out
+pub record Listing (m : List Slot) (low high : ℕ) (out : Words) : Type 0 where
+  pub answer : listed (inRangeOf low high m) (length out) ≡ Pairs (length (written m low high out)) (more m low high out)
+  pub slice : listedWords (inRangeOf low high m) out ≡ pairWords (written m low high out) ++ drop (2 * length (written m low high out)) out
   -- the pairs in the range, of which the first are written, rising strictly
-  pub in-range : (s : Slot) → List·Memᴰ s (inRangeOf low high (mapOf t)) ↔ Listable t low high s
-  pub first : written t low high out ≡ take (length out / 2) (inRangeOf low high (mapOf t))
-  pub rises : Rise (written t low high out)
+  pub in-range : (s : Slot) → List·Memᴰ s (inRangeOf low high m) ↔ Listable m low high s
+  pub first : written m low high out ≡ take (length out / 2) (inRangeOf low high m)
+  pub rises : Rise (written m low high out)
   -- more is true exactly if the map has a further pair in the range
-  pub further : (more t low high out ≡ true) ↔ ((s : Slot) × Listable t low high s × Each (λ (u : Slot). u .key < s .key) (written t low high out))
+  pub further : (more m low high out ≡ true) ↔ ((s : Slot) × Listable m low high s × Each (λ (u : Slot). u .key < s .key) (written m low high out))
   -- the slice keeps its length, and the words after the pairs stay
-  pub length-stays : length (listOut t low high out) ≡ length out
-  pub words-stay : drop (2 * length (written t low high out)) (listOut t low high out) ≡ drop (2 * length (written t low high out)) out
-  pub words-written : take (2 * length (written t low high out)) (listOut t low high out) ≡ pairWords (written t low high out)
+  pub length-stays : length (listedWords (inRangeOf low high m) out) ≡ length out
+  pub words-stay : drop (2 * length (written m low high out)) (listedWords (inRangeOf low high m) out) ≡ drop (2 * length (written m low high out)) out
+  pub words-written : take (2 * length (written m low high out)) (listedWords (inRangeOf low high m) out) ≡ pairWords (written m low high out)
   -- lowest above highest gives none and no more
-  pub none : high < low → (list t low high out ≡ Pairs 0 false) × (listOut t low high out ≡ out)
+  pub none : high < low → (listed (inRangeOf low high m) (length out) ≡ Pairs 0 false) × (listedWords (inRangeOf low high m) out ≡ out)
 
 pub length-pairs : (ss : List Slot) → length (pairWords ss) ≡ 2 * length ss
 unfolding pairWords
@@ -105,25 +103,25 @@ no-words : (out : Words) → listedWords [] out ≡ out
 unfolding listedWords pairWords
 no-words out = rw (take-nil {A = Slot} (length out / 2)) refl
 
-pub list-law : (t : Words) (low high : ℕ) (out : Words) → sound t ≡ true → Listing t low high out
-unfolding list listOut listed listedWords
-list-law t low high out h =
-    let ps = inRangeOf low high (mapOf t) in
-    let w = written t low high out in
-    let r : rising 0 ps ≡ true = unfold inRangeOf in rising-filter 0 (λ (s : Slot). leb low (s .key) && leb (s .key) high) (mapOf t) (map-rises t h .rising) in
-    let answer : list t low high out ≡ Pairs (length w) (more t low high out) = rw (h, list) in
-    let slice : listOut t low high out ≡ pairWords w ++ drop (2 * length w) out = rw (h, listOut) in
+pub list-law : (m : List Slot) (low high : ℕ) (out : Words) → rising 0 m ≡ true → Listing m low high out
+unfolding listed listedWords
+list-law m low high out h =
+    let ps = inRangeOf low high m in
+    let w = written m low high out in
+    let r : rising 0 ps ≡ true = unfold inRangeOf in rising-filter 0 (λ (s : Slot). leb low (s .key) && leb (s .key) high) m h in
+    let answer : listed (inRangeOf low high m) (length out) ≡ Pairs (length w) (more m low high out) = refl in
+    let slice : listedWords (inRangeOf low high m) out ≡ pairWords w ++ drop (2 * length w) out = refl in
     let fits : 2 * length w ≤ length out = omega (arith, length-take (length out / 2) ps, div-mul-le-self (length out) 2) in
     let f = further-iff (length out / 2) ps r in
     record {
       answer = answer;
       slice = slice;
-      in-range = λ s. mem-range low high s (mapOf t);
+      in-range = λ s. mem-range low high s m;
       first = refl;
       rises = rise-from-rising 0 w (rising-apart 0 w (drop (length out / 2) ps) (ap (rising 0) (take-append-drop (length out / 2) ps) ∙ r) .left);
-      further = (λ e. (let u = f .0 e in (u .0, mem-range low high (u .0) (mapOf t) .0 (u .1), u .2)), λ u. f .1 (u .0, mem-range low high (u .0) (mapOf t) .1 (u .1), u .2));
+      further = (λ e. (let u = f .0 e in (u .0, mem-range low high (u .0) m .0 (u .1), u .2)), λ u. f .1 (u .0, mem-range low high (u .0) m .1 (u .1), u .2));
       length-stays = ap length slice ∙ length-append (pairWords w) (drop (2 * length w) out) ∙ omega (arith, length-pairs w, length-drop (2 * length w) out);
       words-stay = ap (drop (2 * length w)) slice ∙ drop-at (pairWords w) (drop (2 * length w) out) (2 * length w) (length-pairs w);
       words-written = ap (take (2 * length w)) slice ∙ take-at (pairWords w) (drop (2 * length w) out) (2 * length w) (length-pairs w);
-      none = λ l. (let e = range-none low high (mapOf t) l in (answer ∙ ap (λ (x : List Slot). listed x (length out)) e ∙ no-pairs (length out), slice ∙ ap (λ (x : List Slot). listedWords x out) e ∙ no-words out));
+      none = λ l. (let e = range-none low high m l in (answer ∙ ap (λ (x : List Slot). listed x (length out)) e ∙ no-pairs (length out), slice ∙ ap (λ (x : List Slot). listedWords x out) e ∙ no-words out));
     }

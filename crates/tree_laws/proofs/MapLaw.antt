@@ -5,11 +5,11 @@ use mathlib.Core.Logic.{_≢_}
 use mathlib.Core.List.{List, [], _∷_, _++_, map, append-nil, List·Memᴰ, List·Memᴰ·head, Memᴰ·append-right}
 use Prim.Native.Nat.{ℕ, _≤_, _<_}
 use native.Mathlib.Omega.{arith}
-use Rattle.model.specs.Table.{MARK, Words}
-use Rattle.model.specs.Slots.{Slot, View, view, recording}
+use Rattle.model.specs.Table.{MARK}
+use Rattle.model.specs.Slots.{Slot, View, recording}
 use Rattle.model.specs.Search.{within}
-use Rattle.model.specs.Reached.{flat, kept, leaves, mapping, mapOf, pointers}
-use Rattle.model.specs.SoundTest.{distinct, rising, pairOk, recordingsOk, sound}
+use Rattle.model.specs.Reached.{flat, kept, leaves, mapping, pointers}
+use Rattle.model.specs.SoundTest.{distinct, rising, pairOk, recordingsOk}
 use Rattle.model.specs.Sound.{Rise}
 use Rattle.list_laws.proofs.Tools.{Each, Each-map, Each-append, Each-flat, flat-append}
 use Rattle.list_laws.proofs.Members.{each-mem, map-flat}
@@ -17,7 +17,7 @@ use Rattle.list_laws.proofs.Distinct.{distinct-part}
 use Rattle.list_laws.proofs.Recordings.{recordings-iff, pointers-apart}
 use Rattle.tree_laws.proofs.Rows.{Row, not-zero, sib-facts, linked-cons}
 use Rattle.tree_laws.proofs.Cover.{below-low}
-use Rattle.tree_laws.proofs.Levels.{Orderly, Level, level-leaves, row-tail, head-least, leaf-once, orderly-of}
+use Rattle.tree_laws.proofs.Levels.{Orderly, Level, level-leaves, row-tail, head-least, leaf-once}
 use Rattle.tree_laws.proofs.Rising.{rising-join, rising-from, rise-from-rising, keys-distinct}
 use Rattle.tree_laws.proofs.Kept.{kept-below, kept-rises}
 
@@ -73,12 +73,11 @@ pub record MapRises (m : List Slot) : Type 0 where
   pub recordings-once : distinct (map recording m) ≡ true
   pub pairs-ok : Each (λ (s : Slot). pairOk s ≡ true) m
 
-pub map-rises : (t : Words) → sound t ≡ true → MapRises (mapOf t)
-map-rises t h =
-    let o = orderly-of t h in
-    let r = map-rising (view t) o in
-    let u = recordings-iff (mapOf t) .0 (o .recordings) in
-    record { rising = r; rise = rise-from-rising 0 (mapOf t) r; keys-once = keys-distinct 0 (mapOf t) r; recordings-once = u .1; pairs-ok = u .0 }
+pub map-rises : (v : View) → Orderly v → MapRises (mapping v)
+map-rises v o =
+    let r = map-rising v o in
+    let u = recordings-iff (mapping v) .0 (o .recordings) in
+    record { rising = r; rise = rise-from-rising 0 (mapping v) r; keys-once = keys-distinct 0 (mapping v) r; recordings-once = u .1; pairs-ok = u .0 }
 
 -- ---- one leaf's part of the map
 

@@ -16,7 +16,7 @@ use Rattle.model.specs.Slots.{Slot, slot, View, height}
 use Rattle.model.specs.Search.{onLevel, passes, kept, firstAbove, nextFrom}
 use Rattle.model.specs.Reached.{flat, children, leavesFrom, reachedFrom, leaves, mapping}
 use Rattle.model.specs.SoundTest.{rising}
-use Rattle.list_laws.proofs.Tools.{decode, or-right, Each, Each-map, above-here, above-past, above-l, absent-append}
+use Rattle.list_laws.proofs.Tools.{decode, or-right, Each-map, above-here, above-past, above-l, absent-append}
 use Rattle.list_laws.proofs.Members.{each-mem}
 use Rattle.tree_laws.proofs.Rows.{Good, At, Row, not-zero, sib-facts, linked-cons}
 use Rattle.tree_laws.proofs.Levels.{Orderly, level-leaves, row-tail, reached-few}

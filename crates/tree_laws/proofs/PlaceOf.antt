@@ -13,7 +13,8 @@ use Rattle.model.specs.Search.{within, firstWith}
 use Rattle.model.specs.Reached.{flat, kept, reached, leaves, mapping}
 use Rattle.model.specs.SoundTest.{rising}
 use Rattle.model.specs.Shifts.{placeOf}
-use Rattle.model.specs.Writes.{standing}
+use Rattle.model.specs.Writes.{standingIn}
+use Rattle.tree_laws.specs.OneTree.{standingOne}
 use Rattle.list_laws.proofs.Tools.{Each, Each-map, Each-append, Each-split, Misses}
 use Rattle.list_laws.proofs.Members.{each-mem, each-take, each-drop}
 use Rattle.tree_laws.proofs.Rows.{Good}
@@ -27,11 +28,11 @@ use Rattle.tree_laws.proofs.Leftovers.{SettledTree, settled-node}
 
 -- ---- the path in a settled tree
 
-pub standing-at : (t : Words) (l k : ℕ) → Orderly (view t) → l ≤ height (view t) → standing t l k ≡ cover (view t) k (rowAt (view t) l)
-unfolding standing
+pub standing-at : (t : Words) (l k : ℕ) → Orderly (view t) → l ≤ height (view t) → standingOne t l k ≡ cover (view t) k (rowAt (view t) l)
+unfolding standingIn
 standing-at t l k o h = path-at (view t) k l o h
 
-pub standing-leaf : (t : Words) (k : ℕ) → Orderly (view t) → standing t 0 k ≡ leafFor (view t) k
+pub standing-leaf : (t : Words) (k : ℕ) → Orderly (view t) → standingOne t 0 k ≡ leafFor (view t) k
 standing-leaf t k o = standing-at t 0 k o (omega arith) ∙ ap (cover (view t) k) (row-leaves (view t))
 
 -- ---- the leaf

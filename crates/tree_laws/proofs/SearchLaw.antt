@@ -10,16 +10,15 @@ use lib.ListN.{length, getD}
 use borrow.Author.Tests.{le-leb}
 use Rattle.model.specs.declared.Answer.the-variants.{Found, Absent, Refused}
 use Rattle.model.specs.declared.Next.{Next}
-use Rattle.model.specs.Table.{Words}
-use Rattle.model.specs.Slots.{Slot, slot, recordingOf, classOf, recordingOk, classOk, View, view, height}
-use Rattle.model.specs.Search.{below, within, moved, down, locate, pathFrom, path, firstWith, firstAbove, nextFrom, answerOf, lookup, answerIn, searchView, search}
-use Rattle.model.specs.Reached.{flat, headOr, kept, named, nextChild, children, leavesFrom, reached, leaves, mapping, mapOf}
-use Rattle.model.specs.SoundTest.{soundView, sound}
+use Rattle.model.specs.Slots.{Slot, slot, recordingOf, classOf, recordingOk, classOk, View, height}
+use Rattle.model.specs.Search.{below, within, moved, down, locate, pathFrom, path, firstWith, firstAbove, nextFrom, answerOf, lookup, answerIn, searchView}
+use Rattle.model.specs.Reached.{flat, headOr, kept, named, nextChild, children, leavesFrom, reached, leaves, mapping}
+use Rattle.model.specs.SoundTest.{soundView}
 use Rattle.list_laws.proofs.Tools.{Each, Each-map, Each-flat, Misses, first-l, first-r, first-filter}
 use Rattle.list_laws.proofs.Members.{each-mem, each-index}
 use Rattle.tree_laws.proofs.Rows.{Good, At, Row, Inner, inners, linked-cons, fill-mem}
 use Rattle.tree_laws.proofs.Cover.{cover, cover-in, cover-out, cover-has, cover-mem, cover-fence, cover-child, cover-flat, stays, below-true, within-up-to, step-down, step-whole, down-named, nexts}
-use Rattle.tree_laws.proofs.Levels.{Orderly, sound-orderly, sound-parts, Level, level-lower, level-root, level-at, level-leaves, rowAt, row-below, row-reached, reached-row, row-tail, head-least, orderly-of}
+use Rattle.tree_laws.proofs.Levels.{Orderly, sound-orderly, Level, level-lower, level-root, level-at, level-leaves, rowAt, row-below, row-reached, reached-row, row-tail, head-least}
 use Rattle.tree_laws.proofs.Rising.{found-iff, found-ok, absent-iff, lookup-answers}
 use Rattle.tree_laws.proofs.MapLaw.{map-rising, map-rises, leaf-part}
 use Rattle.tree_laws.proofs.NextLaw.{passes-good, next-law, IsNext, next-least}
@@ -204,25 +203,20 @@ search-view v k h =
     ∙ ap (λ (s : Option Slot). answerOf s (nextFrom v (v .nodes) x k)) (sym (range-first v k x o m (c .fence) (c .inside)))
     ∙ ap (answerOf (firstWith k (mapping v))) (next-law v k x o m (c .fence)))
 
--- On a sound table a search for any key answers as a lookup in the map.
-pub search-law : (t : Words) (k : ℕ) → sound t ≡ true → search t k ≡ lookup k (mapOf t)
-unfolding search
-search-law t k h = let u = sound-parts t .0 h in rw (u .0, search) (search-view (view t) k (u .1))
-
 -- It finds the recording and class of x exactly if the map has (k, x), it is absent exactly if the map has no pair with key k, with the
 -- next key up in the map, and it is never refused.
-pub search-found : (t : Words) (k x : ℕ) → sound t ≡ true → (search t k ≡ Found (recordingOf x) (classOf x)) ↔ List·Memᴰ (slot k x) (mapOf t)
-search-found t k x h = let o = orderly-of t h in rw (search-law t k h) (found-iff 0 k x (mapOf t) (map-rising (view t) o))
+pub search-found : (v : View) (k x : ℕ) → soundView v ≡ true → (searchView v k ≡ Found (recordingOf x) (classOf x)) ↔ List·Memᴰ (slot k x) (mapping v)
+search-found v k x h = let o = sound-orderly v h in rw (search-view v k h) (found-iff 0 k x (mapping v) (map-rising v o))
 
-pub search-absent : (t : Words) (k : ℕ) (x : Next) → sound t ≡ true → (search t k ≡ Absent x) ↔ (Misses k (mapOf t) × (x ≡ firstAbove k (mapOf t)))
-search-absent t k x h = rw (search-law t k h) (absent-iff k x (mapOf t))
+pub search-absent : (v : View) (k : ℕ) (x : Next) → soundView v ≡ true → (searchView v k ≡ Absent x) ↔ (Misses k (mapping v) × (x ≡ firstAbove k (mapping v)))
+search-absent v k x h = rw (search-view v k h) (absent-iff k x (mapping v))
 
-pub search-next : (t : Words) (k : ℕ) (x : Next) → sound t ≡ true → search t k ≡ Absent x → IsNext k (mapOf t) x
-search-next t k x h e = rw (search-absent t k x h .0 e .1) (next-least 0 k (mapOf t) (map-rising (view t) (orderly-of t h)))
+pub search-next : (v : View) (k : ℕ) (x : Next) → soundView v ≡ true → searchView v k ≡ Absent x → IsNext k (mapping v) x
+search-next v k x h e = rw (search-absent v k x h .0 e .1) (next-least 0 k (mapping v) (map-rising v (sound-orderly v h)))
 
-pub search-answers : (t : Words) (k n : ℕ) → sound t ≡ true → search t k ≢ Refused n
-search-answers t k n h = rw (search-law t k h) (lookup-answers k n (mapOf t))
+pub search-answers : (v : View) (k n : ℕ) → soundView v ≡ true → searchView v k ≢ Refused n
+search-answers v k n h = rw (search-view v k h) (lookup-answers k n (mapping v))
 
 -- What it finds is a recording number from 1 to 2 to the power 56, less 1, and a class from 0 to 2.
-pub search-class : (t : Words) (k r c : ℕ) → sound t ≡ true → search t k ≡ Found r c → (recordingOk r ≡ true) × (classOk c ≡ true)
-search-class t k r c h e = found-ok k r c (mapOf t) (map-rises t h .pairs-ok) (sym (search-law t k h) ∙ e)
+pub search-class : (v : View) (k r c : ℕ) → soundView v ≡ true → searchView v k ≡ Found r c → (recordingOk r ≡ true) × (classOk c ≡ true)
+search-class v k r c h e = found-ok k r c (mapping v) (map-rises v (sound-orderly v h) .pairs-ok) (sym (search-view v k h) ∙ e)

@@ -5,15 +5,15 @@ use mathlib.Core.Logic.{_↔_}
 use mathlib.Core.List.{[], _∷_, _++_, List·Memᴰ}
 use Prim.Native.Nat.{ℕ, suc, _≤_, _<_}
 use lib.ListN.{length}
-use Rattle.model.specs.Table.{Words, inRange}
-use Rattle.model.specs.Slots.{Slot, View, view, height}
+use Rattle.model.specs.Table.{inRange}
+use Rattle.model.specs.Slots.{Slot, View, height}
 use Rattle.model.specs.Search.{within}
 use Rattle.model.specs.Reached.{flat, kept, children, reached, leaves}
-use Rattle.model.specs.SoundTest.{distinct, linked, sound}
+use Rattle.model.specs.SoundTest.{distinct, linked}
 use Rattle.list_laws.proofs.Tools.{Each}
 use Rattle.list_laws.proofs.Members.{each-mem, each-both}
 use Rattle.tree_laws.proofs.Rows.{Good, At}
-use Rattle.tree_laws.proofs.Levels.{Orderly, level-at, rowAt, row-leaves, row-root, row-below, row-reached, reached-row, mem-leaves, Ascending, ascending, Bounded, reached-bounds, reached-few, orderly-of}
+use Rattle.tree_laws.proofs.Levels.{Orderly, level-at, rowAt, row-leaves, row-root, row-below, row-reached, reached-row, mem-leaves, Ascending, ascending, Bounded, reached-bounds, reached-few}
 use Rattle.tree_laws.proofs.Kept.{kept-within, kept-from, ignored, shown-split}
 
 -- keys from n's fence up to below its sibling's
@@ -60,6 +60,3 @@ shape-view v o = record {
   keys = λ {n} m. each-both (λ (s : Slot). v .node n .fence ≤ s .key) (λ (s : Slot). within v n (s .key) ≡ true) (kept v n) (kept-from v n (each-mem (Good v) (o .good) m)) (kept-within v n);
   shows = λ {n} m. shown-split v n (each-mem (Good v) (o .good) m);
 }
-
-pub shape : (t : Words) → sound t ≡ true → Shape (view t)
-shape t h = shape-view (view t) (orderly-of t h)

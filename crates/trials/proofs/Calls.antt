@@ -27,111 +27,111 @@ small t xs = done t (allKeys (view t)) xs
 -- in a leaf, at both ends and in the middle; the words past the slots in use may be stale
 abbrev pub inLeaf : List Trial
 inLeaf =
-    small (empty 1) (insertion 0 1 2 ∷ insertion MARK 7 1 ∷ repair ∷ [])
-    ∷ small (oneLevel 1 []) (deletion 10 ∷ [])
-    ∷ small (apply (put (keyWord 1 3) 33 ∷ put (keyWord 1 4) 35 ∷ put (pointerWord 1 4) 88 ∷ []) (oneLevel 3 [])) (insertion 0 7 0 ∷ insertion 25 7 0 ∷ insertion 35 7 0 ∷ deletion 10 ∷ deletion 20 ∷ deletion 30 ∷ repair ∷ [])
-    ∷ done (oneLevel 10 []) (10 ∷ 50 ∷ 100 ∷ []) (insertion 5 7 0 ∷ insertion 105 7 0 ∷ [])
-    ∷ done (oneLevel 11 []) (20 ∷ 60 ∷ 110 ∷ []) (deletion 10 ∷ deletion 110 ∷ [])
+    small (empty 1) (insertion 1 0 1 2 ∷ insertion 1 MARK 7 1 ∷ repair ∷ [])
+    ∷ small (oneLevel 1 []) (deletion 1 10 ∷ [])
+    ∷ small (apply (put (keyWord 1 3) 33 ∷ put (keyWord 1 4) 35 ∷ put (pointerWord 1 4) 88 ∷ []) (oneLevel 3 [])) (insertion 1 0 7 0 ∷ insertion 1 25 7 0 ∷ insertion 1 35 7 0 ∷ deletion 1 10 ∷ deletion 1 20 ∷ deletion 1 30 ∷ repair ∷ [])
+    ∷ done (oneLevel 10 []) (10 ∷ 50 ∷ 100 ∷ []) (insertion 1 5 7 0 ∷ insertion 1 105 7 0 ∷ [])
+    ∷ done (oneLevel 11 []) (20 ∷ 60 ∷ 110 ∷ []) (deletion 1 10 ∷ deletion 1 110 ∷ [])
     ∷ []
 
 -- splits: of a root leaf, the fresh nodes after it or going round; below a parent, at its first slot and at its end
 abbrev pub splitting : List Trial
 splitting =
-    small (rootLeaf 3) (insertion 115 7 0 ∷ [])
-    ∷ done (tableOf 3 (stale 2 ++ (leafOf 1 0 11 ∷ []))) (0 ∷ 10 ∷ 50 ∷ 60 ∷ 110 ∷ MARK ∷ []) (insertion 55 7 0 ∷ [])
-    ∷ done (twoLevels (11 ∷ 1 ∷ []) (ways 2 1) (stale 1)) (10 ∷ 50 ∷ 60 ∷ 110 ∷ 200 ∷ 210 ∷ []) (insertion 115 7 0 ∷ [])
-    ∷ done (twoLevels (0 ∷ 11 ∷ []) (ways 2 1) (stale 1)) (0 ∷ 200 ∷ 210 ∷ 260 ∷ 310 ∷ []) (insertion 315 7 0 ∷ [])
+    small (rootLeaf 3) (insertion 1 115 7 0 ∷ [])
+    ∷ done (tableOf 3 (stale 2 ++ (leafOf 1 0 11 ∷ []))) (0 ∷ 10 ∷ 50 ∷ 60 ∷ 110 ∷ MARK ∷ []) (insertion 1 55 7 0 ∷ [])
+    ∷ done (twoLevels (11 ∷ 1 ∷ []) (ways 2 1) (stale 1)) (10 ∷ 50 ∷ 60 ∷ 110 ∷ 200 ∷ 210 ∷ []) (insertion 1 115 7 0 ∷ [])
+    ∷ done (twoLevels (0 ∷ 11 ∷ []) (ways 2 1) (stale 1)) (0 ∷ 200 ∷ 210 ∷ 260 ∷ 310 ∷ []) (insertion 1 315 7 0 ∷ [])
     ∷ []
 
 -- runs of two full nodes, a leaf and its parent: below the root, with a sibling; and the root itself
 abbrev pub runs : List Trial
 runs =
-    done (threeLevels (0 ∷ 0 ∷ 0 ∷ 0 ∷ 0 ∷ 0 ∷ 0 ∷ 0 ∷ 0 ∷ 0 ∷ 0 ∷ 11 ∷ 0 ∷ []) (ways 2 11) (slot 2400 15 ∷ []) (stale 2)) (2199 ∷ 2210 ∷ 2260 ∷ 2310 ∷ 2400 ∷ []) (insertion 2315 7 0 ∷ [])
-    ∷ done (twoLevels (0 ∷ 0 ∷ 0 ∷ 0 ∷ 0 ∷ 11 ∷ 0 ∷ 0 ∷ 0 ∷ 0 ∷ 0 ∷ 0 ∷ []) (ways 2 11) (stale 3)) (999 ∷ 1010 ∷ 1060 ∷ 1110 ∷ 1200 ∷ []) (insertion 1000 7 0 ∷ [])
+    done (threeLevels (0 ∷ 0 ∷ 0 ∷ 0 ∷ 0 ∷ 0 ∷ 0 ∷ 0 ∷ 0 ∷ 0 ∷ 0 ∷ 11 ∷ 0 ∷ []) (ways 2 11) (slot 2400 15 ∷ []) (stale 2)) (2199 ∷ 2210 ∷ 2260 ∷ 2310 ∷ 2400 ∷ []) (insertion 1 2315 7 0 ∷ [])
+    ∷ done (twoLevels (0 ∷ 0 ∷ 0 ∷ 0 ∷ 0 ∷ 11 ∷ 0 ∷ 0 ∷ 0 ∷ 0 ∷ 0 ∷ 0 ∷ []) (ways 2 11) (stale 3)) (999 ∷ 1010 ∷ 1060 ∷ 1110 ∷ 1200 ∷ []) (insertion 1 1000 7 0 ∷ [])
     ∷ []
 
 -- leftover (a) in a leaf and in an inner node, at slot 0, between two slots and at the end; with a full leaf
 abbrev pub hiddenSlots : List Trial
 hiddenSlots =
-    small (apply (put (pointerWord 1 0) MARK ∷ []) (oneLevel 3 (stale 1))) (repair ∷ insertion 5 7 0 ∷ deletion 30 ∷ [])
-    ∷ small (apply (put (pointerWord 1 1) 101 ∷ []) (oneLevel 3 (stale 1))) (repair ∷ insertion 20 7 0 ∷ deletion 10 ∷ [])
-    ∷ small (apply (put (pointerWord 1 2) 102 ∷ []) (oneLevel 3 (stale 1))) (repair ∷ insertion 35 7 0 ∷ deletion 20 ∷ [])
-    ∷ small (twoLevels (1 ∷ 1 ∷ 1 ∷ []) (slot 77 1 ∷ ways 2 2) (stale 1)) (repair ∷ insertion 205 7 0 ∷ deletion 10 ∷ [])
-    ∷ small (twoLevels (1 ∷ 1 ∷ 1 ∷ []) (slot 200 2 ∷ slot 300 2 ∷ ways 3 1) (stale 1)) (repair ∷ insertion 305 7 0 ∷ deletion 210 ∷ [])
-    ∷ small (twoLevels (1 ∷ 1 ∷ 1 ∷ []) (ways 2 2 ++ (slot 0 3 ∷ [])) (stale 1)) (repair ∷ insertion 405 7 0 ∷ deletion 410 ∷ [])
-    ∷ done (twoLevels (11 ∷ 1 ∷ []) (slot 200 1 ∷ ways 2 1) (stale 1)) (10 ∷ 60 ∷ 110 ∷ 210 ∷ []) (insertion 115 7 0 ∷ [])
+    small (apply (put (pointerWord 1 0) MARK ∷ []) (oneLevel 3 (stale 1))) (repair ∷ insertion 1 5 7 0 ∷ deletion 1 30 ∷ [])
+    ∷ small (apply (put (pointerWord 1 1) 101 ∷ []) (oneLevel 3 (stale 1))) (repair ∷ insertion 1 20 7 0 ∷ deletion 1 10 ∷ [])
+    ∷ small (apply (put (pointerWord 1 2) 102 ∷ []) (oneLevel 3 (stale 1))) (repair ∷ insertion 1 35 7 0 ∷ deletion 1 20 ∷ [])
+    ∷ small (twoLevels (1 ∷ 1 ∷ 1 ∷ []) (slot 77 1 ∷ ways 2 2) (stale 1)) (repair ∷ insertion 1 205 7 0 ∷ deletion 1 10 ∷ [])
+    ∷ small (twoLevels (1 ∷ 1 ∷ 1 ∷ []) (slot 200 2 ∷ slot 300 2 ∷ ways 3 1) (stale 1)) (repair ∷ insertion 1 305 7 0 ∷ deletion 1 210 ∷ [])
+    ∷ small (twoLevels (1 ∷ 1 ∷ 1 ∷ []) (ways 2 2 ++ (slot 0 3 ∷ [])) (stale 1)) (repair ∷ insertion 1 405 7 0 ∷ deletion 1 410 ∷ [])
+    ∷ done (twoLevels (11 ∷ 1 ∷ []) (slot 200 1 ∷ ways 2 1) (stale 1)) (10 ∷ 60 ∷ 110 ∷ 210 ∷ []) (insertion 1 115 7 0 ∷ [])
     ∷ []
 
 -- leftovers (b) with slots from B's fence up, (b) without, and (c): after the last child, between two, and of an inner node; and a full
 -- leaf that repair cuts, so that no split is due
 abbrev pub missingSlots : List Trial
 missingSlots =
-    small (apply (put (keyWord 1 1) 220 ∷ put (keyWord 1 2) 200 ∷ []) (twoLevels (3 ∷ 1 ∷ []) [] [])) (repair ∷ insertion 105 7 0 ∷ deletion 10 ∷ [])
-    ∷ small (twoLevels (1 ∷ 1 ∷ []) [] []) (repair ∷ insertion 105 7 0 ∷ deletion 210 ∷ [])
-    ∷ small (twoLevels (1 ∷ 1 ∷ []) (slot 200 1 ∷ []) []) (repair ∷ insertion 205 7 0 ∷ deletion 10 ∷ [])
+    small (apply (put (keyWord 1 1) 220 ∷ put (keyWord 1 2) 200 ∷ []) (twoLevels (3 ∷ 1 ∷ []) [] [])) (repair ∷ insertion 1 105 7 0 ∷ deletion 1 10 ∷ [])
+    ∷ small (twoLevels (1 ∷ 1 ∷ []) [] []) (repair ∷ insertion 1 105 7 0 ∷ deletion 1 210 ∷ [])
+    ∷ small (twoLevels (1 ∷ 1 ∷ []) (slot 200 1 ∷ []) []) (repair ∷ insertion 1 205 7 0 ∷ deletion 1 10 ∷ [])
     ∷ small (apply (put (keyWord 1 0) 220 ∷ []) (twoLevels (1 ∷ 1 ∷ 1 ∷ []) (ways 3 1) [])) (repair ∷ [])
-    ∷ small (twoLevels (1 ∷ 1 ∷ 1 ∷ []) (ways 3 1) []) (insertion 205 7 0 ∷ [])
-    ∷ small (twoLevels (1 ∷ 1 ∷ 1 ∷ []) (ways 3 1 ++ (slot 0 3 ∷ [])) []) (deletion 410 ∷ [])
-    ∷ small (threeLevels (1 ∷ 1 ∷ 1 ∷ []) (ways 2 2) [] []) (repair ∷ insertion 205 7 0 ∷ [])
+    ∷ small (twoLevels (1 ∷ 1 ∷ 1 ∷ []) (ways 3 1) []) (insertion 1 205 7 0 ∷ [])
+    ∷ small (twoLevels (1 ∷ 1 ∷ 1 ∷ []) (ways 3 1 ++ (slot 0 3 ∷ [])) []) (deletion 1 410 ∷ [])
+    ∷ small (threeLevels (1 ∷ 1 ∷ 1 ∷ []) (ways 2 2) [] []) (repair ∷ insertion 1 205 7 0 ∷ [])
     ∷ small (threeLevels (1 ∷ 1 ∷ 1 ∷ []) (ways 2 1) [] []) (repair ∷ [])
     ∷ small (threeLevels (1 ∷ 1 ∷ 1 ∷ []) (ways 2 1) (slot 0 4 ∷ []) []) (repair ∷ [])
-    ∷ done (cutAfter 33 (insertion 115 7 0) (twoLevels (11 ∷ []) [] (stale 1))) (10 ∷ 60 ∷ 110 ∷ []) (insertion 55 7 0 ∷ [])
+    ∷ done (cutAfter 33 (insertion 1 115 7 0) (twoLevels (11 ∷ []) [] (stale 1))) (10 ∷ 60 ∷ 110 ∷ []) (insertion 1 55 7 0 ∷ [])
     ∷ []
 
 -- shifts over two lines; a split, where the fresh node is full of stale words, so it must be whole in memory before A leads to it; a leaf
 -- freed
 abbrev pub cuts : List Trial
-cuts = cut (oneLevel 4 []) (insertion 5 7 0 ∷ []) ∷ cut (oneLevel 5 []) (deletion 10 ∷ []) ∷ cut (twoLevels (11 ∷ []) [] (stale 1)) (insertion 115 7 0 ∷ []) ∷ cut (twoLevels (1 ∷ 1 ∷ 1 ∷ []) (ways 2 2) []) (deletion 210 ∷ []) ∷ []
+cuts = cut (oneLevel 4 []) (insertion 1 5 7 0 ∷ []) ∷ cut (oneLevel 5 []) (deletion 1 10 ∷ []) ∷ cut (twoLevels (11 ∷ []) [] (stale 1)) (insertion 1 115 7 0 ∷ []) ∷ cut (twoLevels (1 ∷ 1 ∷ 1 ∷ []) (ways 2 2) []) (deletion 1 210 ∷ []) ∷ []
 
 -- an emptied leaf is freed, and no other node: in the middle, at the end, below a full parent, below a second parent; not a root leaf, nor
 -- a leftmost child. Cut between the parent's first store and the last, repair attaches it again; emptied by a cut or a repair, it stays.
 abbrev pub freeing : List Trial
 freeing =
-    small (twoLevels (2 ∷ 1 ∷ 1 ∷ []) (ways 2 2) (stale 1)) (deletion 210 ∷ deletion 410 ∷ deletion 20 ∷ [])
-    ∷ ended (twoLevels (0 ∷ 1 ∷ 0 ∷ 0 ∷ 0 ∷ 0 ∷ 0 ∷ 0 ∷ 0 ∷ 0 ∷ 0 ∷ 0 ∷ []) (ways 2 11) []) (deletion 210 ∷ [])
-    ∷ small (threeLevels (1 ∷ 1 ∷ 1 ∷ []) (ways 2 1) (slot 400 5 ∷ []) []) (deletion 210 ∷ deletion 410 ∷ [])
-    ∷ reaches (oneLevel 1 []) (deletion 10) (1 ∷ [])
-    ∷ reaches (twoLevels (2 ∷ 1 ∷ 1 ∷ []) (ways 2 2) (stale 1)) (deletion 10) (4 ∷ 1 ∷ 2 ∷ 3 ∷ [])
-    ∷ reaches (threeLevels (1 ∷ 1 ∷ 1 ∷ []) (ways 2 1) (slot 400 5 ∷ []) []) (deletion 210) (6 ∷ 4 ∷ 5 ∷ 1 ∷ 3 ∷ [])
-    ∷ reaches (threeLevels (1 ∷ 1 ∷ 1 ∷ []) (ways 2 1) (slot 400 5 ∷ []) []) (deletion 410) (6 ∷ 4 ∷ 5 ∷ 1 ∷ 2 ∷ 3 ∷ [])
-    ∷ reaches (cutAfter 2 (deletion 210) (twoLevels (1 ∷ 1 ∷ 1 ∷ []) (ways 2 2) [])) repair (4 ∷ 1 ∷ 2 ∷ 3 ∷ [])
-    ∷ reaches (cutAfter 3 (deletion 210) (twoLevels (1 ∷ 1 ∷ 1 ∷ []) (ways 2 2) [])) repair (4 ∷ 1 ∷ 2 ∷ 3 ∷ [])
-    ∷ reaches (cutAfter 6 (deletion 210) (twoLevels (1 ∷ 1 ∷ 1 ∷ []) (ways 2 2) [])) repair (4 ∷ 1 ∷ 2 ∷ 3 ∷ [])
-    ∷ reaches (cutAfter 6 (deletion 210) (twoLevels (1 ∷ 1 ∷ 1 ∷ []) (ways 2 2) [])) (deletion 10) (4 ∷ 1 ∷ 2 ∷ 3 ∷ [])
-    ∷ reaches (cutAfter 7 (deletion 210) (twoLevels (1 ∷ 1 ∷ 1 ∷ []) (ways 2 2) [])) repair (4 ∷ 1 ∷ 3 ∷ [])
-    ∷ done (cutAfter 5 (deletion 210) (twoLevels (11 ∷ 1 ∷ []) (ways 2 1) [])) (10 ∷ 60 ∷ 110 ∷ []) (insertion 11 1 0 ∷ [])
+    small (twoLevels (2 ∷ 1 ∷ 1 ∷ []) (ways 2 2) (stale 1)) (deletion 1 210 ∷ deletion 1 410 ∷ deletion 1 20 ∷ [])
+    ∷ ended (twoLevels (0 ∷ 1 ∷ 0 ∷ 0 ∷ 0 ∷ 0 ∷ 0 ∷ 0 ∷ 0 ∷ 0 ∷ 0 ∷ 0 ∷ []) (ways 2 11) []) (deletion 1 210 ∷ [])
+    ∷ small (threeLevels (1 ∷ 1 ∷ 1 ∷ []) (ways 2 1) (slot 400 5 ∷ []) []) (deletion 1 210 ∷ deletion 1 410 ∷ [])
+    ∷ reaches (oneLevel 1 []) (deletion 1 10) (1 ∷ [])
+    ∷ reaches (twoLevels (2 ∷ 1 ∷ 1 ∷ []) (ways 2 2) (stale 1)) (deletion 1 10) (4 ∷ 1 ∷ 2 ∷ 3 ∷ [])
+    ∷ reaches (threeLevels (1 ∷ 1 ∷ 1 ∷ []) (ways 2 1) (slot 400 5 ∷ []) []) (deletion 1 210) (6 ∷ 4 ∷ 5 ∷ 1 ∷ 3 ∷ [])
+    ∷ reaches (threeLevels (1 ∷ 1 ∷ 1 ∷ []) (ways 2 1) (slot 400 5 ∷ []) []) (deletion 1 410) (6 ∷ 4 ∷ 5 ∷ 1 ∷ 2 ∷ 3 ∷ [])
+    ∷ reaches (cutAfter 2 (deletion 1 210) (twoLevels (1 ∷ 1 ∷ 1 ∷ []) (ways 2 2) [])) repair (4 ∷ 1 ∷ 2 ∷ 3 ∷ [])
+    ∷ reaches (cutAfter 3 (deletion 1 210) (twoLevels (1 ∷ 1 ∷ 1 ∷ []) (ways 2 2) [])) repair (4 ∷ 1 ∷ 2 ∷ 3 ∷ [])
+    ∷ reaches (cutAfter 6 (deletion 1 210) (twoLevels (1 ∷ 1 ∷ 1 ∷ []) (ways 2 2) [])) repair (4 ∷ 1 ∷ 2 ∷ 3 ∷ [])
+    ∷ reaches (cutAfter 6 (deletion 1 210) (twoLevels (1 ∷ 1 ∷ 1 ∷ []) (ways 2 2) [])) (deletion 1 10) (4 ∷ 1 ∷ 2 ∷ 3 ∷ [])
+    ∷ reaches (cutAfter 7 (deletion 1 210) (twoLevels (1 ∷ 1 ∷ 1 ∷ []) (ways 2 2) [])) repair (4 ∷ 1 ∷ 3 ∷ [])
+    ∷ done (cutAfter 5 (deletion 1 210) (twoLevels (11 ∷ 1 ∷ []) (ways 2 1) [])) (10 ∷ 60 ∷ 110 ∷ []) (insertion 1 11 1 0 ∷ [])
     ∷ []
 
 -- a changed class: at both ends and in the middle, the same class again, in a full leaf; after each leftover; and cut
 abbrev pub classes : List Trial
 classes =
-    small (oneLevel 3 []) (classChange 10 1 ∷ classChange 20 0 ∷ classChange 30 2 ∷ [])
-    ∷ done (oneLevel 11 []) (10 ∷ 60 ∷ 110 ∷ []) (classChange 60 2 ∷ classChange 110 1 ∷ [])
-    ∷ small (apply (put (pointerWord 1 1) 101 ∷ []) (oneLevel 3 (stale 1))) (classChange 10 1 ∷ classChange 30 2 ∷ [])
-    ∷ small (apply (put (keyWord 1 1) 220 ∷ put (keyWord 1 2) 200 ∷ []) (twoLevels (3 ∷ 1 ∷ []) [] [])) (classChange 10 1 ∷ classChange 210 2 ∷ [])
-    ∷ small (twoLevels (1 ∷ 1 ∷ []) (slot 200 1 ∷ []) []) (classChange 210 1 ∷ [])
-    ∷ cut (oneLevel 4 []) (classChange 20 2 ∷ [])
-    ∷ cut (apply (put (pointerWord 1 1) 101 ∷ []) (oneLevel 3 (stale 1))) (classChange 30 1 ∷ [])
+    small (oneLevel 3 []) (classChange 1 10 1 ∷ classChange 1 20 0 ∷ classChange 1 30 2 ∷ [])
+    ∷ done (oneLevel 11 []) (10 ∷ 60 ∷ 110 ∷ []) (classChange 1 60 2 ∷ classChange 1 110 1 ∷ [])
+    ∷ small (apply (put (pointerWord 1 1) 101 ∷ []) (oneLevel 3 (stale 1))) (classChange 1 10 1 ∷ classChange 1 30 2 ∷ [])
+    ∷ small (apply (put (keyWord 1 1) 220 ∷ put (keyWord 1 2) 200 ∷ []) (twoLevels (3 ∷ 1 ∷ []) [] [])) (classChange 1 10 1 ∷ classChange 1 210 2 ∷ [])
+    ∷ small (twoLevels (1 ∷ 1 ∷ []) (slot 200 1 ∷ []) []) (classChange 1 210 1 ∷ [])
+    ∷ cut (oneLevel 4 []) (classChange 1 20 2 ∷ [])
+    ∷ cut (apply (put (pointerWord 1 1) 101 ∷ []) (oneLevel 3 (stale 1))) (classChange 1 30 1 ∷ [])
     ∷ []
 
 -- the numbers in their order; 8 looks at the map alone, and at recordings alone
 abbrev pub refusals : List Trial
 refusals =
-    number (empty 1) 2559 5 (insertion 1 0 3 ∷ deletion 1 ∷ classChange 1 3 ∷ repair ∷ [])
-    ∷ number (apply (put 3 1 ∷ []) (empty 1)) 2559 2 (insertion 1 0 3 ∷ deletion 1 ∷ classChange 1 3 ∷ repair ∷ [])
-    ∷ number (apply (put 12 1 ∷ []) (empty 1)) 2559 4 (insertion 1 0 3 ∷ deletion 1 ∷ classChange 1 3 ∷ repair ∷ [])
-    ∷ number (oneLevel 11 []) 2560 6 (insertion 10 0 0 ∷ insertion 10 RECORDINGS 3 ∷ insertion 10 MARK 3 ∷ [])
-    ∷ number (oneLevel 11 []) 2560 14 (insertion 10 101 3 ∷ insertion 10 (pred RECORDINGS) MARK ∷ classChange 10 3 ∷ classChange 11 MARK ∷ [])
-    ∷ number (oneLevel 11 []) 2560 7 (insertion 10 101 0 ∷ insertion 110 102 0 ∷ [])
-    ∷ number (oneLevel 11 []) 2560 8 (insertion 11 101 2 ∷ insertion 0 111 0 ∷ [])
-    ∷ number (apply (put (pointerWord 1 0) (pointerOf 101 2) ∷ []) (oneLevel 3 [])) 2560 8 (insertion 11 101 0 ∷ insertion 11 101 2 ∷ [])
-    ∷ number (oneLevel 11 []) 2560 9 (deletion 11 ∷ deletion 0 ∷ classChange 11 0 ∷ classChange 0 2 ∷ [])
-    ∷ number (oneLevel 3 []) 2560 0 (insertion 11 (pred RECORDINGS) 2 ∷ classChange 10 0 ∷ classChange 10 2 ∷ [])
-    ∷ number (oneLevel 11 []) 2560 10 (insertion 11 1 0 ∷ [])
-    ∷ number (oneLevel 11 (stale 1)) 2560 10 (insertion 11 1 0 ∷ [])
-    ∷ number (twoLevels (11 ∷ 1 ∷ []) (ways 2 1) []) 2560 10 (insertion 11 1 0 ∷ [])
-    ∷ number (twoLevels (11 ∷ 1 ∷ []) (ways 2 1) []) 2560 0 (insertion 211 1 0 ∷ [])
-    ∷ number (apply (put (keyWord 1 1) 230 ∷ []) (twoLevels (2 ∷ 1 ∷ []) [] [])) 2560 0 (insertion 20 102 0 ∷ insertion 230 102 0 ∷ repair ∷ [])
+    number (empty 1) 2559 5 (insertion 1 1 0 3 ∷ deletion 1 1 ∷ classChange 1 1 3 ∷ repair ∷ [])
+    ∷ number (apply (put 3 1 ∷ []) (empty 1)) 2559 2 (insertion 1 1 0 3 ∷ deletion 1 1 ∷ classChange 1 1 3 ∷ repair ∷ [])
+    ∷ number (apply (put 12 1 ∷ []) (empty 1)) 2559 4 (insertion 1 1 0 3 ∷ deletion 1 1 ∷ classChange 1 1 3 ∷ repair ∷ [])
+    ∷ number (oneLevel 11 []) 2560 6 (insertion 1 10 0 0 ∷ insertion 1 10 RECORDINGS 3 ∷ insertion 1 10 MARK 3 ∷ [])
+    ∷ number (oneLevel 11 []) 2560 14 (insertion 1 10 101 3 ∷ insertion 1 10 (pred RECORDINGS) MARK ∷ classChange 1 10 3 ∷ classChange 1 11 MARK ∷ [])
+    ∷ number (oneLevel 11 []) 2560 7 (insertion 1 10 101 0 ∷ insertion 1 110 102 0 ∷ [])
+    ∷ number (oneLevel 11 []) 2560 8 (insertion 1 11 101 2 ∷ insertion 1 0 111 0 ∷ [])
+    ∷ number (apply (put (pointerWord 1 0) (pointerOf 101 2) ∷ []) (oneLevel 3 [])) 2560 8 (insertion 1 11 101 0 ∷ insertion 1 11 101 2 ∷ [])
+    ∷ number (oneLevel 11 []) 2560 9 (deletion 1 11 ∷ deletion 1 0 ∷ classChange 1 11 0 ∷ classChange 1 0 2 ∷ [])
+    ∷ number (oneLevel 3 []) 2560 0 (insertion 1 11 (pred RECORDINGS) 2 ∷ classChange 1 10 0 ∷ classChange 1 10 2 ∷ [])
+    ∷ number (oneLevel 11 []) 2560 10 (insertion 1 11 1 0 ∷ [])
+    ∷ number (oneLevel 11 (stale 1)) 2560 10 (insertion 1 11 1 0 ∷ [])
+    ∷ number (twoLevels (11 ∷ 1 ∷ []) (ways 2 1) []) 2560 10 (insertion 1 11 1 0 ∷ [])
+    ∷ number (twoLevels (11 ∷ 1 ∷ []) (ways 2 1) []) 2560 0 (insertion 1 211 1 0 ∷ [])
+    ∷ number (apply (put (keyWord 1 1) 230 ∷ []) (twoLevels (2 ∷ 1 ∷ []) [] [])) 2560 0 (insertion 1 20 102 0 ∷ insertion 1 230 102 0 ∷ repair ∷ [])
     ∷ []
 
 -- ---- all of them pass

@@ -1,6 +1,8 @@
--- The definitions tried: writes whole and cut, what breaks soundness, single sentences, request 1's, and salvages.
+-- The definitions tried: writes whole and cut, what breaks soundness, single sentences, and those of requests 1, 5 and 6.
 pub mod Calls
 pub mod Unsound
 pub mod Sentences
 pub mod NextUp
+pub mod Collections
 pub mod Salvages
+pub mod BothSalvaged

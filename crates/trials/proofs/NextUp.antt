@@ -29,26 +29,26 @@ ring = apply (word 2 1 1 ∷ []) (twoLevels (1 ∷ 1 ∷ []) (ways 2 1) [])
 
 pub record NextUp : Type 0 where
   -- The nearest higher code in the map, or that there is none.
-  pub here : (search (oneLevel 3 []) 5 ≡ Absent (Key 10)) × (search (oneLevel 3 []) 11 ≡ Absent (Key 20))
-  pub none : search (oneLevel 3 []) 31 ≡ Absent Nothing
+  pub here : (search 1 (oneLevel 3 []) 5 ≡ Absent (Key 10)) × (search 1 (oneLevel 3 []) 11 ≡ Absent (Key 20))
+  pub none : search 1 (oneLevel 3 []) 31 ≡ Absent Nothing
   -- It is looked for on along the siblings, past emptied leaves too.
-  pub along : search (twoLevels (2 ∷ 0 ∷ 0 ∷ 1 ∷ []) (ways 2 3) []) 25 ≡ Absent (Key 610)
+  pub along : search 1 (twoLevels (2 ∷ 0 ∷ 0 ∷ 1 ∷ []) (ways 2 3) []) 25 ≡ Absent (Key 610)
   -- MARK is a key like others.
-  pub largest : search (tableOf 1 (nodeWords MARK 0 0 0 (slot MARK 7 ∷ []) ∷ [])) 5 ≡ Absent (Key MARK)
+  pub largest : search 1 (tableOf 1 (nodeWords MARK 0 0 0 (slot MARK 7 ∷ []) ∷ [])) 5 ≡ Absent (Key MARK)
   -- The first one by its place in the leaf, and only below its own leaf's sibling's fence.
-  pub by-place : search (apply (key 1 0 30 ∷ []) (oneLevel 2 [])) 5 ≡ Absent (Key 30)
-  pub below-fence : search (apply (key 1 0 250 ∷ []) (twoLevels (1 ∷ 1 ∷ []) (ways 2 1) [])) 5 ≡ Absent (Key 210)
+  pub by-place : search 1 (apply (key 1 0 30 ∷ []) (oneLevel 2 [])) 5 ≡ Absent (Key 30)
+  pub below-fence : search 1 (apply (key 1 0 250 ∷ []) (twoLevels (1 ∷ 1 ∷ []) (ways 2 1) [])) 5 ≡ Absent (Key 210)
   -- A leaf on the way fails the search's tests, the sibling of the search's last one included: a found key is answered all the same.
-  pub outside : (search siblingOutside 205 ≡ Refused 3) × (search siblingOutside 210 ≡ Found 121 0)
-  pub other-level : (search siblingHigh 205 ≡ Refused 3) × (search siblingHigh 210 ≡ Found 121 0)
+  pub outside : (search 1 siblingOutside 205 ≡ Refused 3) × (search 1 siblingOutside 210 ≡ Found 121 0)
+  pub other-level : (search 1 siblingHigh 205 ≡ Refused 3) × (search 1 siblingHigh 210 ≡ Found 121 0)
   -- More than N leaves would be entered, repeats counted.
-  pub entered-twice : (search ownSibling 11 ≡ Refused 3) × (search ownSibling 10 ≡ Found 101 0)
-  pub round : search ring 500 ≡ Refused 3
+  pub entered-twice : (search 1 ownSibling 11 ≡ Refused 3) × (search 1 ownSibling 10 ≡ Found 101 0)
+  pub round : search 1 ring 500 ≡ Refused 3
   -- The lent words: absent puts the key and 1, or 0 alone; found and refused put neither.
-  pub words-key : (nextOr (search (oneLevel 3 []) 5) 8 ≡ 10) × (higherOr (search (oneLevel 3 []) 5) 8 ≡ 1)
-  pub words-none : (nextOr (search (oneLevel 3 []) 31) 8 ≡ 8) × (higherOr (search (oneLevel 3 []) 31) 8 ≡ 0)
-  pub words-found : (nextOr (search (oneLevel 3 []) 10) 8 ≡ 8) × (higherOr (search (oneLevel 3 []) 10) 8 ≡ 8)
-  pub words-refused : (nextOr (search ring 500) 8 ≡ 8) × ((higherOr (search ring 500) 8 ≡ 8) × (recordingOr (search ring 500) 8 ≡ 8))
+  pub words-key : (nextOr (search 1 (oneLevel 3 []) 5) 8 ≡ 10) × (higherOr (search 1 (oneLevel 3 []) 5) 8 ≡ 1)
+  pub words-none : (nextOr (search 1 (oneLevel 3 []) 31) 8 ≡ 8) × (higherOr (search 1 (oneLevel 3 []) 31) 8 ≡ 0)
+  pub words-found : (nextOr (search 1 (oneLevel 3 []) 10) 8 ≡ 8) × (higherOr (search 1 (oneLevel 3 []) 10) 8 ≡ 8)
+  pub words-refused : (nextOr (search 1 ring 500) 8 ≡ 8) × ((higherOr (search 1 ring 500) 8 ≡ 8) × (recordingOr (search 1 ring 500) 8 ≡ 8))
 
 pub next-up : NextUp
 unfolding everything tenSlots

@@ -48,15 +48,15 @@ pub record Sentences : Type 0 where
   pub most-nodes : (lengthOk (tableLength 65535) ≡ true) × (lengthOk (tableLength 65536) ≡ false)
   pub fewest-nodes : lengthOk (tableLength 0) ≡ false
   -- A search takes a root on level 15, and refuses one on level 16 with 3; an absent key leaves the lent word.
-  pub highest-root : (search chain 10 ≡ Found 101 0) × (search (apply (put 1 17 ∷ []) chain) 10 ≡ Refused 3)
-  pub absent-stays : recordingOr (search (oneLevel 1 []) 11) 5 ≡ 5
+  pub highest-root : (search 1 chain 10 ≡ Found 101 0) × (search 1 (apply (put 1 17 ∷ []) chain) 10 ≡ Refused 3)
+  pub absent-stays : recordingOr (search 1 (oneLevel 1 []) 11) 5 ≡ 5
   -- On a table that is not sound a search answers what stands there: a recording 0, a class above 2.
-  pub as-it-stands : (sound strange ≡ false) × (search strange 10 ≡ Found 0 255) × (search strange 20 ≡ Found 102 3)
+  pub as-it-stands : (sound strange ≡ false) × (search 1 strange 10 ≡ Found 0 255) × (search 1 strange 20 ≡ Found 102 3)
   -- A listing's second word is the whole pointer.
-  pub whole-pointer : listOut classed 0 MARK (replicate 4 0) ≡ 10 ∷ pointerOf 101 2 ∷ 20 ∷ 102 ∷ []
+  pub whole-pointer : listOut 1 classed 0 MARK (replicate 4 0) ≡ 10 ∷ pointerOf 101 2 ∷ 20 ∷ 102 ∷ []
   -- A listing refuses with 2 before 4.
-  pub listing-two : list (apply (put 3 1 ∷ put 12 1 ∷ []) (empty 1)) 0 MARK [] ≡ ListRefused 2
-  pub listing-four : list (apply (put 12 1 ∷ []) (empty 1)) 0 MARK [] ≡ ListRefused 4
+  pub listing-two : list 1 (apply (put 3 1 ∷ put 12 1 ∷ []) (empty 1)) 0 MARK [] ≡ ListRefused 2
+  pub listing-four : list 1 (apply (put 12 1 ∷ []) (empty 1)) 0 MARK [] ≡ ListRefused 4
   -- Carry-out applies the first c orders, and looks at no other; c above half the list's length, rounded down, is refused with 13.
   pub first-two : (carryNumber 2 (encode threeOrders) (empty 1) ≡ 0) × (carriedOut 2 (encode threeOrders) (empty 1) ≡ set (empty 1) 16 5)
   pub all-three : (carryNumber 3 (encode threeOrders) (empty 1) ≡ 13) × (carriedOut 3 (encode threeOrders) (empty 1) ≡ empty 1)
@@ -66,12 +66,12 @@ pub record Sentences : Type 0 where
   pub fresh-round : fresh (tableOf 3 (stale 2 ++ (leafOf 1 0 1 ∷ []))) 3 ≡ 1
   pub fresh-none : fresh (oneLevel 1 []) 1 ≡ 0
   -- 12 comes before 6, 6 before 14, and 11 before 10.
-  pub twelve-first : firstNumber (testsFrom5 (insertion 1 0 3) 2560 true true true []) ≡ 12
-  pub six-first : firstNumber (testsFrom5 (insertion 1 0 3) 2560 false true true []) ≡ 6
-  pub eleven-first : firstNumber (testsFrom5 (insertion 1 1 0) 2560 false true true []) ≡ 11
+  pub twelve-first : firstNumber (testsFrom5 (insertion 1 1 0 3) 2560 true true true []) ≡ 12
+  pub six-first : firstNumber (testsFrom5 (insertion 1 1 0 3) 2560 false true true []) ≡ 6
+  pub eleven-first : firstNumber (testsFrom5 (insertion 1 1 1 0) 2560 false true true []) ≡ 11
   -- 11: the run includes a root at level 15; not one at level 14, and not where the run ends below it.
-  pub eleven : tooHigh (fullPath 11 15) 0 ≡ true
-  pub eleven-not : (tooHigh (fullPath 11 14) 0 ≡ false) × (tooHigh (fullPath 10 15) 0 ≡ false)
+  pub eleven : tooHigh 1 (fullPath 11 15) 0 ≡ true
+  pub eleven-not : (tooHigh 1 (fullPath 11 14) 0 ≡ false) × (tooHigh 1 (fullPath 10 15) 0 ≡ false)
 
 pub sentences : Sentences
 unfolding everything tenSlots

@@ -1,4 +1,4 @@
--- Sound tables and stores that break one sentence each of document 01's "Sound tables", judged by the definitions.
+-- Sound tables and stores that break one sentence each of document 01's "Sound tables", of one collection or two, judged by the definitions.
 use mathlib.Core.Path.{_≡_, refl}
 use mathlib.Core.Bool.{Bool, true, not, _&&_}
 use mathlib.Core.List.{List, [], _∷_, _++_}
@@ -82,6 +82,13 @@ lackingHides = twoLevels (3 ∷ 2 ∷ 1 ∷ []) (slot 200 1 ∷ ways 3 1) (stale
 abbrev pub high : Words
 high = threeLevels (1 ∷ 1 ∷ 1 ∷ []) (ways 2 1) (slot 400 5 ∷ []) (leafOf 7 0 0 ∷ [])
 
+-- two collections with the same pairs: leaves 1 and 2 below root 3, leaves 4 and 5 below root 6; a stale node
+abbrev pub pair : Words
+pair =
+    apply (put 3 6 ∷ [])
+    (tableOf 3 (leafOf 1 2 2 ∷ leafOf 2 0 1 ∷ nodeWords 1 0 1 0 (ways 2 1)
+    ∷ nodeWords MARK 5 0 0 (tenSlots 2 1) ∷ nodeWords MARK 0 0 200 (tenSlots 1 21) ∷ nodeWords 4 0 1 0 (slot 200 5 ∷ []) ∷ stale 1))
+
 -- n nodes with these slots from i on, each the left child of the next
 abbrev pub chainFrom : List Slot → (i n : ℕ) → List Words
 chainFrom ss i zero = []
@@ -99,11 +106,14 @@ wide n = twoLevels (replicate n 0) (ways 2 (pred n)) (leafOf (suc (suc n)) 0 0 �
 
 abbrev pub unsoundCases : List Case
 unsoundCases =
-    -- the header: word 0, the root's number, N, words 3 to 7
+    -- the header: word 0, the root's number, N, the second root's number, words 4 to 7
     breaks tree (put 0 2 ∷ [])
     ∷ breaks tree (put 1 0 ∷ [])
     ∷ breaks tree (put 1 6 ∷ [])
     ∷ breaks tree (put 2 4 ∷ [])
+    ∷ breaks tree (put 3 6 ∷ [])
+    ∷ breaks (oneLevel 2 []) (put 3 1 ∷ [])
+    ∷ breaks tree (put 4 1 ∷ [])
     ∷ breaks tree (put 7 1 ∷ [])
     -- The root has fence 0, sibling 0 and level at most 15.
     ∷ breaks (oneLevel 2 (stale 1)) (word 1 3 5 ∷ [])
@@ -189,6 +199,16 @@ unsoundCases =
     ∷ breaks lacking (pointer 2 1 121 ∷ [])
     ∷ breaks high (pointer 4 0 0 ∷ key 5 0 700 ∷ pointer 5 0 3 ∷ [])
     ∷ breaks lackingHides (pointer 4 1 1 ∷ key 4 2 400 ∷ pointer 4 2 3 ∷ [])
+    -- No node is reached from both roots: the roots are one; a leaf of both trees, each of which is in order by itself.
+    ∷ breaks pair (put 3 3 ∷ [])
+    ∷ breaks pair (word 4 1 2 ∷ pointer 6 0 2 ∷ [])
+    -- The second tree breaks a sentence; its recordings too are there once.
+    ∷ breaks pair (word 4 3 5 ∷ [])
+    ∷ breaks pair (pointer 5 0 101 ∷ [])
+    -- At most one leftover exists in the whole table: a hidden slot in each tree; one in one, a missing slot in the other.
+    ∷ breaks pair (pointer 1 1 101 ∷ pointer 4 1 101 ∷ [])
+    ∷ breaks pair (pointer 3 0 0 ∷ pointer 4 1 101 ∷ [])
+    ∷ breaks pair (pointer 3 0 0 ∷ pointer 6 0 0 ∷ [])
     ∷ []
 
 -- ---- what breaks none
@@ -210,6 +230,10 @@ leftoverCases =
     ∷ leavesOver high (pointer 6 0 0 ∷ key 4 1 400 ∷ pointer 4 1 99 ∷ [])
     -- (c)
     ∷ leavesOver lacking (key 4 1 0 ∷ pointer 4 1 3 ∷ [])
+    -- in either of two trees
+    ∷ leavesOver pair (pointer 1 1 101 ∷ [])
+    ∷ leavesOver pair (pointer 4 1 101 ∷ [])
+    ∷ leavesOver pair (pointer 6 0 0 ∷ [])
     ∷ []
 
 abbrev pub settledCases : List Case
@@ -229,6 +253,9 @@ settledCases =
     ∷ settles tree (key 2 0 200 ∷ [])
     ∷ settles tree (key 1 0 0 ∷ pointer 1 0 1 ∷ key 3 0 MARK ∷ pointer 3 0 (pointerOf (pred RECORDINGS) 2) ∷ [])
     ∷ settles tree (pointer 1 0 (pred RECORDINGS) ∷ [])
+    -- two collections may hold the same codes and recordings; without its root the second tree is unreachable
+    ∷ settles pair []
+    ∷ settles pair (put 3 0 ∷ [])
     ∷ []
 
 pub judged : all passes (unsoundCases ++ (leftoverCases ++ settledCases)) ≡ true

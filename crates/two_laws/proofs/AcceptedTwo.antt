@@ -1,44 +1,40 @@
 -- What an accepted call of one or two collections says of its arguments and its table, and the other way round.
-use mathlib.Core.Path.{_≡_, sym}
-use mathlib.Core.Bool.{true, false, not, false≢true}
+use mathlib.Core.Path.{_≡_, refl}
+use mathlib.Core.Bool.{true, false, not}
 use mathlib.Core.Logic.{_≢_, _↔_, _⊎_, inl, inr}
 use mathlib.Core.List.{List, _∷_}
 use Prim.Native.Nat.{ℕ, _≤_}
 use native.Mathlib.Omega.{arith}
 use lib.Dec.{ltb}
-use borrow.Author.Tests.{eq-eqb, ne-eqb, ltb-false, le-ltb}
-use Rattle.model.specs.Table.{Words, at}
+use borrow.Author.Tests.{ltb-false, le-ltb}
+use Rattle.model.specs.Table.{Words, headerOk, rootWord, noCollection}
 use Rattle.model.specs.Slots.{classOk}
-use Rattle.model.specs.Refusals.{Test, test, hasKey}
-use Rattle.list_laws.proofs.Tools.{Each, not-false-iff, same-or-not}
+use Rattle.model.specs.Refusals.{Test, test, hasKey, seventeenIn, parentFull, elevenIn, tenIn, ownMap, mapTests, refusal}
+use Rattle.model.specs.SoundTest.{sound}
+use Rattle.model.specs.Reached.{mapOf}
+use Rattle.model.specs.Writes.{repaired, Call, insertion, deletion, classChange, repair}
+use Rattle.list_laws.proofs.Tools.{Each, not-false-iff}
+use Rattle.table_laws.proofs.Collections.{by-number}
 use Rattle.step_laws.proofs.Accepted.{Passed, none-holds}
-use Rattle.two_laws.specs.Collections.{rootWord, headerTwo, soundAll, mapIn, repaired, noCollection, Call, insertion, deletion, classChange, repair}
-use Rattle.two_laws.specs.Collections.{seventeenIn, parentFull, elevenIn, tenIn, ownMap, mapTests, refusal}
 use Rattle.two_laws.specs.Parts.{Enters}
 use Rattle.two_laws.proofs.CallsTwo.{Is}
 
 -- a collection that passes 17 is 1 or 2, and exists
 pub there : (n : ℕ) (t : Words) → noCollection n t ≡ false → ((n ≡ 1) ⊎ (n ≡ 2)) × Is (rootWord n) t
-unfolding noCollection
-there n t h = go (same-or-not n 1) (same-or-not n 2)
-  where
-    go : (n ≡ 1) ⊎ (n ≢ 1) → (n ≡ 2) ⊎ (n ≢ 2) → ((n ≡ 1) ⊎ (n ≡ 2)) × Is (rootWord n) t
-    go (inl e) q = (inl e, inl (rw e))
-    go (inr z) (inl e) = (inr e, inr (rw e, λ y. false≢true (sym (rw (ne-eqb n 1 z, eq-eqb n 2 e, eq-eqb (at t 3) 0 y) at h))))
-    go (inr z) (inr y) = absurd (false≢true (sym (rw (ne-eqb n 1 z, ne-eqb n 2 y) at h)))
+there n t = by-number t (λ (m : ℕ). ((m ≡ 1) ⊎ (m ≡ 2)) × Is (rootWord m) t) (inl refl, inl refl) (λ z. (inr refl, inr (refl, z))) n
 
 -- ---- what each call asks of the table as repair would leave it
 
 abbrev pub Allows : Call → Words → Type 0
 Allows (insertion n k r c) t = Enters n k r c t
-Allows (deletion n k) t = hasKey k (mapIn n t) ≡ true
-Allows (classChange n k c) t = (classOk c ≡ true) × (hasKey k (mapIn n t) ≡ true)
+Allows (deletion n k) t = hasKey k (mapOf n t) ≡ true
+Allows (classChange n k c) t = (classOk c ≡ true) × (hasKey k (mapOf n t) ≡ true)
 Allows repair t = Unit {0}
 
 pub record Accepted (x : Call) (words : ℕ) (t : Words) : Type 0 where
-  pub header : headerTwo t ≡ true
+  pub header : headerOk t ≡ true
   pub collection : seventeenIn x t ≡ false
-  pub sound : soundAll t ≡ true
+  pub sound : sound t ≡ true
   pub long : 2560 ≤ words
   pub parent : parentFull t ≡ false
   pub allows : Allows x (repaired t)
@@ -68,7 +64,7 @@ allows-iff repair t = (λ h. tt, λ a. tt)
 pub accepted-iff : (x : Call) (words : ℕ) (t : Words) → (refusal x words t ≡ 0) ↔ Accepted x words t
 unfolding refusal
 accepted-iff x words t =
-    let ts = test (not (headerTwo t)) 2 ∷ test (seventeenIn x t) 17 ∷ test (not (soundAll t)) 4 ∷ test (ltb words 2560) 5 ∷ test (parentFull t) 12 ∷ later x (repaired t) in
+    let ts = test (not (headerOk t)) 2 ∷ test (seventeenIn x t) 17 ∷ test (not (sound t)) 4 ∷ test (ltb words 2560) 5 ∷ test (parentFull t) 12 ∷ later x (repaired t) in
     let i = none-holds ts ((λ e. omega arith), ((λ e. omega arith), ((λ e. omega arith), ((λ e. omega arith), ((λ e. omega arith), later-numbers x (repaired t)))))) in (
       λ e. let h = i .0 e in
           record {

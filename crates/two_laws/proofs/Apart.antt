@@ -13,10 +13,7 @@ use Rattle.list_laws.proofs.Tools.{Each, Each-map}
 use Rattle.tree_laws.proofs.Rows.{Good, At, Row, not-zero, linked-cons, children-inner, inner, left-range, head-row}
 use Rattle.change_laws.proofs.Updates.{withRoot}
 use Rattle.tree_laws.proofs.Levels.{Orderly, Level, level-at, rowAt, row-leaves, row-below, reached-row}
-
-unfoldable pub lastOr : ℕ → List ℕ → ℕ
-lastOr e [] = e
-lastOr e (n ∷ ns) = lastOr n ns
+use Rattle.walk_laws.specs.Chain.{lastOr}
 
 last-append : (e : ℕ) (xs ys : List ℕ) → lastOr e (xs ++ ys) ≡ lastOr (lastOr e xs) ys
 unfolding lastOr
@@ -63,7 +60,7 @@ module _ (v : View) where
   last-any e f [] z = absurd (z refl)
   last-any e f (n ∷ ns) z = refl
 
-  each-last : (P : ℕ → Type 0) (m : ℕ) (ns : List ℕ) → Each P (m ∷ ns) → P (lastOr m ns)
+  pub each-last : (P : ℕ → Type 0) (m : ℕ) (ns : List ℕ) → Each P (m ∷ ns) → P (lastOr m ns)
   unfolding lastOr
   each-last P m [] h = h .0
   each-last P m (n ∷ ns) h = each-last P n ns (h .1)
@@ -81,7 +78,7 @@ module _ (v : View) where
       last-append e (children v n) (flat (children v) (m ∷ ns)) ∙ last-flat d (lastOr e (children v n)) m ns (g .1) (a .1)
       ∙ last-any (lastOr e (children v n)) e (children v (lastOr m ns)) (kids-some d (lastOr m ns) (each-last (Good v) m ns (g .1)) (each-last (At v (suc d)) m ns (a .1)))
 
-  down-last : (d : ℕ) (ns : List ℕ) → Level v (suc d) ns → lastOr 0 (flat (children v) ns) ≡ lastOr 0 (children v (lastOr 0 ns))
+  pub down-last : (d : ℕ) (ns : List ℕ) → Level v (suc d) ns → lastOr 0 (flat (children v) ns) ≡ lastOr 0 (children v (lastOr 0 ns))
   unfolding lastOr
   down-last d [] l = absurd (l .some refl)
   down-last d (n ∷ ns) l = last-flat d 0 n ns (l .row .good) (l .row .at)

@@ -1,32 +1,31 @@
 -- The tests of a table of one or two collections, by the tree that a write goes to and the tree beside it.
-use mathlib.Core.Path.{_≡_, refl, ap, sym}
-use mathlib.Core.Bool.{Bool, true, false, cond, _&&_, false≢true}
+use mathlib.Core.Path.{_≡_, refl, ap, sym, _∙_}
+use mathlib.Core.Bool.{Bool, true, false, cond, _&&_}
 use mathlib.Core.Logic.{_≢_, _↔_, _⊎_, inl, inr}
 use mathlib.Core.List.{List, [], _∷_, _++_, List·Memᴰ, List·Memᴰ·head, append-nil}
+use mathlib.Core.Option.{Option, some}
 use Prim.Native.Nat.{ℕ, _+_, _-_, _≤_, _<_}
 use native.Mathlib.Omega.{arith}
-use lib.Dec.{eqb, leb}
 use lib.ListN.{length, length-append}
 use lib.Seq.{take-length}
-use borrow.Author.Tests.{eq-eqb, ne-eqb, eqb-true, eqb-false}
-use Rattle.model.specs.Table.{Words, at, nodes, inRange}
+use borrow.Author.Tests.{eq-eqb, ne-eqb}
+use Rattle.model.specs.Table.{Words, at, nodes, inRange, headerOk}
 use Rattle.model.specs.Slots.{Slot, View}
-use Rattle.model.specs.Reached.{flat, reached}
-use Rattle.model.specs.SoundTest.{all, elem, distinct, Leftover, nothing, settledView, soundView}
+use Rattle.model.specs.Reached.{flat, reached, trees, reachedAll}
+use Rattle.model.specs.SoundTest.{all, elem, distinct, Leftover, nothing, hiddenIn, missingIn, bothIn, leftover, isNothing, settledView, soundView, leftoverIn, leftoverAll, oneLeft, sound, settled}
 use Rattle.model.specs.Orders.{Store, apply}
-use Rattle.list_laws.proofs.Tools.{decode, and-iff, Each, Each-map, Each-append, same-or-not}
+use Rattle.model.specs.Writes.{unreached, unreachable, fresh}
+use Rattle.list_laws.proofs.Tools.{and-iff, Each, Each-map, Each-append, same-or-not}
 use Rattle.list_laws.proofs.Members.{each-mem, elem-append, elem-none, mem-each}
 use Rattle.list_laws.proofs.Distinct.{UpTo, distinct-append}
 use Rattle.list_laws.proofs.Counts.{count-without}
-use Rattle.table_laws.proofs.Words.{part-zero-iff}
-use Rattle.table_laws.proofs.Header.{length-iff}
+use Rattle.table_laws.proofs.Header.{header-iff}
 use Rattle.tree_laws.proofs.Levels.{Orderly, reached-numbers}
 use Rattle.tree_laws.proofs.Rows.{range-iff}
 use Rattle.tree_laws.proofs.Leftovers.{settled-sound-view}
 use Rattle.change_laws.proofs.Counts.{fresh-unreachable}
 use Rattle.change_laws.proofs.Parents.{reached-children}
-use Rattle.change_laws.proofs.Parts.{HasLeft, settled-left, sound-left}
-use Rattle.two_laws.specs.Collections.{trees, headerTwo, reachedAll, oneLeft, soundAll, settledAll, unreached, unreachable, fresh}
+use Rattle.change_laws.proofs.Parts.{HasLeft, has-left-iff, settled-left, sound-left}
 use Rattle.two_laws.proofs.Mask.{HeadFacts}
 use Rattle.two_laws.proofs.TwoLaw.{seen, taken, Tree, Low, Course, flat-up}
 use Rattle.two_laws.proofs.SplitTwo.{FreeNode}
@@ -105,47 +104,22 @@ pub record Head (t : Words) : Type 0 where
   pub one : inRange (nodes t) (at t 1) ≡ true
   pub two : at t 3 ≢ 0 → (at t 3 ≤ nodes t) × (2 ≤ nodes t)
 
-pub cond-iff : (b c : Bool) → (cond b true c ≡ true) ↔ (b ≡ false → c ≡ true)
-cond-iff true c = (λ e q. absurd (false≢true (sym q)), λ f. refl)
-cond-iff false c = (λ e q. e, λ f. f refl)
-
-pub head-iff : (t : Words) → (headerTwo t ≡ true) ↔ Head t
-unfolding headerTwo
+pub head-iff : (t : Words) → (headerOk t ≡ true) ↔ Head t
 head-iff t = (
-  λ e.
-      let u = simp and-iff at e in
-      record {
-        facts = record { size = length-iff (length t) (nodes t) .0 (u .0, eqb-true _ _ (u .1 .1 .0)); first = eqb-true _ _ (u .1 .0); zeros = part-zero-iff t 4 4 .0 (u .1 .1 .1 .0) };
-        one = u .1 .1 .1 .1 .0;
-        two = λ z. simp decode at (cond-iff _ _ .0 (u .1 .1 .1 .1 .1) (ne-eqb (at t 3) 0 z));
-      },
-  λ h.
-      let l = length-iff (length t) (nodes t) .1 (h .facts .size) in
-      simp and-iff (
-        l .0,
-        (
-          eq-eqb _ _ (h .facts .first),
-          (
-            eq-eqb _ _ (l .1),
-            (
-              part-zero-iff t 4 4 .1 (h .facts .zeros),
-              (h .one, cond-iff (eqb (at t 3) 0) (leb (at t 3) (nodes t) && leb 2 (nodes t)) .1 (λ e. simp decode (h .two (eqb-false (at t 3) 0 e)))),
-            ),
-          ),
-        ),
-      ),
+  λ e. let f = header-iff t .0 e in record { facts = record { size = f .size; first = f .first; zeros = f .zeros }; one = range-iff (nodes t) (at t 1) .1 (f .root-some, f .root-in); two = f .two },
+  λ h. let r = range-iff (nodes t) (at t 1) .0 (h .one) in header-iff t .1 (record { size = h .facts .size; first = h .facts .first; zeros = h .facts .zeros; root-some = r .0; root-in = r .1; two = h .two }),
 )
 
 -- what the tests of the trees say
-pub settled-parts : (t : Words) → (settledAll t ≡ true) ↔ (Head t × (all settledView (trees t) ≡ true) × (distinct (reachedAll t) ≡ true))
-unfolding settledAll
+pub settled-parts : (t : Words) → (settled t ≡ true) ↔ (Head t × (all settledView (trees t) ≡ true) × (distinct (reachedAll t) ≡ true))
+unfolding settled
 settled-parts t = (
   λ e. let u = simp and-iff at e in (head-iff t .0 (u .0), u .1 .0, u .1 .1),
   λ h. simp and-iff (head-iff t .1 (h .0), (h .1, h .2)),
 )
 
-pub sound-parts : (t : Words) → (soundAll t ≡ true) ↔ (Head t × (all soundView (trees t) ≡ true) × (distinct (reachedAll t) ≡ true) × (oneLeft (trees t) ≡ true))
-unfolding soundAll
+pub sound-parts : (t : Words) → (sound t ≡ true) ↔ (Head t × (all soundView (trees t) ≡ true) × (distinct (reachedAll t) ≡ true) × (oneLeft (trees t) ≡ true))
+unfolding sound
 sound-parts t = (
   λ e. let u = simp and-iff at e in (head-iff t .0 (u .0), u .1 .0, u .1 .1 .0, u .1 .1 .1),
   λ h. simp and-iff (head-iff t .1 (h .0), (h .1, (h .2, h .3))),
@@ -180,8 +154,8 @@ taken-one : (x : ℕ) (t : Words) → taken (x ∷ []) t ≡ reached (seen x t)
 unfolding flat
 taken-one x t = append-nil (reached (seen x t))
 
-pub tree-settled : (w : ℕ) (ws : List ℕ) (t : Words) → Arr w ws t → Tree w ws t nothing → settledAll t ≡ true
-tree-settled w ws t r = by-arr w ws t (λ w ws. Tree w ws t nothing → settledAll t ≡ true) r
+pub tree-settled : (w : ℕ) (ws : List ℕ) (t : Words) → Arr w ws t → Tree w ws t nothing → settled t ≡ true
+tree-settled w ws t r = by-arr w ws t (λ w ws. Tree w ws t nothing → settled t ≡ true) r
     (λ z f. settled-parts t .1 (
       one-head t (f .head) (f .left .orderly) z,
       rw (trees-one t z) (all-single settledView (seen 1 t) .1 (settled-left (seen 1 t) .1 (f .left))),
@@ -190,14 +164,14 @@ tree-settled w ws t r = by-arr w ws t (λ w ws. Tree w ws t nothing → settledA
     (λ z f. go z (f .head) (f .left) (f .others .0) (rw (taken-one 3 t) at (f .apart)))
     (λ z f. go z (f .head) (f .others .0) (f .left) (apart-back (reached (seen 3 t)) (reached (seen 1 t)) (rw (taken-one 1 t) at (f .apart))))
   where
-    go : at t 3 ≢ 0 → HeadFacts t → HasLeft (seen 1 t) nothing → HasLeft (seen 3 t) nothing → Each (λ (n : ℕ). elem n (reached (seen 3 t)) ≡ false) (reached (seen 1 t)) → settledAll t ≡ true
+    go : at t 3 ≢ 0 → HeadFacts t → HasLeft (seen 1 t) nothing → HasLeft (seen 3 t) nothing → Each (λ (n : ℕ). elem n (reached (seen 3 t)) ≡ false) (reached (seen 1 t)) → settled t ≡ true
     go z h a b d = settled-parts t .1 (
       pair-head t h (a .orderly) (b .orderly) d,
       rw (trees-two t z) (all-pair settledView (seen 1 t) (seen 3 t) .1 (settled-left (seen 1 t) .1 a, settled-left (seen 3 t) .1 b)),
       rw (all-two t z, append-nil (reached (seen 3 t))) (distinct-append (reached (seen 1 t)) (reached (seen 3 t)) .1 (a .orderly .once, b .orderly .once, d)),
     )
 
-pub settled-tree : (w : ℕ) (ws : List ℕ) (t : Words) → Arr w ws t → settledAll t ≡ true → Tree w ws t nothing
+pub settled-tree : (w : ℕ) (ws : List ℕ) (t : Words) → Arr w ws t → settled t ≡ true → Tree w ws t nothing
 settled-tree w ws t r s = by-arr w ws t (λ w ws. Tree w ws t nothing) r
     (λ z.
     let u = settled-parts t .0 s in
@@ -247,8 +221,8 @@ two-left v w = go (settledView v) (settledView w)
         no (inl e) = e
         no (inr e) = e
 
-pub tree-sound : (w : ℕ) (ws : List ℕ) (t : Words) (y : Leftover) → Arr w ws t → Tree w ws t y → soundAll t ≡ true
-tree-sound w ws t y r = by-arr w ws t (λ w ws. Tree w ws t y → soundAll t ≡ true) r
+pub tree-sound : (w : ℕ) (ws : List ℕ) (t : Words) (y : Leftover) → Arr w ws t → Tree w ws t y → sound t ≡ true
+tree-sound w ws t y r = by-arr w ws t (λ w ws. Tree w ws t y → sound t ≡ true) r
     (λ z f. sound-parts t .1 (
       one-head t (f .head) (f .left .orderly) z,
       rw (trees-one t z) (all-single soundView (seen 1 t) .1 (sound-left (seen 1 t) .1 (y, f .left, f .room))),
@@ -261,7 +235,7 @@ tree-sound w ws t y r = by-arr w ws t (λ w ws. Tree w ws t y → soundAll t ≡
     (settled-sound-view (seen 1 t) (settled-left (seen 1 t) .1 (f .others .0))) (sound-left (seen 3 t) .1 (y, f .left, f .room)) (inl (settled-left (seen 1 t) .1 (f .others .0))))
   where
     go : at t 3 ≢ 0 → HeadFacts t → Orderly (seen 1 t) → Orderly (seen 3 t) → Each (λ (n : ℕ). elem n (reached (seen 3 t)) ≡ false) (reached (seen 1 t))
-        → soundView (seen 1 t) ≡ true → soundView (seen 3 t) ≡ true → (settledView (seen 1 t) ≡ true) ⊎ (settledView (seen 3 t) ≡ true) → soundAll t ≡ true
+        → soundView (seen 1 t) ≡ true → soundView (seen 3 t) ≡ true → (settledView (seen 1 t) ≡ true) ⊎ (settledView (seen 3 t) ≡ true) → sound t ≡ true
     go z h a b d p q c = sound-parts t .1 (
       pair-head t h a b d,
       rw (trees-two t z) (all-pair soundView (seen 1 t) (seen 3 t) .1 (p, q)),
@@ -277,7 +251,7 @@ pub record SoundAs (t : Words) : Type 0 where
   pub arranged : Arr word others t
   pub tree : Tree word others t leftover
 
-pub sound-tree : (t : Words) → soundAll t ≡ true → SoundAs t
+pub sound-tree : (t : Words) → sound t ≡ true → SoundAs t
 sound-tree t s = go (same-or-not (at t 3) 0)
   where
     u : Head t × (all soundView (trees t) ≡ true) × (distinct (reachedAll t) ≡ true) × (oneLeft (trees t) ≡ true)
@@ -312,6 +286,25 @@ sound-tree t s = go (same-or-not (at t 3) 0)
         (distinct-append (reached (seen 1 t)) (reached (seen 3 t)) .0 (rw (all-two t z, append-nil (reached (seen 3 t))) at (u .2)) .2)
         (two-left (seen 1 t) (seen 3 t) .0 (rw (trees-two t z) at (u .3)))
 
+-- ---- the leftover of the whole table
+
+left-first : (x : Leftover) (later : Option Leftover) → later ≡ some nothing → cond (isNothing (some x)) later (some x) ≡ some x
+left-first nothing later e = e
+left-first (hiddenIn n) later e = refl
+left-first (missingIn p a trailing) later e = refl
+left-first (bothIn p a) later e = refl
+
+-- It is that of the tree that a write would repair.
+pub left-all : (w : ℕ) (ws : List ℕ) (t : Words) (y : Leftover) → Arr w ws t → Tree w ws t y → leftoverAll t ≡ some y
+unfolding leftoverIn
+left-all w ws t y r = by-arr w ws t (λ w ws. Tree w ws t y → leftoverAll t ≡ some y) r
+    (λ z f. rw (trees-one t z, is 1 y (f .left)) (left-first y (some nothing) refl))
+    (λ z f. rw (trees-two t z, is 1 y (f .left), is 3 nothing (f .others .0)) (left-first y (some nothing) refl))
+    (λ z f. rw (trees-two t z, is 1 nothing (f .others .0), is 3 y (f .left)) (left-first y (some nothing) refl))
+  where
+    is : (x : ℕ) (z : Leftover) → HasLeft (seen x t) z → leftover (seen x t) ≡ some z
+    is x z l = has-left-iff (seen x t) z .1 l .1
+
 -- ---- free nodes
 
 pub free-fresh : (w : ℕ) (ws : List ℕ) (t : Words) (a : ℕ) → Arr w ws t → Tree w ws t nothing → List·Memᴰ a (reached (seen w t)) → 0 < length (unreachable t) → FreeNode w ws t (fresh t a)
@@ -335,6 +328,16 @@ unreachable-count w ws t r f =
     let d = settled-parts t .0 (tree-settled w ws t r f) .2 in
     let up = flat-up (nodes t) (λ (x : ℕ). reached (seen x t)) ws (Each-map (λ (x : ℕ). HasLeft (seen x t) nothing) (λ (x : ℕ). Each (UpTo (nodes t)) (reached (seen x t))) ws (λ x h. reached-numbers (seen x t) (h .orderly)) (f .others)) in
     rw (c .count) at (count-without (nodes t) (reachedAll t) d (c .up (reached-numbers (seen w t) (f .left .orderly)) up))
+
+-- the same nodes of each tree are the same of all
+pub same-all : (w : ℕ) (ws : List ℕ) (t t′ : Words) → Arr w ws t → at t′ 3 ≡ at t 3 → reached (seen w t′) ≡ reached (seen w t) → Each (λ (x : ℕ). reached (seen x t′) ≡ reached (seen x t)) ws → reachedAll t′ ≡ reachedAll t
+same-all w ws t t′ r e = by-arr w ws t (λ w ws. reached (seen w t′) ≡ reached (seen w t) → Each (λ (x : ℕ). reached (seen x t′) ≡ reached (seen x t)) ws → reachedAll t′ ≡ reachedAll t) r
+    (λ z p q. all-one t′ (e ∙ z) ∙ ap (λ (l : List ℕ). l ++ []) p ∙ sym (all-one t z))
+    (λ z p q. both z p (q .0))
+    (λ z p q. both z (q .0) p)
+  where
+    both : at t 3 ≢ 0 → reached (seen 1 t′) ≡ reached (seen 1 t) → reached (seen 3 t′) ≡ reached (seen 3 t) → reachedAll t′ ≡ reachedAll t
+    both z p q = all-two t′ (λ y. z (sym e ∙ y)) ∙ ap (λ (l : List ℕ). l ++ (reached (seen 3 t′) ++ [])) p ∙ ap (λ (l : List ℕ). reached (seen 1 t) ++ (l ++ [])) q ∙ sym (all-two t z)
 
 -- the arrangement stays where word 3 is 0 or not as before
 pub arr-lack : (w : ℕ) (ws : List ℕ) (t t′ : Words) → ((at t′ 3 ≡ 0) ↔ (at t 3 ≡ 0)) → Arr w ws t → Arr w ws t′

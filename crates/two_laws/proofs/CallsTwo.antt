@@ -3,30 +3,29 @@
 use mathlib.Core.Path.{_≡_, refl, ap, _∙_}
 use mathlib.Core.Bool.{true}
 use mathlib.Core.Logic.{_≢_, _↔_, _⊎_, inl, inr, ⊎-map}
-use mathlib.Core.List.{List, [], _∷_, _++_, append-nil}
+use mathlib.Core.List.{List, [], _∷_, _++_}
+use mathlib.Core.Option.{some}
 use Prim.Native.Nat.{ℕ, _+_, _*_, _-_, _≤_}
 use native.Mathlib.Omega.{arith}
 use lib.ListN.{length, take}
 use lib.Seq.{take-length}
-use Rattle.model.specs.Table.{Words, at}
-use Rattle.model.specs.Slots.{Slot, pointerOf, classOk, View}
-use Rattle.model.specs.Reached.{flat, mapping}
-use Rattle.model.specs.SoundTest.{nothing, leftover}
+use Rattle.model.specs.Table.{Words, at, rootWord}
+use Rattle.model.specs.Slots.{Slot, pointerOf, classOk}
+use Rattle.model.specs.Reached.{mapping, mapOf}
+use Rattle.model.specs.SoundTest.{Leftover, nothing, sound, settled}
 use Rattle.model.specs.Orders.{Store, apply, orders}
 use Rattle.model.specs.Refusals.{hasKey}
 use Rattle.model.specs.Ledger.{enter, leave, reclass}
-use Rattle.model.specs.Writes.{repairOf, setClassAt}
+use Rattle.model.specs.Writes.{repairOf, setClassAt, standing, repairStores, repaired, insertSettled, insertStores, deleteSettled, deleteStores, classStores}
 use Rattle.list_laws.proofs.Tools.{Each, Each-append, same-or-not}
 use Rattle.cut_laws.proofs.Applying.{apply-append, always-append, length-apply}
 use Rattle.cut_laws.proofs.FlushRule.{length-orders-append}
 use Rattle.cut_laws.specs.Inside.{StoresInside}
-use Rattle.change_laws.proofs.Parts.{HasLeft, has-left-iff}
-use Rattle.two_laws.specs.Collections.{rootWord, soundAll, settledAll, mapIn, standing, repairStores, repaired, insertSettled, insertStores, deleteSettled, deleteStores, classStores}
 use Rattle.two_laws.specs.Parts.{Enters}
 use Rattle.two_laws.proofs.TwoLaw.{seen, Tree, Low, Course}
 use Rattle.two_laws.proofs.Leaf.{leaf-reclass}
 use Rattle.two_laws.proofs.RepairTwo.{tree-repair}
-use Rattle.two_laws.proofs.Arrange.{Arr, by-arr, arr-low, trees-one, trees-two, tree-sound, tree-settled, settled-tree, sound-tree, arr-lack, course-arr}
+use Rattle.two_laws.proofs.Arrange.{Arr, by-arr, arr-low, tree-sound, tree-settled, settled-tree, sound-tree, left-all, arr-lack, course-arr}
 use Rattle.two_laws.proofs.DeleteTwo.{delete-course}
 use Rattle.two_laws.proofs.InsertTwo.{insert-course}
 
@@ -37,11 +36,11 @@ abbrev pub Is : ℕ → Words → Type 0
 Is w t = (w ≡ 1) ⊎ ((w ≡ 3) × (at t 3 ≢ 0))
 
 pub record OwnSteps (b w : ℕ) (t : Words) (ss : List Store) (m : List Slot) : Type 0 where
-  pub part-sound : (j : ℕ) → soundAll (apply (take j ss) t) ≡ true
+  pub part-sound : (j : ℕ) → sound (apply (take j ss) t) ≡ true
   pub part-own : (j : ℕ) → (mapping (seen w (apply (take j ss) t)) ≡ mapping (seen w t)) ⊎ (mapping (seen w (apply (take j ss) t)) ≡ m)
   pub part-other : (j x : ℕ) → Is x t → x ≢ w → mapping (seen x (apply (take j ss) t)) ≡ mapping (seen x t)
   pub part-lack : (j : ℕ) → (at (apply (take j ss) t) 3 ≡ 0) ↔ (at t 3 ≡ 0)
-  pub settles : settledAll (apply ss t) ≡ true
+  pub settles : settled (apply ss t) ≡ true
   pub maps : mapping (seen w (apply ss t)) ≡ m
   pub few : length (orders ss) ≤ b
   pub inside : StoresInside (length t) ss
@@ -80,33 +79,26 @@ course-steps b w ws t ss m r c = record {
 
 -- ---- repair, wherever the leftover is
 
-left-none : (t : Words) (v : View) → HasLeft v nothing → repairOf t (leftover v) ≡ []
-unfolding repairOf
-left-none t v l = ap (repairOf t) (has-left-iff v nothing .1 l .1)
-
-pub repair-list : (w : ℕ) (ws : List ℕ) (t : Words) → Arr w ws t → Each (λ (x : ℕ). HasLeft (seen x t) nothing) ws → repairStores t ≡ repairOf t (leftover (seen w t))
-unfolding repairStores flat
-repair-list w ws t r = by-arr w ws t (λ w ws. Each (λ (x : ℕ). HasLeft (seen x t) nothing) ws → repairStores t ≡ repairOf t (leftover (seen w t))) r
-    (λ z h. ap (flat (λ (v : View). repairOf t (leftover v))) (trees-one t z) ∙ append-nil _)
-    (λ z h. ap (flat (λ (v : View). repairOf t (leftover v))) (trees-two t z) ∙ ap (λ (q : List Store). repairOf t (leftover (seen 1 t)) ++ (q ++ [])) (left-none t (seen 3 t) (h .0)) ∙ append-nil _)
-    (λ z h. ap (flat (λ (v : View). repairOf t (leftover v))) (trees-two t z) ∙ ap (λ (q : List Store). q ++ (repairOf t (leftover (seen 3 t)) ++ [])) (left-none t (seen 1 t) (h .0)) ∙ append-nil _)
+pub repair-list : (w : ℕ) (ws : List ℕ) (t : Words) (y : Leftover) → Arr w ws t → Tree w ws t y → repairStores t ≡ repairOf t (some y)
+unfolding repairStores
+repair-list w ws t y r f = ap (repairOf t) (left-all w ws t y r f)
 
 -- every collection keeps its map
 pub record Repairs (t : Words) : Type 0 where
-  pub part-sound : (j : ℕ) → soundAll (apply (take j (repairStores t)) t) ≡ true
+  pub part-sound : (j : ℕ) → sound (apply (take j (repairStores t)) t) ≡ true
   pub part-map : (j x : ℕ) → Is x t → mapping (seen x (apply (take j (repairStores t)) t)) ≡ mapping (seen x t)
   pub part-lack : (j : ℕ) → (at (apply (take j (repairStores t)) t) 3 ≡ 0) ↔ (at t 3 ≡ 0)
-  pub settles : settledAll (repaired t) ≡ true
+  pub settles : settled (repaired t) ≡ true
   pub few : length (orders (repairStores t)) ≤ 51
   pub inside : StoresInside (length t) (repairStores t)
 
-pub repairs : (t : Words) → soundAll t ≡ true → Repairs t
+pub repairs : (t : Words) → sound t ≡ true → Repairs t
 unfolding repaired
 repairs t s =
     let u = sound-tree t s in
     let w = u .word in
     let c : OwnSteps 51 w t (repairStores t) (mapping (seen w t)) =
-    rw (repair-list w (u .others) t (u .arranged) (u .tree .others))
+    rw (repair-list w (u .others) t (u .leftover) (u .arranged) (u .tree))
     (course-steps 51 w (u .others) t _ (mapping (seen w t)) (u .arranged) (tree-repair w (u .others) t (u .leftover) (arr-low w (u .others) t (u .arranged)) (u .tree))) in
     record {
       part-sound = c .part-sound;
@@ -127,7 +119,7 @@ repairs t s =
 
 -- ---- a write after repair
 
-pub after-repair : (b w : ℕ) (t : Words) (us : List Store) (m : List Slot) → soundAll t ≡ true → Is w t → OwnSteps b w (repaired t) us m → OwnSteps (51 + b) w t (repairStores t ++ us) m
+pub after-repair : (b w : ℕ) (t : Words) (us : List Store) (m : List Slot) → sound t ≡ true → Is w t → OwnSteps b w (repaired t) us m → OwnSteps (51 + b) w t (repairStores t ++ us) m
 unfolding repaired
 after-repair b w t us m s i g =
     let f = repairs t s in
@@ -135,7 +127,7 @@ after-repair b w t us m s i g =
     let same : (x : ℕ) → Is x t → mapping (seen x (apply ss t)) ≡ mapping (seen x t) = λ x h. rw take-length at (f .part-map (length ss) x h) in
     let h : (at (apply ss t) 3 ≡ 0) ↔ (at t 3 ≡ 0) = rw take-length at (f .part-lack (length ss)) in
     record {
-      part-sound = always-append (λ (u : Words). soundAll u ≡ true) ss us t (f .part-sound) (g .part-sound);
+      part-sound = always-append (λ (u : Words). sound u ≡ true) ss us t (f .part-sound) (g .part-sound);
       part-own = always-append (λ (u : Words). (mapping (seen w u) ≡ mapping (seen w t)) ⊎ (mapping (seen w u) ≡ m)) ss us t (λ j. inl (f .part-map j w i)) (λ j. ⊎-map (λ e. e ∙ same w i) (λ e. e) (g .part-own j));
       part-other = λ j x q z. always-append (λ (u : Words). mapping (seen x u) ≡ mapping (seen x t)) ss us t (λ j. f .part-map j x q) (λ j. g .part-other j x (still x h q) z ∙ same x q) j;
       part-lack = always-append (λ (u : Words). (at u 3 ≡ 0) ↔ (at t 3 ≡ 0)) ss us t (f .part-lack) (λ j. ((λ z. h .0 (g .part-lack j .0 z)), (λ z. g .part-lack j .1 (h .1 z))));
@@ -158,7 +150,7 @@ arranged w t (inl e) = go (same-or-not (at t 3) 0)
     go (inr z) = (3 ∷ [], inr (inl (e, (refl, z))))
 arranged w t (inr e) = (1 ∷ [], inr (inr (e .0, (refl, e .1))))
 
-pub is-repaired : (w : ℕ) (t : Words) → soundAll t ≡ true → Is w t → Is w (repaired t)
+pub is-repaired : (w : ℕ) (t : Words) → sound t ≡ true → Is w t → Is w (repaired t)
 unfolding repaired
 is-repaired w t s i = go i (rw take-length at (repairs t s .part-lack (length (repairStores t))))
   where
@@ -166,13 +158,18 @@ is-repaired w t s i = go i (rw take-length at (repairs t s .part-lack (length (r
     go (inl e) h = inl e
     go (inr e) h = inr (e .0, λ z. e .1 (h .0 z))
 
-repaired-map : (w : ℕ) (t : Words) → soundAll t ≡ true → Is w t → mapping (seen w (repaired t)) ≡ mapping (seen w t)
+repaired-map : (w : ℕ) (t : Words) → sound t ≡ true → Is w t → mapping (seen w (repaired t)) ≡ mapping (seen w t)
 unfolding repaired
 repaired-map w t s i = rw take-length at (repairs t s .part-map (length (repairStores t)) w i)
 
+-- a settled table has nothing to repair
+pub settled-repair : (t : Words) → settled t ≡ true → repairStores t ≡ []
+unfolding repairOf
+settled-repair t s = let a = arranged 1 t (inl refl) in repair-list 1 (a .0) t nothing (a .1) (settled-tree 1 (a .0) t (a .1) s)
+
 -- ---- the calls
 
-module _ (n : ℕ) (t : Words) (s : soundAll t ≡ true) (i : Is (rootWord n) t) (k : ℕ) where
+module _ (n : ℕ) (t : Words) (s : sound t ≡ true) (i : Is (rootWord n) t) (k : ℕ) where
   abbrev w : ℕ
   w = rootWord n
 
@@ -186,20 +183,20 @@ module _ (n : ℕ) (t : Words) (s : soundAll t ≡ true) (i : Is (rootWord n) t)
   tree = settled-tree w (beside .0) (repaired t) (beside .1) (repairs t s .settles)
 
   -- a change of the repaired table's map is one of the table's
-  after : (b : ℕ) (us : List Store) (f : List Slot → List Slot) → Course b w (beside .0) (repaired t) us (f (mapIn n (repaired t))) → OwnSteps (51 + b) w t (repairStores t ++ us) (f (mapIn n t))
-  after b us f c = after-repair b w t us (f (mapIn n t)) s i (rw (repaired-map w t s i) at (course-steps b w (beside .0) (repaired t) us _ (beside .1) c))
+  after : (b : ℕ) (us : List Store) (f : List Slot → List Slot) → Course b w (beside .0) (repaired t) us (f (mapOf n (repaired t))) → OwnSteps (51 + b) w t (repairStores t ++ us) (f (mapOf n t))
+  after b us f c = after-repair b w t us (f (mapOf n t)) s i (rw (repaired-map w t s i) at (course-steps b w (beside .0) (repaired t) us _ (beside .1) c))
 
   -- An accepted deletion.
-  pub delete-two : hasKey k (mapIn n (repaired t)) ≡ true → OwnSteps 103 (rootWord n) t (deleteStores n t k) (leave k (mapIn n t))
+  pub delete-two : hasKey k (mapOf n (repaired t)) ≡ true → OwnSteps 103 (rootWord n) t (deleteStores n t k) (leave k (mapOf n t))
   unfolding deleteStores
   delete-two h = after 52 (deleteSettled n (repaired t) k) (leave k) (delete-course n (beside .0) (repaired t) (beside .1) tree k h)
 
   -- An accepted class change.
-  pub class-two : (c : ℕ) → classOk c ≡ true → hasKey k (mapIn n (repaired t)) ≡ true → OwnSteps 53 (rootWord n) t (classStores n t k c) (reclass k c (mapIn n t))
+  pub class-two : (c : ℕ) → classOk c ≡ true → hasKey k (mapOf n (repaired t)) ≡ true → OwnSteps 53 (rootWord n) t (classStores n t k c) (reclass k c (mapOf n t))
   unfolding classStores
   class-two c ok h = after 2 (setClassAt (repaired t) (standing n (repaired t) 0 k) k c) (reclass k c) (leaf-reclass w (beside .0) (repaired t) low tree k h c ok)
 
   -- An accepted insertion: at most 51 orders of repair, 38 of a new root, 67 of each of 15 splits, and 27 of the shift in.
-  pub insert-two : (r c : ℕ) → Enters n k r c (repaired t) → OwnSteps 1121 (rootWord n) t (insertStores n t k (pointerOf r c)) (enter k (pointerOf r c) (mapIn n t))
+  pub insert-two : (r c : ℕ) → Enters n k r c (repaired t) → OwnSteps 1121 (rootWord n) t (insertStores n t k (pointerOf r c)) (enter k (pointerOf r c) (mapOf n t))
   unfolding insertStores
   insert-two r c e = after (38 + (15 * 67 + 27)) (insertSettled n (repaired t) k (pointerOf r c)) (enter k (pointerOf r c)) (insert-course n (beside .0) (repaired t) k r c (beside .1) tree e)

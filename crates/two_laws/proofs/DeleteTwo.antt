@@ -1,43 +1,50 @@
 -- Deletion in the tree of a collection, beside the other: the pair shifted out, and a leaf that it empties freed.
 use mathlib.Core.Path.{_≡_, refl, ap, sym, _∙_, subst}
 use mathlib.Core.Bool.{Bool, true, false}
+use mathlib.Core.Logic.{_⊎_}
 use mathlib.Core.List.{List, [], _++_, append-nil, List·Memᴰ}
+use mathlib.Core.Option.{some}
 use Prim.Native.Nat.{ℕ, suc, _≤_, _<_}
 use native.Mathlib.Omega.{arith}
-use lib.ListN.{length}
+use lib.ListN.{length, take}
 use borrow.Author.Tests.{eqb-true, eqb-false, ltb-true}
-use Rattle.model.specs.Table.{Words, at, nodes}
-use Rattle.model.specs.Slots.{nodeView, view}
-use Rattle.model.specs.Reached.{reached, mapping, mapOf}
-use Rattle.model.specs.SoundTest.{elem, settled, nothing}
+use Rattle.model.specs.Table.{Words, at, nodes, rootWord}
+use Rattle.model.specs.Slots.{nodeView, view, viewOf}
+use Rattle.model.specs.Reached.{reached, reachedAll, mapping}
+use Rattle.model.specs.SoundTest.{elem, nothing, missingIn, bothIn, leftover}
 use Rattle.model.specs.Orders.{Store, apply}
 use Rattle.model.specs.Shifts.{placeOf}
-use Rattle.model.specs.Writes.{shiftOutAt, childBefore, freeStores, standing as standingOf}
+use Rattle.model.specs.Writes.{shiftOutAt, childBefore, freeStores, unreachable, standing, freesLeaf, deleteSettled}
 use Rattle.model.specs.Refusals.{hasKey}
 use Rattle.model.specs.Ledger.{leave}
-use Rattle.list_laws.proofs.Tools.{and-iff, not-iff, Each, Each-append}
-use Rattle.list_laws.proofs.Members.{each-mem}
+use Rattle.tree_laws.specs.OneTree.{settledOne, mapOne, standingOne as standingOf}
+use Rattle.list_laws.proofs.Tools.{and-iff, not-iff, Each, Each-append, Each-map}
+use Rattle.list_laws.proofs.Members.{each-mem, each-take}
 use Rattle.list_laws.proofs.Distinct.{UpTo}
 use Rattle.tree_laws.proofs.Rows.{Good, range-iff}
 use Rattle.tree_laws.proofs.Levels.{reached-numbers}
 use Rattle.change_laws.proofs.Parts.{good-parts}
-use Rattle.cut_laws.proofs.Applying.{apply-append}
+use Rattle.cut_laws.proofs.Applying.{apply-append, length-apply}
 use Rattle.step_laws.proofs.Views.{fine-settled, shown-few}
 use Rattle.step_laws.proofs.Standing.{standing-stands}
 use Rattle.step_laws.proofs.LeafShift.{leaf-out-reached}
-use Rattle.step_laws.proofs.Freeing.{Freeable, free-phase, free-unreached, free-fewer, neighbour-reached}
+use Rattle.step_laws.proofs.Freeing.{Freeable, free-phase, free-unreached, free-fewer, neighbour-reached, free-cut}
 use Rattle.step_laws.proofs.Deletion.{Frees, freeable}
-use Rattle.two_laws.specs.Collections.{rootWord, viewOf, unreachable, standing, freesLeaf, deleteSettled}
 use Rattle.two_laws.proofs.Mask.{mask}
-use Rattle.two_laws.proofs.Masked.{mask-left, mask-fence, mask-shown, mask-reached, mask-height, mask-standing, mask-shift-out, mask-before, mask-freeing}
+use Rattle.two_laws.proofs.Masked.{mask-left, mask-fence, mask-shown, mask-reached, mask-leftover, mask-height, mask-standing, mask-shift-out, mask-before, mask-freeing}
 use Rattle.two_laws.proofs.Frame.{Away}
 use Rattle.two_laws.proofs.Places.{shift-out-away, put-away}
-use Rattle.two_laws.proofs.TwoLaw.{seen, taken, Tree, Low, Course, long, tree-fine, head-same, taken-same, mask-after, seen-map, phase-course, course-then, course-within}
+use Rattle.two_laws.proofs.TwoLaw.{seen, taken, Tree, Low, Course, long, tree-fine, head-same, stays, taken-same, mask-after, seen-map, phase-course, course-then, course-within}
 use Rattle.two_laws.proofs.Leaf.{leaf-out, out-away}
 use Rattle.two_laws.proofs.SplitTwo.{FreeNode}
-use Rattle.two_laws.proofs.Arrange.{Arr, arr-low, course-arr, unreachable-count}
+use Rattle.two_laws.proofs.Arrange.{Arr, arr-low, course-arr, unreachable-count, same-all}
 
 -- ---- an empty leaf freed
+
+-- leaf x lacks its slot in p, an ordinary leftover of the tree of word w, and all nodes of both trees are reached as in t
+pub record Lacks (w : ℕ) (t : Words) (p x : ℕ) (t′ : Words) : Type 0 where
+  pub leftover : (leftover (seen w t′) ≡ some (bothIn p (childBefore (view t) p x))) ⊎ (leftover (seen w t′) ≡ some (missingIn p (childBefore (view t) p x) false))
+  pub reached : reachedAll t′ ≡ reachedAll t
 
 module _ (w : ℕ) (ws : List ℕ) (t : Words) (low : Low w ws) (f : Tree w ws t nothing) (p x : ℕ) (h : Freeable (mask (at t w) (taken ws t) t) p x) where
   abbrev ns : List ℕ
@@ -49,8 +56,8 @@ module _ (w : ℕ) (ws : List ℕ) (t : Words) (low : Low w ws) (f : Tree w ws t
   size : 8 ≤ length t
   size = long w ws t nothing low f
 
-  some : (n : ℕ) → List·Memᴰ n (reached (seen w t)) → 1 ≤ n
-  some n m = each-mem (UpTo (nodes t)) (reached-numbers (seen w t) (f .left .orderly)) m .0
+  from-one : (n : ℕ) → List·Memᴰ n (reached (seen w t)) → 1 ≤ n
+  from-one n m = each-mem (UpTo (nodes t)) (reached-numbers (seen w t) (f .left .orderly)) m .0
 
   off : (n : ℕ) → List·Memᴰ n (reached (seen w t)) → elem n ns ≡ false
   off n m = each-mem (λ (n : ℕ). elem n ns ≡ false) (f .apart) m
@@ -67,8 +74,8 @@ module _ (w : ℕ) (ws : List ℕ) (t : Words) (low : Low w ws) (f : Tree w ws t
   free-away =
       let few = shown-few t p (good-parts (seen w t) p (each-mem (Good (seen w t)) (f .left .orderly .good) p-reached) .0) in
       let there : placeOf (nodeView t x .fence) (nodeView t p .shown) < length (nodeView t p .shown) = rw (mask-fence (at t w) ns t size x, mask-shown (at t w) ns t size p) at (h .there) in
-      Each-append (Away ns) (shiftOutAt t p (nodeView t x .fence)) _ (shift-out-away ns p (some p p-reached) (off p p-reached) t (nodeView t x .fence) few there)
-      (put-away ns (childBefore (view t) p x) (some _ before-reached) (off _ before-reached) _ _ (omega arith) (omega arith), tt)
+      Each-append (Away ns) (shiftOutAt t p (nodeView t x .fence)) _ (shift-out-away ns p (from-one p p-reached) (off p p-reached) t (nodeView t x .fence) few there)
+      (put-away ns (childBefore (view t) p x) (from-one _ before-reached) (off _ before-reached) _ _ (omega arith) (omega arith), tt)
 
   pub free-course : Course 27 w ws t (freeStores t p x) (mapping (seen w t))
   free-course = phase-course 27 w ws t nothing (freeStores t p x) (mapping (seen w t)) low f (rw (mask-freeing (at t w) ns t size p x, seen-map w ws t nothing low f) at (free-phase u p x h)) free-away
@@ -96,6 +103,22 @@ module _ (w : ℕ) (ws : List ℕ) (t : Words) (low : Low w ws) (f : Tree w ws t
 
   pub free-two-head : (y : ℕ) → y < 8 → at (apply (freeStores t p x) t) y ≡ at t y
   free-two-head y l = head-same w ws t nothing low f (freeStores t p x) free-away y l
+
+  -- After the parent's first store and before the last one x lacks its slot.
+  pub free-two-cut : (j : ℕ) → 0 < j → j < length (freeStores t p x) → Arr w ws t → Lacks w t p x (apply (take j (freeStores t p x)) t)
+  unfolding childBefore
+  free-two-cut j g i arr =
+      let ss = take j (freeStores t p x) in
+      let tⱼ = apply ss t in
+      let away = each-take (Away ns) j (freeStores t p x) free-away in
+      let l : 8 ≤ length tⱼ = rw (length-apply ss t) size in
+      let e : apply (take j (freeStores u p x)) u ≡ mask (at tⱼ w) (taken ws tⱼ) tⱼ = ap (λ (q : List Store). apply (take j q) u) (mask-freeing (at t w) ns t size p x) ∙ mask-after w ws t nothing low f ss away in
+      let c = rw e at (free-cut u p x h j g (rw (mask-freeing (at t w) ns t size p x) i)) in
+      record {
+        leftover = rw (mask-leftover (at tⱼ w) (taken ws tⱼ) tⱼ l, mask-before (at t w) ns t size p x) at (c .leftover);
+        reached = same-all w ws t tⱼ arr (head-same w ws t nothing low f ss away 3 (omega arith)) (sym (mask-reached (at tⱼ w) (taken ws tⱼ) tⱼ l) ∙ c .reached ∙ mask-reached (at t w) ns t size)
+            (Each-map _ (λ (y : ℕ). reached (seen y tⱼ) ≡ reached (seen y t)) ws (λ y k. k .reached) (stays w ws t nothing low f ss away));
+      }
 
 -- ---- the stores after the repair: the shift out, and those that free the leaf
 
@@ -137,10 +160,10 @@ module _ (n : ℕ) (ws : List ℕ) (t : Words) (arr : Arr (rootWord n) ws t) (tr
   long-t : 8 ≤ length t
   long-t = long w ws t nothing lowly tree
 
-  s : settled masked ≡ true
+  s : settledOne masked ≡ true
   s = fine-settled masked (tree-fine w ws t nothing lowly tree)
 
-  has-masked : hasKey k (mapOf masked) ≡ true
+  has-masked : hasKey k (mapOne masked) ≡ true
   has-masked = rw (seen-map w ws t nothing lowly tree) has
 
   same : (d : ℕ) → standingOf masked d k ≡ standing n t d k
@@ -171,6 +194,12 @@ module _ (n : ℕ) (ws : List ℕ) (t : Words) (arr : Arr (rootWord n) ws t) (tr
   reached₁ =
       sym (mask-reached (at t₁ w) (taken ws t₁) t₁ (long w ws t₁ nothing lowly (out .whole))) ∙ ap (λ (z : Words). reached (view z)) (sym masked₁)
       ∙ rw (same 0) at (leaf-out-reached masked s k has-masked) ∙ mask-reached (at t w) (taken ws t) t long-t
+
+  -- all nodes are reached as before
+  pub out-reached : reachedAll (apply (shiftOutAt t (standing n t 0 k) k) t) ≡ reachedAll t
+  out-reached =
+      same-all w ws t t₁ arr (head-same w ws t nothing lowly tree ss ss-away 3 (omega arith)) reached₁
+      (Each-map _ (λ (y : ℕ). reached (seen y t₁) ≡ reached (seen y t)) ws (λ y k. k .reached) (stays w ws t nothing lowly tree ss ss-away))
 
   -- the leaf is emptied, and not leftmost
   module _ (e : freesLeaf n t (standing n t 1 k) (standing n t 0 k) ≡ true) where
@@ -208,8 +237,8 @@ module _ (n : ℕ) (ws : List ℕ) (t : Words) (arr : Arr (rootWord n) ws t) (tr
   leaf-reached = rw (same 0, mask-reached (at t w) (taken ws t) t long-t) at (standing-stands masked s k 0 (omega arith) .reached)
 
   -- A leaf that it empties and that is not leftmost is free then, and there is one unreachable node more.
-  pub delete-frees : freesLeaf n t (standing n t 1 k) (standing n t 0 k) ≡ true → Freed (rootWord n) ws t (standing n t 0 k) (apply (deleteSettled n t k) t)
-  delete-frees e =
+  pub settled-frees : freesLeaf n t (standing n t 1 k) (standing n t 0 k) ≡ true → Freed (rootWord n) ws t (standing n t 0 k) (apply (deleteSettled n t k) t)
+  settled-frees e =
       let t₂ = apply (freeStores t₁ parent leaf) t₁ in
       let here : apply (deleteSettled n t k) t ≡ t₂ = ap (λ (us : List Store). apply us t) (stores-freeing n t k e) ∙ apply-append ss (freeStores t₁ parent leaf) t in
       let f₁ = out .whole in
@@ -229,5 +258,5 @@ module _ (n : ℕ) (ws : List ℕ) (t : Words) (arr : Arr (rootWord n) ws t) (tr
       })
 
   -- Otherwise the same nodes are reached.
-  pub delete-stays : freesLeaf n t (standing n t 1 k) (standing n t 0 k) ≡ false → reached (seen (rootWord n) (apply (deleteSettled n t k) t)) ≡ reached (seen (rootWord n) t)
-  delete-stays e = ap (λ (us : List Store). reached (seen w (apply us t))) (stores-plain n t k e) ∙ reached₁
+  pub settled-stays : freesLeaf n t (standing n t 1 k) (standing n t 0 k) ≡ false → reachedAll (apply (deleteSettled n t k) t) ≡ reachedAll t
+  settled-stays e = ap (λ (us : List Store). reachedAll (apply us t)) (stores-plain n t k e) ∙ out-reached

@@ -10,10 +10,10 @@ use lib.Dec.{eqb}
 use lib.ListN.{length, replicate, set, length-set}
 use lib.Seq.{getD-set-same, getD-set-other}
 use Rattle.model.specs.declared.Node.{Node}
-use Rattle.model.specs.Table.{MARK, Words, at, nodes, inRange, nodeStart, hasNode, node, spare, blank, tableLength, empty}
+use Rattle.model.specs.Table.{MARK, Words, at, nodes, inRange, nodeStart, hasNode, node, spare, blank, tableLength, empty, emptyOf}
 use Rattle.model.specs.Slots.{nodeView}
-use Rattle.model.specs.Reached.{flat, reached}
-use Rattle.model.specs.SoundTest.{elem, nothing}
+use Rattle.model.specs.Reached.{flat, reached, unlessLacking, mapsOf}
+use Rattle.model.specs.SoundTest.{elem, nothing, settled}
 use Rattle.model.specs.Orders.{put}
 use Rattle.view_laws.proofs.NodeViews.{newNode}
 use Rattle.list_laws.proofs.Members.{mem-each}
@@ -25,7 +25,6 @@ use Rattle.word_laws.proofs.Frames.{Elsewhere, view-else, view-same, left-store
 use Rattle.tree_laws.proofs.Rows.{range-iff}
 use Rattle.change_laws.proofs.EmptyRoot.{root-alone, map-none, empty-left}
 use Rattle.step_laws.proofs.EmptyTable.{emptyLeaf, leaf-view, first-leaf}
-use Rattle.two_laws.specs.Collections.{settledAll, unlessLacking, mapsOf, emptyOf}
 use Rattle.two_laws.proofs.Mask.{node-head, spare-head, HeadFacts}
 use Rattle.two_laws.proofs.TwoLaw.{seen, taken, Tree}
 use Rattle.two_laws.proofs.Arrange.{tree-settled}
@@ -59,14 +58,14 @@ module _ (n : ℕ) (low : 1 ≤ n) (high : n ≤ 65535) where
   tree-one =
       let h = header-iff t .0 (empty-header n low high) in
       record {
-        head = record { size = h .size; first = h .first; zeros = λ w p q. h .zeros w (omega arith) q };
+        head = record { size = h .size; first = h .first; zeros = λ w p q. h .zeros w p q };
         left = empty-left (seen 1 t) leaf range;
         room = refl;
         others = tt;
         apart = mem-each (λ (m : ℕ). elem m (taken [] t) ≡ false) (reached (seen 1 t)) (λ m h. refl);
       }
 
-  one-settled : settledAll t ≡ true
+  one-settled : settled t ≡ true
   one-settled = tree-settled 1 [] t (inl (refl, (refl, alone))) tree-one
 
   one-maps : mapsOf t ≡ record { one = []; two = none }
@@ -143,7 +142,7 @@ module _ (n : ℕ) (low : 2 ≤ n) (high : n ≤ 65535) where
       record {
         size = record { long = rw count long; some = omega (arith, count); few = omega (arith, count) };
         first = head 0 (omega arith) (λ e. omega arith) ∙ h .first;
-        zeros = λ w p q. head w q (λ e. omega arith) ∙ h .zeros w (omega arith) q;
+        zeros = λ w p q. head w q (λ e. omega arith) ∙ h .zeros w p q;
       }
 
   in-one : inRange (nodes t₂) (at t₂ 1) ≡ true
@@ -168,7 +167,7 @@ module _ (n : ℕ) (low : 2 ≤ n) (high : n ≤ 65535) where
     apart = rw (root-alone (seen 1 t₂) leaf-one in-one, root-alone (seen 3 t₂) leaf-two in-two, root, three) (refl, tt);
   }
 
-  two-settled : settledAll t₂ ≡ true
+  two-settled : settled t₂ ≡ true
   two-settled = tree-settled 1 (3 ∷ []) t₂ (inr (inl (refl, (refl, λ z. omega (arith, three, z))))) tree
 
   two-maps : mapsOf t₂ ≡ record { one = []; two = some [] }
@@ -177,7 +176,7 @@ module _ (n : ℕ) (low : 2 ≤ n) (high : n ≤ 65535) where
 
 -- ---- as the making chose
 
-pub empty-settled : (n N : ℕ) → (n ≡ 1) ⊎ (n ≡ 2) → n ≤ N → N ≤ 65535 → settledAll (emptyOf n N) ≡ true
+pub empty-settled : (n N : ℕ) → (n ≡ 1) ⊎ (n ≡ 2) → n ≤ N → N ≤ 65535 → settled (emptyOf n N) ≡ true
 unfolding emptyOf
 empty-settled n N (inl e) low high = rw e (one-settled N (omega arith) high)
 empty-settled n N (inr e) low high = rw e (two-settled N (omega arith) high)

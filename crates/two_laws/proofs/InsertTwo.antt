@@ -8,13 +8,15 @@ use native.Mathlib.Omega.{arith}
 use lib.Dec.{eqb}
 use lib.ListN.{length}
 use borrow.Author.Tests.{eqb-true, eqb-false, ltb-false}
-use Rattle.model.specs.Table.{Words, at, nodes}
-use Rattle.model.specs.Slots.{pointerOf, nodeView, view, height}
-use Rattle.model.specs.Reached.{reached, mapping}
-use Rattle.model.specs.SoundTest.{settled, nothing}
+use Rattle.model.specs.Table.{Words, at, nodes, rootWord}
+use Rattle.model.specs.Slots.{pointerOf, nodeView, view, height, viewOf}
+use Rattle.model.specs.Reached.{reached, mapping, mapOf}
+use Rattle.model.specs.SoundTest.{nothing}
 use Rattle.model.specs.Orders.{Store, apply}
 use Rattle.model.specs.Ledger.{enter}
-use Rattle.model.specs.Writes.{shiftInAt, standing as standingOf, run as runOf}
+use Rattle.model.specs.Writes.{shiftInAt, unreachable, fresh, standing, run, rootInRun, newRootAt, newRoot, splits, rootStores, insertSettled}
+use Rattle.model.specs.Refusals.{tooHigh, tooFew}
+use Rattle.tree_laws.specs.OneTree.{settledOne, standingOne as standingOf, runOne as runOf}
 use Rattle.list_laws.proofs.Tools.{Each}
 use Rattle.list_laws.proofs.Recordings.{recording-iff, recording-of, pair-of}
 use Rattle.change_laws.proofs.LeafSlots.{NewPair}
@@ -22,7 +24,6 @@ use Rattle.cut_laws.proofs.Applying.{apply-append}
 use Rattle.step_laws.proofs.Views.{fine-settled}
 use Rattle.step_laws.proofs.Run.{run-short, run-full, run-above}
 use Rattle.step_laws.proofs.Standing.{standing-stands}
-use Rattle.two_laws.specs.Collections.{rootWord, viewOf, mapIn, unreachable, fresh, standing, run, rootInRun, newRootAt, newRoot, splits, rootStores, insertSettled, tooHigh, tooFew}
 use Rattle.two_laws.specs.Parts.{Enters}
 use Rattle.two_laws.proofs.Mask.{mask}
 use Rattle.two_laws.proofs.TwoLaw.{taken, Tree, Low, Course, course-nil, course-append, course-within, long, tree-fine}
@@ -44,7 +45,7 @@ module _ (n : ℕ) (ws : List ℕ) (t : Words) (low : Low (rootWord n) ws) (f : 
   size : 8 ≤ length t
   size = long w ws t nothing low f
 
-  s : settled u ≡ true
+  s : settledOne u ≡ true
   s = fine-settled u (tree-fine w ws t nothing low f)
 
   same-height : height (view u) ≡ height (viewOf n t)
@@ -231,7 +232,7 @@ module _ (n : ℕ) (ws : List ℕ) (t : Words) (k : ℕ) (a : Arr (rootWord n) w
 
 -- Insertion into a settled table, where no refusal applies: the pair enters the map of collection n, and nothing else changes.
 pub insert-course : (n : ℕ) (ws : List ℕ) (t : Words) (k r c : ℕ) → Arr (rootWord n) ws t → Tree (rootWord n) ws t nothing → Enters n k r c t
-    → Course (38 + (15 * 67 + 27)) (rootWord n) ws t (insertSettled n t k (pointerOf r c)) (enter k (pointerOf r c) (mapIn n t))
+    → Course (38 + (15 * 67 + 27)) (rootWord n) ws t (insertSettled n t k (pointerOf r c)) (enter k (pointerOf r c) (mapOf n t))
 unfolding insertSettled
 insert-course n ws t k r c arr f e =
     let w = rootWord n in
@@ -241,11 +242,11 @@ insert-course n ws t k r c arr f e =
     let t₁ = apply (rootStores n t k) t in
     let b = splits-course m n ws t₁ k (a .1) in
     let t₂ = apply (splits n m t₁ k) t₁ in
-    let q : mapIn n t₂ ≡ mapIn n t = b .maps ∙ a .0 .maps in
+    let q : mapOf n t₂ ≡ mapOf n t = b .maps ∙ a .0 .maps in
     let few : m * 67 ≤ 15 * 67 = omega (arith, a .1 .high, a .1 .tree .left .orderly .top .level) in
     let l = arr-low w ws t arr in
     let own = recording-of r c (recording-iff r .0 (e .recording-ok) .1) in
     let new : NewPair (viewOf n t₂) k x = record { no-key = rw q (e .no-key); no-recording = rw (q, own) (e .no-recording); ok = pair-of k r c (e .recording-ok) (e .class-ok) } in
-    let d : Course 27 w ws t₂ (shiftInAt t₂ (standing n t₂ 0 k) k x) (enter k x (mapIn n t)) = rw q at (leaf-in w ws t₂ l (b .whole) k x new (splits-room m n ws t₁ k (a .1))) in
-    course-append 38 (15 * 67 + 27) w ws t (rootStores n t k) _ (enter k x (mapIn n t)) (a .0)
-    (course-append (15 * 67) 27 w ws t₁ (splits n m t₁ k) _ (enter k x (mapIn n t)) (course-within (m * 67) (15 * 67) w ws t₁ (splits n m t₁ k) (mapIn n t₁) few b) d)
+    let d : Course 27 w ws t₂ (shiftInAt t₂ (standing n t₂ 0 k) k x) (enter k x (mapOf n t)) = rw q at (leaf-in w ws t₂ l (b .whole) k x new (splits-room m n ws t₁ k (a .1))) in
+    course-append 38 (15 * 67 + 27) w ws t (rootStores n t k) _ (enter k x (mapOf n t)) (a .0)
+    (course-append (15 * 67) 27 w ws t₁ (splits n m t₁ k) _ (enter k x (mapOf n t)) (course-within (m * 67) (15 * 67) w ws t₁ (splits n m t₁ k) (mapOf n t₁) few b) d)

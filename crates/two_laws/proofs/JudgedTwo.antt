@@ -1,50 +1,57 @@
 -- What a write's refusal depends on: its own collection's tree and, of the other, only the count of free nodes.
 use mathlib.Core.Path.{_≡_, refl, ap, sym, _∙_}
-use mathlib.Core.Bool.{Bool, true, false, cond, not, _&&_}
+use mathlib.Core.Bool.{Bool, true, false, cond, not, _&&_, false≢true}
 use mathlib.Core.Logic.{_≢_, _↔_, _⊎_, inl, inr}
 use mathlib.Core.List.{List, [], _∷_, _++_, List·Memᴰ}
+use mathlib.Core.Option.{Option, some}
 use Prim.Native.Nat.{ℕ, suc, _+_, _-_}
 use native.Mathlib.Omega.{arith}
 use lib.Dec.{eqb, ltb}
 use lib.ListN.{length}
 use lib.Seq.{take-length}
-use Rattle.model.specs.Table.{Words, at, nodes}
-use Rattle.model.specs.Slots.{Slot, View, nodeView, height, full}
+use borrow.Author.Tests.{ne-eqb}
+use Rattle.model.specs.Table.{Words, at, nodes, rootWord, noCollection}
+use Rattle.model.specs.Slots.{Slot, nodeView, height, full, viewOf, view}
 use Rattle.model.specs.Search.{path}
-use Rattle.model.specs.Reached.{filter, reached}
-use Rattle.model.specs.SoundTest.{elem, soundView, leftover}
-use Rattle.model.specs.Writes.{numbers, runIn}
-use Rattle.model.specs.Refusals.{Test, test, firstNumber, fullParent}
-use Rattle.list_laws.proofs.Tools.{Each-map, all-each, same-or-not}
+use Rattle.model.specs.Reached.{filter, reached, reachedAll, mapOf}
+use Rattle.model.specs.SoundTest.{elem, Leftover, nothing, hiddenIn, missingIn, bothIn, leftover, leftoverAll, sound}
+use Rattle.model.specs.Writes.{numbers, runIn, unreached, unreachable, repaired, repairStores, run, rootInRun, Call, insertion, deletion, classChange, repair}
+use Rattle.model.specs.Refusals.{Test, test, firstNumber, fullParent, seventeenIn, parentFull, tooHigh, tooFew, elevenIn, tenIn, ownMap, mapTests, refusal}
+use Rattle.list_laws.proofs.Tools.{Each-map, same-or-not}
+use Rattle.list_laws.proofs.Members.{each-mem, mem-each, elem-iff, mem-flat}
 use Rattle.tree_laws.proofs.Levels.{sound-orderly}
 use Rattle.tree_laws.proofs.SearchLaw.{path-reached}
 use Rattle.cut_laws.proofs.Applying.{length-apply}
-use Rattle.change_laws.proofs.Parts.{has-left-iff, sound-left}
+use Rattle.change_laws.proofs.Parts.{HasLeft, has-left-iff}
+use Rattle.step_laws.proofs.RepairedView.{lackingIn}
 use Rattle.step_laws.proofs.Judged.{run-same, fullLater, runLater}
 use Rattle.step_laws.proofs.Numbers.{parent-room}
-use Rattle.two_laws.specs.Collections.{rootWord, viewOf, trees, reachedAll, unreached, unreachable, soundAll, mapIn, repaired, repairStores, run, rootInRun, noCollection}
-use Rattle.two_laws.specs.Collections.{Call, insertion, deletion, classChange, repair, seventeenIn, parentFull, tooHigh, tooFew, elevenIn, tenIn, ownMap, mapTests, refusal}
-use Rattle.two_laws.proofs.TwoLaw.{seen}
-use Rattle.two_laws.proofs.Arrange.{all-one, all-two, sound-parts, settled-parts}
-use Rattle.two_laws.proofs.CallsTwo.{Is, repairs}
+use Rattle.two_laws.proofs.TwoLaw.{seen, taken, Tree}
+use Rattle.two_laws.proofs.Arrange.{Arr, all-one, all-two, sound-parts, settled-parts, SoundAs, sound-tree, left-all}
+use Rattle.two_laws.proofs.CallsTwo.{Is, arr-other, repairs}
 use Rattle.two_laws.proofs.AcceptedTwo.{there}
 use Rattle.two_laws.proofs.SearchTwo.{sound-head, sound-view}
 use Rattle.two_laws.proofs.RepairedTwo.{Later, repaired-later}
 
 -- ---- 12 never comes on a sound table
 
-view-parent : (v : View) → soundView v ≡ true → not (fullParent v (leftover v)) ≡ true
-view-parent v s = let u = sound-left v .0 s in rw (has-left-iff v (u .0) .1 (u .1) .1) (ap not (parent-room v (u .0) (u .2)))
+-- from whichever root
+parent-seen : (w : ℕ) (t : Words) (y : Leftover) → fullParent (view t) (some y) ≡ fullParent (seen w t) (some y)
+parent-seen w t nothing = refl
+parent-seen w t (hiddenIn x) = refl
+parent-seen w t (missingIn p a trailing) = refl
+parent-seen w t (bothIn p a) = refl
 
-pub parent-not-full : (t : Words) → soundAll t ≡ true → parentFull t ≡ false
+pub parent-not-full : (t : Words) → sound t ≡ true → parentFull t ≡ false
 unfolding parentFull
 parent-not-full t s =
-    ap not (all-each (λ (v : View). not (fullParent v (leftover v))) (trees t) .1
-    (Each-map (λ (v : View). soundView v ≡ true) (λ (v : View). not (fullParent v (leftover v)) ≡ true) (trees t) view-parent (all-each soundView (trees t) .0 (sound-parts t .0 s .1))))
+    let u = sound-tree t s in
+    let y = u .leftover in
+    ap (fullParent (view t)) (left-all (u .word) (u .others) t y (u .arranged) (u .tree)) ∙ parent-seen (u .word) t y ∙ parent-room (seen (u .word) t) y (u .tree .room)
 
 -- ---- the free nodes
 
-reached-later : (t : Words) → soundAll t ≡ true → reachedAll (repaired t) ≡ reachedAll t
+pub reached-later : (t : Words) → sound t ≡ true → reachedAll (repaired t) ≡ reachedAll t
 unfolding repaired
 reached-later t s = go (same-or-not (at t 3) 0)
   where
@@ -56,20 +63,52 @@ reached-later t s = go (same-or-not (at t 3) 0)
     go (inr z) = all-two (repaired t) (λ y. z (l .0 y)) ∙ ap (λ (x : List ℕ). x ++ (reached (seen 3 (repaired t)) ++ [])) (repaired-later t 1 s (inl refl) .reached)
         ∙ ap (λ (x : List ℕ). reached (seen 1 t) ++ (x ++ [])) (repaired-later t 3 s (inr (refl, z)) .reached) ∙ sym (all-two t z)
 
-nodes-later : (t : Words) → soundAll t ≡ true → nodes (repaired t) ≡ nodes t
+nodes-later : (t : Words) → sound t ≡ true → nodes (repaired t) ≡ nodes t
 unfolding repaired
 nodes-later t s =
     let a = settled-parts (repaired t) .0 (repairs t s .settles) .0 .facts .size .long in
     let b = sound-parts t .0 s .0 .facts .size .long in
     omega (arith, a, b, length-apply (repairStores t) t)
 
-pub unreachable-later : (t : Words) → soundAll t ≡ true → unreachable (repaired t) ≡ unreachable t
+pub unreachable-later : (t : Words) → sound t ≡ true → unreachable (repaired t) ≡ unreachable t
 unfolding unreachable unreached
 unreachable-later t s = ap (λ (l : List ℕ). filter (λ (n : ℕ). not (elem n l)) (numbers 1 (nodes (repaired t)))) (reached-later t s) ∙ ap (λ (n : ℕ). filter (λ (n : ℕ). not (elem n (reachedAll t))) (numbers 1 n)) (nodes-later t s)
 
+-- ---- the slot that the parent lacks
+
+-- a node of the other tree is none of this one
+not-in : (w : ℕ) (ws : List ℕ) (t : Words) (y : Leftover) (m p : ℕ) → Tree w ws t y → elem m (taken ws t) ≡ true → List·Memᴰ p (reached (seen w t)) → eqb m p ≡ false
+not-in w ws t y m p f e h = let o = each-mem (λ (n : ℕ). elem n (taken ws t) ≡ false) (f .apart) h in ne-eqb m p (λ q. false≢true (sym o ∙ (rw q at e)))
+
+in-taken : (w : ℕ) (ws : List ℕ) (t : Words) (x m : ℕ) → Arr w ws t → Is x t → x ≢ w → List·Memᴰ m (reached (seen x t)) → elem m (taken ws t) ≡ true
+in-taken w ws t x m r i z =
+    arr-other w ws t x (λ (x : ℕ). List·Memᴰ m (reached (seen x t)) → elem m (taken ws t) ≡ true) r i z
+    (mem-each (λ (x : ℕ). List·Memᴰ m (reached (seen x t)) → elem m (taken ws t) ≡ true) ws (λ x k h. elem-iff m (taken ws t) .1 (mem-flat (λ (x : ℕ). reached (seen x t)) m ws .1 (x, k, h))))
+
+lacking-off : (w : ℕ) (ws : List ℕ) (t : Words) (y : Leftover) (m : ℕ) → Tree w ws t y → elem m (taken ws t) ≡ true → lackingIn (some y) m ≡ 0
+lacking-off w ws t nothing m f e = refl
+lacking-off w ws t (hiddenIn x) m f e = refl
+lacking-off w ws t (missingIn p a false) m f e = rw (not-in w ws t _ m p f e (f .left .left .2 .member))
+lacking-off w ws t (missingIn p a true) m f e = rw (not-in w ws t _ m p f e (f .left .left .2 .member))
+lacking-off w ws t (bothIn p a) m f e = rw (not-in w ws t _ m p f e (f .left .left .0 .member))
+
+-- A node of a tree gets no slot by the other tree's repair: the leftover of the whole table tells as its own.
+pub lacking-all : (n : ℕ) (t : Words) (m : ℕ) → sound t ≡ true → Is (rootWord n) t → List·Memᴰ m (reached (viewOf n t)) → lackingIn (leftover (viewOf n t)) m ≡ lackingIn (leftoverAll t) m
+lacking-all n t m s i h = let u = sound-tree t s in go u (same-or-not (rootWord n) (u .word)) ∙ ap (λ (y : Option Leftover). lackingIn y m) (sym (left-all (u .word) (u .others) t (u .leftover) (u .arranged) (u .tree)))
+  where
+    is : (x : ℕ) (z : Leftover) → HasLeft (seen x t) z → leftover (seen x t) ≡ some z
+    is x z l = has-left-iff (seen x t) z .1 l .1
+
+    go : (u : SoundAs t) → (rootWord n ≡ u .word) ⊎ (rootWord n ≢ u .word) → lackingIn (leftover (viewOf n t)) m ≡ lackingIn (some (u .leftover)) m
+    go u (inl e) = ap (λ (x : ℕ). lackingIn (leftover (seen x t)) m) e ∙ ap (λ (y : Option Leftover). lackingIn y m) (is (u .word) (u .leftover) (u .tree .left))
+    go u (inr z) =
+        let l = arr-other (u .word) (u .others) t (rootWord n) (λ (x : ℕ). HasLeft (seen x t) nothing) (u .arranged) i z (u .tree .others) in
+        ap (λ (y : Option Leftover). lackingIn y m) (is (rootWord n) nothing l)
+        ∙ sym (lacking-off (u .word) (u .others) t (u .leftover) m (u .tree) (in-taken (u .word) (u .others) t (rootWord n) m (u .arranged) i z h))
+
 -- ---- the run
 
-module _ (n : ℕ) (t : Words) (s : soundAll t ≡ true) (i : Is (rootWord n) t) (k : ℕ) where
+module _ (n : ℕ) (t : Words) (s : sound t ≡ true) (i : Is (rootWord n) t) (k : ℕ) where
   r : Later (rootWord n) t (repaired t)
   r = repaired-later t (rootWord n) s i
 
@@ -107,17 +146,17 @@ module _ (n : ℕ) (t : Words) (s : soundAll t ≡ true) (i : Is (rootWord n) t)
 abbrev pub testsOn : Call → (words : ℕ) → Words → List Test
 testsOn x words t = test (ltb words 2560) 5 ∷ mapTests x (elevenIn x (repaired t)) (tenIn x (repaired t)) (ownMap x t)
 
-map-later : (n : ℕ) (t : Words) → soundAll t ≡ true → noCollection n t ≡ false → mapIn n (repaired t) ≡ mapIn n t
+pub map-later : (n : ℕ) (t : Words) → sound t ≡ true → noCollection n t ≡ false → mapOf n (repaired t) ≡ mapOf n t
 unfolding repaired
 map-later n t s h = rw take-length at (repairs t s .part-map (length (repairStores t)) (rootWord n) (there n t h .1))
 
-pub own-later : (x : Call) (t : Words) → soundAll t ≡ true → seventeenIn x t ≡ false → ownMap x (repaired t) ≡ ownMap x t
+pub own-later : (x : Call) (t : Words) → sound t ≡ true → seventeenIn x t ≡ false → ownMap x (repaired t) ≡ ownMap x t
 own-later (insertion n k r c) t s h = map-later n t s h
 own-later (deletion n k) t s h = map-later n t s h
 own-later (classChange n k c) t s h = map-later n t s h
 own-later repair t s h = refl
 
-pub number-on-sound : (x : Call) (words : ℕ) (t : Words) → soundAll t ≡ true → seventeenIn x t ≡ false → refusal x words t ≡ firstNumber (testsOn x words t)
+pub number-on-sound : (x : Call) (words : ℕ) (t : Words) → sound t ≡ true → seventeenIn x t ≡ false → refusal x words t ≡ firstNumber (testsOn x words t)
 unfolding refusal
 number-on-sound x words t s h = rw (sound-head t s, h, s, parent-not-full t s, own-later x t s h)
 
@@ -142,7 +181,7 @@ numberBy x words ps run high free =
     firstNumber (test (ltb words 2560) 5 ∷ mapTests x (eqb run (suc high) && eqb high 15) (ltb free (run + cond (eqb run (suc high)) 1 0)) ps)
 
 -- A write's acceptance depends on the other collection only by the count of free nodes.
-pub accept-own : (x : Call) (words : ℕ) (t : Words) → soundAll t ≡ true → seventeenIn x t ≡ false → refusal x words t ≡ numberBy x words (ownMap x t) (ownRun x t) (ownHeight x t) (length (unreachable t))
+pub accept-own : (x : Call) (words : ℕ) (t : Words) → sound t ≡ true → seventeenIn x t ≡ false → refusal x words t ≡ numberBy x words (ownMap x t) (ownRun x t) (ownHeight x t) (length (unreachable t))
 accept-own x words t s h = number-on-sound x words t s h ∙ go x h
   where
     go : (x : Call) → seventeenIn x t ≡ false → firstNumber (testsOn x words t) ≡ numberBy x words (ownMap x t) (ownRun x t) (ownHeight x t) (length (unreachable t))

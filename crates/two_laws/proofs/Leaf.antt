@@ -7,12 +7,13 @@ use native.Mathlib.Omega.{arith}
 use lib.ListN.{length}
 use Rattle.model.specs.Table.{Words, at, nodes}
 use Rattle.model.specs.Slots.{classOk, nodeView, view}
-use Rattle.model.specs.Reached.{reached, mapping, mapOf}
-use Rattle.model.specs.SoundTest.{elem, settled, nothing}
+use Rattle.model.specs.Reached.{reached, mapping}
+use Rattle.model.specs.SoundTest.{elem, nothing}
 use Rattle.model.specs.Shifts.{placeOf}
-use Rattle.model.specs.Writes.{standing, shiftInAt, shiftOutAt, setClassAt}
+use Rattle.model.specs.Writes.{shiftInAt, shiftOutAt, setClassAt, standingIn}
 use Rattle.model.specs.Refusals.{hasKey}
 use Rattle.model.specs.Ledger.{enter, leave, reclass}
+use Rattle.tree_laws.specs.OneTree.{settledOne, mapOne, standingOne}
 use Rattle.list_laws.proofs.Tools.{Each}
 use Rattle.list_laws.proofs.Members.{each-mem}
 use Rattle.list_laws.proofs.Distinct.{UpTo}
@@ -23,7 +24,6 @@ use Rattle.change_laws.proofs.LeafSlots.{NewPair}
 use Rattle.step_laws.proofs.Views.{Fine, fine-settled, shown-few}
 use Rattle.step_laws.proofs.Standing.{standing-stands}
 use Rattle.step_laws.proofs.LeafShift.{leaf-shift-in, leaf-shift-out, leaf-out-place, leaf-class}
-use Rattle.two_laws.specs.Collections.{standingIn}
 use Rattle.two_laws.proofs.Mask.{mask}
 use Rattle.two_laws.proofs.Masked.{mask-reached, mask-shown, mask-standing, mask-shift-in, mask-shift-out, mask-class}
 use Rattle.two_laws.proofs.Frame.{Away}
@@ -37,13 +37,13 @@ module _ (w : ℕ) (ws : List ℕ) (t : Words) (low : Low w ws) (f : Tree w ws t
   fine : Fine u nothing
   fine = tree-fine w ws t nothing low f
 
-  s : settled u ≡ true
+  s : settledOne u ≡ true
   s = fine-settled u fine
 
   abbrev x : ℕ
   x = standingIn (seen w t) 0 k
 
-  same-x : standing u 0 k ≡ x
+  same-x : standingOne u 0 k ≡ x
   same-x = mask-standing (at t w) (taken ws t) t (long w ws t nothing low f) 0 k
 
   x-reached : List·Memᴰ x (reached (seen w t))
@@ -61,7 +61,7 @@ module _ (w : ℕ) (ws : List ℕ) (t : Words) (low : Low w ws) (f : Tree w ws t
   size : 8 ≤ length t
   size = long w ws t nothing low f
 
-  same-map : mapOf u ≡ mapping (seen w t)
+  same-map : mapOne u ≡ mapping (seen w t)
   same-map = seen-map w ws t nothing low f
 
   -- k with the pointer y is shifted in at its leaf, which has room for it.
@@ -72,14 +72,15 @@ module _ (w : ℕ) (ws : List ℕ) (t : Words) (low : Low w ws) (f : Tree w ws t
       phase-course 27 w ws t nothing _ _ low f (rw (same-x, mask-shift-in (at t w) (taken ws t) t size, same-map) at p) (shift-in-away (taken ws t) x x-some x-off t k y room)
 
   module _ (has : hasKey k (mapping (seen w t)) ≡ true) where
-    has-u : hasKey k (mapOf u) ≡ true
+    has-u : hasKey k (mapOne u) ≡ true
     has-u = rw same-map has
 
-    place : placeOf k (nodeView t x .shown) < length (nodeView t x .shown)
-    place = rw (same-x, mask-shown (at t w) (taken ws t) t size x) at (leaf-out-place u s k has-u)
+    -- it shows k at its place
+    pub leaf-place : placeOf k (nodeView t (standingIn (seen w t) 0 k) .shown) < length (nodeView t (standingIn (seen w t) 0 k) .shown)
+    leaf-place = rw (same-x, mask-shown (at t w) (taken ws t) t size x) at (leaf-out-place u s k has-u)
 
     pub out-away : Each (Away (taken ws t)) (shiftOutAt t (standingIn (seen w t) 0 k) k)
-    out-away = shift-out-away (taken ws t) x x-some x-off t k few place
+    out-away = shift-out-away (taken ws t) x x-some x-off t k few leaf-place
 
     -- The pair of k is shifted out of its leaf.
     pub leaf-out : Course 25 w ws t (shiftOutAt t (standingIn (seen w t) 0 k) k) (leave k (mapping (seen w t)))
@@ -90,4 +91,4 @@ module _ (w : ℕ) (ws : List ℕ) (t : Words) (low : Low w ws) (f : Tree w ws t
     leaf-reclass c ok = phase-course 2 w ws t nothing _ _ low f (rw (same-x, mask-class (at t w) (taken ws t) t size x k c, same-map) at (leaf-class u s k has-u c ok)) away
       where
         away : Each (Away (taken ws t)) (setClassAt t x k c)
-        away = unfold setClassAt in (put-away (taken ws t) x x-some x-off _ _ (omega arith) (omega (arith, place, few)), tt)
+        away = unfold setClassAt in (put-away (taken ws t) x x-some x-off _ _ (omega arith) (omega (arith, leaf-place, few)), tt)

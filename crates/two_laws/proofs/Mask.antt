@@ -194,7 +194,7 @@ mask-header r ns t l =
         record {
           size = rw (length-mask r ns t, two) at (f .size);
           first = sym (head-at r ns t 0 (omega arith) (λ e. omega arith) (λ e. omega arith)) ∙ f .first;
-          zeros = λ w p q. sym (head-at r ns t w q (λ e. omega arith) (λ e. omega arith)) ∙ f .zeros w (omega arith) q;
+          zeros = λ w p q. sym (head-at r ns t w q (λ e. omega arith) (λ e. omega arith)) ∙ f .zeros w p q;
         },
         simp decode (rw one at (f .root-some), rw (one, two) at (f .root-in)),
       ),
@@ -203,15 +203,12 @@ mask-header r ns t l =
           header-iff (mask r ns t) .1 (record {
             size = rw (length-mask r ns t, two) (h .0 .size);
             first = head-at r ns t 0 (omega arith) (λ e. omega arith) (λ e. omega arith) ∙ h .0 .first;
-            zeros = λ w p q. zeros w p q (h .0) (same-or-not w 3);
+            zeros = λ w p q. head-at r ns t w q (λ e. omega arith) (λ e. omega arith) ∙ h .0 .zeros w p q;
             root-some = rw one (u .0);
             root-in = rw (one, two) (u .1);
+            two = λ z. absurd (z (zero-at r ns t l));
           }),
     )
-  where
-    zeros : (w : ℕ) → 3 ≤ w → w < 8 → HeadFacts t → (w ≡ 3) ⊎ (w ≢ 3) → at (mask r ns t) w ≡ 0
-    zeros w p q h (inl e) = rw e (zero-at r ns t l)
-    zeros w p q h (inr z) = head-at r ns t w q (λ e. omega arith) z ∙ h .zeros w (omega (arith, z)) q
 
 -- ---- stores
 

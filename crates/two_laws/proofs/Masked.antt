@@ -9,10 +9,11 @@ use Rattle.model.specs.Table.{MARK, Words, nodes}
 use Rattle.model.specs.Slots.{slot, used, View, nodeView, view, viewFrom, height}
 use Rattle.model.specs.Search.{path}
 use Rattle.model.specs.Reached.{reached}
-use Rattle.model.specs.Writes.{standing, runIn, run, shiftInAt, shiftOutAt, closeAt, cutOff, attach, middle, nodeWords, splitWords, split, childBefore, freeStores, setClassAt}
-use Rattle.two_laws.specs.Collections.{standingIn}
+use Rattle.model.specs.SoundTest.{leftover}
+use Rattle.model.specs.Writes.{runIn, shiftInAt, shiftOutAt, closeAt, cutOff, attach, middle, nodeWords, splitWords, split, childBefore, freeStores, setClassAt, standingIn}
+use Rattle.tree_laws.specs.OneTree.{standingOne, runOne}
 use Rattle.two_laws.proofs.Mask.{mask, mask-view, node-mask, withClear}
-use Rattle.two_laws.proofs.OwnTree.{reached-clear, path-clear, run-clear}
+use Rattle.two_laws.proofs.OwnTree.{reached-clear, leftover-clear, path-clear, run-clear}
 
 module _ (r : ℕ) (ns : List ℕ) (t : Words) (l : 8 ≤ length t) where
   -- ---- the nodes
@@ -41,15 +42,17 @@ module _ (r : ℕ) (ns : List ℕ) (t : Words) (l : 8 ≤ length t) where
   pub mask-reached : reached (view (mask r ns t)) ≡ reached (viewFrom t r)
   mask-reached = ap reached (mask-view r ns t l) ∙ reached-clear (viewFrom t r) _
 
+  pub mask-leftover : leftover (view (mask r ns t)) ≡ leftover (viewFrom t r)
+  mask-leftover = ap leftover (mask-view r ns t l) ∙ leftover-clear (viewFrom t r) _
+
   pub mask-height : height (view (mask r ns t)) ≡ height (viewFrom t r)
   mask-height = ap height (mask-view r ns t l)
 
-  pub mask-standing : (d k : ℕ) → standing (mask r ns t) d k ≡ standingIn (viewFrom t r) d k
-  unfolding standing standingIn
+  pub mask-standing : (d k : ℕ) → standingOne (mask r ns t) d k ≡ standingIn (viewFrom t r) d k
+  unfolding standingIn
   mask-standing d k = ap (λ (v : View). getD (path v k) (height v - d) 0) (mask-view r ns t l) ∙ ap (λ (ns : List ℕ). getD ns (height (viewFrom t r) - d) 0) (path-clear (viewFrom t r) _ k)
 
-  pub mask-run : (k : ℕ) → run (mask r ns t) k ≡ runIn (viewFrom t r) (path (viewFrom t r) k)
-  unfolding run
+  pub mask-run : (k : ℕ) → runOne (mask r ns t) k ≡ runIn (viewFrom t r) (path (viewFrom t r) k)
   mask-run k = ap (λ (v : View). runIn v (path v k)) (mask-view r ns t l) ∙ run-clear (viewFrom t r) _ (path (withClear (viewFrom t r) _) k) ∙ ap (runIn (viewFrom t r)) (path-clear (viewFrom t r) _ k)
 
   -- ---- the stores

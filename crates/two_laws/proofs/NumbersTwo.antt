@@ -7,10 +7,11 @@ use Prim.Native.Nat.{ℕ}
 use lib.ListN.{take, drop}
 use Rattle.model.specs.Table.{Words}
 use Rattle.model.specs.Slots.{classOk}
-use Rattle.model.specs.SoundTest.{elem}
-use Rattle.model.specs.Refusals.{Test, test, firstNumber, hasKey, hasRecording}
+use Rattle.model.specs.SoundTest.{elem, sound}
+use Rattle.model.specs.Refusals.{Test, test, firstNumber, hasKey, hasRecording, seventeenIn, tooHigh, tooFew, refusal}
+use Rattle.model.specs.Reached.{mapOf}
+use Rattle.model.specs.Writes.{repaired, Call, insertion, deletion, classChange, repair}
 use Rattle.step_laws.proofs.Numbers.{Passed, Other, first-iff}
-use Rattle.two_laws.specs.Collections.{soundAll, mapIn, repaired, Call, insertion, deletion, classChange, repair, seventeenIn, tooHigh, tooFew, refusal}
 use Rattle.two_laws.proofs.JudgedTwo.{testsOn, number-on-sound}
 use Rattle.two_laws.proofs.LedgerTwo.{from-five}
 
@@ -18,7 +19,7 @@ use Rattle.two_laws.proofs.LedgerTwo.{from-five}
 abbrev pub allTests : Call → (words : ℕ) → Words → List Test
 allTests x words t = test (seventeenIn x t) 17 ∷ testsOn x words t
 
-number-with : (x : Call) (words : ℕ) (t : Words) → soundAll t ≡ true → refusal x words t ≡ firstNumber (allTests x words t)
+number-with : (x : Call) (words : ℕ) (t : Words) → sound t ≡ true → refusal x words t ≡ firstNumber (allTests x words t)
 number-with x words t s = go (seventeenIn x t) refl
   where
     go : (b : Bool) → seventeenIn x t ≡ b → refusal x words t ≡ firstNumber (allTests x words t)
@@ -28,7 +29,7 @@ number-with x words t s = go (seventeenIn x t) refl
 first-alone : (b : Bool) (n : ℕ) (after : List Test) → Other n [] → Other n after → (firstNumber (test b n ∷ after) ≡ n) ↔ (b ≡ true)
 first-alone b n after o a = let u = first-iff [] b n after o a in (λ e. u .0 e .1, λ e. u .1 (tt, e))
 
-module _ (words : ℕ) (t : Words) (s : soundAll t ≡ true) where
+module _ (words : ℕ) (t : Words) (s : sound t ≡ true) where
   -- 17: the collection is not there
   pub seventeen-iff : (x : Call) → (refusal x words t ≡ 17) ↔ (seventeenIn x t ≡ true)
   unfolding elem
@@ -49,13 +50,13 @@ module _ (words : ℕ) (t : Words) (s : soundAll t ≡ true) where
     unfolding elem
     fourteen-iff = rw (number-with x words t s) (first-iff (take 3 tests) (not (classOk c)) 14 (drop 4 tests) refl refl)
 
-    pub seven-iff : (refusal (insertion n k r c) words t ≡ 7) ↔ (Passed (take 4 (allTests (insertion n k r c) words t)) × ((hasKey k (mapIn n t)) ≡ true))
+    pub seven-iff : (refusal (insertion n k r c) words t ≡ 7) ↔ (Passed (take 4 (allTests (insertion n k r c) words t)) × ((hasKey k (mapOf n t)) ≡ true))
     unfolding elem
-    seven-iff = rw (number-with x words t s) (first-iff (take 4 tests) (hasKey k (mapIn n t)) 7 (drop 5 tests) refl refl)
+    seven-iff = rw (number-with x words t s) (first-iff (take 4 tests) (hasKey k (mapOf n t)) 7 (drop 5 tests) refl refl)
 
-    pub eight-iff : (refusal (insertion n k r c) words t ≡ 8) ↔ (Passed (take 5 (allTests (insertion n k r c) words t)) × ((hasRecording r (mapIn n t)) ≡ true))
+    pub eight-iff : (refusal (insertion n k r c) words t ≡ 8) ↔ (Passed (take 5 (allTests (insertion n k r c) words t)) × ((hasRecording r (mapOf n t)) ≡ true))
     unfolding elem
-    eight-iff = rw (number-with x words t s) (first-iff (take 5 tests) (hasRecording r (mapIn n t)) 8 (drop 6 tests) refl refl)
+    eight-iff = rw (number-with x words t s) (first-iff (take 5 tests) (hasRecording r (mapOf n t)) 8 (drop 6 tests) refl refl)
 
     pub eleven-iff : (refusal (insertion n k r c) words t ≡ 11) ↔ (Passed (take 6 (allTests (insertion n k r c) words t)) × ((tooHigh n (repaired t) k) ≡ true))
     unfolding elem
@@ -67,9 +68,9 @@ module _ (words : ℕ) (t : Words) (s : soundAll t ≡ true) where
     ten-iff = rw (number-with x words t s) (first-iff (take 7 tests) (tooFew n (repaired t) k) 10 (drop 8 tests) refl refl)
 
   -- a deletion's tests: 17, 5, 9
-  pub nine-iff : (n k : ℕ) → (refusal (deletion n k) words t ≡ 9) ↔ (Passed (take 2 (allTests (deletion n k) words t)) × ((not (hasKey k (mapIn n t))) ≡ true))
+  pub nine-iff : (n k : ℕ) → (refusal (deletion n k) words t ≡ 9) ↔ (Passed (take 2 (allTests (deletion n k) words t)) × ((not (hasKey k (mapOf n t))) ≡ true))
   unfolding elem
-  nine-iff n k = rw (number-with (deletion n k) words t s) (first-iff (take 2 (allTests (deletion n k) words t)) (not (hasKey k (mapIn n t))) 9 [] refl refl)
+  nine-iff n k = rw (number-with (deletion n k) words t s) (first-iff (take 2 (allTests (deletion n k) words t)) (not (hasKey k (mapOf n t))) 9 [] refl refl)
 
   -- a class change's tests: 17, 5, 14, 9
   module _ (n k c : ℕ) where
@@ -80,6 +81,6 @@ module _ (words : ℕ) (t : Words) (s : soundAll t ≡ true) where
     unfolding elem
     class-fourteen-iff = rw (number-with (classChange n k c) words t s) (first-iff (take 2 class-tests) (not (classOk c)) 14 (drop 3 class-tests) refl refl)
 
-    pub class-nine-iff : (refusal (classChange n k c) words t ≡ 9) ↔ (Passed (take 3 (allTests (classChange n k c) words t)) × ((not (hasKey k (mapIn n t))) ≡ true))
+    pub class-nine-iff : (refusal (classChange n k c) words t ≡ 9) ↔ (Passed (take 3 (allTests (classChange n k c) words t)) × ((not (hasKey k (mapOf n t))) ≡ true))
     unfolding elem
-    class-nine-iff = rw (number-with (classChange n k c) words t s) (first-iff (take 3 class-tests) (not (hasKey k (mapIn n t))) 9 [] refl refl)
+    class-nine-iff = rw (number-with (classChange n k c) words t s) (first-iff (take 3 class-tests) (not (hasKey k (mapOf n t))) 9 [] refl refl)

@@ -9,12 +9,16 @@ use lib.ListN.{length, take}
 use borrow.Author.Tests.{ne-eqb}
 use Rattle.model.specs.declared.Listed.{Listed}
 use Rattle.model.specs.declared.Listed.the-variants.{Refused}
-use Rattle.model.specs.Table.{Words}
+use Rattle.model.specs.Table.{Words, noCollection}
 use Rattle.model.specs.Slots.{Slot}
-use Rattle.model.specs.Listing.{inRangeOf, listed, listedWords}
+use Rattle.model.specs.Listing.{inRangeOf, listed, listedWords, listNumber, list, listOut}
 use Rattle.model.specs.Orders.{apply}
-use Rattle.two_laws.specs.Collections.{noCollection, soundAll, search, listNumber, list, listOut, Maps, mapsOf, Call, insertion, deletion, classChange, repair, storesOf, seventeenIn, refusal, onMap, change}
-use Rattle.two_laws.specs.Ledgers.{listIn, answerFrom}
+use Rattle.model.specs.SoundTest.{sound}
+use Rattle.model.specs.Search.{search}
+use Rattle.model.specs.Reached.{Maps, mapsOf}
+use Rattle.model.specs.Writes.{Call, insertion, deletion, classChange, repair, storesOf}
+use Rattle.model.specs.Refusals.{seventeenIn, refusal}
+use Rattle.model.specs.Ledger.{onMap, change, listIn, answerFrom}
 use Rattle.two_laws.proofs.AcceptedTwo.{there, accepted-iff}
 use Rattle.two_laws.proofs.MapsTwo.{Steps, accepted-steps}
 use Rattle.two_laws.proofs.SearchTwo.{sound-head}
@@ -30,11 +34,11 @@ abbrev pub writtenFrom : (low high : ℕ) → Words → Option (List Slot) → W
 writtenFrom low high out none = out
 writtenFrom low high out (some ps) = listedWords (inRangeOf low high ps) out
 
-number-by : (n : ℕ) (t : Words) → soundAll t ≡ true → listNumber n t ≡ cond (noCollection n t) 17 0
+number-by : (n : ℕ) (t : Words) → sound t ≡ true → listNumber n t ≡ cond (noCollection n t) 17 0
 unfolding listNumber
 number-by n t s = rw (sound-head t s, s)
 
-module _ (n : ℕ) (t : Words) (s : soundAll t ≡ true) (low high : ℕ) (out : Words) where
+module _ (n : ℕ) (t : Words) (s : sound t ≡ true) (low high : ℕ) (out : Words) where
   -- A listing of any collection of a sound table is by its maps.
   pub listed-by : (list n t low high out ≡ listedFrom low high (length out) (listIn n (mapsOf t))) × (listOut n t low high out ≡ writtenFrom low high out (listIn n (mapsOf t)))
   unfolding list listOut
@@ -68,7 +72,7 @@ others-list n (deletion j k) t m h z = other-list n j _ m (there j t h .0) z
 others-list n (classChange j k c) t m h z = other-list n j _ m (there j t h .0) z
 others-list n repair t m h z = refl
 
-module _ (x : Call) (words : ℕ) (t : Words) (s : soundAll t ≡ true) (ok : refusal x words t ≡ 0) (n : ℕ) (z : Others n x) (j : ℕ) where
+module _ (x : Call) (words : ℕ) (t : Words) (s : sound t ≡ true) (ok : refusal x words t ≡ 0) (n : ℕ) (z : Others n x) (j : ℕ) where
   abbrev t′ : Words
   t′ = apply (take j (storesOf x t)) t
 

@@ -7,22 +7,22 @@ use Prim.Native.Nat.{ℕ, suc, _*_, _≤_, _<_}
 use native.Mathlib.Omega.{arith}
 use lib.ListN.{length}
 use borrow.Author.Tests.{ne-eqb}
-use Rattle.model.specs.Table.{Words, at, nodes, hasNode}
-use Rattle.model.specs.Slots.{nodeView, view, height}
-use Rattle.model.specs.Reached.{reached}
-use Rattle.model.specs.SoundTest.{nothing}
+use Rattle.model.specs.Table.{Words, at, nodes, hasNode, rootWord, noCollection}
+use Rattle.model.specs.Slots.{nodeView, view, height, viewOf}
+use Rattle.model.specs.Reached.{reached, mapOf}
+use Rattle.model.specs.SoundTest.{nothing, settled}
 use Rattle.model.specs.Orders.{apply}
-use Rattle.model.specs.Writes.{shiftOutAt, childBefore}
-use Rattle.model.specs.Refusals.{hasKey}
+use Rattle.model.specs.Shifts.{placeOf}
+use Rattle.model.specs.Writes.{shiftOutAt, childBefore, unreachable, fresh, standing, run, splits, rootStores, freesLeaf}
+use Rattle.model.specs.Refusals.{hasKey, tooHigh, tooFew}
 use Rattle.list_laws.proofs.Members.{each-mem}
 use Rattle.list_laws.proofs.Distinct.{UpTo}
 use Rattle.table_laws.proofs.Nodes.{has-node-iff}
 use Rattle.tree_laws.proofs.Rows.{range-iff}
 use Rattle.tree_laws.proofs.Levels.{reached-numbers}
-use Rattle.two_laws.specs.Collections.{rootWord, viewOf, noCollection, unreachable, fresh, settledAll, mapIn, standing, run, splits, rootStores, freesLeaf, tooHigh, tooFew}
 use Rattle.two_laws.specs.Parts.{splitFor, Splittable, Ready}
 use Rattle.two_laws.proofs.TwoLaw.{Tree, Low}
-use Rattle.two_laws.proofs.Leaf.{leaf-out}
+use Rattle.two_laws.proofs.Leaf.{leaf-place, leaf-out}
 use Rattle.two_laws.proofs.Arrange.{Arr, arr-low, root-in, tree-settled, settled-tree, free-fresh, course-arr}
 use Rattle.two_laws.proofs.DeleteTwo.{p-reached, before-reached, can-free}
 use Rattle.two_laws.proofs.InsertTwo.{stands-reached, ReadyIn, ready-next, splits-course, root-first}
@@ -62,7 +62,7 @@ pub record Plain (t : Words) (m : ℕ) : Type 0 where
   pub there : hasNode t m ≡ true
   pub plain : nodeView t m .hidden ≡ 0
 
-module _ (n : ℕ) (t : Words) (h : noCollection n t ≡ false) (s : settledAll t ≡ true) where
+module _ (n : ℕ) (t : Words) (h : noCollection n t ≡ false) (s : settled t ≡ true) where
   abbrev w : ℕ
   w = rootWord n
 
@@ -108,9 +108,15 @@ module _ (m n : ℕ) (t : Words) (k : ℕ) (r : Ready m n t k) where
   ready-in : ReadyIn m n ws t k
   ready-in = record { arr = beside n t (r .collection) (r .settled) .1; tree = tree n t (r .collection) (r .settled); high = r .high; full = r .full; above = r .above; enough = r .enough }
 
-  -- Splitting it leaves a settled table.
-  pub splits-settled : settledAll (apply (splits n m t k) t) ≡ true
-  splits-settled = let c = splits-course m n ws t k ready-in in tree-settled (rootWord n) ws _ (course-arr (m * 67) (rootWord n) ws t _ _ c (ready-in .arr)) (c .whole)
+  split-arr : Arr (rootWord n) ws (apply (splits n m t k) t)
+  split-arr = course-arr (m * 67) (rootWord n) ws t _ _ (splits-course m n ws t k ready-in) (ready-in .arr)
+
+  -- Splitting it leaves a settled table, with the same collections.
+  pub splits-settled : settled (apply (splits n m t k) t) ≡ true
+  splits-settled = tree-settled (rootWord n) ws _ split-arr (splits-course m n ws t k ready-in .whole)
+
+  pub splits-there : noCollection n (apply (splits n m t k) t) ≡ false
+  splits-there = arr-there n ws _ split-arr
 
 module _ (l n : ℕ) (t : Words) (k : ℕ) (r : Ready (suc l) n t k) where
   -- the highest of them can be split, and then the rest is ready
@@ -120,9 +126,9 @@ module _ (l n : ℕ) (t : Words) (k : ℕ) (r : Ready (suc l) n t k) where
   pub ready-later : Ready l n (apply (splitFor n t l k) t) k
   ready-later = ready-out l n _ _ k (ready-next l n _ t k (ready-in (suc l) n t k r))
 
--- ---- the leaf freed after the shift out
+-- ---- the slot of a key, and the leaf freed after the shift out
 
-module _ (n : ℕ) (t : Words) (h : noCollection n t ≡ false) (s : settledAll t ≡ true) (k : ℕ) (has : hasKey k (mapIn n t) ≡ true) where
+module _ (n : ℕ) (t : Words) (h : noCollection n t ≡ false) (s : settled t ≡ true) (k : ℕ) (has : hasKey k (mapOf n t) ≡ true) where
   abbrev t₁ : Words
   t₁ = apply (shiftOutAt t (standing n t 0 k) k) t
 
@@ -132,6 +138,10 @@ module _ (n : ℕ) (t : Words) (h : noCollection n t ≡ false) (s : settledAll 
   abbrev arr : Arr (rootWord n) rest t
   arr = beside n t h s .1
 
+  -- the leaf shows k at its place
+  pub key-place : placeOf k (nodeView t (standing n t 0 k) .shown) < length (nodeView t (standing n t 0 k) .shown)
+  key-place = leaf-place (rootWord n) rest t (low n t h s) (tree n t h s) k has
+
   out : Tree (rootWord n) rest t₁ nothing
   out = leaf-out (rootWord n) rest t (low n t h s) (tree n t h s) k has .whole
 
@@ -139,7 +149,7 @@ module _ (n : ℕ) (t : Words) (h : noCollection n t ≡ false) (s : settledAll 
   arr₁ : Arr (rootWord n) rest t₁
   arr₁ = course-arr 25 (rootWord n) rest t _ _ (leaf-out (rootWord n) rest t (low n t h s) (tree n t h s) k has) arr
 
-  pub out-settled : settledAll (apply (shiftOutAt t (standing n t 0 k) k) t) ≡ true
+  pub out-settled : settled (apply (shiftOutAt t (standing n t 0 k) k) t) ≡ true
   out-settled = tree-settled (rootWord n) rest t₁ arr₁ out
 
   pub out-there : noCollection n (apply (shiftOutAt t (standing n t 0 k) k) t) ≡ false

@@ -10,7 +10,7 @@ use borrow.Author.Tests.{leb-true}
 use Rattle.model.specs.Table.{Words, at, nodes}
 use Rattle.model.specs.Slots.{View, nodeView}
 use Rattle.model.specs.Reached.{reached, mapping}
-use Rattle.model.specs.SoundTest.{elem, Leftover, nothing, hiddenIn, missingIn, bothIn, leftover, room}
+use Rattle.model.specs.SoundTest.{elem, Leftover, nothing, hiddenIn, missingIn, bothIn, room}
 use Rattle.model.specs.Orders.{apply}
 use Rattle.model.specs.Writes.{closeAt, cutOff, attach, repairOf}
 use Rattle.list_laws.proofs.Tools.{Each, Each-append}
@@ -19,7 +19,7 @@ use Rattle.list_laws.proofs.Slots.{place-length}
 use Rattle.list_laws.proofs.Distinct.{UpTo}
 use Rattle.tree_laws.proofs.Rows.{Good}
 use Rattle.tree_laws.proofs.Levels.{reached-numbers}
-use Rattle.change_laws.proofs.Parts.{good-parts, has-left-iff}
+use Rattle.change_laws.proofs.Parts.{good-parts}
 use Rattle.step_laws.proofs.Views.{fine-sound, used-few, shown-few}
 use Rattle.step_laws.proofs.Repair.{a-reached, close-stage, repair-of, repair-phase}
 use Rattle.two_laws.proofs.Mask.{mask}
@@ -95,11 +95,10 @@ mask-repair w ws t (bothIn p a) low f =
     (rw (e, q), Each-append _ (closeAt t p) (attach t₁ p a) c d)
 
 -- Repair: every first part of its stores leaves the tree sound with the same map and the others as they are, and all of them leave it settled.
-pub tree-repair : (w : ℕ) (ws : List ℕ) (t : Words) (y : Leftover) → Low w ws → Tree w ws t y → Course 51 w ws t (repairOf t (leftover (seen w t))) (mapping (seen w t))
+pub tree-repair : (w : ℕ) (ws : List ℕ) (t : Words) (y : Leftover) → Low w ws → Tree w ws t y → Course 51 w ws t (repairOf t (some y)) (mapping (seen w t))
 tree-repair w ws t y low f =
     let u = mask (at t w) (taken ws t) t in
     let g = tree-fine w ws t y low f in
-    let e : leftover (seen w t) ≡ some y = has-left-iff (seen w t) y .1 (f .left) .1 in
     let k = mask-repair w ws t y low f in
     let p = repair-phase u (fine-sound u y g) in
-    rw e (phase-course 51 w ws t y (repairOf t (some y)) (mapping (seen w t)) low f (rw (repair-of u y g ∙ k .0, seen-map w ws t y low f) at p) (k .1))
+    phase-course 51 w ws t y (repairOf t (some y)) (mapping (seen w t)) low f (rw (repair-of u y g ∙ k .0, seen-map w ws t y low f) at p) (k .1)

@@ -11,9 +11,10 @@ use Rattle.model.specs.Table.{Words, at}
 use Rattle.model.specs.Slots.{NodeView, View, nodeView, view, viewFrom, height}
 use Rattle.model.specs.Search.{path, below}
 use Rattle.model.specs.Reached.{kept, reached}
-use Rattle.model.specs.SoundTest.{nothing, Leftover, leftover}
+use Rattle.model.specs.SoundTest.{nothing, Leftover, leftover, sound}
 use Rattle.model.specs.Orders.{Store, apply}
-use Rattle.model.specs.Writes.{repairOf, repairStores as repairOne, repaired as repairedOne}
+use Rattle.model.specs.Writes.{repairOf, repaired, repairStores}
+use Rattle.tree_laws.specs.OneTree.{repairOne as repairOne, repairedOne as repairedOne}
 use Rattle.view_laws.proofs.NodeViews.{bare}
 use Rattle.list_laws.proofs.Tools.{Each, same-or-not}
 use Rattle.list_laws.proofs.Members.{each-mem, mem-each, mem-flat}
@@ -23,7 +24,6 @@ use Rattle.step_laws.proofs.Views.{Fine, fine-sound}
 use Rattle.step_laws.proofs.SamePaths.{height-same, path-same}
 use Rattle.step_laws.proofs.Repair.{repair-of}
 use Rattle.step_laws.proofs.RepairedView.{lackingIn, RepairedView, repaired-view}
-use Rattle.two_laws.specs.Collections.{soundAll, repaired, repairStores}
 use Rattle.two_laws.proofs.Mask.{mask, mask-view, node-view-mask, clearing, withClear}
 use Rattle.two_laws.proofs.Masked.{mask-shown, mask-reached, mask-height}
 use Rattle.two_laws.proofs.OwnTree.{reached-clear, path-clear, leftover-clear, orderly-from}
@@ -62,11 +62,8 @@ module _ (w : ℕ) (ws : List ℕ) (t : Words) (y : Leftover) (low : Low w ws) (
   list : repairOne m ≡ ss
   list = repair-of m y fine ∙ mask-repair w ws t y low f .0
 
-  is : leftover (seen w t) ≡ some y
-  is = has-left-iff (seen w t) y .1 (f .left) .1
-
   f′ : Tree w ws t′ nothing
-  f′ = rw is at (tree-repair w ws t y low f .whole)
+  f′ = tree-repair w ws t y low f .whole
 
   size′ : 8 ≤ length t′
   size′ = long w ws t′ nothing low f′
@@ -140,7 +137,7 @@ module _ (w : ℕ) (ws : List ℕ) (t : Words) (y : Leftover) (low : Low w ws) (
     }
 
 -- For every collection of a sound table: the same nodes and paths after repair, and how many slots each node then shows.
-pub repaired-later : (t : Words) (x : ℕ) → soundAll t ≡ true → Is x t → Later x t (repaired t)
+pub repaired-later : (t : Words) (x : ℕ) → sound t ≡ true → Is x t → Later x t (repaired t)
 unfolding repaired
 repaired-later t x s i = go (sound-tree t s)
   where
@@ -148,7 +145,7 @@ repaired-later t x s i = go (sound-tree t s)
     go u =
         let w = u .word in
         let low = arr-low w (u .others) t (u .arranged) in
-        let e : repairStores t ≡ repairOf t (some (u .leftover)) = repair-list w (u .others) t (u .arranged) (u .tree .others) ∙ ap (repairOf t) (has-left-iff (seen w t) (u .leftover) .1 (u .tree .left) .1) in
+        let e : repairStores t ≡ repairOf t (some (u .leftover)) = repair-list w (u .others) t (u .leftover) (u .arranged) (u .tree) in
         rw e (by-word w (u .others) (u .leftover) low (u .arranged) (u .tree) (same-or-not x w))
       where
         by-word : (w : ℕ) (ws : List ℕ) (y : Leftover) → Low w ws → Arr w ws t → Tree w ws t y → (x ≡ w) ⊎ (x ≢ w) → Later x t (apply (repairOf t (some y)) t)

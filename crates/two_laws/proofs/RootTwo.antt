@@ -9,10 +9,11 @@ use lib.ListN.{length, take, set, length-set}
 use lib.Seq.{getD-set-same, getD-set-other}
 use Rattle.model.specs.Table.{Words, at, root, nodes, nodeStart}
 use Rattle.model.specs.Slots.{View, nodeView, view, height}
-use Rattle.model.specs.Reached.{reached, mapping, mapOf}
-use Rattle.model.specs.SoundTest.{settled, nothing, Leftover}
+use Rattle.model.specs.Reached.{reached, mapping}
+use Rattle.model.specs.SoundTest.{nothing, Leftover}
 use Rattle.model.specs.Orders.{Store, put, apply, orders, ordersAfter}
-use Rattle.model.specs.Writes.{standing, putAll, nodeWords, newRootAt as rootAt}
+use Rattle.model.specs.Writes.{putAll, nodeWords, standingIn, newRootAt}
+use Rattle.tree_laws.specs.OneTree.{settledOne, mapOne, standingOne, rootAtOne as rootAt}
 use Rattle.list_laws.proofs.Tools.{Each, Each-map}
 use Rattle.list_laws.proofs.Members.{each-mem, mem-each, flat-each}
 use Rattle.tree_laws.proofs.Rows.{range-iff}
@@ -24,7 +25,6 @@ use Rattle.step_laws.proofs.NewRoot.{root-phase, root-height, root-takes, root-
 use Rattle.step_laws.proofs.Fresh.{Free}
 use Rattle.step_laws.proofs.WholeNode.{whole-stage, whole-stays}
 use Rattle.step_laws.proofs.Views.{fine-settled, settled-fine}
-use Rattle.two_laws.specs.Collections.{standingIn, newRootAt}
 use Rattle.two_laws.proofs.Mask.{mask, mask-view, mask-root, head-view}
 use Rattle.two_laws.proofs.Masked.{mask-shown, mask-reached, mask-height, mask-standing}
 use Rattle.two_laws.proofs.OwnTree.{Own, fine-own}
@@ -43,7 +43,7 @@ module _ (w : ℕ) (ws : List ℕ) (t : Words) (low : Low w ws) (word : (w ≡ 1
   size : 8 ≤ length t
   size = long w ws t nothing low f
 
-  s : settled u ≡ true
+  s : settledOne u ≡ true
   s = fine-settled u (tree-fine w ws t nothing low f)
 
   e : Free u b
@@ -60,7 +60,7 @@ module _ (w : ℕ) (ws : List ℕ) (t : Words) (low : Low w ws) (word : (w ≡ 1
 
   -- ---- its words
 
-  first-phase : Phase 36 u ss (mapOf u)
+  first-phase : Phase 36 u ss (mapOne u)
   first-phase =
       let g = whole-stage u b (at t w) 0 (suc (height (seen w t))) 0 [] s e in
       let z = whole-stays u b (at t w) 0 (suc (height (seen w t))) 0 [] s e tt (omega arith) in
@@ -105,7 +105,7 @@ module _ (w : ℕ) (ws : List ℕ) (t : Words) (low : Low w ws) (word : (w ≡ 1
   high-u : height (view u) < 15
   high-u = rw (mask-height (at t w) ns t size) high
 
-  settled-u : settled (mask b ns t₂) ≡ true
+  settled-u : settledOne (mask b ns t₂) ≡ true
   settled-u = rw masked at (root-phase u s high-u b e .settles)
 
   length₂ : length t₂ ≡ length t
@@ -139,7 +139,7 @@ module _ (w : ℕ) (ws : List ℕ) (t : Words) (low : Low w ws) (word : (w ≡ 1
   after = masked ∙ rw (stored, taken₂)
 
   map₂ : mapping (seen w t₂) ≡ mapping (seen w t)
-  map₂ = sym (seen-map w ws t₂ nothing low tree₂) ∙ ap mapOf (sym after) ∙ root-phase u s high-u b e .maps ∙ seen-map w ws t nothing low f
+  map₂ = sym (seen-map w ws t₂ nothing low tree₂) ∙ ap mapOne (sym after) ∙ root-phase u s high-u b e .maps ∙ seen-map w ws t nothing low f
 
   -- word 3 is 0 or not, as before
   three : (at t₂ 3 ≡ 0) ↔ (at t₁ 3 ≡ 0)
@@ -189,13 +189,12 @@ module _ (w : ℕ) (ws : List ℕ) (t : Words) (low : Low w ws) (word : (w ≡ 1
 
   -- New root: every first part of its stores leaves the tree sound with the same map, and the others as they are.
   pub root-course : Course 38 w ws t (newRootAt w t b) (mapping (seen w t))
-  unfolding newRootAt
   root-course = course-append 36 2 w ws t ss (put w b ∷ []) (mapping (seen w t)) first second
 
   -- ---- what it leaves
 
   done : apply (newRootAt w t b) t ≡ t₂
-  unfolding newRootAt apply
+  unfolding apply
   done = apply-append ss (put w b ∷ []) t
 
   size₂ : 8 ≤ length t₂
@@ -208,8 +207,8 @@ module _ (w : ℕ) (ws : List ℕ) (t : Words) (low : Low w ws) (word : (w ≡ 1
   root-two-takes = rw done (ap length (sym (mask-reached (at t₂ w) (taken ws t₂) t₂ size₂)) ∙ ap (λ (x : Words). length (reached (view x))) (sym after)
       ∙ root-takes u s high-u b e ∙ ap (λ (x : List ℕ). suc (length x)) (mask-reached (at t w) ns t size))
 
-  stands-as : (d k : ℕ) → standingIn (seen w t₂) d k ≡ standing (apply (rootAt u b) u) d k
-  stands-as d k = sym (mask-standing (at t₂ w) (taken ws t₂) t₂ size₂ d k) ∙ ap (λ (x : Words). standing x d k) (sym after)
+  stands-as : (d k : ℕ) → standingIn (seen w t₂) d k ≡ standingOne (apply (rootAt u b) u) d k
+  stands-as d k = sym (mask-standing (at t₂ w) (taken ws t₂) t₂ size₂ d k) ∙ ap (λ (x : Words). standingOne x d k) (sym after)
 
   shows-as : (n : ℕ) → nodeView t₂ n .shown ≡ nodeView (apply (rootAt u b) u) n .shown
   shows-as n = sym (mask-shown (at t₂ w) (taken ws t₂) t₂ size₂ n) ∙ ap (λ (x : Words). nodeView x n .shown) (sym after)
@@ -222,7 +221,7 @@ module _ (w : ℕ) (ws : List ℕ) (t : Words) (low : Low w ws) (word : (w ≡ 1
 
   pub root-two-shows : (k : ℕ) → view (apply (newRootAt w t b) t) .node (standingIn (seen w (apply (newRootAt w t b) t)) (suc (height (seen w t))) k) .shown ≡ []
   root-two-shows k = rw done (rw (stands-as (suc (height (seen w t))) k) (shows-as _
-      ∙ ap (λ (d : ℕ). nodeView (apply (rootAt u b) u) (standing (apply (rootAt u b) u) (suc d) k) .shown) (sym (mask-height (at t w) ns t size)) ∙ root-shows u s high-u b e k))
+      ∙ ap (λ (d : ℕ). nodeView (apply (rootAt u b) u) (standingOne (apply (rootAt u b) u) (suc d) k) .shown) (sym (mask-height (at t w) ns t size)) ∙ root-shows u s high-u b e k))
 
   pub root-two-taken : taken ws (apply (newRootAt w t b) t) ≡ taken ws t
   root-two-taken = rw done taken₂

@@ -3,24 +3,24 @@ use mathlib.Core.Path.{_≡_, refl, sym, _∙_}
 use mathlib.Core.Bool.{Bool, true, false, cond, false≢true}
 use mathlib.Core.Logic.{_≢_, _↔_, _⊎_, inl, inr, ⊎-map}
 use mathlib.Core.List.{[], _++_, append-nil}
+use mathlib.Core.Option.{some}
 use Prim.Native.Nat.{ℕ}
 use native.Mathlib.Omega.{arith}
 use lib.Dec.{eqb}
-use borrow.Author.Tests.{eq-eqb, ne-eqb}
-use Rattle.model.specs.Table.{Words, at, nodes, inRange}
-use Rattle.model.specs.Slots.{View}
+use borrow.Author.Tests.{ne-eqb}
+use Rattle.model.specs.Table.{Words, at, nodes, inRange, noCollection}
+use Rattle.model.specs.Slots.{View, viewOf}
 use Rattle.model.specs.Reached.{reached}
-use Rattle.model.specs.SoundTest.{elem, distinct, Leftover, nothing, settledView, soundView, orderly}
-use Rattle.model.specs.Sound.{Reached, SettledBut, IsLeft}
+use Rattle.model.specs.SoundTest.{elem, distinct, Leftover, nothing, leftover, settledView, soundView, orderly, sound, settled}
+use Rattle.model.specs.Sound.{Reached, SettledBut, IsLeft, Settled, Sound}
 use Rattle.list_laws.proofs.Tools.{same-or-not}
 use Rattle.list_laws.proofs.Members.{each-mem, mem-each, elem-none, elem-iff}
 use Rattle.list_laws.proofs.Distinct.{distinct-append}
+use Rattle.table_laws.proofs.Collections.{by-number}
 use Rattle.tree_laws.proofs.Rows.{range-iff}
 use Rattle.tree_laws.proofs.Levels.{orderly-iff}
 use Rattle.tree_laws.proofs.Leftovers.{settled-sound-view}
-use Rattle.sound_laws.proofs.Same.{settled-view, sound-view, sound-orderly, reached-same}
-use Rattle.two_laws.specs.Collections.{viewOf, noCollection, soundAll, settledAll}
-use Rattle.two_laws.specs.Sentences.{Settled, Sound}
+use Rattle.sound_laws.proofs.Same.{passes-same, settled-view, sound-view, sound-orderly, reached-same}
 use Rattle.two_laws.proofs.Arrange.{Head, head-iff, settled-parts, sound-parts, trees-one, trees-two, all-one, all-two, all-single, all-pair, one-left, two-left}
 
 -- ---- the collections that there are
@@ -32,16 +32,6 @@ first-there t = refl
 pub second-there : (t : Words) → at t 3 ≢ 0 → noCollection 2 t ≡ false
 unfolding noCollection
 second-there t z = rw (ne-eqb (at t 3) 0 z)
-
--- a fact of collection 1, and of 2 where it is there, is one of each
-pub by-number : (t : Words) (P : ℕ → Type 0) → P 1 → (at t 3 ≢ 0 → P 2) → (n : ℕ) → noCollection n t ≡ false → P n
-unfolding noCollection
-by-number t P a b n h = go (same-or-not n 1) (same-or-not n 2)
-  where
-    go : (n ≡ 1) ⊎ (n ≢ 1) → (n ≡ 2) ⊎ (n ≢ 2) → P n
-    go (inl e) q = rw e a
-    go (inr z) (inl e) = rw e (b (λ y. false≢true (sym (rw (ne-eqb n 1 z, eq-eqb n 2 e, eq-eqb (at t 3) 0 y) at h))))
-    go (inr z) (inr y) = absurd (false≢true (sym (rw (ne-eqb n 1 z, ne-eqb n 2 y) at h)))
 
 range-two : (t : Words) → Head t → at t 3 ≢ 0 → inRange (nodes t) (at t 3) ≡ true
 range-two t h z = range-iff (nodes t) (at t 3) .1 (omega (arith, z), h .two z .0)
@@ -85,24 +75,24 @@ pub record EachSound (t : Words) : Type 0 where
 once-alone : (t : Words) → orderly (viewOf 1 t) ≡ true → distinct (reached (viewOf 1 t) ++ []) ≡ true
 once-alone t o = rw (append-nil (reached (viewOf 1 t))) (orderly-iff (viewOf 1 t) .0 o .once)
 
-pub each-settled : (t : Words) → (settledAll t ≡ true) ↔ EachSettled t
+pub each-settled : (t : Words) → (settled t ≡ true) ↔ EachSettled t
 each-settled t = (to (same-or-not (at t 3) 0), from (same-or-not (at t 3) 0))
   where
-    to : (at t 3 ≡ 0) ⊎ (at t 3 ≢ 0) → settledAll t ≡ true → EachSettled t
+    to : (at t 3 ≡ 0) ⊎ (at t 3 ≢ 0) → settled t ≡ true → EachSettled t
     to (inl z) s = let u = settled-parts t .0 s in record { head = u .0; one = all-single settledView (viewOf 1 t) .0 (rw (trees-one t z) at (u .1)); two = λ y. absurd (y z); once = λ y. absurd (y z) }
     to (inr z) s =
         let u = settled-parts t .0 s in
         let p = all-pair settledView (viewOf 1 t) (viewOf 2 t) .0 (rw (trees-two t z) at (u .1)) in
         record { head = u .0; one = p .0; two = λ y. p .1; once = λ y. rw (all-two t z) at (u .2) }
 
-    from : (at t 3 ≡ 0) ⊎ (at t 3 ≢ 0) → EachSettled t → settledAll t ≡ true
+    from : (at t 3 ≡ 0) ⊎ (at t 3 ≢ 0) → EachSettled t → settled t ≡ true
     from (inl z) h = settled-parts t .1 (h .head, rw (trees-one t z) (all-single settledView (viewOf 1 t) .1 (h .one)), rw (all-one t z) (once-alone t (settled-orderly (viewOf 1 t) (h .one))))
     from (inr z) h = settled-parts t .1 (h .head, rw (trees-two t z) (all-pair settledView (viewOf 1 t) (viewOf 2 t) .1 (h .one, h .two z)), rw (all-two t z) (h .once z))
 
-pub each-sound : (t : Words) → (soundAll t ≡ true) ↔ EachSound t
+pub each-sound : (t : Words) → (sound t ≡ true) ↔ EachSound t
 each-sound t = (to (same-or-not (at t 3) 0), from (same-or-not (at t 3) 0))
   where
-    to : (at t 3 ≡ 0) ⊎ (at t 3 ≢ 0) → soundAll t ≡ true → EachSound t
+    to : (at t 3 ≡ 0) ⊎ (at t 3 ≢ 0) → sound t ≡ true → EachSound t
     to (inl z) s =
         let u = sound-parts t .0 s in
         record { head = u .0; one = all-single soundView (viewOf 1 t) .0 (rw (trees-one t z) at (u .1)); two = λ y. absurd (y z); once = λ y. absurd (y z); left = λ y. absurd (y z) }
@@ -111,14 +101,14 @@ each-sound t = (to (same-or-not (at t 3) 0), from (same-or-not (at t 3) 0))
         let p = all-pair soundView (viewOf 1 t) (viewOf 2 t) .0 (rw (trees-two t z) at (u .1)) in
         record { head = u .0; one = p .0; two = λ y. p .1; once = λ y. rw (all-two t z) at (u .2); left = λ y. two-left (viewOf 1 t) (viewOf 2 t) .0 (rw (trees-two t z) at (u .3)) }
 
-    from : (at t 3 ≡ 0) ⊎ (at t 3 ≢ 0) → EachSound t → soundAll t ≡ true
+    from : (at t 3 ≡ 0) ⊎ (at t 3 ≢ 0) → EachSound t → sound t ≡ true
     from (inl z) h = sound-parts t .1
         (h .head, rw (trees-one t z) (all-single soundView (viewOf 1 t) .1 (h .one)), rw (all-one t z) (once-alone t (sound-orderly (viewOf 1 t) (h .one))), rw (trees-one t z) (one-left (viewOf 1 t)))
     from (inr z) h = sound-parts t .1
         (h .head, rw (trees-two t z) (all-pair soundView (viewOf 1 t) (viewOf 2 t) .1 (h .one, h .two z)), rw (all-two t z) (h .once z), rw (trees-two t z) (two-left (viewOf 1 t) (viewOf 2 t) .1 (h .left z)))
 
 -- a settled table is sound
-pub settled-sound : (t : Words) → settledAll t ≡ true → soundAll t ≡ true
+pub settled-sound : (t : Words) → settled t ≡ true → sound t ≡ true
 settled-sound t s =
     let h = each-settled t .0 s in
     each-sound t .1 (record { head = h .head; one = settled-sound-view (viewOf 1 t) (h .one); two = λ z. settled-sound-view (viewOf 2 t) (h .two z); once = h .once; left = λ z. inl (h .one) })
@@ -126,7 +116,7 @@ settled-sound t s =
 -- ---- settled
 
 -- Settled: the test and the sentences say the same.
-pub settled-same : (t : Words) → (settledAll t ≡ true) ↔ Settled t
+pub settled-same : (t : Words) → (settled t ≡ true) ↔ Settled t
 settled-same t = (λ s. to (each-settled t .0 s), λ s. each-settled t .1 (from s))
   where
     to : EachSettled t → Settled t
@@ -159,7 +149,7 @@ left-in v r s = go (settledView v) refl
     go false e = let u = sound-view v r .0 s in record { leftover = u .0; left = u .1; settled-but = u .2; none = λ q. absurd (false≢true (sym e ∙ q)) }
 
 -- Sound: the test and the sentences say the same.
-pub sound-same : (t : Words) → (soundAll t ≡ true) ↔ Sound t
+pub sound-same : (t : Words) → (sound t ≡ true) ↔ Sound t
 sound-same t = (λ s. to (each-sound t .0 s) (same-or-not (at t 3) 0), λ s. each-sound t .1 (from s))
   where
     to : EachSound t → (at t 3 ≡ 0) ⊎ (at t 3 ≢ 0) → Sound t
@@ -200,3 +190,9 @@ sound-same t = (λ s. to (each-sound t .0 s) (same-or-not (at t 3) 0), λ s. eac
               (λ e. settled-view (viewOf 1 t) (h .one) .1 (rw e at (s .settled-but 1 (first-there t))))
               (λ e. settled-view (viewOf 2 t) (range-two t h z) .1 (rw e at (s .settled-but 2 (second-there t z)))) (s .one-left z);
         }
+
+-- Each tree of a sound table has one leftover: the one that the test finds.
+pub leftover-same : (n : ℕ) (t : Words) (s : Sound t) → noCollection n t ≡ false → leftover (viewOf n t) ≡ some (s .leftover n)
+leftover-same n t s h =
+    let f = head-iff t .0 (s .header) in
+    passes-same (viewOf n t) (by-number t (λ (n : ℕ). inRange (nodes t) (viewOf n t .root) ≡ true) (f .one) (range-two t f) n h) (s .leftover n) .1 (s .left n h, s .settled-but n h) .leftover

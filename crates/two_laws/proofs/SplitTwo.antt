@@ -10,10 +10,11 @@ use lib.ListN.{length, drop}
 use Rattle.model.specs.Table.{MARK, Words, at, nodes, inRange, nodeStart}
 use Rattle.model.specs.Slots.{nodeView, view, height}
 use Rattle.model.specs.Reached.{reached, mapping}
-use Rattle.model.specs.SoundTest.{elem, settled, nothing}
+use Rattle.model.specs.SoundTest.{elem, nothing}
 use Rattle.model.specs.Shifts.{pointerWord}
 use Rattle.model.specs.Orders.{Store, apply}
-use Rattle.model.specs.Writes.{standing, putAll, nodeWords, middle, splitWords, split}
+use Rattle.model.specs.Writes.{putAll, nodeWords, middle, splitWords, split, standingIn}
+use Rattle.tree_laws.specs.OneTree.{settledOne, standingOne}
 use Rattle.list_laws.proofs.Tools.{Each, Each-append}
 use Rattle.list_laws.proofs.Members.{each-mem}
 use Rattle.list_laws.proofs.Distinct.{UpTo}
@@ -26,7 +27,6 @@ use Rattle.step_laws.proofs.Views.{fine-settled}
 use Rattle.step_laws.specs.Parts.{splitInto, FullNode}
 use Rattle.step_laws.proofs.Split.{split-phase, split-height, split-takes, split-standing, split-shown, split-room}
 use Rattle.step_laws.proofs.Standing.{standing-stands}
-use Rattle.two_laws.specs.Collections.{standingIn}
 use Rattle.two_laws.proofs.Mask.{mask}
 use Rattle.two_laws.proofs.Masked.{mask-nodes, mask-shown, mask-reached, mask-height, mask-standing, mask-split}
 use Rattle.two_laws.proofs.Frame.{Away}
@@ -94,10 +94,10 @@ module _ (w : ℕ) (ws : List ℕ) (t : Words) (low : Low w ws) (k l : ℕ) (giv
   abbrev p : ℕ
   p = standingIn (seen w t) (suc l) k
 
-  same : (d : ℕ) → standing u d k ≡ standingIn (seen w t) d k
+  same : (d : ℕ) → standingOne u d k ≡ standingIn (seen w t) d k
   same d = mask-standing (at t w) ns t size d k
 
-  s : settled u ≡ true
+  s : settledOne u ≡ true
   s = fine-settled u (tree-fine w ws t nothing low f)
 
   h : FullNode u k l
@@ -163,8 +163,8 @@ module _ (w : ℕ) (ws : List ℕ) (t : Words) (low : Low w ws) (k l : ℕ) (giv
   pub two-takes : length (reached (seen w (apply (splitIn w t k l b) t))) ≡ suc (length (reached (seen w t)))
   two-takes = ap length (sym (mask-reached (at t′ w) (taken ws t′) t′ size′)) ∙ ap (λ (x : Words). length (reached (view x))) (sym after) ∙ split-takes u k l h b e ∙ ap (λ (x : List ℕ). suc (length x)) (mask-reached (at t w) ns t size)
 
-  stands-as : (d : ℕ) → standingIn (seen w t′) d k ≡ standing (apply (splitInto u l k b) u) d k
-  stands-as d = sym (mask-standing (at t′ w) (taken ws t′) t′ size′ d k) ∙ ap (λ (x : Words). standing x d k) (sym after)
+  stands-as : (d : ℕ) → standingIn (seen w t′) d k ≡ standingOne (apply (splitInto u l k b) u) d k
+  stands-as d = sym (mask-standing (at t′ w) (taken ws t′) t′ size′ d k) ∙ ap (λ (x : Words). standingOne x d k) (sym after)
 
   shows-as : (n : ℕ) → nodeView t′ n .shown ≡ nodeView (apply (splitInto u l k b) u) n .shown
   shows-as n = sym (mask-shown (at t′ w) (taken ws t′) t′ size′ n) ∙ ap (λ (x : Words). nodeView x n .shown) (sym after)
@@ -176,7 +176,7 @@ module _ (w : ℕ) (ws : List ℕ) (t : Words) (low : Low w ws) (k l : ℕ) (giv
   two-shown d q = shows-as _ ∙ rw (same d, mask-shown (at t w) ns t size (standingIn (seen w t) d k)) at (split-shown u k l h b e d q)
 
   pub two-room : length (nodeView (apply (splitIn w t k l b) t) (standingIn (seen w (apply (splitIn w t k l b) t)) l k) .shown) ≤ 6
-  two-room = rw (stands-as l, shows-as (standing (apply (splitInto u l k b) u) l k)) (split-room u k l h b e)
+  two-room = rw (stands-as l, shows-as (standingOne (apply (splitInto u l k b) u) l k)) (split-room u k l h b e)
 
   pub two-taken : taken ws (apply (splitIn w t k l b) t) ≡ taken ws t
   two-taken = taken-same w ws t nothing low f (split t a b p) away

@@ -9,9 +9,10 @@ use lib.ListN.{length, take, set}
 use lib.Seq.{getD-set-other, take-length, take-nil}
 use Rattle.model.specs.Table.{Words, at, nodes}
 use Rattle.model.specs.Slots.{Slot, View, viewFrom}
-use Rattle.model.specs.Reached.{flat, reached, mapping, mapOf}
+use Rattle.model.specs.Reached.{flat, reached, mapping}
 use Rattle.model.specs.SoundTest.{elem, Leftover, nothing, hasRoom}
 use Rattle.model.specs.Orders.{Store, apply, orders}
+use Rattle.tree_laws.specs.OneTree.{mapOne}
 use Rattle.list_laws.proofs.Tools.{Each, Each-map, Each-append}
 use Rattle.list_laws.proofs.Members.{each-take, each-both, each-mem, mem-each, flat-each}
 use Rattle.list_laws.proofs.Distinct.{UpTo, flat-off}
@@ -74,7 +75,7 @@ module _ (w : ℕ) (ws : List ℕ) (t : Words) (y : Leftover) (low : Low w ws) (
   pub tree-fine : Fine (mask (at t w) (taken ws t) t) y
   tree-fine = own-fine t r ns long taken-up y (record { head = f .head; left = f .left; room = f .room; off = f .apart })
 
-  pub seen-map : mapOf (mask (at t w) (taken ws t) t) ≡ mapping (seen w t)
+  pub seen-map : mapOne (mask (at t w) (taken ws t) t) ≡ mapping (seen w t)
   seen-map = ap mapping (mask-view r ns t long) ∙ mapping-clear (seen w t) _
 
   -- ---- stores to nodes that the others do not reach
@@ -124,8 +125,8 @@ module _ (w : ℕ) (ws : List ℕ) (t : Words) (y : Leftover) (low : Low w ws) (
           apart = rw (taken-same, head-same w (low .0)) (o .off);
         }
 
-    pub map-after : mapOf (apply ss (mask (at t w) (taken ws t) t)) ≡ mapping (seen w (apply ss t))
-    map-after = ap mapOf mask-same ∙ ap mapping (mask-view r ns t′ (rw (length-apply ss t) long)) ∙ mapping-clear (viewFrom t′ r) _ ∙ rw (head-same w (low .0))
+    pub map-after : mapOne (apply ss (mask (at t w) (taken ws t) t)) ≡ mapping (seen w (apply ss t))
+    map-after = ap mapOne mask-same ∙ ap mapping (mask-view r ns t′ (rw (length-apply ss t) long)) ∙ mapping-clear (viewFrom t′ r) _ ∙ rw (head-same w (low .0))
 
 -- ---- a course of stores
 

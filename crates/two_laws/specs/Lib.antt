@@ -1,6 +1,2 @@
--- Document 02, request 6: two collections in one table.
-pub mod Collections
-pub mod Sentences
-pub mod Ledgers
-pub mod Demand3
+-- What the parts of a write ask of the table that they are given.
 pub mod Parts

@@ -5,19 +5,20 @@ use mathlib.Core.Bool.{true, false}
 use mathlib.Core.List.{List}
 use Prim.Native.Nat.{ℕ, suc, _≤_, _<_}
 use lib.ListN.{length}
-use Rattle.model.specs.Table.{Words}
-use Rattle.model.specs.Slots.{recordingOk, classOk, nodeView, height}
+use Rattle.model.specs.Table.{Words, noCollection}
+use Rattle.model.specs.Slots.{recordingOk, classOk, nodeView, height, viewOf}
 use Rattle.model.specs.Orders.{Store}
-use Rattle.model.specs.Writes.{split}
-use Rattle.model.specs.Refusals.{hasKey, hasRecording}
-use Rattle.two_laws.specs.Collections.{viewOf, noCollection, unreachable, fresh, settledAll, mapIn, standing, tooHigh, tooFew}
+use Rattle.model.specs.Writes.{split, unreachable, fresh, standing}
+use Rattle.model.specs.Refusals.{hasKey, hasRecording, tooHigh, tooFew}
+use Rattle.model.specs.SoundTest.{settled}
+use Rattle.model.specs.Reached.{mapOf}
 
 -- refusals 6, 14, 7, 8, 11 and 10 do not apply to an insertion of k with recording r and class c into collection n
 pub record Enters (n k r c : ℕ) (t : Words) : Type 0 where
   pub recording-ok : recordingOk r ≡ true
   pub class-ok : classOk c ≡ true
-  pub no-key : hasKey k (mapIn n t) ≡ false
-  pub no-recording : hasRecording r (mapIn n t) ≡ false
+  pub no-key : hasKey k (mapOf n t) ≡ false
+  pub no-recording : hasRecording r (mapOf n t) ≡ false
   pub not-high : tooHigh n t k ≡ false
   pub enough : tooFew n t k ≡ false
 
@@ -30,7 +31,7 @@ splitFor n t l k = split t (standing n t l k) (fresh t (standing n t l k)) (stan
 -- A stands for k on level l of a collection of a settled table and is full, and its parent has room
 pub record FullNode (n : ℕ) (t : Words) (k l : ℕ) : Type 0 where
   pub collection : noCollection n t ≡ false
-  pub settled : settledAll t ≡ true
+  pub settled : settled t ≡ true
   pub high : l < height (viewOf n t)
   pub full : length (nodeView t (standing n t l k) .shown) ≡ 11
   pub roomy : length (nodeView t (standing n t (suc l) k) .shown) ≤ 10
@@ -45,7 +46,7 @@ pub record Splittable (n : ℕ) (t : Words) (k l : ℕ) : Type 0 where
 -- the lowest m nodes of the path to k are full, the next one has room, and m nodes are unreachable
 pub record Ready (m n : ℕ) (t : Words) (k : ℕ) : Type 0 where
   pub collection : noCollection n t ≡ false
-  pub settled : settledAll t ≡ true
+  pub settled : settled t ≡ true
   pub high : m ≤ height (viewOf n t)
   pub full : (l : ℕ) → l < m → length (nodeView t (standing n t l k) .shown) ≡ 11
   pub above : length (nodeView t (standing n t m k) .shown) ≤ 10

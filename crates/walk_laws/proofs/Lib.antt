@@ -4,3 +4,4 @@ pub mod Run
 pub mod Local
 pub mod WalkLaw
 pub mod ChainLaw
+pub mod AnyRoot

@@ -54,7 +54,7 @@ header-trans t u x f g = record { long = g .long ∙ f .long; words = λ w h. g 
 module _ {t t′ : Words} (h : SameHeader t t′) where
   pub same-ok : headerOk t′ ≡ headerOk t
   unfolding headerOk
-  same-ok = rw (h .long, h .words 0 (omega arith), h .words 1 (omega arith), h .words 2 (omega arith), part-same t t′ (h .long) 3 5 (λ w p q. h .words w (omega arith)))
+  same-ok = rw (h .long, h .words 0 (omega arith), h .words 1 (omega arith), h .words 2 (omega arith), h .words 3 (omega arith), part-same t t′ (h .long) 4 4 (λ w p q. h .words w (omega arith)))
 
   pub same-root : root t′ ≡ root t
   same-root = h .words 1 (omega arith)

@@ -99,4 +99,5 @@ module _ (t : Words) (r : ℕ) (h : headerOk t ≡ true) where
         zeros = λ w p q. o w (omega arith) ∙ f .zeros w p q;
         root-some = rw root-stored (u .0);
         root-in = rw (root-stored, two) (u .1);
+        two = let e : at (set t 1 r) 3 ≡ at t 3 = o 3 (omega arith) in rw (e, two) (f .two);
       })

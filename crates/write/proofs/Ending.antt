@@ -2,7 +2,7 @@
 -- call promises.
 use mathlib.Core.Path.{_≡_, refl, ap, sym, _∙_}
 use mathlib.Core.Logic.{_≢_}
-use mathlib.Core.Bool.{true}
+use mathlib.Core.Bool.{true, false}
 use mathlib.Core.List.{List, [], _++_, append-nil}
 use Prim.Native.Nat.{ℕ, zero, suc, _*_, _≤_}
 use native.Mathlib.Omega.{arith}
@@ -12,11 +12,12 @@ use Rattle.model.specs.declared.Written.the-variants.{Done, Refused}
 use Rattle.model.specs.Table.{Words}
 use Rattle.model.specs.SoundTest.{sound, settled}
 use Rattle.model.specs.Orders.{Store, orders, storeCount}
-use Rattle.model.specs.Writes.{repairStores, repaired, Call, repair, storesOf}
-use Rattle.model.specs.Refusals.{refusal, written, tableAfter, listAfter}
-use Rattle.step_laws.proofs.Accepted.{Allows, accepted-iff}
-use Rattle.step_laws.proofs.Calls.{Steps, accepted}
-use Rattle.step_laws.proofs.Repair.{repaired-settled}
+use Rattle.model.specs.Writes.{repairStores, repaired, Call, insertion, deletion, classChange, repair, storesOf}
+use Rattle.model.specs.Refusals.{seventeenIn, refusal, written, tableAfter, listAfter}
+use Rattle.two_laws.proofs.CallsTwo.{repairs}
+use Rattle.two_laws.proofs.AcceptedTwo.{Allows, Accepted, accepted-iff}
+use Rattle.two_laws.proofs.MapsTwo.{Steps, accepted-steps}
+use Rattle.two_laws.proofs.CollectionTwo.{collection-repaired}
 use Rattle.orders.specs.declared.Pen.{Pen}
 use Rattle.orders.specs.Desk.{desk, storedAll, finished, Room}
 use Rattle.orders.proofs.Rooms.{room-first, room-rest}
@@ -39,8 +40,15 @@ refused-call x t lent zero z e = absurd (z refl)
 refused-call x t lent (suc n) z e = rw (e, written, tableAfter, listAfter) (refl, (refl, refl))
 
 -- by one of the tests that all share
-pub judge-refuses : (x : Call) (t lent : Words) (n : ℕ) → judged (length lent) t ≡ judgement.Refused n → Promised x t lent (Refused n) t lent
-judge-refuses x t lent n e = let u = judged-refused (length lent) t n e in refused-call x t lent n (u .0) (u .1 x)
+pub judge-refuses : (x : Call) (t lent : Words) (n : ℕ) → judged (seventeenIn x t) (length lent) t ≡ judgement.Refused n → Promised x t lent (Refused n) t lent
+judge-refuses x t lent n e = let u = judged-refused x (length lent) t n e in refused-call x t lent n (u .0) (u .1)
+
+-- a collection is there after repair
+seventeen-later : (x : Call) (t : Words) → sound t ≡ true → seventeenIn x t ≡ false → seventeenIn x (repaired t) ≡ false
+seventeen-later (insertion n k r c) t s h = collection-repaired n t s h
+seventeen-later (deletion n k) t s h = collection-repaired n t s h
+seventeen-later (classChange n k c) t s h = collection-repaired n t s h
+seventeen-later repair t s h = refl
 
 -- ---- an accepted call, from the first pen on: the repair, then what the repaired table calls for
 
@@ -52,13 +60,16 @@ pub record Begun (x : Call) (t lent : Words) (pen : Pen) (rest : Words → List 
 
 module _ {x : Call} {t lent : Words} {pen : Pen} {rest : Words → List Store} (b : Begun x t lent pen rest) where
   steps : Steps x t
-  steps = accepted x (length lent) t (b .is-sound) (b .accepted)
+  steps = accepted-steps x (length lent) t (b .is-sound) (b .accepted)
+
+  passes : Accepted x (length lent) t
+  passes = accepted-iff x (length lent) t .0 (b .accepted)
 
   pub begun-allows : Allows x (repaired t)
-  begun-allows = accepted-iff x (length lent) t .0 (b .accepted) .allows
+  begun-allows = passes .allows
 
   fits : 2 * length (orders (storesOf x t)) ≤ length lent
-  fits = omega (arith, steps .few, accepted-iff x (length lent) t .0 (b .accepted) .long)
+  fits = omega (arith, steps .few, passes .long)
 
   call-room : Room (storesOf x t) (desk t lent pen)
   call-room = rw (b .first) (start-room (storesOf x t) t lent (steps .stores-inside) fits)
@@ -76,7 +87,10 @@ module _ {x : Call} {t lent : Words} {pen : Pen} {rest : Words → List Store} (
     mended-table = part-table (repairStores t) rest t lent pen t₁ list at g
 
     pub mended-settled : settled t₁ ≡ true
-    mended-settled = rw mended-table (repaired-settled t (b .is-sound))
+    mended-settled = rw mended-table (repairs t (b .is-sound) .settles)
+
+    pub mended-collection : seventeenIn x t₁ ≡ false
+    mended-collection = rw mended-table (seventeen-later x t (b .is-sound) (passes .collection))
 
     pub rest-room : Room (rest t₁) (desk t₁ list at)
     unfolding repaired

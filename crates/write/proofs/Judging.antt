@@ -8,22 +8,25 @@ use Prim.Native.Nat.{ℕ, zero, suc, _-_, _≤_, _<_}
 use native.Mathlib.Omega.{arith}
 use lib.Dec.{eqb}
 use lib.ListN.{length, getD}
-use borrow.Author.Tests.{lt-ltb, le-ltb}
+use borrow.Author.Tests.{ltb-false, lt-ltb, le-ltb}
 use Rattle.model.specs.declared.Node.{Node}
-use Rattle.model.specs.Table.{Words, headerOk, headerNumber, node}
-use Rattle.model.specs.Slots.{View, view, nodeView, height, used, full}
+use Rattle.model.specs.Table.{Words, headerOk, headerNumber, noCollection, node}
+use Rattle.model.specs.Slots.{View, viewFrom, view, nodeView, height, used, full}
 use Rattle.model.specs.Search.{path, firstWith}
-use Rattle.model.specs.Reached.{mapOf}
-use Rattle.model.specs.SoundTest.{sound}
-use Rattle.model.specs.Writes.{repaired, standing, Call, repair}
-use Rattle.model.specs.Refusals.{fullParent, parentFull, Test, firstNumber, hasKey, mapTests, elevenIn, tenIn, refusal}
+use Rattle.model.specs.Reached.{mapping}
+use Rattle.model.specs.SoundTest.{soundView, sound}
+use Rattle.model.specs.Writes.{repaired, standingIn, Call, repair}
+use Rattle.model.specs.Refusals.{fullParent, parentFull, Test, firstNumber, hasKey, seventeenIn, mapTests, elevenIn, tenIn, ownMap, refusal}
 use Rattle.table_laws.proofs.Header.{header-number-refused}
-use Rattle.list_laws.proofs.Tools.{first-nil}
-use Rattle.tree_laws.proofs.Levels.{orderly-of}
+use Rattle.list_laws.proofs.Tools.{first-nil, not-false-iff}
+use Rattle.tree_laws.proofs.Levels.{sound-orderly}
 use Rattle.tree_laws.proofs.SearchLaw.{leafFor, leaf-mem, leaf-covers, path-leaf, range-first}
 use Rattle.change_laws.proofs.Pairs.{has-key-iff, has-key-found}
-use Rattle.step_laws.proofs.Accepted.{Allows, Accepted, accepted-iff}
-use Rattle.step_laws.proofs.Numbers.{number-on-sound}
+use Rattle.step_laws.proofs.Accepted.{none-holds}
+use Rattle.two_laws.proofs.AcceptedTwo.{Allows, accepted-iff}
+use Rattle.two_laws.proofs.SearchTwo.{sound-head}
+use Rattle.two_laws.proofs.JudgedTwo.{parent-not-full, number-on-sound}
+use Rattle.node.specs.Word.{numberIn}
 use Rattle.slots.specs.declared.Held.{Held}
 use Rattle.slots.specs.declared.Held.the-variants.{Pointer, Nothing}
 use Rattle.slots.specs.Scan.{shownFrom}
@@ -34,22 +37,46 @@ use Rattle.sound.specs.declared.Checked.{Checked}
 use Rattle.sound.specs.declared.Checked.the-variants.{Unsound, Sound}
 use Rattle.sound.specs.Checked.{meant, checked}
 use Rattle.sound.proofs.JudgeLaws.{SoundWith, checked-sound, checked-unsound}
+use Rattle.write.specs.declared.Judged.{Judged}
 use Rattle.write.specs.declared.Judged.the-variants.{Refused, Ready}
 use Rattle.write.specs.Judged.{sharedTests, shared, readyWith, judged}
 
 -- ---- the answer, test by test
 
-pub wrong-header : (words : ℕ) (t : Words) (k : ℕ) → k ≡ headerNumber t → (k ≡ 0 → ⊥) → Refused 2 ≡ judged words t
+pub wrong-header : (words : ℕ) (t : Words) (k : ℕ) → k ≡ headerNumber t → (k ≡ 0 → ⊥) → Refused 2 ≡ judged false words t
 unfolding judged shared
 wrong-header words t k e z = rw (header-number-refused t (λ q. z (e ∙ q)), judged, shared)
 
+-- 2 and 17, in one look
+module _ (words : ℕ) (t : Words) (n k : ℕ) (e : k ≡ numberIn n t) where
+  pub wrong-collection : (k ≡ 0 → ⊥) → Refused k ≡ judged (noCollection n t) words t
+  unfolding judged shared numberIn
+  wrong-collection z = rw e (go (headerOk t) (noCollection n t) refl refl)
+    where
+      go : (a b : Bool) → headerOk t ≡ a → noCollection n t ≡ b → Refused (cond (headerOk t) (cond (noCollection n t) 17 0) 2) ≡ judged (noCollection n t) words t
+      go false b f g = rw (f, judged, shared)
+      go true true f g = rw (f, g, judged, shared)
+      go true false f g = absurd (z (e ∙ rw (f, g)))
+
+  pub right-collection : k ≡ 0 → (headerOk t ≡ true) × (noCollection n t ≡ false)
+  unfolding numberIn
+  right-collection z = go (headerOk t) (noCollection n t) refl refl
+    where
+      go : (a b : Bool) → headerOk t ≡ a → noCollection n t ≡ b → (headerOk t ≡ true) × (noCollection n t ≡ false)
+      go false b f g = let q : _≡_ {A = ℕ} 2 0 = sym (e ∙ rw f) ∙ z in absurd (omega arith)
+      go true true f g = let q : _≡_ {A = ℕ} 17 0 = sym (e ∙ rw (f, g)) ∙ z in absurd (omega arith)
+      go true false f g = (f, g)
+
+  pub judged-rest : k ≡ 0 → (j : Judged) → j ≡ judged false words t → j ≡ judged (noCollection n t) words t
+  judged-rest z j q = rw (right-collection z .1) q
+
 module _ (words : ℕ) (t : Words) (header : headerOk t ≡ true) where
-  pub not-sound : checked t ≡ Unsound → Refused 4 ≡ judged words t
+  pub not-sound : checked t ≡ Unsound → Refused 4 ≡ judged false words t
   unfolding judged shared
   not-sound g = rw (header, checked-unsound t .0 g, judged, shared)
 
   module _ (x : Leftover) (n : ℕ) (found : SoundWith t x n) where
-    pub too-short : words < 2560 → Refused 5 ≡ judged words t
+    pub too-short : words < 2560 → Refused 5 ≡ judged false words t
     unfolding judged shared
     too-short h = rw (header, found .is-sound, lt-ltb words 2560 h, judged, shared)
 
@@ -58,11 +85,11 @@ module _ (words : ℕ) (t : Words) (header : headerOk t ≡ true) where
       unfolding parentFull
       parent-is = ap (fullParent (view t)) (found .leftover-is) ∙ sym f
 
-      pub full-parent : b ≡ true → Refused 12 ≡ judged words t
+      pub full-parent : b ≡ true → Refused 12 ≡ judged false words t
       unfolding judged shared
       full-parent h = rw (header, found .is-sound, le-ltb words 2560 long, parent-is ∙ h, judged, shared)
 
-      pub all-passed : b ≡ false → Ready x n ≡ judged words t
+      pub all-passed : b ≡ false → Ready x n ≡ judged false words t
       unfolding judged shared
       all-passed h = rw (header, found .is-sound, le-ltb words 2560 long, parent-is ∙ h, checked-sound t x n .1 found, judged, shared)
 
@@ -84,87 +111,109 @@ refused-unsound : (c : Checked) (n : ℕ) → readyWith c ≡ Refused n → c �
 refused-unsound Unsound n e = refl
 refused-unsound (Sound y m) n e = let z : _≡_ {A = ℕ} 0 1 = cc in absurd (omega arith)
 
-module _ (words : ℕ) (t : Words) where
-  -- repair has no other tests
-  only-shared : refusal repair words t ≡ shared words t
+-- none of the shared tests holds
+record SharedPassed (seventeen : Bool) (words : ℕ) (t : Words) : Type 0 where
+  collection : seventeen ≡ false
+  sound : sound t ≡ true
+  long : 2560 ≤ words
+
+shared-passed : (seventeen : Bool) (words : ℕ) (t : Words) → shared seventeen words t ≡ 0 → SharedPassed seventeen words t
+unfolding shared
+shared-passed seventeen words t e =
+    let h = none-holds (sharedTests seventeen words t) ((λ e. omega arith), ((λ e. omega arith), ((λ e. omega arith), ((λ e. omega arith), ((λ e. omega arith), tt))))) .0 e in
+    record { collection = h .1 .0; sound = not-false-iff _ .0 (h .1 .1 .0); long = ltb-false words 2560 (h .1 .1 .1 .0) }
+
+module _ (y : Call) (words : ℕ) (t : Words) where
+  abbrev number : ℕ
+  number = shared (seventeenIn y t) words t
+
+  -- the tests from 6 on, on the table as repair would leave it
+  abbrev later : List Test
+  later = let t′ = repaired t in mapTests y (elevenIn y t′) (tenIn y t′) (ownMap y t′)
+
+  -- a refused call
+  shared-refused : number ≢ 0 → refusal y words t ≡ number
   unfolding refusal shared
-  only-shared = refl
+  shared-refused z = first-shared (sharedTests (seventeenIn y t) words t) later z
 
-  passed : shared words t ≡ 0 → Accepted repair words t
-  passed e = accepted-iff repair words t .0 (only-shared ∙ e)
-
-  all-refused : (x : Call) → shared words t ≢ 0 → refusal x words t ≡ shared words t
-  unfolding refusal shared
-  all-refused x z = first-shared (sharedTests words t) (mapTests x (elevenIn x (repaired t)) (tenIn x (repaired t)) (mapOf (repaired t))) z
-
-  -- a refused call: every call is refused with this number
-  pub judged-refused : (n : ℕ) → judged words t ≡ Refused n → (n ≢ 0) × ((x : Call) → refusal x words t ≡ n)
+  pub judged-refused : (n : ℕ) → judged (seventeenIn y t) words t ≡ Refused n → (n ≢ 0) × (refusal y words t ≡ n)
   unfolding judged
-  judged-refused n = go (shared words t) refl
+  judged-refused n = go number refl
     where
-      go : (m : ℕ) → shared words t ≡ m → judged words t ≡ Refused n → (n ≢ 0) × ((x : Call) → refusal x words t ≡ n)
-      go zero e q = absurd (false≢true (sym (checked-unsound t .0 (refused-unsound (checked t) n (rw (e, judged) at q))) ∙ passed e .sound))
+      go : (m : ℕ) → number ≡ m → judged (seventeenIn y t) words t ≡ Refused n → (n ≢ 0) × (refusal y words t ≡ n)
+      go zero e q = absurd (false≢true (sym (checked-unsound t .0 (refused-unsound (checked t) n (rw (e, judged) at q))) ∙ shared-passed (seventeenIn y t) words t e .sound))
       go (suc m) e q =
           let r : Refused (suc m) ≡ Refused n = rw (e, judged) at q in
-          let p : suc m ≡ n = cc in (λ z. omega arith, λ x. all-refused x (λ z. omega (arith, e, z)) ∙ e ∙ p)
+          let p : suc m ≡ n = cc in (λ z. omega arith, shared-refused (λ z. omega (arith, e, z)) ∙ e ∙ p)
 
   pub record Passed (x : Leftover) (n : ℕ) : Type 0 where
     pub found : SoundWith t x n
+    pub collection : seventeenIn y t ≡ false
     pub long : 2560 ≤ words
-    pub accepted : Accepted repair words t
 
-  pub judged-ready : (x : Leftover) (n : ℕ) → judged words t ≡ Ready x n → Passed x n
+  pub judged-ready : (x : Leftover) (n : ℕ) → judged (seventeenIn y t) words t ≡ Ready x n → Passed x n
   unfolding judged
-  judged-ready x n = go (shared words t) refl
+  judged-ready x n = go number refl
     where
-      go : (m : ℕ) → shared words t ≡ m → judged words t ≡ Ready x n → Passed x n
-      go zero e q = record { found = checked-sound t x n .0 (ready-sound (checked t) x n (rw (e, judged) at q)); long = passed e .long; accepted = passed e }
+      go : (m : ℕ) → number ≡ m → judged (seventeenIn y t) words t ≡ Ready x n → Passed x n
+      go zero e q =
+          let a = shared-passed (seventeenIn y t) words t e in
+          record { found = checked-sound t x n .0 (ready-sound (checked t) x n (rw (e, judged) at q)); collection = a .collection; long = a .long }
       go (suc m) e q =
           let r : Refused (suc m) ≡ Ready x n = rw (e, judged) at q in
           let z : _≡_ {A = ℕ} 0 1 = cc in absurd (omega arith)
 
-  -- a call that the repaired table allows is accepted
-  pub ready-accepted : (y : Call) (x : Leftover) (n : ℕ) → Passed x n → Allows y (repaired t) → refusal y words t ≡ 0
-  ready-accepted y x n p a = accepted-iff y words t .1 (record { header = p .accepted .header; sound = p .accepted .sound; long = p .long; parent = p .accepted .parent; allows = a })
+  module _ {x : Leftover} {n : ℕ} (p : Passed x n) where
+    -- a call that the repaired table allows is accepted
+    pub ready-accepted : Allows y (repaired t) → refusal y words t ≡ 0
+    ready-accepted a = accepted-iff y words t .1 (record {
+      header = sound-head t (p .found .is-sound);
+      collection = p .collection;
+      sound = p .found .is-sound;
+      long = p .long;
+      parent = parent-not-full t (p .found .is-sound);
+      allows = a;
+    })
 
-  -- a call that one of its own tests refuses: 6 to 9 go by the map of t
-  pub ready-number : (y : Call) (x : Leftover) (n : ℕ) → Passed x n → refusal y words t ≡ firstNumber (mapTests y (elevenIn y (repaired t)) (tenIn y (repaired t)) (mapOf t))
-  ready-number y x n p = number-on-sound y words t (p .accepted .sound) ∙ rw (le-ltb words 2560 (p .long))
+    -- a call that one of its own tests refuses: 6 to 9 go by the own map of t
+    pub ready-number : refusal y words t ≡ firstNumber (mapTests y (elevenIn y (repaired t)) (tenIn y (repaired t)) (ownMap y t))
+    ready-number = number-on-sound y words t (p .found .is-sound) (p .collection) ∙ rw (le-ltb words 2560 (p .long))
 
--- ---- whether the map has a key
+-- ---- whether the map of a tree has a key
 
 -- the leaf n for k, which is x, holds the slot that the map has for k
-held-map : (t : Words) (k n : ℕ) (x : Node) (h : Held) → sound t ≡ true → n ≡ standing t 0 k → x ≡ node t n → h ≡ heldBy (firstWith k (shownFrom (x .left) (x .slots) 0))
-    → h ≡ heldBy (firstWith k (mapOf t))
-unfolding standing used
-held-map t k n x h s e q f =
-    let v = view t in
-    let o = orderly-of t s in
-    let c = leaf-covers v k o in
-    let d : height v - 0 ≡ height v = omega arith in
-    let l : n ≡ leafFor v k = e ∙ ap (λ (i : ℕ). getD (path v k) i 0) d ∙ path-leaf v k o in
-    f ∙ ap (λ (y : Node). heldBy (firstWith k (shownFrom (y .left) (y .slots) 0))) q ∙ ap (λ (m : ℕ). heldBy (firstWith k (nodeView t m .shown))) l
-    ∙ ap heldBy (sym (range-first v k (leafFor v k) o (leaf-mem v k o) (c .fence) (c .inside)))
-
-module _ (t : Words) (k n : ℕ) (x : Node) (h : Held) (s : sound t ≡ true) (e : n ≡ standing t 0 k) (q : x ≡ node t n)
+module _ (t : Words) (o k n : ℕ) (x : Node) (h : Held) (s : soundView (viewFrom t o) ≡ true) (e : n ≡ standingIn (viewFrom t o) 0 k) (q : x ≡ node t n)
     (f : h ≡ heldBy (firstWith k (shownFrom (x .left) (x .slots) 0))) where
-  pub key-absent : h ≡ Nothing → false ≡ hasKey k (mapOf t)
-  key-absent z = go (hasKey k (mapOf t)) refl
+  abbrev v : View
+  v = viewFrom t o
+
+  held-map : h ≡ heldBy (firstWith k (mapping (viewFrom t o)))
+  unfolding standingIn used
+  held-map =
+      let o = sound-orderly v s in
+      let c = leaf-covers v k o in
+      let d : height v - 0 ≡ height v = omega arith in
+      let l : n ≡ leafFor v k = e ∙ ap (λ (i : ℕ). getD (path v k) i 0) d ∙ path-leaf v k o in
+      f ∙ ap (λ (y : Node). heldBy (firstWith k (shownFrom (y .left) (y .slots) 0))) q ∙ ap (λ (m : ℕ). heldBy (firstWith k (nodeView t m .shown))) l
+      ∙ ap heldBy (sym (range-first v k (leafFor v k) o (leaf-mem v k o) (c .fence) (c .inside)))
+
+  pub key-absent : h ≡ Nothing → false ≡ hasKey k (mapping (viewFrom t o))
+  key-absent z = go (hasKey k (mapping v)) refl
     where
-      go : (b : Bool) → hasKey k (mapOf t) ≡ b → false ≡ hasKey k (mapOf t)
+      go : (b : Bool) → hasKey k (mapping v) ≡ b → false ≡ hasKey k (mapping v)
       go false g = sym g
       go true g =
-          let u = has-key-found k (mapOf t) g in
-          let p : Nothing ≡ Pointer (u .0) = sym z ∙ held-map t k n x h s e q f ∙ ap heldBy (u .1) in
+          let u = has-key-found k (mapping v) g in
+          let p : Nothing ≡ Pointer (u .0) = sym z ∙ held-map ∙ ap heldBy (u .1) in
           let i : _≡_ {A = ℕ} 0 1 = cc in absurd (omega arith)
 
-  pub key-found : (r : ℕ) → h ≡ Pointer r → true ≡ hasKey k (mapOf t)
-  key-found r z = go (hasKey k (mapOf t)) refl
+  pub key-found : (r : ℕ) → h ≡ Pointer r → true ≡ hasKey k (mapping (viewFrom t o))
+  key-found r z = go (hasKey k (mapping v)) refl
     where
-      go : (b : Bool) → hasKey k (mapOf t) ≡ b → true ≡ hasKey k (mapOf t)
+      go : (b : Bool) → hasKey k (mapping v) ≡ b → true ≡ hasKey k (mapping v)
       go true g = sym g
       go false g =
-          let p : Pointer r ≡ Nothing = sym z ∙ held-map t k n x h s e q f ∙ ap heldBy (first-nil k (mapOf t) (has-key-iff k (mapOf t) .0 g)) in
+          let p : Pointer r ≡ Nothing = sym z ∙ held-map ∙ ap heldBy (first-nil k (mapping v) (has-key-iff k (mapping v) .0 g)) in
           let i : _≡_ {A = ℕ} 0 1 = cc in absurd (omega arith)
 
 -- ---- the parent that lacks a slot

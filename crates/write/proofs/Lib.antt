@@ -3,3 +3,4 @@ pub mod Judging
 pub mod Parts
 pub mod Mending
 pub mod Ending
+pub mod Rooted

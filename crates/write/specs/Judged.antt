@@ -1,5 +1,5 @@
 -- The tests that all writing calls share, and the pen that a write begins with.
-use mathlib.Core.Bool.{not}
+use mathlib.Core.Bool.{Bool, not}
 use mathlib.Core.List.{List, [], _∷_}
 use Prim.Native.Nat.{ℕ}
 use lib.Dec.{ltb}
@@ -13,20 +13,21 @@ use Rattle.orders.specs.declared.Pen.{Pen}
 use Rattle.write.specs.declared.Judged.{Judged}
 use Rattle.write.specs.declared.Judged.the-variants.{Refused, Ready}
 
-abbrev pub sharedTests : (words : ℕ) → Words → List Test
-sharedTests words t =
-    test (not (headerOk t)) 2 ∷ test (not (sound t)) 4 ∷ test (ltb words 2560) 5 ∷ test (parentFull t) 12 ∷ []
+-- 17 is handed in: a repair names no collection
+abbrev pub sharedTests : (seventeen : Bool) → (words : ℕ) → Words → List Test
+sharedTests seventeen words t =
+    test (not (headerOk t)) 2 ∷ test seventeen 17 ∷ test (not (sound t)) 4 ∷ test (ltb words 2560) 5 ∷ test (parentFull t) 12 ∷ []
 
 -- the number of the first of them that holds; 0 where none does
-unfoldable pub shared : (words : ℕ) → Words → ℕ
-shared words t = firstNumber (sharedTests words t)
+unfoldable pub shared : (seventeen : Bool) → (words : ℕ) → Words → ℕ
+shared seventeen words t = firstNumber (sharedTests seventeen words t)
 
 abbrev pub readyWith : Checked → Judged
 readyWith Unsound = Refused 4
 readyWith (Sound x c) = Ready x c
 
-unfoldable pub judged : (words : ℕ) → Words → Judged
-judged words t = unlessRefused (shared words t) (readyWith (checked t)) (Refused (shared words t))
+unfoldable pub judged : (seventeen : Bool) → (words : ℕ) → Words → Judged
+judged seventeen words t = unlessRefused (shared seventeen words t) (readyWith (checked t)) (Refused (shared seventeen words t))
 
 abbrev pub firstPen : Pen
 firstPen = record { at = 0; line = 0; stores = 0; flushes = 0 }

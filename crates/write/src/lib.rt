@@ -1,14 +1,15 @@
-// What every writing call begins with: its refusals 2, 4, 5 and 12, the first pen and the repair; and whether the map has a key.
+// What every writing call begins with: its refusals 2, 17, 4, 5 and 12, the first pen and the repair; and whether a map has a key.
 use orders::Pen;
 use slots::Held;
 use sound::Checked;
 use sound::Leftover;
 ghost use mathlib.Core.Path.{_≡_};
-ghost use mathlib.Core.Bool.{true};
+ghost use mathlib.Core.Bool.{true, false};
 ghost use mathlib.Core.Option.{some};
-ghost use Rattle.model.specs.Slots.{view};
-ghost use Rattle.model.specs.Reached.{mapOf};
-ghost use Rattle.model.specs.SoundTest.{leftover, sound};
+ghost use Rattle.model.specs.Table.{headerOk, noCollection};
+ghost use Rattle.model.specs.Slots.{viewFrom, view};
+ghost use Rattle.model.specs.Reached.{mapping};
+ghost use Rattle.model.specs.SoundTest.{leftoverAll, soundView, sound};
 ghost use Rattle.model.specs.Writes.{repairStores};
 ghost use Rattle.model.specs.Refusals.{fullParent, hasKey};
 ghost use Rattle.sound.specs.Checked.{meant};
@@ -37,13 +38,11 @@ fn parent_full(table: &[u64], left: Leftover) -> bool
     }
 }
 
-// The tests that all writing calls share, with an order list of so many words.
-pub fn judge(table: &[u64], words: usize) -> Judged
-    ensures { λ r. ⌜ r ≡ judged words (now (table .entry)) ⌝ }
+// Refusals 4, 5 and 12, on a table whose header is right, with an order list of so many words.
+fn judge_rest(table: &[u64], words: usize) -> Judged
+    requires { ⌜ headerOk (now table) ≡ true ⌝ }
+    ensures { λ r. ⌜ r ≡ judged false words (now (table .entry)) ⌝ }
 {
-    if node::header(table) != 0 {
-        return Judged::Refused(2);
-    }
     let answer = sound::check(table);
     match answer {
         Checked::Unsound => Judged::Refused(4),
@@ -62,12 +61,33 @@ pub fn judge(table: &[u64], words: usize) -> Judged
     }
 }
 
-// Whether the map has the key: its leaf alone is looked at, and no next key.
-pub fn has_key(table: &[u64], key: u64) -> bool
-    requires { ⌜ sound (now table) ≡ true ⌝ }
-    ensures { λ r. ⌜ r ≡ hasKey key (mapOf (now (table .entry))) ⌝ }
+// The tests that all writing calls share, for a call that names a collection.
+pub fn judge(table: &[u64], collection: u64, words: usize) -> Judged
+    ensures { λ r. ⌜ r ≡ judged (noCollection collection (now (table .entry))) words (now (table .entry)) ⌝ }
 {
-    let leaf = reach::standing(table, node::root_of(table), 0, key);
+    let n = node::refusal(table, collection);
+    if n != 0 {
+        return Judged::Refused(n);
+    }
+    judge_rest(table, words)
+}
+
+// For a call that names none.
+pub fn judge_any(table: &[u64], words: usize) -> Judged
+    ensures { λ r. ⌜ r ≡ judged false words (now (table .entry)) ⌝ }
+{
+    if node::header(table) != 0 {
+        return Judged::Refused(2);
+    }
+    judge_rest(table, words)
+}
+
+// Whether the map of the tree under a root has the key: its leaf alone is looked at, and no next key.
+pub fn has_key(table: &[u64], root: u64, key: u64) -> bool
+    requires { ⌜ soundView (viewFrom (now table) root) ≡ true ⌝ }
+    ensures { λ r. ⌜ r ≡ hasKey key (mapping (viewFrom (now (table .entry)) root)) ⌝ }
+{
+    let leaf = reach::standing(table, root, 0, key);
     let x = node::read(table, leaf);
     let slots = x.slots;
     let left = x.left;
@@ -92,7 +112,7 @@ pub fn begin() -> Pen
 // Repairs a sound table.
 pub fn mend(table: &mut [u64], list: &mut [u64], pen: Pen, left: Leftover) -> Pen
     requires { ⌜ sound (now table) ≡ true ⌝ }
-    requires { ⌜ leftover (view (now table)) ≡ some (meant left) ⌝ }
+    requires { ⌜ leftoverAll (now table) ≡ some (meant left) ⌝ }
     requires { ⌜ Room (repairStores (now table)) (desk (now table) (now list) pen) ⌝ }
     ensures { λ r. ⌜ desk (now (table .exit)) (now (list .exit)) r
         ≡ storedAll (repairStores (now (table .entry))) (desk (now (table .entry)) (now (list .entry)) pen) ⌝ }

@@ -1,6 +1,7 @@
 -- `delete::take_out` meets its contract.
 use borrow.Author.Tests.{not-true, not-false}
-use Rattle.delete.proofs.Deleting.{settled-header, Found, leaf-plain, out-room, stays-stored, parent-plain, neighbour-plain, free-room, free-stored}
+use Rattle.two_laws.proofs.CollectionTwo.{settled-head}
+use Rattle.delete.proofs.Deleting.{Found, leaf-plain, out-room, stays-stored, parent-plain, neighbour-plain, free-room, free-stored}
 use borrow.Author.Needs.{needs}
 use Rattle.delete.proofs.take_out.Statement.{statement}
 use Rattle.delete.proofs.take_out.Tie as tie
@@ -37,30 +38,32 @@ out c = c .before .before .before .before .before
 abbrev freed : tie.After-slice-known6 → tie.After-free-leaf
 freed c = c .before .before .before .before
 
-found : (c : tie.After-frees-leaf) → let p = parent c in let x = leaf p in let a = entry x .args in
-    Found (a .key) (a .table .now) (a .list .now) (a .pen) (x .standing .result) (p .standing2 .result) (c .frees-leaf .result)
+found : (c : tie.After-frees-leaf) → let p = parent c in let x = leaf p in let r = read x in let a = entry x .args in
+    Found (a .collection) (a .key) (a .table .now) (a .list .now) (a .pen) (r .root-of .result) (x .standing .result) (p .standing2 .result) (c .frees-leaf .result)
 found c = let p = parent c in let x = leaf p in let e = entry x .pre in record {
-  is-settled = e .0;
-  has-key = e .1 .0;
-  room = e .1 .1;
-  leaf = x .standing .ensures;
-  parent = p .standing2 .ensures;
+  collection = e .0;
+  is-settled = e .1 .0;
+  has-key = e .1 .1 .0;
+  room = e .1 .1 .1;
+  root = read x .root-of .ensures;
+  leaf-at = x .standing .ensures;
+  parent-at = p .standing2 .ensures;
   frees = c .frees-leaf .ensures;
 }
 
 -- ---- the answers
 
 root-of-requires : tie.Need-root-of-requires
-root-of-requires c κs = settled-header _ (c .before .before .before .pre .0)
+root-of-requires c κs = let e = c .before .before .before .pre in (settled-head _ (e .1 .0), e .0)
 
 standing-requires : tie.Need-standing-requires
-standing-requires c κs = c .before .root-of .ensures
+standing-requires c κs = search needs
 
 standing-requires-2 : tie.Need-standing-requires-2
-standing-requires-2 c κs = read (c .before) .root-of .ensures
+standing-requires-2 c κs = search needs
 
 frees-leaf-requires : tie.Need-frees-leaf-requires
-frees-leaf-requires c κs = read (leaf (c .before)) .root-of .ensures
+frees-leaf-requires c κs = search needs
 
 shift-out-requires : tie.Need-shift-out-requires
 shift-out-requires c κs = let f = found (judged c) in (leaf-plain f .there, (leaf-plain f .plain, out-room f))

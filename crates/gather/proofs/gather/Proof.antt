@@ -1,6 +1,6 @@
 -- `gather::gather` meets its contract.
 use borrow.Author.Needs.{needs}
-use Rattle.model.specs.Salvage.{gathered}
+use Rattle.model.specs.Salvage.{gatheredAlong}
 use Rattle.gather.proofs.Slots.{front-long, front-fits}
 use Rattle.gather.proofs.Leaves.{cleared-standing, closed-pairs}
 use Rattle.gather.proofs.gather.Statement.{statement}
@@ -17,7 +17,7 @@ gather-nodes-requires c κs =
     let a = c .before .before .before .before .before .before .before .before .before .before .args in
     let p = c .before .before .before .before .before .before .before .before .before .before .pre in
     let k = c .before .before .before .before .clear in
-    (p .0, p .1 .along, cleared-standing (a .table .now) (a .order .now) (a .count) (a .words .now) (a .bound) (a .report .now) (p .1) (k .last .0) (k .ensures), p .1 .most)
+    (p .0, p .1 .along, cleared-standing (a .table .now) (a .order .now) (a .words .now) (a .bound) (a .report .now) (p .1) (k .last .0) (k .ensures), p .1 .most)
 
 slice-relend-prefix-close : tie.Need-slice-relend-prefix-close
 slice-relend-prefix-close c = search needs
@@ -25,12 +25,12 @@ slice-relend-prefix-close c = search needs
 slice-aggregate-close : tie.Need-slice-aggregate-close
 slice-aggregate-close c =
     let g = c .before .before .before .before .before .gather-nodes in
-    front-long (g .last .1 .1 .1 .1 .0) (c .before .before .before .before .before .before .before .before .before .before .before .before .before .before .before .before .args .bound) (g .result) (g .ensures .1 .0)
+    front-long (g .last .1 .1 .1 .0) (c .before .before .before .before .before .before .before .before .before .before .before .before .before .before .before .before .args .bound) (g .result) (g .ensures .1 .0)
 
 close-requires : tie.Need-close-requires
 close-requires c κs =
     let g = c .before .before .before .before .before .gather-nodes in
-    front-fits (g .last .1 .1 .1 .1 .0) (c .before .before .before .before .before .before .before .before .before .before .before .before .before .before .before .before .args .bound) (g .result) (g .ensures .1 .0)
+    front-fits (g .last .1 .1 .1 .0) (c .before .before .before .before .before .before .before .before .before .before .before .before .before .before .before .before .args .bound) (g .result) (g .ensures .1 .0)
 
 same-length : tie.Need-same-length
 same-length c = search needs
@@ -44,9 +44,9 @@ returns c =
     let g = c .before .before .before .before .before .before .before .before .gather-nodes in
     let e = g .ensures in
     let k = c .before .before .close in
-    let w = g .last .1 .1 .1 .1 .0 in
-    let r = g .last .1 .1 .1 .1 .1 .1 .0 in
-    (closed-pairs w (a .bound) r (g .result) (gathered (a .table .now)) (k .last .0) (e .1 .0) (e .0) (k .kept .0) (k .ensures), e .1 .1)
+    let w = g .last .1 .1 .1 .0 in
+    let r = g .last .1 .1 .1 .1 .1 .0 in
+    (closed-pairs w (a .bound) r (g .result) (gatheredAlong (a .table .now) (a .order .now)) (k .last .0) (e .1 .0) (e .0) (k .kept .0) (k .ensures), (e .1 .0 .few, e .1 .1))
 
 pub gather-spec : {M : Type 1} → statement M
 gather-spec =

@@ -1,11 +1,10 @@
 -- `insert::grow` meets its contract.
-use mathlib.Core.Path.{ap, sym, _∙_}
+use mathlib.Core.Path.{sym}
+use native.Mathlib.Omega.{arith}
 use borrow.Author.Tests.{not-true, not-false}
-use Rattle.model.specs.Writes.{fresh}
-use Rattle.tree_laws.proofs.Leftovers.{settled-sound}
 use Rattle.orders.proofs.Steps.{storedAll-nil}
 use Rattle.orders.proofs.Rest.{room-as, stored-as}
-use Rattle.insert.proofs.Growing.{root-some, root-in, settled-header, no-root, root-stores, root-there, root-low}
+use Rattle.insert.proofs.Growing.{Growable, number-low, word-low, table-header, table-sound, root-low, no-root, root-in, root-stores, root-there}
 use borrow.Author.Needs.{needs}
 use Rattle.insert.proofs.grow.Statement.{statement}
 use Rattle.insert.proofs.grow.Tie as tie
@@ -30,22 +29,35 @@ freed c = c .before .before
 abbrev last : tie.After-slice-known4 → tie.After-new-root
 last c = c .before .before .before .before
 
+handed : (c : tie.Start) → let a = c .args in Growable (a .collection) (a .table .now) (a .key) (a .whole)
+handed c = let e = c .pre in record { collection = e .0; is-settled = e .1 .0; enough = e .1 .1 .0; whole-is = e .1 .1 .1 .0 }
+
 -- ---- the answers
 
 returns : tie.Need-returns
-returns c = stored-as _ _ _ (no-root _ _ _ (whole c .pre .1 .1 .1 .0) (not-true _ (c .if1 .taken))) _ (sym (storedAll-nil _))
+returns c = stored-as _ _ _ (no-root (handed (whole c)) (not-true _ (c .if1 .taken))) _ (sym (storedAll-nil _))
 
 root-of-requires : tie.Need-root-of-requires
-root-of-requires c κs = settled-header _ (entry (c .before) .pre .0)
+root-of-requires c κs = let h = handed (entry (c .before)) in (table-header h, h .collection)
 
 fresh-requires : tie.Need-fresh-requires
-fresh-requires c κs = let r = c .before in let s = entry (r .before .before) .pre .0 in let h = settled-header _ s in let e = r .root-of .ensures in
-    (settled-sound _ s, (e, (root-some _ h _ e, root-in _ h _ e)))
+fresh-requires c κs = let r = c .before in let h = handed (entry (r .before .before)) in let u = root-in h (r .root-of .ensures) in (table-sound h, (u .0, u .1))
+
+mul-word : tie.Need-mul-word
+mul-word c = omega (arith, number-low (handed (entry (rooted c))) .1)
+
+sub-word : tie.Need-sub-word
+sub-word c = omega (arith, number-low (handed (entry (rooted c))) .0)
 
 new-root-requires : tie.Need-new-root-requires
-new-root-requires c κs = let f = freed c in let e = entry (rooted f) .pre in let q = e .1 .1 .1 in let w = not-false _ (rooted f .if1 .left) in
-    let o = read f .root-of .ensures in let n = f .fresh .ensures ∙ ap (fresh _) o in
-    (o, (root-there _ _ _ (q .0) w (e .0) (e .1 .1 .0) _ n, (root-low _ _ _ (q .0) w (e .0), room-as _ _ _ (root-stores _ _ _ (q .0) w _ n) (q .1))))
+new-root-requires c κs =
+    let f = freed c in
+    let s = entry (rooted f) in
+    let h = handed s in
+    let o = read f .root-of .ensures in
+    let w = not-false _ (rooted f .if1 .left) in
+    let n = f .fresh .ensures in
+    (word-low h, (root-there h o w n, (root-low h, room-as _ _ _ (root-stores h o w n) (s .pre .1 .1 .1 .1))))
 
 same-length : tie.Need-same-length
 same-length c = search needs
@@ -54,8 +66,8 @@ same-length-2 : tie.Need-same-length-2
 same-length-2 c = search needs
 
 returns-2 : tie.Need-returns-2
-returns-2 c = let r = last c in let f = freed (r .before) in let e = rooted f in
-    stored-as _ _ _ (root-stores _ _ _ (entry e .pre .1 .1 .1 .0) (not-false _ (e .if1 .left)) _ (f .fresh .ensures ∙ ap (fresh _) (read f .root-of .ensures))) _ (r .new-root .ensures)
+returns-2 c = let r = last c in let f = freed (r .before) in let d = rooted f in
+    stored-as _ _ _ (root-stores (handed (entry d)) (read f .root-of .ensures) (not-false _ (d .if1 .left)) (f .fresh .ensures)) _ (r .new-root .ensures)
 
 pub grow-spec : {M : Type 1} → statement M
 grow-spec =
@@ -64,6 +76,8 @@ grow-spec =
     returns
     root-of-requires
     fresh-requires
+    mul-word
+    sub-word
     new-root-requires
     same-length
     same-length-2

@@ -1,11 +1,13 @@
 -- `insert::insert` meets its contract.
 use mathlib.Core.Path.{_≡_, sym, _∙_}
 use lib.ListN.{length}
-use Rattle.model.specs.Writes.{insertion}
+use Rattle.model.specs.Writes.{repaired, Call, insertion}
 use Rattle.model.specs.Refusals.{refusal}
-use Rattle.tree_laws.proofs.Levels.{sound-header}
+use Rattle.two_laws.proofs.SearchTwo.{sound-head}
 use Rattle.write.proofs.Judging.{Passed, judged-ready}
-use Rattle.write.proofs.Ending.{refused-call, judge-refuses, Begun, mend-room, mended-settled, rest-room, finish-room, done-call}
+use Rattle.write.proofs.Ending.{refused-call, judge-refuses, Begun, mend-room, mended-settled, mended-collection, rest-room, finish-room, done-call}
+use Rattle.write.proofs.Rooted.{root-sound}
+use Rattle.insert.specs.Tests.{runOf}
 use Rattle.insert.proofs.Judging.{run-later, insert-number}
 use Rattle.insert.proofs.Entering.{entering, insert-stores, enter-enters, enter-run}
 use borrow.Author.Needs.{needs}
@@ -21,7 +23,7 @@ abbrev refused : tie.After-known-told → tie.After-judgement
 refused c = c .before
 
 abbrev read : tie.After-parent-of → tie.After-root-of
-read c = c .before
+read c = c .before .before
 
 abbrev ready : tie.After-parent-of → tie.After-judgement2
 ready c = read c .before .before .before
@@ -44,21 +46,29 @@ finished c = c .before .before
 abbrev asked : tie.After-judgement2 → tie.Start
 asked c = entry (c .before .before)
 
-passed : (c : tie.After-judgement2) → let v = c .judgement2 .given .0 in Passed (length (asked c .args .list .now)) (asked c .args .table .now) (v .0) (v .1 .0)
-passed c = judged-ready _ _ _ _ (sym (c .before .before .judge .ensures) ∙ c .judgement2 .given .1)
+abbrev call : tie.Start → Call
+call c = let a = c .args in insertion (a .collection) (a .key) (a .recording) (a .access)
 
-numbered : (c : tie.After-number) → let a = asked (ready (ran c)) .args in refusal (insertion (a .key) (a .recording) (a .access)) (length (a .list .now)) (a .table .now) ≡ c .number .result
-numbered c = insert-number (passed (ready (ran c))) _ _ _ (ran c .parent-of .ensures) (c .before .before .full-run .ensures) (c .number .ensures)
+passed : (c : tie.After-judgement2) → let v = c .judgement2 .given .0 in let a = asked c in Passed (call a) (length (a .args .list .now)) (a .args .table .now) (v .0) (v .1 .0)
+passed c = judged-ready (call (asked c)) _ _ _ _ (sym (c .before .before .judge .ensures) ∙ c .judgement2 .given .1)
+
+-- the run that was counted is that of the table as repair would leave it
+running : (c : tie.After-full-run) → let a = asked (ready (c .before)) .args in c .full-run .result ≡ runOf (a .collection) (repaired (a .table .now)) (a .key)
+running c = let p = c .before in run-later (passed (ready p)) (p .parent-of .ensures) (read p .root-of .ensures) (c .full-run .ensures)
+
+numbered : (c : tie.After-number) → let a = asked (ready (ran c)) in refusal (call a) (length (a .args .list .now)) (a .args .table .now) ≡ c .number .result
+numbered c = insert-number (passed (ready (ran c))) (running (c .before .before)) (c .number .ensures)
 
 abbrev told : tie.After-begin → tie.After-judgement2
 told c = ready (ran (kept c .before))
 
-begun : (c : tie.After-begin) → let a = asked (told c) .args in Begun (insertion (a .key) (a .recording) (a .access)) (a .table .now) (a .list .now) (c .begin .result) (entering (a .key) (a .recording) (a .access))
+begun : (c : tie.After-begin) → let a = asked (told c) in
+    Begun (call a) (a .args .table .now) (a .args .list .now) (c .begin .result) (entering (a .args .collection) (a .args .key) (a .args .recording) (a .args .access))
 begun c = record {
   is-sound = passed (told c) .found .is-sound;
   accepted = numbered (kept c .before) ∙ kept c .if1 .left;
   first = c .begin .ensures;
-  stores = insert-stores _ _ _ _;
+  stores = insert-stores _ _ _ _ _;
 }
 
 -- ---- the answers
@@ -73,16 +83,16 @@ enum-known-judgement-2 : tie.Need-enum-known-judgement-2
 enum-known-judgement-2 c = search needs
 
 root-of-requires : tie.Need-root-of-requires
-root-of-requires c κs = sound-header _ (passed (c .before .before) .found .is-sound)
+root-of-requires c κs = let p = passed (c .before .before) in (sound-head _ (p .found .is-sound), p .collection)
 
 parent-of-requires : tie.Need-parent-of-requires
 parent-of-requires c κs = search needs
 
 full-run-requires : tie.Need-full-run-requires
-full-run-requires c κs = (passed (ready c) .found .is-sound, read c .root-of .ensures)
+full-run-requires c κs = let p = passed (ready c) in root-sound _ _ _ (read c .root-of .ensures) (p .found .is-sound) (p .collection)
 
 number-requires : tie.Need-number-requires
-number-requires c κs = let f = passed (ready (c .before .before)) .found in (f .is-sound, f .reached-are)
+number-requires c κs = let p = passed (ready (c .before .before)) in (p .collection, (p .found .is-sound, p .found .reached-are))
 
 same-length : tie.Need-same-length
 same-length c = search needs
@@ -97,9 +107,8 @@ mend-requires : tie.Need-mend-requires
 mend-requires c κs = let f = passed (told c) .found in (f .is-sound, (f .leftover-is, mend-room (begun c)))
 
 enter-requires : tie.Need-enter-requires
-enter-requires c κs = let m = mended c in let g = m .mend .ensures in let b = begun (m .before) in let p = ran (kept (m .before) .before) in
-    let run = run-later (passed (ready p)) (asked (ready p) .args .key) (p .parent-of .ensures) (kept (m .before) .before .before .before .full-run .ensures) in
-    (mended-settled b g, (enter-enters b g, (enter-run b g run, rest-room b g)))
+enter-requires c κs = let m = mended c in let g = m .mend .ensures in let b = begun (m .before) in let run = running (kept (m .before) .before .before .before) in
+    (mended-collection b g, (mended-settled b g, (enter-enters b g, (enter-run b g run, rest-room b g))))
 
 finish-requires : tie.Need-finish-requires
 finish-requires c κs = let e = entered c in let m = mended (e .before) in finish-room (begun (m .before)) (m .mend .ensures) (e .enter .ensures)

@@ -29,26 +29,26 @@ last c = c .before .before .before .before
 -- ---- the answers
 
 root-of-requires : tie.Need-root-of-requires
-root-of-requires c κs = split-header (c .before .before .before .pre .0)
+root-of-requires c κs = let h = c .before .before .before .pre .0 in (split-header h, h .node .collection)
 
 standing-requires : tie.Need-standing-requires
-standing-requires c κs = c .before .root-of .ensures
+standing-requires c κs = search needs
 
 fresh-requires : tie.Need-fresh-requires
 fresh-requires c κs = let s = stood c in let h = entry (s .before) .pre .0 in
-    let u = lower-range h (s .standing .ensures) in (split-sound h, (read (s .before) .root-of .ensures, (u .0, u .1)))
+    let u = lower-range h (read (s .before) .root-of .ensures) (s .standing .ensures) in (split-sound h, (u .0, u .1))
 
 add-standing : tie.Need-add-standing
 add-standing c = omega (arith, split-low (entry (stood (freed c .before) .before) .pre .0))
 
 standing-requires-2 : tie.Need-standing-requires-2
-standing-requires-2 c κs = read (stood (freed c .before) .before) .root-of .ensures
+standing-requires-2 c κs = search needs
 
 split-requires : tie.Need-split-requires
 split-requires c κs = let m = above c in let f = freed (m .before) in let s = stood (f .before) in let e = entry (s .before) .pre in
-    let h = e .0 in let ea = s .standing .ensures in let eb = f .fresh .ensures in let ep = m .standing2 .ensures in
-    let a = lower-plain h ea in let p = parent-plain h ea eb ep in
-    (a .there, (a .plain, (lower-full h ea, (upper-there h ea eb ep, (p .there, (p .plain, room-as _ _ _ (split-as h ea eb ep) (e .1)))))))
+    let h = e .0 in let er = read (s .before) .root-of .ensures in let ea = s .standing .ensures in let eb = f .fresh .ensures in let ep = m .standing2 .ensures in
+    let a = lower-plain h er ea in let p = parent-plain h er ea eb ep in
+    (a .there, (a .plain, (lower-full h er ea, (upper-there h er ea eb ep, (p .there, (p .plain, room-as _ _ _ (split-as h er ea eb ep) (e .1)))))))
 
 same-length : tie.Need-same-length
 same-length c = search needs
@@ -57,8 +57,8 @@ same-length-2 : tie.Need-same-length-2
 same-length-2 c = search needs
 
 returns : tie.Need-returns
-returns c = let d = last c in let m = above (d .before) in let f = freed (m .before) in let s = stood (f .before) in
-    stored-as _ _ _ (split-as (entry (s .before) .pre .0) (s .standing .ensures) (f .fresh .ensures) (m .standing2 .ensures)) _ (d .split .ensures)
+returns c = let d = last c in let m = above (d .before) in let f = freed (m .before) in let s = stood (f .before) in let r = read (s .before) in
+    stored-as _ _ _ (split-as (entry (s .before) .pre .0) (r .root-of .ensures) (s .standing .ensures) (f .fresh .ensures) (m .standing2 .ensures)) _ (d .split .ensures)
 
 pub split-at-spec : {M : Type 1} → statement M
 split-at-spec =

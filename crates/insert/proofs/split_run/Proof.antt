@@ -3,7 +3,7 @@ use mathlib.Core.Path.{_≡_, refl}
 use native.Mathlib.Omega.{arith}
 use lib.ListN.{length}
 use Rattle.model.specs.Writes.{splits}
-use Rattle.step_laws.specs.Parts.{Ready}
+use Rattle.two_laws.specs.Parts.{Ready}
 use Rattle.orders.specs.Desk.{desk, storedAll}
 use Rattle.orders.proofs.Rest.{Rest, rest-start}
 use Rattle.insert.proofs.Splitting.{next-splittable, next-room, next-ready, next-rest, splits-done}
@@ -12,11 +12,11 @@ use Rattle.insert.proofs.split_run.Statement.{statement}
 use Rattle.insert.proofs.split_run.Tie as tie
 
 abbrev Inv-loop : tie.InvT-loop
-Inv-loop table₀ list₀ key count at₀ l₀ table list at l =
-    (length table ≡ length table₀) × (length list ≡ length list₀) × Ready l table key × Rest (splits l table key) (desk table list at) (storedAll (splits count table₀ key) (desk table₀ list₀ at₀))
+Inv-loop table₀ list₀ collection key count at₀ l₀ table list at l =
+    (length table ≡ length table₀) × (length list ≡ length list₀) × Ready l collection table key × Rest (splits collection l table key) (desk table list at) (storedAll (splits collection count table₀ key) (desk table₀ list₀ at₀))
 
 abbrev μ-loop : tie.MeasureT-loop
-μ-loop table₀ list₀ key count at₀ l₀ table list at l = l
+μ-loop table₀ list₀ collection key count at₀ l₀ table list at l = l
 
 loop-holds : tie.Need-loop-holds Inv-loop μ-loop
 loop-holds c = (refl, refl, c .before .before .pre .0, rest-start (c .before .before .pre .1))
@@ -27,7 +27,7 @@ sub-l c = search needs
 split-at-requires : tie.Need-split-at-requires Inv-loop μ-loop
 split-at-requires c κs =
     let l = c .before .before .before .loop in
-    (next-splittable _ _ (l .l) (omega arith) (l .inv .2), next-room _ _ (l .l) _ _ _ (omega arith) (l .inv .3))
+    (next-splittable _ _ _ (l .l) (omega arith) (l .inv .2), next-room _ _ _ (l .l) _ _ _ (omega arith) (l .inv .3))
 
 loop-less : tie.Need-loop-less Inv-loop μ-loop
 loop-less c = search needs
@@ -36,7 +36,7 @@ loop-again : tie.Need-loop-again Inv-loop μ-loop
 loop-again c =
     let l = c .before .before .before .before .before .before .before .before .loop in
     let q = c .before .before .before .before .split-at .ensures in
-    (search needs, search needs, next-ready _ _ (l .l) _ _ _ (omega arith) (l .inv .3) _ _ _ q (l .inv .2), next-rest _ _ (l .l) _ _ _ (omega arith) (l .inv .3) _ _ _ q)
+    (search needs, search needs, next-ready _ _ _ (l .l) _ _ _ (omega arith) (l .inv .3) _ _ _ q (l .inv .2), next-rest _ _ _ (l .l) _ _ _ (omega arith) (l .inv .3) _ _ _ q)
 
 same-length : tie.Need-same-length Inv-loop μ-loop
 same-length c = search needs
@@ -45,7 +45,7 @@ same-length-2 : tie.Need-same-length-2 Inv-loop μ-loop
 same-length-2 c = search needs
 
 returns : tie.Need-returns Inv-loop μ-loop
-returns c = let l = c .before .loop in splits-done (l .l) _ _ _ _ (omega arith) (l .inv .3)
+returns c = let l = c .before .loop in splits-done _ (l .l) _ _ _ _ (omega arith) (l .inv .3)
 
 pub split-run-spec : {M : Type 1} → statement M
 split-run-spec =

@@ -1,6 +1,6 @@
 -- `keeping::clashes` meets its contract.
 use mathlib.Core.Path.{_≡_, refl, sym, _∙_}
-use Prim.Native.Nat.{_≤_}
+use Prim.Native.Nat.{_*_, _≤_}
 use native.Mathlib.Omega.{arith}
 use lib.ListN.{length}
 use borrow.Author.Needs.{needs}
@@ -11,7 +11,7 @@ use Rattle.keeping.proofs.clashes.Tie as tie
 
 abbrev Inv-loop : tie.InvT-loop
 Inv-loop table order marks end key recording x₀ x =
-    (x ≤ end) × (end ≤ 786420) × (length order ≡ 65536) × (length marks ≡ 12288) × (clash table order marks key recording x ≡ clash table order marks key recording end)
+    (x ≤ end) × (end ≤ 12 * length order) × (length order ≤ 65535) × (length marks ≡ 12288) × (clash table order marks key recording x ≡ clash table order marks key recording end)
 
 abbrev μ-loop : tie.MeasureT-loop
 μ-loop table order marks end key recording x₀ x =
@@ -24,7 +24,7 @@ sub-x : tie.Need-sub-x Inv-loop μ-loop
 sub-x c = let t = c .loop-test .taken in omega (arith, t)
 
 has-requires : tie.Need-has-requires Inv-loop μ-loop
-has-requires c κs = let l = c .before .loop .inv in let t = c .loop-test .taken in omega (arith, t, l .0, l .1, l .3)
+has-requires c κs = let l = c .before .loop .inv in let t = c .loop-test .taken in omega (arith, t, l .0, l .1, l .2, l .3)
 
 slot-of-requires : tie.Need-slot-of-requires Inv-loop μ-loop
 slot-of-requires c κs = let l = c .before .before .before .loop .inv in let t = c .before .before .loop-test .taken in (omega (arith, t, l .0, l .1), l .2)

@@ -1,27 +1,27 @@
 -- `keeping::count_used` meets its contract.
-use Prim.Native.Nat.{_-_}
+use Prim.Native.Nat.{_-_, _≤_}
 use native.Mathlib.Omega.{arith}
+use lib.ListN.{length}
 use borrow.Author.Needs.{needs}
-use Rattle.keeping.specs.Marks.{Ready}
 use Rattle.keeping.proofs.Used.{Using, using-start, using-step, using-end}
 use Rattle.keeping.proofs.count_used.Statement.{statement}
 use Rattle.keeping.proofs.count_used.Tie as tie
 
 abbrev Inv-loop : tie.InvT-loop
-Inv-loop table order count used₀ j₀ used j =
-    (h : Ready table order count) × Using table order count h used j
+Inv-loop table order used₀ j₀ used j =
+    (length order ≤ 65535) × Using table order used j
 
 abbrev μ-loop : tie.MeasureT-loop
-μ-loop table order count used₀ j₀ used j = count - j
+μ-loop table order used₀ j₀ used j = length order - j
 
 loop-holds : tie.Need-loop-holds Inv-loop μ-loop
-loop-holds c = let h = c .before .before .pre in (h, using-start _ _ _ h)
+loop-holds c = let h = c .before .before .pre in (h, using-start _ _)
 
 mul-used-slots : tie.Need-mul-used-slots Inv-loop μ-loop
 mul-used-slots c = search needs
 
 shared-slice-read-used-slots : tie.Need-shared-slice-read-used-slots Inv-loop μ-loop
-shared-slice-read-used-slots c = let l = c .before .before .loop .inv in let t = c .before .loop-test .taken in omega (arith, l .0 .few, l .0 .long, t)
+shared-slice-read-used-slots c = let l = c .before .before .loop .inv in let t = c .before .loop-test .taken in omega (arith, l .0, t)
 
 cast-used-slots : tie.Need-cast-used-slots Inv-loop μ-loop
 cast-used-slots c = omega (arith, c .shared-slice-known3 .given (c .before .before .loop .j))
@@ -30,19 +30,19 @@ used-slots-requires : tie.Need-used-slots-requires Inv-loop μ-loop
 used-slots-requires c κs = search needs
 
 add-used : tie.Need-add-used Inv-loop μ-loop
-add-used c = let l = c .before .before .before .loop .inv in omega (arith, l .1 .most, l .1 .few, l .0 .few, c .used-slots .ensures .1)
+add-used c = let l = c .before .before .before .loop .inv in omega (arith, l .1 .most, l .1 .few, l .0, c .used-slots .ensures .1)
 
 add-j : tie.Need-add-j Inv-loop μ-loop
-add-j c = let l = c .before .before .before .loop .inv in omega (arith, l .1 .few, l .0 .few)
+add-j c = let l = c .before .before .before .loop .inv in omega (arith, l .1 .few, l .0)
 
 loop-less : tie.Need-loop-less Inv-loop μ-loop
 loop-less c = let t = c .before .before .loop-test .taken in omega (arith, t)
 
 loop-again : tie.Need-loop-again Inv-loop μ-loop
-loop-again c = let l = c .before .before .before .loop .inv in (l .0, using-step _ _ _ (l .0) _ _ (l .1) (c .before .before .loop-test .taken) _ (c .used-slots .ensures))
+loop-again c = let l = c .before .before .before .loop .inv in (l .0, using-step _ _ _ _ (l .1) (c .before .before .loop-test .taken) _ (c .used-slots .ensures))
 
 returns : tie.Need-returns Inv-loop μ-loop
-returns c = let l = c .before .loop .inv in using-end _ _ _ (l .0) _ _ (l .1) (c .loop-test .left)
+returns c = let l = c .before .loop .inv in using-end _ _ _ _ (l .1) (c .loop-test .left)
 
 pub count-used-spec : {M : Type 1} → statement M
 count-used-spec =

@@ -14,7 +14,7 @@ find-from-requires : tie.Need-find-from-requires
 find-from-requires c κs = search needs
 
 returns : tie.Need-returns
-returns c = let a = c .before .before .before .before .args in hit-chain (a .table .now) _ _ (a .recording) _ (c .before .before .first-leaf .ensures) (c .before .word-at .ensures) (c .find-from .ensures)
+returns c = let a = c .before .before .before .before .args in hit-chain (a .table .now) (a .root) _ _ (a .recording) _ (c .before .before .first-leaf .ensures) (c .before .word-at .ensures) (c .find-from .ensures)
 
 pub find-recording-spec : {M : Type 1} → statement M
 find-recording-spec =

@@ -3,8 +3,8 @@ use mathlib.Core.Path.{_≡_, refl, sym, _∙_}
 use mathlib.Core.Bool.{false≢true}
 use lib.ListN.{length}
 use borrow.Author.Needs.{needs}
-use Rattle.model.specs.Slots.{view}
-use Rattle.model.specs.Reached.{mapOf}
+use Rattle.model.specs.Slots.{viewFrom}
+use Rattle.model.specs.Reached.{mapping}
 use Rattle.model.specs.Listing.{inRangeOf}
 use Rattle.listing.specs.Taking.{sheet, begun, allTaken}
 use Rattle.listing.proofs.Pairs.{Spent, spent-after, spent-stop}
@@ -15,10 +15,10 @@ use Rattle.listing.proofs.list_leaves.Tie as tie
 abbrev Inv-loop : tie.InvT-loop
 Inv-loop table root low high out₀ p₀ leaf₀ out p leaf =
     (length out ≡ length out₀) × Spent (sheet out p)
-    × Ahead (view table) low high leaf (sheet out p) (allTaken (inRangeOf low high (mapOf table)) (begun out₀))
+    × Ahead (viewFrom table root) low high leaf (sheet out p) (allTaken (inRangeOf low high (mapping (viewFrom table root))) (begun out₀))
 
 abbrev μ-loop : tie.MeasureT-loop
-μ-loop table root low high out₀ p₀ leaf₀ out p leaf = length (onward (view table) leaf)
+μ-loop table root low high out₀ p₀ leaf₀ out p leaf = length (onward (viewFrom table root) leaf)
 
 -- the places: the start, the turn of the loop in which a leaf was read, and the record read there
 abbrev entry : tie.At-loop Inv-loop μ-loop → tie.Start Inv-loop μ-loop
@@ -34,10 +34,10 @@ abbrev window : tie.After-list-leaf Inv-loop μ-loop → tie.After-word Inv-loop
 window c = c .before .before
 
 standing-requires : tie.Need-standing-requires Inv-loop μ-loop
-standing-requires c κs = c .before .before .pre .1
+standing-requires c κs = search needs
 
 loop-holds : tie.Need-loop-holds Inv-loop μ-loop
-loop-holds c = (refl, λ e. absurd (false≢true e), ahead-first _ _ _ _ _ (begun (c .before .before .before .args .out .now)) (c .before .before .before .pre .0) (c .standing .ensures))
+loop-holds c = (refl, λ e. absurd (false≢true e), ahead-first _ _ _ _ _ _ (begun (c .before .before .before .args .out .now)) (c .before .before .before .pre) (c .standing .ensures))
 
 same-length : tie.Need-same-length Inv-loop μ-loop
 same-length c = search needs
@@ -56,7 +56,7 @@ returns-2 c =
     let r = c .before .before in
     let i = turn r in
     let l = i .before in
-    ahead-past _ _ _ _ _ _ (entry l .pre .0) _ (r .read .ensures) (i .loop-test .taken) (l .loop .inv .2) (c .if2 .taken)
+    ahead-past _ _ _ _ _ _ _ (entry l .pre) _ (r .read .ensures) (i .loop-test .taken) (l .loop .inv .2) (c .if2 .taken)
 
 word-requires : tie.Need-word-requires Inv-loop μ-loop
 word-requires c κs = search needs
@@ -69,7 +69,7 @@ loop-less c =
     let r = leaf (window (c .before .before)) in
     let i = turn r in
     let l = i .before in
-    ahead-fewer _ _ _ _ _ _ (entry l .pre .0) _ (r .read .ensures) (i .loop-test .taken) (l .loop .inv .2)
+    ahead-fewer _ _ _ _ _ _ _ (entry l .pre) _ (r .read .ensures) (i .loop-test .taken) (l .loop .inv .2)
 
 loop-again : tie.Need-loop-again Inv-loop μ-loop
 loop-again c =
@@ -80,7 +80,7 @@ loop-again c =
     let l = i .before in (
       search needs,
       spent-after _ _ _ (l .loop .inv .1) (b .list-leaf .ensures),
-      ahead-next _ _ _ _ _ _ (entry l .pre .0) _ (r .read .ensures) (i .loop-test .taken) (l .loop .inv .2) _ _ (w .word .ensures) (b .list-leaf .ensures),
+      ahead-next _ _ _ _ _ _ _ (entry l .pre) _ (r .read .ensures) (i .loop-test .taken) (l .loop .inv .2) _ _ (w .word .ensures) (b .list-leaf .ensures),
     )
 
 same-length-3 : tie.Need-same-length-3 Inv-loop μ-loop

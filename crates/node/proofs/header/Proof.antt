@@ -1,5 +1,5 @@
 -- `node::header` meets its contract.
-use Rattle.node.proofs.Answers.{header-refused, header-accepted}
+use Rattle.node.proofs.Roots.{header-refused, header-accepted}
 use borrow.Author.Needs.{needs}
 use Rattle.node.proofs.header.Statement.{statement}
 use Rattle.node.proofs.header.Tie as tie

@@ -1,51 +1,67 @@
 -- `pack::pack` meets its contract.
-use mathlib.Core.Path.{_≡_, ap, _∙_}
-use Prim.Native.Nat.{_+_, _≤_}
+use mathlib.Core.Path.{ap, _∙_}
 use native.Mathlib.Omega.{arith}
 use lib.ListN.{length}
 use borrow.Author.Needs.{needs}
-use Rattle.pack_laws.specs.Needed.{nodesAbove}
-use Rattle.pack.proofs.Raising.{room-facts, leaves-long, raised-long, packed-all}
+use Rattle.pack.proofs.Raising.{leaves-fit, leaves-back, rows-fit, raised-long, packed-all}
 use Rattle.pack.proofs.pack.Statement.{statement}
 use Rattle.pack.proofs.pack.Tie as tie
 
 leaf-count-requires : tie.Need-leaf-count-requires
 leaf-count-requires c κs = search needs
 
+mul-w : tie.Need-mul-w
+mul-w c = search needs
+
+mul-put-leaves : tie.Need-mul-put-leaves
+mul-put-leaves c = search needs
+
+sub-put-leaves : tie.Need-sub-put-leaves
+sub-put-leaves c = search needs
+
+part-put-leaves-start : tie.Need-part-put-leaves-start
+part-put-leaves-start c = search needs
+
+part-put-leaves-end : tie.Need-part-put-leaves-end
+part-put-leaves-end c = search needs
+
 put-leaves-requires : tie.Need-put-leaves-requires
-put-leaves-requires c κs = let p = c .before .before .before .pre in let f = room-facts _ _ (p .2) in let e = c .before .leaf-count .ensures in (omega (arith, p .0, f .0), omega (arith, p .0, f .1, e), e, omega (arith, p .1, f .1, e))
+put-leaves-requires c κs =
+    let p = c .before .before .before .pre in
+    let a = c .before .before .before .args in
+    leaves-fit (a .nodes .now) (a .before) (a .pairs) (a .count) (p .0) (p .2) _ (c .before .leaf-count .ensures) (p .1)
 
 put-rows-requires : tie.Need-put-rows-requires
 put-rows-requires c κs =
     let p = c .before .before .before .before .before .before .before .pre in
-    let f = room-facts _ _ (p .2) in
-    let e = c .before .before .before .before .before .leaf-count .ensures in
-    let l = leaves-long _ _ _ _ _ (p .0) (p .2) e (c .before .before .before .put-leaves .ensures) in
-    let g : c .before .before .before .before .before .leaf-count .result + nodesAbove 15
-    (c .before .before .before .before .before .leaf-count .result) ≤ c .before .before .before .before .before .before .before .args .count = rw e (f .1) in
-    (omega (arith, p .0, g, l), omega (arith, p .1, g))
+    let a = c .before .before .before .before .before .before .before .args in
+    let e = c .before .before .before .before .before .leaf-count in
+    let l = c .before .before .before .put-leaves in
+    let b = leaves-back (a .nodes .now) (a .before) (a .pairs) (a .count) (p .0) (p .2) (l .last .0) (e .result) (e .ensures) (l .ensures) in
+    rows-fit (a .nodes .now) (a .before) (a .pairs) (a .count) (p .0) (p .2) _ b (e .result) (e .ensures) (p .1)
 
 mul-clear : tie.Need-mul-clear
 mul-clear c =
     let p = c .before .before .before .before .before .before .before .before .before .before .before .pre in
-    let f = room-facts _ _ (p .2) in
-    let e = c .before .before .before .before .before .before .before .before .before .leaf-count .ensures in
-    let r = c .before .before .before .put-rows .ensures .1 in
-    let g : c .before .before .before .before .before .before .before .before .before .leaf-count .result + nodesAbove 15
-    (c .before .before .before .before .before .before .before .before .before .leaf-count .result) ≤ c .before .before .before .before .before .before .before .before .before .before .before .args .count = rw e (f .1) in
-    omega (arith, p .1, g, r)
+    let a = c .before .before .before .before .before .before .before .before .before .before .before .args in
+    let e = c .before .before .before .before .before .before .before .before .before .leaf-count in
+    let l = c .before .before .before .before .before .before .before .put-leaves in
+    let b = leaves-back (a .nodes .now) (a .before) (a .pairs) (a .count) (p .0) (p .2) (l .last .0) (e .result) (e .ensures) (l .ensures) in
+    let f = rows-fit (a .nodes .now) (a .before) (a .pairs) (a .count) (p .0) (p .2) _ b (e .result) (e .ensures) (p .1) in
+    let r = c .before .before .before .put-rows .ensures in
+    omega (arith, f, r .1)
 
 clear-requires : tie.Need-clear-requires
 clear-requires c κs =
     let p = c .before .before .before .before .before .before .before .before .before .before .before .pre in
-    let f = room-facts _ _ (p .2) in
-    let e = c .before .before .before .before .before .before .before .before .before .leaf-count .ensures in
+    let a = c .before .before .before .before .before .before .before .before .before .before .before .args in
+    let e = c .before .before .before .before .before .before .before .before .before .leaf-count in
+    let l = c .before .before .before .before .before .before .before .put-leaves in
+    let b = leaves-back (a .nodes .now) (a .before) (a .pairs) (a .count) (p .0) (p .2) (l .last .0) (e .result) (e .ensures) (l .ensures) in
+    let f = rows-fit (a .nodes .now) (a .before) (a .pairs) (a .count) (p .0) (p .2) _ b (e .result) (e .ensures) (p .1) in
     let r = c .before .before .before .put-rows .ensures in
-    let g : c .before .before .before .before .before .before .before .before .before .leaf-count .result + nodesAbove 15
-    (c .before .before .before .before .before .before .before .before .before .leaf-count .result) ≤ c .before .before .before .before .before .before .before .before .before .before .before .args .count = rw e (f .1) in
-    let l = leaves-long _ _ _ _ _ (p .0) (p .2) e (c .before .before .before .before .before .before .before .put-leaves .ensures) in
-    let m : length (c .before .before .before .put-rows .last .0) ≡ length (c .before .before .before .before .before .before .before .put-leaves .last .0) = ap length (r .0) ∙ raised-long 15 _ 0 _ 1 in
-    omega (arith, p .0, g, r .1, l, m)
+    let m = ap length (r .0) ∙ raised-long 15 _ (a .before) (e .result) 1 in
+    omega (arith, f .0, r .1, m)
 
 same-length : tie.Need-same-length
 same-length c = search needs
@@ -53,16 +69,23 @@ same-length c = search needs
 returns : tie.Need-returns
 returns c =
     let p = c .before .before .before .before .before .before .before .before .before .before .before .before .before .before .pre in
-    let f = room-facts _ _ (p .2) in
-    let e = c .before .before .before .before .before .before .before .before .before .before .before .before .leaf-count .ensures in
+    let a = c .before .before .before .before .before .before .before .before .before .before .before .before .before .before .args in
+    let e = c .before .before .before .before .before .before .before .before .before .before .before .before .leaf-count in
+    let l = c .before .before .before .before .before .before .before .before .before .before .put-leaves in
+    let b = leaves-back (a .nodes .now) (a .before) (a .pairs) (a .count) (p .0) (p .2) (l .last .0) (e .result) (e .ensures) (l .ensures) in
     let r = c .before .before .before .before .before .before .put-rows .ensures in
-    packed-all _ _ _ (p .0) (p .2) (omega (arith, f .0, p .0)) _ _ _ _ _ e (c .before .before .before .before .before .before .before .before .before .before .put-leaves .ensures) (r .0) (r .1) (c .before .before .clear .ensures)
+    packed-all (a .nodes .now) (a .before) (a .pairs) (a .count) (p .0) (p .2) _ b _ _ (e .result) _ (e .ensures) (r .0) (r .1) (c .before .before .clear .ensures)
 
 pub pack-spec : {M : Type 1} → statement M
 pack-spec =
     tie.close
     (tie.spec
     leaf-count-requires
+    mul-w
+    mul-put-leaves
+    sub-put-leaves
+    part-put-leaves-start
+    part-put-leaves-end
     put-leaves-requires
     put-rows-requires
     mul-clear

@@ -11,6 +11,12 @@ leaf-slots-requires c κs = search needs
 leaf-fence-requires : tie.Need-leaf-fence-requires
 leaf-fence-requires c κs = search needs
 
+add-next-number : tie.Need-add-next-number
+add-next-number c = search needs
+
+add-next-number-2 : tie.Need-add-next-number-2
+add-next-number-2 c = search needs
+
 next-number-requires : tie.Need-next-number-requires
 next-number-requires c κs = search needs
 
@@ -30,7 +36,7 @@ returns : tie.Need-returns
 returns c =
     let e = c .before .before .before .before in
     let a = c .before .before .before .before .before .before .before .before .before .before .before .args in
-    leaf-made _ (a .nodes .now) (a .nodes .now) _ _ (a .pairs) (a .leaves) (a .j) (32 * a .j) _ _ (e .before .before .before .before .leaf-slots .ensures) (e .before .before .leaf-fence .ensures)
+    leaf-made _ (a .nodes .now) (a .nodes .now) _ _ (a .before) (a .pairs) (a .leaves) (a .j) (32 * a .j) _ _ (e .before .before .before .before .leaf-slots .ensures) (e .before .before .leaf-fence .ensures)
     (e .before .next-number .ensures) (e .node-words .ensures) (c .before .before .put-words .ensures)
 
 pub put-leaf-spec : {M : Type 1} → statement M
@@ -39,6 +45,8 @@ put-leaf-spec =
     (tie.spec
     leaf-slots-requires
     leaf-fence-requires
+    add-next-number
+    add-next-number-2
     next-number-requires
     node-words-requires
     mul-put-words

@@ -6,15 +6,15 @@ use Rattle.pack.proofs.put_leaves.Statement.{statement}
 use Rattle.pack.proofs.put_leaves.Tie as tie
 
 abbrev Inv-loop : tie.InvT-loop
-Inv-loop nodes₀ pairs leaves j₀ nodes j =
-    Written nodes₀ pairs leaves nodes j
+Inv-loop nodes₀ before pairs leaves j₀ nodes j =
+    Written nodes₀ before pairs leaves nodes j
 
 abbrev μ-loop : tie.MeasureT-loop
-μ-loop nodes₀ pairs leaves j₀ nodes j =
+μ-loop nodes₀ before pairs leaves j₀ nodes j =
     j
 
 loop-holds : tie.Need-loop-holds Inv-loop μ-loop
-loop-holds c = let p = c .before .pre in written-start _ _ _ (p .0) (p .1) (p .2)
+loop-holds c = let p = c .before .pre in written-start _ _ _ _ (p .0) (p .1) (p .2)
 
 sub-j : tie.Need-sub-j Inv-loop μ-loop
 sub-j c = omega (arith, c .loop-test .taken)
@@ -34,13 +34,13 @@ loop-again c =
     let p = c .before .before .before .before .before .before .before .pre in
     let l = c .before .before .before .before .before .loop in
     let t = c .before .before .before .before .loop-test .taken in
-    written-step _ _ _ (p .0) (p .1) (p .2) _ _ (l .j) (l .j - 1) (omega (arith, t)) (l .inv) (c .before .before .put-leaf .ensures)
+    written-step _ _ _ _ (p .0) (p .1) (p .2) _ _ (l .j) (l .j - 1) (omega (arith, t)) (l .inv) (c .before .before .put-leaf .ensures)
 
 same-length : tie.Need-same-length Inv-loop μ-loop
 same-length c = c .before .loop .inv .long
 
 returns : tie.Need-returns Inv-loop μ-loop
-returns c = let p = c .before .before .before .pre in written-end _ _ _ (p .0) (p .1) (p .2) _ _ (omega (arith, c .loop-test .left)) (c .before .loop .inv)
+returns c = let p = c .before .before .before .pre in written-end _ _ _ _ (p .0) (p .1) (p .2) _ _ (omega (arith, c .loop-test .left)) (c .before .loop .inv)
 
 pub put-leaves-spec : {M : Type 1} → statement M
 put-leaves-spec =

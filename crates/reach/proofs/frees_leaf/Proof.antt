@@ -9,9 +9,6 @@ use Rattle.reach.proofs.frees_leaf.Tie as tie
 abbrev counted : tie.After-word → tie.Else1
 counted c = c .before
 
-abbrev start : tie.Else1 → tie.Start
-start c = c .before .before .before
-
 abbrev above : tie.After-word2 → tie.Else2
 above c = c .before
 
@@ -21,26 +18,26 @@ shown-count-requires : tie.Need-shown-count-requires
 shown-count-requires c κs = search needs
 
 returns : tie.Need-returns
-returns c = more-left _ _ _ _ (c .before .shown-count .ensures) (c .if1 .taken)
+returns c n h = more-left n _ _ _ _ (c .before .shown-count .ensures) (c .if1 .taken)
 
 word-requires : tie.Need-word-requires
 word-requires c κs = search needs
 
 returns-2 : tie.Need-returns-2
-returns-2 c =
+returns-2 c n h =
     let w = c .before in
     let e = counted w in
-    root-leaf _ _ _ _ (e .before .shown-count .ensures) (e .if1 .left) _ _ (start e .pre) (w .word .ensures) (c .if2 .taken)
+    root-leaf n _ _ _ _ (e .before .shown-count .ensures) (e .if1 .left) _ _ h (w .word .ensures) (c .if2 .taken)
 
 word-requires-2 : tie.Need-word-requires-2
 word-requires-2 c κs = search needs
 
 returns-3 : tie.Need-returns-3
-returns-3 c =
+returns-3 c n h =
     let f = above c in
     let w = f .before in
     let e = counted w in
-    not-leftmost _ _ _ _ (e .before .shown-count .ensures) (e .if1 .left) _ _ (start e .pre) (w .word .ensures) (f .if2 .left) _ (c .word2 .ensures)
+    not-leftmost n _ _ _ _ (e .before .shown-count .ensures) (e .if1 .left) _ _ h (w .word .ensures) (f .if2 .left) _ (c .word2 .ensures)
 
 pub frees-leaf-spec : {M : Type 1} → statement M
 frees-leaf-spec =

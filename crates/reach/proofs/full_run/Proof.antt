@@ -2,7 +2,7 @@
 use mathlib.Core.Path.{_≡_, _∙_}
 use Prim.Native.Nat.{_+_, _≤_}
 use native.Mathlib.Omega.{arith}
-use Rattle.model.specs.Slots.{view}
+use Rattle.model.specs.Slots.{viewFrom, view}
 use Rattle.model.specs.Search.{pathFrom, path}
 use Rattle.reach.specs.Runs.{fullIn, endRun, runFrom}
 use Rattle.reach.proofs.Members.{sound-height}
@@ -14,7 +14,8 @@ use Rattle.reach.proofs.full_run.Tie as tie
 abbrev Inv-loop : tie.InvT-loop
 Inv-loop table root key parent n₀ top level₀ count₀ n level count =
     let p = fullIn (view table) parent in
-    (top ≤ 15) × (count + level ≤ top) × (runFrom p count (pathFrom (view table) level n key) ≡ endRun p (path (view table) key))
+    let v = viewFrom table root in
+    (top ≤ 15) × (count + level ≤ top) × (runFrom p count (pathFrom (view table) level n key) ≡ endRun (fullIn v parent) (path v key))
 
 abbrev μ-loop : tie.MeasureT-loop
 μ-loop table root key parent n₀ top level₀ count₀ n level count = level
@@ -32,8 +33,8 @@ word-requires c κs = search needs
 loop-holds : tie.Need-loop-holds Inv-loop μ-loop
 loop-holds c =
     let s = c .before .before in
-    let h = sound-height _ _ _ (s .pre .0) (s .pre .1) (c .word .ensures) in
-    (h, omega arith, run-top _ _ _ _ _ (s .pre .1) (c .word .ensures))
+    let h = sound-height _ _ _ (s .pre) (c .word .ensures) in
+    (h, omega arith, run-top _ _ _ _ _ (c .word .ensures))
 
 moved-requires : tie.Need-moved-requires Inv-loop μ-loop
 moved-requires c κs = search needs
@@ -77,7 +78,7 @@ returns c =
     let m = c .before in
     let e = m .before in
     let l = e .before in
-    run-read _ _ _ _ _ _ (entry l .pre .1) (l .before .word .ensures)
+    run-read _ _ _ _ _ _ (l .before .word .ensures)
     (run-last _ _ (l .loop .n) _ _ (l .loop .count) _ (m .moved2 .ensures) (c .run-after2 .ensures) (l .loop .level) (e .loop-test .left) ∙ l .loop .inv .2)
 
 pub full-run-spec : {M : Type 1} → statement M

@@ -11,14 +11,14 @@ word-requires-2 : tie.Need-word-requires-2
 word-requires-2 c κs = search needs
 
 standing-requires : tie.Need-standing-requires
-standing-requires c κs = let s = c .before .before .before in s .pre .1
+standing-requires c κs = search needs
 
 returns : tie.Need-returns
 returns c =
     let f = c .before in
     let w = f .before in
     let s = w .before .before in
-    stands-there _ _ _ _ _ (s .pre .0) (w .word .ensures) (f .word2 .ensures) (c .standing .ensures)
+    stands-there _ _ _ _ _ _ (s .pre) (w .word .ensures) (f .word2 .ensures) (c .standing .ensures)
 
 pub is-reached-spec : {M : Type 1} → statement M
 is-reached-spec = tie.close (tie.spec word-requires word-requires-2 standing-requires returns)

@@ -1,14 +1,14 @@
 -- `reach::standing` meets its contract. The loop's invariant: the descent from here on stands on the level where the whole one does.
 use mathlib.Core.Path.{_≡_, sym, _∙_}
-use Rattle.model.specs.Slots.{view}
-use Rattle.model.specs.Writes.{standing}
+use Rattle.model.specs.Slots.{viewFrom, view}
+use Rattle.model.specs.Writes.{standingIn}
 use Rattle.reach.proofs.Descent.{nodeOn, on-here, on-lower, on-top}
 use borrow.Author.Needs.{needs}
 use Rattle.reach.proofs.standing.Statement.{statement}
 use Rattle.reach.proofs.standing.Tie as tie
 
 abbrev Inv-loop : tie.InvT-loop
-Inv-loop table root level key n₀ l₀ n l = nodeOn (view table) l n key level ≡ standing table level key
+Inv-loop table root level key n₀ l₀ n l = nodeOn (view table) l n key level ≡ standingIn (viewFrom table root) level key
 
 abbrev μ-loop : tie.MeasureT-loop
 μ-loop table root level key n₀ l₀ n l = l
@@ -21,7 +21,7 @@ word-requires : tie.Need-word-requires Inv-loop μ-loop
 word-requires c κs = search needs
 
 loop-holds : tie.Need-loop-holds Inv-loop μ-loop
-loop-holds c = let s = c .before .before in on-top _ _ _ _ _ (s .pre) (c .word .ensures)
+loop-holds c = on-top _ _ _ _ _ (c .word .ensures)
 
 moved-requires : tie.Need-moved-requires Inv-loop μ-loop
 moved-requires c κs = search needs

@@ -6,10 +6,10 @@ use Rattle.recordings.proofs.compared_once.Statement.{statement}
 use Rattle.recordings.proofs.compared_once.Tie as tie
 
 abbrev Inv-loop : tie.InvT-loop
-Inv-loop table leaf₀ left₀ leaf left = Left table leaf left
+Inv-loop table root leaf₀ left₀ leaf left = Left table root leaf left
 
 abbrev μ-loop : tie.MeasureT-loop
-μ-loop table leaf₀ left₀ leaf left = left
+μ-loop table root leaf₀ left₀ leaf left = left
 
 -- the places: the whole table, and a leaf's turn in the loop
 abbrev table : tie.After-word-at Inv-loop μ-loop → tie.Start Inv-loop μ-loop
@@ -25,7 +25,7 @@ word-at-requires : tie.Need-word-at-requires Inv-loop μ-loop
 word-at-requires c κs = search needs
 
 loop-holds : tie.Need-loop-holds Inv-loop μ-loop
-loop-holds c = left-all (table c .args .table .now) _ _ (c .before .first-leaf .ensures) (c .word-at .ensures)
+loop-holds c = left-all (table c .args .table .now) (table c .args .root) _ _ (c .before .first-leaf .ensures) (c .word-at .ensures)
 
 returns : tie.Need-returns Inv-loop μ-loop
 returns c = left-no-more (c .before .before .loop .inv) (c .if1 .taken)

@@ -1,5 +1,6 @@
 -- `recordings::enter_leaves` meets its contract. The loop keeps what entering the numbers of the leaves that are left comes to.
 use Rattle.numbers.specs.declared.Entry.the-variants.{Known, Full}
+use Rattle.model.specs.Slots.{viewFrom}
 use Rattle.numbers.specs.Cells.{enteredAll}
 use Rattle.numbers.proofs.Once.{known-last, full-last}
 use Rattle.recordings.specs.Once.{allNumbers}
@@ -10,11 +11,11 @@ use Rattle.recordings.proofs.enter_leaves.Statement.{statement}
 use Rattle.recordings.proofs.enter_leaves.Tie as tie
 
 abbrev Inv-loop : tie.InvT-loop
-Inv-loop cells₀ table low high leaf₀ left₀ cells leaf left =
-    InLeaves (inPass low high) table (enteredAll (inPass low high) (allNumbers table) cells₀) cells leaf left
+Inv-loop cells₀ table root low high leaf₀ left₀ cells leaf left =
+    InLeaves (inPass low high) table root (enteredAll (inPass low high) (allNumbers (viewFrom table root)) cells₀) cells leaf left
 
 abbrev μ-loop : tie.MeasureT-loop
-μ-loop cells₀ table low high leaf₀ left₀ cells leaf left = left
+μ-loop cells₀ table root low high leaf₀ left₀ cells leaf left = left
 
 -- the places: a leaf entered, the ways it was entered by, and its turn in the loop
 abbrev one : tie.After-slice-known2 Inv-loop μ-loop → tie.After-enter-leaf Inv-loop μ-loop
@@ -37,7 +38,7 @@ word-at-requires c κs = search needs
 
 loop-holds : tie.Need-loop-holds Inv-loop μ-loop
 loop-holds c =
-    record { wide = start c .pre; comes-to = leaves-all _ (start c .args .table .now) _ _ _ (c .before .first-leaf .ensures) (c .word-at .ensures) }
+    record { wide = start c .pre; comes-to = leaves-all _ (viewFrom (start c .args .table .now) (start c .args .root)) _ _ _ (c .before .first-leaf .ensures) (c .word-at .ensures) }
 
 same-length : tie.Need-same-length Inv-loop μ-loop
 same-length c = search needs

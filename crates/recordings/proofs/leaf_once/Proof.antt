@@ -2,6 +2,7 @@
 use Prim.Native.Nat.{_-_}
 use mathlib.Core.Path.{refl}
 use native.Mathlib.Omega.{arith}
+use Rattle.model.specs.Slots.{view}
 use Rattle.leaves.specs.Hits.{recordingsFrom}
 use Rattle.recordings.specs.Once.{numbersAlong, onceBefore}
 use Rattle.recordings.proofs.OnceLaws.{Comparing, once-end, once-repeats, once-appears, once-next}
@@ -11,7 +12,7 @@ use Rattle.recordings.proofs.leaf_once.Tie as tie
 
 abbrev Inv-loop : tie.InvT-loop
 Inv-loop table w next most count pointers i₀ i =
-    Comparing w (numbersAlong table most next) (onceBefore (recordingsFrom w 1) (numbersAlong table most next)) i
+    Comparing w (numbersAlong (view table) most next) (onceBefore (recordingsFrom w 1) (numbersAlong (view table) most next)) i
 
 abbrev μ-loop : tie.MeasureT-loop
 μ-loop table w next most count pointers i₀ i = count - i

@@ -1,6 +1,7 @@
 -- `recordings::once` meets its contract. The loop keeps that no number of the passes so far is twice.
 use Prim.Native.Nat.{_+_, _-_}
 use native.Mathlib.Omega.{arith}
+use Rattle.model.specs.Slots.{viewFrom}
 use Rattle.numbers.specs.Cells.{SPREAD}
 use Rattle.recordings.proofs.PassLaws.{Passed, pass-start, pass-more, pass-twice, pass-all}
 use borrow.Author.Needs.{needs}
@@ -8,10 +9,10 @@ use Rattle.recordings.proofs.once.Statement.{statement}
 use Rattle.recordings.proofs.once.Tie as tie
 
 abbrev Inv-loop : tie.InvT-loop
-Inv-loop table low₀ width₀ low width = Passed table low width
+Inv-loop table root low₀ width₀ low width = Passed (viewFrom table root) low width
 
 abbrev μ-loop : tie.MeasureT-loop
-μ-loop table low₀ width₀ low width = (SPREAD - low) + width
+μ-loop table root low₀ width₀ low width = (SPREAD - low) + width
 
 -- a pass's turn in the loop
 abbrev turn : tie.After-pass Inv-loop μ-loop → tie.At-loop Inv-loop μ-loop

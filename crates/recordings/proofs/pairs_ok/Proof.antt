@@ -6,10 +6,10 @@ use Rattle.recordings.proofs.pairs_ok.Statement.{statement}
 use Rattle.recordings.proofs.pairs_ok.Tie as tie
 
 abbrev Inv-loop : tie.InvT-loop
-Inv-loop table leaf₀ left₀ leaf left = LeavesLeft table leaf left
+Inv-loop table root leaf₀ left₀ leaf left = LeavesLeft table root leaf left
 
 abbrev μ-loop : tie.MeasureT-loop
-μ-loop table leaf₀ left₀ leaf left = left
+μ-loop table root leaf₀ left₀ leaf left = left
 
 first-leaf-requires : tie.Need-first-leaf-requires Inv-loop μ-loop
 first-leaf-requires c κs = search needs
@@ -18,7 +18,7 @@ word-at-requires : tie.Need-word-at-requires Inv-loop μ-loop
 word-at-requires c κs = search needs
 
 loop-holds : tie.Need-loop-holds Inv-loop μ-loop
-loop-holds c = leaves-start _ _ _ (c .before .first-leaf .ensures) (c .word-at .ensures)
+loop-holds c = leaves-start _ _ _ _ (c .before .first-leaf .ensures) (c .word-at .ensures)
 
 returns : tie.Need-returns Inv-loop μ-loop
 returns c = leaves-no-more (c .before .before .loop .inv) (c .if1 .taken)

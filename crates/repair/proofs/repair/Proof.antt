@@ -14,7 +14,7 @@ use Rattle.repair.proofs.repair.Tie as tie
 
 -- ---- the places, and what is known at them
 
-abbrev entry : tie.After-judge → tie.Start
+abbrev entry : tie.After-judge-any → tie.Start
 entry c = c .before .before .before .before
 
 abbrev refused : tie.After-known-told → tie.After-judgement
@@ -32,19 +32,19 @@ finished c = c .before .before
 abbrev asked : tie.After-begin → tie.Start
 asked c = entry (ready c .before .before)
 
-passed : (c : tie.After-begin) → let v = ready c .judgement2 .given .0 in Passed (length (asked c .args .list .now)) (asked c .args .table .now) (v .0) (v .1 .0)
-passed c = judged-ready _ _ _ _ (sym (ready c .before .before .judge .ensures) ∙ ready c .judgement2 .given .1)
+passed : (c : tie.After-begin) → let v = ready c .judgement2 .given .0 in Passed repair (length (asked c .args .list .now)) (asked c .args .table .now) (v .0) (v .1 .0)
+passed c = judged-ready repair _ _ _ _ (sym (ready c .before .before .judge-any .ensures) ∙ ready c .judgement2 .given .1)
 
 abbrev nothing : Words → List Store
 nothing t = []
 
 begun : (c : tie.After-begin) → Begun repair (asked c .args .table .now) (asked c .args .list .now) (c .begin .result) nothing
-begun c = record { is-sound = passed c .found .is-sound; accepted = ready-accepted _ _ repair _ _ (passed c) tt; first = c .begin .ensures; stores = repair-stores _ }
+begun c = record { is-sound = passed c .found .is-sound; accepted = ready-accepted repair _ _ (passed c) tt; first = c .begin .ensures; stores = repair-stores _ }
 
 -- ---- the answers
 
-judge-requires : tie.Need-judge-requires
-judge-requires c κs = search needs
+judge-any-requires : tie.Need-judge-any-requires
+judge-any-requires c κs = search needs
 
 enum-known-judgement : tie.Need-enum-known-judgement
 enum-known-judgement c = search needs
@@ -65,7 +65,7 @@ same-length : tie.Need-same-length
 same-length c = search needs
 
 returns : tie.Need-returns
-returns c = let j = refused c in judge-refuses repair _ _ _ (sym (j .before .before .judge .ensures) ∙ j .judgement .given .1)
+returns c = let j = refused c in judge-refuses repair _ _ _ (sym (j .before .before .judge-any .ensures) ∙ j .judgement .given .1)
 
 same-length-2 : tie.Need-same-length-2
 same-length-2 c = search needs
@@ -80,7 +80,7 @@ pub repair-spec : {M : Type 1} → statement M
 repair-spec =
     tie.close
     (tie.spec
-    judge-requires
+    judge-any-requires
     enum-known-judgement
     enum-known-judgement-2
     begin-requires

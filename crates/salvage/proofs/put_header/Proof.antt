@@ -2,7 +2,7 @@
 use native.Mathlib.Omega.{arith}
 use lib.ListN.{length-set}
 use borrow.Author.Needs.{needs}
-use Rattle.salvage.proofs.Rebuilt.{header-put}
+use Rattle.salvage.proofs.Call.{header-put}
 use Rattle.salvage.proofs.put_header.Statement.{statement}
 use Rattle.salvage.proofs.put_header.Tie as tie
 
@@ -34,7 +34,7 @@ same-length : tie.Need-same-length
 same-length c = search needs
 
 returns : tie.Need-returns
-returns c = header-put (c .args .out .now) (c .args .root) (c .args .top) (c .pre)
+returns c = header-put (c .args .out .now) (c .args .root) (c .args .second) (c .args .top) (c .pre)
 
 pub put-header-spec : {M : Type 1} → statement M
 put-header-spec =

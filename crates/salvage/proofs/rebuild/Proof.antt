@@ -1,36 +1,34 @@
 -- `salvage::rebuild` meets its contract.
 use mathlib.Core.Path.{_≡_}
-use Prim.Native.Nat.{_*_}
-use lib.ListN.{length}
+use Prim.Native.Nat.{_-_}
+use lib.ListN.{length, take, drop}
 use borrow.Author.Needs.{needs}
-use Rattle.salvage.proofs.Rebuilt.{out-long, part-long, put-back, nodes-long, rebuilt}
+use Rattle.salvage.proofs.Call.{out-long, part-long, put-back, rebuilt}
 use Rattle.salvage.proofs.rebuild.Statement.{statement}
 use Rattle.salvage.proofs.rebuild.Tie as tie
 
-sub-fill : tie.Need-sub-fill
-sub-fill c = let p = c .before .before .before .before .pre in let a = c .before .before .before .before .args in out-long (a .table .now) (a .out .now) (a .top) (p .0) (p .1) (p .5) .0
+sub-fill-both : tie.Need-sub-fill-both
+sub-fill-both c = let a = c .before .before .before .before .args in let p = c .before .before .before .before .pre in out-long (a .table .now) (a .order .now) (a .out .now) (a .top) (a .first) (a .all) (p .0) (p .3)
 
-part-fill-start : tie.Need-part-fill-start
-part-fill-start c = let p = c .before .before .before .before .pre in let a = c .before .before .before .before .args in out-long (a .table .now) (a .out .now) (a .top) (p .0) (p .1) (p .5) .0
+part-fill-both-start : tie.Need-part-fill-both-start
+part-fill-both-start c = let a = c .before .before .before .before .args in let p = c .before .before .before .before .pre in out-long (a .table .now) (a .order .now) (a .out .now) (a .top) (a .first) (a .all) (p .0) (p .3)
 
-part-fill-end : tie.Need-part-fill-end
-part-fill-end c = search needs
+part-fill-both-end : tie.Need-part-fill-both-end
+part-fill-both-end c = search needs
 
-fill-requires : tie.Need-fill-requires
-fill-requires c κs =
-    let p = c .before .before .before .before .before .before .pre in
+fill-both-requires : tie.Need-fill-both-requires
+fill-both-requires c κs =
     let a = c .before .before .before .before .before .before .args in
-    (p .0, p .1, p .2, p .3, p .4, part-long (a .table .now) (a .out .now) (a .top) (p .0) (p .1) (p .5), p .6, p .7)
+    let p = c .before .before .before .before .before .before .pre in
+    (p .0, p .1, p .2, part-long (a .table .now) (a .order .now) (a .out .now) (a .top) (a .first) (a .all) (p .0) (p .3), p .4)
 
 put-header-requires : tie.Need-put-header-requires
 put-header-requires c κs =
-    let p = c .before .before .before .before .before .before .before .before .before .before .before .before .pre in
     let a = c .before .before .before .before .before .before .before .before .before .before .before .before .args in
-    let w = c .before .before .before .before .before .fill .last .1 .1 .1 .1 .0 in
-    let e = c .before .before .before .before .before .fill .ensures in
-    let s = c .before .before .before .before .before .fill .result in
-    let u : length w ≡ 32 * a .top = nodes-long (a .table .now) w (a .top) (a .bound) (p .0) (p .1) (p .7) (e .0 .0) in
-    put-back (a .table .now) (a .out .now) w (a .top) (p .0) (p .1) (p .5) u .0
+    let p = c .before .before .before .before .before .before .before .before .before .before .before .before .pre in
+    let w = c .before .before .before .before .before .fill-both .last .1 .1 .1 .1 .1 .0 in
+    let u : length w ≡ length (take (length (a .out .now) - 8) (drop 8 (a .out .now))) = search needs in
+    put-back (a .table .now) (a .order .now) (a .out .now) (a .top) (a .first) (a .all) (p .0) (p .3) w u
 
 same-length : tie.Need-same-length
 same-length c = search needs
@@ -40,22 +38,25 @@ same-length-2 c = search needs
 
 returns : tie.Need-returns
 returns c =
-    let p = c .before .before .before .before .before .before .before .before .before .before .before .before .before .before .before .pre in
     let a = c .before .before .before .before .before .before .before .before .before .before .before .before .before .before .before .args in
-    let w = c .before .before .before .before .before .before .before .before .fill .last .1 .1 .1 .1 .0 in
-    let e = c .before .before .before .before .before .before .before .before .fill .ensures in
-    let s = c .before .before .before .before .before .before .before .before .fill .result in
-    let u : length w ≡ 32 * a .top = nodes-long (a .table .now) w (a .top) (a .bound) (p .0) (p .1) (p .7) (e .0 .0) in
-    (rebuilt (a .table .now) (a .out .now) w _ (s .root) (a .top) (p .0) (p .1) (p .5) u (e .0 .0) (e .0 .1) (c .before .before .put-header .ensures), (e .1 .0, e .1 .1))
+    let p = c .before .before .before .before .before .before .before .before .before .before .before .before .before .before .before .pre in
+    let f = c .before .before .before .before .before .before .before .before .fill-both in
+    let e = f .ensures in
+    let s = f .result in
+    let h = c .before .before .put-header in (
+      rebuilt (a .table .now) (a .order .now) (a .out .now) (a .top) (a .first) (a .all) (p .0) (p .3)
+          (f .last .1 .1 .1 .1 .1 .0) (h .last .0) (s .one) (s .two) (e .0) (e .1 .0) (h .ensures),
+      e .1 .1,
+    )
 
 pub rebuild-spec : {M : Type 1} → statement M
 rebuild-spec =
     tie.close
     (tie.spec
-    sub-fill
-    part-fill-start
-    part-fill-end
-    fill-requires
+    sub-fill-both
+    part-fill-both-start
+    part-fill-both-end
+    fill-both-requires
     put-header-requires
     same-length
     same-length-2

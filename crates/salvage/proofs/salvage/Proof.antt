@@ -2,7 +2,9 @@
 use mathlib.Core.Path.{refl}
 use native.Mathlib.Omega.{arith}
 use borrow.Author.Needs.{needs}
-use Rattle.salvage.proofs.Rebuilt.{header-good, header-bad, order-long, words-some, bound-grown, bound-fits, refused-header, refused-length, refused-report, refused-outgrown, salvaged}
+use Rattle.salvage.proofs.Entering.{words-some}
+use Rattle.salvage.proofs.Bounds.{grown, fits}
+use Rattle.salvage.proofs.Call.{header-good, header-bad, order-long, refused-header, refused-length, refused-report, refused-outgrown, salvaged}
 use Rattle.salvage.proofs.salvage.Statement.{statement}
 use Rattle.salvage.proofs.salvage.Tie as tie
 
@@ -51,14 +53,15 @@ slice-aggregate-most-kept : tie.Need-slice-aggregate-most-kept
 slice-aggregate-most-kept c = search needs
 
 most-kept-requires : tie.Need-most-kept-requires
-most-kept-requires c κs =
-    let a = c .before .before .before .before .before .before .before .before .before .before .before .before .args in
-    let h = header-good (a .table .now) _ (c .before .before .before .before .before .before .before .before .header .ensures) (c .before .before .before .before .before .before .before .if1 .left) in
-    let e = c .before .before .enter-nodes .ensures in
-    (h, refl, search needs, e .0, e .1)
+most-kept-requires c κs = search needs
 
-needed-requires : tie.Need-needed-requires
-needed-requires c κs = search needs
+needed-both-requires : tie.Need-needed-both-requires
+needed-both-requires c κs =
+    let o = c .before .before .before .before .before .before .before in
+    let a = o .before .before .before .before .before .before .args in
+    let h = header-good (a .table .now) _ (o .before .before .header .ensures) (o .before .if1 .left) in
+    let m = c .most-kept .ensures .0 in
+    (words-some (a .table .now) h .0, m .one-few, m .two-few)
 
 returns-4 : tie.Need-returns-4
 returns-4 c =
@@ -67,7 +70,7 @@ returns-4 c =
     let h = header-good (a .table .now) _ (o .before .before .header .ensures) (o .before .if1 .left) in
     let e = c .before .before .before .before .before .enter-nodes in
     let m = c .before .before .most-kept in
-    let g = bound-grown (a .table .now) (e .last .1 .1 .0) _ (e .result) h refl (search needs) (e .ensures .0) (e .ensures .1) (m .result) _ (c .before .needed .ensures) (m .ensures .1) (c .if4 .taken) in
+    let g = grown (a .table .now) (e .last .1 .1 .0) _ _ _ (e .ensures) (m .result .one) (m .result .two) _ (c .before .needed-both .ensures) (m .ensures .1) (c .if4 .taken) in
     refused-outgrown (a .table .now) (a .out .now) (a .report .now) h (o .if2 .left) (c .before .before .before .before .before .before .before .if3 .left) g
 
 slice-aggregate-rebuild : tie.Need-slice-aggregate-rebuild
@@ -75,15 +78,12 @@ slice-aggregate-rebuild c = search needs
 
 rebuild-requires : tie.Need-rebuild-requires
 rebuild-requires c κs =
-    let o = c .before .before .before .before .before .before .before .before .before .before .before .before in
-    let a = o .before .before .before .before .before .before .args in
-    let h = header-good (a .table .now) _ (o .before .before .header .ensures) (o .before .if1 .left) in
-    let e = c .before .before .before .before .before .before .before .before .enter-nodes in
-    let m = c .before .before .before .before .before .most-kept in
-    let n = c .before .before .before .before .needed in
-    let f = c .before .before .before .if4 .left in
-    let b = bound-fits (a .table .now) (e .last .1 .1 .0) _ (e .result) h refl (search needs) (e .ensures .0) (e .ensures .1) (m .result) _ (n .ensures) (m .ensures .1) (m .ensures .0 .0) (omega (arith, f)) in
-    (h, refl, search needs, e .ensures .0, e .ensures .1, o .if2 .left, c .before .before .before .before .before .before .before .before .before .before .if3 .left, b .0)
+    let k = c .before .before .before in
+    let o = k .before .before .before .before .before .before .before .before .before in
+    let e = k .before .before .before .before .before .enter-nodes in
+    let m = k .before .before .most-kept in
+    let b = fits (o .before .before .before .before .before .before .args .table .now) (e .last .1 .1 .0) _ _ _ (e .ensures) (m .result .one) (m .result .two) _ (k .before .needed-both .ensures) (m .ensures .1) (k .if4 .left) in
+    (e .ensures, m .ensures .0, b .0, o .if2 .left, k .before .before .before .before .before .before .before .if3 .left)
 
 same-length : tie.Need-same-length
 same-length c = search needs
@@ -93,17 +93,16 @@ same-length-2 c = search needs
 
 returns-5 : tie.Need-returns-5
 returns-5 c =
-    let o = c .before .before .before .before .before .before .before .before .before .before .before .before .before .before .before .before .before in
+    let k = c .before .before .before .before .before .before .before .before in
+    let o = k .before .before .before .before .before .before .before .before .before in
     let a = o .before .before .before .before .before .before .args in
     let h = header-good (a .table .now) _ (o .before .before .header .ensures) (o .before .if1 .left) in
-    let e = c .before .before .before .before .before .before .before .before .before .before .before .before .before .enter-nodes in
-    let m = c .before .before .before .before .before .before .before .before .before .before .most-kept in
-    let n = c .before .before .before .before .before .before .before .before .before .needed in
-    let f = c .before .before .before .before .before .before .before .before .if4 .left in
-    let b = bound-fits (a .table .now) (e .last .1 .1 .0) _ (e .result) h refl (search needs) (e .ensures .0) (e .ensures .1) (m .result) _ (n .ensures) (m .ensures .1) (m .ensures .0 .0) (omega (arith, f)) in
-    let r = c .before .before .before .before .rebuild .ensures in
-    let k = c .before .before .before .before .before .before .before .before .before .before .before .before .before .before .before .if3 .left in
-    salvaged (a .table .now) (a .out .now) (a .report .now) h (o .if2 .left) k (b .1) _ _ _ (r .0) (r .1 .0) (r .1 .1)
+    let e = k .before .before .before .before .before .enter-nodes in
+    let m = k .before .before .most-kept in
+    let b = fits (a .table .now) (e .last .1 .1 .0) _ _ _ (e .ensures) (m .result .one) (m .result .two) _ (k .before .needed-both .ensures) (m .ensures .1) (k .if4 .left) in
+    let r = c .before .before .before .before .rebuild in
+    salvaged (a .table .now) (a .out .now) (a .report .now) h (o .if2 .left) (k .before .before .before .before .before .before .before .if3 .left) (b .1) (r .result) (r .last .1 .1 .1 .1 .1 .0)
+    (r .last .1 .1 .1 .1 .1 .1 .1 .0) (r .ensures .0) (r .ensures .1)
 
 pub salvage-spec : {M : Type 1} → statement M
 salvage-spec =
@@ -119,7 +118,7 @@ salvage-spec =
     enter-nodes-requires
     slice-aggregate-most-kept
     most-kept-requires
-    needed-requires
+    needed-both-requires
     returns-4
     slice-aggregate-rebuild
     rebuild-requires

@@ -1,13 +1,13 @@
 -- `script::first_table` meets its contract.
 use mathlib.Core.Path.{_≡_, refl, _∙_}
 use lib.ListN.{replicate}
-use Rattle.model.specs.Table.{lengthOk, tableLength, nodesFor, empty, made}
+use Rattle.model.specs.Table.{lengthOk, tableLength, nodesFor, empty, emptyOf, makeNumber, made}
 use borrow.Author.Needs.{needs}
 use Rattle.script.proofs.first_table.Statement.{statement}
 use Rattle.script.proofs.first_table.Tie as tie
 
-made-four : made (replicate 136 0) ≡ empty 4
-unfolding made lengthOk tableLength nodesFor
+made-four : made 1 (replicate 136 0) ≡ empty 4
+unfolding made makeNumber emptyOf lengthOk tableLength nodesFor
 made-four = refl
 
 slice-aggregate-make : tie.Need-slice-aggregate-make

@@ -1,4 +1,5 @@
 -- `shift::new_root` meets its contract, step by step.
+use mathlib.Core.Path.{refl}
 use native.Mathlib.Omega.{arith}
 use Rattle.shift.proofs.AtNode.{node-fits}
 use Rattle.shift.proofs.Splitting.{level-is, root-words, root-link, root-done}
@@ -12,7 +13,7 @@ abbrev to-entry : tie.After-start → tie.Start
 to-entry c = c .before .before .before .before
 
 abbrev to-start : tie.After-word → tie.After-start
-to-start c = c .before .before
+to-start c = c .before .before .before
 
 abbrev to-word : tie.After-put-words-arg2 → tie.After-word
 to-word c = c .before .before
@@ -20,13 +21,19 @@ to-word c = c .before .before
 abbrev to-put-words : tie.After-store-arg2 → tie.After-put-words
 to-put-words c = c .before .before .before .before .before .before
 
-abbrev to-store : tie.After-slice-known6 → tie.After-store
+abbrev to-store : tie.After-slice-known7 → tie.After-store
 to-store c = c .before .before .before .before
 
 -- ---- the answers
 
 start-requires : tie.Need-start-requires
 start-requires c κs = search needs
+
+mul-root : tie.Need-mul-root
+mul-root c = search needs
+
+slice-read-root : tie.Need-slice-read-root
+slice-read-root c = let after-start = c .before in omega (arith, node-fits _ _ _ (to-entry after-start .pre .1 .0) (after-start .start .ensures), to-entry after-start .pre .0)
 
 word-requires : tie.Need-word-requires
 word-requires c κs = search needs
@@ -38,7 +45,7 @@ add-words : tie.Need-add-words
 add-words c =
     let after-start = to-start c in
     let entry = to-entry after-start in
-    omega (arith, level-is _ _ _ _ _ (entry .pre .0) (entry .pre .1 .0) (after-start .start .ensures) (c .word .ensures), entry .pre .1 .1 .0)
+    omega (arith, level-is _ _ _ _ _ _ refl (entry .pre .1 .0) (after-start .start .ensures) (c .word .ensures), entry .pre .1 .1 .0)
 
 array-write-words-2 : tie.Need-array-write-words-2
 array-write-words-2 c = search needs
@@ -48,7 +55,7 @@ put-words-requires c κs =
     let after-word = to-word c in
     let after-start = to-start after-word in
     let entry = to-entry after-start in
-    (node-fits _ _ _ (entry .pre .1 .0) (after-start .start .ensures), root-words _ _ _ _ _ (entry .pre .0) (entry .pre .1 .0) (after-start .start .ensures) (after-word .word .ensures) _ (entry .pre .1 .1 .1))
+    (node-fits _ _ _ (entry .pre .1 .0) (after-start .start .ensures), root-words _ _ _ _ _ _ refl (entry .pre .1 .0) (after-start .start .ensures) (after-word .word .ensures) _ (entry .pre .1 .1 .1))
 
 store-requires : tie.Need-store-requires
 store-requires c κs =
@@ -56,7 +63,7 @@ store-requires c κs =
     let after-word = to-word (after-put-words .before) in
     let after-start = to-start after-word in
     let entry = to-entry after-start in
-    root-link _ _ _ _ _ (entry .pre .0) (entry .pre .1 .0) (after-start .start .ensures) (after-word .word .ensures) _ (entry .pre .1 .1 .1) _ (after-put-words .put-words .ensures)
+    root-link _ _ _ _ _ _ refl (entry .pre .1 .0) (after-start .start .ensures) (after-word .word .ensures) _ (entry .pre .1 .1 .1) _ (after-put-words .put-words .ensures)
 
 same-length : tie.Need-same-length
 same-length c = search needs
@@ -71,13 +78,15 @@ returns c =
     let after-word = to-word (after-put-words .before) in
     let after-start = to-start after-word in
     let entry = to-entry after-start in
-    root-done _ _ _ _ _ (entry .pre .0) (entry .pre .1 .0) (after-start .start .ensures) (after-word .word .ensures) _ (entry .pre .1 .1 .1) _ (after-put-words .put-words .ensures) _ (after-store .store .ensures)
+    root-done _ _ _ _ _ _ refl (entry .pre .1 .0) (after-start .start .ensures) (after-word .word .ensures) _ (entry .pre .1 .1 .1) _ (after-put-words .put-words .ensures) _ (after-store .store .ensures)
 
 pub new-root-spec : {M : Type 1} → statement M
 new-root-spec =
     tie.close
     (tie.spec
     start-requires
+    mul-root
+    slice-read-root
     word-requires
     array-write-words
     add-words

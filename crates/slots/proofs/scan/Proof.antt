@@ -1,35 +1,29 @@
--- `slots::scan` meets its contract. The loop keeps that the slots from i on, with the way and the pointer so far, tell what all of them do.
-use Prim.Native.Nat.{ℕ, _≤_, _-_}
-use mathlib.Core.Path.{_≡_, sym, _∙_}
-use mathlib.Core.Bool.{cond}
-use mathlib.Core.List.{List}
+-- `slots::scan` meets its contract. The loop keeps that the slots from i on say, after what was seen so far, what all of them do.
+use Prim.Native.Nat.{_≤_, _-_}
+use mathlib.Core.Path.{_≡_, ap, sym, _∙_}
+use mathlib.Core.List.{List, []}
 use native.Mathlib.Omega.{arith}
-use lib.Dec.{eqb}
 use lib.ListN.{length}
 use Rattle.model.specs.Slots.{Slot, shown}
-use Rattle.model.specs.Search.{route, firstWith}
-use Rattle.slots.specs.Held.{pointerIn}
-use Rattle.slots.specs.Scan.{shownFrom}
-use Rattle.slots.proofs.Scans.{scan-past, scan-stop, scan-more}
-use Rattle.slots.proofs.Kept.{way-none, way-more, pointer-none, pointer-more}
+use Rattle.slots.specs.declared.Seen.{Seen}
+use Rattle.slots.specs.Scan.{usedFrom}
+use Rattle.slots.proofs.Scans.{scan-stop, scan-more}
+use Rattle.slots.proofs.Kept.{seenAfter, seen-none, seen-more}
 use borrow.Author.Needs.{needs}
 use Rattle.slots.proofs.scan.Statement.{statement}
 use Rattle.slots.proofs.scan.Tie as tie
 
 abbrev Inv-loop : tie.InvT-loop
-Inv-loop left key slots way₀ held₀ before₀ i₀ way held before i =
-    (i ≤ 12) × (length slots ≡ 24) × (route key way (shownFrom before slots i) ≡ route key left (shownFrom left slots 0))
-    × (cond (eqb held 0) (pointerIn (firstWith key (shownFrom before slots i))) held ≡ pointerIn (firstWith key (shownFrom left slots 0)))
+Inv-loop left key end slots way₀ held₀ before₀ i₀ way held before i =
+    (i ≤ end) × (end ≤ 12) × (usedFrom slots end ≡ []) × (length slots ≡ 24)
+    × (seenAfter key way held (shown before (usedFrom slots i)) ≡ seenAfter key left 0 (shown left (usedFrom slots 0)))
 
 abbrev μ-loop : tie.MeasureT-loop
-μ-loop left key slots way₀ held₀ before₀ i₀ way held before i = 12 - i
+μ-loop left key end slots way₀ held₀ before₀ i₀ way held before i = end - i
 
--- what the way, and the pointer, so far and slots come to
-abbrev leads : tie.At-loop Inv-loop μ-loop → List Slot → ℕ
-leads c ss = let l = c .loop in route (c .before .args .key) (l .way) (shown (l .before) ss)
-
-abbrev holds : tie.At-loop Inv-loop μ-loop → List Slot → ℕ
-holds c ss = let l = c .loop in cond (eqb (l .held) 0) (pointerIn (firstWith (c .before .args .key) (shown (l .before) ss))) (l .held)
+-- what was seen so far and slots come to
+abbrev says : tie.At-loop Inv-loop μ-loop → List Slot → Seen
+says c ss = let l = c .loop in seenAfter (c .before .args .key) (l .way) (l .held) (shown (l .before) ss)
 
 loop-holds : tie.Need-loop-holds Inv-loop μ-loop
 loop-holds c = search needs
@@ -48,10 +42,9 @@ array-read-p c = search needs
 
 returns : tie.Need-returns Inv-loop μ-loop
 returns c =
-    let l = c .before .before in (
-      sym (way-none _ _ (l .loop .before)) ∙ scan-stop (leads l) _ (l .loop .i) (l .loop .inv .2) (omega arith) (c .if1 .taken),
-      sym (pointer-none _ _ (l .loop .before)) ∙ scan-stop (holds l) _ (l .loop .i) (l .loop .inv .3) (omega arith) (c .if1 .taken),
-    )
+    let l = c .before .before in
+    let e = sym (seen-none _ (l .loop .way) (l .loop .held) (l .loop .before)) ∙ scan-stop (says l) _ (l .loop .i) (l .loop .inv .4) (omega arith) (c .if1 .taken) in
+    (ap (λ (s : Seen). s .way) e, ap (λ (s : Seen). s .held) e)
 
 mul-k : tie.Need-mul-k Inv-loop μ-loop
 mul-k c = search needs
@@ -77,20 +70,21 @@ loop-less c = search needs
 loop-again : tie.Need-loop-again Inv-loop μ-loop
 loop-again c =
     let w = c .before in
-    let n = w .before .if1 .left in
     let l = w .before .before .before in (
       omega arith,
       l .loop .inv .1,
-      scan-more (leads l) _ (l .loop .i) (l .loop .inv .2) (omega arith) n (way-more _ _ _ _ _ _ _ (w .way-after .ensures)),
-      scan-more (holds l) _ (l .loop .i) (l .loop .inv .3) (omega arith) n (pointer-more _ _ _ _ _ _ _ n (c .held-after .ensures)),
+      l .loop .inv .2,
+      l .loop .inv .3,
+      scan-more (says l) _ (l .loop .i) (l .loop .inv .4) (omega arith) (w .before .if1 .left)
+          (seen-more _ _ _ _ _ _ _ _ _ (w .before .if1 .left) (w .way-after .ensures) (c .held-after .ensures)),
     )
 
 returns-2 : tie.Need-returns-2 Inv-loop μ-loop
 returns-2 c =
-    let l = c .before in (
-      sym (way-none _ _ (l .loop .before)) ∙ scan-past (leads l) _ (l .loop .i) (l .loop .inv .2) (omega arith),
-      sym (pointer-none _ _ (l .loop .before)) ∙ scan-past (holds l) _ (l .loop .i) (l .loop .inv .3) (omega arith),
-    )
+    let l = c .before in
+    let i : l .loop .i ≡ l .before .args .end = omega arith in
+    let e = sym (seen-none _ (l .loop .way) (l .loop .held) (l .loop .before)) ∙ sym (ap (says l) (ap (usedFrom _) i ∙ l .loop .inv .2)) ∙ l .loop .inv .4 in
+    (ap (λ (s : Seen). s .way) e, ap (λ (s : Seen). s .held) e)
 
 pub scan-spec : {M : Type 1} → statement M
 scan-spec =

@@ -1,33 +1,80 @@
 -- `sound::check` meets its contract.
 use mathlib.Core.Path.{_≡_, sym, _∙_}
 use mathlib.Core.Bool.{true}
-use Rattle.model.specs.Table.{headerOk}
-use borrow.Author.Tests.{not-true, not-false}
-use Rattle.sound.proofs.JudgeLaws.{Found, header-ok, wrong-header, wrong-walk, wrong-leftover, wrong-room, wrong-recordings, all-right}
+use mathlib.Core.Logic.{_≢_}
+use native.Mathlib.Omega.{arith}
+use Rattle.model.specs.Table.{Words, at, headerOk}
+use Rattle.model.specs.Slots.{viewOf}
+use Rattle.walk_laws.specs.Chain.{lastLeaf}
+use Rattle.sound.specs.Checked.{checkedTree}
+use Rattle.sound.proofs.JudgeLaws.{tree-sound}
+use Rattle.sound.proofs.TreesLaws.{BothSound, tree-at, leaf-at, header-ok, wrong-header, one-tree, first-wrong, second-wrong, few-reached, same-leaf, both-trees}
 use borrow.Author.Needs.{needs}
 use Rattle.sound.proofs.check.Statement.{statement}
 use Rattle.sound.proofs.check.Tie as tie
 
--- the places: the table walked, what the walk met, the verdict on it, the leftover allowed
-abbrev walked : tie.After-seen → tie.After-walk
-walked c = c .before .before
+-- the places: the header passed, the first tree checked, two trees, both checked, both sound
+abbrev passed : tie.After-check-tree → tie.Else1
+passed c = c .before .before .before
 
-abbrev seen : tie.After-judge → tie.After-seen
-seen c = c .before .before
+abbrev first : tie.Else2 → tie.After-check-tree
+first c = c .before
 
-abbrev judged : tie.After-verdict → tie.After-judge
-judged c = c .before .before
+abbrev two : tie.After-one → tie.Else2
+two c = c .before .before
 
-abbrev allowed : tie.After-has-room → tie.After-verdict
-allowed c = c .before .before
+abbrev one-sound : tie.After-check-tree2 → tie.After-one
+one-sound c = c .before .before
 
-header : (c : tie.Else1) → headerOk (c .before .before .before .args .table .now) ≡ true
+abbrev both : tie.After-two → tie.After-check-tree2
+both c = c .before .before
+
+abbrev leaf : tie.After-last-leaf2 → tie.After-last-leaf
+leaf c = c .before
+
+abbrev both-sound : tie.After-last-leaf2 → tie.After-two
+both-sound c = leaf c .before .before
+
+abbrev start : tie.Else1 → tie.Start
+start c = c .before .before .before
+
+abbrev table : tie.Else1 → Words
+table c = start c .args .table .now
+
+header : (c : tie.Else1) → headerOk (table c) ≡ true
 header c = header-ok _ _ (c .before .header .ensures) (c .if1 .left)
 
-abbrev found : (c : tie.After-judge) → Found (walked (seen c) .before .before .before .before .args .table .now) (c .judge .result)
-found c =
-    let w = walked (seen c) in
-    record { count = _; unfinished = _; header = header (w .before); walked = sym (w .walk .ensures) ∙ seen c .seen .given .1; verdict = c .judge .ensures }
+-- what the checks of the trees answered
+first-is : (c : tie.After-check-tree) → checkedTree (viewOf 1 (table (passed c))) ≡ c .check-tree .result
+first-is c = tree-at (table (passed c)) 1 _ (c .before .before .word-at .ensures) _ (c .check-tree .ensures)
+
+second-is : (c : tie.After-check-tree2) → checkedTree (viewOf 2 (table (passed (first (two (one-sound c)))))) ≡ c .check-tree2 .result
+second-is c = let f = first (two (one-sound c)) in tree-at (table (passed f)) 3 _ (f .before .word-at2 .ensures) _ (c .check-tree2 .ensures)
+
+there : (c : tie.Else2) → at (table (passed (first c))) 3 ≢ 0
+there c z = c .if2 .left (first c .before .word-at2 .ensures ∙ z)
+
+-- both trees are sound
+abbrev whole : tie.After-two → Words
+whole c = table (passed (first (two (one-sound (both c)))))
+
+both-are : (c : tie.After-two)
+    → let o = one-sound (both c) in BothSound (whole c) (o .one .given .0 .0) (c .two .given .0 .0) (o .one .given .0 .1 .0) (c .two .given .0 .1 .0)
+both-are c =
+    let o = one-sound (both c) in
+    let s = two o in
+    record {
+      header = header (passed (first s));
+      there = there s;
+      one = tree-sound _ _ _ (first-is (first s) ∙ o .one .given .1);
+      two = tree-sound _ _ _ (second-is (both c) ∙ c .two .given .1);
+    }
+
+first-leaf : (c : tie.After-last-leaf2) → leaf c .last-leaf .result ≡ lastLeaf (viewOf 1 (whole (both-sound c)))
+first-leaf c = leaf-at (whole (both-sound c)) 1 _ (first (two (one-sound (both (both-sound c)))) .before .before .word-at .ensures) _ (leaf c .last-leaf .ensures)
+
+second-leaf : (c : tie.After-last-leaf2) → c .last-leaf2 .result ≡ lastLeaf (viewOf 2 (whole (both-sound c)))
+second-leaf c = leaf-at (whole (both-sound c)) 3 _ (first (two (one-sound (both (both-sound c)))) .before .word-at2 .ensures) _ (c .last-leaf2 .ensures)
 
 header-requires : tie.Need-header-requires
 header-requires c κs = search needs
@@ -35,52 +82,64 @@ header-requires c κs = search needs
 returns : tie.Need-returns
 returns c = wrong-header _ _ (c .before .header .ensures) (c .if1 .taken)
 
-walk-requires : tie.Need-walk-requires
-walk-requires c κs = header c
+word-at-requires : tie.Need-word-at-requires
+word-at-requires c κs = search needs
+
+word-at-requires-2 : tie.Need-word-at-requires-2
+word-at-requires-2 c κs = search needs
+
+check-tree-requires : tie.Need-check-tree-requires
+check-tree-requires c κs = header (c .before .before)
+
+returns-2 : tie.Need-returns-2
+returns-2 c =
+    let f = c .before in
+    sym (first-is f) ∙ one-tree _ (header (passed f)) (sym (f .before .word-at2 .ensures) ∙ c .if2 .taken)
 
 enum-told : tie.Need-enum-told
 enum-told c = search needs
 
-enum-known-seen : tie.Need-enum-known-seen
-enum-known-seen c = search needs
+enum-known-one : tie.Need-enum-known-one
+enum-known-one c = search needs
 
-judge-requires : tie.Need-judge-requires
-judge-requires c κs = search needs
+check-tree-requires-2 : tie.Need-check-tree-requires-2
+check-tree-requires-2 c κs = header (passed (first (two (c .before))))
 
 enum-told-2 : tie.Need-enum-told-2
 enum-told-2 c = search needs
 
-enum-known-verdict : tie.Need-enum-known-verdict
-enum-known-verdict c = search needs
+enum-known-two : tie.Need-enum-known-two
+enum-known-two c = search needs
 
-has-room-requires : tie.Need-has-room-requires
-has-room-requires c κs = search needs
+last-leaf-requires : tie.Need-last-leaf-requires
+last-leaf-requires c κs = search needs
 
-returns-2 : tie.Need-returns-2
-returns-2 c =
-    let a = allowed (c .before) in
-    wrong-room (found (judged a)) _ (a .verdict .given .1) (sym (c .before .has-room .ensures) ∙ not-true _ (c .if2 .taken))
-
-ok-requires : tie.Need-ok-requires
-ok-requires c κs = search needs
+last-leaf-requires-2 : tie.Need-last-leaf-requires-2
+last-leaf-requires-2 c κs = search needs
 
 returns-3 : tie.Need-returns-3
-returns-3 c =
-    let a = allowed (c .before .before .before) in
-    wrong-recordings (found (judged a)) _ (a .verdict .given .1) (sym (c .before .ok .ensures) ∙ not-true _ (c .if3 .taken))
+returns-3 c = let l = c .before in same-leaf (both-are (both-sound l)) (sym (first-leaf l) ∙ c .if3 .taken ∙ second-leaf l)
+
+add-joined : tie.Need-add-joined
+add-joined c = omega (arith, few-reached (both-are (both-sound (c .before))))
+
+joined-requires : tie.Need-joined-requires
+joined-requires c κs = search needs
 
 returns-4 : tie.Need-returns-4
-returns-4 c = let w = c .before .before in wrong-walk _ (header (w .before)) _ (w .walk .ensures) (c .enum-told .given .1)
+returns-4 c = let s = c .before .before in first-wrong _ (header (passed (first s))) (there s) (first-is (first s) ∙ c .enum-told .given .1)
 
 returns-5 : tie.Need-returns-5
-returns-5 c = wrong-leftover (found (c .before .before)) (c .enum-told2 .given .1)
+returns-5 c =
+    let b = c .before .before in
+    let s = two (one-sound b) in
+    second-wrong _ (header (passed (first s))) (there s) (second-is b ∙ c .enum-told2 .given .1)
 
 returns-6 : tie.Need-returns-6
 returns-6 c =
-    let r = c .before .before .before in
-    let a = allowed r in
-    all-right (found (judged a)) _ (a .verdict .given .1) (sym (r .has-room .ensures) ∙ not-false _ (c .before .before .if2 .left))
-    (sym (c .before .ok .ensures) ∙ not-false _ (c .if3 .left))
+    let e = c .before in
+    let l = e .before in
+    c .joined .ensures ∙ both-trees (both-are (both-sound l)) (λ q. e .if3 .left (first-leaf l ∙ q ∙ sym (second-leaf l)))
 
 pub check-spec : {M : Type 1} → statement M
 check-spec =
@@ -88,16 +147,20 @@ check-spec =
     (tie.spec
     header-requires
     returns
-    walk-requires
-    enum-told
-    enum-known-seen
-    judge-requires
-    enum-told-2
-    enum-known-verdict
-    has-room-requires
+    word-at-requires
+    word-at-requires-2
+    check-tree-requires
     returns-2
-    ok-requires
+    enum-told
+    enum-known-one
+    check-tree-requires-2
+    enum-told-2
+    enum-known-two
+    last-leaf-requires
+    last-leaf-requires-2
     returns-3
+    add-joined
+    joined-requires
     returns-4
     returns-5
     returns-6)

@@ -1,15 +1,11 @@
 -- `write::has_key` meets its contract.
-use Rattle.tree_laws.proofs.Levels.{sound-header}
 use Rattle.write.proofs.Judging.{key-absent, key-found}
 use borrow.Author.Needs.{needs}
 use Rattle.write.proofs.has_key.Statement.{statement}
 use Rattle.write.proofs.has_key.Tie as tie
 
-root-of-requires : tie.Need-root-of-requires
-root-of-requires c κs = sound-header _ (c .before .pre)
-
 standing-requires : tie.Need-standing-requires
-standing-requires c κs = c .root-of .ensures
+standing-requires c κs = search needs
 
 read-requires : tie.Need-read-requires
 read-requires c κs = search needs
@@ -27,19 +23,18 @@ returns : tie.Need-returns
 returns c =
     let f = c .before .before in
     let r = f .before .before in
-    key-found _ _ _ _ _ (r .before .before .before .before .pre) (r .before .standing .ensures) (r .read .ensures) (f .find .ensures) _ (c .enum-told .given .1)
+    key-found _ _ _ _ _ _ (r .before .before .before .pre) (r .before .standing .ensures) (r .read .ensures) (f .find .ensures) _ (c .enum-told .given .1)
 
 returns-2 : tie.Need-returns-2
 returns-2 c =
     let f = c .before .before in
     let r = f .before .before in
-    key-absent _ _ _ _ _ (r .before .before .before .before .pre) (r .before .standing .ensures) (r .read .ensures) (f .find .ensures) (c .enum-told2 .given .1)
+    key-absent _ _ _ _ _ _ (r .before .before .before .pre) (r .before .standing .ensures) (r .read .ensures) (f .find .ensures) (c .enum-told2 .given .1)
 
 pub has-key-spec : {M : Type 1} → statement M
 has-key-spec =
     tie.close
     (tie.spec
-    root-of-requires
     standing-requires
     read-requires
     find-requires

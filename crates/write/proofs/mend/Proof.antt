@@ -2,7 +2,7 @@
 use mathlib.Core.Path.{sym}
 use Rattle.orders.proofs.Steps.{storedAll-nil}
 use Rattle.orders.proofs.Rest.{room-as, stored-as}
-use Rattle.write.proofs.Mending.{nothing-stores, close-stores, close-there, attach-stores, cut-attach-stores, attach-plain, both-stores, both-there, closed-plain, closed-room, closed-attached}
+use Rattle.write.proofs.Mending.{nothing-stores, close-stores, close-there, attach-stores, cut-attach-stores, attach-plain, both-stores, parent-there, closed-plain, closed-room, closed-attached}
 use Rattle.orders.proofs.Rooms.{room-first}
 use borrow.Author.Needs.{needs}
 use Rattle.write.proofs.mend.Statement.{statement}
@@ -89,7 +89,7 @@ enum-known-left-3 c = search needs
 
 close-requires-2 : tie.Need-close-requires-2
 close-requires-2 c κs = let l = both c in let e = entry₃ l .pre in let q = l .left3 .given .1 in
-    (both-there _ _ (e .0) (e .1 .0) _ _ q, room-first _ _ _ (room-as _ _ _ (both-stores _ _ (e .0) (e .1 .0) _ _ q) (e .1 .1)))
+    (parent-there _ _ (e .0) (e .1 .0) _ _ q, room-first _ _ _ (room-as _ _ _ (both-stores _ _ (e .0) (e .1 .0) _ _ q) (e .1 .1)))
 
 attach-requires-2 : tie.Need-attach-requires-2
 attach-requires-2 c κs = let s = closed c in let l = both (s .before) in let e = entry₃ l .pre in let q = l .left3 .given .1 in

@@ -1,0 +1,53 @@
+-- `leaves::last_leaf` meets its contract. The loop keeps the leaf that the last child leads to from the present node.
+use mathlib.Core.Path.{_≡_, _∙_}
+use Rattle.model.specs.Slots.{viewFrom}
+use Rattle.walk_laws.specs.Chain.{rightmost, lastLeaf}
+use native.Mathlib.Omega.{arith}
+use Rattle.leaves.proofs.HitLaws.{last-below, last-here, last-down}
+use borrow.Author.Needs.{needs}
+use Rattle.leaves.proofs.last_leaf.Statement.{statement}
+use Rattle.leaves.proofs.last_leaf.Tie as tie
+
+abbrev Inv-loop : tie.InvT-loop
+Inv-loop table root n₀ level₀ n level = rightmost (viewFrom table root) level n ≡ lastLeaf (viewFrom table root)
+
+abbrev μ-loop : tie.MeasureT-loop
+μ-loop table root n₀ level₀ n level = level
+
+word-requires : tie.Need-word-requires Inv-loop μ-loop
+word-requires c κs = search needs
+
+loop-holds : tie.Need-loop-holds Inv-loop μ-loop
+loop-holds c = last-below _ _ _ (c .word .ensures)
+
+last-child-requires : tie.Need-last-child-requires Inv-loop μ-loop
+last-child-requires c κs = search needs
+
+sub-level : tie.Need-sub-level Inv-loop μ-loop
+sub-level c = search needs
+
+loop-less : tie.Need-loop-less Inv-loop μ-loop
+loop-less c = search needs
+
+loop-again : tie.Need-loop-again Inv-loop μ-loop
+loop-again c =
+    let a = c .before .before .before .before .before .args in
+    let l = c .before .before .loop in
+    last-down (a .table .now) (a .root) (l .n) (l .level) _ (c .before .loop-test .taken) (c .last-child .ensures) ∙ l .inv
+
+returns : tie.Need-returns Inv-loop μ-loop
+returns c = last-here _ (c .before .loop .level) _ _ (omega arith) (c .before .loop .inv)
+
+pub last-leaf-spec : {M : Type 1} → statement M
+last-leaf-spec =
+    tie.close
+    (tie.spec
+    Inv-loop
+    μ-loop
+    word-requires
+    loop-holds
+    last-child-requires
+    sub-level
+    loop-less
+    loop-again
+    returns)

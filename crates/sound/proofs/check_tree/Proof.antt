@@ -1,0 +1,106 @@
+-- `sound::check_tree` meets its contract.
+use mathlib.Core.Path.{_≡_, sym, _∙_}
+use Rattle.model.specs.Table.{root}
+use Rattle.model.specs.Slots.{View, viewFrom}
+use Rattle.model.specs.SoundTest.{hasRoom}
+use Rattle.sound.specs.Checked.{meant}
+use borrow.Author.Tests.{not-true, not-false}
+use Rattle.sound.proofs.JudgeLaws.{room-any, Found, wrong-walk, wrong-leftover, wrong-room, wrong-recordings, all-right}
+use borrow.Author.Needs.{needs}
+use Rattle.sound.proofs.check_tree.Statement.{statement}
+use Rattle.sound.proofs.check_tree.Tie as tie
+
+-- the places: the table walked, what the walk met, the verdict on it, the leftover allowed
+abbrev walked : tie.After-seen → tie.After-walk
+walked c = c .before .before
+
+abbrev seen : tie.After-judge → tie.After-seen
+seen c = c .before .before
+
+abbrev judged : tie.After-verdict → tie.After-judge
+judged c = c .before .before
+
+abbrev allowed : tie.After-has-room → tie.After-verdict
+allowed c = c .before .before
+
+abbrev start : tie.After-walk → tie.Start
+start c = c .before .before
+
+abbrev tree : tie.After-walk → View
+tree c = let a = start c .args in viewFrom (a .table .now) (a .root)
+
+abbrev found : (c : tie.After-judge) → Found (tree (walked (seen c))) (c .judge .result)
+found c =
+    let w = walked (seen c) in
+    record { count = _; unfinished = _; walked = sym (w .walk .ensures) ∙ seen c .seen .given .1; verdict = c .judge .ensures }
+
+-- the parent's room, in the tree that is checked
+roomy : (c : tie.After-has-room) → c .has-room .result ≡ hasRoom (tree (walked (seen (judged (allowed c))))) (meant (allowed c .verdict .given .0 .0))
+roomy c =
+    let a = start (walked (seen (judged (allowed c)))) .args in
+    c .has-room .ensures ∙ room-any (a .table .now) (root (a .table .now)) (a .root) (meant (allowed c .verdict .given .0 .0))
+
+walk-requires : tie.Need-walk-requires
+walk-requires c κs = search needs
+
+enum-told : tie.Need-enum-told
+enum-told c = search needs
+
+enum-known-seen : tie.Need-enum-known-seen
+enum-known-seen c = search needs
+
+judge-requires : tie.Need-judge-requires
+judge-requires c κs = search needs
+
+enum-told-2 : tie.Need-enum-told-2
+enum-told-2 c = search needs
+
+enum-known-verdict : tie.Need-enum-known-verdict
+enum-known-verdict c = search needs
+
+has-room-requires : tie.Need-has-room-requires
+has-room-requires c κs = search needs
+
+returns : tie.Need-returns
+returns c =
+    let a = allowed (c .before) in
+    wrong-room (found (judged a)) _ (a .verdict .given .1) (sym (roomy (c .before)) ∙ not-true _ (c .if1 .taken))
+
+ok-requires : tie.Need-ok-requires
+ok-requires c κs = search needs
+
+returns-2 : tie.Need-returns-2
+returns-2 c =
+    let a = allowed (c .before .before .before) in
+    wrong-recordings (found (judged a)) _ (a .verdict .given .1) (sym (c .before .ok .ensures) ∙ not-true _ (c .if2 .taken))
+
+returns-3 : tie.Need-returns-3
+returns-3 c = wrong-walk _ _ (c .before .before .walk .ensures) (c .enum-told .given .1)
+
+returns-4 : tie.Need-returns-4
+returns-4 c = wrong-leftover (found (c .before .before)) (c .enum-told2 .given .1)
+
+returns-5 : tie.Need-returns-5
+returns-5 c =
+    let r = c .before .before .before in
+    let a = allowed r in
+    all-right (found (judged a)) _ (a .verdict .given .1) (sym (roomy r) ∙ not-false _ (c .before .before .if1 .left))
+    (sym (c .before .ok .ensures) ∙ not-false _ (c .if2 .left))
+
+pub check-tree-spec : {M : Type 1} → statement M
+check-tree-spec =
+    tie.close
+    (tie.spec
+    walk-requires
+    enum-told
+    enum-known-seen
+    judge-requires
+    enum-told-2
+    enum-known-verdict
+    has-room-requires
+    returns
+    ok-requires
+    returns-2
+    returns-3
+    returns-4
+    returns-5)

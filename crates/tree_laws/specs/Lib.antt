@@ -1,0 +1,2 @@
+-- What laws of one tree speak of.
+pub mod OneTree
