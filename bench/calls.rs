@@ -13,8 +13,9 @@ const HEADER_WORDS: usize = 8;
 /// Pairs in a leaf of a sound table, at most.
 const SLOTS: usize = 11;
 const ABSENT: u64 = 255;
-/// Tables have one collection.
+/// Tables have one collection, and the dock keeps its stores in order.
 const COLLECTION: u64 = 1;
+const DOCK: u64 = 0;
 const LINE_BYTES: usize = 64;
 
 #[repr(C)]
@@ -113,19 +114,20 @@ pub struct Orders {
     words: Vec<u64>,
     pub stores: u64,
     pub flushes: u64,
+    barriers: u64,
 }
 
 impl Orders {
     pub fn new() -> Orders {
-        Orders { words: vec![0; LIST_WORDS], stores: 0, flushes: 0 }
+        Orders { words: vec![0; LIST_WORDS], stores: 0, flushes: 0, barriers: 0 }
     }
 
     pub fn too_short() -> Orders {
-        Orders { words: vec![0; LIST_WORDS - 1], stores: 0, flushes: 0 }
+        Orders { words: vec![0; LIST_WORDS - 1], stores: 0, flushes: 0, barriers: 0 }
     }
 
     pub fn count(&self) -> u64 {
-        self.stores + self.flushes
+        self.stores + self.flushes + self.barriers
     }
 
     /// The indices of the words that the stores are to; a flush begins with MARK.
@@ -160,22 +162,22 @@ pub fn search(table: &[u64], key: u64) -> Found {
 /// With class 0.
 pub fn insert(table: &mut [u64], orders: &mut Orders, key: u64, recording: u64) -> u64 {
     let list = orders.words.as_mut_ptr();
-    unsafe { catalogue_insert(table.as_mut_ptr(), table.len(), COLLECTION, list, orders.words.len(), key, recording, 0, &mut orders.stores, &mut orders.flushes) }
+    unsafe { catalogue_insert(table.as_mut_ptr(), table.len(), COLLECTION, list, orders.words.len(), DOCK, key, recording, 0, &mut orders.stores, &mut orders.flushes, &mut orders.barriers) }
 }
 
 pub fn set_class(table: &mut [u64], orders: &mut Orders, key: u64, access: u64) -> u64 {
     let list = orders.words.as_mut_ptr();
-    unsafe { catalogue_set_class(table.as_mut_ptr(), table.len(), COLLECTION, list, orders.words.len(), key, access, &mut orders.stores, &mut orders.flushes) }
+    unsafe { catalogue_set_class(table.as_mut_ptr(), table.len(), COLLECTION, list, orders.words.len(), DOCK, key, access, &mut orders.stores, &mut orders.flushes, &mut orders.barriers) }
 }
 
 pub fn delete(table: &mut [u64], orders: &mut Orders, key: u64) -> u64 {
     let list = orders.words.as_mut_ptr();
-    unsafe { catalogue_delete(table.as_mut_ptr(), table.len(), COLLECTION, list, orders.words.len(), key, &mut orders.stores, &mut orders.flushes) }
+    unsafe { catalogue_delete(table.as_mut_ptr(), table.len(), COLLECTION, list, orders.words.len(), DOCK, key, &mut orders.stores, &mut orders.flushes, &mut orders.barriers) }
 }
 
 pub fn repair(table: &mut [u64], orders: &mut Orders) -> u64 {
     let list = orders.words.as_mut_ptr();
-    unsafe { catalogue_repair(table.as_mut_ptr(), table.len(), list, orders.words.len(), &mut orders.stores, &mut orders.flushes) }
+    unsafe { catalogue_repair(table.as_mut_ptr(), table.len(), list, orders.words.len(), DOCK, &mut orders.stores, &mut orders.flushes, &mut orders.barriers) }
 }
 
 /// The whole map, as pairs of key and pointer.

@@ -27,16 +27,22 @@ uint64_t change_plan(struct change *c, struct table *t)
 {
     switch (c->kind) {
     case ADD:
-        return catalogue_insert(t->working, t->words, t->collection, c->orders, CATALOGUE_LIST_WORDS, c->key, c->recording, c->access,
-                                &c->stores, &c->flushes);
+        return catalogue_insert(t->working, t->words, t->collection, c->orders, CATALOGUE_LONG_LIST_WORDS, t->dock, c->key, c->recording,
+                                c->access, &c->stores, &c->flushes, &c->barriers);
     case REMOVE:
-        return catalogue_delete(t->working, t->words, t->collection, c->orders, CATALOGUE_LIST_WORDS, c->key, &c->stores, &c->flushes);
+        return catalogue_delete(t->working, t->words, t->collection, c->orders, CATALOGUE_LONG_LIST_WORDS, t->dock, c->key, &c->stores,
+                                &c->flushes, &c->barriers);
     case CLASS:
-        return catalogue_set_class(t->working, t->words, t->collection, c->orders, CATALOGUE_LIST_WORDS, c->key, c->access, &c->stores,
-                                   &c->flushes);
+        return catalogue_set_class(t->working, t->words, t->collection, c->orders, CATALOGUE_LONG_LIST_WORDS, t->dock, c->key, c->access,
+                                   &c->stores, &c->flushes, &c->barriers);
     default:
-        return catalogue_repair(t->working, t->words, c->orders, CATALOGUE_LIST_WORDS, &c->stores, &c->flushes);
+        return catalogue_repair(t->working, t->words, c->orders, CATALOGUE_LONG_LIST_WORDS, t->dock, &c->stores, &c->flushes, &c->barriers);
     }
+}
+
+uint64_t change_orders(const struct change *c)
+{
+    return c->stores + c->flushes + c->barriers;
 }
 
 /* Which word of which node a store goes to. */
@@ -59,11 +65,15 @@ static void print_place(uint64_t word)
 
 void change_print(const struct change *c)
 {
-    for (uint64_t i = 0; i < c->stores + c->flushes; i++) {
+    for (uint64_t i = 0; i < change_orders(c); i++) {
         uint64_t first = c->orders[2 * i], second = c->orders[2 * i + 1];
         printf("%4" PRIu64 "  ", i + 1);
         if (first == CATALOGUE_MARK) {
             printf("flush %" PRIu64 "\n", second);
+            continue;
+        }
+        if (first == CATALOGUE_BARRIER) {
+            printf("barrier\n");
             continue;
         }
         int length = printf("store %" PRIu64 " %" PRIu64, first, second);
@@ -75,5 +85,8 @@ void change_print(const struct change *c)
 
 void change_print_counts(const struct change *c)
 {
-    printf(" (%" PRIu64 " store%s, %" PRIu64 " flush%s)\n", c->stores, c->stores == 1 ? "" : "s", c->flushes, c->flushes == 1 ? "" : "es");
+    printf(" (%" PRIu64 " store%s, %" PRIu64 " flush%s", c->stores, c->stores == 1 ? "" : "s", c->flushes, c->flushes == 1 ? "" : "es");
+    if (c->barriers > 0)
+        printf(", %" PRIu64 " barrier%s", c->barriers, c->barriers == 1 ? "" : "s");
+    printf(")\n");
 }

@@ -12,8 +12,8 @@ enum kind { ADD, REMOVE, CLASS, REPAIR };
 struct change {
     enum kind kind;
     uint64_t key, recording, access; /* the class */
-    uint64_t stores, flushes; /* of the list, once planned */
-    uint64_t orders[CATALOGUE_LIST_WORDS];
+    uint64_t stores, flushes, barriers; /* of the list, once planned */
+    uint64_t orders[CATALOGUE_LONG_LIST_WORDS]; /* long enough for either dock */
 };
 
 /*
@@ -22,13 +22,19 @@ struct change {
  */
 int change_read(struct change *c, enum kind kind, char **words, int count);
 
-/* Makes the change in the table's collection, on the working copy, and its orders in the list. 0, or the refusal; then nothing moved. */
+/*
+ * Makes the change in the table's collection, on the working copy, and its orders for the table's dock in the list. 0, or the refusal; then
+ * nothing moved.
+ */
 uint64_t change_plan(struct change *c, struct table *t);
+
+/* How many orders the list has. */
+uint64_t change_orders(const struct change *c);
 
 /* The orders, numbered as --cut counts them, with the place of each in the table. */
 void change_print(const struct change *c);
 
-/* " (4 stores, 1 flush)", the end of a line. */
+/* " (4 stores, 1 flush)", for dock 1 " (4 stores, 1 flush, 4 barriers)", the end of a line. */
 void change_print_counts(const struct change *c);
 
 #endif

@@ -4,6 +4,7 @@
 #include <stddef.h>
 #include <string.h>
 
+#include "catalogue.h"
 #include "text.h"
 
 static bool read_cut(struct command_line *l, const char *value)
@@ -29,6 +30,11 @@ static bool read_pause(struct command_line *l, const char *value)
 static bool read_collection(struct command_line *l, const char *value)
 {
     return read_number(value, strlen(value), &l->table.collection);
+}
+
+static bool read_dock(struct command_line *l, const char *value)
+{
+    return read_number(value, strlen(value), &l->table.dock) && l->table.dock <= CATALOGUE_UNORDERED;
 }
 
 static bool set_loan(struct command_line *l, const char *value)
@@ -84,6 +90,10 @@ const struct option options[] = {
     {"--each", NULL, NULL, "prints each line once the table has it", "load room.cat codes.csv --each", LOADING, set_each},
     {"--cut", "C", "a number of orders", "stops after C orders, as a power cut does", "add room.cat AA0001912345 7 --cut=2", CUT,
      read_cut},
+    {"--dock", "N", "0 or 1",
+     "for a dock that keeps its stores to one line in order (0, as x86, where none is\n"
+     "named) or does not (1, as ARM): then a barrier follows each store",
+     "add room.cat AA0001912345 7 --dock 1", DOCKING, read_dock},
     {"--wait", "SECONDS", "a number of seconds",
      "waits so long for a program that has the table locked; find waits without end,\nthe others not at all unless told to",
      "add room.cat AA0001912345 7 --wait 10", WAITING, read_wait},

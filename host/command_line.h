@@ -13,7 +13,7 @@
 #define MOST_WORDS 7
 
 /* Kinds of options, for which commands take which. */
-enum { CUT = 1, LOADING = 2, CARRYING = 4, WAITING = 8, NAMING = 16, MAKING = 32 };
+enum { CUT = 1, LOADING = 2, CARRYING = 4, WAITING = 8, NAMING = 16, MAKING = 32, DOCKING = 64 };
 
 struct command_line {
     char *words[MOST_WORDS]; /* the command, the table, and what follows */

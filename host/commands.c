@@ -43,7 +43,7 @@ static int make_change(struct table *t, struct command_line *l)
     int status = plan(t, c);
     if (status != 0)
         return status;
-    uint64_t all = c->stores + c->flushes, count = l->given & CUT ? l->cut : all;
+    uint64_t all = change_orders(c), count = l->given & CUT ? l->cut : all;
     if (count > all)
         return fail(BAD_USAGE, "--cut %" PRIu64 ": this change has %" PRIu64 " orders; nothing was changed", count, all);
     status = table_carry_out(t, c->orders, count);
@@ -276,11 +276,11 @@ const struct command commands[] = {
     {"make", "TABLE NODES", "a new, empty table of 1 to 65535 nodes; allow one for every 4 codes", "make room.cat 100", 3, 3, MAKING,
      command_make},
     {"add", "TABLE CODE RECORDING [CLASS]", "a new code, with its recording's class: open (if none is given), room or closed",
-     "add room.cat AA-000-19-12345 7 room", 4, 5, NAMING | CUT | CARRYING | WAITING, command_add},
-    {"remove", "TABLE CODE", "a code taken out", "remove room.cat AA-000-19-12345", 3, 3, NAMING | CUT | CARRYING | WAITING,
+     "add room.cat AA-000-19-12345 7 room", 4, 5, NAMING | DOCKING | CUT | CARRYING | WAITING, command_add},
+    {"remove", "TABLE CODE", "a code taken out", "remove room.cat AA-000-19-12345", 3, 3, NAMING | DOCKING | CUT | CARRYING | WAITING,
      command_remove},
     {"class", "TABLE CODE CLASS", "another class for a code's recording: open, room or closed", "class room.cat AA-000-19-12345 closed",
-     4, 4, NAMING | CUT | CARRYING | WAITING, command_class},
+     4, 4, NAMING | DOCKING | CUT | CARRYING | WAITING, command_class},
     {"find", "TABLE CODE", "prints the code's recording,class; where the code is absent, tells the next one up",
      "find room.cat AA0001912345", 3, 3, NAMING | WAITING, command_find},
     {"list", "TABLE [FROM TO]", "prints the codes from FROM to TO, or all, as lines code,recording,class that load\nreads",
@@ -290,10 +290,10 @@ const struct command commands[] = {
      "where it is -; a line without a class is open. A byte-order mark, a header line, empty\n"
      "lines, spaces and quotes around the fields are passed over. Loading stops at the first\n"
      "bad line; the first 20 are told",
-     "load room.cat codes.csv", 3, 3, NAMING | LOADING | CARRYING | WAITING, command_load},
+     "load room.cat codes.csv", 3, 3, NAMING | DOCKING | LOADING | CARRYING | WAITING, command_load},
     {"repair", "TABLE",
      "finishes what a power cut left unfinished, in either collection (add, remove, class and\nload do so first)", "repair room.cat", 2, 2,
-     CUT | CARRYING | WAITING, command_repair},
+     DOCKING | CUT | CARRYING | WAITING, command_repair},
     {"copy", "TABLE NEW NODES", "a new table of NODES nodes, as many as TABLE has or more, with the same codes",
      "copy room.cat larger.cat 200", 4, 4, WAITING, command_copy},
     {"salvage", "TABLE NEW",
@@ -301,8 +301,9 @@ const struct command commands[] = {
      "as it is; prints each slot that is dropped, and why",
      "salvage room.cat saved.cat", 3, 3, WAITING, command_salvage},
     {"orders", "TABLE CHANGE ..",
-     "prints the stores and flushes of a change without making it: add CODE RECORDING\n[CLASS], remove CODE, class CODE CLASS, or repair",
-     "orders room.cat add AA0001912345 7", 3, 6, NAMING | WAITING, command_orders},
+     "prints the stores and flushes of a change, for dock 1 its barriers too, without making it:\n"
+     "add CODE RECORDING [CLASS], remove CODE, class CODE CLASS, or repair",
+     "orders room.cat add AA0001912345 7", 3, 6, NAMING | DOCKING | WAITING, command_orders},
     {"check", "TABLE", "says whether the table is settled, sound with a leftover, or not sound, and how many\nnodes are free for more codes",
      "check room.cat", 2, 2, WAITING, command_check},
     {"show", "TABLE",

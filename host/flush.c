@@ -1,4 +1,4 @@
-/* Carrying an order list out on memory: whole stores, and at each flush the line written back and fenced. */
+/* Carrying an order list out on memory: whole stores, at each flush the line written back and fenced, at each barrier a store fence. */
 #include "flush.h"
 
 #include <errno.h>
@@ -129,15 +129,36 @@ static void pause_for(uint64_t microseconds)
         nanosleep(&left, NULL);
 }
 
+/* No later store reaches a line before an earlier one. A list for dock 1 has one after each store. */
+static void barrier(void)
+{
+#if defined(__x86_64__)
+    _mm_sfence();
+#elif defined(__aarch64__)
+    __asm__ volatile("dmb ishst" ::: "memory");
+#else
+    __atomic_thread_fence(__ATOMIC_SEQ_CST);
+#endif
+}
+
+/* One order; false, with errno, for a flush that failed. */
+static bool carry_one(uint64_t *memory, uint64_t first, uint64_t second, const struct flush *flush)
+{
+    if (first == CATALOGUE_MARK)
+        return flush->line(&memory[LINE_WORDS * second]);
+    if (first == CATALOGUE_BARRIER)
+        barrier();
+    else
+        /* One whole store of 8 bytes, after every store before it. */
+        __atomic_store_n(&memory[first], second, __ATOMIC_RELEASE);
+    return true;
+}
+
 bool carry_out(uint64_t *memory, const uint64_t *orders, uint64_t count, const struct carrying *how)
 {
     for (uint64_t i = 0; i < count; i++) {
-        uint64_t first = orders[2 * i], second = orders[2 * i + 1];
         pause_for(how->pause);
-        if (first != CATALOGUE_MARK)
-            /* One whole store of 8 bytes, after every store before it. */
-            __atomic_store_n(&memory[first], second, __ATOMIC_RELEASE);
-        else if (!how->flush->line(&memory[LINE_WORDS * second]))
+        if (!carry_one(memory, orders[2 * i], orders[2 * i + 1], how->flush))
             return false;
     }
     return true;

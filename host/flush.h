@@ -1,4 +1,4 @@
-/* Carrying an order list out on memory: whole stores, and at each flush the line written back and fenced. */
+/* Carrying an order list out on memory: whole stores, at each flush the line written back and fenced, at each barrier a store fence. */
 #ifndef FLUSH_H
 #define FLUSH_H
 

@@ -117,7 +117,7 @@ static int add(struct loading *l)
         bad_line(l, (int)number);
         return 0;
     }
-    int status = number == 0 ? table_carry_out(l->table, c->orders, c->stores + c->flushes)
+    int status = number == 0 ? table_carry_out(l->table, c->orders, change_orders(c))
                              : refuse(number, l->table, c->key, c->recording);
     if (status != 0)
         return fail(status, "%s: stopped before line %" PRIu64 "; what came before is kept", l->name, l->rows.number);

@@ -201,7 +201,7 @@ static int begin_writing(struct table *t)
 
 int table_open(struct table *t, const char *name, bool writing, const struct table_options *options)
 {
-    *t = (struct table){.name = name, .file = -1, .writing = writing, .collection = options->collection};
+    *t = (struct table){.name = name, .file = -1, .writing = writing, .collection = options->collection, .dock = options->dock};
     int status = open_locked(t, options->wait);
     if (status == 0)
         status = measure(t);
@@ -267,7 +267,7 @@ int table_carry_out(struct table *t, const uint64_t *orders, uint64_t count)
     if (status != 0)
         return status;
     /* Before the first real store: the library refuses orders outside the table. */
-    uint64_t number = catalogue_carry_out(t->expected, t->words, orders, CATALOGUE_LIST_WORDS, count);
+    uint64_t number = catalogue_carry_out(t->expected, t->words, orders, CATALOGUE_LONG_LIST_WORDS, count);
     if (number != 0)
         return refuse(number, t, 0, 0);
     /* A list that ends with a flush of its page leaves nothing on the way. */
@@ -295,12 +295,12 @@ int table_compare(struct table *t)
 /* A node's words do not depend on the number of nodes: a larger table has the same nodes and roots, and more that no way leads to. */
 static int enlarge(struct table *t, uint64_t *larger, size_t words, uint64_t nodes)
 {
-    uint64_t orders[CATALOGUE_LIST_WORDS], stores, flushes;
-    uint64_t number = catalogue_repair(t->working, t->words, orders, CATALOGUE_LIST_WORDS, &stores, &flushes);
+    uint64_t orders[CATALOGUE_LIST_WORDS], stores, flushes, barriers;
+    uint64_t number = catalogue_repair(t->working, t->words, orders, CATALOGUE_LIST_WORDS, CATALOGUE_ORDERED, &stores, &flushes, &barriers);
     if (number == 0) {
         memcpy(larger, t->working, t->words * sizeof(uint64_t));
         larger[2] = nodes;
-        number = catalogue_repair(larger, words, orders, CATALOGUE_LIST_WORDS, &stores, &flushes);
+        number = catalogue_repair(larger, words, orders, CATALOGUE_LIST_WORDS, CATALOGUE_ORDERED, &stores, &flushes, &barriers);
     }
     return number == 0 ? 0 : refuse(number, t, 0, 0);
 }

@@ -23,6 +23,7 @@ struct table_options {
     uint64_t wait; /* seconds for programs that have the file locked */
     bool fast;     /* on an ordinary disk: waits for the disk once, at the end, and not at each flush */
     uint64_t collection; /* that the command reads or changes */
+    uint64_t dock;       /* that the order lists are for */
     struct carrying carrying;
 };
 
@@ -33,6 +34,7 @@ struct table {
     bool unsettled; /* stores were carried out that no flush has brought to the disk */
     size_t words;
     uint64_t collection; /* that is read or changed: one that the table has */
+    uint64_t dock;       /* that its order lists are for */
     uint64_t *mapped;   /* the file's words: persistent memory, where the file system gives it */
     uint64_t *expected; /* what the mapped words should hold, to notice another program's stores */
     uint64_t *working;  /* the working copy, which the library's calls change */
@@ -48,7 +50,7 @@ int table_make(const char *name, uint64_t nodes, uint64_t collections);
 /* An opened table is closed by table_close, also where the opening failed. */
 int table_open(struct table *t, const char *name, bool writing, const struct table_options *options);
 
-/* The first count orders of a list, on the mapped words, unless another program changed them. */
+/* The first count orders of a list, which has room for either dock's, on the mapped words, unless another program changed them. */
 int table_carry_out(struct table *t, const uint64_t *orders, uint64_t count);
 
 /* Waits until the file has what was carried out. */

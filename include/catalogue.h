@@ -5,7 +5,7 @@
  * A table is 8 + 32 * N words, N from 1 to 65,535 nodes. Every call takes any words and any length: it does its work or returns a
  * refusal number, and a refusal changes no lent word. A word that an answer is put into is left alone unless the call does its work.
  * Lent slices may not overlap. A slice of length 0 still wants a pointer that is not null. One writer; readers only read.
- * No call asks for memory. Listing and the writing calls need 300 KB of stack, a salvage 400 KB, the others 2 KB.
+ * No call asks for memory. Listing and the writing calls need 300 KB of stack, a salvage 450 KB, the others 2 KB.
  *
  * A table has one collection or two, as it was made: the archive's own, 1, and the loan collection, 2. Each is a tree of its own codes, and
  * the calls that read or change one name it; a repair names none. The two share the nodes: a node belongs to one tree or is free for
@@ -30,15 +30,22 @@
  * table reloaded from memory answers every search as before the change or as after it, and every search of the other collection as ever.
  * The next writing call repairs it, whichever collection it names: a table has at most one change to finish.
  *
+ * Each writing call is told which dock its list is for. Dock 0 has a processor that keeps its stores to one line in order, as x86 does.
+ * Dock 1 has one that does not, as ARM: there each store is followed by a barrier, CATALOGUE_BARRIER and 0, and the host lets no store pass
+ * it. On ARM the instruction is DMB ISHST, and a flush is DC CVAP with a DSB after it; on x86 a barrier is SFENCE. Without its barriers the
+ * list is dock 0's; with them it wants CATALOGUE_LONG_LIST_WORDS words. A table may go from one dock to the other between any two calls, and
+ * what a cut left on one may be repaired on the other.
+ *
  *     static uint64_t memory[8 + 32 * 100], working[8 + 32 * 100], orders[CATALOGUE_LIST_WORDS];
- *     uint64_t key, recording, access, next, higher, stores, flushes;
+ *     uint64_t key, recording, access, next, higher, stores, flushes, barriers;
  *     size_t words = sizeof working / sizeof working[0];
  *
  *     catalogue_make(working, words, 1);
  *     memcpy(memory, working, sizeof working);
  *     if (catalogue_parse((const uint8_t *)"AA0001912345", 12, &key) == 0
- *         && catalogue_insert(working, words, 1, orders, CATALOGUE_LIST_WORDS, key, 7, CATALOGUE_OPEN, &stores, &flushes) == 0)
- *         catalogue_carry_out(memory, words, orders, CATALOGUE_LIST_WORDS, stores + flushes);
+ *         && catalogue_insert(working, words, 1, orders, CATALOGUE_LIST_WORDS, CATALOGUE_ORDERED, key, 7, CATALOGUE_OPEN, &stores,
+ *                             &flushes, &barriers) == 0)
+ *         catalogue_carry_out(memory, words, orders, CATALOGUE_LIST_WORDS, stores + flushes + barriers);
  *     if (catalogue_search(memory, words, 1, key, &recording, &access, &next, &higher) == 0 && access != CATALOGUE_CLOSED)
  *         printf("%llu\n", (unsigned long long)recording);
  */
@@ -56,10 +63,20 @@ extern "C" {
  * The version of these declarations. It is raised by each change of a name, a parameter or the meaning of a word, so a program that was
  * compiled with one header and linked with another library sees it: catalogue_version() is the library's.
  */
-#define CATALOGUE_VERSION 5
+#define CATALOGUE_VERSION 6
 
 #define CATALOGUE_MARK UINT64_MAX
+#define CATALOGUE_BARRIER (UINT64_MAX - 1)
+
+/* The words of an order list, at least: for dock 0, and for either. */
 #define CATALOGUE_LIST_WORDS 2560
+#define CATALOGUE_LONG_LIST_WORDS 5120
+
+/* Docks. */
+enum {
+    CATALOGUE_ORDERED = 0,   /* keeps the stores to one line in order */
+    CATALOGUE_UNORDERED = 1  /* does not: each store is followed by a barrier */
+};
 
 /* A leaf pointer's two parts, as catalogue_list gives it. */
 #define CATALOGUE_MOST_RECORDING UINT64_C(72057594037927935)
@@ -79,7 +96,7 @@ enum {
     CATALOGUE_NO_TABLE = 2,         /* wrong length or header, a root outside 1 to N, or two collections where N is 1 */
     CATALOGUE_SEARCH_LOST = 3,      /* search: a node number, level or sibling is wrong on its way, or its leaves go round in a ring */
     CATALOGUE_NOT_SOUND = 4,        /* write or listing: the table is not sound, be it in the other collection */
-    CATALOGUE_SHORT_LIST = 5,       /* order list under 2,560 words */
+    CATALOGUE_SHORT_LIST = 5,       /* order list under 2,560 words, for dock 1 under 5,120 */
     CATALOGUE_BAD_RECORDING = 6,    /* recording is 0 or above CATALOGUE_MOST_RECORDING */
     CATALOGUE_KEY_PRESENT = 7,      /* code already in the collection */
     CATALOGUE_RECORDING_PRESENT = 8, /* recording in the collection under another code */
@@ -87,11 +104,12 @@ enum {
     CATALOGUE_NO_NODES = 10,        /* fewer nodes that no root leads to than the splits need; salvage: the packing needs more than N */
     CATALOGUE_TOO_HIGH = 11,        /* the collection's root at level 15 would have to split */
     CATALOGUE_PARENT_FULL = 12,     /* repair would find 11 shown slots in the parent */
-    CATALOGUE_BAD_ORDERS = 13,      /* carry-out: more orders than the list has, or one outside the table */
+    CATALOGUE_BAD_ORDERS = 13,      /* carry-out: more orders than the list has, or one outside the table; a barrier lies in every one */
     CATALOGUE_BAD_CLASS = 14,       /* class above 2; comes straight after 6 */
     CATALOGUE_OTHER_LENGTH = 15,    /* salvage: the second slice is not as long as the table */
     CATALOGUE_SHORT_REPORT = 16,    /* salvage: report under 36 words for each node */
     CATALOGUE_NO_COLLECTION = 17,   /* collection not 1 or 2, or 2 where the table has one; comes straight after 2 */
+    CATALOGUE_NO_DOCK = 18,         /* dock neither 0 nor 1; comes straight before 5 */
     CATALOGUE_ABSENT = 255          /* search: the key is absent */
 };
 
@@ -128,26 +146,28 @@ uint64_t catalogue_list(const uint64_t *table, size_t words, uint64_t collection
                         size_t out_words, uint64_t *pairs, uint64_t *more);
 
 /*
- * The writing calls, on the working copy. Each repairs what a cut left first, in either collection. 0, with the order list filled and its
- * stores and flushes counted (at most 1,121 together), or the refusal number. Of the other collection only the number of free nodes, for
- * 10, and that it is sound count for what is refused; its codes and their recordings stay at every store.
- * Insertion: 2, 17, 4, 5, 12, 6, 14, 7, 8, 11, 10.
+ * The writing calls, on the working copy. Each repairs what a cut left first, in either collection. 0, with the order list filled for the
+ * dock and its stores, flushes and barriers counted (at most 1,121 stores and flushes together; no barriers for dock 0, one for each store
+ * for dock 1), or the refusal number. Of the other collection only the number of free nodes, for 10, and that it is sound count for what is
+ * refused; its codes and their recordings stay at every store.
+ * Insertion: 2, 17, 4, 18, 5, 12, 6, 14, 7, 8, 11, 10.
  */
-uint64_t catalogue_insert(uint64_t *table, size_t words, uint64_t collection, uint64_t *orders, size_t order_words, uint64_t key,
-                          uint64_t recording, uint64_t access, uint64_t *stores, uint64_t *flushes);
+uint64_t catalogue_insert(uint64_t *table, size_t words, uint64_t collection, uint64_t *orders, size_t order_words, uint64_t dock,
+                          uint64_t key, uint64_t recording, uint64_t access, uint64_t *stores, uint64_t *flushes, uint64_t *barriers);
 
-/* Deletion: 2, 17, 4, 5, 12, 9. */
-uint64_t catalogue_delete(uint64_t *table, size_t words, uint64_t collection, uint64_t *orders, size_t order_words, uint64_t key,
-                          uint64_t *stores, uint64_t *flushes);
+/* Deletion: 2, 17, 4, 18, 5, 12, 9. */
+uint64_t catalogue_delete(uint64_t *table, size_t words, uint64_t collection, uint64_t *orders, size_t order_words, uint64_t dock,
+                          uint64_t key, uint64_t *stores, uint64_t *flushes, uint64_t *barriers);
 
-/* Class change of a code, also to the class that it has: one store and one flush, after any repair. 2, 17, 4, 5, 12, 14, 9. */
-uint64_t catalogue_set_class(uint64_t *table, size_t words, uint64_t collection, uint64_t *orders, size_t order_words, uint64_t key,
-                             uint64_t access, uint64_t *stores, uint64_t *flushes);
+/* Class change of a code, also to the class that it has: one store and one flush, after any repair. 2, 17, 4, 18, 5, 12, 14, 9. */
+uint64_t catalogue_set_class(uint64_t *table, size_t words, uint64_t collection, uint64_t *orders, size_t order_words, uint64_t dock,
+                             uint64_t key, uint64_t access, uint64_t *stores, uint64_t *flushes, uint64_t *barriers);
 
-/* Repair of what a cut left in either collection: 2, 4, 5, 12. A settled table gives 0 orders. */
-uint64_t catalogue_repair(uint64_t *table, size_t words, uint64_t *orders, size_t order_words, uint64_t *stores, uint64_t *flushes);
+/* Repair of what a cut left in either collection: 2, 4, 18, 5, 12. A settled table gives 0 orders. */
+uint64_t catalogue_repair(uint64_t *table, size_t words, uint64_t *orders, size_t order_words, uint64_t dock, uint64_t *stores,
+                          uint64_t *flushes, uint64_t *barriers);
 
-/* Applies the first c orders of a list to a table. 0, or 2 or 13. */
+/* Applies the first c orders of a list to a table; barriers are counted and passed over. 0, or 2 or 13. */
 uint64_t catalogue_carry_out(uint64_t *table, size_t words, const uint64_t *orders, size_t order_words, uint64_t c);
 
 /* Why a salvage drops a slot: the first of these that holds. */

@@ -131,6 +131,8 @@ FAULTS = [
     (0, "uint64_t access, uint64_t *stores", "uint64_t *stores, uint64_t access"),
     (0, "uint64_t collection, uint64_t key", "uint64_t key, uint64_t collection"),
     (0, ", uint64_t collections)", ")"),
+    (0, "size_t order_words, uint64_t dock, uint64_t *stores", "size_t order_words, uint64_t *stores"),
+    (0, "uint64_t *flushes, uint64_t *barriers", "uint64_t *barriers, uint64_t *flushes"),
     (0, "#define CATALOGUE_VERSION", "#define CATALOGUE_VERSION 99\n#define OTHER"),
     (0, "#define CATALOGUE_VERSION", "#define CATALOGUE_VERSIONS"),
     (1, "low: u64, high: u64", "high: u64, low: u64"),
@@ -142,6 +144,7 @@ FAULTS = [
     (1, ", higher: *mut u64", ""),
     (1, "access: *mut u64", "access: u64"),
     (1, "collection: u64, orders: *mut u64, order_words: usize", "orders: *mut u64, order_words: usize, collection: u64"),
+    (1, "dock: u64, key: u64", "key: u64, dock: u64"),
     (2, "table: &[u64], collection: u64", "table: &mut [u64], collection: u64"),
     (2, "collection: u64, low: u64", "low: u64"),
     (2, "text: &mut [u8; 12]", "text: &mut [u8]"),
@@ -150,6 +153,7 @@ FAULTS = [
     (2, "-> u64\n    ensures", "-> usize\n    ensures"),
     (2, "fn one_if", "#[no_mangle]\nfn one_if"),
     (2, "next: &mut u64", "next: u64"),
+    (2, "orders: &mut [u64], dock: u64", "dock: u64, orders: &mut [u64]"),
 ]
 
 

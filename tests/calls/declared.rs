@@ -9,10 +9,10 @@ extern "C" {
     pub fn catalogue_make(table: *mut u64, words: usize, collections: u64) -> u64;
     pub fn catalogue_search(table: *const u64, words: usize, collection: u64, key: u64, recording: *mut u64, access: *mut u64, next: *mut u64, higher: *mut u64) -> u64;
     pub fn catalogue_list(table: *const u64, words: usize, collection: u64, low: u64, high: u64, out: *mut u64, out_words: usize, pairs: *mut u64, more: *mut u64) -> u64;
-    pub fn catalogue_insert(table: *mut u64, words: usize, collection: u64, orders: *mut u64, order_words: usize, key: u64, recording: u64, access: u64, stores: *mut u64, flushes: *mut u64) -> u64;
-    pub fn catalogue_delete(table: *mut u64, words: usize, collection: u64, orders: *mut u64, order_words: usize, key: u64, stores: *mut u64, flushes: *mut u64) -> u64;
-    pub fn catalogue_set_class(table: *mut u64, words: usize, collection: u64, orders: *mut u64, order_words: usize, key: u64, access: u64, stores: *mut u64, flushes: *mut u64) -> u64;
-    pub fn catalogue_repair(table: *mut u64, words: usize, orders: *mut u64, order_words: usize, stores: *mut u64, flushes: *mut u64) -> u64;
+    pub fn catalogue_insert(table: *mut u64, words: usize, collection: u64, orders: *mut u64, order_words: usize, dock: u64, key: u64, recording: u64, access: u64, stores: *mut u64, flushes: *mut u64, barriers: *mut u64) -> u64;
+    pub fn catalogue_delete(table: *mut u64, words: usize, collection: u64, orders: *mut u64, order_words: usize, dock: u64, key: u64, stores: *mut u64, flushes: *mut u64, barriers: *mut u64) -> u64;
+    pub fn catalogue_set_class(table: *mut u64, words: usize, collection: u64, orders: *mut u64, order_words: usize, dock: u64, key: u64, access: u64, stores: *mut u64, flushes: *mut u64, barriers: *mut u64) -> u64;
+    pub fn catalogue_repair(table: *mut u64, words: usize, orders: *mut u64, order_words: usize, dock: u64, stores: *mut u64, flushes: *mut u64, barriers: *mut u64) -> u64;
     pub fn catalogue_carry_out(table: *mut u64, words: usize, orders: *const u64, order_words: usize, c: u64) -> u64;
     pub fn catalogue_salvage(table: *const u64, words: usize, out: *mut u64, out_words: usize, report: *mut u64, report_words: usize, dropped: *mut u64) -> u64;
 }

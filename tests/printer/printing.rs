@@ -63,13 +63,14 @@ fn steps(input: &[u8], nodes: u64, numbers: &mut [u64; 15], done: &mut u64) -> V
     for line in lines {
         let before = table.clone();
         let mut text = String::new();
-        match asked(line).and_then(|call| write(&table, LIST_WORDS, call)) {
+        match asked(line).and_then(|call| write(&table, LIST_WORDS, ORDERED, call)) {
             Ok(w) => {
-                let os = orders(&w.stores);
+                let os = orders(&w.stores, ORDERED);
                 for o in &os {
                     match o {
                         Order::Store(word, value) => writeln!(text, "store {word} {value}").unwrap(),
                         Order::Flush(line) => writeln!(text, "flush {line}").unwrap(),
+                        Order::Barrier => panic!("a barrier for the ordered dock"),
                     }
                 }
                 writeln!(text, "done {} {}", w.stores.len(), os.len() - w.stores.len()).unwrap();

@@ -9,6 +9,7 @@ import traceback
 
 import commands
 import cuts
+import docks
 import files
 import installing
 import loads
@@ -46,7 +47,7 @@ def main():
     sanitized = Program([sys.argv[2]], "with sanitizers", False)
     watched = ["valgrind", "-q", "--leak-check=full", "--errors-for-leak-kinds=all", f"--error-exitcode={FOUND_SOMETHING}", sys.argv[1]]
     valgrind = Program(watched, "under valgrind", False)
-    everything = commands.TESTS + loads.TESTS + files.TESTS + loans.TESTS + salvages.TESTS + cuts.TESTS + replay.TESTS
+    everything = commands.TESTS + loads.TESTS + files.TESTS + loans.TESTS + docks.TESTS + salvages.TESTS + cuts.TESTS + replay.TESTS
     # valgrind takes half a second to start: each kind of work once.
     once = [commands.the_worked_orders, commands.drawing, loads.lines_from_standard_input, loads.larger_copies,
             commands.a_tree_of_sixteen_levels, salvages.damaged_slots, loans.drawing_both, loans.salvages_of_two]

@@ -38,12 +38,12 @@ def found(program, t, codes, *words):
     return answers
 
 
-def cut_everywhere(program, folder, t, change, codes, collection=None):
+def cut_everywhere(program, folder, t, change, codes, collection=None, dock=None):
     """The change cut at every count, or at every ninth for a slow program: the words of the first orders, every other code as before, the
-    changed one as before or as after, the same once repaired; with a collection named, the other one as ever. The states that were met, in
-    order, and the orders."""
+    changed one as before or as after, the same once repaired, for dock 0; with a collection named, the other one as ever. The states that
+    were met, in order, and the orders."""
     own = naming(collection) if collection else []
-    named = own if change[0] != "repair" else []
+    named = (own if change[0] != "repair" else []) + (docked(dock) if dock is not None else [])
     others = lambda table: program.done("list", table, *naming(3 - collection)) if collection else None
     before, words, beside = everything(program.done("list", t, *own)), read_words(t), others(t)
     orders = orders_of(program.done("orders", t, *change, *named))

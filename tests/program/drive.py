@@ -94,18 +94,22 @@ def classes_of(out):
     return {c: access for c, (_, access) in everything(out).items()}
 
 
+# A barrier among orders.
+BARRIER = ()
+
+
 def orders_of(out):
-    """The orders that the command orders prints, a store as its word and value and a flush as None; and its last line's counts."""
+    """The orders that the command orders prints, a store as its word and value and a flush as None; its last line has their counts."""
     found = []
     lines = out.splitlines()
     for number, line in enumerate(lines[:-1], 1):
         parts = line.split()
-        assert int(parts[0]) == number and parts[1] in ("store", "flush"), line
-        found.append((int(parts[2]), int(parts[3])) if parts[1] == "store" else None)
-    counts = re.fullmatch(r"not made \((\d+) stores?, (\d+) flush(?:es)?\)", lines[-1])
+        assert int(parts[0]) == number and parts[1] in ("store", "flush", "barrier"), line
+        found.append((int(parts[2]), int(parts[3])) if parts[1] == "store" else None if parts[1] == "flush" else BARRIER)
+    counts = re.fullmatch(r"not made \((\d+) stores?, (\d+) flush(?:es)?(?:, (\d+) barriers?)?\)", lines[-1])
     assert counts, lines[-1]
-    stores, flushes = int(counts[1]), int(counts[2])
-    assert stores == sum(o is not None for o in found) and stores + flushes == len(found), out
+    stores, flushes, barriers = (int(n or 0) for n in counts.groups())
+    assert (stores, flushes, barriers) == (sum(map(bool, found)), found.count(None), found.count(BARRIER)), out
     return found
 
 
@@ -116,6 +120,11 @@ def carried_out(words, orders):
         if order:
             after[order[0]] = order[1]
     return after
+
+
+def docked(dock):
+    """The words that name a dock."""
+    return ["--dock", dock]
 
 
 def naming(collection):

@@ -15,14 +15,18 @@ EXAMPLE = r"""
 #include "catalogue.h"
 int main(void)
 {
-    uint64_t table[8 + 32 * 2], saved[8 + 32 * 2], report[36 * 2], orders[CATALOGUE_LIST_WORDS];
-    uint64_t key, recording, access, next, higher, stores, flushes, dropped;
+    uint64_t table[8 + 32 * 2], saved[8 + 32 * 2], report[36 * 2], orders[CATALOGUE_LONG_LIST_WORDS];
+    uint64_t key, recording, access, next, higher, stores, flushes, barriers, dropped;
     size_t words = sizeof table / sizeof table[0];
     if (catalogue_version() != CATALOGUE_VERSION || catalogue_make(table, words, 2) != 0
         || catalogue_parse((const uint8_t *)"AA0001912345", 12, &key) != 0
-        || catalogue_insert(table, words, 2, orders, CATALOGUE_LIST_WORDS, key, 7, CATALOGUE_ROOM, &stores, &flushes) != 0
+        || catalogue_insert(table, words, 2, orders, CATALOGUE_LIST_WORDS, 2, key, 7, CATALOGUE_ROOM, &stores, &flushes, &barriers) != CATALOGUE_NO_DOCK
+        || catalogue_insert(table, words, 2, orders, CATALOGUE_LONG_LIST_WORDS, CATALOGUE_UNORDERED, key, 7, CATALOGUE_ROOM, &stores, &flushes,
+                            &barriers) != 0
+        || stores != 4 || barriers != 4 || orders[2] != CATALOGUE_BARRIER || orders[3] != 0
         || catalogue_search(table, words, 2, key, &recording, &access, &next, &higher) != 0 || access != CATALOGUE_ROOM
-        || catalogue_set_class(table, words, 2, orders, CATALOGUE_LIST_WORDS, key, CATALOGUE_CLOSED, &stores, &flushes) != 0
+        || catalogue_set_class(table, words, 2, orders, CATALOGUE_LIST_WORDS, CATALOGUE_ORDERED, key, CATALOGUE_CLOSED, &stores, &flushes,
+                               &barriers) != 0
         || catalogue_search(table, words, 2, key, &recording, &access, &next, &higher) != 0 || access != CATALOGUE_CLOSED
         || catalogue_search(table, words, 2, 0, &recording, &access, &next, &higher) != CATALOGUE_ABSENT || higher != 1 || next != key
         || catalogue_search(table, words, 1, 0, &recording, &access, &next, &higher) != CATALOGUE_ABSENT || higher != 0

@@ -176,6 +176,12 @@ def any_mix_of_pages(program, folder):
     return said
 
 
+def mixes_on_the_unordered_dock(program, folder):
+    said, wrong = some_changes(program, folder, 40, *docked(1))
+    assert wrong == 0, f"{said}, {wrong} of them not sound, or without what was acknowledged"
+    return said
+
+
 def mixes_with_fast(program, folder):
     """What --fast risks is there, and the test sees it."""
     said, wrong = some_changes(program, folder, 30, "--fast")
@@ -249,5 +255,5 @@ def a_new_table_is_there_whole(program, folder):
     assert sorted(os.listdir(folder)) == ["printed", "syncs", "t", "t2", "t3", "t4"]
 
 
-TESTS = [any_mix_of_pages, changes_of_two_collections, leaves_that_come_back, mixes_with_fast, a_load_and_its_acknowledgements, what_a_killed_program_left,
-         a_disk_that_fails, a_new_table_is_there_whole]
+TESTS = [any_mix_of_pages, mixes_on_the_unordered_dock, changes_of_two_collections, leaves_that_come_back, mixes_with_fast,
+         a_load_and_its_acknowledgements, what_a_killed_program_left, a_disk_that_fails, a_new_table_is_there_whole]

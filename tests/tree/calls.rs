@@ -127,20 +127,20 @@ pub fn list(t: &[u64], collection: u64, low: u64, high: u64, out: &[u64]) -> (u6
     (n, [pairs.put(), more.put()], slice.back().to_vec())
 }
 
-/// What a write left: its number, its stores and its flushes, each where it put it, the table and the order list.
+/// What a write left: its number, its stores, its flushes and its barriers, each where it put it, the table and the order list.
 #[derive(Debug, PartialEq)]
 pub struct Wrote {
     pub number: u64,
-    pub counts: [Option<u64>; 2],
+    pub counts: [Option<u64>; 3],
     pub table: Vec<u64>,
     pub list: Vec<u64>,
 }
 
-fn wrote(t: &[u64], list: &[u64], call: impl FnOnce(*mut u64, *mut u64, *mut u64, *mut u64) -> u64) -> Wrote {
+fn wrote(t: &[u64], list: &[u64], call: impl FnOnce(*mut u64, *mut u64, *mut u64, *mut u64, *mut u64) -> u64) -> Wrote {
     let (mut table, mut orders) = (Lent::new(t), Lent::new(list));
-    let (mut stores, mut flushes) = (Word::new(), Word::new());
-    let number = call(table.pointer(), orders.pointer(), stores.pointer(), flushes.pointer());
-    Wrote { number, counts: [stores.put(), flushes.put()], table: table.back().to_vec(), list: orders.back().to_vec() }
+    let [mut stores, mut flushes, mut barriers] = std::array::from_fn(|_| Word::new());
+    let number = call(table.pointer(), orders.pointer(), stores.pointer(), flushes.pointer(), barriers.pointer());
+    Wrote { number, counts: [stores.put(), flushes.put(), barriers.put()], table: table.back().to_vec(), list: orders.back().to_vec() }
 }
 
 impl Wrote {
@@ -150,20 +150,20 @@ impl Wrote {
     }
 }
 
-pub fn insert(t: &[u64], collection: u64, list: &[u64], key: u64, recording: u64, access: u64) -> Wrote {
-    wrote(t, list, |a, b, s, f| unsafe { catalogue_insert(a, t.len(), collection, b, list.len(), key, recording, access, s, f) })
+pub fn insert(t: &[u64], collection: u64, list: &[u64], dock: u64, key: u64, recording: u64, access: u64) -> Wrote {
+    wrote(t, list, |a, b, s, f, r| unsafe { catalogue_insert(a, t.len(), collection, b, list.len(), dock, key, recording, access, s, f, r) })
 }
 
-pub fn delete(t: &[u64], collection: u64, list: &[u64], key: u64) -> Wrote {
-    wrote(t, list, |a, b, s, f| unsafe { catalogue_delete(a, t.len(), collection, b, list.len(), key, s, f) })
+pub fn delete(t: &[u64], collection: u64, list: &[u64], dock: u64, key: u64) -> Wrote {
+    wrote(t, list, |a, b, s, f, r| unsafe { catalogue_delete(a, t.len(), collection, b, list.len(), dock, key, s, f, r) })
 }
 
-pub fn set_class(t: &[u64], collection: u64, list: &[u64], key: u64, access: u64) -> Wrote {
-    wrote(t, list, |a, b, s, f| unsafe { catalogue_set_class(a, t.len(), collection, b, list.len(), key, access, s, f) })
+pub fn set_class(t: &[u64], collection: u64, list: &[u64], dock: u64, key: u64, access: u64) -> Wrote {
+    wrote(t, list, |a, b, s, f, r| unsafe { catalogue_set_class(a, t.len(), collection, b, list.len(), dock, key, access, s, f, r) })
 }
 
-pub fn repair(t: &[u64], list: &[u64]) -> Wrote {
-    wrote(t, list, |a, b, s, f| unsafe { catalogue_repair(a, t.len(), b, list.len(), s, f) })
+pub fn repair(t: &[u64], list: &[u64], dock: u64) -> Wrote {
+    wrote(t, list, |a, b, s, f, r| unsafe { catalogue_repair(a, t.len(), b, list.len(), dock, s, f, r) })
 }
 
 /// The number, the count of dropped slots where it was put, the second slice and the report.

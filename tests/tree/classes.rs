@@ -26,7 +26,7 @@ fn changed_class(t: &[u64], k: u64, to: u64, met: &mut Met, seed: u64, name: &st
     let map = &tree.maps[0];
     met.changes[class(map[&k]) as usize][to as usize] += 1;
     let call = Call::SetClass(1, k, to);
-    let (after, os) = same_write(t, &[0; LIST_WORDS], call, seed);
+    let (after, os) = same_write(t, &[0; LIST_WORDS], ORDERED, call, seed);
     let mut repaired = Writer::new(t);
     repaired.repair(tree.leftover);
     let stores: Vec<(usize, u64)> = os.iter().filter_map(|o| if let Order::Store(w, x) = *o { Some((w, x)) } else { None }).collect();
@@ -34,14 +34,14 @@ fn changed_class(t: &[u64], k: u64, to: u64, met: &mut Met, seed: u64, name: &st
     let one = after.number == 0 && before == &repaired.stores[..] && last.1 == pointer(recording(map[&k]), to);
     expect(one, seed, t, || format!("{name}: {call:?} is not the repair's {} stores and one more", repaired.stores.len()));
     expect(os.last() == Some(&Order::Flush(last.0 as u64 / 8)), seed, t, || format!("{name}: {call:?} does not end with its flush"));
-    expect(tree.leftover != Leftover::Nothing || after.counts == [Some(1); 2], seed, t, || format!("{name}: {call:?} on a settled table"));
+    expect(tree.leftover != Leftover::Nothing || after.counts == [Some(1), Some(1), Some(0)], seed, t, || format!("{name}: {call:?} on a settled table"));
 
     let new = changed(&tree.maps, call);
     let only = new[0].iter().filter(|(k, x)| map[k] != **x).count();
     expect(new[0].len() == map.len() && only == (class(map[&k]) != to) as usize, seed, t, || format!("{name}: more than one code differs"));
     let asked: BTreeSet<u64> = map.keys().filter(|x| x.abs_diff(k) < 2 * STEP || *x % 7 == 0).flat_map(|k| [k.wrapping_sub(1), *k, k + 1]).collect();
     for c in 0..=os.len() {
-        for image in images(t, &os[..c]) {
+        for image in images(t, &os[..c], ORDERED) {
             met.images += 1;
             let held = image_holds(&image, [&tree.maps, &new], (c, os.len()), &asked, seed, call);
             met.left[kind(held.leftover)] += 1;

@@ -97,7 +97,7 @@ fn roots_anywhere(size: u64, random: &mut Random, seed: u64) {
             for n in [1, 2] {
                 let k = ks[random.below(ks.len() as u64) as usize];
                 for call in [Call::Insert(n, k, 1 + random.below(1_000_000), random.below(3)), Call::Delete(n, k), Call::SetClass(n, k, 1), Call::Repair] {
-                    let number = same_write(&d, &list, call, seed).0.number;
+                    let number = same_write(&d, &list, ORDERED, call, seed).0.number;
                     met[place][(number == 4) as usize] += 1;
                     // A second root in the first tree is never sound; one above N, or beside a single node, is no table.
                     let right = match place {
@@ -130,7 +130,7 @@ struct Finished {
 /// maps. What it stores first is the repair.
 fn finished(t: &[u64], call: Call, met: &mut Finished, seed: u64, name: &str) {
     let sound = judge(t).expect("a sound table");
-    let (after, os) = same_write(t, &[0; LIST_WORDS], call, seed);
+    let (after, os) = same_write(t, &[0; LIST_WORDS], ORDERED, call, seed);
     if after.number != 0 {
         return;
     }
@@ -148,7 +148,7 @@ fn finished(t: &[u64], call: Call, met: &mut Finished, seed: u64, name: &str) {
     let held = |maps: &Maps, k: u64| maps.iter().map(|map| map.get(&k).copied()).collect::<Vec<_>>();
     let asked: BTreeSet<u64> = around([&sound.maps, &new]).into_iter().filter(|&k| k % 5 < 2 || held(&sound.maps, k) != held(&new, k)).collect();
     for c in 0..=os.len() {
-        for image in images(t, &os[..c]) {
+        for image in images(t, &os[..c], ORDERED) {
             met.images += 1;
             let held = image_holds(&image, [&sound.maps, &new], (c, os.len()), &asked, seed, call);
             met.left[(held.unfinished != sound.unfinished) as usize][kind(held.leftover)] += 1;
@@ -209,7 +209,7 @@ fn finished_by_either(size: u64, random: &mut Random, seed: u64) {
 fn tall_beside(size: u64, random: &mut Random, seed: u64) {
     let list: Vec<u64> = (0..LIST_WORDS as u64).collect();
     let gives = |t: &[u64], call: Call, number: u64| {
-        let after = same_write(t, &list, call, seed).0;
+        let after = same_write(t, &list, ORDERED, call, seed).0;
         expect(after.number == number, seed, t, || format!("{call:?}: {number} was meant, both sides gave {}", after.number));
         after.table
     };
@@ -236,11 +236,11 @@ fn tall_beside(size: u64, random: &mut Random, seed: u64) {
 /// A call's number in a table of two collections is its number in the collection's own tree alone with as many free nodes; a search and a
 /// listing answer as there.
 fn independent(size: u64, random: &mut Random, seed: u64) {
-    let mut numbers = [0u64; 18];
+    let mut numbers = [0u64; 19];
     for i in 0..size {
         let (own, other) = (grown(9, 1, random), grown(if i % 3 == 0 { 40 } else { 9 }, 1, random));
         // At most one leftover in the whole table.
-        let settle = |t: &[u64]| calls::repair(t, &[0; LIST_WORDS]).table;
+        let settle = |t: &[u64]| calls::repair(t, &[0; LIST_WORDS], ORDERED).table;
         let (own, other) = if random.below(2) == 0 { (settle(&own), other) } else { (own, settle(&other)) };
         let (free, which) = (random.below(5), 1 + random.below(2));
         let t = either_way(which, &own, &other, free, random);
@@ -248,7 +248,7 @@ fn independent(size: u64, random: &mut Random, seed: u64) {
         for k in keys(&own, random).into_iter().chain(keys(&other, random)) {
             expect(calls::search(&t, which, k) == calls::search(&own, 1, k), seed, &t, || format!("a search for {k} in collection {which} beside another"));
             for call in [Call::Insert(1, k, some_recording(random), some_class(random)), Call::Delete(1, k), Call::SetClass(1, k, some_class(random))] {
-                let [with, without] = [(&t, call.naming(which)), (&alone, call)].map(|(t, call)| called(t, &[0; LIST_WORDS], call).number);
+                let [with, without] = [(&t, call.naming(which)), (&alone, call)].map(|(t, call)| called(t, &[0; LIST_WORDS], ORDERED, call).number);
                 expect(with == without, seed, &t, || format!("{call:?} in collection {which} gives {with} beside another, {without} alone"));
                 numbers[with as usize] += 1;
             }

@@ -47,6 +47,11 @@ pub fn any_collection(random: &mut Random) -> u64 {
     [1, 1, 1, 2, 2, 2, 0, 3, 1 << 32, MARK][random.below(10) as usize]
 }
 
+/// A dock of any number, most often 0 or 1.
+pub fn any_dock(random: &mut Random) -> u64 {
+    if random.below(40) == 0 { [2, 3, 1 << 32, MARK][random.below(4) as usize] } else { random.below(2) }
+}
+
 /// Now and then a recording that is refused, or one that is often in the map already.
 pub fn some_recording(random: &mut Random) -> u64 {
     match random.below(40) {
@@ -104,7 +109,7 @@ fn cut_off(t: &mut [u64], splits: bool, random: &mut Random) {
         let key = if splits { crowded_key(t, n, random) } else { scarce_key(t, n, random) };
         let Some(k) = key else { return };
         let call = if splits { Call::Insert(n, k, 1 + random.below(1_000_000), random.below(3)) } else { Call::Delete(n, k) };
-        let Ok(w) = write(t, LIST_WORDS, call) else { continue };
+        let Ok(w) = write(t, LIST_WORDS, ORDERED, call) else { continue };
         let other = w.stores.iter().position(|s| s.0 / 32 != w.stores[0].0 / 32);
         match other.filter(|_| nodes_stored(&w.stores) > 2) {
             Some(first) => return store(t, &w.stores[..first + random.below((w.stores.len() - first) as u64) as usize]),
@@ -120,7 +125,7 @@ pub fn grown(most: u64, collections: u64, random: &mut Random) -> Vec<u64> {
     let span = [30, 200, MARK][random.below(3) as usize];
     for i in 0..random.below(14 * n) {
         let call = some_call(&t, span, i / (30 * collections) % 3 == 2, random);
-        if let Ok(w) = write(&t, LIST_WORDS, call) {
+        if let Ok(w) = write(&t, LIST_WORDS, ORDERED, call) {
             let part = if random.below(8) == 0 { random.below(w.stores.len() as u64 + 1) as usize } else { w.stores.len() };
             store(&mut t, &w.stores[..part]);
         }
@@ -197,42 +202,44 @@ pub fn any_words(len: usize, collections: u64, random: &mut Random) -> Vec<u64> 
     t
 }
 
-/// What a call must leave, by the reference's answer to it.
-fn wanted(t: &[u64], list: &[u64], answer: Result<Writer, u64>) -> (Wrote, Vec<Order>) {
+/// What a call for a dock must leave, by the reference's answer to it.
+fn wanted(t: &[u64], list: &[u64], dock: u64, answer: Result<Writer, u64>) -> (Wrote, Vec<Order>) {
     match answer {
-        Err(number) => (Wrote { number, counts: [None; 2], table: t.to_vec(), list: list.to_vec() }, vec![]),
+        Err(number) => (Wrote { number, counts: [None; 3], table: t.to_vec(), list: list.to_vec() }, vec![]),
         Ok(w) => {
-            let os = orders(&w.stores);
+            let os = orders(&w.stores, dock);
             let mut words = list.to_vec();
             let listed = encode(&os);
             words[..listed.len()].copy_from_slice(&listed);
-            let stores = w.stores.len() as u64;
-            (Wrote { number: 0, counts: [Some(stores), Some(os.len() as u64 - stores)], table: w.t, list: words }, os)
+            let count = |kind: fn(&Order) -> bool| Some(os.iter().filter(|o| kind(o)).count() as u64);
+            let counts = [count(|o| matches!(o, Order::Store(..))), count(|o| matches!(o, Order::Flush(_))), count(|o| *o == Order::Barrier)];
+            (Wrote { number: 0, counts, table: w.t, list: words }, os)
         }
     }
 }
 
-pub fn called(t: &[u64], list: &[u64], call: Call) -> Wrote {
+pub fn called(t: &[u64], list: &[u64], dock: u64, call: Call) -> Wrote {
     match call {
-        Call::Insert(n, k, r, c) => calls::insert(t, n, list, k, r, c),
-        Call::Delete(n, k) => calls::delete(t, n, list, k),
-        Call::SetClass(n, k, c) => calls::set_class(t, n, list, k, c),
-        Call::Repair => calls::repair(t, list),
+        Call::Insert(n, k, r, c) => calls::insert(t, n, list, dock, k, r, c),
+        Call::Delete(n, k) => calls::delete(t, n, list, dock, k),
+        Call::SetClass(n, k, c) => calls::set_class(t, n, list, dock, k, c),
+        Call::Repair => calls::repair(t, list, dock),
     }
 }
 
 /// The call's answer, table and list are the reference's; its orders.
-pub fn same_write(t: &[u64], list: &[u64], call: Call, seed: u64) -> (Wrote, Vec<Order>) {
-    same_as(write(t, list.len(), call), t, list, call, seed)
+pub fn same_write(t: &[u64], list: &[u64], dock: u64, call: Call, seed: u64) -> (Wrote, Vec<Order>) {
+    same_as(write(t, list.len(), dock, call), t, list, dock, call, seed)
 }
 
-pub fn same_as(answer: Result<Writer, u64>, t: &[u64], list: &[u64], call: Call, seed: u64) -> (Wrote, Vec<Order>) {
-    let (want, os) = wanted(t, list, answer);
-    let got = called(t, list, call);
+pub fn same_as(answer: Result<Writer, u64>, t: &[u64], list: &[u64], dock: u64, call: Call, seed: u64) -> (Wrote, Vec<Order>) {
+    let (want, os) = wanted(t, list, dock, answer);
+    let got = called(t, list, dock, call);
     expect(got == want, seed, t, || {
-        format!("{call:?} with {} words for orders: wanted {:?} {:?}, got {:?} {:?}; first orders {:?}", list.len(), want.number, want.counts, got.number, got.counts, &got.list[..got.list.len().min(40)])
+        format!("{call:?} for dock {dock} with {} words for orders: wanted {:?} {:?}, got {:?} {:?}; first orders {:?}", list.len(), want.number, want.counts, got.number, got.counts, &got.list[..got.list.len().min(40)])
     });
-    expect(os.len() <= 1121, seed, t, || format!("{call:?} made {} orders", os.len()));
+    let listed: u64 = want.counts[..2].iter().flatten().sum();
+    expect(listed <= 1121, seed, t, || format!("{call:?} made {listed} stores and flushes"));
     (want, os)
 }
 
@@ -313,7 +320,7 @@ pub fn image_holds(image: &[u64], maps: [&Maps; 2], cut: (usize, usize), asked: 
     expect(sound.is_some(), seed, image, || what() + ": not sound with these maps");
     expect(c > 0 || maps == old, seed, image, || what() + ": is taken");
     expect(c < all || maps == new, seed, image, || what() + ": is omitted");
-    let mended = calls::repair(image, &[0; LIST_WORDS]);
+    let mended = calls::repair(image, &[0; LIST_WORDS], ORDERED);
     let settled = mended.number == 0 && judge(&mended.table).is_some_and(|x| x.leftover == Leftover::Nothing && x.maps == *maps);
     expect(settled, seed, image, || what() + ", then repaired: not settled with these maps");
     let sound = sound.unwrap();
@@ -323,7 +330,12 @@ pub fn image_holds(image: &[u64], maps: [&Maps; 2], cut: (usize, usize), asked: 
 /// The orders of an accepted call's list.
 pub fn decode(after: &Wrote) -> Vec<Order> {
     let words = &after.list[..2 * after.orders() as usize];
-    words.chunks(2).map(|o| if o[0] == MARK { Order::Flush(o[1]) } else { Order::Store(o[0] as usize, o[1]) }).collect()
+    let order = |o: &[u64]| match (o[0], o[1]) {
+        (MARK, line) => Order::Flush(line),
+        (BARRIER, 0) => Order::Barrier,
+        (word, value) => Order::Store(word as usize, value),
+    };
+    words.chunks(2).map(order).collect()
 }
 
 /// The maps after an accepted call: that of its collection has changed, the other one stays.

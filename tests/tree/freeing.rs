@@ -34,7 +34,7 @@ fn freed(t: &[u64], leaf: u64, met: &mut Met, seed: u64, name: &str) {
     let slots = node(&settled.t, leaf).shown();
     expect(slots.len() == 1, seed, t, || format!("{name}: the leaf has {} codes", slots.len()));
     let call = Call::Delete(1, slots[0].key);
-    let (after, os) = same_write(t, &[0; LIST_WORDS], call, seed);
+    let (after, os) = same_write(t, &[0; LIST_WORDS], ORDERED, call, seed);
     let (free, now) = (unreachable(t), unreachable(&after.table));
     expect(now.len() == free.len() + 1 && now.is_superset(&free) && now.contains(&leaf), seed, t, || format!("{name}: {call:?} freed {free:?} to {now:?}, not {leaf}"));
     let words = |t: &[u64]| t[start(leaf)..start(leaf) + 32].to_vec();
@@ -45,7 +45,7 @@ fn freed(t: &[u64], leaf: u64, met: &mut Met, seed: u64, name: &str) {
     let new = changed(&tree.maps, call);
     let asked: BTreeSet<u64> = tree.maps[0].keys().filter(|&&k| k.abs_diff(slots[0].key) < 2 * STEP || k % 7 == 0).flat_map(|k| [k.wrapping_sub(1), *k, k + 1]).collect();
     for c in 0..=os.len() {
-        for image in images(t, &os[..c]) {
+        for image in images(t, &os[..c], ORDERED) {
             met.images += 1;
             let held = image_holds(&image, [&tree.maps, &new], (c, os.len()), &asked, seed, call);
             met.left[kind(held.leftover)] += 1;
@@ -123,7 +123,7 @@ fn refilled(n: u64, times: u64, order: usize, range: Range, random: &mut Random,
         }
         let mut inside = Vec::new();
         for k in keys {
-            let (after, _) = same_write(&t, &list, Call::Insert(1, k, k + 1, k % 3), seed);
+            let (after, _) = same_write(&t, &list, ORDERED, Call::Insert(1, k, k + 1, k % 3), seed);
             match after.number {
                 0 => inside.push(k),
                 number => {
@@ -138,7 +138,7 @@ fn refilled(n: u64, times: u64, order: usize, range: Range, random: &mut Random,
             inside.reverse();
         }
         for k in inside {
-            let (after, _) = same_write(&t, &list, Call::Delete(1, k), seed);
+            let (after, _) = same_write(&t, &list, ORDERED, Call::Delete(1, k), seed);
             expect(after.number == 0, seed, &t, || format!("the deletion of {k} gave {}", after.number));
             t = after.table;
         }

@@ -73,9 +73,9 @@ fn place(i: u64) -> usize {
 
 /// Whether the library takes the table as settled; else it must refuse it as not sound. No word may change.
 fn taken(t: &[u64], list: &[u64]) -> bool {
-    let w = calls::repair(t, list);
+    let w = calls::repair(t, list, ORDERED);
     assert!(w.table == t && w.list == list, "a repair of a settled table, or a refused one, wrote");
-    assert!(matches!((w.number, w.counts), (0, [Some(0), Some(0)]) | (4, [None, None])), "repair gave {} {:?}", w.number, w.counts);
+    assert!(matches!((w.number, w.counts), (0, [Some(0), Some(0), Some(0)]) | (4, [None, None, None])), "repair gave {} {:?}", w.number, w.counts);
     w.number == 0
 }
 
@@ -103,10 +103,10 @@ fn try_kind((name, number, most): Kind, codes: u64, seed: u64, random: &mut Rand
         let sound = recording(old) == recording(new) && class(new) <= MOST_CLASS;
         expect(taken(&t, list) == sound, seed, &[], || format!("{codes} codes, recordings {name}: {b} with {new} for {old}, {a} has {}", t[place(a)]));
         t[place(b)] = old;
-        let found = calls::insert(&t, 1, list, 7 * a + 1, recording(old), random.below(3));
+        let found = calls::insert(&t, 1, list, ORDERED, 7 * a + 1, recording(old), random.below(3));
         expect(found.number == 8 && found.table == t, seed, &[], || format!("{codes} codes, recordings {name}: {old} inserted again gives {}", found.number));
         let (to, line) = (random.below(3), place(b) as u64 / 8);
-        let set = calls::set_class(&t, 1, list, 7 * b, to);
+        let set = calls::set_class(&t, 1, list, ORDERED, 7 * b, to);
         let store = [place(b) as u64, pointer(recording(old), to), MARK, line];
         expect(set.number == 0 && set.list[..4] == store, seed, &[], || format!("{codes} codes, recordings {name}: class {to} of code {b} gives {}", set.number));
     }
@@ -118,7 +118,7 @@ fn try_kind((name, number, most): Kind, codes: u64, seed: u64, random: &mut Rand
         t[place(b)] = old;
     }
     let unused = (1..).find(|&r| (0..codes).all(|i| number(i) != r)).unwrap();
-    let added = calls::insert(&t, 1, list, 7 * (codes / 2) + 1, unused, 2);
+    let added = calls::insert(&t, 1, list, ORDERED, 7 * (codes / 2) + 1, unused, 2);
     expect(added.number == 0 && calls::search(&added.table, 1, 7 * (codes / 2) + 1) == calls::found(unused, 2), seed, &[], || format!("{codes} codes, recordings {name}: {unused} was not added"));
 }
 

@@ -4,7 +4,14 @@
 use std::collections::{BTreeMap, BTreeSet, HashMap};
 
 pub const MARK: u64 = u64::MAX;
+/// A barrier's first word; its second is 0.
+pub const BARRIER: u64 = 18446744073709551614;
+/// Docks: one that keeps its stores to one line in order, and one that does not.
+pub const ORDERED: u64 = 0;
+pub const UNORDERED: u64 = 1;
+/// The words of an order list, at least: for the one, and for the other.
 pub const LIST_WORDS: usize = 2560;
+pub const LONG_LIST_WORDS: usize = 5120;
 
 /// A leaf pointer's top 8 bits are the class, its low 56 the recording number.
 pub const CLASS: u32 = 56;
@@ -444,9 +451,11 @@ pub fn list(t: &[u64], collection: u64, low: u64, high: u64, out: &[u64]) -> (Li
 pub enum Order {
     Store(usize, u64),
     Flush(u64),
+    Barrier,
 }
 
 /// A table with the stores made on it so far.
+#[derive(Clone)]
 pub struct Writer {
     pub t: Vec<u64>,
     pub stores: Vec<(usize, u64)>,
@@ -665,8 +674,8 @@ impl Call {
     }
 }
 
-/// The stores of an accepted call and the table that it leaves, or its refusal number.
-pub fn write(t: &[u64], list_words: usize, call: Call) -> Result<Writer, u64> {
+/// The stores of an accepted call, with an order list of so many words for a dock, and the table that it leaves; or its refusal number.
+pub fn write(t: &[u64], list_words: usize, dock: u64, call: Call) -> Result<Writer, u64> {
     if !header_ok(t) {
         return Err(2);
     }
@@ -674,12 +683,17 @@ pub fn write(t: &[u64], list_words: usize, call: Call) -> Result<Writer, u64> {
         return Err(17);
     }
     let sound = judge(t).ok_or(4u64)?;
-    write_judged(t, &sound, list_words, call)
+    write_judged(t, &sound, list_words, dock, call)
 }
 
 /// As `write`, on a sound table that has the collection.
-pub fn write_judged(t: &[u64], sound: &Sound, list_words: usize, call: Call) -> Result<Writer, u64> {
-    if list_words < LIST_WORDS {
+pub fn write_judged(t: &[u64], sound: &Sound, list_words: usize, dock: u64, call: Call) -> Result<Writer, u64> {
+    let least = match dock {
+        ORDERED => LIST_WORDS,
+        UNORDERED => LONG_LIST_WORDS,
+        _ => return Err(18),
+    };
+    if list_words < least {
         return Err(5);
     }
     let parent = match sound.leftover {
@@ -736,8 +750,8 @@ pub fn write_judged(t: &[u64], sound: &Sound, list_words: usize, call: Call) -> 
     Ok(w)
 }
 
-/// A line is flushed before a store to another line, and at the end.
-pub fn orders(stores: &[(usize, u64)]) -> Vec<Order> {
+/// A line is flushed before a store to another line, and at the end; for the unordered dock a barrier follows each store.
+pub fn orders(stores: &[(usize, u64)], dock: u64) -> Vec<Order> {
     let mut list = Vec::new();
     let mut open = None;
     for &(w, x) in stores {
@@ -746,6 +760,9 @@ pub fn orders(stores: &[(usize, u64)]) -> Vec<Order> {
             list.push(Order::Flush(l));
         }
         list.push(Order::Store(w, x));
+        if dock == UNORDERED {
+            list.push(Order::Barrier);
+        }
         open = Some(line);
     }
     list.extend(open.map(Order::Flush));
@@ -758,6 +775,7 @@ pub fn encode(orders: &[Order]) -> Vec<u64> {
         .flat_map(|o| match *o {
             Order::Store(w, x) => [w as u64, x],
             Order::Flush(l) => [MARK, l],
+            Order::Barrier => [BARRIER, 0],
         })
         .collect()
 }
@@ -771,33 +789,58 @@ pub fn carry_out(t: &[u64], list: &[u64], c: u64) -> Result<Vec<u64>, u64> {
         return Err(13);
     }
     let first = &list[..2 * c as usize];
-    for o in first.chunks(2) {
-        let inside = if o[0] == MARK { o[1] < (t.len() / 8) as u64 } else { o[0] < t.len() as u64 };
-        if !inside {
-            return Err(13);
-        }
-    }
     let mut after = t.to_vec();
-    for o in first.chunks(2).filter(|o| o[0] != MARK) {
-        after[o[0] as usize] = o[1];
+    for o in first.chunks(2) {
+        match (o[0], o[1]) {
+            (MARK, line) if line < (t.len() / 8) as u64 => {}
+            (BARRIER, 0) => {}
+            (word, value) if word < t.len() as u64 => after[word as usize] = value,
+            _ => return Err(13),
+        }
     }
     Ok(after)
 }
 
-/// Every image that a cut after the given orders may leave: each line as at its last flush, then some first part of its later stores.
-pub fn images(t: &[u64], happened: &[Order]) -> Vec<Vec<u64>> {
+type Stores = Vec<(usize, u64)>;
+
+/// The stores to a line among orders.
+fn stores_to(line: usize, orders: &[Order]) -> Stores {
+    orders.iter().filter_map(|o| if let Order::Store(w, x) = *o { (w / 8 == line).then_some((w, x)) } else { None }).collect()
+}
+
+/// What a line may hold of its stores among the orders after its last flush. On the ordered dock: some first part of them. On the unordered
+/// one: all up to some barrier or up to none, and any choice of those from there to the next barrier.
+fn arrivals(line: usize, later: &[Order], dock: u64) -> BTreeSet<Stores> {
+    let all = stores_to(line, later);
+    if dock == ORDERED {
+        return (0..=all.len()).map(|n| all[..n].to_vec()).collect();
+    }
+    let barriers: Vec<usize> = (0..later.len()).filter(|&i| later[i] == Order::Barrier).collect();
+    let mut found = BTreeSet::new();
+    for from in std::iter::once(0).chain(barriers.iter().map(|i| i + 1)) {
+        let next = barriers.iter().copied().find(|&i| i >= from).unwrap_or(later.len());
+        let (whole, open) = (stores_to(line, &later[..from]), stores_to(line, &later[from..next]));
+        for chosen in 0..1u64 << open.len() {
+            let some = open.iter().enumerate().filter(|(i, _)| chosen >> i & 1 == 1).map(|(_, &s)| s);
+            found.insert(whole.iter().copied().chain(some).collect());
+        }
+    }
+    found
+}
+
+/// Every image that a cut after the given orders may leave on a dock: each line as at its last flush, then what of its later stores arrived.
+pub fn images(t: &[u64], happened: &[Order], dock: u64) -> Vec<Vec<u64>> {
     let lines: BTreeSet<usize> = happened.iter().filter_map(|o| if let Order::Store(w, _) = o { Some(w / 8) } else { None }).collect();
     let mut all = vec![t.to_vec()];
     for l in lines {
         let last = happened.iter().rposition(|o| *o == Order::Flush(l as u64)).map_or(0, |i| i + 1);
-        let to_line = |o: &Order| if let Order::Store(w, x) = *o { (w / 8 == l).then_some((w, x)) } else { None };
-        let early: Vec<(usize, u64)> = happened[..last].iter().filter_map(to_line).collect();
-        let later: Vec<(usize, u64)> = happened[last..].iter().filter_map(to_line).collect();
+        let early = stores_to(l, &happened[..last]);
+        let parts = arrivals(l, &happened[last..], dock);
         let mut next = Vec::new();
         for m in &all {
-            for part in 0..=later.len() {
+            for part in &parts {
                 let mut image = m.clone();
-                for &(w, x) in early.iter().chain(&later[..part]) {
+                for &(w, x) in early.iter().chain(part) {
                     image[w] = x;
                 }
                 next.push(image);

@@ -63,24 +63,27 @@ fn left_over(tower: &Tower, random: &mut Random) -> Vec<u64> {
 // ---- what was met
 
 struct Met {
-    numbers: [u64; 18],
+    numbers: [u64; 19],
     /// Accepted insertions by the length of the run split; the second with a new root.
     runs: [[u64; 16]; 2],
     cut_runs: [[u64; 16]; 2],
     kinds: [u64; 5],
-    longest: usize,
+    /// The longest list for each dock.
+    longest: [usize; 2],
     images: u64,
-    /// The order list that is lent.
-    list: Vec<u64>,
+    /// The order list that is lent, as short as each dock takes it.
+    lists: [Vec<u64>; 2],
     seed: u64,
 }
 
 impl Met {
-    /// A call on both sides; what it left, and its orders.
+    /// A call on both sides, for both docks; what it left for the ordered one, and its orders.
     fn tried(&mut self, t: &[u64], call: Call) -> (calls::Wrote, Vec<Order>) {
-        let (after, os) = same_write(t, &self.list, call, self.seed);
+        let answer = write(t, LIST_WORDS, ORDERED, call);
+        let barred = same_as(answer.clone(), t, &self.lists[1], UNORDERED, call, self.seed).1;
+        let (after, os) = same_as(answer, t, &self.lists[0], ORDERED, call, self.seed);
         self.numbers[after.number as usize] += 1;
-        self.longest = self.longest.max(os.len());
+        self.longest = [self.longest[0].max(os.len()), self.longest[1].max(barred.len())];
         if let (0, Call::Insert(1, ..)) = (after.number, call) {
             let (run, grown) = split(t, &after.table);
             self.runs[grown][run] += 1;
@@ -107,7 +110,7 @@ impl Met {
             expect(carried.0 == 0, seed, t, || format!("{call:?}: carry-out of {c} orders gave {}", carried.0));
             let mut seen = vec![carried.1];
             if random.below(24) == 0 {
-                let all = images(t, &os[..c]);
+                let all = images(t, &os[..c], ORDERED);
                 expect(all.contains(&seen[0]), seed, t, || format!("{call:?}: what carry-out of {c} orders leaves is no image of the cut"));
                 seen.extend(all);
             }
@@ -122,7 +125,7 @@ impl Met {
                 expect(tree.is_some(), seed, &image, || what() + ": not sound with that map");
                 let tree = tree.unwrap();
                 self.kinds[kind(tree.leftover)] += 1;
-                let (mended, _) = same_as(write_judged(&image, &tree, LIST_WORDS, Call::Repair), &image, &self.list, Call::Repair, seed);
+                let (mended, _) = same_as(write_judged(&image, &tree, LIST_WORDS, ORDERED, Call::Repair), &image, &self.lists[0], ORDERED, Call::Repair, seed);
                 let settled = mended.number == 0 && (random.below(8) > 0 || judge(&mended.table).map_or(false, |x| x.leftover == Leftover::Nothing && x.maps == *maps));
                 expect(settled, seed, &image, || what() + ", then repaired: not settled with that map");
                 if random.below(100) == 0 {
@@ -145,7 +148,8 @@ fn split(before: &[u64], after: &[u64]) -> (usize, usize) {
 fn main() {
     let (seed, size) = arguments(8);
     let mut random = Random(seed);
-    let mut met = Met { numbers: [0; 18], runs: [[0; 16]; 2], cut_runs: [[0; 16]; 2], kinds: [0; 5], longest: 0, images: 0, list: (0..LIST_WORDS as u64).collect(), seed };
+    let lists = [LIST_WORDS, LONG_LIST_WORDS].map(|words| (0..words as u64).collect());
+    let mut met = Met { numbers: [0; 19], runs: [[0; 16]; 2], cut_runs: [[0; 16]; 2], kinds: [0; 5], longest: [0; 2], images: 0, lists, seed };
     let mut passed = 0;
 
     // Runs of 1 to 15 nodes below a node with room, and runs up to a root at level 0 to 14, which grows: with just the nodes that they need
@@ -242,12 +246,12 @@ fn main() {
     println!("by number: {:?}", met.numbers);
     println!("runs split 1 to 15: {:?}; with a new root: {:?}", &met.runs[0][1..], &met.runs[1][1..]);
     println!("of these cut: {:?}; with a new root: {:?}; images {}", &met.cut_runs[0][1..], &met.cut_runs[1][1..], met.images);
-    println!("longest list {}", met.longest);
+    println!("longest list for each dock {:?}", met.longest);
     all_met(&met.kinds, seed);
     let each = |counts: &[[u64; 16]; 2], least: u64| counts.iter().all(|of| of[1..].iter().all(|&n| n >= least));
     expect(each(&met.runs, size) && each(&met.cut_runs, 1), seed, &[], || "a length of run was not split or cut often enough".into());
     expect([8, 10, 11].iter().all(|&n: &usize| met.numbers[n] >= 8 * size), seed, &[], || "8, 10 or 11 was not met often enough".into());
-    expect(met.longest == 933, seed, &[], || format!("the longest list has {} orders", met.longest));
+    expect(met.longest == [933, 1735], seed, &[], || format!("the longest lists have {:?} orders", met.longest));
     passed += 1;
 
     println!("{passed} passed, 0 failed");

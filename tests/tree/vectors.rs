@@ -3,7 +3,7 @@ mod calls;
 mod reference;
 mod tower;
 
-use reference::{Random, MARK};
+use reference::{Random, BARRIER, MARK, ORDERED, UNORDERED};
 use std::fmt::Debug;
 use tower::{tower, Floor};
 
@@ -71,11 +71,11 @@ fn root_levels() {
     finds(&t, 5, 50);
     lacks(&t, 6, None);
     lacks(&t, 0, Some(5));
-    gives("repair", &t, calls::repair(&t, &list).number, 0);
+    gives("repair", &t, calls::repair(&t, &list, ORDERED).number, 0);
     gives("listing", &t, calls::list(&t, 1, 0, MARK, &[7; 4]), (0, [Some(1), Some(0)], vec![5, 50, 7, 7]));
     let t = chain(16);
     search_gives(&t, 5, 3);
-    gives("repair", &t, calls::repair(&t, &list).number, 4);
+    gives("repair", &t, calls::repair(&t, &list, ORDERED).number, 4);
     gives("listing", &t, calls::list(&t, 1, 0, MARK, &[7; 4]), (4, [None; 2], vec![7; 4]));
     search_gives(&with(&chain(15), 10, MARK), 5, 3);
 }
@@ -148,7 +148,7 @@ fn neighbours_further_on() {
     for (key, next) in [(0, Some(10)), (11, Some(80)), (40, Some(80)), (59, Some(80)), (60, Some(80)), (79, Some(80)), (81, Some(85)), (86, None)] {
         lacks(&t, key, next);
     }
-    gives("repair", &t, calls::repair(&t, &[0; 2560]).counts, [Some(0); 2]);
+    gives("repair", &t, calls::repair(&t, &[0; 2560], ORDERED).counts, [Some(0); 3]);
     // The last leaf empty too: none from 11 on.
     let none = with(&t, 145, 0);
     lacks(&none, 9, Some(10));
@@ -280,8 +280,8 @@ fn fresh_nodes() {
         let mut nodes = vec![FREE; n];
         nodes[old as usize - 1] = leaf;
         let t = table(old, &nodes);
-        let after = calls::insert(&t, 1, &list, 115, 12, 0);
-        gives("insertion of 115", &t, (after.number, after.counts), (0, [Some(75), Some(13)]));
+        let after = calls::insert(&t, 1, &list, ORDERED, 115, 12, 0);
+        gives("insertion of 115", &t, (after.number, after.counts), (0, [Some(75), Some(13), Some(0)]));
         nodes[old as usize - 1] = ([MARK, sibling, 0, 0], &FULL);
         nodes[root as usize - 1] = ([old, 0, 1, 0], &[]);
         nodes[sibling as usize - 1] = ([MARK, 0, 0, 60], &[(60, 6), (70, 7), (80, 8), (90, 9), (100, 10), (110, 11), (115, 12)]);
@@ -298,7 +298,7 @@ fn fresh_nodes() {
         nodes[a as usize - 1] = leaf;
         nodes[root as usize - 1] = ([a, 0, 1, 0], &[]);
         let t = table(root, &nodes);
-        let after = calls::insert(&t, 1, &list, 5, 12, 0);
+        let after = calls::insert(&t, 1, &list, ORDERED, 5, 12, 0);
         let sibling = after.table[8 + 32 * (a as usize - 1) + 1];
         gives("insertion of 5", &t, (after.number, after.table[1], sibling), (0, root, b));
     }
@@ -306,11 +306,11 @@ fn fresh_nodes() {
 
 /// A deletion's counts and orders, and what the table then is.
 fn deletion_gives(t: &[u64], key: u64, orders: &[[u64; 2]], changed: &[(usize, u64)]) -> Vec<u64> {
-    let after = calls::delete(t, 1, &[7; 2560], key);
+    let after = calls::delete(t, 1, &[7; 2560], ORDERED, key);
     let flushes = orders.iter().filter(|o| o[0] == MARK).count() as u64;
     let mut list = orders.concat();
     list.resize(2560, 7);
-    gives(&format!("deletion of {key}"), t, (after.number, after.counts, after.list), (0, [Some(orders.len() as u64 - flushes), Some(flushes)], list));
+    gives(&format!("deletion of {key}"), t, (after.number, after.counts, after.list), (0, [Some(orders.len() as u64 - flushes), Some(flushes), Some(0)], list));
     let want = changed.iter().fold(t.to_vec(), |t, &(word, value)| with(&t, word, value));
     gives(&format!("deletion of {key}"), t, after.table.clone(), want);
     after.table
@@ -322,7 +322,7 @@ fn freed_leaves() {
     let t = table(2, &[([MARK, 3, 0, 0], &[(10, 1)]), ([1, 0, 1, 0], &[(60, 3)]), ([MARK, 0, 0, 60], &[(70, 6)])]);
     // Its slot at the parent, the one there is, goes first; then the leaf itself is passed by. Its words stay but for the pointer.
     let freed = deletion_gives(&t, 70, &[[81, MARK], [81, 0], [MARK, 10], [49, 1], [49, 0], [MARK, 6], [9, 0], [MARK, 1]], &[(81, 0), (49, 0), (9, 0)]);
-    gives("repair", &freed, calls::repair(&freed, &[0; 2560]).counts, [Some(0); 2]);
+    gives("repair", &freed, calls::repair(&freed, &[0; 2560], ORDERED).counts, [Some(0); 3]);
     // The leftmost child remains, also as the last leaf; so does a root leaf.
     let last = deletion_gives(&freed, 10, &[[17, MARK], [17, 0], [MARK, 2]], &[(17, 0)]);
     lacks(&last, 10, None);
@@ -331,11 +331,11 @@ fn freed_leaves() {
     // The freed node serves the next split, where there was no other: eleven codes in leaf 1, then a twelfth.
     let mut grown = freed.clone();
     for key in 11..=20 {
-        let after = calls::insert(&grown, 1, &[0; 2560], key, key, 0);
+        let after = calls::insert(&grown, 1, &[0; 2560], ORDERED, key, key, 0);
         gives(&format!("insertion of {key}"), &grown, after.number, 0);
         grown = after.table;
     }
-    let after = calls::insert(&grown, 1, &[0; 2560], 21, 21, 0);
+    let after = calls::insert(&grown, 1, &[0; 2560], ORDERED, 21, 21, 0);
     gives("insertion of 21", &grown, (after.number, after.table[9], after.table[48..50].to_vec(), after.table[75]), (0, 3, vec![15, 3], 15));
     // A leaf between two: its neighbour takes its sibling. A leaf that was empty before is no matter of this deletion, and may be the neighbour.
     let t = table(1, &[([2, 0, 1, 0], &[(20, 3), (40, 4), (60, 5)]), ([MARK, 3, 0, 0], &[(10, 1)]), ([MARK, 4, 0, 20], &[]), ([MARK, 5, 0, 40], &[(45, 4)]), ([MARK, 0, 0, 60], &[(60, 6)])]);
@@ -357,7 +357,7 @@ fn freed_leaves() {
     nodes.extend((0..12).map(|i| ([MARK, if i < 11 { i as u64 + 3 } else { 0 }, 0, keys[i]], &pairs[i][..])));
     let t = table(1, &nodes);
     for p in 0..11 {
-        let after = calls::delete(&t, 1, &[0; 2560], keys[p + 1] + 1);
+        let after = calls::delete(&t, 1, &[0; 2560], ORDERED, keys[p + 1] + 1);
         gives(&format!("deletion at slot {p} of 11"), &t, (after.number, after.counts[0]), (0, Some(2 + 2 * (11 - p as u64) + 1)));
         lacks(&after.table, keys[p + 1] + 1, pairs.get(p + 2).map(|x| x[0].0));
     }
@@ -375,7 +375,7 @@ fn recordings_and_classes() {
         gives(&format!("search for {key}"), &t, calls::search(&t, 1, key), calls::found(recording, access));
     }
     gives("listing", &t, calls::list(&t, 1, 0, MARK, &[7; 6]), (0, [Some(3), Some(0)], vec![20, 5, 30, ROOM + 6, 40, CLOSED + ROOM - 1]));
-    let number = |key, recording, access| calls::insert(&t, 1, &list, key, recording, access).number;
+    let number = |key, recording, access| calls::insert(&t, 1, &list, ORDERED, key, recording, access).number;
     for (recording, want) in [(0, 6), (1, 0), (7, 0), (ROOM - 2, 0), (ROOM - 1, 8), (ROOM, 6), (ROOM + 1, 6), (CLOSED + 7, 6), (MARK, 6), (5, 8), (6, 8)] {
         for access in 0..=2 {
             gives(&format!("insertion of recording {recording}, class {access}"), &t, number(25, recording, access), want);
@@ -389,12 +389,12 @@ fn recordings_and_classes() {
         }
     }
     // The order list has the whole pointer.
-    let after = calls::insert(&make(1), 1, &list, 9, ROOM - 1, 2);
+    let after = calls::insert(&make(1), 1, &list, ORDERED, 9, ROOM - 1, 2);
     gives("insertion", &make(1), after.list[..10].to_vec(), vec![19, 0, 17, MARK, 16, 9, 17, CLOSED + ROOM - 1, MARK, 2]);
     // 4 and 5 come first.
     let bad = with(&t, 8, 1);
-    gives("insertion into a table that is not sound", &bad, calls::insert(&bad, 1, &list[..9], 25, 0, 9).number, 4);
-    gives("insertion with a short list", &t, calls::insert(&t, 1, &list[..2559], 25, 0, 9).number, 5);
+    gives("insertion into a table that is not sound", &bad, calls::insert(&bad, 1, &list[..9], ORDERED, 25, 0, 9).number, 4);
+    gives("insertion with a short list", &t, calls::insert(&t, 1, &list[..2559], ORDERED, 25, 0, 9).number, 5);
 }
 
 fn make(nodes: u64) -> Vec<u64> {
@@ -403,7 +403,7 @@ fn make(nodes: u64) -> Vec<u64> {
 
 /// A search answers what stands there; writes and listing take only recordings from 1 on in classes 0 to 2.
 fn pointers_handed_in() {
-    let repaired = |t: &[u64]| calls::repair(t, &[0; 2560]).number;
+    let repaired = |t: &[u64]| calls::repair(t, &[0; 2560], ORDERED).number;
     for access in 0..256 {
         for recording in [0, 1, 9, ROOM - 1] {
             let pointer = access * ROOM + recording;
@@ -423,15 +423,15 @@ fn pointers_handed_in() {
     // Slot 0 hidden by the leaf's left, MARK: no recording, though its low bits are one.
     let t = table(1, &[([MARK, 0, 0, 0], &[(5, MARK), (10, 3)])]);
     lacks(&t, 5, Some(10));
-    gives("insertion", &t, calls::insert(&t, 1, &[0; 2560], 20, ROOM - 1, 0).number, 0);
+    gives("insertion", &t, calls::insert(&t, 1, &[0; 2560], ORDERED, 20, ROOM - 1, 0).number, 0);
     let t = table(1, &[([MARK, 0, 0, 0], &[(5, MARK), (10, ROOM - 1)])]);
     gives("repair", &t, repaired(&t), 0);
-    gives("insertion", &t, calls::insert(&t, 1, &[0; 2560], 20, ROOM - 1, 0).number, 8);
+    gives("insertion", &t, calls::insert(&t, 1, &[0; 2560], ORDERED, 20, ROOM - 1, 0).number, 8);
 }
 
 /// Whole words that are equal mean hidden; recordings that are equal in two classes mean not sound.
 fn recordings_in_two_classes() {
-    let repaired = |t: &[u64]| calls::repair(t, &[0; 2560]).number;
+    let repaired = |t: &[u64]| calls::repair(t, &[0; 2560], ORDERED).number;
     for a in 0..3 {
         for b in 0..3 {
             let (x, y) = (a * ROOM + 5, b * ROOM + 5);
@@ -453,19 +453,19 @@ fn class_changes() {
     let t = table(1, &[([MARK, 0, 0, 0], &[(20, 5), (30, ROOM + 6), (40, CLOSED + 8)])]);
     for (key, place, recording) in [(20, 17, 5), (30, 19, 6), (40, 21, 8)] {
         for access in 0..=2 {
-            let after = calls::set_class(&t, 1, &list, key, access);
+            let after = calls::set_class(&t, 1, &list, ORDERED, key, access);
             let pointer = access * ROOM + recording;
             let mut want = list.to_vec();
             want[..4].copy_from_slice(&[place as u64, pointer, MARK, 2]);
             // Also where the code has that class already.
-            gives(&format!("class {access} of {key}"), &t, (after.number, after.counts, after.list), (0, [Some(1), Some(1)], want));
+            gives(&format!("class {access} of {key}"), &t, (after.number, after.counts, after.list), (0, [Some(1), Some(1), Some(0)], want));
             gives(&format!("class {access} of {key}"), &t, &after.table, &with(&t, place, pointer));
             gives(&format!("search for {key}"), &after.table, calls::search(&after.table, 1, key), calls::found(recording, access));
         }
     }
     let refusal = |t: &[u64], words: usize, key: u64, access: u64| {
-        let after = calls::set_class(t, 1, &list[..words], key, access);
-        gives(&format!("a refused class {access} of {key}"), t, (after.counts, after.table == t, after.list == list[..words]), ([None; 2], true, true));
+        let after = calls::set_class(t, 1, &list[..words], ORDERED, key, access);
+        gives(&format!("a refused class {access} of {key}"), t, (after.counts, after.table == t, after.list == list[..words]), ([None; 3], true, true));
         after.number
     };
     for access in [3, 255, 256, ROOM, MARK] {
@@ -478,13 +478,13 @@ fn class_changes() {
     // A hidden slot's key is absent. Its repair comes first: here on the same line, and one flush is enough; there on another.
     let t = table(1, &[([MARK, 0, 0, 0], &[(20, 5), (25, 5), (30, 6)])]);
     gives("class of a hidden slot's key", &t, refusal(&t, 2560, 25, 1), 9);
-    let after = calls::set_class(&t, 1, &list, 30, 2);
+    let after = calls::set_class(&t, 1, &list, ORDERED, 30, 2);
     let orders = [18, 30, 19, 6, 21, 0, 19, CLOSED + 6, MARK, 2, 7, 7];
-    gives("class of 30", &t, (after.counts, after.list[..12].to_vec()), ([Some(4), Some(1)], orders.to_vec()));
+    gives("class of 30", &t, (after.counts, after.list[..12].to_vec()), ([Some(4), Some(1), Some(0)], orders.to_vec()));
     let t = table(2, &[([MARK, 3, 0, 0], &[(10, 3)]), ([1, 0, 1, 0], &[]), ([MARK, 0, 0, 50], &[(60, 6)])]);
-    let after = calls::set_class(&t, 1, &list, 60, 1);
+    let after = calls::set_class(&t, 1, &list, ORDERED, 60, 1);
     let orders = [51, 0, 49, 1, 48, 50, 49, 3, MARK, 6, 81, ROOM + 6, MARK, 10, 7, 7];
-    gives("class of 60", &t, (after.counts, after.list[..16].to_vec()), ([Some(5), Some(2)], orders.to_vec()));
+    gives("class of 60", &t, (after.counts, after.list[..16].to_vec()), ([Some(5), Some(2), Some(0)], orders.to_vec()));
 }
 
 /// All nodes from a root at level 15 down to a leaf are full: 11, however few nodes are free. From level 14, 16 nodes are needed: else 10.
@@ -492,14 +492,14 @@ fn too_high() {
     let random = &mut Random(20_261_118);
     for (root, free, number) in [(15, 0, 11), (15, 1, 11), (15, 17, 11), (15, 100, 11), (14, 0, 10), (14, 15, 10), (14, 16, 0), (14, 17, 0)] {
         let x = tower(&vec![Floor { slots: 11, place: 3 }; root + 1], free, random);
-        let after = calls::insert(&x.t, 1, &[0; 2560], x.key, 1, 0);
+        let after = calls::insert(&x.t, 1, &[0; 2560], ORDERED, x.key, 1, 0);
         gives(&format!("insertion of {} into full nodes up to level {root}, {free} free", x.key), &x.t, after.number, number);
         if number == 0 {
             let level = after.table[8 + 32 * (after.table[1] as usize - 1) + 2];
             gives("the new root's level", &x.t, level, 15);
             finds(&after.table, x.key, 1);
         } else {
-            gives("a refused insertion", &x.t, (after.counts, after.table == x.t, after.list == [0; 2560]), ([None; 2], true, true));
+            gives("a refused insertion", &x.t, (after.counts, after.table == x.t, after.list == [0; 2560]), ([None; 3], true, true));
         }
     }
 }
@@ -528,9 +528,9 @@ fn numbers_in(t: &[u64], collection: u64, words: usize) -> [u64; 6] {
     let (list, out) = (&[7; 2560][..words], [7; 6]);
     let listed = calls::list(t, collection, 0, MARK, &out);
     gives("a refused listing", t, (listed.1, listed.2), ([None; 2], out.to_vec()));
-    let written = [calls::insert(t, collection, list, 1, 0, 9), calls::delete(t, collection, list, 1), calls::set_class(t, collection, list, 1, 9), calls::repair(t, list)];
+    let written = [calls::insert(t, collection, list, ORDERED, 1, 0, 9), calls::delete(t, collection, list, ORDERED, 1), calls::set_class(t, collection, list, ORDERED, 1, 9), calls::repair(t, list, ORDERED)];
     let numbers = written.map(|w| {
-        gives("a refused write", t, w.number == 0 || (w.counts == [None; 2] && w.table == t && w.list == list), true);
+        gives("a refused write", t, w.number == 0 || (w.counts == [None; 3] && w.table == t && w.list == list), true);
         w.number
     });
     let looked = calls::search(t, collection, 1);
@@ -583,20 +583,20 @@ fn second_roots() {
         (6, 0, calls::absent(None), calls::absent(None)),
     ] {
         let t = with(&table(1, &nodes), 3, root);
-        gives(&format!("repair with a second root {root}"), &t, calls::repair(&t, &[0; 2560]).number, number);
+        gives(&format!("repair with a second root {root}"), &t, calls::repair(&t, &[0; 2560], ORDERED).number, number);
         gives(&format!("listing of 1 with a second root {root}"), &t, calls::list(&t, 1, 0, MARK, &[7; 4]).0, number);
         gives(&format!("search of 2 with a second root {root}"), &t, [found(&t, 2, 10), found(&t, 2, 60)], [ten, sixty]);
         gives(&format!("search of 1 with a second root {root}"), &t, [found(&t, 1, 10), found(&t, 1, 60)], [calls::found(1, 0), calls::absent(None)]);
     }
     // A second root that is alone sound, the only leaf of the first tree; and two trees that are each sound and share their last leaf.
     let t = two([1, 2], &[([2, 0, 1, 0], &[]), ([MARK, 0, 0, 0], &[(10, 1)])]);
-    gives("repair, a leaf of both", &t, calls::repair(&t, &[0; 2560]).number, 4);
+    gives("repair, a leaf of both", &t, calls::repair(&t, &[0; 2560], ORDERED).number, 4);
     let shared = |last: u64| {
         let parents: [Words; 2] = [([3, 0, 1, 0], &[(40, 4)]), ([5, 0, 1, 0], if last == 4 { &[(40, 4)] } else { &[(40, 6)] })];
         two([1, 2], &[parents[0], parents[1], ([MARK, 4, 0, 0], &[(10, 1)]), ([MARK, 0, 0, 40], &[(50, 2)]), ([MARK, last, 0, 0], &[(20, 3)]), ([MARK, 0, 0, 40], &[(60, 4)])])
     };
     for (last, number) in [(4, 4), (6, 0)] {
-        gives(&format!("repair, last leaves 4 and {last}"), &shared(last), calls::repair(&shared(last), &[0; 2560]).number, number);
+        gives(&format!("repair, last leaves 4 and {last}"), &shared(last), calls::repair(&shared(last), &[0; 2560], ORDERED).number, number);
     }
 }
 
@@ -619,25 +619,25 @@ fn two_maps() {
     gives("listing of 1", &t, calls::list(&t, 1, 0, MARK, &[7; 5]), (0, [Some(2), Some(0)], vec![20, 5, 30, ROOM + 6, 7]));
     gives("listing of 2", &t, calls::list(&t, 2, 26, MARK, &[7; 3]), (0, [Some(1), Some(0)], vec![30, CLOSED + 5, 7]));
     for (collection, key, recording, number) in [(1, 25, 7, 0), (2, 20, 7, 0), (1, 20, 7, 7), (2, 20, 5, 8), (1, 25, 5, 8), (2, 30, 7, 7), (1, 25, 6, 8), (2, 26, 6, 8)] {
-        gives(&format!("insertion of {key} with {recording} in {collection}"), &t, calls::insert(&t, collection, &list, key, recording, 0).number, number);
+        gives(&format!("insertion of {key} with {recording} in {collection}"), &t, calls::insert(&t, collection, &list, ORDERED, key, recording, 0).number, number);
     }
-    gives("deletions", &t, [(1, 20), (1, 25), (2, 20), (2, 25)].map(|(c, key)| calls::delete(&t, c, &list, key).number), [0, 9, 9, 0]);
+    gives("deletions", &t, [(1, 20), (1, 25), (2, 20), (2, 25)].map(|(c, key)| calls::delete(&t, c, &list, ORDERED, key).number), [0, 9, 9, 0]);
     // The same code's class in one and in the other: one store each.
     for (collection, place, recording) in [(1, 19, 6), (2, 51, 5)] {
-        let after = calls::set_class(&t, collection, &list, 30, 0);
+        let after = calls::set_class(&t, collection, &list, ORDERED, 30, 0);
         gives(&format!("class of 30 in {collection}"), &t, (after.number, after.list[..4].to_vec(), after.table), (0, vec![place, recording, MARK, place / 8], with(&t, place as usize, recording)));
     }
     // An insertion in node 2: pointer 1 first, then the slot.
     let empty = two([1, 2], &[([MARK, 0, 0, 0], &[(20, 5)]), LEAF]);
-    let after = calls::insert(&empty, 2, &list, 20, 5, 1);
-    gives("insertion in 2", &empty, (after.counts, after.list[..10].to_vec()), ([Some(4), Some(1)], vec![51, 0, 49, MARK, 48, 20, 49, ROOM + 5, MARK, 6]));
+    let after = calls::insert(&empty, 2, &list, ORDERED, 20, 5, 1);
+    gives("insertion in 2", &empty, (after.counts, after.list[..10].to_vec()), ([Some(4), Some(1), Some(0)], vec![51, 0, 49, MARK, 48, 20, 49, ROOM + 5, MARK, 6]));
     // A tree that is broken: the other one is searched all the same; listings and writes are refused.
     for (collection, word) in [(2, 10), (1, 42)] {
         let bad = with(&t, word, 99);
         gives(&format!("search of {collection}"), &bad, calls::search(&bad, collection, 30).number, 0);
         gives(&format!("search of {}", 3 - collection), &bad, calls::search(&bad, 3 - collection, 30), calls::refused(3));
         gives("listings", &bad, [1, 2].map(|c| calls::list(&bad, c, 0, MARK, &[7; 4]).0), [4; 2]);
-        gives("deletions", &bad, [1, 2].map(|c| calls::delete(&bad, c, &list, 30).number), [4; 2]);
+        gives("deletions", &bad, [1, 2].map(|c| calls::delete(&bad, c, &list, ORDERED, 30).number), [4; 2]);
     }
 }
 
@@ -651,8 +651,8 @@ fn second_root_grows() {
         nodes[other as usize - 1] = full;
         let roots = |own| if collection == 1 { [own, other] } else { [other, own] };
         let t = two(roots(own), &nodes);
-        let after = calls::insert(&t, collection, &list, 115, 12, 0);
-        gives("insertion of 115", &t, (after.number, after.counts), (0, [Some(75), Some(13)]));
+        let after = calls::insert(&t, collection, &list, ORDERED, 115, 12, 0);
+        gives("insertion of 115", &t, (after.number, after.counts), (0, [Some(75), Some(13), Some(0)]));
         nodes[own as usize - 1] = ([MARK, sibling, 0, 0], &FULL);
         nodes[root as usize - 1] = ([own, 0, 1, 0], &[]);
         nodes[sibling as usize - 1] = ([MARK, 0, 0, 60], &[(60, 6), (70, 7), (80, 8), (90, 9), (100, 10), (110, 11), (115, 12)]);
@@ -665,10 +665,10 @@ fn second_root_grows() {
     }
     // N = 2 and N = 3: eleven codes each and no more; a code out of one makes no room in the other.
     for t in [two([1, 2], &[full, full]), two([3, 1], &[full, FREE, full])] {
-        gives("insertion into full leaves", &t, [1, 2].map(|c| calls::insert(&t, c, &list, 115, 12, 0).number), [10; 2]);
+        gives("insertion into full leaves", &t, [1, 2].map(|c| calls::insert(&t, c, &list, ORDERED, 115, 12, 0).number), [10; 2]);
     }
-    let less = calls::delete(&two([1, 2], &[full, full]), 1, &list, 10).table;
-    gives("insertion after a deletion", &less, [1, 2].map(|c| calls::insert(&less, c, &list, 115, 12, 0).number), [0, 10]);
+    let less = calls::delete(&two([1, 2], &[full, full]), 1, &list, ORDERED, 10).table;
+    gives("insertion after a deletion", &less, [1, 2].map(|c| calls::insert(&less, c, &list, ORDERED, 115, 12, 0).number), [0, 10]);
 }
 
 /// One leftover in the whole table, and a writer of either finishes it: its repair's stores come first.
@@ -678,32 +678,32 @@ fn finished_by_the_other() {
     let orders = |after: &calls::Wrote, want: &[[u64; 2]]| after.list[..2 * want.len() + 2] == [want.concat(), vec![7, 7]].concat();
     // Closing slot 1 of node 1 (words 18 to 21, line 2) or of node 2 (words 50 to 53, line 6), then the call in the other node.
     let t = two([1, 2], &[hidden, LEAF]);
-    let after = calls::insert(&t, 2, &list, 9, 7, 0);
-    gives("insertion in 2", &t, (after.number, after.counts), (0, [Some(7), Some(2)]));
+    let after = calls::insert(&t, 2, &list, ORDERED, 9, 7, 0);
+    gives("insertion in 2", &t, (after.number, after.counts), (0, [Some(7), Some(2), Some(0)]));
     gives("insertion in 2", &t, orders(&after, &[[18, 30], [19, 6], [21, 0], [MARK, 2], [51, 0], [49, MARK], [48, 9], [49, 7], [MARK, 6]]), true);
     let t = two([1, 2], &[([MARK, 0, 0, 0], &[(9, 7)]), hidden]);
-    let after = calls::delete(&t, 1, &list, 9);
-    gives("deletion in 1", &t, (after.number, after.counts), (0, [Some(5), Some(2)]));
+    let after = calls::delete(&t, 1, &list, ORDERED, 9);
+    gives("deletion in 1", &t, (after.number, after.counts), (0, [Some(5), Some(2), Some(0)]));
     gives("deletion in 1", &t, orders(&after, &[[50, 30], [51, 6], [53, 0], [MARK, 6], [17, MARK], [17, 0], [MARK, 2]]), true);
-    let after = calls::set_class(&t, 1, &list, 9, 2);
+    let after = calls::set_class(&t, 1, &list, ORDERED, 9, 2);
     gives("class in 1", &t, orders(&after, &[[50, 30], [51, 6], [53, 0], [MARK, 6], [17, CLOSED + 7], [MARK, 2]]), true);
-    let after = calls::repair(&t, &list);
-    gives("repair", &t, (after.counts, orders(&after, &[[50, 30], [51, 6], [53, 0], [MARK, 6]])), ([Some(3), Some(1)], true));
+    let after = calls::repair(&t, &list, ORDERED);
+    gives("repair", &t, (after.counts, orders(&after, &[[50, 30], [51, 6], [53, 0], [MARK, 6]])), ([Some(3), Some(1), Some(0)], true));
     // Refused, it finishes nothing.
-    for (call, after) in [("deletion", calls::delete(&t, 1, &list, 8)), ("class", calls::set_class(&t, 1, &list, 8, 1)), ("insertion", calls::insert(&t, 1, &list, 8, 7, 0))] {
+    for (call, after) in [("deletion", calls::delete(&t, 1, &list, ORDERED, 8)), ("class", calls::set_class(&t, 1, &list, ORDERED, 8, 1)), ("insertion", calls::insert(&t, 1, &list, ORDERED, 8, 7, 0))] {
         gives(call, &t, (after.number != 0, after.table == t, after.list == list), (true, true, true));
     }
     // Two are not sound: a hidden slot in each, or a hidden slot in one and a missing one in the other. Each alone is.
     let plain: Words = ([MARK, 0, 0, 0], &[(20, 5), (25, 7), (30, 6)]);
     for (one, other, number) in [(plain, plain, 0), (hidden, plain, 0), (plain, hidden, 0), (hidden, hidden, 4)] {
         let t = two([1, 2], &[one, other]);
-        gives("repair", &t, calls::repair(&t, &list).number, number);
+        gives("repair", &t, calls::repair(&t, &list, ORDERED).number, number);
     }
     for (slots, other, number) in [(&[(40, 4)][..], plain, 0), (&[], plain, 0), (&[(40, 4)], hidden, 0), (&[], hidden, 4)] {
         for which in [0, 1] {
             let roots = [[2, 1], [1, 2]][which];
             let t = two(roots, &[other, ([3, 0, 1, 0], slots), ([MARK, 4, 0, 0], &[(10, 1)]), ([MARK, 0, 0, 40], &[(50, 2)])]);
-            gives("repair", &t, calls::repair(&t, &list).number, number);
+            gives("repair", &t, calls::repair(&t, &list, ORDERED).number, number);
         }
     }
 }
@@ -714,8 +714,8 @@ fn largest_table() {
     let (number, t) = calls::make(&words[..2_097_128], 1);
     gives("making in 2,097,128 words", &[], (number, &t[..8]), (0, &[1, 1, 65_535, 0, 0, 0, 0, 0]));
     gives("making in 2,097,128 words", &[], (t[8], t[9..].iter().all(|&w| w == 0)), (MARK, true));
-    let after = calls::insert(&t, 1, &[0; 2560], 5, 50, 0);
-    gives("insertion into 65,535 nodes", &[], (after.number, after.counts), (0, [Some(4), Some(1)]));
+    let after = calls::insert(&t, 1, &[0; 2560], ORDERED, 5, 50, 0);
+    gives("insertion into 65,535 nodes", &[], (after.number, after.counts), (0, [Some(4), Some(1), Some(0)]));
     gives("search in 65,535 nodes", &[], calls::search(&after.table, 1, 5), calls::found(50, 0));
     gives("search in 65,535 nodes", &[], calls::search(&after.table, 1, 4), calls::absent(Some(5)));
     gives("listing of 65,535 nodes", &[], calls::list(&after.table, 1, 0, MARK, &[7; 3]), (0, [Some(1), Some(0)], vec![5, 50, 7]));
@@ -727,7 +727,7 @@ fn largest_table() {
     larger[2] = 65_536;
     gives("search in 65,536 nodes", &[], calls::search(&larger, 1, 5), calls::refused(2));
     gives("listing of 65,536 nodes", &[], calls::list(&larger, 1, 0, MARK, &[7; 2]), (2, [None; 2], vec![7; 2]));
-    gives("repair of 65,536 nodes", &[], calls::repair(&larger, &[0; 2560]).number, 2);
+    gives("repair of 65,536 nodes", &[], calls::repair(&larger, &[0; 2560], ORDERED).number, 2);
     gives("carry-out on 65,536 nodes", &[], calls::carry_out(&larger, &[], 0).0, 2);
 }
 
@@ -757,8 +757,68 @@ fn codes() {
     gives("reading of ZZZZZ9999999", &[], calls::parse(b"ZZZZZ9999999"), (0, Some(604_661_759_999_999)));
 }
 
+/// The lists for the unordered dock, order by order: after each store its barrier, then the flush if one is due.
+fn barriers_in_lists() {
+    const AFTER: [u64; 2] = [BARRIER, 0];
+    let list = [7; 5120];
+    let lists = |t: &[u64], after: calls::Wrote, counts: [u64; 3], orders: &[[u64; 2]]| {
+        let words = orders.iter().copied().flatten().chain(list).take(5120).collect();
+        gives("a write for the unordered dock", t, (after.number, after.counts, after.list), (0, counts.map(Some), words));
+    };
+    // Slot i's key is word 16 + 2i. Slots 0 to 3 are in line 2, slots 4 to 7 in line 3.
+    let t = table(1, &[([MARK, 0, 0, 0], &[(20, 5)])]);
+    lists(&t, calls::insert(&t, 1, &list, UNORDERED, 30, 6, 1), [4, 1, 4], &[[21, 0], AFTER, [19, 5], AFTER, [18, 30], AFTER, [19, ROOM + 6], AFTER, [MARK, 2]]);
+    lists(&t, calls::delete(&t, 1, &list, UNORDERED, 20), [2, 1, 2], &[[17, MARK], AFTER, [17, 0], AFTER, [MARK, 2]]);
+    lists(&t, calls::set_class(&t, 1, &list, UNORDERED, 20, 2), [1, 1, 1], &[[17, CLOSED + 5], AFTER, [MARK, 2]]);
+    lists(&t, calls::repair(&t, &list, UNORDERED), [0; 3], &[]);
+    let hidden = table(1, &[([MARK, 0, 0, 0], &[(20, 5), (30, 5)])]);
+    lists(&hidden, calls::repair(&hidden, &list, UNORDERED), [1, 1, 1], &[[19, 0], AFTER, [MARK, 2]]);
+    let long = table(1, &[([MARK, 0, 0, 0], &[(10, 1), (20, 2), (30, 3), (40, 4), (50, 5)])]);
+    let orders = [[23, 3], AFTER, [22, 50], AFTER, [23, 5], AFTER, [MARK, 2], [25, 0], AFTER, [MARK, 3]];
+    lists(&long, calls::delete(&long, 1, &list, UNORDERED, 40), [4, 2, 4], &orders);
+}
+
+/// A barrier is counted and passed over; with another second word the first is a store's, outside every table.
+fn barriers_carried_out() {
+    let t = table(1, &[([MARK, 0, 0, 0], &[])]);
+    let one = with(&t, 39, 7);
+    let both = with(&one, 38, 1);
+    let list = [39, 7, BARRIER, 0, BARRIER, 0, 38, 1, BARRIER, 0, BARRIER, 1];
+    for (c, number, after) in [(0, 0, &t), (1, 0, &one), (2, 0, &one), (3, 0, &one), (4, 0, &both), (5, 0, &both), (6, 13, &t)] {
+        gives(&format!("carry-out of {c} orders of {list:?}"), &t, calls::carry_out(&t, &list, c), (number, after.clone()));
+    }
+    for (order, number) in [([BARRIER, 0], 0), ([BARRIER, 1], 13), ([BARRIER, BARRIER], 13), ([BARRIER, MARK], 13), ([BARRIER - 1, 0], 13), ([MARK, BARRIER], 13)] {
+        gives(&format!("carry-out of {order:?}"), &t, calls::carry_out(&t, &order, 1), (number, t.clone()));
+    }
+}
+
+/// 18 straight before 5, which goes by the dock; nothing changes.
+fn no_such_dock() {
+    let t = table(1, &[([MARK, 0, 0, 0], &[(20, 5)])]);
+    let list: Vec<u64> = (0..5121).collect();
+    let numbers = |t: &[u64], collection: u64, words: usize, dock: u64| {
+        let list = &list[..words];
+        // The recording, the class and the key of the first three are refused as well.
+        let refused = [calls::insert(t, collection, list, dock, 20, 0, 9), calls::set_class(t, collection, list, dock, 1, 9), calls::delete(t, collection, list, dock, 1)];
+        let all = refused.map(|w| (w.number, w.counts == [None; 3] && w.table == t && w.list == list));
+        gives("a refused write", t, all.map(|w| w.1), [true; 3]);
+        [all[0].0, all[1].0, all[2].0, calls::repair(t, list, dock).number]
+    };
+    for words in [0, 2559, 2560, 5119, 5120, 5121] {
+        let by_length = |least: usize| if words < least { [5; 4] } else { [6, 14, 9, 0] };
+        gives(&format!("{words} words for the ordered dock"), &t, numbers(&t, 1, words, ORDERED), by_length(2560));
+        gives(&format!("{words} words for the unordered dock"), &t, numbers(&t, 1, words, UNORDERED), by_length(5120));
+        for dock in [2, 3, 1 << 32, 1 << 63, MARK] {
+            gives(&format!("{words} words for dock {dock}"), &t, numbers(&t, 1, words, dock), [18; 4]);
+            gives("a table that is not sound", &with(&t, 8, 1), numbers(&with(&t, 8, 1), 1, words, dock), [4; 4]);
+            gives("no such collection", &t, numbers(&t, 2, words, dock), [17, 17, 17, 18]);
+            gives("no table", &with(&t, 0, 2), numbers(&with(&t, 0, 2), 2, words, dock), [2; 4]);
+        }
+    }
+}
+
 fn main() {
-    let vectors: [(&str, fn()); 22] = [
+    let vectors: [(&str, fn()); 25] = [
         ("a root at level 15 is searched, one at 16 refused", root_levels),
         ("search's 3 in each of its causes", search_refusals),
         ("an absent key's neighbour", absent_search),
@@ -779,6 +839,9 @@ fn main() {
         ("two maps", two_maps),
         ("new roots in word 3", second_root_grows),
         ("a leftover finished by a writer of the other collection", finished_by_the_other),
+        ("a barrier after each store for the unordered dock", barriers_in_lists),
+        ("carry-out passes over barriers", barriers_carried_out),
+        ("18 straight before 5", no_such_dock),
         ("N up to 65,535", largest_table),
         ("codes up to the last", codes),
     ];

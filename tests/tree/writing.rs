@@ -15,8 +15,8 @@ fn main() {
 
     // The unstarred worked line: recording 0 returns 6; 1 is taken.
     let blank = vec![0; LIST_WORDS];
-    expect(calls::insert(&make(1, 1), 1, &blank, 5, 0, 0).number == 6, seed, &[], || "recording 0".into());
-    expect(calls::insert(&make(1, 1), 1, &blank, 5, 1, 0).number == 0, seed, &[], || "recording 1".into());
+    expect(calls::insert(&make(1, 1), 1, &blank, ORDERED, 5, 0, 0).number == 6, seed, &[], || "recording 0".into());
+    expect(calls::insert(&make(1, 1), 1, &blank, ORDERED, 5, 1, 0).number == 0, seed, &[], || "recording 1".into());
     passed += 1;
 
     scripts::written(1, size, &mut random, seed);
@@ -31,9 +31,15 @@ fn main() {
         let (a, b) = (random.below(120) as usize, random.below(24) as usize);
         let t = any_words(a, 1, &mut random);
         let mut list: Vec<u64> = (0..b).map(|_| random.below(2 * t.len() as u64 + 2)).collect();
-        for w in list.iter_mut().step_by(2) {
-            if random.below(3) == 0 {
-                *w = MARK;
+        for order in list.chunks_mut(2) {
+            match random.below(6) {
+                0 | 1 => order[0] = MARK,
+                // A barrier, mostly: only 0 after it makes it one.
+                2 => {
+                    let second = if random.below(8) == 0 { 1 + random.below(3) } else { 0 };
+                    order.copy_from_slice(&[BARRIER, second][..order.len()]);
+                }
+                _ => {}
             }
         }
         let c = if random.below(20) == 0 { random.next() } else { random.below(b as u64 + 1) };

@@ -5,13 +5,13 @@ use mathlib.Core.List.{List, [], _∷_}
 use Prim.Native.Nat.{ℕ, zero, suc, _+_, _-_, _*_, _/_, _≤_, _<_}
 use native.Mathlib.Numerals.{add-one}
 use native.Mathlib.Omega.{arith}
-use lib.Dec.{ltb}
+use lib.Dec.{eqb, ltb}
 use borrow.Author.Tests.{eq-eqb, ne-eqb, ltb-true}
 use lib.ListN.{length, drop, set}
 use Rattle.list_laws.proofs.Tools.{and-iff}
 use Rattle.cut_laws.proofs.Applying.{carry-append}
 use Rattle.model.specs.Table.{MARK, Words, at}
-use Rattle.model.specs.Orders.{Order, orderOf, decode, inside, allInside, carry}
+use Rattle.model.specs.Orders.{Order, BAR, orderOf, decode, inside, allInside, carry}
 use Rattle.carry.specs.Firsts.{firsts}
 
 double-suc : (i : ℕ) → 2 * suc i ≡ suc (suc (2 * i))
@@ -78,21 +78,38 @@ module _ (n c : ℕ) (ws : Words) (i : ℕ) (h : i < c) (l : 2 * c ≤ length ws
   pub inside-next : allInside n (firsts c ws (i + 1)) ≡ true
   inside-next = both .1
 
--- ---- one order, by its first word
+-- ---- one order, by its two words
 
-pub flush-inside : (n a b : ℕ) → a ≡ MARK → ltb b (n / 8) ≡ inside n (orderOf a b)
-flush-inside n a b e = rw (eq-eqb a MARK e)
+module _ (n a b : ℕ) where
+  pub flush-inside : a ≡ MARK → ltb b (n / 8) ≡ inside n (orderOf a b)
+  flush-inside e = rw (eq-eqb a MARK e)
 
-pub store-inside : (n a b : ℕ) → (a ≡ MARK → ⊥) → ltb a n ≡ inside n (orderOf a b)
-store-inside n a b e = rw (ne-eqb a MARK e)
+  pub flush-carry : (t : Words) → a ≡ MARK → t ≡ carry (orderOf a b ∷ []) t
+  unfolding carry
+  flush-carry t e = rw (eq-eqb a MARK e, carry)
 
-pub store-below : (n a b : ℕ) → (a ≡ MARK → ⊥) → inside n (orderOf a b) ≡ true → a < n
-store-below n a b e h = ltb-true a n (store-inside n a b e ∙ h)
+  -- r tells whether it is a barrier
+  module _ (z : a ≡ MARK → ⊥) (r : Bool) (q : r ≡ (eqb a BAR && eqb b 0)) where
+    pub barrier-inside : r ≡ true → true ≡ inside n (orderOf a b)
+    barrier-inside e = rw (ne-eqb a MARK z, sym q ∙ e)
 
-pub flush-carry : (t : Words) (a b : ℕ) → a ≡ MARK → t ≡ carry (orderOf a b ∷ []) t
-unfolding carry
-flush-carry t a b e = rw (eq-eqb a MARK e, carry)
+    pub store-inside : r ≡ false → ltb a n ≡ inside n (orderOf a b)
+    store-inside e = rw (ne-eqb a MARK z, sym q ∙ e)
 
-pub store-carry : (t : Words) (a b : ℕ) → (a ≡ MARK → ⊥) → set t a b ≡ carry (orderOf a b ∷ []) t
-unfolding carry
-store-carry t a b e = rw (ne-eqb a MARK e, carry)
+    pub store-below : r ≡ false → inside n (orderOf a b) ≡ true → a < n
+    store-below e h = ltb-true a n (store-inside e ∙ h)
+
+    pub barrier-carry : (t : Words) → r ≡ true → t ≡ carry (orderOf a b ∷ []) t
+    unfolding carry
+    barrier-carry t e = rw (ne-eqb a MARK z, sym q ∙ e, carry)
+
+    pub store-carry : (t : Words) → r ≡ false → set t a b ≡ carry (orderOf a b ∷ []) t
+    unfolding carry
+    store-carry t e = rw (ne-eqb a MARK z, sym q ∙ e, carry)
+
+-- the two words of a barrier
+pub no-barrier : (a b : ℕ) → (a ≡ BAR → ⊥) → false ≡ (eqb a BAR && eqb b 0)
+no-barrier a b e = rw (ne-eqb a BAR e)
+
+pub by-second : (a b : ℕ) → a ≡ BAR → eqb b 0 ≡ (eqb a BAR && eqb b 0)
+by-second a b e = rw (eq-eqb a BAR e)

@@ -1,13 +1,25 @@
 // Carry-out: the first c orders of a list, applied to a table.
+use model::BAR;
 use model::MARK;
 use model::Outcome;
 ghost use mathlib.Core.Path.{_≡_};
-ghost use mathlib.Core.Bool.{true};
+ghost use mathlib.Core.Bool.{true, _&&_};
 ghost use mathlib.Core.List.{[], _∷_};
 ghost use Prim.Native.Nat.{_*_, _≤_};
+ghost use lib.Dec.{eqb};
 ghost use lib.ListN.{length};
-ghost use Rattle.model.specs.Orders.{orderOf, inside, allInside, carry, carryOut, carriedOut};
+ghost use Rattle.model.specs.Orders.{BAR, orderOf, inside, allInside, carry, carryOut, carriedOut};
 ghost use Rattle.carry.specs.Firsts.{firsts};
+
+// Whether these two words are a barrier.
+fn is_barrier(a: u64, b: u64) -> bool
+    ensures { λ r. ⌜ r ≡ (eqb a BAR && eqb b 0) ⌝ }
+{
+    if a != BAR {
+        return false;
+    }
+    b == 0
+}
 
 // Whether the order of these two words lies in a table of so many words.
 fn is_inside(len: usize, a: u64, b: u64) -> bool
@@ -15,6 +27,9 @@ fn is_inside(len: usize, a: u64, b: u64) -> bool
 {
     if a == MARK {
         return b < (len / 8) as u64;
+    }
+    if is_barrier(a, b) {
+        return true;
     }
     a < len as u64
 }
@@ -34,12 +49,15 @@ fn all_inside(len: usize, list: &[u64], c: usize) -> bool
     true
 }
 
-// One order carried out: a store is made, a flush changes no word.
+// One order carried out: a store is made, a flush or a barrier changes no word.
 fn apply_one(table: &mut [u64], a: u64, b: u64)
     requires { ⌜ inside (length (now table)) (orderOf a b) ≡ true ⌝ }
     ensures { λ r. ⌜ now (table .exit) ≡ carry (orderOf a b ∷ []) (now (table .entry)) ⌝ }
 {
     if a == MARK {
+        return;
+    }
+    if is_barrier(a, b) {
         return;
     }
     let w = a as usize;

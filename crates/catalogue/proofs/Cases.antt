@@ -33,12 +33,12 @@ pub was-read : (x y : Parsed) (old : ℕ) → x ≡ y → (parsedNumber y ≡ pa
 was-read x y old e = (sym (ap parsedNumber e), sym (ap (λ (z : Parsed). keyOr z old) e))
 
 -- what a write leaves, whose answer is a
-pub has-written : (x : Call) (t lent : Words) {t′ lent′ : Words} {a : Written} {number stores stores′ flushes flushes′ : ℕ}
-    → (a ≡ written x (length lent) t) × ((t′ ≡ tableAfter x (length lent) t) × (lent′ ≡ listAfter x lent t))
-    → Counted a number stores stores′ flushes flushes′ → Wrote x number t t′ lent lent′ stores stores′ flushes flushes′
-has-written x t lent {number = number} {stores} {stores′} {flushes} {flushes′} h k =
+pub has-written : (x : Call) (t lent : Words) (dock : ℕ) {t′ lent′ : Words} {a : Written} {number stores stores′ flushes flushes′ barriers barriers′ : ℕ}
+    → (a ≡ written x (length lent) dock t) × ((t′ ≡ tableAfter x (length lent) dock t) × (lent′ ≡ listAfter x lent dock t))
+    → Counted a number stores stores′ flushes flushes′ barriers barriers′ → Wrote x number t t′ lent lent′ dock stores stores′ flushes flushes′ barriers barriers′
+has-written x t lent dock {number = number} {stores} {stores′} {flushes} {flushes′} {barriers} {barriers′} h k =
     record {
-      answer-is = subst (λ (z : Written). Counted z number stores stores′ flushes flushes′) (h .0) k;
+      answer-is = subst (λ (z : Written). Counted z number stores stores′ flushes flushes′ barriers barriers′) (h .0) k;
       table-is = h .1 .0;
       list-is = h .1 .1;
     }

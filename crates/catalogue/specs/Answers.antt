@@ -10,12 +10,12 @@ use Rattle.model.specs.declared.Written.{Written}
 use Rattle.model.specs.Table.{Words}
 use Rattle.model.specs.Writes.{Call}
 use Rattle.model.specs.Listing.{listedNumber, countOr, moreOr}
-use Rattle.model.specs.Refusals.{written, tableAfter, listAfter, writtenNumber, storesOr, flushesOr}
+use Rattle.model.specs.Refusals.{written, tableAfter, listAfter, writtenNumber, storesOr, flushesOr, barriersOr}
 use Rattle.model.specs.Salvage.{salvagedNumber, droppedOr}
 
 -- the version of the calls' shapes: raised by each change of a name, a parameter or what a word means
 abbrev pub version : ℕ
-version = 5
+version = 6
 
 -- a search of C's: 0 for found, 255 for absent
 abbrev pub searchNumber : Answer → ℕ
@@ -23,17 +23,18 @@ searchNumber (Found r c) = 0
 searchNumber (Absent x) = 255
 searchNumber (Refused n) = n
 
--- a write's answer: its number, and the two counts in lent words, which stay on refusal
-pub record Counted (x : Written) (number stores stores′ flushes flushes′ : ℕ) : Type 0 where
+-- a write's answer: its number, and the three counts in lent words, which stay on refusal
+pub record Counted (x : Written) (number stores stores′ flushes flushes′ barriers barriers′ : ℕ) : Type 0 where
   pub number-is : number ≡ writtenNumber x
   pub stores-are : stores′ ≡ storesOr x stores
   pub flushes-are : flushes′ ≡ flushesOr x flushes
+  pub barriers-are : barriers′ ≡ barriersOr x barriers
 
--- a writing call: its answer, and the table and the list after it
-pub record Wrote (x : Call) (number : ℕ) (t t′ lent lent′ : Words) (stores stores′ flushes flushes′ : ℕ) : Type 0 where
-  pub answer-is : Counted (written x (length lent) t) number stores stores′ flushes flushes′
-  pub table-is : t′ ≡ tableAfter x (length lent) t
-  pub list-is : lent′ ≡ listAfter x lent t
+-- a writing call for a dock: its answer, and the table and the list after it
+pub record Wrote (x : Call) (number : ℕ) (t t′ lent lent′ : Words) (dock stores stores′ flushes flushes′ barriers barriers′ : ℕ) : Type 0 where
+  pub answer-is : Counted (written x (length lent) dock t) number stores stores′ flushes flushes′ barriers barriers′
+  pub table-is : t′ ≡ tableAfter x (length lent) dock t
+  pub list-is : lent′ ≡ listAfter x lent dock t
 
 -- a listing's answer: its number, the count, and 1 or 0 for more left
 pub record Showed (x : Listed) (number pairs pairs′ more more′ : ℕ) : Type 0 where

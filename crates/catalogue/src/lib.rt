@@ -24,7 +24,7 @@ ghost use mathlib.Core.Bool.{cond};
 pub extern "C" fn catalogue_version() -> u64
     ensures { λ r. ⌜ r ≡ version ⌝ }
 {
-    5
+    6
 }
 
 // 0 and the code's key, or 1.
@@ -152,39 +152,45 @@ pub extern "C" fn catalogue_list(
 }
 
 // A write's number, and its counts into the lent words where it was done.
-fn put_counts(answer: Written, stores: &mut u64, flushes: &mut u64) -> u64
-    ensures { λ r. ⌜ Counted answer r (now (stores .entry)) (now (stores .exit)) (now (flushes .entry)) (now (flushes .exit)) ⌝ }
+fn put_counts(answer: Written, stores: &mut u64, flushes: &mut u64, barriers: &mut u64) -> u64
+    ensures { λ r. ⌜ Counted answer r (now (stores .entry)) (now (stores .exit)) (now (flushes .entry)) (now (flushes .exit))
+        (now (barriers .entry)) (now (barriers .exit)) ⌝ }
 {
     match answer {
         Written::Done {
             stores: s,
             flushes: f,
+            barriers: b,
         } => {
             *stores = s;
             *flushes = f;
+            *barriers = b;
             0
         }
         Written::Refused(n) => n as u64,
     }
 }
 
-// 0 and the two counts, or the refusal number; likewise below.
+// 0 and the three counts, or the refusal number; likewise below.
 #[no_mangle]
 pub extern "C" fn catalogue_insert(
     table: &mut [u64],
     collection: u64,
     orders: &mut [u64],
+    dock: u64,
     key: u64,
     recording: u64,
     access: u64,
     stores: &mut u64,
     flushes: &mut u64,
+    barriers: &mut u64,
 ) -> u64
     ensures { λ r. ⌜ Wrote (insertion collection key recording access) r (now (table .entry)) (now (table .exit)) (now (orders .entry)) (now (orders .exit))
-        (now (stores .entry)) (now (stores .exit)) (now (flushes .entry)) (now (flushes .exit)) ⌝ }
+        dock (now (stores .entry)) (now (stores .exit)) (now (flushes .entry)) (now (flushes .exit))
+        (now (barriers .entry)) (now (barriers .exit)) ⌝ }
 {
-    let answer = insert::insert(table, orders, collection, key, recording, access);
-    put_counts(answer, stores, flushes)
+    let answer = insert::insert(table, orders, dock, collection, key, recording, access);
+    put_counts(answer, stores, flushes, barriers)
 }
 
 #[no_mangle]
@@ -192,15 +198,18 @@ pub extern "C" fn catalogue_delete(
     table: &mut [u64],
     collection: u64,
     orders: &mut [u64],
+    dock: u64,
     key: u64,
     stores: &mut u64,
     flushes: &mut u64,
+    barriers: &mut u64,
 ) -> u64
     ensures { λ r. ⌜ Wrote (deletion collection key) r (now (table .entry)) (now (table .exit)) (now (orders .entry)) (now (orders .exit))
-        (now (stores .entry)) (now (stores .exit)) (now (flushes .entry)) (now (flushes .exit)) ⌝ }
+        dock (now (stores .entry)) (now (stores .exit)) (now (flushes .entry)) (now (flushes .exit))
+        (now (barriers .entry)) (now (barriers .exit)) ⌝ }
 {
-    let answer = delete::delete(table, orders, collection, key);
-    put_counts(answer, stores, flushes)
+    let answer = delete::delete(table, orders, dock, collection, key);
+    put_counts(answer, stores, flushes, barriers)
 }
 
 #[no_mangle]
@@ -208,30 +217,36 @@ pub extern "C" fn catalogue_set_class(
     table: &mut [u64],
     collection: u64,
     orders: &mut [u64],
+    dock: u64,
     key: u64,
     access: u64,
     stores: &mut u64,
     flushes: &mut u64,
+    barriers: &mut u64,
 ) -> u64
     ensures { λ r. ⌜ Wrote (classChange collection key access) r (now (table .entry)) (now (table .exit)) (now (orders .entry)) (now (orders .exit))
-        (now (stores .entry)) (now (stores .exit)) (now (flushes .entry)) (now (flushes .exit)) ⌝ }
+        dock (now (stores .entry)) (now (stores .exit)) (now (flushes .entry)) (now (flushes .exit))
+        (now (barriers .entry)) (now (barriers .exit)) ⌝ }
 {
-    let answer = reclass::set_class(table, orders, collection, key, access);
-    put_counts(answer, stores, flushes)
+    let answer = reclass::set_class(table, orders, dock, collection, key, access);
+    put_counts(answer, stores, flushes, barriers)
 }
 
 #[no_mangle]
 pub extern "C" fn catalogue_repair(
     table: &mut [u64],
     orders: &mut [u64],
+    dock: u64,
     stores: &mut u64,
     flushes: &mut u64,
+    barriers: &mut u64,
 ) -> u64
     ensures { λ r. ⌜ Wrote repair r (now (table .entry)) (now (table .exit)) (now (orders .entry)) (now (orders .exit))
-        (now (stores .entry)) (now (stores .exit)) (now (flushes .entry)) (now (flushes .exit)) ⌝ }
+        dock (now (stores .entry)) (now (stores .exit)) (now (flushes .entry)) (now (flushes .exit))
+        (now (barriers .entry)) (now (barriers .exit)) ⌝ }
 {
-    let answer = repair::repair(table, orders);
-    put_counts(answer, stores, flushes)
+    let answer = repair::repair(table, orders, dock);
+    put_counts(answer, stores, flushes, barriers)
 }
 
 // 0, or 2 or 13.

@@ -1,4 +1,4 @@
--- Demand 3 with one or two collections, proved. What is kept: memory is the working copy, sound, and its maps are the ledger.
+-- Demand 3 with one or two collections, on either dock, proved. What is kept: memory is the working copy, sound, and its maps are the ledger.
 use mathlib.Core.Path.{_≡_, refl, sym, ap, _∙_}
 use mathlib.Core.Logic.{_⊎_, inl, inr}
 use mathlib.Core.Bool.{Bool, true, false, cond, false≢true}
@@ -16,7 +16,7 @@ use Rattle.model.specs.declared.Written.{Written}
 use Rattle.model.specs.declared.Written.the-variants.{Done, Refused}
 use Rattle.model.specs.Table.{Words, emptyOf}
 use Rattle.model.specs.Slots.{Slot}
-use Rattle.model.specs.Orders.{Store, apply, orders, storeCount, flushCount, listWith, carryNumber, carriedOut}
+use Rattle.model.specs.Orders.{Store, Order, apply, orders, barred, storeCount, flushCount, barrierCount, listWith, carryNumber, carriedOut}
 use Rattle.model.specs.Cuts.{CutImage}
 use Rattle.model.specs.Refusals.{unlessRefused, writtenNumber, ordersAnswered, ordersOf, refusal, written, tableAfter, listAfter}
 use Rattle.model.specs.Ledger.{fedOf, End, cutAfter, taken, change, Ledger, noPairs, listIn, answerFrom, lacking, pairsOf, ledgerRefusal, feed}
@@ -75,23 +75,23 @@ Maps-discrete m n = go (List-discrete Slot-discrete (m .one) (n .one)) (Option-d
 
 -- ---- what an accepted call answers and leaves
 
-module _ (x : Call) (lent t : Words) (ok : refusal x (length lent) t ≡ 0) where
-  accepted-answer : ordersAnswered (written x (length lent) t) ≡ storeCount (ordersOf x t) + flushCount (ordersOf x t)
+module _ (x : Call) (lent : Words) (dock : ℕ) (t : Words) (ok : refusal x (length lent) dock t ≡ 0) where
+  accepted-answer : ordersAnswered (written x (length lent) dock t) ≡ length (ordersOf x dock t)
   unfolding written
-  accepted-answer = rw ok
+  accepted-answer = rw ok (counts-length (ordersOf x dock t))
 
-  accepted-table : tableAfter x (length lent) t ≡ apply (storesOf x t) t
+  accepted-table : tableAfter x (length lent) dock t ≡ apply (storesOf x t) t
   unfolding tableAfter
   accepted-table = rw ok
 
-  accepted-list : listAfter x lent t ≡ listWith (ordersOf x t) lent
+  accepted-list : listAfter x lent dock t ≡ listWith (ordersOf x dock t) lent
   unfolding listAfter
   accepted-list = rw ok
 
 -- a call answers its number
-number-answered : (x : Call) (words : ℕ) (t : Words) → writtenNumber (written x words t) ≡ refusal x words t
+number-answered : (x : Call) (words dock : ℕ) (t : Words) → writtenNumber (written x words dock t) ≡ refusal x words dock t
 unfolding written
-number-answered x words t = go (refusal x words t) (Done (storeCount (ordersOf x t)) (flushCount (ordersOf x t))) refl
+number-answered x words dock t = let os = ordersOf x dock t in go (refusal x words dock t) (Done (storeCount os) (flushCount os) (barrierCount os)) refl
   where
     go : (n : ℕ) (done : Written) → writtenNumber done ≡ 0 → writtenNumber (unlessRefused n done (Refused n)) ≡ n
     go zero done e = e
@@ -103,9 +103,9 @@ unless-refused R zero new old new′ old′ f h = f refl
 unless-refused R (suc n) new old new′ old′ f h = h
 
 -- a repair moves nothing in the ledger, so it keeps the map
-repair-feeds : (words fed : ℕ) (end : End) (choice : Bool) (ps : Ledger) → feed repair words fed end choice ps ≡ ps
+repair-feeds : (words dock fed : ℕ) (end : End) (choice : Bool) (ps : Ledger) → feed repair words dock fed end choice ps ≡ ps
 unfolding feed
-repair-feeds words fed end choice ps = go (ledgerRefusal repair words fed ps) (taken end choice)
+repair-feeds words dock fed end choice ps = go (ledgerRefusal repair words dock fed ps) (taken end choice)
   where
     go : (n : ℕ) (b : Bool) → unlessRefused n (cond b ps ps) ps ≡ ps
     go zero true = refl
@@ -128,12 +128,12 @@ record Inv (s : State) (ps : Ledger) : Type 0 where
   fine : sound (s .working) ≡ true
   maps : mapsOf (s .working) ≡ ps
 
-map-kept : (x : Call) (s s′ : State) (words fed : ℕ) (end : End) (choice : Bool) (ps : Ledger) → Inv s ps → Inv s′ (feed x words fed end choice ps) → Keeps x s s′
-map-kept (insertion n k r c) s s′ words fed end choice ps a b = tt
-map-kept (deletion n k) s s′ words fed end choice ps a b = tt
-map-kept (classChange n k c) s s′ words fed end choice ps a b = tt
-map-kept repair s s′ words fed end choice ps a b =
-    let q : mapsOf (s′ .working) ≡ mapsOf (s .working) = b .maps ∙ repair-feeds words fed end choice ps ∙ sym (a .maps) in
+map-kept : (x : Call) (s s′ : State) (words dock fed : ℕ) (end : End) (choice : Bool) (ps : Ledger) → Inv s ps → Inv s′ (feed x words dock fed end choice ps) → Keeps x s s′
+map-kept (insertion n k r c) s s′ words dock fed end choice ps a b = tt
+map-kept (deletion n k) s s′ words dock fed end choice ps a b = tt
+map-kept (classChange n k c) s s′ words dock fed end choice ps a b = tt
+map-kept repair s s′ words dock fed end choice ps a b =
+    let q : mapsOf (s′ .working) ≡ mapsOf (s .working) = b .maps ∙ repair-feeds words dock fed end choice ps ∙ sym (a .maps) in
     (rw (a .both, b .both) q, q)
 
 agrees : (s : State) (ps : Ledger) → Inv s ps → Agrees s ps
@@ -160,39 +160,48 @@ module _ (s : State) (e : Event) (both : s .memory ≡ s .working) (fine : sound
   abbrev new : Ledger
   new = change x (mapsOf t)
 
-  steps : Steps x t
-  steps = accepted-steps x (length (e .lent)) t fine ok
+  -- the orders of the call on its dock
+  abbrev dock : ℕ
+  dock = e .dock
 
-  answered-all : answered s e ≡ length (orders ss)
-  answered-all = accepted-answer x (e .lent) t ok ∙ counts-length (orders ss)
+  abbrev os : List Order
+  os = barred (e .dock) (orders ss)
+
+  steps : Steps x t
+  steps = accepted-steps x (length (e .lent)) dock t fine ok
+
+  answered-all : answered s e ≡ length os
+  answered-all = accepted-answer x (e .lent) dock t ok
 
   -- the carry-out of all orders answered, with the lent list as the call left it
   carried-whole : (carryNumber (answered s e) (listOf s e) (s .memory) ≡ 0) × (carriedOut (answered s e) (listOf s e) (s .memory) ≡ apply ss t)
   carried-whole =
-      rw (answered-all, accepted-list x (e .lent) t ok, both) (carry-list-number ss (e .lent) t (sound-head t fine) (steps .stores-inside) _ (le-refl _), carry-list-all ss (e .lent) t (sound-head t fine) (steps .stores-inside))
+      let h = sound-head t fine in
+      let i = steps .stores-inside in
+      rw (answered-all, accepted-list x (e .lent) dock t ok, both) (carry-list-number dock ss (e .lent) t h i _ (le-refl _), carry-list-all dock ss (e .lent) t h i)
 
   -- an image that a cut may leave
-  image-part : (c : ℕ) (m : Words) → CutImage c (s .memory) (orders ss) m → (sound m ≡ true) × OldOrNew x t m
-  image-part c m i = let p = image-is-stores ss t c m (rw both at i) in rw (p .2) (steps .part-sound (p .0), steps .part-map (p .0))
+  image-part : (c : ℕ) (m : Words) → CutImage dock c (s .memory) os m → (sound m ≡ true) × OldOrNew x t m
+  image-part c m i = let p = image-is-stores dock ss t c m (rw both at i) in rw (p .2) (steps .part-sound (p .0), steps .part-map (p .0))
 
-  image-all : (c : ℕ) (m : Words) → CutImage c (s .memory) (orders ss) m → c ≡ length (orders ss) → m ≡ apply ss t
-  image-all c m i q = image-at-all ss t (length (orders ss)) m (le-refl _) (rw (both, q) at i)
+  image-all : (c : ℕ) (m : Words) → CutImage dock c (s .memory) os m → c ≡ length os → m ≡ apply ss t
+  image-all c m i q = image-at-all dock ss t (length os) m (le-refl _) (rw (both, q) at i)
 
-  image-map : (c : ℕ) (m : Words) → CutImage c (s .memory) (orders ss) m
-      → mapsOf m ≡ cond (taken (cutAfter c (eqb c (length (orders ss)))) (chosen (cut c m) new)) new old
-  image-map zero m i = ap mapsOf (image-at-none ss t m (rw both at i))
-  image-map (suc c) m i = go (eqb (suc c) (length (orders ss))) refl
+  image-map : (c : ℕ) (m : Words) → CutImage dock c (s .memory) os m
+      → mapsOf m ≡ cond (taken (cutAfter c (eqb c (length os))) (chosen (cut c m) new)) new old
+  image-map zero m i = ap mapsOf (image-at-none dock ss t m (rw both at i))
+  image-map (suc c) m i = go (eqb (suc c) (length os)) refl
     where
-      go : (all : Bool) → eqb (suc c) (length (orders ss)) ≡ all
+      go : (all : Bool) → eqb (suc c) (length os) ≡ all
           → mapsOf m ≡ cond (taken (cutAfter (suc c) all) (chosen (cut (suc c) m) new)) new old
       go true q = ap mapsOf (image-all (suc c) m i (eqb-true _ _ q)) ∙ steps .all-map
       go false q = decided old new (mapsOf m) (Maps-discrete (mapsOf m) new) (image-part (suc c) m i .1)
 
   abbrev left : Words
-  left = tableAfter x (length (e .lent)) t
+  left = tableAfter x (length (e .lent)) dock t
 
   left-all : left ≡ apply ss t
-  left-all = accepted-table x (e .lent) t ok
+  left-all = accepted-table x (e .lent) dock t ok
 
   fate-inv : (f : Fate) → FateMay f s e → Inv (afterFate f s e) (cond (taken (endOf f s e) (chosen f new)) new old)
   fate-inv whole p =
@@ -217,12 +226,12 @@ module _ (s : State) (e : Event) (ps : Ledger) (v : Inv s ps) (p : numberOf s e 
   abbrev choice : Bool
   choice = chosen (e .fate) (change (e .call) (mapsOf (s .working)))
 
-  same-number : numberOf s e ≡ ledgerRefusal (e .call) (length (e .lent)) (fedOf (numberOf s e)) ps
+  same-number : numberOf s e ≡ ledgerRefusal (e .call) (length (e .lent)) (e .dock) (fedOf (numberOf s e)) ps
   same-number =
-      rw (v .maps) at (number-in-ledger (e .call) (length (e .lent)) (s .working) (v .fine))
+      rw (v .maps) at (number-in-ledger (e .call) (length (e .lent)) (e .dock) (s .working) (v .fine))
 
   abbrev after : Ledger
-  after = feed (e .call) (length (e .lent)) (fedOf (numberOf s e)) (endOf (e .fate) s e) choice ps
+  after = feed (e .call) (length (e .lent)) (e .dock) (fedOf (numberOf s e)) (endOf (e .fate) s e) choice ps
 
   step-inv : Inv (step s e) after
   unfolding step feed
@@ -230,7 +239,7 @@ module _ (s : State) (e : Event) (ps : Ledger) (v : Inv s ps) (p : numberOf s e 
       (λ ok. rw (← (v .maps)) (fate-inv s e (v .both) (v .fine) ok (e .fate) (p ok))) v)
 
   step-completed : numberOf s e ≡ 0 → Completed (e .fate) s e
-      → (let left = tableAfter (e .call) (length (e .lent)) (s .working) in (step s e .memory ≡ left) × (step s e .working ≡ left))
+      → (let left = tableAfter (e .call) (length (e .lent)) (e .dock) (s .working) in (step s e .memory ≡ left) × (step s e .working ≡ left))
   unfolding step
   step-completed ok d = rw ok (fate-completed s e (v .both) (v .fine) ok (e .fate) (p ok) d)
 
@@ -238,15 +247,15 @@ module _ (s : State) (e : Event) (ps : Ledger) (v : Inv s ps) (p : numberOf s e 
   step-settled ok d = let (a, b) = step-completed ok d in let q = left-settled s e (v .both) (v .fine) ok in (rw a q, rw b q)
 
   step-keeps : Keeps (e .call) s (step s e)
-  step-keeps = map-kept (e .call) s (step s e) (length (e .lent)) _ _ choice ps v step-inv
+  step-keeps = map-kept (e .call) s (step s e) (length (e .lent)) (e .dock) _ _ choice ps v step-inv
 
   step-right : Right e s (step s e) ps
   step-right = record {
     same-number = same-number;
-    answers-it = number-answered (e .call) (length (e .lent)) (s .working);
-    ten-only = only-ten (e .call) (length (e .lent)) (s .working) (v .fine);
-    eleven-only = only-eleven (e .call) (length (e .lent)) (s .working) (v .fine);
-    twelve-only = only-twelve (e .call) (length (e .lent)) (s .working) (v .fine);
+    answers-it = number-answered (e .call) (length (e .lent)) (e .dock) (s .working);
+    ten-only = only-ten (e .call) (length (e .lent)) (e .dock) (s .working) (v .fine);
+    eleven-only = only-eleven (e .call) (length (e .lent)) (e .dock) (s .working) (v .fine);
+    twelve-only = only-twelve (e .call) (length (e .lent)) (e .dock) (s .working) (v .fine);
     carried = λ ok. fate-carried s e (v .both) (v .fine) ok (e .fate);
     equal = step-completed;
     finished = step-settled;
@@ -270,6 +279,6 @@ module _ (n N : ℕ) (kind : (n ≡ 1) ⊎ (n ≡ 2)) (low : n ≤ N) (high : N 
   kept [] p = agrees _ _ (inv [] p)
   kept (e ∷ h) p = (agrees _ _ (inv (e ∷ h) p), step-right (runAll n N h) e (ledgerAfter (choose n N) n N h) (inv h (p .0)) (p .1))
 
--- For one collection or two, every N and every sequence of insertions, deletions, class changes and repairs, whole or cut.
+-- For one collection or two, every N and every sequence of insertions, deletions, class changes and repairs, whole or cut, each on its dock.
 pub demand3 : Demand3
 demand3 n N kind low high = (choose n N, kept n N kind low high)

@@ -1,19 +1,20 @@
--- Document 01, "Drawings that do not hold": beside each right list or definition the drawn one, and a table on which that goes wrong.
+-- Document 01, "Drawings that do not hold": beside each right list or definition the drawn one, and a table on which that goes wrong; and for
+-- request 7 dock 1 without barriers.
 use mathlib.Core.Path.{_≡_, refl, sym, ap, _∙_}
 use mathlib.Core.Logic.{inl, inr}
-use mathlib.Core.Bool.{true, false, cond, false≢true}
+use mathlib.Core.Bool.{Bool, true, false, cond, false≢true}
 use mathlib.Core.List.{List, [], _∷_, _++_, map}
 use Prim.Native.Nat.{ℕ, suc, _+_, _*_}
 use lib.Dec.{eqb}
 use lib.ListN.{length, take, drop, set, replicate}
 use Rattle.model.specs.declared.Answer.the-variants.{Found, Absent}
-use Rattle.model.specs.declared.Next.the-variants.{Nothing}
+use Rattle.model.specs.declared.Next.the-variants.{Key, Nothing}
 use Rattle.model.specs.Table.{MARK, Words, nodes, root, empty, nodeStart, line}
 use Rattle.model.specs.Slots.{Slot, slot, View, view, used, nodeView}
 use Rattle.model.specs.Search.{searchView, search}
 use Rattle.model.specs.Reached.{mapping, mapOf, Maps, mapsOf}
 use Rattle.model.specs.SoundTest.{settled, sound}
-use Rattle.model.specs.Orders.{Store, put, Order, store, flush, apply}
+use Rattle.model.specs.Orders.{Store, put, Order, store, flush, barrier, withoutBarriers, apply}
 use Rattle.model.specs.Cuts.{CutImage}
 use Rattle.model.specs.Shifts.{SlotStore, keyTo, pointerTo, inNode, pointerWord, moveUp}
 use Rattle.model.specs.Writes.{numbers, Call, insertion, deletion, storesOf}
@@ -21,15 +22,18 @@ use Rattle.model.specs.Refusals.{hasKey, refusal, ordersOf, tableAfter}
 use Rattle.model.specs.Ledger.{change}
 use Rattle.model.proofs.Everything.{everything}
 use Rattle.view_laws.proofs.NodeViews.{showing}
-use Rattle.two_laws.proofs.MapsTwo.{OldOrNew}
-use Rattle.crash_laws.proofs.Images.{values, withLine, imageOf, imageOf-image}
+use Rattle.cut_laws.proofs.Cuts.{image-is-stores}
+use Rattle.two_laws.proofs.AcceptedTwo.{accepted-iff}
+use Rattle.two_laws.proofs.MapsTwo.{OldOrNew, accepted-steps}
+use Rattle.two_laws.proofs.DocksTwo.{call-without}
+use Rattle.crash_laws.proofs.Images.{values, withLine, imageBy, imageOf, imageOf-image, imageWith, imageWith-image}
 
 -- ---- the tables
 
 -- a table after calls, the first one first
 unfoldable pub afterCalls : List Call → Words → Words
 afterCalls [] t = t
-afterCalls (x ∷ xs) t = afterCalls xs (tableAfter x 2560 t)
+afterCalls (x ∷ xs) t = afterCalls xs (tableAfter x 2560 0 t)
 
 -- insertions of 10, 20, .., with the recordings 101, 102, ..; and deletions of such keys
 unfoldable pub insertTens : List ℕ → List Call
@@ -171,6 +175,7 @@ unfoldable pub flushLater : (l : ℕ) → List Order → List Order
 flushLater l [] = []
 flushLater l (o ∷ []) = o ∷ []
 flushLater l (store s ∷ o ∷ os) = store s ∷ flushLater l (o ∷ os)
+flushLater l (barrier ∷ o ∷ os) = barrier ∷ flushLater l (o ∷ os)
 flushLater l (flush k ∷ o ∷ os) = cond (eqb k l) (o ∷ flush k ∷ os) (flush k ∷ flushLater l (o ∷ os))
 
 -- the full leaf, where node 3, which is not reached, holds something in its last word
@@ -185,10 +190,10 @@ abbrev pub butLast : ℕ → ℕ
 butLast l = cond (eqb l lastLine) 0 100
 
 unfoldable pub earlyLink : List Order
-earlyLink = flushLater lastLine (ordersOf nextKey junk)
+earlyLink = flushLater lastLine (ordersOf nextKey 0 junk)
 
 abbrev pub rightImage : Words
-rightImage = imageOf butLast junk (take 75 (ordersOf nextKey junk))
+rightImage = imageOf butLast junk (take 75 (ordersOf nextKey 0 junk))
 
 abbrev pub wrongImage : Words
 wrongImage = imageOf butLast junk (take 74 earlyLink)
@@ -197,22 +202,22 @@ pub record EarlyLink : Type 0 where
   pub junk-settled : settled junk ≡ true
   pub last-line : line (nodeStart 3 + 31) ≡ lastLine
   -- the flush, then the link
-  pub right-orders : take 2 (drop 73 (ordersOf nextKey junk)) ≡ flush lastLine ∷ store (put (nodeStart 1 + 1) 3) ∷ []
-  pub right-image : CutImage 75 junk (ordersOf nextKey junk) rightImage
+  pub right-orders : take 2 (drop 73 (ordersOf nextKey 0 junk)) ≡ flush lastLine ∷ store (put (nodeStart 1 + 1) 3) ∷ []
+  pub right-image : CutImage 0 75 junk (ordersOf nextKey 0 junk) rightImage
   pub right-sound : sound rightImage ≡ true
   -- the link, then the flush: the cut leaves a reached node with what was there before, and every later write is refused
   pub wrong-orders : take 2 (drop 73 earlyLink) ≡ store (put (nodeStart 1 + 1) 3) ∷ flush lastLine ∷ []
-  pub wrong-image : CutImage 74 junk earlyLink wrongImage
+  pub wrong-image : CutImage 0 74 junk earlyLink wrongImage
   pub unsound : sound wrongImage ≡ false
-  pub refused : refusal nextKey 2560 wrongImage ≡ 4
+  pub refused : refusal nextKey 2560 0 wrongImage ≡ 4
 
 pub early-link : EarlyLink
-unfolding everything afterCalls insertTens fullLeaf values withLine imageOf flushLater junk earlyLink
+unfolding everything afterCalls insertTens fullLeaf values withLine imageBy flushLater junk earlyLink
 early-link = record {
   junk-settled = refl;
   last-line = refl;
   right-orders = refl;
-  right-image = imageOf-image butLast junk (take 75 (ordersOf nextKey junk));
+  right-image = imageOf-image butLast junk (take 75 (ordersOf nextKey 0 junk));
   right-sound = refl;
   wrong-orders = refl;
   wrong-image = imageOf-image butLast junk (take 74 earlyLink);
@@ -230,30 +235,73 @@ abbrev pub onlyLink : ℕ → ℕ
 onlyLink l = cond (eqb l 1) 100 0
 
 abbrev pub orderedImage : Words
-orderedImage = imageOf onlyLink fullLeaf (take 75 (ordersOf nextKey fullLeaf))
+orderedImage = imageOf onlyLink fullLeaf (take 75 (ordersOf nextKey 0 fullLeaf))
 
 abbrev pub unorderedImage : Words
 unorderedImage = imageOf onlyLink fullLeaf (take 66 (flushedAtEnd (storesOf nextKey fullLeaf)))
 
 pub record FlushedAtEnd : Type 0 where
   -- each line before the next: the link arrives after B, and all eleven pairs stay
-  pub right-image : CutImage 75 fullLeaf (ordersOf nextKey fullLeaf) orderedImage
+  pub right-image : CutImage 0 75 fullLeaf (ordersOf nextKey 0 fullLeaf) orderedImage
   pub right-map : mapOf 1 orderedImage ≡ map (λ (i : ℕ). slot (10 * i) (100 + i)) (numbers 1 11)
   pub right-sound : sound orderedImage ≡ true
   -- the link arrives before B, whose fence is still 0: every pair is lost
-  pub wrong-image : CutImage 66 fullLeaf (flushedAtEnd (storesOf nextKey fullLeaf)) unorderedImage
+  pub wrong-image : CutImage 0 66 fullLeaf (flushedAtEnd (storesOf nextKey fullLeaf)) unorderedImage
   pub lost : mapOf 1 unorderedImage ≡ []
   pub lost-ten : search 1 unorderedImage 10 ≡ Absent Nothing
   pub neither : OldOrNew nextKey fullLeaf unorderedImage → ⊥
 
 pub flushed-at-end : FlushedAtEnd
-unfolding everything afterCalls insertTens fullLeaf values withLine imageOf flushedAtEnd
+unfolding everything afterCalls insertTens fullLeaf values withLine imageBy flushedAtEnd
 flushed-at-end = record {
-  right-image = imageOf-image onlyLink fullLeaf (take 75 (ordersOf nextKey fullLeaf));
+  right-image = imageOf-image onlyLink fullLeaf (take 75 (ordersOf nextKey 0 fullLeaf));
   right-map = refl;
   right-sound = refl;
   wrong-image = imageOf-image onlyLink fullLeaf (take 66 (flushedAtEnd (storesOf nextKey fullLeaf)));
   lost = refl;
   lost-ten = refl;
   neither = neither-map 10 nextKey fullLeaf unorderedImage refl refl refl;
+}
+
+-- ---- dock 1 without barriers
+
+abbrev pub lowest : Call
+lowest = insertion 1 10 101 0
+
+-- of the eight stores, all to one line, the sixth arrives alone, which hides slot 0 before its pair was moved up
+abbrev pub sixthAlone : ℕ → List Bool
+sixthAlone l = false ∷ false ∷ false ∷ false ∷ false ∷ true ∷ []
+
+abbrev pub unbarredImage : Words
+unbarredImage = imageWith sixthAlone twoSlots (take 8 (ordersOf lowest 0 twoSlots))
+
+pub record NoBarriers : Type 0 where
+  pub accepted : refusal lowest 5120 1 twoSlots ≡ 0
+  -- a barrier after each store: whatever arrives, the map is the old one or the new one
+  pub right-list : withoutBarriers (ordersOf lowest 1 twoSlots) ≡ ordersOf lowest 0 twoSlots
+  pub right-images : (c : ℕ) (m : Words) → CutImage 1 c twoSlots (ordersOf lowest 1 twoSlots) m → OldOrNew lowest twoSlots m
+  -- the same list without them: 20 is lost
+  pub wrong-image : CutImage 1 8 twoSlots (ordersOf lowest 0 twoSlots) unbarredImage
+  pub lost : search 1 unbarredImage 20 ≡ Absent (Key 30)
+  pub neither : OldOrNew lowest twoSlots unbarredImage → ⊥
+
+-- the images of an accepted call's list
+old-or-new : (x : Call) (words dock : ℕ) (t : Words) → refusal x words dock t ≡ 0 → (c : ℕ) (m : Words) → CutImage dock c t (ordersOf x dock t) m → OldOrNew x t m
+old-or-new x words dock t ok c m i =
+    let p = image-is-stores dock (storesOf x t) t c m i in
+    rw (p .2) (accepted-steps x words dock t (accepted-iff x words dock t .0 ok .sound) ok .part-map (p .0))
+
+lowest-accepted : refusal lowest 5120 1 twoSlots ≡ 0
+unfolding everything afterCalls insertTens deleteTens twoSlots
+lowest-accepted = refl
+
+pub no-barriers : NoBarriers
+unfolding everything afterCalls insertTens deleteTens twoSlots values withLine imageBy
+no-barriers = record {
+  accepted = lowest-accepted;
+  right-list = call-without lowest 1 twoSlots;
+  right-images = old-or-new lowest 5120 1 twoSlots lowest-accepted;
+  wrong-image = imageWith-image sixthAlone twoSlots (take 8 (ordersOf lowest 0 twoSlots));
+  lost = refl;
+  neither = neither-map 20 lowest twoSlots unbarredImage refl refl refl;
 }

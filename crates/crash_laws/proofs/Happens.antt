@@ -17,12 +17,12 @@ use Rattle.model.specs.Cuts.{CutImage}
 use Rattle.model.specs.Writes.{Call, insertion, deletion, classChange}
 use Rattle.model.specs.Demand3.{Fate, whole, cut, Event, History, numberOf, eventOrders, runAll, May, Kept}
 use Rattle.model.proofs.Everything.{everything}
-use Rattle.crash_laws.proofs.Images.{values, withLine, imageOf, imageOf-image}
+use Rattle.crash_laws.proofs.Images.{values, withLine, imageBy, imageOf, imageOf-image}
 use Rattle.crash_laws.proofs.Demand3.{demand3}
 
--- a call with an order list of 2,560 words, and its fate
+-- a call with an order list of 2,560 words for dock 0, and its fate
 abbrev pub event : Call → Fate → Event
-event x f = record { call = x; lent = replicate 2560 0; fate = f }
+event x f = record { call = x; lent = replicate 2560 0; dock = 0; fate = f }
 
 abbrev pub inserted : History
 inserted = event (insertion 1 20 102 1) whole ∷ []
@@ -47,7 +47,7 @@ closed = event (classChange 1 20 2) whole ∷ cutShort
 abbrev pub deleted : History
 deleted = event (deletion 1 20) whole ∷ closed
 
-may-leave : CutImage 3 before ordersCut image
+may-leave : CutImage 0 3 before ordersCut image
 may-leave = imageOf-image (λ (l : ℕ). 2) before (take 3 ordersCut)
 
 within-list : 3 ≤ length ordersCut
@@ -77,7 +77,7 @@ pub record Computed : Type 0 where
   pub settled-again : settled (runAll 1 1 deleted .memory) ≡ true
 
 pub computed : Computed
-unfolding everything values withLine imageOf
+unfolding everything values withLine imageBy
 computed =
     record {
       all-accepted = (refl, refl, refl, refl);

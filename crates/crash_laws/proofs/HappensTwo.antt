@@ -19,7 +19,7 @@ use Rattle.model.specs.SoundTest.{sound, settled}
 use Rattle.model.specs.Search.{search}
 use Rattle.model.specs.Reached.{mapsOf}
 use Rattle.model.specs.Writes.{insertion, deletion}
-use Rattle.crash_laws.proofs.Images.{values, withLine, imageOf, imageOf-image}
+use Rattle.crash_laws.proofs.Images.{values, withLine, imageBy, imageOf, imageOf-image}
 use Rattle.crash_laws.proofs.Demand3.{demand3}
 use Rattle.crash_laws.proofs.Happens.{event}
 
@@ -43,7 +43,7 @@ cutShort = event (insertion 2 20 102 0) (cut 3 image) ∷ inserted
 abbrev deleted : History
 deleted = event (deletion 1 20) whole ∷ cutShort
 
-may-leave : CutImage 3 before ordersCut image
+may-leave : CutImage 0 3 before ordersCut image
 may-leave = imageOf-image (λ (l : ℕ). 2) before (take 3 ordersCut)
 
 within-list : 3 ≤ length ordersCut
@@ -69,7 +69,7 @@ pub record Computed : Type 0 where
   pub both-empty : mapsOf (runAll 2 2 deleted .memory) ≡ record { one = []; two = some [] }
 
 pub computed : Computed
-unfolding everything values withLine imageOf
+unfolding everything values withLine imageBy
 computed =
     record {
       all-accepted = (refl, refl, refl);

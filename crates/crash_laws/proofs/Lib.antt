@@ -3,4 +3,5 @@ pub mod Demand3
 pub mod Images
 pub mod Happens
 pub mod HappensTwo
+pub mod HappensDocks
 pub mod Drawings

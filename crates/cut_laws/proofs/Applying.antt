@@ -1,4 +1,4 @@
--- Applying stores and carrying orders out: lengths, lists in a row, agreement word by word; flushes change no word.
+-- Applying stores and carrying orders out: lengths, lists in a row, agreement word by word; flushes and barriers change no word.
 use mathlib.Core.Path.{_≡_, refl, sym, ap, _∙_}
 use mathlib.Core.Logic.{_≢_}
 use mathlib.Core.List.{List, [], _∷_, _++_}
@@ -7,7 +7,7 @@ use native.Mathlib.Omega.{arith}
 use lib.ListN.{length, take, set, length-set}
 use lib.Seq.{getD-set-other}
 use Rattle.model.specs.Table.{Words, at, line}
-use Rattle.model.specs.Orders.{Store, Order, store, flush, apply, carry, storeCount, flushCount}
+use Rattle.model.specs.Orders.{Store, Order, store, flush, barrier, apply, carry, storeCount, flushCount, barrierCount}
 use Rattle.cut_laws.specs.Unflushed.{storesIn}
 pub use Rattle.list_laws.proofs.Lists.{take-append}
 
@@ -41,6 +41,7 @@ unfolding carry
 length-carry [] t = refl
 length-carry (store s ∷ os) t = length-carry os _ ∙ length-set t (s .word) (s .value)
 length-carry (flush l ∷ os) t = length-carry os t
+length-carry (barrier ∷ os) t = length-carry os t
 
 pub carry-nil : (t : Words) → carry [] t ≡ t
 unfolding carry
@@ -51,6 +52,7 @@ unfolding carry
 carry-append [] b t = refl
 carry-append (store s ∷ a) b t = carry-append a b _
 carry-append (flush l ∷ a) b t = carry-append a b t
+carry-append (barrier ∷ a) b t = carry-append a b t
 
 -- only the stores among the orders matter
 pub carry-stores : (os : List Order) (t : Words) → carry os t ≡ apply (storesIn os) t
@@ -58,12 +60,14 @@ unfolding carry apply storesIn
 carry-stores [] t = refl
 carry-stores (store s ∷ os) t = carry-stores os _
 carry-stores (flush l ∷ os) t = carry-stores os t
+carry-stores (barrier ∷ os) t = carry-stores os t
 
 pub storesIn-append : (a b : List Order) → storesIn (a ++ b) ≡ storesIn a ++ storesIn b
 unfolding storesIn
 storesIn-append [] b = refl
 storesIn-append (store s ∷ a) b = ap (λ l. s ∷ l) (storesIn-append a b)
 storesIn-append (flush l ∷ a) b = storesIn-append a b
+storesIn-append (barrier ∷ a) b = storesIn-append a b
 
 -- the stores among the first c orders are the first stores
 pub storesIn-take : (c : ℕ) (os : List Order) → storesIn (take c os) ≡ take (storeCount (take c os)) (storesIn os)
@@ -72,6 +76,7 @@ storesIn-take zero os = refl
 storesIn-take (suc c) [] = refl
 storesIn-take (suc c) (store s ∷ os) = ap (λ l. s ∷ l) (storesIn-take c os)
 storesIn-take (suc c) (flush l ∷ os) = storesIn-take c os
+storesIn-take (suc c) (barrier ∷ os) = storesIn-take c os
 
 -- ---- counts
 
@@ -80,25 +85,36 @@ unfolding storesIn storeCount
 storeCount-stores [] = refl
 storeCount-stores (store s ∷ os) = ap suc (storeCount-stores os)
 storeCount-stores (flush l ∷ os) = storeCount-stores os
+storeCount-stores (barrier ∷ os) = storeCount-stores os
 
 pub storeCount-append : (a b : List Order) → storeCount (a ++ b) ≡ storeCount a + storeCount b
 unfolding storeCount
 storeCount-append [] b = omega arith
 storeCount-append (store s ∷ a) b = omega (arith, storeCount-append a b)
 storeCount-append (flush l ∷ a) b = storeCount-append a b
+storeCount-append (barrier ∷ a) b = storeCount-append a b
 
 pub flushCount-append : (a b : List Order) → flushCount (a ++ b) ≡ flushCount a + flushCount b
 unfolding flushCount
 flushCount-append [] b = omega arith
 flushCount-append (store s ∷ a) b = flushCount-append a b
 flushCount-append (flush l ∷ a) b = omega (arith, flushCount-append a b)
+flushCount-append (barrier ∷ a) b = flushCount-append a b
 
--- each order is a store or a flush
-pub counts-length : (os : List Order) → storeCount os + flushCount os ≡ length os
-unfolding storeCount flushCount
+pub barrierCount-append : (a b : List Order) → barrierCount (a ++ b) ≡ barrierCount a + barrierCount b
+unfolding barrierCount
+barrierCount-append [] b = omega arith
+barrierCount-append (store s ∷ a) b = barrierCount-append a b
+barrierCount-append (flush l ∷ a) b = barrierCount-append a b
+barrierCount-append (barrier ∷ a) b = omega (arith, barrierCount-append a b)
+
+-- each order is a store, a flush or a barrier
+pub counts-length : (os : List Order) → storeCount os + flushCount os + barrierCount os ≡ length os
+unfolding storeCount flushCount barrierCount
 counts-length [] = refl
 counts-length (store s ∷ os) = omega (arith, counts-length os)
 counts-length (flush l ∷ os) = omega (arith, counts-length os)
+counts-length (barrier ∷ os) = omega (arith, counts-length os)
 
 -- more orders, at least as many stores
 pub storeCount-take-le : (i j : ℕ) (os : List Order) → i ≤ j → storeCount (take i os) ≤ storeCount (take j os)
@@ -108,6 +124,7 @@ storeCount-take-le (suc i) zero os h = absurd (omega arith)
 storeCount-take-le (suc i) (suc j) [] h = omega arith
 storeCount-take-le (suc i) (suc j) (store s ∷ os) h = omega (arith, storeCount-take-le i j os (omega arith))
 storeCount-take-le (suc i) (suc j) (flush l ∷ os) h = storeCount-take-le i j os (omega arith)
+storeCount-take-le (suc i) (suc j) (barrier ∷ os) h = storeCount-take-le i j os (omega arith)
 
 -- ---- word by word
 

@@ -12,10 +12,11 @@ use borrow.Author.Tests.{eq-eqb, ne-eqb}
 use lib.ListN.{length, take, length-append}
 use Rattle.list_laws.proofs.Tools.{Each}
 use Rattle.model.specs.Table.{Words, line}
-use Rattle.model.specs.Orders.{Store, store, flush, apply, carry, ordersAfter, orders, storeCount, flushCount}
+use Rattle.model.specs.Orders.{Store, store, flush, apply, carry, ordersAfter, orders, withoutBarriers, storeCount, flushCount, barrierCount}
 use Rattle.cut_laws.specs.Growing.{due, added, openAfter, closing, openOrders, openLine, changesFrom, lineChanges}
 use Rattle.cut_laws.specs.Unflushed.{storesIn}
 use Rattle.cut_laws.proofs.Applying.{carry-stores, storesIn-append, storesIn-take, storeCount-stores, counts-length}
+use Rattle.cut_laws.proofs.Barriers.{without-barrierCount}
 
 -- ---- the rule's two cases
 
@@ -26,6 +27,25 @@ after-same l s ss e = rw (eq-eqb (line (s .word)) l e, ordersAfter)
 pub after-other : (l : ℕ) (s : Store) (ss : List Store) → line (s .word) ≢ l → ordersAfter l (s ∷ ss) ≡ flush l ∷ store s ∷ ordersAfter (line (s .word)) ss
 unfolding ordersAfter
 after-other l s ss e = rw (ne-eqb (line (s .word)) l e, ordersAfter)
+
+-- ---- the rule has no barriers
+
+after-without : (l : ℕ) (ss : List Store) → withoutBarriers (ordersAfter l ss) ≡ ordersAfter l ss
+unfolding ordersAfter withoutBarriers
+after-without l [] = refl
+after-without l (s ∷ ss) = go (ℕ-discrete (line (s .word)) l) (after-without (line (s .word)) ss)
+  where
+    go : Dec (line (s .word) ≡ l) → withoutBarriers (ordersAfter (line (s .word)) ss) ≡ ordersAfter (line (s .word)) ss → withoutBarriers (ordersAfter l (s ∷ ss)) ≡ ordersAfter l (s ∷ ss)
+    go (yes e) ih = rw (after-same l s ss e) (ap (λ q. store s ∷ q) (rw e at ih))
+    go (no k) ih = rw (after-other l s ss k) (ap (λ q. flush l ∷ store s ∷ q) ih)
+
+pub orders-without : (ss : List Store) → withoutBarriers (orders ss) ≡ orders ss
+unfolding orders withoutBarriers
+orders-without [] = refl
+orders-without (s ∷ ss) = ap (λ q. store s ∷ q) (after-without (line (s .word)) ss)
+
+pub orders-barrierCount : (ss : List Store) → barrierCount (orders ss) ≡ 0
+orders-barrierCount ss = ap barrierCount (sym (orders-without ss)) ∙ without-barrierCount (orders ss)
 
 -- ---- a list that grows
 
@@ -96,7 +116,7 @@ pub orders-storeCount : (ss : List Store) → storeCount (orders ss) ≡ length 
 orders-storeCount ss = storeCount-stores (orders ss) ∙ ap length (orders-stores ss)
 
 pub orders-length : (ss : List Store) → length (orders ss) ≡ length ss + flushCount (orders ss)
-orders-length ss = omega (arith, counts-length (orders ss), orders-storeCount ss)
+orders-length ss = omega (arith, counts-length (orders ss), orders-storeCount ss, orders-barrierCount ss)
 
 after-flushCount : (l : ℕ) (ss : List Store) → flushCount (ordersAfter l ss) ≡ suc (changesFrom l ss)
 unfolding ordersAfter flushCount changesFrom

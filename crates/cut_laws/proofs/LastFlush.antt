@@ -11,7 +11,7 @@ use borrow.Author.Tests.{eqb-false, eq-eqb, ne-eqb}
 use lib.ListN.{set, length-set}
 use Rattle.list_laws.proofs.Tools.{or-right, or-false-iff}
 use Rattle.model.specs.Table.{Words, at, line}
-use Rattle.model.specs.Orders.{Store, Order, store, flush, apply, carry, flushCount}
+use Rattle.model.specs.Orders.{Store, Order, store, flush, barrier, apply, carry, flushCount}
 use Rattle.model.specs.Cuts.{flushed, upToFlush, laterStores}
 use Rattle.cut_laws.proofs.Applying.{apply-agree, set-elsewhere}
 
@@ -23,7 +23,7 @@ or-assoc : (a b c : Bool) → a || b || c ≡ a || (b || c)
 or-assoc true b c = refl
 or-assoc false b c = refl
 
-and-none : (a : Bool) → a && false ≡ false
+pub and-none : (a : Bool) → a && false ≡ false
 and-none true = refl
 and-none false = refl
 
@@ -35,6 +35,7 @@ pub flushed-append : (l : ℕ) (a b : List Order) → flushed l (a ++ b) ≡ flu
 unfolding flushed
 flushed-append l [] b = refl
 flushed-append l (store s ∷ a) b = flushed-append l a b
+flushed-append l (barrier ∷ a) b = flushed-append l a b
 flushed-append l (flush k ∷ a) b =
     ap (λ (x : Bool). eqb k l || x) (flushed-append l a b) ∙ sym (or-assoc (eqb k l) (flushed l a) (flushed l b))
 
@@ -43,6 +44,7 @@ pub no-flush : (l : ℕ) (os : List Order) → flushCount os ≡ 0 → flushed l
 unfolding flushed flushCount
 no-flush l [] e = refl
 no-flush l (store s ∷ os) e = no-flush l os e
+no-flush l (barrier ∷ os) e = no-flush l os e
 no-flush l (flush k ∷ os) e = absurd (omega arith)
 
 pub upToFlush-nil : (l : ℕ) (os : List Order) → flushed l os ≡ false → upToFlush l os ≡ []
@@ -65,6 +67,7 @@ module _ (l : ℕ) (b : List Order) (e : flushed l b ≡ true) where
   laterStores-after [] = refl
   laterStores-after (store s ∷ a) = rw (flushed-after a, and-none (eqb (line (s .word)) l)) (laterStores-after a)
   laterStores-after (flush k ∷ a) = laterStores-after a
+  laterStores-after (barrier ∷ a) = laterStores-after a
 
 -- b does not
 module _ (l : ℕ) (b : List Order) (e : flushed l b ≡ false) where
@@ -82,6 +85,7 @@ module _ (l : ℕ) (b : List Order) (e : flushed l b ≡ false) where
   laterStores-before (store s ∷ a) =
       rw (flushed-before a, laterStores-before a) (cond-append (eqb (line (s .word)) l && not (flushed l a)) s (laterStores l a) (laterStores l b))
   laterStores-before (flush k ∷ a) = laterStores-before a
+  laterStores-before (barrier ∷ a) = laterStores-before a
 
 -- ---- one store in front, or at the end
 
@@ -111,6 +115,12 @@ other-end os s l k = rw (laterStores-before l (store s ∷ []) refl os, ne-eqb (
 pub line-current : (os : List Order) (t : Words) (w : ℕ) → at (apply (laterStores (line w) os) (carry (upToFlush (line w) os) t)) w ≡ at (carry os t) w
 unfolding carry apply upToFlush laterStores flushed
 line-current [] t w = refl
+line-current (barrier ∷ os) t w = go (flushed (line w) os) refl (line-current os t w)
+  where
+    go : (b : Bool) → flushed (line w) os ≡ b → at (apply (laterStores (line w) os) (carry (upToFlush (line w) os) t)) w ≡ at (carry os t) w
+        → at (apply (laterStores (line w) os) (carry (cond b (barrier ∷ upToFlush (line w) os) []) t)) w ≡ at (carry os t) w
+    go true e ih = ih
+    go false e ih = rw (upToFlush-nil (line w) os e) at ih
 line-current (flush k ∷ os) t w = go (flushed (line w) (flush k ∷ os)) refl (line-current os t w)
   where
     go : (b : Bool) → flushed (line w) (flush k ∷ os) ≡ b → at (apply (laterStores (line w) os) (carry (upToFlush (line w) os) t)) w ≡ at (carry os t) w

@@ -4,7 +4,7 @@ use mathlib.Core.Logic.{_≢_, _⊎_}
 use mathlib.Core.List.{List, [], _∷_}
 use Prim.Native.Nat.{ℕ}
 use lib.ListN.{take}
-use Rattle.model.specs.Orders.{Store, Order, store, flush}
+use Rattle.model.specs.Orders.{Store, Order, store, flush, barrier}
 use Rattle.model.specs.Cuts.{laterStores}
 
 -- the stores among the orders
@@ -12,6 +12,7 @@ unfoldable pub storesIn : List Order → List Store
 storesIn [] = []
 storesIn (store s ∷ os) = s ∷ storesIn os
 storesIn (flush l ∷ os) = storesIn os
+storesIn (barrier ∷ os) = storesIn os
 
 -- no two lines ever hold unflushed stores
 abbrev pub OneLine : List Order → Type 0

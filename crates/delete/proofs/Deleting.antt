@@ -27,7 +27,7 @@ use Rattle.write.proofs.Rooted.{root-sound, root-stands, root-key}
 -- ---- 9
 
 -- the root that was read, and whether its tree has the key
-module _ {c k words : ℕ} {t : Words} {x : Leftover} {n : ℕ} (p : Passed (deletion c k) words t x n) {r : ℕ} (q : r ≡ at t (rootWord c)) where
+module _ {c k words dock : ℕ} {t : Words} {x : Leftover} {n : ℕ} (p : Passed (deletion c k) words dock t x n) {r : ℕ} (q : r ≡ at t (rootWord c)) where
   pub tree-sound : soundView (viewFrom t r) ≡ true
   tree-sound = root-sound c t r q (p .found .is-sound) (p .collection)
 
@@ -35,11 +35,11 @@ module _ {c k words : ℕ} {t : Words} {x : Leftover} {n : ℕ} (p : Passed (del
     has : b ≡ hasKey k (mapOf c t)
     has = root-key c t r q b k e
 
-    pub delete-refused : b ≡ false → refusal (deletion c k) words t ≡ 9
-    delete-refused h = ready-number (deletion c k) words t p ∙ rw (sym has ∙ h)
+    pub delete-refused : b ≡ false → refusal (deletion c k) words dock t ≡ 9
+    delete-refused h = ready-number (deletion c k) words dock t p ∙ rw (sym has ∙ h)
 
-    pub delete-accepted : b ≡ true → refusal (deletion c k) words t ≡ 0
-    delete-accepted h = ready-accepted (deletion c k) words t p (ap (hasKey k) (map-later c t (p .found .is-sound) (p .collection)) ∙ sym has ∙ h)
+    pub delete-accepted : b ≡ true → refusal (deletion c k) words dock t ≡ 0
+    delete-accepted h = ready-accepted (deletion c k) words dock t p (ap (hasKey k) (map-later c t (p .found .is-sound) (p .collection)) ∙ sym has ∙ h)
 
 -- ---- the stores: the repair, then those that the repaired table calls for
 

@@ -33,24 +33,25 @@ fn take_out(table: &mut [u64], list: &mut [u64], pen: Pen, collection: u64, key:
     shift::free_leaf(table, list, out, parent, leaf)
 }
 
-pub fn delete(table: &mut [u64], list: &mut [u64], collection: u64, key: u64) -> Written
-    ensures { λ r. ⌜ r ≡ written (deletion collection key) (length (now (list .entry))) (now (table .entry)) ⌝ }
-    ensures { λ r. ⌜ now (table .exit) ≡ tableAfter (deletion collection key) (length (now (list .entry))) (now (table .entry)) ⌝ }
-    ensures { λ r. ⌜ now (list .exit) ≡ listAfter (deletion collection key) (now (list .entry)) (now (table .entry)) ⌝ }
+pub fn delete(table: &mut [u64], list: &mut [u64], dock: u64, collection: u64, key: u64) -> Written
+    ensures { λ r. ⌜ r ≡ written (deletion collection key) (length (now (list .entry))) dock (now (table .entry)) ⌝ }
+    ensures { λ r. ⌜ now (table .exit) ≡ tableAfter (deletion collection key) (length (now (list .entry))) dock (now (table .entry)) ⌝ }
+    ensures { λ r. ⌜ now (list .exit) ≡ listAfter (deletion collection key) (now (list .entry)) dock (now (table .entry)) ⌝ }
 {
-    let judgement = write::judge(table, collection, list.len());
+    let judgement = write::judge(table, collection, list.len(), dock);
     match judgement {
         Judged::Refused(n) => Written::Refused(n),
         Judged::Ready { left, reached: _ } => {
             if !write::has_key(table, node::root_of(table, collection), key) {
                 return Written::Refused(9);
             }
-            let mended = write::mend(table, list, write::begin(), left);
+            let mended = write::mend(table, list, write::begin(dock), left);
             let out = take_out(table, list, mended, collection, key);
             let done = orders::finish(list, out);
             Written::Done {
                 stores: done.stores,
                 flushes: done.flushes,
+                barriers: done.barriers,
             }
         }
     }

@@ -116,7 +116,7 @@ pub insert-stores : (o : ℕ) (t : Words) (k r c : ℕ) → storesOf (insertion 
 unfolding storesOf insertStores
 insert-stores o t k r c = refl
 
-module _ {o k r c : ℕ} {t lent : Words} {pen : Pen} (b : Begun (insertion o k r c) t lent pen (entering o k r c)) {t₁ list : Words} {at₁ : Pen}
+module _ {o k r c dock : ℕ} {t lent : Words} {pen : Pen} (b : Begun (insertion o k r c) t lent dock pen (entering o k r c)) {t₁ list : Words} {at₁ : Pen}
     (g : desk t₁ list at₁ ≡ storedAll (repairStores t) (desk t lent pen)) where
   pub enter-enters : Enters o k r c t₁
   enter-enters = rw (mended-table b g) (begun-allows b)

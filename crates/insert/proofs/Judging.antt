@@ -54,18 +54,18 @@ run-judged n t y k s h e =
     run-of v n (repaired t) k (parentOf y) (repaired-later t (rootWord n) s i .path k)
     (Each-map (λ (m : ℕ). List·Memᴰ m (reached v)) (λ (m : ℕ). fullIn v (parentOf y) m ≡ full (nodeView (repaired t) m .shown)) (path v k) judged (path-reached v k o))
 
-module _ {o k r c words : ℕ} {t : Words} {x : said.Leftover} {n : ℕ} (p : Passed (insertion o k r c) words t x n) where
+module _ {o k r c words dock : ℕ} {t : Words} {x : said.Leftover} {n : ℕ} (p : Passed (insertion o k r c) words dock t x n) where
   pub run-later : {parent root : ℕ} {run : Run} → parent ≡ parentOf (meant x) → root ≡ at t (rootWord o) → run ≡ fullRun (viewFrom t root) k parent
       → run ≡ runOf o (repaired t) k
   run-later {parent} b f e =
       e ∙ ap (λ (z : ℕ). fullRun (viewFrom t z) k parent) f ∙ ap (fullRun (viewOf o t) k) b ∙ run-judged o t (meant x) k (p .found .is-sound) (p .collection) (p .found .leftover-is)
 
-  number-is : numberFor o t k r c (runOf o (repaired t) k) ≡ refusal (insertion o k r c) words t
+  number-is : numberFor o t k r c (runOf o (repaired t) k) ≡ refusal (insertion o k r c) words dock t
   unfolding numberFor tooHigh tooFew
   number-is =
       let s = p .found .is-sound in
       let v = repaired-later t (rootWord o) s (there o t (p .collection) .1) in
-      sym (ready-number (insertion o k r c) words t p ∙ rw (v .height, unreachable-later t s))
+      sym (ready-number (insertion o k r c) words dock t p ∙ rw (v .height, unreachable-later t s))
 
-  pub insert-number : {run : Run} {m : ℕ} → run ≡ runOf o (repaired t) k → m ≡ numberFor o t k r c run → refusal (insertion o k r c) words t ≡ m
+  pub insert-number : {run : Run} {m : ℕ} → run ≡ runOf o (repaired t) k → m ≡ numberFor o t k r c run → refusal (insertion o k r c) words dock t ≡ m
   insert-number e q = sym (q ∙ ap (numberFor o t k r c) e ∙ number-is)

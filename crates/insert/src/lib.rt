@@ -202,16 +202,17 @@ fn enter(
 pub fn insert(
     table: &mut [u64],
     list: &mut [u64],
+    dock: u64,
     collection: u64,
     key: u64,
     recording: u64,
     access: u64,
 ) -> Written
-    ensures { λ r. ⌜ r ≡ written (insertion collection key recording access) (length (now (list .entry))) (now (table .entry)) ⌝ }
-    ensures { λ r. ⌜ now (table .exit) ≡ tableAfter (insertion collection key recording access) (length (now (list .entry))) (now (table .entry)) ⌝ }
-    ensures { λ r. ⌜ now (list .exit) ≡ listAfter (insertion collection key recording access) (now (list .entry)) (now (table .entry)) ⌝ }
+    ensures { λ r. ⌜ r ≡ written (insertion collection key recording access) (length (now (list .entry))) dock (now (table .entry)) ⌝ }
+    ensures { λ r. ⌜ now (table .exit) ≡ tableAfter (insertion collection key recording access) (length (now (list .entry))) dock (now (table .entry)) ⌝ }
+    ensures { λ r. ⌜ now (list .exit) ≡ listAfter (insertion collection key recording access) (now (list .entry)) dock (now (table .entry)) ⌝ }
 {
-    let judgement = write::judge(table, collection, list.len());
+    let judgement = write::judge(table, collection, list.len(), dock);
     match judgement {
         Judged::Refused(n) => Written::Refused(n),
         Judged::Ready { left, reached } => {
@@ -221,12 +222,13 @@ pub fn insert(
             if n != 0 {
                 return Written::Refused(n);
             }
-            let mended = write::mend(table, list, write::begin(), left);
+            let mended = write::mend(table, list, write::begin(dock), left);
             let entered = enter(table, list, mended, collection, key, recording, access, run);
             let done = orders::finish(list, entered);
             Written::Done {
                 stores: done.stores,
                 flushes: done.flushes,
+                barriers: done.barriers,
             }
         }
     }

@@ -32,9 +32,9 @@ unfolding Codes.isDigit Codes.isLetter Codes.isLetterOrDigit Codes.every Codes.i
     SoundTest.own SoundTest.rowUnfinished SoundTest.unfinishedAt SoundTest.unfinished SoundTest.leftoverOf SoundTest.leftover SoundTest.room
     SoundTest.settledView SoundTest.soundView SoundTest.leftoverIn SoundTest.oneLeft SoundTest.sound SoundTest.settled
     Listing.inRangeOf Listing.pairWords Listing.listed Listing.listedWords Listing.listNumber Listing.list Listing.listOut
-    Orders.apply Orders.carry Orders.ordersAfter Orders.orders Orders.storeCount Orders.flushCount Orders.encode Orders.decode Orders.listWith Orders.allInside
-    Orders.carryNumber Orders.carryOut Orders.carriedOut
-    Cuts.flushed Cuts.upToFlush Cuts.laterStores
+    Orders.apply Orders.carry Orders.ordersAfter Orders.orders Orders.withBarriers Orders.withoutBarriers Orders.storeCount Orders.flushCount
+    Orders.barrierCount Orders.encode Orders.decode Orders.listWith Orders.allInside Orders.carryNumber Orders.carryOut Orders.carriedOut
+    Cuts.flushed Cuts.upToFlush Cuts.sinceFlush Cuts.laterStores Cuts.toBarrier Cuts.choice
     Shifts.lastPointer Shifts.moveUp Shifts.moveDown Shifts.shiftIn Shifts.close Shifts.shiftOut Shifts.placeOf Shifts.hiddenPlace
     Writes.shiftInAt Writes.shiftOutAt Writes.closeAt Writes.numbers Writes.unreached Writes.unreachable Writes.fresh Writes.putAll Writes.nodeWords
     Writes.splitWords Writes.split Writes.newRoot Writes.cutOff Writes.attach Writes.repairOf Writes.repairStores Writes.repaired Writes.standingIn Writes.runIn

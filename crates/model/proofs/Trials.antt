@@ -1,25 +1,27 @@
 -- What it is to try a write on a table: each first part of its stores, each cut of its orders, its number; and a few trials.
 use mathlib.Core.Path.{_≡_, refl, subst}
+use mathlib.Core.Logic.{inl, inr}
 use mathlib.Core.Bool.{Bool, true, false, _&&_, _||_}
 use mathlib.Core.List.{List, [], _∷_, _++_, map}
 use mathlib.Core.Option.{none}
 use Prim.Native.Nat.{ℕ, suc, pred, _*_}
 use lib.Dec.{eqb}
-use lib.ListN.{length, take, drop, set}
+use lib.ListN.{length, take, drop, set, replicate}
 use Rattle.model.specs.declared.Answer.{Answer}
 use Rattle.model.specs.declared.Answer.the-variants.{Found, Absent, Refused}
 use Rattle.model.specs.declared.Next.{Next}
 use Rattle.model.specs.declared.Next.the-variants.{Key, Nothing}
-use Rattle.model.specs.Table.{MARK, Words, at, line, headerOk}
+use Rattle.model.specs.declared.Written.the-variants.{Done}
+use Rattle.model.specs.Table.{MARK, Words, at, line, headerOk, empty}
 use Rattle.model.specs.Slots.{Slot, View, view}
 use Rattle.model.specs.Search.{searchView, lookup}
 use Rattle.model.specs.Reached.{mapping, mapOf, reached, flat}
 use Rattle.model.specs.SoundTest.{all, leftover, soundView, settledView, settled}
-use Rattle.model.specs.Orders.{Store, apply, Order, carry, orders}
-use Rattle.model.specs.Cuts.{upToFlush, laterStores}
+use Rattle.model.specs.Orders.{Store, put, apply, Order, store, barrier, carry, orders, BAR, carryNumber, carriedOut}
+use Rattle.model.specs.Cuts.{upToFlush, laterStores, MayArrive}
 use Rattle.model.specs.Shifts.{pointerWord}
 use Rattle.model.specs.Writes.{nodeWords, Call, insertion, deletion, classChange, repair, storesOf, repairOf, numbers}
-use Rattle.model.specs.Refusals.{refusal}
+use Rattle.model.specs.Refusals.{refusal, written, listAfter}
 use Rattle.model.specs.Ledger.{change}
 use Rattle.model.proofs.Everything.{everything}
 use Rattle.model.proofs.Worked.{tenSlots}
@@ -114,11 +116,11 @@ module _ (look : Words → View) where
       let old = mapping (look t) in
       let new = changed x old in
       let keys = nearCall x ++ ks in
-      eqb (refusal x 2560 t) 0 && until (hasEither keys old new) (λ (u : Words). settledWith new u && answersAs keys new (look u)) (storesOf x t) t
+      eqb (refusal x 2560 0 t) 0 && until (hasEither keys old new) (λ (u : Words). settledWith new u && answersAs keys new (look u)) (storesOf x t) t
 
   -- the last of it alone
   abbrev pub endsWell : Words → Call → Bool
-  endsWell t x = eqb (refusal x 2560 t) 0 && settledWith (changed x (mapping (look t))) (apply (storesOf x t) t)
+  endsWell t x = eqb (refusal x 2560 0 t) 0 && settledWith (changed x (mapping (look t))) (apply (storesOf x t) t)
 
 -- ---- a call cut
 
@@ -164,7 +166,7 @@ abbrev pub passes : (Words → View) → Trial → Bool
 passes look (done t ks xs) = all (wellDone look ks t) xs
 passes look (ended t xs) = all (endsWell look t) xs
 passes look (cut t xs) = all (cutWell look t) xs
-passes look (number t words n xs) = all (λ (x : Call). eqb (refusal x words t) n) xs
+passes look (number t words n xs) = all (λ (x : Call). eqb (refusal x words 0 t) n) xs
 passes look (reaches t x ns) = sameWords (reached (look (apply (storesOf x t) t))) ns
 
 -- the view with each node's words read once serves for the trials
@@ -208,3 +210,53 @@ pub record Beside : Type 0 where
 pub few-beside : Beside
 unfolding everything tenSlots
 few-beside = record { roots = (refl, refl); maps = (refl, refl); mended = refl }
+
+-- ---- docks
+
+abbrev pub firstPair : Call
+firstPair = insertion 1 5 7 0
+
+-- word MARK − 1 and 1: a store that no table has room for
+abbrev pub noBarrier : Words
+noBarrier = BAR ∷ 1 ∷ []
+
+-- stores to words 0 and 1, then a barrier, then one to word 2
+abbrev pub loose : List Order
+loose = store (put 0 7) ∷ store (put 1 8) ∷ barrier ∷ store (put 2 9) ∷ []
+
+pub record Docked : Type 0 where
+  -- each store, then its barrier; the flush; other words stay
+  pub listed : listAfter firstPair (replicate 5120 3) 1 (empty 1)
+      ≡ (19 ∷ 0 ∷ BAR ∷ 0 ∷ 17 ∷ MARK ∷ BAR ∷ 0 ∷ 16 ∷ 5 ∷ BAR ∷ 0 ∷ 17 ∷ 7 ∷ BAR ∷ 0 ∷ MARK ∷ 2 ∷ []) ++ replicate 5102 3
+  pub counted : (written firstPair 5120 1 (empty 1) ≡ Done 4 1 4) × (written firstPair 2560 0 (empty 1) ≡ Done 4 1 0)
+  -- 4, then 18, then 5, by the dock
+  pub unsound-first : refusal firstPair 0 2 (set (empty 1) 10 1) ≡ 4
+  pub no-dock : refusal firstPair 0 2 (empty 1) ≡ 18
+  pub short : (refusal firstPair 5119 1 (empty 1) ≡ 5) × (refusal firstPair 2559 0 (empty 1) ≡ 5)
+  -- a barrier lies in every table, and carry-out passes over it; with another second word it is a store outside
+  pub passed-over : (carryNumber 1 (BAR ∷ 0 ∷ []) (empty 1) ≡ 0) × (carriedOut 1 (BAR ∷ 0 ∷ []) (empty 1) ≡ empty 1)
+  pub outside : (carryNumber 1 noBarrier (empty 1) ≡ 13) × (carryNumber 0 noBarrier (empty 1) ≡ 0)
+  -- between two barriers any choice may arrive, after a barrier nothing without all before it
+  pub second-alone : MayArrive 1 0 loose (put 1 8 ∷ [])
+  pub all-and-third : MayArrive 1 0 loose (put 0 7 ∷ put 1 8 ∷ put 2 9 ∷ [])
+
+pub few-docked : Docked
+unfolding everything
+few-docked = record {
+  listed = refl;
+  counted = (refl, refl);
+  unsound-first = refl;
+  no-dock = refl;
+  short = (refl, refl);
+  passed-over = (refl, refl);
+  outside = (refl, refl);
+  second-alone = record { before = []; rest = loose; marks = false ∷ true ∷ []; parted = refl; up-to = inr refl; holds = refl };
+  all-and-third = record {
+    before = take 3 loose;
+    rest = drop 3 loose;
+    marks = true ∷ [];
+    parted = refl;
+    up-to = inl (take 2 loose, refl);
+    holds = refl;
+  };
+}

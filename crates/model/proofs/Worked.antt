@@ -39,7 +39,7 @@ shiftCounts p =
 
 -- after inserting 115 with 7: the root, its node record's left and first slot, node 1's sibling and that one's fence
 unfoldable pub afterSplit : Words
-afterSplit = tableAfter (insertion 1 115 7 0) 2560 (rootLeaf 3)
+afterSplit = tableAfter (insertion 1 115 7 0) 2560 0 (rootLeaf 3)
 
 pub record Worked : Type 0 where
   -- AA0001912345 has key 172627201912345.
@@ -59,9 +59,9 @@ pub record Worked : Type 0 where
   -- Shift in with n = 10: p = 0 gives 24 stores, 3 flushes; p = 10 gives 4 and 1.
   pub shifts : (shiftCounts 0 ≡ 24 ∷ 3 ∷ []) × (shiftCounts 10 ≡ 4 ∷ 1 ∷ [])
   -- Root leaf with keys 10, 20 .. 110, N = 3, insert 115: new root 2, sibling 3, fence 60; 75 stores, 13 flushes.
-  pub splits : (written (insertion 1 115 7 0) 2560 (rootLeaf 3) ≡ WriteDone 75 13) × (root afterSplit ≡ 2) × (nodeView afterSplit 1 .sibling ≡ 3) × (nodeView afterSplit 3 .fence ≡ 60)
+  pub splits : (written (insertion 1 115 7 0) 2560 0 (rootLeaf 3) ≡ WriteDone 75 13 0) × (root afterSplit ≡ 2) × (nodeView afterSplit 1 .sibling ≡ 3) × (nodeView afterSplit 3 .fence ≡ 60)
   -- The same with N = 2 returns 10.
-  pub no-room : written (insertion 1 115 7 0) 2560 (rootLeaf 2) ≡ WriteRefused 10
+  pub no-room : written (insertion 1 115 7 0) 2560 0 (rootLeaf 2) ≡ WriteRefused 10
   -- The order printer's two lines, and the ten that it prints.
   pub prints : printer (ascii "+ AA0001912345 7\n- AA0001912345\n") ≡ ascii "store 19 0\nstore 17 18446744073709551615\nstore 16 172627201912345\nstore 17 7\nflush 2\ndone 4 1\nstore 17 18446744073709551615\nstore 17 0\nflush 2\ndone 2 1\n"
 

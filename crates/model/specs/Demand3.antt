@@ -1,4 +1,5 @@
--- Demand 3 as one claim over all sequences of insertions, deletions, class changes and repairs, of one collection or two, whole or cut.
+-- Demand 3 as one claim over all sequences of insertions, deletions, class changes and repairs, of one collection or two, whole or cut, each
+-- for dock 0 or dock 1.
 use mathlib.Core.Path.{_≡_}
 use mathlib.Core.Logic.{_⊎_}
 use mathlib.Core.Bool.{Bool, true}
@@ -24,10 +25,11 @@ pub data Fate : Type 0 where
   whole : Fate
   cut : (c : ℕ) → (m : Words) → Fate
 
--- a call, the order list as it was lent, and its fate
+-- a call, the order list as it was lent, the dock, and its fate
 pub record Event : Type 0 where
   pub call : Call
   pub lent : Words
+  pub dock : ℕ
   pub fate : Fate
 
 -- the latest event first: the tail of a history is the history before it
@@ -41,22 +43,25 @@ pub record State : Type 0 where
 
 -- the number that the call answers, and its orders where it is accepted
 abbrev pub numberOf : State → Event → ℕ
-numberOf s e = refusal (e .call) (length (e .lent)) (s .working)
+numberOf s e = refusal (e .call) (length (e .lent)) (e .dock) (s .working)
 
 abbrev pub eventOrders : State → Event → List Order
-eventOrders s e = ordersOf (e .call) (s .working)
+eventOrders s e = ordersOf (e .call) (e .dock) (s .working)
 
 -- the orders that the call answered, and the lent list after the call
 abbrev pub answered : State → Event → ℕ
-answered s e = ordersAnswered (written (e .call) (length (e .lent)) (s .working))
+answered s e = ordersAnswered (written (e .call) (length (e .lent)) (e .dock) (s .working))
 
 abbrev pub listOf : State → Event → Words
-listOf s e = listAfter (e .call) (e .lent) (s .working)
+listOf s e = listAfter (e .call) (e .lent) (e .dock) (s .working)
 
 -- Whole: memory is what the carry-out call makes of it with the lent list and the orders answered. Cut: memory is m, reloaded.
 abbrev pub afterFate : Fate → State → Event → State
 afterFate whole s e =
-    record { memory = carriedOut (answered s e) (listOf s e) (s .memory); working = tableAfter (e .call) (length (e .lent)) (s .working) }
+    record {
+      memory = carriedOut (answered s e) (listOf s e) (s .memory);
+      working = tableAfter (e .call) (length (e .lent)) (e .dock) (s .working);
+    }
 afterFate (cut c m) s e = record { memory = m; working = m }
 
 -- a refused call has no orders, and changes nothing
@@ -68,10 +73,10 @@ unfoldable pub runAll : (n N : ℕ) → History → State
 runAll n N [] = record { memory = emptyOf n N; working = emptyOf n N }
 runAll n N (e ∷ h) = step (runAll n N h) e
 
--- a cut falls within its list, and memory is then an image that it may leave
+-- a cut falls within its list, and memory is then an image that it may leave on that dock
 abbrev pub FateMay : Fate → State → Event → Type 0
 FateMay whole s e = Unit {0}
-FateMay (cut c m) s e = (c ≤ length (eventOrders s e)) × CutImage c (s .memory) (eventOrders s e) m
+FateMay (cut c m) s e = (c ≤ length (eventOrders s e)) × CutImage (e .dock) c (s .memory) (eventOrders s e) m
 
 unfoldable pub May : (n N : ℕ) → History → Type 0
 May n N [] = Unit {0}
@@ -88,7 +93,7 @@ unfoldable pub ledgerAfter : (choose : History → Bool) → (n N : ℕ) → His
 ledgerAfter choose n N [] = noPairs n
 ledgerAfter choose n N (e ∷ h) =
     let s = runAll n N h in
-    feed (e .call) (length (e .lent)) (fedOf (numberOf s e)) (endOf (e .fate) s e) (choose (e ∷ h)) (ledgerAfter choose n N h)
+    feed (e .call) (length (e .lent)) (e .dock) (fedOf (numberOf s e)) (endOf (e .fate) s e) (choose (e ∷ h)) (ledgerAfter choose n N h)
 
 -- ---- what holds at the start and after each event
 
@@ -117,8 +122,8 @@ Keeps repair s s′ = (mapsOf (s′ .memory) ≡ mapsOf (s .memory)) × (mapsOf 
 -- of the event e that took s to s′, where the ledger was ps
 pub record Right (e : Event) (s s′ : State) (ps : Ledger) : Type 0 where
   -- accepted or refused as in the ledger, with the same number
-  pub same-number : numberOf s e ≡ ledgerRefusal (e .call) (length (e .lent)) (fedOf (numberOf s e)) ps
-  pub answers-it : writtenNumber (written (e .call) (length (e .lent)) (s .working)) ≡ numberOf s e
+  pub same-number : numberOf s e ≡ ledgerRefusal (e .call) (length (e .lent)) (e .dock) (fedOf (numberOf s e)) ps
+  pub answers-it : writtenNumber (written (e .call) (length (e .lent)) (e .dock) (s .working)) ≡ numberOf s e
   -- 10, 11 and 12 only on their conditions
   pub ten-only : numberOf s e ≡ 10 → tenIn (e .call) (repaired (s .working)) ≡ true
   pub eleven-only : numberOf s e ≡ 11 → elevenIn (e .call) (repaired (s .working)) ≡ true
@@ -126,7 +131,7 @@ pub record Right (e : Event) (s s′ : State) (ps : Ledger) : Type 0 where
   -- the carry-out of a whole list is not refused; a completed list leaves memory equal to the working copy, and nothing unfinished
   pub carried : numberOf s e ≡ 0 → Carried (e .fate) s e
   pub equal : numberOf s e ≡ 0 → Completed (e .fate) s e
-      → (let left = tableAfter (e .call) (length (e .lent)) (s .working) in (s′ .memory ≡ left) × (s′ .working ≡ left))
+      → (let left = tableAfter (e .call) (length (e .lent)) (e .dock) (s .working) in (s′ .memory ≡ left) × (s′ .working ≡ left))
   pub finished : numberOf s e ≡ 0 → Completed (e .fate) s e → Settled (s′ .memory) × Settled (s′ .working)
   pub repair-keeps : Keeps (e .call) s s′
 

@@ -10,7 +10,7 @@ use Rattle.model.specs.Slots.{Slot, slot, pointerOf, withClass}
 use Rattle.model.specs.Search.{lookup}
 use Rattle.model.specs.Reached.{Maps, unlessLacking}
 use Rattle.model.specs.Writes.{Call, insertion, deletion, classChange, repair}
-use Rattle.model.specs.Refusals.{test, firstNumber, testsFrom5, unlessRefused}
+use Rattle.model.specs.Refusals.{test, firstNumber, testsFrom18, unlessRefused}
 
 -- A list for each collection that the making chose: code, recording and class, as pairs (key, pointer) in the order of their keys.
 abbrev pub Ledger : Type 0
@@ -74,12 +74,12 @@ listFor (deletion n k) m = listIn n m
 listFor (classChange n k c) m = listIn n m
 listFor repair m = some []
 
--- The number that the ledger refuses with: 17 by the collection asked for and those that it has a list of, 5 by the length of the order
--- list lent, 6, 14, 7, 8, 9 by the arguments and the own list, and a fed 10, 11 or 12 at that number's place.
-unfoldable pub ledgerRefusal : Call → (words fed : ℕ) → Ledger → ℕ
-ledgerRefusal x words fed m =
+-- The number that the ledger refuses with: 17 by the collection asked for and those that it has a list of, 18 by the dock, 5 by it and the
+-- length of the order list lent, 6, 14, 7, 8, 9 by the arguments and the own list, and a fed 10, 11 or 12 at that number's place.
+unfoldable pub ledgerRefusal : Call → (words dock fed : ℕ) → Ledger → ℕ
+ledgerRefusal x words dock fed m =
     let ps = listFor x m in
-    firstNumber (test (lacking ps) 17 ∷ testsFrom5 x words (eqb fed 12) (eqb fed 11) (eqb fed 10) (pairsOf ps))
+    firstNumber (test (lacking ps) 17 ∷ testsFrom18 x words dock (eqb fed 12) (eqb fed 11) (eqb fed 10) (pairsOf ps))
 
 -- what became of an accepted call's orders: all were carried out; or a cut fell after c of them, and that was all of them, or not
 pub data End : Type 0 where
@@ -94,5 +94,5 @@ taken (cutAfter (suc c) true) choice = true
 taken (cutAfter (suc c) false) choice = choice
 
 -- the ledger after a call
-unfoldable pub feed : Call → (words fed : ℕ) → End → (choice : Bool) → Ledger → Ledger
-feed x words fed end choice m = unlessRefused (ledgerRefusal x words fed m) (cond (taken end choice) (change x m) m) m
+unfoldable pub feed : Call → (words dock fed : ℕ) → End → (choice : Bool) → Ledger → Ledger
+feed x words dock fed end choice m = unlessRefused (ledgerRefusal x words dock fed m) (cond (taken end choice) (change x m) m) m

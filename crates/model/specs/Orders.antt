@@ -1,7 +1,7 @@
--- Document 01, "Orders": stores and flushes, their words in a lent list, the flush rule, and carry-out.
+-- Document 01, "Orders": stores and flushes, their words in a lent list, the flush rule, and carry-out; request 7: barriers.
 use mathlib.Core.Bool.{Bool, true, false, cond, _&&_}
 use mathlib.Core.List.{List, [], _∷_, _++_}
-use Prim.Native.Nat.{ℕ, suc, _*_, _/_}
+use Prim.Native.Nat.{ℕ, zero, suc, _*_, _/_}
 use lib.Dec.{eqb, ltb, leb}
 use lib.ListN.{length, take, drop, set}
 use Rattle.model.specs.declared.Outcome.{Outcome}
@@ -18,6 +18,7 @@ put w x = record { word = w; value = x }
 pub data Order : Type 0 where
   store : Store → Order
   flush : ℕ → Order
+  barrier : Order
 
 -- ---- carrying orders out on words
 
@@ -29,6 +30,7 @@ unfoldable pub carry : List Order → Words → Words
 carry [] t = t
 carry (store s ∷ os) t = carry os (set t (s .word) (s .value))
 carry (flush l ∷ os) t = carry os t
+carry (barrier ∷ os) t = carry os t
 
 -- ---- the flush rule: a line is flushed before a store to another line, and at the end
 
@@ -42,26 +44,59 @@ unfoldable pub orders : List Store → List Order
 orders [] = []
 orders (s ∷ ss) = store s ∷ ordersAfter (line (s .word)) ss
 
--- the two counts
+-- ---- docks: 0 keeps the stores to one line in order, 1 does not
+
+-- each store is followed by a barrier
+unfoldable pub withBarriers : List Order → List Order
+withBarriers [] = []
+withBarriers (store s ∷ os) = store s ∷ barrier ∷ withBarriers os
+withBarriers (flush l ∷ os) = flush l ∷ withBarriers os
+withBarriers (barrier ∷ os) = barrier ∷ withBarriers os
+
+-- a list as its dock needs it
+abbrev pub barred : (dock : ℕ) → List Order → List Order
+barred zero os = os
+barred (suc n) os = withBarriers os
+
+-- a list without its barriers
+unfoldable pub withoutBarriers : List Order → List Order
+withoutBarriers [] = []
+withoutBarriers (store s ∷ os) = store s ∷ withoutBarriers os
+withoutBarriers (flush l ∷ os) = flush l ∷ withoutBarriers os
+withoutBarriers (barrier ∷ os) = withoutBarriers os
+
+-- the three counts
 unfoldable pub storeCount : List Order → ℕ
 storeCount [] = 0
 storeCount (store s ∷ os) = suc (storeCount os)
 storeCount (flush l ∷ os) = storeCount os
+storeCount (barrier ∷ os) = storeCount os
 
 unfoldable pub flushCount : List Order → ℕ
 flushCount [] = 0
 flushCount (store s ∷ os) = flushCount os
 flushCount (flush l ∷ os) = suc (flushCount os)
+flushCount (barrier ∷ os) = flushCount os
 
--- ---- the lent list, two words an order: a store's word index and value; MARK and a flush's line number
+unfoldable pub barrierCount : List Order → ℕ
+barrierCount [] = 0
+barrierCount (store s ∷ os) = barrierCount os
+barrierCount (flush l ∷ os) = barrierCount os
+barrierCount (barrier ∷ os) = suc (barrierCount os)
+
+-- ---- the lent list, two words an order: a store's word index and value; MARK and a flush's line number; BAR and 0 for a barrier
+
+abbrev pub BAR : ℕ
+BAR = 18446744073709551614
 
 unfoldable pub encode : List Order → Words
 encode [] = []
 encode (store s ∷ os) = s .word ∷ s .value ∷ encode os
 encode (flush l ∷ os) = MARK ∷ l ∷ encode os
+encode (barrier ∷ os) = BAR ∷ 0 ∷ encode os
 
 abbrev pub orderOf : ℕ → ℕ → Order
-orderOf a b = cond (eqb a MARK) (flush b) (store (put a b))
+orderOf a b = cond (eqb a MARK) (flush b) (cond (eqb a BAR && eqb b 0) barrier (store (put a b)))
 
 unfoldable pub decode : Words → List Order
 decode [] = []
@@ -74,10 +109,11 @@ listWith os lent = encode os ++ drop (2 * length os) lent
 
 -- ---- carry-out: the call that applies the first c orders of a list to a table
 
--- the order lies in a table of so many words
+-- the order lies in a table of so many words; a barrier lies in each
 abbrev pub inside : ℕ → Order → Bool
 inside n (store s) = ltb (s .word) n
 inside n (flush l) = ltb l (n / 8)
+inside n barrier = true
 
 unfoldable pub allInside : ℕ → List Order → Bool
 allInside n [] = true

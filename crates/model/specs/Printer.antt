@@ -9,7 +9,7 @@ use Rattle.model.specs.declared.Parsed.the-variants.{Key, Refused}
 use Rattle.model.specs.Text.{ascii}
 use Rattle.model.specs.Codes.{isDigit, every, value, number, parse}
 use Rattle.model.specs.Table.{MARK, Words, empty}
-use Rattle.model.specs.Orders.{Order, store, flush, storeCount, flushCount}
+use Rattle.model.specs.Orders.{Order, store, flush, barrier, BAR, storeCount, flushCount}
 use Rattle.model.specs.Writes.{Call, insertion, deletion}
 use Rattle.model.specs.Refusals.{refusal, ordersOf, tableAfter, listAfter, unlessRefused}
 
@@ -84,9 +84,11 @@ numbersText (n ∷ ns) = 32 ∷ (decimal n ++ numbersText ns)
 abbrev pub printed : Bytes → List ℕ → Bytes
 printed text ns = text ++ numbersText ns
 
+-- dock 0's lists have no barrier: one would be printed by its two words
 unfoldable pub orderText : Order → Bytes
 orderText (store s) = printed (ascii "store") (s .word ∷ s .value ∷ [])
 orderText (flush l) = printed (ascii "flush") (l ∷ [])
+orderText barrier = printed (ascii "store") (BAR ∷ 0 ∷ [])
 
 -- the orders, then `done` stores flushes
 unfoldable pub ordersText : List Order → List Order → Bytes
@@ -110,12 +112,13 @@ pub record Reply : Type 0 where
 abbrev pub reply : Bytes → Desk → Reply
 reply bs d = record { bytes = bs; desk = d }
 
+-- for dock 0
 unfoldable pub doCall : Call → Desk → Reply
 doCall x d =
-    let n = refusal x (length (d .list)) (d .table) in
+    let n = refusal x (length (d .list)) 0 (d .table) in
     unlessRefused n
-    (reply (ordersText (ordersOf x (d .table)) (ordersOf x (d .table)))
-    (record { table = tableAfter x (length (d .list)) (d .table); list = listAfter x (d .list) (d .table) }))
+    (reply (ordersText (ordersOf x 0 (d .table)) (ordersOf x 0 (d .table)))
+    (record { table = tableAfter x (length (d .list)) 0 (d .table); list = listAfter x (d .list) 0 (d .table) }))
     (reply (refusedLine n) d)
 
 -- the call for a code that was read, or its refusal

@@ -11,7 +11,7 @@ use Rattle.model.specs.Table.{Words, headerOk, noCollection}
 use Rattle.model.specs.Slots.{Slot, recording, recordingOk, classOk, View, viewOf, view, height, full}
 use Rattle.model.specs.Reached.{mapOf}
 use Rattle.model.specs.SoundTest.{sound, Leftover, nothing, hiddenIn, missingIn, bothIn, leftoverAll}
-use Rattle.model.specs.Orders.{Order, apply, orders, storeCount, flushCount, listWith}
+use Rattle.model.specs.Orders.{Order, apply, orders, barred, storeCount, flushCount, barrierCount, listWith}
 use Rattle.model.specs.Writes.{unreachable, repaired, run, rootInRun, Call, insertion, deletion, classChange, repair, storesOf}
 
 -- ---- the conditions of 17, 12, 11 and 10
@@ -73,9 +73,15 @@ mapTests (deletion n k) eleven ten ps = test (not (hasKey k ps)) 9 ∷ []
 mapTests (classChange n k c) eleven ten ps = test (not (classOk c)) 14 ∷ test (not (hasKey k ps)) 9 ∷ []
 mapTests repair eleven ten ps = []
 
--- from 5 on: 5 by the order list's length, 12 handed in
-abbrev pub testsFrom5 : Call → (words : ℕ) → (twelve eleven ten : Bool) → List Slot → List Test
-testsFrom5 x words twelve eleven ten ps = test (ltb words 2560) 5 ∷ test twelve 12 ∷ mapTests x eleven ten ps
+-- 5: an order list under 2,560 words; for dock 1 under 5,120
+abbrev pub wordsFor : (dock : ℕ) → ℕ
+wordsFor zero = 2560
+wordsFor (suc n) = 5120
+
+-- from 18 on: a dock neither 0 nor 1, 5 by the order list's length, 12 handed in
+abbrev pub testsFrom18 : Call → (words dock : ℕ) → (twelve eleven ten : Bool) → List Slot → List Test
+testsFrom18 x words dock twelve eleven ten ps =
+    test (ltb 1 dock) 18 ∷ test (ltb words (wordsFor dock)) 5 ∷ test twelve 12 ∷ mapTests x eleven ten ps
 
 -- 11 and 10 apply to an insertion, on the table t as repair would leave it
 abbrev pub elevenIn : Call → Words → Bool
@@ -97,12 +103,13 @@ ownMap (deletion n k) t = mapOf n t
 ownMap (classChange n k c) t = mapOf n t
 ownMap repair t = []
 
--- The number that a writing call refuses with, on table t with an order list of so many words; 0: accepted. 17 comes straight after 2.
-unfoldable pub refusal : Call → (words : ℕ) → Words → ℕ
-refusal x words t =
+-- The number that a writing call refuses with, on table t with an order list of so many words, for a dock; 0: accepted. 17 comes straight
+-- after 2, 18 straight before 5.
+unfoldable pub refusal : Call → (words dock : ℕ) → Words → ℕ
+refusal x words dock t =
     let t′ = repaired t in
     firstNumber (test (not (headerOk t)) 2 ∷ test (seventeenIn x t) 17 ∷ test (not (sound t)) 4
-    ∷ testsFrom5 x words (parentFull t) (elevenIn x t′) (tenIn x t′) (ownMap x t′))
+    ∷ testsFrom18 x words dock (parentFull t) (elevenIn x t′) (tenIn x t′) (ownMap x t′))
 
 -- ---- what a writing call does: all of it follows from its number and its stores
 
@@ -110,35 +117,41 @@ abbrev pub unlessRefused {ℓ} : {A : Type ℓ} → ℕ → A → A → A
 unlessRefused zero done refused = done
 unlessRefused (suc n) done refused = refused
 
-abbrev pub ordersOf : Call → Words → List Order
-ordersOf x t = orders (storesOf x t)
+-- the orders of its stores by the flush rule, with the barriers of the dock
+abbrev pub ordersOf : Call → (dock : ℕ) → Words → List Order
+ordersOf x dock t = barred dock (orders (storesOf x t))
 
--- An accepted write answers its stores and its flushes.
-unfoldable pub written : Call → (words : ℕ) → Words → Written
-written x words t =
-    unlessRefused (refusal x words t) (Done (storeCount (ordersOf x t)) (flushCount (ordersOf x t))) (Refused (refusal x words t))
+-- An accepted write answers its stores, its flushes and its barriers.
+unfoldable pub written : Call → (words dock : ℕ) → Words → Written
+written x words dock t =
+    let os = ordersOf x dock t in
+    unlessRefused (refusal x words dock t) (Done (storeCount os) (flushCount os) (barrierCount os)) (Refused (refusal x words dock t))
 
 -- the working copy, and the lent order list, after the call
-unfoldable pub tableAfter : Call → (words : ℕ) → Words → Words
-tableAfter x words t = unlessRefused (refusal x words t) (apply (storesOf x t) t) t
+unfoldable pub tableAfter : Call → (words dock : ℕ) → Words → Words
+tableAfter x words dock t = unlessRefused (refusal x words dock t) (apply (storesOf x t) t) t
 
-unfoldable pub listAfter : Call → Words → Words → Words
-listAfter x lent t = unlessRefused (refusal x (length lent) t) (listWith (ordersOf x t) lent) lent
+unfoldable pub listAfter : Call → Words → (dock : ℕ) → Words → Words
+listAfter x lent dock t = unlessRefused (refusal x (length lent) dock t) (listWith (ordersOf x dock t) lent) lent
 
 -- Document 01's number for each case, 0 where the call is accepted, and the orders that it answered
 abbrev pub writtenNumber : Written → ℕ
-writtenNumber (Done stores flushes) = 0
+writtenNumber (Done stores flushes barriers) = 0
 writtenNumber (Refused n) = n
 
 abbrev pub ordersAnswered : Written → ℕ
-ordersAnswered (Done stores flushes) = stores + flushes
+ordersAnswered (Done stores flushes barriers) = stores + flushes + barriers
 ordersAnswered (Refused n) = 0
 
--- the two counts that lent words then hold; they stay where there is none
+-- the three counts that lent words then hold; they stay where there is none
 abbrev pub storesOr : Written → ℕ → ℕ
-storesOr (Done stores flushes) old = stores
+storesOr (Done stores flushes barriers) old = stores
 storesOr (Refused n) old = old
 
 abbrev pub flushesOr : Written → ℕ → ℕ
-flushesOr (Done stores flushes) old = flushes
+flushesOr (Done stores flushes barriers) old = flushes
 flushesOr (Refused n) old = old
+
+abbrev pub barriersOr : Written → ℕ → ℕ
+barriersOr (Done stores flushes barriers) old = barriers
+barriersOr (Refused n) old = old

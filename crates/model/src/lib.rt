@@ -3,6 +3,9 @@
 // The largest word (document 01's MARK): left of a leaf, and a flush in an order list.
 pub const MARK: u64 = 18446744073709551615;
 
+// The first word of a barrier in an order list; its second is 0.
+pub const BAR: u64 = 18446744073709551614;
+
 // A node by value (document 01's record): its header words, and its 12 slots as key word, pointer word, key word, ..
 pub struct Node {
     pub left: u64,
@@ -49,9 +52,13 @@ pub enum Outcome {
     Refused(u8),
 }
 
-// What a write answers: how many stores and how many flushes its order list has.
+// What a write answers: how many stores, flushes and barriers its order list has.
 pub enum Written {
-    Done { stores: u64, flushes: u64 },
+    Done {
+        stores: u64,
+        flushes: u64,
+        barriers: u64,
+    },
     Refused(u8),
 }
 

@@ -3,10 +3,9 @@ use mathlib.Core.Path.{_≡_, refl, ap, sym, _∙_}
 use mathlib.Core.List.{List, [], _∷_, _++_}
 use lib.ListN.{length}
 use Rattle.model.specs.Orders.{Store}
-use Rattle.cut_laws.specs.Growing.{added}
-use Rattle.orders.specs.Desk.{Desk, openAt, stored, storedAll, Room}
-use Rattle.orders.proofs.Steps.{storedAll-append, storedAll-noted, noted-table-length, noted-list-length}
-use Rattle.orders.proofs.Rooms.{room-append, room-cons}
+use Rattle.orders.specs.Desk.{Desk, stored, storedAll, Room}
+use Rattle.orders.proofs.Steps.{storedAll-append}
+use Rattle.orders.proofs.Rooms.{stored-table-length, stored-list-length, room-append, room-cons}
 
 -- there is room for the stores, and they lead to desk x
 pub record Rest (ss : List Store) (d x : Desk) : Type 0 where
@@ -44,7 +43,7 @@ rest-all r q = q ∙ r .leads
 
 -- stores change no length
 pub stored-sizes : (ss : List Store) (d : Desk) → (length (storedAll ss d .table) ≡ length (d .table)) × (length (storedAll ss d .list) ≡ length (d .list))
-stored-sizes ss d = rw storedAll-noted (noted-table-length (added (openAt d) ss) d, noted-list-length (added (openAt d) ss) d)
+stored-sizes ss d = (stored-table-length ss d, stored-list-length ss d)
 
 pub rest-size : (us : List Store) (e : Desk) {ss : List Store} {d : Desk} → Rest ss d (storedAll us e) → length (d .table) ≡ length (e .table)
 rest-size us e {ss} {d} r = sym (stored-sizes ss d .0) ∙ ap (λ (f : Desk). length (f .table)) (r .leads) ∙ stored-sizes us e .0

@@ -26,9 +26,9 @@ use Rattle.write.proofs.Rooted.{root-sound, root-stands, root-key}
 
 -- ---- 14 and 9
 
-module _ {o k c words : ℕ} {t : Words} {x : Leftover} {n : ℕ} (p : Passed (classChange o k c) words t x n) {a : Bool} (q : a ≡ classOk c) where
-  pub class-refused : a ≡ false → refusal (classChange o k c) words t ≡ 14
-  class-refused h = ready-number (classChange o k c) words t p ∙ rw (sym q ∙ h)
+module _ {o k c words dock : ℕ} {t : Words} {x : Leftover} {n : ℕ} (p : Passed (classChange o k c) words dock t x n) {a : Bool} (q : a ≡ classOk c) where
+  pub class-refused : a ≡ false → refusal (classChange o k c) words dock t ≡ 14
+  class-refused h = ready-number (classChange o k c) words dock t p ∙ rw (sym q ∙ h)
 
   -- the root that was read, and whether its tree has the key
   module _ (y : a ≡ true) {r : ℕ} (f : r ≡ at t (rootWord o)) where
@@ -39,11 +39,11 @@ module _ {o k c words : ℕ} {t : Words} {x : Leftover} {n : ℕ} (p : Passed (c
       has : b ≡ hasKey k (mapOf o t)
       has = root-key o t r f b k e
 
-      pub key-refused : b ≡ false → refusal (classChange o k c) words t ≡ 9
-      key-refused h = ready-number (classChange o k c) words t p ∙ rw (sym q ∙ y, sym has ∙ h)
+      pub key-refused : b ≡ false → refusal (classChange o k c) words dock t ≡ 9
+      key-refused h = ready-number (classChange o k c) words dock t p ∙ rw (sym q ∙ y, sym has ∙ h)
 
-      pub class-accepted : b ≡ true → refusal (classChange o k c) words t ≡ 0
-      class-accepted h = ready-accepted (classChange o k c) words t p (sym q ∙ y, ap (hasKey k) (map-later o t (p .found .is-sound) (p .collection)) ∙ sym has ∙ h)
+      pub class-accepted : b ≡ true → refusal (classChange o k c) words dock t ≡ 0
+      class-accepted h = ready-accepted (classChange o k c) words dock t p (sym q ∙ y, ap (hasKey k) (map-later o t (p .found .is-sound) (p .collection)) ∙ sym has ∙ h)
 
 -- ---- the stores: the repair, then the class in its leaf
 
@@ -55,7 +55,7 @@ unfolding storesOf classStores
 class-stores o t k c = refl
 
 -- the repair is made
-module _ {o k c : ℕ} {t lent : Words} {pen : Pen} (b : Begun (classChange o k c) t lent pen (classed o k c)) {t₁ list : Words} {at₁ : Pen}
+module _ {o k c dock : ℕ} {t lent : Words} {pen : Pen} (b : Begun (classChange o k c) t lent dock pen (classed o k c)) {t₁ list : Words} {at₁ : Pen}
     (g : desk t₁ list at₁ ≡ storedAll (repairStores t) (desk t lent pen)) where
   pub class-low : c ≤ 2
   class-low = class-iff c .0 (begun-allows b .0)

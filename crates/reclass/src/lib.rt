@@ -9,15 +9,16 @@ ghost use Rattle.model.specs.Refusals.{written, tableAfter, listAfter};
 pub fn set_class(
     table: &mut [u64],
     list: &mut [u64],
+    dock: u64,
     collection: u64,
     key: u64,
     access: u64,
 ) -> Written
-    ensures { λ r. ⌜ r ≡ written (classChange collection key access) (length (now (list .entry))) (now (table .entry)) ⌝ }
-    ensures { λ r. ⌜ now (table .exit) ≡ tableAfter (classChange collection key access) (length (now (list .entry))) (now (table .entry)) ⌝ }
-    ensures { λ r. ⌜ now (list .exit) ≡ listAfter (classChange collection key access) (now (list .entry)) (now (table .entry)) ⌝ }
+    ensures { λ r. ⌜ r ≡ written (classChange collection key access) (length (now (list .entry))) dock (now (table .entry)) ⌝ }
+    ensures { λ r. ⌜ now (table .exit) ≡ tableAfter (classChange collection key access) (length (now (list .entry))) dock (now (table .entry)) ⌝ }
+    ensures { λ r. ⌜ now (list .exit) ≡ listAfter (classChange collection key access) (now (list .entry)) dock (now (table .entry)) ⌝ }
 {
-    let judgement = write::judge(table, collection, list.len());
+    let judgement = write::judge(table, collection, list.len(), dock);
     match judgement {
         Judged::Refused(n) => Written::Refused(n),
         Judged::Ready { left, reached: _ } => {
@@ -27,13 +28,14 @@ pub fn set_class(
             if !write::has_key(table, node::root_of(table, collection), key) {
                 return Written::Refused(9);
             }
-            let mended = write::mend(table, list, write::begin(), left);
+            let mended = write::mend(table, list, write::begin(dock), left);
             let leaf = reach::standing(table, node::root_of(table, collection), 0, key);
             let set = shift::set_class(table, list, mended, leaf, key, access);
             let done = orders::finish(list, set);
             Written::Done {
                 stores: done.stores,
                 flushes: done.flushes,
+                barriers: done.barriers,
             }
         }
     }

@@ -2,16 +2,15 @@
 use mathlib.Core.Path.{_≡_, refl, ap, sym, subst, _∙_}
 use mathlib.Core.Logic.{_≢_}
 use mathlib.Core.List.{List, [], _∷_, _++_, append-assoc}
-use mathlib.Core.Option.{none, some}
 use Prim.Native.Nat.{ℕ, suc, _+_, _-_, _*_, _≤_}
 use native.Mathlib.Omega.{arith}
 use lib.ListN.{length, take, drop, replicate, length-append}
 use lib.Seq.{take-at, drop-at, drop-drop}
-use borrow.Author.Tests.{eq-eqb, ne-eqb}
-use Rattle.model.specs.Table.{Words, at, nodes}
+use borrow.Author.Tests.{ne-eqb}
+use Rattle.model.specs.Table.{Words, at}
 use Rattle.model.specs.Slots.{Slot}
 use Rattle.model.specs.Reached.{Maps}
-use Rattle.model.specs.Packing.{packedCount, packedWords, ofSecond, packedBoth}
+use Rattle.model.specs.Packing.{packedCount, packedWords, packedBoth}
 use Rattle.model.specs.Salvage.{Drop, Gathered, gatheredAlong, gathered, keptMaps, droppedAll, dropWords}
 use Rattle.pack_laws.specs.Needed.{nodesNeeded}
 use Rattle.pack_laws.proofs.Counts.{needed-more}

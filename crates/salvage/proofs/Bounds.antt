@@ -1,5 +1,5 @@
 -- How many nodes the pairs kept need, and bounds of it.
-use mathlib.Core.Path.{_≡_, refl, ap, sym, _∙_}
+use mathlib.Core.Path.{_≡_, ap, sym, _∙_}
 use mathlib.Core.Bool.{Bool, true, false, cond}
 use mathlib.Core.Logic.{_≢_}
 use mathlib.Core.List.{List}
@@ -13,7 +13,7 @@ use Rattle.model.specs.Table.{Words, at, nodes}
 use Rattle.model.specs.Slots.{Slot}
 use Rattle.model.specs.Reached.{unlessLacking}
 use Rattle.model.specs.Packing.{packedCount, ofSecond, packedBoth}
-use Rattle.model.specs.Salvage.{entered, gatheredAlong, gathered, keptMaps, outgrows}
+use Rattle.model.specs.Salvage.{gatheredAlong, gathered, keptMaps, outgrows}
 use Rattle.table_laws.proofs.Header.{header-iff}
 use Rattle.pack_laws.specs.Needed.{nodesNeeded}
 use Rattle.pack_laws.proofs.Counts.{packed-count, needed-more}

@@ -1,12 +1,12 @@
 -- The two tours: their slices made ready, and the nodes entered for each collection.
-use mathlib.Core.Path.{_≡_, refl, ap, sym, subst, _∙_}
+use mathlib.Core.Path.{_≡_, refl, ap, sym, _∙_}
 use mathlib.Core.Bool.{true}
-use mathlib.Core.List.{List, [], _++_}
+use mathlib.Core.List.{List, _++_}
 use Prim.Native.Nat.{ℕ, _+_, _-_, _≤_}
 use native.Mathlib.Omega.{arith}
 use lib.ListN.{length, take, drop, replicate, length-replicate}
 use lib.Seq.{length-take-le, take-take, take-at, drop-at}
-use Rattle.model.specs.Table.{Words, at, root, nodes, inRange, headerOk}
+use Rattle.model.specs.Table.{Words, at, nodes, inRange, headerOk}
 use Rattle.model.specs.SoundTest.{all, elem, distinct}
 use Rattle.model.specs.Salvage.{enteredFrom, entered}
 use Rattle.list_laws.proofs.Tools.{Each-map, all-each}

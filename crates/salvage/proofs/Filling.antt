@@ -12,7 +12,6 @@ use Rattle.pack_laws.specs.Needed.{nodesNeeded}
 use Rattle.pack_laws.proofs.Counts.{needed-more}
 use Rattle.pack.specs.Rows.{pairsIn, pairsAfter, packedAfter}
 use Rattle.pack.proofs.Parts.{rest-long, back-is, back-take, back-drop, back-long}
-use Rattle.pack.proofs.Leaves.{pairs-length}
 use Rattle.pack.proofs.Raising.{room-facts}
 use Rattle.gather.specs.declared.Tally.{Tally}
 use Rattle.gather.specs.Held.{gatheredIn, dropsIn, Kept, none}

@@ -221,7 +221,7 @@ fn rebuild(
 // ---- the call
 
 // Reads the table and builds a new settled one of the same N in the second slice; 2, 15, 16 and 10 in that order. A refusal changes no
-// word. The stack takes 400 KB.
+// word. The stack takes 450 KB.
 pub fn salvage(table: &[u64], out: &mut [u64], report: &mut [u64]) -> Salvaged
     ensures { λ r. ⌜ r ≡ salvage (now (table .entry)) (length (now (out .entry))) (length (now (report .entry))) ⌝ }
     ensures { λ r. ⌜ now (out .exit) ≡ salvageOut (now (table .entry)) (now (out .entry)) (length (now (report .entry))) ⌝ }

@@ -1,18 +1,16 @@
 -- What is printed from the answer and the list is document 01's text of the request; so the calls over all pieces print the printer's bytes.
 use mathlib.Core.Path.{_≡_, refl, sym, ap, _∙_}
 use mathlib.Core.Bool.{Bool, true, false}
-use mathlib.Core.Logic.{_≢_}
 use mathlib.Core.List.{List, [], _∷_, _++_, append-nil, append-assoc}
-use Prim.Native.Nat.{ℕ, zero, suc, _+_, _*_, _≤_, _<_}
+use Prim.Native.Nat.{ℕ, zero, suc, _+_, _≤_, _<_}
 use native.Mathlib.Omega.{arith}
 use lib.Dec.{eqb}
 use lib.ListN.{length, take, drop, take-append-drop, drop-of-length-le}
-use lib.Seq.{take-append-le, take-length, drop-drop}
-use Rattle.list_laws.proofs.Tools.{Each}
+use lib.Seq.{drop-drop}
 use Rattle.model.specs.declared.Written.{Written}
 use Rattle.model.specs.declared.Written.the-variants as written-as
-use Rattle.model.specs.Table.{MARK, Words}
-use Rattle.model.specs.Orders.{Store, Order, orders, storeCount, flushCount, decode, listWith}
+use Rattle.model.specs.Table.{Words}
+use Rattle.model.specs.Orders.{Order, storeCount, flushCount, decode, listWith}
 use Rattle.model.specs.Writes.{Call, insertion, deletion, storesOf}
 use Rattle.model.specs.Refusals.{refusal, unlessRefused, ordersOf, written, tableAfter, listAfter}
 use Rattle.model.specs.Printer.{Bytes, ordersText, Desk, Reply, reply, doCall, firstDesk, printer}
@@ -24,13 +22,11 @@ use Rattle.script_bytes.specs.declared.LineRead.{LineRead}
 use Rattle.script_bytes.specs.Text.{Begins, orderLines, doneLine, spoken}
 use Rattle.script_bytes.specs.Input.{Reading, reading, readByte, readBytes, doRequest, printOn, readPieces, joined, lineDone, finished}
 use Rattle.script_bytes.proofs.Input.{bytes-append, line-done, line-used, printer-read}
-use Rattle.cut_laws.specs.Unflushed.{storesIn}
 use Rattle.cut_laws.proofs.Applying.{counts-length}
-use Rattle.cut_laws.proofs.FlushRule.{orders-stores}
-use Rattle.cut_laws.specs.Inside.{StoresInside}
-use Rattle.cut_laws.proofs.Lent.{header-length, decode-encode}
+use Rattle.cut_laws.proofs.Lent.{list-read-back}
 use Rattle.two_laws.proofs.AcceptedTwo.{accepted-iff}
 use Rattle.two_laws.proofs.MapsTwo.{accepted-steps}
+use Rattle.two_laws.proofs.DocksTwo.{no-barriers}
 use Rattle.script.specs.Spoken.{deskOf, answerOf, answerTo, Left, silent, Told, After, told}
 use Rattle.script.specs.declared.Said.{Said}
 
@@ -44,13 +40,13 @@ unless-twice : {A : Type 0} (n : ℕ) (x y : A) → unlessRefused n (unlessRefus
 unless-twice zero x y = refl
 unless-twice (suc n) x y = refl
 
-pub call-table : (x : Call) (d : Desk) → (doCall x d) .desk .table ≡ tableAfter x (length (d .list)) (d .table)
+pub call-table : (x : Call) (d : Desk) → (doCall x d) .desk .table ≡ tableAfter x (length (d .list)) 0 (d .table)
 unfolding doCall tableAfter
-call-table x d = unless-of (λ (r : Reply). r .desk .table) (refusal x (length (d .list)) (d .table)) _ _ ∙ unless-twice (refusal x (length (d .list)) (d .table)) _ _
+call-table x d = unless-of (λ (r : Reply). r .desk .table) (refusal x (length (d .list)) 0 (d .table)) _ _ ∙ unless-twice (refusal x (length (d .list)) 0 (d .table)) _ _
 
-pub call-list : (x : Call) (d : Desk) → (doCall x d) .desk .list ≡ listAfter x (d .list) (d .table)
+pub call-list : (x : Call) (d : Desk) → (doCall x d) .desk .list ≡ listAfter x (d .list) 0 (d .table)
 unfolding doCall listAfter
-call-list x d = unless-of (λ (r : Reply). r .desk .list) (refusal x (length (d .list)) (d .table)) _ _ ∙ unless-twice (refusal x (length (d .list)) (d .table)) _ _
+call-list x d = unless-of (λ (r : Reply). r .desk .list) (refusal x (length (d .list)) 0 (d .table)) _ _ ∙ unless-twice (refusal x (length (d .list)) 0 (d .table)) _ _
 
 -- what carrying request q out leaves and answers
 abbrev pub Acted : Request → (t lent : Words) → Written → (t′ lent′ : Words) → Type 0
@@ -59,7 +55,7 @@ Acted q t lent a t′ lent′ =
 
 abbrev Called : Call → (t lent : Words) → Written → (t′ lent′ : Words) → Type 0
 Called x t lent a t′ lent′ =
-    (a ≡ written x (length lent) t) × ((t′ ≡ tableAfter x (length lent) t) × (lent′ ≡ listAfter x lent t))
+    (a ≡ written x (length lent) 0 t) × ((t′ ≡ tableAfter x (length lent) 0 t) × (lent′ ≡ listAfter x lent 0 t))
 
 pub acted-insertion : (q : Request) (t lent : Words) (k r : ℕ) → q ≡ Insertion k r → (a : Written) (t′ lent′ : Words) → Called (insertion 1 k r 0) t lent a t′ lent′ → Acted q t lent a t′ lent′
 unfolding answerTo doRequest
@@ -80,24 +76,17 @@ unfolding orderLines ordersText
 lines-text all [] = refl
 lines-text all (o ∷ os) = rw (append-assoc, lines-text all os)
 
-below-mark : (n : ℕ) (ss : List Store) → n ≤ MARK → StoresInside n ss → Each (λ (s : Store). s .word ≢ MARK) ss
-below-mark n [] h a = tt
-below-mark n (s ∷ ss) h a = (λ e. omega (arith, a .0), below-mark n ss h (a .1))
-
--- the first orders of the list after an accepted call are its own
-call-read : (x : Call) (lent t : Words) → refusal x (length lent) t ≡ 0
-    → take (storeCount (ordersOf x t) + flushCount (ordersOf x t)) (decode (listWith (ordersOf x t) lent)) ≡ ordersOf x t
-unfolding listWith
+-- the first orders of the list after an accepted call are its own; dock 0 has no barriers
+call-read : (x : Call) (lent t : Words) → refusal x (length lent) 0 t ≡ 0
+    → take (storeCount (ordersOf x 0 t) + flushCount (ordersOf x 0 t)) (decode (listWith (ordersOf x 0 t) lent)) ≡ ordersOf x 0 t
 call-read x lent t e =
-    let u = accepted-iff x (length lent) t .0 e in
-    let inside = accepted-steps x (length lent) t (u .sound) e .stores-inside in
-    let far : Each (λ (s : Store). s .word ≢ MARK) (storesIn (ordersOf x t)) = rw orders-stores (below-mark (length t) (storesOf x t) (header-length t (u .header) .1) inside) in
-    rw (counts-length (ordersOf x t), decode-encode (ordersOf x t) (drop (2 * length (ordersOf x t)) lent) far)
-    (take-append-le (length (ordersOf x t)) (ordersOf x t) _ (omega arith) ∙ take-length (ordersOf x t))
+    let u = accepted-iff x (length lent) 0 t .0 e in
+    let counted : storeCount (ordersOf x 0 t) + flushCount (ordersOf x 0 t) ≡ length (ordersOf x 0 t) = omega (arith, counts-length (ordersOf x 0 t), no-barriers x t) in
+    rw counted (list-read-back 0 (storesOf x t) lent t (u .header) (accepted-steps x (length lent) 0 t (u .sound) e .stores-inside))
 
-call-spoken : (x : Call) (d : Desk) (n : ℕ) → refusal x (length (d .list)) (d .table) ≡ n → spoken (answerOf x d) (listAfter x (d .list) (d .table)) ≡ (doCall x d) .bytes
+call-spoken : (x : Call) (d : Desk) (n : ℕ) → refusal x (length (d .list)) 0 (d .table) ≡ n → spoken (answerOf x d) (listAfter x (d .list) 0 (d .table)) ≡ (doCall x d) .bytes
 unfolding spoken written listAfter doCall
-call-spoken x d zero e = rw (e, call-read x (d .list) (d .table) e) (lines-text (ordersOf x (d .table)) (ordersOf x (d .table)))
+call-spoken x d zero e = rw (e, call-read x (d .list) (d .table) e) (lines-text (ordersOf x 0 (d .table)) (ordersOf x 0 (d .table)))
 call-spoken x d (suc n) e = rw e
 
 -- What is printed of a request, from its answer and the list after it, is document 01's text.

@@ -18,8 +18,9 @@ use Rattle.script.specs.declared.Said.{Said}
 abbrev pub deskOf : (table list : Words) → Desk
 deskOf t l = record { table = t; list = l }
 
+-- for dock 0
 abbrev pub answerOf : Call → Desk → Written
-answerOf x d = written x (length (d .list)) (d .table)
+answerOf x d = written x (length (d .list)) 0 (d .table)
 
 unfoldable pub answerTo : Request → Desk → Written
 answerTo (Insertion k r) d = answerOf (insertion 1 k r 0) d

@@ -45,8 +45,8 @@ pub fn act(table: &mut [u64], list: &mut [u64], request: Request) -> Written
     ensures { λ r. ⌜ now (list .exit) ≡ (doRequest request (deskOf (now (table .entry)) (now (list .entry)))) .desk .list ⌝ }
 {
     match request {
-        Request::Insertion { key, recording } => insert::insert(table, list, 1, key, recording, 0),
-        Request::Deletion(key) => delete::delete(table, list, 1, key),
+        Request::Insertion { key, recording: r } => insert::insert(table, list, 0, 1, key, r, 0),
+        Request::Deletion(key) => delete::delete(table, list, 0, 1, key),
         Request::Refused(n) => Written::Refused(n),
     }
 }

@@ -14,7 +14,7 @@ use Rattle.isrc.proofs.Characters.{character-small, value-digit, every-append}
 use Rattle.isrc.proofs.Digits.{number-nil, number-snoc}
 use Rattle.model.specs.Table.{MARK}
 use Rattle.model.specs.Text.{ascii}
-use Rattle.model.specs.Orders.{Order, store, flush}
+use Rattle.model.specs.Orders.{Order, store, flush, barrier, BAR}
 use Rattle.model.specs.Codes.{isDigit, every, value, character, digits}
 use Rattle.model.specs.Printer.{Bytes, nonEmpty, decimalValue, isRecording, decimalFrom, decimal, numbersText, printed, orderText, refusedLine}
 
@@ -151,6 +151,7 @@ pub order-most : (o : Order) → length (orderText o) ≤ 48
 unfolding orderText
 order-most (store s) = two-most (ascii "store") (s .word) (s .value)
 order-most (flush l) = omega (arith, one-most (ascii "flush") l)
+order-most barrier = two-most (ascii "store") BAR 0
 
 pub done-most : (stores flushes : ℕ) → length (printed (ascii "done") (stores ∷ flushes ∷ [])) ≤ 48
 done-most stores flushes = omega (arith, two-most (ascii "done") stores flushes)

@@ -1,17 +1,21 @@
 -- Bytes put into a buffer one after the other.
 use mathlib.Core.Path.{_≡_, refl, sym, ap, ap₂, _∙_}
+use mathlib.Core.Bool.{Bool, true, false, cond, _&&_}
 use mathlib.Core.List.{List, [], _∷_, _++_, append-nil, append-assoc}
 use Prim.Native.Nat.{ℕ, zero, suc, _+_, _*_, _/_, _≤_, _<_, min}
 use native.Mathlib.Decide.{decLe}
 use native.Mathlib.Numerals.{add-one}
 use native.Mathlib.Omega.{arith}
+use lib.Dec.{eqb}
+use borrow.Author.Tests.{eqb-true, ne-eqb}
 use lib.ListN.{length, getD, take, drop, length-append, length-take, length-drop}
 use lib.Seq.{take-at, take-all, take-append-seam, drop-append-add, drop-drop, length-take-le}
 use Rattle.model.specs.declared.Written.{Written}
 use Rattle.model.specs.declared.Written.the-variants.{Done, Refused}
-use Rattle.model.specs.Table.{Words}
-use Rattle.model.specs.Orders.{Order, orderOf, decode}
-use Rattle.model.specs.Printer.{Bytes, orderText, refusedLine}
+use Rattle.model.specs.Text.{ascii}
+use Rattle.model.specs.Table.{MARK, Words}
+use Rattle.model.specs.Orders.{put, Order, store, barrier, BAR, orderOf, decode}
+use Rattle.model.specs.Printer.{Bytes, printed, orderText, refusedLine}
 use Rattle.script_bytes.specs.Text.{putAt, Put, Begins, orderLines, doneLine, spoken}
 use Rattle.script_bytes.proofs.Decimal.{order-most, done-most, refused-most}
 
@@ -107,10 +111,10 @@ first-orders list n k e = go (decLe k (length list / 2))
     go (no h) = take-all n (decode list) (omega (arith, decode-most list)) ∙ sym (take-all k (decode list) (omega (arith, decode-most list)))
 
 -- the orders and their counts, and the refusal, are all that is spoken
-pub done-begins : (list : Words) (a : Written) (s f n : ℕ) → a ≡ Done s f → {out out′ out″ : Bytes} {r r″ : ℕ} → n ≡ min (s + f) (length list / 2) → 24 * length list + 48 ≤ length out
+pub done-begins : (list : Words) (a : Written) (s f bs n : ℕ) → a ≡ Done s f bs → {out out′ out″ : Bytes} {r r″ : ℕ} → n ≡ min (s + f) (length list / 2) → 24 * length list + 48 ≤ length out
     → Put out 0 (orderLines (take n (decode list))) out′ r → Put out′ r (doneLine s f) out″ r″ → Begins out″ r″ (spoken a list)
 unfolding spoken
-done-begins list a s f n b e h p q =
+done-begins list a s f bs n b e h p q =
     let reach : length (orderLines (take n (decode list))) ≤ 24 * length list = omega (arith, p .next, orders-reach list n p) in
     let all : length (orderLines (take n (decode list)) ++ doneLine s f) ≤ 24 * length list + 48 = omega (arith, length-append (orderLines (take n (decode list))) (doneLine s f), done-most s f) in
     rw (b, ← first-orders list n (s + f) e) (put-begins (omega arith) (put-then p (omega arith) q))
@@ -118,3 +122,13 @@ done-begins list a s f n b e h p q =
 pub refused-begins : (list : Words) (a : Written) (n : ℕ) → a ≡ Refused n → {out out′ : Bytes} {r : ℕ} → 48 ≤ length out → Put out 0 (refusedLine n) out′ r → Begins out′ r (spoken a list)
 unfolding spoken
 refused-begins list a n b h p = rw b (put-begins (omega (arith, refused-most n)) p)
+
+-- two words that are no flush are printed as a store
+pub store-text : (a b : ℕ) → (a ≡ MARK → ⊥) → orderText (orderOf a b) ≡ printed (ascii "store") (a ∷ b ∷ [])
+unfolding orderText
+store-text a b z = rw (ne-eqb a MARK z) (go (eqb a BAR) (eqb b 0) refl refl)
+  where
+    go : (p q : Bool) → eqb a BAR ≡ p → eqb b 0 ≡ q → orderText (cond (p && q) barrier (store (put a b))) ≡ printed (ascii "store") (a ∷ b ∷ [])
+    go true true e f = rw (eqb-true a BAR e, eqb-true b 0 f)
+    go true false e f = refl
+    go false q e f = refl

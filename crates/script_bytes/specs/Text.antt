@@ -19,9 +19,9 @@ orderLines (o ∷ os) = orderText o ++ orderLines os
 abbrev pub doneLine : (stores flushes : ℕ) → Bytes
 doneLine s f = printed (ascii "done") (s ∷ f ∷ [])
 
--- as many orders of the list as the answer counts, then the counts; or the refusal
+-- as many stores and flushes of the list as the answer counts, then these counts (dock 0 has no barriers); or the refusal
 unfoldable pub spoken : Written → (list : Words) → Bytes
-spoken (Done s f) list = orderLines (take (s + f) (decode list)) ++ doneLine s f
+spoken (Done s f b) list = orderLines (take (s + f) (decode list)) ++ doneLine s f
 spoken (Refused n) list = refusedLine n
 
 -- ---- a buffer

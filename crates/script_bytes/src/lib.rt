@@ -423,7 +423,11 @@ pub fn put_answer(out: &mut [u8], list: &[u64], answer: Written) -> usize
     ensures { λ r. ⌜ Begins (now (out .exit)) r (spoken answer (now (list .entry))) ⌝ }
 {
     match answer {
-        Written::Done { stores, flushes } => {
+        Written::Done {
+            stores,
+            flushes,
+            barriers: _,
+        } => {
             let count = spoken_count(list.len(), stores, flushes);
             let next = put_orders(out, list, count);
             put_done(out, next, stores, flushes)

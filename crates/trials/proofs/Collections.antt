@@ -77,18 +77,18 @@ pub record Collections : Type 0 where
   pub frees : (keepsSound (deletion 2 12) nearly ≡ true) × (unreachable nearly ≡ 5 ∷ 6 ∷ []) × (unreachable (after (deletion 2 12) nearly) ≡ 4 ∷ 5 ∷ 6 ∷ [])
   pub serves : unreachable (fill 1 20 9 (after (deletion 2 12) nearly)) ≡ 6 ∷ []
   -- 10 by the nodes that neither root reaches: the twelfth pair of collection 2 takes the last two.
-  pub no-room : (refusal (insertion 1 9 109 0) 2560 (fill 2 1 12 (fill 1 20 11 (emptyOf 2 4))) ≡ 10) × (refusal (insertion 1 9 109 0) 2560 (fill 2 1 11 (fill 1 20 11 (emptyOf 2 4))) ≡ 0)
+  pub no-room : (refusal (insertion 1 9 109 0) 2560 0 (fill 2 1 12 (fill 1 20 11 (emptyOf 2 4))) ≡ 10) × (refusal (insertion 1 9 109 0) 2560 0 (fill 2 1 11 (fill 1 20 11 (emptyOf 2 4))) ≡ 0)
   -- Uniqueness of recordings is per collection.
-  pub per-collection : (refusal (insertion 1 9 101 0) 2560 start ≡ 0) × (refusal (insertion 2 12 101 0) 2560 start ≡ 8)
+  pub per-collection : (refusal (insertion 1 9 101 0) 2560 0 start ≡ 0) × (refusal (insertion 2 12 101 0) 2560 0 start ≡ 8)
   -- Word 3 above N, or other than 0 with N = 1, returns 2, in every call.
-  pub above-n : (refusal repair 2560 (set (emptyOf 2 6) 3 7) ≡ 2) × (search 1 (set (emptyOf 2 6) 3 7) 5 ≡ Refused 2) × (list 1 (set (emptyOf 2 6) 3 7) 0 9 [] ≡ ListRefused 2)
-  pub alone : (refusal repair 2560 (set (empty 1) 3 1) ≡ 2) × (search 1 (set (empty 1) 3 1) 5 ≡ Refused 2)
+  pub above-n : (refusal repair 2560 0 (set (emptyOf 2 6) 3 7) ≡ 2) × (search 1 (set (emptyOf 2 6) 3 7) 5 ≡ Refused 2) × (list 1 (set (emptyOf 2 6) 3 7) 0 9 [] ≡ ListRefused 2)
+  pub alone : (refusal repair 2560 0 (set (empty 1) 3 1) ≡ 2) × (search 1 (set (empty 1) 3 1) 5 ≡ Refused 2)
   -- No node is reached from both roots: 4, where search does not notice.
   pub shared-root : (headerOk (set (emptyOf 2 6) 3 1) ≡ true) × (sound (set (emptyOf 2 6) 3 1) ≡ false) × (search 2 (set start 3 1) 5 ≡ Found 105 0)
   -- 17, collection not 1 or 2, or 2 where word 3 is 0, comes straight after 2, before 4 and 5.
-  pub seventeen : (refusal (deletion 2 6) 0 (empty 6) ≡ 17) × (refusal (insertion 0 6 0 3) 0 (empty 6) ≡ 17) × (refusal (classChange 3 6 3) 0 (set (emptyOf 2 6) 3 1) ≡ 17)
-  pub after-it : (refusal (deletion 1 6) 0 (set (emptyOf 2 6) 3 1) ≡ 4) × (refusal (deletion 1 6) 0 (emptyOf 2 6) ≡ 5) × (refusal (deletion 2 6) 2560 (emptyOf 2 6) ≡ 9)
-  pub before-it : refusal (deletion 3 6) 0 (set (emptyOf 2 6) 3 7) ≡ 2
+  pub seventeen : (refusal (deletion 2 6) 0 0 (empty 6) ≡ 17) × (refusal (insertion 0 6 0 3) 0 0 (empty 6) ≡ 17) × (refusal (classChange 3 6 3) 0 0 (set (emptyOf 2 6) 3 1) ≡ 17)
+  pub after-it : (refusal (deletion 1 6) 0 0 (set (emptyOf 2 6) 3 1) ≡ 4) × (refusal (deletion 1 6) 0 0 (emptyOf 2 6) ≡ 5) × (refusal (deletion 2 6) 2560 0 (emptyOf 2 6) ≡ 9)
+  pub before-it : refusal (deletion 3 6) 0 0 (set (emptyOf 2 6) 3 7) ≡ 2
   pub search-seventeen : (search 3 start 1 ≡ Refused 17) × (search 2 (empty 6) 1 ≡ Refused 17)
   pub list-seventeen : (list 0 (set (emptyOf 2 6) 3 1) 0 9 [] ≡ ListRefused 17) × (list 1 (set (emptyOf 2 6) 3 1) 0 9 [] ≡ ListRefused 4)
   -- Search and listing name a collection: the next code up, and the pairs, are its own.

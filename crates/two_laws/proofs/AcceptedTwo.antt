@@ -9,7 +9,7 @@ use lib.Dec.{ltb}
 use borrow.Author.Tests.{ltb-false, le-ltb}
 use Rattle.model.specs.Table.{Words, headerOk, rootWord, noCollection}
 use Rattle.model.specs.Slots.{classOk}
-use Rattle.model.specs.Refusals.{Test, test, hasKey, seventeenIn, parentFull, elevenIn, tenIn, ownMap, mapTests, refusal}
+use Rattle.model.specs.Refusals.{Test, test, hasKey, seventeenIn, parentFull, elevenIn, tenIn, ownMap, mapTests, wordsFor, refusal}
 use Rattle.model.specs.SoundTest.{sound}
 use Rattle.model.specs.Reached.{mapOf}
 use Rattle.model.specs.Writes.{repaired, Call, insertion, deletion, classChange, repair}
@@ -31,11 +31,12 @@ Allows (deletion n k) t = hasKey k (mapOf n t) ≡ true
 Allows (classChange n k c) t = (classOk c ≡ true) × (hasKey k (mapOf n t) ≡ true)
 Allows repair t = Unit {0}
 
-pub record Accepted (x : Call) (words : ℕ) (t : Words) : Type 0 where
+pub record Accepted (x : Call) (words dock : ℕ) (t : Words) : Type 0 where
   pub header : headerOk t ≡ true
   pub collection : seventeenIn x t ≡ false
   pub sound : sound t ≡ true
-  pub long : 2560 ≤ words
+  pub dock-ok : dock ≤ 1
+  pub long : wordsFor dock ≤ words
   pub parent : parentFull t ≡ false
   pub allows : Allows x (repaired t)
 
@@ -61,19 +62,20 @@ allows-iff (classChange n k c) t = (λ h. (not-false-iff _ .0 (h .0), not-false-
 allows-iff repair t = (λ h. tt, λ a. tt)
 
 -- A call is accepted exactly if all of this holds.
-pub accepted-iff : (x : Call) (words : ℕ) (t : Words) → (refusal x words t ≡ 0) ↔ Accepted x words t
+pub accepted-iff : (x : Call) (words dock : ℕ) (t : Words) → (refusal x words dock t ≡ 0) ↔ Accepted x words dock t
 unfolding refusal
-accepted-iff x words t =
-    let ts = test (not (headerOk t)) 2 ∷ test (seventeenIn x t) 17 ∷ test (not (sound t)) 4 ∷ test (ltb words 2560) 5 ∷ test (parentFull t) 12 ∷ later x (repaired t) in
-    let i = none-holds ts ((λ e. omega arith), ((λ e. omega arith), ((λ e. omega arith), ((λ e. omega arith), ((λ e. omega arith), later-numbers x (repaired t)))))) in (
+accepted-iff x words dock t =
+    let ts = test (not (headerOk t)) 2 ∷ test (seventeenIn x t) 17 ∷ test (not (sound t)) 4 ∷ test (ltb 1 dock) 18 ∷ test (ltb words (wordsFor dock)) 5 ∷ test (parentFull t) 12 ∷ later x (repaired t) in
+    let i = none-holds ts ((λ e. omega arith), ((λ e. omega arith), ((λ e. omega arith), ((λ e. omega arith), ((λ e. omega arith), ((λ e. omega arith), later-numbers x (repaired t))))))) in (
       λ e. let h = i .0 e in
           record {
             header = not-false-iff _ .0 (h .0);
             collection = h .1 .0;
             sound = not-false-iff _ .0 (h .1 .1 .0);
-            long = ltb-false words 2560 (h .1 .1 .1 .0);
-            parent = h .1 .1 .1 .1 .0;
-            allows = allows-iff x (repaired t) .0 (h .1 .1 .1 .1 .1);
+            dock-ok = ltb-false 1 dock (h .1 .1 .1 .0);
+            long = ltb-false words (wordsFor dock) (h .1 .1 .1 .1 .0);
+            parent = h .1 .1 .1 .1 .1 .0;
+            allows = allows-iff x (repaired t) .0 (h .1 .1 .1 .1 .1 .1);
           },
-      λ a. i .1 (not-false-iff _ .1 (a .header), (a .collection, (not-false-iff _ .1 (a .sound), (le-ltb words 2560 (a .long), (a .parent, allows-iff x (repaired t) .1 (a .allows)))))),
+      λ a. i .1 (not-false-iff _ .1 (a .header), (a .collection, (not-false-iff _ .1 (a .sound), (le-ltb 1 dock (a .dock-ok), (le-ltb words (wordsFor dock) (a .long), (a .parent, allows-iff x (repaired t) .1 (a .allows))))))),
     )

@@ -16,7 +16,7 @@ use Rattle.model.specs.Search.{path}
 use Rattle.model.specs.Reached.{filter, reached, reachedAll, mapOf}
 use Rattle.model.specs.SoundTest.{elem, Leftover, nothing, hiddenIn, missingIn, bothIn, leftover, leftoverAll, sound}
 use Rattle.model.specs.Writes.{numbers, runIn, unreached, unreachable, repaired, repairStores, run, rootInRun, Call, insertion, deletion, classChange, repair}
-use Rattle.model.specs.Refusals.{Test, test, firstNumber, fullParent, seventeenIn, parentFull, tooHigh, tooFew, elevenIn, tenIn, ownMap, mapTests, refusal}
+use Rattle.model.specs.Refusals.{Test, test, firstNumber, fullParent, seventeenIn, parentFull, tooHigh, tooFew, elevenIn, tenIn, ownMap, mapTests, wordsFor, refusal}
 use Rattle.list_laws.proofs.Tools.{Each-map, same-or-not}
 use Rattle.list_laws.proofs.Members.{each-mem, mem-each, elem-iff, mem-flat}
 use Rattle.tree_laws.proofs.Levels.{sound-orderly}
@@ -142,9 +142,9 @@ module _ (n : ℕ) (t : Words) (s : sound t ≡ true) (i : Is (rootWord n) t) (k
 
 -- ---- the tests that a sound table leaves
 
--- 5 by the order list's length; 6 to 9 by the arguments and the own map of t; 11 and 10 on the table as repair would leave it
-abbrev pub testsOn : Call → (words : ℕ) → Words → List Test
-testsOn x words t = test (ltb words 2560) 5 ∷ mapTests x (elevenIn x (repaired t)) (tenIn x (repaired t)) (ownMap x t)
+-- 18 by the dock, 5 by it and the order list's length; 6 to 9 by the arguments and the own map of t; 11 and 10 on the table as repair would leave it
+abbrev pub testsOn : Call → (words dock : ℕ) → Words → List Test
+testsOn x words dock t = test (ltb 1 dock) 18 ∷ test (ltb words (wordsFor dock)) 5 ∷ mapTests x (elevenIn x (repaired t)) (tenIn x (repaired t)) (ownMap x t)
 
 pub map-later : (n : ℕ) (t : Words) → sound t ≡ true → noCollection n t ≡ false → mapOf n (repaired t) ≡ mapOf n t
 unfolding repaired
@@ -156,9 +156,9 @@ own-later (deletion n k) t s h = map-later n t s h
 own-later (classChange n k c) t s h = map-later n t s h
 own-later repair t s h = refl
 
-pub number-on-sound : (x : Call) (words : ℕ) (t : Words) → sound t ≡ true → seventeenIn x t ≡ false → refusal x words t ≡ firstNumber (testsOn x words t)
+pub number-on-sound : (x : Call) (words dock : ℕ) (t : Words) → sound t ≡ true → seventeenIn x t ≡ false → refusal x words dock t ≡ firstNumber (testsOn x words dock t)
 unfolding refusal
-number-on-sound x words t s h = rw (sound-head t s, h, s, parent-not-full t s, own-later x t s h)
+number-on-sound x words dock t s h = rw (sound-head t s, h, s, parent-not-full t s, own-later x t s h)
 
 -- ---- what the number depends on
 
@@ -176,15 +176,15 @@ ownHeight (classChange n k c) t = 0
 ownHeight repair t = 0
 
 -- by the own map, the own run and height, and the count of free nodes
-abbrev pub numberBy : Call → (words : ℕ) → List Slot → (run high free : ℕ) → ℕ
-numberBy x words ps run high free =
-    firstNumber (test (ltb words 2560) 5 ∷ mapTests x (eqb run (suc high) && eqb high 15) (ltb free (run + cond (eqb run (suc high)) 1 0)) ps)
+abbrev pub numberBy : Call → (words dock : ℕ) → List Slot → (run high free : ℕ) → ℕ
+numberBy x words dock ps run high free =
+    firstNumber (test (ltb 1 dock) 18 ∷ test (ltb words (wordsFor dock)) 5 ∷ mapTests x (eqb run (suc high) && eqb high 15) (ltb free (run + cond (eqb run (suc high)) 1 0)) ps)
 
 -- A write's acceptance depends on the other collection only by the count of free nodes.
-pub accept-own : (x : Call) (words : ℕ) (t : Words) → sound t ≡ true → seventeenIn x t ≡ false → refusal x words t ≡ numberBy x words (ownMap x t) (ownRun x t) (ownHeight x t) (length (unreachable t))
-accept-own x words t s h = number-on-sound x words t s h ∙ go x h
+pub accept-own : (x : Call) (words dock : ℕ) (t : Words) → sound t ≡ true → seventeenIn x t ≡ false → refusal x words dock t ≡ numberBy x words dock (ownMap x t) (ownRun x t) (ownHeight x t) (length (unreachable t))
+accept-own x words dock t s h = number-on-sound x words dock t s h ∙ go x h
   where
-    go : (x : Call) → seventeenIn x t ≡ false → firstNumber (testsOn x words t) ≡ numberBy x words (ownMap x t) (ownRun x t) (ownHeight x t) (length (unreachable t))
+    go : (x : Call) → seventeenIn x t ≡ false → firstNumber (testsOn x words dock t) ≡ numberBy x words dock (ownMap x t) (ownRun x t) (ownHeight x t) (length (unreachable t))
     go (insertion n k r c) h = let i = there n t h .1 in rw (high-later n t s i k, few-later n t s i k)
     go (deletion n k) h = refl
     go (classChange n k c) h = refl

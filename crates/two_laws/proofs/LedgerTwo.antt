@@ -11,7 +11,7 @@ use borrow.Author.Tests.{eqb-true, eqb-false, eq-eqb, ne-eqb}
 use Rattle.model.specs.declared.Answer.the-variants.{Refused}
 use Rattle.model.specs.Table.{Words, at, noCollection}
 use Rattle.model.specs.Slots.{Slot}
-use Rattle.model.specs.Refusals.{Test, test, firstNumber, seventeenIn, parentFull, elevenIn, tenIn, ownMap, testsFrom5, refusal}
+use Rattle.model.specs.Refusals.{Test, test, firstNumber, seventeenIn, parentFull, elevenIn, tenIn, ownMap, testsFrom18, refusal}
 use Rattle.model.specs.Ledger.{fedOf, listIn, answerFrom, lacking, pairsOf, listFor, ledgerRefusal}
 use Rattle.model.specs.SoundTest.{sound}
 use Rattle.model.specs.Reached.{mapOf, unlessLacking, mapsOf}
@@ -61,13 +61,13 @@ searched n t k s = go (noCollection n t) refl
 
 -- ---- the numbers
 
--- a sound table's tests: 17, and those from 5 on
-abbrev tests : Call → (words : ℕ) → Words → List Test
-tests x words t = testsFrom5 x words (parentFull t) (elevenIn x (repaired t)) (tenIn x (repaired t)) (ownMap x (repaired t))
+-- a sound table's tests: 17, and those from 18 on
+abbrev tests : Call → (words dock : ℕ) → Words → List Test
+tests x words dock t = testsFrom18 x words dock (parentFull t) (elevenIn x (repaired t)) (tenIn x (repaired t)) (ownMap x (repaired t))
 
-pub from-five : (x : Call) (words : ℕ) (t : Words) → sound t ≡ true → refusal x words t ≡ firstNumber (test (seventeenIn x t) 17 ∷ tests x words t)
+pub from-eighteen : (x : Call) (words dock : ℕ) (t : Words) → sound t ≡ true → refusal x words dock t ≡ firstNumber (test (seventeenIn x t) 17 ∷ tests x words dock t)
 unfolding refusal
-from-five x words t s = rw (sound-head t s, s)
+from-eighteen x words dock t s = rw (sound-head t s, s)
 
 seventeen-same : (x : Call) (t : Words) → seventeenIn x t ≡ lacking (listFor x (mapsOf t))
 seventeen-same (insertion n k r c) t = lacking-same n t
@@ -114,35 +114,35 @@ refed-first [] = refl
 refed-first (c ∷ cs) = refed-one (c .holds) (c .number) (firstNumber cs) (λ fed. firstNumber (map (refed fed) cs)) (refed-first cs)
 
 -- the ledger's tests: where the call's number is 10, 11 or 12, it is fed and refuses at that number's place
-fed-number : (x : Call) (words : ℕ) (twelve eleven ten : Bool) (ps : List Slot)
-    → (let n = firstNumber (testsFrom5 x words twelve eleven ten ps) in firstNumber (testsFrom5 x words (eqb (fedOf n) 12) (eqb (fedOf n) 11) (eqb (fedOf n) 10) ps) ≡ n)
-fed-number (insertion n k r c) words twelve eleven ten ps = refed-first (testsFrom5 (insertion n k r c) words twelve eleven ten ps)
-fed-number (deletion n k) words twelve eleven ten ps = refed-first (testsFrom5 (deletion n k) words twelve eleven ten ps)
-fed-number (classChange n k c) words twelve eleven ten ps = refed-first (testsFrom5 (classChange n k c) words twelve eleven ten ps)
-fed-number repair words twelve eleven ten ps = refed-first (testsFrom5 repair words twelve eleven ten ps)
+fed-number : (x : Call) (words dock : ℕ) (twelve eleven ten : Bool) (ps : List Slot)
+    → (let n = firstNumber (testsFrom18 x words dock twelve eleven ten ps) in firstNumber (testsFrom18 x words dock (eqb (fedOf n) 12) (eqb (fedOf n) 11) (eqb (fedOf n) 10) ps) ≡ n)
+fed-number (insertion n k r c) words dock twelve eleven ten ps = refed-first (testsFrom18 (insertion n k r c) words dock twelve eleven ten ps)
+fed-number (deletion n k) words dock twelve eleven ten ps = refed-first (testsFrom18 (deletion n k) words dock twelve eleven ten ps)
+fed-number (classChange n k c) words dock twelve eleven ten ps = refed-first (testsFrom18 (classChange n k c) words dock twelve eleven ten ps)
+fed-number repair words dock twelve eleven ten ps = refed-first (testsFrom18 repair words dock twelve eleven ten ps)
 
 -- the same number as in the ledger
-pub number-in-ledger : (x : Call) (words : ℕ) (t : Words) → sound t ≡ true → refusal x words t ≡ ledgerRefusal x words (fedOf (refusal x words t)) (mapsOf t)
-number-in-ledger x words t s = go (seventeenIn x t) refl
+pub number-in-ledger : (x : Call) (words dock : ℕ) (t : Words) → sound t ≡ true → refusal x words dock t ≡ ledgerRefusal x words dock (fedOf (refusal x words dock t)) (mapsOf t)
+number-in-ledger x words dock t s = go (seventeenIn x t) refl
   where
-    no-list : seventeenIn x t ≡ true → (m : ℕ) → 17 ≡ ledgerRefusal x words m (mapsOf t)
+    no-list : seventeenIn x t ≡ true → (m : ℕ) → 17 ≡ ledgerRefusal x words dock m (mapsOf t)
     no-list h m = unfold ledgerRefusal in rw (sym (seventeen-same x t) ∙ h)
 
     own : List Slot → List Test
-    own ps = testsFrom5 x words (parentFull t) (elevenIn x (repaired t)) (tenIn x (repaired t)) ps
+    own ps = testsFrom18 x words dock (parentFull t) (elevenIn x (repaired t)) (tenIn x (repaired t)) ps
 
-    number : seventeenIn x t ≡ false → refusal x words t ≡ firstNumber (own (ownMap x t))
-    number h = from-five x words t s ∙ ap (λ (b : Bool). firstNumber (test b 17 ∷ tests x words t)) h ∙ ap (λ (ps : List Slot). firstNumber (own ps)) (own-later x t s h)
+    number : seventeenIn x t ≡ false → refusal x words dock t ≡ firstNumber (own (ownMap x t))
+    number h = from-eighteen x words dock t s ∙ ap (λ (b : Bool). firstNumber (test b 17 ∷ tests x words dock t)) h ∙ ap (λ (ps : List Slot). firstNumber (own ps)) (own-later x t s h)
 
-    from-list : seventeenIn x t ≡ false → (m : ℕ) → ledgerRefusal x words m (mapsOf t) ≡ firstNumber (testsFrom5 x words (eqb m 12) (eqb m 11) (eqb m 10) (ownMap x t))
+    from-list : seventeenIn x t ≡ false → (m : ℕ) → ledgerRefusal x words dock m (mapsOf t) ≡ firstNumber (testsFrom18 x words dock (eqb m 12) (eqb m 11) (eqb m 10) (ownMap x t))
     from-list h m = unfold ledgerRefusal in rw (sym (seventeen-same x t) ∙ h, own-pairs x t h)
 
-    go : (b : Bool) → seventeenIn x t ≡ b → refusal x words t ≡ ledgerRefusal x words (fedOf (refusal x words t)) (mapsOf t)
-    go true h = from-five x words t s ∙ ap (λ (b : Bool). firstNumber (test b 17 ∷ tests x words t)) h ∙ no-list h (fedOf (refusal x words t))
+    go : (b : Bool) → seventeenIn x t ≡ b → refusal x words dock t ≡ ledgerRefusal x words dock (fedOf (refusal x words dock t)) (mapsOf t)
+    go true h = from-eighteen x words dock t s ∙ ap (λ (b : Bool). firstNumber (test b 17 ∷ tests x words dock t)) h ∙ no-list h (fedOf (refusal x words dock t))
     go false h =
         let e = number h in
-        let q = fed-number x words (parentFull t) (elevenIn x (repaired t)) (tenIn x (repaired t)) (ownMap x t) in
-        e ∙ sym q ∙ sym (from-list h (fedOf (firstNumber (own (ownMap x t))))) ∙ ap (λ (m : ℕ). ledgerRefusal x words (fedOf m) (mapsOf t)) (sym e)
+        let q = fed-number x words dock (parentFull t) (elevenIn x (repaired t)) (tenIn x (repaired t)) (ownMap x t) in
+        e ∙ sym q ∙ sym (from-list h (fedOf (firstNumber (own (ownMap x t))))) ∙ ap (λ (m : ℕ). ledgerRefusal x words dock (fedOf m) (mapsOf t)) (sym e)
 
 -- ---- 10, 11 and 12 come only on their conditions
 
@@ -165,23 +165,23 @@ pub alone : (b : Bool) → b || false ≡ true → b ≡ true
 alone true e = refl
 alone false e = e
 
-number-holds : (m : ℕ) (x : Call) (words : ℕ) (t : Words) → sound t ≡ true → m ≢ 0 → refusal x words t ≡ m → holdsFor m (test (seventeenIn x t) 17 ∷ tests x words t) ≡ true
-number-holds m x words t s z e = first-holds m (test (seventeenIn x t) 17 ∷ tests x words t) z (sym (from-five x words t s) ∙ e)
+number-holds : (m : ℕ) (x : Call) (words dock : ℕ) (t : Words) → sound t ≡ true → m ≢ 0 → refusal x words dock t ≡ m → holdsFor m (test (seventeenIn x t) 17 ∷ tests x words dock t) ≡ true
+number-holds m x words dock t s z e = first-holds m (test (seventeenIn x t) 17 ∷ tests x words dock t) z (sym (from-eighteen x words dock t s) ∙ e)
 
-pub only-twelve : (x : Call) (words : ℕ) (t : Words) → sound t ≡ true → refusal x words t ≡ 12 → parentFull t ≡ true
-only-twelve (insertion n k r c) words t s e = alone _ (number-holds 12 (insertion n k r c) words t s (omega arith) e)
-only-twelve (deletion n k) words t s e = alone _ (number-holds 12 (deletion n k) words t s (omega arith) e)
-only-twelve (classChange n k c) words t s e = alone _ (number-holds 12 (classChange n k c) words t s (omega arith) e)
-only-twelve repair words t s e = alone _ (number-holds 12 repair words t s (omega arith) e)
+pub only-twelve : (x : Call) (words dock : ℕ) (t : Words) → sound t ≡ true → refusal x words dock t ≡ 12 → parentFull t ≡ true
+only-twelve (insertion n k r c) words dock t s e = alone _ (number-holds 12 (insertion n k r c) words dock t s (omega arith) e)
+only-twelve (deletion n k) words dock t s e = alone _ (number-holds 12 (deletion n k) words dock t s (omega arith) e)
+only-twelve (classChange n k c) words dock t s e = alone _ (number-holds 12 (classChange n k c) words dock t s (omega arith) e)
+only-twelve repair words dock t s e = alone _ (number-holds 12 repair words dock t s (omega arith) e)
 
-pub only-eleven : (x : Call) (words : ℕ) (t : Words) → sound t ≡ true → refusal x words t ≡ 11 → elevenIn x (repaired t) ≡ true
-only-eleven (insertion n k r c) words t s e = alone _ (number-holds 11 (insertion n k r c) words t s (omega arith) e)
-only-eleven (deletion n k) words t s e = number-holds 11 (deletion n k) words t s (omega arith) e
-only-eleven (classChange n k c) words t s e = number-holds 11 (classChange n k c) words t s (omega arith) e
-only-eleven repair words t s e = number-holds 11 repair words t s (omega arith) e
+pub only-eleven : (x : Call) (words dock : ℕ) (t : Words) → sound t ≡ true → refusal x words dock t ≡ 11 → elevenIn x (repaired t) ≡ true
+only-eleven (insertion n k r c) words dock t s e = alone _ (number-holds 11 (insertion n k r c) words dock t s (omega arith) e)
+only-eleven (deletion n k) words dock t s e = number-holds 11 (deletion n k) words dock t s (omega arith) e
+only-eleven (classChange n k c) words dock t s e = number-holds 11 (classChange n k c) words dock t s (omega arith) e
+only-eleven repair words dock t s e = number-holds 11 repair words dock t s (omega arith) e
 
-pub only-ten : (x : Call) (words : ℕ) (t : Words) → sound t ≡ true → refusal x words t ≡ 10 → tenIn x (repaired t) ≡ true
-only-ten (insertion n k r c) words t s e = alone _ (number-holds 10 (insertion n k r c) words t s (omega arith) e)
-only-ten (deletion n k) words t s e = number-holds 10 (deletion n k) words t s (omega arith) e
-only-ten (classChange n k c) words t s e = number-holds 10 (classChange n k c) words t s (omega arith) e
-only-ten repair words t s e = number-holds 10 repair words t s (omega arith) e
+pub only-ten : (x : Call) (words dock : ℕ) (t : Words) → sound t ≡ true → refusal x words dock t ≡ 10 → tenIn x (repaired t) ≡ true
+only-ten (insertion n k r c) words dock t s e = alone _ (number-holds 10 (insertion n k r c) words dock t s (omega arith) e)
+only-ten (deletion n k) words dock t s e = number-holds 10 (deletion n k) words dock t s (omega arith) e
+only-ten (classChange n k c) words dock t s e = number-holds 10 (classChange n k c) words dock t s (omega arith) e
+only-ten repair words dock t s e = number-holds 10 repair words dock t s (omega arith) e

@@ -31,3 +31,4 @@ pub mod MendTwo
 pub mod LedgerTwo
 pub mod NumbersTwo
 pub mod OthersTwo
+pub mod DocksTwo

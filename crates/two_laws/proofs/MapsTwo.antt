@@ -21,6 +21,7 @@ use Rattle.model.specs.Writes.{repairStores, repaired, setClassAt, classStores,
 use Rattle.model.specs.Refusals.{ordersOf, seventeenIn, refusal}
 use Rattle.list_laws.proofs.Tools.{same-or-not}
 use Rattle.cut_laws.specs.Inside.{StoresInside}
+use Rattle.cut_laws.proofs.Barriers.{barred-storeCount, barred-flushCount}
 use Rattle.two_laws.proofs.CallsTwo.{OwnSteps, repairs, settled-repair, delete-two, class-two, insert-two}
 use Rattle.two_laws.proofs.AcceptedTwo.{there, Allows, accepted-iff}
 
@@ -92,8 +93,8 @@ pub record Steps (x : Call) (t : Words) : Type 0 where
   -- all of them leave a settled table with the new maps
   pub all-settled : settled (apply (storesOf x t) t) ≡ true
   pub all-map : mapsOf (apply (storesOf x t) t) ≡ change x (mapsOf t)
-  -- they make at most 1,121 orders, and lie in the table
-  pub few : length (ordersOf x t) ≤ 1121
+  -- they make at most 1,121 stores and flushes, and lie in the table
+  pub few : length (orders (storesOf x t)) ≤ 1121
   pub stores-inside : StoresInside (length t) (storesOf x t)
 
 -- Where the table as repair would leave it allows a call of a collection that there is, its stores make its change.
@@ -120,10 +121,10 @@ call-steps repair t s i a =
     record { part-sound = d .part-sound; part-map = λ j. inl (same j); all-settled = unfold repaired in d .settles; all-map = rw take-length at (same (length (repairStores t))); few = omega (arith, d .few); stores-inside = d .inside }
 
 -- Every accepted call of either collection, on any sound table.
-pub accepted-steps : (x : Call) (words : ℕ) (t : Words) → sound t ≡ true → refusal x words t ≡ 0 → Steps x t
-accepted-steps x words t s e = let a = accepted-iff x words t .0 e in call-steps x t s (a .collection) (a .allows)
+pub accepted-steps : (x : Call) (words dock : ℕ) (t : Words) → sound t ≡ true → refusal x words dock t ≡ 0 → Steps x t
+accepted-steps x words dock t s e = let a = accepted-iff x words dock t .0 e in call-steps x t s (a .collection) (a .allows)
 
 -- On a settled table a class change is one store and one flush.
-pub class-orders : (n : ℕ) (t : Words) (k c : ℕ) → settled t ≡ true → (storeCount (ordersOf (classChange n k c) t) ≡ 1) × (flushCount (ordersOf (classChange n k c) t) ≡ 1)
+pub class-orders : (n dock : ℕ) (t : Words) (k c : ℕ) → settled t ≡ true → (storeCount (ordersOf (classChange n k c) dock t) ≡ 1) × (flushCount (ordersOf (classChange n k c) dock t) ≡ 1)
 unfolding storesOf classStores repaired setClassAt apply orders ordersAfter storeCount flushCount
-class-orders n t k c s = rw (settled-repair t s) (refl, refl)
+class-orders n dock t k c s = rw (barred-storeCount dock (orders (storesOf (classChange n k c) t)), barred-flushCount dock (orders (storesOf (classChange n k c) t)), settled-repair t s) (refl, refl)

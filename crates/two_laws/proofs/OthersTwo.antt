@@ -72,15 +72,15 @@ others-list n (deletion j k) t m h z = other-list n j _ m (there j t h .0) z
 others-list n (classChange j k c) t m h z = other-list n j _ m (there j t h .0) z
 others-list n repair t m h z = refl
 
-module _ (x : Call) (words : ℕ) (t : Words) (s : sound t ≡ true) (ok : refusal x words t ≡ 0) (n : ℕ) (z : Others n x) (j : ℕ) where
+module _ (x : Call) (words dock : ℕ) (t : Words) (s : sound t ≡ true) (ok : refusal x words dock t ≡ 0) (n : ℕ) (z : Others n x) (j : ℕ) where
   abbrev t′ : Words
   t′ = apply (take j (storesOf x t)) t
 
   steps : Steps x t
-  steps = accepted-steps x words t s ok
+  steps = accepted-steps x words dock t s ok
 
   same : listIn n (mapsOf t′) ≡ listIn n (mapsOf t)
-  same = ⊎-elim (λ e. ap (listIn n) e) (λ e. ap (listIn n) e ∙ others-list n x t (mapsOf t) (accepted-iff x words t .0 ok .collection) z) (steps .part-map j)
+  same = ⊎-elim (λ e. ap (listIn n) e) (λ e. ap (listIn n) e ∙ others-list n x t (mapsOf t) (accepted-iff x words dock t .0 ok .collection) z) (steps .part-map j)
 
   -- After any number of the stores of another collection's call, a search and a listing of collection n are as before it.
   pub search-stays : (k : ℕ) → search n (apply (take j (storesOf x t)) t) k ≡ search n t k

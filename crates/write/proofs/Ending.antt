@@ -11,37 +11,41 @@ use Rattle.model.specs.declared.Written as answer
 use Rattle.model.specs.declared.Written.the-variants.{Done, Refused}
 use Rattle.model.specs.Table.{Words}
 use Rattle.model.specs.SoundTest.{sound, settled}
-use Rattle.model.specs.Orders.{Store, orders, storeCount}
+use Rattle.model.specs.Orders.{Store, orders, barred}
 use Rattle.model.specs.Writes.{repairStores, repaired, Call, insertion, deletion, classChange, repair, storesOf}
 use Rattle.model.specs.Refusals.{seventeenIn, refusal, written, tableAfter, listAfter}
 use Rattle.two_laws.proofs.CallsTwo.{repairs}
 use Rattle.two_laws.proofs.AcceptedTwo.{Allows, Accepted, accepted-iff}
 use Rattle.two_laws.proofs.MapsTwo.{Steps, accepted-steps}
+use Rattle.two_laws.proofs.DocksTwo.{list-fits}
 use Rattle.two_laws.proofs.CollectionTwo.{collection-repaired}
 use Rattle.orders.specs.declared.Pen.{Pen}
-use Rattle.orders.specs.Desk.{desk, storedAll, finished, Room}
+use Rattle.orders.specs.Desk.{desk, firstPen, storedAll, finished, Room}
 use Rattle.orders.proofs.Rooms.{room-first, room-rest}
 use Rattle.orders.proofs.Rest.{room-as, stored-as}
 use Rattle.orders.proofs.Meaning.{Written, finished-means, start-room}
 use Rattle.write.specs.declared.Judged.the-variants as judgement
-use Rattle.write.specs.Judged.{judged, firstPen}
+use Rattle.write.specs.Judged.{judged}
 use Rattle.write.proofs.Judging.{judged-refused}
 use Rattle.write.proofs.Parts.{part-table, part-room, part-stored}
 
 -- what a call promises of its answer, the table and the list at its end
-abbrev pub Promised : Call → (t lent : Words) → answer.Written → (t′ list′ : Words) → Type 0
-Promised x t lent r t′ list′ = (r ≡ written x (length lent) t) × ((t′ ≡ tableAfter x (length lent) t) × (list′ ≡ listAfter x lent t))
+abbrev pub Promised : Call → (t lent : Words) → (dock : ℕ) → answer.Written → (t′ list′ : Words) → Type 0
+Promised x t lent dock r t′ list′ = (r ≡ written x (length lent) dock t) × ((t′ ≡ tableAfter x (length lent) dock t) × (list′ ≡ listAfter x lent dock t))
+
+done-same : {a a′ b b′ c c′ : ℕ} → a ≡ a′ → b ≡ b′ → c ≡ c′ → Done a b c ≡ Done a′ b′ c′
+done-same e f g = rw (e, f, g)
 
 -- ---- a refused call
 
-pub refused-call : (x : Call) (t lent : Words) (n : ℕ) → n ≢ 0 → refusal x (length lent) t ≡ n → Promised x t lent (Refused n) t lent
+pub refused-call : (x : Call) (t lent : Words) (dock n : ℕ) → n ≢ 0 → refusal x (length lent) dock t ≡ n → Promised x t lent dock (Refused n) t lent
 unfolding written tableAfter listAfter
-refused-call x t lent zero z e = absurd (z refl)
-refused-call x t lent (suc n) z e = rw (e, written, tableAfter, listAfter) (refl, (refl, refl))
+refused-call x t lent dock zero z e = absurd (z refl)
+refused-call x t lent dock (suc n) z e = rw (e, written, tableAfter, listAfter) (refl, (refl, refl))
 
 -- by one of the tests that all share
-pub judge-refuses : (x : Call) (t lent : Words) (n : ℕ) → judged (seventeenIn x t) (length lent) t ≡ judgement.Refused n → Promised x t lent (Refused n) t lent
-judge-refuses x t lent n e = let u = judged-refused x (length lent) t n e in refused-call x t lent n (u .0) (u .1)
+pub judge-refuses : (x : Call) (t lent : Words) (dock n : ℕ) → judged (seventeenIn x t) (length lent) dock t ≡ judgement.Refused n → Promised x t lent dock (Refused n) t lent
+judge-refuses x t lent dock n e = let u = judged-refused x (length lent) dock t n e in refused-call x t lent dock n (u .0) (u .1)
 
 -- a collection is there after repair
 seventeen-later : (x : Call) (t : Words) → sound t ≡ true → seventeenIn x t ≡ false → seventeenIn x (repaired t) ≡ false
@@ -52,27 +56,27 @@ seventeen-later repair t s h = refl
 
 -- ---- an accepted call, from the first pen on: the repair, then what the repaired table calls for
 
-pub record Begun (x : Call) (t lent : Words) (pen : Pen) (rest : Words → List Store) : Type 0 where
+pub record Begun (x : Call) (t lent : Words) (dock : ℕ) (pen : Pen) (rest : Words → List Store) : Type 0 where
   pub is-sound : sound t ≡ true
-  pub accepted : refusal x (length lent) t ≡ 0
-  pub first : pen ≡ firstPen
+  pub accepted : refusal x (length lent) dock t ≡ 0
+  pub first : pen ≡ firstPen dock
   pub stores : storesOf x t ≡ repairStores t ++ rest (repaired t)
 
-module _ {x : Call} {t lent : Words} {pen : Pen} {rest : Words → List Store} (b : Begun x t lent pen rest) where
+module _ {x : Call} {t lent : Words} {dock : ℕ} {pen : Pen} {rest : Words → List Store} (b : Begun x t lent dock pen rest) where
   steps : Steps x t
-  steps = accepted-steps x (length lent) t (b .is-sound) (b .accepted)
+  steps = accepted-steps x (length lent) dock t (b .is-sound) (b .accepted)
 
-  passes : Accepted x (length lent) t
-  passes = accepted-iff x (length lent) t .0 (b .accepted)
+  passes : Accepted x (length lent) dock t
+  passes = accepted-iff x (length lent) dock t .0 (b .accepted)
 
   pub begun-allows : Allows x (repaired t)
   begun-allows = passes .allows
 
-  fits : 2 * length (orders (storesOf x t)) ≤ length lent
-  fits = omega (arith, steps .few, passes .long)
+  fits : 2 * length (barred dock (orders (storesOf x t))) ≤ length lent
+  fits = list-fits x (length lent) dock t (b .accepted)
 
   call-room : Room (storesOf x t) (desk t lent pen)
-  call-room = rw (b .first) (start-room (storesOf x t) t lent (steps .stores-inside) fits)
+  call-room = rw (b .first) (start-room (storesOf x t) t lent dock fits (steps .stores-inside))
 
   all-room : Room (repairStores t ++ rest (repaired t)) (desk t lent pen)
   all-room = room-as _ _ (desk t lent pen) (b .stores) call-room
@@ -108,13 +112,12 @@ module _ {x : Call} {t lent : Words} {pen : Pen} {rest : Words → List Store} (
           record { inside = tt; space = r .space; counts = r .counts }
 
       -- and it is finished
-      pub done-call : {list′ : Words} {last : Pen} → ((u : Words) → desk u list′ last ≡ finished (desk u list₂ at₂)) → Promised x t lent (Done (last .stores) (last .flushes)) t₂ list′
+      pub done-call : {list′ : Words} {last : Pen} → ((u : Words) → desk u list′ last ≡ finished (desk u list₂ at₂)) → Promised x t lent dock (Done (last .stores) (last .flushes) (last .barriers)) t₂ list′
       unfolding written tableAfter listAfter
       done-call {list′} {last} f =
           let q = all-stored ∙ ap (λ (p : Pen). storedAll (storesOf x t) (desk t lent p)) (b .first) in
-          let w : Written (storesOf x t) t lent (desk t₂ list′ last) = rw (f t₂ ∙ ap finished q) (finished-means (storesOf x t) t lent fits) in
-          rw (b .accepted, written, tableAfter, listAfter)
-          (ap (λ (n : ℕ). Done n (last .flushes)) (w .stores) ∙ ap (Done (storeCount (orders (storesOf x t)))) (w .flushes), (w .table, w .list))
+          let w : Written (storesOf x t) t lent dock (desk t₂ list′ last) = rw (f t₂ ∙ ap finished q) (finished-means (storesOf x t) t lent dock fits) in
+          rw (b .accepted, written, tableAfter, listAfter) (done-same (w .stores) (w .flushes) (w .barriers), (w .table, w .list))
 
 -- ---- the stores of a repair: nothing is left after it
 

@@ -16,7 +16,7 @@ use Rattle.model.specs.Search.{path, firstWith}
 use Rattle.model.specs.Reached.{mapping}
 use Rattle.model.specs.SoundTest.{soundView, sound}
 use Rattle.model.specs.Writes.{repaired, standingIn, Call, repair}
-use Rattle.model.specs.Refusals.{fullParent, parentFull, Test, firstNumber, hasKey, seventeenIn, mapTests, elevenIn, tenIn, ownMap, refusal}
+use Rattle.model.specs.Refusals.{fullParent, parentFull, Test, firstNumber, hasKey, seventeenIn, mapTests, elevenIn, tenIn, ownMap, wordsFor, refusal}
 use Rattle.table_laws.proofs.Header.{header-number-refused}
 use Rattle.list_laws.proofs.Tools.{first-nil, not-false-iff}
 use Rattle.tree_laws.proofs.Levels.{sound-orderly}
@@ -43,17 +43,17 @@ use Rattle.write.specs.Judged.{sharedTests, shared, readyWith, judged}
 
 -- ---- the answer, test by test
 
-pub wrong-header : (words : ℕ) (t : Words) (k : ℕ) → k ≡ headerNumber t → (k ≡ 0 → ⊥) → Refused 2 ≡ judged false words t
+pub wrong-header : (words dock : ℕ) (t : Words) (k : ℕ) → k ≡ headerNumber t → (k ≡ 0 → ⊥) → Refused 2 ≡ judged false words dock t
 unfolding judged shared
-wrong-header words t k e z = rw (header-number-refused t (λ q. z (e ∙ q)), judged, shared)
+wrong-header words dock t k e z = rw (header-number-refused t (λ q. z (e ∙ q)), judged, shared)
 
 -- 2 and 17, in one look
-module _ (words : ℕ) (t : Words) (n k : ℕ) (e : k ≡ numberIn n t) where
-  pub wrong-collection : (k ≡ 0 → ⊥) → Refused k ≡ judged (noCollection n t) words t
+module _ (words dock : ℕ) (t : Words) (n k : ℕ) (e : k ≡ numberIn n t) where
+  pub wrong-collection : (k ≡ 0 → ⊥) → Refused k ≡ judged (noCollection n t) words dock t
   unfolding judged shared numberIn
   wrong-collection z = rw e (go (headerOk t) (noCollection n t) refl refl)
     where
-      go : (a b : Bool) → headerOk t ≡ a → noCollection n t ≡ b → Refused (cond (headerOk t) (cond (noCollection n t) 17 0) 2) ≡ judged (noCollection n t) words t
+      go : (a b : Bool) → headerOk t ≡ a → noCollection n t ≡ b → Refused (cond (headerOk t) (cond (noCollection n t) 17 0) 2) ≡ judged (noCollection n t) words dock t
       go false b f g = rw (f, judged, shared)
       go true true f g = rw (f, g, judged, shared)
       go true false f g = absurd (z (e ∙ rw (f, g)))
@@ -67,31 +67,47 @@ module _ (words : ℕ) (t : Words) (n k : ℕ) (e : k ≡ numberIn n t) where
       go true true f g = let q : _≡_ {A = ℕ} 17 0 = sym (e ∙ rw (f, g)) ∙ z in absurd (omega arith)
       go true false f g = (f, g)
 
-  pub judged-rest : k ≡ 0 → (j : Judged) → j ≡ judged false words t → j ≡ judged (noCollection n t) words t
+  pub judged-rest : k ≡ 0 → (j : Judged) → j ≡ judged false words dock t → j ≡ judged (noCollection n t) words dock t
   judged-rest z j q = rw (right-collection z .1) q
 
-module _ (words : ℕ) (t : Words) (header : headerOk t ≡ true) where
-  pub not-sound : checked t ≡ Unsound → Refused 4 ≡ judged false words t
+module _ (words dock : ℕ) (t : Words) (header : headerOk t ≡ true) where
+  pub not-sound : checked t ≡ Unsound → Refused 4 ≡ judged false words dock t
   unfolding judged shared
   not-sound g = rw (header, checked-unsound t .0 g, judged, shared)
 
   module _ (x : Leftover) (n : ℕ) (found : SoundWith t x n) where
-    pub too-short : words < 2560 → Refused 5 ≡ judged false words t
+    pub wrong-dock : 1 < dock → Refused 18 ≡ judged false words dock t
     unfolding judged shared
-    too-short h = rw (header, found .is-sound, lt-ltb words 2560 h, judged, shared)
+    wrong-dock h = rw (header, found .is-sound, lt-ltb 1 dock h, judged, shared)
 
-    module _ (long : 2560 ≤ words) (b : Bool) (f : b ≡ fullParent (view t) (some (meant x))) where
-      parent-is : parentFull t ≡ b
-      unfolding parentFull
-      parent-is = ap (fullParent (view t)) (found .leftover-is) ∙ sym f
-
-      pub full-parent : b ≡ true → Refused 12 ≡ judged false words t
+    module _ (ok : dock ≤ 1) (least : ℕ) (l : least ≡ wordsFor dock) where
+      pub too-short : words < least → Refused 5 ≡ judged false words dock t
       unfolding judged shared
-      full-parent h = rw (header, found .is-sound, le-ltb words 2560 long, parent-is ∙ h, judged, shared)
+      too-short h = rw (header, found .is-sound, le-ltb 1 dock ok, lt-ltb words (wordsFor dock) (rw l at h), judged, shared)
 
-      pub all-passed : b ≡ false → Ready x n ≡ judged false words t
-      unfolding judged shared
-      all-passed h = rw (header, found .is-sound, le-ltb words 2560 long, parent-is ∙ h, checked-sound t x n .1 found, judged, shared)
+      module _ (long : least ≤ words) (b : Bool) (f : b ≡ fullParent (view t) (some (meant x))) where
+        parent-is : parentFull t ≡ b
+        unfolding parentFull
+        parent-is = ap (fullParent (view t)) (found .leftover-is) ∙ sym f
+
+        enough : wordsFor dock ≤ words
+        enough = rw l at long
+
+        pub full-parent : b ≡ true → Refused 12 ≡ judged false words dock t
+        unfolding judged shared
+        full-parent h = rw (header, found .is-sound, le-ltb 1 dock ok, le-ltb words (wordsFor dock) enough, parent-is ∙ h, judged, shared)
+
+        pub all-passed : b ≡ false → Ready x n ≡ judged false words dock t
+        unfolding judged shared
+        all-passed h = rw (header, found .is-sound, le-ltb 1 dock ok, le-ltb words (wordsFor dock) enough, parent-is ∙ h, checked-sound t x n .1 found, judged, shared)
+
+-- the words that a list for the dock must have
+pub words-zero : (dock : ℕ) → dock ≡ 0 → 2560 ≡ wordsFor dock
+words-zero dock e = rw e
+
+pub words-one : (dock : ℕ) → (dock ≡ 0 → ⊥) → 5120 ≡ wordsFor dock
+words-one zero z = absurd (z refl)
+words-one (suc n) z = refl
 
 -- ---- what the answer says
 
@@ -112,36 +128,37 @@ refused-unsound Unsound n e = refl
 refused-unsound (Sound y m) n e = let z : _≡_ {A = ℕ} 0 1 = cc in absurd (omega arith)
 
 -- none of the shared tests holds
-record SharedPassed (seventeen : Bool) (words : ℕ) (t : Words) : Type 0 where
+record SharedPassed (seventeen : Bool) (words dock : ℕ) (t : Words) : Type 0 where
   collection : seventeen ≡ false
   sound : sound t ≡ true
-  long : 2560 ≤ words
+  dock-ok : dock ≤ 1
+  long : wordsFor dock ≤ words
 
-shared-passed : (seventeen : Bool) (words : ℕ) (t : Words) → shared seventeen words t ≡ 0 → SharedPassed seventeen words t
+shared-passed : (seventeen : Bool) (words dock : ℕ) (t : Words) → shared seventeen words dock t ≡ 0 → SharedPassed seventeen words dock t
 unfolding shared
-shared-passed seventeen words t e =
-    let h = none-holds (sharedTests seventeen words t) ((λ e. omega arith), ((λ e. omega arith), ((λ e. omega arith), ((λ e. omega arith), ((λ e. omega arith), tt))))) .0 e in
-    record { collection = h .1 .0; sound = not-false-iff _ .0 (h .1 .1 .0); long = ltb-false words 2560 (h .1 .1 .1 .0) }
+shared-passed seventeen words dock t e =
+    let h = none-holds (sharedTests seventeen words dock t) ((λ e. omega arith), ((λ e. omega arith), ((λ e. omega arith), ((λ e. omega arith), ((λ e. omega arith), ((λ e. omega arith), tt)))))) .0 e in
+    record { collection = h .1 .0; sound = not-false-iff _ .0 (h .1 .1 .0); dock-ok = ltb-false 1 dock (h .1 .1 .1 .0); long = ltb-false words (wordsFor dock) (h .1 .1 .1 .1 .0) }
 
-module _ (y : Call) (words : ℕ) (t : Words) where
+module _ (y : Call) (words dock : ℕ) (t : Words) where
   abbrev number : ℕ
-  number = shared (seventeenIn y t) words t
+  number = shared (seventeenIn y t) words dock t
 
   -- the tests from 6 on, on the table as repair would leave it
   abbrev later : List Test
   later = let t′ = repaired t in mapTests y (elevenIn y t′) (tenIn y t′) (ownMap y t′)
 
   -- a refused call
-  shared-refused : number ≢ 0 → refusal y words t ≡ number
+  shared-refused : number ≢ 0 → refusal y words dock t ≡ number
   unfolding refusal shared
-  shared-refused z = first-shared (sharedTests (seventeenIn y t) words t) later z
+  shared-refused z = first-shared (sharedTests (seventeenIn y t) words dock t) later z
 
-  pub judged-refused : (n : ℕ) → judged (seventeenIn y t) words t ≡ Refused n → (n ≢ 0) × (refusal y words t ≡ n)
+  pub judged-refused : (n : ℕ) → judged (seventeenIn y t) words dock t ≡ Refused n → (n ≢ 0) × (refusal y words dock t ≡ n)
   unfolding judged
   judged-refused n = go number refl
     where
-      go : (m : ℕ) → number ≡ m → judged (seventeenIn y t) words t ≡ Refused n → (n ≢ 0) × (refusal y words t ≡ n)
-      go zero e q = absurd (false≢true (sym (checked-unsound t .0 (refused-unsound (checked t) n (rw (e, judged) at q))) ∙ shared-passed (seventeenIn y t) words t e .sound))
+      go : (m : ℕ) → number ≡ m → judged (seventeenIn y t) words dock t ≡ Refused n → (n ≢ 0) × (refusal y words dock t ≡ n)
+      go zero e q = absurd (false≢true (sym (checked-unsound t .0 (refused-unsound (checked t) n (rw (e, judged) at q))) ∙ shared-passed (seventeenIn y t) words dock t e .sound))
       go (suc m) e q =
           let r : Refused (suc m) ≡ Refused n = rw (e, judged) at q in
           let p : suc m ≡ n = cc in (λ z. omega arith, shared-refused (λ z. omega (arith, e, z)) ∙ e ∙ p)
@@ -149,35 +166,37 @@ module _ (y : Call) (words : ℕ) (t : Words) where
   pub record Passed (x : Leftover) (n : ℕ) : Type 0 where
     pub found : SoundWith t x n
     pub collection : seventeenIn y t ≡ false
-    pub long : 2560 ≤ words
+    pub dock-ok : dock ≤ 1
+    pub long : wordsFor dock ≤ words
 
-  pub judged-ready : (x : Leftover) (n : ℕ) → judged (seventeenIn y t) words t ≡ Ready x n → Passed x n
+  pub judged-ready : (x : Leftover) (n : ℕ) → judged (seventeenIn y t) words dock t ≡ Ready x n → Passed x n
   unfolding judged
   judged-ready x n = go number refl
     where
-      go : (m : ℕ) → number ≡ m → judged (seventeenIn y t) words t ≡ Ready x n → Passed x n
+      go : (m : ℕ) → number ≡ m → judged (seventeenIn y t) words dock t ≡ Ready x n → Passed x n
       go zero e q =
-          let a = shared-passed (seventeenIn y t) words t e in
-          record { found = checked-sound t x n .0 (ready-sound (checked t) x n (rw (e, judged) at q)); collection = a .collection; long = a .long }
+          let a = shared-passed (seventeenIn y t) words dock t e in
+          record { found = checked-sound t x n .0 (ready-sound (checked t) x n (rw (e, judged) at q)); collection = a .collection; dock-ok = a .dock-ok; long = a .long }
       go (suc m) e q =
           let r : Refused (suc m) ≡ Ready x n = rw (e, judged) at q in
           let z : _≡_ {A = ℕ} 0 1 = cc in absurd (omega arith)
 
   module _ {x : Leftover} {n : ℕ} (p : Passed x n) where
     -- a call that the repaired table allows is accepted
-    pub ready-accepted : Allows y (repaired t) → refusal y words t ≡ 0
-    ready-accepted a = accepted-iff y words t .1 (record {
+    pub ready-accepted : Allows y (repaired t) → refusal y words dock t ≡ 0
+    ready-accepted a = accepted-iff y words dock t .1 (record {
       header = sound-head t (p .found .is-sound);
       collection = p .collection;
       sound = p .found .is-sound;
+      dock-ok = p .dock-ok;
       long = p .long;
       parent = parent-not-full t (p .found .is-sound);
       allows = a;
     })
 
     -- a call that one of its own tests refuses: 6 to 9 go by the own map of t
-    pub ready-number : refusal y words t ≡ firstNumber (mapTests y (elevenIn y (repaired t)) (tenIn y (repaired t)) (ownMap y t))
-    ready-number = number-on-sound y words t (p .found .is-sound) (p .collection) ∙ rw (le-ltb words 2560 (p .long))
+    pub ready-number : refusal y words dock t ≡ firstNumber (mapTests y (elevenIn y (repaired t)) (tenIn y (repaired t)) (ownMap y t))
+    ready-number = number-on-sound y words dock t (p .found .is-sound) (p .collection) ∙ rw (le-ltb 1 dock (p .dock-ok), le-ltb words (wordsFor dock) (p .long))
 
 -- ---- whether the map of a tree has a key
 

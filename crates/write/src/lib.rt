@@ -1,4 +1,4 @@
-// What every writing call begins with: its refusals 2, 17, 4, 5 and 12, the first pen and the repair; and whether a map has a key.
+// What every writing call begins with: its refusals 2, 17, 4, 18, 5 and 12, the first pen and the repair; and whether a map has a key.
 use orders::Pen;
 use slots::Held;
 use sound::Checked;
@@ -11,10 +11,10 @@ ghost use Rattle.model.specs.Slots.{viewFrom, view};
 ghost use Rattle.model.specs.Reached.{mapping};
 ghost use Rattle.model.specs.SoundTest.{leftoverAll, soundView, sound};
 ghost use Rattle.model.specs.Writes.{repairStores};
-ghost use Rattle.model.specs.Refusals.{fullParent, hasKey};
+ghost use Rattle.model.specs.Refusals.{fullParent, hasKey, wordsFor};
 ghost use Rattle.sound.specs.Checked.{meant};
-ghost use Rattle.orders.specs.Desk.{desk, storedAll, Room};
-ghost use Rattle.write.specs.Judged.{judged, firstPen};
+ghost use Rattle.orders.specs.Desk.{desk, firstPen, storedAll, Room};
+ghost use Rattle.write.specs.Judged.{judged};
 
 // What the tests that all writing calls share answer: a refusal's number, or what repair has to do and how many nodes are reached.
 pub enum Judged {
@@ -38,16 +38,29 @@ fn parent_full(table: &[u64], left: Leftover) -> bool
     }
 }
 
-// Refusals 4, 5 and 12, on a table whose header is right, with an order list of so many words.
-fn judge_rest(table: &[u64], words: usize) -> Judged
+// The words that an order list for the dock must have.
+fn words_for(dock: u64) -> usize
+    ensures { λ r. ⌜ r ≡ wordsFor dock ⌝ }
+{
+    if dock == 0 {
+        return 2560;
+    }
+    5120
+}
+
+// Refusals 4, 18, 5 and 12, on a table whose header is right, with an order list of so many words for a dock.
+fn judge_rest(table: &[u64], words: usize, dock: u64) -> Judged
     requires { ⌜ headerOk (now table) ≡ true ⌝ }
-    ensures { λ r. ⌜ r ≡ judged false words (now (table .entry)) ⌝ }
+    ensures { λ r. ⌜ r ≡ judged false words dock (now (table .entry)) ⌝ }
 {
     let answer = sound::check(table);
     match answer {
         Checked::Unsound => Judged::Refused(4),
         Checked::Sound { leftover, reached } => {
-            if words < 2560 {
+            if 1 < dock {
+                return Judged::Refused(18);
+            }
+            if words < words_for(dock) {
                 return Judged::Refused(5);
             }
             if parent_full(table, leftover) {
@@ -62,24 +75,24 @@ fn judge_rest(table: &[u64], words: usize) -> Judged
 }
 
 // The tests that all writing calls share, for a call that names a collection.
-pub fn judge(table: &[u64], collection: u64, words: usize) -> Judged
-    ensures { λ r. ⌜ r ≡ judged (noCollection collection (now (table .entry))) words (now (table .entry)) ⌝ }
+pub fn judge(table: &[u64], collection: u64, words: usize, dock: u64) -> Judged
+    ensures { λ r. ⌜ r ≡ judged (noCollection collection (now (table .entry))) words dock (now (table .entry)) ⌝ }
 {
     let n = node::refusal(table, collection);
     if n != 0 {
         return Judged::Refused(n);
     }
-    judge_rest(table, words)
+    judge_rest(table, words, dock)
 }
 
 // For a call that names none.
-pub fn judge_any(table: &[u64], words: usize) -> Judged
-    ensures { λ r. ⌜ r ≡ judged false words (now (table .entry)) ⌝ }
+pub fn judge_any(table: &[u64], words: usize, dock: u64) -> Judged
+    ensures { λ r. ⌜ r ≡ judged false words dock (now (table .entry)) ⌝ }
 {
     if node::header(table) != 0 {
         return Judged::Refused(2);
     }
-    judge_rest(table, words)
+    judge_rest(table, words, dock)
 }
 
 // Whether the map of the tree under a root has the key: its leaf alone is looked at, and no next key.
@@ -97,15 +110,17 @@ pub fn has_key(table: &[u64], root: u64, key: u64) -> bool
     }
 }
 
-// A pen before the first order.
-pub fn begin() -> Pen
-    ensures { λ r. ⌜ r ≡ firstPen ⌝ }
+// A pen before the first order of a list for the dock.
+pub fn begin(dock: u64) -> Pen
+    ensures { λ r. ⌜ r ≡ firstPen dock ⌝ }
 {
     Pen {
+        dock: dock,
         at: 0,
         line: 0,
         stores: 0,
         flushes: 0,
+        barriers: 0,
     }
 }
 

@@ -6,7 +6,7 @@ use Rattle.catalogue.proofs.catalogue_delete.Tie as tie
 
 -- the call, from its answer's counts
 abbrev called : tie.After-put-counts → tie.After-delete
-called c = c .before .before .before .before .before .before .before
+called c = c .before .before .before .before .before .before .before .before
 
 delete-requires : tie.Need-delete-requires
 delete-requires c κs = search needs
@@ -21,7 +21,7 @@ same-length-2 : tie.Need-same-length-2
 same-length-2 c = search needs
 
 returns : tie.Need-returns
-returns c = has-written _ _ _ (called c .delete .ensures) (c .put-counts .ensures)
+returns c = has-written _ _ _ _ (called c .delete .ensures) (c .put-counts .ensures)
 
 pub catalogue-delete-spec : {M : Type 1} → statement M
 catalogue-delete-spec =

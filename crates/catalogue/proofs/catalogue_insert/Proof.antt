@@ -6,7 +6,7 @@ use Rattle.catalogue.proofs.catalogue_insert.Tie as tie
 
 -- the call, from its answer's counts
 abbrev called : tie.After-put-counts → tie.After-insert
-called c = c .before .before .before .before .before .before .before
+called c = c .before .before .before .before .before .before .before .before
 
 insert-requires : tie.Need-insert-requires
 insert-requires c κs = search needs
@@ -21,7 +21,7 @@ same-length-2 : tie.Need-same-length-2
 same-length-2 c = search needs
 
 returns : tie.Need-returns
-returns c = has-written _ _ _ (called c .insert .ensures) (c .put-counts .ensures)
+returns c = has-written _ _ _ _ (called c .insert .ensures) (c .put-counts .ensures)
 
 pub catalogue-insert-spec : {M : Type 1} → statement M
 catalogue-insert-spec =

@@ -43,14 +43,14 @@ abbrev asked : tie.After-judgement2 → tie.Start
 asked c = entry (c .before .before)
 
 passed : (c : tie.After-judgement2) → let v = c .judgement2 .given .0 in let a = asked c .args in
-    Passed (deletion (a .collection) (a .key)) (length (a .list .now)) (a .table .now) (v .0) (v .1 .0)
-passed c = judged-ready (deletion (asked c .args .collection) (asked c .args .key)) _ _ _ _ (sym (c .before .before .judge .ensures) ∙ c .judgement2 .given .1)
+    Passed (deletion (a .collection) (a .key)) (length (a .list .now)) (a .dock) (a .table .now) (v .0) (v .1 .0)
+passed c = judged-ready (deletion (asked c .args .collection) (asked c .args .key)) _ _ _ _ _ (sym (c .before .before .judge .ensures) ∙ c .judgement2 .given .1)
 
 abbrev told : tie.After-begin → tie.After-judgement2
 told c = ready (kept c .before)
 
 begun : (c : tie.After-begin) → let a = asked (told c) .args in
-    Begun (deletion (a .collection) (a .key)) (a .table .now) (a .list .now) (c .begin .result) (λ (t : Words). deleteSettled (a .collection) t (a .key))
+    Begun (deletion (a .collection) (a .key)) (a .table .now) (a .list .now) (a .dock) (c .begin .result) (λ (t : Words). deleteSettled (a .collection) t (a .key))
 begun c = record {
   is-sound = passed (told c) .found .is-sound;
   accepted = let h = kept c .before in delete-accepted (passed (told c)) (read h .root-of .ensures) (h .has-key .ensures) (not-false _ (kept c .if1 .left));
@@ -81,7 +81,7 @@ same-length c = search needs
 returns : tie.Need-returns
 returns c =
     let h = c .before in
-    refused-call _ _ _ 9 (λ z. omega arith) (delete-refused (passed (ready h)) (read h .root-of .ensures) (h .has-key .ensures) (not-true _ (c .if1 .taken)))
+    refused-call _ _ _ _ 9 (λ z. omega arith) (delete-refused (passed (ready h)) (read h .root-of .ensures) (h .has-key .ensures) (not-true _ (c .if1 .taken)))
 
 begin-requires : tie.Need-begin-requires
 begin-requires c κs = search needs
@@ -100,7 +100,7 @@ same-length-2 : tie.Need-same-length-2
 same-length-2 c = search needs
 
 returns-2 : tie.Need-returns-2
-returns-2 c = let j = refused c in judge-refuses _ _ _ _ (sym (j .before .before .judge .ensures) ∙ j .judgement .given .1)
+returns-2 c = let j = refused c in judge-refuses _ _ _ _ _ (sym (j .before .before .judge .ensures) ∙ j .judgement .given .1)
 
 same-length-3 : tie.Need-same-length-3
 same-length-3 c = search needs

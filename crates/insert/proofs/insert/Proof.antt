@@ -49,21 +49,21 @@ asked c = entry (c .before .before)
 abbrev call : tie.Start → Call
 call c = let a = c .args in insertion (a .collection) (a .key) (a .recording) (a .access)
 
-passed : (c : tie.After-judgement2) → let v = c .judgement2 .given .0 in let a = asked c in Passed (call a) (length (a .args .list .now)) (a .args .table .now) (v .0) (v .1 .0)
-passed c = judged-ready (call (asked c)) _ _ _ _ (sym (c .before .before .judge .ensures) ∙ c .judgement2 .given .1)
+passed : (c : tie.After-judgement2) → let v = c .judgement2 .given .0 in let a = asked c in Passed (call a) (length (a .args .list .now)) (a .args .dock) (a .args .table .now) (v .0) (v .1 .0)
+passed c = judged-ready (call (asked c)) _ _ _ _ _ (sym (c .before .before .judge .ensures) ∙ c .judgement2 .given .1)
 
 -- the run that was counted is that of the table as repair would leave it
 running : (c : tie.After-full-run) → let a = asked (ready (c .before)) .args in c .full-run .result ≡ runOf (a .collection) (repaired (a .table .now)) (a .key)
 running c = let p = c .before in run-later (passed (ready p)) (p .parent-of .ensures) (read p .root-of .ensures) (c .full-run .ensures)
 
-numbered : (c : tie.After-number) → let a = asked (ready (ran c)) in refusal (call a) (length (a .args .list .now)) (a .args .table .now) ≡ c .number .result
+numbered : (c : tie.After-number) → let a = asked (ready (ran c)) in refusal (call a) (length (a .args .list .now)) (a .args .dock) (a .args .table .now) ≡ c .number .result
 numbered c = insert-number (passed (ready (ran c))) (running (c .before .before)) (c .number .ensures)
 
 abbrev told : tie.After-begin → tie.After-judgement2
 told c = ready (ran (kept c .before))
 
 begun : (c : tie.After-begin) → let a = asked (told c) in
-    Begun (call a) (a .args .table .now) (a .args .list .now) (c .begin .result) (entering (a .args .collection) (a .args .key) (a .args .recording) (a .args .access))
+    Begun (call a) (a .args .table .now) (a .args .list .now) (a .args .dock) (c .begin .result) (entering (a .args .collection) (a .args .key) (a .args .recording) (a .args .access))
 begun c = record {
   is-sound = passed (told c) .found .is-sound;
   accepted = numbered (kept c .before) ∙ kept c .if1 .left;
@@ -98,7 +98,7 @@ same-length : tie.Need-same-length
 same-length c = search needs
 
 returns : tie.Need-returns
-returns c = refused-call _ _ _ _ (c .if1 .taken) (numbered (c .before))
+returns c = refused-call _ _ _ _ _ (c .if1 .taken) (numbered (c .before))
 
 begin-requires : tie.Need-begin-requires
 begin-requires c κs = search needs
@@ -117,7 +117,7 @@ same-length-2 : tie.Need-same-length-2
 same-length-2 c = search needs
 
 returns-2 : tie.Need-returns-2
-returns-2 c = let j = refused c in judge-refuses _ _ _ _ (sym (j .before .before .judge .ensures) ∙ j .judgement .given .1)
+returns-2 c = let j = refused c in judge-refuses _ _ _ _ _ (sym (j .before .before .judge .ensures) ∙ j .judgement .given .1)
 
 same-length-3 : tie.Need-same-length-3
 same-length-3 c = search needs

@@ -1,6 +1,7 @@
 -- `orders::store` meets its contract.
+use mathlib.Core.Path.{_∙_}
 use native.Mathlib.Omega.{arith}
-use Rattle.orders.proofs.Turning.{room-due, Place, room-place, store-done}
+use Rattle.orders.proofs.Turning.{room-due, Place, room-place, rule-room, store-done}
 use lib.ListN.{length-set}
 use Rattle.model.specs.Orders.{put}
 use Rattle.orders.specs.Desk.{desk}
@@ -49,20 +50,27 @@ mul-list-2 c = omega (arith, place c)
 slice-write-list-2 : tie.Need-slice-write-list-2
 slice-write-list-2 c = simp length-set (omega (arith, place c))
 
-add-t9 : tie.Need-add-t9
-add-t9 c = omega (arith, place c)
-
 add-t10 : tie.Need-add-t10
-add-t10 c = omega (arith, place (c .before))
+add-t10 c = omega (arith, place c)
+
+add-t11 : tie.Need-add-t11
+add-t11 c = omega (arith, place (c .before))
+
+rule-requires : tie.Need-rule-requires
+rule-requires c κs = rule-room _ _ _ _ _ _ _ (place (c .before .before))
 
 same-length : tie.Need-same-length
 same-length c = search needs
 
 same-length-2 : tie.Need-same-length-2
-same-length-2 c = search needs
+same-length-2 c =
+    let called = c .before .before in
+    called .rule .kept .0 ∙ simp length-set (turned (called .before .before .before) .turn .kept .0)
 
 returns : tie.Need-returns
-returns c = store-done _ _ _ _ _ _ _ (c .before .before .before .turn .ensures _)
+returns c =
+    let called = c .before .before in
+    store-done _ _ _ _ _ _ _ (turned (called .before .before .before) .turn .ensures _) _ (called .rule .ensures _)
 
 pub store-spec : {M : Type 1} → statement M
 store-spec =
@@ -77,8 +85,9 @@ store-spec =
     add-list
     mul-list-2
     slice-write-list-2
-    add-t9
     add-t10
+    add-t11
+    rule-requires
     same-length
     same-length-2
     returns)

@@ -53,8 +53,8 @@ asked c = entry (c .before .before)
 abbrev call : tie.Start → Call
 call c = let a = c .args in classChange (a .collection) (a .key) (a .access)
 
-passed : (c : tie.After-judgement2) → let v = c .judgement2 .given .0 in let a = asked c in Passed (call a) (length (a .args .list .now)) (a .args .table .now) (v .0) (v .1 .0)
-passed c = judged-ready (call (asked c)) _ _ _ _ (sym (c .before .before .judge .ensures) ∙ c .judgement2 .given .1)
+passed : (c : tie.After-judgement2) → let v = c .judgement2 .given .0 in let a = asked c in Passed (call a) (length (a .args .list .now)) (a .args .dock) (a .args .table .now) (v .0) (v .1 .0)
+passed c = judged-ready (call (asked c)) _ _ _ _ _ (sym (c .before .before .judge .ensures) ∙ c .judgement2 .given .1)
 
 abbrev tried : tie.After-root-of → tie.After-class-ok
 tried c = looked c .before
@@ -62,7 +62,7 @@ tried c = looked c .before
 abbrev told : tie.After-begin → tie.After-judgement2
 told c = ready (tried (read (kept c .before)))
 
-begun : (c : tie.After-begin) → let a = asked (told c) in Begun (call a) (a .args .table .now) (a .args .list .now) (c .begin .result) (classed (a .args .collection) (a .args .key) (a .args .access))
+begun : (c : tie.After-begin) → let a = asked (told c) in Begun (call a) (a .args .table .now) (a .args .list .now) (a .args .dock) (c .begin .result) (classed (a .args .collection) (a .args .key) (a .args .access))
 begun c =
     let k = kept c in
     let h = k .before in
@@ -92,7 +92,7 @@ same-length : tie.Need-same-length
 same-length c = search needs
 
 returns : tie.Need-returns
-returns c = refused-call _ _ _ 14 (λ z. omega arith) (class-refused (passed (ready (c .before))) (c .before .class-ok .ensures) (not-true _ (c .if1 .taken)))
+returns c = refused-call _ _ _ _ 14 (λ z. omega arith) (class-refused (passed (ready (c .before))) (c .before .class-ok .ensures) (not-true _ (c .if1 .taken)))
 
 root-of-requires : tie.Need-root-of-requires
 root-of-requires c κs = let p = passed (ready (c .before .before)) in (sound-head _ (p .found .is-sound), p .collection)
@@ -107,7 +107,7 @@ returns-2 : tie.Need-returns-2
 returns-2 c =
     let h = c .before in
     let r = read h in
-    refused-call _ _ _ 9 (λ z. omega arith)
+    refused-call _ _ _ _ 9 (λ z. omega arith)
     (key-refused (passed (ready (tried r))) (tried r .class-ok .ensures) (not-false _ (looked r .if1 .left)) (r .root-of .ensures) (h .has-key .ensures) (not-true _ (c .if2 .taken)))
 
 begin-requires : tie.Need-begin-requires
@@ -152,7 +152,7 @@ same-length-3 : tie.Need-same-length-3
 same-length-3 c = search needs
 
 returns-3 : tie.Need-returns-3
-returns-3 c = let j = refused c in judge-refuses _ _ _ _ (sym (j .before .before .judge .ensures) ∙ j .judgement .given .1)
+returns-3 c = let j = refused c in judge-refuses _ _ _ _ _ (sym (j .before .before .judge .ensures) ∙ j .judgement .given .1)
 
 same-length-4 : tie.Need-same-length-4
 same-length-4 c = search needs

@@ -32,14 +32,14 @@ finished c = c .before .before
 abbrev asked : tie.After-begin → tie.Start
 asked c = entry (ready c .before .before)
 
-passed : (c : tie.After-begin) → let v = ready c .judgement2 .given .0 in Passed repair (length (asked c .args .list .now)) (asked c .args .table .now) (v .0) (v .1 .0)
-passed c = judged-ready repair _ _ _ _ (sym (ready c .before .before .judge-any .ensures) ∙ ready c .judgement2 .given .1)
+passed : (c : tie.After-begin) → let v = ready c .judgement2 .given .0 in Passed repair (length (asked c .args .list .now)) (asked c .args .dock) (asked c .args .table .now) (v .0) (v .1 .0)
+passed c = judged-ready repair _ _ _ _ _ (sym (ready c .before .before .judge-any .ensures) ∙ ready c .judgement2 .given .1)
 
 abbrev nothing : Words → List Store
 nothing t = []
 
-begun : (c : tie.After-begin) → Begun repair (asked c .args .table .now) (asked c .args .list .now) (c .begin .result) nothing
-begun c = record { is-sound = passed c .found .is-sound; accepted = ready-accepted repair _ _ (passed c) tt; first = c .begin .ensures; stores = repair-stores _ }
+begun : (c : tie.After-begin) → Begun repair (asked c .args .table .now) (asked c .args .list .now) (asked c .args .dock) (c .begin .result) nothing
+begun c = record { is-sound = passed c .found .is-sound; accepted = ready-accepted repair _ _ _ (passed c) tt; first = c .begin .ensures; stores = repair-stores _ }
 
 -- ---- the answers
 
@@ -65,7 +65,7 @@ same-length : tie.Need-same-length
 same-length c = search needs
 
 returns : tie.Need-returns
-returns c = let j = refused c in judge-refuses repair _ _ _ (sym (j .before .before .judge-any .ensures) ∙ j .judgement .given .1)
+returns c = let j = refused c in judge-refuses repair _ _ _ _ (sym (j .before .before .judge-any .ensures) ∙ j .judgement .given .1)
 
 same-length-2 : tie.Need-same-length-2
 same-length-2 c = search needs

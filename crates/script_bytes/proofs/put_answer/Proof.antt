@@ -56,7 +56,7 @@ returns : tie.Need-returns
 returns c =
     let o = ordered (done c .before) in
     let n = counted o in
-    done-begins _ _ _ _ _ (as-done n .answer .given .1) (n .spoken-count .ensures) (omega arith) (o .put-orders .ensures) (done c .put-done .ensures)
+    done-begins _ _ _ _ _ _ (as-done n .answer .given .1) (n .spoken-count .ensures) (omega arith) (o .put-orders .ensures) (done c .put-done .ensures)
 
 same-length-2 : tie.Need-same-length-2
 same-length-2 c = search needs

@@ -1,7 +1,8 @@
 -- `script_bytes::put_order` meets its contract.
-use borrow.Author.Tests.{eq-eqb, ne-eqb}
+use borrow.Author.Tests.{eq-eqb}
 use Rattle.model.specs.Table.{MARK}
 use Rattle.model.specs.Printer.{orderText}
+use Rattle.script_bytes.proofs.Text.{store-text}
 use borrow.Author.Needs.{needs}
 use Rattle.script_bytes.proofs.put_order.Statement.{statement}
 use Rattle.script_bytes.proofs.put_order.Tie as tie
@@ -31,10 +32,9 @@ same-length-2 : tie.Need-same-length-2
 same-length-2 c = search needs
 
 returns-2 : tie.Need-returns-2
-unfolding orderText
 returns-2 c =
     let t = c .before .before .before .before .before in
-    rw (ne-eqb (t .before .before .args .first) MARK (t .if1 .left)) (c .before .before .put-two .ensures)
+    rw (store-text _ _ (t .if1 .left)) (c .before .before .put-two .ensures)
 
 pub put-order-spec : {M : Type 1} → statement M
 put-order-spec =

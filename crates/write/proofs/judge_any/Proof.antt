@@ -10,7 +10,7 @@ header-requires : tie.Need-header-requires
 header-requires c κs = search needs
 
 returns : tie.Need-returns
-returns c = wrong-header _ _ _ (c .before .header .ensures) (c .if1 .taken)
+returns c = wrong-header _ _ _ _ (c .before .header .ensures) (c .if1 .taken)
 
 judge-rest-requires : tie.Need-judge-rest-requires
 judge-rest-requires c κs = header-number-iff _ .0 (sym (c .before .header .ensures) ∙ c .if1 .left)

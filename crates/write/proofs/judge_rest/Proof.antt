@@ -1,7 +1,7 @@
 -- `write::judge_rest` meets its contract.
 use mathlib.Core.Path.{sym, _∙_}
 use Rattle.sound.proofs.JudgeLaws.{SoundWith, checked-sound}
-use Rattle.write.proofs.Judging.{not-sound, too-short, full-parent, all-passed}
+use Rattle.write.proofs.Judging.{not-sound, wrong-dock, too-short, full-parent, all-passed}
 use borrow.Author.Needs.{needs}
 use Rattle.write.proofs.judge_rest.Statement.{statement}
 use Rattle.write.proofs.judge_rest.Tie as tie
@@ -14,17 +14,15 @@ entry c = c .before .before
 abbrev answered : tie.After-answer → tie.After-check
 answered c = c .before .before
 
-abbrev short : tie.Else1 → tie.After-answer
-short c = c .before .before
+-- after the test of the dock, and after the length that it asks for
+abbrev docked : tie.Else1 → tie.After-answer
+docked c = c .before .before
 
-abbrev full : tie.Else2 → tie.Else1
-full c = c .before .before
+abbrev measured : tie.After-words-for → tie.Else1
+measured c = c .before
 
-abbrev refused : tie.Then1 → tie.After-answer
-refused c = c .before .before
-
-abbrev crowded : tie.Then2 → tie.Else1
-crowded c = c .before .before
+abbrev long : tie.Else2 → tie.After-words-for
+long c = c .before
 
 found : (c : tie.After-answer) → SoundWith (entry (answered c) .args .table .now) (c .answer .given .0 .0) (c .answer .given .0 .1 .0)
 found c = checked-sound _ _ _ .0 (sym (answered c .check .ensures) ∙ c .answer .given .1)
@@ -41,21 +39,39 @@ enum-known-answer : tie.Need-enum-known-answer
 enum-known-answer c = search needs
 
 returns : tie.Need-returns
-returns c = let a = refused c in too-short _ _ (entry (answered a) .pre) _ _ (found a) (c .if1 .taken)
+returns c = let a = c .before .before in wrong-dock _ _ _ (entry (answered a) .pre) _ _ (found a) (c .if1 .taken)
+
+words-for-requires : tie.Need-words-for-requires
+words-for-requires c κs = search needs
+
+returns-2 : tie.Need-returns-2
+returns-2 c =
+    let w = c .before in
+    let b = measured w in
+    let a = docked b in
+    too-short _ _ _ (entry (answered a) .pre) _ _ (found a) (b .if1 .left) _ (w .words-for .ensures) (c .if2 .taken)
 
 parent-full-requires : tie.Need-parent-full-requires
 parent-full-requires c κs = search needs
 
-returns-2 : tie.Need-returns-2
-returns-2 c = let b = crowded c in let a = short b in
-    full-parent _ _ (entry (answered a) .pre) _ _ (found a) (b .if1 .left) _ (c .before .parent-full .ensures) (c .if2 .taken)
-
 returns-3 : tie.Need-returns-3
-returns-3 c = let a = c .before .before in not-sound _ _ (entry a .pre) (sym (a .check .ensures) ∙ c .enum-told .given .1)
+returns-3 c =
+    let e = c .before .before in
+    let w = long e in
+    let b = measured w in
+    let a = docked b in
+    full-parent _ _ _ (entry (answered a) .pre) _ _ (found a) (b .if1 .left) _ (w .words-for .ensures) (e .if2 .left) _ (c .before .parent-full .ensures) (c .if3 .taken)
 
 returns-4 : tie.Need-returns-4
-returns-4 c = let b = full c in let a = short b in
-    all-passed _ _ (entry (answered a) .pre) _ _ (found a) (b .if1 .left) _ (c .before .parent-full .ensures) (c .if2 .left)
+returns-4 c = let a = c .before .before in not-sound _ _ _ (entry a .pre) (sym (a .check .ensures) ∙ c .enum-told .given .1)
+
+returns-5 : tie.Need-returns-5
+returns-5 c =
+    let e = c .before .before in
+    let w = long e in
+    let b = measured w in
+    let a = docked b in
+    all-passed _ _ _ (entry (answered a) .pre) _ _ (found a) (b .if1 .left) _ (w .words-for .ensures) (e .if2 .left) _ (c .before .parent-full .ensures) (c .if3 .left)
 
 pub judge-rest-spec : {M : Type 1} → statement M
 judge-rest-spec =
@@ -65,7 +81,9 @@ judge-rest-spec =
     enum-told
     enum-known-answer
     returns
-    parent-full-requires
+    words-for-requires
     returns-2
+    parent-full-requires
     returns-3
-    returns-4)
+    returns-4
+    returns-5)
