@@ -129,7 +129,7 @@ static void pause_for(uint64_t microseconds)
         nanosleep(&left, NULL);
 }
 
-/* No later store reaches a line before an earlier one. A list for dock 1 has one after each store. */
+/* No later store reaches a line before an earlier one: SFENCE, on ARM DMB ISHST. A list for dock 1 has one after each store. */
 static void barrier(void)
 {
 #if defined(__x86_64__)
