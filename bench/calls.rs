@@ -35,6 +35,7 @@ extern "C" {
     fn plain_pack(table: *mut u64, nodes: usize, place: *const u64, keys: *const u64, recordings: *const u64, count: usize);
     fn plain_search(table: *const u64, key: u64, next: *mut u64) -> u64;
     fn plain_foreseen_search(table: *const u64, key: u64, next: *mut u64) -> u64;
+    fn plain_trusting_search(table: *const u64, sentinels: *const u64, key: u64, next: *mut u64) -> u64;
     fn plain_tested_search(table: *const u64, words: usize, collection: u64, key: u64, next: *mut u64) -> u64;
     fn plain_read_pass(table: *const u64, nodes: usize) -> u64;
 
@@ -159,6 +160,23 @@ pub fn search(table: &[u64], key: u64) -> Found {
     (recording, next)
 }
 
+/// The sentinels of a sound table, from the beginning of a line on.
+pub fn sentinels(table: &[u64]) -> Words {
+    let mut words = Words::zeroed(3 * table[2] as usize);
+    let number = unsafe { catalogue_sentinels(table.as_ptr(), table.len(), words.as_mut_ptr(), words.len()) };
+    assert_eq!(number, 0, "the sentinels were refused");
+    words
+}
+
+/// The answer of the library with sentinels.
+#[inline(always)]
+pub fn search_with(table: &[u64], sentinels: &[u64], key: u64) -> Found {
+    let (mut recording, mut access, mut next, mut higher) = (0, 0, 0, 0);
+    let number = unsafe { catalogue_search_with(table.as_ptr(), table.len(), sentinels.as_ptr(), sentinels.len(), COLLECTION, key, &mut recording, &mut access, &mut next, &mut higher) };
+    assert!(number == 0 || number == ABSENT, "a search was refused");
+    (recording, next)
+}
+
 /// With class 0.
 pub fn insert(table: &mut [u64], orders: &mut Orders, key: u64, recording: u64) -> u64 {
     let list = orders.words.as_mut_ptr();
@@ -243,6 +261,13 @@ pub fn search_plain(table: &[u64], key: u64) -> Found {
 pub fn search_foreseen(table: &[u64], key: u64) -> Found {
     let mut next = 0;
     (unsafe { plain_foreseen_search(table.as_ptr(), key, &mut next) }, next)
+}
+
+/// That one with sentinels, which it trusts.
+#[inline(always)]
+pub fn search_trusting(table: &[u64], sentinels: &[u64], key: u64) -> Found {
+    let mut next = 0;
+    (unsafe { plain_trusting_search(table.as_ptr(), sentinels.as_ptr(), key, &mut next) }, next)
 }
 
 /// As `search`, by C with the same tests.

@@ -3,6 +3,7 @@ mod calls;
 mod change;
 mod counts;
 mod keys;
+mod lines;
 mod machine;
 mod plot;
 mod report;
@@ -33,15 +34,18 @@ pub const CLASS_CHANGE: &str = "class change";
 pub const COUNTS: &str = "counts";
 pub const WALK: &str = "empty leaves";
 pub const SALVAGE: &str = "salvage";
+pub const LINES: &str = "lines of a leaf";
 pub const OURS: &str = "ours";
 pub const PLAIN: &str = "plain C";
+pub const LED: &str = "ours, sentinels";
 pub const FORESEEN: &str = "plain C, branch";
+pub const TRUSTING: &str = "plain C, sentinels";
 pub const TESTED: &str = "C, same tests";
 pub const TREE: &str = "C FAST+FAIR, 512 B";
 pub const RUST: &str = "Rust BTreeMap";
 pub const CPP: &str = "C++ std::map";
 pub const SORTED: &str = "sorted array";
-pub const OTHERS: [&str; 7] = [PLAIN, FORESEEN, TESTED, TREE, RUST, CPP, SORTED];
+pub const OTHERS: [&str; 9] = [LED, PLAIN, FORESEEN, TRUSTING, TESTED, TREE, RUST, CPP, SORTED];
 
 /// What is measured: keys for the searches and the salvages, nodes for the changes, keys for the counts (ours and the 512-byte tree; that tree alone).
 struct Sizes {

@@ -20,7 +20,10 @@ uint64_t plain_search(const uint64_t *table, uint64_t key, uint64_t *next);
 /* The same with the move to a sibling as a branch, whatever the compiler would choose. */
 uint64_t plain_foreseen_search(const uint64_t *table, uint64_t key, uint64_t *next);
 
-/* That one with every test that the library's search makes, on any words. A refusal gives 0 too, and leaves *next. */
+/* The same with a look at the one line of the leaf that its sentinels name, which must be true ones, before the whole leaf. */
+uint64_t plain_trusting_search(const uint64_t *table, const uint64_t *sentinels, uint64_t key, uint64_t *next);
+
+/* plain_foreseen_search with every test that the library's search makes, on any words. A refusal gives 0 too, and leaves *next. */
 uint64_t plain_tested_search(const uint64_t *table, size_t words, uint64_t collection, uint64_t key, uint64_t *next);
 
 /* The sum of all words of nodes 1 .. nodes. */

@@ -12,10 +12,10 @@ const PANEL: (f64, f64) = (600.0, 430.0);
 const MARGIN: (f64, f64, f64, f64) = (70.0, 45.0, 150.0, 55.0);
 const LABEL_GAP: f64 = 15.0;
 const LABEL_REACH: f64 = 40.0;
-/// Told apart also by those who confuse red and green (Okabe and Ito).
-const COLOURS: [&str; 8] = ["#000000", "#0072b2", "#56b4e9", "#d55e00", "#009e73", "#cc79a7", "#b58900", "#8a8a8a"];
+/// Told apart also by those who confuse red and green (Okabe and Ito, and two more).
+const COLOURS: [&str; 10] = ["#000000", "#5d3a9b", "#0072b2", "#56b4e9", "#994f00", "#d55e00", "#009e73", "#cc79a7", "#b58900", "#8a8a8a"];
 /// Of the two kinds of bar: those of the same trees' lines.
-const BARS: [&str; 2] = [COLOURS[0], COLOURS[3]];
+const BARS: [&str; 2] = [COLOURS[0], COLOURS[6]];
 
 struct Line {
     label: String,

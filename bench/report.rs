@@ -2,7 +2,7 @@
 use crate::counts::{self, CHANGES, ORDERS};
 use crate::results::{Results, Spread};
 use crate::salvage::TABLES;
-use crate::{CLASS_CHANGE, COUNTS, DELETION, HITS, INSERTION, MISSES, NODES, OTHERS, OURS, PAPER_FLUSHES, SALVAGE, SPLITTING, TABLE, TREE, WALK};
+use crate::{CLASS_CHANGE, COUNTS, DELETION, HITS, INSERTION, LED, LINES, MISSES, NODES, OTHERS, OURS, PAPER_FLUSHES, SALVAGE, SPLITTING, TABLE, TREE, TRUSTING, WALK};
 use std::fmt::Write;
 
 /// A table of ready cells under a line that says what they are.
@@ -105,6 +105,18 @@ fn search_ratios(results: &Results) -> Table {
         let exact = |what| results.median(TABLE, what, size).map_or("-".to_string(), |x| grouped(x as usize));
         let mut row = vec![part.to_string(), grouped(size), exact("nodes"), exact("levels"), or_dash(ours)];
         row.extend(OTHERS.iter().map(|name| ratio(ours, results.median(part, name, size))));
+        table.rows.push(row);
+    }
+    table
+}
+
+fn line_table(results: &Results) -> Table {
+    let head = ["", "keys", OURS, LED, TRUSTING];
+    let mut table = Table::new("Lines of 64 bytes that a search touches on account of its leaf, sentinels included: counted, means over the queries", &head);
+    for (part, size) in search_rows(results) {
+        let kind = if part == HITS { "hit" } else { "miss" };
+        let mut row = vec![part.to_string(), grouped(size)];
+        row.extend([OURS, LED, TRUSTING].map(|name| or_dash(results.median(LINES, &format!("{name}, {kind}"), size))));
         table.rows.push(row);
     }
     table
@@ -273,6 +285,7 @@ pub fn times(results: &Results) -> Vec<Table> {
 pub fn ratios(results: &Results, counted: (usize, usize)) -> Vec<Table> {
     vec![
         search_ratios(results),
+        line_table(results),
         change_ratios(results),
         walk_ratios(results),
         salvage_ratios(results),

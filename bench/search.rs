@@ -2,7 +2,8 @@
 use crate::calls::{self, CppMap, FastFair, Orders, Words};
 use crate::keys::{Keys, Random};
 use crate::results::{timed, Results, Spread};
-use crate::{CPP, FORESEEN, HITS, MISSES, OURS, PLAIN, RUNS, RUST, SEED, SORTED, TABLE, TESTED, TREE};
+use crate::lines;
+use crate::{CPP, FORESEEN, HITS, LED, MISSES, OURS, PLAIN, RUNS, RUST, SEED, SORTED, TABLE, TESTED, TREE, TRUSTING};
 use std::collections::{BTreeMap, BTreeSet};
 use std::hint::black_box;
 
@@ -26,6 +27,9 @@ trait Contender {
 }
 
 struct Ours<'a>(&'a Words);
+/// With the table's sentinels; likewise below.
+struct Led<'a>(&'a Words, &'a Words);
+struct Trusting<'a>(&'a Words, &'a Words);
 struct Plain<'a>(&'a Words);
 struct Foreseen<'a>(&'a Words);
 struct Tested<'a>(&'a Words);
@@ -40,6 +44,24 @@ impl Contender for Ours<'_> {
     }
     fn find(&self, key: u64) -> u64 {
         calls::search(self.0, key).0
+    }
+}
+
+impl Contender for Led<'_> {
+    fn name(&self) -> &'static str {
+        LED
+    }
+    fn find(&self, key: u64) -> u64 {
+        calls::search_with(self.0, self.1, key).0
+    }
+}
+
+impl Contender for Trusting<'_> {
+    fn name(&self) -> &'static str {
+        TRUSTING
+    }
+    fn find(&self, key: u64) -> u64 {
+        calls::search_trusting(self.0, self.1, key).0
     }
 }
 
@@ -133,7 +155,7 @@ pub fn draw(present: &[u64]) -> Vec<u64> {
 }
 
 /// The trees that grow do so in the random order of the pairs.
-fn contenders<'a>(table: &'a Words, keys: &Keys) -> Vec<Box<dyn Contender + 'a>> {
+fn contenders<'a>(table: &'a Words, words: &'a Words, keys: &Keys) -> Vec<Box<dyn Contender + 'a>> {
     let pairs = keys.pairs();
     let mut fastfair = FastFair::new(pairs.len());
     let mut cpp = CppMap::new();
@@ -147,7 +169,10 @@ fn contenders<'a>(table: &'a Words, keys: &Keys) -> Vec<Box<dyn Contender + 'a>>
     rising.sort_unstable();
     let (keys, recordings) = rising.into_iter().unzip();
     let sorted = Sorted { keys, recordings };
-    vec![Box::new(Ours(table)), Box::new(Plain(table)), Box::new(Foreseen(table)), Box::new(Tested(table)), Box::new(fastfair), Box::new(rust), Box::new(cpp), Box::new(sorted)]
+    let on_table: Vec<Box<dyn Contender + 'a>> =
+        vec![Box::new(Ours(table)), Box::new(Led(table, words)), Box::new(Plain(table)), Box::new(Foreseen(table)), Box::new(Trusting(table, words)), Box::new(Tested(table))];
+    let others: Vec<Box<dyn Contender + 'a>> = vec![Box::new(fastfair), Box::new(rust), Box::new(cpp), Box::new(sorted)];
+    on_table.into_iter().chain(others).collect()
 }
 
 /// Every present key and every absent one, against the list of pairs itself. A wrong answer ends the program.
@@ -161,12 +186,13 @@ fn verify(contender: &dyn Contender, keys: &Keys) {
 }
 
 /// The next key up of every absent key, by the ways that look for it: the library and plain C.
-fn verify_next(table: &Words, keys: &Keys) {
+fn verify_next(table: &Words, words: &Words, keys: &Keys) {
     let present: BTreeSet<u64> = keys.present.iter().copied().collect();
     for &key in &keys.absent {
         let next = present.range(key..).next().copied().unwrap_or(0);
-        let given = [calls::search(table, key), calls::search_plain(table, key), calls::search_foreseen(table, key), calls::search_tested(table, key)];
-        assert_eq!(given, [(0, next); 4], "the next key up of {key}: ours, then plain C");
+        let ours = [calls::search(table, key), calls::search_with(table, words, key)];
+        let plain = [calls::search_plain(table, key), calls::search_foreseen(table, key), calls::search_trusting(table, words, key), calls::search_tested(table, key)];
+        assert_eq!((ours, plain), ([(0, next); 2], [(0, next); 4]), "the next key up of {key}: ours, then plain C");
     }
 }
 
@@ -212,13 +238,15 @@ pub fn measure(results: &mut Results, sizes: &[usize]) {
             Some(ns) => last = (size as f64, ns),
             None => eprintln!("search: the table of {size} keys is not put to the library's check, which would take too long"),
         }
-        let all = contenders(&table, &keys);
+        let words = calls::sentinels(&table);
+        let all = contenders(&table, &words, &keys);
         all.iter().for_each(|c| verify(c.as_ref(), &keys));
-        verify_next(&table, &keys);
+        verify_next(&table, &words, &keys);
         results.add(TABLE, "nodes", size, "nodes", Spread::exact(reached as f64));
         results.add(TABLE, "levels", size, "levels", Spread::exact(levels(&table) as f64));
         for (part, queries) in [(HITS, draw(&keys.present)), (MISSES, keys.absent.clone())] {
             let times = race(&all, &queries, expected(&keys, &queries));
+            lines::count(results, part, size, &table, &words, &queries);
             for (contender, runs) in all.iter().zip(times) {
                 results.add(part, contender.name(), size, "ns", Spread::of(&runs));
             }

@@ -33,6 +33,7 @@ const struct refusal refusals[] = {
     {CATALOGUE_NO_COLLECTION, "no such collection",
      "{table} has no collection {collection}; a table has collection 1, and 2 where it was made with --loan"},
     {CATALOGUE_NO_DOCK, "no such dock", NULL},
+    {CATALOGUE_OTHER_SENTINELS, "sentinels of another length", NULL},
     {BAD_USAGE, "wrong command line", NULL},
     {BAD_LINE, "wrong line in a file to load", NULL},
     {BAD_FILE, "a file cannot be read or written, or another program uses it or changed it", NULL},

@@ -36,6 +36,12 @@
  * list is dock 0's; with them it wants CATALOGUE_LONG_LIST_WORDS words. A table may go from one dock to the other between any two calls, and
  * what a cut left on one may be repaired on the other.
  *
+ * Sentinels are words beside a table, CATALOGUE_SENTINELS(N) of them in a slice of their own, three for each node: the first key on each
+ * line of a leaf's slots that has any, CATALOGUE_MARK for a line that has none, and 0 for a node that is no leaf of either tree. They are
+ * worked out when a table is loaded, and lie in ordinary memory: no order stores to them. A search that takes them looks first at the line
+ * that they name. The writing calls that take them set those of the nodes that they store to; a change without them leaves them as they
+ * were. Wrong ones do no harm in a sound table: every call with them answers as without them, and so do the list and the table.
+ *
  *     static uint64_t memory[8 + 32 * 100], working[8 + 32 * 100], orders[CATALOGUE_LIST_WORDS];
  *     uint64_t key, recording, access, next, higher, stores, flushes, barriers;
  *     size_t words = sizeof working / sizeof working[0];
@@ -63,7 +69,7 @@ extern "C" {
  * The version of these declarations. It is raised by each change of a name, a parameter or the meaning of a word, so a program that was
  * compiled with one header and linked with another library sees it: catalogue_version() is the library's.
  */
-#define CATALOGUE_VERSION 6
+#define CATALOGUE_VERSION 7
 
 #define CATALOGUE_MARK UINT64_MAX
 #define CATALOGUE_BARRIER (UINT64_MAX - 1)
@@ -71,6 +77,9 @@ extern "C" {
 /* The words of an order list, at least: for dock 0, and for either. */
 #define CATALOGUE_LIST_WORDS 2560
 #define CATALOGUE_LONG_LIST_WORDS 5120
+
+/* The words of the sentinels of a table of N nodes. */
+#define CATALOGUE_SENTINELS(nodes) (3 * (size_t)(nodes))
 
 /* Docks. */
 enum {
@@ -110,6 +119,7 @@ enum {
     CATALOGUE_SHORT_REPORT = 16,    /* salvage: report under 36 words for each node */
     CATALOGUE_NO_COLLECTION = 17,   /* collection not 1 or 2, or 2 where the table has one; comes straight after 2 */
     CATALOGUE_NO_DOCK = 18,         /* dock neither 0 nor 1; comes straight before 5 */
+    CATALOGUE_OTHER_SENTINELS = 19, /* sentinels not 3 words for each node; comes straight after 17 */
     CATALOGUE_ABSENT = 255          /* search: the key is absent */
 };
 
@@ -166,6 +176,35 @@ uint64_t catalogue_set_class(uint64_t *table, size_t words, uint64_t collection,
 /* Repair of what a cut left in either collection: 2, 4, 18, 5, 12. A settled table gives 0 orders. */
 uint64_t catalogue_repair(uint64_t *table, size_t words, uint64_t *orders, size_t order_words, uint64_t dock, uint64_t *stores,
                           uint64_t *flushes, uint64_t *barriers);
+
+/* The sentinels of a table, of both collections. 0, or 2, 19 or 4. */
+uint64_t catalogue_sentinels(const uint64_t *table, size_t words, uint64_t *sentinels, size_t sentinel_words);
+
+/*
+ * As catalogue_search, with 19 after 17. On a sound table the answer is that of catalogue_search whatever the sentinels hold; on another one
+ * it may be another slot of the same leaf with the key, where catalogue_search finds one too.
+ */
+uint64_t catalogue_search_with(const uint64_t *table, size_t words, const uint64_t *sentinels, size_t sentinel_words, uint64_t collection,
+                               uint64_t key, uint64_t *recording, uint64_t *access, uint64_t *next, uint64_t *higher);
+
+/*
+ * As the writing calls above, with 19 after 17. Table, list, counts and number are the plain call's; where it is accepted the sentinels of the
+ * nodes that it stored to are set, and no others: true ones stay true. A refusal changes none.
+ */
+uint64_t catalogue_insert_with(uint64_t *table, size_t words, uint64_t *sentinels, size_t sentinel_words, uint64_t collection,
+                               uint64_t *orders, size_t order_words, uint64_t dock, uint64_t key, uint64_t recording, uint64_t access,
+                               uint64_t *stores, uint64_t *flushes, uint64_t *barriers);
+
+uint64_t catalogue_delete_with(uint64_t *table, size_t words, uint64_t *sentinels, size_t sentinel_words, uint64_t collection,
+                               uint64_t *orders, size_t order_words, uint64_t dock, uint64_t key, uint64_t *stores, uint64_t *flushes,
+                               uint64_t *barriers);
+
+uint64_t catalogue_set_class_with(uint64_t *table, size_t words, uint64_t *sentinels, size_t sentinel_words, uint64_t collection,
+                                  uint64_t *orders, size_t order_words, uint64_t dock, uint64_t key, uint64_t access, uint64_t *stores,
+                                  uint64_t *flushes, uint64_t *barriers);
+
+uint64_t catalogue_repair_with(uint64_t *table, size_t words, uint64_t *sentinels, size_t sentinel_words, uint64_t *orders,
+                               size_t order_words, uint64_t dock, uint64_t *stores, uint64_t *flushes, uint64_t *barriers);
 
 /* Applies the first c orders of a list to a table; barriers are counted and passed over. 0, or 2 or 13. */
 uint64_t catalogue_carry_out(uint64_t *table, size_t words, const uint64_t *orders, size_t order_words, uint64_t c);

@@ -13,6 +13,12 @@ extern "C" {
     pub fn catalogue_delete(table: *mut u64, words: usize, collection: u64, orders: *mut u64, order_words: usize, dock: u64, key: u64, stores: *mut u64, flushes: *mut u64, barriers: *mut u64) -> u64;
     pub fn catalogue_set_class(table: *mut u64, words: usize, collection: u64, orders: *mut u64, order_words: usize, dock: u64, key: u64, access: u64, stores: *mut u64, flushes: *mut u64, barriers: *mut u64) -> u64;
     pub fn catalogue_repair(table: *mut u64, words: usize, orders: *mut u64, order_words: usize, dock: u64, stores: *mut u64, flushes: *mut u64, barriers: *mut u64) -> u64;
+    pub fn catalogue_sentinels(table: *const u64, words: usize, sentinels: *mut u64, sentinel_words: usize) -> u64;
+    pub fn catalogue_search_with(table: *const u64, words: usize, sentinels: *const u64, sentinel_words: usize, collection: u64, key: u64, recording: *mut u64, access: *mut u64, next: *mut u64, higher: *mut u64) -> u64;
+    pub fn catalogue_insert_with(table: *mut u64, words: usize, sentinels: *mut u64, sentinel_words: usize, collection: u64, orders: *mut u64, order_words: usize, dock: u64, key: u64, recording: u64, access: u64, stores: *mut u64, flushes: *mut u64, barriers: *mut u64) -> u64;
+    pub fn catalogue_delete_with(table: *mut u64, words: usize, sentinels: *mut u64, sentinel_words: usize, collection: u64, orders: *mut u64, order_words: usize, dock: u64, key: u64, stores: *mut u64, flushes: *mut u64, barriers: *mut u64) -> u64;
+    pub fn catalogue_set_class_with(table: *mut u64, words: usize, sentinels: *mut u64, sentinel_words: usize, collection: u64, orders: *mut u64, order_words: usize, dock: u64, key: u64, access: u64, stores: *mut u64, flushes: *mut u64, barriers: *mut u64) -> u64;
+    pub fn catalogue_repair_with(table: *mut u64, words: usize, sentinels: *mut u64, sentinel_words: usize, orders: *mut u64, order_words: usize, dock: u64, stores: *mut u64, flushes: *mut u64, barriers: *mut u64) -> u64;
     pub fn catalogue_carry_out(table: *mut u64, words: usize, orders: *const u64, order_words: usize, c: u64) -> u64;
     pub fn catalogue_salvage(table: *const u64, words: usize, out: *mut u64, out_words: usize, report: *mut u64, report_words: usize, dropped: *mut u64) -> u64;
 }

@@ -36,11 +36,16 @@ impl Lent {
     }
 
     pub fn search(&mut self, collection: u64, key: u64) -> Looked {
-        let [mut recording, mut access, mut next, mut higher] = std::array::from_fn(|_| Word::new());
-        let number =
-            unsafe { catalogue_search(self.pointer(), self.len, collection, key, recording.pointer(), access.pointer(), next.pointer(), higher.pointer()) };
-        Looked { number, recording: recording.put(), access: access.put(), next: next.put(), higher: higher.put() }
+        let (table, len) = (self.pointer(), self.len);
+        looked(|r, a, n, h| unsafe { catalogue_search(table, len, collection, key, r, a, n, h) })
     }
+}
+
+/// What a search left in the words lent for its answer.
+fn looked(call: impl FnOnce(*mut u64, *mut u64, *mut u64, *mut u64) -> u64) -> Looked {
+    let [mut recording, mut access, mut next, mut higher] = std::array::from_fn(|_| Word::new());
+    let number = call(recording.pointer(), access.pointer(), next.pointer(), higher.pointer());
+    Looked { number, recording: recording.put(), access: access.put(), next: next.put(), higher: higher.put() }
 }
 
 /// A word that an answer is put into, with guards around it.
@@ -180,4 +185,50 @@ pub fn carry_out(t: &[u64], list: &[u64], c: u64) -> (u64, Vec<u64>) {
     let n = unsafe { catalogue_carry_out(table.pointer(), t.len(), orders.pointer(), list.len(), c) };
     assert!(orders.back() == list, "carry-out wrote to the list");
     (n, table.back().to_vec())
+}
+
+// ---- with sentinels
+
+/// The number, and the sentinels after it.
+pub fn sentinels(t: &[u64], words: &[u64]) -> (u64, Vec<u64>) {
+    let (mut table, mut slice) = (Lent::new(t), Lent::new(words));
+    let n = unsafe { catalogue_sentinels(table.pointer(), t.len(), slice.pointer(), words.len()) };
+    assert!(table.back() == t, "working sentinels out wrote to the table");
+    (n, slice.back().to_vec())
+}
+
+pub fn search_with(t: &[u64], words: &[u64], collection: u64, key: u64) -> Looked {
+    let (mut table, mut slice) = (Lent::new(t), Lent::new(words));
+    let answer = looked(|r, a, n, h| unsafe { catalogue_search_with(table.pointer(), t.len(), slice.pointer(), words.len(), collection, key, r, a, n, h) });
+    assert!(table.back() == t && slice.back() == words, "a search wrote to the table or to the sentinels");
+    answer
+}
+
+/// What a write with sentinels left, and the sentinels after it.
+pub type Kept = (Wrote, Vec<u64>);
+
+fn kept(t: &[u64], words: &[u64], list: &[u64], call: impl FnOnce(*mut u64, *mut u64, *mut u64, *mut u64, *mut u64, *mut u64) -> u64) -> Kept {
+    let mut slice = Lent::new(words);
+    let after = wrote(t, list, |a, b, s, f, r| call(a, slice.pointer(), b, s, f, r));
+    (after, slice.back().to_vec())
+}
+
+pub fn insert_with(t: &[u64], words: &[u64], collection: u64, list: &[u64], dock: u64, key: u64, recording: u64, access: u64) -> Kept {
+    kept(t, words, list, |a, w, b, s, f, r| unsafe {
+        catalogue_insert_with(a, t.len(), w, words.len(), collection, b, list.len(), dock, key, recording, access, s, f, r)
+    })
+}
+
+pub fn delete_with(t: &[u64], words: &[u64], collection: u64, list: &[u64], dock: u64, key: u64) -> Kept {
+    kept(t, words, list, |a, w, b, s, f, r| unsafe { catalogue_delete_with(a, t.len(), w, words.len(), collection, b, list.len(), dock, key, s, f, r) })
+}
+
+pub fn set_class_with(t: &[u64], words: &[u64], collection: u64, list: &[u64], dock: u64, key: u64, access: u64) -> Kept {
+    kept(t, words, list, |a, w, b, s, f, r| unsafe {
+        catalogue_set_class_with(a, t.len(), w, words.len(), collection, b, list.len(), dock, key, access, s, f, r)
+    })
+}
+
+pub fn repair_with(t: &[u64], words: &[u64], list: &[u64], dock: u64) -> Kept {
+    kept(t, words, list, |a, w, b, s, f, r| unsafe { catalogue_repair_with(a, t.len(), w, words.len(), b, list.len(), dock, s, f, r) })
 }

@@ -54,7 +54,7 @@ struct Joined {
 
 impl Joined {
     fn tally(&mut self, t: &[u64], k: u64, answer: &Answer) {
-        let further = || (next_up(t, last_leaf(t, 1, k).expect("a leaf"), k).expect("a neighbour or none").1 > 1) as usize;
+        let further = || (next_up(t, last_leaf(t, 1, k).expect("a leaf").1, k).expect("a neighbour or none").1 > 1) as usize;
         let ring = (1..=t[2]).all(|i| node(t, i).level == 0 && (1..=t[2]).contains(&node(t, i).sibling));
         match answer {
             Answer::Found(..) => {}

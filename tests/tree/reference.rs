@@ -153,15 +153,15 @@ pub fn node(t: &[u64], i: u64) -> Node {
 pub fn search(t: &[u64], collection: u64, k: u64) -> Answer {
     match last_leaf(t, collection, k) {
         Err(number) => Answer::Refused(number),
-        Ok(x) => match x.shown().iter().find(|s| s.key == k) {
+        Ok((_, x)) => match x.shown().iter().find(|s| s.key == k) {
             Some(s) => Answer::Found(recording(s.pointer), class(s.pointer)),
             None => next_up(t, x, k).map_or(Answer::Refused(3), |(next, _)| Answer::Absent(next)),
         },
     }
 }
 
-/// The leaf that the search for k in a collection ends in, or the refusal number.
-pub fn last_leaf(t: &[u64], collection: u64, k: u64) -> Result<Node, u64> {
+/// The leaf that the search for k in a collection ends in, with its number, or the refusal number.
+pub fn last_leaf(t: &[u64], collection: u64, k: u64) -> Result<(u64, Node), u64> {
     if !header_ok(t) {
         return Err(2);
     }
@@ -184,11 +184,11 @@ pub fn last_leaf(t: &[u64], collection: u64, k: u64) -> Result<Node, u64> {
             }
             let right = node(t, x.sibling);
             if k >= right.fence {
-                x = right;
+                (at, x) = (x.sibling, right);
             }
         }
         if level == 0 {
-            return Ok(x);
+            return Ok((at, x));
         }
         at = x.shown().iter().filter(|s| s.key <= k).last().map_or(x.left, |s| s.pointer);
         level -= 1;

@@ -14,20 +14,26 @@ use Rattle.model.specs.declared.Listed.{Listed}
 use Rattle.model.specs.declared.Salvaged.{Salvaged}
 use Rattle.model.specs.Listing.{listedNumber, countOr, moreOr}
 use Rattle.model.specs.Salvage.{salvagedNumber, droppedOr}
-use Rattle.catalogue.specs.Answers.{searchNumber, Counted, Wrote, Showed, Rebuilt}
+use Rattle.catalogue.specs.Answers.{searchNumber, Looked, Counted, Wrote, WroteWith, Showed, Rebuilt}
+use Rattle.sentinels.specs.Anew.{Leaves}
 
 -- an answer that is this one has its number, and puts its words
 pub answered : (x y : Answer) (recording access next higher : ℕ) → x ≡ y
-    → (searchNumber y ≡ searchNumber x) × ((recordingOr y recording ≡ recordingOr x recording) × ((accessOr y access ≡ accessOr x access)
-    × ((nextOr y next ≡ nextOr x next) × (higherOr y higher ≡ higherOr x higher))))
+    → Looked x (searchNumber y) recording (recordingOr y recording) access (accessOr y access) next (nextOr y next) higher (higherOr y higher)
 answered x y recording access next higher e =
-    let q = sym e in (
-      ap searchNumber q,
-      (
-        ap (λ (z : Answer). recordingOr z recording) q,
-        (ap (λ (z : Answer). accessOr z access) q, (ap (λ (z : Answer). nextOr z next) q, ap (λ (z : Answer). higherOr z higher) q)),
-      ),
-    )
+    let q = sym e in record {
+      number-is = ap searchNumber q;
+      recording-is = ap (λ (z : Answer). recordingOr z recording) q;
+      access-is = ap (λ (z : Answer). accessOr z access) q;
+      next-is = ap (λ (z : Answer). nextOr z next) q;
+      higher-is = ap (λ (z : Answer). higherOr z higher) q;
+    }
+
+-- of an answer that is the definition's
+pub looked : (x : Answer) {a : Answer} {number recording recording′ access access′ next next′ higher higher′ : ℕ} → a ≡ x
+    → Looked a number recording recording′ access access′ next next′ higher higher′ → Looked x number recording recording′ access access′ next next′ higher higher′
+looked x {number = number} {recording} {recording′} {access} {access′} {next} {next′} {higher} {higher′} e k =
+    subst (λ (z : Answer). Looked z number recording recording′ access access′ next next′ higher higher′) e k
 
 pub was-read : (x y : Parsed) (old : ℕ) → x ≡ y → (parsedNumber y ≡ parsedNumber x) × (keyOr y old ≡ keyOr x old)
 was-read x y old e = (sym (ap parsedNumber e), sym (ap (λ (z : Parsed). keyOr z old) e))
@@ -41,6 +47,17 @@ has-written x t lent dock {number = number} {stores} {stores′} {flushes} {flus
       answer-is = subst (λ (z : Written). Counted z number stores stores′ flushes flushes′ barriers barriers′) (h .0) k;
       table-is = h .1 .0;
       list-is = h .1 .1;
+    }
+
+pub has-written-with : (x : Call) (t lent ws : Words) (dock : ℕ) {t′ lent′ ws′ : Words} {a : Written} {number stores stores′ flushes flushes′ barriers barriers′ : ℕ}
+    → Leaves x dock t t′ lent lent′ ws ws′ a → Counted a number stores stores′ flushes flushes′ barriers barriers′
+    → WroteWith x number t t′ ws ws′ lent lent′ dock stores stores′ flushes flushes′ barriers barriers′
+has-written-with x t lent ws dock {number = number} {stores} {stores′} {flushes} {flushes′} {barriers} {barriers′} h k =
+    record {
+      answer-is = subst (λ (z : Written). Counted z number stores stores′ flushes flushes′ barriers barriers′) (h .answered) k;
+      table-is = h .table;
+      list-is = h .listed;
+      sentinels-are = h .slice;
     }
 
 pub has-shown : (x y : Listed) (pairs more m : ℕ) → x ≡ y → m ≡ moreOr y more → Showed x (listedNumber y) pairs (countOr y pairs) more m

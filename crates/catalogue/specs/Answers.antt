@@ -9,19 +9,29 @@ use Rattle.model.specs.declared.Salvaged.{Salvaged}
 use Rattle.model.specs.declared.Written.{Written}
 use Rattle.model.specs.Table.{Words}
 use Rattle.model.specs.Writes.{Call}
+use Rattle.model.specs.Search.{recordingOr, accessOr, nextOr, higherOr}
 use Rattle.model.specs.Listing.{listedNumber, countOr, moreOr}
 use Rattle.model.specs.Refusals.{written, tableAfter, listAfter, writtenNumber, storesOr, flushesOr, barriersOr}
 use Rattle.model.specs.Salvage.{salvagedNumber, droppedOr}
+use Rattle.model.specs.Sentinels.{writtenWith, tableWith, ordersWith, sentinelsWith}
 
 -- the version of the calls' shapes: raised by each change of a name, a parameter or what a word means
 abbrev pub version : ℕ
-version = 6
+version = 7
 
 -- a search of C's: 0 for found, 255 for absent
 abbrev pub searchNumber : Answer → ℕ
 searchNumber (Found r c) = 0
 searchNumber (Absent x) = 255
 searchNumber (Refused n) = n
+
+-- a search's answer: its number, and what is put into the lent words, which stay where it has nothing for them
+pub record Looked (x : Answer) (number recording recording′ access access′ next next′ higher higher′ : ℕ) : Type 0 where
+  pub number-is : number ≡ searchNumber x
+  pub recording-is : recording′ ≡ recordingOr x recording
+  pub access-is : access′ ≡ accessOr x access
+  pub next-is : next′ ≡ nextOr x next
+  pub higher-is : higher′ ≡ higherOr x higher
 
 -- a write's answer: its number, and the three counts in lent words, which stay on refusal
 pub record Counted (x : Written) (number stores stores′ flushes flushes′ barriers barriers′ : ℕ) : Type 0 where
@@ -35,6 +45,13 @@ pub record Wrote (x : Call) (number : ℕ) (t t′ lent lent′ : Words) (dock s
   pub answer-is : Counted (written x (length lent) dock t) number stores stores′ flushes flushes′ barriers barriers′
   pub table-is : t′ ≡ tableAfter x (length lent) dock t
   pub list-is : lent′ ≡ listAfter x lent dock t
+
+-- a writing call that takes the sentinels
+pub record WroteWith (x : Call) (number : ℕ) (t t′ ws ws′ lent lent′ : Words) (dock stores stores′ flushes flushes′ barriers barriers′ : ℕ) : Type 0 where
+  pub answer-is : Counted (writtenWith x (length ws) (length lent) dock t) number stores stores′ flushes flushes′ barriers barriers′
+  pub table-is : t′ ≡ tableWith x (length ws) (length lent) dock t
+  pub list-is : lent′ ≡ ordersWith x (length ws) lent dock t
+  pub sentinels-are : ws′ ≡ sentinelsWith x ws (length lent) dock t
 
 -- a listing's answer: its number, the count, and 1 or 0 for more left
 pub record Showed (x : Listed) (number pairs pairs′ more more′ : ℕ) : Type 0 where

@@ -11,9 +11,10 @@ ghost use mathlib.Core.Path.{_≡_};
 ghost use Rattle.model.specs.Codes.{parse, print, parsedNumber, keyOr};
 ghost use Rattle.model.specs.Table.{making, made, outcomeNumber};
 ghost use Rattle.model.specs.Orders.{carryOut, carriedOut};
-ghost use Rattle.model.specs.Search.{search, recordingOr, accessOr, nextOr, higherOr};
+ghost use Rattle.model.specs.Search.{search};
 ghost use Rattle.model.specs.Writes.{insertion, deletion, classChange, repair};
-ghost use Rattle.catalogue.specs.Answers.{version, searchNumber, Counted, Wrote, Showed, Rebuilt};
+ghost use Rattle.catalogue.specs.Answers.{version, Looked, Counted, Wrote, WroteWith, Showed, Rebuilt};
+ghost use Rattle.model.specs.Sentinels.{workOut, workedOut, searchWith};
 ghost use Rattle.model.specs.Salvage.{salvage, salvageOut, salvageReport};
 ghost use lib.ListN.{length};
 ghost use Rattle.model.specs.Listing.{list, listOut};
@@ -24,7 +25,7 @@ ghost use mathlib.Core.Bool.{cond};
 pub extern "C" fn catalogue_version() -> u64
     ensures { λ r. ⌜ r ≡ version ⌝ }
 {
-    6
+    7
 }
 
 // 0 and the code's key, or 1.
@@ -85,13 +86,25 @@ pub extern "C" fn catalogue_search(
     next: &mut u64,
     higher: &mut u64,
 ) -> u64
-    ensures { λ r. ⌜ r ≡ searchNumber (search collection (now (table .entry)) key) ⌝ }
-    ensures { λ r. ⌜ now (recording .exit) ≡ recordingOr (search collection (now (table .entry)) key) (now (recording .entry)) ⌝ }
-    ensures { λ r. ⌜ now (access .exit) ≡ accessOr (search collection (now (table .entry)) key) (now (access .entry)) ⌝ }
-    ensures { λ r. ⌜ now (next .exit) ≡ nextOr (search collection (now (table .entry)) key) (now (next .entry)) ⌝ }
-    ensures { λ r. ⌜ now (higher .exit) ≡ higherOr (search collection (now (table .entry)) key) (now (higher .entry)) ⌝ }
+    ensures { λ r. ⌜ Looked (search collection (now (table .entry)) key) r (now (recording .entry)) (now (recording .exit))
+        (now (access .entry)) (now (access .exit)) (now (next .entry)) (now (next .exit)) (now (higher .entry)) (now (higher .exit)) ⌝ }
 {
-    match search::search(table, collection, key) {
+    let answer = search::search(table, collection, key);
+    put_answer(answer, recording, access, next, higher)
+}
+
+// A search's number, and its answer into the lent words that it has one for.
+fn put_answer(
+    answer: Answer,
+    recording: &mut u64,
+    access: &mut u64,
+    next: &mut u64,
+    higher: &mut u64,
+) -> u64
+    ensures { λ r. ⌜ Looked answer r (now (recording .entry)) (now (recording .exit)) (now (access .entry)) (now (access .exit))
+        (now (next .entry)) (now (next .exit)) (now (higher .entry)) (now (higher .exit)) ⌝ }
+{
+    match answer {
         Answer::Found {
             recording: r,
             access: c,
@@ -246,6 +259,120 @@ pub extern "C" fn catalogue_repair(
         (now (barriers .entry)) (now (barriers .exit)) ⌝ }
 {
     let answer = repair::repair(table, orders, dock);
+    put_counts(answer, stores, flushes, barriers)
+}
+
+// 0 and the sentinels worked out, or 2, 19 or 4.
+#[no_mangle]
+pub extern "C" fn catalogue_sentinels(table: &[u64], sentinels: &mut [u64]) -> u64
+    ensures { λ r. ⌜ r ≡ outcomeNumber (workOut (length (now (sentinels .entry))) (now (table .entry))) ⌝ }
+    ensures { λ r. ⌜ now (sentinels .exit) ≡ workedOut (now (sentinels .entry)) (now (table .entry)) ⌝ }
+{
+    number_of(sentinels::work_out(table, sentinels))
+}
+
+// As the plain search, with 19 after 17.
+#[no_mangle]
+pub extern "C" fn catalogue_search_with(
+    table: &[u64],
+    sentinels: &[u64],
+    collection: u64,
+    key: u64,
+    recording: &mut u64,
+    access: &mut u64,
+    next: &mut u64,
+    higher: &mut u64,
+) -> u64
+    ensures { λ r. ⌜ Looked (searchWith collection (now (sentinels .entry)) (now (table .entry)) key) r (now (recording .entry)) (now (recording .exit))
+        (now (access .entry)) (now (access .exit)) (now (next .entry)) (now (next .exit)) (now (higher .entry)) (now (higher .exit)) ⌝ }
+{
+    let answer = sentinels::search_with(table, sentinels, collection, key);
+    put_answer(answer, recording, access, next, higher)
+}
+
+// As the plain writing calls, with 19 after 17, and the sentinels of the nodes stored to set.
+#[no_mangle]
+pub extern "C" fn catalogue_insert_with(
+    table: &mut [u64],
+    sentinels: &mut [u64],
+    collection: u64,
+    orders: &mut [u64],
+    dock: u64,
+    key: u64,
+    recording: u64,
+    access: u64,
+    stores: &mut u64,
+    flushes: &mut u64,
+    barriers: &mut u64,
+) -> u64
+    ensures { λ r. ⌜ WroteWith (insertion collection key recording access) r (now (table .entry)) (now (table .exit))
+        (now (sentinels .entry)) (now (sentinels .exit)) (now (orders .entry)) (now (orders .exit))
+        dock (now (stores .entry)) (now (stores .exit)) (now (flushes .entry)) (now (flushes .exit))
+        (now (barriers .entry)) (now (barriers .exit)) ⌝ }
+{
+    let answer = sentinel_writes::insert_with(table, sentinels, orders, dock, collection, key, recording, access);
+    put_counts(answer, stores, flushes, barriers)
+}
+
+#[no_mangle]
+pub extern "C" fn catalogue_delete_with(
+    table: &mut [u64],
+    sentinels: &mut [u64],
+    collection: u64,
+    orders: &mut [u64],
+    dock: u64,
+    key: u64,
+    stores: &mut u64,
+    flushes: &mut u64,
+    barriers: &mut u64,
+) -> u64
+    ensures { λ r. ⌜ WroteWith (deletion collection key) r (now (table .entry)) (now (table .exit))
+        (now (sentinels .entry)) (now (sentinels .exit)) (now (orders .entry)) (now (orders .exit))
+        dock (now (stores .entry)) (now (stores .exit)) (now (flushes .entry)) (now (flushes .exit))
+        (now (barriers .entry)) (now (barriers .exit)) ⌝ }
+{
+    let answer = sentinel_writes::delete_with(table, sentinels, orders, dock, collection, key);
+    put_counts(answer, stores, flushes, barriers)
+}
+
+#[no_mangle]
+pub extern "C" fn catalogue_set_class_with(
+    table: &mut [u64],
+    sentinels: &mut [u64],
+    collection: u64,
+    orders: &mut [u64],
+    dock: u64,
+    key: u64,
+    access: u64,
+    stores: &mut u64,
+    flushes: &mut u64,
+    barriers: &mut u64,
+) -> u64
+    ensures { λ r. ⌜ WroteWith (classChange collection key access) r (now (table .entry)) (now (table .exit))
+        (now (sentinels .entry)) (now (sentinels .exit)) (now (orders .entry)) (now (orders .exit))
+        dock (now (stores .entry)) (now (stores .exit)) (now (flushes .entry)) (now (flushes .exit))
+        (now (barriers .entry)) (now (barriers .exit)) ⌝ }
+{
+    let answer = sentinel_writes::set_class_with(table, sentinels, orders, dock, collection, key, access);
+    put_counts(answer, stores, flushes, barriers)
+}
+
+#[no_mangle]
+pub extern "C" fn catalogue_repair_with(
+    table: &mut [u64],
+    sentinels: &mut [u64],
+    orders: &mut [u64],
+    dock: u64,
+    stores: &mut u64,
+    flushes: &mut u64,
+    barriers: &mut u64,
+) -> u64
+    ensures { λ r. ⌜ WroteWith repair r (now (table .entry)) (now (table .exit))
+        (now (sentinels .entry)) (now (sentinels .exit)) (now (orders .entry)) (now (orders .exit))
+        dock (now (stores .entry)) (now (stores .exit)) (now (flushes .entry)) (now (flushes .exit))
+        (now (barriers .entry)) (now (barriers .exit)) ⌝ }
+{
+    let answer = sentinel_writes::repair_with(table, sentinels, orders, dock);
     put_counts(answer, stores, flushes, barriers)
 }
 

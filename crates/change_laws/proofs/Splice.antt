@@ -98,6 +98,14 @@ module _ (a b : ℕ) where
       go false c (inl e) ih = rw (splice-off n ns (eqb-false n a c)) (List·Memᴰ·head e)
       go false c (inr t) ih = rw (splice-off n ns (eqb-false n a c)) (List·Memᴰ·tail (ih t))
 
+  -- of b alone the longer list says otherwise
+  pub splice-elem : (n : ℕ) (ns : List ℕ) → n ≢ b → elem n (splice a b ns) ≡ elem n ns
+  splice-elem n ns z = go (elem n ns) refl
+    where
+      go : (c : Bool) → elem n ns ≡ c → elem n (splice a b ns) ≡ c
+      go true e = elem-iff n (splice a b ns) .1 (mem-splice n ns (elem-iff n ns .0 e))
+      go false e = elem-splice n ns z e
+
   pub splice-in : (ns : List ℕ) → Once a ns → List·Memᴰ b (splice a b ns)
   splice-in ns o = rw (o .shape, splice-append (o .before) (a ∷ o .after), splice-at (o .after)) (Memᴰ·append-right (splice a b (o .before)) (List·Memᴰ·tail (List·Memᴰ·head refl)))
 

@@ -25,7 +25,7 @@ use Rattle.tree_laws.proofs.Levels.{Orderly, RootFacts, Bounded, reached-bounds
 use Rattle.tree_laws.proofs.Gaps.{Gap}
 use Rattle.tree_laws.proofs.Leftovers.{NothingUnfinished, MissingOnly, gap-children, names-linked}
 use Rattle.change_laws.proofs.Lists.{Off}
-use Rattle.change_laws.proofs.Splice.{splice, splice-nil, splice-append, splice-none, splice-flat, splice-out, splice-once, length-splice, splice-new, each-unsplice, unsplice-mem}
+use Rattle.change_laws.proofs.Splice.{splice, splice-nil, splice-append, splice-none, splice-elem, splice-flat, splice-out, splice-once, length-splice, splice-new, each-unsplice, unsplice-mem}
 use Rattle.change_laws.proofs.Updates.{update-at, update-off, withSibling}
 use Rattle.change_laws.proofs.Siblings.{linked-split, kept-off, next-off, linked-off}
 use Rattle.change_laws.proofs.Parents.{Parent, parent-is, distinct-children, child-reached, child-level}
@@ -309,13 +309,23 @@ module _ (v : View) (p a : ℕ) (l : HasLeft v (missingIn p a false)) (leaf : v 
   fewer : length (reached v) ≡ suc (length (reached u))
   fewer = ap length reached-is ∙ length-splice a x (reached u) once-a
 
+  others : (n : ℕ) → n ≢ x → elem n (reached u) ≡ elem n (reached v)
+  others n z = sym (splice-elem a x n (reached u) z) ∙ ap (elem n) (sym reached-is)
+
 -- what passing over x, the empty sibling of leaf a, does
 pub record Unlinked (v u : View) (x : ℕ) : Type 0 where
   pub left : HasLeft u nothing
   pub mapping : mapping u ≡ mapping v
   pub freed : elem x (reached u) ≡ false
   pub fewer : length (reached v) ≡ suc (length (reached u))
+  pub others : (n : ℕ) → n ≢ x → elem n (reached u) ≡ elem n (reached v)
 
 pub unlink : (v : View) (p a : ℕ) → HasLeft v (missingIn p a false) → v .node a .level ≡ 0 → v .node (v .node a .sibling) .shown ≡ []
     → Unlinked v (withSibling v a (v .node (v .node a .sibling) .sibling)) (v .node a .sibling)
-unlink v p a l z e = record { left = settles v p a l z e; mapping = mapping-same v p a l z e; freed = freed v p a l z e; fewer = fewer v p a l z e }
+unlink v p a l z e = record {
+  left = settles v p a l z e;
+  mapping = mapping-same v p a l z e;
+  freed = freed v p a l z e;
+  fewer = fewer v p a l z e;
+  others = others v p a l z e;
+}

@@ -1,32 +1,37 @@
--- Demand 3 with one or two collections, on either dock, proved. What is kept: memory is the working copy, sound, and its maps are the ledger.
+-- Demand 3 with one or two collections, on either dock, with sentinels or without, proved. What is kept: memory is the working copy, sound, of
+-- N nodes, and its maps are the ledger.
 use mathlib.Core.Path.{_≡_, refl, sym, ap, _∙_}
-use mathlib.Core.Logic.{_⊎_, inl, inr}
+use mathlib.Core.Logic.{_≢_, _⊎_, inl, inr}
 use mathlib.Core.Bool.{Bool, true, false, cond, false≢true}
 use mathlib.Core.List.{List, [], _∷_, List-discrete}
 use mathlib.Core.Option.{Option, none, some}
 use mathlib.Core.HLevel.{Discrete}
-use Prim.Native.Nat.{ℕ, zero, suc, _+_, _≤_}
+use Prim.Native.Nat.{ℕ, zero, suc, _+_, _*_, _≤_}
 use native.Mathlib.Decide.{ℕ-discrete}
 use native.Mathlib.Nat.{le-refl}
 use native.Mathlib.Omega.{arith}
 use lib.Dec.{eqb}
 use borrow.Author.Tests.{eqb-true}
-use lib.ListN.{length}
+use lib.ListN.{length, set}
+use lib.Seq.{getD-set-other}
 use Rattle.model.specs.declared.Written.{Written}
 use Rattle.model.specs.declared.Written.the-variants.{Done, Refused}
-use Rattle.model.specs.Table.{Words, emptyOf}
+use Rattle.model.specs.Table.{MARK, Words, nodes, nodeStart, empty, emptyOf}
 use Rattle.model.specs.Slots.{Slot}
 use Rattle.model.specs.Orders.{Store, Order, apply, orders, barred, storeCount, flushCount, barrierCount, listWith, carryNumber, carriedOut}
 use Rattle.model.specs.Cuts.{CutImage}
-use Rattle.model.specs.Refusals.{unlessRefused, writtenNumber, ordersAnswered, ordersOf, refusal, written, tableAfter, listAfter}
-use Rattle.model.specs.Ledger.{fedOf, End, cutAfter, taken, change, Ledger, noPairs, listIn, answerFrom, lacking, pairsOf, ledgerRefusal, feed}
-use Rattle.model.specs.Demand3.{Fate, whole, cut, State, Event, History, numberOf, answered, listOf, afterFate, step, runAll, FateMay, May, endOf, ledgerAfter, Agrees, Completed, Carried, Keeps, Right, Kept, Demand3}
+use Rattle.model.specs.Refusals.{unlessRefused, writtenNumber, ordersAnswered, ordersOf, seventeenIn, refusal, written, tableAfter, listAfter}
+use Rattle.model.specs.Ledger.{fedOf, End, cutAfter, taken, change, Ledger, noPairs, listIn, answerFrom, lacking, pairsOf, otherSlice, ledgerRefusal, feed}
+use Rattle.model.specs.Sentinels.{sliceNumber, refusalWith, writtenWith, tableWith, searchWith, sentinels}
+use Rattle.model.specs.Demand3.{Fate, whole, cut, State, Event, History, refusalBy, writtenBy, tableBy, ordersBy, numberOf, answered, listOf, leftBy, afterFate, step, runAll}
+use Rattle.model.specs.Demand3.{FateMay, May, endOf, ledgerAfter, Agrees, Completed, Carried, Keeps, StayTrue, Right, Kept, Demand3}
 use Rattle.model.specs.SoundTest.{sound}
 use Rattle.model.specs.Search.{search}
 use Rattle.model.specs.Reached.{Maps, mapsOf}
 use Rattle.model.specs.Writes.{Call, insertion, deletion, classChange, repair, storesOf}
 use Rattle.model.specs.Sound.{Settled}
-use Rattle.cut_laws.proofs.Applying.{counts-length}
+use Rattle.table_laws.proofs.Header.{header-iff}
+use Rattle.cut_laws.proofs.Applying.{counts-length, length-apply}
 use Rattle.cut_laws.proofs.Cuts.{image-is-stores, image-at-none, image-at-all}
 use Rattle.cut_laws.proofs.Lent.{carry-list-number, carry-list-all}
 use Rattle.two_laws.proofs.MapsTwo.{OldOrNew, Steps, accepted-steps}
@@ -34,6 +39,10 @@ use Rattle.two_laws.proofs.SearchTwo.{sound-head}
 use Rattle.two_laws.proofs.SameTwo.{settled-same, settled-sound}
 use Rattle.two_laws.proofs.EmptyTwo.{empty-settled, empty-one-maps, empty-two-maps}
 use Rattle.two_laws.proofs.LedgerTwo.{searched, number-in-ledger, only-twelve, only-eleven, only-ten}
+use Rattle.sentinel_laws.proofs.Slices.{fits, with-accepted, plain-call}
+use Rattle.sentinel_laws.proofs.InLedger.{number-plain, with-in-ledger}
+use Rattle.sentinel_laws.proofs.Searches.{search-as-plain}
+use Rattle.sentinel_laws.proofs.TrueWords.{kept-true}
 
 -- ---- equality of maps is decided
 
@@ -75,27 +84,64 @@ Maps-discrete m n = go (List-discrete Slot-discrete (m .one) (n .one)) (Option-d
 
 -- ---- what an accepted call answers and leaves
 
-module _ (x : Call) (lent : Words) (dock : ℕ) (t : Words) (ok : refusal x (length lent) dock t ≡ 0) where
-  accepted-answer : ordersAnswered (written x (length lent) dock t) ≡ length (ordersOf x dock t)
-  unfolding written
-  accepted-answer = rw ok (counts-length (ordersOf x dock t))
+module _ (x : Call) (lent : Words) (dock : ℕ) (t : Words) where
+  -- as the plain call, which is accepted
+  record AsPlain (o : Option Words) : Type 0 where
+    accepted : refusal x (length lent) dock t ≡ 0
+    answer : writtenBy o x (length lent) dock t ≡ written x (length lent) dock t
+    table : tableBy o x (length lent) dock t ≡ tableAfter x (length lent) dock t
+    list : ordersBy o x lent dock t ≡ listAfter x lent dock t
 
-  accepted-table : tableAfter x (length lent) dock t ≡ apply (storesOf x t) t
-  unfolding tableAfter
-  accepted-table = rw ok
+  as-plain : (o : Option Words) → refusalBy o x (length lent) dock t ≡ 0 → AsPlain o
+  as-plain none ok = record { accepted = ok; answer = refl; table = refl; list = refl }
+  as-plain (some ws) ok =
+      let a = with-accepted x (length ws) (length lent) dock t ok in
+      let p = plain-call x (length ws) lent dock t (fits (seventeenIn x t) (length ws) t (a .0) .long) in
+      record { accepted = a .1; answer = p .answer; table = p .table; list = p .list }
 
-  accepted-list : listAfter x lent dock t ≡ listWith (ordersOf x dock t) lent
-  unfolding listAfter
-  accepted-list = rw ok
+  module _ (o : Option Words) (p : AsPlain o) where
+    accepted-answer : ordersAnswered (writtenBy o x (length lent) dock t) ≡ length (ordersOf x dock t)
+    unfolding written
+    accepted-answer = ap ordersAnswered (p .answer) ∙ rw (p .accepted) (counts-length (ordersOf x dock t))
+
+    accepted-table : tableBy o x (length lent) dock t ≡ apply (storesOf x t) t
+    unfolding tableAfter
+    accepted-table = p .table ∙ rw (p .accepted)
+
+    accepted-list : ordersBy o x lent dock t ≡ listWith (ordersOf x dock t) lent
+    unfolding listAfter
+    accepted-list = p .list ∙ rw (p .accepted)
 
 -- a call answers its number
-number-answered : (x : Call) (words dock : ℕ) (t : Words) → writtenNumber (written x words dock t) ≡ refusal x words dock t
+unless-number : (n m : ℕ) (done : Written) → writtenNumber done ≡ m → writtenNumber (unlessRefused n done (Refused n)) ≡ unlessRefused n m n
+unless-number zero m done e = e
+unless-number (suc n) m done e = refl
+
+plain-answered : (x : Call) (words dock : ℕ) (t : Words) → writtenNumber (written x words dock t) ≡ refusal x words dock t
 unfolding written
-number-answered x words dock t = let os = ordersOf x dock t in go (refusal x words dock t) (Done (storeCount os) (flushCount os) (barrierCount os)) refl
+plain-answered x words dock t =
+    let os = ordersOf x dock t in unless-number (refusal x words dock t) 0 (Done (storeCount os) (flushCount os) (barrierCount os)) refl ∙ itself (refusal x words dock t)
   where
-    go : (n : ℕ) (done : Written) → writtenNumber done ≡ 0 → writtenNumber (unlessRefused n done (Refused n)) ≡ n
-    go zero done e = e
-    go (suc n) done e = refl
+    itself : (n : ℕ) → unlessRefused n 0 n ≡ n
+    itself zero = refl
+    itself (suc n) = refl
+
+number-answered : (o : Option Words) (x : Call) (words dock : ℕ) (t : Words) → writtenNumber (writtenBy o x words dock t) ≡ refusalBy o x words dock t
+unfolding writtenWith refusalWith
+number-answered none x words dock t = plain-answered x words dock t
+number-answered (some ws) x words dock t =
+    unless-number (sliceNumber (seventeenIn x t) (length ws) t) (refusal x words dock t) (written x words dock t) (plain-answered x words dock t)
+
+-- 10, 11 and 12 are the plain call's
+same-plain : (o : Option Words) (x : Call) (words dock : ℕ) (t : Words) (k : ℕ) → k ≢ 2 → k ≢ 17 → k ≢ 19 → refusalBy o x words dock t ≡ k → refusal x words dock t ≡ k
+same-plain none x words dock t k a b c e = e
+same-plain (some ws) x words dock t k a b c e = number-plain x (length ws) words dock t k a b c e
+
+-- the same number as in the ledger
+in-ledger : (o : Option Words) (x : Call) (words dock : ℕ) (t : Words) → sound t ≡ true
+    → refusalBy o x words dock t ≡ ledgerRefusal x (otherSlice (nodes t) o) words dock (fedOf (refusalBy o x words dock t)) (mapsOf t)
+in-ledger none x words dock t s = number-in-ledger x words dock t s
+in-ledger (some ws) x words dock t s = with-in-ledger x (length ws) words dock t s
 
 pub unless-refused : {A B : Type 0} (R : A → B → Type 0) (n : ℕ) (new old : A) (new′ old′ : B) → (n ≡ 0 → R new new′) → R old old′
     → R (unlessRefused n new old) (unlessRefused n new′ old′)
@@ -103,9 +149,9 @@ unless-refused R zero new old new′ old′ f h = f refl
 unless-refused R (suc n) new old new′ old′ f h = h
 
 -- a repair moves nothing in the ledger, so it keeps the map
-repair-feeds : (words dock fed : ℕ) (end : End) (choice : Bool) (ps : Ledger) → feed repair words dock fed end choice ps ≡ ps
+repair-feeds : (other : Bool) (words dock fed : ℕ) (end : End) (choice : Bool) (ps : Ledger) → feed repair other words dock fed end choice ps ≡ ps
 unfolding feed
-repair-feeds words dock fed end choice ps = go (ledgerRefusal repair words dock fed ps) (taken end choice)
+repair-feeds other words dock fed end choice ps = go (ledgerRefusal repair other words dock fed ps) (taken end choice)
   where
     go : (n : ℕ) (b : Bool) → unlessRefused n (cond b ps ps) ps ≡ ps
     go zero true = refl
@@ -123,24 +169,34 @@ choose n N [] = false
 choose n N (e ∷ h) = chosen (e .fate) (change (e .call) (mapsOf (runAll n N h .working)))
 
 -- what is kept along a history
-record Inv (s : State) (ps : Ledger) : Type 0 where
+record Inv (N : ℕ) (s : State) (ps : Ledger) : Type 0 where
   both : s .memory ≡ s .working
   fine : sound (s .working) ≡ true
+  size : nodes (s .working) ≡ N
   maps : mapsOf (s .working) ≡ ps
 
-map-kept : (x : Call) (s s′ : State) (words dock fed : ℕ) (end : End) (choice : Bool) (ps : Ledger) → Inv s ps → Inv s′ (feed x words dock fed end choice ps) → Keeps x s s′
-map-kept (insertion n k r c) s s′ words dock fed end choice ps a b = tt
-map-kept (deletion n k) s s′ words dock fed end choice ps a b = tt
-map-kept (classChange n k c) s s′ words dock fed end choice ps a b = tt
-map-kept repair s s′ words dock fed end choice ps a b =
-    let q : mapsOf (s′ .working) ≡ mapsOf (s .working) = b .maps ∙ repair-feeds words dock fed end choice ps ∙ sym (a .maps) in
+map-kept : (N : ℕ) (x : Call) (s s′ : State) (other : Bool) (words dock fed : ℕ) (end : End) (choice : Bool) (ps : Ledger)
+    → Inv N s ps → Inv N s′ (feed x other words dock fed end choice ps) → Keeps x s s′
+map-kept N (insertion n k r c) s s′ other words dock fed end choice ps a b = tt
+map-kept N (deletion n k) s s′ other words dock fed end choice ps a b = tt
+map-kept N (classChange n k c) s s′ other words dock fed end choice ps a b = tt
+map-kept N repair s s′ other words dock fed end choice ps a b =
+    let q : mapsOf (s′ .working) ≡ mapsOf (s .working) = b .maps ∙ repair-feeds other words dock fed end choice ps ∙ sym (a .maps) in
     (rw (a .both, b .both) q, q)
 
-agrees : (s : State) (ps : Ledger) → Inv s ps → Agrees s ps
-agrees s ps v = record { in-memory = λ n k. rw (v .both) (answer n k); in-working = answer }
+agrees : (N : ℕ) (s : State) (ps : Ledger) → Inv N s ps → Agrees N s ps
+agrees N s ps v =
+    record { in-memory = λ n k. rw (v .both) (answer n k); in-working = answer; with-words = λ n k ws l. (rw (v .both) (by-words n k ws l), by-words n k ws l) }
   where
     answer : (n k : ℕ) → search n (s .working) k ≡ answerFrom k (listIn n ps)
     answer n k = searched n (s .working) k (v .fine) ∙ ap (λ (m : Ledger). answerFrom k (listIn n m)) (v .maps)
+
+    by-words : (n k : ℕ) (ws : Words) → length ws ≡ 3 * N → searchWith n ws (s .working) k ≡ answerFrom k (listIn n ps)
+    by-words n k ws l = search-as-plain n ws (s .working) k (v .fine) (l ∙ ap (λ (m : ℕ). 3 * m) (sym (v .size))) ∙ answer n k
+
+-- a sound table's nodes go by its length
+same-nodes : (t u : Words) → sound t ≡ true → sound u ≡ true → length u ≡ length t → nodes u ≡ nodes t
+same-nodes t u s s′ e = omega (arith, header-iff t .0 (sound-head t s) .size .long, header-iff u .0 (sound-head u s′) .size .long, e)
 
 -- ---- an accepted call on a sound table, in memory and as the working copy
 
@@ -167,22 +223,28 @@ module _ (s : State) (e : Event) (both : s .memory ≡ s .working) (fine : sound
   abbrev os : List Order
   os = barred (e .dock) (orders ss)
 
+  plain : AsPlain x (e .lent) dock t (e .slice)
+  plain = as-plain x (e .lent) dock t (e .slice) ok
+
   steps : Steps x t
-  steps = accepted-steps x (length (e .lent)) dock t fine ok
+  steps = accepted-steps x (length (e .lent)) dock t fine (plain .accepted)
 
   answered-all : answered s e ≡ length os
-  answered-all = accepted-answer x (e .lent) dock t ok
+  answered-all = accepted-answer x (e .lent) dock t (e .slice) plain
 
   -- the carry-out of all orders answered, with the lent list as the call left it
   carried-whole : (carryNumber (answered s e) (listOf s e) (s .memory) ≡ 0) × (carriedOut (answered s e) (listOf s e) (s .memory) ≡ apply ss t)
   carried-whole =
       let h = sound-head t fine in
       let i = steps .stores-inside in
-      rw (answered-all, accepted-list x (e .lent) dock t ok, both) (carry-list-number dock ss (e .lent) t h i _ (le-refl _), carry-list-all dock ss (e .lent) t h i)
+      rw (answered-all, accepted-list x (e .lent) dock t (e .slice) plain, both) (carry-list-number dock ss (e .lent) t h i _ (le-refl _), carry-list-all dock ss (e .lent) t h i)
 
   -- an image that a cut may leave
   image-part : (c : ℕ) (m : Words) → CutImage dock c (s .memory) os m → (sound m ≡ true) × OldOrNew x t m
   image-part c m i = let p = image-is-stores dock ss t c m (rw both at i) in rw (p .2) (steps .part-sound (p .0), steps .part-map (p .0))
+
+  image-long : (c : ℕ) (m : Words) → CutImage dock c (s .memory) os m → length m ≡ length t
+  image-long c m i = let p = image-is-stores dock ss t c m (rw both at i) in rw (p .2) (length-apply _ t)
 
   image-all : (c : ℕ) (m : Words) → CutImage dock c (s .memory) os m → c ≡ length os → m ≡ apply ss t
   image-all c m i q = image-at-all dock ss t (length os) m (le-refl _) (rw (both, q) at i)
@@ -198,15 +260,24 @@ module _ (s : State) (e : Event) (both : s .memory ≡ s .working) (fine : sound
       go false q = decided old new (mapsOf m) (Maps-discrete (mapsOf m) new) (image-part (suc c) m i .1)
 
   abbrev left : Words
-  left = tableAfter x (length (e .lent)) dock t
+  left = leftBy s e
 
   left-all : left ≡ apply ss t
-  left-all = accepted-table x (e .lent) dock t ok
+  left-all = accepted-table x (e .lent) dock t (e .slice) plain
 
-  fate-inv : (f : Fate) → FateMay f s e → Inv (afterFate f s e) (cond (taken (endOf f s e) (chosen f new)) new old)
-  fate-inv whole p =
-      record { both = carried-whole .1 ∙ sym left-all; fine = rw left-all (settled-sound _ (steps .all-settled)); maps = rw left-all (steps .all-map) }
-  fate-inv (cut c m) p = record { both = refl; fine = image-part c m (p .1) .0; maps = image-map c m (p .1) }
+  left-sound : sound left ≡ true
+  left-sound = rw left-all (settled-sound _ (steps .all-settled))
+
+  fate-inv : (N : ℕ) → nodes t ≡ N → (f : Fate) → FateMay f s e → Inv N (afterFate f s e) (cond (taken (endOf f s e) (chosen f new)) new old)
+  fate-inv N size whole p =
+      record {
+        both = carried-whole .1 ∙ sym left-all;
+        fine = left-sound;
+        size = same-nodes t left fine left-sound (ap length left-all ∙ length-apply ss t) ∙ size;
+        maps = rw left-all (steps .all-map);
+      }
+  fate-inv N size (cut c m) p =
+      let q = image-part c m (p .1) .0 in record { both = refl; fine = q; size = same-nodes t m fine q (image-long c m (p .1)) ∙ size; maps = image-map c m (p .1) }
 
   -- completed: memory is the working copy that the call left, and so is the working copy after it
   fate-completed : (f : Fate) → FateMay f s e → Completed f s e → (afterFate f s e .memory ≡ left) × (afterFate f s e .working ≡ left)
@@ -220,26 +291,30 @@ module _ (s : State) (e : Event) (both : s .memory ≡ s .working) (fine : sound
   fate-carried whole = carried-whole .0
   fate-carried (cut c m) = tt
 
+-- sentinels that it takes
+true-words : (o : Option Words) (x : Call) (words dock : ℕ) (t : Words) → StayTrue o x words dock t
+true-words none x words dock t = tt
+true-words (some ws) x words dock t = kept-true x ws words dock t
+
 -- ---- one event
 
-module _ (s : State) (e : Event) (ps : Ledger) (v : Inv s ps) (p : numberOf s e ≡ 0 → FateMay (e .fate) s e) where
+module _ (N : ℕ) (s : State) (e : Event) (ps : Ledger) (v : Inv N s ps) (p : numberOf s e ≡ 0 → FateMay (e .fate) s e) where
   abbrev choice : Bool
   choice = chosen (e .fate) (change (e .call) (mapsOf (s .working)))
 
-  same-number : numberOf s e ≡ ledgerRefusal (e .call) (length (e .lent)) (e .dock) (fedOf (numberOf s e)) ps
+  same-number : numberOf s e ≡ ledgerRefusal (e .call) (otherSlice N (e .slice)) (length (e .lent)) (e .dock) (fedOf (numberOf s e)) ps
   same-number =
-      rw (v .maps) at (number-in-ledger (e .call) (length (e .lent)) (e .dock) (s .working) (v .fine))
+      rw (v .maps, v .size) at (in-ledger (e .slice) (e .call) (length (e .lent)) (e .dock) (s .working) (v .fine))
 
   abbrev after : Ledger
-  after = feed (e .call) (length (e .lent)) (e .dock) (fedOf (numberOf s e)) (endOf (e .fate) s e) choice ps
+  after = feed (e .call) (otherSlice N (e .slice)) (length (e .lent)) (e .dock) (fedOf (numberOf s e)) (endOf (e .fate) s e) choice ps
 
-  step-inv : Inv (step s e) after
+  step-inv : Inv N (step s e) after
   unfolding step feed
-  step-inv = rw (← same-number) (unless-refused Inv (numberOf s e) _ s _ ps
-      (λ ok. rw (← (v .maps)) (fate-inv s e (v .both) (v .fine) ok (e .fate) (p ok))) v)
+  step-inv = rw (← same-number) (unless-refused (Inv N) (numberOf s e) _ s _ ps
+      (λ ok. rw (← (v .maps)) (fate-inv s e (v .both) (v .fine) ok N (v .size) (e .fate) (p ok))) v)
 
-  step-completed : numberOf s e ≡ 0 → Completed (e .fate) s e
-      → (let left = tableAfter (e .call) (length (e .lent)) (e .dock) (s .working) in (step s e .memory ≡ left) × (step s e .working ≡ left))
+  step-completed : numberOf s e ≡ 0 → Completed (e .fate) s e → (step s e .memory ≡ leftBy s e) × (step s e .working ≡ leftBy s e)
   unfolding step
   step-completed ok d = rw ok (fate-completed s e (v .both) (v .fine) ok (e .fate) (p ok) d)
 
@@ -247,19 +322,23 @@ module _ (s : State) (e : Event) (ps : Ledger) (v : Inv s ps) (p : numberOf s e 
   step-settled ok d = let (a, b) = step-completed ok d in let q = left-settled s e (v .both) (v .fine) ok in (rw a q, rw b q)
 
   step-keeps : Keeps (e .call) s (step s e)
-  step-keeps = map-kept (e .call) s (step s e) (length (e .lent)) (e .dock) _ _ choice ps v step-inv
+  step-keeps = map-kept N (e .call) s (step s e) (otherSlice N (e .slice)) (length (e .lent)) (e .dock) _ _ choice ps v step-inv
 
-  step-right : Right e s (step s e) ps
+  plain-number : (k : ℕ) → k ≢ 2 → k ≢ 17 → k ≢ 19 → numberOf s e ≡ k → refusal (e .call) (length (e .lent)) (e .dock) (s .working) ≡ k
+  plain-number = same-plain (e .slice) (e .call) (length (e .lent)) (e .dock) (s .working)
+
+  step-right : Right N e s (step s e) ps
   step-right = record {
     same-number = same-number;
-    answers-it = number-answered (e .call) (length (e .lent)) (e .dock) (s .working);
-    ten-only = only-ten (e .call) (length (e .lent)) (e .dock) (s .working) (v .fine);
-    eleven-only = only-eleven (e .call) (length (e .lent)) (e .dock) (s .working) (v .fine);
-    twelve-only = only-twelve (e .call) (length (e .lent)) (e .dock) (s .working) (v .fine);
+    answers-it = number-answered (e .slice) (e .call) (length (e .lent)) (e .dock) (s .working);
+    ten-only = λ q. only-ten (e .call) (length (e .lent)) (e .dock) (s .working) (v .fine) (plain-number 10 (omega arith) (omega arith) (omega arith) q);
+    eleven-only = λ q. only-eleven (e .call) (length (e .lent)) (e .dock) (s .working) (v .fine) (plain-number 11 (omega arith) (omega arith) (omega arith) q);
+    twelve-only = λ q. only-twelve (e .call) (length (e .lent)) (e .dock) (s .working) (v .fine) (plain-number 12 (omega arith) (omega arith) (omega arith) q);
     carried = λ ok. fate-carried s e (v .both) (v .fine) ok (e .fate);
     equal = step-completed;
     finished = step-settled;
     repair-keeps = step-keeps;
+    stay-true = true-words (e .slice) (e .call) (length (e .lent)) (e .dock) (s .working);
   }
 
 -- ---- all histories
@@ -269,16 +348,22 @@ module _ (n N : ℕ) (kind : (n ≡ 1) ⊎ (n ≡ 2)) (low : n ≤ N) (high : N 
   start-maps (inl e) = rw e (empty-one-maps N (omega arith) high)
   start-maps (inr e) = rw e (empty-two-maps N (omega arith) high)
 
-  inv : (h : History) → May n N h → Inv (runAll n N h) (ledgerAfter (choose n N) n N h)
+  start-nodes : (n ≡ 1) ⊎ (n ≡ 2) → nodes (emptyOf n N) ≡ N
+  unfolding emptyOf empty nodeStart
+  start-nodes (inl e) = rw e
+  start-nodes (inr e) = rw e (getD-set-other (set (empty N) 3 2) (nodeStart 2) 2 MARK 0 (omega arith) ∙ getD-set-other (empty N) 3 2 2 0 (omega arith))
+
+  inv : (h : History) → May n N h → Inv N (runAll n N h) (ledgerAfter (choose n N) n N h)
   unfolding runAll ledgerAfter May choose
-  inv [] p = record { both = refl; fine = settled-sound _ (empty-settled n N kind low high); maps = start-maps kind }
-  inv (e ∷ h) p = step-inv (runAll n N h) e (ledgerAfter (choose n N) n N h) (inv h (p .0)) (p .1)
+  inv [] p = record { both = refl; fine = settled-sound _ (empty-settled n N kind low high); size = start-nodes kind; maps = start-maps kind }
+  inv (e ∷ h) p = step-inv N (runAll n N h) e (ledgerAfter (choose n N) n N h) (inv h (p .0)) (p .1)
 
   kept : (h : History) → May n N h → Kept (choose n N) n N h
   unfolding runAll May
-  kept [] p = agrees _ _ (inv [] p)
-  kept (e ∷ h) p = (agrees _ _ (inv (e ∷ h) p), step-right (runAll n N h) e (ledgerAfter (choose n N) n N h) (inv h (p .0)) (p .1))
+  kept [] p = agrees N _ _ (inv [] p)
+  kept (e ∷ h) p = (agrees N _ _ (inv (e ∷ h) p), step-right N (runAll n N h) e (ledgerAfter (choose n N) n N h) (inv h (p .0)) (p .1))
 
--- For one collection or two, every N and every sequence of insertions, deletions, class changes and repairs, whole or cut, each on its dock.
+-- For one collection or two, every N and every sequence of insertions, deletions, class changes and repairs, whole or cut, each on its dock,
+-- with sentinels or without.
 pub demand3 : Demand3
 demand3 n N kind low high = (choose n N, kept n N kind low high)

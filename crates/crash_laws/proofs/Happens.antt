@@ -4,6 +4,7 @@ use mathlib.Core.Path.{_≡_, refl}
 use mathlib.Core.Logic.{inl}
 use mathlib.Core.Bool.{Bool, true, false}
 use mathlib.Core.List.{List, [], _∷_}
+use mathlib.Core.Option.{none}
 use Prim.Native.Nat.{ℕ, _≤_}
 use native.Mathlib.Omega.{arith}
 use lib.ListN.{length, take, replicate}
@@ -22,7 +23,7 @@ use Rattle.crash_laws.proofs.Demand3.{demand3}
 
 -- a call with an order list of 2,560 words for dock 0, and its fate
 abbrev pub event : Call → Fate → Event
-event x f = record { call = x; lent = replicate 2560 0; dock = 0; fate = f }
+event x f = record { call = x; lent = replicate 2560 0; dock = 0; slice = none; fate = f }
 
 abbrev pub inserted : History
 inserted = event (insertion 1 20 102 1) whole ∷ []

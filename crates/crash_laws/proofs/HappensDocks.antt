@@ -4,6 +4,7 @@ use mathlib.Core.Path.{_≡_, refl}
 use mathlib.Core.Logic.{inl}
 use mathlib.Core.Bool.{Bool, true, false}
 use mathlib.Core.List.{List, [], _∷_}
+use mathlib.Core.Option.{none}
 use Prim.Native.Nat.{ℕ, _≤_}
 use native.Mathlib.Omega.{arith}
 use lib.ListN.{length, take, replicate}
@@ -24,7 +25,7 @@ use Rattle.crash_laws.proofs.Demand3.{demand3}
 
 -- a call with an order list of 5,120 words for a dock, and its fate
 abbrev on : (dock : ℕ) → Call → Fate → Event
-on dock x f = record { call = x; lent = replicate 5120 0; dock = dock; fate = f }
+on dock x f = record { call = x; lent = replicate 5120 0; dock = dock; slice = none; fate = f }
 
 abbrev inserted : History
 inserted = on 1 (insertion 1 20 102 1) whole ∷ []

@@ -4,4 +4,5 @@ pub mod Images
 pub mod Happens
 pub mod HappensTwo
 pub mod HappensDocks
+pub mod HappensSentinels
 pub mod Drawings

@@ -16,6 +16,7 @@ use Rattle.model.specs.Demand3
 use Rattle.model.specs.Printer
 use Rattle.model.specs.Packing
 use Rattle.model.specs.Salvage
+use Rattle.model.specs.Sentinels
 
 unfoldable pub everything : Unit {0}
 unfolding Codes.isDigit Codes.isLetter Codes.isLetterOrDigit Codes.every Codes.isCode Codes.value Codes.readOn Codes.number Codes.keyOf Codes.parse Codes.character
@@ -51,4 +52,7 @@ unfolding Codes.isDigit Codes.isLetter Codes.isLetterOrDigit Codes.every Codes.i
     Salvage.shownAt Salvage.underFence Salvage.followed Salvage.meetings Salvage.mayEnter Salvage.order Salvage.enteredFrom Salvage.entered Salvage.outOfRange
     Salvage.reasonFor Salvage.gatherSlot Salvage.gatherSlots Salvage.collected Salvage.gatherNodes Salvage.gatheredAlong Salvage.gathered Salvage.keptMaps
     Salvage.droppedAll Salvage.dropWords Salvage.outgrows Salvage.salvageNumber Salvage.salvage Salvage.salvageOut Salvage.salvageReport
+    Sentinels.shownOn Sentinels.leavesAll Sentinels.sentinelsOf Sentinels.sentinels Sentinels.sliceNumber Sentinels.workNumber Sentinels.workOut
+    Sentinels.workedOut Sentinels.lineFor Sentinels.leafFrom Sentinels.searchWith Sentinels.refusalWith Sentinels.writtenWith Sentinels.tableWith
+    Sentinels.ordersWith Sentinels.storedTo Sentinels.setAnew Sentinels.sentinelsWith
 everything = tt

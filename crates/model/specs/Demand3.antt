@@ -1,12 +1,14 @@
 -- Demand 3 as one claim over all sequences of insertions, deletions, class changes and repairs, of one collection or two, whole or cut, each
--- for dock 0 or dock 1.
+-- for dock 0 or dock 1, with sentinels or without.
 use mathlib.Core.Path.{_≡_}
 use mathlib.Core.Logic.{_⊎_}
 use mathlib.Core.Bool.{Bool, true}
 use mathlib.Core.List.{List, [], _∷_}
-use Prim.Native.Nat.{ℕ, _≤_}
+use mathlib.Core.Option.{Option, none, some}
+use Prim.Native.Nat.{ℕ, _*_, _≤_}
 use lib.Dec.{eqb}
 use lib.ListN.{length}
+use Rattle.model.specs.declared.Written.{Written}
 use Rattle.model.specs.Table.{Words, emptyOf}
 use Rattle.model.specs.Search.{search}
 use Rattle.model.specs.Reached.{mapsOf}
@@ -16,7 +18,8 @@ use Rattle.model.specs.Cuts.{CutImage}
 use Rattle.model.specs.Writes.{Call, insertion, deletion, classChange, repair, repaired}
 use Rattle.model.specs.Refusals.{parentFull, elevenIn, tenIn, refusal, unlessRefused}
 use Rattle.model.specs.Refusals.{ordersOf, written, writtenNumber, ordersAnswered, tableAfter, listAfter}
-use Rattle.model.specs.Ledger.{Ledger, noPairs, listIn, answerFrom, fedOf, ledgerRefusal, End, completed, cutAfter, feed}
+use Rattle.model.specs.Sentinels.{sentinels, searchWith, refusalWith, writtenWith, tableWith, ordersWith, sentinelsWith}
+use Rattle.model.specs.Ledger.{Ledger, noPairs, listIn, answerFrom, fedOf, otherSlice, ledgerRefusal, End, completed, cutAfter, feed}
 
 -- ---- events and histories
 
@@ -25,11 +28,12 @@ pub data Fate : Type 0 where
   whole : Fate
   cut : (c : ℕ) → (m : Words) → Fate
 
--- a call, the order list as it was lent, the dock, and its fate
+-- a call, the order list as it was lent, the dock, the sentinels as they were lent if it takes them, and its fate
 pub record Event : Type 0 where
   pub call : Call
   pub lent : Words
   pub dock : ℕ
+  pub slice : Option Words
   pub fate : Fate
 
 -- the latest event first: the tail of a history is the history before it
@@ -41,26 +45,47 @@ pub record State : Type 0 where
   pub memory : Words
   pub working : Words
 
+-- number and answer of the plain call, or of the one with these sentinels; the table and the order list that it leaves
+abbrev pub refusalBy : Option Words → Call → (words dock : ℕ) → Words → ℕ
+refusalBy none x words dock t = refusal x words dock t
+refusalBy (some ws) x words dock t = refusalWith x (length ws) words dock t
+
+abbrev pub writtenBy : Option Words → Call → (words dock : ℕ) → Words → Written
+writtenBy none x words dock t = written x words dock t
+writtenBy (some ws) x words dock t = writtenWith x (length ws) words dock t
+
+abbrev pub tableBy : Option Words → Call → (words dock : ℕ) → Words → Words
+tableBy none x words dock t = tableAfter x words dock t
+tableBy (some ws) x words dock t = tableWith x (length ws) words dock t
+
+abbrev pub ordersBy : Option Words → Call → (lent : Words) → (dock : ℕ) → Words → Words
+ordersBy none x lent dock t = listAfter x lent dock t
+ordersBy (some ws) x lent dock t = ordersWith x (length ws) lent dock t
+
 -- the number that the call answers, and its orders where it is accepted
 abbrev pub numberOf : State → Event → ℕ
-numberOf s e = refusal (e .call) (length (e .lent)) (e .dock) (s .working)
+numberOf s e = refusalBy (e .slice) (e .call) (length (e .lent)) (e .dock) (s .working)
 
 abbrev pub eventOrders : State → Event → List Order
 eventOrders s e = ordersOf (e .call) (e .dock) (s .working)
 
 -- the orders that the call answered, and the lent list after the call
 abbrev pub answered : State → Event → ℕ
-answered s e = ordersAnswered (written (e .call) (length (e .lent)) (e .dock) (s .working))
+answered s e = ordersAnswered (writtenBy (e .slice) (e .call) (length (e .lent)) (e .dock) (s .working))
 
 abbrev pub listOf : State → Event → Words
-listOf s e = listAfter (e .call) (e .lent) (e .dock) (s .working)
+listOf s e = ordersBy (e .slice) (e .call) (e .lent) (e .dock) (s .working)
+
+-- the table that it leaves
+abbrev pub leftBy : State → Event → Words
+leftBy s e = tableBy (e .slice) (e .call) (length (e .lent)) (e .dock) (s .working)
 
 -- Whole: memory is what the carry-out call makes of it with the lent list and the orders answered. Cut: memory is m, reloaded.
 abbrev pub afterFate : Fate → State → Event → State
 afterFate whole s e =
     record {
       memory = carriedOut (answered s e) (listOf s e) (s .memory);
-      working = tableAfter (e .call) (length (e .lent)) (e .dock) (s .working);
+      working = leftBy s e;
     }
 afterFate (cut c m) s e = record { memory = m; working = m }
 
@@ -93,15 +118,18 @@ unfoldable pub ledgerAfter : (choose : History → Bool) → (n N : ℕ) → His
 ledgerAfter choose n N [] = noPairs n
 ledgerAfter choose n N (e ∷ h) =
     let s = runAll n N h in
-    feed (e .call) (length (e .lent)) (e .dock) (fedOf (numberOf s e)) (endOf (e .fate) s e) (choose (e ∷ h)) (ledgerAfter choose n N h)
+    feed (e .call) (otherSlice N (e .slice)) (length (e .lent)) (e .dock) (fedOf (numberOf s e)) (endOf (e .fate) s e) (choose (e ∷ h))
+        (ledgerAfter choose n N h)
 
 -- ---- what holds at the start and after each event
 
 -- every search of every collection, in memory and in the working copy, answers as the ledger: found with its recording and class, absent
--- exactly if its list has none, 17 exactly if it has no list
-pub record Agrees (s : State) (ps : Ledger) : Type 0 where
+-- exactly if its list has none, 17 exactly if it has no list; so does one that takes sentinels, whatever words they are
+pub record Agrees (N : ℕ) (s : State) (ps : Ledger) : Type 0 where
   pub in-memory : (n k : ℕ) → search n (s .memory) k ≡ answerFrom k (listIn n ps)
   pub in-working : (n k : ℕ) → search n (s .working) k ≡ answerFrom k (listIn n ps)
+  pub with-words : (n k : ℕ) → (ws : Words) → length ws ≡ 3 * N
+      → (searchWith n ws (s .memory) k ≡ answerFrom k (listIn n ps)) × (searchWith n ws (s .working) k ≡ answerFrom k (listIn n ps))
 
 -- all of the call's orders were carried out
 abbrev pub Completed : Fate → State → Event → Type 0
@@ -119,26 +147,32 @@ Keeps (deletion n k) s s′ = Unit {0}
 Keeps (classChange n k c) s s′ = Unit {0}
 Keeps repair s s′ = (mapsOf (s′ .memory) ≡ mapsOf (s .memory)) × (mapsOf (s′ .working) ≡ mapsOf (s .working))
 
+-- sentinels that a call takes: where they were true they are true after it
+abbrev pub StayTrue : Option Words → Call → (words dock : ℕ) → Words → Type 0
+StayTrue none x words dock t = Unit {0}
+StayTrue (some ws) x words dock t =
+    refusalWith x (length ws) words dock t ≡ 0 → ws ≡ sentinels t → sentinelsWith x ws words dock t ≡ sentinels (tableWith x (length ws) words dock t)
+
 -- of the event e that took s to s′, where the ledger was ps
-pub record Right (e : Event) (s s′ : State) (ps : Ledger) : Type 0 where
+pub record Right (N : ℕ) (e : Event) (s s′ : State) (ps : Ledger) : Type 0 where
   -- accepted or refused as in the ledger, with the same number
-  pub same-number : numberOf s e ≡ ledgerRefusal (e .call) (length (e .lent)) (e .dock) (fedOf (numberOf s e)) ps
-  pub answers-it : writtenNumber (written (e .call) (length (e .lent)) (e .dock) (s .working)) ≡ numberOf s e
+  pub same-number : numberOf s e ≡ ledgerRefusal (e .call) (otherSlice N (e .slice)) (length (e .lent)) (e .dock) (fedOf (numberOf s e)) ps
+  pub answers-it : writtenNumber (writtenBy (e .slice) (e .call) (length (e .lent)) (e .dock) (s .working)) ≡ numberOf s e
   -- 10, 11 and 12 only on their conditions
   pub ten-only : numberOf s e ≡ 10 → tenIn (e .call) (repaired (s .working)) ≡ true
   pub eleven-only : numberOf s e ≡ 11 → elevenIn (e .call) (repaired (s .working)) ≡ true
   pub twelve-only : numberOf s e ≡ 12 → parentFull (s .working) ≡ true
   -- the carry-out of a whole list is not refused; a completed list leaves memory equal to the working copy, and nothing unfinished
   pub carried : numberOf s e ≡ 0 → Carried (e .fate) s e
-  pub equal : numberOf s e ≡ 0 → Completed (e .fate) s e
-      → (let left = tableAfter (e .call) (length (e .lent)) (e .dock) (s .working) in (s′ .memory ≡ left) × (s′ .working ≡ left))
+  pub equal : numberOf s e ≡ 0 → Completed (e .fate) s e → (s′ .memory ≡ leftBy s e) × (s′ .working ≡ leftBy s e)
   pub finished : numberOf s e ≡ 0 → Completed (e .fate) s e → Settled (s′ .memory) × Settled (s′ .working)
   pub repair-keeps : Keeps (e .call) s s′
+  pub stay-true : StayTrue (e .slice) (e .call) (length (e .lent)) (e .dock) (s .working)
 
 abbrev pub Kept : (choose : History → Bool) → (n N : ℕ) → History → Type 0
-Kept choose n N [] = Agrees (runAll n N []) (ledgerAfter choose n N [])
+Kept choose n N [] = Agrees N (runAll n N []) (ledgerAfter choose n N [])
 Kept choose n N (e ∷ h) =
-    Agrees (runAll n N (e ∷ h)) (ledgerAfter choose n N (e ∷ h)) × Right e (runAll n N h) (runAll n N (e ∷ h)) (ledgerAfter choose n N h)
+    Agrees N (runAll n N (e ∷ h)) (ledgerAfter choose n N (e ∷ h)) × Right N e (runAll n N h) (runAll n N (e ∷ h)) (ledgerAfter choose n N h)
 
 -- Demand 3: for one collection or two and every N that making takes there is a way to take or omit the cut changes such that, after every
 -- history that may happen, all of it holds.

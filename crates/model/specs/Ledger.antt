@@ -2,10 +2,12 @@
 use mathlib.Core.Bool.{Bool, true, false, cond, not, _||_}
 use mathlib.Core.List.{List, [], _∷_, map}
 use mathlib.Core.Option.{Option, none, some, Option·map}
-use Prim.Native.Nat.{ℕ, zero, suc}
+use Prim.Native.Nat.{ℕ, zero, suc, _*_}
 use lib.Dec.{eqb, ltb}
+use lib.ListN.{length}
 use Rattle.model.specs.declared.Answer.{Answer}
 use Rattle.model.specs.declared.Answer.the-variants.{Refused}
+use Rattle.model.specs.Table.{Words}
 use Rattle.model.specs.Slots.{Slot, slot, pointerOf, withClass}
 use Rattle.model.specs.Search.{lookup}
 use Rattle.model.specs.Reached.{Maps, unlessLacking}
@@ -74,12 +76,18 @@ listFor (deletion n k) m = listIn n m
 listFor (classChange n k c) m = listIn n m
 listFor repair m = some []
 
--- The number that the ledger refuses with: 17 by the collection asked for and those that it has a list of, 18 by the dock, 5 by it and the
--- length of the order list lent, 6, 14, 7, 8, 9 by the arguments and the own list, and a fed 10, 11 or 12 at that number's place.
-unfoldable pub ledgerRefusal : Call → (words dock fed : ℕ) → Ledger → ℕ
-ledgerRefusal x words dock fed m =
+-- sentinels were lent, and not the 3 words a node of a table of N nodes
+abbrev pub otherSlice : (N : ℕ) → Option Words → Bool
+otherSlice N none = false
+otherSlice N (some ws) = not (eqb (length ws) (3 * N))
+
+-- The number that the ledger refuses with: 17 by the collection asked for and those that it has a list of, 19 by the lengths of table and
+-- sentinels, 18 by the dock, 5 by it and the length of the order list lent, 6, 14, 7, 8, 9 by the arguments and the own list, and a fed 10,
+-- 11 or 12 at that number's place.
+unfoldable pub ledgerRefusal : Call → (other : Bool) → (words dock fed : ℕ) → Ledger → ℕ
+ledgerRefusal x other words dock fed m =
     let ps = listFor x m in
-    firstNumber (test (lacking ps) 17 ∷ testsFrom18 x words dock (eqb fed 12) (eqb fed 11) (eqb fed 10) (pairsOf ps))
+    firstNumber (test (lacking ps) 17 ∷ test other 19 ∷ testsFrom18 x words dock (eqb fed 12) (eqb fed 11) (eqb fed 10) (pairsOf ps))
 
 -- what became of an accepted call's orders: all were carried out; or a cut fell after c of them, and that was all of them, or not
 pub data End : Type 0 where
@@ -94,5 +102,5 @@ taken (cutAfter (suc c) true) choice = true
 taken (cutAfter (suc c) false) choice = choice
 
 -- the ledger after a call
-unfoldable pub feed : Call → (words dock fed : ℕ) → End → (choice : Bool) → Ledger → Ledger
-feed x words dock fed end choice m = unlessRefused (ledgerRefusal x words dock fed m) (cond (taken end choice) (change x m) m) m
+unfoldable pub feed : Call → (other : Bool) → (words dock fed : ℕ) → End → (choice : Bool) → Ledger → Ledger
+feed x other words dock fed end choice m = unlessRefused (ledgerRefusal x other words dock fed m) (cond (taken end choice) (change x m) m) m

@@ -18,3 +18,4 @@ pub mod Demand3
 pub mod Printer
 pub mod Packing
 pub mod Salvage
+pub mod Sentinels

@@ -60,7 +60,7 @@ pub fn is_reached(table: &[u64], root: u64, n: u64) -> bool
 }
 
 // Whether it is reached from either root; without a second collection there is one.
-fn is_taken(table: &[u64], n: u64) -> bool
+pub fn is_taken(table: &[u64], n: u64) -> bool
     requires { ⌜ sound (now table) ≡ true ⌝ }
     ensures { λ r. ⌜ r ≡ elem n (reachedAll (now (table .entry))) ⌝ }
 {

@@ -116,7 +116,7 @@ pub down-read : (t : Words) (m k : ℕ) (x : Node) (r : ℕ) → x ≡ node t m 
 unfolding used
 down-read t m k x r q h = h ∙ ap (λ (y : Node). route k (y .left) (shownFrom (y .left) (y .slots) 0)) q
 
-held-read : (t : Words) (m k : ℕ) (x : Node) (r : ℕ) → x ≡ node t m → r ≡ pointerIn (firstWith k (shownFrom (x .left) (x .slots) 0)) → r ≡ pointerIn (firstWith k (nodeView t m .shown))
+pub held-read : (t : Words) (m k : ℕ) (x : Node) (r : ℕ) → x ≡ node t m → r ≡ pointerIn (firstWith k (shownFrom (x .left) (x .slots) 0)) → r ≡ pointerIn (firstWith k (nodeView t m .shown))
 unfolding used
 held-read t m k x r q h = h ∙ ap (λ (y : Node). pointerIn (firstWith k (shownFrom (y .left) (y .slots) 0))) q
 
@@ -189,11 +189,11 @@ module _ (v : View) (low high n k : ℕ) where
   unfolding locateWithin
   within-low h = rw (lt-leb low (v .node n .level) h)
 
-  within-high : low ≤ v .node n .level → high < v .node n .level → none ≡ locateWithin v low high n k
+  pub within-high : low ≤ v .node n .level → high < v .node n .level → none ≡ locateWithin v low high n k
   unfolding locateWithin
   within-high h g = rw (le-leb low (v .node n .level) h, lt-leb (v .node n .level) high g)
 
-  within-in : low ≤ v .node n .level → v .node n .level ≤ high → locate v (v .node n .level) n k ≡ locateWithin v low high n k
+  pub within-in : low ≤ v .node n .level → v .node n .level ≤ high → locate v (v .node n .level) n k ≡ locateWithin v low high n k
   unfolding locateWithin
   within-in h g = rw (le-leb low (v .node n .level) h, le-leb (v .node n .level) high g)
 
@@ -299,7 +299,7 @@ within-on v low high n k m e = go (leb low (v .node n .level) && leb (v .node n 
     go false e = absurd (Option·none-ne-some m e)
 
 -- no slot in use has pointer 0
-held-answer : (k : ℕ) (ss : List Slot) (x : Answer) → Each (λ (s : Slot). s .pointer ≢ 0) ss → answerHeld (pointerIn (firstWith k ss)) x ≡ answerOf (firstWith k ss) x
+pub held-answer : (k : ℕ) (ss : List Slot) (x : Answer) → Each (λ (s : Slot). s .pointer ≢ 0) ss → answerHeld (pointerIn (firstWith k ss)) x ≡ answerOf (firstWith k ss) x
 unfolding firstWith
 held-answer k [] x h = refl
 held-answer k (s ∷ ss) x h = go (eqb (s .key) k) refl (held-answer k ss x (h .1))
@@ -309,7 +309,7 @@ held-answer k (s ∷ ss) x h = go (eqb (s .key) k) refl (held-answer k ss x (h .
     go true e ih = rw (e, firstWith) (rw (ne-eqb (s .pointer) 0 (h .0)))
     go false e ih = rw (e, firstWith) ih
 
-shown-some : (t : Words) (m : ℕ) → Each (λ (s : Slot). s .pointer ≢ 0) (nodeView t m .shown)
+pub shown-some : (t : Words) (m : ℕ) → Each (λ (s : Slot). s .pointer ≢ 0) (nodeView t m .shown)
 unfolding used
 shown-some t m = each-shown _ _ _ (in-use-some _)
 
@@ -331,7 +331,7 @@ bad-header n t k r x e z q = go (headerOk t) (noCollection n t) refl refl
     go true false h c = let w : numberIn n t ≡ 0 = rw (h, c) in absurd (omega (arith, w, number-none n t r e z h))
 
 -- the leaf come to does not depend on the root that the reading started from
-any-within : (t : Words) (r q low high n k : ℕ) → locateWithin (viewFrom t r) low high n k ≡ locateWithin (viewFrom t q) low high n k
+pub any-within : (t : Words) (r q low high n k : ℕ) → locateWithin (viewFrom t r) low high n k ≡ locateWithin (viewFrom t q) low high n k
 unfolding locateWithin
 any-within t r q low high n k = ap (λ (o : Option ℕ). cond (leb low l && leb l high) o none) (any-locate t r q l n k)
   where
@@ -348,7 +348,7 @@ from-root v k = go (leb (height v) 15) refl
 
 -- what was seen of the leaf come to from root r
 module _ (n : ℕ) (t : Words) (k r : ℕ) (e : r ≡ rootIn n t) (z : r ≢ 0) (s : Stood) (f : s ≡ seenIn (view t) k (locateWithin (view t) 0 15 r k)) where
-  by-root : answerIn (view t) k (locateWithin (view t) 0 15 r k) ≡ search n t k
+  pub by-root : answerIn (view t) k (locateWithin (view t) 0 15 r k) ≡ search n t k
   unfolding search
   by-root =
       let u = root-there n t r e z in
@@ -358,7 +358,7 @@ module _ (n : ℕ) (t : Words) (k r : ℕ) (e : r ≡ rootIn n t) (z : r ≢ 0) 
       ∙ from-root v k ∙ sym (rw (u .0, u .1, search))
 
   -- none, or the one stood on
-  come : (s .node ≡ 0 → locateWithin (view t) 0 15 r k ≡ none) × ((s .node ≡ 0 → ⊥) → locateWithin (view t) 0 15 r k ≡ some (s .node))
+  pub come : (s .node ≡ 0 → locateWithin (view t) 0 15 r k ≡ none) × ((s .node ≡ 0 → ⊥) → locateWithin (view t) 0 15 r k ≡ some (s .node))
   come = go (locateWithin (view t) 0 15 r k) refl f
     where
       go : (o : Option ℕ) → locateWithin (view t) 0 15 r k ≡ o → s ≡ seenIn (view t) k o → (s .node ≡ 0 → o ≡ none) × ((s .node ≡ 0 → ⊥) → o ≡ some (s .node))

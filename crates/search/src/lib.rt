@@ -22,10 +22,10 @@ pub fn down(table: &[u64], m: u64, key: u64) -> u64
 }
 
 // What a search sees of the node that it stands on: its number, the way down, and the pointer of the key's slot, 0 for none.
-struct Stood {
-    node: u64,
-    way: u64,
-    held: u64,
+pub struct Stood {
+    pub node: u64,
+    pub way: u64,
+    pub held: u64,
 }
 
 // Where a test fails.
@@ -40,7 +40,7 @@ fn lost() -> Stood
 }
 
 // Coming to node n, which is read: what is seen of n or, after a move, of its sibling. Each is looked at once, and decides by that look alone.
-fn stand(table: &[u64], n: u64, read: Node, key: u64) -> Stood
+pub fn stand(table: &[u64], n: u64, read: Node, key: u64) -> Stood
     requires { ⌜ headerOk (now table) ≡ true ⌝ }
     requires { ⌜ onLevel (view (now table)) (read .level) n ≡ true ⌝ }
     requires { ⌜ read ≡ node (now table) n ⌝ }
@@ -146,7 +146,7 @@ fn next_from(table: &[u64], leaf: u64, read: Node, key: u64) -> Answer
 }
 
 // The answer from leaf m, with the pointer of the key's slot in it. Only where there is none is the next key looked for, by looks of its own.
-fn answer(table: &[u64], m: u64, held: u64, key: u64) -> Answer
+pub fn answer(table: &[u64], m: u64, held: u64, key: u64) -> Answer
     requires { ⌜ headerOk (now table) ≡ true ⌝ }
     requires { ⌜ onLevel (view (now table)) 0 m ≡ true ⌝ }
     ensures { λ r. ⌜ r ≡ answerHeld held (nextFrom (view (now (table .entry))) (nodes (now (table .entry))) m key) ⌝ }

@@ -216,6 +216,9 @@ module _ (t : Words) (p x : ℕ) (h : Freeable t p x) where
   pub free-fewer : length (reached (view t)) ≡ suc (length (reached (view (apply (freeStores t p x) t))))
   free-fewer = ap length (sym (det .reached)) ∙ gap .fewer ∙ ap (λ (w : View). suc (length (reached w))) (sym seen)
 
+  pub free-others : (n : ℕ) → n ≢ x → elem n (reached (view (apply (freeStores t p x) t))) ≡ elem n (reached (view t))
+  free-others n z = ap (λ (w : View). elem n (reached w)) seen ∙ gap .others n z ∙ ap (elem n) (det .reached)
+
   -- the left neighbour, which the last store is to
   pub neighbour-reached : List·Memᴰ (childBefore (view t) p x) (reached (view t))
   unfolding childBefore

@@ -1,15 +1,17 @@
 -- A new root: every store leaves a settled table with the same map, and the search path grows by the new root.
 use mathlib.Core.Path.{_≡_, refl, ap, sym, _∙_}
 use mathlib.Core.Bool.{true}
+use mathlib.Core.Logic.{_≢_}
 use mathlib.Core.List.{List, [], _∷_, List·Memᴰ, List·Memᴰ·head, List·Memᴰ·tail}
 use Prim.Native.Nat.{ℕ, suc, _≤_, _<_}
 use native.Mathlib.Omega.{arith}
+use borrow.Author.Tests.{ne-eqb}
 use lib.ListN.{length, set}
 use Rattle.model.specs.Table.{Words, root, nodeStart}
 use Rattle.model.specs.Slots.{NodeView, View, nodeView, view, height}
 use Rattle.model.specs.Search.{below}
 use Rattle.model.specs.Reached.{reached, mapping}
-use Rattle.model.specs.SoundTest.{nothing}
+use Rattle.model.specs.SoundTest.{elem, nothing}
 use Rattle.model.specs.Orders.{put, apply, ordersAfter, orders}
 use Rattle.model.specs.Writes.{putAll, nodeWords}
 use Rattle.tree_laws.specs.OneTree.{settledOne, mapOne, rootAtOne, standingOne}
@@ -115,6 +117,11 @@ module _ (t : Words) (s : settledOne t ≡ true) (low : height (view t) < 15) (r
 
   pub root-takes : length (reached (view (apply (rootAtOne t r) t))) ≡ suc (length (reached (view t)))
   root-takes = rw after (ap length reach)
+
+  -- it is reached besides, and of the others the same ones
+  pub root-others : (n : ℕ) → n ≢ r → elem n (reached (view (apply (rootAtOne t r) t))) ≡ elem n (reached (view t))
+  unfolding elem
+  root-others n z = rw after (ap (elem n) reach ∙ rw (ne-eqb n r z))
 
   -- the path to k has the nodes that it had, and above them the new root, which shows nothing
   pub root-standing : (k d : ℕ) → d ≤ height (view t) → standingOne (apply (rootAtOne t r) t) d k ≡ standingOne t d k

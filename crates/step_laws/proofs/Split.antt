@@ -13,7 +13,7 @@ use Rattle.model.specs.Table.{MARK, Words, nodeStart, hasNode}
 use Rattle.model.specs.Slots.{Slot, slot, NodeView, nodeView, View, view, height}
 use Rattle.model.specs.Search.{below}
 use Rattle.model.specs.Reached.{pointers, kept, reached, mapping}
-use Rattle.model.specs.SoundTest.{nothing, missingIn, room}
+use Rattle.model.specs.SoundTest.{elem, nothing, missingIn, room}
 use Rattle.model.specs.Orders.{Store, put, apply, ordersAfter, orders}
 use Rattle.model.specs.Shifts.{pointerWord, lastPointer, placeOf}
 use Rattle.model.specs.Writes.{shiftInAt, putAll, nodeWords, middle, splitWords, split, cutOff, attach}
@@ -37,7 +37,7 @@ use Rattle.tree_laws.proofs.MapLaw.{leaf-pointers}
 use Rattle.cut_laws.proofs.Applying.{apply-append}
 use Rattle.change_laws.proofs.Parts.{all-finished}
 use Rattle.change_laws.proofs.Updates.{update-at, update-off, withShown, withSibling, sibling-change}
-use Rattle.change_laws.proofs.Splice.{splice, mem-splice, length-splice, splice-in}
+use Rattle.change_laws.proofs.Splice.{splice, mem-splice, splice-elem, length-splice, splice-in}
 use Rattle.change_laws.proofs.Cut.{cut-keeps}
 use Rattle.change_laws.proofs.Attach.{attach-settles}
 use Rattle.change_laws.proofs.Parents.{Parent}
@@ -310,6 +310,10 @@ module _ (t : Words) (k l : ℕ) (h : FullNode t k l) (b : ℕ) (f : Free t b) w
   reach =
       ap (λ (x : Words). reached (view x)) same-done ∙ ap reached (attach-seen t₃ p a fine₃) ∙ attach-settles (view t₃) p a (fine₃ .left) .reached
       ∙ ap reached (cut-seen t₂ p a fine₂) ∙ cut-keeps (view t₂) p a (fine₂ .left) .reached ∙ ap reached seen₂ ∙ linked .reached ∙ ap (splice a b) (stays .reached)
+
+  -- B is reached besides, and of the others the same ones
+  pub split-others : (n : ℕ) → n ≢ b → elem n (reached (view (apply (splitInto t l k b) t))) ≡ elem n (reached (view t))
+  split-others n z = ap (elem n) reach ∙ splice-elem a b n (reached v) z
 
   pub split-settled : settledOne (apply (splitInto t l k b) t) ≡ true
   split-settled = split-phase .settles

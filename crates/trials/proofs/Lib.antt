@@ -1,4 +1,4 @@
--- The definitions tried: writes whole and cut, what breaks soundness, single sentences, and those of requests 1, 5 and 6.
+-- The definitions tried: writes whole and cut, what breaks soundness, single sentences, and those of requests 1, 5, 6 and 8.
 pub mod Calls
 pub mod Unsound
 pub mod Sentences
@@ -6,3 +6,4 @@ pub mod NextUp
 pub mod Collections
 pub mod Salvages
 pub mod BothSalvaged
+pub mod SentinelWords

@@ -339,6 +339,19 @@ same-all w ws t t′ r e = by-arr w ws t (λ w ws. reached (seen w t′) ≡ rea
     both : at t 3 ≢ 0 → reached (seen 1 t′) ≡ reached (seen 1 t) → reached (seen 3 t′) ≡ reached (seen 3 t) → reachedAll t′ ≡ reachedAll t
     both z p q = all-two t′ (λ y. z (sym e ∙ y)) ∙ ap (λ (l : List ℕ). l ++ (reached (seen 3 t′) ++ [])) p ∙ ap (λ (l : List ℕ). reached (seen 1 t) ++ (l ++ [])) q ∙ sym (all-two t z)
 
+-- of one node: it is reached from some root as before
+pub others-all : (w : ℕ) (ws : List ℕ) (t t′ : Words) (n : ℕ) → Arr w ws t → Arr w ws t′ → elem n (reached (seen w t′)) ≡ elem n (reached (seen w t)) → taken ws t′ ≡ taken ws t
+    → elem n (reachedAll t′) ≡ elem n (reachedAll t)
+others-all w ws t t′ n r r′ e q =
+    let a = arr-covers w ws t r .split n in
+    let b = rw (e, q) at (arr-covers w ws t′ r′ .split n) in
+    go (elem n (reachedAll t′)) (elem n (reachedAll t)) (λ h. a .1 (b .0 h)) (λ h. b .1 (a .0 h))
+  where
+    go : (x y : Bool) → (x ≡ false → y ≡ false) → (y ≡ false → x ≡ false) → x ≡ y
+    go true true f g = refl
+    go true false f g = g refl
+    go false y f g = sym (f refl)
+
 -- the arrangement stays where word 3 is 0 or not as before
 pub arr-lack : (w : ℕ) (ws : List ℕ) (t t′ : Words) → ((at t′ 3 ≡ 0) ↔ (at t 3 ≡ 0)) → Arr w ws t → Arr w ws t′
 arr-lack w ws t t′ e (inl h) = inl (h .0, (h .1 .0, e .1 (h .1 .1)))

@@ -1,7 +1,7 @@
 -- Deletion in the tree of a collection, beside the other: the pair shifted out, and a leaf that it empties freed.
 use mathlib.Core.Path.{_≡_, refl, ap, sym, _∙_, subst}
 use mathlib.Core.Bool.{Bool, true, false}
-use mathlib.Core.Logic.{_⊎_}
+use mathlib.Core.Logic.{_≢_, _⊎_}
 use mathlib.Core.List.{List, [], _++_, append-nil, List·Memᴰ}
 use mathlib.Core.Option.{some}
 use Prim.Native.Nat.{ℕ, suc, _≤_, _<_}
@@ -28,7 +28,7 @@ use Rattle.cut_laws.proofs.Applying.{apply-append, length-apply}
 use Rattle.step_laws.proofs.Views.{fine-settled, shown-few}
 use Rattle.step_laws.proofs.Standing.{standing-stands}
 use Rattle.step_laws.proofs.LeafShift.{leaf-out-reached}
-use Rattle.step_laws.proofs.Freeing.{Freeable, free-phase, free-unreached, free-fewer, neighbour-reached, free-cut}
+use Rattle.step_laws.proofs.Freeing.{Freeable, free-phase, free-unreached, free-fewer, free-others, neighbour-reached, free-cut}
 use Rattle.step_laws.proofs.Deletion.{Frees, freeable}
 use Rattle.two_laws.proofs.Mask.{mask}
 use Rattle.two_laws.proofs.Masked.{mask-left, mask-fence, mask-shown, mask-reached, mask-leftover, mask-height, mask-standing, mask-shift-out, mask-before, mask-freeing}
@@ -37,7 +37,7 @@ use Rattle.two_laws.proofs.Places.{shift-out-away, put-away}
 use Rattle.two_laws.proofs.TwoLaw.{seen, taken, Tree, Low, Course, long, tree-fine, head-same, stays, taken-same, mask-after, seen-map, phase-course, course-then, course-within}
 use Rattle.two_laws.proofs.Leaf.{leaf-out, out-away}
 use Rattle.two_laws.proofs.SplitTwo.{FreeNode}
-use Rattle.two_laws.proofs.Arrange.{Arr, arr-low, course-arr, unreachable-count, same-all}
+use Rattle.two_laws.proofs.Arrange.{Arr, arr-low, course-arr, others-all, unreachable-count, same-all}
 
 -- ---- an empty leaf freed
 
@@ -97,6 +97,9 @@ module _ (w : ℕ) (ws : List ℕ) (t : Words) (low : Low w ws) (f : Tree w ws t
 
   pub free-two-fewer : length (reached (seen w t)) ≡ suc (length (reached (seen w (apply (freeStores t p x) t))))
   free-two-fewer = ap length (sym (mask-reached (at t w) ns t size)) ∙ free-fewer u p x h ∙ ap (λ (l : List ℕ). suc (length l)) same-reached
+
+  pub free-two-others : (n : ℕ) → n ≢ x → elem n (reached (seen w (apply (freeStores t p x) t))) ≡ elem n (reached (seen w t))
+  free-two-others n z = ap (elem n) (sym same-reached) ∙ free-others u p x h n z ∙ ap (elem n) (mask-reached (at t w) ns t size)
 
   pub free-two-taken : taken ws (apply (freeStores t p x) t) ≡ taken ws t
   free-two-taken = taken-same w ws t nothing low f (freeStores t p x) free-away
@@ -256,6 +259,16 @@ module _ (n : ℕ) (ws : List ℕ) (t : Words) (arr : Arr (rootWord n) ws t) (tr
         };
         one-more = omega (arith, unreachable-count w ws t arr tree, unreachable-count w ws t₂ arr₂ f₂, nodes₂, ap length taken₂, free-two-fewer w ws t₁ lowly f₁ parent leaf h, ap length reached₁);
       })
+
+  -- No other node is lost.
+  pub settled-others : freesLeaf n t (standing n t 1 k) (standing n t 0 k) ≡ true → (x : ℕ) → x ≢ standing n t 0 k → elem x (reachedAll (apply (deleteSettled n t k) t)) ≡ elem x (reachedAll t)
+  settled-others e x z =
+      let t₂ = apply (freeStores t₁ parent leaf) t₁ in
+      let arr₁ = course-arr 25 w ws t ss _ out arr in
+      let h = can-free e in
+      ap (λ (us : List Store). elem x (reachedAll (apply us t))) (stores-freeing n t k e) ∙ ap (λ (u : Words). elem x (reachedAll u)) (apply-append ss (freeStores t₁ parent leaf) t)
+      ∙ others-all w ws t₁ t₂ x arr₁ (course-arr 27 w ws t₁ _ _ (freeing e) arr₁) (free-two-others w ws t₁ lowly (out .whole) parent leaf h x z) (free-two-taken w ws t₁ lowly (out .whole) parent leaf h)
+      ∙ ap (elem x) out-reached
 
   -- Otherwise the same nodes are reached.
   pub settled-stays : freesLeaf n t (standing n t 1 k) (standing n t 0 k) ≡ false → reachedAll (apply (deleteSettled n t k) t) ≡ reachedAll t

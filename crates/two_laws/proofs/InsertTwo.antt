@@ -10,8 +10,8 @@ use lib.ListN.{length}
 use borrow.Author.Tests.{eqb-true, eqb-false, ltb-false}
 use Rattle.model.specs.Table.{Words, at, nodes, rootWord}
 use Rattle.model.specs.Slots.{pointerOf, nodeView, view, height, viewOf}
-use Rattle.model.specs.Reached.{reached, mapping, mapOf}
-use Rattle.model.specs.SoundTest.{nothing}
+use Rattle.model.specs.Reached.{reached, reachedAll, mapping, mapOf}
+use Rattle.model.specs.SoundTest.{elem, nothing}
 use Rattle.model.specs.Orders.{Store, apply}
 use Rattle.model.specs.Ledger.{enter}
 use Rattle.model.specs.Writes.{shiftInAt, unreachable, fresh, standing, run, rootInRun, newRootAt, newRoot, splits, rootStores, insertSettled}
@@ -29,9 +29,9 @@ use Rattle.two_laws.proofs.Mask.{mask}
 use Rattle.two_laws.proofs.TwoLaw.{taken, Tree, Low, Course, course-nil, course-append, course-within, long, tree-fine}
 use Rattle.two_laws.proofs.Masked.{mask-shown, mask-reached, mask-height, mask-standing, mask-run}
 use Rattle.two_laws.proofs.Leaf.{leaf-in}
-use Rattle.two_laws.proofs.SplitTwo.{FreeNode, FullIn, splitIn, split-course, two-height, two-takes, two-standing, two-shown, two-room, two-taken, two-nodes}
-use Rattle.two_laws.proofs.RootTwo.{root-course, root-two-height, root-two-takes, root-two-standing, root-two-shown, root-two-shows, root-two-taken, root-two-nodes}
-use Rattle.two_laws.proofs.Arrange.{Arr, root-in, arr-low, arr-word, arr-others, course-arr, free-fresh, unreachable-count}
+use Rattle.two_laws.proofs.SplitTwo.{FreeNode, FullIn, splitIn, split-course, two-height, two-takes, two-others, two-standing, two-shown, two-room, two-taken, two-nodes}
+use Rattle.two_laws.proofs.RootTwo.{root-course, root-two-height, root-two-takes, root-two-others, root-two-standing, root-two-shown, root-two-shows, root-two-taken, root-two-nodes}
+use Rattle.two_laws.proofs.Arrange.{Arr, root-in, arr-low, arr-word, arr-others, course-arr, others-all, free-fresh, unreachable-count}
 
 -- ---- the run
 
@@ -127,6 +127,12 @@ module _ (l n : ℕ) (ws : List ℕ) (t : Words) (k : ℕ) (r : ReadyIn (suc l) 
         );
       }
 
+  -- of the nodes but the fresh one the same are reached
+  pub first-others : (x : ℕ) → x ≢ fresh t (standing n t l k) → elem x (reachedAll (apply (splitIn (rootWord n) t k l (fresh t (standing n t l k))) t)) ≡ elem x (reachedAll t)
+  first-others x z =
+      others-all (rootWord n) ws t t′ x (r .arr) (course-arr 67 (rootWord n) ws t ss (mapping (viewOf n t)) first-course (r .arr))
+      (two-others (rootWord n) ws t low k l given b free x z) (two-taken (rootWord n) ws t low k l given b free)
+
 pub splits-course : (m n : ℕ) (ws : List ℕ) (t : Words) (k : ℕ) → ReadyIn m n ws t k → Course (m * 67) (rootWord n) ws t (splits n m t k) (mapping (viewOf n t))
 unfolding splits
 splits-course zero n ws t k r = course-nil (rootWord n) ws t (r .tree)
@@ -197,6 +203,10 @@ module _ (n : ℕ) (ws : List ℕ) (t : Words) (k : ℕ) (a : Arr (rootWord n) w
       );
     }
 
+    root-others : (x : ℕ) → x ≢ fresh t (at t (rootWord n)) → elem x (reachedAll t₁) ≡ elem x (reachedAll t)
+    root-others x z =
+        others-all (rootWord n) ws t t₁ x a arr₁ (root-two-others (rootWord n) ws t lowly word beside f not-top q root-free x z) (root-two-taken (rootWord n) ws t lowly word beside f not-top q root-free)
+
     same-root : newRoot n t ≡ newRootAt (rootWord n) t q
     unfolding newRoot
     same-root = refl
@@ -229,6 +239,13 @@ module _ (n : ℕ) (ws : List ℕ) (t : Words) (k : ℕ) (a : Arr (rootWord n) w
               course-within 0 38 (rootWord n) ws t [] (mapping (viewOf n t)) (omega arith) (course-nil (rootWord n) ws t f),
               record { arr = a; tree = f; high = l; full = two-run-full n ws t lowly f k; above = two-run-above n ws t lowly f k l; enough = omega arith },
             )
+
+    -- of the nodes but the new root the same are reached
+    pub first-root-others : rootInRun n t k ≡ true → (x : ℕ) → x ≢ fresh t (at t (rootWord n)) → elem x (reachedAll (apply (newRoot n t) t)) ≡ elem x (reachedAll t)
+    first-root-others e x z =
+        let g : m + 1 ≤ length (unreachable t) = rw e at room in
+        let some : 0 < length (unreachable t) = omega arith in
+        rw (same-root (not-top e) some) (root-others (not-top e) some x z)
 
 -- Insertion into a settled table, where no refusal applies: the pair enters the map of collection n, and nothing else changes.
 pub insert-course : (n : ℕ) (ws : List ℕ) (t : Words) (k r c : ℕ) → Arr (rootWord n) ws t → Tree (rootWord n) ws t nothing → Enters n k r c t

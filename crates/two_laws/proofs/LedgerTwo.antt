@@ -69,7 +69,7 @@ pub from-eighteen : (x : Call) (words dock : ℕ) (t : Words) → sound t ≡ tr
 unfolding refusal
 from-eighteen x words dock t s = rw (sound-head t s, s)
 
-seventeen-same : (x : Call) (t : Words) → seventeenIn x t ≡ lacking (listFor x (mapsOf t))
+pub seventeen-same : (x : Call) (t : Words) → seventeenIn x t ≡ lacking (listFor x (mapsOf t))
 seventeen-same (insertion n k r c) t = lacking-same n t
 seventeen-same (deletion n k) t = lacking-same n t
 seventeen-same (classChange n k c) t = lacking-same n t
@@ -122,10 +122,10 @@ fed-number (classChange n k c) words dock twelve eleven ten ps = refed-first (te
 fed-number repair words dock twelve eleven ten ps = refed-first (testsFrom18 repair words dock twelve eleven ten ps)
 
 -- the same number as in the ledger
-pub number-in-ledger : (x : Call) (words dock : ℕ) (t : Words) → sound t ≡ true → refusal x words dock t ≡ ledgerRefusal x words dock (fedOf (refusal x words dock t)) (mapsOf t)
+pub number-in-ledger : (x : Call) (words dock : ℕ) (t : Words) → sound t ≡ true → refusal x words dock t ≡ ledgerRefusal x false words dock (fedOf (refusal x words dock t)) (mapsOf t)
 number-in-ledger x words dock t s = go (seventeenIn x t) refl
   where
-    no-list : seventeenIn x t ≡ true → (m : ℕ) → 17 ≡ ledgerRefusal x words dock m (mapsOf t)
+    no-list : seventeenIn x t ≡ true → (m : ℕ) → 17 ≡ ledgerRefusal x false words dock m (mapsOf t)
     no-list h m = unfold ledgerRefusal in rw (sym (seventeen-same x t) ∙ h)
 
     own : List Slot → List Test
@@ -134,15 +134,15 @@ number-in-ledger x words dock t s = go (seventeenIn x t) refl
     number : seventeenIn x t ≡ false → refusal x words dock t ≡ firstNumber (own (ownMap x t))
     number h = from-eighteen x words dock t s ∙ ap (λ (b : Bool). firstNumber (test b 17 ∷ tests x words dock t)) h ∙ ap (λ (ps : List Slot). firstNumber (own ps)) (own-later x t s h)
 
-    from-list : seventeenIn x t ≡ false → (m : ℕ) → ledgerRefusal x words dock m (mapsOf t) ≡ firstNumber (testsFrom18 x words dock (eqb m 12) (eqb m 11) (eqb m 10) (ownMap x t))
+    from-list : seventeenIn x t ≡ false → (m : ℕ) → ledgerRefusal x false words dock m (mapsOf t) ≡ firstNumber (testsFrom18 x words dock (eqb m 12) (eqb m 11) (eqb m 10) (ownMap x t))
     from-list h m = unfold ledgerRefusal in rw (sym (seventeen-same x t) ∙ h, own-pairs x t h)
 
-    go : (b : Bool) → seventeenIn x t ≡ b → refusal x words dock t ≡ ledgerRefusal x words dock (fedOf (refusal x words dock t)) (mapsOf t)
+    go : (b : Bool) → seventeenIn x t ≡ b → refusal x words dock t ≡ ledgerRefusal x false words dock (fedOf (refusal x words dock t)) (mapsOf t)
     go true h = from-eighteen x words dock t s ∙ ap (λ (b : Bool). firstNumber (test b 17 ∷ tests x words dock t)) h ∙ no-list h (fedOf (refusal x words dock t))
     go false h =
         let e = number h in
         let q = fed-number x words dock (parentFull t) (elevenIn x (repaired t)) (tenIn x (repaired t)) (ownMap x t) in
-        e ∙ sym q ∙ sym (from-list h (fedOf (firstNumber (own (ownMap x t))))) ∙ ap (λ (m : ℕ). ledgerRefusal x words dock (fedOf m) (mapsOf t)) (sym e)
+        e ∙ sym q ∙ sym (from-list h (fedOf (firstNumber (own (ownMap x t))))) ∙ ap (λ (m : ℕ). ledgerRefusal x false words dock (fedOf m) (mapsOf t)) (sym e)
 
 -- ---- 10, 11 and 12 come only on their conditions
 

@@ -10,7 +10,7 @@ use lib.Seq.{getD-set-same, getD-set-other}
 use Rattle.model.specs.Table.{Words, at, root, nodes, nodeStart}
 use Rattle.model.specs.Slots.{View, nodeView, view, height}
 use Rattle.model.specs.Reached.{reached, mapping}
-use Rattle.model.specs.SoundTest.{nothing, Leftover}
+use Rattle.model.specs.SoundTest.{elem, nothing, Leftover}
 use Rattle.model.specs.Orders.{Store, put, apply, orders, ordersAfter}
 use Rattle.model.specs.Writes.{putAll, nodeWords, standingIn, newRootAt}
 use Rattle.tree_laws.specs.OneTree.{settledOne, mapOne, standingOne, rootAtOne as rootAt}
@@ -21,7 +21,7 @@ use Rattle.word_laws.proofs.NewNodes.{length-node-words}
 use Rattle.cut_laws.proofs.Applying.{apply-append, length-apply}
 use Rattle.change_laws.proofs.Parts.{HasLeft}
 use Rattle.step_laws.proofs.Phase.{Phase}
-use Rattle.step_laws.proofs.NewRoot.{root-phase, root-height, root-takes, root-standing, root-shown, root-shows}
+use Rattle.step_laws.proofs.NewRoot.{root-phase, root-height, root-takes, root-others, root-standing, root-shown, root-shows}
 use Rattle.step_laws.proofs.Fresh.{Free}
 use Rattle.step_laws.proofs.WholeNode.{whole-stage, whole-stays}
 use Rattle.step_laws.proofs.Views.{fine-settled, settled-fine}
@@ -206,6 +206,11 @@ module _ (w : ℕ) (ws : List ℕ) (t : Words) (low : Low w ws) (word : (w ≡ 1
   pub root-two-takes : length (reached (seen w (apply (newRootAt w t b) t))) ≡ suc (length (reached (seen w t)))
   root-two-takes = rw done (ap length (sym (mask-reached (at t₂ w) (taken ws t₂) t₂ size₂)) ∙ ap (λ (x : Words). length (reached (view x))) (sym after)
       ∙ root-takes u s high-u b e ∙ ap (λ (x : List ℕ). suc (length x)) (mask-reached (at t w) ns t size))
+
+  -- the new root is reached besides, and of the others the same ones
+  pub root-two-others : (n : ℕ) → n ≢ b → elem n (reached (seen w (apply (newRootAt w t b) t))) ≡ elem n (reached (seen w t))
+  root-two-others n z = rw done (ap (elem n) (sym (mask-reached (at t₂ w) (taken ws t₂) t₂ size₂)) ∙ ap (λ (x : Words). elem n (reached (view x))) (sym after)
+      ∙ root-others u s high-u b e n z ∙ ap (elem n) (mask-reached (at t w) ns t size))
 
   stands-as : (d k : ℕ) → standingIn (seen w t₂) d k ≡ standingOne (apply (rootAt u b) u) d k
   stands-as d k = sym (mask-standing (at t₂ w) (taken ws t₂) t₂ size₂ d k) ∙ ap (λ (x : Words). standingOne x d k) (sym after)

@@ -25,7 +25,7 @@ use Rattle.tree_laws.proofs.Rows.{not-zero, range-iff}
 use Rattle.step_laws.proofs.Fresh.{Free}
 use Rattle.step_laws.proofs.Views.{fine-settled}
 use Rattle.step_laws.specs.Parts.{splitInto, FullNode}
-use Rattle.step_laws.proofs.Split.{split-phase, split-height, split-takes, split-standing, split-shown, split-room}
+use Rattle.step_laws.proofs.Split.{split-phase, split-height, split-others, split-takes, split-standing, split-shown, split-room}
 use Rattle.step_laws.proofs.Standing.{standing-stands}
 use Rattle.two_laws.proofs.Mask.{mask}
 use Rattle.two_laws.proofs.Masked.{mask-nodes, mask-shown, mask-reached, mask-height, mask-standing, mask-split}
@@ -53,7 +53,7 @@ mask-free w ws t b low f g =
     }
 
 -- the upper half is a whole node
-length-split : (t : Words) (a : ℕ) → length (splitWords t a) ≡ 32
+pub length-split : (t : Words) (a : ℕ) → length (splitWords t a) ≡ 32
 unfolding splitWords
 length-split t a = go (eqb (nodeView t a .level) 0)
   where
@@ -162,6 +162,12 @@ module _ (w : ℕ) (ws : List ℕ) (t : Words) (low : Low w ws) (k l : ℕ) (giv
 
   pub two-takes : length (reached (seen w (apply (splitIn w t k l b) t))) ≡ suc (length (reached (seen w t)))
   two-takes = ap length (sym (mask-reached (at t′ w) (taken ws t′) t′ size′)) ∙ ap (λ (x : Words). length (reached (view x))) (sym after) ∙ split-takes u k l h b e ∙ ap (λ (x : List ℕ). suc (length x)) (mask-reached (at t w) ns t size)
+
+  -- B is reached besides, and of the others the same ones
+  pub two-others : (n : ℕ) → n ≢ b → elem n (reached (seen w (apply (splitIn w t k l b) t))) ≡ elem n (reached (seen w t))
+  two-others n z =
+      ap (elem n) (sym (mask-reached (at t′ w) (taken ws t′) t′ size′)) ∙ ap (λ (x : Words). elem n (reached (view x))) (sym after)
+      ∙ split-others u k l h b e n z ∙ ap (elem n) (mask-reached (at t w) ns t size)
 
   stands-as : (d : ℕ) → standingIn (seen w t′) d k ≡ standingOne (apply (splitInto u l k b) u) d k
   stands-as d = sym (mask-standing (at t′ w) (taken ws t′) t′ size′ d k) ∙ ap (λ (x : Words). standingOne x d k) (sym after)
