@@ -45,8 +45,7 @@ uint64_t change_orders(const struct change *c)
     return c->stores + c->flushes + c->barriers;
 }
 
-/* Which word of which node a store goes to. */
-static void print_place(uint64_t word)
+void place_print(uint64_t word)
 {
     static const char *const node_words[] = {"left", "sibling", "level", "fence"};
     if (word < HEADER_WORDS) {
@@ -63,22 +62,44 @@ static void print_place(uint64_t word)
         printf("%s %" PRIu64, within % 2 == 0 ? "key" : "pointer", (within - 8) / 2);
 }
 
+void line_print(uint64_t line)
+{
+    if (line == 0) {
+        printf("header");
+        return;
+    }
+    uint64_t part = (line - 1) % (NODE_WORDS / LINE_WORDS);
+    printf("node %" PRIu64 ", ", (line - 1) / (NODE_WORDS / LINE_WORDS) + 1);
+    if (part == 0)
+        printf("left to fence");
+    else
+        printf("slots %" PRIu64 " to %" PRIu64, 4 * part - 4, 4 * part - 1);
+}
+
+int order_print(const uint64_t order[2])
+{
+    if (order[0] == CATALOGUE_MARK)
+        return printf("flush %" PRIu64, order[1]);
+    if (order[0] == CATALOGUE_BARRIER)
+        return printf("barrier");
+    return printf("store %" PRIu64 " %" PRIu64, order[0], order[1]);
+}
+
+bool order_stores(const uint64_t order[2])
+{
+    return order[0] != CATALOGUE_MARK && order[0] != CATALOGUE_BARRIER;
+}
+
 void change_print(const struct change *c)
 {
     for (uint64_t i = 0; i < change_orders(c); i++) {
-        uint64_t first = c->orders[2 * i], second = c->orders[2 * i + 1];
+        const uint64_t *order = c->orders + 2 * i;
         printf("%4" PRIu64 "  ", i + 1);
-        if (first == CATALOGUE_MARK) {
-            printf("flush %" PRIu64 "\n", second);
-            continue;
+        int length = order_print(order);
+        if (order_stores(order)) {
+            printf("%*s", length < 34 ? 34 - length : 2, "");
+            place_print(order[0]);
         }
-        if (first == CATALOGUE_BARRIER) {
-            printf("barrier\n");
-            continue;
-        }
-        int length = printf("store %" PRIu64 " %" PRIu64, first, second);
-        printf("%*s", length < 34 ? 34 - length : 2, "");
-        print_place(first);
         printf("\n");
     }
 }

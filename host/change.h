@@ -2,6 +2,7 @@
 #ifndef CHANGE_H
 #define CHANGE_H
 
+#include <stdbool.h>
 #include <stdint.h>
 
 #include "catalogue.h"
@@ -30,6 +31,18 @@ uint64_t change_plan(struct change *c, struct table *t);
 
 /* How many orders the list has. */
 uint64_t change_orders(const struct change *c);
+
+/* Which word of which node a store goes to: "node 1, pointer 0". */
+void place_print(uint64_t word);
+
+/* Which part of which node a line is: "node 1, slots 0 to 3". */
+void line_print(uint64_t line);
+
+/* "store 17 7", "flush 2" or "barrier"; its length. */
+int order_print(const uint64_t order[2]);
+
+/* Neither a flush nor a barrier. */
+bool order_stores(const uint64_t order[2]);
 
 /* The orders, numbered as --cut counts them, with the place of each in the table. */
 void change_print(const struct change *c);

@@ -10,7 +10,7 @@
 #include "table.h"
 
 /* One more than any command takes. */
-#define MOST_WORDS 7
+#define MOST_WORDS 8
 
 /* Kinds of options, for which commands take which. */
 enum { CUT = 1, LOADING = 2, CARRYING = 4, WAITING = 8, NAMING = 16, MAKING = 32, DOCKING = 64 };

@@ -9,6 +9,7 @@
 #include "catalogue.h"
 #include "draw.h"
 #include "help.h"
+#include "judge.h"
 #include "salvage.h"
 #include "table.h"
 #include "text.h"
@@ -138,6 +139,11 @@ static int salvage_table(struct table *t, struct command_line *l)
     return salvage(t, l->words[2]);
 }
 
+static int judge_orders(struct table *t, struct command_line *l)
+{
+    return judge_list(t, l->words[2], &l->change);
+}
+
 /* ---- the commands */
 
 static int with_table(struct command_line *l, bool writing, int (*work)(struct table *t, struct command_line *l))
@@ -219,6 +225,16 @@ static int command_orders(struct command_line *l)
             return status != 0 ? status : with_table(l, false, print_orders);
         }
     return WRONG_FORM;
+}
+
+/* The change is written as in the order printer's scripts. */
+static int command_judge(struct command_line *l)
+{
+    bool adds = strcmp(l->words[3], "+") == 0;
+    if (adds ? l->count < 6 : strcmp(l->words[3], "-") != 0 || l->count != 5)
+        return WRONG_FORM;
+    int status = change_read(&l->change, adds ? ADD : REMOVE, l->words + 4, l->count - 4);
+    return status != 0 ? status : with_table(l, false, judge_orders);
 }
 
 static int command_find(struct command_line *l)
@@ -304,6 +320,11 @@ const struct command commands[] = {
      "prints the stores and flushes of a change, for dock 1 its barriers too, without making it:\n"
      "add CODE RECORDING [CLASS], remove CODE, class CODE CLASS, or repair",
      "orders room.cat add AA0001912345 7", 3, 6, NAMING | DOCKING | WAITING, command_orders},
+    {"judge", "TABLE LIST + CODE RECORDING [CLASS], or - CODE",
+     "says whether the orders in the file LIST (as orders prints them; - for standard input)\n"
+     "make this change so that a power cut may come after any of them: yes, or no with the\n"
+     "first order that fails and what a cut there may leave. For dock 0",
+     "judge room.cat orders.txt + AA0001912345 7", 5, 7, NAMING | WAITING, command_judge},
     {"check", "TABLE", "says whether the table is settled, sound with a leftover, or not sound, and how many\nnodes are free for more codes",
      "check room.cat", 2, 2, WAITING, command_check},
     {"show", "TABLE",

@@ -69,7 +69,7 @@ extern "C" {
  * The version of these declarations. It is raised by each change of a name, a parameter or the meaning of a word, so a program that was
  * compiled with one header and linked with another library sees it: catalogue_version() is the library's.
  */
-#define CATALOGUE_VERSION 7
+#define CATALOGUE_VERSION 8
 
 #define CATALOGUE_MARK UINT64_MAX
 #define CATALOGUE_BARRIER (UINT64_MAX - 1)
@@ -104,7 +104,7 @@ enum {
     CATALOGUE_NO_CODE = 1,          /* text is not a code, or a key has no code */
     CATALOGUE_NO_TABLE = 2,         /* wrong length or header, a root outside 1 to N, or two collections where N is 1 */
     CATALOGUE_SEARCH_LOST = 3,      /* search: a node number, level or sibling is wrong on its way, or its leaves go round in a ring */
-    CATALOGUE_NOT_SOUND = 4,        /* write or listing: the table is not sound, be it in the other collection */
+    CATALOGUE_NOT_SOUND = 4,        /* write, listing or judging: the table is not sound, be it in the other collection */
     CATALOGUE_SHORT_LIST = 5,       /* order list under 2,560 words, for dock 1 under 5,120 */
     CATALOGUE_BAD_RECORDING = 6,    /* recording is 0 or above CATALOGUE_MOST_RECORDING */
     CATALOGUE_KEY_PRESENT = 7,      /* code already in the collection */
@@ -113,13 +113,16 @@ enum {
     CATALOGUE_NO_NODES = 10,        /* fewer nodes that no root leads to than the splits need; salvage: the packing needs more than N */
     CATALOGUE_TOO_HIGH = 11,        /* the collection's root at level 15 would have to split */
     CATALOGUE_PARENT_FULL = 12,     /* repair would find 11 shown slots in the parent */
-    CATALOGUE_BAD_ORDERS = 13,      /* carry-out: more orders than the list has, or one outside the table; a barrier lies in every one */
+    CATALOGUE_BAD_ORDERS = 13,      /* carry-out or judging: more orders than the list has, or one outside the table; a barrier lies in every one */
     CATALOGUE_BAD_CLASS = 14,       /* class above 2; comes straight after 6 */
-    CATALOGUE_OTHER_LENGTH = 15,    /* salvage: the second slice is not as long as the table */
+    CATALOGUE_OTHER_LENGTH = 15,    /* salvage or judging: the second slice is not as long as the table */
     CATALOGUE_SHORT_REPORT = 16,    /* salvage: report under 36 words for each node */
     CATALOGUE_NO_COLLECTION = 17,   /* collection not 1 or 2, or 2 where the table has one; comes straight after 2 */
     CATALOGUE_NO_DOCK = 18,         /* dock neither 0 nor 1; comes straight before 5 */
     CATALOGUE_OTHER_SENTINELS = 19, /* sentinels not 3 words for each node; comes straight after 17 */
+    CATALOGUE_NOT_SETTLED = 20,     /* judging: the table is sound but not settled; comes straight after 4 */
+    CATALOGUE_CHANGE_REFUSED = 21,  /* judging: the change itself would be refused on this table; comes last */
+    CATALOGUE_NO = 254,             /* judging: no */
     CATALOGUE_ABSENT = 255          /* search: the key is absent */
 };
 
@@ -226,6 +229,22 @@ enum {
  */
 uint64_t catalogue_salvage(const uint64_t *table, size_t words, uint64_t *out, size_t out_words, uint64_t *report, size_t report_words,
                            uint64_t *dropped);
+
+/*
+ * Judges a list of orders that was not made here, all whole orders of the slice, for an insertion in a settled table; the table stays as it
+ * is. It serves dock 0. 0 for yes: no two lines ever hold unflushed stores; every image of a cut, after every count of orders, is sound, with
+ * this collection's map as before or as after the insertion and the other collection's, or its lack, unchanged; and the whole list leaves no
+ * store unflushed and gives a settled table with the new map. 254 for no: *count is the first count of orders that fails. Then out, of the
+ * table's length, in which the images are built, is the table with the list carried out: whole for yes, up to that count for no.
+ * Or 2, 17, 4, 20, 13 (over the whole list), 15, 21. Every list that catalogue_insert or catalogue_delete gives on a settled table is accepted.
+ * Half an order at the end of the slice is none, and zeros there are stores: hand in the orders alone. A list of no orders is no, with 0.
+ */
+uint64_t catalogue_judge_insert(const uint64_t *table, size_t words, const uint64_t *orders, size_t order_words, uint64_t *out,
+                                size_t out_words, uint64_t collection, uint64_t key, uint64_t recording, uint64_t access, uint64_t *count);
+
+/* The same for a deletion. */
+uint64_t catalogue_judge_delete(const uint64_t *table, size_t words, const uint64_t *orders, size_t order_words, uint64_t *out,
+                                size_t out_words, uint64_t collection, uint64_t key, uint64_t *count);
 
 #ifdef __cplusplus
 }

@@ -133,6 +133,7 @@ FAULTS = [
     (0, ", uint64_t collections)", ")"),
     (0, "size_t order_words, uint64_t dock, uint64_t *stores", "size_t order_words, uint64_t *stores"),
     (0, "uint64_t *flushes, uint64_t *barriers", "uint64_t *barriers, uint64_t *flushes"),
+    (0, "size_t out_words, uint64_t collection", "uint64_t collection, size_t out_words"),
     (0, "#define CATALOGUE_VERSION", "#define CATALOGUE_VERSION 99\n#define OTHER"),
     (0, "#define CATALOGUE_VERSION", "#define CATALOGUE_VERSIONS"),
     (1, "low: u64, high: u64", "high: u64, low: u64"),
@@ -153,6 +154,7 @@ FAULTS = [
     (2, "-> u64\n    ensures", "-> usize\n    ensures"),
     (2, "fn one_if", "#[no_mangle]\nfn one_if"),
     (2, "next: &mut u64", "next: u64"),
+    (2, "out: &mut [u64], collection: u64", "collection: u64, out: &mut [u64]"),
     (2, "orders: &mut [u64], dock: u64", "dock: u64, orders: &mut [u64]"),
 ]
 

@@ -232,3 +232,16 @@ pub fn set_class_with(t: &[u64], words: &[u64], collection: u64, list: &[u64], d
 pub fn repair_with(t: &[u64], words: &[u64], list: &[u64], dock: u64) -> Kept {
     kept(t, words, list, |a, w, b, s, f, r| unsafe { catalogue_repair_with(a, t.len(), w, words.len(), b, list.len(), dock, s, f, r) })
 }
+
+/// The number, the count where it was put, and the second slice: of a list for an insertion of a recording and a class, or for a deletion.
+pub fn judge(t: &[u64], list: &[u64], out: &[u64], collection: u64, key: u64, wanted: Option<(u64, u64)>) -> (u64, Option<u64>, Vec<u64>) {
+    let (mut table, mut orders, mut second) = (Lent::new(t), Lent::new(list), Lent::new(out));
+    let mut count = Word::new();
+    let (a, b, o, c) = (table.pointer(), orders.pointer(), second.pointer(), count.pointer());
+    let n = match wanted {
+        Some((r, x)) => unsafe { catalogue_judge_insert(a, t.len(), b, list.len(), o, out.len(), collection, key, r, x, c) },
+        None => unsafe { catalogue_judge_delete(a, t.len(), b, list.len(), o, out.len(), collection, key, c) },
+    };
+    assert!(table.back() == t && orders.back() == list, "the judge wrote to the table or the list");
+    (n, count.put(), second.back().to_vec())
+}

@@ -86,7 +86,7 @@ fn leaves(t: &[u64], collection: u64) -> impl Iterator<Item = Node> + '_ {
 }
 
 /// A key of a leaf other than the first, with fewer slots in use than the others.
-fn scarce_key(t: &[u64], collection: u64, random: &mut Random) -> Option<u64> {
+pub fn scarce_key(t: &[u64], collection: u64, random: &mut Random) -> Option<u64> {
     let x = leaves(t, collection).filter(|x| x.fence > 0).min_by_key(|x| x.used())?;
     Some(x.slots[random.below(x.used() as u64) as usize].key)
 }
@@ -327,15 +327,18 @@ pub fn image_holds(image: &[u64], maps: [&Maps; 2], cut: (usize, usize), asked: 
     Held { maps: maps.clone(), leftover: sound.leftover, unfinished: sound.unfinished, mended: mended.table }
 }
 
-/// The orders of an accepted call's list.
-pub fn decode(after: &Wrote) -> Vec<Order> {
-    let words = &after.list[..2 * after.orders() as usize];
-    let order = |o: &[u64]| match (o[0], o[1]) {
+/// An order of two words.
+pub fn order(words: &[u64]) -> Order {
+    match (words[0], words[1]) {
         (MARK, line) => Order::Flush(line),
         (BARRIER, 0) => Order::Barrier,
         (word, value) => Order::Store(word as usize, value),
-    };
-    words.chunks(2).map(order).collect()
+    }
+}
+
+/// The orders of an accepted call's list.
+pub fn decode(after: &Wrote) -> Vec<Order> {
+    after.list[..2 * after.orders() as usize].chunks(2).map(order).collect()
 }
 
 /// The maps after an accepted call: that of its collection has changed, the other one stays.

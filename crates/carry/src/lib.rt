@@ -12,7 +12,7 @@ ghost use Rattle.model.specs.Orders.{BAR, orderOf, inside, allInside, carry, ca
 ghost use Rattle.carry.specs.Firsts.{firsts};
 
 // Whether these two words are a barrier.
-fn is_barrier(a: u64, b: u64) -> bool
+pub fn is_barrier(a: u64, b: u64) -> bool
     ensures { λ r. ⌜ r ≡ (eqb a BAR && eqb b 0) ⌝ }
 {
     if a != BAR {
@@ -35,7 +35,7 @@ fn is_inside(len: usize, a: u64, b: u64) -> bool
 }
 
 // Whether the first c orders do.
-fn all_inside(len: usize, list: &[u64], c: usize) -> bool
+pub fn all_inside(len: usize, list: &[u64], c: usize) -> bool
     requires { ⌜ 2 * c ≤ length (now list) ⌝ }
     ensures { λ r. ⌜ r ≡ allInside len (firsts c (now (list .entry)) 0) ⌝ }
 {
@@ -50,7 +50,7 @@ fn all_inside(len: usize, list: &[u64], c: usize) -> bool
 }
 
 // One order carried out: a store is made, a flush or a barrier changes no word.
-fn apply_one(table: &mut [u64], a: u64, b: u64)
+pub fn apply_one(table: &mut [u64], a: u64, b: u64)
     requires { ⌜ inside (length (now table)) (orderOf a b) ≡ true ⌝ }
     ensures { λ r. ⌜ now (table .exit) ≡ carry (orderOf a b ∷ []) (now (table .entry)) ⌝ }
 {

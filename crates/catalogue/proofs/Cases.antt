@@ -12,9 +12,10 @@ use Rattle.model.specs.declared.Written.{Written}
 use Rattle.model.specs.Refusals.{written, tableAfter, listAfter}
 use Rattle.model.specs.declared.Listed.{Listed}
 use Rattle.model.specs.declared.Salvaged.{Salvaged}
+use Rattle.model.specs.declared.Verdict.{Verdict}
 use Rattle.model.specs.Listing.{listedNumber, countOr, moreOr}
 use Rattle.model.specs.Salvage.{salvagedNumber, droppedOr}
-use Rattle.catalogue.specs.Answers.{searchNumber, Looked, Counted, Wrote, WroteWith, Showed, Rebuilt}
+use Rattle.catalogue.specs.Answers.{searchNumber, Looked, Counted, Wrote, WroteWith, Showed, Rebuilt, Ruled}
 use Rattle.sentinels.specs.Anew.{Leaves}
 
 -- an answer that is this one has its number, and puts its words
@@ -70,3 +71,6 @@ has-shown x y pairs more m e q =
 
 pub was-rebuilt : (x y : Salvaged) (old : ℕ) → x ≡ y → Rebuilt x (salvagedNumber y) old (droppedOr y old)
 was-rebuilt x y old e = record { number-is = sym (ap salvagedNumber e); dropped-are = sym (ap (λ (z : Salvaged). droppedOr z old) e) }
+
+pub has-ruled : (x y : Verdict) {number count count′ : ℕ} → y ≡ x → Ruled y number count count′ → Ruled x number count count′
+has-ruled x y {number = number} {count} {count′} e r = subst (λ (z : Verdict). Ruled z number count count′) e r

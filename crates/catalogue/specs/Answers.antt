@@ -6,6 +6,7 @@ use Rattle.model.specs.declared.Answer.{Answer}
 use Rattle.model.specs.declared.Answer.the-variants.{Found, Absent, Refused}
 use Rattle.model.specs.declared.Listed.{Listed}
 use Rattle.model.specs.declared.Salvaged.{Salvaged}
+use Rattle.model.specs.declared.Verdict.{Verdict}
 use Rattle.model.specs.declared.Written.{Written}
 use Rattle.model.specs.Table.{Words}
 use Rattle.model.specs.Writes.{Call}
@@ -14,10 +15,11 @@ use Rattle.model.specs.Listing.{listedNumber, countOr, moreOr}
 use Rattle.model.specs.Refusals.{written, tableAfter, listAfter, writtenNumber, storesOr, flushesOr, barriersOr}
 use Rattle.model.specs.Salvage.{salvagedNumber, droppedOr}
 use Rattle.model.specs.Sentinels.{writtenWith, tableWith, ordersWith, sentinelsWith}
+use Rattle.model.specs.Judge.{verdictNumber, failsOr}
 
 -- the version of the calls' shapes: raised by each change of a name, a parameter or what a word means
 abbrev pub version : ℕ
-version = 7
+version = 8
 
 -- a search of C's: 0 for found, 255 for absent
 abbrev pub searchNumber : Answer → ℕ
@@ -63,3 +65,8 @@ pub record Showed (x : Listed) (number pairs pairs′ more more′ : ℕ) : Type
 pub record Rebuilt (x : Salvaged) (number dropped dropped′ : ℕ) : Type 0 where
   pub number-is : number ≡ salvagedNumber x
   pub dropped-are : dropped′ ≡ droppedOr x dropped
+
+-- a judgement's answer: its number, and the first count that fails
+pub record Ruled (x : Verdict) (number count count′ : ℕ) : Type 0 where
+  pub number-is : number ≡ verdictNumber x
+  pub count-is : count′ ≡ failsOr x count

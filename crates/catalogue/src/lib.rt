@@ -6,6 +6,7 @@ use model::Next;
 use model::Outcome;
 use model::Parsed;
 use model::Salvaged;
+use model::Verdict;
 use model::Written;
 ghost use mathlib.Core.Path.{_≡_};
 ghost use Rattle.model.specs.Codes.{parse, print, parsedNumber, keyOr};
@@ -13,9 +14,10 @@ ghost use Rattle.model.specs.Table.{making, made, outcomeNumber};
 ghost use Rattle.model.specs.Orders.{carryOut, carriedOut};
 ghost use Rattle.model.specs.Search.{search};
 ghost use Rattle.model.specs.Writes.{insertion, deletion, classChange, repair};
-ghost use Rattle.catalogue.specs.Answers.{version, Looked, Counted, Wrote, WroteWith, Showed, Rebuilt};
+ghost use Rattle.catalogue.specs.Answers.{version, Looked, Counted, Wrote, WroteWith, Showed, Rebuilt, Ruled};
 ghost use Rattle.model.specs.Sentinels.{workOut, workedOut, searchWith};
 ghost use Rattle.model.specs.Salvage.{salvage, salvageOut, salvageReport};
+ghost use Rattle.model.specs.Judge.{judge, judgeOut};
 ghost use lib.ListN.{length};
 ghost use Rattle.model.specs.Listing.{list, listOut};
 ghost use mathlib.Core.Bool.{cond};
@@ -25,7 +27,7 @@ ghost use mathlib.Core.Bool.{cond};
 pub extern "C" fn catalogue_version() -> u64
     ensures { λ r. ⌜ r ≡ version ⌝ }
 {
-    7
+    8
 }
 
 // 0 and the code's key, or 1.
@@ -405,4 +407,55 @@ pub extern "C" fn catalogue_salvage(
         }
         Salvaged::Refused(n) => n as u64,
     }
+}
+
+// A judgement's number, and the count that fails into the lent word where it is no.
+fn put_count(verdict: Verdict, count: &mut u64) -> u64
+    ensures { λ r. ⌜ Ruled verdict r (now (count .entry)) (now (count .exit)) ⌝ }
+{
+    match verdict {
+        Verdict::Yes => 0,
+        Verdict::No(c) => {
+            *count = c;
+            254
+        }
+        Verdict::Refused(n) => n as u64,
+    }
+}
+
+// 0 for yes, 254 and the first count of orders that fails for no, or 2, 17, 4, 20, 13, 15 or 21; likewise below.
+#[no_mangle]
+pub extern "C" fn catalogue_judge_insert(
+    table: &[u64],
+    orders: &[u64],
+    out: &mut [u64],
+    collection: u64,
+    key: u64,
+    recording: u64,
+    access: u64,
+    count: &mut u64,
+) -> u64
+    ensures { λ r. ⌜ Ruled (judge (insertion collection key recording access) (now (table .entry)) (now (orders .entry)) (length (now (out .entry)))) r
+        (now (count .entry)) (now (count .exit)) ⌝ }
+    ensures { λ r. ⌜ now (out .exit) ≡ judgeOut (insertion collection key recording access) (now (table .entry)) (now (orders .entry)) (now (out .entry)) ⌝ }
+{
+    let verdict = judge::judge_insert(table, orders, out, collection, key, recording, access);
+    put_count(verdict, count)
+}
+
+#[no_mangle]
+pub extern "C" fn catalogue_judge_delete(
+    table: &[u64],
+    orders: &[u64],
+    out: &mut [u64],
+    collection: u64,
+    key: u64,
+    count: &mut u64,
+) -> u64
+    ensures { λ r. ⌜ Ruled (judge (deletion collection key) (now (table .entry)) (now (orders .entry)) (length (now (out .entry)))) r
+        (now (count .entry)) (now (count .exit)) ⌝ }
+    ensures { λ r. ⌜ now (out .exit) ≡ judgeOut (deletion collection key) (now (table .entry)) (now (orders .entry)) (now (out .entry)) ⌝ }
+{
+    let verdict = judge::judge_delete(table, orders, out, collection, key);
+    put_count(verdict, count)
 }

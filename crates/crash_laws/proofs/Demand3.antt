@@ -34,7 +34,8 @@ use Rattle.table_laws.proofs.Header.{header-iff}
 use Rattle.cut_laws.proofs.Applying.{counts-length, length-apply}
 use Rattle.cut_laws.proofs.Cuts.{image-is-stores, image-at-none, image-at-all}
 use Rattle.cut_laws.proofs.Lent.{carry-list-number, carry-list-all}
-use Rattle.two_laws.proofs.MapsTwo.{OldOrNew, Steps, accepted-steps}
+use Rattle.model.specs.Judge.{OldOrNew}
+use Rattle.two_laws.proofs.MapsTwo.{Steps, accepted-steps}
 use Rattle.two_laws.proofs.SearchTwo.{sound-head}
 use Rattle.two_laws.proofs.SameTwo.{settled-same, settled-sound}
 use Rattle.two_laws.proofs.EmptyTwo.{empty-settled, empty-one-maps, empty-two-maps}

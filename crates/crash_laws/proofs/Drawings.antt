@@ -24,7 +24,8 @@ use Rattle.model.proofs.Everything.{everything}
 use Rattle.view_laws.proofs.NodeViews.{showing}
 use Rattle.cut_laws.proofs.Cuts.{image-is-stores}
 use Rattle.two_laws.proofs.AcceptedTwo.{accepted-iff}
-use Rattle.two_laws.proofs.MapsTwo.{OldOrNew, accepted-steps}
+use Rattle.model.specs.Judge.{OldOrNew}
+use Rattle.two_laws.proofs.MapsTwo.{accepted-steps}
 use Rattle.two_laws.proofs.DocksTwo.{call-without}
 use Rattle.crash_laws.proofs.Images.{values, withLine, imageBy, imageOf, imageOf-image, imageWith, imageWith-image}
 

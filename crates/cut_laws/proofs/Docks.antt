@@ -12,7 +12,8 @@ use Rattle.list_laws.proofs.Tools.{or-false-iff}
 use Rattle.model.specs.Table.{Words, line}
 use Rattle.model.specs.Orders.{Store, Order, store, flush, barrier, apply, carry, orders, withBarriers, barred, withoutBarriers}
 use Rattle.model.specs.Cuts.{flushed, upToFlush, sinceFlush, laterStores, FirstPart, UpToBarrier, toBarrier, choice, AnyChoice, Image, CutImage}
-use Rattle.cut_laws.specs.Unflushed.{storesIn, OneLine, AllFlushed}
+use Rattle.model.specs.Judge.{AllFlushed}
+use Rattle.cut_laws.specs.Unflushed.{storesIn, OneLine}
 use Rattle.cut_laws.proofs.Barriers.{without-carry, without-take, without-barred, barred-stores, barred-carry}
 use Rattle.cut_laws.proofs.FlushRule.{orders-without, orders-stores, orders-apply}
 use Rattle.cut_laws.proofs.Unflushed.{orders-flushed, orders-one-line}

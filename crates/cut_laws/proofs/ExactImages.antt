@@ -10,7 +10,7 @@ use lib.Seq.{take-all, take-suc, split-at, drop-append-le}
 use Rattle.model.specs.Table.{Words, line}
 use Rattle.model.specs.Orders.{Store, Order, store, flush, barrier, carry, ordersAfter, orders, barred, withoutBarriers, storeCount, flushCount}
 use Rattle.model.specs.Cuts.{CutImage, laterStores}
-use Rattle.cut_laws.specs.Unflushed.{AllFlushed}
+use Rattle.model.specs.Judge.{AllFlushed}
 use Rattle.cut_laws.proofs.Applying.{flushCount-append}
 use Rattle.cut_laws.proofs.FlushRule.{after-same, after-other}
 use Rattle.cut_laws.proofs.Barriers.{without-append}

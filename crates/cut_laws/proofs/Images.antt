@@ -11,7 +11,8 @@ use lib.Seq.{take-nil, ext-getD, take-all, take-suc, take-take, take-length, tak
 use Rattle.model.specs.Table.{Words, at, line}
 use Rattle.model.specs.Orders.{Store, Order, store, flush, barrier, carry, flushCount}
 use Rattle.model.specs.Cuts.{flushed, upToFlush, laterStores, Holds, Image, CutImage}
-use Rattle.cut_laws.specs.Unflushed.{OneLine, AllFlushed}
+use Rattle.model.specs.Judge.{AllFlushed}
+use Rattle.cut_laws.specs.Unflushed.{OneLine}
 use Rattle.cut_laws.proofs.Applying.{length-carry, carry-append, apply-nil}
 use Rattle.cut_laws.proofs.LastFlush.{no-flush, upToFlush-after, upToFlush-before, laterStores-after, laterStores-before, same-end, other-end, line-current}
 

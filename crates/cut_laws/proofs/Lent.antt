@@ -87,7 +87,7 @@ inside-words n (store s ∷ os) h a =
 inside-words n (barrier ∷ os) h a = inside-words n os h a
 inside-words n (flush l ∷ os) h a = inside-words n os h (and-iff (ltb l (n / 8)) (allInside n os) .0 a .1)
 
-inside-take : (n c : ℕ) (os : List Order) → allInside n os ≡ true → allInside n (take c os) ≡ true
+pub inside-take : (n c : ℕ) (os : List Order) → allInside n os ≡ true → allInside n (take c os) ≡ true
 unfolding allInside
 inside-take n zero os a = refl
 inside-take n (suc c) [] a = refl

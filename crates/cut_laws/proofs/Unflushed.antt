@@ -11,7 +11,8 @@ use lib.Seq.{take-nil}
 use Rattle.model.specs.Table.{line}
 use Rattle.model.specs.Orders.{Store, Order, store, ordersAfter, orders}
 use Rattle.model.specs.Cuts.{flushed, laterStores}
-use Rattle.cut_laws.specs.Unflushed.{OneLine, AllFlushed}
+use Rattle.model.specs.Judge.{OneUnflushed, AllFlushed}
+use Rattle.cut_laws.specs.Unflushed.{OneLine}
 use Rattle.cut_laws.proofs.FlushRule.{after-same, after-other}
 use Rattle.cut_laws.proofs.LastFlush.{flushed-front, other-front}
 
@@ -45,13 +46,9 @@ orders-flushed (s ∷ ss) l =
 
 -- ---- on the way
 
--- at most one line has later stores
-abbrev One : List Order → Type 0
-One os = (k l : ℕ) → k ≢ l → (laterStores k os ≡ []) ⊎ (laterStores l os ≡ [])
-
 -- also after a store to d in front of os: os flushes d, or has later stores to d alone
 abbrev Fits : ℕ → List Order → Type 0
-Fits d os = ((flushed d os ≡ true) × One os) ⊎ ((l : ℕ) → d ≢ l → laterStores l os ≡ [])
+Fits d os = ((flushed d os ≡ true) × OneUnflushed os) ⊎ ((l : ℕ) → d ≢ l → laterStores l os ≡ [])
 
 fits-store : (s : Store) (os : List Order) (d : ℕ) → line (s .word) ≡ d → Fits d os → Fits d (store s ∷ os)
 unfolding flushed
@@ -59,11 +56,11 @@ fits-store s os d e (inl (f, one)) =
     inl (f, λ k l n. rw (flushed-front s os k (rw e f), flushed-front s os l (rw e f)) (one k l n))
 fits-store s os d e (inr only) = inr (λ l k. other-front s os l (λ q. k (sym e ∙ q)) ∙ only l k)
 
-fits-one : (d : ℕ) (os : List Order) → Fits d os → One os
+fits-one : (d : ℕ) (os : List Order) → Fits d os → OneUnflushed os
 fits-one d os (inl a) k l n = a .1 k l n
 fits-one d os (inr only) k l n = elim (ℕ-discrete d k) [ yes e ↦ inr (only l (λ q. n (sym e ∙ q))) | no j ↦ inl (only k j) ]
 
-fits-start : (s : Store) (ss : List Store) → ((d c : ℕ) → Fits d (take c (ordersAfter d ss))) → (c : ℕ) → One (take c (store s ∷ ordersAfter (line (s .word)) ss))
+fits-start : (s : Store) (ss : List Store) → ((d c : ℕ) → Fits d (take c (ordersAfter d ss))) → (c : ℕ) → OneUnflushed (take c (store s ∷ ordersAfter (line (s .word)) ss))
 unfolding laterStores
 fits-start s ss ih zero = λ k l n. inl refl
 fits-start s ss ih (suc c) =

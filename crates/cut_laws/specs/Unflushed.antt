@@ -1,11 +1,9 @@
 -- The stores among orders, and which lines hold unflushed ones.
-use mathlib.Core.Path.{_≡_}
-use mathlib.Core.Logic.{_≢_, _⊎_}
 use mathlib.Core.List.{List, [], _∷_}
 use Prim.Native.Nat.{ℕ}
 use lib.ListN.{take}
 use Rattle.model.specs.Orders.{Store, Order, store, flush, barrier}
-use Rattle.model.specs.Cuts.{laterStores}
+use Rattle.model.specs.Judge.{OneUnflushed}
 
 -- the stores among the orders
 unfoldable pub storesIn : List Order → List Store
@@ -16,8 +14,4 @@ storesIn (barrier ∷ os) = storesIn os
 
 -- no two lines ever hold unflushed stores
 abbrev pub OneLine : List Order → Type 0
-OneLine os = (c k l : ℕ) → k ≢ l → (laterStores k (take c os) ≡ []) ⊎ (laterStores l (take c os) ≡ [])
-
--- no store is left unflushed
-abbrev pub AllFlushed : List Order → Type 0
-AllFlushed os = (l : ℕ) → laterStores l os ≡ []
+OneLine os = (c : ℕ) → OneUnflushed (take c os)

@@ -71,7 +71,7 @@ fn too_few(free: u64, run: Run) -> bool
 }
 
 // The number of the first test from 6 on that holds; 0 where none does. 10 counts the nodes that neither root reaches.
-fn number(
+pub fn number(
     table: &[u64],
     collection: u64,
     key: u64,

@@ -17,6 +17,7 @@ use Rattle.model.specs.Printer
 use Rattle.model.specs.Packing
 use Rattle.model.specs.Salvage
 use Rattle.model.specs.Sentinels
+use Rattle.model.specs.Judge
 
 unfoldable pub everything : Unit {0}
 unfolding Codes.isDigit Codes.isLetter Codes.isLetterOrDigit Codes.every Codes.isCode Codes.value Codes.readOn Codes.number Codes.keyOf Codes.parse Codes.character
@@ -55,4 +56,5 @@ unfolding Codes.isDigit Codes.isLetter Codes.isLetterOrDigit Codes.every Codes.i
     Sentinels.shownOn Sentinels.leavesAll Sentinels.sentinelsOf Sentinels.sentinels Sentinels.sliceNumber Sentinels.workNumber Sentinels.workOut
     Sentinels.workedOut Sentinels.lineFor Sentinels.leafFrom Sentinels.searchWith Sentinels.refusalWith Sentinels.writtenWith Sentinels.tableWith
     Sentinels.ordersWith Sentinels.storedTo Sentinels.setAnew Sentinels.sentinelsWith
+    Judge.sameSlots Judge.sameMaps Judge.goodImage Judge.completes Judge.judgedFrom Judge.judged Judge.judgeNumber Judge.judge Judge.judgeOut
 everything = tt

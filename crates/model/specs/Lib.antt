@@ -19,3 +19,4 @@ pub mod Printer
 pub mod Packing
 pub mod Salvage
 pub mod Sentinels
+pub mod Judge

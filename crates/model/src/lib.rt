@@ -68,6 +68,13 @@ pub enum Salvaged {
     Refused(u8),
 }
 
+// What the judge of an order list answers: yes; no, with the first count of orders that fails; or a refusal.
+pub enum Verdict {
+    Yes,
+    No(u64),
+    Refused(u8),
+}
+
 // Nodes with something unfinished: none, one (which), or more than one.
 pub enum Few {
     Zero,

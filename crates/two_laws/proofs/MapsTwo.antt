@@ -19,6 +19,7 @@ use Rattle.model.specs.SoundTest.{sound, settled}
 use Rattle.model.specs.Reached.{mapOf, Maps, unlessLacking, mapsOf}
 use Rattle.model.specs.Writes.{repairStores, repaired, setClassAt, classStores, Call, insertion, deletion, classChange, repair, storesOf}
 use Rattle.model.specs.Refusals.{ordersOf, seventeenIn, refusal}
+use Rattle.model.specs.Judge.{OldOrNew}
 use Rattle.list_laws.proofs.Tools.{same-or-not}
 use Rattle.cut_laws.specs.Inside.{StoresInside}
 use Rattle.cut_laws.proofs.Barriers.{barred-storeCount, barred-flushCount}
@@ -80,10 +81,6 @@ module _ (b n : ℕ) (t : Words) (ss : List Store) (f : List Slot → List Slot)
   by-collection (inr e) = let q : OwnSteps b 3 t ss (f (mapOf 2 t)) = rw e at s in rw e (parts-two b t ss f q, whole-two b t ss f q)
 
 -- ---- the calls
-
--- the maps of t′ are t's, or what call x makes of them
-abbrev pub OldOrNew : Call → Words → Words → Type 0
-OldOrNew x t t′ = (mapsOf t′ ≡ mapsOf t) ⊎ (mapsOf t′ ≡ change x (mapsOf t))
 
 -- what the stores of call x do to table t
 pub record Steps (x : Call) (t : Words) : Type 0 where

@@ -111,7 +111,7 @@ words-one (suc n) z = refl
 
 -- ---- what the answer says
 
-first-shared : (cs ds : List Test) → firstNumber cs ≢ 0 → firstNumber (cs ++ ds) ≡ firstNumber cs
+pub first-shared : (cs ds : List Test) → firstNumber cs ≢ 0 → firstNumber (cs ++ ds) ≡ firstNumber cs
 first-shared [] ds z = absurd (z refl)
 first-shared (c ∷ cs) ds z = go (c .holds) z (first-shared cs ds)
   where

@@ -1,0 +1,24 @@
+/* An order list as text, in the order printer's form or as `catalogue orders` prints it. */
+#ifndef ORDERLIST_H
+#define ORDERLIST_H
+
+#include <stddef.h>
+#include <stdint.h>
+
+struct order_list {
+    uint64_t *words; /* two an order */
+    size_t count;    /* orders */
+    size_t room;     /* for so many */
+    size_t changes;  /* lists with orders: lines that end one stand between them */
+};
+
+/*
+ * From the lines `store WORD VALUE`, `flush LINE` and `barrier` of a file, or of standard input where the name is -. A number before an order
+ * and text behind it are passed over, and so are empty lines, those that begin with #, and lines `done ..`, `refused ..` and `not made ..`,
+ * which end a list. A store to a word that no table has stays one. 0, or an exit status after saying why; order_list_free in either case.
+ */
+int order_list_read(struct order_list *l, const char *name);
+
+void order_list_free(struct order_list *l);
+
+#endif
