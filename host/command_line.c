@@ -95,7 +95,7 @@ const struct option options[] = {
      "named) or does not (1, as ARM): then a barrier follows each store",
      "add room.cat AA0001912345 7 --dock 1", DOCKING, read_dock},
     {"--wait", "SECONDS", "a number of seconds",
-     "waits so long for a program that has the table locked; find waits without end,\nthe others not at all unless told to",
+     "waits so long for a program that has the table locked; without it, not at all",
      "add room.cat AA0001912345 7 --wait 10", WAITING, read_wait},
     {"--fast", NULL, NULL,
      "on an ordinary disk: waits for the disk once, at the end, and not at each flush.\n"

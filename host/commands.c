@@ -10,6 +10,7 @@
 #include "draw.h"
 #include "help.h"
 #include "judge.h"
+#include "looks.h"
 #include "salvage.h"
 #include "table.h"
 #include "text.h"
@@ -81,11 +82,25 @@ static int say_absent(const struct table *t, uint64_t key, const uint64_t *next)
     return fail(CATALOGUE_ABSENT, "%s is not in %s%s; the next code up is %s", code, part, t->name, key_text(*next, above));
 }
 
+/* What a search answered that took no lock; nothing where memory is short. */
+static bool look_up(struct table *t, uint64_t key, uint64_t *number, uint64_t *recording, uint64_t *access, uint64_t *next, uint64_t *higher)
+{
+    struct looks looks;
+    bool room = looks_begin(&looks, t->mapped, t->working, t->words);
+    if (room)
+        *number = looks_search(&looks, t->collection, key, recording, access, next, higher);
+    looks_end(&looks);
+    return room;
+}
+
 static int find(struct table *t, struct command_line *l)
 {
-    uint64_t recording, access, next, higher;
+    uint64_t number, recording, access, next, higher;
     char pointer[POINTER_TEXT];
-    uint64_t number = catalogue_search(t->working, t->words, t->collection, l->low, &recording, &access, &next, &higher);
+    if (!look_up(t, l->low, &number, &recording, &access, &next, &higher))
+        return fail(BAD_FILE, "not enough memory for %s", t->name);
+    if (number == LOOKS_CHANGING)
+        return fail(BAD_FILE, "%s is changed faster than it can be read; try again later", t->name);
     if (number == CATALOGUE_ABSENT)
         return say_absent(t, l->low, higher ? &next : NULL);
     if (number != 0)
@@ -237,13 +252,18 @@ static int command_judge(struct command_line *l)
     return status != 0 ? status : with_table(l, false, judge_orders);
 }
 
+/* A search takes no lock: it runs beside a change. */
 static int command_find(struct command_line *l)
 {
-    /* A search may not run beside a change yet; it waits for its turn. */
-    if (!(l->given & WAITING))
-        l->table.wait = FOREVER;
+    struct table t;
     int status = read_code_word(l->words[2], &l->low);
-    return status != 0 ? status : with_table(l, false, find);
+    if (status != 0)
+        return status;
+    status = table_open_to_look(&t, l->words[1], &l->table);
+    if (status == 0)
+        status = find(&t, l);
+    table_close(&t);
+    return status;
 }
 
 static int command_list(struct command_line *l)
@@ -298,7 +318,7 @@ const struct command commands[] = {
     {"class", "TABLE CODE CLASS", "another class for a code's recording: open, room or closed", "class room.cat AA-000-19-12345 closed",
      4, 4, NAMING | DOCKING | CUT | CARRYING | WAITING, command_class},
     {"find", "TABLE CODE", "prints the code's recording,class; where the code is absent, tells the next one up",
-     "find room.cat AA0001912345", 3, 3, NAMING | WAITING, command_find},
+     "find room.cat AA0001912345", 3, 3, NAMING, command_find},
     {"list", "TABLE [FROM TO]", "prints the codes from FROM to TO, or all, as lines code,recording,class that load\nreads",
      "list room.cat AA0000000000 AAZZZ9999999", 2, 4, NAMING | WAITING, command_list},
     {"load", "TABLE FILE.csv",

@@ -83,11 +83,11 @@ static int lock(const struct table *t, uint64_t seconds)
     return 0;
 }
 
-static int open_locked(struct table *t, uint64_t seconds)
+static int open_file(struct table *t)
 {
     /* A pipe of that name must not hold the program up. */
     t->file = open(t->name, (t->writing ? O_RDWR : O_RDONLY) | O_CLOEXEC | O_NONBLOCK);
-    return t->file < 0 ? open_failed(t->name, t->writing) : lock(t, seconds);
+    return t->file < 0 ? open_failed(t->name, t->writing) : 0;
 }
 
 static bool same_file(const struct stat *a, const struct stat *b)
@@ -148,6 +148,15 @@ static int map(struct table *t, const struct table_options *options)
     return 0;
 }
 
+static int copy_header(struct table *t)
+{
+    t->working = calloc(t->words, sizeof *t->working);
+    if (!t->working)
+        return fail(BAD_FILE, "not enough memory for %s", t->name);
+    memcpy(t->working, t->mapped, HEADER_WORDS * sizeof *t->working);
+    return 0;
+}
+
 static int copy_words(struct table *t)
 {
     size_t bytes = t->words * sizeof(uint64_t);
@@ -166,8 +175,8 @@ static int test_header(const struct table *t)
     uint64_t none = 0;
     if (catalogue_carry_out(t->working, t->words, &none, 1, 0) == 0)
         return 0;
-    uint64_t nodes = t->expected[2];
-    if (t->expected[0] == 1 && nodes >= 1 && nodes <= MOST_NODES && words_for(nodes) != t->words)
+    uint64_t nodes = t->working[2];
+    if (t->working[0] == 1 && nodes >= 1 && nodes <= MOST_NODES && words_for(nodes) != t->words)
         return fail(CATALOGUE_NO_TABLE, "%s has %zu bytes, but its header says %" PRIu64 " nodes, which take %zu", t->name,
                     t->words * sizeof(uint64_t), nodes, words_for(nodes) * sizeof(uint64_t));
     return refuse(CATALOGUE_NO_TABLE, t, 0, 0);
@@ -202,7 +211,9 @@ static int begin_writing(struct table *t)
 int table_open(struct table *t, const char *name, bool writing, const struct table_options *options)
 {
     *t = (struct table){.name = name, .file = -1, .writing = writing, .collection = options->collection, .dock = options->dock};
-    int status = open_locked(t, options->wait);
+    int status = open_file(t);
+    if (status == 0)
+        status = lock(t, options->wait);
     if (status == 0)
         status = measure(t);
     if (status == 0)
@@ -215,6 +226,23 @@ int table_open(struct table *t, const char *name, bool writing, const struct tab
         status = test_collection(t);
     if (status == 0)
         status = begin_writing(t);
+    return status;
+}
+
+int table_open_to_look(struct table *t, const char *name, const struct table_options *options)
+{
+    *t = (struct table){.name = name, .file = -1, .collection = options->collection};
+    int status = open_file(t);
+    if (status == 0)
+        status = measure(t);
+    if (status == 0)
+        status = map(t, options);
+    if (status == 0)
+        status = copy_header(t);
+    if (status == 0)
+        status = test_header(t);
+    if (status == 0)
+        status = test_collection(t);
     return status;
 }
 
@@ -325,7 +353,7 @@ int table_copy(struct table *t, const char *name, uint64_t nodes)
 const char *table_part(const struct table *t, char text[PART_TEXT])
 {
     text[0] = '\0';
-    if (t->expected && t->expected[SECOND_ROOT] != 0)
+    if (t->working && t->working[SECOND_ROOT] != 0)
         snprintf(text, PART_TEXT, "collection %" PRIu64 " of ", t->collection);
     return text;
 }

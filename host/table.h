@@ -15,9 +15,6 @@
 #define NODE_WORDS 32
 #define MOST_NODES 65535
 
-/* Seconds that are no limit. */
-#define FOREVER UINT64_MAX
-
 /* How a table is opened and changed, as the command line says. */
 struct table_options {
     uint64_t wait; /* seconds for programs that have the file locked */
@@ -49,6 +46,11 @@ int table_make(const char *name, uint64_t nodes, uint64_t collections);
 
 /* An opened table is closed by table_close, also where the opening failed. */
 int table_open(struct table *t, const char *name, bool writing, const struct table_options *options);
+
+/*
+ * For a search that runs while others change the file: no lock, and of the working copy the header alone. It is closed by table_close too.
+ */
+int table_open_to_look(struct table *t, const char *name, const struct table_options *options);
 
 /* The first count orders of a list, which has room for either dock's, on the mapped words, unless another program changed them. */
 int table_carry_out(struct table *t, const uint64_t *orders, uint64_t count);

@@ -5,6 +5,9 @@
  * A table is 8 + 32 * N words, N from 1 to 65,535 nodes. Every call takes any words and any length: it does its work or returns a
  * refusal number, and a refusal changes no lent word. A word that an answer is put into is left alone unless the call does its work.
  * Lent slices may not overlap. A slice of length 0 still wants a pointer that is not null. One writer; readers only read.
+ * Words must keep still while a call reads them: a search of words that another thread or process is changing may pair a code with its
+ * neighbour's recording. Copy the nodes that it passes, and compare them once more, as host/looks.c does; a search of such a copy answers
+ * as before the change or as after it.
  * No call asks for memory. Listing and the writing calls need 300 KB of stack, a salvage 450 KB, the others 2 KB.
  *
  * A table has one collection or two, as it was made: the archive's own, 1, and the loan collection, 2. Each is a tree of its own codes, and

@@ -15,6 +15,7 @@ import installing
 import loads
 import loans
 import pages
+import readers
 import replay
 import salvages
 from drive import FOUND_SOMETHING, Program
@@ -47,7 +48,7 @@ def main():
     sanitized = Program([sys.argv[2]], "with sanitizers", False)
     watched = ["valgrind", "-q", "--leak-check=full", "--errors-for-leak-kinds=all", f"--error-exitcode={FOUND_SOMETHING}", sys.argv[1]]
     valgrind = Program(watched, "under valgrind", False)
-    everything = commands.TESTS + loads.TESTS + files.TESTS + loans.TESTS + docks.TESTS + salvages.TESTS + cuts.TESTS + replay.TESTS
+    everything = commands.TESTS + loads.TESTS + files.TESTS + loans.TESTS + docks.TESTS + salvages.TESTS + cuts.TESTS + replay.TESTS + readers.TESTS
     # valgrind takes half a second to start: each kind of work once.
     once = [commands.the_worked_orders, commands.drawing, loads.lines_from_standard_input, loads.larger_copies,
             commands.a_tree_of_sixteen_levels, salvages.damaged_slots, loans.drawing_both, loans.salvages_of_two]
@@ -55,7 +56,7 @@ def main():
     place = tempfile.mkdtemp(prefix="catalogue-", dir="/dev/shm" if roomy("/dev/shm") else None)
     os.chmod(place, 0o755)
     works = [(plain, loads.progress_elsewhere, place)] + [(valgrind, t, place) for t in once]
-    works += [(plain, t, place) for t in everything + pages.TESTS + installing.TESTS + [files.little_memory, files.little_memory_for_a_salvage]]
+    works += [(plain, t, place) for t in everything + pages.TESTS + installing.TESTS + readers.ONCE + [files.little_memory, files.little_memory_for_a_salvage]]
     works += [(sanitized, t, place) for t in everything]
     # One more than there are processors: some tests wait for the clock.
     with multiprocessing.Pool(os.cpu_count() + 1) as pool:

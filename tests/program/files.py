@@ -103,13 +103,13 @@ def read_only(program, folder):
 
 
 def in_use(program, folder):
-    """A table that another program has locked: a refusal, or a wait; a search waits without being told to."""
+    """A table that another program has locked: a refusal, or a wait; a search takes no lock and answers."""
     t, csv = table(program, folder)
     with open(t, "rb") as f:
         fcntl.flock(f, fcntl.LOCK_EX)
-        for words in reading(t) + anew(t) + writing(t, csv):
-            wait = ["--wait", 0] if words[0] == "find" else []
-            program.refuses(BAD_FILE, "is in use by another program; try again later, or with --wait", *words, *wait)
+        assert program.done("find", t, code(1)) == "1,open\n"
+        for words in [w for w in reading(t) if w[0] != "find"] + anew(t) + writing(t, csv):
+            program.refuses(BAD_FILE, "is in use by another program; try again later, or with --wait", *words)
         fcntl.flock(f, fcntl.LOCK_SH)
         for words in reading(t):
             program.done(*words)
@@ -122,16 +122,16 @@ def in_use(program, folder):
 
 def waiting(program, folder):
     t, csv = table(program, folder)
-    commands = [["find", t, code(1)], ["find", t, code(2), "--wait", 60], ["add", t, code(50), 50, "--wait", 60]]
+    commands = [["list", t, code(1), code(1), "--wait", 60], ["add", t, code(50), 50, "--wait", 60]]
     with open(t, "rb") as f:
         fcntl.flock(f, fcntl.LOCK_EX)
         runs = [program.start(*words, stdout=subprocess.PIPE, stderr=subprocess.PIPE) for words in commands]
         began = time.monotonic()
         status, _, err = program("repair", t, "--wait=2")
         assert status == BAD_FILE and "waiting for" in err and "is in use" in err and 1.9 < time.monotonic() - began < 30, err
-        assert [run.poll() for run in runs] == 3 * [None]
+        assert [run.poll() for run in runs] == 2 * [None]
         fcntl.flock(f, fcntl.LOCK_UN)
-    for run, answer in zip(runs, ("1,open\n", "2,open\n", "added ")):
+    for run, answer in zip(runs, (f"{code(1)},1,open\n", "added ")):
         out, err = run.communicate(timeout=60)
         assert run.returncode == 0 and out.startswith(answer), (out, err)
         assert err == f"catalogue: waiting for {t}, which another program uses\n", err
@@ -197,10 +197,10 @@ def changed_meanwhile(program, folder):
         status, out, err, _, _ = changed_while_it_loads(program, folder, meddle)
         assert status == 0 and out == f"{code(61)},61,open\n2 added, 0 there already\n", (status, out, err)
 
-    # While it loads, others are held off.
+    # While it loads, others are held off, but for searches.
     def others(t, _):
         program.refuses(BAD_FILE, "in use", "add", t, code(70), 70)
-        program.refuses(BAD_FILE, "in use", "find", t, code(1), "--wait", 0)
+        assert program.done("find", t, code(1)) == "1,open\n"
     assert changed_while_it_loads(program, folder, others)[0] == 0
     return f"{len(meddling) + 6} ways"
 

@@ -329,3 +329,8 @@ unlink v p a l z e = record {
   fewer = fewer v p a l z e;
   others = others v p a l z e;
 }
+
+-- the nodes reached before are those reached after, and x behind a
+pub unlink-reached : (v : View) (p a : ℕ) → HasLeft v (missingIn p a false) → v .node a .level ≡ 0 → v .node (v .node a .sibling) .shown ≡ []
+    → reached v ≡ splice a (v .node a .sibling) (reached (withSibling v a (v .node (v .node a .sibling) .sibling)))
+unlink-reached = reached-is

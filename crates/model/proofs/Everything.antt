@@ -18,6 +18,7 @@ use Rattle.model.specs.Packing
 use Rattle.model.specs.Salvage
 use Rattle.model.specs.Sentinels
 use Rattle.model.specs.Judge
+use Rattle.model.specs.Looks
 
 unfoldable pub everything : Unit {0}
 unfolding Codes.isDigit Codes.isLetter Codes.isLetterOrDigit Codes.every Codes.isCode Codes.value Codes.readOn Codes.number Codes.keyOf Codes.parse Codes.character
@@ -57,4 +58,5 @@ unfolding Codes.isDigit Codes.isLetter Codes.isLetterOrDigit Codes.every Codes.i
     Sentinels.workedOut Sentinels.lineFor Sentinels.leafFrom Sentinels.searchWith Sentinels.refusalWith Sentinels.writtenWith Sentinels.tableWith
     Sentinels.ordersWith Sentinels.storedTo Sentinels.setAnew Sentinels.sentinelsWith
     Judge.sameSlots Judge.sameMaps Judge.goodImage Judge.completes Judge.judgedFrom Judge.judged Judge.judgeNumber Judge.judge Judge.judgeOut
+    Looks.seenOn Looks.seenPass Looks.seenWithin Looks.stood Looks.stoodOn Looks.seenKept Looks.nextLooks Looks.answerLooks Looks.searchLooks
 everything = tt

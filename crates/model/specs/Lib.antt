@@ -20,3 +20,4 @@ pub mod Packing
 pub mod Salvage
 pub mod Sentinels
 pub mod Judge
+pub mod Looks

@@ -1,7 +1,7 @@
 -- An empty leaf freed, store by store: sound with the same map, settled at the end, and the leaf reached no more.
 use mathlib.Core.Path.{_≡_, refl, ap, sym, _∙_, subst}
 use mathlib.Core.Bool.{Bool, true, false}
-use mathlib.Core.Logic.{_≢_, _⊎_, inl, inr}
+use mathlib.Core.Logic.{_≢_, _⊎_, inl, inr, ⊎-elim}
 use mathlib.Core.List.{List, [], _∷_, _++_, map-append, append-nil, List·Memᴰ}
 use mathlib.Core.Option.{some}
 use Prim.Native.Nat.{ℕ, suc, _-_, _<_}
@@ -18,7 +18,7 @@ use Rattle.model.specs.Orders.{Store, put, apply, orders, ordersAfter}
 use Rattle.model.specs.Shifts.{lastPointer, placeOf, shiftOut}
 use Rattle.model.specs.Writes.{shiftOutAt, childBefore, freeStores}
 use Rattle.tree_laws.specs.OneTree.{settledOne, mapOne}
-use Rattle.view_laws.proofs.NodeViews.{shownOf}
+use Rattle.view_laws.proofs.NodeViews.{siblingOf, levelOf, shownOf}
 use Rattle.list_laws.proofs.Lists.{take-append}
 use Rattle.list_laws.proofs.Tools.{Each-append}
 use Rattle.list_laws.proofs.Members.{each-mem, each-take, each-drop}
@@ -37,16 +37,28 @@ use Rattle.change_laws.proofs.Parts.{has-left-iff, all-finished, Keeps}
 use Rattle.change_laws.proofs.Hidden.{hide-missing}
 use Rattle.change_laws.proofs.Parents.{child-reached, child-level, distinct-children}
 use Rattle.change_laws.proofs.Detach.{detach, child-next, before-child}
-use Rattle.change_laws.proofs.Unlink.{Unlinked, unlink}
+use Rattle.change_laws.proofs.Splice.{splice, mem-splice}
+use Rattle.change_laws.proofs.Unlink.{Unlinked, unlink, unlink-reached}
 use Rattle.step_laws.proofs.Phase.{Phase}
 use Rattle.step_laws.proofs.Stages.{SoundWith, SettledWith, Stage, stage-until, stage-phase, phase-until}
 use Rattle.step_laws.proofs.Bounds.{shift-out-few, shift-out-inside}
+use Rattle.step_laws.proofs.Rowwise.{OnRow, Same, same-refl, sibling-row, none-straight, only-straight}
+use Rattle.step_laws.proofs.LevelCourses.{QuietAt, Quiet, CalmAt, Skipped, Skip, whole as whole-part, each-part, each-first-part, calm-still, calm-quiet, quiet-append}
+use Rattle.step_laws.proofs.SlotCourses.{hidden-quiet, slots-still, slots-quiet, seen-quiet}
+use Rattle.step_laws.proofs.LinkCourses.{splice-cases}
+use Rattle.step_laws.proofs.Repair.{sibling-some, a-reached}
 use Rattle.step_laws.proofs.Views.{changed-view, shown-view, same-view, Fine, fine-sound, fine-settled, settled-fine, view-fine, view-sound, view-same, Usable, reached-usable, shown-few}
 
 -- what holds before, between and after the stores alike
 first-until : (P : Words → Type 0) (qs : List Store) (t : Words) → AtFirst doStore P P P qs t → Until doStore P P qs t
 first-until P [] t a = a
 first-until P (q ∷ qs) t a = a
+
+same-from : (l : ℕ) (v v′ w : View) → v ≡ v′ → Same l v′ w → Same l v w
+same-from l v v′ w e s = rw e s
+
+skipped-is : (l a b : ℕ) (v v′ w w′ : View) → v ≡ v′ → w ≡ w′ → Skipped l a b v′ w′ → Skipped l a b v w
+skipped-is l a b v v′ w w′ e f s = rw (e, f) s
 
 -- p, on level 1, has the empty leaf x as the child of the slot whose key is x's fence
 pub record Freeable (t : Words) (p x : ℕ) : Type 0 where
@@ -251,3 +263,74 @@ module _ (t : Words) (p x : ℕ) (h : Freeable t p x) where
       go : (b : Bool) → ltb j (length (shiftOutAt t p k)) ≡ b → Lacks t p x (apply (take j (shiftOutAt t p k)) t)
       go true e = hidden-left _ (between-first (Changed t p ss 0) (Changed t p (withoutSlot t p k) 1) (Changed t p (withoutSlot t p k) 0) (shiftOutAt t p k) t shifting j g (ltb-true j (length (shiftOutAt t p k)) e))
       go false e = rw (take-all j (shiftOutAt t p k) (ltb-false j (length (shiftOutAt t p k)) e)) missing-left
+
+  -- ---- x is passed over; the other levels are quiet
+
+  level-p : (l : ℕ) → l ≢ 0 → v .node p .level ≢ suc l
+  level-p l z e = z (omega (arith, h .level))
+
+  -- every level stays, and only level 0 has a node that lacks its slot
+  out-calm : (l j : ℕ) → CalmAt view p l t (apply (take j (shiftOutAt t p k)) t)
+  out-calm l = each-first-part (CalmAt view p l t) (shiftOutAt t p k) t (first-map doStore _ (CalmAt view p l t) _ (CalmAt view p l t) _ (CalmAt view p l t)
+      (λ t′ c. let q = hidden-quiet t p l (none-straight v (fine .left .left .2) l) 0 t′ c in record { same = q .same; straight = λ z. q .straight }) (calm 1) (calm 0) (shiftOutAt t p k) t shifting)
+    where
+      calm : (i : ℕ) (t′ : Words) → Changed t p (withoutSlot t p k) i t′ → CalmAt view p l t t′
+      calm i t′ c = record { same = slots-still t p l _ i t′ c (det .reached); straight = λ z. slots-quiet t p l _ i t′ c (det .reached) (only-straight less p a (det .left .left .2) l z) .straight }
+
+  abbrev over : View
+  over = withSibling less a (v .node x .sibling)
+
+  reached-over : reached less ≡ splice a x (reached over)
+  reached-over = subst (λ (n : ℕ). reached less ≡ splice a n (reached (withSibling less a (v .node n .sibling)))) next
+      (unlink-reached less p a (det .left) a-leaf (ap (shownOf less) next ∙ update-off (shownOf v) p (low ++ high) x apart ∙ h .empty))
+
+  a-row : OnRow less 0 a
+  a-row = (a-reached less p a (det .left .orderly) (det .left .left .2), a-leaf)
+
+  x-row : OnRow less 0 x
+  x-row = rw next at (sibling-row less (det .left .orderly) 0 a a-row (sibling-some less p a (det .left .orderly) (det .left .left .2)))
+
+  keep : (l n : ℕ) → OnRow less l n → n ≢ x → OnRow over l n
+  keep l n r z = (⊎-elim (λ e. absurd (z e)) (λ m. m) (splice-cases a x n (reached over) (rw reached-over at (r .0))), r .1)
+
+  skipped : Skipped 0 a x less over
+  skipped = record {
+    a-row = a-row;
+    b-row = x-row;
+    next = next;
+    row = keep 0;
+    level = λ n. refl;
+    fence = λ n. refl;
+    a-sibling = update-at (siblingOf v) a (v .node x .sibling);
+    sibling = λ n z. update-off (siblingOf v) a (v .node x .sibling) n z;
+    b-left = refl;
+    b-shown = refl;
+  }
+
+  unlink-same : (l : ℕ) → l ≢ 0 → Same l less over
+  unlink-same l z = record {
+    there = λ n r. keep l n r (λ e. z (sym (r .1) ∙ ap (levelOf v) e ∙ x-row .1));
+    back = λ n r. (rw reached-over (mem-splice a x n (reached over) (r .0)), r .1);
+    fence = λ n r. refl;
+    sibling = λ n r. update-off (siblingOf v) a (v .node x .sibling) n (λ e. z (sym (r .1) ∙ ap (levelOf v) e ∙ a-leaf));
+  }
+
+  pub free-quiet : (l : ℕ) → l ≢ 0 → Quiet view l t (freeStores t p x)
+  unfolding freeStores childBefore
+  free-quiet l z = quiet-append view l t (shiftOutAt t p k) (put (suc (nodeStart a)) (v .node x .sibling) ∷ []) (calm-quiet view p l t _ (out-calm l) (level-p l z))
+      (each-part (QuietAt view l t₁) (put (suc (nodeStart a)) (v .node x .sibling) ∷ []) t₁ (
+        record { same = same-refl l (view t₁); straight = whole-part (CalmAt view p l t) (shiftOutAt t p k) t (out-calm l) .straight (level-p l z) },
+        seen-quiet l t₁ t₂ over seen₂ (same-from l (view t₁) less over seen₁ (unlink-same l z)) (none-straight over (gap .left .left .2) l),
+      ))
+
+  pub free-skip : Skip view 0 t (freeStores t p x)
+  unfolding freeStores childBefore
+  free-skip = record {
+    a = a;
+    b = x;
+    before = shiftOutAt t p k;
+    it = put (suc (nodeStart a)) (v .node x .sibling);
+    shape = refl;
+    still = calm-still view p 0 t _ (out-calm 0);
+    skips = skipped-is 0 a x (view t₁) less (view t₂) over seen₁ seen₂ skipped;
+  }

@@ -42,6 +42,9 @@ use Rattle.change_laws.proofs.LeafSlots.{NewPair, enter-leaf, enter-fresh, leav
 use Rattle.step_laws.proofs.Phase.{Phase}
 use Rattle.step_laws.proofs.Stages.{SoundWith, SettledWith, phase-until, phase-first}
 use Rattle.step_laws.proofs.Bounds.{shift-in-few, shift-in-inside, shift-out-few, shift-out-inside, slot-inside}
+use Rattle.step_laws.proofs.Rowwise.{Straight, same-refl, none-straight}
+use Rattle.step_laws.proofs.LevelCourses.{QuietAt, Quiet, each-part, each-first-part}
+use Rattle.step_laws.proofs.SlotCourses.{hidden-quiet, slots-quiet}
 use Rattle.step_laws.proofs.Views.{changed-view, shown-view, same-view, Fine, settled-fine, view-sound, view-settles, view-same, may-hide, Usable, reached-usable, shown-few}
 
 -- a pointer that no slot has
@@ -74,6 +77,10 @@ module _ (t : Words) (s : settledOne t ≡ true) (k : ℕ) where
   standing-x : standingOne t 0 k ≡ x
   standing-x = standing-leaf t k (fine .left .orderly)
 
+  -- no node lacks its slot
+  no-gap : (l : ℕ) → Straight l v
+  no-gap = none-straight v (fine .left .left .2)
+
   -- ---- shift in
 
   module _ (y : ℕ) (new : NewPair (view t) k y) (room : length (nodeView t (leafFor (view t) k) .shown) ≤ 10) where
@@ -90,10 +97,22 @@ module _ (t : Words) (s : settledOne t ≡ true) (k : ℕ) where
         (until-map doStore _ (SoundWith (mapOne t)) _ (SettledWith (enter k y (mapOne t))) (may-hide t x nothing (hiddenIn x) fine no-hidden (hide v x (fine .left) x-reached) refl) entered (shiftInAt t x k y) t
         (shift-in-view t x (use-x .there) (use-x .clear) (use-x .left) no-hidden k y room in-shown))
 
+    in-quiet : (l : ℕ) → Quiet view l t (shiftInAt t x k y)
+    in-quiet l =
+        let e = enter-leaf v k y (fine .left) new in
+        each-part (QuietAt view l t) (shiftInAt t x k y) t
+        (until-map doStore _ (QuietAt view l t) _ (QuietAt view l t) (λ t′ u. hidden-quiet t x l (no-gap l) (u .0) t′ (u .2))
+        (λ t′ c. slots-quiet t x l (withSlot t x k y) 0 t′ c (e .reached) (none-straight (withShown v x (withSlot t x k y)) (e .left .left .2) l)) (shiftInAt t x k y) t
+        (shift-in-view t x (use-x .there) (use-x .clear) (use-x .left) no-hidden k y room in-shown))
+
   -- k with the pointer y is shifted in at its leaf, which has room for it.
   pub leaf-shift-in : (y : ℕ) → NewPair (view t) k y → length (nodeView t (standingOne t 0 k) .shown) ≤ 10
       → Phase 27 t (shiftInAt t (standingOne t 0 k) k y) (enter k y (mapOne t))
   leaf-shift-in y new room = rw standing-x (shifted-in y new (rw standing-x at room))
+
+  -- every level is quiet meanwhile
+  pub leaf-in-quiet : (y : ℕ) → NewPair (view t) k y → length (nodeView t (standingOne t 0 k) .shown) ≤ 10 → (l : ℕ) → Quiet view l t (shiftInAt t (standingOne t 0 k) k y)
+  leaf-in-quiet y new room = rw standing-x (in-quiet y new (rw standing-x at room))
 
   -- ---- shift out
 
@@ -152,6 +171,17 @@ module _ (t : Words) (s : settledOne t ≡ true) (k : ℕ) where
     -- The pair of k is shifted out of its leaf.
     pub leaf-shift-out : Phase 25 t (shiftOutAt t (standingOne t 0 k) k) (leave k (mapOne t))
     leaf-shift-out = rw standing-x shifted-out
+
+    out-quiet : (l : ℕ) → Quiet view l t (shiftOutAt t x k)
+    out-quiet l =
+        let whole = none-straight less (settles .left .left .2) l in
+        each-first-part (QuietAt view l t) (shiftOutAt t x k) t
+        (first-map doStore _ (QuietAt view l t) _ (QuietAt view l t) _ (QuietAt view l t) (λ t′ c. hidden-quiet t x l (no-gap l) 0 t′ c) (λ t′ c. slots-quiet t x l (withoutSlot t x k) 1 t′ c (settles .reached) whole)
+        (λ t′ c. slots-quiet t x l (withoutSlot t x k) 0 t′ c (settles .reached) whole) (shiftOutAt t x k) t shifting)
+
+    -- every level is quiet meanwhile
+    pub leaf-out-quiet : (l : ℕ) → Quiet view l t (shiftOutAt t (standingOne t 0 k) k)
+    leaf-out-quiet = rw standing-x out-quiet
 
     seen : view (apply (shiftOutAt t x k) t) ≡ less
     seen = shown-view t x (withoutSlot t x k) 0 _ (after-first (Changed t x ss 0) (Changed t x (withoutSlot t x k) 1) (Changed t x (withoutSlot t x k) 0) (shiftOutAt t x k) t shifting stores-some) no-hidden
@@ -219,3 +249,13 @@ module _ (t : Words) (s : settledOne t ≡ true) (k : ℕ) where
     -- The slot of k in its leaf gets class c, in one store and one flush.
     pub leaf-class : Phase 2 t (setClassAt t (standingOne t 0 k) k c) (reclass k c (mapOne t))
     leaf-class = rw (standing-x, one-store) stored
+
+    class-quiet : (l : ℕ) → Quiet view l t (put (pointerWord x at-k) y ∷ [])
+    class-quiet l =
+        let s = place-c .settles in
+        each-part (QuietAt view l t) (put (pointerWord x at-k) y ∷ []) t
+        (record { same = same-refl l v; straight = no-gap l }, slots-quiet t x l (slotTo k y all) 0 _ class-there (s .reached) (none-straight (withShown v x (slotTo k y all)) (s .left .left .2) l))
+
+    -- every level is quiet meanwhile
+    pub leaf-class-quiet : (l : ℕ) → Quiet view l t (setClassAt t (standingOne t 0 k) k c)
+    leaf-class-quiet = rw (standing-x, one-store) class-quiet

@@ -12,6 +12,10 @@ pub mod Accepted
 pub mod Fresh
 pub mod WholeNode
 pub mod Standing
+pub mod Rowwise
+pub mod LevelCourses
+pub mod SlotCourses
+pub mod LinkCourses
 pub mod Freeing
 pub mod Deletion
 pub mod NewRoot

@@ -19,6 +19,7 @@ use Rattle.view_laws.proofs.NodeViews.{shownOf, newNode, sibling-eq, level-eq, 
 use Rattle.table_laws.proofs.Header.{header-iff}
 use Rattle.word_laws.proofs.Frames.{same-root, same-nodes}
 use Rattle.word_laws.proofs.LinkStores.{root-view, root-header}
+use Rattle.word_laws.proofs.NewNodes.{length-node-words}
 use Rattle.tree_laws.proofs.SearchLaw.{Stands}
 use Rattle.cut_laws.proofs.Applying.{apply-append}
 use Rattle.change_laws.proofs.Updates.{withRoot}
@@ -28,6 +29,10 @@ use Rattle.step_laws.proofs.Stages.{SettledWith, stage-phase, phase-unt
 use Rattle.step_laws.proofs.Views.{fine-sound, fine-settled, view-fine}
 use Rattle.step_laws.proofs.Fresh.{Free, free-other}
 use Rattle.step_laws.proofs.WholeNode.{Stays, whole-stage, whole-stays}
+use Rattle.step_laws.proofs.Rowwise.{same-refl, none-straight}
+use Rattle.step_laws.proofs.LevelCourses.{Crosses, QuietAt, Quiet, each-part, quiet-append}
+use Rattle.step_laws.proofs.SlotCourses.{seen-quiet, seen-crosses}
+use Rattle.step_laws.proofs.LinkCourses.{whole-quiet, root-same, root-crosses}
 use Rattle.step_laws.proofs.Standing.{standing-stands, standing-is, stands, stands-same, stays-height, stays-stands}
 
 -- into a free node r
@@ -91,6 +96,20 @@ module _ (t : Words) (s : settledOne t ≡ true) (low : height (view t) < 15) (r
   pub root-phase : Phase 38 t (rootAtOne t r) (mapOne t)
   root-phase = stage-phase 36 2 t (putAll (nodeStart r) ws) (put 1 r ∷ []) (mapOne t) (whole-stage t r (root t) 0 (suc (height v)) 0 [] s f) link-phase
 
+  -- ---- every level is quiet but the new one, which has no node before
+
+  words-quiet : (l : ℕ) → Quiet view l t (putAll (nodeStart r) ws)
+  words-quiet = whole-quiet t r s f ws (length-node-words (root t) 0 (suc (height v)) 0 [])
+
+  link-quiet : (l : ℕ) → l ≢ suc (height v) → Quiet view l t₁ (put 1 r ∷ [])
+  link-quiet l z = each-part (QuietAt view l t₁) (put 1 r ∷ []) t₁ (
+    record { same = same-refl l v₁; straight = none-straight v₁ (stays .fine .left .left .2) l },
+    seen-quiet l t₁ t₂ (withRoot v₁ r) seen (root-same v₁ r (rooted .reached) l (λ e. z (e ∙ level-eq new))) (none-straight (withRoot v₁ r) (rooted .left .left .2) l),
+  )
+
+  pub root-quiet : (l : ℕ) → l ≢ suc (height (view t)) → Quiet view l t (rootAtOne t r)
+  root-quiet l z = quiet-append view l t (putAll (nodeStart r) ws) (put 1 r ∷ []) (words-quiet l) (link-quiet l z)
+
   -- ---- what it leaves
 
   reach : reached (view t₂) ≡ r ∷ reached v
@@ -111,6 +130,10 @@ module _ (t : Words) (s : settledOne t ≡ true) (low : height (view t) < 15) (r
   after : apply (rootAtOne t r) t ≡ t₂
   unfolding apply
   after = apply-append (putAll (nodeStart r) ws) (put 1 r ∷ []) t
+
+  -- the header's store turns the new level
+  pub root-turns : Crosses (suc (height (view t))) (view (apply (putAll (nodeStart r) (nodeWords (root t) 0 (suc (height (view t))) 0 [])) t)) (view (apply (rootAtOne t r) t))
+  root-turns = rw after (seen-crosses (suc (height v)) v₁ (view t₂) (withRoot v₁ r) seen (root-crosses v₁ r (rooted .reached) (stays .fine .left .orderly) (suc (height v)) (omega (arith, same-height))))
 
   pub root-height : height (view (apply (rootAtOne t r) t)) ≡ suc (height (view t))
   root-height = rw after up

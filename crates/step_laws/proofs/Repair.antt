@@ -6,7 +6,7 @@ use mathlib.Core.List.{List, [], _∷_, _++_, append-assoc, List·Memᴰ}
 use mathlib.Core.Option.{some}
 use Prim.Native.Nat.{ℕ, _≤_, _<_}
 use native.Mathlib.Omega.{arith}
-use lib.ListN.{length, length-append}
+use lib.ListN.{length, take, length-append}
 use borrow.Author.Tests.{leb-true}
 use Rattle.model.specs.Table.{Words, nodeStart}
 use Rattle.model.specs.Slots.{Slot, NodeView, View, nodeView, view, height}
@@ -39,6 +39,9 @@ use Rattle.change_laws.proofs.Attach.{attach-fresh, attach-settles}
 use Rattle.step_laws.proofs.Phase.{Phase, phase-nil}
 use Rattle.step_laws.proofs.Stages.{SoundWith, SettledWith, Stage, stage-until, stage-whole, stage-phase, phase-until, phase-within}
 use Rattle.step_laws.proofs.Bounds.{shift-in-few, shift-in-inside, close-few, close-inside}
+use Rattle.step_laws.proofs.Rowwise.{same-refl, none-straight, only-straight}
+use Rattle.step_laws.proofs.LevelCourses.{CalmAt, each-part}
+use Rattle.step_laws.proofs.SlotCourses.{hidden-still, hidden-keeps, slots-still, slots-quiet}
 use Rattle.step_laws.proofs.Views.{shown-view, hidden-view, same-view, Fine, fine-sound, sound-fine, fine-settled, view-fine, view-keeps, view-settles, keeps-settles, view-same, may-hide, Usable, reached-usable, used-few, shown-few}
 use Rattle.step_laws.proofs.LeafShift.{not-pointed}
 
@@ -162,6 +165,14 @@ module _ (t : Words) (p a : ℕ) (f : Fine t (missingIn p a false)) where
       (until-map doStore _ (SoundWith (mapOne t)) _ (SettledWith (mapOne t)) (may-hide t p (missingIn p a false) (bothIn p a) f p-shows (hide-missing (view t) p a (f .left)) (f .room))
       (λ t′ c. view-settles t t′ _ (shown-view t p _ 0 t′ c p-shows) (same-ok (c .header)) (f .header) (mapOne t) (keeps-settles (view t) _ (attach-settles (view t) p a (f .left)))) (attach t p a) t attaching)
 
+  -- every level stays, and only the one below p has a node that lacks its slot
+  pub attach-calm : (l j : ℕ) → CalmAt view p l t (apply (take j (attach t p a)) t)
+  attach-calm l =
+      let k = attach-settles (view t) p a (f .left) in
+      each-part (CalmAt view p l t) (attach t p a) t (until-map doStore _ (CalmAt view p l t) _ (CalmAt view p l t)
+      (λ t′ u. record { same = hidden-still t p l (u .0) t′ (u .2); straight = λ z. hidden-keeps t p l (u .0) t′ (u .2) (only-straight (view t) p a lacks l z) })
+      (λ t′ c. let q = slots-quiet t p l _ 0 t′ c (k .reached) (none-straight _ (k .left .left .2) l) in record { same = q .same; straight = λ z. q .straight }) (attach t p a) t attaching)
+
 -- ---- cut
 
 module _ (t : Words) (p a : ℕ) (f : Fine t (missingIn p a true)) where
@@ -215,6 +226,15 @@ module _ (t : Words) (p a : ℕ) (f : Fine t (missingIn p a true)) where
     where
       in-table : StoresInside (length t) (cutOff t a)
       in-table = unfold cutOff nodeStart in (omega (arith, place-in, shown-few t a (use-a .clear), has-node-iff t a .0 (use-a .there)), tt)
+
+  pub cut-calm : (l j : ℕ) → CalmAt view p l t (apply (take j (cutOff t a)) t)
+  cut-calm l = each-part (CalmAt view p l t) (cutOff t a) t (unfold cutOff apply in (record { same = same-refl l v; straight = only-straight v p a missing l }, cut-at))
+    where
+      cut-at : CalmAt view p l t (apply (cutOff t a) t)
+      cut-at = record {
+        same = slots-still t a l (kept v a) 0 _ cut-changed (cuts .reached);
+        straight = λ z. slots-quiet t a l (kept v a) 0 _ cut-changed (cuts .reached) (only-straight (withShown v a (kept v a)) p a (cuts .left .left .2) l z) .straight;
+      }
 
   -- the attach after it is the one that the uncut table has
   pub cut-attach : attach (apply (cutOff t a) t) p a ≡ attach t p a

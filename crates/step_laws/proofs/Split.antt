@@ -27,6 +27,7 @@ use Rattle.table_laws.proofs.Nodes.{has-node-iff}
 use Rattle.slot_laws.proofs.Hiding.{AllShown, all-split}
 use Rattle.word_laws.proofs.Frames.{SameHeader, same-ok, same-root, same-nodes}
 use Rattle.word_laws.proofs.LinkStores.{sibling-view, sibling-header}
+use Rattle.word_laws.proofs.NewNodes.{length-node-words}
 use Rattle.word_laws.proofs.ShiftViews.{withSlot, view-shown, shift-in-same}
 use Rattle.tree_laws.proofs.Rows.{Good}
 use Rattle.tree_laws.proofs.Kept.{cut-place}
@@ -46,9 +47,13 @@ use Rattle.step_laws.specs.Parts.{splitInto, FullNode}
 use Rattle.step_laws.proofs.Phase.{Phase}
 use Rattle.step_laws.proofs.Stages.{Stage, stage-until, stage-whole, stage-phase}
 use Rattle.step_laws.proofs.Views.{Fine, fine-sound, fine-settled, settled-fine, view-fine, reached-usable}
-use Rattle.step_laws.proofs.Repair.{sibling-some, a-reached, cut-fine, cut-seen, cut-stage, cut-attach, attach-seen, attach-phase}
+use Rattle.step_laws.proofs.Repair.{sibling-some, a-reached, cut-fine, cut-seen, cut-stage, cut-attach, cut-calm, attach-seen, attach-phase, attach-calm}
 use Rattle.step_laws.proofs.Fresh.{Free, free-other, free-sibling}
 use Rattle.step_laws.proofs.WholeNode.{Stays, whole-stage, whole-stays}
+use Rattle.step_laws.proofs.Rowwise.{same-refl, none-straight, only-straight}
+use Rattle.step_laws.proofs.LevelCourses.{QuietAt, Quiet, Still, Turn, calm-still, calm-quiet, each-part, still-append, quiet-append}
+use Rattle.step_laws.proofs.SlotCourses.{seen-quiet, seen-crosses}
+use Rattle.step_laws.proofs.LinkCourses.{whole-quiet, link-same, link-crosses}
 use Rattle.step_laws.proofs.Standing.{standing-stands, standing-parent, standing-is, stands, stands-same, stays-height, stays-stands}
 
 -- the pointers of a leaf are not MARK
@@ -273,6 +278,63 @@ module _ (t : Words) (k l : ℕ) (h : FullNode t k l) (b : ℕ) (f : Free t b) w
   pub split-phase : Phase 67 t (splitInto t l k b) (mapOne t)
   unfolding split
   split-phase = stage-phase 36 31 t (putAll (nodeStart b) (splitWords t a)) _ (mapOne t) write link-phase
+
+  -- ---- level l turns as B is linked, the others are quiet
+
+  level₁ : v₁ .node a .level ≡ l
+  level₁ = level-eq (stays .node .else a not-a) ∙ stands-a .covers .at .level
+
+  parent₁ : v₁ .node p .level ≡ suc l
+  parent₁ = level-eq (stays .node .else p not-p) ∙ stands-p .covers .at .level
+
+  parent₂ : nodeView t₂ p .level ≡ suc l
+  parent₂ = ap (λ (x : View). x .node p .level) seen₂ ∙ parent₁
+
+  parent₃ : nodeView t₃ p .level ≡ suc l
+  parent₃ = ap (λ (x : View). x .node p .level) (cut-seen t₂ p a fine₂) ∙ parent₂
+
+  words-quiet : (d : ℕ) → Quiet view d t (putAll (nodeStart b) (splitWords t a))
+  words-quiet = whole-quiet t b s f (splitWords t a) (ap length words ∙ length-node-words (upperLeft d mid) (v .node a .sibling) d (mid .key) (upperSlots d mid high))
+
+  -- after the link
+  abbrev rest : List Store
+  rest = put (pointerWord a 5) 0 ∷ shiftInAt t p (middle t a .key) b
+
+  rest-is : cutOff t₂ a ++ attach t₃ p a ≡ rest
+  rest-is = ap (λ (x : List Store). x ++ attach t₃ p a) cut-same ∙ ap (λ (x : List Store). put (pointerWord a 5) 0 ∷ x) attach-same
+
+  rest-still : (e : ℕ) → Still view e t₂ rest
+  rest-still e = rw rest-is at (still-append view e t₂ (cutOff t₂ a) (attach t₃ p a) (calm-still view p e t₂ _ (cut-calm t₂ p a fine₂ e)) (calm-still view p e t₃ _ (attach-calm t₃ p a fine₃ e)))
+
+  rest-quiet : (e : ℕ) → e ≢ l → Quiet view e t₂ rest
+  rest-quiet e z = rw rest-is at (quiet-append view e t₂ (cutOff t₂ a) (attach t₃ p a)
+      (calm-quiet view p e t₂ _ (cut-calm t₂ p a fine₂ e) (λ q. z (omega (arith, parent₂)))) (calm-quiet view p e t₃ _ (attach-calm t₃ p a fine₃ e) (λ q. z (omega (arith, parent₃)))))
+
+  link-at : (e : ℕ) → e ≢ l → QuietAt view e t₁ t₂
+  link-at e z = seen-quiet e t₁ t₂ (withSibling v₁ a b) seen₂
+      (link-same v₁ a b (take 5 (v .node a .shown)) (middle t a) (drop 6 (v .node a .shown)) p (stays .fine .left) parts parent e (λ q. z (q ∙ level₁)))
+      (only-straight (withSibling v₁ a b) p a (linked .left .left .2) e (λ q. z (omega (arith, parent₁))))
+
+  link-quiet : (e : ℕ) → e ≢ l → Quiet view e t₁ (put (suc (nodeStart a)) b ∷ [])
+  link-quiet e z = each-part (QuietAt view e t₁) (put (suc (nodeStart a)) b ∷ []) t₁ (record { same = same-refl e v₁; straight = none-straight v₁ (stays .fine .left .left .2) e }, link-at e z)
+
+  pub split-quiet : (e : ℕ) → e ≢ l → Quiet view e t (splitInto t l k b)
+  unfolding split apply
+  split-quiet e z = quiet-append view e t (putAll (nodeStart b) (splitWords t a)) (put (suc (nodeStart a)) b ∷ rest) (words-quiet e)
+      (quiet-append view e t₁ (put (suc (nodeStart a)) b ∷ []) rest (link-quiet e z) (rest-quiet e z))
+
+  pub split-turn : Turn view l t (splitInto t l k b)
+  unfolding split
+  split-turn = record {
+    before = putAll (nodeStart b) (splitWords t a);
+    it = put (suc (nodeStart a)) b;
+    after = rest;
+    shape = refl;
+    quiet = words-quiet l;
+    crosses = seen-crosses l v₁ (view t₂) (withSibling v₁ a b) seen₂
+        (rw level₁ at (link-crosses v₁ a b (take 5 (v .node a .shown)) (middle t a) (drop 6 (v .node a .shown)) p (stays .fine .left) parts parent));
+    still = rest-still l;
+  }
 
   -- ---- what it leaves
 

@@ -1,4 +1,4 @@
--- The definitions tried: writes whole and cut, what breaks soundness, single sentences, and those of requests 1, 5, 6 and 8.
+-- The definitions tried: writes whole and cut, what breaks soundness, single sentences, and those of requests 1, 5, 6, 8 and 10.
 pub mod Calls
 pub mod Unsound
 pub mod Sentences
@@ -7,3 +7,4 @@ pub mod Collections
 pub mod Salvages
 pub mod BothSalvaged
 pub mod SentinelWords
+pub mod Looks

@@ -1,7 +1,7 @@
 -- Deletion in the tree of a collection, beside the other: the pair shifted out, and a leaf that it empties freed.
 use mathlib.Core.Path.{_≡_, refl, ap, sym, _∙_, subst}
 use mathlib.Core.Bool.{Bool, true, false}
-use mathlib.Core.Logic.{_≢_, _⊎_}
+use mathlib.Core.Logic.{_≢_, _⊎_, inl, inr}
 use mathlib.Core.List.{List, [], _++_, append-nil, List·Memᴰ}
 use mathlib.Core.Option.{some}
 use Prim.Native.Nat.{ℕ, suc, _≤_, _<_}
@@ -18,7 +18,7 @@ use Rattle.model.specs.Writes.{shiftOutAt, childBefore, freeStores, unreachable
 use Rattle.model.specs.Refusals.{hasKey}
 use Rattle.model.specs.Ledger.{leave}
 use Rattle.tree_laws.specs.OneTree.{settledOne, mapOne, standingOne as standingOf}
-use Rattle.list_laws.proofs.Tools.{and-iff, not-iff, Each, Each-append, Each-map}
+use Rattle.list_laws.proofs.Tools.{and-iff, not-iff, same-or-not, Each, Each-append, Each-map}
 use Rattle.list_laws.proofs.Members.{each-mem, each-take}
 use Rattle.list_laws.proofs.Distinct.{UpTo}
 use Rattle.tree_laws.proofs.Rows.{Good, range-iff}
@@ -28,14 +28,16 @@ use Rattle.cut_laws.proofs.Applying.{apply-append, length-apply}
 use Rattle.step_laws.proofs.Views.{fine-settled, shown-few}
 use Rattle.step_laws.proofs.Standing.{standing-stands}
 use Rattle.step_laws.proofs.LeafShift.{leaf-out-reached}
-use Rattle.step_laws.proofs.Freeing.{Freeable, free-phase, free-unreached, free-fewer, free-others, neighbour-reached, free-cut}
+use Rattle.step_laws.proofs.Freeing.{Freeable, free-phase, free-unreached, free-fewer, free-others, neighbour-reached, free-cut, free-quiet, free-skip}
 use Rattle.step_laws.proofs.Deletion.{Frees, freeable}
+use Rattle.step_laws.proofs.LevelCourses.{Quiet, Skip, Way, quiet-still, quiet-append, still-skip}
 use Rattle.two_laws.proofs.Mask.{mask}
 use Rattle.two_laws.proofs.Masked.{mask-left, mask-fence, mask-shown, mask-reached, mask-leftover, mask-height, mask-standing, mask-shift-out, mask-before, mask-freeing}
 use Rattle.two_laws.proofs.Frame.{Away}
 use Rattle.two_laws.proofs.Places.{shift-out-away, put-away}
 use Rattle.two_laws.proofs.TwoLaw.{seen, taken, Tree, Low, Course, long, tree-fine, head-same, stays, taken-same, mask-after, seen-map, phase-course, course-then, course-within}
-use Rattle.two_laws.proofs.Leaf.{leaf-out, out-away}
+use Rattle.two_laws.proofs.LevelsTwo.{OthersQuiet, AllQuiet, Ways, own-quiet, own-skip, others-quiet, quiet-ways, others-append}
+use Rattle.two_laws.proofs.Leaf.{leaf-out, out-away, leaf-out-all}
 use Rattle.two_laws.proofs.SplitTwo.{FreeNode}
 use Rattle.two_laws.proofs.Arrange.{Arr, arr-low, course-arr, others-all, unreachable-count, same-all}
 
@@ -79,6 +81,16 @@ module _ (w : ℕ) (ws : List ℕ) (t : Words) (low : Low w ws) (f : Tree w ws t
 
   pub free-course : Course 27 w ws t (freeStores t p x) (mapping (seen w t))
   free-course = phase-course 27 w ws t nothing (freeStores t p x) (mapping (seen w t)) low f (rw (mask-freeing (at t w) ns t size p x, seen-map w ws t nothing low f) at (free-phase u p x h)) free-away
+
+  -- x is passed over, every level but the leaves' is quiet
+  pub free-own-quiet : (l : ℕ) → l ≢ 0 → Quiet (seen w) l t (freeStores t p x)
+  free-own-quiet l z = own-quiet w ws t nothing low f (freeStores t p x) free-away l (rw (mask-freeing (at t w) ns t size p x) at (free-quiet u p x h l z))
+
+  pub free-own-skip : Skip (seen w) 0 t (freeStores t p x)
+  free-own-skip = own-skip w ws t nothing low f (freeStores t p x) free-away 0 (rw (mask-freeing (at t w) ns t size p x) at (free-skip u p x h))
+
+  pub free-beside : OthersQuiet ws t (freeStores t p x)
+  free-beside = others-quiet w ws t nothing low f (freeStores t p x) free-away
 
   -- ---- what it leaves
 
@@ -233,6 +245,24 @@ module _ (n : ℕ) (ws : List ℕ) (t : Words) (arr : Arr (rootWord n) ws t) (tr
       go : (b : Bool) → freesLeaf n t parent leaf ≡ b → Course 52 w ws t (deleteSettled n t k) (leave k (mapping (viewOf n t)))
       go true e = freeing-course e
       go false e = rw (stores-plain n t k e) (course-within 25 52 w ws t ss (leave k (mapping (viewOf n t))) (omega arith) out)
+
+  -- every level is quiet, or it is the leaves', of which one is passed over
+  pub delete-ways : Ways (rootWord n) ws t (deleteSettled n t k)
+  delete-ways = go (freesLeaf n t parent leaf) refl
+    where
+      all : AllQuiet w ws t ss
+      all = leaf-out-all w ws t lowly tree k has
+
+      own : (e : freesLeaf n t parent leaf ≡ true) (l : ℕ) → Way (seen w) l t (ss ++ freeStores t₁ parent leaf)
+      own e l = at-level (same-or-not l 0)
+        where
+          at-level : (l ≡ 0) ⊎ (l ≢ 0) → Way (seen w) l t (ss ++ freeStores t₁ parent leaf)
+          at-level (inl z) = inr (still-skip (seen w) l t ss (freeStores t₁ parent leaf) (quiet-still (seen w) l t ss (all .0 l)) (rw z (free-own-skip w ws t₁ lowly (out .whole) parent leaf (can-free e))))
+          at-level (inr z) = inl (inl (quiet-append (seen w) l t ss (freeStores t₁ parent leaf) (all .0 l) (free-own-quiet w ws t₁ lowly (out .whole) parent leaf (can-free e) l z)))
+
+      go : (b : Bool) → freesLeaf n t parent leaf ≡ b → Ways w ws t (deleteSettled n t k)
+      go true e = rw (stores-freeing n t k e) (own e, others-append ws t ss (freeStores t₁ parent leaf) (all .1) (free-beside w ws t₁ lowly (out .whole) parent leaf (can-free e)))
+      go false e = rw (stores-plain n t k e) (quiet-ways w ws t ss all)
 
   -- ---- the nodes reached
 

@@ -1,8 +1,8 @@
 -- Insertion into a settled table in collection n: a new root where the run includes the root, the splits of the run, the pair shifted in at its leaf.
 use mathlib.Core.Path.{_≡_, refl, ap, sym, _∙_}
 use mathlib.Core.Bool.{Bool, true, false, cond, _&&_}
-use mathlib.Core.Logic.{_≢_, _⊎_}
-use mathlib.Core.List.{List, [], List·Memᴰ}
+use mathlib.Core.Logic.{_≢_, _⊎_, inl, inr, ⊎-elim}
+use mathlib.Core.List.{List, [], _++_, List·Memᴰ}
 use Prim.Native.Nat.{ℕ, zero, suc, _+_, _*_, _-_, _≤_, _<_}
 use native.Mathlib.Omega.{arith}
 use lib.Dec.{eqb}
@@ -17,21 +17,24 @@ use Rattle.model.specs.Ledger.{enter}
 use Rattle.model.specs.Writes.{shiftInAt, unreachable, fresh, standing, run, rootInRun, newRootAt, newRoot, splits, rootStores, insertSettled}
 use Rattle.model.specs.Refusals.{tooHigh, tooFew}
 use Rattle.tree_laws.specs.OneTree.{settledOne, standingOne as standingOf, runOne as runOf}
-use Rattle.list_laws.proofs.Tools.{Each}
+use Rattle.list_laws.proofs.Tools.{Each, same-or-not}
 use Rattle.list_laws.proofs.Recordings.{recording-iff, recording-of, pair-of}
 use Rattle.change_laws.proofs.LeafSlots.{NewPair}
 use Rattle.cut_laws.proofs.Applying.{apply-append}
 use Rattle.step_laws.proofs.Views.{fine-settled}
 use Rattle.step_laws.proofs.Run.{run-short, run-full, run-above}
 use Rattle.step_laws.proofs.Standing.{standing-stands}
+use Rattle.step_laws.proofs.Rowwise.{none-straight}
+use Rattle.step_laws.proofs.LevelCourses.{Quiet, Turn, MayTurn, quiet-nil, quiet-append, quiet-still, turn-quiet, quiet-may-turn, may-turn-quiet}
 use Rattle.two_laws.specs.Parts.{Enters}
 use Rattle.two_laws.proofs.Mask.{mask}
-use Rattle.two_laws.proofs.TwoLaw.{taken, Tree, Low, Course, course-nil, course-append, course-within, long, tree-fine}
+use Rattle.two_laws.proofs.TwoLaw.{seen, taken, Tree, Low, Course, course-nil, course-append, course-within, long, tree-fine}
 use Rattle.two_laws.proofs.Masked.{mask-shown, mask-reached, mask-height, mask-standing, mask-run}
-use Rattle.two_laws.proofs.Leaf.{leaf-in}
-use Rattle.two_laws.proofs.SplitTwo.{FreeNode, FullIn, splitIn, split-course, two-height, two-takes, two-others, two-standing, two-shown, two-room, two-taken, two-nodes}
-use Rattle.two_laws.proofs.RootTwo.{root-course, root-two-height, root-two-takes, root-two-others, root-two-standing, root-two-shown, root-two-shows, root-two-taken, root-two-nodes}
+use Rattle.two_laws.proofs.Leaf.{leaf-in, leaf-in-all}
+use Rattle.two_laws.proofs.SplitTwo.{FreeNode, FullIn, splitIn, split-course, two-height, two-takes, two-others, two-standing, two-shown, two-room, two-taken, two-nodes, split-own-quiet, split-own-turn, split-beside}
+use Rattle.two_laws.proofs.RootTwo.{root-course, root-two-height, root-two-takes, root-two-others, root-two-standing, root-two-shown, root-two-shows, root-two-taken, root-two-nodes, root-own-quiet, root-own-turn, root-beside}
 use Rattle.two_laws.proofs.Arrange.{Arr, root-in, arr-low, arr-word, arr-others, course-arr, others-all, free-fresh, unreachable-count}
+use Rattle.two_laws.proofs.LevelsTwo.{OthersQuiet, Ways, nil-others, others-append}
 
 -- ---- the run
 
@@ -103,6 +106,16 @@ module _ (l n : ℕ) (ws : List ℕ) (t : Words) (k : ℕ) (r : ReadyIn (suc l) 
   pub first-course : Course 67 (rootWord n) ws t (splitIn (rootWord n) t k l (fresh t (standing n t l k))) (mapping (viewOf n t))
   first-course = split-course (rootWord n) ws t low k l given b free
 
+  -- level l turns, every other one is quiet
+  first-quiet : (d : ℕ) → d ≢ l → Quiet (seen (rootWord n)) d t ss
+  first-quiet = split-own-quiet (rootWord n) ws t low k l given b free
+
+  first-turn : Turn (seen (rootWord n)) l t ss
+  first-turn = split-own-turn (rootWord n) ws t low k l given b free
+
+  first-beside : OthersQuiet ws t ss
+  first-beside = split-beside (rootWord n) ws t low k l given b free
+
   pub ready-next : ReadyIn l n ws (apply (splitIn (rootWord n) t k l (fresh t (standing n t l k))) t) k
   ready-next =
       let f = r .tree in
@@ -149,6 +162,33 @@ splits-room (suc l) n ws t k r =
     let ss = splitIn (rootWord n) t k l (fresh t (standing n t l k)) in
     rw (apply-append ss (splits n l (apply ss t) k) t) (splits-room l n ws (apply ss t) k (ready-next l n ws t k r))
 
+-- each of the m lowest levels turns once, and the others are quiet
+splits-quiet : (m n : ℕ) (ws : List ℕ) (t : Words) (k : ℕ) → ReadyIn m n ws t k → (d : ℕ) → m ≤ d → Quiet (seen (rootWord n)) d t (splits n m t k)
+unfolding splits
+splits-quiet zero n ws t k r d h = quiet-nil (seen (rootWord n)) d t (none-straight (viewOf n t) (r .tree .left .left .2) d)
+splits-quiet (suc l) n ws t k r d h =
+    let ss = splitIn (rootWord n) t k l (fresh t (standing n t l k)) in
+    quiet-append (seen (rootWord n)) d t ss (splits n l (apply ss t) k) (first-quiet l n ws t k r d (λ e. omega arith)) (splits-quiet l n ws (apply ss t) k (ready-next l n ws t k r) d (omega arith))
+
+splits-turn : (m n : ℕ) (ws : List ℕ) (t : Words) (k : ℕ) → ReadyIn m n ws t k → (d : ℕ) → MayTurn (seen (rootWord n)) d t (splits n m t k)
+unfolding splits
+splits-turn zero n ws t k r d = inl (splits-quiet zero n ws t k r d (omega arith))
+splits-turn (suc l) n ws t k r d =
+    let ss = splitIn (rootWord n) t k l (fresh t (standing n t l k)) in
+    go (splits n l (apply ss t) k) (same-or-not d l) (first-quiet l n ws t k r d) (first-turn l n ws t k r) (splits-turn l n ws (apply ss t) k (ready-next l n ws t k r) d) (splits-quiet l n ws (apply ss t) k (ready-next l n ws t k r) d)
+  where
+    go : {ss : List Store} (us : List Store) → (d ≡ l) ⊎ (d ≢ l) → (d ≢ l → Quiet (seen (rootWord n)) d t ss) → Turn (seen (rootWord n)) l t ss
+        → MayTurn (seen (rootWord n)) d (apply ss t) us → (l ≤ d → Quiet (seen (rootWord n)) d (apply ss t) us) → MayTurn (seen (rootWord n)) d t (ss ++ us)
+    go {ss} us (inl e) q f c h = inr (turn-quiet (seen (rootWord n)) d t ss us (rw e f) (quiet-still (seen (rootWord n)) d (apply ss t) us (h (omega arith))))
+    go {ss} us (inr z) q f c h = quiet-may-turn (seen (rootWord n)) d t ss us (q z) c
+
+splits-others : (m n : ℕ) (ws : List ℕ) (t : Words) (k : ℕ) → ReadyIn m n ws t k → OthersQuiet ws t (splits n m t k)
+unfolding splits
+splits-others zero n ws t k r = nil-others (rootWord n) ws t (r .tree)
+splits-others (suc l) n ws t k r =
+    let ss = splitIn (rootWord n) t k l (fresh t (standing n t l k)) in
+    others-append ws t ss (splits n l (apply ss t) k) (first-beside l n ws t k r) (splits-others l n ws (apply ss t) k (ready-next l n ws t k r))
+
 -- ---- the new root, where the run includes the root
 
 module _ (n : ℕ) (ws : List ℕ) (t : Words) (k : ℕ) (a : Arr (rootWord n) ws t) (f : Tree (rootWord n) ws t nothing) where
@@ -179,6 +219,15 @@ module _ (n : ℕ) (ws : List ℕ) (t : Words) (k : ℕ) (a : Arr (rootWord n) w
 
     rooted : Course 38 (rootWord n) ws t (newRootAt (rootWord n) t q) (mapping (viewOf n t))
     rooted = root-course (rootWord n) ws t lowly word beside f not-top q root-free
+
+    rooted-quiet : (d : ℕ) → d ≢ suc (height (viewOf n t)) → Quiet (seen (rootWord n)) d t (newRootAt (rootWord n) t q)
+    rooted-quiet = root-own-quiet (rootWord n) ws t lowly word beside f not-top q root-free
+
+    rooted-turn : Turn (seen (rootWord n)) (suc (height (viewOf n t))) t (newRootAt (rootWord n) t q)
+    rooted-turn = root-own-turn (rootWord n) ws t lowly word beside f not-top q root-free
+
+    rooted-others : OthersQuiet ws t (newRootAt (rootWord n) t q)
+    rooted-others = root-beside (rootWord n) ws t lowly word beside f not-top q root-free
 
     arr₁ : Arr (rootWord n) ws t₁
     arr₁ = course-arr 38 (rootWord n) ws t (newRootAt (rootWord n) t q) (mapping (viewOf n t)) rooted a
@@ -247,6 +296,34 @@ module _ (n : ℕ) (ws : List ℕ) (t : Words) (k : ℕ) (a : Arr (rootWord n) w
         let some : 0 < length (unreachable t) = omega arith in
         rw (same-root (not-top e) some) (root-others (not-top e) some x z)
 
+    -- each level is quiet, or it is the new root's and above the run
+    root-own : (d : ℕ) → Quiet (seen (rootWord n)) d t (rootStores n t k) ⊎ (Turn (seen (rootWord n)) d t (rootStores n t k) × (run n t k ≤ d))
+    unfolding rootStores
+    root-own d = go (rootInRun n t k) refl (same-or-not d (suc h))
+      where
+        go : (b : Bool) → rootInRun n t k ≡ b → (d ≡ suc h) ⊎ (d ≢ suc h) → Quiet (seen (rootWord n)) d t (rootStores n t k) ⊎ (Turn (seen (rootWord n)) d t (rootStores n t k) × (run n t k ≤ d))
+        go true e (inl i) =
+            let whole : m ≡ suc h = unfold rootInRun in eqb-true m (suc h) e in
+            let g : m + 1 ≤ length (unreachable t) = rw e at room in
+            let some : 0 < length (unreachable t) = omega arith in
+            rw (e, rootStores) (rw (same-root (not-top e) some) (inr (rw i (rooted-turn (not-top e) some), omega arith)))
+        go true e (inr z) =
+            let g : m + 1 ≤ length (unreachable t) = rw e at room in
+            let some : 0 < length (unreachable t) = omega arith in
+            rw (e, rootStores) (rw (same-root (not-top e) some) (inl (rooted-quiet (not-top e) some d z)))
+        go false e c = rw (e, rootStores) (inl (quiet-nil (seen (rootWord n)) d t (none-straight (viewOf n t) (f .left .left .2) d)))
+
+    roots-others : OthersQuiet ws t (rootStores n t k)
+    unfolding rootStores
+    roots-others = go (rootInRun n t k) refl
+      where
+        go : (b : Bool) → rootInRun n t k ≡ b → OthersQuiet ws t (rootStores n t k)
+        go true e =
+            let g : m + 1 ≤ length (unreachable t) = rw e at room in
+            let some : 0 < length (unreachable t) = omega arith in
+            rw (e, rootStores) (rw (same-root (not-top e) some) (rooted-others (not-top e) some))
+        go false e = rw (e, rootStores) (nil-others (rootWord n) ws t f)
+
 -- Insertion into a settled table, where no refusal applies: the pair enters the map of collection n, and nothing else changes.
 pub insert-course : (n : ℕ) (ws : List ℕ) (t : Words) (k r c : ℕ) → Arr (rootWord n) ws t → Tree (rootWord n) ws t nothing → Enters n k r c t
     → Course (38 + (15 * 67 + 27)) (rootWord n) ws t (insertSettled n t k (pointerOf r c)) (enter k (pointerOf r c) (mapOf n t))
@@ -267,3 +344,25 @@ insert-course n ws t k r c arr f e =
     let d : Course 27 w ws t₂ (shiftInAt t₂ (standing n t₂ 0 k) k x) (enter k x (mapOf n t)) = rw q at (leaf-in w ws t₂ l (b .whole) k x new (splits-room m n ws t₁ k (a .1))) in
     course-append 38 (15 * 67 + 27) w ws t (rootStores n t k) _ (enter k x (mapOf n t)) (a .0)
     (course-append (15 * 67) 27 w ws t₁ (splits n m t₁ k) _ (enter k x (mapOf n t)) (course-within (m * 67) (15 * 67) w ws t₁ (splits n m t₁ k) (mapOf n t₁) few b) d)
+
+-- each level of its tree turns once at most, and those of the others are quiet
+pub insert-ways : (n : ℕ) (ws : List ℕ) (t : Words) (k r c : ℕ) → Arr (rootWord n) ws t → Tree (rootWord n) ws t nothing → Enters n k r c t → Ways (rootWord n) ws t (insertSettled n t k (pointerOf r c))
+unfolding insertSettled
+insert-ways n ws t k r c arr f e =
+    let w = rootWord n in
+    let x = pointerOf r c in
+    let m = run n t k in
+    let a = root-first n ws t k arr f (e .not-high) (e .enough) in
+    let t₁ = apply (rootStores n t k) t in
+    let b = splits-course m n ws t₁ k (a .1) in
+    let t₂ = apply (splits n m t₁ k) t₁ in
+    let q : mapOf n t₂ ≡ mapOf n t = b .maps ∙ a .0 .maps in
+    let own = recording-of r c (recording-iff r .0 (e .recording-ok) .1) in
+    let new : NewPair (viewOf n t₂) k x = record { no-key = rw q (e .no-key); no-recording = rw (q, own) (e .no-recording); ok = pair-of k r c (e .recording-ok) (e .class-ok) } in
+    let d = leaf-in-all w ws t₂ (arr-low w ws t arr) (b .whole) k x new (splits-room m n ws t₁ k (a .1)) in
+    let us = shiftInAt t₂ (standing n t₂ 0 k) k x in (
+      λ l. inl (⊎-elim (λ h. quiet-may-turn (seen w) l t (rootStores n t k) _ h (may-turn-quiet (seen w) l t₁ (splits n m t₁ k) us (splits-turn m n ws t₁ k (a .1) l) (d .0 l)))
+          (λ h. inr (turn-quiet (seen w) l t (rootStores n t k) _ (h .0) (quiet-still (seen w) l t₁ _ (quiet-append (seen w) l t₁ (splits n m t₁ k) us (splits-quiet m n ws t₁ k (a .1) l (h .1)) (d .0 l)))))
+          (root-own n ws t k arr f (e .not-high) (e .enough) l)),
+      others-append ws t (rootStores n t k) _ (roots-others n ws t k arr f (e .not-high) (e .enough)) (others-append ws t₁ (splits n m t₁ k) us (splits-others m n ws t₁ k (a .1)) (d .1)),
+    )

@@ -23,12 +23,13 @@ use Rattle.change_laws.proofs.Parts.{good-parts}
 use Rattle.change_laws.proofs.LeafSlots.{NewPair}
 use Rattle.step_laws.proofs.Views.{Fine, fine-settled, shown-few}
 use Rattle.step_laws.proofs.Standing.{standing-stands}
-use Rattle.step_laws.proofs.LeafShift.{leaf-shift-in, leaf-shift-out, leaf-out-place, leaf-class}
+use Rattle.step_laws.proofs.LeafShift.{leaf-shift-in, leaf-in-quiet, leaf-shift-out, leaf-out-quiet, leaf-out-place, leaf-class, leaf-class-quiet}
 use Rattle.two_laws.proofs.Mask.{mask}
 use Rattle.two_laws.proofs.Masked.{mask-reached, mask-shown, mask-standing, mask-shift-in, mask-shift-out, mask-class}
 use Rattle.two_laws.proofs.Frame.{Away}
 use Rattle.two_laws.proofs.Places.{shift-in-away, shift-out-away, put-away}
 use Rattle.two_laws.proofs.TwoLaw.{seen, taken, Tree, Low, Course, long, tree-fine, seen-map, phase-course}
+use Rattle.two_laws.proofs.LevelsTwo.{AllQuiet, own-quiet, others-quiet}
 
 module _ (w : ℕ) (ws : List ℕ) (t : Words) (low : Low w ws) (f : Tree w ws t nothing) (k : ℕ) where
   abbrev u : Words
@@ -71,6 +72,14 @@ module _ (w : ℕ) (ws : List ℕ) (t : Words) (low : Low w ws) (f : Tree w ws t
       let p = leaf-shift-in u s k y n (rw (same-x, mask-shown (at t w) (taken ws t) t size) room) in
       phase-course 27 w ws t nothing _ _ low f (rw (same-x, mask-shift-in (at t w) (taken ws t) t size, same-map) at p) (shift-in-away (taken ws t) x x-some x-off t k y room)
 
+  -- every level is quiet meanwhile
+  pub leaf-in-all : (y : ℕ) → NewPair (seen w t) k y → length (nodeView t (standingIn (seen w t) 0 k) .shown) ≤ 10 → AllQuiet w ws t (shiftInAt t (standingIn (seen w t) 0 k) k y)
+  leaf-in-all y new room =
+      let n : NewPair (view u) k y = record { no-key = rw same-map (new .no-key); no-recording = rw same-map (new .no-recording); ok = new .ok } in
+      let a = shift-in-away (taken ws t) x x-some x-off t k y room in
+      let q = leaf-in-quiet u s k y n (rw (same-x, mask-shown (at t w) (taken ws t) t size) room) in
+      (λ l. own-quiet w ws t nothing low f _ a l (rw (same-x, mask-shift-in (at t w) (taken ws t) t size) at (q l)), others-quiet w ws t nothing low f _ a)
+
   module _ (has : hasKey k (mapping (seen w t)) ≡ true) where
     has-u : hasKey k (mapOne u) ≡ true
     has-u = rw same-map has
@@ -86,9 +95,16 @@ module _ (w : ℕ) (ws : List ℕ) (t : Words) (low : Low w ws) (f : Tree w ws t
     pub leaf-out : Course 25 w ws t (shiftOutAt t (standingIn (seen w t) 0 k) k) (leave k (mapping (seen w t)))
     leaf-out = phase-course 25 w ws t nothing _ _ low f (rw (same-x, mask-shift-out (at t w) (taken ws t) t size x k, same-map) at (leaf-shift-out u s k has-u)) out-away
 
+    pub leaf-out-all : AllQuiet w ws t (shiftOutAt t (standingIn (seen w t) 0 k) k)
+    leaf-out-all = (λ l. own-quiet w ws t nothing low f _ out-away l (rw (same-x, mask-shift-out (at t w) (taken ws t) t size x k) at (leaf-out-quiet u s k has-u l)), others-quiet w ws t nothing low f _ out-away)
+
+    class-away : (c : ℕ) → Each (Away (taken ws t)) (setClassAt t x k c)
+    unfolding setClassAt
+    class-away c = (put-away (taken ws t) x x-some x-off _ _ (omega arith) (omega (arith, leaf-place, few)), tt)
+
     -- The slot of k in its leaf gets class c.
     pub leaf-reclass : (c : ℕ) → classOk c ≡ true → Course 2 w ws t (setClassAt t (standingIn (seen w t) 0 k) k c) (reclass k c (mapping (seen w t)))
-    leaf-reclass c ok = phase-course 2 w ws t nothing _ _ low f (rw (same-x, mask-class (at t w) (taken ws t) t size x k c, same-map) at (leaf-class u s k has-u c ok)) away
-      where
-        away : Each (Away (taken ws t)) (setClassAt t x k c)
-        away = unfold setClassAt in (put-away (taken ws t) x x-some x-off _ _ (omega arith) (omega (arith, leaf-place, few)), tt)
+    leaf-reclass c ok = phase-course 2 w ws t nothing _ _ low f (rw (same-x, mask-class (at t w) (taken ws t) t size x k c, same-map) at (leaf-class u s k has-u c ok)) (class-away c)
+
+    pub leaf-class-all : (c : ℕ) → classOk c ≡ true → AllQuiet w ws t (setClassAt t (standingIn (seen w t) 0 k) k c)
+    leaf-class-all c ok = (λ l. own-quiet w ws t nothing low f _ (class-away c) l (rw (same-x, mask-class (at t w) (taken ws t) t size x k c) at (leaf-class-quiet u s k has-u c ok l)), others-quiet w ws t nothing low f _ (class-away c))

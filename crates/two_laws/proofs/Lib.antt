@@ -5,6 +5,7 @@ pub mod Masked
 pub mod Frame
 pub mod Places
 pub mod TwoLaw
+pub mod LevelsTwo
 pub mod Leaf
 pub mod RepairTwo
 pub mod SplitTwo
@@ -14,6 +15,7 @@ pub mod DeleteTwo
 pub mod InsertTwo
 pub mod CallsTwo
 pub mod AcceptedTwo
+pub mod WaysTwo
 pub mod MapsTwo
 pub mod SearchTwo
 pub mod RepairedTwo

@@ -1,6 +1,6 @@
 -- A new root for the tree of header word w, beside the trees of ws: in any node that none of them reaches, then header word w.
-use mathlib.Core.Path.{_≡_, refl, ap, sym, _∙_}
-use mathlib.Core.Bool.{true}
+use mathlib.Core.Path.{_≡_, refl, ap, sym, _∙_, subst}
+use mathlib.Core.Bool.{Bool, true}
 use mathlib.Core.Logic.{_≢_, _↔_, _⊎_, inl, inr}
 use mathlib.Core.List.{List, [], _∷_, _++_, List·Memᴰ}
 use Prim.Native.Nat.{ℕ, zero, suc, _+_, _-_, _≤_, _<_}
@@ -8,7 +8,7 @@ use native.Mathlib.Omega.{arith}
 use lib.ListN.{length, take, set, length-set}
 use lib.Seq.{getD-set-same, getD-set-other}
 use Rattle.model.specs.Table.{Words, at, root, nodes, nodeStart}
-use Rattle.model.specs.Slots.{View, nodeView, view, height}
+use Rattle.model.specs.Slots.{View, clearIn, nodeView, viewFrom, view, height}
 use Rattle.model.specs.Reached.{reached, mapping}
 use Rattle.model.specs.SoundTest.{elem, nothing, Leftover}
 use Rattle.model.specs.Orders.{Store, put, apply, orders, ordersAfter}
@@ -18,20 +18,30 @@ use Rattle.list_laws.proofs.Tools.{Each, Each-map}
 use Rattle.list_laws.proofs.Members.{each-mem, mem-each, flat-each}
 use Rattle.tree_laws.proofs.Rows.{range-iff}
 use Rattle.word_laws.proofs.NewNodes.{length-node-words}
-use Rattle.cut_laws.proofs.Applying.{apply-append, length-apply}
+use Rattle.cut_laws.proofs.Applying.{apply-append, always-append, length-apply}
 use Rattle.change_laws.proofs.Parts.{HasLeft}
 use Rattle.step_laws.proofs.Phase.{Phase}
-use Rattle.step_laws.proofs.NewRoot.{root-phase, root-height, root-takes, root-others, root-standing, root-shown, root-shows}
+use Rattle.step_laws.proofs.NewRoot.{root-phase, root-height, root-takes, root-others, root-standing, root-shown, root-shows, root-quiet, root-turns}
 use Rattle.step_laws.proofs.Fresh.{Free}
 use Rattle.step_laws.proofs.WholeNode.{whole-stage, whole-stays}
 use Rattle.step_laws.proofs.Views.{fine-settled, settled-fine}
-use Rattle.two_laws.proofs.Mask.{mask, mask-view, mask-root, head-view}
+use Rattle.step_laws.proofs.Rowwise.{Same, Straight, same-refl, none-straight}
+use Rattle.step_laws.proofs.LevelCourses.{Crosses, QuietAt, Quiet, Turn, whole as whole-part, each-part, still-nil}
+use Rattle.step_laws.proofs.LinkCourses.{whole-quiet}
+use Rattle.two_laws.proofs.Mask.{mask, withClear, mask-view, mask-root, head-view}
 use Rattle.two_laws.proofs.Masked.{mask-shown, mask-reached, mask-height, mask-standing}
 use Rattle.two_laws.proofs.OwnTree.{Own, fine-own}
 use Rattle.two_laws.proofs.Frame.{Away}
 use Rattle.two_laws.proofs.Places.{all-away}
 use Rattle.two_laws.proofs.TwoLaw.{seen, taken, Tree, Low, Course, long, taken-up, tree-fine, mask-same, taken-same, seen-map, phase-course, course-append, at-low}
+use Rattle.two_laws.proofs.LevelsTwo.{Shows, shows, shows-quiet, shows-crosses, own-quiet, OthersQuiet, others-quiet, others-append}
 use Rattle.two_laws.proofs.SplitTwo.{FreeNode, mask-free}
+
+same-seen : (l : ℕ) (v v′ : View) → v′ ≡ v → Same l v v′
+same-seen l v v′ e = rw e (same-refl l v)
+
+straight-seen : (l : ℕ) (v v′ : View) → v′ ≡ v → Straight l v → Straight l v′
+straight-seen l v v′ e s = rw e s
 
 module _ (w : ℕ) (ws : List ℕ) (t : Words) (low : Low w ws) (word : (w ≡ 1) ⊎ (w ≡ 3)) (others : Each (λ (x : ℕ). x ≢ w) ws) (f : Tree w ws t nothing) (high : height (seen w t) < 15) (b : ℕ) (g : FreeNode w ws t b) where
   abbrev ns : List ℕ
@@ -190,6 +200,62 @@ module _ (w : ℕ) (ws : List ℕ) (t : Words) (low : Low w ws) (word : (w ≡ 1
   -- New root: every first part of its stores leaves the tree sound with the same map, and the others as they are.
   pub root-course : Course 38 w ws t (newRootAt w t b) (mapping (seen w t))
   root-course = course-append 36 2 w ws t ss (put w b ∷ []) (mapping (seen w t)) first second
+
+  -- ---- its own level turns, every other one is quiet
+
+  words-quiet : (l : ℕ) → Quiet (seen w) l t ss
+  words-quiet l = own-quiet w ws t nothing low f ss away l (whole-quiet u b s e words size-words l)
+
+  start : Shows w t u
+  unfolding apply
+  start = shows w ws t nothing low f [] tt
+
+  shows₁ : Shows w t₁ (apply ss u)
+  shows₁ = shows w ws t nothing low f ss away
+
+  shows₂ : Shows w t₂ (apply (rootAt u b) u)
+  shows₂ = let c : ℕ → Bool = λ (n : ℕ). clearIn (mask b ns t₂) n in (c, ap view masked ∙ mask-view b ns t₂ (rw length₂ size) ∙ ap (λ (q : ℕ). withClear (viewFrom t₂ q) c) (sym stored))
+
+  up : suc (height (view u)) ≡ suc (height (seen w t))
+  up = ap suc (mask-height (at t w) ns t size)
+
+  quiet₂ : (l : ℕ) → l ≢ suc (height (seen w t)) → QuietAt (seen w) l t t₂
+  quiet₂ l z = shows-quiet w l t t₂ u (apply (rootAt u b) u) start shows₂ (whole-part (QuietAt view l u) (rootAt u b) u (root-quiet u s high-u b e l (λ q. z (q ∙ up))))
+
+  pub root-own-quiet : (l : ℕ) → l ≢ suc (height (seen w t)) → Quiet (seen w) l t (newRootAt w t b)
+  unfolding apply
+  root-own-quiet l z = always-append (QuietAt (seen w) l t) ss (put w b ∷ []) t (words-quiet l) last
+    where
+      last : (j : ℕ) → QuietAt (seen w) l t (apply (take j (put w b ∷ [])) t₁)
+      last zero = whole-part (QuietAt (seen w) l t) ss t (words-quiet l)
+      last (suc zero) = quiet₂ l z
+      last (suc (suc j)) = quiet₂ l z
+
+  crossing : Crosses (suc (height (seen w t))) (view (apply ss u)) (view (apply (rootAt u b) u))
+  crossing = subst (λ (v : View). Crosses (suc (height v)) (view (apply (putAll (nodeStart b) (nodeWords (v .root) 0 (suc (height v)) 0 [])) u)) (view (apply (rootAt u b) u))) (mask-view (at t w) ns t size) (root-turns u s high-u b e)
+
+  pub root-own-turn : Turn (seen w) (suc (height (seen w t))) t (newRootAt w t b)
+  root-own-turn = record {
+    before = ss;
+    it = put w b;
+    after = [];
+    shape = refl;
+    quiet = words-quiet (suc (height (seen w t)));
+    crosses = shows-crosses w (suc (height (seen w t))) t₁ t₂ (apply ss u) (apply (rootAt u b) u) shows₁ shows₂ (settled-fine (apply ss u) (first-phase .settles) .left .orderly) (tree₂ .left .orderly) crossing;
+    still = still-nil (seen w) (suc (height (seen w t))) t₂;
+  }
+
+  pub root-beside : OthersQuiet ws t (newRootAt w t b)
+  root-beside = others-append ws t ss (put w b ∷ []) (others-quiet w ws t nothing low f ss away) (mem-each (λ (x : ℕ). (l : ℕ) → Quiet (seen x) l t₁ (put w b ∷ [])) ws stay)
+    where
+      whole₁ : (x : ℕ) → List·Memᴰ x ws → (l : ℕ) → Straight l (seen x t₁)
+      whole₁ x m l = none-straight (seen x t₁) (each-mem (λ (x : ℕ). HasLeft (seen x t₁) nothing) (f₁ .others) m .left .2) l
+
+      stay : (x : ℕ) → List·Memᴰ x ws → (l : ℕ) → Quiet (seen x) l t₁ (put w b ∷ [])
+      stay x m l = each-part (QuietAt (seen x) l t₁) (put w b ∷ []) t₁ (
+        record { same = same-refl l (seen x t₁); straight = whole₁ x m l },
+        record { same = same-seen l (seen x t₁) (seen x t₂) (other-same x m); straight = straight-seen l (seen x t₁) (seen x t₂) (other-same x m) (whole₁ x m l) },
+      )
 
   -- ---- what it leaves
 

@@ -25,13 +25,15 @@ use Rattle.tree_laws.proofs.Rows.{not-zero, range-iff}
 use Rattle.step_laws.proofs.Fresh.{Free}
 use Rattle.step_laws.proofs.Views.{fine-settled}
 use Rattle.step_laws.specs.Parts.{splitInto, FullNode}
-use Rattle.step_laws.proofs.Split.{split-phase, split-height, split-others, split-takes, split-standing, split-shown, split-room}
+use Rattle.step_laws.proofs.Split.{split-phase, split-height, split-others, split-takes, split-standing, split-shown, split-room, split-quiet, split-turn}
 use Rattle.step_laws.proofs.Standing.{standing-stands}
 use Rattle.two_laws.proofs.Mask.{mask}
 use Rattle.two_laws.proofs.Masked.{mask-nodes, mask-shown, mask-reached, mask-height, mask-standing, mask-split}
 use Rattle.two_laws.proofs.Frame.{Away}
 use Rattle.two_laws.proofs.Places.{shift-in-away, put-away, all-away}
 use Rattle.two_laws.proofs.TwoLaw.{seen, taken, Tree, Low, Course, long, tree-fine, mask-after, taken-same, head-same, seen-map, phase-course}
+use Rattle.step_laws.proofs.LevelCourses.{Quiet, Turn}
+use Rattle.two_laws.proofs.LevelsTwo.{OthersQuiet, own-quiet, own-turn, others-quiet}
 
 -- a node that no tree reaches
 pub record FreeNode (w : ℕ) (ws : List ℕ) (t : Words) (b : ℕ) : Type 0 where
@@ -142,6 +144,16 @@ module _ (w : ℕ) (ws : List ℕ) (t : Words) (low : Low w ws) (k l : ℕ) (giv
   -- Split: every first part of its stores leaves the tree sound with the same map, and the others as they are.
   pub split-course : Course 67 w ws t (splitIn w t k l b) (mapping (seen w t))
   split-course = phase-course 67 w ws t nothing (split t a b p) (mapping (seen w t)) low f (rw (list, seen-map w ws t nothing low f) at (split-phase u k l h b e)) away
+
+  -- level l turns, every other one is quiet
+  pub split-own-quiet : (d : ℕ) → d ≢ l → Quiet (seen w) d t (splitIn w t k l b)
+  split-own-quiet d z = own-quiet w ws t nothing low f (split t a b p) away d (rw list at (split-quiet u k l h b e d z))
+
+  pub split-own-turn : Turn (seen w) l t (splitIn w t k l b)
+  split-own-turn = own-turn w ws t nothing low f (split t a b p) away l (rw list at (split-phase u k l h b e .part-sound)) (rw list at (split-turn u k l h b e))
+
+  pub split-beside : OthersQuiet ws t (splitIn w t k l b)
+  split-beside = others-quiet w ws t nothing low f (split t a b p) away
 
   -- ---- what it leaves
 

@@ -93,7 +93,7 @@ module _ (w : ℕ) (ws : List ℕ) (t : Words) (y : Leftover) (low : Low w ws) (
     pub head-same : (x : ℕ) → x < 8 → at t′ x ≡ at t x
     head-same x h = at-low ss t x h high
 
-    away-one : (x : ℕ) → List·Memᴰ x ws → Each (Away (reached (seen x t))) ss
+    pub away-one : (x : ℕ) → List·Memᴰ x ws → Each (Away (reached (seen x t))) ss
     away-one x m = Each-map (Away ns) (Away (reached (seen x t))) ss
         (λ s h. record { node = h .node; some = h .some; off = each-mem (λ (x : ℕ). elem (h .node) (reached (seen x t)) ≡ false) (flat-off (λ (x : ℕ). reached (seen x t)) ws (h .node) (h .off)) m; into = h .into }) a
 
