@@ -12,6 +12,7 @@
 #include "judge.h"
 #include "looks.h"
 #include "salvage.h"
+#include "scripts.h"
 #include "table.h"
 #include "text.h"
 
@@ -299,6 +300,14 @@ static int command_show(struct command_line *l)
     return with_table(l, false, show_table);
 }
 
+static int command_script(struct command_line *l)
+{
+    uint64_t number;
+    if (!read_number(l->words[1], strlen(l->words[1]), &number))
+        return fail(BAD_USAGE, "%.40s: a script's number is a whole number from 0 to %d", l->words[1], CATALOGUE_SCRIPTS - 1);
+    return script(number);
+}
+
 static int command_help(struct command_line *l)
 {
     const struct command *c = NULL;
@@ -350,6 +359,9 @@ const struct command commands[] = {
     {"show", "TABLE",
      "draws each collection's tree by level, with hidden and trailing slots and the leftover;\n#N is a key that no code has",
      "show room.cat", 2, 2, WAITING, command_show},
+    {"script", "NUMBER",
+     "prints the tester's short script with this number, 0 to 1554, and what each of its\nactions does to an empty table of 4 nodes",
+     "script 1000", 2, 2, 0, command_script},
     {"help", "[COMMAND]", "this text, or that of one command", "help load", 1, 2, 0, command_help},
     {NULL, NULL, NULL, NULL, 0, 0, 0, NULL},
 };

@@ -36,6 +36,8 @@ const struct refusal refusals[] = {
     {CATALOGUE_OTHER_SENTINELS, "sentinels of another length", NULL},
     {CATALOGUE_NOT_SETTLED, "judge: a change is unfinished", "{table} has an unfinished change; catalogue repair {table} finishes it"},
     {CATALOGUE_CHANGE_REFUSED, "judge: the change itself is refused", NULL},
+    {CATALOGUE_NO_SCRIPT, "no script with this number", NULL},
+    {CATALOGUE_BAD_SCRIPT, "actions that are no script", NULL},
     {BAD_USAGE, "wrong command line", NULL},
     {BAD_LINE, "wrong line in a file to load", NULL},
     {BAD_FILE, "a file cannot be read or written, or another program uses it or changed it", NULL},

@@ -6,7 +6,7 @@
 
 #include "table.h"
 
-/* The program's own, beside the refusal numbers 1 to 21, 254 for a list that is judged no and 255 for an absent code. */
+/* The program's own, beside the library's refusal numbers, 254 for a list that is judged no and 255 for an absent code. */
 enum {
     BAD_USAGE = 64,   /* the command line has another form */
     BAD_LINE = 65,    /* a line of a file to load has another form */

@@ -125,6 +125,8 @@ enum {
     CATALOGUE_OTHER_SENTINELS = 19, /* sentinels not 3 words for each node; comes straight after 17 */
     CATALOGUE_NOT_SETTLED = 20,     /* judging: the table is sound but not settled; comes straight after 4 */
     CATALOGUE_CHANGE_REFUSED = 21,  /* judging: the change itself would be refused on this table; comes last */
+    CATALOGUE_NO_SCRIPT = 22,       /* script: number above 1,554 */
+    CATALOGUE_BAD_SCRIPT = 23,      /* a script's number: actions that form no such script */
     CATALOGUE_NO = 254,             /* judging: no */
     CATALOGUE_ABSENT = 255          /* search: the key is absent */
 };
@@ -248,6 +250,21 @@ uint64_t catalogue_judge_insert(const uint64_t *table, size_t words, const uint6
 /* The same for a deletion. */
 uint64_t catalogue_judge_delete(const uint64_t *table, size_t words, const uint64_t *orders, size_t order_words, uint64_t *out,
                                 size_t out_words, uint64_t collection, uint64_t key, uint64_t *count);
+
+/* How many short scripts there are; their numbers are 0 to 1554. */
+#define CATALOGUE_SCRIPTS 1555
+
+/*
+ * The short scripts, for whoever tests a host: all those of up to 4 actions over insert or delete of keys 1, 2 and 3 in a table of one
+ * collection, with recording 10 plus the key and class 0. Shorter ones come first, equal lengths by the first action that differs: insert
+ * before delete, then the smaller key. A script is 5 words: its length, and 4 numbers, 0 to 2 to insert keys 1 to 3, 3 to 5 to delete
+ * them, 0 past the length. No table is asked for.
+ * The script with this number, into exactly 5 words. 0 or 22.
+ */
+uint64_t catalogue_script(uint64_t number, uint64_t *script);
+
+/* The number of a script, from exactly 5 words. 0 or 23. */
+uint64_t catalogue_script_number(const uint64_t *script, uint64_t *number);
 
 #ifdef __cplusplus
 }

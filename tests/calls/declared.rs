@@ -23,4 +23,6 @@ extern "C" {
     pub fn catalogue_salvage(table: *const u64, words: usize, out: *mut u64, out_words: usize, report: *mut u64, report_words: usize, dropped: *mut u64) -> u64;
     pub fn catalogue_judge_insert(table: *const u64, words: usize, orders: *const u64, order_words: usize, out: *mut u64, out_words: usize, collection: u64, key: u64, recording: u64, access: u64, count: *mut u64) -> u64;
     pub fn catalogue_judge_delete(table: *const u64, words: usize, orders: *const u64, order_words: usize, out: *mut u64, out_words: usize, collection: u64, key: u64, count: *mut u64) -> u64;
+    pub fn catalogue_script(number: u64, script: *mut u64) -> u64;
+    pub fn catalogue_script_number(script: *const u64, number: *mut u64) -> u64;
 }

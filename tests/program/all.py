@@ -18,6 +18,7 @@ import pages
 import readers
 import replay
 import salvages
+import scripts
 from drive import FOUND_SOMETHING, Program
 
 
@@ -48,7 +49,8 @@ def main():
     sanitized = Program([sys.argv[2]], "with sanitizers", False)
     watched = ["valgrind", "-q", "--leak-check=full", "--errors-for-leak-kinds=all", f"--error-exitcode={FOUND_SOMETHING}", sys.argv[1]]
     valgrind = Program(watched, "under valgrind", False)
-    everything = commands.TESTS + loads.TESTS + files.TESTS + loans.TESTS + docks.TESTS + salvages.TESTS + cuts.TESTS + replay.TESTS + readers.TESTS
+    everything = commands.TESTS + loads.TESTS + files.TESTS + loans.TESTS + docks.TESTS + salvages.TESTS + scripts.TESTS + cuts.TESTS + replay.TESTS
+    everything += readers.TESTS
     # valgrind takes half a second to start: each kind of work once.
     once = [commands.the_worked_orders, commands.drawing, loads.lines_from_standard_input, loads.larger_copies,
             commands.a_tree_of_sixteen_levels, salvages.damaged_slots, loans.drawing_both, loans.salvages_of_two]

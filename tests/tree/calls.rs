@@ -245,3 +245,18 @@ pub fn judge(t: &[u64], list: &[u64], out: &[u64], collection: u64, key: u64, wa
     assert!(table.back() == t && orders.back() == list, "the judge wrote to the table or the list");
     (n, count.put(), second.back().to_vec())
 }
+
+/// The number, and the five words after it.
+pub fn script(number: u64, lent: [u64; 5]) -> (u64, [u64; 5]) {
+    let mut script = Lent::new(&lent);
+    let n = unsafe { catalogue_script(number, script.pointer()) };
+    (n, script.back().try_into().unwrap())
+}
+
+/// The number, and the script's number where it was put.
+pub fn script_number(words: [u64; 5]) -> (u64, Option<u64>) {
+    let (mut script, mut number) = (Lent::new(&words), Word::new());
+    let n = unsafe { catalogue_script_number(script.pointer(), number.pointer()) };
+    assert!(script.back() == words, "a script's words were written");
+    (n, number.put())
+}

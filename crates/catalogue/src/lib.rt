@@ -5,6 +5,7 @@ use model::Listed;
 use model::Next;
 use model::Outcome;
 use model::Parsed;
+use model::Ranked;
 use model::Salvaged;
 use model::Verdict;
 use model::Written;
@@ -18,6 +19,7 @@ ghost use Rattle.catalogue.specs.Answers.{version, Looked, Counted, Wrot
 ghost use Rattle.model.specs.Sentinels.{workOut, workedOut, searchWith};
 ghost use Rattle.model.specs.Salvage.{salvage, salvageOut, salvageReport};
 ghost use Rattle.model.specs.Judge.{judge, judgeOut};
+ghost use Rattle.model.specs.Scripts.{scriptAnswer, scriptOut, scriptNumber, rankedNumber, rankOr};
 ghost use lib.ListN.{length};
 ghost use Rattle.model.specs.Listing.{list, listOut};
 ghost use mathlib.Core.Bool.{cond};
@@ -458,4 +460,29 @@ pub extern "C" fn catalogue_judge_delete(
 {
     let verdict = judge::judge_delete(table, orders, out, collection, key);
     put_count(verdict, count)
+}
+
+// 0 and the script with this number, as a length and four actions, or 22.
+#[no_mangle]
+pub extern "C" fn catalogue_script(number: u64, script: &mut [u64; 5]) -> u64
+    ensures { λ r. ⌜ r ≡ outcomeNumber (scriptAnswer number) ⌝ }
+    ensures { λ r. ⌜ now (script .exit) ≡ scriptOut number (now (script .entry)) ⌝ }
+{
+    number_of(short_scripts::script_of(number, script))
+}
+
+// 0 and the number of a script, or 23.
+#[no_mangle]
+pub extern "C" fn catalogue_script_number(script: &[u64; 5], number: &mut u64) -> u64
+    ensures { λ r. ⌜ r ≡ rankedNumber (scriptNumber (now (script .entry))) ⌝ }
+    ensures { λ r. ⌜ now (number .exit) ≡ rankOr (scriptNumber (now (script .entry))) (now (number .entry)) ⌝ }
+{
+    let words = *script;
+    match short_scripts::number_of(words) {
+        Ranked::Number(n) => {
+            *number = n;
+            0
+        }
+        Ranked::Refused(n) => n as u64,
+    }
 }

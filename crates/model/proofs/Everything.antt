@@ -19,6 +19,7 @@ use Rattle.model.specs.Salvage
 use Rattle.model.specs.Sentinels
 use Rattle.model.specs.Judge
 use Rattle.model.specs.Looks
+use Rattle.model.specs.Scripts
 
 unfoldable pub everything : Unit {0}
 unfolding Codes.isDigit Codes.isLetter Codes.isLetterOrDigit Codes.every Codes.isCode Codes.value Codes.readOn Codes.number Codes.keyOf Codes.parse Codes.character
@@ -59,4 +60,7 @@ unfolding Codes.isDigit Codes.isLetter Codes.isLetterOrDigit Codes.every Codes.i
     Sentinels.ordersWith Sentinels.storedTo Sentinels.setAnew Sentinels.sentinelsWith
     Judge.sameSlots Judge.sameMaps Judge.goodImage Judge.completes Judge.judgedFrom Judge.judged Judge.judgeNumber Judge.judge Judge.judgeOut
     Looks.seenOn Looks.seenPass Looks.seenWithin Looks.stood Looks.stoodOn Looks.seenKept Looks.nextLooks Looks.answerLooks Looks.searchLooks
+    Scripts.callOf Scripts.isScript Scripts.actionBefore Scripts.firstDiffers Scripts.before Scripts.rankOn Scripts.unrank Scripts.scriptWords
+    Scripts.scriptAnswer Scripts.scriptOut Scripts.formScript Scripts.scriptNumber Scripts.cutTables Scripts.agrees Scripts.badTables Scripts.along
+    Scripts.overAll Scripts.metText
 everything = tt

@@ -21,3 +21,4 @@ pub mod Salvage
 pub mod Sentinels
 pub mod Judge
 pub mod Looks
+pub mod Scripts

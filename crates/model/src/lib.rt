@@ -96,3 +96,9 @@ pub struct Unfinished {
     pub trailing: Few,
     pub missing: Missing,
 }
+
+// What is answered where a script's number is asked for.
+pub enum Ranked {
+    Number(u64),
+    Refused(u8),
+}

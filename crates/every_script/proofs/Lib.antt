@@ -1,0 +1,2 @@
+-- What is printed: a line for each number.
+pub mod Lines

@@ -1,0 +1,1 @@
+// What holds of every short script (request 11), in proofs/. No code.

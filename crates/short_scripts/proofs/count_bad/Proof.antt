@@ -1,0 +1,67 @@
+-- `short_scripts::count_bad` meets its contract.
+use mathlib.Core.Path.{_≡_, _∙_}
+use Prim.Native.Nat.{_+_, _-_, _≤_}
+use native.Mathlib.Omega.{arith}
+use Rattle.short_scripts.specs.Held.{pairs}
+use Rattle.short_scripts.specs.Met.{badAmong}
+use Rattle.short_scripts.proofs.Counting.{one-most, among-first, among-all, judged-one, among-next}
+use borrow.Author.Needs.{needs}
+use Rattle.short_scripts.proofs.count_bad.Statement.{statement}
+use Rattle.short_scripts.proofs.count_bad.Tie as tie
+
+abbrev Inv-loop : tie.InvT-loop
+Inv-loop table list count old new bad₀ c₀ bad c =
+    (c ≤ count + 1) × (bad ≤ c) × (bad + badAmong (pairs old) (pairs new) table list c (count + 1 - c) ≡ badAmong (pairs old) (pairs new) table list 0 (count + 1))
+
+abbrev μ-loop : tie.MeasureT-loop
+μ-loop table list count old new bad₀ c₀ bad c = count + 1 - c
+
+loop-holds : tie.Need-loop-holds Inv-loop μ-loop
+loop-holds c = (omega arith, omega arith, among-first _ _ _ _ _)
+
+cut-at-requires : tie.Need-cut-at-requires Inv-loop μ-loop
+cut-at-requires c κs = search needs
+
+is-bad-requires : tie.Need-is-bad-requires Inv-loop μ-loop
+is-bad-requires c κs = search needs
+
+one-if-requires : tie.Need-one-if-requires Inv-loop μ-loop
+one-if-requires c κs = search needs
+
+add-bad : tie.Need-add-bad Inv-loop μ-loop
+add-bad c = omega (arith, one-most _ (c .before .is-bad .result) (c .one-if .ensures))
+
+add-c : tie.Need-add-c Inv-loop μ-loop
+add-c c = search needs
+
+loop-less : tie.Need-loop-less Inv-loop μ-loop
+loop-less c = search needs
+
+loop-again : tie.Need-loop-again Inv-loop μ-loop
+loop-again c =
+    let l = c .before .before .before .before .loop in
+    let b = c .before .is-bad .result in
+    let e = judged-one _ _ _ _ (l .c) _ b _ (c .one-if .ensures) (c .before .is-bad .ensures) (c .before .before .cut-at .ensures) in
+    (omega arith, omega (arith, one-most _ b (c .one-if .ensures)), among-next _ _ _ _ (l .c) _ (l .bad) _ (omega arith) e ∙ l .inv .2)
+
+returns : tie.Need-returns Inv-loop μ-loop
+returns c =
+    let l = c .before .loop in
+    let a = c .before .before .before .args in
+    among-all _ _ _ _ (l .c) (a .count) (l .bad) (omega arith) (l .inv .2)
+
+pub count-bad-spec : {M : Type 1} → statement M
+count-bad-spec =
+    tie.close
+    (tie.spec
+    Inv-loop
+    μ-loop
+    loop-holds
+    cut-at-requires
+    is-bad-requires
+    one-if-requires
+    add-bad
+    add-c
+    loop-less
+    loop-again
+    returns)
