@@ -211,6 +211,13 @@ pub fn salvage(table: &[u64], out: &mut [u64], report: &mut [u64], dropped: &mut
     unsafe { catalogue_salvage(table.as_ptr(), table.len(), out.as_mut_ptr(), out.len(), report.as_mut_ptr(), report.len(), dropped) }
 }
 
+/// The verdict on a list that was cut, for the insertion of a key with a recording of class 0.
+pub fn judge_insert(table: &[u64], orders: &Orders, out: &mut [u64], key: u64, recording: u64) -> u64 {
+    let mut count = 0;
+    let list = orders.words.as_ptr();
+    unsafe { catalogue_judge_insert(table.as_ptr(), table.len(), list, orders.words.len(), out.as_mut_ptr(), out.len(), COLLECTION, key, recording, 0, &mut count) }
+}
+
 /// All orders of the list on plain memory.
 pub fn carry_plain(table: &mut [u64], orders: &Orders) -> u64 {
     unsafe { catalogue_carry_out(table.as_mut_ptr(), table.len(), orders.words.as_ptr(), orders.words.len(), orders.count()) }
@@ -340,4 +347,21 @@ impl Drop for CppMap {
     fn drop(&mut self) {
         unsafe { map_free(self.0) }
     }
+}
+
+/// The wear figures of a list.
+pub struct Worn {
+    pub total: u64,
+    pub largest: u64,
+    pub first_line: u64,
+}
+
+pub fn wear(table: &Words, list: &[u64], lines: &mut [u64], extents: &mut [u64]) -> Worn {
+    let (mut total, mut largest, mut first_line, mut pairs) = (0, 0, 0, 0);
+    let number = unsafe {
+        let (a, b) = (lines.as_mut_ptr(), extents.as_mut_ptr());
+        catalogue_wear(table.as_ptr(), table.len(), list.as_ptr(), list.len(), a, lines.len(), b, extents.len(), &mut total, &mut largest, &mut first_line, &mut pairs)
+    };
+    assert_eq!(number, 0, "wear figures refused");
+    Worn { total, largest, first_line }
 }

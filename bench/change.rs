@@ -15,11 +15,11 @@ const SIZE_CAP: f64 = 60e9;
 pub const SHORT_LIST: u64 = 5;
 
 /// Nodes that no packed table reaches, for splits to take.
-const SPARE: usize = 64;
+pub const SPARE: usize = 64;
 
 /// Slots of a packed leaf (bench/plain.c), and how many more make it full.
 const PACKED: usize = 8;
-const LACKING: u64 = 3;
+pub const LACKING: u64 = 3;
 
 /// The kinds of change; a splitting one inserts into a full leaf whose parent has room.
 const KINDS: [&str; 4] = [INSERTION, DELETION, SPLITTING, CLASS_CHANGE];
@@ -39,7 +39,7 @@ pub fn keys_for(nodes: usize) -> usize {
 }
 
 /// Keys of full leaves' gaps: one beside the first key of each of so many leaves, spread over the table.
-fn beside(mut present: Vec<u64>, count: usize) -> Vec<u64> {
+pub fn beside(mut present: Vec<u64>, count: usize) -> Vec<u64> {
     present.sort_unstable();
     let firsts: Vec<u64> = present.into_iter().step_by(PACKED).collect();
     let count = count.min(firsts.len());

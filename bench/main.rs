@@ -2,6 +2,7 @@
 mod calls;
 mod change;
 mod counts;
+mod judge;
 mod keys;
 mod lines;
 mod machine;
@@ -11,6 +12,7 @@ mod results;
 mod salvage;
 mod search;
 mod walk;
+mod wear;
 
 use results::Results;
 use std::fs;
@@ -35,6 +37,8 @@ pub const COUNTS: &str = "counts";
 pub const WALK: &str = "empty leaves";
 pub const SALVAGE: &str = "salvage";
 pub const LINES: &str = "lines of a leaf";
+pub const JUDGE: &str = "judge";
+pub const WEAR: &str = "wear";
 pub const OURS: &str = "ours";
 pub const PLAIN: &str = "plain C";
 pub const LED: &str = "ours, sentinels";
@@ -47,16 +51,19 @@ pub const CPP: &str = "C++ std::map";
 pub const SORTED: &str = "sorted array";
 pub const OTHERS: [&str; 9] = [LED, PLAIN, FORESEEN, TRUSTING, TESTED, TREE, RUST, CPP, SORTED];
 
-/// What is measured: keys for the searches and the salvages, nodes for the changes, keys for the counts (ours and the 512-byte tree; that tree alone).
+/// What is measured: keys for the searches and the salvages, nodes for the changes, keys for the counts (ours and the 512-byte tree; that tree alone),
+/// orders for the wear figures, codes for the judge.
 struct Sizes {
     search: &'static [usize],
     nodes: &'static [usize],
     counted: (usize, usize),
+    listed: &'static [usize],
+    judged: &'static [usize],
 }
 
 /// Each insertion checks the whole table, so that counting takes a time that grows with the square of the keys.
-const WHOLE: Sizes = Sizes { search: &[10_000, 100_000, 400_000], nodes: &[16, 128, 1_024, 8_192, 56_253], counted: (10_000, 400_000) };
-const QUICK: Sizes = Sizes { search: &[1_000, 4_000], nodes: &[16, 64], counted: (200, 10_000) };
+const WHOLE: Sizes = Sizes { search: &[10_000, 100_000, 400_000], nodes: &[16, 128, 1_024, 8_192, 56_253], counted: (10_000, 400_000), listed: &[1_000, 10_000, 100_000, 1_000_000], judged: &[10_000, 100_000] };
+const QUICK: Sizes = Sizes { search: &[1_000, 4_000], nodes: &[16, 64], counted: (200, 10_000), listed: &[1_000, 10_000], judged: &[1_000] };
 
 fn measure(sizes: &Sizes) -> Results {
     let mut results = Results::default();
@@ -64,6 +71,8 @@ fn measure(sizes: &Sizes) -> Results {
     change::measure(&mut results, sizes.nodes);
     walk::measure(&mut results, sizes.nodes);
     salvage::measure(&mut results, sizes.search);
+    judge::measure(&mut results, sizes.judged);
+    wear::measure(&mut results, sizes.listed);
     counts::measure(&mut results, sizes.counted.0, sizes.counted.1);
     results
 }
@@ -87,12 +96,12 @@ fn report(results: &Results, sizes: &Sizes, folder: &Path) {
     write(folder, "plot.svg", &plot::svg(results, &machine[0], sizes.counted.0));
 }
 
-/// Only the salvages, of rising numbers of codes; nothing is written.
-fn only_salvage(sizes: &[&str]) {
-    let sizes: Vec<usize> = sizes.iter().map(|size| size.parse().expect("a number of codes")).collect();
+/// Only the salvages or the judge, of rising numbers of codes, or the wear figures, of rising numbers of orders; nothing is written.
+fn only(sizes: &[&str], measure: fn(&mut Results, &[usize]), tables: fn(&Results) -> Vec<report::Table>) {
+    let sizes: Vec<usize> = sizes.iter().map(|size| size.parse().expect("a number of codes or orders")).collect();
     let mut results = Results::default();
-    salvage::measure(&mut results, &sizes);
-    report::salvages(&results).iter().for_each(|table| println!("{}", table.text()));
+    measure(&mut results, &sizes);
+    tables(&results).iter().for_each(|table| println!("{}", table.text()));
 }
 
 /// A wrong answer is an assertion that fails: the run ends with status 1.
@@ -111,11 +120,13 @@ fn main() {
         ["--only-search", which @ (OURS | "plain"), keys, queries] => {
             return search::only(which, keys.parse().expect("a number of keys"), queries.parse().expect("a number of queries"));
         }
-        ["--only-salvage", ref sizes @ ..] if !sizes.is_empty() => return only_salvage(sizes),
+        ["--only-salvage", ref sizes @ ..] if !sizes.is_empty() => return only(sizes, salvage::measure, report::salvages),
+        ["--only-judge", ref sizes @ ..] if !sizes.is_empty() => return only(sizes, judge::measure, report::judgements),
+        ["--only-wear", ref sizes @ ..] if !sizes.is_empty() => return only(sizes, wear::measure, report::wears),
         ["--quick", folder] => (QUICK, folder),
         [folder] if !folder.starts_with('-') => (WHOLE, folder),
         _ => {
-            eprintln!("usage: bench [--quick] FOLDER | bench --only-search ours|plain KEYS QUERIES | bench --only-salvage CODES ..");
+            eprintln!("usage: bench [--quick] FOLDER | bench --only-search ours|plain KEYS QUERIES | bench --only-salvage CODES .. | bench --only-judge CODES .. | bench --only-wear ORDERS ..");
             std::process::exit(2);
         }
     };

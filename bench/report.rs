@@ -1,8 +1,12 @@
 //! The tables: as text for the terminal, as Markdown for docs/BENCHMARKS.md.
 use crate::counts::{self, CHANGES, ORDERS};
+use crate::judge::LISTS;
 use crate::results::{Results, Spread};
 use crate::salvage::TABLES;
-use crate::{CLASS_CHANGE, COUNTS, DELETION, HITS, INSERTION, LED, LINES, MISSES, NODES, OTHERS, OURS, PAPER_FLUSHES, SALVAGE, SPLITTING, TABLE, TREE, TRUSTING, WALK};
+use crate::wear;
+use crate::{
+    CLASS_CHANGE, COUNTS, DELETION, HITS, INSERTION, JUDGE, LED, LINES, MISSES, NODES, OTHERS, OURS, PAPER_FLUSHES, SALVAGE, SPLITTING, TABLE, TREE, TRUSTING, WALK, WEAR,
+};
 use std::fmt::Write;
 
 /// A table of ready cells under a line that says what they are.
@@ -203,6 +207,54 @@ pub fn salvages(results: &Results) -> Vec<Table> {
     vec![salvage_times(results), salvage_ratios(results)]
 }
 
+// ---- the judge
+
+fn judge_ratios(results: &Results) -> Table {
+    let head = ["list", "codes", "nodes", "stores", "orders", "check, µs", "call, µs", "call / check"];
+    let mut table = Table::new("Judging our list of an insertion: the call's time divided by the time of one check of the same table", &head);
+    for list in LISTS {
+        for codes in results.sizes(JUDGE, "nodes") {
+            let exact = |what: &str| results.median(JUDGE, what, codes).map_or("-".to_string(), |x| grouped(x as usize));
+            let [check, call] = ["check", "judge"].map(|what| results.median(JUDGE, &format!("{list}: {what}"), codes));
+            let mut row = vec![list.to_string(), grouped(codes), exact("nodes"), exact(&format!("{list}: stores")), exact(&format!("{list}: orders"))];
+            row.extend([check, call].map(|ns| or_dash(ns.map(|ns| ns / 1e3))));
+            row.push(ratio(call, check));
+            table.rows.push(row);
+        }
+    }
+    table
+}
+
+/// Only these, for the terminal.
+pub fn judgements(results: &Results) -> Vec<Table> {
+    vec![judge_ratios(results)]
+}
+
+// ---- wear
+
+fn wear_ratios(results: &Results) -> Table {
+    let names = wear::NODES.map(|nodes| (wear::name(nodes), grouped(nodes)));
+    let cells = names.iter().flat_map(|(_, nodes)| [format!("{nodes} nodes, µs"), format!("{nodes} nodes / read pass")]);
+    let head: Vec<String> = ["orders", "read pass, µs"].map(String::from).into_iter().chain(cells).collect();
+    let head: Vec<&str> = head.iter().map(String::as_str).collect();
+    let mut table = Table::new("Wear figures of an order list, and one plain read pass over the same list", &head);
+    for orders in results.sizes(WEAR, "read pass") {
+        let pass = results.median(WEAR, "read pass", orders);
+        let mut row = vec![grouped(orders), or_dash(pass.map(|ns| ns / 1e3))];
+        for (name, _) in &names {
+            let wear = results.median(WEAR, name, orders);
+            row.extend([or_dash(wear.map(|ns| ns / 1e3)), ratio(wear, pass)]);
+        }
+        table.rows.push(row);
+    }
+    table
+}
+
+/// Only these, for the terminal.
+pub fn wears(results: &Results) -> Vec<Table> {
+    vec![wear_ratios(results)]
+}
+
 // ---- stores and flushes
 
 fn count_table(results: &Results, size: usize, large: usize) -> Table {
@@ -289,6 +341,8 @@ pub fn ratios(results: &Results, counted: (usize, usize)) -> Vec<Table> {
         change_ratios(results),
         walk_ratios(results),
         salvage_ratios(results),
+        judge_ratios(results),
+        wear_ratios(results),
         count_table(results, counted.0, counted.1),
         search_growth(results),
         change_growth(results),

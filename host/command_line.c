@@ -67,6 +67,18 @@ static bool set_keep_going(struct command_line *l, const char *value)
     return l->load.keep_going = true;
 }
 
+static bool set_wear(struct command_line *l, const char *value)
+{
+    (void)value;
+    return l->load.wear = true;
+}
+
+static bool set_svg(struct command_line *l, const char *value)
+{
+    (void)value;
+    return l->svg = true;
+}
+
 static bool set_help(struct command_line *l, const char *value)
 {
     (void)value;
@@ -88,6 +100,9 @@ const struct option options[] = {
     {"--keep-going", NULL, NULL, "passes over bad lines and loads the rest; the exit status is that of the first bad line",
      "load room.cat codes.csv --keep-going", LOADING, set_keep_going},
     {"--each", NULL, NULL, "prints each line once the table has it", "load room.cat codes.csv --each", LOADING, set_each},
+    {"--wear", NULL, NULL, "tells at the end which lines the load stored to most", "load room.cat codes.csv --wear", LOADING, set_wear},
+    {"--svg", NULL, NULL, "draws the wear by line, as SVG, instead of printing it", "wear room.cat orders.txt --svg > wear.svg", DRAWING,
+     set_svg},
     {"--cut", "C", "a number of orders", "stops after C orders, as a power cut does", "add room.cat AA0001912345 7 --cut=2", CUT,
      read_cut},
     {"--dock", "N", "0 or 1",

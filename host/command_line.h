@@ -13,13 +13,13 @@
 #define MOST_WORDS 8
 
 /* Kinds of options, for which commands take which. */
-enum { CUT = 1, LOADING = 2, CARRYING = 4, WAITING = 8, NAMING = 16, MAKING = 32, DOCKING = 64 };
+enum { CUT = 1, LOADING = 2, CARRYING = 4, WAITING = 8, NAMING = 16, MAKING = 32, DOCKING = 64, DRAWING = 128 };
 
 struct command_line {
     char *words[MOST_WORDS]; /* the command, the table, and what follows */
     int count;
     unsigned given; /* kinds of options */
-    bool help, version;
+    bool help, version, svg;
     uint64_t cut;
     bool loan; /* a new table has two collections */
     struct table_options table;

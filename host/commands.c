@@ -15,6 +15,7 @@
 #include "scripts.h"
 #include "table.h"
 #include "text.h"
+#include "wear.h"
 
 /* ---- what the commands do with an open table: 0, or an exit status after saying why */
 
@@ -143,6 +144,11 @@ static int show_table(struct table *t, struct command_line *l)
 {
     (void)l;
     return show(t);
+}
+
+static int tell_wear(struct table *t, struct command_line *l)
+{
+    return wear(t, l->words[2], l->svg);
 }
 
 static int copy_table(struct table *t, struct command_line *l)
@@ -308,6 +314,11 @@ static int command_script(struct command_line *l)
     return script(number);
 }
 
+static int command_wear(struct command_line *l)
+{
+    return with_table(l, false, tell_wear);
+}
+
 static int command_help(struct command_line *l)
 {
     const struct command *c = NULL;
@@ -316,6 +327,13 @@ static int command_help(struct command_line *l)
     help(c);
     return 0;
 }
+
+/* What LIST is; the manual page has the same words. */
+#define LIST_FORM \
+    "LIST is a file, or standard input where it is -, of lines store WORD VALUE, flush LINE and\n" \
+    "barrier. A number before an order and text behind it are passed over, as orders prints\n" \
+    "them, and so are empty lines, those that begin with #, and lines done, refused and not\n" \
+    "made, which end a list"
 
 const struct command commands[] = {
     {"make", "TABLE NODES", "a new, empty table of 1 to 65535 nodes; allow one for every 4 codes", "make room.cat 100", 3, 3, MAKING,
@@ -350,10 +368,14 @@ const struct command commands[] = {
      "add CODE RECORDING [CLASS], remove CODE, class CODE CLASS, or repair",
      "orders room.cat add AA0001912345 7", 3, 6, NAMING | DOCKING | WAITING, command_orders},
     {"judge", "TABLE LIST + CODE RECORDING [CLASS], or - CODE",
-     "says whether the orders in the file LIST (as orders prints them; - for standard input)\n"
-     "make this change so that a power cut may come after any of them: yes, or no with the\n"
-     "first order that fails and what a cut there may leave. For dock 0",
+     "says whether the orders in LIST make this change, in a settled table that stays as it is,\n"
+     "so that a power cut may come after any of them: yes, or no with the first order that\n"
+     "fails, its place, and what a cut there may leave. One list, for dock 0.\n" LIST_FORM,
      "judge room.cat orders.txt + AA0001912345 7", 5, 7, NAMING | WAITING, command_judge},
+    {"wear", "TABLE LIST",
+     "prints how often the orders in LIST store to each line of the table, and which words they\n"
+     "store to, as words OFFSET LENGTH; the table stays as it is.\n" LIST_FORM,
+     "wear room.cat orders.txt", 3, 3, DRAWING | WAITING, command_wear},
     {"check", "TABLE", "says whether the table is settled, sound with a leftover, or not sound, and how many\nnodes are free for more codes",
      "check room.cat", 2, 2, WAITING, command_check},
     {"show", "TABLE",

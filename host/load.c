@@ -11,6 +11,7 @@
 #include "progress.h"
 #include "rows.h"
 #include "text.h"
+#include "wear.h"
 
 /* Bad lines that are shown; the others are counted. */
 #define SHOWN_BAD 20
@@ -26,6 +27,7 @@ struct loading {
     uint64_t stopped; /* the bad line that ended the loading, 0 for none: the lines after it are only read */
     struct change change;
     bool classed; /* the line has a class */
+    struct wearing wearing; /* where it is asked for */
 };
 
 /* ---- signals */
@@ -122,6 +124,10 @@ static int add(struct loading *l)
     if (status != 0)
         return fail(status, "%s: stopped before line %" PRIu64 "; what came before is kept", l->name, l->rows.number);
     l->added++;
+    if (l->options->wear)
+        status = wearing_add(&l->wearing, c->orders, change_orders(c));
+    if (status != 0)
+        return status;
     acknowledge(l);
     return 0;
 }
@@ -200,7 +206,10 @@ int load(struct table *t, const char *name, const struct load_options *options)
     watch_signal(SIGINT);
     watch_signal(SIGTERM);
     progress_begin(&l.progress, l.name, rows_count(l.rows.in));
-    int status = load_lines(&l);
+    int status = options->wear ? wearing_begin(&l.wearing, t) : 0;
+    bool begun = status == 0;
+    if (begun)
+        status = load_lines(&l);
     if (!standard)
         fclose(l.rows.in);
     /* What came before a bad line is kept, and must last as well. */
@@ -208,7 +217,11 @@ int load(struct table *t, const char *name, const struct load_options *options)
     if (status != BAD_FILE && settled == 0)
         settled = table_compare(t);
     say_loaded(&l);
+    int told = options->wear && begun && settled == 0 ? wearing_tell(&l.wearing) : 0;
+    wearing_end(&l.wearing);
     if (settled != 0)
         return settled;
+    if (status == 0)
+        status = told;
     return status != 0 ? status : l.first_bad;
 }

@@ -10,6 +10,7 @@ struct load_options {
     bool again;      /* pass over lines that the table has already */
     bool keep_going; /* pass over bad lines */
     bool each;       /* print each line once the table has it */
+    bool wear;       /* tell which lines of the table were stored to most */
 };
 
 /*

@@ -9,7 +9,7 @@
 /* The program's own, beside the library's refusal numbers, 254 for a list that is judged no and 255 for an absent code. */
 enum {
     BAD_USAGE = 64,   /* the command line has another form */
-    BAD_LINE = 65,    /* a line of a file to load has another form */
+    BAD_LINE = 65,    /* a line of a file to load, or of an order list, has another form */
     BAD_FILE = 74,    /* a file cannot be opened, read or written, or changed meanwhile */
     BY_SIGNAL = 128   /* and the signal's number: a load that a signal ended */
 };

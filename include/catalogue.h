@@ -8,7 +8,7 @@
  * Words must keep still while a call reads them: a search of words that another thread or process is changing may pair a code with its
  * neighbour's recording. Copy the nodes that it passes, and compare them once more, as host/looks.c does; a search of such a copy answers
  * as before the change or as after it.
- * No call asks for memory. Listing and the writing calls need 300 KB of stack, a salvage 450 KB, the others 2 KB.
+ * No call asks for memory. Listing, the writing calls and the wear figures need 300 KB of stack, a salvage 450 KB, the others 2 KB.
  *
  * A table has one collection or two, as it was made: the archive's own, 1, and the loan collection, 2. Each is a tree of its own codes, and
  * the calls that read or change one name it; a repair names none. The two share the nodes: a node belongs to one tree or is free for
@@ -72,7 +72,7 @@ extern "C" {
  * The version of these declarations. It is raised by each change of a name, a parameter or the meaning of a word, so a program that was
  * compiled with one header and linked with another library sees it: catalogue_version() is the library's.
  */
-#define CATALOGUE_VERSION 8
+#define CATALOGUE_VERSION 10
 
 #define CATALOGUE_MARK UINT64_MAX
 #define CATALOGUE_BARRIER (UINT64_MAX - 1)
@@ -116,7 +116,7 @@ enum {
     CATALOGUE_NO_NODES = 10,        /* fewer nodes that no root leads to than the splits need; salvage: the packing needs more than N */
     CATALOGUE_TOO_HIGH = 11,        /* the collection's root at level 15 would have to split */
     CATALOGUE_PARENT_FULL = 12,     /* repair would find 11 shown slots in the parent */
-    CATALOGUE_BAD_ORDERS = 13,      /* carry-out or judging: more orders than the list has, or one outside the table; a barrier lies in every one */
+    CATALOGUE_BAD_ORDERS = 13,      /* carry-out, judging, wear: more orders than the list has, or one outside the table; a barrier lies in each */
     CATALOGUE_BAD_CLASS = 14,       /* class above 2; comes straight after 6 */
     CATALOGUE_OTHER_LENGTH = 15,    /* salvage or judging: the second slice is not as long as the table */
     CATALOGUE_SHORT_REPORT = 16,    /* salvage: report under 36 words for each node */
@@ -127,6 +127,7 @@ enum {
     CATALOGUE_CHANGE_REFUSED = 21,  /* judging: the change itself would be refused on this table; comes last */
     CATALOGUE_NO_SCRIPT = 22,       /* script: number above 1,554 */
     CATALOGUE_BAD_SCRIPT = 23,      /* a script's number: actions that form no such script */
+    CATALOGUE_SHORT_FIGURES = 24,   /* wear: a lent slice too short for the lines or for the pairs needed */
     CATALOGUE_NO = 254,             /* judging: no */
     CATALOGUE_ABSENT = 255          /* search: the key is absent */
 };
@@ -265,6 +266,18 @@ uint64_t catalogue_script(uint64_t number, uint64_t *script);
 
 /* The number of a script, from exactly 5 words. 0 or 23. */
 uint64_t catalogue_script_number(const uint64_t *script, uint64_t *number);
+
+/*
+ * The wear of an order list of any length: all whole orders of the slice count, so hand in no words past the list. Of the table only length
+ * and header are read. lines gets the stores to each line, words / 8 numbers; extents the words that have a store, as pairs of offset and
+ * length, sorted by offset, touching ones joined. *total is the number of stores, *largest the most to one line, *first_line the first line
+ * that has so many, *pairs the number of pairs. Words past what is written stay. Flushes and barriers count for nothing; a list without
+ * stores gives 0 for all four.
+ * 0, or 2, 13 (over the whole list) or 24 (lines under words / 8 words, extents under twice the pairs).
+ */
+uint64_t catalogue_wear(const uint64_t *table, size_t words, const uint64_t *orders, size_t order_words, uint64_t *lines,
+                        size_t line_words, uint64_t *extents, size_t extent_words, uint64_t *total, uint64_t *largest,
+                        uint64_t *first_line, uint64_t *pairs);
 
 #ifdef __cplusplus
 }

@@ -25,4 +25,5 @@ extern "C" {
     pub fn catalogue_judge_delete(table: *const u64, words: usize, orders: *const u64, order_words: usize, out: *mut u64, out_words: usize, collection: u64, key: u64, count: *mut u64) -> u64;
     pub fn catalogue_script(number: u64, script: *mut u64) -> u64;
     pub fn catalogue_script_number(script: *const u64, number: *mut u64) -> u64;
+    pub fn catalogue_wear(table: *const u64, words: usize, orders: *const u64, order_words: usize, lines: *mut u64, line_words: usize, extents: *mut u64, extent_words: usize, total: *mut u64, largest: *mut u64, first_line: *mut u64, pairs: *mut u64) -> u64;
 }

@@ -12,8 +12,8 @@ HUNDRED = os.path.join(HOST, "hundred.csv")
 BEFORE = os.path.join(os.path.dirname(os.path.abspath(__file__)), "before_classes")
 
 
-COMMANDS = "make add remove class find list load repair copy salvage orders check show script help".split()
-OPTIONS = "--loan --collection --again --keep-going --each --cut --dock --wait --fast --flush --pause --help --version".split()
+COMMANDS = "make add remove class find list load repair copy salvage orders judge wear check show script help".split()
+OPTIONS = "--loan --collection --again --keep-going --each --wear --svg --cut --dock --wait --fast --flush --pause --help --version".split()
 
 
 def help_has_an_example_of_each(program, folder):
@@ -26,7 +26,7 @@ def help_has_an_example_of_each(program, folder):
     assert max(len(line) for line in text.splitlines()) <= 120
     statuses = re.search(r"^Exit status: (.*?)\.$", text, re.M | re.S)[1]
     numbers = [int(item.split()[0]) for item in re.split(";\\s", statuses)]
-    assert numbers == list(range(19)) + [22, 23, 64, 65, 74, 130, 143, 255], statuses
+    assert numbers == list(range(25)) + [64, 65, 74, 130, 143, 254, 255], statuses
 
 
 def help_of_one_command(program, folder):

@@ -260,3 +260,37 @@ pub fn script_number(words: [u64; 5]) -> (u64, Option<u64>) {
     assert!(script.back() == words, "a script's words were written");
     (n, number.put())
 }
+
+/// What the wear figures left: the number; total, largest, first line and pairs, each where the call put it; and the two slices.
+#[derive(Debug, PartialEq)]
+pub struct Wore {
+    pub number: u64,
+    pub figures: [Option<u64>; 4],
+    pub lines: Vec<u64>,
+    pub extents: Vec<u64>,
+}
+
+pub fn wear(t: &[u64], list: &[u64], lines: &[u64], extents: &[u64]) -> Wore {
+    let [mut table, mut orders, mut of_lines, mut of_extents] = [t, list, lines, extents].map(Lent::new);
+    let [mut total, mut largest, mut first_line, mut pairs] = std::array::from_fn(|_| Word::new());
+    let number = unsafe {
+        let (a, b, c, d) = (table.pointer(), orders.pointer(), of_lines.pointer(), of_extents.pointer());
+        catalogue_wear(a, t.len(), b, list.len(), c, lines.len(), d, extents.len(), total.pointer(), largest.pointer(), first_line.pointer(), pairs.pointer())
+    };
+    assert!(table.back() == t && orders.back() == list, "the wear figures wrote to the table or to the list");
+    Wore { number, figures: [total.put(), largest.put(), first_line.put(), pairs.put()], lines: of_lines.back().to_vec(), extents: of_extents.back().to_vec() }
+}
+
+/// How long the call alone takes.
+pub fn wear_takes(t: &[u64], list: &[u64], lines: &mut [u64], extents: &mut [u64]) -> std::time::Duration {
+    let mut figures = [0u64; 4];
+    let [total, largest, first_line, pairs] = figures.each_mut();
+    let started = std::time::Instant::now();
+    let number = unsafe {
+        let (a, b) = (lines.as_mut_ptr(), extents.as_mut_ptr());
+        catalogue_wear(t.as_ptr(), t.len(), list.as_ptr(), list.len(), a, lines.len(), b, extents.len(), total, largest, first_line, pairs)
+    };
+    let took = started.elapsed();
+    assert!(number == 0, "refused with {number}");
+    took
+}

@@ -817,8 +817,63 @@ fn no_such_dock() {
     }
 }
 
+/// With 6 words for lines and 10 for pairs, one and four more than N = 1 and these lists need; the words written, and that the others stay.
+fn wear_gives(list: &[u64], figures: [u64; 4], lines: [u64; 5], extents: &[u64]) {
+    let t = make(1);
+    let wore = calls::wear(&t, list, &[77; 6], &[88; 10]);
+    let call = format!("the wear of {list:?}");
+    gives(&call, &t, (wore.number, wore.figures), (0, figures.map(Some)));
+    gives(&call, &t, (&wore.lines[..5], wore.lines[5]), (&lines[..], 77));
+    gives(&call, &t, (&wore.extents[..extents.len()], wore.extents[extents.len()..].iter().all(|&w| w == 88)), (extents, true));
+}
+
+fn wear_figures() {
+    // Document 01's insertion and deletion: six stores to line 2, to words 16, 17 and 19.
+    let printed = [19, 0, 17, MARK, 16, 172_627_201_912_345, 17, 7, MARK, 2, 17, MARK, 17, 0, MARK, 2];
+    wear_gives(&printed[..10], [4, 4, 2, 2], [0, 0, 4, 0, 0], &[16, 2, 19, 1]);
+    wear_gives(&printed, [6, 6, 2, 2], [0, 0, 6, 0, 0], &[16, 2, 19, 1]);
+    // No store.
+    wear_gives(&[], [0; 4], [0; 5], &[]);
+    wear_gives(&[MARK, 4, MARK, 0], [0; 4], [0; 5], &[]);
+    // Words that touch across lines are one pair; of lines with as many stores the first; the first word and the last.
+    wear_gives(&[8, 1, 7, 1], [2, 1, 0, 1], [1, 1, 0, 0, 0], &[7, 2]);
+    wear_gives(&[39, 1, 0, 1, 39, 1, 1, 1], [4, 2, 0, 2], [2, 0, 0, 0, 2], &[0, 2, 39, 1]);
+    wear_gives(&[16, 1, 18, 1, 17, 1, 20, 1, 24, 1], [5, 4, 2, 3], [0, 0, 4, 1, 0], &[16, 3, 20, 1, 24, 1]);
+    // A barrier is no store.
+    wear_gives(&[BARRIER, 0, 9, 1, BARRIER, 0], [1, 1, 1, 1], [0, 1, 0, 0, 0], &[9, 1]);
+    // A last word alone is no order.
+    wear_gives(&[9, 1, 40], [1, 1, 1, 1], [0, 1, 0, 0, 0], &[9, 1]);
+
+    let t = make(1);
+    let refused = |t: &[u64], list: &[u64], lines: usize, pairs: usize, number: u64| {
+        let (a, b) = (vec![77; lines], vec![88; pairs]);
+        let wore = calls::wear(t, list, &a, &b);
+        let what = format!("the wear of {list:?} with {lines} words for lines, {pairs} for pairs");
+        gives(&what, t, (wore.number, wore.figures, wore.lines, wore.extents), (number, [None; 4], a, b));
+    };
+    for (list, lines, pairs, number) in [
+        (&[40, 1][..], 5, 10, 13),
+        (&[MARK, 5], 5, 10, 13),
+        (&[BARRIER, 1, 0, 0], 5, 10, 13),
+        // The last order is looked at too, and before the slices are.
+        (&[0, 0, 39, 1, MARK, 5], 0, 0, 13),
+        (&[], 4, 10, 24),
+        (&[0, 0], 4, 10, 24),
+        (&[0, 0], 5, 1, 24),
+        (&[0, 0, 2, 0], 5, 3, 24),
+        (&[0, 0], 4, 1, 24),
+    ] {
+        refused(&t, list, lines, pairs, number);
+        refused(&with(&t, 0, 2), list, lines, pairs, 2);
+        refused(&t[..39], list, lines, pairs, 2);
+    }
+    // The rest of the table is not looked at.
+    let any: Vec<u64> = t.iter().enumerate().map(|(w, &x)| if w < 8 { x } else { MARK - w as u64 }).collect();
+    gives("the wear on any words", &any, calls::wear(&any, &printed, &[77; 5], &[88; 4]).figures, [6, 6, 2, 2].map(Some));
+}
+
 fn main() {
-    let vectors: [(&str, fn()); 25] = [
+    let vectors: [(&str, fn()); 26] = [
         ("a root at level 15 is searched, one at 16 refused", root_levels),
         ("search's 3 in each of its causes", search_refusals),
         ("an absent key's neighbour", absent_search),
@@ -844,6 +899,7 @@ fn main() {
         ("18 straight before 5", no_such_dock),
         ("N up to 65,535", largest_table),
         ("codes up to the last", codes),
+        ("wear figures", wear_figures),
     ];
     for (name, vector) in vectors {
         vector();

@@ -21,7 +21,7 @@ double-one : (i : ℕ) → 2 * suc i + 1 ≡ suc (suc (2 * i + 1))
 double-one i = omega arith
 
 -- the orders from order i on begin with words 2 i and 2 i + 1
-decode-cons : (ws : Words) (i : ℕ) → 2 * i + 1 < length ws → drop i (decode ws) ≡ orderOf (at ws (2 * i)) (at ws (2 * i + 1)) ∷ drop (suc i) (decode ws)
+pub decode-cons : (ws : Words) (i : ℕ) → 2 * i + 1 < length ws → drop i (decode ws) ≡ orderOf (at ws (2 * i)) (at ws (2 * i + 1)) ∷ drop (suc i) (decode ws)
 unfolding decode
 decode-cons [] i h = absurd (omega arith)
 decode-cons (a ∷ []) i h = absurd (omega arith)

@@ -15,8 +15,10 @@ use Rattle.model.specs.declared.Salvaged.{Salvaged}
 use Rattle.model.specs.declared.Verdict.{Verdict}
 use Rattle.model.specs.Listing.{listedNumber, countOr, moreOr}
 use Rattle.model.specs.Salvage.{salvagedNumber, droppedOr}
-use Rattle.catalogue.specs.Answers.{searchNumber, Looked, Counted, Wrote, WroteWith, Showed, Rebuilt, Ruled}
+use Rattle.catalogue.specs.Answers.{searchNumber, Looked, Counted, Wrote, WroteWith, Showed, Rebuilt, Ruled, Wore}
 use Rattle.sentinels.specs.Anew.{Leaves}
+use Rattle.model.specs.declared.Worn.{Worn}
+use Rattle.model.specs.Wear.{worn, wornNumber, totalOr, largestOr, firstLineOr, pairsOr}
 
 -- an answer that is this one has its number, and puts its words
 pub answered : (x y : Answer) (recording access next higher : ℕ) → x ≡ y
@@ -74,3 +76,15 @@ was-rebuilt x y old e = record { number-is = sym (ap salvagedNumber e); dropped-
 
 pub has-ruled : (x y : Verdict) {number count count′ : ℕ} → y ≡ x → Ruled y number count count′ → Ruled x number count count′
 has-ruled x y {number = number} {count} {count′} e r = subst (λ (z : Verdict). Ruled z number count count′) e r
+
+pub has-worn : (orders lines extents t : Words) {y z : Worn} (total largest first pairs : ℕ) → z ≡ worn orders (length lines) (length extents) t → z ≡ y
+    → Wore (worn orders (length lines) (length extents) t) (wornNumber y) total (totalOr y total) largest (largestOr y largest) first (firstLineOr y first) pairs (pairsOr y pairs)
+has-worn orders lines extents t total largest first pairs d e =
+    let q = sym e ∙ d in
+    record {
+      number-is = ap wornNumber q;
+      total-is = ap (λ (z : Worn). totalOr z total) q;
+      largest-is = ap (λ (z : Worn). largestOr z largest) q;
+      first-is = ap (λ (z : Worn). firstLineOr z first) q;
+      pairs-are = ap (λ (z : Worn). pairsOr z pairs) q;
+    }

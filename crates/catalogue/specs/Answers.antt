@@ -7,6 +7,7 @@ use Rattle.model.specs.declared.Answer.the-variants.{Found, Absent, Refused}
 use Rattle.model.specs.declared.Listed.{Listed}
 use Rattle.model.specs.declared.Salvaged.{Salvaged}
 use Rattle.model.specs.declared.Verdict.{Verdict}
+use Rattle.model.specs.declared.Worn.{Worn}
 use Rattle.model.specs.declared.Written.{Written}
 use Rattle.model.specs.Table.{Words}
 use Rattle.model.specs.Writes.{Call}
@@ -16,10 +17,11 @@ use Rattle.model.specs.Refusals.{written, tableAfter, listAfter, writtenNumber,
 use Rattle.model.specs.Salvage.{salvagedNumber, droppedOr}
 use Rattle.model.specs.Sentinels.{writtenWith, tableWith, ordersWith, sentinelsWith}
 use Rattle.model.specs.Judge.{verdictNumber, failsOr}
+use Rattle.model.specs.Wear.{wornNumber, totalOr, largestOr, firstLineOr, pairsOr}
 
 -- the version of the calls' shapes: raised by each change of a name, a parameter or what a word means
 abbrev pub version : ℕ
-version = 8
+version = 10
 
 -- a search of C's: 0 for found, 255 for absent
 abbrev pub searchNumber : Answer → ℕ
@@ -70,3 +72,11 @@ pub record Rebuilt (x : Salvaged) (number dropped dropped′ : ℕ) : Type 0 whe
 pub record Ruled (x : Verdict) (number count count′ : ℕ) : Type 0 where
   pub number-is : number ≡ verdictNumber x
   pub count-is : count′ ≡ failsOr x count
+
+-- the wear figures: the call's number, and the figures in lent words, which stay on refusal
+pub record Wore (x : Worn) (number total total′ largest largest′ first first′ pairs pairs′ : ℕ) : Type 0 where
+  pub number-is : number ≡ wornNumber x
+  pub total-is : total′ ≡ totalOr x total
+  pub largest-is : largest′ ≡ largestOr x largest
+  pub first-is : first′ ≡ firstLineOr x first
+  pub pairs-are : pairs′ ≡ pairsOr x pairs

@@ -8,6 +8,7 @@ use model::Parsed;
 use model::Ranked;
 use model::Salvaged;
 use model::Verdict;
+use model::Worn;
 use model::Written;
 ghost use mathlib.Core.Path.{_≡_};
 ghost use Rattle.model.specs.Codes.{parse, print, parsedNumber, keyOr};
@@ -15,7 +16,7 @@ ghost use Rattle.model.specs.Table.{making, made, outcomeNumber};
 ghost use Rattle.model.specs.Orders.{carryOut, carriedOut};
 ghost use Rattle.model.specs.Search.{search};
 ghost use Rattle.model.specs.Writes.{insertion, deletion, classChange, repair};
-ghost use Rattle.catalogue.specs.Answers.{version, Looked, Counted, Wrote, WroteWith, Showed, Rebuilt, Ruled};
+ghost use Rattle.catalogue.specs.Answers.{version, Looked, Counted, Wrote, WroteWith, Showed, Rebuilt, Ruled, Wore};
 ghost use Rattle.model.specs.Sentinels.{workOut, workedOut, searchWith};
 ghost use Rattle.model.specs.Salvage.{salvage, salvageOut, salvageReport};
 ghost use Rattle.model.specs.Judge.{judge, judgeOut};
@@ -23,13 +24,14 @@ ghost use Rattle.model.specs.Scripts.{scriptAnswer, scriptOut, scriptNumber, ra
 ghost use lib.ListN.{length};
 ghost use Rattle.model.specs.Listing.{list, listOut};
 ghost use mathlib.Core.Bool.{cond};
+ghost use Rattle.model.specs.Wear.{worn, linesAfter, pairsAfter};
 
 // The version of the calls' shapes; the header's CATALOGUE_VERSION is the same.
 #[no_mangle]
 pub extern "C" fn catalogue_version() -> u64
     ensures { λ r. ⌜ r ≡ version ⌝ }
 {
-    8
+    10
 }
 
 // 0 and the code's key, or 1.
@@ -314,7 +316,16 @@ pub extern "C" fn catalogue_insert_with(
         dock (now (stores .entry)) (now (stores .exit)) (now (flushes .entry)) (now (flushes .exit))
         (now (barriers .entry)) (now (barriers .exit)) ⌝ }
 {
-    let answer = sentinel_writes::insert_with(table, sentinels, orders, dock, collection, key, recording, access);
+    let answer = sentinel_writes::insert_with(
+        table,
+        sentinels,
+        orders,
+        dock,
+        collection,
+        key,
+        recording,
+        access,
+    );
     put_counts(answer, stores, flushes, barriers)
 }
 
@@ -357,7 +368,15 @@ pub extern "C" fn catalogue_set_class_with(
         dock (now (stores .entry)) (now (stores .exit)) (now (flushes .entry)) (now (flushes .exit))
         (now (barriers .entry)) (now (barriers .exit)) ⌝ }
 {
-    let answer = sentinel_writes::set_class_with(table, sentinels, orders, dock, collection, key, access);
+    let answer = sentinel_writes::set_class_with(
+        table,
+        sentinels,
+        orders,
+        dock,
+        collection,
+        key,
+        access,
+    );
     put_counts(answer, stores, flushes, barriers)
 }
 
@@ -484,5 +503,40 @@ pub extern "C" fn catalogue_script_number(script: &[u64; 5], number: &mut u64) -
             0
         }
         Ranked::Refused(n) => n as u64,
+    }
+}
+
+// 0 and the figures, or 2, 13 or 24.
+#[no_mangle]
+pub extern "C" fn catalogue_wear(
+    table: &[u64],
+    orders: &[u64],
+    lines: &mut [u64],
+    extents: &mut [u64],
+    total: &mut u64,
+    largest: &mut u64,
+    first_line: &mut u64,
+    pairs: &mut u64,
+) -> u64
+    ensures { λ r. ⌜ Wore (worn (now (orders .entry)) (length (now (lines .entry))) (length (now (extents .entry))) (now (table .entry))) r
+        (now (total .entry)) (now (total .exit)) (now (largest .entry)) (now (largest .exit))
+        (now («first_line» .entry)) (now («first_line» .exit)) (now (pairs .entry)) (now (pairs .exit)) ⌝ }
+    ensures { λ r. ⌜ now (lines .exit) ≡ linesAfter (now (orders .entry)) (now (lines .entry)) (now (extents .entry)) (now (table .entry)) ⌝ }
+    ensures { λ r. ⌜ now (extents .exit) ≡ pairsAfter (now (orders .entry)) (now (lines .entry)) (now (extents .entry)) (now (table .entry)) ⌝ }
+{
+    match wear::wear(table, orders, lines, extents) {
+        Worn::Figures {
+            total: t,
+            largest: l,
+            first_line: f,
+            pairs: p,
+        } => {
+            *total = t;
+            *largest = l;
+            *first_line = f;
+            *pairs = p;
+            0
+        }
+        Worn::Refused(n) => n as u64,
     }
 }

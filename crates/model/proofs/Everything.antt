@@ -20,6 +20,7 @@ use Rattle.model.specs.Sentinels
 use Rattle.model.specs.Judge
 use Rattle.model.specs.Looks
 use Rattle.model.specs.Scripts
+use Rattle.model.specs.Wear
 
 unfoldable pub everything : Unit {0}
 unfolding Codes.isDigit Codes.isLetter Codes.isLetterOrDigit Codes.every Codes.isCode Codes.value Codes.readOn Codes.number Codes.keyOf Codes.parse Codes.character
@@ -63,4 +64,6 @@ unfolding Codes.isDigit Codes.isLetter Codes.isLetterOrDigit Codes.every Codes.i
     Scripts.callOf Scripts.isScript Scripts.actionBefore Scripts.firstDiffers Scripts.before Scripts.rankOn Scripts.unrank Scripts.scriptWords
     Scripts.scriptAnswer Scripts.scriptOut Scripts.formScript Scripts.scriptNumber Scripts.cutTables Scripts.agrees Scripts.badTables Scripts.along
     Scripts.overAll Scripts.metText
+    Wear.storedTo Wear.storesTo Wear.wearOf Wear.largest Wear.firstAt Wear.joinAll Wear.extentsOf Wear.extentWords Wear.wearNumber Wear.figures Wear.worn
+    Wear.linesAfter Wear.pairsAfter
 everything = tt

@@ -119,7 +119,7 @@ ledgerAfter choose n N [] = noPairs n
 ledgerAfter choose n N (e ∷ h) =
     let s = runAll n N h in
     feed (e .call) (otherSlice N (e .slice)) (length (e .lent)) (e .dock) (fedOf (numberOf s e)) (endOf (e .fate) s e) (choose (e ∷ h))
-        (ledgerAfter choose n N h)
+    (ledgerAfter choose n N h)
 
 -- ---- what holds at the start and after each event
 

@@ -22,3 +22,4 @@ pub mod Sentinels
 pub mod Judge
 pub mod Looks
 pub mod Scripts
+pub mod Wear

@@ -75,6 +75,18 @@ pub enum Verdict {
     Refused(u8),
 }
 
+// What the wear figures of an order list answer: its stores, the most to one line, the first line that has so many, and the number of
+// pairs of offset and length that the words with a store came to.
+pub enum Worn {
+    Figures {
+        total: u64,
+        largest: u64,
+        first_line: u64,
+        pairs: u64,
+    },
+    Refused(u8),
+}
+
 // Nodes with something unfinished: none, one (which), or more than one.
 pub enum Few {
     Zero,

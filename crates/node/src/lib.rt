@@ -195,7 +195,7 @@ pub fn word(table: &[u64], i: u64, j: usize) -> u64
     table[w + j]
 }
 
-fn zero(table: &mut [u64])
+pub fn zero(table: &mut [u64])
     ensures { λ r. ⌜ now (table .exit) ≡ replicate (length (now (table .entry))) 0 ⌝ }
 {
     let mut w = 0;

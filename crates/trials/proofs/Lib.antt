@@ -1,4 +1,4 @@
--- The definitions tried: writes whole and cut, what breaks soundness, single sentences, and those of requests 1, 5, 6, 8, 10 and 11.
+-- The definitions tried: writes whole and cut, what breaks soundness, single sentences, and those of requests 1, 5, 6, 8 and 10 to 12.
 pub mod Calls
 pub mod Unsound
 pub mod Sentences
@@ -9,3 +9,4 @@ pub mod BothSalvaged
 pub mod SentinelWords
 pub mod Looks
 pub mod Scripts
+pub mod Wear

@@ -1,0 +1,2 @@
+-- Words in which the laws are said.
+pub mod Wearing
