@@ -16,6 +16,7 @@ use Rattle.model.specs.Ledger.{fedOf, ledgerRefusal}
 use Rattle.model.specs.Sentinels.{sliceNumber, refusalWith}
 use Rattle.two_laws.proofs.SearchTwo.{sound-head}
 use Rattle.two_laws.proofs.LedgerTwo.{seventeen-same, number-in-ledger}
+use Rattle.two_laws.proofs.NumbersTwo.{no-twelve}
 use Rattle.sentinel_laws.proofs.Slices.{slice-lacks, slice-wrong, slice-right}
 
 module _ (x : Call) (m words dock : ℕ) (t : Words) where
@@ -29,6 +30,10 @@ module _ (x : Call) (m words dock : ℕ) (t : Words) where
       go true false true h = h
       go true false false h = absurd (c (sym h))
       go false q r h = absurd (a (sym h))
+
+  -- nor does a call with sentinels answer 12
+  pub no-twelve-with : refusalWith x m words dock t ≢ 12
+  no-twelve-with e = no-twelve x words dock t (number-plain 12 (λ q. omega arith) (λ q. omega arith) (λ q. omega arith) e)
 
   module _ (s : sound t ≡ true) where
     abbrev other : Bool
