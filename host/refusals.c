@@ -25,7 +25,6 @@ const struct refusal refusals[] = {
     {CATALOGUE_NO_NODES, "no free nodes",
      "{table} is full: adding {code} takes more nodes than are free; catalogue copy {table} NEW NODES makes a larger table"},
     {CATALOGUE_TOO_HIGH, "tree too high", "{part}{table} is full: its tree has 16 levels and adding {code} would take one more"},
-    {CATALOGUE_PARENT_FULL, "no room for a repair", "{table} cannot be repaired: the node where a slot is missing is full"},
     {CATALOGUE_BAD_ORDERS, "order outside the table", "an order lies outside of {table}"},
     {CATALOGUE_BAD_CLASS, "no such class", CLASSES},
     {CATALOGUE_OTHER_LENGTH, "second slice of another length", NULL},

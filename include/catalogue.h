@@ -72,7 +72,7 @@ extern "C" {
  * The version of these declarations. It is raised by each change of a name, a parameter or the meaning of a word, so a program that was
  * compiled with one header and linked with another library sees it: catalogue_version() is the library's.
  */
-#define CATALOGUE_VERSION 10
+#define CATALOGUE_VERSION 11
 
 #define CATALOGUE_MARK UINT64_MAX
 #define CATALOGUE_BARRIER (UINT64_MAX - 1)
@@ -115,7 +115,6 @@ enum {
     CATALOGUE_KEY_ABSENT = 9,       /* deletion or class change: code not in the collection */
     CATALOGUE_NO_NODES = 10,        /* fewer nodes that no root leads to than the splits need; salvage: the packing needs more than N */
     CATALOGUE_TOO_HIGH = 11,        /* the collection's root at level 15 would have to split */
-    CATALOGUE_PARENT_FULL = 12,     /* repair would find 11 shown slots in the parent */
     CATALOGUE_BAD_ORDERS = 13,      /* carry-out, judging, wear: more orders than the list has, or one outside the table; a barrier lies in each */
     CATALOGUE_BAD_CLASS = 14,       /* class above 2; comes straight after 6 */
     CATALOGUE_OTHER_LENGTH = 15,    /* salvage or judging: the second slice is not as long as the table */
@@ -169,20 +168,20 @@ uint64_t catalogue_list(const uint64_t *table, size_t words, uint64_t collection
  * dock and its stores, flushes and barriers counted (at most 1,121 stores and flushes together; no barriers for dock 0, one for each store
  * for dock 1), or the refusal number. Of the other collection only the number of free nodes, for 10, and that it is sound count for what is
  * refused; its codes and their recordings stay at every store.
- * Insertion: 2, 17, 4, 18, 5, 12, 6, 14, 7, 8, 11, 10.
+ * Insertion: 2, 17, 4, 18, 5, 6, 14, 7, 8, 11, 10.
  */
 uint64_t catalogue_insert(uint64_t *table, size_t words, uint64_t collection, uint64_t *orders, size_t order_words, uint64_t dock,
                           uint64_t key, uint64_t recording, uint64_t access, uint64_t *stores, uint64_t *flushes, uint64_t *barriers);
 
-/* Deletion: 2, 17, 4, 18, 5, 12, 9. */
+/* Deletion: 2, 17, 4, 18, 5, 9. */
 uint64_t catalogue_delete(uint64_t *table, size_t words, uint64_t collection, uint64_t *orders, size_t order_words, uint64_t dock,
                           uint64_t key, uint64_t *stores, uint64_t *flushes, uint64_t *barriers);
 
-/* Class change of a code, also to the class that it has: one store and one flush, after any repair. 2, 17, 4, 18, 5, 12, 14, 9. */
+/* Class change of a code, also to the class that it has: one store and one flush, after any repair. 2, 17, 4, 18, 5, 14, 9. */
 uint64_t catalogue_set_class(uint64_t *table, size_t words, uint64_t collection, uint64_t *orders, size_t order_words, uint64_t dock,
                              uint64_t key, uint64_t access, uint64_t *stores, uint64_t *flushes, uint64_t *barriers);
 
-/* Repair of what a cut left in either collection: 2, 4, 18, 5, 12. A settled table gives 0 orders. */
+/* Repair of what a cut left in either collection: 2, 4, 18, 5. A settled table gives 0 orders. */
 uint64_t catalogue_repair(uint64_t *table, size_t words, uint64_t *orders, size_t order_words, uint64_t dock, uint64_t *stores,
                           uint64_t *flushes, uint64_t *barriers);
 

@@ -547,7 +547,9 @@ impl Writer {
         self.close(n, x.places().1[0], x.used());
     }
 
+    /// The parent of a sound table has room for the slot that it lacks: request 13 took out a refusal for want of it.
     fn attach(&mut self, parent: u64, a: u64) {
+        assert!(node(&self.t, parent).shown().len() < 11, "no room in node {parent} of a sound table");
         let b = node(&self.t, a).sibling;
         let fence = node(&self.t, b).fence;
         self.shift_in(parent, fence, b);
@@ -695,13 +697,6 @@ pub fn write_judged(t: &[u64], sound: &Sound, list_words: usize, dock: u64, call
     };
     if list_words < least {
         return Err(5);
-    }
-    let parent = match sound.leftover {
-        Leftover::Missing { parent, .. } | Leftover::Both { parent, .. } => Some(parent),
-        _ => None,
-    };
-    if parent.map_or(false, |p| node(t, p).shown().len() == 11) {
-        return Err(12);
     }
     let mut w = Writer::new(t);
     w.repair(sound.leftover);

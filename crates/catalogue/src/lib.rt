@@ -31,7 +31,7 @@ ghost use Rattle.model.specs.Wear.{worn, linesAfter, pairsAfter};
 pub extern "C" fn catalogue_version() -> u64
     ensures { λ r. ⌜ r ≡ version ⌝ }
 {
-    10
+    11
 }
 
 // 0 and the code's key, or 1.

@@ -39,7 +39,7 @@ use Rattle.two_laws.proofs.MapsTwo.{Steps, accepted-steps}
 use Rattle.two_laws.proofs.SearchTwo.{sound-head}
 use Rattle.two_laws.proofs.SameTwo.{settled-same, settled-sound}
 use Rattle.two_laws.proofs.EmptyTwo.{empty-settled, empty-one-maps, empty-two-maps}
-use Rattle.two_laws.proofs.LedgerTwo.{searched, number-in-ledger, only-twelve, only-eleven, only-ten}
+use Rattle.two_laws.proofs.LedgerTwo.{searched, number-in-ledger, only-eleven, only-ten}
 use Rattle.sentinel_laws.proofs.Slices.{fits, with-accepted, plain-call}
 use Rattle.sentinel_laws.proofs.InLedger.{number-plain, with-in-ledger}
 use Rattle.sentinel_laws.proofs.Searches.{search-as-plain}
@@ -133,7 +133,7 @@ number-answered none x words dock t = plain-answered x words dock t
 number-answered (some ws) x words dock t =
     unless-number (sliceNumber (seventeenIn x t) (length ws) t) (refusal x words dock t) (written x words dock t) (plain-answered x words dock t)
 
--- 10, 11 and 12 are the plain call's
+-- 10 and 11 are the plain call's
 same-plain : (o : Option Words) (x : Call) (words dock : ℕ) (t : Words) (k : ℕ) → k ≢ 2 → k ≢ 17 → k ≢ 19 → refusalBy o x words dock t ≡ k → refusal x words dock t ≡ k
 same-plain none x words dock t k a b c e = e
 same-plain (some ws) x words dock t k a b c e = number-plain x (length ws) words dock t k a b c e
@@ -334,7 +334,6 @@ module _ (N : ℕ) (s : State) (e : Event) (ps : Ledger) (v : Inv N s ps) (p : n
     answers-it = number-answered (e .slice) (e .call) (length (e .lent)) (e .dock) (s .working);
     ten-only = λ q. only-ten (e .call) (length (e .lent)) (e .dock) (s .working) (v .fine) (plain-number 10 (omega arith) (omega arith) (omega arith) q);
     eleven-only = λ q. only-eleven (e .call) (length (e .lent)) (e .dock) (s .working) (v .fine) (plain-number 11 (omega arith) (omega arith) (omega arith) q);
-    twelve-only = λ q. only-twelve (e .call) (length (e .lent)) (e .dock) (s .working) (v .fine) (plain-number 12 (omega arith) (omega arith) (omega arith) q);
     carried = λ ok. fate-carried s e (v .both) (v .fine) ok (e .fate);
     equal = step-completed;
     finished = step-settled;

@@ -22,7 +22,6 @@ use Rattle.model.specs.Judge.{judgedFrom, judged, judgeNumber, judge, countOf, 
 use Rattle.list_laws.proofs.Tools.{not-false-iff}
 use Rattle.step_laws.proofs.Accepted.{none-holds}
 use Rattle.two_laws.proofs.SameTwo.{settled-sound}
-use Rattle.two_laws.proofs.JudgedTwo.{parent-not-full}
 use Rattle.two_laws.proofs.SearchTwo.{sound-head}
 use Rattle.judge_laws.proofs.Calls.{Judgeable, whole-inside, judge-judged, judge-out}
 use Rattle.carry.specs.Firsts.{firsts}
@@ -60,7 +59,7 @@ module _ (n : ℕ) (t list : Words) (out : ℕ) where
       go false b c p q r = ap Refused (same 2 (rw p)) ∙ rw p
       go true true c p q r = ap Refused (same 17 (rw (p, q))) ∙ rw (p, q)
       go true false false p q r = ap Refused (same 4 (rw (p, q, r))) ∙ rw (p, q, r)
-      go true false true p q r = absurd (false≢true (sym (checked-unsound t .0 (unready (checked t) (rw (p, q, r, parent-not-full t r) at e))) ∙ r))
+      go true false true p q r = absurd (false≢true (sym (checked-unsound t .0 (unready (checked t) (rw (p, q, r) at e))) ∙ r))
 
   module _ (x : Leftover) (c : ℕ) (f : SoundWith t x c) (h : noCollection n t ≡ false) where
     settled-is : isNothing (some (meant x)) ≡ settled t

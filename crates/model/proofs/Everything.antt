@@ -45,8 +45,7 @@ unfolding Codes.isDigit Codes.isLetter Codes.isLetterOrDigit Codes.every Codes.i
     Writes.splitWords Writes.split Writes.newRoot Writes.cutOff Writes.attach Writes.repairOf Writes.repairStores Writes.repaired Writes.standingIn Writes.runIn
     Writes.rootInRun Writes.splits Writes.rootStores Writes.insertSettled Writes.insertStores Writes.childBefore Writes.freesLeaf Writes.freeStores
     Writes.deleteSettled Writes.deleteStores Writes.setClassAt Writes.classStores Writes.storesOf
-    Refusals.parentFull Refusals.tooHigh Refusals.tooFew Refusals.hasKey Refusals.hasRecording Refusals.refusal Refusals.written Refusals.tableAfter
-    Refusals.listAfter
+    Refusals.tooHigh Refusals.tooFew Refusals.hasKey Refusals.hasRecording Refusals.refusal Refusals.written Refusals.tableAfter Refusals.listAfter
     Ledger.enter Ledger.leave Ledger.reclass Ledger.onMap Ledger.ledgerRefusal Ledger.feed
     Demand3.step Demand3.runAll Demand3.May Demand3.ledgerAfter
     Printer.lines Printer.fields Printer.isRecording Printer.formOf Printer.decimalFrom Printer.decimal Printer.numbersText Printer.orderText Printer.ordersText

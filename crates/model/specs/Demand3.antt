@@ -16,7 +16,7 @@ use Rattle.model.specs.Sound.{Settled}
 use Rattle.model.specs.Orders.{Order, carriedOut, carryNumber}
 use Rattle.model.specs.Cuts.{CutImage}
 use Rattle.model.specs.Writes.{Call, insertion, deletion, classChange, repair, repaired}
-use Rattle.model.specs.Refusals.{parentFull, elevenIn, tenIn, refusal, unlessRefused}
+use Rattle.model.specs.Refusals.{elevenIn, tenIn, refusal, unlessRefused}
 use Rattle.model.specs.Refusals.{ordersOf, written, writtenNumber, ordersAnswered, tableAfter, listAfter}
 use Rattle.model.specs.Sentinels.{sentinels, searchWith, refusalWith, writtenWith, tableWith, ordersWith, sentinelsWith}
 use Rattle.model.specs.Ledger.{Ledger, noPairs, listIn, answerFrom, fedOf, otherSlice, ledgerRefusal, End, completed, cutAfter, feed}
@@ -158,10 +158,9 @@ pub record Right (N : ℕ) (e : Event) (s s′ : State) (ps : Ledger) : Type 0 w
   -- accepted or refused as in the ledger, with the same number
   pub same-number : numberOf s e ≡ ledgerRefusal (e .call) (otherSlice N (e .slice)) (length (e .lent)) (e .dock) (fedOf (numberOf s e)) ps
   pub answers-it : writtenNumber (writtenBy (e .slice) (e .call) (length (e .lent)) (e .dock) (s .working)) ≡ numberOf s e
-  -- 10, 11 and 12 only on their conditions
+  -- 10 and 11 only on their conditions
   pub ten-only : numberOf s e ≡ 10 → tenIn (e .call) (repaired (s .working)) ≡ true
   pub eleven-only : numberOf s e ≡ 11 → elevenIn (e .call) (repaired (s .working)) ≡ true
-  pub twelve-only : numberOf s e ≡ 12 → parentFull (s .working) ≡ true
   -- the carry-out of a whole list is not refused; a completed list leaves memory equal to the working copy, and nothing unfinished
   pub carried : numberOf s e ≡ 0 → Carried (e .fate) s e
   pub equal : numberOf s e ≡ 0 → Completed (e .fate) s e → (s′ .memory ≡ leftBy s e) × (s′ .working ≡ leftBy s e)

@@ -1,4 +1,4 @@
--- Document 01, "The ledger of demand 3": a list of pairs for each collection, fed arguments, lengths, the c of a cut, and a 10, 11 or 12; no word of the table.
+-- Document 01, "The ledger of demand 3": a list of pairs for each collection, fed arguments, lengths, the c of a cut, and a 10 or 11; no word of the table.
 use mathlib.Core.Bool.{Bool, true, false, cond, not, _||_}
 use mathlib.Core.List.{List, [], _∷_, map}
 use mathlib.Core.Option.{Option, none, some, Option·map}
@@ -52,9 +52,9 @@ change (deletion n k) m = onMap n (leave k) m
 change (classChange n k c) m = onMap n (reclass k c) m
 change repair m = m
 
--- of the answers only a 10, 11 or 12 is fed, else 0
+-- of the answers only a 10 or 11 is fed, else 0
 abbrev pub fedOf : ℕ → ℕ
-fedOf n = cond (eqb n 10 || (eqb n 11 || eqb n 12)) n 0
+fedOf n = cond (eqb n 10 || eqb n 11) n 0
 
 -- what a search for k answers by the list of its collection
 abbrev pub answerFrom : (k : ℕ) → Option (List Slot) → Answer
@@ -82,12 +82,12 @@ otherSlice N none = false
 otherSlice N (some ws) = not (eqb (length ws) (3 * N))
 
 -- The number that the ledger refuses with: 17 by the collection asked for and those that it has a list of, 19 by the lengths of table and
--- sentinels, 18 by the dock, 5 by it and the length of the order list lent, 6, 14, 7, 8, 9 by the arguments and the own list, and a fed 10,
--- 11 or 12 at that number's place.
+-- sentinels, 18 by the dock, 5 by it and the length of the order list lent, 6, 14, 7, 8, 9 by the arguments and the own list, and a fed 10
+-- or 11 at that number's place.
 unfoldable pub ledgerRefusal : Call → (other : Bool) → (words dock fed : ℕ) → Ledger → ℕ
 ledgerRefusal x other words dock fed m =
     let ps = listFor x m in
-    firstNumber (test (lacking ps) 17 ∷ test other 19 ∷ testsFrom18 x words dock (eqb fed 12) (eqb fed 11) (eqb fed 10) (pairsOf ps))
+    firstNumber (test (lacking ps) 17 ∷ test other 19 ∷ testsFrom18 x words dock (eqb fed 11) (eqb fed 10) (pairsOf ps))
 
 -- what became of an accepted call's orders: all were carried out; or a cut fell after c of them, and that was all of them, or not
 pub data End : Type 0 where

@@ -1,20 +1,19 @@
 -- Document 01, "What refuses, and with which number": for each writing call, the numbers in their order; and what a call answers.
 use mathlib.Core.Bool.{Bool, false, cond, not, _&&_, _||_}
 use mathlib.Core.List.{List, [], _∷_}
-use mathlib.Core.Option.{Option, none, some}
 use Prim.Native.Nat.{ℕ, zero, suc, _+_}
 use lib.Dec.{eqb, ltb}
 use lib.ListN.{length}
 use Rattle.model.specs.declared.Written.{Written}
 use Rattle.model.specs.declared.Written.the-variants.{Done, Refused}
 use Rattle.model.specs.Table.{Words, headerOk, noCollection}
-use Rattle.model.specs.Slots.{Slot, recording, recordingOk, classOk, View, viewOf, view, height, full}
+use Rattle.model.specs.Slots.{Slot, recording, recordingOk, classOk, viewOf, height}
 use Rattle.model.specs.Reached.{mapOf}
-use Rattle.model.specs.SoundTest.{sound, Leftover, nothing, hiddenIn, missingIn, bothIn, leftoverAll}
+use Rattle.model.specs.SoundTest.{sound}
 use Rattle.model.specs.Orders.{Order, apply, orders, barred, storeCount, flushCount, barrierCount, listWith}
 use Rattle.model.specs.Writes.{unreachable, repaired, run, rootInRun, Call, insertion, deletion, classChange, repair, storesOf}
 
--- ---- the conditions of 17, 12, 11 and 10
+-- ---- the conditions of 17, 11 and 10
 
 -- 17: a call of a collection that is not there
 abbrev pub seventeenIn : Call → Words → Bool
@@ -22,17 +21,6 @@ seventeenIn (insertion n k r c) t = noCollection n t
 seventeenIn (deletion n k) t = noCollection n t
 seventeenIn (classChange n k c) t = noCollection n t
 seventeenIn repair t = false
-
--- 12: repair would find 11 shown slots in the parent
-abbrev pub fullParent : View → Option Leftover → Bool
-fullParent v none = false
-fullParent v (some nothing) = false
-fullParent v (some (hiddenIn x)) = false
-fullParent v (some (missingIn p a trailing)) = full (v .node p .shown)
-fullParent v (some (bothIn p a)) = full (v .node p .shown)
-
-unfoldable pub parentFull : Words → Bool
-parentFull t = fullParent (view t) (leftoverAll t)
 
 -- 11: the run includes a root at level 15
 unfoldable pub tooHigh : (n : ℕ) → Words → (k : ℕ) → Bool
@@ -78,10 +66,9 @@ abbrev pub wordsFor : (dock : ℕ) → ℕ
 wordsFor zero = 2560
 wordsFor (suc n) = 5120
 
--- from 18 on: a dock neither 0 nor 1, 5 by the order list's length, 12 handed in
-abbrev pub testsFrom18 : Call → (words dock : ℕ) → (twelve eleven ten : Bool) → List Slot → List Test
-testsFrom18 x words dock twelve eleven ten ps =
-    test (ltb 1 dock) 18 ∷ test (ltb words (wordsFor dock)) 5 ∷ test twelve 12 ∷ mapTests x eleven ten ps
+-- from 18 on: a dock neither 0 nor 1, 5 by the order list's length
+abbrev pub testsFrom18 : Call → (words dock : ℕ) → (eleven ten : Bool) → List Slot → List Test
+testsFrom18 x words dock eleven ten ps = test (ltb 1 dock) 18 ∷ test (ltb words (wordsFor dock)) 5 ∷ mapTests x eleven ten ps
 
 -- 11 and 10 apply to an insertion, on the table t as repair would leave it
 abbrev pub elevenIn : Call → Words → Bool
@@ -109,7 +96,7 @@ unfoldable pub refusal : Call → (words dock : ℕ) → Words → ℕ
 refusal x words dock t =
     let t′ = repaired t in
     firstNumber (test (not (headerOk t)) 2 ∷ test (seventeenIn x t) 17 ∷ test (not (sound t)) 4
-    ∷ testsFrom18 x words dock (parentFull t) (elevenIn x t′) (tenIn x t′) (ownMap x t′))
+    ∷ testsFrom18 x words dock (elevenIn x t′) (tenIn x t′) (ownMap x t′))
 
 -- ---- what a writing call does: all of it follows from its number and its stores
 

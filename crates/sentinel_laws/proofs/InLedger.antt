@@ -16,7 +16,7 @@ use Rattle.model.specs.Ledger.{fedOf, ledgerRefusal}
 use Rattle.model.specs.Sentinels.{sliceNumber, refusalWith}
 use Rattle.two_laws.proofs.SearchTwo.{sound-head}
 use Rattle.two_laws.proofs.LedgerTwo.{seventeen-same, number-in-ledger}
-use Rattle.two_laws.proofs.NumbersTwo.{no-twelve}
+use Rattle.two_laws.proofs.TwelveTwo.{no-twelve}
 use Rattle.sentinel_laws.proofs.Slices.{slice-lacks, slice-wrong, slice-right}
 
 module _ (x : Call) (m words dock : ℕ) (t : Words) where

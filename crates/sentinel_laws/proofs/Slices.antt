@@ -13,7 +13,7 @@ use Rattle.model.specs.declared.Written.the-variants.{Refused}
 use Rattle.model.specs.Table.{Words, nodes, headerOk}
 use Rattle.model.specs.SoundTest.{sound}
 use Rattle.model.specs.Writes.{Call, repaired}
-use Rattle.model.specs.Refusals.{Test, test, firstNumber, testsFrom18, seventeenIn, elevenIn, tenIn, parentFull, ownMap, refusal, unlessRefused, written, tableAfter, listAfter}
+use Rattle.model.specs.Refusals.{Test, test, firstNumber, testsFrom18, seventeenIn, elevenIn, tenIn, ownMap, refusal, unlessRefused, written, tableAfter, listAfter}
 use Rattle.model.specs.Sentinels.{sliceNumber, refusalWith, writtenWith, tableWith, ordersWith}
 
 -- ---- the three tests
@@ -55,7 +55,7 @@ module _ (lacks : Bool) (m : ℕ) (t : Words) where
 
 -- the numbers from 4 on
 abbrev laterTests : Call → (words dock : ℕ) → Words → List Test
-laterTests x words dock t = let t′ = repaired t in test (not (sound t)) 4 ∷ testsFrom18 x words dock (parentFull t) (elevenIn x t′) (tenIn x t′) (ownMap x t′)
+laterTests x words dock t = let t′ = repaired t in test (not (sound t)) 4 ∷ testsFrom18 x words dock (elevenIn x t′) (tenIn x t′) (ownMap x t′)
 
 module _ (x : Call) (m words dock : ℕ) (t : Words) where
   -- 19 comes straight after 17, and all others stand where they stood.

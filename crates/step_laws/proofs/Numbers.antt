@@ -1,33 +1,13 @@
--- Of a list of tests: a number comes exactly if its test holds and no earlier one does. A parent that lacks a slot and has room is not full.
+-- Of a list of tests: a number comes exactly if its test holds and no earlier one does.
 use mathlib.Core.Path.{_≡_, refl, sym}
 use mathlib.Core.Logic.{_↔_, _≢_}
 use mathlib.Core.Bool.{Bool, true, false, cond}
 use mathlib.Core.List.{List, [], _∷_, _++_, map}
-use mathlib.Core.Option.{some}
-use Prim.Native.Nat.{ℕ, _≤_}
-use native.Mathlib.Omega.{arith}
-use lib.ListN.{length}
-use borrow.Author.Tests.{leb-true, ne-eqb}
-use Rattle.model.specs.Slots.{View, full}
-use Rattle.model.specs.SoundTest.{elem, Leftover, nothing, hiddenIn, missingIn, bothIn, room, hasRoom}
-use Rattle.model.specs.Refusals.{fullParent, Test, test, firstNumber}
+use Prim.Native.Nat.{ℕ}
+use Rattle.model.specs.SoundTest.{elem}
+use Rattle.model.specs.Refusals.{Test, test, firstNumber}
 use Rattle.list_laws.proofs.Members.{elem-cons}
 pub use Rattle.step_laws.proofs.Accepted.{Passed}
-
--- ---- 12
-
-room-not-full : (v : View) (p : ℕ) → room v p ≡ true → full (v .node p .shown) ≡ false
-unfolding room full
-room-not-full v p h = let r : length (v .node p .shown) ≤ 10 = leb-true _ _ h in ne-eqb (length (v .node p .shown)) 11 (λ e. omega arith)
-
--- a parent that lacks a slot and has room for it
-pub parent-room : (v : View) (y : Leftover) → hasRoom v y ≡ true → fullParent v (some y) ≡ false
-parent-room v nothing h = refl
-parent-room v (hiddenIn x) h = refl
-parent-room v (missingIn p a trailing) h = room-not-full v p h
-parent-room v (bothIn p a) h = room-not-full v p h
-
--- ---- a number comes exactly if its test holds and no earlier one does
 
 -- n is neither 0 nor a number of these tests
 abbrev pub Other : ℕ → List Test → Type 0
@@ -39,7 +19,7 @@ other-cons n c cs o =
     let w = elem-cons n (c .number) (map (λ (c : Test). c .number) cs) .0 (u .1) in
     (λ e. w .0 (sym e), elem-cons n 0 (map (λ (c : Test). c .number) cs) .1 (u .0, w .1))
 
-not-first : (n : ℕ) (cs : List Test) → Other n cs → firstNumber cs ≢ n
+pub not-first : (n : ℕ) (cs : List Test) → Other n cs → firstNumber cs ≢ n
 not-first n [] o e = elem-cons n 0 [] .0 o .0 (sym e)
 not-first n (c ∷ cs) o e = let u = other-cons n c cs o in go (c .holds) e (u .0) (not-first n cs (u .1))
   where

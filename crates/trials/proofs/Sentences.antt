@@ -65,12 +65,11 @@ pub record Sentences : Type 0 where
   pub fresh-after : fresh (tableOf 2 (stale 1 ++ (leafOf 1 0 1 ∷ stale 2))) 2 ≡ 3
   pub fresh-round : fresh (tableOf 3 (stale 2 ++ (leafOf 1 0 1 ∷ []))) 3 ≡ 1
   pub fresh-none : fresh (oneLevel 1 []) 1 ≡ 0
-  -- 18 comes before 5, 5 before 12, 12 before 6, 6 before 14, and 11 before 10.
-  pub eighteen-first : firstNumber (testsFrom18 (insertion 1 1 0 3) 0 2 true true true []) ≡ 18
-  pub five-first : firstNumber (testsFrom18 (insertion 1 1 0 3) 5119 1 true true true []) ≡ 5
-  pub twelve-first : firstNumber (testsFrom18 (insertion 1 1 0 3) 2560 0 true true true []) ≡ 12
-  pub six-first : firstNumber (testsFrom18 (insertion 1 1 0 3) 2560 0 false true true []) ≡ 6
-  pub eleven-first : firstNumber (testsFrom18 (insertion 1 1 1 0) 2560 0 false true true []) ≡ 11
+  -- 18 comes before 5, 5 before 6, 6 before 14, and 11 before 10.
+  pub eighteen-first : firstNumber (testsFrom18 (insertion 1 1 0 3) 0 2 true true []) ≡ 18
+  pub five-first : firstNumber (testsFrom18 (insertion 1 1 0 3) 5119 1 true true []) ≡ 5
+  pub six-first : firstNumber (testsFrom18 (insertion 1 1 0 3) 2560 0 true true []) ≡ 6
+  pub eleven-first : firstNumber (testsFrom18 (insertion 1 1 1 0) 2560 0 true true []) ≡ 11
   -- 11: the run includes a root at level 15; not one at level 14, and not where the run ends below it.
   pub eleven : tooHigh 1 (fullPath 11 15) 0 ≡ true
   pub eleven-not : (tooHigh 1 (fullPath 11 14) 0 ≡ false) × (tooHigh 1 (fullPath 10 15) 0 ≡ false)
@@ -96,7 +95,6 @@ sentences =
       fresh-none = refl;
       eighteen-first = refl;
       five-first = refl;
-      twelve-first = refl;
       six-first = refl;
       eleven-first = refl;
       eleven = refl;

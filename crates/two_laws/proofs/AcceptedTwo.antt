@@ -9,7 +9,7 @@ use lib.Dec.{ltb}
 use borrow.Author.Tests.{ltb-false, le-ltb}
 use Rattle.model.specs.Table.{Words, headerOk, rootWord, noCollection}
 use Rattle.model.specs.Slots.{classOk}
-use Rattle.model.specs.Refusals.{Test, test, hasKey, seventeenIn, parentFull, elevenIn, tenIn, ownMap, mapTests, wordsFor, refusal}
+use Rattle.model.specs.Refusals.{Test, test, hasKey, seventeenIn, elevenIn, tenIn, ownMap, mapTests, wordsFor, refusal}
 use Rattle.model.specs.SoundTest.{sound}
 use Rattle.model.specs.Reached.{mapOf}
 use Rattle.model.specs.Writes.{repaired, Call, insertion, deletion, classChange, repair}
@@ -37,7 +37,6 @@ pub record Accepted (x : Call) (words dock : ℕ) (t : Words) : Type 0 where
   pub sound : sound t ≡ true
   pub dock-ok : dock ≤ 1
   pub long : wordsFor dock ≤ words
-  pub parent : parentFull t ≡ false
   pub allows : Allows x (repaired t)
 
 -- ---- from 6 on
@@ -65,8 +64,8 @@ allows-iff repair t = (λ h. tt, λ a. tt)
 pub accepted-iff : (x : Call) (words dock : ℕ) (t : Words) → (refusal x words dock t ≡ 0) ↔ Accepted x words dock t
 unfolding refusal
 accepted-iff x words dock t =
-    let ts = test (not (headerOk t)) 2 ∷ test (seventeenIn x t) 17 ∷ test (not (sound t)) 4 ∷ test (ltb 1 dock) 18 ∷ test (ltb words (wordsFor dock)) 5 ∷ test (parentFull t) 12 ∷ later x (repaired t) in
-    let i = none-holds ts ((λ e. omega arith), ((λ e. omega arith), ((λ e. omega arith), ((λ e. omega arith), ((λ e. omega arith), ((λ e. omega arith), later-numbers x (repaired t))))))) in (
+    let ts = test (not (headerOk t)) 2 ∷ test (seventeenIn x t) 17 ∷ test (not (sound t)) 4 ∷ test (ltb 1 dock) 18 ∷ test (ltb words (wordsFor dock)) 5 ∷ later x (repaired t) in
+    let i = none-holds ts ((λ e. omega arith), ((λ e. omega arith), ((λ e. omega arith), ((λ e. omega arith), ((λ e. omega arith), later-numbers x (repaired t)))))) in (
       λ e. let h = i .0 e in
           record {
             header = not-false-iff _ .0 (h .0);
@@ -74,8 +73,7 @@ accepted-iff x words dock t =
             sound = not-false-iff _ .0 (h .1 .1 .0);
             dock-ok = ltb-false 1 dock (h .1 .1 .1 .0);
             long = ltb-false words (wordsFor dock) (h .1 .1 .1 .1 .0);
-            parent = h .1 .1 .1 .1 .1 .0;
-            allows = allows-iff x (repaired t) .0 (h .1 .1 .1 .1 .1 .1);
+            allows = allows-iff x (repaired t) .0 (h .1 .1 .1 .1 .1);
           },
-      λ a. i .1 (not-false-iff _ .1 (a .header), (a .collection, (not-false-iff _ .1 (a .sound), (le-ltb 1 dock (a .dock-ok), (le-ltb words (wordsFor dock) (a .long), (a .parent, allows-iff x (repaired t) .1 (a .allows))))))),
+      λ a. i .1 (not-false-iff _ .1 (a .header), (a .collection, (not-false-iff _ .1 (a .sound), (le-ltb 1 dock (a .dock-ok), (le-ltb words (wordsFor dock) (a .long), allows-iff x (repaired t) .1 (a .allows)))))),
     )

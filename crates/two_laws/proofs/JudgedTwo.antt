@@ -11,12 +11,12 @@ use lib.ListN.{length}
 use lib.Seq.{take-length}
 use borrow.Author.Tests.{ne-eqb}
 use Rattle.model.specs.Table.{Words, at, nodes, rootWord, noCollection}
-use Rattle.model.specs.Slots.{Slot, nodeView, height, full, viewOf, view}
+use Rattle.model.specs.Slots.{Slot, nodeView, height, full, viewOf}
 use Rattle.model.specs.Search.{path}
 use Rattle.model.specs.Reached.{filter, reached, reachedAll, mapOf}
 use Rattle.model.specs.SoundTest.{elem, Leftover, nothing, hiddenIn, missingIn, bothIn, leftover, leftoverAll, sound}
 use Rattle.model.specs.Writes.{numbers, runIn, unreached, unreachable, repaired, repairStores, run, rootInRun, Call, insertion, deletion, classChange, repair}
-use Rattle.model.specs.Refusals.{Test, test, firstNumber, fullParent, seventeenIn, parentFull, tooHigh, tooFew, elevenIn, tenIn, ownMap, mapTests, wordsFor, refusal}
+use Rattle.model.specs.Refusals.{Test, test, firstNumber, seventeenIn, tooHigh, tooFew, elevenIn, tenIn, ownMap, mapTests, wordsFor, refusal}
 use Rattle.list_laws.proofs.Tools.{Each-map, same-or-not}
 use Rattle.list_laws.proofs.Members.{each-mem, mem-each, elem-iff, mem-flat}
 use Rattle.tree_laws.proofs.Levels.{sound-orderly}
@@ -25,29 +25,12 @@ use Rattle.cut_laws.proofs.Applying.{length-apply}
 use Rattle.change_laws.proofs.Parts.{HasLeft, has-left-iff}
 use Rattle.step_laws.proofs.RepairedView.{lackingIn}
 use Rattle.step_laws.proofs.Judged.{run-same, fullLater, runLater}
-use Rattle.step_laws.proofs.Numbers.{parent-room}
 use Rattle.two_laws.proofs.TwoLaw.{seen, taken, Tree}
 use Rattle.two_laws.proofs.Arrange.{Arr, all-one, all-two, sound-parts, settled-parts, SoundAs, sound-tree, left-all}
 use Rattle.two_laws.proofs.CallsTwo.{Is, arr-other, repairs}
 use Rattle.two_laws.proofs.AcceptedTwo.{there}
 use Rattle.two_laws.proofs.SearchTwo.{sound-head, sound-view}
 use Rattle.two_laws.proofs.RepairedTwo.{Later, repaired-later}
-
--- ---- 12 never comes on a sound table
-
--- from whichever root
-parent-seen : (w : ℕ) (t : Words) (y : Leftover) → fullParent (view t) (some y) ≡ fullParent (seen w t) (some y)
-parent-seen w t nothing = refl
-parent-seen w t (hiddenIn x) = refl
-parent-seen w t (missingIn p a trailing) = refl
-parent-seen w t (bothIn p a) = refl
-
-pub parent-not-full : (t : Words) → sound t ≡ true → parentFull t ≡ false
-unfolding parentFull
-parent-not-full t s =
-    let u = sound-tree t s in
-    let y = u .leftover in
-    ap (fullParent (view t)) (left-all (u .word) (u .others) t y (u .arranged) (u .tree)) ∙ parent-seen (u .word) t y ∙ parent-room (seen (u .word) t) y (u .tree .room)
 
 -- ---- the free nodes
 
@@ -158,7 +141,7 @@ own-later repair t s h = refl
 
 pub number-on-sound : (x : Call) (words dock : ℕ) (t : Words) → sound t ≡ true → seventeenIn x t ≡ false → refusal x words dock t ≡ firstNumber (testsOn x words dock t)
 unfolding refusal
-number-on-sound x words dock t s h = rw (sound-head t s, h, s, parent-not-full t s, own-later x t s h)
+number-on-sound x words dock t s h = rw (sound-head t s, h, s, own-later x t s h)
 
 -- ---- what the number depends on
 

@@ -1,4 +1,4 @@
--- A call's number on a sound table of one or two collections is the ledger's, fed that number's 10, 11 or 12; a search answers as the ledger.
+-- A call's number on a sound table of one or two collections is the ledger's, fed a 10 or 11; a search answers as the ledger.
 use mathlib.Core.Path.{_≡_, refl, ap, sym, _∙_}
 use mathlib.Core.Logic.{_≢_}
 use mathlib.Core.Bool.{Bool, true, false, cond, not, _&&_, _||_, false≢true}
@@ -11,7 +11,7 @@ use borrow.Author.Tests.{eqb-true, eqb-false, eq-eqb, ne-eqb}
 use Rattle.model.specs.declared.Answer.the-variants.{Refused}
 use Rattle.model.specs.Table.{Words, at, noCollection}
 use Rattle.model.specs.Slots.{Slot}
-use Rattle.model.specs.Refusals.{Test, test, firstNumber, seventeenIn, parentFull, elevenIn, tenIn, ownMap, testsFrom18, refusal}
+use Rattle.model.specs.Refusals.{Test, test, firstNumber, seventeenIn, elevenIn, tenIn, ownMap, testsFrom18, refusal}
 use Rattle.model.specs.Ledger.{fedOf, listIn, answerFrom, lacking, pairsOf, listFor, ledgerRefusal}
 use Rattle.model.specs.SoundTest.{sound}
 use Rattle.model.specs.Reached.{mapOf, unlessLacking, mapsOf}
@@ -63,7 +63,7 @@ searched n t k s = go (noCollection n t) refl
 
 -- a sound table's tests: 17, and those from 18 on
 abbrev tests : Call → (words dock : ℕ) → Words → List Test
-tests x words dock t = testsFrom18 x words dock (parentFull t) (elevenIn x (repaired t)) (tenIn x (repaired t)) (ownMap x (repaired t))
+tests x words dock t = testsFrom18 x words dock (elevenIn x (repaired t)) (tenIn x (repaired t)) (ownMap x (repaired t))
 
 pub from-eighteen : (x : Call) (words dock : ℕ) (t : Words) → sound t ≡ true → refusal x words dock t ≡ firstNumber (test (seventeenIn x t) 17 ∷ tests x words dock t)
 unfolding refusal
@@ -81,12 +81,12 @@ own-pairs (deletion n k) t h = ap pairsOf (list-there n t h)
 own-pairs (classChange n k c) t h = ap pairsOf (list-there n t h)
 own-pairs repair t h = refl
 
--- ---- the tests that are fed: where the call's number is 10, 11 or 12, it is fed and refuses at that number's place
+-- ---- the tests that are fed: where the call's number is 10 or 11, it is fed and refuses at that number's place
 
 abbrev pub isFed : ℕ → Bool
-isFed n = eqb n 10 || (eqb n 11 || eqb n 12)
+isFed n = eqb n 10 || eqb n 11
 
--- what was fed tells a test of 10, 11 or 12 whether it holds
+-- what was fed tells a test of 10 or 11 whether it holds
 abbrev pub refed : (fed : ℕ) → Test → Test
 refed fed c = test (cond (isFed (c .number)) (eqb fed (c .number)) (c .holds)) (c .number)
 
@@ -113,13 +113,13 @@ pub refed-first : (cs : List Test) → firstNumber (map (refed (fedOf (firstNumb
 refed-first [] = refl
 refed-first (c ∷ cs) = refed-one (c .holds) (c .number) (firstNumber cs) (λ fed. firstNumber (map (refed fed) cs)) (refed-first cs)
 
--- the ledger's tests: where the call's number is 10, 11 or 12, it is fed and refuses at that number's place
-fed-number : (x : Call) (words dock : ℕ) (twelve eleven ten : Bool) (ps : List Slot)
-    → (let n = firstNumber (testsFrom18 x words dock twelve eleven ten ps) in firstNumber (testsFrom18 x words dock (eqb (fedOf n) 12) (eqb (fedOf n) 11) (eqb (fedOf n) 10) ps) ≡ n)
-fed-number (insertion n k r c) words dock twelve eleven ten ps = refed-first (testsFrom18 (insertion n k r c) words dock twelve eleven ten ps)
-fed-number (deletion n k) words dock twelve eleven ten ps = refed-first (testsFrom18 (deletion n k) words dock twelve eleven ten ps)
-fed-number (classChange n k c) words dock twelve eleven ten ps = refed-first (testsFrom18 (classChange n k c) words dock twelve eleven ten ps)
-fed-number repair words dock twelve eleven ten ps = refed-first (testsFrom18 repair words dock twelve eleven ten ps)
+-- the ledger's tests: where the call's number is 10 or 11, it is fed and refuses at that number's place
+fed-number : (x : Call) (words dock : ℕ) (eleven ten : Bool) (ps : List Slot)
+    → (let n = firstNumber (testsFrom18 x words dock eleven ten ps) in firstNumber (testsFrom18 x words dock (eqb (fedOf n) 11) (eqb (fedOf n) 10) ps) ≡ n)
+fed-number (insertion n k r c) words dock eleven ten ps = refed-first (testsFrom18 (insertion n k r c) words dock eleven ten ps)
+fed-number (deletion n k) words dock eleven ten ps = refed-first (testsFrom18 (deletion n k) words dock eleven ten ps)
+fed-number (classChange n k c) words dock eleven ten ps = refed-first (testsFrom18 (classChange n k c) words dock eleven ten ps)
+fed-number repair words dock eleven ten ps = refed-first (testsFrom18 repair words dock eleven ten ps)
 
 -- the same number as in the ledger
 pub number-in-ledger : (x : Call) (words dock : ℕ) (t : Words) → sound t ≡ true → refusal x words dock t ≡ ledgerRefusal x false words dock (fedOf (refusal x words dock t)) (mapsOf t)
@@ -129,22 +129,22 @@ number-in-ledger x words dock t s = go (seventeenIn x t) refl
     no-list h m = unfold ledgerRefusal in rw (sym (seventeen-same x t) ∙ h)
 
     own : List Slot → List Test
-    own ps = testsFrom18 x words dock (parentFull t) (elevenIn x (repaired t)) (tenIn x (repaired t)) ps
+    own ps = testsFrom18 x words dock (elevenIn x (repaired t)) (tenIn x (repaired t)) ps
 
     number : seventeenIn x t ≡ false → refusal x words dock t ≡ firstNumber (own (ownMap x t))
     number h = from-eighteen x words dock t s ∙ ap (λ (b : Bool). firstNumber (test b 17 ∷ tests x words dock t)) h ∙ ap (λ (ps : List Slot). firstNumber (own ps)) (own-later x t s h)
 
-    from-list : seventeenIn x t ≡ false → (m : ℕ) → ledgerRefusal x false words dock m (mapsOf t) ≡ firstNumber (testsFrom18 x words dock (eqb m 12) (eqb m 11) (eqb m 10) (ownMap x t))
+    from-list : seventeenIn x t ≡ false → (m : ℕ) → ledgerRefusal x false words dock m (mapsOf t) ≡ firstNumber (testsFrom18 x words dock (eqb m 11) (eqb m 10) (ownMap x t))
     from-list h m = unfold ledgerRefusal in rw (sym (seventeen-same x t) ∙ h, own-pairs x t h)
 
     go : (b : Bool) → seventeenIn x t ≡ b → refusal x words dock t ≡ ledgerRefusal x false words dock (fedOf (refusal x words dock t)) (mapsOf t)
     go true h = from-eighteen x words dock t s ∙ ap (λ (b : Bool). firstNumber (test b 17 ∷ tests x words dock t)) h ∙ no-list h (fedOf (refusal x words dock t))
     go false h =
         let e = number h in
-        let q = fed-number x words dock (parentFull t) (elevenIn x (repaired t)) (tenIn x (repaired t)) (ownMap x t) in
+        let q = fed-number x words dock (elevenIn x (repaired t)) (tenIn x (repaired t)) (ownMap x t) in
         e ∙ sym q ∙ sym (from-list h (fedOf (firstNumber (own (ownMap x t))))) ∙ ap (λ (m : ℕ). ledgerRefusal x false words dock (fedOf m) (mapsOf t)) (sym e)
 
--- ---- 10, 11 and 12 come only on their conditions
+-- ---- 10 and 11 come only on their conditions
 
 abbrev pub holdsFor : ℕ → List Test → Bool
 holdsFor n [] = false
@@ -167,12 +167,6 @@ alone false e = e
 
 number-holds : (m : ℕ) (x : Call) (words dock : ℕ) (t : Words) → sound t ≡ true → m ≢ 0 → refusal x words dock t ≡ m → holdsFor m (test (seventeenIn x t) 17 ∷ tests x words dock t) ≡ true
 number-holds m x words dock t s z e = first-holds m (test (seventeenIn x t) 17 ∷ tests x words dock t) z (sym (from-eighteen x words dock t s) ∙ e)
-
-pub only-twelve : (x : Call) (words dock : ℕ) (t : Words) → sound t ≡ true → refusal x words dock t ≡ 12 → parentFull t ≡ true
-only-twelve (insertion n k r c) words dock t s e = alone _ (number-holds 12 (insertion n k r c) words dock t s (omega arith) e)
-only-twelve (deletion n k) words dock t s e = alone _ (number-holds 12 (deletion n k) words dock t s (omega arith) e)
-only-twelve (classChange n k c) words dock t s e = alone _ (number-holds 12 (classChange n k c) words dock t s (omega arith) e)
-only-twelve repair words dock t s e = alone _ (number-holds 12 repair words dock t s (omega arith) e)
 
 pub only-eleven : (x : Call) (words dock : ℕ) (t : Words) → sound t ≡ true → refusal x words dock t ≡ 11 → elevenIn x (repaired t) ≡ true
 only-eleven (insertion n k r c) words dock t s e = alone _ (number-holds 11 (insertion n k r c) words dock t s (omega arith) e)

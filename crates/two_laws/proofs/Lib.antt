@@ -30,6 +30,7 @@ pub mod CheckTwo
 pub mod FreedTwo
 pub mod PartsTwo
 pub mod MendTwo
+pub mod TwelveTwo
 pub mod LedgerTwo
 pub mod NumbersTwo
 pub mod OthersTwo

@@ -1,14 +1,16 @@
--- The nodes that repair stores to, by the leftover of the whole table: they lie in the table and hide nothing.
+-- The nodes that repair stores to, by the leftover of the whole table: they lie in the table and hide nothing; the parent has room.
 use mathlib.Core.Path.{_≡_, sym, _∙_}
 use mathlib.Core.Bool.{Bool, true, false}
 use mathlib.Core.List.{List, List·Memᴰ}
 use mathlib.Core.Option.{some}
-use Prim.Native.Nat.{ℕ}
+use Prim.Native.Nat.{ℕ, _≤_, _<_}
 use native.Mathlib.Omega.{arith}
+use lib.ListN.{length}
+use borrow.Author.Tests.{leb-true}
 use Rattle.model.specs.Table.{Words, nodes, hasNode}
 use Rattle.model.specs.Slots.{nodeView}
 use Rattle.model.specs.Reached.{reached}
-use Rattle.model.specs.SoundTest.{Leftover, hiddenIn, missingIn, bothIn, leftoverAll, sound}
+use Rattle.model.specs.SoundTest.{Leftover, hiddenIn, missingIn, bothIn, room, leftoverAll, sound}
 use Rattle.model.specs.Orders.{apply}
 use Rattle.model.specs.Writes.{closeAt}
 use Rattle.list_laws.proofs.Members.{each-mem}
@@ -55,6 +57,10 @@ left-in t y s e =
     let q : u .leftover ≡ y = some-same (u .leftover) y (sym (left-all (u .word) (u .others) t (u .leftover) (u .arranged) (u .tree)) ∙ e) in
     record { word = u .word; others = u .others; arranged = u .arranged; tree = rw q at (u .tree) }
 
+roomy : (w : ℕ) (t : Words) (p : ℕ) → room (seen w t) p ≡ true → length (nodeView t p .shown) < 11
+unfolding room
+roomy w t p h = let r : length (nodeView t p .shown) ≤ 10 = leb-true _ _ h in omega arith
+
 module _ (t : Words) (s : sound t ≡ true) where
   pub hidden-there : (x : ℕ) → leftoverAll t ≡ some (hiddenIn x) → hasNode t x ≡ true
   hidden-there x e = let l = left-in t (hiddenIn x) s e in reached-there (l .word) (l .others) t (hiddenIn x) (l .tree) x (l .tree .left .left .0 .member)
@@ -71,3 +77,10 @@ module _ (t : Words) (s : sound t ≡ true) where
   both-closed p a e =
       let l = left-in t (bothIn p a) s e in
       missing-in (l .word) (l .others) (apply (closeAt t p) t) p a false (close-tree (l .word) (l .others) t p a (arr-low (l .word) (l .others) t (l .arranged)) (l .tree)) .0
+
+  -- The parent that lacks a slot has room for it: it shows fewer than 11.
+  pub missing-room : (p a : ℕ) (b : Bool) → leftoverAll t ≡ some (missingIn p a b) → length (nodeView t p .shown) < 11
+  missing-room p a b e = let l = left-in t (missingIn p a b) s e in roomy (l .word) t p (l .tree .room)
+
+  pub both-room : (p a : ℕ) → leftoverAll t ≡ some (bothIn p a) → length (nodeView t p .shown) < 11
+  both-room p a e = let l = left-in t (bothIn p a) s e in roomy (l .word) t p (l .tree .room)

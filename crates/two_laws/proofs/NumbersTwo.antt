@@ -1,21 +1,20 @@
 -- The number of a call of one or two collections on a sound table: each comes exactly on its condition, 17 before all others.
-use mathlib.Core.Path.{_≡_, refl, sym, _∙_}
-use mathlib.Core.Logic.{_≢_, _↔_}
-use mathlib.Core.Bool.{Bool, true, false, not, false≢true}
+use mathlib.Core.Path.{_≡_, refl, _∙_}
+use mathlib.Core.Logic.{_↔_}
+use mathlib.Core.Bool.{Bool, true, false, not}
 use mathlib.Core.List.{List, [], _∷_}
 use Prim.Native.Nat.{ℕ}
-use native.Mathlib.Omega.{arith}
 use lib.Dec.{ltb}
 use lib.ListN.{take, drop}
-use Rattle.model.specs.Table.{Words, headerOk}
+use Rattle.model.specs.Table.{Words}
 use Rattle.model.specs.Slots.{classOk}
 use Rattle.model.specs.SoundTest.{elem, sound}
 use Rattle.model.specs.Refusals.{Test, test, firstNumber, hasKey, hasRecording, seventeenIn, tooHigh, tooFew, refusal}
 use Rattle.model.specs.Reached.{mapOf}
 use Rattle.model.specs.Writes.{repaired, Call, insertion, deletion, classChange, repair}
 use Rattle.step_laws.proofs.Numbers.{Passed, Other, first-iff}
-use Rattle.two_laws.proofs.JudgedTwo.{parent-not-full, testsOn, number-on-sound}
-use Rattle.two_laws.proofs.LedgerTwo.{from-eighteen, only-twelve}
+use Rattle.two_laws.proofs.JudgedTwo.{testsOn, number-on-sound}
+use Rattle.two_laws.proofs.LedgerTwo.{from-eighteen}
 
 -- 17, then the tests that a sound table leaves
 abbrev pub allTests : Call → (words dock : ℕ) → Words → List Test
@@ -100,23 +99,3 @@ module _ (words dock : ℕ) (t : Words) (s : sound t ≡ true) where
     pub class-nine-iff : (refusal (classChange n k c) words dock t ≡ 9) ↔ (Passed (take 4 (allTests (classChange n k c) words dock t)) × ((not (hasKey k (mapOf n t))) ≡ true))
     unfolding elem
     class-nine-iff = rw (number-with (classChange n k c) words dock t s) (first-iff (take 4 class-tests) (not (hasKey k (mapOf n t))) 9 [] refl refl)
-
--- ---- 12
-
--- on a table that is not sound 2, 17 or 4 comes first
-early : (a b : Bool) → firstNumber (test a 2 ∷ test b 17 ∷ test true 4 ∷ []) ≢ 12
-early true b e = omega arith
-early false true e = omega arith
-early false false e = omega arith
-
-unsound-number : (y : Call) (words dock : ℕ) (t : Words) → sound t ≡ false → refusal y words dock t ≢ 12
-unfolding refusal
-unsound-number y words dock t s e = early (not (headerOk t)) (seventeenIn y t) (rw s at e)
-
--- No call answers 12, on any words, of either collection, for any order list and dock.
-pub no-twelve : (y : Call) (words dock : ℕ) (t : Words) → refusal y words dock t ≢ 12
-no-twelve y words dock t e = go (sound t) refl
-  where
-    go : (b : Bool) → sound t ≡ b → ⊥
-    go true s = false≢true (sym (parent-not-full t s) ∙ only-twelve y words dock t s e)
-    go false s = unsound-number y words dock t s e

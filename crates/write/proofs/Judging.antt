@@ -3,20 +3,18 @@ use mathlib.Core.Path.{_≡_, refl, ap, sym, _∙_}
 use mathlib.Core.Logic.{_≢_}
 use mathlib.Core.Bool.{Bool, true, false, cond, false≢true}
 use mathlib.Core.List.{List, [], _∷_, _++_}
-use mathlib.Core.Option.{some}
 use Prim.Native.Nat.{ℕ, zero, suc, _-_, _≤_, _<_}
 use native.Mathlib.Omega.{arith}
-use lib.Dec.{eqb}
-use lib.ListN.{length, getD}
+use lib.ListN.{getD}
 use borrow.Author.Tests.{ltb-false, lt-ltb, le-ltb}
 use Rattle.model.specs.declared.Node.{Node}
 use Rattle.model.specs.Table.{Words, headerOk, headerNumber, noCollection, node}
-use Rattle.model.specs.Slots.{View, viewFrom, view, nodeView, height, used, full}
+use Rattle.model.specs.Slots.{View, viewFrom, nodeView, height, used}
 use Rattle.model.specs.Search.{path, firstWith}
 use Rattle.model.specs.Reached.{mapping}
 use Rattle.model.specs.SoundTest.{soundView, sound}
 use Rattle.model.specs.Writes.{repaired, standingIn, Call, repair}
-use Rattle.model.specs.Refusals.{fullParent, parentFull, Test, firstNumber, hasKey, seventeenIn, mapTests, elevenIn, tenIn, ownMap, wordsFor, refusal}
+use Rattle.model.specs.Refusals.{Test, firstNumber, hasKey, seventeenIn, mapTests, elevenIn, tenIn, ownMap, wordsFor, refusal}
 use Rattle.table_laws.proofs.Header.{header-number-refused}
 use Rattle.list_laws.proofs.Tools.{first-nil, not-false-iff}
 use Rattle.tree_laws.proofs.Levels.{sound-orderly}
@@ -25,17 +23,16 @@ use Rattle.change_laws.proofs.Pairs.{has-key-iff, has-key-found}
 use Rattle.step_laws.proofs.Accepted.{none-holds}
 use Rattle.two_laws.proofs.AcceptedTwo.{Allows, accepted-iff}
 use Rattle.two_laws.proofs.SearchTwo.{sound-head}
-use Rattle.two_laws.proofs.JudgedTwo.{parent-not-full, number-on-sound}
+use Rattle.two_laws.proofs.JudgedTwo.{number-on-sound}
 use Rattle.node.specs.Word.{numberIn}
 use Rattle.slots.specs.declared.Held.{Held}
 use Rattle.slots.specs.declared.Held.the-variants.{Pointer, Nothing}
 use Rattle.slots.specs.Scan.{shownFrom}
 use Rattle.slots.specs.Held.{heldBy}
 use Rattle.sound.specs.declared.Leftover.{Leftover}
-use Rattle.sound.specs.declared.Leftover.the-variants.{MissingIn, BothIn}
 use Rattle.sound.specs.declared.Checked.{Checked}
 use Rattle.sound.specs.declared.Checked.the-variants.{Unsound, Sound}
-use Rattle.sound.specs.Checked.{meant, checked}
+use Rattle.sound.specs.Checked.{checked}
 use Rattle.sound.proofs.JudgeLaws.{SoundWith, checked-sound, checked-unsound}
 use Rattle.write.specs.declared.Judged.{Judged}
 use Rattle.write.specs.declared.Judged.the-variants.{Refused, Ready}
@@ -85,21 +82,9 @@ module _ (words dock : ℕ) (t : Words) (header : headerOk t ≡ true) where
       unfolding judged shared
       too-short h = rw (header, found .is-sound, le-ltb 1 dock ok, lt-ltb words (wordsFor dock) (rw l at h), judged, shared)
 
-      module _ (long : least ≤ words) (b : Bool) (f : b ≡ fullParent (view t) (some (meant x))) where
-        parent-is : parentFull t ≡ b
-        unfolding parentFull
-        parent-is = ap (fullParent (view t)) (found .leftover-is) ∙ sym f
-
-        enough : wordsFor dock ≤ words
-        enough = rw l at long
-
-        pub full-parent : b ≡ true → Refused 12 ≡ judged false words dock t
-        unfolding judged shared
-        full-parent h = rw (header, found .is-sound, le-ltb 1 dock ok, le-ltb words (wordsFor dock) enough, parent-is ∙ h, judged, shared)
-
-        pub all-passed : b ≡ false → Ready x n ≡ judged false words dock t
-        unfolding judged shared
-        all-passed h = rw (header, found .is-sound, le-ltb 1 dock ok, le-ltb words (wordsFor dock) enough, parent-is ∙ h, checked-sound t x n .1 found, judged, shared)
+      pub all-passed : least ≤ words → Ready x n ≡ judged false words dock t
+      unfolding judged shared
+      all-passed h = rw (header, found .is-sound, le-ltb 1 dock ok, le-ltb words (wordsFor dock) (rw l at h), checked-sound t x n .1 found, judged, shared)
 
 -- the words that a list for the dock must have
 pub words-zero : (dock : ℕ) → dock ≡ 0 → 2560 ≡ wordsFor dock
@@ -137,7 +122,7 @@ record SharedPassed (seventeen : Bool) (words dock : ℕ) (t : Words) : Type 0 w
 shared-passed : (seventeen : Bool) (words dock : ℕ) (t : Words) → shared seventeen words dock t ≡ 0 → SharedPassed seventeen words dock t
 unfolding shared
 shared-passed seventeen words dock t e =
-    let h = none-holds (sharedTests seventeen words dock t) ((λ e. omega arith), ((λ e. omega arith), ((λ e. omega arith), ((λ e. omega arith), ((λ e. omega arith), ((λ e. omega arith), tt)))))) .0 e in
+    let h = none-holds (sharedTests seventeen words dock t) ((λ e. omega arith), ((λ e. omega arith), ((λ e. omega arith), ((λ e. omega arith), ((λ e. omega arith), tt))))) .0 e in
     record { collection = h .1 .0; sound = not-false-iff _ .0 (h .1 .1 .0); dock-ok = ltb-false 1 dock (h .1 .1 .1 .0); long = ltb-false words (wordsFor dock) (h .1 .1 .1 .1 .0) }
 
 module _ (y : Call) (words dock : ℕ) (t : Words) where
@@ -190,7 +175,6 @@ module _ (y : Call) (words dock : ℕ) (t : Words) where
       sound = p .found .is-sound;
       dock-ok = p .dock-ok;
       long = p .long;
-      parent = parent-not-full t (p .found .is-sound);
       allows = a;
     })
 
@@ -234,14 +218,3 @@ module _ (t : Words) (o k n : ℕ) (x : Node) (h : Held) (s : soundView (viewFro
       go false g =
           let p : Pointer r ≡ Nothing = sym z ∙ held-map ∙ ap heldBy (first-nil k (mapping v) (has-key-iff k (mapping v) .0 g)) in
           let i : _≡_ {A = ℕ} 0 1 = cc in absurd (omega arith)
-
--- ---- the parent that lacks a slot
-
-module _ (v : View) (l : Leftover) (n p a : ℕ) where
-  pub full-missing : (b : Bool) → l ≡ MissingIn p a b → n ≡ length (v .node p .shown) → eqb n 11 ≡ fullParent v (some (meant l))
-  unfolding full
-  full-missing b q e = rw (q, e)
-
-  pub full-both : l ≡ BothIn p a → n ≡ length (v .node p .shown) → eqb n 11 ≡ fullParent v (some (meant l))
-  unfolding full
-  full-both q e = rw (q, e)

@@ -5,7 +5,7 @@ use Prim.Native.Nat.{ℕ}
 use lib.Dec.{ltb}
 use Rattle.model.specs.Table.{Words, headerOk}
 use Rattle.model.specs.SoundTest.{sound}
-use Rattle.model.specs.Refusals.{parentFull, Test, test, firstNumber, wordsFor, unlessRefused}
+use Rattle.model.specs.Refusals.{Test, test, firstNumber, wordsFor, unlessRefused}
 use Rattle.sound.specs.declared.Checked.{Checked}
 use Rattle.sound.specs.declared.Checked.the-variants.{Unsound, Sound}
 use Rattle.sound.specs.Checked.{checked}
@@ -16,7 +16,7 @@ use Rattle.write.specs.declared.Judged.the-variants.{Refused, Ready}
 abbrev pub sharedTests : (seventeen : Bool) → (words dock : ℕ) → Words → List Test
 sharedTests seventeen words dock t =
     test (not (headerOk t)) 2 ∷ test seventeen 17 ∷ test (not (sound t)) 4
-    ∷ test (ltb 1 dock) 18 ∷ test (ltb words (wordsFor dock)) 5 ∷ test (parentFull t) 12 ∷ []
+    ∷ test (ltb 1 dock) 18 ∷ test (ltb words (wordsFor dock)) 5 ∷ []
 
 -- the number of the first of them that holds; 0 where none does
 unfoldable pub shared : (seventeen : Bool) → (words dock : ℕ) → Words → ℕ

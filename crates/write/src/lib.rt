@@ -1,4 +1,4 @@
-// What every writing call begins with: its refusals 2, 17, 4, 18, 5 and 12, the first pen and the repair; and whether a map has a key.
+// What every writing call begins with: its refusals 2, 17, 4, 18 and 5, the first pen and the repair; and whether a map has a key.
 use orders::Pen;
 use slots::Held;
 use sound::Checked;
@@ -7,11 +7,11 @@ ghost use mathlib.Core.Path.{_≡_};
 ghost use mathlib.Core.Bool.{true, false};
 ghost use mathlib.Core.Option.{some};
 ghost use Rattle.model.specs.Table.{headerOk, noCollection};
-ghost use Rattle.model.specs.Slots.{viewFrom, view};
+ghost use Rattle.model.specs.Slots.{viewFrom};
 ghost use Rattle.model.specs.Reached.{mapping};
 ghost use Rattle.model.specs.SoundTest.{leftoverAll, soundView, sound};
 ghost use Rattle.model.specs.Writes.{repairStores};
-ghost use Rattle.model.specs.Refusals.{fullParent, hasKey, wordsFor};
+ghost use Rattle.model.specs.Refusals.{hasKey, wordsFor};
 ghost use Rattle.sound.specs.Checked.{meant};
 ghost use Rattle.orders.specs.Desk.{desk, firstPen, storedAll, Room};
 ghost use Rattle.write.specs.Judged.{judged};
@@ -20,22 +20,6 @@ ghost use Rattle.write.specs.Judged.{judged};
 pub enum Judged {
     Refused(u8),
     Ready { left: Leftover, reached: u64 },
-}
-
-// Whether repair would find 11 shown slots in the parent.
-fn parent_full(table: &[u64], left: Leftover) -> bool
-    ensures { λ r. ⌜ r ≡ fullParent (view (now (table .entry))) (some (meant left)) ⌝ }
-{
-    match left {
-        Leftover::Nothing => false,
-        Leftover::HiddenIn(_) => false,
-        Leftover::MissingIn {
-            parent,
-            node: _,
-            trailing: _,
-        } => reach::shown_count(table, parent) == 11,
-        Leftover::BothIn { parent, node: _ } => reach::shown_count(table, parent) == 11,
-    }
 }
 
 // The words that an order list for the dock must have.
@@ -48,7 +32,7 @@ fn words_for(dock: u64) -> usize
     5120
 }
 
-// Refusals 4, 18, 5 and 12, on a table whose header is right, with an order list of so many words for a dock.
+// Refusals 4, 18 and 5, on a table whose header is right, with an order list of so many words for a dock.
 fn judge_rest(table: &[u64], words: usize, dock: u64) -> Judged
     requires { ⌜ headerOk (now table) ≡ true ⌝ }
     ensures { λ r. ⌜ r ≡ judged false words dock (now (table .entry)) ⌝ }
@@ -62,9 +46,6 @@ fn judge_rest(table: &[u64], words: usize, dock: u64) -> Judged
             }
             if words < words_for(dock) {
                 return Judged::Refused(5);
-            }
-            if parent_full(table, leftover) {
-                return Judged::Refused(12);
             }
             Judged::Ready {
                 left: leftover,

@@ -1,7 +1,7 @@
 -- `write::judge_rest` meets its contract.
 use mathlib.Core.Path.{sym, _∙_}
 use Rattle.sound.proofs.JudgeLaws.{SoundWith, checked-sound}
-use Rattle.write.proofs.Judging.{not-sound, wrong-dock, too-short, full-parent, all-passed}
+use Rattle.write.proofs.Judging.{not-sound, wrong-dock, too-short, all-passed}
 use borrow.Author.Needs.{needs}
 use Rattle.write.proofs.judge_rest.Statement.{statement}
 use Rattle.write.proofs.judge_rest.Tie as tie
@@ -20,9 +20,6 @@ docked c = c .before .before
 
 abbrev measured : tie.After-words-for → tie.Else1
 measured c = c .before
-
-abbrev long : tie.Else2 → tie.After-words-for
-long c = c .before
 
 found : (c : tie.After-answer) → SoundWith (entry (answered c) .args .table .now) (c .answer .given .0 .0) (c .answer .given .0 .1 .0)
 found c = checked-sound _ _ _ .0 (sym (answered c .check .ensures) ∙ c .answer .given .1)
@@ -51,27 +48,15 @@ returns-2 c =
     let a = docked b in
     too-short _ _ _ (entry (answered a) .pre) _ _ (found a) (b .if1 .left) _ (w .words-for .ensures) (c .if2 .taken)
 
-parent-full-requires : tie.Need-parent-full-requires
-parent-full-requires c κs = search needs
-
 returns-3 : tie.Need-returns-3
-returns-3 c =
-    let e = c .before .before in
-    let w = long e in
-    let b = measured w in
-    let a = docked b in
-    full-parent _ _ _ (entry (answered a) .pre) _ _ (found a) (b .if1 .left) _ (w .words-for .ensures) (e .if2 .left) _ (c .before .parent-full .ensures) (c .if3 .taken)
+returns-3 c = let a = c .before .before in not-sound _ _ _ (entry a .pre) (sym (a .check .ensures) ∙ c .enum-told .given .1)
 
 returns-4 : tie.Need-returns-4
-returns-4 c = let a = c .before .before in not-sound _ _ _ (entry a .pre) (sym (a .check .ensures) ∙ c .enum-told .given .1)
-
-returns-5 : tie.Need-returns-5
-returns-5 c =
-    let e = c .before .before in
-    let w = long e in
+returns-4 c =
+    let w = c .before in
     let b = measured w in
     let a = docked b in
-    all-passed _ _ _ (entry (answered a) .pre) _ _ (found a) (b .if1 .left) _ (w .words-for .ensures) (e .if2 .left) _ (c .before .parent-full .ensures) (c .if3 .left)
+    all-passed _ _ _ (entry (answered a) .pre) _ _ (found a) (b .if1 .left) _ (w .words-for .ensures) (c .if2 .left)
 
 pub judge-rest-spec : {M : Type 1} → statement M
 judge-rest-spec =
@@ -83,7 +68,5 @@ judge-rest-spec =
     returns
     words-for-requires
     returns-2
-    parent-full-requires
     returns-3
-    returns-4
-    returns-5)
+    returns-4)
