@@ -74,7 +74,7 @@ struct Run {
 }
 
 /// Repair lists nothing on a settled table: the library's word that it is, and how long that took.
-fn settled(table: &mut Words) -> f64 {
+pub fn settled(table: &mut Words) -> f64 {
     let mut orders = Orders::new();
     let (ns, number) = timed(|| calls::repair(table, &mut orders));
     assert!(number == 0 && orders.count() == 0, "the packed table is not settled: {number}");

@@ -6,6 +6,7 @@ mod judge;
 mod keys;
 mod lines;
 mod machine;
+mod numbers;
 mod plot;
 mod report;
 mod results;
@@ -33,6 +34,7 @@ pub const INSERTION: &str = "insertion";
 pub const DELETION: &str = "deletion";
 pub const SPLITTING: &str = "insertion, split";
 pub const CLASS_CHANGE: &str = "class change";
+pub const NUMBERS: &str = "recording numbers";
 pub const COUNTS: &str = "counts";
 pub const WALK: &str = "empty leaves";
 pub const SALVAGE: &str = "salvage";
@@ -52,23 +54,25 @@ pub const SORTED: &str = "sorted array";
 pub const OTHERS: [&str; 9] = [LED, PLAIN, FORESEEN, TRUSTING, TESTED, TREE, RUST, CPP, SORTED];
 
 /// What is measured: keys for the searches and the salvages, nodes for the changes, keys for the counts (ours and the 512-byte tree; that tree alone),
-/// orders for the wear figures, codes for the judge.
+/// orders for the wear figures, codes for the judge, nodes for the recording numbers.
 struct Sizes {
     search: &'static [usize],
     nodes: &'static [usize],
     counted: (usize, usize),
     listed: &'static [usize],
     judged: &'static [usize],
+    numbered: &'static [usize],
 }
 
 /// Each insertion checks the whole table, so that counting takes a time that grows with the square of the keys.
-const WHOLE: Sizes = Sizes { search: &[10_000, 100_000, 400_000], nodes: &[16, 128, 1_024, 8_192, 56_253], counted: (10_000, 400_000), listed: &[1_000, 10_000, 100_000, 1_000_000], judged: &[10_000, 100_000] };
-const QUICK: Sizes = Sizes { search: &[1_000, 4_000], nodes: &[16, 64], counted: (200, 10_000), listed: &[1_000, 10_000], judged: &[1_000] };
+const WHOLE: Sizes = Sizes { search: &[10_000, 100_000, 400_000], nodes: &[16, 128, 1_024, 8_192, 56_253], counted: (10_000, 400_000), listed: &[1_000, 10_000, 100_000, 1_000_000], judged: &[10_000, 100_000], numbered: &[1_024, 8_192, 56_253] };
+const QUICK: Sizes = Sizes { search: &[1_000, 4_000], nodes: &[16, 64], counted: (200, 10_000), listed: &[1_000, 10_000], judged: &[1_000], numbered: &[16, 64] };
 
 fn measure(sizes: &Sizes) -> Results {
     let mut results = Results::default();
     search::measure(&mut results, sizes.search);
     change::measure(&mut results, sizes.nodes);
+    numbers::measure(&mut results, sizes.numbered);
     walk::measure(&mut results, sizes.nodes);
     salvage::measure(&mut results, sizes.search);
     judge::measure(&mut results, sizes.judged);
@@ -96,9 +100,9 @@ fn report(results: &Results, sizes: &Sizes, folder: &Path) {
     write(folder, "plot.svg", &plot::svg(results, &machine[0], sizes.counted.0));
 }
 
-/// Only the salvages or the judge, of rising numbers of codes, or the wear figures, of rising numbers of orders; nothing is written.
+/// Only the salvages or the judge, of rising numbers of codes, the wear figures, of orders, the changes or the recording numbers, of nodes; nothing is written.
 fn only(sizes: &[&str], measure: fn(&mut Results, &[usize]), tables: fn(&Results) -> Vec<report::Table>) {
-    let sizes: Vec<usize> = sizes.iter().map(|size| size.parse().expect("a number of codes or orders")).collect();
+    let sizes: Vec<usize> = sizes.iter().map(|size| size.parse().expect("a number of codes, orders or nodes")).collect();
     let mut results = Results::default();
     measure(&mut results, &sizes);
     tables(&results).iter().for_each(|table| println!("{}", table.text()));
@@ -123,10 +127,12 @@ fn main() {
         ["--only-salvage", ref sizes @ ..] if !sizes.is_empty() => return only(sizes, salvage::measure, report::salvages),
         ["--only-judge", ref sizes @ ..] if !sizes.is_empty() => return only(sizes, judge::measure, report::judgements),
         ["--only-wear", ref sizes @ ..] if !sizes.is_empty() => return only(sizes, wear::measure, report::wears),
+        ["--only-changes", ref sizes @ ..] if !sizes.is_empty() => return only(sizes, change::measure, report::changes),
+        ["--only-numbers", ref sizes @ ..] if !sizes.is_empty() => return only(sizes, numbers::measure, report::numbers),
         ["--quick", folder] => (QUICK, folder),
         [folder] if !folder.starts_with('-') => (WHOLE, folder),
         _ => {
-            eprintln!("usage: bench [--quick] FOLDER | bench --only-search ours|plain KEYS QUERIES | bench --only-salvage CODES .. | bench --only-judge CODES .. | bench --only-wear ORDERS ..");
+            eprintln!("usage: bench [--quick] FOLDER | bench --only-search ours|plain KEYS QUERIES | bench --only-salvage CODES .. | bench --only-judge CODES .. | bench --only-wear ORDERS .. | bench --only-changes NODES .. | bench --only-numbers NODES ..");
             std::process::exit(2);
         }
     };

@@ -1,11 +1,12 @@
 //! The tables: as text for the terminal, as Markdown for docs/BENCHMARKS.md.
 use crate::counts::{self, CHANGES, ORDERS};
 use crate::judge::LISTS;
+use crate::numbers::KINDS;
 use crate::results::{Results, Spread};
 use crate::salvage::TABLES;
 use crate::wear;
 use crate::{
-    CLASS_CHANGE, COUNTS, DELETION, HITS, INSERTION, JUDGE, LED, LINES, MISSES, NODES, OTHERS, OURS, PAPER_FLUSHES, SALVAGE, SPLITTING, TABLE, TREE, TRUSTING, WALK, WEAR,
+    CLASS_CHANGE, COUNTS, DELETION, HITS, INSERTION, JUDGE, LED, LINES, MISSES, NODES, NUMBERS, OTHERS, OURS, PAPER_FLUSHES, SALVAGE, SPLITTING, TABLE, TREE, TRUSTING, WALK, WEAR,
 };
 use std::fmt::Write;
 
@@ -157,6 +158,20 @@ fn change_ratios(results: &Results) -> Table {
     table
 }
 
+/// An insertion with a split beside one without, on the same number of nodes.
+fn split_ratios(results: &Results) -> Table {
+    let head = ["nodes", "insertion, µs", "insertion, split, µs", "split / no split"];
+    let mut table = Table::new("An insertion with a split, and one without", &head);
+    for nodes in results.sizes(NODES, "read pass") {
+        let [plain, split] = [INSERTION, SPLITTING].map(|part| results.median(part, "whole call", nodes));
+        let mut row = vec![grouped(nodes)];
+        row.extend([plain, split].map(|ns| or_dash(ns.map(|ns| ns / 1e3))));
+        row.push(ratio(split, plain));
+        table.rows.push(row);
+    }
+    table
+}
+
 // ---- empty leaves
 
 /// A difference may be lost in the spread, and below 0.
@@ -287,14 +302,17 @@ fn per_doubling(from: (usize, Option<f64>), to: (usize, Option<f64>)) -> String 
     or_dash(factor)
 }
 
-fn growth(results: &Results, title: &str, unit: &str, sizes: &[usize], figures: &[(&str, &str, &str)]) -> Table {
-    let steps: Vec<String> = sizes.windows(2).map(|w| format!("{} to {} {unit}", grouped(w[0]), grouped(w[1]))).collect();
-    let head: Vec<&str> = std::iter::once("").chain(steps.iter().map(String::as_str)).collect();
+/// From each size to the next, and then between these two, if they were measured.
+fn growth(results: &Results, title: &str, unit: &str, sizes: &[usize], over: Option<(usize, usize)>, figures: &[(&str, &str, &str)]) -> Table {
+    let over = over.filter(|(from, to)| sizes.contains(from) && sizes.contains(to));
+    let steps: Vec<(usize, usize)> = sizes.windows(2).map(|w| (w[0], w[1])).chain(over).collect();
+    let names: Vec<String> = steps.iter().map(|&(from, to)| format!("{} to {} {unit}", grouped(from), grouped(to))).collect();
+    let head: Vec<&str> = std::iter::once("").chain(names.iter().map(String::as_str)).collect();
     let mut table = Table::new(title, &head);
     for &(label, part, what) in figures {
         let at = |size| (size, results.median(part, what, size));
         let mut row = vec![label.to_string()];
-        row.extend(sizes.windows(2).map(|w| per_doubling(at(w[0]), at(w[1]))));
+        row.extend(steps.iter().map(|&(from, to)| per_doubling(at(from), at(to))));
         table.rows.push(row);
     }
     table
@@ -303,7 +321,7 @@ fn growth(results: &Results, title: &str, unit: &str, sizes: &[usize], figures: 
 fn search_growth(results: &Results) -> Table {
     let names: Vec<&str> = std::iter::once(OURS).chain(OTHERS).collect();
     let figures: Vec<(&str, &str, &str)> = names.iter().map(|name| (*name, HITS, *name)).collect();
-    growth(results, "Growth of a search that hits: times as long for twice as many keys", "keys", &results.sizes(HITS, OURS), &figures)
+    growth(results, "Growth of a search that hits: times as long for twice as many keys", "keys", &results.sizes(HITS, OURS), None, &figures)
 }
 
 fn change_growth(results: &Results) -> Table {
@@ -320,7 +338,35 @@ fn change_growth(results: &Results) -> Table {
         ("deletion: stores", DELETION, "stores"),
         ("deletion: whole call", DELETION, "whole call"),
     ];
-    growth(results, "Growth of a change: times as long for twice as many nodes", "nodes", &results.sizes(NODES, "read pass"), &figures)
+    growth(results, "Growth of a change: times as long for twice as many nodes", "nodes", &results.sizes(NODES, "read pass"), Some((1_024, 56_253)), &figures)
+}
+
+/// Only these, for the terminal.
+pub fn changes(results: &Results) -> Vec<Table> {
+    vec![change_ratios(results), split_ratios(results), change_growth(results)]
+}
+
+// ---- recording numbers
+
+fn number_ratios(results: &Results) -> Table {
+    let head = ["recording numbers", "nodes", "read pass, µs", "check, µs", "check / read pass", "one number twice: refused after, µs"];
+    let mut table = Table::new("The check on several kinds of recording numbers", &head);
+    for (name, _, _) in KINDS {
+        for nodes in results.sizes(NUMBERS, name) {
+            let [pass, check] = ["read pass", name].map(|what| results.median(NUMBERS, what, nodes));
+            let twice = results.median(NUMBERS, &format!("{name}, one twice"), nodes);
+            let mut row = vec![name.to_string(), grouped(nodes)];
+            row.extend([pass, check].map(|ns| or_dash(ns.map(|ns| ns / 1e3))));
+            row.extend([ratio(check, pass), or_dash(twice.map(|ns| ns / 1e3))]);
+            table.rows.push(row);
+        }
+    }
+    table
+}
+
+/// Only these, for the terminal.
+pub fn numbers(results: &Results) -> Vec<Table> {
+    vec![number_ratios(results)]
 }
 
 // ---- all of them
@@ -339,6 +385,8 @@ pub fn ratios(results: &Results, counted: (usize, usize)) -> Vec<Table> {
         search_ratios(results),
         line_table(results),
         change_ratios(results),
+        split_ratios(results),
+        number_ratios(results),
         walk_ratios(results),
         salvage_ratios(results),
         judge_ratios(results),

@@ -6,24 +6,45 @@ mod reference;
 
 use common::*;
 use reference::*;
+use std::collections::HashSet;
+use std::sync::OnceLock;
 
 /// A kind of recording numbers: its name, the numbers by their order, and how many codes its largest table has.
 type Kind = (&'static str, fn(u64) -> u64, u64);
 
-/// A number scattered over all recordings; different for different numbers.
+/// A number scattered over all recordings as a random one is: some fall to one place.
 fn scattered(i: u64) -> u64 {
-    recording((i + 1).wrapping_mul(0x9e37_79b9_7f4a_7c15) ^ 0x1234_5678)
+    let x = (i + 1).wrapping_mul(0x9e37_79b9_7f4a_7c15);
+    let x = (x ^ x >> 30).wrapping_mul(0xbf58_476d_1ce4_e5b9);
+    let x = (x ^ x >> 27).wrapping_mul(0x94d0_49bb_1331_11eb);
+    recording(x ^ x >> 31)
 }
 
-const KINDS: [Kind; 7] = [
-    ("1, 2, 3 ..", |i| 1 + i, 60_000),
-    ("falling from the largest", |i| MOST_RECORDING - i, 30_000),
-    ("in steps of 1,000", |i| 1_000 * (1 + i), 30_000),
-    ("in steps of a prime that places are counted by", |i| 32_749 * (1 + i), 30_000),
-    ("random", scattered, 60_000),
-    // These two fall into one place: each is compared with all after it.
-    ("in steps of the first prime that numbers are divided by", |i| 2_147_483_647 * (1 + i), 2_000),
-    ("half of them so, half random", |i| if i % 2 == 0 { 2_147_483_647 * (1 + i) } else { scattered(i) }, 2_000),
+/// The primes by which numbers get their places, in the first round, the second ..
+const PRIMES: [u64; 6] = [1_048_573, 906_973, 975_157, 1_011_827, 938_459, 891_287];
+
+/// Most of these leave the rest of another by each of the primes, so that no round tells them apart, and all want the same few cells, which
+/// get full: what is left is compared one by one.
+fn hostile(i: u64) -> u64 {
+    static NUMBERS: OnceLock<Vec<u64>> = OnceLock::new();
+    let number = |[a, b, c]: [u64; 3]| 1 + a * PRIMES[0] * PRIMES[1] + b * PRIMES[2] * PRIMES[3] + c * PRIMES[4] * PRIMES[5];
+    let cell = |n: u64| n % 2_147_483_647 * 2_246_822_519 % 4_294_967_291 % 16_384;
+    let all = || (0..216_000).map(|i| number([i % 60, i / 60 % 60, i / 3_600])).filter(|&n| cell(n) < 256).collect();
+    NUMBERS.get_or_init(all)[i as usize]
+}
+
+const KINDS: [Kind; 11] = [
+    ("1, 2, 3 ..", |i| 1 + i, 400_000),
+    ("falling from the largest", |i| MOST_RECORDING - i, 60_000),
+    ("in steps of 1,000", |i| 1_000 * (1 + i), 60_000),
+    ("in steps of 2,147,483,647, by which numbers get their cells", |i| 2_147_483_647 * (1 + i), 60_000),
+    ("random", scattered, 400_000),
+    ("half of them random, half in steps of that prime", |i| if i % 2 == 0 { 2_147_483_647 * (1 + i) } else { scattered(i) }, 60_000),
+    ("eight at each place of the first round", |i| 1 + i / 8 + PRIMES[0] * (i % 8), 400_000),
+    ("in steps of the first round's prime", |i| PRIMES[0] * (1 + i), 60_000),
+    ("in steps of the first two rounds' primes", |i| PRIMES[0] * PRIMES[1] * (1 + i), 60_000),
+    ("a quarter equal by the first two rounds' primes, the others random", |i| if i % 4 == 0 { PRIMES[0] * PRIMES[1] * (1 + i / 4) } else { scattered(i) }, 200_000),
+    ("equal to others by each round's prime, all wanting few cells", hostile, 3_300),
 ];
 
 /// Nodes of one level, by number: each one's fence.
@@ -54,7 +75,7 @@ fn level(t: &mut [u64], first: u64, level: u64, below: &[(u64, u64)]) -> Row {
 
 /// A settled table of so many codes, with a few nodes to spare. The leaves are nodes 1, 2 ..
 fn packed(codes: u64, number: fn(u64) -> u64) -> Vec<u64> {
-    let mut t = make(codes / 6 + 8, 1);
+    let mut t = make(codes / 7 + 16, 1);
     let pairs: Vec<(u64, u64)> = (0..codes).map(|i| (7 * i, pointer(number(i), i * i % 3))).collect();
     let (mut first, mut l) = (1, 0);
     let mut row = level(&mut t, first, l, &pairs);
@@ -79,13 +100,28 @@ fn taken(t: &[u64], list: &[u64]) -> bool {
     w.number == 0
 }
 
-fn try_kind((name, number, most): Kind, codes: u64, seed: u64, random: &mut Random, list: &[u64]) {
-    let codes = codes.min(most);
+/// One number at two places: the first and the last code, two codes of one leaf, two of neighbouring ones, and any two.
+fn twice(t: &mut [u64], codes: u64, what: &dyn Fn() -> String, seed: u64, random: &mut Random, list: &[u64]) {
+    for (a, b) in [(0, codes - 1), (0, 2), (codes / 2, codes / 2 + 8), (random.below(codes), random.below(codes))] {
+        let (old, new) = match (t.get(place(b)), t.get(place(a))) {
+            (Some(&old), Some(&other)) if a.abs_diff(b) > 1 && b < codes => (old, pointer(recording(other), class(old))),
+            _ => continue,
+        };
+        t[place(b)] = new;
+        expect(!taken(t, list), seed, &[], || format!("{}: code {b} has the recording of code {a}", what()));
+        t[place(b)] = old;
+    }
+}
+
+fn try_kind((name, number, _): Kind, codes: u64, seed: u64, random: &mut Random, list: &[u64]) {
     let mut t = packed(codes, number);
+    let used: HashSet<u64> = (0..codes).map(number).collect();
+    assert_eq!(used.len() as u64, codes, "recordings {name}: the test's own numbers are not different");
+    twice(&mut t, codes, &|| format!("{codes} codes, recordings {name}"), seed, random, list);
     expect(taken(&t, list), seed, &[], || format!("{codes} codes, recordings {name}: not taken"));
     // The separately written judge looks for equal numbers its own way.
     expect(codes > 3_000 || judge(&t).is_some(), seed, &[], || format!("{codes} codes: the test's own table is not sound"));
-    for _ in 0..8 {
+    for _ in 0..if codes > 3_000 { 2 } else { 8 } {
         let (a, b) = (random.below(codes), random.below(codes));
         let old = t[place(b)];
         let new = match random.below(8) {
@@ -117,7 +153,7 @@ fn try_kind((name, number, most): Kind, codes: u64, seed: u64, random: &mut Rand
         expect(!taken(&t, list), seed, &[], || format!("{codes} codes, recordings {name}: {b} has the recording of the code before it in another class"));
         t[place(b)] = old;
     }
-    let unused = (1..).find(|&r| (0..codes).all(|i| number(i) != r)).unwrap();
+    let unused = (1..).find(|r| !used.contains(r)).unwrap();
     let added = calls::insert(&t, 1, list, ORDERED, 7 * (codes / 2) + 1, unused, 2);
     expect(added.number == 0 && calls::search(&added.table, 1, 7 * (codes / 2) + 1) == calls::found(unused, 2), seed, &[], || format!("{codes} codes, recordings {name}: {unused} was not added"));
 }
@@ -125,12 +161,14 @@ fn try_kind((name, number, most): Kind, codes: u64, seed: u64, random: &mut Rand
 fn main() {
     let arguments: Vec<u64> = std::env::args().skip(1).map(|a| a.parse().expect("a number")).collect();
     let seed = *arguments.first().unwrap_or(&20_261_116);
-    let most = *arguments.get(1).unwrap_or(&60_000);
+    let most = *arguments.get(1).unwrap_or(&400_000);
     println!("seed {seed}");
     let (mut random, list) = (Random(seed), vec![0; LIST_WORDS]);
     let mut passed = 0;
     for kind in KINDS {
-        for codes in [1, 9, 300, 3_000, most] {
+        let mut sizes = [1, 9, 300, 3_000, 20_000, most].map(|codes| codes.min(kind.2)).to_vec();
+        sizes.dedup();
+        for codes in sizes {
             try_kind(kind, codes, seed, &mut random, &list);
         }
         println!("recordings {}: done", kind.0);

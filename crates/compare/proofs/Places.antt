@@ -22,7 +22,7 @@ use Rattle.slots.specs.Gathered.{slotsIn}
 use Rattle.slots.proofs.Kept.{ways-end, ways-next}
 use Rattle.leaves.proofs.HitLaws.{kept-ways}
 use Rattle.leaves.proofs.FoundLaws.{whole-is}
-use Rattle.recordings.specs.Once.{pairsAlong, allPairs}
+use Rattle.compare.specs.Along.{pairsAlong, allPairs}
 use Rattle.compare.specs.declared.Cursor.{Cursor}
 use Rattle.compare.specs.Cursors.{pairsAt, atEnd, pairAt, goesOn, past, samePair, sameBut}
 use Rattle.compare.proofs.Maps.{leave-skip, leave-stay}

@@ -21,7 +21,7 @@ use Rattle.walk_laws.proofs.WalkLaw.{sound-in-order}
 use Rattle.slots.specs.Scan.{shownFrom}
 use Rattle.slots.specs.Held.{pointerIn}
 use Rattle.leaves.proofs.FoundLaws.{chain-mapping}
-use Rattle.recordings.specs.Once.{allPairs}
+use Rattle.compare.specs.Along.{allPairs}
 use Rattle.compare.specs.Cursors.{sameBut}
 use Rattle.compare.specs.Pointers.{held, oldOrNew}
 use Rattle.compare.proofs.Maps.{Ordered, not-own, not-new, as-old, as-new}

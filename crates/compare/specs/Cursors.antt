@@ -8,7 +8,7 @@ use Rattle.model.specs.Slots.{Slot, slot, View}
 use Rattle.model.specs.Ledger.{leave}
 use Rattle.model.specs.Judge.{sameSlots}
 use Rattle.slots.specs.Gathered.{waysFrom}
-use Rattle.recordings.specs.Once.{pairsAlong}
+use Rattle.compare.specs.Along.{pairsAlong}
 use Rattle.compare.specs.declared.Cursor.{Cursor}
 
 -- the pairs at it: those of its leaf's ways from this one on, then those of the leaves from the next one on, at most so many

@@ -7,7 +7,7 @@ ghost use Rattle.model.specs.Slots.{viewFrom, view};
 ghost use Rattle.model.specs.Reached.{mapping};
 ghost use Rattle.model.specs.SoundTest.{soundView};
 ghost use Rattle.model.specs.Ledger.{leave};
-ghost use Rattle.recordings.specs.Once.{allPairs};
+ghost use Rattle.compare.specs.Along.{allPairs};
 ghost use Rattle.compare.specs.Cursors.{pairsAt, atEnd, goesOn, past, distance, samePair, sameBut};
 ghost use Rattle.compare.specs.Pointers.{held, oldOrNew};
 

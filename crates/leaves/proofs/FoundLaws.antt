@@ -38,15 +38,12 @@ hit-among r n i (x ∷ xs) later = go (eqb x r) refl (hit-among r n (suc i) xs l
     go true e ih = rw (e, hitAmong) (rw (eqb-sym r x, e))
     go false e ih = rw (e, hitAmong) (ih ∙ rw (eqb-sym r x, e))
 
-pub hit-elem : (v : View) (r : ℕ) (ns : List ℕ) → isHit (firstHit v r ns) ≡ elem r (recordings v ns)
+hit-elem : (v : View) (r : ℕ) (ns : List ℕ) → isHit (firstHit v r ns) ≡ elem r (recordings v ns)
 unfolding firstHit
 hit-elem v r [] = unfold recordings in unfold flat in unfold elem in refl
 hit-elem v r (n ∷ ns) =
     hit-among r n 0 (map recording (kept v n)) (firstHit v r ns) ∙ ap (λ (b : Bool). elem r (map recording (kept v n)) || b) (hit-elem v r ns)
     ∙ sym (ap (elem r) (recordings-cons v n ns) ∙ elem-join r (map recording (kept v n)) (recordings v ns))
-
-pub hit-is : (b : Bool) (h : Hit) (v : View) (c n r : ℕ) → h ≡ hitAlong v c n r → b ≡ isHit h → b ≡ elem r (recordings v (along v c n))
-hit-is b h v c n r e q = q ∙ ap isHit e ∙ hit-elem v r (along v c n)
 
 -- ---- the whole chain
 

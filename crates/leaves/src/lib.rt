@@ -81,7 +81,7 @@ pub fn last_leaf(table: &[u64], root: u64) -> u64
 }
 
 // The first slot of the map with this recording number, in the leaves from the first along the siblings, at most so many.
-pub fn find_from(table: &[u64], first: u64, most: u64, recording: u64) -> Hit
+fn find_from(table: &[u64], first: u64, most: u64, recording: u64) -> Hit
     ensures { λ r. ⌜ r ≡ hitAlong (view (now (table .entry))) most first recording ⌝ }
 {
     let mut leaf = first;

@@ -74,7 +74,7 @@ moved y xs zs = same-test (distinct (y ∷ (xs ++ zs))) (distinct (xs ++ y ∷ z
 twice : (y : ℕ) (xs zs : List ℕ) → elem y xs ≡ true → distinct (xs ++ y ∷ zs) ≡ false
 twice y xs zs e = refuted (distinct (xs ++ y ∷ zs)) (λ h. false≢true (sym (elem-append y xs zs .0 (distinct-middle y xs zs .0 h .0) .0) ∙ e))
 
-tells-same : (e : Entry) (us vs : List ℕ) → distinct us ≡ distinct vs → Tells e us → Tells e vs
+pub tells-same : (e : Entry) (us vs : List ℕ) → distinct us ≡ distinct vs → Tells e us → Tells e vs
 tells-same Entered us vs q h = sym q ∙ h
 tells-same Known us vs q h = sym q ∙ h
 tells-same Full us vs q h = tt

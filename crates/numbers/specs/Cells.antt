@@ -18,7 +18,7 @@ unfoldable pub mixed : ℕ → ℕ
 mixed r = (r % 2147483647) * 2246822519 % SPREAD
 
 abbrev pub CELLS : ℕ
-CELLS = 32749
+CELLS = 16384
 
 abbrev pub TRIES : ℕ
 TRIES = 128

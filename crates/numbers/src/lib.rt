@@ -5,11 +5,9 @@ ghost use lib.ListN.{length};
 ghost use Rattle.numbers.specs.Cells.{mixed, nextCell, outcome, entered};
 
 // Numbers are scattered below this prime.
-pub const SPREAD: u64 = 4294967291;
+const SPREAD: u64 = 4294967291;
 
-// Cells, and tries, for a set that is to tell soon that it is crowded.
-pub const CELLS: usize = 32749;
-
+// Tries for a set that is to tell soon that it is crowded.
 pub const TRIES: usize = 128;
 
 // What entering a number came to. Full says only that its cells are taken; 0 is never entered.
@@ -21,7 +19,7 @@ pub enum Entry {
 
 // A number scattered, so that numbers that follow each other, or in small equal steps, crowd no cells. Those that leave one rest by
 // 2,147,483,647 still do.
-pub fn mixed(number: u64) -> u64
+fn mixed(number: u64) -> u64
     ensures { λ r. ⌜ r ≡ mixed number ⌝ }
 {
     (number % 2147483647) * 2246822519 % SPREAD

@@ -5,3 +5,4 @@ pub mod Unreached
 pub mod SlotCounts
 pub mod Freeing
 pub mod Running
+pub mod Marking

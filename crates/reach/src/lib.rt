@@ -1,15 +1,20 @@
 // Where a search stands on each level, which nodes are reached, and what is counted before a write. Nothing is written.
+use slots::Ways;
 ghost use mathlib.Core.Path.{_≡_};
 ghost use mathlib.Core.Bool.{true};
 ghost use Prim.Native.Nat.{ℕ, _+_, _-_, _≤_};
 ghost use lib.ListN.{length};
-ghost use Rattle.model.specs.Table.{at, nodes, rootWord};
+ghost use Rattle.model.specs.Table.{Words, at, nodes, rootWord};
 ghost use Rattle.model.specs.Slots.{viewFrom, view};
 ghost use Rattle.model.specs.Search.{moved};
 ghost use Rattle.model.specs.Reached.{headOr, kept, reached, reachedAll};
 ghost use Rattle.model.specs.SoundTest.{elem, soundView, sound};
 ghost use Rattle.model.specs.Writes.{numbers, unreached, unreachable, fresh, standingIn, freesLeaf};
 ghost use Rattle.reach.specs.Runs.{fullIn, runAfter, fullRun};
+ghost use Rattle.reach.specs.Marks.{MARKS, Taken, AllTaken, WaysTaken};
+
+// Words for a bit of each node.
+const MARKS: usize = 1024;
 
 // The unbroken run of full nodes from the leaf upward: its length, and whether it includes the root.
 pub struct Run {
@@ -74,15 +79,124 @@ pub fn is_taken(table: &[u64], n: u64) -> bool
     is_reached(table, second, n)
 }
 
-// The first unreachable node of these, from first to last; 0 if there is none.
-fn first_unreached(table: &[u64], first: u64, last: u64) -> u64
+// ---- fresh nodes
+
+// Marks node n, if it is one that a table can have.
+fn mark(marks: &mut [u64], n: u64)
+    requires { ⌜ length (now marks) ≡ MARKS ⌝ }
+    ensures { λ r. ⌜ ((t : Words) → AllTaken t (now (marks .entry)) → Taken t n → AllTaken t (now (marks .exit))) ⌝ }
+{
+    if 65535 < n {
+        return;
+    }
+    bits::put(marks, n as usize);
+}
+
+// Marks the nodes that ways lead to.
+fn mark_ways(marks: &mut [u64], w: Ways)
+    requires { ⌜ length (now marks) ≡ MARKS ⌝ }
+    requires { ⌜ w .count ≤ 13 ⌝ }
+    ensures { λ r. ⌜ ((t : Words) → AllTaken t (now (marks .entry)) → WaysTaken t w → AllTaken t (now (marks .exit))) ⌝ }
+{
+    let count = w.count;
+    let pointers = w.pointers;
+    let mut i = 0;
+    while i < count {
+        mark(marks, pointers[i]);
+        i += 1;
+    }
+}
+
+// Marks the children that node n names, if it is reached and no leaf.
+fn mark_children(table: &[u64], marks: &mut [u64], n: u64)
     requires { ⌜ sound (now table) ≡ true ⌝ }
+    requires { ⌜ length (now marks) ≡ MARKS ⌝ }
+    requires { ⌜ AllTaken (now table) (now marks) ⌝ }
+    ensures { λ r. ⌜ AllTaken (now (table .entry)) (now (marks .exit)) ⌝ }
+{
+    if node::word(table, n, 2) == 0 {
+        return;
+    }
+    if !is_taken(table, n) {
+        return;
+    }
+    let x = node::read(table, n);
+    let bound = node::word(table, x.sibling, 3);
+    mark_ways(marks, slots::gather(x, bound));
+}
+
+// From a root down by left to the level above the leaves, where there is one.
+fn first_parent(table: &[u64], root: u64) -> u64 {
+    let mut n = root;
+    let mut left = 16u64;
+    while 0 < left {
+        if node::word(table, n, 2) <= 1 {
+            return n;
+        }
+        n = node::word(table, n, 0);
+        left -= 1;
+    }
+    n
+}
+
+// Marks the children that the nodes from this one on along the siblings name. A descent for each of these nodes, so that it need not be known
+// that they are reached.
+fn mark_along(table: &[u64], marks: &mut [u64], first: u64)
+    requires { ⌜ sound (now table) ≡ true ⌝ }
+    requires { ⌜ length (now marks) ≡ MARKS ⌝ }
+    requires { ⌜ AllTaken (now table) (now marks) ⌝ }
+    ensures { λ r. ⌜ AllTaken (now (table .entry)) (now (marks .exit)) ⌝ }
+{
+    let mut n = first;
+    let mut left = table[2];
+    while 0 < left {
+        if n == 0 {
+            return;
+        }
+        mark_children(table, marks, n);
+        n = node::word(table, n, 1);
+        left -= 1;
+    }
+}
+
+// Marks the leaves of both trees, but one that lacks its slot or is the root.
+fn mark_all(table: &[u64], marks: &mut [u64])
+    requires { ⌜ sound (now table) ≡ true ⌝ }
+    requires { ⌜ length (now marks) ≡ MARKS ⌝ }
+    requires { ⌜ AllTaken (now table) (now marks) ⌝ }
+    ensures { λ r. ⌜ AllTaken (now (table .entry)) (now (marks .exit)) ⌝ }
+{
+    let first = first_parent(table, table[1]);
+    let second = first_parent(table, table[3]);
+    mark_along(table, marks, first);
+    mark_along(table, marks, second);
+}
+
+// Whether node n is reached from either root: a descent only where it is not marked.
+fn is_used(table: &[u64], marks: &[u64], n: u64) -> bool
+    requires { ⌜ sound (now table) ≡ true ⌝ }
+    requires { ⌜ length (now marks) ≡ MARKS ⌝ }
+    requires { ⌜ AllTaken (now table) (now marks) ⌝ }
+    requires { ⌜ n ≤ 65535 ⌝ }
+    ensures { λ r. ⌜ r ≡ elem n (reachedAll (now (table .entry))) ⌝ }
+{
+    if bits::has(marks, n as usize) {
+        return true;
+    }
+    is_taken(table, n)
+}
+
+// The first unreachable node of these, from first to last; 0 if there is none.
+fn first_unreached(table: &[u64], marks: &[u64], first: u64, last: u64) -> u64
+    requires { ⌜ sound (now table) ≡ true ⌝ }
+    requires { ⌜ length (now marks) ≡ MARKS ⌝ }
+    requires { ⌜ AllTaken (now table) (now marks) ⌝ }
     requires { ⌜ last ≤ 65535 ⌝ }
     ensures { λ r. ⌜ r ≡ headOr 0 (unreached (now (table .entry)) (numbers first (last + 1 - first))) ⌝ }
 {
     let mut n = first;
     while n <= last {
-        if !is_taken(table, n) {
+        if !is_used(table, marks, n) {
             return n;
         }
         n += 1;
@@ -90,18 +204,37 @@ fn first_unreached(table: &[u64], first: u64, last: u64) -> u64
     0
 }
 
-// The first unreachable node after node a, going round from N to 1; 0 if there is none.
+// The first unreachable node after node a, going round: the leaves are marked first.
+fn fresh_marked(table: &[u64], a: u64) -> u64
+    requires { ⌜ sound (now table) ≡ true ⌝ }
+    requires { ⌜ 1 ≤ a ⌝ }
+    requires { ⌜ a ≤ nodes (now table) ⌝ }
+    ensures { λ r. ⌜ r ≡ fresh (now (table .entry)) a ⌝ }
+{
+    let mut marks = [0u64; MARKS];
+    mark_all(table, &mut marks);
+    let n = first_unreached(table, &marks, a + 1, table[2]);
+    if n != 0 {
+        return n;
+    }
+    first_unreached(table, &marks, 1, a - 1)
+}
+
+// The first unreachable node after node a, going round from N to 1; 0 if there is none. The next node is asked for by itself: where codes
+// come in order it is the one.
 pub fn fresh(table: &[u64], a: u64) -> u64
     requires { ⌜ sound (now table) ≡ true ⌝ }
     requires { ⌜ 1 ≤ a ⌝ }
     requires { ⌜ a ≤ nodes (now table) ⌝ }
     ensures { λ r. ⌜ r ≡ fresh (now (table .entry)) a ⌝ }
 {
-    let n = first_unreached(table, a + 1, table[2]);
-    if n != 0 {
-        return n;
+    if table[2] <= a {
+        return fresh_marked(table, a);
     }
-    first_unreached(table, 1, a - 1)
+    if is_taken(table, a + 1) {
+        return fresh_marked(table, a);
+    }
+    a + 1
 }
 
 // How many nodes are unreachable, from the count of those reached.

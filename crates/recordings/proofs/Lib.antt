@@ -1,4 +1,6 @@
--- What the functions' proofs cite.
-pub mod RangeLaws
+-- Laws that the functions' proofs cite.
+pub mod LeafLaws
+pub mod LastLaws
+pub mod RowLaws
+pub mod RoundLaws
 pub mod OnceLaws
-pub mod PassLaws

@@ -1,3 +1,4 @@
--- No number twice; the numbers of a pass.
+-- The marked leaves, the rounds that tell suspects, and numbers compared with all after them.
+pub mod Marked
+pub mod Rounds
 pub mod Once
-pub mod Passes

@@ -124,7 +124,7 @@ module _ (s b before k p : ℕ) where
   unfolding isWay
   way-shown h = rw (ne-eqb p before h)
 
-  kept-more : (ss : List Slot) → keptOf s b (shown before (slot k p ∷ ss)) ≡ cond (isWay s b before k p) (slot k p ∷ keptOf s b (shown p ss)) (keptOf s b (shown p ss))
+  pub kept-more : (ss : List Slot) → keptOf s b (shown before (slot k p ∷ ss)) ≡ cond (isWay s b before k p) (slot k p ∷ keptOf s b (shown p ss)) (keptOf s b (shown p ss))
   unfolding isWay
   kept-more ss = picked (isKept s b) before (slot k p) ss
 

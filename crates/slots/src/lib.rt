@@ -202,7 +202,7 @@ pub fn keeps(sibling: u64, bound: u64, key: u64) -> bool
 }
 
 // Whether a slot in use is shown and kept, where before is the pointer before it.
-fn is_way(sibling: u64, bound: u64, before: u64, key: u64, pointer: u64) -> bool
+pub fn is_way(sibling: u64, bound: u64, before: u64, key: u64, pointer: u64) -> bool
     ensures { λ r. ⌜ r ≡ isWay sibling bound before key pointer ⌝ }
 {
     if pointer == before {

@@ -32,7 +32,7 @@ use Rattle.slots.proofs.Kept.{ways-end, ways-next}
 
 -- ---- a visit that is refused, and one that is not
 
-check-unsound : (v : View) (d : ℕ) (x : Visit) → check v d x Unsound ≡ Unsound
+pub check-unsound : (v : View) (d : ℕ) (x : Visit) → check v d x Unsound ≡ Unsound
 check-unsound v d x = check-fold v d x Unsound ∙ fold-unsound v (visits v d x)
 
 refused : (v : View) (d : ℕ) (x : Visit) (s : Tally) → visit v x s ≡ Unsound → check v d x s ≡ Unsound

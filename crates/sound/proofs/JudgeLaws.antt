@@ -16,8 +16,8 @@ use Rattle.model.specs.declared.Missing.{Missing}
 use Rattle.model.specs.declared.Missing.the-variants.{Nowhere, Under}
 use Rattle.model.specs.declared.Unfinished.{Unfinished}
 use Rattle.model.specs.Table.{Words, node}
-use Rattle.model.specs.Slots.{Slot, used, View, viewFrom, view}
-use Rattle.model.specs.Reached.{flat, kept, reached, trees, reachedAll}
+use Rattle.model.specs.Slots.{used, View, viewFrom, view}
+use Rattle.model.specs.Reached.{reached, mapping, trees, reachedAll}
 use Rattle.model.specs.SoundTest as model
 use Rattle.model.specs.SoundTest.{all, orderly, recordingsOk, leftoverFrom, leftoverOf, leftover, isNothing, isAllowed, hasRoom, room, soundView, leftoverIn, leftoverAll, sound}
 use Rattle.list_laws.proofs.Tools.{and-iff}
@@ -25,8 +25,7 @@ use Rattle.view_laws.proofs.AnyRoot.{any-room}
 use Rattle.walk_laws.specs.declared.Tally as tally
 use Rattle.walk_laws.specs.declared.Tally.{Tally}
 use Rattle.walk_laws.specs.Walk.{walk}
-use Rattle.walk_laws.specs.Chain.{chain}
-use Rattle.walk_laws.proofs.WalkLaw.{InOrder, in-order-iff, Passed, walk-iff, judged, sound-walk}
+use Rattle.walk_laws.proofs.WalkLaw.{Passed, walk-iff, judged, sound-walk}
 use Rattle.sound.specs.declared.Leftover.{Leftover}
 use Rattle.sound.specs.declared.Leftover.the-variants.{Nothing, HiddenIn, MissingIn, BothIn}
 use Rattle.sound.specs.declared.Verdict.{Verdict}
@@ -34,7 +33,6 @@ use Rattle.sound.specs.declared.Verdict.the-variants.{Allowed, TooMuch}
 use Rattle.sound.specs.declared.Checked.the-variants.{Unsound, Sound}
 use Rattle.slots.specs.Scan.{shownFrom}
 use Rattle.sound.specs.Checked.{meant, said, verdictOf, soundWith, checkedTree, checked}
-use Rattle.leaves.proofs.FoundLaws.{chain-mapping}
 
 -- ---- what is unfinished
 
@@ -128,18 +126,13 @@ pub record Found (v : View) (r : Verdict) : Type 0 where
 
 module _ {v : View} {r : Verdict} (f : Found v r) where
   abbrev right : Bool
-  right = recordingsOk (flat (kept v) (chain v))
+  right = recordingsOk (mapping v)
 
   passed : Passed v (f .count) (f .unfinished)
   passed = walk-iff v (f .count) (f .unfinished) .0 (f .walked)
 
-  ordered : InOrder v
-  ordered = in-order-iff v .0 (and-iff _ _ .1 (passed .root-ok, passed .nodes-ok))
-
   sound-is : soundView v ≡ (right && isAllowed v (leftoverOf (f .unfinished)))
-  sound-is =
-      sound-walk v ∙ ap (judged v) (f .walked)
-      ∙ ap (λ (ps : List Slot). recordingsOk ps && isAllowed v (leftoverOf (f .unfinished))) (sym (chain-mapping v ordered))
+  sound-is = sound-walk v ∙ ap (judged v) (f .walked)
 
   not-allowed : isAllowed v (leftoverOf (f .unfinished)) ≡ false → Unsound ≡ checkedTree v
   not-allowed a = refused v (sound-is ∙ rw (a, and-false right))

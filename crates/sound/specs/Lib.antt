@@ -1,3 +1,4 @@
 -- What the functions of the check answer.
 pub mod Nodes
+pub mod Visited
 pub mod Checked

@@ -9,14 +9,20 @@ ghost use mathlib.Core.Path.{_≡_};
 ghost use mathlib.Core.Bool.{true, cond, _&&_};
 ghost use mathlib.Core.Option.{some};
 ghost use Prim.Native.Nat.{_≤_};
+ghost use lib.ListN.{length};
 ghost use Rattle.model.specs.Table.{headerOk, hasNode};
 ghost use Rattle.model.specs.Slots.{view, viewFrom, clearIn};
-ghost use Rattle.model.specs.Reached.{headOr, nextChild};
+ghost use Rattle.model.specs.Reached.{headOr, nextChild, reached};
 ghost use Rattle.model.specs.SoundTest.{siblingOk, addFew, addMissing, together, times, leftoverOf, leftoverFrom, room, hasRoom, isNothing, sound};
 ghost use Rattle.walk_laws.specs.Walk.{stands, check, walk};
 ghost use Rattle.slots.specs.Gathered.{pointersFrom};
+ghost use Rattle.recordings.specs.Marked.{MARKS};
 ghost use Rattle.sound.specs.Nodes.{standing, leafFair, lookOf, noted, slotChecked};
+ghost use Rattle.sound.specs.Visited.{visited, slotVisited, Adds, Seen};
 ghost use Rattle.sound.specs.Checked.{meant, verdictOf, checkedTree, joined, checked};
+
+// Words for a bit of each node.
+const MARKS: usize = 1024;
 
 // ---- one node
 
@@ -246,10 +252,20 @@ fn pointer_from(w: Ways, i: usize, next: u64) -> u64
     pointers[i]
 }
 
-// Checks node n, which must stand on this level, with this fence and this sibling, and the nodes below it.
-fn check_node(table: &[u64], n: u64, level: u64, fence: u64, right: u64, seen: Tally) -> Tally
+// Checks node n, which must stand on this level, with this fence and this sibling, and the nodes below it. Marks those that it visits.
+fn check_node(
+    table: &[u64],
+    n: u64,
+    level: u64,
+    fence: u64,
+    right: u64,
+    seen: Tally,
+    marks: &mut [u64],
+) -> Tally
     requires { ⌜ headerOk (now table) ≡ true ⌝ }
+    requires { ⌜ length (now marks) ≡ MARKS ⌝ }
     ensures { λ r. ⌜ r ≡ check (view (now (table .entry))) level (standing n level fence right) seen ⌝ }
+    ensures { λ r. ⌜ (Seen r → Adds (visited (view (now (table .entry))) level n) (now (marks .entry)) (now (marks .exit))) ⌝ }
 {
     match seen {
         Tally::Unsound => Tally::Unsound,
@@ -264,6 +280,7 @@ fn check_node(table: &[u64], n: u64, level: u64, fence: u64, right: u64, seen: T
             if !x.alone {
                 return Tally::Unsound;
             }
+            bits::put(marks, n as usize);
             let own = x.own;
             let mut state = Tally::Visited {
                 count: count + 1,
@@ -280,7 +297,16 @@ fn check_node(table: &[u64], n: u64, level: u64, fence: u64, right: u64, seen: T
             let mut i = 0;
             while i < ways {
                 let after = pointer_from(w, i + 1, next);
-                state = check_slot(table, n, level - 1, keys[i], pointers[i], after, state);
+                state = check_slot(
+                    table,
+                    n,
+                    level - 1,
+                    keys[i],
+                    pointers[i],
+                    after,
+                    state,
+                    marks,
+                );
                 i += 1;
             }
             state
@@ -297,23 +323,36 @@ fn check_slot(
     child: u64,
     right: u64,
     seen: Tally,
+    marks: &mut [u64],
 ) -> Tally
     requires { ⌜ headerOk (now table) ≡ true ⌝ }
+    requires { ⌜ length (now marks) ≡ MARKS ⌝ }
     ensures { λ r. ⌜ r ≡ slotChecked (view (now (table .entry))) parent level key child right seen ⌝ }
+    ensures { λ r. ⌜ (Seen r → Adds (slotVisited (view (now (table .entry))) level child right) (now (marks .entry)) (now (marks .exit))) ⌝ }
 {
     let sibling = node::word(table, child, 1);
     if sibling == right {
-        return check_node(table, child, level, key, right, seen);
+        return check_node(table, child, level, key, right, seen, marks);
     }
     let fence = node::word(table, sibling, 3);
-    let first = check_node(table, child, level, key, sibling, note(seen, parent, child));
-    check_node(table, sibling, level, fence, right, first)
+    let first = check_node(
+        table,
+        child,
+        level,
+        key,
+        sibling,
+        note(seen, parent, child),
+        marks,
+    );
+    check_node(table, sibling, level, fence, right, first, marks)
 }
 
-// The check of a whole tree but for the recording numbers, the classes and the leftover.
-fn walk(table: &[u64], root: u64) -> Tally
+// The check of a whole tree but for the recording numbers, the classes and the leftover. Marks the nodes reached.
+fn walk(table: &[u64], root: u64, marks: &mut [u64]) -> Tally
     requires { ⌜ headerOk (now table) ≡ true ⌝ }
+    requires { ⌜ length (now marks) ≡ MARKS ⌝ }
     ensures { λ r. ⌜ r ≡ walk (viewFrom (now (table .entry)) root) ⌝ }
+    ensures { λ r. ⌜ (Seen r → Adds (reached (viewFrom (now (table .entry)) root)) (now (marks .entry)) (now (marks .exit))) ⌝ }
 {
     let top = node::word(table, root, 2);
     if 15 < top {
@@ -334,6 +373,7 @@ fn walk(table: &[u64], root: u64) -> Tally
             count: 0,
             unfinished: none,
         },
+        marks,
     )
 }
 
@@ -479,7 +519,8 @@ fn check_tree(table: &[u64], root: u64) -> Checked
     requires { ⌜ headerOk (now table) ≡ true ⌝ }
     ensures { λ r. ⌜ r ≡ checkedTree (viewFrom (now (table .entry)) root) ⌝ }
 {
-    let seen = walk(table, root);
+    let mut marks = [0u64; MARKS];
+    let seen = walk(table, root, &mut marks);
     match seen {
         Tally::Unsound => Checked::Unsound,
         Tally::Visited { count, unfinished } => {
@@ -490,7 +531,7 @@ fn check_tree(table: &[u64], root: u64) -> Checked
                     if !has_room(table, left) {
                         return Checked::Unsound;
                     }
-                    if !recordings::ok(table, root) {
+                    if !recordings::ok(table, &marks) {
                         return Checked::Unsound;
                     }
                     Checked::Sound {

@@ -4,7 +4,7 @@ use Prim.Native.Nat.{_<_}
 use native.Mathlib.Omega.{arith}
 use borrow.Author.Tests.{not-true, not-false}
 use Rattle.model.specs.Slots.{viewFrom, view}
-use Rattle.recordings.specs.Once.{allPairs}
+use Rattle.compare.specs.Along.{allPairs}
 use Rattle.compare.specs.Cursors.{past, distance, sameBut}
 use Rattle.compare.proofs.Places.{no-pair, a-pair, Comparing, compared-end, compared-differ, compared-both, compared-next, compared-all}
 use borrow.Author.Needs.{needs}

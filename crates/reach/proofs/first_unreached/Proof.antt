@@ -8,26 +8,26 @@ use Rattle.reach.proofs.first_unreached.Statement.{statement}
 use Rattle.reach.proofs.first_unreached.Tie as tie
 
 abbrev Inv-loop : tie.InvT-loop
-Inv-loop table first last n₀ n = firstFrom table n last ≡ firstFrom table first last
+Inv-loop table marks first last n₀ n = firstFrom table n last ≡ firstFrom table first last
 
 abbrev μ-loop : tie.MeasureT-loop
-μ-loop table first last n₀ n = last + 1 - n
+μ-loop table marks first last n₀ n = last + 1 - n
 
 -- the turn of the loop in which a node was asked for
-abbrev asked : tie.After-is-taken Inv-loop μ-loop → tie.In-loop Inv-loop μ-loop
+abbrev asked : tie.After-is-used Inv-loop μ-loop → tie.In-loop Inv-loop μ-loop
 asked c = c .before
 
 loop-holds : tie.Need-loop-holds Inv-loop μ-loop
 loop-holds c = search needs
 
-is-taken-requires : tie.Need-is-taken-requires Inv-loop μ-loop
-is-taken-requires c κs = search needs
+is-used-requires : tie.Need-is-used-requires Inv-loop μ-loop
+is-used-requires c κs = let p = c .before .before .before .before .pre in (p .0, (p .1 .0, (p .1 .1 .0, search needs)))
 
 returns : tie.Need-returns Inv-loop μ-loop
 returns c =
     let r = c .before in
     let e = asked r in
-    sym (first-here _ _ _ (e .loop-test .taken) (sym (r .is-taken .ensures) ∙ not-true _ (c .if1 .taken))) ∙ e .before .loop .inv
+    sym (first-here _ _ _ (e .loop-test .taken) (sym (r .is-used .ensures) ∙ not-true _ (c .if1 .taken))) ∙ e .before .loop .inv
 
 add-n : tie.Need-add-n Inv-loop μ-loop
 add-n c = search needs
@@ -39,7 +39,7 @@ loop-again : tie.Need-loop-again Inv-loop μ-loop
 loop-again c =
     let r = c .before in
     let e = asked r in
-    first-later _ _ _ (e .loop-test .taken) (sym (r .is-taken .ensures) ∙ not-false _ (c .if1 .left)) ∙ e .before .loop .inv
+    first-later _ _ _ (e .loop-test .taken) (sym (r .is-used .ensures) ∙ not-false _ (c .if1 .left)) ∙ e .before .loop .inv
 
 returns-2 : tie.Need-returns-2 Inv-loop μ-loop
 returns-2 c = sym (first-none _ _ _ (c .loop-test .left)) ∙ c .before .loop .inv
@@ -51,7 +51,7 @@ first-unreached-spec =
     Inv-loop
     μ-loop
     loop-holds
-    is-taken-requires
+    is-used-requires
     returns
     add-n
     loop-less

@@ -1,48 +1,51 @@
 -- `reach::fresh` meets its contract.
+use mathlib.Core.Path.{sym, _∙_}
 use native.Mathlib.Omega.{arith}
 use Rattle.reach.proofs.Members.{sound-words, sound-few}
-use Rattle.reach.proofs.Unreached.{fresh-after, fresh-round}
+use Rattle.reach.proofs.Unreached.{first-here, fresh-after}
 use borrow.Author.Needs.{needs}
 use Rattle.reach.proofs.fresh.Statement.{statement}
 use Rattle.reach.proofs.fresh.Tie as tie
 
--- from the first answer to the start
-abbrev entry : tie.After-first-unreached → tie.Start
-entry c = c .before .before .before
+shared-slice-read-if1 : tie.Need-shared-slice-read-if1
+shared-slice-read-if1 c = omega (arith, sound-words _ (c .before .before .pre .0))
 
-add-first-unreached : tie.Need-add-first-unreached
-add-first-unreached c = let s = c .before in omega (arith, sound-few _ (s .pre .0))
-
-shared-slice-read-first-unreached : tie.Need-shared-slice-read-first-unreached
-shared-slice-read-first-unreached c = let s = c .before .before in omega (arith, sound-words _ (s .pre .0))
-
-first-unreached-requires : tie.Need-first-unreached-requires
-first-unreached-requires c κs = let s = c .before .before in (s .pre .0, sound-few _ (s .pre .0))
+fresh-marked-requires : tie.Need-fresh-marked-requires
+fresh-marked-requires c κs = search needs
 
 returns : tie.Need-returns
-returns c =
-    let f = c .before in
-    fresh-after _ _ _ (entry f .pre .1 .0) (f .first-unreached .ensures) (c .if1 .taken)
+returns c = search needs
 
-sub-first-unreached : tie.Need-sub-first-unreached
-sub-first-unreached c = search needs
+add-is-taken : tie.Need-add-is-taken
+add-is-taken c = omega (arith, sound-few _ (c .before .before .before .pre .0))
 
-first-unreached-requires-2 : tie.Need-first-unreached-requires-2
-first-unreached-requires-2 c κs = let s = entry (c .before) in (s .pre .0, omega (arith, sound-few _ (s .pre .0)))
+is-taken-requires : tie.Need-is-taken-requires
+is-taken-requires c κs = search needs
+
+fresh-marked-requires-2 : tie.Need-fresh-marked-requires-2
+fresh-marked-requires-2 c κs = search needs
 
 returns-2 : tie.Need-returns-2
-returns-2 c =
-    let f = c .before .before in
-    fresh-round _ _ _ _ (entry f .pre .1 .0) (f .first-unreached .ensures) (c .before .if1 .left) (c .first-unreached2 .ensures)
+returns-2 c = search needs
+
+add-result : tie.Need-add-result
+add-result c = omega (arith, sound-few _ (c .before .before .before .before .before .pre .0))
+
+returns-3 : tie.Need-returns-3
+returns-3 c =
+    let s = c .before .before .before .before .before in
+    fresh-after _ (s .args .a) _ (s .pre .1 .0) (sym (first-here _ _ _ (omega arith) (sym (c .before .is-taken .ensures) ∙ c .if2 .left))) (λ z. omega arith)
 
 pub fresh-spec : {M : Type 1} → statement M
 fresh-spec =
     tie.close
     (tie.spec
-    add-first-unreached
-    shared-slice-read-first-unreached
-    first-unreached-requires
+    shared-slice-read-if1
+    fresh-marked-requires
     returns
-    sub-first-unreached
-    first-unreached-requires-2
-    returns-2)
+    add-is-taken
+    is-taken-requires
+    fresh-marked-requires-2
+    returns-2
+    add-result
+    returns-3)

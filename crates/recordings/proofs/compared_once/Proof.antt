@@ -1,66 +1,77 @@
--- `recordings::compared_once` meets its contract. The loop keeps whether no number is twice in the leaves left to pass.
+-- `recordings::compared_once` meets its contract. The loop keeps what the nodes from n on come to.
+use Rattle.recordings.proofs.RowLaws.{row-all, row-end, row-more, few-nodes, once-none, once-wrong, once-next}
+use Rattle.recordings.specs.Once.{onceBefore}
+use Rattle.recordings.specs.Marked.{own, ownFrom, markedPairs}
+use Rattle.model.specs.SoundTest.{distinct}
+use Rattle.model.specs.Slots.{Slot, recording, view}
+use Rattle.model.specs.Table.{nodes}
 use borrow.Author.Tests.{not-true, not-false}
-use Rattle.recordings.proofs.OnceLaws.{Left, left-all, left-no-leaf, left-no-more, left-twice, left-next}
+use native.Mathlib.Omega.{arith}
+use mathlib.Core.List.{List, map}
+use mathlib.Core.Bool.{Bool}
+use mathlib.Core.Path.{_≡_, ap, sym, _∙_}
+use Prim.Native.Nat.{ℕ, _+_, _-_}
 use borrow.Author.Needs.{needs}
 use Rattle.recordings.proofs.compared_once.Statement.{statement}
 use Rattle.recordings.proofs.compared_once.Tie as tie
 
 abbrev Inv-loop : tie.InvT-loop
-Inv-loop table root leaf₀ left₀ leaf left = Left table root leaf left
+Inv-loop table marks last n₀ n = distinct (map recording (ownFrom (view table) marks n (last + 1 - n))) ≡ distinct (map recording (markedPairs (view table) marks))
 
 abbrev μ-loop : tie.MeasureT-loop
-μ-loop table root leaf₀ left₀ leaf left = left
+μ-loop table marks last n₀ n = last + 1 - n
 
--- the places: the whole table, and a leaf's turn in the loop
-abbrev table : tie.After-word-at Inv-loop μ-loop → tie.Start Inv-loop μ-loop
-table c = c .before .before .before
+-- whether the numbers of slots are different
+abbrev comes : List Slot → Bool
+comes ss = distinct (map recording ss)
 
-abbrev turn : tie.After-leaf-once Inv-loop μ-loop → tie.After-ways-of Inv-loop μ-loop
-turn c = c .before .before
+-- the pairs of the node in its turn, and of those after it, of which so many nodes are left
+abbrev here : tie.At-loop Inv-loop μ-loop → List Slot
+here c = let a = c .before .before .before .before .args in own (view (a .table .now)) (a .marks .now) (c .loop .n)
 
-first-leaf-requires : tie.Need-first-leaf-requires Inv-loop μ-loop
-first-leaf-requires c κs = search needs
+abbrev later : tie.At-loop Inv-loop μ-loop → ℕ → List Slot
+later c last = let a = c .before .before .before .before .args in ownFrom (view (a .table .now)) (a .marks .now) (c .loop .n + 1) (last + 1 - (c .loop .n + 1))
+
+-- what was compared
+compared : (c : tie.After-leaf-once Inv-loop μ-loop) → let l = c .before .before .before in c .leaf-once .result ≡ onceBefore (map recording (here l)) (map recording (later l (l .before .word-at .result)))
+compared c =
+    let l = c .before .before .before in
+    c .leaf-once .ensures ∙ ap (λ (ss : List Slot). onceBefore (map recording ss) (map recording (later l (nodes (l .before .before .before .before .args .table .now))))) (c .before .ways .ensures .0)
+    ∙ ap (λ (k : ℕ). onceBefore (map recording (here l)) (map recording (later l k))) (sym (l .before .word-at .ensures))
 
 word-at-requires : tie.Need-word-at-requires Inv-loop μ-loop
 word-at-requires c κs = search needs
 
 loop-holds : tie.Need-loop-holds Inv-loop μ-loop
-loop-holds c = left-all (table c .args .table .now) (table c .args .root) _ _ (c .before .first-leaf .ensures) (c .word-at .ensures)
+loop-holds c = row-all comes _ _ _ (c .word-at .ensures)
 
-returns : tie.Need-returns Inv-loop μ-loop
-returns c = left-no-more (c .before .before .loop .inv) (c .if1 .taken)
+ways-requires : tie.Need-ways-requires Inv-loop μ-loop
+ways-requires c κs = let s = c .before .before .before .before .before in (s .pre .1, few-nodes _ _ _ (s .pre .0) (c .before .before .word-at .ensures) (c .loop-test .taken))
 
-ways-of-requires : tie.Need-ways-of-requires Inv-loop μ-loop
-ways-of-requires c κs = search needs
-
-word-requires : tie.Need-word-requires Inv-loop μ-loop
-word-requires c κs = search needs
-
-sub-left : tie.Need-sub-left Inv-loop μ-loop
-sub-left c = search needs
+add-leaf-once : tie.Need-add-leaf-once Inv-loop μ-loop
+add-leaf-once c = let s = c .before .before .before .before .before .before in omega (arith, few-nodes _ _ _ (s .pre .0) (c .before .before .before .word-at .ensures) (c .before .loop-test .taken))
 
 leaf-once-requires : tie.Need-leaf-once-requires Inv-loop μ-loop
-leaf-once-requires c κs = c .before .ways-of .ensures .1
+leaf-once-requires c κs = let s = c .before .before .before .before .before .before in (s .pre .0, (s .pre .1, c .ways .ensures .1))
 
-returns-2 : tie.Need-returns-2 Inv-loop μ-loop
-returns-2 c =
-    let w = turn (c .before) in
-    let more = w .before in
-    left-twice (more .before .before .loop .inv) _ _ (w .ways-of .ensures .0) (c .before .before .word .ensures) (more .before .loop-test .taken) (more .if1 .left)
-    _ (not-true _ (c .if2 .taken)) (c .before .leaf-once .ensures)
+returns : tie.Need-returns Inv-loop μ-loop
+returns c =
+    let l = c .before .before .before .before in
+    row-more comes _ _ (l .loop .n) _ (l .loop .inv) (c .before .before .before .loop-test .taken) (once-wrong (here l) (later l (l .before .word-at .result)) _ (compared (c .before)) (not-true _ (c .if1 .taken)))
+
+add-n : tie.Need-add-n Inv-loop μ-loop
+add-n c = let s = c .before .before .before .before .before .before .before .before in omega (arith, few-nodes _ _ _ (s .pre .0) (c .before .before .before .before .before .word-at .ensures) (c .before .before .before .loop-test .taken))
 
 loop-less : tie.Need-loop-less Inv-loop μ-loop
 loop-less c = search needs
 
 loop-again : tie.Need-loop-again Inv-loop μ-loop
 loop-again c =
-    let w = turn (c .before) in
-    let more = w .before in
-    left-next (more .before .before .loop .inv) _ _ (w .ways-of .ensures .0) (c .before .before .word .ensures) (more .before .loop-test .taken) (more .if1 .left)
-    _ (not-false _ (c .if2 .left)) (c .before .leaf-once .ensures)
+    let l = c .before .before .before .before in
+    row-more comes _ _ (l .loop .n) _ (l .loop .inv) (c .before .before .before .loop-test .taken) (once-next (here l) (later l (l .before .word-at .result)) _ (compared (c .before)) (not-false _ (c .if1 .left)))
 
-returns-3 : tie.Need-returns-3 Inv-loop μ-loop
-returns-3 c = left-no-leaf (c .before .loop .inv) (c .loop-test .left)
+returns-2 : tie.Need-returns-2 Inv-loop μ-loop
+returns-2 c = let l = c .before in once-none ∙ row-end comes _ _ (l .loop .n) _ (l .loop .inv) (c .loop-test .left)
 
 pub compared-once-spec : {M : Type 1} → statement M
 compared-once-spec =
@@ -68,15 +79,13 @@ compared-once-spec =
     (tie.spec
     Inv-loop
     μ-loop
-    first-leaf-requires
     word-at-requires
     loop-holds
-    returns
-    ways-of-requires
-    word-requires
-    sub-left
+    ways-requires
+    add-leaf-once
     leaf-once-requires
-    returns-2
+    returns
+    add-n
     loop-less
     loop-again
-    returns-3)
+    returns-2)

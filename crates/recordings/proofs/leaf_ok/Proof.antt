@@ -1,43 +1,71 @@
--- `recordings::leaf_ok` meets its contract. The loop keeps what the pointers from i on come to.
-use Prim.Native.Nat.{_-_}
-use mathlib.Core.Path.{_≡_, refl, _∙_}
-use borrow.Author.Tests.{not-true, not-false}
+-- `recordings::leaf_ok` meets its contract. The loop keeps that the slots from i on answer as all of them do.
+use Rattle.recordings.proofs.LeafLaws.{ok-none, ok-wrong, ok-next}
 use Rattle.model.specs.SoundTest.{all, pairOk}
-use Rattle.slots.specs.Gathered.{waysFrom}
-use Rattle.recordings.proofs.RangeLaws.{Looking, look-end, look-wrong, look-next, keyless, same-pointers}
+use mathlib.Core.Bool.{_&&_}
+use Rattle.slots.proofs.Scans.{scan-past, scan-stop, scan-more}
+use Rattle.slots.specs.Scan.{shownFrom, keptOf}
+use Rattle.model.specs.Slots.{Slot, recording, shown}
+use borrow.Author.Tests.{not-true, not-false}
+use lib.ListN.{length}
+use native.Mathlib.Omega.{arith}
+use mathlib.Core.List.{List, map}
+use mathlib.Core.Bool.{Bool}
+use mathlib.Core.Path.{_≡_, sym, ap, _∙_}
+use Prim.Native.Nat.{ℕ, _-_, _≤_}
 use borrow.Author.Needs.{needs}
 use Rattle.recordings.proofs.leaf_ok.Statement.{statement}
 use Rattle.recordings.proofs.leaf_ok.Tie as tie
 
 abbrev Inv-loop : tie.InvT-loop
-Inv-loop count pointers i₀ i = Looking (keyless pointers count) (all pairOk (waysFrom (keyless pointers count) 1)) i
+Inv-loop x bound slots before₀ i₀ before i =
+    (i ≤ 12) × (length slots ≡ 24) × (all pairOk (keptOf (x .sibling) bound (shownFrom before slots i)) ≡ all pairOk (keptOf (x .sibling) bound (shownFrom (x .left) slots 0)))
 
 abbrev μ-loop : tie.MeasureT-loop
-μ-loop count pointers i₀ i = count - i
+μ-loop x bound slots before₀ i₀ before i = 12 - i
 
--- the places: a pointer's turn in the loop, and the whole leaf
-abbrev start : tie.At-loop Inv-loop μ-loop → tie.Start Inv-loop μ-loop
-start c = c .before .before
-
-whole : (c : tie.At-loop Inv-loop μ-loop) → let w = start c .args .w in all pairOk (waysFrom (keyless (w .pointers) (w .count)) 1) ≡ all pairOk (waysFrom w 1)
-whole c = same-pointers (start c .args .w) 1
+-- what slots come to, where this pointer is before them
+abbrev comes : tie.At-loop Inv-loop μ-loop → List Slot → Bool
+comes c ss = let a = c .before .before .args in all pairOk (keptOf (a .x .sibling) (a .bound) (shown (c .loop .before) ss))
 
 loop-holds : tie.Need-loop-holds Inv-loop μ-loop
-loop-holds c = record { few = c .before .pre; comes-to = refl }
+loop-holds c = search needs
 
-mul-ok : tie.Need-mul-ok Inv-loop μ-loop
-mul-ok c = search needs
+mul-p : tie.Need-mul-p Inv-loop μ-loop
+mul-p c = search needs
 
-array-read-ok : tie.Need-array-read-ok Inv-loop μ-loop
-array-read-ok c = search needs
+add-p : tie.Need-add-p Inv-loop μ-loop
+add-p c = search needs
 
-ok-requires : tie.Need-ok-requires Inv-loop μ-loop
-ok-requires c κs = search needs
+mul-p-2 : tie.Need-mul-p-2 Inv-loop μ-loop
+mul-p-2 c = search needs
+
+array-read-p : tie.Need-array-read-p Inv-loop μ-loop
+array-read-p c = search needs
 
 returns : tie.Need-returns Inv-loop μ-loop
-returns c =
-    let o = c .before in
-    look-wrong (o .before .before .loop .inv) (o .before .loop-test .taken) _ (o .ok .ensures) (not-true _ (c .if1 .taken)) ∙ whole (o .before .before)
+returns c = let l = c .before .before in ok-none _ _ (l .loop .before) ∙ scan-stop (comes l) _ (l .loop .i) (l .loop .inv .2) (omega arith) (c .if1 .taken)
+
+mul-is-way : tie.Need-mul-is-way Inv-loop μ-loop
+mul-is-way c = search needs
+
+mul-is-way-2 : tie.Need-mul-is-way-2 Inv-loop μ-loop
+mul-is-way-2 c = search needs
+
+array-read-is-way : tie.Need-array-read-is-way Inv-loop μ-loop
+array-read-is-way c = search needs
+
+is-way-requires : tie.Need-is-way-requires Inv-loop μ-loop
+is-way-requires c κs = search needs
+
+slot-ok-requires : tie.Need-slot-ok-requires Inv-loop μ-loop
+slot-ok-requires c κs = search needs
+
+returns-2 : tie.Need-returns-2 Inv-loop μ-loop
+returns-2 c =
+    let l = c .before .before .before .before .before in
+    let e = c .before .before .before in
+    scan-more (comes l) _ (l .loop .i) (l .loop .inv .2) (omega arith) (e .if1 .left)
+    (ok-wrong _ _ _ _ _ _ _ (c .before .before .is-way .ensures) _ (c .before .slot-ok .ensures) (not-true _ (c .if2 .taken)))
 
 add-i : tie.Need-add-i Inv-loop μ-loop
 add-i c = search needs
@@ -47,11 +75,16 @@ loop-less c = search needs
 
 loop-again : tie.Need-loop-again Inv-loop μ-loop
 loop-again c =
-    let o = c .before in
-    look-next (o .before .before .loop .inv) (o .before .loop-test .taken) _ (o .ok .ensures) (not-false _ (c .if1 .left))
+    let l = c .before .before .before .before .before in
+    let e = c .before .before .before in (
+      omega arith,
+      l .loop .inv .1,
+      scan-more (comes l) _ (l .loop .i) (l .loop .inv .2) (omega arith) (e .if1 .left)
+          (ok-next _ _ _ _ _ _ _ (c .before .before .is-way .ensures) _ (c .before .slot-ok .ensures) (not-false _ (c .if2 .left))),
+    )
 
-returns-2 : tie.Need-returns-2 Inv-loop μ-loop
-returns-2 c = look-end (c .before .loop .inv) (c .loop-test .left) ∙ whole (c .before)
+returns-3 : tie.Need-returns-3 Inv-loop μ-loop
+returns-3 c = let l = c .before in ok-none _ _ (l .loop .before) ∙ scan-past (comes l) _ (l .loop .i) (l .loop .inv .2) (omega arith)
 
 pub leaf-ok-spec : {M : Type 1} → statement M
 leaf-ok-spec =
@@ -60,11 +93,18 @@ leaf-ok-spec =
     Inv-loop
     μ-loop
     loop-holds
-    mul-ok
-    array-read-ok
-    ok-requires
+    mul-p
+    add-p
+    mul-p-2
+    array-read-p
     returns
+    mul-is-way
+    mul-is-way-2
+    array-read-is-way
+    is-way-requires
+    slot-ok-requires
+    returns-2
     add-i
     loop-less
     loop-again
-    returns-2)
+    returns-3)

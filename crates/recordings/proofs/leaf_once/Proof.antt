@@ -1,24 +1,27 @@
 -- `recordings::leaf_once` meets its contract. The loop keeps whether a number from i on comes again.
-use Prim.Native.Nat.{_-_}
+use Prim.Native.Nat.{_+_, _-_}
 use mathlib.Core.Path.{refl}
 use native.Mathlib.Omega.{arith}
 use Rattle.model.specs.Slots.{view}
 use Rattle.leaves.specs.Hits.{recordingsFrom}
-use Rattle.recordings.specs.Once.{numbersAlong, onceBefore}
+use Rattle.model.specs.Table.{nodes}
+use Rattle.recordings.specs.Marked.{ownNumbers}
+use Rattle.recordings.specs.Once.{onceBefore}
 use Rattle.recordings.proofs.OnceLaws.{Comparing, once-end, once-repeats, once-appears, once-next}
 use borrow.Author.Needs.{needs}
 use Rattle.recordings.proofs.leaf_once.Statement.{statement}
 use Rattle.recordings.proofs.leaf_once.Tie as tie
 
 abbrev Inv-loop : tie.InvT-loop
-Inv-loop table w next most count pointers i₀ i =
-    Comparing w (numbersAlong (view table) most next) (onceBefore (recordingsFrom w 1) (numbersAlong (view table) most next)) i
+Inv-loop table marks w next count pointers i₀ i =
+    let later = ownNumbers (view table) marks next (nodes table + 1 - next) in
+    Comparing w later (onceBefore (recordingsFrom w 1) later) i
 
 abbrev μ-loop : tie.MeasureT-loop
-μ-loop table w next most count pointers i₀ i = count - i
+μ-loop table marks w next count pointers i₀ i = count - i
 
 loop-holds : tie.Need-loop-holds Inv-loop μ-loop
-loop-holds c = record { few = c .before .before .pre; after-left = omega arith; comes-to = refl }
+loop-holds c = record { few = c .before .before .before .pre .1 .1; after-left = omega arith; comes-to = refl }
 
 -- where i is compared with the later ways, and with the later leaves
 abbrev turn : tie.After-appears Inv-loop μ-loop → tie.After-repeats Inv-loop μ-loop

@@ -1,6 +1,6 @@
 -- `recordings::ok` meets its contract.
+use Rattle.recordings.proofs.RowLaws.{right-no, right-yes}
 use borrow.Author.Tests.{not-true, not-false}
-use Rattle.recordings.proofs.RangeLaws.{right-no, right-yes}
 use borrow.Author.Needs.{needs}
 use Rattle.recordings.proofs.ok.Statement.{statement}
 use Rattle.recordings.proofs.ok.Tie as tie

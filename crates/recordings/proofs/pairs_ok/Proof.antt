@@ -1,59 +1,63 @@
--- `recordings::pairs_ok` meets its contract. The loop keeps what the leaves left to pass come to.
+-- `recordings::pairs_ok` meets its contract. The loop keeps what the nodes from n on come to.
+use Rattle.recordings.proofs.RowLaws.{row-marked, row-end, row-more, few-marked, pairs-none, pairs-wrong, pairs-next}
+use Rattle.model.specs.SoundTest.{all, pairOk}
 use borrow.Author.Tests.{not-true, not-false}
-use Rattle.recordings.proofs.RangeLaws.{LeavesLeft, leaves-start, leaves-no-leaf, leaves-no-more, leaves-wrong, leaves-next}
+use Rattle.recordings.proofs.LeafLaws.{leaf-kept}
+use Rattle.recordings.specs.Marked.{own, ownFrom, markedPairs}
+use Rattle.model.specs.Slots.{Slot, recording, view}
+use native.Mathlib.Omega.{arith}
+use mathlib.Core.List.{List, map}
+use mathlib.Core.Path.{_≡_, sym, ap, _∙_}
+use Prim.Native.Nat.{ℕ, _+_, _-_}
 use borrow.Author.Needs.{needs}
 use Rattle.recordings.proofs.pairs_ok.Statement.{statement}
 use Rattle.recordings.proofs.pairs_ok.Tie as tie
 
 abbrev Inv-loop : tie.InvT-loop
-Inv-loop table root leaf₀ left₀ leaf left = LeavesLeft table root leaf left
+Inv-loop table marks last n₀ n = all pairOk (ownFrom (view table) marks n (last + 1 - n)) ≡ all pairOk (markedPairs (view table) marks)
 
 abbrev μ-loop : tie.MeasureT-loop
-μ-loop table root leaf₀ left₀ leaf left = left
+μ-loop table marks last n₀ n = last + 1 - n
 
-first-leaf-requires : tie.Need-first-leaf-requires Inv-loop μ-loop
-first-leaf-requires c κs = search needs
-
-word-at-requires : tie.Need-word-at-requires Inv-loop μ-loop
-word-at-requires c κs = search needs
+last-marked-requires : tie.Need-last-marked-requires Inv-loop μ-loop
+last-marked-requires c κs = search needs
 
 loop-holds : tie.Need-loop-holds Inv-loop μ-loop
-loop-holds c = leaves-start _ _ _ _ (c .before .first-leaf .ensures) (c .word-at .ensures)
+loop-holds c = row-marked (all pairOk) _ _ _ (c .last-marked .ensures)
 
-returns : tie.Need-returns Inv-loop μ-loop
-returns c = leaves-no-more (c .before .before .loop .inv) (c .if1 .taken)
-
-ways-of-requires : tie.Need-ways-of-requires Inv-loop μ-loop
-ways-of-requires c κs = search needs
-
-leaf-ok-requires : tie.Need-leaf-ok-requires Inv-loop μ-loop
-leaf-ok-requires c κs = c .ways-of .ensures .1
-
-returns-2 : tie.Need-returns-2 Inv-loop μ-loop
-returns-2 c =
-    let o = c .before in
-    let w = o .before in
-    let more = w .before in
-    leaves-wrong (more .before .before .loop .inv) _ (w .ways-of .ensures .0) (more .before .loop-test .taken) (more .if1 .left) _ (o .leaf-ok .ensures) (not-true _ (c .if2 .taken))
+leaf-requires : tie.Need-leaf-requires Inv-loop μ-loop
+leaf-requires c κs = let s = c .before .before .before .before .before in (s .pre .1, few-marked _ _ _ _ (s .pre .0) (c .before .before .last-marked .ensures) (c .loop-test .taken))
 
 word-requires : tie.Need-word-requires Inv-loop μ-loop
 word-requires c κs = search needs
 
-sub-left : tie.Need-sub-left Inv-loop μ-loop
-sub-left c = search needs
+leaf-ok-requires : tie.Need-leaf-ok-requires Inv-loop μ-loop
+leaf-ok-requires c κs = search needs
+
+returns : tie.Need-returns Inv-loop μ-loop
+returns c =
+    let l = c .before .before .before .before .before in
+    let x = c .before .before .before .leaf in
+    row-more (all pairOk) _ _ (l .loop .n) _ (l .loop .inv) (c .before .before .before .before .loop-test .taken)
+    (pairs-wrong _ _ _ (c .before .leaf-ok .ensures ∙ ap (all pairOk) (leaf-kept _ _ _ (x .result) _ (x .ensures) (c .before .before .word .ensures))) (not-true _ (c .if1 .taken)))
+
+add-n : tie.Need-add-n Inv-loop μ-loop
+add-n c =
+    let l = c .before .before .before .before .before .before in
+    omega (arith, few-marked _ _ _ _ (l .before .before .before .pre .0) (l .last-marked .ensures) (c .before .before .before .before .loop-test .taken))
 
 loop-less : tie.Need-loop-less Inv-loop μ-loop
 loop-less c = search needs
 
 loop-again : tie.Need-loop-again Inv-loop μ-loop
 loop-again c =
-    let o = c .before .before in
-    let w = o .before in
-    let more = w .before in
-    leaves-next (more .before .before .loop .inv) _ (w .ways-of .ensures .0) (more .before .loop-test .taken) (more .if1 .left) _ (o .leaf-ok .ensures) (not-false _ (c .before .if2 .left)) _ (c .word .ensures)
+    let l = c .before .before .before .before .before in
+    let x = c .before .before .before .leaf in
+    row-more (all pairOk) _ _ (l .loop .n) _ (l .loop .inv) (c .before .before .before .before .loop-test .taken)
+    (pairs-next _ _ _ (c .before .leaf-ok .ensures ∙ ap (all pairOk) (leaf-kept _ _ _ (x .result) _ (x .ensures) (c .before .before .word .ensures))) (not-false _ (c .if1 .left)))
 
-returns-3 : tie.Need-returns-3 Inv-loop μ-loop
-returns-3 c = leaves-no-leaf (c .before .loop .inv) (c .loop-test .left)
+returns-2 : tie.Need-returns-2 Inv-loop μ-loop
+returns-2 c = let l = c .before in pairs-none ∙ row-end (all pairOk) _ _ (l .loop .n) _ (l .loop .inv) (c .loop-test .left)
 
 pub pairs-ok-spec : {M : Type 1} → statement M
 pairs-ok-spec =
@@ -61,15 +65,13 @@ pairs-ok-spec =
     (tie.spec
     Inv-loop
     μ-loop
-    first-leaf-requires
-    word-at-requires
+    last-marked-requires
     loop-holds
-    returns
-    ways-of-requires
-    leaf-ok-requires
-    returns-2
+    leaf-requires
     word-requires
-    sub-left
+    leaf-ok-requires
+    returns
+    add-n
     loop-less
     loop-again
-    returns-3)
+    returns-2)

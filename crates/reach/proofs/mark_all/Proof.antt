@@ -1,0 +1,47 @@
+-- `reach::mark_all` meets its contract.
+use mathlib.Core.Path.{_∙_}
+use native.Mathlib.Omega.{arith}
+use Rattle.reach.proofs.Members.{sound-words}
+use borrow.Author.Needs.{needs}
+use Rattle.reach.proofs.mark_all.Statement.{statement}
+use Rattle.reach.proofs.mark_all.Tie as tie
+
+shared-slice-read-first-parent : tie.Need-shared-slice-read-first-parent
+shared-slice-read-first-parent c = omega (arith, sound-words _ (c .before .before .before .pre .0))
+
+first-parent-requires : tie.Need-first-parent-requires
+first-parent-requires c κs = search needs
+
+shared-slice-read-first-parent-2 : tie.Need-shared-slice-read-first-parent-2
+shared-slice-read-first-parent-2 c = omega (arith, sound-words _ (c .before .before .before .before .before .pre .0))
+
+first-parent-requires-2 : tie.Need-first-parent-requires-2
+first-parent-requires-2 c κs = search needs
+
+mark-along-requires : tie.Need-mark-along-requires
+mark-along-requires c κs = search needs
+
+mark-along-requires-2 : tie.Need-mark-along-requires-2
+mark-along-requires-2 c κs =
+    let m = c .before .before .before in
+    let s = m .before .before .before .before .before .before .before .before in
+    (s .pre .0, (m .mark-along .kept .1 .0 ∙ s .pre .1 .0, m .mark-along .ensures))
+
+same-length : tie.Need-same-length
+same-length c = search needs
+
+returns : tie.Need-returns
+returns c = search needs
+
+pub mark-all-spec : {M : Type 1} → statement M
+mark-all-spec =
+    tie.close
+    (tie.spec
+    shared-slice-read-first-parent
+    first-parent-requires
+    shared-slice-read-first-parent-2
+    first-parent-requires-2
+    mark-along-requires
+    mark-along-requires-2
+    same-length
+    returns)

@@ -1,0 +1,44 @@
+-- `recordings::leaf` meets its contract.
+use Rattle.recordings.proofs.LeafLaws.{leaf-unmarked, leaf-inner, leaf-read}
+use mathlib.Core.Path.{sym, _∙_}
+use borrow.Author.Tests.{not-true, not-false}
+use borrow.Author.Needs.{needs}
+use Rattle.recordings.proofs.leaf.Statement.{statement}
+use Rattle.recordings.proofs.leaf.Tie as tie
+
+has-requires : tie.Need-has-requires
+has-requires c κs = search needs
+
+read-requires : tie.Need-read-requires
+read-requires c κs = search needs
+
+returns : tie.Need-returns
+returns c = leaf-unmarked _ _ _ _ (c .read .ensures) (sym (c .before .before .has .ensures) ∙ not-true _ (c .before .if1 .taken))
+
+word-requires : tie.Need-word-requires
+word-requires c κs = search needs
+
+read-requires-2 : tie.Need-read-requires-2
+read-requires-2 c κs = search needs
+
+returns-2 : tie.Need-returns-2
+returns-2 c = leaf-inner _ _ _ _ (c .read2 .ensures) (sym (c .before .before .before .before .has .ensures) ∙ not-false _ (c .before .before .before .if1 .left)) _ (c .before .before .word .ensures) (c .before .if2 .taken)
+
+read-requires-3 : tie.Need-read-requires-3
+read-requires-3 c κs = search needs
+
+returns-3 : tie.Need-returns-3
+returns-3 c = leaf-read _ _ _ _ (c .read3 .ensures) (sym (c .before .before .before .before .has .ensures) ∙ not-false _ (c .before .before .before .if1 .left)) _ (c .before .before .word .ensures) (c .before .if2 .left)
+
+pub leaf-spec : {M : Type 1} → statement M
+leaf-spec =
+    tie.close
+    (tie.spec
+    has-requires
+    read-requires
+    returns
+    word-requires
+    read-requires-2
+    returns-2
+    read-requires-3
+    returns-3)
