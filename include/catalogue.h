@@ -8,7 +8,7 @@
  * Words must keep still while a call reads them: a search of words that another thread or process is changing may pair a code with its
  * neighbour's recording. Copy the nodes that it passes, and compare them once more, as host/looks.c does; a search of such a copy answers
  * as before the change or as after it.
- * No call asks for memory. Listing, the writing calls and the wear figures need 300 KB of stack, a salvage 450 KB, the others 2 KB.
+ * No call asks for memory. Listing, the writing calls, packing and the wear figures need 300 KB of stack, a salvage 450 KB, the others 2 KB.
  *
  * A table has one collection or two, as it was made: the archive's own, 1, and the loan collection, 2. Each is a tree of its own codes, and
  * the calls that read or change one name it; a repair names none. The two share the nodes: a node belongs to one tree or is free for
@@ -72,7 +72,7 @@ extern "C" {
  * The version of these declarations. It is raised by each change of a name, a parameter or the meaning of a word, so a program that was
  * compiled with one header and linked with another library sees it: catalogue_version() is the library's.
  */
-#define CATALOGUE_VERSION 11
+#define CATALOGUE_VERSION 12
 
 #define CATALOGUE_MARK UINT64_MAX
 #define CATALOGUE_BARRIER (UINT64_MAX - 1)
@@ -113,7 +113,7 @@ enum {
     CATALOGUE_KEY_PRESENT = 7,      /* code already in the collection */
     CATALOGUE_RECORDING_PRESENT = 8, /* recording in the collection under another code */
     CATALOGUE_KEY_ABSENT = 9,       /* deletion or class change: code not in the collection */
-    CATALOGUE_NO_NODES = 10,        /* fewer nodes that no root leads to than the splits need; salvage: the packing needs more than N */
+    CATALOGUE_NO_NODES = 10,        /* fewer nodes that no root leads to than the splits need; salvage, packing: the packing needs more than N */
     CATALOGUE_TOO_HIGH = 11,        /* the collection's root at level 15 would have to split */
     CATALOGUE_BAD_ORDERS = 13,      /* carry-out, judging, wear: more orders than the list has, or one outside the table; a barrier lies in each */
     CATALOGUE_BAD_CLASS = 14,       /* class above 2; comes straight after 6 */
@@ -127,6 +127,7 @@ enum {
     CATALOGUE_NO_SCRIPT = 22,       /* script: number above 1,554 */
     CATALOGUE_BAD_SCRIPT = 23,      /* a script's number: actions that form no such script */
     CATALOGUE_SHORT_FIGURES = 24,   /* wear: a lent slice too short for the lines or for the pairs needed */
+    CATALOGUE_BAD_PAIRS = 25,       /* packing: keys that do not rise, a recording or class out of range, or a recording there twice */
     CATALOGUE_NO = 254,             /* judging: no */
     CATALOGUE_ABSENT = 255          /* search: the key is absent */
 };
@@ -145,6 +146,19 @@ uint64_t catalogue_print(uint64_t key, uint8_t *text);
  * leaves. 0; 2 for the length, or for two collections with N = 1; 17 where collections is not 1 or 2.
  */
 uint64_t catalogue_make(uint64_t *table, size_t words, uint64_t collections);
+
+/*
+ * A table filled from pairs (key, whole pointer), as catalogue_list gives them, packed as catalogue_salvage packs: 11 to a leaf, 12 children to
+ * an inner node, collection 1's nodes first, the others free. pairs are those of collection 1, loans those of collection 2; for one
+ * collection loans is not looked at. Half a pair at the end of a slice is none. The whole table is written, whatever stood there; it is
+ * settled, and its maps are exactly these pairs. It is no change with an order list: fill a table that is not in use yet, and store it whole.
+ * 0; 2 and 17 as in catalogue_make; 10 where the packing of both needs more than N nodes; 25 where the keys of a slice do not rise strictly,
+ * a recording is 0, a class above 2, or a recording is in one slice twice. A refusal writes nothing.
+ * It looks at the pairs a few times, and once more for every 6,000 to 12,000 of them; where recordings are chosen so that their numbers
+ * crowd, it takes longer by the square of the pairs.
+ */
+uint64_t catalogue_pack(uint64_t *table, size_t words, uint64_t collections, const uint64_t *pairs, size_t pair_words, const uint64_t *loans,
+                        size_t loan_words);
 
 /*
  * 0, *recording and its class *access where the key is found; in a table that is not sound they are what stands there, classes up to 255.

@@ -110,6 +110,21 @@ pub fn make(t: &[u64], collections: u64) -> (u64, Vec<u64>) {
     (n, table.back().to_vec())
 }
 
+/// The number, and the table after it.
+pub fn pack(t: &[u64], collections: u64, pairs: &[u64], loans: &[u64]) -> (u64, Vec<u64>) {
+    let [mut table, mut first, mut second] = [t, pairs, loans].map(Lent::new);
+    let n = unsafe { catalogue_pack(table.pointer(), t.len(), collections, first.pointer(), pairs.len(), second.pointer(), loans.len()) };
+    assert!(first.back() == pairs && second.back() == loans, "packing wrote to the pairs");
+    (n, table.back().to_vec())
+}
+
+/// The number, without guards and without a copy, and how long the call alone takes.
+pub fn pack_takes(t: &mut [u64], collections: u64, pairs: &[u64], loans: &[u64]) -> (u64, std::time::Duration) {
+    let started = std::time::Instant::now();
+    let n = unsafe { catalogue_pack(t.as_mut_ptr(), t.len(), collections, pairs.as_ptr(), pairs.len(), loans.as_ptr(), loans.len()) };
+    (n, started.elapsed())
+}
+
 pub fn parse(text: &[u8]) -> (u64, Option<u64>) {
     let mut key = Word::new();
     let n = unsafe { catalogue_parse(text.as_ptr(), text.len(), key.pointer()) };

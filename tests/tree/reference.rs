@@ -141,6 +141,58 @@ pub fn making(len: usize, collections: u64) -> Result<Vec<u64>, u64> {
     }
 }
 
+/// One node of a packed table, on its level: the lowest key below it, and its left and slots.
+struct Made {
+    lowest: u64,
+    left: u64,
+    slots: Vec<(u64, u64)>,
+}
+
+/// Pairs packed 11 to a leaf and 12 children to an inner node, from the left, as rows from the leaves up, with nodes numbered upward from the
+/// first number; without pairs one empty leaf.
+fn packed_rows(first: u64, pairs: &Map) -> Vec<Vec<Made>> {
+    let pairs: Vec<(u64, u64)> = pairs.iter().map(|(&k, &p)| (k, p)).collect();
+    let mut row: Vec<Made> = pairs.chunks(11).map(|c| Made { lowest: c[0].0, left: MARK, slots: c.to_vec() }).collect();
+    if row.is_empty() {
+        row.push(Made { lowest: 0, left: MARK, slots: vec![] });
+    }
+    let mut rows: Vec<Vec<Made>> = Vec::new();
+    let mut first = first;
+    while row.len() > 1 {
+        let children: Vec<(u64, u64)> = row.iter().zip(first..).map(|(m, number)| (m.lowest, number)).collect();
+        first += row.len() as u64;
+        rows.push(row);
+        row = children.chunks(12).map(|c| Made { lowest: c[0].0, left: c[0].1, slots: c[1..].to_vec() }).collect();
+    }
+    rows.push(row);
+    rows
+}
+
+/// A table of n nodes with these maps packed, collection 1 first; none where that takes more than n nodes.
+pub fn packed(n: u64, maps: &[Map]) -> Option<Vec<u64>> {
+    let mut t = make(n, 0);
+    let mut number = 1;
+    for (map, c) in maps.iter().zip(1..) {
+        let rows = packed_rows(number, map);
+        if number - 1 + rows.iter().map(|row| row.len() as u64).sum::<u64>() > n {
+            return None;
+        }
+        for (level, row) in rows.iter().enumerate() {
+            for (i, m) in row.iter().enumerate() {
+                let sibling = if i + 1 < row.len() { number + 1 } else { 0 };
+                let fence = if i == 0 { 0 } else { m.lowest };
+                t[start(number)..start(number) + 4].copy_from_slice(&[m.left, sibling, level as u64, fence]);
+                for (s, &(k, p)) in m.slots.iter().enumerate() {
+                    t[start(number) + 8 + 2 * s..][..2].copy_from_slice(&[k, p]);
+                }
+                number += 1;
+            }
+        }
+        t[root_word(c)] = number - 1;
+    }
+    Some(t)
+}
+
 pub fn node(t: &[u64], i: u64) -> Node {
     let w = &t[start(i)..start(i) + 32];
     let mut slots = [Slot { key: 0, pointer: 0 }; 12];

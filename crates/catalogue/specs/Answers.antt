@@ -21,7 +21,7 @@ use Rattle.model.specs.Wear.{wornNumber, totalOr, largestOr, firstLineOr, pairs
 
 -- the version of the calls' shapes: raised by each change of a name, a parameter or what a word means
 abbrev pub version : ℕ
-version = 11
+version = 12
 
 -- a search of C's: 0 for found, 255 for absent
 abbrev pub searchNumber : Answer → ℕ

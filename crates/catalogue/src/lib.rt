@@ -25,13 +25,14 @@ ghost use lib.ListN.{length};
 ghost use Rattle.model.specs.Listing.{list, listOut};
 ghost use mathlib.Core.Bool.{cond};
 ghost use Rattle.model.specs.Wear.{worn, linesAfter, pairsAfter};
+ghost use Rattle.model.specs.Pack.{packing, packOut};
 
 // The version of the calls' shapes; the header's CATALOGUE_VERSION is the same.
 #[no_mangle]
 pub extern "C" fn catalogue_version() -> u64
     ensures { λ r. ⌜ r ≡ version ⌝ }
 {
-    11
+    12
 }
 
 // 0 and the code's key, or 1.
@@ -78,6 +79,20 @@ pub extern "C" fn catalogue_make(table: &mut [u64], collections: u64) -> u64
     ensures { λ r. ⌜ now (table .exit) ≡ made collections (now (table .entry)) ⌝ }
 {
     number_of(node::make(table, collections))
+}
+
+// 0, or 2, 17, 10 or 25.
+#[no_mangle]
+pub extern "C" fn catalogue_pack(
+    table: &mut [u64],
+    collections: u64,
+    pairs: &[u64],
+    loans: &[u64],
+) -> u64
+    ensures { λ r. ⌜ r ≡ outcomeNumber (packing collections (now (pairs .entry)) (now (loans .entry)) (now (table .entry))) ⌝ }
+    ensures { λ r. ⌜ now (table .exit) ≡ packOut collections (now (pairs .entry)) (now (loans .entry)) (now (table .entry)) ⌝ }
+{
+    number_of(packing::pack_table(table, collections, pairs, loans))
 }
 
 // 0, the recording and the class where the collection has the key; 255 where it is absent, with 1 and the next key up, or 0 where there is none;

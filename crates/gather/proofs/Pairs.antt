@@ -1,21 +1,19 @@
 -- The pairs kept and their recordings: looked through, and one more among them.
 use mathlib.Core.Path.{_≡_, refl, ap, sym, subst, _∙_}
 use mathlib.Core.Bool.{Bool, true, false, cond, not, _&&_, _||_}
-use mathlib.Core.Logic.{_≢_, ⊎-elim}
+use mathlib.Core.Logic.{⊎-elim}
 use mathlib.Core.List.{List, [], _∷_, _++_, append-nil}
-use Prim.Native.Nat.{ℕ, suc, _+_, _-_, _*_, _/_, _%_, _≤_, _<_}
+use Prim.Native.Nat.{ℕ, suc, _+_, _-_, _*_, _%_}
 use native.Mathlib.Omega.{arith}
 use lib.Dec.{eqb, ltb}
 use lib.ListN.{length, take, drop, length-drop, length-append, take-append-drop, drop-of-length-le}
 use lib.Seq.{take-take, take-all, take-at, drop-at, getD-take, length-take-le}
-use borrow.Author.Tests.{eq-eqb, ne-eqb}
 use Rattle.model.specs.Table.{Words, at}
 use Rattle.model.specs.Slots.{Slot, slot, slotsOf, recordingOf, recording, pointerOk}
 use Rattle.model.specs.Refusals.{hasKey, hasRecording}
 use Rattle.model.specs.Ledger.{enter}
 use Rattle.model.specs.Salvage.{outOfRange, reasonFor}
 use Rattle.list_laws.proofs.Tools.{same-or-not}
-use Rattle.table_laws.proofs.SlotWords.{slots-cons, slots-end}
 use Rattle.numbers.specs.declared.Entry.{Entry}
 use Rattle.numbers.specs.declared.Entry.the-variants.{Entered, Known, Full}
 use Rattle.numbers.specs.Cells.{mixed, Outcome, outcome, entered}
@@ -63,28 +61,6 @@ enter-length k p (s ∷ ss) = go (ltb k (s .key)) (enter-length k p ss)
     go false h = ap suc h
 
 -- ---- the recordings of pairs in words
-
-module _ (ws : Words) (r : ℕ) where
-  abbrev ps : List Slot
-  ps = slotsOf ws
-
-  pub recording-here : (i : ℕ) → i < length ws / 2 → recordingOf (at ws (2 * i + 1)) ≡ r → hasRecording r (drop i ps) ≡ hasRecording r ps → true ≡ hasRecording r ps
-  recording-here i h e q = sym (ap (hasRecording r) (slots-cons ws i (omega arith)) ∙ has (at ws (2 * i)) (at ws (2 * i + 1)) (drop (suc i) ps) e) ∙ q
-    where
-      has : (k p : ℕ) (ss : List Slot) → recordingOf p ≡ r → hasRecording r (slot k p ∷ ss) ≡ true
-      has k p ss e = unfold hasRecording in rw (eq-eqb (recordingOf p) r e)
-
-  pub recording-next : (i : ℕ) → i < length ws / 2 → recordingOf (at ws (2 * i + 1)) ≢ r → hasRecording r (drop i ps) ≡ hasRecording r ps → hasRecording r (drop (i + 1) ps) ≡ hasRecording r ps
-  recording-next i h e q =
-      let f : i + 1 ≡ suc i = omega arith in
-      rw f (sym (ap (hasRecording r) (slots-cons ws i (omega arith)) ∙ skip (at ws (2 * i)) (at ws (2 * i + 1)) (drop (suc i) ps) e) ∙ q)
-    where
-      skip : (k p : ℕ) (ss : List Slot) → recordingOf p ≢ r → hasRecording r (slot k p ∷ ss) ≡ hasRecording r ss
-      skip k p ss e = unfold hasRecording in rw (ne-eqb (recordingOf p) r e)
-
-  pub recording-none : (i : ℕ) → length ws / 2 ≤ i → hasRecording r (drop i ps) ≡ hasRecording r ps → false ≡ hasRecording r ps
-  unfolding hasRecording
-  recording-none i h q = sym (ap (hasRecording r) (slots-end ws i (omega arith))) ∙ q
 
 or-assoc : (a b c : Bool) → (a || (b || c)) ≡ ((a || b) || c)
 or-assoc true b c = refl

@@ -11,7 +11,7 @@ ghost use lib.Dec.{eqb};
 ghost use lib.ListN.{length};
 ghost use lib.Seq.{sets};
 ghost use Rattle.model.specs.Table.{nodes};
-ghost use Rattle.model.specs.Slots.{slot, slotsOf, recordingOf};
+ghost use Rattle.model.specs.Slots.{slot, recordingOf};
 ghost use Rattle.model.specs.Refusals.{hasRecording};
 ghost use Rattle.model.specs.Salvage.{reasonFor, gatherSlot, gatherSlots, collected, gatheredAlong};
 ghost use Rattle.gap.specs.Around.{Under, Over};
@@ -26,33 +26,18 @@ pub struct Tally {
 
 // ---- the recordings kept
 
-// Whether a pair in these words has this recording number.
-fn has_recording(pairs: &[u64], recording: u64) -> bool
-    ensures { λ r. ⌜ r ≡ hasRecording recording (slotsOf (now (pairs .entry))) ⌝ }
-{
-    let count = pairs.len() / 2;
-    let mut i = 0;
-    while i < count {
-        if pointer::recording(pairs[2 * i + 1]) == recording {
-            return true;
-        }
-        i += 1;
-    }
-    false
-}
-
 // Whether a kept pair has this recording number.
 fn is_kept(words: &[u64], bound: usize, t: Tally, recording: u64) -> bool
     requires { ⌜ Standing (now words) bound t ⌝ }
     ensures { λ r. ⌜ r ≡ hasRecording recording (pairsOf (now (words .entry)) bound t) ⌝ }
 {
     let low = 2 * t.at;
-    if has_recording(&words[..low], recording) {
+    if pairs::has_recording(&words[..low], 0, recording) {
         return true;
     }
     let end = 2 * bound;
     let high = end - 2 * (t.kept - t.at);
-    has_recording(&words[high..end], recording)
+    pairs::has_recording(&words[high..end], 0, recording)
 }
 
 // Whether a recording is new; then it is in the set from now on. Where no cell is free, which only a table of one node can bring about, the

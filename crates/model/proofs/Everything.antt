@@ -21,6 +21,7 @@ use Rattle.model.specs.Judge
 use Rattle.model.specs.Looks
 use Rattle.model.specs.Scripts
 use Rattle.model.specs.Wear
+use Rattle.model.specs.Pack
 
 unfoldable pub everything : Unit {0}
 unfolding Codes.isDigit Codes.isLetter Codes.isLetterOrDigit Codes.every Codes.isCode Codes.value Codes.readOn Codes.number Codes.keyOf Codes.parse Codes.character
@@ -65,4 +66,5 @@ unfolding Codes.isDigit Codes.isLetter Codes.isLetterOrDigit Codes.every Codes.i
     Scripts.overAll Scripts.metText
     Wear.storedTo Wear.storesTo Wear.wearOf Wear.largest Wear.firstAt Wear.joinAll Wear.extentsOf Wear.extentWords Wear.wearNumber Wear.figures Wear.worn
     Wear.linesAfter Wear.pairsAfter
+    Pack.pairsOk Pack.mapsIn Pack.mapsOk Pack.packNumber Pack.packing Pack.packOut
 everything = tt

@@ -23,3 +23,4 @@ pub mod Judge
 pub mod Looks
 pub mod Scripts
 pub mod Wear
+pub mod Pack

@@ -11,7 +11,7 @@ ghost use Rattle.model.specs.Table.{at, headerOk, headerNumber, rootWord, noCol
 ghost use Rattle.node.specs.Word.{nodesIn, rootIn, numberIn, startOf, wordOf};
 
 // The N of a slice of this length; 0 for a wrong length.
-fn nodes_in(len: usize) -> u64
+pub fn nodes_in(len: usize) -> u64
     ensures { λ r. ⌜ r ≡ nodesIn len ⌝ }
 {
     if len < 40 {
@@ -206,7 +206,7 @@ pub fn zero(table: &mut [u64])
 }
 
 // 0, or why no table of these collections is made in a slice of this length.
-fn make_number(table: &[u64], collections: u64) -> u8
+pub fn make_number(table: &[u64], collections: u64) -> u8
     ensures { λ r. ⌜ r ≡ makeNumber collections (now (table .entry)) ⌝ }
 {
     let n = nodes_in(table.len());

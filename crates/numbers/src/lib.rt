@@ -5,9 +5,11 @@ ghost use lib.ListN.{length};
 ghost use Rattle.numbers.specs.Cells.{mixed, nextCell, outcome, entered};
 
 // Numbers are scattered below this prime.
-const SPREAD: u64 = 4294967291;
+pub const SPREAD: u64 = 4294967291;
 
-// Tries for a set that is to tell soon that it is crowded.
+// Cells, and tries, for a set that is to tell soon that it is crowded.
+pub const CELLS: usize = 16384;
+
 pub const TRIES: usize = 128;
 
 // What entering a number came to. Full says only that its cells are taken; 0 is never entered.
@@ -19,7 +21,7 @@ pub enum Entry {
 
 // A number scattered, so that numbers that follow each other, or in small equal steps, crowd no cells. Those that leave one rest by
 // 2,147,483,647 still do.
-fn mixed(number: u64) -> u64
+pub fn mixed(number: u64) -> u64
     ensures { λ r. ⌜ r ≡ mixed number ⌝ }
 {
     (number % 2147483647) * 2246822519 % SPREAD

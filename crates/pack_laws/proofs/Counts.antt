@@ -6,7 +6,7 @@ use native.Mathlib.Omega.{arith}
 use native.Mathlib.Nat.{suc-mul, mul-le-mul-left}
 use lib.ListN.{length, drop, length-drop, length-map}
 use Rattle.model.specs.Slots.{Slot}
-use Rattle.model.specs.Packing.{groups, Made, leafFrom, bottom, numbered, innerFrom, rowAbove, rowsAbove, packed, countRows}
+use Rattle.model.specs.Packing.{groups, Made, leafFrom, bottom, numbered, innerFrom, rowAbove, rowsAbove, packed, countRows, packedCount}
 use Rattle.pack_laws.specs.Needed.{nodesAbove, nodesNeeded}
 use Rattle.pack_laws.proofs.Groups.{groups-few, length-numbered}
 
@@ -47,6 +47,10 @@ bottom-length ps =
 pub packed-count : (n : ℕ) (ps : List Slot) → countRows (packed n ps) ≡ nodesNeeded (length ps)
 unfolding packed countRows nodesNeeded
 packed-count n ps = let e = bottom-length ps in rw (rows-count 15 n (bottom ps), e)
+
+pub count-needed : (ps : List Slot) → packedCount ps ≡ nodesNeeded (length ps)
+unfolding packedCount
+count-needed ps = packed-count 1 ps
 
 -- ---- more pairs need no fewer nodes
 

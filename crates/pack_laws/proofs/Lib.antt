@@ -6,3 +6,4 @@ pub mod Counts
 pub mod Enough
 pub mod Packed
 pub mod Fresh
+pub mod Call

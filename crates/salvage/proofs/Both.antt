@@ -13,13 +13,14 @@ use Rattle.model.specs.Reached.{Maps}
 use Rattle.model.specs.Packing.{packedCount, packedWords, packedBoth}
 use Rattle.model.specs.Salvage.{Drop, Gathered, gatheredAlong, gathered, keptMaps, droppedAll, dropWords}
 use Rattle.pack_laws.specs.Needed.{nodesNeeded}
-use Rattle.pack_laws.proofs.Counts.{needed-more}
+use Rattle.pack_laws.proofs.Counts.{count-needed, needed-more}
 use Rattle.pack_laws.proofs.Fresh.{words-long}
 use Rattle.tour_laws.proofs.Sound.{alone-maps, beside-maps, alone-dropped}
 use Rattle.pack.specs.Rows.{packedAfter}
 use Rattle.pack.proofs.Parts.{rest-is, rest-long, back-is}
-use Rattle.salvage.specs.Parts.{secondRoot, packedNodes, Toured, neededBoth, Most, Fits, Reported}
-use Rattle.salvage.proofs.Bounds.{count-needed, top-few, one-long, two-long, one-gathered, two-gathered}
+use Rattle.packing.specs.Parts.{secondRoot, packedNodes}
+use Rattle.salvage.specs.Parts.{Toured, neededBoth, Most, Fits, Reported}
+use Rattle.salvage.proofs.Bounds.{top-few, one-long, two-long, one-gathered, two-gathered}
 
 -- ---- reports one after the other
 

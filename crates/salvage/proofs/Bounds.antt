@@ -2,7 +2,6 @@
 use mathlib.Core.Path.{_≡_, ap, sym, _∙_}
 use mathlib.Core.Bool.{Bool, true, false, cond}
 use mathlib.Core.Logic.{_≢_}
-use mathlib.Core.List.{List}
 use Prim.Native.Nat.{ℕ, _+_, _-_, _*_, _≤_, _<_}
 use native.Mathlib.Omega.{arith}
 use lib.Dec.{eqb, ltb}
@@ -10,18 +9,13 @@ use lib.ListN.{length, take, drop, length-drop}
 use lib.Seq.{length-take-le}
 use borrow.Author.Tests.{eq-eqb, ne-eqb, lt-ltb, le-ltb}
 use Rattle.model.specs.Table.{Words, at, nodes}
-use Rattle.model.specs.Slots.{Slot}
 use Rattle.model.specs.Reached.{unlessLacking}
 use Rattle.model.specs.Packing.{packedCount, ofSecond, packedBoth}
 use Rattle.model.specs.Salvage.{gatheredAlong, gathered, keptMaps, outgrows}
 use Rattle.table_laws.proofs.Header.{header-iff}
 use Rattle.pack_laws.specs.Needed.{nodesNeeded}
-use Rattle.pack_laws.proofs.Counts.{packed-count, needed-more}
+use Rattle.pack_laws.proofs.Counts.{count-needed, needed-more}
 use Rattle.salvage.specs.Parts.{Toured, neededBoth, Most}
-
-pub count-needed : (ps : List Slot) → packedCount ps ≡ nodesNeeded (length ps)
-unfolding packedCount
-count-needed ps = packed-count 1 ps
 
 -- ---- both collections
 

@@ -1,51 +1,39 @@
--- The header, the whole second slice, and the call.
-use mathlib.Core.Path.{_≡_, refl, ap, sym, _∙_}
+-- The whole second slice, and the call.
+use mathlib.Core.Path.{_≡_, ap, sym, _∙_}
 use mathlib.Core.Bool.{true, false}
 use mathlib.Core.Logic.{_≢_}
 use mathlib.Core.List.{_++_}
-use Prim.Native.Nat.{ℕ, zero, suc, _-_, _*_, _≤_, _<_}
+use Prim.Native.Nat.{ℕ, zero, suc, _+_, _-_, _*_, _≤_, _<_}
 use native.Mathlib.Omega.{arith}
 use lib.ListN.{length, take, drop, replicate, length-replicate}
-use lib.Seq.{sets, sets-eq}
 use borrow.Author.Tests.{eq-eqb, ne-eqb, lt-ltb, le-ltb}
 use Rattle.model.specs.declared.Salvaged.the-variants.{Dropped, Refused}
 use Rattle.model.specs.Table.{Words, headerOk, headerNumber, nodes}
-use Rattle.model.specs.Reached.{Maps}
 use Rattle.model.specs.Packing.{packedCount, packedTable}
 use Rattle.model.specs.Salvage.{keptMaps, droppedAll, dropWords, outgrows, salvageNumber, salvage, salvageOut, salvageReport}
 use Rattle.table_laws.proofs.Header.{header-iff, header-number-iff, header-number-refused}
-use Rattle.pack.proofs.Parts.{rest-long, back-is, back-drop, back-long}
-use Rattle.salvage.specs.Parts.{headerWords, secondRoot, packedNodes, Toured, Reported}
-
--- ---- the header
-
-pub header-put : (t : Words) (root second n : ℕ) → 8 ≤ length t → sets t 0 (headerWords root second n) ≡ headerWords root second n ++ drop 8 t
-header-put t root second n h = sets-eq (headerWords root second n) t 0 h
-
-pub table-packed : (n : ℕ) (m : Maps) → headerWords (packedCount (m .one)) (secondRoot m) n ++ packedNodes n m ≡ packedTable n m
-unfolding packedTable
-table-packed n m = refl
+use Rattle.packing.specs.Parts.{headerWords, secondRoot, packedNodes}
+use Rattle.packing.proofs.Call.{nodes-long, put-back, put-table}
+use Rattle.salvage.specs.Parts.{Toured, Reported}
 
 -- ---- the second slice
 
 module _ (t order out : Words) (top first all : ℕ) (o : Toured t top order first all) (l : length out ≡ length t) where
-  pub out-long : 8 ≤ length out
-  out-long = let f = header-iff t .0 (o .header) .size .long in omega arith
+  long : length out ≡ 8 + 32 * top
+  long = let f = header-iff t .0 (o .header) .size .long in let n = o .nodes-are in omega arith
 
-  rest : length out - 8 ≡ 32 * top
-  rest = let f = header-iff t .0 (o .header) .size .long in let n = o .nodes-are in omega arith
+  pub out-long : 8 ≤ length out
+  out-long = omega (arith, long)
 
   pub part-long : length (take (length out - 8) (drop 8 out)) ≡ 32 * top
-  part-long = rest-long out 8 ∙ rest
+  part-long = nodes-long out top long
 
-  pub put-back : (w : Words) → length w ≡ length (take (length out - 8) (drop 8 out)) → 8 ≤ length (take 8 out ++ (w ++ drop (length out - 8) (drop 8 out)))
-  put-back w e = let n = ap length (back-is out 8 w) ∙ back-long out 8 out-long w (e ∙ rest-long out 8) in let m = out-long in omega arith
+  pub put-out : (w : Words) → length w ≡ length (take (length out - 8) (drop 8 out)) → 8 ≤ length (take 8 out ++ (w ++ drop (length out - 8) (drop 8 out)))
+  put-out w e = put-back out top long w e
 
   pub rebuilt : (w x : Words) (one two : ℕ) → w ≡ packedNodes top (keptMaps t) → (one ≡ packedCount (keptMaps t .one)) × (two ≡ secondRoot (keptMaps t))
       → x ≡ headerWords one two top ++ drop 8 (take 8 out ++ (w ++ drop (length out - 8) (drop 8 out))) → x ≡ packedTable (nodes t) (keptMaps t)
-  rebuilt w x one two a b c =
-      c ∙ ap (λ (y : Words). headerWords one two top ++ y) (ap (drop 8) (back-is out 8 w) ∙ back-drop out 8 out-long w ∙ a)
-      ∙ rw (b .0, b .1, o .nodes-are) (table-packed (nodes t) (keptMaps t))
+  rebuilt w x one two a b c = put-table out top long (keptMaps t) w x one two a b c ∙ ap (λ (n : ℕ). packedTable n (keptMaps t)) (o .nodes-are)
 
 -- ---- the call
 

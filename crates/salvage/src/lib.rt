@@ -2,16 +2,16 @@
 // comes first, in the tour, in the new nodes and in the report.
 use model::Salvaged;
 ghost use mathlib.Core.Path.{_≡_};
-ghost use mathlib.Core.Bool.{true, false};
-ghost use mathlib.Core.List.{_++_};
+ghost use mathlib.Core.Bool.{true};
 ghost use Prim.Native.Nat.{_+_, _*_, _≤_};
 ghost use lib.Dec.{ltb};
-ghost use lib.ListN.{length, drop};
+ghost use lib.ListN.{length};
 ghost use Rattle.model.specs.Table.{headerOk, nodes};
 ghost use Rattle.model.specs.Packing.{packedCount, packedTable};
 ghost use Rattle.model.specs.Salvage.{gatheredAlong, keptMaps, droppedAll, outgrows, salvage, salvageOut, salvageReport};
 ghost use Rattle.pack.specs.Rows.{packedAfter};
-ghost use Rattle.salvage.specs.Parts.{headerWords, secondRoot, packedNodes, Toured, neededBoth, Most, Fits, Reported};
+ghost use Rattle.packing.specs.Parts.{secondRoot, packedNodes};
+ghost use Rattle.salvage.specs.Parts.{Toured, neededBoth, Most, Fits, Reported};
 
 // How many nodes were entered: for collection 1, and in all.
 struct Counts {
@@ -179,21 +179,6 @@ fn fill_both(
     }
 }
 
-// The header of a table with these roots, of so many nodes.
-fn put_header(out: &mut [u64], root: u64, second: u64, top: u64)
-    requires { ⌜ 8 ≤ length (now out) ⌝ }
-    ensures { λ r. ⌜ now (out .exit) ≡ headerWords root second top ++ drop 8 (now (out .entry)) ⌝ }
-{
-    out[0] = 1;
-    out[1] = root;
-    out[2] = top;
-    out[3] = second;
-    out[4] = 0;
-    out[5] = 0;
-    out[6] = 0;
-    out[7] = 0;
-}
-
 // The second slice and the report, where the packing fits; the answer is how many slots were dropped.
 fn rebuild(
     table: &[u64],
@@ -214,7 +199,7 @@ fn rebuild(
     let one = f.one;
     let two = f.two;
     let dropped = f.dropped;
-    put_header(out, one as u64, two as u64, top);
+    packing::put_header(out, one as u64, two as u64, top);
     dropped
 }
 

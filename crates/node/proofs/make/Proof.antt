@@ -6,7 +6,8 @@ use lib.ListN.{length, length-set}
 use Rattle.model.specs.Table.{makeNumber}
 use Rattle.table_laws.proofs.Header.{LengthFacts}
 use Rattle.node.proofs.Answers.{nodes-in-sized}
-use Rattle.node.proofs.Making.{Makes, makes, making-refused, making-one, making-two}
+use Rattle.table_laws.proofs.Making.{Makes, makes}
+use Rattle.node.proofs.Making.{making-refused, making-one, making-two}
 use borrow.Author.Needs.{needs}
 use Rattle.node.proofs.make.Statement.{statement}
 use Rattle.node.proofs.make.Tie as tie

@@ -3,7 +3,7 @@ use mathlib.Core.Path.{_≡_}
 use Prim.Native.Nat.{_-_}
 use lib.ListN.{length, take, drop}
 use borrow.Author.Needs.{needs}
-use Rattle.salvage.proofs.Call.{out-long, part-long, put-back, rebuilt}
+use Rattle.salvage.proofs.Call.{out-long, part-long, put-out, rebuilt}
 use Rattle.salvage.proofs.rebuild.Statement.{statement}
 use Rattle.salvage.proofs.rebuild.Tie as tie
 
@@ -28,7 +28,7 @@ put-header-requires c κs =
     let p = c .before .before .before .before .before .before .before .before .before .before .before .before .pre in
     let w = c .before .before .before .before .before .fill-both .last .1 .1 .1 .1 .1 .0 in
     let u : length w ≡ length (take (length (a .out .now) - 8) (drop 8 (a .out .now))) = search needs in
-    put-back (a .table .now) (a .order .now) (a .out .now) (a .top) (a .first) (a .all) (p .0) (p .3) w u
+    put-out (a .table .now) (a .order .now) (a .out .now) (a .top) (a .first) (a .all) (p .0) (p .3) w u
 
 same-length : tie.Need-same-length
 same-length c = search needs

@@ -1,24 +1,22 @@
--- `gather::has_recording` meets its contract.
-use mathlib.Core.Path.{_≡_, sym, _∙_}
+-- `pairs::has_recording` meets its contract. The loop keeps that the pairs left have the number as all from the first on do.
+use mathlib.Core.Path.{_≡_, refl}
 use Prim.Native.Nat.{_-_, _/_}
-use native.Mathlib.Omega.{arith}
 use lib.ListN.{length, drop}
 use Rattle.model.specs.Slots.{slotsOf}
 use Rattle.model.specs.Refusals.{hasRecording}
-use Rattle.gather.proofs.Pairs.{recording-here, recording-next, recording-none}
+use Rattle.pairs.proofs.Slices.{recording-here, recording-next, recording-none}
 use borrow.Author.Needs.{needs}
-use Rattle.gather.proofs.has_recording.Statement.{statement}
-use Rattle.gather.proofs.has_recording.Tie as tie
+use Rattle.pairs.proofs.has_recording.Statement.{statement}
+use Rattle.pairs.proofs.has_recording.Tie as tie
 
 abbrev Inv-loop : tie.InvT-loop
-Inv-loop pairs recording count i₀ i =
-    (count ≡ length pairs / 2) × (hasRecording recording (drop i (slotsOf pairs)) ≡ hasRecording recording (slotsOf pairs))
+Inv-loop pairs first recording count i₀ i = (count ≡ length pairs / 2) × (hasRecording recording (drop i (slotsOf pairs)) ≡ hasRecording recording (drop i₀ (slotsOf pairs)))
 
 abbrev μ-loop : tie.MeasureT-loop
-μ-loop pairs recording count i₀ i = count - i
+μ-loop pairs first recording count i₀ i = count - i
 
 loop-holds : tie.Need-loop-holds Inv-loop μ-loop
-loop-holds c = search needs
+loop-holds c = (search needs, refl)
 
 mul-recording : tie.Need-mul-recording Inv-loop μ-loop
 mul-recording c = search needs
@@ -39,7 +37,7 @@ returns : tie.Need-returns Inv-loop μ-loop
 returns c =
     let a = c .before .before .before .before .before .before .args in
     let l = c .before .before .before .before .loop in
-    recording-here (a .pairs .now) (a .recording) (l .i) (c .before .before .before .loop-test .taken) (sym (c .before .recording .ensures) ∙ c .if1 .taken) (l .inv .1)
+    recording-here _ (a .recording) (a .first) (l .i) (l .inv .1) (c .before .before .before .loop-test .taken) _ (c .before .recording .ensures) (c .if1 .taken)
 
 add-i : tie.Need-add-i Inv-loop μ-loop
 add-i c = search needs
@@ -51,13 +49,10 @@ loop-again : tie.Need-loop-again Inv-loop μ-loop
 loop-again c =
     let a = c .before .before .before .before .before .before .args in
     let l = c .before .before .before .before .loop in
-    (l .inv .0, recording-next (a .pairs .now) (a .recording) (l .i) (c .before .before .before .loop-test .taken) (λ e. c .if1 .left (c .before .recording .ensures ∙ e)) (l .inv .1))
+    (refl, recording-next _ (a .recording) (a .first) (l .i) (l .inv .1) (c .before .before .before .loop-test .taken) _ (c .before .recording .ensures) (c .if1 .left))
 
 returns-2 : tie.Need-returns-2 Inv-loop μ-loop
-returns-2 c =
-    let l = c .before .loop in
-    let t = c .loop-test .left in
-    recording-none (c .before .before .before .args .pairs .now) (c .before .before .before .args .recording) (l .i) (omega (arith, t)) (l .inv .1)
+returns-2 c = let a = c .before .before .before .args in let l = c .before .loop in recording-none _ (a .recording) (a .first) (l .i) (l .inv .1) (c .loop-test .left)
 
 pub has-recording-spec : {M : Type 1} → statement M
 has-recording-spec =

@@ -1,0 +1,65 @@
+-- `packing::copy` meets its contract. The loop keeps what storing the words that are left comes to.
+use mathlib.Core.Path.{_≡_, refl, sym, _∙_}
+use Prim.Native.Nat.{_-_}
+use lib.ListN.{length, drop, length-set}
+use lib.Seq.{sets}
+use Rattle.packing.proofs.Filling.{copy-next, copy-last}
+use borrow.Author.Needs.{needs}
+use Rattle.packing.proofs.copy.Statement.{statement}
+use Rattle.packing.proofs.copy.Tie as tie
+
+abbrev Inv-loop : tie.InvT-loop
+Inv-loop words₀ from i₀ words i = (length words ≡ length words₀) × (sets words i (drop i from) ≡ sets words₀ 0 from)
+
+abbrev μ-loop : tie.MeasureT-loop
+μ-loop words₀ from i₀ words i = length from - i
+
+loop-holds : tie.Need-loop-holds Inv-loop μ-loop
+loop-holds c = (refl, refl)
+
+mul-words : tie.Need-mul-words Inv-loop μ-loop
+mul-words c = search needs
+
+shared-slice-read-words : tie.Need-shared-slice-read-words Inv-loop μ-loop
+shared-slice-read-words c = search needs
+
+mul-words-2 : tie.Need-mul-words-2 Inv-loop μ-loop
+mul-words-2 c = search needs
+
+slice-write-words : tie.Need-slice-write-words Inv-loop μ-loop
+slice-write-words c = search needs
+
+add-i : tie.Need-add-i Inv-loop μ-loop
+add-i c = search needs
+
+loop-less : tie.Need-loop-less Inv-loop μ-loop
+loop-less c = search needs
+
+loop-again : tie.Need-loop-again Inv-loop μ-loop
+loop-again c =
+    let l = c .before .before .loop in
+    let f = c .before .before .before .args .from .now in
+    (simp length-set (l .inv .0), sym (copy-next (l .words) f (l .i) (c .before .loop-test .taken)) ∙ l .inv .1)
+
+same-length : tie.Need-same-length Inv-loop μ-loop
+same-length c = search needs
+
+returns : tie.Need-returns Inv-loop μ-loop
+returns c = let l = c .before .loop in copy-last (l .words) (c .before .before .args .from .now) (l .i) (c .loop-test .left) ∙ l .inv .1
+
+pub copy-spec : {M : Type 1} → statement M
+copy-spec =
+    tie.close
+    (tie.spec
+    Inv-loop
+    μ-loop
+    loop-holds
+    mul-words
+    shared-slice-read-words
+    mul-words-2
+    slice-write-words
+    add-i
+    loop-less
+    loop-again
+    same-length
+    returns)

@@ -1,0 +1,2 @@
+-- What the parts of a packed table are.
+pub mod Parts

@@ -1,0 +1,82 @@
+-- `pairs::compared_once` meets its contract. The loop keeps that the numbers left are there once as all are.
+use mathlib.Core.Path.{_≡_, refl}
+use mathlib.Core.List.{map}
+use Prim.Native.Nat.{_-_, _/_}
+use lib.ListN.{length}
+use Rattle.model.specs.Slots.{recording, slotsOf}
+use Rattle.model.specs.SoundTest.{distinct}
+use Rattle.pairs.proofs.Slices.{numbersOf, once-end, once-twice, once-next}
+use borrow.Author.Needs.{needs}
+use Rattle.pairs.proofs.compared_once.Statement.{statement}
+use Rattle.pairs.proofs.compared_once.Tie as tie
+
+abbrev Inv-loop : tie.InvT-loop
+Inv-loop pairs count i₀ i = (count ≡ length pairs / 2) × (distinct (numbersOf pairs i) ≡ distinct (map recording (slotsOf pairs)))
+
+abbrev μ-loop : tie.MeasureT-loop
+μ-loop pairs count i₀ i = count - i
+
+loop-holds : tie.Need-loop-holds Inv-loop μ-loop
+loop-holds c = (search needs, refl)
+
+mul-recording : tie.Need-mul-recording Inv-loop μ-loop
+mul-recording c = search needs
+
+add-recording : tie.Need-add-recording Inv-loop μ-loop
+add-recording c = search needs
+
+mul-recording-2 : tie.Need-mul-recording-2 Inv-loop μ-loop
+mul-recording-2 c = search needs
+
+shared-slice-read-recording : tie.Need-shared-slice-read-recording Inv-loop μ-loop
+shared-slice-read-recording c = search needs
+
+recording-requires : tie.Need-recording-requires Inv-loop μ-loop
+recording-requires c κs = search needs
+
+add-has-recording : tie.Need-add-has-recording Inv-loop μ-loop
+add-has-recording c = search needs
+
+has-recording-requires : tie.Need-has-recording-requires Inv-loop μ-loop
+has-recording-requires c κs = search needs
+
+returns : tie.Need-returns Inv-loop μ-loop
+returns c =
+    let t = c .before .before .before .before in
+    let l = t .before .loop in
+    once-twice _ (l .i) (l .inv .1) (t .loop-test .taken) _ (c .before .before .recording .ensures) _ (c .before .has-recording .ensures) (c .if1 .taken)
+
+add-i : tie.Need-add-i Inv-loop μ-loop
+add-i c = search needs
+
+loop-less : tie.Need-loop-less Inv-loop μ-loop
+loop-less c = search needs
+
+loop-again : tie.Need-loop-again Inv-loop μ-loop
+loop-again c =
+    let t = c .before .before .before .before in
+    let l = t .before .loop in
+    (refl, once-next _ (l .i) (l .inv .1) (t .loop-test .taken) _ (c .before .before .recording .ensures) _ (c .before .has-recording .ensures) (c .if1 .left))
+
+returns-2 : tie.Need-returns-2 Inv-loop μ-loop
+returns-2 c = let l = c .before .loop in once-end _ (l .i) (l .inv .1) (c .loop-test .left)
+
+pub compared-once-spec : {M : Type 1} → statement M
+compared-once-spec =
+    tie.close
+    (tie.spec
+    Inv-loop
+    μ-loop
+    loop-holds
+    mul-recording
+    add-recording
+    mul-recording-2
+    shared-slice-read-recording
+    recording-requires
+    add-has-recording
+    has-recording-requires
+    returns
+    add-i
+    loop-less
+    loop-again
+    returns-2)

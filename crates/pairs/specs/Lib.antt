@@ -1,0 +1,2 @@
+-- The numbers of a pass.
+pub mod Passes
