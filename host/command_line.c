@@ -79,6 +79,24 @@ static bool set_svg(struct command_line *l, const char *value)
     return l->svg = true;
 }
 
+static bool set_drawings(struct command_line *l, const char *value)
+{
+    (void)value;
+    return l->drawings = true;
+}
+
+static bool set_data(struct command_line *l, const char *value)
+{
+    (void)value;
+    return l->data = true;
+}
+
+static bool read_list(struct command_line *l, const char *value)
+{
+    l->list = value;
+    return value[0] != '\0';
+}
+
 static bool set_help(struct command_line *l, const char *value)
 {
     (void)value;
@@ -103,6 +121,12 @@ const struct option options[] = {
     {"--wear", NULL, NULL, "tells at the end which lines the load stored to most", "load room.cat codes.csv --wear", LOADING, set_wear},
     {"--svg", NULL, NULL, "draws the wear by line, as SVG, instead of printing it", "wear room.cat orders.txt --svg > wear.svg", DRAWING,
      set_svg},
+    {"--list", "FILE", "a file of orders, or - for standard input",
+     "the film of the orders in FILE, as judge reads them, with the library's own beside them",
+     "film room.cat --list orders.txt + AA0001912345 7 > film.html", FILMING, read_list},
+    {"--drawings", NULL, NULL, "the whole lesson: the right lists, and each known wrong drawing beside them", "film --drawings > lesson.html",
+     FILMING, set_drawings},
+    {"--data", NULL, NULL, "the film's states alone, as JSON", "film room.cat - AA0001912345 --data", FILMING, set_data},
     {"--cut", "C", "a number of orders", "stops after C orders, as a power cut does", "add room.cat AA0001912345 7 --cut=2", CUT,
      read_cut},
     {"--dock", "N", "0 or 1",

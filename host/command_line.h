@@ -13,7 +13,7 @@
 #define MOST_WORDS 8
 
 /* Kinds of options, for which commands take which. */
-enum { CUT = 1, LOADING = 2, CARRYING = 4, WAITING = 8, NAMING = 16, MAKING = 32, DOCKING = 64, DRAWING = 128 };
+enum { CUT = 1, LOADING = 2, CARRYING = 4, WAITING = 8, NAMING = 16, MAKING = 32, DOCKING = 64, DRAWING = 128, FILMING = 256 };
 
 struct command_line {
     char *words[MOST_WORDS]; /* the command, the table, and what follows */
@@ -22,6 +22,8 @@ struct command_line {
     bool help, version, svg;
     uint64_t cut;
     bool loan; /* a new table has two collections */
+    bool drawings, data; /* of a film */
+    const char *list;
     struct table_options table;
     struct load_options load;
     /* What a command reads from its words. */

@@ -8,8 +8,10 @@
 
 #include "catalogue.h"
 #include "draw.h"
+#include "film.h"
 #include "help.h"
 #include "judge.h"
+#include "lesson.h"
 #include "looks.h"
 #include "salvage.h"
 #include "scripts.h"
@@ -166,6 +168,11 @@ static int judge_orders(struct table *t, struct command_line *l)
     return judge_list(t, l->words[2], &l->change);
 }
 
+static int film_change(struct table *t, struct command_line *l)
+{
+    return film(t, &l->change, l->list, l->data);
+}
+
 /* ---- the commands */
 
 static int with_table(struct command_line *l, bool writing, int (*work)(struct table *t, struct command_line *l))
@@ -257,6 +264,20 @@ static int command_judge(struct command_line *l)
         return WRONG_FORM;
     int status = change_read(&l->change, adds ? ADD : REMOVE, l->words + 4, l->count - 4);
     return status != 0 ? status : with_table(l, false, judge_orders);
+}
+
+/* The change is written as for judge. */
+static int command_film(struct command_line *l)
+{
+    if (l->drawings)
+        return l->count == 1 && !l->list && !(l->given & (NAMING | WAITING)) ? lesson(l->data) : WRONG_FORM;
+    bool adds = l->count >= 5 && l->count <= 6 && strcmp(l->words[2], "+") == 0;
+    bool removes = l->count == 4 && strcmp(l->words[2], "-") == 0;
+    bool repairs = l->count == 3 && strcmp(l->words[2], "repair") == 0 && !(l->given & NAMING);
+    if (!adds && !removes && !repairs)
+        return WRONG_FORM;
+    int status = change_read(&l->change, adds ? ADD : removes ? REMOVE : REPAIR, l->words + 3, l->count - 3);
+    return status != 0 ? status : with_table(l, false, film_change);
 }
 
 /* A search takes no lock: it runs beside a change. */
@@ -372,6 +393,11 @@ const struct command commands[] = {
      "so that a power cut may come after any of them: yes, or no with the first order that\n"
      "fails, its place, and what a cut there may leave. One list, for dock 0.\n" LIST_FORM,
      "judge room.cat orders.txt + AA0001912345 7", 5, 7, NAMING | WAITING, command_judge},
+    {"film", "TABLE + CODE RECORDING [CLASS], - CODE, or repair",
+     "a page for a browser that goes through every order of this change, and through every cut,\n"
+     "without making it: nodes, lines and slots, working copy and memory, the way of a search.\n"
+     "It needs nothing else. With --drawings, and no table, the whole lesson. For dock 0",
+     "film room.cat + AA0001912345 7 > split.html", 1, 6, FILMING | NAMING | WAITING, command_film},
     {"wear", "TABLE LIST",
      "prints how often the orders in LIST store to each line of the table, and which words they\n"
      "store to, as words OFFSET LENGTH; the table stays as it is.\n" LIST_FORM,

@@ -22,7 +22,7 @@ static int judge(struct table *t, const struct trees *trees)
            codes == 1 ? "" : "s", used, nodes, nodes - used);
     trees_print(trees);
     if (c.stores != 0)
-        leftover_print(trees);
+        leftover_print(trees, stdout);
     return 0;
 }
 

@@ -20,8 +20,8 @@ static const char before[] =
     "says where it plays: open, everywhere; room, only in the room; closed, not at all. A word after -- is no option.\n"
     "\n"
     "A table made with --loan has a second collection, for what travels: it has its own codes and may hold recordings of the\n"
-    "first. add, remove, class, find, list, load, orders and judge work on collection 1, or on 2 with --collection 2; the\n"
-    "other commands work on the whole table.\n"
+    "first. add, remove, class, find, list, load, orders, judge and film work on collection 1, or on 2 with --collection 2;\n"
+    "the other commands work on the whole table.\n"
     "\n";
 
 static const char durability[] =

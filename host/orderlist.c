@@ -122,19 +122,26 @@ static int read_lines(struct order_list *l, struct rows *r, const char *name)
     return ferror(r->in) ? fail(BAD_FILE, "%s cannot be read further: %s", name, strerror(errno)) : 0;
 }
 
-int order_list_read(struct order_list *l, const char *name)
+int order_list_read_from(struct order_list *l, FILE *in, const char *name)
 {
-    bool standard = strcmp(name, "-") == 0;
-    struct rows r = {.in = standard ? stdin : fopen(name, "re")};
+    struct rows r = {.in = in};
     *l = (struct order_list){.room = 64};
     l->words = calloc(2 * l->room, sizeof *l->words);
     if (!l->words)
         return fail(BAD_FILE, "not enough memory");
-    if (!r.in)
+    return read_lines(l, &r, name);
+}
+
+int order_list_read(struct order_list *l, const char *name)
+{
+    bool standard = strcmp(name, "-") == 0;
+    FILE *in = standard ? stdin : fopen(name, "re");
+    *l = (struct order_list){0};
+    if (!in)
         return fail(BAD_FILE, "%s cannot be opened: %s", name, strerror(errno));
-    int status = read_lines(l, &r, standard ? "standard input" : name);
+    int status = order_list_read_from(l, in, standard ? "standard input" : name);
     if (!standard)
-        fclose(r.in);
+        fclose(in);
     return status;
 }
 

@@ -4,6 +4,7 @@
 
 #include <stddef.h>
 #include <stdint.h>
+#include <stdio.h>
 
 struct order_list {
     uint64_t *words; /* two an order */
@@ -18,6 +19,9 @@ struct order_list {
  * which end a list. A store to a word that no table has stays one. 0, or an exit status after saying why; order_list_free in either case.
  */
 int order_list_read(struct order_list *l, const char *name);
+
+/* The same of a stream that is open already. */
+int order_list_read_from(struct order_list *l, FILE *in, const char *name);
 
 void order_list_free(struct order_list *l);
 

@@ -185,29 +185,46 @@ static struct leftover leftover_of(const struct tree *tree)
     return l;
 }
 
-/* In a collection, 0 where the table has but one. */
-static void print_one(const struct leftover *l, size_t collection)
+static char letter_of(const struct leftover *l)
 {
-    printf("leftover (%c)", l->missing == 0 ? 'a' : l->hidden_node ? 'c' : 'b');
-    if (collection != 0)
-        printf(" in collection %zu", collection);
-    if (l->missing == 0) {
-        printf(": node %u has a hidden slot, slot %u\n", l->hidden_node, l->hidden_slot);
-        return;
-    }
-    printf(": node %u, the sibling of node %u, lacks its slot in node %u", l->missing, l->beside, l->parent);
-    if (l->hidden_node)
-        printf(", which has a hidden slot, slot %u", l->hidden_slot);
-    if (l->trailing)
-        printf("; node %u has %u trailing slot%s", l->beside, l->trailing, l->trailing == 1 ? "" : "s");
-    printf("\n");
+    if (l->missing == 0)
+        return l->hidden_node ? 'a' : 0;
+    return l->hidden_node ? 'c' : 'b';
 }
 
-void leftover_print(const struct trees *trees)
+/* In a collection, 0 where the table has but one. */
+static void print_one(const struct leftover *l, size_t collection, FILE *out)
+{
+    fprintf(out, "leftover (%c)", letter_of(l));
+    if (collection != 0)
+        fprintf(out, " in collection %zu", collection);
+    if (l->missing == 0) {
+        fprintf(out, ": node %u has a hidden slot, slot %u\n", l->hidden_node, l->hidden_slot);
+        return;
+    }
+    fprintf(out, ": node %u, the sibling of node %u, lacks its slot in node %u", l->missing, l->beside, l->parent);
+    if (l->hidden_node)
+        fprintf(out, ", which has a hidden slot, slot %u", l->hidden_slot);
+    if (l->trailing)
+        fprintf(out, "; node %u has %u trailing slot%s", l->beside, l->trailing, l->trailing == 1 ? "" : "s");
+    fprintf(out, "\n");
+}
+
+void leftover_print(const struct trees *trees, FILE *out)
 {
     for (size_t i = 0; i < trees->count; i++) {
         struct leftover l = leftover_of(&trees->of[i]);
-        if (l.missing != 0 || l.hidden_node != 0)
-            print_one(&l, trees->count > 1 ? i + 1 : 0);
+        if (letter_of(&l) != 0)
+            print_one(&l, trees->count > 1 ? i + 1 : 0, out);
     }
+}
+
+char leftover_letter(const struct trees *trees)
+{
+    char letter = 0;
+    for (size_t i = 0; i < trees->count && letter == 0; i++) {
+        struct leftover l = leftover_of(&trees->of[i]);
+        letter = letter_of(&l);
+    }
+    return letter;
 }

@@ -5,6 +5,7 @@
 #include <stdbool.h>
 #include <stddef.h>
 #include <stdint.h>
+#include <stdio.h>
 
 #define SLOTS 12
 
@@ -54,7 +55,10 @@ size_t trees_nodes(const struct trees *trees);
 /* On standard output: "collection 1: 5 codes in 1 node" and so on where there are two; nothing where there is one. */
 void trees_print(const struct trees *trees);
 
-/* "leftover (b): .." on standard output: what a sound table that is not settled has unfinished. */
-void leftover_print(const struct trees *trees);
+/* "leftover (b): ..": what a sound table that is not settled has unfinished. */
+void leftover_print(const struct trees *trees, FILE *out);
+
+/* Its letter; 0 where nothing is. */
+char leftover_letter(const struct trees *trees);
 
 #endif
