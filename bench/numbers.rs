@@ -57,19 +57,24 @@ fn numbered(table: &Words, number: fn(u64) -> u64) -> Words {
     new
 }
 
-/// A repair of a sound table that is settled is the check.
-fn refused(table: &Words) -> f64 {
-    let mut bad = table.clone();
-    let at = pointers(table);
+/// One number at two places.
+fn doubled(table: &Words) -> Words {
+    let (mut bad, at) = (table.clone(), pointers(table));
     bad[at[at.len() / 3]] = table[at[at.len() / 2]];
-    let (ns, number) = timed(|| calls::repair(black_box(&mut bad), &mut Orders::new()));
+    bad
+}
+
+/// A repair of a table that is not sound is the check, and writes nothing.
+fn refused(bad: &mut Words) -> f64 {
+    let (ns, number) = timed(|| calls::repair(black_box(bad), &mut Orders::new()));
     assert_eq!(number, NOT_SOUND, "a number that is there twice is taken");
     ns
 }
 
-fn runs(count: usize, mut run: impl FnMut() -> f64) -> Spread {
+/// The first run only warms up.
+fn runs(mut run: impl FnMut() -> f64) -> Spread {
     run();
-    Spread::of(&(0..count).map(|_| run()).collect::<Vec<f64>>())
+    Spread::of(&(0..RUNS).map(|_| run()).collect::<Vec<f64>>())
 }
 
 /// The sizes in nodes.
@@ -77,16 +82,16 @@ pub fn measure(results: &mut Results, sizes: &[usize]) {
     for &size in sizes {
         let codes = keys_for(size);
         let (table, _, reached) = search::packed(codes, 0);
-        let pass = runs(RUNS, || timed(|| _ = black_box(calls::read_pass(black_box(&table), reached))).0);
+        let pass = runs(|| timed(|| _ = black_box(calls::read_pass(black_box(&table), reached))).0);
         results.add(NUMBERS, "read pass", reached, "ns", pass);
         for (name, number, most) in KINDS {
             if codes > most {
                 continue;
             }
             let mut of_kind = numbered(&table, number);
-            let count = if settled(&mut of_kind) > 1e9 { 1 } else { RUNS };
-            results.add(NUMBERS, name, reached, "ns", runs(count, || settled(&mut of_kind)));
-            results.add(NUMBERS, &format!("{name}, one twice"), reached, "ns", runs(count, || refused(&of_kind)));
+            let mut bad = doubled(&of_kind);
+            results.add(NUMBERS, name, reached, "ns", runs(|| settled(&mut of_kind)));
+            results.add(NUMBERS, &format!("{name}, one twice"), reached, "ns", runs(|| refused(&mut bad)));
         }
         eprintln!("recording numbers: {reached} nodes done");
     }
