@@ -72,7 +72,7 @@ extern "C" {
  * The version of these declarations. It is raised by each change of a name, a parameter or the meaning of a word, so a program that was
  * compiled with one header and linked with another library sees it: catalogue_version() is the library's.
  */
-#define CATALOGUE_VERSION 12
+#define CATALOGUE_VERSION 13
 
 #define CATALOGUE_MARK UINT64_MAX
 #define CATALOGUE_BARRIER (UINT64_MAX - 1)
@@ -94,6 +94,7 @@ enum {
 #define CATALOGUE_MOST_RECORDING UINT64_C(72057594037927935)
 #define CATALOGUE_RECORDING(pointer) ((uint64_t)(pointer) & CATALOGUE_MOST_RECORDING)
 #define CATALOGUE_CLASS(pointer) ((uint64_t)(pointer) >> 56)
+#define CATALOGUE_POINTER(recording, access) ((uint64_t)(access) << 56 | (uint64_t)(recording))
 
 /* Classes. A sound table has no other. */
 enum {
@@ -186,6 +187,19 @@ uint64_t catalogue_list(const uint64_t *table, size_t words, uint64_t collection
  */
 uint64_t catalogue_insert(uint64_t *table, size_t words, uint64_t collection, uint64_t *orders, size_t order_words, uint64_t dock,
                           uint64_t key, uint64_t recording, uint64_t access, uint64_t *stores, uint64_t *flushes, uint64_t *barriers);
+
+/*
+ * Many insertions: the pairs in the order given, a key and a pointer each (CATALOGUE_POINTER; an odd last word is half a pair and is none),
+ * one order list for all. Table, list and counts are those of the single calls one after another, each with the list behind the words that
+ * the one before it filled; the table is checked once. It stops at the first pair that is refused and returns its number: 0 where all pairs
+ * were taken (or there is none), 5 where the rest of the list has fewer words than a single call needs, so that the list is to be carried
+ * out and the call made again with the pairs that are left. *taken pairs were taken; it and the sums of stores, flushes and barriers are put
+ * where at least one was or 0 is returned, else no lent word changes. A cut anywhere in the list leaves the calls before it whole and one
+ * call cut. 2, 17, 4, 18, 5, 6, 14, 7, 8, 11, 10.
+ */
+uint64_t catalogue_insert_many(uint64_t *table, size_t words, uint64_t collection, uint64_t *orders, size_t order_words, uint64_t dock,
+                               const uint64_t *pairs, size_t pair_words, uint64_t *taken, uint64_t *stores, uint64_t *flushes,
+                               uint64_t *barriers);
 
 /* Deletion: 2, 17, 4, 18, 5, 9. */
 uint64_t catalogue_delete(uint64_t *table, size_t words, uint64_t collection, uint64_t *orders, size_t order_words, uint64_t dock,

@@ -203,7 +203,7 @@ pub fn any_words(len: usize, collections: u64, random: &mut Random) -> Vec<u64> 
 }
 
 /// What a call for a dock must leave, by the reference's answer to it.
-fn wanted(t: &[u64], list: &[u64], dock: u64, answer: Result<Writer, u64>) -> (Wrote, Vec<Order>) {
+pub fn wanted(t: &[u64], list: &[u64], dock: u64, answer: Result<Writer, u64>) -> (Wrote, Vec<Order>) {
     match answer {
         Err(number) => (Wrote { number, counts: [None; 3], table: t.to_vec(), list: list.to_vec() }, vec![]),
         Ok(w) => {

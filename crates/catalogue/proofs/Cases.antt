@@ -1,11 +1,17 @@
 -- What each case of an answer gives.
 use mathlib.Core.Path.{_≡_, sym, ap, subst, _∙_}
+use mathlib.Core.Bool.{Bool, true, false, cond, not, _||_}
 use Prim.Native.Nat.{ℕ}
+use lib.Dec.{eqb, ltb}
 use lib.ListN.{length}
+use borrow.Author.Tests.{eq-eqb, ne-eqb}
 use Rattle.model.specs.declared.Answer.{Answer}
+use Rattle.model.specs.declared.Batch.{Batch}
 use Rattle.model.specs.declared.Parsed.{Parsed}
 use Rattle.model.specs.Codes.{parsedNumber, keyOr}
 use Rattle.model.specs.Table.{Words}
+use Rattle.model.specs.Slots.{slotsOf}
+use Rattle.model.specs.Batch.{batch}
 use Rattle.model.specs.Writes.{Call}
 use Rattle.model.specs.Search.{recordingOr, accessOr, nextOr, higherOr}
 use Rattle.model.specs.declared.Written.{Written}
@@ -15,7 +21,8 @@ use Rattle.model.specs.declared.Salvaged.{Salvaged}
 use Rattle.model.specs.declared.Verdict.{Verdict}
 use Rattle.model.specs.Listing.{listedNumber, countOr, moreOr}
 use Rattle.model.specs.Salvage.{salvagedNumber, droppedOr}
-use Rattle.catalogue.specs.Answers.{searchNumber, Looked, Counted, Wrote, WroteWith, Showed, Rebuilt, Ruled, Wore}
+use Rattle.catalogue.specs.Answers.{searchNumber, Looked, Counted, Wrote, puts, Summed, WroteMany, WroteWith, Showed, Rebuilt, Ruled, Wore}
+use Rattle.list_laws.proofs.Tools.{not-iff, not-false-iff}
 use Rattle.sentinels.specs.Anew.{Leaves}
 use Rattle.model.specs.declared.Worn.{Worn}
 use Rattle.model.specs.Wear.{worn, wornNumber, totalOr, largestOr, firstLineOr, pairsOr}
@@ -48,6 +55,38 @@ pub has-written : (x : Call) (t lent : Words) (dock : ℕ) {t′ lent′ : Words
 has-written x t lent dock {number = number} {stores} {stores′} {flushes} {flushes′} {barriers} {barriers′} h k =
     record {
       answer-is = subst (λ (z : Written). Counted z number stores stores′ flushes flushes′ barriers barriers′) (h .0) k;
+      table-is = h .1 .0;
+      list-is = h .1 .1;
+    }
+
+-- whether a batch's counts are put
+pub puts-zero : (n k : ℕ) → n ≡ 0 → true ≡ (eqb n 0 || ltb 0 k)
+puts-zero n k e = rw (eq-eqb n 0 e)
+
+pub puts-some : (n k : ℕ) → (n ≡ 0 → ⊥) → ltb 0 k ≡ (eqb n 0 || ltb 0 k)
+puts-some n k z = rw (ne-eqb n 0 z)
+
+-- what a batch's answer leaves in the lent words
+pub has-summed : (x : Batch) (b : Bool) {number : ℕ} (taken stores flushes barriers : ℕ) → b ≡ puts x → number ≡ x .number → not b ≡ true → Summed x number taken taken stores stores flushes flushes barriers barriers
+has-summed x b taken stores flushes barriers e n z =
+    let q : puts x ≡ false = sym e ∙ not-iff b .0 z in
+    let kept : (new old : ℕ) → old ≡ cond (puts x) new old = λ new old. rw q in
+    record { number-is = n; taken-are = kept (x .taken) taken; stores-are = kept (x .stores) stores; flushes-are = kept (x .flushes) flushes; barriers-are = kept (x .barriers) barriers }
+
+pub has-sums : (x : Batch) (b : Bool) {number : ℕ} (taken stores flushes barriers : ℕ) → b ≡ puts x → number ≡ x .number → not b ≡ false
+    → Summed x number taken (x .taken) stores (x .stores) flushes (x .flushes) barriers (x .barriers)
+has-sums x b taken stores flushes barriers e n z =
+    let q : puts x ≡ true = sym e ∙ not-false-iff b .0 z in
+    let put : (new old : ℕ) → new ≡ cond (puts x) new old = λ new old. rw q in
+    record { number-is = n; taken-are = put (x .taken) taken; stores-are = put (x .stores) stores; flushes-are = put (x .flushes) flushes; barriers-are = put (x .barriers) barriers }
+
+pub has-many : (n : ℕ) (pairs t lent : Words) (dock : ℕ) {t′ lent′ : Words} {a : Batch} {number taken taken′ stores stores′ flushes flushes′ barriers barriers′ : ℕ}
+    → (a ≡ batch n dock (slotsOf pairs) lent t .answer) × ((t′ ≡ batch n dock (slotsOf pairs) lent t .table) × (lent′ ≡ batch n dock (slotsOf pairs) lent t .list))
+    → Summed a number taken taken′ stores stores′ flushes flushes′ barriers barriers′
+    → WroteMany n pairs number t t′ lent lent′ dock taken taken′ stores stores′ flushes flushes′ barriers barriers′
+has-many n pairs t lent dock {number = number} {taken} {taken′} {stores} {stores′} {flushes} {flushes′} {barriers} {barriers′} h k =
+    record {
+      answer-is = subst (λ (z : Batch). Summed z number taken taken′ stores stores′ flushes flushes′ barriers barriers′) (h .0) k;
       table-is = h .1 .0;
       list-is = h .1 .1;
     }

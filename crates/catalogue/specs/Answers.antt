@@ -1,7 +1,10 @@
 -- What the C entry points return and leave in lent words.
 use mathlib.Core.Path.{_≡_}
+use mathlib.Core.Bool.{Bool, cond, _||_}
 use Prim.Native.Nat.{ℕ}
+use lib.Dec.{eqb, ltb}
 use lib.ListN.{length}
+use Rattle.model.specs.declared.Batch.{Batch}
 use Rattle.model.specs.declared.Answer.{Answer}
 use Rattle.model.specs.declared.Answer.the-variants.{Found, Absent, Refused}
 use Rattle.model.specs.declared.Listed.{Listed}
@@ -10,6 +13,7 @@ use Rattle.model.specs.declared.Verdict.{Verdict}
 use Rattle.model.specs.declared.Worn.{Worn}
 use Rattle.model.specs.declared.Written.{Written}
 use Rattle.model.specs.Table.{Words}
+use Rattle.model.specs.Slots.{slotsOf}
 use Rattle.model.specs.Writes.{Call}
 use Rattle.model.specs.Search.{recordingOr, accessOr, nextOr, higherOr}
 use Rattle.model.specs.Listing.{listedNumber, countOr, moreOr}
@@ -17,11 +21,12 @@ use Rattle.model.specs.Refusals.{written, tableAfter, listAfter, writtenNumber,
 use Rattle.model.specs.Salvage.{salvagedNumber, droppedOr}
 use Rattle.model.specs.Sentinels.{writtenWith, tableWith, ordersWith, sentinelsWith}
 use Rattle.model.specs.Judge.{verdictNumber, failsOr}
+use Rattle.model.specs.Batch.{batch}
 use Rattle.model.specs.Wear.{wornNumber, totalOr, largestOr, firstLineOr, pairsOr}
 
 -- the version of the calls' shapes: raised by each change of a name, a parameter or what a word means
 abbrev pub version : ℕ
-version = 12
+version = 13
 
 -- a search of C's: 0 for found, 255 for absent
 abbrev pub searchNumber : Answer → ℕ
@@ -49,6 +54,24 @@ pub record Wrote (x : Call) (number : ℕ) (t t′ lent lent′ : Words) (dock s
   pub answer-is : Counted (written x (length lent) dock t) number stores stores′ flushes flushes′ barriers barriers′
   pub table-is : t′ ≡ tableAfter x (length lent) dock t
   pub list-is : lent′ ≡ listAfter x lent dock t
+
+-- a batch's counts are put where a pair was taken, or none was refused; else the lent words stay
+abbrev pub puts : Batch → Bool
+puts x = eqb (x .number) 0 || ltb 0 (x .taken)
+
+pub record Summed (x : Batch) (number taken taken′ stores stores′ flushes flushes′ barriers barriers′ : ℕ) : Type 0 where
+  pub number-is : number ≡ x .number
+  pub taken-are : taken′ ≡ cond (puts x) (x .taken) taken
+  pub stores-are : stores′ ≡ cond (puts x) (x .stores) stores
+  pub flushes-are : flushes′ ≡ cond (puts x) (x .flushes) flushes
+  pub barriers-are : barriers′ ≡ cond (puts x) (x .barriers) barriers
+
+-- many insertions into collection n
+pub record WroteMany (n : ℕ) (pairs : Words) (number : ℕ) (t t′ lent lent′ : Words)
+    (dock taken taken′ stores stores′ flushes flushes′ barriers barriers′ : ℕ) : Type 0 where
+  pub answer-is : Summed (batch n dock (slotsOf pairs) lent t .answer) number taken taken′ stores stores′ flushes flushes′ barriers barriers′
+  pub table-is : t′ ≡ batch n dock (slotsOf pairs) lent t .table
+  pub list-is : lent′ ≡ batch n dock (slotsOf pairs) lent t .list
 
 -- a writing call that takes the sentinels
 pub record WroteWith (x : Call) (number : ℕ) (t t′ ws ws′ lent lent′ : Words) (dock stores stores′ flushes flushes′ barriers barriers′ : ℕ) : Type 0 where

@@ -1,6 +1,7 @@
 // The C entry points, on numbers and slices: include/catalogue.h has their prototypes, in this order. An answer is put into a lent word
 // only where the call does its work.
 use model::Answer;
+use model::Batch;
 use model::Listed;
 use model::Next;
 use model::Outcome;
@@ -16,7 +17,7 @@ ghost use Rattle.model.specs.Table.{making, made, outcomeNumber};
 ghost use Rattle.model.specs.Orders.{carryOut, carriedOut};
 ghost use Rattle.model.specs.Search.{search};
 ghost use Rattle.model.specs.Writes.{insertion, deletion, classChange, repair};
-ghost use Rattle.catalogue.specs.Answers.{version, Looked, Counted, Wrote, WroteWith, Showed, Rebuilt, Ruled, Wore};
+ghost use Rattle.catalogue.specs.Answers.{version, Looked, Counted, Wrote, puts, Summed, WroteMany, WroteWith, Showed, Rebuilt, Ruled, Wore};
 ghost use Rattle.model.specs.Sentinels.{workOut, workedOut, searchWith};
 ghost use Rattle.model.specs.Salvage.{salvage, salvageOut, salvageReport};
 ghost use Rattle.model.specs.Judge.{judge, judgeOut};
@@ -32,7 +33,7 @@ ghost use Rattle.model.specs.Pack.{packing, packOut};
 pub extern "C" fn catalogue_version() -> u64
     ensures { λ r. ⌜ r ≡ version ⌝ }
 {
-    12
+    13
 }
 
 // 0 and the code's key, or 1.
@@ -225,6 +226,58 @@ pub extern "C" fn catalogue_insert(
 {
     let answer = insert::insert(table, orders, dock, collection, key, recording, access);
     put_counts(answer, stores, flushes, barriers)
+}
+
+// Whether a batch's counts are put into the lent words: a pair was taken, or none was refused.
+fn puts(answer: Batch) -> bool
+    ensures { λ r. ⌜ r ≡ puts answer ⌝ }
+{
+    if answer.number == 0 {
+        return true;
+    }
+    0 < answer.taken
+}
+
+// A batch's number, and its counts into the lent words.
+fn put_sums(
+    answer: Batch,
+    taken: &mut u64,
+    stores: &mut u64,
+    flushes: &mut u64,
+    barriers: &mut u64,
+) -> u64
+    ensures { λ r. ⌜ Summed answer r (now (taken .entry)) (now (taken .exit)) (now (stores .entry)) (now (stores .exit))
+        (now (flushes .entry)) (now (flushes .exit)) (now (barriers .entry)) (now (barriers .exit)) ⌝ }
+{
+    if !puts(answer) {
+        return answer.number as u64;
+    }
+    *taken = answer.taken;
+    *stores = answer.stores;
+    *flushes = answer.flushes;
+    *barriers = answer.barriers;
+    answer.number as u64
+}
+
+// 0 where all pairs were taken, or the number that stopped them; with the counts where one was taken or 0 is returned.
+#[no_mangle]
+pub extern "C" fn catalogue_insert_many(
+    table: &mut [u64],
+    collection: u64,
+    orders: &mut [u64],
+    dock: u64,
+    pairs: &[u64],
+    taken: &mut u64,
+    stores: &mut u64,
+    flushes: &mut u64,
+    barriers: &mut u64,
+) -> u64
+    ensures { λ r. ⌜ WroteMany collection (now (pairs .entry)) r (now (table .entry)) (now (table .exit)) (now (orders .entry)) (now (orders .exit))
+        dock (now (taken .entry)) (now (taken .exit)) (now (stores .entry)) (now (stores .exit)) (now (flushes .entry)) (now (flushes .exit))
+        (now (barriers .entry)) (now (barriers .exit)) ⌝ }
+{
+    let answer = insert_many::insert_many(table, orders, dock, collection, pairs);
+    put_sums(answer, taken, stores, flushes, barriers)
 }
 
 #[no_mangle]

@@ -363,6 +363,11 @@ module _ (n N : ℕ) (kind : (n ≡ 1) ⊎ (n ≡ 2)) (low : n ≤ N) (high : N 
   kept [] p = agrees N _ _ (inv [] p)
   kept (e ∷ h) p = (agrees N _ _ (inv (e ∷ h) p), step-right N (runAll n N h) e (ledgerAfter (choose n N) n N h) (inv h (p .0)) (p .1))
 
+-- along every history memory is the working copy, and sound
+pub both-sound : (n N : ℕ) → (n ≡ 1) ⊎ (n ≡ 2) → n ≤ N → N ≤ 65535 → (h : History) → May n N h
+    → (runAll n N h .memory ≡ runAll n N h .working) × (sound (runAll n N h .working) ≡ true)
+both-sound n N kind low high h p = let v = inv n N kind low high h p in (v .both, v .fine)
+
 -- For one collection or two, every N and every sequence of insertions, deletions, class changes and repairs, whole or cut, each on its dock,
 -- with sentinels or without.
 pub demand3 : Demand3

@@ -1,5 +1,6 @@
 -- Demand 3, histories that may happen, and drawings that do not hold.
 pub mod Demand3
+pub mod Batches
 pub mod Images
 pub mod Happens
 pub mod HappensTwo

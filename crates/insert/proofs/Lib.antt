@@ -4,3 +4,4 @@ pub mod Judging
 pub mod Growing
 pub mod Splitting
 pub mod Entering
+pub mod Counting

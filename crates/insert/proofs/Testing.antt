@@ -9,7 +9,7 @@ use lib.ListN.{length}
 use borrow.Author.Tests.{leb-true, le-leb, ltb-true, lt-ltb}
 use Rattle.model.specs.Table.{Words, at, rootWord}
 use Rattle.model.specs.Slots.{View, viewFrom, height}
-use Rattle.model.specs.Reached.{mapping}
+use Rattle.model.specs.Reached.{mapping, mapOf}
 use Rattle.model.specs.SoundTest.{soundView}
 use Rattle.model.specs.Writes.{unreachable, insertion}
 use Rattle.model.specs.Refusals.{firstNumber, hasRecording, mapTests}
@@ -34,6 +34,13 @@ module _ (v : View) (r : ℕ) (s : soundView v ≡ true) (h : Hit) (e : h ≡ hi
 
   pub recording-nowhere : h ≡ Nowhere → false ≡ hasRecording r (mapping v)
   recording-nowhere q = sym (ap isHit q) ∙ answered
+
+-- where it is known, by the root that was read
+pub known-here : (n : ℕ) (t : Words) (root : ℕ) → root ≡ at t (rootWord n) → (known : Bool) (r : ℕ) → known ≡ hasRecording r (mapOf n t) → hasRecording r (mapping (viewFrom t root)) ≡ known
+known-here n t root e known r q = ap (λ (x : ℕ). hasRecording r (mapping (viewFrom t x))) e ∙ sym q
+
+pub found-here : (n : ℕ) (t : Words) (root : ℕ) → root ≡ at t (rootWord n) → (known : Bool) (r : ℕ) → known ≡ hasRecording r (mapping (viewFrom t root)) → known ≡ hasRecording r (mapOf n t)
+found-here n t root e known r q = q ∙ ap (λ (x : ℕ). hasRecording r (mapping (viewFrom t x))) e
 
 -- ---- 11 and 10
 
@@ -70,3 +77,11 @@ test-not a b n rest e h = rw (← e, h)
 
 pub test-so : (a b : Bool) (n rest : ℕ) → a ≡ b → not a ≡ false → cond (not b) n rest ≡ rest
 test-so a b n rest e h = rw (← e, h)
+
+-- ---- the nodes that a run takes
+
+pub sum-whole : (n m : ℕ) (b : Bool) → b ≡ true → n + m + 1 ≡ n + (m + cond b 1 0)
+sum-whole n m b e = rw e (omega arith)
+
+pub sum-part : (n m : ℕ) (b : Bool) → b ≡ false → n + m ≡ n + (m + cond b 1 0)
+sum-part n m b e = rw e (omega arith)

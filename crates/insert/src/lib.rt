@@ -6,19 +6,33 @@ use reach::Run;
 use sound::Leftover;
 use write::Judged;
 ghost use mathlib.Core.Path.{_≡_};
-ghost use mathlib.Core.Bool.{true, false};
-ghost use Prim.Native.Nat.{_+_};
+ghost use mathlib.Core.Bool.{true, false, cond};
+ghost use mathlib.Core.Option.{some};
+ghost use Prim.Native.Nat.{_+_, _≤_};
 ghost use lib.ListN.{length};
 ghost use Rattle.model.specs.Table.{noCollection};
 ghost use Rattle.model.specs.Slots.{pointerOf, viewFrom};
-ghost use Rattle.model.specs.Reached.{mapping, reachedAll};
-ghost use Rattle.model.specs.SoundTest.{settled, soundView, sound};
+ghost use Rattle.model.specs.Reached.{mapping, mapOf, reachedAll};
+ghost use Rattle.model.specs.SoundTest.{leftoverAll, settled, soundView, sound};
 ghost use Rattle.model.specs.Writes.{rootInRun, splits, rootStores, insertSettled, insertion};
-ghost use Rattle.model.specs.Refusals.{tooFew, hasRecording, written, tableAfter, listAfter};
+ghost use Rattle.model.specs.Refusals.{tooFew, hasRecording, wordsFor, written, tableAfter, listAfter};
 ghost use Rattle.two_laws.specs.Parts.{Enters, splitFor, Splittable, Ready};
 ghost use Rattle.sound.specs.Checked.{meant};
 ghost use Rattle.orders.specs.Desk.{desk, storedAll, Room};
 ghost use Rattle.insert.specs.Tests.{parentOf, highRun, fewFor, numberFor, runOf};
+ghost use Rattle.insert.specs.Entered.{asWritten, Counts};
+
+// What an insertion into a table that is known to be sound answers: how many stores, flushes and barriers its order list has, and how many
+// nodes are reached after it.
+pub enum Entered {
+    Done {
+        stores: u64,
+        flushes: u64,
+        barriers: u64,
+        reached: u64,
+    },
+    Refused(u8),
+}
 
 // ---- the tests from 6 on
 
@@ -39,7 +53,7 @@ fn parent_of(left: Leftover) -> u64
 }
 
 // Whether the map of the tree under a root has the recording number.
-fn has_recording(table: &[u64], root: u64, recording: u64) -> bool
+pub fn has_recording(table: &[u64], root: u64, recording: u64) -> bool
     requires { ⌜ soundView (viewFrom (now table) root) ≡ true ⌝ }
     ensures { λ r. ⌜ r ≡ hasRecording recording (mapping (viewFrom (now (table .entry)) root)) ⌝ }
 {
@@ -70,7 +84,47 @@ fn too_few(free: u64, run: Run) -> bool
     free < run.length
 }
 
-// The number of the first test from 6 on that holds; 0 where none does. 10 counts the nodes that neither root reaches.
+// The number of the first test from 6 on that holds; 0 where none does. Whether the map has the recording is known; 10 counts the nodes that
+// neither root reaches.
+fn number_known(
+    table: &[u64],
+    collection: u64,
+    key: u64,
+    recording: u64,
+    access: u64,
+    run: Run,
+    count: u64,
+    known: bool,
+) -> u8
+    requires { ⌜ noCollection collection (now table) ≡ false ⌝ }
+    requires { ⌜ sound (now table) ≡ true ⌝ }
+    requires { ⌜ count ≡ length (reachedAll (now table)) ⌝ }
+    requires { ⌜ known ≡ hasRecording recording (mapOf collection (now table)) ⌝ }
+    ensures { λ r. ⌜ r ≡ numberFor collection (now (table .entry)) key recording access run ⌝ }
+{
+    let root = node::root_of(table, collection);
+    if !pointer::recording_ok(recording) {
+        return 6;
+    }
+    if !pointer::class_ok(access) {
+        return 14;
+    }
+    if write::has_key(table, root, key) {
+        return 7;
+    }
+    if known {
+        return 8;
+    }
+    if too_high(table, root, run) {
+        return 11;
+    }
+    if too_few(reach::unreachable(table, count), run) {
+        return 10;
+    }
+    0
+}
+
+// The same where the recording is still to be looked for.
 pub fn number(
     table: &[u64],
     collection: u64,
@@ -85,26 +139,8 @@ pub fn number(
     requires { ⌜ count ≡ length (reachedAll (now table)) ⌝ }
     ensures { λ r. ⌜ r ≡ numberFor collection (now (table .entry)) key recording access run ⌝ }
 {
-    let root = node::root_of(table, collection);
-    if !pointer::recording_ok(recording) {
-        return 6;
-    }
-    if !pointer::class_ok(access) {
-        return 14;
-    }
-    if write::has_key(table, root, key) {
-        return 7;
-    }
-    if has_recording(table, root, recording) {
-        return 8;
-    }
-    if too_high(table, root, run) {
-        return 11;
-    }
-    if too_few(reach::unreachable(table, count), run) {
-        return 10;
-    }
-    0
+    let known = has_recording(table, node::root_of(table, collection), recording);
+    number_known(table, collection, key, recording, access, run, count, known)
 }
 
 // ---- into a settled table
@@ -198,6 +234,71 @@ fn enter(
     shift::shift_in(table, list, split, leaf, key, x)
 }
 
+// How many nodes are reached after an insertion with this run.
+fn reached_after(reached: u64, run: Run) -> u64
+    requires { ⌜ reached + (run .length + cond (run .root) 1 0) ≤ 65535 ⌝ }
+    ensures { λ r. ⌜ r ≡ reached + (run .length + cond (run .root) 1 0) ⌝ }
+{
+    if run.root {
+        return reached + run.length + 1;
+    }
+    reached + run.length
+}
+
+// ---- the call
+
+// The insertion into a sound table whose leftover and reached nodes are known, with a list that is long enough for the dock, where it is known
+// whether the map has the recording.
+pub fn insert_known(
+    table: &mut [u64],
+    list: &mut [u64],
+    dock: u64,
+    collection: u64,
+    key: u64,
+    recording: u64,
+    access: u64,
+    left: Leftover,
+    reached: u64,
+    known: bool,
+) -> Entered
+    requires { ⌜ sound (now table) ≡ true ⌝ }
+    requires { ⌜ leftoverAll (now table) ≡ some (meant left) ⌝ }
+    requires { ⌜ reached ≡ length (reachedAll (now table)) ⌝ }
+    requires { ⌜ noCollection collection (now table) ≡ false ⌝ }
+    requires { ⌜ dock ≤ 1 ⌝ }
+    requires { ⌜ wordsFor dock ≤ length (now list) ⌝ }
+    requires { ⌜ known ≡ hasRecording recording (mapOf collection (now table)) ⌝ }
+    ensures { λ r. ⌜ asWritten r ≡ written (insertion collection key recording access) (length (now (list .entry))) dock (now (table .entry)) ⌝ }
+    ensures { λ r. ⌜ now (table .exit) ≡ tableAfter (insertion collection key recording access) (length (now (list .entry))) dock (now (table .entry)) ⌝ }
+    ensures { λ r. ⌜ now (list .exit) ≡ listAfter (insertion collection key recording access) (now (list .entry)) dock (now (table .entry)) ⌝ }
+    ensures { λ r. ⌜ Counts r (now (table .exit)) ⌝ }
+{
+    let root = node::root_of(table, collection);
+    let run = reach::full_run(table, root, key, parent_of(left));
+    let n = number_known(
+        table,
+        collection,
+        key,
+        recording,
+        access,
+        run,
+        reached,
+        known,
+    );
+    if n != 0 {
+        return Entered::Refused(n);
+    }
+    let mended = write::mend(table, list, write::begin(dock), left);
+    let entered = enter(table, list, mended, collection, key, recording, access, run);
+    let done = orders::finish(list, entered);
+    Entered::Done {
+        stores: done.stores,
+        flushes: done.flushes,
+        barriers: done.barriers,
+        reached: reached_after(reached, run),
+    }
+}
+
 // The insertion call.
 pub fn insert(
     table: &mut [u64],
@@ -216,19 +317,31 @@ pub fn insert(
     match judgement {
         Judged::Refused(n) => Written::Refused(n),
         Judged::Ready { left, reached } => {
-            let root = node::root_of(table, collection);
-            let run = reach::full_run(table, root, key, parent_of(left));
-            let n = number(table, collection, key, recording, access, run, reached);
-            if n != 0 {
-                return Written::Refused(n);
-            }
-            let mended = write::mend(table, list, write::begin(dock), left);
-            let entered = enter(table, list, mended, collection, key, recording, access, run);
-            let done = orders::finish(list, entered);
-            Written::Done {
-                stores: done.stores,
-                flushes: done.flushes,
-                barriers: done.barriers,
+            let known = has_recording(table, node::root_of(table, collection), recording);
+            let entered = insert_known(
+                table,
+                list,
+                dock,
+                collection,
+                key,
+                recording,
+                access,
+                left,
+                reached,
+                known,
+            );
+            match entered {
+                Entered::Refused(n) => Written::Refused(n),
+                Entered::Done {
+                    stores,
+                    flushes,
+                    barriers,
+                    reached: _,
+                } => Written::Done {
+                    stores: stores,
+                    flushes: flushes,
+                    barriers: barriers,
+                },
             }
         }
     }

@@ -22,6 +22,7 @@ use Rattle.model.specs.Looks
 use Rattle.model.specs.Scripts
 use Rattle.model.specs.Wear
 use Rattle.model.specs.Pack
+use Rattle.model.specs.Batch
 
 unfoldable pub everything : Unit {0}
 unfolding Codes.isDigit Codes.isLetter Codes.isLetterOrDigit Codes.every Codes.isCode Codes.value Codes.readOn Codes.number Codes.keyOf Codes.parse Codes.character
@@ -67,4 +68,5 @@ unfolding Codes.isDigit Codes.isLetter Codes.isLetterOrDigit Codes.every Codes.i
     Wear.storedTo Wear.storesTo Wear.wearOf Wear.largest Wear.firstAt Wear.joinAll Wear.extentsOf Wear.extentWords Wear.wearNumber Wear.figures Wear.worn
     Wear.linesAfter Wear.pairsAfter
     Pack.pairsOk Pack.mapsIn Pack.mapsOk Pack.packNumber Pack.packing Pack.packOut
+    Batch.batch
 everything = tt

@@ -24,3 +24,4 @@ pub mod Looks
 pub mod Scripts
 pub mod Wear
 pub mod Pack
+pub mod Batch

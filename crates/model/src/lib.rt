@@ -114,3 +114,13 @@ pub enum Ranked {
     Number(u64),
     Refused(u8),
 }
+
+// What many insertions in one call answer: the number that stopped it, 0 where all pairs were taken; how many pairs were taken, and how many
+// stores, flushes and barriers the order list has.
+pub struct Batch {
+    pub number: u8,
+    pub taken: u64,
+    pub stores: u64,
+    pub flushes: u64,
+    pub barriers: u64,
+}

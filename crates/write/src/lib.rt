@@ -23,7 +23,7 @@ pub enum Judged {
 }
 
 // The words that an order list for the dock must have.
-fn words_for(dock: u64) -> usize
+pub fn words_for(dock: u64) -> usize
     ensures { λ r. ⌜ r ≡ wordsFor dock ⌝ }
 {
     if dock == 0 {

@@ -1,0 +1,4 @@
+-- Many insertions in one call.
+pub mod Taking
+pub mod After
+pub mod Folds

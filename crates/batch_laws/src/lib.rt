@@ -1,0 +1,1 @@
+// Many insertions in one call, from the laws of the single calls, in proofs/. No code.

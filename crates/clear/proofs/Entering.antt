@@ -1,0 +1,55 @@
+-- The pairs' recordings entered, from the last to the first.
+use mathlib.Core.Path.{_≡_, refl, ap, sym, _∙_, subst}
+use mathlib.Core.Bool.{true}
+use mathlib.Core.List.{List, [], _∷_, map}
+use Prim.Native.Nat.{ℕ, zero, suc, _+_, _*_, _-_, _%_, _≤_, _<_}
+use native.Mathlib.Omega.{arith}
+use lib.ListN.{length, take, drop, getD, replicate}
+use Rattle.model.specs.Table.{Words}
+use Rattle.model.specs.Slots.{Slot, slot, slotsOf, recording, recordingOf}
+use Rattle.model.specs.SoundTest.{elem, distinct}
+use Rattle.list_laws.proofs.Distinct.{distinct-cons}
+use Rattle.batch_laws.proofs.Folds.{pair-at}
+use Rattle.numbers.specs.declared.Entry.{Entry}
+use Rattle.numbers.specs.declared.Entry.the-variants.{Entered}
+use Rattle.numbers.specs.Cells.{CELLS, TRIES, mixed, Outcome, outcome, entered}
+use Rattle.numbers.proofs.Filed.{Stored, Told, told, filed-none, new-number, filed-more}
+use Rattle.clear.specs.New.{recordingsOf, Holds}
+
+pub holds-none : Holds (replicate CELLS 0) []
+unfolding elem distinct
+holds-none = record { filed = filed-none TRIES CELLS; some = tt; apart = refl }
+
+-- one number more
+pub holds-more : (cs : Words) (y : ℕ) (xs : List ℕ) (e : Entry) (after : Words) → Holds cs xs → outcome e after ≡ entered TRIES cs y → e ≡ Entered → Holds after (y ∷ xs)
+unfolding elem
+holds-more cs y xs e after h q a =
+    let s : Stored CELLS cs after y (mixed y % CELLS) TRIES =
+    subst (λ (x : Entry). Told CELLS cs y (mixed y % CELLS) TRIES x after) a
+    (subst (λ (o : Outcome). Told CELLS cs y (mixed y % CELLS) TRIES (o .answer) (o .cells)) (sym q) (told CELLS TRIES cs y (h .filed .long) (omega arith))) in
+    record {
+      filed = filed-more TRIES CELLS cs (λ (r : ℕ). elem r xs) (h .filed) y after s;
+      some = (s .some, h .some);
+      apart = distinct-cons y xs .1 (new-number TRIES CELLS cs (λ (r : ℕ). elem r xs) (h .filed) y after s, h .apart);
+    }
+
+-- ---- the recordings of the pairs from i on
+
+pub recordings-none : (pairs : Words) (i j : ℕ) → j ≤ i → recordingsOf pairs i j ≡ []
+unfolding recordingsOf
+recordings-none pairs i j h = let e : j - i ≡ 0 = omega arith in ap (λ (k : ℕ). map recording (take k (drop i (slotsOf pairs)))) e
+
+pub recordings-next : (pairs : Words) (i j : ℕ) → i < j → 2 * i + 1 < length pairs → recordingsOf pairs i j ≡ recordingOf (getD pairs (2 * i + 1) 0) ∷ recordingsOf pairs (suc i) j
+unfolding recordingsOf
+recordings-next pairs i j h m =
+    let e : j - i ≡ suc (j - suc i) = omega arith in
+    ap (λ (k : ℕ). map recording (take k (drop i (slotsOf pairs)))) e ∙ ap (λ (ss : List Slot). map recording (take (suc (j - suc i)) ss)) (pair-at pairs i m)
+
+-- the pair before them is entered
+pub holds-pair : (pairs : Words) (i j : ℕ) (cs : Words) (e : Entry) (after : Words) (x : ℕ) → Holds cs (recordingsOf pairs i j) → 0 < i → i ≤ j → 2 * j ≤ length pairs
+    → x ≡ recordingOf (getD pairs (2 * (i - 1) + 1) 0) → outcome e after ≡ entered TRIES cs x → e ≡ Entered → Holds after (recordingsOf pairs (i - 1) j)
+holds-pair pairs i j cs e after x h p l m f q a =
+    let d : suc (i - 1) ≡ i = omega arith in
+    let g : recordingsOf pairs (i - 1) j ≡ x ∷ recordingsOf pairs i j =
+    recordings-next pairs (i - 1) j (omega arith) (omega arith) ∙ ap (λ (k : ℕ). recordingOf (getD pairs (2 * (i - 1) + 1) 0) ∷ recordingsOf pairs k j) d ∙ ap (λ (y : ℕ). y ∷ recordingsOf pairs i j) (sym f) in
+    rw g (holds-more cs x (recordingsOf pairs i j) e after h q a)

@@ -1,0 +1,2 @@
+-- Recordings that are new to a map.
+pub mod New

@@ -1,0 +1,2 @@
+-- The laws behind many insertions in one call.
+pub mod Going

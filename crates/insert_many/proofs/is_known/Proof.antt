@@ -1,0 +1,53 @@
+-- `insert_many::is_known` meets its contract.
+use mathlib.Core.Path.{_∙_}
+use Rattle.two_laws.proofs.SearchTwo.{sound-head}
+use Rattle.write.proofs.Rooted.{root-sound}
+use Rattle.insert_many.proofs.Going.{known-pair}
+use borrow.Author.Needs.{needs}
+use Rattle.insert_many.proofs.is_known.Statement.{statement}
+use Rattle.insert_many.proofs.is_known.Tie as tie
+
+-- ---- the places
+
+abbrev read : tie.After-recording → tie.After-root-of
+read c = c .before .before
+
+-- ---- the answers
+
+root-of-requires : tie.Need-root-of-requires
+root-of-requires c κs = let e = c .before .before .pre in (sound-head _ (e .0), e .1 .0)
+
+mul-recording : tie.Need-mul-recording
+mul-recording c = search needs
+
+add-recording : tie.Need-add-recording
+add-recording c = search needs
+
+mul-recording-2 : tie.Need-mul-recording-2
+mul-recording-2 c = search needs
+
+shared-slice-read-recording : tie.Need-shared-slice-read-recording
+shared-slice-read-recording c = search needs
+
+recording-requires : tie.Need-recording-requires
+recording-requires c κs = search needs
+
+has-recording-requires : tie.Need-has-recording-requires
+has-recording-requires c κs = let r = read c in let e = r .before .before .before .pre in root-sound _ _ _ (r .root-of .ensures) (e .0) (e .1 .0)
+
+returns : tie.Need-returns
+returns c = let r = read (c .before) in let a = r .before .before .before .args in
+    known-pair (a .collection) (a .table .now) (r .root-of .result) (r .root-of .ensures) _ _ (c .before .recording .ensures) _ (c .has-recording .ensures)
+
+pub is-known-spec : {M : Type 1} → statement M
+is-known-spec =
+    tie.close
+    (tie.spec
+    root-of-requires
+    mul-recording
+    add-recording
+    mul-recording-2
+    shared-slice-read-recording
+    recording-requires
+    has-recording-requires
+    returns)

@@ -1,0 +1,78 @@
+-- `insert_many::take_all` meets its contract. The loop's invariant: from here the batch comes to what it comes to from the start.
+use mathlib.Core.Path.{_≡_, refl, sym, _∙_}
+use Prim.Native.Nat.{_-_, _/_}
+use native.Mathlib.Omega.{arith}
+use lib.ListN.{length}
+use Rattle.model.specs.Slots.{slotsOf}
+use Rattle.model.specs.Batch.{batch}
+use Rattle.insert_many.specs.Going.{ahead, Fit}
+use Rattle.insert_many.proofs.Going.{ahead-start, ahead-stopped, ahead-all}
+use borrow.Author.Needs.{needs}
+use Rattle.insert_many.proofs.take_all.Statement.{statement}
+use Rattle.insert_many.proofs.take_all.Tie as tie
+
+abbrev Inv-loop : tie.InvT-loop
+Inv-loop table₀ list₀ dock collection pairs reached count p₀ table list p =
+    (length table ≡ length table₀) × (length list ≡ length list₀) × (count ≡ length pairs / 2) × (p .number ≡ 0) × Fit collection dock p list table
+    × (ahead collection dock (slotsOf pairs) p list table ≡ batch collection dock (slotsOf pairs) list₀ table₀)
+
+abbrev μ-loop : tie.MeasureT-loop
+μ-loop table₀ list₀ dock collection pairs reached count p₀ table list p = count - p .taken
+
+loop-holds : tie.Need-loop-holds Inv-loop μ-loop
+loop-holds c = let e = c .before .before .before .pre in
+    (refl, refl, refl, refl,
+    record { is-sound = e .0; leftover-is = e .1 .0; reached-are = e .1 .1 .0; collection = e .1 .1 .1 .0; dock-ok = e .1 .1 .1 .1; filled = refl; inside = omega arith },
+    ahead-start _ _ _ _ _ _ refl refl refl refl refl refl)
+
+is-known-requires : tie.Need-is-known-requires Inv-loop μ-loop
+is-known-requires c κs = let h = c .before .before .before .loop .inv in let f = h .4 in (f .is-sound, (f .collection, omega (arith, h .2, c .before .if1 .taken)))
+
+take-next-requires : tie.Need-take-next-requires Inv-loop μ-loop
+take-next-requires c κs = let k = c .before .before in let t = k .before .before in let h = t .before .before .loop .inv in
+    (h .4, (h .3, (omega (arith, h .2, t .if1 .taken), k .is-known .ensures)))
+
+same-length : tie.Need-same-length Inv-loop μ-loop
+same-length c = search needs
+
+same-length-2 : tie.Need-same-length-2 Inv-loop μ-loop
+same-length-2 c = search needs
+
+returns : tie.Need-returns Inv-loop μ-loop
+returns c = let j = c .before .before .before .before .before .before in let h = j .before .before .before .before .before .before .before .loop .inv in
+    ahead-stopped _ _ _ _ _ _ (c .if2 .taken) ∙ j .take-next .ensures .0 ∙ h .5
+
+loop-less : tie.Need-loop-less Inv-loop μ-loop
+loop-less c = let j = c .before .before .before .before .before .before in let t = j .before .before .before .before .before in
+    omega (arith, j .take-next .ensures .1 .1 (c .if2 .left) .0, t .if1 .taken)
+
+loop-again : tie.Need-loop-again Inv-loop μ-loop
+loop-again c = let j = c .before .before .before .before .before .before in let h = j .before .before .before .before .before .before .before .loop .inv in let q = j .take-next .ensures in
+    (search needs, search needs, refl, c .if2 .left, q .1 .0, q .0 ∙ h .5)
+
+same-length-3 : tie.Need-same-length-3 Inv-loop μ-loop
+same-length-3 c = search needs
+
+same-length-4 : tie.Need-same-length-4 Inv-loop μ-loop
+same-length-4 c = search needs
+
+returns-2 : tie.Need-returns-2 Inv-loop μ-loop
+returns-2 c = let h = c .before .before .loop .inv in let k = c .if1 .left in ahead-all _ _ _ _ _ _ (h .3) (omega (arith, h .2, k)) (h .4 .inside) ∙ h .5
+
+pub take-all-spec : {M : Type 1} → statement M
+take-all-spec =
+    tie.close
+    (tie.spec
+    Inv-loop
+    μ-loop
+    loop-holds
+    is-known-requires
+    take-next-requires
+    same-length
+    same-length-2
+    returns
+    loop-less
+    loop-again
+    same-length-3
+    same-length-4
+    returns-2)

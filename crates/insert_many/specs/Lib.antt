@@ -1,0 +1,2 @@
+-- How far a batch has come.
+pub mod Going
