@@ -13,6 +13,7 @@
 #include "judge.h"
 #include "lesson.h"
 #include "looks.h"
+#include "pack.h"
 #include "salvage.h"
 #include "scripts.h"
 #include "table.h"
@@ -155,7 +156,7 @@ static int tell_wear(struct table *t, struct command_line *l)
 
 static int copy_table(struct table *t, struct command_line *l)
 {
-    return table_copy(t, l->words[2], l->nodes);
+    return pack_copy(t, l->words[2], &l->nodes);
 }
 
 static int salvage_table(struct table *t, struct command_line *l)
@@ -207,7 +208,9 @@ static int command_make(struct command_line *l)
 
 static int command_copy(struct command_line *l)
 {
-    int status = read_nodes(l, l->words[3]);
+    int status = l->count > 3 ? read_nodes(l, l->words[3]) : 0;
+    if (status == 0 && l->count > 3 && l->nodes == 0)
+        status = fail(BAD_USAGE, "0: a table has 1 to %d nodes", MOST_NODES);
     if (status == 0)
         status = with_table(l, false, copy_table);
     return status != 0 ? status : say_made(l->words[2], l->nodes, "");
@@ -373,13 +376,14 @@ const struct command commands[] = {
      "adds the lines code,recording or code,recording,class of a file, or of standard input\n"
      "where it is -; a line without a class is open. A byte-order mark, a header line, empty\n"
      "lines, spaces and quotes around the fields are passed over. Loading stops at the first\n"
-     "bad line; the first 20 are told",
+     "bad line; the first 20 are told. Into an empty collection the lines are packed, by a new\n"
+     "file in the table's place; into one with codes they go by batches",
      "load room.cat codes.csv", 3, 3, NAMING | DOCKING | LOADING | CARRYING | WAITING, command_load},
     {"repair", "TABLE",
      "finishes what a power cut left unfinished, in either collection (add, remove, class and\nload do so first)", "repair room.cat", 2, 2,
      DOCKING | CUT | CARRYING | WAITING, command_repair},
-    {"copy", "TABLE NEW NODES", "a new table of NODES nodes, as many as TABLE has or more, with the same codes",
-     "copy room.cat larger.cat 200", 4, 4, WAITING, command_copy},
+    {"copy", "TABLE NEW [NODES]", "a new table of NODES nodes, or of as many as are needed, with the same codes, packed",
+     "copy room.cat larger.cat 200", 3, 4, WAITING, command_copy},
     {"salvage", "TABLE NEW",
      "a new table of as many nodes with what can be read of TABLE, which is damaged and stays\n"
      "as it is; prints each slot that is dropped, and why",

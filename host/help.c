@@ -30,7 +30,9 @@ static const char durability[] =
     "every change that was answered, and the one under way done or not done. That holds as far as the disk keeps what it\n"
     "says it has written. It costs some waits for the disk a change. With --fast there is one wait, at the end: a power cut\n"
     "before it can destroy the whole table, older codes too. A file in memory (tmpfs, as /dev/shm) is gone after a power cut.\n"
-    "A killed program leaves a sound table everywhere.\n";
+    "A killed program leaves a sound table everywhere. load puts a new file, synced, in the table's place if a collection is\n"
+    "empty, and on an ordinary disk for a batch of many lines: a power cut leaves the old file or the new one, and every\n"
+    "line that was acknowledged.\n";
 
 /* An entry of two columns, and an example. */
 static void print_entry(const char *name, const char *form, const char *about, const char *example)

@@ -124,10 +124,7 @@ static int read_drawing(struct part *p, const char *name, int beside)
         return status;
     snprintf(csv, sizeof csv, "%s.csv", table);
     p->base = table_of(drawing_text(csv) ? drawing_text(csv) : "", &words);
-    FILE *in = fmemopen((void *)(uintptr_t)text, strlen(text), "r");
-    status = in ? order_list_read_from(&p->list, in, name) : fail(BAD_FILE, "not enough memory");
-    if (in)
-        fclose(in);
+    status = order_list_read_text(&p->list, name, text);
     read_remark(p, text);
     set_scene(p, words, p->list.words, p->list.count, beside);
     p->scene.list = name;

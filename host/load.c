@@ -7,28 +7,13 @@
 #include <stdio.h>
 #include <string.h>
 
-#include "change.h"
-#include "progress.h"
-#include "rows.h"
+#include "catalogue.h"
+#include "loading.h"
+#include "stack.h"
 #include "text.h"
-#include "wear.h"
 
 /* Bad lines that are shown; the others are counted. */
 #define SHOWN_BAD 20
-
-struct loading {
-    struct table *table;
-    const struct load_options *options;
-    const char *name;
-    struct rows rows;
-    struct progress progress;
-    uint64_t added, there, bad;
-    int first_bad;    /* the first bad line's exit status */
-    uint64_t stopped; /* the bad line that ended the loading, 0 for none: the lines after it are only read */
-    struct change change;
-    bool classed; /* the line has a class */
-    struct wearing wearing; /* where it is asked for */
-};
 
 /* ---- signals */
 
@@ -48,88 +33,99 @@ static void watch_signal(int number)
         sigaction(number, &action, NULL);
 }
 
-/* ---- a line */
+/* ---- what becomes of a line */
 
-/* The table has this code with this recording; *access is its class there. */
-static bool recording_there(const struct loading *l, uint64_t *access)
+bool load_known(const struct loading *l, uint64_t key, uint64_t *recording, uint64_t *access)
 {
-    uint64_t recording, next, higher;
-    uint64_t number = catalogue_search(l->table->expected, l->table->words, l->table->collection, l->change.key, &recording,
-                                       access, &next, &higher);
-    return number == 0 && recording == l->change.recording;
-}
-
-/* The table has all that the line says: a line without a class says nothing of it. Then the change has the class that is there. */
-static bool there_already(struct loading *l)
-{
-    uint64_t access;
-    if (!recording_there(l, &access) || (l->classed && access != l->change.access))
+    uint64_t next, higher;
+    if (!l->packing)
+        return catalogue_search(l->table->expected, l->table->words, l->table->collection, key, recording, access, &next, &higher) == 0;
+    int64_t pair = judged_find(&l->packing->judged, key);
+    if (pair < 0)
         return false;
-    l->change.access = access;
+    uint64_t pointer = l->packing->judged.pairs[2 * pair + 1];
+    *recording = CATALOGUE_RECORDING(pointer);
+    *access = CATALOGUE_CLASS(pointer);
     return true;
 }
 
-/* What a line that is refused with 7 has in common with the table. */
-static const char *hint_for(struct loading *l, char text[EXPLANATION])
+bool load_there(const struct loading *l, struct line *line)
 {
-    uint64_t access;
+    uint64_t recording, access;
+    bool there = load_known(l, line->key, &recording, &access) && recording == line->recording && (!line->classed || access == line->access);
+    if (there)
+        line->access = access;
+    return there;
+}
+
+/* What a line that is refused with 7 has in common with the table. */
+static const char *hint_for(const struct loading *l, const struct line *line, char text[EXPLANATION])
+{
+    uint64_t recording, access;
     char class[KEY_TEXT];
-    if (!recording_there(l, &access))
+    if (!load_known(l, line->key, &recording, &access) || recording != line->recording)
         return "";
-    if (there_already(l))
+    if (!line->classed || access == line->access)
         return " with this recording (--again passes over such lines)";
     snprintf(text, EXPLANATION, " with this recording, and is %s (catalogue class changes that)", class_text(access, class));
     return text;
 }
 
-/* A line that cannot be loaded, told; the load ends here unless it keeps going. */
-static void bad_line(struct loading *l, int status)
+void load_bad(struct loading *l, const struct line *line, int status)
 {
-    char text[ROW_TEXT], hint[EXPLANATION];
+    char hint[EXPLANATION];
     char why[EXPLANATION] = "not of the form code,recording or code,recording,class; " RECORDINGS ", " CLASSES;
     if (l->bad++ == 0)
         l->first_bad = status;
     if (l->stopped == 0 && !l->options->keep_going)
-        l->stopped = l->rows.number;
+        l->stopped = line->number;
     if (l->bad > SHOWN_BAD)
         return;
     if (status != BAD_LINE)
-        explain((uint64_t)status, l->table, l->change.key, l->change.recording, why);
-    const char *more = status == CATALOGUE_KEY_PRESENT ? hint_for(l, hint) : "";
+        explain((uint64_t)status, l->table, line->key, line->recording, why);
+    const char *more = status == CATALOGUE_KEY_PRESENT ? hint_for(l, line, hint) : "";
     progress_clear(&l->progress);
-    fail(status, "%s, line %" PRIu64 ", \"%s\": %s%s", l->name, l->rows.number, rows_text(&l->rows, text), why, more);
+    fail(status, "%s, line %" PRIu64 ", \"%s\": %s%s", l->rows.name, line->number, line->text, why, more);
 }
 
-/* The table has the line: its orders are carried out, or it was there. */
-static void acknowledge(const struct loading *l)
+void load_acknowledge(const struct loading *l, uint64_t key, uint64_t recording, uint64_t access)
 {
     char code[KEY_TEXT], pointer[POINTER_TEXT];
-    if (!l->options->each)
-        return;
-    printf("%s,%s\n", key_text(l->change.key, code), pointer_text(l->change.recording, l->change.access, pointer));
-    fflush(stdout);
+    if (l->options->each)
+        printf("%s,%s\n", key_text(key, code), pointer_text(recording, access, pointer));
 }
 
-/* The line's code added to the table: 0, or an exit status that ends the load. */
-static int add(struct loading *l)
+int load_ends(struct loading *l, const struct line *line, int status)
 {
-    struct change *c = &l->change;
-    uint64_t number = change_plan(c, l->table);
-    if (number == CATALOGUE_BAD_RECORDING || number == CATALOGUE_KEY_PRESENT || number == CATALOGUE_RECORDING_PRESENT) {
-        bad_line(l, (int)number);
-        return 0;
-    }
-    int status = number == 0 ? table_carry_out(l->table, c->orders, change_orders(c))
-                             : refuse(number, l->table, c->key, c->recording);
-    if (status != 0)
-        return fail(status, "%s: stopped before line %" PRIu64 "; what came before is kept", l->name, l->rows.number);
-    l->added++;
-    if (l->options->wear)
-        status = wearing_add(&l->wearing, c->orders, change_orders(c));
-    if (status != 0)
+    progress_clear(&l->progress);
+    return fail(status, "%s: stopped before line %" PRIu64 "; what came before is kept", l->rows.name, line->number);
+}
+
+/* ---- a line */
+
+/*
+ * The number that the change would be refused with on a sound table with the lines before it, as far as that is known without a change. A
+ * recording that is there, 8, and a code that a line of the same batch has, the library finds.
+ */
+static int judge(const struct loading *l, struct line *line)
+{
+    uint64_t recording, access;
+    if (l->options->again && load_there(l, line))
+        return LINE_THERE;
+    if (line->recording == 0 || line->recording > CATALOGUE_MOST_RECORDING)
+        return CATALOGUE_BAD_RECORDING;
+    if (load_known(l, line->key, &recording, &access))
+        return CATALOGUE_KEY_PRESENT;
+    return l->packing && judged_has_recording(&l->packing->judged, line->recording) ? CATALOGUE_RECORDING_PRESENT : 0;
+}
+
+/* A table that is not sound takes nothing; what it has already may be passed over. */
+static int refuse_all(struct loading *l, const struct line *line)
+{
+    int status = batch_carry(l);
+    if (status != 0 || l->stopped > 0)
         return status;
-    acknowledge(l);
-    return 0;
+    return load_ends(l, line, refuse(l->refusal, l->table, line->key, line->recording));
 }
 
 static int load_line(struct loading *l)
@@ -138,39 +134,61 @@ static int load_line(struct loading *l)
     int status = rows_read(&l->rows, &row);
     if (status == ROW_PASSED || (status == 0 && l->stopped > 0))
         return 0;
-    l->change.key = row.key;
-    l->change.recording = row.recording;
-    l->change.access = row.access;
-    l->classed = row.classed;
-    if (status != 0) {
-        bad_line(l, status);
-        return 0;
+    struct line line = {l->rows.number, row.key, row.recording, row.access, row.classed, status, ""};
+    rows_text(&l->rows, line.text);
+    if (status == 0)
+        line.status = judge(l, &line);
+    if (l->batch) {
+        if (status == 0 && l->refusal != 0 && line.status != LINE_THERE)
+            return refuse_all(l, &line);
+        l->batch->lines[l->batch->count++] = line;
+    } else if (line.status > 0) {
+        load_bad(l, &line, line.status);
+    } else {
+        return packing_take(l, &line);
     }
-    if (!l->options->again || !there_already(l))
-        return add(l);
-    l->there++;
-    acknowledge(l);
     return 0;
 }
 
 /* ---- the file */
 
+/* The batch is full, or its writer waits for the acknowledgement, perhaps, before the next line. */
+static int carry_if_due(struct loading *l)
+{
+    if (!l->batch || l->batch->count == 0 || (l->batch->count < l->batch->limit && !rows_wait(&l->rows)))
+        return 0;
+    int status = batch_carry(l);
+    fflush(stdout);
+    return status;
+}
+
 static int load_lines(struct loading *l)
 {
     int status = 0;
-    while (status == 0 && !signalled && rows_next(&l->rows)) {
+    while (status == 0 && !signalled && l->full.number == 0 && rows_next(&l->rows)) {
         status = load_line(l);
         if (status == 0)
+            status = carry_if_due(l);
+        if (status == 0 && (!l->batch || l->batch->count == 0))
             progress_step(&l->progress, l->rows.number);
     }
-    int why = errno;
+    if (status == 0)
+        status = l->batch ? batch_carry(l) : packing_finish(l);
     progress_clear(&l->progress);
-    if (signalled)
-        return fail(BY_SIGNAL + signalled, "%s: ended by a signal after line %" PRIu64 "; what came before is kept", l->name,
-                    l->rows.number);
-    if (ferror(l->rows.in))
-        return fail(BAD_FILE, "%s cannot be read further: %s", l->name, strerror(why));
     return status;
+}
+
+/* Why the load ended before the file did, where it did. */
+static int say_end(struct loading *l)
+{
+    if (l->full.number > 0)
+        return load_ends(l, &l->full, refuse(CATALOGUE_NO_NODES, l->table, l->full.key, l->full.recording));
+    if (signalled)
+        return fail(BY_SIGNAL + signalled, "%s: ended by a signal after line %" PRIu64 "; what came before is kept", l->rows.name,
+                    l->rows.number);
+    if (l->rows.failed)
+        return fail(BAD_FILE, "%s cannot be read further: %s", l->rows.name, strerror(l->rows.failed));
+    return 0;
 }
 
 /* What became of the bad lines. */
@@ -180,10 +198,10 @@ static void say_bad(const struct loading *l)
     if (l->bad > SHOWN_BAD)
         snprintf(shown, sizeof shown, ", the first %d shown", SHOWN_BAD);
     if (l->stopped > 0)
-        fail(0, "%s: %" PRIu64 " bad line%s%s; nothing was loaded from line %" PRIu64 " on (--keep-going loads the good lines)", l->name,
-             l->bad, l->bad == 1 ? "" : "s", shown, l->stopped);
+        fail(0, "%s: %" PRIu64 " bad line%s%s; nothing was loaded from line %" PRIu64 " on (--keep-going loads the good lines)",
+             l->rows.name, l->bad, l->bad == 1 ? "" : "s", shown, l->stopped);
     else if (l->bad > SHOWN_BAD)
-        fail(0, "%s: %" PRIu64 " bad lines%s", l->name, l->bad, shown);
+        fail(0, "%s: %" PRIu64 " bad lines%s", l->rows.name, l->bad, shown);
 }
 
 /* The closing line. */
@@ -196,29 +214,50 @@ static void say_loaded(const struct loading *l)
     printf("\n");
 }
 
+/* The way for this table: packed where its collection is empty, unless the orders of single changes are wanted. */
+static int begin(struct loading *l)
+{
+    struct table *t = l->table;
+    uint64_t none[1], pairs = 0, more = 0;
+    if (!stack_left())
+        return fail(BAD_FILE, "not enough memory for %s", t->name);
+    l->refusal = catalogue_list(t->working, t->words, t->collection, 0, UINT64_MAX, none, 0, &pairs, &more);
+    int status = l->options->wear ? wearing_begin(&l->wearing, t) : 0;
+    bool packed = l->refusal == 0 && more == 0 && !l->options->wear && t->carrying.pause == 0 && table_replaceable(t);
+    if (status == 0)
+        status = packed ? packing_begin(l) : batch_begin(l);
+    return status != 0 || stack_left() ? status : fail(BAD_FILE, "not enough memory for %s", t->name);
+}
+
+static void end(struct loading *l)
+{
+    wearing_end(&l->wearing);
+    batch_end(l);
+    packing_end(l);
+    rows_close(&l->rows);
+}
+
 int load(struct table *t, const char *name, const struct load_options *options)
 {
-    bool standard = strcmp(name, "-") == 0;
-    struct loading l = {.table = t, .options = options, .name = standard ? "standard input" : name, .change = {.kind = ADD}};
-    l.rows.in = standard ? stdin : fopen(name, "re");
-    if (!l.rows.in)
+    struct loading l = {.table = t, .options = options};
+    if (!rows_open(&l.rows, name))
         return fail(BAD_FILE, "%s cannot be opened: %s", name, strerror(errno));
     watch_signal(SIGINT);
     watch_signal(SIGTERM);
-    progress_begin(&l.progress, l.name, rows_count(l.rows.in));
-    int status = options->wear ? wearing_begin(&l.wearing, t) : 0;
+    progress_begin(&l.progress, l.rows.name, rows_count(&l.rows));
+    int status = begin(&l);
     bool begun = status == 0;
     if (begun)
         status = load_lines(&l);
-    if (!standard)
-        fclose(l.rows.in);
+    if (begun && status == 0)
+        status = say_end(&l);
     /* What came before a bad line is kept, and must last as well. */
     int settled = table_settle(t);
     if (status != BAD_FILE && settled == 0)
         settled = table_compare(t);
     say_loaded(&l);
     int told = options->wear && begun && settled == 0 ? wearing_tell(&l.wearing) : 0;
-    wearing_end(&l.wearing);
+    end(&l);
     if (settled != 0)
         return settled;
     if (status == 0)

@@ -104,7 +104,7 @@ static bool add(struct order_list *l, const uint64_t order[2])
     return true;
 }
 
-static int read_lines(struct order_list *l, struct rows *r, const char *name)
+static int read_lines(struct order_list *l, struct rows *r)
 {
     char text[ROW_TEXT];
     uint64_t order[2];
@@ -112,37 +112,40 @@ static int read_lines(struct order_list *l, struct rows *r, const char *name)
     while (rows_next(r)) {
         enum line line = read_line(r, order);
         if (line == WRONG)
-            return fail(BAD_LINE, "%s, line %" PRIu64 ", \"%s\": not of the form store WORD VALUE, flush LINE or barrier", name, r->number,
+            return fail(BAD_LINE, "%s, line %" PRIu64 ", \"%s\": not of the form store WORD VALUE, flush LINE or barrier", r->name, r->number,
                         rows_text(r, text));
         if (line == ORDER && !add(l, order))
-            return fail(BAD_FILE, "not enough memory for %s", name);
+            return fail(BAD_FILE, "not enough memory for %s", r->name);
         l->changes += line == ORDER && ended;
         ended = line == PASSED ? ended : line == ENDING;
     }
-    return ferror(r->in) ? fail(BAD_FILE, "%s cannot be read further: %s", name, strerror(errno)) : 0;
+    return r->failed ? fail(BAD_FILE, "%s cannot be read further: %s", r->name, strerror(r->failed)) : 0;
 }
 
-int order_list_read_from(struct order_list *l, FILE *in, const char *name)
+/* The orders of lines that are open. */
+static int read_orders(struct order_list *l, struct rows *r)
 {
-    struct rows r = {.in = in};
     *l = (struct order_list){.room = 64};
     l->words = calloc(2 * l->room, sizeof *l->words);
-    if (!l->words)
-        return fail(BAD_FILE, "not enough memory");
-    return read_lines(l, &r, name);
+    return l->words ? read_lines(l, r) : fail(BAD_FILE, "not enough memory");
 }
 
 int order_list_read(struct order_list *l, const char *name)
 {
-    bool standard = strcmp(name, "-") == 0;
-    FILE *in = standard ? stdin : fopen(name, "re");
+    struct rows r;
     *l = (struct order_list){0};
-    if (!in)
+    if (!rows_open(&r, name))
         return fail(BAD_FILE, "%s cannot be opened: %s", name, strerror(errno));
-    int status = order_list_read_from(l, in, standard ? "standard input" : name);
-    if (!standard)
-        fclose(in);
+    int status = read_orders(l, &r);
+    rows_close(&r);
     return status;
+}
+
+int order_list_read_text(struct order_list *l, const char *name, const char *text)
+{
+    struct rows r;
+    *l = (struct order_list){0};
+    return rows_of_text(&r, name, text) ? read_orders(l, &r) : fail(BAD_FILE, "%s is too long", name);
 }
 
 void order_list_free(struct order_list *l)

@@ -4,7 +4,6 @@
 
 #include <stddef.h>
 #include <stdint.h>
-#include <stdio.h>
 
 struct order_list {
     uint64_t *words; /* two an order */
@@ -20,8 +19,8 @@ struct order_list {
  */
 int order_list_read(struct order_list *l, const char *name);
 
-/* The same of a stream that is open already. */
-int order_list_read_from(struct order_list *l, FILE *in, const char *name);
+/* The same of a text; the name is for messages. */
+int order_list_read_text(struct order_list *l, const char *name, const char *text);
 
 void order_list_free(struct order_list *l);
 

@@ -1,42 +1,106 @@
 /* The lines `code,recording` or `code,recording,class` of a file, as people and spreadsheets write them. */
 #include "rows.h"
 
+#include <errno.h>
+#include <fcntl.h>
+#include <poll.h>
+#include <stdio.h>
 #include <string.h>
 #include <sys/stat.h>
+#include <unistd.h>
 
 #include "catalogue.h"
 #include "text.h"
 
-uint64_t rows_count(FILE *in)
+bool rows_open(struct rows *r, const char *name)
+{
+    bool standard = strcmp(name, "-") == 0;
+    *r = (struct rows){.name = standard ? "standard input" : name};
+    r->file = standard ? STDIN_FILENO : open(name, O_RDONLY | O_CLOEXEC);
+    return r->file >= 0;
+}
+
+bool rows_of_text(struct rows *r, const char *name, const char *text)
+{
+    *r = (struct rows){.name = name, .file = -1, .end = strlen(text)};
+    if (r->end > sizeof r->part)
+        return false;
+    memcpy(r->part, text, r->end);
+    return true;
+}
+
+void rows_close(struct rows *r)
+{
+    if (r->file > STDIN_FILENO)
+        close(r->file);
+}
+
+uint64_t rows_count(const struct rows *r)
 {
     struct stat about;
-    off_t start = ftello(in);
-    if (fstat(fileno(in), &about) != 0 || !S_ISREG(about.st_mode) || start < 0)
+    off_t start = lseek(r->file, 0, SEEK_CUR);
+    if (fstat(r->file, &about) != 0 || !S_ISREG(about.st_mode) || start < 0)
         return 0;
     char part[65536];
     uint64_t lines = 0;
     bool open_line = false;
-    for (size_t got; (got = fread(part, 1, sizeof part, in)) > 0; open_line = part[got - 1] != '\n')
+    for (ssize_t got; (got = read(r->file, part, sizeof part)) > 0; open_line = part[got - 1] != '\n')
         for (const char *at = part; (at = memchr(at, '\n', (size_t)(part + got - at))); at++)
             lines++;
-    clearerr(in);
-    return fseeko(in, start, SEEK_SET) == 0 ? lines + open_line : 0;
+    return lseek(r->file, start, SEEK_SET) == start ? lines + open_line : 0;
+}
+
+/* More of the file behind what is there of it; false at its end, or where it cannot be read. */
+static bool read_more(struct rows *r)
+{
+    if (r->file < 0)
+        return false;
+    memmove(r->part, r->part + r->at, r->end - r->at);
+    r->end -= r->at;
+    r->at = 0;
+    ssize_t got = read(r->file, r->part + r->end, sizeof r->part - r->end);
+    if (got < 0)
+        r->failed = errno;
+    r->end += got > 0 ? (size_t)got : 0;
+    return got > 0;
+}
+
+static int next_byte(struct rows *r)
+{
+    return r->at < r->end || read_more(r) ? (unsigned char)r->part[r->at++] : EOF;
+}
+
+bool rows_wait(struct rows *r)
+{
+    struct pollfd there = {.fd = r->file, .events = POLLIN};
+    while (r->end - r->at < sizeof r->part && !memchr(r->part + r->at, '\n', r->end - r->at)) {
+        if (poll(&there, 1, 0) == 0)
+            return true;
+        if (!read_more(r))
+            return false;
+    }
+    return false;
 }
 
 bool rows_next(struct rows *r)
 {
     static const char byte_order_mark[] = "\xef\xbb\xbf";
-    int c = getc(r->in);
+    int c = r->failed ? EOF : next_byte(r);
     if (c == EOF)
         return false;
     r->number++;
     r->length = 0;
     r->too_long = false;
-    for (; c != EOF && c != '\n'; c = getc(r->in)) {
+    for (; c != EOF && c != '\n'; c = next_byte(r)) {
         if (r->length < ROW_ROOM)
             r->text[r->length++] = (char)c;
         else
             r->too_long = true;
+    }
+    /* Half a line is none. */
+    if (r->failed) {
+        r->number--;
+        return false;
     }
     if (r->length > 0 && r->text[r->length - 1] == '\r')
         r->length--;

@@ -3,24 +3,40 @@
 #define ROWS_H
 
 #include <stdbool.h>
+#include <stddef.h>
 #include <stdint.h>
-#include <stdio.h>
 
 /* Longer than any line of that form that people write. */
 #define ROW_ROOM 256
 
 struct rows {
-    FILE *in;
+    const char *name; /* as messages say it */
+    int file;
+    int failed;      /* errno of a reading that failed, else 0 */
     uint64_t number; /* of the last line read, from 1 */
     bool begun;      /* a line that is not empty was read: the next one is no header */
     /* The last line, without its end; one that is too long lacks the rest. */
     char text[ROW_ROOM];
     size_t length;
     bool too_long;
+    /* What was read of the file and is not in a line yet. */
+    char part[65536];
+    size_t at, end;
 };
 
+/* The lines of a file, or of standard input where its name is -. False, with errno, where it cannot be opened. */
+bool rows_open(struct rows *r, const char *name);
+
+/* The lines of a text; false where it is longer than a part of a file. */
+bool rows_of_text(struct rows *r, const char *name, const char *text);
+
+void rows_close(struct rows *r);
+
 /* Number of lines to come, where the file can be gone through twice; else 0. */
-uint64_t rows_count(FILE *in);
+uint64_t rows_count(const struct rows *r);
+
+/* The next line is not there yet: who asks for it waits for whoever writes it. */
+bool rows_wait(struct rows *r);
 
 /* The next line; false at the end of the file. */
 bool rows_next(struct rows *r);

@@ -8,6 +8,7 @@
 
 #include "catalogue.h"
 #include "newfile.h"
+#include "stack.h"
 #include "text.h"
 #include "tree.h"
 
@@ -15,26 +16,11 @@
 #define DROP_WORDS 3
 #define REPORT_WORDS (DROP_WORDS * SLOTS)
 
-/* Bytes: more than the stack that the call takes (catalogue.h). */
-#define STACK ((size_t)4 << 20)
-
 /* What the library is lent, and how many slots it dropped. */
 struct salvaged {
     uint64_t *words, *report;
     uint64_t dropped;
 };
-
-/* Where memory is limited and no stack is left, the system would end the program without a word. */
-static bool stack_left(void)
-{
-    volatile char *room = malloc(STACK);
-    if (!room)
-        return false;
-    /* A compiler may leave out room that nobody uses. */
-    room[0] = 0;
-    free((void *)room);
-    return true;
-}
 
 static int read_table(const struct table *t, struct salvaged *s)
 {

@@ -1,4 +1,4 @@
-/* A table in a file: made, opened, changed by order lists, copied. */
+/* A table in a file: made, opened, changed by order lists, replaced. */
 #include "table.h"
 
 #include <errno.h>
@@ -19,6 +19,9 @@
 /* Milliseconds between two tries to lock the file. */
 #define LOCK_PAUSE 20
 
+/* Files in a table's place, one after another, that were replaced before they could be locked. */
+#define MOST_TRIES 100
+
 static size_t words_for(uint64_t nodes)
 {
     return HEADER_WORDS + NODE_WORDS * (size_t)nodes;
@@ -26,8 +29,7 @@ static size_t words_for(uint64_t nodes)
 
 /* ---- making */
 
-/* An empty table of so many nodes, to be freed; null after saying why, with the exit status. */
-static uint64_t *room_for(uint64_t nodes, uint64_t collections, size_t *words, int *status)
+uint64_t *table_room(uint64_t nodes, uint64_t collections, size_t *words, int *status)
 {
     *words = nodes <= MOST_NODES ? words_for(nodes) : 0;
     uint64_t *table = calloc(*words + 1, sizeof *table);
@@ -49,7 +51,7 @@ int table_make(const char *name, uint64_t nodes, uint64_t collections)
 {
     size_t words;
     int status;
-    uint64_t *table = room_for(nodes, collections, &words, &status);
+    uint64_t *table = table_room(nodes, collections, &words, &status);
     if (table)
         status = new_file(name, table, words);
     free(table);
@@ -67,16 +69,19 @@ static int open_failed(const char *name, bool writing)
     return fail(BAD_FILE, "%s cannot be opened: %s", name, strerror(errno));
 }
 
-/* Any number of readers, or one writer. Programs that take no lock are noticed by what they store. */
-static int lock(const struct table *t, uint64_t seconds)
+/*
+ * Any number of readers, or one writer. Programs that take no lock are noticed by what they store. *waited is the time so far, in
+ * milliseconds.
+ */
+static int lock(const struct table *t, uint64_t seconds, uint64_t *waited)
 {
     const struct timespec moment = {.tv_nsec = LOCK_PAUSE * 1000000L};
-    for (uint64_t waited = 0; flock(t->file, (t->writing ? LOCK_EX : LOCK_SH) | LOCK_NB) != 0; waited += LOCK_PAUSE) {
+    for (; flock(t->file, (t->writing ? LOCK_EX : LOCK_SH) | LOCK_NB) != 0; *waited += LOCK_PAUSE) {
         if (errno != EWOULDBLOCK)
             return fail(BAD_FILE, "%s cannot be locked: %s", t->name, strerror(errno));
-        if (waited / 1000 >= seconds)
+        if (*waited / 1000 >= seconds)
             return fail(BAD_FILE, "%s is in use by another program; try again later, or with --wait SECONDS", t->name);
-        if (waited == 1000)
+        if (*waited == 1000)
             fail(0, "waiting for %s, which another program uses", t->name);
         nanosleep(&moment, NULL);
     }
@@ -93,6 +98,33 @@ static int open_file(struct table *t)
 static bool same_file(const struct stat *a, const struct stat *b)
 {
     return a->st_dev == b->st_dev && a->st_ino == b->st_ino;
+}
+
+/* The open file is the one that the name leads to. */
+static bool has_name(const struct table *t, struct stat *ours)
+{
+    struct stat named;
+    return fstat(t->file, ours) == 0 && stat(t->name, &named) == 0 && same_file(ours, &named);
+}
+
+/*
+ * A load puts a new file in the table's place, which it has locked before. Who waited for the old one has the lock of a file without a name
+ * then, and begins again with the new one; who has the lock of the file with the name keeps it there, since only its holder puts another.
+ * Some file systems never give a file the same number twice: after some tries it goes on, and a writer will be told before its first store.
+ */
+static int open_locked(struct table *t, uint64_t seconds)
+{
+    uint64_t waited = 0;
+    struct stat ours;
+    for (int tries = 0;; tries++) {
+        int status = open_file(t);
+        if (status == 0)
+            status = lock(t, seconds, &waited);
+        if (status != 0 || tries == MOST_TRIES || has_name(t, &ours))
+            return status;
+        close(t->file);
+        t->file = -1;
+    }
 }
 
 /* What is printed there would go into the table. */
@@ -125,21 +157,35 @@ static int measure(struct table *t)
     return 0;
 }
 
-/*
- * On persistent memory MAP_SYNC makes the flush instructions enough. Elsewhere it is refused; there a flush is a wait for the disk, unless
- * the user leaves that out.
- */
-static int map(struct table *t, const struct table_options *options)
+/* On persistent memory MAP_SYNC makes the flush instructions enough. Elsewhere it is refused. */
+static int map_words(struct table *t, bool *persistent)
 {
     size_t bytes = t->words * sizeof(uint64_t);
     int access = PROT_READ | (t->writing ? PROT_WRITE : 0);
     void *at = mmap(NULL, bytes, access, MAP_SHARED_VALIDATE | MAP_SYNC, t->file, 0);
-    bool persistent = at != MAP_FAILED;
-    if (!persistent)
+    *persistent = at != MAP_FAILED;
+    if (!*persistent)
         at = mmap(NULL, bytes, access, MAP_SHARED, t->file, 0);
     if (at == MAP_FAILED)
         return fail(BAD_FILE, "%s cannot be mapped: %s", t->name, strerror(errno));
     t->mapped = at;
+    return 0;
+}
+
+static void unmap_words(struct table *t)
+{
+    if (t->mapped)
+        munmap(t->mapped, t->words * sizeof(uint64_t));
+    t->mapped = NULL;
+}
+
+/* Where lines do not last by an instruction a flush is a wait for the disk, unless the user leaves that out. */
+static int map(struct table *t, const struct table_options *options)
+{
+    bool persistent;
+    int status = map_words(t, &persistent);
+    if (status != 0)
+        return status;
     t->carrying = options->carrying;
     if (!persistent && options->fast)
         fail(0, "--fast: a power cut before this command ends can destroy the whole of %s, older codes too", t->name);
@@ -157,6 +203,21 @@ static int copy_header(struct table *t)
     return 0;
 }
 
+/* Words of the file from one on, read and not mapped: a mapped page that is looked at counts as the program's memory. */
+static bool read_words(const struct table *t, uint64_t *words, size_t first, size_t count)
+{
+    size_t bytes = count * sizeof *words, done = 0;
+    while (done < bytes) {
+        ssize_t got = pread(t->file, (char *)words + done, bytes - done, (off_t)(first * sizeof *words + done));
+        if (got < 0 && errno == EINTR)
+            continue;
+        if (got <= 0)
+            return false;
+        done += (size_t)got;
+    }
+    return true;
+}
+
 static int copy_words(struct table *t)
 {
     size_t bytes = t->words * sizeof(uint64_t);
@@ -164,7 +225,9 @@ static int copy_words(struct table *t)
     t->working = malloc(bytes);
     if (!t->expected || !t->working)
         return fail(BAD_FILE, "not enough memory for %s", t->name);
-    memcpy(t->expected, t->mapped, bytes);
+    errno = 0;
+    if (!read_words(t, t->expected, 0, t->words))
+        return fail(BAD_FILE, "%s cannot be read: %s", t->name, errno ? strerror(errno) : "it was cut short by another program");
     memcpy(t->working, t->expected, bytes);
     return 0;
 }
@@ -211,9 +274,7 @@ static int begin_writing(struct table *t)
 int table_open(struct table *t, const char *name, bool writing, const struct table_options *options)
 {
     *t = (struct table){.name = name, .file = -1, .writing = writing, .collection = options->collection, .dock = options->dock};
-    int status = open_file(t);
-    if (status == 0)
-        status = lock(t, options->wait);
+    int status = open_locked(t, options->wait);
     if (status == 0)
         status = measure(t);
     if (status == 0)
@@ -253,9 +314,17 @@ static bool same_time(struct timespec a, struct timespec b)
     return a.tv_sec == b.tv_sec && a.tv_nsec == b.tv_nsec;
 }
 
-static bool differs(const struct table *t, size_t word, size_t count)
+/* Some word of the file differs from what this program left there, or cannot be read. */
+static bool file_differs(const struct table *t)
 {
-    return memcmp(t->mapped + word, t->expected + word, count * sizeof(uint64_t)) != 0;
+    uint64_t part[8192];
+    size_t most = sizeof part / sizeof part[0];
+    for (size_t at = 0, count; at < t->words; at += count) {
+        count = t->words - at < most ? t->words - at : most;
+        if (!read_words(t, part, at, count) || memcmp(part, t->expected + at, count * sizeof *part) != 0)
+            return true;
+    }
+    return false;
 }
 
 /* A line that the orders store to differs from what this program left there. */
@@ -263,7 +332,7 @@ static bool line_differs(const struct table *t, const uint64_t *orders, uint64_t
 {
     for (uint64_t i = 0; i < count; i++) {
         uint64_t line = orders[2 * i] / LINE_WORDS * LINE_WORDS;
-        if (line < t->words && differs(t, line, LINE_WORDS))
+        if (line < t->words && memcmp(t->mapped + line, t->expected + line, LINE_WORDS * sizeof(uint64_t)) != 0)
             return true;
     }
     return false;
@@ -276,13 +345,13 @@ static bool line_differs(const struct table *t, const uint64_t *orders, uint64_t
  */
 static int still_ours(struct table *t, const uint64_t *orders, uint64_t count)
 {
-    struct stat ours, named;
-    if (fstat(t->file, &ours) != 0 || stat(t->name, &named) != 0 || !same_file(&ours, &named))
+    struct stat ours;
+    if (!has_name(t, &ours))
         return fail(BAD_FILE, "%s was removed or replaced by another program; nothing more was changed", t->name);
     bool changed = (uint64_t)ours.st_size != t->words * sizeof(uint64_t);
     bool compare = !orders || !same_time(ours.st_mtim, t->left.st_mtim) || !same_time(ours.st_ctim, t->left.st_ctim);
     if (!changed)
-        changed = compare ? differs(t, 0, t->words) : line_differs(t, orders, count);
+        changed = compare ? file_differs(t) : line_differs(t, orders, count);
     if (changed)
         return fail(BAD_FILE, "%s was changed by another program meanwhile; nothing more was changed", t->name);
     t->left = ours;
@@ -295,7 +364,7 @@ int table_carry_out(struct table *t, const uint64_t *orders, uint64_t count)
     if (status != 0)
         return status;
     /* Before the first real store: the library refuses orders outside the table. */
-    uint64_t number = catalogue_carry_out(t->expected, t->words, orders, CATALOGUE_LONG_LIST_WORDS, count);
+    uint64_t number = catalogue_carry_out(t->expected, t->words, orders, 2 * count, count);
     if (number != 0)
         return refuse(number, t, 0, 0);
     /* A list that ends with a flush of its page leaves nothing on the way. */
@@ -308,6 +377,45 @@ int table_carry_out(struct table *t, const uint64_t *orders, uint64_t count)
     return 0;
 }
 
+bool table_replaceable(const struct table *t)
+{
+    struct stat ours;
+    return has_name(t, &ours) && replaceable(t->name, &ours);
+}
+
+bool table_waits(const struct table *t)
+{
+    return t->carrying.flush == flush_by_page();
+}
+
+/* The new file for the old one. */
+static int take_over(struct table *t, int file)
+{
+    bool persistent;
+    unmap_words(t);
+    close(t->file);
+    t->file = file;
+    memcpy(t->expected, t->working, t->words * sizeof *t->working);
+    fstat(t->file, &t->left);
+    if (!replaced(t->name))
+        return fail(BAD_FILE, "%s is changed, but its folder cannot be synced: %s", t->name, strerror(errno));
+    t->unsettled = false;
+    return map_words(t, &persistent);
+}
+
+int table_replace(struct table *t, bool *done)
+{
+    int status = still_ours(t, NULL, 0);
+    *done = false;
+    if (status != 0)
+        return status;
+    int file = replace_file(t->name, &t->left, t->working, t->words);
+    if (file < 0)
+        return 0;
+    *done = true;
+    return take_over(t, file);
+}
+
 int table_settle(struct table *t)
 {
     return t->unsettled ? sync_words(t) : 0;
@@ -318,37 +426,7 @@ int table_compare(struct table *t)
     return still_ours(t, NULL, 0);
 }
 
-/* ---- copying */
-
-/* A node's words do not depend on the number of nodes: a larger table has the same nodes and roots, and more that no way leads to. */
-static int enlarge(struct table *t, uint64_t *larger, size_t words, uint64_t nodes)
-{
-    uint64_t orders[CATALOGUE_LIST_WORDS], stores, flushes, barriers;
-    uint64_t number = catalogue_repair(t->working, t->words, orders, CATALOGUE_LIST_WORDS, CATALOGUE_ORDERED, &stores, &flushes, &barriers);
-    if (number == 0) {
-        memcpy(larger, t->working, t->words * sizeof(uint64_t));
-        larger[2] = nodes;
-        number = catalogue_repair(larger, words, orders, CATALOGUE_LIST_WORDS, CATALOGUE_ORDERED, &stores, &flushes, &barriers);
-    }
-    return number == 0 ? 0 : refuse(number, t, 0, 0);
-}
-
-int table_copy(struct table *t, const char *name, uint64_t nodes)
-{
-    uint64_t has = t->expected[2];
-    if (nodes < has)
-        return fail(BAD_USAGE, "%s has %" PRIu64 " nodes; a copy has as many or more, up to %d", t->name, has, MOST_NODES);
-    size_t words;
-    int status;
-    uint64_t *larger = room_for(nodes, 1, &words, &status);
-    if (!larger)
-        return status;
-    status = enlarge(t, larger, words, nodes);
-    if (status == 0)
-        status = new_file(name, larger, words);
-    free(larger);
-    return status;
-}
+/* ---- telling */
 
 const char *table_part(const struct table *t, char text[PART_TEXT])
 {
@@ -360,8 +438,7 @@ const char *table_part(const struct table *t, char text[PART_TEXT])
 
 void table_close(struct table *t)
 {
-    if (t->mapped)
-        munmap(t->mapped, t->words * sizeof(uint64_t));
+    unmap_words(t);
     free(t->expected);
     free(t->working);
     if (t->file >= 0)

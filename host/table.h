@@ -1,4 +1,4 @@
-/* A table in a file: made, opened, changed by order lists, copied. */
+/* A table in a file: made, opened, changed by order lists, replaced. */
 #ifndef TABLE_H
 #define TABLE_H
 
@@ -41,6 +41,9 @@ struct table {
 
 /* These return 0, or an exit status after saying why. */
 
+/* An empty table of so many nodes in memory, to be freed; null after saying why, with the exit status. */
+uint64_t *table_room(uint64_t nodes, uint64_t collections, size_t *words, int *status);
+
 /* A new file with an empty table of one collection or two. */
 int table_make(const char *name, uint64_t nodes, uint64_t collections);
 
@@ -52,20 +55,26 @@ int table_open(struct table *t, const char *name, bool writing, const struct tab
  */
 int table_open_to_look(struct table *t, const char *name, const struct table_options *options);
 
-/* The first count orders of a list, which has room for either dock's, on the mapped words, unless another program changed them. */
+/* The first count orders of a list, on the mapped words, unless another program changed them. */
 int table_carry_out(struct table *t, const uint64_t *orders, uint64_t count);
+
+/* A flush of this table is a wait for the disk. */
+bool table_waits(const struct table *t);
+
+/* A new file may be put in the table's place. */
+bool table_replaceable(const struct table *t);
+
+/*
+ * A new file with the working copy's words in the table's place, unless another program changed the table: it is on the disk, and a cut
+ * leaves the old file or the new one. *done is false, with errno, where there is no such file to be made and the table is as it was.
+ */
+int table_replace(struct table *t, bool *done);
 
 /* Waits until the file has what was carried out. */
 int table_settle(struct table *t);
 
 /* The file has what this program left there, and nothing else. */
 int table_compare(struct table *t);
-
-/*
- * A new file with a table of so many nodes, at least as many as this one has, and with the codes of all its collections. Uses the working
- * copy up.
- */
-int table_copy(struct table *t, const char *name, uint64_t nodes);
 
 /* Room for table_part. */
 #define PART_TEXT 48

@@ -16,7 +16,7 @@
 /* Lines that are told of a load. */
 #define TOLD 10
 
-/* Words of orders that are summed at a time: the longest list of a change fits. */
+/* Words of orders that are summed at a time. */
 #define PART_WORDS ((size_t)CATALOGUE_LONG_LIST_WORDS)
 
 static int no_memory(void)
@@ -116,12 +116,15 @@ static int wearing_sum(struct wearing *w)
 
 int wearing_add(struct wearing *w, const uint64_t *orders, uint64_t count)
 {
-    int status = w->used + 2 * count <= PART_WORDS ? 0 : wearing_sum(w);
-    if (status != 0)
-        return status;
-    memcpy(w->orders + w->used, orders, 2 * count * sizeof *orders);
-    w->used += 2 * count;
-    return 0;
+    int status = 0;
+    for (size_t left = 2 * count, part; left > 0 && status == 0; left -= part, orders += part) {
+        part = left < PART_WORDS - w->used ? left : PART_WORDS - w->used;
+        memcpy(w->orders + w->used, orders, part * sizeof *orders);
+        w->used += part;
+        if (w->used == PART_WORDS)
+            status = wearing_sum(w);
+    }
+    return status;
 }
 
 /* The line with the most stores that is worn less than line `before`, or as much and behind it; of equals the first. */

@@ -20,6 +20,7 @@ import pages
 import readers
 import replay
 import salvages
+import scale
 import scripts
 import wears
 from drive import FOUND_SOMETHING, Program
@@ -53,16 +54,17 @@ def main():
     watched = ["valgrind", "-q", "--leak-check=full", "--errors-for-leak-kinds=all", f"--error-exitcode={FOUND_SOMETHING}", sys.argv[1]]
     valgrind = Program(watched, "under valgrind", False)
     everything = commands.TESTS + loads.TESTS + files.TESTS + loans.TESTS + docks.TESTS + salvages.TESTS + scripts.TESTS + cuts.TESTS + replay.TESTS
-    everything += readers.TESTS + wears.TESTS + judging.TESTS + films.TESTS
+    everything += readers.TESTS + wears.TESTS + judging.TESTS + films.TESTS + scale.TESTS
     # valgrind takes half a second to start: each kind of work once.
     once = [commands.the_worked_orders, commands.drawing, loads.lines_from_standard_input, loads.larger_copies,
             commands.a_tree_of_sixteen_levels, salvages.damaged_slots, loans.drawing_both, loans.salvages_of_two,
-            wears.figures_of_printed_orders, wears.wear_of_a_load, judging.spoilt_lists, films.a_small_film, films.a_film_of_a_list]
+            wears.figures_of_printed_orders, wears.wear_of_a_load, judging.spoilt_lists, films.a_small_film, films.a_film_of_a_list,
+            scale.the_same_rights, scale.acknowledged_one_by_one]
     # Files in memory where there is such a place: the tests say nothing of a disk.
     place = tempfile.mkdtemp(prefix="catalogue-", dir="/dev/shm" if roomy("/dev/shm") else None)
     os.chmod(place, 0o755)
     works = [(plain, loads.progress_elsewhere, place)] + [(valgrind, t, place) for t in once]
-    works += [(plain, t, place) for t in everything + pages.TESTS + installing.TESTS + readers.ONCE + [files.little_memory, files.little_memory_for_a_salvage]]
+    works += [(plain, t, place) for t in everything + pages.TESTS + installing.TESTS + readers.ONCE + scale.ONCE + [files.little_memory, files.little_memory_for_a_salvage]]
     works += [(sanitized, t, place) for t in everything]
     # One more than there are processors: some tests wait for the clock.
     with multiprocessing.Pool(os.cpu_count() + 1) as pool:

@@ -162,9 +162,9 @@ def classes_that_change(program, folder):
 
 
 def killed(program, t, csv, chance):
-    """A load killed at some moment, mostly so slow that this is in the middle of an order list: the lines that it acknowledged."""
-    slow = ["--pause", "50"] if chance.random() < 0.8 else []
-    load = program.start("load", t, csv, "--each", *slow, stdout=subprocess.PIPE)
+    """A load killed at some moment, so slow that this is in the middle of an order list: the lines that it acknowledged. With a pause it
+    goes line by line; batches are killed in scale.py."""
+    load = program.start("load", t, csv, "--each", "--pause", chance.choice((1, 50)), stdout=subprocess.PIPE)
     acknowledged = "".join(load.stdout.readline() for _ in range(chance.randrange(12)))
     time.sleep(0.01 * chance.random())
     load.send_signal(signal.SIGKILL)
@@ -186,7 +186,7 @@ def killed_while_it_loads(program, folder):
     have, kills, states = {}, 120 if program.quick else 15, []
     for _ in range(kills):
         left = [p for p in lines if p[0] not in have]
-        # A load that is quick must not come to its end: then a new table.
+        # It must not come to its end: then a new table.
         if len(left) < 1500:
             os.remove(t)
             program.done("make", t, 1200)

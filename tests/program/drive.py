@@ -133,12 +133,14 @@ def naming(collection):
 
 
 def fill(program, path, nodes, pairs, loans=None):
-    """A new table with these pairs, added in this order; of two collections where the second's are given."""
+    """A new table with these pairs, added in this order; of two collections where the second's are given. An empty collection would be
+    packed: the first pair is added by itself."""
     csv = path + ".csv"
     program.done("make", path, nodes, *[] if loans is None else ["--loan"])
     for named, lines in (([], pairs), (naming(2), loans)):
         if lines:
+            program.done("add", path, lines[0][0], *str(lines[0][1]).split(","), *named)
             with open(csv, "w") as f:
-                f.writelines(f"{c},{r}\n" for c, r in lines)
+                f.writelines(f"{c},{r}\n" for c, r in lines[1:])
             program.done("load", path, csv, *named)
             os.remove(csv)

@@ -210,7 +210,8 @@ def ended_by_a_signal(program, folder):
     t, csv = f"{folder}/t", f"{folder}/csv"
     for number in (signal.SIGINT, signal.SIGTERM):
         for waiting in (False, True):
-            program.done("make", t, 40)
+            # With a code in the table it goes by batches.
+            fill(program, t, 40, [(code(0), 9999)])
             if waiting:
                 run = program.start("load", t, "-", "--each", stdin=subprocess.PIPE, stdout=subprocess.PIPE, stderr=subprocess.PIPE)
                 run.stdin.write(f"{code(1)},1\n{code(2)},2\n")
@@ -226,11 +227,11 @@ def ended_by_a_signal(program, folder):
             assert run.returncode == 128 + number and lines[-1] == f"{len(lines) - 1} added, 0 there already", (run.returncode, lines)
             assert re.fullmatch(f"catalogue: .*: ended by a signal after line {len(lines) - 1}; what came before is kept\n", err), err
             assert "settled" in program.done("check", t)
-            assert listed(program.done("list", t)) == sorted(listed("\n".join(lines[:-1])))
+            assert listed(program.done("list", t)) == [(code(0), 9999)] + sorted(listed("\n".join(lines[:-1])))
             run.stdout.close(), run.stderr.close(), run.stdin and run.stdin.close()
             os.remove(t)
     # A signal that the caller has the program ignore is ignored.
-    program.done("make", t, 40)
+    fill(program, t, 40, [(code(0), 9999)])
     run = program.start("load", t, "-", "--each", stdin=subprocess.PIPE, stdout=subprocess.PIPE, stderr=subprocess.PIPE,
                         preexec_fn=lambda: signal.signal(signal.SIGINT, signal.SIG_IGN))
     run.stdin.write(f"{code(1)},1\n")
@@ -256,14 +257,14 @@ def what_list_prints_loads_back(program, folder):
 
 
 def larger_copies(program, folder):
-    """A leftover is finished in the copy, the table itself stays as it is."""
+    """What a cut left unfinished is finished in the copy, the table itself stays as it is."""
     t, u = f"{folder}/t", f"{folder}/u"
     fill(program, t, 3, [(code(10 * i), 100 + i) for i in range(1, 12)])
     linked = 1 + orders_of(program.done("orders", t, "add", code(115), 112)).index((9, 3))
     program.done("add", t, code(115), 112, "--cut", linked)
     before = contents(t)
     assert program.done("copy", t, u, 9) == f"made {u} with 9 nodes\n" and contents(t) == before
-    assert program.done("check", u) == f"{u} is settled: 11 codes in 3 of 9 nodes, 6 free\n"
+    assert program.done("check", u) == f"{u} is settled: 11 codes in 1 of 9 nodes, 8 free\n"
     assert program.done("list", u) == program.done("list", t)
 
 
@@ -271,19 +272,26 @@ def copies_of_all_sorts(program, folder):
     t, u, csv = f"{folder}/t", f"{folder}/u", f"{folder}/csv"
     fill(program, t, 1, [(code(10 * i), 100 + i) for i in range(1, 12)])
     program.refuses(BAD_USAGE, "1 to 65535 nodes", "copy", t, u, "many")
+    program.refuses(BAD_USAGE, "1 to 65535 nodes", "copy", t, u, 0)
     program.refuses(NO_TABLE, "1 to 65535 nodes, not 65536", "copy", t, u, 65536)
     program.refuses(BAD_FILE, "exists already and stays", "copy", t, t, 5)
     program.refuses(BAD_FILE, "there is no file", "copy", f"{folder}/none", u, 5)
     assert not os.path.exists(u)
-    # A full table: its copy takes more codes, and has no smaller copy.
+    # A full table: its copy takes more codes.
     program.refuses(NO_NODES, "catalogue copy", "add", t, code(5), 5)
     program.done("copy", t, u, 40)
     write(csv, "".join(f"{code(i)},{i}\n" for i in range(1, 60) if i % 10))
     program.done("load", u, csv)
     assert listed(program.done("list", u))[:3] == [(code(1), 1), (code(2), 2), (code(3), 3)]
-    program.refuses(BAD_USAGE, "has 40 nodes; a copy has as many or more", "copy", u, f"{folder}/v", 39)
-    program.done("copy", u, f"{folder}/same", 40)
-    assert contents(f"{folder}/same") == contents(u)
+    # 65 codes want 6 leaves and a root: that many, or more, and no fewer.
+    assert program.done("copy", u, f"{folder}/least") == f"made {folder}/least with 7 nodes\n"
+    assert program.done("check", f"{folder}/least") == f"{folder}/least is settled: 65 codes in 7 of 7 nodes, 0 free\n"
+    program.done("copy", u, f"{folder}/seven", 7)
+    assert contents(f"{folder}/seven") == contents(f"{folder}/least")
+    program.refuses(NO_NODES, "codes of .*u, packed, take 7 nodes, more than 6$", "copy", u, f"{folder}/v", 6)
+    # A copy of a packed table has its words.
+    program.done("copy", f"{folder}/least", f"{folder}/again")
+    assert contents(f"{folder}/again") == contents(f"{folder}/least")
     words = read_words(u)
     words[8 + 4] = 1
     write_words(u, words)

@@ -276,9 +276,10 @@ def copies(program, folder):
         assert program.done("copy", t, u, 9) == f"made {u} with 9 nodes\n" and contents(t) == before
         assert both(program, u) == both(program, t) and state(program, u) == "settled"
         os.remove(u)
-        program.done("copy", t, u, 6)
-        program.done("repair", t)
-        assert contents(u) == contents(t)
+        # Eleven codes each: a leaf each, collection 1's first.
+        assert program.done("copy", t, u) == f"made {u} with 2 nodes\n" and read_words(u)[:4] == [1, 1, 2, 2]
+        assert both(program, u) == both(program, t) and state(program, u) == "settled"
+        program.refuses(NO_TABLE, "a table of two collections has 2 to 65535 nodes, not 1", "copy", t, f"{folder}/v", 1)
         os.remove(u)
         with open(t, "wb") as f:
             f.write(whole)

@@ -26,14 +26,15 @@ def preloaded(program, folder, *words, **environment):
 
 
 def recorded(program, folder, *words):
-    """Runs a command that succeeds; the syncs that it made, in order: the words of each, and for an msync what the file held."""
+    """Runs a command that succeeds; the syncs that it made, in order: the words of each, and for an msync, or where a file takes another
+    one's place, what the file held."""
     status, printed, err = preloaded(program, folder, *words)
     assert status == 0, (words, status, err)
     found, log = [], f"{folder}/syncs"
     with open(log, "rb") as f:
         for line in f:
             call = line.decode().split()
-            image = f.read(int(call[4])) if call[0] == "msync" else None
+            image = f.read(int(call[4])) if call[0] in ("msync", "replace") else None
             found.append((call, image))
     os.remove(log)
     return found, printed
@@ -189,28 +190,67 @@ def mixes_with_fast(program, folder):
     return f"{said}, {wrong} of them not sound"
 
 
-def a_load_and_its_acknowledgements(program, folder):
-    """Each line that a load has printed by a sync is in every mix of pages there, and at most the one under way beside them."""
-    chance, t, csv = random.Random(5), f"{folder}/t", f"{folder}/csv"
+def lines_to_load(program, folder, t, csv):
+    """A table with codes, and lines most of which split a leaf: the map before, and the lines."""
     have = full_leaves(program, t, 30, 200)
     lines = [(code(30 * leaf + 13 + i), 10000 + 30 * leaf + i) for leaf in range(30) for i in range(3)]
-    chance.shuffle(lines)
+    random.Random(5).shuffle(lines)
     with open(csv, "w") as f:
         f.writelines(f"{c},{r}\n" for c, r in lines)
-    lines = [(c, (r, "open")) for c, r in lines]
-    judge, disk, seen = Judge(program, folder), Disk(contents(t)), 0
-    syncs, printed = recorded(program, folder, "load", t, csv, "--each")
-    for call, image in syncs:
-        done = printed[:int(call[3])].count("\n")
-        some = dict(have, **dict(lines[:done]))
-        disk.written(image)
-        for mix in disk.mixes(chance):
-            assert judge.map_of(mix) in (some, dict(some, **dict(lines[done:done + 1]))), (done, call)
-            seen += 1
-        disk.synced(int(call[1]), int(call[2]))
-    disk.written(contents(t))
-    assert [judge.map_of(m) for m in disk.mixes(chance)] == [dict(have, **dict(lines))]
-    return f"{len(syncs)} syncs, {seen} mixes"
+    return have, [(c, (r, "open")) for c, r in lines]
+
+
+def a_load_and_its_acknowledgements(program, folder):
+    """Each line that a load has printed by a sync is in every mix of pages there, and beside them at most the one under way where the load
+    goes line by line, else a first part of the lines after it. A table with a second name is changed in place."""
+    t, csv, seen, synced = f"{folder}/t", f"{folder}/csv", 0, 0
+    have, lines = lines_to_load(program, folder, t, csv)
+    os.link(t, t + ".second")
+    whole = contents(t)
+    for slow in (["--pause", 1], []):
+        with open(t, "r+b") as f:
+            f.write(whole)
+        judge, disk, chance = Judge(program, folder), Disk(whole), random.Random(5)
+        syncs, printed = recorded(program, folder, "load", t, csv, "--each", *slow)
+        for call, image in syncs:
+            assert call[0] == "msync", call
+            done = printed[:int(call[3])].count("\n")
+            disk.written(image)
+            most = done + 1 if slow else len(lines)
+            some = [dict(have, **dict(lines[:n])) for n in range(done, most + 1)]
+            for mix in disk.mixes(chance):
+                assert judge.map_of(mix) in some, (done, call)
+                seen += 1
+            disk.synced(int(call[1]), int(call[2]))
+        disk.written(contents(t))
+        assert [judge.map_of(m) for m in disk.mixes(chance)] == [dict(have, **dict(lines))]
+        synced += len(syncs)
+    assert contents(t) == contents(t + ".second")
+    return f"{synced} syncs, {seen} mixes"
+
+
+def a_load_by_new_files(program, folder):
+    """Where a flush is a wait for the disk a batch comes in by a new file: written, synced, put in the table's place, the folder synced;
+    before that nothing of it is acknowledged. Each such file has the lines up to one of the batch, and of an empty table all at once."""
+    t, csv = f"{folder}/t", f"{folder}/csv"
+    have, lines = lines_to_load(program, folder, t, csv)
+    program.done("make", f"{folder}/empty", 200)
+    replaced = 0
+    for table, before, batches in ((t, have, 30), (f"{folder}/empty", {}, 1)):
+        judge, lasting, coming = Judge(program, folder), 0, None
+        syncs, printed = recorded(program, folder, "load", table, csv, "--each")
+        assert [call[0] for call, _ in syncs] == ["msync"] + (len(syncs) - 1) // 3 * ["fsync", "replace", "fsync"], syncs
+        for call, image in syncs:
+            assert printed[:int(call[3 if call[0] != "fsync" else 2])].count("\n") <= lasting, call
+            if call[0] == "replace":
+                assert call[1].startswith(table + ".") and call[2] == table, call
+                coming = next(n for n in range(lasting + 1, len(lines) + 1) if judge.map_of(image) == dict(before, **dict(lines[:n])))
+                replaced += 1
+            elif call[:2] == ["fsync", folder]:
+                lasting = coming
+        assert lasting == len(lines) and everything(program.done("list", table)) == dict(before, **dict(lines))
+        assert (len(syncs) - 1) // 3 <= batches, len(syncs)
+    return f"{replaced} new files"
 
 
 def what_a_killed_program_left(program, folder):
@@ -244,7 +284,7 @@ def a_new_table_is_there_whole(program, folder):
     """Written under another name, synced, renamed, the folder synced; nothing else stays."""
     t = f"{folder}/t"
     for command, name in ((["make", t, 50], t), (["copy", t, f"{t}2", 90], f"{t}2"), (["salvage", t, f"{t}4"], f"{t}4")):
-        calls = [call for call, _ in recorded(program, folder, *command)[0]]
+        calls = [call[:-1] for call, _ in recorded(program, folder, *command)[0]]
         other = calls[0][1]
         assert other.startswith(name + ".") and calls == [["fsync", other], ["rename", other, name], ["fsync", folder]], calls
     # Where there is no such rename.
@@ -256,4 +296,4 @@ def a_new_table_is_there_whole(program, folder):
 
 
 TESTS = [any_mix_of_pages, mixes_on_the_unordered_dock, changes_of_two_collections, leaves_that_come_back, mixes_with_fast,
-         a_load_and_its_acknowledgements, what_a_killed_program_left, a_disk_that_fails, a_new_table_is_there_whole]
+         a_load_and_its_acknowledgements, a_load_by_new_files, what_a_killed_program_left, a_disk_that_fails, a_new_table_is_there_whole]
