@@ -227,6 +227,7 @@ fn measure_size(results: &mut Results, bench: &mut Bench, check: f64) {
     for (kind, part) in KINDS.into_iter().enumerate() {
         results.add(part, "stores listed", bench.reached, "stores", Spread::exact(bench.mean(kind, |o| o.stores)));
         results.add(part, "flushes listed", bench.reached, "flushes", Spread::exact(bench.mean(kind, |o| o.flushes)));
+        results.add(part, "changes a run", bench.reached, "changes", Spread::exact(bench.lists[kind].len() as f64));
     }
     eprintln!("changes: {} nodes done, at most {changes} of each kind in a run", bench.reached);
 }

@@ -143,13 +143,21 @@ fn change_times(results: &Results, part: &'static str) -> Table {
     table
 }
 
+/// Where a run has one change alone, its figures, counts among them, are of that one.
+fn changes_a_run(results: &Results, part: &str, nodes: usize) -> String {
+    match results.median(part, "changes a run", nodes) {
+        Some(1.0) => "one change a run".to_string(),
+        changes => changes.map_or("-".to_string(), |n| grouped(n as usize)),
+    }
+}
+
 fn change_ratios(results: &Results) -> Table {
-    let head: Vec<&str> = ["", "nodes", "read pass, µs"].into_iter().chain(PARTS).chain(["stores listed", "flushes listed"]).collect();
+    let head: Vec<&str> = ["", "nodes", "changes a run", "read pass, µs"].into_iter().chain(PARTS).chain(["stores listed", "flushes listed"]).collect();
     let mut table = Table::new("A change: each part's time divided by the time of one plain read pass over the same nodes", &head);
     for part in [INSERTION, SPLITTING, DELETION, CLASS_CHANGE] {
         for nodes in results.sizes(NODES, "read pass") {
             let pass = results.median(NODES, "read pass", nodes);
-            let mut row = vec![part.to_string(), grouped(nodes), or_dash(pass.map(|ns| ns / 1e3))];
+            let mut row = vec![part.to_string(), grouped(nodes), changes_a_run(results, part, nodes), or_dash(pass.map(|ns| ns / 1e3))];
             row.extend(PARTS.map(|what| ratio(results.median(part, what, nodes), pass)));
             row.extend(["stores listed", "flushes listed"].map(|what| or_dash(results.median(part, what, nodes))));
             table.rows.push(row);
