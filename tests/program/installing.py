@@ -80,13 +80,13 @@ def an_edited_crate_is_built_again(program, folder):
     """As make sees it, where a file of a crate is newer than the library."""
     if any(word.startswith("LIBRARY=") for word in sys.argv[3:]):
         return "not with another library"
-    assert "rt staticlib" not in make("-n")
+    assert "build-library" not in make("-n")
     for path in ("search/src/lib.rt", "model/specs/Search.antt", "search/proofs"):
         path = os.path.join("..", "crates", path)
         if os.path.isdir(os.path.join(HOST, path)):
             path = next(os.path.join(at, f) for at, _, names in os.walk(os.path.join(HOST, path)) for f in names)
             path = os.path.relpath(path, HOST)
-        assert "rt staticlib" in make("-n", "-W", path), path
+        assert "build-library" in make("-n", "-W", path), path
     return None
 
 

@@ -149,8 +149,8 @@ module _ (n dock : ℕ) (pairs : Words) (p : Progress) (list t : Words) (fit : F
         let f : take (p .at) list ++ lent ≡ list = sym (rest-back (p .at) list lent) ∙ put-same (p .at) (length list - p .at) list in
         record {
           same =
-            unless-stop m _ _ (u .some-number) ∙ same-batched (same-answer (omega arith) (omega arith) (omega arith) (omega arith)) a (b ∙ sym f)
-            ∙ sym (here ∙ ap (behind (p .taken) (p .stores) (p .flushes) (p .barriers) (take (p .at) list)) (batch-stops n dock s (drop (suc (p .taken)) ss) lent t m w));
+              unless-stop m _ _ (u .some-number) ∙ same-batched (same-answer (omega arith) (omega arith) (omega arith) (omega arith)) a (b ∙ sym f)
+              ∙ sym (here ∙ ap (behind (p .taken) (p .stores) (p .flushes) (p .barriers) (take (p .at) list)) (batch-stops n dock s (drop (suc (p .taken)) ss) lent t m w));
           fits = rw (a, b) (record {
             is-sound = fit .is-sound;
             leftover-is = fit .leftover-is;
@@ -190,9 +190,9 @@ module _ (n dock : ℕ) (pairs : Words) (p : Progress) (list t : Words) (fit : F
           omega (arith, ap length back, length-append (take (p .at) list) later, front, done .long, ap length (rest-lent (p .at) list), length-drop (p .at) list, fit .inside) in
           record {
             same =
-              rw (first, rest, h, one)
-              (rw one at (sym (behind-behind (p .taken) (p .stores) (p .flushes) (p .barriers) 1 a b c (take (p .at) list) (take w later) (batch n dock (drop (suc (p .taken)) ss) (drop w later) (tableAfter x (length lent) dock t)))))
-              ∙ sym (here ∙ ap (behind (p .taken) (p .stores) (p .flushes) (p .barriers) (take (p .at) list)) (batch-goes n dock s (drop (suc (p .taken)) ss) lent t a b c is-written));
+                rw (first, rest, h, one)
+                (rw one at (sym (behind-behind (p .taken) (p .stores) (p .flushes) (p .barriers) 1 a b c (take (p .at) list) (take w later) (batch n dock (drop (suc (p .taken)) ss) (drop w later) (tableAfter x (length lent) dock t)))))
+                ∙ sym (here ∙ ap (behind (p .taken) (p .stores) (p .flushes) (p .barriers) (take (p .at) list)) (batch-goes n dock s (drop (suc (p .taken)) ss) lent t a b c is-written));
             fits = record {
               is-sound = rw new (after-sound _ _ _ _ _ _ t (done .accepted));
               leftover-is = rw new (after-nothing _ _ _ _ _ _ t (done .accepted));

@@ -60,7 +60,18 @@ fn take_one(
     }
     let recording = pointer::recording(pointer);
     let access = pointer::class(pointer);
-    insert::insert_known(table, list, dock, collection, key, recording, access, left, reached, known)
+    insert::insert_known(
+        table,
+        list,
+        dock,
+        collection,
+        key,
+        recording,
+        access,
+        left,
+        reached,
+        known,
+    )
 }
 
 // The next pair of a batch that is not stopped.
@@ -87,7 +98,17 @@ fn take_next(
     let left = p.left;
     let key = pairs[2 * i];
     let pointer = pairs[2 * i + 1];
-    let entered = take_one(table, &mut list[at..], dock, collection, key, pointer, left, p.reached, known);
+    let entered = take_one(
+        table,
+        &mut list[at..],
+        dock,
+        collection,
+        key,
+        pointer,
+        left,
+        p.reached,
+        known,
+    );
     match entered {
         Entered::Refused(n) => Progress {
             number: n,

@@ -20,10 +20,14 @@ abbrev μ-loop : tie.MeasureT-loop
 μ-loop table₀ list₀ dock collection pairs reached count p₀ table list p = count - p .taken
 
 loop-holds : tie.Need-loop-holds Inv-loop μ-loop
-loop-holds c = let e = c .before .before .before .pre in
-    (refl, refl, refl, refl,
-    record { is-sound = e .0; leftover-is = e .1 .0; reached-are = e .1 .1 .0; collection = e .1 .1 .1 .0; dock-ok = e .1 .1 .1 .1; filled = refl; inside = omega arith },
-    ahead-start _ _ _ _ _ _ refl refl refl refl refl refl)
+loop-holds c = let e = c .before .before .before .pre in (
+  refl,
+  refl,
+  refl,
+  refl,
+  record { is-sound = e .0; leftover-is = e .1 .0; reached-are = e .1 .1 .0; collection = e .1 .1 .1 .0; dock-ok = e .1 .1 .1 .1; filled = refl; inside = omega arith },
+  ahead-start _ _ _ _ _ _ refl refl refl refl refl refl,
+)
 
 is-known-requires : tie.Need-is-known-requires Inv-loop μ-loop
 is-known-requires c κs = let h = c .before .before .before .loop .inv in let f = h .4 in (f .is-sound, (f .collection, omega (arith, h .2, c .before .if1 .taken)))

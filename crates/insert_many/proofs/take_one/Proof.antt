@@ -32,9 +32,25 @@ class-requires : tie.Need-class-requires
 class-requires c κs = search needs
 
 insert-known-requires : tie.Need-insert-known-requires
-insert-known-requires c κs = let r = parts c .before in let k = r .before in let i = k .before .before .before .before in let a = i .args in let e = i .pre in
-    (e .0, (e .1 .0, (e .1 .1 .0, (e .1 .1 .1 .0, (e .1 .1 .1 .1 .0, (omega (arith, k .before .words-for .ensures, k .if1 .left),
-    known-as (a .collection) (a .pointer) (a .table .now) _ (r .recording .ensures) _ (e .1 .1 .1 .1 .1)))))))
+insert-known-requires c κs = let r = parts c .before in let k = r .before in let i = k .before .before .before .before in let a = i .args in let e = i .pre in (
+  e .0,
+  (
+    e .1 .0,
+    (
+      e .1 .1 .0,
+      (
+        e .1 .1 .1 .0,
+        (
+          e .1 .1 .1 .1 .0,
+          (
+            omega (arith, k .before .words-for .ensures, k .if1 .left),
+            known-as (a .collection) (a .pointer) (a .table .now) _ (r .recording .ensures) _ (e .1 .1 .1 .1 .1),
+          ),
+        ),
+      ),
+    ),
+  ),
+)
 
 same-length : tie.Need-same-length
 same-length c = search needs
