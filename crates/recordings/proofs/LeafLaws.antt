@@ -24,7 +24,7 @@ use Rattle.slots.specs.Scan.{shownFrom, keeps, keptOf, isWay}
 use Rattle.slots.specs.Gathered.{span, slotsIn, waysFrom}
 use Rattle.slots.proofs.Kept.{kept-more}
 use Rattle.bits.specs.Bits.{has}
-use Rattle.recordings.specs.Marked.{own, keptIn}
+use Rattle.recordings.specs.Marked.{uncut, own, keptIn}
 use Rattle.recordings.specs.Rounds.{Hits, hitIf, hitAll}
 
 -- ---- the leaf that is read
@@ -42,11 +42,22 @@ module _ (t marks : Words) (n : ℕ) where
   unfolding own
   leaf-inner x e h l q z = blank x e _ ∙ sym (rw (h, ne-eqb (node t n .level) 0 (λ y. z (q ∙ word-level t n ∙ y))))
 
-  pub leaf-read : (x : Node) → x ≡ node t n → has marks n ≡ true → (l : ℕ) → l ≡ wordOf t n 2 → l ≡ 0 → keptIn x (wordOf t (x .sibling) 3) ≡ own (view t) marks n
+  pub leaf-read : (x : Node) → x ≡ node t n → has marks n ≡ true → (l : ℕ) → l ≡ wordOf t n 2 → l ≡ 0 → uncut marks ≡ n → keptIn x (wordOf t (x .sibling) 3) ≡ own (view t) marks n
   unfolding own used kept below keeps
-  leaf-read x e h l q z =
+  leaf-read x e h l q z u =
       ap (λ (y : Node). keptIn y (wordOf t (y .sibling) 3)) e ∙ ap (keptIn (node t n)) (word-fence t (node t n .sibling))
-      ∙ sym (rw (h, eq-eqb (node t n .level) 0 (sym (word-level t n) ∙ sym q ∙ z)))
+      ∙ sym (rw (h, eq-eqb (node t n .level) 0 (sym (word-level t n) ∙ sym q ∙ z), eq-eqb n (uncut marks) (sym u)))
+
+  all-kept : (b : ℕ) (ss : List Slot) → keptOf 0 b ss ≡ ss
+  unfolding filter keeps
+  all-kept b [] = refl
+  all-kept b (s ∷ ss) = ap (λ (l : List Slot). s ∷ l) (all-kept b ss)
+
+  pub leaf-whole : (x : Node) (b : ℕ) → x ≡ node t n → has marks n ≡ true → (l : ℕ) → l ≡ wordOf t n 2 → l ≡ 0 → uncut marks ≢ n → keptOf 0 b (shownFrom (x .left) (x .slots) 0) ≡ own (view t) marks n
+  unfolding own used
+  leaf-whole x b e h l q z u =
+      all-kept b (shownFrom (x .left) (x .slots) 0) ∙ ap (λ (y : Node). shownFrom (y .left) (y .slots) 0) e
+      ∙ sym (rw (h, eq-eqb (node t n .level) 0 (sym (word-level t n) ∙ sym q ∙ z), ne-eqb n (uncut marks) (λ y. u (sym y))))
 
 -- as the code has it, with the bound read
 pub leaf-kept : (t marks : Words) (n : ℕ) (x : Node) (b : ℕ) → keptIn x (wordOf t (x .sibling) 3) ≡ own (view t) marks n → b ≡ wordOf t (x .sibling) 3 → keptIn x b ≡ own (view t) marks n

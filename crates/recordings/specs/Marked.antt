@@ -4,6 +4,7 @@ use mathlib.Core.Bool.{false, cond, _&&_}
 use mathlib.Core.List.{List, [], map}
 use Prim.Native.Nat.{ℕ, _+_, _≤_, _<_}
 use lib.Dec.{eqb}
+use lib.ListN.{getD}
 use Rattle.model.specs.declared.Node.{Node}
 use Rattle.model.specs.Table.{Words}
 use Rattle.model.specs.Slots.{Slot, recording, View}
@@ -12,9 +13,15 @@ use Rattle.model.specs.Writes.{numbers}
 use Rattle.slots.specs.Scan.{shownFrom, keptOf}
 use Rattle.bits.specs.Bits.{has}
 
--- words for a bit of each node
+-- words for a bit of each node, and one for the number of the node that may show slots from its sibling's fence up
 abbrev pub MARKS : ℕ
-MARKS = 1024
+MARKS = 1025
+
+abbrev pub UNCUT : ℕ
+UNCUT = 1024
+
+abbrev pub uncut : (marks : Words) → ℕ
+uncut marks = getD marks UNCUT 0
 
 -- the numbers from m down, so many, are not marked
 abbrev pub NoneOf : (marks : Words) → (m count : ℕ) → Type 0
@@ -24,9 +31,9 @@ NoneOf marks m count = (i : ℕ) → i ≤ m → m < i + count → has marks i �
 abbrev pub LastMarked : (n : ℕ) → (marks : Words) → (last : ℕ) → Type 0
 LastMarked n marks last = (last ≤ n) × ((i : ℕ) → last < i → i ≤ n → has marks i ≡ false)
 
--- the kept slots of node n, if it is marked and a leaf
+-- the slots of node n, if it is marked and a leaf: those shown, of the one node the kept ones
 unfoldable pub own : View → (marks : Words) → (n : ℕ) → List Slot
-own v marks n = cond (has marks n && eqb (v .node n .level) 0) (kept v n) []
+own v marks n = cond (has marks n && eqb (v .node n .level) 0) (cond (eqb n (uncut marks)) (kept v n) (v .node n .shown)) []
 
 -- of the nodes from n on, so many; of all
 abbrev pub ownFrom : View → (marks : Words) → (n count : ℕ) → List Slot

@@ -21,7 +21,11 @@ ghost use Rattle.recordings.specs.Once.{onceBefore};
 
 // ---- the leaves among the marked nodes
 
-// Node n, if it is marked and a leaf; else a record without slots.
+// The word of the marks with the number of the node that may show slots from its sibling's fence up.
+const UNCUT: usize = 1024;
+
+// Node n, if it is marked and a leaf; else a record without slots. But for the one node a sibling is left out: its fence, which lies anywhere
+// in the table, need not be read.
 fn leaf(table: &[u64], marks: &[u64], n: u64) -> Node
     requires { ⌜ length (now marks) ≡ MARKS ⌝ }
     requires { ⌜ n ≤ 65535 ⌝ }
@@ -33,7 +37,18 @@ fn leaf(table: &[u64], marks: &[u64], n: u64) -> Node
     if node::word(table, n, 2) != 0 {
         return node::read(table, 0);
     }
-    node::read(table, n)
+    let x = node::read(table, n);
+    if marks[UNCUT] == n {
+        return x;
+    }
+    let slots = x.slots;
+    Node {
+        left: x.left,
+        sibling: 0,
+        level: 0,
+        fence: x.fence,
+        slots: slots,
+    }
 }
 
 // So many numbers from m down, at least, are not marked: those of its word if that is 0.

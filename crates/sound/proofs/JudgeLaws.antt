@@ -99,7 +99,7 @@ said-meant (HiddenIn x) = refl
 said-meant (MissingIn p a b) = refl
 said-meant (BothIn p a) = refl
 
-allowed-is : (o : Option model.Leftover) (x : Leftover) (r : Verdict) → r ≡ verdictOf o → r ≡ Allowed x → o ≡ some (meant x)
+pub allowed-is : (o : Option model.Leftover) (x : Leftover) (r : Verdict) → r ≡ verdictOf o → r ≡ Allowed x → o ≡ some (meant x)
 allowed-is none x r e q = let z : _≡_ {A = ℕ} 0 1 = cc in absurd (omega arith)
 allowed-is (some y) x r e q = let z : said y ≡ x = cc in sym (ap (λ (u : Leftover). some (meant u)) (sym z) ∙ ap some (meant-said y))
 

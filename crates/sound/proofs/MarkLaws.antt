@@ -74,7 +74,7 @@ slot-seen v p d k c r s u e = unseen s u (λ z. e ∙ ap (fold (check v d) (visi
 -- ---- a node
 
 -- a node that stands somewhere has a bit
-pub stands-low : (t ws : Words) (n l k r : ℕ) → headerOk t ≡ true → length ws ≡ 1024 → (b : Bool) → b ≡ stands (view t) (standing n l k r) → b ≡ true → n < 64 * length ws
+pub stands-low : (t ws : Words) (n l k r : ℕ) → headerOk t ≡ true → length ws ≡ 1025 → (b : Bool) → b ≡ stands (view t) (standing n l k r) → b ≡ true → n < 64 * length ws
 unfolding stands
 stands-low t ws n l k r h e b q y =
     let range = range-iff (nodes t) n .0 (and-iff (inRange (nodes t) n) _ .0 (sym q ∙ y) .0) .1 in

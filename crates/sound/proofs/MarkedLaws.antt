@@ -4,20 +4,25 @@ use mathlib.Core.Path.{_≡_, refl, ap, sym, subst, _∙_}
 use mathlib.Core.Bool.{Bool, true, false, cond, _&&_, _||_, false≢true}
 use mathlib.Core.Logic.{_↔_, _≢_, ⊎-elim}
 use mathlib.Core.List.{List, [], _∷_, _++_, map}
-use Prim.Native.Nat.{ℕ, zero, suc, _+_, _≤_, _<_}
+use Prim.Native.Nat.{ℕ, zero, suc, _+_, _/_, _%_, _^_, _≤_, _<_}
 use native.Mathlib.Omega.{arith}
 use lib.Dec.{eqb}
-use lib.ListN.{replicate}
+use lib.ListN.{length, set, replicate}
+use lib.Seq.{getD-set-same, getD-set-other}
+use mathlib.Core.Option.{some}
 use borrow.Author.Tests.{eqb-true, eqb-false, eq-eqb, ne-eqb}
 use Rattle.model.specs.declared.Unfinished.{Unfinished}
-use Rattle.model.specs.Table.{Words, root}
+use Rattle.model.specs.Table.{Words, root, headerOk}
 use Rattle.model.specs.Slots.{Slot, recording, View, viewFrom, view, height}
 use Rattle.model.specs.Search.{below}
 use Rattle.model.specs.Reached.{flat, kept, children, reachedFrom, leavesFrom, reached, mapping}
-use Rattle.model.specs.SoundTest.{all, elem, distinct, pairOk, recordingsOk}
+use Rattle.model.specs.SoundTest.{all, elem, distinct, pairOk, recordingsOk, Leftover, nothing, hiddenIn, missingIn, bothIn, unfinished, leftoverOf, leftover}
 use Rattle.model.specs.Writes.{numbers}
 use Rattle.list_laws.proofs.Tools.{and-iff, refuted, same-test, Each, Each-append, Each-map}
-use Rattle.list_laws.proofs.Members.{mem-each}
+use Rattle.list_laws.proofs.Members.{mem-each, each-elem}
+use Rattle.list_laws.proofs.Counts.{numbers-each}
+use Rattle.table_laws.proofs.Header.{header-iff}
+use Rattle.tree_laws.proofs.Leftovers.{Left, leftover-iff}
 use Rattle.list_laws.proofs.Distinct.{distinct-cons, UpTo}
 use Rattle.tree_laws.proofs.Rows.{At, range-iff}
 use Rattle.tree_laws.proofs.Levels.{Level, level-lower}
@@ -26,11 +31,12 @@ use Rattle.walk_laws.specs.declared.Tally.the-variants.{Visited}
 use Rattle.walk_laws.specs.Walk.{walk}
 use Rattle.walk_laws.proofs.Sums as sums
 use Rattle.walk_laws.proofs.Sums.{Monoid, sum, tests, unit-right, sum-append, sum-flat, sum-both}
-use Rattle.walk_laws.proofs.WalkLaw.{InOrder, top-level, in-order-once}
+use Rattle.walk_laws.proofs.WalkLaw.{InOrder, top-level, in-order-once, walk-iff}
 use Rattle.bits.specs.Bits.{has}
 use Rattle.bits.proofs.Marks.{none-marked}
-use Rattle.recordings.specs.Marked.{own, markedPairs}
+use Rattle.recordings.specs.Marked.{MARKS, UNCUT, uncut, own, markedPairs}
 use Rattle.sound.specs.Visited.{Adds, Seen}
+use Rattle.sound.specs.Checked.{uncutIn}
 use Rattle.sound.proofs.MarkLaws.{seen-order}
 
 -- ---- sums over a row of numbers
@@ -129,22 +135,34 @@ module _ {M : Type 0} (m : Monoid M) (g : Slot → M) (v : View) where
       sum-append m ofLeaf ns lower ∙ ap (λ (y : M). m .op y (sum m ofLeaf lower)) none ∙ m .unit-left (sum m ofLeaf lower)
       ∙ leaves-sum d (flat (children v) ns) (level-lower v d ns l)
 
-  -- the marks are those of the reached nodes
-  module _ (marks : Words) (marked : (n : ℕ) → has marks n ≡ elem n (reached v)) where
-    own-sum : (n : ℕ) → sum m g (own v marks n) ≡ taken m (elem n (reached v)) (ofLeaf n)
-    unfolding own
-    own-sum n = go (has marks n) (eqb (v .node n .level) 0) refl
+  -- The marks are those of the reached nodes, and every one of these but the uncut one keeps all that it shows.
+  module _ (marks : Words) (marked : (n : ℕ) → n ≤ v .nodes → has marks n ≡ elem n (reached v))
+      (keeps : (n : ℕ) → elem n (reached v) ≡ true → uncut marks ≢ n → kept v n ≡ v .node n .shown) where
+    chosen : (n : ℕ) → elem n (reached v) ≡ true → cond (eqb n (uncut marks)) (kept v n) (v .node n .shown) ≡ kept v n
+    chosen n e = go (eqb n (uncut marks)) refl
       where
-        go : (a b : Bool) → has marks n ≡ a → sum m g (cond (a && b) (kept v n) []) ≡ taken m (elem n (reached v)) (taken m b (sum m g (kept v n)))
-        go true true c = sym (ap (λ (x : Bool). taken m x (sum m g (kept v n))) (sym (marked n) ∙ c))
-        go true false c = sym (ap (λ (x : Bool). taken m x (m .unit)) (sym (marked n) ∙ c))
-        go false b c = sym (ap (λ (x : Bool). taken m x (taken m b (sum m g (kept v n)))) (sym (marked n) ∙ c))
+        go : (b : Bool) → eqb n (uncut marks) ≡ b → cond b (kept v n) (v .node n .shown) ≡ kept v n
+        go true c = refl
+        go false c = sym (keeps n e (λ q. eqb-false n (uncut marks) c (sym q)))
+
+    own-sum : (n : ℕ) → n ≤ v .nodes → sum m g (own v marks n) ≡ taken m (elem n (reached v)) (ofLeaf n)
+    unfolding own
+    own-sum n l = go (has marks n) (eqb (v .node n .level) 0) refl
+      where
+        go : (a b : Bool) → has marks n ≡ a → sum m g (cond (a && b) (cond (eqb n (uncut marks)) (kept v n) (v .node n .shown)) []) ≡ taken m (elem n (reached v)) (taken m b (sum m g (kept v n)))
+        go true true c =
+            let e : elem n (reached v) ≡ true = sym (marked n l) ∙ c in
+            ap (sum m g) (chosen n e) ∙ sym (ap (λ (x : Bool). taken m x (sum m g (kept v n))) e)
+        go true false c = sym (ap (λ (x : Bool). taken m x (m .unit)) (sym (marked n l) ∙ c))
+        go false b c = sym (ap (λ (x : Bool). taken m x (taken m b (sum m g (kept v n)))) (sym (marked n l) ∙ c))
 
     pub marked-sum : InOrder v → sum m g (markedPairs v marks) ≡ sum m g (mapping v)
     unfolding markedPairs mapping
     marked-sum o =
         sum-flat m g (own v marks) (numbers 1 (v .nodes))
-        ∙ sum-like m (λ (n : ℕ). sum m g (own v marks n)) (λ (n : ℕ). taken m (elem n (reached v)) (ofLeaf n)) (numbers 1 (v .nodes)) own-sum
+        ∙ sum-same m (λ (n : ℕ). sum m g (own v marks n)) (λ (n : ℕ). taken m (elem n (reached v)) (ofLeaf n)) (numbers 1 (v .nodes))
+        (Each-map (λ (n : ℕ). (1 ≤ n) × (n < 1 + v .nodes)) (λ (n : ℕ). sum m g (own v marks n) ≡ taken m (elem n (reached v)) (ofLeaf n)) (numbers 1 (v .nodes))
+        (λ n h. let b = h .1 in own-sum n (omega arith)) (numbers-each 1 (v .nodes)))
         ∙ in-order m ofLeaf (v .nodes) (reached v) (in-order-once v o) (in-range v (height v) (v .root ∷ []) (top-level v o))
         ∙ leaves-sum (height v) (v .root ∷ []) (top-level v o)
 
@@ -196,22 +214,26 @@ distinct-same ss us e =
       λ d. distinct-times ss .1 (λ x. omega (arith, e x, distinct-times us .0 d x)),
     )
 
--- the marks that a walk made in none
-first-marks : (v : View) (n : ℕ) (after : Words) → Adds (reached v) (replicate n 0) after → (x : ℕ) → has after x ≡ elem x (reached v)
-first-marks v n after a x = a x ∙ ap (λ (b : Bool). b || elem x (reached v)) (none-marked n x)
+-- ---- the marks that a walk made, and the word after them
 
--- The recordings of the leaves among the nodes that a walk marked are right exactly if the map's are.
-pub marked-right : (v : View) (n : ℕ) (marks : Words) → InOrder v → Adds (reached v) (replicate n 0) marks → recordingsOk (markedPairs v marks) ≡ recordingsOk (mapping v)
-unfolding recordingsOk
-marked-right v n marks o a =
-    let f = first-marks v n marks a in
-    let ranges : all pairOk (markedPairs v marks) ≡ all pairOk (mapping v) =
-    all-sum pairOk (markedPairs v marks) ∙ marked-sum tests pairOk v marks f o ∙ sym (all-sum pairOk (mapping v)) in
-    let once : distinct (map recording (markedPairs v marks)) ≡ distinct (map recording (mapping v)) =
-    distinct-same (markedPairs v marks) (mapping v) (λ x. marked-sum sums.numbers (λ (s : Slot). oneIf (eqb x (recording s))) v marks f o) in
-    ap (λ (b : Bool). b && distinct (map recording (markedPairs v marks))) ranges ∙ ap (λ (b : Bool). all pairOk (mapping v) && b) once
+-- a mark below that word
+still-marked : (marks : Words) (x n : ℕ) → n < 65536 → has (set marks UNCUT x) n ≡ has marks n
+unfolding has
+still-marked marks x n l = ap (λ (w : ℕ). eqb (w / 2 ^ (n % 64) % 2) 1) (getD-set-other marks UNCUT (n / 64) x 0 (λ e. omega arith))
 
--- ---- as the check meets it
+-- where this is left, every reached node but the uncut one keeps all that it shows
+left-keeps : (v : View) (x : Leftover) → Left v x → (n : ℕ) → elem n (reached v) ≡ true → uncutIn x ≢ n → kept v n ≡ v .node n .shown
+left-keeps v nothing h n e z = each-elem (λ (i : ℕ). kept v i ≡ v .node i .shown) n (reached v) e (h .1)
+left-keeps v (hiddenIn y) h n e z = each-elem (λ (i : ℕ). kept v i ≡ v .node i .shown) n (reached v) e (h .1)
+left-keeps v (missingIn p a false) h n e z = each-elem (λ (i : ℕ). kept v i ≡ v .node i .shown) n (reached v) e (h .1)
+left-keeps v (missingIn p a true) h n e z = each-elem (λ (i : ℕ). i ≢ a → kept v i ≡ v .node i .shown) n (reached v) e (h .1 .others) (λ y. z (sym y))
+left-keeps v (bothIn p a) h n e z = each-elem (λ (i : ℕ). kept v i ≡ v .node i .shown) n (reached v) e (h .1)
+
+left-is : (v : View) (u : Unfinished) (x : Leftover) → u ≡ unfinished v → leftoverOf u ≡ some x → leftover v ≡ some x
+unfolding leftover
+left-is v u x e l = ap leftoverOf (sym e) ∙ l
+
+-- as the check meets it
 
 any-marked : (t : Words) (r q : ℕ) (marks : Words) → markedPairs (viewFrom t r) marks ≡ markedPairs (viewFrom t q) marks
 unfolding markedPairs own kept below
@@ -220,9 +242,32 @@ any-marked t r q marks = refl
 visited-seen : (s : Tally) (c : ℕ) (u : Unfinished) → s ≡ Visited c u → Seen s
 visited-seen s c u e = subst Seen (sym e) tt
 
+module _ (v : View) (marks : Words) (marked : (n : ℕ) → n ≤ v .nodes → has marks n ≡ elem n (reached v))
+    (keeps : (n : ℕ) → elem n (reached v) ≡ true → uncut marks ≢ n → kept v n ≡ v .node n .shown) (o : InOrder v) where
+  -- The recordings of the leaves among the nodes that a walk marked are right exactly if the map's are.
+  pub marked-right : recordingsOk (markedPairs v marks) ≡ recordingsOk (mapping v)
+  unfolding recordingsOk
+  marked-right =
+      let ranges : all pairOk (markedPairs v marks) ≡ all pairOk (mapping v) =
+      all-sum pairOk (markedPairs v marks) ∙ marked-sum tests pairOk v marks marked keeps o ∙ sym (all-sum pairOk (mapping v)) in
+      let once : distinct (map recording (markedPairs v marks)) ≡ distinct (map recording (mapping v)) =
+      distinct-same (markedPairs v marks) (mapping v) (λ x. marked-sum sums.numbers (λ (s : Slot). oneIf (eqb x (recording s))) v marks marked keeps o) in
+      ap (λ (b : Bool). b && distinct (map recording (markedPairs v marks))) ranges ∙ ap (λ (b : Bool). all pairOk (mapping v) && b) once
+
 -- a walk was not refused, and marked what it reached: the marked leaves tell of the map
-pub walk-right : (t : Words) (r n : ℕ) (s : Tally) (c : ℕ) (u : Unfinished) (marks : Words) → s ≡ walk (viewFrom t r) → s ≡ Visited c u
-    → (Seen s → Adds (reached (viewFrom t r)) (replicate n 0) marks) → (b : Bool) → b ≡ recordingsOk (markedPairs (view t) marks) → b ≡ recordingsOk (mapping (viewFrom t r))
-walk-right t r n s c u marks e q a b g =
+pub walk-right : (t : Words) (r n : ℕ) (s : Tally) (c : ℕ) (u : Unfinished) (marks : Words) (y : ℕ) (x : Leftover) → headerOk t ≡ true → length marks ≡ MARKS → s ≡ walk (viewFrom t r)
+    → s ≡ Visited c u → (Seen s → Adds (reached (viewFrom t r)) (replicate n 0) marks) → leftoverOf u ≡ some x → y ≡ uncutIn x
+    → (b : Bool) → b ≡ recordingsOk (markedPairs (view t) (set marks UNCUT y)) → b ≡ recordingsOk (mapping (viewFrom t r))
+walk-right t r n s c u marks y x hd len e q a l w b g =
+    let v = viewFrom t r in
     let h = visited-seen s c u q in
-    g ∙ ap recordingsOk (any-marked t (root t) r marks) ∙ marked-right (viewFrom t r) n marks (seen-order (viewFrom t r) s e h) (a h)
+    let o = seen-order v s e h in
+    let p = walk-iff v c u .0 (sym e ∙ q) in
+    let few = header-iff t .0 hd .size .few in
+    let is-left = left-is v u x (p .unfinished-is) l in
+    let after = set marks UNCUT y in
+    let at : uncut after ≡ uncutIn x = getD-set-same marks UNCUT y 0 (omega (arith, len)) ∙ w in
+    let marked : (i : ℕ) → i ≤ v .nodes → has after i ≡ elem i (reached v) = λ i k.
+    still-marked marks y i (omega (arith, few)) ∙ a h i ∙ ap (λ (z : Bool). z || elem i (reached v)) (none-marked n i) in
+    let keeps : (i : ℕ) → elem i (reached v) ≡ true → uncut after ≢ i → kept v i ≡ v .node i .shown = λ i k z. left-keeps v x (leftover-iff v (p .once) x .0 is-left) i k (λ d. z (at ∙ d)) in
+    g ∙ ap recordingsOk (any-marked t (root t) r after) ∙ marked-right v after marked keeps o

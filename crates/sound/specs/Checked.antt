@@ -31,6 +31,13 @@ abbrev pub verdictOf : Option model.Leftover → Verdict
 verdictOf none = TooMuch
 verdictOf (some x) = Allowed (said x)
 
+-- the node that shows slots from its sibling's fence up; 0 if none does
+abbrev pub uncutIn : model.Leftover → ℕ
+uncutIn model.nothing = 0
+uncutIn (model.hiddenIn x) = 0
+uncutIn (model.missingIn p a trailing) = cond trailing a 0
+uncutIn (model.bothIn p a) = 0
+
 -- what a check answers: the leftover and the number of nodes reached, if it is sound
 abbrev pub soundWith : (sound : Bool) → Option model.Leftover → ℕ → Checked
 soundWith false o c = Unsound

@@ -19,10 +19,10 @@ ghost use Rattle.slots.specs.Gathered.{pointersFrom};
 ghost use Rattle.recordings.specs.Marked.{MARKS};
 ghost use Rattle.sound.specs.Nodes.{standing, leafFair, lookOf, noted, slotChecked};
 ghost use Rattle.sound.specs.Visited.{visited, slotVisited, Adds, Seen};
-ghost use Rattle.sound.specs.Checked.{meant, verdictOf, checkedTree, joined, checked};
+ghost use Rattle.sound.specs.Checked.{meant, verdictOf, uncutIn, checkedTree, joined, checked};
 
-// Words for a bit of each node.
-const MARKS: usize = 1024;
+// Words for a bit of each node, and one more (`recordings`).
+const MARKS: usize = 1025;
 
 // ---- one node
 
@@ -514,6 +514,27 @@ fn has_room(table: &[u64], left: Leftover) -> bool
     }
 }
 
+// The node that shows slots from its sibling's fence up; 0 if none does.
+fn uncut(left: Leftover) -> u64
+    ensures { λ r. ⌜ r ≡ uncutIn (meant left) ⌝ }
+{
+    match left {
+        Leftover::Nothing => 0,
+        Leftover::HiddenIn(_) => 0,
+        Leftover::MissingIn {
+            parent: _,
+            node,
+            trailing,
+        } => {
+            if trailing {
+                return node;
+            }
+            0
+        }
+        Leftover::BothIn { parent: _, node: _ } => 0,
+    }
+}
+
 // The check of one tree: the leftover and the number of nodes reached, if it is sound.
 fn check_tree(table: &[u64], root: u64) -> Checked
     requires { ⌜ headerOk (now table) ≡ true ⌝ }
@@ -531,6 +552,7 @@ fn check_tree(table: &[u64], root: u64) -> Checked
                     if !has_room(table, left) {
                         return Checked::Unsound;
                     }
+                    marks[1024] = uncut(left);
                     if !recordings::ok(table, &marks) {
                         return Checked::Unsound;
                     }

@@ -1,5 +1,5 @@
 -- `recordings::leaf` meets its contract.
-use Rattle.recordings.proofs.LeafLaws.{leaf-unmarked, leaf-inner, leaf-read}
+use Rattle.recordings.proofs.LeafLaws.{leaf-unmarked, leaf-inner, leaf-read, leaf-whole}
 use mathlib.Core.Path.{sym, _∙_}
 use borrow.Author.Tests.{not-true, not-false}
 use borrow.Author.Needs.{needs}
@@ -27,8 +27,20 @@ returns-2 c = leaf-inner _ _ _ _ (c .read2 .ensures) (sym (c .before .before .be
 read-requires-3 : tie.Need-read-requires-3
 read-requires-3 c κs = search needs
 
+shared-slice-read-if3 : tie.Need-shared-slice-read-if3
+shared-slice-read-if3 c = search needs
+
 returns-3 : tie.Need-returns-3
-returns-3 c = leaf-read _ _ _ _ (c .read3 .ensures) (sym (c .before .before .before .before .has .ensures) ∙ not-false _ (c .before .before .before .if1 .left)) _ (c .before .before .word .ensures) (c .before .if2 .left)
+returns-3 c =
+    let r = c .before .before in
+    leaf-read _ _ _ _ (r .read3 .ensures) (sym (r .before .before .before .before .has .ensures) ∙ not-false _ (r .before .before .before .if1 .left)) _
+    (r .before .before .word .ensures) (r .before .if2 .left) (c .if3 .taken)
+
+returns-4 : tie.Need-returns-4
+returns-4 c =
+    let r = c .before .before .before in
+    leaf-whole _ _ _ _ _ (r .read3 .ensures) (sym (r .before .before .before .before .has .ensures) ∙ not-false _ (r .before .before .before .if1 .left)) _
+    (r .before .before .word .ensures) (r .before .if2 .left) (c .before .if3 .left)
 
 pub leaf-spec : {M : Type 1} → statement M
 leaf-spec =
@@ -41,4 +53,6 @@ leaf-spec =
     read-requires-2
     returns-2
     read-requires-3
-    returns-3)
+    shared-slice-read-if3
+    returns-3
+    returns-4)

@@ -1,5 +1,6 @@
 -- `sound::check_tree` meets its contract.
 use mathlib.Core.Path.{_≡_, sym, _∙_}
+use lib.ListN.{length}
 use Rattle.model.specs.Table.{root}
 use Rattle.model.specs.Slots.{View, viewFrom}
 use Rattle.model.specs.Reached.{mapping}
@@ -7,7 +8,7 @@ use Rattle.model.specs.SoundTest.{hasRoom, recordingsOk}
 use Rattle.recordings.specs.Marked.{MARKS}
 use Rattle.sound.specs.Checked.{meant}
 use borrow.Author.Tests.{not-true, not-false}
-use Rattle.sound.proofs.JudgeLaws.{room-any, Found, wrong-walk, wrong-leftover, wrong-room, wrong-recordings, all-right}
+use Rattle.sound.proofs.JudgeLaws.{allowed-is, room-any, Found, wrong-walk, wrong-leftover, wrong-room, wrong-recordings, all-right}
 use Rattle.sound.proofs.MarkedLaws.{walk-right}
 use borrow.Author.Needs.{needs}
 use Rattle.sound.proofs.check_tree.Statement.{statement}
@@ -38,12 +39,21 @@ found c =
     record { count = _; unfinished = _; walked = sym (w .walk .ensures .0) ∙ seen c .seen .given .1; verdict = c .judge .ensures }
 
 -- what the marked leaves tell, told of the map
-right : (c : tie.After-ok) → let a = start (walked (seen (judged (allowed (c .before .before .before))))) .args in c .ok .result ≡ recordingsOk (mapping (viewFrom (a .table .now) (a .root)))
+abbrev roomed : tie.After-ok → tie.After-has-room
+roomed c = c .before .before .before .before
+
+-- the marks keep their length
+long : (c : tie.After-walk) → length (c .walk .last .1 .1 .0) ≡ MARKS
+long c = c .walk .kept .1 .1 .0
+
+right : (c : tie.After-ok) → let a = start (walked (seen (judged (allowed (roomed c))))) .args in c .ok .result ≡ recordingsOk (mapping (viewFrom (a .table .now) (a .root)))
 right c =
-    let s = seen (judged (allowed (c .before .before .before))) in
+    let v = allowed (roomed c) in
+    let s = seen (judged v) in
     let w = walked s in
     let a = start w .args in
-    walk-right (a .table .now) (a .root) MARKS _ _ _ _ (w .walk .ensures .0) (s .seen .given .1) (w .walk .ensures .1) _ (c .ok .ensures)
+    walk-right (a .table .now) (a .root) MARKS _ _ _ _ _ _ (start w .pre) (long w) (w .walk .ensures .0) (s .seen .given .1) (w .walk .ensures .1)
+    (allowed-is _ _ _ (judged v .judge .ensures) (v .verdict .given .1)) (c .before .before .uncut .ensures) _ (c .ok .ensures)
 
 -- the parent's room, in the tree that is checked
 roomy : (c : tie.After-has-room) → c .has-room .result ≡ hasRoom (tree (walked (seen (judged (allowed c))))) (meant (allowed c .verdict .given .0 .0))
@@ -80,6 +90,12 @@ returns c =
     let a = allowed (c .before) in
     wrong-room (found (judged a)) _ (a .verdict .given .1) (sym (roomy (c .before)) ∙ not-true _ (c .if1 .taken))
 
+uncut-requires : tie.Need-uncut-requires
+uncut-requires c κs = search needs
+
+array-write-marks : tie.Need-array-write-marks
+array-write-marks c = search needs
+
 slice-aggregate-ok : tie.Need-slice-aggregate-ok
 slice-aggregate-ok c = search needs
 
@@ -88,7 +104,7 @@ ok-requires c κs = search needs
 
 returns-2 : tie.Need-returns-2
 returns-2 c =
-    let a = allowed (c .before .before .before .before) in
+    let a = allowed (roomed (c .before)) in
     wrong-recordings (found (judged a)) _ (a .verdict .given .1) (sym (right (c .before)) ∙ not-true _ (c .if2 .taken))
 
 returns-3 : tie.Need-returns-3
@@ -99,7 +115,7 @@ returns-4 c = wrong-leftover (found (c .before .before)) (c .enum-told2 .given .
 
 returns-5 : tie.Need-returns-5
 returns-5 c =
-    let i = c .before .before .before in
+    let i = c .before .before .before .before in
     let a = allowed (i .before) in
     all-right (found (judged a)) _ (a .verdict .given .1) (sym (roomy (i .before)) ∙ not-false _ (i .if1 .left)) (sym (right (c .before)) ∙ not-false _ (c .if2 .left))
 
@@ -116,6 +132,8 @@ check-tree-spec =
     enum-known-verdict
     has-room-requires
     returns
+    uncut-requires
+    array-write-marks
     slice-aggregate-ok
     ok-requires
     returns-2
