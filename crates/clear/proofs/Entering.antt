@@ -45,6 +45,12 @@ recordings-next pairs i j h m =
     let e : j - i ≡ suc (j - suc i) = omega arith in
     ap (λ (k : ℕ). map recording (take k (drop i (slotsOf pairs)))) e ∙ ap (λ (ss : List Slot). map recording (take (suc (j - suc i)) ss)) (pair-at pairs i m)
 
+pub holds-start : (pairs : Words) (j : ℕ) (cs : Words) → Holds cs [] → Holds cs (recordingsOf pairs j j)
+holds-start pairs j cs h = rw (recordings-none pairs j j (omega arith)) h
+
+pub holds-all : (pairs : Words) (i from j : ℕ) (cs : Words) → i ≡ from → Holds cs (recordingsOf pairs i j) → Holds cs (recordingsOf pairs from j)
+holds-all pairs i from j cs e h = rw e at h
+
 -- the pair before them is entered
 pub holds-pair : (pairs : Words) (i j : ℕ) (cs : Words) (e : Entry) (after : Words) (x : ℕ) → Holds cs (recordingsOf pairs i j) → 0 < i → i ≤ j → 2 * j ≤ length pairs
     → x ≡ recordingOf (getD pairs (2 * (i - 1) + 1) 0) → outcome e after ≡ entered TRIES cs x → e ≡ Entered → Holds after (recordingsOf pairs (i - 1) j)

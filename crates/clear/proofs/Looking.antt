@@ -3,7 +3,7 @@ use mathlib.Core.Path.{_≡_, refl, ap, sym, _∙_}
 use mathlib.Core.Bool.{Bool, true, false, _&&_, and-assoc}
 use mathlib.Core.List.{List, [], _∷_, _++_}
 use mathlib.Core.Logic.{_≢_, inl, inr}
-use Prim.Native.Nat.{ℕ, zero, suc, _+_, _-_, _≤_, _<_}
+use Prim.Native.Nat.{ℕ, zero, suc, _+_, _-_, _%_, _≤_, _<_}
 use native.Mathlib.Omega.{arith}
 use lib.Dec.{eqb}
 use lib.ListN.{getD}
@@ -22,7 +22,7 @@ use Rattle.slots.specs.Gathered.{span, slotsIn, waysFrom}
 use Rattle.slots.proofs.Kept.{ways-end, ways-next}
 use Rattle.leaves.proofs.HitLaws.{kept-ways}
 use Rattle.leaves.proofs.FoundLaws.{whole-is}
-use Rattle.numbers.specs.Cells.{CELLS, nextCell}
+use Rattle.numbers.specs.Cells.{CELLS, TRIES, mixed, nextCell}
 use Rattle.numbers.specs.Filed.{Closed}
 use Rattle.clear.specs.New.{offFrom, off, offPair, treePairs, pairsAlong}
 
@@ -37,27 +37,36 @@ module _ (cs : Words) (r : ℕ) where
   pub off-here : (i m : ℕ) → 0 < m → getD cs i 0 ≡ r → false ≡ offFrom CELLS cs r i m
   unfolding offFrom
   off-here i zero h e = absurd (omega arith)
-  off-here i (suc m) h e = rw (eq-eqb (getD cs i 0) r e)
+  off-here i (suc m) h e = rw (eq-eqb (getD cs i 0) r e, offFrom)
 
   pub off-free : (i m : ℕ) → 0 < m → (getD cs i 0 ≡ r → ⊥) → getD cs i 0 ≡ 0 → true ≡ offFrom CELLS cs r i m
   unfolding offFrom
   off-free i zero h z e = absurd (omega arith)
-  off-free i (suc m) h z e = rw (ne-eqb (getD cs i 0) r z, eq-eqb (getD cs i 0) 0 e)
+  off-free i (suc m) h z e = rw (ne-eqb (getD cs i 0) r z, eq-eqb (getD cs i 0) 0 e, offFrom)
 
   pub off-more : (i m : ℕ) → 0 < m → (getD cs i 0 ≡ r → ⊥) → (getD cs i 0 ≡ 0 → ⊥) → (j : ℕ) → j ≡ nextCell CELLS i → offFrom CELLS cs r j (m - 1) ≡ offFrom CELLS cs r i m
   unfolding offFrom
   off-more i zero h z y j e = absurd (omega arith)
-  off-more i (suc m) h z y j e = rw (ne-eqb (getD cs i 0) r z, ne-eqb (getD cs i 0) 0 y, e)
+  off-more i (suc m) h z y j e =
+      let d : suc m - 1 ≡ m = omega arith in
+      let q : offFrom CELLS cs r i (suc m) ≡ offFrom CELLS cs r (nextCell CELLS i) m =
+      ap (λ (b : Bool). elim b as (λ b. Bool) [ true ↦ false | false ↦ elim (eqb (getD cs i 0) 0) as (λ b. Bool) [ true ↦ true | false ↦ offFrom CELLS cs r (nextCell CELLS i) m ] ]) (ne-eqb (getD cs i 0) r z)
+      ∙ ap (λ (b : Bool). elim b as (λ b. Bool) [ true ↦ true | false ↦ offFrom CELLS cs r (nextCell CELLS i) m ]) (ne-eqb (getD cs i 0) 0 y) in
+      ap (offFrom CELLS cs r j) d ∙ ap (λ (k : ℕ). offFrom CELLS cs r k m) e ∙ sym q
 
   pub off-end : (i m : ℕ) → m ≡ 0 → false ≡ offFrom CELLS cs r i m
   unfolding offFrom
   off-end i m e = rw e
 
+pub off-start : (cs : Words) (r i : ℕ) → i ≡ mixed r → offFrom CELLS cs r (i % CELLS) TRIES ≡ off cs r
+unfolding off
+off-start cs r i e = rw e
+
 -- a number that the cells hold is met before a free one
 pub held-met : (n : ℕ) (cs : Words) (r i m : ℕ) → r ≢ 0 → Closed n cs r i m → offFrom n cs r i m ≡ false
 unfolding offFrom
 held-met n cs r i zero z c = refl
-held-met n cs r i (suc m) z (inl e) = rw (eq-eqb (getD cs i 0) r e)
+held-met n cs r i (suc m) z (inl e) = rw (eq-eqb (getD cs i 0) r e, offFrom)
 held-met n cs r i (suc m) z (inr c) = go (eqb (getD cs i 0) r) (held-met n cs r (nextCell n i) m z (c .1))
   where
     go : (b : Bool) → offFrom n cs r (nextCell n i) m ≡ false → elim b as (λ b. Bool) [ true ↦ false | false ↦ elim (eqb (getD cs i 0) 0) [ true ↦ true | false ↦ offFrom n cs r (nextCell n i) m ] ] ≡ false

@@ -89,6 +89,7 @@ fn leaves_off(cells: &[u64], table: &[u64], root: u64) -> bool
 // Enters the recordings of the pairs from one on, before another, from the last to the first: whether each was entered.
 fn enter_pairs(cells: &mut [u64], pairs: &[u64], from: usize, to: usize) -> bool
     requires { ⌜ Holds (now cells) [] ⌝ }
+    requires { ⌜ from ≤ to ⌝ }
     requires { ⌜ 2 * to ≤ length (now pairs) ⌝ }
     ensures { λ r. ⌜ (r ≡ true → Holds (now (cells .exit)) (recordingsOf (now (pairs .entry)) from to)) ⌝ }
     ensures { λ r. ⌜ length (now (cells .exit)) ≡ CELLS ⌝ }
@@ -110,6 +111,7 @@ fn enter_pairs(cells: &mut [u64], pairs: &[u64], from: usize, to: usize) -> bool
 // True says that the recordings of these pairs are new to the map of the tree; false says nothing, as where the cells get full.
 pub fn are_new(table: &[u64], root: u64, pairs: &[u64], from: usize, to: usize) -> bool
     requires { ⌜ soundView (viewFrom (now table) root) ≡ true ⌝ }
+    requires { ⌜ from ≤ to ⌝ }
     requires { ⌜ 2 * to ≤ length (now pairs) ⌝ }
     ensures { λ r. ⌜ (r ≡ true → New (mapping (viewFrom (now (table .entry)) root)) (recordingsOf (now (pairs .entry)) from to)) ⌝ }
 {

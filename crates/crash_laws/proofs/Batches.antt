@@ -179,10 +179,14 @@ module _ (n dock : ℕ) (s : Slot) (ss : List Slot) (list t : Words) where
     unfolding step
     step-cut c m = rw ok
 
-  module _ (k : ℕ) (no : refusal (insertionOf n s) (length list) dock t ≡ suc k) where
+  module _ (k : ℕ) (not-taken : refusal (insertionOf n s) (length list) dock t ≡ suc k) where
+    not-written : written x (length list) dock t ≡ Refused (suc k)
+    unfolding written
+    not-written = rw not-taken
+
     stores-none : batchStores n dock (s ∷ ss) list t ≡ []
-    unfolding batchStores written
-    stores-none = ap next (unfold written in rw no)
+    unfolding batchStores
+    stores-none = ap next not-written
 
 -- no order has happened
 cut-none : (dock : ℕ) (t : Words) (c : ℕ) (m : Words) (os : List Order) → os ≡ [] → c ≤ length os → CutImage dock c t os m → Singles (both t) (both m)
@@ -244,7 +248,7 @@ module _ (n dock : ℕ) (s : Slot) (ss : List Slot) (ih : Cuts n dock ss) (list 
     where
       go : (k : ℕ) → refusal (insertionOf n s) (length list) dock t ≡ k → Singles (both t) (both m)
       go zero ok = taken-cut ok
-      go (suc k) no = cut-none dock t c m (batchOrders n dock (s ∷ ss) list t) (unfold flat in ap (λ (u : List (List Store)). barred dock (flat orders u)) (stores-none n dock s ss list t k no) ∙ barred-nil dock) h i
+      go (suc k) f = cut-none dock t c m (batchOrders n dock (s ∷ ss) list t) (unfold flat in ap (λ (u : List (List Store)). barred dock (flat orders u)) (stores-none n dock s ss list t k f) ∙ barred-nil dock) h i
 
 -- A cut anywhere in the list of a batch is the calls before it whole and one call cut.
 pub batch-cut : (n dock : ℕ) (ss : List Slot) (list t : Words) (c : ℕ) (m : Words) → sound t ≡ true → c ≤ length (batchOrders n dock ss list t) → CutImage dock c t (batchOrders n dock ss list t) m
@@ -252,20 +256,19 @@ pub batch-cut : (n dock : ℕ) (ss : List Slot) (list t : Words) (c : ℕ) (m : 
 batch-cut n dock [] list t c m fine h i = cut-none dock t c m (batchOrders n dock [] list t) (unfold batchStores in unfold flat in barred-nil dock) h i
 batch-cut n dock (s ∷ ss) list t c m fine h i = cons-cut n dock s ss (batch-cut n dock ss) list t c m fine h i
 
--- A whole batch is its calls whole; the list that it leaves is theirs, one after another.
+-- A whole batch is its calls whole.
 module _ (n dock : ℕ) (s : Slot) (ss : List Slot) (list t : Words) (fine : sound t ≡ true) (ih : (list t : Words) → sound t ≡ true → Singles (both t) (both (batch n dock ss list t .table))) where
   cons-whole : Singles (both t) (both (batch n dock (s ∷ ss) list t .table))
   cons-whole = go (refusal (insertionOf n s) (length list) dock t) refl
     where
       go : (k : ℕ) → refusal (insertionOf n s) (length list) dock t ≡ k → Singles (both t) (both (batch n dock (s ∷ ss) list t .table))
-      go (suc k) no =
-          let w : written (insertionOf n s) (length list) dock t ≡ Refused (suc k) = unfold written in rw no in
-          record { events = []; may = tt; comes-to = ap (λ (b : Batched). both (b .table)) (sym (batch-stops n dock s ss list t (suc k) w)) }
+      go (suc k) f = record { events = []; may = tt; comes-to = ap (λ (b : Batched). both (b .table)) (sym (batch-stops n dock s ss list t (suc k) (not-written n dock s ss list t k f))) }
       go zero ok =
           let x = insertionOf n s in
+          let os = ordersOf x dock t in
           let q : batch n dock (s ∷ ss) list t .table ≡ batch n dock ss (list₁ n dock s ss list t) (apply (storesOf x t) t) .table =
           ap (λ (b : Batched). b .table) (batch-goes n dock s ss list t _ _ _ (is-written n dock s ss list t ok))
-          ∙ ap (λ (u : Words). batch n dock ss (after n dock s ss list t (Done _ _ _)) u .table) (is-table n dock s ss list t ok)
+          ∙ ap (λ (u : Words). batch n dock ss (after n dock s ss list t (Done (storeCount os) (flushCount os) (barrierCount os))) u .table) (is-table n dock s ss list t ok)
           ∙ ap (λ (w : Written). batch n dock ss (after n dock s ss list t w) (apply (storesOf x t) t) .table) (sym (is-written n dock s ss list t ok)) in
           rw q
           (singles-first (both t) (pairEvent n dock list whole s) (both (apply (storesOf x t) t)) _ (step-whole n dock s ss list t ok fine) (λ z. tt)
@@ -274,6 +277,74 @@ module _ (n dock : ℕ) (s : Slot) (ss : List Slot) (list t : Words) (fine : sou
 pub batch-whole : (n dock : ℕ) (ss : List Slot) (list t : Words) → sound t ≡ true → Singles (both t) (both (batch n dock ss list t .table))
 batch-whole n dock [] list t fine = record { events = []; may = tt; comes-to = unfold batch in refl }
 batch-whole n dock (s ∷ ss) list t fine = cons-whole n dock s ss list t fine (batch-whole n dock ss)
+
+-- ---- the list that a batch leaves
+
+list-joined : (a b : List Order) (list : Words) → encode a ++ listWith b (drop (2 * length a) list) ≡ listWith (a ++ b) list
+unfolding listWith
+list-joined a b list =
+    let e : 2 * length a + 2 * length b ≡ 2 * length (a ++ b) = omega (arith, length-append a b) in
+    ap (λ (l : Words). encode a ++ (encode b ++ l)) (drop-drop (2 * length b) (2 * length a) list ∙ ap (λ (k : ℕ). drop k list) e)
+    ∙ sym (append-assoc (encode a) (encode b) (drop (2 * length (a ++ b)) list)) ∙ ap (λ (l : Words). l ++ drop (2 * length (a ++ b)) list) (sym (encode-append a b))
+
+module _ (n dock : ℕ) (s : Slot) (ss : List Slot) (list t : Words) (ih : (list t : Words) → batch n dock ss list t .list ≡ listWith (batchOrders n dock ss list t) list) where
+  module _ (ok : refusal (insertionOf n s) (length list) dock t ≡ 0) where
+    abbrev own : List Order
+    own = ordersOf (insertionOf n s) dock t
+
+    abbrev filled : ℕ
+    filled = 2 * (storeCount own + flushCount own + barrierCount own)
+
+    abbrev listed : Words
+    listed = listAfter (insertionOf n s) list dock t
+
+    listed-is : listed ≡ encode own ++ drop (2 * length own) list
+    unfolding listAfter listWith
+    listed-is = rw ok
+
+    filled-is : length (encode own) ≡ filled
+    filled-is = omega (arith, length-encode own, counts-length own)
+
+    first-part : take filled listed ≡ encode own
+    first-part = ap (take filled) listed-is ∙ take-at (encode own) (drop (2 * length own) list) filled filled-is
+
+    rest-part : drop filled listed ≡ drop (2 * length own) list
+    rest-part = ap (drop filled) listed-is ∙ drop-at (encode own) (drop (2 * length own) list) filled filled-is
+
+    list₁-is : list₁ n dock s ss list t ≡ drop (2 * length own) list
+    list₁-is = ap (after n dock s ss list t) (is-written n dock s ss list t ok) ∙ rest-part
+
+    taken-list : batch n dock (s ∷ ss) list t .list ≡ listWith (batchOrders n dock (s ∷ ss) list t) list
+    unfolding flat
+    taken-list =
+        let t₁ = apply (storesOf (insertionOf n s) t) t in
+        let l₁ = drop (2 * length own) list in
+        let e : batchOrders n dock (s ∷ ss) list t ≡ own ++ batchOrders n dock ss l₁ t₁ =
+        ap (λ (u : List (List Store)). barred dock (flat orders u)) (stores-next n dock s ss list t ok) ∙ barred-append dock (orders (storesOf (insertionOf n s) t)) _
+        ∙ ap (λ (l : Words). own ++ batchOrders n dock ss l t₁) list₁-is in
+        ap (λ (b : Batched). b .list) (batch-goes n dock s ss list t _ _ _ (is-written n dock s ss list t ok))
+        ∙ ap (λ (u : Words). take filled listed ++ batch n dock ss (drop filled listed) u .list) (is-table n dock s ss list t ok)
+        ∙ ap (λ (l : Words). l ++ batch n dock ss (drop filled listed) t₁ .list) first-part
+        ∙ ap (λ (l : Words). encode own ++ batch n dock ss l t₁ .list) rest-part
+        ∙ ap (λ (l : Words). encode own ++ l) (ih l₁ t₁) ∙ list-joined own (batchOrders n dock ss l₁ t₁) list ∙ ap (λ (o : List Order). listWith o list) (sym e)
+
+  cons-list : batch n dock (s ∷ ss) list t .list ≡ listWith (batchOrders n dock (s ∷ ss) list t) list
+  cons-list = go (refusal (insertionOf n s) (length list) dock t) refl
+    where
+      go : (k : ℕ) → refusal (insertionOf n s) (length list) dock t ≡ k → batch n dock (s ∷ ss) list t .list ≡ listWith (batchOrders n dock (s ∷ ss) list t) list
+      go zero ok = taken-list ok
+      go (suc k) f =
+          let e : batchOrders n dock (s ∷ ss) list t ≡ [] = unfold flat in ap (λ (u : List (List Store)). barred dock (flat orders u)) (stores-none n dock s ss list t k f) ∙ barred-nil dock in
+          ap (λ (b : Batched). b .list) (batch-stops n dock s ss list t (suc k) (not-written n dock s ss list t k f)) ∙ sym (ap (λ (o : List Order). listWith o list) e ∙ listWith-nil list)
+
+none-list : (n dock : ℕ) (list t : Words) → batch n dock [] list t .list ≡ listWith (batchOrders n dock [] list t) list
+unfolding batch batchStores flat
+none-list n dock list t = sym (ap (λ (o : List Order). listWith o list) (barred-nil dock) ∙ listWith-nil list)
+
+-- It has the orders of the calls one after another.
+pub batch-list : (n dock : ℕ) (ss : List Slot) (list t : Words) → batch n dock ss list t .list ≡ listWith (batchOrders n dock ss list t) list
+batch-list n dock [] list t = none-list n dock list t
+batch-list n dock (s ∷ ss) list t = cons-list n dock s ss list t (batch-list n dock ss)
 
 -- ---- histories with batches
 

@@ -32,6 +32,7 @@ use Rattle.write.proofs.Ending.{refused-call, judge-refuses}
 use Rattle.sound.specs.declared.Leftover as said
 use Rattle.sound.specs.declared.Leftover.the-variants.{Nothing}
 use Rattle.sound.specs.Checked.{meant}
+use Rattle.clear.specs.New.{recordingsOf, New}
 use Rattle.insert.specs.declared.Entered.{Entered}
 use Rattle.insert.specs.declared.Entered.the-variants.{Done, Refused}
 use Rattle.insert.specs.Entered.{asWritten, Counts}
@@ -292,3 +293,11 @@ gives-refused n dock pairs list t h m j r e =
 
 pub gives-all : (n dock : ℕ) (pairs list t : Words) (p : Progress) (list′ t′ : Words) → outcome p list′ t′ ≡ batch n dock (slotsOf pairs) list t → Gives n dock pairs list t (answerOf p) t′ list′
 gives-all n dock pairs list t p list′ t′ e = gives-as n dock pairs list t (outcome p list′ t′) e
+
+-- new recordings, by the root that was read
+pub new-here : (n : ℕ) (t : Words) (root : ℕ) → root ≡ at t (rootWord n) → (rs : List ℕ) → New (mapping (viewFrom t root)) rs → New (mapOf n t) rs
+new-here n t root e rs h = rw e at h
+
+-- the first of them is passed
+pub new-next : (ps : List Slot) (pairs : Words) (i j r : ℕ) → r ≡ suc i → New ps (recordingsOf pairs (suc i) j) → New ps (recordingsOf pairs r j)
+new-next ps pairs i j r e h = rw e h

@@ -7,7 +7,7 @@ use write::Judged;
 ghost use mathlib.Core.Path.{_≡_};
 ghost use mathlib.Core.Bool.{true, false};
 ghost use mathlib.Core.Option.{some};
-ghost use Prim.Native.Nat.{_+_, _*_, _≤_, _<_};
+ghost use Prim.Native.Nat.{_+_, _*_, _/_, _≤_, _<_};
 ghost use lib.ListN.{length, getD};
 ghost use Rattle.model.specs.Table.{noCollection};
 ghost use Rattle.model.specs.Slots.{slot, slotsOf, recordingOf};
@@ -16,6 +16,7 @@ ghost use Rattle.model.specs.SoundTest.{leftoverAll, sound};
 ghost use Rattle.model.specs.Refusals.{hasRecording, written, tableAfter, listAfter};
 ghost use Rattle.model.specs.Batch.{insertionOf, batch};
 ghost use Rattle.sound.specs.Checked.{meant};
+ghost use Rattle.clear.specs.New.{recordingsOf, New};
 ghost use Rattle.insert.specs.Entered.{asWritten, Counts};
 ghost use Rattle.insert_many.specs.Going.{outcome, ahead, Fit, Gains};
 
@@ -138,13 +139,40 @@ fn take_next(
     }
 }
 
-// Whether the map of the collection has the recording of a pair.
-fn is_known(table: &[u64], collection: u64, pairs: &[u64], i: usize) -> bool
+// Where pairs from pair i on that are known to have new recordings end: as known before, where pair i is one of them. Else a pass of the
+// leaves is to tell, of all pairs that are left; where it does not, of half of them, and so on.
+fn new_end(table: &[u64], collection: u64, pairs: &[u64], i: usize, end: usize) -> usize
+    requires { ⌜ sound (now table) ≡ true ⌝ }
+    requires { ⌜ noCollection collection (now table) ≡ false ⌝ }
+    requires { ⌜ i ≤ length (now pairs) / 2 ⌝ }
+    requires { ⌜ New (mapOf collection (now table)) (recordingsOf (now pairs) i end) ⌝ }
+    ensures { λ r. ⌜ New (mapOf collection (now (table .entry))) (recordingsOf (now (pairs .entry)) i r) ⌝ }
+{
+    if i < end {
+        return end;
+    }
+    let root = node::root_of(table, collection);
+    let mut width = pairs.len() / 2 - i;
+    while 1 < width {
+        if clear::are_new(table, root, pairs, i, i + width) {
+            return i + width;
+        }
+        width = width / 2;
+    }
+    i
+}
+
+// Whether the map of the collection has the recording of a pair; before the end it is new.
+fn is_known(table: &[u64], collection: u64, pairs: &[u64], i: usize, end: usize) -> bool
     requires { ⌜ sound (now table) ≡ true ⌝ }
     requires { ⌜ noCollection collection (now table) ≡ false ⌝ }
     requires { ⌜ 2 * i + 1 < length (now pairs) ⌝ }
+    requires { ⌜ New (mapOf collection (now table)) (recordingsOf (now pairs) i end) ⌝ }
     ensures { λ r. ⌜ r ≡ hasRecording (recordingOf (getD (now (pairs .entry)) (2 * i + 1) 0)) (mapOf collection (now (table .entry))) ⌝ }
 {
+    if i < end {
+        return false;
+    }
     let root = node::root_of(table, collection);
     insert::has_recording(table, root, pointer::recording(pairs[2 * i + 1]))
 }
@@ -178,8 +206,10 @@ fn take_all(
         left: left,
         reached: reached,
     };
+    let mut end = 0;
     while p.taken < count {
-        let known = is_known(table, collection, pairs, p.taken);
+        end = new_end(table, collection, pairs, p.taken, end);
+        let known = is_known(table, collection, pairs, p.taken, end);
         p = take_next(table, list, dock, collection, pairs, p, known);
         if p.number != 0 {
             return p;

@@ -1,23 +1,27 @@
--- `insert_many::take_all` meets its contract. The loop's invariant: from here the batch comes to what it comes to from the start.
-use mathlib.Core.Path.{_≡_, refl, sym, _∙_}
+-- `insert_many::take_all` meets its contract. The loop's invariant: from here the batch comes to what it comes to from the start, and the
+-- recordings of the pairs before the end are new.
+use mathlib.Core.Path.{_≡_, refl, _∙_}
 use Prim.Native.Nat.{_-_, _/_}
 use native.Mathlib.Omega.{arith}
 use lib.ListN.{length}
 use Rattle.model.specs.Slots.{slotsOf}
+use Rattle.model.specs.Reached.{mapOf}
 use Rattle.model.specs.Batch.{batch}
+use Rattle.clear.specs.New.{recordingsOf, New}
+use Rattle.clear.proofs.Fresh.{none-new, later-new}
 use Rattle.insert_many.specs.Going.{ahead, Fit}
-use Rattle.insert_many.proofs.Going.{ahead-start, ahead-stopped, ahead-all}
+use Rattle.insert_many.proofs.Going.{ahead-start, ahead-stopped, ahead-all, new-next}
 use borrow.Author.Needs.{needs}
 use Rattle.insert_many.proofs.take_all.Statement.{statement}
 use Rattle.insert_many.proofs.take_all.Tie as tie
 
 abbrev Inv-loop : tie.InvT-loop
-Inv-loop table₀ list₀ dock collection pairs reached count p₀ table list p =
+Inv-loop table₀ list₀ dock collection pairs reached count p₀ end₀ table list p end =
     (length table ≡ length table₀) × (length list ≡ length list₀) × (count ≡ length pairs / 2) × (p .number ≡ 0) × Fit collection dock p list table
-    × (ahead collection dock (slotsOf pairs) p list table ≡ batch collection dock (slotsOf pairs) list₀ table₀)
+    × (ahead collection dock (slotsOf pairs) p list table ≡ batch collection dock (slotsOf pairs) list₀ table₀) × New (mapOf collection table) (recordingsOf pairs (p .taken) end)
 
 abbrev μ-loop : tie.MeasureT-loop
-μ-loop table₀ list₀ dock collection pairs reached count p₀ table list p = count - p .taken
+μ-loop table₀ list₀ dock collection pairs reached count p₀ end₀ table list p end = count - p .taken
 
 loop-holds : tie.Need-loop-holds Inv-loop μ-loop
 loop-holds c = let e = c .before .before .before .pre in (
@@ -27,13 +31,18 @@ loop-holds c = let e = c .before .before .before .pre in (
   refl,
   record { is-sound = e .0; leftover-is = e .1 .0; reached-are = e .1 .1 .0; collection = e .1 .1 .1 .0; dock-ok = e .1 .1 .1 .1; filled = refl; inside = omega arith },
   ahead-start _ _ _ _ _ _ refl refl refl refl refl refl,
+  none-new _ _ _ _ (omega arith),
 )
 
+new-end-requires : tie.Need-new-end-requires Inv-loop μ-loop
+new-end-requires c κs = let h = c .before .before .before .loop .inv in let f = h .4 in (f .is-sound, (f .collection, (omega (arith, h .2, c .before .if1 .taken), h .6)))
+
 is-known-requires : tie.Need-is-known-requires Inv-loop μ-loop
-is-known-requires c κs = let h = c .before .before .before .loop .inv in let f = h .4 in (f .is-sound, (f .collection, omega (arith, h .2, c .before .if1 .taken)))
+is-known-requires c κs = let t = c .before .before .before in let h = t .before .before .loop .inv in let f = h .4 in
+    (f .is-sound, (f .collection, (omega (arith, h .2, t .if1 .taken), c .before .new-end .ensures)))
 
 take-next-requires : tie.Need-take-next-requires Inv-loop μ-loop
-take-next-requires c κs = let k = c .before .before in let t = k .before .before in let h = t .before .before .loop .inv in
+take-next-requires c κs = let k = c .before .before in let t = k .before .before .before .before in let h = t .before .before .loop .inv in
     (h .4, (h .3, (omega (arith, h .2, t .if1 .taken), k .is-known .ensures)))
 
 same-length : tie.Need-same-length Inv-loop μ-loop
@@ -43,16 +52,24 @@ same-length-2 : tie.Need-same-length-2 Inv-loop μ-loop
 same-length-2 c = search needs
 
 returns : tie.Need-returns Inv-loop μ-loop
-returns c = let j = c .before .before .before .before .before .before in let h = j .before .before .before .before .before .before .before .loop .inv in
+returns c = let j = c .before .before .before .before .before .before in let t = j .before .before .before .before .before .before .before in let h = t .before .before .loop .inv in
     ahead-stopped _ _ _ _ _ _ (c .if2 .taken) ∙ j .take-next .ensures .0 ∙ h .5
 
 loop-less : tie.Need-loop-less Inv-loop μ-loop
-loop-less c = let j = c .before .before .before .before .before .before in let t = j .before .before .before .before .before in
+loop-less c = let j = c .before .before .before .before .before .before in let t = j .before .before .before .before .before .before .before in
     omega (arith, j .take-next .ensures .1 .1 (c .if2 .left) .0, t .if1 .taken)
 
 loop-again : tie.Need-loop-again Inv-loop μ-loop
-loop-again c = let j = c .before .before .before .before .before .before in let h = j .before .before .before .before .before .before .before .loop .inv in let q = j .take-next .ensures in
-    (search needs, search needs, refl, c .if2 .left, q .1 .0, q .0 ∙ h .5)
+loop-again c = let j = c .before .before .before .before .before .before in let w = j .before .before .before .before .before in let t = w .before .before in
+    let l = t .before .before .loop in let h = l .inv in let q = j .take-next .ensures in let g = q .1 .1 (c .if2 .left) in (
+      search needs,
+      search needs,
+      refl,
+      c .if2 .left,
+      q .1 .0,
+      q .0 ∙ h .5,
+      new-next _ _ _ _ _ (g .0) (later-new _ _ _ _ (w .new-end .ensures) (omega (arith, h .2, t .if1 .taken)) _ (g .1)),
+    )
 
 same-length-3 : tie.Need-same-length-3 Inv-loop μ-loop
 same-length-3 c = search needs
@@ -70,6 +87,7 @@ take-all-spec =
     Inv-loop
     μ-loop
     loop-holds
+    new-end-requires
     is-known-requires
     take-next-requires
     same-length

@@ -1,0 +1,111 @@
+-- `clear::enter_pairs` meets its contract. The loop keeps that the cells hold the recordings of the pairs from i on.
+use Prim.Native.Nat.{_*_, _≤_}
+use mathlib.Core.Path.{_≡_, refl, _∙_}
+use mathlib.Core.Bool.{false≢true}
+use native.Mathlib.Omega.{arith}
+use lib.ListN.{length}
+use Rattle.numbers.specs.Cells.{CELLS}
+use Rattle.clear.specs.New.{recordingsOf, Holds}
+use Rattle.clear.proofs.Entering.{holds-start, holds-pair, holds-all}
+use borrow.Author.Needs.{needs}
+use Rattle.clear.proofs.enter_pairs.Statement.{statement}
+use Rattle.clear.proofs.enter_pairs.Tie as tie
+
+abbrev Inv-loop : tie.InvT-loop
+Inv-loop cells₀ pairs from to i₀ cells i = (length cells ≡ length cells₀) × (length cells ≡ CELLS) × (from ≤ i) × (i ≤ to) × (2 * to ≤ length pairs) × Holds cells (recordingsOf pairs i to)
+
+abbrev μ-loop : tie.MeasureT-loop
+μ-loop cells₀ pairs from to i₀ cells i = i
+
+loop-holds : tie.Need-loop-holds Inv-loop μ-loop
+loop-holds c = let e = c .before .before .pre in (refl, e .0 .filed .long, e .1 .0, omega arith, e .1 .1, holds-start _ _ _ (e .0))
+
+sub-i : tie.Need-sub-i Inv-loop μ-loop
+sub-i c = search needs
+
+mul-recording : tie.Need-mul-recording Inv-loop μ-loop
+mul-recording c = search needs
+
+add-recording : tie.Need-add-recording Inv-loop μ-loop
+add-recording c = search needs
+
+mul-recording-2 : tie.Need-mul-recording-2 Inv-loop μ-loop
+mul-recording-2 c = search needs
+
+shared-slice-read-recording : tie.Need-shared-slice-read-recording Inv-loop μ-loop
+shared-slice-read-recording c = search needs
+
+recording-requires : tie.Need-recording-requires Inv-loop μ-loop
+recording-requires c κs = search needs
+
+enter-requires : tie.Need-enter-requires Inv-loop μ-loop
+enter-requires c κs = search needs
+
+enum-told : tie.Need-enum-told Inv-loop μ-loop
+enum-told c = search needs
+
+loop-less : tie.Need-loop-less Inv-loop μ-loop
+loop-less c = search needs
+
+loop-again : tie.Need-loop-again Inv-loop μ-loop
+loop-again c =
+    let e = c .before .before .before .before in
+    let l = e .before .before .before .before .before .loop .inv in
+    let t = e .before .before .before .before .loop-test .taken in (
+      search needs,
+      search needs,
+      omega arith,
+      omega (arith, l .3),
+      l .4,
+      holds-pair _ _ _ _ _ _ _ (l .5) (omega arith) (l .3) (l .4) (e .before .before .recording .ensures) (e .enter .ensures) (c .enum-told .given .1),
+    )
+
+enum-told-2 : tie.Need-enum-told-2 Inv-loop μ-loop
+enum-told-2 c = search needs
+
+same-length : tie.Need-same-length Inv-loop μ-loop
+same-length c = search needs
+
+returns : tie.Need-returns Inv-loop μ-loop
+returns c = (λ z. absurd (false≢true z), search needs)
+
+enum-told-3 : tie.Need-enum-told-3 Inv-loop μ-loop
+enum-told-3 c = search needs
+
+same-length-2 : tie.Need-same-length-2 Inv-loop μ-loop
+same-length-2 c = search needs
+
+returns-2 : tie.Need-returns-2 Inv-loop μ-loop
+returns-2 c = (λ z. absurd (false≢true z), search needs)
+
+same-length-3 : tie.Need-same-length-3 Inv-loop μ-loop
+same-length-3 c = search needs
+
+returns-3 : tie.Need-returns-3 Inv-loop μ-loop
+returns-3 c = let l = c .before .loop .inv in (λ z. holds-all _ _ _ _ _ (let t = c .loop-test .left in let f = l .2 in omega arith) (l .5), l .1)
+
+pub enter-pairs-spec : {M : Type 1} → statement M
+enter-pairs-spec =
+    tie.close
+    (tie.spec
+    Inv-loop
+    μ-loop
+    loop-holds
+    sub-i
+    mul-recording
+    add-recording
+    mul-recording-2
+    shared-slice-read-recording
+    recording-requires
+    enter-requires
+    enum-told
+    loop-less
+    loop-again
+    enum-told-2
+    same-length
+    returns
+    enum-told-3
+    same-length-2
+    returns-2
+    same-length-3
+    returns-3)
