@@ -8,6 +8,7 @@ import shutil
 import signal
 import stat
 import subprocess
+import sys
 import threading
 import time
 
@@ -530,17 +531,21 @@ LARGE = 400000
 MOST_MEMORY = 64 << 20
 
 
+# A child's memory counts from its fork on: a small program of its own starts the command and tells what it used.
+STARTER = """import os, sys
+child = os.posix_spawn(sys.argv[1], sys.argv[1:], os.environ, file_actions=[(os.POSIX_SPAWN_OPEN, 2, os.devnull, os.O_WRONLY, 0)])
+_, status, used = os.wait4(child, 0)
+print(os.waitstatus_to_exitcode(status), used.ru_maxrss, file=sys.stderr)"""
+
+
 def measured(program, *words):
-    """Seconds and bytes of memory of a command that succeeds, and what it printed. A child's memory counts from its fork on, so that this
-    program must be a small one."""
+    """Seconds and bytes of memory of a command that succeeds, and what it printed."""
     began = time.monotonic()
-    run = program.start(*words, stdin=subprocess.DEVNULL, stdout=subprocess.PIPE, stderr=subprocess.DEVNULL)
-    out = run.stdout.read()
-    _, status, used = os.wait4(run.pid, 0)
-    run.returncode = os.waitstatus_to_exitcode(status)
-    run.stdout.close()
-    assert run.returncode == 0, (words, run.returncode)
-    return time.monotonic() - began, 1024 * used.ru_maxrss, out
+    command = [sys.executable, "-I", "-S", "-c", STARTER] + program.command + [str(word) for word in words]
+    run = subprocess.run(command, env=program.environment, stdin=subprocess.DEVNULL, capture_output=True, text=True, check=True)
+    status, kilobytes = map(int, run.stderr.split())
+    assert status == 0, (words, status)
+    return time.monotonic() - began, 1024 * kilobytes, run.stdout
 
 
 def large_file(path, first, count):
