@@ -577,7 +577,7 @@ def large_loads(program, folder):
     assert memory <= MOST_MEMORY and os.path.getsize(u) == 8 * (8 + NODE * 39673), memory
     # As many lines as take some seconds.
     at = LARGE
-    for count in (10, 1000, 20000):
+    for count in (10, 1000, 5000):
         large_file(csv, at, count)
         seconds, memory, out = measured(program, "load", t, csv)
         at += count
