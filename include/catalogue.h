@@ -8,7 +8,8 @@
  * Words must keep still while a call reads them: a search of words that another thread or process is changing may pair a code with its
  * neighbour's recording. Copy the nodes that it passes, and compare them once more, as host/looks.c does; a search of such a copy answers
  * as before the change or as after it.
- * No call asks for memory. Listing, the writing calls, packing and the wear figures need 300 KB of stack, a salvage 450 KB, the others 2 KB.
+ * No call asks for memory. Listing, the calls that write one change, packing, judging and the wear figures need 300 KB of stack, many
+ * insertions in one call and a salvage 450 KB, the others 2 KB.
  *
  * A table has one collection or two, as it was made: the archive's own, 1, and the loan collection, 2. Each is a tree of its own codes, and
  * the calls that read or change one name it; a repair names none. The two share the nodes: a node belongs to one tree or is free for

@@ -175,6 +175,17 @@ fn figures(random: &mut Random) {
     }
 }
 
+/// A thread with the stack that the header asks for is enough, with splits and fresh nodes on the way.
+fn on_its_stack() {
+    let work = || {
+        let (mut t, mut list) = (make(3_000, 1), vec![0; 400_000]);
+        let pairs: Vec<u64> = (1..=3_000).flat_map(|i| [i * 7_919 % 1_000_003, pointer(i, 0)]).collect();
+        let (number, taken, _) = calls::insert_many_takes(&mut t, &mut list, &pairs);
+        assert!(number == 0 && taken == 3_000, "{number}, {taken} pairs");
+    };
+    std::thread::Builder::new().stack_size(450 << 10).spawn(work).unwrap().join().unwrap();
+}
+
 fn main() {
     let (seed, size) = arguments(4_000);
     let mut random = Random(seed);
@@ -212,6 +223,7 @@ fn main() {
     }
     all_met(&kinds, seed);
     expect(cut > 0 && after_some > 0, seed, &[], || "no cut, or no batch stopped after some pairs".into());
+    on_its_stack();
     figures(random);
-    println!("4 passed, 0 failed");
+    println!("5 passed, 0 failed");
 }
