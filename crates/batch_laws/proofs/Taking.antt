@@ -1,38 +1,28 @@
 -- An accepted insertion makes as many unreachable nodes reached as its run has, and one more for a new root.
-use mathlib.Core.Path.{_≡_, refl, ap, sym, _∙_, fun-ext}
-use mathlib.Core.Bool.{Bool, true, false, cond, not, _&&_}
-use mathlib.Core.Logic.{_≢_, _⊎_, inl, inr}
-use mathlib.Core.List.{List, [], _++_, List·Memᴰ}
-use Prim.Native.Nat.{ℕ, zero, suc, _+_, _*_, _≤_, _<_}
+use mathlib.Core.Path.{_≡_, refl, ap, sym, _∙_}
+use mathlib.Core.Bool.{Bool, true, false, cond, _&&_}
+use mathlib.Core.List.{List, _++_}
+use Prim.Native.Nat.{ℕ, zero, suc, _+_, _≤_, _<_}
 use native.Mathlib.Omega.{arith}
 use lib.Dec.{eqb}
 use lib.ListN.{length}
-use borrow.Author.Tests.{eqb-true, eqb-false, ltb-false}
-use Rattle.model.specs.Table.{Words, at, nodes, rootWord, noCollection}
-use Rattle.model.specs.Slots.{pointerOf, nodeView, height, viewOf}
-use Rattle.model.specs.Reached.{filter, reached, reachedAll, mapping, mapOf}
-use Rattle.model.specs.SoundTest.{elem, nothing, sound, settled}
-use Rattle.model.specs.Orders.{Store, apply}
-use Rattle.model.specs.Writes.{shiftInAt, numbers, unreached, unreachable, fresh, standing, run, rootInRun, newRootAt, newRoot, splits, rootStores, insertSettled}
+use borrow.Author.Tests.{eqb-false, ltb-false}
+use Rattle.model.specs.Table.{Words, at, rootWord}
+use Rattle.model.specs.Slots.{pointerOf, height, viewOf}
+use Rattle.model.specs.Reached.{reachedAll}
+use Rattle.model.specs.SoundTest.{nothing, sound}
+use Rattle.model.specs.Orders.{apply}
+use Rattle.model.specs.Writes.{shiftInAt, unreachable, fresh, standing, run, rootInRun, newRootAt, newRoot, splits, rootStores, insertSettled}
 use Rattle.model.specs.Writes.{repairStores, repaired, insertStores, insertion, storesOf}
 use Rattle.model.specs.Refusals.{tooHigh, tooFew, refusal}
-use Rattle.list_laws.proofs.Tools.{Each, same-test}
-use Rattle.list_laws.proofs.Members.{each-mem, elem-iff}
-use Rattle.list_laws.proofs.Distinct.{UpTo}
-use Rattle.list_laws.proofs.Recordings.{recording-iff, recording-of, pair-of}
 use Rattle.table_laws.proofs.Header.{header-iff}
-use Rattle.tree_laws.proofs.Levels.{reached-numbers}
 use Rattle.cut_laws.proofs.Applying.{apply-append, length-apply}
-use Rattle.change_laws.proofs.LeafSlots.{NewPair}
-use Rattle.step_laws.proofs.LevelCourses.{QuietAt, whole}
 use Rattle.two_laws.specs.Parts.{Enters}
-use Rattle.two_laws.proofs.Frame.{Away}
-use Rattle.two_laws.proofs.Places.{shift-in-away}
-use Rattle.two_laws.proofs.TwoLaw.{seen, taken, Tree, Low, Course, head-same, taken-same}
-use Rattle.two_laws.proofs.Leaf.{leaf-in, leaf-in-all}
+use Rattle.two_laws.proofs.TwoLaw.{Tree, Low}
 use Rattle.two_laws.proofs.SplitTwo.{FreeNode, FullIn, splitIn, two-takes, two-taken, two-nodes}
 use Rattle.two_laws.proofs.RootTwo.{root-two-takes, root-two-taken, root-two-nodes}
-use Rattle.two_laws.proofs.Arrange.{Arr, root-in, arr-low, arr-word, arr-others, course-arr, others-all, free-fresh, settled-tree, unreachable-count}
+use Rattle.two_laws.proofs.Arrange.{Arr, root-in, arr-low, arr-word, arr-others, free-fresh, settled-tree, unreachable-count}
+use Rattle.two_laws.proofs.LeafStores.{in-unreachable, leaf-for}
 use Rattle.two_laws.proofs.InsertTwo.{ReadyIn, stands-reached, ready-next, splits-course, splits-room, root-first}
 use Rattle.two_laws.proofs.CallsTwo.{repairs, arranged, is-repaired}
 use Rattle.two_laws.proofs.AcceptedTwo.{there, Accepted, accepted-iff}
@@ -106,50 +96,6 @@ module _ (n : ℕ) (ws : List ℕ) (t : Words) (k : ℕ) (a : Arr (rootWord n) w
           ))
       go false e = rw (e, rootStores) (omega arith)
 
--- ---- the pair shifted in
-
-module _ (n : ℕ) (ws : List ℕ) (t : Words) (k y : ℕ) (a : Arr (rootWord n) ws t) (f : Tree (rootWord n) ws t nothing)
-    (new : NewPair (viewOf n t) k y) (room : length (nodeView t (standing n t 0 k) .shown) ≤ 10) where
-  abbrev w : ℕ
-  w = rootWord n
-
-  abbrev x : ℕ
-  x = standing n t 0 k
-
-  abbrev ss : List Store
-  ss = shiftInAt t x k y
-
-  abbrev t′ : Words
-  t′ = apply ss t
-
-  lowly : Low w ws
-  lowly = arr-low w ws t a
-
-  x-reached : List·Memᴰ x (reached (viewOf n t))
-  x-reached = stands-reached n ws t lowly f k 0 (omega arith)
-
-  away : Each (Away (taken ws t)) ss
-  away =
-      shift-in-away (taken ws t) x (each-mem (UpTo (nodes t)) (reached-numbers (seen w t) (f .left .orderly)) x-reached .0)
-      (each-mem (λ (n : ℕ). elem n (taken ws t) ≡ false) (f .apart) x-reached) t k y room
-
-  after : Arr w ws t′
-  after = course-arr 27 w ws t ss _ (leaf-in w ws t lowly f k y new room) a
-
-  own : (m : ℕ) → elem m (reached (seen w t′)) ≡ elem m (reached (seen w t))
-  own m =
-      let q : (l : ℕ) → QuietAt (seen w) l t t′ = λ l. whole (QuietAt (seen w) l t) ss t (leaf-in-all w ws t lowly f k y new room .0 l) in
-      same-test (elem m (reached (seen w t′))) (elem m (reached (seen w t))) (
-        λ e. elem-iff m (reached (seen w t)) .1 (q _ .same .back m (elem-iff m (reached (seen w t′)) .0 e, refl) .0),
-        λ e. elem-iff m (reached (seen w t′)) .1 (q _ .same .there m (elem-iff m (reached (seen w t)) .0 e, refl) .0),
-      )
-
-  leaf-take : unreachable (apply (shiftInAt t (standing n t 0 k) k y) t) ≡ unreachable t
-  unfolding unreachable unreached
-  leaf-take =
-      let same : (m : ℕ) → not (elem m (reachedAll t′)) ≡ not (elem m (reachedAll t)) = λ m. ap not (others-all w ws t t′ m a after (own m) (taken-same w ws t nothing lowly f ss away)) in
-      ap (λ (p : ℕ → Bool). filter p (numbers 1 (nodes t′))) (fun-ext same) ∙ ap (λ (N : ℕ). filter (λ (m : ℕ). not (elem m (reachedAll t))) (numbers 1 N)) (head-same w ws t nothing lowly f ss away 2 (omega arith))
-
 -- ---- all of it
 
 -- the nodes that an insertion of k will take
@@ -160,18 +106,13 @@ settled-take : (n : ℕ) (ws : List ℕ) (t : Words) (k r c : ℕ) → Arr (root
     → length (unreachable t) ≡ length (unreachable (apply (insertSettled n t k (pointerOf r c)) t)) + takes n t k
 unfolding insertSettled
 settled-take n ws t k r c arr f e =
-    let w = rootWord n in
     let y = pointerOf r c in
     let m = run n t k in
     let a = root-first n ws t k arr f (e .not-high) (e .enough) in
     let t₁ = apply (rootStores n t k) t in
-    let b = splits-course m n ws t₁ k (a .1) in
     let t₂ = apply (splits n m t₁ k) t₁ in
-    let arr₂ = course-arr (m * 67) w ws t₁ (splits n m t₁ k) _ b (a .1 .arr) in
-    let q : mapOf n t₂ ≡ mapOf n t = b .maps ∙ a .0 .maps in
-    let own = recording-of r c (recording-iff r .0 (e .recording-ok) .1) in
-    let new : NewPair (viewOf n t₂) k y = record { no-key = rw q (e .no-key); no-recording = rw (q, own) (e .no-recording); ok = pair-of k r c (e .recording-ok) (e .class-ok) } in
-    let d = leaf-take n ws t₂ k y arr₂ (b .whole) new (splits-room m n ws t₁ k (a .1)) in
+    let leaf = leaf-for n t₂ k (splits-course m n ws t₁ k (a .1) .whole .left .orderly) in
+    let d = in-unreachable t₂ (standing n t₂ 0 k) (leaf .some) (leaf .level) k y (splits-room m n ws t₁ k (a .1)) in
     rw (apply-append (rootStores n t k) (splits n m t₁ k ++ shiftInAt t₂ (standing n t₂ 0 k) k y) t, apply-append (splits n m t₁ k) (shiftInAt t₂ (standing n t₂ 0 k) k y) t₁, d)
     (omega (arith, root-take n ws t k arr f (e .not-high) (e .enough), splits-take m n ws t₁ k (a .1)))
 

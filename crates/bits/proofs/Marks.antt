@@ -1,6 +1,6 @@
 -- A mark more, and no other changed.
 use mathlib.Core.Path.{_≡_, refl, ap, sym, _∙_}
-use mathlib.Core.Bool.{true, false}
+use mathlib.Core.Bool.{Bool, true, false, _&&_}
 use mathlib.Core.Logic.{_≢_, _⊎_, ⊎-elim}
 use Prim.Native.Nat.{ℕ, zero, suc, _+_, _-_, _*_, _/_, _%_, _^_, _<_}
 use native.Mathlib.Omega.{arith}
@@ -10,9 +10,10 @@ use lib.Pow.{pow-add, pow-pos, pow-lt, shl-shr, shl-exact}
 use lib.Dec.{eqb}
 use lib.ListN.{length, getD, set, replicate, length-set}
 use lib.Seq.{getD-set-same, getD-set-other}
+use borrow.Author.Tests.{eqb-true}
 use Rattle.model.specs.Table.{Words}
-use Rattle.list_laws.proofs.Tools.{same-or-not, compared}
-use Rattle.bits.specs.Bits.{has, put}
+use Rattle.list_laws.proofs.Tools.{same-or-not, compared, and-iff}
+use Rattle.bits.specs.Bits.{has, put, ONES, full}
 
 -- ---- the bits of a word
 
@@ -75,6 +76,27 @@ none-marked n x = ap (λ (w : ℕ). eqb (w / 2 ^ (x % 64) % 2) 1) (zeros n (x / 
     zeros zero i = refl
     zeros (suc m) zero = refl
     zeros (suc m) (suc i) = zeros m i
+
+-- ---- a word of 64 marks
+
+-- the lowest n bits of a full word are set
+lowest : ℕ → Bool
+lowest zero = true
+lowest (suc n) = eqb (ONES / 2 ^ n % 2) 1 && lowest n
+
+lowest-set : (n k : ℕ) → lowest n ≡ true → k < n → eqb (ONES / 2 ^ k % 2) 1 ≡ true
+unfolding lowest
+lowest-set zero k e h = absurd (omega arith)
+lowest-set (suc n) k e h = let p = and-iff _ _ .0 e in ⊎-elim (λ q. rw q (p .0)) (λ q. lowest-set n k (p .1) (omega (arith, q))) (same-or-not k n)
+
+all-set : lowest 64 ≡ true
+unfolding lowest
+all-set = refl
+
+-- all numbers of such a word are marked
+pub full-marked : (ws : Words) (x m : ℕ) → full ws x ≡ true → m / 64 ≡ x / 64 → has ws m ≡ true
+unfolding has full
+full-marked ws x m e q = rw (q, eqb-true (getD ws (x / 64) 0) ONES e) (lowest-set 64 (m % 64) all-set (omega arith))
 
 -- ---- as the code writes it
 

@@ -12,3 +12,11 @@ has ws x = eqb (getD ws (x / 64) 0 / 2 ^ (x % 64) % 2) 1
 
 unfoldable pub put : Words → (x : ℕ) → Words
 put ws x = set ws (x / 64) (bitOr (getD ws (x / 64) 0) (2 ^ (x % 64)))
+
+-- a word with all bits set
+abbrev pub ONES : ℕ
+ONES = 18446744073709551615
+
+-- all 64 numbers of x's word are marked
+unfoldable pub full : Words → (x : ℕ) → Bool
+full ws x = eqb (getD ws (x / 64) 0) ONES

@@ -9,13 +9,13 @@ use native.Mathlib.Omega.{arith}
 use native.Mathlib.Decide.{ℕ-discrete}
 use lib.Dec.{eqb}
 use borrow.Author.Tests.{eq-eqb, ne-eqb}
-use lib.ListN.{length, take, length-append}
+use lib.ListN.{length, length-append}
 use Rattle.list_laws.proofs.Tools.{Each}
 use Rattle.model.specs.Table.{Words, line}
 use Rattle.model.specs.Orders.{Store, store, flush, apply, carry, ordersAfter, orders, withoutBarriers, storeCount, flushCount, barrierCount}
 use Rattle.cut_laws.specs.Growing.{due, added, openAfter, closing, openOrders, openLine, changesFrom, lineChanges}
 use Rattle.cut_laws.specs.Unflushed.{storesIn}
-use Rattle.cut_laws.proofs.Applying.{carry-stores, storesIn-append, storesIn-take, storeCount-stores, counts-length}
+use Rattle.cut_laws.proofs.Applying.{carry-stores, storesIn-append, storeCount-stores, counts-length}
 use Rattle.cut_laws.proofs.Barriers.{without-barrierCount}
 
 -- ---- the rule's two cases
@@ -106,9 +106,6 @@ orders-stores ss = rw (orders-closed ss, storesIn-append, added-stores, closing-
 -- Carrying the orders out applies the stores: all, and of the first c orders the stores among these.
 pub orders-apply : (ss : List Store) (t : Words) → carry (orders ss) t ≡ apply ss t
 orders-apply ss t = rw (carry-stores (orders ss) t, orders-stores ss)
-
-pub orders-take-apply : (c : ℕ) (ss : List Store) (t : Words) → carry (take c (orders ss)) t ≡ apply (take (storeCount (take c (orders ss))) ss) t
-orders-take-apply c ss t = rw (carry-stores (take c (orders ss)) t, storesIn-take c (orders ss), orders-stores ss)
 
 -- ---- counts
 

@@ -1,19 +1,23 @@
 -- Insertion into a collection of a settled table, in three parts: the new root, the splits, the pair shifted in.
 use mathlib.Core.Path.{_≡_, refl, ap, sym, _∙_}
 use mathlib.Core.Bool.{true, false}
-use mathlib.Core.List.{List, _++_}
+use mathlib.Core.List.{List, [], _++_}
 use Prim.Native.Nat.{ℕ, _≤_, _<_}
 use native.Mathlib.Omega.{arith}
 use Rattle.model.specs.Table.{Words, at, headerOk, rootWord, noCollection}
 use Rattle.model.specs.Slots.{RECORDINGS, pointerOf, viewFrom}
-use Rattle.model.specs.SoundTest.{settled}
+use Rattle.model.specs.Reached.{reachedAll}
+use Rattle.model.specs.SoundTest.{elem, settled}
 use Rattle.model.specs.Orders.{Store, apply}
 use Rattle.model.specs.Writes.{shiftInAt, standingIn, standing, rootInRun, splits, rootStores, insertSettled, insertStores, repairStores, repaired, insertion, storesOf}
 use Rattle.list_laws.proofs.Recordings.{recording-iff, class-iff}
 use Rattle.two_laws.specs.Parts.{Enters, Ready}
 use Rattle.two_laws.proofs.CollectionTwo.{settled-head}
-use Rattle.two_laws.proofs.PartsTwo.{Plain, settled-plain, standing-reached, root-ready, splits-settled, splits-there}
+use Rattle.two_laws.proofs.JudgedTwo.{reached-later}
+use Rattle.two_laws.proofs.PartsTwo.{Plain, settled-plain, standing-reached, root-stays, root-ready, splits-settled, splits-there, in-same}
 use Rattle.reach.specs.declared.Run.{Run}
+use Rattle.reach.specs.Marks.{Marked}
+use Rattle.reach.proofs.Marking.{stays-marked}
 use Rattle.orders.specs.declared.Pen.{Pen}
 use Rattle.orders.specs.Desk.{Desk, desk, storedAll, Room}
 use Rattle.orders.proofs.Rooms.{room-first}
@@ -69,6 +73,12 @@ module _ {o : ℕ} {t lent : Words} {pen : Pen} {k r c : ℕ} {run : Run} (h : E
         rw (part-table (rootStores o t k) (later o k y (run .length)) t lent pen t₁ list₁ at₁ g₁, h .run-is)
         (root-ready o t (h .collection) (h .is-settled) k (h .enters .not-high) (h .enters .enough))
 
+    -- what is marked is still reached
+    pub root-marked : (marks : Words) → Marked t marks → Marked t₁ marks
+    root-marked marks m =
+        rw (part-table (rootStores o t k) (later o k y (run .length)) t lent pen t₁ list₁ at₁ g₁)
+        (stays-marked t _ marks (root-stays o t (h .collection) (h .is-settled) k (h .enters .not-high) (h .enters .enough)) m)
+
     later-room : Room (later o k y (run .length) t₁) (desk t₁ list₁ at₁)
     later-room = part-room (rootStores o t k) (later o k y (run .length)) t lent pen t₁ list₁ at₁ g₁ whole-room
 
@@ -107,6 +117,13 @@ module _ {o : ℕ} {t lent : Words} {pen : Pen} {k r c : ℕ} {run : Run} (h : E
               (part-stored (rootStores o t k) (later o k y (run .length)) t lent pen t₁ list₁ at₁ g₁ d
               (part-stored (splits o (run .length) t₁ k) (last o k y) t₁ list₁ at₁ t₂ list₂ at₂ g₂ d (rw (leaf, q) at i)))
 
+          in-reached : reachedAll (apply (shiftInAt t₂ n k x) t₂) ≡ reachedAll t₂
+          in-reached = rw (leaf, table-is) (in-same (run .length) o t₁ k run-ready x)
+
+          pub in-marked : {t₃ list₃ : Words} {at₃ : Pen} → desk t₃ list₃ at₃ ≡ storedAll (shiftInAt t₂ n k x) (desk t₂ list₂ at₂) → (marks : Words) → Marked t₂ marks → Marked t₃ marks
+          in-marked {t₃} {list₃} {at₃} i marks m =
+              rw (part-table (shiftInAt t₂ n k x) (λ (u : Words). []) t₂ list₂ at₂ t₃ list₃ at₃ i) (stays-marked t₂ _ marks (λ j e. ap (elem j) in-reached ∙ e) m)
+
 -- ---- after the repair
 
 abbrev pub entering : (o k r c : ℕ) → Words → List Store
@@ -123,3 +140,6 @@ module _ {o k r c dock : ℕ} {t lent : Words} {pen : Pen} (b : Begun (insertion
 
   pub enter-run : {run : Run} → run ≡ runOf o (repaired t) k → run ≡ runOf o t₁ k
   enter-run e = e ∙ ap (λ (u : Words). runOf o u k) (sym (mended-table b g))
+
+  pub enter-marked : (marks : Words) → Marked t marks → Marked t₁ marks
+  enter-marked marks m = rw (mended-table b g) (stays-marked t (repaired t) marks (λ j e. ap (elem j) (reached-later t (b .is-sound)) ∙ e) m)

@@ -18,7 +18,9 @@ use Rattle.tree_laws.proofs.Levels.{reached-numbers}
 use Rattle.two_laws.specs.Parts.{splitFor, FullNode, Splittable, Ready}
 use Rattle.two_laws.proofs.SameTwo.{settled-sound}
 use Rattle.two_laws.proofs.CollectionTwo.{settled-head, collection-orderly}
-use Rattle.two_laws.proofs.PartsTwo.{Plain, settled-plain, standing-reached, fresh-there, ready-first, ready-later}
+use Rattle.two_laws.proofs.PartsTwo.{Stays, Plain, settled-plain, standing-reached, fresh-there, ready-first, ready-later, split-stays}
+use Rattle.reach.specs.Marks.{Marked}
+use Rattle.reach.proofs.Marking.{stays-marked}
 use Rattle.orders.specs.declared.Pen.{Pen}
 use Rattle.orders.specs.Desk.{Desk, desk, storedAll, Room}
 use Rattle.orders.proofs.Rest.{Rest, rest-same, rest-first, rest-after}
@@ -87,6 +89,10 @@ module _ (n : ℕ) (t : Words) (k : ℕ) where
   after-highest zero h r = absurd (omega arith)
   after-highest (suc l) h r = let o : suc l - 1 ≡ l = omega arith in rw o (ready-later l n t k r)
 
+  highest-stays : (l : ℕ) → 0 < l → Ready l n t k → Stays (splitFor n t (l - 1) k) t
+  highest-stays zero h r = absurd (omega arith)
+  highest-stays (suc l) h r = let o : suc l - 1 ≡ l = omega arith in rw o (split-stays l n t k r)
+
   module _ (l : ℕ) (lent : Words) (pen : Pen) (x : Desk) (pos : 0 < l) (w : Rest (splits n l t k) (desk t lent pen) x) where
     rest : Rest (splitFor n t (l - 1) k ++ splits n (l - 1) (apply (splitFor n t (l - 1) k) t) k) (desk t lent pen) x
     rest = rest-same (highest l pos) w
@@ -101,6 +107,9 @@ module _ (n : ℕ) (t : Words) (k : ℕ) where
 
       pub next-ready : Ready l n t k → Ready (l - 1) n t₁ k
       next-ready r = rw table-is (after-highest l pos r)
+
+      pub next-marked : Ready l n t k → (marks : Words) → Marked t marks → Marked t₁ marks
+      next-marked r marks m = rw table-is (stays-marked t _ marks (highest-stays l pos r) m)
 
       pub next-rest : Rest (splits n (l - 1) t₁ k) (desk t₁ list at₁) x
       next-rest = rest-same (ap (λ (u : Words). splits n (l - 1) u k) (sym table-is)) (rest-after _ _ rest q)

@@ -17,6 +17,7 @@ ghost use Rattle.model.specs.SoundTest.{leftoverAll, settled, soundView, sound}
 ghost use Rattle.model.specs.Writes.{rootInRun, splits, rootStores, insertSettled, insertion};
 ghost use Rattle.model.specs.Refusals.{tooFew, hasRecording, wordsFor, written, tableAfter, listAfter};
 ghost use Rattle.two_laws.specs.Parts.{Enters, splitFor, Splittable, Ready};
+ghost use Rattle.reach.specs.Marks.{Marked};
 ghost use Rattle.sound.specs.Checked.{meant};
 ghost use Rattle.orders.specs.Desk.{desk, storedAll, Room};
 ghost use Rattle.insert.specs.Tests.{parentOf, highRun, fewFor, numberFor, runOf};
@@ -149,6 +150,7 @@ pub fn number(
 fn grow(
     table: &mut [u64],
     list: &mut [u64],
+    marks: &mut [u64],
     pen: Pen,
     collection: u64,
     key: u64,
@@ -159,28 +161,40 @@ fn grow(
     requires { ⌜ tooFew collection (now table) key ≡ false ⌝ }
     requires { ⌜ whole ≡ rootInRun collection (now table) key ⌝ }
     requires { ⌜ Room (rootStores collection (now table) key) (desk (now table) (now list) pen) ⌝ }
+    requires { ⌜ Marked (now table) (now marks) ⌝ }
     ensures { λ r. ⌜ desk (now (table .exit)) (now (list .exit)) r
         ≡ storedAll (rootStores collection (now (table .entry)) key) (desk (now (table .entry)) (now (list .entry)) pen) ⌝ }
+    ensures { λ r. ⌜ Marked (now (table .entry)) (now (marks .exit)) ⌝ }
 {
     if !whole {
         return pen;
     }
     let root = node::root_of(table, collection);
-    let fresh = reach::fresh(table, root);
+    let fresh = reach::fresh(table, marks, root);
     let word = 2 * collection as usize - 1;
     shift::new_root(table, list, pen, word, fresh)
 }
 
 // Splits the node on level l of the collection's tree that the search for the key stands on.
-fn split_at(table: &mut [u64], list: &mut [u64], pen: Pen, collection: u64, key: u64, l: u64) -> Pen
+fn split_at(
+    table: &mut [u64],
+    list: &mut [u64],
+    marks: &mut [u64],
+    pen: Pen,
+    collection: u64,
+    key: u64,
+    l: u64,
+) -> Pen
     requires { ⌜ Splittable collection (now table) key l ⌝ }
     requires { ⌜ Room (splitFor collection (now table) l key) (desk (now table) (now list) pen) ⌝ }
+    requires { ⌜ Marked (now table) (now marks) ⌝ }
     ensures { λ r. ⌜ desk (now (table .exit)) (now (list .exit)) r
         ≡ storedAll (splitFor collection (now (table .entry)) l key) (desk (now (table .entry)) (now (list .entry)) pen) ⌝ }
+    ensures { λ r. ⌜ Marked (now (table .entry)) (now (marks .exit)) ⌝ }
 {
     let root = node::root_of(table, collection);
     let a = reach::standing(table, root, l, key);
-    let b = reach::fresh(table, a);
+    let b = reach::fresh(table, marks, a);
     let parent = reach::standing(table, root, l + 1, key);
     shift::split(table, list, pen, a, b, parent)
 }
@@ -189,6 +203,7 @@ fn split_at(table: &mut [u64], list: &mut [u64], pen: Pen, collection: u64, key:
 fn split_run(
     table: &mut [u64],
     list: &mut [u64],
+    marks: &mut [u64],
     pen: Pen,
     collection: u64,
     key: u64,
@@ -196,14 +211,16 @@ fn split_run(
 ) -> Pen
     requires { ⌜ Ready count collection (now table) key ⌝ }
     requires { ⌜ Room (splits collection count (now table) key) (desk (now table) (now list) pen) ⌝ }
+    requires { ⌜ Marked (now table) (now marks) ⌝ }
     ensures { λ r. ⌜ desk (now (table .exit)) (now (list .exit)) r
         ≡ storedAll (splits collection count (now (table .entry)) key) (desk (now (table .entry)) (now (list .entry)) pen) ⌝ }
+    ensures { λ r. ⌜ Marked (now (table .exit)) (now (marks .exit)) ⌝ }
 {
     let mut at = pen;
     let mut l = count;
     while 0 < l {
         l -= 1;
-        at = split_at(table, list, at, collection, key, l);
+        at = split_at(table, list, marks, at, collection, key, l);
     }
     at
 }
@@ -212,6 +229,7 @@ fn split_run(
 fn enter(
     table: &mut [u64],
     list: &mut [u64],
+    marks: &mut [u64],
     pen: Pen,
     collection: u64,
     key: u64,
@@ -224,11 +242,13 @@ fn enter(
     requires { ⌜ Enters collection key recording access (now table) ⌝ }
     requires { ⌜ run ≡ runOf collection (now table) key ⌝ }
     requires { ⌜ Room (insertSettled collection (now table) key (pointerOf recording access)) (desk (now table) (now list) pen) ⌝ }
+    requires { ⌜ Marked (now table) (now marks) ⌝ }
     ensures { λ r. ⌜ desk (now (table .exit)) (now (list .exit)) r
         ≡ storedAll (insertSettled collection (now (table .entry)) key (pointerOf recording access)) (desk (now (table .entry)) (now (list .entry)) pen) ⌝ }
+    ensures { λ r. ⌜ Marked (now (table .exit)) (now (marks .exit)) ⌝ }
 {
-    let grown = grow(table, list, pen, collection, key, run.root);
-    let split = split_run(table, list, grown, collection, key, run.length);
+    let grown = grow(table, list, marks, pen, collection, key, run.root);
+    let split = split_run(table, list, marks, grown, collection, key, run.length);
     let leaf = reach::standing(table, node::root_of(table, collection), 0, key);
     let x = pointer::join(recording, access);
     shift::shift_in(table, list, split, leaf, key, x)
@@ -248,10 +268,11 @@ fn reached_after(reached: u64, run: Run) -> u64
 // ---- the call
 
 // The insertion into a sound table whose leftover and reached nodes are known, with a list that is long enough for the dock, where it is known
-// whether the map has the recording.
+// whether the map has the recording. Marks of reached nodes stay so: an insertion frees none.
 pub fn insert_known(
     table: &mut [u64],
     list: &mut [u64],
+    marks: &mut [u64],
     dock: u64,
     collection: u64,
     key: u64,
@@ -268,10 +289,12 @@ pub fn insert_known(
     requires { ⌜ dock ≤ 1 ⌝ }
     requires { ⌜ wordsFor dock ≤ length (now list) ⌝ }
     requires { ⌜ known ≡ hasRecording recording (mapOf collection (now table)) ⌝ }
+    requires { ⌜ Marked (now table) (now marks) ⌝ }
     ensures { λ r. ⌜ asWritten r ≡ written (insertion collection key recording access) (length (now (list .entry))) dock (now (table .entry)) ⌝ }
     ensures { λ r. ⌜ now (table .exit) ≡ tableAfter (insertion collection key recording access) (length (now (list .entry))) dock (now (table .entry)) ⌝ }
     ensures { λ r. ⌜ now (list .exit) ≡ listAfter (insertion collection key recording access) (now (list .entry)) dock (now (table .entry)) ⌝ }
     ensures { λ r. ⌜ Counts r (now (table .exit)) ⌝ }
+    ensures { λ r. ⌜ Marked (now (table .exit)) (now (marks .exit)) ⌝ }
 {
     let root = node::root_of(table, collection);
     let run = reach::full_run(table, root, key, parent_of(left));
@@ -289,7 +312,17 @@ pub fn insert_known(
         return Entered::Refused(n);
     }
     let mended = write::mend(table, list, write::begin(dock), left);
-    let entered = enter(table, list, mended, collection, key, recording, access, run);
+    let entered = enter(
+        table,
+        list,
+        marks,
+        mended,
+        collection,
+        key,
+        recording,
+        access,
+        run,
+    );
     let done = orders::finish(list, entered);
     Entered::Done {
         stores: done.stores,
@@ -318,9 +351,11 @@ pub fn insert(
         Judged::Refused(n) => Written::Refused(n),
         Judged::Ready { left, reached } => {
             let known = has_recording(table, node::root_of(table, collection), recording);
+            let mut marks = [0u64; reach::MARKS];
             let entered = insert_known(
                 table,
                 list,
+                &mut marks,
                 dock,
                 collection,
                 key,

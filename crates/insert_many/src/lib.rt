@@ -15,6 +15,7 @@ ghost use Rattle.model.specs.Reached.{mapOf, reachedAll};
 ghost use Rattle.model.specs.SoundTest.{leftoverAll, sound};
 ghost use Rattle.model.specs.Refusals.{hasRecording, written, tableAfter, listAfter};
 ghost use Rattle.model.specs.Batch.{insertionOf, batch};
+ghost use Rattle.reach.specs.Marks.{Marked};
 ghost use Rattle.sound.specs.Checked.{meant};
 ghost use Rattle.clear.specs.New.{recordingsOf, New};
 ghost use Rattle.insert.specs.Entered.{asWritten, Counts};
@@ -37,6 +38,7 @@ pub struct Progress {
 fn take_one(
     table: &mut [u64],
     list: &mut [u64],
+    marks: &mut [u64],
     dock: u64,
     collection: u64,
     key: u64,
@@ -51,10 +53,12 @@ fn take_one(
     requires { ⌜ noCollection collection (now table) ≡ false ⌝ }
     requires { ⌜ dock ≤ 1 ⌝ }
     requires { ⌜ known ≡ hasRecording (recordingOf pointer) (mapOf collection (now table)) ⌝ }
+    requires { ⌜ Marked (now table) (now marks) ⌝ }
     ensures { λ r. ⌜ asWritten r ≡ written (insertionOf collection (slot key pointer)) (length (now (list .entry))) dock (now (table .entry)) ⌝ }
     ensures { λ r. ⌜ now (table .exit) ≡ tableAfter (insertionOf collection (slot key pointer)) (length (now (list .entry))) dock (now (table .entry)) ⌝ }
     ensures { λ r. ⌜ now (list .exit) ≡ listAfter (insertionOf collection (slot key pointer)) (now (list .entry)) dock (now (table .entry)) ⌝ }
     ensures { λ r. ⌜ Counts r (now (table .exit)) ⌝ }
+    ensures { λ r. ⌜ Marked (now (table .exit)) (now (marks .exit)) ⌝ }
 {
     if list.len() < write::words_for(dock) {
         return Entered::Refused(5);
@@ -64,6 +68,7 @@ fn take_one(
     insert::insert_known(
         table,
         list,
+        marks,
         dock,
         collection,
         key,
@@ -79,6 +84,7 @@ fn take_one(
 fn take_next(
     table: &mut [u64],
     list: &mut [u64],
+    marks: &mut [u64],
     dock: u64,
     collection: u64,
     pairs: &[u64],
@@ -89,10 +95,12 @@ fn take_next(
     requires { ⌜ p .number ≡ 0 ⌝ }
     requires { ⌜ 2 * p .taken + 1 < length (now pairs) ⌝ }
     requires { ⌜ known ≡ hasRecording (recordingOf (getD (now pairs) (2 * p .taken + 1) 0)) (mapOf collection (now table)) ⌝ }
+    requires { ⌜ Marked (now table) (now marks) ⌝ }
     ensures { λ r. ⌜ ahead collection dock (slotsOf (now (pairs .entry))) r (now (list .exit)) (now (table .exit))
         ≡ ahead collection dock (slotsOf (now (pairs .entry))) p (now (list .entry)) (now (table .entry)) ⌝ }
     ensures { λ r. ⌜ Fit collection dock r (now (list .exit)) (now (table .exit)) ⌝ }
     ensures { λ r. ⌜ Gains collection (recordingOf (getD (now (pairs .entry)) (2 * p .taken + 1) 0)) p r (now (table .entry)) (now (table .exit)) ⌝ }
+    ensures { λ r. ⌜ Marked (now (table .exit)) (now (marks .exit)) ⌝ }
 {
     let i = p.taken;
     let at = p.at;
@@ -102,6 +110,7 @@ fn take_next(
     let entered = take_one(
         table,
         &mut list[at..],
+        marks,
         dock,
         collection,
         key,
@@ -206,11 +215,12 @@ fn take_all(
         left: left,
         reached: reached,
     };
+    let mut marks = [0u64; reach::MARKS];
     let mut end = 0;
     while p.taken < count {
         end = new_end(table, collection, pairs, p.taken, end);
         let known = is_known(table, collection, pairs, p.taken, end);
-        p = take_next(table, list, dock, collection, pairs, p, known);
+        p = take_next(table, list, &mut marks, dock, collection, pairs, p, known);
         if p.number != 0 {
             return p;
         }

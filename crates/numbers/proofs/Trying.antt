@@ -9,11 +9,7 @@ use lib.ListN.{length, getD, set}
 use borrow.Author.Tests.{eq-eqb, ne-eqb, eqb-false}
 use Rattle.model.specs.Table.{Words}
 use Rattle.numbers.specs.declared.Entry.the-variants.{Entered, Known, Full}
-use Rattle.numbers.specs.Cells.{SPREAD, mixed, nextCell, outcome, tried, entered}
-
-pub mixed-below : (r : ℕ) → mixed r < SPREAD
-unfolding mixed
-mixed-below r = omega arith
+use Rattle.numbers.specs.Cells.{mixed, nextCell, outcome, tried, entered}
 
 -- ---- the next cell
 

@@ -5,7 +5,7 @@ use Prim.Native.Nat.{ℕ, zero, suc, _-_, _≤_, _<_}
 use native.Mathlib.Omega.{arith}
 use lib.ListN.{getD}
 use borrow.Author.Tests.{eq-eqb}
-use Rattle.model.specs.Table.{Words, node, root}
+use Rattle.model.specs.Table.{Words, root}
 use Rattle.model.specs.Slots.{View, nodeView, viewFrom, view}
 use Rattle.model.specs.Search.{below, moved, down, pathFrom}
 use Rattle.model.specs.Writes.{standingIn}

@@ -3,10 +3,10 @@ use mathlib.Core.Path.{_≡_, refl, ap, sym, _∙_}
 use mathlib.Core.Bool.{Bool, true, false, _||_, false≢true}
 use mathlib.Core.Logic.{_≢_, ⊎-elim}
 use mathlib.Core.List.{_∷_, List·Memᴰ}
-use Prim.Native.Nat.{ℕ, zero, suc, _+_, _*_, _-_, _<_}
+use Prim.Native.Nat.{ℕ, zero, suc, _+_, _*_, _-_, _%_, _<_}
 use native.Mathlib.Omega.{arith}
 use native.Mathlib.Nat.{zero-add}
-use lib.ListN.{length, getD, replicate}
+use lib.ListN.{length, getD, replicate, length-replicate}
 use Rattle.model.specs.declared.Node.{Node}
 use Rattle.model.specs.Table.{Words, at, node, root}
 use Rattle.model.specs.Slots.{slot, View, nodeView, viewFrom, viewOf, view, used}
@@ -26,17 +26,32 @@ use Rattle.node.proofs.WordLaws.{word-level, word-fence}
 use Rattle.slots.specs.declared.Ways.{Ways}
 use Rattle.slots.specs.Scan.{shownFrom, keeps, keptOf}
 use Rattle.slots.specs.Gathered.{span, slotsIn}
-use Rattle.bits.specs.Bits.{has, put}
-use Rattle.bits.proofs.Marks.{has-put-other, none-marked}
-use Rattle.reach.specs.Marks.{Taken, AllTaken, WaysTaken}
+use Rattle.bits.specs.Bits.{put, full}
+use Rattle.bits.proofs.Marks.{has-put-other, none-marked, full-marked}
+use Rattle.reach.specs.Marks.{MARKS, Taken, AllTaken, Marked, Used, WaysTaken}
 
 -- ---- marks
 
 pub put-taken : (t ws : Words) (n : ℕ) → n < 64 * length ws → AllTaken t ws → Taken t n → AllTaken t (put ws n)
 put-taken t ws n h a k m e = ⊎-elim (λ q. rw q k) (λ q. a m (sym (has-put-other ws n m h q) ∙ e)) (same-or-not m n)
 
-pub none-taken : (t : Words) (n : ℕ) → AllTaken t (replicate n 0)
-none-taken t n m e = absurd (false≢true (sym (none-marked n m) ∙ e))
+pub none-taken : (t : Words) → Marked t (replicate MARKS 0)
+none-taken t = (length-replicate {A = ℕ} MARKS 0, λ m e. absurd (false≢true (sym (none-marked MARKS m) ∙ e)))
+
+-- they serve a table that reaches the same nodes and others
+pub stays-marked : (t u marks : Words) → ((n : ℕ) → Taken t n → Taken u n) → Marked t marks → Marked u marks
+stays-marked t u marks f m = (m .0, λ n e. f n (m .1 n e))
+
+-- ---- reached nodes in a run
+
+pub used-none : (t : Words) (n : ℕ) → elem n (reachedAll t) ≡ false → Used t n 0
+used-none t n e = record { short = omega arith; run = λ m a b. absurd (omega arith); none = λ z. e }
+
+pub used-one : (t : Words) (n : ℕ) → Taken t n → Used t n 1
+used-one t n k = record { short = omega arith; run = λ m a b. let e : m ≡ n = omega arith in rw e k; none = λ z. absurd (omega arith) }
+
+pub used-word : (t ws : Words) (n : ℕ) → AllTaken t ws → n % 64 ≡ 0 → full ws n ≡ true → Used t n 64
+used-word t ws n a z e = record { short = omega arith; run = λ m p q. a m (full-marked ws n m e (omega arith)); none = λ z. absurd (omega arith) }
 
 -- ---- children of a reached inner node are reached
 

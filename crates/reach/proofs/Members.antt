@@ -19,7 +19,9 @@ use Rattle.table_laws.proofs.Header.{header-iff}
 use Rattle.tree_laws.proofs.Levels.{Orderly, sound-orderly}
 use Rattle.tree_laws.proofs.SearchLaw.{path-root, reached-iff}
 use Rattle.two_laws.proofs.SearchTwo.{sound-head}
-use Rattle.two_laws.proofs.CollectionTwo.{elem-alone, elem-beside}
+use Rattle.two_laws.proofs.Arrange.{root-in}
+use Rattle.two_laws.proofs.SameTwo.{first-there}
+use Rattle.two_laws.proofs.CollectionTwo.{root-range, collection-orderly, elem-alone, elem-beside}
 use Rattle.node.specs.Word.{wordOf}
 use Rattle.node.proofs.WordLaws.{word-level, word-fence}
 use Rattle.search.proofs.Standing.{header-words}
@@ -78,3 +80,14 @@ module _ (t : Words) (m : ℕ) (a : Bool) (e : a ≡ elem m (reached (viewOf 1 t
 
   pub taken-second : a ≡ false → at t 3 ≢ 0 → (b : Bool) → b ≡ elem m (reached (viewOf 2 t)) → b ≡ elem m (reachedAll t)
   taken-second y z b f = f ∙ sym (elem-beside t z m ∙ rw (sym e ∙ y))
+
+-- ---- the first root
+
+root-orderly : (t : Words) → sound t ≡ true → Orderly (viewOf 1 t)
+root-orderly t s = collection-orderly 1 t s (first-there t)
+
+pub root-few : (t : Words) → sound t ≡ true → at t 1 ≤ 65535
+root-few t s = omega (arith, sound-few t s, root-range 1 t (sound-head t s) (first-there t) .1)
+
+pub root-taken : (t : Words) → sound t ≡ true → elem (at t 1) (reachedAll t) ≡ true
+root-taken t s = sym (taken-first t (at t 1) true (sym (elem-iff (at t 1) (reached (viewOf 1 t)) .1 (root-in (viewOf 1 t) (root-orderly t s)))) refl)

@@ -6,6 +6,8 @@ use mathlib.Core.List.{List, [], _∷_, _++_}
 use Prim.Native.Nat.{ℕ, zero, suc, pred, _+_, _-_, _≤_, _<_}
 use native.Mathlib.Numerals.{add-one, sub-one}
 use native.Mathlib.Omega.{arith}
+use lib.Dec.{leb}
+use borrow.Author.Tests.{leb-true, leb-false}
 use Rattle.model.specs.Table.{Words, nodes}
 use Rattle.model.specs.Reached.{filter, headOr, reachedAll}
 use Rattle.model.specs.SoundTest.{elem}
@@ -43,6 +45,17 @@ module _ (t : Words) where
 
   pub first-later : (n last : ℕ) → n ≤ last → elem n (reachedAll t) ≡ true → firstFrom (n + 1) last ≡ firstFrom n last
   first-later n last h e = rw (add-one n, row-more n last h, unreached-no n (numbers (suc n) (last + 1 - suc n)) e)
+
+  -- past a run of reached ones
+  pub first-past : (r n last : ℕ) → ((m : ℕ) → n ≤ m → m < n + r → elem m (reachedAll t) ≡ true) → firstFrom (n + r) last ≡ firstFrom n last
+  first-past zero n last h = let e : n + 0 ≡ n = omega arith in rw e
+  first-past (suc r) n last h =
+      let e : n + suc r ≡ n + 1 + r = omega arith in
+      rw e (first-past r (n + 1) last (λ m a b. h m (omega arith) (omega arith)) ∙ one (leb n last) refl)
+    where
+      one : (b : Bool) → leb n last ≡ b → firstFrom (n + 1) last ≡ firstFrom n last
+      one true q = first-later n last (leb-true n last q) (h n (omega arith) (omega arith))
+      one false q = let g = leb-false n last q in first-none (n + 1) last (omega arith) ∙ sym (first-none n last g)
 
   -- ---- going round
 

@@ -11,10 +11,10 @@ ghost use Rattle.model.specs.Reached.{headOr, kept, reached, reachedAll};
 ghost use Rattle.model.specs.SoundTest.{elem, soundView, sound};
 ghost use Rattle.model.specs.Writes.{numbers, unreached, unreachable, fresh, standingIn, freesLeaf};
 ghost use Rattle.reach.specs.Runs.{fullIn, runAfter, fullRun};
-ghost use Rattle.reach.specs.Marks.{MARKS, Taken, AllTaken, WaysTaken};
+ghost use Rattle.reach.specs.Marks.{MARKS, Taken, AllTaken, Marked, Used, WaysTaken};
 
 // Words for a bit of each node.
-const MARKS: usize = 1024;
+pub const MARKS: usize = 1024;
 
 // The unbroken run of full nodes from the leaf upward: its length, and whether it includes the root.
 pub struct Run {
@@ -110,9 +110,8 @@ fn mark_ways(marks: &mut [u64], w: Ways)
 // Marks the children that node n names, if it is reached and no leaf.
 fn mark_children(table: &[u64], marks: &mut [u64], n: u64)
     requires { ⌜ sound (now table) ≡ true ⌝ }
-    requires { ⌜ length (now marks) ≡ MARKS ⌝ }
-    requires { ⌜ AllTaken (now table) (now marks) ⌝ }
-    ensures { λ r. ⌜ AllTaken (now (table .entry)) (now (marks .exit)) ⌝ }
+    requires { ⌜ Marked (now table) (now marks) ⌝ }
+    ensures { λ r. ⌜ Marked (now (table .entry)) (now (marks .exit)) ⌝ }
 {
     if node::word(table, n, 2) == 0 {
         return;
@@ -143,9 +142,8 @@ fn first_parent(table: &[u64], root: u64) -> u64 {
 // that they are reached.
 fn mark_along(table: &[u64], marks: &mut [u64], first: u64)
     requires { ⌜ sound (now table) ≡ true ⌝ }
-    requires { ⌜ length (now marks) ≡ MARKS ⌝ }
-    requires { ⌜ AllTaken (now table) (now marks) ⌝ }
-    ensures { λ r. ⌜ AllTaken (now (table .entry)) (now (marks .exit)) ⌝ }
+    requires { ⌜ Marked (now table) (now marks) ⌝ }
+    ensures { λ r. ⌜ Marked (now (table .entry)) (now (marks .exit)) ⌝ }
 {
     let mut n = first;
     let mut left = table[2];
@@ -162,9 +160,8 @@ fn mark_along(table: &[u64], marks: &mut [u64], first: u64)
 // Marks the leaves of both trees, but one that lacks its slot or is the root.
 fn mark_all(table: &[u64], marks: &mut [u64])
     requires { ⌜ sound (now table) ≡ true ⌝ }
-    requires { ⌜ length (now marks) ≡ MARKS ⌝ }
-    requires { ⌜ AllTaken (now table) (now marks) ⌝ }
-    ensures { λ r. ⌜ AllTaken (now (table .entry)) (now (marks .exit)) ⌝ }
+    requires { ⌜ Marked (now table) (now marks) ⌝ }
+    ensures { λ r. ⌜ Marked (now (table .entry)) (now (marks .exit)) ⌝ }
 {
     let first = first_parent(table, table[1]);
     let second = first_parent(table, table[3]);
@@ -172,67 +169,108 @@ fn mark_all(table: &[u64], marks: &mut [u64])
     mark_along(table, marks, second);
 }
 
-// Whether node n is reached from either root: a descent only where it is not marked.
-fn is_used(table: &[u64], marks: &[u64], n: u64) -> bool
+// Whether node n is reached from either root: a descent only where it is not marked. What a descent finds is marked too.
+fn is_used(table: &[u64], marks: &mut [u64], n: u64) -> bool
     requires { ⌜ sound (now table) ≡ true ⌝ }
-    requires { ⌜ length (now marks) ≡ MARKS ⌝ }
-    requires { ⌜ AllTaken (now table) (now marks) ⌝ }
+    requires { ⌜ Marked (now table) (now marks) ⌝ }
     requires { ⌜ n ≤ 65535 ⌝ }
     ensures { λ r. ⌜ r ≡ elem n (reachedAll (now (table .entry))) ⌝ }
+    ensures { λ r. ⌜ Marked (now (table .entry)) (now (marks .exit)) ⌝ }
 {
     if bits::has(marks, n as usize) {
         return true;
     }
-    is_taken(table, n)
+    if !is_taken(table, n) {
+        return false;
+    }
+    mark(marks, n);
+    true
+}
+
+// So many nodes from node n on are reached: none where n is not, a whole word of marks at once where it begins with n.
+fn used_run(table: &[u64], marks: &mut [u64], n: u64) -> u64
+    requires { ⌜ sound (now table) ≡ true ⌝ }
+    requires { ⌜ Marked (now table) (now marks) ⌝ }
+    requires { ⌜ n ≤ 65535 ⌝ }
+    ensures { λ r. ⌜ Used (now (table .entry)) n r ⌝ }
+    ensures { λ r. ⌜ Marked (now (table .entry)) (now (marks .exit)) ⌝ }
+{
+    if !is_used(table, marks, n) {
+        return 0;
+    }
+    if n % 64 != 0 {
+        return 1;
+    }
+    if !bits::full(marks, n as usize) {
+        return 1;
+    }
+    64
 }
 
 // The first unreachable node of these, from first to last; 0 if there is none.
-fn first_unreached(table: &[u64], marks: &[u64], first: u64, last: u64) -> u64
+fn first_unreached(table: &[u64], marks: &mut [u64], first: u64, last: u64) -> u64
     requires { ⌜ sound (now table) ≡ true ⌝ }
-    requires { ⌜ length (now marks) ≡ MARKS ⌝ }
-    requires { ⌜ AllTaken (now table) (now marks) ⌝ }
+    requires { ⌜ Marked (now table) (now marks) ⌝ }
     requires { ⌜ last ≤ 65535 ⌝ }
     ensures { λ r. ⌜ r ≡ headOr 0 (unreached (now (table .entry)) (numbers first (last + 1 - first))) ⌝ }
+    ensures { λ r. ⌜ Marked (now (table .entry)) (now (marks .exit)) ⌝ }
 {
     let mut n = first;
     while n <= last {
-        if !is_used(table, marks, n) {
+        let run = used_run(table, marks, n);
+        if run == 0 {
             return n;
         }
-        n += 1;
+        n += run;
     }
     0
 }
 
-// The first unreachable node after node a, going round: the leaves are marked first.
-fn fresh_marked(table: &[u64], a: u64) -> u64
+// Marks the leaves, unless the root is marked: then they were.
+fn mark_once(table: &[u64], marks: &mut [u64])
     requires { ⌜ sound (now table) ≡ true ⌝ }
+    requires { ⌜ Marked (now table) (now marks) ⌝ }
+    ensures { λ r. ⌜ Marked (now (table .entry)) (now (marks .exit)) ⌝ }
+{
+    if bits::has(marks, table[1] as usize) {
+        return;
+    }
+    mark_all(table, marks);
+    mark(marks, table[1]);
+}
+
+// The first unreachable node after node a, going round: the leaves are marked first.
+fn fresh_marked(table: &[u64], marks: &mut [u64], a: u64) -> u64
+    requires { ⌜ sound (now table) ≡ true ⌝ }
+    requires { ⌜ Marked (now table) (now marks) ⌝ }
     requires { ⌜ 1 ≤ a ⌝ }
     requires { ⌜ a ≤ nodes (now table) ⌝ }
     ensures { λ r. ⌜ r ≡ fresh (now (table .entry)) a ⌝ }
+    ensures { λ r. ⌜ Marked (now (table .entry)) (now (marks .exit)) ⌝ }
 {
-    let mut marks = [0u64; MARKS];
-    mark_all(table, &mut marks);
-    let n = first_unreached(table, &marks, a + 1, table[2]);
+    mark_once(table, marks);
+    let n = first_unreached(table, marks, a + 1, table[2]);
     if n != 0 {
         return n;
     }
-    first_unreached(table, &marks, 1, a - 1)
+    first_unreached(table, marks, 1, a - 1)
 }
 
 // The first unreachable node after node a, going round from N to 1; 0 if there is none. The next node is asked for by itself: where codes
-// come in order it is the one.
-pub fn fresh(table: &[u64], a: u64) -> u64
+// come in order it is the one. Marks save descents, and what is found out is marked: they serve for the next fresh node too.
+pub fn fresh(table: &[u64], marks: &mut [u64], a: u64) -> u64
     requires { ⌜ sound (now table) ≡ true ⌝ }
+    requires { ⌜ Marked (now table) (now marks) ⌝ }
     requires { ⌜ 1 ≤ a ⌝ }
     requires { ⌜ a ≤ nodes (now table) ⌝ }
     ensures { λ r. ⌜ r ≡ fresh (now (table .entry)) a ⌝ }
+    ensures { λ r. ⌜ Marked (now (table .entry)) (now (marks .exit)) ⌝ }
 {
     if table[2] <= a {
-        return fresh_marked(table, a);
+        return fresh_marked(table, marks, a);
     }
     if is_taken(table, a + 1) {
-        return fresh_marked(table, a);
+        return fresh_marked(table, marks, a);
     }
     a + 1
 }

@@ -5,7 +5,6 @@ pub mod InLedger
 pub mod Searches
 pub mod Unstored
 pub mod Leaves
-pub mod LeafStores
 pub mod Reaching
 pub mod NodeWords
 pub mod TrueWords

@@ -7,36 +7,31 @@ use Prim.Native.Nat.{ℕ, zero, suc, _+_, _-_, _≤_, _<_}
 use native.Mathlib.Omega.{arith}
 use lib.ListN.{length}
 use borrow.Author.Tests.{ltb-false}
-use Rattle.model.specs.Table.{Words, at, nodeStart, node, rootWord, noCollection}
-use Rattle.model.specs.Slots.{pointerOf, View, nodeView, viewOf, height}
-use Rattle.model.specs.Reached.{reached, reachedAll, mapOf}
-use Rattle.model.specs.SoundTest.{elem, nothing, sound, settled}
+use Rattle.model.specs.Table.{Words, at, nodeStart, rootWord, noCollection}
+use Rattle.model.specs.Slots.{pointerOf, nodeView, viewOf, height}
+use Rattle.model.specs.Reached.{reachedAll, mapOf}
+use Rattle.model.specs.SoundTest.{elem, nothing, sound}
 use Rattle.model.specs.Orders.{Store, apply}
-use Rattle.model.specs.Shifts.{placeOf, shiftOut}
-use Rattle.model.specs.Writes.{shiftInAt, shiftOutAt, setClassAt, putAll, split, splitWords, nodeWords, newRoot, unreachable, fresh, standingIn, standing, run, rootInRun, splits, rootStores}
+use Rattle.model.specs.Shifts.{shiftOut}
+use Rattle.model.specs.Writes.{shiftInAt, shiftOutAt, putAll, split, splitWords, nodeWords, newRoot, unreachable, fresh, standing, run, rootInRun, splits, rootStores}
 use Rattle.model.specs.Writes.{insertSettled, insertStores, freesLeaf, deleteSettled, deleteStores, classStores, repairStores, repaired, Call, insertion, deletion, classChange, repair, storesOf}
 use Rattle.model.specs.Refusals.{hasKey, tooHigh, tooFew, refusal}
-use Rattle.model.specs.Sentinels.{nodeOf, storedTo}
-use Rattle.list_laws.proofs.Tools.{same-or-not}
+use Rattle.model.specs.Sentinels.{storedTo}
 use Rattle.list_laws.proofs.Slots.{place-length}
-use Rattle.tree_laws.proofs.Rows.{Good, range-iff}
-use Rattle.tree_laws.proofs.Levels.{Orderly}
-use Rattle.tree_laws.proofs.SearchLaw.{Stands, path-stands}
-use Rattle.change_laws.proofs.Parts.{good-parts}
-use Rattle.word_laws.proofs.ShiftViews.{shown-few}
+use Rattle.tree_laws.proofs.Rows.{range-iff}
 use Rattle.word_laws.proofs.NewNodes.{length-node-words}
 use Rattle.cut_laws.proofs.Applying.{apply-append}
 use Rattle.two_laws.specs.Parts.{Enters}
-use Rattle.two_laws.proofs.TwoLaw.{Tree, Low}
+use Rattle.two_laws.proofs.TwoLaw.{Tree}
 use Rattle.two_laws.proofs.Arrange.{Arr, arr-low, root-in, settled-tree, free-fresh}
 use Rattle.two_laws.proofs.SplitTwo.{splitIn, length-split}
+use Rattle.two_laws.proofs.LeafStores.{in-reached, class-reached, Leaf, leaf-for}
 use Rattle.two_laws.proofs.InsertTwo.{stands-reached, ReadyIn, ready-next, first-others, splits-course, splits-room, root-first, first-root-others}
 use Rattle.two_laws.proofs.DeleteTwo.{stores-freeing, settled-others, settled-stays}
 use Rattle.two_laws.proofs.CallsTwo.{repairs, arranged, is-repaired}
 use Rattle.two_laws.proofs.AcceptedTwo.{there, accepted-iff}
 use Rattle.two_laws.proofs.JudgedTwo.{reached-later}
 use Rattle.sentinel_laws.proofs.Unstored.{stored-cons, stored-append, node-of}
-use Rattle.sentinel_laws.proofs.LeafStores.{in-reached, class-reached}
 
 -- x is reached after these stores as before, if none goes to it
 abbrev pub SameReach : ℕ → List Store → Words → Type 0
@@ -92,20 +87,6 @@ module _ (n : ℕ) (ws : List ℕ) (t : Words) (k : ℕ) (arr : Arr (rootWord n)
       go : (b : Bool) → rootInRun n t k ≡ b → SameReach x (rootStores n t k) t
       go true e = rw (e, rootStores) (new-root-same e x)
       go false e = rw (e, rootStores) (λ h. refl)
-
--- ---- the leaf for a key
-
--- it is on level 0, and shows at most 11 slots
-record Leaf (t : Words) (x : ℕ) : Type 0 where
-  some : 1 ≤ x
-  level : node t x .level ≡ 0
-  few : length (nodeView t x .shown) ≤ 11
-
-leaf-for : (n : ℕ) (t : Words) (k : ℕ) → Orderly (viewOf n t) → Leaf t (standing n t 0 k)
-unfolding standingIn
-leaf-for n t k o =
-    let c = path-stands (viewOf n t) k 0 o (omega arith) .covers in
-    record { some = range-iff _ _ .0 (c .at .range) .0; level = c .at .level; few = shown-few t _ (good-parts (viewOf n t) _ (c .good) .0) }
 
 -- ---- on a settled table
 

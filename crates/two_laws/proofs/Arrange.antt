@@ -320,6 +320,10 @@ free-fresh w ws t a r f m h =
     refuted-false true h = refl
     refuted-false false h = absurd (h refl)
 
+-- no root reaches a free node
+pub free-off : (w : ℕ) (ws : List ℕ) (t : Words) (b : ℕ) → Arr w ws t → FreeNode w ws t b → elem b (reachedAll t) ≡ false
+free-off w ws t b r f = arr-covers w ws t r .split b .1 (f .own, f .off)
+
 -- those that some root reaches and those that none does are N together
 pub unreachable-count : (w : ℕ) (ws : List ℕ) (t : Words) → Arr w ws t → Tree w ws t nothing → length (unreachable t) + (length (reached (seen w t)) + length (taken ws t)) ≡ nodes t
 unfolding unreachable unreached

@@ -11,6 +11,7 @@ pub mod RepairTwo
 pub mod SplitTwo
 pub mod RootTwo
 pub mod Arrange
+pub mod LeafStores
 pub mod DeleteTwo
 pub mod InsertTwo
 pub mod CallsTwo

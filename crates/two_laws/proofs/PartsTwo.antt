@@ -1,19 +1,19 @@
 -- The parts of a write of collection n on a settled table: the nodes that it reads and stores to, the run that is split, the leaf that is freed.
-use mathlib.Core.Path.{_≡_}
-use mathlib.Core.Bool.{true, false}
-use mathlib.Core.Logic.{inl, inr}
+use mathlib.Core.Path.{_≡_, refl, sym, ap, _∙_}
+use mathlib.Core.Bool.{Bool, true, false, cond, false≢true}
+use mathlib.Core.Logic.{_≢_, inl, inr}
 use mathlib.Core.List.{List, List·Memᴰ}
-use Prim.Native.Nat.{ℕ, suc, _*_, _≤_, _<_}
+use Prim.Native.Nat.{ℕ, suc, _+_, _*_, _≤_, _<_}
 use native.Mathlib.Omega.{arith}
 use lib.ListN.{length}
-use borrow.Author.Tests.{ne-eqb}
+use borrow.Author.Tests.{ne-eqb, ltb-false}
 use Rattle.model.specs.Table.{Words, at, nodes, hasNode, rootWord, noCollection}
 use Rattle.model.specs.Slots.{nodeView, view, height, viewOf}
-use Rattle.model.specs.Reached.{reached, mapOf}
-use Rattle.model.specs.SoundTest.{nothing, settled}
-use Rattle.model.specs.Orders.{apply}
+use Rattle.model.specs.Reached.{reached, reachedAll, mapOf}
+use Rattle.model.specs.SoundTest.{elem, nothing, settled}
+use Rattle.model.specs.Orders.{Store, apply}
 use Rattle.model.specs.Shifts.{placeOf}
-use Rattle.model.specs.Writes.{shiftOutAt, childBefore, unreachable, fresh, standing, run, splits, rootStores, freesLeaf}
+use Rattle.model.specs.Writes.{shiftInAt, shiftOutAt, childBefore, unreachable, newRoot, fresh, standing, run, rootInRun, splits, rootStores, freesLeaf}
 use Rattle.model.specs.Refusals.{hasKey, tooHigh, tooFew}
 use Rattle.list_laws.proofs.Members.{each-mem}
 use Rattle.list_laws.proofs.Distinct.{UpTo}
@@ -23,9 +23,10 @@ use Rattle.tree_laws.proofs.Levels.{reached-numbers}
 use Rattle.two_laws.specs.Parts.{splitFor, Splittable, Ready}
 use Rattle.two_laws.proofs.TwoLaw.{Tree, Low}
 use Rattle.two_laws.proofs.Leaf.{leaf-place, leaf-out}
-use Rattle.two_laws.proofs.Arrange.{Arr, arr-low, root-in, tree-settled, settled-tree, free-fresh, course-arr}
+use Rattle.two_laws.proofs.Arrange.{Arr, arr-low, root-in, tree-settled, settled-tree, free-fresh, free-off, course-arr}
+use Rattle.two_laws.proofs.LeafStores.{in-reached, leaf-for}
 use Rattle.two_laws.proofs.DeleteTwo.{p-reached, before-reached, can-free}
-use Rattle.two_laws.proofs.InsertTwo.{stands-reached, ReadyIn, ready-next, splits-course, root-first}
+use Rattle.two_laws.proofs.InsertTwo.{stands-reached, ReadyIn, ready-next, first-others, splits-course, splits-room, root-first, first-root-others}
 use Rattle.two_laws.proofs.CallsTwo.{arranged}
 use Rattle.two_laws.proofs.AcceptedTwo.{there}
 
@@ -54,6 +55,16 @@ ready-out m n ws t k r = record {
   above = r .above;
   enough = r .enough;
 }
+
+-- ---- what is reached stays so
+
+-- after these stores, whatever was reached before them
+abbrev pub Stays : List Store → Words → Type 0
+Stays ss t = (x : ℕ) → elem x (reachedAll t) ≡ true → elem x (reachedAll (apply ss t)) ≡ true
+
+-- where of all nodes but a free one the same are reached
+but-free : (ss : List Store) (t : Words) (b : ℕ) → elem b (reachedAll t) ≡ false → ((x : ℕ) → x ≢ b → elem x (reachedAll (apply ss t)) ≡ elem x (reachedAll t)) → Stays ss t
+but-free ss t b off same x e = same x (λ q. false≢true (sym off ∙ ap (λ (y : ℕ). elem y (reachedAll t)) (sym q) ∙ e)) ∙ e
 
 -- ---- a settled table
 
@@ -96,6 +107,18 @@ module _ (n : ℕ) (t : Words) (h : noCollection n t ≡ false) (s : settled t �
 
   -- ---- the new root, where the run includes the root
 
+  -- the old root and all below it stay reached
+  pub root-stays : (k : ℕ) → tooHigh n t k ≡ false → tooFew n t k ≡ false → Stays (rootStores n t k) t
+  unfolding rootStores apply tooFew
+  root-stays k a b = go (rootInRun n t k) refl
+    where
+      go : (c : Bool) → rootInRun n t k ≡ c → Stays (rootStores n t k) t
+      go true e =
+          let room : run n t k + 1 ≤ length (unreachable t) = rw e at (ltb-false (length (unreachable t)) (run n t k + cond (rootInRun n t k) 1 0) b) in
+          let free = free-fresh w (beside .0) t (at t w) (beside .1) tree root-reached (omega arith) in
+          rw (e, rootStores) (but-free (newRoot n t) t _ (free-off w (beside .0) t _ (beside .1) free) (first-root-others n (beside .0) t k (beside .1) tree a b e))
+      go false e = rw (e, rootStores) (λ x q. q)
+
   pub root-ready : (k : ℕ) → tooHigh n t k ≡ false → tooFew n t k ≡ false → Ready (run n t k) n (apply (rootStores n t k) t) k
   root-ready k a b = ready-out (run n t k) n (beside .0) (apply (rootStores n t k) t) k (root-first n (beside .0) t k (beside .1) tree a b .1)
 
@@ -118,6 +141,13 @@ module _ (m n : ℕ) (t : Words) (k : ℕ) (r : Ready m n t k) where
   pub splits-there : noCollection n (apply (splits n m t k) t) ≡ false
   splits-there = arr-there n ws _ split-arr
 
+  -- A pair shifted in at the leaf for the key, which has room then, leaves what is reached.
+  pub in-same : (y : ℕ) → let t₂ = apply (splits n m t k) t in reachedAll (apply (shiftInAt t₂ (standing n t₂ 0 k) k y) t₂) ≡ reachedAll t₂
+  in-same y =
+      let t₂ = apply (splits n m t k) t in
+      let leaf = leaf-for n t₂ k (splits-course m n ws t k ready-in .whole .left .orderly) in
+      in-reached t₂ (standing n t₂ 0 k) (leaf .some) (leaf .level) k y (splits-room m n ws t k ready-in)
+
 module _ (l n : ℕ) (t : Words) (k : ℕ) (r : Ready (suc l) n t k) where
   -- the highest of them can be split, and then the rest is ready
   pub ready-first : Splittable n t k l
@@ -125,6 +155,12 @@ module _ (l n : ℕ) (t : Words) (k : ℕ) (r : Ready (suc l) n t k) where
 
   pub ready-later : Ready l n (apply (splitFor n t l k) t) k
   ready-later = ready-out l n _ _ k (ready-next l n _ t k (ready-in (suc l) n t k r))
+
+  pub split-stays : Stays (splitFor n t l k) t
+  split-stays =
+      let i = ready-in (suc l) n t k r in
+      let free = free-fresh (rootWord n) _ t (standing n t l k) (i .arr) (i .tree) (standing-reached n t (r .collection) (r .settled) l k (omega (arith, r .high))) (omega (arith, r .enough)) in
+      but-free (splitFor n t l k) t _ (free-off (rootWord n) _ t _ (i .arr) free) (first-others l n _ t k i)
 
 -- ---- the slot of a key, and the leaf freed after the shift out
 

@@ -1,5 +1,5 @@
 -- `insert::insert` meets its contract.
-use mathlib.Core.Path.{_≡_, sym, _∙_}
+use mathlib.Core.Path.{sym, _∙_}
 use lib.ListN.{length}
 use Rattle.model.specs.Writes.{Call, insertion}
 use Rattle.two_laws.proofs.SearchTwo.{sound-head}
@@ -8,6 +8,7 @@ use Rattle.write.proofs.Ending.{judge-refuses}
 use Rattle.write.proofs.Rooted.{root-sound}
 use Rattle.insert.proofs.Testing.{found-here}
 use Rattle.insert.proofs.Counting.{entered-refused, entered-done}
+use Rattle.reach.proofs.Marking.{none-taken}
 use borrow.Author.Needs.{needs}
 use Rattle.insert.proofs.insert.Statement.{statement}
 use Rattle.insert.proofs.insert.Tie as tie
@@ -49,9 +50,12 @@ root-of-requires c κs = let p = passed (ready c) in (sound-head _ (p .found .is
 has-recording-requires : tie.Need-has-recording-requires
 has-recording-requires c κs = let p = passed (ready (c .before)) in root-sound _ _ _ (c .root-of .ensures) (p .found .is-sound) (p .collection)
 
+slice-aggregate-insert-known : tie.Need-slice-aggregate-insert-known
+slice-aggregate-insert-known c = search needs
+
 insert-known-requires : tie.Need-insert-known-requires
-insert-known-requires c κs = let h = looked c in let r = h .before in let p = passed (ready (r .before)) in let f = p .found in let a = asked (ready (r .before)) .args in
-    (f .is-sound, (f .leftover-is, (f .reached-are, (p .collection, (p .dock-ok, (p .long, found-here (a .collection) (a .table .now) _ (r .root-of .ensures) _ _ (h .has-recording .ensures)))))))
+insert-known-requires c κs = let h = looked (c .before) in let r = h .before in let p = passed (ready (r .before)) in let f = p .found in let a = asked (ready (r .before)) .args in
+    (f .is-sound, (f .leftover-is, (f .reached-are, (p .collection, (p .dock-ok, (p .long, (found-here (a .collection) (a .table .now) _ (r .root-of .ensures) _ _ (h .has-recording .ensures), none-taken _)))))))
 
 enum-known-entered : tie.Need-enum-known-entered
 enum-known-entered c = search needs
@@ -72,7 +76,7 @@ same-length-3 : tie.Need-same-length-3
 same-length-3 c = search needs
 
 returns-2 : tie.Need-returns-2
-returns-2 c = let q = c .before .before .before .before .before .before .before .insert-known .ensures in
+returns-2 c = let q = c .before .before .before .before .before .before .before .before .insert-known .ensures in
     (entered-refused (c .before .entered .given .1) (q .0), (q .1 .0, q .1 .1 .0))
 
 same-length-4 : tie.Need-same-length-4
@@ -82,7 +86,7 @@ same-length-5 : tie.Need-same-length-5
 same-length-5 c = search needs
 
 returns-3 : tie.Need-returns-3
-returns-3 c = let q = c .before .before .before .before .before .before .before .insert-known .ensures in
+returns-3 c = let q = c .before .before .before .before .before .before .before .before .insert-known .ensures in
     (entered-done (c .before .entered2 .given .1) (q .0), (q .1 .0, q .1 .1 .0))
 
 pub insert-spec : {M : Type 1} → statement M
@@ -94,6 +98,7 @@ insert-spec =
     enum-known-judgement-2
     root-of-requires
     has-recording-requires
+    slice-aggregate-insert-known
     insert-known-requires
     enum-known-entered
     enum-known-entered-2

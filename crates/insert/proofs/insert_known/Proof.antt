@@ -1,5 +1,5 @@
 -- `insert::insert_known` meets its contract.
-use mathlib.Core.Path.{_≡_, sym, _∙_}
+use mathlib.Core.Path.{_≡_, _∙_}
 use lib.ListN.{length}
 use Rattle.model.specs.Writes.{repaired, Call, insertion}
 use Rattle.model.specs.Refusals.{refusal}
@@ -9,7 +9,7 @@ use Rattle.write.proofs.Ending.{refused-call, Begun, mend-room, mended-settled,
 use Rattle.write.proofs.Rooted.{root-sound}
 use Rattle.insert.specs.Tests.{runOf}
 use Rattle.insert.proofs.Judging.{run-later, insert-number}
-use Rattle.insert.proofs.Entering.{entering, insert-stores, enter-enters, enter-run}
+use Rattle.insert.proofs.Entering.{entering, insert-stores, enter-enters, enter-run, enter-marked}
 use Rattle.insert.proofs.Counting.{count-low, count-after}
 use borrow.Author.Needs.{needs}
 use Rattle.insert.proofs.insert_known.Statement.{statement}
@@ -18,7 +18,7 @@ use Rattle.insert.proofs.insert_known.Tie as tie
 -- ---- the places, and what is known at them
 
 abbrev entry : tie.After-root-of-arg → tie.Start
-entry c = c .before .before .before
+entry c = c .before .before .before .before
 
 abbrev read : tie.After-parent-of → tie.After-root-of
 read c = c .before .before
@@ -32,13 +32,13 @@ ran c = c .before .before .before
 abbrev kept : tie.After-begin → tie.Else1
 kept c = c .before .before .before
 
-abbrev mended : tie.After-enter-arg2 → tie.After-mend
-mended c = c .before .before .before .before .before .before
+abbrev mended : tie.After-enter-arg3 → tie.After-mend
+mended c = c .before .before .before .before .before .before .before
 
 abbrev entered : tie.After-finish-arg → tie.After-enter
-entered c = c .before .before .before .before .before
+entered c = c .before .before .before .before .before .before .before
 
-abbrev finished : tie.After-slice-known7 → tie.After-finish
+abbrev finished : tie.After-slice-known9 → tie.After-finish
 finished c = c .before .before
 
 abbrev call : tie.Start → Call
@@ -88,7 +88,7 @@ same-length : tie.Need-same-length
 same-length c = search needs
 
 returns : tie.Need-returns
-returns c = let p = refused-call _ _ _ _ _ (c .if1 .taken) (numbered (c .before)) in (p .0, (p .1 .0, (p .1 .1, tt)))
+returns c = let p = refused-call _ _ _ _ _ (c .if1 .taken) (numbered (c .before)) in (p .0, (p .1 .0, (p .1 .1, (tt, search needs))))
 
 begin-requires : tie.Need-begin-requires
 begin-requires c κs = search needs
@@ -98,10 +98,10 @@ mend-requires c κs = let f = passed (told c) .found in (f .is-sound, (f .leftov
 
 enter-requires : tie.Need-enter-requires
 enter-requires c κs = let m = mended c in let g = m .mend .ensures in let b = begun (m .before) in let run = running (kept (m .before) .before .before .before) in
-    (mended-collection b g, (mended-settled b g, (enter-enters b g, (enter-run b g run, rest-room b g))))
+    (mended-collection b g, (mended-settled b g, (enter-enters b g, (enter-run b g run, (rest-room b g, enter-marked b g _ (told (m .before) .pre .1 .1 .1 .1 .1 .1 .1))))))
 
 finish-requires : tie.Need-finish-requires
-finish-requires c κs = let e = entered c in let m = mended (e .before) in finish-room (begun (m .before)) (m .mend .ensures) (e .enter .ensures)
+finish-requires c κs = let e = entered c in let m = mended (e .before) in finish-room (begun (m .before)) (m .mend .ensures) (e .enter .ensures .0)
 
 reached-after-requires : tie.Need-reached-after-requires
 reached-after-requires c κs = let m = mended (entered (finished c .before) .before) in let k = kept (m .before) in
@@ -113,10 +113,13 @@ same-length-2 c = search needs
 same-length-3 : tie.Need-same-length-3
 same-length-3 c = search needs
 
+same-length-4 : tie.Need-same-length-4
+same-length-4 c = search needs
+
 returns-2 : tie.Need-returns-2
 returns-2 c = let f = finished (c .before) in let e = entered (f .before) in let m = mended (e .before) in let k = kept (m .before) in
-    let p = done-call (begun (m .before)) (m .mend .ensures) (e .enter .ensures) (f .finish .ensures) in
-    (p .0, (p .1 .0, (p .1 .1, count-after _ _ _ _ _ _ _ (accepts k) (running (k .before .before .before)) (passed (told (m .before)) .found .reached-are) (c .reached-after .ensures) (p .1 .0))))
+    let p = done-call (begun (m .before)) (m .mend .ensures) (e .enter .ensures .0) (f .finish .ensures) in
+    (p .0, (p .1 .0, (p .1 .1, (count-after _ _ _ _ _ _ _ (accepts k) (running (k .before .before .before)) (passed (told (m .before)) .found .reached-are) (c .reached-after .ensures) (p .1 .0), e .enter .ensures .1))))
 
 pub insert-known-spec : {M : Type 1} → statement M
 insert-known-spec =
@@ -135,4 +138,5 @@ insert-known-spec =
     reached-after-requires
     same-length-2
     same-length-3
+    same-length-4
     returns-2)

@@ -1,5 +1,4 @@
 -- `insert::number` meets its contract.
-use mathlib.Core.Path.{_∙_}
 use Rattle.two_laws.proofs.SearchTwo.{sound-head}
 use Rattle.write.proofs.Rooted.{root-sound}
 use Rattle.insert.proofs.Testing.{found-here}

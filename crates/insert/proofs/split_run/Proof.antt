@@ -1,42 +1,52 @@
--- `insert::split_run` meets its contract. The loop's invariant: the lowest l nodes of the run are left, ready to be split.
+-- `insert::split_run` meets its contract. The loop's invariant: the lowest l nodes of the run are left, ready to be split, and what is marked is
+-- reached.
 use mathlib.Core.Path.{_≡_, refl}
 use native.Mathlib.Omega.{arith}
 use lib.ListN.{length}
 use Rattle.model.specs.Writes.{splits}
 use Rattle.two_laws.specs.Parts.{Ready}
+use Rattle.reach.specs.Marks.{Marked}
 use Rattle.orders.specs.Desk.{desk, storedAll}
 use Rattle.orders.proofs.Rest.{Rest, rest-start}
-use Rattle.insert.proofs.Splitting.{next-splittable, next-room, next-ready, next-rest, splits-done}
+use Rattle.insert.proofs.Splitting.{next-splittable, next-room, next-ready, next-marked, next-rest, splits-done}
 use borrow.Author.Needs.{needs}
 use Rattle.insert.proofs.split_run.Statement.{statement}
 use Rattle.insert.proofs.split_run.Tie as tie
 
 abbrev Inv-loop : tie.InvT-loop
-Inv-loop table₀ list₀ collection key count at₀ l₀ table list at l =
-    (length table ≡ length table₀) × (length list ≡ length list₀) × Ready l collection table key × Rest (splits collection l table key) (desk table list at) (storedAll (splits collection count table₀ key) (desk table₀ list₀ at₀))
+Inv-loop table₀ list₀ marks₀ collection key count at₀ l₀ table list marks at l =
+    (length table ≡ length table₀) × (length list ≡ length list₀) × (length marks ≡ length marks₀) × Marked table marks
+    × Ready l collection table key × Rest (splits collection l table key) (desk table list at) (storedAll (splits collection count table₀ key) (desk table₀ list₀ at₀))
 
 abbrev μ-loop : tie.MeasureT-loop
-μ-loop table₀ list₀ collection key count at₀ l₀ table list at l = l
+μ-loop table₀ list₀ marks₀ collection key count at₀ l₀ table list marks at l = l
 
 loop-holds : tie.Need-loop-holds Inv-loop μ-loop
-loop-holds c = (refl, refl, c .before .before .pre .0, rest-start (c .before .before .pre .1))
+loop-holds c = let e = c .before .before .before .pre in (refl, refl, refl, e .1 .1, e .0, rest-start (e .1 .0))
 
 sub-l : tie.Need-sub-l Inv-loop μ-loop
 sub-l c = search needs
 
 split-at-requires : tie.Need-split-at-requires Inv-loop μ-loop
 split-at-requires c κs =
-    let l = c .before .before .before .loop in
-    (next-splittable _ _ _ (l .l) (omega arith) (l .inv .2), next-room _ _ _ (l .l) _ _ _ (omega arith) (l .inv .3))
+    let l = c .before .before .before .before .loop in
+    (next-splittable _ _ _ (l .l) (omega arith) (l .inv .4), (next-room _ _ _ (l .l) _ _ _ (omega arith) (l .inv .5), l .inv .3))
 
 loop-less : tie.Need-loop-less Inv-loop μ-loop
 loop-less c = search needs
 
 loop-again : tie.Need-loop-again Inv-loop μ-loop
 loop-again c =
-    let l = c .before .before .before .before .before .before .before .before .loop in
-    let q = c .before .before .before .before .split-at .ensures in
-    (search needs, search needs, next-ready _ _ _ (l .l) _ _ _ (omega arith) (l .inv .3) _ _ _ q (l .inv .2), next-rest _ _ _ (l .l) _ _ _ (omega arith) (l .inv .3) _ _ _ q)
+    let j = c .before .before .before .before .before .before in
+    let l = j .before .before .before .before .before .loop in
+    let q = j .split-at .ensures .0 in (
+      search needs,
+      search needs,
+      search needs,
+      next-marked _ _ _ (l .l) _ _ _ (omega arith) (l .inv .5) _ _ _ q (l .inv .4) _ (j .split-at .ensures .1),
+      next-ready _ _ _ (l .l) _ _ _ (omega arith) (l .inv .5) _ _ _ q (l .inv .4),
+      next-rest _ _ _ (l .l) _ _ _ (omega arith) (l .inv .5) _ _ _ q,
+    )
 
 same-length : tie.Need-same-length Inv-loop μ-loop
 same-length c = search needs
@@ -44,8 +54,11 @@ same-length c = search needs
 same-length-2 : tie.Need-same-length-2 Inv-loop μ-loop
 same-length-2 c = search needs
 
+same-length-3 : tie.Need-same-length-3 Inv-loop μ-loop
+same-length-3 c = search needs
+
 returns : tie.Need-returns Inv-loop μ-loop
-returns c = let l = c .before .loop in splits-done _ (l .l) _ _ _ _ (omega arith) (l .inv .3)
+returns c = let l = c .before .loop in (splits-done _ (l .l) _ _ _ _ (omega arith) (l .inv .5), l .inv .3)
 
 pub split-run-spec : {M : Type 1} → statement M
 split-run-spec =
@@ -60,4 +73,5 @@ split-run-spec =
     loop-again
     same-length
     same-length-2
+    same-length-3
     returns)

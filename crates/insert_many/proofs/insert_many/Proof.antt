@@ -1,5 +1,5 @@
 -- `insert_many::insert_many` meets its contract.
-use mathlib.Core.Path.{_≡_, sym, _∙_}
+use mathlib.Core.Path.{sym, _∙_}
 use lib.ListN.{length}
 use Rattle.model.specs.Slots.{slot}
 use Rattle.model.specs.Batch.{insertionOf}

@@ -1,12 +1,11 @@
 -- `insert_many::take_next` meets its contract.
 use mathlib.Core.Path.{_≡_}
-use Prim.Native.Nat.{ℕ, _+_, _*_, _≤_}
+use Prim.Native.Nat.{_+_, _*_, _≤_}
 use native.Mathlib.Omega.{arith}
 use lib.ListN.{length}
 use mir.Syntax
 use mir.Val
-use Rattle.insert_many.specs.Going.{Fit}
-use Rattle.insert_many.proofs.Going.{Next, next-refused, next-done, orders-fit}
+use Rattle.insert_many.proofs.Going.{next-refused, next-done, orders-fit}
 use borrow.Author.Needs.{needs}
 use Rattle.insert_many.proofs.take_next.Statement.{statement}
 use Rattle.insert_many.proofs.take_next.Tie as tie
@@ -14,19 +13,19 @@ use Rattle.insert_many.proofs.take_next.Tie as tie
 -- ---- the places, and what is known at them
 
 abbrev entry : tie.After-take-one → tie.Start
-entry c = c .before .before .before .before .before .before .before .before
+entry c = c .before .before .before .before .before .before .before .before .before .before
 
 abbrev refused : tie.After-known-told → tie.After-take-one
-refused c = c .before .before .before .before .before .before .before
+refused c = c .before .before .before .before .before .before .before .before .before
 
 abbrev done : tie.After-known-told2 → tie.After-take-one
-done c = c .before .before .before .before .before .before .before
+done c = c .before .before .before .before .before .before .before .before .before
 
 -- the words that the pair's orders fill are in the list
 fits : (c : tie.After-known-told2) → let a = entry (done c) .args in let v = c .before .entered2 .given .0 in a .p .at + 2 * (v .0 + v .1 .0 + v .1 .1 .0) ≤ length (a .list .now)
 fits c = let j = done c in let i = entry j in let a = i .args in let e = i .pre in let q = j .take-one .ensures in
     orders-fit (a .collection) (a .dock) (a .pairs .now) (a .p) (a .list .now) (a .table .now) (e .0) (e .1 .0) (e .1 .1 .0)
-    (j .take-one .result) _ _ (q .0) (q .1 .0) (q .1 .1 .0) (q .1 .1 .1) _ _ _ _ (c .before .entered2 .given .1)
+    (j .take-one .result) _ _ (q .0) (q .1 .0) (q .1 .1 .0) (q .1 .1 .1 .0) _ _ _ _ (c .before .entered2 .given .1)
 
 -- and so are those before them
 filled : (c : tie.After-known-told2) → let p = entry (done c) .args .p in 2 * (p .stores + p .flushes + p .barriers) ≡ p .at
@@ -79,8 +78,8 @@ part-take-one-end : tie.Need-part-take-one-end
 part-take-one-end c = search needs
 
 take-one-requires : tie.Need-take-one-requires
-take-one-requires c κs = let e = c .before .before .before .before .before .before .before .pre in let f = e .0 in
-    (f .is-sound, (f .leftover-is, (f .reached-are, (f .collection, (f .dock-ok, e .1 .1 .1)))))
+take-one-requires c κs = let e = c .before .before .before .before .before .before .before .before .before .pre in let f = e .0 in
+    (f .is-sound, (f .leftover-is, (f .reached-are, (f .collection, (f .dock-ok, (e .1 .1 .1 .0, e .1 .1 .1 .1))))))
 
 enum-known-entered : tie.Need-enum-known-entered
 enum-known-entered c = search needs
@@ -88,29 +87,29 @@ enum-known-entered c = search needs
 enum-known-entered-2 : tie.Need-enum-known-entered-2
 enum-known-entered-2 c = search needs
 
-add-t31 : tie.Need-add-t31
-add-t31 c = search needs
+add-t34 : tie.Need-add-t34
+add-t34 c = search needs
 
-add-t32 : tie.Need-add-t32
-add-t32 c = let f = fits c in search needs
-
-add-t33 : tie.Need-add-t33
-add-t33 c = let f = fits c in search needs
-
-mul-t35 : tie.Need-mul-t35
-mul-t35 c = let f = fits c in search needs
+add-t35 : tie.Need-add-t35
+add-t35 c = let f = fits c in search needs
 
 add-t36 : tie.Need-add-t36
 add-t36 c = let f = fits c in search needs
 
-add-t37 : tie.Need-add-t37
-add-t37 c = let f = sums (c .before) .0 in search needs
-
-add-t38 : tie.Need-add-t38
-add-t38 c = flushes-fit (c .before .before)
+mul-t38 : tie.Need-mul-t38
+mul-t38 c = let f = fits c in search needs
 
 add-t39 : tie.Need-add-t39
-add-t39 c = barriers-fit (c .before .before .before)
+add-t39 c = let f = fits c in search needs
+
+add-t40 : tie.Need-add-t40
+add-t40 c = let f = sums (c .before) .0 in search needs
+
+add-t41 : tie.Need-add-t41
+add-t41 c = flushes-fit (c .before .before)
+
+add-t42 : tie.Need-add-t42
+add-t42 c = barriers-fit (c .before .before .before)
 
 same-length : tie.Need-same-length
 same-length c = search needs
@@ -118,23 +117,29 @@ same-length c = search needs
 same-length-2 : tie.Need-same-length-2
 same-length-2 c = search needs
 
+same-length-3 : tie.Need-same-length-3
+same-length-3 c = search needs
+
 returns : tie.Need-returns
 returns c = let j = refused c in let i = entry j in let a = i .args in let e = i .pre in let q = j .take-one .ensures in
     let n = next-refused (a .collection) (a .dock) (a .pairs .now) (a .p) (a .list .now) (a .table .now) (e .0) (e .1 .0) (e .1 .1 .0)
-    (j .take-one .result) _ _ (q .0) (q .1 .0) (q .1 .1 .0) (q .1 .1 .1) _ (c .before .entered .given .1) in
-    (n .same, (n .fits, n .gains))
-
-same-length-3 : tie.Need-same-length-3
-same-length-3 c = search needs
+    (j .take-one .result) _ _ (q .0) (q .1 .0) (q .1 .1 .0) (q .1 .1 .1 .0) _ (c .before .entered .given .1) in
+    (n .same, (n .fits, (n .gains, q .1 .1 .1 .1)))
 
 same-length-4 : tie.Need-same-length-4
 same-length-4 c = search needs
 
+same-length-5 : tie.Need-same-length-5
+same-length-5 c = search needs
+
+same-length-6 : tie.Need-same-length-6
+same-length-6 c = search needs
+
 returns-2 : tie.Need-returns-2
 returns-2 c = let u = c .before .before .before in let j = done u in let i = entry j in let a = i .args in let e = i .pre in let q = j .take-one .ensures in
     let n = next-done (a .collection) (a .dock) (a .pairs .now) (a .p) (a .list .now) (a .table .now) (e .0) (e .1 .0) (e .1 .1 .0)
-    (j .take-one .result) _ _ (q .0) (q .1 .0) (q .1 .1 .0) (q .1 .1 .1) _ _ _ _ (u .before .entered2 .given .1) in
-    (n .same, (n .fits, n .gains))
+    (j .take-one .result) _ _ (q .0) (q .1 .0) (q .1 .1 .0) (q .1 .1 .1 .0) _ _ _ _ (u .before .entered2 .given .1) in
+    (n .same, (n .fits, (n .gains, q .1 .1 .1 .1)))
 
 pub take-next-spec : {M : Type 1} → statement M
 take-next-spec =
@@ -154,17 +159,19 @@ take-next-spec =
     take-one-requires
     enum-known-entered
     enum-known-entered-2
-    add-t31
-    add-t32
-    add-t33
-    mul-t35
+    add-t34
+    add-t35
     add-t36
-    add-t37
-    add-t38
+    mul-t38
     add-t39
+    add-t40
+    add-t41
+    add-t42
     same-length
     same-length-2
-    returns
     same-length-3
+    returns
     same-length-4
+    same-length-5
+    same-length-6
     returns-2)

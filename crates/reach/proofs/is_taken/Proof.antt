@@ -3,7 +3,6 @@ use native.Mathlib.Omega.{arith}
 use Rattle.two_laws.proofs.SameTwo.{first-there, second-there}
 use Rattle.two_laws.proofs.CollectionTwo.{collection-sound}
 use Rattle.reach.proofs.Members.{sound-words, taken-first, taken-alone, taken-second}
-use borrow.Author.Needs.{needs}
 use Rattle.reach.proofs.is_taken.Statement.{statement}
 use Rattle.reach.proofs.is_taken.Tie as tie
 

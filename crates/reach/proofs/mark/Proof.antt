@@ -1,6 +1,5 @@
 -- `reach::mark` meets its contract.
 use native.Mathlib.Omega.{arith}
-use mathlib.Core.Path.{sym}
 use Rattle.reach.proofs.Marking.{put-taken}
 use borrow.Author.Needs.{needs}
 use Rattle.reach.proofs.mark.Statement.{statement}

@@ -1,5 +1,4 @@
 -- `reach::mark_all` meets its contract.
-use mathlib.Core.Path.{_∙_}
 use native.Mathlib.Omega.{arith}
 use Rattle.reach.proofs.Members.{sound-words}
 use borrow.Author.Needs.{needs}
@@ -25,7 +24,7 @@ mark-along-requires-2 : tie.Need-mark-along-requires-2
 mark-along-requires-2 c κs =
     let m = c .before .before .before in
     let s = m .before .before .before .before .before .before .before .before in
-    (s .pre .0, (m .mark-along .kept .1 .0 ∙ s .pre .1 .0, m .mark-along .ensures))
+    (s .pre .0, m .mark-along .ensures)
 
 same-length : tie.Need-same-length
 same-length c = search needs

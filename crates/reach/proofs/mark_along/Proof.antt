@@ -1,15 +1,13 @@
 -- `reach::mark_along` meets its contract. The loop keeps that what is marked is reached.
 use Rattle.reach.proofs.Members.{sound-words}
-use mathlib.Core.Path.{_≡_}
 use native.Mathlib.Omega.{arith}
-use lib.ListN.{length}
-use Rattle.reach.specs.Marks.{MARKS, AllTaken}
+use Rattle.reach.specs.Marks.{Marked}
 use borrow.Author.Needs.{needs}
 use Rattle.reach.proofs.mark_along.Statement.{statement}
 use Rattle.reach.proofs.mark_along.Tie as tie
 
 abbrev Inv-loop : tie.InvT-loop
-Inv-loop table marks₀ first n₀ left₀ marks n left = (length marks ≡ MARKS) × AllTaken table marks
+Inv-loop table marks₀ first n₀ left₀ marks n left = Marked table marks
 
 abbrev μ-loop : tie.MeasureT-loop
 μ-loop table marks₀ first n₀ left₀ marks n left = left

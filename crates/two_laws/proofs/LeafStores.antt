@@ -1,18 +1,19 @@
--- Stores to the slots of a leaf leave all nodes reached as they were.
-use mathlib.Core.Path.{_≡_, refl, sym, ap, _∙_}
-use mathlib.Core.Bool.{Bool, true, false}
+-- The leaf for a key. Stores to the slots of a leaf leave all nodes reached as they were.
+use mathlib.Core.Path.{_≡_, sym, ap, _∙_}
+use mathlib.Core.Bool.{Bool, not}
 use mathlib.Core.Logic.{_≢_, _⊎_, inl, inr}
 use mathlib.Core.List.{List, [], _∷_, _++_, map}
 use Prim.Native.Nat.{ℕ, _+_, _≤_, _<_}
 use native.Mathlib.Omega.{arith}
 use lib.ListN.{length}
-use Rattle.model.specs.Table.{Words, at, nodeStart, node}
-use Rattle.model.specs.Slots.{Slot, NodeView, View, nodeView, viewFrom, height}
+use Rattle.model.specs.Table.{Words, at, nodes, nodeStart, node}
+use Rattle.model.specs.Slots.{Slot, NodeView, View, nodeView, viewFrom, viewOf, height}
 use Rattle.model.specs.Search.{below}
-use Rattle.model.specs.Reached.{kept, firstChild, fillRow, children, reached, reachedAll}
+use Rattle.model.specs.Reached.{filter, kept, firstChild, fillRow, children, reached, reachedAll}
+use Rattle.model.specs.SoundTest.{elem}
 use Rattle.model.specs.Orders.{Store, apply}
 use Rattle.model.specs.Shifts.{SlotStore, inNode, shiftIn, placeOf}
-use Rattle.model.specs.Writes.{shiftInAt, setClassAt}
+use Rattle.model.specs.Writes.{shiftInAt, setClassAt, numbers, unreached, unreachable, standingIn, standing}
 use Rattle.list_laws.proofs.Tools.{Each, at-or-off, same-or-not}
 use Rattle.list_laws.proofs.Members.{mem-each}
 use Rattle.list_laws.proofs.Slots.{place-length}
@@ -22,9 +23,13 @@ use Rattle.word_laws.proofs.Stores.{doStore}
 use Rattle.word_laws.proofs.Outside.{Outside, outside-start, outside-store, outside-wider, Into}
 use Rattle.word_laws.proofs.Frames.{left-same, sibling-same, level-same, fence-same, view-else}
 use Rattle.word_laws.proofs.SlotRuns.{slot-into}
-use Rattle.tree_laws.proofs.Rows.{no-children, reached-agree}
+use Rattle.word_laws.proofs.ShiftViews.{shown-few}
+use Rattle.tree_laws.proofs.Rows.{no-children, reached-agree, range-iff}
+use Rattle.tree_laws.proofs.Levels.{Orderly}
+use Rattle.tree_laws.proofs.SearchLaw.{path-stands}
+use Rattle.change_laws.proofs.Parts.{good-parts}
 use Rattle.two_laws.proofs.Arrange.{all-one, all-two}
 use Rattle.two_laws.proofs.TwoLaw.{seen}
 
 -- ---- a view with other slots
 
@@ -127,17 +132,44 @@ slots-into x [] b = tt
 slots-into x (q ∷ qs) b = (slot-into x q (b .0), slots-into x qs (b .1))
 
 module _ (t : Words) (x : ℕ) (some : 1 ≤ x) (leaf : node t x .level ≡ 0) where
+  outside : (ss : List Store) → Each (Into (nodeStart x + 8) 24) ss → Outside (nodeStart x + 8) 24 t (apply ss t)
+  outside ss i = outside-apply (nodeStart x + 8) 24 t ss t i (outside-start (nodeStart x + 8) 24 t)
+
   into-reached : (ss : List Store) → Each (Into (nodeStart x + 8) 24) ss → reachedAll (apply ss t) ≡ reachedAll t
-  into-reached ss i = slots-reached t (apply ss t) x some leaf (outside-apply (nodeStart x + 8) 24 t ss t i (outside-start (nodeStart x + 8) 24 t))
+  into-reached ss i = slots-reached t (apply ss t) x some leaf (outside ss i)
 
   -- a pair shifted in, where there is room
-  pub in-reached : (k y : ℕ) → length (nodeView t x .shown) ≤ 10 → reachedAll (apply (shiftInAt t x k y) t) ≡ reachedAll t
-  unfolding shiftInAt
-  in-reached k y room =
-      let ss = nodeView t x .shown in
-      into-reached _ (slots-into x (shiftIn (nodeView t x .left) ss (placeOf k ss) k y) (shift-in-places (nodeView t x .left) ss (placeOf k ss) k y 12 (place-length k ss) (omega arith)))
+  module _ (k y : ℕ) (room : length (nodeView t x .shown) ≤ 10) where
+    in-slots : Each (Into (nodeStart x + 8) 24) (shiftInAt t x k y)
+    unfolding shiftInAt
+    in-slots =
+        let ss = nodeView t x .shown in
+        slots-into x (shiftIn (nodeView t x .left) ss (placeOf k ss) k y) (shift-in-places (nodeView t x .left) ss (placeOf k ss) k y 12 (place-length k ss) (omega arith))
+
+    pub in-reached : reachedAll (apply (shiftInAt t x k y) t) ≡ reachedAll t
+    in-reached = into-reached _ in-slots
+
+    pub in-unreachable : unreachable (apply (shiftInAt t x k y) t) ≡ unreachable t
+    unfolding unreachable unreached
+    in-unreachable =
+        ap (λ (l : List ℕ). filter (λ (m : ℕ). not (elem m l)) (numbers 1 (nodes (apply (shiftInAt t x k y) t)))) in-reached
+        ∙ ap (λ (N : ℕ). filter (λ (m : ℕ). not (elem m (reachedAll t))) (numbers 1 N)) (low t _ x some leaf (outside _ in-slots) 2 (omega arith))
 
   -- another class, where the key is
   pub class-reached : (k c : ℕ) → length (nodeView t x .shown) ≤ 11 → reachedAll (apply (setClassAt t x k c) t) ≡ reachedAll t
   unfolding setClassAt
   class-reached k c few = into-reached _ ((omega arith, omega (arith, place-length k (nodeView t x .shown))), tt)
+
+-- ---- the leaf for a key
+
+-- it is on level 0, and shows at most 11 slots
+pub record Leaf (t : Words) (x : ℕ) : Type 0 where
+  pub some : 1 ≤ x
+  pub level : node t x .level ≡ 0
+  pub few : length (nodeView t x .shown) ≤ 11
+
+pub leaf-for : (n : ℕ) (t : Words) (k : ℕ) → Orderly (viewOf n t) → Leaf t (standing n t 0 k)
+unfolding standingIn
+leaf-for n t k o =
+    let c = path-stands (viewOf n t) k 0 o (omega arith) .covers in
+    record { some = range-iff _ _ .0 (c .at .range) .0; level = c .at .level; few = shown-few t _ (good-parts (viewOf n t) _ (c .good) .0) }

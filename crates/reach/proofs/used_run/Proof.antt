@@ -1,0 +1,60 @@
+-- `reach::used_run` meets its contract.
+use mathlib.Core.Path.{sym, _∙_}
+use borrow.Author.Tests.{not-true, not-false}
+use Rattle.reach.proofs.Marking.{used-none, used-one, used-word}
+use borrow.Author.Needs.{needs}
+use Rattle.reach.proofs.used_run.Statement.{statement}
+use Rattle.reach.proofs.used_run.Tie as tie
+
+-- ---- the places
+
+abbrev asked : tie.Else1 → tie.After-is-used
+asked c = c .before .before .before
+
+-- ---- the answers
+
+is-used-requires : tie.Need-is-used-requires
+is-used-requires c κs = search needs
+
+same-length : tie.Need-same-length
+same-length c = search needs
+
+returns : tie.Need-returns
+returns c = let u = c .before .before .before .is-used .ensures in (used-none _ _ (sym (u .0) ∙ not-true _ (c .if1 .taken)), u .1)
+
+same-length-2 : tie.Need-same-length-2
+same-length-2 c = search needs
+
+returns-2 : tie.Need-returns-2
+returns-2 c = let e = c .before in let u = asked e .is-used .ensures in (used-one _ _ (sym (u .0) ∙ not-false _ (e .if1 .left)), u .1)
+
+full-requires : tie.Need-full-requires
+full-requires c κs = search needs
+
+same-length-3 : tie.Need-same-length-3
+same-length-3 c = search needs
+
+returns-3 : tie.Need-returns-3
+returns-3 c = let e = c .before .before .before .before in let u = asked e .is-used .ensures in (used-one _ _ (sym (u .0) ∙ not-false _ (e .if1 .left)), u .1)
+
+same-length-4 : tie.Need-same-length-4
+same-length-4 c = search needs
+
+returns-4 : tie.Need-returns-4
+returns-4 c = let f = c .before in let d = f .before .before in let u = asked (d .before) .is-used .ensures in
+    (used-word _ _ _ (u .1 .1) (d .if2 .left) (sym (f .full .ensures) ∙ not-false _ (c .if3 .left)), u .1)
+
+pub used-run-spec : {M : Type 1} → statement M
+used-run-spec =
+    tie.close
+    (tie.spec
+    is-used-requires
+    same-length
+    returns
+    same-length-2
+    returns-2
+    full-requires
+    same-length-3
+    returns-3
+    same-length-4
+    returns-4)
