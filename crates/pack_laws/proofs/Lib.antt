@@ -2,6 +2,7 @@
 pub mod Stacks
 pub mod Standing
 pub mod Groups
+pub mod Fences
 pub mod Counts
 pub mod Enough
 pub mod Packed
