@@ -242,6 +242,7 @@ int load(struct table *t, const char *name, const struct load_options *options)
     struct loading l = {.table = t, .options = options};
     if (!rows_open(&l.rows, name))
         return fail(BAD_FILE, "%s cannot be opened: %s", name, strerror(errno));
+    l.rows.ended = &signalled;
     watch_signal(SIGINT);
     watch_signal(SIGTERM);
     progress_begin(&l.progress, l.rows.name, rows_count(&l.rows));

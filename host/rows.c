@@ -35,6 +35,12 @@ void rows_close(struct rows *r)
         close(r->file);
 }
 
+/* A signal has come. The reading of a line that has no end would not notice it: its bytes are always there. */
+static bool is_ended(const struct rows *r)
+{
+    return r->ended && *r->ended != 0;
+}
+
 uint64_t rows_count(const struct rows *r)
 {
     struct stat about;
@@ -44,17 +50,21 @@ uint64_t rows_count(const struct rows *r)
     char part[65536];
     uint64_t lines = 0;
     bool open_line = false;
-    for (ssize_t got; (got = read(r->file, part, sizeof part)) > 0; open_line = part[got - 1] != '\n')
+    for (ssize_t got; !is_ended(r) && (got = read(r->file, part, sizeof part)) > 0; open_line = part[got - 1] != '\n')
         for (const char *at = part; (at = memchr(at, '\n', (size_t)(part + got - at))); at++)
             lines++;
     return lseek(r->file, start, SEEK_SET) == start ? lines + open_line : 0;
 }
 
-/* More of the file behind what is there of it; false at its end, or where it cannot be read. */
+/* More of the file behind what is there of it; false at its end, or where it cannot be read, or is to be read no further. */
 static bool read_more(struct rows *r)
 {
     if (r->file < 0)
         return false;
+    if (is_ended(r)) {
+        r->failed = EINTR;
+        return false;
+    }
     memmove(r->part, r->part + r->at, r->end - r->at);
     r->end -= r->at;
     r->at = 0;

@@ -2,6 +2,7 @@
 #ifndef ROWS_H
 #define ROWS_H
 
+#include <signal.h>
 #include <stdbool.h>
 #include <stddef.h>
 #include <stdint.h>
@@ -13,6 +14,7 @@ struct rows {
     const char *name; /* as messages say it */
     int file;
     int failed;      /* errno of a reading that failed, else 0 */
+    const volatile sig_atomic_t *ended; /* where there is one: reading ends, in the midst of a line too, once it is not 0 */
     uint64_t number; /* of the last line read, from 1 */
     bool begun;      /* a line that is not empty was read: the next one is no header */
     /* The last line, without its end; one that is too long lacks the rest. */

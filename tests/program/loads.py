@@ -242,6 +242,36 @@ def ended_by_a_signal(program, folder):
     assert run.returncode == 0 and out == f"{code(2)},2,open\n2 added, 0 there already\n", (run.returncode, out)
 
 
+def catches(pid, number):
+    """Whether a program has said what it does at this signal."""
+    with open(f"/proc/{pid}/status") as f:
+        caught = next(line for line in f if line.startswith("SigCgt:"))
+    return int(caught.split()[1], 16) >> (number - 1) & 1
+
+
+def a_line_without_an_end(program, folder):
+    """The first signal ends the reading of a line that has none, and of a file whose lines are counted first; half a line is none."""
+    t, csv = f"{folder}/t", f"{folder}/csv"
+    with open(csv, "w") as f:
+        f.truncate(1 << 42)
+    for lines, there in itertools.product(("/dev/zero", csv), ([], [(code(0), 9999)])):
+        for number in (signal.SIGINT, signal.SIGTERM):
+            fill(program, t, 40, there)
+            run = program.start("load", t, lines, stdout=subprocess.PIPE, stderr=subprocess.PIPE)
+            while not catches(run.pid, number):
+                time.sleep(0.01)
+            time.sleep(0.2)
+            run.send_signal(number)
+            try:
+                out, err = run.communicate(timeout=20)
+            finally:
+                run.kill()
+            assert (run.returncode, out) == (128 + number, "0 added, 0 there already\n"), (lines, run.returncode, out, err)
+            assert err == f"catalogue: {lines}: ended by a signal after line 0; what came before is kept\n", err
+            assert listed(program.done("list", t)) == there
+            os.remove(t)
+
+
 def what_list_prints_loads_back(program, folder):
     """Sorted input, keys without a code and all, at the advised four codes a node; also the other way round."""
     t, u, csv = f"{folder}/t", f"{folder}/u", f"{folder}/csv"
@@ -299,4 +329,4 @@ def copies_of_all_sorts(program, folder):
 
 
 TESTS = [bad_lines, many_bad_lines, lines_as_people_write_them, lines_from_standard_input, acknowledging, passing_over_what_is_there,
-         progress_on_a_terminal, ended_by_a_signal, what_list_prints_loads_back, larger_copies, copies_of_all_sorts]
+         progress_on_a_terminal, ended_by_a_signal, a_line_without_an_end, what_list_prints_loads_back, larger_copies, copies_of_all_sorts]
