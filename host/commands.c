@@ -239,6 +239,7 @@ static int command_class(struct command_line *l)
 
 static int command_repair(struct command_line *l)
 {
+    l->table.rewrite = true;
     return change_table(l, REPAIR);
 }
 

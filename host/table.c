@@ -253,22 +253,47 @@ static int test_collection(const struct table *t)
     return number == CATALOGUE_NO_COLLECTION ? refuse(number, t, 0, 0) : 0;
 }
 
-/* Waits until the disk has the mapped words. */
-static int sync_words(struct table *t)
+/*
+ * After a wait for the disk that failed the system takes the pages that it could not write for written, and no later wait comes back to
+ * them. It does not say which: the error may be that of a page which it wrote by itself before. So every page is stored to again, with what
+ * it has: whoever waits next waits for them all. Keeps errno.
+ */
+static void store_again(struct table *t)
 {
-    if (msync(t->mapped, t->words * sizeof(uint64_t), MS_SYNC) != 0)
-        return fail(BAD_FILE, "%s did not reach the disk: %s", t->name, strerror(errno));
-    t->unsettled = false;
-    return 0;
+    int why = errno;
+    size_t page = (size_t)sysconf(_SC_PAGESIZE) / sizeof(uint64_t);
+    for (size_t at = 0; at < t->words; at += page) {
+        volatile uint64_t *word = t->mapped + at;
+        *word = *word;
+    }
+    errno = why;
+}
+
+/* Waits until the disk has the mapped words. */
+static bool sync_words(struct table *t)
+{
+    int status;
+    do
+        status = msync(t->mapped, t->words * sizeof(uint64_t), MS_SYNC);
+    while (status != 0 && errno == EINTR);
+    if (status == 0)
+        t->unsettled = false;
+    else
+        store_again(t);
+    return status == 0;
 }
 
 /*
  * A program that was killed may have left stores on the way to the disk. They come before any of ours: a flush waits for its own line
- * alone.
+ * alone. One that was killed while it waited for a disk that failed could not store again.
  */
-static int begin_writing(struct table *t)
+static int begin_writing(struct table *t, bool rewrite)
 {
-    return t->writing ? sync_words(t) : 0;
+    if (t->writing && rewrite)
+        store_again(t);
+    if (!t->writing || sync_words(t))
+        return 0;
+    return fail(BAD_FILE, "%s: what was changed before did not reach the disk: %s; nothing was changed now", t->name, strerror(errno));
 }
 
 int table_open(struct table *t, const char *name, bool writing, const struct table_options *options)
@@ -286,7 +311,7 @@ int table_open(struct table *t, const char *name, bool writing, const struct tab
     if (status == 0)
         status = test_collection(t);
     if (status == 0)
-        status = begin_writing(t);
+        status = begin_writing(t, options->rewrite);
     return status;
 }
 
@@ -370,8 +395,11 @@ int table_carry_out(struct table *t, const uint64_t *orders, uint64_t count)
     /* A list that ends with a flush of its page leaves nothing on the way. */
     if (count > 0 && (t->carrying.flush != flush_by_page() || orders[2 * (count - 1)] != CATALOGUE_MARK))
         t->unsettled = true;
-    if (!carry_out(t->mapped, orders, count, &t->carrying))
-        return fail(BAD_FILE, "%s did not reach the disk: %s; the change was cut off", t->name, strerror(errno));
+    if (!carry_out(t->mapped, orders, count, &t->carrying)) {
+        store_again(t);
+        return fail(BAD_FILE, "%s did not reach the disk: %s; the change was cut off, and repair finishes it once the disk works", t->name,
+                    strerror(errno));
+    }
     /* Our own stores move the file's times. */
     fstat(t->file, &t->left);
     return 0;
@@ -418,7 +446,9 @@ int table_replace(struct table *t, bool *done)
 
 int table_settle(struct table *t)
 {
-    return t->unsettled ? sync_words(t) : 0;
+    if (!t->unsettled || sync_words(t))
+        return 0;
+    return fail(BAD_FILE, "%s is changed, but did not reach the disk: %s; repair waits for the disk once more", t->name, strerror(errno));
 }
 
 int table_compare(struct table *t)

@@ -19,6 +19,7 @@
 struct table_options {
     uint64_t wait; /* seconds for programs that have the file locked */
     bool fast;     /* on an ordinary disk: waits for the disk once, at the end, and not at each flush */
+    bool rewrite;  /* every page is written to the disk first, also one that the system takes for written */
     uint64_t collection; /* that the command reads or changes */
     uint64_t dock;       /* that the order lists are for */
     struct carrying carrying;

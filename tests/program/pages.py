@@ -17,9 +17,11 @@ SYNCS = os.environ.get("SYNCS_LIBRARY", "")
 
 def preloaded(program, folder, *words, **environment):
     """Runs a command with its syncs written down: the exit status, what it printed, and its messages."""
-    printed = f"{folder}/printed"
+    printed, log = f"{folder}/printed", f"{folder}/syncs"
+    if os.path.exists(log):
+        os.remove(log)
     with open(printed, "w") as out:
-        environment = dict(program.environment, SYNCS=f"{folder}/syncs", LD_PRELOAD=SYNCS, **environment)
+        environment = dict(program.environment, SYNCS=log, LD_PRELOAD=SYNCS, **environment)
         run = subprocess.Popen(program.command + [str(w) for w in words], env=environment, stdout=out, stderr=subprocess.PIPE, text=True)
         err = run.communicate(timeout=120)[1]
     return run.returncode, contents(printed).decode(), err
@@ -263,21 +265,94 @@ def what_a_killed_program_left(program, folder):
         assert call[:2] == ["msync", "0"] and int(call[2]) >= len(before) and image == before, call
 
 
-def a_disk_that_fails(program, folder):
-    """A sync that fails ends the change where it is, with a message and no answer; the table is sound, and the next change goes on."""
-    t, u = f"{folder}/t", f"{folder}/u"
+class FailingDisk:
+    """A table and what the disk has of it: a write that fails leaves the page old there, and clean in the system's memory."""
+
+    def __init__(self, program, folder, t, before):
+        self.program, self.folder, self.t, self.before = program, folder, t, before
+        self.u, self.disk = f"{folder}/u", f"{folder}/disk"
+
+    def anew(self):
+        for path in (self.u, self.disk):
+            shutil.copy(self.t, path)
+        if os.path.exists(self.disk + ".dirty"):
+            os.remove(self.disk + ".dirty")
+
+    def run(self, *words, **environment):
+        return preloaded(self.program, self.folder, words[0], self.u, *words[1:], SYNCS_DISK=self.disk, **environment)
+
+    def syncs(self, *words):
+        """How many msyncs a change makes."""
+        self.anew()
+        return len([s for s in recorded(self.program, self.folder, words[0], self.u, *words[1:])[0] if s[0][0] == "msync"])
+
+    def answers(self, *words):
+        """A change that is answered: the disk has it all, whatever failed before."""
+        status, out, err = self.run(*words)
+        assert status == 0, (words, status, out, err)
+        assert contents(self.disk) == contents(self.u), f"{words} was answered, and the disk has other words"
+        assert "settled" in self.program.done("check", self.disk)
+
+
+CHANGES = [["add", code(8), 9000], ["remove", code(31)], ["class", code(61), "room"], ["add", code(8), 9000, *docked(1)], ["add", code(8), 9000, "--fast"]]
+
+
+def a_write_error_that_passes(program, folder):
+    """A write that fails ends the change where it is, with a message and no answer; what a cut leaves then is sound, with the map before or
+    after. The page that was not written is not taken for written: once a further change is answered the disk has every word."""
+    t, tried = f"{folder}/t", 0
     before = full_leaves(program, t, 30, 200)
-    after = dict(before, **{code(8): (9000, "open")})
-    shutil.copy(t, u)
-    syncs = len(recorded(program, folder, "add", u, code(8), 9000)[0])
-    for failing in range(1, syncs + 1):
-        shutil.copy(t, u)
-        status, out, err = preloaded(program, folder, "add", u, code(8), 9000, SYNCS_FAIL=str(failing))
-        assert status == BAD_FILE and out == "" and "did not reach the disk: Input/output error" in err, (failing, status, out, err)
-        assert contents(u) == contents(t) if failing == 1 else everything(program.done("list", u)) in (before, after)
-        program.done("repair", u)
-        assert "settled" in program.done("check", u)
-    return f"{syncs} syncs"
+    d = FailingDisk(program, folder, t, before)
+    for words in CHANGES:
+        syncs = d.syncs(*words)
+        after = everything(program.done("list", d.u))
+        for failing in range(1, syncs + 1):
+            for more in ({}, {"SYNCS_FAIL_ALL": "1"}):
+                d.anew()
+                status, out, err = d.run(*words, SYNCS_FAIL=str(failing), **more)
+                assert status == BAD_FILE and out == "" and "did not reach the disk: Input/output error" in err, (failing, status, out, err)
+                assert contents(d.u) == contents(t) if failing == 1 else everything(program.done("list", d.u)) in (before, after)
+                assert everything(program.done("list", d.disk)) in (before, after)
+                for next in (["remove", code(870)], ["add", code(400), 9400], ["class", code(0), "closed"]):
+                    d.answers(*next)
+                tried += 1
+    return f"{tried} syncs"
+
+
+def a_write_error_of_the_sync_before(program, folder):
+    """What a killed program has left is waited for first; the error of that wait is not the last word on its pages."""
+    t = f"{folder}/t"
+    before = full_leaves(program, t, 30, 200)
+    d = FailingDisk(program, folder, t, before)
+    d.anew()
+    # Several pages are on their way: the program is killed in its one wait, before any is written.
+    status, _, _ = d.run("add", code(8), 9000, "--fast", SYNCS_FAIL="2", SYNCS_DIE="1")
+    assert status == -9, status
+    with open(d.disk + ".dirty", "r+b") as f:
+        f.write(bytes([1] * os.path.getsize(d.disk + ".dirty")))
+    assert contents(d.u) != contents(d.disk)
+    status, out, err = d.run("add", code(400), 9400, SYNCS_FAIL="1")
+    assert status == BAD_FILE and out == "" and "did not reach the disk: Input/output error; nothing was changed now" in err, (status, out, err)
+    d.answers("add", code(400), 9400)
+
+
+def killed_before_it_knew(program, folder):
+    """A program that is killed in the wait that fails cannot store to the page again. The disk has a table as a cut leaves it, and repair
+    writes every page."""
+    t = f"{folder}/t"
+    before = full_leaves(program, t, 30, 200)
+    d = FailingDisk(program, folder, t, before)
+    words = ["add", code(8), 9000]
+    syncs = d.syncs(*words)
+    after = everything(program.done("list", d.u))
+    for failing in range(2, syncs + 1):
+        d.anew()
+        status, out, _ = d.run(*words, SYNCS_FAIL=str(failing), SYNCS_DIE="1")
+        assert (status, out) == (-9, ""), (status, out)
+        assert everything(program.done("list", d.disk)) in (before, after)
+        d.answers("repair")
+        d.answers("remove", code(870))
+    return f"{syncs - 1} syncs"
 
 
 def a_new_table_is_there_whole(program, folder):
@@ -292,8 +367,9 @@ def a_new_table_is_there_whole(program, folder):
     assert contents(f"{t}3") == contents(t)
     assert preloaded(program, folder, "make", t, 9, SYNCS_NO_RENAME="1")[0] == BAD_FILE
     assert preloaded(program, folder, "salvage", f"{t}2", t, SYNCS_NO_RENAME="1")[0] == BAD_FILE
-    assert sorted(os.listdir(folder)) == ["printed", "syncs", "t", "t2", "t3", "t4"]
+    assert sorted(set(os.listdir(folder)) - {"printed", "syncs"}) == ["t", "t2", "t3", "t4"]
 
 
 TESTS = [any_mix_of_pages, mixes_on_the_unordered_dock, changes_of_two_collections, leaves_that_come_back, mixes_with_fast,
-         a_load_and_its_acknowledgements, a_load_by_new_files, what_a_killed_program_left, a_disk_that_fails, a_new_table_is_there_whole]
+         a_load_and_its_acknowledgements, a_load_by_new_files, what_a_killed_program_left, a_write_error_that_passes,
+         a_write_error_of_the_sync_before, killed_before_it_knew, a_new_table_is_there_whole]

@@ -1,13 +1,21 @@
 /*
  * Loaded before the program's libraries: writes down, into the file that SYNCS names, each call by which the program waits for the disk or
  * gives a file its name, in order and before it is done, with how much the program has printed to standard output, a file. At an msync also
- * what the mapped file holds at that moment, where a file takes another one's place what it holds. With SYNCS_FAIL the msync of that number fails, as on a disk that does; with
- * SYNCS_NO_RENAME there is no rename that keeps a file that is there, as on some file systems.
+ * what the mapped file holds at that moment, where a file takes another one's place what it holds. With SYNCS_NO_RENAME there is no rename
+ * that keeps a file that is there, as on some file systems.
+ *
+ * With SYNCS_FAIL the msync of that number fails, as on a disk that does; with SYNCS_DIE the program is killed before it learns that. The
+ * file that SYNCS_DISK names is what the disk has of the mapped file, and the file of that name with .dirty a byte for each page, 1 where the
+ * program has stored to it and the system has not written it since; both outlive the program, as the system's memory does. An msync writes
+ * the dirty pages that it is for, and then they are clean; one that fails writes none of them, and they are clean all the same. With
+ * SYNCS_FAIL_ALL it is every dirty page of the file that was not written: the system had tried to by itself, and tells the next who waits.
  */
 #include <errno.h>
 #include <fcntl.h>
 #include <limits.h>
+#include <signal.h>
 #include <stdarg.h>
+#include <stdbool.h>
 #include <stdio.h>
 #include <stdlib.h>
 #include <string.h>
@@ -18,6 +26,80 @@
 
 static char *mapped;
 static size_t mapped_bytes;
+
+/* ---- the pages that the system has not written */
+
+static size_t page;
+static unsigned char *dirty; /* one for each page; null where there is no such disk */
+
+static size_t pages(void)
+{
+    return (mapped_bytes + page - 1) / page;
+}
+
+static void protect(size_t which, int access)
+{
+    if (mprotect(mapped + which * page, page, access) != 0)
+        abort();
+}
+
+/* The first store to a page that is clean. */
+static void on_store(int number, siginfo_t *about, void *context)
+{
+    (void)number;
+    (void)context;
+    size_t at = (size_t)((char *)about->si_addr - mapped);
+    if (!mapped || at >= pages() * page)
+        abort();
+    dirty[at / page] = 1;
+    protect(at / page, PROT_READ | PROT_WRITE);
+}
+
+static void watch_stores(void)
+{
+    char name[PATH_MAX];
+    struct sigaction action = {.sa_sigaction = on_store, .sa_flags = SA_SIGINFO | SA_NODEFER};
+    if (!getenv("SYNCS_DISK"))
+        return;
+    page = (size_t)sysconf(_SC_PAGESIZE);
+    snprintf(name, sizeof name, "%s.dirty", getenv("SYNCS_DISK"));
+    int file = open(name, O_RDWR | O_CREAT, 0666);
+    if (file < 0 || ftruncate(file, (off_t)pages()) != 0 || sigaction(SIGSEGV, &action, NULL) != 0)
+        abort();
+    dirty = (void *)syscall(SYS_mmap, NULL, pages(), PROT_READ | PROT_WRITE, MAP_SHARED, file, 0);
+    if (dirty == MAP_FAILED)
+        abort();
+    close(file);
+    for (size_t i = 0; i < pages(); i++)
+        protect(i, PROT_READ);
+}
+
+static void write_page(int disk, size_t which)
+{
+    size_t from = which * page, bytes = mapped_bytes - from < page ? mapped_bytes - from : page;
+    if (pwrite(disk, mapped + from, bytes, (off_t)from) != (ssize_t)bytes)
+        abort();
+}
+
+/* The dirty pages of a part are clean from now on, written or not. */
+static void clean(size_t from, size_t bytes, int written)
+{
+    if (!dirty)
+        return;
+    int disk = open(getenv("SYNCS_DISK"), O_RDWR);
+    if (disk < 0)
+        abort();
+    for (size_t i = from / page; i < pages() && i * page < from + bytes; i++) {
+        if (dirty[i] && written)
+            write_page(disk, i);
+        if (dirty[i])
+            protect(i, PROT_READ);
+        dirty[i] = 0;
+    }
+    close(disk);
+}
+
+/* ---- what is written down */
 
 static int record(void)
 {
@@ -30,6 +112,7 @@ void *mmap(void *address, size_t bytes, int access, int flags, int file, off_t o
     if (at != MAP_FAILED && (flags & MAP_SHARED) && (access & PROT_WRITE)) {
         mapped = at;
         mapped_bytes = bytes;
+        watch_stores();
     }
     return at;
 }
@@ -60,7 +143,11 @@ int msync(void *address, size_t bytes, int flags)
     close(file);
     static int count;
     const char *failing = getenv("SYNCS_FAIL");
-    if (failing && ++count == atoi(failing)) {
+    bool fails = failing && ++count == atoi(failing), all = fails && getenv("SYNCS_FAIL_ALL");
+    clean(all ? 0 : (size_t)((char *)address - mapped), all ? mapped_bytes : bytes, !fails);
+    if (fails && getenv("SYNCS_DIE"))
+        raise(SIGKILL);
+    if (fails) {
         errno = EIO;
         return -1;
     }
