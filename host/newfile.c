@@ -1,6 +1,7 @@
 /* A new file that is there whole or not at all: written under another name, synced, renamed, and the folder synced. */
 #include "newfile.h"
 
+#include <dirent.h>
 #include <errno.h>
 #include <fcntl.h>
 #include <libgen.h>
@@ -37,32 +38,106 @@ static bool rename_new(const char *from, const char *to)
     return errno == EINVAL && link(from, to) == 0 && unlink(from) == 0;
 }
 
-/* The file's name is on the disk only with its folder. */
-static bool sync_folder(const char *name)
+static int open_folder(const char *name)
 {
     char path[PATH_MAX];
     snprintf(path, sizeof path, "%s", name);
-    int folder = open(dirname(path), O_RDONLY | O_DIRECTORY | O_CLOEXEC);
+    return open(dirname(path), O_RDONLY | O_DIRECTORY | O_CLOEXEC);
+}
+
+/* The file's name is on the disk only with its folder; where this user may not read that, with the whole file system. */
+static bool sync_folder(const char *name, int file)
+{
+    int folder = open_folder(name);
     if (folder < 0)
-        return false;
+        return syncfs(file) == 0;
     /* EINVAL: a file system that has nothing to sync of a folder. */
     bool synced = fsync(folder) == 0 || errno == EINVAL;
+    int why = errno;
     close(folder);
+    errno = why;
     return synced;
+}
+
+/* ---- under another name meanwhile */
+
+#define MEANWHILE ".new"
+
+/* What follows a name, a point, is a process's number and this ending. */
+static bool is_meanwhile(const char *rest)
+{
+    size_t digits = strspn(rest, "0123456789");
+    return digits > 0 && strcmp(rest + digits, MEANWHILE) == 0;
 }
 
 /* The other name under which a file is written. */
 static bool name_meanwhile(const char *name, char made[PATH_MAX])
 {
-    int length = snprintf(made, PATH_MAX, "%s.%ld.new", name, (long)getpid());
+    int length = snprintf(made, PATH_MAX, "%s.%ld" MEANWHILE, name, (long)getpid());
     bool fits = length >= 0 && length < PATH_MAX;
     if (!fits)
         errno = ENAMETOOLONG;
     return fits;
 }
 
+/* A file that no living program has locked: its maker was killed, or the power went. */
+static void remove_dead(int folder, const char *entry)
+{
+    struct stat opened, named;
+    int file = openat(folder, entry, O_RDONLY | O_NOFOLLOW | O_NONBLOCK | O_CLOEXEC);
+    if (file < 0)
+        return;
+    bool same = flock(file, LOCK_EX | LOCK_NB) == 0 && fstat(file, &opened) == 0 && S_ISREG(opened.st_mode)
+                && fstatat(folder, entry, &named, AT_SYMLINK_NOFOLLOW) == 0 && opened.st_dev == named.st_dev && opened.st_ino == named.st_ino;
+    if (same)
+        unlinkat(folder, entry, 0);
+    close(file);
+}
+
+/* The files that dead programs have left for this name. */
+static void remove_all_dead(const char *name)
+{
+    char path[PATH_MAX];
+    snprintf(path, sizeof path, "%s", name);
+    const char *last = basename(path);
+    size_t length = strlen(last);
+    int folder = open_folder(name);
+    DIR *all = folder < 0 ? NULL : fdopendir(folder);
+    for (const struct dirent *e; all && (e = readdir(all));)
+        if (strncmp(e->d_name, last, length) == 0 && e->d_name[length] == '.' && is_meanwhile(e->d_name + length + 1))
+            remove_dead(folder, e->d_name);
+    if (all)
+        closedir(all);
+    else if (folder >= 0)
+        close(folder);
+}
+
+/*
+ * A new file, open and locked, so that nobody takes it for one of a dead program; it begins again if somebody did before it had the lock.
+ * -1, with errno.
+ */
+static int open_meanwhile(const char *made, mode_t rights)
+{
+    for (;;) {
+        struct stat about;
+        int file = open(made, O_RDWR | O_CREAT | O_EXCL | O_CLOEXEC, rights);
+        if (file < 0)
+            return -1;
+        bool locked = flock(file, LOCK_EX) == 0 && fstat(file, &about) == 0;
+        if (locked && about.st_nlink > 0)
+            return file;
+        int why = errno;
+        close(file);
+        if (!locked) {
+            unlink(made);
+            errno = why;
+            return -1;
+        }
+    }
+}
+
 /* The file under its own name, or a message and no file. */
-static int finish(const char *made, const char *name)
+static int finish(const char *made, const char *name, int file)
 {
     if (!rename_new(made, name)) {
         int status = errno == EEXIST ? fail(BAD_FILE, "%s exists already and stays as it is", name)
@@ -70,7 +145,18 @@ static int finish(const char *made, const char *name)
         unlink(made);
         return status;
     }
-    return sync_folder(name) ? 0 : fail(BAD_FILE, "%s is made, but its folder cannot be synced: %s", name, strerror(errno));
+    if (sync_folder(name, file))
+        return 0;
+    return fail(BAD_FILE, "%s is made, but its folder did not reach the disk: %s; a power cut may take it away", name, strerror(errno));
+}
+
+/* A name that is kept for files which are being made: one of a table would be taken for what a dead program left. */
+static bool kept_name(const char *name)
+{
+    const char *end = strrchr(name, '.'), *rest = end;
+    while (rest && rest > name && rest[-1] >= '0' && rest[-1] <= '9')
+        rest--;
+    return rest && rest > name && rest[-1] == '.' && is_meanwhile(rest);
 }
 
 int new_file(const char *name, const uint64_t *words, size_t count)
@@ -81,16 +167,21 @@ int new_file(const char *name, const uint64_t *words, size_t count)
     /* Told before the work; the rename tests it again. */
     if (faccessat(AT_FDCWD, name, F_OK, AT_SYMLINK_NOFOLLOW) == 0)
         return fail(BAD_FILE, "%s exists already and stays as it is", name);
-    int file = open(made, O_WRONLY | O_CREAT | O_EXCL | O_CLOEXEC, 0666);
+    if (kept_name(name))
+        return fail(BAD_FILE, "%s cannot be made: names that end in .NUMBER.new are for files that are being made", name);
+    remove_all_dead(name);
+    int file = open_meanwhile(made, 0666);
     if (file < 0)
         return fail(BAD_FILE, "%s cannot be made: %s", name, strerror(errno));
-    bool written = write_words(file, words, count) && fsync(file) == 0;
-    int why = errno;
+    int status;
+    if (write_words(file, words, count) && fsync(file) == 0) {
+        status = finish(made, name, file);
+    } else {
+        status = fail(BAD_FILE, "%s cannot be written: %s", name, strerror(errno));
+        unlink(made);
+    }
     close(file);
-    if (written)
-        return finish(made, name);
-    unlink(made);
-    return fail(BAD_FILE, "%s cannot be written: %s", name, strerror(why));
+    return status;
 }
 
 /* ---- in the place of a file */
@@ -128,14 +219,12 @@ int replace_file(const char *name, const struct stat *old, const uint64_t *words
     char place[PATH_MAX], made[PATH_MAX];
     if (!place_of(name, place) || !name_meanwhile(place, made))
         return -1;
-    /* Who has the table locked has this name too; a killed program that had the same number may have left a file. */
-    unlink(made);
-    int file = open(made, O_RDWR | O_CREAT | O_EXCL | O_CLOEXEC, 0600);
+    remove_all_dead(place);
+    /* Whoever opens it by the table's name finds it locked. */
+    int file = open_meanwhile(made, 0600);
     if (file < 0)
         return -1;
-    /* Whoever opens it by the table's name finds it locked. */
-    if (same_rights(file, old) && flock(file, LOCK_EX | LOCK_NB) == 0 && write_words(file, words, count) && fsync(file) == 0
-        && rename(made, place) == 0)
+    if (same_rights(file, old) && write_words(file, words, count) && fsync(file) == 0 && rename(made, place) == 0)
         return file;
     int why = errno;
     unlink(made);
@@ -144,8 +233,8 @@ int replace_file(const char *name, const struct stat *old, const uint64_t *words
     return -1;
 }
 
-bool replaced(const char *name)
+bool name_lasts(const char *name, int file)
 {
     char place[PATH_MAX];
-    return place_of(name, place) && sync_folder(place);
+    return place_of(name, place) ? sync_folder(place, file) : syncfs(file) == 0;
 }

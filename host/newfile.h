@@ -7,6 +7,11 @@
 #include <stdint.h>
 #include <sys/stat.h>
 
+/*
+ * A new file is written under another name, NAME.NUMBER.new with the process's number, and locked as long as the program lives. Who makes
+ * one for a name first removes those that dead programs have left for it: they have nothing that was acknowledged.
+ */
+
 /* A file of that name with these words, on the disk; a file that is there already stays. 0, or an exit status after saying why. */
 int new_file(const char *name, const uint64_t *words, size_t count);
 
@@ -18,9 +23,11 @@ bool replaceable(const char *name, const struct stat *old);
 
 /*
  * A file with these words in the place of this one, with its owner and rights, open and locked as a writer does: a cut leaves the old file
- * or the new one, whole. -1, with errno, where the old one is still there. Only once `replaced` is true does the new one last.
+ * or the new one, whole. -1, with errno, where the old one is still there. The new one lasts only once its name does.
  */
 int replace_file(const char *name, const struct stat *old, const uint64_t *words, size_t count);
-bool replaced(const char *name);
+
+/* Waits until the disk has the name of this open file. False with errno. */
+bool name_lasts(const char *name, int file);
 
 #endif

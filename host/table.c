@@ -285,13 +285,18 @@ static bool sync_words(struct table *t)
 
 /*
  * A program that was killed may have left stores on the way to the disk. They come before any of ours: a flush waits for its own line
- * alone. One that was killed while it waited for a disk that failed could not store again.
+ * alone. One that was killed while it waited for a disk that failed could not store again. And one that put a new file in the table's place
+ * may have been killed before the disk had its name: a cut would bring the old file back, without what we answer.
  */
 static int begin_writing(struct table *t, bool rewrite)
 {
-    if (t->writing && rewrite)
+    if (!t->writing)
+        return 0;
+    if (!name_lasts(t->name, t->file))
+        return fail(BAD_FILE, "%s: its folder did not reach the disk: %s; nothing was changed", t->name, strerror(errno));
+    if (rewrite)
         store_again(t);
-    if (!t->writing || sync_words(t))
+    if (sync_words(t))
         return 0;
     return fail(BAD_FILE, "%s: what was changed before did not reach the disk: %s; nothing was changed now", t->name, strerror(errno));
 }
@@ -425,7 +430,7 @@ static int take_over(struct table *t, int file)
     t->file = file;
     memcpy(t->expected, t->working, t->words * sizeof *t->working);
     fstat(t->file, &t->left);
-    if (!replaced(t->name))
+    if (!name_lasts(t->name, t->file))
         return fail(BAD_FILE, "%s is changed, but its folder cannot be synced: %s", t->name, strerror(errno));
     t->unsettled = false;
     return map_words(t, &persistent);

@@ -214,6 +214,7 @@ def a_load_and_its_acknowledgements(program, folder):
             f.write(whole)
         judge, disk, chance = Judge(program, folder), Disk(whole), random.Random(5)
         syncs, printed = recorded(program, folder, "load", t, csv, "--each", *slow)
+        assert syncs.pop(0)[0][:2] == ["fsync", folder]
         for call, image in syncs:
             assert call[0] == "msync", call
             done = printed[:int(call[3])].count("\n")
@@ -239,9 +240,9 @@ def a_load_by_new_files(program, folder):
     program.done("make", f"{folder}/empty", 200)
     replaced = 0
     for table, before, batches in ((t, have, 30), (f"{folder}/empty", {}, 1)):
-        judge, lasting, coming = Judge(program, folder), 0, None
+        judge, lasting, coming = Judge(program, folder), 0, 0
         syncs, printed = recorded(program, folder, "load", table, csv, "--each")
-        assert [call[0] for call, _ in syncs] == ["msync"] + (len(syncs) - 1) // 3 * ["fsync", "replace", "fsync"], syncs
+        assert [call[0] for call, _ in syncs] == ["fsync", "msync"] + (len(syncs) - 2) // 3 * ["fsync", "replace", "fsync"], syncs
         for call, image in syncs:
             assert printed[:int(call[3 if call[0] != "fsync" else 2])].count("\n") <= lasting, call
             if call[0] == "replace":
@@ -251,18 +252,44 @@ def a_load_by_new_files(program, folder):
             elif call[:2] == ["fsync", folder]:
                 lasting = coming
         assert lasting == len(lines) and everything(program.done("list", table)) == dict(before, **dict(lines))
-        assert (len(syncs) - 1) // 3 <= batches, len(syncs)
+        assert (len(syncs) - 2) // 3 <= batches, len(syncs)
     return f"{replaced} new files"
 
 
 def what_a_killed_program_left(program, folder):
-    """Before its first store a change waits for all that is on its way to the disk, whoever stored it."""
-    t = f"{folder}/t"
+    """Before its first store a change waits for all that is on its way to the disk, whoever stored it: the file's name, by its folder, and
+    its words. Also by a link from elsewhere, and by a name without a folder."""
+    t, other = f"{folder}/t", f"{folder}/other"
     full_leaves(program, t, 30, 200)
-    for command in (["add", t, code(8), 9000], ["remove", t, code(5)], ["class", t, code(8), "room"], ["repair", t]):
+    os.mkdir(other)
+    os.symlink("../t", f"{other}/link")
+    for command in (["add", t, code(8), 9000], ["remove", t, code(5)], ["class", f"{other}/link", code(8), "room"], ["repair", t]):
         before = contents(t)
-        call, image = recorded(program, folder, *command)[0][0]
-        assert call[:2] == ["msync", "0"] and int(call[2]) >= len(before) and image == before, call
+        (call, _), (then, image) = recorded(program, folder, *command)[0][:2]
+        assert call[:2] == ["fsync", folder], call
+        assert then[:2] == ["msync", "0"] and int(then[2]) >= len(before) and image == before, then
+
+
+def killed_before_the_folder(program, folder):
+    """A load that is killed once its new file has the name, and before the folder is on the disk: the next change syncs the folder before it
+    stores, so that its answer does not stand on a name that a cut takes back. What a load leaves that is killed before, the next one removes."""
+    t, csv = f"{folder}/t", f"{folder}/csv"
+    for killed, there in ((2, 1), (1, 0)):
+        program.done("make", t, 40)
+        with open(csv, "w") as f:
+            f.write(f"{code(1)},1\n")
+        status, out, _ = preloaded(program, folder, "load", t, csv, "--each", SYNCS_KILL=str(1 + killed))
+        assert (status, out) == (-9, "") and len(listed(program.done("list", t))) == there, (status, out)
+        left = [name for name in os.listdir(folder) if name.endswith(".new")]
+        assert len(left) == 1 - there, left
+        calls = [call for call, _ in recorded(program, folder, "add", t, code(2), 2)[0]]
+        assert calls[0][:2] == ["fsync", folder] and calls[1][0] == "msync", calls
+        program.done("remove", t, code(2))
+        if there:
+            program.done("remove", t, code(1))
+        program.done("load", t, csv)
+        assert not [name for name in os.listdir(folder) if name.endswith(".new")]
+        os.remove(t)
 
 
 class FailingDisk:
@@ -371,5 +398,5 @@ def a_new_table_is_there_whole(program, folder):
 
 
 TESTS = [any_mix_of_pages, mixes_on_the_unordered_dock, changes_of_two_collections, leaves_that_come_back, mixes_with_fast,
-         a_load_and_its_acknowledgements, a_load_by_new_files, what_a_killed_program_left, a_write_error_that_passes,
+         a_load_and_its_acknowledgements, a_load_by_new_files, what_a_killed_program_left, killed_before_the_folder, a_write_error_that_passes,
          a_write_error_of_the_sync_before, killed_before_it_knew, a_new_table_is_there_whole]

@@ -1,5 +1,6 @@
 """Large loads: packed into an empty collection, by batches into one with codes; copies that pack; and what a kill, a full disk, another
 writer or little memory do to them."""
+import fcntl
 import os
 import random
 import re
@@ -346,6 +347,32 @@ def a_file_of_the_same_name(program, folder):
     assert out == "50 added, 0 there already\n" and read_words(t) == packed_table(20, found) and left_over(folder) == []
 
 
+def files_of_dead_programs(program, folder):
+    """Who makes a new file for a name removes those that dead programs have left for it, and no other file. The names are not for tables."""
+    t, csv = f"{folder}/t", f"{folder}/csv"
+    lines, found = some_lines(random.Random(16), 50)
+    write(csv, lines)
+    dead, others = ["t.1.new", "t.4194303.new"], ["t.5.newer", "t.x.new", "t.new", "t..new", "u.1.new", "t.1.2.new", "t.9.new"]
+    commands = [["load", t, csv], ["load", f"{folder}/link", csv], ["make", t, 20], ["copy", f"{folder}/u", t], ["salvage", f"{folder}/u", t]]
+    program.done("make", f"{folder}/u", 20)
+    os.symlink("t", f"{folder}/link")
+    for words in commands:
+        if words[0] == "load":
+            program.done("make", t, 20)
+        for name in dead + others:
+            write(f"{folder}/{name}", ["left"])
+        os.mkdir(f"{t}.2.new"), os.symlink("u", f"{t}.3.new")
+        with open(f"{t}.9.new") as living:
+            fcntl.flock(living, fcntl.LOCK_SH)
+            program.done(*words)
+        stay = sorted(others + ["t.2.new", "t.3.new", "csv", "link", "t", "u"])
+        assert sorted(os.listdir(folder)) == stay, (words, set(os.listdir(folder)) ^ set(stay))
+        os.rmdir(f"{t}.2.new"), os.remove(f"{t}.3.new"), os.remove(t)
+    for name in ("t.5.new", "a.t.123456.new"):
+        program.refuses(BAD_FILE, "names that end in .NUMBER.new are for files that are being made", "make", f"{folder}/{name}", 9)
+    program.done("make", f"{folder}/5.new", 9)
+
+
 def changed_in_place(program, folder):
     """A table with a second name, in a folder that takes no files, or of another user stays the same file, and is loaded by batches."""
     t, csv = f"{folder}/t", f"{folder}/csv"
@@ -609,7 +636,7 @@ def little_memory_for_a_load(program, folder):
 
 
 TESTS = [packed_words, packed_beside_another, emptied_tables, full_tables, refused_lines, batches_are_single_additions,
-         acknowledged_one_by_one, loads_back, the_same_rights, a_file_of_the_same_name, changed_in_place, no_room_for_a_file,
+         acknowledged_one_by_one, loads_back, the_same_rights, a_file_of_the_same_name, files_of_dead_programs, changed_in_place, no_room_for_a_file,
          others_that_wait, killed_while_it_packs, killed_between_batches, a_signal_while_it_packs]
 # Too large for a program with sanitizers, or against its own use of memory.
 ONCE = [large_loads, little_memory_for_a_load]

@@ -2,7 +2,7 @@
  * Loaded before the program's libraries: writes down, into the file that SYNCS names, each call by which the program waits for the disk or
  * gives a file its name, in order and before it is done, with how much the program has printed to standard output, a file. At an msync also
  * what the mapped file holds at that moment, where a file takes another one's place what it holds. With SYNCS_NO_RENAME there is no rename
- * that keeps a file that is there, as on some file systems.
+ * that keeps a file that is there, as on some file systems. With SYNCS_KILL the program is killed at the fsync of that number.
  *
  * With SYNCS_FAIL the msync of that number fails, as on a disk that does; with SYNCS_DIE the program is killed before it learns that. The
  * file that SYNCS_DISK names is what the disk has of the mapped file, and the file of that name with .dirty a byte for each page, 1 where the
@@ -163,6 +163,10 @@ int fsync(int synced)
     int file = record();
     dprintf(file, "fsync %s %zu\n", path, printed());
     close(file);
+    static int count;
+    const char *killed = getenv("SYNCS_KILL");
+    if (killed && ++count == atoi(killed))
+        raise(SIGKILL);
     return (int)syscall(SYS_fsync, synced);
 }
 
