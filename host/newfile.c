@@ -12,6 +12,7 @@
 #include <sys/file.h>
 #include <unistd.h>
 
+#include "rights.h"
 #include "text.h"
 
 static bool write_words(int file, const uint64_t *words, size_t count)
@@ -204,17 +205,7 @@ bool replaceable(const char *name, const struct stat *old)
            && folder.st_dev == old->st_dev;
 }
 
-/* Owner, group and rights are the old file's. */
-static bool same_rights(int file, const struct stat *old)
-{
-    struct stat made;
-    if (fstat(file, &made) != 0)
-        return false;
-    bool owned = made.st_uid == old->st_uid && made.st_gid == old->st_gid;
-    return (owned || fchown(file, old->st_uid, old->st_gid) == 0) && fchmod(file, old->st_mode & 07777) == 0;
-}
-
-int replace_file(const char *name, const struct stat *old, const uint64_t *words, size_t count)
+int replace_file(const char *name, int old, const uint64_t *words, size_t count)
 {
     char place[PATH_MAX], made[PATH_MAX];
     if (!place_of(name, place) || !name_meanwhile(place, made))

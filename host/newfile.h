@@ -22,10 +22,11 @@ int new_file(const char *name, const uint64_t *words, size_t count);
 bool replaceable(const char *name, const struct stat *old);
 
 /*
- * A file with these words in the place of this one, with its owner and rights, open and locked as a writer does: a cut leaves the old file
- * or the new one, whole. -1, with errno, where the old one is still there. The new one lasts only once its name does.
+ * A file with these words in the place of the open one of this name, open and locked as a writer does: a cut leaves the old file or the new
+ * one, whole. Who may do what with it, and all its attributes, are the old one's. -1, with errno, where that cannot be, and the old one is
+ * still there. The new one lasts only once its name does.
  */
-int replace_file(const char *name, const struct stat *old, const uint64_t *words, size_t count);
+int replace_file(const char *name, int old, const uint64_t *words, size_t count);
 
 /* Waits until the disk has the name of this open file. False with errno. */
 bool name_lasts(const char *name, int file);

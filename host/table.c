@@ -442,7 +442,7 @@ int table_replace(struct table *t, bool *done)
     *done = false;
     if (status != 0)
         return status;
-    int file = replace_file(t->name, &t->left, t->working, t->words);
+    int file = replace_file(t->name, t->file, t->working, t->words);
     if (file < 0)
         return 0;
     *done = true;

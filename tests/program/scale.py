@@ -1,6 +1,8 @@
 """Large loads: packed into an empty collection, by batches into one with codes; copies that pack; and what a kill, a full disk, another
 writer or little memory do to them."""
+import errno
 import fcntl
+import itertools
 import os
 import random
 import re
@@ -8,8 +10,10 @@ import resource
 import shutil
 import signal
 import stat
+import struct
 import subprocess
 import sys
+import tempfile
 import threading
 import time
 
@@ -336,6 +340,54 @@ def the_same_rights(program, folder):
         os.remove(t), os.remove(link)
 
 
+def access_list(*entries):
+    """An access list as an extended attribute: version 2, and of each entry its kind, its rights and the user or group that it names."""
+    return struct.pack("<I", 2) + b"".join(struct.pack("<HHI", *e) for e in entries)
+
+
+OWNER, USER, GROUP, NAMED_GROUP, MASK, OTHERS, NOBODY = 1, 2, 4, 8, 16, 32, 2**32 - 1
+
+
+def attributes(path):
+    return {name: os.getxattr(path, name) for name in os.listxattr(path)}
+
+
+def the_same_attributes(program, folder):
+    """Access lists and extended attributes are the old file's, and no list that the folder gives to new files. Packed, and by batches."""
+    csv = f"{folder}/csv"
+    lines, found = some_lines(random.Random(17), 300)
+    write(csv, lines)
+    named = access_list((OWNER, 6, NOBODY), (USER, 6, 1234), (GROUP, 0, NOBODY), (NAMED_GROUP, 4, 4321), (MASK, 6, NOBODY), (OTHERS, 0, NOBODY))
+    default = access_list((OWNER, 7, NOBODY), (USER, 7, 65534), (GROUP, 7, NOBODY), (MASK, 7, NOBODY), (OTHERS, 7, NOBODY))
+    given = {"user.shelf": b"7", "user.empty": b"", "user.long": bytes(range(256)) * 8}
+    if os.geteuid() == 0:
+        given["trusted.mark"] = b"1"
+    tried = 0
+    for there, in_folder, on_file in itertools.product(([], [(code(90000), 99999)]), (False, True), (False, True)):
+        within = tempfile.mkdtemp(dir=folder)
+        t = f"{within}/t"
+        fill(program, t, 200, there)
+        os.chmod(t, 0o640)
+        try:
+            for name, value in given.items():
+                os.setxattr(t, name, value)
+            if on_file:
+                os.setxattr(t, "system.posix_acl_access", named)
+            if in_folder:
+                os.setxattr(within, "system.posix_acl_default", default)
+        except OSError as error:
+            assert error.errno == errno.ENOTSUP, error
+            return "no such attributes here"
+        before, had = os.stat(t), attributes(t)
+        assert ("system.posix_acl_access" in had) == on_file
+        assert loaded(program, t, csv) == "300 added, 0 there already\n"
+        after = os.stat(t)
+        assert after.st_ino != before.st_ino and attributes(t) == had, (in_folder, on_file, attributes(t), had)
+        assert (after.st_mode, after.st_uid, after.st_gid) == (before.st_mode, before.st_uid, before.st_gid)
+        tried += 1
+    return f"{tried} loads"
+
+
 def a_file_of_the_same_name(program, folder):
     """What a killed load has left does not hinder one that gets its number."""
     t, csv = f"{folder}/t", f"{folder}/csv"
@@ -636,7 +688,7 @@ def little_memory_for_a_load(program, folder):
 
 
 TESTS = [packed_words, packed_beside_another, emptied_tables, full_tables, refused_lines, batches_are_single_additions,
-         acknowledged_one_by_one, loads_back, the_same_rights, a_file_of_the_same_name, files_of_dead_programs, changed_in_place, no_room_for_a_file,
+         acknowledged_one_by_one, loads_back, the_same_rights, the_same_attributes, a_file_of_the_same_name, files_of_dead_programs, changed_in_place, no_room_for_a_file,
          others_that_wait, killed_while_it_packs, killed_between_batches, a_signal_while_it_packs]
 # Too large for a program with sanitizers, or against its own use of memory.
 ONCE = [large_loads, little_memory_for_a_load]
