@@ -68,7 +68,7 @@ static int carry_orders(struct loading *l, uint64_t count, uint64_t flushes)
     bool done = false;
     int status = 0;
     if (b->by_file && flushes > 8 + l->table->words * sizeof(uint64_t) / PAGE_BYTES / 64)
-        status = table_replace(l->table, &done);
+        b->by_file = (status = table_replace(l->table, &done)) == 0 && done;
     if (status == 0 && !done)
         status = table_carry_out(l->table, b->orders, count);
     if (status == 0 && l->options->wear)

@@ -24,6 +24,11 @@ static void on_signal(int number)
     signalled = number;
 }
 
+bool load_signalled(void)
+{
+    return signalled != 0;
+}
+
 /* The first signal ends the load between two changes; a second one ends the program at once, which a sound table survives too. */
 static void watch_signal(int number)
 {

@@ -34,13 +34,24 @@ struct batch {
     bool by_file; /* a new file may be put in the table's place */
 };
 
-/* Lines that come into an empty collection by a new file, packed, in the end. */
+/* Where a pair came from: its line, and how many lines before it the table had already. Kept as what is more than of the pair before. */
+struct origin {
+    uint64_t line, there;
+};
+struct step {
+    uint32_t lines, there;
+};
+
+/* Lines that come into an empty collection by a new file, packed, in the end; one by one if no new file can take the table's place. */
 struct packing {
     struct judged judged;
+    struct step *steps; /* to each pair */
+    size_t summed;
+    struct origin last, reached; /* of the last pair, and of the one that the steps are summed up to */
     struct held held; /* the other collection's pairs */
     uint64_t beside;  /* nodes that these take */
     uint32_t *told;   /* the pair of each line to acknowledge, in order, where that is asked for */
-    size_t told_count, told_room;
+    size_t told_count, told_room, acknowledged;
 };
 
 struct loading {
@@ -75,6 +86,9 @@ void load_acknowledge(const struct loading *l, uint64_t key, uint64_t recording,
 /* The load ends before this line, for a reason that was told; gives the status back. */
 int load_ends(struct loading *l, const struct line *line, int status);
 
+/* A signal has come: the load ends between two changes. */
+bool load_signalled(void);
+
 /* ---- the two ways: 0, or an exit status after saying why */
 
 /* batch_carry carries the batch's lines out, tells the bad ones and acknowledges the others; then the batch is empty. */
@@ -82,7 +96,10 @@ int batch_begin(struct loading *l);
 int batch_carry(struct loading *l);
 void batch_end(struct loading *l);
 
-/* packing_take takes a line that is not bad, or finds that there is no room for it; packing_finish makes the new file and acknowledges. */
+/*
+ * packing_take takes a line that is not bad, or finds that there is no room for it; packing_finish makes the new file and acknowledges. If no
+ * new file can take the table's place, it carries the lines out in the table itself.
+ */
 int packing_begin(struct loading *l);
 int packing_take(struct loading *l, const struct line *line);
 int packing_finish(struct loading *l);

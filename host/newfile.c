@@ -193,16 +193,30 @@ static bool place_of(const char *name, char place[PATH_MAX])
     return realpath(name, place) != NULL;
 }
 
+/* Has one of these marks, as far as the file system says. */
+static bool is_marked(const char *path, uint64_t marks)
+{
+    struct statx about;
+    return statx(AT_FDCWD, path, 0, STATX_BASIC_STATS, &about) == 0 && (about.stx_attributes & marks) != 0;
+}
+
+/* Files can be made there, and a file of this owner can be renamed over and removed. */
+static bool takes_files(const char *folder, const struct stat *old)
+{
+    struct stat about;
+    if (stat(folder, &about) != 0 || faccessat(AT_FDCWD, folder, W_OK | X_OK, AT_EACCESS) != 0)
+        return false;
+    bool sticky = (about.st_mode & S_ISVTX) != 0 && about.st_uid != geteuid() && old->st_uid != geteuid();
+    return !sticky && about.st_dev == old->st_dev && !is_marked(folder, STATX_ATTR_APPEND | STATX_ATTR_IMMUTABLE);
+}
+
 bool replaceable(const char *name, const struct stat *old)
 {
     char place[PATH_MAX], made[PATH_MAX];
-    struct stat folder;
     if (!place_of(name, place) || !name_meanwhile(place, made) || strlen(strrchr(made, '/') + 1) > NAME_MAX)
         return false;
-    const char *within = dirname(place);
     bool ours = old->st_uid == geteuid() || geteuid() == 0;
-    return ours && old->st_nlink == 1 && faccessat(AT_FDCWD, within, W_OK | X_OK, AT_EACCESS) == 0 && stat(within, &folder) == 0
-           && folder.st_dev == old->st_dev;
+    return ours && old->st_nlink == 1 && !is_marked(place, STATX_ATTR_MOUNT_ROOT) && takes_files(dirname(place), old);
 }
 
 int replace_file(const char *name, int old, const uint64_t *words, size_t count)

@@ -8,8 +8,6 @@
 #include "newfile.h"
 #include "text.h"
 
-/* A node of a sound table has at most so many pairs. */
-#define MOST_PAIRS 11
 #define MOST_CHILDREN 12
 
 int held_read(struct held *h, const struct table *t)

@@ -5,6 +5,9 @@
 #include "table.h"
 #include "tree.h"
 
+/* A node of a sound table has at most so many pairs. */
+#define MOST_PAIRS 11
+
 /* Pairs of key and pointer of a table's collections, each rising, one after the other. */
 struct held {
     uint64_t *words;

@@ -1,5 +1,6 @@
 """Large loads: packed into an empty collection, by batches into one with codes; copies that pack; and what a kill, a full disk, another
 writer or little memory do to them."""
+import ctypes
 import errno
 import fcntl
 import itertools
@@ -458,22 +459,87 @@ def changed_in_place(program, folder):
 
 
 def no_room_for_a_file(program, folder):
-    """A new file that cannot be written: a packed load says so and leaves the table as it was, batches go on in place."""
+    """Where a new file cannot be written, a load goes on in the table itself, packed or by batches; of an empty table as many lines as there
+    are nodes for, with those of them that were there already."""
     t, csv = f"{folder}/t", f"{folder}/csv"
     lines, found = some_lines(random.Random(10), 100)
     write(csv, lines)
     program.done("make", t, 40)
     how = {"preexec_fn": lambda: resource.setrlimit(resource.RLIMIT_FSIZE, (1000, 1000)), "restore_signals": False}
-    before = contents(t)
-    status, out, err = program("load", t, csv, "--each", **how)
-    assert (status, out) == (BAD_FILE, "0 added, 0 there already\n"), (status, out)
-    assert err == f"catalogue: {t} cannot be written anew: File too large\ncatalogue: {csv}: nothing was loaded\n", err
-    assert contents(t) == before and sorted(os.listdir(folder)) == ["csv", "t"]
+    same = os.stat(t).st_ino
+    assert program.done("load", t, csv, "--each", **how) == "".join(line + "\n" for line in lines) + "100 added, 0 there already\n"
+    assert os.stat(t).st_ino == same and everything(program.done("list", t)) == found and sorted(os.listdir(folder)) == ["csv", "t"]
+    # Rising codes that fit packed, and not one by one; each line is there twice.
+    u, rising = f"{folder}/u", f"{folder}/rising"
+    write(rising, [f"{code(i)},{i},room" for i in range(1, 101) for _ in range(2)])
+    for each in ([], ["--each"]):
+        program.done("make", u, nodes_for(100))
+        status, out, err = program("load", u, rising, "--again", *each, **how)
+        have = everything(program.done("list", u))
+        count = len(have)
+        assert 40 < count < 100 and have == {code(i): (i, "room") for i in range(1, count + 1)}, count
+        acknowledged = "".join(f"{code(i)},{i},room\n" for i in range(1, count + 1) for _ in range(2)) if each else ""
+        assert (status, out) == (NO_NODES, f"{acknowledged}{count} added, {count} there already\n"), (status, out)
+        assert f"{u} is full" in err and f"stopped before line {2 * count + 1}; what came before is kept\n" in err, err
+        os.remove(u)
+    os.remove(rising), os.remove(t)
+    program.done("make", t, 40)
     c, (r, access) = next(iter(found.items()))
     program.done("add", t, c, r, access)
     same = os.stat(t).st_ino
     assert program.done("load", t, csv, "--again", **how) == "99 added, 1 there already\n"
     assert os.stat(t).st_ino == same and everything(program.done("list", t)) == found and sorted(os.listdir(folder)) == ["csv", "t"]
+
+
+def in_other_places(program, folder):
+    """Where no new file can take the table's place a load into an empty table goes on in the table itself: a file that is mounted by itself,
+    a group that the user is not in, a sticky folder of another user, a folder that only grows. Nothing else is left."""
+    csv, tried = f"{folder}/csv", []
+    lines, found = some_lines(random.Random(18), 100)
+    write(csv, lines)
+    if os.geteuid() != 0:
+        return "not the superuser"
+    os.chmod(folder, 0o755), os.chmod(csv, 0o644)
+
+    def in_place(name, prepare, undo=lambda within: None, **how):
+        within = f"{folder}/{name}"
+        os.mkdir(within)
+        t = f"{within}/t"
+        program.done("make", t, 100)
+        try:
+            prepare(within, t)
+        except (OSError, subprocess.CalledProcessError):
+            return
+        try:
+            same = os.stat(t).st_ino
+            status, out, err = program("load", t, csv, **how)
+            assert (status, out, err) == (0, "100 added, 0 there already\n", ""), (name, status, out, err)
+            assert os.stat(t).st_ino == same and everything(program.done("list", t)) == found and os.listdir(within) == ["t"], name
+            tried.append(name)
+        finally:
+            undo(within)
+
+    def without(capability):
+        """The superuser, without one of its powers."""
+        return {"preexec_fn": lambda: ctypes.CDLL(None).prctl(24, capability, 0, 0, 0)}
+
+    def mounted(within, t):
+        shutil.copy(t, f"{folder}/elsewhere")
+        subprocess.run(["mount", "--bind", f"{folder}/elsewhere", t], check=True, capture_output=True)
+
+    def grows(on):
+        def mark(within, *_):
+            place = os.open(within, os.O_RDONLY)
+            fcntl.ioctl(place, 0x40086602, struct.pack("<l", 0x20 if on else 0))
+            os.close(place)
+        return mark
+
+    in_place("mounted", mounted, lambda within: subprocess.run(["umount", f"{within}/t"], check=True))
+    in_place("group", lambda within, t: (os.chown(t, 65534, 1234), os.chown(within, 65534, 65534)), user=65534, group=65534)
+    in_place("owner", lambda within, t: os.chown(t, 1234, 1234), **without(0))
+    in_place("sticky", lambda within, t: (os.chown(t, 1234, 1234), os.chown(within, 1234, 1234), os.chmod(within, 0o1777)), **without(3))
+    in_place("grows", grows(True), grows(False))
+    return ", ".join(tried)
 
 
 def others_that_wait(program, folder):
@@ -688,7 +754,7 @@ def little_memory_for_a_load(program, folder):
 
 
 TESTS = [packed_words, packed_beside_another, emptied_tables, full_tables, refused_lines, batches_are_single_additions,
-         acknowledged_one_by_one, loads_back, the_same_rights, the_same_attributes, a_file_of_the_same_name, files_of_dead_programs, changed_in_place, no_room_for_a_file,
+         acknowledged_one_by_one, loads_back, the_same_rights, the_same_attributes, a_file_of_the_same_name, files_of_dead_programs, changed_in_place, no_room_for_a_file, in_other_places,
          others_that_wait, killed_while_it_packs, killed_between_batches, a_signal_while_it_packs]
 # Too large for a program with sanitizers, or against its own use of memory.
 ONCE = [large_loads, little_memory_for_a_load]
