@@ -71,8 +71,6 @@ static int carry_orders(struct loading *l, uint64_t count, uint64_t flushes)
         b->by_file = (status = table_replace(l->table, &done)) == 0 && done;
     if (status == 0 && !done)
         status = table_carry_out(l->table, b->orders, count);
-    if (status == 0 && l->options->wear)
-        status = wearing_add(&l->wearing, b->orders, count);
     return status;
 }
 
@@ -109,6 +107,14 @@ static int refused(struct loading *l, struct line *line, uint64_t number)
     return 0;
 }
 
+/* The load ends before a line of the batch, or after the last one. */
+static int ends_before(struct loading *l, size_t from, int status)
+{
+    const struct batch *b = l->batch;
+    struct line next = {.number = from < b->count ? b->lines[from].number : b->lines[b->count - 1].number + 1};
+    return load_ends(l, &next, status);
+}
+
 /* One order list, from a line on; *from is the line to go on with. */
 static int carry_list(struct loading *l, size_t *from)
 {
@@ -119,12 +125,17 @@ static int carry_list(struct loading *l, size_t *from)
     if (pairs > 0)
         number = catalogue_insert_many(t->working, t->words, t->collection, b->orders, BATCH_WORDS, t->dock, b->pairs, 2 * pairs, &taken,
                                        &stores, &flushes, &barriers);
-    int status = taken > 0 ? carry_orders(l, stores + flushes + barriers, flushes) : 0;
-    if (status != 0) {
-        *from = tell_lines(l, *from, 0);
-        return load_ends(l, &b->lines[*from], status);
-    }
+    uint64_t orders = stores + flushes + barriers;
+    int status = taken > 0 ? carry_orders(l, orders, flushes) : 0;
+    l->failed = status != 0;
+    if (l->failed)
+        taken = load_came_in(l, b->pairs, taken);
+    else if (taken > 0 && l->options->wear)
+        status = wearing_add(&l->wearing, b->orders, orders);
+    l->wear_lost = status != 0;
     *from = tell_lines(l, *from, taken);
+    if (status != 0)
+        return ends_before(l, *from, status);
     /* A list that is full: the next one goes on. */
     if (number == 0 || (number == CATALOGUE_SHORT_LIST && taken > 0))
         return 0;

@@ -93,10 +93,19 @@ void load_bad(struct loading *l, const struct line *line, int status)
     fail(status, "%s, line %" PRIu64 ", \"%s\": %s%s", l->rows.name, line->number, line->text, why, more);
 }
 
+uint64_t load_came_in(const struct loading *l, const uint64_t *pairs, uint64_t count)
+{
+    const struct table *t = l->table;
+    uint64_t there = 0, recording, access, next, higher;
+    while (there < count && catalogue_search(t->expected, t->words, t->collection, pairs[2 * there], &recording, &access, &next, &higher) == 0)
+        there++;
+    return there;
+}
+
 void load_acknowledge(const struct loading *l, uint64_t key, uint64_t recording, uint64_t access)
 {
     char code[KEY_TEXT], pointer[POINTER_TEXT];
-    if (l->options->each)
+    if (l->options->each && !l->failed)
         printf("%s,%s\n", key_text(key, code), pointer_text(recording, access, pointer));
 }
 
@@ -192,7 +201,8 @@ static int say_end(struct loading *l)
         return fail(BY_SIGNAL + signalled, "%s: ended by a signal after line %" PRIu64 "; what came before is kept", l->rows.name,
                     l->rows.number);
     if (l->rows.failed)
-        return fail(BAD_FILE, "%s cannot be read further: %s", l->rows.name, strerror(l->rows.failed));
+        return fail(BAD_FILE, "%s cannot be read further than line %" PRIu64 ": %s; what came before is kept", l->rows.name, l->rows.number,
+                    strerror(l->rows.failed));
     return 0;
 }
 
@@ -262,7 +272,7 @@ int load(struct table *t, const char *name, const struct load_options *options)
     if (status != BAD_FILE && settled == 0)
         settled = table_compare(t);
     say_loaded(&l);
-    int told = options->wear && begun && settled == 0 ? wearing_tell(&l.wearing) : 0;
+    int told = options->wear && begun && settled == 0 && !l.wear_lost ? wearing_tell(&l.wearing) : 0;
     end(&l);
     if (settled != 0)
         return settled;

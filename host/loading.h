@@ -63,6 +63,8 @@ struct loading {
     int first_bad;    /* the first bad line's exit status */
     uint64_t stopped; /* the bad line that ended the loading, 0 for none: the lines after it are only read */
     uint64_t refusal; /* of every change of this table; 0 where it is sound */
+    bool failed;      /* the disk failed: lines that are in the table are counted, and not acknowledged */
+    bool wear_lost;   /* orders were carried out that the wear has not */
     struct line full; /* the line that had no room, where there is one; else its number is 0 */
     struct batch *batch;     /* one of these is there */
     struct packing *packing;
@@ -80,7 +82,10 @@ bool load_there(const struct loading *l, struct line *line);
 /* A line that cannot be loaded, told; the load ends here unless it keeps going. */
 void load_bad(struct loading *l, const struct line *line, int status);
 
-/* The table has the line. */
+/* So many of these pairs, from the first on, are in the table after a change that failed. */
+uint64_t load_came_in(const struct loading *l, const uint64_t *pairs, uint64_t count);
+
+/* The table has the line, and it lasts unless the disk failed. */
 void load_acknowledge(const struct loading *l, uint64_t key, uint64_t recording, uint64_t access);
 
 /* The load ends before this line, for a reason that was told; gives the status back. */

@@ -159,11 +159,11 @@ static int carry_some(struct loading *l, uint64_t *orders, size_t *from)
     uint64_t number = catalogue_insert_many(t->working, t->words, t->collection, orders, BATCH_WORDS, t->dock, j->pairs + 2 * *from, 2 * count,
                                             &taken, &stores, &flushes, &barriers);
     int status = taken > 0 ? table_carry_out(t, orders, stores + flushes + barriers) : 0;
-    if (status == 0)
-        *from += taken;
+    l->failed = status != 0;
+    *from += l->failed ? load_came_in(l, j->pairs + 2 * *from, taken) : taken;
     if (status == 0 && (number == 0 || (number == CATALOGUE_SHORT_LIST && taken > 0)))
         return 0;
-    struct line line = line_of(l->packing, *from);
+    struct line line = *from < j->count ? line_of(l->packing, *from) : (struct line){.number = l->rows.number + 1};
     if (status == 0 && number == CATALOGUE_NO_NODES) {
         l->full = line;
         return 0;
@@ -225,6 +225,7 @@ static int put_packed(struct loading *l)
     int status = table_replace(l->table, &done);
     if (!done)
         return status == 0 ? put_in_place(l) : nothing_loaded(l, status);
+    l->failed = status != 0;
     acknowledge(l, l->packing->judged.count);
     return status;
 }

@@ -50,10 +50,13 @@ uint64_t rows_count(const struct rows *r)
     char part[65536];
     uint64_t lines = 0;
     bool open_line = false;
-    for (ssize_t got; !is_ended(r) && (got = read(r->file, part, sizeof part)) > 0; open_line = part[got - 1] != '\n')
+    /* Where the reading goes on is left as it is. */
+    for (ssize_t got; !is_ended(r) && (got = pread(r->file, part, sizeof part, start)) > 0; start += got) {
+        open_line = part[got - 1] != '\n';
         for (const char *at = part; (at = memchr(at, '\n', (size_t)(part + got - at))); at++)
             lines++;
-    return lseek(r->file, start, SEEK_SET) == start ? lines + open_line : 0;
+    }
+    return lines + open_line;
 }
 
 /* More of the file behind what is there of it; false at its end, or where it cannot be read, or is to be read no further. */

@@ -344,17 +344,19 @@ static bool same_time(struct timespec a, struct timespec b)
     return a.tv_sec == b.tv_sec && a.tv_nsec == b.tv_nsec;
 }
 
-/* Some word of the file differs from what this program left there, or cannot be read. */
-static bool file_differs(const struct table *t)
+/* Whether some word of the file differs from what this program left there; false, with errno, if it cannot be read. */
+static bool compare_file(const struct table *t, bool *differs)
 {
     uint64_t part[8192];
     size_t most = sizeof part / sizeof part[0];
-    for (size_t at = 0, count; at < t->words; at += count) {
+    *differs = false;
+    for (size_t at = 0, count; at < t->words && !*differs; at += count) {
         count = t->words - at < most ? t->words - at : most;
-        if (!read_words(t, part, at, count) || memcmp(part, t->expected + at, count * sizeof *part) != 0)
-            return true;
+        if (!read_words(t, part, at, count))
+            return false;
+        *differs = memcmp(part, t->expected + at, count * sizeof *part) != 0;
     }
-    return false;
+    return true;
 }
 
 /* A line that the orders store to differs from what this program left there. */
@@ -368,29 +370,48 @@ static bool line_differs(const struct table *t, const uint64_t *orders, uint64_t
     return false;
 }
 
+/* What becomes of a change that was not begun, perhaps after others of the same command. */
+#define NOTHING_MORE "nothing more was changed"
+
+/* The open file is not the one of that name any more, or nobody can say: then errno is not 0. Gives an exit status. */
+static int name_lost(const struct table *t, const char *then)
+{
+    if (errno == 0 || errno == ENOENT || errno == ENOTDIR)
+        return fail(BAD_FILE, "%s was removed or replaced by another program; %s", t->name, then);
+    return fail(BAD_FILE, "%s cannot be looked up any more: %s; %s", t->name, strerror(errno), then);
+}
+
 /*
- * The file still has its name, its length and the words that this program left in it. All words are compared where the file's times have
- * moved; another program's stores to a mapping of its own need not move them, so the lines that the orders go to are compared always, and
- * all words once more at the end.
+ * The file still has its name, its length and the words that this program left in it; if not, an exit status after saying so, and what then
+ * became of the change. All words are compared where there are no orders, or the file's times have moved; another program's stores to a
+ * mapping of its own need not move them, so the lines that the orders go to are compared always, and all words once more at the end.
  */
-static int still_ours(struct table *t, const uint64_t *orders, uint64_t count)
+static int still_ours(struct table *t, const uint64_t *orders, uint64_t count, const char *then)
 {
     struct stat ours;
+    errno = 0;
     if (!has_name(t, &ours))
-        return fail(BAD_FILE, "%s was removed or replaced by another program; nothing more was changed", t->name);
+        return name_lost(t, then);
     bool changed = (uint64_t)ours.st_size != t->words * sizeof(uint64_t);
     bool compare = !orders || !same_time(ours.st_mtim, t->left.st_mtim) || !same_time(ours.st_ctim, t->left.st_ctim);
-    if (!changed)
-        changed = compare ? file_differs(t) : line_differs(t, orders, count);
+    errno = 0;
+    if (!changed && compare && !compare_file(t, &changed)) {
+        if (errno != 0)
+            return fail(BAD_FILE, "%s cannot be read: %s; %s", t->name, strerror(errno), then);
+        /* It ended early. */
+        changed = true;
+    } else if (!changed && !compare) {
+        changed = line_differs(t, orders, count);
+    }
     if (changed)
-        return fail(BAD_FILE, "%s was changed by another program meanwhile; nothing more was changed", t->name);
+        return fail(BAD_FILE, "%s was changed by another program meanwhile; %s", t->name, then);
     t->left = ours;
     return 0;
 }
 
 int table_carry_out(struct table *t, const uint64_t *orders, uint64_t count)
 {
-    int status = still_ours(t, orders, count);
+    int status = still_ours(t, orders, count, NOTHING_MORE);
     if (status != 0)
         return status;
     /* Before the first real store: the library refuses orders outside the table. */
@@ -402,6 +423,7 @@ int table_carry_out(struct table *t, const uint64_t *orders, uint64_t count)
         t->unsettled = true;
     if (!carry_out(t->mapped, orders, count, &t->carrying)) {
         store_again(t);
+        memcpy(t->expected, t->mapped, t->words * sizeof *t->expected);
         return fail(BAD_FILE, "%s did not reach the disk: %s; the change was cut off, and repair finishes it once the disk works", t->name,
                     strerror(errno));
     }
@@ -430,15 +452,16 @@ static int take_over(struct table *t, int file)
     t->file = file;
     memcpy(t->expected, t->working, t->words * sizeof *t->working);
     fstat(t->file, &t->left);
-    if (!name_lasts(t->name, t->file))
-        return fail(BAD_FILE, "%s is changed, but its folder cannot be synced: %s", t->name, strerror(errno));
     t->unsettled = false;
-    return map_words(t, &persistent);
+    if (name_lasts(t->name, t->file))
+        return map_words(t, &persistent);
+    return fail(BAD_FILE, "%s is changed, but its folder did not reach the disk: %s; a power cut may bring the old table back", t->name,
+                strerror(errno));
 }
 
 int table_replace(struct table *t, bool *done)
 {
-    int status = still_ours(t, NULL, 0);
+    int status = still_ours(t, NULL, 0, NOTHING_MORE);
     *done = false;
     if (status != 0)
         return status;
@@ -458,7 +481,7 @@ int table_settle(struct table *t)
 
 int table_compare(struct table *t)
 {
-    return still_ours(t, NULL, 0);
+    return still_ours(t, NULL, 0, "what this command changed is made, and catalogue check says whether the table is sound");
 }
 
 /* ---- telling */

@@ -56,7 +56,7 @@ int table_open(struct table *t, const char *name, bool writing, const struct tab
  */
 int table_open_to_look(struct table *t, const char *name, const struct table_options *options);
 
-/* The first count orders of a list, on the mapped words, unless another program changed them. */
+/* The first count orders of a list, on the mapped words, unless another program changed them. If it fails, expected is what they came to. */
 int table_carry_out(struct table *t, const uint64_t *orders, uint64_t count);
 
 /* A flush of this table is a wait for the disk. */
@@ -67,7 +67,8 @@ bool table_replaceable(const struct table *t);
 
 /*
  * A new file with the working copy's words in the table's place, unless another program changed the table: it is on the disk, and a cut
- * leaves the old file or the new one. *done is false, with errno, where there is no such file to be made and the table is as it was.
+ * leaves the old file or the new one. *done is false where there is no such file to be made and the table is as it was; if it is true and the
+ * status is not 0, the table has the words, and perhaps not after a cut.
  */
 int table_replace(struct table *t, bool *done);
 

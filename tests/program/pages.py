@@ -382,6 +382,85 @@ def killed_before_it_knew(program, folder):
     return f"{syncs - 1} syncs"
 
 
+def counts_after_a_failure(program, folder):
+    """A load that a disk ends: the lines that it counts are those that are in the table, whatever failed; it stops before the next one and
+    acknowledges none that may not last. Into an empty table and by batches, by new files and in place."""
+    t, csv, tried = f"{folder}/t", f"{folder}/csv", 0
+    have, lines = lines_to_load(program, folder, f"{folder}/full", csv)
+    program.done("make", f"{folder}/empty", 200)
+    for base, before, in_place in (("full", have, False), ("full", have, True), ("empty", {}, False), ("empty", {}, True)):
+        for fails, step in (("SYNCS_FAIL", 7), ("SYNCS_FAIL_FSYNC", 1)):
+            for failing in range(1, 1000, step):
+                for name in set(os.listdir(folder)) - {"full", "empty", "csv"}:
+                    os.remove(f"{folder}/{name}")
+                shutil.copy(f"{folder}/{base}", t)
+                if in_place:
+                    os.link(t, f"{folder}/second")
+                status, out, err = preloaded(program, folder, "load", t, csv, "--each", **{fails: str(failing)})
+                now = everything(program.done("list", t))
+                count = len(now) - len(before)
+                assert now == dict(before, **dict(lines[:count])), (fails, failing)
+                printed = out.splitlines()
+                if status == 0:
+                    assert count == len(lines), (fails, failing, count)
+                    break
+                assert status == BAD_FILE and err, (fails, failing, status, err)
+                if count == 0 and not printed:
+                    assert "nothing was changed" in err, err
+                    continue
+                assert printed[-1] == f"{count} added, 0 there already", (fails, failing, printed[-1], count, err)
+                assert printed[:-1] == [f"{c},{r},{a}" for c, (r, a) in lines[:len(printed) - 1]] and len(printed) - 1 <= count
+                assert ("nothing was loaded" in err) <= (count == 0), err
+                if base == "full" or in_place:
+                    assert f"stopped before line {count + 1}; what came before is kept" in err, (count, err)
+                else:
+                    assert "is changed, but its folder did not reach the disk" in err or count == 0 or count == len(lines), (count, err)
+                tried += 1
+    return f"{tried} failures"
+
+
+def counts_without_memory(program, folder):
+    """An allocation that fails, each one of a load: the lines that it counts, and no others, are in the table, and its message is true."""
+    t, csv, failures = f"{folder}/t", f"{folder}/csv", 0
+    lines = [(code(i), (i, "open")) for i in random.Random(19).sample(range(1, 5000), 900)]
+    with open(csv, "w") as f:
+        f.writelines(f"{c},{r}\n" for c, (r, _) in lines)
+    fill(program, f"{folder}/full", 500, [(code(90000), 90000)])
+    have = {code(90000): (90000, "open")}
+    program.done("make", f"{folder}/empty", 500)
+    for base, before, more in (("full", have, []), ("full", have, ["--wear"]), ("empty", {}, []), ("empty", {}, ["--wear"])):
+        for failing in range(1, 200):
+            shutil.copy(f"{folder}/{base}", t)
+            status, out, err = preloaded(program, folder, "load", t, csv, *more, SYNCS_FAIL_MEMORY=str(failing))
+            now = everything(program.done("list", t))
+            count = len(now) - len(before)
+            assert now == dict(before, **dict(lines[:count])), failing
+            assert out == "" and count == 0 or f"{count} added, 0 there already\n" in out, (failing, count, out, err)
+            # Figures of its wear are of all orders, or are not there.
+            assert ("0 stores to 0 of" in out) <= (count == 0), (failing, count, out)
+            assert status in (0, BAD_FILE) and (status == 0) <= (count == len(lines)), (failing, status, count)
+            if status == BAD_FILE:
+                assert "not enough memory" in err and (count == 0) >= ("nothing was loaded" in err), err
+                assert not 0 < count < len(lines) or f"stopped before line {count + 1};" in err, (count, err)
+                failures += 1
+            elif failing > 60:
+                break
+    return f"{failures} failures"
+
+
+def a_read_that_fails(program, folder):
+    """It is called that, and not a change by another program; what was changed by then is said."""
+    t = f"{folder}/t"
+    program.done("make", t, 9)
+    program.done("add", t, code(1), 1)
+    before = contents(t)
+    status, out, err = preloaded(program, folder, "add", t, code(2), 2, SYNCS_FAIL_READ="1")
+    assert (status, out, err) == (BAD_FILE, "", f"catalogue: {t} cannot be read: Input/output error\n") and contents(t) == before, err
+    status, out, err = preloaded(program, folder, "add", t, code(2), 2, SYNCS_FAIL_READ="2")
+    assert status == BAD_FILE and out == "" and f"{t} cannot be read: Input/output error; what this command changed is made" in err, err
+    assert listed(program.done("list", t)) == [(code(1), 1), (code(2), 2)]
+
+
 def a_new_table_is_there_whole(program, folder):
     """Written under another name, synced, renamed, the folder synced; nothing else stays."""
     t = f"{folder}/t"
@@ -399,4 +478,5 @@ def a_new_table_is_there_whole(program, folder):
 
 TESTS = [any_mix_of_pages, mixes_on_the_unordered_dock, changes_of_two_collections, leaves_that_come_back, mixes_with_fast,
          a_load_and_its_acknowledgements, a_load_by_new_files, what_a_killed_program_left, killed_before_the_folder, a_write_error_that_passes,
-         a_write_error_of_the_sync_before, killed_before_it_knew, a_new_table_is_there_whole]
+         a_write_error_of_the_sync_before, killed_before_it_knew, counts_after_a_failure,
+         counts_without_memory, a_read_that_fails, a_new_table_is_there_whole]

@@ -2,7 +2,8 @@
  * Loaded before the program's libraries: writes down, into the file that SYNCS names, each call by which the program waits for the disk or
  * gives a file its name, in order and before it is done, with how much the program has printed to standard output, a file. At an msync also
  * what the mapped file holds at that moment, where a file takes another one's place what it holds. With SYNCS_NO_RENAME there is no rename
- * that keeps a file that is there, as on some file systems. With SYNCS_KILL the program is killed at the fsync of that number.
+ * that keeps a file that is there, as on some file systems. With SYNCS_KILL the program is killed at the fsync of that number; with
+ * SYNCS_FAIL_FSYNC that fsync fails, with SYNCS_FAIL_READ the pread of that number, with SYNCS_FAIL_MEMORY the allocation.
  *
  * With SYNCS_FAIL the msync of that number fails, as on a disk that does; with SYNCS_DIE the program is killed before it learns that. The
  * file that SYNCS_DISK names is what the disk has of the mapped file, and the file of that name with .dirty a byte for each page, 1 where the
@@ -23,6 +24,35 @@
 #include <sys/stat.h>
 #include <sys/syscall.h>
 #include <unistd.h>
+
+/* ---- memory */
+
+extern void *__libc_malloc(size_t bytes), *__libc_calloc(size_t count, size_t bytes), *__libc_realloc(void *old, size_t bytes);
+
+static bool no_memory(void)
+{
+    static int count;
+    const char *failing = getenv("SYNCS_FAIL_MEMORY");
+    bool fails = failing && ++count == atoi(failing);
+    if (fails)
+        errno = ENOMEM;
+    return fails;
+}
+
+void *malloc(size_t bytes)
+{
+    return no_memory() ? NULL : __libc_malloc(bytes);
+}
+
+void *calloc(size_t count, size_t bytes)
+{
+    return no_memory() ? NULL : __libc_calloc(count, bytes);
+}
+
+void *realloc(void *old, size_t bytes)
+{
+    return no_memory() ? NULL : __libc_realloc(old, bytes);
+}
 
 static char *mapped;
 static size_t mapped_bytes;
@@ -165,9 +195,26 @@ int fsync(int synced)
     close(file);
     static int count;
     const char *killed = getenv("SYNCS_KILL");
-    if (killed && ++count == atoi(killed))
+    count++;
+    if (killed && count == atoi(killed))
         raise(SIGKILL);
+    const char *failing = getenv("SYNCS_FAIL_FSYNC");
+    if (failing && count == atoi(failing)) {
+        errno = EIO;
+        return -1;
+    }
     return (int)syscall(SYS_fsync, synced);
+}
+
+ssize_t pread(int file, void *to, size_t bytes, off_t from)
+{
+    static int count;
+    const char *failing = getenv("SYNCS_FAIL_READ");
+    if (failing && ++count == atoi(failing)) {
+        errno = EIO;
+        return -1;
+    }
+    return syscall(SYS_pread64, file, to, bytes, from);
 }
 
 int renameat2(int from_folder, const char *from, int to_folder, const char *to, unsigned flags)
