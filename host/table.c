@@ -70,13 +70,39 @@ static int open_failed(const char *name, bool writing)
 }
 
 /*
+ * A writer that waits under readers whose turns overlap would wait for ever. So there is a gate before the lock, which everybody holds for the
+ * moment of taking it, and a writer as long as it waits: readers that come later are behind it. The gate is a lock of a byte that no table has.
+ */
+#define GATE ((off_t)1 << 62)
+
+/* Takes the gate, as a reader or a writer, or leaves it. A file system that has no such locks has no gate. */
+static bool gate(const struct table *t, short kind)
+{
+    struct flock part = {.l_type = kind, .l_whence = SEEK_SET, .l_start = GATE, .l_len = 1};
+    return fcntl(t->file, F_OFD_SETLK, &part) == 0 || (errno != EAGAIN && errno != EACCES);
+}
+
+/* One try; *within says whether the gate is held. False with errno, EWOULDBLOCK if others are before. */
+static bool try_lock(const struct table *t, bool *within)
+{
+    if (!*within)
+        *within = gate(t, t->writing ? F_WRLCK : F_RDLCK);
+    bool locked = *within && flock(t->file, (t->writing ? LOCK_EX : LOCK_SH) | LOCK_NB) == 0;
+    int why = *within ? errno : EWOULDBLOCK;
+    if (locked || !t->writing)
+        *within = *within && !gate(t, F_UNLCK);
+    errno = why;
+    return locked;
+}
+
+/*
  * Any number of readers, or one writer. Programs that take no lock are noticed by what they store. *waited is the time so far, in
  * milliseconds.
  */
 static int lock(const struct table *t, uint64_t seconds, uint64_t *waited)
 {
     const struct timespec moment = {.tv_nsec = LOCK_PAUSE * 1000000L};
-    for (; flock(t->file, (t->writing ? LOCK_EX : LOCK_SH) | LOCK_NB) != 0; *waited += LOCK_PAUSE) {
+    for (bool within = false; !try_lock(t, &within); *waited += LOCK_PAUSE) {
         if (errno != EWOULDBLOCK)
             return fail(BAD_FILE, "%s cannot be locked: %s", t->name, strerror(errno));
         if (*waited / 1000 >= seconds)

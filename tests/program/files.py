@@ -4,6 +4,7 @@ import mmap
 import os
 import re
 import resource
+import select
 import shutil
 import signal
 import struct
@@ -135,6 +136,41 @@ def waiting(program, folder):
         out, err = run.communicate(timeout=60)
         assert run.returncode == 0 and out.startswith(answer), (out, err)
         assert err == f"catalogue: waiting for {t}, which another program uses\n", err
+
+
+def a_writer_among_readers(program, folder):
+    """Readers whose turns overlap: a writer that waits comes to its turn before those that came after it. Each reader here prints more than
+    its pipe takes, and has the table until somebody reads that."""
+    t, csv = f"{folder}/t", f"{folder}/csv"
+    with open(csv, "w") as f:
+        f.writelines(f"{code(i)},{i}\n" for i in range(1, 12001))
+    program.done("make", t, 1300)
+    program.done("load", t, csv)
+
+    def started(*words):
+        return program.start(*words, stdout=subprocess.PIPE, stderr=subprocess.PIPE)
+
+    def has_begun(run):
+        """The reader has its turn: it has printed."""
+        return bool(select.select([run.stdout], [], [], 0.5)[0])
+
+    first = started("list", t)
+    assert select.select([first.stdout], [], [], 60)[0]
+    other = started("list", t)
+    assert select.select([other.stdout], [], [], 60)[0]
+    writer = started("add", t, code(20000), 20000, "--wait", 60)
+    # It says that it waits after a second.
+    assert writer.stderr.readline() == f"catalogue: waiting for {t}, which another program uses\n"
+    behind = started("list", t, "--wait", 60)
+    program.refuses(BAD_FILE, "is in use by another program", "check", t)
+    assert not has_begun(behind), "a reader came before the writer that waited"
+    for run in (first, other):
+        out, err = run.communicate(timeout=60)
+        assert run.returncode == 0 and len(out.splitlines()) == 12000, err
+    out, err = writer.communicate(timeout=60)
+    assert writer.returncode == 0 and out.startswith("added "), (out, err)
+    out, err = behind.communicate(timeout=60)
+    assert behind.returncode == 0 and len(out.splitlines()) == 12001, err
 
 
 def changed_while_it_loads(program, folder, meddle, prepare=lambda t: None):
@@ -321,5 +357,5 @@ def little_memory_for_a_salvage(program, folder):
     return f"from {enough} KB on"
 
 
-TESTS = [no_tables, other_files, read_only, in_use, waiting, changed_meanwhile, changed_by_a_mapping, closed_streams, printed_into_the_table,
+TESTS = [no_tables, other_files, read_only, in_use, waiting, a_writer_among_readers, changed_meanwhile, changed_by_a_mapping, closed_streams, printed_into_the_table,
          a_disk_that_is_full]
