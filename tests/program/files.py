@@ -103,6 +103,24 @@ def read_only(program, folder):
     return "also as another user"
 
 
+def a_folder_that_cannot_be_read(program, folder):
+    """A user who may go through the table's folder, and not read it, changes the table all the same."""
+    within, other = f"{folder}/within", {"user": 65534, "group": 65534}
+    os.mkdir(within)
+    t, csv = table(program, within)
+    os.chmod(t, 0o666), os.chmod(csv, 0o644), os.chmod(within, 0o711), os.chmod(folder, 0o755)
+    if os.geteuid() != 0:
+        return "not the superuser"
+    try:
+        program.done("--help", **other)
+    except (OSError, subprocess.SubprocessError):
+        return "no other user"
+    for words in (["add", t, code(50), 50], ["load", t, csv], ["remove", t, code(1)], ["repair", t]):
+        program.done(*words, **other)
+    assert [r for _, r in listed(program.done("list", t))] == [*range(2, 20), 50, 60]
+    return None
+
+
 def in_use(program, folder):
     """A table that another program has locked: a refusal, or a wait; a search takes no lock and answers."""
     t, csv = table(program, folder)
@@ -357,5 +375,5 @@ def little_memory_for_a_salvage(program, folder):
     return f"from {enough} KB on"
 
 
-TESTS = [no_tables, other_files, read_only, in_use, waiting, a_writer_among_readers, changed_meanwhile, changed_by_a_mapping, closed_streams, printed_into_the_table,
+TESTS = [no_tables, other_files, read_only, a_folder_that_cannot_be_read, in_use, waiting, a_writer_among_readers, changed_meanwhile, changed_by_a_mapping, closed_streams, printed_into_the_table,
          a_disk_that_is_full]
