@@ -375,5 +375,5 @@ def little_memory_for_a_salvage(program, folder):
     return f"from {enough} KB on"
 
 
-TESTS = [no_tables, other_files, read_only, a_folder_that_cannot_be_read, in_use, waiting, a_writer_among_readers, changed_meanwhile, changed_by_a_mapping, closed_streams, printed_into_the_table,
-         a_disk_that_is_full]
+TESTS = [no_tables, other_files, read_only, a_folder_that_cannot_be_read, in_use, waiting, a_writer_among_readers, changed_meanwhile,
+         changed_by_a_mapping, closed_streams, printed_into_the_table, a_disk_that_is_full]

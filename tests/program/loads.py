@@ -257,7 +257,9 @@ def a_line_without_an_end(program, folder):
     for lines, there in itertools.product(("/dev/zero", csv), ([], [(code(0), 9999)])):
         for number in (signal.SIGINT, signal.SIGTERM):
             fill(program, t, 40, there)
-            run = program.start("load", t, lines, stdout=subprocess.PIPE, stderr=subprocess.PIPE)
+            # Whoever runs the tests may have had signals ignored.
+            run = program.start("load", t, lines, stdout=subprocess.PIPE, stderr=subprocess.PIPE,
+                                preexec_fn=lambda: signal.signal(number, signal.SIG_DFL))
             while not catches(run.pid, number):
                 time.sleep(0.01)
             time.sleep(0.2)

@@ -754,7 +754,8 @@ def little_memory_for_a_load(program, folder):
 
 
 TESTS = [packed_words, packed_beside_another, emptied_tables, full_tables, refused_lines, batches_are_single_additions,
-         acknowledged_one_by_one, loads_back, the_same_rights, the_same_attributes, a_file_of_the_same_name, files_of_dead_programs, changed_in_place, no_room_for_a_file, in_other_places,
-         others_that_wait, killed_while_it_packs, killed_between_batches, a_signal_while_it_packs]
+         acknowledged_one_by_one, loads_back, the_same_rights, the_same_attributes, a_file_of_the_same_name, files_of_dead_programs,
+         changed_in_place, no_room_for_a_file, in_other_places, others_that_wait, killed_while_it_packs, killed_between_batches,
+         a_signal_while_it_packs]
 # Too large for a program with sanitizers, or against its own use of memory.
 ONCE = [large_loads, little_memory_for_a_load]
