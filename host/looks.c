@@ -6,7 +6,7 @@
 #include "catalogue.h"
 #include "table.h"
 
-/* The level of a node that was not looked at. */
+/* The level, in the copy, of a node that was named and not looked at: no search passes it. */
 #define UNSEEN UINT64_MAX
 #define LEVELS 16
 
@@ -18,23 +18,18 @@ static size_t start_of(uint64_t n)
     return HEADER_WORDS + NODE_WORDS * ((size_t)n - 1);
 }
 
-static void forget(struct looks *l, uint64_t n)
-{
-    l->words[start_of(n) + LEVEL] = UNSEEN;
-}
-
 bool looks_begin(struct looks *l, const uint64_t *mapped, uint64_t *words, size_t count)
 {
     *l = (struct looks){.mapped = mapped, .words = words, .count = count, .tree = {.words = words, .nodes = words[2]}};
     l->seen = malloc(l->tree.nodes * sizeof *l->seen);
-    for (uint64_t n = 1; n <= l->tree.nodes; n++)
-        forget(l, n);
-    return l->seen != NULL;
+    l->state = calloc(l->tree.nodes + 1, sizeof *l->state);
+    return l->seen && l->state;
 }
 
 void looks_end(struct looks *l)
 {
     free(l->seen);
+    free(l->state);
 }
 
 /* ---- copied, and compared */
@@ -53,21 +48,62 @@ static bool same(const struct looks *l, size_t from, size_t count)
     return true;
 }
 
-static bool is_seen(const struct looks *l, uint64_t n)
+/* ---- which nodes the copy has. The marks lie beside the words, so that no word of a table can stand for one */
+
+/* The search of the copy does not pass node n. */
+static void bar(struct looks *l, uint64_t n)
 {
-    return tree_word(&l->tree, n, LEVEL) != UNSEEN;
+    l->words[start_of(n) + LEVEL] = UNSEEN;
+    l->state[n] = NODE_BARRED;
 }
 
-/* Node n is the table's, and has been looked at. */
+static void name(struct looks *l, uint64_t n)
+{
+    if (tree_has(&l->tree, n) && l->state[n] == NODE_UNNAMED)
+        bar(l, n);
+}
+
+/* What a search may come to from node n; of a leaf the pointers are recordings. */
+static void name_from(struct looks *l, uint64_t n)
+{
+    name(l, tree_word(&l->tree, n, SIBLING));
+    if (tree_word(&l->tree, n, LEVEL) == 0)
+        return;
+    name(l, tree_word(&l->tree, n, LEFT));
+    for (unsigned i = 0; i < SLOTS; i++)
+        name(l, tree_pointer(&l->tree, n, i));
+}
+
+static void forget_all(struct looks *l)
+{
+    while (l->looked > 0)
+        bar(l, l->seen[--l->looked]);
+}
+
+static void copy_header(struct looks *l)
+{
+    copy(l, 0, HEADER_WORDS);
+    name(l, l->words[FIRST_ROOT]);
+    name(l, l->words[SECOND_ROOT]);
+}
+
+static bool is_seen(const struct looks *l, uint64_t n)
+{
+    return l->state[n] == NODE_LOOKED;
+}
+
+/* Node n is the table's, and has been looked at: once, so that `seen` has room for all. */
 static bool look(struct looks *l, uint64_t n)
 {
     if (!tree_has(&l->tree, n))
         return false;
     if (!is_seen(l, n)) {
         copy(l, start_of(n), NODE_WORDS);
+        l->state[n] = NODE_LOOKED;
         l->seen[l->looked++] = (uint32_t)n;
+        name_from(l, n);
     }
-    return is_seen(l, n);
+    return true;
 }
 
 /* All that was looked at is still there: so it was at the moment before the first word was compared. */
@@ -143,9 +179,8 @@ uint64_t looks_search(struct looks *l, uint64_t collection, uint64_t key, uint64
                       uint64_t *higher)
 {
     for (unsigned tries = 0; tries < MOST_TRIES; tries++) {
-        while (l->looked > 0)
-            forget(l, l->seen[--l->looked]);
-        copy(l, 0, HEADER_WORDS);
+        forget_all(l);
+        copy_header(l);
         uint64_t number = search(l, collection, key, recording, access, next, higher);
         if (unchanged(l))
             return number;

@@ -10,14 +10,22 @@
 
 /*
  * The library's search wants words that keep still. So the header and the nodes that a search passes are copied, whole stores of 8 bytes at a
- * time, and compared once more: where none has changed they were all there at one moment, and the library searches the copy.
+ * time, and compared once more: where none has changed they were all there at one moment, and the library searches the copy. Only the nodes
+ * that the copied ones name are touched besides: a find costs what its way costs, in a table of any length.
  */
+enum node_state {
+    NODE_UNNAMED, /* the roots do not name it, nor does a node that was looked at: no search comes there */
+    NODE_BARRED,  /* named: it has a level in the copy that no search passes */
+    NODE_LOOKED   /* copied */
+};
+
 struct looks {
     const uint64_t *mapped; /* the words that may change */
-    uint64_t *words;        /* the copy; a node that was not looked at has a level there that no search passes */
+    uint64_t *words;        /* the copy */
     size_t count;
     struct tree tree; /* of the copy */
-    uint32_t *seen;   /* the nodes looked at */
+    uint8_t *state;   /* by node number, an enum node_state */
+    uint32_t *seen;   /* the nodes looked at, each once */
     size_t looked;
 };
 

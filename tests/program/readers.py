@@ -1,5 +1,6 @@
 """Request 10: find takes no lock and runs while another program loads; and searches without a lock by the hundred thousand."""
 import os
+import resource
 import subprocess
 
 from drive import *
@@ -52,5 +53,49 @@ def many_searches(program, folder):
     return "; ".join(said)
 
 
-TESTS = [finds_while_it_loads]
-ONCE = [many_searches]
+def looked_at_once(program, folder):
+    """A word of a table cannot stand for the mark of a node that was not looked at: each node in turn with every bit of its level set, and
+    others of its words; and a chain of inner nodes whose sibling is such a node. A code that is found has its own recording."""
+    t, bad = f"{folder}/t", f"{folder}/bad"
+    fill(program, t, 12, [(code(i), recording(i)) for i in range(40)])
+    words = read_words(t)
+    statuses = set()
+    for node in range(1, words[2] + 1):
+        for word, value in ((2, MARK), (1, node), (1, node % words[2] + 1), (3, MARK)):
+            at = 8 + 32 * (node - 1) + word
+            write_words(bad, words[:at] + [value] + words[at + 1:])
+            for i in range(0, 40, 1 if program.quick and word == 2 else 13):
+                status, out, _ = program("find", bad, code(i))
+                assert status in (0, LOST, ABSENT) and (status != 0 or out == f"{recording(i)},open\n"), (node, word, i, status, out)
+                statuses.add(status)
+    assert statuses >= {0, LOST}, statuses
+    for nodes in (2, 3, 12, 200):
+        chain = [1, 1, nodes] + 5 * [0]
+        for n in range(1, nodes):
+            chain += [n + 1, nodes, nodes - n, 0] + 28 * [0]
+        write_words(bad, chain + [0, 0, MARK, MARK] + 28 * [0])
+        program.refuses(LOST, "damaged on the way to #5", "find", bad, "#5")
+
+
+def faults(program, *words):
+    """The page faults of a command that succeeds."""
+    before = resource.getrusage(resource.RUSAGE_CHILDREN).ru_minflt
+    program.done(*words)
+    return resource.getrusage(resource.RUSAGE_CHILDREN).ru_minflt - before
+
+
+def few_pages(program, folder):
+    """A find in the largest table touches the pages of its way, and no others: some dozens, of 4,096 that the table has."""
+    t, csv = f"{folder}/t", f"{folder}/csv"
+    program.done("make", t, 65535)
+    with open(csv, "w") as f:
+        f.writelines(f"AA0{i % 100:02}{i // 100:07},{i + 1}\n" for i in range(100000))
+    program.done("load", t, csv)
+    least = faults(program, "--version")
+    most = max(faults(program, "find", t, f"AA0{i % 100:02}{i // 100:07}") for i in range(0, 100000, 9973))
+    assert most < least + 150, (least, most)
+    return f"{most} page faults, of which {least} are the program's start"
+
+
+TESTS = [finds_while_it_loads, looked_at_once]
+ONCE = [many_searches, few_pages]
