@@ -99,6 +99,23 @@ static bool look_up(struct table *t, uint64_t key, uint64_t *number, uint64_t *r
 }
 
 static int find(struct table *t, struct command_line *l)
+/* A slot that no sound table has: its recording must not play. Nothing is printed that a player could take for an answer. */
+static int say_damaged(const struct table *t, uint64_t key, uint64_t recording, uint64_t access)
+{
+    char code[KEY_TEXT], part[PART_TEXT];
+    key_text(key, code);
+    table_part(t, part);
+    return fail(CATALOGUE_NOT_SOUND,
+                "the slot of %s in %s%s is damaged: recording %" PRIu64 " with class %" PRIu64 " is none, and must not play; "
+                "catalogue salvage %s NEW keeps the codes that can be read",
+                code, part, t->name, recording, access, t->name);
+}
+
+static bool in_range(uint64_t recording, uint64_t access)
+{
+    return recording != 0 && access <= CATALOGUE_CLOSED;
+}
+
 {
     uint64_t number, recording, access, next, higher;
     char pointer[POINTER_TEXT];
@@ -111,6 +128,8 @@ static int find(struct table *t, struct command_line *l)
     if (number != 0)
         return refuse(number, t, l->low, 0);
     printf("%s\n", pointer_text(recording, access, pointer));
+    if (!in_range(recording, access))
+        return say_damaged(t, l->low, recording, access);
     return 0;
 }
 
@@ -369,7 +388,8 @@ const struct command commands[] = {
      command_remove},
     {"class", "TABLE CODE CLASS", "another class for a code's recording: open, room or closed", "class room.cat AA-000-19-12345 closed",
      4, 4, NAMING | DOCKING | CUT | CARRYING | WAITING, command_class},
-    {"find", "TABLE CODE", "prints the code's recording,class; where the code is absent, tells the next one up",
+    {"find", "TABLE CODE", "prints the code's recording,class; if the code is absent, says the next one up. A slot\n"
+     "with recording 0 or a class that there is not is refused with 4: it must not play",
      "find room.cat AA0001912345", 3, 3, NAMING, command_find},
     {"list", "TABLE [FROM TO]", "prints the codes from FROM to TO, or all, as lines code,recording,class that load\nreads",
      "list room.cat AA0000000000 AAZZZ9999999", 2, 4, NAMING | WAITING, command_list},

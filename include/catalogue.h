@@ -56,7 +56,7 @@
  *         && catalogue_insert(working, words, 1, orders, CATALOGUE_LIST_WORDS, CATALOGUE_ORDERED, key, 7, CATALOGUE_OPEN, &stores,
  *                             &flushes, &barriers) == 0)
  *         catalogue_carry_out(memory, words, orders, CATALOGUE_LIST_WORDS, stores + flushes + barriers);
- *     if (catalogue_search(memory, words, 1, key, &recording, &access, &next, &higher) == 0 && access != CATALOGUE_CLOSED)
+ *     if (catalogue_search(memory, words, 1, key, &recording, &access, &next, &higher) == 0 && access == CATALOGUE_OPEN)
  *         printf("%llu\n", (unsigned long long)recording);
  */
 #ifndef CATALOGUE_H
@@ -163,7 +163,8 @@ uint64_t catalogue_pack(uint64_t *table, size_t words, uint64_t collections, con
                         size_t loan_words);
 
 /*
- * 0, *recording and its class *access where the key is found; in a table that is not sound they are what stands there, classes up to 255.
+ * 0, *recording and its class *access where the key is found; in a table that is not sound they are what stands there, recording 0 and
+ * classes up to 255: what plays a recording takes a class for open or room only if it is just that, and plays no other.
  * 255 where it is absent: then *higher is 1 and *next the next key up in the map, or *higher is 0 and *next stays, for no key is higher.
  * Else 2, 17 or 3. A word that is not named for a case stays. Only this collection's nodes are looked at.
  * The next key is looked for from the leaf where the search ended and on along the siblings, past leaves that are empty; a leaf there that

@@ -91,6 +91,26 @@ def wrong_command_lines(program, folder):
     program.refuses(BAD_USAGE, "--pause takes a number", "repair", t, "--pause", "long")
 
 
+def slots_out_of_range(program, folder):
+    """A class that there is not, or recording 0: find prints nothing to play and gives 4, as every other command does; the other codes are
+    found, and a salvage drops the slot."""
+    t, new = f"{folder}/t", f"{folder}/new"
+    fill(program, t, 4, [(code(i), 70 + i) for i in range(5)])
+    good = read_words(t)
+    at = good.index(key(code(2))) + 1
+    for pointer, said in ((9 << 56 | 77, "77 with class 9"), (3 << 56 | 72, "72 with class 3"), (255 << 56 | 1, "1 with class 255"), (1 << 56, "0 with class 1")):
+        write_words(t, good[:at] + [pointer] + good[at + 1:])
+        program.refuses(NOT_SOUND, f"the slot of {code(2)} in {t} is damaged: recording {said} is none, and must not play", "find", t, code(2))
+        assert program.done("find", t, code(1)) == "71,open\n" and program.done("find", t, code(3)) == "73,open\n"
+        for words in (["list", t], ["check", t], ["film", t, "-", code(1)], ["orders", t, "remove", code(2)], ["add", t, code(9), 9], ["class", t, code(2), "closed"]):
+            program.refuses(NOT_SOUND, "is not sound", *words)
+        status, out, err = program("show", t)
+        assert status == NOT_SOUND and "is not sound" in err and code(2) in out, (status, out, err)
+        program("salvage", t, new)
+        assert [c for c, _ in listed(program.done("list", new))] == [code(i) for i in (0, 1, 3, 4)]
+        os.remove(new)
+
+
 def making(program, folder):
     t = f"{folder}/t"
     assert program.done("make", t, 1) == f"made {t} with 1 node\n"
@@ -391,7 +411,7 @@ def the_first_hour(program, folder):
             assert program.done("find", t, c) == f"{r},open\n"
 
 
-TESTS = [help_has_an_example_of_each, help_of_one_command, the_manual_page, words_and_options, wrong_command_lines, making,
+TESTS = [help_has_an_example_of_each, help_of_one_command, the_manual_page, words_and_options, wrong_command_lines, slots_out_of_range, making,
          the_worked_orders, orders_are_what_is_carried_out, fast_says_what_it_risks, codes_as_people_type_them, refusals_of_changes,
          a_tree_of_sixteen_levels, searching_and_listing, the_next_code_up, answers_that_cannot_be_printed, drawing, classes,
          before_there_were_classes, nodes_come_free, the_first_hour]
