@@ -8,8 +8,15 @@
  * Words must keep still while a call reads them: a search of words that another thread or process is changing may pair a code with its
  * neighbour's recording. Copy the nodes that it passes, and compare them once more, as host/looks.c does; a search of such a copy answers
  * as before the change or as after it.
- * No call asks for memory. Listing, the calls that write one change, packing, judging and the wear figures need 300 KB of stack, many
- * insertions in one call and a salvage 450 KB, the others 2 KB.
+ * No call asks for memory. Stack that a call takes, whatever the words hold, rounded up (KB of 1,024 bytes, on x86-64):
+ *
+ *       2 KB: catalogue_version, catalogue_parse, catalogue_print, catalogue_make, catalogue_search, catalogue_search_with,
+ *             catalogue_carry_out, catalogue_script, catalogue_script_number
+ *     150 KB: catalogue_pack
+ *     320 KB: catalogue_list, catalogue_insert, catalogue_delete, catalogue_set_class, catalogue_repair, catalogue_sentinels,
+ *             catalogue_insert_with, catalogue_delete_with, catalogue_set_class_with, catalogue_repair_with, catalogue_judge_insert,
+ *             catalogue_judge_delete, catalogue_wear
+ *     450 KB: catalogue_insert_many, catalogue_salvage
  *
  * A table has one collection or two, as it was made: the archive's own, 1, and the loan collection, 2. Each is a tree of its own codes, and
  * the calls that read or change one name it; a repair names none. The two share the nodes: a node belongs to one tree or is free for
