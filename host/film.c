@@ -16,8 +16,9 @@
 #include "verdict.h"
 #include "ways.h"
 
-/* Images of one scene that are worked out whole; where there are more, some of them are. */
+/* Images of one scene, at most; if a cut may leave more, some of them are left out. Each store keeps one. */
 #define MOST_IMAGES 20000
+_Static_assert(MOST_FILMED < MOST_IMAGES, "a store without an image");
 
 /* A way's number in a row of them, in so many characters. */
 #define WAY_DIGITS 3
@@ -165,16 +166,33 @@ static void visit(void *with, const uint32_t *kept)
 
 /* ---- the parts of a scene */
 
+/* By order, how many images it has for certain, and their sum: its short row, or one image if all short rows together are too many. */
+static size_t set_aside(const struct filming *f, size_t *least)
+{
+    size_t sum = 0, stores = 0;
+    for (size_t c = 0; c <= f->reel.count; c++) {
+        least[c] = reel_short(&f->reel, c);
+        sum += least[c];
+        stores += least[c] > 0;
+    }
+    if (sum <= MOST_IMAGES)
+        return sum;
+    for (size_t c = 0; c <= f->reel.count; c++)
+        least[c] = least[c] > 0;
+    return stores;
+}
+
 /* By order, each image's four numbers; and the orders of whose images some are left out. */
 static void print_images(struct filming *f)
 {
-    size_t *some = room_of(f->reel.count + 1, sizeof *some), count = 0;
+    size_t *some = room_of(f->reel.count + 1, sizeof *some), *least = room_of(f->reel.count + 1, sizeof *least), count = 0;
+    size_t later = set_aside(f, least);
     fputs("\"images\":[", f->out);
     for (f->order = 0; f->order <= f->reel.count; f->order++) {
-        size_t room = f->images < MOST_IMAGES ? MOST_IMAGES - f->images : 0;
+        later -= least[f->order];
         f->begun = false;
         fputs(f->order == 0 ? "[" : ",[", f->out);
-        if (reel_births(&f->reel, f->order, room, visit, f))
+        if (reel_births(&f->reel, f->order, MOST_IMAGES - f->images - later, visit, f))
             some[count++] = f->order;
         fputc(']', f->out);
     }
@@ -183,6 +201,7 @@ static void print_images(struct filming *f)
         fprintf(f->out, "%s%zu", i == 0 ? "" : ",", some[i]);
     fputs("],\n", f->out);
     free(some);
+    free(least);
 }
 
 static void print_first(struct filming *f, const char *name, const struct first *first)

@@ -90,6 +90,7 @@
       all *= chosen === 0 ? 1 : 0;
     });
     if (s.some.indexOf(birth) >= 0) {
+      if (lacking.length > 0 && s.images[birth].length === 4) return null;
       if (lacking.length > 1 && all === 0) return null;
       place = lacking.length > 1 ? s.images[birth].length / 4 - 1 : lacking.length === 1 ? found : 0;
     }
@@ -464,6 +465,11 @@
 
   /* ---- the controls */
 
+  /* There was no room for more than one image of some orders. */
+  function alone(s) {
+    return s.some.some(function (c) { return s.images[c].length === 4; });
+  }
+
   function cutText(s, moment, kept) {
     var out = [];
     s.lines.forEach(function (line, l) {
@@ -477,7 +483,7 @@
         + "</p>");
     });
     if (s.some.length && state.order >= s.some[0] && out.length > 1)
-      out.push("<p>These are more choices than this page holds. It has: none of any line; all; and any number of one line with the others written whole.</p>");
+      out.push("<p>These are more choices than this page holds. It has: all; " + (alone(s) ? "and for some orders " : "") + "none of any line; and any number of one line with the others written whole.</p>");
     return out.join("") || '<p class="clean">No line is dirty: memory holds just this, whatever happens.</p>';
   }
 
@@ -518,6 +524,7 @@
     var images = s.images.reduce(function (sum, x) { return sum + x.length / 4; }, 0), out = esc(s.told);
     if (s.lost) out += " <b>The first cut that loses a code comes after order " + s.lost.order + ".</b> ";
     else if (s.unsound) out += " <b>The first cut that leaves a table that is not sound comes after order " + s.unsound.order + ".</b> ";
+    else if (s.some.length) out += " A cut may leave more images than this page holds; the " + images + " that it holds keep the old map or the new one. ";
     else out += " <b>No cut loses a code:</b> all " + images + " images that one may leave keep the old map or the new one. ";
     if (s.judge !== null) out += s.judge < 0 ? "The judge says yes. " : "The judge says no, after order " + s.judge + ". ";
     if (s.lost || s.unsound) out += '<button type="button" data-go="bad">go to that cut</button> ';

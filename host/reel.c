@@ -131,6 +131,15 @@ static size_t choices_of(const struct births *b, size_t limit)
     return product <= limit ? product : limit + 1;
 }
 
+/* Those that lack stores of one line at most, and the one that has none of any other line. */
+static size_t short_choices_of(const struct births *b)
+{
+    size_t sum = b->count == 0 ? 1 : 2;
+    for (size_t i = 0; i < b->count; i++)
+        sum += b->stored[b->others[i]] - b->flushed[b->others[i]];
+    return sum;
+}
+
 static void keep_all(struct births *b)
 {
     memcpy(b->kept, b->stored, b->reel->line_count * sizeof *b->kept);
@@ -173,19 +182,35 @@ static void visit_some(struct births *b, void (*visit)(void *with, const uint32_
     visit(with, b->kept);
 }
 
+static void visit_all(struct births *b, void (*visit)(void *with, const uint32_t *kept), void *with)
+{
+    keep_none(b);
+    do
+        visit(with, b->kept);
+    while (next(b));
+}
+
+size_t reel_short(const struct reel *r, size_t c)
+{
+    struct births b;
+    size_t count = begin(&b, r, c) ? short_choices_of(&b) : 0;
+    end(&b);
+    return count;
+}
+
 bool reel_births(const struct reel *r, size_t c, size_t most, void (*visit)(void *with, const uint32_t *kept), void *with)
 {
     struct births b;
     bool some = false;
     if (begin(&b, r, c)) {
         some = choices_of(&b, most) > most;
-        keep_none(&b);
-        if (some)
+        keep_all(&b);
+        if (!some)
+            visit_all(&b, visit, with);
+        else if (short_choices_of(&b) <= most)
             visit_some(&b, visit, with);
         else
-            do
-                visit(with, b.kept);
-            while (next(&b));
+            visit(with, b.kept);
     }
     end(&b);
     return some;

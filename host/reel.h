@@ -35,9 +35,13 @@ void reel_image(const struct reel *r, const uint32_t *kept, uint64_t *image);
 
 /*
  * The images that first appear with order c (0: the table as it was), each handed to visit: every number of the unflushed stores to each
- * other line that has any, the last line's changing fastest. Where these are more than most, only: all of them; those that lack some of one
- * line, line by line; and none of any other line. Then it answers true.
+ * other line that has any, the last line's changing fastest. If these are more than most, only a short row: all of them; those that lack some
+ * of one line, line by line; and none of any other line. If these are too many as well, the first of them alone, so that at most `most`
+ * images are handed on for a store, and one at least. It returns true if any was left out.
  */
 bool reel_births(const struct reel *r, size_t c, size_t most, void (*visit)(void *with, const uint32_t *kept), void *with);
+
+/* How many images the short row of order c has; 0 for an order that is no store. */
+size_t reel_short(const struct reel *r, size_t c);
 
 #endif

@@ -18,6 +18,8 @@ BARRIER = MARK - 1
 checked = {"moments": 0, "choices": 0, "images": 0, "searches": 0}
 met = {}
 
+# Images of one list that a film has at most.
+MOST_IMAGES = 20000
 # Choices of one moment that are all tried; of more, some.
 MOST_CHOICES = 2000
 
@@ -87,6 +89,8 @@ class Scene:
             others = [(line, late[line], [i for i in late[line] if i in numbers]) for line in sorted(late) if line != own]
             if birth in self.scene["some"]:
                 lacking = [k for k, (_, all, has) in enumerate(others) if len(has) < len(all)]
+                if lacking and len(self.scene["images"][birth]) == 4:
+                    return None
                 if len(lacking) > 1:
                     if any(has for _, _, has in others):
                         return None
@@ -374,7 +378,22 @@ def too_many(chance):
     check_scene(scenes[1], words, late, change, 1, chance, False, whole=False)
     assert scenes[1]["lost"]["order"] < 40
     film(words, change, 1, "--list", f"{FOLDER}/list.txt", page=f"{FOLDER}/list-long.html")
-    return sum(len(x) // 4 for x in scenes[1]["images"])
+    told = sum(len(x) // 4 for x in scenes[1]["images"])
+    assert told <= MOST_IMAGES, told
+    return told
+
+
+def far_too_many(chance):
+    """Stores to two lines in turn, and no flush: of the last orders there is one image alone."""
+    words, change = grown(chance, 3, 1, 5)[0], ("+", code_key(500), 777, 0)
+    orders = [(17 + 8 * (i % 2), 1000 + i % 7) for i in range(300)]
+    with open(f"{FOLDER}/list.txt", "w") as f:
+        f.writelines(f"store {w} {v}\n" for w, v in orders)
+    scene = film(words, change, 1, "--data", "--list", f"{FOLDER}/list.txt")[1]
+    told = sum(len(x) // 4 for x in scene["images"])
+    assert told <= MOST_IMAGES and all(scene["images"]) and any(len(scene["images"][c]) == 4 for c in scene["some"]), told
+    film(words, change, 1, "--list", f"{FOLDER}/list.txt", page=f"{FOLDER}/list-longest.html")
+    return told
 
 
 def main():
@@ -411,8 +430,8 @@ def main():
     assert kinds["+"] + kinds["-"] + kinds["repair"] == 100 and min(kinds.values()) >= 15, kinds
     print(f"{kinds} and {passed - 100} spoilt lists: {checked}, {met}")
     assert set(met) == {"settled", "a", "b", "c", "unsound", "old", "new", "neither"}, met
-    print(f"a list with too many images: {too_many(chance)} told")
-    passed += 1
+    print(f"a list with too many images: {too_many(chance)} told; one with far too many: {far_too_many(chance)}")
+    passed += 2
     print(f"{passed} passed, 0 failed")
 
 

@@ -61,6 +61,19 @@ def the_lesson(program, folder):
     assert states(program.done("film", "--drawings", "--data", cwd=folder)) == scenes and os.listdir(folder) == []
 
 
+def very_many_images(program, folder):
+    """A film has 20,000 images of a list at most, and one of each store at least: where even the short rows are more, the one with all stores."""
+    t, list = f"{folder}/t", f"{folder}/list"
+    fill(program, t, 3, [(code(i), i) for i in (20, 30, 40)])
+    write(list, "".join(f"store {17 + 8 * (i % 2)} {1000 + i % 7}\n" for i in range(300)))
+    scene = states(program.done("film", t, "+", code(25), 25, "--list", list, "--data"))[1]
+    counts = [len(four) // 4 for four in scene["images"]]
+    assert sum(counts) <= 20000 and min(counts) == 1 and len(counts) == 301, (sum(counts), min(counts))
+    alone = [c for c in scene["some"] if counts[c] == 1]
+    assert alone and counts[1:scene["some"][0]] == [1 + (c - 1) // 2 + (c - 1) % 2 for c in range(1, scene["some"][0])], counts
+    return f"{sum(counts)} images, {len(alone)} orders with one of theirs alone"
+
+
 def refusals(program, folder):
     t, list = f"{folder}/t", f"{folder}/list"
     fill(program, t, 4, [(code(i), i) for i in (20, 30)])
@@ -87,4 +100,4 @@ def refusals(program, folder):
         program.refuses(NOT_SOUND, "is not sound", "film", t, *change)
 
 
-TESTS = [a_small_film, a_film_of_a_list, the_lesson, refusals]
+TESTS = [a_small_film, a_film_of_a_list, the_lesson, very_many_images, refusals]
