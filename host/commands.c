@@ -16,6 +16,7 @@
 #include "pack.h"
 #include "salvage.h"
 #include "scripts.h"
+#include "stack.h"
 #include "table.h"
 #include "text.h"
 #include "wear.h"
@@ -98,7 +99,6 @@ static bool look_up(struct table *t, uint64_t key, uint64_t *number, uint64_t *r
     return room;
 }
 
-static int find(struct table *t, struct command_line *l)
 /* A slot that no sound table has: its recording must not play. Nothing is printed that a player could take for an answer. */
 static int say_damaged(const struct table *t, uint64_t key, uint64_t recording, uint64_t access)
 {
@@ -116,20 +116,21 @@ static bool in_range(uint64_t recording, uint64_t access)
     return recording != 0 && access <= CATALOGUE_CLOSED;
 }
 
+static int find(struct table *t, struct command_line *l)
 {
     uint64_t number, recording, access, next, higher;
     char pointer[POINTER_TEXT];
     if (!look_up(t, l->low, &number, &recording, &access, &next, &higher))
-        return fail(BAD_FILE, "not enough memory for %s", t->name);
+        return fail(BAD_FILE, "not enough memory to search %s", t->name);
     if (number == LOOKS_CHANGING)
         return fail(BAD_FILE, "%s is changed faster than it can be read; try again later", t->name);
     if (number == CATALOGUE_ABSENT)
         return say_absent(t, l->low, higher ? &next : NULL);
     if (number != 0)
         return refuse(number, t, l->low, 0);
-    printf("%s\n", pointer_text(recording, access, pointer));
     if (!in_range(recording, access))
         return say_damaged(t, l->low, recording, access);
+    printf("%s\n", pointer_text(recording, access, pointer));
     return 0;
 }
 
@@ -139,7 +140,7 @@ static int list(struct table *t, struct command_line *l)
     size_t room = 2 * 11 * (t->words / NODE_WORDS);
     uint64_t *pairs = calloc(room, sizeof *pairs), count = 0, more;
     if (!pairs)
-        return fail(BAD_FILE, "not enough memory");
+        return fail(BAD_FILE, "not enough memory to list %s", t->name);
     char code[KEY_TEXT], pointer[POINTER_TEXT];
     uint64_t number = catalogue_list(t->working, t->words, t->collection, l->low, l->high, pairs, room, &count, &more);
     if (number != 0)
@@ -198,7 +199,10 @@ static int film_change(struct table *t, struct command_line *l)
 static int with_table(struct command_line *l, bool writing, int (*work)(struct table *t, struct command_line *l))
 {
     struct table t;
-    int status = table_open(&t, l->words[1], writing, &l->table);
+    int status = stack_take();
+    if (status != 0)
+        return status;
+    status = table_open(&t, l->words[1], writing, &l->table);
     if (status == 0)
         status = work(&t, l);
     table_close(&t);
@@ -355,7 +359,8 @@ static int command_script(struct command_line *l)
     uint64_t number;
     if (!read_number(l->words[1], strlen(l->words[1]), &number))
         return fail(BAD_USAGE, "%.40s: a script's number is a whole number from 0 to %d", l->words[1], CATALOGUE_SCRIPTS - 1);
-    return script(number);
+    int status = stack_take();
+    return status != 0 ? status : script(number);
 }
 
 static int command_wear(struct command_line *l)

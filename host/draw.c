@@ -29,7 +29,7 @@ static int judge(struct table *t, const struct trees *trees)
 int check(struct table *t)
 {
     struct trees trees;
-    int status = trees_walk(&trees, t->expected) ? judge(t, &trees) : fail(BAD_FILE, "not enough memory");
+    int status = trees_walk(&trees, t->expected) ? judge(t, &trees) : fail(BAD_FILE, "not enough memory to check %s", t->name);
     trees_free(&trees);
     return status;
 }
@@ -135,7 +135,7 @@ int show(struct table *t)
         status = judge(t, &trees);
         draw_all(&trees);
     } else {
-        fail(status, "not enough memory");
+        fail(status, "not enough memory to draw %s", t->name);
     }
     trees_free(&trees);
     return status;

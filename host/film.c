@@ -146,7 +146,7 @@ static void visit(void *with, const uint32_t *kept)
     reel_image(&f->reel, kept, f->image);
     bool whole = has_header(f);
     if (whole && !trees_walk(&trees, f->image))
-        exit(fail(BAD_FILE, "not enough memory"));
+        end_without_memory();
     uint32_t sound = pool_number(&f->sound, verdict_sound(&f->verdicts, f->image, &trees));
     verdict_maps(&f->verdicts, f->image, &f->differences);
     uint32_t maps = pool_number(&f->maps, differences_json(&f->differences));

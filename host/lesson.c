@@ -11,6 +11,7 @@
 #include "orderlist.h"
 #include "page.h"
 #include "pool.h"
+#include "stack.h"
 #include "text.h"
 
 /* The drawings' tables, as their commands make them; document 01's. */
@@ -185,9 +186,12 @@ static int set_parts(struct part *parts)
 int lesson(bool data)
 {
     size_t count = WRONG + DRAWN;
+    int status = stack_take();
+    if (status != 0)
+        return status;
     struct part *parts = room_of(count, sizeof *parts);
     struct scene *scenes = room_of(count, sizeof *scenes);
-    int status = set_parts(parts);
+    status = set_parts(parts);
     for (size_t i = 0; i < count; i++)
         scenes[i] = parts[i].scene;
     if (status == 0)

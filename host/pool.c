@@ -2,16 +2,22 @@
 #include "pool.h"
 
 #include <inttypes.h>
+#include <stdbool.h>
 #include <stdlib.h>
 #include <string.h>
 
 #include "text.h"
 
+void end_without_memory(void)
+{
+    exit(fail(BAD_FILE, "not enough memory for the film: what was printed of it is not whole, and can go"));
+}
+
 void *room_of(size_t count, size_t size)
 {
     void *room = calloc(count + 1, size);
     if (!room)
-        exit(fail(BAD_FILE, "not enough memory"));
+        end_without_memory();
     return room;
 }
 
@@ -19,8 +25,17 @@ FILE *stream_into(char **text, size_t *length)
 {
     FILE *out = open_memstream(text, length);
     if (!out)
-        exit(fail(BAD_FILE, "not enough memory"));
+        end_without_memory();
     return out;
+}
+
+/* A text that did not grow is not the whole one, even if there is one. */
+char *stream_text(FILE *out, char **text)
+{
+    bool whole = fflush(out) == 0 && !ferror(out);
+    if (fclose(out) != 0 || !whole || !*text)
+        end_without_memory();
+    return *text;
 }
 
 static uint64_t hash_of(const char *text)

@@ -13,11 +13,15 @@ struct pool {
     size_t spread;
 };
 
-/* Zeros for so many things. Where memory is short it says so and ends the program: a film changes nothing that would have to be finished. */
+/* Memory is short: says so and ends the program. A film changes nothing that would have to be finished. */
+_Noreturn void end_without_memory(void);
+
+/* Zeros for so many things. Where memory is short the program ends so. */
 void *room_of(size_t count, size_t size);
 
-/* A stream into a text that is there, to be freed, once the stream is closed; the same where memory is short. */
+/* A stream into a text that is there, to be freed, once stream_text has closed the stream and returned it; the same where memory is short. */
 FILE *stream_into(char **text, size_t *length);
+char *stream_text(FILE *out, char **text);
 
 /* The number of a text, which is taken over and freed with the pool. */
 uint32_t pool_number(struct pool *p, char *text);

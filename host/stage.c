@@ -205,7 +205,7 @@ void stage_set(struct stage *stage, const struct reel *r, const uint64_t *last, 
     bool room = trees_walk(&s.before, r->base);
     room = trees_walk(&s.after, last) && room;
     if (!room)
-        exit(fail(BAD_FILE, "not enough memory"));
+        end_without_memory();
     find_stored(&s);
     choose(&s);
     set_places(stage, &s, collection);

@@ -69,7 +69,7 @@ static void leftover_json(FILE *out, const struct trees *trees)
     size_t length;
     FILE *said = stream_into(&text, &length);
     leftover_print(trees, said);
-    fclose(said);
+    stream_text(said, &text);
     if (length > 0)
         text[length - 1] = '\0';
     json_text(out, text);
@@ -93,8 +93,7 @@ char *verdict_sound(struct verdicts *v, const uint64_t *image, const struct tree
         orders_json(out, v->repair.orders, change_orders(&v->repair));
     }
     fputc('}', out);
-    fclose(out);
-    return text;
+    return stream_text(out, &text);
 }
 
 /* ---- the maps */
@@ -189,6 +188,5 @@ char *differences_json(const struct differences *d)
                 one->key, one->before, one->now, one->number);
     }
     fputs("]]", out);
-    fclose(out);
-    return text;
+    return stream_text(out, &text);
 }

@@ -122,8 +122,7 @@ char *way_json(const struct way *w)
     for (size_t i = 0; i < w->count; i++)
         fprintf(out, "%s%" PRIu64 ",%d", i == 0 ? "" : ",", w->nodes[i], w->by[i]);
     fputs("]]", out);
-    fclose(out);
-    return text;
+    return stream_text(out, &text);
 }
 
 /* ---- keys that are searched alike */

@@ -19,11 +19,6 @@
 /* Words of orders that are summed at a time. */
 #define PART_WORDS ((size_t)CATALOGUE_LONG_LIST_WORDS)
 
-static int no_memory(void)
-{
-    return fail(BAD_FILE, "not enough memory");
-}
-
 /* ---- figures of one list */
 
 static void figures_free(struct figures *f)
@@ -32,17 +27,21 @@ static void figures_free(struct figures *f)
     free(f->extents);
 }
 
-/* 0, or an exit status after saying why. Figures are freed also where they failed. */
-static int figures_of(struct figures *f, const struct table *t, const uint64_t *orders, size_t order_words)
+/* Room for the figures of lists of so many words at most. 0, or an exit status after saying why. Figures are freed also where they failed. */
+static int figures_begin(struct figures *f, const struct table *t, size_t order_words)
 {
     /* Each pair but the last has a word without a store after it, and each has a store. */
     size_t most = (t->words + 1) / 2 < order_words / 2 ? (t->words + 1) / 2 : order_words / 2;
-    *f = (struct figures){0};
+    *f = (struct figures){.room = 2 * most};
     f->lines = calloc(t->words / LINE_WORDS, sizeof *f->lines);
-    f->extents = calloc(2 * most + 1, sizeof *f->extents);
-    if (!f->lines || !f->extents)
-        return no_memory();
-    uint64_t number = catalogue_wear(t->working, t->words, orders, order_words, f->lines, t->words / LINE_WORDS, f->extents, 2 * most,
+    f->extents = calloc(f->room + 1, sizeof *f->extents);
+    return f->lines && f->extents ? 0 : fail(BAD_FILE, "not enough memory for the wear figures of %s", t->name);
+}
+
+/* Of a list that there is room for. 0, or an exit status after saying why. */
+static int figures_of(struct figures *f, const struct table *t, const uint64_t *orders, size_t order_words)
+{
+    uint64_t number = catalogue_wear(t->working, t->words, orders, order_words, f->lines, t->words / LINE_WORDS, f->extents, f->room,
                                      &f->total, &f->largest, &f->first_line, &f->pairs);
     return number == 0 ? 0 : refuse(number, t, 0, 0);
 }
@@ -73,7 +72,9 @@ static void print_figures(const struct table *t, const struct figures *f)
 static int tell(const struct table *t, const struct order_list *l, bool svg)
 {
     struct figures f;
-    int status = figures_of(&f, t, l->words, 2 * l->count);
+    int status = figures_begin(&f, t, 2 * l->count);
+    if (status == 0)
+        status = figures_of(&f, t, l->words, 2 * l->count);
     if (status == 0 && svg)
         picture(t->name, f.lines, t->words / LINE_WORDS, &f);
     else if (status == 0)
@@ -99,17 +100,19 @@ int wearing_begin(struct wearing *w, const struct table *t)
     *w = (struct wearing){.table = t};
     w->orders = calloc(PART_WORDS, sizeof *w->orders);
     w->lines = calloc(t->words / LINE_WORDS, sizeof *w->lines);
-    return w->orders && w->lines ? 0 : no_memory();
+    /* All room at once: what is carried out later is counted in any case. */
+    int status = figures_begin(&w->part, t, PART_WORDS);
+    if (status == 0 && (!w->orders || !w->lines))
+        status = fail(BAD_FILE, "not enough memory for the wear figures of %s", t->name);
+    return status;
 }
 
 /* The orders so far into the sums: a list's numbers are those of its parts added up. */
 static int wearing_sum(struct wearing *w)
 {
-    struct figures f;
-    int status = figures_of(&f, w->table, w->orders, w->used);
+    int status = figures_of(&w->part, w->table, w->orders, w->used);
     for (size_t i = 0; status == 0 && i < w->table->words / LINE_WORDS; i++)
-        w->lines[i] += f.lines[i];
-    figures_free(&f);
+        w->lines[i] += w->part.lines[i];
     w->used = 0;
     return status;
 }
@@ -164,4 +167,5 @@ void wearing_end(struct wearing *w)
 {
     free(w->orders);
     free(w->lines);
+    figures_free(&w->part);
 }

@@ -13,6 +13,7 @@ struct figures {
     uint64_t total, largest, first_line, pairs;
     uint64_t *lines;   /* the stores to each line of the table */
     uint64_t *extents; /* pairs of offset and length */
+    size_t room;       /* words for these */
 };
 
 /*
@@ -27,6 +28,7 @@ struct wearing {
     uint64_t *orders; /* those that are not in the sums yet */
     size_t used;      /* words of them */
     uint64_t *lines;  /* the stores to each line, as far as they are summed */
+    struct figures part; /* of those that are summed at a time */
 };
 
 /* These return 0, or an exit status after saying why. A wearing that was begun is ended, also where the beginning failed. */
