@@ -242,7 +242,7 @@ int judge_list(struct table *t, const char *name, const struct change *c)
     j.image = calloc(t->words, sizeof *j.image);
     j.pairs = calloc(j.room, sizeof *j.pairs);
     if (status == 0 && (!j.image || !j.pairs))
-        status = fail(BAD_FILE, "not enough memory for %s", t->name);
+        status = fail(BAD_FILE, "not enough memory to judge orders for %s", t->name);
     if (status == 0)
         status = judge(&j);
     order_list_free(&j.list);

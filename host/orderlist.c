@@ -127,7 +127,7 @@ static int read_orders(struct order_list *l, struct rows *r)
 {
     *l = (struct order_list){.room = 64};
     l->words = calloc(2 * l->room, sizeof *l->words);
-    return l->words ? read_lines(l, r) : fail(BAD_FILE, "not enough memory");
+    return l->words ? read_lines(l, r) : fail(BAD_FILE, "not enough memory for %s", r->name);
 }
 
 int order_list_read(struct order_list *l, const char *name)
