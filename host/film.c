@@ -354,7 +354,8 @@ int scene_print(const struct scene *s, FILE *out)
         print_images(&f);
         print_tail(&f);
         if (f.at_odds)
-            status = fail(BAD_FILE, "a search's way does not end at the library's answer: this program is wrong, and what it printed must not be used");
+            status = fail(BAD_FILE, "a search's way does not end at the library's answer: this program is wrong, and what it printed must "
+                                    "not be used");
     }
     filming_end(&f);
     return status;
