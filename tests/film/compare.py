@@ -392,7 +392,6 @@ def far_too_many(chance):
     scene = film(words, change, 1, "--data", "--list", f"{FOLDER}/list.txt")[1]
     told = sum(len(x) // 4 for x in scene["images"])
     assert told <= MOST_IMAGES and all(scene["images"]) and any(len(scene["images"][c]) == 4 for c in scene["some"]), told
-    film(words, change, 1, "--list", f"{FOLDER}/list.txt", page=f"{FOLDER}/list-longest.html")
     return told
 
 

@@ -158,8 +158,6 @@ function checkChoices(p, scene, moment, images) {
     const pressed = [...e.cut.innerHTML.matchAll(/data-line="(\d+)" data-kept="(\d+)" aria-pressed="true"/g)].map((m) => [sorted[m[1]], m[2] - moment.lines.get(sorted[m[1]]).sure.length]);
     if (scene.some.length === 0) assert.deepStrictEqual(pressed, [...written].sort((a, b) => a[0] - b[0]), moment.what);
     else pressed.forEach(([n, k]) => written.set(n, k));
-    /* Of some orders there is one image alone. */
-    if (scene.some.some((c) => scene.images[c].length === 4) && e["memory-said"].innerHTML.includes("one of more than this page holds")) continue;
     compare(e["memory-stage"].innerHTML + e["memory-said"].innerHTML, expected(scene, moment.lines, (n) => written.get(n) || 0), moment.what + ", choice " + i);
     if (scene.some.length === 0) checkTold(p, scene, "memory", images.of(moment.lines, (n) => written.get(n)), moment.what + ", choice " + i);
     const text = plain(e["memory-said"].innerHTML);
