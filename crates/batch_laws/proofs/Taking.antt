@@ -17,10 +17,14 @@ use Rattle.model.specs.Writes.{repairStores, repaired, insertStores, insertion,
 use Rattle.model.specs.Refusals.{tooHigh, tooFew, refusal}
 use Rattle.table_laws.proofs.Header.{header-iff}
 use Rattle.cut_laws.proofs.Applying.{apply-append, length-apply}
-use Rattle.two_laws.specs.Parts.{Enters}
-use Rattle.two_laws.proofs.TwoLaw.{Tree, Low}
-use Rattle.two_laws.proofs.SplitTwo.{FreeNode, FullIn, splitIn, two-takes, two-taken, two-nodes}
-use Rattle.two_laws.proofs.RootTwo.{root-two-takes, root-two-taken, root-two-nodes}
+use Rattle.two_laws.specs.Parts.{Enters, splitFor}
+use Rattle.step_laws.proofs.Seen.{Side}
+use Rattle.step_laws.proofs.Fresh.{Free}
+use Rattle.step_laws.proofs.Split.{FullNode, split-takes}
+use Rattle.step_laws.proofs.NewRoot.{root-takes}
+use Rattle.two_laws.proofs.TwoLaw.{Tree, Low, side, tree-fine}
+use Rattle.two_laws.proofs.SplitTwo.{two-taken, two-nodes}
+use Rattle.two_laws.proofs.RootTwo.{root-two-taken, root-two-nodes}
 use Rattle.two_laws.proofs.Arrange.{Arr, root-in, arr-low, arr-word, arr-others, free-fresh, settled-tree, unreachable-count}
 use Rattle.two_laws.proofs.LeafStores.{in-unreachable, leaf-for}
 use Rattle.two_laws.proofs.InsertTwo.{ReadyIn, stands-reached, ready-next, splits-course, splits-room, root-first}
@@ -41,29 +45,32 @@ module _ (l n : ℕ) (ws : List ℕ) (t : Words) (k : ℕ) (r : ReadyIn (suc l) 
   abbrev b : ℕ
   b = fresh t (standing n t l k)
 
-  free : FreeNode (rootWord n) ws t b
+  abbrev sd : Side
+  sd = side (rootWord n) ws t
+
+  free : Free sd t b
   free = free-fresh (rootWord n) ws t (standing n t l k) (r .arr) (r .tree) (stands-reached n ws t low (r .tree) k l (omega (arith, r .high))) (omega (arith, r .enough))
 
-  given : FullIn (rootWord n) ws t k l
-  given = record { tree = r .tree; high = r .high; full = r .full l (omega arith); roomy = r .above }
+  given : FullNode sd t k l
+  given = record { settled = tree-fine (rootWord n) ws t low nothing (r .tree); high = r .high; full = r .full l (omega arith); roomy = r .above }
 
-  one-split : length (unreachable t) ≡ length (unreachable (apply (splitIn (rootWord n) t k l (fresh t (standing n t l k))) t)) + 1
+  one-split : length (unreachable t) ≡ length (unreachable (apply (splitFor n t l k) t)) + 1
   one-split =
       let s = ready-next l n ws t k r in
       omega (
         arith,
         unreachable-count (rootWord n) ws t (r .arr) (r .tree),
         unreachable-count (rootWord n) ws _ (s .arr) (s .tree),
-        two-nodes (rootWord n) ws t low k l given b free,
-        two-takes (rootWord n) ws t low k l given b free,
-        ap length (two-taken (rootWord n) ws t low k l given b free),
+        two-nodes (rootWord n) ws t low (r .tree) k l given b free,
+        split-takes sd t k l given b free,
+        ap length (two-taken (rootWord n) ws t low (r .tree) k l given b free),
       )
 
 splits-take : (m n : ℕ) (ws : List ℕ) (t : Words) (k : ℕ) → ReadyIn m n ws t k → length (unreachable t) ≡ length (unreachable (apply (splits n m t k) t)) + m
 unfolding splits apply
 splits-take zero n ws t k r = omega arith
 splits-take (suc l) n ws t k r =
-    let ss = splitIn (rootWord n) t k l (fresh t (standing n t l k)) in
+    let ss = splitFor n t l k in
     rw (apply-append ss (splits n l (apply ss t) k) t) (omega (arith, one-split l n ws t k r, splits-take l n ws (apply ss t) k (ready-next l n ws t k r)))
 
 -- ---- the new root
@@ -80,7 +87,7 @@ module _ (n : ℕ) (ws : List ℕ) (t : Words) (k : ℕ) (a : Arr (rootWord n) w
           let z = eqb-false (height (viewOf n t)) 15 (sym (ap (λ (b : Bool). b && eqb (height (viewOf n t)) 15) e) ∙ not-high) in
           let top : height (viewOf n t) < 15 = omega (arith, f .left .orderly .top .level, z) in
           let q = fresh t (at t w) in
-          let free : FreeNode w ws t q = free-fresh w ws t (at t w) a f (root-in (viewOf n t) (f .left .orderly)) (omega arith) in
+          let free : Free (side w ws t) t q = free-fresh w ws t (at t w) a f (root-in (viewOf n t) (f .left .orderly)) (omega arith) in
           let low = arr-low w ws t a in
           let word = arr-word w ws t a in
           let beside = arr-others w ws t a in
@@ -91,7 +98,7 @@ module _ (n : ℕ) (ws : List ℕ) (t : Words) (k : ℕ) (a : Arr (rootWord n) w
             unreachable-count w ws t a f,
             unreachable-count w ws _ (after .arr) (after .tree),
             root-two-nodes w ws t low word beside f top q free,
-            root-two-takes w ws t low word beside f top q free,
+            root-takes (side w ws t) t (tree-fine w ws t low nothing f) top word q free,
             ap length (root-two-taken w ws t low word beside f top q free),
           ))
       go false e = rw (e, rootStores) (omega arith)

@@ -21,10 +21,10 @@ use Rattle.list_laws.proofs.Slots.{place-length}
 use Rattle.tree_laws.proofs.Rows.{range-iff}
 use Rattle.word_laws.proofs.NewNodes.{length-node-words}
 use Rattle.cut_laws.proofs.Applying.{apply-append}
-use Rattle.two_laws.specs.Parts.{Enters}
+use Rattle.two_laws.specs.Parts.{Enters, splitFor}
 use Rattle.two_laws.proofs.TwoLaw.{Tree}
 use Rattle.two_laws.proofs.Arrange.{Arr, arr-low, root-in, settled-tree, free-fresh}
-use Rattle.two_laws.proofs.SplitTwo.{splitIn, length-split}
+use Rattle.two_laws.proofs.SplitTwo.{length-split}
 use Rattle.two_laws.proofs.LeafStores.{in-reached, class-reached, Leaf, leaf-for}
 use Rattle.two_laws.proofs.InsertTwo.{stands-reached, ReadyIn, ready-next, first-others, splits-course, splits-room, root-first, first-root-others}
 use Rattle.two_laws.proofs.DeleteTwo.{stores-freeing, settled-others, settled-stays}
@@ -57,7 +57,7 @@ splits-same zero n ws t k x r = λ h. refl
 splits-same (suc l) n ws t k x r =
     let a = standing n t l k in
     let b = fresh t a in
-    let ss = splitIn (rootWord n) t k l b in
+    let ss = splitFor n t l k in
     let low = arr-low (rootWord n) ws t (r .arr) in
     let free = free-fresh (rootWord n) ws t a (r .arr) (r .tree) (stands-reached n ws t low (r .tree) k l (omega (arith, r .high))) (omega (arith, r .enough)) in
     let some = range-iff _ b .0 (free .range) .0 in

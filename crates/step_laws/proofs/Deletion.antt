@@ -3,17 +3,16 @@ use mathlib.Core.Path.{_≡_, refl, ap, _∙_}
 use mathlib.Core.Bool.{true}
 use mathlib.Core.Logic.{_≢_}
 use mathlib.Core.List.{List, [], _∷_, _++_}
-use Prim.Native.Nat.{ℕ, zero, suc, _+_, _<_}
+use Prim.Native.Nat.{ℕ, zero, suc, _<_}
 use native.Mathlib.Omega.{arith}
 use lib.ListN.{length, take, drop, getD}
 use Rattle.model.specs.Table.{Words}
-use Rattle.model.specs.Slots.{Slot, slot, View, nodeView, view, height}
+use Rattle.model.specs.Slots.{Slot, slot, View, nodeView, height}
 use Rattle.model.specs.Orders.{apply}
 use Rattle.model.specs.Shifts.{placeOf}
 use Rattle.model.specs.Writes.{shiftOutAt}
 use Rattle.model.specs.Refusals.{hasKey}
 use Rattle.model.specs.Ledger.{leave}
-use Rattle.tree_laws.specs.OneTree.{settledOne, mapOne, standingOne}
 use Rattle.view_laws.proofs.NodeViews.{levelOf, shownOf}
 use Rattle.list_laws.proofs.Members.{mem-here}
 use Rattle.word_laws.proofs.ShiftViews.{withoutSlot}
@@ -21,16 +20,11 @@ use Rattle.change_laws.proofs.Updates.{update-at, update-off, withShown}
 use Rattle.change_laws.proofs.Parents.{Parent}
 use Rattle.change_laws.proofs.Detach.{child-slot}
 use Rattle.step_laws.proofs.Phase.{Phase}
-use Rattle.step_laws.proofs.Views.{settled-fine}
 use Rattle.step_laws.proofs.LeafShift.{leaf-shift-out, leaf-out-seen, leaf-out-reached, leaf-out-place}
 use Rattle.step_laws.proofs.Standing.{standing-stands, standing-parent}
 use Rattle.step_laws.proofs.Freeing.{Freeable}
-
--- what it says that a leaf is freed
-pub record Frees (t : Words) (p x : ℕ) : Type 0 where
-  pub one : length (nodeView t x .shown) ≡ 1
-  pub high : 0 < height (view t)
-  pub not-left : nodeView t p .left ≢ x
+use Rattle.model.specs.SoundTest.{nothing}
+use Rattle.step_laws.proofs.Seen.{Side, treeOf, Fine, mapOf, standing}
 
 -- one slot, taken out
 out-one : (ss : List Slot) (i : ℕ) → length ss ≡ 1 → i < length ss → take i ss ++ drop (suc i) ss ≡ []
@@ -42,57 +36,64 @@ out-one (s ∷ r ∷ ss) i e h = absurd (omega arith)
 slot-same : (x : ℕ) {f f′ : ℕ} {ss ss′ : List Slot} → f′ ≡ f → ss′ ≡ ss → (placeOf f ss < length ss) × (getD ss (placeOf f ss) (slot 0 0) .pointer ≡ x) → (placeOf f′ ss′ < length ss′) × (getD ss′ (placeOf f′ ss′) (slot 0 0) .pointer ≡ x)
 slot-same x e q h = rw (e, q) h
 
-module _ (t : Words) (s : settledOne t ≡ true) (k : ℕ) (has : hasKey k (mapOne t) ≡ true) where
-  abbrev v : View
-  v = view t
+module _ (sd : Side) where
+  -- what it says that a leaf is freed
+  pub record Frees (t : Words) (p x : ℕ) : Type 0 where
+    pub one : length (nodeView t x .shown) ≡ 1
+    pub high : 0 < height (treeOf sd t)
+    pub not-left : nodeView t p .left ≢ x
 
-  abbrev x : ℕ
-  x = standingOne t 0 k
+  module _ (t : Words) (s : Fine sd t nothing) (k : ℕ) (has : hasKey k (mapOf sd t) ≡ true) where
+    abbrev v : View
+    v = treeOf sd t
 
-  abbrev p : ℕ
-  p = standingOne t 1 k
+    abbrev x : ℕ
+    x = standing sd t 0 k
 
-  abbrev t₁ : Words
-  t₁ = apply (shiftOutAt t x k) t
+    abbrev p : ℕ
+    p = standing sd t 1 k
 
-  out : Phase 25 t (shiftOutAt t x k) (leave k (mapOne t))
-  out = leaf-shift-out t s k has
+    abbrev t₁ : Words
+    t₁ = apply (shiftOutAt t x k) t
 
-  seen : view t₁ ≡ withShown v x (withoutSlot t x k)
-  seen = leaf-out-seen t s k has
+    out : Phase sd 25 t (shiftOutAt t x k) (leave k (mapOf sd t))
+    out = leaf-shift-out sd t s k has
 
-  -- ---- the leaf is emptied, and not leftmost
+    seen : treeOf sd t₁ ≡ withShown v x (withoutSlot t x k)
+    seen = leaf-out-seen sd t s k has
 
-  module _ (f : Frees t (standingOne t 1 k) (standingOne t 0 k)) where
-    parent : Parent v x p
-    parent = standing-parent t s k 0 (f .high)
+    -- ---- the leaf is emptied, and not leftmost
 
-    level-p : v .node p .level ≡ 1
-    level-p = standing-stands t s k 1 (f .high) .covers .at .level
+    module _ (f : Frees t (standing sd t 1 k) (standing sd t 0 k)) where
+      parent : Parent v x p
+      parent = standing-parent sd t s k 0 (f .high)
 
-    level-x : v .node x .level ≡ 0
-    level-x = standing-stands t s k 0 (omega arith) .covers .at .level
+      level-p : v .node p .level ≡ 1
+      level-p = standing-stands sd t s k 1 (f .high) .covers .at .level
 
-    other : p ≢ x
-    other e = omega (arith, level-p, level-x, ap (levelOf v) e)
+      level-x : v .node x .level ≡ 0
+      level-x = standing-stands sd t s k 0 (omega arith) .covers .at .level
 
-    none-left : withoutSlot t x k ≡ []
-    none-left = out-one (v .node x .shown) (placeOf k (v .node x .shown)) (f .one) (leaf-out-place t s k has)
+      other : p ≢ x
+      other e = omega (arith, level-p, level-x, ap (levelOf v) e)
 
-    same-p : nodeView t₁ p .shown ≡ v .node p .shown
-    same-p = ap (λ (w : View). w .node p .shown) seen ∙ update-off (shownOf v) x (withoutSlot t x k) p other
+      none-left : withoutSlot t x k ≡ []
+      none-left = out-one (v .node x .shown) (placeOf k (v .node x .shown)) (f .one) (leaf-out-place sd t s k has)
 
-    placed : (placeOf (v .node x .fence) (v .node p .shown) < length (v .node p .shown)) × (getD (v .node p .shown) (placeOf (v .node x .fence) (v .node p .shown)) (slot 0 0) .pointer ≡ x)
-    placed = child-slot v 0 p x (settled-fine t s .left) (parent .p-reached) level-p (rw (parent .once .shape) (mem-here x (parent .once .before) (parent .once .after))) (f .not-left)
+      same-p : nodeView t₁ p .shown ≡ v .node p .shown
+      same-p = ap (λ (w : View). w .node p .shown) seen ∙ update-off (shownOf v) x (withoutSlot t x k) p other
 
-    pub freeable : Freeable (apply (shiftOutAt t (standingOne t 0 k) k) t) (standingOne t 1 k) (standingOne t 0 k)
-    freeable =
-        let u = slot-same x (ap (λ (w : View). w .node x .fence) seen) same-p placed in
-        record {
-          settled = out .settles;
-          parent = rw (leaf-out-reached t s k has) (parent .p-reached);
-          level = ap (λ (w : View). w .node p .level) seen ∙ level-p;
-          there = u .0;
-          child = u .1;
-          empty = ap (λ (w : View). w .node x .shown) seen ∙ update-at (shownOf v) x (withoutSlot t x k) ∙ none-left;
-        }
+      placed : (placeOf (v .node x .fence) (v .node p .shown) < length (v .node p .shown)) × (getD (v .node p .shown) (placeOf (v .node x .fence) (v .node p .shown)) (slot 0 0) .pointer ≡ x)
+      placed = child-slot v 0 p x (s .left) (parent .p-reached) level-p (rw (parent .once .shape) (mem-here x (parent .once .before) (parent .once .after))) (f .not-left)
+
+      pub freeable : Freeable sd (apply (shiftOutAt t (standing sd t 0 k) k) t) (standing sd t 1 k) (standing sd t 0 k)
+      freeable =
+          let u = slot-same x (ap (λ (w : View). w .node x .fence) seen) same-p placed in
+          record {
+            settled = out .settles;
+            parent = rw (leaf-out-reached sd t s k has) (parent .p-reached);
+            level = ap (λ (w : View). w .node p .level) seen ∙ level-p;
+            there = u .0;
+            child = u .1;
+            empty = ap (λ (w : View). w .node x .shown) seen ∙ update-at (shownOf v) x (withoutSlot t x k) ∙ none-left;
+          }

@@ -11,13 +11,12 @@ use lib.ListN.{length, take, drop, getD, set, length-append}
 use lib.Seq.{split-at, take-all}
 use borrow.Author.Tests.{le-leb, ltb-true, ltb-false}
 use Rattle.model.specs.Table.{Words, nodeStart, hasNode}
-use Rattle.model.specs.Slots.{Slot, slot, View, nodeView, view}
+use Rattle.model.specs.Slots.{Slot, slot, View, nodeView}
 use Rattle.model.specs.Reached.{pointers, children, reached, mapping}
 use Rattle.model.specs.SoundTest.{elem, distinct, nothing, missingIn, bothIn, leftover, room}
 use Rattle.model.specs.Orders.{Store, put, apply, orders, ordersAfter}
 use Rattle.model.specs.Shifts.{lastPointer, placeOf, shiftOut}
 use Rattle.model.specs.Writes.{shiftOutAt, childBefore, freeStores}
-use Rattle.tree_laws.specs.OneTree.{settledOne, mapOne}
 use Rattle.view_laws.proofs.NodeViews.{siblingOf, levelOf, shownOf}
 use Rattle.list_laws.proofs.Lists.{take-append}
 use Rattle.list_laws.proofs.Tools.{Each-append}
@@ -27,7 +26,7 @@ use Rattle.list_laws.proofs.Steps.{Until, AtFirst, first-map}
 use Rattle.table_laws.proofs.Nodes.{has-node-iff}
 use Rattle.slot_laws.proofs.Hiding.{Used, AllShown, distinct-shown}
 use Rattle.word_laws.proofs.Stores.{doStore, between-first, after-first}
-use Rattle.word_laws.proofs.Frames.{SameHeader, same-ok, same-root, same-nodes}
+use Rattle.word_laws.proofs.Frames.{SameHeader, same-nodes}
 use Rattle.word_laws.proofs.ShiftViews.{Changed, withoutSlot, view-used, shift-out-view}
 use Rattle.word_laws.proofs.LinkStores.{sibling-view, sibling-header}
 use Rattle.tree_laws.proofs.Leftovers.{NothingUnfinished}
@@ -47,7 +46,9 @@ use Rattle.step_laws.proofs.LevelCourses.{QuietAt, Quiet, CalmAt, Skipp
 use Rattle.step_laws.proofs.SlotCourses.{hidden-quiet, slots-still, slots-quiet, seen-quiet}
 use Rattle.step_laws.proofs.LinkCourses.{splice-cases}
 use Rattle.step_laws.proofs.Repair.{sibling-some, a-reached}
-use Rattle.step_laws.proofs.Views.{changed-view, shown-view, same-view, Fine, fine-sound, fine-settled, settled-fine, view-fine, view-sound, view-same, Usable, reached-usable, shown-few}
+use Rattle.step_laws.proofs.Views.{changed-view, shown-view, same-view, view-fine, view-sound, view-same, Usable, reached-usable, shown-few}
+use Rattle.step_laws.proofs.Seen.{Off, Side, treeOf, Fine, mapOf, same-word}
+use Rattle.list_laws.proofs.Members.{mem-each}
 
 -- what holds before, between and after the stores alike
 first-until : (P : Words → Type 0) (qs : List Store) (t : Words) → AtFirst doStore P P P qs t → Until doStore P P qs t
@@ -60,277 +61,283 @@ same-from l v v′ w e s = rw e s
 skipped-is : (l a b : ℕ) (v v′ w w′ : View) → v ≡ v′ → w ≡ w′ → Skipped l a b v′ w′ → Skipped l a b v w
 skipped-is l a b v v′ w w′ e f s = rw (e, f) s
 
--- p, on level 1, has the empty leaf x as the child of the slot whose key is x's fence
-pub record Freeable (t : Words) (p x : ℕ) : Type 0 where
-  pub settled : settledOne t ≡ true
-  pub parent : List·Memᴰ p (reached (view t))
-  pub level : nodeView t p .level ≡ 1
-  pub there : placeOf (nodeView t x .fence) (nodeView t p .shown) < length (nodeView t p .shown)
-  pub child : getD (nodeView t p .shown) (placeOf (nodeView t x .fence) (nodeView t p .shown)) (slot 0 0) .pointer ≡ x
-  pub empty : nodeView t x .shown ≡ []
+module _ (sd : Side) where
+  -- p, on level 1, has the empty leaf x as the child of the slot whose key is x's fence
+  pub record Freeable (t : Words) (p x : ℕ) : Type 0 where
+    pub settled : Fine sd t nothing
+    pub parent : List·Memᴰ p (reached (treeOf sd t))
+    pub level : nodeView t p .level ≡ 1
+    pub there : placeOf (nodeView t x .fence) (nodeView t p .shown) < length (nodeView t p .shown)
+    pub child : getD (nodeView t p .shown) (placeOf (nodeView t x .fence) (nodeView t p .shown)) (slot 0 0) .pointer ≡ x
+    pub empty : nodeView t x .shown ≡ []
 
--- x lacks its slot in p, an ordinary leftover, and every node that t reaches is reached
-pub record Lacks (t : Words) (p x : ℕ) (t′ : Words) : Type 0 where
-  pub leftover : (leftover (view t′) ≡ some (bothIn p (childBefore (view t) p x))) ⊎ (leftover (view t′) ≡ some (missingIn p (childBefore (view t) p x) false))
-  pub reached : reached (view t′) ≡ reached (view t)
+  -- x lacks its slot in p, an ordinary leftover, and every node that t reaches is reached
+  pub record Lacks (t : Words) (p x : ℕ) (t′ : Words) : Type 0 where
+    pub leftover : (leftover (treeOf sd t′) ≡ some (bothIn p (childBefore (treeOf sd t) p x))) ⊎ (leftover (treeOf sd t′) ≡ some (missingIn p (childBefore (treeOf sd t) p x) false))
+    pub reached : reached (treeOf sd t′) ≡ reached (treeOf sd t)
 
-module _ (t : Words) (p x : ℕ) (h : Freeable t p x) where
-  abbrev v : View
-  v = view t
+  module _ (t : Words) (p x : ℕ) (h : Freeable t p x) where
+    abbrev v : View
+    v = treeOf sd t
 
-  abbrev k : ℕ
-  k = v .node x .fence
+    abbrev k : ℕ
+    k = v .node x .fence
 
-  abbrev ss : List Slot
-  ss = v .node p .shown
+    abbrev ss : List Slot
+    ss = v .node p .shown
 
-  abbrev low : List Slot
-  low = take (placeOf k ss) ss
+    abbrev low : List Slot
+    low = take (placeOf k ss) ss
 
-  abbrev sl : Slot
-  sl = getD ss (placeOf k ss) (slot 0 0)
+    abbrev sl : Slot
+    sl = getD ss (placeOf k ss) (slot 0 0)
 
-  abbrev high : List Slot
-  high = drop (suc (placeOf k ss)) ss
+    abbrev high : List Slot
+    high = drop (suc (placeOf k ss)) ss
 
-  abbrev a : ℕ
-  a = lastPointer (v .node p .left) low
+    abbrev a : ℕ
+    a = lastPointer (v .node p .left) low
 
-  abbrev less : View
-  less = withShown v p (low ++ high)
+    abbrev less : View
+    less = withShown v p (low ++ high)
 
-  fine : Fine t nothing
-  fine = settled-fine t (h .settled)
+    fine : Fine sd t nothing
+    fine = h .settled
 
-  use-p : Usable t p
-  use-p = reached-usable t p (fine .header) (fine .left .orderly) (h .parent)
+    use-p : Usable t p
+    use-p = reached-usable sd t p (fine .header) (fine .left .orderly) (h .parent)
 
-  fin : NothingUnfinished v p
-  fin = each-mem (NothingUnfinished v) (all-finished v (fine .left)) (h .parent)
+    fin : NothingUnfinished v p
+    fin = each-mem (NothingUnfinished v) (all-finished v (fine .left)) (h .parent)
 
-  shape : ss ≡ low ++ sl ∷ high
-  shape = split-at ss (placeOf k ss) (slot 0 0) (h .there)
+    shape : ss ≡ low ++ sl ∷ high
+    shape = split-at ss (placeOf k ss) (slot 0 0) (h .there)
 
-  det : Keeps v less (missingIn p a false)
-  det = detach v p low sl high (fine .left) (h .parent) 0 (h .level) shape
+    det : Keeps v less (missingIn p a false)
+    det = detach v p low sl high (fine .left) (h .parent) 0 (h .level) shape
 
-  roomy : room less p ≡ true
-  unfolding room
-  roomy = rw (update-at (shownOf v) p (low ++ high)) (le-leb (length (low ++ high)) 10 (omega (arith, shown-few t p (use-p .clear), ap length shape, length-append low (sl ∷ high), length-append low high)))
+    roomy : room less p ≡ true
+    unfolding room
+    roomy = rw (update-at (shownOf v) p (low ++ high)) (le-leb (length (low ++ high)) 10 (omega (arith, shown-few t p (use-p .clear), ap length shape, length-append low (sl ∷ high), length-append low high)))
 
-  -- ---- shift out at the parent
+    -- ---- shift out at the parent
 
-  kids : distinct (v .node p .left ∷ pointers ss) ≡ true
-  kids = rw (fin .names (λ z. omega (arith, h .level)) ∙ ap (λ (ks : List Slot). v .node p .left ∷ pointers ks) (fin .keeps)) at (distinct-children v p (fine .left .orderly) (h .parent))
+    kids : distinct (v .node p .left ∷ pointers ss) ≡ true
+    kids = rw (fin .names (λ z. omega (arith, h .level)) ∙ ap (λ (ks : List Slot). v .node p .left ∷ pointers ks) (fin .keeps)) at (distinct-children v p (fine .left .orderly) (h .parent))
 
-  out-shown : AllShown (v .node p .left) (withoutSlot t p k)
-  out-shown =
-      let u = view-used t p in
-      let e : pointers ss ≡ pointers low ++ sl .pointer ∷ pointers high = ap pointers shape ∙ map-append _ low (sl ∷ high) in
-      let d = distinct-middle (sl .pointer) (v .node p .left ∷ pointers low) (pointers high) .0 (rw e at kids) .1 in
-      distinct-shown (v .node p .left) (low ++ high) (Each-append Used low high (each-take Used (placeOf k ss) ss u) (each-drop Used (suc (placeOf k ss)) ss u))
-      (ap (λ (l : List ℕ). distinct (v .node p .left ∷ l)) (map-append _ low high) ∙ d)
+    out-shown : AllShown (v .node p .left) (withoutSlot t p k)
+    out-shown =
+        let u = view-used t p in
+        let e : pointers ss ≡ pointers low ++ sl .pointer ∷ pointers high = ap pointers shape ∙ map-append _ low (sl ∷ high) in
+        let d = distinct-middle (sl .pointer) (v .node p .left ∷ pointers low) (pointers high) .0 (rw e at kids) .1 in
+        distinct-shown (v .node p .left) (low ++ high) (Each-append Used low high (each-take Used (placeOf k ss) ss u) (each-drop Used (suc (placeOf k ss)) ss u))
+        (ap (λ (l : List ℕ). distinct (v .node p .left ∷ l)) (map-append _ low high) ∙ d)
 
-  shifting : AtFirst doStore (Changed t p ss 0) (Changed t p (withoutSlot t p k) 1) (Changed t p (withoutSlot t p k) 0) (shiftOutAt t p k) t
-  shifting = shift-out-view t p (use-p .there) (use-p .clear) (use-p .left) (fin .shows) k (h .there) out-shown
+    shifting : AtFirst doStore (Changed t p ss 0) (Changed t p (withoutSlot t p k) 1) (Changed t p (withoutSlot t p k) 0) (shiftOutAt t p k) t
+    shifting = shift-out-view t p (use-p .there) (use-p .clear) (use-p .left) (fin .shows) k (h .there) out-shown
 
-  stores-some : 0 < length (shiftOutAt t p k)
-  stores-some = unfold shiftOutAt shiftOut in omega arith
+    stores-some : 0 < length (shiftOutAt t p k)
+    stores-some = unfold shiftOutAt shiftOut in omega arith
 
-  unchanged : (t′ : Words) → Changed t p ss 0 t′ → SoundWith (mapOne t) t′
-  unchanged t′ c = view-same t t′ nothing fine (same-view t p ss 0 t′ c refl (fin .shows)) (same-ok (c .header))
+    unchanged : (t′ : Words) → Changed t p ss 0 t′ → SoundWith sd (mapOf sd t) t′
+    unchanged t′ c = view-same sd t t′ nothing fine (same-view sd (fine .low) t p ss 0 t′ c refl (fin .shows)) (c .header)
 
-  hiding : (t′ : Words) → Changed t p (withoutSlot t p k) 1 t′ → SoundWith (mapOne t) t′
-  hiding t′ c =
-      let b = hide-missing less p a (det .left) in
-      view-sound t t′ (withHidden less p 1) (changed-view t p (withoutSlot t p k) 1 t′ c) (same-ok (c .header)) (fine .header) (bothIn p a) (b .left) (b .room roomy) (mapOne t) (b .mapping ∙ det .mapping)
+    hiding : (t′ : Words) → Changed t p (withoutSlot t p k) 1 t′ → SoundWith sd (mapOf sd t) t′
+    hiding t′ c =
+        let b = hide-missing less p a (det .left) in
+        view-sound sd t t′ (withHidden less p 1) (changed-view sd (fine .low) t p (withoutSlot t p k) 1 t′ c) (c .header) fine (bothIn p a) (b .left) (b .room roomy) (rw (b .reached, det .reached) (fine .off)) (mapOf sd t) (b .mapping ∙ det .mapping)
 
-  gone : (t′ : Words) → Changed t p (withoutSlot t p k) 0 t′ → SoundWith (mapOne t) t′
-  gone t′ c = view-sound t t′ less (shown-view t p (withoutSlot t p k) 0 t′ c (fin .shows)) (same-ok (c .header)) (fine .header) (missingIn p a false) (det .left) roomy (mapOne t) (det .mapping)
+    gone : (t′ : Words) → Changed t p (withoutSlot t p k) 0 t′ → SoundWith sd (mapOf sd t) t′
+    gone t′ c = view-sound sd t t′ less (shown-view sd (fine .low) t p (withoutSlot t p k) 0 t′ c (fin .shows)) (c .header) fine (missingIn p a false) (det .left) roomy (rw (det .reached) (fine .off)) (mapOf sd t) (det .mapping)
 
-  out-stage : Stage 25 t (shiftOutAt t p k)
-  out-stage =
-      let few = shown-few t p (use-p .clear) in
-      let P : Words → Type 0 = SoundWith (mapOne t) in
-      stage-until 25 t (shiftOutAt t p k) (shift-out-few t p k few (h .there)) (shift-out-inside t p k few (h .there) (use-p .there))
-      (first-until P (shiftOutAt t p k) t (first-map doStore _ P _ P _ P unchanged hiding gone (shiftOutAt t p k) t shifting))
+    out-stage : Stage sd 25 t (shiftOutAt t p k)
+    out-stage =
+        let few = shown-few t p (use-p .clear) in
+        let P : Words → Type 0 = SoundWith sd (mapOf sd t) in
+        stage-until sd 25 t (shiftOutAt t p k) (shift-out-few t p k few (h .there)) (shift-out-inside t p k few (h .there) (use-p .there))
+        (first-until P (shiftOutAt t p k) t (first-map doStore _ P _ P _ P unchanged hiding gone (shiftOutAt t p k) t shifting))
 
-  -- ---- the left neighbour's sibling := x's
+    -- ---- the left neighbour's sibling := x's
 
-  abbrev t₁ : Words
-  t₁ = apply (shiftOutAt t p k) t
+    abbrev t₁ : Words
+    t₁ = apply (shiftOutAt t p k) t
 
-  out-changed : Changed t p (withoutSlot t p k) 0 t₁
-  out-changed = after-first (Changed t p ss 0) (Changed t p (withoutSlot t p k) 1) (Changed t p (withoutSlot t p k) 0) (shiftOutAt t p k) t shifting stores-some
+    out-changed : Changed t p (withoutSlot t p k) 0 t₁
+    out-changed = after-first (Changed t p ss 0) (Changed t p (withoutSlot t p k) 1) (Changed t p (withoutSlot t p k) 0) (shiftOutAt t p k) t shifting stores-some
 
-  seen₁ : view t₁ ≡ less
-  seen₁ = shown-view t p (withoutSlot t p k) 0 t₁ out-changed (fin .shows)
+    seen₁ : treeOf sd t₁ ≡ less
+    seen₁ = shown-view sd (fine .low) t p (withoutSlot t p k) 0 t₁ out-changed (fin .shows)
 
-  fine₁ : Fine t₁ (missingIn p a false)
-  fine₁ = view-fine t t₁ less seen₁ (same-ok (out-changed .header)) (fine .header) (missingIn p a false) (det .left) roomy
+    fine₁ : Fine sd t₁ (missingIn p a false)
+    fine₁ = view-fine sd t t₁ less seen₁ (out-changed .header) fine (missingIn p a false) (det .left) roomy (rw (det .reached) (fine .off))
 
-  a-child : List·Memᴰ a (children v p)
-  a-child = before-child v p low sl high (fine .left) (h .parent) 0 (h .level) shape
+    a-child : List·Memᴰ a (children v p)
+    a-child = before-child v p low sl high (fine .left) (h .parent) 0 (h .level) shape
 
-  next : v .node a .sibling ≡ x
-  next = child-next v p low sl high (fine .left) (h .parent) 0 (h .level) shape ∙ h .child
+    next : v .node a .sibling ≡ x
+    next = child-next v p low sl high (fine .left) (h .parent) 0 (h .level) shape ∙ h .child
 
-  a-leaf : v .node a .level ≡ 0
-  a-leaf = omega (arith, child-level v p a (fine .left .orderly) (h .parent) a-child, h .level)
+    a-leaf : v .node a .level ≡ 0
+    a-leaf = omega (arith, child-level v p a (fine .left .orderly) (h .parent) a-child, h .level)
 
-  apart : x ≢ p
-  apart e = omega (arith, h .there, ap length (ap (shownOf v) (sym e) ∙ h .empty))
+    apart : x ≢ p
+    apart e = omega (arith, h .there, ap length (ap (shownOf v) (sym e) ∙ h .empty))
 
-  gap : Unlinked less (withSibling less a (v .node x .sibling)) x
-  gap = subst (λ (n : ℕ). Unlinked less (withSibling less a (v .node n .sibling)) n) next (unlink less p a (det .left) a-leaf (ap (shownOf less) next ∙ update-off (shownOf v) p (low ++ high) x apart ∙ h .empty))
+    gap : Unlinked less (withSibling less a (v .node x .sibling)) x
+    gap = subst (λ (n : ℕ). Unlinked less (withSibling less a (v .node n .sibling)) n) next (unlink less p a (det .left) a-leaf (ap (shownOf less) next ∙ update-off (shownOf v) p (low ++ high) x apart ∙ h .empty))
 
-  has-a : hasNode t₁ a ≡ true
-  has-a = reached-usable t₁ a (fine₁ .header) (fine₁ .left .orderly) (rw (ap reached seen₁ ∙ det .reached) (child-reached v p a (fine .left .orderly) (h .parent) a-child)) .there
+    abbrev over : View
+    over = withSibling less a (v .node x .sibling)
 
-  abbrev t₂ : Words
-  t₂ = set t₁ (suc (nodeStart a)) (v .node x .sibling)
+    reached-over : reached less ≡ splice a x (reached over)
+    reached-over = subst (λ (n : ℕ). reached less ≡ splice a n (reached (withSibling less a (v .node n .sibling)))) next
+        (unlink-reached less p a (det .left) a-leaf (ap (shownOf less) next ∙ update-off (shownOf v) p (low ++ high) x apart ∙ h .empty))
 
-  header₂ : SameHeader t₁ t₂
-  header₂ = sibling-header t₁ a (v .node x .sibling) has-a
+    over-off : Off sd over
+    over-off =
+        let e : Off sd less = rw (det .reached) (fine .off) in
+        mem-each (λ (n : ℕ). elem n (sd .others) ≡ false) (reached over) (λ n m. let y : List·Memᴰ n (reached less) = rw reached-over (mem-splice a x n (reached over) m) in each-mem (λ (n : ℕ). elem n (sd .others) ≡ false) e y)
 
-  seen₂ : view t₂ ≡ withSibling less a (v .node x .sibling)
-  seen₂ =
-      sibling-change (view t₁) (view t₂) a (v .node x .sibling) (same-nodes header₂) (same-root header₂) (sibling-view t₁ a (v .node x .sibling) has-a)
-      ∙ ap (λ (w : View). withSibling w a (v .node x .sibling)) seen₁
+    has-a : hasNode t₁ a ≡ true
+    has-a = reached-usable sd t₁ a (fine₁ .header) (fine₁ .left .orderly) (rw (ap reached seen₁ ∙ det .reached) (child-reached v p a (fine .left .orderly) (h .parent) a-child)) .there
 
-  settles : SettledWith (mapOne t) t₂
-  settles =
-      let f = view-fine t₁ t₂ (withSibling less a (v .node x .sibling)) seen₂ (same-ok header₂) (fine₁ .header) nothing (gap .left) refl in
-      (fine-settled t₂ f, ap mapping seen₂ ∙ gap .mapping ∙ det .mapping)
-
-  link-phase : Phase 2 t₁ (put (suc (nodeStart a)) (v .node x .sibling) ∷ []) (mapOne t)
-  link-phase = phase-until 2 t₁ (put (suc (nodeStart a)) (v .node x .sibling) ∷ []) (unfold orders ordersAfter in omega arith) (unfold nodeStart in omega (arith, has-node-iff t₁ a .0 has-a), tt) (mapOne t)
-      ((fine-sound t₁ (missingIn p a false) fine₁, refl), settles)
-
-  -- An empty leaf is freed: every first part of the stores leaves a sound table with the same map, and all of them a settled one.
-  pub free-phase : Phase 27 t (freeStores t p x) (mapOne t)
-  unfolding freeStores childBefore
-  free-phase = stage-phase 25 2 t (shiftOutAt t p k) (put (suc (nodeStart a)) (v .node x .sibling) ∷ []) (mapOne t) out-stage link-phase
-
-  -- ---- what it leaves
-
-  whole : apply (freeStores t p x) t ≡ t₂
-  unfolding freeStores childBefore apply
-  whole = apply-append (shiftOutAt t p k) (put (suc (nodeStart a)) (v .node x .sibling) ∷ []) t
-
-  seen : view (apply (freeStores t p x) t) ≡ withSibling less a (v .node x .sibling)
-  seen = ap view whole ∙ seen₂
-
-  -- The leaf is reached no more, and no other node is lost.
-  pub free-unreached : elem x (reached (view (apply (freeStores t p x) t))) ≡ false
-  free-unreached = ap (λ (w : View). elem x (reached w)) seen ∙ gap .freed
-
-  pub free-fewer : length (reached (view t)) ≡ suc (length (reached (view (apply (freeStores t p x) t))))
-  free-fewer = ap length (sym (det .reached)) ∙ gap .fewer ∙ ap (λ (w : View). suc (length (reached w))) (sym seen)
-
-  pub free-others : (n : ℕ) → n ≢ x → elem n (reached (view (apply (freeStores t p x) t))) ≡ elem n (reached (view t))
-  free-others n z = ap (λ (w : View). elem n (reached w)) seen ∙ gap .others n z ∙ ap (elem n) (det .reached)
-
-  -- the left neighbour, which the last store is to
-  pub neighbour-reached : List·Memᴰ (childBefore (view t) p x) (reached (view t))
-  unfolding childBefore
-  neighbour-reached = child-reached v p a (fine .left .orderly) (h .parent) a-child
-
-  -- ---- a cut in between
-
-  hidden-left : (t′ : Words) → Changed t p (withoutSlot t p k) 1 t′ → Lacks t p x t′
-  unfolding childBefore
-  hidden-left t′ c =
-      let b = hide-missing less p a (det .left) in
-      let e = changed-view t p (withoutSlot t p k) 1 t′ c in
-      record { leftover = inl (ap leftover e ∙ has-left-iff (withHidden less p 1) (bothIn p a) .1 (b .left) .1); reached = ap reached e ∙ b .reached ∙ det .reached }
-
-  missing-left : Lacks t p x t₁
-  unfolding childBefore
-  missing-left = record { leftover = inr (ap leftover seen₁ ∙ has-left-iff less (missingIn p a false) .1 (det .left) .1); reached = ap reached seen₁ ∙ det .reached }
-
-  first-parts : (j : ℕ) → j < length (freeStores t p x) → take j (freeStores t p x) ≡ take j (shiftOutAt t p k)
-  unfolding freeStores
-  first-parts j i =
-      let ps : List Store = put (suc (nodeStart (childBefore v p x))) (v .node x .sibling) ∷ [] in
-      let n : j - length (shiftOutAt t p k) ≡ 0 = omega (arith, i, length-append (shiftOutAt t p k) ps) in
-      take-append j (shiftOutAt t p k) ps ∙ ap (λ (m : ℕ). take j (shiftOutAt t p k) ++ take m ps) n ∙ append-nil (take j (shiftOutAt t p k))
-
-  -- After the parent's first store and before the last one x lacks its slot.
-  pub free-cut : (j : ℕ) → 0 < j → j < length (freeStores t p x) → Lacks t p x (apply (take j (freeStores t p x)) t)
-  free-cut j g i = rw (first-parts j i) (go (ltb j (length (shiftOutAt t p k))) refl)
-    where
-      go : (b : Bool) → ltb j (length (shiftOutAt t p k)) ≡ b → Lacks t p x (apply (take j (shiftOutAt t p k)) t)
-      go true e = hidden-left _ (between-first (Changed t p ss 0) (Changed t p (withoutSlot t p k) 1) (Changed t p (withoutSlot t p k) 0) (shiftOutAt t p k) t shifting j g (ltb-true j (length (shiftOutAt t p k)) e))
-      go false e = rw (take-all j (shiftOutAt t p k) (ltb-false j (length (shiftOutAt t p k)) e)) missing-left
-
-  -- ---- x is passed over; the other levels are quiet
-
-  level-p : (l : ℕ) → l ≢ 0 → v .node p .level ≢ suc l
-  level-p l z e = z (omega (arith, h .level))
-
-  -- every level stays, and only level 0 has a node that lacks its slot
-  out-calm : (l j : ℕ) → CalmAt view p l t (apply (take j (shiftOutAt t p k)) t)
-  out-calm l = each-first-part (CalmAt view p l t) (shiftOutAt t p k) t (first-map doStore _ (CalmAt view p l t) _ (CalmAt view p l t) _ (CalmAt view p l t)
-      (λ t′ c. let q = hidden-quiet t p l (none-straight v (fine .left .left .2) l) 0 t′ c in record { same = q .same; straight = λ z. q .straight }) (calm 1) (calm 0) (shiftOutAt t p k) t shifting)
-    where
-      calm : (i : ℕ) (t′ : Words) → Changed t p (withoutSlot t p k) i t′ → CalmAt view p l t t′
-      calm i t′ c = record { same = slots-still t p l _ i t′ c (det .reached); straight = λ z. slots-quiet t p l _ i t′ c (det .reached) (only-straight less p a (det .left .left .2) l z) .straight }
-
-  abbrev over : View
-  over = withSibling less a (v .node x .sibling)
-
-  reached-over : reached less ≡ splice a x (reached over)
-  reached-over = subst (λ (n : ℕ). reached less ≡ splice a n (reached (withSibling less a (v .node n .sibling)))) next
-      (unlink-reached less p a (det .left) a-leaf (ap (shownOf less) next ∙ update-off (shownOf v) p (low ++ high) x apart ∙ h .empty))
-
-  a-row : OnRow less 0 a
-  a-row = (a-reached less p a (det .left .orderly) (det .left .left .2), a-leaf)
-
-  x-row : OnRow less 0 x
-  x-row = rw next at (sibling-row less (det .left .orderly) 0 a a-row (sibling-some less p a (det .left .orderly) (det .left .left .2)))
-
-  keep : (l n : ℕ) → OnRow less l n → n ≢ x → OnRow over l n
-  keep l n r z = (⊎-elim (λ e. absurd (z e)) (λ m. m) (splice-cases a x n (reached over) (rw reached-over at (r .0))), r .1)
-
-  skipped : Skipped 0 a x less over
-  skipped = record {
-    a-row = a-row;
-    b-row = x-row;
-    next = next;
-    row = keep 0;
-    level = λ n. refl;
-    fence = λ n. refl;
-    a-sibling = update-at (siblingOf v) a (v .node x .sibling);
-    sibling = λ n z. update-off (siblingOf v) a (v .node x .sibling) n z;
-    b-left = refl;
-    b-shown = refl;
-  }
-
-  unlink-same : (l : ℕ) → l ≢ 0 → Same l less over
-  unlink-same l z = record {
-    there = λ n r. keep l n r (λ e. z (sym (r .1) ∙ ap (levelOf v) e ∙ x-row .1));
-    back = λ n r. (rw reached-over (mem-splice a x n (reached over) (r .0)), r .1);
-    fence = λ n r. refl;
-    sibling = λ n r. update-off (siblingOf v) a (v .node x .sibling) n (λ e. z (sym (r .1) ∙ ap (levelOf v) e ∙ a-leaf));
-  }
-
-  pub free-quiet : (l : ℕ) → l ≢ 0 → Quiet view l t (freeStores t p x)
-  unfolding freeStores childBefore
-  free-quiet l z = quiet-append view l t (shiftOutAt t p k) (put (suc (nodeStart a)) (v .node x .sibling) ∷ []) (calm-quiet view p l t _ (out-calm l) (level-p l z))
-      (each-part (QuietAt view l t₁) (put (suc (nodeStart a)) (v .node x .sibling) ∷ []) t₁ (
-        record { same = same-refl l (view t₁); straight = whole-part (CalmAt view p l t) (shiftOutAt t p k) t (out-calm l) .straight (level-p l z) },
-        seen-quiet l t₁ t₂ over seen₂ (same-from l (view t₁) less over seen₁ (unlink-same l z)) (none-straight over (gap .left .left .2) l),
-      ))
-
-  pub free-skip : Skip view 0 t (freeStores t p x)
-  unfolding freeStores childBefore
-  free-skip = record {
-    a = a;
-    b = x;
-    before = shiftOutAt t p k;
-    it = put (suc (nodeStart a)) (v .node x .sibling);
-    shape = refl;
-    still = calm-still view p 0 t _ (out-calm 0);
-    skips = skipped-is 0 a x (view t₁) less (view t₂) over seen₁ seen₂ skipped;
-  }
+    abbrev t₂ : Words
+    t₂ = set t₁ (suc (nodeStart a)) (v .node x .sibling)
+
+    header₂ : SameHeader t₁ t₂
+    header₂ = sibling-header t₁ a (v .node x .sibling) has-a
+
+    seen₂ : treeOf sd t₂ ≡ withSibling less a (v .node x .sibling)
+    seen₂ =
+        sibling-change (treeOf sd t₁) (treeOf sd t₂) a (v .node x .sibling) (same-nodes header₂) (same-word sd (fine .low) header₂) (sibling-view t₁ a (v .node x .sibling) has-a)
+        ∙ ap (λ (w : View). withSibling w a (v .node x .sibling)) seen₁
+
+    settles : SettledWith sd (mapOf sd t) t₂
+    settles =
+        let f = view-fine sd t₁ t₂ (withSibling less a (v .node x .sibling)) seen₂ header₂ fine₁ nothing (gap .left) refl over-off in
+        (f, ap mapping seen₂ ∙ gap .mapping ∙ det .mapping)
+
+    link-phase : Phase sd 2 t₁ (put (suc (nodeStart a)) (v .node x .sibling) ∷ []) (mapOf sd t)
+    link-phase = phase-until sd 2 t₁ (put (suc (nodeStart a)) (v .node x .sibling) ∷ []) (unfold orders ordersAfter in omega arith) (unfold nodeStart in omega (arith, has-node-iff t₁ a .0 has-a), tt) (mapOf sd t)
+        (((missingIn p a false, fine₁), refl), settles)
+
+    -- An empty leaf is freed: every first part of the stores leaves a sound table with the same map, and all of them a settled one.
+    pub free-phase : Phase sd 27 t (freeStores t p x) (mapOf sd t)
+    unfolding freeStores childBefore
+    free-phase = stage-phase sd 25 2 t (shiftOutAt t p k) (put (suc (nodeStart a)) (v .node x .sibling) ∷ []) (mapOf sd t) out-stage link-phase
+
+    -- ---- what it leaves
+
+    whole : apply (freeStores t p x) t ≡ t₂
+    unfolding freeStores childBefore apply
+    whole = apply-append (shiftOutAt t p k) (put (suc (nodeStart a)) (v .node x .sibling) ∷ []) t
+
+    seen : treeOf sd (apply (freeStores t p x) t) ≡ withSibling less a (v .node x .sibling)
+    seen = ap (treeOf sd) whole ∙ seen₂
+
+    -- The leaf is reached no more, and no other node is lost.
+    pub free-unreached : elem x (reached (treeOf sd (apply (freeStores t p x) t))) ≡ false
+    free-unreached = ap (λ (w : View). elem x (reached w)) seen ∙ gap .freed
+
+    pub free-fewer : length (reached (treeOf sd t)) ≡ suc (length (reached (treeOf sd (apply (freeStores t p x) t))))
+    free-fewer = ap length (sym (det .reached)) ∙ gap .fewer ∙ ap (λ (w : View). suc (length (reached w))) (sym seen)
+
+    pub free-others : (n : ℕ) → n ≢ x → elem n (reached (treeOf sd (apply (freeStores t p x) t))) ≡ elem n (reached (treeOf sd t))
+    free-others n z = ap (λ (w : View). elem n (reached w)) seen ∙ gap .others n z ∙ ap (elem n) (det .reached)
+
+    -- the left neighbour, which the last store is to
+    pub neighbour-reached : List·Memᴰ (childBefore (treeOf sd t) p x) (reached (treeOf sd t))
+    unfolding childBefore
+    neighbour-reached = child-reached v p a (fine .left .orderly) (h .parent) a-child
+
+    -- ---- a cut in between
+
+    hidden-left : (t′ : Words) → Changed t p (withoutSlot t p k) 1 t′ → Lacks t p x t′
+    unfolding childBefore
+    hidden-left t′ c =
+        let b = hide-missing less p a (det .left) in
+        let e = changed-view sd (fine .low) t p (withoutSlot t p k) 1 t′ c in
+        record { leftover = inl (ap leftover e ∙ has-left-iff (withHidden less p 1) (bothIn p a) .1 (b .left) .1); reached = ap reached e ∙ b .reached ∙ det .reached }
+
+    missing-left : Lacks t p x t₁
+    unfolding childBefore
+    missing-left = record { leftover = inr (ap leftover seen₁ ∙ has-left-iff less (missingIn p a false) .1 (det .left) .1); reached = ap reached seen₁ ∙ det .reached }
+
+    first-parts : (j : ℕ) → j < length (freeStores t p x) → take j (freeStores t p x) ≡ take j (shiftOutAt t p k)
+    unfolding freeStores childBefore
+    first-parts j i =
+        let ps : List Store = put (suc (nodeStart (childBefore v p x))) (v .node x .sibling) ∷ [] in
+        let n : j - length (shiftOutAt t p k) ≡ 0 = omega (arith, i, length-append (shiftOutAt t p k) ps) in
+        take-append j (shiftOutAt t p k) ps ∙ ap (λ (m : ℕ). take j (shiftOutAt t p k) ++ take m ps) n ∙ append-nil (take j (shiftOutAt t p k))
+
+    -- After the parent's first store and before the last one x lacks its slot.
+    pub free-cut : (j : ℕ) → 0 < j → j < length (freeStores t p x) → Lacks t p x (apply (take j (freeStores t p x)) t)
+    free-cut j g i = rw (first-parts j i) (go (ltb j (length (shiftOutAt t p k))) refl)
+      where
+        go : (b : Bool) → ltb j (length (shiftOutAt t p k)) ≡ b → Lacks t p x (apply (take j (shiftOutAt t p k)) t)
+        go true e = hidden-left _ (between-first (Changed t p ss 0) (Changed t p (withoutSlot t p k) 1) (Changed t p (withoutSlot t p k) 0) (shiftOutAt t p k) t shifting j g (ltb-true j (length (shiftOutAt t p k)) e))
+        go false e = rw (take-all j (shiftOutAt t p k) (ltb-false j (length (shiftOutAt t p k)) e)) missing-left
+
+    -- ---- x is passed over; the other levels are quiet
+
+    level-p : (l : ℕ) → l ≢ 0 → v .node p .level ≢ suc l
+    level-p l z e = z (omega (arith, h .level))
+
+    -- every level stays, and only level 0 has a node that lacks its slot
+    out-calm : (l j : ℕ) → CalmAt (treeOf sd) p l t (apply (take j (shiftOutAt t p k)) t)
+    out-calm l = each-first-part (CalmAt (treeOf sd) p l t) (shiftOutAt t p k) t (first-map doStore _ (CalmAt (treeOf sd) p l t) _ (CalmAt (treeOf sd) p l t) _ (CalmAt (treeOf sd) p l t)
+        (λ t′ c. let q = hidden-quiet sd (fine .low) t p l (none-straight v (fine .left .left .2) l) 0 t′ c in record { same = q .same; straight = λ z. q .straight }) (calm 1) (calm 0) (shiftOutAt t p k) t shifting)
+      where
+        calm : (i : ℕ) (t′ : Words) → Changed t p (withoutSlot t p k) i t′ → CalmAt (treeOf sd) p l t t′
+        calm i t′ c = record { same = slots-still sd (fine .low) t p l _ i t′ c (det .reached); straight = λ z. slots-quiet sd (fine .low) t p l _ i t′ c (det .reached) (only-straight less p a (det .left .left .2) l z) .straight }
+
+    a-row : OnRow less 0 a
+    a-row = (a-reached less p a (det .left .orderly) (det .left .left .2), a-leaf)
+
+    x-row : OnRow less 0 x
+    x-row = rw next at (sibling-row less (det .left .orderly) 0 a a-row (sibling-some less p a (det .left .orderly) (det .left .left .2)))
+
+    keep : (l n : ℕ) → OnRow less l n → n ≢ x → OnRow over l n
+    keep l n r z = (⊎-elim (λ e. absurd (z e)) (λ m. m) (splice-cases a x n (reached over) (rw reached-over at (r .0))), r .1)
+
+    skipped : Skipped 0 a x less over
+    skipped = record {
+      a-row = a-row;
+      b-row = x-row;
+      next = next;
+      row = keep 0;
+      level = λ n. refl;
+      fence = λ n. refl;
+      a-sibling = update-at (siblingOf v) a (v .node x .sibling);
+      sibling = λ n z. update-off (siblingOf v) a (v .node x .sibling) n z;
+      b-left = refl;
+      b-shown = refl;
+    }
+
+    unlink-same : (l : ℕ) → l ≢ 0 → Same l less over
+    unlink-same l z = record {
+      there = λ n r. keep l n r (λ e. z (sym (r .1) ∙ ap (levelOf v) e ∙ x-row .1));
+      back = λ n r. (rw reached-over (mem-splice a x n (reached over) (r .0)), r .1);
+      fence = λ n r. refl;
+      sibling = λ n r. update-off (siblingOf v) a (v .node x .sibling) n (λ e. z (sym (r .1) ∙ ap (levelOf v) e ∙ a-leaf));
+    }
+
+    pub free-quiet : (l : ℕ) → l ≢ 0 → Quiet (treeOf sd) l t (freeStores t p x)
+    unfolding freeStores childBefore
+    free-quiet l z = quiet-append (treeOf sd) l t (shiftOutAt t p k) (put (suc (nodeStart a)) (v .node x .sibling) ∷ []) (calm-quiet (treeOf sd) p l t _ (out-calm l) (level-p l z))
+        (each-part (QuietAt (treeOf sd) l t₁) (put (suc (nodeStart a)) (v .node x .sibling) ∷ []) t₁ (
+          record { same = same-refl l (treeOf sd t₁); straight = whole-part (CalmAt (treeOf sd) p l t) (shiftOutAt t p k) t (out-calm l) .straight (level-p l z) },
+          seen-quiet sd l t₁ t₂ over seen₂ (same-from l (treeOf sd t₁) less over seen₁ (unlink-same l z)) (none-straight over (gap .left .left .2) l),
+        ))
+
+    pub free-skip : Skip (treeOf sd) 0 t (freeStores t p x)
+    unfolding freeStores childBefore
+    free-skip = record {
+      a = a;
+      b = x;
+      before = shiftOutAt t p k;
+      it = put (suc (nodeStart a)) (v .node x .sibling);
+      shape = refl;
+      still = calm-still (treeOf sd) p 0 t _ (out-calm 0);
+      skips = skipped-is 0 a x (treeOf sd t₁) less (treeOf sd t₂) over seen₁ seen₂ skipped;
+    }

@@ -8,7 +8,7 @@ use native.Mathlib.Omega.{arith}
 use lib.ListN.{length, take, drop, getD, set}
 use lib.Seq.{split-at, getD-at, length-take-le}
 use Rattle.model.specs.Table.{MARK, Words}
-use Rattle.model.specs.Slots.{Slot, slot, withClass, classOk, View, nodeView, view}
+use Rattle.model.specs.Slots.{Slot, slot, withClass, classOk, View, nodeView}
 use Rattle.model.specs.Reached.{pointers, kept, reached}
 use Rattle.model.specs.SoundTest.{elem, distinct, nothing, hiddenIn}
 use Rattle.model.specs.Orders.{put, apply, orders, ordersAfter}
@@ -16,7 +16,6 @@ use Rattle.model.specs.Shifts.{pointerTo, pointerWord, shiftOut, placeOf}
 use Rattle.model.specs.Writes.{shiftInAt, shiftOutAt, setClassAt}
 use Rattle.model.specs.Refusals.{hasKey}
 use Rattle.model.specs.Ledger.{enter, leave, reclass}
-use Rattle.tree_laws.specs.OneTree.{settledOne, mapOne, standingOne}
 use Rattle.list_laws.proofs.Tools.{Each, Each-append}
 use Rattle.list_laws.proofs.Members.{each-mem, each-take, each-drop, elem-cons}
 use Rattle.list_laws.proofs.Distinct.{distinct-middle}
@@ -26,14 +25,12 @@ use Rattle.slot_laws.proofs.Hiding.{Used, AllShown, distinct-shown}
 use Rattle.slot_laws.proofs.SlotStores.{setPointer, set-pointer-at}
 use Rattle.slot_laws.proofs.Shifts.{put-in-shown}
 use Rattle.word_laws.proofs.Stores.{doStore, after-first}
-use Rattle.word_laws.proofs.Frames.{same-ok}
 use Rattle.word_laws.proofs.ShiftViews.{Changed, withSlot, withoutSlot, view-used, view-shown, shift-in-view, shift-out-view, pointer-view}
 use Rattle.tree_laws.proofs.Rows.{leaf-ok}
 use Rattle.tree_laws.proofs.Levels.{mem-leaves}
 use Rattle.tree_laws.proofs.MapLaw.{leaf-pointers}
 use Rattle.tree_laws.proofs.SearchLaw.{leafFor, leaf-mem, leaf-covers}
 use Rattle.tree_laws.proofs.PlaceOf.{standing-leaf}
-use Rattle.tree_laws.proofs.Leftovers.{settled-sound}
 use Rattle.change_laws.proofs.Updates.{withShown, withHidden}
 use Rattle.change_laws.proofs.Parts.{leaf-iff, Settles}
 use Rattle.change_laws.proofs.Hidden.{hide}
@@ -45,217 +42,219 @@ use Rattle.step_laws.proofs.Bounds.{shift-in-few, shift-in-inside, shif
 use Rattle.step_laws.proofs.Rowwise.{Straight, same-refl, none-straight}
 use Rattle.step_laws.proofs.LevelCourses.{QuietAt, Quiet, each-part, each-first-part}
 use Rattle.step_laws.proofs.SlotCourses.{hidden-quiet, slots-quiet}
-use Rattle.step_laws.proofs.Views.{changed-view, shown-view, same-view, Fine, settled-fine, view-sound, view-settles, view-same, may-hide, Usable, reached-usable, shown-few}
+use Rattle.step_laws.proofs.Views.{changed-view, shown-view, same-view, view-sound, view-settles, view-same, may-hide, Usable, reached-usable, shown-few}
+use Rattle.step_laws.proofs.Seen.{Side, treeOf, Fine, mapOf, standing}
 
 -- a pointer that no slot has
 pub not-pointed : (x : ℕ) (ss : List Slot) → elem x (pointers ss) ≡ false → Each (λ (s : Slot). x ≢ s .pointer) ss
 not-pointed x [] h = tt
 not-pointed x (s ∷ ss) h = let u = elem-cons x (s .pointer) (pointers ss) .0 h in (u .0, not-pointed x ss (u .1))
 
-module _ (t : Words) (s : settledOne t ≡ true) (k : ℕ) where
-  abbrev v : View
-  v = view t
+module _ (sd : Side) where
+  module _ (t : Words) (s : Fine sd t nothing) (k : ℕ) where
+    abbrev v : View
+    v = treeOf sd t
 
-  abbrev x : ℕ
-  x = leafFor (view t) k
+    abbrev x : ℕ
+    x = leafFor (treeOf sd t) k
 
-  fine : Fine t nothing
-  fine = settled-fine t s
+    fine : Fine sd t nothing
+    fine = s
 
-  x-reached : List·Memᴰ x (reached v)
-  x-reached = mem-leaves v x (fine .left .orderly) .0 (leaf-mem v k (fine .left .orderly)) .0
+    x-reached : List·Memᴰ x (reached v)
+    x-reached = mem-leaves v x (fine .left .orderly) .0 (leaf-mem v k (fine .left .orderly)) .0
 
-  use-x : Usable t x
-  use-x = reached-usable t x (fine .header) (fine .left .orderly) x-reached
+    use-x : Usable t x
+    use-x = reached-usable sd t x (fine .header) (fine .left .orderly) x-reached
 
-  no-hidden : v .node x .hidden ≡ 0
-  no-hidden = each-mem (λ (n : ℕ). v .node n .hidden ≡ 0) (fine .left .left .0) x-reached
+    no-hidden : v .node x .hidden ≡ 0
+    no-hidden = each-mem (λ (n : ℕ). v .node n .hidden ≡ 0) (fine .left .left .0) x-reached
 
-  left-mark : v .node x .left ≡ MARK
-  left-mark = let c = leaf-covers v k (fine .left .orderly) in leaf-iff v x .0 (leaf-ok v x (c .good) (c .at .level)) .left
+    left-mark : v .node x .left ≡ MARK
+    left-mark = let c = leaf-covers v k (fine .left .orderly) in leaf-iff v x .0 (leaf-ok v x (c .good) (c .at .level)) .left
 
-  standing-x : standingOne t 0 k ≡ x
-  standing-x = standing-leaf t k (fine .left .orderly)
+    standing-x : standing sd t 0 k ≡ x
+    standing-x = standing-leaf v k (fine .left .orderly)
 
-  -- no node lacks its slot
-  no-gap : (l : ℕ) → Straight l v
-  no-gap = none-straight v (fine .left .left .2)
+    -- no node lacks its slot
+    no-gap : (l : ℕ) → Straight l v
+    no-gap = none-straight v (fine .left .left .2)
 
-  -- ---- shift in
+    -- ---- shift in
 
-  module _ (y : ℕ) (new : NewPair (view t) k y) (room : length (nodeView t (leafFor (view t) k) .shown) ≤ 10) where
-    in-shown : AllShown (v .node x .left) (withSlot t x k y)
-    in-shown =
-        let u = pair-pointer (slot k y) (new .ok) in
-        put-in-shown (v .node x .left) (v .node x .shown) (placeOf k (v .node x .shown)) k y (view-shown t x no-hidden) (u .0) (λ e. u .1 (e ∙ left-mark)) (not-pointed y (v .node x .shown) (enter-fresh v k y (fine .left) new))
+    module _ (y : ℕ) (new : NewPair (treeOf sd t) k y) (room : length (nodeView t (leafFor (treeOf sd t) k) .shown) ≤ 10) where
+      in-shown : AllShown (v .node x .left) (withSlot t x k y)
+      in-shown =
+          let u = pair-pointer (slot k y) (new .ok) in
+          put-in-shown (v .node x .left) (v .node x .shown) (placeOf k (v .node x .shown)) k y (view-shown t x no-hidden) (u .0) (λ e. u .1 (e ∙ left-mark)) (not-pointed y (v .node x .shown) (enter-fresh v k y (fine .left) new))
 
-    entered : (t′ : Words) → Changed t x (withSlot t x k y) 0 t′ → SettledWith (enter k y (mapOne t)) t′
-    entered t′ c = view-settles t t′ _ (shown-view t x (withSlot t x k y) 0 t′ c no-hidden) (same-ok (c .header)) (fine .header) _ (enter-leaf v k y (fine .left) new)
+      entered : (t′ : Words) → Changed t x (withSlot t x k y) 0 t′ → SettledWith sd (enter k y (mapOf sd t)) t′
+      entered t′ c = view-settles sd t t′ _ (shown-view sd (fine .low) t x (withSlot t x k y) 0 t′ c no-hidden) (c .header) fine _ (enter-leaf v k y (fine .left) new)
 
-    shifted-in : Phase 27 t (shiftInAt t x k y) (enter k y (mapOne t))
-    shifted-in = phase-until 27 t (shiftInAt t x k y) (shift-in-few t x k y room) (shift-in-inside t x k y room (use-x .there)) (enter k y (mapOne t))
-        (until-map doStore _ (SoundWith (mapOne t)) _ (SettledWith (enter k y (mapOne t))) (may-hide t x nothing (hiddenIn x) fine no-hidden (hide v x (fine .left) x-reached) refl) entered (shiftInAt t x k y) t
-        (shift-in-view t x (use-x .there) (use-x .clear) (use-x .left) no-hidden k y room in-shown))
+      shifted-in : Phase sd 27 t (shiftInAt t x k y) (enter k y (mapOf sd t))
+      shifted-in = phase-until sd 27 t (shiftInAt t x k y) (shift-in-few t x k y room) (shift-in-inside t x k y room (use-x .there)) (enter k y (mapOf sd t))
+          (until-map doStore _ (SoundWith sd (mapOf sd t)) _ (SettledWith sd (enter k y (mapOf sd t))) (may-hide sd t x nothing (hiddenIn x) fine no-hidden (hide v x (fine .left) x-reached) refl) entered (shiftInAt t x k y) t
+          (shift-in-view t x (use-x .there) (use-x .clear) (use-x .left) no-hidden k y room in-shown))
 
-    in-quiet : (l : ℕ) → Quiet view l t (shiftInAt t x k y)
-    in-quiet l =
-        let e = enter-leaf v k y (fine .left) new in
-        each-part (QuietAt view l t) (shiftInAt t x k y) t
-        (until-map doStore _ (QuietAt view l t) _ (QuietAt view l t) (λ t′ u. hidden-quiet t x l (no-gap l) (u .0) t′ (u .2))
-        (λ t′ c. slots-quiet t x l (withSlot t x k y) 0 t′ c (e .reached) (none-straight (withShown v x (withSlot t x k y)) (e .left .left .2) l)) (shiftInAt t x k y) t
-        (shift-in-view t x (use-x .there) (use-x .clear) (use-x .left) no-hidden k y room in-shown))
+      in-quiet : (l : ℕ) → Quiet (treeOf sd) l t (shiftInAt t x k y)
+      in-quiet l =
+          let e = enter-leaf v k y (fine .left) new in
+          each-part (QuietAt (treeOf sd) l t) (shiftInAt t x k y) t
+          (until-map doStore _ (QuietAt (treeOf sd) l t) _ (QuietAt (treeOf sd) l t) (λ t′ u. hidden-quiet sd (fine .low) t x l (no-gap l) (u .0) t′ (u .2))
+          (λ t′ c. slots-quiet sd (fine .low) t x l (withSlot t x k y) 0 t′ c (e .reached) (none-straight (withShown v x (withSlot t x k y)) (e .left .left .2) l)) (shiftInAt t x k y) t
+          (shift-in-view t x (use-x .there) (use-x .clear) (use-x .left) no-hidden k y room in-shown))
 
-  -- k with the pointer y is shifted in at its leaf, which has room for it.
-  pub leaf-shift-in : (y : ℕ) → NewPair (view t) k y → length (nodeView t (standingOne t 0 k) .shown) ≤ 10
-      → Phase 27 t (shiftInAt t (standingOne t 0 k) k y) (enter k y (mapOne t))
-  leaf-shift-in y new room = rw standing-x (shifted-in y new (rw standing-x at room))
-
-  -- every level is quiet meanwhile
-  pub leaf-in-quiet : (y : ℕ) → NewPair (view t) k y → length (nodeView t (standingOne t 0 k) .shown) ≤ 10 → (l : ℕ) → Quiet view l t (shiftInAt t (standingOne t 0 k) k y)
-  leaf-in-quiet y new room = rw standing-x (in-quiet y new (rw standing-x at room))
-
-  -- ---- shift out
-
-  module _ (has : hasKey k (mapOne t) ≡ true) where
-    abbrev ss : List Slot
-    ss = v .node x .shown
-
-    abbrev p : ℕ
-    p = placeOf k ss
-
-    -- no pointer of the leaf is twice in it, or MARK
-    own-pointers : distinct (MARK ∷ pointers ss) ≡ true
-    own-pointers = rw (each-mem (λ (n : ℕ). kept v n ≡ v .node n .shown) (fine .left .left .1) x-reached) at (leaf-pointers v x (fine .left .orderly) (leaf-mem v k (fine .left .orderly)))
-
-    out-shown : AllShown (v .node x .left) (withoutSlot t x k)
-    out-shown =
-        let low = take p ss in
-        let it = getD ss p (slot 0 0) in
-        let rest = drop (suc p) ss in
-        let u = view-used t x in
-        let e : pointers ss ≡ pointers low ++ it .pointer ∷ pointers rest = ap pointers (split-at ss p (slot 0 0) (leave-place v k (fine .left) has)) ∙ map-append _ low (it ∷ rest) in
-        let d = distinct-middle (it .pointer) (MARK ∷ pointers low) (pointers rest) .0 (rw e at own-pointers) .1 in
-        distinct-shown (v .node x .left) (low ++ rest) (Each-append Used low rest (each-take Used p ss u) (each-drop Used (suc p) ss u))
-        (ap (λ (n : ℕ). distinct (n ∷ pointers (low ++ rest))) left-mark ∙ ap (λ (l : List ℕ). distinct (MARK ∷ l)) (map-append _ low rest) ∙ d)
-
-    abbrev less : View
-    less = withShown v x (withoutSlot t x k)
-
-    settles : Settles v less (leave k (mapOne t))
-    settles = leave-leaf v k (fine .left) has
-
-    unchanged : (t′ : Words) → Changed t x ss 0 t′ → SoundWith (mapOne t) t′
-    unchanged t′ c = view-same t t′ nothing fine (same-view t x ss 0 t′ c refl no-hidden) (same-ok (c .header))
-
-    hiding : (t′ : Words) → Changed t x (withoutSlot t x k) 1 t′ → SoundWith (leave k (mapOne t)) t′
-    hiding t′ c =
-        let h = hide less x (settles .left) (rw (settles .reached) x-reached) in
-        view-sound t t′ (withHidden less x 1) (changed-view t x (withoutSlot t x k) 1 t′ c) (same-ok (c .header)) (fine .header) (hiddenIn x) (h .left) refl _ (h .mapping ∙ settles .mapping)
-
-    gone : (t′ : Words) → Changed t x (withoutSlot t x k) 0 t′ → SettledWith (leave k (mapOne t)) t′
-    gone t′ c = view-settles t t′ less (shown-view t x (withoutSlot t x k) 0 t′ c no-hidden) (same-ok (c .header)) (fine .header) _ settles
-
-    shifting : AtFirst doStore (Changed t x ss 0) (Changed t x (withoutSlot t x k) 1) (Changed t x (withoutSlot t x k) 0) (shiftOutAt t x k) t
-    shifting = shift-out-view t x (use-x .there) (use-x .clear) (use-x .left) no-hidden k (leave-place v k (fine .left) has) out-shown
-
-    stores-some : 0 < length (shiftOutAt t x k)
-    stores-some = unfold shiftOutAt shiftOut in omega arith
-
-    shifted-out : Phase 25 t (shiftOutAt t x k) (leave k (mapOne t))
-    shifted-out =
-        let few = shown-few t x (use-x .clear) in
-        let i = leave-place v k (fine .left) has in
-        phase-first 25 t (shiftOutAt t x k) (shift-out-few t x k few i) (shift-out-inside t x k few i (use-x .there)) (leave k (mapOne t))
-        (first-map doStore _ (SoundWith (mapOne t)) _ (SoundWith (leave k (mapOne t))) _ (SettledWith (leave k (mapOne t))) unchanged hiding gone (shiftOutAt t x k) t shifting) stores-some
-
-    -- The pair of k is shifted out of its leaf.
-    pub leaf-shift-out : Phase 25 t (shiftOutAt t (standingOne t 0 k) k) (leave k (mapOne t))
-    leaf-shift-out = rw standing-x shifted-out
-
-    out-quiet : (l : ℕ) → Quiet view l t (shiftOutAt t x k)
-    out-quiet l =
-        let whole = none-straight less (settles .left .left .2) l in
-        each-first-part (QuietAt view l t) (shiftOutAt t x k) t
-        (first-map doStore _ (QuietAt view l t) _ (QuietAt view l t) _ (QuietAt view l t) (λ t′ c. hidden-quiet t x l (no-gap l) 0 t′ c) (λ t′ c. slots-quiet t x l (withoutSlot t x k) 1 t′ c (settles .reached) whole)
-        (λ t′ c. slots-quiet t x l (withoutSlot t x k) 0 t′ c (settles .reached) whole) (shiftOutAt t x k) t shifting)
+    -- k with the pointer y is shifted in at its leaf, which has room for it.
+    pub leaf-shift-in : (y : ℕ) → NewPair (treeOf sd t) k y → length (nodeView t (standing sd t 0 k) .shown) ≤ 10
+        → Phase sd 27 t (shiftInAt t (standing sd t 0 k) k y) (enter k y (mapOf sd t))
+    leaf-shift-in y new room = rw standing-x (shifted-in y new (rw standing-x at room))
 
     -- every level is quiet meanwhile
-    pub leaf-out-quiet : (l : ℕ) → Quiet view l t (shiftOutAt t (standingOne t 0 k) k)
-    leaf-out-quiet = rw standing-x out-quiet
+    pub leaf-in-quiet : (y : ℕ) → NewPair (treeOf sd t) k y → length (nodeView t (standing sd t 0 k) .shown) ≤ 10 → (l : ℕ) → Quiet (treeOf sd) l t (shiftInAt t (standing sd t 0 k) k y)
+    leaf-in-quiet y new room = rw standing-x (in-quiet y new (rw standing-x at room))
 
-    seen : view (apply (shiftOutAt t x k) t) ≡ less
-    seen = shown-view t x (withoutSlot t x k) 0 _ (after-first (Changed t x ss 0) (Changed t x (withoutSlot t x k) 1) (Changed t x (withoutSlot t x k) 0) (shiftOutAt t x k) t shifting stores-some) no-hidden
+    -- ---- shift out
 
-    -- what is seen then: the leaf shows the others
-    pub leaf-out-seen : view (apply (shiftOutAt t (standingOne t 0 k) k) t) ≡ withShown (view t) (standingOne t 0 k) (withoutSlot t (standingOne t 0 k) k)
-    leaf-out-seen = rw standing-x seen
+    module _ (has : hasKey k (mapOf sd t) ≡ true) where
+      abbrev ss : List Slot
+      ss = v .node x .shown
 
-    pub leaf-out-reached : reached (view (apply (shiftOutAt t (standingOne t 0 k) k) t)) ≡ reached (view t)
-    leaf-out-reached = rw standing-x (ap reached seen ∙ settles .reached)
+      abbrev p : ℕ
+      p = placeOf k ss
 
-    -- it showed k at its place
-    pub leaf-out-place : placeOf k (nodeView t (standingOne t 0 k) .shown) < length (nodeView t (standingOne t 0 k) .shown)
-    leaf-out-place = rw standing-x (leave-place v k (fine .left) has)
+      -- no pointer of the leaf is twice in it, or MARK
+      own-pointers : distinct (MARK ∷ pointers ss) ≡ true
+      own-pointers = rw (each-mem (λ (n : ℕ). kept v n ≡ v .node n .shown) (fine .left .left .1) x-reached) at (leaf-pointers v x (fine .left .orderly) (leaf-mem v k (fine .left .orderly)))
 
-  -- ---- another class
+      out-shown : AllShown (v .node x .left) (withoutSlot t x k)
+      out-shown =
+          let low = take p ss in
+          let it = getD ss p (slot 0 0) in
+          let rest = drop (suc p) ss in
+          let u = view-used t x in
+          let e : pointers ss ≡ pointers low ++ it .pointer ∷ pointers rest = ap pointers (split-at ss p (slot 0 0) (leave-place v k (fine .left) has)) ∙ map-append _ low (it ∷ rest) in
+          let d = distinct-middle (it .pointer) (MARK ∷ pointers low) (pointers rest) .0 (rw e at own-pointers) .1 in
+          distinct-shown (v .node x .left) (low ++ rest) (Each-append Used low rest (each-take Used p ss u) (each-drop Used (suc p) ss u))
+          (ap (λ (n : ℕ). distinct (n ∷ pointers (low ++ rest))) left-mark ∙ ap (λ (l : List ℕ). distinct (MARK ∷ l)) (map-append _ low rest) ∙ d)
 
-  module _ (has : hasKey k (mapOne t) ≡ true) (c : ℕ) (ok : classOk c ≡ true) where
-    place-c : ClassPlace v k c
-    place-c = class-leaf v k c (fine .left) has ok
+      abbrev less : View
+      less = withShown v x (withoutSlot t x k)
 
-    abbrev all : List Slot
-    all = v .node x .shown
+      settles : Settles v less (leave k (mapOf sd t))
+      settles = leave-leaf v k (fine .left) has
 
-    abbrev at-k : ℕ
-    at-k = placeOf k all
+      unchanged : (t′ : Words) → Changed t x ss 0 t′ → SoundWith sd (mapOf sd t) t′
+      unchanged t′ c = view-same sd t t′ nothing fine (same-view sd (fine .low) t x ss 0 t′ c refl no-hidden) (c .header)
 
-    abbrev y : ℕ
-    y = withClass (place-c .pointer) c
+      hiding : (t′ : Words) → Changed t x (withoutSlot t x k) 1 t′ → SoundWith sd (leave k (mapOf sd t)) t′
+      hiding t′ c =
+          let h = hide less x (settles .left) (rw (settles .reached) x-reached) in
+          view-sound sd t t′ (withHidden less x 1) (changed-view sd (fine .low) t x (withoutSlot t x k) 1 t′ c) (c .header) fine (hiddenIn x) (h .left) refl (rw (h .reached, settles .reached) (fine .off)) _ (h .mapping ∙ settles .mapping)
 
-    inside-k : at-k < length all
-    inside-k = leave-place v k (fine .left) has
+      gone : (t′ : Words) → Changed t x (withoutSlot t x k) 0 t′ → SettledWith sd (leave k (mapOf sd t)) t′
+      gone t′ c = view-settles sd t t′ less (shown-view sd (fine .low) t x (withoutSlot t x k) 0 t′ c no-hidden) (c .header) fine _ settles
 
-    taken : length (take at-k all) ≡ at-k
-    taken = length-take-le at-k all (omega (arith, inside-k))
+      shifting : AtFirst doStore (Changed t x ss 0) (Changed t x (withoutSlot t x k) 1) (Changed t x (withoutSlot t x k) 0) (shiftOutAt t x k) t
+      shifting = shift-out-view t x (use-x .there) (use-x .clear) (use-x .left) no-hidden k (leave-place v k (fine .left) has) out-shown
 
-    -- the store is to the pointer of k's slot
-    one-store : setClassAt t x k c ≡ put (pointerWord x at-k) y ∷ []
-    unfolding setClassAt
-    one-store =
-        let e : getD all at-k (slot 0 0) ≡ slot k (place-c .pointer) =
-        ap (λ (l : List Slot). getD l at-k (slot 0 0)) (place-c .shown) ∙ getD-at (take at-k all) (slot k (place-c .pointer)) (drop (suc at-k) all) (slot 0 0) at-k taken in
-        ap (λ (s : Slot). put (pointerWord x at-k) (withClass (s .pointer) c) ∷ []) e
+      stores-some : 0 < length (shiftOutAt t x k)
+      stores-some = unfold shiftOutAt shiftOut in omega arith
 
-    set-there : setPointer all at-k y ≡ slotTo k y all
-    set-there = ap (λ (l : List Slot). setPointer l at-k y) (place-c .shown) ∙ set-pointer-at (take at-k all) (slot k (place-c .pointer)) (drop (suc at-k) all) at-k y taken
+      shifted-out : Phase sd 25 t (shiftOutAt t x k) (leave k (mapOf sd t))
+      shifted-out =
+          let few = shown-few t x (use-x .clear) in
+          let i = leave-place v k (fine .left) has in
+          phase-first sd 25 t (shiftOutAt t x k) (shift-out-few t x k few i) (shift-out-inside t x k few i (use-x .there)) (leave k (mapOf sd t))
+          (first-map doStore _ (SoundWith sd (mapOf sd t)) _ (SoundWith sd (leave k (mapOf sd t))) _ (SettledWith sd (leave k (mapOf sd t))) unchanged hiding gone (shiftOutAt t x k) t shifting) stores-some
 
-    all-shown : AllShown (v .node x .left) (slotTo k y all)
-    all-shown =
-        let u = pointers-apart (slotTo k y all) (place-c .right) in
-        distinct-shown (v .node x .left) (slotTo k y all) (u .1) (ap (λ (n : ℕ). distinct (n ∷ pointers (slotTo k y all))) left-mark ∙ u .0)
+      -- The pair of k is shifted out of its leaf.
+      pub leaf-shift-out : Phase sd 25 t (shiftOutAt t (standing sd t 0 k) k) (leave k (mapOf sd t))
+      leaf-shift-out = rw standing-x shifted-out
 
-    class-there : Changed t x (slotTo k y all) 0 (set t (pointerWord x at-k) y)
-    class-there = rw set-there at (pointer-view t x (use-x .there) (use-x .clear) at-k y no-hidden inside-k (rw set-there all-shown))
+      out-quiet : (l : ℕ) → Quiet (treeOf sd) l t (shiftOutAt t x k)
+      out-quiet l =
+          let whole = none-straight less (settles .left .left .2) l in
+          each-first-part (QuietAt (treeOf sd) l t) (shiftOutAt t x k) t
+          (first-map doStore _ (QuietAt (treeOf sd) l t) _ (QuietAt (treeOf sd) l t) _ (QuietAt (treeOf sd) l t) (λ t′ c. hidden-quiet sd (fine .low) t x l (no-gap l) 0 t′ c) (λ t′ c. slots-quiet sd (fine .low) t x l (withoutSlot t x k) 1 t′ c (settles .reached) whole)
+          (λ t′ c. slots-quiet sd (fine .low) t x l (withoutSlot t x k) 0 t′ c (settles .reached) whole) (shiftOutAt t x k) t shifting)
 
-    class-set : SettledWith (reclass k c (mapOne t)) (set t (pointerWord x at-k) y)
-    class-set = view-settles t _ _ (shown-view t x (slotTo k y all) 0 _ class-there no-hidden) (same-ok (class-there .header)) (fine .header) _ (place-c .settles)
+      -- every level is quiet meanwhile
+      pub leaf-out-quiet : (l : ℕ) → Quiet (treeOf sd) l t (shiftOutAt t (standing sd t 0 k) k)
+      leaf-out-quiet = rw standing-x out-quiet
 
-    stored : Phase 2 t (put (pointerWord x at-k) y ∷ []) (reclass k c (mapOne t))
-    unfolding orders ordersAfter
-    stored =
-        let few : at-k < 12 = omega (arith, inside-k, shown-few t x (use-x .clear)) in
-        phase-until 2 t (put (pointerWord x at-k) y ∷ []) (omega arith) (slot-inside t x (pointerTo at-k y) (use-x .there) few, tt) (reclass k c (mapOne t)) ((settled-sound t s, refl), class-set)
+      seen : treeOf sd (apply (shiftOutAt t x k) t) ≡ less
+      seen = shown-view sd (fine .low) t x (withoutSlot t x k) 0 _ (after-first (Changed t x ss 0) (Changed t x (withoutSlot t x k) 1) (Changed t x (withoutSlot t x k) 0) (shiftOutAt t x k) t shifting stores-some) no-hidden
 
-    -- The slot of k in its leaf gets class c, in one store and one flush.
-    pub leaf-class : Phase 2 t (setClassAt t (standingOne t 0 k) k c) (reclass k c (mapOne t))
-    leaf-class = rw (standing-x, one-store) stored
+      -- what is seen then: the leaf shows the others
+      pub leaf-out-seen : treeOf sd (apply (shiftOutAt t (standing sd t 0 k) k) t) ≡ withShown (treeOf sd t) (standing sd t 0 k) (withoutSlot t (standing sd t 0 k) k)
+      leaf-out-seen = rw standing-x seen
 
-    class-quiet : (l : ℕ) → Quiet view l t (put (pointerWord x at-k) y ∷ [])
-    class-quiet l =
-        let s = place-c .settles in
-        each-part (QuietAt view l t) (put (pointerWord x at-k) y ∷ []) t
-        (record { same = same-refl l v; straight = no-gap l }, slots-quiet t x l (slotTo k y all) 0 _ class-there (s .reached) (none-straight (withShown v x (slotTo k y all)) (s .left .left .2) l))
+      pub leaf-out-reached : reached (treeOf sd (apply (shiftOutAt t (standing sd t 0 k) k) t)) ≡ reached (treeOf sd t)
+      leaf-out-reached = rw standing-x (ap reached seen ∙ settles .reached)
 
-    -- every level is quiet meanwhile
-    pub leaf-class-quiet : (l : ℕ) → Quiet view l t (setClassAt t (standingOne t 0 k) k c)
-    leaf-class-quiet = rw (standing-x, one-store) class-quiet
+      -- it showed k at its place
+      pub leaf-out-place : placeOf k (nodeView t (standing sd t 0 k) .shown) < length (nodeView t (standing sd t 0 k) .shown)
+      leaf-out-place = rw standing-x (leave-place v k (fine .left) has)
+
+    -- ---- another class
+
+    module _ (has : hasKey k (mapOf sd t) ≡ true) (c : ℕ) (ok : classOk c ≡ true) where
+      place-c : ClassPlace v k c
+      place-c = class-leaf v k c (fine .left) has ok
+
+      abbrev all : List Slot
+      all = v .node x .shown
+
+      abbrev at-k : ℕ
+      at-k = placeOf k all
+
+      abbrev y : ℕ
+      y = withClass (place-c .pointer) c
+
+      inside-k : at-k < length all
+      inside-k = leave-place v k (fine .left) has
+
+      taken : length (take at-k all) ≡ at-k
+      taken = length-take-le at-k all (omega (arith, inside-k))
+
+      -- the store is to the pointer of k's slot
+      one-store : setClassAt t x k c ≡ put (pointerWord x at-k) y ∷ []
+      unfolding setClassAt
+      one-store =
+          let e : getD all at-k (slot 0 0) ≡ slot k (place-c .pointer) =
+          ap (λ (l : List Slot). getD l at-k (slot 0 0)) (place-c .shown) ∙ getD-at (take at-k all) (slot k (place-c .pointer)) (drop (suc at-k) all) (slot 0 0) at-k taken in
+          ap (λ (s : Slot). put (pointerWord x at-k) (withClass (s .pointer) c) ∷ []) e
+
+      set-there : setPointer all at-k y ≡ slotTo k y all
+      set-there = ap (λ (l : List Slot). setPointer l at-k y) (place-c .shown) ∙ set-pointer-at (take at-k all) (slot k (place-c .pointer)) (drop (suc at-k) all) at-k y taken
+
+      all-shown : AllShown (v .node x .left) (slotTo k y all)
+      all-shown =
+          let u = pointers-apart (slotTo k y all) (place-c .right) in
+          distinct-shown (v .node x .left) (slotTo k y all) (u .1) (ap (λ (n : ℕ). distinct (n ∷ pointers (slotTo k y all))) left-mark ∙ u .0)
+
+      class-there : Changed t x (slotTo k y all) 0 (set t (pointerWord x at-k) y)
+      class-there = rw set-there at (pointer-view t x (use-x .there) (use-x .clear) at-k y no-hidden inside-k (rw set-there all-shown))
+
+      class-set : SettledWith sd (reclass k c (mapOf sd t)) (set t (pointerWord x at-k) y)
+      class-set = view-settles sd t _ _ (shown-view sd (fine .low) t x (slotTo k y all) 0 _ class-there no-hidden) (class-there .header) fine _ (place-c .settles)
+
+      stored : Phase sd 2 t (put (pointerWord x at-k) y ∷ []) (reclass k c (mapOf sd t))
+      unfolding orders ordersAfter
+      stored =
+          let few : at-k < 12 = omega (arith, inside-k, shown-few t x (use-x .clear)) in
+          phase-until sd 2 t (put (pointerWord x at-k) y ∷ []) (omega arith) (slot-inside t x (pointerTo at-k y) (use-x .there) few, tt) (reclass k c (mapOf sd t)) (((nothing, s), refl), class-set)
+
+      -- The slot of k in its leaf gets class c, in one store and one flush.
+      pub leaf-class : Phase sd 2 t (setClassAt t (standing sd t 0 k) k c) (reclass k c (mapOf sd t))
+      leaf-class = rw (standing-x, one-store) stored
+
+      class-quiet : (l : ℕ) → Quiet (treeOf sd) l t (put (pointerWord x at-k) y ∷ [])
+      class-quiet l =
+          let s = place-c .settles in
+          each-part (QuietAt (treeOf sd) l t) (put (pointerWord x at-k) y ∷ []) t
+          (record { same = same-refl l v; straight = no-gap l }, slots-quiet sd (fine .low) t x l (slotTo k y all) 0 _ class-there (s .reached) (none-straight (withShown v x (slotTo k y all)) (s .left .left .2) l))
+
+      -- every level is quiet meanwhile
+      pub leaf-class-quiet : (l : ℕ) → Quiet (treeOf sd) l t (setClassAt t (standing sd t 0 k) k c)
+      leaf-class-quiet = rw (standing-x, one-store) class-quiet

@@ -1,4 +1,5 @@
 -- Every store of every write.
+pub mod Seen
 pub mod Phase
 pub mod Stages
 pub mod Bounds

@@ -9,11 +9,10 @@ use lib.Dec.{eqb, ltb}
 use lib.ListN.{length}
 use borrow.Author.Tests.{eqb-true, eqb-false, ltb-false, ne-eqb}
 use Rattle.model.specs.Table.{Words, nodeStart}
-use Rattle.model.specs.Slots.{Slot, View, view, height}
+use Rattle.model.specs.Slots.{Slot, View, height}
 use Rattle.model.specs.Search.{below, within}
 use Rattle.model.specs.Reached.{reached}
 use Rattle.model.specs.SoundTest.{elem, nothing}
-use Rattle.tree_laws.specs.OneTree.{settledOne}
 use Rattle.model.specs.Writes.{putAll}
 use Rattle.view_laws.proofs.NodeViews.{siblingOf, levelOf, AllBut, level-eq, fence-eq, sibling-eq}
 use Rattle.list_laws.proofs.Tools.{or-right, at-or-off}
@@ -38,6 +37,9 @@ use Rattle.step_laws.proofs.WholeNode.{free-stays}
 use Rattle.step_laws.proofs.Standing.{stands}
 use Rattle.step_laws.proofs.Rowwise.{OnRow, Same, Straight, Comes, same-views, none-straight, stands-comes}
 use Rattle.step_laws.proofs.LevelCourses.{QuietAt, Quiet, Crosses, each-part}
+use Rattle.step_laws.proofs.Seen.{Side, treeOf, Fine}
+use Rattle.list_laws.proofs.Tools.{Each}
+use Rattle.list_laws.proofs.Members.{each-mem, mem-each}
 
 -- ---- what changes only in a node that is not reached: a free one, or one of another tree
 
@@ -46,21 +48,6 @@ pub unreached-quiet : (v v′ : View) (b : ℕ) → v′ .nodes ≡ v .nodes →
 unreached-quiet v v′ b N r a h z e l =
     let k = unreached-keeps v v′ b N r a nothing h z e in
     (same-views v v′ (k .reached) (λ n m. let q = a .else n (λ y. elem-none b (reached v) .0 e (rw y at m)) in (level-eq q, fence-eq q, sibling-eq q)) l, none-straight v′ (k .left .left .2) l)
-
--- ---- the words of a free node
-
-module _ (t : Words) (b : ℕ) (s : settledOne t ≡ true) (f : Free t b) where
-  free-quiet : (l : ℕ) (t′ : Words) → Elsewhere b t t′ → QuietAt view l t t′
-  free-quiet l t′ o =
-      let u = free-stays t b s f t′ o in
-      record {
-        same = same-views (view t) (view t′) (u .reached) (λ n m. let q = u .node .else n (free-other t b s f n m) in (level-eq q, fence-eq q, sibling-eq q)) l;
-        straight = none-straight (view t′) (u .fine .left .left .2) l;
-      }
-
-  pub whole-quiet : (ws : Words) → length ws ≡ 32 → (l : ℕ) → Quiet view l t (putAll (nodeStart b) ws)
-  whole-quiet ws e l = each-part (QuietAt view l t) (putAll (nodeStart b) ws) t
-      (until-map doStore (Elsewhere b t) (QuietAt view l t) (Elsewhere b t) (QuietAt view l t) (free-quiet l) (free-quiet l) (putAll (nodeStart b) ws) t (put-all-along t b ws (omega arith)))
 
 -- ---- a new root
 
@@ -99,6 +86,9 @@ splice-cases a b x (n ∷ ns) m = go (eqb n a) refl (splice-cases a b x ns)
         ⊎-elim (λ y. inr (List·Memᴰ·head (y ∙ sym e))) (λ y. ⊎-elim (λ z. inl z) (λ z. later (ih z)) (List·Memᴰ·cases-cons y)) (List·Memᴰ·cases-cons (rw q at m))
     go false c ih =
         ⊎-elim (λ y. inr (List·Memᴰ·head y)) (λ y. later (ih y)) (List·Memᴰ·cases-cons (rw (splice-off a b n ns (eqb-false n a c)) at m))
+
+pub splice-each : (P : ℕ → Type 0) (a b : ℕ) (ns : List ℕ) → P b → Each P ns → Each P (splice a b ns)
+splice-each P a b ns h e = mem-each P (splice a b ns) (λ x m. ⊎-elim (λ q. rw q h) (λ y. each-mem P e y) (splice-cases a b x ns m))
 
 module _ (v : View) (A B : ℕ) (low : List Slot) (s : Slot) (high : List Slot) (q : ℕ) (h : HasLeft v nothing) (p : Splits v A B low s high) (y : Parent v A q) where
   abbrev w : View
@@ -153,3 +143,19 @@ module _ (v : View) (A B : ℕ) (low : List Slot) (s : Slot) (high : List Slot) 
 
   pub link-crosses : Crosses (v .node A .level) v (withSibling v A B)
   link-crosses = record { row = keep (v .node A .level); fence = λ n r. refl; leads = leads }
+
+module _ (sd : Side) where
+  -- ---- the words of a free node
+
+  module _ (t : Words) (b : ℕ) (s : Fine sd t nothing) (f : Free sd t b) where
+    free-quiet : (l : ℕ) (t′ : Words) → Elsewhere b t t′ → QuietAt (treeOf sd) l t t′
+    free-quiet l t′ o =
+        let u = free-stays sd t b s f t′ o in
+        record {
+          same = same-views (treeOf sd t) (treeOf sd t′) (u .reached) (λ n m. let q = u .node .else n (free-other sd t b s f n m) in (level-eq q, fence-eq q, sibling-eq q)) l;
+          straight = none-straight (treeOf sd t′) (u .fine .left .left .2) l;
+        }
+
+    pub whole-quiet : (ws : Words) → length ws ≡ 32 → (l : ℕ) → Quiet (treeOf sd) l t (putAll (nodeStart b) ws)
+    whole-quiet ws e l = each-part (QuietAt (treeOf sd) l t) (putAll (nodeStart b) ws) t
+        (until-map doStore (Elsewhere b t) (QuietAt (treeOf sd) l t) (Elsewhere b t) (QuietAt (treeOf sd) l t) (free-quiet l) (free-quiet l) (putAll (nodeStart b) ws) t (put-all-along t b ws (omega arith)))

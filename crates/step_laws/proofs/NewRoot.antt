@@ -1,6 +1,5 @@
 -- A new root: every store leaves a settled table with the same map, and the search path grows by the new root.
 use mathlib.Core.Path.{_≡_, refl, ap, sym, _∙_}
-use mathlib.Core.Bool.{true}
 use mathlib.Core.Logic.{_≢_}
 use mathlib.Core.List.{List, [], _∷_, List·Memᴰ, List·Memᴰ·head, List·Memᴰ·tail}
 use Prim.Native.Nat.{ℕ, suc, _≤_, _<_}
@@ -8,17 +7,14 @@ use native.Mathlib.Omega.{arith}
 use borrow.Author.Tests.{ne-eqb}
 use lib.ListN.{length, set}
 use Rattle.model.specs.Table.{Words, root, nodeStart}
-use Rattle.model.specs.Slots.{NodeView, View, nodeView, view, height}
+use Rattle.model.specs.Slots.{NodeView, View, nodeView, height}
 use Rattle.model.specs.Search.{below}
 use Rattle.model.specs.Reached.{reached, mapping}
 use Rattle.model.specs.SoundTest.{elem, nothing}
 use Rattle.model.specs.Orders.{put, apply, ordersAfter, orders}
 use Rattle.model.specs.Writes.{putAll, nodeWords}
-use Rattle.tree_laws.specs.OneTree.{settledOne, mapOne, rootAtOne, standingOne}
 use Rattle.view_laws.proofs.NodeViews.{shownOf, newNode, sibling-eq, level-eq, fence-eq, shown-eq}
-use Rattle.table_laws.proofs.Header.{header-iff}
-use Rattle.word_laws.proofs.Frames.{same-root, same-nodes}
-use Rattle.word_laws.proofs.LinkStores.{root-view, root-header}
+use Rattle.word_laws.proofs.Frames.{same-nodes}
 use Rattle.word_laws.proofs.NewNodes.{length-node-words}
 use Rattle.tree_laws.proofs.SearchLaw.{Stands}
 use Rattle.cut_laws.proofs.Applying.{apply-append}
@@ -26,7 +22,6 @@ use Rattle.change_laws.proofs.Updates.{withRoot}
 use Rattle.change_laws.proofs.NewRoot.{AboveRoot, Rooted, new-root}
 use Rattle.step_laws.proofs.Phase.{Phase}
 use Rattle.step_laws.proofs.Stages.{SettledWith, stage-phase, phase-until}
-use Rattle.step_laws.proofs.Views.{fine-sound, fine-settled, view-fine}
 use Rattle.step_laws.proofs.Fresh.{Free, free-other}
 use Rattle.step_laws.proofs.WholeNode.{Stays, whole-stage, whole-stays}
 use Rattle.step_laws.proofs.Rowwise.{same-refl, none-straight}
@@ -34,127 +29,130 @@ use Rattle.step_laws.proofs.LevelCourses.{Crosses, QuietAt, Quiet, each
 use Rattle.step_laws.proofs.SlotCourses.{seen-quiet, seen-crosses}
 use Rattle.step_laws.proofs.LinkCourses.{whole-quiet, root-same, root-crosses}
 use Rattle.step_laws.proofs.Standing.{standing-stands, standing-is, stands, stands-same, stays-height, stays-stands}
+use Rattle.model.specs.Writes.{newRootAt}
+use Rattle.step_laws.proofs.Seen.{Side, treeOf, Fine, mapOf, standing, rootOf, same-word, off-is, root-seen, root-head}
+use mathlib.Core.Logic.{_⊎_}
 
--- into a free node r
-module _ (t : Words) (s : settledOne t ≡ true) (low : height (view t) < 15) (r : ℕ) (f : Free t r) where
-  abbrev v : View
-  v = view t
+module _ (sd : Side) where
+  -- into a free node r
+  module _ (t : Words) (s : Fine sd t nothing) (low : height (treeOf sd t) < 15) (which : (sd .word ≡ 1) ⊎ (sd .word ≡ 3)) (r : ℕ) (f : Free sd t r) where
+    abbrev v : View
+    v = treeOf sd t
 
-  -- ---- the new root's words
+    -- ---- the new root's words
 
-  abbrev ws : Words
-  ws = nodeWords (root t) 0 (suc (height v)) 0 []
+    abbrev ws : Words
+    ws = nodeWords (rootOf sd t) 0 (suc (height v)) 0 []
 
-  abbrev t₁ : Words
-  t₁ = apply (putAll (nodeStart r) ws) t
+    abbrev t₁ : Words
+    t₁ = apply (putAll (nodeStart r) ws) t
 
-  abbrev v₁ : View
-  v₁ = view t₁
+    abbrev v₁ : View
+    v₁ = treeOf sd t₁
 
-  abbrev top : NodeView
-  top = newNode (root t) 0 (suc (height v)) 0 []
+    abbrev top : NodeView
+    top = newNode (rootOf sd t) 0 (suc (height v)) 0 []
 
-  stays : Stays t r top t₁
-  stays = whole-stays t r (root t) 0 (suc (height v)) 0 [] s f tt (omega arith)
+    stays : Stays sd t r top t₁
+    stays = whole-stays sd t r (rootOf sd t) 0 (suc (height v)) 0 [] s f tt (omega arith)
 
-  new : nodeView t₁ r ≡ top
-  new = stays .node .here
+    new : nodeView t₁ r ≡ top
+    new = stays .node .here
 
-  same-height : height v₁ ≡ height v
-  same-height = stays-height t r s f top t₁ stays
+    same-height : height v₁ ≡ height v
+    same-height = stays-height sd t r s f top t₁ stays
 
-  above : AboveRoot v₁ r
-  above = record {
-    range = rw (same-nodes (stays .header)) (f .range);
-    fresh = rw (stays .reached) (f .unreached);
-    low = omega (arith, same-height);
-    node = new ∙ sym (λ i. newNode (same-root (stays .header) i) 0 (suc (same-height i)) 0 []);
-  }
+    above : AboveRoot v₁ r
+    above = record {
+      range = rw (same-nodes (stays .header)) (f .range);
+      fresh = rw (stays .reached) (f .unreached);
+      low = omega (arith, same-height);
+      node = new ∙ sym (λ i. newNode (same-word sd (s .low) (stays .header) i) 0 (suc (same-height i)) 0 []);
+    }
 
-  rooted : Rooted v₁ (withRoot v₁ r) r
-  rooted = new-root v₁ r (stays .fine .left) above
+    rooted : Rooted v₁ (withRoot v₁ r) r
+    rooted = new-root v₁ r (stays .fine .left) above
 
-  -- ---- header word 1
+    -- ---- header word 1
 
-  abbrev t₂ : Words
-  t₂ = set t₁ 1 r
+    abbrev t₂ : Words
+    t₂ = set t₁ (sd .word) r
 
-  seen : view t₂ ≡ withRoot v₁ r
-  seen = root-view t₁ r (stays .fine .header)
+    seen : treeOf sd t₂ ≡ withRoot v₁ r
+    seen = root-seen sd t₁ r (s .low) which (stays .fine .header)
 
-  settles : SettledWith (mapOne t) t₂
-  settles =
-      let h = stays .fine .header in
-      let f = view-fine t₁ t₂ (withRoot v₁ r) seen (root-header t₁ r h (above .range) ∙ sym h) h nothing (rooted .left) refl in
-      (fine-settled t₂ f, ap mapping seen ∙ rooted .mapping ∙ stays .mapping)
+    settles : SettledWith sd (mapOf sd t) t₂
+    settles =
+        let f : Fine sd t₂ nothing = record { low = s .low; header = root-head sd t₁ r (s .low) which (stays .fine .header); left = rw seen (rooted .left); room = refl; off = off-is sd (treeOf sd t₂) (withRoot v₁ r) seen (rw (rooted .reached) (f .off, stays .fine .off)) } in
+        (f, ap mapping seen ∙ rooted .mapping ∙ stays .mapping)
 
-  link-phase : Phase 2 t₁ (put 1 r ∷ []) (mapOne t)
-  link-phase = phase-until 2 t₁ (put 1 r ∷ []) (unfold orders ordersAfter in omega arith) (omega (arith, header-iff t₁ .0 (stays .fine .header) .size .long), tt) (mapOne t)
-      ((fine-sound t₁ nothing (stays .fine), refl), settles)
+    link-phase : Phase sd 2 t₁ (put (sd .word) r ∷ []) (mapOf sd t)
+    link-phase = phase-until sd 2 t₁ (put (sd .word) r ∷ []) (unfold orders ordersAfter in omega arith) (omega (arith, stays .fine .header .size .long, s .low), tt) (mapOf sd t)
+        (((nothing, (stays .fine)), refl), settles)
 
-  -- New root: every first part of its stores leaves a sound table with the same map.
-  pub root-phase : Phase 38 t (rootAtOne t r) (mapOne t)
-  root-phase = stage-phase 36 2 t (putAll (nodeStart r) ws) (put 1 r ∷ []) (mapOne t) (whole-stage t r (root t) 0 (suc (height v)) 0 [] s f) link-phase
+    -- New root: every first part of its stores leaves a sound table with the same map.
+    pub root-phase : Phase sd 38 t (newRootAt (sd .word) t r) (mapOf sd t)
+    root-phase = stage-phase sd 36 2 t (putAll (nodeStart r) ws) (put (sd .word) r ∷ []) (mapOf sd t) (whole-stage sd t r (rootOf sd t) 0 (suc (height v)) 0 [] s f) link-phase
 
-  -- ---- every level is quiet but the new one, which has no node before
+    -- ---- every level is quiet but the new one, which has no node before
 
-  words-quiet : (l : ℕ) → Quiet view l t (putAll (nodeStart r) ws)
-  words-quiet = whole-quiet t r s f ws (length-node-words (root t) 0 (suc (height v)) 0 [])
+    words-quiet : (l : ℕ) → Quiet (treeOf sd) l t (putAll (nodeStart r) ws)
+    words-quiet = whole-quiet sd t r s f ws (length-node-words (rootOf sd t) 0 (suc (height v)) 0 [])
 
-  link-quiet : (l : ℕ) → l ≢ suc (height v) → Quiet view l t₁ (put 1 r ∷ [])
-  link-quiet l z = each-part (QuietAt view l t₁) (put 1 r ∷ []) t₁ (
-    record { same = same-refl l v₁; straight = none-straight v₁ (stays .fine .left .left .2) l },
-    seen-quiet l t₁ t₂ (withRoot v₁ r) seen (root-same v₁ r (rooted .reached) l (λ e. z (e ∙ level-eq new))) (none-straight (withRoot v₁ r) (rooted .left .left .2) l),
-  )
+    link-quiet : (l : ℕ) → l ≢ suc (height v) → Quiet (treeOf sd) l t₁ (put (sd .word) r ∷ [])
+    link-quiet l z = each-part (QuietAt (treeOf sd) l t₁) (put (sd .word) r ∷ []) t₁ (
+      record { same = same-refl l v₁; straight = none-straight v₁ (stays .fine .left .left .2) l },
+      seen-quiet sd l t₁ t₂ (withRoot v₁ r) seen (root-same v₁ r (rooted .reached) l (λ e. z (e ∙ level-eq new))) (none-straight (withRoot v₁ r) (rooted .left .left .2) l),
+    )
 
-  pub root-quiet : (l : ℕ) → l ≢ suc (height (view t)) → Quiet view l t (rootAtOne t r)
-  root-quiet l z = quiet-append view l t (putAll (nodeStart r) ws) (put 1 r ∷ []) (words-quiet l) (link-quiet l z)
+    pub root-quiet : (l : ℕ) → l ≢ suc (height (treeOf sd t)) → Quiet (treeOf sd) l t (newRootAt (sd .word) t r)
+    root-quiet l z = quiet-append (treeOf sd) l t (putAll (nodeStart r) ws) (put (sd .word) r ∷ []) (words-quiet l) (link-quiet l z)
 
-  -- ---- what it leaves
+    -- ---- what it leaves
 
-  reach : reached (view t₂) ≡ r ∷ reached v
-  reach = ap reached seen ∙ rooted .reached ∙ ap (λ (l : List ℕ). r ∷ l) (stays .reached)
+    reach : reached (treeOf sd t₂) ≡ r ∷ reached v
+    reach = ap reached seen ∙ rooted .reached ∙ ap (λ (l : List ℕ). r ∷ l) (stays .reached)
 
-  up : height (view t₂) ≡ suc (height v)
-  up = ap height seen ∙ level-eq new
+    up : height (treeOf sd t₂) ≡ suc (height v)
+    up = ap height seen ∙ level-eq new
 
-  old-stands : (k d n : ℕ) → Stands v k d n → Stands (view t₂) k d n
-  old-stands k d n c =
-      let e = stays-stands t r s f top t₁ stays k d n c in
-      rw seen (stands-same v₁ (withRoot v₁ r) k d n (rooted .left .orderly) (rw (rooted .reached) (List·Memᴰ·tail (e .reached))) refl refl refl refl e)
+    old-stands : (k d n : ℕ) → Stands v k d n → Stands (treeOf sd t₂) k d n
+    old-stands k d n c =
+        let e = stays-stands sd t r s f top t₁ stays k d n c in
+        rw seen (stands-same v₁ (withRoot v₁ r) k d n (rooted .left .orderly) (rw (rooted .reached) (List·Memᴰ·tail (e .reached))) refl refl refl refl e)
 
-  top-stands : (k : ℕ) → Stands (view t₂) k (suc (height v)) r
-  unfolding below
-  top-stands k = rw seen (stands (withRoot v₁ r) k (suc (height v)) r (rooted .left .orderly) (rw (rooted .reached) (List·Memᴰ·head refl)) (level-eq new) (rw (fence-eq new) (omega arith)) (rw (sibling-eq new)))
+    top-stands : (k : ℕ) → Stands (treeOf sd t₂) k (suc (height v)) r
+    unfolding below
+    top-stands k = rw seen (stands (withRoot v₁ r) k (suc (height v)) r (rooted .left .orderly) (rw (rooted .reached) (List·Memᴰ·head refl)) (level-eq new) (rw (fence-eq new) (omega arith)) (rw (sibling-eq new)))
 
-  after : apply (rootAtOne t r) t ≡ t₂
-  unfolding apply
-  after = apply-append (putAll (nodeStart r) ws) (put 1 r ∷ []) t
+    after : apply (newRootAt (sd .word) t r) t ≡ t₂
+    unfolding apply
+    after = apply-append (putAll (nodeStart r) ws) (put (sd .word) r ∷ []) t
 
-  -- the header's store turns the new level
-  pub root-turns : Crosses (suc (height (view t))) (view (apply (putAll (nodeStart r) (nodeWords (root t) 0 (suc (height (view t))) 0 [])) t)) (view (apply (rootAtOne t r) t))
-  root-turns = rw after (seen-crosses (suc (height v)) v₁ (view t₂) (withRoot v₁ r) seen (root-crosses v₁ r (rooted .reached) (stays .fine .left .orderly) (suc (height v)) (omega (arith, same-height))))
+    -- the header's store turns the new level
+    pub root-turns : Crosses (suc (height (treeOf sd t))) (treeOf sd (apply (putAll (nodeStart r) (nodeWords (rootOf sd t) 0 (suc (height (treeOf sd t))) 0 [])) t)) (treeOf sd (apply (newRootAt (sd .word) t r) t))
+    root-turns = rw after (seen-crosses (suc (height v)) v₁ (treeOf sd t₂) (withRoot v₁ r) seen (root-crosses v₁ r (rooted .reached) (stays .fine .left .orderly) (suc (height v)) (omega (arith, same-height))))
 
-  pub root-height : height (view (apply (rootAtOne t r) t)) ≡ suc (height (view t))
-  root-height = rw after up
+    pub root-height : height (treeOf sd (apply (newRootAt (sd .word) t r) t)) ≡ suc (height (treeOf sd t))
+    root-height = rw after up
 
-  pub root-takes : length (reached (view (apply (rootAtOne t r) t))) ≡ suc (length (reached (view t)))
-  root-takes = rw after (ap length reach)
+    pub root-takes : length (reached (treeOf sd (apply (newRootAt (sd .word) t r) t))) ≡ suc (length (reached (treeOf sd t)))
+    root-takes = rw after (ap length reach)
 
-  -- it is reached besides, and of the others the same ones
-  pub root-others : (n : ℕ) → n ≢ r → elem n (reached (view (apply (rootAtOne t r) t))) ≡ elem n (reached (view t))
-  unfolding elem
-  root-others n z = rw after (ap (elem n) reach ∙ rw (ne-eqb n r z))
+    -- it is reached besides, and of the others the same ones
+    pub root-others : (n : ℕ) → n ≢ r → elem n (reached (treeOf sd (apply (newRootAt (sd .word) t r) t))) ≡ elem n (reached (treeOf sd t))
+    unfolding elem
+    root-others n z = rw after (ap (elem n) reach ∙ rw (ne-eqb n r z))
 
-  -- the path to k has the nodes that it had, and above them the new root, which shows nothing
-  pub root-standing : (k d : ℕ) → d ≤ height (view t) → standingOne (apply (rootAtOne t r) t) d k ≡ standingOne t d k
-  root-standing k d h = rw after (standing-is t₂ (settles .0) k d (standingOne t d k) (old-stands k d (standingOne t d k) (standing-stands t s k d h)))
+    -- the path to k has the nodes that it had, and above them the new root, which shows nothing
+    pub root-standing : (k d : ℕ) → d ≤ height (treeOf sd t) → standing sd (apply (newRootAt (sd .word) t r) t) d k ≡ standing sd t d k
+    root-standing k d h = rw after (standing-is sd t₂ (settles .0) k d (standing sd t d k) (old-stands k d (standing sd t d k) (standing-stands sd t s k d h)))
 
-  pub root-shown : (n : ℕ) → List·Memᴰ n (reached (view t)) → nodeView (apply (rootAtOne t r) t) n .shown ≡ nodeView t n .shown
-  root-shown n m = rw after (ap (λ (x : View). x .node n .shown) seen ∙ shown-eq (stays .node .else n (free-other t r s f n m)))
+    pub root-shown : (n : ℕ) → List·Memᴰ n (reached (treeOf sd t)) → nodeView (apply (newRootAt (sd .word) t r) t) n .shown ≡ nodeView t n .shown
+    root-shown n m = rw after (ap (λ (x : View). x .node n .shown) seen ∙ shown-eq (stays .node .else n (free-other sd t r s f n m)))
 
-  pub root-top : (k : ℕ) → standingOne (apply (rootAtOne t r) t) (suc (height (view t))) k ≡ r
-  root-top k = rw after (standing-is t₂ (settles .0) k (suc (height v)) r (top-stands k))
+    pub root-top : (k : ℕ) → standing sd (apply (newRootAt (sd .word) t r) t) (suc (height (treeOf sd t))) k ≡ r
+    root-top k = rw after (standing-is sd t₂ (settles .0) k (suc (height v)) r (top-stands k))
 
-  pub root-shows : (k : ℕ) → view (apply (rootAtOne t r) t) .node (standingOne (apply (rootAtOne t r) t) (suc (height (view t))) k) .shown ≡ []
-  root-shows k = ap (shownOf (view (apply (rootAtOne t r) t))) (root-top k) ∙ rw after (ap (λ (x : View). x .node r .shown) seen ∙ shown-eq new)
+    pub root-shows : (k : ℕ) → treeOf sd (apply (newRootAt (sd .word) t r) t) .node (standing sd (apply (newRootAt (sd .word) t r) t) (suc (height (treeOf sd t))) k) .shown ≡ []
+    root-shows k = ap (shownOf (treeOf sd (apply (newRootAt (sd .word) t r) t))) (root-top k) ∙ rw after (ap (λ (x : View). x .node r .shown) seen ∙ shown-eq new)

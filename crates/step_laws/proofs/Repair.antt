@@ -9,13 +9,12 @@ use native.Mathlib.Omega.{arith}
 use lib.ListN.{length, take, length-append}
 use borrow.Author.Tests.{leb-true}
 use Rattle.model.specs.Table.{Words, nodeStart}
-use Rattle.model.specs.Slots.{Slot, NodeView, View, nodeView, view, height}
+use Rattle.model.specs.Slots.{Slot, NodeView, View, nodeView, height}
 use Rattle.model.specs.Reached.{pointers, kept, children, reached}
 use Rattle.model.specs.SoundTest.{elem, Leftover, nothing, hiddenIn, missingIn, bothIn, room, hasRoom}
 use Rattle.model.specs.Orders.{apply, ordersAfter, orders}
 use Rattle.model.specs.Shifts.{placeOf}
 use Rattle.model.specs.Writes.{shiftInAt, closeAt, cutOff, attach, repairOf}
-use Rattle.tree_laws.specs.OneTree.{settledOne, soundOne, mapOne, repairOne, repairedOne}
 use Rattle.view_laws.proofs.NodeViews.{levelOf, fenceOf, stays-all, left-eq, shown-eq, sibling-eq}
 use Rattle.list_laws.proofs.Members.{each-mem, elem-cons, mem-here}
 use Rattle.list_laws.proofs.Steps.{Until, until-map}
@@ -23,7 +22,6 @@ use Rattle.table_laws.proofs.Nodes.{has-node-iff}
 use Rattle.slot_laws.proofs.Hiding.{AllShown}
 use Rattle.slot_laws.proofs.Shifts.{put-in-shown}
 use Rattle.word_laws.proofs.Stores.{doStore, after-whole}
-use Rattle.word_laws.proofs.Frames.{same-ok}
 use Rattle.word_laws.proofs.ShiftViews.{Changed, withSlot, view-shown, shift-in-view, close-view, cut-view, shift-in-same}
 use Rattle.tree_laws.proofs.Rows.{Good, not-zero}
 use Rattle.tree_laws.proofs.Levels.{Orderly, Bounded, reached-bounds}
@@ -42,53 +40,9 @@ use Rattle.step_laws.proofs.Bounds.{shift-in-few, shift-in-inside, clos
 use Rattle.step_laws.proofs.Rowwise.{same-refl, none-straight, only-straight}
 use Rattle.step_laws.proofs.LevelCourses.{CalmAt, each-part}
 use Rattle.step_laws.proofs.SlotCourses.{hidden-still, hidden-keeps, slots-still, slots-quiet}
-use Rattle.step_laws.proofs.Views.{shown-view, hidden-view, same-view, Fine, fine-sound, sound-fine, fine-settled, view-fine, view-keeps, view-settles, keeps-settles, view-same, may-hide, Usable, reached-usable, used-few, shown-few}
+use Rattle.step_laws.proofs.Views.{shown-view, hidden-view, same-view, view-fine, view-keeps, view-settles, keeps-settles, view-same, may-hide, Usable, reached-usable, used-few, shown-few}
 use Rattle.step_laws.proofs.LeafShift.{not-pointed}
-
--- ---- close
-
-module _ (t : Words) (x : ℕ) (y : Leftover) (f : Fine t y) (m : List·Memᴰ x (reached (view t))) (one : nodeView t x .hidden ≡ 1) where
-  use-x : Usable t x
-  use-x = reached-usable t x (f .header) (f .left .orderly) m
-
-  closing : Until doStore (Changed t x (nodeView t x .shown) 1) (Changed t x (nodeView t x .shown) 0) (closeAt t x) t
-  closing = close-view t x (use-x .there) (use-x .clear) one
-
-  pub close-changed : Changed t x (nodeView t x .shown) 0 (apply (closeAt t x) t)
-  close-changed = after-whole (Changed t x (nodeView t x .shown) 1) (Changed t x (nodeView t x .shown) 0) (closeAt t x) t closing
-
-  closed : (t′ : Words) → Changed t x (nodeView t x .shown) 0 t′ → view t′ ≡ withHidden (view t) x 0
-  closed t′ c = hidden-view t x (nodeView t x .shown) 0 t′ c refl
-
-  pub close-seen : view (apply (closeAt t x) t) ≡ withHidden (view t) x 0
-  close-seen = closed (apply (closeAt t x) t) close-changed
-
-  still : (t′ : Words) → Changed t x (nodeView t x .shown) 1 t′ → SoundWith (mapOne t) t′
-  still t′ c = view-same t t′ y f (same-view t x (nodeView t x .shown) 1 t′ c refl one) (same-ok (c .header))
-
-  few : length (orders (closeAt t x)) ≤ 24
-  few = close-few t x (used-few t x (use-x .clear)) one
-
-  inside : StoresInside (length t) (closeAt t x)
-  inside = close-inside t x (used-few t x (use-x .clear)) one (use-x .there)
-
-  close-settles : Keeps (view t) (withHidden (view t) x 0) nothing → Phase 24 t (closeAt t x) (mapOne t)
-  close-settles k = phase-until 24 t (closeAt t x) few inside (mapOne t) (until-map doStore _ (SoundWith (mapOne t)) _ (SettledWith (mapOne t)) still
-      (λ t′ c. view-settles t t′ _ (closed t′ c) (same-ok (c .header)) (f .header) (mapOne t) (keeps-settles (view t) _ k)) (closeAt t x) t closing)
-
-  close-keeps : (y′ : Leftover) → Keeps (view t) (withHidden (view t) x 0) y′ → hasRoom (view t) y′ ≡ true → Stage 24 t (closeAt t x) × Fine (apply (closeAt t x) t) y′
-  close-keeps y′ k r = (
-    stage-until 24 t (closeAt t x) few inside (until-map doStore _ (SoundWith (mapOne t)) _ (SoundWith (mapOne t)) still (λ t′ c. view-keeps t t′ _ (closed t′ c) (same-ok (c .header)) (f .header) y′ k r) (closeAt t x) t closing),
-    view-fine t _ _ close-seen (same-ok (close-changed .header)) (f .header) y′ (k .left) (k .room r),
-  )
-
--- (a): the hidden slot is closed
-pub close-phase : (t : Words) (x : ℕ) → Fine t (hiddenIn x) → Phase 24 t (closeAt t x) (mapOne t)
-close-phase t x f = let u = f .left .left .0 in close-settles t x (hiddenIn x) f (u .member) (u .here) (unhide (view t) x (f .left))
-
--- (c): the hidden slot of the parent is closed, and leaves (b)
-pub close-stage : (t : Words) (p a : ℕ) → Fine t (bothIn p a) → Stage 24 t (closeAt t p) × Fine (apply (closeAt t p) t) (missingIn p a false)
-close-stage t p a f = let u = f .left .left .0 in close-keeps t p (bothIn p a) f (u .member) (u .here) (missingIn p a false) (unhide-missing (view t) p a (f .left)) (f .room)
+use Rattle.step_laws.proofs.Seen.{Side, treeOf, Sound, Fine, mapOf, repairAt, repairedAt}
 
 -- ---- a's sibling, which lacks its slot in p
 
@@ -119,159 +73,205 @@ module _ (v : View) (p a : ℕ) (o : Orderly v) (g : MissingOnly v p a) where
   pub parent-other : p ≢ a
   parent-other q = omega (arith, child-level v p a o (g .member) a-child, ap (levelOf v) q)
 
--- ---- attach
+module _ (sd : Side) where
+  -- ---- close
 
-module _ (t : Words) (p a : ℕ) (f : Fine t (missingIn p a false)) where
-  abbrev k : ℕ
-  k = nodeView t (nodeView t a .sibling) .fence
+  module _ (t : Words) (x : ℕ) (y : Leftover) (f : Fine sd t y) (m : List·Memᴰ x (reached (treeOf sd t))) (one : nodeView t x .hidden ≡ 1) where
+    use-x : Usable t x
+    use-x = reached-usable sd t x (f .header) (f .left .orderly) m
 
-  abbrev b : ℕ
-  b = nodeView t a .sibling
+    closing : Until doStore (Changed t x (nodeView t x .shown) 1) (Changed t x (nodeView t x .shown) 0) (closeAt t x) t
+    closing = close-view t x (use-x .there) (use-x .clear) one
 
-  lacks : MissingOnly (view t) p a
-  lacks = f .left .left .2
+    pub close-changed : Changed t x (nodeView t x .shown) 0 (apply (closeAt t x) t)
+    close-changed = after-whole (Changed t x (nodeView t x .shown) 1) (Changed t x (nodeView t x .shown) 0) (closeAt t x) t closing
 
-  use-p : Usable t p
-  use-p = reached-usable t p (f .header) (f .left .orderly) (lacks .member)
+    closed : (t′ : Words) → Changed t x (nodeView t x .shown) 0 t′ → treeOf sd t′ ≡ withHidden (treeOf sd t) x 0
+    closed t′ c = hidden-view sd (f .low) t x (nodeView t x .shown) 0 t′ c refl
 
-  p-shows : nodeView t p .hidden ≡ 0
-  p-shows = each-mem (λ (n : ℕ). nodeView t n .hidden ≡ 0) (f .left .left .0) (lacks .member)
+    pub close-seen : treeOf sd (apply (closeAt t x) t) ≡ withHidden (treeOf sd t) x 0
+    close-seen = closed (apply (closeAt t x) t) close-changed
 
-  p-keeps : kept (view t) p ≡ nodeView t p .shown
-  p-keeps = each-mem (λ (n : ℕ). kept (view t) n ≡ nodeView t n .shown) (f .left .left .1) (lacks .member)
+    still : (t′ : Words) → Changed t x (nodeView t x .shown) 1 t′ → SoundWith sd (mapOf sd t) t′
+    still t′ c = view-same sd t t′ y f (same-view sd (f .low) t x (nodeView t x .shown) 1 t′ c refl one) (c .header)
 
-  room-p : length (nodeView t p .shown) ≤ 10
-  unfolding room
-  room-p = leb-true _ _ (f .room)
+    few : length (orders (closeAt t x)) ≤ 24
+    few = close-few t x (used-few t x (use-x .clear)) one
 
-  new-shown : AllShown (nodeView t p .left) (withSlot t p k b)
-  new-shown =
-      let u = elem-cons b (nodeView t p .left) (pointers (nodeView t p .shown)) .0 (ap (λ (ks : List Slot). elem b (nodeView t p .left ∷ pointers ks)) (sym p-keeps) ∙ attach-fresh (view t) p a (f .left)) in
-      put-in-shown (nodeView t p .left) (nodeView t p .shown) (placeOf k (nodeView t p .shown)) k b (view-shown t p p-shows) (sibling-some (view t) p a (f .left .orderly) lacks) (u .0) (not-pointed b (nodeView t p .shown) (u .1))
+    inside : StoresInside (length t) (closeAt t x)
+    inside = close-inside t x (used-few t x (use-x .clear)) one (use-x .there)
 
-  attaching : Until doStore (λ (t′ : Words). (h : ℕ) × (h ≤ 1) × Changed t p (nodeView t p .shown) h t′) (Changed t p (withSlot t p k b) 0) (attach t p a) t
-  unfolding attach
-  attaching = shift-in-view t p (use-p .there) (use-p .clear) (use-p .left) p-shows k b room-p new-shown
+    close-settles : Keeps (treeOf sd t) (withHidden (treeOf sd t) x 0) nothing → Phase sd 24 t (closeAt t x) (mapOf sd t)
+    close-settles k = phase-until sd 24 t (closeAt t x) few inside (mapOf sd t) (until-map doStore _ (SoundWith sd (mapOf sd t)) _ (SettledWith sd (mapOf sd t)) still
+        (λ t′ c. view-settles sd t t′ _ (closed t′ c) (c .header) f (mapOf sd t) (keeps-settles sd (treeOf sd t) _ k)) (closeAt t x) t closing)
 
-  pub attach-changed : Changed t p (withSlot t p (nodeView t (nodeView t a .sibling) .fence) (nodeView t a .sibling)) 0 (apply (attach t p a) t)
-  attach-changed = after-whole _ (Changed t p (withSlot t p k b) 0) (attach t p a) t attaching
+    close-keeps : (y′ : Leftover) → Keeps (treeOf sd t) (withHidden (treeOf sd t) x 0) y′ → hasRoom (treeOf sd t) y′ ≡ true → Stage sd 24 t (closeAt t x) × Fine sd (apply (closeAt t x) t) y′
+    close-keeps y′ k r = (
+      stage-until sd 24 t (closeAt t x) few inside (until-map doStore _ (SoundWith sd (mapOf sd t)) _ (SoundWith sd (mapOf sd t)) still (λ t′ c. view-keeps sd t t′ _ (closed t′ c) (c .header) f y′ k r) (closeAt t x) t closing),
+      view-fine sd t _ _ close-seen (close-changed .header) f y′ (k .left) (k .room r) (rw (k .reached) (f .off)),
+    )
 
-  pub attach-seen : view (apply (attach t p a) t) ≡ withShown (view t) p (withSlot t p (nodeView t (nodeView t a .sibling) .fence) (nodeView t a .sibling))
-  attach-seen = shown-view t p (withSlot t p k b) 0 (apply (attach t p a) t) attach-changed p-shows
+  -- (a): the hidden slot is closed
+  pub close-phase : (t : Words) (x : ℕ) → Fine sd t (hiddenIn x) → Phase sd 24 t (closeAt t x) (mapOf sd t)
+  close-phase t x f = let u = f .left .left .0 in close-settles t x (hiddenIn x) f (u .member) (u .here) (unhide (treeOf sd t) x (f .left))
 
-  -- (b) without slots to cut: the sibling's slot is shifted in at the parent
-  pub attach-phase : Phase 27 t (attach t p a) (mapOne t)
-  attach-phase = phase-until 27 t (attach t p a) (unfold attach in shift-in-few t p k b room-p) (unfold attach in shift-in-inside t p k b room-p (use-p .there)) (mapOne t)
-      (until-map doStore _ (SoundWith (mapOne t)) _ (SettledWith (mapOne t)) (may-hide t p (missingIn p a false) (bothIn p a) f p-shows (hide-missing (view t) p a (f .left)) (f .room))
-      (λ t′ c. view-settles t t′ _ (shown-view t p _ 0 t′ c p-shows) (same-ok (c .header)) (f .header) (mapOne t) (keeps-settles (view t) _ (attach-settles (view t) p a (f .left)))) (attach t p a) t attaching)
+  -- (c): the hidden slot of the parent is closed, and leaves (b)
+  pub close-stage : (t : Words) (p a : ℕ) → Fine sd t (bothIn p a) → Stage sd 24 t (closeAt t p) × Fine sd (apply (closeAt t p) t) (missingIn p a false)
+  close-stage t p a f = let u = f .left .left .0 in close-keeps t p (bothIn p a) f (u .member) (u .here) (missingIn p a false) (unhide-missing (treeOf sd t) p a (f .left)) (f .room)
 
-  -- every level stays, and only the one below p has a node that lacks its slot
-  pub attach-calm : (l j : ℕ) → CalmAt view p l t (apply (take j (attach t p a)) t)
-  attach-calm l =
-      let k = attach-settles (view t) p a (f .left) in
-      each-part (CalmAt view p l t) (attach t p a) t (until-map doStore _ (CalmAt view p l t) _ (CalmAt view p l t)
-      (λ t′ u. record { same = hidden-still t p l (u .0) t′ (u .2); straight = λ z. hidden-keeps t p l (u .0) t′ (u .2) (only-straight (view t) p a lacks l z) })
-      (λ t′ c. let q = slots-quiet t p l _ 0 t′ c (k .reached) (none-straight _ (k .left .left .2) l) in record { same = q .same; straight = λ z. q .straight }) (attach t p a) t attaching)
+  -- ---- attach
 
--- ---- cut
+  module _ (t : Words) (p a : ℕ) (f : Fine sd t (missingIn p a false)) where
+    abbrev k : ℕ
+    k = nodeView t (nodeView t a .sibling) .fence
 
-module _ (t : Words) (p a : ℕ) (f : Fine t (missingIn p a true)) where
-  abbrev v : View
-  v = view t
+    abbrev b : ℕ
+    b = nodeView t a .sibling
 
-  abbrev place : ℕ
-  place = placeOf (v .node (v .node a .sibling) .fence) (v .node a .shown)
+    lacks : MissingOnly (treeOf sd t) p a
+    lacks = f .left .left .2
 
-  missing : MissingOnly v p a
-  missing = f .left .left .2
+    use-p : Usable t p
+    use-p = reached-usable sd t p (f .header) (f .left .orderly) (lacks .member)
 
-  a-there : List·Memᴰ a (reached v)
-  a-there = a-reached v p a (f .left .orderly) missing
+    p-shows : nodeView t p .hidden ≡ 0
+    p-shows = each-mem (λ (n : ℕ). nodeView t n .hidden ≡ 0) (f .left .left .0) (lacks .member)
 
-  use-a : Usable t a
-  use-a = reached-usable t a (f .header) (f .left .orderly) a-there
+    p-keeps : kept (treeOf sd t) p ≡ nodeView t p .shown
+    p-keeps = each-mem (λ (n : ℕ). kept (treeOf sd t) n ≡ nodeView t n .shown) (f .left .left .1) (lacks .member)
 
-  good-a : Good v a
-  good-a = each-mem (Good v) (f .left .orderly .good) a-there
+    room-p : length (nodeView t p .shown) ≤ 10
+    unfolding room
+    room-p = leb-true _ _ (f .room)
 
-  b-some : v .node a .sibling ≢ 0
-  b-some = sibling-some v p a (f .left .orderly) missing
+    new-shown : AllShown (nodeView t p .left) (withSlot t p k b)
+    new-shown =
+        let u = elem-cons b (nodeView t p .left) (pointers (nodeView t p .shown)) .0 (ap (λ (ks : List Slot). elem b (nodeView t p .left ∷ pointers ks)) (sym p-keeps) ∙ attach-fresh (treeOf sd t) p a (f .left)) in
+        put-in-shown (nodeView t p .left) (nodeView t p .shown) (placeOf k (nodeView t p .shown)) k b (view-shown t p p-shows) (sibling-some (treeOf sd t) p a (f .left .orderly) lacks) (u .0) (not-pointed b (nodeView t p .shown) (u .1))
 
-  a-shows : v .node a .hidden ≡ 0
-  a-shows = each-mem (λ (n : ℕ). v .node n .hidden ≡ 0) (f .left .left .0) a-there
+    attaching : Until doStore (λ (t′ : Words). (h : ℕ) × (h ≤ 1) × Changed t p (nodeView t p .shown) h t′) (Changed t p (withSlot t p k b) 0) (attach t p a) t
+    unfolding attach
+    attaching = shift-in-view t p (use-p .there) (use-p .clear) (use-p .left) p-shows k b room-p new-shown
 
-  -- the place is behind the kept slots, and some slots are from it on
-  place-in : place < length (v .node a .shown)
-  place-in =
-      let z : length (kept v a) ≢ length (v .node a .shown) = λ e. f .left .left .1 .here (kept-whole v a .0 e) in
-      omega (arith, cut-place v a good-a b-some, ap length (shown-split v a good-a), length-append (kept v a) (ignored v a))
+    pub attach-changed : Changed t p (withSlot t p (nodeView t (nodeView t a .sibling) .fence) (nodeView t a .sibling)) 0 (apply (attach t p a) t)
+    attach-changed = after-whole _ (Changed t p (withSlot t p k b) 0) (attach t p a) t attaching
 
-  pub cut-changed : Changed t a (kept (view t) a) 0 (apply (cutOff t a) t)
-  unfolding cutOff apply
-  cut-changed = rw (← kept-take v a good-a b-some) at (cut-view t a (use-a .there) (use-a .clear) place a-shows place-in)
+    pub attach-seen : treeOf sd (apply (attach t p a) t) ≡ withShown (treeOf sd t) p (withSlot t p (nodeView t (nodeView t a .sibling) .fence) (nodeView t a .sibling))
+    attach-seen = shown-view sd (f .low) t p (withSlot t p k b) 0 (apply (attach t p a) t) attach-changed p-shows
 
-  pub cut-seen : view (apply (cutOff t a) t) ≡ withShown (view t) a (kept (view t) a)
-  cut-seen = shown-view t a (kept v a) 0 (apply (cutOff t a) t) cut-changed a-shows
+    -- (b) without slots to cut: the sibling's slot is shifted in at the parent
+    pub attach-phase : Phase sd 27 t (attach t p a) (mapOf sd t)
+    attach-phase = phase-until sd 27 t (attach t p a) (unfold attach in shift-in-few t p k b room-p) (unfold attach in shift-in-inside t p k b room-p (use-p .there)) (mapOf sd t)
+        (until-map doStore _ (SoundWith sd (mapOf sd t)) _ (SettledWith sd (mapOf sd t)) (may-hide sd t p (missingIn p a false) (bothIn p a) f p-shows (hide-missing (treeOf sd t) p a (f .left)) (f .room))
+        (λ t′ c. view-settles sd t t′ _ (shown-view sd (f .low) t p _ 0 t′ c p-shows) (c .header) f (mapOf sd t) (keeps-settles sd (treeOf sd t) _ (attach-settles (treeOf sd t) p a (f .left)))) (attach t p a) t attaching)
 
-  cuts : Keeps v (withShown v a (kept v a)) (missingIn p a false)
-  cuts = cut-keeps v p a (f .left)
+    -- every level stays, and only the one below p has a node that lacks its slot
+    pub attach-calm : (l j : ℕ) → CalmAt (treeOf sd) p l t (apply (take j (attach t p a)) t)
+    attach-calm l =
+        let k = attach-settles (treeOf sd t) p a (f .left) in
+        each-part (CalmAt (treeOf sd) p l t) (attach t p a) t (until-map doStore _ (CalmAt (treeOf sd) p l t) _ (CalmAt (treeOf sd) p l t)
+        (λ t′ u. record { same = hidden-still sd (f .low) t p l (u .0) t′ (u .2); straight = λ z. hidden-keeps sd (f .low) t p l (u .0) t′ (u .2) (only-straight (treeOf sd t) p a lacks l z) })
+        (λ t′ c. let q = slots-quiet sd (f .low) t p l _ 0 t′ c (k .reached) (none-straight _ (k .left .left .2) l) in record { same = q .same; straight = λ z. q .straight }) (attach t p a) t attaching)
 
-  pub cut-fine : Fine (apply (cutOff t a) t) (missingIn p a false)
-  cut-fine = view-fine t _ _ cut-seen (same-ok (cut-changed .header)) (f .header) (missingIn p a false) (cuts .left) (cuts .room (f .room))
+  -- ---- cut
 
-  -- (b) with slots to cut: one store
-  pub cut-stage : Stage 2 t (cutOff t a)
-  cut-stage = stage-until 2 t (cutOff t a) (unfold cutOff orders ordersAfter in omega arith) in-table
-      (unfold cutOff apply in ((fine-sound t (missingIn p a true) f, refl), view-keeps t _ _ cut-seen (same-ok (cut-changed .header)) (f .header) (missingIn p a false) cuts (f .room)))
-    where
-      in-table : StoresInside (length t) (cutOff t a)
-      in-table = unfold cutOff nodeStart in (omega (arith, place-in, shown-few t a (use-a .clear), has-node-iff t a .0 (use-a .there)), tt)
+  module _ (t : Words) (p a : ℕ) (f : Fine sd t (missingIn p a true)) where
+    abbrev v : View
+    v = treeOf sd t
 
-  pub cut-calm : (l j : ℕ) → CalmAt view p l t (apply (take j (cutOff t a)) t)
-  cut-calm l = each-part (CalmAt view p l t) (cutOff t a) t (unfold cutOff apply in (record { same = same-refl l v; straight = only-straight v p a missing l }, cut-at))
-    where
-      cut-at : CalmAt view p l t (apply (cutOff t a) t)
-      cut-at = record {
-        same = slots-still t a l (kept v a) 0 _ cut-changed (cuts .reached);
-        straight = λ z. slots-quiet t a l (kept v a) 0 _ cut-changed (cuts .reached) (only-straight (withShown v a (kept v a)) p a (cuts .left .left .2) l z) .straight;
-      }
+    abbrev place : ℕ
+    place = placeOf (v .node (v .node a .sibling) .fence) (v .node a .shown)
 
-  -- the attach after it is the one that the uncut table has
-  pub cut-attach : attach (apply (cutOff t a) t) p a ≡ attach t p a
-  unfolding attach
-  cut-attach =
-      let t′ = apply (cutOff t a) t in
-      let c = cut-changed .node in
-      let e : nodeView t′ a .sibling ≡ v .node a .sibling = sibling-eq (c .here) in
-      let q : nodeView t′ (nodeView t′ a .sibling) .fence ≡ v .node (v .node a .sibling) .fence = ap (fenceOf (view t′)) e ∙ stays-all (λ (m : NodeView). m .fence) _ _ a _ c refl (v .node a .sibling) in
-      let same = c .else p (parent-other v p a (f .left .orderly) missing) in
-      ap (λ (j : ℕ). shiftInAt t′ p j (nodeView t′ a .sibling)) q ∙ ap (shiftInAt t′ p (v .node (v .node a .sibling) .fence)) e
-      ∙ shift-in-same t t′ p (v .node (v .node a .sibling) .fence) (v .node a .sibling) (left-eq same) (shown-eq same)
+    missing : MissingOnly v p a
+    missing = f .left .left .2
 
--- ---- repair
+    a-there : List·Memᴰ a (reached v)
+    a-there = a-reached v p a (f .left .orderly) missing
 
--- the leftover of a sound table decides its repair
-pub repair-of : (t : Words) (y : Leftover) → Fine t y → repairOne t ≡ repairOf t (some y)
-unfolding repairOne
-repair-of t y f = ap (repairOf t) (has-left-iff (view t) y .1 (f .left) .1)
+    use-a : Usable t a
+    use-a = reached-usable sd t a (f .header) (f .left .orderly) a-there
 
-phase-of : (t : Words) (y : Leftover) → Fine t y → Phase 51 t (repairOf t (some y)) (mapOne t)
-unfolding repairOf
-phase-of t nothing f = phase-within 0 51 t [] (mapOne t) (omega arith) (phase-nil t (fine-settled t f))
-phase-of t (hiddenIn x) f = phase-within 24 51 t (closeAt t x) (mapOne t) (omega arith) (close-phase t x f)
-phase-of t (missingIn p a false) f = phase-within 27 51 t (attach t p a) (mapOne t) (omega arith) (attach-phase t p a f)
-phase-of t (missingIn p a true) f =
-    phase-within 29 51 t (cutOff t a ++ attach t p a) (mapOne t) (omega arith)
-    (rw (cut-attach t p a f) at (stage-phase 2 27 t (cutOff t a) (attach (apply (cutOff t a) t) p a) (mapOne t) (cut-stage t p a f)
-    (rw (stage-whole 2 t (cutOff t a) (cut-stage t p a f) .1) at (attach-phase (apply (cutOff t a) t) p a (cut-fine t p a f)))))
-phase-of t (bothIn p a) f =
-    let u = close-stage t p a f in
-    stage-phase 24 27 t (closeAt t p) (attach (apply (closeAt t p) t) p a) (mapOne t) (u .0) (rw (stage-whole 24 t (closeAt t p) (u .0) .1) at (attach-phase (apply (closeAt t p) t) p a (u .1)))
+    good-a : Good v a
+    good-a = each-mem (Good v) (f .left .orderly .good) a-there
 
--- Repair of a sound table: every first part of its stores leaves a sound table with the same map, and all of them a settled one.
-pub repair-phase : (t : Words) → soundOne t ≡ true → Phase 51 t (repairOne t) (mapOne t)
-repair-phase t s = let u = sound-fine t s in rw (repair-of t (u .0) (u .1)) (phase-of t (u .0) (u .1))
+    b-some : v .node a .sibling ≢ 0
+    b-some = sibling-some v p a (f .left .orderly) missing
 
-pub repaired-settled : (t : Words) → soundOne t ≡ true → settledOne (repairedOne t) ≡ true
-unfolding repairedOne
-repaired-settled t s = repair-phase t s .settles
+    a-shows : v .node a .hidden ≡ 0
+    a-shows = each-mem (λ (n : ℕ). v .node n .hidden ≡ 0) (f .left .left .0) a-there
+
+    -- the place is behind the kept slots, and some slots are from it on
+    place-in : place < length (v .node a .shown)
+    place-in =
+        let z : length (kept v a) ≢ length (v .node a .shown) = λ e. f .left .left .1 .here (kept-whole v a .0 e) in
+        omega (arith, cut-place v a good-a b-some, ap length (shown-split v a good-a), length-append (kept v a) (ignored v a))
+
+    pub cut-changed : Changed t a (kept (treeOf sd t) a) 0 (apply (cutOff t a) t)
+    unfolding cutOff apply
+    cut-changed = rw (← kept-take v a good-a b-some) at (cut-view t a (use-a .there) (use-a .clear) place a-shows place-in)
+
+    pub cut-seen : treeOf sd (apply (cutOff t a) t) ≡ withShown (treeOf sd t) a (kept (treeOf sd t) a)
+    cut-seen = shown-view sd (f .low) t a (kept v a) 0 (apply (cutOff t a) t) cut-changed a-shows
+
+    cuts : Keeps v (withShown v a (kept v a)) (missingIn p a false)
+    cuts = cut-keeps v p a (f .left)
+
+    pub cut-fine : Fine sd (apply (cutOff t a) t) (missingIn p a false)
+    cut-fine = view-fine sd t _ _ cut-seen (cut-changed .header) f (missingIn p a false) (cuts .left) (cuts .room (f .room)) (rw (cuts .reached) (f .off))
+
+    -- (b) with slots to cut: one store
+    pub cut-stage : Stage sd 2 t (cutOff t a)
+    cut-stage = stage-until sd 2 t (cutOff t a) (unfold cutOff orders ordersAfter in omega arith) in-table
+        (unfold cutOff apply in (((missingIn p a true, f), refl), view-keeps sd t _ _ cut-seen (cut-changed .header) f (missingIn p a false) cuts (f .room)))
+      where
+        in-table : StoresInside (length t) (cutOff t a)
+        in-table = unfold cutOff nodeStart in (omega (arith, place-in, shown-few t a (use-a .clear), has-node-iff t a .0 (use-a .there)), tt)
+
+    pub cut-calm : (l j : ℕ) → CalmAt (treeOf sd) p l t (apply (take j (cutOff t a)) t)
+    cut-calm l = each-part (CalmAt (treeOf sd) p l t) (cutOff t a) t (unfold cutOff apply in (record { same = same-refl l v; straight = only-straight v p a missing l }, cut-at))
+      where
+        cut-at : CalmAt (treeOf sd) p l t (apply (cutOff t a) t)
+        cut-at = record {
+          same = slots-still sd (f .low) t a l (kept v a) 0 _ cut-changed (cuts .reached);
+          straight = λ z. slots-quiet sd (f .low) t a l (kept v a) 0 _ cut-changed (cuts .reached) (only-straight (withShown v a (kept v a)) p a (cuts .left .left .2) l z) .straight;
+        }
+
+    -- the attach after it is the one that the uncut table has
+    pub cut-attach : attach (apply (cutOff t a) t) p a ≡ attach t p a
+    unfolding attach
+    cut-attach =
+        let t′ = apply (cutOff t a) t in
+        let c = cut-changed .node in
+        let e : nodeView t′ a .sibling ≡ v .node a .sibling = sibling-eq (c .here) in
+        let q : nodeView t′ (nodeView t′ a .sibling) .fence ≡ v .node (v .node a .sibling) .fence = ap (fenceOf (treeOf sd t′)) e ∙ stays-all (λ (m : NodeView). m .fence) _ _ a _ c refl (v .node a .sibling) in
+        let same = c .else p (parent-other v p a (f .left .orderly) missing) in
+        ap (λ (j : ℕ). shiftInAt t′ p j (nodeView t′ a .sibling)) q ∙ ap (shiftInAt t′ p (v .node (v .node a .sibling) .fence)) e
+        ∙ shift-in-same t t′ p (v .node (v .node a .sibling) .fence) (v .node a .sibling) (left-eq same) (shown-eq same)
+
+  -- ---- repair
+
+  -- the leftover of a sound table decides its repair
+  pub repair-of : (t : Words) (y : Leftover) → Fine sd t y → repairAt sd t ≡ repairOf t (some y)
+  unfolding repairAt
+  repair-of t y f = ap (repairOf t) (has-left-iff (treeOf sd t) y .1 (f .left) .1)
+
+  phase-of : (t : Words) (y : Leftover) → Fine sd t y → Phase sd 51 t (repairOf t (some y)) (mapOf sd t)
+  unfolding repairOf
+  phase-of t nothing f = phase-within sd 0 51 t [] (mapOf sd t) (omega arith) (phase-nil sd t (f))
+  phase-of t (hiddenIn x) f = phase-within sd 24 51 t (closeAt t x) (mapOf sd t) (omega arith) (close-phase t x f)
+  phase-of t (missingIn p a false) f = phase-within sd 27 51 t (attach t p a) (mapOf sd t) (omega arith) (attach-phase t p a f)
+  phase-of t (missingIn p a true) f =
+      phase-within sd 29 51 t (cutOff t a ++ attach t p a) (mapOf sd t) (omega arith)
+      (rw (cut-attach t p a f) at (stage-phase sd 2 27 t (cutOff t a) (attach (apply (cutOff t a) t) p a) (mapOf sd t) (cut-stage t p a f)
+      (rw (stage-whole sd 2 t (cutOff t a) (cut-stage t p a f) .1) at (attach-phase (apply (cutOff t a) t) p a (cut-fine t p a f)))))
+  phase-of t (bothIn p a) f =
+      let u = close-stage t p a f in
+      stage-phase sd 24 27 t (closeAt t p) (attach (apply (closeAt t p) t) p a) (mapOf sd t) (u .0) (rw (stage-whole sd 24 t (closeAt t p) (u .0) .1) at (attach-phase (apply (closeAt t p) t) p a (u .1)))
+
+  -- Repair of a sound table: every first part of its stores leaves a sound table with the same map, and all of them a settled one.
+  pub repair-phase : (t : Words) → Sound sd t → Phase sd 51 t (repairAt sd t) (mapOf sd t)
+  repair-phase t s = let u = s in rw (repair-of t (u .0) (u .1)) (phase-of t (u .0) (u .1))
+
+  pub repaired-settled : (t : Words) → Sound sd t → Fine sd (repairedAt sd t) nothing
+  unfolding repairedAt
+  repaired-settled t s = repair-phase t s .settles

@@ -10,20 +10,19 @@ use lib.Dec.{eqb}
 use lib.ListN.{length, take, drop, length-append, take-append-drop}
 use borrow.Author.Tests.{eq-eqb, ne-eqb}
 use Rattle.model.specs.Table.{Words}
-use Rattle.model.specs.Slots.{Slot, slot, nodeView, View, view, height}
+use Rattle.model.specs.Slots.{Slot, slot, nodeView, View, height}
 use Rattle.model.specs.Search.{path}
 use Rattle.model.specs.Reached.{kept, reached}
 use Rattle.model.specs.SoundTest.{Leftover, nothing, hiddenIn, missingIn, bothIn, leftover}
 use Rattle.model.specs.Orders.{apply}
 use Rattle.model.specs.Shifts.{placeOf}
 use Rattle.model.specs.Writes.{closeAt, cutOff, attach, repairOf}
-use Rattle.tree_laws.specs.OneTree.{soundOne, repairedOne}
 use Rattle.view_laws.proofs.NodeViews.{fenceOf, bare, stays-all, fence-eq, shown-eq, sibling-eq}
 use Rattle.list_laws.proofs.Tools.{at-or-off}
 use Rattle.list_laws.proofs.Members.{each-mem}
-use Rattle.word_laws.proofs.Frames.{SameHeader, header-refl, header-trans, same-root}
+use Rattle.word_laws.proofs.Frames.{SameHeader, header-refl, header-trans}
 use Rattle.word_laws.proofs.ShiftViews.{Changed}
-use Rattle.tree_laws.proofs.Levels.{Orderly, orderly-of}
+use Rattle.tree_laws.proofs.Levels.{Orderly}
 use Rattle.tree_laws.proofs.Leftovers.{NoneTrailing, HiddenOnly}
 use Rattle.cut_laws.proofs.Applying.{apply-append, apply-nil}
 use Rattle.change_laws.proofs.Updates.{withHidden}
@@ -32,9 +31,9 @@ use Rattle.change_laws.proofs.Hidden.{unhide, unhide-missing}
 use Rattle.change_laws.proofs.Cut.{cut-keeps}
 use Rattle.change_laws.proofs.Pairs.{slotIn}
 use Rattle.change_laws.proofs.Attach.{attach-settles}
-use Rattle.step_laws.proofs.Views.{Fine, sound-fine, settled-fine}
 use Rattle.step_laws.proofs.SamePaths.{height-same, path-same}
 use Rattle.step_laws.proofs.Repair.{close-changed, close-seen, close-stage, attach-changed, attach-seen, cut-changed, cut-seen, cut-fine, cut-attach, repair-of, repaired-settled}
+use Rattle.step_laws.proofs.Seen.{Side, treeOf, Sound, Fine, repairedAt, same-word}
 
 -- ---- what node n shows when repair is done
 
@@ -75,143 +74,144 @@ length-later v (some (hiddenIn x)) n = omega arith
 length-later v (some (missingIn p a trailing)) n = length-missing v p a n
 length-later v (some (bothIn p a)) n = length-missing v p a n
 
--- ---- tables of the same tree
+module _ (sd : Side) where
+  -- ---- tables of the same tree
 
--- all but shown and hidden slots is the same, and the same nodes are reached
-pub record SameTree (t t′ : Words) : Type 0 where
-  pub header : SameHeader t t′
-  pub bare : (n : ℕ) → bare (nodeView t′ n) ≡ bare (nodeView t n)
-  pub reached : reached (view t′) ≡ reached (view t)
+  -- all but shown and hidden slots is the same, and the same nodes are reached
+  pub record SameTree (t t′ : Words) : Type 0 where
+    pub header : SameHeader t t′
+    pub bare : (n : ℕ) → bare (nodeView t′ n) ≡ bare (nodeView t n)
+    pub reached : reached (treeOf sd t′) ≡ reached (treeOf sd t)
 
-same-refl : (t : Words) → SameTree t t
-same-refl t = record { header = header-refl t; bare = λ n. refl; reached = refl }
+  same-refl : (t : Words) → SameTree t t
+  same-refl t = record { header = header-refl t; bare = λ n. refl; reached = refl }
 
-same-trans : (a b c : Words) → SameTree a b → SameTree b c → SameTree a c
-same-trans a b c f g = record { header = header-trans a b c (f .header) (g .header); bare = λ n. g .bare n ∙ f .bare n; reached = g .reached ∙ f .reached }
+  same-trans : (a b c : Words) → SameTree a b → SameTree b c → SameTree a c
+  same-trans a b c f g = record { header = header-trans a b c (f .header) (g .header); bare = λ n. g .bare n ∙ f .bare n; reached = g .reached ∙ f .reached }
 
-changed-tree : (t : Words) (x : ℕ) (ss : List Slot) (h : ℕ) (t′ : Words) → Changed t x ss h t′ → reached (view t′) ≡ reached (view t) → SameTree t t′
-changed-tree t x ss h t′ c r = record { header = c .header; bare = stays-all bare (nodeView t) (nodeView t′) x _ (c .node) refl; reached = r }
+  changed-tree : (t : Words) (x : ℕ) (ss : List Slot) (h : ℕ) (t′ : Words) → Changed t x ss h t′ → reached (treeOf sd t′) ≡ reached (treeOf sd t) → SameTree t t′
+  changed-tree t x ss h t′ c r = record { header = c .header; bare = stays-all bare (nodeView t) (nodeView t′) x _ (c .node) refl; reached = r }
 
--- every reached node of t shows ss n in t′
-abbrev ShowsLater : Words → Words → (ℕ → List Slot) → Type 0
-ShowsLater t t′ ss = (n : ℕ) → List·Memᴰ n (reached (view t)) → nodeView t′ n .shown ≡ ss n
+  -- every reached node of t shows ss n in t′
+  abbrev ShowsLater : Words → Words → (ℕ → List Slot) → Type 0
+  ShowsLater t t′ ss = (n : ℕ) → List·Memᴰ n (reached (treeOf sd t)) → nodeView t′ n .shown ≡ ss n
 
-abbrev Mends : Words → Leftover → Words → Type 0
-Mends t y t′ = SameTree t t′ × ShowsLater t t′ (slotsLater (view t) (some y))
+  abbrev Mends : Words → Leftover → Words → Type 0
+  Mends t y t′ = SameTree t t′ × ShowsLater t t′ (slotsLater (treeOf sd t) (some y))
 
--- ---- by the leftover
+  -- ---- by the leftover
 
-keeps-all : (t : Words) → NoneTrailing (view t) → ShowsLater t t (kept (view t))
-keeps-all t h n m = sym (each-mem (λ (n : ℕ). kept (view t) n ≡ nodeView t n .shown) h m)
+  keeps-all : (t : Words) → NoneTrailing (treeOf sd t) → ShowsLater t t (kept (treeOf sd t))
+  keeps-all t h n m = sym (each-mem (λ (n : ℕ). kept (treeOf sd t) n ≡ nodeView t n .shown) h m)
 
--- close
-module _ (t : Words) (x : ℕ) (y y′ : Leftover) (f : Fine t y) (o : HiddenOnly (view t) x) (k : Keeps (view t) (withHidden (view t) x 0) y′) where
-  close-tree : SameTree t (apply (closeAt t x) t)
-  close-tree = changed-tree t x _ 0 _ (close-changed t x y f (o .member) (o .here)) (ap reached (close-seen t x y f (o .member) (o .here)) ∙ k .reached)
+  -- close
+  module _ (t : Words) (x : ℕ) (y y′ : Leftover) (f : Fine sd t y) (o : HiddenOnly (treeOf sd t) x) (k : Keeps (treeOf sd t) (withHidden (treeOf sd t) x 0) y′) where
+    close-tree : SameTree t (apply (closeAt t x) t)
+    close-tree = changed-tree t x _ 0 _ (close-changed sd t x y f (o .member) (o .here)) (ap reached (close-seen sd t x y f (o .member) (o .here)) ∙ k .reached)
 
-  close-shows : NoneTrailing (view t) → ShowsLater t (apply (closeAt t x) t) (kept (view t))
-  close-shows e n h =
-      let c = close-changed t x y f (o .member) (o .here) in
-      at-or-off (λ (n : ℕ). nodeView (apply (closeAt t x) t) n .shown ≡ nodeView t n .shown) x (shown-eq (c .node .here)) (λ m z. shown-eq (c .node .else m z)) n ∙ keeps-all t e n h
+    close-shows : NoneTrailing (treeOf sd t) → ShowsLater t (apply (closeAt t x) t) (kept (treeOf sd t))
+    close-shows e n h =
+        let c = close-changed sd t x y f (o .member) (o .here) in
+        at-or-off (λ (n : ℕ). nodeView (apply (closeAt t x) t) n .shown ≡ nodeView t n .shown) x (shown-eq (c .node .here)) (λ m z. shown-eq (c .node .else m z)) n ∙ keeps-all t e n h
 
--- cut
-module _ (t : Words) (p a : ℕ) (f : Fine t (missingIn p a true)) where
-  cut-tree : SameTree t (apply (cutOff t a) t)
-  cut-tree = changed-tree t a _ 0 _ (cut-changed t p a f) (ap reached (cut-seen t p a f) ∙ cut-keeps (view t) p a (f .left) .reached)
+  -- cut
+  module _ (t : Words) (p a : ℕ) (f : Fine sd t (missingIn p a true)) where
+    cut-tree : SameTree t (apply (cutOff t a) t)
+    cut-tree = changed-tree t a _ 0 _ (cut-changed sd t p a f) (ap reached (cut-seen sd t p a f) ∙ cut-keeps (treeOf sd t) p a (f .left) .reached)
 
-  cut-shows : ShowsLater t (apply (cutOff t a) t) (kept (view t))
-  cut-shows = at-or-off (λ (n : ℕ). List·Memᴰ n (reached (view t)) → nodeView (apply (cutOff t a) t) n .shown ≡ kept (view t) n) a
-      (λ h. shown-eq (cut-changed t p a f .node .here))
-      (λ n z h. shown-eq (cut-changed t p a f .node .else n z) ∙ sym (each-mem (λ (n : ℕ). n ≢ a → kept (view t) n ≡ nodeView t n .shown) (f .left .left .1 .others) h z))
+    cut-shows : ShowsLater t (apply (cutOff t a) t) (kept (treeOf sd t))
+    cut-shows = at-or-off (λ (n : ℕ). List·Memᴰ n (reached (treeOf sd t)) → nodeView (apply (cutOff t a) t) n .shown ≡ kept (treeOf sd t) n) a
+        (λ h. shown-eq (cut-changed sd t p a f .node .here))
+        (λ n z h. shown-eq (cut-changed sd t p a f .node .else n z) ∙ sym (each-mem (λ (n : ℕ). n ≢ a → kept (treeOf sd t) n ≡ nodeView t n .shown) (f .left .left .1 .others) h z))
 
--- attach, on a table t₁ that has the tree of t and shows its kept slots
-module _ (t t₁ : Words) (p a : ℕ) (f : Fine t₁ (missingIn p a false)) (s : SameTree t t₁) (k : ShowsLater t t₁ (kept (view t))) where
-  abbrev t₂ : Words
-  t₂ = apply (attach t₁ p a) t₁
+  -- attach, on a table t₁ that has the tree of t and shows its kept slots
+  module _ (t t₁ : Words) (p a : ℕ) (f : Fine sd t₁ (missingIn p a false)) (s : SameTree t t₁) (k : ShowsLater t t₁ (kept (treeOf sd t))) where
+    abbrev t₂ : Words
+    t₂ = apply (attach t₁ p a) t₁
 
-  c : Changed t₁ p (slotIn (nodeView t₁ (nodeView t₁ a .sibling) .fence) (nodeView t₁ a .sibling) (nodeView t₁ p .shown)) 0 t₂
-  c = attach-changed t₁ p a f
+    c : Changed t₁ p (slotIn (nodeView t₁ (nodeView t₁ a .sibling) .fence) (nodeView t₁ a .sibling) (nodeView t₁ p .shown)) 0 t₂
+    c = attach-changed sd t₁ p a f
 
-  attach-tree : SameTree t t₂
-  attach-tree = same-trans t t₁ t₂ s (changed-tree t₁ p _ 0 t₂ c (ap reached (attach-seen t₁ p a f) ∙ attach-settles (view t₁) p a (f .left) .reached))
+    attach-tree : SameTree t t₂
+    attach-tree = same-trans t t₁ t₂ s (changed-tree t₁ p _ 0 t₂ c (ap reached (attach-seen sd t₁ p a f) ∙ attach-settles (treeOf sd t₁) p a (f .left) .reached))
 
-  same-sibling : nodeView t₁ a .sibling ≡ nodeView t a .sibling
-  same-sibling = sibling-eq (s .bare a)
+    same-sibling : nodeView t₁ a .sibling ≡ nodeView t a .sibling
+    same-sibling = sibling-eq (s .bare a)
 
-  same-fence : nodeView t₁ (nodeView t₁ a .sibling) .fence ≡ nodeView t (nodeView t a .sibling) .fence
-  same-fence = ap (fenceOf (view t₁)) same-sibling ∙ fence-eq (s .bare (nodeView t a .sibling))
+    same-fence : nodeView t₁ (nodeView t₁ a .sibling) .fence ≡ nodeView t (nodeView t a .sibling) .fence
+    same-fence = ap (fenceOf (treeOf sd t₁)) same-sibling ∙ fence-eq (s .bare (nodeView t a .sibling))
 
-  at-parent : List·Memᴰ p (reached (view t)) → nodeView t₂ p .shown ≡ withMissing (view t) p a p
-  at-parent h =
-      shown-eq (c .node .here)
-      ∙ ap (λ (j : ℕ). slotIn j (nodeView t₁ a .sibling) (nodeView t₁ p .shown)) same-fence
-      ∙ ap (λ (b : ℕ). slotIn (nodeView t (nodeView t a .sibling) .fence) b (nodeView t₁ p .shown)) same-sibling
-      ∙ ap (slotIn (nodeView t (nodeView t a .sibling) .fence) (nodeView t a .sibling)) (k p h)
-      ∙ rw (eq-eqb p p refl)
+    at-parent : List·Memᴰ p (reached (treeOf sd t)) → nodeView t₂ p .shown ≡ withMissing (treeOf sd t) p a p
+    at-parent h =
+        shown-eq (c .node .here)
+        ∙ ap (λ (j : ℕ). slotIn j (nodeView t₁ a .sibling) (nodeView t₁ p .shown)) same-fence
+        ∙ ap (λ (b : ℕ). slotIn (nodeView t (nodeView t a .sibling) .fence) b (nodeView t₁ p .shown)) same-sibling
+        ∙ ap (slotIn (nodeView t (nodeView t a .sibling) .fence) (nodeView t a .sibling)) (k p h)
+        ∙ rw (eq-eqb p p refl)
 
-  attach-shows : ShowsLater t t₂ (withMissing (view t) p a)
-  attach-shows = at-or-off (λ (n : ℕ). List·Memᴰ n (reached (view t)) → nodeView t₂ n .shown ≡ withMissing (view t) p a n) p at-parent (λ n z h. shown-eq (c .node .else n z) ∙ k n h ∙ rw (ne-eqb n p z))
+    attach-shows : ShowsLater t t₂ (withMissing (treeOf sd t) p a)
+    attach-shows = at-or-off (λ (n : ℕ). List·Memᴰ n (reached (treeOf sd t)) → nodeView t₂ n .shown ≡ withMissing (treeOf sd t) p a n) p at-parent (λ n z h. shown-eq (c .node .else n z) ∙ k n h ∙ rw (ne-eqb n p z))
 
-mends : (t : Words) (y : Leftover) → Fine t y → Mends t y (apply (repairOf t (some y)) t)
-unfolding repairOf
-mends t nothing f = rw (apply-nil t) (same-refl t, keeps-all t (f .left .left .1))
-mends t (hiddenIn x) f =
-    let k = unhide (view t) x (f .left) in
-    let o = f .left .left .0 in
-    (close-tree t x (hiddenIn x) nothing f o k, close-shows t x (hiddenIn x) nothing f o k (f .left .left .1))
-mends t (missingIn p a false) f =
-    let k = keeps-all t (f .left .left .1) in
-    (attach-tree t t p a f (same-refl t) k, attach-shows t t p a f (same-refl t) k)
-mends t (missingIn p a true) f =
-    let t₁ = apply (cutOff t a) t in
-    let g = cut-fine t p a f in
-    rw (apply-append (cutOff t a) (attach t p a) t, ← cut-attach t p a f)
-    (attach-tree t t₁ p a g (cut-tree t p a f) (cut-shows t p a f), attach-shows t t₁ p a g (cut-tree t p a f) (cut-shows t p a f))
-mends t (bothIn p a) f =
-    let t₁ = apply (closeAt t p) t in
-    let g = close-stage t p a f .1 in
-    let u = unhide-missing (view t) p a (f .left) in
-    let o = f .left .left .0 in
-    let s = close-tree t p (bothIn p a) (missingIn p a false) f o u in
-    let k = close-shows t p (bothIn p a) (missingIn p a false) f o u (f .left .left .1) in
-    rw (apply-append (closeAt t p) (attach t₁ p a) t) (attach-tree t t₁ p a g s k, attach-shows t t₁ p a g s k)
+  mends : (t : Words) (y : Leftover) → Fine sd t y → Mends t y (apply (repairOf t (some y)) t)
+  unfolding repairOf
+  mends t nothing f = rw (apply-nil t) (same-refl t, keeps-all t (f .left .left .1))
+  mends t (hiddenIn x) f =
+      let k = unhide (treeOf sd t) x (f .left) in
+      let o = f .left .left .0 in
+      (close-tree t x (hiddenIn x) nothing f o k, close-shows t x (hiddenIn x) nothing f o k (f .left .left .1))
+  mends t (missingIn p a false) f =
+      let k = keeps-all t (f .left .left .1) in
+      (attach-tree t t p a f (same-refl t) k, attach-shows t t p a f (same-refl t) k)
+  mends t (missingIn p a true) f =
+      let t₁ = apply (cutOff t a) t in
+      let g = cut-fine sd t p a f in
+      rw (apply-append (cutOff t a) (attach t p a) t, ← cut-attach sd t p a f)
+      (attach-tree t t₁ p a g (cut-tree t p a f) (cut-shows t p a f), attach-shows t t₁ p a g (cut-tree t p a f) (cut-shows t p a f))
+  mends t (bothIn p a) f =
+      let t₁ = apply (closeAt t p) t in
+      let g = close-stage sd t p a f .1 in
+      let u = unhide-missing (treeOf sd t) p a (f .left) in
+      let o = f .left .left .0 in
+      let s = close-tree t p (bothIn p a) (missingIn p a false) f o u in
+      let k = close-shows t p (bothIn p a) (missingIn p a false) f o u (f .left .left .1) in
+      rw (apply-append (closeAt t p) (attach t₁ p a) t) (attach-tree t t₁ p a g s k, attach-shows t t₁ p a g s k)
 
--- ---- the table after repair
+  -- ---- the table after repair
 
-pub record RepairedView (t : Words) : Type 0 where
-  pub same : SameTree t (repairedOne t)
-  -- what a reached node shows, and how many slots that are
-  pub shown : (n : ℕ) → List·Memᴰ n (reached (view t)) → nodeView (repairedOne t) n .shown ≡ slotsLater (view t) (leftover (view t)) n
-  pub count : (n : ℕ) → List·Memᴰ n (reached (view t)) → length (nodeView (repairedOne t) n .shown) ≡ length (kept (view t) n) + lackingIn (leftover (view t)) n
-  -- every search stands on the same nodes
-  pub height : height (view (repairedOne t)) ≡ height (view t)
-  pub path : (k : ℕ) → path (view (repairedOne t)) k ≡ path (view t) k
+  pub record RepairedView (t : Words) : Type 0 where
+    pub same : SameTree t (repairedAt sd t)
+    -- what a reached node shows, and how many slots that are
+    pub shown : (n : ℕ) → List·Memᴰ n (reached (treeOf sd t)) → nodeView (repairedAt sd t) n .shown ≡ slotsLater (treeOf sd t) (leftover (treeOf sd t)) n
+    pub count : (n : ℕ) → List·Memᴰ n (reached (treeOf sd t)) → length (nodeView (repairedAt sd t) n .shown) ≡ length (kept (treeOf sd t) n) + lackingIn (leftover (treeOf sd t)) n
+    -- every search stands on the same nodes
+    pub height : height (treeOf sd (repairedAt sd t)) ≡ height (treeOf sd t)
+    pub path : (k : ℕ) → path (treeOf sd (repairedAt sd t)) k ≡ path (treeOf sd t) k
 
-module _ (t : Words) (s : soundOne t ≡ true) where
-  mended : SameTree t (repairedOne t) × ShowsLater t (repairedOne t) (slotsLater (view t) (leftover (view t)))
-  unfolding repairedOne
-  mended =
-      let u = sound-fine t s in
-      rw (repair-of t (u .0) (u .1), has-left-iff (view t) (u .0) .1 (u .1 .left) .1) (mends t (u .0) (u .1))
+  module _ (t : Words) (s : Sound sd t) where
+    mended : SameTree t (repairedAt sd t) × ShowsLater t (repairedAt sd t) (slotsLater (treeOf sd t) (leftover (treeOf sd t)))
+    unfolding repairedAt
+    mended =
+        let u = s in
+        rw (repair-of sd t (u .0) (u .1), has-left-iff (treeOf sd t) (u .0) .1 (u .1 .left) .1) (mends t (u .0) (u .1))
 
-  same : SameTree t (repairedOne t)
-  same = mended .0
+    same : SameTree t (repairedAt sd t)
+    same = mended .0
 
-  orderly-later : Orderly (view (repairedOne t))
-  orderly-later = settled-fine (repairedOne t) (repaired-settled t s) .left .orderly
+    orderly-later : Orderly (treeOf sd (repairedAt sd t))
+    orderly-later = (repaired-settled sd t s) .left .orderly
 
-  orderly-now : Orderly (view t)
-  orderly-now = orderly-of t s
+    orderly-now : Orderly (treeOf sd t)
+    orderly-now = s .1 .left .orderly
 
-  pub repaired-view : RepairedView t
-  repaired-view =
-      let v = view t in
-      let w = view (repairedOne t) in
-      let r : w .root ≡ v .root = same-root (same .header) in
-      record {
-        same = same;
-        height = height-same v w orderly-now orderly-later r (same .bare) (same .reached);
-        path = path-same v w orderly-now orderly-later r (same .bare) (same .reached);
-        shown = mended .1;
-        count = λ n m. ap length (mended .1 n m) ∙ length-later v (leftover v) n;
-      }
+    pub repaired-view : RepairedView t
+    repaired-view =
+        let v = treeOf sd t in
+        let w = treeOf sd (repairedAt sd t) in
+        let r : w .root ≡ v .root = same-word sd (s .1 .low) (same .header) in
+        record {
+          same = same;
+          height = height-same v w orderly-now orderly-later r (same .bare) (same .reached);
+          path = path-same v w orderly-now orderly-later r (same .bare) (same .reached);
+          shown = mended .1;
+          count = λ n m. ap length (mended .1 n m) ∙ length-later v (leftover v) n;
+        }

@@ -7,16 +7,16 @@ use native.Mathlib.Omega.{arith}
 use lib.ListN.{length, getD}
 use borrow.Author.Tests.{eqb-true, eqb-false}
 use Rattle.model.specs.Table.{Words}
-use Rattle.model.specs.Slots.{View, nodeView, view, height, full}
+use Rattle.model.specs.Slots.{View, nodeView, height, full}
 use Rattle.model.specs.Search.{path}
-use Rattle.model.specs.SoundTest.{all}
+use Rattle.model.specs.SoundTest.{nothing, all}
 use Rattle.model.specs.Writes.{runIn, standingIn}
-use Rattle.tree_laws.specs.OneTree.{settledOne, standingOne, runOne}
 use Rattle.list_laws.proofs.Tools.{all-each}
 use Rattle.list_laws.proofs.Members.{each-index, each-at}
 use Rattle.tree_laws.proofs.SearchLaw.{path-length}
-use Rattle.step_laws.proofs.Views.{settled-fine, reached-usable, shown-few}
+use Rattle.step_laws.proofs.Views.{reached-usable, shown-few}
 use Rattle.step_laws.proofs.Standing.{standing-stands}
+use Rattle.step_laws.proofs.Seen.{Side, treeOf, Fine, standing, runOf}
 
 -- ---- of any list of nodes
 
@@ -54,25 +54,26 @@ run-ends v (n ∷ ns) = go (all (isFull v) (n ∷ ns)) refl (run-ends v ns)
         stops zero e = first-not (isFull v n) (all (isFull v) ns) (unfold all in c) (all-each (isFull v) ns .1 (each-index (λ (m : ℕ). isFull v m ≡ true) ns 0 (λ i h. ih .full i h (omega arith))))
         stops (suc i) e = ih .stop i (omega arith)
 
--- ---- of the path to k
+module _ (sd : Side) where
+  -- ---- of the path to k
 
-module _ (t : Words) (s : settledOne t ≡ true) (k : ℕ) where
-  ends : Ends (view t) (path (view t) k) (runOne t k)
-  ends = run-ends (view t) (path (view t) k)
+  module _ (t : Words) (s : Fine sd t nothing) (k : ℕ) where
+    ends : Ends (treeOf sd t) (path (treeOf sd t) k) (runOf sd t k)
+    ends = run-ends (treeOf sd t) (path (treeOf sd t) k)
 
-  pub run-short : runOne t k ≤ suc (height (view t))
-  run-short = omega (arith, ends .short, path-length (view t) k)
+    pub run-short : runOf sd t k ≤ suc (height (treeOf sd t))
+    run-short = omega (arith, ends .short, path-length (treeOf sd t) k)
 
-  pub run-full : (l : ℕ) → l < runOne t k → length (nodeView t (standingOne t l k) .shown) ≡ 11
-  unfolding standingIn full
-  run-full l h = eqb-true _ 11 (ends .full (height (view t) - l) (omega (arith, path-length (view t) k)) (omega (arith, path-length (view t) k, run-short)))
+    pub run-full : (l : ℕ) → l < runOf sd t k → length (nodeView t (standing sd t l k) .shown) ≡ 11
+    unfolding standingIn full
+    run-full l h = eqb-true _ 11 (ends .full (height (treeOf sd t) - l) (omega (arith, path-length (treeOf sd t) k)) (omega (arith, path-length (treeOf sd t) k, run-short)))
 
-  -- where the run does not include the root, the node above it has room
-  pub run-above : runOne t k ≤ height (view t) → length (nodeView t (standingOne t (runOne t k) k) .shown) ≤ 10
-  unfolding standingIn full
-  run-above h =
-      let n = runOne t k in
-      let z = eqb-false (length (nodeView t (standingOne t n k) .shown)) 11 (ends .stop (height (view t) - n) (omega (arith, path-length (view t) k))) in
-      let f = settled-fine t s in
-      let m = shown-few t (standingOne t n k) (reached-usable t (standingOne t n k) (f .header) (f .left .orderly) (standing-stands t s k n h .reached) .clear) in
-      omega (arith, z, m)
+    -- where the run does not include the root, the node above it has room
+    pub run-above : runOf sd t k ≤ height (treeOf sd t) → length (nodeView t (standing sd t (runOf sd t k) k) .shown) ≤ 10
+    unfolding standingIn full
+    run-above h =
+        let n = runOf sd t k in
+        let z = eqb-false (length (nodeView t (standing sd t n k) .shown)) 11 (ends .stop (height (treeOf sd t) - n) (omega (arith, path-length (treeOf sd t) k))) in
+        let f = s in
+        let m = shown-few t (standing sd t n k) (reached-usable sd t (standing sd t n k) (f .header) (f .left .orderly) (standing-stands sd t s k n h .reached) .clear) in
+        omega (arith, z, m)

@@ -5,50 +5,22 @@ use mathlib.Core.List.{List·Memᴰ, List·Memᴰ·head}
 use Prim.Native.Nat.{ℕ, suc, _≤_, _<_}
 use native.Mathlib.Omega.{arith}
 use lib.Dec.{eqb, ltb}
-use Rattle.model.specs.Table.{Words, root}
+use Rattle.model.specs.Table.{Words}
 use Rattle.model.specs.Slots.{NodeView, View, nodeView, view, height}
 use Rattle.model.specs.Search.{below, within}
 use Rattle.model.specs.Reached.{reached}
 use Rattle.model.specs.Writes.{standingIn}
-use Rattle.tree_laws.specs.OneTree.{settledOne, standingOne}
 use Rattle.view_laws.proofs.NodeViews.{levelOf, fence-eq, level-eq, sibling-eq}
 use Rattle.list_laws.proofs.Members.{each-mem}
-use Rattle.word_laws.proofs.Frames.{same-root}
 use Rattle.tree_laws.proofs.Rows.{Good}
 use Rattle.tree_laws.proofs.Levels.{Orderly, level-at, rowAt, reached-row, Bounded, reached-bounds}
 use Rattle.tree_laws.proofs.SearchLaw.{Stands, cover-only, path-stands}
 use Rattle.tree_laws.proofs.PlaceOf.{standing-at}
 use Rattle.change_laws.proofs.Parents.{Parent, reached-children, path-parent}
-use Rattle.step_laws.proofs.Views.{settled-fine}
 use Rattle.step_laws.proofs.Fresh.{Free, free-other, free-sibling}
 use Rattle.step_laws.proofs.WholeNode.{Stays}
-
--- ---- of one table
-
-module _ (t : Words) (s : settledOne t ≡ true) where
-  o : Orderly (view t)
-  o = settled-fine t s .left .orderly
-
-  pub root-reached : List·Memᴰ (root t) (reached (view t))
-  root-reached = rw (reached-children (view t) o) (List·Memᴰ·head refl)
-
-  module _ (k : ℕ) where
-    pub standing-stands : (d : ℕ) → d ≤ height (view t) → Stands (view t) k d (standingOne t d k)
-    unfolding standingIn
-    standing-stands d h = path-stands (view t) k d o h
-
-    pub standing-parent : (d : ℕ) → d < height (view t) → Parent (view t) (standingOne t d k) (standingOne t (suc d) k)
-    unfolding standingIn
-    standing-parent d h = path-parent (view t) k d o h
-
-    -- only one node of a level stands for k
-    pub standing-is : (d n : ℕ) → Stands (view t) k d n → standingOne t d k ≡ n
-    standing-is d n c =
-        let v = view t in
-        let l = c .covers .at .level in
-        let r = reached-row v n o (c .reached) in
-        let h : d ≤ height v = omega (arith, l, r .level) in
-        standing-at t d k o h ∙ cover-only v k d n (rowAt v d) (level-at v d o h .row) (rw l at (r .row)) (c .covers .fence) (c .covers .inside)
+use Rattle.model.specs.SoundTest.{nothing}
+use Rattle.step_laws.proofs.Seen.{Side, treeOf, Fine, standing, rootOf, same-word}
 
 -- ---- of another view
 
@@ -67,15 +39,43 @@ unfolding below
 stands-same v w k d n o m l f b g c = stands w k d n o m (l ∙ c .covers .at .level) (rw f (c .covers .fence))
     (ap (λ (x : ℕ). eqb x 0 || ltb k (w .node x .fence)) b ∙ ap (λ (x : ℕ). eqb (v .node n .sibling) 0 || ltb k x) g ∙ c .covers .inside)
 
--- what a free node holds does not matter
-module _ (t : Words) (b : ℕ) (s : settledOne t ≡ true) (f : Free t b) (x : NodeView) (t′ : Words) (u : Stays t b x t′) where
-  pub stays-height : height (view t′) ≡ height (view t)
-  stays-height = ap (levelOf (view t′)) (same-root (u .header)) ∙ level-eq (u .node .else (root t) (free-other t b s f (root t) (root-reached t s)))
+module _ (sd : Side) where
+  -- ---- of one table
 
-  pub stays-stands : (k d n : ℕ) → Stands (view t) k d n → Stands (view t′) k d n
-  stays-stands k d n c =
-      let m = c .reached in
-      let z = free-other t b s f n m in
-      let o = u .node .else n z in
-      stands-same (view t) (view t′) k d n (u .fine .left .orderly) (rw (u .reached) m) (level-eq o) (fence-eq o) (sibling-eq o)
-      (fence-eq (u .node .else (nodeView t n .sibling) (free-sibling t b s f n m))) c
+  module _ (t : Words) (s : Fine sd t nothing) where
+    o : Orderly (treeOf sd t)
+    o = s .left .orderly
+
+    pub root-reached : List·Memᴰ (rootOf sd t) (reached (treeOf sd t))
+    root-reached = rw (reached-children (treeOf sd t) o) (List·Memᴰ·head refl)
+
+    module _ (k : ℕ) where
+      pub standing-stands : (d : ℕ) → d ≤ height (treeOf sd t) → Stands (treeOf sd t) k d (standing sd t d k)
+      unfolding standingIn
+      standing-stands d h = path-stands (treeOf sd t) k d o h
+
+      pub standing-parent : (d : ℕ) → d < height (treeOf sd t) → Parent (treeOf sd t) (standing sd t d k) (standing sd t (suc d) k)
+      unfolding standingIn
+      standing-parent d h = path-parent (treeOf sd t) k d o h
+
+      -- only one node of a level stands for k
+      pub standing-is : (d n : ℕ) → Stands (treeOf sd t) k d n → standing sd t d k ≡ n
+      standing-is d n c =
+          let v = treeOf sd t in
+          let l = c .covers .at .level in
+          let r = reached-row v n o (c .reached) in
+          let h : d ≤ height v = omega (arith, l, r .level) in
+          standing-at v d k o h ∙ cover-only v k d n (rowAt v d) (level-at v d o h .row) (rw l at (r .row)) (c .covers .fence) (c .covers .inside)
+
+  -- what a free node holds does not matter
+  module _ (t : Words) (b : ℕ) (s : Fine sd t nothing) (f : Free sd t b) (x : NodeView) (t′ : Words) (u : Stays sd t b x t′) where
+    pub stays-height : height (treeOf sd t′) ≡ height (treeOf sd t)
+    stays-height = ap (levelOf (treeOf sd t′)) (same-word sd (s .low) (u .header)) ∙ level-eq (u .node .else (rootOf sd t) (free-other sd t b s f (rootOf sd t) (root-reached t s)))
+
+    pub stays-stands : (k d n : ℕ) → Stands (treeOf sd t) k d n → Stands (treeOf sd t′) k d n
+    stays-stands k d n c =
+        let m = c .reached in
+        let z = free-other sd t b s f n m in
+        let o = u .node .else n z in
+        stands-same (treeOf sd t) (treeOf sd t′) k d n (u .fine .left .orderly) (rw (u .reached) m) (level-eq o) (fence-eq o) (sibling-eq o)
+        (fence-eq (u .node .else (nodeView t n .sibling) (free-sibling sd t b s f n m))) c

@@ -1,6 +1,5 @@
 -- All 32 words of a free node stored in rising order: every store leaves a settled table with the same map and the same nodes reached.
 use mathlib.Core.Path.{_≡_, refl, ap}
-use mathlib.Core.Bool.{true}
 use mathlib.Core.List.{List, [], _∷_}
 use Prim.Native.Nat.{ℕ, suc, _+_, _*_, _≤_}
 use native.Mathlib.Omega.{arith}
@@ -11,14 +10,13 @@ use Rattle.model.specs.Reached.{reached}
 use Rattle.model.specs.SoundTest.{nothing}
 use Rattle.model.specs.Orders.{Store, put, apply, orders}
 use Rattle.model.specs.Writes.{putAll, nodeWords}
-use Rattle.tree_laws.specs.OneTree.{settledOne, mapOne}
 use Rattle.list_laws.proofs.Tools.{Each}
 use Rattle.view_laws.proofs.NodeViews.{ButAt, newNode}
 use Rattle.list_laws.proofs.Steps.{until-map}
 use Rattle.table_laws.proofs.Nodes.{has-node-iff}
 use Rattle.slot_laws.proofs.Hiding.{AllShown}
 use Rattle.word_laws.proofs.Stores.{doStore}
-use Rattle.word_laws.proofs.Frames.{SameHeader, same-ok, same-root, same-nodes, Elsewhere, else-header, view-else}
+use Rattle.word_laws.proofs.Frames.{SameHeader, same-nodes, Elsewhere, else-header, view-else}
 use Rattle.word_laws.proofs.NodeStores.{put-all-along, put-all-elsewhere}
 use Rattle.word_laws.proofs.NewNodes.{length-node-words, new-node}
 use Rattle.cut_laws.specs.Growing.{lineChanges}
@@ -26,8 +24,10 @@ use Rattle.cut_laws.proofs.FlushRule.{orders-length, orders-flushCount, Rising,
 use Rattle.cut_laws.specs.Inside.{StoresInside}
 use Rattle.change_laws.proofs.Unreached.{unreached-keeps}
 use Rattle.step_laws.proofs.Stages.{SoundWith, Stage, stage-until}
-use Rattle.step_laws.proofs.Views.{Fine, fine-sound, settled-fine, view-fine}
+use Rattle.step_laws.proofs.Views.{view-fine}
 use Rattle.step_laws.proofs.Fresh.{Free}
+use Rattle.step_laws.proofs.Seen.{Side, treeOf, Fine, mapOf, same-word}
+use Rattle.step_laws.proofs.Fresh.{free-some, free-there}
 
 -- ---- orders
 
@@ -62,57 +62,58 @@ put-all-few b (x ∷ ws) e =
     let f = orders-flushCount (put w x) rest in
     unfold putAll lineChanges in omega (arith, orders-length (put w x ∷ rest), n, f, c)
 
--- ---- the view
+module _ (sd : Side) where
+  -- ---- the view
 
--- t′ is t but that the free node b is n
-pub record Stays (t : Words) (b : ℕ) (n : NodeView) (t′ : Words) : Type 0 where
-  pub fine : Fine t′ nothing
-  pub mapping : mapOne t′ ≡ mapOne t
-  pub reached : reached (view t′) ≡ reached (view t)
-  pub header : SameHeader t t′
-  pub node : ButAt (nodeView t) (nodeView t′) b n
+  -- t′ is t but that the free node b is n
+  pub record Stays (t : Words) (b : ℕ) (n : NodeView) (t′ : Words) : Type 0 where
+    pub fine : Fine sd t′ nothing
+    pub mapping : mapOf sd t′ ≡ mapOf sd t
+    pub reached : reached (treeOf sd t′) ≡ reached (treeOf sd t)
+    pub header : SameHeader t t′
+    pub node : ButAt (nodeView t) (nodeView t′) b n
 
--- Whatever a free node holds, the table is settled, with the same map and the same nodes reached.
-pub free-stays : (t : Words) (b : ℕ) → settledOne t ≡ true → Free t b → (t′ : Words) → Elsewhere b t t′ → Stays t b (nodeView t′ b) t′
-free-stays t b s f t′ o =
-    let h = else-header t t′ b o in
-    let e = view-else t t′ b o (has-node-iff t b .0 (f .there) .0) in
-    let k = unreached-keeps (view t) (view t′) b (same-nodes h) (same-root h) e nothing (settled-fine t s .left) (f .some) (f .unreached) in
-    record {
-      fine = view-fine t t′ (view t′) refl (same-ok h) (settled-fine t s .header) nothing (k .left) refl;
-      mapping = k .mapping;
-      reached = k .reached;
-      header = h;
-      node = e;
-    }
-
--- ---- the stores
-
-module _ (t : Words) (b left sibling level fence : ℕ) (ss : List Slot) (s : settledOne t ≡ true) (f : Free t b) where
-  abbrev words : Words
-  words = nodeWords left sibling level fence ss
-
-  long : length words ≡ 32
-  long = length-node-words left sibling level fence ss
-
-  inside : StoresInside (length t) (putAll (nodeStart b) words)
-  inside = put-all-inside (length t) (nodeStart b) words (unfold nodeStart in omega (arith, long, has-node-iff t b .0 (f .there)))
-
-  still : (t′ : Words) → Elsewhere b t t′ → SoundWith (mapOne t) t′
-  still t′ o = let u = free-stays t b s f t′ o in (fine-sound t′ nothing (u .fine), u .mapping)
-
-  pub whole-stage : Stage 36 t (putAll (nodeStart b) (nodeWords left sibling level fence ss))
-  whole-stage = stage-until 36 t (putAll (nodeStart b) words) (put-all-few b words long) inside
-      (until-map doStore (Elsewhere b t) (SoundWith (mapOne t)) (Elsewhere b t) (SoundWith (mapOne t)) still still (putAll (nodeStart b) words) t (put-all-along t b words (omega (arith, long))))
-
-  pub whole-stays : AllShown left ss → length ss ≤ 11
-      → Stays t b (newNode left sibling level fence ss) (apply (putAll (nodeStart b) (nodeWords left sibling level fence ss)) t)
-  whole-stays a l =
-      let u = free-stays t b s f (apply (putAll (nodeStart b) words) t) (put-all-elsewhere t b words (omega (arith, long))) in
+  -- Whatever a free node holds, the table is settled, with the same map and the same nodes reached.
+  pub free-stays : (t : Words) (b : ℕ) → Fine sd t nothing → Free sd t b → (t′ : Words) → Elsewhere b t t′ → Stays t b (nodeView t′ b) t′
+  free-stays t b s f t′ o =
+      let h = else-header t t′ b o in
+      let e = view-else t t′ b o (has-node-iff t b .0 (free-there sd t b s f) .0) in
+      let k = unreached-keeps (treeOf sd t) (treeOf sd t′) b (same-nodes h) (same-word sd (s .low) h) e nothing (s .left) (free-some sd t b f) (f .unreached) in
       record {
-        fine = u .fine;
-        mapping = u .mapping;
-        reached = u .reached;
-        header = u .header;
-        node = record { else = u .node .else; here = new-node t b left sibling level fence ss (f .there) a l };
+        fine = view-fine sd t t′ (treeOf sd t′) refl h s nothing (k .left) refl (rw (k .reached) (s .off));
+        mapping = k .mapping;
+        reached = k .reached;
+        header = h;
+        node = e;
       }
+
+  -- ---- the stores
+
+  module _ (t : Words) (b left sibling level fence : ℕ) (ss : List Slot) (s : Fine sd t nothing) (f : Free sd t b) where
+    abbrev words : Words
+    words = nodeWords left sibling level fence ss
+
+    long : length words ≡ 32
+    long = length-node-words left sibling level fence ss
+
+    inside : StoresInside (length t) (putAll (nodeStart b) words)
+    inside = put-all-inside (length t) (nodeStart b) words (unfold nodeStart in omega (arith, long, has-node-iff t b .0 (free-there sd t b s f)))
+
+    still : (t′ : Words) → Elsewhere b t t′ → SoundWith sd (mapOf sd t) t′
+    still t′ o = let u = free-stays t b s f t′ o in ((nothing, (u .fine)), u .mapping)
+
+    pub whole-stage : Stage sd 36 t (putAll (nodeStart b) (nodeWords left sibling level fence ss))
+    whole-stage = stage-until sd 36 t (putAll (nodeStart b) words) (put-all-few b words long) inside
+        (until-map doStore (Elsewhere b t) (SoundWith sd (mapOf sd t)) (Elsewhere b t) (SoundWith sd (mapOf sd t)) still still (putAll (nodeStart b) words) t (put-all-along t b words (omega (arith, long))))
+
+    pub whole-stays : AllShown left ss → length ss ≤ 11
+        → Stays t b (newNode left sibling level fence ss) (apply (putAll (nodeStart b) (nodeWords left sibling level fence ss)) t)
+    whole-stays a l =
+        let u = free-stays t b s f (apply (putAll (nodeStart b) words) t) (put-all-elsewhere t b words (omega (arith, long))) in
+        record {
+          fine = u .fine;
+          mapping = u .mapping;
+          reached = u .reached;
+          header = u .header;
+          node = record { else = u .node .else; here = new-node t b left sibling level fence ss (free-there sd t b s f) a l };
+        }

@@ -14,15 +14,13 @@ use Rattle.model.specs.declared.Few.the-variants.{Zero, One, Many}
 use Rattle.model.specs.declared.Missing.{Missing}
 use Rattle.model.specs.declared.Missing.the-variants.{Nowhere, Under}
 use Rattle.model.specs.declared.Unfinished.{Unfinished}
-use Rattle.model.specs.Table.{Words}
-use Rattle.model.specs.Slots.{View, view}
+use Rattle.model.specs.Slots.{View}
 use Rattle.model.specs.Reached.{kept, named, nextChild, fillRow, children, reached}
 use Rattle.model.specs.SoundTest.{distinct, linked, finished, addFew, addMissing, together, times, trailingIn, own, rowUnfinished, unfinishedAt, unfinished}
 use Rattle.model.specs.SoundTest.{Leftover, nothing, hiddenIn, missingIn, bothIn, leftover, hasRoom, isNothing, isAllowed, orderly, settledView, soundView}
-use Rattle.tree_laws.specs.OneTree.{settledOne, soundOne}
 use Rattle.list_laws.proofs.Tools.{and-iff, Each}
 use Rattle.list_laws.proofs.Members.{each-mem, each-iff}
-use Rattle.tree_laws.proofs.Levels.{Orderly, orderly-iff, sound-parts, settled-parts}
+use Rattle.tree_laws.proofs.Levels.{Orderly, orderly-iff}
 use Rattle.tree_laws.proofs.Gaps.{row-only, row-nowhere, Gap, row-under, fill-whole, fill-gap}
 use Rattle.tree_laws.proofs.Kept.{by-level, kept-whole}
 use Rattle.tree_laws.proofs.Sums.{same-unfinished, total-hidden, total-trailing, total-missing, few-atom, missing-atom, OnlyAt, only-map, total-none, total-only, total-finished, amount, leftover-amount}
@@ -293,9 +291,6 @@ unfolding settledView soundView
 settled-sound-view v h =
     let u = and-iff (orderly v) (isNothing (leftover v)) .0 h in
     and-iff (orderly v) (isAllowed v (leftover v)) .1 (u .0, ap (isAllowed v) (is-nothing (leftover v) .0 (u .1)))
-
-pub settled-sound : (t : Words) → settledOne t ≡ true → soundOne t ≡ true
-settled-sound t h = let u = settled-parts t .0 h in sound-parts t .1 (u .0, settled-sound-view (view t) (u .1))
 
 -- at a reached node of a settled tree
 pub settled-node : (v : View) (n : ℕ) → SettledTree v → List·Memᴰ n (reached v) → NothingUnfinished v n

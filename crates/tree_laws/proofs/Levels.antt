@@ -6,11 +6,10 @@ use mathlib.Core.List.{List, [], _∷_, _++_, List·Memᴰ, List·Memᴰ·not-ni
 use Prim.Native.Nat.{ℕ, zero, suc, _+_, _-_, _≤_, _<_}
 use native.Mathlib.Omega.{arith}
 use lib.ListN.{length}
-use Rattle.model.specs.Table.{Words, inRange, headerOk}
-use Rattle.model.specs.Slots.{View, view, height}
+use Rattle.model.specs.Table.{inRange}
+use Rattle.model.specs.Slots.{View, height}
 use Rattle.model.specs.Reached.{flat, headOr, children, reachedFrom, leavesFrom, reached, leaves, mapping}
-use Rattle.model.specs.SoundTest.{elem, distinct, linked, nodeOk, rootOk, recordingsOk, orderly, settledView, soundView}
-use Rattle.tree_laws.specs.OneTree.{settledOne, soundOne}
+use Rattle.model.specs.SoundTest.{elem, distinct, linked, nodeOk, rootOk, recordingsOk, orderly, soundView}
 use Rattle.list_laws.proofs.Tools.{decode, and-iff, all-each, Each, Each-map, Each-append}
 use Rattle.list_laws.proofs.Members.{each-mem, elem-false}
 use Rattle.list_laws.proofs.Distinct.{distinct-cons, distinct-append, Once, once, UpTo, pigeonhole}
@@ -47,18 +46,6 @@ orderly-iff v = (
 pub sound-orderly : (v : View) → soundView v ≡ true → Orderly v
 unfolding soundView
 sound-orderly v h = orderly-iff v .0 (and-iff _ _ .0 h .0)
-
--- a table's header is right, and its view is sound
-pub sound-parts : (t : Words) → (soundOne t ≡ true) ↔ ((headerOk t ≡ true) × (soundView (view t) ≡ true))
-unfolding soundOne
-sound-parts t = and-iff (headerOk t) (soundView (view t))
-
-pub orderly-of : (t : Words) → soundOne t ≡ true → Orderly (view t)
-orderly-of t h = sound-orderly (view t) (sound-parts t .0 h .1)
-
-pub settled-parts : (t : Words) → (settledOne t ≡ true) ↔ ((headerOk t ≡ true) × (settledView (view t) ≡ true))
-unfolding settledOne
-settled-parts t = and-iff (headerOk t) (settledView (view t))
 
 -- ---- levels
 

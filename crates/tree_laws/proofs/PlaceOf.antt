@@ -7,14 +7,12 @@ use mathlib.Core.Option.{some}
 use Prim.Native.Nat.{ℕ, suc, _≤_, _<_}
 use native.Mathlib.Omega.{arith}
 use lib.ListN.{length, drop, length-drop}
-use Rattle.model.specs.Table.{Words}
-use Rattle.model.specs.Slots.{Slot, slot, View, view, height}
+use Rattle.model.specs.Slots.{Slot, slot, View, height}
 use Rattle.model.specs.Search.{within, firstWith}
 use Rattle.model.specs.Reached.{flat, kept, reached, leaves, mapping}
 use Rattle.model.specs.SoundTest.{rising}
 use Rattle.model.specs.Shifts.{placeOf}
 use Rattle.model.specs.Writes.{standingIn}
-use Rattle.tree_laws.specs.OneTree.{standingOne}
 use Rattle.list_laws.proofs.Tools.{Each, Each-map, Each-append, Each-split, Misses}
 use Rattle.list_laws.proofs.Members.{each-mem, each-take, each-drop}
 use Rattle.tree_laws.proofs.Rows.{Good}
@@ -28,12 +26,12 @@ use Rattle.tree_laws.proofs.Leftovers.{SettledTree, settled-node}
 
 -- ---- the path in a settled tree
 
-pub standing-at : (t : Words) (l k : ℕ) → Orderly (view t) → l ≤ height (view t) → standingOne t l k ≡ cover (view t) k (rowAt (view t) l)
+pub standing-at : (v : View) (l k : ℕ) → Orderly v → l ≤ height v → standingIn v l k ≡ cover v k (rowAt v l)
 unfolding standingIn
-standing-at t l k o h = path-at (view t) k l o h
+standing-at v l k o h = path-at v k l o h
 
-pub standing-leaf : (t : Words) (k : ℕ) → Orderly (view t) → standingOne t 0 k ≡ leafFor (view t) k
-standing-leaf t k o = standing-at t 0 k o (omega arith) ∙ ap (cover (view t) k) (row-leaves (view t))
+pub standing-leaf : (v : View) (k : ℕ) → Orderly v → standingIn v 0 k ≡ leafFor v k
+standing-leaf v k o = standing-at v 0 k o (omega arith) ∙ ap (cover v k) (row-leaves v)
 
 -- ---- the leaf
 

@@ -4,7 +4,7 @@ use mathlib.Core.Bool.{Bool, true, false, cond, _&&_}
 use mathlib.Core.Logic.{_≢_, _↔_, _⊎_, inl, inr}
 use mathlib.Core.List.{List, [], _∷_, _++_, List·Memᴰ, List·Memᴰ·head, append-nil}
 use mathlib.Core.Option.{Option, some}
-use Prim.Native.Nat.{ℕ, _+_, _-_, _≤_, _<_}
+use Prim.Native.Nat.{ℕ, _+_, _≤_, _<_}
 use native.Mathlib.Omega.{arith}
 use lib.ListN.{length, length-append}
 use lib.Seq.{take-length}
@@ -26,9 +26,9 @@ use Rattle.tree_laws.proofs.Leftovers.{settled-sound-view}
 use Rattle.change_laws.proofs.Counts.{fresh-unreachable}
 use Rattle.change_laws.proofs.Parents.{reached-children}
 use Rattle.change_laws.proofs.Parts.{HasLeft, has-left-iff, settled-left, sound-left}
-use Rattle.two_laws.proofs.Mask.{HeadFacts}
-use Rattle.two_laws.proofs.TwoLaw.{seen, taken, Tree, Low, Course, flat-up}
-use Rattle.two_laws.proofs.SplitTwo.{FreeNode}
+use Rattle.two_laws.proofs.TwoLaw.{seen, taken, Tree, Low, Course, flat-up, side}
+use Rattle.step_laws.proofs.Fresh.{Free}
+use Rattle.step_laws.proofs.Seen.{HeadFacts}
 
 -- collection 1 alone; 1 beside 2; 2 beside 1
 abbrev pub Arr : ℕ → List ℕ → Words → Type 0
@@ -307,22 +307,22 @@ left-all w ws t y r = by-arr w ws t (λ w ws. Tree w ws t y → leftoverAll t �
 
 -- ---- free nodes
 
-pub free-fresh : (w : ℕ) (ws : List ℕ) (t : Words) (a : ℕ) → Arr w ws t → Tree w ws t nothing → List·Memᴰ a (reached (seen w t)) → 0 < length (unreachable t) → FreeNode w ws t (fresh t a)
+pub free-fresh : (w : ℕ) (ws : List ℕ) (t : Words) (a : ℕ) → Arr w ws t → Tree w ws t nothing → List·Memᴰ a (reached (seen w t)) → 0 < length (unreachable t) → Free (side w ws t) t (fresh t a)
 unfolding fresh unreached unreachable
 free-fresh w ws t a r f m h =
     let c = arr-covers w ws t r in
     let i : elem a (reachedAll t) ≡ true = refuted-false (elem a (reachedAll t)) (λ e. elem-none a (reached (seen w t)) .0 (c .split a .0 e .0) m) in
     let u = fresh-unreachable (nodes t) (reachedAll t) a i (each-mem (UpTo (nodes t)) (reached-numbers (seen w t) (f .left .orderly)) m) h in
     let q = c .split (fresh t a) .0 (u .1) in
-    record { range = u .0; own = q .0; off = q .1 }
+    record { range = u .0; unreached = q .0; off = q .1 }
   where
     refuted-false : (b : Bool) → (b ≡ false → ⊥) → b ≡ true
     refuted-false true h = refl
     refuted-false false h = absurd (h refl)
 
 -- no root reaches a free node
-pub free-off : (w : ℕ) (ws : List ℕ) (t : Words) (b : ℕ) → Arr w ws t → FreeNode w ws t b → elem b (reachedAll t) ≡ false
-free-off w ws t b r f = arr-covers w ws t r .split b .1 (f .own, f .off)
+pub free-off : (w : ℕ) (ws : List ℕ) (t : Words) (b : ℕ) → Arr w ws t → Free (side w ws t) t b → elem b (reachedAll t) ≡ false
+free-off w ws t b r f = arr-covers w ws t r .split b .1 (f .unreached, f .off)
 
 -- those that some root reaches and those that none does are N together
 pub unreachable-count : (w : ℕ) (ws : List ℕ) (t : Words) → Arr w ws t → Tree w ws t nothing → length (unreachable t) + (length (reached (seen w t)) + length (taken ws t)) ≡ nodes t

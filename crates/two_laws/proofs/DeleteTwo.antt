@@ -1,10 +1,10 @@
 -- Deletion in the tree of a collection, beside the other: the pair shifted out, and a leaf that it empties freed.
-use mathlib.Core.Path.{_≡_, refl, ap, sym, _∙_, subst}
+use mathlib.Core.Path.{_≡_, refl, ap, _∙_}
 use mathlib.Core.Bool.{Bool, true, false}
 use mathlib.Core.Logic.{_≢_, _⊎_, inl, inr}
 use mathlib.Core.List.{List, [], _++_, append-nil, List·Memᴰ}
 use mathlib.Core.Option.{some}
-use Prim.Native.Nat.{ℕ, suc, _≤_, _<_}
+use Prim.Native.Nat.{ℕ, suc, _<_}
 use native.Mathlib.Omega.{arith}
 use lib.ListN.{length, take}
 use borrow.Author.Tests.{eqb-true, eqb-false, ltb-true}
@@ -13,33 +13,29 @@ use Rattle.model.specs.Slots.{nodeView, view, viewOf}
 use Rattle.model.specs.Reached.{reached, reachedAll, mapping}
 use Rattle.model.specs.SoundTest.{elem, nothing, missingIn, bothIn, leftover}
 use Rattle.model.specs.Orders.{Store, apply}
-use Rattle.model.specs.Shifts.{placeOf}
 use Rattle.model.specs.Writes.{shiftOutAt, childBefore, freeStores, unreachable, standing, freesLeaf, deleteSettled}
 use Rattle.model.specs.Refusals.{hasKey}
 use Rattle.model.specs.Ledger.{leave}
-use Rattle.tree_laws.specs.OneTree.{settledOne, mapOne, standingOne as standingOf}
 use Rattle.list_laws.proofs.Tools.{and-iff, not-iff, same-or-not, Each, Each-append, Each-map}
 use Rattle.list_laws.proofs.Members.{each-mem, each-take}
 use Rattle.list_laws.proofs.Distinct.{UpTo}
-use Rattle.tree_laws.proofs.Rows.{Good, range-iff}
+use Rattle.tree_laws.proofs.Rows.{range-iff}
 use Rattle.tree_laws.proofs.Levels.{reached-numbers}
-use Rattle.change_laws.proofs.Parts.{good-parts}
-use Rattle.cut_laws.proofs.Applying.{apply-append, length-apply}
-use Rattle.step_laws.proofs.Views.{fine-settled, shown-few}
+use Rattle.cut_laws.proofs.Applying.{apply-append}
+use Rattle.step_laws.proofs.Views.{shown-few}
 use Rattle.step_laws.proofs.Standing.{standing-stands}
 use Rattle.step_laws.proofs.LeafShift.{leaf-out-reached}
 use Rattle.step_laws.proofs.Freeing.{Freeable, free-phase, free-unreached, free-fewer, free-others, neighbour-reached, free-cut, free-quiet, free-skip}
 use Rattle.step_laws.proofs.Deletion.{Frees, freeable}
 use Rattle.step_laws.proofs.LevelCourses.{Quiet, Skip, Way, quiet-still, quiet-append, still-skip}
-use Rattle.two_laws.proofs.Mask.{mask}
-use Rattle.two_laws.proofs.Masked.{mask-left, mask-fence, mask-shown, mask-reached, mask-leftover, mask-height, mask-standing, mask-shift-out, mask-before, mask-freeing}
 use Rattle.two_laws.proofs.Frame.{Away}
 use Rattle.two_laws.proofs.Places.{shift-out-away, put-away}
-use Rattle.two_laws.proofs.TwoLaw.{seen, taken, Tree, Low, Course, long, tree-fine, head-same, stays, taken-same, mask-after, seen-map, phase-course, course-then, course-within}
-use Rattle.two_laws.proofs.LevelsTwo.{OthersQuiet, AllQuiet, Ways, own-quiet, own-skip, others-quiet, quiet-ways, others-append}
+use Rattle.two_laws.proofs.TwoLaw.{seen, taken, Tree, Low, Course, tree-fine, head-same, stays, taken-same, phase-course, course-then, course-within, side, own-some, own-off, own-clear}
+use Rattle.two_laws.proofs.LevelsTwo.{OthersQuiet, AllQuiet, Ways, others-quiet, quiet-ways, others-append}
 use Rattle.two_laws.proofs.Leaf.{leaf-out, out-away, leaf-out-all}
-use Rattle.two_laws.proofs.SplitTwo.{FreeNode}
+use Rattle.step_laws.proofs.Fresh.{Free}
 use Rattle.two_laws.proofs.Arrange.{Arr, arr-low, course-arr, others-all, unreachable-count, same-all}
+use Rattle.step_laws.proofs.Seen.{Side, Fine}
 
 -- ---- an empty leaf freed
 
@@ -48,70 +44,51 @@ pub record Lacks (w : ℕ) (t : Words) (p x : ℕ) (t′ : Words) : Type 0 where
   pub leftover : (leftover (seen w t′) ≡ some (bothIn p (childBefore (view t) p x))) ⊎ (leftover (seen w t′) ≡ some (missingIn p (childBefore (view t) p x) false))
   pub reached : reachedAll t′ ≡ reachedAll t
 
-module _ (w : ℕ) (ws : List ℕ) (t : Words) (low : Low w ws) (f : Tree w ws t nothing) (p x : ℕ) (h : Freeable (mask (at t w) (taken ws t) t) p x) where
+module _ (w : ℕ) (ws : List ℕ) (t : Words) (low : Low w ws) (f : Tree w ws t nothing) (p x : ℕ) (h : Freeable (side w ws t) t p x) where
   abbrev ns : List ℕ
   ns = taken ws t
 
-  abbrev u : Words
-  u = mask (at t w) (taken ws t) t
-
-  size : 8 ≤ length t
-  size = long w ws t nothing low f
-
-  from-one : (n : ℕ) → List·Memᴰ n (reached (seen w t)) → 1 ≤ n
-  from-one n m = each-mem (UpTo (nodes t)) (reached-numbers (seen w t) (f .left .orderly)) m .0
-
-  off : (n : ℕ) → List·Memᴰ n (reached (seen w t)) → elem n ns ≡ false
-  off n m = each-mem (λ (n : ℕ). elem n ns ≡ false) (f .apart) m
+  abbrev sd : Side
+  sd = side w ws t
 
   pub p-reached : List·Memᴰ p (reached (seen w t))
-  p-reached = rw (mask-reached (at t w) ns t size) at (h .parent)
+  p-reached = h .parent
 
   pub before-reached : List·Memᴰ (childBefore (view t) p x) (reached (seen w t))
   unfolding childBefore
-  before-reached = rw (mask-before (at t w) ns t size p x, mask-reached (at t w) ns t size) at (neighbour-reached u p x h)
+  before-reached = neighbour-reached sd t p x h
 
   free-away : Each (Away ns) (freeStores t p x)
   unfolding freeStores
   free-away =
-      let few = shown-few t p (good-parts (seen w t) p (each-mem (Good (seen w t)) (f .left .orderly .good) p-reached) .0) in
-      let there : placeOf (nodeView t x .fence) (nodeView t p .shown) < length (nodeView t p .shown) = rw (mask-fence (at t w) ns t size x, mask-shown (at t w) ns t size p) at (h .there) in
-      Each-append (Away ns) (shiftOutAt t p (nodeView t x .fence)) _ (shift-out-away ns p (from-one p p-reached) (off p p-reached) t (nodeView t x .fence) few there)
-      (put-away ns (childBefore (view t) p x) (from-one _ before-reached) (off _ before-reached) _ _ (omega arith) (omega arith), tt)
+      let few = shown-few t p (own-clear w ws t nothing f p p-reached) in
+      Each-append (Away ns) (shiftOutAt t p (nodeView t x .fence)) _ (shift-out-away ns p (own-some w ws t nothing f p p-reached) (own-off w ws t nothing f p p-reached) t (nodeView t x .fence) few (h .there))
+      (put-away ns (childBefore (view t) p x) (own-some w ws t nothing f _ before-reached) (own-off w ws t nothing f _ before-reached) _ _ (omega arith) (omega arith), tt)
 
   pub free-course : Course 27 w ws t (freeStores t p x) (mapping (seen w t))
-  free-course = phase-course 27 w ws t nothing (freeStores t p x) (mapping (seen w t)) low f (rw (mask-freeing (at t w) ns t size p x, seen-map w ws t nothing low f) at (free-phase u p x h)) free-away
+  free-course = phase-course 27 w ws t nothing (freeStores t p x) (mapping (seen w t)) low f (free-phase sd t p x h) free-away
 
   -- x is passed over, every level but the leaves' is quiet
   pub free-own-quiet : (l : ℕ) → l ≢ 0 → Quiet (seen w) l t (freeStores t p x)
-  free-own-quiet l z = own-quiet w ws t nothing low f (freeStores t p x) free-away l (rw (mask-freeing (at t w) ns t size p x) at (free-quiet u p x h l z))
+  free-own-quiet = free-quiet sd t p x h
 
   pub free-own-skip : Skip (seen w) 0 t (freeStores t p x)
-  free-own-skip = own-skip w ws t nothing low f (freeStores t p x) free-away 0 (rw (mask-freeing (at t w) ns t size p x) at (free-skip u p x h))
+  free-own-skip = free-skip sd t p x h
 
   pub free-beside : OthersQuiet ws t (freeStores t p x)
   free-beside = others-quiet w ws t nothing low f (freeStores t p x) free-away
 
   -- ---- what it leaves
 
-  abbrev t′ : Words
-  t′ = apply (freeStores t p x) t
-
-  after : apply (freeStores u p x) u ≡ mask (at t′ w) (taken ws t′) t′
-  after = ap (λ (q : List Store). apply q u) (mask-freeing (at t w) ns t size p x) ∙ mask-after w ws t nothing low f (freeStores t p x) free-away
-
-  same-reached : reached (view (apply (freeStores u p x) u)) ≡ reached (seen w t′)
-  same-reached = ap (λ (z : Words). reached (view z)) after ∙ mask-reached (at t′ w) (taken ws t′) t′ (long w ws t′ nothing low (free-course .whole))
-
   -- The leaf is reached no more, and no other node is lost.
   pub free-two-unreached : elem x (reached (seen w (apply (freeStores t p x) t))) ≡ false
-  free-two-unreached = rw same-reached at (free-unreached u p x h)
+  free-two-unreached = free-unreached sd t p x h
 
   pub free-two-fewer : length (reached (seen w t)) ≡ suc (length (reached (seen w (apply (freeStores t p x) t))))
-  free-two-fewer = ap length (sym (mask-reached (at t w) ns t size)) ∙ free-fewer u p x h ∙ ap (λ (l : List ℕ). suc (length l)) same-reached
+  free-two-fewer = free-fewer sd t p x h
 
   pub free-two-others : (n : ℕ) → n ≢ x → elem n (reached (seen w (apply (freeStores t p x) t))) ≡ elem n (reached (seen w t))
-  free-two-others n z = ap (elem n) (sym same-reached) ∙ free-others u p x h n z ∙ ap (elem n) (mask-reached (at t w) ns t size)
+  free-two-others = free-others sd t p x h
 
   pub free-two-taken : taken ws (apply (freeStores t p x) t) ≡ taken ws t
   free-two-taken = taken-same w ws t nothing low f (freeStores t p x) free-away
@@ -126,12 +103,10 @@ module _ (w : ℕ) (ws : List ℕ) (t : Words) (low : Low w ws) (f : Tree w ws t
       let ss = take j (freeStores t p x) in
       let tⱼ = apply ss t in
       let away = each-take (Away ns) j (freeStores t p x) free-away in
-      let l : 8 ≤ length tⱼ = rw (length-apply ss t) size in
-      let e : apply (take j (freeStores u p x)) u ≡ mask (at tⱼ w) (taken ws tⱼ) tⱼ = ap (λ (q : List Store). apply (take j q) u) (mask-freeing (at t w) ns t size p x) ∙ mask-after w ws t nothing low f ss away in
-      let c = rw e at (free-cut u p x h j g (rw (mask-freeing (at t w) ns t size p x) i)) in
+      let c = free-cut sd t p x h j g i in
       record {
-        leftover = rw (mask-leftover (at tⱼ w) (taken ws tⱼ) tⱼ l, mask-before (at t w) ns t size p x) at (c .leftover);
-        reached = same-all w ws t tⱼ arr (head-same w ws t nothing low f ss away 3 (omega arith)) (sym (mask-reached (at tⱼ w) (taken ws tⱼ) tⱼ l) ∙ c .reached ∙ mask-reached (at t w) ns t size)
+        leftover = c .leftover;
+        reached = same-all w ws t tⱼ arr (head-same w ws t nothing low f ss away 3 (omega arith)) (c .reached)
             (Each-map _ (λ (y : ℕ). reached (seen y tⱼ) ≡ reached (seen y t)) ws (λ y k. k .reached) (stays w ws t nothing low f ss away));
       }
 
@@ -159,30 +134,21 @@ module _ (n : ℕ) (t : Words) (k : ℕ) where
 
 -- node x is reached from neither root in t′, which has one unreachable node more than t
 pub record Freed (w : ℕ) (ws : List ℕ) (t : Words) (x : ℕ) (t′ : Words) : Type 0 where
-  pub free : FreeNode w ws t′ x
+  pub free : Free (side w ws t′) t′ x
   pub one-more : length (unreachable t′) ≡ suc (length (unreachable t))
 
 module _ (n : ℕ) (ws : List ℕ) (t : Words) (arr : Arr (rootWord n) ws t) (tree : Tree (rootWord n) ws t nothing) (k : ℕ) (has : hasKey k (mapping (viewOf n t)) ≡ true) where
   abbrev w : ℕ
   w = rootWord n
 
-  abbrev masked : Words
-  masked = mask (at t w) (taken ws t) t
-
   lowly : Low w ws
   lowly = arr-low w ws t arr
 
-  long-t : 8 ≤ length t
-  long-t = long w ws t nothing lowly tree
+  abbrev own : Side
+  own = side w ws t
 
-  s : settledOne masked ≡ true
-  s = fine-settled masked (tree-fine w ws t nothing lowly tree)
-
-  has-masked : hasKey k (mapOne masked) ≡ true
-  has-masked = rw (seen-map w ws t nothing lowly tree) has
-
-  same : (d : ℕ) → standingOf masked d k ≡ standing n t d k
-  same d = mask-standing (at t w) (taken ws t) t long-t d k
+  s : Fine own t nothing
+  s = tree-fine w ws t lowly nothing tree
 
   abbrev leaf : ℕ
   leaf = standing n t 0 k
@@ -202,13 +168,8 @@ module _ (n : ℕ) (ws : List ℕ) (t : Words) (arr : Arr (rootWord n) ws t) (tr
   ss-away : Each (Away (taken ws t)) ss
   ss-away = out-away w ws t lowly tree k has
 
-  masked₁ : apply (shiftOutAt masked leaf k) masked ≡ mask (at t₁ w) (taken ws t₁) t₁
-  masked₁ = ap (λ (q : List Store). apply q masked) (mask-shift-out (at t w) (taken ws t) t long-t leaf k) ∙ mask-after w ws t nothing lowly tree ss ss-away
-
   reached₁ : reached (seen w t₁) ≡ reached (seen w t)
-  reached₁ =
-      sym (mask-reached (at t₁ w) (taken ws t₁) t₁ (long w ws t₁ nothing lowly (out .whole))) ∙ ap (λ (z : Words). reached (view z)) (sym masked₁)
-      ∙ rw (same 0) at (leaf-out-reached masked s k has-masked) ∙ mask-reached (at t w) (taken ws t) t long-t
+  reached₁ = leaf-out-reached own t s k has
 
   -- all nodes are reached as before
   pub out-reached : reachedAll (apply (shiftOutAt t (standing n t 0 k) k) t) ≡ reachedAll t
@@ -218,19 +179,12 @@ module _ (n : ℕ) (ws : List ℕ) (t : Words) (arr : Arr (rootWord n) ws t) (tr
 
   -- the leaf is emptied, and not leftmost
   module _ (e : freesLeaf n t (standing n t 1 k) (standing n t 0 k) ≡ true) where
-    frees : Frees masked (standingOf masked 1 k) (standingOf masked 0 k)
+    frees : Frees own t (standing n t 1 k) (standing n t 0 k)
     unfolding freesLeaf
-    frees =
-        let u = simp and-iff at e in
-        rw (same 0, same 1) (record {
-          one = ap length (mask-shown (at t w) (taken ws t) t long-t leaf) ∙ eqb-true _ 1 (u .0);
-          high = rw (mask-height (at t w) (taken ws t) t long-t) (ltb-true 0 _ (u .1 .0));
-          not-left = rw (mask-left (at t w) (taken ws t) t long-t parent) (eqb-false _ leaf (not-iff _ .0 (u .1 .1)));
-        })
+    frees = let u = simp and-iff at e in record { one = eqb-true _ 1 (u .0); high = ltb-true 0 _ (u .1 .0); not-left = eqb-false _ leaf (not-iff _ .0 (u .1 .1)) }
 
-    pub can-free :
-        (let t₁ = apply (shiftOutAt t (standing n t 0 k) k) t in Freeable (mask (at t₁ (rootWord n)) (taken ws t₁) t₁) (standing n t 1 k) (standing n t 0 k))
-    can-free = subst (λ (z : Words). Freeable z parent leaf) masked₁ (rw (same 0, same 1) at (freeable masked s k has-masked frees))
+    pub can-free : Freeable (side (rootWord n) ws (apply (shiftOutAt t (standing n t 0 k) k) t)) (apply (shiftOutAt t (standing n t 0 k) k) t) (standing n t 1 k) (standing n t 0 k)
+    can-free = rw (taken-same w ws t nothing lowly tree ss ss-away) (freeable own t s k has frees)
 
     freeing : Course 27 w ws t₁ (freeStores t₁ parent leaf) (mapping (seen w t₁))
     freeing = free-course w ws t₁ lowly (out .whole) parent leaf can-free
@@ -267,7 +221,7 @@ module _ (n : ℕ) (ws : List ℕ) (t : Words) (arr : Arr (rootWord n) ws t) (tr
   -- ---- the nodes reached
 
   leaf-reached : List·Memᴰ leaf (reached (seen w t))
-  leaf-reached = rw (same 0, mask-reached (at t w) (taken ws t) t long-t) at (standing-stands masked s k 0 (omega arith) .reached)
+  leaf-reached = standing-stands own t s k 0 (omega arith) .reached
 
   -- A leaf that it empties and that is not leftmost is free then, and there is one unreachable node more.
   pub settled-frees : freesLeaf n t (standing n t 1 k) (standing n t 0 k) ≡ true → Freed (rootWord n) ws t (standing n t 0 k) (apply (deleteSettled n t k) t)
@@ -284,7 +238,7 @@ module _ (n : ℕ) (ws : List ℕ) (t : Words) (arr : Arr (rootWord n) ws t) (tr
       rw here (record {
         free = record {
           range = range-iff (nodes t₂) leaf .1 (rw nodes₂ up);
-          own = free-two-unreached w ws t₁ lowly f₁ parent leaf h;
+          unreached = free-two-unreached w ws t₁ lowly f₁ parent leaf h;
           off = rw taken₂ (each-mem (λ (n : ℕ). elem n (taken ws t) ≡ false) (tree .apart) leaf-reached);
         };
         one-more = omega (arith, unreachable-count w ws t arr tree, unreachable-count w ws t₂ arr₂ f₂, nodes₂, ap length taken₂, free-two-fewer w ws t₁ lowly f₁ parent leaf h, ap length reached₁);

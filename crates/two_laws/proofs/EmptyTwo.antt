@@ -4,7 +4,7 @@ use mathlib.Core.Bool.{true, false}
 use mathlib.Core.Logic.{_≢_, _⊎_, inl, inr}
 use mathlib.Core.List.{[], _∷_}
 use mathlib.Core.Option.{none, some}
-use Prim.Native.Nat.{ℕ, _+_, _*_, _-_, _≤_, _<_}
+use Prim.Native.Nat.{ℕ, _+_, _*_, _≤_, _<_}
 use native.Mathlib.Omega.{arith}
 use lib.Dec.{eqb}
 use lib.ListN.{length, replicate, set, length-set}
@@ -25,9 +25,9 @@ use Rattle.word_laws.proofs.Frames.{Elsewhere, view-else, view-same, left-store
 use Rattle.tree_laws.proofs.Rows.{range-iff}
 use Rattle.change_laws.proofs.EmptyRoot.{root-alone, map-none, empty-left}
 use Rattle.step_laws.proofs.EmptyTable.{emptyLeaf, leaf-view, first-leaf}
-use Rattle.two_laws.proofs.Mask.{node-head, spare-head, HeadFacts}
 use Rattle.two_laws.proofs.TwoLaw.{seen, taken, Tree}
 use Rattle.two_laws.proofs.Arrange.{tree-settled}
+use Rattle.step_laws.proofs.Seen.{HeadFacts, node-head, spare-head}
 
 -- ---- one collection
 

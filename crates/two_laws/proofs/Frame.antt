@@ -1,9 +1,8 @@
 -- Stores to nodes that a tree does not reach leave that tree: its leftover, its map and its nodes.
 use mathlib.Core.Path.{_≡_, refl, _∙_}
 use mathlib.Core.Bool.{false}
-use mathlib.Core.Logic.{_≢_}
 use mathlib.Core.List.{List, [], _∷_, List·Memᴰ}
-use Prim.Native.Nat.{ℕ, _-_, _≤_}
+use Prim.Native.Nat.{ℕ, _≤_}
 use native.Mathlib.Omega.{arith}
 use Rattle.model.specs.Table.{Words, nodeStart}
 use Rattle.model.specs.Slots.{View, nodeView, viewFrom}
@@ -12,14 +11,12 @@ use Rattle.model.specs.SoundTest.{elem, Leftover}
 use Rattle.model.specs.Orders.{Store, apply}
 use Rattle.view_laws.proofs.NodeViews.{shown-eq}
 use Rattle.list_laws.proofs.Tools.{Each}
-use Rattle.list_laws.proofs.Members.{each-mem, mem-each, elem-none}
-use Rattle.list_laws.proofs.Distinct.{UpTo}
+use Rattle.list_laws.proofs.Members.{elem-none}
 use Rattle.word_laws.proofs.Outside.{Into, outside-start, outside-store}
 use Rattle.word_laws.proofs.Stores.{doStore}
 use Rattle.word_laws.proofs.Frames.{same-nodes, else-header, view-else}
 use Rattle.change_laws.proofs.Unreached.{unreached-keeps}
 use Rattle.change_laws.proofs.Parts.{HasLeft, Keeps}
-use Rattle.two_laws.proofs.Mask.{Passes, spareWord}
 
 -- a store to a node other than these
 pub record Away (ns : List ℕ) (s : Store) : Type 0 where
@@ -27,20 +24,6 @@ pub record Away (ns : List ℕ) (s : Store) : Type 0 where
   pub some : 1 ≤ node
   pub off : elem node ns ≡ false
   pub into : Into (nodeStart node) 32 s
-
-pub away-passes : (N : ℕ) (ns : List ℕ) (s : Store) → Each (UpTo N) ns → Away ns s → Passes ns s
-unfolding nodeStart
-away-passes N ns s h a =
-    let x = a .node in (
-      omega (arith, a .into .0),
-      mem-each (λ (n : ℕ). s .word ≢ spareWord n) ns (λ n m e.
-          let g = each-mem (UpTo N) h m .0 in
-          let i = a .into .0 in
-          let j = a .into .1 in
-          let k = a .some in
-          let q : x ≡ n = omega arith in
-          elem-none x ns .0 (a .off) (rw q m)),
-    )
 
 -- ---- one store, all of them, each first part
 

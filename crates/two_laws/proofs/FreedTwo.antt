@@ -67,7 +67,7 @@ module _ (n : ℕ) (t : Words) (s : sound t ≡ true) (h : noCollection n t ≡ 
       let a = course-arr 52 w ws (repaired t) _ _ (delete-course n ws (repaired t) (beside .1) tree k has) (beside .1) in
       rw after-all (record {
         range = f .free .range;
-        unreached = arr-covers w ws _ a .split _ .1 (f .free .own, f .free .off);
+        unreached = arr-covers w ws _ a .split _ .1 (f .free .unreached, f .free .off);
         one-more = f .one-more ∙ ap (λ (l : List ℕ). suc (length l)) (unreachable-later t s);
       })
 

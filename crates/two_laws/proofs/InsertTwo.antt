@@ -3,38 +3,38 @@ use mathlib.Core.Path.{_≡_, refl, ap, sym, _∙_}
 use mathlib.Core.Bool.{Bool, true, false, cond, _&&_}
 use mathlib.Core.Logic.{_≢_, _⊎_, inl, inr, ⊎-elim}
 use mathlib.Core.List.{List, [], _++_, List·Memᴰ}
-use Prim.Native.Nat.{ℕ, zero, suc, _+_, _*_, _-_, _≤_, _<_}
+use Prim.Native.Nat.{ℕ, zero, suc, _+_, _*_, _≤_, _<_}
 use native.Mathlib.Omega.{arith}
 use lib.Dec.{eqb}
 use lib.ListN.{length}
 use borrow.Author.Tests.{eqb-true, eqb-false, ltb-false}
 use Rattle.model.specs.Table.{Words, at, nodes, rootWord}
-use Rattle.model.specs.Slots.{pointerOf, nodeView, view, height, viewOf}
+use Rattle.model.specs.Slots.{pointerOf, nodeView, height, viewOf}
 use Rattle.model.specs.Reached.{reached, reachedAll, mapping, mapOf}
 use Rattle.model.specs.SoundTest.{elem, nothing}
 use Rattle.model.specs.Orders.{Store, apply}
 use Rattle.model.specs.Ledger.{enter}
 use Rattle.model.specs.Writes.{shiftInAt, unreachable, fresh, standing, run, rootInRun, newRootAt, newRoot, splits, rootStores, insertSettled}
 use Rattle.model.specs.Refusals.{tooHigh, tooFew}
-use Rattle.tree_laws.specs.OneTree.{settledOne, standingOne as standingOf, runOne as runOf}
 use Rattle.list_laws.proofs.Tools.{Each, same-or-not}
 use Rattle.list_laws.proofs.Recordings.{recording-iff, recording-of, pair-of}
 use Rattle.change_laws.proofs.LeafSlots.{NewPair}
 use Rattle.cut_laws.proofs.Applying.{apply-append}
-use Rattle.step_laws.proofs.Views.{fine-settled}
 use Rattle.step_laws.proofs.Run.{run-short, run-full, run-above}
 use Rattle.step_laws.proofs.Standing.{standing-stands}
 use Rattle.step_laws.proofs.Rowwise.{none-straight}
 use Rattle.step_laws.proofs.LevelCourses.{Quiet, Turn, MayTurn, quiet-nil, quiet-append, quiet-still, turn-quiet, quiet-may-turn, may-turn-quiet}
-use Rattle.two_laws.specs.Parts.{Enters}
-use Rattle.two_laws.proofs.Mask.{mask}
-use Rattle.two_laws.proofs.TwoLaw.{seen, taken, Tree, Low, Course, course-nil, course-append, course-within, long, tree-fine}
-use Rattle.two_laws.proofs.Masked.{mask-shown, mask-reached, mask-height, mask-standing, mask-run}
+use Rattle.two_laws.specs.Parts.{Enters, splitFor}
+use Rattle.two_laws.proofs.TwoLaw.{seen, Tree, Low, Course, course-nil, course-append, course-within, tree-fine, side}
 use Rattle.two_laws.proofs.Leaf.{leaf-in, leaf-in-all}
-use Rattle.two_laws.proofs.SplitTwo.{FreeNode, FullIn, splitIn, split-course, two-height, two-takes, two-others, two-standing, two-shown, two-room, two-taken, two-nodes, split-own-quiet, split-own-turn, split-beside}
-use Rattle.two_laws.proofs.RootTwo.{root-course, root-two-height, root-two-takes, root-two-others, root-two-standing, root-two-shown, root-two-shows, root-two-taken, root-two-nodes, root-own-quiet, root-own-turn, root-beside}
+use Rattle.two_laws.proofs.SplitTwo.{split-course, two-taken, two-nodes, split-beside}
+use Rattle.two_laws.proofs.RootTwo.{root-course, root-two-taken, root-two-nodes, root-own-turn, root-beside}
 use Rattle.two_laws.proofs.Arrange.{Arr, root-in, arr-low, arr-word, arr-others, course-arr, others-all, free-fresh, unreachable-count}
 use Rattle.two_laws.proofs.LevelsTwo.{OthersQuiet, Ways, nil-others, others-append}
+use Rattle.step_laws.proofs.Fresh.{Free}
+use Rattle.step_laws.proofs.Split.{FullNode, split-quiet, split-turn, split-height, split-standing, split-shown, split-room, split-takes, split-others}
+use Rattle.step_laws.proofs.NewRoot.{root-quiet, root-height, root-standing, root-shown, root-shows, root-takes, root-others as root-others-own}
+use Rattle.step_laws.proofs.Seen.{Side, Fine}
 
 -- ---- the run
 
@@ -42,35 +42,20 @@ module _ (n : ℕ) (ws : List ℕ) (t : Words) (low : Low (rootWord n) ws) (f : 
   abbrev w : ℕ
   w = rootWord n
 
-  abbrev u : Words
-  u = mask (at t w) (taken ws t) t
-
-  size : 8 ≤ length t
-  size = long w ws t nothing low f
-
-  s : settledOne u ≡ true
-  s = fine-settled u (tree-fine w ws t nothing low f)
-
-  same-height : height (view u) ≡ height (viewOf n t)
-  same-height = mask-height (at t w) (taken ws t) t size
-
-  same-stands : (d : ℕ) → standingOf u d k ≡ standing n t d k
-  same-stands d = mask-standing (at t w) (taken ws t) t size d k
-
-  same-run : runOf u k ≡ run n t k
-  same-run = mask-run (at t w) (taken ws t) t size k
+  s : Fine (side w ws t) t nothing
+  s = tree-fine w ws t low nothing f
 
   pub two-run-short : run n t k ≤ suc (height (viewOf n t))
-  two-run-short = rw (same-run, same-height) at (run-short u s k)
+  two-run-short = run-short (side w ws t) t s k
 
   pub two-run-full : (l : ℕ) → l < run n t k → length (nodeView t (standing n t l k) .shown) ≡ 11
-  two-run-full l h = rw (same-stands l, mask-shown (at t w) (taken ws t) t size (standing n t l k)) at (run-full u s k l (rw same-run h))
+  two-run-full = run-full (side w ws t) t s k
 
   pub two-run-above : run n t k ≤ height (viewOf n t) → length (nodeView t (standing n t (run n t k) k) .shown) ≤ 10
-  two-run-above h = rw (same-run, same-stands (run n t k), mask-shown (at t w) (taken ws t) t size (standing n t (run n t k) k)) at (run-above u s k (rw (same-run, same-height) h))
+  two-run-above = run-above (side w ws t) t s k
 
   pub stands-reached : (d : ℕ) → d ≤ height (viewOf n t) → List·Memᴰ (standing n t d k) (reached (viewOf n t))
-  stands-reached d h = rw (same-stands d, mask-reached (at t w) (taken ws t) t size) at (standing-stands u s k d (rw same-height h) .reached)
+  stands-reached d h = standing-stands (side w ws t) t s k d h .reached
 
 -- ---- the splits
 
@@ -91,67 +76,70 @@ module _ (l n : ℕ) (ws : List ℕ) (t : Words) (k : ℕ) (r : ReadyIn (suc l) 
   abbrev b : ℕ
   b = fresh t (standing n t l k)
 
-  free : FreeNode (rootWord n) ws t b
+  abbrev sd : Side
+  sd = side (rootWord n) ws t
+
+  free : Free sd t b
   free = free-fresh (rootWord n) ws t (standing n t l k) (r .arr) (r .tree) (stands-reached n ws t low (r .tree) k l (omega (arith, r .high))) (omega (arith, r .enough))
 
-  given : FullIn (rootWord n) ws t k l
-  given = record { tree = r .tree; high = r .high; full = r .full l (omega arith); roomy = r .above }
+  given : FullNode sd t k l
+  given = record { settled = tree-fine (rootWord n) ws t low nothing (r .tree); high = r .high; full = r .full l (omega arith); roomy = r .above }
 
   abbrev ss : List Store
-  ss = splitIn (rootWord n) t k l b
+  ss = splitFor n t l k
 
   abbrev t′ : Words
   t′ = apply ss t
 
-  pub first-course : Course 67 (rootWord n) ws t (splitIn (rootWord n) t k l (fresh t (standing n t l k))) (mapping (viewOf n t))
-  first-course = split-course (rootWord n) ws t low k l given b free
+  pub first-course : Course 67 (rootWord n) ws t (splitFor n t l k) (mapping (viewOf n t))
+  first-course = split-course (rootWord n) ws t low (r .tree) k l given b free
 
   -- level l turns, every other one is quiet
   first-quiet : (d : ℕ) → d ≢ l → Quiet (seen (rootWord n)) d t ss
-  first-quiet = split-own-quiet (rootWord n) ws t low k l given b free
+  first-quiet = split-quiet sd t k l given b free
 
   first-turn : Turn (seen (rootWord n)) l t ss
-  first-turn = split-own-turn (rootWord n) ws t low k l given b free
+  first-turn = split-turn sd t k l given b free
 
   first-beside : OthersQuiet ws t ss
-  first-beside = split-beside (rootWord n) ws t low k l given b free
+  first-beside = split-beside (rootWord n) ws t low (r .tree) k l given b free
 
-  pub ready-next : ReadyIn l n ws (apply (splitIn (rootWord n) t k l (fresh t (standing n t l k))) t) k
+  pub ready-next : ReadyIn l n ws (apply (splitFor n t l k) t) k
   ready-next =
       let f = r .tree in
       let a = course-arr 67 (rootWord n) ws t ss (mapping (viewOf n t)) first-course (r .arr) in
-      let m : nodes t′ ≡ nodes t = two-nodes (rootWord n) ws t low k l given b free in
+      let m : nodes t′ ≡ nodes t = two-nodes (rootWord n) ws t low (r .tree) k l given b free in
       record {
         arr = a;
         tree = first-course .whole;
-        high = omega (arith, r .high, two-height (rootWord n) ws t low k l given b free);
+        high = omega (arith, r .high, split-height sd t k l given b free);
         full = λ d g.
-            ap (λ (m : ℕ). length (nodeView t′ m .shown)) (two-standing (rootWord n) ws t low k l given b free d (omega (arith, r .high)) (λ e. omega arith))
-            ∙ ap length (two-shown (rootWord n) ws t low k l given b free d g) ∙ r .full d (omega arith);
-        above = omega (arith, two-room (rootWord n) ws t low k l given b free);
+            ap (λ (m : ℕ). length (nodeView t′ m .shown)) (split-standing sd t k l given b free d (omega (arith, r .high)) (λ e. omega arith))
+            ∙ ap length (split-shown sd t k l given b free d g) ∙ r .full d (omega arith);
+        above = omega (arith, split-room sd t k l given b free);
         enough = omega (
           arith,
           r .enough,
           unreachable-count (rootWord n) ws t (r .arr) f,
           unreachable-count (rootWord n) ws t′ a (first-course .whole),
           m,
-          two-takes (rootWord n) ws t low k l given b free,
-          ap length (two-taken (rootWord n) ws t low k l given b free),
+          split-takes sd t k l given b free,
+          ap length (two-taken (rootWord n) ws t low (r .tree) k l given b free),
         );
       }
 
   -- of the nodes but the fresh one the same are reached
-  pub first-others : (x : ℕ) → x ≢ fresh t (standing n t l k) → elem x (reachedAll (apply (splitIn (rootWord n) t k l (fresh t (standing n t l k))) t)) ≡ elem x (reachedAll t)
+  pub first-others : (x : ℕ) → x ≢ fresh t (standing n t l k) → elem x (reachedAll (apply (splitFor n t l k) t)) ≡ elem x (reachedAll t)
   first-others x z =
       others-all (rootWord n) ws t t′ x (r .arr) (course-arr 67 (rootWord n) ws t ss (mapping (viewOf n t)) first-course (r .arr))
-      (two-others (rootWord n) ws t low k l given b free x z) (two-taken (rootWord n) ws t low k l given b free)
+      (split-others sd t k l given b free x z) (two-taken (rootWord n) ws t low (r .tree) k l given b free)
 
 pub splits-course : (m n : ℕ) (ws : List ℕ) (t : Words) (k : ℕ) → ReadyIn m n ws t k → Course (m * 67) (rootWord n) ws t (splits n m t k) (mapping (viewOf n t))
 unfolding splits
 splits-course zero n ws t k r = course-nil (rootWord n) ws t (r .tree)
 splits-course (suc l) n ws t k r =
     let f = first-course l n ws t k r in
-    let ss = splitIn (rootWord n) t k l (fresh t (standing n t l k)) in
+    let ss = splitFor n t l k in
     course-within (67 + l * 67) (suc l * 67) (rootWord n) ws t _ (mapping (viewOf n t)) (omega arith)
     (course-append 67 (l * 67) (rootWord n) ws t ss (splits n l (apply ss t) k) (mapping (viewOf n t)) f (rw (f .maps) at (splits-course l n ws (apply ss t) k (ready-next l n ws t k r))))
 
@@ -159,7 +147,7 @@ pub splits-room : (m n : ℕ) (ws : List ℕ) (t : Words) (k : ℕ) → ReadyIn 
 unfolding splits apply
 splits-room zero n ws t k r = r .above
 splits-room (suc l) n ws t k r =
-    let ss = splitIn (rootWord n) t k l (fresh t (standing n t l k)) in
+    let ss = splitFor n t l k in
     rw (apply-append ss (splits n l (apply ss t) k) t) (splits-room l n ws (apply ss t) k (ready-next l n ws t k r))
 
 -- each of the m lowest levels turns once, and the others are quiet
@@ -167,14 +155,14 @@ splits-quiet : (m n : ℕ) (ws : List ℕ) (t : Words) (k : ℕ) → ReadyIn m n
 unfolding splits
 splits-quiet zero n ws t k r d h = quiet-nil (seen (rootWord n)) d t (none-straight (viewOf n t) (r .tree .left .left .2) d)
 splits-quiet (suc l) n ws t k r d h =
-    let ss = splitIn (rootWord n) t k l (fresh t (standing n t l k)) in
+    let ss = splitFor n t l k in
     quiet-append (seen (rootWord n)) d t ss (splits n l (apply ss t) k) (first-quiet l n ws t k r d (λ e. omega arith)) (splits-quiet l n ws (apply ss t) k (ready-next l n ws t k r) d (omega arith))
 
 splits-turn : (m n : ℕ) (ws : List ℕ) (t : Words) (k : ℕ) → ReadyIn m n ws t k → (d : ℕ) → MayTurn (seen (rootWord n)) d t (splits n m t k)
 unfolding splits
 splits-turn zero n ws t k r d = inl (splits-quiet zero n ws t k r d (omega arith))
 splits-turn (suc l) n ws t k r d =
-    let ss = splitIn (rootWord n) t k l (fresh t (standing n t l k)) in
+    let ss = splitFor n t l k in
     go (splits n l (apply ss t) k) (same-or-not d l) (first-quiet l n ws t k r d) (first-turn l n ws t k r) (splits-turn l n ws (apply ss t) k (ready-next l n ws t k r) d) (splits-quiet l n ws (apply ss t) k (ready-next l n ws t k r) d)
   where
     go : {ss : List Store} (us : List Store) → (d ≡ l) ⊎ (d ≢ l) → (d ≢ l → Quiet (seen (rootWord n)) d t ss) → Turn (seen (rootWord n)) l t ss
@@ -186,7 +174,7 @@ splits-others : (m n : ℕ) (ws : List ℕ) (t : Words) (k : ℕ) → ReadyIn m 
 unfolding splits
 splits-others zero n ws t k r = nil-others (rootWord n) ws t (r .tree)
 splits-others (suc l) n ws t k r =
-    let ss = splitIn (rootWord n) t k l (fresh t (standing n t l k)) in
+    let ss = splitFor n t l k in
     others-append ws t ss (splits n l (apply ss t) k) (first-beside l n ws t k r) (splits-others l n ws (apply ss t) k (ready-next l n ws t k r))
 
 -- ---- the new root, where the run includes the root
@@ -205,7 +193,13 @@ module _ (n : ℕ) (ws : List ℕ) (t : Words) (k : ℕ) (a : Arr (rootWord n) w
     abbrev q : ℕ
     q = fresh t (at t (rootWord n))
 
-    root-free : FreeNode (rootWord n) ws t q
+    abbrev own : Side
+    own = side (rootWord n) ws t
+
+    settled : Fine own t nothing
+    settled = tree-fine (rootWord n) ws t lowly nothing f
+
+    root-free : Free own t q
     root-free = free-fresh (rootWord n) ws t (at t (rootWord n)) a f (root-in (viewOf n t) (f .left .orderly)) some
 
     abbrev t₁ : Words
@@ -221,7 +215,7 @@ module _ (n : ℕ) (ws : List ℕ) (t : Words) (k : ℕ) (a : Arr (rootWord n) w
     rooted = root-course (rootWord n) ws t lowly word beside f not-top q root-free
 
     rooted-quiet : (d : ℕ) → d ≢ suc (height (viewOf n t)) → Quiet (seen (rootWord n)) d t (newRootAt (rootWord n) t q)
-    rooted-quiet = root-own-quiet (rootWord n) ws t lowly word beside f not-top q root-free
+    rooted-quiet = root-quiet own t settled not-top word q root-free
 
     rooted-turn : Turn (seen (rootWord n)) (suc (height (viewOf n t))) t (newRootAt (rootWord n) t q)
     rooted-turn = root-own-turn (rootWord n) ws t lowly word beside f not-top q root-free
@@ -236,25 +230,25 @@ module _ (n : ℕ) (ws : List ℕ) (t : Words) (k : ℕ) (a : Arr (rootWord n) w
     root-ready whole enough = record {
       arr = arr₁;
       tree = rooted .whole;
-      high = omega (arith, whole, root-two-height (rootWord n) ws t lowly word beside f not-top q root-free);
+      high = omega (arith, whole, root-height own t settled not-top word q root-free);
       full = λ l g.
-          ap (λ (m : ℕ). length (nodeView t₁ m .shown)) (root-two-standing (rootWord n) ws t lowly word beside f not-top q root-free k l (omega (arith, whole)))
-          ∙ ap length (root-two-shown (rootWord n) ws t lowly word beside f not-top q root-free (standing n t l k) (stands-reached n ws t lowly f k l (omega (arith, whole)))) ∙ two-run-full n ws t lowly f k l g;
-      above = rw (whole, root-two-shows (rootWord n) ws t lowly word beside f not-top q root-free k) (omega arith);
+          ap (λ (m : ℕ). length (nodeView t₁ m .shown)) (root-standing own t settled not-top word q root-free k l (omega (arith, whole)))
+          ∙ ap length (root-shown own t settled not-top word q root-free (standing n t l k) (stands-reached n ws t lowly f k l (omega (arith, whole)))) ∙ two-run-full n ws t lowly f k l g;
+      above = rw (whole, root-shows own t settled not-top word q root-free k) (omega arith);
       enough = omega (
         arith,
         enough,
         unreachable-count (rootWord n) ws t a f,
         unreachable-count (rootWord n) ws t₁ arr₁ (rooted .whole),
         root-two-nodes (rootWord n) ws t lowly word beside f not-top q root-free,
-        root-two-takes (rootWord n) ws t lowly word beside f not-top q root-free,
+        root-takes own t settled not-top word q root-free,
         ap length (root-two-taken (rootWord n) ws t lowly word beside f not-top q root-free),
       );
     }
 
     root-others : (x : ℕ) → x ≢ fresh t (at t (rootWord n)) → elem x (reachedAll t₁) ≡ elem x (reachedAll t)
     root-others x z =
-        others-all (rootWord n) ws t t₁ x a arr₁ (root-two-others (rootWord n) ws t lowly word beside f not-top q root-free x z) (root-two-taken (rootWord n) ws t lowly word beside f not-top q root-free)
+        others-all (rootWord n) ws t t₁ x a arr₁ (root-others-own own t settled not-top word q root-free x z) (root-two-taken (rootWord n) ws t lowly word beside f not-top q root-free)
 
     same-root : newRoot n t ≡ newRootAt (rootWord n) t q
     unfolding newRoot

@@ -1,7 +1,4 @@
 -- Two collections in one table.
-pub mod Mask
-pub mod OwnTree
-pub mod Masked
 pub mod Frame
 pub mod Places
 pub mod TwoLaw

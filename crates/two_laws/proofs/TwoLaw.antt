@@ -1,31 +1,29 @@
 -- The tree of header word w that a write goes to, beside the trees of the header words ws, which it leaves alone.
-use mathlib.Core.Path.{_≡_, refl, ap, sym, _∙_}
+use mathlib.Core.Path.{_≡_, refl, sym, _∙_}
 use mathlib.Core.Bool.{true, false}
 use mathlib.Core.Logic.{_↔_, _⊎_, inl, inr, ⊎-map, ⊎-elim}
 use mathlib.Core.List.{List, [], _∷_, _++_, List·Memᴰ}
-use Prim.Native.Nat.{ℕ, _+_, _-_, _≤_, _<_}
+use Prim.Native.Nat.{ℕ, _+_, _≤_, _<_}
 use native.Mathlib.Omega.{arith}
 use lib.ListN.{length, take, set}
 use lib.Seq.{getD-set-other, take-length, take-nil}
-use Rattle.model.specs.Table.{Words, at, nodes}
-use Rattle.model.specs.Slots.{Slot, View, viewFrom}
+use Rattle.model.specs.Table.{Words, at, nodes, nodeStart}
+use Rattle.model.specs.Slots.{Slot, View, nodeView, viewFrom}
 use Rattle.model.specs.Reached.{flat, reached, mapping}
 use Rattle.model.specs.SoundTest.{elem, Leftover, nothing, hasRoom}
 use Rattle.model.specs.Orders.{Store, apply, orders}
-use Rattle.tree_laws.specs.OneTree.{mapOne}
 use Rattle.list_laws.proofs.Tools.{Each, Each-map, Each-append}
 use Rattle.list_laws.proofs.Members.{each-take, each-both, each-mem, mem-each, flat-each}
 use Rattle.list_laws.proofs.Distinct.{UpTo, flat-off}
-use Rattle.tree_laws.proofs.Levels.{reached-numbers}
 use Rattle.cut_laws.proofs.Applying.{length-apply, apply-append, always-append}
 use Rattle.cut_laws.proofs.FlushRule.{length-orders-append}
 use Rattle.cut_laws.specs.Inside.{StoresInside}
-use Rattle.change_laws.proofs.Parts.{HasLeft, Keeps}
+use Rattle.change_laws.proofs.Parts.{good-parts, HasLeft, Keeps}
+use Rattle.tree_laws.proofs.Rows.{Good}
+use Rattle.tree_laws.proofs.Levels.{reached-numbers}
 use Rattle.step_laws.proofs.Phase.{Phase}
-use Rattle.step_laws.proofs.Views.{Fine, sound-fine, settled-fine}
-use Rattle.two_laws.proofs.Mask.{mask, Passes, mask-view, mask-apply, length-mask, HeadFacts}
-use Rattle.two_laws.proofs.OwnTree.{own-fine, fine-own, mapping-clear}
-use Rattle.two_laws.proofs.Frame.{Away, away-passes, away-keeps}
+use Rattle.step_laws.proofs.Seen.{Side, HeadFacts, Fine}
+use Rattle.two_laws.proofs.Frame.{Away, away-keeps}
 
 abbrev pub seen : ℕ → Words → View
 seen w t = viewFrom t (at t w)
@@ -55,78 +53,63 @@ unfolding flat
 flat-up N g [] h = tt
 flat-up N g (x ∷ ws) h = Each-append (UpTo N) (g x) (flat g ws) (h .0) (flat-up N g ws (h .1))
 
-module _ (w : ℕ) (ws : List ℕ) (t : Words) (y : Leftover) (low : Low w ws) (f : Tree w ws t y) where
-  abbrev r : ℕ
-  r = at t w
+-- that tree, kept off the nodes that the others reach in t
+abbrev pub side : (w : ℕ) (ws : List ℕ) → Words → Side
+side w ws t = record { word = w; others = taken ws t }
 
+-- each other tree is in t′ what it is in t
+abbrev pub Stay : List ℕ → Words → Words → Type 0
+Stay ws t t′ = Each (λ (x : ℕ). Keeps (seen x t) (seen x t′) nothing) ws
+
+pub stay-taken : (ws : List ℕ) (t t′ : Words) → Stay ws t t′ → taken ws t′ ≡ taken ws t
+stay-taken ws t t′ k = flat-each (λ (x : ℕ). reached (seen x t′)) (λ (x : ℕ). reached (seen x t)) ws (Each-map _ (λ (x : ℕ). reached (seen x t′) ≡ reached (seen x t)) ws (λ x k. k .reached) k)
+
+module _ (w : ℕ) (ws : List ℕ) (t : Words) (low : Low w ws) where
+  pub tree-fine : (y : Leftover) → Tree w ws t y → Fine (side w ws t) t y
+  tree-fine y f = record { low = low .0; header = f .head; left = f .left; room = f .room; off = f .apart }
+
+  pub fine-tree : (t′ : Words) (y : Leftover) → Stay ws t t′ → Fine (side w ws t) t′ y → Tree w ws t′ y
+  fine-tree t′ y k g = record {
+    head = g .header;
+    left = g .left;
+    room = g .room;
+    others = Each-map _ (λ (x : ℕ). HasLeft (seen x t′) nothing) ws (λ x k. k .left) k;
+    apart = rw (stay-taken ws t t′ k) (g .off);
+  }
+
+-- a node that the tree reaches
+module _ (w : ℕ) (ws : List ℕ) (t : Words) (y : Leftover) (f : Tree w ws t y) (n : ℕ) (m : List·Memᴰ n (reached (seen w t))) where
+  pub own-some : 1 ≤ n
+  own-some = each-mem (UpTo (nodes t)) (reached-numbers (seen w t) (f .left .orderly)) m .0
+
+  pub own-off : elem n (taken ws t) ≡ false
+  own-off = each-mem (λ (n : ℕ). elem n (taken ws t) ≡ false) (f .apart) m
+
+  pub own-clear : nodeView t n .clear ≡ true
+  own-clear = good-parts (seen w t) n (each-mem (Good (seen w t)) (f .left .orderly .good) m) .0
+
+-- ---- stores to nodes that the others do not reach
+
+module _ (w : ℕ) (ws : List ℕ) (t : Words) (y : Leftover) (low : Low w ws) (f : Tree w ws t y) (ss : List Store) (a : Each (Away (taken ws t)) ss) where
   abbrev ns : List ℕ
   ns = taken ws t
 
-  abbrev u : Words
-  u = mask r ns t
+  pub head-same : (x : ℕ) → x < 8 → at (apply ss t) x ≡ at t x
+  head-same x h = at-low ss t x h (Each-map (Away ns) (λ (s : Store). 8 ≤ s .word) ss (λ s h. unfold nodeStart in omega (arith, h .into .0)) a)
 
-  pub long : 8 ≤ length t
-  long = omega (arith, f .head .size .long)
+  pub away-one : (x : ℕ) → List·Memᴰ x ws → Each (Away (reached (seen x t))) ss
+  away-one x m = Each-map (Away ns) (Away (reached (seen x t))) ss
+      (λ s h. record { node = h .node; some = h .some; off = each-mem (λ (x : ℕ). elem (h .node) (reached (seen x t)) ≡ false) (flat-off (λ (x : ℕ). reached (seen x t)) ws (h .node) (h .off)) m; into = h .into }) a
 
-  pub taken-up : Each (UpTo (nodes t)) ns
-  taken-up = flat-up (nodes t) (λ (x : ℕ). reached (seen x t)) ws (Each-map (λ (x : ℕ). HasLeft (seen x t) nothing) (λ (x : ℕ). Each (UpTo (nodes t)) (reached (seen x t))) ws (λ x h. reached-numbers (seen x t) (h .orderly)) (f .others))
+  pub stays : Stay ws t (apply ss t)
+  stays = mem-each (λ (x : ℕ). Keeps (seen x t) (seen x (apply ss t)) nothing) ws (λ x m.
+      rw (head-same x (each-mem (λ (x : ℕ). x < 8) (low .1) m)) (away-keeps ss t (at t x) nothing (each-mem (λ (x : ℕ). HasLeft (seen x t) nothing) (f .others) m) (away-one x m)))
 
-  -- The masked table is a table of one tree.
-  pub tree-fine : Fine (mask (at t w) (taken ws t) t) y
-  tree-fine = own-fine t r ns long taken-up y (record { head = f .head; left = f .left; room = f .room; off = f .apart })
+  pub taken-same : taken ws (apply ss t) ≡ taken ws t
+  taken-same = stay-taken ws t (apply ss t) stays
 
-  pub seen-map : mapOne (mask (at t w) (taken ws t) t) ≡ mapping (seen w t)
-  seen-map = ap mapping (mask-view r ns t long) ∙ mapping-clear (seen w t) _
-
-  -- ---- stores to nodes that the others do not reach
-
-  module _ (ss : List Store) (a : Each (Away (taken ws t)) ss) where
-    passes : Each (Passes ns) ss
-    passes = Each-map (Away ns) (Passes ns) ss (λ s h. away-passes (nodes t) ns s taken-up h) a
-
-    high : Each (λ (s : Store). 8 ≤ s .word) ss
-    high = Each-map (Passes ns) (λ (s : Store). 8 ≤ s .word) ss (λ s h. h .0) passes
-
-    abbrev t′ : Words
-    t′ = apply ss t
-
-    pub head-same : (x : ℕ) → x < 8 → at t′ x ≡ at t x
-    head-same x h = at-low ss t x h high
-
-    pub away-one : (x : ℕ) → List·Memᴰ x ws → Each (Away (reached (seen x t))) ss
-    away-one x m = Each-map (Away ns) (Away (reached (seen x t))) ss
-        (λ s h. record { node = h .node; some = h .some; off = each-mem (λ (x : ℕ). elem (h .node) (reached (seen x t)) ≡ false) (flat-off (λ (x : ℕ). reached (seen x t)) ws (h .node) (h .off)) m; into = h .into }) a
-
-    -- each other tree stays
-    stays-one : (x : ℕ) → List·Memᴰ x ws → Keeps (seen x t) (seen x t′) nothing
-    stays-one x m = rw (head-same x (each-mem (λ (x : ℕ). x < 8) (low .1) m)) (away-keeps ss t (at t x) nothing (each-mem (λ (x : ℕ). HasLeft (seen x t) nothing) (f .others) m) (away-one x m))
-
-    pub stays : Each (λ (x : ℕ). Keeps (seen x t) (seen x (apply ss t)) nothing) ws
-    stays = mem-each (λ (x : ℕ). Keeps (seen x t) (seen x t′) nothing) ws stays-one
-
-    pub taken-same : taken ws (apply ss t) ≡ taken ws t
-    taken-same = flat-each (λ (x : ℕ). reached (seen x t′)) (λ (x : ℕ). reached (seen x t)) ws (Each-map _ (λ (x : ℕ). reached (seen x t′) ≡ reached (seen x t)) ws (λ x k. k .reached) stays)
-
-    pub mask-same : apply ss (mask (at t w) (taken ws t) t) ≡ mask (at t w) (taken ws t) (apply ss t)
-    mask-same = mask-apply r ns ss t passes
-
-    pub mask-after : apply ss (mask (at t w) (taken ws t) t) ≡ mask (at (apply ss t) w) (taken ws (apply ss t)) (apply ss t)
-    mask-after = mask-same ∙ rw (head-same w (low .0), taken-same)
-
-    -- what the one tree of the masked table is, the tree is
-    pub tree-after : (y′ : Leftover) → Fine (apply ss (mask (at t w) (taken ws t) t)) y′ → Tree w ws (apply ss t) y′
-    tree-after y′ g =
-        let o = fine-own t′ r ns (rw (length-apply ss t) long) (rw (head-same 2 (omega arith)) taken-up) y′ (rw mask-same at g) in
-        record {
-          head = o .head;
-          left = rw (head-same w (low .0)) (o .left);
-          room = rw (head-same w (low .0)) (o .room);
-          others = Each-map _ (λ (x : ℕ). HasLeft (seen x t′) nothing) ws (λ x k. k .left) stays;
-          apart = rw (taken-same, head-same w (low .0)) (o .off);
-        }
-
-    pub map-after : mapOne (apply ss (mask (at t w) (taken ws t) t)) ≡ mapping (seen w (apply ss t))
-    map-after = ap mapOne mask-same ∙ ap mapping (mask-view r ns t′ (rw (length-apply ss t) long)) ∙ mapping-clear (viewFrom t′ r) _ ∙ rw (head-same w (low .0))
+  pub tree-after : (y′ : Leftover) → Fine (side w ws t) (apply ss t) y′ → Tree w ws (apply ss t) y′
+  tree-after y′ g = fine-tree w ws t low (apply ss t) y′ stays g
 
 -- ---- a course of stores
 
@@ -141,20 +124,26 @@ pub record Course (b w : ℕ) (ws : List ℕ) (t : Words) (ss : List Store) (m :
   pub few : length (orders ss) ≤ b
   pub inside : StoresInside (length t) ss
 
--- A phase of the masked table whose stores go to none of the others' nodes is a course of the table.
-pub phase-course : (b w : ℕ) (ws : List ℕ) (t : Words) (y : Leftover) (ss : List Store) (m : List Slot) → Low w ws → Tree w ws t y → Phase b (mask (at t w) (taken ws t) t) ss m → Each (Away (taken ws t)) ss → Course b w ws t ss m
+-- A phase of the tree over which the others stay is a course of the table.
+pub beside-course : (b w : ℕ) (ws : List ℕ) (t : Words) (ss : List Store) (m : List Slot) (low : Low w ws) → Phase (side w ws t) b t ss m
+    → ((j : ℕ) → Stay ws t (apply (take j ss) t)) → ((j : ℕ) → (at (apply (take j ss) t) 3 ≡ 0) ↔ (at t 3 ≡ 0)) → Course b w ws t ss m
+beside-course b w ws t ss m low p k lack =
+    record {
+      part = λ j. let g = p .part-sound j in (g .0, fine-tree w ws t low _ (g .0) (k j) (g .1));
+      part-map = p .part-map;
+      others = λ j. Each-map _ (λ (x : ℕ). mapping (seen x (apply (take j ss) t)) ≡ mapping (seen x t)) ws (λ x k. k .mapping) (k j);
+      lack = lack;
+      whole = fine-tree w ws t low (apply ss t) nothing (rw take-length at (k (length ss))) (p .settles);
+      maps = p .maps;
+      few = p .few;
+      inside = p .inside;
+    }
+
+-- such is a phase whose stores go to none of the others' nodes
+pub phase-course : (b w : ℕ) (ws : List ℕ) (t : Words) (y : Leftover) (ss : List Store) (m : List Slot) (low : Low w ws) → Tree w ws t y → Phase (side w ws t) b t ss m → Each (Away (taken ws t)) ss → Course b w ws t ss m
 phase-course b w ws t y ss m low f p a =
     let each : (j : ℕ) → Each (Away (taken ws t)) (take j ss) = λ j. each-take (Away (taken ws t)) j ss a in
-    record {
-      part = λ j. let g = sound-fine _ (p .part-sound j) in (g .0, tree-after w ws t y low f (take j ss) (each j) (g .0) (g .1));
-      part-map = λ j. ⊎-map (λ e. sym (map-after w ws t y low f (take j ss) (each j)) ∙ e ∙ seen-map w ws t y low f) (λ e. sym (map-after w ws t y low f (take j ss) (each j)) ∙ e) (p .part-map j);
-      others = λ j. Each-map _ (λ (x : ℕ). mapping (seen x (apply (take j ss) t)) ≡ mapping (seen x t)) ws (λ x k. k .mapping) (stays w ws t y low f (take j ss) (each j));
-      lack = λ j. let e = head-same w ws t y low f (take j ss) (each j) 3 (omega arith) in ((λ z. sym e ∙ z), (λ z. e ∙ z));
-      whole = tree-after w ws t y low f ss a nothing (settled-fine _ (p .settles));
-      maps = sym (map-after w ws t y low f ss a) ∙ p .maps;
-      few = p .few;
-      inside = rw length-mask at (p .inside);
-    }
+    beside-course b w ws t ss m low p (λ j. stays w ws t y low f (take j ss) (each j)) (λ j. let e = head-same w ws t y low f (take j ss) (each j) 3 (omega arith) in ((λ z. sym e ∙ z), (λ z. e ∙ z)))
 
 -- one course after another, of which one keeps the map
 module _ (b c w : ℕ) (ws : List ℕ) (t : Words) (ss us : List Store) (m n : List Slot) (f : Course b w ws t ss m) (g : Course c w ws (apply ss t) us n) where

@@ -8,11 +8,11 @@ use native.Mathlib.Omega.{arith}
 use lib.ListN.{length, set, length-set}
 use lib.Seq.{getD-set-same}
 use Rattle.model.specs.declared.Node.{Node}
-use Rattle.model.specs.Table.{Words, at, nodes, root, headerOk, hasNode, nodeStart, node, nodeFrom, blank, spare}
+use Rattle.model.specs.Table.{Words, at, nodes, hasNode, nodeStart, node, nodeFrom, blank, spare}
 use Rattle.model.specs.Slots.{clearIn, used, nodeView}
 use Rattle.view_laws.proofs.NodeViews.{AllBut}
 use Rattle.table_laws.proofs.Nodes.{has-node-iff, node-in}
-use Rattle.word_laws.proofs.Outside.{Outside, part-same, same-part}
+use Rattle.word_laws.proofs.Outside.{Outside, same-part}
 
 pub has-node-same : (t t′ : Words) (i : ℕ) → length t′ ≡ length t → hasNode t′ i ≡ hasNode t i
 unfolding hasNode
@@ -52,13 +52,6 @@ pub header-trans : (t u x : Words) → SameHeader t u → SameHeader u x → Sam
 header-trans t u x f g = record { long = g .long ∙ f .long; words = λ w h. g .words w h ∙ f .words w h }
 
 module _ {t t′ : Words} (h : SameHeader t t′) where
-  pub same-ok : headerOk t′ ≡ headerOk t
-  unfolding headerOk
-  same-ok = rw (h .long, h .words 0 (omega arith), h .words 1 (omega arith), h .words 2 (omega arith), h .words 3 (omega arith), part-same t t′ (h .long) 4 4 (λ w p q. h .words w (omega arith)))
-
-  pub same-root : root t′ ≡ root t
-  same-root = h .words 1 (omega arith)
-
   pub same-nodes : nodes t′ ≡ nodes t
   same-nodes = h .words 2 (omega arith)
 

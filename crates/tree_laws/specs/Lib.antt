@@ -1,2 +1,0 @@
--- What laws of one tree speak of.
-pub mod OneTree
