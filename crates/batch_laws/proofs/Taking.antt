@@ -12,22 +12,18 @@ use Rattle.model.specs.Slots.{pointerOf, height, viewOf}
 use Rattle.model.specs.Reached.{reachedAll}
 use Rattle.model.specs.SoundTest.{nothing, sound}
 use Rattle.model.specs.Orders.{apply}
-use Rattle.model.specs.Writes.{shiftInAt, unreachable, fresh, standing, run, rootInRun, newRootAt, newRoot, splits, rootStores, insertSettled}
-use Rattle.model.specs.Writes.{repairStores, repaired, insertStores, insertion, storesOf}
+use Rattle.model.specs.Writes.{shiftInAt, unreachable, fresh, standing, run, rootInRun, newRootAt, newRoot, splits, rootStores, insertSettled, repairStores, repaired, insertStores, insertion, storesOf}
 use Rattle.model.specs.Refusals.{tooHigh, tooFew, refusal}
 use Rattle.table_laws.proofs.Header.{header-iff}
 use Rattle.cut_laws.proofs.Applying.{apply-append, length-apply}
-use Rattle.two_laws.specs.Parts.{Enters, splitFor}
-use Rattle.step_laws.proofs.Seen.{Side}
+use Rattle.two_laws.specs.Parts.{Enters, splitFor, Ready}
 use Rattle.step_laws.proofs.Fresh.{Free}
-use Rattle.step_laws.proofs.Split.{FullNode, split-takes}
 use Rattle.step_laws.proofs.NewRoot.{root-takes}
-use Rattle.two_laws.proofs.TwoLaw.{Tree, Low, side, tree-fine}
-use Rattle.two_laws.proofs.SplitTwo.{two-taken, two-nodes}
+use Rattle.two_laws.proofs.TwoLaw.{taken, Tree, tree-fine}
 use Rattle.two_laws.proofs.RootTwo.{root-two-taken, root-two-nodes}
 use Rattle.two_laws.proofs.Arrange.{Arr, root-in, arr-low, arr-word, arr-others, free-fresh, settled-tree, unreachable-count}
 use Rattle.two_laws.proofs.LeafStores.{in-unreachable, leaf-for}
-use Rattle.two_laws.proofs.InsertTwo.{ReadyIn, stands-reached, ready-next, splits-course, splits-room, root-first}
+use Rattle.two_laws.proofs.InsertTwo.{first-takes, first-arr, ready-next, splits-course, splits-room, root-first, root-arr}
 use Rattle.two_laws.proofs.CallsTwo.{repairs, arranged, is-repaired}
 use Rattle.two_laws.proofs.AcceptedTwo.{there, Accepted, accepted-iff}
 use Rattle.two_laws.proofs.MapsTwo.{accepted-steps}
@@ -38,40 +34,12 @@ use Rattle.two_laws.proofs.CollectionTwo.{unreachable-all}
 
 -- ---- the splits
 
-module _ (l n : ℕ) (ws : List ℕ) (t : Words) (k : ℕ) (r : ReadyIn (suc l) n ws t k) where
-  low : Low (rootWord n) ws
-  low = arr-low (rootWord n) ws t (r .arr)
-
-  abbrev b : ℕ
-  b = fresh t (standing n t l k)
-
-  abbrev sd : Side
-  sd = side (rootWord n) ws t
-
-  free : Free sd t b
-  free = free-fresh (rootWord n) ws t (standing n t l k) (r .arr) (r .tree) (stands-reached n ws t low (r .tree) k l (omega (arith, r .high))) (omega (arith, r .enough))
-
-  given : FullNode sd t k l
-  given = record { settled = tree-fine (rootWord n) ws t low nothing (r .tree); high = r .high; full = r .full l (omega arith); roomy = r .above }
-
-  one-split : length (unreachable t) ≡ length (unreachable (apply (splitFor n t l k) t)) + 1
-  one-split =
-      let s = ready-next l n ws t k r in
-      omega (
-        arith,
-        unreachable-count (rootWord n) ws t (r .arr) (r .tree),
-        unreachable-count (rootWord n) ws _ (s .arr) (s .tree),
-        two-nodes (rootWord n) ws t low (r .tree) k l given b free,
-        split-takes sd t k l given b free,
-        ap length (two-taken (rootWord n) ws t low (r .tree) k l given b free),
-      )
-
-splits-take : (m n : ℕ) (ws : List ℕ) (t : Words) (k : ℕ) → ReadyIn m n ws t k → length (unreachable t) ≡ length (unreachable (apply (splits n m t k) t)) + m
+splits-take : (m n : ℕ) (ws : List ℕ) (t : Words) (k : ℕ) → Arr (rootWord n) ws t → Ready m n t k → length (unreachable t) ≡ length (unreachable (apply (splits n m t k) t)) + m
 unfolding splits apply
-splits-take zero n ws t k r = omega arith
-splits-take (suc l) n ws t k r =
+splits-take zero n ws t k a r = omega arith
+splits-take (suc l) n ws t k a r =
     let ss = splitFor n t l k in
-    rw (apply-append ss (splits n l (apply ss t) k) t) (omega (arith, one-split l n ws t k r, splits-take l n ws (apply ss t) k (ready-next l n ws t k r)))
+    rw (apply-append ss (splits n l (apply ss t) k) t) (omega (arith, first-takes l n ws t k a r, splits-take l n ws (apply ss t) k (first-arr l n ws t k a r) (ready-next l n ws t k a r)))
 
 -- ---- the new root
 
@@ -87,18 +55,19 @@ module _ (n : ℕ) (ws : List ℕ) (t : Words) (k : ℕ) (a : Arr (rootWord n) w
           let z = eqb-false (height (viewOf n t)) 15 (sym (ap (λ (b : Bool). b && eqb (height (viewOf n t)) 15) e) ∙ not-high) in
           let top : height (viewOf n t) < 15 = omega (arith, f .left .orderly .top .level, z) in
           let q = fresh t (at t w) in
-          let free : Free (side w ws t) t q = free-fresh w ws t (at t w) a f (root-in (viewOf n t) (f .left .orderly)) (omega arith) in
+          let free : Free w (taken ws t) t q = free-fresh w ws t (at t w) a f (root-in (viewOf n t) (f .left .orderly)) (omega arith) in
           let low = arr-low w ws t a in
           let word = arr-word w ws t a in
           let beside = arr-others w ws t a in
           let c = root-first n ws t k a f not-high enough in
-          let after : ReadyIn (run n t k) n ws (apply (newRootAt w t q) t) k = rw (e, rootStores) at (c .1) in
+          let after : Arr w ws (apply (newRootAt w t q) t) = rw (e, rootStores) at (root-arr n ws t k a f not-high enough) in
+          let whole : Tree w ws (apply (newRootAt w t q) t) nothing = rw (e, rootStores) at (c .0 .whole) in
           rw (e, rootStores) (omega (
             arith,
             unreachable-count w ws t a f,
-            unreachable-count w ws _ (after .arr) (after .tree),
+            unreachable-count w ws _ after whole,
             root-two-nodes w ws t low word beside f top q free,
-            root-takes (side w ws t) t (tree-fine w ws t low nothing f) top word q free,
+            root-takes w (taken ws t) t (tree-fine w ws t low nothing f) top word q free,
             ap length (root-two-taken w ws t low word beside f top q free),
           ))
       go false e = rw (e, rootStores) (omega arith)
@@ -116,12 +85,13 @@ settled-take n ws t k r c arr f e =
     let y = pointerOf r c in
     let m = run n t k in
     let a = root-first n ws t k arr f (e .not-high) (e .enough) in
+    let i = root-arr n ws t k arr f (e .not-high) (e .enough) in
     let t₁ = apply (rootStores n t k) t in
     let t₂ = apply (splits n m t₁ k) t₁ in
-    let leaf = leaf-for n t₂ k (splits-course m n ws t₁ k (a .1) .whole .left .orderly) in
-    let d = in-unreachable t₂ (standing n t₂ 0 k) (leaf .some) (leaf .level) k y (splits-room m n ws t₁ k (a .1)) in
+    let leaf = leaf-for n t₂ k (splits-course m n ws t₁ k i (a .1) .whole .left .orderly) in
+    let d = in-unreachable t₂ (standing n t₂ 0 k) (leaf .some) (leaf .level) k y (splits-room m n ws t₁ k i (a .1)) in
     rw (apply-append (rootStores n t k) (splits n m t₁ k ++ shiftInAt t₂ (standing n t₂ 0 k) k y) t, apply-append (splits n m t₁ k) (shiftInAt t₂ (standing n t₂ 0 k) k y) t₁, d)
-    (omega (arith, root-take n ws t k arr f (e .not-high) (e .enough), splits-take m n ws t₁ k (a .1)))
+    (omega (arith, root-take n ws t k arr f (e .not-high) (e .enough), splits-take m n ws t₁ k i (a .1)))
 
 -- An accepted insertion: the nodes reached after it are those reached before it and those that it took.
 module _ (n k r c words dock : ℕ) (t : Words) (ok : refusal (insertion n k r c) words dock t ≡ 0) where

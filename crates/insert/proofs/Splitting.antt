@@ -15,7 +15,7 @@ use Rattle.model.specs.Writes.{fresh, split, standingIn, standing, splits}
 use Rattle.list_laws.proofs.Members.{each-mem}
 use Rattle.list_laws.proofs.Distinct.{UpTo}
 use Rattle.tree_laws.proofs.Levels.{reached-numbers}
-use Rattle.two_laws.specs.Parts.{splitFor, FullNode, Splittable, Ready}
+use Rattle.two_laws.specs.Parts.{splitFor, Splittable, Ready}
 use Rattle.two_laws.proofs.SameTwo.{settled-sound}
 use Rattle.two_laws.proofs.CollectionTwo.{settled-head, collection-orderly}
 use Rattle.two_laws.proofs.PartsTwo.{Stays, Plain, settled-plain, standing-reached, fresh-there, ready-first, ready-later, split-stays}
@@ -30,20 +30,17 @@ use Rattle.write.proofs.Rooted.{root-stands}
 -- ---- one split
 
 module _ {n : ℕ} {t : Words} {k l : ℕ} (s : Splittable n t k l) where
-  abbrev h : FullNode n t k l
-  h = s .node
-
   pub split-header : headerOk t ≡ true
-  split-header = settled-head t (h .settled)
+  split-header = settled-head t (s .settled)
 
   pub split-sound : sound t ≡ true
-  split-sound = settled-sound t (h .settled)
+  split-sound = settled-sound t (s .settled)
 
   pub split-low : l < 15
-  split-low = omega (arith, h .high, collection-orderly n t split-sound (h .collection) .top .level)
+  split-low = omega (arith, s .node .high, collection-orderly n t split-sound (s .collection) .top .level)
 
   lower-reached : List·Memᴰ (standing n t l k) (reached (viewOf n t))
-  lower-reached = standing-reached n t (h .collection) (h .settled) l k (omega (arith, h .high))
+  lower-reached = standing-reached n t (s .collection) (s .settled) l k (omega (arith, s .node .high))
 
   -- A, by the root that was read
   module _ {r : ℕ} (er : r ≡ at t (rootWord n)) {a : ℕ} (ea : a ≡ standingIn (viewFrom t r) l k) where
@@ -51,13 +48,13 @@ module _ {n : ℕ} {t : Words} {k l : ℕ} (s : Splittable n t k l) where
     lower = root-stands n t r er a l k ea
 
     pub lower-range : (1 ≤ a) × (a ≤ nodes t)
-    lower-range = rw lower (each-mem (UpTo (nodes t)) (reached-numbers (viewOf n t) (collection-orderly n t split-sound (h .collection))) lower-reached)
+    lower-range = rw lower (each-mem (UpTo (nodes t)) (reached-numbers (viewOf n t) (collection-orderly n t split-sound (s .collection))) lower-reached)
 
     pub lower-plain : Plain t a
-    lower-plain = rw lower (settled-plain n t (h .collection) (h .settled) _ lower-reached)
+    lower-plain = rw lower (settled-plain n t (s .collection) (s .settled) _ lower-reached)
 
     pub lower-full : 6 ≤ length (nodeView t a .shown)
-    lower-full = rw lower (omega (arith, h .full))
+    lower-full = rw lower (omega (arith, s .node .full))
 
     -- B and the parent
     module _ {b : ℕ} (eb : b ≡ fresh t a) {p : ℕ} (ep : p ≡ standingIn (viewFrom t r) (l + 1) k) where
@@ -65,10 +62,10 @@ module _ {n : ℕ} {t : Words} {k l : ℕ} (s : Splittable n t k l) where
       above = rw add-one at (root-stands n t r er p (l + 1) k ep)
 
       pub upper-there : hasNode t b ≡ true
-      upper-there = rw (eb, lower) (fresh-there n t (h .collection) (h .settled) _ lower-reached (s .some))
+      upper-there = rw (eb, lower) (fresh-there n t (s .collection) (s .settled) _ lower-reached (s .some))
 
       pub parent-plain : Plain t p
-      parent-plain = rw above (settled-plain n t (h .collection) (h .settled) _ (standing-reached n t (h .collection) (h .settled) (suc l) k (h .high)))
+      parent-plain = rw above (settled-plain n t (s .collection) (s .settled) _ (standing-reached n t (s .collection) (s .settled) (suc l) k (s .node .high)))
 
       pub split-as : splitFor n t l k ≡ split t a b p
       split-as = rw (above, eb, lower)

@@ -27,7 +27,7 @@ use Rattle.cut_laws.specs.Unflushed.{storesIn}
 use Rattle.cut_laws.proofs.Applying.{length-apply, carry-stores, storesIn-take, storeCount-take-le}
 use Rattle.cut_laws.proofs.Docks.{list-stores}
 use Rattle.step_laws.proofs.LevelCourses.{Way}
-use Rattle.two_laws.proofs.TwoLaw.{seen}
+use Rattle.step_laws.proofs.TreeAt.{treeAt}
 use Rattle.two_laws.proofs.AcceptedTwo.{there, Accepted, accepted-iff}
 use Rattle.model.specs.Judge.{OldOrNew}
 use Rattle.two_laws.proofs.MapsTwo.{Steps, call-steps}
@@ -48,7 +48,7 @@ carried os ss t e c = carry-stores (take c os) t ∙ ap (λ (x : List Store). ap
 -- ---- stores of which each first part leaves a sound table with collection n, each level having its way
 
 module _ (n : ℕ) (t : Words) (ss : List Store) (s : (j : ℕ) → sound (apply (take j ss) t) ≡ true) (c : (j : ℕ) → noCollection n (apply (take j ss) t) ≡ false)
-    (ways : (l : ℕ) → Way (seen (rootWord n)) l t ss) where
+    (ways : (l : ℕ) → Way (treeAt (rootWord n)) l t ss) where
   abbrev w : ℕ → View
   w j = viewOf n (apply (take j ss) t)
 
@@ -68,16 +68,16 @@ module _ (n : ℕ) (t : Words) (ss : List Store) (s : (j : ℕ) → sound (apply
   arrives : (k l : ℕ) → Arrives w N k l
   arrives k l = go (ways l)
     where
-      go : Way (seen (rootWord n)) l t ss → Arrives w N k l
-      go (inl a) = history-arrives w N k o same-nodes l (stores-history (seen (rootWord n)) t ss o l a)
-      go (inr b) = skip-arrives w o l (stores-skip (seen (rootWord n)) t ss o l b) N k same-nodes
+      go : Way (treeAt (rootWord n)) l t ss → Arrives w N k l
+      go (inl a) = history-arrives w N k o same-nodes l (stores-history (treeAt (rootWord n)) t ss o l a)
+      go (inr b) = skip-arrives w o l (stores-skip (treeAt (rootWord n)) t ss o l b) N k same-nodes
 
   leaves : Leaves w
   leaves = go (ways 0)
     where
-      go : Way (seen (rootWord n)) 0 t ss → Leaves w
-      go (inl a) = history-leaves w o (stores-history (seen (rootWord n)) t ss o 0 a)
-      go (inr b) = skip-leaves w o (stores-skip (seen (rootWord n)) t ss o 0 b)
+      go : Way (treeAt (rootWord n)) 0 t ss → Leaves w
+      go (inl a) = history-leaves w o (stores-history (treeAt (rootWord n)) t ss o 0 a)
+      go (inr b) = skip-leaves w o (stores-skip (treeAt (rootWord n)) t ss o 0 b)
 
   module _ (os : List Order) (e : storesIn os ≡ ss) (moment : ℕ → ℕ) (f : Forward moment) where
     abbrev stores : ℕ → ℕ

@@ -21,12 +21,12 @@ use Rattle.list_laws.proofs.Slots.{place-length}
 use Rattle.tree_laws.proofs.Rows.{range-iff}
 use Rattle.word_laws.proofs.NewNodes.{length-node-words}
 use Rattle.cut_laws.proofs.Applying.{apply-append}
-use Rattle.two_laws.specs.Parts.{Enters, splitFor}
+use Rattle.two_laws.specs.Parts.{Enters, splitFor, Ready}
 use Rattle.two_laws.proofs.TwoLaw.{Tree}
 use Rattle.two_laws.proofs.Arrange.{Arr, arr-low, root-in, settled-tree, free-fresh}
 use Rattle.two_laws.proofs.SplitTwo.{length-split}
 use Rattle.two_laws.proofs.LeafStores.{in-reached, class-reached, Leaf, leaf-for}
-use Rattle.two_laws.proofs.InsertTwo.{stands-reached, ReadyIn, ready-next, first-others, splits-course, splits-room, root-first, first-root-others}
+use Rattle.two_laws.proofs.InsertTwo.{stands-reached, first-arr, ready-next, first-others, splits-course, splits-room, root-first, root-arr, first-root-others}
 use Rattle.two_laws.proofs.DeleteTwo.{stores-freeing, settled-others, settled-stays}
 use Rattle.two_laws.proofs.CallsTwo.{repairs, arranged, is-repaired}
 use Rattle.two_laws.proofs.AcceptedTwo.{there, accepted-iff}
@@ -51,19 +51,20 @@ new-stored b (w ∷ ws) us x some l h = λ e. stored-cons _ _ x .0 h .0 (e ∙ s
 
 -- ---- the splits
 
-splits-same : (m n : ℕ) (ws : List ℕ) (t : Words) (k x : ℕ) → ReadyIn m n ws t k → SameReach x (splits n m t k) t
+splits-same : (m n : ℕ) (ws : List ℕ) (t : Words) (k x : ℕ) → Arr (rootWord n) ws t → Ready m n t k → SameReach x (splits n m t k) t
 unfolding splits apply
-splits-same zero n ws t k x r = λ h. refl
-splits-same (suc l) n ws t k x r =
+splits-same zero n ws t k x arr r = λ h. refl
+splits-same (suc l) n ws t k x arr r =
     let a = standing n t l k in
     let b = fresh t a in
     let ss = splitFor n t l k in
-    let low = arr-low (rootWord n) ws t (r .arr) in
-    let free = free-fresh (rootWord n) ws t a (r .arr) (r .tree) (stands-reached n ws t low (r .tree) k l (omega (arith, r .high))) (omega (arith, r .enough)) in
+    let low = arr-low (rootWord n) ws t arr in
+    let f = settled-tree (rootWord n) ws t arr (r .settled) in
+    let free = free-fresh (rootWord n) ws t a arr f (stands-reached n ws t low f k l (omega (arith, r .high))) (omega (arith, r .enough)) in
     let some = range-iff _ b .0 (free .range) .0 in
     same-append x ss (splits n l (apply ss t) k) t
-    (λ h. first-others l n ws t k r x (unfold split in new-stored b (splitWords t a) _ x some (omega (arith, length-split t a)) h))
-    (splits-same l n ws (apply ss t) k x (ready-next l n ws t k r))
+    (λ h. first-others l n ws t k arr r x (unfold split in new-stored b (splitWords t a) _ x some (omega (arith, length-split t a)) h))
+    (splits-same l n ws (apply ss t) k x (first-arr l n ws t k arr r) (ready-next l n ws t k arr r))
 
 -- ---- the new root, where the run includes the root
 
@@ -96,12 +97,13 @@ insert-same n ws t k r c x arr f e =
     let m = run n t k in
     let t₁ = apply (rootStores n t k) t in
     let a = root-first n ws t k arr f (e .not-high) (e .enough) in
+    let i = root-arr n ws t k arr f (e .not-high) (e .enough) in
     let t₂ = apply (splits n m t₁ k) t₁ in
-    let leaf = leaf-for n t₂ k (splits-course m n ws t₁ k (a .1) .whole .left .orderly) in
+    let leaf = leaf-for n t₂ k (splits-course m n ws t₁ k i (a .1) .whole .left .orderly) in
     let y = standing n t₂ 0 k in
     same-append x (rootStores n t k) _ t (root-same n ws t k arr f (e .not-high) (e .enough) x)
-    (same-append x (splits n m t₁ k) _ t₁ (splits-same m n ws t₁ k x (a .1))
-    (same-exact x (shiftInAt t₂ y k (pointerOf r c)) t₂ (in-reached t₂ y (leaf .some) (leaf .level) k (pointerOf r c) (splits-room m n ws t₁ k (a .1)))))
+    (same-append x (splits n m t₁ k) _ t₁ (splits-same m n ws t₁ k x i (a .1))
+    (same-exact x (shiftInAt t₂ y k (pointerOf r c)) t₂ (in-reached t₂ y (leaf .some) (leaf .level) k (pointerOf r c) (splits-room m n ws t₁ k i (a .1)))))
 
 -- the leaf that a deletion empties is stored to
 out-stored : (t : Words) (x k : ℕ) (us : List Store) (y : ℕ) → Leaf t x → storedTo (shiftOutAt t x k ++ us) y ≡ false → y ≢ x

@@ -20,7 +20,7 @@ use Rattle.model.specs.Writes.{shiftOutAt, childBefore, freeStores}
 use Rattle.view_laws.proofs.NodeViews.{siblingOf, levelOf, shownOf}
 use Rattle.list_laws.proofs.Lists.{take-append}
 use Rattle.list_laws.proofs.Tools.{Each-append}
-use Rattle.list_laws.proofs.Members.{each-mem, each-take, each-drop}
+use Rattle.list_laws.proofs.Members.{each-mem, each-take, each-drop, mem-each}
 use Rattle.list_laws.proofs.Distinct.{distinct-middle}
 use Rattle.list_laws.proofs.Steps.{Until, AtFirst, first-map}
 use Rattle.table_laws.proofs.Nodes.{has-node-iff}
@@ -47,8 +47,7 @@ use Rattle.step_laws.proofs.SlotCourses.{hidden-quiet, slots-still, slo
 use Rattle.step_laws.proofs.LinkCourses.{splice-cases}
 use Rattle.step_laws.proofs.Repair.{sibling-some, a-reached}
 use Rattle.step_laws.proofs.Views.{changed-view, shown-view, same-view, view-fine, view-sound, view-same, Usable, reached-usable, shown-few}
-use Rattle.step_laws.proofs.Seen.{Off, Side, treeOf, Fine, mapOf, same-word}
-use Rattle.list_laws.proofs.Members.{mem-each}
+use Rattle.step_laws.proofs.TreeAt.{Avoids, treeAt, Fine, mapAt, same-word}
 
 -- what holds before, between and after the stores alike
 first-until : (P : Words → Type 0) (qs : List Store) (t : Words) → AtFirst doStore P P P qs t → Until doStore P P qs t
@@ -61,24 +60,24 @@ same-from l v v′ w e s = rw e s
 skipped-is : (l a b : ℕ) (v v′ w w′ : View) → v ≡ v′ → w ≡ w′ → Skipped l a b v′ w′ → Skipped l a b v w
 skipped-is l a b v v′ w w′ e f s = rw (e, f) s
 
-module _ (sd : Side) where
+-- x lacks its slot in p, an ordinary leftover, and every node that t reaches is reached
+pub record Lacks (w : ℕ) (t : Words) (p x : ℕ) (t′ : Words) : Type 0 where
+  pub leftover : (leftover (treeAt w t′) ≡ some (bothIn p (childBefore (treeAt w t) p x))) ⊎ (leftover (treeAt w t′) ≡ some (missingIn p (childBefore (treeAt w t) p x) false))
+  pub reached : reached (treeAt w t′) ≡ reached (treeAt w t)
+
+module _ (w : ℕ) (ns : List ℕ) where
   -- p, on level 1, has the empty leaf x as the child of the slot whose key is x's fence
   pub record Freeable (t : Words) (p x : ℕ) : Type 0 where
-    pub settled : Fine sd t nothing
-    pub parent : List·Memᴰ p (reached (treeOf sd t))
+    pub settled : Fine w ns t nothing
+    pub parent : List·Memᴰ p (reached (treeAt w t))
     pub level : nodeView t p .level ≡ 1
     pub there : placeOf (nodeView t x .fence) (nodeView t p .shown) < length (nodeView t p .shown)
     pub child : getD (nodeView t p .shown) (placeOf (nodeView t x .fence) (nodeView t p .shown)) (slot 0 0) .pointer ≡ x
     pub empty : nodeView t x .shown ≡ []
 
-  -- x lacks its slot in p, an ordinary leftover, and every node that t reaches is reached
-  pub record Lacks (t : Words) (p x : ℕ) (t′ : Words) : Type 0 where
-    pub leftover : (leftover (treeOf sd t′) ≡ some (bothIn p (childBefore (treeOf sd t) p x))) ⊎ (leftover (treeOf sd t′) ≡ some (missingIn p (childBefore (treeOf sd t) p x) false))
-    pub reached : reached (treeOf sd t′) ≡ reached (treeOf sd t)
-
   module _ (t : Words) (p x : ℕ) (h : Freeable t p x) where
     abbrev v : View
-    v = treeOf sd t
+    v = treeAt w t
 
     abbrev k : ℕ
     k = v .node x .fence
@@ -101,11 +100,11 @@ module _ (sd : Side) where
     abbrev less : View
     less = withShown v p (low ++ high)
 
-    fine : Fine sd t nothing
+    fine : Fine w ns t nothing
     fine = h .settled
 
     use-p : Usable t p
-    use-p = reached-usable sd t p (fine .header) (fine .left .orderly) (h .parent)
+    use-p = reached-usable w t p (fine .header) (fine .left .orderly) (h .parent)
 
     fin : NothingUnfinished v p
     fin = each-mem (NothingUnfinished v) (all-finished v (fine .left)) (h .parent)
@@ -139,22 +138,23 @@ module _ (sd : Side) where
     stores-some : 0 < length (shiftOutAt t p k)
     stores-some = unfold shiftOutAt shiftOut in omega arith
 
-    unchanged : (t′ : Words) → Changed t p ss 0 t′ → SoundWith sd (mapOf sd t) t′
-    unchanged t′ c = view-same sd t t′ nothing fine (same-view sd (fine .low) t p ss 0 t′ c refl (fin .shows)) (c .header)
+    unchanged : (t′ : Words) → Changed t p ss 0 t′ → SoundWith w ns (mapAt w t) t′
+    unchanged t′ c = view-same w ns t t′ nothing fine (same-view w (fine .low) t p ss 0 t′ c refl (fin .shows)) (c .header)
 
-    hiding : (t′ : Words) → Changed t p (withoutSlot t p k) 1 t′ → SoundWith sd (mapOf sd t) t′
+    hiding : (t′ : Words) → Changed t p (withoutSlot t p k) 1 t′ → SoundWith w ns (mapAt w t) t′
     hiding t′ c =
         let b = hide-missing less p a (det .left) in
-        view-sound sd t t′ (withHidden less p 1) (changed-view sd (fine .low) t p (withoutSlot t p k) 1 t′ c) (c .header) fine (bothIn p a) (b .left) (b .room roomy) (rw (b .reached, det .reached) (fine .off)) (mapOf sd t) (b .mapping ∙ det .mapping)
+        view-sound w ns t t′ (withHidden less p 1) (changed-view w (fine .low) t p (withoutSlot t p k) 1 t′ c) (c .header) fine
+        (bothIn p a) (b .left) (b .room roomy) (rw (b .reached, det .reached) (fine .apart)) (mapAt w t) (b .mapping ∙ det .mapping)
 
-    gone : (t′ : Words) → Changed t p (withoutSlot t p k) 0 t′ → SoundWith sd (mapOf sd t) t′
-    gone t′ c = view-sound sd t t′ less (shown-view sd (fine .low) t p (withoutSlot t p k) 0 t′ c (fin .shows)) (c .header) fine (missingIn p a false) (det .left) roomy (rw (det .reached) (fine .off)) (mapOf sd t) (det .mapping)
+    gone : (t′ : Words) → Changed t p (withoutSlot t p k) 0 t′ → SoundWith w ns (mapAt w t) t′
+    gone t′ c = view-sound w ns t t′ less (shown-view w (fine .low) t p (withoutSlot t p k) 0 t′ c (fin .shows)) (c .header) fine (missingIn p a false) (det .left) roomy (rw (det .reached) (fine .apart)) (mapAt w t) (det .mapping)
 
-    out-stage : Stage sd 25 t (shiftOutAt t p k)
+    out-stage : Stage w ns 25 t (shiftOutAt t p k)
     out-stage =
         let few = shown-few t p (use-p .clear) in
-        let P : Words → Type 0 = SoundWith sd (mapOf sd t) in
-        stage-until sd 25 t (shiftOutAt t p k) (shift-out-few t p k few (h .there)) (shift-out-inside t p k few (h .there) (use-p .there))
+        let P : Words → Type 0 = SoundWith w ns (mapAt w t) in
+        stage-until w ns 25 t (shiftOutAt t p k) (shift-out-few t p k few (h .there)) (shift-out-inside t p k few (h .there) (use-p .there))
         (first-until P (shiftOutAt t p k) t (first-map doStore _ P _ P _ P unchanged hiding gone (shiftOutAt t p k) t shifting))
 
     -- ---- the left neighbour's sibling := x's
@@ -165,11 +165,11 @@ module _ (sd : Side) where
     out-changed : Changed t p (withoutSlot t p k) 0 t₁
     out-changed = after-first (Changed t p ss 0) (Changed t p (withoutSlot t p k) 1) (Changed t p (withoutSlot t p k) 0) (shiftOutAt t p k) t shifting stores-some
 
-    seen₁ : treeOf sd t₁ ≡ less
-    seen₁ = shown-view sd (fine .low) t p (withoutSlot t p k) 0 t₁ out-changed (fin .shows)
+    seen₁ : treeAt w t₁ ≡ less
+    seen₁ = shown-view w (fine .low) t p (withoutSlot t p k) 0 t₁ out-changed (fin .shows)
 
-    fine₁ : Fine sd t₁ (missingIn p a false)
-    fine₁ = view-fine sd t t₁ less seen₁ (out-changed .header) fine (missingIn p a false) (det .left) roomy (rw (det .reached) (fine .off))
+    fine₁ : Fine w ns t₁ (missingIn p a false)
+    fine₁ = view-fine w ns t t₁ less seen₁ (out-changed .header) fine (missingIn p a false) (det .left) roomy (rw (det .reached) (fine .apart))
 
     a-child : List·Memᴰ a (children v p)
     a-child = before-child v p low sl high (fine .left) (h .parent) 0 (h .level) shape
@@ -193,13 +193,13 @@ module _ (sd : Side) where
     reached-over = subst (λ (n : ℕ). reached less ≡ splice a n (reached (withSibling less a (v .node n .sibling)))) next
         (unlink-reached less p a (det .left) a-leaf (ap (shownOf less) next ∙ update-off (shownOf v) p (low ++ high) x apart ∙ h .empty))
 
-    over-off : Off sd over
-    over-off =
-        let e : Off sd less = rw (det .reached) (fine .off) in
-        mem-each (λ (n : ℕ). elem n (sd .others) ≡ false) (reached over) (λ n m. let y : List·Memᴰ n (reached less) = rw reached-over (mem-splice a x n (reached over) m) in each-mem (λ (n : ℕ). elem n (sd .others) ≡ false) e y)
+    over-apart : Avoids ns over
+    over-apart =
+        let e : Avoids ns less = rw (det .reached) (fine .apart) in
+        mem-each (λ (n : ℕ). elem n ns ≡ false) (reached over) (λ n m. let y : List·Memᴰ n (reached less) = rw reached-over (mem-splice a x n (reached over) m) in each-mem (λ (n : ℕ). elem n ns ≡ false) e y)
 
     has-a : hasNode t₁ a ≡ true
-    has-a = reached-usable sd t₁ a (fine₁ .header) (fine₁ .left .orderly) (rw (ap reached seen₁ ∙ det .reached) (child-reached v p a (fine .left .orderly) (h .parent) a-child)) .there
+    has-a = reached-usable w t₁ a (fine₁ .header) (fine₁ .left .orderly) (rw (ap reached seen₁ ∙ det .reached) (child-reached v p a (fine .left .orderly) (h .parent) a-child)) .there
 
     abbrev t₂ : Words
     t₂ = set t₁ (suc (nodeStart a)) (v .node x .sibling)
@@ -207,24 +207,24 @@ module _ (sd : Side) where
     header₂ : SameHeader t₁ t₂
     header₂ = sibling-header t₁ a (v .node x .sibling) has-a
 
-    seen₂ : treeOf sd t₂ ≡ withSibling less a (v .node x .sibling)
+    seen₂ : treeAt w t₂ ≡ withSibling less a (v .node x .sibling)
     seen₂ =
-        sibling-change (treeOf sd t₁) (treeOf sd t₂) a (v .node x .sibling) (same-nodes header₂) (same-word sd (fine .low) header₂) (sibling-view t₁ a (v .node x .sibling) has-a)
+        sibling-change (treeAt w t₁) (treeAt w t₂) a (v .node x .sibling) (same-nodes header₂) (same-word w (fine .low) header₂) (sibling-view t₁ a (v .node x .sibling) has-a)
         ∙ ap (λ (w : View). withSibling w a (v .node x .sibling)) seen₁
 
-    settles : SettledWith sd (mapOf sd t) t₂
+    settles : SettledWith w ns (mapAt w t) t₂
     settles =
-        let f = view-fine sd t₁ t₂ (withSibling less a (v .node x .sibling)) seen₂ header₂ fine₁ nothing (gap .left) refl over-off in
+        let f = view-fine w ns t₁ t₂ (withSibling less a (v .node x .sibling)) seen₂ header₂ fine₁ nothing (gap .left) refl over-apart in
         (f, ap mapping seen₂ ∙ gap .mapping ∙ det .mapping)
 
-    link-phase : Phase sd 2 t₁ (put (suc (nodeStart a)) (v .node x .sibling) ∷ []) (mapOf sd t)
-    link-phase = phase-until sd 2 t₁ (put (suc (nodeStart a)) (v .node x .sibling) ∷ []) (unfold orders ordersAfter in omega arith) (unfold nodeStart in omega (arith, has-node-iff t₁ a .0 has-a), tt) (mapOf sd t)
+    link-phase : Phase w ns 2 t₁ (put (suc (nodeStart a)) (v .node x .sibling) ∷ []) (mapAt w t)
+    link-phase = phase-until w ns 2 t₁ (put (suc (nodeStart a)) (v .node x .sibling) ∷ []) (unfold orders ordersAfter in omega arith) (unfold nodeStart in omega (arith, has-node-iff t₁ a .0 has-a), tt) (mapAt w t)
         (((missingIn p a false, fine₁), refl), settles)
 
     -- An empty leaf is freed: every first part of the stores leaves a sound table with the same map, and all of them a settled one.
-    pub free-phase : Phase sd 27 t (freeStores t p x) (mapOf sd t)
+    pub free-phase : Phase w ns 27 t (freeStores t p x) (mapAt w t)
     unfolding freeStores childBefore
-    free-phase = stage-phase sd 25 2 t (shiftOutAt t p k) (put (suc (nodeStart a)) (v .node x .sibling) ∷ []) (mapOf sd t) out-stage link-phase
+    free-phase = stage-phase w ns 25 2 t (shiftOutAt t p k) (put (suc (nodeStart a)) (v .node x .sibling) ∷ []) (mapAt w t) out-stage link-phase
 
     -- ---- what it leaves
 
@@ -232,34 +232,34 @@ module _ (sd : Side) where
     unfolding freeStores childBefore apply
     whole = apply-append (shiftOutAt t p k) (put (suc (nodeStart a)) (v .node x .sibling) ∷ []) t
 
-    seen : treeOf sd (apply (freeStores t p x) t) ≡ withSibling less a (v .node x .sibling)
-    seen = ap (treeOf sd) whole ∙ seen₂
+    seen : treeAt w (apply (freeStores t p x) t) ≡ withSibling less a (v .node x .sibling)
+    seen = ap (treeAt w) whole ∙ seen₂
 
     -- The leaf is reached no more, and no other node is lost.
-    pub free-unreached : elem x (reached (treeOf sd (apply (freeStores t p x) t))) ≡ false
+    pub free-unreached : elem x (reached (treeAt w (apply (freeStores t p x) t))) ≡ false
     free-unreached = ap (λ (w : View). elem x (reached w)) seen ∙ gap .freed
 
-    pub free-fewer : length (reached (treeOf sd t)) ≡ suc (length (reached (treeOf sd (apply (freeStores t p x) t))))
+    pub free-fewer : length (reached (treeAt w t)) ≡ suc (length (reached (treeAt w (apply (freeStores t p x) t))))
     free-fewer = ap length (sym (det .reached)) ∙ gap .fewer ∙ ap (λ (w : View). suc (length (reached w))) (sym seen)
 
-    pub free-others : (n : ℕ) → n ≢ x → elem n (reached (treeOf sd (apply (freeStores t p x) t))) ≡ elem n (reached (treeOf sd t))
+    pub free-others : (n : ℕ) → n ≢ x → elem n (reached (treeAt w (apply (freeStores t p x) t))) ≡ elem n (reached (treeAt w t))
     free-others n z = ap (λ (w : View). elem n (reached w)) seen ∙ gap .others n z ∙ ap (elem n) (det .reached)
 
     -- the left neighbour, which the last store is to
-    pub neighbour-reached : List·Memᴰ (childBefore (treeOf sd t) p x) (reached (treeOf sd t))
+    pub neighbour-reached : List·Memᴰ (childBefore (treeAt w t) p x) (reached (treeAt w t))
     unfolding childBefore
     neighbour-reached = child-reached v p a (fine .left .orderly) (h .parent) a-child
 
     -- ---- a cut in between
 
-    hidden-left : (t′ : Words) → Changed t p (withoutSlot t p k) 1 t′ → Lacks t p x t′
+    hidden-left : (t′ : Words) → Changed t p (withoutSlot t p k) 1 t′ → Lacks w t p x t′
     unfolding childBefore
     hidden-left t′ c =
         let b = hide-missing less p a (det .left) in
-        let e = changed-view sd (fine .low) t p (withoutSlot t p k) 1 t′ c in
+        let e = changed-view w (fine .low) t p (withoutSlot t p k) 1 t′ c in
         record { leftover = inl (ap leftover e ∙ has-left-iff (withHidden less p 1) (bothIn p a) .1 (b .left) .1); reached = ap reached e ∙ b .reached ∙ det .reached }
 
-    missing-left : Lacks t p x t₁
+    missing-left : Lacks w t p x t₁
     unfolding childBefore
     missing-left = record { leftover = inr (ap leftover seen₁ ∙ has-left-iff less (missingIn p a false) .1 (det .left) .1); reached = ap reached seen₁ ∙ det .reached }
 
@@ -271,10 +271,10 @@ module _ (sd : Side) where
         take-append j (shiftOutAt t p k) ps ∙ ap (λ (m : ℕ). take j (shiftOutAt t p k) ++ take m ps) n ∙ append-nil (take j (shiftOutAt t p k))
 
     -- After the parent's first store and before the last one x lacks its slot.
-    pub free-cut : (j : ℕ) → 0 < j → j < length (freeStores t p x) → Lacks t p x (apply (take j (freeStores t p x)) t)
+    pub free-cut : (j : ℕ) → 0 < j → j < length (freeStores t p x) → Lacks w t p x (apply (take j (freeStores t p x)) t)
     free-cut j g i = rw (first-parts j i) (go (ltb j (length (shiftOutAt t p k))) refl)
       where
-        go : (b : Bool) → ltb j (length (shiftOutAt t p k)) ≡ b → Lacks t p x (apply (take j (shiftOutAt t p k)) t)
+        go : (b : Bool) → ltb j (length (shiftOutAt t p k)) ≡ b → Lacks w t p x (apply (take j (shiftOutAt t p k)) t)
         go true e = hidden-left _ (between-first (Changed t p ss 0) (Changed t p (withoutSlot t p k) 1) (Changed t p (withoutSlot t p k) 0) (shiftOutAt t p k) t shifting j g (ltb-true j (length (shiftOutAt t p k)) e))
         go false e = rw (take-all j (shiftOutAt t p k) (ltb-false j (length (shiftOutAt t p k)) e)) missing-left
 
@@ -284,12 +284,12 @@ module _ (sd : Side) where
     level-p l z e = z (omega (arith, h .level))
 
     -- every level stays, and only level 0 has a node that lacks its slot
-    out-calm : (l j : ℕ) → CalmAt (treeOf sd) p l t (apply (take j (shiftOutAt t p k)) t)
-    out-calm l = each-first-part (CalmAt (treeOf sd) p l t) (shiftOutAt t p k) t (first-map doStore _ (CalmAt (treeOf sd) p l t) _ (CalmAt (treeOf sd) p l t) _ (CalmAt (treeOf sd) p l t)
-        (λ t′ c. let q = hidden-quiet sd (fine .low) t p l (none-straight v (fine .left .left .2) l) 0 t′ c in record { same = q .same; straight = λ z. q .straight }) (calm 1) (calm 0) (shiftOutAt t p k) t shifting)
+    out-calm : (l j : ℕ) → CalmAt (treeAt w) p l t (apply (take j (shiftOutAt t p k)) t)
+    out-calm l = each-first-part (CalmAt (treeAt w) p l t) (shiftOutAt t p k) t (first-map doStore _ (CalmAt (treeAt w) p l t) _ (CalmAt (treeAt w) p l t) _ (CalmAt (treeAt w) p l t)
+        (λ t′ c. let q = hidden-quiet w (fine .low) t p l (none-straight v (fine .left .left .2) l) 0 t′ c in record { same = q .same; straight = λ z. q .straight }) (calm 1) (calm 0) (shiftOutAt t p k) t shifting)
       where
-        calm : (i : ℕ) (t′ : Words) → Changed t p (withoutSlot t p k) i t′ → CalmAt (treeOf sd) p l t t′
-        calm i t′ c = record { same = slots-still sd (fine .low) t p l _ i t′ c (det .reached); straight = λ z. slots-quiet sd (fine .low) t p l _ i t′ c (det .reached) (only-straight less p a (det .left .left .2) l z) .straight }
+        calm : (i : ℕ) (t′ : Words) → Changed t p (withoutSlot t p k) i t′ → CalmAt (treeAt w) p l t t′
+        calm i t′ c = record { same = slots-still w (fine .low) t p l _ i t′ c (det .reached); straight = λ z. slots-quiet w (fine .low) t p l _ i t′ c (det .reached) (only-straight less p a (det .left .left .2) l z) .straight }
 
     a-row : OnRow less 0 a
     a-row = (a-reached less p a (det .left .orderly) (det .left .left .2), a-leaf)
@@ -322,15 +322,15 @@ module _ (sd : Side) where
       sibling = λ n r. update-off (siblingOf v) a (v .node x .sibling) n (λ e. z (sym (r .1) ∙ ap (levelOf v) e ∙ a-leaf));
     }
 
-    pub free-quiet : (l : ℕ) → l ≢ 0 → Quiet (treeOf sd) l t (freeStores t p x)
+    pub free-quiet : (l : ℕ) → l ≢ 0 → Quiet (treeAt w) l t (freeStores t p x)
     unfolding freeStores childBefore
-    free-quiet l z = quiet-append (treeOf sd) l t (shiftOutAt t p k) (put (suc (nodeStart a)) (v .node x .sibling) ∷ []) (calm-quiet (treeOf sd) p l t _ (out-calm l) (level-p l z))
-        (each-part (QuietAt (treeOf sd) l t₁) (put (suc (nodeStart a)) (v .node x .sibling) ∷ []) t₁ (
-          record { same = same-refl l (treeOf sd t₁); straight = whole-part (CalmAt (treeOf sd) p l t) (shiftOutAt t p k) t (out-calm l) .straight (level-p l z) },
-          seen-quiet sd l t₁ t₂ over seen₂ (same-from l (treeOf sd t₁) less over seen₁ (unlink-same l z)) (none-straight over (gap .left .left .2) l),
+    free-quiet l z = quiet-append (treeAt w) l t (shiftOutAt t p k) (put (suc (nodeStart a)) (v .node x .sibling) ∷ []) (calm-quiet (treeAt w) p l t _ (out-calm l) (level-p l z))
+        (each-part (QuietAt (treeAt w) l t₁) (put (suc (nodeStart a)) (v .node x .sibling) ∷ []) t₁ (
+          record { same = same-refl l (treeAt w t₁); straight = whole-part (CalmAt (treeAt w) p l t) (shiftOutAt t p k) t (out-calm l) .straight (level-p l z) },
+          seen-quiet w l t₁ t₂ over seen₂ (same-from l (treeAt w t₁) less over seen₁ (unlink-same l z)) (none-straight over (gap .left .left .2) l),
         ))
 
-    pub free-skip : Skip (treeOf sd) 0 t (freeStores t p x)
+    pub free-skip : Skip (treeAt w) 0 t (freeStores t p x)
     unfolding freeStores childBefore
     free-skip = record {
       a = a;
@@ -338,6 +338,6 @@ module _ (sd : Side) where
       before = shiftOutAt t p k;
       it = put (suc (nodeStart a)) (v .node x .sibling);
       shape = refl;
-      still = calm-still (treeOf sd) p 0 t _ (out-calm 0);
-      skips = skipped-is 0 a x (treeOf sd t₁) less (treeOf sd t₂) over seen₁ seen₂ skipped;
+      still = calm-still (treeAt w) p 0 t _ (out-calm 0);
+      skips = skipped-is 0 a x (treeAt w t₁) less (treeAt w t₂) over seen₁ seen₂ skipped;
     }

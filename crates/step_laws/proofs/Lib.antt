@@ -1,5 +1,5 @@
 -- Every store of every write.
-pub mod Seen
+pub mod TreeAt
 pub mod Phase
 pub mod Stages
 pub mod Bounds

@@ -15,8 +15,8 @@ use Rattle.model.specs.Reached.{reached}
 use Rattle.model.specs.SoundTest.{elem, nothing}
 use Rattle.model.specs.Writes.{putAll}
 use Rattle.view_laws.proofs.NodeViews.{siblingOf, levelOf, AllBut, level-eq, fence-eq, sibling-eq}
-use Rattle.list_laws.proofs.Tools.{or-right, at-or-off}
-use Rattle.list_laws.proofs.Members.{elem-none}
+use Rattle.list_laws.proofs.Tools.{or-right, at-or-off, Each}
+use Rattle.list_laws.proofs.Members.{elem-none, each-mem, mem-each}
 use Rattle.list_laws.proofs.Distinct.{once}
 use Rattle.list_laws.proofs.Steps.{until-map}
 use Rattle.word_laws.proofs.Stores.{doStore}
@@ -37,9 +37,7 @@ use Rattle.step_laws.proofs.WholeNode.{free-stays}
 use Rattle.step_laws.proofs.Standing.{stands}
 use Rattle.step_laws.proofs.Rowwise.{OnRow, Same, Straight, Comes, same-views, none-straight, stands-comes}
 use Rattle.step_laws.proofs.LevelCourses.{QuietAt, Quiet, Crosses, each-part}
-use Rattle.step_laws.proofs.Seen.{Side, treeOf, Fine}
-use Rattle.list_laws.proofs.Tools.{Each}
-use Rattle.list_laws.proofs.Members.{each-mem, mem-each}
+use Rattle.step_laws.proofs.TreeAt.{treeAt, Fine}
 
 -- ---- what changes only in a node that is not reached: a free one, or one of another tree
 
@@ -144,18 +142,18 @@ module _ (v : View) (A B : ℕ) (low : List Slot) (s : Slot) (high : List Slot) 
   pub link-crosses : Crosses (v .node A .level) v (withSibling v A B)
   link-crosses = record { row = keep (v .node A .level); fence = λ n r. refl; leads = leads }
 
-module _ (sd : Side) where
+module _ (w : ℕ) (ns : List ℕ) where
   -- ---- the words of a free node
 
-  module _ (t : Words) (b : ℕ) (s : Fine sd t nothing) (f : Free sd t b) where
-    free-quiet : (l : ℕ) (t′ : Words) → Elsewhere b t t′ → QuietAt (treeOf sd) l t t′
+  module _ (t : Words) (b : ℕ) (s : Fine w ns t nothing) (f : Free w ns t b) where
+    free-quiet : (l : ℕ) (t′ : Words) → Elsewhere b t t′ → QuietAt (treeAt w) l t t′
     free-quiet l t′ o =
-        let u = free-stays sd t b s f t′ o in
+        let u = free-stays w ns t b s f t′ o in
         record {
-          same = same-views (treeOf sd t) (treeOf sd t′) (u .reached) (λ n m. let q = u .node .else n (free-other sd t b s f n m) in (level-eq q, fence-eq q, sibling-eq q)) l;
-          straight = none-straight (treeOf sd t′) (u .fine .left .left .2) l;
+          same = same-views (treeAt w t) (treeAt w t′) (u .reached) (λ n m. let q = u .node .else n (free-other w ns t b s f n m) in (level-eq q, fence-eq q, sibling-eq q)) l;
+          straight = none-straight (treeAt w t′) (u .fine .left .left .2) l;
         }
 
-    pub whole-quiet : (ws : Words) → length ws ≡ 32 → (l : ℕ) → Quiet (treeOf sd) l t (putAll (nodeStart b) ws)
-    whole-quiet ws e l = each-part (QuietAt (treeOf sd) l t) (putAll (nodeStart b) ws) t
-        (until-map doStore (Elsewhere b t) (QuietAt (treeOf sd) l t) (Elsewhere b t) (QuietAt (treeOf sd) l t) (free-quiet l) (free-quiet l) (putAll (nodeStart b) ws) t (put-all-along t b ws (omega arith)))
+    pub whole-quiet : (ws : Words) → length ws ≡ 32 → (l : ℕ) → Quiet (treeAt w) l t (putAll (nodeStart b) ws)
+    whole-quiet ws e l = each-part (QuietAt (treeAt w) l t) (putAll (nodeStart b) ws) t
+        (until-map doStore (Elsewhere b t) (QuietAt (treeAt w) l t) (Elsewhere b t) (QuietAt (treeAt w) l t) (free-quiet l) (free-quiet l) (putAll (nodeStart b) ws) t (put-all-along t b ws (omega arith)))

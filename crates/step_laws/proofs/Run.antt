@@ -16,7 +16,7 @@ use Rattle.list_laws.proofs.Members.{each-index, each-at}
 use Rattle.tree_laws.proofs.SearchLaw.{path-length}
 use Rattle.step_laws.proofs.Views.{reached-usable, shown-few}
 use Rattle.step_laws.proofs.Standing.{standing-stands}
-use Rattle.step_laws.proofs.Seen.{Side, treeOf, Fine, standing, runOf}
+use Rattle.step_laws.proofs.TreeAt.{treeAt, Fine, standingAt, runAt}
 
 -- ---- of any list of nodes
 
@@ -54,26 +54,26 @@ run-ends v (n ∷ ns) = go (all (isFull v) (n ∷ ns)) refl (run-ends v ns)
         stops zero e = first-not (isFull v n) (all (isFull v) ns) (unfold all in c) (all-each (isFull v) ns .1 (each-index (λ (m : ℕ). isFull v m ≡ true) ns 0 (λ i h. ih .full i h (omega arith))))
         stops (suc i) e = ih .stop i (omega arith)
 
-module _ (sd : Side) where
+module _ (w : ℕ) (ns : List ℕ) where
   -- ---- of the path to k
 
-  module _ (t : Words) (s : Fine sd t nothing) (k : ℕ) where
-    ends : Ends (treeOf sd t) (path (treeOf sd t) k) (runOf sd t k)
-    ends = run-ends (treeOf sd t) (path (treeOf sd t) k)
+  module _ (t : Words) (s : Fine w ns t nothing) (k : ℕ) where
+    ends : Ends (treeAt w t) (path (treeAt w t) k) (runAt w t k)
+    ends = run-ends (treeAt w t) (path (treeAt w t) k)
 
-    pub run-short : runOf sd t k ≤ suc (height (treeOf sd t))
-    run-short = omega (arith, ends .short, path-length (treeOf sd t) k)
+    pub run-short : runAt w t k ≤ suc (height (treeAt w t))
+    run-short = omega (arith, ends .short, path-length (treeAt w t) k)
 
-    pub run-full : (l : ℕ) → l < runOf sd t k → length (nodeView t (standing sd t l k) .shown) ≡ 11
+    pub run-full : (l : ℕ) → l < runAt w t k → length (nodeView t (standingAt w t l k) .shown) ≡ 11
     unfolding standingIn full
-    run-full l h = eqb-true _ 11 (ends .full (height (treeOf sd t) - l) (omega (arith, path-length (treeOf sd t) k)) (omega (arith, path-length (treeOf sd t) k, run-short)))
+    run-full l h = eqb-true _ 11 (ends .full (height (treeAt w t) - l) (omega (arith, path-length (treeAt w t) k)) (omega (arith, path-length (treeAt w t) k, run-short)))
 
     -- where the run does not include the root, the node above it has room
-    pub run-above : runOf sd t k ≤ height (treeOf sd t) → length (nodeView t (standing sd t (runOf sd t k) k) .shown) ≤ 10
+    pub run-above : runAt w t k ≤ height (treeAt w t) → length (nodeView t (standingAt w t (runAt w t k) k) .shown) ≤ 10
     unfolding standingIn full
     run-above h =
-        let n = runOf sd t k in
-        let z = eqb-false (length (nodeView t (standing sd t n k) .shown)) 11 (ends .stop (height (treeOf sd t) - n) (omega (arith, path-length (treeOf sd t) k))) in
+        let n = runAt w t k in
+        let z = eqb-false (length (nodeView t (standingAt w t n k) .shown)) 11 (ends .stop (height (treeAt w t) - n) (omega (arith, path-length (treeAt w t) k))) in
         let f = s in
-        let m = shown-few t (standing sd t n k) (reached-usable sd t (standing sd t n k) (f .header) (f .left .orderly) (standing-stands sd t s k n h .reached) .clear) in
+        let m = shown-few t (standingAt w t n k) (reached-usable w t (standingAt w t n k) (f .header) (f .left .orderly) (standing-stands w ns t s k n h .reached) .clear) in
         omega (arith, z, m)

@@ -5,7 +5,7 @@ use Prim.Native.Nat.{ℕ, suc, _+_, _*_, _≤_}
 use native.Mathlib.Omega.{arith}
 use lib.ListN.{length}
 use Rattle.model.specs.Table.{Words, line, nodeStart}
-use Rattle.model.specs.Slots.{Slot, NodeView, nodeView, view}
+use Rattle.model.specs.Slots.{Slot, NodeView, nodeView}
 use Rattle.model.specs.Reached.{reached}
 use Rattle.model.specs.SoundTest.{nothing}
 use Rattle.model.specs.Orders.{Store, put, apply, orders}
@@ -25,9 +25,8 @@ use Rattle.cut_laws.specs.Inside.{StoresInside}
 use Rattle.change_laws.proofs.Unreached.{unreached-keeps}
 use Rattle.step_laws.proofs.Stages.{SoundWith, Stage, stage-until}
 use Rattle.step_laws.proofs.Views.{view-fine}
-use Rattle.step_laws.proofs.Fresh.{Free}
-use Rattle.step_laws.proofs.Seen.{Side, treeOf, Fine, mapOf, same-word}
-use Rattle.step_laws.proofs.Fresh.{free-some, free-there}
+use Rattle.step_laws.proofs.Fresh.{Free, free-some, free-there}
+use Rattle.step_laws.proofs.TreeAt.{treeAt, Fine, mapAt, same-word}
 
 -- ---- orders
 
@@ -62,25 +61,25 @@ put-all-few b (x ∷ ws) e =
     let f = orders-flushCount (put w x) rest in
     unfold putAll lineChanges in omega (arith, orders-length (put w x ∷ rest), n, f, c)
 
-module _ (sd : Side) where
+module _ (w : ℕ) (ns : List ℕ) where
   -- ---- the view
 
   -- t′ is t but that the free node b is n
   pub record Stays (t : Words) (b : ℕ) (n : NodeView) (t′ : Words) : Type 0 where
-    pub fine : Fine sd t′ nothing
-    pub mapping : mapOf sd t′ ≡ mapOf sd t
-    pub reached : reached (treeOf sd t′) ≡ reached (treeOf sd t)
+    pub fine : Fine w ns t′ nothing
+    pub mapping : mapAt w t′ ≡ mapAt w t
+    pub reached : reached (treeAt w t′) ≡ reached (treeAt w t)
     pub header : SameHeader t t′
     pub node : ButAt (nodeView t) (nodeView t′) b n
 
   -- Whatever a free node holds, the table is settled, with the same map and the same nodes reached.
-  pub free-stays : (t : Words) (b : ℕ) → Fine sd t nothing → Free sd t b → (t′ : Words) → Elsewhere b t t′ → Stays t b (nodeView t′ b) t′
+  pub free-stays : (t : Words) (b : ℕ) → Fine w ns t nothing → Free w ns t b → (t′ : Words) → Elsewhere b t t′ → Stays t b (nodeView t′ b) t′
   free-stays t b s f t′ o =
       let h = else-header t t′ b o in
-      let e = view-else t t′ b o (has-node-iff t b .0 (free-there sd t b s f) .0) in
-      let k = unreached-keeps (treeOf sd t) (treeOf sd t′) b (same-nodes h) (same-word sd (s .low) h) e nothing (s .left) (free-some sd t b f) (f .unreached) in
+      let e = view-else t t′ b o (has-node-iff t b .0 (free-there w ns t b s f) .0) in
+      let k = unreached-keeps (treeAt w t) (treeAt w t′) b (same-nodes h) (same-word w (s .low) h) e nothing (s .left) (free-some w ns t b f) (f .unreached) in
       record {
-        fine = view-fine sd t t′ (treeOf sd t′) refl h s nothing (k .left) refl (rw (k .reached) (s .off));
+        fine = view-fine w ns t t′ (treeAt w t′) refl h s nothing (k .left) refl (rw (k .reached) (s .apart));
         mapping = k .mapping;
         reached = k .reached;
         header = h;
@@ -89,7 +88,7 @@ module _ (sd : Side) where
 
   -- ---- the stores
 
-  module _ (t : Words) (b left sibling level fence : ℕ) (ss : List Slot) (s : Fine sd t nothing) (f : Free sd t b) where
+  module _ (t : Words) (b left sibling level fence : ℕ) (ss : List Slot) (s : Fine w ns t nothing) (f : Free w ns t b) where
     abbrev words : Words
     words = nodeWords left sibling level fence ss
 
@@ -97,14 +96,14 @@ module _ (sd : Side) where
     long = length-node-words left sibling level fence ss
 
     inside : StoresInside (length t) (putAll (nodeStart b) words)
-    inside = put-all-inside (length t) (nodeStart b) words (unfold nodeStart in omega (arith, long, has-node-iff t b .0 (free-there sd t b s f)))
+    inside = put-all-inside (length t) (nodeStart b) words (unfold nodeStart in omega (arith, long, has-node-iff t b .0 (free-there w ns t b s f)))
 
-    still : (t′ : Words) → Elsewhere b t t′ → SoundWith sd (mapOf sd t) t′
+    still : (t′ : Words) → Elsewhere b t t′ → SoundWith w ns (mapAt w t) t′
     still t′ o = let u = free-stays t b s f t′ o in ((nothing, (u .fine)), u .mapping)
 
-    pub whole-stage : Stage sd 36 t (putAll (nodeStart b) (nodeWords left sibling level fence ss))
-    whole-stage = stage-until sd 36 t (putAll (nodeStart b) words) (put-all-few b words long) inside
-        (until-map doStore (Elsewhere b t) (SoundWith sd (mapOf sd t)) (Elsewhere b t) (SoundWith sd (mapOf sd t)) still still (putAll (nodeStart b) words) t (put-all-along t b words (omega (arith, long))))
+    pub whole-stage : Stage w ns 36 t (putAll (nodeStart b) (nodeWords left sibling level fence ss))
+    whole-stage = stage-until w ns 36 t (putAll (nodeStart b) words) (put-all-few b words long) inside
+        (until-map doStore (Elsewhere b t) (SoundWith w ns (mapAt w t)) (Elsewhere b t) (SoundWith w ns (mapAt w t)) still still (putAll (nodeStart b) words) t (put-all-along t b words (omega (arith, long))))
 
     pub whole-stays : AllShown left ss → length ss ≤ 11
         → Stays t b (newNode left sibling level fence ss) (apply (putAll (nodeStart b) (nodeWords left sibling level fence ss)) t)
@@ -115,5 +114,5 @@ module _ (sd : Side) where
           mapping = u .mapping;
           reached = u .reached;
           header = u .header;
-          node = record { else = u .node .else; here = new-node t b left sibling level fence ss (free-there sd t b s f) a l };
+          node = record { else = u .node .else; here = new-node t b left sibling level fence ss (free-there w ns t b s f) a l };
         }

@@ -21,6 +21,13 @@ pub length-iff : (len n : ℕ) → ((lengthOk len ≡ true) × (n ≡ nodesFor l
 unfolding lengthOk tableLength nodesFor
 length-iff len n = (λ e. let u = simp decode at (e .0) in omega arith, λ f. (simp decode (omega arith), omega arith))
 
+-- what an accepted header says but for the roots
+pub record HeadFacts (t : Words) : Type 0 where
+  pub size : LengthFacts (length t) (nodes t)
+  pub first : at t 0 ≡ 1
+  pub zeros : (w : ℕ) → 4 ≤ w → w < 8 → at t w ≡ 0
+
+-- what an accepted header says
 pub record HeaderFacts (t : Words) : Type 0 where
   pub size : LengthFacts (length t) (nodes t)
   pub first : at t 0 ≡ 1

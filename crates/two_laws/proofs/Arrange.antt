@@ -9,7 +9,7 @@ use native.Mathlib.Omega.{arith}
 use lib.ListN.{length, length-append}
 use lib.Seq.{take-length}
 use borrow.Author.Tests.{eq-eqb, ne-eqb}
-use Rattle.model.specs.Table.{Words, at, nodes, inRange, headerOk}
+use Rattle.model.specs.Table.{Words, at, nodes, inRange, headerOk, rootWord, noCollection}
 use Rattle.model.specs.Slots.{Slot, View}
 use Rattle.model.specs.Reached.{flat, reached, trees, reachedAll}
 use Rattle.model.specs.SoundTest.{all, elem, distinct, Leftover, nothing, hiddenIn, missingIn, bothIn, leftover, isNothing, settledView, soundView, leftoverIn, leftoverAll, oneLeft, sound, settled}
@@ -19,16 +19,16 @@ use Rattle.list_laws.proofs.Tools.{and-iff, Each, Each-map, Each-append, same-o
 use Rattle.list_laws.proofs.Members.{each-mem, elem-append, elem-none, mem-each}
 use Rattle.list_laws.proofs.Distinct.{UpTo, distinct-append}
 use Rattle.list_laws.proofs.Counts.{count-without}
-use Rattle.table_laws.proofs.Header.{header-iff}
+use Rattle.table_laws.proofs.Header.{HeadFacts, header-iff}
 use Rattle.tree_laws.proofs.Levels.{Orderly, reached-numbers}
 use Rattle.tree_laws.proofs.Rows.{range-iff}
 use Rattle.tree_laws.proofs.Leftovers.{settled-sound-view}
 use Rattle.change_laws.proofs.Counts.{fresh-unreachable}
 use Rattle.change_laws.proofs.Parents.{reached-children}
 use Rattle.change_laws.proofs.Parts.{HasLeft, has-left-iff, settled-left, sound-left}
-use Rattle.two_laws.proofs.TwoLaw.{seen, taken, Tree, Low, Course, flat-up, side}
+use Rattle.step_laws.proofs.TreeAt.{treeAt, Avoids}
+use Rattle.two_laws.proofs.TwoLaw.{taken, Tree, Low, Course, flat-up}
 use Rattle.step_laws.proofs.Fresh.{Free}
-use Rattle.step_laws.proofs.Seen.{HeadFacts}
 
 -- collection 1 alone; 1 beside 2; 2 beside 1
 abbrev pub Arr : ℕ → List ℕ → Words → Type 0
@@ -50,17 +50,17 @@ arr-others w ws t h = by-arr w ws t (λ w ws. Each (λ (x : ℕ). x ≢ w) ws) h
 
 -- ---- the trees
 
-pub trees-one : (t : Words) → at t 3 ≡ 0 → trees t ≡ seen 1 t ∷ []
+pub trees-one : (t : Words) → at t 3 ≡ 0 → trees t ≡ treeAt 1 t ∷ []
 trees-one t z = rw (eq-eqb (at t 3) 0 z)
 
-pub trees-two : (t : Words) → at t 3 ≢ 0 → trees t ≡ seen 1 t ∷ seen 3 t ∷ []
+pub trees-two : (t : Words) → at t 3 ≢ 0 → trees t ≡ treeAt 1 t ∷ treeAt 3 t ∷ []
 trees-two t z = rw (ne-eqb (at t 3) 0 z)
 
-pub all-one : (t : Words) → at t 3 ≡ 0 → reachedAll t ≡ reached (seen 1 t) ++ []
+pub all-one : (t : Words) → at t 3 ≡ 0 → reachedAll t ≡ reached (treeAt 1 t) ++ []
 unfolding reachedAll flat
 all-one t z = ap (flat reached) (trees-one t z)
 
-pub all-two : (t : Words) → at t 3 ≢ 0 → reachedAll t ≡ reached (seen 1 t) ++ (reached (seen 3 t) ++ [])
+pub all-two : (t : Words) → at t 3 ≢ 0 → reachedAll t ≡ reached (treeAt 1 t) ++ (reached (treeAt 3 t) ++ [])
 unfolding reachedAll flat
 all-two t z = ap (flat reached) (trees-two t z)
 
@@ -73,7 +73,7 @@ pub record CoverOf (N : ℕ) (own rest all : List ℕ) : Type 0 where
   pub once : ((distinct all ≡ true) ↔ ((distinct own ≡ true) × (distinct rest ≡ true) × Each (λ (n : ℕ). elem n rest ≡ false) own))
 
 abbrev pub Covers : ℕ → List ℕ → Words → Type 0
-Covers w ws t = CoverOf (nodes t) (reached (seen w t)) (taken ws t) (reachedAll t)
+Covers w ws t = CoverOf (nodes t) (reached (treeAt w t)) (taken ws t) (reachedAll t)
 
 apart-back : (a b : List ℕ) → Each (λ (n : ℕ). elem n b ≡ false) a → Each (λ (n : ℕ). elem n a ≡ false) b
 apart-back a b h = mem-each (λ (n : ℕ). elem n a ≡ false) b (λ n m. elem-none n a .1 (λ q. elem-none n b .0 (each-mem (λ (n : ℕ). elem n b ≡ false) h q) m))
@@ -92,9 +92,9 @@ cover-crossed N own rest = record {
 pub arr-covers : (w : ℕ) (ws : List ℕ) (t : Words) → Arr w ws t → Covers w ws t
 unfolding flat
 arr-covers w ws t h = by-arr w ws t (λ w ws. Covers w ws t) h
-    (λ z. rw (all-one t z) (cover-straight (nodes t) (reached (seen 1 t)) []))
-    (λ z. rw (all-two t z) (cover-straight (nodes t) (reached (seen 1 t)) (reached (seen 3 t) ++ [])))
-    (λ z. rw (all-two t z, append-nil (reached (seen 3 t)), append-nil (reached (seen 1 t))) (cover-crossed (nodes t) (reached (seen 3 t)) (reached (seen 1 t))))
+    (λ z. rw (all-one t z) (cover-straight (nodes t) (reached (treeAt 1 t)) []))
+    (λ z. rw (all-two t z) (cover-straight (nodes t) (reached (treeAt 1 t)) (reached (treeAt 3 t) ++ [])))
+    (λ z. rw (all-two t z, append-nil (reached (treeAt 3 t)), append-nil (reached (treeAt 1 t))) (cover-crossed (nodes t) (reached (treeAt 3 t)) (reached (treeAt 1 t))))
 
 -- ---- the tests
 
@@ -138,37 +138,37 @@ all-pair p v w = ((λ e. let u = and-iff (p v) _ .0 e in (u .0, and-iff (p w) tr
 pub root-in : (v : View) → Orderly v → List·Memᴰ (v .root) (reached v)
 root-in v o = rw (reached-children v o) (List·Memᴰ·head refl)
 
-pair-head : (t : Words) → HeadFacts t → Orderly (seen 1 t) → Orderly (seen 3 t) → Each (λ (n : ℕ). elem n (reached (seen 3 t)) ≡ false) (reached (seen 1 t)) → Head t
+pair-head : (t : Words) → HeadFacts t → Orderly (treeAt 1 t) → Orderly (treeAt 3 t) → Avoids (reached (treeAt 3 t)) (treeAt 1 t) → Head t
 pair-head t h a b d =
     let p = range-iff (nodes t) (at t 1) .0 (a .top .range) in
     let q = range-iff (nodes t) (at t 3) .0 (b .top .range) in
-    let z : at t 1 ≢ at t 3 = λ e. elem-none (at t 1) (reached (seen 3 t)) .0 (each-mem (λ (n : ℕ). elem n (reached (seen 3 t)) ≡ false) d (root-in (seen 1 t) a)) (rw e (root-in (seen 3 t) b)) in
+    let z : at t 1 ≢ at t 3 = λ e. elem-none (at t 1) (reached (treeAt 3 t)) .0 (each-mem (λ (n : ℕ). elem n (reached (treeAt 3 t)) ≡ false) d (root-in (treeAt 1 t) a)) (rw e (root-in (treeAt 3 t) b)) in
     record { facts = h; one = a .top .range; two = λ y. (q .1, omega (arith, p, q, z)) }
 
-one-head : (t : Words) → HeadFacts t → Orderly (seen 1 t) → at t 3 ≡ 0 → Head t
+one-head : (t : Words) → HeadFacts t → Orderly (treeAt 1 t) → at t 3 ≡ 0 → Head t
 one-head t h a z = record { facts = h; one = a .top .range; two = λ y. absurd (y z) }
 
 -- ---- settled
 
-taken-one : (x : ℕ) (t : Words) → taken (x ∷ []) t ≡ reached (seen x t)
+taken-one : (x : ℕ) (t : Words) → taken (x ∷ []) t ≡ reached (treeAt x t)
 unfolding flat
-taken-one x t = append-nil (reached (seen x t))
+taken-one x t = append-nil (reached (treeAt x t))
 
 pub tree-settled : (w : ℕ) (ws : List ℕ) (t : Words) → Arr w ws t → Tree w ws t nothing → settled t ≡ true
 tree-settled w ws t r = by-arr w ws t (λ w ws. Tree w ws t nothing → settled t ≡ true) r
     (λ z f. settled-parts t .1 (
       one-head t (f .head) (f .left .orderly) z,
-      rw (trees-one t z) (all-single settledView (seen 1 t) .1 (settled-left (seen 1 t) .1 (f .left))),
-      rw (all-one t z, append-nil (reached (seen 1 t))) (f .left .orderly .once),
+      rw (trees-one t z) (all-single settledView (treeAt 1 t) .1 (settled-left (treeAt 1 t) .1 (f .left))),
+      rw (all-one t z, append-nil (reached (treeAt 1 t))) (f .left .orderly .once),
     ))
     (λ z f. go z (f .head) (f .left) (f .others .0) (rw (taken-one 3 t) at (f .apart)))
-    (λ z f. go z (f .head) (f .others .0) (f .left) (apart-back (reached (seen 3 t)) (reached (seen 1 t)) (rw (taken-one 1 t) at (f .apart))))
+    (λ z f. go z (f .head) (f .others .0) (f .left) (apart-back (reached (treeAt 3 t)) (reached (treeAt 1 t)) (rw (taken-one 1 t) at (f .apart))))
   where
-    go : at t 3 ≢ 0 → HeadFacts t → HasLeft (seen 1 t) nothing → HasLeft (seen 3 t) nothing → Each (λ (n : ℕ). elem n (reached (seen 3 t)) ≡ false) (reached (seen 1 t)) → settled t ≡ true
+    go : at t 3 ≢ 0 → HeadFacts t → HasLeft (treeAt 1 t) nothing → HasLeft (treeAt 3 t) nothing → Avoids (reached (treeAt 3 t)) (treeAt 1 t) → settled t ≡ true
     go z h a b d = settled-parts t .1 (
       pair-head t h (a .orderly) (b .orderly) d,
-      rw (trees-two t z) (all-pair settledView (seen 1 t) (seen 3 t) .1 (settled-left (seen 1 t) .1 a, settled-left (seen 3 t) .1 b)),
-      rw (all-two t z, append-nil (reached (seen 3 t))) (distinct-append (reached (seen 1 t)) (reached (seen 3 t)) .1 (a .orderly .once, b .orderly .once, d)),
+      rw (trees-two t z) (all-pair settledView (treeAt 1 t) (treeAt 3 t) .1 (settled-left (treeAt 1 t) .1 a, settled-left (treeAt 3 t) .1 b)),
+      rw (all-two t z, append-nil (reached (treeAt 3 t))) (distinct-append (reached (treeAt 1 t)) (reached (treeAt 3 t)) .1 (a .orderly .once, b .orderly .once, d)),
     )
 
 pub settled-tree : (w : ℕ) (ws : List ℕ) (t : Words) → Arr w ws t → settled t ≡ true → Tree w ws t nothing
@@ -177,24 +177,24 @@ settled-tree w ws t r s = by-arr w ws t (λ w ws. Tree w ws t nothing) r
     let u = settled-parts t .0 s in
     record {
       head = u .0 .facts;
-      left = settled-left (seen 1 t) .0 (all-single settledView (seen 1 t) .0 (rw (trees-one t z) at (u .1)));
+      left = settled-left (treeAt 1 t) .0 (all-single settledView (treeAt 1 t) .0 (rw (trees-one t z) at (u .1)));
       room = refl;
       others = tt;
-      apart = mem-each (λ (n : ℕ). elem n (taken [] t) ≡ false) (reached (seen 1 t)) (λ n m. unfold elem flat in refl);
+      apart = mem-each (λ (n : ℕ). elem n (taken [] t) ≡ false) (reached (treeAt 1 t)) (λ n m. unfold elem flat in refl);
     })
     (λ z.
     let q = two z in
     record { head = settled-parts t .0 s .0 .facts; left = q .0; room = refl; others = (q .1, tt); apart = rw (taken-one 3 t) (q .2) })
     (λ z.
     let q = two z in
-    record { head = settled-parts t .0 s .0 .facts; left = q .1; room = refl; others = (q .0, tt); apart = rw (taken-one 1 t) (apart-back (reached (seen 1 t)) (reached (seen 3 t)) (q .2)) })
+    record { head = settled-parts t .0 s .0 .facts; left = q .1; room = refl; others = (q .0, tt); apart = rw (taken-one 1 t) (apart-back (reached (treeAt 1 t)) (reached (treeAt 3 t)) (q .2)) })
   where
-    two : at t 3 ≢ 0 → HasLeft (seen 1 t) nothing × HasLeft (seen 3 t) nothing × Each (λ (n : ℕ). elem n (reached (seen 3 t)) ≡ false) (reached (seen 1 t))
+    two : at t 3 ≢ 0 → HasLeft (treeAt 1 t) nothing × HasLeft (treeAt 3 t) nothing × Avoids (reached (treeAt 3 t)) (treeAt 1 t)
     two z =
         let u = settled-parts t .0 s in
-        let p = all-pair settledView (seen 1 t) (seen 3 t) .0 (rw (trees-two t z) at (u .1)) in
-        let d = distinct-append (reached (seen 1 t)) (reached (seen 3 t)) .0 (rw (all-two t z, append-nil (reached (seen 3 t))) at (u .2)) in
-        (settled-left (seen 1 t) .0 (p .0), settled-left (seen 3 t) .0 (p .1), d .2)
+        let p = all-pair settledView (treeAt 1 t) (treeAt 3 t) .0 (rw (trees-two t z) at (u .1)) in
+        let d = distinct-append (reached (treeAt 1 t)) (reached (treeAt 3 t)) .0 (rw (all-two t z, append-nil (reached (treeAt 3 t))) at (u .2)) in
+        (settled-left (treeAt 1 t) .0 (p .0), settled-left (treeAt 3 t) .0 (p .1), d .2)
 
 -- ---- sound
 
@@ -225,22 +225,22 @@ pub tree-sound : (w : ℕ) (ws : List ℕ) (t : Words) (y : Leftover) → Arr w 
 tree-sound w ws t y r = by-arr w ws t (λ w ws. Tree w ws t y → sound t ≡ true) r
     (λ z f. sound-parts t .1 (
       one-head t (f .head) (f .left .orderly) z,
-      rw (trees-one t z) (all-single soundView (seen 1 t) .1 (sound-left (seen 1 t) .1 (y, f .left, f .room))),
-      rw (all-one t z, append-nil (reached (seen 1 t))) (f .left .orderly .once),
-      rw (trees-one t z) (one-left (seen 1 t)),
+      rw (trees-one t z) (all-single soundView (treeAt 1 t) .1 (sound-left (treeAt 1 t) .1 (y, f .left, f .room))),
+      rw (all-one t z, append-nil (reached (treeAt 1 t))) (f .left .orderly .once),
+      rw (trees-one t z) (one-left (treeAt 1 t)),
     ))
     (λ z f. go z (f .head) (f .left .orderly) (f .others .0 .orderly) (rw (taken-one 3 t) at (f .apart))
-    (sound-left (seen 1 t) .1 (y, f .left, f .room)) (settled-sound-view (seen 3 t) (settled-left (seen 3 t) .1 (f .others .0))) (inr (settled-left (seen 3 t) .1 (f .others .0))))
-    (λ z f. go z (f .head) (f .others .0 .orderly) (f .left .orderly) (apart-back (reached (seen 3 t)) (reached (seen 1 t)) (rw (taken-one 1 t) at (f .apart)))
-    (settled-sound-view (seen 1 t) (settled-left (seen 1 t) .1 (f .others .0))) (sound-left (seen 3 t) .1 (y, f .left, f .room)) (inl (settled-left (seen 1 t) .1 (f .others .0))))
+    (sound-left (treeAt 1 t) .1 (y, f .left, f .room)) (settled-sound-view (treeAt 3 t) (settled-left (treeAt 3 t) .1 (f .others .0))) (inr (settled-left (treeAt 3 t) .1 (f .others .0))))
+    (λ z f. go z (f .head) (f .others .0 .orderly) (f .left .orderly) (apart-back (reached (treeAt 3 t)) (reached (treeAt 1 t)) (rw (taken-one 1 t) at (f .apart)))
+    (settled-sound-view (treeAt 1 t) (settled-left (treeAt 1 t) .1 (f .others .0))) (sound-left (treeAt 3 t) .1 (y, f .left, f .room)) (inl (settled-left (treeAt 1 t) .1 (f .others .0))))
   where
-    go : at t 3 ≢ 0 → HeadFacts t → Orderly (seen 1 t) → Orderly (seen 3 t) → Each (λ (n : ℕ). elem n (reached (seen 3 t)) ≡ false) (reached (seen 1 t))
-        → soundView (seen 1 t) ≡ true → soundView (seen 3 t) ≡ true → (settledView (seen 1 t) ≡ true) ⊎ (settledView (seen 3 t) ≡ true) → sound t ≡ true
+    go : at t 3 ≢ 0 → HeadFacts t → Orderly (treeAt 1 t) → Orderly (treeAt 3 t) → Avoids (reached (treeAt 3 t)) (treeAt 1 t)
+        → soundView (treeAt 1 t) ≡ true → soundView (treeAt 3 t) ≡ true → (settledView (treeAt 1 t) ≡ true) ⊎ (settledView (treeAt 3 t) ≡ true) → sound t ≡ true
     go z h a b d p q c = sound-parts t .1 (
       pair-head t h a b d,
-      rw (trees-two t z) (all-pair soundView (seen 1 t) (seen 3 t) .1 (p, q)),
-      rw (all-two t z, append-nil (reached (seen 3 t))) (distinct-append (reached (seen 1 t)) (reached (seen 3 t)) .1 (a .once, b .once, d)),
-      rw (trees-two t z) (two-left (seen 1 t) (seen 3 t) .1 c),
+      rw (trees-two t z) (all-pair soundView (treeAt 1 t) (treeAt 3 t) .1 (p, q)),
+      rw (all-two t z, append-nil (reached (treeAt 3 t))) (distinct-append (reached (treeAt 1 t)) (reached (treeAt 3 t)) .1 (a .once, b .once, d)),
+      rw (trees-two t z) (two-left (treeAt 1 t) (treeAt 3 t) .1 c),
     )
 
 -- a sound table has a tree with what is left, beside a settled one where it has two
@@ -257,34 +257,46 @@ sound-tree t s = go (same-or-not (at t 3) 0)
     u : Head t × (all soundView (trees t) ≡ true) × (distinct (reachedAll t) ≡ true) × (oneLeft (trees t) ≡ true)
     u = sound-parts t .0 s
 
-    two : (z : at t 3 ≢ 0) → (soundView (seen 1 t) ≡ true) × (soundView (seen 3 t) ≡ true) → Each (λ (n : ℕ). elem n (reached (seen 3 t)) ≡ false) (reached (seen 1 t))
-        → (settledView (seen 1 t) ≡ true) ⊎ (settledView (seen 3 t) ≡ true) → SoundAs t
+    two : (z : at t 3 ≢ 0) → (soundView (treeAt 1 t) ≡ true) × (soundView (treeAt 3 t) ≡ true) → Avoids (reached (treeAt 3 t)) (treeAt 1 t)
+        → (settledView (treeAt 1 t) ≡ true) ⊎ (settledView (treeAt 3 t) ≡ true) → SoundAs t
     two z p d (inl e) =
-        let l = sound-left (seen 3 t) .0 (p .1) in
+        let l = sound-left (treeAt 3 t) .0 (p .1) in
         record {
           word = 3;
           others = 1 ∷ [];
           leftover = l .0;
           arranged = inr (inr (refl, (refl, z)));
-          tree = record { head = u .0 .facts; left = l .1; room = l .2; others = (settled-left (seen 1 t) .0 e, tt); apart = rw (taken-one 1 t) (apart-back (reached (seen 1 t)) (reached (seen 3 t)) d) };
+          tree = record { head = u .0 .facts; left = l .1; room = l .2; others = (settled-left (treeAt 1 t) .0 e, tt); apart = rw (taken-one 1 t) (apart-back (reached (treeAt 1 t)) (reached (treeAt 3 t)) d) };
         }
     two z p d (inr e) =
-        let l = sound-left (seen 1 t) .0 (p .0) in
-        record { word = 1; others = 3 ∷ []; leftover = l .0; arranged = inr (inl (refl, (refl, z))); tree = record { head = u .0 .facts; left = l .1; room = l .2; others = (settled-left (seen 3 t) .0 e, tt); apart = rw (taken-one 3 t) d } }
+        let l = sound-left (treeAt 1 t) .0 (p .0) in
+        record {
+          word = 1;
+          others = 3 ∷ [];
+          leftover = l .0;
+          arranged = inr (inl (refl, (refl, z)));
+          tree = record {
+            head = u .0 .facts;
+            left = l .1;
+            room = l .2;
+            others = (settled-left (treeAt 3 t) .0 e, tt);
+            apart = rw (taken-one 3 t) d;
+          };
+        }
 
     go : (at t 3 ≡ 0) ⊎ (at t 3 ≢ 0) → SoundAs t
     go (inl z) =
-        let l = sound-left (seen 1 t) .0 (all-single soundView (seen 1 t) .0 (rw (trees-one t z) at (u .1))) in
+        let l = sound-left (treeAt 1 t) .0 (all-single soundView (treeAt 1 t) .0 (rw (trees-one t z) at (u .1))) in
         record {
           word = 1;
           others = [];
           leftover = l .0;
           arranged = inl (refl, (refl, z));
-          tree = record { head = u .0 .facts; left = l .1; room = l .2; others = tt; apart = mem-each (λ (n : ℕ). elem n (taken [] t) ≡ false) (reached (seen 1 t)) (λ n m. unfold elem flat in refl) };
+          tree = record { head = u .0 .facts; left = l .1; room = l .2; others = tt; apart = mem-each (λ (n : ℕ). elem n (taken [] t) ≡ false) (reached (treeAt 1 t)) (λ n m. unfold elem flat in refl) };
         }
-    go (inr z) = two z (all-pair soundView (seen 1 t) (seen 3 t) .0 (rw (trees-two t z) at (u .1)))
-        (distinct-append (reached (seen 1 t)) (reached (seen 3 t)) .0 (rw (all-two t z, append-nil (reached (seen 3 t))) at (u .2)) .2)
-        (two-left (seen 1 t) (seen 3 t) .0 (rw (trees-two t z) at (u .3)))
+    go (inr z) = two z (all-pair soundView (treeAt 1 t) (treeAt 3 t) .0 (rw (trees-two t z) at (u .1)))
+        (distinct-append (reached (treeAt 1 t)) (reached (treeAt 3 t)) .0 (rw (all-two t z, append-nil (reached (treeAt 3 t))) at (u .2)) .2)
+        (two-left (treeAt 1 t) (treeAt 3 t) .0 (rw (trees-two t z) at (u .3)))
 
 -- ---- the leftover of the whole table
 
@@ -302,17 +314,33 @@ left-all w ws t y r = by-arr w ws t (λ w ws. Tree w ws t y → leftoverAll t �
     (λ z f. rw (trees-two t z, is 1 y (f .left), is 3 nothing (f .others .0)) (left-first y (some nothing) refl))
     (λ z f. rw (trees-two t z, is 1 nothing (f .others .0), is 3 y (f .left)) (left-first y (some nothing) refl))
   where
-    is : (x : ℕ) (z : Leftover) → HasLeft (seen x t) z → leftover (seen x t) ≡ some z
-    is x z l = has-left-iff (seen x t) z .1 l .1
+    is : (x : ℕ) (z : Leftover) → HasLeft (treeAt x t) z → leftover (treeAt x t) ≡ some z
+    is x z l = has-left-iff (treeAt x t) z .1 l .1
+
+-- the collection of an arrangement is there
+pub arr-there : (n : ℕ) (ws : List ℕ) (t : Words) → Arr (rootWord n) ws t → noCollection n t ≡ false
+unfolding noCollection
+arr-there n ws t r = go r
+  where
+    first : rootWord n ≡ 1 → n ≡ 1
+    first e = omega arith
+
+    second : rootWord n ≡ 3 → n ≡ 2
+    second e = omega arith
+
+    go : Arr (rootWord n) ws t → noCollection n t ≡ false
+    go (inl h) = rw (first (h .0))
+    go (inr (inl h)) = rw (first (h .0))
+    go (inr (inr h)) = rw (second (h .0), ne-eqb (at t 3) 0 (h .1 .1))
 
 -- ---- free nodes
 
-pub free-fresh : (w : ℕ) (ws : List ℕ) (t : Words) (a : ℕ) → Arr w ws t → Tree w ws t nothing → List·Memᴰ a (reached (seen w t)) → 0 < length (unreachable t) → Free (side w ws t) t (fresh t a)
+pub free-fresh : (w : ℕ) (ws : List ℕ) (t : Words) (a : ℕ) → Arr w ws t → Tree w ws t nothing → List·Memᴰ a (reached (treeAt w t)) → 0 < length (unreachable t) → Free w (taken ws t) t (fresh t a)
 unfolding fresh unreached unreachable
 free-fresh w ws t a r f m h =
     let c = arr-covers w ws t r in
-    let i : elem a (reachedAll t) ≡ true = refuted-false (elem a (reachedAll t)) (λ e. elem-none a (reached (seen w t)) .0 (c .split a .0 e .0) m) in
-    let u = fresh-unreachable (nodes t) (reachedAll t) a i (each-mem (UpTo (nodes t)) (reached-numbers (seen w t) (f .left .orderly)) m) h in
+    let i : elem a (reachedAll t) ≡ true = refuted-false (elem a (reachedAll t)) (λ e. elem-none a (reached (treeAt w t)) .0 (c .split a .0 e .0) m) in
+    let u = fresh-unreachable (nodes t) (reachedAll t) a i (each-mem (UpTo (nodes t)) (reached-numbers (treeAt w t) (f .left .orderly)) m) h in
     let q = c .split (fresh t a) .0 (u .1) in
     record { range = u .0; unreached = q .0; off = q .1 }
   where
@@ -321,30 +349,31 @@ free-fresh w ws t a r f m h =
     refuted-false false h = absurd (h refl)
 
 -- no root reaches a free node
-pub free-off : (w : ℕ) (ws : List ℕ) (t : Words) (b : ℕ) → Arr w ws t → Free (side w ws t) t b → elem b (reachedAll t) ≡ false
+pub free-off : (w : ℕ) (ws : List ℕ) (t : Words) (b : ℕ) → Arr w ws t → Free w (taken ws t) t b → elem b (reachedAll t) ≡ false
 free-off w ws t b r f = arr-covers w ws t r .split b .1 (f .unreached, f .off)
 
 -- those that some root reaches and those that none does are N together
-pub unreachable-count : (w : ℕ) (ws : List ℕ) (t : Words) → Arr w ws t → Tree w ws t nothing → length (unreachable t) + (length (reached (seen w t)) + length (taken ws t)) ≡ nodes t
+pub unreachable-count : (w : ℕ) (ws : List ℕ) (t : Words) → Arr w ws t → Tree w ws t nothing → length (unreachable t) + (length (reached (treeAt w t)) + length (taken ws t)) ≡ nodes t
 unfolding unreachable unreached
 unreachable-count w ws t r f =
     let c = arr-covers w ws t r in
     let d = settled-parts t .0 (tree-settled w ws t r f) .2 in
-    let up = flat-up (nodes t) (λ (x : ℕ). reached (seen x t)) ws (Each-map (λ (x : ℕ). HasLeft (seen x t) nothing) (λ (x : ℕ). Each (UpTo (nodes t)) (reached (seen x t))) ws (λ x h. reached-numbers (seen x t) (h .orderly)) (f .others)) in
-    rw (c .count) at (count-without (nodes t) (reachedAll t) d (c .up (reached-numbers (seen w t) (f .left .orderly)) up))
+    let up = flat-up (nodes t) (λ (x : ℕ). reached (treeAt x t)) ws
+    (Each-map (λ (x : ℕ). HasLeft (treeAt x t) nothing) (λ (x : ℕ). Each (UpTo (nodes t)) (reached (treeAt x t))) ws (λ x h. reached-numbers (treeAt x t) (h .orderly)) (f .others)) in
+    rw (c .count) at (count-without (nodes t) (reachedAll t) d (c .up (reached-numbers (treeAt w t) (f .left .orderly)) up))
 
 -- the same nodes of each tree are the same of all
-pub same-all : (w : ℕ) (ws : List ℕ) (t t′ : Words) → Arr w ws t → at t′ 3 ≡ at t 3 → reached (seen w t′) ≡ reached (seen w t) → Each (λ (x : ℕ). reached (seen x t′) ≡ reached (seen x t)) ws → reachedAll t′ ≡ reachedAll t
-same-all w ws t t′ r e = by-arr w ws t (λ w ws. reached (seen w t′) ≡ reached (seen w t) → Each (λ (x : ℕ). reached (seen x t′) ≡ reached (seen x t)) ws → reachedAll t′ ≡ reachedAll t) r
+pub same-all : (w : ℕ) (ws : List ℕ) (t t′ : Words) → Arr w ws t → at t′ 3 ≡ at t 3 → reached (treeAt w t′) ≡ reached (treeAt w t) → Each (λ (x : ℕ). reached (treeAt x t′) ≡ reached (treeAt x t)) ws → reachedAll t′ ≡ reachedAll t
+same-all w ws t t′ r e = by-arr w ws t (λ w ws. reached (treeAt w t′) ≡ reached (treeAt w t) → Each (λ (x : ℕ). reached (treeAt x t′) ≡ reached (treeAt x t)) ws → reachedAll t′ ≡ reachedAll t) r
     (λ z p q. all-one t′ (e ∙ z) ∙ ap (λ (l : List ℕ). l ++ []) p ∙ sym (all-one t z))
     (λ z p q. both z p (q .0))
     (λ z p q. both z (q .0) p)
   where
-    both : at t 3 ≢ 0 → reached (seen 1 t′) ≡ reached (seen 1 t) → reached (seen 3 t′) ≡ reached (seen 3 t) → reachedAll t′ ≡ reachedAll t
-    both z p q = all-two t′ (λ y. z (sym e ∙ y)) ∙ ap (λ (l : List ℕ). l ++ (reached (seen 3 t′) ++ [])) p ∙ ap (λ (l : List ℕ). reached (seen 1 t) ++ (l ++ [])) q ∙ sym (all-two t z)
+    both : at t 3 ≢ 0 → reached (treeAt 1 t′) ≡ reached (treeAt 1 t) → reached (treeAt 3 t′) ≡ reached (treeAt 3 t) → reachedAll t′ ≡ reachedAll t
+    both z p q = all-two t′ (λ y. z (sym e ∙ y)) ∙ ap (λ (l : List ℕ). l ++ (reached (treeAt 3 t′) ++ [])) p ∙ ap (λ (l : List ℕ). reached (treeAt 1 t) ++ (l ++ [])) q ∙ sym (all-two t z)
 
 -- of one node: it is reached from some root as before
-pub others-all : (w : ℕ) (ws : List ℕ) (t t′ : Words) (n : ℕ) → Arr w ws t → Arr w ws t′ → elem n (reached (seen w t′)) ≡ elem n (reached (seen w t)) → taken ws t′ ≡ taken ws t
+pub others-all : (w : ℕ) (ws : List ℕ) (t t′ : Words) (n : ℕ) → Arr w ws t → Arr w ws t′ → elem n (reached (treeAt w t′)) ≡ elem n (reached (treeAt w t)) → taken ws t′ ≡ taken ws t
     → elem n (reachedAll t′) ≡ elem n (reachedAll t)
 others-all w ws t t′ n r r′ e q =
     let a = arr-covers w ws t r .split n in

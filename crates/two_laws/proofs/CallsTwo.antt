@@ -22,7 +22,8 @@ use Rattle.cut_laws.proofs.Applying.{apply-append, always-append, length-apply}
 use Rattle.cut_laws.proofs.FlushRule.{length-orders-append}
 use Rattle.cut_laws.specs.Inside.{StoresInside}
 use Rattle.two_laws.specs.Parts.{Enters}
-use Rattle.two_laws.proofs.TwoLaw.{seen, Tree, Low, Course}
+use Rattle.step_laws.proofs.TreeAt.{treeAt}
+use Rattle.two_laws.proofs.TwoLaw.{Tree, Low, Course}
 use Rattle.two_laws.proofs.Leaf.{leaf-reclass}
 use Rattle.two_laws.proofs.RepairTwo.{tree-repair}
 use Rattle.two_laws.proofs.Arrange.{Arr, by-arr, arr-low, tree-sound, tree-settled, settled-tree, sound-tree, left-all, arr-lack, course-arr}
@@ -37,11 +38,11 @@ Is w t = (w ≡ 1) ⊎ ((w ≡ 3) × (at t 3 ≢ 0))
 
 pub record OwnSteps (b w : ℕ) (t : Words) (ss : List Store) (m : List Slot) : Type 0 where
   pub part-sound : (j : ℕ) → sound (apply (take j ss) t) ≡ true
-  pub part-own : (j : ℕ) → (mapping (seen w (apply (take j ss) t)) ≡ mapping (seen w t)) ⊎ (mapping (seen w (apply (take j ss) t)) ≡ m)
-  pub part-other : (j x : ℕ) → Is x t → x ≢ w → mapping (seen x (apply (take j ss) t)) ≡ mapping (seen x t)
+  pub part-own : (j : ℕ) → (mapping (treeAt w (apply (take j ss) t)) ≡ mapping (treeAt w t)) ⊎ (mapping (treeAt w (apply (take j ss) t)) ≡ m)
+  pub part-other : (j x : ℕ) → Is x t → x ≢ w → mapping (treeAt x (apply (take j ss) t)) ≡ mapping (treeAt x t)
   pub part-lack : (j : ℕ) → (at (apply (take j ss) t) 3 ≡ 0) ↔ (at t 3 ≡ 0)
   pub settles : settled (apply ss t) ≡ true
-  pub maps : mapping (seen w (apply ss t)) ≡ m
+  pub maps : mapping (treeAt w (apply ss t)) ≡ m
   pub few : length (orders ss) ≤ b
   pub inside : StoresInside (length t) ss
 
@@ -69,7 +70,7 @@ pub course-steps : (b w : ℕ) (ws : List ℕ) (t : Words) (ss : List Store) (m 
 course-steps b w ws t ss m r c = record {
   part-sound = λ j. tree-sound w ws (apply (take j ss) t) (c .part j .0) (arr-lack w ws t (apply (take j ss) t) (c .lack j) r) (c .part j .1);
   part-own = c .part-map;
-  part-other = λ j x i z. arr-other w ws t x (λ (x : ℕ). mapping (seen x (apply (take j ss) t)) ≡ mapping (seen x t)) r i z (c .others j);
+  part-other = λ j x i z. arr-other w ws t x (λ (x : ℕ). mapping (treeAt x (apply (take j ss) t)) ≡ mapping (treeAt x t)) r i z (c .others j);
   part-lack = c .lack;
   settles = tree-settled w ws (apply ss t) (course-arr b w ws t ss m c r) (c .whole);
   maps = c .maps;
@@ -86,7 +87,7 @@ repair-list w ws t y r f = ap (repairOf t) (left-all w ws t y r f)
 -- every collection keeps its map
 pub record Repairs (t : Words) : Type 0 where
   pub part-sound : (j : ℕ) → sound (apply (take j (repairStores t)) t) ≡ true
-  pub part-map : (j x : ℕ) → Is x t → mapping (seen x (apply (take j (repairStores t)) t)) ≡ mapping (seen x t)
+  pub part-map : (j x : ℕ) → Is x t → mapping (treeAt x (apply (take j (repairStores t)) t)) ≡ mapping (treeAt x t)
   pub part-lack : (j : ℕ) → (at (apply (take j (repairStores t)) t) 3 ≡ 0) ↔ (at t 3 ≡ 0)
   pub settles : settled (repaired t) ≡ true
   pub few : length (orders (repairStores t)) ≤ 51
@@ -97,9 +98,9 @@ unfolding repaired
 repairs t s =
     let u = sound-tree t s in
     let w = u .word in
-    let c : OwnSteps 51 w t (repairStores t) (mapping (seen w t)) =
+    let c : OwnSteps 51 w t (repairStores t) (mapping (treeAt w t)) =
     rw (repair-list w (u .others) t (u .leftover) (u .arranged) (u .tree))
-    (course-steps 51 w (u .others) t _ (mapping (seen w t)) (u .arranged) (tree-repair w (u .others) t (u .leftover) (arr-low w (u .others) t (u .arranged)) (u .tree))) in
+    (course-steps 51 w (u .others) t _ (mapping (treeAt w t)) (u .arranged) (tree-repair w (u .others) t (u .leftover) (arr-low w (u .others) t (u .arranged)) (u .tree))) in
     record {
       part-sound = c .part-sound;
       part-map = λ j x i. go w j x i c (same-or-not x w);
@@ -113,7 +114,7 @@ repairs t s =
     once (inl a) = a
     once (inr a) = a
 
-    go : (w j x : ℕ) → Is x t → OwnSteps 51 w t (repairStores t) (mapping (seen w t)) → (x ≡ w) ⊎ (x ≢ w) → mapping (seen x (apply (take j (repairStores t)) t)) ≡ mapping (seen x t)
+    go : (w j x : ℕ) → Is x t → OwnSteps 51 w t (repairStores t) (mapping (treeAt w t)) → (x ≡ w) ⊎ (x ≢ w) → mapping (treeAt x (apply (take j (repairStores t)) t)) ≡ mapping (treeAt x t)
     go w j x i c (inl e) = rw e (once (c .part-own j))
     go w j x i c (inr z) = c .part-other j x i z
 
@@ -124,12 +125,12 @@ unfolding repaired
 after-repair b w t us m s i g =
     let f = repairs t s in
     let ss = repairStores t in
-    let same : (x : ℕ) → Is x t → mapping (seen x (apply ss t)) ≡ mapping (seen x t) = λ x h. rw take-length at (f .part-map (length ss) x h) in
+    let same : (x : ℕ) → Is x t → mapping (treeAt x (apply ss t)) ≡ mapping (treeAt x t) = λ x h. rw take-length at (f .part-map (length ss) x h) in
     let h : (at (apply ss t) 3 ≡ 0) ↔ (at t 3 ≡ 0) = rw take-length at (f .part-lack (length ss)) in
     record {
       part-sound = always-append (λ (u : Words). sound u ≡ true) ss us t (f .part-sound) (g .part-sound);
-      part-own = always-append (λ (u : Words). (mapping (seen w u) ≡ mapping (seen w t)) ⊎ (mapping (seen w u) ≡ m)) ss us t (λ j. inl (f .part-map j w i)) (λ j. ⊎-map (λ e. e ∙ same w i) (λ e. e) (g .part-own j));
-      part-other = λ j x q z. always-append (λ (u : Words). mapping (seen x u) ≡ mapping (seen x t)) ss us t (λ j. f .part-map j x q) (λ j. g .part-other j x (still x h q) z ∙ same x q) j;
+      part-own = always-append (λ (u : Words). (mapping (treeAt w u) ≡ mapping (treeAt w t)) ⊎ (mapping (treeAt w u) ≡ m)) ss us t (λ j. inl (f .part-map j w i)) (λ j. ⊎-map (λ e. e ∙ same w i) (λ e. e) (g .part-own j));
+      part-other = λ j x q z. always-append (λ (u : Words). mapping (treeAt x u) ≡ mapping (treeAt x t)) ss us t (λ j. f .part-map j x q) (λ j. g .part-other j x (still x h q) z ∙ same x q) j;
       part-lack = always-append (λ (u : Words). (at u 3 ≡ 0) ↔ (at t 3 ≡ 0)) ss us t (f .part-lack) (λ j. ((λ z. h .0 (g .part-lack j .0 z)), (λ z. g .part-lack j .1 (h .1 z))));
       settles = rw (apply-append ss us t) (g .settles);
       maps = rw (apply-append ss us t) (g .maps);
@@ -158,7 +159,7 @@ is-repaired w t s i = go i (rw take-length at (repairs t s .part-lack (length (r
     go (inl e) h = inl e
     go (inr e) h = inr (e .0, λ z. e .1 (h .0 z))
 
-repaired-map : (w : ℕ) (t : Words) → sound t ≡ true → Is w t → mapping (seen w (repaired t)) ≡ mapping (seen w t)
+repaired-map : (w : ℕ) (t : Words) → sound t ≡ true → Is w t → mapping (treeAt w (repaired t)) ≡ mapping (treeAt w t)
 unfolding repaired
 repaired-map w t s i = rw take-length at (repairs t s .part-map (length (repairStores t)) w i)
 

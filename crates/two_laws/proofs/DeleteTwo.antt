@@ -30,50 +30,47 @@ use Rattle.step_laws.proofs.Deletion.{Frees, freeable}
 use Rattle.step_laws.proofs.LevelCourses.{Quiet, Skip, Way, quiet-still, quiet-append, still-skip}
 use Rattle.two_laws.proofs.Frame.{Away}
 use Rattle.two_laws.proofs.Places.{shift-out-away, put-away}
-use Rattle.two_laws.proofs.TwoLaw.{seen, taken, Tree, Low, Course, tree-fine, head-same, stays, taken-same, phase-course, course-then, course-within, side, own-some, own-off, own-clear}
+use Rattle.step_laws.proofs.TreeAt.{treeAt, Fine}
+use Rattle.two_laws.proofs.TwoLaw.{taken, Tree, Low, Course, tree-fine, head-same, stays, taken-same, phase-course, course-then, course-within, own-usable, own-other}
 use Rattle.two_laws.proofs.LevelsTwo.{OthersQuiet, AllQuiet, Ways, others-quiet, quiet-ways, others-append}
 use Rattle.two_laws.proofs.Leaf.{leaf-out, out-away, leaf-out-all}
 use Rattle.step_laws.proofs.Fresh.{Free}
 use Rattle.two_laws.proofs.Arrange.{Arr, arr-low, course-arr, others-all, unreachable-count, same-all}
-use Rattle.step_laws.proofs.Seen.{Side, Fine}
 
 -- ---- an empty leaf freed
 
 -- leaf x lacks its slot in p, an ordinary leftover of the tree of word w, and all nodes of both trees are reached as in t
 pub record Lacks (w : ℕ) (t : Words) (p x : ℕ) (t′ : Words) : Type 0 where
-  pub leftover : (leftover (seen w t′) ≡ some (bothIn p (childBefore (view t) p x))) ⊎ (leftover (seen w t′) ≡ some (missingIn p (childBefore (view t) p x) false))
+  pub leftover : (leftover (treeAt w t′) ≡ some (bothIn p (childBefore (view t) p x))) ⊎ (leftover (treeAt w t′) ≡ some (missingIn p (childBefore (view t) p x) false))
   pub reached : reachedAll t′ ≡ reachedAll t
 
-module _ (w : ℕ) (ws : List ℕ) (t : Words) (low : Low w ws) (f : Tree w ws t nothing) (p x : ℕ) (h : Freeable (side w ws t) t p x) where
+module _ (w : ℕ) (ws : List ℕ) (t : Words) (low : Low w ws) (f : Tree w ws t nothing) (p x : ℕ) (h : Freeable w (taken ws t) t p x) where
   abbrev ns : List ℕ
   ns = taken ws t
 
-  abbrev sd : Side
-  sd = side w ws t
-
-  pub p-reached : List·Memᴰ p (reached (seen w t))
+  pub p-reached : List·Memᴰ p (reached (treeAt w t))
   p-reached = h .parent
 
-  pub before-reached : List·Memᴰ (childBefore (view t) p x) (reached (seen w t))
+  pub before-reached : List·Memᴰ (childBefore (view t) p x) (reached (treeAt w t))
   unfolding childBefore
-  before-reached = neighbour-reached sd t p x h
+  before-reached = neighbour-reached w ns t p x h
 
   free-away : Each (Away ns) (freeStores t p x)
   unfolding freeStores
   free-away =
-      let few = shown-few t p (own-clear w ws t nothing f p p-reached) in
-      Each-append (Away ns) (shiftOutAt t p (nodeView t x .fence)) _ (shift-out-away ns p (own-some w ws t nothing f p p-reached) (own-off w ws t nothing f p p-reached) t (nodeView t x .fence) few (h .there))
-      (put-away ns (childBefore (view t) p x) (own-some w ws t nothing f _ before-reached) (own-off w ws t nothing f _ before-reached) _ _ (omega arith) (omega arith), tt)
+      let few = shown-few t p (own-usable w ws t nothing f p p-reached .clear) in
+      Each-append (Away ns) (shiftOutAt t p (nodeView t x .fence)) _ (shift-out-away ns p (own-other w ws t nothing f p p-reached) t (nodeView t x .fence) few (h .there))
+      (put-away ns (childBefore (view t) p x) (own-other w ws t nothing f _ before-reached) _ _ (omega arith) (omega arith), tt)
 
-  pub free-course : Course 27 w ws t (freeStores t p x) (mapping (seen w t))
-  free-course = phase-course 27 w ws t nothing (freeStores t p x) (mapping (seen w t)) low f (free-phase sd t p x h) free-away
+  pub free-course : Course 27 w ws t (freeStores t p x) (mapping (treeAt w t))
+  free-course = phase-course 27 w ws t nothing (freeStores t p x) (mapping (treeAt w t)) low f (free-phase w ns t p x h) free-away
 
   -- x is passed over, every level but the leaves' is quiet
-  pub free-own-quiet : (l : ℕ) → l ≢ 0 → Quiet (seen w) l t (freeStores t p x)
-  free-own-quiet = free-quiet sd t p x h
+  pub free-own-quiet : (l : ℕ) → l ≢ 0 → Quiet (treeAt w) l t (freeStores t p x)
+  free-own-quiet = free-quiet w ns t p x h
 
-  pub free-own-skip : Skip (seen w) 0 t (freeStores t p x)
-  free-own-skip = free-skip sd t p x h
+  pub free-own-skip : Skip (treeAt w) 0 t (freeStores t p x)
+  free-own-skip = free-skip w ns t p x h
 
   pub free-beside : OthersQuiet ws t (freeStores t p x)
   free-beside = others-quiet w ws t nothing low f (freeStores t p x) free-away
@@ -81,14 +78,14 @@ module _ (w : ℕ) (ws : List ℕ) (t : Words) (low : Low w ws) (f : Tree w ws t
   -- ---- what it leaves
 
   -- The leaf is reached no more, and no other node is lost.
-  pub free-two-unreached : elem x (reached (seen w (apply (freeStores t p x) t))) ≡ false
-  free-two-unreached = free-unreached sd t p x h
+  pub free-two-unreached : elem x (reached (treeAt w (apply (freeStores t p x) t))) ≡ false
+  free-two-unreached = free-unreached w ns t p x h
 
-  pub free-two-fewer : length (reached (seen w t)) ≡ suc (length (reached (seen w (apply (freeStores t p x) t))))
-  free-two-fewer = free-fewer sd t p x h
+  pub free-two-fewer : length (reached (treeAt w t)) ≡ suc (length (reached (treeAt w (apply (freeStores t p x) t))))
+  free-two-fewer = free-fewer w ns t p x h
 
-  pub free-two-others : (n : ℕ) → n ≢ x → elem n (reached (seen w (apply (freeStores t p x) t))) ≡ elem n (reached (seen w t))
-  free-two-others = free-others sd t p x h
+  pub free-two-others : (n : ℕ) → n ≢ x → elem n (reached (treeAt w (apply (freeStores t p x) t))) ≡ elem n (reached (treeAt w t))
+  free-two-others = free-others w ns t p x h
 
   pub free-two-taken : taken ws (apply (freeStores t p x) t) ≡ taken ws t
   free-two-taken = taken-same w ws t nothing low f (freeStores t p x) free-away
@@ -103,11 +100,11 @@ module _ (w : ℕ) (ws : List ℕ) (t : Words) (low : Low w ws) (f : Tree w ws t
       let ss = take j (freeStores t p x) in
       let tⱼ = apply ss t in
       let away = each-take (Away ns) j (freeStores t p x) free-away in
-      let c = free-cut sd t p x h j g i in
+      let c = free-cut w ns t p x h j g i in
       record {
         leftover = c .leftover;
         reached = same-all w ws t tⱼ arr (head-same w ws t nothing low f ss away 3 (omega arith)) (c .reached)
-            (Each-map _ (λ (y : ℕ). reached (seen y tⱼ) ≡ reached (seen y t)) ws (λ y k. k .reached) (stays w ws t nothing low f ss away));
+            (Each-map _ (λ (y : ℕ). reached (treeAt y tⱼ) ≡ reached (treeAt y t)) ws (λ y k. k .reached) (stays w ws t nothing low f ss away));
       }
 
 -- ---- the stores after the repair: the shift out, and those that free the leaf
@@ -134,7 +131,7 @@ module _ (n : ℕ) (t : Words) (k : ℕ) where
 
 -- node x is reached from neither root in t′, which has one unreachable node more than t
 pub record Freed (w : ℕ) (ws : List ℕ) (t : Words) (x : ℕ) (t′ : Words) : Type 0 where
-  pub free : Free (side w ws t′) t′ x
+  pub free : Free w (taken ws t′) t′ x
   pub one-more : length (unreachable t′) ≡ suc (length (unreachable t))
 
 module _ (n : ℕ) (ws : List ℕ) (t : Words) (arr : Arr (rootWord n) ws t) (tree : Tree (rootWord n) ws t nothing) (k : ℕ) (has : hasKey k (mapping (viewOf n t)) ≡ true) where
@@ -144,10 +141,7 @@ module _ (n : ℕ) (ws : List ℕ) (t : Words) (arr : Arr (rootWord n) ws t) (tr
   lowly : Low w ws
   lowly = arr-low w ws t arr
 
-  abbrev own : Side
-  own = side w ws t
-
-  s : Fine own t nothing
+  s : Fine w (taken ws t) t nothing
   s = tree-fine w ws t lowly nothing tree
 
   abbrev leaf : ℕ
@@ -168,25 +162,25 @@ module _ (n : ℕ) (ws : List ℕ) (t : Words) (arr : Arr (rootWord n) ws t) (tr
   ss-away : Each (Away (taken ws t)) ss
   ss-away = out-away w ws t lowly tree k has
 
-  reached₁ : reached (seen w t₁) ≡ reached (seen w t)
-  reached₁ = leaf-out-reached own t s k has
+  reached₁ : reached (treeAt w t₁) ≡ reached (treeAt w t)
+  reached₁ = leaf-out-reached w (taken ws t) t s k has
 
   -- all nodes are reached as before
   pub out-reached : reachedAll (apply (shiftOutAt t (standing n t 0 k) k) t) ≡ reachedAll t
   out-reached =
       same-all w ws t t₁ arr (head-same w ws t nothing lowly tree ss ss-away 3 (omega arith)) reached₁
-      (Each-map _ (λ (y : ℕ). reached (seen y t₁) ≡ reached (seen y t)) ws (λ y k. k .reached) (stays w ws t nothing lowly tree ss ss-away))
+      (Each-map _ (λ (y : ℕ). reached (treeAt y t₁) ≡ reached (treeAt y t)) ws (λ y k. k .reached) (stays w ws t nothing lowly tree ss ss-away))
 
   -- the leaf is emptied, and not leftmost
   module _ (e : freesLeaf n t (standing n t 1 k) (standing n t 0 k) ≡ true) where
-    frees : Frees own t (standing n t 1 k) (standing n t 0 k)
+    frees : Frees w t (standing n t 1 k) (standing n t 0 k)
     unfolding freesLeaf
     frees = let u = simp and-iff at e in record { one = eqb-true _ 1 (u .0); high = ltb-true 0 _ (u .1 .0); not-left = eqb-false _ leaf (not-iff _ .0 (u .1 .1)) }
 
-    pub can-free : Freeable (side (rootWord n) ws (apply (shiftOutAt t (standing n t 0 k) k) t)) (apply (shiftOutAt t (standing n t 0 k) k) t) (standing n t 1 k) (standing n t 0 k)
-    can-free = rw (taken-same w ws t nothing lowly tree ss ss-away) (freeable own t s k has frees)
+    pub can-free : Freeable (rootWord n) (taken ws (apply (shiftOutAt t (standing n t 0 k) k) t)) (apply (shiftOutAt t (standing n t 0 k) k) t) (standing n t 1 k) (standing n t 0 k)
+    can-free = rw (taken-same w ws t nothing lowly tree ss ss-away) (freeable w (taken ws t) t s k has frees)
 
-    freeing : Course 27 w ws t₁ (freeStores t₁ parent leaf) (mapping (seen w t₁))
+    freeing : Course 27 w ws t₁ (freeStores t₁ parent leaf) (mapping (treeAt w t₁))
     freeing = free-course w ws t₁ lowly (out .whole) parent leaf can-free
 
     freeing-course : Course 52 w ws t (deleteSettled n t k) (leave k (mapping (viewOf n t)))
@@ -207,12 +201,12 @@ module _ (n : ℕ) (ws : List ℕ) (t : Words) (arr : Arr (rootWord n) ws t) (tr
       all : AllQuiet w ws t ss
       all = leaf-out-all w ws t lowly tree k has
 
-      own : (e : freesLeaf n t parent leaf ≡ true) (l : ℕ) → Way (seen w) l t (ss ++ freeStores t₁ parent leaf)
+      own : (e : freesLeaf n t parent leaf ≡ true) (l : ℕ) → Way (treeAt w) l t (ss ++ freeStores t₁ parent leaf)
       own e l = at-level (same-or-not l 0)
         where
-          at-level : (l ≡ 0) ⊎ (l ≢ 0) → Way (seen w) l t (ss ++ freeStores t₁ parent leaf)
-          at-level (inl z) = inr (still-skip (seen w) l t ss (freeStores t₁ parent leaf) (quiet-still (seen w) l t ss (all .0 l)) (rw z (free-own-skip w ws t₁ lowly (out .whole) parent leaf (can-free e))))
-          at-level (inr z) = inl (inl (quiet-append (seen w) l t ss (freeStores t₁ parent leaf) (all .0 l) (free-own-quiet w ws t₁ lowly (out .whole) parent leaf (can-free e) l z)))
+          at-level : (l ≡ 0) ⊎ (l ≢ 0) → Way (treeAt w) l t (ss ++ freeStores t₁ parent leaf)
+          at-level (inl z) = inr (still-skip (treeAt w) l t ss (freeStores t₁ parent leaf) (quiet-still (treeAt w) l t ss (all .0 l)) (rw z (free-own-skip w ws t₁ lowly (out .whole) parent leaf (can-free e))))
+          at-level (inr z) = inl (inl (quiet-append (treeAt w) l t ss (freeStores t₁ parent leaf) (all .0 l) (free-own-quiet w ws t₁ lowly (out .whole) parent leaf (can-free e) l z)))
 
       go : (b : Bool) → freesLeaf n t parent leaf ≡ b → Ways w ws t (deleteSettled n t k)
       go true e = rw (stores-freeing n t k e) (own e, others-append ws t ss (freeStores t₁ parent leaf) (all .1) (free-beside w ws t₁ lowly (out .whole) parent leaf (can-free e)))
@@ -220,8 +214,8 @@ module _ (n : ℕ) (ws : List ℕ) (t : Words) (arr : Arr (rootWord n) ws t) (tr
 
   -- ---- the nodes reached
 
-  leaf-reached : List·Memᴰ leaf (reached (seen w t))
-  leaf-reached = standing-stands own t s k 0 (omega arith) .reached
+  leaf-reached : List·Memᴰ leaf (reached (treeAt w t))
+  leaf-reached = standing-stands w (taken ws t) t s k 0 (omega arith) .reached
 
   -- A leaf that it empties and that is not leftmost is free then, and there is one unreachable node more.
   pub settled-frees : freesLeaf n t (standing n t 1 k) (standing n t 0 k) ≡ true → Freed (rootWord n) ws t (standing n t 0 k) (apply (deleteSettled n t k) t)
@@ -234,7 +228,7 @@ module _ (n : ℕ) (ws : List ℕ) (t : Words) (arr : Arr (rootWord n) ws t) (tr
       let nodes₂ : nodes t₂ ≡ nodes t = free-two-head w ws t₁ lowly f₁ parent leaf h 2 (omega arith) ∙ head-same w ws t nothing lowly tree ss ss-away 2 (omega arith) in
       let f₂ = freeing e .whole in
       let arr₂ = course-arr 27 w ws t₁ _ _ (freeing e) (course-arr 25 w ws t ss _ out arr) in
-      let up = each-mem (UpTo (nodes t)) (reached-numbers (seen w t) (tree .left .orderly)) leaf-reached in
+      let up = each-mem (UpTo (nodes t)) (reached-numbers (treeAt w t) (tree .left .orderly)) leaf-reached in
       rw here (record {
         free = record {
           range = range-iff (nodes t₂) leaf .1 (rw nodes₂ up);

@@ -17,17 +17,18 @@ use Rattle.model.specs.SoundTest.{elem, nothing, settled}
 use Rattle.model.specs.Orders.{put}
 use Rattle.view_laws.proofs.NodeViews.{newNode}
 use Rattle.list_laws.proofs.Members.{mem-each}
-use Rattle.table_laws.proofs.Header.{header-iff}
+use Rattle.table_laws.proofs.Header.{HeadFacts, header-iff}
 use Rattle.table_laws.proofs.Nodes.{has-node-iff}
 use Rattle.table_laws.proofs.Empty.{length-empty, empty-header, empty-blank, empty-spare}
 use Rattle.word_laws.proofs.Outside.{Outside, outside-start, outside-store, outside-wider}
+use Rattle.word_laws.proofs.HeadStores.{node-head, spare-head}
 use Rattle.word_laws.proofs.Frames.{Elsewhere, view-else, view-same, left-stored, sibling-same, level-same, fence-same, slots-same, spare-same}
 use Rattle.tree_laws.proofs.Rows.{range-iff}
 use Rattle.change_laws.proofs.EmptyRoot.{root-alone, map-none, empty-left}
 use Rattle.step_laws.proofs.EmptyTable.{emptyLeaf, leaf-view, first-leaf}
-use Rattle.two_laws.proofs.TwoLaw.{seen, taken, Tree}
+use Rattle.step_laws.proofs.TreeAt.{treeAt}
+use Rattle.two_laws.proofs.TwoLaw.{taken, Tree}
 use Rattle.two_laws.proofs.Arrange.{tree-settled}
-use Rattle.step_laws.proofs.Seen.{HeadFacts, node-head, spare-head}
 
 -- ---- one collection
 
@@ -59,10 +60,10 @@ module _ (n : ℕ) (low : 1 ≤ n) (high : n ≤ 65535) where
       let h = header-iff t .0 (empty-header n low high) in
       record {
         head = record { size = h .size; first = h .first; zeros = λ w p q. h .zeros w p q };
-        left = empty-left (seen 1 t) leaf range;
+        left = empty-left (treeAt 1 t) leaf range;
         room = refl;
         others = tt;
-        apart = mem-each (λ (m : ℕ). elem m (taken [] t) ≡ false) (reached (seen 1 t)) (λ m h. refl);
+        apart = mem-each (λ (m : ℕ). elem m (taken [] t) ≡ false) (reached (treeAt 1 t)) (λ m h. refl);
       }
 
   one-settled : settled t ≡ true
@@ -70,7 +71,7 @@ module _ (n : ℕ) (low : 1 ≤ n) (high : n ≤ 65535) where
 
   one-maps : mapsOf t ≡ record { one = []; two = none }
   unfolding mapsOf
-  one-maps = rw (alone, map-none (seen 1 t) leaf range)
+  one-maps = rw (alone, map-none (treeAt 1 t) leaf range)
 
 -- ---- two collections: header word 3 is 2, and node 2's left is MARK too
 
@@ -161,10 +162,10 @@ module _ (n : ℕ) (low : 2 ≤ n) (high : n ≤ 65535) where
   unfolding flat elem
   tree = record {
     head = facts-of;
-    left = empty-left (seen 1 t₂) leaf-one in-one;
+    left = empty-left (treeAt 1 t₂) leaf-one in-one;
     room = refl;
-    others = (empty-left (seen 3 t₂) leaf-two in-two, tt);
-    apart = rw (root-alone (seen 1 t₂) leaf-one in-one, root-alone (seen 3 t₂) leaf-two in-two, root, three) (refl, tt);
+    others = (empty-left (treeAt 3 t₂) leaf-two in-two, tt);
+    apart = rw (root-alone (treeAt 1 t₂) leaf-one in-one, root-alone (treeAt 3 t₂) leaf-two in-two, root, three) (refl, tt);
   }
 
   two-settled : settled t₂ ≡ true
@@ -172,7 +173,7 @@ module _ (n : ℕ) (low : 2 ≤ n) (high : n ≤ 65535) where
 
   two-maps : mapsOf t₂ ≡ record { one = []; two = some [] }
   unfolding mapsOf
-  two-maps = λ i. record { one = map-none (seen 1 t₂) leaf-one in-one i; two = unlessLacking (ap (λ (x : ℕ). eqb x 0) three i) (map-none (seen 3 t₂) leaf-two in-two i) }
+  two-maps = λ i. record { one = map-none (treeAt 1 t₂) leaf-one in-one i; two = unlessLacking (ap (λ (x : ℕ). eqb x 0) three i) (map-none (treeAt 3 t₂) leaf-two in-two i) }
 
 -- ---- as the making chose
 

@@ -18,7 +18,12 @@ use Rattle.word_laws.proofs.Frames.{same-nodes, else-header, view-else}
 use Rattle.change_laws.proofs.Unreached.{unreached-keeps}
 use Rattle.change_laws.proofs.Parts.{HasLeft, Keeps}
 
--- a store to a node other than these
+-- a node other than these
+pub record Other (ns : List ℕ) (x : ℕ) : Type 0 where
+  pub some : 1 ≤ x
+  pub off : elem x ns ≡ false
+
+-- a store to such a node
 pub record Away (ns : List ℕ) (s : Store) : Type 0 where
   pub node : ℕ
   pub some : 1 ≤ node

@@ -25,7 +25,8 @@ use Rattle.cut_laws.proofs.Applying.{length-apply}
 use Rattle.change_laws.proofs.Parts.{HasLeft, has-left-iff}
 use Rattle.step_laws.proofs.RepairedView.{lackingIn}
 use Rattle.step_laws.proofs.Judged.{run-same, fullLater, runLater}
-use Rattle.two_laws.proofs.TwoLaw.{seen, taken, Tree}
+use Rattle.step_laws.proofs.TreeAt.{treeAt}
+use Rattle.two_laws.proofs.TwoLaw.{taken, Tree}
 use Rattle.two_laws.proofs.Arrange.{Arr, all-one, all-two, sound-parts, settled-parts, SoundAs, sound-tree, left-all}
 use Rattle.two_laws.proofs.CallsTwo.{Is, arr-other, repairs}
 use Rattle.two_laws.proofs.AcceptedTwo.{there}
@@ -43,8 +44,8 @@ reached-later t s = go (same-or-not (at t 3) 0)
 
     go : (at t 3 ≡ 0) ⊎ (at t 3 ≢ 0) → reachedAll (repaired t) ≡ reachedAll t
     go (inl z) = all-one (repaired t) (l .1 z) ∙ ap (λ (x : List ℕ). x ++ []) (repaired-later t 1 s (inl refl) .reached) ∙ sym (all-one t z)
-    go (inr z) = all-two (repaired t) (λ y. z (l .0 y)) ∙ ap (λ (x : List ℕ). x ++ (reached (seen 3 (repaired t)) ++ [])) (repaired-later t 1 s (inl refl) .reached)
-        ∙ ap (λ (x : List ℕ). reached (seen 1 t) ++ (x ++ [])) (repaired-later t 3 s (inr (refl, z)) .reached) ∙ sym (all-two t z)
+    go (inr z) = all-two (repaired t) (λ y. z (l .0 y)) ∙ ap (λ (x : List ℕ). x ++ (reached (treeAt 3 (repaired t)) ++ [])) (repaired-later t 1 s (inl refl) .reached)
+        ∙ ap (λ (x : List ℕ). reached (treeAt 1 t) ++ (x ++ [])) (repaired-later t 3 s (inr (refl, z)) .reached) ∙ sym (all-two t z)
 
 nodes-later : (t : Words) → sound t ≡ true → nodes (repaired t) ≡ nodes t
 unfolding repaired
@@ -60,13 +61,13 @@ unreachable-later t s = ap (λ (l : List ℕ). filter (λ (n : ℕ). not (elem n
 -- ---- the slot that the parent lacks
 
 -- a node of the other tree is none of this one
-not-in : (w : ℕ) (ws : List ℕ) (t : Words) (y : Leftover) (m p : ℕ) → Tree w ws t y → elem m (taken ws t) ≡ true → List·Memᴰ p (reached (seen w t)) → eqb m p ≡ false
+not-in : (w : ℕ) (ws : List ℕ) (t : Words) (y : Leftover) (m p : ℕ) → Tree w ws t y → elem m (taken ws t) ≡ true → List·Memᴰ p (reached (treeAt w t)) → eqb m p ≡ false
 not-in w ws t y m p f e h = let o = each-mem (λ (n : ℕ). elem n (taken ws t) ≡ false) (f .apart) h in ne-eqb m p (λ q. false≢true (sym o ∙ (rw q at e)))
 
-in-taken : (w : ℕ) (ws : List ℕ) (t : Words) (x m : ℕ) → Arr w ws t → Is x t → x ≢ w → List·Memᴰ m (reached (seen x t)) → elem m (taken ws t) ≡ true
+in-taken : (w : ℕ) (ws : List ℕ) (t : Words) (x m : ℕ) → Arr w ws t → Is x t → x ≢ w → List·Memᴰ m (reached (treeAt x t)) → elem m (taken ws t) ≡ true
 in-taken w ws t x m r i z =
-    arr-other w ws t x (λ (x : ℕ). List·Memᴰ m (reached (seen x t)) → elem m (taken ws t) ≡ true) r i z
-    (mem-each (λ (x : ℕ). List·Memᴰ m (reached (seen x t)) → elem m (taken ws t) ≡ true) ws (λ x k h. elem-iff m (taken ws t) .1 (mem-flat (λ (x : ℕ). reached (seen x t)) m ws .1 (x, k, h))))
+    arr-other w ws t x (λ (x : ℕ). List·Memᴰ m (reached (treeAt x t)) → elem m (taken ws t) ≡ true) r i z
+    (mem-each (λ (x : ℕ). List·Memᴰ m (reached (treeAt x t)) → elem m (taken ws t) ≡ true) ws (λ x k h. elem-iff m (taken ws t) .1 (mem-flat (λ (x : ℕ). reached (treeAt x t)) m ws .1 (x, k, h))))
 
 lacking-off : (w : ℕ) (ws : List ℕ) (t : Words) (y : Leftover) (m : ℕ) → Tree w ws t y → elem m (taken ws t) ≡ true → lackingIn (some y) m ≡ 0
 lacking-off w ws t nothing m f e = refl
@@ -79,13 +80,13 @@ lacking-off w ws t (bothIn p a) m f e = rw (not-in w ws t _ m p f e (f .left .le
 pub lacking-all : (n : ℕ) (t : Words) (m : ℕ) → sound t ≡ true → Is (rootWord n) t → List·Memᴰ m (reached (viewOf n t)) → lackingIn (leftover (viewOf n t)) m ≡ lackingIn (leftoverAll t) m
 lacking-all n t m s i h = let u = sound-tree t s in go u (same-or-not (rootWord n) (u .word)) ∙ ap (λ (y : Option Leftover). lackingIn y m) (sym (left-all (u .word) (u .others) t (u .leftover) (u .arranged) (u .tree)))
   where
-    is : (x : ℕ) (z : Leftover) → HasLeft (seen x t) z → leftover (seen x t) ≡ some z
-    is x z l = has-left-iff (seen x t) z .1 l .1
+    is : (x : ℕ) (z : Leftover) → HasLeft (treeAt x t) z → leftover (treeAt x t) ≡ some z
+    is x z l = has-left-iff (treeAt x t) z .1 l .1
 
     go : (u : SoundAs t) → (rootWord n ≡ u .word) ⊎ (rootWord n ≢ u .word) → lackingIn (leftover (viewOf n t)) m ≡ lackingIn (some (u .leftover)) m
-    go u (inl e) = ap (λ (x : ℕ). lackingIn (leftover (seen x t)) m) e ∙ ap (λ (y : Option Leftover). lackingIn y m) (is (u .word) (u .leftover) (u .tree .left))
+    go u (inl e) = ap (λ (x : ℕ). lackingIn (leftover (treeAt x t)) m) e ∙ ap (λ (y : Option Leftover). lackingIn y m) (is (u .word) (u .leftover) (u .tree .left))
     go u (inr z) =
-        let l = arr-other (u .word) (u .others) t (rootWord n) (λ (x : ℕ). HasLeft (seen x t) nothing) (u .arranged) i z (u .tree .others) in
+        let l = arr-other (u .word) (u .others) t (rootWord n) (λ (x : ℕ). HasLeft (treeAt x t) nothing) (u .arranged) i z (u .tree .others) in
         ap (λ (y : Option Leftover). lackingIn y m) (is (rootWord n) nothing l)
         ∙ sym (lacking-off (u .word) (u .others) t (u .leftover) m (u .tree) (in-taken (u .word) (u .others) t (rootWord n) m (u .arranged) i z h))
 

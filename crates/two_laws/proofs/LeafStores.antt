@@ -29,7 +29,7 @@ use Rattle.tree_laws.proofs.Levels.{Orderly}
 use Rattle.tree_laws.proofs.SearchLaw.{path-stands}
 use Rattle.change_laws.proofs.Parts.{good-parts}
 use Rattle.two_laws.proofs.Arrange.{all-one, all-two}
-use Rattle.two_laws.proofs.TwoLaw.{seen}
+use Rattle.step_laws.proofs.TreeAt.{treeAt}
 
 -- ---- a view with other slots
 
@@ -106,7 +106,7 @@ module _ (t t′ : Words) (x : ℕ) (some : 1 ≤ x) (leaf : node t x .level ≡
     };
   }
 
-  tree-same : (w : ℕ) → w < 8 → reached (seen w t′) ≡ reached (seen w t)
+  tree-same : (w : ℕ) → w < 8 → reached (treeAt w t′) ≡ reached (treeAt w t)
   tree-same w h =
       ap (λ (r : ℕ). reached (viewFrom t′ r)) (low w h) ∙ ap reached (seen-same (at t w))
       ∙ leaf-reached (viewFrom t (at t w)) _ _ _ x leaf (λ n z. shown-eq (other n z))
@@ -117,8 +117,8 @@ module _ (t t′ : Words) (x : ℕ) (some : 1 ≤ x) (leaf : node t x .level ≡
       go : (at t 3 ≡ 0) ⊎ (at t 3 ≢ 0) → reachedAll t′ ≡ reachedAll t
       go (inl z) = all-one t′ (low 3 (omega arith) ∙ z) ∙ ap (λ (l : List ℕ). l ++ []) (tree-same 1 (omega arith)) ∙ sym (all-one t z)
       go (inr z) =
-          all-two t′ (λ y. z (sym (low 3 (omega arith)) ∙ y)) ∙ ap (λ (l : List ℕ). l ++ (reached (seen 3 t′) ++ [])) (tree-same 1 (omega arith))
-          ∙ ap (λ (l : List ℕ). reached (seen 1 t) ++ (l ++ [])) (tree-same 3 (omega arith)) ∙ sym (all-two t z)
+          all-two t′ (λ y. z (sym (low 3 (omega arith)) ∙ y)) ∙ ap (λ (l : List ℕ). l ++ (reached (treeAt 3 t′) ++ [])) (tree-same 1 (omega arith))
+          ∙ ap (λ (l : List ℕ). reached (treeAt 1 t) ++ (l ++ [])) (tree-same 3 (omega arith)) ∙ sym (all-two t z)
 
 -- ---- the stores
 

@@ -20,7 +20,8 @@ use Rattle.step_laws.proofs.Rowwise.{Same, Straight, same-refl, same-trans, non
 use Rattle.step_laws.proofs.LevelCourses.{Quiet, Way, quiet-nil, quiet-append}
 use Rattle.step_laws.proofs.LinkCourses.{unreached-quiet}
 use Rattle.two_laws.proofs.Frame.{Away, away-keeps}
-use Rattle.two_laws.proofs.TwoLaw.{seen, taken, Tree, Low, head-same, away-one}
+use Rattle.step_laws.proofs.TreeAt.{treeAt}
+use Rattle.two_laws.proofs.TwoLaw.{taken, Tree, Low, head-same, away-one}
 
 -- ---- a tree that the stores do not go to
 
@@ -39,36 +40,36 @@ away-quiet l (s ∷ ss) t q h a =
     (same-trans l (viewFrom t q) (viewFrom (doStore s t) q) (viewFrom (apply ss (doStore s t)) q) (store-quiet l t q s h (a .0) .0) (i .0), i .1)
 
 module _ (w : ℕ) (ws : List ℕ) (t : Words) (y : Leftover) (low : Low w ws) (f : Tree w ws t y) (ss : List Store) (a : Each (Away (taken ws t)) ss) where
-  other-quiet : (x : ℕ) → List·Memᴰ x ws → (l : ℕ) → Quiet (seen x) l t ss
+  other-quiet : (x : ℕ) → List·Memᴰ x ws → (l : ℕ) → Quiet (treeAt x) l t ss
   other-quiet x m l j =
       let b = each-take (Away (taken ws t)) j ss a in
       let e = head-same w ws t y low f (take j ss) b x (each-mem (λ (x : ℕ). x < 8) (low .1) m) in
-      let p = away-quiet l (take j ss) t (at t x) (each-mem (λ (x : ℕ). HasLeft (seen x t) nothing) (f .others) m) (away-one w ws t y low f (take j ss) b x m) in
+      let p = away-quiet l (take j ss) t (at t x) (each-mem (λ (x : ℕ). HasLeft (treeAt x t) nothing) (f .others) m) (away-one w ws t y low f (take j ss) b x m) in
       record { same = rw e (p .0); straight = rw e (p .1) }
 
   -- every level of the others is quiet
-  pub others-quiet : Each (λ (x : ℕ). (l : ℕ) → Quiet (seen x) l t ss) ws
-  others-quiet = mem-each (λ (x : ℕ). (l : ℕ) → Quiet (seen x) l t ss) ws other-quiet
+  pub others-quiet : Each (λ (x : ℕ). (l : ℕ) → Quiet (treeAt x) l t ss) ws
+  others-quiet = mem-each (λ (x : ℕ). (l : ℕ) → Quiet (treeAt x) l t ss) ws other-quiet
 
 -- ---- all of them
 
 -- what the levels of the tree of w may do, while those of the others are quiet
 abbrev pub OthersQuiet : List ℕ → Words → List Store → Type 0
-OthersQuiet ws t ss = Each (λ (x : ℕ). (l : ℕ) → Quiet (seen x) l t ss) ws
+OthersQuiet ws t ss = Each (λ (x : ℕ). (l : ℕ) → Quiet (treeAt x) l t ss) ws
 
 abbrev pub AllQuiet : ℕ → List ℕ → Words → List Store → Type 0
-AllQuiet w ws t ss = ((l : ℕ) → Quiet (seen w) l t ss) × OthersQuiet ws t ss
+AllQuiet w ws t ss = ((l : ℕ) → Quiet (treeAt w) l t ss) × OthersQuiet ws t ss
 
 abbrev pub Ways : ℕ → List ℕ → Words → List Store → Type 0
-Ways w ws t ss = ((l : ℕ) → Way (seen w) l t ss) × OthersQuiet ws t ss
+Ways w ws t ss = ((l : ℕ) → Way (treeAt w) l t ss) × OthersQuiet ws t ss
 
 pub quiet-ways : (w : ℕ) (ws : List ℕ) (t : Words) (ss : List Store) → AllQuiet w ws t ss → Ways w ws t ss
 quiet-ways w ws t ss q = (λ l. inl (inl (q .0 l)), q .1)
 
 pub others-append : (ws : List ℕ) (t : Words) (ss us : List Store) → OthersQuiet ws t ss → OthersQuiet ws (apply ss t) us → OthersQuiet ws t (ss ++ us)
 others-append ws t ss us p q =
-    Each-map _ (λ (x : ℕ). (l : ℕ) → Quiet (seen x) l t (ss ++ us)) ws (λ x h l. quiet-append (seen x) l t ss us (h .0 l) (h .1 l))
-    (each-both (λ (x : ℕ). (l : ℕ) → Quiet (seen x) l t ss) (λ (x : ℕ). (l : ℕ) → Quiet (seen x) l (apply ss t) us) ws p q)
+    Each-map _ (λ (x : ℕ). (l : ℕ) → Quiet (treeAt x) l t (ss ++ us)) ws (λ x h l. quiet-append (treeAt x) l t ss us (h .0 l) (h .1 l))
+    (each-both (λ (x : ℕ). (l : ℕ) → Quiet (treeAt x) l t ss) (λ (x : ℕ). (l : ℕ) → Quiet (treeAt x) l (apply ss t) us) ws p q)
 
 pub nil-others : (w : ℕ) (ws : List ℕ) (t : Words) → Tree w ws t nothing → OthersQuiet ws t []
-nil-others w ws t f = Each-map (λ (x : ℕ). HasLeft (seen x t) nothing) (λ (x : ℕ). (l : ℕ) → Quiet (seen x) l t []) ws (λ x h l. quiet-nil (seen x) l t (none-straight (seen x t) (h .left .2) l)) (f .others)
+nil-others w ws t f = Each-map (λ (x : ℕ). HasLeft (treeAt x t) nothing) (λ (x : ℕ). (l : ℕ) → Quiet (treeAt x) l t []) ws (λ x h l. quiet-nil (treeAt x) l t (none-straight (treeAt x t) (h .left .2) l)) (f .others)

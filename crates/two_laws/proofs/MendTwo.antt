@@ -7,19 +7,17 @@ use Prim.Native.Nat.{ℕ, _≤_, _<_}
 use native.Mathlib.Omega.{arith}
 use lib.ListN.{length}
 use borrow.Author.Tests.{leb-true}
-use Rattle.model.specs.Table.{Words, nodes, hasNode}
+use Rattle.model.specs.Table.{Words, hasNode}
 use Rattle.model.specs.Slots.{nodeView}
 use Rattle.model.specs.Reached.{reached}
 use Rattle.model.specs.SoundTest.{Leftover, hiddenIn, missingIn, bothIn, room, leftoverAll, sound}
 use Rattle.model.specs.Orders.{apply}
 use Rattle.model.specs.Writes.{closeAt}
 use Rattle.list_laws.proofs.Members.{each-mem}
-use Rattle.list_laws.proofs.Distinct.{UpTo}
-use Rattle.table_laws.proofs.Nodes.{has-node-iff}
-use Rattle.tree_laws.proofs.Levels.{reached-numbers}
 use Rattle.tree_laws.proofs.Leftovers.{NoneHidden}
 use Rattle.step_laws.proofs.Repair.{a-reached}
-use Rattle.two_laws.proofs.TwoLaw.{seen, Tree}
+use Rattle.step_laws.proofs.TreeAt.{treeAt}
+use Rattle.two_laws.proofs.TwoLaw.{Tree, own-usable}
 use Rattle.two_laws.proofs.RepairTwo.{close-tree}
 use Rattle.two_laws.proofs.Arrange.{Arr, arr-low, sound-tree, left-all}
 use Rattle.two_laws.proofs.PartsTwo.{Plain}
@@ -27,22 +25,20 @@ use Rattle.two_laws.proofs.PartsTwo.{Plain}
 some-same : (x y : Leftover) → some x ≡ some y → x ≡ y
 some-same x y e = cc
 
-module _ (w : ℕ) (ws : List ℕ) (t : Words) (y : Leftover) (f : Tree w ws t y) (n : ℕ) (m : List·Memᴰ n (reached (seen w t))) where
+module _ (w : ℕ) (ws : List ℕ) (t : Words) (y : Leftover) (f : Tree w ws t y) (n : ℕ) (m : List·Memᴰ n (reached (treeAt w t))) where
   reached-there : hasNode t n ≡ true
-  reached-there =
-      let u = each-mem (UpTo (nodes t)) (reached-numbers (seen w t) (f .left .orderly)) m in
-      has-node-iff t n .1 (u .0, omega (arith, u .1, f .head .size .long))
+  reached-there = own-usable w ws t y f n m .there
 
-  reached-plain : NoneHidden (seen w t) → Plain t n
+  reached-plain : NoneHidden (treeAt w t) → Plain t n
   reached-plain h = record { there = reached-there; plain = each-mem (λ (n : ℕ). nodeView t n .hidden ≡ 0) h m }
 
 missing-in : (w : ℕ) (ws : List ℕ) (t : Words) (p a : ℕ) (b : Bool) → Tree w ws t (missingIn p a b) → Plain t p × Plain t a
 missing-in w ws t p a false f =
     let g = f .left .left .2 in
-    (reached-plain w ws t _ f p (g .member) (f .left .left .0), reached-plain w ws t _ f a (a-reached (seen w t) p a (f .left .orderly) g) (f .left .left .0))
+    (reached-plain w ws t _ f p (g .member) (f .left .left .0), reached-plain w ws t _ f a (a-reached (treeAt w t) p a (f .left .orderly) g) (f .left .left .0))
 missing-in w ws t p a true f =
     let g = f .left .left .2 in
-    (reached-plain w ws t _ f p (g .member) (f .left .left .0), reached-plain w ws t _ f a (a-reached (seen w t) p a (f .left .orderly) g) (f .left .left .0))
+    (reached-plain w ws t _ f p (g .member) (f .left .left .0), reached-plain w ws t _ f a (a-reached (treeAt w t) p a (f .left .orderly) g) (f .left .left .0))
 
 -- the tree that has the leftover
 record LeftIn (t : Words) (y : Leftover) : Type 0 where
@@ -57,7 +53,7 @@ left-in t y s e =
     let q : u .leftover ≡ y = some-same (u .leftover) y (sym (left-all (u .word) (u .others) t (u .leftover) (u .arranged) (u .tree)) ∙ e) in
     record { word = u .word; others = u .others; arranged = u .arranged; tree = rw q at (u .tree) }
 
-roomy : (w : ℕ) (t : Words) (p : ℕ) → room (seen w t) p ≡ true → length (nodeView t p .shown) < 11
+roomy : (w : ℕ) (t : Words) (p : ℕ) → room (treeAt w t) p ≡ true → length (nodeView t p .shown) < 11
 unfolding room
 roomy w t p h = let r : length (nodeView t p .shown) ≤ 10 = leb-true _ _ h in omega arith
 

@@ -1,13 +1,13 @@
 -- The parts of a write of collection n on a settled table: the nodes that it reads and stores to, the run that is split, the leaf that is freed.
 use mathlib.Core.Path.{_≡_, refl, sym, ap, _∙_}
 use mathlib.Core.Bool.{Bool, true, false, cond, false≢true}
-use mathlib.Core.Logic.{_≢_, inl, inr}
+use mathlib.Core.Logic.{_≢_}
 use mathlib.Core.List.{List, List·Memᴰ}
 use Prim.Native.Nat.{ℕ, suc, _+_, _*_, _≤_, _<_}
 use native.Mathlib.Omega.{arith}
 use lib.ListN.{length}
-use borrow.Author.Tests.{ne-eqb, ltb-false}
-use Rattle.model.specs.Table.{Words, at, nodes, hasNode, rootWord, noCollection}
+use borrow.Author.Tests.{ltb-false}
+use Rattle.model.specs.Table.{Words, at, hasNode, rootWord, noCollection}
 use Rattle.model.specs.Slots.{nodeView, view, height, viewOf}
 use Rattle.model.specs.Reached.{reached, reachedAll, mapOf}
 use Rattle.model.specs.SoundTest.{elem, nothing, settled}
@@ -16,45 +16,16 @@ use Rattle.model.specs.Shifts.{placeOf}
 use Rattle.model.specs.Writes.{shiftInAt, shiftOutAt, childBefore, unreachable, newRoot, fresh, standing, run, rootInRun, splits, rootStores, freesLeaf}
 use Rattle.model.specs.Refusals.{hasKey, tooHigh, tooFew}
 use Rattle.list_laws.proofs.Members.{each-mem}
-use Rattle.list_laws.proofs.Distinct.{UpTo}
-use Rattle.table_laws.proofs.Nodes.{has-node-iff}
-use Rattle.tree_laws.proofs.Rows.{range-iff}
-use Rattle.tree_laws.proofs.Levels.{reached-numbers}
+use Rattle.table_laws.proofs.Nodes.{has-node-head}
 use Rattle.two_laws.specs.Parts.{splitFor, Splittable, Ready}
-use Rattle.two_laws.proofs.TwoLaw.{Tree, Low}
+use Rattle.two_laws.proofs.TwoLaw.{Tree, Low, Course, own-usable}
 use Rattle.two_laws.proofs.Leaf.{leaf-place, leaf-out}
-use Rattle.two_laws.proofs.Arrange.{Arr, arr-low, root-in, tree-settled, settled-tree, free-fresh, free-off, course-arr}
+use Rattle.two_laws.proofs.Arrange.{Arr, arr-low, arr-there, root-in, tree-settled, settled-tree, free-fresh, free-off, course-arr}
 use Rattle.two_laws.proofs.LeafStores.{in-reached, leaf-for}
 use Rattle.two_laws.proofs.DeleteTwo.{p-reached, before-reached, can-free}
-use Rattle.two_laws.proofs.InsertTwo.{stands-reached, ReadyIn, ready-next, first-others, splits-course, splits-room, root-first, first-root-others}
+use Rattle.two_laws.proofs.InsertTwo.{stands-reached, ready-next, first-others, splits-course, splits-room, root-first, first-root-others}
 use Rattle.two_laws.proofs.CallsTwo.{arranged}
 use Rattle.two_laws.proofs.AcceptedTwo.{there}
-
--- the collection of an arrangement is there
-arr-there : (n : ℕ) (ws : List ℕ) (t : Words) → Arr (rootWord n) ws t → noCollection n t ≡ false
-unfolding noCollection
-arr-there n ws t r = go r
-  where
-    first : rootWord n ≡ 1 → n ≡ 1
-    first e = omega arith
-
-    second : rootWord n ≡ 3 → n ≡ 2
-    second e = omega arith
-
-    go : Arr (rootWord n) ws t → noCollection n t ≡ false
-    go (inl h) = rw (first (h .0))
-    go (inr (inl h)) = rw (first (h .0))
-    go (inr (inr h)) = rw (second (h .0), ne-eqb (at t 3) 0 (h .1 .1))
-
-ready-out : (m n : ℕ) (ws : List ℕ) (t : Words) (k : ℕ) → ReadyIn m n ws t k → Ready m n t k
-ready-out m n ws t k r = record {
-  collection = arr-there n ws t (r .arr);
-  settled = tree-settled (rootWord n) ws t (r .arr) (r .tree);
-  high = r .high;
-  full = r .full;
-  above = r .above;
-  enough = r .enough;
-}
 
 -- ---- what is reached stays so
 
@@ -86,12 +57,9 @@ module _ (n : ℕ) (t : Words) (h : noCollection n t ≡ false) (s : settled t �
   tree : Tree w (beside .0) t nothing
   tree = settled-tree w (beside .0) t (beside .1) s
 
-  node-there : (m : ℕ) → UpTo (nodes t) m → hasNode t m ≡ true
-  node-there m u = has-node-iff t m .1 (u .0, omega (arith, u .1, tree .head .size .long))
-
   pub settled-plain : (m : ℕ) → List·Memᴰ m (reached (viewOf n t)) → Plain t m
   settled-plain m i = record {
-    there = node-there m (each-mem (UpTo (nodes t)) (reached-numbers (viewOf n t) (tree .left .orderly)) i);
+    there = own-usable w (beside .0) t nothing tree m i .there;
     plain = each-mem (λ (m : ℕ). nodeView t m .hidden ≡ 0) (tree .left .left .0) i;
   }
 
@@ -103,7 +71,7 @@ module _ (n : ℕ) (t : Words) (h : noCollection n t ≡ false) (s : settled t �
 
   -- the fresh node after a reached one lies in the table
   pub fresh-there : (a : ℕ) → List·Memᴰ a (reached (viewOf n t)) → 0 < length (unreachable t) → hasNode t (fresh t a) ≡ true
-  fresh-there a m i = node-there (fresh t a) (range-iff (nodes t) (fresh t a) .0 (free-fresh w (beside .0) t a (beside .1) tree m i .range))
+  fresh-there a m i = has-node-head t (fresh t a) (tree .head) ∙ free-fresh w (beside .0) t a (beside .1) tree m i .range
 
   -- ---- the new root, where the run includes the root
 
@@ -120,7 +88,7 @@ module _ (n : ℕ) (t : Words) (h : noCollection n t ≡ false) (s : settled t �
       go false e = rw (e, rootStores) (λ x q. q)
 
   pub root-ready : (k : ℕ) → tooHigh n t k ≡ false → tooFew n t k ≡ false → Ready (run n t k) n (apply (rootStores n t k) t) k
-  root-ready k a b = ready-out (run n t k) n (beside .0) (apply (rootStores n t k) t) k (root-first n (beside .0) t k (beside .1) tree a b .1)
+  root-ready k a b = root-first n (beside .0) t k (beside .1) tree a b .1
 
 -- ---- the run, split from the highest down
 
@@ -128,15 +96,18 @@ module _ (m n : ℕ) (t : Words) (k : ℕ) (r : Ready m n t k) where
   abbrev ws : List ℕ
   ws = beside n t (r .collection) (r .settled) .0
 
-  ready-in : ReadyIn m n ws t k
-  ready-in = record { arr = beside n t (r .collection) (r .settled) .1; tree = tree n t (r .collection) (r .settled); high = r .high; full = r .full; above = r .above; enough = r .enough }
+  run-arr : Arr (rootWord n) ws t
+  run-arr = beside n t (r .collection) (r .settled) .1
+
+  split : Course (m * 67) (rootWord n) ws t (splits n m t k) (mapOf n t)
+  split = splits-course m n ws t k run-arr r
 
   split-arr : Arr (rootWord n) ws (apply (splits n m t k) t)
-  split-arr = course-arr (m * 67) (rootWord n) ws t _ _ (splits-course m n ws t k ready-in) (ready-in .arr)
+  split-arr = course-arr (m * 67) (rootWord n) ws t _ _ split run-arr
 
   -- Splitting it leaves a settled table, with the same collections.
   pub splits-settled : settled (apply (splits n m t k) t) ≡ true
-  splits-settled = tree-settled (rootWord n) ws _ split-arr (splits-course m n ws t k ready-in .whole)
+  splits-settled = tree-settled (rootWord n) ws _ split-arr (split .whole)
 
   pub splits-there : noCollection n (apply (splits n m t k) t) ≡ false
   splits-there = arr-there n ws _ split-arr
@@ -145,22 +116,24 @@ module _ (m n : ℕ) (t : Words) (k : ℕ) (r : Ready m n t k) where
   pub in-same : (y : ℕ) → let t₂ = apply (splits n m t k) t in reachedAll (apply (shiftInAt t₂ (standing n t₂ 0 k) k y) t₂) ≡ reachedAll t₂
   in-same y =
       let t₂ = apply (splits n m t k) t in
-      let leaf = leaf-for n t₂ k (splits-course m n ws t k ready-in .whole .left .orderly) in
-      in-reached t₂ (standing n t₂ 0 k) (leaf .some) (leaf .level) k y (splits-room m n ws t k ready-in)
+      let leaf = leaf-for n t₂ k (split .whole .left .orderly) in
+      in-reached t₂ (standing n t₂ 0 k) (leaf .some) (leaf .level) k y (splits-room m n ws t k run-arr r)
 
 module _ (l n : ℕ) (t : Words) (k : ℕ) (r : Ready (suc l) n t k) where
+  here : Arr (rootWord n) (beside n t (r .collection) (r .settled) .0) t
+  here = run-arr (suc l) n t k r
+
   -- the highest of them can be split, and then the rest is ready
   pub ready-first : Splittable n t k l
-  ready-first = record { node = record { collection = r .collection; settled = r .settled; high = r .high; full = r .full l (omega arith); roomy = r .above }; some = omega (arith, r .enough) }
+  ready-first = record { collection = r .collection; settled = r .settled; node = record { high = r .high; full = r .full l (omega arith); roomy = r .above }; some = omega (arith, r .enough) }
 
   pub ready-later : Ready l n (apply (splitFor n t l k) t) k
-  ready-later = ready-out l n _ _ k (ready-next l n _ t k (ready-in (suc l) n t k r))
+  ready-later = ready-next l n _ t k here r
 
   pub split-stays : Stays (splitFor n t l k) t
   split-stays =
-      let i = ready-in (suc l) n t k r in
-      let free = free-fresh (rootWord n) _ t (standing n t l k) (i .arr) (i .tree) (standing-reached n t (r .collection) (r .settled) l k (omega (arith, r .high))) (omega (arith, r .enough)) in
-      but-free (splitFor n t l k) t _ (free-off (rootWord n) _ t _ (i .arr) free) (first-others l n _ t k i)
+      let free = free-fresh (rootWord n) _ t (standing n t l k) here (tree n t (r .collection) (r .settled)) (standing-reached n t (r .collection) (r .settled) l k (omega (arith, r .high))) (omega (arith, r .enough)) in
+      but-free (splitFor n t l k) t _ (free-off (rootWord n) _ t _ here free) (first-others l n _ t k here r)
 
 -- ---- the slot of a key, and the leaf freed after the shift out
 

@@ -1,13 +1,11 @@
 -- Where the stores of a write go: each to a node that is named.
 use mathlib.Core.Path.{_≡_}
-use mathlib.Core.Bool.{false}
 use mathlib.Core.List.{List, [], _∷_, map}
 use Prim.Native.Nat.{ℕ, suc, _+_, _≤_, _<_}
 use native.Mathlib.Omega.{arith}
 use lib.ListN.{length}
 use Rattle.model.specs.Table.{Words, nodeStart}
 use Rattle.model.specs.Slots.{used, nodeView}
-use Rattle.model.specs.SoundTest.{elem}
 use Rattle.model.specs.Orders.{Store, put}
 use Rattle.model.specs.Shifts.{SlotStore, inNode, shiftIn, shiftOut, close, placeOf, hiddenPlace}
 use Rattle.model.specs.Writes.{shiftInAt, shiftOutAt, closeAt, putAll}
@@ -16,11 +14,11 @@ use Rattle.list_laws.proofs.Slots.{place-length}
 use Rattle.slot_laws.proofs.Places.{Below, hidden-place-lt, shift-in-places, shift-out-places, close-places}
 use Rattle.word_laws.proofs.SlotRuns.{slot-into}
 use Rattle.word_laws.proofs.Outside.{Into}
-use Rattle.two_laws.proofs.Frame.{Away}
+use Rattle.two_laws.proofs.Frame.{Other, Away}
 
-module _ (ns : List ℕ) (x : ℕ) (some : 1 ≤ x) (off : elem x ns ≡ false) where
+module _ (ns : List ℕ) (x : ℕ) (o : Other ns x) where
   at-node : (s : Store) → Into (nodeStart x) 32 s → Away ns s
-  at-node s i = record { node = x; some = some; off = off; into = i }
+  at-node s i = record { node = x; some = o .some; off = o .off; into = i }
 
   slots-away : (qs : List SlotStore) → Each (Below 12) qs → Each (Away ns) (map (inNode x) qs)
   slots-away [] b = tt

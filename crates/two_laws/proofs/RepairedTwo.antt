@@ -22,22 +22,22 @@ use Rattle.step_laws.proofs.SamePaths.{height-same, path-same}
 use Rattle.step_laws.proofs.Repair.{repair-of}
 use Rattle.step_laws.proofs.RepairedView.{lackingIn, RepairedView, repaired-view}
 use Rattle.two_laws.proofs.Frame.{Away, away-shown}
-use Rattle.two_laws.proofs.TwoLaw.{seen, taken, Tree, Low, tree-fine, stays, head-same, side}
+use Rattle.step_laws.proofs.TreeAt.{treeAt, Fine, repairedAt}
+use Rattle.two_laws.proofs.TwoLaw.{taken, Tree, Low, tree-fine, stays, head-same}
 use Rattle.two_laws.proofs.Arrange.{Arr, arr-low, SoundAs, sound-tree}
 use Rattle.two_laws.proofs.CallsTwo.{Is, arr-other, repair-list}
-use Rattle.step_laws.proofs.Seen.{Side, Fine, repairedAt}
 use Rattle.two_laws.proofs.RepairTwo.{repair-away}
 
 -- the tree of header word x in the table t′, against t
 pub record Later (x : ℕ) (t t′ : Words) : Type 0 where
-  pub count : (n : ℕ) → List·Memᴰ n (reached (seen x t)) → length (nodeView t′ n .shown) ≡ length (kept (seen x t) n) + lackingIn (leftover (seen x t)) n
-  pub height : height (seen x t′) ≡ height (seen x t)
-  pub reached : reached (seen x t′) ≡ reached (seen x t)
-  pub path : (k : ℕ) → path (seen x t′) k ≡ path (seen x t) k
+  pub count : (n : ℕ) → List·Memᴰ n (reached (treeAt x t)) → length (nodeView t′ n .shown) ≡ length (kept (treeAt x t) n) + lackingIn (leftover (treeAt x t)) n
+  pub height : height (treeAt x t′) ≡ height (treeAt x t)
+  pub reached : reached (treeAt x t′) ≡ reached (treeAt x t)
+  pub path : (k : ℕ) → path (treeAt x t′) k ≡ path (treeAt x t) k
 
 module _ (w : ℕ) (ws : List ℕ) (t : Words) (y : Leftover) (low : Low w ws) (f : Tree w ws t y) where
-  abbrev sd : Side
-  sd = side w ws t
+  abbrev ns : List ℕ
+  ns = taken ws t
 
   abbrev ss : List Store
   ss = repairOf t (some y)
@@ -45,18 +45,18 @@ module _ (w : ℕ) (ws : List ℕ) (t : Words) (y : Leftover) (low : Low w ws) (
   abbrev t′ : Words
   t′ = apply (repairOf t (some y)) t
 
-  fine : Fine sd t y
+  fine : Fine w ns t y
   fine = tree-fine w ws t low y f
 
   away : Each (Away (taken ws t)) ss
   away = repair-away w ws t y low f
 
-  done : repairedAt sd t ≡ t′
+  done : repairedAt w t ≡ t′
   unfolding repairedAt
-  done = ap (λ (q : List Store). apply q t) (repair-of sd t y fine)
+  done = ap (λ (q : List Store). apply q t) (repair-of w ns t y fine)
 
-  r : RepairedView sd t
-  r = repaired-view sd t (y, fine)
+  r : RepairedView w t
+  r = repaired-view w ns t (y, fine)
 
   -- the tree with the leftover
   pub own-later : Later w t (apply (repairOf t (some y)) t)
@@ -64,11 +64,11 @@ module _ (w : ℕ) (ws : List ℕ) (t : Words) (y : Leftover) (low : Low w ws) (
 
   -- another tree
   module _ (x : ℕ) (i : List·Memᴰ x ws) where
-    k : Keeps (seen x t) (seen x t′) nothing
-    k = each-mem (λ (x : ℕ). Keeps (seen x t) (seen x t′) nothing) (stays w ws t y low f ss away) i
+    k : Keeps (treeAt x t) (treeAt x t′) nothing
+    k = each-mem (λ (x : ℕ). Keeps (treeAt x t) (treeAt x t′) nothing) (stays w ws t y low f ss away) i
 
-    l : HasLeft (seen x t) nothing
-    l = each-mem (λ (x : ℕ). HasLeft (seen x t) nothing) (f .others) i
+    l : HasLeft (treeAt x t) nothing
+    l = each-mem (λ (x : ℕ). HasLeft (treeAt x t) nothing) (f .others) i
 
     root-same : at t′ x ≡ at t x
     root-same = head-same w ws t y low f ss away x (each-mem (λ (x : ℕ). x < 8) (low .1) i)
@@ -79,14 +79,14 @@ module _ (w : ℕ) (ws : List ℕ) (t : Words) (y : Leftover) (low : Low w ws) (
 
     pub other-later : Later x t (apply (repairOf t (some y)) t)
     other-later = record {
-      height = height-same (seen x t) (seen x t′) (l .orderly) (k .left .orderly) root-same bares (k .reached);
+      height = height-same (treeAt x t) (treeAt x t′) (l .orderly) (k .left .orderly) root-same bares (k .reached);
       reached = k .reached;
-      path = path-same (seen x t) (seen x t′) (l .orderly) (k .left .orderly) root-same bares (k .reached);
+      path = path-same (treeAt x t) (treeAt x t′) (l .orderly) (k .left .orderly) root-same bares (k .reached);
       count = λ n h.
-          let q : kept (seen x t) n ≡ nodeView t n .shown = each-mem (λ (n : ℕ). kept (seen x t) n ≡ nodeView t n .shown) (l .left .1) h in
-          let e : leftover (seen x t) ≡ some nothing = has-left-iff (seen x t) nothing .1 l .1 in
+          let q : kept (treeAt x t) n ≡ nodeView t n .shown = each-mem (λ (n : ℕ). kept (treeAt x t) n ≡ nodeView t n .shown) (l .left .1) h in
+          let e : leftover (treeAt x t) ≡ some nothing = has-left-iff (treeAt x t) nothing .1 l .1 in
           let z : length (nodeView t n .shown) ≡ length (nodeView t n .shown) + 0 = omega arith in
-          ap length (away-shown (taken ws t) ss t n (mem-flat (λ (x : ℕ). reached (seen x t)) n ws .1 (x, i, h)) away) ∙ z ∙ rw (e, q);
+          ap length (away-shown (taken ws t) ss t n (mem-flat (λ (x : ℕ). reached (treeAt x t)) n ws .1 (x, i, h)) away) ∙ z ∙ rw (e, q);
     }
 
 -- For every collection of a sound table: the same nodes and paths after repair, and how many slots each node then shows.

@@ -15,6 +15,7 @@ use Rattle.model.specs.Writes.{putAll, nodeWords, newRootAt}
 use Rattle.list_laws.proofs.Tools.{Each}
 use Rattle.list_laws.proofs.Members.{each-mem, mem-each, each-take}
 use Rattle.tree_laws.proofs.Rows.{range-iff}
+use Rattle.word_laws.proofs.HeadStores.{head-view}
 use Rattle.word_laws.proofs.NewNodes.{length-node-words}
 use Rattle.cut_laws.proofs.Applying.{apply-append, always-append, length-apply}
 use Rattle.step_laws.proofs.NewRoot.{root-phase, root-turns}
@@ -24,9 +25,9 @@ use Rattle.step_laws.proofs.LevelCourses.{QuietAt, Quiet, Turn, each-part, stil
 use Rattle.step_laws.proofs.LinkCourses.{whole-quiet}
 use Rattle.two_laws.proofs.Frame.{Away}
 use Rattle.two_laws.proofs.Places.{all-away}
-use Rattle.two_laws.proofs.TwoLaw.{seen, taken, Tree, Low, Course, tree-fine, side, Stay, stays, stay-taken, beside-course, head-same}
+use Rattle.step_laws.proofs.TreeAt.{treeAt, Fine}
+use Rattle.two_laws.proofs.TwoLaw.{taken, Tree, Low, Course, tree-fine, Stay, stays, stay-taken, beside-course, head-same}
 use Rattle.two_laws.proofs.LevelsTwo.{OthersQuiet, others-quiet, others-append}
-use Rattle.step_laws.proofs.Seen.{Side, Fine, head-view}
 use Rattle.change_laws.proofs.Parts.{Keeps}
 
 same-seen : (l : ℕ) (v v′ : View) → v′ ≡ v → Same l v v′
@@ -38,27 +39,24 @@ straight-seen l v v′ e s = rw e s
 keeps-is : (v w u : View) → w ≡ u → Keeps v u nothing → Keeps v w nothing
 keeps-is v w u e k = rw e k
 
-module _ (w : ℕ) (ws : List ℕ) (t : Words) (low : Low w ws) (word : (w ≡ 1) ⊎ (w ≡ 3)) (others : Each (λ (x : ℕ). x ≢ w) ws) (f : Tree w ws t nothing) (high : height (seen w t) < 15) (b : ℕ) (g : Free (side w ws t) t b) where
+module _ (w : ℕ) (ws : List ℕ) (t : Words) (low : Low w ws) (word : (w ≡ 1) ⊎ (w ≡ 3)) (others : Each (λ (x : ℕ). x ≢ w) ws) (f : Tree w ws t nothing) (high : height (treeAt w t) < 15) (b : ℕ) (g : Free w (taken ws t) t b) where
   abbrev ns : List ℕ
   ns = taken ws t
 
-  abbrev sd : Side
-  sd = side w ws t
-
-  s : Fine sd t nothing
+  s : Fine w ns t nothing
   s = tree-fine w ws t low nothing f
 
   abbrev words : Words
-  words = nodeWords (at t w) 0 (suc (height (seen w t))) 0 []
+  words = nodeWords (at t w) 0 (suc (height (treeAt w t))) 0 []
 
   size-words : length words ≡ 32
-  size-words = length-node-words (at t w) 0 (suc (height (seen w t))) 0 []
+  size-words = length-node-words (at t w) 0 (suc (height (treeAt w t))) 0 []
 
   abbrev ss : List Store
   ss = putAll (nodeStart b) words
 
   away : Each (Away ns) ss
-  away = all-away ns b (range-iff (nodes t) b .0 (g .range) .0) (g .off) (nodeStart b) words (omega arith) (omega (arith, size-words))
+  away = all-away ns b (record { some = range-iff (nodes t) b .0 (g .range) .0; off = g .off }) (nodeStart b) words (omega arith) (omega (arith, size-words))
 
   -- ---- the header word
 
@@ -84,11 +82,11 @@ module _ (w : ℕ) (ws : List ℕ) (t : Words) (low : Low w ws) (word : (w ≡ 1
   stored : at t₂ w ≡ b
   stored = getD-set-same t₁ w b 0 (omega (arith, low .0, size))
 
-  other-same : (x : ℕ) → List·Memᴰ x ws → seen x t₂ ≡ seen x t₁
+  other-same : (x : ℕ) → List·Memᴰ x ws → treeAt x t₂ ≡ treeAt x t₁
   other-same x m = rw (getD-set-other t₁ w x b 0 (each-mem (λ (x : ℕ). x ≢ w) others m)) (head-view t₁ w b (at t₁ x) (low .0) (getD-set-other t₁ w 2 b 0 (λ q. not-two (sym q))))
 
   stay₂ : Stay ws t t₂
-  stay₂ = mem-each (λ (x : ℕ). Keeps (seen x t) (seen x t₂) nothing) ws (λ x m. keeps-is (seen x t) (seen x t₂) (seen x t₁) (other-same x m) (each-mem (λ (x : ℕ). Keeps (seen x t) (seen x t₁) nothing) stay₁ m))
+  stay₂ = mem-each (λ (x : ℕ). Keeps (treeAt x t) (treeAt x t₂) nothing) ws (λ x m. keeps-is (treeAt x t) (treeAt x t₂) (treeAt x t₁) (other-same x m) (each-mem (λ (x : ℕ). Keeps (treeAt x t) (treeAt x t₁) nothing) stay₁ m))
 
   -- word 3 is 0 or not, as before
   three : (at t₂ 3 ≡ 0) ↔ (at t₁ 3 ≡ 0)
@@ -117,8 +115,8 @@ module _ (w : ℕ) (ws : List ℕ) (t : Words) (low : Low w ws) (word : (w ≡ 1
       (each-part P (put w b ∷ []) t₁ (((λ z. sym e ∙ z), (λ z. e ∙ z)), ((λ z. sym e ∙ three .0 z), (λ z. three .1 (e ∙ z)))))
 
   -- New root: every first part of its stores leaves the tree sound with the same map, and the others as they are.
-  pub root-course : Course 38 w ws t (newRootAt w t b) (mapping (seen w t))
-  root-course = beside-course 38 w ws t (newRootAt w t b) (mapping (seen w t)) low (root-phase sd t s high word b g) stay lack
+  pub root-course : Course 38 w ws t (newRootAt w t b) (mapping (treeAt w t))
+  root-course = beside-course 38 w ws t (newRootAt w t b) (mapping (treeAt w t)) low (root-phase w ns t s high word b g) stay lack
 
   -- ---- its own level turns
 
@@ -126,27 +124,27 @@ module _ (w : ℕ) (ws : List ℕ) (t : Words) (low : Low w ws) (word : (w ≡ 1
   unfolding apply
   done = apply-append ss (put w b ∷ []) t
 
-  pub root-own-turn : Turn (seen w) (suc (height (seen w t))) t (newRootAt w t b)
+  pub root-own-turn : Turn (treeAt w) (suc (height (treeAt w t))) t (newRootAt w t b)
   root-own-turn = record {
     before = ss;
     it = put w b;
     after = [];
     shape = refl;
-    quiet = whole-quiet sd t b s g words size-words (suc (height (seen w t)));
-    crosses = rw done at (root-turns sd t s high word b g);
-    still = still-nil (seen w) (suc (height (seen w t))) t₂;
+    quiet = whole-quiet w ns t b s g words size-words (suc (height (treeAt w t)));
+    crosses = rw done at (root-turns w ns t s high word b g);
+    still = still-nil (treeAt w) (suc (height (treeAt w t))) t₂;
   }
 
   pub root-beside : OthersQuiet ws t (newRootAt w t b)
-  root-beside = others-append ws t ss (put w b ∷ []) (others-quiet w ws t nothing low f ss away) (mem-each (λ (x : ℕ). (l : ℕ) → Quiet (seen x) l t₁ (put w b ∷ [])) ws stay)
+  root-beside = others-append ws t ss (put w b ∷ []) (others-quiet w ws t nothing low f ss away) (mem-each (λ (x : ℕ). (l : ℕ) → Quiet (treeAt x) l t₁ (put w b ∷ [])) ws stay)
     where
-      whole₁ : (x : ℕ) → List·Memᴰ x ws → (l : ℕ) → Straight l (seen x t₁)
-      whole₁ x m l = none-straight (seen x t₁) (each-mem (λ (x : ℕ). Keeps (seen x t) (seen x t₁) nothing) stay₁ m .left .left .2) l
+      whole₁ : (x : ℕ) → List·Memᴰ x ws → (l : ℕ) → Straight l (treeAt x t₁)
+      whole₁ x m l = none-straight (treeAt x t₁) (each-mem (λ (x : ℕ). Keeps (treeAt x t) (treeAt x t₁) nothing) stay₁ m .left .left .2) l
 
-      stay : (x : ℕ) → List·Memᴰ x ws → (l : ℕ) → Quiet (seen x) l t₁ (put w b ∷ [])
-      stay x m l = each-part (QuietAt (seen x) l t₁) (put w b ∷ []) t₁ (
-        record { same = same-refl l (seen x t₁); straight = whole₁ x m l },
-        record { same = same-seen l (seen x t₁) (seen x t₂) (other-same x m); straight = straight-seen l (seen x t₁) (seen x t₂) (other-same x m) (whole₁ x m l) },
+      stay : (x : ℕ) → List·Memᴰ x ws → (l : ℕ) → Quiet (treeAt x) l t₁ (put w b ∷ [])
+      stay x m l = each-part (QuietAt (treeAt x) l t₁) (put w b ∷ []) t₁ (
+        record { same = same-refl l (treeAt x t₁); straight = whole₁ x m l },
+        record { same = same-seen l (treeAt x t₁) (treeAt x t₂) (other-same x m); straight = straight-seen l (treeAt x t₁) (treeAt x t₂) (other-same x m) (whole₁ x m l) },
       )
 
   -- ---- what it leaves

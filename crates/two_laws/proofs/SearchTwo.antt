@@ -15,7 +15,7 @@ use Rattle.list_laws.proofs.Tools.{Each-map, same-or-not}
 use Rattle.tree_laws.proofs.SearchLaw.{search-view}
 use Rattle.tree_laws.proofs.Leftovers.{settled-sound-view}
 use Rattle.change_laws.proofs.Parts.{HasLeft, settled-left, sound-left}
-use Rattle.two_laws.proofs.TwoLaw.{seen}
+use Rattle.step_laws.proofs.TreeAt.{treeAt}
 use Rattle.two_laws.proofs.Arrange.{SoundAs, sound-parts, head-iff, sound-tree}
 use Rattle.two_laws.proofs.CallsTwo.{Is, arr-other}
 use Rattle.two_laws.proofs.AcceptedTwo.{there}
@@ -24,14 +24,14 @@ pub sound-head : (t : Words) → sound t ≡ true → headerOk t ≡ true
 sound-head t s = head-iff t .1 (sound-parts t .0 s .0)
 
 -- each tree of a sound table is sound
-pub sound-view : (w : ℕ) (t : Words) → sound t ≡ true → Is w t → soundView (seen w t) ≡ true
+pub sound-view : (w : ℕ) (t : Words) → sound t ≡ true → Is w t → soundView (treeAt w t) ≡ true
 sound-view w t s i = let u = sound-tree t s in go u (same-or-not w (u .word))
   where
-    go : (u : SoundAs t) → (w ≡ u .word) ⊎ (w ≢ u .word) → soundView (seen w t) ≡ true
-    go u (inl e) = rw e (sound-left (seen (u .word) t) .1 (u .leftover, u .tree .left, u .tree .room))
+    go : (u : SoundAs t) → (w ≡ u .word) ⊎ (w ≢ u .word) → soundView (treeAt w t) ≡ true
+    go u (inl e) = rw e (sound-left (treeAt (u .word) t) .1 (u .leftover, u .tree .left, u .tree .room))
     go u (inr z) =
-        arr-other (u .word) (u .others) t w (λ (x : ℕ). soundView (seen x t) ≡ true) (u .arranged) i z
-        (Each-map (λ (x : ℕ). HasLeft (seen x t) nothing) (λ (x : ℕ). soundView (seen x t) ≡ true) (u .others) (λ x l. settled-sound-view (seen x t) (settled-left (seen x t) .1 l)) (u .tree .others))
+        arr-other (u .word) (u .others) t w (λ (x : ℕ). soundView (treeAt x t) ≡ true) (u .arranged) i z
+        (Each-map (λ (x : ℕ). HasLeft (treeAt x t) nothing) (λ (x : ℕ). soundView (treeAt x t) ≡ true) (u .others) (λ x l. settled-sound-view (treeAt x t) (settled-left (treeAt x t) .1 l)) (u .tree .others))
 
 module _ (n : ℕ) (t : Words) (s : sound t ≡ true) (h : noCollection n t ≡ false) where
   -- A search of collection n answers as a lookup in its map.

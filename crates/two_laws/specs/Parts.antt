@@ -12,6 +12,7 @@ use Rattle.model.specs.Writes.{split, unreachable, fresh, standing}
 use Rattle.model.specs.Refusals.{hasKey, hasRecording, tooHigh, tooFew}
 use Rattle.model.specs.SoundTest.{settled}
 use Rattle.model.specs.Reached.{mapOf}
+use Rattle.step_laws.specs.Parts.{FullNode}
 
 -- refusals 6, 14, 7, 8, 11 and 10 do not apply to an insertion of k with recording r and class c into collection n
 pub record Enters (n k r c : ℕ) (t : Words) : Type 0 where
@@ -28,17 +29,11 @@ pub record Enters (n k r c : ℕ) (t : Words) : Type 0 where
 abbrev pub splitFor : (n : ℕ) → Words → (l k : ℕ) → List Store
 splitFor n t l k = split t (standing n t l k) (fresh t (standing n t l k)) (standing n t (suc l) k)
 
--- A stands for k on level l of a collection of a settled table and is full, and its parent has room
-pub record FullNode (n : ℕ) (t : Words) (k l : ℕ) : Type 0 where
+-- A stands for k on level l of a collection of a settled table and is full, its parent has room, and some node is unreachable
+pub record Splittable (n : ℕ) (t : Words) (k l : ℕ) : Type 0 where
   pub collection : noCollection n t ≡ false
   pub settled : settled t ≡ true
-  pub high : l < height (viewOf n t)
-  pub full : length (nodeView t (standing n t l k) .shown) ≡ 11
-  pub roomy : length (nodeView t (standing n t (suc l) k) .shown) ≤ 10
-
--- and some node is unreachable
-pub record Splittable (n : ℕ) (t : Words) (k l : ℕ) : Type 0 where
-  pub node : FullNode n t k l
+  pub node : FullNode (viewOf n t) k l
   pub some : 0 < length (unreachable t)
 
 -- ---- a run

@@ -11,6 +11,7 @@ use Rattle.model.specs.declared.Node.{Node}
 use Rattle.model.specs.Table.{Words, at, nodes, hasNode, nodeStart, node, nodeFrom, blank, spare}
 use Rattle.model.specs.Slots.{clearIn, used, nodeView}
 use Rattle.view_laws.proofs.NodeViews.{AllBut}
+use Rattle.table_laws.proofs.Header.{HeadFacts}
 use Rattle.table_laws.proofs.Nodes.{has-node-iff, node-in}
 use Rattle.word_laws.proofs.Outside.{Outside, same-part}
 
@@ -54,6 +55,13 @@ header-trans t u x f g = record { long = g .long ∙ f .long; words = λ w h. g 
 module _ {t t′ : Words} (h : SameHeader t t′) where
   pub same-nodes : nodes t′ ≡ nodes t
   same-nodes = h .words 2 (omega arith)
+
+pub same-head : {t t′ : Words} → SameHeader t t′ → HeadFacts t → HeadFacts t′
+same-head h f = record {
+  size = rw (h .long, same-nodes h) (f .size);
+  first = h .words 0 (omega arith) ∙ f .first;
+  zeros = λ w p q. h .words w q ∙ f .zeros w p q;
+}
 
 -- ---- words that are not in the stretch
 

@@ -5,6 +5,7 @@ pub mod Frames
 pub mod SlotWords
 pub mod SlotRuns
 pub mod Views
+pub mod HeadStores
 pub mod LinkStores
 pub mod NodeStores
 pub mod NewNodes

@@ -2,7 +2,6 @@
 use mathlib.Core.Path.{sym}
 use Rattle.packing.proofs.Filling.{pairs-long, from-fits, pack-fits, filled}
 use borrow.Author.Needs.{needs}
-use borrow.Author.Needs.{needs}
 use Rattle.packing.proofs.fill.Statement.{statement}
 use Rattle.packing.proofs.fill.Tie as tie
 

@@ -3,7 +3,6 @@ use mathlib.Core.Path.{_≡_, _∙_}
 use lib.ListN.{length}
 use Rattle.packing.proofs.Filling.{first-fits, alone, second-fits, beside}
 use borrow.Author.Needs.{needs}
-use borrow.Author.Needs.{needs}
 use Rattle.packing.proofs.fill_both.Statement.{statement}
 use Rattle.packing.proofs.fill_both.Tie as tie
 

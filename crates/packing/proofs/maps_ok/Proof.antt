@@ -2,7 +2,6 @@
 use borrow.Author.Tests.{not-true, not-false}
 use Rattle.packing.proofs.Fits.{first-bad, ok-alone, ok-beside}
 use borrow.Author.Needs.{needs}
-use borrow.Author.Needs.{needs}
 use Rattle.packing.proofs.maps_ok.Statement.{statement}
 use Rattle.packing.proofs.maps_ok.Tie as tie
 

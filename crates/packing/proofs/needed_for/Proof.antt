@@ -1,7 +1,6 @@
 -- `packing::needed_for` meets its contract.
 use Rattle.packing.proofs.Fits.{needed-many}
 use borrow.Author.Needs.{needs}
-use borrow.Author.Needs.{needs}
 use Rattle.packing.proofs.needed_for.Statement.{statement}
 use Rattle.packing.proofs.needed_for.Tie as tie
 

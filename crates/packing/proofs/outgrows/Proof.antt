@@ -1,7 +1,6 @@
 -- `packing::outgrows` meets its contract.
 use Rattle.packing.proofs.Fits.{grows-alone, grows-beside}
 use borrow.Author.Needs.{needs}
-use borrow.Author.Needs.{needs}
 use Rattle.packing.proofs.outgrows.Statement.{statement}
 use Rattle.packing.proofs.outgrows.Tie as tie
 

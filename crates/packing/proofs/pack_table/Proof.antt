@@ -8,7 +8,6 @@ use Rattle.table_laws.proofs.Making.{makes}
 use Rattle.node.proofs.Answers.{nodes-in-sized}
 use Rattle.packing.proofs.Call.{not-grown, refused-making, refused-outgrown, refused-pairs, packs}
 use borrow.Author.Needs.{needs}
-use borrow.Author.Needs.{needs}
 use Rattle.packing.proofs.pack_table.Statement.{statement}
 use Rattle.packing.proofs.pack_table.Tie as tie
 

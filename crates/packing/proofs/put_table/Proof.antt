@@ -2,7 +2,6 @@
 use Rattle.model.specs.Pack.{mapsIn}
 use Rattle.packing.proofs.Call.{put-table}
 use borrow.Author.Needs.{needs}
-use borrow.Author.Needs.{needs}
 use Rattle.packing.proofs.put_table.Statement.{statement}
 use Rattle.packing.proofs.put_table.Tie as tie
 

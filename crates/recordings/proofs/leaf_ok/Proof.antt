@@ -1,17 +1,16 @@
 -- `recordings::leaf_ok` meets its contract. The loop keeps that the slots from i on answer as all of them do.
 use Rattle.recordings.proofs.LeafLaws.{ok-none, ok-wrong, ok-next}
 use Rattle.model.specs.SoundTest.{all, pairOk}
-use mathlib.Core.Bool.{_&&_}
+use mathlib.Core.Bool.{Bool}
 use Rattle.slots.proofs.Scans.{scan-past, scan-stop, scan-more}
 use Rattle.slots.specs.Scan.{shownFrom, keptOf}
-use Rattle.model.specs.Slots.{Slot, recording, shown}
+use Rattle.model.specs.Slots.{Slot, shown}
 use borrow.Author.Tests.{not-true, not-false}
 use lib.ListN.{length}
 use native.Mathlib.Omega.{arith}
-use mathlib.Core.List.{List, map}
-use mathlib.Core.Bool.{Bool}
-use mathlib.Core.Path.{_≡_, sym, ap, _∙_}
-use Prim.Native.Nat.{ℕ, _-_, _≤_}
+use mathlib.Core.List.{List}
+use mathlib.Core.Path.{_≡_, _∙_}
+use Prim.Native.Nat.{_-_, _≤_}
 use borrow.Author.Needs.{needs}
 use Rattle.recordings.proofs.leaf_ok.Statement.{statement}
 use Rattle.recordings.proofs.leaf_ok.Tie as tie
