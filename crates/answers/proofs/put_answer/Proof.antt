@@ -6,24 +6,6 @@ use borrow.Author.Needs.{needs}
 use Rattle.answers.proofs.put_answer.Statement.{statement}
 use Rattle.answers.proofs.put_answer.Tie as tie
 
-enum-known-answer : tie.Need-enum-known-answer
-enum-known-answer c = search needs
-
-enum-known-answer-2 : tie.Need-enum-known-answer-2
-enum-known-answer-2 c = search needs
-
-enum-known-up : tie.Need-enum-known-up
-enum-known-up c = search needs
-
-enum-told : tie.Need-enum-told
-enum-told c = search needs
-
-enum-known-answer-3 : tie.Need-enum-known-answer-3
-enum-known-answer-3 c = search needs
-
-cast-result : tie.Need-cast-result
-cast-result c = search needs
-
 returns : tie.Need-returns
 returns c = answered _ _ _ _ _ _ (c .before .answer .given .1)
 
@@ -33,20 +15,17 @@ returns-2 c = let u = c .before .before .before .before in answered _ _ _ _ _ _ 
 returns-3 : tie.Need-returns-3
 returns-3 c = let u = c .before .before .before in answered _ _ _ _ _ _ (u .answer2 .given .1 ∙ ap Absent (c .enum-told .given .1))
 
-returns-4 : tie.Need-returns-4
-returns-4 c = search needs
-
 pub put-answer-spec : {M : Type 1} → statement M
 put-answer-spec =
     tie.close
     (tie.spec
-    enum-known-answer
-    enum-known-answer-2
-    enum-known-up
-    enum-told
-    enum-known-answer-3
-    cast-result
+    (λ c. search needs)
+    (λ c. search needs)
+    (λ c. search needs)
+    (λ c. search needs)
+    (λ c. search needs)
+    (λ c. search needs)
     returns
     returns-2
     returns-3
-    returns-4)
+    (λ c. search needs))

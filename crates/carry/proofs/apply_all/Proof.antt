@@ -17,41 +17,11 @@ Inv-loop table₀ list c i₀ table i = (i ≤ c) × (length table ≡ length ta
 abbrev μ-loop : tie.MeasureT-loop
 μ-loop table₀ list c i₀ table i = c - i
 
-loop-holds : tie.Need-loop-holds Inv-loop μ-loop
-loop-holds c = search needs
-
-mul-apply-one : tie.Need-mul-apply-one Inv-loop μ-loop
-mul-apply-one c = search needs
-
-mul-apply-one-2 : tie.Need-mul-apply-one-2 Inv-loop μ-loop
-mul-apply-one-2 c = search needs
-
-shared-slice-read-apply-one : tie.Need-shared-slice-read-apply-one Inv-loop μ-loop
-shared-slice-read-apply-one c = search needs
-
-mul-apply-one-3 : tie.Need-mul-apply-one-3 Inv-loop μ-loop
-mul-apply-one-3 c = search needs
-
-add-apply-one : tie.Need-add-apply-one Inv-loop μ-loop
-add-apply-one c = search needs
-
-mul-apply-one-4 : tie.Need-mul-apply-one-4 Inv-loop μ-loop
-mul-apply-one-4 c = search needs
-
-shared-slice-read-apply-one-2 : tie.Need-shared-slice-read-apply-one-2 Inv-loop μ-loop
-shared-slice-read-apply-one-2 c = search needs
-
 apply-one-requires : tie.Need-apply-one-requires Inv-loop μ-loop
 apply-one-requires c κs =
     let at-loop = c .before .before .before .before in
     let entry = at-loop .before .before .before in
     let l = at-loop .loop in inside-here _ _ _ (l .i) (omega arith) (entry .pre .0) (l .inv .2) _ (l .inv .1)
-
-add-i : tie.Need-add-i Inv-loop μ-loop
-add-i c = search needs
-
-loop-less : tie.Need-loop-less Inv-loop μ-loop
-loop-less c = search needs
 
 loop-again : tie.Need-loop-again Inv-loop μ-loop
 loop-again c =
@@ -59,9 +29,6 @@ loop-again c =
     let at-loop = after-apply-one .before .before .before .before .before in
     let entry = at-loop .before .before .before in
     let l = at-loop .loop in (omega arith, search needs, inside-next _ _ _ (l .i) (omega arith) (entry .pre .0) (l .inv .2), carry-next _ _ (l .i) _ _ (l .inv .3) (omega arith) (entry .pre .0) _ (after-apply-one .apply-one .ensures))
-
-same-length : tie.Need-same-length Inv-loop μ-loop
-same-length c = search needs
 
 returns : tie.Need-returns Inv-loop μ-loop
 returns c = let l = c .before .loop in carry-end _ _ (l .i) _ _ (l .inv .3) (omega arith)
@@ -72,17 +39,17 @@ apply-all-spec =
     (tie.spec
     Inv-loop
     μ-loop
-    loop-holds
-    mul-apply-one
-    mul-apply-one-2
-    shared-slice-read-apply-one
-    mul-apply-one-3
-    add-apply-one
-    mul-apply-one-4
-    shared-slice-read-apply-one-2
+    (λ c. search needs)
+    (λ c. search needs)
+    (λ c. search needs)
+    (λ c. search needs)
+    (λ c. search needs)
+    (λ c. search needs)
+    (λ c. search needs)
+    (λ c. search needs)
     apply-one-requires
-    add-i
-    loop-less
+    (λ c. search needs)
+    (λ c. search needs)
     loop-again
-    same-length
+    (λ c. search needs)
     returns)

@@ -6,26 +6,11 @@ use borrow.Author.Needs.{needs}
 use Rattle.carry.proofs.carry_out.Statement.{statement}
 use Rattle.carry.proofs.carry_out.Tie as tie
 
-header-requires : tie.Need-header-requires
-header-requires c κs = search needs
-
-same-length : tie.Need-same-length
-same-length c = search needs
-
 returns : tie.Need-returns
 returns c = no-header _ _ _ _ (c .before .header .ensures) (c .if1 .taken)
 
-same-length-2 : tie.Need-same-length-2
-same-length-2 c = search needs
-
 returns-2 : tie.Need-returns-2
 returns-2 c = too-many _ _ _ _ (c .before .before .header .ensures) (c .before .if1 .left) (c .if2 .taken)
-
-all-inside-requires : tie.Need-all-inside-requires
-all-inside-requires c κs = search needs
-
-same-length-3 : tie.Need-same-length-3
-same-length-3 c = search needs
 
 returns-3 : tie.Need-returns-3
 returns-3 c =
@@ -37,9 +22,6 @@ returns-3 c =
 
 apply-all-requires : tie.Need-apply-all-requires
 apply-all-requires c κs = (search needs, sym (c .before .before .all-inside .ensures) ∙ not-false _ (c .before .if3 .left))
-
-same-length-4 : tie.Need-same-length-4
-same-length-4 c = search needs
 
 returns-4 : tie.Need-returns-4
 returns-4 c =
@@ -55,14 +37,14 @@ pub carry-out-spec : {M : Type 1} → statement M
 carry-out-spec =
     tie.close
     (tie.spec
-    header-requires
-    same-length
+    (λ c κs. search needs)
+    (λ c. search needs)
     returns
-    same-length-2
+    (λ c. search needs)
     returns-2
-    all-inside-requires
-    same-length-3
+    (λ c κs. search needs)
+    (λ c. search needs)
     returns-3
     apply-all-requires
-    same-length-4
+    (λ c. search needs)
     returns-4)

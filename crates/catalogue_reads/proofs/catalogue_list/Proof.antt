@@ -9,31 +9,10 @@ use Rattle.catalogue_reads.proofs.catalogue_list.Tie as tie
 abbrev called : tie.After-slice-known2 → tie.After-list
 called c = c .before .before
 
-list-requires : tie.Need-list-requires
-list-requires c κs = search needs
-
-enum-known-count : tie.Need-enum-known-count
-enum-known-count c = search needs
-
-one-if-requires : tie.Need-one-if-requires
-one-if-requires c κs = search needs
-
-enum-known-n : tie.Need-enum-known-n
-enum-known-n c = search needs
-
-cast-result : tie.Need-cast-result
-cast-result c = search needs
-
-same-length : tie.Need-same-length
-same-length c = search needs
-
 returns : tie.Need-returns
 returns c =
     let m = called (c .before .before .before .before) .list in
     (has-shown _ _ _ _ _ (sym (m .ensures .0) ∙ c .before .before .count .given .1) (c .one-if .ensures), m .ensures .1)
-
-same-length-2 : tie.Need-same-length-2
-same-length-2 c = search needs
 
 returns-2 : tie.Need-returns-2
 returns-2 c =
@@ -44,12 +23,12 @@ pub catalogue-list-spec : {M : Type 1} → statement M
 catalogue-list-spec =
     tie.close
     (tie.spec
-    list-requires
-    enum-known-count
-    one-if-requires
-    enum-known-n
-    cast-result
-    same-length
+    (λ c κs. search needs)
+    (λ c. search needs)
+    (λ c κs. search needs)
+    (λ c. search needs)
+    (λ c. search needs)
+    (λ c. search needs)
     returns
-    same-length-2
+    (λ c. search needs)
     returns-2)

@@ -7,20 +7,11 @@ use borrow.Author.Needs.{needs}
 use Rattle.clear.proofs.are_new.Statement.{statement}
 use Rattle.clear.proofs.are_new.Tie as tie
 
-slice-aggregate-enter-pairs : tie.Need-slice-aggregate-enter-pairs
-slice-aggregate-enter-pairs c = search needs
-
 enter-pairs-requires : tie.Need-enter-pairs-requires
 enter-pairs-requires c κs = let e = c .before .before .before .pre in (holds-none, (e .1 .0, e .1 .1))
 
 returns : tie.Need-returns
 returns c = λ z. absurd (false≢true z)
-
-slice-aggregate-leaves-off : tie.Need-slice-aggregate-leaves-off
-slice-aggregate-leaves-off c = search needs
-
-leaves-off-requires : tie.Need-leaves-off-requires
-leaves-off-requires c κs = search needs
 
 returns-2 : tie.Need-returns-2
 returns-2 c =
@@ -33,9 +24,9 @@ pub are-new-spec : {M : Type 1} → statement M
 are-new-spec =
     tie.close
     (tie.spec
-    slice-aggregate-enter-pairs
+    (λ c. search needs)
     enter-pairs-requires
     returns
-    slice-aggregate-leaves-off
-    leaves-off-requires
+    (λ c. search needs)
+    (λ c κs. search needs)
     returns-2)

@@ -20,33 +20,6 @@ abbrev μ-loop : tie.MeasureT-loop
 loop-holds : tie.Need-loop-holds Inv-loop μ-loop
 loop-holds c = let e = c .before .before .pre in (refl, e .0 .filed .long, e .1 .0, omega arith, e .1 .1, holds-start _ _ _ (e .0))
 
-sub-i : tie.Need-sub-i Inv-loop μ-loop
-sub-i c = search needs
-
-mul-recording : tie.Need-mul-recording Inv-loop μ-loop
-mul-recording c = search needs
-
-add-recording : tie.Need-add-recording Inv-loop μ-loop
-add-recording c = search needs
-
-mul-recording-2 : tie.Need-mul-recording-2 Inv-loop μ-loop
-mul-recording-2 c = search needs
-
-shared-slice-read-recording : tie.Need-shared-slice-read-recording Inv-loop μ-loop
-shared-slice-read-recording c = search needs
-
-recording-requires : tie.Need-recording-requires Inv-loop μ-loop
-recording-requires c κs = search needs
-
-enter-requires : tie.Need-enter-requires Inv-loop μ-loop
-enter-requires c κs = search needs
-
-enum-told : tie.Need-enum-told Inv-loop μ-loop
-enum-told c = search needs
-
-loop-less : tie.Need-loop-less Inv-loop μ-loop
-loop-less c = search needs
-
 loop-again : tie.Need-loop-again Inv-loop μ-loop
 loop-again c =
     let e = c .before .before .before .before in
@@ -60,26 +33,11 @@ loop-again c =
       holds-pair _ _ _ _ _ _ _ (l .5) (omega arith) (l .3) (l .4) (e .before .before .recording .ensures) (e .enter .ensures) (c .enum-told .given .1),
     )
 
-enum-told-2 : tie.Need-enum-told-2 Inv-loop μ-loop
-enum-told-2 c = search needs
-
-same-length : tie.Need-same-length Inv-loop μ-loop
-same-length c = search needs
-
 returns : tie.Need-returns Inv-loop μ-loop
 returns c = (λ z. absurd (false≢true z), search needs)
 
-enum-told-3 : tie.Need-enum-told-3 Inv-loop μ-loop
-enum-told-3 c = search needs
-
-same-length-2 : tie.Need-same-length-2 Inv-loop μ-loop
-same-length-2 c = search needs
-
 returns-2 : tie.Need-returns-2 Inv-loop μ-loop
 returns-2 c = (λ z. absurd (false≢true z), search needs)
-
-same-length-3 : tie.Need-same-length-3 Inv-loop μ-loop
-same-length-3 c = search needs
 
 returns-3 : tie.Need-returns-3 Inv-loop μ-loop
 returns-3 c = let l = c .before .loop .inv in (λ z. holds-all _ _ _ _ _ (let t = c .loop-test .left in let f = l .2 in omega arith) (l .5), l .1)
@@ -91,21 +49,21 @@ enter-pairs-spec =
     Inv-loop
     μ-loop
     loop-holds
-    sub-i
-    mul-recording
-    add-recording
-    mul-recording-2
-    shared-slice-read-recording
-    recording-requires
-    enter-requires
-    enum-told
-    loop-less
+    (λ c. search needs)
+    (λ c. search needs)
+    (λ c. search needs)
+    (λ c. search needs)
+    (λ c. search needs)
+    (λ c κs. search needs)
+    (λ c κs. search needs)
+    (λ c. search needs)
+    (λ c. search needs)
     loop-again
-    enum-told-2
-    same-length
+    (λ c. search needs)
+    (λ c. search needs)
     returns
-    enum-told-3
-    same-length-2
+    (λ c. search needs)
+    (λ c. search needs)
     returns-2
-    same-length-3
+    (λ c. search needs)
     returns-3)

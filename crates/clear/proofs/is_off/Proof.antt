@@ -18,35 +18,14 @@ Inv-loop cells number at₀ left₀ at left = (length cells ≡ CELLS) × (at < 
 abbrev μ-loop : tie.MeasureT-loop
 μ-loop cells number at₀ left₀ at left = left
 
-mixed-requires : tie.Need-mixed-requires Inv-loop μ-loop
-mixed-requires c κs = search needs
-
-rem-at : tie.Need-rem-at Inv-loop μ-loop
-rem-at c = search needs
-
 loop-holds : tie.Need-loop-holds Inv-loop μ-loop
 loop-holds c = (c .before .before .pre, mod-lt _ (omega arith), off-start _ _ _ (c .mixed .ensures))
-
-mul-held : tie.Need-mul-held Inv-loop μ-loop
-mul-held c = search needs
-
-shared-slice-read-held : tie.Need-shared-slice-read-held Inv-loop μ-loop
-shared-slice-read-held c = search needs
 
 returns : tie.Need-returns Inv-loop μ-loop
 returns c = off-here _ _ _ _ (c .before .before .loop-test .taken) (c .if1 .taken) ∙ c .before .before .before .loop .inv .2
 
 returns-2 : tie.Need-returns-2 Inv-loop μ-loop
 returns-2 c = off-free _ _ _ _ (c .before .before .before .loop-test .taken) (c .before .if1 .left) (c .if2 .taken) ∙ c .before .before .before .before .loop .inv .2
-
-next-cell-requires : tie.Need-next-cell-requires Inv-loop μ-loop
-next-cell-requires c κs = search needs
-
-sub-left : tie.Need-sub-left Inv-loop μ-loop
-sub-left c = search needs
-
-loop-less : tie.Need-loop-less Inv-loop μ-loop
-loop-less c = search needs
 
 loop-again : tie.Need-loop-again Inv-loop μ-loop
 loop-again c =
@@ -64,15 +43,15 @@ is-off-spec =
     (tie.spec
     Inv-loop
     μ-loop
-    mixed-requires
-    rem-at
+    (λ c κs. search needs)
+    (λ c. search needs)
     loop-holds
-    mul-held
-    shared-slice-read-held
+    (λ c. search needs)
+    (λ c. search needs)
     returns
     returns-2
-    next-cell-requires
-    sub-left
-    loop-less
+    (λ c κs. search needs)
+    (λ c. search needs)
+    (λ c. search needs)
     loop-again
     returns-3)

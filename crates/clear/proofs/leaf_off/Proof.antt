@@ -26,30 +26,12 @@ whole c = let a = c .before .before .before .args in same-pointers (a .cells .no
 loop-holds : tie.Need-loop-holds Inv-loop μ-loop
 loop-holds c = let e = c .before .before .pre in (e .0, record { few = e .1; comes-to = refl })
 
-mul-recording : tie.Need-mul-recording Inv-loop μ-loop
-mul-recording c = search needs
-
-array-read-recording : tie.Need-array-read-recording Inv-loop μ-loop
-array-read-recording c = search needs
-
-recording-requires : tie.Need-recording-requires Inv-loop μ-loop
-recording-requires c κs = search needs
-
-is-off-requires : tie.Need-is-off-requires Inv-loop μ-loop
-is-off-requires c κs = search needs
-
 returns : tie.Need-returns Inv-loop μ-loop
 returns c =
     let o = c .before in
     let r = o .before in
     let l = r .before .before in
     look-wrong (l .loop .inv .1) (r .before .loop-test .taken) _ (o .is-off .ensures ∙ ap (off _) (r .recording .ensures)) (not-true _ (c .if1 .taken)) ∙ whole l
-
-add-i : tie.Need-add-i Inv-loop μ-loop
-add-i c = search needs
-
-loop-less : tie.Need-loop-less Inv-loop μ-loop
-loop-less c = search needs
 
 loop-again : tie.Need-loop-again Inv-loop μ-loop
 loop-again c =
@@ -68,12 +50,12 @@ leaf-off-spec =
     Inv-loop
     μ-loop
     loop-holds
-    mul-recording
-    array-read-recording
-    recording-requires
-    is-off-requires
+    (λ c. search needs)
+    (λ c. search needs)
+    (λ c κs. search needs)
+    (λ c κs. search needs)
     returns
-    add-i
-    loop-less
+    (λ c. search needs)
+    (λ c. search needs)
     loop-again
     returns-2)

@@ -14,20 +14,11 @@ Inv-loop cells table root leaf₀ left₀ leaf left = (length cells ≡ CELLS) �
 abbrev μ-loop : tie.MeasureT-loop
 μ-loop cells table root leaf₀ left₀ leaf left = left
 
-first-leaf-requires : tie.Need-first-leaf-requires Inv-loop μ-loop
-first-leaf-requires c κs = search needs
-
-word-at-requires : tie.Need-word-at-requires Inv-loop μ-loop
-word-at-requires c κs = search needs
-
 loop-holds : tie.Need-loop-holds Inv-loop μ-loop
 loop-holds c = (c .before .before .before .before .pre, leaves-start _ _ _ _ _ (c .before .first-leaf .ensures) (c .word-at .ensures))
 
 returns : tie.Need-returns Inv-loop μ-loop
 returns c = leaves-no-more (c .before .before .loop .inv .1) (c .if1 .taken)
-
-ways-of-requires : tie.Need-ways-of-requires Inv-loop μ-loop
-ways-of-requires c κs = search needs
 
 leaf-off-requires : tie.Need-leaf-off-requires Inv-loop μ-loop
 leaf-off-requires c κs = (c .before .before .before .loop .inv .0, c .ways-of .ensures .1)
@@ -38,15 +29,6 @@ returns-2 c =
     let w = o .before in
     let more = w .before in
     leaves-wrong (more .before .before .loop .inv .1) _ (w .ways-of .ensures .0) (more .before .loop-test .taken) (more .if1 .left) _ (o .leaf-off .ensures) (not-true _ (c .if2 .taken))
-
-word-requires : tie.Need-word-requires Inv-loop μ-loop
-word-requires c κs = search needs
-
-sub-left : tie.Need-sub-left Inv-loop μ-loop
-sub-left c = search needs
-
-loop-less : tie.Need-loop-less Inv-loop μ-loop
-loop-less c = search needs
 
 loop-again : tie.Need-loop-again Inv-loop μ-loop
 loop-again c =
@@ -66,15 +48,15 @@ leaves-off-spec =
     (tie.spec
     Inv-loop
     μ-loop
-    first-leaf-requires
-    word-at-requires
+    (λ c κs. search needs)
+    (λ c κs. search needs)
     loop-holds
     returns
-    ways-of-requires
+    (λ c κs. search needs)
     leaf-off-requires
     returns-2
-    word-requires
-    sub-left
-    loop-less
+    (λ c κs. search needs)
+    (λ c. search needs)
+    (λ c. search needs)
     loop-again
     returns-3)

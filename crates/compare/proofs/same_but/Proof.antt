@@ -29,14 +29,8 @@ second c =
     let s = c .before in
     compared-both (head (s .before) .loop .inv) (first (s .before)) _ (s .same-pair .ensures) (not-false _ (c .if2 .left))
 
-start-requires : tie.Need-start-requires Inv-loop μ-loop
-start-requires c κs = search needs
-
 seek-requires : tie.Need-seek-requires Inv-loop μ-loop
 seek-requires c κs = c .start .ensures .1
-
-start-requires-2 : tie.Need-start-requires-2 Inv-loop μ-loop
-start-requires-2 c κs = search needs
 
 seek-requires-2 : tie.Need-seek-requires-2 Inv-loop μ-loop
 seek-requires-2 c κs = c .start2 .ensures .1
@@ -51,9 +45,6 @@ loop-holds c =
       second = (b .1 .0, b .1 .1);
       comes-to = compared-all _ _ _ _ _ _ _ (a .0) (s .before .start .ensures .0) (b .0) (c .before .start2 .ensures .0);
     }
-
-at-end-requires : tie.Need-at-end-requires Inv-loop μ-loop
-at-end-requires c κs = search needs
 
 same-pair-requires : tie.Need-same-pair-requires Inv-loop μ-loop
 same-pair-requires c κs = let k = head c .loop .inv in (first c, k .first .0, k .second .0)
@@ -98,9 +89,6 @@ loop-again c =
           (rw (p .past2 .ensures) at (b .0));
     }
 
-at-end-requires-2 : tie.Need-at-end-requires-2 Inv-loop μ-loop
-at-end-requires-2 c κs = search needs
-
 returns-2 : tie.Need-returns-2 Inv-loop μ-loop
 returns-2 c =
     let e = c .before .before in
@@ -113,12 +101,12 @@ same-but-spec =
     (tie.spec
     Inv-loop
     μ-loop
-    start-requires
+    (λ c κs. search needs)
     seek-requires
-    start-requires-2
+    (λ c κs. search needs)
     seek-requires-2
     loop-holds
-    at-end-requires
+    (λ c κs. search needs)
     same-pair-requires
     returns
     past-requires
@@ -127,5 +115,5 @@ same-but-spec =
     seek-requires-4
     loop-less
     loop-again
-    at-end-requires-2
+    (λ c κs. search needs)
     returns-2)

@@ -22,17 +22,8 @@ keys c = c .before .before .before .before
 abbrev pointers : tie.After-two → tie.Else2
 pointers c = c .before .before
 
-at-end-requires : tie.Need-at-end-requires
-at-end-requires c κs = search needs
-
 returns : tie.Need-returns
 returns c = pair-none _ _ (sym (c .before .at-end .ensures) ∙ c .if1 .taken)
-
-mul-if2 : tie.Need-mul-if2
-mul-if2 c = search needs
-
-array-read-if2 : tie.Need-array-read-if2
-array-read-if2 c = search needs
 
 mul-if2-2 : tie.Need-mul-if2-2
 mul-if2-2 c = let h = inside (keys c) in search needs
@@ -42,12 +33,6 @@ array-read-if2-2 c = inside (keys c)
 
 returns-2 : tie.Need-returns-2
 returns-2 c = pair-keys _ _ (there (keys (c .before))) (c .if2 .taken)
-
-mul-result : tie.Need-mul-result
-mul-result c = search needs
-
-array-read-result : tie.Need-array-read-result
-array-read-result c = search needs
 
 mul-result-2 : tie.Need-mul-result-2
 mul-result-2 c = let h = inside (keys (pointers c .before)) in search needs
@@ -62,15 +47,15 @@ pub same-pair-spec : {M : Type 1} → statement M
 same-pair-spec =
     tie.close
     (tie.spec
-    at-end-requires
+    (λ c κs. search needs)
     returns
-    mul-if2
-    array-read-if2
+    (λ c. search needs)
+    (λ c. search needs)
     mul-if2-2
     array-read-if2-2
     returns-2
-    mul-result
-    array-read-result
+    (λ c. search needs)
+    (λ c. search needs)
     mul-result-2
     array-read-result-2
     returns-3)

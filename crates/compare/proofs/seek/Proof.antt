@@ -33,12 +33,6 @@ there c = a-pair (head (c .before) .loop .c) (sym (c .before .at-end .ensures) �
 loop-holds : tie.Need-loop-holds Inv-loop μ-loop
 loop-holds c = (c .before .pre, omega arith, refl)
 
-goes-on-requires : tie.Need-goes-on-requires Inv-loop μ-loop
-goes-on-requires c κs = search needs
-
-at-end-requires : tie.Need-at-end-requires Inv-loop μ-loop
-at-end-requires c κs = search needs
-
 load-requires : tie.Need-load-requires Inv-loop μ-loop
 load-requires c κs =
     let x = head (c .before) .loop .c in
@@ -78,8 +72,8 @@ seek-spec =
     Inv-loop
     μ-loop
     loop-holds
-    goes-on-requires
-    at-end-requires
+    (λ c κs. search needs)
+    (λ c κs. search needs)
     load-requires
     loop-less
     loop-again

@@ -60,31 +60,16 @@ begun c = record {
 
 -- ---- the answers
 
-judge-requires : tie.Need-judge-requires
-judge-requires c κs = search needs
-
-enum-known-judgement : tie.Need-enum-known-judgement
-enum-known-judgement c = search needs
-
-enum-known-judgement-2 : tie.Need-enum-known-judgement-2
-enum-known-judgement-2 c = search needs
-
 root-of-requires : tie.Need-root-of-requires
 root-of-requires c κs = let p = passed (c .before .before) in (sound-head _ (p .found .is-sound), p .collection)
 
 has-key-requires : tie.Need-has-key-requires
 has-key-requires c κs = tree-sound (passed (c .before .before .before)) (c .root-of .ensures)
 
-same-length : tie.Need-same-length
-same-length c = search needs
-
 returns : tie.Need-returns
 returns c =
     let h = c .before in
     refused-call _ _ _ _ 9 (λ z. omega arith) (delete-refused (passed (ready h)) (read h .root-of .ensures) (h .has-key .ensures) (not-true _ (c .if1 .taken)))
-
-begin-requires : tie.Need-begin-requires
-begin-requires c κs = search needs
 
 mend-requires : tie.Need-mend-requires
 mend-requires c κs = let f = passed (told c) .found in (f .is-sound, (f .leftover-is, mend-room (begun c)))
@@ -96,17 +81,8 @@ take-out-requires c κs = let m = mended c in let b = begun (m .before) in let g
 finish-requires : tie.Need-finish-requires
 finish-requires c κs = let o = taken c in let m = mended (o .before) in finish-room (begun (m .before)) (m .mend .ensures) (o .take-out .ensures)
 
-same-length-2 : tie.Need-same-length-2
-same-length-2 c = search needs
-
 returns-2 : tie.Need-returns-2
 returns-2 c = let j = refused c in judge-refuses _ _ _ _ _ (sym (j .before .before .judge .ensures) ∙ j .judgement .given .1)
-
-same-length-3 : tie.Need-same-length-3
-same-length-3 c = search needs
-
-same-length-4 : tie.Need-same-length-4
-same-length-4 c = search needs
 
 returns-3 : tie.Need-returns-3
 returns-3 c = let f = finished c in let o = taken (f .before) in let m = mended (o .before) in
@@ -116,19 +92,19 @@ pub delete-spec : {M : Type 1} → statement M
 delete-spec =
     tie.close
     (tie.spec
-    judge-requires
-    enum-known-judgement
-    enum-known-judgement-2
+    (λ c κs. search needs)
+    (λ c. search needs)
+    (λ c. search needs)
     root-of-requires
     has-key-requires
-    same-length
+    (λ c. search needs)
     returns
-    begin-requires
+    (λ c κs. search needs)
     mend-requires
     take-out-requires
     finish-requires
-    same-length-2
+    (λ c. search needs)
     returns-2
-    same-length-3
-    same-length-4
+    (λ c. search needs)
+    (λ c. search needs)
     returns-3)

@@ -56,23 +56,8 @@ found c = let p = parent c in let x = leaf p in let e = entry x .pre in record {
 root-of-requires : tie.Need-root-of-requires
 root-of-requires c κs = let e = c .before .before .before .pre in (settled-head _ (e .1 .0), e .0)
 
-standing-requires : tie.Need-standing-requires
-standing-requires c κs = search needs
-
-standing-requires-2 : tie.Need-standing-requires-2
-standing-requires-2 c κs = search needs
-
-frees-leaf-requires : tie.Need-frees-leaf-requires
-frees-leaf-requires c κs = search needs
-
 shift-out-requires : tie.Need-shift-out-requires
 shift-out-requires c κs = let f = found (judged c) in (leaf-plain f .there, (leaf-plain f .plain, out-room f))
-
-same-length : tie.Need-same-length
-same-length c = search needs
-
-same-length-2 : tie.Need-same-length-2
-same-length-2 c = search needs
 
 returns : tie.Need-returns
 returns c = let o = shifted c in stays-stored (found (judged (o .before))) (not-true _ (c .if1 .taken)) (o .shift-out .ensures)
@@ -86,12 +71,6 @@ free-leaf-requires c κs =
     let g = o .shift-out .ensures in
     (parent-plain f z g .there, (parent-plain f z g .plain, (neighbour-plain f z g, free-room f z g)))
 
-same-length-3 : tie.Need-same-length-3
-same-length-3 c = search needs
-
-same-length-4 : tie.Need-same-length-4
-same-length-4 c = search needs
-
 returns-2 : tie.Need-returns-2
 returns-2 c =
     let z = freed c in
@@ -104,14 +83,14 @@ take-out-spec =
     tie.close
     (tie.spec
     root-of-requires
-    standing-requires
-    standing-requires-2
-    frees-leaf-requires
+    (λ c κs. search needs)
+    (λ c κs. search needs)
+    (λ c κs. search needs)
     shift-out-requires
-    same-length
-    same-length-2
+    (λ c. search needs)
+    (λ c. search needs)
     returns
     free-leaf-requires
-    same-length-3
-    same-length-4
+    (λ c. search needs)
+    (λ c. search needs)
     returns-2)

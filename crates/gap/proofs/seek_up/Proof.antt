@@ -15,76 +15,13 @@ Inv-loop pairs₀ kept at key gap i₀ pairs i =
 abbrev μ-loop : tie.MeasureT-loop
 μ-loop pairs₀ kept at key gap i₀ pairs i = kept - i
 
-mul-gap : tie.Need-mul-gap Inv-loop μ-loop
-mul-gap c = search needs
-
-sub-gap : tie.Need-sub-gap Inv-loop μ-loop
-sub-gap c = search needs
-
-loop-holds : tie.Need-loop-holds Inv-loop μ-loop
-loop-holds c = search needs
-
-mul-k : tie.Need-mul-k Inv-loop μ-loop
-mul-k c = search needs
-
-add-k : tie.Need-add-k Inv-loop μ-loop
-add-k c = search needs
-
-mul-k-2 : tie.Need-mul-k-2 Inv-loop μ-loop
-mul-k-2 c = search needs
-
-slice-read-k : tie.Need-slice-read-k Inv-loop μ-loop
-slice-read-k c = search needs
-
-same-length : tie.Need-same-length Inv-loop μ-loop
-same-length c = search needs
-
 returns : tie.Need-returns Inv-loop μ-loop
 returns c =
     let l = c .before .before .before .loop .inv in ((l .0 .same, l .0 .below), (l .1, moved-over _ _ _ _ _ _ (l .0) _ (c .before .before .loop-test .taken) (c .if1 .taken)))
 
-mul-p : tie.Need-mul-p Inv-loop μ-loop
-mul-p c = search needs
-
-add-p : tie.Need-add-p Inv-loop μ-loop
-add-p c = search needs
-
-add-p-2 : tie.Need-add-p-2 Inv-loop μ-loop
-add-p-2 c = search needs
-
-mul-p-2 : tie.Need-mul-p-2 Inv-loop μ-loop
-mul-p-2 c = search needs
-
-slice-read-p : tie.Need-slice-read-p Inv-loop μ-loop
-slice-read-p c = search needs
-
-mul-pairs : tie.Need-mul-pairs Inv-loop μ-loop
-mul-pairs c = search needs
-
-mul-pairs-2 : tie.Need-mul-pairs-2 Inv-loop μ-loop
-mul-pairs-2 c = search needs
-
-slice-write-pairs : tie.Need-slice-write-pairs Inv-loop μ-loop
-slice-write-pairs c = search needs
-
-mul-pairs-3 : tie.Need-mul-pairs-3 Inv-loop μ-loop
-mul-pairs-3 c = search needs
-
-add-pairs : tie.Need-add-pairs Inv-loop μ-loop
-add-pairs c = search needs
-
-mul-pairs-4 : tie.Need-mul-pairs-4 Inv-loop μ-loop
-mul-pairs-4 c = search needs
-
 slice-write-pairs-2 : tie.Need-slice-write-pairs-2 Inv-loop μ-loop
 slice-write-pairs-2 c =
     let l = c .before .before .before .before .loop .inv .0 in let t = c .before .before .before .loop-test .taken in simp length-set (omega (arith, l .long, l .room, t))
-
-add-i : tie.Need-add-i Inv-loop μ-loop
-add-i c = search needs
-
-loop-less : tie.Need-loop-less Inv-loop μ-loop
-loop-less c = search needs
 
 loop-again : tie.Need-loop-again Inv-loop μ-loop
 loop-again c =
@@ -92,9 +29,6 @@ loop-again c =
     let t = c .before .before .before .loop-test .taken in
     let f = c .before .if1 .left in
     (moved-up _ _ _ _ _ _ (l .0) t, λ u. moved-next _ _ _ _ _ _ (l .0) _ t (omega (arith, f)))
-
-same-length-2 : tie.Need-same-length-2 Inv-loop μ-loop
-same-length-2 c = search needs
 
 returns-2 : tie.Need-returns-2 Inv-loop μ-loop
 returns-2 c =
@@ -106,29 +40,29 @@ seek-up-spec =
     (tie.spec
     Inv-loop
     μ-loop
-    mul-gap
-    sub-gap
-    loop-holds
-    mul-k
-    add-k
-    mul-k-2
-    slice-read-k
-    same-length
+    (λ c. search needs)
+    (λ c. search needs)
+    (λ c. search needs)
+    (λ c. search needs)
+    (λ c. search needs)
+    (λ c. search needs)
+    (λ c. search needs)
+    (λ c. search needs)
     returns
-    mul-p
-    add-p
-    add-p-2
-    mul-p-2
-    slice-read-p
-    mul-pairs
-    mul-pairs-2
-    slice-write-pairs
-    mul-pairs-3
-    add-pairs
-    mul-pairs-4
+    (λ c. search needs)
+    (λ c. search needs)
+    (λ c. search needs)
+    (λ c. search needs)
+    (λ c. search needs)
+    (λ c. search needs)
+    (λ c. search needs)
+    (λ c. search needs)
+    (λ c. search needs)
+    (λ c. search needs)
+    (λ c. search needs)
     slice-write-pairs-2
-    add-i
-    loop-less
+    (λ c. search needs)
+    (λ c. search needs)
     loop-again
-    same-length-2
+    (λ c. search needs)
     returns-2)

@@ -6,21 +6,12 @@ use Rattle.gather.proofs.Leaves.{cleared-standing, closed-pairs}
 use Rattle.gather.proofs.gather.Statement.{statement}
 use Rattle.gather.proofs.gather.Tie as tie
 
-mul-end : tie.Need-mul-end
-mul-end c = search needs
-
-clear-requires : tie.Need-clear-requires
-clear-requires c κs = search needs
-
 gather-nodes-requires : tie.Need-gather-nodes-requires
 gather-nodes-requires c κs =
     let a = c .before .before .before .before .before .before .before .before .before .before .args in
     let p = c .before .before .before .before .before .before .before .before .before .before .pre in
     let k = c .before .before .before .before .clear in
     (p .0, p .1 .along, cleared-standing (a .table .now) (a .order .now) (a .words .now) (a .bound) (a .report .now) (p .1) (k .last .0) (k .ensures), p .1 .most)
-
-slice-relend-prefix-close : tie.Need-slice-relend-prefix-close
-slice-relend-prefix-close c = search needs
 
 slice-aggregate-close : tie.Need-slice-aggregate-close
 slice-aggregate-close c =
@@ -31,12 +22,6 @@ close-requires : tie.Need-close-requires
 close-requires c κs =
     let g = c .before .before .before .before .before .gather-nodes in
     front-fits (g .last .1 .1 .1 .0) (c .before .before .before .before .before .before .before .before .before .before .before .before .before .before .before .before .args .bound) (g .result) (g .ensures .1 .0)
-
-same-length : tie.Need-same-length
-same-length c = search needs
-
-same-length-2 : tie.Need-same-length-2
-same-length-2 c = search needs
 
 returns : tie.Need-returns
 returns c =
@@ -52,12 +37,12 @@ pub gather-spec : {M : Type 1} → statement M
 gather-spec =
     tie.close
     (tie.spec
-    mul-end
-    clear-requires
+    (λ c. search needs)
+    (λ c κs. search needs)
     gather-nodes-requires
-    slice-relend-prefix-close
+    (λ c. search needs)
     slice-aggregate-close
     close-requires
-    same-length
-    same-length-2
+    (λ c. search needs)
+    (λ c. search needs)
     returns)

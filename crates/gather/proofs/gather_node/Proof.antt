@@ -19,9 +19,6 @@ abbrev μ-loop : tie.MeasureT-loop
 μ-loop table top words₀ bound report₀ n x slots p₀ before₀ i₀ words report p before i =
     12 - i
 
-read-requires : tie.Need-read-requires Inv-loop μ-loop
-read-requires c κs = search needs
-
 returns : tie.Need-returns Inv-loop μ-loop
 returns c =
     let a = c .before .before .before .before .before .before .args in
@@ -36,18 +33,6 @@ loop-holds c =
     let r = c .before .before .before .read in
     (r .ensures, refl, p .2, p .3, collecting-start _ _ (r .result) (r .ensures) (a .bound) (a .words .now) (a .report .now) (a .t) (p .2) (p .3) (c .before .if1 .left) (p .1))
 
-mul-pointer : tie.Need-mul-pointer Inv-loop μ-loop
-mul-pointer c = search needs
-
-add-pointer : tie.Need-add-pointer Inv-loop μ-loop
-add-pointer c = search needs
-
-mul-pointer-2 : tie.Need-mul-pointer-2 Inv-loop μ-loop
-mul-pointer-2 c = search needs
-
-array-read-pointer : tie.Need-array-read-pointer Inv-loop μ-loop
-array-read-pointer c = search needs
-
 same-length : tie.Need-same-length Inv-loop μ-loop
 same-length c = c .before .before .loop .inv .4 .words
 
@@ -56,15 +41,6 @@ same-length-2 c = c .before .before .loop .inv .4 .report
 
 returns-2 : tie.Need-returns-2 Inv-loop μ-loop
 returns-2 c = let l = c .before .before .loop .inv in let t = c .before .loop-test .taken in collecting-stop _ _ _ (l .0) _ _ _ _ (l .2) (l .3) _ _ _ _ _ (l .4) t (c .if2 .taken)
-
-mul-gather-shown : tie.Need-mul-gather-shown Inv-loop μ-loop
-mul-gather-shown c = search needs
-
-mul-gather-shown-2 : tie.Need-mul-gather-shown-2 Inv-loop μ-loop
-mul-gather-shown-2 c = search needs
-
-array-read-gather-shown : tie.Need-array-read-gather-shown Inv-loop μ-loop
-array-read-gather-shown c = search needs
 
 gather-shown-requires : tie.Need-gather-shown-requires Inv-loop μ-loop
 gather-shown-requires c κs =
@@ -75,12 +51,6 @@ gather-shown-requires c κs =
       collecting-room _ _ _ (l .0) _ _ _ _ (l .2) (l .3) _ _ _ _ _ (l .4) t,
       collecting-most _ _ _ (l .0) _ _ _ _ (l .2) (l .3) _ _ _ _ _ (l .4) t (c .before .before .if2 .left),
     )
-
-add-i : tie.Need-add-i Inv-loop μ-loop
-add-i c = search needs
-
-loop-less : tie.Need-loop-less Inv-loop μ-loop
-loop-less c = search needs
 
 loop-again : tie.Need-loop-again Inv-loop μ-loop
 loop-again c =
@@ -110,22 +80,22 @@ gather-node-spec =
     (tie.spec
     Inv-loop
     μ-loop
-    read-requires
+    (λ c κs. search needs)
     returns
     loop-holds
-    mul-pointer
-    add-pointer
-    mul-pointer-2
-    array-read-pointer
+    (λ c. search needs)
+    (λ c. search needs)
+    (λ c. search needs)
+    (λ c. search needs)
     same-length
     same-length-2
     returns-2
-    mul-gather-shown
-    mul-gather-shown-2
-    array-read-gather-shown
+    (λ c. search needs)
+    (λ c. search needs)
+    (λ c. search needs)
     gather-shown-requires
-    add-i
-    loop-less
+    (λ c. search needs)
+    (λ c. search needs)
     loop-again
     same-length-3
     same-length-4

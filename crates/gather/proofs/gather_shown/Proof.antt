@@ -9,9 +9,6 @@ use Rattle.gather.proofs.gather_shown.Tie as tie
 returns : tie.Need-returns
 returns c = (met-hidden _ _ _ _ _ _ _ _ (c .if1 .taken), (c .before .before .before .before .pre .1, kept-same _ _))
 
-under-fence-requires : tie.Need-under-fence-requires
-under-fence-requires c κs = search needs
-
 returns-2 : tie.Need-returns-2
 returns-2 c =
     let u = c .before .under-fence in
@@ -22,12 +19,6 @@ gather-slot-requires c κs =
     let p = c .before .before .before .before .before .before .before .before .pre in
     let u = c .before .before .before .under-fence in
     (p .1, p .2, met-most _ _ _ _ _ _ _ _ (c .before .before .before .before .if1 .left) (sym (u .ensures) ∙ not-false-iff (u .result) .0 (c .before .before .if2 .left)) _ (p .3))
-
-same-length : tie.Need-same-length
-same-length c = search needs
-
-same-length-2 : tie.Need-same-length-2
-same-length-2 c = search needs
 
 returns-3 : tie.Need-returns-3
 returns-3 c =
@@ -43,9 +34,9 @@ gather-shown-spec =
     tie.close
     (tie.spec
     returns
-    under-fence-requires
+    (λ c κs. search needs)
     returns-2
     gather-slot-requires
-    same-length
-    same-length-2
+    (λ c. search needs)
+    (λ c. search needs)
     returns-3)

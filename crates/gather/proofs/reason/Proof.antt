@@ -7,9 +7,6 @@ use Rattle.gather.proofs.Pairs.{reason-range, reason-key, reason-record
 use Rattle.gather.proofs.reason.Statement.{statement}
 use Rattle.gather.proofs.reason.Tie as tie
 
-ok-requires : tie.Need-ok-requires
-ok-requires c κs = search needs
-
 returns : tie.Need-returns
 returns c =
     let a = c .before .before .before .args in
@@ -18,9 +15,6 @@ returns c =
 ends-with-requires : tie.Need-ends-with-requires
 ends-with-requires c κs =
     let s = c .before .before .before .before .pre .0 in (omega (arith, s .below, s .few, s .cells), omega (arith, s .below, s .few, s .small))
-
-same-length : tie.Need-same-length
-same-length c = search needs
 
 returns-2 : tie.Need-returns-2
 returns-2 c =
@@ -31,15 +25,9 @@ returns-2 c =
       filing-none (a .words .now) (a .bound) (a .t) _ (p .0),
     )
 
-recording-requires : tie.Need-recording-requires
-recording-requires c κs = search needs
-
 is-new-requires : tie.Need-is-new-requires
 is-new-requires c κs =
     c .before .before .before .before .before .before .before .before .pre .0
-
-same-length-2 : tie.Need-same-length-2
-same-length-2 c = search needs
 
 returns-3 : tie.Need-returns-3
 returns-3 c =
@@ -53,9 +41,6 @@ returns-3 c =
     let o = sym (d .before .before .before .before .ok .ensures) ∙ not-false _ (d .before .before .before .if1 .left) in
     let n = sym k ∙ sym (d .before .ends-with .ensures) ∙ d .if2 .left in
     (reason-recording _ _ _ o n (recorded-is _ _ _ _ _ q (w .ensures .0) e), filing-as (a .words .now) (a .bound) (a .t) _ _ _ _ _ q e (w .ensures .1))
-
-same-length-3 : tie.Need-same-length-3
-same-length-3 c = search needs
 
 returns-4 : tie.Need-returns-4
 returns-4 c =
@@ -74,14 +59,14 @@ pub reason-spec : {M : Type 1} → statement M
 reason-spec =
     tie.close
     (tie.spec
-    ok-requires
+    (λ c κs. search needs)
     returns
     ends-with-requires
-    same-length
+    (λ c. search needs)
     returns-2
-    recording-requires
+    (λ c κs. search needs)
     is-new-requires
-    same-length-2
+    (λ c. search needs)
     returns-3
-    same-length-3
+    (λ c. search needs)
     returns-4)

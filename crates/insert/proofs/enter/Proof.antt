@@ -40,9 +40,6 @@ root-of-requires : tie.Need-root-of-requires
 root-of-requires c κs = let s = split c in let g = grown (s .before) in let h = handed (g .before) in
     (split-header h (g .grow .ensures .0) (s .split-run .ensures .0), split-collection h (g .grow .ensures .0) (s .split-run .ensures .0))
 
-standing-requires : tie.Need-standing-requires
-standing-requires c κs = search needs
-
 join-requires : tie.Need-join-requires
 join-requires c κs = let h = handed (grown (split (read c .before) .before) .before) in (recording-low h, class-low h)
 
@@ -59,9 +56,6 @@ same-length-2 : tie.Need-same-length-2
 same-length-2 c = let i = last c in let s = split (read (joined (i .before) .before) .before) in let g = grown (s .before) in
     i .shift-in .kept .1 .0 ∙ s .split-run .kept .1 .0 ∙ g .grow .kept .1 .0
 
-same-length-3 : tie.Need-same-length-3
-same-length-3 c = search needs
-
 returns : tie.Need-returns
 returns c = let i = last c in let j = joined (i .before) in let n = j .before in let r = read n in let s = split (r .before) in let g = grown (s .before) in
     let h = handed (g .before) in let a = g .grow .ensures .0 in let b = s .split-run .ensures in let e = r .root-of .ensures in let f = n .standing .ensures in
@@ -74,10 +68,10 @@ enter-spec =
     grow-requires
     split-run-requires
     root-of-requires
-    standing-requires
+    (λ c κs. search needs)
     join-requires
     shift-in-requires
     same-length
     same-length-2
-    same-length-3
+    (λ c. search needs)
     returns)

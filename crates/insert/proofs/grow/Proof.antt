@@ -60,15 +60,6 @@ new-root-requires c κs =
     let n = f .fresh .ensures .0 in
     (word-low h, (root-there h o w n, (root-low h, room-as _ _ _ (root-stores h o w n) (s .pre .1 .1 .1 .1 .0))))
 
-same-length : tie.Need-same-length
-same-length c = search needs
-
-same-length-2 : tie.Need-same-length-2
-same-length-2 c = search needs
-
-same-length-3 : tie.Need-same-length-3
-same-length-3 c = search needs
-
 returns-2 : tie.Need-returns-2
 returns-2 c = let r = last c in let f = freed (r .before) in let d = rooted f in
     (stored-as _ _ _ (root-stores (handed (entry d)) (read f .root-of .ensures) (not-false _ (d .if1 .left)) (f .fresh .ensures .0)) _ (r .new-root .ensures), f .fresh .ensures .1)
@@ -83,7 +74,7 @@ grow-spec =
     mul-word
     sub-word
     new-root-requires
-    same-length
-    same-length-2
-    same-length-3
+    (λ c. search needs)
+    (λ c. search needs)
+    (λ c. search needs)
     returns-2)

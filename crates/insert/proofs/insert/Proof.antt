@@ -35,55 +35,22 @@ passed c = judged-ready (call (asked c)) _ _ _ _ _ (sym (c .before .before .judg
 
 -- ---- the answers
 
-judge-requires : tie.Need-judge-requires
-judge-requires c κs = search needs
-
-enum-known-judgement : tie.Need-enum-known-judgement
-enum-known-judgement c = search needs
-
-enum-known-judgement-2 : tie.Need-enum-known-judgement-2
-enum-known-judgement-2 c = search needs
-
 root-of-requires : tie.Need-root-of-requires
 root-of-requires c κs = let p = passed (ready c) in (sound-head _ (p .found .is-sound), p .collection)
 
 has-recording-requires : tie.Need-has-recording-requires
 has-recording-requires c κs = let p = passed (ready (c .before)) in root-sound _ _ _ (c .root-of .ensures) (p .found .is-sound) (p .collection)
 
-slice-aggregate-insert-known : tie.Need-slice-aggregate-insert-known
-slice-aggregate-insert-known c = search needs
-
 insert-known-requires : tie.Need-insert-known-requires
 insert-known-requires c κs = let h = looked (c .before) in let r = h .before in let p = passed (ready (r .before)) in let f = p .found in let a = asked (ready (r .before)) .args in
     (f .is-sound, (f .leftover-is, (f .reached-are, (p .collection, (p .dock-ok, (p .long, (found-here (a .collection) (a .table .now) _ (r .root-of .ensures) _ _ (h .has-recording .ensures), none-taken _)))))))
 
-enum-known-entered : tie.Need-enum-known-entered
-enum-known-entered c = search needs
-
-enum-known-entered-2 : tie.Need-enum-known-entered-2
-enum-known-entered-2 c = search needs
-
-same-length : tie.Need-same-length
-same-length c = search needs
-
 returns : tie.Need-returns
 returns c = let j = c .before in judge-refuses _ _ _ _ _ (sym (j .before .before .judge .ensures) ∙ j .judgement .given .1)
-
-same-length-2 : tie.Need-same-length-2
-same-length-2 c = search needs
-
-same-length-3 : tie.Need-same-length-3
-same-length-3 c = search needs
 
 returns-2 : tie.Need-returns-2
 returns-2 c = let q = c .before .before .before .before .before .before .before .before .insert-known .ensures in
     (entered-refused (c .before .entered .given .1) (q .0), (q .1 .0, q .1 .1 .0))
-
-same-length-4 : tie.Need-same-length-4
-same-length-4 c = search needs
-
-same-length-5 : tie.Need-same-length-5
-same-length-5 c = search needs
 
 returns-3 : tie.Need-returns-3
 returns-3 c = let q = c .before .before .before .before .before .before .before .before .insert-known .ensures in
@@ -93,20 +60,20 @@ pub insert-spec : {M : Type 1} → statement M
 insert-spec =
     tie.close
     (tie.spec
-    judge-requires
-    enum-known-judgement
-    enum-known-judgement-2
+    (λ c κs. search needs)
+    (λ c. search needs)
+    (λ c. search needs)
     root-of-requires
     has-recording-requires
-    slice-aggregate-insert-known
+    (λ c. search needs)
     insert-known-requires
-    enum-known-entered
-    enum-known-entered-2
-    same-length
+    (λ c. search needs)
+    (λ c. search needs)
+    (λ c. search needs)
     returns
-    same-length-2
-    same-length-3
+    (λ c. search needs)
+    (λ c. search needs)
     returns-2
-    same-length-4
-    same-length-5
+    (λ c. search needs)
+    (λ c. search needs)
     returns-3)

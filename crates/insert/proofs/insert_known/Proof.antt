@@ -75,23 +75,11 @@ begun c = record { is-sound = passed (told c) .found .is-sound; accepted = accep
 root-of-requires : tie.Need-root-of-requires
 root-of-requires c κs = let p = passed (entry c) in (sound-head _ (p .found .is-sound), p .collection)
 
-parent-of-requires : tie.Need-parent-of-requires
-parent-of-requires c κs = search needs
-
 full-run-requires : tie.Need-full-run-requires
 full-run-requires c κs = let p = passed (asked c) in root-sound _ _ _ (read c .root-of .ensures) (p .found .is-sound) (p .collection)
 
-number-known-requires : tie.Need-number-known-requires
-number-known-requires c κs = search needs
-
-same-length : tie.Need-same-length
-same-length c = search needs
-
 returns : tie.Need-returns
 returns c = let p = refused-call _ _ _ _ _ (c .if1 .taken) (numbered (c .before)) in (p .0, (p .1 .0, (p .1 .1, (tt, search needs))))
-
-begin-requires : tie.Need-begin-requires
-begin-requires c κs = search needs
 
 mend-requires : tie.Need-mend-requires
 mend-requires c κs = let f = passed (told c) .found in (f .is-sound, (f .leftover-is, mend-room (begun c)))
@@ -107,15 +95,6 @@ reached-after-requires : tie.Need-reached-after-requires
 reached-after-requires c κs = let m = mended (entered (finished c .before) .before) in let k = kept (m .before) in
     count-low _ _ _ _ _ _ _ (accepts k) (running (k .before .before .before)) (passed (told (m .before)) .found .reached-are)
 
-same-length-2 : tie.Need-same-length-2
-same-length-2 c = search needs
-
-same-length-3 : tie.Need-same-length-3
-same-length-3 c = search needs
-
-same-length-4 : tie.Need-same-length-4
-same-length-4 c = search needs
-
 returns-2 : tie.Need-returns-2
 returns-2 c = let f = finished (c .before) in let e = entered (f .before) in let m = mended (e .before) in let k = kept (m .before) in
     let p = done-call (begun (m .before)) (m .mend .ensures) (e .enter .ensures .0) (f .finish .ensures) in
@@ -126,17 +105,17 @@ insert-known-spec =
     tie.close
     (tie.spec
     root-of-requires
-    parent-of-requires
+    (λ c κs. search needs)
     full-run-requires
-    number-known-requires
-    same-length
+    (λ c κs. search needs)
+    (λ c. search needs)
     returns
-    begin-requires
+    (λ c κs. search needs)
     mend-requires
     enter-requires
     finish-requires
     reached-after-requires
-    same-length-2
-    same-length-3
-    same-length-4
+    (λ c. search needs)
+    (λ c. search needs)
+    (λ c. search needs)
     returns-2)

@@ -82,14 +82,8 @@ few c = ap (λ (n : ℕ). fewFor n (start (entry (ranged (keyed (fresh (low (c .
 root-of-requires : tie.Need-root-of-requires
 root-of-requires c κs = let e = c .before .pre in (sound-head _ (e .1 .0), e .0)
 
-recording-ok-requires : tie.Need-recording-ok-requires
-recording-ok-requires c κs = search needs
-
 returns : tie.Need-returns
 returns c = test-not _ _ _ _ (c .before .recording-ok .ensures) (c .if1 .taken) ∙ sym (from₆ (c .before .before))
-
-class-ok-requires : tie.Need-class-ok-requires
-class-ok-requires c κs = search needs
 
 returns-2 : tie.Need-returns-2
 returns-2 c = test-not _ _ _ _ (c .before .class-ok .ensures) (c .if2 .taken) ∙ sym (from₁₄ (c .before .before))
@@ -103,17 +97,8 @@ returns-3 c = test-holds _ _ _ (sym (c .before .has-key .ensures) ∙ c .if3 .ta
 returns-4 : tie.Need-returns-4
 returns-4 c = test-holds _ _ _ (knows (entry (ranged (keyed (c .before)))) ∙ c .if4 .taken) ∙ sym (from₈ (c .before))
 
-too-high-requires : tie.Need-too-high-requires
-too-high-requires c κs = search needs
-
 returns-5 : tie.Need-returns-5
 returns-5 c = test-holds _ _ _ (sym (c .before .too-high .ensures) ∙ c .if5 .taken) ∙ sym (from₁₁ (c .before .before))
-
-unreachable-requires : tie.Need-unreachable-requires
-unreachable-requires c κs = search needs
-
-too-few-requires : tie.Need-too-few-requires
-too-few-requires c κs = search needs
 
 returns-6 : tie.Need-returns-6
 returns-6 c = test-holds _ _ _ (few (c .before) ∙ c .if6 .taken) ∙ sym (from₁₀ (c .before .before .before))
@@ -126,16 +111,16 @@ number-known-spec =
     tie.close
     (tie.spec
     root-of-requires
-    recording-ok-requires
+    (λ c κs. search needs)
     returns
-    class-ok-requires
+    (λ c κs. search needs)
     returns-2
     has-key-requires
     returns-3
     returns-4
-    too-high-requires
+    (λ c κs. search needs)
     returns-5
-    unreachable-requires
-    too-few-requires
+    (λ c κs. search needs)
+    (λ c κs. search needs)
     returns-6
     returns-7)

@@ -31,9 +31,6 @@ last c = c .before .before .before .before
 root-of-requires : tie.Need-root-of-requires
 root-of-requires c κs = let h = c .before .before .before .before .pre .0 in (split-header h, h .node .collection)
 
-standing-requires : tie.Need-standing-requires
-standing-requires c κs = search needs
-
 fresh-requires : tie.Need-fresh-requires
 fresh-requires c κs = let s = stood (c .before) in let e = entry (s .before) .pre in let h = e .0 in
     let u = lower-range h (read (s .before) .root-of .ensures) (s .standing .ensures) in (split-sound h, (e .1 .1, (u .0, u .1)))
@@ -41,23 +38,11 @@ fresh-requires c κs = let s = stood (c .before) in let e = entry (s .before) .p
 add-standing : tie.Need-add-standing
 add-standing c = omega (arith, split-low (entry (stood (freed c .before .before) .before) .pre .0))
 
-standing-requires-2 : tie.Need-standing-requires-2
-standing-requires-2 c κs = search needs
-
 split-requires : tie.Need-split-requires
 split-requires c κs = let m = above c in let f = freed (m .before) in let s = stood (f .before .before) in let e = entry (s .before) .pre in
     let h = e .0 in let er = read (s .before) .root-of .ensures in let ea = s .standing .ensures in let eb = f .fresh .ensures .0 in let ep = m .standing2 .ensures in
     let a = lower-plain h er ea in let p = parent-plain h er ea eb ep in
     (a .there, (a .plain, (lower-full h er ea, (upper-there h er ea eb ep, (p .there, (p .plain, room-as _ _ _ (split-as h er ea eb ep) (e .1 .0)))))))
-
-same-length : tie.Need-same-length
-same-length c = search needs
-
-same-length-2 : tie.Need-same-length-2
-same-length-2 c = search needs
-
-same-length-3 : tie.Need-same-length-3
-same-length-3 c = search needs
 
 returns : tie.Need-returns
 returns c = let d = last c in let m = above (d .before) in let f = freed (m .before) in let s = stood (f .before .before) in let r = read (s .before) in
@@ -68,12 +53,12 @@ split-at-spec =
     tie.close
     (tie.spec
     root-of-requires
-    standing-requires
+    (λ c κs. search needs)
     fresh-requires
     add-standing
-    standing-requires-2
+    (λ c κs. search needs)
     split-requires
-    same-length
-    same-length-2
-    same-length-3
+    (λ c. search needs)
+    (λ c. search needs)
+    (λ c. search needs)
     returns)

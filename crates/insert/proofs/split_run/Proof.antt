@@ -24,16 +24,10 @@ abbrev μ-loop : tie.MeasureT-loop
 loop-holds : tie.Need-loop-holds Inv-loop μ-loop
 loop-holds c = let e = c .before .before .before .pre in (refl, refl, refl, e .1 .1, e .0, rest-start (e .1 .0))
 
-sub-l : tie.Need-sub-l Inv-loop μ-loop
-sub-l c = search needs
-
 split-at-requires : tie.Need-split-at-requires Inv-loop μ-loop
 split-at-requires c κs =
     let l = c .before .before .before .before .loop in
     (next-splittable _ _ _ (l .l) (omega arith) (l .inv .4), (next-room _ _ _ (l .l) _ _ _ (omega arith) (l .inv .5), l .inv .3))
-
-loop-less : tie.Need-loop-less Inv-loop μ-loop
-loop-less c = search needs
 
 loop-again : tie.Need-loop-again Inv-loop μ-loop
 loop-again c =
@@ -48,15 +42,6 @@ loop-again c =
       next-rest _ _ _ (l .l) _ _ _ (omega arith) (l .inv .5) _ _ _ q,
     )
 
-same-length : tie.Need-same-length Inv-loop μ-loop
-same-length c = search needs
-
-same-length-2 : tie.Need-same-length-2 Inv-loop μ-loop
-same-length-2 c = search needs
-
-same-length-3 : tie.Need-same-length-3 Inv-loop μ-loop
-same-length-3 c = search needs
-
 returns : tie.Need-returns Inv-loop μ-loop
 returns c = let l = c .before .loop in (splits-done _ (l .l) _ _ _ _ (omega arith) (l .inv .5), l .inv .3)
 
@@ -67,11 +52,11 @@ split-run-spec =
     Inv-loop
     μ-loop
     loop-holds
-    sub-l
+    (λ c. search needs)
     split-at-requires
-    loop-less
+    (λ c. search needs)
     loop-again
-    same-length
-    same-length-2
-    same-length-3
+    (λ c. search needs)
+    (λ c. search needs)
+    (λ c. search needs)
     returns)

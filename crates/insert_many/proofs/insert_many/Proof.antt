@@ -30,40 +30,16 @@ passed c = judged-ready (insertionOf (asked c .args .collection) (slot 0 0)) _ _
 
 -- ---- the answers
 
-stopped-requires : tie.Need-stopped-requires
-stopped-requires c κs = search needs
-
 returns : tie.Need-returns
 returns c = let a = c .before .before .before .before .before .args in
     gives-none (a .collection) (a .dock) (a .pairs .now) (a .list .now) (a .table .now) (c .before .if1 .taken) _ (c .stopped .ensures)
 
-judge-requires : tie.Need-judge-requires
-judge-requires c κs = search needs
-
-enum-known-judgement : tie.Need-enum-known-judgement
-enum-known-judgement c = search needs
-
-stopped-requires-2 : tie.Need-stopped-requires-2
-stopped-requires-2 c κs = search needs
-
-enum-known-judgement-2 : tie.Need-enum-known-judgement-2
-enum-known-judgement-2 c = search needs
-
 take-all-requires : tie.Need-take-all-requires
 take-all-requires c κs = let p = passed (ready c) in let f = p .found in (f .is-sound, (f .leftover-is, (f .reached-are, (p .collection, p .dock-ok))))
-
-same-length : tie.Need-same-length
-same-length c = search needs
 
 returns-2 : tie.Need-returns-2
 returns-2 c = let j = c .before .before in let k = j .before .before in let e = some k in let a = entry e .args in
     gives-refused (a .collection) (a .dock) (a .pairs .now) (a .list .now) (a .table .now) (e .if1 .left) _ (sym (k .judge .ensures) ∙ j .judgement .given .1) _ (c .stopped2 .ensures)
-
-same-length-2 : tie.Need-same-length-2
-same-length-2 c = search needs
-
-same-length-3 : tie.Need-same-length-3
-same-length-3 c = search needs
 
 returns-3 : tie.Need-returns-3
 returns-3 c = let t = c .before .before .before .before in let a = asked (ready (t .before)) .args in
@@ -73,15 +49,15 @@ pub insert-many-spec : {M : Type 1} → statement M
 insert-many-spec =
     tie.close
     (tie.spec
-    stopped-requires
+    (λ c κs. search needs)
     returns
-    judge-requires
-    enum-known-judgement
-    stopped-requires-2
-    enum-known-judgement-2
+    (λ c κs. search needs)
+    (λ c. search needs)
+    (λ c κs. search needs)
+    (λ c. search needs)
     take-all-requires
-    same-length
+    (λ c. search needs)
     returns-2
-    same-length-2
-    same-length-3
+    (λ c. search needs)
+    (λ c. search needs)
     returns-3)

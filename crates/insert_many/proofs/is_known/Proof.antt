@@ -22,21 +22,6 @@ returns c = let i = c .before .before .before in let a = i .args in let e = i .p
 root-of-requires : tie.Need-root-of-requires
 root-of-requires c κs = let e = c .before .before .before .pre in (sound-head _ (e .0), e .1 .0)
 
-mul-recording : tie.Need-mul-recording
-mul-recording c = search needs
-
-add-recording : tie.Need-add-recording
-add-recording c = search needs
-
-mul-recording-2 : tie.Need-mul-recording-2
-mul-recording-2 c = search needs
-
-shared-slice-read-recording : tie.Need-shared-slice-read-recording
-shared-slice-read-recording c = search needs
-
-recording-requires : tie.Need-recording-requires
-recording-requires c κs = search needs
-
 has-recording-requires : tie.Need-has-recording-requires
 has-recording-requires c κs = let r = read c in let e = r .before .before .before .before .pre in root-sound _ _ _ (r .root-of .ensures) (e .0) (e .1 .0)
 
@@ -50,10 +35,10 @@ is-known-spec =
     (tie.spec
     returns
     root-of-requires
-    mul-recording
-    add-recording
-    mul-recording-2
-    shared-slice-read-recording
-    recording-requires
+    (λ c. search needs)
+    (λ c. search needs)
+    (λ c. search needs)
+    (λ c. search needs)
+    (λ c κs. search needs)
     has-recording-requires
     returns-2)

@@ -24,27 +24,15 @@ returns c = c .before .before .before .pre .1 .1 .1
 root-of-requires : tie.Need-root-of-requires Inv-loop μ-loop
 root-of-requires c κs = let e = c .before .before .before .pre in (sound-head _ (e .0), e .1 .0)
 
-sub-width : tie.Need-sub-width Inv-loop μ-loop
-sub-width c = search needs
-
 loop-holds : tie.Need-loop-holds Inv-loop μ-loop
 loop-holds c = let i = c .before .before .before .before .pre .1 .1 .0 in (c .root-of .ensures, omega arith)
-
-add-are-new : tie.Need-add-are-new Inv-loop μ-loop
-add-are-new c = search needs
 
 are-new-requires : tie.Need-are-new-requires Inv-loop μ-loop
 are-new-requires c κs = let l = c .before .loop in let e = l .inv in let s = c .before .before .before .before .before .before .pre in
     (root-sound _ _ _ (e .0) (s .0) (s .1 .0), (omega arith, omega (arith, e .1)))
 
-add-result : tie.Need-add-result Inv-loop μ-loop
-add-result c = search needs
-
 returns-2 : tie.Need-returns-2 Inv-loop μ-loop
 returns-2 c = let n = c .before in let a = n .before .before .before .before .before .before .before .args in new-here (a .collection) (a .table .now) _ (n .before .before .loop .inv .0) _ (n .are-new .ensures (c .if2 .taken))
-
-loop-less : tie.Need-loop-less Inv-loop μ-loop
-loop-less c = search needs
 
 loop-again : tie.Need-loop-again Inv-loop μ-loop
 loop-again c = let l = c .before .before .before .loop .inv in (l .0, omega (arith, l .1))
@@ -60,12 +48,12 @@ new-end-spec =
     μ-loop
     returns
     root-of-requires
-    sub-width
+    (λ c. search needs)
     loop-holds
-    add-are-new
+    (λ c. search needs)
     are-new-requires
-    add-result
+    (λ c. search needs)
     returns-2
-    loop-less
+    (λ c. search needs)
     loop-again
     returns-3)

@@ -59,9 +59,6 @@ is-known-requires : tie.Need-is-known-requires Inv-loop μ-loop
 is-known-requires c κs = let t = c .before .before .before in let h = t .before .before .loop .inv in let f = h .4 in
     (f .is-sound, (f .collection, (omega (arith, h .2, t .if1 .taken), c .before .new-end .ensures)))
 
-slice-aggregate-take-next : tie.Need-slice-aggregate-take-next Inv-loop μ-loop
-slice-aggregate-take-next c = search needs
-
 take-next-requires : tie.Need-take-next-requires Inv-loop μ-loop
 take-next-requires c κs = let k = c .before .before .before in let t = k .before .before .before .before in let h = t .before .before .loop .inv in
     (h .4, (h .3, (omega (arith, h .2, t .if1 .taken), (k .is-known .ensures, h .7))))
@@ -93,12 +90,6 @@ loop-again c = let j = went c in let w = j .before .before .before .before .befo
       q .1 .1 .1,
     )
 
-same-length-3 : tie.Need-same-length-3 Inv-loop μ-loop
-same-length-3 c = search needs
-
-same-length-4 : tie.Need-same-length-4 Inv-loop μ-loop
-same-length-4 c = search needs
-
 returns-2 : tie.Need-returns-2 Inv-loop μ-loop
 returns-2 c = let h = c .before .before .loop .inv in let k = c .if1 .left in ahead-all _ _ _ _ _ _ (h .3) (omega (arith, h .2, k)) (h .4 .inside) ∙ h .5
 
@@ -111,13 +102,13 @@ take-all-spec =
     loop-holds
     new-end-requires
     is-known-requires
-    slice-aggregate-take-next
+    (λ c. search needs)
     take-next-requires
     same-length
     same-length-2
     returns
     loop-less
     loop-again
-    same-length-3
-    same-length-4
+    (λ c. search needs)
+    (λ c. search needs)
     returns-2)

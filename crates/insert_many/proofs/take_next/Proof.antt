@@ -44,51 +44,9 @@ barriers-fit c = let f = sums c .2 in search needs
 
 -- ---- the answers
 
-mul-key : tie.Need-mul-key
-mul-key c = search needs
-
-mul-key-2 : tie.Need-mul-key-2
-mul-key-2 c = search needs
-
-shared-slice-read-key : tie.Need-shared-slice-read-key
-shared-slice-read-key c = search needs
-
-mul-pointer : tie.Need-mul-pointer
-mul-pointer c = search needs
-
-add-pointer : tie.Need-add-pointer
-add-pointer c = search needs
-
-mul-pointer-2 : tie.Need-mul-pointer-2
-mul-pointer-2 c = search needs
-
-shared-slice-read-pointer : tie.Need-shared-slice-read-pointer
-shared-slice-read-pointer c = search needs
-
-mul-take-one : tie.Need-mul-take-one
-mul-take-one c = search needs
-
-sub-take-one : tie.Need-sub-take-one
-sub-take-one c = search needs
-
-part-take-one-start : tie.Need-part-take-one-start
-part-take-one-start c = search needs
-
-part-take-one-end : tie.Need-part-take-one-end
-part-take-one-end c = search needs
-
 take-one-requires : tie.Need-take-one-requires
 take-one-requires c κs = let e = c .before .before .before .before .before .before .before .before .before .pre in let f = e .0 in
     (f .is-sound, (f .leftover-is, (f .reached-are, (f .collection, (f .dock-ok, (e .1 .1 .1 .0, e .1 .1 .1 .1))))))
-
-enum-known-entered : tie.Need-enum-known-entered
-enum-known-entered c = search needs
-
-enum-known-entered-2 : tie.Need-enum-known-entered-2
-enum-known-entered-2 c = search needs
-
-add-t34 : tie.Need-add-t34
-add-t34 c = search needs
 
 add-t35 : tie.Need-add-t35
 add-t35 c = let f = fits c in search needs
@@ -111,29 +69,11 @@ add-t41 c = flushes-fit (c .before .before)
 add-t42 : tie.Need-add-t42
 add-t42 c = barriers-fit (c .before .before .before)
 
-same-length : tie.Need-same-length
-same-length c = search needs
-
-same-length-2 : tie.Need-same-length-2
-same-length-2 c = search needs
-
-same-length-3 : tie.Need-same-length-3
-same-length-3 c = search needs
-
 returns : tie.Need-returns
 returns c = let j = refused c in let i = entry j in let a = i .args in let e = i .pre in let q = j .take-one .ensures in
     let n = next-refused (a .collection) (a .dock) (a .pairs .now) (a .p) (a .list .now) (a .table .now) (e .0) (e .1 .0) (e .1 .1 .0)
     (j .take-one .result) _ _ (q .0) (q .1 .0) (q .1 .1 .0) (q .1 .1 .1 .0) _ (c .before .entered .given .1) in
     (n .same, (n .fits, (n .gains, q .1 .1 .1 .1)))
-
-same-length-4 : tie.Need-same-length-4
-same-length-4 c = search needs
-
-same-length-5 : tie.Need-same-length-5
-same-length-5 c = search needs
-
-same-length-6 : tie.Need-same-length-6
-same-length-6 c = search needs
 
 returns-2 : tie.Need-returns-2
 returns-2 c = let u = c .before .before .before in let j = done u in let i = entry j in let a = i .args in let e = i .pre in let q = j .take-one .ensures in
@@ -145,21 +85,21 @@ pub take-next-spec : {M : Type 1} → statement M
 take-next-spec =
     tie.close
     (tie.spec
-    mul-key
-    mul-key-2
-    shared-slice-read-key
-    mul-pointer
-    add-pointer
-    mul-pointer-2
-    shared-slice-read-pointer
-    mul-take-one
-    sub-take-one
-    part-take-one-start
-    part-take-one-end
+    (λ c. search needs)
+    (λ c. search needs)
+    (λ c. search needs)
+    (λ c. search needs)
+    (λ c. search needs)
+    (λ c. search needs)
+    (λ c. search needs)
+    (λ c. search needs)
+    (λ c. search needs)
+    (λ c. search needs)
+    (λ c. search needs)
     take-one-requires
-    enum-known-entered
-    enum-known-entered-2
-    add-t34
+    (λ c. search needs)
+    (λ c. search needs)
+    (λ c. search needs)
     add-t35
     add-t36
     mul-t38
@@ -167,11 +107,11 @@ take-next-spec =
     add-t40
     add-t41
     add-t42
-    same-length
-    same-length-2
-    same-length-3
+    (λ c. search needs)
+    (λ c. search needs)
+    (λ c. search needs)
     returns
-    same-length-4
-    same-length-5
-    same-length-6
+    (λ c. search needs)
+    (λ c. search needs)
+    (λ c. search needs)
     returns-2)

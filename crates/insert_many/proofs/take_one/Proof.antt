@@ -15,33 +15,15 @@ last c = c .before .before .before .before .before .before
 
 -- ---- the answers
 
-words-for-requires : tie.Need-words-for-requires
-words-for-requires c κs = search needs
-
 returns : tie.Need-returns
 returns c = let i = c .before .before .before .before .before in let a = i .args in let e = i .pre in
     let p = short (a .collection) (a .key) (a .pointer) (a .dock) (a .table .now) (a .list .now) (e .0) (e .1 .1 .1 .0) (e .1 .1 .1 .1 .0) _ (c .before .words-for .ensures) (c .if1 .taken) in
     (p .0, (p .1 .0, (p .1 .1 .0, (tt, e .1 .1 .1 .1 .1 .1))))
 
-recording-requires : tie.Need-recording-requires
-recording-requires c κs = search needs
-
-class-requires : tie.Need-class-requires
-class-requires c κs = search needs
-
 insert-known-requires : tie.Need-insert-known-requires
 insert-known-requires c κs = let r = parts c .before in let k = r .before in let i = k .before .before .before .before .before in let a = i .args in let e = i .pre in
     let known = known-as (a .collection) (a .pointer) (a .table .now) _ (r .recording .ensures) _ (e .1 .1 .1 .1 .1 .0) in
     (e .0, (e .1 .0, (e .1 .1 .0, (e .1 .1 .1 .0, (e .1 .1 .1 .1 .0, (omega (arith, k .before .words-for .ensures, k .if1 .left), (known, e .1 .1 .1 .1 .1 .1)))))))
-
-same-length : tie.Need-same-length
-same-length c = search needs
-
-same-length-2 : tie.Need-same-length-2
-same-length-2 c = search needs
-
-same-length-3 : tie.Need-same-length-3
-same-length-3 c = search needs
 
 returns-2 : tie.Need-returns-2
 returns-2 c = let j = last c in let u = parts (j .before) in let r = u .before in let a = r .before .before .before .before .before .before .args in let q = j .insert-known .ensures in
@@ -53,12 +35,12 @@ pub take-one-spec : {M : Type 1} → statement M
 take-one-spec =
     tie.close
     (tie.spec
-    words-for-requires
+    (λ c κs. search needs)
     returns
-    recording-requires
-    class-requires
+    (λ c κs. search needs)
+    (λ c κs. search needs)
     insert-known-requires
-    same-length
-    same-length-2
-    same-length-3
+    (λ c. search needs)
+    (λ c. search needs)
+    (λ c. search needs)
     returns-2)

@@ -29,23 +29,8 @@ turn c s e =
     let text = a .before .before .args .text .now in
     sym (every-at (test kind) text (a .loop .i) _ s (c .before .before .loop-test .taken) (c .is-of .ensures) e) ∙ a .loop .inv .1
 
-loop-holds : tie.Need-loop-holds Inv-loop μ-loop
-loop-holds c = search needs
-
-shared-slice-read-is-of : tie.Need-shared-slice-read-is-of Inv-loop μ-loop
-shared-slice-read-is-of c = search needs
-
-is-of-requires : tie.Need-is-of-requires Inv-loop μ-loop
-is-of-requires c κs = search needs
-
 returns : tie.Need-returns Inv-loop μ-loop
 returns c = turn (c .before) _ (not-true _ (c .if1 .taken))
-
-add-i : tie.Need-add-i Inv-loop μ-loop
-add-i c = search needs
-
-loop-less : tie.Need-loop-less Inv-loop μ-loop
-loop-less c = search needs
 
 loop-again : tie.Need-loop-again Inv-loop μ-loop
 loop-again c = (search needs, turn (c .before) _ (not-false _ (c .if1 .left)))
@@ -63,11 +48,11 @@ all-of-spec =
     (tie.spec
     Inv-loop
     μ-loop
-    loop-holds
-    shared-slice-read-is-of
-    is-of-requires
+    (λ c. search needs)
+    (λ c. search needs)
+    (λ c κs. search needs)
     returns
-    add-i
-    loop-less
+    (λ c. search needs)
+    (λ c. search needs)
     loop-again
     returns-2)

@@ -28,24 +28,9 @@ returns c = rw (ne-eqb _ _ (c .if1 .taken))
 slice-aggregate-all-of : tie.Need-slice-aggregate-all-of
 slice-aggregate-all-of c = sym (length-take-le 2 (c .before .before .before .args .text .now) (omega arith))
 
-all-of-requires : tie.Need-all-of-requires
-all-of-requires c κs = search needs
-
 returns-2 : tie.Need-returns-2
 returns-2 c =
     parts _ _ _ _ (c .before .before .before .if1 .left) (sym (c .before .all-of .ensures) ∙ not-true _ (c .if2 .taken)) refl refl
-
-sub-all-of : tie.Need-sub-all-of
-sub-all-of c = search needs
-
-part-all-of-start : tie.Need-part-all-of-start
-part-all-of-start c = search needs
-
-part-all-of-end : tie.Need-part-all-of-end
-part-all-of-end c = search needs
-
-all-of-requires-2 : tie.Need-all-of-requires-2
-all-of-requires-2 c κs = search needs
 
 returns-3 : tie.Need-returns-3
 returns-3 c =
@@ -54,18 +39,6 @@ returns-3 c =
     (sym (a .before .all-of .ensures) ∙ not-false _ (a .if2 .left))
     (sym (c .before .all-of2 .ensures) ∙ not-true _ (c .if3 .taken))
     refl
-
-sub-all-of-2 : tie.Need-sub-all-of-2
-sub-all-of-2 c = search needs
-
-part-all-of-start-2 : tie.Need-part-all-of-start-2
-part-all-of-start-2 c = search needs
-
-part-all-of-end-2 : tie.Need-part-all-of-end-2
-part-all-of-end-2 c = search needs
-
-all-of-requires-3 : tie.Need-all-of-requires-3
-all-of-requires-3 c κs = search needs
 
 returns-4 : tie.Need-returns-4
 returns-4 c =
@@ -83,15 +56,15 @@ is-code-spec =
     (tie.spec
     returns
     slice-aggregate-all-of
-    all-of-requires
+    (λ c κs. search needs)
     returns-2
-    sub-all-of
-    part-all-of-start
-    part-all-of-end
-    all-of-requires-2
+    (λ c. search needs)
+    (λ c. search needs)
+    (λ c. search needs)
+    (λ c κs. search needs)
     returns-3
-    sub-all-of-2
-    part-all-of-start-2
-    part-all-of-end-2
-    all-of-requires-3
+    (λ c. search needs)
+    (λ c. search needs)
+    (λ c. search needs)
+    (λ c κs. search needs)
     returns-4)

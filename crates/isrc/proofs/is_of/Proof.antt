@@ -25,29 +25,8 @@ either-test : (kind : Kind) (c : ℕ) (r s : Bool) → kind ≡ LetterOrDigit �
 unfolding test isLetterOrDigit isLetter isDigit
 either-test kind c r s e f g = rw (e, ← f, g)
 
-enum-told : tie.Need-enum-told
-enum-told c = search needs
-
-within-requires : tie.Need-within-requires
-within-requires c κs = search needs
-
-enum-told-2 : tie.Need-enum-told-2
-enum-told-2 c = search needs
-
-within-requires-2 : tie.Need-within-requires-2
-within-requires-2 c κs = search needs
-
-enum-told-3 : tie.Need-enum-told-3
-enum-told-3 c = search needs
-
-within-requires-3 : tie.Need-within-requires-3
-within-requires-3 c κs = search needs
-
 returns : tie.Need-returns
 returns c = either-test _ _ _ _ (c .before .before .enum-told3 .given .1) (c .before .within3 .ensures) (c .if1 .taken)
-
-within-requires-4 : tie.Need-within-requires-4
-within-requires-4 c κs = search needs
 
 returns-2 : tie.Need-returns-2
 returns-2 c = c .within .ensures ∙ letter-test _ _ (c .before .enum-told .given .1)
@@ -63,14 +42,14 @@ pub is-of-spec : {M : Type 1} → statement M
 is-of-spec =
     tie.close
     (tie.spec
-    enum-told
-    within-requires
-    enum-told-2
-    within-requires-2
-    enum-told-3
-    within-requires-3
+    (λ c. search needs)
+    (λ c κs. search needs)
+    (λ c. search needs)
+    (λ c κs. search needs)
+    (λ c. search needs)
+    (λ c κs. search needs)
     returns
-    within-requires-4
+    (λ c κs. search needs)
     returns-2
     returns-3
     returns-4)

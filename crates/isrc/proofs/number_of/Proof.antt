@@ -48,9 +48,6 @@ mul-n c =
     let p = step-bound 36 (s .args .base) (a .loop .n) 0 (a .loop .i) (s .pre .2) (a .loop .inv .1) (lit< tt) in
     record { fits = in-word _ (a .loop .i) (omega arith) (rw add-zero at p) }
 
-shared-slice-read-value-of : tie.Need-shared-slice-read-value-of Inv-loop μ-loop
-shared-slice-read-value-of c = search needs
-
 value-of-requires : tie.Need-value-of-requires Inv-loop μ-loop
 value-of-requires c κs =
     let a = c .before .before in
@@ -58,12 +55,6 @@ value-of-requires c κs =
 
 add-n : tie.Need-add-n Inv-loop μ-loop
 add-n c = record { fits = in-word _ (c .before .before .before .loop .i) (omega arith) (step c) }
-
-add-i : tie.Need-add-i Inv-loop μ-loop
-add-i c = search needs
-
-loop-less : tie.Need-loop-less Inv-loop μ-loop
-loop-less c = search needs
 
 loop-again : tie.Need-loop-again Inv-loop μ-loop
 loop-again c =
@@ -90,10 +81,10 @@ number-of-spec =
     μ-loop
     loop-holds
     mul-n
-    shared-slice-read-value-of
+    (λ c. search needs)
     value-of-requires
     add-n
-    add-i
-    loop-less
+    (λ c. search needs)
+    (λ c. search needs)
     loop-again
     returns)

@@ -31,9 +31,6 @@ is-key c =
 below : (c : tie.After-number-of2) → c .before .before .number-of .result * 10000000 + c .number-of2 .result < 604661760000000
 below c = rw (is-key c) (key-below _ (known (c .before .before .before .before)))
 
-is-code-requires : tie.Need-is-code-requires
-is-code-requires c κs = search needs
-
 returns : tie.Need-returns
 returns c = sym (parse-other _ (sym (c .before .is-code .ensures) ∙ not-true _ (c .if1 .taken)))
 
@@ -50,9 +47,6 @@ sub-number-of c = omega (arith, known (c .before .before) .long)
 
 part-number-of-start : tie.Need-part-number-of-start
 part-number-of-start c = omega (arith, known (c .before .before) .long)
-
-part-number-of-end : tie.Need-part-number-of-end
-part-number-of-end c = search needs
 
 number-of-requires-2 : tie.Need-number-of-requires-2
 number-of-requires-2 c κs =
@@ -73,13 +67,13 @@ pub parse-spec : {M : Type 1} → statement M
 parse-spec =
     tie.close
     (tie.spec
-    is-code-requires
+    (λ c κs. search needs)
     returns
     slice-aggregate-number-of
     number-of-requires
     sub-number-of
     part-number-of-start
-    part-number-of-end
+    (λ c. search needs)
     number-of-requires-2
     mul-t12
     add-t13

@@ -29,25 +29,10 @@ one-key p j k e f = cc
 no-key : (p : Parsed) (n k : ℕ) → p ≡ Refused n → p ≡ Key k → ⊥
 no-key p n k e f = let z : _≡_ {A = ℕ} 0 1 = cc in omega arith
 
-spelling-of-requires : tie.Need-spelling-of-requires
-spelling-of-requires c κs = search needs
-
-slice-aggregate-parse : tie.Need-slice-aggregate-parse
-slice-aggregate-parse c = search needs
-
-parse-requires : tie.Need-parse-requires
-parse-requires c κs = search needs
-
-enum-known-k : tie.Need-enum-known-k
-enum-known-k c = search needs
-
 returns : tie.Need-returns
 returns c =
     let a = c .before .before .before .before in
     same _ _ _ _ (a .before .before .spelling-of .ensures) (a .parse .ensures) (c .before .before .k .given .1) (c .if1 .taken)
-
-enum-told : tie.Need-enum-told
-enum-told c = search needs
 
 returns-2 : tie.Need-returns-2
 returns-2 c =
@@ -64,11 +49,11 @@ pub print-spec : {M : Type 1} → statement M
 print-spec =
     tie.close
     (tie.spec
-    spelling-of-requires
-    slice-aggregate-parse
-    parse-requires
-    enum-known-k
+    (λ c κs. search needs)
+    (λ c. search needs)
+    (λ c κs. search needs)
+    (λ c. search needs)
     returns
-    enum-told
+    (λ c. search needs)
     returns-2
     returns-3)

@@ -20,26 +20,8 @@ joined xs ys key l e f =
     let d : drop 5 (xs ++ replicate 7 0) ≡ replicate 7 0 = drop-at xs (replicate 7 0) 5 l in
     rw (take-at xs (replicate 7 0) 5 l, d, append-nil, map-append, ← e) (ap (λ (zs : List ℕ). xs ++ zs) (rw d at f))
 
-array-borrow-prefix-text : tie.Need-array-borrow-prefix-text
-array-borrow-prefix-text c = search needs
-
-slice-aggregate-write-digits : tie.Need-slice-aggregate-write-digits
-slice-aggregate-write-digits c = search needs
-
-write-digits-requires : tie.Need-write-digits-requires
-write-digits-requires c κs = search needs
-
-sub-write-digits : tie.Need-sub-write-digits
-sub-write-digits c = search needs
-
-part-text-start : tie.Need-part-text-start
-part-text-start c = search needs
-
 part-text-end : tie.Need-part-text-end
 part-text-end c = rw length-append (omega (arith, c .before .write-digits .kept .0))
-
-write-digits-requires-2 : tie.Need-write-digits-requires-2
-write-digits-requires-2 c κs = search needs
 
 returns : tie.Need-returns
 returns c =
@@ -50,11 +32,11 @@ pub spelling-of-spec : {M : Type 1} → statement M
 spelling-of-spec =
     tie.close
     (tie.spec
-    array-borrow-prefix-text
-    slice-aggregate-write-digits
-    write-digits-requires
-    sub-write-digits
-    part-text-start
+    (λ c. search needs)
+    (λ c. search needs)
+    (λ c κs. search needs)
+    (λ c. search needs)
+    (λ c. search needs)
     part-text-end
-    write-digits-requires-2
+    (λ c κs. search needs)
     returns)

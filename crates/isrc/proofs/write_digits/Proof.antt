@@ -41,23 +41,8 @@ done base left (suc i) text h = absurd (omega arith)
 loop-holds : tie.Need-loop-holds Inv-loop μ-loop
 loop-holds c = (search needs, search needs, rw (drop-length, append-nil))
 
-sub-i : tie.Need-sub-i Inv-loop μ-loop
-sub-i c = search needs
-
-rem-character-of : tie.Need-rem-character-of Inv-loop μ-loop
-rem-character-of c = search needs
-
 character-of-requires : tie.Need-character-of-requires Inv-loop μ-loop
 character-of-requires c κs = omega (arith, mod-lt (c .before .loop .left) (c .before .before .before .pre .0))
-
-slice-write-text : tie.Need-slice-write-text Inv-loop μ-loop
-slice-write-text c = search needs
-
-div-left : tie.Need-div-left Inv-loop μ-loop
-div-left c = search needs
-
-loop-less : tie.Need-loop-less Inv-loop μ-loop
-loop-less c = search needs
 
 loop-again : tie.Need-loop-again Inv-loop μ-loop
 loop-again c =
@@ -67,9 +52,6 @@ loop-again c =
     write (s .args .base) (a .loop .left) (a .loop .i) (c .character-of .result) (a .loop .text) (c .before .loop-test .taken)
     (a .loop .inv .0) (c .character-of .ensures) in
     (rw length-set (omega arith), search needs, e ∙ a .loop .inv .2)
-
-same-length : tie.Need-same-length Inv-loop μ-loop
-same-length c = search needs
 
 returns : tie.Need-returns Inv-loop μ-loop
 returns c =
@@ -84,12 +66,12 @@ write-digits-spec =
     Inv-loop
     μ-loop
     loop-holds
-    sub-i
-    rem-character-of
+    (λ c. search needs)
+    (λ c. search needs)
     character-of-requires
-    slice-write-text
-    div-left
-    loop-less
+    (λ c. search needs)
+    (λ c. search needs)
+    (λ c. search needs)
     loop-again
-    same-length
+    (λ c. search needs)
     returns)

@@ -22,17 +22,8 @@ begun c = c .before .before .before .before
 is-good : (c : tie.Else1) → sound (entry (c .before) .args .image .now) ≡ true
 is-good c = sym (c .before .is-sound .ensures) ∙ not-false _ (c .if1 .left)
 
-is-sound-requires : tie.Need-is-sound-requires
-is-sound-requires c κs = search needs
-
 returns : tie.Need-returns
 returns c = not-sound _ _ _ (sym (c .before .is-sound .ensures) ∙ not-true _ (c .if1 .taken))
-
-word-at-requires : tie.Need-word-at-requires
-word-at-requires c κs = search needs
-
-word-at-requires-2 : tie.Need-word-at-requires-2
-word-at-requires-2 c κs = search needs
 
 tree-ok-requires : tie.Need-tree-ok-requires
 tree-ok-requires c κs =
@@ -59,12 +50,6 @@ tree c = c .before .before .before
 
 passed : (c : tie.After-word-at4) → tree c .tree-ok .result ≡ true
 passed c = not-false _ (c .before .before .if2 .left)
-
-word-at-requires-3 : tie.Need-word-at-requires-3
-word-at-requires-3 c κs = search needs
-
-word-at-requires-4 : tie.Need-word-at-requires-4
-word-at-requires-4 c κs = search needs
 
 returns-3 : tie.Need-returns-3
 returns-3 c =
@@ -98,14 +83,14 @@ pub image-ok-spec : {M : Type 1} → statement M
 image-ok-spec =
     tie.close
     (tie.spec
-    is-sound-requires
+    (λ c κs. search needs)
     returns
-    word-at-requires
-    word-at-requires-2
+    (λ c κs. search needs)
+    (λ c κs. search needs)
     tree-ok-requires
     returns-2
-    word-at-requires-3
-    word-at-requires-4
+    (λ c κs. search needs)
+    (λ c κs. search needs)
     returns-3
     returns-4
     tree-ok-requires-2

@@ -25,15 +25,6 @@ passed c = passed-tests _ _ _ _ _ (sym (c .before .before .tests .ensures) ∙ c
 abbrev told : tie.After-root-of → tie.After-enum-told
 told c = c .before
 
-tests-requires : tie.Need-tests-requires
-tests-requires c κs = search needs
-
-enum-known-answer : tie.Need-enum-known-answer
-enum-known-answer c = search needs
-
-enum-told : tie.Need-enum-told
-enum-told c = search needs
-
 root-of-requires : tie.Need-root-of-requires
 root-of-requires c κs = let b = passed c in (settled-head _ (b .settles), b .collection)
 
@@ -58,9 +49,6 @@ returns-2 c =
     let a = entry (w .before .before) .args in
     refused-before (deletion (a .collection) (a .key)) (a .collection) (a .table .now) (a .list .now) (a .out .now) refl _ (sym (w .before .before .tests .ensures) ∙ w .answer .given .1)
 
-same-length : tie.Need-same-length
-same-length c = search needs
-
 returns-3 : tie.Need-returns-3
 returns-3 c =
     let j = c .before .before in
@@ -78,13 +66,13 @@ pub judge-delete-spec : {M : Type 1} → statement M
 judge-delete-spec =
     tie.close
     (tie.spec
-    tests-requires
-    enum-known-answer
-    enum-told
+    (λ c κs. search needs)
+    (λ c. search needs)
+    (λ c. search needs)
     root-of-requires
     has-key-requires
     returns
     judge-copy-requires
     returns-2
-    same-length
+    (λ c. search needs)
     returns-3)

@@ -37,15 +37,6 @@ numbered c =
 accepted : (c : tie.Else1) → let s = asked (told (c .before .before .before)) in refusal (call s) 2560 0 (s .args .table .now) ≡ 0
 accepted c = numbered (c .before) ∙ c .if1 .left
 
-tests-requires : tie.Need-tests-requires
-tests-requires c κs = search needs
-
-enum-known-answer : tie.Need-enum-known-answer
-enum-known-answer c = search needs
-
-enum-known-answer-2 : tie.Need-enum-known-answer-2
-enum-known-answer-2 c = search needs
-
 root-of-requires : tie.Need-root-of-requires
 root-of-requires c κs = let b = passed (c .before) in (settled-head _ (b .settles), b .collection)
 
@@ -79,9 +70,6 @@ returns-2 c =
     let s = entry (w .before .before) in
     refused-before (call s) (s .args .collection) (s .args .table .now) (s .args .list .now) (s .args .out .now) refl _ (sym (w .before .before .tests .ensures) ∙ w .answer .given .1)
 
-same-length : tie.Need-same-length
-same-length c = search needs
-
 returns-3 : tie.Need-returns-3
 returns-3 c =
     let j = c .before .before in
@@ -98,9 +86,9 @@ pub judge-insert-spec : {M : Type 1} → statement M
 judge-insert-spec =
     tie.close
     (tie.spec
-    tests-requires
-    enum-known-answer
-    enum-known-answer-2
+    (λ c κs. search needs)
+    (λ c. search needs)
+    (λ c. search needs)
     root-of-requires
     full-run-requires
     number-requires
@@ -108,5 +96,5 @@ judge-insert-spec =
     join-requires
     judge-copy-requires
     returns-2
-    same-length
+    (λ c. search needs)
     returns-3)

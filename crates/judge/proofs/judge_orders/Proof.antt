@@ -29,35 +29,8 @@ entry c = c .before .before .before .before
 loop-holds : tie.Need-loop-holds Inv-loop μ-loop
 loop-holds c = let s = c .before .before .before in (refl, refl, going-start _ _ _ _ (s .pre .0) (s .pre .1 .0) (s .pre .1 .1))
 
-mul-turn : tie.Need-mul-turn Inv-loop μ-loop
-mul-turn c = search needs
-
-mul-turn-2 : tie.Need-mul-turn-2 Inv-loop μ-loop
-mul-turn-2 c = search needs
-
-shared-slice-read-turn : tie.Need-shared-slice-read-turn Inv-loop μ-loop
-shared-slice-read-turn c = search needs
-
-mul-turn-3 : tie.Need-mul-turn-3 Inv-loop μ-loop
-mul-turn-3 c = search needs
-
-add-turn : tie.Need-add-turn Inv-loop μ-loop
-add-turn c = search needs
-
-mul-turn-4 : tie.Need-mul-turn-4 Inv-loop μ-loop
-mul-turn-4 c = search needs
-
-shared-slice-read-turn-2 : tie.Need-shared-slice-read-turn-2 Inv-loop μ-loop
-shared-slice-read-turn-2 c = search needs
-
 turn-requires : tie.Need-turn-requires Inv-loop μ-loop
 turn-requires c κs = let l = head c in let g = l .loop .inv .2 in (entry l .pre .0, (going-inside g (omega arith), g .good))
-
-add-i : tie.Need-add-i Inv-loop μ-loop
-add-i c = search needs
-
-same-length : tie.Need-same-length Inv-loop μ-loop
-same-length c = search needs
 
 returns : tie.Need-returns Inv-loop μ-loop
 returns c =
@@ -65,9 +38,6 @@ returns c =
     let g = head (t .before) .loop .inv .2 in
     let e = t .turn .ensures in
     (going-fails g (omega arith) _ (e .0) _ _ (e .1) (not-true _ (c .if1 .taken)), going-failed g (omega arith) _ (e .0) _ _ (e .1))
-
-loop-less : tie.Need-loop-less Inv-loop μ-loop
-loop-less c = search needs
 
 loop-again : tie.Need-loop-again Inv-loop μ-loop
 loop-again c =
@@ -84,9 +54,6 @@ finish-requires c κs =
     let g = l .loop .inv .2 .good in
     (good-maps (mapsOf (s .args .table .now)) (wanted (s .args .change) (s .args .table .now)) _ .0 g .0, good-collection (s .args .change) (s .args .table .now) (s .pre .0) _ g)
 
-same-length-2 : tie.Need-same-length-2 Inv-loop μ-loop
-same-length-2 c = search needs
-
 returns-2 : tie.Need-returns-2 Inv-loop μ-loop
 returns-2 c =
     let l = c .before .before .before in
@@ -102,19 +69,19 @@ judge-orders-spec =
     Inv-loop
     μ-loop
     loop-holds
-    mul-turn
-    mul-turn-2
-    shared-slice-read-turn
-    mul-turn-3
-    add-turn
-    mul-turn-4
-    shared-slice-read-turn-2
+    (λ c. search needs)
+    (λ c. search needs)
+    (λ c. search needs)
+    (λ c. search needs)
+    (λ c. search needs)
+    (λ c. search needs)
+    (λ c. search needs)
     turn-requires
-    add-i
-    same-length
+    (λ c. search needs)
+    (λ c. search needs)
     returns
-    loop-less
+    (λ c. search needs)
     loop-again
     finish-requires
-    same-length-2
+    (λ c. search needs)
     returns-2)

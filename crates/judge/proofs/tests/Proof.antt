@@ -22,27 +22,12 @@ passed c = judged-ready (deletion (asked c .args .collection) 0) 2560 0 _ _ _ (s
 abbrev read : tie.After-is-nothing → tie.After-judgement2
 read c = c .before .before
 
-judge-requires : tie.Need-judge-requires
-judge-requires c κs = search needs
-
-enum-known-judgement : tie.Need-enum-known-judgement
-enum-known-judgement c = search needs
-
-enum-known-judgement-2 : tie.Need-enum-known-judgement-2
-enum-known-judgement-2 c = search needs
-
-is-nothing-requires : tie.Need-is-nothing-requires
-is-nothing-requires c κs = search needs
-
 returns : tie.Need-returns
 returns c =
     let s = c .before in
     let a = asked (read s) .args in
     let p = passed (read s) in
     not-settled (a .collection) (a .table .now) (a .list .now) (a .words) _ _ (p .found) (p .collection) _ (s .is-nothing .ensures) (not-true _ (c .if1 .taken))
-
-all-inside-requires : tie.Need-all-inside-requires
-all-inside-requires c κs = search needs
 
 returns-2 : tie.Need-returns-2
 returns-2 c =
@@ -81,12 +66,12 @@ pub tests-spec : {M : Type 1} → statement M
 tests-spec =
     tie.close
     (tie.spec
-    judge-requires
-    enum-known-judgement
-    enum-known-judgement-2
-    is-nothing-requires
+    (λ c κs. search needs)
+    (λ c. search needs)
+    (λ c. search needs)
+    (λ c κs. search needs)
     returns
-    all-inside-requires
+    (λ c κs. search needs)
     returns-2
     returns-3
     returns-4

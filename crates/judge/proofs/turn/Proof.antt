@@ -20,27 +20,12 @@ begun c = c .before .before .before
 stores : (c : tie.Else2) → let a = entry (begun c) .args in orderOf (a .a) (a .b) ≡ store (put (a .a) (a .b))
 stores c = is-store _ _ (c .before .before .if1 .left) (sym (c .before .is-barrier .ensures) ∙ c .if2 .left)
 
-apply-one-requires : tie.Need-apply-one-requires
-apply-one-requires c κs = search needs
-
-line-after-requires : tie.Need-line-after-requires
-line-after-requires c κs = search needs
-
-same-length : tie.Need-same-length
-same-length c = search needs
-
 returns : tie.Need-returns
 returns c =
     let b = c .before .before in
     let s = entry b in
     let e = applied b .apply-one .ensures in
     (e, holds-flush _ _ _ _ _ (s .pre .1 .1) _ e _ _ (is-flush _ _ (c .before .if1 .taken)) (c .line-after .ensures))
-
-is-barrier-requires : tie.Need-is-barrier-requires
-is-barrier-requires c κs = search needs
-
-same-length-2 : tie.Need-same-length-2
-same-length-2 c = search needs
 
 returns-2 : tie.Need-returns-2
 returns-2 c =
@@ -49,26 +34,11 @@ returns-2 c =
     let e = applied b .apply-one .ensures in
     (e, holds-barrier _ _ _ _ _ (s .pre .1 .1) _ e _ (is-barrier _ _ (c .before .before .if1 .left) (sym (c .before .is-barrier .ensures) ∙ c .if2 .taken)) refl)
 
-add-stored : tie.Need-add-stored
-add-stored c = search needs
-
-second-line-requires : tie.Need-second-line-requires
-second-line-requires c κs = search needs
-
-same-length-3 : tie.Need-same-length-3
-same-length-3 c = search needs
-
 returns-3 : tie.Need-returns-3
 returns-3 c =
     let d = c .before in
     let a = entry (begun (d .before)) .args in
     (applied (begun (d .before)) .apply-one .ensures, holds-not _ _ (a .line) (a .a) (a .b) _ (stores (d .before)) _ (d .second-line .ensures) _ _ (c .if3 .taken))
-
-image-ok-requires : tie.Need-image-ok-requires
-image-ok-requires c κs = search needs
-
-same-length-4 : tie.Need-same-length-4
-same-length-4 c = search needs
 
 returns-4 : tie.Need-returns-4
 returns-4 c =
@@ -82,17 +52,17 @@ pub turn-spec : {M : Type 1} → statement M
 turn-spec =
     tie.close
     (tie.spec
-    apply-one-requires
-    line-after-requires
-    same-length
+    (λ c κs. search needs)
+    (λ c κs. search needs)
+    (λ c. search needs)
     returns
-    is-barrier-requires
-    same-length-2
+    (λ c κs. search needs)
+    (λ c. search needs)
     returns-2
-    add-stored
-    second-line-requires
-    same-length-3
+    (λ c. search needs)
+    (λ c κs. search needs)
+    (λ c. search needs)
     returns-3
-    image-ok-requires
-    same-length-4
+    (λ c κs. search needs)
+    (λ c. search needs)
     returns-4)

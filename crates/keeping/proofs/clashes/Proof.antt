@@ -38,9 +38,6 @@ returns c =
     (sym (c .before .before .before .before .has .ensures) ∙ c .before .before .before .if1 .taken) (pairOf (c .before .before .slot-of .result))
     (c .before .before .slot-of .ensures) (c .if2 .taken) ∙ l .inv .4
 
-recording-requires : tie.Need-recording-requires Inv-loop μ-loop
-recording-requires c κs = search needs
-
 returns-2 : tie.Need-returns-2 Inv-loop μ-loop
 returns-2 c =
     let l = c .before .before .before .before .before .before .before .before .loop in
@@ -91,7 +88,7 @@ clashes-spec =
     has-requires
     slot-of-requires
     returns
-    recording-requires
+    (λ c κs. search needs)
     returns-2
     loop-less
     loop-again

@@ -17,17 +17,11 @@ abbrev μ-loop : tie.MeasureT-loop
 loop-holds : tie.Need-loop-holds Inv-loop μ-loop
 loop-holds c = let h = c .before .before .pre in (h, using-start _ _)
 
-mul-used-slots : tie.Need-mul-used-slots Inv-loop μ-loop
-mul-used-slots c = search needs
-
 shared-slice-read-used-slots : tie.Need-shared-slice-read-used-slots Inv-loop μ-loop
 shared-slice-read-used-slots c = let l = c .before .before .loop .inv in let t = c .before .loop-test .taken in omega (arith, l .0, t)
 
 cast-used-slots : tie.Need-cast-used-slots Inv-loop μ-loop
 cast-used-slots c = omega (arith, c .shared-slice-known3 .given (c .before .before .loop .j))
-
-used-slots-requires : tie.Need-used-slots-requires Inv-loop μ-loop
-used-slots-requires c κs = search needs
 
 add-used : tie.Need-add-used Inv-loop μ-loop
 add-used c = let l = c .before .before .before .loop .inv in omega (arith, l .1 .most, l .1 .few, l .0, c .used-slots .ensures .1)
@@ -51,10 +45,10 @@ count-used-spec =
     Inv-loop
     μ-loop
     loop-holds
-    mul-used-slots
+    (λ c. search needs)
     shared-slice-read-used-slots
     cast-used-slots
-    used-slots-requires
+    (λ c κs. search needs)
     add-used
     add-j
     loop-less

@@ -26,9 +26,6 @@ shared-slice-read-n c = let p = c .before .before .before .before .pre in omega 
 cast-n : tie.Need-cast-n Inv-loop μ-loop
 cast-n c = omega (arith, c .shared-slice-known3 .given (c .before .before .before .before .args .j))
 
-read-requires : tie.Need-read-requires Inv-loop μ-loop
-read-requires c κs = search needs
-
 returns : tie.Need-returns Inv-loop μ-loop
 returns c = let a = c .before .before .before .before .before .before .before .args in let r = c .before .before .read in looking-none (a .table .now) (a .order .now) (a .j) (r .result) (r .ensures) (a .marks .now) (c .if1 .taken)
 
@@ -38,32 +35,11 @@ loop-holds c =
     let r = c .before .before .before .read in
     (r .ensures, refl, looking-start (a .table .now) (a .order .now) (a .j) (r .result) (r .ensures) (a .marks .now) (c .before .if1 .left))
 
-mul-pointer : tie.Need-mul-pointer Inv-loop μ-loop
-mul-pointer c = search needs
-
-add-pointer : tie.Need-add-pointer Inv-loop μ-loop
-add-pointer c = search needs
-
-mul-pointer-2 : tie.Need-mul-pointer-2 Inv-loop μ-loop
-mul-pointer-2 c = search needs
-
-array-read-pointer : tie.Need-array-read-pointer Inv-loop μ-loop
-array-read-pointer c = search needs
-
 same-length : tie.Need-same-length Inv-loop μ-loop
 same-length c = c .before .before .loop .inv .2 .long
 
 returns-2 : tie.Need-returns-2 Inv-loop μ-loop
 returns-2 c = let l = c .before .before .loop .inv in looking-stop _ _ _ _ (l .0) _ _ _ _ _ (l .2) (c .before .loop-test .taken) (c .if2 .taken)
-
-mul-mark-slot : tie.Need-mul-mark-slot Inv-loop μ-loop
-mul-mark-slot c = search needs
-
-mul-mark-slot-2 : tie.Need-mul-mark-slot-2 Inv-loop μ-loop
-mul-mark-slot-2 c = search needs
-
-array-read-mark-slot : tie.Need-array-read-mark-slot Inv-loop μ-loop
-array-read-mark-slot c = search needs
 
 mark-slot-requires : tie.Need-mark-slot-requires Inv-loop μ-loop
 mark-slot-requires c κs =
@@ -73,12 +49,6 @@ mark-slot-requires c κs =
 
 add-kept : tie.Need-add-kept Inv-loop μ-loop
 add-kept c = let l = c .before .before .before .before .before .before .loop .inv in let m = c .before .before .mark-slot .ensures in omega (arith, l .2 .most, l .2 .few, m .few)
-
-add-i : tie.Need-add-i Inv-loop μ-loop
-add-i c = search needs
-
-loop-less : tie.Need-loop-less Inv-loop μ-loop
-loop-less c = search needs
 
 loop-again : tie.Need-loop-again Inv-loop μ-loop
 loop-again c =
@@ -100,22 +70,22 @@ mark-node-spec =
     mul-n
     shared-slice-read-n
     cast-n
-    read-requires
+    (λ c κs. search needs)
     returns
     loop-holds
-    mul-pointer
-    add-pointer
-    mul-pointer-2
-    array-read-pointer
+    (λ c. search needs)
+    (λ c. search needs)
+    (λ c. search needs)
+    (λ c. search needs)
     same-length
     returns-2
-    mul-mark-slot
-    mul-mark-slot-2
-    array-read-mark-slot
+    (λ c. search needs)
+    (λ c. search needs)
+    (λ c. search needs)
     mark-slot-requires
     add-kept
-    add-i
-    loop-less
+    (λ c. search needs)
+    (λ c. search needs)
     loop-again
     same-length-2
     returns-3)

@@ -14,26 +14,14 @@ use Rattle.keeping.proofs.mark_slot.Tie as tie
 returns : tie.Need-returns
 returns c = let a = c .before .before .before .before .args in marked-hidden (a .table .now) (a .order .now) (a .marks .now) (12 * a .j + a .i) (a .key) (a .pointer) (a .sibling) (a .before) (a .i) (c .if1 .taken)
 
-under-fence-requires : tie.Need-under-fence-requires
-under-fence-requires c κs = search needs
-
 returns-2 : tie.Need-returns-2
 returns-2 c =
     let a = c .before .before .before .before .before .before .args in
     let u = c .before .under-fence in
     marked-past (a .table .now) (a .order .now) (a .marks .now) (12 * a .j + a .i) (a .key) (a .pointer) (a .sibling) (a .before) (a .i) (c .before .before .if1 .left) (sym (u .ensures) ∙ not-iff (u .result) .0 (c .if2 .taken))
 
-mul-keeps : tie.Need-mul-keeps
-mul-keeps c = search needs
-
-add-keeps : tie.Need-add-keeps
-add-keeps c = search needs
-
 keeps-requires : tie.Need-keeps-requires
 keeps-requires c κs = let p = c .before .before .before .before .before .before .before .pre in (omega (arith, p .1, p .2), p .3, p .4)
-
-same-length : tie.Need-same-length
-same-length c = search needs
 
 returns-3 : tie.Need-returns-3
 returns-3 c =
@@ -43,17 +31,8 @@ returns-3 c =
     marked-left (a .table .now) (a .order .now) (a .marks .now) (12 * a .j + a .i) (a .key) (a .pointer) (a .sibling) (a .before) (a .i) (c .before .before .before .before .before .if1 .left)
     (sym (u .ensures) ∙ not-false-iff (u .result) .0 (c .before .before .before .if2 .left)) (sym (k .ensures) ∙ not-iff (k .result) .0 (c .if3 .taken))
 
-mul-put : tie.Need-mul-put
-mul-put c = search needs
-
-add-put : tie.Need-add-put
-add-put c = search needs
-
 put-requires : tie.Need-put-requires
 put-requires c κs = let p = c .before .before .before .before .before .before .before .before .before .before .pre in omega (arith, p .1, p .2, p .4)
-
-same-length-2 : tie.Need-same-length-2
-same-length-2 c = search needs
 
 returns-4 : tie.Need-returns-4
 returns-4 c =
@@ -72,15 +51,15 @@ mark-slot-spec =
     tie.close
     (tie.spec
     returns
-    under-fence-requires
+    (λ c κs. search needs)
     returns-2
-    mul-keeps
-    add-keeps
+    (λ c. search needs)
+    (λ c. search needs)
     keeps-requires
-    same-length
+    (λ c. search needs)
     returns-3
-    mul-put
-    add-put
+    (λ c. search needs)
+    (λ c. search needs)
     put-requires
-    same-length-2
+    (λ c. search needs)
     returns-4)

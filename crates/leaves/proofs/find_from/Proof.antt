@@ -30,46 +30,13 @@ returns c = hit-no-leaf (c .before .leaves .inv) (c .if1 .taken)
 returns-2 : tie.Need-returns-2 Inv-loop μ-loop Inv-leaves μ-leaves
 returns-2 c = hit-no-more (c .before .before .leaves .inv) (c .if2 .taken)
 
-ways-of-requires : tie.Need-ways-of-requires Inv-loop μ-loop Inv-leaves μ-leaves
-ways-of-requires c κs = search needs
-
 loop-holds : tie.Need-loop-holds Inv-loop μ-loop Inv-leaves μ-leaves
 loop-holds c =
     let more = c .before .before in
     hit-enter (more .before .before .leaves .inv) _ (more .before .if1 .left) (more .if2 .left) (c .before .ways-of .ensures .0) (c .before .ways-of .ensures .1)
 
-add-loop : tie.Need-add-loop Inv-loop μ-loop Inv-leaves μ-leaves
-add-loop c = search needs
-
-add-recording : tie.Need-add-recording Inv-loop μ-loop Inv-leaves μ-leaves
-add-recording c = search needs
-
-mul-recording : tie.Need-mul-recording Inv-loop μ-loop Inv-leaves μ-leaves
-mul-recording c = search needs
-
-array-read-recording : tie.Need-array-read-recording Inv-loop μ-loop Inv-leaves μ-leaves
-array-read-recording c = search needs
-
-recording-requires : tie.Need-recording-requires Inv-loop μ-loop Inv-leaves μ-leaves
-recording-requires c κs = search needs
-
-add-slot : tie.Need-add-slot Inv-loop μ-loop Inv-leaves μ-leaves
-add-slot c = search needs
-
-loop-less : tie.Need-loop-less Inv-loop μ-loop Inv-leaves μ-leaves
-loop-less c = search needs
-
 loop-again : tie.Need-loop-again Inv-loop μ-loop Inv-leaves μ-leaves
 loop-again c = hit-next (c .before .before .before .loop .inv) (c .before .before .loop-test .taken) (λ e. c .if3 .left (c .before .recording .ensures ∙ e))
-
-word-requires : tie.Need-word-requires Inv-loop μ-loop Inv-leaves μ-leaves
-word-requires c κs = search needs
-
-sub-left : tie.Need-sub-left Inv-loop μ-loop Inv-leaves μ-leaves
-sub-left c = search needs
-
-leaves-less : tie.Need-leaves-less Inv-loop μ-loop Inv-leaves μ-leaves
-leaves-less c = search needs
 
 leaves-again : tie.Need-leaves-again Inv-loop μ-loop Inv-leaves μ-leaves
 leaves-again c = hit-leave (c .before .before .loop .inv) _ (c .before .loop-test .left) (c .word .ensures)
@@ -88,18 +55,18 @@ find-from-spec =
     leaves-holds
     returns
     returns-2
-    ways-of-requires
+    (λ c κs. search needs)
     loop-holds
-    add-loop
-    add-recording
-    mul-recording
-    array-read-recording
-    recording-requires
-    add-slot
-    loop-less
+    (λ c. search needs)
+    (λ c. search needs)
+    (λ c. search needs)
+    (λ c. search needs)
+    (λ c κs. search needs)
+    (λ c. search needs)
+    (λ c. search needs)
     loop-again
-    word-requires
-    sub-left
-    leaves-less
+    (λ c κs. search needs)
+    (λ c. search needs)
+    (λ c. search needs)
     leaves-again
     returns-3)

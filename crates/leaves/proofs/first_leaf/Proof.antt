@@ -14,23 +14,11 @@ Inv-loop table root top n₀ level₀ n level = leftmost (viewFrom table root) l
 abbrev μ-loop : tie.MeasureT-loop
 μ-loop table root top n₀ level₀ n level = level
 
-word-requires : tie.Need-word-requires Inv-loop μ-loop
-word-requires c κs = search needs
-
 returns : tie.Need-returns Inv-loop μ-loop
 returns c = leaf-none _ _ _ (c .before .word .ensures) (c .if1 .taken)
 
 loop-holds : tie.Need-loop-holds Inv-loop μ-loop
 loop-holds c = leaf-below _ _ _ (c .before .word .ensures) (c .if1 .left)
-
-word-requires-2 : tie.Need-word-requires-2 Inv-loop μ-loop
-word-requires-2 c κs = search needs
-
-sub-level : tie.Need-sub-level Inv-loop μ-loop
-sub-level c = search needs
-
-loop-less : tie.Need-loop-less Inv-loop μ-loop
-loop-less c = search needs
 
 loop-again : tie.Need-loop-again Inv-loop μ-loop
 loop-again c = let l = c .before .before .loop in leaf-down _ _ _ (l .level) _ (c .before .loop-test .taken) (c .word2 .ensures) ∙ l .inv
@@ -44,11 +32,11 @@ first-leaf-spec =
     (tie.spec
     Inv-loop
     μ-loop
-    word-requires
+    (λ c κs. search needs)
     returns
     loop-holds
-    word-requires-2
-    sub-level
-    loop-less
+    (λ c κs. search needs)
+    (λ c. search needs)
+    (λ c. search needs)
     loop-again
     returns-2)

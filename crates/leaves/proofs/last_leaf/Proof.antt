@@ -14,20 +14,8 @@ Inv-loop table root n₀ level₀ n level = rightmost (viewFrom table root) leve
 abbrev μ-loop : tie.MeasureT-loop
 μ-loop table root n₀ level₀ n level = level
 
-word-requires : tie.Need-word-requires Inv-loop μ-loop
-word-requires c κs = search needs
-
 loop-holds : tie.Need-loop-holds Inv-loop μ-loop
 loop-holds c = last-below _ _ _ (c .word .ensures)
-
-last-child-requires : tie.Need-last-child-requires Inv-loop μ-loop
-last-child-requires c κs = search needs
-
-sub-level : tie.Need-sub-level Inv-loop μ-loop
-sub-level c = search needs
-
-loop-less : tie.Need-loop-less Inv-loop μ-loop
-loop-less c = search needs
 
 loop-again : tie.Need-loop-again Inv-loop μ-loop
 loop-again c =
@@ -44,10 +32,10 @@ last-leaf-spec =
     (tie.spec
     Inv-loop
     μ-loop
-    word-requires
+    (λ c κs. search needs)
     loop-holds
-    last-child-requires
-    sub-level
-    loop-less
+    (λ c κs. search needs)
+    (λ c. search needs)
+    (λ c. search needs)
     loop-again
     returns)

@@ -20,14 +20,8 @@ named : (e : tie.Else2) → (headerOk (e .before .before .before .before .before
     × (noCollection (e .before .before .before .before .before .before .args .collection) (e .before .before .before .before .before .before .args .table .now) ≡ false)
 named e = let f = e .before .before in number-zero _ _ _ (f .before .refusal .ensures) (f .if1 .left)
 
-refusal-requires : tie.Need-refusal-requires
-refusal-requires c κs = search needs
-
 returns : tie.Need-returns
 returns c = no-collection _ _ _ _ _ _ (c .before .refusal .ensures) (c .if1 .taken)
-
-is-sound-requires : tie.Need-is-sound-requires
-is-sound-requires c κs = search needs
 
 returns-2 : tie.Need-returns-2
 returns-2 c = let b = c .before in not-sound _ _ _ _ _ _ (b .before .before .refusal .ensures) (b .before .if1 .left) _ (b .is-sound .ensures) (not-true _ (c .if2 .taken))
@@ -37,9 +31,6 @@ root-of-requires c κs = named c
 
 list-leaves-requires : tie.Need-list-leaves-requires
 list-leaves-requires c κs = let r = c .before in rw (r .root-of .ensures) (collection-sound _ _ (judged (r .before)) (named (r .before) .1))
-
-same-length : tie.Need-same-length
-same-length c = search needs
 
 returns-3 : tie.Need-returns-3
 returns-3 c =
@@ -53,11 +44,11 @@ pub list-spec : {M : Type 1} → statement M
 list-spec =
     tie.close
     (tie.spec
-    refusal-requires
+    (λ c κs. search needs)
     returns
-    is-sound-requires
+    (λ c κs. search needs)
     returns-2
     root-of-requires
     list-leaves-requires
-    same-length
+    (λ c. search needs)
     returns-3)

@@ -32,46 +32,10 @@ turn c = c .before .before
 abbrev comes : tie.At-loop Inv-loop μ-loop → List Slot → Sheet
 comes c ss = let l = c .loop in allTaken (wanted (entry c .args .w) (shown (l .before) ss)) (sheet (l .out) (l .p))
 
-loop-holds : tie.Need-loop-holds Inv-loop μ-loop
-loop-holds c = search needs
-
-mul-pointer : tie.Need-mul-pointer Inv-loop μ-loop
-mul-pointer c = search needs
-
-add-pointer : tie.Need-add-pointer Inv-loop μ-loop
-add-pointer c = search needs
-
-mul-pointer-2 : tie.Need-mul-pointer-2 Inv-loop μ-loop
-mul-pointer-2 c = search needs
-
-array-read-pointer : tie.Need-array-read-pointer Inv-loop μ-loop
-array-read-pointer c = search needs
-
-same-length : tie.Need-same-length Inv-loop μ-loop
-same-length c = search needs
-
 returns : tie.Need-returns Inv-loop μ-loop
 returns c =
     let l = c .before .before in
     sym (slots-none _ (l .loop .before) _) ∙ scan-stop (comes l) _ (l .loop .i) (l .loop .inv .3) (omega arith) (c .if1 .taken)
-
-mul-take-slot : tie.Need-mul-take-slot Inv-loop μ-loop
-mul-take-slot c = search needs
-
-mul-take-slot-2 : tie.Need-mul-take-slot-2 Inv-loop μ-loop
-mul-take-slot-2 c = search needs
-
-array-read-take-slot : tie.Need-array-read-take-slot Inv-loop μ-loop
-array-read-take-slot c = search needs
-
-take-slot-requires : tie.Need-take-slot-requires Inv-loop μ-loop
-take-slot-requires c κs = search needs
-
-add-i : tie.Need-add-i Inv-loop μ-loop
-add-i c = search needs
-
-loop-less : tie.Need-loop-less Inv-loop μ-loop
-loop-less c = search needs
 
 loop-again : tie.Need-loop-again Inv-loop μ-loop
 loop-again c =
@@ -84,9 +48,6 @@ loop-again c =
       scan-more (comes l) _ (l .loop .i) (l .loop .inv .3) (omega arith) (e .if1 .left) (slots-more _ _ _ _ _ _ _ (b .take-slot .ensures)),
     )
 
-same-length-2 : tie.Need-same-length-2 Inv-loop μ-loop
-same-length-2 c = search needs
-
 returns-2 : tie.Need-returns-2 Inv-loop μ-loop
 returns-2 c =
     let l = c .before in
@@ -98,19 +59,19 @@ list-leaf-spec =
     (tie.spec
     Inv-loop
     μ-loop
-    loop-holds
-    mul-pointer
-    add-pointer
-    mul-pointer-2
-    array-read-pointer
-    same-length
+    (λ c. search needs)
+    (λ c. search needs)
+    (λ c. search needs)
+    (λ c. search needs)
+    (λ c. search needs)
+    (λ c. search needs)
     returns
-    mul-take-slot
-    mul-take-slot-2
-    array-read-take-slot
-    take-slot-requires
-    add-i
-    loop-less
+    (λ c. search needs)
+    (λ c. search needs)
+    (λ c. search needs)
+    (λ c κs. search needs)
+    (λ c. search needs)
+    (λ c. search needs)
     loop-again
-    same-length-2
+    (λ c. search needs)
     returns-2)

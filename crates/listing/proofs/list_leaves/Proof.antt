@@ -33,23 +33,11 @@ leaf c = c .before .before .before
 abbrev window : tie.After-list-leaf Inv-loop μ-loop → tie.After-word Inv-loop μ-loop
 window c = c .before .before
 
-standing-requires : tie.Need-standing-requires Inv-loop μ-loop
-standing-requires c κs = search needs
-
 loop-holds : tie.Need-loop-holds Inv-loop μ-loop
 loop-holds c = (refl, λ e. absurd (false≢true e), ahead-first _ _ _ _ _ _ (begun (c .before .before .before .args .out .now)) (c .before .before .before .pre) (c .standing .ensures))
 
-same-length : tie.Need-same-length Inv-loop μ-loop
-same-length c = search needs
-
 returns : tie.Need-returns Inv-loop μ-loop
 returns c = let l = c .before .before .loop in sym (spent-stop _ _ (l .inv .1) (c .if1 .taken)) ∙ l .inv .2 .rest
-
-read-requires : tie.Need-read-requires Inv-loop μ-loop
-read-requires c κs = search needs
-
-same-length-2 : tie.Need-same-length-2 Inv-loop μ-loop
-same-length-2 c = search needs
 
 returns-2 : tie.Need-returns-2 Inv-loop μ-loop
 returns-2 c =
@@ -57,12 +45,6 @@ returns-2 c =
     let i = turn r in
     let l = i .before in
     ahead-past _ _ _ _ _ _ _ (entry l .pre) _ (r .read .ensures) (i .loop-test .taken) (l .loop .inv .2) (c .if2 .taken)
-
-word-requires : tie.Need-word-requires Inv-loop μ-loop
-word-requires c κs = search needs
-
-list-leaf-requires : tie.Need-list-leaf-requires Inv-loop μ-loop
-list-leaf-requires c κs = search needs
 
 loop-less : tie.Need-loop-less Inv-loop μ-loop
 loop-less c =
@@ -83,9 +65,6 @@ loop-again c =
       ahead-next _ _ _ _ _ _ _ (entry l .pre) _ (r .read .ensures) (i .loop-test .taken) (l .loop .inv .2) _ _ (w .word .ensures) (b .list-leaf .ensures),
     )
 
-same-length-3 : tie.Need-same-length-3 Inv-loop μ-loop
-same-length-3 c = search needs
-
 returns-3 : tie.Need-returns-3 Inv-loop μ-loop
 returns-3 c = let l = c .before .loop in ahead-end _ _ _ _ _ _ (l .inv .2) (c .loop-test .left)
 
@@ -95,16 +74,16 @@ list-leaves-spec =
     (tie.spec
     Inv-loop
     μ-loop
-    standing-requires
+    (λ c κs. search needs)
     loop-holds
-    same-length
+    (λ c. search needs)
     returns
-    read-requires
-    same-length-2
+    (λ c κs. search needs)
+    (λ c. search needs)
     returns-2
-    word-requires
-    list-leaf-requires
+    (λ c κs. search needs)
+    (λ c κs. search needs)
     loop-less
     loop-again
-    same-length-3
+    (λ c. search needs)
     returns-3)

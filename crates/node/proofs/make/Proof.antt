@@ -35,20 +35,8 @@ wide c = omega (arith, c .before .before .zero .kept .0, fine c .size)
 wider : (c : tie.Else2) → 72 ≤ length (c .before .before .before .zero .last .0)
 wider c = omega (arith, c .before .before .before .zero .kept .0, fine (c .before) .size, fine (c .before) .two (c .if2 .left) .1)
 
-make-number-requires : tie.Need-make-number-requires
-make-number-requires c κs = search needs
-
-same-length : tie.Need-same-length
-same-length c = search needs
-
 returns : tie.Need-returns
 returns c = making-refused _ _ _ (c .before .make-number .ensures) (c .if1 .taken)
-
-nodes-in-requires : tie.Need-nodes-in-requires
-nodes-in-requires c κs = search needs
-
-zero-requires : tie.Need-zero-requires
-zero-requires c κs = search needs
 
 slice-write-table : tie.Need-slice-write-table
 slice-write-table c = omega (arith, wide c)
@@ -62,9 +50,6 @@ slice-write-table-3 c = simp length-set (omega (arith, wide c))
 slice-write-table-4 : tie.Need-slice-write-table-4
 slice-write-table-4 c = simp length-set (omega (arith, wide c))
 
-same-length-2 : tie.Need-same-length-2
-same-length-2 c = search needs
-
 returns-2 : tie.Need-returns-2
 returns-2 c = making-one _ _ _ (number (c .before)) _ (sized (c .before)) (c .before .before .before .zero .ensures) (c .if2 .taken)
 
@@ -74,9 +59,6 @@ slice-write-table-5 c = simp length-set (omega (arith, wider c))
 slice-write-table-6 : tie.Need-slice-write-table-6
 slice-write-table-6 c = simp length-set (omega (arith, wider c))
 
-same-length-3 : tie.Need-same-length-3
-same-length-3 c = search needs
-
 returns-3 : tie.Need-returns-3
 returns-3 c = making-two _ _ _ (number (c .before)) _ (sized (c .before)) (c .before .before .before .zero .ensures) (fine (c .before) .two (c .if2 .left) .0)
 
@@ -84,18 +66,18 @@ pub make-spec : {M : Type 1} → statement M
 make-spec =
     tie.close
     (tie.spec
-    make-number-requires
-    same-length
+    (λ c κs. search needs)
+    (λ c. search needs)
     returns
-    nodes-in-requires
-    zero-requires
+    (λ c κs. search needs)
+    (λ c κs. search needs)
     slice-write-table
     slice-write-table-2
     slice-write-table-3
     slice-write-table-4
-    same-length-2
+    (λ c. search needs)
     returns-2
     slice-write-table-5
     slice-write-table-6
-    same-length-3
+    (λ c. search needs)
     returns-3)

@@ -9,9 +9,6 @@ use Rattle.node.proofs.read.Tie as tie
 found : (c : tie.Else1) → Found (c .before .before .before .args .table .now) (c .before .before .before .args .i) (c .before .start .result)
 found c = start-found _ _ _ (c .before .start .ensures) (c .if1 .left)
 
-start-requires : tie.Need-start-requires
-start-requires c κs = search needs
-
 returns : tie.Need-returns
 returns c = sym (node-none _ _ (start-missing _ _ _ (c .before .start .ensures) (c .if1 .taken)))
 
@@ -61,7 +58,7 @@ pub read-spec : {M : Type 1} → statement M
 read-spec =
     tie.close
     (tie.spec
-    start-requires
+    (λ c κs. search needs)
     returns
     add-slots-from
     slots-from-requires

@@ -22,9 +22,6 @@ abbrev μ-loop : tie.MeasureT-loop
 sized : (c : tie.Else1 Inv-loop μ-loop) → LengthFacts (length (c .before .before .before .args .table .now)) (c .before .nodes-in .result)
 sized c = nodes-in-found _ _ (c .before .nodes-in .ensures) (c .if1 .left)
 
-nodes-in-requires : tie.Need-nodes-in-requires Inv-loop μ-loop
-nodes-in-requires c κs = search needs
-
 returns : tie.Need-returns Inv-loop μ-loop
 returns c = let t = c .before .before .before .args .table .now in sym (root-refused _ t (λ f. omega (arith, header-nodes t _ (c .before .nodes-in .ensures) f)))
 
@@ -43,38 +40,17 @@ returns-3 c = let t = c .before .before .before .before .before .before .before 
 loop-holds : tie.Need-loop-holds Inv-loop μ-loop
 loop-holds c = (sized (c .before .before .before .before), omega arith, omega arith, λ k l u. omega arith)
 
-mul-if4 : tie.Need-mul-if4 Inv-loop μ-loop
-mul-if4 c = search needs
-
-shared-slice-read-if4 : tie.Need-shared-slice-read-if4 Inv-loop μ-loop
-shared-slice-read-if4 c = search needs
-
 returns-4 : tie.Need-returns-4 Inv-loop μ-loop
 returns-4 c = let w = c .before .before .before .loop .w in sym (root-refused _ _ (λ f. omega (arith, f .zeros w (omega arith) (omega arith))))
 
-add-w : tie.Need-add-w Inv-loop μ-loop
-add-w c = search needs
-
-loop-less : tie.Need-loop-less Inv-loop μ-loop
-loop-less c = search needs
-
 loop-again : tie.Need-loop-again Inv-loop μ-loop
 loop-again c = let inv = c .before .before .before .loop .inv in (inv .0, omega arith, omega arith, below-more _ _ (inv .3) (λ l. c .if4 .left))
-
-shared-slice-read-first : tie.Need-shared-slice-read-first Inv-loop μ-loop
-shared-slice-read-first c = search needs
 
 returns-5 : tie.Need-returns-5 Inv-loop μ-loop
 returns-5 c = sym (root-refused _ _ (λ f. omega arith))
 
 returns-6 : tie.Need-returns-6 Inv-loop μ-loop
 returns-6 c = sym (root-refused _ _ (λ f. omega arith))
-
-shared-slice-read-second : tie.Need-shared-slice-read-second Inv-loop μ-loop
-shared-slice-read-second c = search needs
-
-second-fits-requires : tie.Need-second-fits-requires Inv-loop μ-loop
-second-fits-requires c κs = search needs
 
 -- the places: the loop that has ended, and the start
 abbrev ended : tie.Else7 Inv-loop μ-loop → tie.At-loop Inv-loop μ-loop
@@ -113,24 +89,24 @@ root-spec =
     (tie.spec
     Inv-loop
     μ-loop
-    nodes-in-requires
+    (λ c κs. search needs)
     returns
     shared-slice-read-if2
     returns-2
     shared-slice-read-if3
     returns-3
     loop-holds
-    mul-if4
-    shared-slice-read-if4
+    (λ c. search needs)
+    (λ c. search needs)
     returns-4
-    add-w
-    loop-less
+    (λ c. search needs)
+    (λ c. search needs)
     loop-again
-    shared-slice-read-first
+    (λ c. search needs)
     returns-5
     returns-6
-    shared-slice-read-second
-    second-fits-requires
+    (λ c. search needs)
+    (λ c κs. search needs)
     returns-7
     returns-8
     returns-9

@@ -14,51 +14,6 @@ Inv-loop table first slots₀ i₀ slots i = (i ≤ 12) × (length slots ≡ 24)
 abbrev μ-loop : tie.MeasureT-loop
 μ-loop table first slots₀ i₀ slots i = 12 - i
 
-loop-holds : tie.Need-loop-holds Inv-loop μ-loop
-loop-holds c = search needs
-
-mul-key : tie.Need-mul-key Inv-loop μ-loop
-mul-key c = search needs
-
-add-pointer : tie.Need-add-pointer Inv-loop μ-loop
-add-pointer c = search needs
-
-add-slots : tie.Need-add-slots Inv-loop μ-loop
-add-slots c = search needs
-
-mul-slots : tie.Need-mul-slots Inv-loop μ-loop
-mul-slots c = search needs
-
-shared-slice-read-slots : tie.Need-shared-slice-read-slots Inv-loop μ-loop
-shared-slice-read-slots c = search needs
-
-mul-slots-2 : tie.Need-mul-slots-2 Inv-loop μ-loop
-mul-slots-2 c = search needs
-
-array-write-slots : tie.Need-array-write-slots Inv-loop μ-loop
-array-write-slots c = search needs
-
-add-slots-2 : tie.Need-add-slots-2 Inv-loop μ-loop
-add-slots-2 c = search needs
-
-mul-slots-3 : tie.Need-mul-slots-3 Inv-loop μ-loop
-mul-slots-3 c = search needs
-
-shared-slice-read-slots-2 : tie.Need-shared-slice-read-slots-2 Inv-loop μ-loop
-shared-slice-read-slots-2 c = search needs
-
-mul-slots-4 : tie.Need-mul-slots-4 Inv-loop μ-loop
-mul-slots-4 c = search needs
-
-array-write-slots-2 : tie.Need-array-write-slots-2 Inv-loop μ-loop
-array-write-slots-2 c = search needs
-
-add-i : tie.Need-add-i Inv-loop μ-loop
-add-i c = search needs
-
-loop-less : tie.Need-loop-less Inv-loop μ-loop
-loop-less c = search needs
-
 loop-again : tie.Need-loop-again Inv-loop μ-loop
 loop-again c = let l = c .before .before .before .loop in let a = c .before .before .before .before .args in (omega arith, search needs, copy-slot (l .slots) (a .table .now) (a .first) (l .i) (omega arith) (omega arith) (l .inv .2))
 
@@ -71,20 +26,20 @@ slots-from-spec =
     (tie.spec
     Inv-loop
     μ-loop
-    loop-holds
-    mul-key
-    add-pointer
-    add-slots
-    mul-slots
-    shared-slice-read-slots
-    mul-slots-2
-    array-write-slots
-    add-slots-2
-    mul-slots-3
-    shared-slice-read-slots-2
-    mul-slots-4
-    array-write-slots-2
-    add-i
-    loop-less
+    (λ c. search needs)
+    (λ c. search needs)
+    (λ c. search needs)
+    (λ c. search needs)
+    (λ c. search needs)
+    (λ c. search needs)
+    (λ c. search needs)
+    (λ c. search needs)
+    (λ c. search needs)
+    (λ c. search needs)
+    (λ c. search needs)
+    (λ c. search needs)
+    (λ c. search needs)
+    (λ c. search needs)
+    (λ c. search needs)
     loop-again
     returns)

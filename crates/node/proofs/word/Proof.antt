@@ -12,9 +12,6 @@ found c = start-found _ _ _ (c .before .start .ensures) (c .if2 .left)
 returns : tie.Need-returns
 returns c = sym (word-past _ _ _ (omega arith))
 
-start-requires : tie.Need-start-requires
-start-requires c κs = search needs
-
 returns-2 : tie.Need-returns-2
 returns-2 c = sym (word-none _ _ _ (start-missing _ _ _ (c .before .start .ensures) (c .if2 .taken)))
 
@@ -35,7 +32,7 @@ word-spec =
     tie.close
     (tie.spec
     returns
-    start-requires
+    (λ c κs. search needs)
     returns-2
     add-result
     mul-result

@@ -17,21 +17,6 @@ Inv-loop table₀ w₀ table w = (w ≤ length table₀) × (length table ≡ le
 abbrev μ-loop : tie.MeasureT-loop
 μ-loop table₀ w₀ table w = length table₀ - w
 
-loop-holds : tie.Need-loop-holds Inv-loop μ-loop
-loop-holds c = search needs
-
-mul-table : tie.Need-mul-table Inv-loop μ-loop
-mul-table c = search needs
-
-slice-write-table : tie.Need-slice-write-table Inv-loop μ-loop
-slice-write-table c = search needs
-
-add-w : tie.Need-add-w Inv-loop μ-loop
-add-w c = search needs
-
-loop-less : tie.Need-loop-less Inv-loop μ-loop
-loop-less c = search needs
-
 loop-again : tie.Need-loop-again Inv-loop μ-loop
 loop-again c = let l = c .before .loop in (omega arith, simp length-set (l .inv .1), ap (λ (t : Words). set t (l .w) 0) (l .inv .2) ∙ fill-more (l .w) 0 _ (omega arith))
 
@@ -47,11 +32,11 @@ zero-spec =
     (tie.spec
     Inv-loop
     μ-loop
-    loop-holds
-    mul-table
-    slice-write-table
-    add-w
-    loop-less
+    (λ c. search needs)
+    (λ c. search needs)
+    (λ c. search needs)
+    (λ c. search needs)
+    (λ c. search needs)
     loop-again
     same-length
     returns)

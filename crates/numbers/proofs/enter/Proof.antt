@@ -20,32 +20,11 @@ abbrev μ-loop : tie.MeasureT-loop
 returns : tie.Need-returns Inv-loop μ-loop
 returns c = no-number _ _ _ (c .if1 .taken)
 
-mixed-requires : tie.Need-mixed-requires Inv-loop μ-loop
-mixed-requires c κs = search needs
-
-rem-at : tie.Need-rem-at Inv-loop μ-loop
-rem-at c = search needs
-
 loop-holds : tie.Need-loop-holds Inv-loop μ-loop
 loop-holds c = (refl, refl, mod-lt _ (c .before .before .before .pre), some-number _ _ _ _ (c .mixed .ensures) (c .before .if1 .left))
 
-mul-held : tie.Need-mul-held Inv-loop μ-loop
-mul-held c = search needs
-
-slice-read-held : tie.Need-slice-read-held Inv-loop μ-loop
-slice-read-held c = search needs
-
-same-length : tie.Need-same-length Inv-loop μ-loop
-same-length c = search needs
-
 returns-2 : tie.Need-returns-2 Inv-loop μ-loop
 returns-2 c = tried-known _ _ _ _ _ (c .before .before .loop-test .taken) (c .if2 .taken) ∙ c .before .before .before .loop .inv .3
-
-mul-cells : tie.Need-mul-cells Inv-loop μ-loop
-mul-cells c = search needs
-
-slice-write-cells : tie.Need-slice-write-cells Inv-loop μ-loop
-slice-write-cells c = search needs
 
 same-length-2 : tie.Need-same-length-2 Inv-loop μ-loop
 same-length-2 c = simp length-set (c .before .before .before .before .loop .inv .0)
@@ -53,24 +32,12 @@ same-length-2 c = simp length-set (c .before .before .before .before .loop .inv 
 returns-3 : tie.Need-returns-3 Inv-loop μ-loop
 returns-3 c = tried-free _ _ _ _ _ (c .before .before .before .loop-test .taken) (c .before .if2 .left) (c .if3 .taken) ∙ c .before .before .before .before .loop .inv .3
 
-next-cell-requires : tie.Need-next-cell-requires Inv-loop μ-loop
-next-cell-requires c κs = search needs
-
-sub-left : tie.Need-sub-left Inv-loop μ-loop
-sub-left c = search needs
-
-loop-less : tie.Need-loop-less Inv-loop μ-loop
-loop-less c = search needs
-
 loop-again : tie.Need-loop-again Inv-loop μ-loop
 loop-again c =
     let l = c .before .before .before .before .before .loop in
     let e = c .next-cell .ensures in
     let b = next-below _ _ (l .inv .2) in
     (l .inv .0, refl, omega (arith, e, b), tried-more _ _ _ _ _ (c .before .before .before .before .loop-test .taken) (c .before .before .if2 .left) (c .before .if3 .left) _ e ∙ l .inv .3)
-
-same-length-3 : tie.Need-same-length-3 Inv-loop μ-loop
-same-length-3 c = search needs
 
 returns-4 : tie.Need-returns-4 Inv-loop μ-loop
 returns-4 c = tried-end _ _ _ _ _ (let t = c .loop-test .left in omega (arith, t)) ∙ c .before .loop .inv .3
@@ -82,20 +49,20 @@ enter-spec =
     Inv-loop
     μ-loop
     returns
-    mixed-requires
-    rem-at
+    (λ c κs. search needs)
+    (λ c. search needs)
     loop-holds
-    mul-held
-    slice-read-held
-    same-length
+    (λ c. search needs)
+    (λ c. search needs)
+    (λ c. search needs)
     returns-2
-    mul-cells
-    slice-write-cells
+    (λ c. search needs)
+    (λ c. search needs)
     same-length-2
     returns-3
-    next-cell-requires
-    sub-left
-    loop-less
+    (λ c κs. search needs)
+    (λ c. search needs)
+    (λ c. search needs)
     loop-again
-    same-length-3
+    (λ c. search needs)
     returns-4)

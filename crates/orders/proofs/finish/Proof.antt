@@ -9,32 +9,11 @@ use Rattle.orders.proofs.finish.Tie as tie
 returns : tie.Need-returns
 returns c = λ t. finish-none t _ _ (c .if1 .taken)
 
-mul-list : tie.Need-mul-list
-mul-list c = search needs
-
 slice-write-list : tie.Need-slice-write-list
 slice-write-list c = let s = c .before .before in omega (arith, room-open _ _ _ (s .pre) (c .if1 .left))
 
-sub-list : tie.Need-sub-list
-sub-list c = search needs
-
-add-list : tie.Need-add-list
-add-list c = search needs
-
-mul-list-2 : tie.Need-mul-list-2
-mul-list-2 c = search needs
-
 slice-write-list-2 : tie.Need-slice-write-list-2
 slice-write-list-2 c = let s = c .before .before .before in simp length-set (omega (arith, room-open _ _ _ (s .pre) (c .before .if1 .left)))
-
-add-t5 : tie.Need-add-t5
-add-t5 c = search needs
-
-add-t7 : tie.Need-add-t7
-add-t7 c = search needs
-
-same-length : tie.Need-same-length
-same-length c = search needs
 
 returns-2 : tie.Need-returns-2
 returns-2 c = λ t. finish-open t _ _ (c .before .before .if1 .left)
@@ -44,13 +23,13 @@ finish-spec =
     tie.close
     (tie.spec
     returns
-    mul-list
+    (λ c. search needs)
     slice-write-list
-    sub-list
-    add-list
-    mul-list-2
+    (λ c. search needs)
+    (λ c. search needs)
+    (λ c. search needs)
     slice-write-list-2
-    add-t5
-    add-t7
-    same-length
+    (λ c. search needs)
+    (λ c. search needs)
+    (λ c. search needs)
     returns-2)

@@ -23,17 +23,8 @@ place c = room-place _ _ _ (entry (turned c) .pre) (turned c .turn .ensures _)
 
 -- ---- the answers
 
-add-line : tie.Need-add-line
-add-line c = search needs
-
 turn-requires : tie.Need-turn-requires
 turn-requires c κs = room-due _ _ _ _ _ (c .before .before .before .pre)
-
-mul-table : tie.Need-mul-table
-mul-table c = search needs
-
-slice-write-table : tie.Need-slice-write-table
-slice-write-table c = search needs
 
 mul-list : tie.Need-mul-list
 mul-list c = omega (arith, place c)
@@ -59,9 +50,6 @@ add-t11 c = omega (arith, place (c .before))
 rule-requires : tie.Need-rule-requires
 rule-requires c κs = rule-room _ _ _ _ _ _ _ (place (c .before .before))
 
-same-length : tie.Need-same-length
-same-length c = search needs
-
 same-length-2 : tie.Need-same-length-2
 same-length-2 c =
     let called = c .before .before in
@@ -76,10 +64,10 @@ pub store-spec : {M : Type 1} → statement M
 store-spec =
     tie.close
     (tie.spec
-    add-line
+    (λ c. search needs)
     turn-requires
-    mul-table
-    slice-write-table
+    (λ c. search needs)
+    (λ c. search needs)
     mul-list
     slice-write-list
     add-list
@@ -88,6 +76,6 @@ store-spec =
     add-t10
     add-t11
     rule-requires
-    same-length
+    (λ c. search needs)
     same-length-2
     returns)

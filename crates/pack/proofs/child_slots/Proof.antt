@@ -22,51 +22,6 @@ abbrev μ-loop : tie.MeasureT-loop
 loop-holds : tie.Need-loop-holds Inv-loop μ-loop
 loop-holds c = let a = c .args in let p = c .pre in (omega arith, p .0, p .1, p .2, refl, child-start (a .nodes .now) (a .first) (a .count) (p .0))
 
-add-k : tie.Need-add-k Inv-loop μ-loop
-add-k c = search needs
-
-mul-slots : tie.Need-mul-slots Inv-loop μ-loop
-mul-slots c = search needs
-
-add-slots : tie.Need-add-slots Inv-loop μ-loop
-add-slots c = search needs
-
-mul-slots-2 : tie.Need-mul-slots-2 Inv-loop μ-loop
-mul-slots-2 c = search needs
-
-shared-slice-read-slots : tie.Need-shared-slice-read-slots Inv-loop μ-loop
-shared-slice-read-slots c = search needs
-
-mul-slots-3 : tie.Need-mul-slots-3 Inv-loop μ-loop
-mul-slots-3 c = search needs
-
-mul-slots-4 : tie.Need-mul-slots-4 Inv-loop μ-loop
-mul-slots-4 c = search needs
-
-array-write-slots : tie.Need-array-write-slots Inv-loop μ-loop
-array-write-slots c = search needs
-
-add-slots-2 : tie.Need-add-slots-2 Inv-loop μ-loop
-add-slots-2 c = search needs
-
-mul-slots-5 : tie.Need-mul-slots-5 Inv-loop μ-loop
-mul-slots-5 c = search needs
-
-add-slots-3 : tie.Need-add-slots-3 Inv-loop μ-loop
-add-slots-3 c = search needs
-
-mul-slots-6 : tie.Need-mul-slots-6 Inv-loop μ-loop
-mul-slots-6 c = search needs
-
-array-write-slots-2 : tie.Need-array-write-slots-2 Inv-loop μ-loop
-array-write-slots-2 c = search needs
-
-add-i : tie.Need-add-i Inv-loop μ-loop
-add-i c = search needs
-
-loop-less : tie.Need-loop-less Inv-loop μ-loop
-loop-less c = search needs
-
 loop-again : tie.Need-loop-again Inv-loop μ-loop
 loop-again c =
     let l = c .before .before .loop in
@@ -84,20 +39,20 @@ child-slots-spec =
     Inv-loop
     μ-loop
     loop-holds
-    add-k
-    mul-slots
-    add-slots
-    mul-slots-2
-    shared-slice-read-slots
-    mul-slots-3
-    mul-slots-4
-    array-write-slots
-    add-slots-2
-    mul-slots-5
-    add-slots-3
-    mul-slots-6
-    array-write-slots-2
-    add-i
-    loop-less
+    (λ c. search needs)
+    (λ c. search needs)
+    (λ c. search needs)
+    (λ c. search needs)
+    (λ c. search needs)
+    (λ c. search needs)
+    (λ c. search needs)
+    (λ c. search needs)
+    (λ c. search needs)
+    (λ c. search needs)
+    (λ c. search needs)
+    (λ c. search needs)
+    (λ c. search needs)
+    (λ c. search needs)
+    (λ c. search needs)
     loop-again
     returns)

@@ -20,18 +20,6 @@ abbrev μ-loop : tie.MeasureT-loop
 loop-holds : tie.Need-loop-holds Inv-loop μ-loop
 loop-holds c = (c .pre, refl, refl)
 
-mul-nodes : tie.Need-mul-nodes Inv-loop μ-loop
-mul-nodes c = search needs
-
-slice-write-nodes : tie.Need-slice-write-nodes Inv-loop μ-loop
-slice-write-nodes c = search needs
-
-add-i : tie.Need-add-i Inv-loop μ-loop
-add-i c = search needs
-
-loop-less : tie.Need-loop-less Inv-loop μ-loop
-loop-less c = search needs
-
 loop-again : tie.Need-loop-again Inv-loop μ-loop
 loop-again c = let l = c .before .loop in (simp length-set (omega (arith, c .loop-test .taken)), simp length-set (l .inv .1), simp length-set (clear-step (l .nodes) (l .i) (c .loop-test .taken) ∙ l .inv .2))
 
@@ -48,10 +36,10 @@ clear-spec =
     Inv-loop
     μ-loop
     loop-holds
-    mul-nodes
-    slice-write-nodes
-    add-i
-    loop-less
+    (λ c. search needs)
+    (λ c. search needs)
+    (λ c. search needs)
+    (λ c. search needs)
     loop-again
     same-length
     returns)

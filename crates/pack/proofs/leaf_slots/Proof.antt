@@ -22,62 +22,8 @@ abbrev μ-loop : tie.MeasureT-loop
 loop-holds : tie.Need-loop-holds Inv-loop μ-loop
 loop-holds c = let a = c .args in (omega arith, refl, leaf-start (a .nodes .now) (a .pairs) (a .j))
 
-mul-p : tie.Need-mul-p Inv-loop μ-loop
-mul-p c = search needs
-
-add-p : tie.Need-add-p Inv-loop μ-loop
-add-p c = search needs
-
 returns : tie.Need-returns Inv-loop μ-loop
 returns c = let l = c .before .before .loop in sym (leaf-short _ _ _ _ _ (c .if1 .taken)) ∙ l .inv .2
-
-mul-slots : tie.Need-mul-slots Inv-loop μ-loop
-mul-slots c = search needs
-
-mul-slots-2 : tie.Need-mul-slots-2 Inv-loop μ-loop
-mul-slots-2 c = search needs
-
-shared-slice-read-slots : tie.Need-shared-slice-read-slots Inv-loop μ-loop
-shared-slice-read-slots c = search needs
-
-mul-slots-3 : tie.Need-mul-slots-3 Inv-loop μ-loop
-mul-slots-3 c = search needs
-
-mul-slots-4 : tie.Need-mul-slots-4 Inv-loop μ-loop
-mul-slots-4 c = search needs
-
-array-write-slots : tie.Need-array-write-slots Inv-loop μ-loop
-array-write-slots c = search needs
-
-mul-slots-5 : tie.Need-mul-slots-5 Inv-loop μ-loop
-mul-slots-5 c = search needs
-
-add-slots : tie.Need-add-slots Inv-loop μ-loop
-add-slots c = search needs
-
-mul-slots-6 : tie.Need-mul-slots-6 Inv-loop μ-loop
-mul-slots-6 c = search needs
-
-shared-slice-read-slots-2 : tie.Need-shared-slice-read-slots-2 Inv-loop μ-loop
-shared-slice-read-slots-2 c = search needs
-
-mul-slots-7 : tie.Need-mul-slots-7 Inv-loop μ-loop
-mul-slots-7 c = search needs
-
-add-slots-2 : tie.Need-add-slots-2 Inv-loop μ-loop
-add-slots-2 c = search needs
-
-mul-slots-8 : tie.Need-mul-slots-8 Inv-loop μ-loop
-mul-slots-8 c = search needs
-
-array-write-slots-2 : tie.Need-array-write-slots-2 Inv-loop μ-loop
-array-write-slots-2 c = search needs
-
-add-i : tie.Need-add-i Inv-loop μ-loop
-add-i c = search needs
-
-loop-less : tie.Need-loop-less Inv-loop μ-loop
-loop-less c = search needs
 
 loop-again : tie.Need-loop-again Inv-loop μ-loop
 loop-again c =
@@ -100,24 +46,24 @@ leaf-slots-spec =
     Inv-loop
     μ-loop
     loop-holds
-    mul-p
-    add-p
+    (λ c. search needs)
+    (λ c. search needs)
     returns
-    mul-slots
-    mul-slots-2
-    shared-slice-read-slots
-    mul-slots-3
-    mul-slots-4
-    array-write-slots
-    mul-slots-5
-    add-slots
-    mul-slots-6
-    shared-slice-read-slots-2
-    mul-slots-7
-    add-slots-2
-    mul-slots-8
-    array-write-slots-2
-    add-i
-    loop-less
+    (λ c. search needs)
+    (λ c. search needs)
+    (λ c. search needs)
+    (λ c. search needs)
+    (λ c. search needs)
+    (λ c. search needs)
+    (λ c. search needs)
+    (λ c. search needs)
+    (λ c. search needs)
+    (λ c. search needs)
+    (λ c. search needs)
+    (λ c. search needs)
+    (λ c. search needs)
+    (λ c. search needs)
+    (λ c. search needs)
+    (λ c. search needs)
     loop-again
     returns-2)

@@ -16,26 +16,11 @@ abbrev μ-loop : tie.MeasureT-loop
 μ-loop pairs row₀ total₀ left₀ row total left =
     left
 
-leaf-count-requires : tie.Need-leaf-count-requires Inv-loop μ-loop
-leaf-count-requires c κs = search needs
-
 loop-holds : tie.Need-loop-holds Inv-loop μ-loop
 loop-holds c = let e = c .leaf-count .ensures in let q = c .before .pre in (omega arith, omega (arith, e, q), omega (arith, e, q), needed-start _ _ e)
 
 returns : tie.Need-returns Inv-loop μ-loop
 returns c = let l = c .before .before .loop in sym (needed-out _ _ _ (c .if1 .taken)) ∙ l .inv .3
-
-add-row : tie.Need-add-row Inv-loop μ-loop
-add-row c = search needs
-
-add-total : tie.Need-add-total Inv-loop μ-loop
-add-total c = search needs
-
-sub-left : tie.Need-sub-left Inv-loop μ-loop
-sub-left c = search needs
-
-loop-less : tie.Need-loop-less Inv-loop μ-loop
-loop-less c = search needs
 
 loop-again : tie.Need-loop-again Inv-loop μ-loop
 loop-again c =
@@ -52,12 +37,12 @@ needed-spec =
     (tie.spec
     Inv-loop
     μ-loop
-    leaf-count-requires
+    (λ c κs. search needs)
     loop-holds
     returns
-    add-row
-    add-total
-    sub-left
-    loop-less
+    (λ c. search needs)
+    (λ c. search needs)
+    (λ c. search needs)
+    (λ c. search needs)
     loop-again
     returns-2)

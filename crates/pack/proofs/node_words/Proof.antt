@@ -19,41 +19,8 @@ abbrev μ-loop : tie.MeasureT-loop
 μ-loop left sibling level fence slots words₀ i₀ words i =
     24 - i
 
-array-write-words : tie.Need-array-write-words Inv-loop μ-loop
-array-write-words c = search needs
-
-array-write-words-2 : tie.Need-array-write-words-2 Inv-loop μ-loop
-array-write-words-2 c = search needs
-
-array-write-words-3 : tie.Need-array-write-words-3 Inv-loop μ-loop
-array-write-words-3 c = search needs
-
-array-write-words-4 : tie.Need-array-write-words-4 Inv-loop μ-loop
-array-write-words-4 c = search needs
-
 loop-holds : tie.Need-loop-holds Inv-loop μ-loop
 loop-holds c = (omega arith, search needs, refl, node-copied _ _ _ _ _ (search needs))
-
-mul-words : tie.Need-mul-words Inv-loop μ-loop
-mul-words c = search needs
-
-array-read-words : tie.Need-array-read-words Inv-loop μ-loop
-array-read-words c = search needs
-
-add-words : tie.Need-add-words Inv-loop μ-loop
-add-words c = search needs
-
-mul-words-2 : tie.Need-mul-words-2 Inv-loop μ-loop
-mul-words-2 c = search needs
-
-array-write-words-5 : tie.Need-array-write-words-5 Inv-loop μ-loop
-array-write-words-5 c = search needs
-
-add-i : tie.Need-add-i Inv-loop μ-loop
-add-i c = search needs
-
-loop-less : tie.Need-loop-less Inv-loop μ-loop
-loop-less c = search needs
 
 loop-again : tie.Need-loop-again Inv-loop μ-loop
 loop-again c = let l = c .before .loop in let ws = c .before .before .args .t5 in (omega arith, l .inv .1, simp length-set (l .inv .2), sym (copy-step (l .words) ws 8 (l .i) (omega (arith, l .inv .1, c .loop-test .taken))) ∙ l .inv .3)
@@ -67,17 +34,17 @@ node-words-spec =
     (tie.spec
     Inv-loop
     μ-loop
-    array-write-words
-    array-write-words-2
-    array-write-words-3
-    array-write-words-4
+    (λ c. search needs)
+    (λ c. search needs)
+    (λ c. search needs)
+    (λ c. search needs)
     loop-holds
-    mul-words
-    array-read-words
-    add-words
-    mul-words-2
-    array-write-words-5
-    add-i
-    loop-less
+    (λ c. search needs)
+    (λ c. search needs)
+    (λ c. search needs)
+    (λ c. search needs)
+    (λ c. search needs)
+    (λ c. search needs)
+    (λ c. search needs)
     loop-again
     returns)

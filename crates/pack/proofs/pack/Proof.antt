@@ -7,24 +7,6 @@ use Rattle.pack.proofs.Raising.{leaves-fit, leaves-back, rows-fit, rais
 use Rattle.pack.proofs.pack.Statement.{statement}
 use Rattle.pack.proofs.pack.Tie as tie
 
-leaf-count-requires : tie.Need-leaf-count-requires
-leaf-count-requires c κs = search needs
-
-mul-w : tie.Need-mul-w
-mul-w c = search needs
-
-mul-put-leaves : tie.Need-mul-put-leaves
-mul-put-leaves c = search needs
-
-sub-put-leaves : tie.Need-sub-put-leaves
-sub-put-leaves c = search needs
-
-part-put-leaves-start : tie.Need-part-put-leaves-start
-part-put-leaves-start c = search needs
-
-part-put-leaves-end : tie.Need-part-put-leaves-end
-part-put-leaves-end c = search needs
-
 put-leaves-requires : tie.Need-put-leaves-requires
 put-leaves-requires c κs =
     let p = c .before .before .before .pre in
@@ -63,9 +45,6 @@ clear-requires c κs =
     let m = ap length (r .0) ∙ raised-long 15 _ (a .before) (e .result) 1 in
     omega (arith, f .0, r .1, m)
 
-same-length : tie.Need-same-length
-same-length c = search needs
-
 returns : tie.Need-returns
 returns c =
     let p = c .before .before .before .before .before .before .before .before .before .before .before .before .before .before .pre in
@@ -80,15 +59,15 @@ pub pack-spec : {M : Type 1} → statement M
 pack-spec =
     tie.close
     (tie.spec
-    leaf-count-requires
-    mul-w
-    mul-put-leaves
-    sub-put-leaves
-    part-put-leaves-start
-    part-put-leaves-end
+    (λ c κs. search needs)
+    (λ c. search needs)
+    (λ c. search needs)
+    (λ c. search needs)
+    (λ c. search needs)
+    (λ c. search needs)
     put-leaves-requires
     put-rows-requires
     mul-clear
     clear-requires
-    same-length
+    (λ c. search needs)
     returns)

@@ -15,38 +15,8 @@ abbrev μ-loop : tie.MeasureT-loop
 μ-loop nodes₀ first count level row g₀ nodes g =
     row - g
 
-add-row : tie.Need-add-row Inv-loop μ-loop
-add-row c = search needs
-
 loop-holds : tie.Need-loop-holds Inv-loop μ-loop
 loop-holds c = raised-start _ _ _ _ (c .before .pre .0)
-
-mul-put-inner : tie.Need-mul-put-inner Inv-loop μ-loop
-mul-put-inner c = search needs
-
-add-put-inner : tie.Need-add-put-inner Inv-loop μ-loop
-add-put-inner c = search needs
-
-mul-dozen : tie.Need-mul-dozen Inv-loop μ-loop
-mul-dozen c = search needs
-
-sub-dozen : tie.Need-sub-dozen Inv-loop μ-loop
-sub-dozen c = search needs
-
-dozen-requires : tie.Need-dozen-requires Inv-loop μ-loop
-dozen-requires c κs = search needs
-
-add-put-inner-2 : tie.Need-add-put-inner-2 Inv-loop μ-loop
-add-put-inner-2 c = search needs
-
-add-put-inner-3 : tie.Need-add-put-inner-3 Inv-loop μ-loop
-add-put-inner-3 c = search needs
-
-add-put-inner-4 : tie.Need-add-put-inner-4 Inv-loop μ-loop
-add-put-inner-4 c = search needs
-
-add-put-inner-5 : tie.Need-add-put-inner-5 Inv-loop μ-loop
-add-put-inner-5 c = search needs
 
 put-inner-requires : tie.Need-put-inner-requires Inv-loop μ-loop
 put-inner-requires c κs =
@@ -81,17 +51,17 @@ put-row-spec =
     (tie.spec
     Inv-loop
     μ-loop
-    add-row
+    (λ c. search needs)
     loop-holds
-    mul-put-inner
-    add-put-inner
-    mul-dozen
-    sub-dozen
-    dozen-requires
-    add-put-inner-2
-    add-put-inner-3
-    add-put-inner-4
-    add-put-inner-5
+    (λ c. search needs)
+    (λ c. search needs)
+    (λ c. search needs)
+    (λ c. search needs)
+    (λ c κs. search needs)
+    (λ c. search needs)
+    (λ c. search needs)
+    (λ c. search needs)
+    (λ c. search needs)
     put-inner-requires
     add-g
     loop-less

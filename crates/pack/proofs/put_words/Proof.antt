@@ -20,35 +20,11 @@ abbrev μ-loop : tie.MeasureT-loop
 loop-holds : tie.Need-loop-holds Inv-loop μ-loop
 loop-holds c = let a = c .args in (omega arith, search needs, refl, search needs, copy-start (a .nodes .now) (a .t3) (a .w))
 
-mul-nodes : tie.Need-mul-nodes Inv-loop μ-loop
-mul-nodes c = search needs
-
-array-read-nodes : tie.Need-array-read-nodes Inv-loop μ-loop
-array-read-nodes c = search needs
-
-add-nodes : tie.Need-add-nodes Inv-loop μ-loop
-add-nodes c = search needs
-
-mul-nodes-2 : tie.Need-mul-nodes-2 Inv-loop μ-loop
-mul-nodes-2 c = search needs
-
-slice-write-nodes : tie.Need-slice-write-nodes Inv-loop μ-loop
-slice-write-nodes c = search needs
-
-add-i : tie.Need-add-i Inv-loop μ-loop
-add-i c = search needs
-
-loop-less : tie.Need-loop-less Inv-loop μ-loop
-loop-less c = search needs
-
 loop-again : tie.Need-loop-again Inv-loop μ-loop
 loop-again c =
     let l = c .before .loop in
     let ws = c .before .before .args .t3 in
     (omega arith, l .inv .1, simp length-set (l .inv .2), simp length-set (l .inv .3), sym (copy-step (l .nodes) ws (c .before .before .args .w) (l .i) (omega (arith, l .inv .1, c .loop-test .taken))) ∙ l .inv .4)
-
-same-length : tie.Need-same-length Inv-loop μ-loop
-same-length c = search needs
 
 returns : tie.Need-returns Inv-loop μ-loop
 returns c = let l = c .before .loop in let ws = c .before .before .args .t3 in sym (copy-end (l .nodes) ws (c .before .before .args .w) (l .i) (omega (arith, l .inv .1, c .loop-test .left))) ∙ l .inv .4
@@ -60,13 +36,13 @@ put-words-spec =
     Inv-loop
     μ-loop
     loop-holds
-    mul-nodes
-    array-read-nodes
-    add-nodes
-    mul-nodes-2
-    slice-write-nodes
-    add-i
-    loop-less
+    (λ c. search needs)
+    (λ c. search needs)
+    (λ c. search needs)
+    (λ c. search needs)
+    (λ c. search needs)
+    (λ c. search needs)
+    (λ c. search needs)
     loop-again
-    same-length
+    (λ c. search needs)
     returns)

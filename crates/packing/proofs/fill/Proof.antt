@@ -5,24 +5,6 @@ use borrow.Author.Needs.{needs}
 use Rattle.packing.proofs.fill.Statement.{statement}
 use Rattle.packing.proofs.fill.Tie as tie
 
-mul-w : tie.Need-mul-w
-mul-w c = search needs
-
-mul-end : tie.Need-mul-end
-mul-end c = search needs
-
-mul-copy : tie.Need-mul-copy
-mul-copy c = search needs
-
-sub-copy : tie.Need-sub-copy
-sub-copy c = search needs
-
-part-copy-start : tie.Need-part-copy-start
-part-copy-start c = search needs
-
-part-copy-end : tie.Need-part-copy-end
-part-copy-end c = search needs
-
 slice-aggregate-copy : tie.Need-slice-aggregate-copy
 slice-aggregate-copy c = sym (pairs-long (c .before .before .before .before .args .pairs .now))
 
@@ -37,9 +19,6 @@ pack-requires c κs =
     let k = c .before .before .before .copy in
     pack-fits (a .words .now) (a .pairs .now) (a .before) (a .top) (p .0) (p .1) (p .2) (k .last .0) (k .ensures)
 
-same-length : tie.Need-same-length
-same-length c = search needs
-
 returns : tie.Need-returns
 returns c =
     let s = c .before .before .before .before .before .before .before .before .before .before .before in
@@ -53,14 +32,14 @@ pub fill-spec : {M : Type 1} → statement M
 fill-spec =
     tie.close
     (tie.spec
-    mul-w
-    mul-end
-    mul-copy
-    sub-copy
-    part-copy-start
-    part-copy-end
+    (λ c. search needs)
+    (λ c. search needs)
+    (λ c. search needs)
+    (λ c. search needs)
+    (λ c. search needs)
+    (λ c. search needs)
     slice-aggregate-copy
     copy-requires
     pack-requires
-    same-length
+    (λ c. search needs)
     returns)

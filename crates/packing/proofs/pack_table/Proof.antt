@@ -25,32 +25,14 @@ sized c = nodes-in-sized _ _ _ (c .nodes-in .ensures) (makes _ _ (number c) .siz
 size : (c : tie.After-nodes-in) → c .nodes-in .result ≡ nodesFor (length (entry c .args .table .now))
 size c = length-iff _ _ .1 (sized c) .1
 
-make-number-requires : tie.Need-make-number-requires
-make-number-requires c κs = search needs
-
-same-length : tie.Need-same-length
-same-length c = search needs
-
 returns : tie.Need-returns
 returns c = let a = c .before .before .before .before .before .before .args in refused-making (a .collections) (a .pairs .now) (a .loans .now) (a .table .now) _ (c .before .make-number .ensures) (c .if1 .taken)
-
-nodes-in-requires : tie.Need-nodes-in-requires
-nodes-in-requires c κs = search needs
 
 outgrows-requires : tie.Need-outgrows-requires
 outgrows-requires c κs = sized c .few
 
-same-length-2 : tie.Need-same-length-2
-same-length-2 c = search needs
-
 returns-2 : tie.Need-returns-2
 returns-2 c = let n = c .before .before in refused-outgrown _ _ _ _ (number n) _ (size n) _ (c .before .outgrows .ensures) (c .if2 .taken)
-
-maps-ok-requires : tie.Need-maps-ok-requires
-maps-ok-requires c κs = search needs
-
-same-length-3 : tie.Need-same-length-3
-same-length-3 c = search needs
 
 returns-3 : tie.Need-returns-3
 returns-3 c =
@@ -62,9 +44,6 @@ put-table-requires c κs =
     let n = c .before .before .before .before .before in
     let f = sized n in
     (f .long, f .few, not-grown _ _ _ (c .before .before .before .before .outgrows .ensures) (c .before .before .before .if2 .left))
-
-same-length-4 : tie.Need-same-length-4
-same-length-4 c = search needs
 
 returns-4 : tie.Need-returns-4
 returns-4 c =
@@ -78,16 +57,16 @@ pub pack-table-spec : {M : Type 1} → statement M
 pack-table-spec =
     tie.close
     (tie.spec
-    make-number-requires
-    same-length
+    (λ c κs. search needs)
+    (λ c. search needs)
     returns
-    nodes-in-requires
+    (λ c κs. search needs)
     outgrows-requires
-    same-length-2
+    (λ c. search needs)
     returns-2
-    maps-ok-requires
-    same-length-3
+    (λ c κs. search needs)
+    (λ c. search needs)
     returns-3
     put-table-requires
-    same-length-4
+    (λ c. search needs)
     returns-4)

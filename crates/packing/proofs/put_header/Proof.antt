@@ -6,9 +6,6 @@ use Rattle.packing.proofs.Call.{header-put}
 use Rattle.packing.proofs.put_header.Statement.{statement}
 use Rattle.packing.proofs.put_header.Tie as tie
 
-slice-write-table : tie.Need-slice-write-table
-slice-write-table c = search needs
-
 slice-write-table-2 : tie.Need-slice-write-table-2
 slice-write-table-2 c = simp length-set (omega (arith, c .pre))
 
@@ -30,9 +27,6 @@ slice-write-table-7 c = simp length-set (omega (arith, c .pre))
 slice-write-table-8 : tie.Need-slice-write-table-8
 slice-write-table-8 c = simp length-set (omega (arith, c .pre))
 
-same-length : tie.Need-same-length
-same-length c = search needs
-
 returns : tie.Need-returns
 returns c = header-put (c .args .table .now) (c .args .root) (c .args .second) (c .args .top) (c .pre)
 
@@ -40,7 +34,7 @@ pub put-header-spec : {M : Type 1} → statement M
 put-header-spec =
     tie.close
     (tie.spec
-    slice-write-table
+    (λ c. search needs)
     slice-write-table-2
     slice-write-table-3
     slice-write-table-4
@@ -48,5 +42,5 @@ put-header-spec =
     slice-write-table-6
     slice-write-table-7
     slice-write-table-8
-    same-length
+    (λ c. search needs)
     returns)

@@ -19,38 +19,11 @@ abbrev μ-loop : tie.MeasureT-loop
 loop-holds : tie.Need-loop-holds Inv-loop μ-loop
 loop-holds c = (search needs, refl)
 
-mul-recording : tie.Need-mul-recording Inv-loop μ-loop
-mul-recording c = search needs
-
-add-recording : tie.Need-add-recording Inv-loop μ-loop
-add-recording c = search needs
-
-mul-recording-2 : tie.Need-mul-recording-2 Inv-loop μ-loop
-mul-recording-2 c = search needs
-
-shared-slice-read-recording : tie.Need-shared-slice-read-recording Inv-loop μ-loop
-shared-slice-read-recording c = search needs
-
-recording-requires : tie.Need-recording-requires Inv-loop μ-loop
-recording-requires c κs = search needs
-
-add-has-recording : tie.Need-add-has-recording Inv-loop μ-loop
-add-has-recording c = search needs
-
-has-recording-requires : tie.Need-has-recording-requires Inv-loop μ-loop
-has-recording-requires c κs = search needs
-
 returns : tie.Need-returns Inv-loop μ-loop
 returns c =
     let t = c .before .before .before .before in
     let l = t .before .loop in
     once-twice _ (l .i) (l .inv .1) (t .loop-test .taken) _ (c .before .before .recording .ensures) _ (c .before .has-recording .ensures) (c .if1 .taken)
-
-add-i : tie.Need-add-i Inv-loop μ-loop
-add-i c = search needs
-
-loop-less : tie.Need-loop-less Inv-loop μ-loop
-loop-less c = search needs
 
 loop-again : tie.Need-loop-again Inv-loop μ-loop
 loop-again c =
@@ -68,15 +41,15 @@ compared-once-spec =
     Inv-loop
     μ-loop
     loop-holds
-    mul-recording
-    add-recording
-    mul-recording-2
-    shared-slice-read-recording
-    recording-requires
-    add-has-recording
-    has-recording-requires
+    (λ c. search needs)
+    (λ c. search needs)
+    (λ c. search needs)
+    (λ c. search needs)
+    (λ c κs. search needs)
+    (λ c. search needs)
+    (λ c κs. search needs)
     returns
-    add-i
-    loop-less
+    (λ c. search needs)
+    (λ c. search needs)
     loop-again
     returns-2)

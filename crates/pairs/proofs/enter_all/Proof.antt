@@ -23,44 +23,11 @@ abbrev μ-loop : tie.MeasureT-loop
 loop-holds : tie.Need-loop-holds Inv-loop μ-loop
 loop-holds c = (search needs, record { wide = c .before .before .pre; comes-to = refl })
 
-mul-recording : tie.Need-mul-recording Inv-loop μ-loop
-mul-recording c = search needs
-
-add-recording : tie.Need-add-recording Inv-loop μ-loop
-add-recording c = search needs
-
-mul-recording-2 : tie.Need-mul-recording-2 Inv-loop μ-loop
-mul-recording-2 c = search needs
-
-shared-slice-read-recording : tie.Need-shared-slice-read-recording Inv-loop μ-loop
-shared-slice-read-recording c = search needs
-
-recording-requires : tie.Need-recording-requires Inv-loop μ-loop
-recording-requires c κs = search needs
-
-enter-one-requires : tie.Need-enter-one-requires Inv-loop μ-loop
-enter-one-requires c κs = search needs
-
-enum-told : tie.Need-enum-told Inv-loop μ-loop
-enum-told c = search needs
-
-enum-told-2 : tie.Need-enum-told-2 Inv-loop μ-loop
-enum-told-2 c = search needs
-
-same-length : tie.Need-same-length Inv-loop μ-loop
-same-length c = search needs
-
 returns : tie.Need-returns Inv-loop μ-loop
 returns c =
     let o = c .before .before .before .before in
     let l = o .before .before .before .before .before .loop in
     enter-ends (l .inv .1) (o .before .before .before .before .loop-test .taken) _ (o .before .before .recording .ensures) _ _ (o .enter-one .ensures) Known known-last (c .enum-told2 .given .1)
-
-enum-told-3 : tie.Need-enum-told-3 Inv-loop μ-loop
-enum-told-3 c = search needs
-
-same-length-2 : tie.Need-same-length-2 Inv-loop μ-loop
-same-length-2 c = search needs
 
 returns-2 : tie.Need-returns-2 Inv-loop μ-loop
 returns-2 c =
@@ -68,21 +35,12 @@ returns-2 c =
     let l = o .before .before .before .before .before .loop in
     enter-ends (l .inv .1) (o .before .before .before .before .loop-test .taken) _ (o .before .before .recording .ensures) _ _ (o .enter-one .ensures) Full full-last (c .enum-told3 .given .1)
 
-add-i : tie.Need-add-i Inv-loop μ-loop
-add-i c = search needs
-
-loop-less : tie.Need-loop-less Inv-loop μ-loop
-loop-less c = search needs
-
 loop-again : tie.Need-loop-again Inv-loop μ-loop
 loop-again c =
     let o = c .before .before .before .before in
     let l = o .before .before .before .before .before .loop in
     let t = o .before .before .before .before .loop-test .taken in
     (refl, record { wide = search needs; comes-to = enter-goes (l .inv .1) t _ (o .before .before .recording .ensures) _ _ (o .enter-one .ensures) (c .enum-told .given .1) })
-
-same-length-3 : tie.Need-same-length-3 Inv-loop μ-loop
-same-length-3 c = search needs
 
 returns-3 : tie.Need-returns-3 Inv-loop μ-loop
 returns-3 c = enter-end (c .before .loop .inv .1) (c .loop-test .left)
@@ -94,21 +52,21 @@ enter-all-spec =
     Inv-loop
     μ-loop
     loop-holds
-    mul-recording
-    add-recording
-    mul-recording-2
-    shared-slice-read-recording
-    recording-requires
-    enter-one-requires
-    enum-told
-    enum-told-2
-    same-length
+    (λ c. search needs)
+    (λ c. search needs)
+    (λ c. search needs)
+    (λ c. search needs)
+    (λ c κs. search needs)
+    (λ c κs. search needs)
+    (λ c. search needs)
+    (λ c. search needs)
+    (λ c. search needs)
     returns
-    enum-told-3
-    same-length-2
+    (λ c. search needs)
+    (λ c. search needs)
     returns-2
-    add-i
-    loop-less
+    (λ c. search needs)
+    (λ c. search needs)
     loop-again
-    same-length-3
+    (λ c. search needs)
     returns-3)

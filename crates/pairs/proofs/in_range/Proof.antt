@@ -19,29 +19,8 @@ abbrev μ-loop : tie.MeasureT-loop
 loop-holds : tie.Need-loop-holds Inv-loop μ-loop
 loop-holds c = (search needs, refl)
 
-mul-ok : tie.Need-mul-ok Inv-loop μ-loop
-mul-ok c = search needs
-
-add-ok : tie.Need-add-ok Inv-loop μ-loop
-add-ok c = search needs
-
-mul-ok-2 : tie.Need-mul-ok-2 Inv-loop μ-loop
-mul-ok-2 c = search needs
-
-shared-slice-read-ok : tie.Need-shared-slice-read-ok Inv-loop μ-loop
-shared-slice-read-ok c = search needs
-
-ok-requires : tie.Need-ok-requires Inv-loop μ-loop
-ok-requires c κs = search needs
-
 returns : tie.Need-returns Inv-loop μ-loop
 returns c = let l = c .before .before .before .before .loop in range-wrong _ (l .i) (l .inv .1) (c .before .before .before .loop-test .taken) _ (c .before .ok .ensures) (not-true _ (c .if1 .taken))
-
-add-i : tie.Need-add-i Inv-loop μ-loop
-add-i c = search needs
-
-loop-less : tie.Need-loop-less Inv-loop μ-loop
-loop-less c = search needs
 
 loop-again : tie.Need-loop-again Inv-loop μ-loop
 loop-again c = let l = c .before .before .before .before .loop in (refl, range-next _ (l .i) (l .inv .1) (c .before .before .before .loop-test .taken) _ (c .before .ok .ensures) (not-false _ (c .if1 .left)))
@@ -56,13 +35,13 @@ in-range-spec =
     Inv-loop
     μ-loop
     loop-holds
-    mul-ok
-    add-ok
-    mul-ok-2
-    shared-slice-read-ok
-    ok-requires
+    (λ c. search needs)
+    (λ c. search needs)
+    (λ c. search needs)
+    (λ c. search needs)
+    (λ c κs. search needs)
     returns
-    add-i
-    loop-less
+    (λ c. search needs)
+    (λ c. search needs)
     loop-again
     returns-2)

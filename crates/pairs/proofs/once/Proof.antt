@@ -22,41 +22,14 @@ turn c = c .before .before
 loop-holds : tie.Need-loop-holds Inv-loop μ-loop
 loop-holds c = pass-start _
 
-add-pass : tie.Need-add-pass Inv-loop μ-loop
-add-pass c = search needs
-
-pass-requires : tie.Need-pass-requires Inv-loop μ-loop
-pass-requires c κs = search needs
-
-enum-told : tie.Need-enum-told Inv-loop μ-loop
-enum-told c = search needs
-
-add-low : tie.Need-add-low Inv-loop μ-loop
-add-low c = search needs
-
-loop-less : tie.Need-loop-less Inv-loop μ-loop
-loop-less c = search needs
-
 loop-again : tie.Need-loop-again Inv-loop μ-loop
 loop-again c = pass-more (turn (c .before .before) .loop .inv) _ (c .before .before .pass .ensures) (c .enum-told .given .1)
-
-enum-told-2 : tie.Need-enum-told-2 Inv-loop μ-loop
-enum-told-2 c = search needs
 
 returns : tie.Need-returns Inv-loop μ-loop
 returns c = pass-twice (turn (c .before .before) .loop .inv) _ (c .before .before .pass .ensures) (c .enum-told2 .given .1)
 
-enum-told-3 : tie.Need-enum-told-3 Inv-loop μ-loop
-enum-told-3 c = search needs
-
-compared-once-requires : tie.Need-compared-once-requires Inv-loop μ-loop
-compared-once-requires c κs = search needs
-
 returns-2 : tie.Need-returns-2 Inv-loop μ-loop
 returns-2 c = c .compared-once .ensures
-
-loop-less-2 : tie.Need-loop-less-2 Inv-loop μ-loop
-loop-less-2 c = search needs
 
 loop-again-2 : tie.Need-loop-again-2 Inv-loop μ-loop
 loop-again-2 c =
@@ -73,17 +46,17 @@ once-spec =
     Inv-loop
     μ-loop
     loop-holds
-    add-pass
-    pass-requires
-    enum-told
-    add-low
-    loop-less
+    (λ c. search needs)
+    (λ c κs. search needs)
+    (λ c. search needs)
+    (λ c. search needs)
+    (λ c. search needs)
     loop-again
-    enum-told-2
+    (λ c. search needs)
     returns
-    enum-told-3
-    compared-once-requires
+    (λ c. search needs)
+    (λ c κs. search needs)
     returns-2
-    loop-less-2
+    (λ c. search needs)
     loop-again-2
     returns-3)

@@ -16,35 +16,8 @@ abbrev μ-loop : tie.MeasureT-loop
 loop-holds : tie.Need-loop-holds Inv-loop μ-loop
 loop-holds c = (search needs, rise-start _)
 
-mul-if1 : tie.Need-mul-if1 Inv-loop μ-loop
-mul-if1 c = search needs
-
-mul-if1-2 : tie.Need-mul-if1-2 Inv-loop μ-loop
-mul-if1-2 c = search needs
-
-shared-slice-read-if1 : tie.Need-shared-slice-read-if1 Inv-loop μ-loop
-shared-slice-read-if1 c = search needs
-
-mul-if1-3 : tie.Need-mul-if1-3 Inv-loop μ-loop
-mul-if1-3 c = search needs
-
-sub-if1 : tie.Need-sub-if1 Inv-loop μ-loop
-sub-if1 c = search needs
-
-mul-if1-4 : tie.Need-mul-if1-4 Inv-loop μ-loop
-mul-if1-4 c = search needs
-
-shared-slice-read-if1-2 : tie.Need-shared-slice-read-if1-2 Inv-loop μ-loop
-shared-slice-read-if1-2 c = search needs
-
 returns : tie.Need-returns Inv-loop μ-loop
 returns c = let l = c .before .before .before .before .loop in rise-wrong _ (l .inv .1) (c .before .before .before .loop-test .taken) (c .if1 .taken)
-
-add-i : tie.Need-add-i Inv-loop μ-loop
-add-i c = search needs
-
-loop-less : tie.Need-loop-less Inv-loop μ-loop
-loop-less c = search needs
 
 loop-again : tie.Need-loop-again Inv-loop μ-loop
 loop-again c = let l = c .before .before .before .before .loop in (refl, rise-next _ (l .inv .1) (c .before .before .before .loop-test .taken) (c .if1 .left))
@@ -59,15 +32,15 @@ rise-spec =
     Inv-loop
     μ-loop
     loop-holds
-    mul-if1
-    mul-if1-2
-    shared-slice-read-if1
-    mul-if1-3
-    sub-if1
-    mul-if1-4
-    shared-slice-read-if1-2
+    (λ c. search needs)
+    (λ c. search needs)
+    (λ c. search needs)
+    (λ c. search needs)
+    (λ c. search needs)
+    (λ c. search needs)
+    (λ c. search needs)
     returns
-    add-i
-    loop-less
+    (λ c. search needs)
+    (λ c. search needs)
     loop-again
     returns-2)

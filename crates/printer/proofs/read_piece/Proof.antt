@@ -52,18 +52,6 @@ said c =
 loop-holds : tie.Need-loop-holds Inv-loop μ-loop
 loop-holds c = (search needs, (search needs, (search needs, (search needs, same-start _))))
 
-sub-read-line : tie.Need-sub-read-line Inv-loop μ-loop
-sub-read-line c = search needs
-
-part-read-line-start : tie.Need-part-read-line-start Inv-loop μ-loop
-part-read-line-start c = search needs
-
-part-read-line-end : tie.Need-part-read-line-end Inv-loop μ-loop
-part-read-line-end c = search needs
-
-read-line-requires : tie.Need-read-line-requires Inv-loop μ-loop
-read-line-requires c κs = search needs
-
 print-requires : tie.Need-print-requires Inv-loop μ-loop
 print-requires c κs = told-print c .read-line .ensures .printed-within
 
@@ -85,15 +73,6 @@ loop-again c =
     let l = turn r in
     (omega (arith, h .used-within, rest-long r), (search needs, (search needs, (search needs, same-line _ _ (start l .args .piece .now) (l .loop .i) _ h (l .loop .inv .1 .1 .1 .1)))))
 
-same-length : tie.Need-same-length Inv-loop μ-loop
-same-length c = search needs
-
-same-length-2 : tie.Need-same-length-2 Inv-loop μ-loop
-same-length-2 c = search needs
-
-same-length-3 : tie.Need-same-length-3 Inv-loop μ-loop
-same-length-3 c = search needs
-
 returns : tie.Need-returns Inv-loop μ-loop
 returns c =
     let l = c .before in
@@ -106,15 +85,15 @@ read-piece-spec =
     Inv-loop
     μ-loop
     loop-holds
-    sub-read-line
-    part-read-line-start
-    part-read-line-end
-    read-line-requires
+    (λ c. search needs)
+    (λ c. search needs)
+    (λ c. search needs)
+    (λ c κs. search needs)
     print-requires
     add-i
     loop-less
     loop-again
-    same-length
-    same-length-2
-    same-length-3
+    (λ c. search needs)
+    (λ c. search needs)
+    (λ c. search needs)
     returns)

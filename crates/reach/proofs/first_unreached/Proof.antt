@@ -18,15 +18,6 @@ abbrev μ-loop : tie.MeasureT-loop
 abbrev asked : tie.After-used-run Inv-loop μ-loop → tie.In-loop Inv-loop μ-loop
 asked c = c .before .before
 
-loop-holds : tie.Need-loop-holds Inv-loop μ-loop
-loop-holds c = search needs
-
-used-run-requires : tie.Need-used-run-requires Inv-loop μ-loop
-used-run-requires c κs = search needs
-
-same-length : tie.Need-same-length Inv-loop μ-loop
-same-length c = search needs
-
 returns : tie.Need-returns Inv-loop μ-loop
 returns c =
     let r = c .before .before .before in
@@ -36,16 +27,10 @@ returns c =
 add-n : tie.Need-add-n Inv-loop μ-loop
 add-n c = omega (arith, c .before .before .before .used-run .ensures .0 .short)
 
-loop-less : tie.Need-loop-less Inv-loop μ-loop
-loop-less c = search needs
-
 loop-again : tie.Need-loop-again Inv-loop μ-loop
 loop-again c =
     let r = c .before .before .before in
     (first-past _ _ _ _ (r .used-run .ensures .0 .run) ∙ asked r .before .loop .inv .0, r .used-run .ensures .1)
-
-same-length-2 : tie.Need-same-length-2 Inv-loop μ-loop
-same-length-2 c = search needs
 
 returns-2 : tie.Need-returns-2 Inv-loop μ-loop
 returns-2 c = let l = c .before .loop in (sym (first-none _ _ _ (c .loop-test .left)) ∙ l .inv .0, l .inv .1)
@@ -56,12 +41,12 @@ first-unreached-spec =
     (tie.spec
     Inv-loop
     μ-loop
-    loop-holds
-    used-run-requires
-    same-length
+    (λ c. search needs)
+    (λ c κs. search needs)
+    (λ c. search needs)
     returns
     add-n
-    loop-less
+    (λ c. search needs)
     loop-again
-    same-length-2
+    (λ c. search needs)
     returns-2)

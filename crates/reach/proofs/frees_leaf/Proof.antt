@@ -14,23 +14,14 @@ above c = c .before
 
 -- ---- the answers
 
-shown-count-requires : tie.Need-shown-count-requires
-shown-count-requires c κs = search needs
-
 returns : tie.Need-returns
 returns c n h = more-left n _ _ _ _ (c .before .shown-count .ensures) (c .if1 .taken)
-
-word-requires : tie.Need-word-requires
-word-requires c κs = search needs
 
 returns-2 : tie.Need-returns-2
 returns-2 c n h =
     let w = c .before in
     let e = counted w in
     root-leaf n _ _ _ _ (e .before .shown-count .ensures) (e .if1 .left) _ _ h (w .word .ensures) (c .if2 .taken)
-
-word-requires-2 : tie.Need-word-requires-2
-word-requires-2 c κs = search needs
 
 returns-3 : tie.Need-returns-3
 returns-3 c n h =
@@ -43,9 +34,9 @@ pub frees-leaf-spec : {M : Type 1} → statement M
 frees-leaf-spec =
     tie.close
     (tie.spec
-    shown-count-requires
+    (λ c κs. search needs)
     returns
-    word-requires
+    (λ c κs. search needs)
     returns-2
-    word-requires-2
+    (λ c κs. search needs)
     returns-3)

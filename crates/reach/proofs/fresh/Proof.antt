@@ -10,29 +10,8 @@ use Rattle.reach.proofs.fresh.Tie as tie
 shared-slice-read-if1 : tie.Need-shared-slice-read-if1
 shared-slice-read-if1 c = omega (arith, sound-words _ (c .before .before .before .pre .0))
 
-fresh-marked-requires : tie.Need-fresh-marked-requires
-fresh-marked-requires c κs = search needs
-
-same-length : tie.Need-same-length
-same-length c = search needs
-
-returns : tie.Need-returns
-returns c = search needs
-
 add-is-taken : tie.Need-add-is-taken
 add-is-taken c = omega (arith, sound-few _ (c .before .before .before .before .pre .0))
-
-is-taken-requires : tie.Need-is-taken-requires
-is-taken-requires c κs = search needs
-
-fresh-marked-requires-2 : tie.Need-fresh-marked-requires-2
-fresh-marked-requires-2 c κs = search needs
-
-same-length-2 : tie.Need-same-length-2
-same-length-2 c = search needs
-
-returns-2 : tie.Need-returns-2
-returns-2 c = search needs
 
 add-result : tie.Need-add-result
 add-result c = omega (arith, sound-few _ (c .before .before .before .before .before .before .pre .0))
@@ -47,13 +26,13 @@ fresh-spec =
     tie.close
     (tie.spec
     shared-slice-read-if1
-    fresh-marked-requires
-    same-length
-    returns
+    (λ c κs. search needs)
+    (λ c. search needs)
+    (λ c. search needs)
     add-is-taken
-    is-taken-requires
-    fresh-marked-requires-2
-    same-length-2
-    returns-2
+    (λ c κs. search needs)
+    (λ c κs. search needs)
+    (λ c. search needs)
+    (λ c. search needs)
     add-result
     returns-3)

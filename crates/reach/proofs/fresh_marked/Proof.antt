@@ -19,9 +19,6 @@ looked c = c .before .before .before
 
 -- ---- the answers
 
-mark-once-requires : tie.Need-mark-once-requires
-mark-once-requires c κs = search needs
-
 add-first-unreached : tie.Need-add-first-unreached
 add-first-unreached c = omega (arith, sound-few _ (entry (c .before .before .before) .pre .0))
 
@@ -31,22 +28,13 @@ shared-slice-read-first-unreached c = omega (arith, sound-words _ (entry (c .bef
 first-unreached-requires : tie.Need-first-unreached-requires
 first-unreached-requires c κs = let m = c .before .before .before .before in let e = entry m .pre in (e .0, (m .mark-once .ensures, sound-few _ (e .0)))
 
-same-length : tie.Need-same-length
-same-length c = search needs
-
 returns : tie.Need-returns
 returns c = let u = c .before .before .before in
     (fresh-after _ _ _ (entry (marked u) .pre .1 .1 .0) (u .first-unreached .ensures .0) (c .if1 .taken), u .first-unreached .ensures .1)
 
-sub-first-unreached : tie.Need-sub-first-unreached
-sub-first-unreached c = search needs
-
 first-unreached-requires-2 : tie.Need-first-unreached-requires-2
 first-unreached-requires-2 c κs = let u = looked (c .before) in let e = entry (marked u) .pre in
     (e .0, (u .first-unreached .ensures .1, omega (arith, sound-few _ (e .0))))
-
-same-length-2 : tie.Need-same-length-2
-same-length-2 c = search needs
 
 returns-2 : tie.Need-returns-2
 returns-2 c = let v = c .before .before in let k = v .before .before in let u = looked k in
@@ -56,13 +44,13 @@ pub fresh-marked-spec : {M : Type 1} → statement M
 fresh-marked-spec =
     tie.close
     (tie.spec
-    mark-once-requires
+    (λ c κs. search needs)
     add-first-unreached
     shared-slice-read-first-unreached
     first-unreached-requires
-    same-length
+    (λ c. search needs)
     returns
-    sub-first-unreached
+    (λ c. search needs)
     first-unreached-requires-2
-    same-length-2
+    (λ c. search needs)
     returns-2)

@@ -27,29 +27,11 @@ turn c = c .before
 abbrev entry : tie.At-loop Inv-loop μ-loop → tie.Start Inv-loop μ-loop
 entry c = c .before .before .before
 
-word-requires : tie.Need-word-requires Inv-loop μ-loop
-word-requires c κs = search needs
-
 loop-holds : tie.Need-loop-holds Inv-loop μ-loop
 loop-holds c =
     let s = c .before .before in
     let h = sound-height _ _ _ (s .pre) (c .word .ensures) in
     (h, omega arith, run-top _ _ _ _ _ (c .word .ensures))
-
-moved-requires : tie.Need-moved-requires Inv-loop μ-loop
-moved-requires c κs = search needs
-
-run-after-requires : tie.Need-run-after-requires Inv-loop μ-loop
-run-after-requires c κs = search needs
-
-down-requires : tie.Need-down-requires Inv-loop μ-loop
-down-requires c κs = search needs
-
-sub-level : tie.Need-sub-level Inv-loop μ-loop
-sub-level c = search needs
-
-loop-less : tie.Need-loop-less Inv-loop μ-loop
-loop-less c = search needs
 
 loop-again : tie.Need-loop-again Inv-loop μ-loop
 loop-again c =
@@ -63,15 +45,6 @@ loop-again c =
       run-lower _ _ (l .loop .n) _ _ (l .loop .count) _ (m .moved .ensures) (r .run-after .ensures) (l .loop .level) _ (i .loop-test .taken) (c .down .ensures)
           ∙ l .loop .inv .2,
     )
-
-moved-requires-2 : tie.Need-moved-requires-2 Inv-loop μ-loop
-moved-requires-2 c κs = search needs
-
-run-after-requires-2 : tie.Need-run-after-requires-2 Inv-loop μ-loop
-run-after-requires-2 c κs = search needs
-
-add-t13 : tie.Need-add-t13 Inv-loop μ-loop
-add-t13 c = search needs
 
 returns : tie.Need-returns Inv-loop μ-loop
 returns c =
@@ -87,15 +60,15 @@ full-run-spec =
     (tie.spec
     Inv-loop
     μ-loop
-    word-requires
+    (λ c κs. search needs)
     loop-holds
-    moved-requires
-    run-after-requires
-    down-requires
-    sub-level
-    loop-less
+    (λ c κs. search needs)
+    (λ c κs. search needs)
+    (λ c κs. search needs)
+    (λ c. search needs)
+    (λ c. search needs)
     loop-again
-    moved-requires-2
-    run-after-requires-2
-    add-t13
+    (λ c κs. search needs)
+    (λ c κs. search needs)
+    (λ c. search needs)
     returns)

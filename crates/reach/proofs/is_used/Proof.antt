@@ -5,29 +5,11 @@ use borrow.Author.Needs.{needs}
 use Rattle.reach.proofs.is_used.Statement.{statement}
 use Rattle.reach.proofs.is_used.Tie as tie
 
-has-requires : tie.Need-has-requires
-has-requires c κs = search needs
-
-same-length : tie.Need-same-length
-same-length c = search needs
-
 returns : tie.Need-returns
 returns c = let h = c .before in let p = h .before .before .before .before .pre in (sym (p .1 .0 .1 _ (sym (h .has .ensures) ∙ c .if1 .taken)), p .1 .0)
 
-is-taken-requires : tie.Need-is-taken-requires
-is-taken-requires c κs = search needs
-
-same-length-2 : tie.Need-same-length-2
-same-length-2 c = search needs
-
 returns-2 : tie.Need-returns-2
 returns-2 c = let k = c .before in (sym (not-true _ (c .if2 .taken)) ∙ k .is-taken .ensures, search needs)
-
-mark-requires : tie.Need-mark-requires
-mark-requires c κs = search needs
-
-same-length-3 : tie.Need-same-length-3
-same-length-3 c = search needs
 
 returns-3 : tie.Need-returns-3
 returns-3 c =
@@ -42,12 +24,12 @@ pub is-used-spec : {M : Type 1} → statement M
 is-used-spec =
     tie.close
     (tie.spec
-    has-requires
-    same-length
+    (λ c κs. search needs)
+    (λ c. search needs)
     returns
-    is-taken-requires
-    same-length-2
+    (λ c κs. search needs)
+    (λ c. search needs)
     returns-2
-    mark-requires
-    same-length-3
+    (λ c κs. search needs)
+    (λ c. search needs)
     returns-3)

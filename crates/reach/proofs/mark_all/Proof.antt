@@ -8,17 +8,8 @@ use Rattle.reach.proofs.mark_all.Tie as tie
 shared-slice-read-first-parent : tie.Need-shared-slice-read-first-parent
 shared-slice-read-first-parent c = omega (arith, sound-words _ (c .before .before .before .pre .0))
 
-first-parent-requires : tie.Need-first-parent-requires
-first-parent-requires c κs = search needs
-
 shared-slice-read-first-parent-2 : tie.Need-shared-slice-read-first-parent-2
 shared-slice-read-first-parent-2 c = omega (arith, sound-words _ (c .before .before .before .before .before .pre .0))
-
-first-parent-requires-2 : tie.Need-first-parent-requires-2
-first-parent-requires-2 c κs = search needs
-
-mark-along-requires : tie.Need-mark-along-requires
-mark-along-requires c κs = search needs
 
 mark-along-requires-2 : tie.Need-mark-along-requires-2
 mark-along-requires-2 c κs =
@@ -26,21 +17,15 @@ mark-along-requires-2 c κs =
     let s = m .before .before .before .before .before .before .before .before in
     (s .pre .0, m .mark-along .ensures)
 
-same-length : tie.Need-same-length
-same-length c = search needs
-
-returns : tie.Need-returns
-returns c = search needs
-
 pub mark-all-spec : {M : Type 1} → statement M
 mark-all-spec =
     tie.close
     (tie.spec
     shared-slice-read-first-parent
-    first-parent-requires
+    (λ c κs. search needs)
     shared-slice-read-first-parent-2
-    first-parent-requires-2
-    mark-along-requires
+    (λ c κs. search needs)
+    (λ c κs. search needs)
     mark-along-requires-2
-    same-length
-    returns)
+    (λ c. search needs)
+    (λ c. search needs))

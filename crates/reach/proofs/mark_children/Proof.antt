@@ -6,33 +6,6 @@ use borrow.Author.Needs.{needs}
 use Rattle.reach.proofs.mark_children.Statement.{statement}
 use Rattle.reach.proofs.mark_children.Tie as tie
 
-word-requires : tie.Need-word-requires
-word-requires c κs = search needs
-
-returns : tie.Need-returns
-returns c = search needs
-
-is-taken-requires : tie.Need-is-taken-requires
-is-taken-requires c κs = search needs
-
-returns-2 : tie.Need-returns-2
-returns-2 c = search needs
-
-read-requires : tie.Need-read-requires
-read-requires c κs = search needs
-
-word-requires-2 : tie.Need-word-requires-2
-word-requires-2 c κs = search needs
-
-gather-requires : tie.Need-gather-requires
-gather-requires c κs = search needs
-
-mark-ways-requires : tie.Need-mark-ways-requires
-mark-ways-requires c κs = search needs
-
-same-length : tie.Need-same-length
-same-length c = search needs
-
 returns-3 : tie.Need-returns-3
 returns-3 c =
     let s = c .before .before .before .before .before .before .before .before .before .before .before .before .before in
@@ -49,13 +22,13 @@ pub mark-children-spec : {M : Type 1} → statement M
 mark-children-spec =
     tie.close
     (tie.spec
-    word-requires
-    returns
-    is-taken-requires
-    returns-2
-    read-requires
-    word-requires-2
-    gather-requires
-    mark-ways-requires
-    same-length
+    (λ c κs. search needs)
+    (λ c. search needs)
+    (λ c κs. search needs)
+    (λ c. search needs)
+    (λ c κs. search needs)
+    (λ c κs. search needs)
+    (λ c κs. search needs)
+    (λ c κs. search needs)
+    (λ c. search needs)
     returns-3)

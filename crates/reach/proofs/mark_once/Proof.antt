@@ -11,23 +11,8 @@ shared-slice-read-has c = omega (arith, sound-words _ (c .before .before .before
 has-requires : tie.Need-has-requires
 has-requires c κs = let p = c .before .before .before .before .pre in omega (arith, root-few _ (p .0), p .1 .0)
 
-same-length : tie.Need-same-length
-same-length c = search needs
-
-returns : tie.Need-returns
-returns c = search needs
-
-mark-all-requires : tie.Need-mark-all-requires
-mark-all-requires c κs = search needs
-
 shared-slice-read-mark : tie.Need-shared-slice-read-mark
 shared-slice-read-mark c = omega (arith, sound-words _ (c .before .before .before .before .before .before .before .before .before .before .before .before .pre .0))
-
-mark-requires : tie.Need-mark-requires
-mark-requires c κs = search needs
-
-same-length-2 : tie.Need-same-length-2
-same-length-2 c = search needs
 
 returns-2 : tie.Need-returns-2
 returns-2 c =
@@ -40,10 +25,10 @@ mark-once-spec =
     (tie.spec
     shared-slice-read-has
     has-requires
-    same-length
-    returns
-    mark-all-requires
+    (λ c. search needs)
+    (λ c. search needs)
+    (λ c κs. search needs)
     shared-slice-read-mark
-    mark-requires
-    same-length-2
+    (λ c κs. search needs)
+    (λ c. search needs)
     returns-2)

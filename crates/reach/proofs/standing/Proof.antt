@@ -17,32 +17,14 @@ abbrev μ-loop : tie.MeasureT-loop
 abbrev turn : tie.After-moved Inv-loop μ-loop → tie.In-loop Inv-loop μ-loop
 turn c = c .before
 
-word-requires : tie.Need-word-requires Inv-loop μ-loop
-word-requires c κs = search needs
-
 loop-holds : tie.Need-loop-holds Inv-loop μ-loop
 loop-holds c = on-top _ _ _ _ _ (c .word .ensures)
-
-moved-requires : tie.Need-moved-requires Inv-loop μ-loop
-moved-requires c κs = search needs
-
-down-requires : tie.Need-down-requires Inv-loop μ-loop
-down-requires c κs = search needs
-
-sub-l : tie.Need-sub-l Inv-loop μ-loop
-sub-l c = search needs
-
-loop-less : tie.Need-loop-less Inv-loop μ-loop
-loop-less c = search needs
 
 loop-again : tie.Need-loop-again Inv-loop μ-loop
 loop-again c =
     let m = c .before in
     let i = turn m in
     on-lower _ _ (i .before .loop .n) _ _ _ _ (i .loop-test .taken) (m .moved .ensures) (c .down .ensures) ∙ i .before .loop .inv
-
-moved-requires-2 : tie.Need-moved-requires-2 Inv-loop μ-loop
-moved-requires-2 c κs = search needs
 
 returns : tie.Need-returns Inv-loop μ-loop
 returns c =
@@ -55,12 +37,12 @@ standing-spec =
     (tie.spec
     Inv-loop
     μ-loop
-    word-requires
+    (λ c κs. search needs)
     loop-holds
-    moved-requires
-    down-requires
-    sub-l
-    loop-less
+    (λ c κs. search needs)
+    (λ c κs. search needs)
+    (λ c. search needs)
+    (λ c. search needs)
     loop-again
-    moved-requires-2
+    (λ c κs. search needs)
     returns)

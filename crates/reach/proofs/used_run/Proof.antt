@@ -13,32 +13,14 @@ asked c = c .before .before .before
 
 -- ---- the answers
 
-is-used-requires : tie.Need-is-used-requires
-is-used-requires c κs = search needs
-
-same-length : tie.Need-same-length
-same-length c = search needs
-
 returns : tie.Need-returns
 returns c = let u = c .before .before .before .is-used .ensures in (used-none _ _ (sym (u .0) ∙ not-true _ (c .if1 .taken)), u .1)
-
-same-length-2 : tie.Need-same-length-2
-same-length-2 c = search needs
 
 returns-2 : tie.Need-returns-2
 returns-2 c = let e = c .before in let u = asked e .is-used .ensures in (used-one _ _ (sym (u .0) ∙ not-false _ (e .if1 .left)), u .1)
 
-full-requires : tie.Need-full-requires
-full-requires c κs = search needs
-
-same-length-3 : tie.Need-same-length-3
-same-length-3 c = search needs
-
 returns-3 : tie.Need-returns-3
 returns-3 c = let e = c .before .before .before .before in let u = asked e .is-used .ensures in (used-one _ _ (sym (u .0) ∙ not-false _ (e .if1 .left)), u .1)
-
-same-length-4 : tie.Need-same-length-4
-same-length-4 c = search needs
 
 returns-4 : tie.Need-returns-4
 returns-4 c = let f = c .before in let d = f .before .before in let u = asked (d .before) .is-used .ensures in
@@ -48,13 +30,13 @@ pub used-run-spec : {M : Type 1} → statement M
 used-run-spec =
     tie.close
     (tie.spec
-    is-used-requires
-    same-length
+    (λ c κs. search needs)
+    (λ c. search needs)
     returns
-    same-length-2
+    (λ c. search needs)
     returns-2
-    full-requires
-    same-length-3
+    (λ c κs. search needs)
+    (λ c. search needs)
     returns-3
-    same-length-4
+    (λ c. search needs)
     returns-4)

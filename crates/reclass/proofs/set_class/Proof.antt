@@ -76,21 +76,6 @@ begun c =
 
 -- ---- the answers
 
-judge-requires : tie.Need-judge-requires
-judge-requires c κs = search needs
-
-enum-known-judgement : tie.Need-enum-known-judgement
-enum-known-judgement c = search needs
-
-enum-known-judgement-2 : tie.Need-enum-known-judgement-2
-enum-known-judgement-2 c = search needs
-
-class-ok-requires : tie.Need-class-ok-requires
-class-ok-requires c κs = search needs
-
-same-length : tie.Need-same-length
-same-length c = search needs
-
 returns : tie.Need-returns
 returns c = refused-call _ _ _ _ 14 (λ z. omega arith) (class-refused (passed (ready (c .before))) (c .before .class-ok .ensures) (not-true _ (c .if1 .taken)))
 
@@ -100,18 +85,12 @@ root-of-requires c κs = let p = passed (ready (c .before .before)) in (sound-he
 has-key-requires : tie.Need-has-key-requires
 has-key-requires c κs = tree-sound (passed (ready (tried c))) (tried c .class-ok .ensures) (not-false _ (looked c .if1 .left)) (c .root-of .ensures)
 
-same-length-2 : tie.Need-same-length-2
-same-length-2 c = search needs
-
 returns-2 : tie.Need-returns-2
 returns-2 c =
     let h = c .before in
     let r = read h in
     refused-call _ _ _ _ 9 (λ z. omega arith)
     (key-refused (passed (ready (tried r))) (tried r .class-ok .ensures) (not-false _ (looked r .if1 .left)) (r .root-of .ensures) (h .has-key .ensures) (not-true _ (c .if2 .taken)))
-
-begin-requires : tie.Need-begin-requires
-begin-requires c κs = search needs
 
 mend-requires : tie.Need-mend-requires
 mend-requires c κs = let f = passed (told c) .found in (f .is-sound, (f .leftover-is, mend-room (begun c)))
@@ -122,9 +101,6 @@ root-of-requires-2 c κs =
     let b = begun (m .before) in
     let g = m .mend .ensures in
     (mended-header b g, mended-collection b g)
-
-standing-requires : tie.Need-standing-requires
-standing-requires c κs = search needs
 
 set-class-requires : tie.Need-set-class-requires
 set-class-requires c κs =
@@ -148,17 +124,8 @@ finish-requires c κs =
     let g = m .mend .ensures in
     finish-room b g (class-stored b g (r .root-of2 .ensures) (s .standing .ensures) (o .set-class .ensures))
 
-same-length-3 : tie.Need-same-length-3
-same-length-3 c = search needs
-
 returns-3 : tie.Need-returns-3
 returns-3 c = let j = refused c in judge-refuses _ _ _ _ _ (sym (j .before .before .judge .ensures) ∙ j .judgement .given .1)
-
-same-length-4 : tie.Need-same-length-4
-same-length-4 c = search needs
-
-same-length-5 : tie.Need-same-length-5
-same-length-5 c = search needs
 
 returns-4 : tie.Need-returns-4
 returns-4 c =
@@ -175,24 +142,24 @@ pub set-class-spec : {M : Type 1} → statement M
 set-class-spec =
     tie.close
     (tie.spec
-    judge-requires
-    enum-known-judgement
-    enum-known-judgement-2
-    class-ok-requires
-    same-length
+    (λ c κs. search needs)
+    (λ c. search needs)
+    (λ c. search needs)
+    (λ c κs. search needs)
+    (λ c. search needs)
     returns
     root-of-requires
     has-key-requires
-    same-length-2
+    (λ c. search needs)
     returns-2
-    begin-requires
+    (λ c κs. search needs)
     mend-requires
     root-of-requires-2
-    standing-requires
+    (λ c κs. search needs)
     set-class-requires
     finish-requires
-    same-length-3
+    (λ c. search needs)
     returns-3
-    same-length-4
-    same-length-5
+    (λ c. search needs)
+    (λ c. search needs)
     returns-4)

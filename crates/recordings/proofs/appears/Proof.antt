@@ -35,9 +35,6 @@ here c = let a = c .before .before .before .before .args in own (view (a .table 
 abbrev later : tie.At-loop Inv-loop μ-loop → List Slot
 later c = let a = c .before .before .before .before .args in ownFrom (view (a .table .now)) (a .marks .now) (c .loop .n + 1) (c .before .word-at .result + 1 - (c .loop .n + 1))
 
-word-at-requires : tie.Need-word-at-requires Inv-loop μ-loop
-word-at-requires c κs = search needs
-
 loop-holds : tie.Need-loop-holds Inv-loop μ-loop
 loop-holds c = refl
 
@@ -56,9 +53,6 @@ returns c =
 add-n : tie.Need-add-n Inv-loop μ-loop
 add-n c = let s = c .before .before .before .before .before .before .before .before in omega (arith, few-nodes _ _ _ (s .pre .0) (c .before .before .before .before .before .word-at .ensures) (c .before .before .before .loop-test .taken))
 
-loop-less : tie.Need-loop-less Inv-loop μ-loop
-loop-less c = search needs
-
 loop-again : tie.Need-loop-again Inv-loop μ-loop
 loop-again c =
     let l = c .before .before .before .before in
@@ -74,12 +68,12 @@ appears-spec =
     (tie.spec
     Inv-loop
     μ-loop
-    word-at-requires
+    (λ c κs. search needs)
     loop-holds
     ways-requires
     repeats-requires
     returns
     add-n
-    loop-less
+    (λ c. search needs)
     loop-again
     returns-2)

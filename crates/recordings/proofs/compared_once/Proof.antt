@@ -39,9 +39,6 @@ compared c =
     c .leaf-once .ensures ∙ ap (λ (ss : List Slot). onceBefore (map recording ss) (map recording (later l (nodes (l .before .before .before .before .args .table .now))))) (c .before .ways .ensures .0)
     ∙ ap (λ (k : ℕ). onceBefore (map recording (here l)) (map recording (later l k))) (sym (l .before .word-at .ensures))
 
-word-at-requires : tie.Need-word-at-requires Inv-loop μ-loop
-word-at-requires c κs = search needs
-
 loop-holds : tie.Need-loop-holds Inv-loop μ-loop
 loop-holds c = row-all comes _ _ _ (c .word-at .ensures)
 
@@ -62,9 +59,6 @@ returns c =
 add-n : tie.Need-add-n Inv-loop μ-loop
 add-n c = let s = c .before .before .before .before .before .before .before .before in omega (arith, few-nodes _ _ _ (s .pre .0) (c .before .before .before .before .before .word-at .ensures) (c .before .before .before .loop-test .taken))
 
-loop-less : tie.Need-loop-less Inv-loop μ-loop
-loop-less c = search needs
-
 loop-again : tie.Need-loop-again Inv-loop μ-loop
 loop-again c =
     let l = c .before .before .before .before in
@@ -79,13 +73,13 @@ compared-once-spec =
     (tie.spec
     Inv-loop
     μ-loop
-    word-at-requires
+    (λ c κs. search needs)
     loop-holds
     ways-requires
     add-leaf-once
     leaf-once-requires
     returns
     add-n
-    loop-less
+    (λ c. search needs)
     loop-again
     returns-2)

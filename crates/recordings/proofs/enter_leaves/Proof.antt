@@ -33,9 +33,6 @@ comes c ss = let a = c .before .before .before .before .before .before .args in 
 abbrev here : tie.At-loop Inv-loop μ-loop → List Slot
 here c = let a = c .before .before .before .before .before .before .args in own (view (a .table .now)) (a .marks .now) (c .loop .n)
 
-last-marked-requires : tie.Need-last-marked-requires Inv-loop μ-loop
-last-marked-requires c κs = search needs
-
 loop-holds : tie.Need-loop-holds Inv-loop μ-loop
 loop-holds c =
     let s = c .before .before .before .before .before in
@@ -45,21 +42,6 @@ loop-holds c =
 leaf-requires : tie.Need-leaf-requires Inv-loop μ-loop
 leaf-requires c κs = let s = c .before .before .before .before .before .before .before in (s .pre .1 .1 .1, few-marked _ _ _ _ (s .pre .1 .1 .0) (c .before .before .last-marked .ensures) (c .loop-test .taken))
 
-word-requires : tie.Need-word-requires Inv-loop μ-loop
-word-requires c κs = search needs
-
-enter-leaf-requires : tie.Need-enter-leaf-requires Inv-loop μ-loop
-enter-leaf-requires c κs = search needs
-
-enum-told : tie.Need-enum-told Inv-loop μ-loop
-enum-told c = search needs
-
-enum-told-2 : tie.Need-enum-told-2 Inv-loop μ-loop
-enum-told-2 c = search needs
-
-same-length : tie.Need-same-length Inv-loop μ-loop
-same-length c = search needs
-
 returns : tie.Need-returns Inv-loop μ-loop
 returns c =
     let l = c .before .before .before .before .before .before .before .before .before in
@@ -67,12 +49,6 @@ returns c =
     let kept = leaf-kept _ _ _ (x .result) _ (x .ensures) (c .before .before .before .before .before .before .word .ensures) in
     row-more (comes l) _ _ (l .loop .n) _ (l .loop .inv .1) (c .before .before .before .before .before .before .before .before .loop-test .taken)
     (enter-last (here l) _ _ (l .loop .cells) _ _ (c .before .before .before .before .enter-leaf .ensures ∙ ap (comes l) kept) Known known-last (c .enum-told2 .given .1))
-
-enum-told-3 : tie.Need-enum-told-3 Inv-loop μ-loop
-enum-told-3 c = search needs
-
-same-length-2 : tie.Need-same-length-2 Inv-loop μ-loop
-same-length-2 c = search needs
 
 returns-2 : tie.Need-returns-2 Inv-loop μ-loop
 returns-2 c =
@@ -88,9 +64,6 @@ add-n c =
     let l = i .before .before in
     omega (arith, few-marked _ _ _ _ (l .before .before .before .before .before .pre .1 .1 .0) (l .last-marked .ensures) (i .loop-test .taken))
 
-loop-less : tie.Need-loop-less Inv-loop μ-loop
-loop-less c = search needs
-
 loop-again : tie.Need-loop-again Inv-loop μ-loop
 loop-again c =
     let l = c .before .before .before .before .before .before .before .before .before in
@@ -101,9 +74,6 @@ loop-again c =
           (enter-next (here l) _ _ (l .loop .cells) _ _ (c .before .before .before .before .enter-leaf .ensures ∙ ap (comes l) kept) (c .enum-told .given .1)),
     )
 
-same-length-3 : tie.Need-same-length-3 Inv-loop μ-loop
-same-length-3 c = search needs
-
 returns-3 : tie.Need-returns-3 Inv-loop μ-loop
 returns-3 c = let l = c .before in enter-none _ _ ∙ row-end (comes l) _ _ (l .loop .n) _ (l .loop .inv .1) (c .loop-test .left)
 
@@ -113,20 +83,20 @@ enter-leaves-spec =
     (tie.spec
     Inv-loop
     μ-loop
-    last-marked-requires
+    (λ c κs. search needs)
     loop-holds
     leaf-requires
-    word-requires
-    enter-leaf-requires
-    enum-told
-    enum-told-2
-    same-length
+    (λ c κs. search needs)
+    (λ c κs. search needs)
+    (λ c. search needs)
+    (λ c. search needs)
+    (λ c. search needs)
     returns
-    enum-told-3
-    same-length-2
+    (λ c. search needs)
+    (λ c. search needs)
     returns-2
     add-n
-    loop-less
+    (λ c. search needs)
     loop-again
-    same-length-3
+    (λ c. search needs)
     returns-3)

@@ -13,24 +13,12 @@ use Rattle.recordings.proofs.enter_slot.Tie as tie
 returns : tie.Need-returns
 returns c = let a = c .before .before .before .args in enter-past (a .kept) (suspect (a .round) (a .twice .now)) (recordingOf (a .pointer)) (a .cells .now) (not-true _ (c .if1 .taken))
 
-recording-requires : tie.Need-recording-requires
-recording-requires c κs = search needs
-
-is-suspect-requires : tie.Need-is-suspect-requires
-is-suspect-requires c κs = search needs
-
 returns-2 : tie.Need-returns-2
 returns-2 c =
     let a = c .before .before .before .before .before .before .args in
     let q = suspect (a .round) (a .twice .now) in
     let s = sym (ap q (c .before .before .recording .ensures)) ∙ sym (c .before .is-suspect .ensures) ∙ not-true _ (c .if2 .taken) in
     enter-kept (a .kept) q (recordingOf (a .pointer)) (a .cells .now) _ (not-false _ (c .before .before .before .if1 .left)) (sym (if-no q _ _ s))
-
-enter-requires : tie.Need-enter-requires
-enter-requires c κs = search needs
-
-same-length : tie.Need-same-length
-same-length c = search needs
 
 returns-3 : tie.Need-returns-3
 returns-3 c =
@@ -46,9 +34,9 @@ enter-slot-spec =
     tie.close
     (tie.spec
     returns
-    recording-requires
-    is-suspect-requires
+    (λ c κs. search needs)
+    (λ c κs. search needs)
     returns-2
-    enter-requires
-    same-length
+    (λ c κs. search needs)
+    (λ c. search needs)
     returns-3)

@@ -8,30 +8,12 @@ use borrow.Author.Needs.{needs}
 use Rattle.recordings.proofs.hit.Statement.{statement}
 use Rattle.recordings.proofs.hit.Tie as tie
 
-has-requires : tie.Need-has-requires
-has-requires c κs = search needs
-
-put-requires : tie.Need-put-requires
-put-requires c κs = search needs
-
-same-length : tie.Need-same-length
-same-length c = search needs
-
-same-length-2 : tie.Need-same-length-2
-same-length-2 c = search needs
-
 returns : tie.Need-returns
 returns c =
     let a = c .before .before .before .before .before .before .before .before .before .args in
     let i = c .before .before .before .before in
     ap (λ (w : Words). hits (a .once .now) w true) (c .before .before .put .ensures)
     ∙ sym (hit-later (a .at) (hits (a .once .now) (a .twice .now) (a .crowded)) (sym (i .before .has .ensures) ∙ i .if1 .taken))
-
-put-requires-2 : tie.Need-put-requires-2
-put-requires-2 c κs = search needs
-
-same-length-3 : tie.Need-same-length-3
-same-length-3 c = search needs
 
 returns-2 : tie.Need-returns-2
 returns-2 c =
@@ -44,11 +26,11 @@ pub hit-spec : {M : Type 1} → statement M
 hit-spec =
     tie.close
     (tie.spec
-    has-requires
-    put-requires
-    same-length
-    same-length-2
+    (λ c κs. search needs)
+    (λ c κs. search needs)
+    (λ c. search needs)
+    (λ c. search needs)
     returns
-    put-requires-2
-    same-length-3
+    (λ c κs. search needs)
+    (λ c. search needs)
     returns-2)

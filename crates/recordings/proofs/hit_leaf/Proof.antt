@@ -32,47 +32,8 @@ comes c ss =
 loop-holds : tie.Need-loop-holds Inv-loop μ-loop
 loop-holds c = let s = c .before .before .before .before .pre in (omega arith, search needs, s .1 .0, s .1 .1, refl)
 
-mul-p : tie.Need-mul-p Inv-loop μ-loop
-mul-p c = search needs
-
-add-p : tie.Need-add-p Inv-loop μ-loop
-add-p c = search needs
-
-mul-p-2 : tie.Need-mul-p-2 Inv-loop μ-loop
-mul-p-2 c = search needs
-
-array-read-p : tie.Need-array-read-p Inv-loop μ-loop
-array-read-p c = search needs
-
-same-length : tie.Need-same-length Inv-loop μ-loop
-same-length c = search needs
-
-same-length-2 : tie.Need-same-length-2 Inv-loop μ-loop
-same-length-2 c = search needs
-
 returns : tie.Need-returns Inv-loop μ-loop
 returns c = let l = c .before .before in hit-none _ _ (l .loop .before) _ _ _ ∙ scan-stop (comes l) _ (l .loop .i) (l .loop .inv .4) (omega arith) (c .if1 .taken)
-
-mul-is-way : tie.Need-mul-is-way Inv-loop μ-loop
-mul-is-way c = search needs
-
-mul-is-way-2 : tie.Need-mul-is-way-2 Inv-loop μ-loop
-mul-is-way-2 c = search needs
-
-array-read-is-way : tie.Need-array-read-is-way Inv-loop μ-loop
-array-read-is-way c = search needs
-
-is-way-requires : tie.Need-is-way-requires Inv-loop μ-loop
-is-way-requires c κs = search needs
-
-hit-slot-requires : tie.Need-hit-slot-requires Inv-loop μ-loop
-hit-slot-requires c κs = search needs
-
-add-i : tie.Need-add-i Inv-loop μ-loop
-add-i c = search needs
-
-loop-less : tie.Need-loop-less Inv-loop μ-loop
-loop-less c = search needs
 
 loop-again : tie.Need-loop-again Inv-loop μ-loop
 loop-again c =
@@ -86,12 +47,6 @@ loop-again c =
           (hit-more _ _ _ _ _ _ _ (c .before .before .before .before .before .before .before .is-way .ensures) _ _ _ _ (c .before .before .before .before .hit-slot .ensures)),
     )
 
-same-length-3 : tie.Need-same-length-3 Inv-loop μ-loop
-same-length-3 c = search needs
-
-same-length-4 : tie.Need-same-length-4 Inv-loop μ-loop
-same-length-4 c = search needs
-
 returns-2 : tie.Need-returns-2 Inv-loop μ-loop
 returns-2 c = let l = c .before in hit-none _ _ (l .loop .before) _ _ _ ∙ scan-past (comes l) _ (l .loop .i) (l .loop .inv .4) (omega arith)
 
@@ -102,21 +57,21 @@ hit-leaf-spec =
     Inv-loop
     μ-loop
     loop-holds
-    mul-p
-    add-p
-    mul-p-2
-    array-read-p
-    same-length
-    same-length-2
+    (λ c. search needs)
+    (λ c. search needs)
+    (λ c. search needs)
+    (λ c. search needs)
+    (λ c. search needs)
+    (λ c. search needs)
     returns
-    mul-is-way
-    mul-is-way-2
-    array-read-is-way
-    is-way-requires
-    hit-slot-requires
-    add-i
-    loop-less
+    (λ c. search needs)
+    (λ c. search needs)
+    (λ c. search needs)
+    (λ c κs. search needs)
+    (λ c κs. search needs)
+    (λ c. search needs)
+    (λ c. search needs)
     loop-again
-    same-length-3
-    same-length-4
+    (λ c. search needs)
+    (λ c. search needs)
     returns-2)

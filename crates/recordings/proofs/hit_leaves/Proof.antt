@@ -27,9 +27,6 @@ abbrev μ-loop : tie.MeasureT-loop
 abbrev comes : tie.At-loop Inv-loop μ-loop → List Slot → Hits
 comes c ss = let a = c .before .before .before .before .before .before .before .args in let l = c .loop in hitAll (suspect (a .round) (a .olds .now)) (placeOf (a .round)) (map recording ss) (hits (l .once) (l .twice) (l .crowded))
 
-last-marked-requires : tie.Need-last-marked-requires Inv-loop μ-loop
-last-marked-requires c κs = search needs
-
 loop-holds : tie.Need-loop-holds Inv-loop μ-loop
 loop-holds c =
     let s = c .before .before .before .before .before .before in
@@ -39,20 +36,11 @@ loop-holds c =
 leaf-requires : tie.Need-leaf-requires Inv-loop μ-loop
 leaf-requires c κs = let s = c .before .before .before .before .before .before .before .before in (s .pre .1 .1 .1 .1, few-marked _ _ _ _ (s .pre .1 .1 .1 .0) (c .before .before .last-marked .ensures) (c .loop-test .taken))
 
-word-requires : tie.Need-word-requires Inv-loop μ-loop
-word-requires c κs = search needs
-
-hit-leaf-requires : tie.Need-hit-leaf-requires Inv-loop μ-loop
-hit-leaf-requires c κs = search needs
-
 add-n : tie.Need-add-n Inv-loop μ-loop
 add-n c =
     let i = c .before .before .before .before .before .before .before .before .before in
     let l = i .before .before in
     omega (arith, few-marked _ _ _ _ (l .before .before .before .before .before .before .pre .1 .1 .1 .0) (l .last-marked .ensures) (i .loop-test .taken))
-
-loop-less : tie.Need-loop-less Inv-loop μ-loop
-loop-less c = search needs
 
 loop-again : tie.Need-loop-again Inv-loop μ-loop
 loop-again c =
@@ -66,12 +54,6 @@ loop-again c =
           (hit-next (own (view (a .table .now)) (a .marks .now) (l .loop .n)) _ _ _ (hits (l .loop .once) (l .loop .twice) (l .loop .crowded)) _ (c .before .before .before .before .hit-leaf .ensures ∙ ap (comes l) kept)),
     )
 
-same-length : tie.Need-same-length Inv-loop μ-loop
-same-length c = search needs
-
-same-length-2 : tie.Need-same-length-2 Inv-loop μ-loop
-same-length-2 c = search needs
-
 returns : tie.Need-returns Inv-loop μ-loop
 returns c = let l = c .before in hit-none _ _ _ ∙ row-end (comes l) _ _ (l .loop .n) _ (l .loop .inv .2) (c .loop-test .left)
 
@@ -81,14 +63,14 @@ hit-leaves-spec =
     (tie.spec
     Inv-loop
     μ-loop
-    last-marked-requires
+    (λ c κs. search needs)
     loop-holds
     leaf-requires
-    word-requires
-    hit-leaf-requires
+    (λ c κs. search needs)
+    (λ c κs. search needs)
     add-n
-    loop-less
+    (λ c. search needs)
     loop-again
-    same-length
-    same-length-2
+    (λ c. search needs)
+    (λ c. search needs)
     returns)

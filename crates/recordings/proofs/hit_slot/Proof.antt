@@ -15,12 +15,6 @@ returns c =
     let a = c .before .before .before .before .args in
     hit-past (a .kept) (suspect (a .round) (a .olds .now)) (placeOf (a .round)) (recordingOf (a .pointer)) (hits (a .once .now) (a .twice .now) (a .crowded)) (not-true _ (c .if1 .taken))
 
-recording-requires : tie.Need-recording-requires
-recording-requires c κs = search needs
-
-is-suspect-requires : tie.Need-is-suspect-requires
-is-suspect-requires c κs = search needs
-
 returns-2 : tie.Need-returns-2
 returns-2 c =
     let a = c .before .before .before .before .before .before .before .args in
@@ -28,18 +22,6 @@ returns-2 c =
     let h = hits (a .once .now) (a .twice .now) (a .crowded) in
     let s = sym (ap q (c .before .before .recording .ensures)) ∙ sym (c .before .is-suspect .ensures) ∙ not-true _ (c .if2 .taken) in
     hit-kept (a .kept) q (placeOf (a .round)) (recordingOf (a .pointer)) h _ (not-false _ (c .before .before .before .if1 .left)) (sym (if-no q (placeOf (a .round)) _ h s))
-
-place-requires : tie.Need-place-requires
-place-requires c κs = search needs
-
-hit-requires : tie.Need-hit-requires
-hit-requires c κs = search needs
-
-same-length : tie.Need-same-length
-same-length c = search needs
-
-same-length-2 : tie.Need-same-length-2
-same-length-2 c = search needs
 
 returns-3 : tie.Need-returns-3
 returns-3 c =
@@ -56,11 +38,11 @@ hit-slot-spec =
     tie.close
     (tie.spec
     returns
-    recording-requires
-    is-suspect-requires
+    (λ c κs. search needs)
+    (λ c κs. search needs)
     returns-2
-    place-requires
-    hit-requires
-    same-length
-    same-length-2
+    (λ c κs. search needs)
+    (λ c κs. search needs)
+    (λ c. search needs)
+    (λ c. search needs)
     returns-3)

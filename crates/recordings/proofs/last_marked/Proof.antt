@@ -15,9 +15,6 @@ Inv-loop table marks m₀ m = LastMarked (nodes table) marks m
 abbrev μ-loop : tie.MeasureT-loop
 μ-loop table marks m₀ m = m
 
-word-at-requires : tie.Need-word-at-requires Inv-loop μ-loop
-word-at-requires c κs = search needs
-
 loop-holds : tie.Need-loop-holds Inv-loop μ-loop
 loop-holds c = from-last _ _ _ (c .word-at .ensures)
 
@@ -29,9 +26,6 @@ returns c = c .before .before .before .loop .inv
 
 returns-2 : tie.Need-returns-2 Inv-loop μ-loop
 returns-2 c = let u = c .before .before in lower _ _ _ _ 0 (u .before .before .loop .inv) (u .unmarked .ensures .0) (omega arith) (omega (arith, c .if2 .taken))
-
-loop-less : tie.Need-loop-less Inv-loop μ-loop
-loop-less c = search needs
 
 loop-again : tie.Need-loop-again Inv-loop μ-loop
 loop-again c = let u = c .before .before in lower _ _ _ _ _ (u .before .before .loop .inv) (u .unmarked .ensures .0) (omega arith) (omega (arith, c .if2 .left))
@@ -45,11 +39,11 @@ last-marked-spec =
     (tie.spec
     Inv-loop
     μ-loop
-    word-at-requires
+    (λ c κs. search needs)
     loop-holds
     unmarked-requires
     returns
     returns-2
-    loop-less
+    (λ c. search needs)
     loop-again
     returns-3)

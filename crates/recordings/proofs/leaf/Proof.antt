@@ -6,29 +6,11 @@ use borrow.Author.Needs.{needs}
 use Rattle.recordings.proofs.leaf.Statement.{statement}
 use Rattle.recordings.proofs.leaf.Tie as tie
 
-has-requires : tie.Need-has-requires
-has-requires c κs = search needs
-
-read-requires : tie.Need-read-requires
-read-requires c κs = search needs
-
 returns : tie.Need-returns
 returns c = leaf-unmarked _ _ _ _ (c .read .ensures) (sym (c .before .before .has .ensures) ∙ not-true _ (c .before .if1 .taken))
 
-word-requires : tie.Need-word-requires
-word-requires c κs = search needs
-
-read-requires-2 : tie.Need-read-requires-2
-read-requires-2 c κs = search needs
-
 returns-2 : tie.Need-returns-2
 returns-2 c = leaf-inner _ _ _ _ (c .read2 .ensures) (sym (c .before .before .before .before .has .ensures) ∙ not-false _ (c .before .before .before .if1 .left)) _ (c .before .before .word .ensures) (c .before .if2 .taken)
-
-read-requires-3 : tie.Need-read-requires-3
-read-requires-3 c κs = search needs
-
-shared-slice-read-if3 : tie.Need-shared-slice-read-if3
-shared-slice-read-if3 c = search needs
 
 returns-3 : tie.Need-returns-3
 returns-3 c =
@@ -46,13 +28,13 @@ pub leaf-spec : {M : Type 1} → statement M
 leaf-spec =
     tie.close
     (tie.spec
-    has-requires
-    read-requires
+    (λ c κs. search needs)
+    (λ c κs. search needs)
     returns
-    word-requires
-    read-requires-2
+    (λ c κs. search needs)
+    (λ c κs. search needs)
     returns-2
-    read-requires-3
-    shared-slice-read-if3
+    (λ c κs. search needs)
+    (λ c. search needs)
     returns-3
     returns-4)

@@ -26,38 +26,8 @@ abbrev μ-loop : tie.MeasureT-loop
 abbrev comes : tie.At-loop Inv-loop μ-loop → List Slot → Bool
 comes c ss = let a = c .before .before .args in all pairOk (keptOf (a .x .sibling) (a .bound) (shown (c .loop .before) ss))
 
-loop-holds : tie.Need-loop-holds Inv-loop μ-loop
-loop-holds c = search needs
-
-mul-p : tie.Need-mul-p Inv-loop μ-loop
-mul-p c = search needs
-
-add-p : tie.Need-add-p Inv-loop μ-loop
-add-p c = search needs
-
-mul-p-2 : tie.Need-mul-p-2 Inv-loop μ-loop
-mul-p-2 c = search needs
-
-array-read-p : tie.Need-array-read-p Inv-loop μ-loop
-array-read-p c = search needs
-
 returns : tie.Need-returns Inv-loop μ-loop
 returns c = let l = c .before .before in ok-none _ _ (l .loop .before) ∙ scan-stop (comes l) _ (l .loop .i) (l .loop .inv .2) (omega arith) (c .if1 .taken)
-
-mul-is-way : tie.Need-mul-is-way Inv-loop μ-loop
-mul-is-way c = search needs
-
-mul-is-way-2 : tie.Need-mul-is-way-2 Inv-loop μ-loop
-mul-is-way-2 c = search needs
-
-array-read-is-way : tie.Need-array-read-is-way Inv-loop μ-loop
-array-read-is-way c = search needs
-
-is-way-requires : tie.Need-is-way-requires Inv-loop μ-loop
-is-way-requires c κs = search needs
-
-slot-ok-requires : tie.Need-slot-ok-requires Inv-loop μ-loop
-slot-ok-requires c κs = search needs
 
 returns-2 : tie.Need-returns-2 Inv-loop μ-loop
 returns-2 c =
@@ -65,12 +35,6 @@ returns-2 c =
     let e = c .before .before .before in
     scan-more (comes l) _ (l .loop .i) (l .loop .inv .2) (omega arith) (e .if1 .left)
     (ok-wrong _ _ _ _ _ _ _ (c .before .before .is-way .ensures) _ (c .before .slot-ok .ensures) (not-true _ (c .if2 .taken)))
-
-add-i : tie.Need-add-i Inv-loop μ-loop
-add-i c = search needs
-
-loop-less : tie.Need-loop-less Inv-loop μ-loop
-loop-less c = search needs
 
 loop-again : tie.Need-loop-again Inv-loop μ-loop
 loop-again c =
@@ -91,19 +55,19 @@ leaf-ok-spec =
     (tie.spec
     Inv-loop
     μ-loop
-    loop-holds
-    mul-p
-    add-p
-    mul-p-2
-    array-read-p
+    (λ c. search needs)
+    (λ c. search needs)
+    (λ c. search needs)
+    (λ c. search needs)
+    (λ c. search needs)
     returns
-    mul-is-way
-    mul-is-way-2
-    array-read-is-way
-    is-way-requires
-    slot-ok-requires
+    (λ c. search needs)
+    (λ c. search needs)
+    (λ c. search needs)
+    (λ c κs. search needs)
+    (λ c κs. search needs)
     returns-2
-    add-i
-    loop-less
+    (λ c. search needs)
+    (λ c. search needs)
     loop-again
     returns-3)

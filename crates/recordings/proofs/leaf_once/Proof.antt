@@ -27,40 +27,16 @@ loop-holds c = record { few = c .before .before .before .pre .1 .1; after-left =
 abbrev turn : tie.After-appears Inv-loop μ-loop → tie.After-repeats Inv-loop μ-loop
 turn c = c .before .before
 
-mul-recording : tie.Need-mul-recording Inv-loop μ-loop
-mul-recording c = search needs
-
-array-read-recording : tie.Need-array-read-recording Inv-loop μ-loop
-array-read-recording c = search needs
-
-recording-requires : tie.Need-recording-requires Inv-loop μ-loop
-recording-requires c κs = search needs
-
-add-repeats : tie.Need-add-repeats Inv-loop μ-loop
-add-repeats c = search needs
-
-repeats-requires : tie.Need-repeats-requires Inv-loop μ-loop
-repeats-requires c κs = search needs
-
 returns : tie.Need-returns Inv-loop μ-loop
 returns c =
     let r = c .before in
     let n = r .before in
     once-repeats (n .before .before .loop .inv) (n .before .loop-test .taken) _ (n .recording .ensures) _ (c .if1 .taken) (r .repeats .ensures)
 
-appears-requires : tie.Need-appears-requires Inv-loop μ-loop
-appears-requires c κs = search needs
-
 returns-2 : tie.Need-returns-2 Inv-loop μ-loop
 returns-2 c =
     let n = turn (c .before) .before in
     once-appears (n .before .before .loop .inv) (n .before .loop-test .taken) _ (n .recording .ensures) _ (c .if2 .taken) (c .before .appears .ensures)
-
-add-i : tie.Need-add-i Inv-loop μ-loop
-add-i c = search needs
-
-loop-less : tie.Need-loop-less Inv-loop μ-loop
-loop-less c = search needs
 
 loop-again : tie.Need-loop-again Inv-loop μ-loop
 loop-again c =
@@ -79,15 +55,15 @@ leaf-once-spec =
     Inv-loop
     μ-loop
     loop-holds
-    mul-recording
-    array-read-recording
-    recording-requires
-    add-repeats
-    repeats-requires
+    (λ c. search needs)
+    (λ c. search needs)
+    (λ c κs. search needs)
+    (λ c. search needs)
+    (λ c κs. search needs)
     returns
-    appears-requires
+    (λ c κs. search needs)
     returns-2
-    add-i
-    loop-less
+    (λ c. search needs)
+    (λ c. search needs)
     loop-again
     returns-3)

@@ -19,20 +19,11 @@ Inv-loop table marks last n₀ n = all pairOk (ownFrom (view table) marks n (las
 abbrev μ-loop : tie.MeasureT-loop
 μ-loop table marks last n₀ n = last + 1 - n
 
-last-marked-requires : tie.Need-last-marked-requires Inv-loop μ-loop
-last-marked-requires c κs = search needs
-
 loop-holds : tie.Need-loop-holds Inv-loop μ-loop
 loop-holds c = row-marked (all pairOk) _ _ _ (c .last-marked .ensures)
 
 leaf-requires : tie.Need-leaf-requires Inv-loop μ-loop
 leaf-requires c κs = let s = c .before .before .before .before .before in (s .pre .1, few-marked _ _ _ _ (s .pre .0) (c .before .before .last-marked .ensures) (c .loop-test .taken))
-
-word-requires : tie.Need-word-requires Inv-loop μ-loop
-word-requires c κs = search needs
-
-leaf-ok-requires : tie.Need-leaf-ok-requires Inv-loop μ-loop
-leaf-ok-requires c κs = search needs
 
 returns : tie.Need-returns Inv-loop μ-loop
 returns c =
@@ -45,9 +36,6 @@ add-n : tie.Need-add-n Inv-loop μ-loop
 add-n c =
     let l = c .before .before .before .before .before .before in
     omega (arith, few-marked _ _ _ _ (l .before .before .before .pre .0) (l .last-marked .ensures) (c .before .before .before .before .loop-test .taken))
-
-loop-less : tie.Need-loop-less Inv-loop μ-loop
-loop-less c = search needs
 
 loop-again : tie.Need-loop-again Inv-loop μ-loop
 loop-again c =
@@ -65,13 +53,13 @@ pairs-ok-spec =
     (tie.spec
     Inv-loop
     μ-loop
-    last-marked-requires
+    (λ c κs. search needs)
     loop-holds
     leaf-requires
-    word-requires
-    leaf-ok-requires
+    (λ c κs. search needs)
+    (λ c κs. search needs)
     returns
     add-n
-    loop-less
+    (λ c. search needs)
     loop-again
     returns-2)

@@ -22,25 +22,10 @@ found : (c : tie.At-loop Inv-loop μ-loop)
     → let a = c .before .before .args in elem (a .recording) (numbersFrom (a .w .pointers) (c .loop .j) (a .w .count - c .loop .j)) ≡ elem (a .recording) (recordingsFrom (a .w) (a .i))
 found c = let a = c .before .before .args in c .loop .inv .1 ∙ ap (elem (a .recording)) (sym (ways-numbers (a .w) (a .i)))
 
-mul-recording : tie.Need-mul-recording Inv-loop μ-loop
-mul-recording c = search needs
-
-array-read-recording : tie.Need-array-read-recording Inv-loop μ-loop
-array-read-recording c = search needs
-
-recording-requires : tie.Need-recording-requires Inv-loop μ-loop
-recording-requires c κs = search needs
-
 returns : tie.Need-returns Inv-loop μ-loop
 returns c =
     let r = c .before in
     sym (elem-here _ _ (r .before .before .loop .j) _ (r .before .loop-test .taken) (sym (r .recording .ensures) ∙ c .if1 .taken)) ∙ found (r .before .before)
-
-add-j : tie.Need-add-j Inv-loop μ-loop
-add-j c = search needs
-
-loop-less : tie.Need-loop-less Inv-loop μ-loop
-loop-less c = search needs
 
 loop-again : tie.Need-loop-again Inv-loop μ-loop
 loop-again c =
@@ -58,11 +43,11 @@ repeats-spec =
     Inv-loop
     μ-loop
     loop-holds
-    mul-recording
-    array-read-recording
-    recording-requires
+    (λ c. search needs)
+    (λ c. search needs)
+    (λ c κs. search needs)
     returns
-    add-j
-    loop-less
+    (λ c. search needs)
+    (λ c. search needs)
     loop-again
     returns-2)

@@ -12,20 +12,8 @@ start c = c .before .before .before .before .before .before .before .before .bef
 abbrev cleared : tie.After-hit-leaves → tie.After-zero2
 cleared c = c .before .before .before .before .before
 
-zero-requires : tie.Need-zero-requires
-zero-requires c κs = search needs
-
-zero-requires-2 : tie.Need-zero-requires-2
-zero-requires-2 c κs = search needs
-
 hit-leaves-requires : tie.Need-hit-leaves-requires
 hit-leaves-requires c κs = let p = c .before .before .before .before .before .before .before .before .before .before .before .before .before .before .before .pre in (p .0, (search needs, (search needs, (p .1 .1 .1 .0, p .1 .1 .1 .1 .0))))
-
-same-length : tie.Need-same-length
-same-length c = search needs
-
-same-length-2 : tie.Need-same-length-2
-same-length-2 c = search needs
 
 returns : tie.Need-returns
 returns c =
@@ -36,20 +24,8 @@ returns c =
     let e = from-zero _ _ _ (a .once .now) (a .twice .now) _ _ _ (p .1 .0) (p .1 .1 .0) (cleared h .before .before .before .before .zero .ensures) (cleared h .zero2 .ensures) (h .hit-leaves .ensures) in
     (round-apart _ _ _ s _ e (not-true _ (c .if1 .taken)), round-stays _ _ _ s _ e)
 
-zero-requires-3 : tie.Need-zero-requires-3
-zero-requires-3 c κs = search needs
-
-add-enter-leaves : tie.Need-add-enter-leaves
-add-enter-leaves c = search needs
-
 enter-leaves-requires : tie.Need-enter-leaves-requires
 enter-leaves-requires c κs = let p = start (c .before .before .before .before .before .before .before .before .before .before .before) .pre in (search needs, (search needs, (p .1 .1 .1 .0, p .1 .1 .1 .1 .0)))
-
-same-length-3 : tie.Need-same-length-3
-same-length-3 c = search needs
-
-same-length-4 : tie.Need-same-length-4
-same-length-4 c = search needs
 
 returns-2 : tie.Need-returns-2
 returns-2 c =
@@ -65,15 +41,15 @@ pub step-spec : {M : Type 1} → statement M
 step-spec =
     tie.close
     (tie.spec
-    zero-requires
-    zero-requires-2
+    (λ c κs. search needs)
+    (λ c κs. search needs)
     hit-leaves-requires
-    same-length
-    same-length-2
+    (λ c. search needs)
+    (λ c. search needs)
     returns
-    zero-requires-3
-    add-enter-leaves
+    (λ c κs. search needs)
+    (λ c. search needs)
     enter-leaves-requires
-    same-length-3
-    same-length-4
+    (λ c. search needs)
+    (λ c. search needs)
     returns-2)

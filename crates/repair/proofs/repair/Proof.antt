@@ -43,35 +43,14 @@ begun c = record { is-sound = passed c .found .is-sound; accepted = ready-accept
 
 -- ---- the answers
 
-judge-any-requires : tie.Need-judge-any-requires
-judge-any-requires c κs = search needs
-
-enum-known-judgement : tie.Need-enum-known-judgement
-enum-known-judgement c = search needs
-
-enum-known-judgement-2 : tie.Need-enum-known-judgement-2
-enum-known-judgement-2 c = search needs
-
-begin-requires : tie.Need-begin-requires
-begin-requires c κs = search needs
-
 mend-requires : tie.Need-mend-requires
 mend-requires c κs = (passed c .found .is-sound, (passed c .found .leftover-is, mend-room (begun c)))
 
 finish-requires : tie.Need-finish-requires
 finish-requires c κs = let m = mended c in finish-room (begun (m .before)) (m .mend .ensures) (sym (storedAll-nil _))
 
-same-length : tie.Need-same-length
-same-length c = search needs
-
 returns : tie.Need-returns
 returns c = let j = refused c in judge-refuses repair _ _ _ _ (sym (j .before .before .judge-any .ensures) ∙ j .judgement .given .1)
-
-same-length-2 : tie.Need-same-length-2
-same-length-2 c = search needs
-
-same-length-3 : tie.Need-same-length-3
-same-length-3 c = search needs
 
 returns-2 : tie.Need-returns-2
 returns-2 c = let f = finished c in let m = mended (f .before) in done-call (begun (m .before)) (m .mend .ensures) (sym (storedAll-nil _)) (f .finish .ensures)
@@ -80,14 +59,14 @@ pub repair-spec : {M : Type 1} → statement M
 repair-spec =
     tie.close
     (tie.spec
-    judge-any-requires
-    enum-known-judgement
-    enum-known-judgement-2
-    begin-requires
+    (λ c κs. search needs)
+    (λ c. search needs)
+    (λ c. search needs)
+    (λ c κs. search needs)
     mend-requires
     finish-requires
-    same-length
+    (λ c. search needs)
     returns
-    same-length-2
-    same-length-3
+    (λ c. search needs)
+    (λ c. search needs)
     returns-2)

@@ -8,29 +8,11 @@ use Rattle.salvage.proofs.enter_nodes.Tie as tie
 shared-slice-read-tour : tie.Need-shared-slice-read-tour
 shared-slice-read-tour c = let h = words-some _ (c .before .before .before .pre .0) in omega (arith, h)
 
-slice-aggregate-tour : tie.Need-slice-aggregate-tour
-slice-aggregate-tour c = search needs
-
-slice-aggregate-tour-2 : tie.Need-slice-aggregate-tour-2
-slice-aggregate-tour-2 c = search needs
-
-slice-aggregate-tour-3 : tie.Need-slice-aggregate-tour-3
-slice-aggregate-tour-3 c = search needs
-
 tour-requires : tie.Need-tour-requires
 tour-requires c κs = let p = c .before .before .before .before .before .before .before .pre in first-ready _ _ _ (p .0) (p .1) (p .2)
 
 shared-slice-read-tour-2 : tie.Need-shared-slice-read-tour-2
 shared-slice-read-tour-2 c = let h = words-some _ (c .before .before .before .before .before .before .before .before .before .before .before .before .before .before .pre .0) in omega (arith, h)
-
-slice-aggregate-tour-4 : tie.Need-slice-aggregate-tour-4
-slice-aggregate-tour-4 c = search needs
-
-slice-aggregate-tour-5 : tie.Need-slice-aggregate-tour-5
-slice-aggregate-tour-5 c = search needs
-
-slice-aggregate-tour-6 : tie.Need-slice-aggregate-tour-6
-slice-aggregate-tour-6 c = search needs
 
 tour-requires-2 : tie.Need-tour-requires-2
 tour-requires-2 c κs =
@@ -40,9 +22,6 @@ tour-requires-2 c κs =
     let e = t .ensures in
     second-ready (a .table .now) (a .top) (a .order .now) (p .0) (p .1) (p .2) (t .last .1 .1 .1 .1 .1 .1 .0) (t .result) (search needs) (e .0) (e .1 .1 .1)
     (t .last .1 .1 .1 .0) (t .last .1 .1 .1 .1 .0) (t .last .1 .1 .1 .1 .1 .0) (e .1 .0) (search needs) (search needs) (search needs)
-
-same-length : tie.Need-same-length
-same-length c = search needs
 
 returns : tie.Need-returns
 returns c =
@@ -59,14 +38,14 @@ enter-nodes-spec =
     tie.close
     (tie.spec
     shared-slice-read-tour
-    slice-aggregate-tour
-    slice-aggregate-tour-2
-    slice-aggregate-tour-3
+    (λ c. search needs)
+    (λ c. search needs)
+    (λ c. search needs)
     tour-requires
     shared-slice-read-tour-2
-    slice-aggregate-tour-4
-    slice-aggregate-tour-5
-    slice-aggregate-tour-6
+    (λ c. search needs)
+    (λ c. search needs)
+    (λ c. search needs)
     tour-requires-2
-    same-length
+    (λ c. search needs)
     returns)

@@ -7,21 +7,6 @@ use Rattle.salvage.proofs.Filling.{gather-ready, pack-fits, filled}
 use Rattle.salvage.proofs.fill.Statement.{statement}
 use Rattle.salvage.proofs.fill.Tie as tie
 
-mul-w : tie.Need-mul-w
-mul-w c = search needs
-
-mul-gather : tie.Need-mul-gather
-mul-gather c = search needs
-
-sub-gather : tie.Need-sub-gather
-sub-gather c = search needs
-
-part-gather-start : tie.Need-part-gather-start
-part-gather-start c = search needs
-
-part-gather-end : tie.Need-part-gather-end
-part-gather-end c = search needs
-
 gather-requires : tie.Need-gather-requires
 gather-requires c κs =
     let a = c .before .before .before .before .before .before .args in
@@ -41,12 +26,6 @@ pack-requires c κs =
     pack-fits (a .table .now) (a .order .now) (a .words .now) (a .top) (a .before) (a .bound) (a .report .now) (p .0) (p .1)
     w r (g .result) (e .0) (e .1 .0) (e .1 .1) u v
 
-same-length : tie.Need-same-length
-same-length c = search needs
-
-same-length-2 : tie.Need-same-length-2
-same-length-2 c = search needs
-
 returns : tie.Need-returns
 returns c =
     let a = c .before .before .before .before .before .before .before .before .before .before .before .before .before .before .before .args in
@@ -65,13 +44,13 @@ pub fill-spec : {M : Type 1} → statement M
 fill-spec =
     tie.close
     (tie.spec
-    mul-w
-    mul-gather
-    sub-gather
-    part-gather-start
-    part-gather-end
+    (λ c. search needs)
+    (λ c. search needs)
+    (λ c. search needs)
+    (λ c. search needs)
+    (λ c. search needs)
     gather-requires
     pack-requires
-    same-length
-    same-length-2
+    (λ c. search needs)
+    (λ c. search needs)
     returns)

@@ -20,12 +20,6 @@ fill-requires c κs =
 shared-slice-read-if1 : tie.Need-shared-slice-read-if1
 shared-slice-read-if1 c = let w = words-some _ _ _ _ _ (c .before .before .before .before .before .before .before .before .before .before .before .before .before .pre .0) in omega (arith, w)
 
-same-length : tie.Need-same-length
-same-length c = search needs
-
-same-length-2 : tie.Need-same-length-2
-same-length-2 c = search needs
-
 returns : tie.Need-returns
 returns c =
     let a = c .before .before .before .before .before .before .before .before .before .before .before .before .before .before .args in
@@ -39,15 +33,6 @@ mul-w : tie.Need-mul-w
 mul-w c =
     let k = one-few _ _ _ _ _ (c .before .before .before .before .before .before .before .before .before .before .before .before .before .before .pre .0) in
     omega (arith, k, c .before .before .before .before .before .before .fill .ensures .1 .1)
-
-mul-fill : tie.Need-mul-fill
-mul-fill c = search needs
-
-sub-fill : tie.Need-sub-fill
-sub-fill c = search needs
-
-part-fill-start : tie.Need-part-fill-start
-part-fill-start c = search needs
 
 part-fill-end : tie.Need-part-fill-end
 part-fill-end c = all-fits _ _ _ _ _ (c .before .before .before .before .before .before .before .before .before .before .before .before .before .before .pre .0)
@@ -73,9 +58,6 @@ part-fill-start-2 c =
     let r = f .last .1 .1 .1 .1 .1 .1 .0 in
     part-fits (a .table .now) (a .order .now) (a .top) (a .first) (a .all) (p .0) (a .report .now) (p .4) r (f .result .dropped) (f .ensures .1 .1) (search needs)
 
-part-fill-end-2 : tie.Need-part-fill-end-2
-part-fill-end-2 c = search needs
-
 fill-requires-2 : tie.Need-fill-requires-2
 fill-requires-2 c κs =
     let a = c .before .before .before .before .before .before .before .before .before .before .before .before .before .before .before .before .before .args in
@@ -96,12 +78,6 @@ add-t23 c =
     let f = c .before .before .before .before .before .before .before .before .before .before .before .before .before .before .before in
     let b = few _ _ _ _ _ (f .before .before .before .before .before .before .before .before .pre .0) _ _ (f .fill .ensures .1 .1) (c .before .before .before .before .before .fill2 .ensures .1 .1) in
     omega (arith, b .0, b .1)
-
-same-length-3 : tie.Need-same-length-3
-same-length-3 c = search needs
-
-same-length-4 : tie.Need-same-length-4
-same-length-4 c = search needs
 
 returns-2 : tie.Need-returns-2
 returns-2 c =
@@ -124,20 +100,20 @@ fill-both-spec =
     slice-aggregate-fill
     fill-requires
     shared-slice-read-if1
-    same-length
-    same-length-2
+    (λ c. search needs)
+    (λ c. search needs)
     returns
     mul-w
-    mul-fill
-    sub-fill
-    part-fill-start
+    (λ c. search needs)
+    (λ c. search needs)
+    (λ c. search needs)
     part-fill-end
     mul-fill-2
     sub-fill-2
     part-fill-start-2
-    part-fill-end-2
+    (λ c. search needs)
     fill-requires-2
     add-t23
-    same-length-3
-    same-length-4
+    (λ c. search needs)
+    (λ c. search needs)
     returns-2)

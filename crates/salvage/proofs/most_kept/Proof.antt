@@ -15,12 +15,6 @@ count-used-requires c κs = one-few _ _ _ _ _ (c .before .before .before .pre)
 mul-count-used : tie.Need-mul-count-used
 mul-count-used c = let k = first-small _ _ _ _ _ (c .before .before .before .before .pre) in omega (arith, k)
 
-sub-count-used : tie.Need-sub-count-used
-sub-count-used c = search needs
-
-part-count-used-start : tie.Need-part-count-used-start
-part-count-used-start c = search needs
-
 part-count-used-end : tie.Need-part-count-used-end
 part-count-used-end c = all-fits _ _ _ _ _ (c .before .before .before .before .pre)
 
@@ -51,12 +45,6 @@ count-kept-requires c κs = let o = c .before .before .before .before .before .b
 mul-count-kept : tie.Need-mul-count-kept
 mul-count-kept c = let k = first-small _ _ _ _ _ (c .before .before .before .before .before .before .before .before .before .before .pre) in omega (arith, k)
 
-sub-count-kept : tie.Need-sub-count-kept
-sub-count-kept c = search needs
-
-part-count-kept-start : tie.Need-part-count-kept-start
-part-count-kept-start c = search needs
-
 part-count-kept-end : tie.Need-part-count-kept-end
 part-count-kept-end c = all-fits _ _ _ _ _ (c .before .before .before .before .before .before .before .before .before .before .pre)
 
@@ -76,8 +64,8 @@ most-kept-spec =
     slice-aggregate-count-used
     count-used-requires
     mul-count-used
-    sub-count-used
-    part-count-used-start
+    (λ c. search needs)
+    (λ c. search needs)
     part-count-used-end
     count-used-requires-2
     needed-both-requires
@@ -85,8 +73,8 @@ most-kept-spec =
     slice-aggregate-count-kept
     count-kept-requires
     mul-count-kept
-    sub-count-kept
-    part-count-kept-start
+    (λ c. search needs)
+    (λ c. search needs)
     part-count-kept-end
     count-kept-requires-2
     returns-2)

@@ -13,9 +13,6 @@ sub-fill-both c = let a = c .before .before .before .before .args in let p = c .
 part-fill-both-start : tie.Need-part-fill-both-start
 part-fill-both-start c = let a = c .before .before .before .before .args in let p = c .before .before .before .before .pre in out-long (a .table .now) (a .order .now) (a .out .now) (a .top) (a .first) (a .all) (p .0) (p .3)
 
-part-fill-both-end : tie.Need-part-fill-both-end
-part-fill-both-end c = search needs
-
 fill-both-requires : tie.Need-fill-both-requires
 fill-both-requires c κs =
     let a = c .before .before .before .before .before .before .args in
@@ -29,12 +26,6 @@ put-header-requires c κs =
     let w = c .before .before .before .before .before .fill-both .last .1 .1 .1 .1 .1 .0 in
     let u : length w ≡ length (take (length (a .out .now) - 8) (drop 8 (a .out .now))) = search needs in
     put-out (a .table .now) (a .order .now) (a .out .now) (a .top) (a .first) (a .all) (p .0) (p .3) w u
-
-same-length : tie.Need-same-length
-same-length c = search needs
-
-same-length-2 : tie.Need-same-length-2
-same-length-2 c = search needs
 
 returns : tie.Need-returns
 returns c =
@@ -55,9 +46,9 @@ rebuild-spec =
     (tie.spec
     sub-fill-both
     part-fill-both-start
-    part-fill-both-end
+    (λ c. search needs)
     fill-both-requires
     put-header-requires
-    same-length
-    same-length-2
+    (λ c. search needs)
+    (λ c. search needs)
     returns)

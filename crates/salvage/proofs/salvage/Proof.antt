@@ -8,9 +8,6 @@ use Rattle.salvage.proofs.Call.{header-good, header-bad, order-long, re
 use Rattle.salvage.proofs.salvage.Statement.{statement}
 use Rattle.salvage.proofs.salvage.Tie as tie
 
-header-requires : tie.Need-header-requires
-header-requires c κs = search needs
-
 returns : tie.Need-returns
 returns c = let a = c .before .before .before .before .before .args in refused-header (a .table .now) (a .out .now) (a .report .now) (header-bad (a .table .now) _ (c .before .header .ensures) (c .if1 .taken))
 
@@ -40,20 +37,11 @@ returns-3 c =
     let h = header-good (a .table .now) _ (c .before .before .before .before .header .ensures) (c .before .before .before .if1 .left) in
     refused-report (a .table .now) (a .out .now) (a .report .now) h (c .before .before .if2 .left) (c .if3 .taken)
 
-slice-aggregate-enter-nodes : tie.Need-slice-aggregate-enter-nodes
-slice-aggregate-enter-nodes c = search needs
-
 enter-nodes-requires : tie.Need-enter-nodes-requires
 enter-nodes-requires c κs =
     let a = c .before .before .before .before .before .before .before .before .before .args in
     let h = header-good (a .table .now) _ (c .before .before .before .before .before .header .ensures) (c .before .before .before .before .if1 .left) in
     (h, refl, order-long)
-
-slice-aggregate-most-kept : tie.Need-slice-aggregate-most-kept
-slice-aggregate-most-kept c = search needs
-
-most-kept-requires : tie.Need-most-kept-requires
-most-kept-requires c κs = search needs
 
 needed-both-requires : tie.Need-needed-both-requires
 needed-both-requires c κs =
@@ -73,9 +61,6 @@ returns-4 c =
     let g = grown (a .table .now) (e .last .1 .1 .0) _ _ _ (e .ensures) (m .result .one) (m .result .two) _ (c .before .needed-both .ensures) (m .ensures .1) (c .if4 .taken) in
     refused-outgrown (a .table .now) (a .out .now) (a .report .now) h (o .if2 .left) (c .before .before .before .before .before .before .before .if3 .left) g
 
-slice-aggregate-rebuild : tie.Need-slice-aggregate-rebuild
-slice-aggregate-rebuild c = search needs
-
 rebuild-requires : tie.Need-rebuild-requires
 rebuild-requires c κs =
     let k = c .before .before .before in
@@ -84,12 +69,6 @@ rebuild-requires c κs =
     let m = k .before .before .most-kept in
     let b = fits (o .before .before .before .before .before .before .args .table .now) (e .last .1 .1 .0) _ _ _ (e .ensures) (m .result .one) (m .result .two) _ (k .before .needed-both .ensures) (m .ensures .1) (k .if4 .left) in
     (e .ensures, m .ensures .0, b .0, o .if2 .left, k .before .before .before .before .before .before .before .if3 .left)
-
-same-length : tie.Need-same-length
-same-length c = search needs
-
-same-length-2 : tie.Need-same-length-2
-same-length-2 c = search needs
 
 returns-5 : tie.Need-returns-5
 returns-5 c =
@@ -108,20 +87,20 @@ pub salvage-spec : {M : Type 1} → statement M
 salvage-spec =
     tie.close
     (tie.spec
-    header-requires
+    (λ c κs. search needs)
     returns
     returns-2
     shared-slice-read-top
     mul-if3
     returns-3
-    slice-aggregate-enter-nodes
+    (λ c. search needs)
     enter-nodes-requires
-    slice-aggregate-most-kept
-    most-kept-requires
+    (λ c. search needs)
+    (λ c κs. search needs)
     needed-both-requires
     returns-4
-    slice-aggregate-rebuild
+    (λ c. search needs)
     rebuild-requires
-    same-length
-    same-length-2
+    (λ c. search needs)
+    (λ c. search needs)
     returns-5)

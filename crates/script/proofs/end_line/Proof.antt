@@ -11,24 +11,6 @@ spoke c = c .before .before
 abbrev acted : tie.After-put-answer → tie.After-act
 acted c = c .before .before .before .before .before .before .before
 
-judge-requires : tie.Need-judge-requires
-judge-requires c κs = search needs
-
-act-requires : tie.Need-act-requires
-act-requires c κs = search needs
-
-put-answer-requires : tie.Need-put-answer-requires
-put-answer-requires c κs = search needs
-
-same-length : tie.Need-same-length
-same-length c = search needs
-
-same-length-2 : tie.Need-same-length-2
-same-length-2 c = search needs
-
-same-length-3 : tie.Need-same-length-3
-same-length-3 c = search needs
-
 returns : tie.Need-returns
 returns c =
     let p = spoke c in
@@ -39,10 +21,10 @@ pub end-line-spec : {M : Type 1} → statement M
 end-line-spec =
     tie.close
     (tie.spec
-    judge-requires
-    act-requires
-    put-answer-requires
-    same-length
-    same-length-2
-    same-length-3
+    (λ c κs. search needs)
+    (λ c κs. search needs)
+    (λ c κs. search needs)
+    (λ c. search needs)
+    (λ c. search needs)
+    (λ c. search needs)
     returns)

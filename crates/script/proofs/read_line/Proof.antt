@@ -16,26 +16,8 @@ carried c = c .before .before .before .before .before .before .before
 abbrev ended : tie.After-end-line → tie.Else1
 ended c = c .before .before .before .before
 
-read-line-requires : tie.Need-read-line-requires
-read-line-requires c κs = search needs
-
 returns : tie.Need-returns
 returns c = part-read _ _ _ (was-read (c .before) .read-line .ensures) _ refl (not-true _ (c .if1 .taken))
-
-end-line-requires : tie.Need-end-line-requires
-end-line-requires c κs = search needs
-
-start-requires : tie.Need-start-requires
-start-requires c κs = search needs
-
-same-length : tie.Need-same-length
-same-length c = search needs
-
-same-length-2 : tie.Need-same-length-2
-same-length-2 c = search needs
-
-same-length-3 : tie.Need-same-length-3
-same-length-3 c = search needs
 
 returns-2 : tie.Need-returns-2
 returns-2 c =
@@ -47,11 +29,11 @@ pub read-line-spec : {M : Type 1} → statement M
 read-line-spec =
     tie.close
     (tie.spec
-    read-line-requires
+    (λ c κs. search needs)
     returns
-    end-line-requires
-    start-requires
-    same-length
-    same-length-2
-    same-length-3
+    (λ c κs. search needs)
+    (λ c κs. search needs)
+    (λ c. search needs)
+    (λ c. search needs)
+    (λ c. search needs)
     returns-2)

@@ -29,27 +29,9 @@ unfinished s RecordingStart h = refl
 unfinished s Recording h = absurd (miss (0 ∷ 1 ∷ 2 ∷ 4 ∷ 6 ∷ []) 5 tt h)
 unfinished s Other h = refl
 
-enum-told : tie.Need-enum-told
-enum-told c = search needs
-
 returns : tie.Need-returns
 unfolding requestAt
 returns c = arm _ _ _ _ (c .before .enum-told .given .1) (rw (c .if1 .taken))
-
-code-of-requires : tie.Need-code-of-requires
-code-of-requires c κs = search needs
-
-deletion-of-requires : tie.Need-deletion-of-requires
-deletion-of-requires c κs = search needs
-
-enum-told-2 : tie.Need-enum-told-2
-enum-told-2 c = search needs
-
-code-of-requires-2 : tie.Need-code-of-requires-2
-code-of-requires-2 c κs = search needs
-
-insertion-of-requires : tie.Need-insertion-of-requires
-insertion-of-requires c κs = search needs
 
 returns-2 : tie.Need-returns-2
 unfolding requestAt
@@ -69,13 +51,13 @@ pub judge-spec : {M : Type 1} → statement M
 judge-spec =
     tie.close
     (tie.spec
-    enum-told
+    (λ c. search needs)
     returns
-    code-of-requires
-    deletion-of-requires
-    enum-told-2
-    code-of-requires-2
-    insertion-of-requires
+    (λ c κs. search needs)
+    (λ c κs. search needs)
+    (λ c. search needs)
+    (λ c κs. search needs)
+    (λ c κs. search needs)
     returns-2
     returns-3
     returns-4)

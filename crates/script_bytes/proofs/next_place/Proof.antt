@@ -13,49 +13,13 @@ use Rattle.script_bytes.proofs.next_place.Tie as tie
 arm : (p q r : Place) (s : Bool) (b : ℕ) → p ≡ q → r ≡ nextPlace q s b → r ≡ nextPlace p s b
 arm p q r s b e h = rw e h
 
-enum-told : tie.Need-enum-told
-enum-told c = search needs
-
 returns : tie.Need-returns
 unfolding nextPlace
 returns c = arm _ _ _ _ _ (c .before .enum-told .given .1) (rw (eq-eqb (c .before .before .before .args .b) 43 (c .if1 .taken)))
 
-if-is-requires : tie.Need-if-is-requires
-if-is-requires c κs = search needs
-
-enum-told-2 : tie.Need-enum-told-2
-enum-told-2 c = search needs
-
-if-is-requires-2 : tie.Need-if-is-requires-2
-if-is-requires-2 c κs = search needs
-
-enum-told-3 : tie.Need-enum-told-3
-enum-told-3 c = search needs
-
-if-is-requires-3 : tie.Need-if-is-requires-3
-if-is-requires-3 c κs = search needs
-
-enum-told-4 : tie.Need-enum-told-4
-enum-told-4 c = search needs
-
-if-is-requires-4 : tie.Need-if-is-requires-4
-if-is-requires-4 c κs = search needs
-
 returns-2 : tie.Need-returns-2
 unfolding nextPlace
 returns-2 c = arm _ _ _ _ _ (c .before .before .enum-told4 .given .1) (c .if-is4 .ensures ∙ rw (c .before .if2 .taken))
-
-if-is-requires-5 : tie.Need-if-is-requires-5
-if-is-requires-5 c κs = search needs
-
-enum-told-5 : tie.Need-enum-told-5
-enum-told-5 c = search needs
-
-enum-told-6 : tie.Need-enum-told-6
-enum-told-6 c = search needs
-
-enum-told-7 : tie.Need-enum-told-7
-enum-told-7 c = search needs
 
 returns-3 : tie.Need-returns-3
 unfolding nextPlace
@@ -91,20 +55,20 @@ pub next-place-spec : {M : Type 1} → statement M
 next-place-spec =
     tie.close
     (tie.spec
-    enum-told
+    (λ c. search needs)
     returns
-    if-is-requires
-    enum-told-2
-    if-is-requires-2
-    enum-told-3
-    if-is-requires-3
-    enum-told-4
-    if-is-requires-4
+    (λ c κs. search needs)
+    (λ c. search needs)
+    (λ c κs. search needs)
+    (λ c. search needs)
+    (λ c κs. search needs)
+    (λ c. search needs)
+    (λ c κs. search needs)
     returns-2
-    if-is-requires-5
-    enum-told-5
-    enum-told-6
-    enum-told-7
+    (λ c κs. search needs)
+    (λ c. search needs)
+    (λ c. search needs)
+    (λ c. search needs)
     returns-3
     returns-4
     returns-5

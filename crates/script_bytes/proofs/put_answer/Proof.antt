@@ -27,15 +27,6 @@ refused c = c .before .before
 abbrev as-refused : tie.After-put-refused → tie.After-answer2
 as-refused c = c .before .before .before
 
-enum-known-answer : tie.Need-enum-known-answer
-enum-known-answer c = search needs
-
-spoken-count-requires : tie.Need-spoken-count-requires
-spoken-count-requires c κs = search needs
-
-put-orders-requires : tie.Need-put-orders-requires
-put-orders-requires c κs = search needs
-
 put-done-requires : tie.Need-put-done-requires
 put-done-requires c κs =
     let o = ordered c in
@@ -43,23 +34,11 @@ put-done-requires c κs =
     let list = start (as-done n) .args .list .now in
     omega (arith, orders-reach list (n .spoken-count .result) (o .put-orders .ensures), n .spoken-count .ensures, o .put-orders .kept .0)
 
-enum-known-answer-2 : tie.Need-enum-known-answer-2
-enum-known-answer-2 c = search needs
-
-put-refused-requires : tie.Need-put-refused-requires
-put-refused-requires c κs = search needs
-
-same-length : tie.Need-same-length
-same-length c = search needs
-
 returns : tie.Need-returns
 returns c =
     let o = ordered (done c .before) in
     let n = counted o in
     done-begins _ _ _ _ _ _ (as-done n .answer .given .1) (n .spoken-count .ensures) (omega arith) (o .put-orders .ensures) (done c .put-done .ensures)
-
-same-length-2 : tie.Need-same-length-2
-same-length-2 c = search needs
 
 returns-2 : tie.Need-returns-2
 returns-2 c = let r = refused c in refused-begins _ _ _ (as-refused r .answer2 .given .1) (omega arith) (r .put-refused .ensures)
@@ -68,13 +47,13 @@ pub put-answer-spec : {M : Type 1} → statement M
 put-answer-spec =
     tie.close
     (tie.spec
-    enum-known-answer
-    spoken-count-requires
-    put-orders-requires
+    (λ c. search needs)
+    (λ c κs. search needs)
+    (λ c κs. search needs)
     put-done-requires
-    enum-known-answer-2
-    put-refused-requires
-    same-length
+    (λ c. search needs)
+    (λ c κs. search needs)
+    (λ c. search needs)
     returns
-    same-length-2
+    (λ c. search needs)
     returns-2)

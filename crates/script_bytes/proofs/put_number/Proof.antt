@@ -25,26 +25,11 @@ written out at n w ys e h f =
     let g : ys ≡ decimal n = (rw (k, l, e) at f) ∙ sym (decimal-digits 20 n) in
     rw (k, g, drop-drop w at out, e, append-assoc)
 
-width-requires : tie.Need-width-requires
-width-requires c κs = search needs
-
 add-end : tie.Need-add-end
 add-end c = omega (arith, c .width .ensures, decimal-most (c .before .before .args .n))
 
-sub-write-digits : tie.Need-sub-write-digits
-sub-write-digits c = search needs
-
-part-write-digits-start : tie.Need-part-write-digits-start
-part-write-digits-start c = search needs
-
 part-write-digits-end : tie.Need-part-write-digits-end
 part-write-digits-end c = omega (arith, c .width .ensures, decimal-most (c .before .before .args .n))
-
-write-digits-requires : tie.Need-write-digits-requires
-write-digits-requires c κs = search needs
-
-same-length : tie.Need-same-length
-same-length c = search needs
 
 returns : tie.Need-returns
 returns c =
@@ -61,11 +46,11 @@ pub put-number-spec : {M : Type 1} → statement M
 put-number-spec =
     tie.close
     (tie.spec
-    width-requires
+    (λ c κs. search needs)
     add-end
-    sub-write-digits
-    part-write-digits-start
+    (λ c. search needs)
+    (λ c. search needs)
     part-write-digits-end
-    write-digits-requires
-    same-length
+    (λ c κs. search needs)
+    (λ c. search needs)
     returns)

@@ -20,36 +20,6 @@ abbrev μ-loop : tie.MeasureT-loop
 loop-holds : tie.Need-loop-holds Inv-loop μ-loop
 loop-holds c = (search needs, (search needs, (search needs, nothing-put _)))
 
-mul-put-order : tie.Need-mul-put-order Inv-loop μ-loop
-mul-put-order c = search needs
-
-mul-put-order-2 : tie.Need-mul-put-order-2 Inv-loop μ-loop
-mul-put-order-2 c = search needs
-
-shared-slice-read-put-order : tie.Need-shared-slice-read-put-order Inv-loop μ-loop
-shared-slice-read-put-order c = search needs
-
-mul-put-order-3 : tie.Need-mul-put-order-3 Inv-loop μ-loop
-mul-put-order-3 c = search needs
-
-add-put-order : tie.Need-add-put-order Inv-loop μ-loop
-add-put-order c = search needs
-
-mul-put-order-4 : tie.Need-mul-put-order-4 Inv-loop μ-loop
-mul-put-order-4 c = search needs
-
-shared-slice-read-put-order-2 : tie.Need-shared-slice-read-put-order-2 Inv-loop μ-loop
-shared-slice-read-put-order-2 c = search needs
-
-put-order-requires : tie.Need-put-order-requires Inv-loop μ-loop
-put-order-requires c κs = search needs
-
-add-i : tie.Need-add-i Inv-loop μ-loop
-add-i c = search needs
-
-loop-less : tie.Need-loop-less Inv-loop μ-loop
-loop-less c = search needs
-
 loop-again : tie.Need-loop-again Inv-loop μ-loop
 loop-again c =
     let p = c .before .before in
@@ -58,9 +28,6 @@ loop-again c =
     let list = l .before .before .before .args .list .now in
     let q = p .put-order .ensures in
     (search needs, (omega (arith, a .inv .1 .0, order-reach _ q), (search needs, order-put list (a .i) (omega arith) (a .inv .1 .1 .1) (omega (arith, a .inv .1 .0)) q)))
-
-same-length : tie.Need-same-length Inv-loop μ-loop
-same-length c = search needs
 
 returns : tie.Need-returns Inv-loop μ-loop
 returns c =
@@ -75,16 +42,16 @@ put-orders-spec =
     Inv-loop
     μ-loop
     loop-holds
-    mul-put-order
-    mul-put-order-2
-    shared-slice-read-put-order
-    mul-put-order-3
-    add-put-order
-    mul-put-order-4
-    shared-slice-read-put-order-2
-    put-order-requires
-    add-i
-    loop-less
+    (λ c. search needs)
+    (λ c. search needs)
+    (λ c. search needs)
+    (λ c. search needs)
+    (λ c. search needs)
+    (λ c. search needs)
+    (λ c. search needs)
+    (λ c κs. search needs)
+    (λ c. search needs)
+    (λ c. search needs)
     loop-again
-    same-length
+    (λ c. search needs)
     returns)

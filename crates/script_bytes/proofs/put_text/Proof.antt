@@ -25,20 +25,8 @@ long a h =
 loop-holds : tie.Need-loop-holds Inv-loop μ-loop
 loop-holds c = (search needs, paste-zero (c .args .out .now) (c .args .at) (c .args .text .now))
 
-shared-slice-read-out : tie.Need-shared-slice-read-out Inv-loop μ-loop
-shared-slice-read-out c = search needs
-
-add-out : tie.Need-add-out Inv-loop μ-loop
-add-out c = search needs
-
 slice-write-out : tie.Need-slice-write-out Inv-loop μ-loop
 slice-write-out c = omega (arith, long (c .before .before) (omega arith))
-
-add-i : tie.Need-add-i Inv-loop μ-loop
-add-i c = search needs
-
-loop-less : tie.Need-loop-less Inv-loop μ-loop
-loop-less c = search needs
 
 loop-again : tie.Need-loop-again Inv-loop μ-loop
 loop-again c =
@@ -46,9 +34,6 @@ loop-again c =
     let s = a .before .args in
     let e = paste-suc (s .out .now) (s .at) (s .text .now) (a .loop .i) 0 (omega arith) (c .before .loop-test .taken) in
     (search needs, rw (a .loop .inv .1, add-one) e)
-
-add-result : tie.Need-add-result Inv-loop μ-loop
-add-result c = search needs
 
 same-length : tie.Need-same-length Inv-loop μ-loop
 same-length c = long (c .before) (omega arith)
@@ -67,12 +52,12 @@ put-text-spec =
     Inv-loop
     μ-loop
     loop-holds
-    shared-slice-read-out
-    add-out
+    (λ c. search needs)
+    (λ c. search needs)
     slice-write-out
-    add-i
-    loop-less
+    (λ c. search needs)
+    (λ c. search needs)
     loop-again
-    add-result
+    (λ c. search needs)
     same-length
     returns)

@@ -56,23 +56,8 @@ abbrev μ-loop : tie.MeasureT-loop
 loop-holds : tie.Need-loop-holds Inv-loop μ-loop
 loop-holds c = (search needs, at-start _ _)
 
-shared-slice-read-b : tie.Need-shared-slice-read-b Inv-loop μ-loop
-shared-slice-read-b c = search needs
-
-add-t10 : tie.Need-add-t10 Inv-loop μ-loop
-add-t10 c = search needs
-
 returns : tie.Need-returns Inv-loop μ-loop
 returns c = at-feed _ _ _ (omega arith) (c .if1 .taken) ∙ sym (c .before .before .before .loop .inv .1)
-
-take-requires : tie.Need-take-requires Inv-loop μ-loop
-take-requires c κs = search needs
-
-add-i : tie.Need-add-i Inv-loop μ-loop
-add-i c = search needs
-
-loop-less : tie.Need-loop-less Inv-loop μ-loop
-loop-less c = search needs
 
 loop-again : tie.Need-loop-again Inv-loop μ-loop
 loop-again c = (search needs, c .before .before .before .before .loop .inv .1 ∙ at-other _ _ _ (omega arith) (c .before .if1 .left) _ (c .take .ensures))
@@ -87,11 +72,11 @@ read-line-spec =
     Inv-loop
     μ-loop
     loop-holds
-    shared-slice-read-b
-    add-t10
+    (λ c. search needs)
+    (λ c. search needs)
     returns
-    take-requires
-    add-i
-    loop-less
+    (λ c κs. search needs)
+    (λ c. search needs)
+    (λ c. search needs)
     loop-again
     returns-2)

@@ -29,30 +29,6 @@ arm : (s : LineState) (b : ℕ) (p q : Place) (r : LineState) → p ≡ nextPlac
 unfolding step
 arm s b p q r e f h = rw (← e, f) h
 
-next-place-requires : tie.Need-next-place-requires
-next-place-requires c κs = search needs
-
-enum-told : tie.Need-enum-told
-enum-told c = search needs
-
-with-sign-requires : tie.Need-with-sign-requires
-with-sign-requires c κs = search needs
-
-enum-told-2 : tie.Need-enum-told-2
-enum-told-2 c = search needs
-
-with-character-requires : tie.Need-with-character-requires
-with-character-requires c κs = search needs
-
-enum-told-3 : tie.Need-enum-told-3
-enum-told-3 c = search needs
-
-with-digit-requires : tie.Need-with-digit-requires
-with-digit-requires c κs = search needs
-
-moved-requires : tie.Need-moved-requires
-moved-requires c κs = search needs
-
 returns : tie.Need-returns
 unfolding entered
 returns c = arm _ _ _ _ _ (c .before .before .before .next-place .ensures) (c .before .enum-told .given .1) (c .with-sign .ensures)
@@ -72,14 +48,14 @@ pub take-spec : {M : Type 1} → statement M
 take-spec =
     tie.close
     (tie.spec
-    next-place-requires
-    enum-told
-    with-sign-requires
-    enum-told-2
-    with-character-requires
-    enum-told-3
-    with-digit-requires
-    moved-requires
+    (λ c κs. search needs)
+    (λ c. search needs)
+    (λ c κs. search needs)
+    (λ c. search needs)
+    (λ c κs. search needs)
+    (λ c. search needs)
+    (λ c κs. search needs)
+    (λ c κs. search needs)
     returns
     returns-2
     returns-3

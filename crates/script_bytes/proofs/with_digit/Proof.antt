@@ -33,35 +33,14 @@ in-word s b d l =
 is-digit : (c : tie.Else1) → isDigit (c .before .before .args .b) ≡ true
 is-digit c = sym (c .before .is-digit .ensures) ∙ not-false _ (c .if1 .left)
 
-is-digit-requires : tie.Need-is-digit-requires
-is-digit-requires c κs = search needs
-
-moved-requires : tie.Need-moved-requires
-moved-requires c κs = search needs
-
 returns : tie.Need-returns
 returns c = c .moved .ensures ∙ no-digit _ _ (sym (c .before .before .is-digit .ensures) ∙ not-true _ (c .before .if1 .taken))
 
 sub-d : tie.Need-sub-d
 sub-d c = omega (arith, digit-range (c .before .before .args .b) (is-digit c))
 
-cast-d : tie.Need-cast-d
-cast-d c = search needs
-
-sub-if2 : tie.Need-sub-if2
-sub-if2 c = search needs
-
-moved-requires-2 : tie.Need-moved-requires-2
-moved-requires-2 c κs = search needs
-
 returns-2 : tie.Need-returns-2
 returns-2 c = c .moved2 .ensures ∙ too-large _ _ (is-digit (c .before .before .before)) (c .before .if2 .taken)
-
-mul-t9 : tie.Need-mul-t9
-mul-t9 c = search needs
-
-add-t10 : tie.Need-add-t10
-add-t10 c = search needs
 
 returns-3 : tie.Need-returns-3
 returns-3 c = in-word _ _ (is-digit (c .before .before .before .before)) (c .before .before .if2 .left)
@@ -70,14 +49,14 @@ pub with-digit-spec : {M : Type 1} → statement M
 with-digit-spec =
     tie.close
     (tie.spec
-    is-digit-requires
-    moved-requires
+    (λ c κs. search needs)
+    (λ c κs. search needs)
     returns
     sub-d
-    cast-d
-    sub-if2
-    moved-requires-2
+    (λ c. search needs)
+    (λ c. search needs)
+    (λ c κs. search needs)
     returns-2
-    mul-t9
-    add-t10
+    (λ c. search needs)
+    (λ c. search needs)
     returns-3)

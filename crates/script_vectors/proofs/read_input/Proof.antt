@@ -12,65 +12,23 @@ Inv-loop s₀ buffer₀ rounds₀ s buffer rounds = (length buffer ≡ 7) × (ro
 abbrev μ-loop : tie.MeasureT-loop
 μ-loop s₀ buffer₀ rounds₀ s buffer rounds = 10000 - rounds
 
-start-requires : tie.Need-start-requires Inv-loop μ-loop
-start-requires c κs = search needs
-
-loop-holds : tie.Need-loop-holds Inv-loop μ-loop
-loop-holds c = search needs
-
-slice-aggregate-read : tie.Need-slice-aggregate-read Inv-loop μ-loop
-slice-aggregate-read c = search needs
-
-read-requires : tie.Need-read-requires Inv-loop μ-loop
-read-requires c κs = search needs
-
-slice-aggregate-count : tie.Need-slice-aggregate-count Inv-loop μ-loop
-slice-aggregate-count c = search needs
-
-count-requires : tie.Need-count-requires Inv-loop μ-loop
-count-requires c κs = search needs
-
-array-share-prefix-buffer : tie.Need-array-share-prefix-buffer Inv-loop μ-loop
-array-share-prefix-buffer c = search needs
-
-slice-aggregate-read-piece : tie.Need-slice-aggregate-read-piece Inv-loop μ-loop
-slice-aggregate-read-piece c = search needs
-
-read-piece-requires : tie.Need-read-piece-requires Inv-loop μ-loop
-read-piece-requires c κs = search needs
-
-add-rounds : tie.Need-add-rounds Inv-loop μ-loop
-add-rounds c = search needs
-
-loop-less : tie.Need-loop-less Inv-loop μ-loop
-loop-less c = search needs
-
-loop-again : tie.Need-loop-again Inv-loop μ-loop
-loop-again c = search needs
-
-finish-requires : tie.Need-finish-requires Inv-loop μ-loop
-finish-requires c κs = search needs
-
-returns : tie.Need-returns Inv-loop μ-loop
-returns c = search needs
-
 pub read-input-spec : {M : Type 1} → statement M
 read-input-spec =
     tie.close
     (tie.spec
     Inv-loop
     μ-loop
-    start-requires
-    loop-holds
-    slice-aggregate-read
-    read-requires
-    slice-aggregate-count
-    count-requires
-    array-share-prefix-buffer
-    slice-aggregate-read-piece
-    read-piece-requires
-    add-rounds
-    loop-less
-    loop-again
-    finish-requires
-    returns)
+    (λ c κs. search needs)
+    (λ c. search needs)
+    (λ c. search needs)
+    (λ c κs. search needs)
+    (λ c. search needs)
+    (λ c κs. search needs)
+    (λ c. search needs)
+    (λ c. search needs)
+    (λ c κs. search needs)
+    (λ c. search needs)
+    (λ c. search needs)
+    (λ c. search needs)
+    (λ c κs. search needs)
+    (λ c. search needs))

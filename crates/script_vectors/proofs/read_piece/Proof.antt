@@ -39,24 +39,6 @@ turned : (c : tie.After-struct-known Inv-loop μ-loop)
     → (c .before .before .read-line .result .used ≤ length (start (turn c) .args .piece .now) - turn c .loop .i) × (0 < c .before .before .read-line .result .used)
 turned c = passed (turn c .loop .s) (start (turn c) .args .piece .now) (turn c .loop .i) _ (c .before .before .read-line .ensures) (omega arith)
 
-loop-holds : tie.Need-loop-holds Inv-loop μ-loop
-loop-holds c = search needs
-
-sub-read-line : tie.Need-sub-read-line Inv-loop μ-loop
-sub-read-line c = search needs
-
-part-read-line-start : tie.Need-part-read-line-start Inv-loop μ-loop
-part-read-line-start c = search needs
-
-part-read-line-end : tie.Need-part-read-line-end Inv-loop μ-loop
-part-read-line-end c = search needs
-
-read-line-requires : tie.Need-read-line-requires Inv-loop μ-loop
-read-line-requires c κs = search needs
-
-shown-requires : tie.Need-shown-requires Inv-loop μ-loop
-shown-requires c κs = search needs
-
 add-i : tie.Need-add-i Inv-loop μ-loop
 add-i c = omega (arith, turned c .0, start (turn c) .good)
 
@@ -66,22 +48,19 @@ loop-less c = omega (arith, turned c .0, turned c .1)
 loop-again : tie.Need-loop-again Inv-loop μ-loop
 loop-again c = omega (arith, turned c .0)
 
-returns : tie.Need-returns Inv-loop μ-loop
-returns c = search needs
-
 pub read-piece-spec : {M : Type 1} → statement M
 read-piece-spec =
     tie.close
     (tie.spec
     Inv-loop
     μ-loop
-    loop-holds
-    sub-read-line
-    part-read-line-start
-    part-read-line-end
-    read-line-requires
-    shown-requires
+    (λ c. search needs)
+    (λ c. search needs)
+    (λ c. search needs)
+    (λ c. search needs)
+    (λ c κs. search needs)
+    (λ c κs. search needs)
     add-i
     loop-less
     loop-again
-    returns)
+    (λ c. search needs))

@@ -17,12 +17,6 @@ abbrev μ-loop : tie.MeasureT-loop
 loop-holds : tie.Need-loop-holds Inv-loop μ-loop
 loop-holds c = refl
 
-has-requires : tie.Need-has-requires Inv-loop μ-loop
-has-requires c κs = search needs
-
-lost-requires : tie.Need-lost-requires Inv-loop μ-loop
-lost-requires c κs = search needs
-
 returns : tie.Need-returns Inv-loop μ-loop
 returns c =
     let h = c .before .before in
@@ -30,21 +24,12 @@ returns c =
     let a = l .before .before .args in
     c .lost .ensures ∙ ap (seenIn (view (a .table .now)) (a .key)) (turn-out (a .table .now) (l .loop .low) (l .loop .high) _ _ _ (l .loop .inv) (l .before .before .pre) (sym (h .has .ensures) ∙ not-true _ (c .before .if1 .taken)))
 
-read-requires : tie.Need-read-requires Inv-loop μ-loop
-read-requires c κs = search needs
-
-lost-requires-2 : tie.Need-lost-requires-2 Inv-loop μ-loop
-lost-requires-2 c κs = search needs
-
 returns-2 : tie.Need-returns-2 Inv-loop μ-loop
 returns-2 c =
     let d = c .before .before in
     let l = d .before .before .before in
     let a = l .before .before .args in
     c .lost2 .ensures ∙ ap (seenIn (view (a .table .now)) (a .key)) (turn-low (a .table .now) _ (l .loop .high) _ _ _ (l .loop .inv) _ (d .read .ensures) (c .before .if2 .taken))
-
-lost-requires-3 : tie.Need-lost-requires-3 Inv-loop μ-loop
-lost-requires-3 c κs = search needs
 
 returns-3 : tie.Need-returns-3 Inv-loop μ-loop
 returns-3 c =
@@ -70,15 +55,6 @@ returns-4 c =
     let l = d .before .before .before in
     turn-leaf _ _ _ _ _ _ (l .loop .inv) _ (d .read .ensures) (e .if2 .left) (f .if3 .left) _ (s .stand .ensures) (c .if4 .taken)
 
-sub-low : tie.Need-sub-low Inv-loop μ-loop
-sub-low c = search needs
-
-sub-high : tie.Need-sub-high Inv-loop μ-loop
-sub-high c = search needs
-
-loop-less : tie.Need-loop-less Inv-loop μ-loop
-loop-less c = search needs
-
 loop-again : tie.Need-loop-again Inv-loop μ-loop
 loop-again c =
     let s = c .before in
@@ -95,17 +71,17 @@ descend-spec =
     Inv-loop
     μ-loop
     loop-holds
-    has-requires
-    lost-requires
+    (λ c κs. search needs)
+    (λ c κs. search needs)
     returns
-    read-requires
-    lost-requires-2
+    (λ c κs. search needs)
+    (λ c κs. search needs)
     returns-2
-    lost-requires-3
+    (λ c κs. search needs)
     returns-3
     stand-requires
     returns-4
-    sub-low
-    sub-high
-    loop-less
+    (λ c. search needs)
+    (λ c. search needs)
+    (λ c. search needs)
     loop-again)

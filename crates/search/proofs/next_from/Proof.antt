@@ -22,14 +22,8 @@ shared-slice-read-left c = omega (arith, header-words _ (c .before .before .pre 
 loop-holds : tie.Need-loop-holds Inv-loop μ-loop
 loop-holds c = let b = c .before .before in first-turn (b .args .table .now) (b .args .key) (b .args .leaf) _ (b .args .read) (b .pre .1 .0) (b .pre .1 .1)
 
-above-requires : tie.Need-above-requires Inv-loop μ-loop
-above-requires c κs = search needs
-
 returns : tie.Need-returns Inv-loop μ-loop
 returns c = let l = c .before .before .before .before in turn-last _ _ _ _ _ (l .loop .inv) (omega arith) (c .before .if1 .taken) _ (c .above .ensures)
-
-has-requires : tie.Need-has-requires Inv-loop μ-loop
-has-requires c κs = search needs
 
 returns-2 : tie.Need-returns-2 Inv-loop μ-loop
 returns-2 c =
@@ -38,9 +32,6 @@ returns-2 c =
     let l = e .before .before .before in
     turn-out _ _ _ _ _ (l .loop .inv) (omega arith) (l .before .before .before .pre .0) (e .if1 .left) _ (h .has .ensures) (not-true _ (c .if2 .taken))
 
-read-requires : tie.Need-read-requires Inv-loop μ-loop
-read-requires c κs = search needs
-
 returns-3 : tie.Need-returns-3 Inv-loop μ-loop
 returns-3 c =
     let y = c .before .before in
@@ -48,12 +39,6 @@ returns-3 c =
     let e = h .before in
     let l = e .before .before .before in
     turn-high _ _ _ _ _ (l .loop .inv) (omega arith) (l .before .before .before .pre .0) (e .if1 .left) _ (h .has .ensures) (not-false _ (y .before .if2 .left)) _ (y .read .ensures) (c .if3 .taken)
-
-above-requires-2 : tie.Need-above-requires-2 Inv-loop μ-loop
-above-requires-2 c κs = search needs
-
-enum-known-next : tie.Need-enum-known-next Inv-loop μ-loop
-enum-known-next c = search needs
 
 returns-4 : tie.Need-returns-4 Inv-loop μ-loop
 returns-4 c =
@@ -64,15 +49,6 @@ returns-4 c =
     let l = e .before .before .before in
     turn-found _ _ _ _ _ (l .loop .inv) (omega arith) (l .before .before .before .pre .0) (e .if1 .left) _ (h .has .ensures) (not-false _ (y .before .if2 .left)) _ (y .read .ensures)
     (x .before .if3 .left) _ (x .above2 .ensures) _ (c .before .next .given .1)
-
-enum-told : tie.Need-enum-told Inv-loop μ-loop
-enum-told c = search needs
-
-sub-left : tie.Need-sub-left Inv-loop μ-loop
-sub-left c = search needs
-
-loop-less : tie.Need-loop-less Inv-loop μ-loop
-loop-less c = search needs
 
 loop-again : tie.Need-loop-again Inv-loop μ-loop
 loop-again c =
@@ -95,17 +71,17 @@ next-from-spec =
     μ-loop
     shared-slice-read-left
     loop-holds
-    above-requires
+    (λ c κs. search needs)
     returns
-    has-requires
+    (λ c κs. search needs)
     returns-2
-    read-requires
+    (λ c κs. search needs)
     returns-3
-    above-requires-2
-    enum-known-next
+    (λ c κs. search needs)
+    (λ c. search needs)
     returns-4
-    enum-told
-    sub-left
-    loop-less
+    (λ c. search needs)
+    (λ c. search needs)
+    (λ c. search needs)
     loop-again
     returns-5)

@@ -19,24 +19,12 @@ returns c =
     let p = entry s .pre in
     seen-read _ _ _ _ _ _ _ _ (read-last _ _ _ _ (p .0) _ (p .1 .1) (p .1 .0) (c .if1 .taken)) (p .1 .1) (s .scan .ensures .0) (s .scan .ensures .1)
 
-has-requires : tie.Need-has-requires
-has-requires c κs = search needs
-
-lost-requires : tie.Need-lost-requires
-lost-requires c κs = search needs
-
 returns-2 : tie.Need-returns-2
 returns-2 c =
     let h = c .before .before in
     let s = h .before .before in
     let p = entry s .pre in
     seen-lost _ _ _ _ _ (c .lost .ensures) (read-out _ _ _ (entry s .args .key) (p .0) _ (p .1 .1) (p .1 .0) (h .before .if1 .left) _ (h .has .ensures) (not-true _ (c .before .if2 .taken)))
-
-read-requires : tie.Need-read-requires
-read-requires c κs = search needs
-
-lost-requires-2 : tie.Need-lost-requires-2
-lost-requires-2 c κs = search needs
 
 returns-3 : tie.Need-returns-3
 returns-3 c =
@@ -79,11 +67,11 @@ stand-spec =
     (tie.spec
     scan-requires
     returns
-    has-requires
-    lost-requires
+    (λ c κs. search needs)
+    (λ c κs. search needs)
     returns-2
-    read-requires
-    lost-requires-2
+    (λ c κs. search needs)
+    (λ c κs. search needs)
     returns-3
     returns-4
     scan-requires-2

@@ -21,20 +21,11 @@ call r = let a = start r .args in insertion (a .collection) (a .key) (a .recordi
 fits : (c : tie.Else1) → sliceNumber (seventeenIn (call (c .before)) (start (c .before) .args .table .now)) (length (start (c .before) .args .words .now)) (start (c .before) .args .table .now) ≡ 0
 fits c = sym (c .before .refusal .ensures) ∙ c .if1 .left
 
-refusal-requires : tie.Need-refusal-requires
-refusal-requires c κs = search needs
-
-same-length : tie.Need-same-length
-same-length c = search needs
-
 returns : tie.Need-returns
 returns c =
     let r = c .before in
     let a = start r .args in
     keep-not (call r) (a .list .now) (a .words .now) (a .table .now) (a .dock) _ (r .refusal .ensures) (c .if1 .taken)
-
-insert-requires : tie.Need-insert-requires
-insert-requires c κs = search needs
 
 keep-requires : tie.Need-keep-requires
 keep-requires c κs =
@@ -44,15 +35,6 @@ keep-requires c κs =
     let a = start r .args in
     let p = w .insert .ensures in
     keep-asks (call r) (a .list .now) (a .words .now) (a .table .now) (a .dock) (fits e) _ _ (a .words .now) _ (p .0) (p .1 .0) (p .1 .1)
-
-same-length-2 : tie.Need-same-length-2
-same-length-2 c = search needs
-
-same-length-3 : tie.Need-same-length-3
-same-length-3 c = search needs
-
-same-length-4 : tie.Need-same-length-4
-same-length-4 c = search needs
 
 returns-2 : tie.Need-returns-2
 returns-2 c =
@@ -68,12 +50,12 @@ pub insert-with-spec : {M : Type 1} → statement M
 insert-with-spec =
     tie.close
     (tie.spec
-    refusal-requires
-    same-length
+    (λ c κs. search needs)
+    (λ c. search needs)
     returns
-    insert-requires
+    (λ c κs. search needs)
     keep-requires
-    same-length-2
-    same-length-3
-    same-length-4
+    (λ c. search needs)
+    (λ c. search needs)
+    (λ c. search needs)
     returns-2)

@@ -15,41 +15,14 @@ Inv-loop table w first before₀ i₀ before i = (i ≤ first) × (begunIn befor
 abbrev μ-loop : tie.MeasureT-loop
 μ-loop table w first before₀ i₀ before i = first - i
 
-mul-before : tie.Need-mul-before Inv-loop μ-loop
-mul-before c = search needs
-
-shared-slice-read-before : tie.Need-shared-slice-read-before Inv-loop μ-loop
-shared-slice-read-before c = search needs
-
 loop-holds : tie.Need-loop-holds Inv-loop μ-loop
 loop-holds c = (omega arith, begun-start _ _ _)
-
-mul-p : tie.Need-mul-p Inv-loop μ-loop
-mul-p c = search needs
-
-add-p : tie.Need-add-p Inv-loop μ-loop
-add-p c = search needs
-
-add-p-2 : tie.Need-add-p-2 Inv-loop μ-loop
-add-p-2 c = search needs
-
-mul-p-2 : tie.Need-mul-p-2 Inv-loop μ-loop
-mul-p-2 c = search needs
-
-shared-slice-read-p : tie.Need-shared-slice-read-p Inv-loop μ-loop
-shared-slice-read-p c = search needs
 
 returns : tie.Need-returns Inv-loop μ-loop
 returns c =
     let l = c .before .before .before in
     let b = l .before .before in
     begun-stop (b .args .table .now) (b .args .w) _ _ _ _ (b .pre .0) (b .pre .1) (omega arith) (l .loop .inv .1) (c .if1 .taken)
-
-add-i : tie.Need-add-i Inv-loop μ-loop
-add-i c = search needs
-
-loop-less : tie.Need-loop-less Inv-loop μ-loop
-loop-less c = search needs
 
 loop-again : tie.Need-loop-again Inv-loop μ-loop
 loop-again c =
@@ -66,16 +39,16 @@ begin-spec =
     (tie.spec
     Inv-loop
     μ-loop
-    mul-before
-    shared-slice-read-before
+    (λ c. search needs)
+    (λ c. search needs)
     loop-holds
-    mul-p
-    add-p
-    add-p-2
-    mul-p-2
-    shared-slice-read-p
+    (λ c. search needs)
+    (λ c. search needs)
+    (λ c. search needs)
+    (λ c. search needs)
+    (λ c. search needs)
     returns
-    add-i
-    loop-less
+    (λ c. search needs)
+    (λ c. search needs)
     loop-again
     returns-2)

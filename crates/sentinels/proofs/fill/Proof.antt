@@ -37,9 +37,6 @@ renew-requires c κs = let l = c .before .before in (start l .pre .0, (l .loop .
 add-n : tie.Need-add-n Inv-loop μ-loop
 add-n c = let l = c .before .before .before .before .before in omega (arith, few-nodes _ (sound-head _ (start l .pre .0)) .1)
 
-loop-less : tie.Need-loop-less Inv-loop μ-loop
-loop-less c = search needs
-
 loop-again : tie.Need-loop-again Inv-loop μ-loop
 loop-again c =
     let r = c .before .before in
@@ -64,7 +61,7 @@ fill-spec =
     loop-holds
     renew-requires
     add-n
-    loop-less
+    (λ c. search needs)
     loop-again
     same-length
     returns)

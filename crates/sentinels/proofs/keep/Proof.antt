@@ -17,9 +17,6 @@ start k = k .before .before .before .before .before .before
 room : (k : tie.After-known-told) → 2 * ordersAnswered (start k .args .answer) ≤ length (start k .args .list .now)
 room k = start k .pre .room
 
-enum-known-answer : tie.Need-enum-known-answer
-enum-known-answer c = search needs
-
 add-count : tie.Need-add-count
 add-count c = omega (arith, done-count _ _ _ _ (c .before .answer .given .1), room c)
 
@@ -32,12 +29,6 @@ renew-stored-requires c κs =
     let p = start k .pre in
     let e = done-count _ _ _ _ (k .before .answer .given .1) in
     (p .header, (λ h. p .sound-if (omega (arith, e, h)), (p .slice, omega (arith, e, p .room))))
-
-enum-told : tie.Need-enum-told
-enum-told c = search needs
-
-same-length : tie.Need-same-length
-same-length c = search needs
 
 returns : tie.Need-returns
 returns c =
@@ -55,11 +46,11 @@ pub keep-spec : {M : Type 1} → statement M
 keep-spec =
     tie.close
     (tie.spec
-    enum-known-answer
+    (λ c. search needs)
     add-count
     add-count-2
     renew-stored-requires
-    enum-told
-    same-length
+    (λ c. search needs)
+    (λ c. search needs)
     returns
     returns-2)

@@ -28,17 +28,11 @@ number l o = seenIn (view (start l .args .table .now)) (start l .args .key) o .n
 loop-holds : tie.Need-loop-holds Inv-loop μ-loop
 loop-holds c = refl
 
-has-requires : tie.Need-has-requires Inv-loop μ-loop
-has-requires c κs = search needs
-
 returns : tie.Need-returns Inv-loop μ-loop
 returns c =
     let h = c .before in
     let l = h .before in
     ap (number l) (turn-out (start l .args .table .now) (l .loop .low) (l .loop .high) _ _ _ (l .loop .inv) (start l .pre) (sym (h .has .ensures) ∙ not-true _ (c .if1 .taken)))
-
-read-requires : tie.Need-read-requires Inv-loop μ-loop
-read-requires c κs = search needs
 
 returns-2 : tie.Need-returns-2 Inv-loop μ-loop
 returns-2 c =
@@ -76,15 +70,6 @@ stand-requires c κs =
     let p = start (h .before) .pre in
     (p, (sym (level-in _ _ _ _ p (sym (h .has .ensures) ∙ not-false _ (d .before .if1 .left)) (d .read .ensures)) ∙ eq-eqb (d .read .result .level) _ refl, d .read .ensures))
 
-sub-low : tie.Need-sub-low Inv-loop μ-loop
-sub-low c = search needs
-
-sub-high : tie.Need-sub-high Inv-loop μ-loop
-sub-high c = search needs
-
-loop-less : tie.Need-loop-less Inv-loop μ-loop
-loop-less c = search needs
-
 loop-again : tie.Need-loop-again Inv-loop μ-loop
 loop-again c =
     let z = c .before in
@@ -101,15 +86,15 @@ leaf-for-spec =
     Inv-loop
     μ-loop
     loop-holds
-    has-requires
+    (λ c κs. search needs)
     returns
-    read-requires
+    (λ c κs. search needs)
     returns-2
     returns-3
     leaf-at-requires
     returns-4
     stand-requires
-    sub-low
-    sub-high
-    loop-less
+    (λ c. search needs)
+    (λ c. search needs)
+    (λ c. search needs)
     loop-again)

@@ -32,9 +32,6 @@ start l = l .before .before .before .before .before
 abbrev held : tie.At-loop Inv-loop μ-loop → List Slot → ℕ
 held l ss = pointerIn (firstWith (start l .args .key) ss)
 
-begin-requires : tie.Need-begin-requires Inv-loop μ-loop
-begin-requires c κs = search needs
-
 returns : tie.Need-returns Inv-loop μ-loop
 returns c =
     let b = c .before .before in
@@ -47,44 +44,11 @@ loop-holds c =
     let a = b .before .before in
     (omega arith, omega arith, ap (λ (ss : List Slot). pointerIn (firstWith (a .args .key) ss)) (line-start (a .args .table .now) (a .args .w) _ _ (b .begin .ensures) (not-false _ (c .if1 .left))))
 
-add-loop : tie.Need-add-loop Inv-loop μ-loop
-add-loop cNone = search needs
-
-mul-p : tie.Need-mul-p Inv-loop μ-loop
-mul-p cNone = search needs
-
-add-p : tie.Need-add-p Inv-loop μ-loop
-add-p cNone = search needs
-
-add-p-2 : tie.Need-add-p-2 Inv-loop μ-loop
-add-p-2 cNone = search needs
-
-mul-p-2 : tie.Need-mul-p-2 Inv-loop μ-loop
-mul-p-2 cNone = search needs
-
-shared-slice-read-p : tie.Need-shared-slice-read-p Inv-loop μ-loop
-shared-slice-read-p cNone = search needs
-
 returns-2 : tie.Need-returns-2 Inv-loop μ-loop
 returns-2 c =
     let l = c .before .before .before in
     let a = start l in
     sym (held-nil (a .args .key)) ∙ line-stop (held l) (a .args .table .now) (a .args .w) _ (a .args .first + 4) (l .loop .i) _ (l .loop .inv .2) (a .pre .0) (omega arith) (omega arith) (c .if2 .taken)
-
-mul-if4 : tie.Need-mul-if4 Inv-loop μ-loop
-mul-if4 cNone = search needs
-
-add-if4 : tie.Need-add-if4 Inv-loop μ-loop
-add-if4 cNone = search needs
-
-add-if4-2 : tie.Need-add-if4-2 Inv-loop μ-loop
-add-if4-2 cNone = search needs
-
-mul-if4-2 : tie.Need-mul-if4-2 Inv-loop μ-loop
-mul-if4-2 cNone = search needs
-
-shared-slice-read-if4 : tie.Need-shared-slice-read-if4 Inv-loop μ-loop
-shared-slice-read-if4 cNone = search needs
 
 returns-3 : tie.Need-returns-3 Inv-loop μ-loop
 returns-3 c =
@@ -93,12 +57,6 @@ returns-3 c =
     let a = start l in
     line-shows (held l) (a .args .table .now) (a .args .w) _ (a .args .first + 4) (l .loop .i) _ (l .loop .inv .2) (a .pre .0) (omega arith) (omega arith) (e .if2 .left) (c .before .before .if3 .taken)
     (held-here _ _ _ (c .if4 .taken))
-
-add-i : tie.Need-add-i Inv-loop μ-loop
-add-i cNone = search needs
-
-loop-less : tie.Need-loop-less Inv-loop μ-loop
-loop-less cNone = search needs
 
 loop-again : tie.Need-loop-again Inv-loop μ-loop
 loop-again c =
@@ -125,23 +83,23 @@ line-find-spec =
     (tie.spec
     Inv-loop
     μ-loop
-    begin-requires
+    (λ c κs. search needs)
     returns
     loop-holds
-    add-loop
-    mul-p
-    add-p
-    add-p-2
-    mul-p-2
-    shared-slice-read-p
+    (λ cNone. search needs)
+    (λ cNone. search needs)
+    (λ cNone. search needs)
+    (λ cNone. search needs)
+    (λ cNone. search needs)
+    (λ cNone. search needs)
     returns-2
-    mul-if4
-    add-if4
-    add-if4-2
-    mul-if4-2
-    shared-slice-read-if4
+    (λ cNone. search needs)
+    (λ cNone. search needs)
+    (λ cNone. search needs)
+    (λ cNone. search needs)
+    (λ cNone. search needs)
     returns-3
-    add-i
-    loop-less
+    (λ cNone. search needs)
+    (λ cNone. search needs)
     loop-again
     returns-4)

@@ -24,9 +24,6 @@ abbrev μ-loop : tie.MeasureT-loop
 abbrev start : tie.At-loop Inv-loop μ-loop → tie.Start Inv-loop μ-loop
 start l = l .before .before .before .before .before
 
-begin-requires : tie.Need-begin-requires Inv-loop μ-loop
-begin-requires c κs = search needs
-
 returns : tie.Need-returns Inv-loop μ-loop
 returns c =
     let b = c .before .before in
@@ -37,44 +34,11 @@ loop-holds c =
     let b = c .before .before in
     (omega arith, omega arith, ap firstKey (line-start (b .before .before .args .table .now) (b .before .before .args .w) _ _ (b .begin .ensures) (not-false _ (c .if1 .left))))
 
-add-loop : tie.Need-add-loop Inv-loop μ-loop
-add-loop cNone = search needs
-
-mul-p : tie.Need-mul-p Inv-loop μ-loop
-mul-p cNone = search needs
-
-add-p : tie.Need-add-p Inv-loop μ-loop
-add-p cNone = search needs
-
-add-p-2 : tie.Need-add-p-2 Inv-loop μ-loop
-add-p-2 cNone = search needs
-
-mul-p-2 : tie.Need-mul-p-2 Inv-loop μ-loop
-mul-p-2 cNone = search needs
-
-shared-slice-read-p : tie.Need-shared-slice-read-p Inv-loop μ-loop
-shared-slice-read-p cNone = search needs
-
 returns-2 : tie.Need-returns-2 Inv-loop μ-loop
 returns-2 c =
     let l = c .before .before .before in
     let a = start l in
     line-stop firstKey (a .args .table .now) (a .args .w) _ (a .args .first + 4) (l .loop .i) _ (l .loop .inv .2) (a .pre .0) (omega arith) (omega arith) (c .if2 .taken)
-
-mul-result : tie.Need-mul-result Inv-loop μ-loop
-mul-result cNone = search needs
-
-add-result : tie.Need-add-result Inv-loop μ-loop
-add-result cNone = search needs
-
-add-result-2 : tie.Need-add-result-2 Inv-loop μ-loop
-add-result-2 cNone = search needs
-
-mul-result-2 : tie.Need-mul-result-2 Inv-loop μ-loop
-mul-result-2 cNone = search needs
-
-shared-slice-read-result : tie.Need-shared-slice-read-result Inv-loop μ-loop
-shared-slice-read-result cNone = search needs
 
 returns-3 : tie.Need-returns-3 Inv-loop μ-loop
 returns-3 c =
@@ -82,12 +46,6 @@ returns-3 c =
     let l = e .before .before .before in
     let a = start l in
     line-shows firstKey (a .args .table .now) (a .args .w) _ (a .args .first + 4) (l .loop .i) _ (l .loop .inv .2) (a .pre .0) (omega arith) (omega arith) (e .if2 .left) (c .before .if3 .taken) refl
-
-add-i : tie.Need-add-i Inv-loop μ-loop
-add-i cNone = search needs
-
-loop-less : tie.Need-loop-less Inv-loop μ-loop
-loop-less cNone = search needs
 
 loop-again : tie.Need-loop-again Inv-loop μ-loop
 loop-again c =
@@ -108,23 +66,23 @@ line-key-spec =
     (tie.spec
     Inv-loop
     μ-loop
-    begin-requires
+    (λ c κs. search needs)
     returns
     loop-holds
-    add-loop
-    mul-p
-    add-p
-    add-p-2
-    mul-p-2
-    shared-slice-read-p
+    (λ cNone. search needs)
+    (λ cNone. search needs)
+    (λ cNone. search needs)
+    (λ cNone. search needs)
+    (λ cNone. search needs)
+    (λ cNone. search needs)
     returns-2
-    mul-result
-    add-result
-    add-result-2
-    mul-result-2
-    shared-slice-read-result
+    (λ cNone. search needs)
+    (λ cNone. search needs)
+    (λ cNone. search needs)
+    (λ cNone. search needs)
+    (λ cNone. search needs)
     returns-3
-    add-i
-    loop-less
+    (λ cNone. search needs)
+    (λ cNone. search needs)
     loop-again
     returns-4)

@@ -15,23 +15,11 @@ start c = c .before .before .before
 abbrev from-start : tie.After-start → tie.Start
 from-start c = start (c .before .before)
 
-is-leaf-requires : tie.Need-is-leaf-requires
-is-leaf-requires c κs = search needs
-
-put-three-requires : tie.Need-put-three-requires
-put-three-requires c κs = search needs
-
-same-length : tie.Need-same-length
-same-length c = search needs
-
 returns : tie.Need-returns
 returns c =
     let p = c .before .before in
     let l = p .before .before .before in
     p .put-three .ensures ∙ no-words (start l .args .table .now) _ _ _ (l .is-leaf .ensures) (not-true _ (p .before .before .if1 .taken))
-
-start-requires : tie.Need-start-requires
-start-requires c κs = search needs
 
 line-key-requires : tie.Need-line-key-requires
 line-key-requires c κs =
@@ -51,12 +39,6 @@ line-key-requires-3 c κs =
     let b = from-start a in
     (node-long (b .args .table .now) (b .args .n) _ (b .pre .0) (b .pre .1 .1 .0) (b .pre .1 .1 .1) (a .start .ensures), omega arith)
 
-put-three-requires-2 : tie.Need-put-three-requires-2
-put-three-requires-2 c κs = search needs
-
-same-length-2 : tie.Need-same-length-2
-same-length-2 c = search needs
-
 returns-2 : tie.Need-returns-2
 returns-2 c =
     let p = c .before .before in
@@ -71,14 +53,14 @@ pub renew-spec : {M : Type 1} → statement M
 renew-spec =
     tie.close
     (tie.spec
-    is-leaf-requires
-    put-three-requires
-    same-length
+    (λ c κs. search needs)
+    (λ c κs. search needs)
+    (λ c. search needs)
     returns
-    start-requires
+    (λ c κs. search needs)
     line-key-requires
     line-key-requires-2
     line-key-requires-3
-    put-three-requires-2
-    same-length-2
+    (λ c κs. search needs)
+    (λ c. search needs)
     returns-2)

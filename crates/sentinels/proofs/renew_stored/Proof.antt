@@ -30,15 +30,6 @@ start l = l .before .before .before .before
 loop-holds : tie.Need-loop-holds Inv-loop μ-loop
 loop-holds c = let b = c .before .before .before in (omega arith, b .pre .1 .1 .0, stored-none (b .args .table .now) (b .args .words .now) _ (b .pre .1 .1 .0), λ z. absurd (z refl))
 
-mul-stored-node : tie.Need-mul-stored-node Inv-loop μ-loop
-mul-stored-node c = search needs
-
-mul-stored-node-2 : tie.Need-mul-stored-node-2 Inv-loop μ-loop
-mul-stored-node-2 c = search needs
-
-shared-slice-read-stored-node : tie.Need-shared-slice-read-stored-node Inv-loop μ-loop
-shared-slice-read-stored-node c = search needs
-
 stored-node-requires : tie.Need-stored-node-requires Inv-loop μ-loop
 stored-node-requires c κs = let l = c .before .before in let f = header-iff _ .0 (start l .pre .0) .size in omega (arith, f .long, f .few)
 
@@ -48,12 +39,6 @@ renew-once-requires c κs =
     let l = n .before .before .before in
     let b = start l in
     (b .pre .1 .0 (omega arith), (l .loop .inv .1, stored-few (b .args .table .now) (b .args .words .now) _ (b .pre .1 .1 .0) _ _ _ (header-iff _ .0 (b .pre .0) .size .long) (n .stored-node .ensures) (l .loop .inv .3)))
-
-add-i : tie.Need-add-i Inv-loop μ-loop
-add-i c = search needs
-
-loop-less : tie.Need-loop-less Inv-loop μ-loop
-loop-less c = search needs
 
 loop-again : tie.Need-loop-again Inv-loop μ-loop
 loop-again c =
@@ -86,13 +71,13 @@ renew-stored-spec =
     Inv-loop
     μ-loop
     loop-holds
-    mul-stored-node
-    mul-stored-node-2
-    shared-slice-read-stored-node
+    (λ c. search needs)
+    (λ c. search needs)
+    (λ c. search needs)
     stored-node-requires
     renew-once-requires
-    add-i
-    loop-less
+    (λ c. search needs)
+    (λ c. search needs)
     loop-again
     same-length
     returns)

@@ -17,12 +17,6 @@ start r = r .before .before .before
 passed : (c : tie.Else1) → headerOk (start (c .before) .args .table .now) ≡ true
 passed c = root-there _ _ _ (c .before .root .ensures) (c .if1 .left) .0
 
-root-requires : tie.Need-root-requires
-root-requires c κs = search needs
-
-refusal-requires : tie.Need-refusal-requires
-refusal-requires c κs = search needs
-
 returns : tie.Need-returns
 returns c =
     let r = c .before .before in
@@ -63,12 +57,6 @@ on-line-requires c κs =
       ),
     )
 
-recording-requires : tie.Need-recording-requires
-recording-requires c κs = search needs
-
-class-requires : tie.Need-class-requires
-class-requires c κs = search needs
-
 returns-4 : tie.Need-returns-4
 returns-4 c =
     let d = c .before in
@@ -108,16 +96,16 @@ pub search-with-spec : {M : Type 1} → statement M
 search-with-spec =
     tie.close
     (tie.spec
-    root-requires
-    refusal-requires
+    (λ c κs. search needs)
+    (λ c κs. search needs)
     returns
     fits-requires
     returns-2
     leaf-for-requires
     returns-3
     on-line-requires
-    recording-requires
-    class-requires
+    (λ c κs. search needs)
+    (λ c κs. search needs)
     returns-4
     whole-leaf-requires
     returns-5)

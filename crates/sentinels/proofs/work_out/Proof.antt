@@ -18,14 +18,8 @@ start r = r .before .before .before
 fine : (c : tie.Else1) → _≡_ {A = ℕ} 0 (sliceNumber false (length (start (c .before) .args .words .now)) (start (c .before) .args .table .now))
 fine c = sym (c .if1 .left) ∙ c .before .refusal-any .ensures
 
-refusal-any-requires : tie.Need-refusal-any-requires
-refusal-any-requires c κs = search needs
-
 returns : tie.Need-returns
 returns c = let r = c .before in let a = start r in work-refused (a .args .words .now) (a .args .table .now) _ (r .refusal-any .ensures) (c .if1 .taken)
-
-is-sound-requires : tie.Need-is-sound-requires
-is-sound-requires c κs = search needs
 
 returns-2 : tie.Need-returns-2
 returns-2 c =
@@ -39,9 +33,6 @@ fill-requires c κs =
     let a = start (s .before .before) in
     (sym (s .is-sound .ensures) ∙ not-false _ (c .before .if2 .left), work-long (a .args .words .now) (a .args .table .now) (fine (s .before)))
 
-same-length : tie.Need-same-length
-same-length c = search needs
-
 returns-3 : tie.Need-returns-3
 returns-3 c =
     let f = c .before .before in
@@ -54,10 +45,10 @@ pub work-out-spec : {M : Type 1} → statement M
 work-out-spec =
     tie.close
     (tie.spec
-    refusal-any-requires
+    (λ c κs. search needs)
     returns
-    is-sound-requires
+    (λ c κs. search needs)
     returns-2
     fill-requires
-    same-length
+    (λ c. search needs)
     returns-3)

@@ -24,15 +24,6 @@ to-close-gap c = c .before .before .before .before
 
 -- ---- the answers
 
-start-requires : tie.Need-start-requires
-start-requires c κs = search needs
-
-read-requires : tie.Need-read-requires
-read-requires c κs = search needs
-
-hidden-place-requires : tie.Need-hidden-place-requires
-hidden-place-requires c κs = search needs
-
 close-gap-requires : tie.Need-close-gap-requires
 close-gap-requires c κs =
     let after-hidden-place = to-hidden-place c in
@@ -48,12 +39,6 @@ close-gap-requires c κs =
       ),
     )
 
-same-length : tie.Need-same-length
-same-length c = search needs
-
-same-length-2 : tie.Need-same-length-2
-same-length-2 c = search needs
-
 returns : tie.Need-returns
 returns c =
     let after-close-gap = to-close-gap c in
@@ -67,10 +52,10 @@ pub close-spec : {M : Type 1} → statement M
 close-spec =
     tie.close
     (tie.spec
-    start-requires
-    read-requires
-    hidden-place-requires
+    (λ c κs. search needs)
+    (λ c κs. search needs)
+    (λ c κs. search needs)
     close-gap-requires
-    same-length
-    same-length-2
+    (λ c. search needs)
+    (λ c. search needs)
     returns)

@@ -5,9 +5,6 @@ use borrow.Author.Needs.{needs}
 use Rattle.shift.proofs.close_gap.Statement.{statement}
 use Rattle.shift.proofs.close_gap.Tie as tie
 
-last-requires : tie.Need-last-requires
-last-requires c κs = search needs
-
 move-down-requires : tie.Need-move-down-requires
 move-down-requires c κs =
     let after-last = c .before .before in
@@ -21,12 +18,6 @@ put-pointer-requires c κs =
     let entry = after-last .before .before .before in
     (omega (arith, after-last .last .ensures .1), (omega arith, gap-last _ (entry .args .slots) _ _ (after-last .last .ensures .0) _ (entry .pre .1 .1) _ (after-move-down .move-down .ensures)))
 
-same-length : tie.Need-same-length
-same-length c = search needs
-
-same-length-2 : tie.Need-same-length-2
-same-length-2 c = search needs
-
 returns : tie.Need-returns
 returns c =
     let after-put-pointer = c .before .before .before .before in
@@ -39,9 +30,9 @@ pub close-gap-spec : {M : Type 1} → statement M
 close-gap-spec =
     tie.close
     (tie.spec
-    last-requires
+    (λ c κs. search needs)
     move-down-requires
     put-pointer-requires
-    same-length
-    same-length-2
+    (λ c. search needs)
+    (λ c. search needs)
     returns)

@@ -33,18 +33,6 @@ to-slot-in c = c .before .before .before .before
 
 -- ---- the answers
 
-word-requires : tie.Need-word-requires
-word-requires c κs = search needs
-
-word-requires-2 : tie.Need-word-requires-2
-word-requires-2 c κs = search needs
-
-start-requires : tie.Need-start-requires
-start-requires c κs = search needs
-
-read-requires : tie.Need-read-requires
-read-requires c κs = search needs
-
 cut-off-requires : tie.Need-cut-off-requires
 cut-off-requires c κs =
     let entry = to-entry (c .before .before .before .before .before .before .before .before) in
@@ -65,12 +53,6 @@ slot-in-requires c κs =
           (then-room _ _ _ _ (after-cut-off .cut-off .ensures) (entry .pre .1 .1 .1 .1)),
     )
 
-same-length : tie.Need-same-length
-same-length c = search needs
-
-same-length-2 : tie.Need-same-length-2
-same-length-2 c = search needs
-
 returns : tie.Need-returns
 returns c =
     let after-slot-in = to-slot-in c in
@@ -89,12 +71,12 @@ pub cut-attach-spec : {M : Type 1} → statement M
 cut-attach-spec =
     tie.close
     (tie.spec
-    word-requires
-    word-requires-2
-    start-requires
-    read-requires
+    (λ c κs. search needs)
+    (λ c κs. search needs)
+    (λ c κs. search needs)
+    (λ c κs. search needs)
     cut-off-requires
     slot-in-requires
-    same-length
-    same-length-2
+    (λ c. search needs)
+    (λ c. search needs)
     returns)

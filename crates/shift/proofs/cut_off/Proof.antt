@@ -25,18 +25,6 @@ to-put-pointer c = c .before .before .before .before
 
 -- ---- the answers
 
-start-requires : tie.Need-start-requires
-start-requires c κs = search needs
-
-read-requires : tie.Need-read-requires
-read-requires c κs = search needs
-
-word-requires : tie.Need-word-requires
-word-requires c κs = search needs
-
-place-requires : tie.Need-place-requires
-place-requires c κs = search needs
-
 put-pointer-requires : tie.Need-put-pointer-requires
 put-pointer-requires c κs =
     let after-place = to-place c in
@@ -52,12 +40,6 @@ put-pointer-requires c κs =
             (entry .pre .1 .1),
       ),
     )
-
-same-length : tie.Need-same-length
-same-length c = search needs
-
-same-length-2 : tie.Need-same-length-2
-same-length-2 c = search needs
 
 returns : tie.Need-returns
 returns c =
@@ -75,11 +57,11 @@ pub cut-off-spec : {M : Type 1} → statement M
 cut-off-spec =
     tie.close
     (tie.spec
-    start-requires
-    read-requires
-    word-requires
-    place-requires
+    (λ c κs. search needs)
+    (λ c κs. search needs)
+    (λ c κs. search needs)
+    (λ c κs. search needs)
     put-pointer-requires
-    same-length
-    same-length-2
+    (λ c. search needs)
+    (λ c. search needs)
     returns)

@@ -43,18 +43,6 @@ stores c = let f = found c in let w = linked f in free-as _ _ _ _ _ _ _ (fenced 
 
 -- ---- the answers
 
-word-requires : tie.Need-word-requires
-word-requires c κs = search needs
-
-word-requires-2 : tie.Need-word-requires-2
-word-requires-2 c κs = search needs
-
-child-before-requires : tie.Need-child-before-requires
-child-before-requires c κs = search needs
-
-start-requires : tie.Need-start-requires
-start-requires c κs = search needs
-
 shift-out-requires : tie.Need-shift-out-requires
 shift-out-requires c κs = let s = started c in let e = entry s in (e .pre .0, (e .pre .1 .0, room-first _ _ _ (room-as _ _ _ (stores s) (e .pre .1 .1 .1))))
 
@@ -64,12 +52,6 @@ add-store c = let s = started (out c .before) in
 
 store-requires : tie.Need-store-requires
 store-requires c κs = let o = out c in let s = started (o .before) in then-room _ _ _ _ (o .shift-out .ensures) (room-as _ _ _ (stores s) (entry s .pre .1 .1 .1))
-
-same-length : tie.Need-same-length
-same-length c = search needs
-
-same-length-2 : tie.Need-same-length-2
-same-length-2 c = search needs
 
 returns : tie.Need-returns
 returns c =
@@ -81,13 +63,13 @@ pub free-leaf-spec : {M : Type 1} → statement M
 free-leaf-spec =
     tie.close
     (tie.spec
-    word-requires
-    word-requires-2
-    child-before-requires
-    start-requires
+    (λ c κs. search needs)
+    (λ c κs. search needs)
+    (λ c κs. search needs)
+    (λ c κs. search needs)
     shift-out-requires
     add-store
     store-requires
-    same-length
-    same-length-2
+    (λ c. search needs)
+    (λ c. search needs)
     returns)

@@ -36,26 +36,8 @@ to-put-pointer c = c .before .before .before .before
 
 -- ---- the answers
 
-count-requires : tie.Need-count-requires Inv-loop μ-loop
-count-requires c κs = search needs
-
 loop-holds : tie.Need-loop-holds Inv-loop μ-loop
 loop-holds c = let s = to-entry c .args .t5 in (omega arith, omega (arith, in-use-short s), c .count .ensures .0, refl, refl, rest-start (to-entry c .pre .1 .1))
-
-add-loop : tie.Need-add-loop Inv-loop μ-loop
-add-loop c = search needs
-
-add-put-key : tie.Need-add-put-key Inv-loop μ-loop
-add-put-key c = search needs
-
-mul-put-key : tie.Need-mul-put-key Inv-loop μ-loop
-mul-put-key c = search needs
-
-mul-put-key-2 : tie.Need-mul-put-key-2 Inv-loop μ-loop
-mul-put-key-2 c = search needs
-
-array-read-put-key : tie.Need-array-read-put-key Inv-loop μ-loop
-array-read-put-key c = search needs
 
 put-key-requires : tie.Need-put-key-requires Inv-loop μ-loop
 put-key-requires c κs =
@@ -63,33 +45,12 @@ put-key-requires c κs =
     let entry = to-entry (at-loop .before) in
     let l = at-loop .loop in (omega arith, (omega arith, two-first (down-next _ (entry .args .t5) (l .i) (omega arith)) (l .inv .5)))
 
-add-put-pointer : tie.Need-add-put-pointer Inv-loop μ-loop
-add-put-pointer c = search needs
-
-mul-put-pointer : tie.Need-mul-put-pointer Inv-loop μ-loop
-mul-put-pointer c = search needs
-
-add-put-pointer-2 : tie.Need-add-put-pointer-2 Inv-loop μ-loop
-add-put-pointer-2 c = search needs
-
-mul-put-pointer-2 : tie.Need-mul-put-pointer-2 Inv-loop μ-loop
-mul-put-pointer-2 c = search needs
-
-array-read-put-pointer : tie.Need-array-read-put-pointer Inv-loop μ-loop
-array-read-put-pointer c = search needs
-
 put-pointer-requires : tie.Need-put-pointer-requires Inv-loop μ-loop
 put-pointer-requires c κs =
     let after-put-key = to-put-key c in
     let at-loop = to-loop (after-put-key .before) in
     let entry = to-entry (at-loop .before) in
     let l = at-loop .loop in (omega arith, (omega arith, two-second (down-next _ (entry .args .t5) (l .i) (omega arith)) (l .inv .5) (after-put-key .put-key .ensures)))
-
-add-i : tie.Need-add-i Inv-loop μ-loop
-add-i c = search needs
-
-loop-less : tie.Need-loop-less Inv-loop μ-loop
-loop-less c = search needs
 
 loop-again : tie.Need-loop-again Inv-loop μ-loop
 loop-again c =
@@ -99,12 +60,6 @@ loop-again c =
     let entry = to-entry (at-loop .before) in
     let l = at-loop .loop in
     (omega arith, l .inv .1, l .inv .2, search needs, search needs, two-after (down-next _ (entry .args .t5) (l .i) (omega arith)) (l .inv .5) (after-put-key .put-key .ensures) (after-put-pointer .put-pointer .ensures))
-
-same-length : tie.Need-same-length Inv-loop μ-loop
-same-length c = search needs
-
-same-length-2 : tie.Need-same-length-2 Inv-loop μ-loop
-same-length-2 c = search needs
 
 returns : tie.Need-returns Inv-loop μ-loop
 returns c =
@@ -118,23 +73,23 @@ move-down-spec =
     (tie.spec
     Inv-loop
     μ-loop
-    count-requires
+    (λ c κs. search needs)
     loop-holds
-    add-loop
-    add-put-key
-    mul-put-key
-    mul-put-key-2
-    array-read-put-key
+    (λ c. search needs)
+    (λ c. search needs)
+    (λ c. search needs)
+    (λ c. search needs)
+    (λ c. search needs)
     put-key-requires
-    add-put-pointer
-    mul-put-pointer
-    add-put-pointer-2
-    mul-put-pointer-2
-    array-read-put-pointer
+    (λ c. search needs)
+    (λ c. search needs)
+    (λ c. search needs)
+    (λ c. search needs)
+    (λ c. search needs)
     put-pointer-requires
-    add-i
-    loop-less
+    (λ c. search needs)
+    (λ c. search needs)
     loop-again
-    same-length
-    same-length-2
+    (λ c. search needs)
+    (λ c. search needs)
     returns)

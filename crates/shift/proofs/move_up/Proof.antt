@@ -36,41 +36,11 @@ to-put-key c = c .before .before .before .before
 
 -- ---- the answers
 
-count-requires : tie.Need-count-requires Inv-loop μ-loop
-count-requires c κs = search needs
-
 loop-holds : tie.Need-loop-holds Inv-loop μ-loop
 loop-holds c = let s = to-entry c .args .t5 in (omega (arith, in-use-short s), omega arith, refl, refl, rest-same (up-start _ s _ _ (c .count .ensures .0)) (rest-start (to-entry c .pre .1)))
 
-sub-put-pointer : tie.Need-sub-put-pointer Inv-loop μ-loop
-sub-put-pointer c = search needs
-
-mul-put-pointer : tie.Need-mul-put-pointer Inv-loop μ-loop
-mul-put-pointer c = search needs
-
-add-put-pointer : tie.Need-add-put-pointer Inv-loop μ-loop
-add-put-pointer c = search needs
-
-mul-put-pointer-2 : tie.Need-mul-put-pointer-2 Inv-loop μ-loop
-mul-put-pointer-2 c = search needs
-
-array-read-put-pointer : tie.Need-array-read-put-pointer Inv-loop μ-loop
-array-read-put-pointer c = search needs
-
 put-pointer-requires : tie.Need-put-pointer-requires Inv-loop μ-loop
 put-pointer-requires c κs = let l = to-loop c .loop in (omega arith, (omega arith, two-first (up-next _ _ _ (l .i) (omega arith) (l .inv .1)) (l .inv .4)))
-
-sub-put-key : tie.Need-sub-put-key Inv-loop μ-loop
-sub-put-key c = search needs
-
-mul-put-key : tie.Need-mul-put-key Inv-loop μ-loop
-mul-put-key c = search needs
-
-mul-put-key-2 : tie.Need-mul-put-key-2 Inv-loop μ-loop
-mul-put-key-2 c = search needs
-
-array-read-put-key : tie.Need-array-read-put-key Inv-loop μ-loop
-array-read-put-key c = search needs
 
 put-key-requires : tie.Need-put-key-requires Inv-loop μ-loop
 put-key-requires c κs =
@@ -78,24 +48,12 @@ put-key-requires c κs =
     let at-loop = to-loop (after-put-pointer .before) in
     let l = at-loop .loop in (omega arith, (omega arith, two-second (up-next _ _ _ (l .i) (omega arith) (l .inv .1)) (l .inv .4) (after-put-pointer .put-pointer .ensures)))
 
-sub-i : tie.Need-sub-i Inv-loop μ-loop
-sub-i c = search needs
-
-loop-less : tie.Need-loop-less Inv-loop μ-loop
-loop-less c = search needs
-
 loop-again : tie.Need-loop-again Inv-loop μ-loop
 loop-again c =
     let after-put-key = to-put-key c in
     let after-put-pointer = to-put-pointer (after-put-key .before) in
     let at-loop = to-loop (after-put-pointer .before) in
     let l = at-loop .loop in (omega arith, omega arith, search needs, search needs, two-after (up-next _ _ _ (l .i) (omega arith) (l .inv .1)) (l .inv .4) (after-put-pointer .put-pointer .ensures) (after-put-key .put-key .ensures))
-
-same-length : tie.Need-same-length Inv-loop μ-loop
-same-length c = search needs
-
-same-length-2 : tie.Need-same-length-2 Inv-loop μ-loop
-same-length-2 c = search needs
 
 returns : tie.Need-returns Inv-loop μ-loop
 returns c = let l = c .before .loop in rest-none (rest-same (up-end _ _ _ (l .i) (omega arith)) (l .inv .4))
@@ -106,22 +64,22 @@ move-up-spec =
     (tie.spec
     Inv-loop
     μ-loop
-    count-requires
+    (λ c κs. search needs)
     loop-holds
-    sub-put-pointer
-    mul-put-pointer
-    add-put-pointer
-    mul-put-pointer-2
-    array-read-put-pointer
+    (λ c. search needs)
+    (λ c. search needs)
+    (λ c. search needs)
+    (λ c. search needs)
+    (λ c. search needs)
     put-pointer-requires
-    sub-put-key
-    mul-put-key
-    mul-put-key-2
-    array-read-put-key
+    (λ c. search needs)
+    (λ c. search needs)
+    (λ c. search needs)
+    (λ c. search needs)
     put-key-requires
-    sub-i
-    loop-less
+    (λ c. search needs)
+    (λ c. search needs)
     loop-again
-    same-length
-    same-length-2
+    (λ c. search needs)
+    (λ c. search needs)
     returns)

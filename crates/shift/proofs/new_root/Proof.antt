@@ -26,29 +26,14 @@ to-store c = c .before .before .before .before
 
 -- ---- the answers
 
-start-requires : tie.Need-start-requires
-start-requires c κs = search needs
-
-mul-root : tie.Need-mul-root
-mul-root c = search needs
-
 slice-read-root : tie.Need-slice-read-root
 slice-read-root c = let after-start = c .before in omega (arith, node-fits _ _ _ (to-entry after-start .pre .1 .0) (after-start .start .ensures), to-entry after-start .pre .0)
-
-word-requires : tie.Need-word-requires
-word-requires c κs = search needs
-
-array-write-words : tie.Need-array-write-words
-array-write-words c = search needs
 
 add-words : tie.Need-add-words
 add-words c =
     let after-start = to-start c in
     let entry = to-entry after-start in
     omega (arith, level-is _ _ _ _ _ _ refl (entry .pre .1 .0) (after-start .start .ensures) (c .word .ensures), entry .pre .1 .1 .0)
-
-array-write-words-2 : tie.Need-array-write-words-2
-array-write-words-2 c = search needs
 
 put-words-requires : tie.Need-put-words-requires
 put-words-requires c κs =
@@ -65,12 +50,6 @@ store-requires c κs =
     let entry = to-entry after-start in
     root-link _ _ _ _ _ _ refl (entry .pre .1 .0) (after-start .start .ensures) (after-word .word .ensures) _ (entry .pre .1 .1 .1) _ (after-put-words .put-words .ensures)
 
-same-length : tie.Need-same-length
-same-length c = search needs
-
-same-length-2 : tie.Need-same-length-2
-same-length-2 c = search needs
-
 returns : tie.Need-returns
 returns c =
     let after-store = to-store c in
@@ -84,15 +63,15 @@ pub new-root-spec : {M : Type 1} → statement M
 new-root-spec =
     tie.close
     (tie.spec
-    start-requires
-    mul-root
+    (λ c κs. search needs)
+    (λ c. search needs)
     slice-read-root
-    word-requires
-    array-write-words
+    (λ c κs. search needs)
+    (λ c. search needs)
     add-words
-    array-write-words-2
+    (λ c. search needs)
     put-words-requires
     store-requires
-    same-length
-    same-length-2
+    (λ c. search needs)
+    (λ c. search needs)
     returns)

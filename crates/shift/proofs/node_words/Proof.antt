@@ -16,56 +16,8 @@ Inv-loop left sibling level fence from slots words₀ first end j₀ words j =
 abbrev μ-loop : tie.MeasureT-loop
 μ-loop left sibling level fence from slots words₀ first end j₀ words j = 24 - j
 
-array-write-words : tie.Need-array-write-words Inv-loop μ-loop
-array-write-words c = search needs
-
-array-write-words-2 : tie.Need-array-write-words-2 Inv-loop μ-loop
-array-write-words-2 c = search needs
-
-array-write-words-3 : tie.Need-array-write-words-3 Inv-loop μ-loop
-array-write-words-3 c = search needs
-
-array-write-words-4 : tie.Need-array-write-words-4 Inv-loop μ-loop
-array-write-words-4 c = search needs
-
-mul-first : tie.Need-mul-first Inv-loop μ-loop
-mul-first c = search needs
-
-count-requires : tie.Need-count-requires Inv-loop μ-loop
-count-requires c κs = search needs
-
-mul-end : tie.Need-mul-end Inv-loop μ-loop
-mul-end c = search needs
-
 loop-holds : tie.Need-loop-holds Inv-loop μ-loop
 loop-holds c = (c .before .pre, omega (arith, c .count .ensures .1), refl, omega (arith, c .count .ensures .0), omega arith, search needs, refl, refl)
-
-add-loop : tie.Need-add-loop Inv-loop μ-loop
-add-loop c = search needs
-
-add-words : tie.Need-add-words Inv-loop μ-loop
-add-words c = search needs
-
-mul-words : tie.Need-mul-words Inv-loop μ-loop
-mul-words c = search needs
-
-array-read-words : tie.Need-array-read-words Inv-loop μ-loop
-array-read-words c = search needs
-
-add-words-2 : tie.Need-add-words-2 Inv-loop μ-loop
-add-words-2 c = search needs
-
-mul-words-2 : tie.Need-mul-words-2 Inv-loop μ-loop
-mul-words-2 c = search needs
-
-array-write-words-5 : tie.Need-array-write-words-5 Inv-loop μ-loop
-array-write-words-5 c = search needs
-
-add-j : tie.Need-add-j Inv-loop μ-loop
-add-j c = search needs
-
-loop-less : tie.Need-loop-less Inv-loop μ-loop
-loop-less c = search needs
 
 loop-again : tie.Need-loop-again Inv-loop μ-loop
 loop-again c = let l = c .before .loop in let a = c .before .before .before .args in
@@ -80,22 +32,22 @@ node-words-spec =
     (tie.spec
     Inv-loop
     μ-loop
-    array-write-words
-    array-write-words-2
-    array-write-words-3
-    array-write-words-4
-    mul-first
-    count-requires
-    mul-end
+    (λ c. search needs)
+    (λ c. search needs)
+    (λ c. search needs)
+    (λ c. search needs)
+    (λ c. search needs)
+    (λ c κs. search needs)
+    (λ c. search needs)
     loop-holds
-    add-loop
-    add-words
-    mul-words
-    array-read-words
-    add-words-2
-    mul-words-2
-    array-write-words-5
-    add-j
-    loop-less
+    (λ c. search needs)
+    (λ c. search needs)
+    (λ c. search needs)
+    (λ c. search needs)
+    (λ c. search needs)
+    (λ c. search needs)
+    (λ c. search needs)
+    (λ c. search needs)
+    (λ c. search needs)
     loop-again
     returns)

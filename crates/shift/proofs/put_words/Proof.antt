@@ -22,35 +22,14 @@ abbrev μ-loop : tie.MeasureT-loop
 loop-holds : tie.Need-loop-holds Inv-loop μ-loop
 loop-holds c = (omega arith, search needs, refl, refl, rest-same (rw add-zero) (rest-start (c .before .before .pre .1)))
 
-add-store : tie.Need-add-store Inv-loop μ-loop
-add-store c = search needs
-
-mul-store : tie.Need-mul-store Inv-loop μ-loop
-mul-store c = search needs
-
-array-read-store : tie.Need-array-read-store Inv-loop μ-loop
-array-read-store c = search needs
-
 store-requires : tie.Need-store-requires Inv-loop μ-loop
 store-requires c κs = let l = c .before .before .before .loop in rest-one (rest-same (put-next _ _ (l .j) (omega arith)) (l .inv .4))
-
-add-j : tie.Need-add-j Inv-loop μ-loop
-add-j c = search needs
-
-loop-less : tie.Need-loop-less Inv-loop μ-loop
-loop-less c = search needs
 
 loop-again : tie.Need-loop-again Inv-loop μ-loop
 loop-again c =
     let after-store = c .before .before .before .before in
     let at-loop = after-store .before .before .before .before in
     let l = at-loop .loop in (omega arith, l .inv .1, search needs, search needs, rest-next (rest-same (put-next _ _ (l .j) (omega arith)) (l .inv .4)) (after-store .store .ensures))
-
-same-length : tie.Need-same-length Inv-loop μ-loop
-same-length c = search needs
-
-same-length-2 : tie.Need-same-length-2 Inv-loop μ-loop
-same-length-2 c = search needs
 
 returns : tie.Need-returns Inv-loop μ-loop
 returns c = let l = c .before .loop in rest-none (rest-same (put-end _ _ (l .j) (omega arith)) (l .inv .4))
@@ -62,13 +41,13 @@ put-words-spec =
     Inv-loop
     μ-loop
     loop-holds
-    add-store
-    mul-store
-    array-read-store
+    (λ c. search needs)
+    (λ c. search needs)
+    (λ c. search needs)
     store-requires
-    add-j
-    loop-less
+    (λ c. search needs)
+    (λ c. search needs)
     loop-again
-    same-length
-    same-length-2
+    (λ c. search needs)
+    (λ c. search needs)
     returns)

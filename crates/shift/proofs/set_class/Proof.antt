@@ -25,33 +25,12 @@ to-put-pointer c = c .before .before .before .before
 
 -- ---- the answers
 
-start-requires : tie.Need-start-requires
-start-requires c κs = search needs
-
-read-requires : tie.Need-read-requires
-read-requires c κs = search needs
-
-place-requires : tie.Need-place-requires
-place-requires c κs = search needs
-
-mul-with-class : tie.Need-mul-with-class
-mul-with-class c = search needs
-
-add-with-class : tie.Need-add-with-class
-add-with-class c = search needs
-
-mul-with-class-2 : tie.Need-mul-with-class-2
-mul-with-class-2 c = search needs
-
 array-read-with-class : tie.Need-array-read-with-class
 array-read-with-class c =
     let after-read = to-read c in
     let after-start = to-start after-read in
     let entry = to-entry after-start in
     omega (arith, place-inside _ _ _ (entry .pre .0) (after-start .start .ensures) _ (after-read .read .ensures) (entry .pre .1 .0) _ 0 _ 0 (c .place .ensures .0) (entry .pre .1 .1 .0))
-
-with-class-requires : tie.Need-with-class-requires
-with-class-requires c κs = search needs
 
 put-pointer-requires : tie.Need-put-pointer-requires
 put-pointer-requires c κs =
@@ -69,12 +48,6 @@ put-pointer-requires c κs =
       ),
     )
 
-same-length : tie.Need-same-length
-same-length c = search needs
-
-same-length-2 : tie.Need-same-length-2
-same-length-2 c = search needs
-
 returns : tie.Need-returns
 returns c =
     let after-put-pointer = to-put-pointer c in
@@ -91,15 +64,15 @@ pub set-class-spec : {M : Type 1} → statement M
 set-class-spec =
     tie.close
     (tie.spec
-    start-requires
-    read-requires
-    place-requires
-    mul-with-class
-    add-with-class
-    mul-with-class-2
+    (λ c κs. search needs)
+    (λ c κs. search needs)
+    (λ c κs. search needs)
+    (λ c. search needs)
+    (λ c. search needs)
+    (λ c. search needs)
     array-read-with-class
-    with-class-requires
+    (λ c κs. search needs)
     put-pointer-requires
-    same-length
-    same-length-2
+    (λ c. search needs)
+    (λ c. search needs)
     returns)

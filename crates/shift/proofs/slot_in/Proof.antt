@@ -103,12 +103,6 @@ still-fits g ss d r = omega (arith, entry (placed g) .pre .0, rest-size _ _ r)
 
 -- ---- the answers
 
-place-requires : tie.Need-place-requires
-place-requires c κs = search needs
-
-count-requires : tie.Need-count-requires
-count-requires c κs = search needs
-
 pointer-before-requires : tie.Need-pointer-before-requires
 pointer-before-requires c κs =
     let a = entry (c .before) .args in
@@ -148,8 +142,8 @@ pub slot-in-spec : {M : Type 1} → statement M
 slot-in-spec =
     tie.close
     (tie.spec
-    place-requires
-    count-requires
+    (λ c κs. search needs)
+    (λ c κs. search needs)
     pointer-before-requires
     add-put-pointer
     put-pointer-requires

@@ -26,9 +26,6 @@ to-close-gap c = c .before .before .before .before
 gauged : (c : tie.After-pointer-before) → Gauged (to-entry (c .before) .args .n) (to-entry (c .before) .args .k) (c .before .place .result) (c .pointer-before .result)
 gauged c = record { place = c .before .place .ensures .0; pointer = c .pointer-before .ensures }
 
-place-requires : tie.Need-place-requires
-place-requires c κs = search needs
-
 pointer-before-requires : tie.Need-pointer-before-requires
 pointer-before-requires c κs =
     let entry = to-entry c in
@@ -49,12 +46,6 @@ close-gap-requires c κs =
     let entry = to-entry after-place in
     (omega arith, (omega (arith, after-place .place .ensures .1), out-rest _ _ _ _ _ (gauged after-pointer-before) _ (entry .pre .1) _ (after-put-pointer .put-pointer .ensures)))
 
-same-length : tie.Need-same-length
-same-length c = search needs
-
-same-length-2 : tie.Need-same-length-2
-same-length-2 c = search needs
-
 returns : tie.Need-returns
 returns c =
     let after-close-gap = to-close-gap c in
@@ -67,10 +58,10 @@ pub slot-out-spec : {M : Type 1} → statement M
 slot-out-spec =
     tie.close
     (tie.spec
-    place-requires
+    (λ c κs. search needs)
     pointer-before-requires
     put-pointer-requires
     close-gap-requires
-    same-length
-    same-length-2
+    (λ c. search needs)
+    (λ c. search needs)
     returns)

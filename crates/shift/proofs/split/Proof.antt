@@ -118,24 +118,6 @@ stores-made c = rest-all (rest₃ (cut (c .before))) (c .slot-in .ensures)
 
 -- ---- the answers
 
-start-requires : tie.Need-start-requires
-start-requires c κs = search needs
-
-read-requires : tie.Need-read-requires
-read-requires c κs = search needs
-
-start-requires-2 : tie.Need-start-requires-2
-start-requires-2 c κs = search needs
-
-start-requires-3 : tie.Need-start-requires-3
-start-requires-3 c κs = search needs
-
-read-requires-2 : tie.Need-read-requires-2
-read-requires-2 c κs = search needs
-
-array-read-key : tie.Need-array-read-key
-array-read-key c = search needs
-
 upper-words-requires : tie.Need-upper-words-requires
 upper-words-requires c κs = six (parts (c .before))
 
@@ -171,12 +153,12 @@ pub split-spec : {M : Type 1} → statement M
 split-spec =
     tie.close
     (tie.spec
-    start-requires
-    read-requires
-    start-requires-2
-    start-requires-3
-    read-requires-2
-    array-read-key
+    (λ c κs. search needs)
+    (λ c κs. search needs)
+    (λ c κs. search needs)
+    (λ c κs. search needs)
+    (λ c κs. search needs)
+    (λ c. search needs)
     upper-words-requires
     put-words-requires
     add-store

@@ -4,26 +4,11 @@ use borrow.Author.Needs.{needs}
 use Rattle.shift.proofs.upper_words.Statement.{statement}
 use Rattle.shift.proofs.upper_words.Tie as tie
 
-array-read-node-words : tie.Need-array-read-node-words
-array-read-node-words c = search needs
-
-node-words-requires : tie.Need-node-words-requires
-node-words-requires c κs = search needs
-
 returns : tie.Need-returns
 returns c =
     let then1 = c .before in
     let entry = then1 .before .before .before in
     upper-leaf (entry .args .n) (entry .pre) (then1 .if1 .taken) _ (c .node-words .ensures)
-
-array-read-node-words-2 : tie.Need-array-read-node-words-2
-array-read-node-words-2 c = search needs
-
-array-read-node-words-3 : tie.Need-array-read-node-words-3
-array-read-node-words-3 c = search needs
-
-node-words-requires-2 : tie.Need-node-words-requires-2
-node-words-requires-2 c κs = search needs
 
 returns-2 : tie.Need-returns-2
 returns-2 c =
@@ -35,10 +20,10 @@ pub upper-words-spec : {M : Type 1} → statement M
 upper-words-spec =
     tie.close
     (tie.spec
-    array-read-node-words
-    node-words-requires
+    (λ c. search needs)
+    (λ c κs. search needs)
     returns
-    array-read-node-words-2
-    array-read-node-words-3
-    node-words-requires-2
+    (λ c. search needs)
+    (λ c. search needs)
+    (λ c κs. search needs)
     returns-2)

@@ -5,21 +5,12 @@ use borrow.Author.Needs.{needs}
 use Rattle.short_scripts.proofs.act.Statement.{statement}
 use Rattle.short_scripts.proofs.act.Tie as tie
 
-call-requires : tie.Need-call-requires
-call-requires c κs = search needs
-
-enum-known-answer : tie.Need-enum-known-answer
-enum-known-answer c = search needs
-
 add-count : tie.Need-add-count
 add-count c =
     let s = c .before .before .before .before .before .before .before in
     let a = c .before in
     let k = a .before .before .call in
     omega (arith, few-orders (s .args .action) (s .args .list .now) (s .args .table .now) (s .args .held) (k .ensures .1 .1 .1) (s .pre .0) (s .pre .1) _ _ _ _ (k .ensures .0) (a .answer .given .1))
-
-change-requires : tie.Need-change-requires
-change-requires c κs = search needs
 
 count-bad-requires : tie.Need-count-bad-requires
 count-bad-requires c κs =
@@ -34,9 +25,6 @@ add-t17 c =
     let a = c .before .before .before .before .before in
     let k = a .before .before .call in
     omega (arith, few-orders (s .args .action) (s .args .list .now) (s .args .table .now) (s .args .held) (k .ensures .1 .1 .1) (s .pre .0) (s .pre .1) _ _ _ _ (k .ensures .0) (a .answer .given .1))
-
-enum-told : tie.Need-enum-told
-enum-told c = search needs
 
 returns : tie.Need-returns
 returns c =
@@ -58,12 +46,12 @@ pub act-spec : {M : Type 1} → statement M
 act-spec =
     tie.close
     (tie.spec
-    call-requires
-    enum-known-answer
+    (λ c κs. search needs)
+    (λ c. search needs)
     add-count
-    change-requires
+    (λ c κs. search needs)
     count-bad-requires
     add-t17
-    enum-told
+    (λ c. search needs)
     returns
     returns-2)

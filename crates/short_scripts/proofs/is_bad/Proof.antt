@@ -6,20 +6,8 @@ use borrow.Author.Needs.{needs}
 use Rattle.short_scripts.proofs.is_bad.Statement.{statement}
 use Rattle.short_scripts.proofs.is_bad.Tie as tie
 
-slice-aggregate-agrees : tie.Need-slice-aggregate-agrees
-slice-aggregate-agrees c = search needs
-
-agrees-requires : tie.Need-agrees-requires
-agrees-requires c κs = search needs
-
 returns : tie.Need-returns
 returns c = sym (old-agrees _ _ _ (sym (c .before .agrees .ensures) ∙ c .if1 .taken))
-
-slice-aggregate-agrees-2 : tie.Need-slice-aggregate-agrees-2
-slice-aggregate-agrees-2 c = search needs
-
-agrees-requires-2 : tie.Need-agrees-requires-2
-agrees-requires-2 c κs = search needs
 
 returns-2 : tie.Need-returns-2
 returns-2 c = ap not (c .agrees2 .ensures) ∙ sym (new-decides _ _ _ (sym (c .before .before .before .agrees .ensures) ∙ c .before .before .if1 .left))
@@ -28,9 +16,9 @@ pub is-bad-spec : {M : Type 1} → statement M
 is-bad-spec =
     tie.close
     (tie.spec
-    slice-aggregate-agrees
-    agrees-requires
+    (λ c. search needs)
+    (λ c κs. search needs)
     returns
-    slice-aggregate-agrees-2
-    agrees-requires-2
+    (λ c. search needs)
+    (λ c κs. search needs)
     returns-2)

@@ -5,23 +5,14 @@ use borrow.Author.Needs.{needs}
 use Rattle.short_scripts.proofs.next_of.Statement.{statement}
 use Rattle.short_scripts.proofs.next_of.Tie as tie
 
-is-above-requires : tie.Need-is-above-requires
-is-above-requires c κs = search needs
-
 returns : tie.Need-returns
 returns c = let e = sym (c .before .is-above .ensures) ∙ c .if1 .taken in sym (next-held _ _ ∙ rw e)
-
-is-above-requires-2 : tie.Need-is-above-requires-2
-is-above-requires-2 c κs = search needs
 
 returns-2 : tie.Need-returns-2
 returns-2 c =
     let e = sym (c .before .before .before .is-above .ensures) ∙ c .before .before .if1 .left in
     let f = sym (c .before .is-above2 .ensures) ∙ c .if2 .taken in
     sym (next-held _ _ ∙ rw (e, f))
-
-is-above-requires-3 : tie.Need-is-above-requires-3
-is-above-requires-3 c κs = search needs
 
 returns-3 : tie.Need-returns-3
 returns-3 c =
@@ -41,10 +32,10 @@ pub next-of-spec : {M : Type 1} → statement M
 next-of-spec =
     tie.close
     (tie.spec
-    is-above-requires
+    (λ c κs. search needs)
     returns
-    is-above-requires-2
+    (λ c κs. search needs)
     returns-2
-    is-above-requires-3
+    (λ c κs. search needs)
     returns-3
     returns-4)

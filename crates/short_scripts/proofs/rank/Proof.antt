@@ -18,35 +18,17 @@ Inv-loop words count n₀ i₀ n i = (i ≤ count) × (count ≤ 4) × (length w
 abbrev μ-loop : tie.MeasureT-loop
 μ-loop words count n₀ i₀ n i = count - i
 
-array-read-count : tie.Need-array-read-count Inv-loop μ-loop
-array-read-count c = search needs
-
 loop-holds : tie.Need-loop-holds Inv-loop μ-loop
 loop-holds c = let f = form-says (c .args .t1) (c .pre) in (omega arith, f .0, search needs, omega arith, f .1, ap (rankOn 0) (left-first (c .args .t1) (at (c .args .t1) 0)))
 
 mul-n : tie.Need-mul-n Inv-loop μ-loop
 mul-n c = let l = c .before .loop in omega (arith, rank-small (l .i) (l .n) (omega arith) (l .inv .3))
 
-add-n : tie.Need-add-n Inv-loop μ-loop
-add-n c = search needs
-
-mul-n-2 : tie.Need-mul-n-2 Inv-loop μ-loop
-mul-n-2 c = search needs
-
-array-read-n : tie.Need-array-read-n Inv-loop μ-loop
-array-read-n c = search needs
-
 add-n-2 : tie.Need-add-n-2 Inv-loop μ-loop
 add-n-2 c = let l = c .before .loop in omega (arith, rank-small (l .i) (l .n) (omega arith) (l .inv .3), six-both _ (l .i) _ (omega arith) (omega arith) (l .inv .4) .0)
 
 add-n-3 : tie.Need-add-n-3 Inv-loop μ-loop
 add-n-3 c = let l = c .before .loop in omega (arith, rank-small (l .i) (l .n) (omega arith) (l .inv .3), six-both _ (l .i) _ (omega arith) (omega arith) (l .inv .4) .0)
-
-add-i : tie.Need-add-i Inv-loop μ-loop
-add-i c = search needs
-
-loop-less : tie.Need-loop-less Inv-loop μ-loop
-loop-less c = search needs
 
 loop-again : tie.Need-loop-again Inv-loop μ-loop
 loop-again c =
@@ -64,15 +46,15 @@ rank-spec =
     (tie.spec
     Inv-loop
     μ-loop
-    array-read-count
+    (λ c. search needs)
     loop-holds
     mul-n
-    add-n
-    mul-n-2
-    array-read-n
+    (λ c. search needs)
+    (λ c. search needs)
+    (λ c. search needs)
     add-n-2
     add-n-3
-    add-i
-    loop-less
+    (λ c. search needs)
+    (λ c. search needs)
     loop-again
     returns)

@@ -15,12 +15,6 @@ Inv-loop number i₀ words₀ n₀ i words n = (i ≤ 4) × (length words ≡ 5)
 abbrev μ-loop : tie.MeasureT-loop
 μ-loop number i₀ words₀ n₀ i words n = i
 
-length-of-requires : tie.Need-length-of-requires Inv-loop μ-loop
-length-of-requires c κs = search needs
-
-array-write-words : tie.Need-array-write-words Inv-loop μ-loop
-array-write-words c = search needs
-
 loop-holds : tie.Need-loop-holds Inv-loop μ-loop
 loop-holds c =
     let n = c .before .args .number in
@@ -31,20 +25,8 @@ loop-holds c =
 sub-words : tie.Need-sub-words Inv-loop μ-loop
 sub-words c = let l = c .before .loop in omega (arith, grown-some (l .i) (omega arith), l .inv .2)
 
-mul-words : tie.Need-mul-words Inv-loop μ-loop
-mul-words c = search needs
-
-array-write-words-2 : tie.Need-array-write-words-2 Inv-loop μ-loop
-array-write-words-2 c = search needs
-
 sub-n : tie.Need-sub-n Inv-loop μ-loop
 sub-n c = let l = c .before .loop in omega (arith, grown-some (l .i) (omega arith), l .inv .2)
-
-sub-i : tie.Need-sub-i Inv-loop μ-loop
-sub-i c = search needs
-
-loop-less : tie.Need-loop-less Inv-loop μ-loop
-loop-less c = search needs
 
 loop-again : tie.Need-loop-again Inv-loop μ-loop
 loop-again c =
@@ -65,14 +47,14 @@ words-of-spec =
     (tie.spec
     Inv-loop
     μ-loop
-    length-of-requires
-    array-write-words
+    (λ c κs. search needs)
+    (λ c. search needs)
     loop-holds
     sub-words
-    mul-words
-    array-write-words-2
+    (λ c. search needs)
+    (λ c. search needs)
     sub-n
-    sub-i
-    loop-less
+    (λ c. search needs)
+    (λ c. search needs)
     loop-again
     returns)

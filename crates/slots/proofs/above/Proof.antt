@@ -26,37 +26,10 @@ abbrev μ-loop : tie.MeasureT-loop
 abbrev answers : tie.At-loop Inv-loop μ-loop → List Slot → Next
 answers c ss = let a = c .before .args in firstAbove (a .key) (keptOf (a .sibling) (a .bound) (shown (c .loop .before) ss))
 
-loop-holds : tie.Need-loop-holds Inv-loop μ-loop
-loop-holds c = search needs
-
-mul-p : tie.Need-mul-p Inv-loop μ-loop
-mul-p c = search needs
-
-add-p : tie.Need-add-p Inv-loop μ-loop
-add-p c = search needs
-
-mul-p-2 : tie.Need-mul-p-2 Inv-loop μ-loop
-mul-p-2 c = search needs
-
-array-read-p : tie.Need-array-read-p Inv-loop μ-loop
-array-read-p c = search needs
-
 returns : tie.Need-returns Inv-loop μ-loop
 returns c =
     let l = c .before .before in
     sym (above-none _ _ _ (l .loop .before)) ∙ scan-stop (answers l) _ (l .loop .i) (l .loop .inv .2) (omega arith) (c .if1 .taken)
-
-mul-k : tie.Need-mul-k Inv-loop μ-loop
-mul-k c = search needs
-
-mul-k-2 : tie.Need-mul-k-2 Inv-loop μ-loop
-mul-k-2 c = search needs
-
-array-read-k : tie.Need-array-read-k Inv-loop μ-loop
-array-read-k c = search needs
-
-is-way-requires : tie.Need-is-way-requires Inv-loop μ-loop
-is-way-requires c κs = search needs
 
 returns-2 : tie.Need-returns-2 Inv-loop μ-loop
 returns-2 c =
@@ -64,12 +37,6 @@ returns-2 c =
     let e = w .before .before in
     let l = e .before .before in
     scan-more (answers l) _ (l .loop .i) (l .loop .inv .2) (omega arith) (e .if1 .left) (above-found _ _ _ _ _ _ _ _ (w .before .is-way .ensures) (w .if2 .taken) (c .if3 .taken))
-
-add-i : tie.Need-add-i Inv-loop μ-loop
-add-i c = search needs
-
-loop-less : tie.Need-loop-less Inv-loop μ-loop
-loop-less c = search needs
 
 loop-again : tie.Need-loop-again Inv-loop μ-loop
 loop-again c =
@@ -91,18 +58,18 @@ above-spec =
     (tie.spec
     Inv-loop
     μ-loop
-    loop-holds
-    mul-p
-    add-p
-    mul-p-2
-    array-read-p
+    (λ c. search needs)
+    (λ c. search needs)
+    (λ c. search needs)
+    (λ c. search needs)
+    (λ c. search needs)
     returns
-    mul-k
-    mul-k-2
-    array-read-k
-    is-way-requires
+    (λ c. search needs)
+    (λ c. search needs)
+    (λ c. search needs)
+    (λ c κs. search needs)
     returns-2
-    add-i
-    loop-less
+    (λ c. search needs)
+    (λ c. search needs)
     loop-again
     returns-3)

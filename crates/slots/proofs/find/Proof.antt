@@ -31,46 +31,16 @@ answers c ss = heldBy (firstWith (c .before .args .key) (shown (c .loop .before)
 abbrev turn : tie.Else1 Inv-loop μ-loop → tie.At-loop Inv-loop μ-loop
 turn c = c .before .before
 
-loop-holds : tie.Need-loop-holds Inv-loop μ-loop
-loop-holds c = search needs
-
-mul-p : tie.Need-mul-p Inv-loop μ-loop
-mul-p c = search needs
-
-add-p : tie.Need-add-p Inv-loop μ-loop
-add-p c = search needs
-
-mul-p-2 : tie.Need-mul-p-2 Inv-loop μ-loop
-mul-p-2 c = search needs
-
-array-read-p : tie.Need-array-read-p Inv-loop μ-loop
-array-read-p c = search needs
-
 returns : tie.Need-returns Inv-loop μ-loop
 returns c =
     let l = c .before .before in
     sym (found-none _ (l .loop .before)) ∙ scan-stop (answers l) _ (l .loop .i) (l .loop .inv .2) (omega arith) (c .if1 .taken)
-
-mul-if3 : tie.Need-mul-if3 Inv-loop μ-loop
-mul-if3 c = search needs
-
-mul-if3-2 : tie.Need-mul-if3-2 Inv-loop μ-loop
-mul-if3-2 c = search needs
-
-array-read-if3 : tie.Need-array-read-if3 Inv-loop μ-loop
-array-read-if3 c = search needs
 
 returns-2 : tie.Need-returns-2 Inv-loop μ-loop
 returns-2 c =
     let e = c .before .before in
     let l = turn e in
     scan-more (answers l) _ (l .loop .i) (l .loop .inv .2) (omega arith) (e .if1 .left) (found-here _ _ _ _ _ (c .before .if2 .taken) (c .if3 .taken))
-
-add-i : tie.Need-add-i Inv-loop μ-loop
-add-i c = search needs
-
-loop-less : tie.Need-loop-less Inv-loop μ-loop
-loop-less c = search needs
 
 loop-again : tie.Need-loop-again Inv-loop μ-loop
 loop-again c =
@@ -90,17 +60,17 @@ find-spec =
     (tie.spec
     Inv-loop
     μ-loop
-    loop-holds
-    mul-p
-    add-p
-    mul-p-2
-    array-read-p
+    (λ c. search needs)
+    (λ c. search needs)
+    (λ c. search needs)
+    (λ c. search needs)
+    (λ c. search needs)
     returns
-    mul-if3
-    mul-if3-2
-    array-read-if3
+    (λ c. search needs)
+    (λ c. search needs)
+    (λ c. search needs)
     returns-2
-    add-i
-    loop-less
+    (λ c. search needs)
+    (λ c. search needs)
     loop-again
     returns-3)

@@ -29,64 +29,13 @@ comes c ss = let a = c .before .before .args in let l = c .loop in span (l .keys
 abbrev turn : tie.After-is-way Inv-loop μ-loop → tie.At-loop Inv-loop μ-loop
 turn c = c .before .before .before
 
-array-write-keys : tie.Need-array-write-keys Inv-loop μ-loop
-array-write-keys c = search needs
-
-array-write-pointers : tie.Need-array-write-pointers Inv-loop μ-loop
-array-write-pointers c = search needs
-
 loop-holds : tie.Need-loop-holds Inv-loop μ-loop
 loop-holds c = (omega arith, search needs, omega arith, search needs, search needs, first-way _ _ _)
-
-mul-key : tie.Need-mul-key Inv-loop μ-loop
-mul-key c = search needs
-
-mul-key-2 : tie.Need-mul-key-2 Inv-loop μ-loop
-mul-key-2 c = search needs
-
-array-read-key : tie.Need-array-read-key Inv-loop μ-loop
-array-read-key c = search needs
-
-mul-pointer : tie.Need-mul-pointer Inv-loop μ-loop
-mul-pointer c = search needs
-
-add-pointer : tie.Need-add-pointer Inv-loop μ-loop
-add-pointer c = search needs
-
-mul-pointer-2 : tie.Need-mul-pointer-2 Inv-loop μ-loop
-mul-pointer-2 c = search needs
-
-array-read-pointer : tie.Need-array-read-pointer Inv-loop μ-loop
-array-read-pointer c = search needs
 
 returns : tie.Need-returns Inv-loop μ-loop
 returns c =
     let l = c .before .before in
     (sym (ways-none _ _ (l .loop .before) _) ∙ scan-stop (comes l) _ (l .loop .i) (l .loop .inv .5) (omega arith) (c .if1 .taken), omega arith)
-
-is-way-requires : tie.Need-is-way-requires Inv-loop μ-loop
-is-way-requires c κs = search needs
-
-add-i : tie.Need-add-i Inv-loop μ-loop
-add-i c = search needs
-
-mul-keys : tie.Need-mul-keys Inv-loop μ-loop
-mul-keys c = search needs
-
-array-write-keys-2 : tie.Need-array-write-keys-2 Inv-loop μ-loop
-array-write-keys-2 c = search needs
-
-mul-pointers : tie.Need-mul-pointers Inv-loop μ-loop
-mul-pointers c = search needs
-
-array-write-pointers-2 : tie.Need-array-write-pointers-2 Inv-loop μ-loop
-array-write-pointers-2 c = search needs
-
-add-count : tie.Need-add-count Inv-loop μ-loop
-add-count c = search needs
-
-loop-less : tie.Need-loop-less Inv-loop μ-loop
-loop-less c = search needs
 
 loop-again : tie.Need-loop-again Inv-loop μ-loop
 loop-again c =
@@ -100,9 +49,6 @@ loop-again c =
       scan-more (comes (turn w)) _ (l .i) (l .inv .5) (omega arith) (w .before .if1 .left)
           (way-taken _ _ _ _ _ _ _ _ _ _ (w .is-way .ensures) (c .if2 .taken) (omega arith) (omega arith)),
     )
-
-loop-less-2 : tie.Need-loop-less-2 Inv-loop μ-loop
-loop-less-2 c = search needs
 
 loop-again-2 : tie.Need-loop-again-2 Inv-loop μ-loop
 loop-again-2 c =
@@ -128,26 +74,26 @@ gather-spec =
     (tie.spec
     Inv-loop
     μ-loop
-    array-write-keys
-    array-write-pointers
+    (λ c. search needs)
+    (λ c. search needs)
     loop-holds
-    mul-key
-    mul-key-2
-    array-read-key
-    mul-pointer
-    add-pointer
-    mul-pointer-2
-    array-read-pointer
+    (λ c. search needs)
+    (λ c. search needs)
+    (λ c. search needs)
+    (λ c. search needs)
+    (λ c. search needs)
+    (λ c. search needs)
+    (λ c. search needs)
     returns
-    is-way-requires
-    add-i
-    mul-keys
-    array-write-keys-2
-    mul-pointers
-    array-write-pointers-2
-    add-count
-    loop-less
+    (λ c κs. search needs)
+    (λ c. search needs)
+    (λ c. search needs)
+    (λ c. search needs)
+    (λ c. search needs)
+    (λ c. search needs)
+    (λ c. search needs)
+    (λ c. search needs)
     loop-again
-    loop-less-2
+    (λ c. search needs)
     loop-again-2
     returns-2)

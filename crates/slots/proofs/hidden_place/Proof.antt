@@ -31,18 +31,6 @@ turn c = c .before .before
 abbrev comes : tie.At-loop Inv-loop μ-loop → List Slot → ℕ
 comes c ss = c .loop .i + hiddenPlace (c .loop .before) ss
 
-mul-p : tie.Need-mul-p Inv-loop μ-loop
-mul-p c = search needs
-
-add-p : tie.Need-add-p Inv-loop μ-loop
-add-p c = search needs
-
-mul-p-2 : tie.Need-mul-p-2 Inv-loop μ-loop
-mul-p-2 c = search needs
-
-array-read-p : tie.Need-array-read-p Inv-loop μ-loop
-array-read-p c = search needs
-
 returns : tie.Need-returns Inv-loop μ-loop
 returns c =
     let l = c .before .before in
@@ -52,12 +40,6 @@ returns-2 : tie.Need-returns-2 Inv-loop μ-loop
 returns-2 c =
     let l = turn (c .before) in
     (scan-more (comes l) _ (l .loop .i) (l .loop .inv .2) (omega arith) (c .before .if1 .left) (hidden-here _ _ _ _ _ (c .if2 .taken)), omega arith)
-
-add-i : tie.Need-add-i Inv-loop μ-loop
-add-i c = search needs
-
-loop-less : tie.Need-loop-less Inv-loop μ-loop
-loop-less c = search needs
 
 loop-again : tie.Need-loop-again Inv-loop μ-loop
 loop-again c =
@@ -79,13 +61,13 @@ hidden-place-spec =
     Inv-loop
     μ-loop
     loop-holds
-    mul-p
-    add-p
-    mul-p-2
-    array-read-p
+    (λ c. search needs)
+    (λ c. search needs)
+    (λ c. search needs)
+    (λ c. search needs)
     returns
     returns-2
-    add-i
-    loop-less
+    (λ c. search needs)
+    (λ c. search needs)
     loop-again
     returns-3)

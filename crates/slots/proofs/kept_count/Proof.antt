@@ -24,43 +24,10 @@ abbrev μ-loop : tie.MeasureT-loop
 abbrev counts : tie.At-loop Inv-loop μ-loop → List Slot → ℕ
 counts c ss = let a = c .before .args in let l = c .loop in l .count + length (keptOf (a .sibling) (a .bound) (shown (l .before) ss))
 
-loop-holds : tie.Need-loop-holds Inv-loop μ-loop
-loop-holds c = search needs
-
-mul-p : tie.Need-mul-p Inv-loop μ-loop
-mul-p c = search needs
-
-add-p : tie.Need-add-p Inv-loop μ-loop
-add-p c = search needs
-
-mul-p-2 : tie.Need-mul-p-2 Inv-loop μ-loop
-mul-p-2 c = search needs
-
-array-read-p : tie.Need-array-read-p Inv-loop μ-loop
-array-read-p c = search needs
-
 returns : tie.Need-returns Inv-loop μ-loop
 returns c =
     let l = c .before .before in
     sym (count-none _ _ _ (l .loop .before)) ∙ scan-stop (counts l) _ (l .loop .i) (l .loop .inv .3) (omega arith) (c .if1 .taken)
-
-mul-count-after : tie.Need-mul-count-after Inv-loop μ-loop
-mul-count-after c = search needs
-
-mul-count-after-2 : tie.Need-mul-count-after-2 Inv-loop μ-loop
-mul-count-after-2 c = search needs
-
-array-read-count-after : tie.Need-array-read-count-after Inv-loop μ-loop
-array-read-count-after c = search needs
-
-count-after-requires : tie.Need-count-after-requires Inv-loop μ-loop
-count-after-requires c κs = search needs
-
-add-i : tie.Need-add-i Inv-loop μ-loop
-add-i c = search needs
-
-loop-less : tie.Need-loop-less Inv-loop μ-loop
-loop-less c = search needs
 
 loop-again : tie.Need-loop-again Inv-loop μ-loop
 loop-again c =
@@ -81,17 +48,17 @@ kept-count-spec =
     (tie.spec
     Inv-loop
     μ-loop
-    loop-holds
-    mul-p
-    add-p
-    mul-p-2
-    array-read-p
+    (λ c. search needs)
+    (λ c. search needs)
+    (λ c. search needs)
+    (λ c. search needs)
+    (λ c. search needs)
     returns
-    mul-count-after
-    mul-count-after-2
-    array-read-count-after
-    count-after-requires
-    add-i
-    loop-less
+    (λ c. search needs)
+    (λ c. search needs)
+    (λ c. search needs)
+    (λ c κs. search needs)
+    (λ c. search needs)
+    (λ c. search needs)
     loop-again
     returns-2)

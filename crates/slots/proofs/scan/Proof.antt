@@ -25,47 +25,11 @@ abbrev μ-loop : tie.MeasureT-loop
 abbrev says : tie.At-loop Inv-loop μ-loop → List Slot → Seen
 says c ss = let l = c .loop in seenAfter (c .before .args .key) (l .way) (l .held) (shown (l .before) ss)
 
-loop-holds : tie.Need-loop-holds Inv-loop μ-loop
-loop-holds c = search needs
-
-mul-p : tie.Need-mul-p Inv-loop μ-loop
-mul-p c = search needs
-
-add-p : tie.Need-add-p Inv-loop μ-loop
-add-p c = search needs
-
-mul-p-2 : tie.Need-mul-p-2 Inv-loop μ-loop
-mul-p-2 c = search needs
-
-array-read-p : tie.Need-array-read-p Inv-loop μ-loop
-array-read-p c = search needs
-
 returns : tie.Need-returns Inv-loop μ-loop
 returns c =
     let l = c .before .before in
     let e = sym (seen-none _ (l .loop .way) (l .loop .held) (l .loop .before)) ∙ scan-stop (says l) _ (l .loop .i) (l .loop .inv .4) (omega arith) (c .if1 .taken) in
     (ap (λ (s : Seen). s .way) e, ap (λ (s : Seen). s .held) e)
-
-mul-k : tie.Need-mul-k Inv-loop μ-loop
-mul-k c = search needs
-
-mul-k-2 : tie.Need-mul-k-2 Inv-loop μ-loop
-mul-k-2 c = search needs
-
-array-read-k : tie.Need-array-read-k Inv-loop μ-loop
-array-read-k c = search needs
-
-way-after-requires : tie.Need-way-after-requires Inv-loop μ-loop
-way-after-requires c κs = search needs
-
-held-after-requires : tie.Need-held-after-requires Inv-loop μ-loop
-held-after-requires c κs = search needs
-
-add-i : tie.Need-add-i Inv-loop μ-loop
-add-i c = search needs
-
-loop-less : tie.Need-loop-less Inv-loop μ-loop
-loop-less c = search needs
 
 loop-again : tie.Need-loop-again Inv-loop μ-loop
 loop-again c =
@@ -92,18 +56,18 @@ scan-spec =
     (tie.spec
     Inv-loop
     μ-loop
-    loop-holds
-    mul-p
-    add-p
-    mul-p-2
-    array-read-p
+    (λ c. search needs)
+    (λ c. search needs)
+    (λ c. search needs)
+    (λ c. search needs)
+    (λ c. search needs)
     returns
-    mul-k
-    mul-k-2
-    array-read-k
-    way-after-requires
-    held-after-requires
-    add-i
-    loop-less
+    (λ c. search needs)
+    (λ c. search needs)
+    (λ c. search needs)
+    (λ c κs. search needs)
+    (λ c κs. search needs)
+    (λ c. search needs)
+    (λ c. search needs)
     loop-again
     returns-2)

@@ -25,41 +25,8 @@ abbrev μ-loop : tie.MeasureT-loop
 abbrev comes : tie.At-loop Inv-loop μ-loop → List Slot → Survey
 comes c ss = let a = c .before .before .args in surveyed (a .x .sibling) (a .bound) ss (c .loop .s)
 
-loop-holds : tie.Need-loop-holds Inv-loop μ-loop
-loop-holds c = search needs
-
-mul-p : tie.Need-mul-p Inv-loop μ-loop
-mul-p c = search needs
-
-add-p : tie.Need-add-p Inv-loop μ-loop
-add-p c = search needs
-
-mul-p-2 : tie.Need-mul-p-2 Inv-loop μ-loop
-mul-p-2 c = search needs
-
-array-read-p : tie.Need-array-read-p Inv-loop μ-loop
-array-read-p c = search needs
-
 returns : tie.Need-returns Inv-loop μ-loop
 returns c = let l = c .before .before in sym (survey-none _ _ 0 0 _) ∙ scan-stop (comes l) _ (l .loop .i) (l .loop .inv .3) (omega arith) (c .if1 .taken)
-
-mul-survey-slot : tie.Need-mul-survey-slot Inv-loop μ-loop
-mul-survey-slot c = search needs
-
-mul-survey-slot-2 : tie.Need-mul-survey-slot-2 Inv-loop μ-loop
-mul-survey-slot-2 c = search needs
-
-array-read-survey-slot : tie.Need-array-read-survey-slot Inv-loop μ-loop
-array-read-survey-slot c = search needs
-
-survey-slot-requires : tie.Need-survey-slot-requires Inv-loop μ-loop
-survey-slot-requires c κs = search needs
-
-add-i : tie.Need-add-i Inv-loop μ-loop
-add-i c = search needs
-
-loop-less : tie.Need-loop-less Inv-loop μ-loop
-loop-less c = search needs
 
 loop-again : tie.Need-loop-again Inv-loop μ-loop
 loop-again c =
@@ -80,17 +47,17 @@ survey-slots-spec =
     (tie.spec
     Inv-loop
     μ-loop
-    loop-holds
-    mul-p
-    add-p
-    mul-p-2
-    array-read-p
+    (λ c. search needs)
+    (λ c. search needs)
+    (λ c. search needs)
+    (λ c. search needs)
+    (λ c. search needs)
     returns
-    mul-survey-slot
-    mul-survey-slot-2
-    array-read-survey-slot
-    survey-slot-requires
-    add-i
-    loop-less
+    (λ c. search needs)
+    (λ c. search needs)
+    (λ c. search needs)
+    (λ c κs. search needs)
+    (λ c. search needs)
+    (λ c. search needs)
     loop-again
     returns-2)

@@ -3,51 +3,21 @@ use borrow.Author.Needs.{needs}
 use Rattle.sound.proofs.add_missing.Statement.{statement}
 use Rattle.sound.proofs.add_missing.Tie as tie
 
-enum-told : tie.Need-enum-told
-enum-told c = search needs
-
-enum-known-a : tie.Need-enum-known-a
-enum-known-a c = search needs
-
-enum-told-2 : tie.Need-enum-told-2
-enum-told-2 c = search needs
-
-enum-told-3 : tie.Need-enum-told-3
-enum-told-3 c = search needs
-
-enum-told-4 : tie.Need-enum-told-4
-enum-told-4 c = search needs
-
-enum-told-5 : tie.Need-enum-told-5
-enum-told-5 c = search needs
-
-returns : tie.Need-returns
-returns c = search needs
-
 returns-2 : tie.Need-returns-2
 returns-2 c = cc
-
-returns-3 : tie.Need-returns-3
-returns-3 c = search needs
-
-returns-4 : tie.Need-returns-4
-returns-4 c = search needs
-
-returns-5 : tie.Need-returns-5
-returns-5 c = search needs
 
 pub add-missing-spec : {M : Type 1} → statement M
 add-missing-spec =
     tie.close
     (tie.spec
-    enum-told
-    enum-known-a
-    enum-told-2
-    enum-told-3
-    enum-told-4
-    enum-told-5
-    returns
+    (λ c. search needs)
+    (λ c. search needs)
+    (λ c. search needs)
+    (λ c. search needs)
+    (λ c. search needs)
+    (λ c. search needs)
+    (λ c. search needs)
     returns-2
-    returns-3
-    returns-4
-    returns-5)
+    (λ c. search needs)
+    (λ c. search needs)
+    (λ c. search needs))

@@ -76,17 +76,8 @@ first-leaf c = leaf-at (whole (both-sound c)) 1 _ (first (two (one-sound (both (
 second-leaf : (c : tie.After-last-leaf2) → c .last-leaf2 .result ≡ lastLeaf (viewOf 2 (whole (both-sound c)))
 second-leaf c = leaf-at (whole (both-sound c)) 3 _ (first (two (one-sound (both (both-sound c)))) .before .word-at2 .ensures) _ (c .last-leaf2 .ensures)
 
-header-requires : tie.Need-header-requires
-header-requires c κs = search needs
-
 returns : tie.Need-returns
 returns c = wrong-header _ _ (c .before .header .ensures) (c .if1 .taken)
-
-word-at-requires : tie.Need-word-at-requires
-word-at-requires c κs = search needs
-
-word-at-requires-2 : tie.Need-word-at-requires-2
-word-at-requires-2 c κs = search needs
 
 check-tree-requires : tie.Need-check-tree-requires
 check-tree-requires c κs = header (c .before .before)
@@ -96,35 +87,14 @@ returns-2 c =
     let f = c .before in
     sym (first-is f) ∙ one-tree _ (header (passed f)) (sym (f .before .word-at2 .ensures) ∙ c .if2 .taken)
 
-enum-told : tie.Need-enum-told
-enum-told c = search needs
-
-enum-known-one : tie.Need-enum-known-one
-enum-known-one c = search needs
-
 check-tree-requires-2 : tie.Need-check-tree-requires-2
 check-tree-requires-2 c κs = header (passed (first (two (c .before))))
-
-enum-told-2 : tie.Need-enum-told-2
-enum-told-2 c = search needs
-
-enum-known-two : tie.Need-enum-known-two
-enum-known-two c = search needs
-
-last-leaf-requires : tie.Need-last-leaf-requires
-last-leaf-requires c κs = search needs
-
-last-leaf-requires-2 : tie.Need-last-leaf-requires-2
-last-leaf-requires-2 c κs = search needs
 
 returns-3 : tie.Need-returns-3
 returns-3 c = let l = c .before in same-leaf (both-are (both-sound l)) (sym (first-leaf l) ∙ c .if3 .taken ∙ second-leaf l)
 
 add-joined : tie.Need-add-joined
 add-joined c = omega (arith, few-reached (both-are (both-sound (c .before))))
-
-joined-requires : tie.Need-joined-requires
-joined-requires c κs = search needs
 
 returns-4 : tie.Need-returns-4
 returns-4 c = let s = c .before .before in first-wrong _ (header (passed (first s))) (there s) (first-is (first s) ∙ c .enum-told .given .1)
@@ -145,22 +115,22 @@ pub check-spec : {M : Type 1} → statement M
 check-spec =
     tie.close
     (tie.spec
-    header-requires
+    (λ c κs. search needs)
     returns
-    word-at-requires
-    word-at-requires-2
+    (λ c κs. search needs)
+    (λ c κs. search needs)
     check-tree-requires
     returns-2
-    enum-told
-    enum-known-one
+    (λ c. search needs)
+    (λ c. search needs)
     check-tree-requires-2
-    enum-told-2
-    enum-known-two
-    last-leaf-requires
-    last-leaf-requires-2
+    (λ c. search needs)
+    (λ c. search needs)
+    (λ c κs. search needs)
+    (λ c κs. search needs)
     returns-3
     add-joined
-    joined-requires
+    (λ c κs. search needs)
     returns-4
     returns-5
     returns-6)

@@ -61,46 +61,10 @@ roomy c =
     let a = start (walked (seen (judged (allowed c)))) .args in
     c .has-room .ensures ∙ room-any (a .table .now) (root (a .table .now)) (a .root) (meant (allowed c .verdict .given .0 .0))
 
-slice-aggregate-walk : tie.Need-slice-aggregate-walk
-slice-aggregate-walk c = search needs
-
-walk-requires : tie.Need-walk-requires
-walk-requires c κs = search needs
-
-enum-told : tie.Need-enum-told
-enum-told c = search needs
-
-enum-known-seen : tie.Need-enum-known-seen
-enum-known-seen c = search needs
-
-judge-requires : tie.Need-judge-requires
-judge-requires c κs = search needs
-
-enum-told-2 : tie.Need-enum-told-2
-enum-told-2 c = search needs
-
-enum-known-verdict : tie.Need-enum-known-verdict
-enum-known-verdict c = search needs
-
-has-room-requires : tie.Need-has-room-requires
-has-room-requires c κs = search needs
-
 returns : tie.Need-returns
 returns c =
     let a = allowed (c .before) in
     wrong-room (found (judged a)) _ (a .verdict .given .1) (sym (roomy (c .before)) ∙ not-true _ (c .if1 .taken))
-
-uncut-requires : tie.Need-uncut-requires
-uncut-requires c κs = search needs
-
-array-write-marks : tie.Need-array-write-marks
-array-write-marks c = search needs
-
-slice-aggregate-ok : tie.Need-slice-aggregate-ok
-slice-aggregate-ok c = search needs
-
-ok-requires : tie.Need-ok-requires
-ok-requires c κs = search needs
 
 returns-2 : tie.Need-returns-2
 returns-2 c =
@@ -123,19 +87,19 @@ pub check-tree-spec : {M : Type 1} → statement M
 check-tree-spec =
     tie.close
     (tie.spec
-    slice-aggregate-walk
-    walk-requires
-    enum-told
-    enum-known-seen
-    judge-requires
-    enum-told-2
-    enum-known-verdict
-    has-room-requires
+    (λ c. search needs)
+    (λ c κs. search needs)
+    (λ c. search needs)
+    (λ c. search needs)
+    (λ c κs. search needs)
+    (λ c. search needs)
+    (λ c. search needs)
+    (λ c κs. search needs)
     returns
-    uncut-requires
-    array-write-marks
-    slice-aggregate-ok
-    ok-requires
+    (λ c κs. search needs)
+    (λ c. search needs)
+    (λ c. search needs)
+    (λ c κs. search needs)
     returns-2
     returns-3
     returns-4

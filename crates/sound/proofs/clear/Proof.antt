@@ -15,23 +15,11 @@ abbrev μ-loop : tie.MeasureT-loop
 loop-holds : tie.Need-loop-holds Inv-loop μ-loop
 loop-holds c = record { has = c .before .pre; low = omega arith; high = omega arith; zero = λ k l u. absurd (omega arith) }
 
-word-requires : tie.Need-word-requires Inv-loop μ-loop
-word-requires c κs = search needs
-
 returns : tie.Need-returns Inv-loop μ-loop
 returns c = let w = c .before in clear-not (w .before .before .loop .inv) _ (w .before .loop-test .taken) (w .word .ensures) (c .if1 .taken)
 
-add-j : tie.Need-add-j Inv-loop μ-loop
-add-j c = search needs
-
-loop-less : tie.Need-loop-less Inv-loop μ-loop
-loop-less c = search needs
-
 loop-again : tie.Need-loop-again Inv-loop μ-loop
 loop-again c = let w = c .before in clear-more (w .before .before .loop .inv) _ (w .before .loop-test .taken) (w .word .ensures) (c .if1 .left)
-
-word-requires-2 : tie.Need-word-requires-2 Inv-loop μ-loop
-word-requires-2 c κs = search needs
 
 returns-2 : tie.Need-returns-2 Inv-loop μ-loop
 returns-2 c = clear-all (c .before .before .loop .inv) _ (c .before .loop-test .left) (c .word2 .ensures)
@@ -43,10 +31,10 @@ clear-spec =
     Inv-loop
     μ-loop
     loop-holds
-    word-requires
+    (λ c κs. search needs)
     returns
-    add-j
-    loop-less
+    (λ c. search needs)
+    (λ c. search needs)
     loop-again
-    word-requires-2
+    (λ c κs. search needs)
     returns-2)

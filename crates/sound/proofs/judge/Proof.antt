@@ -15,42 +15,6 @@ one c = c .before
 abbrev start : tie.After-hidden → tie.Start
 start c = c .before .before
 
-enum-told : tie.Need-enum-told
-enum-told c = search needs
-
-enum-told-2 : tie.Need-enum-told-2
-enum-told-2 c = search needs
-
-missing-alone-requires : tie.Need-missing-alone-requires
-missing-alone-requires c κs = search needs
-
-enum-known-trailing : tie.Need-enum-known-trailing
-enum-known-trailing c = search needs
-
-with-trailing-requires : tie.Need-with-trailing-requires
-with-trailing-requires c κs = search needs
-
-enum-told-3 : tie.Need-enum-told-3
-enum-told-3 c = search needs
-
-enum-known-hidden : tie.Need-enum-known-hidden
-enum-known-hidden c = search needs
-
-enum-told-4 : tie.Need-enum-told-4
-enum-told-4 c = search needs
-
-with-hidden-requires : tie.Need-with-hidden-requires
-with-hidden-requires c κs = search needs
-
-enum-told-5 : tie.Need-enum-told-5
-enum-told-5 c = search needs
-
-enum-told-6 : tie.Need-enum-told-6
-enum-told-6 c = search needs
-
-enum-told-7 : tie.Need-enum-told-7
-enum-told-7 c = search needs
-
 returns : tie.Need-returns
 returns c =
     let h = c .before .before .before in
@@ -88,18 +52,18 @@ pub judge-spec : {M : Type 1} → statement M
 judge-spec =
     tie.close
     (tie.spec
-    enum-told
-    enum-told-2
-    missing-alone-requires
-    enum-known-trailing
-    with-trailing-requires
-    enum-told-3
-    enum-known-hidden
-    enum-told-4
-    with-hidden-requires
-    enum-told-5
-    enum-told-6
-    enum-told-7
+    (λ c. search needs)
+    (λ c. search needs)
+    (λ c κs. search needs)
+    (λ c. search needs)
+    (λ c κs. search needs)
+    (λ c. search needs)
+    (λ c. search needs)
+    (λ c. search needs)
+    (λ c κs. search needs)
+    (λ c. search needs)
+    (λ c. search needs)
+    (λ c. search needs)
     returns
     returns-2
     returns-3

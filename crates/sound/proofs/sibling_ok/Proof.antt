@@ -16,37 +16,19 @@ first c = c .before .before
 abbrev has : tie.After-word3 → tie.After-has
 has c = c .before .before .before
 
-word-requires : tie.Need-word-requires
-word-requires c κs = search needs
-
 returns : tie.Need-returns
 returns c = sibling-none (read (c .before)) (c .if1 .taken)
-
-has-requires : tie.Need-has-requires
-has-requires c κs = search needs
 
 returns-2 : tie.Need-returns-2
 returns-2 c =
     let h = c .before in
     sibling-out (read (first h)) (h .before .if1 .left) (sym (h .has .ensures) ∙ not-true _ (c .if2 .taken))
 
-word-requires-2 : tie.Need-word-requires-2
-word-requires-2 c κs = search needs
-
-word-requires-3 : tie.Need-word-requires-3
-word-requires-3 c κs = search needs
-
 returns-3 : tie.Need-returns-3
 returns-3 c =
     let w = c .before in
     let h = has w in
     sibling-other (read (first h)) (h .before .if1 .left) _ _ (w .before .word2 .ensures) (w .word3 .ensures) (c .if3 .taken)
-
-word-requires-4 : tie.Need-word-requires-4
-word-requires-4 c κs = search needs
-
-word-requires-5 : tie.Need-word-requires-5
-word-requires-5 c κs = search needs
 
 returns-4 : tie.Need-returns-4
 returns-4 c =
@@ -59,13 +41,13 @@ pub sibling-ok-spec : {M : Type 1} → statement M
 sibling-ok-spec =
     tie.close
     (tie.spec
-    word-requires
+    (λ c κs. search needs)
     returns
-    has-requires
+    (λ c κs. search needs)
     returns-2
-    word-requires-2
-    word-requires-3
+    (λ c κs. search needs)
+    (λ c κs. search needs)
     returns-3
-    word-requires-4
-    word-requires-5
+    (λ c κs. search needs)
+    (λ c κs. search needs)
     returns-4)

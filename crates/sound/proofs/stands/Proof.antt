@@ -16,26 +16,14 @@ has c = c .before .before
 abbrev level : tie.After-word2 → tie.After-word
 level c = c .before .before
 
-has-requires : tie.Need-has-requires
-has-requires c κs = search needs
-
 returns : tie.Need-returns
 returns c = stands-out _ _ _ _ _ (start (c .before) .pre) (sym (c .before .has .ensures) ∙ not-true _ (c .if1 .taken))
-
-word-requires : tie.Need-word-requires
-word-requires c κs = search needs
 
 returns-2 : tie.Need-returns-2
 returns-2 c = stands-level _ _ _ _ _ (start (has (c .before)) .pre) _ (c .before .word .ensures) (c .if2 .taken)
 
-word-requires-2 : tie.Need-word-requires-2
-word-requires-2 c κs = search needs
-
 returns-3 : tie.Need-returns-3
 returns-3 c = stands-fence _ _ _ _ _ (start (has (level (c .before))) .pre) _ (c .before .word2 .ensures) (c .if3 .taken)
-
-word-requires-3 : tie.Need-word-requires-3
-word-requires-3 c κs = search needs
 
 returns-4 : tie.Need-returns-4
 returns-4 c =
@@ -49,11 +37,11 @@ pub stands-spec : {M : Type 1} → statement M
 stands-spec =
     tie.close
     (tie.spec
-    has-requires
+    (λ c κs. search needs)
     returns
-    word-requires
+    (λ c κs. search needs)
     returns-2
-    word-requires-2
+    (λ c κs. search needs)
     returns-3
-    word-requires-3
+    (λ c κs. search needs)
     returns-4)

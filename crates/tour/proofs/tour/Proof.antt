@@ -17,14 +17,8 @@ abbrev μ-loop : tie.MeasureT-loop
 μ-loop table top root marks₀ stack₀ ways₀ order₀ before count₀ depth₀ marks stack ways order count depth =
     measure table ways count depth
 
-read-requires : tie.Need-read-requires Inv-loop μ-loop
-read-requires c κs = search needs
-
 may-enter-requires : tie.Need-may-enter-requires Inv-loop μ-loop
 may-enter-requires c κs = let h = c .before .before .before .before .before .before .before .pre in (h .nodes-are, top-few _ _ _ _ _ _ _ h, h .marks)
-
-same-length : tie.Need-same-length Inv-loop μ-loop
-same-length c = search needs
 
 returns : tie.Need-returns Inv-loop μ-loop
 returns c =
@@ -51,12 +45,6 @@ cast-stack c =
     let h = a .before .before .before .before .before .before .before .pre in
     let q = root-few _ _ _ _ _ _ _ h _ (a .read .result) (a .read .ensures) (m .result) (m .ensures) (z .if1 .left) in
     omega (arith, q)
-
-slice-write-stack : tie.Need-slice-write-stack Inv-loop μ-loop
-slice-write-stack c = search needs
-
-slice-write-ways : tie.Need-slice-write-ways Inv-loop μ-loop
-slice-write-ways c = search needs
 
 cast-order : tie.Need-cast-order Inv-loop μ-loop
 cast-order c =
@@ -105,35 +93,14 @@ loop-holds c =
     let h = a .before .before .before .before .before .before .before .pre in
     state-start _ _ _ _ _ _ _ h _ (a .read .result) (a .read .ensures) (m .result) (m .ensures) (z .if1 .left) _ (c .before .before .put .ensures)
 
-sub-last : tie.Need-sub-last Inv-loop μ-loop
-sub-last c = search needs
-
-mul-n : tie.Need-mul-n Inv-loop μ-loop
-mul-n c = search needs
-
-slice-read-n : tie.Need-slice-read-n Inv-loop μ-loop
-slice-read-n c = search needs
-
 cast-n : tie.Need-cast-n Inv-loop μ-loop
 cast-n c = let d = c .before .before .loop .depth in omega (arith, c .slice-known6 .given (d - 1))
-
-slice-read-w : tie.Need-slice-read-w Inv-loop μ-loop
-slice-read-w c = search needs
 
 loop-less : tie.Need-loop-less Inv-loop μ-loop
 loop-less c = let d = c .before .before .before .loop-test .taken in pop-less _ _ _ _ _ _ _ _ _ _ _ (omega (arith, d)) (c .before .before .before .before .loop .inv)
 
 loop-again : tie.Need-loop-again Inv-loop μ-loop
 loop-again c = let d = c .before .before .before .loop-test .taken in state-pop _ _ _ _ _ _ _ _ _ _ _ (omega (arith, d)) (c .before .before .before .before .loop .inv) (c .if2 .taken)
-
-look-requires : tie.Need-look-requires Inv-loop μ-loop
-look-requires c κs = search needs
-
-slice-write-ways-2 : tie.Need-slice-write-ways-2 Inv-loop μ-loop
-slice-write-ways-2 c = search needs
-
-may-enter-requires-2 : tie.Need-may-enter-requires-2 Inv-loop μ-loop
-may-enter-requires-2 c κs = search needs
 
 put-requires-2 : tie.Need-put-requires-2 Inv-loop μ-loop
 put-requires-2 c κs =
@@ -154,15 +121,6 @@ cast-order-2 c =
     (z .before .before .may-enter2 .ensures) (z .before .if4 .taken) in
     omega (arith, q)
 
-mul-order-2 : tie.Need-mul-order-2 Inv-loop μ-loop
-mul-order-2 c = search needs
-
-slice-write-order-2 : tie.Need-slice-write-order-2 Inv-loop μ-loop
-slice-write-order-2 c = search needs
-
-add-count-2 : tie.Need-add-count-2 Inv-loop μ-loop
-add-count-2 c = search needs
-
 cast-stack-2 : tie.Need-cast-stack-2 Inv-loop μ-loop
 cast-stack-2 c =
     let z = c .before .before .before .before in
@@ -173,12 +131,6 @@ cast-stack-2 c =
     (z .before .before .before .may-enter2 .ensures) (z .before .before .if4 .taken) in
     omega (arith, q)
 
-mul-stack : tie.Need-mul-stack Inv-loop μ-loop
-mul-stack c = search needs
-
-slice-write-stack-2 : tie.Need-slice-write-stack-2 Inv-loop μ-loop
-slice-write-stack-2 c = search needs
-
 slice-write-ways-3 : tie.Need-slice-write-ways-3 Inv-loop μ-loop
 slice-write-ways-3 c =
     let z = c .before .before .before .before in
@@ -188,9 +140,6 @@ slice-write-ways-3 c =
     let q = count-less _ _ _ _ _ _ _ _ _ _ _ (omega (arith, d)) s (l .look .result) (l .look .ensures) (z .before .before .before .before .before .if3 .taken) (z .before .before .before .may-enter2 .result)
     (z .before .before .before .may-enter2 .ensures) (z .before .before .if4 .taken) in
     simp length-set (omega (arith, q, s .deep, s .few, s .long .ways))
-
-add-depth : tie.Need-add-depth Inv-loop μ-loop
-add-depth c = search needs
 
 loop-less-2 : tie.Need-loop-less-2 Inv-loop μ-loop
 loop-less-2 c =
@@ -259,39 +208,39 @@ tour-spec =
     (tie.spec
     Inv-loop
     μ-loop
-    read-requires
+    (λ c κs. search needs)
     may-enter-requires
-    same-length
+    (λ c. search needs)
     returns
     put-requires
     cast-stack
-    slice-write-stack
-    slice-write-ways
+    (λ c. search needs)
+    (λ c. search needs)
     cast-order
     mul-order
     slice-write-order
     add-count
     loop-holds
-    sub-last
-    mul-n
-    slice-read-n
+    (λ c. search needs)
+    (λ c. search needs)
+    (λ c. search needs)
     cast-n
-    slice-read-w
+    (λ c. search needs)
     loop-less
     loop-again
-    look-requires
-    slice-write-ways-2
-    may-enter-requires-2
+    (λ c κs. search needs)
+    (λ c. search needs)
+    (λ c κs. search needs)
     put-requires-2
     cast-order-2
-    mul-order-2
-    slice-write-order-2
-    add-count-2
+    (λ c. search needs)
+    (λ c. search needs)
+    (λ c. search needs)
     cast-stack-2
-    mul-stack
-    slice-write-stack-2
+    (λ c. search needs)
+    (λ c. search needs)
     slice-write-ways-3
-    add-depth
+    (λ c. search needs)
     loop-less-2
     loop-again-2
     loop-less-3

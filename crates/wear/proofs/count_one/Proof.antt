@@ -6,17 +6,11 @@ use borrow.Author.Needs.{needs}
 use Rattle.wear.proofs.count_one.Statement.{statement}
 use Rattle.wear.proofs.count_one.Tie as tie
 
-is-store-requires : tie.Need-is-store-requires
-is-store-requires c κs = search needs
-
 returns : tie.Need-returns
 returns c =
     let after-is-store = c .before in
     let entry = after-is-store .before .before in
     tally-none (entry .args .a) (entry .args .b) _ (after-is-store .is-store .ensures) (entry .args .lines .now) (c .if1 .taken)
-
-mul-lines : tie.Need-mul-lines
-mul-lines c = search needs
 
 slice-read-lines : tie.Need-slice-read-lines
 slice-read-lines c =
@@ -37,9 +31,6 @@ slice-write-lines c =
     let entry = after-is-store .before .before in
     tally-inside (entry .args .a) (entry .args .b) _ (after-is-store .is-store .ensures) (entry .args .lines .now) (else1 .if1 .left) (entry .pre .0)
 
-same-length : tie.Need-same-length
-same-length c = search needs
-
 returns-2 : tie.Need-returns-2
 returns-2 c =
     let else1 = c .before in
@@ -52,11 +43,11 @@ pub count-one-spec : {M : Type 1} → statement M
 count-one-spec =
     tie.close
     (tie.spec
-    is-store-requires
+    (λ c κs. search needs)
     returns
-    mul-lines
+    (λ c. search needs)
     slice-read-lines
     add-lines
     slice-write-lines
-    same-length
+    (λ c. search needs)
     returns-2)

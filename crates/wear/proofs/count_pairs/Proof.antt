@@ -17,22 +17,10 @@ Inv-loop marks len pairs₀ w₀ pairs w = (w ≤ len) × (pairs ≤ w) × (w < 
 abbrev μ-loop : tie.MeasureT-loop
 μ-loop marks len pairs₀ w₀ pairs w = len - w
 
-seek-requires : tie.Need-seek-requires Inv-loop μ-loop
-seek-requires c κs = search needs
-
 loop-holds : tie.Need-loop-holds Inv-loop μ-loop
 loop-holds c =
     let s = c .seek .ensures in
     (s .within, omega arith, s .found, omega (arith, ap length (left-first _ _ _ s)))
-
-seek-requires-2 : tie.Need-seek-requires-2 Inv-loop μ-loop
-seek-requires-2 c κs = search needs
-
-add-pairs : tie.Need-add-pairs Inv-loop μ-loop
-add-pairs c = search needs
-
-seek-requires-3 : tie.Need-seek-requires-3 Inv-loop μ-loop
-seek-requires-3 c κs = search needs
 
 loop-less : tie.Need-loop-less Inv-loop μ-loop
 loop-less c =
@@ -60,11 +48,11 @@ count-pairs-spec =
     (tie.spec
     Inv-loop
     μ-loop
-    seek-requires
+    (λ c κs. search needs)
     loop-holds
-    seek-requires-2
-    add-pairs
-    seek-requires-3
+    (λ c κs. search needs)
+    (λ c. search needs)
+    (λ c κs. search needs)
     loop-less
     loop-again
     returns)

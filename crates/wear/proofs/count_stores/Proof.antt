@@ -18,36 +18,12 @@ Inv-loop lines₀ list n total₀ i₀ lines total i = (i ≤ n) × (length line
 abbrev μ-loop : tie.MeasureT-loop
 μ-loop lines₀ list n total₀ i₀ lines total i = n - i
 
-zero-requires : tie.Need-zero-requires Inv-loop μ-loop
-zero-requires c κs = search needs
-
 loop-holds : tie.Need-loop-holds Inv-loop μ-loop
 loop-holds c =
     let after-zero = c .before .before in
     let entry = after-zero .before .before .before .before in
     let words = storedTo (decode (entry .args .list .now)) in
     (omega arith, refl, below-as 8 _ _ words (after-zero .zero .kept .0) (entry .pre), tally-begins _ (length (entry .args .lines .now)) _ (after-zero .zero .ensures))
-
-mul-count-one : tie.Need-mul-count-one Inv-loop μ-loop
-mul-count-one c = search needs
-
-mul-count-one-2 : tie.Need-mul-count-one-2 Inv-loop μ-loop
-mul-count-one-2 c = search needs
-
-shared-slice-read-count-one : tie.Need-shared-slice-read-count-one Inv-loop μ-loop
-shared-slice-read-count-one c = search needs
-
-mul-count-one-3 : tie.Need-mul-count-one-3 Inv-loop μ-loop
-mul-count-one-3 c = search needs
-
-add-count-one : tie.Need-add-count-one Inv-loop μ-loop
-add-count-one c = search needs
-
-mul-count-one-4 : tie.Need-mul-count-one-4 Inv-loop μ-loop
-mul-count-one-4 c = search needs
-
-shared-slice-read-count-one-2 : tie.Need-shared-slice-read-count-one-2 Inv-loop μ-loop
-shared-slice-read-count-one-2 c = search needs
 
 count-one-requires : tie.Need-count-one-requires Inv-loop μ-loop
 count-one-requires c κs =
@@ -60,20 +36,11 @@ add-total c =
     let l = after-count-one .before .before .before .before .before .loop in
     omega (arith, total-few _ (l .i) _ _ (l .inv .3) (omega arith) _ (after-count-one .count-one .ensures .0))
 
-add-i : tie.Need-add-i Inv-loop μ-loop
-add-i c = search needs
-
-loop-less : tie.Need-loop-less Inv-loop μ-loop
-loop-less c = search needs
-
 loop-again : tie.Need-loop-again Inv-loop μ-loop
 loop-again c =
     let after-count-one = c .before .before in
     let l = after-count-one .before .before .before .before .before .loop in
     (omega arith, search needs, below-next _ (l .i) (omega arith) _ (l .inv .2), tally-next _ (l .i) _ _ (l .inv .3) (omega arith) _ _ (after-count-one .count-one .ensures))
-
-same-length : tie.Need-same-length Inv-loop μ-loop
-same-length c = search needs
 
 returns : tie.Need-returns Inv-loop μ-loop
 returns c =
@@ -87,19 +54,19 @@ count-stores-spec =
     (tie.spec
     Inv-loop
     μ-loop
-    zero-requires
+    (λ c κs. search needs)
     loop-holds
-    mul-count-one
-    mul-count-one-2
-    shared-slice-read-count-one
-    mul-count-one-3
-    add-count-one
-    mul-count-one-4
-    shared-slice-read-count-one-2
+    (λ c. search needs)
+    (λ c. search needs)
+    (λ c. search needs)
+    (λ c. search needs)
+    (λ c. search needs)
+    (λ c. search needs)
+    (λ c. search needs)
     count-one-requires
     add-total
-    add-i
-    loop-less
+    (λ c. search needs)
+    (λ c. search needs)
     loop-again
-    same-length
+    (λ c. search needs)
     returns)

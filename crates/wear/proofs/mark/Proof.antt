@@ -20,46 +20,16 @@ abbrev μ-loop : tie.MeasureT-loop
 loop-holds : tie.Need-loop-holds Inv-loop μ-loop
 loop-holds c = (search needs, search needs, c .before .before .pre, λ w. refl)
 
-mul-mark-one : tie.Need-mul-mark-one Inv-loop μ-loop
-mul-mark-one c = search needs
-
-mul-mark-one-2 : tie.Need-mul-mark-one-2 Inv-loop μ-loop
-mul-mark-one-2 c = search needs
-
-shared-slice-read-mark-one : tie.Need-shared-slice-read-mark-one Inv-loop μ-loop
-shared-slice-read-mark-one c = search needs
-
-mul-mark-one-3 : tie.Need-mul-mark-one-3 Inv-loop μ-loop
-mul-mark-one-3 c = search needs
-
-add-mark-one : tie.Need-add-mark-one Inv-loop μ-loop
-add-mark-one c = search needs
-
-mul-mark-one-4 : tie.Need-mul-mark-one-4 Inv-loop μ-loop
-mul-mark-one-4 c = search needs
-
-shared-slice-read-mark-one-2 : tie.Need-shared-slice-read-mark-one-2 Inv-loop μ-loop
-shared-slice-read-mark-one-2 c = search needs
-
 mark-one-requires : tie.Need-mark-one-requires Inv-loop μ-loop
 mark-one-requires c κs =
     let at-loop = c .before .before .before .before in
     let l = at-loop .loop in below-here _ (l .i) (omega arith) _ (l .inv .2) _ (omega arith)
-
-add-i : tie.Need-add-i Inv-loop μ-loop
-add-i c = search needs
-
-loop-less : tie.Need-loop-less Inv-loop μ-loop
-loop-less c = search needs
 
 loop-again : tie.Need-loop-again Inv-loop μ-loop
 loop-again c =
     let after-mark-one = c .before .before in
     let l = after-mark-one .before .before .before .before .before .loop in
     (omega arith, search needs, below-next _ (l .i) (omega arith) _ (l .inv .2), marking-next _ _ (l .i) _ (l .inv .3) (omega arith) _ (after-mark-one .mark-one .ensures))
-
-same-length : tie.Need-same-length Inv-loop μ-loop
-same-length c = search needs
 
 returns : tie.Need-returns Inv-loop μ-loop
 returns c = let l = c .before .loop in marking-end _ _ (l .i) _ (l .inv .3) (omega arith)
@@ -71,16 +41,16 @@ mark-spec =
     Inv-loop
     μ-loop
     loop-holds
-    mul-mark-one
-    mul-mark-one-2
-    shared-slice-read-mark-one
-    mul-mark-one-3
-    add-mark-one
-    mul-mark-one-4
-    shared-slice-read-mark-one-2
+    (λ c. search needs)
+    (λ c. search needs)
+    (λ c. search needs)
+    (λ c. search needs)
+    (λ c. search needs)
+    (λ c. search needs)
+    (λ c. search needs)
     mark-one-requires
-    add-i
-    loop-less
+    (λ c. search needs)
+    (λ c. search needs)
     loop-again
-    same-length
+    (λ c. search needs)
     returns)

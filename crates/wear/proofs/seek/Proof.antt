@@ -18,35 +18,17 @@ abbrev μ-loop : tie.MeasureT-loop
 loop-holds : tie.Need-loop-holds Inv-loop μ-loop
 loop-holds c = (search needs, search needs, λ v a b. absurd (omega arith))
 
-unwanted-requires : tie.Need-unwanted-requires Inv-loop μ-loop
-unwanted-requires c κs = search needs
-
-sub-if1 : tie.Need-sub-if1 Inv-loop μ-loop
-sub-if1 c = search needs
-
 returns : tie.Need-returns Inv-loop μ-loop
 returns c =
     let after = c .before in
     let l = after .before .before .loop in
     seek-none _ _ _ (l .w) (l .inv .0) (l .inv .2) _ _ (after .unwanted .ensures) _ (l .inv .1) (c .if1 .taken)
 
-sub-if2 : tie.Need-sub-if2 Inv-loop μ-loop
-sub-if2 c = search needs
-
-add-result : tie.Need-add-result Inv-loop μ-loop
-add-result c = search needs
-
 returns-2 : tie.Need-returns-2 Inv-loop μ-loop
 returns-2 c =
     let after = c .before .before in
     let l = after .before .before .loop in
     seek-found _ _ _ (l .w) (l .inv .0) (l .inv .2) _ _ (after .unwanted .ensures) _ (omega arith) (omega arith)
-
-add-w : tie.Need-add-w Inv-loop μ-loop
-add-w c = search needs
-
-loop-less : tie.Need-loop-less Inv-loop μ-loop
-loop-less c = search needs
 
 loop-again : tie.Need-loop-again Inv-loop μ-loop
 loop-again c =
@@ -64,13 +46,13 @@ seek-spec =
     Inv-loop
     μ-loop
     loop-holds
-    unwanted-requires
-    sub-if1
+    (λ c κs. search needs)
+    (λ c. search needs)
     returns
-    sub-if2
-    add-result
+    (λ c. search needs)
+    (λ c. search needs)
     returns-2
-    add-w
-    loop-less
+    (λ c. search needs)
+    (λ c. search needs)
     loop-again
     returns-3)

@@ -6,23 +6,8 @@ use borrow.Author.Needs.{needs}
 use Rattle.wear.proofs.unwanted.Statement.{statement}
 use Rattle.wear.proofs.unwanted.Tie as tie
 
-mul-wanted-bits : tie.Need-mul-wanted-bits
-mul-wanted-bits c = search needs
-
-shared-slice-read-wanted-bits : tie.Need-shared-slice-read-wanted-bits
-shared-slice-read-wanted-bits c = search needs
-
-shr-wanted-bits : tie.Need-shr-wanted-bits
-shr-wanted-bits c = search needs
-
-wanted-bits-requires : tie.Need-wanted-bits-requires
-wanted-bits-requires c κs = search needs
-
 cast-n : tie.Need-cast-n
 cast-n c = omega (arith, trailing-le 64 (c .wanted-bits .result))
-
-sub-left : tie.Need-sub-left
-sub-left c = search needs
 
 returns : tie.Need-returns
 returns c =
@@ -40,11 +25,11 @@ pub unwanted-spec : {M : Type 1} → statement M
 unwanted-spec =
     tie.close
     (tie.spec
-    mul-wanted-bits
-    shared-slice-read-wanted-bits
-    shr-wanted-bits
-    wanted-bits-requires
+    (λ c. search needs)
+    (λ c. search needs)
+    (λ c. search needs)
+    (λ c κs. search needs)
     cast-n
-    sub-left
+    (λ c. search needs)
     returns
     returns-2)

@@ -12,17 +12,11 @@ use Rattle.wear.proofs.Answers.{part-length, part-most, no-header, outs
 use Rattle.wear.proofs.wear.Statement.{statement}
 use Rattle.wear.proofs.wear.Tie as tie
 
-header-requires : tie.Need-header-requires
-header-requires c κs = search needs
-
 returns : tie.Need-returns
 returns c =
     let after-header = c .before in
     let entry = after-header .before .before .before .before .before in
     no-header (entry .args .list .now) (entry .args .table .now) _ (after-header .header .ensures) (c .if1 .taken) (entry .args .lines .now) (entry .args .pairs .now)
-
-all-inside-requires : tie.Need-all-inside-requires
-all-inside-requires c κs = search needs
 
 returns-2 : tie.Need-returns-2
 returns-2 c =
@@ -42,9 +36,6 @@ returns-3 c =
     let inside = all-inside (entry .args .list .now) (entry .args .table .now) _ (after-header .header .ensures) (else1 .if1 .left) _ (after-all-inside .all-inside .ensures) (not-false _ (else2 .if2 .left)) in
     few-lines _ _ inside (entry .args .lines .now) (entry .args .pairs .now) (c .if3 .taken)
 
-slice-aggregate-mark : tie.Need-slice-aggregate-mark
-slice-aggregate-mark c = search needs
-
 mark-requires : tie.Need-mark-requires
 mark-requires c κs =
     let else2 = c .before .before in
@@ -54,9 +45,6 @@ mark-requires c κs =
     let entry = after-header .before .before .before .before .before in
     let inside = all-inside (entry .args .list .now) (entry .args .table .now) _ (after-header .header .ensures) (else1 .if1 .left) _ (after-all-inside .all-inside .ensures) (not-false _ (else2 .if2 .left)) in
     marks-hold _ _ inside 32768 refl
-
-slice-aggregate-count-pairs : tie.Need-slice-aggregate-count-pairs
-slice-aggregate-count-pairs c = search needs
 
 count-pairs-requires : tie.Need-count-pairs-requires
 count-pairs-requires c κs =
@@ -93,9 +81,6 @@ returns-4 c =
     let inside = all-inside (entry .args .list .now) (entry .args .table .now) _ (after-header .header .ensures) (else1 .if1 .left) _ (after-all-inside .all-inside .ensures) (not-false _ (else2 .if2 .left)) in
     few-pairs _ _ inside _ (after-mark .mark .ensures) _ (after-count-pairs .count-pairs .ensures) (entry .args .lines .now) (entry .args .pairs .now) (else3 .if3 .left) (c .if4 .taken)
 
-slice-relend-prefix-write-pairs : tie.Need-slice-relend-prefix-write-pairs
-slice-relend-prefix-write-pairs c = search needs
-
 slice-aggregate-write-pairs : tie.Need-slice-aggregate-write-pairs
 slice-aggregate-write-pairs c =
     let after-count-pairs = c .before .before in
@@ -106,9 +91,6 @@ slice-aggregate-write-pairs c =
     let after-header = else1 .before in
     let entry = after-header .before .before .before .before .before in
     sym (length-take-le _ (entry .args .pairs .now) (omega arith))
-
-slice-aggregate-write-pairs-2 : tie.Need-slice-aggregate-write-pairs-2
-slice-aggregate-write-pairs-2 c = search needs
 
 write-pairs-requires : tie.Need-write-pairs-requires
 write-pairs-requires c κs =
@@ -122,9 +104,6 @@ write-pairs-requires c κs =
     let inside = all-inside (entry .args .list .now) (entry .args .table .now) _ (after-header .header .ensures) (else1 .if1 .left) _ (after-all-inside .all-inside .ensures) (not-false _ (else2 .if2 .left)) in
     let cut = length-take-le (2 * after-count-pairs .count-pairs .result) (entry .args .pairs .now) (omega arith) in
     (marks-enough _ _ inside _ (after-mark .mark .kept .0), omega (arith, cut, after-count-pairs .count-pairs .ensures))
-
-slice-relend-prefix-count-stores : tie.Need-slice-relend-prefix-count-stores
-slice-relend-prefix-count-stores c = search needs
 
 slice-aggregate-count-stores : tie.Need-slice-aggregate-count-stores
 slice-aggregate-count-stores c =
@@ -149,9 +128,6 @@ count-stores-requires c κs =
     let inside = all-inside (entry .args .list .now) (entry .args .table .now) _ (after-header .header .ensures) (else1 .if1 .left) _ (after-all-inside .all-inside .ensures) (not-false _ (else2 .if2 .left)) in
     lines-hold _ _ inside _ (length-take-le _ (entry .args .lines .now) (omega arith))
 
-slice-reshare-prefix-worst : tie.Need-slice-reshare-prefix-worst
-slice-reshare-prefix-worst c = search needs
-
 slice-aggregate-worst : tie.Need-slice-aggregate-worst
 slice-aggregate-worst c =
     let after-count-stores = c .before .before .before in
@@ -165,15 +141,6 @@ slice-aggregate-worst c =
     let k = length (entry .args .table .now) / 8 in
     let cut = length-take-le k (entry .args .lines .now) (omega arith) in
     part-length (after-count-stores .count-stores .last .0) (drop k (entry .args .lines .now)) k (after-count-stores .count-stores .kept .0 ∙ cut)
-
-worst-requires : tie.Need-worst-requires
-worst-requires c κs = search needs
-
-same-length : tie.Need-same-length
-same-length c = search needs
-
-same-length-2 : tie.Need-same-length-2
-same-length-2 c = search needs
 
 returns-5 : tie.Need-returns-5
 returns-5 c =
@@ -202,27 +169,27 @@ pub wear-spec : {M : Type 1} → statement M
 wear-spec =
     tie.close
     (tie.spec
-    header-requires
+    (λ c κs. search needs)
     returns
-    all-inside-requires
+    (λ c κs. search needs)
     returns-2
     returns-3
-    slice-aggregate-mark
+    (λ c. search needs)
     mark-requires
-    slice-aggregate-count-pairs
+    (λ c. search needs)
     count-pairs-requires
     mul-end
     returns-4
-    slice-relend-prefix-write-pairs
+    (λ c. search needs)
     slice-aggregate-write-pairs
-    slice-aggregate-write-pairs-2
+    (λ c. search needs)
     write-pairs-requires
-    slice-relend-prefix-count-stores
+    (λ c. search needs)
     slice-aggregate-count-stores
     count-stores-requires
-    slice-reshare-prefix-worst
+    (λ c. search needs)
     slice-aggregate-worst
-    worst-requires
-    same-length
-    same-length-2
+    (λ c κs. search needs)
+    (λ c. search needs)
+    (λ c. search needs)
     returns-5)

@@ -16,21 +16,6 @@ abbrev μ-loop : tie.MeasureT-loop
 loop-holds : tie.Need-loop-holds Inv-loop μ-loop
 loop-holds c = (search needs, most-none _)
 
-sub-i : tie.Need-sub-i Inv-loop μ-loop
-sub-i c = search needs
-
-mul-or-here : tie.Need-mul-or-here Inv-loop μ-loop
-mul-or-here c = search needs
-
-shared-slice-read-or-here : tie.Need-shared-slice-read-or-here Inv-loop μ-loop
-shared-slice-read-or-here c = search needs
-
-or-here-requires : tie.Need-or-here-requires Inv-loop μ-loop
-or-here-requires c κs = search needs
-
-loop-less : tie.Need-loop-less Inv-loop μ-loop
-loop-less c = search needs
-
 loop-again : tie.Need-loop-again Inv-loop μ-loop
 loop-again c =
     let in-loop = c .before .before in
@@ -47,10 +32,10 @@ worst-spec =
     Inv-loop
     μ-loop
     loop-holds
-    sub-i
-    mul-or-here
-    shared-slice-read-or-here
-    or-here-requires
-    loop-less
+    (λ c. search needs)
+    (λ c. search needs)
+    (λ c. search needs)
+    (λ c κs. search needs)
+    (λ c. search needs)
     loop-again
     returns)

@@ -17,22 +17,10 @@ Inv-loop pairs₀ marks len k₀ w₀ pairs k w = (w ≤ len) × (w < len → ha
 abbrev μ-loop : tie.MeasureT-loop
 μ-loop pairs₀ marks len k₀ w₀ pairs k w = len - w
 
-seek-requires : tie.Need-seek-requires Inv-loop μ-loop
-seek-requires c κs = search needs
-
 loop-holds : tie.Need-loop-holds Inv-loop μ-loop
 loop-holds c =
     let s = c .seek .ensures in
     (s .within, s .found, search needs, written-first _ _ _ _ s (c .before .before .before .pre .1))
-
-seek-requires-2 : tie.Need-seek-requires-2 Inv-loop μ-loop
-seek-requires-2 c κs = search needs
-
-mul-pairs : tie.Need-mul-pairs Inv-loop μ-loop
-mul-pairs c = search needs
-
-mul-pairs-2 : tie.Need-mul-pairs-2 Inv-loop μ-loop
-mul-pairs-2 c = search needs
 
 slice-write-pairs : tie.Need-slice-write-pairs Inv-loop μ-loop
 slice-write-pairs c =
@@ -40,29 +28,11 @@ slice-write-pairs c =
     let l = in-loop .before .loop in
     omega (arith, written-room _ _ _ _ (l .w) (l .inv .3) _ (omega arith) (l .inv .1 (in-loop .loop-test .taken)) (c .seek2 .ensures))
 
-sub-pairs : tie.Need-sub-pairs Inv-loop μ-loop
-sub-pairs c = search needs
-
-mul-pairs-3 : tie.Need-mul-pairs-3 Inv-loop μ-loop
-mul-pairs-3 c = search needs
-
-add-pairs : tie.Need-add-pairs Inv-loop μ-loop
-add-pairs c = search needs
-
-mul-pairs-4 : tie.Need-mul-pairs-4 Inv-loop μ-loop
-mul-pairs-4 c = search needs
-
 slice-write-pairs-2 : tie.Need-slice-write-pairs-2 Inv-loop μ-loop
 slice-write-pairs-2 c =
     let in-loop = c .before in
     let l = in-loop .before .loop in
     lt-length-set (l .pairs) (2 * l .k) (l .w) (written-room _ _ _ _ (l .w) (l .inv .3) _ (omega arith) (l .inv .1 (in-loop .loop-test .taken)) (c .seek2 .ensures))
-
-add-k : tie.Need-add-k Inv-loop μ-loop
-add-k c = search needs
-
-seek-requires-3 : tie.Need-seek-requires-3 Inv-loop μ-loop
-seek-requires-3 c κs = search needs
 
 loop-less : tie.Need-loop-less Inv-loop μ-loop
 loop-less c =
@@ -80,9 +50,6 @@ loop-again c =
     let t = c .seek3 .ensures in
     (t .within, t .found, search needs, written-next _ _ _ _ (l .w) (l .inv .3) _ (omega arith) (l .inv .1 (in-loop .loop-test .taken)) s _ t)
 
-same-length : tie.Need-same-length Inv-loop μ-loop
-same-length c = search needs
-
 returns : tie.Need-returns Inv-loop μ-loop
 returns c = let l = c .before .loop in written-end _ _ _ _ (l .w) (l .inv .3) (omega arith)
 
@@ -92,20 +59,20 @@ write-pairs-spec =
     (tie.spec
     Inv-loop
     μ-loop
-    seek-requires
+    (λ c κs. search needs)
     loop-holds
-    seek-requires-2
-    mul-pairs
-    mul-pairs-2
+    (λ c κs. search needs)
+    (λ c. search needs)
+    (λ c. search needs)
     slice-write-pairs
-    sub-pairs
-    mul-pairs-3
-    add-pairs
-    mul-pairs-4
+    (λ c. search needs)
+    (λ c. search needs)
+    (λ c. search needs)
+    (λ c. search needs)
     slice-write-pairs-2
-    add-k
-    seek-requires-3
+    (λ c. search needs)
+    (λ c κs. search needs)
     loop-less
     loop-again
-    same-length
+    (λ c. search needs)
     returns)

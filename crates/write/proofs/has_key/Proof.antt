@@ -4,21 +4,6 @@ use borrow.Author.Needs.{needs}
 use Rattle.write.proofs.has_key.Statement.{statement}
 use Rattle.write.proofs.has_key.Tie as tie
 
-standing-requires : tie.Need-standing-requires
-standing-requires c κs = search needs
-
-read-requires : tie.Need-read-requires
-read-requires c κs = search needs
-
-find-requires : tie.Need-find-requires
-find-requires c κs = search needs
-
-enum-told : tie.Need-enum-told
-enum-told c = search needs
-
-enum-told-2 : tie.Need-enum-told-2
-enum-told-2 c = search needs
-
 returns : tie.Need-returns
 returns c =
     let f = c .before .before in
@@ -35,10 +20,10 @@ pub has-key-spec : {M : Type 1} → statement M
 has-key-spec =
     tie.close
     (tie.spec
-    standing-requires
-    read-requires
-    find-requires
-    enum-told
-    enum-told-2
+    (λ c κs. search needs)
+    (λ c κs. search needs)
+    (λ c κs. search needs)
+    (λ c. search needs)
+    (λ c. search needs)
     returns
     returns-2)

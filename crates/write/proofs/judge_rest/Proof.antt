@@ -26,20 +26,8 @@ found c = checked-sound _ _ _ .0 (sym (answered c .check .ensures) ∙ c .answer
 
 -- ---- the answers
 
-check-requires : tie.Need-check-requires
-check-requires c κs = search needs
-
-enum-told : tie.Need-enum-told
-enum-told c = search needs
-
-enum-known-answer : tie.Need-enum-known-answer
-enum-known-answer c = search needs
-
 returns : tie.Need-returns
 returns c = let a = c .before .before in wrong-dock _ _ _ (entry (answered a) .pre) _ _ (found a) (c .if1 .taken)
-
-words-for-requires : tie.Need-words-for-requires
-words-for-requires c κs = search needs
 
 returns-2 : tie.Need-returns-2
 returns-2 c =
@@ -62,11 +50,11 @@ pub judge-rest-spec : {M : Type 1} → statement M
 judge-rest-spec =
     tie.close
     (tie.spec
-    check-requires
-    enum-told
-    enum-known-answer
+    (λ c κs. search needs)
+    (λ c. search needs)
+    (λ c. search needs)
     returns
-    words-for-requires
+    (λ c κs. search needs)
     returns-2
     returns-3
     returns-4)

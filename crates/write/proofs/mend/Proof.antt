@@ -51,29 +51,14 @@ end₄ c = c .before .before .before .before
 
 -- ---- the answers
 
-enum-told : tie.Need-enum-told
-enum-told c = search needs
-
-enum-known-left : tie.Need-enum-known-left
-enum-known-left c = search needs
-
 close-requires : tie.Need-close-requires
 close-requires c κs = let l = hidden c in let e = entry₁ l .pre in let q = l .left .given .1 in
     (close-there _ _ (e .0) (e .1 .0) _ q, room-as _ _ _ (close-stores _ _ (e .0) (e .1 .0) _ q) (e .1 .1))
-
-enum-known-left-2 : tie.Need-enum-known-left-2
-enum-known-left-2 c = search needs
 
 cut-attach-requires : tie.Need-cut-attach-requires
 cut-attach-requires c κs = let b = trailing c in let l = b .before .before in let e = entry₂ l .pre in let q = l .left2 .given .1 in
     let n = attach-plain _ _ (e .0) (e .1 .0) _ _ _ q in
     (n .0 .there, (n .0 .plain, (n .1 .there, (n .1 .plain, room-as _ _ _ (cut-attach-stores _ _ (e .0) (e .1 .0) _ _ _ q (b .if1 .taken)) (e .1 .1)))))
-
-same-length : tie.Need-same-length
-same-length c = search needs
-
-same-length-2 : tie.Need-same-length-2
-same-length-2 c = search needs
 
 returns : tie.Need-returns
 returns c = let s = end₂ c in let b = trailing (s .before) in let l = b .before .before in let e = entry₂ l .pre in
@@ -83,9 +68,6 @@ attach-requires : tie.Need-attach-requires
 attach-requires c κs = let b = missing c in let l = b .before .before in let e = entry₂ l .pre in let q = l .left2 .given .1 in
     let n = attach-plain _ _ (e .0) (e .1 .0) _ _ _ q in
     (n .0 .there, (n .0 .plain, room-as _ _ _ (attach-stores _ _ (e .0) (e .1 .0) _ _ _ q (b .if1 .left)) (e .1 .1)))
-
-enum-known-left-3 : tie.Need-enum-known-left-3
-enum-known-left-3 c = search needs
 
 close-requires-2 : tie.Need-close-requires-2
 close-requires-2 c κs = let l = both c in let e = entry₃ l .pre in let q = l .left3 .given .1 in
@@ -99,31 +81,13 @@ attach-requires-2 c κs = let s = closed c in let l = both (s .before) in let e 
 returns-2 : tie.Need-returns-2
 returns-2 c = let e = plain c .pre in stored-as _ _ _ (nothing-stores _ _ (e .0) (e .1 .0) (c .enum-told .given .1)) _ (sym (storedAll-nil _))
 
-same-length-3 : tie.Need-same-length-3
-same-length-3 c = search needs
-
-same-length-4 : tie.Need-same-length-4
-same-length-4 c = search needs
-
 returns-3 : tie.Need-returns-3
 returns-3 c = let s = end₁ c in let l = hidden (s .before) in let e = entry₁ l .pre in
     stored-as _ _ _ (close-stores _ _ (e .0) (e .1 .0) _ (l .left .given .1)) _ (s .close .ensures)
 
-same-length-5 : tie.Need-same-length-5
-same-length-5 c = search needs
-
-same-length-6 : tie.Need-same-length-6
-same-length-6 c = search needs
-
 returns-4 : tie.Need-returns-4
 returns-4 c = let s = end₃ c in let b = missing (s .before) in let l = b .before .before in let e = entry₂ l .pre in
     stored-as _ _ _ (attach-stores _ _ (e .0) (e .1 .0) _ _ _ (l .left2 .given .1) (b .if1 .left)) _ (s .attach .ensures)
-
-same-length-7 : tie.Need-same-length-7
-same-length-7 c = search needs
-
-same-length-8 : tie.Need-same-length-8
-same-length-8 c = search needs
 
 returns-5 : tie.Need-returns-5
 returns-5 c = let s = end₄ c in let d = closed (s .before) in let l = both (d .before) in let e = entry₃ l .pre in
@@ -133,25 +97,25 @@ pub mend-spec : {M : Type 1} → statement M
 mend-spec =
     tie.close
     (tie.spec
-    enum-told
-    enum-known-left
+    (λ c. search needs)
+    (λ c. search needs)
     close-requires
-    enum-known-left-2
+    (λ c. search needs)
     cut-attach-requires
-    same-length
-    same-length-2
+    (λ c. search needs)
+    (λ c. search needs)
     returns
     attach-requires
-    enum-known-left-3
+    (λ c. search needs)
     close-requires-2
     attach-requires-2
     returns-2
-    same-length-3
-    same-length-4
+    (λ c. search needs)
+    (λ c. search needs)
     returns-3
-    same-length-5
-    same-length-6
+    (λ c. search needs)
+    (λ c. search needs)
     returns-4
-    same-length-7
-    same-length-8
+    (λ c. search needs)
+    (λ c. search needs)
     returns-5)
