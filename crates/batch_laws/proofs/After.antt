@@ -1,19 +1,18 @@
 -- What an accepted insertion leaves: a settled table with the collection, the pair entered in its map, and more nodes reached.
-use mathlib.Core.Path.{_≡_, refl, ap, sym, _∙_}
+use mathlib.Core.Path.{_≡_, refl, ap, _∙_}
 use mathlib.Core.Bool.{Bool, true, false, cond, _||_}
 use mathlib.Core.Logic.{_↔_, inl}
-use mathlib.Core.List.{List, [], _∷_, map}
+use mathlib.Core.List.{List, [], _∷_}
 use mathlib.Core.Option.{some}
 use Prim.Native.Nat.{ℕ, _<_, _≤_}
-use native.Mathlib.Omega.{arith}
 use lib.Dec.{eqb, ltb}
 use lib.ListN.{length}
 use lib.Seq.{take-length}
 use borrow.Author.Tests.{le-ltb, lt-ltb}
 use Rattle.model.specs.Table.{Words, at, rootWord, noCollection}
 use Rattle.model.specs.Slots.{Slot, recordingOf, recording, pointerOf}
-use Rattle.model.specs.Reached.{mapOf, reachedAll}
-use Rattle.model.specs.SoundTest.{elem, nothing, leftoverAll, sound, settled}
+use Rattle.model.specs.Reached.{mapOf}
+use Rattle.model.specs.SoundTest.{nothing, leftoverAll, sound, settled}
 use Rattle.model.specs.Orders.{apply}
 use Rattle.model.specs.Writes.{insertStores, insertion, storesOf}
 use Rattle.model.specs.Refusals.{hasRecording, wordsFor, refusal}
@@ -23,7 +22,6 @@ use Rattle.table_laws.proofs.Collections.{by-number}
 use Rattle.two_laws.proofs.Arrange.{left-all, settled-tree}
 use Rattle.two_laws.proofs.CallsTwo.{OwnSteps, arranged, insert-two}
 use Rattle.two_laws.proofs.AcceptedTwo.{there, Accepted, accepted-iff}
-use Rattle.two_laws.proofs.SearchTwo.{sound-head}
 use Rattle.two_laws.proofs.SameTwo.{first-there, second-there, settled-sound}
 use Rattle.two_laws.proofs.JudgedTwo.{number-on-sound}
 

@@ -3,13 +3,11 @@ use mathlib.Core.Path.{_≡_, refl, ap, sym, _∙_}
 use mathlib.Core.List.{List, [], _∷_, _++_, append-assoc}
 use Prim.Native.Nat.{ℕ, zero, suc, _+_, _*_, _/_, _≤_, _<_}
 use native.Mathlib.Omega.{arith}
-use lib.ListN.{length, take, drop, getD, length-append}
-use lib.Seq.{take-length}
+use lib.ListN.{length, take, drop, getD}
 use Rattle.model.specs.declared.Written.{Written}
 use Rattle.model.specs.declared.Written.the-variants.{Done, Refused}
 use Rattle.model.specs.Table.{Words}
-use Rattle.model.specs.Slots.{Slot, slot, slotsOf, recording, class}
-use Rattle.model.specs.Writes.{Call, insertion}
+use Rattle.model.specs.Slots.{Slot, slot, slotsOf}
 use Rattle.model.specs.Refusals.{written, tableAfter, listAfter}
 use Rattle.model.specs.declared.Batch.{Batch}
 use Rattle.model.specs.Batch.{insertionOf, Batched, stopped, behind, batch}

@@ -1,29 +1,24 @@
 -- An accepted insertion makes as many unreachable nodes reached as its run has, and one more for a new root.
-use mathlib.Core.Path.{_≡_, refl, ap, sym, _∙_}
-use mathlib.Core.Bool.{Bool, true, false, cond, _&&_}
+use mathlib.Core.Path.{_≡_}
+use mathlib.Core.Bool.{true, cond}
 use mathlib.Core.List.{List, _++_}
-use Prim.Native.Nat.{ℕ, zero, suc, _+_, _≤_, _<_}
+use Prim.Native.Nat.{ℕ, zero, suc, _+_}
 use native.Mathlib.Omega.{arith}
-use lib.Dec.{eqb}
 use lib.ListN.{length}
-use borrow.Author.Tests.{eqb-false, ltb-false}
-use Rattle.model.specs.Table.{Words, at, rootWord}
-use Rattle.model.specs.Slots.{pointerOf, height, viewOf}
+use Rattle.model.specs.Table.{Words, rootWord}
+use Rattle.model.specs.Slots.{pointerOf}
 use Rattle.model.specs.Reached.{reachedAll}
 use Rattle.model.specs.SoundTest.{nothing, sound}
 use Rattle.model.specs.Orders.{apply}
-use Rattle.model.specs.Writes.{shiftInAt, unreachable, fresh, standing, run, rootInRun, newRootAt, newRoot, splits, rootStores, insertSettled, repairStores, repaired, insertStores, insertion, storesOf}
-use Rattle.model.specs.Refusals.{tooHigh, tooFew, refusal}
+use Rattle.model.specs.Writes.{shiftInAt, unreachable, standing, run, rootInRun, splits, rootStores, insertSettled, repairStores, repaired, insertStores, insertion, storesOf}
+use Rattle.model.specs.Refusals.{refusal}
 use Rattle.table_laws.proofs.Header.{header-iff}
 use Rattle.cut_laws.proofs.Applying.{apply-append, length-apply}
 use Rattle.two_laws.specs.Parts.{Enters, splitFor, Ready}
-use Rattle.step_laws.proofs.Fresh.{Free}
-use Rattle.step_laws.proofs.NewRoot.{root-takes}
-use Rattle.two_laws.proofs.TwoLaw.{taken, Tree, tree-fine}
-use Rattle.two_laws.proofs.RootTwo.{root-two-taken, root-two-nodes}
-use Rattle.two_laws.proofs.Arrange.{Arr, root-in, arr-low, arr-word, arr-others, free-fresh, settled-tree, unreachable-count}
+use Rattle.two_laws.proofs.TwoLaw.{Tree}
+use Rattle.two_laws.proofs.Arrange.{Arr, settled-tree}
 use Rattle.two_laws.proofs.LeafStores.{in-unreachable, leaf-for}
-use Rattle.two_laws.proofs.InsertTwo.{first-takes, first-arr, ready-next, splits-course, splits-room, root-first, root-arr}
+use Rattle.two_laws.proofs.InsertTwo.{first-takes, first-arr, ready-next, splits-course, splits-room, root-first, root-arr, root-take}
 use Rattle.two_laws.proofs.CallsTwo.{repairs, arranged, is-repaired}
 use Rattle.two_laws.proofs.AcceptedTwo.{there, Accepted, accepted-iff}
 use Rattle.two_laws.proofs.MapsTwo.{accepted-steps}
@@ -40,37 +35,6 @@ splits-take zero n ws t k a r = omega arith
 splits-take (suc l) n ws t k a r =
     let ss = splitFor n t l k in
     rw (apply-append ss (splits n l (apply ss t) k) t) (omega (arith, first-takes l n ws t k a r, splits-take l n ws (apply ss t) k (first-arr l n ws t k a r) (ready-next l n ws t k a r)))
-
--- ---- the new root
-
-module _ (n : ℕ) (ws : List ℕ) (t : Words) (k : ℕ) (a : Arr (rootWord n) ws t) (f : Tree (rootWord n) ws t nothing) (not-high : tooHigh n t k ≡ false) (enough : tooFew n t k ≡ false) where
-  root-take : length (unreachable t) ≡ length (unreachable (apply (rootStores n t k) t)) + cond (rootInRun n t k) 1 0
-  unfolding rootStores apply newRoot tooFew tooHigh
-  root-take = go (rootInRun n t k) refl
-    where
-      go : (b : Bool) → rootInRun n t k ≡ b → length (unreachable t) ≡ length (unreachable (apply (rootStores n t k) t)) + cond (rootInRun n t k) 1 0
-      go true e =
-          let w = rootWord n in
-          let g : run n t k + 1 ≤ length (unreachable t) = rw e at (ltb-false (length (unreachable t)) (run n t k + cond (rootInRun n t k) 1 0) enough) in
-          let z = eqb-false (height (viewOf n t)) 15 (sym (ap (λ (b : Bool). b && eqb (height (viewOf n t)) 15) e) ∙ not-high) in
-          let top : height (viewOf n t) < 15 = omega (arith, f .left .orderly .top .level, z) in
-          let q = fresh t (at t w) in
-          let free : Free w (taken ws t) t q = free-fresh w ws t (at t w) a f (root-in (viewOf n t) (f .left .orderly)) (omega arith) in
-          let low = arr-low w ws t a in
-          let word = arr-word w ws t a in
-          let beside = arr-others w ws t a in
-          let c = root-first n ws t k a f not-high enough in
-          let after : Arr w ws (apply (newRootAt w t q) t) = rw (e, rootStores) at (root-arr n ws t k a f not-high enough) in
-          let whole : Tree w ws (apply (newRootAt w t q) t) nothing = rw (e, rootStores) at (c .0 .whole) in
-          rw (e, rootStores) (omega (
-            arith,
-            unreachable-count w ws t a f,
-            unreachable-count w ws _ after whole,
-            root-two-nodes w ws t low word beside f top q free,
-            root-takes w (taken ws t) t (tree-fine w ws t low nothing f) top word q free,
-            ap length (root-two-taken w ws t low word beside f top q free),
-          ))
-      go false e = rw (e, rootStores) (omega arith)
 
 -- ---- all of it
 

@@ -1,12 +1,11 @@
 -- The pairs' recordings entered, from the last to the first.
 use mathlib.Core.Path.{_≡_, refl, ap, sym, _∙_, subst}
-use mathlib.Core.Bool.{true}
 use mathlib.Core.List.{List, [], _∷_, map}
-use Prim.Native.Nat.{ℕ, zero, suc, _+_, _*_, _-_, _%_, _≤_, _<_}
+use Prim.Native.Nat.{ℕ, suc, _+_, _*_, _-_, _%_, _≤_, _<_}
 use native.Mathlib.Omega.{arith}
 use lib.ListN.{length, take, drop, getD, replicate}
 use Rattle.model.specs.Table.{Words}
-use Rattle.model.specs.Slots.{Slot, slot, slotsOf, recording, recordingOf}
+use Rattle.model.specs.Slots.{Slot, slotsOf, recording, recordingOf}
 use Rattle.model.specs.SoundTest.{elem, distinct}
 use Rattle.list_laws.proofs.Distinct.{distinct-cons}
 use Rattle.batch_laws.proofs.Folds.{pair-at}

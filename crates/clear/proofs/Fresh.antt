@@ -1,7 +1,7 @@
 -- What a caller may know of new recordings: how they are told, and what is left of them when the first has entered the map.
 use mathlib.Core.Path.{_≡_, refl, ap, sym, _∙_}
 use mathlib.Core.Bool.{Bool, true, false, _||_, false≢true}
-use mathlib.Core.List.{List, [], _∷_, map, List·Memᴰ}
+use mathlib.Core.List.{List, [], _∷_, List·Memᴰ}
 use Prim.Native.Nat.{ℕ, suc, _+_, _*_, _≤_, _<_}
 use native.Mathlib.Omega.{arith}
 use lib.Dec.{eqb, ltb}
@@ -10,13 +10,13 @@ use borrow.Author.Tests.{ne-eqb, eqb-true, ltb-true, ltb-false}
 use Rattle.model.specs.Table.{Words}
 use Rattle.model.specs.Slots.{Slot, recording, recordingOf, View}
 use Rattle.model.specs.Reached.{mapping}
-use Rattle.model.specs.SoundTest.{all, elem, distinct, soundView}
+use Rattle.model.specs.SoundTest.{all, distinct, soundView}
 use Rattle.model.specs.Refusals.{hasRecording}
-use Rattle.list_laws.proofs.Tools.{Each, Each-map, and-iff, refuted}
+use Rattle.list_laws.proofs.Tools.{and-iff}
 use Rattle.list_laws.proofs.Members.{mem-each, each-mem, elem-iff, elem-none}
 use Rattle.list_laws.proofs.Distinct.{distinct-cons}
 use Rattle.walk_laws.proofs.WalkLaw.{sound-in-order}
-use Rattle.numbers.specs.Cells.{CELLS, TRIES, mixed}
+use Rattle.numbers.specs.Cells.{CELLS, TRIES}
 use Rattle.leaves.proofs.FoundLaws.{chain-mapping}
 use Rattle.clear.specs.New.{off, offPair, treePairs, recordingsOf, Holds, New}
 use Rattle.clear.proofs.Looking.{held-met}

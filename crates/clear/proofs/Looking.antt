@@ -9,7 +9,7 @@ use lib.Dec.{eqb}
 use lib.ListN.{getD}
 use borrow.Author.Tests.{eq-eqb, ne-eqb}
 use Rattle.model.specs.Table.{Words, nodes}
-use Rattle.model.specs.Slots.{Slot, recordingOf, View, nodeView, viewFrom, view}
+use Rattle.model.specs.Slots.{Slot, recordingOf, nodeView, viewFrom, view}
 use Rattle.model.specs.Reached.{flat, kept}
 use Rattle.model.specs.SoundTest.{all}
 use Rattle.node.specs.Word.{wordOf}

@@ -1,6 +1,6 @@
 -- Many insertions in one call, whole or cut: a batch is a history of single calls, so demand 3 holds of histories with batches.
 use mathlib.Core.Path.{_≡_, refl, sym, ap, _∙_}
-use mathlib.Core.Logic.{_⊎_, inl, inr}
+use mathlib.Core.Logic.{_⊎_}
 use mathlib.Core.Bool.{Bool, true, false}
 use mathlib.Core.List.{List, [], _∷_, _++_, append-assoc}
 use mathlib.Core.Option.{none}
@@ -13,15 +13,15 @@ use borrow.Author.Tests.{leb-true, leb-false}
 use Rattle.model.specs.declared.Written.{Written}
 use Rattle.model.specs.declared.Written.the-variants.{Done, Refused}
 use Rattle.model.specs.Table.{Words, at, line}
-use Rattle.model.specs.Slots.{Slot, recording, class}
+use Rattle.model.specs.Slots.{Slot}
 use Rattle.model.specs.Reached.{flat}
 use Rattle.model.specs.SoundTest.{sound}
-use Rattle.model.specs.Orders.{Store, Order, apply, carry, orders, barred, encode, listWith, storeCount, flushCount, barrierCount, carriedOut}
+use Rattle.model.specs.Orders.{Store, Order, apply, carry, orders, barred, encode, listWith, storeCount, flushCount, barrierCount}
 use Rattle.model.specs.Cuts.{flushed, upToFlush, laterStores, FirstPart, Holds, Image, CutImage}
 use Rattle.model.specs.Judge.{AllFlushed}
 use Rattle.model.specs.Writes.{Call, storesOf}
-use Rattle.model.specs.Refusals.{refusal, unlessRefused, ordersOf, ordersAnswered, written, tableAfter, listAfter}
-use Rattle.model.specs.Demand3.{Fate, whole, cut, Event, History, State, numberOf, eventOrders, step, runAll, FateMay, May, Kept}
+use Rattle.model.specs.Refusals.{refusal, ordersOf, written, tableAfter, listAfter}
+use Rattle.model.specs.Demand3.{Fate, whole, cut, Event, History, State, numberOf, step, runAll, FateMay, May, Kept}
 use Rattle.model.specs.Batch.{insertionOf, Batched, batch}
 use Rattle.cut_laws.proofs.Applying.{apply-agree, length-carry, carry-append, counts-length}
 use Rattle.cut_laws.proofs.Barriers.{barred-append, barred-nil}

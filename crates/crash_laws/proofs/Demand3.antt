@@ -6,7 +6,7 @@ use mathlib.Core.Bool.{Bool, true, false, cond, false≢true}
 use mathlib.Core.List.{List, [], _∷_, List-discrete}
 use mathlib.Core.Option.{Option, none, some}
 use mathlib.Core.HLevel.{Discrete}
-use Prim.Native.Nat.{ℕ, zero, suc, _+_, _*_, _≤_}
+use Prim.Native.Nat.{ℕ, zero, suc, _*_, _≤_}
 use native.Mathlib.Decide.{ℕ-discrete}
 use native.Mathlib.Nat.{le-refl}
 use native.Mathlib.Omega.{arith}
@@ -22,7 +22,7 @@ use Rattle.model.specs.Orders.{Store, Order, apply, orders, barred, storeCount,
 use Rattle.model.specs.Cuts.{CutImage}
 use Rattle.model.specs.Refusals.{unlessRefused, writtenNumber, ordersAnswered, ordersOf, seventeenIn, refusal, written, tableAfter, listAfter}
 use Rattle.model.specs.Ledger.{fedOf, End, cutAfter, taken, change, Ledger, noPairs, listIn, answerFrom, lacking, pairsOf, otherSlice, ledgerRefusal, feed}
-use Rattle.model.specs.Sentinels.{sliceNumber, refusalWith, writtenWith, tableWith, searchWith, sentinels}
+use Rattle.model.specs.Sentinels.{sliceNumber, refusalWith, writtenWith, searchWith}
 use Rattle.model.specs.Demand3.{Fate, whole, cut, State, Event, History, refusalBy, writtenBy, tableBy, ordersBy, numberOf, answered, listOf, leftBy, afterFate, step, runAll}
 use Rattle.model.specs.Demand3.{FateMay, May, endOf, ledgerAfter, Agrees, Completed, Carried, Keeps, StayTrue, Right, Kept, Demand3}
 use Rattle.model.specs.SoundTest.{sound}

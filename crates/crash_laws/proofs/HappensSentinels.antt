@@ -17,7 +17,7 @@ use Rattle.model.specs.Orders.{Order}
 use Rattle.model.specs.Cuts.{CutImage}
 use Rattle.model.specs.Writes.{Call, insertion, deletion}
 use Rattle.model.specs.Sentinels.{sentinels, sentinelsWith}
-use Rattle.model.specs.Demand3.{Fate, whole, cut, State, Event, History, numberOf, eventOrders, runAll, May, Kept}
+use Rattle.model.specs.Demand3.{Fate, whole, cut, Event, History, numberOf, eventOrders, runAll, May, Kept}
 use Rattle.model.proofs.Everything.{everything}
 use Rattle.crash_laws.proofs.Images.{values, withLine, imageBy, imageOf, imageOf-image}
 use Rattle.crash_laws.proofs.Demand3.{demand3}

@@ -4,7 +4,6 @@ use mathlib.Core.List.{List, [], _∷_, _++_}
 use Prim.Native.Nat.{ℕ, zero, suc, _+_, _*_, _≤_}
 use native.Mathlib.Omega.{arith}
 use lib.ListN.{length, take}
-use lib.Seq.{take-nil}
 use Rattle.model.specs.Table.{Words}
 use Rattle.model.specs.Orders.{Order, store, flush, barrier, carry, withBarriers, barred, withoutBarriers, storeCount, flushCount, barrierCount, allInside}
 use Rattle.cut_laws.specs.Unflushed.{storesIn}

@@ -1,14 +1,14 @@
 -- The place of a key among pairs whose keys rise.
 use mathlib.Core.Path.{_≡_, refl, ap, sym, subst, _∙_}
 use mathlib.Core.Bool.{Bool, true, false}
-use mathlib.Core.Logic.{_≢_, _⊎_, ⊎-elim}
+use mathlib.Core.Logic.{_≢_, ⊎-elim}
 use mathlib.Core.List.{List, [], _∷_, _++_}
-use Prim.Native.Nat.{ℕ, zero, suc, _+_, _-_, _*_, _≤_, _<_}
+use Prim.Native.Nat.{ℕ, zero, suc, _-_, _*_, _≤_, _<_}
 use native.Mathlib.Omega.{arith}
 use lib.Dec.{eqb}
 use lib.ListN.{length, take, drop, take-append-drop, drop-of-length-le}
 use borrow.Author.Tests.{eqb-true, eqb-false, eq-eqb}
-use Rattle.model.specs.Table.{Words, at}
+use Rattle.model.specs.Table.{Words}
 use Rattle.model.specs.Slots.{Slot, slot}
 use Rattle.model.specs.SoundTest.{rising}
 use Rattle.model.specs.Refusals.{hasKey}

@@ -7,8 +7,8 @@ use Prim.Native.Nat.{ℕ, zero, suc, _+_, _-_, _*_, _≤_, _<_}
 use native.Mathlib.Omega.{arith}
 use native.Mathlib.Nat.{le-trans}
 use lib.Dec.{eqb}
-use lib.ListN.{length, getD, take, drop, replicate, drop-of-length-le, length-take, length-append, length-replicate}
-use lib.Seq.{drop-cons, getD-take, drop-drop, drop-length, drop-at, take-append-le, length-take-le}
+use lib.ListN.{length, getD, take, drop, replicate, drop-of-length-le, length-append, length-replicate}
+use lib.Seq.{drop-cons, drop-drop, drop-length, drop-at, take-append-le, length-take-le}
 use borrow.Author.Tests.{eq-eqb, ne-eqb, eqb-true, eqb-false}
 use Rattle.model.specs.declared.Node.{Node}
 use Rattle.model.specs.Table.{Words, node}

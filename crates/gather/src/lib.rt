@@ -1,7 +1,6 @@
 // What a salvage gathers along nodes entered: pairs kept, in the order of their keys, and slots dropped, in the order met, as node,
 // slot and reason in the report. The pairs stand around a gap in the first words of a slice of nodes, two words for each that there may be;
 // the words after these are the cells of a set of their recordings.
-use model::Node;
 use numbers::Entry;
 ghost use mathlib.Core.Path.{_≡_};
 ghost use mathlib.Core.Bool.{not};

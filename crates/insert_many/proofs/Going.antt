@@ -1,22 +1,20 @@
 -- A batch under way: one pair more, all pairs.
 use mathlib.Core.Path.{_≡_, refl, ap, sym, _∙_}
 use mathlib.Core.Logic.{_≢_}
-use mathlib.Core.Bool.{Bool, true, false, _||_}
+use mathlib.Core.Bool.{Bool, true, false}
 use mathlib.Core.List.{List, [], _∷_, _++_, append-nil}
-use mathlib.Core.Option.{some}
 use Prim.Native.Nat.{ℕ, zero, suc, _+_, _*_, _-_, _/_, _≤_, _<_}
 use native.Mathlib.Omega.{arith}
-use lib.Dec.{eqb}
 use lib.ListN.{length, take, drop, getD, length-append, length-drop}
-use lib.Seq.{take-all, take-append-add, drop-append-add, length-take-le, drop-drop, drop-length}
-use borrow.Rule.Slice.PartMut.{midOf, postOf, putMid, put-same}
+use lib.Seq.{take-all, take-append-add, drop-append-add, length-take-le, drop-length}
+use borrow.Rule.Slice.PartMut.{midOf, putMid, put-same}
 use Rattle.model.specs.declared.Written as answer
 use Rattle.model.specs.declared.Written.the-variants as answers
 use Rattle.model.specs.declared.Batch.{Batch}
 use Rattle.model.specs.Table.{Words, at, rootWord, noCollection}
 use Rattle.model.specs.Slots.{Slot, slot, slotsOf, recordingOf, classOf, viewFrom}
-use Rattle.model.specs.Reached.{mapping, mapOf, reachedAll}
-use Rattle.model.specs.SoundTest.{nothing, leftoverAll, sound}
+use Rattle.model.specs.Reached.{mapping, mapOf}
+use Rattle.model.specs.SoundTest.{sound}
 use Rattle.model.specs.Orders.{apply, encode, listWith, storeCount, flushCount, barrierCount}
 use Rattle.model.specs.Writes.{Call, insertion, storesOf}
 use Rattle.model.specs.Refusals.{hasRecording, wordsFor, unlessRefused, refusal, ordersOf, written, tableAfter, listAfter}
@@ -29,9 +27,7 @@ use Rattle.batch_laws.proofs.Folds.{pair-at, pairs-past, behind-behind, behind-
 use Rattle.write.specs.declared.Judged.the-variants as judgement
 use Rattle.write.specs.Judged.{judged}
 use Rattle.write.proofs.Ending.{refused-call, judge-refuses}
-use Rattle.sound.specs.declared.Leftover as said
 use Rattle.sound.specs.declared.Leftover.the-variants.{Nothing}
-use Rattle.sound.specs.Checked.{meant}
 use Rattle.clear.specs.New.{recordingsOf, New}
 use Rattle.insert.specs.declared.Entered.{Entered}
 use Rattle.insert.specs.declared.Entered.the-variants.{Done, Refused}

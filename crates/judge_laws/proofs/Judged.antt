@@ -2,7 +2,7 @@
 -- which was looked at.
 use mathlib.Core.Path.{_≡_, refl, sym, ap, _∙_}
 use mathlib.Core.Bool.{Bool, true, false, cond, not, _&&_, _||_, false≢true}
-use mathlib.Core.Logic.{_≢_, _↔_, _⊎_, inl, inr, ⊎-map}
+use mathlib.Core.Logic.{_↔_, _⊎_, inl, inr, ⊎-map}
 use mathlib.Core.List.{List, [], _∷_, _++_, append-nil, append-assoc}
 use mathlib.Core.Option.{Option, none, some}
 use Prim.Native.Nat.{ℕ, suc, _≤_}

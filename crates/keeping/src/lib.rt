@@ -1,6 +1,5 @@
 // How many pairs a salvage keeps, told without writing to a lent word: at most, in one pass; or exactly, by a bit for each slot of the nodes
 // entered, 12 to a node, each slot compared with those marked before it.
-use model::Node;
 ghost use mathlib.Core.Path.{_≡_};
 ghost use mathlib.Core.Bool.{_||_};
 ghost use Prim.Native.Nat.{_+_, _*_, _≤_, _<_};

@@ -109,6 +109,12 @@ pub struct Unfinished {
     pub missing: Missing,
 }
 
+// What the check of a tree answers, from the root down: unsound, or how many nodes were visited and what is unfinished in them.
+pub enum Tally {
+    Unsound,
+    Visited { count: u64, unfinished: Unfinished },
+}
+
 // What is answered where a script's number is asked for.
 pub enum Ranked {
     Number(u64),

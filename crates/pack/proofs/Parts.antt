@@ -1,6 +1,6 @@
 -- A slice lent from a place to its end, and put back.
 use mathlib.Core.Path.{_≡_, ap, _∙_}
-use mathlib.Core.List.{[], _++_, append-nil}
+use mathlib.Core.List.{_++_, append-nil}
 use Prim.Native.Nat.{ℕ, _-_, _≤_}
 use native.Mathlib.Omega.{arith}
 use lib.ListN.{length, take, drop, length-append, length-drop, drop-of-length-le}

@@ -8,7 +8,7 @@ use native.Mathlib.Omega.{arith}
 use borrow.Author.Tests.{eq-eqb, ne-eqb}
 use Rattle.model.specs.declared.Node.{Node}
 use Rattle.model.specs.Table.{Words, node, hasNode}
-use Rattle.model.specs.Slots.{Slot, slot, slotsOf, inUse, shown, used, recordingOf, recording, pointerOk, view, viewFrom}
+use Rattle.model.specs.Slots.{Slot, slot, slotsOf, inUse, shown, used, recordingOf, recording, pointerOk, view}
 use Rattle.model.specs.Search.{below}
 use Rattle.model.specs.Reached.{filter, kept}
 use Rattle.model.specs.SoundTest.{all, pairOk}

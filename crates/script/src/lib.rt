@@ -4,7 +4,6 @@ use model::Written;
 use script_bytes::LineState;
 use script_bytes::Request;
 ghost use mathlib.Core.Path.{_≡_};
-ghost use mathlib.Core.List.{[]};
 ghost use Prim.Native.Nat.{_+_, _*_, _≤_};
 ghost use lib.ListN.{length};
 ghost use Rattle.model.specs.Printer.{firstDesk};

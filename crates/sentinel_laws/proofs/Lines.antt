@@ -1,7 +1,6 @@
 -- What the words lead a search to: a shown slot of the leaf, with the key.
 use mathlib.Core.Path.{_≡_, sym, ap, _∙_}
 use mathlib.Core.List.{List, _++_, List·Memᴰ, Memᴰ·append-left, Memᴰ·append-right}
-use mathlib.Core.Option.{some}
 use Prim.Native.Nat.{ℕ, _*_}
 use lib.ListN.{take, drop, take-append-drop}
 use Rattle.model.specs.Table.{Words, node}

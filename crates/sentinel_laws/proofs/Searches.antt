@@ -3,7 +3,7 @@
 use mathlib.Core.Path.{_≡_, refl, sym, ap, _∙_}
 use mathlib.Core.Bool.{Bool, true, false}
 use mathlib.Core.Logic.{_≢_, _⊎_, inl, inr}
-use mathlib.Core.List.{List, List·Memᴰ}
+use mathlib.Core.List.{List·Memᴰ}
 use mathlib.Core.Option.{Option, none, some, Option·some-injective}
 use Prim.Native.Nat.{ℕ, _*_}
 use lib.Dec.{leb}
@@ -15,13 +15,13 @@ use Rattle.model.specs.declared.Answer.the-variants.{Found, Refused}
 use Rattle.model.specs.Table.{Words, nodes, headerOk, noCollection}
 use Rattle.model.specs.Slots.{Slot, recording, class, View, nodeView, viewOf, height}
 use Rattle.model.specs.Search.{within, kept, locate, firstWith, nextFrom, answerOf, answerIn, searchView, search}
-use Rattle.model.specs.SoundTest.{soundView, sound}
+use Rattle.model.specs.SoundTest.{sound}
 use Rattle.model.specs.Sentinels.{shownOn, onLine, lineFor, wordsOf, ledTo, leafFrom, searchWith}
 use Rattle.list_laws.proofs.Members.{each-mem}
 use Rattle.list_laws.proofs.Filters.{mem-filter}
-use Rattle.list_laws.proofs.Tools.{Misses, first-filter}
+use Rattle.list_laws.proofs.Tools.{first-filter}
 use Rattle.tree_laws.proofs.Rising.{first-mem, mem-first, first-misses}
-use Rattle.tree_laws.proofs.Levels.{Orderly, sound-orderly}
+use Rattle.tree_laws.proofs.Levels.{Orderly}
 use Rattle.tree_laws.proofs.Kept.{kept-rises}
 use Rattle.tree_laws.proofs.SearchLaw.{leafFor, locate-leaf, leaf-covers}
 use Rattle.two_laws.proofs.SearchTwo.{sound-head}

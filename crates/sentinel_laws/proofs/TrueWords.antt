@@ -8,12 +8,11 @@ use native.Mathlib.Omega.{arith}
 use lib.Dec.{eqb}
 use lib.ListN.{length, replicate}
 use Rattle.model.specs.declared.Node.{Node}
-use Rattle.model.specs.Table.{Words, nodes, node, headerOk}
-use Rattle.model.specs.Slots.{Slot}
-use Rattle.model.specs.Reached.{flat, reachedAll}
-use Rattle.model.specs.SoundTest.{elem, sound, settled}
+use Rattle.model.specs.Table.{Words, nodes, node}
+use Rattle.model.specs.Reached.{reachedAll}
+use Rattle.model.specs.SoundTest.{elem, sound}
 use Rattle.model.specs.Orders.{Store, apply}
-use Rattle.model.specs.Writes.{numbers, Call, storesOf}
+use Rattle.model.specs.Writes.{Call, storesOf}
 use Rattle.model.specs.Refusals.{refusal, unlessRefused, tableAfter}
 use Rattle.model.specs.Sentinels.{shownOn, firstKey, leavesAll, sentinelsOf, sentinels, wordsOf, storedTo, setAnew, refusalWith, tableWith, sentinelsWith}
 use Rattle.table_laws.proofs.Header.{header-iff}

@@ -1,15 +1,15 @@
 -- A node that no store goes to has the words that it had.
 use mathlib.Core.Path.{_≡_, refl, sym, ap, _∙_}
-use mathlib.Core.Bool.{Bool, true, false, cond}
+use mathlib.Core.Bool.{false, cond}
 use mathlib.Core.Logic.{_≢_, _↔_}
 use mathlib.Core.List.{List, [], _∷_, _++_, map, map-append}
-use Prim.Native.Nat.{ℕ, suc, _+_, _≤_, _<_}
+use Prim.Native.Nat.{ℕ, _+_, _≤_, _<_}
 use native.Mathlib.Omega.{arith}
-use lib.ListN.{length, set}
+use lib.ListN.{set}
 use lib.Seq.{getD-set-other}
 use Rattle.model.specs.declared.Node.{Node}
 use Rattle.model.specs.Table.{Words, at, nodeStart, hasNode, node, nodeFrom, blank}
-use Rattle.model.specs.Slots.{Slot, used}
+use Rattle.model.specs.Slots.{used}
 use Rattle.model.specs.Orders.{Store, apply}
 use Rattle.model.specs.Sentinels.{nodeOf, storedTo, shownOn}
 use Rattle.list_laws.proofs.Members.{elem-cons, elem-append}

@@ -1,6 +1,5 @@
 // The writing calls that take the sentinels: each is the plain call, and then the words of the nodes that it stored to are set.
 use model::Written;
-ghost use mathlib.Core.Path.{_≡_};
 ghost use Rattle.model.specs.Writes.{insertion, deletion, classChange, repair};
 ghost use Rattle.sentinels.specs.Anew.{Leaves};
 

@@ -1,20 +1,20 @@
 -- The words after a writing call: those of the nodes that its list stores to are those of the nodes that its stores go to.
 use mathlib.Core.Path.{_≡_, refl, sym, ap, _∙_}
-use mathlib.Core.Bool.{Bool, true, false, cond, _&&_, _||_}
+use mathlib.Core.Bool.{Bool, true, false, _&&_, _||_}
 use mathlib.Core.Logic.{_≢_}
 use mathlib.Core.List.{List, [], _∷_, _++_}
-use Prim.Native.Nat.{ℕ, zero, suc, _+_, _*_, _≤_, _<_}
+use Prim.Native.Nat.{ℕ, zero, suc, _+_, _*_, _≤_}
 use native.Mathlib.Omega.{arith}
 use lib.Dec.{eqb, ltb}
 use lib.ListN.{length, drop, length-append, length-drop}
 use borrow.Author.Tests.{lt-ltb, le-ltb}
 use Rattle.model.specs.declared.Written.{Written}
 use Rattle.model.specs.declared.Written.the-variants.{Done, Refused}
-use Rattle.model.specs.Table.{MARK, Words, at, nodes, headerOk}
+use Rattle.model.specs.Table.{MARK, Words, at, nodes}
 use Rattle.model.specs.SoundTest.{elem, sound}
-use Rattle.model.specs.Orders.{Store, Order, store, flush, barrier, BAR, encode, apply, orders, barred, listWith, storeCount, flushCount, barrierCount}
+use Rattle.model.specs.Orders.{Store, Order, store, flush, barrier, BAR, encode, apply, orders, listWith}
 use Rattle.model.specs.Writes.{Call, storesOf}
-use Rattle.model.specs.Refusals.{seventeenIn, ordersOf, refusal, unlessRefused, written, ordersAnswered, tableAfter, listAfter}
+use Rattle.model.specs.Refusals.{seventeenIn, ordersOf, refusal, written, ordersAnswered, tableAfter, listAfter}
 use Rattle.model.specs.Sentinels.{nodeOf, storedTo, setAnew, sliceNumber, refusalWith, writtenWith, tableWith, ordersWith, sentinelsWith}
 use Rattle.cut_laws.specs.Inside.{StoresInside}
 use Rattle.cut_laws.specs.Unflushed.{storesIn}
@@ -22,7 +22,7 @@ use Rattle.cut_laws.proofs.Applying.{counts-length, length-apply}
 use Rattle.cut_laws.proofs.FlushRule.{orders-stores}
 use Rattle.cut_laws.proofs.Barriers.{barred-stores}
 use Rattle.list_laws.proofs.Tools.{double-suc}
-use Rattle.sentinel_laws.proofs.Slices.{Fits, fits, with-accepted, plain-call}
+use Rattle.sentinel_laws.proofs.Slices.{Fits, fits, plain-call}
 use Rattle.sentinel_laws.proofs.TrueWords.{sound-after, nodes-after}
 use Rattle.two_laws.proofs.AcceptedTwo.{accepted-iff}
 use Rattle.two_laws.proofs.MapsTwo.{accepted-steps}

@@ -8,12 +8,10 @@ use native.Mathlib.Omega.{arith}
 use lib.Dec.{eqb}
 use lib.ListN.{length, take, drop, length-take, length-drop}
 use lib.Seq.{take-nil}
-use borrow.Author.Tests.{eqb-true, eqb-false}
-use Rattle.model.specs.Table.{MARK, Words, at}
+use Rattle.model.specs.Table.{Words, at}
 use Rattle.model.specs.Slots.{Slot, slot, slotsOf, inUse, shown}
 use Rattle.model.specs.Search.{firstWith}
 use Rattle.model.specs.Shifts.{lastPointer}
-use Rattle.model.specs.Sentinels.{firstKey}
 use Rattle.list_laws.proofs.Tools.{first-here, first-past}
 use Rattle.table_laws.proofs.Words.{at-part}
 use Rattle.slots.specs.Scan.{usedFrom}

@@ -1,14 +1,14 @@
 -- The words of one node, by the reads of the code.
-use mathlib.Core.Path.{_≡_, refl, sym, ap, _∙_}
+use mathlib.Core.Path.{_≡_, sym, ap, _∙_}
 use mathlib.Core.Bool.{Bool, true, false, _&&_, and-false, and-true}
 use mathlib.Core.Logic.{_≢_}
-use mathlib.Core.List.{List, [], _∷_}
+use mathlib.Core.List.{[], _∷_}
 use Prim.Native.Nat.{ℕ, _+_, _*_, _≤_}
 use native.Mathlib.Omega.{arith}
 use lib.Dec.{eqb}
-use lib.ListN.{length, replicate}
+use lib.ListN.{length}
 use borrow.Author.Tests.{eq-eqb, ne-eqb}
-use Rattle.model.specs.Table.{Words, at, nodes, node, nodeFrom, nodeStart, hasNode, headerOk}
+use Rattle.model.specs.Table.{Words, nodes, node, nodeFrom, nodeStart, hasNode}
 use Rattle.model.specs.Slots.{used}
 use Rattle.model.specs.Reached.{reachedAll}
 use Rattle.model.specs.SoundTest.{elem, sound}

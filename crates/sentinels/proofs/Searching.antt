@@ -12,9 +12,9 @@ use borrow.Author.Tests.{le-leb, lt-leb, leb-true, leb-false, eqb-true}
 use Rattle.model.specs.declared.Answer.{Answer}
 use Rattle.model.specs.declared.Answer.the-variants.{Found, Refused}
 use Rattle.model.specs.declared.Node.{Node}
-use Rattle.model.specs.Table.{Words, at, nodes, root, rootWord, noCollection, node, nodeFrom, inRange, hasNode, nodeStart, headerOk}
+use Rattle.model.specs.Table.{Words, at, nodes, root, rootWord, noCollection, node, nodeFrom, hasNode, nodeStart, headerOk}
 use Rattle.model.specs.Slots.{Slot, recordingOf, classOf, View, view, viewOf, height, nodeView, used}
-use Rattle.model.specs.Search.{onLevel, passes, moved, firstWith, nextFrom, answerOf, answerIn, locate, searchView, search}
+use Rattle.model.specs.Search.{onLevel, passes, firstWith, nextFrom, answerOf, answerIn, searchView, search}
 use Rattle.model.specs.Sentinels.{sliceNumber, lineFor, onLine, ledTo, leafFrom, searchWith, wordsOf, shownOn}
 use Rattle.list_laws.proofs.Tools.{and-iff}
 use Rattle.list_laws.proofs.Members.{each-mem}

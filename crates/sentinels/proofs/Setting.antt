@@ -2,14 +2,14 @@
 use mathlib.Core.Path.{_≡_, refl, sym, ap, _∙_}
 use mathlib.Core.Bool.{Bool, true, false, cond, _&&_, _||_}
 use mathlib.Core.Logic.{_≢_, _⊎_, inl, inr}
-use mathlib.Core.List.{List, [], _∷_, _++_}
+use mathlib.Core.List.{[], _∷_, _++_}
 use Prim.Native.Nat.{ℕ, zero, suc, _+_, _-_, _*_, _≤_, _<_}
 use native.Mathlib.Numerals.{add-one}
 use native.Mathlib.Omega.{arith}
 use lib.Dec.{eqb, ltb}
-use lib.ListN.{length, take, drop, set, getD, length-append, length-take, length-drop, List·getD-append}
+use lib.ListN.{length, take, drop, set, length-append, length-drop, List·getD-append}
 use lib.Seq.{length-take-le, ext-getD, getD-take, getD-drop, getD-append-add}
-use borrow.Author.Tests.{eqb-true, eqb-false, eq-eqb, ne-eqb, lt-ltb, le-ltb, ltb-true}
+use borrow.Author.Tests.{eq-eqb, ne-eqb, lt-ltb, le-ltb, ltb-true}
 use Rattle.model.specs.Table.{Words, at, nodes}
 use Rattle.model.specs.Sentinels.{sentinelsOf, sentinels, wordsOf, setAnew, nodeOf}
 use Rattle.list_laws.proofs.Tools.{same-or-not, compared, or-right}

@@ -11,7 +11,7 @@ ghost use mathlib.Core.List.{[], _∷_};
 ghost use Prim.Native.Nat.{_+_, _*_, _≤_, _<_};
 ghost use lib.Dec.{eqb, ltb};
 ghost use lib.ListN.{length};
-ghost use Rattle.model.specs.Table.{headerOk, noCollection, node, nodes, hasNode};
+ghost use Rattle.model.specs.Table.{headerOk, noCollection, node, nodes};
 ghost use Rattle.model.specs.Slots.{view};
 ghost use Rattle.model.specs.Search.{firstWith, onLevel, answerIn};
 ghost use Rattle.model.specs.SoundTest.{elem, sound};

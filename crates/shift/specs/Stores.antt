@@ -1,6 +1,6 @@
 -- Stores to the node that begins at a word and was read as a record.
 use mathlib.Core.Bool.{cond}
-use mathlib.Core.List.{List, [], map}
+use mathlib.Core.List.{List, map}
 use Prim.Native.Nat.{ℕ, suc, _+_, _*_}
 use lib.Dec.{eqb}
 use lib.ListN.{getD, drop}

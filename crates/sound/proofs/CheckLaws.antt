@@ -17,8 +17,8 @@ use Rattle.list_laws.proofs.Tools.{and-iff}
 use Rattle.table_laws.proofs.Nodes.{has-node-range}
 use Rattle.node.specs.Word.{wordOf}
 use Rattle.node.proofs.WordLaws.{word-sibling, word-level, word-fence}
-use Rattle.walk_laws.specs.declared.Tally.{Tally}
-use Rattle.walk_laws.specs.declared.Tally.the-variants.{Unsound, Visited}
+use Rattle.model.specs.declared.Tally.{Tally}
+use Rattle.model.specs.declared.Tally.the-variants.{Unsound, Visited}
 use Rattle.walk_laws.specs.Walk.{Visit, stands, aloneOk, fits, visitsOf, ways, visitsBelow, visit, fold, check, walk}
 use Rattle.walk_laws.proofs.Sums.{joint}
 use Rattle.walk_laws.proofs.Run.{visits, check-fold, fold-unsound, visit-yes, visit-unfit, visit-over, met}

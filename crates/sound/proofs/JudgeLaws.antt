@@ -22,8 +22,8 @@ use Rattle.model.specs.SoundTest as model
 use Rattle.model.specs.SoundTest.{all, orderly, recordingsOk, leftoverFrom, leftoverOf, leftover, isNothing, isAllowed, hasRoom, room, soundView, leftoverIn, leftoverAll, sound}
 use Rattle.list_laws.proofs.Tools.{and-iff}
 use Rattle.view_laws.proofs.AnyRoot.{any-room}
-use Rattle.walk_laws.specs.declared.Tally as tally
-use Rattle.walk_laws.specs.declared.Tally.{Tally}
+use Rattle.model.specs.declared.Tally as tally
+use Rattle.model.specs.declared.Tally.{Tally}
 use Rattle.walk_laws.specs.Walk.{walk}
 use Rattle.walk_laws.proofs.WalkLaw.{Passed, walk-iff, judged, sound-walk}
 use Rattle.sound.specs.declared.Leftover.{Leftover}

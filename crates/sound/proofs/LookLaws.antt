@@ -21,8 +21,8 @@ use Rattle.model.specs.SoundTest.{all, siblingOk, keysOk, leafOk, addFew, addMi
 use Rattle.list_laws.proofs.Tools.{same-test, all-each}
 use Rattle.tree_laws.proofs.Members.{filter-all, filter-whole}
 use Rattle.node.specs.Word.{wordOf}
-use Rattle.walk_laws.specs.declared.Tally.{Tally}
-use Rattle.walk_laws.specs.declared.Tally.the-variants.{Visited}
+use Rattle.model.specs.declared.Tally.{Tally}
+use Rattle.model.specs.declared.Tally.the-variants.{Visited}
 use Rattle.walk_laws.specs.Walk.{aloneOk}
 use Rattle.slots.specs.declared.Survey.{Survey}
 use Rattle.slots.specs.Scan.{usedFrom, keeps, isKept}

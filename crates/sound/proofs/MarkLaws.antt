@@ -8,11 +8,10 @@ use native.Mathlib.Omega.{arith}
 use lib.Dec.{eqb}
 use lib.ListN.{length, getD}
 use borrow.Author.Tests.{eq-eqb, ne-eqb}
-use Rattle.model.specs.declared.Unfinished.{Unfinished}
 use Rattle.model.specs.Table.{Words, root, nodes, inRange, headerOk}
 use Rattle.model.specs.Slots.{Slot, slot, View, nodeView, viewFrom, view, height}
 use Rattle.model.specs.Search.{below}
-use Rattle.model.specs.Reached.{flat, headOr, pointers, kept, named, firstChild, nextChild, fillRow, children, reachedFrom, reached}
+use Rattle.model.specs.Reached.{flat, headOr, pointers, kept, named, firstChild, nextChild, fillRow, children, reached}
 use Rattle.model.specs.SoundTest.{elem}
 use Rattle.list_laws.proofs.Tools.{and-iff, same-or-not, Each, Each-flat, flat-append}
 use Rattle.list_laws.proofs.Members.{elem-join, flat-each}
@@ -21,8 +20,8 @@ use Rattle.tree_laws.proofs.Rows.{At, range-iff, children-inner, link-yes, link
 use Rattle.tree_laws.proofs.Levels.{Level, level-lower}
 use Rattle.node.specs.Word.{wordOf}
 use Rattle.node.proofs.WordLaws.{word-sibling, word-level}
-use Rattle.walk_laws.specs.declared.Tally.{Tally}
-use Rattle.walk_laws.specs.declared.Tally.the-variants.{Unsound, Visited}
+use Rattle.model.specs.declared.Tally.{Tally}
+use Rattle.model.specs.declared.Tally.the-variants.{Unsound, Visited}
 use Rattle.walk_laws.specs.Walk.{Visit, stands, visitsOf, ways, fold, check, walk}
 use Rattle.walk_laws.proofs.Sums.{Monoid, sum, depthFirst, sum-depth-first}
 use Rattle.walk_laws.proofs.WalkLaw.{InOrder, in-order-iff, top-level, walk-iff}

@@ -2,8 +2,8 @@
 -- sum over them is the map's, and so are both tests of the recordings.
 use mathlib.Core.Path.{_≡_, refl, ap, sym, subst, _∙_}
 use mathlib.Core.Bool.{Bool, true, false, cond, _&&_, _||_, false≢true}
-use mathlib.Core.Logic.{_↔_, _≢_, ⊎-elim}
-use mathlib.Core.List.{List, [], _∷_, _++_, map}
+use mathlib.Core.Logic.{_↔_, _≢_}
+use mathlib.Core.List.{List, [], _∷_, map}
 use Prim.Native.Nat.{ℕ, zero, suc, _+_, _/_, _%_, _^_, _≤_, _<_}
 use native.Mathlib.Omega.{arith}
 use lib.Dec.{eqb}
@@ -18,7 +18,7 @@ use Rattle.model.specs.Search.{below}
 use Rattle.model.specs.Reached.{flat, kept, children, reachedFrom, leavesFrom, reached, mapping}
 use Rattle.model.specs.SoundTest.{all, elem, distinct, pairOk, recordingsOk, Leftover, nothing, hiddenIn, missingIn, bothIn, unfinished, leftoverOf, leftover}
 use Rattle.model.specs.Writes.{numbers}
-use Rattle.list_laws.proofs.Tools.{and-iff, refuted, same-test, Each, Each-append, Each-map}
+use Rattle.list_laws.proofs.Tools.{same-test, Each, Each-append, Each-map}
 use Rattle.list_laws.proofs.Members.{mem-each, each-elem}
 use Rattle.list_laws.proofs.Counts.{numbers-each}
 use Rattle.table_laws.proofs.Header.{header-iff}
@@ -26,8 +26,8 @@ use Rattle.tree_laws.proofs.Leftovers.{Left, leftover-iff}
 use Rattle.list_laws.proofs.Distinct.{distinct-cons, UpTo}
 use Rattle.tree_laws.proofs.Rows.{At, range-iff}
 use Rattle.tree_laws.proofs.Levels.{Level, level-lower}
-use Rattle.walk_laws.specs.declared.Tally.{Tally}
-use Rattle.walk_laws.specs.declared.Tally.the-variants.{Visited}
+use Rattle.model.specs.declared.Tally.{Tally}
+use Rattle.model.specs.declared.Tally.the-variants.{Visited}
 use Rattle.walk_laws.specs.Walk.{walk}
 use Rattle.walk_laws.proofs.Sums as sums
 use Rattle.walk_laws.proofs.Sums.{Monoid, sum, tests, unit-right, sum-append, sum-flat, sum-both}

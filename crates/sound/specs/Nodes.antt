@@ -6,8 +6,8 @@ use lib.Dec.{eqb}
 use Rattle.model.specs.Table.{MARK}
 use Rattle.model.specs.Slots.{slot, View}
 use Rattle.model.specs.SoundTest.{finished, together, missingAt, own}
-use Rattle.walk_laws.specs.declared.Tally.{Tally}
-use Rattle.walk_laws.specs.declared.Tally.the-variants.{Unsound, Visited}
+use Rattle.model.specs.declared.Tally.{Tally}
+use Rattle.model.specs.declared.Tally.the-variants.{Unsound, Visited}
 use Rattle.walk_laws.specs.Walk.{Visit, aloneOk, visitsOf, fold, check}
 use Rattle.sound.specs.declared.Look.{Look}
 

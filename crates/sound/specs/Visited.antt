@@ -7,8 +7,8 @@ use Rattle.model.specs.Table.{Words}
 use Rattle.model.specs.Slots.{View}
 use Rattle.model.specs.Reached.{flat, named, nextChild, fillRow}
 use Rattle.model.specs.SoundTest.{elem}
-use Rattle.walk_laws.specs.declared.Tally.{Tally}
-use Rattle.walk_laws.specs.declared.Tally.the-variants.{Unsound, Visited}
+use Rattle.model.specs.declared.Tally.{Tally}
+use Rattle.model.specs.declared.Tally.the-variants.{Unsound, Visited}
 use Rattle.bits.specs.Bits.{has}
 
 module _ (v : View) where

@@ -2,9 +2,9 @@
 use model::Few;
 use model::MARK;
 use model::Missing;
+use model::Tally;
 use model::Unfinished;
 use slots::Ways;
-use walk_laws::Tally;
 ghost use mathlib.Core.Path.{_≡_};
 ghost use mathlib.Core.Bool.{true, cond, _&&_};
 ghost use mathlib.Core.Option.{some};

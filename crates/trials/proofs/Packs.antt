@@ -1,6 +1,6 @@
 -- Sentences of scale 2, packing as a call, each computed where it decides.
 use mathlib.Core.Path.{_≡_, refl}
-use mathlib.Core.Bool.{true, false}
+use mathlib.Core.Bool.{true}
 use mathlib.Core.List.{[], _∷_, _++_}
 use mathlib.Core.Option.{none, some}
 use lib.ListN.{replicate}

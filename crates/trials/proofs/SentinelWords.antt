@@ -1,8 +1,7 @@
 -- Sentences of request 8, sentinels for the leaves, each computed where it decides.
 use mathlib.Core.Path.{_≡_, refl}
 use mathlib.Core.Bool.{true, false}
-use mathlib.Core.List.{List, [], _∷_, _++_}
-use Prim.Native.Nat.{ℕ}
+use mathlib.Core.List.{[], _∷_, _++_}
 use lib.ListN.{length, replicate, set}
 use Rattle.model.specs.declared.Answer.the-variants.{Found, Absent, Refused}
 use Rattle.model.specs.declared.Next.the-variants.{Key, Nothing}

@@ -1,14 +1,13 @@
 -- Calls for either dock: without its barriers the list of every call is dock 0's; what the counts come to, and that the list fits; the
 -- refusals that the docks share.
 use mathlib.Core.Path.{_≡_, refl, sym, ap, _∙_}
-use mathlib.Core.List.{List}
 use Prim.Native.Nat.{ℕ, zero, suc, _+_, _*_, _≤_}
 use native.Mathlib.Omega.{arith}
 use borrow.Author.Tests.{le-ltb}
 use lib.ListN.{length, take}
 use Rattle.model.specs.Table.{Words}
 use Rattle.model.specs.SoundTest.{sound}
-use Rattle.model.specs.Orders.{orders, withoutBarriers, storeCount, flushCount, barrierCount, decode, listWith}
+use Rattle.model.specs.Orders.{orders, withoutBarriers, storeCount, flushCount, barrierCount, decode}
 use Rattle.model.specs.Writes.{Call, storesOf}
 use Rattle.model.specs.Refusals.{wordsFor, refusal, ordersOf, written, ordersAnswered, listAfter}
 use Rattle.cut_laws.proofs.Applying.{counts-length}
@@ -18,7 +17,6 @@ use Rattle.cut_laws.proofs.Docks.{list-without}
 use Rattle.cut_laws.proofs.Lent.{list-read-back}
 use Rattle.two_laws.proofs.AcceptedTwo.{accepted-iff}
 use Rattle.two_laws.proofs.MapsTwo.{accepted-steps}
-use Rattle.two_laws.proofs.SearchTwo.{sound-head}
 
 -- Without its barriers the list of every call is dock 0's.
 pub call-without : (x : Call) (dock : ℕ) (t : Words) → withoutBarriers (ordersOf x dock t) ≡ ordersOf x 0 t

@@ -224,6 +224,17 @@ module _ (n : ℕ) (ws : List ℕ) (t : Words) (k : ℕ) (a : Arr (rootWord n) w
     arr₁ : Arr (rootWord n) ws t₁
     arr₁ = course-arr 38 (rootWord n) ws t (newRootAt (rootWord n) t q) (mapping (viewOf n t)) rooted a
 
+    rooted-takes : length (unreachable t) ≡ suc (length (unreachable t₁))
+    rooted-takes =
+        omega (
+          arith,
+          unreachable-count (rootWord n) ws t a f,
+          unreachable-count (rootWord n) ws t₁ arr₁ (rooted .whole),
+          root-two-nodes (rootWord n) ws t lowly word beside f not-top q root-free,
+          root-takes (rootWord n) (taken ws t) t settled not-top word q root-free,
+          ap length (root-two-taken (rootWord n) ws t lowly word beside f not-top q root-free),
+        )
+
     root-ready : run n t k ≡ suc (height (viewOf n t)) → run n t k + 1 ≤ length (unreachable t) → Ready (run n t k) n t₁ k
     root-ready whole enough = record {
       collection = arr-there n ws t₁ arr₁;
@@ -233,15 +244,7 @@ module _ (n : ℕ) (ws : List ℕ) (t : Words) (k : ℕ) (a : Arr (rootWord n) w
           ap (λ (m : ℕ). length (nodeView t₁ m .shown)) (root-standing (rootWord n) (taken ws t) t settled not-top word q root-free k l (omega (arith, whole)))
           ∙ ap length (root-shown (rootWord n) (taken ws t) t settled not-top word q root-free (standing n t l k) (stands-reached n ws t lowly f k l (omega (arith, whole)))) ∙ two-run-full n ws t lowly f k l g;
       above = rw (whole, root-shows (rootWord n) (taken ws t) t settled not-top word q root-free k) (omega arith);
-      enough = omega (
-        arith,
-        enough,
-        unreachable-count (rootWord n) ws t a f,
-        unreachable-count (rootWord n) ws t₁ arr₁ (rooted .whole),
-        root-two-nodes (rootWord n) ws t lowly word beside f not-top q root-free,
-        root-takes (rootWord n) (taken ws t) t settled not-top word q root-free,
-        ap length (root-two-taken (rootWord n) ws t lowly word beside f not-top q root-free),
-      );
+      enough = omega (arith, enough, rooted-takes);
     }
 
     root-others : (x : ℕ) → x ≢ fresh t (at t (rootWord n)) → elem x (reachedAll t₁) ≡ elem x (reachedAll t)
@@ -283,6 +286,18 @@ module _ (n : ℕ) (ws : List ℕ) (t : Words) (k : ℕ) (a : Arr (rootWord n) w
 
     pub root-arr : Arr (rootWord n) ws (apply (rootStores n t k) t)
     root-arr = course-arr 38 (rootWord n) ws t (rootStores n t k) (mapping (viewOf n t)) (root-first .0) a
+
+    -- a new root is one node more
+    pub root-take : length (unreachable t) ≡ length (unreachable (apply (rootStores n t k) t)) + cond (rootInRun n t k) 1 0
+    unfolding rootStores apply
+    root-take = go (rootInRun n t k) refl
+      where
+        go : (b : Bool) → rootInRun n t k ≡ b → length (unreachable t) ≡ length (unreachable (apply (rootStores n t k) t)) + cond (rootInRun n t k) 1 0
+        go true e =
+            let g : m + 1 ≤ length (unreachable t) = rw e at room in
+            let some : 0 < length (unreachable t) = omega arith in
+            rw (e, rootStores) (rw (same-root (not-top e) some) (omega (arith, rooted-takes (not-top e) some)))
+        go false e = rw (e, rootStores) (omega arith)
 
     -- of the nodes but the new root the same are reached
     pub first-root-others : rootInRun n t k ≡ true → (x : ℕ) → x ≢ fresh t (at t (rootWord n)) → elem x (reachedAll (apply (newRoot n t) t)) ≡ elem x (reachedAll t)

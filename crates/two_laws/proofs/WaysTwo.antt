@@ -3,7 +3,7 @@ use mathlib.Core.Path.{_≡_, ap}
 use mathlib.Core.Bool.{true, false}
 use mathlib.Core.Logic.{_≢_, _⊎_, inl, inr}
 use mathlib.Core.List.{List, []}
-use Prim.Native.Nat.{ℕ, _-_}
+use Prim.Native.Nat.{ℕ}
 use Rattle.model.specs.Table.{Words, rootWord, noCollection}
 use Rattle.model.specs.SoundTest.{nothing, settled}
 use Rattle.model.specs.Orders.{Store, apply}

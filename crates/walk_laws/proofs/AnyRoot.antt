@@ -7,8 +7,8 @@ use Rattle.model.specs.Slots.{viewFrom}
 use Rattle.model.specs.Search.{below}
 use Rattle.model.specs.Reached.{kept, firstChild}
 use Rattle.model.specs.SoundTest.{siblingOk, keysOk, leafOk, trailingIn, own}
-use Rattle.walk_laws.specs.declared.Tally.{Tally}
-use Rattle.walk_laws.specs.declared.Tally.the-variants.{Unsound, Visited}
+use Rattle.model.specs.declared.Tally.{Tally}
+use Rattle.model.specs.declared.Tally.the-variants.{Unsound, Visited}
 use Rattle.walk_laws.specs.Walk.{Visit, stands, aloneOk, fits, visitsOf, visitsBelow, visit, fold, check}
 use Rattle.walk_laws.specs.Chain.{along}
 

@@ -12,8 +12,8 @@ use Rattle.model.specs.declared.Unfinished.{Unfinished}
 use Rattle.model.specs.Slots.{View}
 use Rattle.model.specs.Reached.{flat}
 use Rattle.model.specs.SoundTest.{all, together, own}
-use Rattle.walk_laws.specs.declared.Tally.{Tally}
-use Rattle.walk_laws.specs.declared.Tally.the-variants.{Unsound, Visited}
+use Rattle.model.specs.declared.Tally.{Tally}
+use Rattle.model.specs.declared.Tally.the-variants.{Unsound, Visited}
 use Rattle.walk_laws.specs.Walk.{Visit, fits, visitsBelow, visit, fold, check}
 use Rattle.walk_laws.proofs.Sums.{joint, sum, unit-right}
 

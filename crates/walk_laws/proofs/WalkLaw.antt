@@ -18,8 +18,8 @@ use Rattle.list_laws.proofs.Tools.{decode, and-iff, refuted, same-test, Each, E
 use Rattle.tree_laws.proofs.Members.{UpTo, pigeonhole}
 use Rattle.tree_laws.proofs.Rows.{Good, At, Deep, children-inner}
 use Rattle.tree_laws.proofs.Levels.{RootFacts, root-iff, Level, level-root, level-lower, once-follows, sound-orderly}
-use Rattle.walk_laws.specs.declared.Tally.{Tally}
-use Rattle.walk_laws.specs.declared.Tally.the-variants.{Unsound, Visited}
+use Rattle.model.specs.declared.Tally.{Tally}
+use Rattle.model.specs.declared.Tally.the-variants.{Unsound, Visited}
 use Rattle.walk_laws.specs.Walk.{Visit, fits, visitsOf, ways, visitsBelow, check, rootVisit, walk}
 use Rattle.walk_laws.proofs.Sums.{Monoid, joint, tests, numbers, sum, swap, unit-right, sum-append, depthFirst, sum-depth-first}
 use Rattle.walk_laws.proofs.Run.{visits, check-fold, met, allowed, outcome, fold-outcome}

@@ -8,8 +8,8 @@ use Rattle.model.specs.Table.{inRange}
 use Rattle.model.specs.Slots.{Slot, slot, View, height}
 use Rattle.model.specs.Reached.{headOr, pointers, kept, nextChild}
 use Rattle.model.specs.SoundTest.{siblingOk, keysOk, leafOk, finished, together, missingAt, own}
-use Rattle.walk_laws.specs.declared.Tally.{Tally}
-use Rattle.walk_laws.specs.declared.Tally.the-variants.{Unsound, Visited}
+use Rattle.model.specs.declared.Tally.{Tally}
+use Rattle.model.specs.declared.Tally.the-variants.{Unsound, Visited}
 
 -- a visit: a node, where it must stand and what its sibling must be, and what is found unfinished on the way to it
 pub record Visit : Type 0 where

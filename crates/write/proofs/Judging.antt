@@ -13,7 +13,7 @@ use Rattle.model.specs.Slots.{View, viewFrom, nodeView, height, used}
 use Rattle.model.specs.Search.{path, firstWith}
 use Rattle.model.specs.Reached.{mapping}
 use Rattle.model.specs.SoundTest.{soundView, sound}
-use Rattle.model.specs.Writes.{repaired, standingIn, Call, repair}
+use Rattle.model.specs.Writes.{repaired, standingIn, Call}
 use Rattle.model.specs.Refusals.{Test, firstNumber, hasKey, seventeenIn, mapTests, elevenIn, tenIn, ownMap, wordsFor, refusal}
 use Rattle.table_laws.proofs.Header.{header-number-refused}
 use Rattle.list_laws.proofs.Tools.{first-nil, not-false-iff}

@@ -1,12 +1,9 @@
 -- `catalogue_tools::catalogue_salvage` meets its contract, case by case.
 use Rattle.answers.proofs.Cases.{was-rebuilt}
-use mathlib.Core.Path.{refl, sym, _∙_}
+use mathlib.Core.Path.{sym, _∙_}
 use borrow.Author.Needs.{needs}
 use Rattle.catalogue_tools.proofs.catalogue_salvage.Statement.{statement}
 use Rattle.catalogue_tools.proofs.catalogue_salvage.Tie as tie
-use Rattle.catalogue_tools.proofs.catalogue_salvage.Reads as reads
-use Rattle.catalogue_tools.proofs.catalogue_salvage.Lts as lts
-use Rattle.salvage.proofs.salvage.Reads as salvage-reads
 
 returns : tie.Need-returns
 returns c = let m = c .before .before .before .before .before .before .before .salvage in (was-rebuilt _ _ _ (sym (m .ensures .0) ∙ c .before .count .given .1), m .ensures .1)

@@ -1,6 +1,6 @@
 -- `clear::enter_pairs` meets its contract. The loop keeps that the cells hold the recordings of the pairs from i on.
 use Prim.Native.Nat.{_*_, _≤_}
-use mathlib.Core.Path.{_≡_, refl, _∙_}
+use mathlib.Core.Path.{_≡_, refl}
 use mathlib.Core.Bool.{false≢true}
 use native.Mathlib.Omega.{arith}
 use lib.ListN.{length}

@@ -1,6 +1,6 @@
 -- `clear::is_off` meets its contract. The loop keeps what the tries that are left come to.
 use Prim.Native.Nat.{_<_}
-use mathlib.Core.Path.{_≡_, refl, _∙_}
+use mathlib.Core.Path.{_≡_, _∙_}
 use native.Mathlib.Omega.{arith}
 use native.Mathlib.Nat.{mod-lt}
 use lib.ListN.{length}

@@ -1,6 +1,6 @@
 -- `clear::leaf_off` meets its contract. The loop keeps what the pointers from i on come to.
 use Prim.Native.Nat.{_-_}
-use mathlib.Core.Path.{_≡_, refl, ap, sym, _∙_}
+use mathlib.Core.Path.{_≡_, refl, ap, _∙_}
 use lib.ListN.{length}
 use borrow.Author.Tests.{not-true, not-false}
 use Rattle.model.specs.SoundTest.{all}

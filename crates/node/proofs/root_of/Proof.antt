@@ -2,7 +2,6 @@
 use Prim.Native.Nat.{_≤_}
 use native.Mathlib.Omega.{arith}
 use lib.ListN.{length}
-use borrow.Author.Needs.{needs}
 use Rattle.table_laws.proofs.Header.{header-iff}
 use Rattle.node.proofs.Roots.{first-root, second-root}
 use Rattle.node.proofs.root_of.Statement.{statement}

@@ -1,6 +1,5 @@
 -- `printer::read_input` is safe and ends, and hands on what it reads with a table and a list of their first lengths.
 use mathlib.Core.Path.{_≡_, ap}
-use native.Mathlib.Omega.{arith}
 use lib.ListN.{length}
 use Rattle.model.specs.Table.{Words}
 use Rattle.model.specs.Printer.{Desk, firstDesk}

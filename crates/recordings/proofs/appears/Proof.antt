@@ -2,7 +2,7 @@
 use Rattle.recordings.proofs.RowLaws.{row-end, row-more, few-nodes, found-none, found-here, found-later}
 use Rattle.model.specs.SoundTest.{elem}
 use mathlib.Core.Bool.{Bool}
-use Rattle.recordings.specs.Marked.{own, ownFrom, markedPairs}
+use Rattle.recordings.specs.Marked.{own, ownFrom}
 use Rattle.model.specs.Slots.{Slot, recording, view}
 use native.Mathlib.Omega.{arith}
 use mathlib.Core.List.{List, map}

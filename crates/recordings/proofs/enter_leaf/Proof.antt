@@ -10,8 +10,8 @@ use Rattle.model.specs.Slots.{Slot, recording, shown}
 use lib.ListN.{length}
 use native.Mathlib.Omega.{arith}
 use mathlib.Core.List.{List, map}
-use mathlib.Core.Path.{_≡_, refl, sym, _∙_}
-use Prim.Native.Nat.{ℕ, _-_, _≤_}
+use mathlib.Core.Path.{_≡_, refl, _∙_}
+use Prim.Native.Nat.{_-_, _≤_}
 use borrow.Author.Needs.{needs}
 use Rattle.recordings.proofs.enter_leaf.Statement.{statement}
 use Rattle.recordings.proofs.enter_leaf.Tie as tie

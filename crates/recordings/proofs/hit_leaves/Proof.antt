@@ -8,8 +8,8 @@ use Rattle.recordings.specs.Marked.{own, ownFrom, markedPairs}
 use Rattle.model.specs.Slots.{Slot, recording, view}
 use native.Mathlib.Omega.{arith}
 use mathlib.Core.List.{List, map}
-use mathlib.Core.Path.{_≡_, sym, ap, _∙_}
-use Prim.Native.Nat.{ℕ, _+_, _-_}
+use mathlib.Core.Path.{_≡_, ap, _∙_}
+use Prim.Native.Nat.{_+_, _-_}
 use borrow.Author.Needs.{needs}
 use Rattle.recordings.proofs.hit_leaves.Statement.{statement}
 use Rattle.recordings.proofs.hit_leaves.Tie as tie

@@ -1,5 +1,4 @@
 -- `recordings::last_marked` meets its contract. The loop keeps that no node above m is marked.
-use Prim.Native.Nat.{ℕ}
 use native.Mathlib.Omega.{arith}
 use Rattle.model.specs.Table.{nodes}
 use Rattle.recordings.specs.Marked.{LastMarked}

@@ -3,12 +3,11 @@ use Rattle.recordings.proofs.RowLaws.{row-marked, row-end, row-more, fe
 use Rattle.model.specs.SoundTest.{all, pairOk}
 use borrow.Author.Tests.{not-true, not-false}
 use Rattle.recordings.proofs.LeafLaws.{leaf-kept}
-use Rattle.recordings.specs.Marked.{own, ownFrom, markedPairs}
-use Rattle.model.specs.Slots.{Slot, recording, view}
+use Rattle.recordings.specs.Marked.{ownFrom, markedPairs}
+use Rattle.model.specs.Slots.{view}
 use native.Mathlib.Omega.{arith}
-use mathlib.Core.List.{List, map}
-use mathlib.Core.Path.{_≡_, sym, ap, _∙_}
-use Prim.Native.Nat.{ℕ, _+_, _-_}
+use mathlib.Core.Path.{_≡_, ap, _∙_}
+use Prim.Native.Nat.{_+_, _-_}
 use borrow.Author.Needs.{needs}
 use Rattle.recordings.proofs.pairs_ok.Statement.{statement}
 use Rattle.recordings.proofs.pairs_ok.Tie as tie

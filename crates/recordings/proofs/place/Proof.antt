@@ -1,6 +1,6 @@
 -- `recordings::place` meets its contract.
 use Prim.Native.Nat.{ℕ, _%_, _<_}
-use mathlib.Core.Path.{_≡_, ap, _∙_}
+use mathlib.Core.Path.{_≡_, ap}
 use Rattle.recordings.specs.Rounds.{PLACES, primeOf, placeOf}
 use Rattle.recordings.proofs.RoundLaws.{place-below, place-at, prime-last}
 use Rattle.recordings.proofs.place.Statement.{statement}

@@ -1,6 +1,5 @@
 -- `recordings::slot_ok` meets its contract.
 use Rattle.recordings.proofs.LeafLaws.{ok-past, ok-kept}
-use mathlib.Core.Path.{_∙_}
 use borrow.Author.Tests.{not-true, not-false}
 use borrow.Author.Needs.{needs}
 use Rattle.recordings.proofs.slot_ok.Statement.{statement}

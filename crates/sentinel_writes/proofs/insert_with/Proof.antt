@@ -1,6 +1,5 @@
 -- `sentinel_writes::insert_with` meets its contract.
 use mathlib.Core.Path.{_≡_, sym, _∙_}
-use Prim.Native.Nat.{ℕ}
 use lib.ListN.{length}
 use borrow.Author.Needs.{needs}
 use Rattle.model.specs.Writes.{Call, insertion}

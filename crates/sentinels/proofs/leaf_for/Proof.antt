@@ -5,7 +5,7 @@ use Prim.Native.Nat.{ℕ}
 use borrow.Author.Tests.{not-true, not-false, eq-eqb}
 use Rattle.model.specs.Slots.{view}
 use Rattle.search.specs.declared.Stood.{Stood}
-use Rattle.search.specs.Descent.{seenIn, standOn, locateWithin}
+use Rattle.search.specs.Descent.{seenIn, locateWithin}
 use Rattle.search.proofs.Standing.{level-in, turn-out, turn-low, turn-high, turn-leaf, turn-down}
 use borrow.Author.Needs.{needs}
 use Rattle.sentinels.proofs.leaf_for.Statement.{statement}

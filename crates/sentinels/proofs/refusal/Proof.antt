@@ -1,5 +1,4 @@
 -- `sentinels::refusal` meets its contract.
-use mathlib.Core.Path.{refl}
 use Rattle.sentinels.proofs.Refusing.{Passed, passed, not-passed, right-length, wrong-length}
 use borrow.Author.Needs.{needs}
 use Rattle.sentinels.proofs.refusal.Statement.{statement}

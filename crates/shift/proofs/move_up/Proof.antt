@@ -1,5 +1,5 @@
 -- `shift::move_up` meets its contract. The loop's invariant: the moves below slot i are left, and lead to what all of them lead to.
-use Prim.Native.Nat.{_-_, _≤_}
+use Prim.Native.Nat.{_≤_}
 use mathlib.Core.Path.{_≡_, refl}
 use native.Mathlib.Omega.{arith}
 use lib.ListN.{length}
