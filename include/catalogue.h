@@ -13,7 +13,7 @@
  *       2 KB: catalogue_version, catalogue_parse, catalogue_print, catalogue_make, catalogue_search, catalogue_search_with,
  *             catalogue_carry_out, catalogue_script, catalogue_script_number
  *     150 KB: catalogue_pack
- *     320 KB: catalogue_list, catalogue_insert, catalogue_delete, catalogue_set_class, catalogue_repair, catalogue_sentinels,
+ *     320 KB: catalogue_list, catalogue_check, catalogue_insert, catalogue_delete, catalogue_set_class, catalogue_repair, catalogue_sentinels,
  *             catalogue_insert_with, catalogue_delete_with, catalogue_set_class_with, catalogue_repair_with, catalogue_judge_insert,
  *             catalogue_judge_delete, catalogue_wear
  *     450 KB: catalogue_insert_many, catalogue_salvage
@@ -80,7 +80,7 @@ extern "C" {
  * The version of these declarations. It is raised by each change of a name, a parameter or the meaning of a word, so a program that was
  * compiled with one header and linked with another library sees it: catalogue_version() is the library's.
  */
-#define CATALOGUE_VERSION 13
+#define CATALOGUE_VERSION 14
 
 #define CATALOGUE_MARK UINT64_MAX
 #define CATALOGUE_BARRIER (UINT64_MAX - 1)
@@ -116,7 +116,7 @@ enum {
     CATALOGUE_NO_CODE = 1,          /* text is not a code, or a key has no code */
     CATALOGUE_NO_TABLE = 2,         /* wrong length or header, a root outside 1 to N, or two collections where N is 1 */
     CATALOGUE_SEARCH_LOST = 3,      /* search: a node number, level or sibling is wrong on its way, or its leaves go round in a ring */
-    CATALOGUE_NOT_SOUND = 4,        /* write, listing or judging: the table is not sound, be it in the other collection */
+    CATALOGUE_NOT_SOUND = 4,        /* check, listing, write or judging: the table is not sound, be it in the other collection */
     CATALOGUE_SHORT_LIST = 5,       /* order list under 2,560 words, for dock 1 under 5,120 */
     CATALOGUE_BAD_RECORDING = 6,    /* recording is 0 or above CATALOGUE_MOST_RECORDING */
     CATALOGUE_KEY_PRESENT = 7,      /* code already in the collection */
@@ -186,6 +186,40 @@ uint64_t catalogue_search(const uint64_t *table, size_t words, uint64_t collecti
  */
 uint64_t catalogue_list(const uint64_t *table, size_t words, uint64_t collection, uint64_t low, uint64_t high, uint64_t *out,
                         size_t out_words, uint64_t *pairs, uint64_t *more);
+
+/* What a sound table has left over from a change that was cut off; the next writing call, or catalogue_repair, finishes it. */
+enum {
+    CATALOGUE_SETTLED = 0, /* nothing */
+    CATALOGUE_LEFT_A = 1,  /* a node has a hidden slot */
+    CATALOGUE_LEFT_B = 2,  /* a node lacks its slot in the parent; its left neighbour may still show slots that are now the node's */
+    CATALOGUE_LEFT_C = 3   /* a node lacks its slot in the parent, and the parent has a hidden slot */
+};
+
+/* The report of catalogue_check, by index. A node that there is none of is 0, and then its slot or its count is 0 too. */
+enum {
+    CATALOGUE_CHECK_LEFTOVER = 0,    /* CATALOGUE_SETTLED, or CATALOGUE_LEFT_A, .. B or .. C */
+    CATALOGUE_CHECK_COLLECTION = 1,  /* the collection that has the leftover, 1 or 2; 0 if the table is settled */
+    CATALOGUE_CHECK_HIDDEN_NODE = 2, /* a and c: the node with the hidden slot */
+    CATALOGUE_CHECK_HIDDEN_SLOT = 3, /* that slot, 0 to 10 */
+    CATALOGUE_CHECK_NODE = 4,        /* b and c: the node that lacks its slot in the parent */
+    CATALOGUE_CHECK_NEIGHBOUR = 5,   /* its left neighbour, whose sibling it is */
+    CATALOGUE_CHECK_PARENT = 6,      /* the parent of both */
+    CATALOGUE_CHECK_TRAILING = 7,    /* b: how many slots the left neighbour still shows from the node's fence up */
+    CATALOGUE_CHECK_NODES = 8,       /* N */
+    CATALOGUE_CHECK_FREE = 9,        /* nodes that no root leads to */
+    CATALOGUE_CHECK_WORDS = 16
+};
+
+/* And for collection 1 or 2: its nodes, its codes, its levels. All three are 0 for collection 2 if the table has one collection. */
+#define CATALOGUE_CHECK_NODES_OF(collection) (7 + 3 * (collection))
+#define CATALOGUE_CHECK_CODES_OF(collection) (8 + 3 * (collection))
+#define CATALOGUE_CHECK_LEVELS_OF(collection) (9 + 3 * (collection))
+
+/*
+ * Checks the whole table: 0 if it is sound, and report, exactly CATALOGUE_CHECK_WORDS words, is written whole; else 2, or 4 if it is not
+ * sound. Only a sound table takes changes. The codes of a collection are those that catalogue_list lists.
+ */
+uint64_t catalogue_check(const uint64_t *table, size_t words, uint64_t *report);
 
 /*
  * The writing calls, on the working copy. Each repairs what a cut left first, in either collection. 0, with the order list filled for the

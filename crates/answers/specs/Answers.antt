@@ -26,7 +26,7 @@ use Rattle.model.specs.Wear.{wornNumber, totalOr, largestOr, firstLineOr, pairs
 
 -- the version of the calls' shapes: raised by each change of a name, a parameter or what a word means
 abbrev pub version : ℕ
-version = 13
+version = 14
 
 -- a search of C's: 0 for found, 255 for absent
 abbrev pub searchNumber : Answer → ℕ

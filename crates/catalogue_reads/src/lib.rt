@@ -16,7 +16,7 @@ ghost use mathlib.Core.Bool.{cond};
 pub extern "C" fn catalogue_version() -> u64
     ensures { λ r. ⌜ r ≡ version ⌝ }
 {
-    13
+    14
 }
 
 // 0 and the code's key, or 1.
