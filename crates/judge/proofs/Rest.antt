@@ -15,13 +15,12 @@ use Rattle.model.specs.declared.Verdict.the-variants.{Yes, No}
 use Rattle.model.specs.Table.{Words, at, rootWord, noCollection}
 use Rattle.model.specs.Slots.{Slot, viewFrom, viewOf}
 use Rattle.model.specs.Reached.{mapping, mapOf, Maps, mapsOf}
-use Rattle.model.specs.SoundTest.{Leftover, nothing, hiddenIn, missingIn, bothIn, leftoverAll, isNothing, sound, settled}
+use Rattle.model.specs.SoundTest.{sound, settled}
 use Rattle.model.specs.Ledger.{onMap, pairsOf}
 use Rattle.model.specs.Judge.{sameMaps, goodImage, completes}
-use Rattle.list_laws.proofs.Tools.{same-or-not, same-test, refuted}
+use Rattle.list_laws.proofs.Tools.{same-or-not, refuted}
 use Rattle.table_laws.proofs.Collections.{by-number}
 use Rattle.two_laws.proofs.SameTwo.{first-there, second-there, settled-sound}
-use Rattle.two_laws.proofs.Arrange.{sound-tree, left-all, tree-settled, settled-tree}
 use Rattle.judge_laws.proofs.Compared.{maps-same}
 use Rattle.judge_laws.proofs.Judged.{good-maps}
 use Rattle.two_laws.proofs.CollectionTwo.{collection-sound}
@@ -32,26 +31,6 @@ use Rattle.judge.specs.declared.Change.{Change}
 use Rattle.judge.specs.Wanted.{wanted, Suits, lineOf, ended}
 
 -- ---- settled: sound, with nothing left
-
-is-nothing : (y : Leftover) → isNothing (some y) ≡ true → y ≡ nothing
-is-nothing nothing e = refl
-is-nothing (hiddenIn x) e = absurd (false≢true e)
-is-nothing (missingIn p a trailing) e = absurd (false≢true e)
-is-nothing (bothIn p a) e = absurd (false≢true e)
-
-pub nothing-settled : (t : Words) (y : Leftover) → sound t ≡ true → leftoverAll t ≡ some y → isNothing (some y) ≡ settled t
-nothing-settled t y s e =
-    let u = sound-tree t s in
-    let l = left-all (u .word) (u .others) t (u .leftover) (u .arranged) (u .tree) in
-    let q : some (u .leftover) ≡ some y = sym l ∙ e in
-    let same : u .leftover ≡ y = cc in
-    same-test (isNothing (some y)) (settled t) (
-      λ h. tree-settled (u .word) (u .others) t (u .arranged) (rw (same ∙ is-nothing y h) at (u .tree)),
-      λ h. let n = left-all (u .word) (u .others) t nothing (u .arranged) (settled-tree (u .word) (u .others) t (u .arranged) h) in
-          let z : some nothing ≡ some y = sym n ∙ e in
-          let w : nothing ≡ y = cc in
-          rw (← w) refl,
-    )
 
 pub unsound-unsettled : (t : Words) → sound t ≡ false → false ≡ settled t
 unsound-unsettled t e = sym (refuted (settled t) (λ s. false≢true (sym e ∙ settled-sound t s)))

@@ -11,12 +11,12 @@ use borrow.Author.Tests.{eqb-true, eqb-false, eq-eqb, ne-eqb}
 use Rattle.model.specs.Table.{Words, at, headerOk}
 use Rattle.model.specs.Slots.{View, viewOf}
 use Rattle.model.specs.Reached.{reached, reachedAll}
-use Rattle.model.specs.SoundTest.{distinct, orderly, Leftover, nothing, hiddenIn, missingIn, bothIn, leftover, isNothing, settledView, soundView, leftoverIn, leftoverAll, sound}
+use Rattle.model.specs.SoundTest.{distinct, orderly, Leftover, nothing, hiddenIn, missingIn, bothIn, leftover, isNothing, settledView, soundView, leftoverIn, leftoverAll, sound, settled}
 use Rattle.list_laws.proofs.Tools.{and-iff, not-iff, same-test, same-or-not}
 use Rattle.tree_laws.proofs.Levels.{orderly-iff}
 use Rattle.sound_laws.proofs.Same.{sound-orderly}
 use Rattle.walk_laws.specs.Chain.{lastLeaf}
-use Rattle.two_laws.proofs.Arrange.{head-iff, trees-one, trees-two, all-one, all-two}
+use Rattle.two_laws.proofs.Arrange.{head-iff, trees-one, trees-two, all-one, all-two, tree-settled, settled-tree, sound-tree, left-all}
 use Rattle.two_laws.proofs.SameTwo.{EachSound, each-sound}
 use Rattle.two_laws.proofs.ApartIff.{apart-iff}
 
@@ -116,3 +116,25 @@ module _ (t : Words) where
 
     pub count-beside : length (reachedAll t) ≡ length (reached (viewOf 1 t)) + length (reached (viewOf 2 t))
     count-beside = ap length (all-two t z) ∙ ap (λ (ns : List ℕ). length (reached v₁ ++ ns)) (append-nil (reached v₂)) ∙ length-append (reached v₁) (reached v₂)
+
+-- ---- settled: sound, with nothing left
+
+only-nothing : (y : Leftover) → isNothing (some y) ≡ true → y ≡ nothing
+only-nothing nothing e = refl
+only-nothing (hiddenIn x) e = absurd (false≢true e)
+only-nothing (missingIn p a trailing) e = absurd (false≢true e)
+only-nothing (bothIn p a) e = absurd (false≢true e)
+
+pub nothing-settled : (t : Words) (y : Leftover) → sound t ≡ true → leftoverAll t ≡ some y → isNothing (some y) ≡ settled t
+nothing-settled t y s e =
+    let u = sound-tree t s in
+    let l = left-all (u .word) (u .others) t (u .leftover) (u .arranged) (u .tree) in
+    let q : some (u .leftover) ≡ some y = sym l ∙ e in
+    let same : u .leftover ≡ y = cc in
+    same-test (isNothing (some y)) (settled t) (
+      λ h. tree-settled (u .word) (u .others) t (u .arranged) (rw (same ∙ only-nothing y h) at (u .tree)),
+      λ h. let n = left-all (u .word) (u .others) t nothing (u .arranged) (settled-tree (u .word) (u .others) t (u .arranged) h) in
+          let z : some nothing ≡ some y = sym n ∙ e in
+          let w : nothing ≡ y = cc in
+          rw (← w) refl,
+    )

@@ -1,7 +1,8 @@
 -- `judge::is_settled` meets its contract.
 use mathlib.Core.Path.{sym, _∙_}
 use Rattle.sound.proofs.JudgeLaws.{checked-sound, checked-unsound}
-use Rattle.judge.proofs.Rest.{nothing-settled, unsound-unsettled}
+use Rattle.two_laws.proofs.CheckTwo.{nothing-settled}
+use Rattle.judge.proofs.Rest.{unsound-unsettled}
 use borrow.Author.Needs.{needs}
 use Rattle.judge.proofs.is_settled.Statement.{statement}
 use Rattle.judge.proofs.is_settled.Tie as tie
