@@ -23,6 +23,7 @@ use Rattle.model.specs.Scripts
 use Rattle.model.specs.Wear
 use Rattle.model.specs.Pack
 use Rattle.model.specs.Batch
+use Rattle.model.specs.Statistics
 
 unfoldable pub everything : Unit {0}
 unfolding Codes.isDigit Codes.isLetter Codes.isLetterOrDigit Codes.every Codes.isCode Codes.value Codes.readOn Codes.number Codes.keyOf Codes.parse Codes.character
@@ -69,4 +70,6 @@ unfolding Codes.isDigit Codes.isLetter Codes.isLetterOrDigit Codes.every Codes.i
     Wear.linesAfter Wear.pairsAfter
     Pack.pairsOk Pack.mapsIn Pack.mapsOk Pack.packNumber Pack.packing Pack.packOut
     Batch.batch
+    Statistics.checkNumber Statistics.checking Statistics.hiddenSlot Statistics.trailingSlots Statistics.leftIn Statistics.treeWords Statistics.report
+    Statistics.reportOut
 everything = tt

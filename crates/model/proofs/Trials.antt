@@ -13,7 +13,7 @@ use Rattle.model.specs.declared.Next.{Next}
 use Rattle.model.specs.declared.Next.the-variants.{Key, Nothing}
 use Rattle.model.specs.declared.Written.the-variants.{Done}
 use Rattle.model.specs.Table.{MARK, Words, at, line, headerOk, empty}
-use Rattle.model.specs.Slots.{Slot, View, view}
+use Rattle.model.specs.Slots.{Slot, slot, View, view}
 use Rattle.model.specs.Search.{searchView, lookup}
 use Rattle.model.specs.Reached.{mapping, mapOf, reached, flat}
 use Rattle.model.specs.SoundTest.{all, leftover, soundView, settledView, settled}
@@ -23,6 +23,7 @@ use Rattle.model.specs.Shifts.{pointerWord}
 use Rattle.model.specs.Writes.{nodeWords, Call, insertion, deletion, classChange, repair, storesOf, repairOf, numbers}
 use Rattle.model.specs.Refusals.{refusal, written, listAfter}
 use Rattle.model.specs.Ledger.{change}
+use Rattle.model.specs.Statistics.{checkNumber, report}
 use Rattle.model.proofs.Everything.{everything}
 use Rattle.model.proofs.Worked.{tenSlots}
 use Rattle.model.proofs.Quick.{quick, quick-is-view}
@@ -210,6 +211,26 @@ pub record Beside : Type 0 where
 pub few-beside : Beside
 unfolding everything tenSlots
 few-beside = record { roots = (refl, refl); maps = (refl, refl); mended = refl }
+
+-- ---- the report of a check
+
+-- leaf 3 has no slot in the root, node 1, and leaf 2 still shows two slots that are its own
+abbrev pub trailingLeaf : Words
+trailingLeaf =
+    tableOf 1 (nodeWords 2 0 1 0 [] ∷ nodeWords MARK 3 0 0 (slot 10 1 ∷ slot 20 2 ∷ slot 50 5 ∷ slot 60 6 ∷ [])
+    ∷ nodeWords MARK 0 0 50 (slot 50 5 ∷ slot 60 6 ∷ []) ∷ stale 1)
+
+pub record Reported : Type 0 where
+  -- slot 4 of node 2 is hidden, in the second collection; nodes 1 and 4 are free; 2 codes in the first, 10 in the second
+  pub hidden : report (set besideFull (pointerWord 2 4) 104) ≡ (1 ∷ 2 ∷ 2 ∷ 4 ∷ 0 ∷ 0 ∷ 0 ∷ 0 ∷ []) ++ (4 ∷ 2 ∷ 1 ∷ 2 ∷ 1 ∷ 1 ∷ 10 ∷ 1 ∷ [])
+  -- leaf 3 lacks its slot, 2 slots of leaf 2 trail; 4 codes in 3 nodes on 2 levels
+  pub missing : report trailingLeaf ≡ (2 ∷ 1 ∷ 0 ∷ 0 ∷ 3 ∷ 2 ∷ 1 ∷ 2 ∷ []) ++ (4 ∷ 1 ∷ 3 ∷ 4 ∷ 2 ∷ 0 ∷ 0 ∷ 0 ∷ [])
+  -- 2 before 4
+  pub numbers : (checkNumber trailingLeaf ≡ 0) × (checkNumber (set (set trailingLeaf 10 5) 0 2) ≡ 2) × (checkNumber (set trailingLeaf 10 5) ≡ 4)
+
+pub few-reported : Reported
+unfolding everything tenSlots
+few-reported = record { hidden = refl; missing = refl; numbers = (refl, refl, refl) }
 
 -- ---- docks
 

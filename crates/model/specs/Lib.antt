@@ -25,3 +25,4 @@ pub mod Scripts
 pub mod Wear
 pub mod Pack
 pub mod Batch
+pub mod Statistics
