@@ -536,7 +536,7 @@ fn uncut(left: Leftover) -> u64
 }
 
 // The check of one tree: the leftover and the number of nodes reached, if it is sound.
-fn check_tree(table: &[u64], root: u64) -> Checked
+pub fn check_tree(table: &[u64], root: u64) -> Checked
     requires { ⌜ headerOk (now table) ≡ true ⌝ }
     ensures { λ r. ⌜ r ≡ checkedTree (viewFrom (now (table .entry)) root) ⌝ }
 {
@@ -567,7 +567,7 @@ fn check_tree(table: &[u64], root: u64) -> Checked
 }
 
 // Whether nothing is left.
-fn is_nothing(left: Leftover) -> bool
+pub fn is_nothing(left: Leftover) -> bool
     ensures { λ r. ⌜ r ≡ isNothing (some (meant left)) ⌝ }
 {
     match left {

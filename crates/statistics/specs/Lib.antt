@@ -1,0 +1,2 @@
+-- What the functions answer, as words of the report.
+pub mod Parts
