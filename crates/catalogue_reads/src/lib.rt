@@ -1,5 +1,5 @@
-// The C entry points, on numbers and slices: include/catalogue.h has their prototypes. Here those of codes, making, searching, listing and
-// carry-out; catalogue_writes, catalogue_sentinels and catalogue_tools have the others. One archive, libcatalogue.a, has them all (host/library).
+// The C entry points, on numbers and slices: include/catalogue.h has their prototypes. Here those of codes, making, searching, checking, listing
+// and carry-out; catalogue_writes, catalogue_sentinels and catalogue_tools have the others. One archive, libcatalogue.a, has them all (host/library).
 use model::Listed;
 use model::Parsed;
 ghost use mathlib.Core.Path.{_≡_};
@@ -8,6 +8,7 @@ ghost use Rattle.model.specs.Table.{making, made, outcomeNumber};
 ghost use Rattle.model.specs.Orders.{carryOut, carriedOut};
 ghost use Rattle.model.specs.Search.{search};
 ghost use Rattle.answers.specs.Answers.{version, Looked, Showed};
+ghost use Rattle.model.specs.Statistics.{checking, reportOut};
 ghost use Rattle.model.specs.Listing.{list, listOut};
 ghost use mathlib.Core.Bool.{cond};
 
@@ -72,6 +73,15 @@ pub extern "C" fn catalogue_search(
 {
     let answer = search::search(table, collection, key);
     answers::put_answer(answer, recording, access, next, higher)
+}
+
+// 0 and the report of a sound table, or 2 or 4.
+#[no_mangle]
+pub extern "C" fn catalogue_check(table: &[u64], report: &mut [u64; 16]) -> u64
+    ensures { λ r. ⌜ r ≡ outcomeNumber (checking (now (table .entry))) ⌝ }
+    ensures { λ r. ⌜ now (report .exit) ≡ reportOut (now (table .entry)) (now (report .entry)) ⌝ }
+{
+    answers::number_of(statistics::check(table, report))
 }
 
 // 1 for true, 0 for false.
