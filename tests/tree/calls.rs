@@ -138,6 +138,22 @@ pub fn print(key: u64) -> (u64, [u8; 12]) {
     (n, text[8..20].try_into().unwrap())
 }
 
+/// The number, and the 16 words after it.
+pub fn check(t: &[u64], lent: [u64; 16]) -> (u64, [u64; 16]) {
+    let (mut table, mut report) = (Lent::new(t), Lent::new(&lent));
+    let n = unsafe { catalogue_check(table.pointer(), t.len(), report.pointer()) };
+    assert!(table.back() == t, "a check wrote to the table");
+    (n, report.back().try_into().unwrap())
+}
+
+/// The number, the report, and how long the call alone takes, without a copy of the table.
+pub fn check_takes(t: &[u64]) -> (u64, [u64; 16], std::time::Duration) {
+    let mut report = [0; 16];
+    let started = std::time::Instant::now();
+    let n = unsafe { catalogue_check(t.as_ptr(), t.len(), report.as_mut_ptr()) };
+    (n, report, started.elapsed())
+}
+
 /// The number; the count and whether more were left, each where the call put it; and the slice after it.
 pub fn list(t: &[u64], collection: u64, low: u64, high: u64, out: &[u64]) -> (u64, [Option<u64>; 2], Vec<u64>) {
     let (mut table, mut slice) = (Lent::new(t), Lent::new(out));

@@ -300,12 +300,14 @@ pub struct Sound {
     pub leftover: Leftover,
     pub unfinished: u64,
     pub maps: Maps,
+    /// How many nodes each collection has.
+    pub nodes: Vec<u64>,
 }
 
 /// A table whose header is right: each collection's tree is sound, no node is reached from both roots, and at most one leftover exists.
 /// None for a table that is not sound.
 pub fn judge(t: &[u64]) -> Option<Sound> {
-    let mut all = Sound { reached: BTreeMap::new(), leftover: Leftover::Nothing, unfinished: 0, maps: vec![] };
+    let mut all = Sound { reached: BTreeMap::new(), leftover: Leftover::Nothing, unfinished: 0, maps: vec![], nodes: vec![] };
     for c in collections(t) {
         let tree = judge_tree(t, t[root_word(c)])?;
         if tree.reached.keys().any(|i| all.reached.contains_key(i)) {
@@ -317,6 +319,7 @@ pub fn judge(t: &[u64]) -> Option<Sound> {
             }
             (all.leftover, all.unfinished) = (tree.leftover, c);
         }
+        all.nodes.push(tree.reached.len() as u64);
         all.reached.extend(tree.reached);
         all.maps.push(tree.map);
     }

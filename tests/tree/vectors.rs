@@ -872,8 +872,49 @@ fn wear_figures() {
     gives("the wear on any words", &any, calls::wear(&any, &printed, &[77; 5], &[88; 4]).figures, [6, 6, 2, 2].map(Some));
 }
 
+const LENT: [u64; 16] = [77; 16];
+
+fn check_gives(t: &[u64], want: [u64; 16]) {
+    gives("check", t, calls::check(t, LENT), (0, want));
+}
+
+/// Each leftover by its words: kind and collection; the node with the hidden slot, and the slot; the node that lacks its slot in the parent,
+/// its left neighbour, the parent and the trailing slots; N and the free nodes; nodes, codes and levels of either collection.
+fn checks() {
+    check_gives(&calls::make(&[0; 8 + 32], 1).1, [0, 0, 0, 0, 0, 0, 0, 0, 1, 0, 1, 0, 1, 0, 0, 0]);
+    check_gives(&calls::make(&[0; 8 + 32 * 3], 2).1, [0, 0, 0, 0, 0, 0, 0, 0, 3, 1, 1, 0, 1, 1, 0, 1]);
+
+    // (a): the second of three slots has the pointer before it.
+    let hidden: Words = ([MARK, 0, 0, 0], &[(10, 1), (20, 1), (30, 3)]);
+    check_gives(&table(2, &[FREE, hidden]), [1, 1, 2, 1, 0, 0, 0, 0, 2, 1, 1, 2, 1, 0, 0, 0]);
+
+    // (b): node 3 has no slot in node 1, and node 2 still shows two slots that are node 3's; they count once.
+    let root: Words = ([2, 0, 1, 0], &[]);
+    let (trailing, cut): (Words, Words) = (([MARK, 3, 0, 0], &[(10, 1), (20, 2), (50, 5), (60, 6)]), ([MARK, 3, 0, 0], &[(10, 1), (20, 2)]));
+    let upper: Words = ([MARK, 0, 0, 50], &[(50, 5), (60, 6)]);
+    check_gives(&table(1, &[root, trailing, upper, FREE]), [2, 1, 0, 0, 3, 2, 1, 2, 4, 1, 3, 4, 2, 0, 0, 0]);
+    check_gives(&table(1, &[root, cut, upper]), [2, 1, 0, 0, 3, 2, 1, 0, 3, 0, 3, 4, 2, 0, 0, 0]);
+
+    // (c): its slot is there, and hidden.
+    let hides: Words = ([2, 0, 1, 0], &[(50, 2)]);
+    check_gives(&table(1, &[hides, cut, upper]), [3, 1, 1, 0, 3, 2, 1, 0, 3, 0, 3, 4, 2, 0, 0, 0]);
+
+    // The same in the second collection, beside a settled first one, and the other way round.
+    let first: Words = ([MARK, 0, 0, 0], &[(7, 70), (8, 80), (9, 90)]);
+    check_gives(&two([4, 1], &[root, trailing, upper, first, FREE]), [2, 2, 0, 0, 3, 2, 1, 2, 5, 1, 1, 3, 1, 3, 4, 2]);
+    check_gives(&two([1, 4], &[hides, cut, upper, first]), [3, 1, 1, 0, 3, 2, 1, 0, 4, 0, 3, 4, 2, 1, 3, 1]);
+
+    // A leftover in each, a node in both trees, a wrong level: not sound. A wrong header: no table. No word is written.
+    for t in [two([1, 4], &[hides, cut, upper, hidden]), two([1, 3], &[root, cut, upper]), table(1, &[([2, 0, 2, 0], &[]), cut, upper])] {
+        gives("check", &t, calls::check(&t, LENT), (4, LENT));
+    }
+    for t in [vec![], with(&table(1, &[hidden]), 0, 2), with(&table(1, &[hidden]), 1, 2), with(&table(1, &[hidden]), 7, 1)] {
+        gives("check", &t, calls::check(&t, LENT), (2, LENT));
+    }
+}
+
 fn main() {
-    let vectors: [(&str, fn()); 26] = [
+    let vectors: [(&str, fn()); 27] = [
         ("a root at level 15 is searched, one at 16 refused", root_levels),
         ("search's 3 in each of its causes", search_refusals),
         ("an absent key's neighbour", absent_search),
@@ -900,6 +941,7 @@ fn main() {
         ("N up to 65,535", largest_table),
         ("codes up to the last", codes),
         ("wear figures", wear_figures),
+        ("a check's report", checks),
     ];
     for (name, vector) in vectors {
         vector();
