@@ -120,11 +120,13 @@ static int carry_list(struct loading *l, size_t *from)
 {
     struct batch *b = l->batch;
     struct table *t = l->table;
-    uint64_t number = 0, taken = 0, stores = 0, flushes = 0, barriers = 0;
+    uint64_t number = 0, taken = 0, stop = 0, stores = 0, flushes = 0, barriers = 0;
     size_t pairs = gather(l, *from);
     if (pairs > 0)
         number = catalogue_insert_many(t->working, t->words, t->collection, b->orders, BATCH_WORDS, t->dock, b->pairs, 2 * pairs, &taken,
-                                       &stores, &flushes, &barriers);
+                                       &stop, &stores, &flushes, &barriers);
+    if (number == 0)
+        number = stop;
     uint64_t orders = stores + flushes + barriers;
     int status = taken > 0 ? carry_orders(l, orders, flushes) : 0;
     l->failed = status != 0;

@@ -154,10 +154,12 @@ static int carry_some(struct loading *l, uint64_t *orders, size_t *from)
 {
     struct table *t = l->table;
     const struct judged *j = &l->packing->judged;
-    uint64_t taken = 0, stores = 0, flushes = 0, barriers = 0;
+    uint64_t taken = 0, stop = 0, stores = 0, flushes = 0, barriers = 0;
     size_t count = j->count - *from < FEW_LINES ? j->count - *from : FEW_LINES;
     uint64_t number = catalogue_insert_many(t->working, t->words, t->collection, orders, BATCH_WORDS, t->dock, j->pairs + 2 * *from, 2 * count,
-                                            &taken, &stores, &flushes, &barriers);
+                                            &taken, &stop, &stores, &flushes, &barriers);
+    if (number == 0)
+        number = stop;
     int status = taken > 0 ? table_carry_out(t, orders, stores + flushes + barriers) : 0;
     l->failed = status != 0;
     *from += l->failed ? load_came_in(l, j->pairs + 2 * *from, taken) : taken;

@@ -3,7 +3,8 @@
  * Link with libcatalogue.a (make -C host library).
  *
  * A table is 8 + 32 * N words, N from 1 to 65,535 nodes. Every call takes any words and any length: it does its work or returns a
- * refusal number, and a refusal changes no lent word. A word that an answer is put into is left alone unless the call does its work.
+ * refusal number, and a refusal changes no lent word (but for catalogue_print, which then writes 12 zero bytes). A word that an answer is put
+ * into is left alone unless the call does its work.
  * Lent slices may not overlap. A slice of length 0 still wants a pointer that is not null. One writer; readers only read.
  * Words must keep still while a call reads them: a search of words that another thread or process is changing may pair a code with its
  * neighbour's recording. Copy the nodes that it passes, and compare them once more, as host/looks.c does; a search of such a copy answers
@@ -234,15 +235,15 @@ uint64_t catalogue_insert(uint64_t *table, size_t words, uint64_t collection, ui
 /*
  * Many insertions: the pairs in the order given, a key and a pointer each (CATALOGUE_POINTER; an odd last word is half a pair and is none),
  * one order list for all. Table, list and counts are those of the single calls one after another, each with the list behind the words that
- * the one before it filled; the table is checked once. It stops at the first pair that is refused and returns its number: 0 where all pairs
- * were taken (or there is none), 5 where the rest of the list has fewer words than a single call needs, so that the list is to be carried
- * out and the call made again with the pairs that are left. *taken pairs were taken; it and the sums of stores, flushes and barriers are put
- * where at least one was or 0 is returned, else no lent word changes. A cut anywhere in the list leaves the calls before it whole and one
- * call cut. 2, 17, 4, 18, 5, 6, 14, 7, 8, 11, 10.
+ * the one before it filled; the table is checked once. It stops at the first pair that is refused. If that is the first one the call returns
+ * its number and changes no lent word. Else it returns 0: *taken pairs were taken, with the sums of their stores, flushes and barriers, and
+ * *stop is 0 if that is all of them, or the number that refused the next one. A stop at 5 says that the rest of the list has fewer words than
+ * a single call needs: carry the list out, and call again with the pairs that are left.
+ * A cut anywhere in the list leaves the calls before it whole and one call cut. 2, 17, 4, 18, 5, 6, 14, 7, 8, 11, 10.
  */
 uint64_t catalogue_insert_many(uint64_t *table, size_t words, uint64_t collection, uint64_t *orders, size_t order_words, uint64_t dock,
-                               const uint64_t *pairs, size_t pair_words, uint64_t *taken, uint64_t *stores, uint64_t *flushes,
-                               uint64_t *barriers);
+                               const uint64_t *pairs, size_t pair_words, uint64_t *taken, uint64_t *stop, uint64_t *stores,
+                               uint64_t *flushes, uint64_t *barriers);
 
 /* Deletion: 2, 17, 4, 18, 5, 9. */
 uint64_t catalogue_delete(uint64_t *table, size_t words, uint64_t collection, uint64_t *orders, size_t order_words, uint64_t dock,

@@ -190,9 +190,11 @@ static bool insert_one(struct store *s, const struct pair *pair)
 static bool insert_many(struct store *s, const struct pair *pairs, size_t count, bool carried)
 {
     while (count > 0) {
-        uint64_t taken = 0, stores = 0, flushes = 0, barriers = 0;
+        uint64_t taken = 0, stop = 0, stores = 0, flushes = 0, barriers = 0;
         uint64_t number = catalogue_insert_many(s->working, s->words, 1, s->orders, ORDER_WORDS, CATALOGUE_ORDERED, &pairs->key, 2 * count,
-                                                &taken, &stores, &flushes, &barriers);
+                                                &taken, &stop, &stores, &flushes, &barriers);
+        if (number == 0)
+            number = stop;
         if (carried)
             carry(s, stores + flushes + barriers);
         if (number == CATALOGUE_KEY_PRESENT || number == CATALOGUE_RECORDING_PRESENT)

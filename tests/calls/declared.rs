@@ -12,7 +12,7 @@ extern "C" {
     pub fn catalogue_list(table: *const u64, words: usize, collection: u64, low: u64, high: u64, out: *mut u64, out_words: usize, pairs: *mut u64, more: *mut u64) -> u64;
     pub fn catalogue_check(table: *const u64, words: usize, report: *mut u64) -> u64;
     pub fn catalogue_insert(table: *mut u64, words: usize, collection: u64, orders: *mut u64, order_words: usize, dock: u64, key: u64, recording: u64, access: u64, stores: *mut u64, flushes: *mut u64, barriers: *mut u64) -> u64;
-    pub fn catalogue_insert_many(table: *mut u64, words: usize, collection: u64, orders: *mut u64, order_words: usize, dock: u64, pairs: *const u64, pair_words: usize, taken: *mut u64, stores: *mut u64, flushes: *mut u64, barriers: *mut u64) -> u64;
+    pub fn catalogue_insert_many(table: *mut u64, words: usize, collection: u64, orders: *mut u64, order_words: usize, dock: u64, pairs: *const u64, pair_words: usize, taken: *mut u64, stop: *mut u64, stores: *mut u64, flushes: *mut u64, barriers: *mut u64) -> u64;
     pub fn catalogue_delete(table: *mut u64, words: usize, collection: u64, orders: *mut u64, order_words: usize, dock: u64, key: u64, stores: *mut u64, flushes: *mut u64, barriers: *mut u64) -> u64;
     pub fn catalogue_set_class(table: *mut u64, words: usize, collection: u64, orders: *mut u64, order_words: usize, dock: u64, key: u64, access: u64, stores: *mut u64, flushes: *mut u64, barriers: *mut u64) -> u64;
     pub fn catalogue_repair(table: *mut u64, words: usize, orders: *mut u64, order_words: usize, dock: u64, stores: *mut u64, flushes: *mut u64, barriers: *mut u64) -> u64;

@@ -15,7 +15,15 @@ use std::collections::BTreeSet;
 struct Batch {
     wrote: Wrote,
     taken: Option<u64>,
+    stop: Option<u64>,
     parts: Vec<usize>,
+}
+
+impl Batch {
+    /// The number that refused a pair, the first or a later one; 0 for none.
+    fn stopped_by(&self) -> u64 {
+        self.stop.unwrap_or(self.wrote.number)
+    }
 }
 
 /// The words that a single call needs of its list.
@@ -45,21 +53,23 @@ fn one_by_one(t: &[u64], n: u64, list: &[u64], pairs: &[u64], mut call: impl FnM
             *sum += count.expect("a count");
         }
     }
+    // Refused is a batch whose first pair is; one that stops later returns 0 and puts the number into a word.
     let put = number == 0 || !parts.is_empty();
     let counts = sums.map(|n| put.then_some(n));
-    Batch { wrote: Wrote { number, counts, table, list: words }, taken: put.then_some(parts.len() as u64), parts }
+    let wrote = Wrote { number: if put { 0 } else { number }, counts, table, list: words };
+    Batch { wrote, taken: put.then_some(parts.len() as u64), stop: put.then_some(number), parts }
 }
 
 /// A batch is what the single calls are, the library's and the reference's.
 fn same_batch(t: &[u64], n: u64, list: &[u64], dock: u64, pairs: &[u64], seed: u64) -> Batch {
-    let (got, taken) = calls::insert_many(t, n, list, dock, pairs);
+    let (got, taken, stop) = calls::insert_many(t, n, list, dock, pairs);
     let ours = one_by_one(t, n, list, pairs, |t, list, call| called(t, list, dock, call));
     let theirs = one_by_one(t, n, list, pairs, |t, list, call| wanted(t, list, dock, write(t, list.len(), dock, call)).0);
     for (want, whose) in [(&ours, "the single calls"), (&theirs, "the reference")] {
-        expect(got == want.wrote && taken == want.taken, seed, t, || {
+        expect(got == want.wrote && taken == want.taken && stop == want.stop, seed, t, || {
             format!(
-                "{} pairs {:?} into collection {n} for dock {dock} with {} words: {whose} give {} {:?} {:?}, the batch {} {:?} {:?}; same table {}, same list {}",
-                pairs.len() / 2, &pairs[..pairs.len().min(60)], list.len(), want.wrote.number, want.taken, want.wrote.counts, got.number, taken, got.counts,
+                "{} pairs {:?} into collection {n} for dock {dock} with {} words: {whose} give {} {:?} {:?} {:?}, the batch {} {:?} {:?} {:?}; same table {}, same list {}",
+                pairs.len() / 2, &pairs[..pairs.len().min(60)], list.len(), want.wrote.number, want.taken, want.stop, want.wrote.counts, got.number, taken, stop, got.counts,
                 got.table == want.wrote.table, got.list == want.wrote.list
             )
         });
@@ -138,8 +148,8 @@ fn too_high(random: &mut Random, seed: u64) -> u64 {
     let floors: Vec<tower::Floor> = (0..16).map(|_| tower::Floor { slots: 11, place: random.below(11) as usize }).collect();
     let top = tower::tower(&floors, 40, random);
     let first = same_batch(&top.t, 1, &vec![7; 20_000], random.below(2), &[top.key, some_pointer(random)], seed);
-    expect(first.wrote.number == 11, seed, &[], || format!("a full path to level 15: {}", first.wrote.number));
-    first.wrote.number
+    expect(first.stopped_by() == 11, seed, &[], || format!("a full path to level 15: {}", first.stopped_by()));
+    first.stopped_by()
 }
 
 fn figures(random: &mut Random) {
@@ -205,9 +215,9 @@ fn main() {
         let (count, span) = (random.below(40), [60, 400, MARK][random.below(3) as usize]);
         let pairs = some_pairs(count, span, random);
         let batch = same_batch(&t, n, &list, dock, &pairs, seed);
-        *numbers.entry(batch.wrote.number).or_default() += 1;
+        *numbers.entry(batch.stopped_by()).or_default() += 1;
         taken += batch.parts.len() as u64;
-        after_some += (batch.wrote.number != 0 && !batch.parts.is_empty()) as u64;
+        after_some += (batch.stopped_by() != 0 && !batch.parts.is_empty()) as u64;
         if batch.parts.is_empty() {
             continue;
         }

@@ -190,21 +190,21 @@ pub fn insert(t: &[u64], collection: u64, list: &[u64], dock: u64, key: u64, rec
     wrote(t, list, |a, b, s, f, r| unsafe { catalogue_insert(a, t.len(), collection, b, list.len(), dock, key, recording, access, s, f, r) })
 }
 
-/// What many insertions left: the write, and the pairs taken where the count was put.
-pub fn insert_many(t: &[u64], collection: u64, list: &[u64], dock: u64, pairs: &[u64]) -> (Wrote, Option<u64>) {
-    let (mut lent, mut taken) = (Lent::new(pairs), Word::new());
-    let (p, n) = (lent.pointer(), taken.pointer());
-    let after = wrote(t, list, |a, b, s, f, r| unsafe { catalogue_insert_many(a, t.len(), collection, b, list.len(), dock, p, pairs.len(), n, s, f, r) });
+/// What many insertions left: the write, and the pairs taken and the number that stopped them, each where it was put.
+pub fn insert_many(t: &[u64], collection: u64, list: &[u64], dock: u64, pairs: &[u64]) -> (Wrote, Option<u64>, Option<u64>) {
+    let (mut lent, mut taken, mut stop) = (Lent::new(pairs), Word::new(), Word::new());
+    let (p, n, e) = (lent.pointer(), taken.pointer(), stop.pointer());
+    let after = wrote(t, list, |a, b, s, f, r| unsafe { catalogue_insert_many(a, t.len(), collection, b, list.len(), dock, p, pairs.len(), n, e, s, f, r) });
     assert!(lent.back() == pairs, "a batch wrote to its pairs");
-    (after, taken.put())
+    (after, taken.put(), stop.put())
 }
 
-/// The time that one takes, on these slices.
+/// The pairs taken, the number that stopped them or refused the first, and the time that it takes, on these slices.
 pub fn insert_many_takes(t: &mut [u64], list: &mut [u64], pairs: &[u64]) -> (u64, u64, std::time::Duration) {
-    let [mut taken, mut stores, mut flushes, mut barriers] = [0; 4];
+    let [mut taken, mut stop, mut stores, mut flushes, mut barriers] = [0; 5];
     let begun = std::time::Instant::now();
-    let n = unsafe { catalogue_insert_many(t.as_mut_ptr(), t.len(), 1, list.as_mut_ptr(), list.len(), 0, pairs.as_ptr(), pairs.len(), &mut taken, &mut stores, &mut flushes, &mut barriers) };
-    (n, taken, begun.elapsed())
+    let n = unsafe { catalogue_insert_many(t.as_mut_ptr(), t.len(), 1, list.as_mut_ptr(), list.len(), 0, pairs.as_ptr(), pairs.len(), &mut taken, &mut stop, &mut stores, &mut flushes, &mut barriers) };
+    (if n == 0 { stop } else { n }, taken, begun.elapsed())
 }
 
 pub fn delete(t: &[u64], collection: u64, list: &[u64], dock: u64, key: u64) -> Wrote {

@@ -65,27 +65,42 @@ puts-zero n k e = rw (eq-eqb n 0 e)
 pub puts-some : (n k : ℕ) → (n ≡ 0 → ⊥) → ltb 0 k ≡ (eqb n 0 || ltb 0 k)
 puts-some n k z = rw (ne-eqb n 0 z)
 
--- what a batch's answer leaves in the lent words
-pub has-summed : (x : Batch) (b : Bool) {number : ℕ} (taken stores flushes barriers : ℕ) → b ≡ puts x → number ≡ x .number → not b ≡ true → Summed x number taken taken stores stores flushes flushes barriers barriers
-has-summed x b taken stores flushes barriers e n z =
+-- what a batch's answer leaves in the lent words: stopped before its first pair, and else
+pub has-summed : (x : Batch) (b : Bool) {number : ℕ} (taken stop stores flushes barriers : ℕ) → b ≡ puts x → number ≡ x .number → not b ≡ true
+    → Summed x number taken taken stop stop stores stores flushes flushes barriers barriers
+has-summed x b taken stop stores flushes barriers e n z =
     let q : puts x ≡ false = sym e ∙ not-iff b .0 z in
     let kept : (new old : ℕ) → old ≡ cond (puts x) new old = λ new old. rw q in
-    record { number-is = n; taken-are = kept (x .taken) taken; stores-are = kept (x .stores) stores; flushes-are = kept (x .flushes) flushes; barriers-are = kept (x .barriers) barriers }
+    record {
+      number-is = n ∙ kept 0 (x .number);
+      taken-are = kept (x .taken) taken;
+      stop-is = kept (x .number) stop;
+      stores-are = kept (x .stores) stores;
+      flushes-are = kept (x .flushes) flushes;
+      barriers-are = kept (x .barriers) barriers;
+    }
 
-pub has-sums : (x : Batch) (b : Bool) {number : ℕ} (taken stores flushes barriers : ℕ) → b ≡ puts x → number ≡ x .number → not b ≡ false
-    → Summed x number taken (x .taken) stores (x .stores) flushes (x .flushes) barriers (x .barriers)
-has-sums x b taken stores flushes barriers e n z =
+pub has-sums : (x : Batch) (b : Bool) {number : ℕ} (taken stop stores flushes barriers : ℕ) → b ≡ puts x → number ≡ x .number → not b ≡ false
+    → Summed x 0 taken (x .taken) stop number stores (x .stores) flushes (x .flushes) barriers (x .barriers)
+has-sums x b taken stop stores flushes barriers e n z =
     let q : puts x ≡ true = sym e ∙ not-false-iff b .0 z in
     let put : (new old : ℕ) → new ≡ cond (puts x) new old = λ new old. rw q in
-    record { number-is = n; taken-are = put (x .taken) taken; stores-are = put (x .stores) stores; flushes-are = put (x .flushes) flushes; barriers-are = put (x .barriers) barriers }
-
-pub has-many : (n : ℕ) (pairs t lent : Words) (dock : ℕ) {t′ lent′ : Words} {a : Batch} {number taken taken′ stores stores′ flushes flushes′ barriers barriers′ : ℕ}
-    → (a ≡ batch n dock (slotsOf pairs) lent t .answer) × ((t′ ≡ batch n dock (slotsOf pairs) lent t .table) × (lent′ ≡ batch n dock (slotsOf pairs) lent t .list))
-    → Summed a number taken taken′ stores stores′ flushes flushes′ barriers barriers′
-    → WroteMany n pairs number t t′ lent lent′ dock taken taken′ stores stores′ flushes flushes′ barriers barriers′
-has-many n pairs t lent dock {number = number} {taken} {taken′} {stores} {stores′} {flushes} {flushes′} {barriers} {barriers′} h k =
     record {
-      answer-is = subst (λ (z : Batch). Summed z number taken taken′ stores stores′ flushes flushes′ barriers barriers′) (h .0) k;
+      number-is = put 0 (x .number);
+      taken-are = put (x .taken) taken;
+      stop-is = n ∙ put (x .number) stop;
+      stores-are = put (x .stores) stores;
+      flushes-are = put (x .flushes) flushes;
+      barriers-are = put (x .barriers) barriers;
+    }
+
+pub has-many : (n : ℕ) (pairs t lent : Words) (dock : ℕ) {t′ lent′ : Words} {a : Batch} {number taken taken′ stop stop′ stores stores′ flushes flushes′ barriers barriers′ : ℕ}
+    → (a ≡ batch n dock (slotsOf pairs) lent t .answer) × ((t′ ≡ batch n dock (slotsOf pairs) lent t .table) × (lent′ ≡ batch n dock (slotsOf pairs) lent t .list))
+    → Summed a number taken taken′ stop stop′ stores stores′ flushes flushes′ barriers barriers′
+    → WroteMany n pairs number t t′ lent lent′ dock taken taken′ stop stop′ stores stores′ flushes flushes′ barriers barriers′
+has-many n pairs t lent dock {number = number} {taken} {taken′} {stop} {stop′} {stores} {stores′} {flushes} {flushes′} {barriers} {barriers′} h k =
+    record {
+      answer-is = subst (λ (z : Batch). Summed z number taken taken′ stop stop′ stores stores′ flushes flushes′ barriers barriers′) (h .0) k;
       table-is = h .1 .0;
       list-is = h .1 .1;
     }

@@ -55,21 +55,23 @@ pub record Wrote (x : Call) (number : ℕ) (t t′ lent lent′ : Words) (dock s
   pub table-is : t′ ≡ tableAfter x (length lent) dock t
   pub list-is : lent′ ≡ listAfter x lent dock t
 
--- a batch's counts are put where a pair was taken, or none was refused; else the lent words stay
+-- A batch that stops before its first pair is refused, and the lent words stay; else it returns 0, and the number that stopped it, 0 if all
+-- pairs were taken, goes into a lent word with its counts.
 abbrev pub puts : Batch → Bool
 puts x = eqb (x .number) 0 || ltb 0 (x .taken)
 
-pub record Summed (x : Batch) (number taken taken′ stores stores′ flushes flushes′ barriers barriers′ : ℕ) : Type 0 where
-  pub number-is : number ≡ x .number
+pub record Summed (x : Batch) (number taken taken′ stop stop′ stores stores′ flushes flushes′ barriers barriers′ : ℕ) : Type 0 where
+  pub number-is : number ≡ cond (puts x) 0 (x .number)
   pub taken-are : taken′ ≡ cond (puts x) (x .taken) taken
+  pub stop-is : stop′ ≡ cond (puts x) (x .number) stop
   pub stores-are : stores′ ≡ cond (puts x) (x .stores) stores
   pub flushes-are : flushes′ ≡ cond (puts x) (x .flushes) flushes
   pub barriers-are : barriers′ ≡ cond (puts x) (x .barriers) barriers
 
 -- many insertions into collection n
 pub record WroteMany (n : ℕ) (pairs : Words) (number : ℕ) (t t′ lent lent′ : Words)
-    (dock taken taken′ stores stores′ flushes flushes′ barriers barriers′ : ℕ) : Type 0 where
-  pub answer-is : Summed (batch n dock (slotsOf pairs) lent t .answer) number taken taken′ stores stores′ flushes flushes′ barriers barriers′
+    (dock taken taken′ stop stop′ stores stores′ flushes flushes′ barriers barriers′ : ℕ) : Type 0 where
+  pub answer-is : Summed (batch n dock (slotsOf pairs) lent t .answer) number taken taken′ stop stop′ stores stores′ flushes flushes′ barriers barriers′
   pub table-is : t′ ≡ batch n dock (slotsOf pairs) lent t .table
   pub list-is : lent′ ≡ batch n dock (slotsOf pairs) lent t .list
 

@@ -26,7 +26,7 @@ pub extern "C" fn catalogue_insert(
     answers::put_counts(answer, stores, flushes, barriers)
 }
 
-// Whether a batch's counts are put into the lent words: a pair was taken, or none was refused.
+// Whether a batch does its work: a pair was taken, or none was refused.
 fn puts(answer: Batch) -> bool
     ensures { λ r. ⌜ r ≡ puts answer ⌝ }
 {
@@ -36,28 +36,31 @@ fn puts(answer: Batch) -> bool
     0 < answer.taken
 }
 
-// A batch's number, and its counts into the lent words.
+// 0 with a batch's counts and the number that stopped it in the lent words, or the number that refused its first pair.
 fn put_sums(
     answer: Batch,
     taken: &mut u64,
+    stop: &mut u64,
     stores: &mut u64,
     flushes: &mut u64,
     barriers: &mut u64,
 ) -> u64
-    ensures { λ r. ⌜ Summed answer r (now (taken .entry)) (now (taken .exit)) (now (stores .entry)) (now (stores .exit))
-        (now (flushes .entry)) (now (flushes .exit)) (now (barriers .entry)) (now (barriers .exit)) ⌝ }
+    ensures { λ r. ⌜ Summed answer r (now (taken .entry)) (now (taken .exit)) (now (stop .entry)) (now (stop .exit))
+        (now (stores .entry)) (now (stores .exit)) (now (flushes .entry)) (now (flushes .exit)) (now (barriers .entry)) (now (barriers .exit)) ⌝ }
 {
+    let number = answer.number as u64;
     if !puts(answer) {
-        return answer.number as u64;
+        return number;
     }
     *taken = answer.taken;
+    *stop = number;
     *stores = answer.stores;
     *flushes = answer.flushes;
     *barriers = answer.barriers;
-    answer.number as u64
+    0
 }
 
-// 0 where all pairs were taken, or the number that stopped them; with the counts where one was taken or 0 is returned.
+// 0 with the counts and the number that stopped the batch, 0 if all pairs were taken; or the number that refused its first pair.
 #[no_mangle]
 pub extern "C" fn catalogue_insert_many(
     table: &mut [u64],
@@ -66,16 +69,17 @@ pub extern "C" fn catalogue_insert_many(
     dock: u64,
     pairs: &[u64],
     taken: &mut u64,
+    stop: &mut u64,
     stores: &mut u64,
     flushes: &mut u64,
     barriers: &mut u64,
 ) -> u64
     ensures { λ r. ⌜ WroteMany collection (now (pairs .entry)) r (now (table .entry)) (now (table .exit)) (now (orders .entry)) (now (orders .exit))
-        dock (now (taken .entry)) (now (taken .exit)) (now (stores .entry)) (now (stores .exit)) (now (flushes .entry)) (now (flushes .exit))
-        (now (barriers .entry)) (now (barriers .exit)) ⌝ }
+        dock (now (taken .entry)) (now (taken .exit)) (now (stop .entry)) (now (stop .exit)) (now (stores .entry)) (now (stores .exit))
+        (now (flushes .entry)) (now (flushes .exit)) (now (barriers .entry)) (now (barriers .exit)) ⌝ }
 {
     let answer = insert_many::insert_many(table, orders, dock, collection, pairs);
-    put_sums(answer, taken, stores, flushes, barriers)
+    put_sums(answer, taken, stop, stores, flushes, barriers)
 }
 
 #[no_mangle]

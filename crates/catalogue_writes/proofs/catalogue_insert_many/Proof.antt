@@ -6,7 +6,7 @@ use Rattle.catalogue_writes.proofs.catalogue_insert_many.Tie as tie
 
 -- the call, from its answer's counts
 abbrev called : tie.After-put-sums → tie.After-insert-many
-called c = c .before .before .before .before .before .before .before .before .before
+called c = c .before .before .before .before .before .before .before .before .before .before
 
 insert-many-requires : tie.Need-insert-many-requires
 insert-many-requires c κs = search needs
