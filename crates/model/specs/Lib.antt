@@ -13,6 +13,7 @@ pub mod Cuts
 pub mod Shifts
 pub mod Writes
 pub mod Refusals
+pub mod Demand2
 pub mod Ledger
 pub mod Demand3
 pub mod Printer

@@ -1,53 +1,25 @@
 -- A listing of a map: the first of its pairs in the range, rising, as many as fit; and whether there are more.
 use mathlib.Core.Path.{_≡_, refl, ap, sym, _∙_}
 use mathlib.Core.Bool.{Bool, true, false, _&&_}
-use mathlib.Core.Logic.{_↔_, ⊎-elim}
-use mathlib.Core.List.{List, [], _∷_, _++_, List·Memᴰ, List·Memᴰ·head, List·Memᴰ·not-nil, List·Memᴰ·append-cases, Memᴰ·append-right}
+use mathlib.Core.Logic.{_↔_, _⊎_, inl, inr, ⊎-elim}
+use mathlib.Core.List.{List, [], _∷_, _++_, List·Memᴰ, List·Memᴰ·head, List·Memᴰ·not-nil, List·Memᴰ·append-cases, Memᴰ·append-left, Memᴰ·append-right}
 use Prim.Native.Nat.{ℕ, _+_, _*_, _/_, _≤_, _<_}
 use native.Mathlib.Omega.{arith}
 use native.Mathlib.Nat.{div-mul-le-self}
 use lib.Dec.{leb, ltb}
-use lib.ListN.{length, take, drop, length-append, length-take, length-drop, take-append-drop}
-use lib.Seq.{take-at, drop-at, take-nil}
+use lib.ListN.{length, take, drop, length-append, length-take, take-append-drop}
+use lib.Seq.{take-nil}
 use borrow.Author.Tests.{ltb-true, lt-ltb, leb-true, lt-leb}
 use Rattle.model.specs.declared.Listed.the-variants.{Pairs}
 use Rattle.model.specs.Table.{Words}
 use Rattle.model.specs.Slots.{Slot}
 use Rattle.model.specs.SoundTest.{rising}
-use Rattle.model.specs.Sound.{Rise}
-use Rattle.model.specs.Listing.{inRangeOf, fitting, pairWords, listed, listedWords}
-use Rattle.list_laws.proofs.Tools.{decode, Each, Each-map}
+use Rattle.model.specs.Demand2.{Listing}
+use Rattle.model.specs.Listing.{inRangeOf, pairWords, listed, listedWords}
+use Rattle.list_laws.proofs.Tools.{decode, Each}
 use Rattle.list_laws.proofs.Members.{each-mem, mem-each}
 use Rattle.list_laws.proofs.Filters.{mem-filter, filter-none}
 use Rattle.tree_laws.proofs.Rising.{rising-filter, rise-from-rising, Apart, rising-apart}
-
--- the pairs written: the first of those in the range, as many as fit whole
-abbrev pub written : List Slot → (low high : ℕ) → Words → List Slot
-written m low high out = fitting (length out) (inRangeOf low high m)
-
--- whether the map has more in the range
-abbrev pub more : List Slot → (low high : ℕ) → Words → Bool
-more m low high out = ltb (length (written m low high out)) (length (inRangeOf low high m))
-
--- s is a pair of the map whose key is from low to high
-abbrev pub Listable : List Slot → (low high : ℕ) → Slot → Type 0
-Listable m low high s = List·Memᴰ s m × (low ≤ s .key) × (s .key ≤ high)
-
-pub record Listing (m : List Slot) (low high : ℕ) (out : Words) : Type 0 where
-  pub answer : listed (inRangeOf low high m) (length out) ≡ Pairs (length (written m low high out)) (more m low high out)
-  pub slice : listedWords (inRangeOf low high m) out ≡ pairWords (written m low high out) ++ drop (2 * length (written m low high out)) out
-  -- the pairs in the range, of which the first are written, rising strictly
-  pub in-range : (s : Slot) → List·Memᴰ s (inRangeOf low high m) ↔ Listable m low high s
-  pub first : written m low high out ≡ take (length out / 2) (inRangeOf low high m)
-  pub rises : Rise (written m low high out)
-  -- more is true exactly if the map has a further pair in the range
-  pub further : (more m low high out ≡ true) ↔ ((s : Slot) × Listable m low high s × Each (λ (u : Slot). u .key < s .key) (written m low high out))
-  -- the slice keeps its length, and the words after the pairs stay
-  pub length-stays : length (listedWords (inRangeOf low high m) out) ≡ length out
-  pub words-stay : drop (2 * length (written m low high out)) (listedWords (inRangeOf low high m) out) ≡ drop (2 * length (written m low high out)) out
-  pub words-written : take (2 * length (written m low high out)) (listedWords (inRangeOf low high m) out) ≡ pairWords (written m low high out)
-  -- lowest above highest gives none and no more
-  pub none : high < low → (listed (inRangeOf low high m) (length out) ≡ Pairs 0 false) × (listedWords (inRangeOf low high m) out ≡ out)
 
 pub length-pairs : (ss : List Slot) → length (pairWords ss) ≡ 2 * length ss
 unfolding pairWords
@@ -68,32 +40,44 @@ range-none low high ps h = filter-none (λ (s : Slot). leb low (s .key) && leb (
     go k true c = rw c (lt-leb k high (omega (arith, leb-true low k c)))
     go k false c = rw c
 
--- the first n of rising pairs are not all exactly if one is above them all
-further-iff : (n : ℕ) (ps : List Slot) → rising 0 ps ≡ true → (ltb (length (take n ps)) (length ps) ≡ true) ↔ ((s : Slot) × List·Memᴰ s ps × Each (λ (u : Slot). u .key < s .key) (take n ps))
-further-iff n ps r = (λ h. from (drop n ps) refl (ltb-true _ _ h), λ u. lt-ltb _ _ (to (u .0) (u .1) (u .2)))
-  where
-    joined : take n ps ++ drop n ps ≡ ps
-    joined = take-append-drop n ps
+take-mem : (n : ℕ) (ps : List Slot) (s : Slot) → List·Memᴰ s (take n ps) → List·Memᴰ s ps
+take-mem n ps s m = rw (take-append-drop n ps) at (Memᴰ·append-left {s = take n ps} (drop n ps) m)
 
-    parts : Apart 0 (take n ps) (drop n ps)
-    parts = rising-apart 0 (take n ps) (drop n ps) (ap (rising 0) joined ∙ r)
+-- the first n of rising pairs are below all others
+module _ (n : ℕ) (ps : List Slot) (r : rising 0 ps ≡ true) where
+  joined : take n ps ++ drop n ps ≡ ps
+  joined = take-append-drop n ps
 
-    longer : length (take n ps) + length (drop n ps) ≡ length ps
-    longer = sym (length-append (take n ps) (drop n ps)) ∙ ap length joined
+  parts : Apart 0 (take n ps) (drop n ps)
+  parts = rising-apart 0 (take n ps) (drop n ps) (ap (rising 0) joined ∙ r)
 
-    from : (l : List Slot) → drop n ps ≡ l → length (take n ps) < length ps → (s : Slot) × List·Memᴰ s ps × Each (λ (u : Slot). u .key < s .key) (take n ps)
-    from [] e h = absurd (omega (arith, longer, ap length e))
-    from (s ∷ l) e h =
-        let b : Each (λ (u : Slot). Each (λ (w : Slot). u .key < w .key) (s ∷ l)) (take n ps) = rw e at (parts .between) in
-        let q : take n ps ++ s ∷ l ≡ ps = ap (λ (x : List Slot). take n ps ++ x) (sym e) ∙ joined in
-        (s, rw q at (Memᴰ·append-right (take n ps) {t = s ∷ l} (List·Memᴰ·head refl)), Each-map (λ (u : Slot). Each (λ (w : Slot). u .key < w .key) (s ∷ l)) (λ (u : Slot). u .key < s .key) (take n ps) (λ u x. x .0) b)
+  longer : length (take n ps) + length (drop n ps) ≡ length ps
+  longer = sym (length-append (take n ps) (drop n ps)) ∙ ap length joined
 
-    some : (l : List Slot) (s : Slot) → List·Memᴰ s l → 0 < length l
-    some [] s m = absurd (List·Memᴰ·not-nil m)
-    some (x ∷ l) s m = omega arith
+  in-drop : (s : Slot) → List·Memᴰ s (drop n ps) → (u : Slot) → List·Memᴰ u (take n ps) → u .key < s .key
+  in-drop s m u l =
+      each-mem (λ (w : Slot). u .key < w .key) (each-mem (λ (x : Slot). Each (λ (w : Slot). x .key < w .key) (drop n ps)) (parts .between) l) m
 
-    to : (s : Slot) → List·Memᴰ s ps → Each (λ (u : Slot). u .key < s .key) (take n ps) → length (take n ps) < length ps
-    to s m h = ⊎-elim (λ a. absurd (omega (arith, each-mem (λ (u : Slot). u .key < s .key) h a))) (λ (b : List·Memᴰ s (drop n ps)). omega (arith, some (drop n ps) s b, longer)) (List·Memᴰ·append-cases {a = s} (take n ps) (rw joined m))
+  first-or-above : (s : Slot) → List·Memᴰ s ps → List·Memᴰ s (take n ps) ⊎ ((u : Slot) → List·Memᴰ u (take n ps) → u .key < s .key)
+  first-or-above s m = ⊎-elim (λ a. inl a) (λ (b : List·Memᴰ s (drop n ps)). inr (in-drop s b)) (List·Memᴰ·append-cases {a = s} (take n ps) (rw joined m))
+
+  -- they are not all exactly if one is not among them
+  further-iff : (ltb (length (take n ps)) (length ps) ≡ true) ↔ ((s : Slot) × List·Memᴰ s ps × (List·Memᴰ s (take n ps) → ⊥))
+  further-iff = (λ h. from (drop n ps) refl (ltb-true _ _ h), λ u. lt-ltb _ _ (to (u .0) (u .1) (u .2)))
+    where
+      from : (l : List Slot) → drop n ps ≡ l → length (take n ps) < length ps → (s : Slot) × List·Memᴰ s ps × (List·Memᴰ s (take n ps) → ⊥)
+      from [] e h = absurd (omega (arith, longer, ap length e))
+      from (s ∷ l) e h =
+          let q : take n ps ++ s ∷ l ≡ ps = ap (λ (x : List Slot). take n ps ++ x) (sym e) ∙ joined in
+          let m : List·Memᴰ s (drop n ps) = rw e (List·Memᴰ·head refl) in
+          (s, rw q at (Memᴰ·append-right (take n ps) {t = s ∷ l} (List·Memᴰ·head refl)), λ a. let z = in-drop s m s a in omega (arith, z))
+
+      some : (l : List Slot) (s : Slot) → List·Memᴰ s l → 0 < length l
+      some [] s m = absurd (List·Memᴰ·not-nil m)
+      some (x ∷ l) s m = omega arith
+
+      to : (s : Slot) → List·Memᴰ s ps → (List·Memᴰ s (take n ps) → ⊥) → length (take n ps) < length ps
+      to s m h = ⊎-elim (λ a. absurd (h a)) (λ (b : List·Memᴰ s (drop n ps)). omega (arith, some (drop n ps) s b, longer)) (List·Memᴰ·append-cases {a = s} (take n ps) (rw joined m))
 
 no-pairs : (n : ℕ) → listed [] n ≡ Pairs 0 false
 unfolding listed
@@ -103,25 +87,24 @@ no-words : (out : Words) → listedWords [] out ≡ out
 unfolding listedWords pairWords
 no-words out = rw (take-nil {A = Slot} (length out / 2)) refl
 
-pub list-law : (m : List Slot) (low high : ℕ) (out : Words) → rising 0 m ≡ true → Listing m low high out
+pub list-law : (m : List Slot) (low high : ℕ) (out : Words) → rising 0 m ≡ true → Listing m low high out (listed (inRangeOf low high m) (length out)) (listedWords (inRangeOf low high m) out)
 unfolding listed listedWords
 list-law m low high out h =
     let ps = inRangeOf low high m in
-    let w = written m low high out in
+    let n = length out / 2 in
+    let w = take n ps in
     let r : rising 0 ps ≡ true = unfold inRangeOf in rising-filter 0 (λ (s : Slot). leb low (s .key) && leb (s .key) high) m h in
-    let answer : listed (inRangeOf low high m) (length out) ≡ Pairs (length w) (more m low high out) = refl in
-    let slice : listedWords (inRangeOf low high m) out ≡ pairWords w ++ drop (2 * length w) out = refl in
-    let fits : 2 * length w ≤ length out = omega (arith, length-take (length out / 2) ps, div-mul-le-self (length out) 2) in
-    let f = further-iff (length out / 2) ps r in
+    let f = further-iff n ps r in
     record {
-      answer = answer;
-      slice = slice;
-      in-range = λ s. mem-range low high s m;
-      first = refl;
-      rises = rise-from-rising 0 w (rising-apart 0 w (drop (length out / 2) ps) (ap (rising 0) (take-append-drop (length out / 2) ps) ∙ r) .left);
+      pairs = w;
+      more = ltb (length w) (length ps);
+      answers = refl;
+      in-range = λ s l. mem-range low high s m .0 (take-mem n ps s l);
+      rises = rise-from-rising 0 w (parts n ps r .left);
+      lowest = λ s l. first-or-above n ps r s (mem-range low high s m .1 l);
+      fits = omega (arith, length-take n ps, div-mul-le-self (length out) 2);
+      full = λ e. let l = ltb-true (length w) (length ps) e in omega (arith, length-take n ps, l);
       further = (λ e. (let u = f .0 e in (u .0, mem-range low high (u .0) m .0 (u .1), u .2)), λ u. f .1 (u .0, mem-range low high (u .0) m .1 (u .1), u .2));
-      length-stays = ap length slice ∙ length-append (pairWords w) (drop (2 * length w) out) ∙ omega (arith, length-pairs w, length-drop (2 * length w) out);
-      words-stay = ap (drop (2 * length w)) slice ∙ drop-at (pairWords w) (drop (2 * length w) out) (2 * length w) (length-pairs w);
-      words-written = ap (take (2 * length w)) slice ∙ take-at (pairWords w) (drop (2 * length w) out) (2 * length w) (length-pairs w);
-      none = λ l. (let e = range-none low high m l in (answer ∙ ap (λ (x : List Slot). listed x (length out)) e ∙ no-pairs (length out), slice ∙ ap (λ (x : List Slot). listedWords x out) e ∙ no-words out));
+      writes = refl;
+      none = λ l. (let e = range-none low high m l in (ap (λ (x : List Slot). listed x (length out)) e ∙ no-pairs (length out), ap (λ (x : List Slot). listedWords x out) e ∙ no-words out));
     }

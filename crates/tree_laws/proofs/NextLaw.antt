@@ -12,10 +12,11 @@ use Rattle.model.specs.declared.Answer.the-variants.{Absent}
 use Rattle.model.specs.declared.Next.{Next}
 use Rattle.model.specs.declared.Next.the-variants.{Key, Nothing}
 use Rattle.model.specs.Table.{inRange}
-use Rattle.model.specs.Slots.{Slot, slot, View, height}
+use Rattle.model.specs.Slots.{Slot, View, height}
 use Rattle.model.specs.Search.{onLevel, passes, kept, firstAbove, nextFrom}
 use Rattle.model.specs.Reached.{flat, children, leavesFrom, reachedFrom, leaves, mapping}
 use Rattle.model.specs.SoundTest.{rising}
+use Rattle.model.specs.Demand2.{IsNext}
 use Rattle.list_laws.proofs.Tools.{decode, or-right, Each-map, above-here, above-past, above-l, absent-append}
 use Rattle.list_laws.proofs.Members.{each-mem}
 use Rattle.tree_laws.proofs.Rows.{Good, At, Row, not-zero, sib-facts, linked-cons}
@@ -64,11 +65,6 @@ next-law v k x o m f =
     ∙ ap Absent (sym (ap (firstAbove k) (p .parts) ∙ above-l k (flat (kept v) (p .left)) (flat (kept v) (x ∷ p .right)) low))
 
 -- ---- the least one
-
--- the next key up from k in a list of pairs: it is in it and above k, and none is between; or none is above k
-abbrev pub IsNext : ℕ → List Slot → Next → Type 0
-IsNext k ps (Key j) = ((r : ℕ) × List·Memᴰ (slot j r) ps) × (k < j) × ((s : Slot) → List·Memᴰ s ps → k < s .key → j ≤ s .key)
-IsNext k ps Nothing = (s : Slot) → List·Memᴰ s ps → s .key ≤ k
 
 -- a pair in front that is not above k
 next-past : (k : ℕ) (x : Next) (s : Slot) (ps : List Slot) → s .key ≤ k → IsNext k ps x → IsNext k (s ∷ ps) x

@@ -14,6 +14,7 @@ use Rattle.model.specs.Slots.{Slot, slot, recordingOf, classOf, recordingOk, cl
 use Rattle.model.specs.Search.{below, within, moved, down, locate, pathFrom, path, firstWith, firstAbove, nextFrom, answerOf, lookup, answerIn, searchView}
 use Rattle.model.specs.Reached.{flat, headOr, kept, named, nextChild, children, leavesFrom, reached, leaves, mapping}
 use Rattle.model.specs.SoundTest.{soundView}
+use Rattle.model.specs.Demand2.{IsNext}
 use Rattle.list_laws.proofs.Tools.{Each, Each-map, Each-flat, Misses, first-l, first-r, first-filter}
 use Rattle.list_laws.proofs.Members.{each-mem, each-index}
 use Rattle.tree_laws.proofs.Rows.{Good, At, Row, Inner, inners, linked-cons, fill-mem}
@@ -21,7 +22,7 @@ use Rattle.tree_laws.proofs.Cover.{cover, cover-in, cover-out, cover-ha
 use Rattle.tree_laws.proofs.Levels.{Orderly, sound-orderly, Level, level-lower, level-root, level-at, level-leaves, rowAt, row-below, row-reached, reached-row, row-tail, head-least}
 use Rattle.tree_laws.proofs.Rising.{found-iff, found-ok, absent-iff, lookup-answers}
 use Rattle.tree_laws.proofs.MapLaw.{map-rising, map-rises, leaf-part}
-use Rattle.tree_laws.proofs.NextLaw.{passes-good, next-law, IsNext, next-least}
+use Rattle.tree_laws.proofs.NextLaw.{passes-good, next-law, next-least}
 
 -- ---- one level
 

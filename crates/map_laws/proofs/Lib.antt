@@ -1,0 +1,3 @@
+-- Demand 2.
+pub mod Pairs
+pub mod Demand2
