@@ -1,55 +1,57 @@
--- Many insertions in one call, whole or cut: a batch is a history of single calls, so demand 3 holds of histories with batches.
+-- Many insertions in one call, whole or cut: a batch is the insertions of its first pairs, so demand 3 holds of histories with batches.
 use mathlib.Core.Path.{_≡_, refl, sym, ap, _∙_}
-use mathlib.Core.Logic.{_⊎_}
-use mathlib.Core.Bool.{Bool, true, false}
-use mathlib.Core.List.{List, [], _∷_, _++_, append-assoc}
-use mathlib.Core.Option.{none}
+use mathlib.Core.Logic.{_≢_}
+use mathlib.Core.Bool.{Bool, true, false, cond}
+use mathlib.Core.List.{List, [], _∷_, _++_, map, append-assoc}
+use mathlib.Core.Option.{Option, none, some, Option·map}
 use Prim.Native.Nat.{ℕ, zero, suc, _+_, _*_, _-_, _≤_, _<_}
 use native.Mathlib.Omega.{arith}
-use lib.Dec.{leb}
-use lib.ListN.{length, take, drop, length-append}
-use lib.Seq.{take-append-add, take-append-le, take-at, drop-at, drop-drop}
+use lib.Dec.{eqb, leb}
+use lib.ListN.{length, take, drop, length-append, length-drop}
+use lib.Seq.{take-length, take-append-add, take-append-le, take-at, drop-at, drop-drop}
 use borrow.Author.Tests.{leb-true, leb-false}
-use Rattle.model.specs.declared.Written.{Written}
-use Rattle.model.specs.declared.Written.the-variants.{Done, Refused}
-use Rattle.model.specs.Table.{Words, at, line}
-use Rattle.model.specs.Slots.{Slot}
-use Rattle.model.specs.Reached.{flat}
+use Rattle.model.specs.declared.Written.the-variants.{Done}
+use Rattle.model.specs.Table.{Words, at, line, nodes}
+use Rattle.model.specs.Slots.{Slot, recording, class, pointerOf}
+use Rattle.model.specs.Reached.{flat, Maps, mapsOf}
 use Rattle.model.specs.SoundTest.{sound}
-use Rattle.model.specs.Orders.{Store, Order, apply, carry, orders, barred, encode, listWith, storeCount, flushCount, barrierCount}
+use Rattle.model.specs.Sound.{Sound}
+use Rattle.model.specs.Orders.{Store, Order, apply, carry, orders, barred, encode, decode, listWith, storeCount, flushCount, barrierCount, allInside, carryNumber, carriedOut}
 use Rattle.model.specs.Cuts.{flushed, upToFlush, laterStores, FirstPart, Holds, Image, CutImage}
 use Rattle.model.specs.Judge.{AllFlushed}
 use Rattle.model.specs.Writes.{Call, storesOf}
-use Rattle.model.specs.Refusals.{refusal, ordersOf, written, tableAfter, listAfter}
-use Rattle.model.specs.Demand3.{Fate, whole, cut, Event, History, State, numberOf, step, runAll, FateMay, May, Kept}
-use Rattle.model.specs.Batch.{insertionOf, Batched, batch}
-use Rattle.cut_laws.proofs.Applying.{apply-agree, length-carry, carry-append, counts-length}
-use Rattle.cut_laws.proofs.Barriers.{barred-append, barred-nil}
+use Rattle.model.specs.Refusals.{refusal, unlessRefused, ordersOf, written, tableAfter, listAfter}
+use Rattle.model.specs.Ledger.{Ledger, enter, onMap}
+use Rattle.model.specs.Demand3.{Fate, whole, cut, Event, History, State, both, numberOf, step, runFrom, FateMay, MayFrom, ledgerFrom}
+use Rattle.model.specs.Batch.{insertionOf, Batched, stopped, behind, batch}
+use Rattle.model.specs.Batches.{batchAnswered, batchOrders, afterBatch, BatchMay, callsIn, AllAccepted, AllWhole, WholeBefore, FatesBy, PairsBy, Stops, StopsBy, Singles, enterAll, RightBatch, Batches}
+use Rattle.list_laws.proofs.Tools.{and-iff}
+use Rattle.list_laws.proofs.Recordings.{pointer-of}
+use Rattle.cut_laws.proofs.Applying.{apply-agree, length-apply, length-carry, carry-append, counts-length, storeCount-append, flushCount-append, barrierCount-append}
+use Rattle.cut_laws.proofs.Barriers.{barred-append, barred-nil, barred-inside}
 use Rattle.cut_laws.proofs.LastFlush.{upToFlush-nil, upToFlush-after, laterStores-after, upToFlush-before, laterStores-before, line-current}
 use Rattle.cut_laws.proofs.Docks.{barred-images, list-flushed, list-apply}
 use Rattle.cut_laws.proofs.Cuts.{image-at-none}
-use Rattle.cut_laws.proofs.Lent.{length-encode, encode-append, listWith-nil, carry-list-all}
-use Rattle.two_laws.proofs.MapsTwo.{accepted-steps}
+use Rattle.cut_laws.proofs.Lent.{length-encode, encode-append, listWith-nil, carry-list-all, header-length, orders-inside, read-back, listed-number, listed-carried}
+use Rattle.two_laws.proofs.MapsTwo.{Steps, accepted-steps}
 use Rattle.two_laws.proofs.SearchTwo.{sound-head}
 use Rattle.two_laws.proofs.SameTwo.{settled-sound}
-use Rattle.batch_laws.proofs.Folds.{batch-stops, batch-goes}
-use Rattle.crash_laws.proofs.Demand3.{both-sound, demand3}
+use Rattle.two_laws.proofs.LedgerTwo.{number-in-ledger}
+use Rattle.batch_laws.proofs.Folds.{batch-none, batch-stops, batch-goes}
+use Rattle.crash_laws.proofs.Demand3.{answered-all, listed-all, demand3-from, along}
 
 -- ---- the orders of a batch
 
 -- the stores of each pair that is taken
-unfoldable pub batchStores : (n dock : ℕ) → List Slot → (list t : Words) → List (List Store)
+batchStores : (n dock : ℕ) → List Slot → (list t : Words) → List (List Store)
 batchStores n dock [] list t = []
 batchStores n dock (s ∷ ss) list t =
     let x = insertionOf n s in
-    elim (written x (length list) dock t) [
-      | Done a b c ↦ storesOf x t ∷ batchStores n dock ss (drop (2 * (a + b + c)) (listAfter x list dock t)) (tableAfter x (length list) dock t)
-      | Refused m ↦ []
-    ]
+    unlessRefused (refusal x (length list) dock t) (storesOf x t ∷ batchStores n dock ss (drop (2 * length (ordersOf x dock t)) list) (apply (storesOf x t) t)) []
 
 -- the single calls' lists one after another
-abbrev pub batchOrders : (n dock : ℕ) → List Slot → (list t : Words) → List Order
-batchOrders n dock ss list t = barred dock (flat orders (batchStores n dock ss list t))
+abbrev allOrders : (n dock : ℕ) → List Slot → (list t : Words) → List Order
+allOrders n dock ss list t = barred dock (flat orders (batchStores n dock ss list t))
 
 -- ---- a list behind one that leaves no store unflushed
 
@@ -93,193 +95,96 @@ cut-within : (dock c : ℕ) (ss : List Store) (later : List Order) (t m : Words)
     → CutImage dock c t (barred dock (orders ss)) m
 cut-within dock c ss later t m h i = rw (ap (take c) (barred-append dock (orders ss) later) ∙ take-append-le c (barred dock (orders ss)) (barred dock later) h) at i
 
--- ---- events after a state, the latest first
-
-abbrev pub runFrom : State → History → State
-runFrom s [] = s
-runFrom s (e ∷ es) = step (runFrom s es) e
-
-abbrev pub MayFrom : State → History → Type 0
-MayFrom s [] = Unit {0}
-MayFrom s (e ∷ es) = MayFrom s es × (numberOf (runFrom s es) e ≡ 0 → FateMay (e .fate) (runFrom s es) e)
-
--- single calls take s to s′
-pub record Singles (s s′ : State) : Type 0 where
-  pub events : History
-  pub may : MayFrom s events
-  pub comes-to : runFrom s events ≡ s′
+-- ---- events one after another
 
 run-first : (s : State) (e : Event) (es : History) → runFrom s (es ++ (e ∷ [])) ≡ runFrom (step s e) es
+unfolding runFrom
 run-first s e [] = refl
 run-first s e (f ∷ es) = ap (λ (u : State). step u f) (run-first s e es)
 
 may-first : (s : State) (e : Event) (es : History) → (numberOf s e ≡ 0 → FateMay (e .fate) s e) → MayFrom (step s e) es → MayFrom s (es ++ (e ∷ []))
+unfolding runFrom MayFrom
 may-first s e [] p q = (tt, p)
 may-first s e (f ∷ es) p q = (may-first s e es p (q .0), rw (run-first s e es) (q .1))
 
-singles-first : (s : State) (e : Event) (s₁ s′ : State) → step s e ≡ s₁ → (numberOf s e ≡ 0 → FateMay (e .fate) s e) → Singles s₁ s′ → Singles s s′
-singles-first s e s₁ s′ q p u =
-    let v : Singles (step s e) s′ = rw q u in
-    record { events = v .events ++ (e ∷ []); may = may-first s e (v .events) p (v .may); comes-to = run-first s e (v .events) ∙ v .comes-to }
+accepted-first : (s : State) (dock : ℕ) (e : Event) (es : History) → (numberOf s e ≡ 0) × (e .dock ≡ dock) × (e .slice ≡ none) → AllAccepted (step s e) dock es
+    → AllAccepted s dock (es ++ (e ∷ []))
+unfolding runFrom
+accepted-first s dock e [] p q = (tt, p .0, p .1, p .2)
+accepted-first s dock e (f ∷ es) p q = (accepted-first s dock e es p (q .0), rw (run-first s e es) (q .1), q .2, q .3)
 
--- ---- a batch
+calls-first : (es : History) (e : Event) → callsIn (es ++ (e ∷ [])) ≡ e .call ∷ callsIn es
+calls-first [] e = refl
+calls-first (f ∷ es) e = ap (λ (xs : List Call). xs ++ (f .call ∷ [])) (calls-first es e)
 
--- memory and working copy are t
-abbrev pub both : Words → State
-both t = record { memory = t; working = t }
+all-first : (es : History) (e : Event) → AllWhole es → e .fate ≡ whole → AllWhole (es ++ (e ∷ []))
+all-first [] e a w = (tt, w)
+all-first (f ∷ es) e a w = (all-first es e (a .0) w, a .1)
+
+before-first : (es : History) (e : Event) → WholeBefore es → e .fate ≡ whole → WholeBefore (es ++ (e ∷ []))
+before-first [] e a w = tt
+before-first (f ∷ es) e a w = all-first es e a w
+
+fates-first : (f : Fate) (es : History) (e : Event) → FatesBy f es → e .fate ≡ whole → FatesBy f (es ++ (e ∷ []))
+fates-first whole es e a w = all-first es e a w
+fates-first (cut c m) es e a w = before-first es e a w
+
+pairs-first : (f : Fate) (pairs taken : ℕ) → PairsBy f pairs taken → PairsBy f (suc pairs) (1 + taken)
+pairs-first whole pairs taken e = omega (arith, e)
+pairs-first (cut c m) pairs taken l = omega (arith, l)
+
+run-join : (s : State) (es h : History) → runFrom s (es ++ h) ≡ runFrom (runFrom s h) es
+unfolding runFrom
+run-join s [] h = refl
+run-join s (e ∷ es) h = ap (λ (u : State). step u e) (run-join s es h)
+
+may-join : (s : State) (es h : History) → MayFrom s h → MayFrom (runFrom s h) es → MayFrom s (es ++ h)
+unfolding MayFrom
+may-join s [] h p q = p
+may-join s (e ∷ es) h p q = (may-join s es h p (q .0), rw (run-join s es h) (q .1))
+
+-- ---- the insertions that take a table, stored and copied, to a state
 
 abbrev pairEvent : (n dock : ℕ) → Words → Fate → Slot → Event
 pairEvent n dock list f s = record { call = insertionOf n s; lent = list; dock = dock; slice = none; fate = f }
 
-module _ (n dock : ℕ) (s : Slot) (ss : List Slot) (list t : Words) where
-  abbrev x : Call
-  x = insertionOf n s
+record Ways (n dock : ℕ) (ss : List Slot) (t : Words) (f : Fate) (taken : ℕ) (s′ : State) : Type 0 where
+  events : History
+  pairs : ℕ
+  calls-are : callsIn events ≡ map (insertionOf n) (take pairs ss)
+  pairs-are : PairsBy f pairs taken
+  accepted : AllAccepted (both t) dock events
+  fates : FatesBy f events
+  may : MayFrom (both t) events
+  comes-to : runFrom (both t) events ≡ s′
 
-  abbrev t₁ : Words
-  t₁ = apply (storesOf x t) t
+-- no pair
+no-ways : (n dock : ℕ) (ss : List Slot) (t : Words) (f : Fate) (taken : ℕ) (m : Words) → FatesBy f [] → PairsBy f 0 taken → t ≡ m → Ways n dock ss t f taken (both m)
+unfolding runFrom MayFrom
+no-ways n dock ss t f taken m a p e = record { events = []; pairs = 0; calls-are = refl; pairs-are = p; accepted = tt; fates = a; may = tt; comes-to = ap both e }
 
-  abbrev next : Written → List (List Store)
-  next w = elim w [ Done a b c ↦ storesOf x t ∷ batchStores n dock ss (drop (2 * (a + b + c)) (listAfter x list dock t)) (tableAfter x (length list) dock t) | Refused m ↦ [] ]
-
-  abbrev after : Written → Words
-  after w = elim w [ Done a b c ↦ drop (2 * (a + b + c)) (listAfter x list dock t) | Refused m ↦ [] ]
-
-  -- the list behind the first pair's orders
-  abbrev list₁ : Words
-  list₁ = after (written x (length list) dock t)
-
-  module _ (ok : refusal (insertionOf n s) (length list) dock t ≡ 0) where
-    abbrev os : List Order
-    os = ordersOf x dock t
-
-    is-written : written x (length list) dock t ≡ Done (storeCount os) (flushCount os) (barrierCount os)
-    unfolding written
-    is-written = rw ok
-
-    is-table : tableAfter x (length list) dock t ≡ t₁
-    unfolding tableAfter
-    is-table = rw ok
-
-    stores-next : batchStores n dock (s ∷ ss) list t ≡ storesOf x t ∷ batchStores n dock ss list₁ t₁
-    unfolding batchStores
-    stores-next =
-        ap next is-written ∙ ap (λ (u : Words). storesOf x t ∷ batchStores n dock ss (after (Done (storeCount os) (flushCount os) (barrierCount os))) u) is-table
-        ∙ ap (λ (w : Written). storesOf x t ∷ batchStores n dock ss (after w) t₁) (sym is-written)
-
-    module _ (fine : sound t ≡ true) where
-      sound₁ : sound t₁ ≡ true
-      sound₁ = settled-sound t₁ (accepted-steps x (length list) dock t fine ok .all-settled)
-
-      step-whole : step (both t) (pairEvent n dock list whole s) ≡ both t₁
-      unfolding step written listAfter tableAfter
-      step-whole =
-          rw (ok, counts-length os) (ap (λ (m : Words). record { memory = m; working = t₁ }) (carry-list-all dock (storesOf x t) list t (sound-head t fine) (accepted-steps x (length list) dock t fine ok .stores-inside)))
-
-    step-cut : (c : ℕ) (m : Words) → step (both t) (pairEvent n dock list (cut c m) s) ≡ both m
-    unfolding step
-    step-cut c m = rw ok
-
-  module _ (k : ℕ) (not-taken : refusal (insertionOf n s) (length list) dock t ≡ suc k) where
-    not-written : written x (length list) dock t ≡ Refused (suc k)
-    unfolding written
-    not-written = rw not-taken
-
-    stores-none : batchStores n dock (s ∷ ss) list t ≡ []
-    unfolding batchStores
-    stores-none = ap next not-written
-
--- no order has happened
-cut-none : (dock : ℕ) (t : Words) (c : ℕ) (m : Words) (os : List Order) → os ≡ [] → c ≤ length os → CutImage dock c t os m → Singles (both t) (both m)
-cut-none dock t c m os e h i =
-    let z : c ≡ 0 = omega (arith, h, ap length e) in
-    let q : m ≡ t = image-at-none dock [] t m (rw z at i) in
-    record { events = []; may = tt; comes-to = ap both (sym q) }
-
--- what a cut of the pairs ss comes to
-abbrev Cuts : (n dock : ℕ) → List Slot → Type 0
-Cuts n dock ss = (list t : Words) (c : ℕ) (m : Words) → sound t ≡ true → c ≤ length (batchOrders n dock ss list t) → CutImage dock c t (batchOrders n dock ss list t) m → Singles (both t) (both m)
-
-module _ (n dock : ℕ) (s : Slot) (ss : List Slot) (ih : Cuts n dock ss) (list t : Words) (c : ℕ) (m : Words) (fine : sound t ≡ true) (h : c ≤ length (batchOrders n dock (s ∷ ss) list t))
-    (i : CutImage dock c t (batchOrders n dock (s ∷ ss) list t) m) where
-  -- the first pair is taken
-  module _ (ok : refusal (insertionOf n s) (length list) dock t ≡ 0) where
-    abbrev us : List Store
-    us = storesOf (insertionOf n s) t
-
-    abbrev a : List Order
-    a = barred dock (orders us)
-
-    abbrev later : List Order
-    later = flat orders (batchStores n dock ss (list₁ n dock s ss list t) (apply us t))
-
-    parted : batchOrders n dock (s ∷ ss) list t ≡ barred dock (orders us ++ later)
-    unfolding flat
-    parted = ap (λ (u : List (List Store)). barred dock (flat orders u)) (stores-next n dock s ss list t ok)
-
-    long : length (batchOrders n dock (s ∷ ss) list t) ≡ length a + length (barred dock later)
-    long = ap length (parted ∙ barred-append dock (orders us) later) ∙ length-append a (barred dock later)
-
-    image : CutImage dock c t (barred dock (orders us ++ later)) m
-    image = rw parted at i
-
-    within : c ≤ length a → Singles (both t) (both m)
-    within l = record {
-      events = pairEvent n dock list (cut c m) s ∷ [];
-      may = (tt, λ z. (l, cut-within dock c us later t m l image));
-      comes-to = step-cut n dock s ss list t ok c m;
+-- one pair first, whole
+ways-first : (n dock : ℕ) (x : Slot) (ss : List Slot) (list t t₁ : Words) (f : Fate) (taken : ℕ) (s′ : State) → refusal (insertionOf n x) (length list) dock t ≡ 0
+    → step (both t) (pairEvent n dock list whole x) ≡ both t₁ → Ways n dock ss t₁ f taken s′ → Ways n dock (x ∷ ss) t f (1 + taken) s′
+ways-first n dock x ss list t t₁ f taken s′ ok q v =
+    let e = pairEvent n dock list whole x in
+    record {
+      events = v .events ++ (e ∷ []);
+      pairs = suc (v .pairs);
+      calls-are = calls-first (v .events) e ∙ ap (λ (ys : List Call). insertionOf n x ∷ ys) (v .calls-are);
+      pairs-are = pairs-first f (v .pairs) taken (v .pairs-are);
+      accepted = accepted-first (both t) dock e (v .events) (ok, refl, refl) (rw q (v .accepted));
+      fates = fates-first f (v .events) e (v .fates) refl;
+      may = may-first (both t) e (v .events) (λ z. tt) (rw q (v .may));
+      comes-to = run-first (both t) e (v .events) ∙ rw q (v .comes-to);
     }
 
-    past : length a < c → Singles (both t) (both m)
-    past l =
-        let d : length a + (c - length a) ≡ c = omega arith in
-        let j : CutImage dock (length a + (c - length a)) t (barred dock (orders us ++ later)) m = rw d image in
-        singles-first (both t) (pairEvent n dock list whole s) (both (apply us t)) (both m) (step-whole n dock s ss list t ok fine) (λ z. tt)
-        (ih (list₁ n dock s ss list t) (apply us t) (c - length a) m (sound₁ n dock s ss list t ok fine) (omega (arith, h, long)) (cut-behind dock (c - length a) us later t m j))
+other-cut : (n dock : ℕ) (ss : List Slot) (t : Words) (c d : ℕ) (m : Words) (taken : ℕ) (s′ : State) → Ways n dock ss t (cut c m) taken s′ → Ways n dock ss t (cut d m) taken s′
+other-cut n dock ss t c d m taken s′ v = record { events = v .events; pairs = v .pairs; calls-are = v .calls-are; pairs-are = v .pairs-are; accepted = v .accepted; fates = v .fates; may = v .may; comes-to = v .comes-to }
 
-    taken-cut : Singles (both t) (both m)
-    taken-cut = go (leb c (length a)) refl
-      where
-        go : (b : Bool) → leb c (length a) ≡ b → Singles (both t) (both m)
-        go true q = within (leb-true c (length a) q)
-        go false q = past (leb-false c (length a) q)
+-- ---- the first pair
 
-  cons-cut : Singles (both t) (both m)
-  cons-cut = go (refusal (insertionOf n s) (length list) dock t) refl
-    where
-      go : (k : ℕ) → refusal (insertionOf n s) (length list) dock t ≡ k → Singles (both t) (both m)
-      go zero ok = taken-cut ok
-      go (suc k) f = cut-none dock t c m (batchOrders n dock (s ∷ ss) list t) (unfold flat in ap (λ (u : List (List Store)). barred dock (flat orders u)) (stores-none n dock s ss list t k f) ∙ barred-nil dock) h i
-
--- A cut anywhere in the list of a batch is the calls before it whole and one call cut.
-pub batch-cut : (n dock : ℕ) (ss : List Slot) (list t : Words) (c : ℕ) (m : Words) → sound t ≡ true → c ≤ length (batchOrders n dock ss list t) → CutImage dock c t (batchOrders n dock ss list t) m
-    → Singles (both t) (both m)
-batch-cut n dock [] list t c m fine h i = cut-none dock t c m (batchOrders n dock [] list t) (unfold batchStores in unfold flat in barred-nil dock) h i
-batch-cut n dock (s ∷ ss) list t c m fine h i = cons-cut n dock s ss (batch-cut n dock ss) list t c m fine h i
-
--- A whole batch is its calls whole.
-module _ (n dock : ℕ) (s : Slot) (ss : List Slot) (list t : Words) (fine : sound t ≡ true) (ih : (list t : Words) → sound t ≡ true → Singles (both t) (both (batch n dock ss list t .table))) where
-  cons-whole : Singles (both t) (both (batch n dock (s ∷ ss) list t .table))
-  cons-whole = go (refusal (insertionOf n s) (length list) dock t) refl
-    where
-      go : (k : ℕ) → refusal (insertionOf n s) (length list) dock t ≡ k → Singles (both t) (both (batch n dock (s ∷ ss) list t .table))
-      go (suc k) f = record { events = []; may = tt; comes-to = ap (λ (b : Batched). both (b .table)) (sym (batch-stops n dock s ss list t (suc k) (not-written n dock s ss list t k f))) }
-      go zero ok =
-          let x = insertionOf n s in
-          let os = ordersOf x dock t in
-          let q : batch n dock (s ∷ ss) list t .table ≡ batch n dock ss (list₁ n dock s ss list t) (apply (storesOf x t) t) .table =
-          ap (λ (b : Batched). b .table) (batch-goes n dock s ss list t _ _ _ (is-written n dock s ss list t ok))
-          ∙ ap (λ (u : Words). batch n dock ss (after n dock s ss list t (Done (storeCount os) (flushCount os) (barrierCount os))) u .table) (is-table n dock s ss list t ok)
-          ∙ ap (λ (w : Written). batch n dock ss (after n dock s ss list t w) (apply (storesOf x t) t) .table) (sym (is-written n dock s ss list t ok)) in
-          rw q
-          (singles-first (both t) (pairEvent n dock list whole s) (both (apply (storesOf x t) t)) _ (step-whole n dock s ss list t ok fine) (λ z. tt)
-          (ih (list₁ n dock s ss list t) (apply (storesOf x t) t) (sound₁ n dock s ss list t ok fine)))
-
-pub batch-whole : (n dock : ℕ) (ss : List Slot) (list t : Words) → sound t ≡ true → Singles (both t) (both (batch n dock ss list t .table))
-batch-whole n dock [] list t fine = record { events = []; may = tt; comes-to = unfold batch in refl }
-batch-whole n dock (s ∷ ss) list t fine = cons-whole n dock s ss list t fine (batch-whole n dock ss)
-
--- ---- the list that a batch leaves
-
+-- a list behind another one
 list-joined : (a b : List Order) (list : Words) → encode a ++ listWith b (drop (2 * length a) list) ≡ listWith (a ++ b) list
 unfolding listWith
 list-joined a b list =
@@ -287,104 +192,385 @@ list-joined a b list =
     ap (λ (l : Words). encode a ++ (encode b ++ l)) (drop-drop (2 * length b) (2 * length a) list ∙ ap (λ (k : ℕ). drop k list) e)
     ∙ sym (append-assoc (encode a) (encode b) (drop (2 * length (a ++ b)) list)) ∙ ap (λ (l : Words). l ++ drop (2 * length (a ++ b)) list) (sym (encode-append a b))
 
-module _ (n dock : ℕ) (s : Slot) (ss : List Slot) (list t : Words) (ih : (list t : Words) → batch n dock ss list t .list ≡ listWith (batchOrders n dock ss list t) list) where
-  module _ (ok : refusal (insertionOf n s) (length list) dock t ≡ 0) where
-    abbrev own : List Order
-    own = ordersOf (insertionOf n s) dock t
+inside-append : (n : ℕ) (a b : List Order) → allInside n a ≡ true → allInside n b ≡ true → allInside n (a ++ b) ≡ true
+unfolding allInside
+inside-append n [] b p q = q
+inside-append n (o ∷ a) b p q = let u = simp and-iff at p in simp and-iff (u .0, inside-append n a b (u .1) q)
 
+module _ (n dock : ℕ) (s : Slot) (ss : List Slot) (list t : Words) where
+  abbrev x : Call
+  x = insertionOf n s
+
+  abbrev us : List Store
+  us = storesOf x t
+
+  abbrev own : List Order
+  own = ordersOf x dock t
+
+  -- the table that it leaves, and the list behind its orders
+  abbrev t₁ : Words
+  t₁ = apply us t
+
+  abbrev list₁ : Words
+  list₁ = drop (2 * length own) list
+
+  -- it is taken
+  module _ (ok : refusal (insertionOf n s) (length list) dock t ≡ 0) where
     abbrev filled : ℕ
     filled = 2 * (storeCount own + flushCount own + barrierCount own)
 
-    abbrev listed : Words
-    listed = listAfter (insertionOf n s) list dock t
+    is-written : written x (length list) dock t ≡ Done (storeCount own) (flushCount own) (barrierCount own)
+    unfolding written
+    is-written = rw ok
 
-    listed-is : listed ≡ encode own ++ drop (2 * length own) list
+    is-table : tableAfter x (length list) dock t ≡ t₁
+    unfolding tableAfter
+    is-table = rw ok
+
+    is-list : listAfter x list dock t ≡ encode own ++ list₁
     unfolding listAfter listWith
-    listed-is = rw ok
+    is-list = rw ok
 
-    filled-is : length (encode own) ≡ filled
-    filled-is = omega (arith, length-encode own, counts-length own)
+    long : length (encode own) ≡ filled
+    long = omega (arith, length-encode own, counts-length own)
 
-    first-part : take filled listed ≡ encode own
-    first-part = ap (take filled) listed-is ∙ take-at (encode own) (drop (2 * length own) list) filled filled-is
+    goes : batch n dock (s ∷ ss) list t ≡ behind 1 (storeCount own) (flushCount own) (barrierCount own) (encode own) (batch n dock ss list₁ t₁)
+    goes =
+        let next : Words → Words → Words → Batched = λ (front back u : Words). behind 1 (storeCount own) (flushCount own) (barrierCount own) front (batch n dock ss back u) in
+        batch-goes n dock s ss list t _ _ _ is-written
+        ∙ ap (λ (l : Words). next (take filled l) (drop filled l) (tableAfter x (length list) dock t)) is-list
+        ∙ ap (next (take filled (encode own ++ list₁)) (drop filled (encode own ++ list₁))) is-table
+        ∙ ap (λ (l : Words). next l (drop filled (encode own ++ list₁)) t₁) (take-at (encode own) list₁ filled long)
+        ∙ ap (λ (l : Words). next (encode own) l t₁) (drop-at (encode own) list₁ filled long)
 
-    rest-part : drop filled listed ≡ drop (2 * length own) list
-    rest-part = ap (drop filled) listed-is ∙ drop-at (encode own) (drop (2 * length own) list) filled filled-is
+    parted : allOrders n dock (s ∷ ss) list t ≡ barred dock (orders us ++ flat orders (batchStores n dock ss list₁ t₁))
+    unfolding batchStores flat
+    parted = rw ok
 
-    list₁-is : list₁ n dock s ss list t ≡ drop (2 * length own) list
-    list₁-is = ap (after n dock s ss list t) (is-written n dock s ss list t ok) ∙ rest-part
+    joined : allOrders n dock (s ∷ ss) list t ≡ own ++ allOrders n dock ss list₁ t₁
+    joined = parted ∙ barred-append dock (orders us) (flat orders (batchStores n dock ss list₁ t₁))
 
-    taken-list : batch n dock (s ∷ ss) list t .list ≡ listWith (batchOrders n dock (s ∷ ss) list t) list
-    unfolding flat
-    taken-list =
-        let t₁ = apply (storesOf (insertionOf n s) t) t in
-        let l₁ = drop (2 * length own) list in
-        let e : batchOrders n dock (s ∷ ss) list t ≡ own ++ batchOrders n dock ss l₁ t₁ =
-        ap (λ (u : List (List Store)). barred dock (flat orders u)) (stores-next n dock s ss list t ok) ∙ barred-append dock (orders (storesOf (insertionOf n s) t)) _
-        ∙ ap (λ (l : Words). own ++ batchOrders n dock ss l t₁) list₁-is in
-        ap (λ (b : Batched). b .list) (batch-goes n dock s ss list t _ _ _ (is-written n dock s ss list t ok))
-        ∙ ap (λ (u : Words). take filled listed ++ batch n dock ss (drop filled listed) u .list) (is-table n dock s ss list t ok)
-        ∙ ap (λ (l : Words). l ++ batch n dock ss (drop filled listed) t₁ .list) first-part
-        ∙ ap (λ (l : Words). encode own ++ batch n dock ss l t₁ .list) rest-part
-        ∙ ap (λ (l : Words). encode own ++ l) (ih l₁ t₁) ∙ list-joined own (batchOrders n dock ss l₁ t₁) list ∙ ap (λ (o : List Order). listWith o list) (sym e)
+    step-cut : (c : ℕ) (m : Words) → step (both t) (pairEvent n dock list (cut c m) s) ≡ both m
+    unfolding step
+    step-cut c m = rw ok
 
-  cons-list : batch n dock (s ∷ ss) list t .list ≡ listWith (batchOrders n dock (s ∷ ss) list t) list
-  cons-list = go (refusal (insertionOf n s) (length list) dock t) refl
+    module _ (fine : sound t ≡ true) where
+      steps : Steps x t
+      steps = accepted-steps x (length list) dock t fine ok
+
+      sound₁ : sound t₁ ≡ true
+      sound₁ = settled-sound t₁ (steps .all-settled)
+
+      step-whole : step (both t) (pairEvent n dock list whole s) ≡ both t₁
+      unfolding step written listAfter tableAfter
+      step-whole = rw (ok, counts-length own) (ap (λ (m : Words). record { memory = m; working = t₁ }) (carry-list-all dock us list t (sound-head t fine) (steps .stores-inside)))
+
+      own-inside : allInside (length t) own ≡ true
+      own-inside = barred-inside dock (length t) (orders us) ∙ orders-inside (length t) us (header-length t (sound-head t fine) .0) (steps .stores-inside)
+
+      -- a cut within its orders
+      cut-here : (c : ℕ) (m : Words) (taken : ℕ) → c ≤ length own → CutImage dock c t own m → Ways n dock (s ∷ ss) t (cut c m) (1 + taken) (both m)
+      unfolding runFrom MayFrom
+      cut-here c m taken l i =
+          let e = pairEvent n dock list (cut c m) s in
+          record {
+            events = e ∷ [];
+            pairs = 1;
+            calls-are = refl;
+            pairs-are = omega arith;
+            accepted = (tt, ok, refl, refl);
+            fates = tt;
+            may = (tt, λ z. (rw (answered-all (both t) e refl fine ok) l, rw (listed-all (both t) e refl fine ok) i));
+            comes-to = step-cut c m;
+          }
+
+  -- it is refused
+  module _ (k : ℕ) (not-taken : refusal (insertionOf n s) (length list) dock t ≡ suc k) where
+    stops-here : batch n dock (s ∷ ss) list t ≡ stopped (suc k) list t
+    unfolding written
+    stops-here = batch-stops n dock s ss list t (suc k) (rw not-taken)
+
+    no-orders : allOrders n dock (s ∷ ss) list t ≡ []
+    unfolding batchStores flat
+    no-orders = rw not-taken (barred-nil dock)
+
+-- ---- what a batch answers and leaves
+
+-- number: 0, or that of the first pair left, by the words left of the list
+abbrev StopsAt : (n dock words number : ℕ) → Words → List Slot → Type 0
+StopsAt n dock words number u [] = number ≡ 0
+StopsAt n dock words number u (s ∷ ss) = (number ≢ 0) × (number ≡ refusal (insertionOf n s) words dock u)
+
+stops-same : (n dock a b number : ℕ) (u : Words) (l k : List Slot) → a ≡ b → l ≡ k → StopsAt n dock a number u l → StopsAt n dock b number u k
+stops-same n dock a b number u l k e f p = rw (e, f) at p
+
+-- changes of one map one after another
+module _ (n : ℕ) (f g : List Slot → List Slot) (m : Maps) where
+  on-map-join : onMap n f (onMap n g m) ≡ onMap n (λ (ps : List Slot). f (g ps)) m
+  unfolding onMap
+  on-map-join = go (eqb n 1) (m .one) (m .two)
     where
-      go : (k : ℕ) → refusal (insertionOf n s) (length list) dock t ≡ k → batch n dock (s ∷ ss) list t .list ≡ listWith (batchOrders n dock (s ∷ ss) list t) list
-      go zero ok = taken-list ok
-      go (suc k) f =
-          let e : batchOrders n dock (s ∷ ss) list t ≡ [] = unfold flat in ap (λ (u : List (List Store)). barred dock (flat orders u)) (stores-none n dock s ss list t k f) ∙ barred-nil dock in
-          ap (λ (b : Batched). b .list) (batch-stops n dock s ss list t (suc k) (not-written n dock s ss list t k f)) ∙ sym (ap (λ (o : List Order). listWith o list) e ∙ listWith-nil list)
+      go : (b : Bool) (a : List Slot) (o : Option (List Slot))
+          → _≡_ {A = Maps} (record { one = cond b (f (cond b (g a) a)) (cond b (g a) a); two = cond b (cond b o (Option·map g o)) (Option·map f (cond b o (Option·map g o))) })
+          (record { one = cond b (f (g a)) a; two = cond b o (Option·map (λ (ps : List Slot). f (g ps)) o) })
+      go true a o = refl
+      go false a none = refl
+      go false a (some ps) = refl
 
-none-list : (n dock : ℕ) (list t : Words) → batch n dock [] list t .list ≡ listWith (batchOrders n dock [] list t) list
-unfolding batch batchStores flat
-none-list n dock list t = sym (ap (λ (o : List Order). listWith o list) (barred-nil dock) ∙ listWith-nil list)
+  on-map-same : ((ps : List Slot) → f ps ≡ g ps) → onMap n f m ≡ onMap n g m
+  unfolding onMap
+  on-map-same e = go (eqb n 1) (m .one) (m .two)
+    where
+      go : (b : Bool) (a : List Slot) (o : Option (List Slot))
+          → _≡_ {A = Maps} (record { one = cond b (f a) a; two = cond b o (Option·map f o) }) (record { one = cond b (g a) a; two = cond b o (Option·map g o) })
+      go true a o = ap (λ (ps : List Slot). record { one = ps; two = o }) (e a)
+      go false a none = refl
+      go false a (some ps) = ap (λ (qs : List Slot). record { one = a; two = some qs }) (e ps)
 
--- It has the orders of the calls one after another.
-pub batch-list : (n dock : ℕ) (ss : List Slot) (list t : Words) → batch n dock ss list t .list ≡ listWith (batchOrders n dock ss list t) list
-batch-list n dock [] list t = none-list n dock list t
-batch-list n dock (s ∷ ss) list t = cons-list n dock s ss list t (batch-list n dock ss)
+on-map-id : (n : ℕ) (f : List Slot → List Slot) (m : Maps) → ((ps : List Slot) → f ps ≡ ps) → onMap n f m ≡ m
+unfolding onMap
+on-map-id n f m e = on-map-same n f (λ (ps : List Slot). ps) m e ∙ go (eqb n 1) (m .one) (m .two)
+  where
+    go : (b : Bool) (a : List Slot) (o : Option (List Slot)) → _≡_ {A = Maps} (record { one = cond b a a; two = cond b o (Option·map (λ (ps : List Slot). ps) o) }) (record { one = a; two = o })
+    go true a o = refl
+    go false a none = refl
+    go false a (some ps) = refl
 
--- ---- histories with batches
+-- the pair enters first: its pointer is its recording and class
+enter-first : (s : Slot) (ss : List Slot) (taken : ℕ) (ps : List Slot)
+    → enterAll (take taken ss) (enter (s .key) (pointerOf (recording s) (class s)) ps) ≡ enterAll (take (1 + taken) (s ∷ ss)) ps
+enter-first s ss taken ps =
+    let one : suc taken ≡ 1 + taken = omega arith in
+    ap (λ (p : ℕ). enterAll (take taken ss) (enter (s .key) p ps)) (pointer-of (s .pointer)) ∙ ap (λ (k : ℕ). enterAll (take k (s ∷ ss)) ps) one
 
-run-join : (n N : ℕ) (es h : History) → runAll n N (es ++ h) ≡ runFrom (runAll n N h) es
-unfolding runAll
-run-join n N [] h = refl
-run-join n N (e ∷ es) h = ap (λ (s : State). step s e) (run-join n N es h)
+-- os are its orders
+record Facts (n dock : ℕ) (ss : List Slot) (list t : Words) (r : Batched) (os : List Order) : Type 0 where
+  list-is : r .list ≡ listWith os list
+  stores-are : r .answer .stores ≡ storeCount os
+  flushes-are : r .answer .flushes ≡ flushCount os
+  barriers-are : r .answer .barriers ≡ barrierCount os
+  inside : allInside (length t) os ≡ true
+  gives : carry os t ≡ r .table
+  fine : sound (r .table) ≡ true
+  enters : mapsOf (r .table) ≡ onMap n (enterAll (take (r .answer .taken) ss)) (mapsOf t)
+  stops : StopsAt n dock (length list - 2 * batchAnswered r) (r .answer .number) (r .table) (drop (r .answer .taken) ss)
 
-may-join : (n N : ℕ) (es h : History) → May n N h → MayFrom (runAll n N h) es → May n N (es ++ h)
-unfolding May
-may-join n N [] h p q = p
-may-join n N (e ∷ es) h p q = (may-join n N es h p (q .0), rw (run-join n N es h) (q .1))
+-- nothing was taken
+facts-none : (n dock : ℕ) (ss : List Slot) (list t : Words) (k : ℕ) → sound t ≡ true → StopsAt n dock (length list) k t ss → Facts n dock ss list t (stopped k list t) []
+unfolding storeCount flushCount barrierCount allInside carry
+facts-none n dock ss list t k s e = record {
+  list-is = sym (listWith-nil list);
+  stores-are = refl;
+  flushes-are = refl;
+  barriers-are = refl;
+  inside = refl;
+  gives = refl;
+  fine = s;
+  enters = sym (on-map-id n (enterAll []) (mapsOf t) (λ ps. refl));
+  stops = stops-same n dock (length list) _ k t ss ss (omega arith) refl e;
+}
 
-module _ (n N : ℕ) (kind : (n ≡ 1) ⊎ (n ≡ 2)) (low : n ≤ N) (high : N ≤ 65535) where
-  -- a history of single calls that may happen, comes to s, and of which demand 3 holds
-  pub record Happens (s : State) : Type 0 where
-    pub history : History
-    pub may : May n N history
-    pub comes-to : runAll n N history ≡ s
-    pub kept : Kept (demand3 n N kind low high .0) n N history
+-- one pair first
+facts-first : (n dock : ℕ) (s : Slot) (ss : List Slot) (list t : Words) (r : Batched) (os : List Order) → sound t ≡ true → refusal (insertionOf n s) (length list) dock t ≡ 0
+    → (let own = ordersOf (insertionOf n s) dock t in Facts n dock ss (drop (2 * length own) list) (apply (storesOf (insertionOf n s) t) t) r os
+    → Facts n dock (s ∷ ss) list t (behind 1 (storeCount own) (flushCount own) (barrierCount own) (encode own) r) (own ++ os))
+facts-first n dock s ss list t r os fine ok v =
+    let x = insertionOf n s in
+    let own = ordersOf x dock t in
+    let us = storesOf x t in
+    record {
+      list-is = ap (λ (l : Words). encode own ++ l) (v .list-is) ∙ list-joined own os list;
+      stores-are = ap (λ (k : ℕ). storeCount own + k) (v .stores-are) ∙ sym (storeCount-append own os);
+      flushes-are = ap (λ (k : ℕ). flushCount own + k) (v .flushes-are) ∙ sym (flushCount-append own os);
+      barriers-are = ap (λ (k : ℕ). barrierCount own + k) (v .barriers-are) ∙ sym (barrierCount-append own os);
+      inside = inside-append (length t) own os (own-inside n dock s ss list t ok fine) (rw (length-apply us t) at (v .inside));
+      gives = carry-append own os t ∙ ap (carry os) (list-apply dock us t) ∙ v .gives;
+      fine = v .fine;
+      enters =
+          v .enters ∙ ap (onMap n (enterAll (take (r .answer .taken) ss))) (accepted-steps x (length list) dock t fine ok .all-map)
+          ∙ on-map-join n (enterAll (take (r .answer .taken) ss)) (enter (s .key) (pointerOf (recording s) (class s))) (mapsOf t)
+          ∙ on-map-same n _ (enterAll (take (1 + r .answer .taken) (s ∷ ss))) (mapsOf t) (enter-first s ss (r .answer .taken));
+      stops =
+          let words : length (drop (2 * length own) list) - 2 * batchAnswered r ≡ length list - 2 * batchAnswered (behind 1 (storeCount own) (flushCount own) (barrierCount own) (encode own) r) =
+          omega (arith, length-drop (2 * length own) list, counts-length own) in
+          let one : suc (r .answer .taken) ≡ 1 + r .answer .taken = omega arith in
+          stops-same n dock _ _ (r .answer .number) (r .table) (drop (r .answer .taken) ss) _ words (ap (λ (k : ℕ). drop k (s ∷ ss)) one) (v .stops);
+    }
 
-  module _ (h : History) (p : May n N h) where
-    abbrev t : Words
-    t = runAll n N h .working
+none-orders : (n dock : ℕ) (list t : Words) → allOrders n dock [] list t ≡ []
+unfolding batchStores flat
+none-orders n dock list t = barred-nil dock
 
-    start : runAll n N h ≡ both t
-    start = ap (λ (m : Words). record { memory = m; working = t }) (both-sound n N kind low high h p .0)
+facts : (n dock : ℕ) (ss : List Slot) (list t : Words) → sound t ≡ true → Facts n dock ss list t (batch n dock ss list t) (allOrders n dock ss list t)
+facts n dock [] list t fine = rw (batch-none n dock list t, none-orders n dock list t) (facts-none n dock [] list t 0 fine refl)
+facts n dock (s ∷ ss) list t fine = go (refusal (insertionOf n s) (length list) dock t) refl (facts n dock ss)
+  where
+    go : (k : ℕ) → refusal (insertionOf n s) (length list) dock t ≡ k
+        → ((list t : Words) → sound t ≡ true → Facts n dock ss list t (batch n dock ss list t) (allOrders n dock ss list t))
+        → Facts n dock (s ∷ ss) list t (batch n dock (s ∷ ss) list t) (allOrders n dock (s ∷ ss) list t)
+    go zero ok ih = rw (goes n dock s ss list t ok, joined n dock s ss list t ok) (facts-first n dock s ss list t _ _ fine ok (ih _ _ (sound₁ n dock s ss list t ok fine)))
+    go (suc k) f ih = rw (stops-here n dock s ss list t k f, no-orders n dock s ss list t k f) (facts-none n dock (s ∷ ss) list t (suc k) fine ((λ e. omega arith), sym f))
 
-    happens : (s : State) → Singles (both t) s → Happens s
-    happens s u =
-        let v : Singles (runAll n N h) s = rw start u in
-        let q = may-join n N (v .events) h p (v .may) in
-        record { history = v .events ++ h; may = q; comes-to = run-join n N (v .events) h ∙ v .comes-to; kept = demand3 n N kind low high .1 _ q }
+-- ---- a batch whole, and cut
 
-    -- After every history of single calls a batch, whole or cut, comes to what a longer history of single calls comes to; so demand 3 holds of
-    -- all histories with batches.
-    pub batch-happens : (k dock : ℕ) (ss : List Slot) (list : Words) → (let t = runAll n N h .working in Happens (both (batch k dock ss list t .table))
-        × ((c : ℕ) (m : Words) → c ≤ length (batchOrders k dock ss list t) → CutImage dock c (runAll n N h .memory) (batchOrders k dock ss list t) m → Happens (both m)))
-    batch-happens k dock ss list =
-        let b = both-sound n N kind low high h p in (
-          happens _ (batch-whole k dock ss list t (b .1)),
-          λ c m l i. happens (both m) (batch-cut k dock ss list t c m (b .1) l (rw (b .0) at i)),
-        )
+whole-ways : (n dock : ℕ) (ss : List Slot) (list t : Words) → sound t ≡ true → (let r = batch n dock ss list t in Ways n dock ss t whole (r .answer .taken) (both (r .table)))
+whole-ways n dock [] list t fine = rw (batch-none n dock list t) (no-ways n dock [] t whole 0 t tt refl refl)
+whole-ways n dock (s ∷ ss) list t fine = go (refusal (insertionOf n s) (length list) dock t) refl (whole-ways n dock ss)
+  where
+    go : (k : ℕ) → refusal (insertionOf n s) (length list) dock t ≡ k
+        → ((list t : Words) → sound t ≡ true → (let r = batch n dock ss list t in Ways n dock ss t whole (r .answer .taken) (both (r .table))))
+        → (let r = batch n dock (s ∷ ss) list t in Ways n dock (s ∷ ss) t whole (r .answer .taken) (both (r .table)))
+    go zero ok ih =
+        rw (goes n dock s ss list t ok)
+        (ways-first n dock s ss list t _ whole _ _ ok (step-whole n dock s ss list t ok fine) (ih _ _ (sound₁ n dock s ss list t ok fine)))
+    go (suc k) f ih = rw (stops-here n dock s ss list t k f) (no-ways n dock (s ∷ ss) t whole 0 t tt refl refl)
+
+-- no order has happened
+cut-none : (n dock : ℕ) (ss : List Slot) (t : Words) (c : ℕ) (m : Words) (taken : ℕ) (os : List Order) → os ≡ [] → c ≤ length os → CutImage dock c t os m → Ways n dock ss t (cut c m) taken (both m)
+cut-none n dock ss t c m taken os e l i =
+    let z : c ≡ 0 = omega (arith, l, ap length e) in
+    let q : m ≡ t = image-at-none dock [] t m (rw (e, z) at i) in
+    no-ways n dock ss t (cut c m) taken m tt (omega arith) (sym q)
+
+abbrev Cuts : (n dock : ℕ) → List Slot → Type 0
+Cuts n dock ss = (list t : Words) (c : ℕ) (m : Words) → sound t ≡ true → c ≤ length (allOrders n dock ss list t) → CutImage dock c t (allOrders n dock ss list t) m
+    → Ways n dock ss t (cut c m) (batch n dock ss list t .answer .taken) (both m)
+
+module _ (n dock : ℕ) (s : Slot) (ss : List Slot) (ih : Cuts n dock ss) (list t : Words) (c : ℕ) (m : Words) (fine : sound t ≡ true) (l : c ≤ length (allOrders n dock (s ∷ ss) list t))
+    (i : CutImage dock c t (allOrders n dock (s ∷ ss) list t) m) where
+  -- the first pair is taken
+  module _ (ok : refusal (insertionOf n s) (length list) dock t ≡ 0) where
+    abbrev stores : List Store
+    stores = storesOf (insertionOf n s) t
+
+    abbrev first : List Order
+    first = ordersOf (insertionOf n s) dock t
+
+    abbrev rest : Words
+    rest = drop (2 * length first) list
+
+    abbrev later : List Order
+    later = flat orders (batchStores n dock ss rest (apply stores t))
+
+    image : CutImage dock c t (barred dock (orders stores ++ later)) m
+    image = rw (parted n dock s ss list t ok) at i
+
+    lengths : length (allOrders n dock (s ∷ ss) list t) ≡ length first + length (barred dock later)
+    lengths = ap length (joined n dock s ss list t ok) ∙ length-append first (barred dock later)
+
+    within : c ≤ length first → Ways n dock (s ∷ ss) t (cut c m) (1 + batch n dock ss rest (apply stores t) .answer .taken) (both m)
+    within k = cut-here n dock s ss list t ok fine c m _ k (cut-within dock c stores later t m k image)
+
+    past : length first < c → Ways n dock (s ∷ ss) t (cut c m) (1 + batch n dock ss rest (apply stores t) .answer .taken) (both m)
+    past k =
+        let d : length first + (c - length first) ≡ c = omega arith in
+        let j : CutImage dock (length first + (c - length first)) t (barred dock (orders stores ++ later)) m = rw d image in
+        let w = ih rest (apply stores t) (c - length first) m (sound₁ n dock s ss list t ok fine) (omega (arith, l, lengths)) (cut-behind dock (c - length first) stores later t m j) in
+        other-cut n dock (s ∷ ss) t (c - length first) c m _ _ (ways-first n dock s ss list t (apply stores t) (cut (c - length first) m) _ _ ok (step-whole n dock s ss list t ok fine) w)
+
+    taken-cut : Ways n dock (s ∷ ss) t (cut c m) (batch n dock (s ∷ ss) list t .answer .taken) (both m)
+    taken-cut = rw (goes n dock s ss list t ok) (go (leb c (length first)) refl)
+      where
+        go : (b : Bool) → leb c (length first) ≡ b → Ways n dock (s ∷ ss) t (cut c m) (1 + batch n dock ss rest (apply stores t) .answer .taken) (both m)
+        go true q = within (leb-true c (length first) q)
+        go false q = past (leb-false c (length first) q)
+
+  cons-cut : Ways n dock (s ∷ ss) t (cut c m) (batch n dock (s ∷ ss) list t .answer .taken) (both m)
+  cons-cut = go (refusal (insertionOf n s) (length list) dock t) refl
+    where
+      go : (k : ℕ) → refusal (insertionOf n s) (length list) dock t ≡ k → Ways n dock (s ∷ ss) t (cut c m) (batch n dock (s ∷ ss) list t .answer .taken) (both m)
+      go zero ok = taken-cut ok
+      go (suc k) f = cut-none n dock (s ∷ ss) t c m _ (allOrders n dock (s ∷ ss) list t) (no-orders n dock s ss list t k f) l i
+
+cut-ways : (n dock : ℕ) (ss : List Slot) → Cuts n dock ss
+cut-ways n dock [] list t c m fine l i = cut-none n dock [] t c m _ (allOrders n dock [] list t) (none-orders n dock list t) l i
+cut-ways n dock (s ∷ ss) list t c m fine l i = cons-cut n dock s ss (cut-ways n dock ss) list t c m fine l i
+
+-- ---- a batch after a history
+
+module _ (t : Words) (q : Sound t) (h : History) (p : MayFrom (both t) h) (n dock : ℕ) (ss : List Slot) (list : Words) where
+  abbrev now : State
+  now = runFrom (both t) h
+
+  abbrev r : Batched
+  r = batch n dock ss list (now .working)
+
+  abbrev all : List Order
+  all = allOrders n dock ss list (now .working)
+
+  same : now .memory ≡ now .working
+  same = along t q h p .0
+
+  fine-now : sound (now .working) ≡ true
+  fine-now = along t q h p .1
+
+  known : Facts n dock ss list (now .working) r all
+  known = facts n dock ss list (now .working) fine-now
+
+  answered : batchAnswered r ≡ length all
+  answered = rw (known .stores-are, known .flushes-are, known .barriers-are) (counts-length all)
+
+  orders-are : batchOrders r ≡ all
+  orders-are =
+      ap (λ (c : ℕ). take c (decode (r .list))) answered ∙ ap (λ (l : Words). take (length all) (decode l)) (known .list-is)
+      ∙ read-back all list (now .working) (length all) (header-length (now .working) (sound-head (now .working) fine-now) .1) (known .inside) (omega arith) ∙ take-length all
+
+  listed : RightBatch now n ss list r
+  listed =
+      let head = sound-head (now .working) fine-now in
+      let number : carryNumber (length all) (listWith all list) (now .working) ≡ 0 = listed-number all list (now .working) (length all) head (known .inside) (omega arith) in
+      let table : carriedOut (length all) (listWith all list) (now .working) ≡ r .table =
+      listed-carried all list (now .working) (length all) head (known .inside) (omega arith) ∙ ap (λ (os : List Order). carry os (now .working)) (take-length all) ∙ known .gives in
+      record {
+        enters = known .enters;
+        list-is = known .list-is ∙ ap (λ (os : List Order). listWith os list) (sym orders-are);
+        stores-are = known .stores-are ∙ ap storeCount (sym orders-are);
+        flushes-are = known .flushes-are ∙ ap flushCount (sym orders-are);
+        barriers-are = known .barriers-are ∙ ap barrierCount (sym orders-are);
+        carries = rw (answered, known .list-is, same) number;
+        gives = rw (answered, known .list-is, same) table;
+      }
+
+  start : now ≡ both (now .working)
+  start = ap (λ (m : Words). record { memory = m; working = now .working }) same
+
+  -- the insertions fed onto the history; what the batch comes to, and its number, by its fate
+  singles-by : (f : Fate) (s′ : State) (w : Ways n dock ss (now .working) f (r .answer .taken) s′) → s′ ≡ afterBatch f now r
+      → (mapsOf (s′ .working) ≡ ledgerFrom (demand3-from t q .0) (nodes t) (both t) (mapsOf t) (w .events ++ h)
+      → StopsBy f n (length list - 2 * batchAnswered r) dock (r .answer .number) (ledgerFrom (demand3-from t q .0) (nodes t) (both t) (mapsOf t) (w .events ++ h)) (drop (r .answer .taken) ss))
+      → Singles (demand3-from t q .0) t h n dock ss list r f
+  singles-by f s′ w e g =
+      let es = w .events in
+      let m : MayFrom now es = rw start (w .may) in
+      let c : runFrom now es ≡ s′ = rw start (w .comes-to) in
+      let may : MayFrom (both t) (es ++ h) = may-join (both t) es h p m in
+      let to : runFrom (both t) (es ++ h) ≡ s′ = run-join (both t) es h ∙ c in
+      record {
+        events = es;
+        pairs = w .pairs;
+        calls-are = w .calls-are;
+        pairs-are = w .pairs-are;
+        accepted = rw start (w .accepted);
+        fates = w .fates;
+        may = may;
+        comes-to = to ∙ e;
+        kept = demand3-from t q .1 (es ++ h) may;
+        stops = g (ap (λ (u : State). mapsOf (u .working)) (sym to) ∙ along t q (es ++ h) may .2);
+      }
+
+  stopped-by : (left : List Slot) (words : ℕ) (ps : Ledger) → mapsOf (r .table) ≡ ps → StopsAt n dock words (r .answer .number) (r .table) left → Stops n words dock (r .answer .number) ps left
+  stopped-by [] words ps e u = u
+  stopped-by (s ∷ left) words ps e u = (u .0, rw (u .1, ← e) (number-in-ledger (insertionOf n s) words dock (r .table) (known .fine)))
+
+  singles : (f : Fate) → BatchMay f dock now r → Singles (demand3-from t q .0) t h n dock ss list r f
+  singles whole b =
+      singles-by whole (both (r .table)) (whole-ways n dock ss list (now .working) fine-now) (ap (λ (m : Words). record { memory = m; working = r .table }) (sym (listed .gives)))
+      (λ e. stopped-by (drop (r .answer .taken) ss) (length list - 2 * batchAnswered r) _ e (known .stops))
+  singles (cut c m) b =
+      let l : c ≤ length all = rw answered at (b .0) in
+      let i : CutImage dock c (now .working) all m = rw (same, orders-are) at (b .1) in
+      singles-by (cut c m) (both m) (cut-ways n dock ss list (now .working) c m fine-now l i) refl (λ e. tt)
+
+-- After every history from every sound table, every batch, whole or cut after any number of its orders.
+pub batches : Batches
+batches t q = (demand3-from t q .0, λ h p n dock ss list. (listed t q h p n dock ss list, singles t q h p n dock ss list))

@@ -12,32 +12,32 @@ use native.Mathlib.Nat.{le-refl}
 use native.Mathlib.Omega.{arith}
 use lib.Dec.{eqb}
 use borrow.Author.Tests.{eqb-true}
-use lib.ListN.{length, set}
+use lib.ListN.{length, take, set}
 use lib.Seq.{getD-set-other}
 use Rattle.model.specs.declared.Written.{Written}
 use Rattle.model.specs.declared.Written.the-variants.{Done, Refused}
 use Rattle.model.specs.Table.{MARK, Words, nodes, nodeStart, empty, emptyOf}
 use Rattle.model.specs.Slots.{Slot}
-use Rattle.model.specs.Orders.{Store, Order, apply, orders, barred, storeCount, flushCount, barrierCount, listWith, carryNumber, carriedOut}
+use Rattle.model.specs.Orders.{Store, Order, apply, orders, barred, decode, storeCount, flushCount, barrierCount, listWith, carryNumber, carriedOut}
 use Rattle.model.specs.Cuts.{CutImage}
 use Rattle.model.specs.Refusals.{unlessRefused, writtenNumber, ordersAnswered, ordersOf, seventeenIn, refusal, written, tableAfter, listAfter}
 use Rattle.model.specs.Ledger.{fedOf, End, cutAfter, taken, change, Ledger, noPairs, listIn, answerFrom, lacking, pairsOf, otherSlice, ledgerRefusal, feed}
-use Rattle.model.specs.Sentinels.{sliceNumber, refusalWith, writtenWith, searchWith}
-use Rattle.model.specs.Demand3.{Fate, whole, cut, State, Event, History, refusalBy, writtenBy, tableBy, ordersBy, numberOf, answered, listOf, leftBy, afterFate, step, runAll}
-use Rattle.model.specs.Demand3.{FateMay, May, endOf, ledgerAfter, Agrees, Completed, Carried, Keeps, StayTrue, Right, Kept, Demand3}
+use Rattle.model.specs.Sentinels.{sliceNumber, refusalWith, writtenWith, tableWith, ordersWith, searchWith}
+use Rattle.model.specs.Demand3.{Fate, whole, cut, State, both, Event, History, refusalBy, writtenBy, tableBy, ordersBy, numberOf, answered, listOf, eventOrders, leftBy, afterFate, afterRefusal, step, runFrom}
+use Rattle.model.specs.Demand3.{FateMay, MayFrom, endOf, ledgerFrom, Agrees, Completed, Carried, Keeps, StayTrue, Right, KeptFrom, Demand3, HoldsFrom, Demand3From}
 use Rattle.model.specs.SoundTest.{sound}
 use Rattle.model.specs.Search.{search}
 use Rattle.model.specs.Reached.{Maps, mapsOf}
 use Rattle.model.specs.Writes.{Call, insertion, deletion, classChange, repair, storesOf}
-use Rattle.model.specs.Sound.{Settled}
+use Rattle.model.specs.Sound.{Settled, Sound}
 use Rattle.table_laws.proofs.Header.{header-iff}
 use Rattle.cut_laws.proofs.Applying.{counts-length, length-apply}
 use Rattle.cut_laws.proofs.Cuts.{image-is-stores, image-at-none, image-at-all}
-use Rattle.cut_laws.proofs.Lent.{carry-list-number, carry-list-all}
+use Rattle.cut_laws.proofs.Lent.{list-read-back, carry-list-number, carry-list-all}
 use Rattle.model.specs.Judge.{OldOrNew}
 use Rattle.two_laws.proofs.MapsTwo.{Steps, accepted-steps}
 use Rattle.two_laws.proofs.SearchTwo.{sound-head}
-use Rattle.two_laws.proofs.SameTwo.{settled-same, settled-sound}
+use Rattle.two_laws.proofs.SameTwo.{sound-same, settled-same, settled-sound}
 use Rattle.two_laws.proofs.EmptyTwo.{empty-settled, empty-one-maps, empty-two-maps}
 use Rattle.two_laws.proofs.LedgerTwo.{searched, number-in-ledger, only-eleven, only-ten}
 use Rattle.sentinel_laws.proofs.Slices.{fits, with-accepted, plain-call}
@@ -113,6 +113,15 @@ module _ (x : Call) (lent : Words) (dock : ℕ) (t : Words) where
     unfolding listAfter
     accepted-list = p .list ∙ rw (p .accepted)
 
+-- what is refused is left
+not-done : {A : Type 0} (n : ℕ) (done left : A) → n ≢ 0 → unlessRefused n done left ≡ left
+not-done zero done left z = absurd (z refl)
+not-done (suc n) done left z = refl
+
+not-with : {A : Type 0} (r n : ℕ) (done left : A) → unlessRefused r n r ≢ 0 → unlessRefused r (unlessRefused n done left) left ≡ left
+not-with zero n done left z = not-done n done left z
+not-with (suc r) n done left z = refl
+
 -- a call answers its number
 unless-number : (n m : ℕ) (done : Written) → writtenNumber done ≡ m → writtenNumber (unlessRefused n done (Refused n)) ≡ unlessRefused n m n
 unless-number zero m done e = e
@@ -133,6 +142,17 @@ number-answered none x words dock t = plain-answered x words dock t
 number-answered (some ws) x words dock t =
     unless-number (sliceNumber (seventeenIn x t) (length ws) t) (refusal x words dock t) (written x words dock t) (plain-answered x words dock t)
 
+-- a refused call leaves the table and the order list
+refused-table : (o : Option Words) (x : Call) (words dock : ℕ) (t : Words) → refusalBy o x words dock t ≢ 0 → tableBy o x words dock t ≡ t
+unfolding tableAfter tableWith refusalWith
+refused-table none x words dock t z = not-done (refusal x words dock t) (apply (storesOf x t) t) t z
+refused-table (some ws) x words dock t z = not-with (sliceNumber (seventeenIn x t) (length ws) t) (refusal x words dock t) (apply (storesOf x t) t) t z
+
+refused-list : (o : Option Words) (x : Call) (lent : Words) (dock : ℕ) (t : Words) → refusalBy o x (length lent) dock t ≢ 0 → ordersBy o x lent dock t ≡ lent
+unfolding listAfter ordersWith refusalWith
+refused-list none x lent dock t z = not-done (refusal x (length lent) dock t) (listWith (ordersOf x dock t) lent) lent z
+refused-list (some ws) x lent dock t z = not-with (sliceNumber (seventeenIn x t) (length ws) t) (refusal x (length lent) dock t) (listWith (ordersOf x dock t) lent) lent z
+
 -- 10 and 11 are the plain call's
 same-plain : (o : Option Words) (x : Call) (words dock : ℕ) (t : Words) (k : ℕ) → k ≢ 2 → k ≢ 17 → k ≢ 19 → refusalBy o x words dock t ≡ k → refusal x words dock t ≡ k
 same-plain none x words dock t k a b c e = e
@@ -144,10 +164,10 @@ in-ledger : (o : Option Words) (x : Call) (words dock : ℕ) (t : Words) → sou
 in-ledger none x words dock t s = number-in-ledger x words dock t s
 in-ledger (some ws) x words dock t s = with-in-ledger x (length ws) words dock t s
 
-pub unless-refused : {A B : Type 0} (R : A → B → Type 0) (n : ℕ) (new old : A) (new′ old′ : B) → (n ≡ 0 → R new new′) → R old old′
+pub unless-refused : {A B : Type 0} (R : A → B → Type 0) (n : ℕ) (new old : A) (new′ old′ : B) → (n ≡ 0 → R new new′) → (n ≢ 0 → R old old′)
     → R (unlessRefused n new old) (unlessRefused n new′ old′)
 unless-refused R zero new old new′ old′ f h = f refl
-unless-refused R (suc n) new old new′ old′ f h = h
+unless-refused R (suc n) new old new′ old′ f h = h (λ e. omega arith)
 
 -- a repair moves nothing in the ledger, so it keeps the map
 repair-feeds : (other : Bool) (words dock fed : ℕ) (end : End) (choice : Bool) (ps : Ledger) → feed repair other words dock fed end choice ps ≡ ps
@@ -165,9 +185,9 @@ abbrev chosen : Fate → Ledger → Bool
 chosen whole new = true
 chosen (cut c m) new = isYes (Maps-discrete (mapsOf m) new)
 
-choose : (n N : ℕ) → History → Bool
-choose n N [] = false
-choose n N (e ∷ h) = chosen (e .fate) (change (e .call) (mapsOf (runAll n N h .working)))
+choose : State → History → Bool
+choose s [] = false
+choose s (e ∷ h) = chosen (e .fate) (change (e .call) (mapsOf (runFrom s h .working)))
 
 -- what is kept along a history
 record Inv (N : ℕ) (s : State) (ps : Ledger) : Type 0 where
@@ -230,8 +250,14 @@ module _ (s : State) (e : Event) (both : s .memory ≡ s .working) (fine : sound
   steps : Steps x t
   steps = accepted-steps x (length (e .lent)) dock t fine (plain .accepted)
 
-  answered-all : answered s e ≡ length os
+  pub answered-all : answered s e ≡ length (ordersOf (e .call) (e .dock) (s .working))
   answered-all = accepted-answer x (e .lent) dock t (e .slice) plain
+
+  -- the orders of the lent list, as many as it answered
+  pub listed-all : eventOrders s e ≡ ordersOf (e .call) (e .dock) (s .working)
+  listed-all =
+      ap (λ (c : ℕ). take c (decode (listOf s e))) answered-all ∙ ap (λ (l : Words). take (length os) (decode l)) (accepted-list x (e .lent) dock t (e .slice) plain)
+      ∙ list-read-back dock ss (e .lent) t (sound-head t fine) (steps .stores-inside)
 
   -- the carry-out of all orders answered, with the lent list as the call left it
   carried-whole : (carryNumber (answered s e) (listOf s e) (s .memory) ≡ 0) × (carriedOut (answered s e) (listOf s e) (s .memory) ≡ apply ss t)
@@ -241,6 +267,9 @@ module _ (s : State) (e : Event) (both : s .memory ≡ s .working) (fine : sound
       rw (answered-all, accepted-list x (e .lent) dock t (e .slice) plain, both) (carry-list-number dock ss (e .lent) t h i _ (le-refl _), carry-list-all dock ss (e .lent) t h i)
 
   -- an image that a cut may leave
+  image : (c : ℕ) (m : Words) → CutImage dock c (s .memory) (eventOrders s e) m → CutImage dock c (s .memory) os m
+  image c m i = rw listed-all at i
+
   image-part : (c : ℕ) (m : Words) → CutImage dock c (s .memory) os m → (sound m ≡ true) × OldOrNew x t m
   image-part c m i = let p = image-is-stores dock ss t c m (rw both at i) in rw (p .2) (steps .part-sound (p .0), steps .part-map (p .0))
 
@@ -250,15 +279,19 @@ module _ (s : State) (e : Event) (both : s .memory ≡ s .working) (fine : sound
   image-all : (c : ℕ) (m : Words) → CutImage dock c (s .memory) os m → c ≡ length os → m ≡ apply ss t
   image-all c m i q = image-at-all dock ss t (length os) m (le-refl _) (rw (both, q) at i)
 
-  image-map : (c : ℕ) (m : Words) → CutImage dock c (s .memory) os m
+  by-length : (c : ℕ) (m : Words) → CutImage dock c (s .memory) os m
       → mapsOf m ≡ cond (taken (cutAfter c (eqb c (length os))) (chosen (cut c m) new)) new old
-  image-map zero m i = ap mapsOf (image-at-none dock ss t m (rw both at i))
-  image-map (suc c) m i = go (eqb (suc c) (length os)) refl
+  by-length zero m i = ap mapsOf (image-at-none dock ss t m (rw both at i))
+  by-length (suc c) m i = go (eqb (suc c) (length os)) refl
     where
       go : (all : Bool) → eqb (suc c) (length os) ≡ all
           → mapsOf m ≡ cond (taken (cutAfter (suc c) all) (chosen (cut (suc c) m) new)) new old
       go true q = ap mapsOf (image-all (suc c) m i (eqb-true _ _ q)) ∙ steps .all-map
       go false q = decided old new (mapsOf m) (Maps-discrete (mapsOf m) new) (image-part (suc c) m i .1)
+
+  image-map : (c : ℕ) (m : Words) → CutImage dock c (s .memory) os m
+      → mapsOf m ≡ cond (taken (cutAfter c (eqb c (answered s e))) (chosen (cut c m) new)) new old
+  image-map c m i = rw answered-all (by-length c m i)
 
   abbrev left : Words
   left = leftBy s e
@@ -278,12 +311,14 @@ module _ (s : State) (e : Event) (both : s .memory ≡ s .working) (fine : sound
         maps = rw left-all (steps .all-map);
       }
   fate-inv N size (cut c m) p =
-      let q = image-part c m (p .1) .0 in record { both = refl; fine = q; size = same-nodes t m fine q (image-long c m (p .1)) ∙ size; maps = image-map c m (p .1) }
+      let i = image c m (p .1) in
+      let q = image-part c m i .0 in
+      record { both = refl; fine = q; size = same-nodes t m fine q (image-long c m i) ∙ size; maps = image-map c m i }
 
   -- completed: memory is the working copy that the call left, and so is the working copy after it
   fate-completed : (f : Fate) → FateMay f s e → Completed f s e → (afterFate f s e .memory ≡ left) × (afterFate f s e .working ≡ left)
   fate-completed whole p d = (carried-whole .1 ∙ sym left-all, refl)
-  fate-completed (cut c m) p d = let q = image-all c m (p .1) d ∙ sym left-all in (q, q)
+  fate-completed (cut c m) p d = let q = image-all c m (image c m (p .1)) (d ∙ answered-all) ∙ sym left-all in (q, q)
 
   left-settled : Settled left
   left-settled = settled-same left .0 (rw left-all (steps .all-settled))
@@ -310,10 +345,20 @@ module _ (N : ℕ) (s : State) (e : Event) (ps : Ledger) (v : Inv N s ps) (p : n
   abbrev after : Ledger
   after = feed (e .call) (otherSlice N (e .slice)) (length (e .lent)) (e .dock) (fedOf (numberOf s e)) (endOf (e .fate) s e) choice ps
 
+  -- a refused call changes nothing
+  stays : numberOf s e ≢ 0 → afterRefusal s e ≡ s
+  stays z = ap (λ (w : Words). record { memory = s .memory; working = w }) (refused-table (e .slice) (e .call) (length (e .lent)) (e .dock) (s .working) z)
+
   step-inv : Inv N (step s e) after
   unfolding step feed
-  step-inv = rw (← same-number) (unless-refused (Inv N) (numberOf s e) _ s _ ps
-      (λ ok. rw (← (v .maps)) (fate-inv s e (v .both) (v .fine) ok N (v .size) (e .fate) (p ok))) v)
+  step-inv = rw (← same-number) (unless-refused (Inv N) (numberOf s e) _ (afterRefusal s e) _ ps
+      (λ ok. rw (← (v .maps)) (fate-inv s e (v .both) (v .fine) ok N (v .size) (e .fate) (p ok))) (λ z. rw (stays z) v))
+
+  step-stays : numberOf s e ≢ 0 → (step s e .memory ≡ s .memory) × (step s e .working ≡ s .working) × (listOf s e ≡ e .lent)
+  unfolding step
+  step-stays z =
+      let q : step s e ≡ s = not-done (numberOf s e) (afterFate (e .fate) s e) (afterRefusal s e) z ∙ stays z in
+      (ap (λ (u : State). u .memory) q, ap (λ (u : State). u .working) q, refused-list (e .slice) (e .call) (e .lent) (e .dock) (s .working) z)
 
   step-completed : numberOf s e ≡ 0 → Completed (e .fate) s e → (step s e .memory ≡ leftBy s e) × (step s e .working ≡ leftBy s e)
   unfolding step
@@ -337,38 +382,58 @@ module _ (N : ℕ) (s : State) (e : Event) (ps : Ledger) (v : Inv N s ps) (p : n
     carried = λ ok. fate-carried s e (v .both) (v .fine) ok (e .fate);
     equal = step-completed;
     finished = step-settled;
+    unchanged = step-stays;
     repair-keeps = step-keeps;
     stay-true = true-words (e .slice) (e .call) (length (e .lent)) (e .dock) (s .working);
   }
 
 -- ---- all histories
 
-module _ (n N : ℕ) (kind : (n ≡ 1) ⊎ (n ≡ 2)) (low : n ≤ N) (high : N ≤ 65535) where
-  start-maps : (n ≡ 1) ⊎ (n ≡ 2) → mapsOf (emptyOf n N) ≡ noPairs n
-  start-maps (inl e) = rw e (empty-one-maps N (omega arith) high)
-  start-maps (inr e) = rw e (empty-two-maps N (omega arith) high)
+module _ (N : ℕ) (s : State) (ps : Ledger) (v : Inv N s ps) where
+  inv : (h : History) → MayFrom s h → Inv N (runFrom s h) (ledgerFrom (choose s) N s ps h)
+  unfolding runFrom ledgerFrom MayFrom choose
+  inv [] p = v
+  inv (e ∷ h) p = step-inv N (runFrom s h) e (ledgerFrom (choose s) N s ps h) (inv h (p .0)) (p .1)
 
-  start-nodes : (n ≡ 1) ⊎ (n ≡ 2) → nodes (emptyOf n N) ≡ N
-  unfolding emptyOf empty nodeStart
-  start-nodes (inl e) = rw e
-  start-nodes (inr e) = rw e (getD-set-other (set (empty N) 3 2) (nodeStart 2) 2 MARK 0 (omega arith) ∙ getD-set-other (empty N) 3 2 2 0 (omega arith))
-
-  inv : (h : History) → May n N h → Inv N (runAll n N h) (ledgerAfter (choose n N) n N h)
-  unfolding runAll ledgerAfter May choose
-  inv [] p = record { both = refl; fine = settled-sound _ (empty-settled n N kind low high); size = start-nodes kind; maps = start-maps kind }
-  inv (e ∷ h) p = step-inv N (runAll n N h) e (ledgerAfter (choose n N) n N h) (inv h (p .0)) (p .1)
-
-  kept : (h : History) → May n N h → Kept (choose n N) n N h
-  unfolding runAll May
+  kept : (h : History) → MayFrom s h → KeptFrom (choose s) N s ps h
+  unfolding runFrom MayFrom
   kept [] p = agrees N _ _ (inv [] p)
-  kept (e ∷ h) p = (agrees N _ _ (inv (e ∷ h) p), step-right N (runAll n N h) e (ledgerAfter (choose n N) n N h) (inv h (p .0)) (p .1))
+  kept (e ∷ h) p = (agrees N _ _ (inv (e ∷ h) p), step-right N (runFrom s h) e (ledgerFrom (choose s) N s ps h) (inv h (p .0)) (p .1))
 
--- along every history memory is the working copy, and sound
-pub both-sound : (n N : ℕ) → (n ≡ 1) ⊎ (n ≡ 2) → n ≤ N → N ≤ 65535 → (h : History) → May n N h
-    → (runAll n N h .memory ≡ runAll n N h .working) × (sound (runAll n N h .working) ≡ true)
-both-sound n N kind low high h p = let v = inv n N kind low high h p in (v .both, v .fine)
+-- ---- from a sound table
+
+starts : (t : Words) → sound t ≡ true → Inv (nodes t) (both t) (mapsOf t)
+starts t s = record { both = refl; fine = s; size = refl; maps = refl }
+
+-- For every sound table, whatever histories it came by.
+pub demand3-from : Demand3From
+demand3-from t q = (choose (both t), kept (nodes t) (both t) (mapsOf t) (starts t (sound-same t .1 q)))
+
+-- along every history memory is the working copy, sound, and its maps are the ledger
+pub along : (t : Words) (q : Sound t) (h : History) → MayFrom (both t) h → (let u = runFrom (both t) h in (u .memory ≡ u .working) × (sound (u .working) ≡ true)
+    × (mapsOf (u .working) ≡ ledgerFrom (demand3-from t q .0) (nodes t) (both t) (mapsOf t) h))
+unfolding demand3-from
+along t q h p = let v = inv (nodes t) (both t) (mapsOf t) (starts t (sound-same t .1 q)) h p in (v .both, v .fine, v .maps)
+
+-- ---- from the empty table
+
+module _ (n N : ℕ) (kind : (n ≡ 1) ⊎ (n ≡ 2)) (low : n ≤ N) (high : N ≤ 65535) where
+  pub empty-maps : (n ≡ 1) ⊎ (n ≡ 2) → mapsOf (emptyOf n N) ≡ noPairs n
+  empty-maps (inl e) = rw e (empty-one-maps N (omega arith) high)
+  empty-maps (inr e) = rw e (empty-two-maps N (omega arith) high)
+
+  pub empty-nodes : (n ≡ 1) ⊎ (n ≡ 2) → nodes (emptyOf n N) ≡ N
+  unfolding emptyOf empty nodeStart
+  empty-nodes (inl e) = rw e
+  empty-nodes (inr e) = rw e (getD-set-other (set (empty N) 3 2) (nodeStart 2) 2 MARK 0 (omega arith) ∙ getD-set-other (empty N) 3 2 2 0 (omega arith))
+
+  pub empty-sound : Sound (emptyOf n N)
+  empty-sound = sound-same (emptyOf n N) .0 (settled-sound _ (empty-settled n N kind low high))
 
 -- For one collection or two, every N and every sequence of insertions, deletions, class changes and repairs, whole or cut, each on its dock,
--- with sentinels or without.
+-- with sentinels or without: the empty table is a sound one, and its maps have no pairs.
 pub demand3 : Demand3
-demand3 n N kind low high = (choose n N, kept n N kind low high)
+demand3 n N kind low high =
+    let t = emptyOf n N in
+    let d : HoldsFrom (nodes t) t (mapsOf t) = demand3-from t (empty-sound n N kind low high) in
+    rw (empty-nodes n N kind low high kind, empty-maps n N kind low high kind) at d

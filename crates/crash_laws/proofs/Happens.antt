@@ -16,7 +16,7 @@ use Rattle.model.specs.SoundTest.{settled, sound}
 use Rattle.model.specs.Orders.{Order}
 use Rattle.model.specs.Cuts.{CutImage}
 use Rattle.model.specs.Writes.{Call, insertion, deletion, classChange}
-use Rattle.model.specs.Demand3.{Fate, whole, cut, Event, History, numberOf, eventOrders, runAll, May, Kept}
+use Rattle.model.specs.Demand3.{Fate, whole, cut, Event, History, numberOf, answered, eventOrders, runAll, MayFrom, May, Kept}
 use Rattle.model.proofs.Everything.{everything}
 use Rattle.crash_laws.proofs.Images.{values, withLine, imageBy, imageOf, imageOf-image}
 use Rattle.crash_laws.proofs.Demand3.{demand3}
@@ -51,12 +51,12 @@ deleted = event (deletion 1 20) whole ∷ closed
 may-leave : CutImage 0 3 before ordersCut image
 may-leave = imageOf-image (λ (l : ℕ). 2) before (take 3 ordersCut)
 
-within-list : 3 ≤ length ordersCut
+within-list : 3 ≤ answered (runAll 1 1 inserted) (event (insertion 1 10 101 0) whole)
 unfolding everything
 within-list = omega arith
 
 pub happens : May 1 1 deleted
-unfolding May
+unfolding MayFrom
 happens = ((((tt, λ e. tt), λ e. (within-list, may-leave)), λ e. tt), λ e. tt)
 
 -- what demand 3 says of it

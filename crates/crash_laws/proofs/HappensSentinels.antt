@@ -7,7 +7,7 @@ use mathlib.Core.List.{List, [], _∷_}
 use mathlib.Core.Option.{some}
 use Prim.Native.Nat.{ℕ, _≤_}
 use native.Mathlib.Omega.{arith}
-use lib.ListN.{length, take, replicate}
+use lib.ListN.{take, replicate}
 use Rattle.model.specs.declared.Answer.the-variants.{Found}
 use Rattle.model.specs.Table.{MARK, Words}
 use Rattle.model.specs.Search.{search}
@@ -17,7 +17,7 @@ use Rattle.model.specs.Orders.{Order}
 use Rattle.model.specs.Cuts.{CutImage}
 use Rattle.model.specs.Writes.{Call, insertion, deletion}
 use Rattle.model.specs.Sentinels.{sentinels, sentinelsWith}
-use Rattle.model.specs.Demand3.{Fate, whole, cut, Event, History, numberOf, eventOrders, runAll, May, Kept}
+use Rattle.model.specs.Demand3.{Fate, whole, cut, Event, History, numberOf, answered, eventOrders, runAll, MayFrom, May, Kept}
 use Rattle.model.proofs.Everything.{everything}
 use Rattle.crash_laws.proofs.Images.{values, withLine, imageBy, imageOf, imageOf-image}
 use Rattle.crash_laws.proofs.Demand3.{demand3}
@@ -59,12 +59,12 @@ deleted = taking (replicate 3 7) (deletion 1 20) whole ∷ tooMany
 may-leave : CutImage 0 3 before ordersCut image
 may-leave = imageOf-image (λ (l : ℕ). 2) before (take 3 ordersCut)
 
-within-list : 3 ≤ length ordersCut
+within-list : 3 ≤ answered (runAll 1 1 inserted) (taking oneKey (insertion 1 10 101 0) whole)
 unfolding everything
 within-list = omega arith
 
 pub happens : May 1 1 deleted
-unfolding May
+unfolding MayFrom
 happens = ((((tt, λ e. tt), λ e. (within-list, may-leave)), λ e. tt), λ e. tt)
 
 -- what demand 3 says of it

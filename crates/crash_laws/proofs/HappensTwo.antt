@@ -13,7 +13,7 @@ use Rattle.model.specs.declared.Next.the-variants.{Nothing}
 use Rattle.model.specs.Table.{Words}
 use Rattle.model.specs.Orders.{Order}
 use Rattle.model.specs.Cuts.{CutImage}
-use Rattle.model.specs.Demand3.{whole, cut, History, numberOf, eventOrders, runAll, May, Kept}
+use Rattle.model.specs.Demand3.{whole, cut, History, numberOf, answered, eventOrders, runAll, MayFrom, May, Kept}
 use Rattle.model.proofs.Everything.{everything}
 use Rattle.model.specs.SoundTest.{sound, settled}
 use Rattle.model.specs.Search.{search}
@@ -46,12 +46,12 @@ deleted = event (deletion 1 20) whole ∷ cutShort
 may-leave : CutImage 0 3 before ordersCut image
 may-leave = imageOf-image (λ (l : ℕ). 2) before (take 3 ordersCut)
 
-within-list : 3 ≤ length ordersCut
+within-list : 3 ≤ answered (runAll 2 2 inserted) (event (insertion 2 20 102 0) whole)
 unfolding everything
 within-list = omega arith
 
 pub happens : May 2 2 deleted
-unfolding May
+unfolding MayFrom
 happens = (((tt, λ e. tt), λ e. (within-list, may-leave)), λ e. tt)
 
 -- what demand 3 says of it

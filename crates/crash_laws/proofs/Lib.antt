@@ -1,5 +1,6 @@
 -- Demand 3, histories that may happen, and drawings that do not hold.
 pub mod Demand3
+pub mod Starts
 pub mod Batches
 pub mod Images
 pub mod Happens
@@ -7,3 +8,4 @@ pub mod HappensTwo
 pub mod HappensDocks
 pub mod HappensSentinels
 pub mod Drawings
+pub mod HappensSplit

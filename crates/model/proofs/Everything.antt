@@ -50,7 +50,7 @@ unfolding Codes.isDigit Codes.isLetter Codes.isLetterOrDigit Codes.every Codes.i
     Writes.deleteSettled Writes.deleteStores Writes.setClassAt Writes.classStores Writes.storesOf
     Refusals.tooHigh Refusals.tooFew Refusals.hasKey Refusals.hasRecording Refusals.refusal Refusals.written Refusals.tableAfter Refusals.listAfter
     Ledger.enter Ledger.leave Ledger.reclass Ledger.onMap Ledger.ledgerRefusal Ledger.feed
-    Demand3.step Demand3.runAll Demand3.May Demand3.ledgerAfter
+    Demand3.step Demand3.runFrom Demand3.MayFrom Demand3.ledgerFrom
     Printer.lines Printer.fields Printer.isRecording Printer.formOf Printer.decimalFrom Printer.decimal Printer.numbersText Printer.orderText Printer.ordersText
     Printer.doCall Printer.doForm Printer.doLine Printer.doLines Printer.printer
     Packing.groups Packing.bottom Packing.numbered Packing.rowAbove Packing.rowsAbove Packing.packed Packing.rowWords Packing.rowsWords Packing.countRows

@@ -3,3 +3,4 @@ pub mod Worked
 pub mod Tables
 pub mod Quick
 pub mod Trials
+pub mod Batched

@@ -27,3 +27,4 @@ pub mod Wear
 pub mod Pack
 pub mod Batch
 pub mod Statistics
+pub mod Batches
