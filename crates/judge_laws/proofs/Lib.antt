@@ -4,3 +4,4 @@ pub mod Unflushed
 pub mod Judged
 pub mod Ours
 pub mod Calls
+pub mod Numbers

@@ -4,3 +4,4 @@ pub mod Tables
 pub mod Quick
 pub mod Trials
 pub mod Batched
+pub mod Judging
