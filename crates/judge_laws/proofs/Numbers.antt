@@ -1,6 +1,6 @@
 -- The judge's numbers in the request's order, 2, 17, 4, 20, 13, 15, 21: each comes exactly on its condition, where none before it holds.
 use mathlib.Core.Path.{_≡_, refl, sym, _∙_}
-use mathlib.Core.Bool.{Bool, true, false, not, false≢true}
+use mathlib.Core.Bool.{true, false, not, false≢true}
 use mathlib.Core.Logic.{_≢_, _↔_}
 use mathlib.Core.List.{List}
 use Prim.Native.Nat.{ℕ, _/_}

@@ -11,13 +11,13 @@ use Rattle.model.specs.declared.Next.{Next}
 use Rattle.model.specs.declared.Next.the-variants.{Key, Nothing}
 use Rattle.model.specs.declared.Listed.{Listed}
 use Rattle.model.specs.declared.Listed.the-variants.{Pairs}
-use Rattle.model.specs.Table.{Words}
-use Rattle.model.specs.Slots.{Slot, slot, recording, class, pointerOf, withClass, viewOf}
+use Rattle.model.specs.Table.{Words, noCollection}
+use Rattle.model.specs.Slots.{Slot, slot, recording, class, pointerOf, withClass, nodeView, viewOf}
 use Rattle.model.specs.Search.{within, search}
 use Rattle.model.specs.Reached.{mapOf}
-use Rattle.model.specs.Sound.{Reached, Rise, Settled}
+use Rattle.model.specs.Sound.{Reached, Rise, Settled, Sound}
 use Rattle.model.specs.Listing.{pairWords, list, listOut}
-use Rattle.model.specs.Writes.{Call, insertion, deletion, classChange, repair, repaired}
+use Rattle.model.specs.Writes.{unreachable, Call, insertion, deletion, classChange, repair, repaired}
 use Rattle.model.specs.Refusals.{elevenIn, tenIn, testsFrom18, firstNumber, refusal, tableAfter}
 
 -- ---- the map
@@ -101,3 +101,16 @@ pub record Demand2 (n : ℕ) (t : Words) : Type 0 where
   -- It is accepted or refused by its arguments and its map; 11 and 10 by their conditions on the table as repair would leave it.
   pub judged : (x : Call) → (words dock : ℕ) → Names n x
       → refusal x words dock t ≡ firstNumber (testsFrom18 x words dock (elevenIn x (repaired t)) (tenIn x (repaired t)) (mapOf n t))
+
+-- ---- request 6: what a call's number goes by
+
+-- the same tree of collection n: the same root, and each node reached from it reads the same
+abbrev pub SameTree : (n : ℕ) → (t t′ : Words) → Type 0
+SameTree n t t′ = (viewOf n t′ .root ≡ viewOf n t .root) × ((m : ℕ) → Reached (viewOf n t) m → nodeView t′ m ≡ nodeView t m)
+
+-- A write's acceptance depends on the other collection only by the count of free nodes: two sound tables of one length with the same tree of
+-- collection n and as many unreachable nodes give every call of n the same number.
+abbrev pub OwnNumber : Type 0
+OwnNumber =
+    (n : ℕ) → (t t′ : Words) → Sound t → Sound t′ → noCollection n t ≡ false → length t′ ≡ length t → SameTree n t t′
+    → length (unreachable t′) ≡ length (unreachable t) → (x : Call) → Names n x → (words dock : ℕ) → refusal x words dock t′ ≡ refusal x words dock t
