@@ -106,7 +106,7 @@ omitted x other words dock fed c ps = go (ledgerRefusal x other words dock fed p
     go zero (suc c) = refl
     go (suc n) c = refl
 
--- an answer that tells the choice
+-- the choice by what is answered
 is-true : (g : Bool → Answer) (a : Answer) (b : Bool) → a ≡ g b → (a ≡ g false → ⊥) → b ≡ true
 is-true g a true e z = refl
 is-true g a false e z = absurd (z e)

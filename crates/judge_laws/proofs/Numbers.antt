@@ -1,4 +1,4 @@
--- The judge's numbers in the request's order, 2, 17, 4, 20, 13, 15, 21: each comes exactly on its condition, where none before it holds.
+-- The judge's numbers in the request's order, 2, 17, 4, 20, 13, 15, 21: each comes exactly if its condition holds and none before it does.
 use mathlib.Core.Path.{_≡_, refl, sym, _∙_}
 use mathlib.Core.Bool.{true, false, not, false≢true}
 use mathlib.Core.Logic.{_≢_, _↔_}

@@ -67,7 +67,7 @@ module _ (v v′ : View) (nodes-same : v′ .nodes ≡ v .nodes) (root-same : v�
   else-same : (k i : ℕ) → i ≢ k → mixed (suc k) .node i ≡ mixed k .node i
   else-same k i q = ap (λ (b : Bool). cond b (v′ .node i) (v .node i)) (at-same i k q)
 
-  -- where node k is the same in both
+  -- if node k is the same in both
   kept-whole : (k : ℕ) → v′ .node k ≡ v .node k → Same v (mixed k) z → Same v (mixed (suc k)) z
   kept-whole k e s = rw (view-same (mixed (suc k)) (mixed k) refl refl (λ i. go i (same-or-not i k))) s
     where

@@ -1,4 +1,4 @@
--- The judge's numbers in their order, computed: each comes where its condition holds and later ones do too.
+-- The judge's numbers in their order, computed: each comes if its condition holds, though later ones hold too.
 use mathlib.Core.Path.{_≡_, refl}
 use mathlib.Core.List.{[], _∷_}
 use lib.ListN.{set}

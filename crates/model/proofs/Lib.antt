@@ -4,4 +4,5 @@ pub mod Tables
 pub mod Quick
 pub mod Trials
 pub mod Batched
+pub mod Listings
 pub mod Judging

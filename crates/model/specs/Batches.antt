@@ -66,8 +66,8 @@ abbrev pub PairsBy : Fate → (pairs taken : ℕ) → Type 0
 PairsBy whole pairs taken = pairs ≡ taken
 PairsBy (cut c m) pairs taken = pairs ≤ taken
 
--- The number that stopped it: where pairs are left it is the one that the ledger refuses the next of them with, by the words that are left
--- of the list; where none is left it is 0.
+-- The number that stopped it: if pairs are left it is the one that the ledger refuses the next of them with, by the words that are left of
+-- the list; if none is left it is 0.
 abbrev pub Stops : (n words dock number : ℕ) → Ledger → (left : List Slot) → Type 0
 Stops n words dock number ps [] = number ≡ 0
 Stops n words dock number ps (s ∷ ss) =
