@@ -7,3 +7,15 @@ pub mod Histories
 pub mod Skips
 pub mod StoresHistory
 pub mod Readers
+-- In one call no word comes back to a value that it lost.
+pub mod Values
+pub mod ShiftValues
+pub mod SettledNodes
+pub mod SplitValues
+pub mod SplitLevels
+pub mod SplitNode
+pub mod RestSteady
+pub mod Sights
+pub mod InsertSteady
+pub mod RootSteady
+pub mod Returns

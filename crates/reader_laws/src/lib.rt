@@ -1,1 +1,1 @@
-// Searches whose looks fall between the orders of a call, in proofs/. No code.
+// Searches whose looks fall between the orders of a call, and the values that a word takes meanwhile, in proofs/. No code.

@@ -1,0 +1,2 @@
+-- What a host that copies the nodes it passes, and compares them, rests on.
+pub mod Returns
