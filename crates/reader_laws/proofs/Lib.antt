@@ -7,6 +7,7 @@ pub mod Histories
 pub mod Skips
 pub mod StoresHistory
 pub mod Readers
+pub mod OtherCalls
 -- In one call no word comes back to a value that it lost.
 pub mod Values
 pub mod ShiftValues
