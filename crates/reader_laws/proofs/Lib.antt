@@ -20,3 +20,4 @@ pub mod Sights
 pub mod InsertSteady
 pub mod RootSteady
 pub mod Returns
+pub mod Returned
