@@ -27,7 +27,7 @@ use Rattle.reader_laws.proofs.Values.{valuesTo, values-append, values-h
 use Rattle.reader_laws.proofs.ShiftValues.{shift-in-steady, one-put, none-put, shown-word}
 use Rattle.reader_laws.proofs.SettledNodes.{shift-in-into, reached-some, reached-few, standing-level}
 use Rattle.reader_laws.proofs.SplitValues.{one-node, no-header, shift-none, Going, newAt, keyAt, rest, rest-zero, rest-suc, going-next, stays-reached, new-some, new-fresh, middle-new}
-use Rattle.reader_laws.proofs.SplitValues.{sd, a-reached, b-free, full-node, a-some, p-some, b-some, not-b, a-all, p-all, split-none, split-a, split-p}
+use Rattle.reader_laws.proofs.SplitValues.{ns, a-reached, b-free, full-node, a-some, p-some, b-some, not-b, a-all, p-all, split-none, split-a, split-p}
 use Rattle.reader_laws.proofs.SplitLevels.{standing-split}
 use Rattle.reader_laws.proofs.SplitNode.{pointer-some, cut-lost}
 
@@ -75,7 +75,7 @@ module _ (n k y : ℕ) where
 
     -- on the other levels the same nodes stand for k
     pub standing-other : (d : ℕ) → d ≤ suc l → d ≢ l → standing n (apply (splitFor n t l k) t) d k ≡ standing n t d k
-    standing-other d h z = split-standing (sd n k y l t g) t k l (full-node n k y l t g) b (b-free n k y l t g) d (omega (arith, g .ready .high)) z
+    standing-other d h z = split-standing (rootWord n) (ns n k y l t g) t (own-fine n t (g .ready .collection) (g .ready .settled)) k l (full-node n k y l t g) b (b-free n k y l t g) d (omega (arith, g .ready .high)) z
 
   -- ---- a word of none of the nodes that stand for k
 
@@ -103,7 +103,8 @@ module _ (n k y : ℕ) where
     parent-past : (d : ℕ) → d ≤ l → standing n (apply (splitFor n t l k) t) d k ≢ standing n t (suc l) k
     parent-past d h e =
         let g′ = going-next n k y l t g in
-        let high : suc l ≤ height (viewOf n t′) = omega (arith, g .ready .high, split-height (sd n k y l t g) t k l (full-node n k y l t g) (b l t g) (b-free n k y l t g)) in
+        let fine = own-fine n t (g .ready .collection) (g .ready .settled) in
+        let high : suc l ≤ height (viewOf n t′) = omega (arith, g .ready .high, split-height (rootWord n) (ns n k y l t g) t fine k l (full-node n k y l t g) (b l t g) (b-free n k y l t g)) in
         let f = standing-level n t′ (g′ .ready .collection) (g′ .ready .settled) in
         omega (arith, f d k (omega arith), f (suc l) k high, ap (λ (m : ℕ). nodeView t′ m .level) (e ∙ sym (standing-other l t g (suc l) (omega arith) (λ q. omega arith))))
       where

@@ -3,7 +3,7 @@ use mathlib.Core.Path.{_≡_, refl, sym, ap, subst, _∙_}
 use mathlib.Core.Bool.{Bool, true, false, cond, _&&_, false≢true}
 use mathlib.Core.Logic.{_≢_, _⊎_, inl, inr}
 use mathlib.Core.List.{List, [], _∷_, _++_, List·Memᴰ}
-use Prim.Native.Nat.{ℕ, suc, _+_, _-_, _≤_, _<_}
+use Prim.Native.Nat.{ℕ, suc, _+_, _≤_, _<_}
 use native.Mathlib.Omega.{arith}
 use lib.Dec.{eqb}
 use lib.ListN.{length, take, length-append}
@@ -25,9 +25,9 @@ use Rattle.step_laws.proofs.Rowwise.{OnRow}
 use Rattle.step_laws.proofs.LevelCourses.{Quiet}
 use Rattle.step_laws.proofs.LinkCourses.{whole-quiet}
 use Rattle.step_laws.proofs.Fresh.{Free}
-use Rattle.step_laws.proofs.Seen.{Side}
+use Rattle.step_laws.proofs.TreeAt.{treeAt}
 use Rattle.two_laws.specs.Parts.{Enters}
-use Rattle.two_laws.proofs.TwoLaw.{seen, Tree, Course, side}
+use Rattle.two_laws.proofs.TwoLaw.{Tree, Course, taken}
 use Rattle.two_laws.proofs.Arrange.{Arr, arr-low, arr-word, arr-others, free-fresh, free-off}
 use Rattle.two_laws.proofs.AcceptedTwo.{there}
 use Rattle.two_laws.proofs.CallsTwo.{arr-other}
@@ -70,8 +70,8 @@ module _ (n : ℕ) (t : Words) (h : noCollection n t ≡ false) (s : settled t �
   q = fresh t (at t (rootWord n))
 
   module _ (high : height (viewOf n t) < 15) (some : 0 < length (unreachable t)) where
-    abbrev sd : Side
-    sd = side (rootWord n) (beside n t h s .0) t
+    abbrev ns : List ℕ
+    ns = taken (beside n t h s .0) t
 
     abbrev words : Words
     words = nodeWords (at t (rootWord n)) 0 (suc (height (viewOf n t))) 0 []
@@ -82,7 +82,7 @@ module _ (n : ℕ) (t : Words) (h : noCollection n t ≡ false) (s : settled t �
     abbrev part : ℕ → Words
     part j = apply (take j ss) t
 
-    free : Free sd t q
+    free : Free (rootWord n) ns t q
     free = free-fresh (rootWord n) ws t (at t (rootWord n)) arr tree (root-reached n t h s) some
 
     size : length words ≡ 32
@@ -94,7 +94,7 @@ module _ (n : ℕ) (t : Words) (h : noCollection n t ≡ false) (s : settled t �
     long : length ss ≡ 33
     long = length-append (putAll (nodeStart q) words) (put (rootWord n) q ∷ []) ∙ omega (arith, length-put-all (nodeStart q) words, size)
 
-    course : Course 38 (rootWord n) ws t ss (mapping (seen (rootWord n) t))
+    course : Course 38 (rootWord n) ws t ss (mapping (treeAt (rootWord n) t))
     course = root-course (rootWord n) ws t (arr-low (rootWord n) ws t arr) (arr-word (rootWord n) ws t arr) (arr-others (rootWord n) ws t arr) tree high q free
 
     -- before the last store the nodes reached are those of the old table
@@ -104,17 +104,17 @@ module _ (n : ℕ) (t : Words) (h : noCollection n t ≡ false) (s : settled t �
         there-c : noCollection c t ≡ false
         there-c = same-there t (part j) (course .lack j) c i
 
-        own : rootWord c ≡ rootWord n → List·Memᴰ m (reached (seen (rootWord c) t))
+        own : rootWord c ≡ rootWord n → List·Memᴰ m (reached (treeAt (rootWord c) t))
         own e =
             let d = nodeView (part j) m .level in
             let here : OnRow (viewOf n (part j)) d m = (rw e at r, refl) in
             let x : OnRow (viewOf n (apply (take j (putAll (nodeStart q) words)) t)) d m = subst (λ (us : List Store). OnRow (viewOf n (apply us t)) d m) (words-part j g) here in
-            rw e (whole-quiet sd t q (own-fine n t h s) free words size d j .same .back m x .0)
+            rw e (whole-quiet (rootWord n) ns t q (own-fine n t h s) free words size d j .same .back m x .0)
 
-        go : (rootWord c ≡ rootWord n) ⊎ (rootWord c ≢ rootWord n) → List·Memᴰ m (reached (seen (rootWord c) t))
+        go : (rootWord c ≡ rootWord n) ⊎ (rootWord c ≢ rootWord n) → List·Memᴰ m (reached (treeAt (rootWord c) t))
         go (inl e) = own e
         go (inr z) =
-            arr-other (rootWord n) ws t (rootWord c) (λ (x : ℕ). (d : ℕ) → Quiet (seen x) d t ss) arr (there c t there-c .1) z
+            arr-other (rootWord n) ws t (rootWord c) (λ (x : ℕ). (d : ℕ) → Quiet (treeAt x) d t ss) arr (there c t there-c .1) z
             (root-beside (rootWord n) ws t (arr-low (rootWord n) ws t arr) (arr-word (rootWord n) ws t arr) (arr-others (rootWord n) ws t arr) tree high q free) (nodeView (part j) m .level) j .same .back m (r, refl) .0
 
     -- the words of other nodes are not stored to; a header word once at most

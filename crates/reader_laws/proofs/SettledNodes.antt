@@ -24,8 +24,8 @@ use Rattle.word_laws.proofs.SlotRuns.{slot-into}
 use Rattle.word_laws.proofs.ShiftViews.{shown-few}
 use Rattle.step_laws.proofs.Standing.{standing-stands}
 use Rattle.step_laws.proofs.Freeing.{Freeable}
-use Rattle.step_laws.proofs.Seen.{Fine}
-use Rattle.two_laws.proofs.TwoLaw.{Tree, side, tree-fine, own-some, own-clear}
+use Rattle.step_laws.proofs.TreeAt.{Fine}
+use Rattle.two_laws.proofs.TwoLaw.{Tree, taken, tree-fine, own-usable, own-other}
 use Rattle.two_laws.proofs.Arrange.{Arr, arr-low, settled-tree}
 use Rattle.two_laws.proofs.CallsTwo.{arranged}
 use Rattle.two_laws.proofs.AcceptedTwo.{there}
@@ -62,17 +62,17 @@ module _ (n : ℕ) (t : Words) (h : noCollection n t ≡ false) (s : settled t �
   pub own-tree : Tree (rootWord n) (beside .0) t nothing
   own-tree = settled-tree (rootWord n) (beside .0) t (beside .1) s
 
-  pub own-fine : Fine (side (rootWord n) (beside .0) t) t nothing
+  pub own-fine : Fine (rootWord n) (taken (beside .0) t) t nothing
   own-fine = tree-fine (rootWord n) (beside .0) t (arr-low (rootWord n) (beside .0) t (beside .1)) nothing own-tree
 
   pub reached-some : (m : ℕ) → List·Memᴰ m (reached (viewOf n t)) → 1 ≤ m
-  reached-some m i = own-some (rootWord n) (beside .0) t nothing own-tree m i
+  reached-some m i = own-other (rootWord n) (beside .0) t nothing own-tree m i .some
 
   pub reached-few : (m : ℕ) → List·Memᴰ m (reached (viewOf n t)) → length (nodeView t m .shown) ≤ 11
-  reached-few m i = shown-few t m (own-clear (rootWord n) (beside .0) t nothing own-tree m i)
+  reached-few m i = shown-few t m (own-usable (rootWord n) (beside .0) t nothing own-tree m i .clear)
 
   pub standing-level : (d k : ℕ) → d ≤ height (viewOf n t) → nodeView t (standing n t d k) .level ≡ d
-  standing-level d k l = standing-stands (side (rootWord n) (beside .0) t) t own-fine k d l .covers .at .level
+  standing-level d k l = standing-stands (rootWord n) (taken (beside .0) t) t own-fine k d l .covers .at .level
 
 -- ---- deletion
 
@@ -103,7 +103,7 @@ module _ (n : ℕ) (t : Words) (h : noCollection n t ≡ false) (s : settled t �
     abbrev link : ℕ
     link = suc (nodeStart (childBefore (view t₁) p x))
 
-    freeable : Freeable (side (rootWord n) (beside n t h s .0) t₁) t₁ p x
+    freeable : Freeable (rootWord n) (taken (beside n t h s .0) t₁) t₁ p x
     freeable = can-free n (beside n t h s .0) t (beside n t h s .1) (own-tree n t h s) k has e
 
     p-few : length (nodeView t₁ p .shown) ≤ 11

@@ -30,7 +30,7 @@ use Rattle.step_laws.proofs.LinkCourses.{whole-quiet}
 use Rattle.step_laws.proofs.Standing.{standing-stands, standing-is}
 use Rattle.step_laws.proofs.Split.{split-quiet, split-turn, split-settled}
 use Rattle.two_laws.specs.Parts.{splitFor}
-use Rattle.two_laws.proofs.TwoLaw.{seen}
+use Rattle.step_laws.proofs.TreeAt.{treeAt}
 use Rattle.two_laws.proofs.Arrange.{arr-low}
 use Rattle.two_laws.proofs.AcceptedTwo.{there}
 use Rattle.two_laws.proofs.CallsTwo.{Is, arr-other}
@@ -42,7 +42,7 @@ use Rattle.reader_laws.proofs.ShiftValues.{none-put}
 use Rattle.reader_laws.proofs.Histories.{History}
 use Rattle.reader_laws.proofs.StoresHistory.{stores-history}
 use Rattle.reader_laws.proofs.SettledNodes.{beside, own-tree, own-fine}
-use Rattle.reader_laws.proofs.SplitValues.{all-reach, Going, sd, a-reached, b-free, full-node, ready-in, split-a, going-next}
+use Rattle.reader_laws.proofs.SplitValues.{all-reach, Going, ns, a-reached, b-free, full-node, split-a, going-next}
 
 pub length-put-all : (w : ℕ) (xs : Words) → length (putAll w xs) ≡ length xs
 unfolding putAll
@@ -78,17 +78,17 @@ module _ (n k y l : ℕ) (t : Words) (g : Going n k y (suc l) t) where
   ws = beside n t (g .ready .collection) (g .ready .settled) .0
 
   orderly : (j : ℕ) → Orderly (viewOf n (part j))
-  orderly j = first-course l n ws t k (ready-in n k y l t g) .part j .1 .left .orderly
+  orderly j = first-course l n ws t k (beside n t (g .ready .collection) (g .ready .settled) .1) (g .ready) .part j .1 .left .orderly
 
-  may-turn : (d : ℕ) → MayTurn (seen (rootWord n)) d t ss
+  may-turn : (d : ℕ) → MayTurn (treeAt (rootWord n)) d t ss
   may-turn d = go (same-or-not d l)
     where
-      go : (d ≡ l) ⊎ (d ≢ l) → MayTurn (seen (rootWord n)) d t ss
-      go (inl e) = inr (rw e (split-turn (sd n k y l t g) t k l (full-node n k y l t g) b (b-free n k y l t g)))
-      go (inr z) = inl (split-quiet (sd n k y l t g) t k l (full-node n k y l t g) b (b-free n k y l t g) d z)
+      go : (d ≡ l) ⊎ (d ≢ l) → MayTurn (treeAt (rootWord n)) d t ss
+      go (inl e) = inr (rw e (split-turn (rootWord n) (ns n k y l t g) t (own-fine n t (g .ready .collection) (g .ready .settled)) k l (full-node n k y l t g) b (b-free n k y l t g)))
+      go (inr z) = inl (split-quiet (rootWord n) (ns n k y l t g) t (own-fine n t (g .ready .collection) (g .ready .settled)) k l (full-node n k y l t g) b (b-free n k y l t g) d z)
 
   history : (d : ℕ) → History (λ (j : ℕ). viewOf n (part j)) d
-  history d = stores-history (seen (rootWord n)) t ss orderly d (may-turn d)
+  history d = stores-history (treeAt (rootWord n)) t ss orderly d (may-turn d)
 
   -- ---- which nodes are reached
 
@@ -102,15 +102,15 @@ module _ (n k y l : ℕ) (t : Words) (g : Going n k y (suc l) t) where
 
   own-early : (j m : ℕ) → j ≤ 32 → List·Memᴰ m (reached (viewOf n (part j))) → List·Memᴰ m (reached (viewOf n t))
   own-early j m h i =
-      let q = whole-quiet (sd n k y l t g) t b (own-fine n t (g .ready .collection) (g .ready .settled)) (b-free n k y l t g) (splitWords t a) (length-split t a) (nodeView (part j) m .level) j in
+      let q = whole-quiet (rootWord n) (ns n k y l t g) t b (own-fine n t (g .ready .collection) (g .ready .settled)) (b-free n k y l t g) (splitWords t a) (length-split t a) (nodeView (part j) m .level) j in
       let d = nodeView (part j) m .level in
       let here : OnRow (viewOf n (part j)) d m = (i, refl) in
       let r : OnRow (viewOf n (apply (take j (putAll (nodeStart b) (splitWords t a))) t)) d m = subst (λ (us : List Store). OnRow (viewOf n (apply us t)) d m) (words-part j h) here in
       q .same .back m r .0
 
-  other-same : (x : ℕ) → Is x t → x ≢ rootWord n → (j m : ℕ) → List·Memᴰ m (reached (seen x (part j))) → List·Memᴰ m (reached (seen x t))
+  other-same : (x : ℕ) → Is x t → x ≢ rootWord n → (j m : ℕ) → List·Memᴰ m (reached (treeAt x (part j))) → List·Memᴰ m (reached (treeAt x t))
   other-same x i z j m r =
-      arr-other (rootWord n) ws t x (λ (x : ℕ). (d : ℕ) → Quiet (seen x) d t ss) (beside n t (g .ready .collection) (g .ready .settled) .1) i z
+      arr-other (rootWord n) ws t x (λ (x : ℕ). (d : ℕ) → Quiet (treeAt x) d t ss) (beside n t (g .ready .collection) (g .ready .settled) .1) i z
       (split-beside (rootWord n) ws t (arr-low (rootWord n) ws t (beside n t (g .ready .collection) (g .ready .settled) .1)) (own-tree n t (g .ready .collection) (g .ready .settled)) k l (full-node n k y l t g) b (b-free n k y l t g))
       (nodeView (part j) m .level) j .same .back m (r, refl) .0
 
@@ -127,7 +127,7 @@ module _ (n k y l : ℕ) (t : Words) (g : Going n k y (suc l) t) where
 
           by : (m ≡ b) ⊎ (m ≢ b) → (elem m (reachedAll t) ≡ true) ⊎ ((m ≡ b) × (32 < j) × (elem m (reachedAll t′) ≡ true))
           by (inl e) = inr (e, q, done)
-          by (inr z) = inl (sym (first-others l n ws t k (ready-in n k y l t g) m z) ∙ done)
+          by (inr z) = inl (sym (first-others l n ws t k (beside n t (g .ready .collection) (g .ready .settled) .1) (g .ready) m z) ∙ done)
 
       own : rootWord c ≡ rootWord n → List·Memᴰ m (reached (viewOf n (part j)))
       own e = rw e at i
@@ -158,10 +158,11 @@ module _ (n k y l : ℕ) (t : Words) (g : Going n k y (suc l) t) where
       comes : Comes v k l a
       comes =
           let f = full-node n k y l t g in
-          rw (take-length {A = Store}) at (history-comes (λ (j : ℕ). viewOf n (part j)) orderly l (history l) 0 (length ss) k a (omega arith) (standing-stands (sd n k y l t g) t (f .settled) k l (omega (arith, f .high))))
+          let stands = standing-stands (rootWord n) (ns n k y l t g) t (own-fine n t (g .ready .collection) (g .ready .settled)) k l (omega (arith, f .high)) in
+          rw (take-length {A = Store}) at (history-comes (λ (j : ℕ). viewOf n (part j)) orderly l (history l) 0 (length ss) k a (omega arith) stands)
 
       is : (m : ℕ) → Stands v k l m → standing n t′ l k ≡ m
-      is m c = standing-is (sd n k y l t g) t′ (split-settled (sd n k y l t g) t k l (full-node n k y l t g) b (b-free n k y l t g)) k l m c
+      is m c = standing-is (rootWord n) (ns n k y l t g) t′ (split-settled (rootWord n) (ns n k y l t g) t (own-fine n t (g .ready .collection) (g .ready .settled)) k l (full-node n k y l t g) b (b-free n k y l t g)) k l m c
 
       go : (c : Bool) → within v a k ≡ c → (standing n t′ l k ≡ a) ⊎ (standing n t′ l k ≡ b)
       go true e = inl (is a (rw (stays v k a e) at (comes .stands)))

@@ -28,18 +28,18 @@ use Rattle.cut_laws.proofs.Applying.{apply-append}
 use Rattle.change_laws.proofs.Parts.{all-finished}
 use Rattle.change_laws.proofs.LeafSlots.{NewPair, enter-fresh}
 use Rattle.step_laws.proofs.Fresh.{Free}
-use Rattle.step_laws.proofs.Split.{FullNode}
+use Rattle.step_laws.specs.Parts.{FullNode}
 use Rattle.step_laws.proofs.LeafShift.{not-pointed}
-use Rattle.step_laws.proofs.Seen.{Side}
+use Rattle.step_laws.proofs.TreeAt.{treeAt}
 use Rattle.two_laws.specs.Parts.{splitFor, Ready}
-use Rattle.two_laws.proofs.TwoLaw.{Tree, side}
+use Rattle.two_laws.proofs.TwoLaw.{Tree, taken}
 use Rattle.two_laws.proofs.Arrange.{Arr, arr-covers, free-fresh, free-off}
 use Rattle.two_laws.proofs.SplitTwo.{length-split}
-use Rattle.two_laws.proofs.InsertTwo.{ReadyIn, first-course}
+use Rattle.two_laws.proofs.InsertTwo.{first-course}
 use Rattle.two_laws.proofs.PartsTwo.{standing-reached, ready-later, split-stays}
 use Rattle.reader_laws.proofs.Values.{valuesTo, values-append, values-past, into-none}
 use Rattle.reader_laws.proofs.ShiftValues.{none-put}
-use Rattle.reader_laws.proofs.SettledNodes.{shift-in-into, beside, own-tree, own-fine, reached-some, standing-level}
+use Rattle.reader_laws.proofs.SettledNodes.{shift-in-into, beside, own-tree, reached-some, standing-level}
 
 -- ---- the words of a node
 
@@ -128,8 +128,8 @@ module _ (n k y : ℕ) where
     abbrev tree : Tree (rootWord n) ws t nothing
     tree = own-tree n t (r .collection) (r .settled)
 
-    abbrev pub sd : Side
-    sd = side (rootWord n) (beside n t (g .ready .collection) (g .ready .settled) .0) t
+    abbrev pub ns : List ℕ
+    ns = taken (beside n t (g .ready .collection) (g .ready .settled) .0) t
 
     pub a-reached : List·Memᴰ (standing n t l k) (reached (viewOf n t))
     a-reached = standing-reached n t (r .collection) (r .settled) l k (omega (arith, r .high))
@@ -137,14 +137,11 @@ module _ (n k y : ℕ) where
     pub p-reached : List·Memᴰ (standing n t (suc l) k) (reached (viewOf n t))
     p-reached = standing-reached n t (r .collection) (r .settled) (suc l) k (r .high)
 
-    pub b-free : Free sd t (fresh t (standing n t l k))
+    pub b-free : Free (rootWord n) ns t (fresh t (standing n t l k))
     b-free = free-fresh (rootWord n) ws t a arr tree a-reached (omega (arith, r .enough))
 
-    pub full-node : FullNode sd t k l
-    full-node = record { settled = own-fine n t (r .collection) (r .settled); high = r .high; full = r .full l (omega arith); roomy = r .above }
-
-    pub ready-in : ReadyIn (suc l) n (beside n t (g .ready .collection) (g .ready .settled) .0) t k
-    ready-in = record { arr = arr; tree = tree; high = r .high; full = r .full; above = r .above; enough = r .enough }
+    pub full-node : FullNode (treeAt (rootWord n) t) k l
+    full-node = record { high = r .high; full = r .full l (omega arith); roomy = r .above }
 
     pub a-some : 1 ≤ standing n t l k
     a-some = reached-some n t (r .collection) (r .settled) a a-reached
@@ -212,7 +209,7 @@ module _ (n k y : ℕ) where
 
     pub going-next : Going l (apply (splitFor n t l k) t)
     going-next =
-        let e : mapping (viewOf n (apply (splitFor n t l k) t)) ≡ mapping (viewOf n t) = first-course l n ws t k ready-in .maps in
+        let e : mapping (viewOf n (apply (splitFor n t l k) t)) ≡ mapping (viewOf n t) = first-course l n ws t k arr r .maps in
         record { ready = ready-later l n t k r; new = record { no-key = rw e (g .new .no-key); no-recording = rw e (g .new .no-recording); ok = g .new .ok } }
 
     pub stays-reached : (m : ℕ) → elem m (reachedAll t) ≡ true → elem m (reachedAll (apply (splitFor n t l k) t)) ≡ true
