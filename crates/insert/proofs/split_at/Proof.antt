@@ -29,7 +29,7 @@ last c = c .before .before .before .before
 -- ---- the answers
 
 root-of-requires : tie.Need-root-of-requires
-root-of-requires c κs = let h = c .before .before .before .before .pre .0 in (split-header h, h .node .collection)
+root-of-requires c κs = let h = c .before .before .before .before .pre .0 in (split-header h, h .collection)
 
 fresh-requires : tie.Need-fresh-requires
 fresh-requires c κs = let s = stood (c .before) in let e = entry (s .before) .pre in let h = e .0 in
