@@ -1,6 +1,7 @@
 /* New files that are there whole or not at all: written under another name, synced, renamed, and the folder synced. */
 #include "newfile.h"
 
+#include <dirent.h>
 #include <errno.h>
 #include <fcntl.h>
 #include <limits.h>
@@ -8,10 +9,10 @@
 #include <stdlib.h>
 #include <string.h>
 #include <sys/file.h>
-#include <sys/uio.h>
 #include <unistd.h>
 
 #include "counter.h"
+#include "rights.h"
 
 static bool write_bytes(int file, const void *from, size_t left)
 {
@@ -52,16 +53,22 @@ static char *folder_of(const char *name)
     return strndup(name, slash == name ? 1 : (size_t)(slash - name));
 }
 
-/* A folder that this user may not list is synced with its whole file system. */
-bool sync_name(const char *name, int file)
+static int open_folder(const char *name)
 {
     char *within = folder_of(name);
-    if (!within)
-        return false;
-    int folder = open(within, O_RDONLY | O_DIRECTORY | O_CLOEXEC);
+    int folder = within ? open(within, O_RDONLY | O_DIRECTORY | O_CLOEXEC) : -1;
+    int why = errno;
     free(within);
+    errno = why;
+    return folder;
+}
+
+/* A folder that this user may not read is synced with its whole file system. */
+static bool sync_folder(const char *name, int file)
+{
+    int folder = open_folder(name);
     if (folder < 0)
-        return errno == EACCES && syncfs(file) == 0;
+        return syncfs(file) == 0;
     /* EINVAL: a file system that has nothing to sync of a folder. */
     bool synced = fsync(folder) == 0 || errno == EINVAL;
     int why = errno;
@@ -70,14 +77,96 @@ bool sync_name(const char *name, int file)
     return synced;
 }
 
+bool sync_name(const char *name, int file)
+{
+    /* Where the name leads: a link stays a link to the new file. */
+    char *place = realpath(name, NULL);
+    bool synced = place ? sync_folder(place, file) : syncfs(file) == 0;
+    int why = errno;
+    free(place);
+    errno = why;
+    return synced;
+}
+
+/* ---- under another name meanwhile */
+
+#define MEANWHILE ".new"
+
+/* What follows a name, a point, is a process's number and this ending. */
+static bool is_meanwhile(const char *rest)
+{
+    size_t digits = strspn(rest, "0123456789");
+    return digits > 0 && strcmp(rest + digits, MEANWHILE) == 0;
+}
+
+/* A name that is kept for files which are being made: one of a table would be taken for what a dead program left. */
+static bool kept_name(const char *name)
+{
+    const char *end = strrchr(name, '.'), *rest = end;
+    while (rest && rest > name && rest[-1] >= '0' && rest[-1] <= '9')
+        rest--;
+    return rest && rest > name && rest[-1] == '.' && is_meanwhile(rest);
+}
+
 /* The other name under which a file is written, to be freed. */
 static char *name_meanwhile(const char *name)
 {
-    size_t room = strlen(name) + 32;
-    char *made = malloc(room);
-    if (made)
-        snprintf(made, room, "%s.%ld.new", name, (long)getpid());
-    return made;
+    char *made;
+    return asprintf(&made, "%s.%ld" MEANWHILE, name, (long)getpid()) < 0 ? NULL : made;
+}
+
+/* A file that no living program has locked: its maker was killed, or the power went. */
+static void remove_dead(int folder, const char *entry)
+{
+    struct stat opened, named;
+    int file = openat(folder, entry, O_RDONLY | O_NOFOLLOW | O_NONBLOCK | O_CLOEXEC);
+    if (file < 0)
+        return;
+    bool same = flock(file, LOCK_EX | LOCK_NB) == 0 && fstat(file, &opened) == 0 && S_ISREG(opened.st_mode)
+                && fstatat(folder, entry, &named, AT_SYMLINK_NOFOLLOW) == 0 && opened.st_dev == named.st_dev && opened.st_ino == named.st_ino;
+    if (same)
+        unlinkat(folder, entry, 0);
+    close(file);
+}
+
+/* The files that dead programs have left for this name. They have nothing that was answered. */
+static void remove_all_dead(const char *name)
+{
+    const char *slash = strrchr(name, '/'), *last = slash ? slash + 1 : name;
+    size_t length = strlen(last);
+    int folder = open_folder(name);
+    DIR *all = folder < 0 ? NULL : fdopendir(folder);
+    for (const struct dirent *e; all && (e = readdir(all));)
+        if (strncmp(e->d_name, last, length) == 0 && e->d_name[length] == '.' && is_meanwhile(e->d_name + length + 1))
+            remove_dead(folder, e->d_name);
+    if (all)
+        closedir(all);
+    else if (folder >= 0)
+        close(folder);
+}
+
+/*
+ * A new file, open and locked, so that nobody takes it for one of a dead program; it begins again if somebody did before it had the lock.
+ * -1, with errno.
+ */
+static int open_meanwhile(const char *made, mode_t rights)
+{
+    for (;;) {
+        struct stat about;
+        int file = open(made, O_RDWR | O_CREAT | O_EXCL | O_CLOEXEC, rights);
+        if (file < 0)
+            return -1;
+        bool locked = flock(file, LOCK_EX) == 0 && fstat(file, &about) == 0;
+        if (locked && about.st_nlink > 0)
+            return file;
+        int why = errno;
+        close(file);
+        if (!locked) {
+            unlink(made);
+            errno = why;
+            return -1;
+        }
+    }
 }
 
 /* ---- a file that was not there */
@@ -103,12 +192,13 @@ static uint64_t finish(struct catalogue_file *f, int file, const char *made, con
     }
     if (sync_name(name, file))
         return 0;
-    return fails_for(f, CATALOGUE_FILE_FOLDER, "%s is made, but its folder cannot be synced", name);
+    return fails_for(f, CATALOGUE_FILE_FOLDER, "%s is made, but its folder did not reach the disk, and a power cut may take it away", name);
 }
 
 static uint64_t write_new(struct catalogue_file *f, const char *made, const char *name, const uint64_t *words, size_t count)
 {
-    int file = open(made, O_WRONLY | O_CREAT | O_EXCL | O_CLOEXEC, 0666);
+    remove_all_dead(name);
+    int file = open_meanwhile(made, 0666);
     if (file < 0)
         return not_made(f, name);
     uint64_t number;
@@ -127,6 +217,8 @@ uint64_t new_file(struct catalogue_file *f, const char *name, const uint64_t *wo
     /* Said before the work; the rename tests it again. */
     if (faccessat(AT_FDCWD, name, F_OK, AT_SYMLINK_NOFOLLOW) == 0)
         return exists(f, name);
+    if (kept_name(name))
+        return fails(f, CATALOGUE_FILE_NOT_ALLOWED, "%s cannot be made: names that end in .NUMBER.new are for files that are being made", name);
     char *made = name_meanwhile(name);
     uint64_t number = made ? write_new(f, made, name, words, count) : no_memory(f);
     free(made);
@@ -150,32 +242,21 @@ bool replaceable(const char *name, const struct stat *old)
     return may;
 }
 
-/* Owner, group and rights are the old file's. */
-static bool same_rights(int file, int old)
-{
-    struct stat made, was;
-    if (fstat(file, &made) != 0 || fstat(old, &was) != 0)
-        return false;
-    bool owned = made.st_uid == was.st_uid && made.st_gid == was.st_gid;
-    return (owned || fchown(file, was.st_uid, was.st_gid) == 0) && fchmod(file, was.st_mode & 07777) == 0;
-}
-
 bool successor_make(struct successor *s, const char *name, int old, const uint64_t *words, size_t count)
 {
     *s = (struct successor){.file = -1, .place = realpath(name, NULL)};
     char *made = s->place ? name_meanwhile(s->place) : NULL;
     if (!made)
         return false;
-    /* Who has the table locked has this name too; a killed program that had the same number may have left a file. */
-    unlink(made);
-    s->file = open(made, O_RDWR | O_CREAT | O_EXCL | O_CLOEXEC, 0600);
+    remove_all_dead(s->place);
+    /* Whoever opens it by the table's name finds it locked. */
+    s->file = open_meanwhile(made, 0600);
     if (s->file < 0) {
         free(made);
         return false;
     }
     s->made = made;
-    /* Whoever opens it by the table's name finds it locked. */
-    return same_rights(s->file, old) && flock(s->file, LOCK_EX | LOCK_NB) == 0 && write_table(s->file, words, count);
+    return same_rights(s->file, old) && write_table(s->file, words, count);
 }
 
 bool successor_put(struct successor *s)
