@@ -136,10 +136,11 @@ static uint64_t carry(struct catalogue_file *f, struct catalogue_file_change *c,
 
 static uint64_t carry_planned(struct catalogue_file *f, struct catalogue_file_change *c)
 {
-    uint64_t all = orders_of(c), count = c->cut == CATALOGUE_FILE_ALL ? all : c->cut;
+    uint64_t all = orders_of(c), count = c->cut == CATALOGUE_FILE_ALL ? all : c->cut, number = 0;
     if (count > all)
-        return fails(f, CATALOGUE_FILE_BAD_OPTION, "the change has %" PRIu64 " orders, not %" PRIu64 "; nothing was changed", all, count);
-    uint64_t number = carry(f, c, count);
+        number = fails(f, CATALOGUE_FILE_BAD_OPTION, "the change has %" PRIu64 " orders, not %" PRIu64 "; nothing was changed", all, count);
+    if (number == 0)
+        number = carry(f, c, count);
     if (number == 0 && count < all)
         number = fails(f, CATALOGUE_FILE_CUT, "cut off after %" PRIu64 " of %" PRIu64 " orders", count, all);
     /* The working copy is ahead of memory. */
@@ -155,20 +156,23 @@ static void unplan(struct catalogue_file *f)
     memcpy(f->working, f->expected, bytes_of(f->words, false));
 }
 
+uint64_t make_change(struct catalogue_file *f, struct catalogue_file_change *c)
+{
+    uint64_t number = plan(f, c);
+    if (number == 0)
+        return carry_planned(f, c);
+    if (c->repair > 0)
+        unplan(f);
+    return number;
+}
+
 uint64_t catalogue_file_change(catalogue_file *f, struct catalogue_file_change *c)
 {
     uint64_t number = begin_change(f);
     /* What the system takes for written, and is not, is repaired too. */
     if (number == 0 && c->kind == CATALOGUE_FILE_REPAIR && waits_for_disk(f))
         number = write_again(f);
-    if (number != 0)
-        return number;
-    number = plan(f, c);
-    if (number == 0)
-        return carry_planned(f, c);
-    if (c->repair > 0)
-        unplan(f);
-    return number;
+    return number == 0 ? make_change(f, c) : number;
 }
 
 uint64_t catalogue_file_plan(catalogue_file *f, struct catalogue_file_change *c, const uint64_t **orders)

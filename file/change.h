@@ -10,4 +10,7 @@ uint64_t begin_change(struct catalogue_file *f);
 /* The brackets for the lists of one change. */
 enum brackets brackets_of(const struct catalogue_file *f);
 
+/* A change, after begin_change: with what was left to repair before it, or its first orders alone. */
+uint64_t make_change(struct catalogue_file *f, struct catalogue_file_change *c);
+
 #endif

@@ -259,7 +259,9 @@ enum {
 enum {
     CATALOGUE_FILE_AGAIN = 1,      /* a line that the table has already is CATALOGUE_FILE_THERE, and no refusal */
     CATALOGUE_FILE_KEEP_GOING = 2, /* a refused line does not end the load */
-    CATALOGUE_FILE_IN_PLACE = 4    /* no new file: every change is an order list carried out on this one */
+    CATALOGUE_FILE_BY_ORDERS = 4,  /* nothing is packed: the table comes to what single additions make of it */
+    CATALOGUE_FILE_IN_PLACE = 8,   /* and no new file takes the table's place: every order list is carried out on this one */
+    CATALOGUE_FILE_BRIEF = 16      /* lines that were added or are there are counted, and not handed back */
 };
 
 struct catalogue_file_load {
@@ -270,22 +272,24 @@ struct catalogue_file_load {
      */
     int (*next)(void *context, struct catalogue_file_line *line, int wait);
     /*
-     * What became of a line: number is 0 if it was added, and lasts; CATALOGUE_FILE_THERE; CATALOGUE_FILE_NOT_TAKEN; or its refusal. Every
-     * line of the source is handed back once. By batches they come in order; a packed load hands back refused lines as it reads them and the
-     * others in order at the end. Not 0 ends the load as if the source had ended. Null for nothing.
+     * What became of a line: number is 0 if it was added, and lasts; CATALOGUE_FILE_THERE; its refusal; CATALOGUE_FILE_NOT_TAKEN, or what the
+     * caller said, if the load ended before it; or CATALOGUE_FILE_DISK or CATALOGUE_FILE_FOLDER if it is in the table and may not last. Every
+     * line of the source is handed back once. By batches they come in order; a packed load hands back refused lines as it reads them and
+     * the others in order at the end. Not 0 ends the load as if the source had ended. Null for nothing.
      */
     int (*done)(void *context, const struct catalogue_file_line *line);
-    /* Each order list once it is carried out; not called for what comes by a new file. Null for nothing. */
+    /* Each order list once what it comes to lasts; a packed load has none. Null for nothing. */
     void (*orders)(void *context, const uint64_t *orders, uint64_t count);
     void *context;
     uint64_t added, there, refused, not_taken; /* lines */
+    uint64_t unknown;                          /* lines that are in the table and may not last */
     uint64_t first_refused;                    /* the first refusal's number, 0 for none */
 };
 
 /*
- * Adds lines to a collection: packed into a new file in the table's place if the collection is empty, else by batches of order lists. What was
- * added lasts when the load returns, whatever it returns. 0 at the source's end, also if lines were refused and the load kept going; else
- * the number that ended it: a line's refusal without CATALOGUE_FILE_KEEP_GOING, 4, 10, 11, or one from 300 on.
+ * Adds lines to a collection: packed into a new file in the table's place if the collection is empty and such a file can be made, else by
+ * batches of order lists. What was added lasts when the load returns, whatever it returns. 0 at the source's end, also if lines were refused
+ * and the load kept going; else the number that ended it: a line's refusal without CATALOGUE_FILE_KEEP_GOING, 4, 10, 11, or one from 300 on.
  */
 uint64_t catalogue_file_load(catalogue_file *f, struct catalogue_file_load *load);
 
@@ -314,22 +318,8 @@ struct catalogue_file_drop {
 uint64_t catalogue_file_salvage(catalogue_file *f, const char *name, int (*each)(void *context, const struct catalogue_file_drop *drop),
                                 void *context, uint64_t *dropped);
 
-struct catalogue_file_state {
-    uint64_t settled;     /* 1; 0 if something is left to repair */
-    uint64_t nodes, free; /* of the table; free: no root leads there */
-    uint64_t collections;
-    struct {
-        uint64_t codes, nodes, levels;
-    } of[2]; /* by collection; zeros if there is none */
-    struct {
-        uint64_t kind;       /* 'a', 'b' or 'c', or 0: a hidden slot; a node that lacks its slot in the parent; both */
-        uint64_t collection; /* where it is */
-        uint64_t node;       /* a: the node with the hidden slot; b and c: the node that lacks its slot */
-    } leftover;
-};
-
-/* What a sound table has. 0; 4 if it is not sound, 2 if it is no table. */
-uint64_t catalogue_file_check(catalogue_file *f, struct catalogue_file_state *state);
+/* What a sound table has, as catalogue_check reports it: 16 words. 0; 4 if it is not sound, 2 if it is no table, or one from 300 on. */
+uint64_t catalogue_file_check(catalogue_file *f, uint64_t *report);
 
 /* ---- codes as people write them */
 
