@@ -31,7 +31,7 @@ struct batch {
     bool by_file; /* a new file may be put in the table's place */
 };
 
-uint64_t batch_begin(struct loading *l)
+uint64_t batch_begin(struct loading *l, bool by_file)
 {
     struct catalogue_file *f = l->f;
     struct stat ours;
@@ -42,7 +42,7 @@ uint64_t batch_begin(struct loading *l)
     bool watched = f->carrying.pause > 0;
     l->batch->count = 0;
     l->batch->limit = watched ? 1 : FIRST_LINES;
-    l->batch->by_file = !watched && !(l->load->flags & CATALOGUE_FILE_IN_PLACE) && waits_for_disk(f) && has_name(f, &ours)
+    l->batch->by_file = by_file && !watched && !(l->load->flags & CATALOGUE_FILE_IN_PLACE) && waits_for_disk(f) && has_name(f, &ours)
                         && replaceable(f->path, &ours);
     return 0;
 }
@@ -132,7 +132,7 @@ static uint64_t carry_orders(struct loading *l, uint64_t count, uint64_t flushes
     struct catalogue_file *f = l->f;
     uint64_t number = 0, carried = 0;
     if (b->by_file && flushes > 8 + bytes_of(f->words, true) / PAGE_BYTES / 64)
-        number = replace(f, by_file);
+        b->by_file = (number = replace(f, by_file)) == 0 && *by_file;
     if (number == 0 && !*by_file)
         number = still_ours(f, b->orders, count);
     if (number == 0 && !*by_file)

@@ -45,7 +45,6 @@ static const struct {
     {CATALOGUE_FILE_BUSY, "the table is changed faster than it can be read"},
     {CATALOGUE_FILE_NOT_OPEN, "the handle has no file open"},
     {CATALOGUE_FILE_NOT_WRITING, "the handle is open for reading"},
-    {CATALOGUE_FILE_NO_CLASS, "the code is there with a class that there is not: the table is damaged, and the recording must not play"},
     {CATALOGUE_FILE_BAD_OPTION, "there is no such option"},
     {CATALOGUE_FILE_STOPPED, "ended by the caller"},
     {CATALOGUE_FILE_THERE, "the table has the line already"},

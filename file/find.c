@@ -21,7 +21,7 @@ static uint64_t no_answer(struct catalogue_file *f, uint64_t number)
 {
     if (number == LOOKS_BUSY)
         return fails(f, CATALOGUE_FILE_BUSY, "%s is changed faster than it can be read", f->name);
-    return number < CATALOGUE_FILE_NO_FILE || number == CATALOGUE_FILE_NO_CLASS ? refuses(f, number) : number;
+    return number < CATALOGUE_FILE_NO_FILE ? refuses(f, number) : number;
 }
 
 uint64_t catalogue_file_find(catalogue_file *f, uint64_t collection, uint64_t key, struct catalogue_file_pair *found)
@@ -32,8 +32,9 @@ uint64_t catalogue_file_find(catalogue_file *f, uint64_t collection, uint64_t ke
     if (number != 0)
         return number;
     number = search(f, collection, key, &a);
-    if (number == 0 && a.access > CATALOGUE_CLOSED)
-        number = CATALOGUE_FILE_NO_CLASS;
+    /* A slot that no sound table has: its recording must not play. */
+    if (number == 0 && (a.access > CATALOGUE_CLOSED || a.recording == 0))
+        number = CATALOGUE_NOT_SOUND;
     if (number == 0 || number == CATALOGUE_ABSENT)
         *found = (struct catalogue_file_pair){key, a.recording, a.access, a.higher, a.next};
     else

@@ -4,9 +4,9 @@
 #include <string.h>
 
 #include "change.h"
+#include "mapping.h"
 #include "memory.h"
 #include "newfile.h"
-#include "mapping.h"
 #include "stack.h"
 
 /* ---- what becomes of a line */
@@ -97,7 +97,7 @@ static void read_lines(struct loading *l)
 static void unpack(struct loading *l)
 {
     struct catalogue_file_line line;
-    uint64_t ended = l->number, number = batch_begin(l);
+    uint64_t ended = l->number, number = batch_begin(l, false);
     /* What was read before the load's end is taken still. */
     l->over = false;
     l->number = 0;
@@ -132,7 +132,7 @@ static uint64_t begin(struct loading *l)
     struct stat ours;
     bool packed = l->refusal == 0 && more == 0 && !(flags & (CATALOGUE_FILE_BY_ORDERS | CATALOGUE_FILE_IN_PLACE)) && f->carrying.pause == 0
                   && has_name(f, &ours) && replaceable(f->path, &ours);
-    return packed ? packing_begin(l) : batch_begin(l);
+    return packed ? packing_begin(l) : batch_begin(l, true);
 }
 
 static uint64_t outcome_of(const struct catalogue_file_load *load)

@@ -36,7 +36,8 @@ uint64_t load_range(const struct catalogue_file_line *line);
 
 /* ---- by batches: 0, or a number with its message */
 
-uint64_t batch_begin(struct loading *l);
+/* by_file: a new file may take the table's place. */
+uint64_t batch_begin(struct loading *l, bool by_file);
 void batch_end(struct loading *l);
 
 /* Takes a line; batch_due if the batch is full. batch_carry carries its lines out and hands them back; then it is empty. */

@@ -227,17 +227,31 @@ uint64_t new_file(struct catalogue_file *f, const char *name, const uint64_t *wo
 
 /* ---- in the place of a file */
 
+/* Has one of these marks, as far as the file system says. */
+static bool is_marked(const char *path, uint64_t marks)
+{
+    struct statx about;
+    return statx(AT_FDCWD, path, 0, STATX_BASIC_STATS, &about) == 0 && (about.stx_attributes & marks) != 0;
+}
+
+/* Files can be made there, and a file of this owner can be renamed over and removed. */
+static bool takes_files(const char *folder, const struct stat *old)
+{
+    struct stat about;
+    if (stat(folder, &about) != 0 || faccessat(AT_FDCWD, folder, W_OK | X_OK, AT_EACCESS) != 0)
+        return false;
+    bool sticky = (about.st_mode & S_ISVTX) != 0 && about.st_uid != geteuid() && old->st_uid != geteuid();
+    return !sticky && about.st_dev == old->st_dev && !is_marked(folder, STATX_ATTR_APPEND | STATX_ATTR_IMMUTABLE);
+}
+
 bool replaceable(const char *name, const struct stat *old)
 {
     char place[PATH_MAX];
-    struct stat folder;
-    /* Where the name leads: a link stays a link to the new file. */
-    if (!realpath(name, place) || strlen(strrchr(place, '/') + 1) + 32 > NAME_MAX)
+    if (!realpath(name, place) || strlen(strrchr(place, '/') + 1) + sizeof MEANWHILE + 20 > NAME_MAX)
         return false;
     char *within = folder_of(place);
     bool ours = old->st_uid == geteuid() || geteuid() == 0;
-    bool may = within && ours && old->st_nlink == 1 && faccessat(AT_FDCWD, within, W_OK | X_OK, AT_EACCESS) == 0
-               && stat(within, &folder) == 0 && folder.st_dev == old->st_dev;
+    bool may = within && ours && old->st_nlink == 1 && !is_marked(place, STATX_ATTR_MOUNT_ROOT) && takes_files(within, old);
     free(within);
     return may;
 }

@@ -14,7 +14,8 @@ uint64_t new_file(struct catalogue_file *f, const char *name, const uint64_t *wo
 
 /*
  * Whether this user may put a new file in the place of this one, so that nobody misses the old one: it is the user's own, has no second name,
- * and its folder takes files.
+ * is not mounted by itself, and its folder takes files and lets them go again. That there is room, and that the new file can have the old
+ * one's owner and attributes, shows when it is made.
  */
 bool replaceable(const char *name, const struct stat *old);
 

@@ -53,7 +53,6 @@
  *     CATALOGUE_FILE_BUSY             the writer changes the table faster than it can be read: ask again
  *     CATALOGUE_FILE_REPLACED         another file has the name now, or none: close the handle and open it again
  *     CATALOGUE_FILE_CHANGED          a program without the lock stored into the file: nothing more was changed; check the table
- *     CATALOGUE_FILE_NO_CLASS         damaged: the code's class is none. The recording must not play
  *     CATALOGUE_FILE_DISK             a read or a wait for the disk failed: see catalogue_file_outcome. The next change waits for the whole
  *                                     file first; while the disk fails it is not made
  *     CATALOGUE_FILE_FOLDER           a new file took the table's place and has all changes, but its folder was not synced: a power cut can
@@ -91,12 +90,11 @@ enum {
     CATALOGUE_FILE_BUSY = 311,        /* changed faster than it can be read */
     CATALOGUE_FILE_NOT_OPEN = 312,    /* the handle has no file open */
     CATALOGUE_FILE_NOT_WRITING = 313, /* the handle is open for reading */
-    CATALOGUE_FILE_NO_CLASS = 314,    /* the code is there with a class that there is not */
-    CATALOGUE_FILE_BAD_OPTION = 315,  /* an option, a flag or a number of orders that there is not */
-    CATALOGUE_FILE_STOPPED = 316,     /* a callback ended the call */
-    CATALOGUE_FILE_THERE = 317,       /* load: the table has all that the line says */
-    CATALOGUE_FILE_NOT_TAKEN = 318,   /* load: it ended before this line */
-    CATALOGUE_FILE_CUT = 319          /* only the first orders were carried out, as asked for */
+    CATALOGUE_FILE_BAD_OPTION = 314,  /* an option, a flag or a number of orders that there is not */
+    CATALOGUE_FILE_STOPPED = 315,     /* a callback ended the call */
+    CATALOGUE_FILE_THERE = 316,       /* load: the table has all that the line says */
+    CATALOGUE_FILE_NOT_TAKEN = 317,   /* load: it ended before this line */
+    CATALOGUE_FILE_CUT = 318          /* only the first orders were carried out, as asked for */
 };
 
 /* A text for every number that a call here or in catalogue.h returns: no name, no full stop, never null. */
@@ -191,7 +189,8 @@ struct catalogue_file_pair {
 
 /*
  * The recording of a key in a collection. 0: recording and access are set, and the class is one of the three. CATALOGUE_ABSENT: higher and next
- * are set. Else 2, 3, 17, or one from 300 on: there is no answer, and nothing may play. key is set in every case.
+ * are set. Else 3, 17, 4 if the code is there with recording 0 or a class that there is not, or one from 300 on: there is no answer, and
+ * nothing may play. key is set in every case.
  */
 uint64_t catalogue_file_find(catalogue_file *f, uint64_t collection, uint64_t key, struct catalogue_file_pair *found);
 
