@@ -232,8 +232,9 @@ struct catalogue_file_change {
 uint64_t catalogue_file_change(catalogue_file *f, struct catalogue_file_change *change);
 
 /*
- * The list of a change, for this handle's dock, without making it: 0, or as the change. A handle that reads plans it for the table of one moment.
- * The list is the handle's until its next call; two words an order, as in catalogue.h.
+ * The list of a change, for this handle's dock, without making it: catalogue_repair's orders, if there is something to repair, then the change's.
+ * 0, or as the change. A handle that reads plans it for the table of one moment. The list is the handle's until its next call; two words an
+ * order, as in catalogue.h.
  */
 uint64_t catalogue_file_plan(catalogue_file *f, struct catalogue_file_change *change, const uint64_t **orders);
 

@@ -106,18 +106,23 @@ static bool cut_everywhere(struct catalogue_file_change change, const char *word
         /* Refused: nothing is repaired. */
         GIVES(CATALOGUE_KEY_PRESENT, catalogue_file_add(w, 1, 300, 5, 0));
         CHECK(same_file(at("cut"), left, left_bytes));
-        /* The whole list is the core's, which repairs in the same call. */
+        /* The list is that of the core's two calls; the table is also what its one call makes, which repairs too. */
         struct catalogue_file_change next = {.kind = CATALOGUE_FILE_ADD, .collection = 1, .key = 999, .recording = 999, .cut = UINT64_MAX};
-        uint64_t orders[CATALOGUE_LIST_WORDS], stores, flushes, barriers;
+        uint64_t orders[2 * CATALOGUE_LIST_WORDS], stores, flushes, more, waits, barriers;
         const uint64_t *planned;
         static uint64_t table[8 + 32 * 40];
+        size_t count = (left_bytes - 64) / 8;
         memcpy(table, left, left_bytes - 64);
-        GIVES(0, catalogue_insert(table, (left_bytes - 64) / 8, 1, orders, CATALOGUE_LIST_WORDS, 0, 999, 999, 0, &stores, &flushes,
-                                  &barriers));
-        GIVES(0, catalogue_file_plan(w, &next, &planned));
-        CHECK(next.stores == stores && next.flushes == flushes && memcmp(planned, orders, 16 * (stores + flushes)) == 0);
-        GIVES(0, catalogue_file_plan(r, &next, &planned));
-        CHECK(next.stores == stores && memcmp(planned, orders, 16 * (stores + flushes)) == 0);
+        GIVES(0, catalogue_repair(table, count, orders, CATALOGUE_LIST_WORDS, 0, &stores, &flushes, &barriers));
+        uint64_t repair = stores + flushes;
+        GIVES(0, catalogue_insert(table, count, 1, orders + 2 * repair, CATALOGUE_LIST_WORDS, 0, 999, 999, 0, &more, &waits, &barriers));
+        for (int i = 0; i < 2; i++) {
+            GIVES(0, catalogue_file_plan(i == 0 ? w : r, &next, &planned));
+            CHECK(next.repair == repair && next.stores == stores + more && next.flushes == flushes + waits);
+            CHECK(memcmp(planned, orders, 16 * (next.stores + next.flushes)) == 0);
+        }
+        memcpy(table, left, left_bytes - 64);
+        GIVES(0, catalogue_insert(table, count, 1, orders, CATALOGUE_LIST_WORDS, 0, 999, 999, 0, &stores, &flushes, &barriers));
         CHECK(same_file(at("cut"), left, left_bytes));
         leftovers = leftovers || next.repair > 0;
         GIVES(0, catalogue_file_change(w, &next));
