@@ -29,9 +29,9 @@ static bool begin(catalogue_file *f, const char *name, uint64_t flags)
 {
     catalogue_file_close(f);
     unlink(name);
+    free(disk.image);
     disk = (struct disk){0};
     CHECK(table_with(name, NODES, 60));
-    free(disk.image);
     disk = (struct disk){.bytes = 8 * WORDS};
     size_t bytes;
     disk.image = contents(name, &bytes);
