@@ -57,7 +57,12 @@ uint64_t catalogue_file_about(catalogue_file *f, struct catalogue_file_about *ab
 uint64_t catalogue_file_sync(catalogue_file *f)
 {
     uint64_t number = must_write(f);
-    return number == 0 ? settle(f) : number;
+    if (number == 0)
+        number = settle(f);
+    /* The table answered as after the change, and now all of it lasts. */
+    if (number == 0 && f->outcome == CATALOGUE_FILE_UNKNOWN)
+        f->outcome = CATALOGUE_FILE_MADE;
+    return number;
 }
 
 uint64_t catalogue_file_compare(catalogue_file *f)

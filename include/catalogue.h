@@ -1,13 +1,13 @@
 /*
  * The catalogue index: finds a recording by its ISRC code in a table of 64-bit words that may lie in persistent memory.
- * Link with libcatalogue.a (make -C host library).
+ * Link with libcatalogue.a (make -C host library). For tables in files, with readers beside a writer, there is catalogue_file.h.
  *
  * A table is 8 + 32 * N words, N from 1 to 65,535 nodes. Every call takes any words and any length: it does its work or returns a
  * refusal number, and a refusal changes no lent word (but for catalogue_print, which then writes 12 zero bytes). A word that an answer is put
  * into is left alone unless the call does its work.
  * Lent slices may not overlap. A slice of length 0 still wants a pointer that is not null. One writer; readers only read.
  * Words must keep still while a call reads them: a search of words that another thread or process is changing may pair a code with its
- * neighbour's recording. Copy the nodes that it passes, and compare them once more, as host/looks.c does; a search of such a copy answers
+ * neighbour's recording. If others change a table while you read it, use catalogue_file_find of catalogue_file.h: it answers
  * as before the change or as after it.
  * No call asks for memory. Stack that a call takes, whatever the words hold, rounded up (KB of 1,024 bytes, on x86-64):
  *

@@ -82,6 +82,11 @@ static bool each_wait_fails(const struct trial *t, bool on)
         }
         /* Then the next change is, and the disk has all that was answered, word for word. */
         disk.fail = 0;
+        if (fail % 2 == 0) {
+            GIVES(0, catalogue_file_sync(f));
+            CHECK(on ? catalogue_file_outcome(f) == CATALOGUE_FILE_NOT_MADE || !failing
+                     : catalogue_file_outcome(f) == (now == t->before ? CATALOGUE_FILE_NOT_MADE : CATALOGUE_FILE_MADE));
+        }
         GIVES(0, catalogue_file_change(f, &next));
         CHECK(on_disk(999) == 999 && on_disk(change.key) == now && others_on_disk(change.key));
         size_t bytes;
