@@ -59,14 +59,26 @@ static uint64_t read_copies(struct catalogue_file *f)
     return 0;
 }
 
+/* The open file is the one of that name still; its state. */
+static uint64_t keeps_name(struct catalogue_file *f, struct stat *ours)
+{
+    errno = 0;
+    if (has_name(f, ours))
+        return 0;
+    if (errno == 0 || errno == ENOENT || errno == ENOTDIR)
+        return fails(f, CATALOGUE_FILE_REPLACED, "%s was removed or replaced by another program", f->name);
+    return fails_for(f, CATALOGUE_FILE_DISK, "%s cannot be looked up any more", f->name);
+}
+
 uint64_t refresh(struct catalogue_file *f)
 {
     if (!f->stale)
         return 0;
     struct stat ours;
-    if (!has_name(f, &ours))
-        return fails(f, CATALOGUE_FILE_REPLACED, "%s was removed or replaced by another program", f->name);
-    uint64_t number = read_copies(f);
+    uint64_t number = keeps_name(f, &ours);
+    if (number != 0)
+        return number;
+    number = read_copies(f);
     if (number == 0)
         f->left = ours;
     f->stale = number != 0;
@@ -215,12 +227,13 @@ static uint64_t compare_lines(struct catalogue_file *f, const uint64_t *orders, 
 uint64_t still_ours(struct catalogue_file *f, const uint64_t *orders, uint64_t count)
 {
     struct stat ours;
-    if (!has_name(f, &ours))
-        return fails(f, CATALOGUE_FILE_REPLACED, "%s was removed or replaced by another program", f->name);
+    uint64_t number = keeps_name(f, &ours);
+    if (number != 0)
+        return number;
     if ((uint64_t)ours.st_size != bytes_of(f->words, true))
         return changed(f);
     bool whole = !orders || !same_time(ours.st_mtim, f->left.st_mtim) || !same_time(ours.st_ctim, f->left.st_ctim);
-    uint64_t number = whole ? compare_file(f) : compare_lines(f, orders, count);
+    number = whole ? compare_file(f) : compare_lines(f, orders, count);
     if (number == 0)
         f->left = ours;
     return number;

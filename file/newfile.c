@@ -36,12 +36,15 @@ static bool write_table(int file, const uint64_t *words, size_t count)
     return write_bytes(file, words, count * sizeof *words) && write_bytes(file, trailer, sizeof trailer) && fsync(file) == 0;
 }
 
-/* Never onto a file that is there. Some file systems have no such rename, but links. */
+/* Never onto a file that is there. Some file systems, and old systems, have no such rename, but links: then the other name goes, if it can. */
 static bool rename_new(const char *from, const char *to)
 {
     if (renameat2(AT_FDCWD, from, AT_FDCWD, to, RENAME_NOREPLACE) == 0)
         return true;
-    return errno == EINVAL && link(from, to) == 0 && unlink(from) == 0;
+    if ((errno != EINVAL && errno != ENOSYS) || link(from, to) != 0)
+        return false;
+    unlink(from);
+    return true;
 }
 
 /* The folder of a name, to be freed; null if memory is short. */
