@@ -1,9 +1,10 @@
 /* Loading by batches: many lines by one order list, carried out and then handed back. */
+#include "batch.h"
+
 #include <stdlib.h>
 #include <time.h>
 
 #include "change.h"
-#include "load.h"
 #include "mapping.h"
 #include "memory.h"
 #include "newfile.h"
@@ -69,7 +70,7 @@ static bool is_there(const struct loading *l, struct catalogue_file_line *line, 
 {
     uint64_t recording, access, next, higher;
     *known = catalogue_search(l->f->expected, l->f->words, l->load->collection, line->key, &recording, &access, &next, &higher) == 0;
-    return *known && l->load->flags & CATALOGUE_FILE_AGAIN && load_same(line, recording, access);
+    return *known && l->load->flags & CATALOGUE_FILE_AGAIN && line_same(line, recording, access);
 }
 
 /*
@@ -85,7 +86,7 @@ static uint64_t judge(const struct loading *l, struct catalogue_file_line *line)
         return CATALOGUE_FILE_THERE;
     if (l->refusal != 0)
         return l->refusal;
-    uint64_t number = load_range(line);
+    uint64_t number = line_range(line);
     return number == 0 && known ? CATALOGUE_KEY_PRESENT : number;
 }
 
@@ -165,13 +166,13 @@ static size_t hand_back(struct loading *l, size_t from, uint64_t taken)
         const struct catalogue_file_line *line = &b->lines[from];
         if (line->number == 0 && taken > 0) {
             taken--;
-            load_added(l, line, 0);
+            line_added(l, line, 0);
         } else if (l->over) {
-            load_not_taken(l, line);
+            line_not_taken(l, line);
         } else if (line->number == CATALOGUE_FILE_THERE) {
-            load_added(l, line, CATALOGUE_FILE_THERE);
+            line_added(l, line, CATALOGUE_FILE_THERE);
         } else if (line->number != 0) {
-            load_refused(l, line, line->number, !of_line(l, line->number));
+            line_refused(l, line, line->number, !of_line(l, line->number));
         } else {
             break;
         }
@@ -184,12 +185,12 @@ static void refused(struct loading *l, struct catalogue_file_line *line, uint64_
 {
     bool known;
     if (number == CATALOGUE_KEY_PRESENT && is_there(l, line, &known)) {
-        load_added(l, line, CATALOGUE_FILE_THERE);
+        line_added(l, line, CATALOGUE_FILE_THERE);
         return;
     }
     bool ends = number != CATALOGUE_BAD_RECORDING && number != CATALOGUE_BAD_CLASS && number != CATALOGUE_KEY_PRESENT
                 && number != CATALOGUE_RECORDING_PRESENT;
-    load_refused(l, line, number, ends);
+    line_refused(l, line, number, ends);
 }
 
 /* Of so many lines to be added, from one on, those that memory has, up to the first that it has not; all if nobody can read it. */
@@ -222,9 +223,9 @@ static void failed(struct loading *l, size_t from, uint64_t taken, uint64_t numb
     for (; from < b->count && left > 0; from++) {
         const struct catalogue_file_line *line = &b->lines[from];
         if (line->number == 0)
-            load_added(l, line, --left == 0 || by_file ? number : 0);
+            line_added(l, line, --left == 0 || by_file ? number : 0);
         else
-            load_not_taken(l, line);
+            line_not_taken(l, line);
     }
     hand_back(l, from, 0);
 }

@@ -1,8 +1,9 @@
 /* Loading into an empty collection: its lines sorted and packed into a new file, which takes the table's place. */
+#include "packing.h"
+
 #include <stdlib.h>
 #include <string.h>
 
-#include "load.h"
 #include "mapping.h"
 #include "memory.h"
 #include "pairs.h"
@@ -90,9 +91,9 @@ static uint64_t judge(const struct loading *l, struct catalogue_file_line *line,
         return line->number;
     *pair = taken_find(t, line->key);
     uint64_t pointer = *pair < 0 ? 0 : t->pairs[2 * *pair + 1];
-    if (*pair >= 0 && l->load->flags & CATALOGUE_FILE_AGAIN && load_same(line, CATALOGUE_RECORDING(pointer), CATALOGUE_CLASS(pointer)))
+    if (*pair >= 0 && l->load->flags & CATALOGUE_FILE_AGAIN && line_same(line, CATALOGUE_RECORDING(pointer), CATALOGUE_CLASS(pointer)))
         return CATALOGUE_FILE_THERE;
-    uint64_t number = load_range(line);
+    uint64_t number = line_range(line);
     if (number == 0 && *pair >= 0)
         number = CATALOGUE_KEY_PRESENT;
     if (number == 0 && taken_has_recording(t, line->recording))
@@ -111,16 +112,16 @@ void packing_take(struct loading *l, struct catalogue_file_line line)
         p->there++;
         room = remember(l, (size_t)pair, line.tag);
     } else if (number != 0) {
-        load_refused(l, &line, number, false);
+        line_refused(l, &line, number, false);
     } else if (p->beside + packed_nodes(t->count + 1) > (l->f->words - HEADER_WORDS) / NODE_WORDS) {
-        load_refused(l, &line, CATALOGUE_NO_NODES, true);
+        line_refused(l, &line, CATALOGUE_NO_NODES, true);
     } else {
         room = remember(l, t->count, line.tag) && taken_add(t, line.key, CATALOGUE_POINTER(line.recording, line.access));
     }
     if (room)
         return;
     load_ends(l, no_memory(l->f));
-    load_not_taken(l, &line);
+    line_not_taken(l, &line);
     /* A line that was remembered and has no pair. */
     while (p->count > 0 && p->pair[p->count - 1] >= t->count)
         p->count--;
@@ -179,9 +180,9 @@ static void hand_all_back(struct loading *l, uint64_t number, bool done)
         bool first = p->pair[at - 1] == next;
         next += first;
         if (!done)
-            load_not_taken(l, &line);
+            line_not_taken(l, &line);
         else
-            load_added(l, &line, number != 0 ? number : first ? 0 : CATALOGUE_FILE_THERE);
+            line_added(l, &line, number != 0 ? number : first ? 0 : CATALOGUE_FILE_THERE);
     }
     if (hands_back(l))
         return;
