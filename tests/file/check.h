@@ -34,7 +34,7 @@ struct test {
 };
 
 /* The tests of each file; the last one has no name. */
-extern const struct test codes_tests[], files_tests[], reading_tests[], change_tests[], load_tests[], disk_tests[];
+extern const struct test codes_tests[], files_tests[], reading_tests[], change_tests[], load_tests[], disk_tests[], hard_tests[];
 
 /* The name of a file in the tests' folder; the text stays until the eighth call after this one. */
 const char *at(const char *name);

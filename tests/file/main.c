@@ -135,6 +135,7 @@ int main(int count, char **words)
     run(change_tests);
     run(load_tests);
     run(disk_tests);
+    run(hard_tests);
     printf("%u passed, %u failed\n", passed, failed);
     return failed != 0;
 }
