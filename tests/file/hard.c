@@ -1,7 +1,10 @@
 /* Hard cases: any words, a writer that is killed, memory that is short. */
+#include <pthread.h>
 #include <signal.h>
+#include <stdatomic.h>
 #include <stdlib.h>
 #include <string.h>
+#include <sys/stat.h>
 #include <sys/wait.h>
 #include <time.h>
 #include <unistd.h>
@@ -143,6 +146,110 @@ static bool killed_writers(void)
     return true;
 }
 
+/* ---- readers beside a writer that changes, loads and puts new files in the table's place */
+
+#define ROUNDS 150
+
+static atomic_bool writing;
+
+/* What a reader saw: answers, and those that were wrong. */
+struct seen {
+    uint64_t answers, wrong, busy;
+    uint64_t (*look)(catalogue_file *f, uint64_t key);
+};
+
+/* Keys 10 to 600 in tens are always there. A find gives 0 if it answers so, 1 if it does not, 2 if it had no time. */
+static uint64_t look_by_find(catalogue_file *f, uint64_t key)
+{
+    struct catalogue_file_pair found;
+    uint64_t number = catalogue_file_find(f, 1, key, &found);
+    return number == CATALOGUE_FILE_BUSY ? 2 : number != 0 || found.recording != 1000 + key || found.access != CATALOGUE_OPEN;
+}
+
+static int keep(void *context, const struct catalogue_file_pair *pair)
+{
+    uint64_t *kept = context;
+    *kept += pair->key % 10 == 0 && pair->recording == 1000 + pair->key;
+    return pair->recording != (pair->key % 10 == 0 ? 1000 + pair->key : pair->key);
+}
+
+static uint64_t look_by_walk(catalogue_file *f, uint64_t key)
+{
+    uint64_t kept = 0, number = catalogue_file_walk(f, 1, key, 605, keep, &kept);
+    return number == CATALOGUE_FILE_BUSY ? 2 : number != 0 || kept != 61 - key / 10;
+}
+
+/* The whole table is sound, and has them all. */
+static uint64_t look_at_all(catalogue_file *f, uint64_t key)
+{
+    uint64_t pairs[400], count = 0, more, kept = 0;
+    const uint64_t *table;
+    size_t words;
+    uint64_t number = catalogue_file_table(f, &table, &words);
+    if (number == 0)
+        number = catalogue_list(table, words, 1, key, 605, pairs, 400, &count, &more);
+    for (uint64_t i = 0; i < count; i++)
+        kept += pairs[2 * i] % 10 == 0 && pairs[2 * i + 1] == 1000 + pairs[2 * i];
+    return number == CATALOGUE_FILE_BUSY ? 2 : number != 0 || kept != 61 - key / 10;
+}
+
+static void *read_beside(void *context)
+{
+    struct seen *seen = context;
+    uint64_t seed = (uint64_t)(uintptr_t)seen;
+    catalogue_file *f = catalogue_file_new();
+    uint64_t number = catalogue_file_open(f, at("beside"), CATALOGUE_FILE_READING, 0);
+    seen->wrong += number != 0;
+    while (writing && number == 0) {
+        uint64_t got = seen->look(f, 10 + 10 * chance(&seed, 60));
+        seen->answers++;
+        seen->wrong += got == 1;
+        seen->busy += got == 2;
+    }
+    catalogue_file_free(f);
+    return NULL;
+}
+
+/* Some keys more, by one new file or in place, then without them one by one. */
+static bool write_beside(catalogue_file *w, uint64_t round)
+{
+    uint64_t pairs[2 * 40];
+    struct stat before, after;
+    for (uint64_t i = 0; i < 40; i++)
+        pairs[2 * i] = pairs[2 * i + 1] = 3 + 10 * ((7 * i + round) % 60);
+    CHECK(stat(at("beside"), &before) == 0);
+    GIVES(0, catalogue_file_load_pairs(w, 1, round % 3 == 0 ? CATALOGUE_FILE_IN_PLACE : 0, pairs, 40, NULL));
+    CHECK(stat(at("beside"), &after) == 0 && (before.st_ino != after.st_ino) == (round % 3 != 0));
+    for (uint64_t i = 0; i < 40; i++)
+        GIVES(0, catalogue_file_remove(w, 1, pairs[2 * i]));
+    GIVES(0, catalogue_file_set_class(w, 1, 300, CATALOGUE_OPEN));
+    return true;
+}
+
+static bool beside_a_writer(void)
+{
+    struct seen seen[] = {{.look = look_by_find}, {.look = look_by_find}, {.look = look_by_walk}, {.look = look_at_all}};
+    size_t count = sizeof seen / sizeof seen[0];
+    pthread_t threads[4];
+    catalogue_file *w = catalogue_file_new();
+    bool written = true;
+    CHECK(table_with(at("beside"), 60, 60));
+    GIVES(0, catalogue_file_open(w, at("beside"), CATALOGUE_FILE_WRITING, 0));
+    writing = true;
+    for (size_t i = 0; i < count; i++)
+        CHECK(pthread_create(&threads[i], NULL, read_beside, &seen[i]) == 0);
+    for (uint64_t round = 0; written && round < ROUNDS; round++)
+        written = write_beside(w, round);
+    writing = false;
+    for (size_t i = 0; i < count; i++)
+        pthread_join(threads[i], NULL);
+    CHECK(written);
+    for (size_t i = 0; i < count; i++)
+        CHECK(seen[i].answers > 0 && seen[i].wrong == 0 && (seen[i].busy == 0 || seen[i].look != look_by_find));
+    catalogue_file_free(w);
+    return true;
+}
+
 /* ---- memory that is short. These take the place of the C library's in the library and in the tests */
 
 static uint64_t allocations, failing;
@@ -236,6 +343,7 @@ static bool short_memory(void)
 const struct test hard_tests[] = {
     {"any words", any_words},
     {"killed writers", killed_writers},
+    {"beside a writer", beside_a_writer},
     {"short memory", short_memory},
     {NULL, NULL},
 };

@@ -15,8 +15,8 @@ struct disk disk;
 
 const char *at(const char *name)
 {
-    static char texts[8][512];
-    static unsigned next;
+    static _Thread_local char texts[8][512];
+    static _Thread_local unsigned next;
     char *text = texts[next++ % 8];
     snprintf(text, sizeof texts[0], "%s/%s", folder, name);
     return text;
