@@ -3,7 +3,7 @@
 #include "moment.h"
 #include "stack.h"
 
-#ifndef CATALOGUE_CHECK_WORDS
+#ifndef CATALOGUE_CHECK_NODES_OF
 /* A core that has no check of its own: a repair of the copy is refused, has orders, or has none. The rest of the report stays 0. */
 static uint64_t catalogue_check(uint64_t *table, size_t words, uint64_t *report)
 {
@@ -25,7 +25,7 @@ uint64_t catalogue_file_check(catalogue_file *f, uint64_t *report)
     if (number != 0)
         return number;
     number = catalogue_check(f->working, f->words, report);
-#ifndef CATALOGUE_CHECK_WORDS
+#ifndef CATALOGUE_CHECK_NODES_OF
     f->stale = f->writing;
 #endif
     return number == 0 ? 0 : refuses(f, number);

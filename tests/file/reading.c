@@ -261,7 +261,7 @@ static bool checks(void)
     GIVES(CATALOGUE_FILE_CUT, catalogue_file_change(f, &change));
     GIVES(0, catalogue_file_check(f, report));
     CHECK(report[0] == 1);
-#ifdef CATALOGUE_CHECK_WORDS
+#ifdef CATALOGUE_CHECK_NODES_OF
     CHECK(report[CATALOGUE_CHECK_COLLECTION] == 1 && report[CATALOGUE_CHECK_HIDDEN_NODE] == 1);
     CHECK(report[CATALOGUE_CHECK_NODES] == 20 && report[CATALOGUE_CHECK_CODES_OF(1)] == 60 && report[CATALOGUE_CHECK_CODES_OF(2)] == 0);
 #endif
