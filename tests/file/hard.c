@@ -250,6 +250,79 @@ static bool beside_a_writer(void)
     return true;
 }
 
+/* ---- stack: as much as the header says */
+
+#define STACK ((size_t)2 << 20)
+
+static bool stack_done;
+
+static void *read_calls(void *name)
+{
+    catalogue_file *f = catalogue_file_new();
+    struct catalogue_file_pair found;
+    uint64_t steps = 0;
+    stack_done = catalogue_file_open(f, name, CATALOGUE_FILE_READING, 0) == 0 && catalogue_file_find(f, 1, 10, &found) == 0
+                 && catalogue_file_find(f, 1, 11, &found) == CATALOGUE_ABSENT
+                 && catalogue_file_find(f, 9, 11, &found) == CATALOGUE_NO_COLLECTION
+                 && catalogue_file_walk(f, 1, 0, 400, count_steps, &steps) == 0;
+    catalogue_file_free(f);
+    return NULL;
+}
+
+static void *all_calls(void *name)
+{
+    catalogue_file *f = catalogue_file_new();
+    uint64_t nodes = 0, dropped, report[16], pairs[2 * 100];
+    for (uint64_t i = 0; i < 100; i++)
+        pairs[2 * i] = 5 + 10 * i, pairs[2 * i + 1] = 1 + i;
+    stack_done = catalogue_file_open(f, name, CATALOGUE_FILE_WRITING, 0) == 0 && catalogue_file_add(f, 1, 11, 11, 0) == 0
+                 && catalogue_file_load_pairs(f, 1, 2, pairs, 100, NULL) == 0 && catalogue_file_load_pairs(f, 2, 0, pairs, 100, NULL) == 0
+                 && catalogue_file_remove(f, 1, 11) == 0 && catalogue_file_repair(f) == 0 && catalogue_file_check(f, report) == 0
+                 && catalogue_file_copy(f, at("stack copy"), &nodes) == 0
+                 && catalogue_file_salvage(f, at("stack saved"), NULL, NULL, &dropped) == 0 && catalogue_file_close(f) == 0;
+    catalogue_file_free(f);
+    return NULL;
+}
+
+/* Bytes of a thread's stack that the calls touch. */
+static size_t stack_of(void *(*calls)(void *name), const char *name)
+{
+    pthread_attr_t how;
+    pthread_t thread;
+    unsigned char *stack = aligned_alloc(4096, STACK);
+    memset(stack, 0xa5, STACK);
+    stack_done = false;
+    pthread_attr_init(&how);
+    pthread_attr_setstack(&how, stack, STACK);
+    size_t left = 0;
+    if (pthread_create(&thread, &how, calls, (void *)(uintptr_t)name) == 0 && pthread_join(thread, NULL) == 0)
+        while (left < STACK && stack[left] == 0xa5)
+            left++;
+    pthread_attr_destroy(&how);
+    free(stack);
+    return STACK - left;
+}
+
+static bool stacks(void)
+{
+    catalogue_file *f = catalogue_file_new();
+    uint64_t pairs[2 * 40];
+    for (uint64_t i = 0; i < 40; i++)
+        pairs[2 * i] = 10 + 10 * i, pairs[2 * i + 1] = 1000 + i;
+    GIVES(0, catalogue_file_create(f, at("stack"), 100, 2));
+    GIVES(0, catalogue_file_open(f, at("stack"), CATALOGUE_FILE_WRITING, 0));
+    GIVES(0, catalogue_file_load_pairs(f, 1, 0, pairs, 40, NULL));
+    catalogue_file_free(f);
+    size_t reading = stack_of(read_calls, at("stack"));
+    CHECK(stack_done);
+    size_t all = stack_of(all_calls, at("stack"));
+    CHECK(stack_done);
+#ifndef __SANITIZE_ADDRESS__
+    CHECK(reading <= 16 << 10 && all <= 512 << 10);
+#endif
+    return reading > 1000 && all > 100000;
+}
+
 /* ---- memory that is short. These take the place of the C library's in the library and in the tests */
 
 static uint64_t allocations, failing;
@@ -344,6 +417,7 @@ const struct test hard_tests[] = {
     {"any words", any_words},
     {"killed writers", killed_writers},
     {"beside a writer", beside_a_writer},
+    {"stacks", stacks},
     {"short memory", short_memory},
     {NULL, NULL},
 };
