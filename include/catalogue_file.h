@@ -318,7 +318,7 @@ struct catalogue_file_drop {
 uint64_t catalogue_file_salvage(catalogue_file *f, const char *name, int (*each)(void *context, const struct catalogue_file_drop *drop),
                                 void *context, uint64_t *dropped);
 
-/* What a sound table has, as catalogue_check reports it: 16 words. 0; 4 if it is not sound, 2 if it is no table, or one from 300 on. */
+/* What a sound table has: the report of catalogue_check, CATALOGUE_CHECK_WORDS words. 0; 4 if it is not sound, 2, or one from 300 on. */
 uint64_t catalogue_file_check(catalogue_file *f, uint64_t *report);
 
 /* ---- codes as people write them */

@@ -215,7 +215,7 @@ static bool handles_that_are_not_open(void)
     struct catalogue_file_change change = {0};
     struct catalogue_file_load load = {.collection = 1};
     const uint64_t *words;
-    uint64_t some = 0, report[16];
+    uint64_t some = 0, report[CATALOGUE_CHECK_WORDS];
     size_t count;
     CHECK(catalogue_file_message(f)[0] == 0);
     GIVES(CATALOGUE_FILE_NOT_OPEN, catalogue_file_find(f, 1, 1, &found));

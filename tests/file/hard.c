@@ -37,7 +37,7 @@ static bool every_call(const char *name, uint64_t flags, uint64_t *seed)
     struct catalogue_file_pair found;
     struct catalogue_file_change change = {.kind = chance(seed, 4), .collection = 1, .key = chance(seed, 700), .recording = 9, .cut = UINT64_MAX};
     const uint64_t *words;
-    uint64_t steps = 0, nodes = 0, dropped, report[16], pairs[] = {3, 77777, 5, 77778}, numbers[2];
+    uint64_t steps = 0, nodes = 0, dropped, report[CATALOGUE_CHECK_WORDS], pairs[] = {3, 77777, 5, 77778}, numbers[2];
     size_t count;
     uint64_t opened = catalogue_file_open(f, name, flags, 0);
     CHECK(opened == 0 || opened == CATALOGUE_NO_TABLE);
@@ -272,7 +272,7 @@ static void *read_calls(void *name)
 static void *all_calls(void *name)
 {
     catalogue_file *f = catalogue_file_new();
-    uint64_t nodes = 0, dropped, report[16], pairs[2 * 100];
+    uint64_t nodes = 0, dropped, report[CATALOGUE_CHECK_WORDS], pairs[2 * 100];
     for (uint64_t i = 0; i < 100; i++)
         pairs[2 * i] = 5 + 10 * i, pairs[2 * i + 1] = 1 + i;
     stack_done = catalogue_file_open(f, name, CATALOGUE_FILE_WRITING, 0) == 0 && catalogue_file_add(f, 1, 11, 11, 0) == 0
@@ -361,7 +361,7 @@ static uint64_t some_calls(catalogue_file *f, bool *loaded)
     struct catalogue_file_pair found;
     struct catalogue_file_change change = {.kind = CATALOGUE_FILE_REMOVE, .collection = 1, .key = 10, .cut = UINT64_MAX};
     const uint64_t *words;
-    uint64_t nodes = 0, dropped, report[16], number;
+    uint64_t nodes = 0, dropped, report[CATALOGUE_CHECK_WORDS], number;
     size_t count;
     for (uint64_t i = 0; i < 700; i++)
         pairs[2 * i] = 10 * i + 10, pairs[2 * i + 1] = 1010 + 10 * i, numbers[i] = 1;
