@@ -30,6 +30,8 @@
  * it killed or stopped. The counter is odd while the writer stores the words of a change; a reader accepts what it read if the counter shows
  * that no two changes ran meanwhile and every word that it read was still there at the end. Else it reads again; only after very many rounds
  * does it return CATALOGUE_FILE_BUSY. Each step of a walk is a find by itself. A handle opened for writing reads its own copy.
+ * If another file takes the name, a reading handle goes on with that one: from its next call on if the library put it there, as a load does,
+ * within 50 milliseconds if a stranger did. A handle opened for writing notices it before its next store.
  *
  * Durability. A call that changes the table returns 0 only when the change lasts: on persistent memory (a file system with dax) each flush of
  * the order list is a flush instruction and a fence, elsewhere it is a wait for the disk for the line's page. With CATALOGUE_FILE_FAST a call
