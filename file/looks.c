@@ -18,9 +18,6 @@
 /* Words of a node; slot i's key is word KEYS + 2 * i, its pointer the next one. */
 enum { LEFT, SIBLING, LEVEL, FENCE, KEYS = 8, POINTERS };
 
-/* What the copy has of a node: nothing, what a search reads of a sibling that it does not move to, everything. */
-enum { UNSEEN, FENCED, WHOLE };
-
 /* The level, in the copy, of a node that was not looked at. */
 #define NO_LEVEL UINT64_MAX
 
@@ -114,7 +111,7 @@ static void guard_named(struct looks *l, uint64_t n)
 /* A node is recorded once, whatever its words are. */
 static void record(struct looks *l, uint64_t n, uint8_t state)
 {
-    if (l->state[n] == UNSEEN)
+    if (l->state[n] == LOOKS_UNSEEN)
         l->seen[l->looked++] = (uint32_t)n;
     l->state[n] = state;
 }
@@ -124,10 +121,10 @@ static bool look(struct looks *l, uint64_t n)
 {
     if (!has(l, n))
         return false;
-    if (l->state[n] != WHOLE) {
+    if (l->state[n] != LOOKS_WHOLE) {
         guard(l, n);
         load(l, start_of(n), NODE_WORDS);
-        record(l, n, WHOLE);
+        record(l, n, LOOKS_WHOLE);
         guard_named(l, n);
     }
     return true;
@@ -138,14 +135,14 @@ static bool look_at_fence(struct looks *l, uint64_t n)
 {
     if (!has(l, n))
         return false;
-    if (l->state[n] == UNSEEN) {
+    if (l->state[n] == LOOKS_UNSEEN) {
         uint64_t *words = copy_of(l, n);
         guard(l, n);
         load(l, start_of(n) + LEVEL, FENCE + 1 - LEVEL);
         words[LEFT] = 0;
         words[SIBLING] = CATALOGUE_MARK;
         words[POINTERS] = 0;
-        record(l, n, FENCED);
+        record(l, n, LOOKS_FENCE);
     }
     return true;
 }
@@ -156,7 +153,7 @@ static void begin_anew(struct looks *l)
     while (l->looked > 0) {
         uint64_t n = l->seen[--l->looked];
         copy_of(l, n)[LEVEL] = NO_LEVEL;
-        l->state[n] = UNSEEN;
+        l->state[n] = LOOKS_UNSEEN;
     }
     l->holds = false;
     load(l, 0, l->count < HEADER_WORDS ? l->count : HEADER_WORDS);
@@ -172,7 +169,7 @@ static bool unchanged(const struct looks *l)
     bool still = same(l, 0, l->count < HEADER_WORDS ? l->count : HEADER_WORDS);
     for (size_t i = 0; still && i < l->looked; i++) {
         uint64_t n = l->seen[i];
-        still = l->state[n] == WHOLE ? same(l, start_of(n), NODE_WORDS) : same(l, start_of(n) + LEVEL, FENCE + 1 - LEVEL);
+        still = l->state[n] == LOOKS_WHOLE ? same(l, start_of(n), NODE_WORDS) : same(l, start_of(n) + LEVEL, FENCE + 1 - LEVEL);
     }
     return still;
 }
@@ -235,7 +232,7 @@ static bool look_along(struct looks *l, uint64_t *leaf, uint64_t count)
         uint64_t sibling = copy_of(l, *leaf)[SIBLING];
         if (!has(l, sibling))
             break;
-        left -= l->state[sibling] != WHOLE;
+        left -= l->state[sibling] != LOOKS_WHOLE;
         look(l, sibling);
         if (copy_of(l, sibling)[LEVEL] != 0)
             break;

@@ -6,6 +6,9 @@
 #include <stddef.h>
 #include <stdint.h>
 
+/* What a copy has of a node: nothing, what a search reads of a sibling that it does not move to, everything. */
+enum { LOOKS_UNSEEN, LOOKS_FENCE, LOOKS_WHOLE };
+
 /*
  * The library's search wants words that keep still. So the header and the nodes that a search passes are copied, and the library searches the
  * copy. It answers what was true at some moment between the call and its return: the copied words were all there at one moment. That is so
@@ -23,7 +26,7 @@ struct looks {
     uint64_t *words;  /* the copy */
     void *mapping;    /* that it lies in */
     size_t size;      /* of the mapping, in bytes */
-    uint8_t *state;   /* by node number: what the copy has of a node */
+    uint8_t *state;   /* by node number: LOOKS_WHOLE and so on */
     uint32_t *seen;   /* the nodes that it has something of, each once */
     size_t looked;    /* how many */
     uint8_t *guarded; /* by group of nodes: those not copied have a level in the copy that no search passes */

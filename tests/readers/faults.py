@@ -1,0 +1,64 @@
+"""Faults planted in a copy of the reader or of the counter: each must be noticed by the scenes. faults.py COMMAND, which builds {}/placing of {}."""
+import concurrent.futures
+import pathlib
+import subprocess
+import sys
+import tempfile
+
+HERE = pathlib.Path(__file__).resolve().parent
+FILE = HERE.parent.parent / "file"
+
+# What is wrong, in which file, what stands there, what is put there.
+FAULTS = [
+    ("no second pass", "looks.c", "at_most_one(start, end) && unchanged(l) &&", "at_most_one(start, end) &&"),
+    ("no counter, two passes alone", "looks.c", "return end - start <= (start % 2 == 0 ? 2 : 1);", "return end >= start;"),
+    ("one bracket too many after an even counter", "looks.c", "(start % 2 == 0 ? 2 : 1)", "(start % 2 == 0 ? 4 : 1)"),
+    ("one bracket too many after an odd counter", "looks.c", "(start % 2 == 0 ? 2 : 1)", "2"),
+    ("the counter is not read after the second pass", "looks.c", " && at_most_one(start, shared_load(l->counter));", ";"),
+    ("an odd counter that stands is taken for an even one", "looks.c", "l->holds = start % 2 == 0 && end == start;", "l->holds = end == start;"),
+    ("the end is not looked at", "looks.c", "l->holds = start % 2 == 0 && end == start;", "l->holds = start % 2 == 0;"),
+    ("copies are kept though the counter has moved", "looks.c", "bool kept = l->holds && start == l->valid;", "bool kept = l->holds;"),
+    ("copies are used though the counter has moved", "looks.c", "if (l->holds && shared_load(l->counter) == l->valid) {", "if (l->holds) {"),
+    ("a search passes a sibling of which it has the fence alone", "looks.c", "        words[SIBLING] = CATALOGUE_MARK;\n", ""),
+    ("leaves that were not looked at are passed", "looks.c", "copy_of(l, i)[LEVEL] = NO_LEVEL;", "copy_of(l, i)[LEVEL] = 0;"),
+    ("the second pass leaves the header out", "looks.c", "bool still = same(l, 0, l->count < HEADER_WORDS ? l->count : HEADER_WORDS);", "bool still = true;"),
+    ("the counter is not raised", "counter.c", "    if (!is_open(c->word))\n        open_bracket(c->word);\n", ""),
+    ("a repair in one bracket", "counter.c", "    if (c->brackets == BRACKET_STORE)\n        counter_close(c->word);\n", ""),
+    ("a batch in one bracket", "counter.c", "    if (c->brackets == BRACKET_FLUSH)\n        counter_close(c->word);\n", "    (void)c;\n"),
+    ("the bracket of a killed writer goes on", "counter.c", "    counter_close(word);\n    return", "    return"),
+]
+
+
+def planted(fault, folder):
+    name, place, old, new = fault
+    for source in FILE.glob("*.[ch]"):
+        text = source.read_text()
+        if source.name == place:
+            if text.count(old) != 1:
+                sys.exit(f"{name}: {place} does not have the place once")
+            text = text.replace(old, new)
+        (folder / source.name).write_text(text)
+
+
+def tried(fault, command):
+    """What the scenes say of it; nothing if they notice nothing."""
+    with tempfile.TemporaryDirectory() as folder:
+        folder = pathlib.Path(folder)
+        planted(fault, folder)
+        subprocess.run(["bash", "-c", command.replace("{}", str(folder))], check=True)
+        ran = subprocess.run([folder / "placing"], capture_output=True, text=True)
+    return ran.stdout.strip() if ran.returncode == 1 else ""
+
+
+def main(command):
+    with concurrent.futures.ThreadPoolExecutor(2) as pool:
+        said = list(pool.map(lambda fault: tried(fault, command), FAULTS))
+    for fault, words in zip(FAULTS, said):
+        print(f"   {fault[0]}: {words or 'NOT NOTICED'}")
+    passed = sum(map(bool, said))
+    print(f"{passed} passed, {len(FAULTS) - passed} failed")
+    return passed != len(FAULTS)
+
+
+if __name__ == "__main__":
+    sys.exit(main(sys.argv[1]))
