@@ -1,6 +1,7 @@
 /*
- * Searches beside a writer that changes the table as fast as it can: beside threads|processes SEARCHES NODES CODES. Two readers search; with
- * processes the writer is killed now and then, wherever it is, and another one takes over, as the file library's does.
+ * Searches beside a writer that changes the table as fast as it can: beside threads|processes SEARCHES NODES CODES. Two readers search. With
+ * threads the writer carries lists out that were planned before, round and round, so that stores run all the time; with processes it plans
+ * each, is killed now and then, wherever it is, and another one takes over, as the file library's does.
  * Both collections hold codes that stay, each with a class that changes, and codes that come and go; others never are. A code that is found
  * must have its own recording, the class one that it has had, and a code that is absent the next code up that there may be.
  * The last line says how often each came. Status 0 if nothing was wrong.
@@ -104,6 +105,50 @@ static void write_on(uint64_t *state)
     }
 }
 
+/* ---- the same changes again and again: they come round to the same words */
+
+#define MOST_LISTS 4000
+#define MOST_TURNS 50
+
+static struct list lists[MOST_LISTS];
+static size_t listed;
+
+static void keep(enum change kind, uint64_t collection, uint64_t i, enum kind code, uint64_t access)
+{
+    writer_change(&writer, kind, collection, key_of(i, code), recording_of(collection, i, code), access);
+    if (listed < MOST_LISTS)
+        lists[listed++] = writer_list(&writer, kind);
+}
+
+/* Runs of codes come, and go later; classes of codes between them change to and fro. */
+static void one_turn(void)
+{
+    listed = 0;
+    for (uint64_t at = 0; at < 2 * codes; at += 15)
+        for (unsigned turn = 0; turn < 4; turn++) {
+            uint64_t from = (at + 7 * (turn / 2)) % codes, c = 1 + (at / 15 + turn / 2) % COLLECTIONS;
+            for (uint64_t i = from; i < from + 15 && i < codes; i++)
+                if (turn % 2 == 0)
+                    keep(INSERT, c, i, MOVES, class_of(c, i));
+                else
+                    keep(DELETE, c, i, MOVES, 0);
+            keep(CLASS, c, from, STAYS, turn % 2 == 0 ? 0 : class_of(c, from));
+        }
+}
+
+static void plan_turn(void)
+{
+    static uint64_t before[MOST_WORDS];
+    for (unsigned turn = 0; turn < MOST_TURNS; turn++) {
+        memcpy(before, writer.working, words * sizeof before[0]);
+        one_turn();
+        if (memcmp(before, writer.working, words * sizeof before[0]) == 0)
+            return;
+    }
+    printf("the changes do not come round\n");
+    exit(2);
+}
+
 static bool all_ended(void)
 {
     return __atomic_load_n(&shared->ended, __ATOMIC_ACQUIRE) == READERS;
@@ -179,13 +224,24 @@ static void *read_in_thread(void *seed)
 
 /* ---- threads, and processes */
 
+static void carry_until(void)
+{
+    add(&shared->writers);
+    for (size_t i = 0; !all_ended(); i = (i + 1) % listed) {
+        writer.brackets = i % 3 == 0 ? BRACKET_FLUSH : BRACKET_LIST;
+        writer_carry_list(&writer, &lists[i], lists[i].count, 0);
+        add(&shared->changes);
+    }
+}
+
 static void by_threads(void)
 {
     pthread_t threads[READERS];
+    plan_turn();
     for (uintptr_t i = 0; i < READERS; i++)
         if (pthread_create(&threads[i], NULL, read_in_thread, (void *)(7 + i)) != 0)
             exit(2);
-    write_until(20261117);
+    carry_until();
     for (size_t i = 0; i < READERS; i++)
         pthread_join(threads[i], NULL);
 }

@@ -45,12 +45,12 @@ uint64_t writer_plan(struct writer *w, enum change kind, uint64_t collection, ui
     return number;
 }
 
-void writer_carry(struct writer *w, enum change kind, uint64_t count, int killed)
+void writer_carry_list(const struct writer *w, const struct list *list, uint64_t count, int killed)
 {
-    enum brackets brackets = kind == REPAIR ? BRACKET_STORE : kind == BATCH ? BRACKET_FLUSH : w->brackets;
+    enum brackets brackets = list->kind == REPAIR ? BRACKET_STORE : list->kind == BATCH ? BRACKET_FLUSH : w->brackets;
     struct counter c = counter_start(writer_counter(w), brackets);
     for (uint64_t i = 0; i < count; i++) {
-        uint64_t first = w->orders[2 * i], second = w->orders[2 * i + 1];
+        uint64_t first = list->orders[2 * i], second = list->orders[2 * i + 1];
         if (first == CATALOGUE_MARK)
             counter_flush(&c);
         else if (first != CATALOGUE_BARRIER)
@@ -58,6 +58,21 @@ void writer_carry(struct writer *w, enum change kind, uint64_t count, int killed
     }
     if (!killed)
         counter_finish(&c);
+}
+
+void writer_carry(struct writer *w, enum change kind, uint64_t count, int killed)
+{
+    struct list list = {.kind = kind, .count = w->count, .orders = w->orders};
+    writer_carry_list(w, &list, count, killed);
+}
+
+struct list writer_list(const struct writer *w, enum change kind)
+{
+    struct list list = {.kind = kind, .count = w->count, .orders = malloc((w->count + 1) * 2 * sizeof *list.orders)};
+    if (!list.orders)
+        exit(2);
+    memcpy(list.orders, w->orders, w->count * 2 * sizeof *list.orders);
+    return list;
 }
 
 void writer_change(struct writer *w, enum change kind, uint64_t collection, uint64_t key, uint64_t recording, uint64_t access)

@@ -23,6 +23,13 @@ struct writer {
     uint64_t count; /* of the last planned list */
 };
 
+/* A list that was planned before. */
+struct list {
+    enum change kind;
+    uint64_t count;
+    uint64_t *orders;
+};
+
 uint64_t *writer_counter(const struct writer *w);
 
 /* An empty table, in memory too. */
@@ -37,6 +44,10 @@ uint64_t writer_plan(struct writer *w, enum change kind, uint64_t collection, ui
 
 /* The first count orders of the list, in the brackets that its kind asks for; a writer that is killed leaves its bracket open. */
 void writer_carry(struct writer *w, enum change kind, uint64_t count, int killed);
+void writer_carry_list(const struct writer *w, const struct list *list, uint64_t count, int killed);
+
+/* The last planned list, to be kept. */
+struct list writer_list(const struct writer *w, enum change kind);
 
 /* Plans and carries out all; exits if the library refuses. */
 void writer_change(struct writer *w, enum change kind, uint64_t collection, uint64_t key, uint64_t recording, uint64_t access);
