@@ -70,6 +70,7 @@ static bool is_there(const struct loading *l, struct catalogue_file_line *line, 
 {
     uint64_t recording, access, next, higher;
     *known = catalogue_search(l->f->expected, l->f->words, l->load->collection, line->key, &recording, &access, &next, &higher) == 0;
+    line->there = *known ? CATALOGUE_POINTER(recording, access) : 0;
     return *known && l->load->flags & CATALOGUE_FILE_AGAIN && line_same(line, recording, access);
 }
 
@@ -127,17 +128,17 @@ static size_t gather(const struct loading *l, size_t from)
  * A batch's orders, in place or, if a flush is a wait for the disk and these are many, by a new file with what they come to. The waits for a
  * new file are three and the writing of its pages, about 64 of which are one more.
  */
-static uint64_t carry_orders(struct loading *l, uint64_t count, uint64_t flushes, bool *by_file)
+static uint64_t carry_orders(struct loading *l, uint64_t count, uint64_t flushes, bool *by_file, uint64_t *carried)
 {
     struct batch *b = l->batch;
     struct catalogue_file *f = l->f;
-    uint64_t number = 0, carried = 0;
+    uint64_t number = 0;
     if (b->by_file && flushes > 8 + bytes_of(f->words, true) / PAGE_BYTES / 64)
         b->by_file = (number = replace(f, by_file)) == 0 && *by_file;
     if (number == 0 && !*by_file)
         number = still_ours(f, b->orders, count);
     if (number == 0 && !*by_file)
-        number = carry_list(f, b->orders, count, BRACKET_FLUSH, &carried);
+        number = carry_list(f, b->orders, count, BRACKET_FLUSH, carried);
     if (number == 0 && !f->fast)
         number = settle(f);
     if (number == 0 && l->load->orders)
@@ -235,17 +236,20 @@ static size_t carry_some(struct loading *l, size_t from)
 {
     struct batch *b = l->batch;
     struct catalogue_file *f = l->f;
-    uint64_t number = 0, taken = 0, stores = 0, flushes = 0, barriers = 0;
+    uint64_t number = 0, taken = 0, stop = 0, stores = 0, flushes = 0, barriers = 0, carried = 0;
     bool by_file = false;
     size_t pairs = gather(l, from);
     uint64_t broken = pairs > 0 ? repair_first(l) : 0;
     if (pairs > 0 && broken == 0)
         number = catalogue_insert_many(f->working, f->words, l->load->collection, b->orders, BATCH_WORDS, f->dock, b->pairs, 2 * pairs,
-                                       &taken, &stores, &flushes, &barriers);
+                                       &taken, &stop, &stores, &flushes, &barriers);
+    if (number == 0)
+        number = stop;
     if (taken > 0)
-        broken = carry_orders(l, stores + flushes + barriers, flushes, &by_file);
+        broken = carry_orders(l, stores + flushes + barriers, flushes, &by_file, &carried);
     if (broken != 0) {
-        failed(l, from, taken, broken, by_file);
+        /* Before the first order none was on its way. */
+        failed(l, from, by_file || carried > 0 ? taken : 0, broken, by_file);
         return b->count;
     }
     from = hand_back(l, from, taken);

@@ -6,6 +6,8 @@
 #include <sys/mman.h>
 #include <unistd.h>
 
+#include "catalogue_file.h"
+
 /* Keeps the compiler's order, on any processor; writes nothing back. */
 static bool only_fence(void *address)
 {
@@ -100,6 +102,12 @@ const struct flush *flush_named(const char *name)
         if (strcmp(ways[i].flush.name, name) == 0 && ways[i].has())
             return &ways[i].flush;
     return NULL;
+}
+
+const char *catalogue_file_flush(const char *name)
+{
+    const struct flush *flush = name ? flush_named(name) : flush_best();
+    return flush ? flush->name : NULL;
 }
 
 /* ---- pages of a file */

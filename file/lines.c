@@ -6,6 +6,7 @@ static void hand_back(struct loading *l, struct catalogue_file_line line, uint64
     struct catalogue_file_load *load = l->load;
     bool passed = number == 0 || number == CATALOGUE_FILE_THERE;
     line.number = number;
+    line.there = number == CATALOGUE_KEY_PRESENT ? line.there : 0;
     if (load->done && !(passed && load->flags & CATALOGUE_FILE_BRIEF) && load->done(load->context, &line) != 0)
         l->over = true;
 }

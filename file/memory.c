@@ -21,7 +21,7 @@ uint64_t wrong_header(struct catalogue_file *f, const uint64_t *header)
     if (header[0] == 1 && nodes >= 1 && nodes <= MOST_NODES && words_for(nodes) != f->words)
         return fails(f, CATALOGUE_NO_TABLE, "%s has %zu bytes, but its header says %" PRIu64 " nodes, which take %zu", f->name,
                      bytes_of(f->words, f->trailer), nodes, bytes_of(words_for(nodes), f->trailer));
-    return refuses(f, CATALOGUE_NO_TABLE);
+    return fails(f, CATALOGUE_NO_TABLE, "%s is not a table: its header or its length is wrong", f->name);
 }
 
 /* ---- reading */

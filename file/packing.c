@@ -90,7 +90,7 @@ static uint64_t judge(const struct loading *l, struct catalogue_file_line *line,
     if (line->number != 0)
         return line->number;
     *pair = taken_find(t, line->key);
-    uint64_t pointer = *pair < 0 ? 0 : t->pairs[2 * *pair + 1];
+    uint64_t pointer = line->there = *pair < 0 ? 0 : t->pairs[2 * *pair + 1];
     if (*pair >= 0 && l->load->flags & CATALOGUE_FILE_AGAIN && line_same(line, CATALOGUE_RECORDING(pointer), CATALOGUE_CLASS(pointer)))
         return CATALOGUE_FILE_THERE;
     uint64_t number = line_range(line);

@@ -6,6 +6,7 @@
 #include <string.h>
 
 #include "text.h"
+#include "tree.h"
 
 int change_read(struct change *c, enum kind kind, char **words, int count)
 {
@@ -23,7 +24,7 @@ int change_read(struct change *c, enum kind kind, char **words, int count)
     return 0;
 }
 
-uint64_t change_plan(struct change *c, struct table *t)
+uint64_t change_plan(struct change *c, const struct table *t)
 {
     switch (c->kind) {
     case ADD:
@@ -90,10 +91,10 @@ bool order_stores(const uint64_t order[2])
     return order[0] != CATALOGUE_MARK && order[0] != CATALOGUE_BARRIER;
 }
 
-void change_print(const struct change *c)
+void orders_print(const uint64_t *orders, uint64_t count)
 {
-    for (uint64_t i = 0; i < change_orders(c); i++) {
-        const uint64_t *order = c->orders + 2 * i;
+    for (uint64_t i = 0; i < count; i++) {
+        const uint64_t *order = orders + 2 * i;
         printf("%4" PRIu64 "  ", i + 1);
         int length = order_print(order);
         if (order_stores(order)) {
@@ -104,10 +105,10 @@ void change_print(const struct change *c)
     }
 }
 
-void change_print_counts(const struct change *c)
+void counts_print(uint64_t stores, uint64_t flushes, uint64_t barriers)
 {
-    printf(" (%" PRIu64 " store%s, %" PRIu64 " flush%s", c->stores, c->stores == 1 ? "" : "s", c->flushes, c->flushes == 1 ? "" : "es");
-    if (c->barriers > 0)
-        printf(", %" PRIu64 " barrier%s", c->barriers, c->barriers == 1 ? "" : "s");
+    printf(" (%" PRIu64 " store%s, %" PRIu64 " flush%s", stores, stores == 1 ? "" : "s", flushes, flushes == 1 ? "" : "es");
+    if (barriers > 0)
+        printf(", %" PRIu64 " barrier%s", barriers, barriers == 1 ? "" : "s");
     printf(")\n");
 }

@@ -5,10 +5,10 @@
 #include <stdbool.h>
 #include <stdint.h>
 
-#include "catalogue.h"
+#include "catalogue_file.h"
 #include "table.h"
 
-enum kind { ADD, REMOVE, CLASS, REPAIR };
+enum kind { ADD = CATALOGUE_FILE_ADD, REMOVE = CATALOGUE_FILE_REMOVE, CLASS = CATALOGUE_FILE_SET_CLASS, REPAIR = CATALOGUE_FILE_REPAIR };
 
 struct change {
     enum kind kind;
@@ -27,7 +27,7 @@ int change_read(struct change *c, enum kind kind, char **words, int count);
  * Makes the change in the table's collection, on the working copy, and its orders for the table's dock in the list. 0, or the refusal; then
  * nothing moved.
  */
-uint64_t change_plan(struct change *c, struct table *t);
+uint64_t change_plan(struct change *c, const struct table *t);
 
 /* How many orders the list has. */
 uint64_t change_orders(const struct change *c);
@@ -45,9 +45,9 @@ int order_print(const uint64_t order[2]);
 bool order_stores(const uint64_t order[2]);
 
 /* The orders, numbered as --cut counts them, with the place of each in the table. */
-void change_print(const struct change *c);
+void orders_print(const uint64_t *orders, uint64_t count);
 
 /* " (4 stores, 1 flush)", for dock 1 " (4 stores, 1 flush, 4 barriers)", the end of a line. */
-void change_print_counts(const struct change *c);
+void counts_print(uint64_t stores, uint64_t flushes, uint64_t barriers);
 
 #endif

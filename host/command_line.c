@@ -14,27 +14,27 @@ static bool read_cut(struct command_line *l, const char *value)
 
 static bool read_wait(struct command_line *l, const char *value)
 {
-    return read_number(value, strlen(value), &l->table.wait);
+    return read_number(value, strlen(value), &l->opening.wait);
 }
 
 static bool read_flush(struct command_line *l, const char *value)
 {
-    return (l->table.carrying.flush = flush_named(value)) != NULL;
+    return (l->opening.flush = catalogue_file_flush(value)) != NULL;
 }
 
 static bool read_pause(struct command_line *l, const char *value)
 {
-    return read_number(value, strlen(value), &l->table.carrying.pause);
+    return read_number(value, strlen(value), &l->opening.pause);
 }
 
 static bool read_collection(struct command_line *l, const char *value)
 {
-    return read_number(value, strlen(value), &l->table.collection);
+    return read_number(value, strlen(value), &l->opening.collection);
 }
 
 static bool read_dock(struct command_line *l, const char *value)
 {
-    return read_number(value, strlen(value), &l->table.dock) && l->table.dock <= CATALOGUE_UNORDERED;
+    return read_number(value, strlen(value), &l->opening.dock) && l->opening.dock <= CATALOGUE_UNORDERED;
 }
 
 static bool set_loan(struct command_line *l, const char *value)
@@ -46,7 +46,7 @@ static bool set_loan(struct command_line *l, const char *value)
 static bool set_fast(struct command_line *l, const char *value)
 {
     (void)value;
-    return l->table.fast = true;
+    return l->opening.fast = true;
 }
 
 static bool set_again(struct command_line *l, const char *value)
@@ -134,7 +134,7 @@ const struct option options[] = {
      "named) or does not (1, as ARM): then a barrier follows each store",
      "add room.cat AA0001912345 7 --dock 1", DOCKING, read_dock},
     {"--wait", "SECONDS", "a number of seconds",
-     "waits so long for a program that has the table locked; without it, not at all",
+     "waits so long for another writer of the table; without it, not at all. Commands that\nonly read wait for nobody",
      "add room.cat AA0001912345 7 --wait 10", WAITING, read_wait},
     {"--fast", NULL, NULL,
      "on an ordinary disk: waits for the disk once, at the end, and not at each flush.\n"
@@ -180,8 +180,7 @@ static int read_option(struct command_line *l, int count, char **words, int *at)
 int command_line_read(struct command_line *l, int count, char **words)
 {
     bool only_words = false;
-    l->table.carrying.flush = flush_best();
-    l->table.collection = 1;
+    l->opening.collection = 1;
     for (int i = 0; i < count; i++) {
         bool option = !only_words && (strncmp(words[i], "--", 2) == 0 || strcmp(words[i], "-h") == 0);
         if (option && strcmp(words[i], "--") == 0) {

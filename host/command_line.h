@@ -7,7 +7,7 @@
 
 #include "change.h"
 #include "load.h"
-#include "table.h"
+#include "opened.h"
 
 /* One more than any command takes. */
 #define MOST_WORDS 8
@@ -24,7 +24,7 @@ struct command_line {
     bool loan; /* a new table has two collections */
     bool drawings, data; /* of a film */
     const char *list;
-    struct table_options table;
+    struct opening opening;
     struct load_options load;
     /* What a command reads from its words. */
     uint64_t low, high, nodes;

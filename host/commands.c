@@ -6,30 +6,35 @@
 #include <stdlib.h>
 #include <string.h>
 
-#include "catalogue.h"
 #include "draw.h"
 #include "film.h"
 #include "help.h"
 #include "judge.h"
 #include "lesson.h"
-#include "looks.h"
-#include "pack.h"
+#include "opened.h"
+#include "refusals.h"
 #include "salvage.h"
 #include "scripts.h"
 #include "stack.h"
-#include "table.h"
 #include "text.h"
+#include "tree.h"
 #include "wear.h"
 
-/* ---- what the commands do with an open table: 0, or an exit status after saying why */
+/* ---- changes: 0, or an exit status after saying why */
 
-static int plan(struct table *t, struct change *c)
+/* What the library is asked for. */
+static struct catalogue_file_change asked(const struct opened *o, const struct change *c)
 {
-    uint64_t number = change_plan(c, t);
-    return number == 0 ? 0 : refuse(number, t, c->key, c->recording);
+    return (struct catalogue_file_change){.kind = c->kind, .collection = o->table.collection, .key = c->key, .recording = c->recording,
+                                          .access = c->access, .cut = CATALOGUE_FILE_ALL};
 }
 
-static void say_done(const struct change *c)
+static uint64_t orders_of(const struct catalogue_file_change *c)
+{
+    return c->stores + c->flushes + c->barriers;
+}
+
+static void say_done(const struct catalogue_file_change *c)
 {
     char code[KEY_TEXT], class[KEY_TEXT], pointer[POINTER_TEXT];
     key_text(c->key, code);
@@ -41,41 +46,57 @@ static void say_done(const struct change *c)
         printf("class of %s is %s", code, class_text(c->access, class));
     else
         printf(c->stores == 0 ? "nothing to repair" : "repaired");
-    change_print_counts(c);
+    counts_print(c->stores, c->flushes, c->barriers);
 }
 
-/* A cut change: whatever a power cut leaves of it is a first part of its stores, so that a count of orders shows every case. */
-static int make_change(struct table *t, struct command_line *l)
+/* What became of a change that failed. */
+static const char *what_is_left(const struct opened *o, const struct catalogue_file_change *c)
 {
-    struct change *c = &l->change;
-    int status = plan(t, c);
-    if (status != 0)
-        return status;
-    uint64_t all = change_orders(c), count = l->given & CUT ? l->cut : all;
-    if (count > all)
-        return fail(BAD_USAGE, "--cut %" PRIu64 ": this change has %" PRIu64 " orders; nothing was changed", count, all);
-    status = table_carry_out(t, c->orders, count);
+    if (catalogue_file_outcome(o->file) != CATALOGUE_FILE_NOT_MADE)
+        return "; the change is made now, a power cut may take it back, and repair waits for the disk once more";
+    return c->carried == 0 ? "; nothing more was changed" : "; the codes are as before, and repair finishes what was begun";
+}
+
+static int finish_change(struct opened *o, const struct catalogue_file_change *c, bool cut)
+{
+    int status = opened_settle(o);
     if (status == 0)
-        status = table_settle(t);
-    if (status == 0)
-        status = table_compare(t);
-    if (status == 0 && count < all)
-        printf("cut off after %" PRIu64 " of %" PRIu64 " orders; show draws what is left\n", count, all);
-    if (status == 0 && count == all)
+        status = opened_compare(o);
+    if (status == 0 && cut)
+        printf("cut off after %" PRIu64 " of %" PRIu64 " orders; show draws what is left\n", c->cut, orders_of(c));
+    if (status == 0 && !cut)
         say_done(c);
     return status;
 }
 
-static int print_orders(struct table *t, struct command_line *l)
+/* A cut change: whatever a power cut leaves of it is a first part of its stores, so that a count of orders shows every case. */
+static int make_change(struct opened *o, struct command_line *l)
 {
-    int status = plan(t, &l->change);
-    if (status != 0)
-        return status;
-    change_print(&l->change);
+    struct catalogue_file_change c = asked(o, &l->change);
+    if (l->given & CUT)
+        c.cut = l->cut < CATALOGUE_FILE_ALL ? l->cut : CATALOGUE_FILE_ALL - 1;
+    uint64_t number = catalogue_file_change(o->file, &c);
+    if (number == CATALOGUE_FILE_BAD_OPTION)
+        return fail(BAD_USAGE, "--cut %" PRIu64 ": this change has %" PRIu64 " orders; nothing was changed", l->cut, orders_of(&c));
+    if (number != 0 && number != CATALOGUE_FILE_CUT)
+        return opened_refuses(o, number, c.key, c.recording, what_is_left(o, &c));
+    return finish_change(o, &c, number == CATALOGUE_FILE_CUT);
+}
+
+static int print_orders(struct opened *o, struct command_line *l)
+{
+    struct catalogue_file_change c = asked(o, &l->change);
+    const uint64_t *orders;
+    uint64_t number = catalogue_file_plan(o->file, &c, &orders);
+    if (number != 0)
+        return opened_refuses(o, number, c.key, c.recording, "");
+    orders_print(orders, orders_of(&c));
     printf("not made");
-    change_print_counts(&l->change);
+    counts_print(c.stores, c.flushes, c.barriers);
     return 0;
 }
+
+/* ---- reading: 0, or an exit status after saying why */
 
 /* The code is not there; the next one up, or null for none. */
 static int say_absent(const struct table *t, uint64_t key, const uint64_t *next)
@@ -88,53 +109,35 @@ static int say_absent(const struct table *t, uint64_t key, const uint64_t *next)
     return fail(CATALOGUE_ABSENT, "%s is not in %s%s; the next code up is %s", code, part, t->name, key_text(*next, above));
 }
 
-/* What a search answered that took no lock; nothing where memory is short. */
-static bool look_up(struct table *t, uint64_t key, uint64_t *number, uint64_t *recording, uint64_t *access, uint64_t *next, uint64_t *higher)
-{
-    struct looks looks;
-    bool room = looks_begin(&looks, t->mapped, t->working, t->words);
-    if (room)
-        *number = looks_search(&looks, t->collection, key, recording, access, next, higher);
-    looks_end(&looks);
-    return room;
-}
-
 /* A slot that no sound table has: its recording must not play. Nothing is printed that a player could take for an answer. */
-static int say_damaged(const struct table *t, uint64_t key, uint64_t recording, uint64_t access)
+static int say_damaged(const struct table *t, uint64_t key)
 {
     char code[KEY_TEXT], part[PART_TEXT];
     key_text(key, code);
     table_part(t, part);
     return fail(CATALOGUE_NOT_SOUND,
-                "the slot of %s in %s%s is damaged: recording %" PRIu64 " with class %" PRIu64 " is none, and must not play; "
-                "catalogue salvage %s NEW keeps the codes that can be read",
-                code, part, t->name, recording, access, t->name);
+                "the slot of %s in %s%s is damaged: its recording or its class is none, and must not play; catalogue salvage %s NEW keeps the "
+                "codes that can be read, and catalogue show %s prints the slot",
+                code, part, t->name, t->name, t->name);
 }
 
-static bool in_range(uint64_t recording, uint64_t access)
+/* It runs beside a change, as every command that only reads. */
+static int find(struct opened *o, struct command_line *l)
 {
-    return recording != 0 && access <= CATALOGUE_CLOSED;
-}
-
-static int find(struct table *t, struct command_line *l)
-{
-    uint64_t number, recording, access, next, higher;
+    struct catalogue_file_pair found;
     char pointer[POINTER_TEXT];
-    if (!look_up(t, l->low, &number, &recording, &access, &next, &higher))
-        return fail(BAD_FILE, "not enough memory to search %s", t->name);
-    if (number == LOOKS_CHANGING)
-        return fail(BAD_FILE, "%s is changed faster than it can be read; try again later", t->name);
+    uint64_t number = catalogue_file_find(o->file, o->table.collection, l->low, &found);
     if (number == CATALOGUE_ABSENT)
-        return say_absent(t, l->low, higher ? &next : NULL);
+        return say_absent(&o->table, l->low, found.higher ? &found.next : NULL);
+    if (number == CATALOGUE_NOT_SOUND)
+        return say_damaged(&o->table, l->low);
     if (number != 0)
-        return refuse(number, t, l->low, 0);
-    if (!in_range(recording, access))
-        return say_damaged(t, l->low, recording, access);
-    printf("%s\n", pointer_text(recording, access, pointer));
+        return opened_refuses(o, number, l->low, 0, "");
+    printf("%s\n", pointer_text(found.recording, found.access, pointer));
     return 0;
 }
 
-static int list(struct table *t, struct command_line *l)
+static int list(const struct table *t, struct command_line *l)
 {
     /* A node of a sound table has at most 11 pairs: all of them fit, and none are left. */
     size_t room = 2 * 11 * (t->words / NODE_WORDS);
@@ -142,7 +145,7 @@ static int list(struct table *t, struct command_line *l)
     if (!pairs)
         return fail(BAD_FILE, "not enough memory to list %s", t->name);
     char code[KEY_TEXT], pointer[POINTER_TEXT];
-    uint64_t number = catalogue_list(t->working, t->words, t->collection, l->low, l->high, pairs, room, &count, &more);
+    uint64_t number = catalogue_list(t->base, t->words, t->collection, l->low, l->high, pairs, room, &count, &more);
     if (number != 0)
         refuse(number, t, 0, 0);
     for (uint64_t i = 0; i < count; i++)
@@ -152,60 +155,81 @@ static int list(struct table *t, struct command_line *l)
     return (int)number;
 }
 
-static int load_file(struct table *t, struct command_line *l)
-{
-    return load(t, l->words[2], &l->load);
-}
-
-static int check_table(struct table *t, struct command_line *l)
+static int check_table(const struct table *t, struct command_line *l)
 {
     (void)l;
     return check(t);
 }
 
-static int show_table(struct table *t, struct command_line *l)
+static int show_table(const struct table *t, struct command_line *l)
 {
     (void)l;
     return show(t);
 }
 
-static int tell_wear(struct table *t, struct command_line *l)
+static int tell_wear(const struct table *t, struct command_line *l)
 {
     return wear(t, l->words[2], l->svg);
 }
 
-static int copy_table(struct table *t, struct command_line *l)
-{
-    return pack_copy(t, l->words[2], &l->nodes);
-}
-
-static int salvage_table(struct table *t, struct command_line *l)
-{
-    return salvage(t, l->words[2]);
-}
-
-static int judge_orders(struct table *t, struct command_line *l)
+static int judge_orders(const struct table *t, struct command_line *l)
 {
     return judge_list(t, l->words[2], &l->change);
 }
 
-static int film_change(struct table *t, struct command_line *l)
+static int film_change(const struct table *t, struct command_line *l)
 {
     return film(t, &l->change, l->list, l->data);
 }
 
+/* ---- files: 0, or an exit status after saying why */
+
+static int load_file(struct opened *o, struct command_line *l)
+{
+    return load(o, l->words[2], &l->load);
+}
+
+static int copy_table(struct opened *o, struct command_line *l)
+{
+    uint64_t number = catalogue_file_copy(o->file, l->words[2], &l->nodes);
+    if (number == CATALOGUE_NOT_SOUND)
+        return refuse(number, &o->table, 0, 0);
+    return number == 0 ? 0 : opened_fails(o, number, "");
+}
+
+static int salvage_table(struct opened *o, struct command_line *l)
+{
+    return salvage(o, l->words[2]);
+}
+
 /* ---- the commands */
 
-static int with_table(struct command_line *l, bool writing, int (*work)(struct table *t, struct command_line *l))
+static int with_file(struct command_line *l, bool writing, int (*work)(struct opened *o, struct command_line *l))
 {
-    struct table t;
+    struct opened o;
     int status = stack_take();
     if (status != 0)
         return status;
-    status = table_open(&t, l->words[1], writing, &l->table);
+    status = opened_begin(&o, l->words[1], writing, &l->opening);
     if (status == 0)
-        status = work(&t, l);
-    table_close(&t);
+        status = work(&o, l);
+    opened_end(&o);
+    return status;
+}
+
+/* The table of one moment: the file may change while the command works. */
+static int with_table(struct command_line *l, int (*work)(const struct table *t, struct command_line *l))
+{
+    struct opened o;
+    int status = stack_take();
+    if (status != 0)
+        return status;
+    status = opened_begin(&o, l->words[1], false, &l->opening);
+    if (status == 0)
+        status = opened_read(&o);
+    if (status == 0)
+        status = work(&o.table, l);
+    opened_end(&o);
     return status;
 }
 
@@ -221,11 +245,19 @@ static int say_made(const char *name, uint64_t nodes, const char *more)
     return 0;
 }
 
+static int make_file(struct command_line *l)
+{
+    catalogue_file *f = catalogue_file_new();
+    int status = file_fails(f, f ? catalogue_file_create(f, l->words[1], l->nodes, l->loan ? 2 : 1) : CATALOGUE_FILE_NO_MEMORY);
+    catalogue_file_free(f);
+    return status;
+}
+
 static int command_make(struct command_line *l)
 {
     int status = read_nodes(l, l->words[2]);
     if (status == 0)
-        status = table_make(l->words[1], l->nodes, l->loan ? 2 : 1);
+        status = make_file(l);
     return status != 0 ? status : say_made(l->words[1], l->nodes, l->loan ? " and two collections" : "");
 }
 
@@ -235,14 +267,14 @@ static int command_copy(struct command_line *l)
     if (status == 0 && l->count > 3 && l->nodes == 0)
         status = fail(BAD_USAGE, "0: a table has 1 to %d nodes", MOST_NODES);
     if (status == 0)
-        status = with_table(l, false, copy_table);
+        status = with_file(l, false, copy_table);
     return status != 0 ? status : say_made(l->words[2], l->nodes, "");
 }
 
 static int change_table(struct command_line *l, enum kind kind)
 {
     int status = change_read(&l->change, kind, l->words + 2, l->count - 2);
-    return status != 0 ? status : with_table(l, true, make_change);
+    return status != 0 ? status : with_file(l, true, make_change);
 }
 
 static int command_add(struct command_line *l)
@@ -262,7 +294,6 @@ static int command_class(struct command_line *l)
 
 static int command_repair(struct command_line *l)
 {
-    l->table.rewrite = true;
     return change_table(l, REPAIR);
 }
 
@@ -278,7 +309,7 @@ static int command_orders(struct command_line *l)
             if (kinds[i].kind == REPAIR && l->given & NAMING)
                 return WRONG_FORM;
             int status = change_read(&l->change, kinds[i].kind, l->words + 3, l->count - 3);
-            return status != 0 ? status : with_table(l, false, print_orders);
+            return status != 0 ? status : with_file(l, false, print_orders);
         }
     return WRONG_FORM;
 }
@@ -290,34 +321,40 @@ static int command_judge(struct command_line *l)
     if (adds ? l->count < 6 : strcmp(l->words[3], "-") != 0 || l->count != 5)
         return WRONG_FORM;
     int status = change_read(&l->change, adds ? ADD : REMOVE, l->words + 4, l->count - 4);
-    return status != 0 ? status : with_table(l, false, judge_orders);
+    return status != 0 ? status : with_table(l, judge_orders);
+}
+
+static int film_lesson(struct command_line *l)
+{
+    int status = stack_take();
+    return status != 0 ? status : lesson(l->data);
 }
 
 /* The change is written as for judge. */
 static int command_film(struct command_line *l)
 {
     if (l->drawings)
-        return l->count == 1 && !l->list && !(l->given & (NAMING | WAITING)) ? lesson(l->data) : WRONG_FORM;
+        return l->count == 1 && !l->list && !(l->given & (NAMING | WAITING)) ? film_lesson(l) : WRONG_FORM;
     bool adds = l->count >= 5 && l->count <= 6 && strcmp(l->words[2], "+") == 0;
     bool removes = l->count == 4 && strcmp(l->words[2], "-") == 0;
     bool repairs = l->count == 3 && strcmp(l->words[2], "repair") == 0 && !(l->given & NAMING);
     if (!adds && !removes && !repairs)
         return WRONG_FORM;
     int status = change_read(&l->change, adds ? ADD : removes ? REMOVE : REPAIR, l->words + 3, l->count - 3);
-    return status != 0 ? status : with_table(l, false, film_change);
+    return status != 0 ? status : with_table(l, film_change);
 }
 
-/* A search takes no lock: it runs beside a change. */
+/* A search needs little stack, and takes none before. */
 static int command_find(struct command_line *l)
 {
-    struct table t;
+    struct opened o;
     int status = read_code_word(l->words[2], &l->low);
     if (status != 0)
         return status;
-    status = table_open_to_look(&t, l->words[1], &l->table);
+    status = opened_begin(&o, l->words[1], false, &l->opening);
     if (status == 0)
-        status = find(&t, l);
-    table_close(&t);
+        status = find(&o, l);
+    opened_end(&o);
     return status;
 }
 
@@ -331,27 +368,27 @@ static int command_list(struct command_line *l)
         status = read_code_word(l->words[2], &l->low);
     if (l->count == 4 && status == 0)
         status = read_code_word(l->words[3], &l->high);
-    return status != 0 ? status : with_table(l, false, list);
+    return status != 0 ? status : with_table(l, list);
 }
 
 static int command_load(struct command_line *l)
 {
-    return with_table(l, true, load_file);
+    return with_file(l, true, load_file);
 }
 
 static int command_check(struct command_line *l)
 {
-    return with_table(l, false, check_table);
+    return with_table(l, check_table);
 }
 
 static int command_salvage(struct command_line *l)
 {
-    return with_table(l, false, salvage_table);
+    return with_file(l, false, salvage_table);
 }
 
 static int command_show(struct command_line *l)
 {
-    return with_table(l, false, show_table);
+    return with_table(l, show_table);
 }
 
 static int command_script(struct command_line *l)
@@ -365,7 +402,7 @@ static int command_script(struct command_line *l)
 
 static int command_wear(struct command_line *l)
 {
-    return with_table(l, false, tell_wear);
+    return with_table(l, tell_wear);
 }
 
 static int command_help(struct command_line *l)

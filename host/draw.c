@@ -5,32 +5,21 @@
 #include <stdio.h>
 #include <stdlib.h>
 
-#include "change.h"
+#include "contents.h"
 #include "text.h"
 #include "tree.h"
 
-/* The library judges: a repair of the working copy is refused, has stores, or has none. It uses the copy up. */
-static int judge(struct table *t, const struct trees *trees)
+int check(const struct table *t)
 {
-    struct change c = {.kind = REPAIR};
-    uint64_t number = change_plan(&c, t);
-    if (number != 0)
-        return refuse(number, t, 0, 0);
-    size_t codes = trees_codes(trees), used = trees_nodes(trees);
-    uint64_t nodes = trees->of[0].nodes;
-    printf("%s is %s: %zu code%s in %zu of %" PRIu64 " nodes, %" PRIu64 " free\n", t->name, c.stores == 0 ? "settled" : "sound", codes,
-           codes == 1 ? "" : "s", used, nodes, nodes - used);
-    trees_print(trees);
-    if (c.stores != 0)
-        leftover_print(trees, stdout);
-    return 0;
-}
-
-int check(struct table *t)
-{
-    struct trees trees;
-    int status = trees_walk(&trees, t->expected) ? judge(t, &trees) : fail(BAD_FILE, "not enough memory to check %s", t->name);
-    trees_free(&trees);
+    struct contents c;
+    int status = contents_of(t, &c);
+    if (status == 0) {
+        printf("%s is %s: %" PRIu64 " code%s in %" PRIu64 " of %" PRIu64 " nodes, %" PRIu64 " free\n", t->name, c.settled ? "settled" : "sound",
+               c.codes, c.codes == 1 ? "" : "s", c.used, c.nodes, c.nodes - c.used);
+        contents_print(&c);
+        fputs(c.settled ? "" : c.leftover, stdout);
+    }
+    contents_free(&c);
     return status;
 }
 
@@ -127,12 +116,12 @@ static void draw_all(struct trees *trees)
     }
 }
 
-int show(struct table *t)
+int show(const struct table *t)
 {
     struct trees trees;
     int status = BAD_FILE;
-    if (trees_walk(&trees, t->expected)) {
-        status = judge(t, &trees);
+    if (trees_walk(&trees, t->base)) {
+        status = check(t);
         draw_all(&trees);
     } else {
         fail(status, "not enough memory to draw %s", t->name);

@@ -5,9 +5,9 @@
 #include "table.h"
 
 /* Settled, sound with its leftover, or not sound; a line for each of two collections. 0, or an exit status after saying why. */
-int check(struct table *t);
+int check(const struct table *t);
 
 /* The same, then each collection's tree, a node to a paragraph. */
-int show(struct table *t);
+int show(const struct table *t);
 
 #endif

@@ -10,6 +10,7 @@
 #include "page.h"
 #include "pool.h"
 #include "reel.h"
+#include "refusals.h"
 #include "stage.h"
 #include "text.h"
 #include "tree.h"
@@ -401,13 +402,13 @@ static int test_list(const struct table *t, const struct order_list *l, const ch
     if (l->count > MOST_FILMED)
         return fail(BAD_LINE, "%s has %zu orders; a film has at most %d", name, l->count, MOST_FILMED);
     uint64_t *copy = room_of(t->words, sizeof *copy);
-    memcpy(copy, t->expected, t->words * sizeof *copy);
+    memcpy(copy, t->base, t->words * sizeof *copy);
     uint64_t number = catalogue_carry_out(copy, t->words, l->words, 2 * l->count, l->count);
     free(copy);
     return number == 0 ? 0 : refuse(number, t, 0, 0);
 }
 
-int film(struct table *t, const struct change *wanted, const char *list, bool data)
+int film(const struct table *t, const struct change *wanted, const char *list, bool data)
 {
     char title[EXPLANATION];
     struct change planned = *wanted;
@@ -419,7 +420,7 @@ int film(struct table *t, const struct change *wanted, const char *list, bool da
     if (status == 0 && list)
         status = test_list(t, &l, list);
     struct scene own = {.title = title_of(t, wanted, title, sizeof title), .told = "", .list = "the library's orders", .own = true,
-                        .beside = -1, .base = t->expected, .words = t->words, .collection = t->collection, .change = wanted,
+                        .beside = -1, .base = t->base, .words = t->words, .collection = t->collection, .change = wanted,
                         .orders = planned.orders, .count = change_orders(&planned)};
     struct scene scenes[] = {own, own};
     if (list) {

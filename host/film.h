@@ -38,6 +38,6 @@ int film_print(const struct scene *scenes, size_t count, bool data);
  * The film of a change of this table: by the library's own orders, or by those of a file, with the library's beside them. Uses the working
  * copy up. 0, or an exit status after saying why.
  */
-int film(struct table *t, const struct change *wanted, const char *list, bool data);
+int film(const struct table *t, const struct change *wanted, const char *list, bool data);
 
 #endif

@@ -5,7 +5,7 @@
 #include <stdio.h>
 #include <string.h>
 
-#include "flush.h"
+#include "catalogue_file.h"
 #include "refusals.h"
 
 /* Where the right column begins, and where a line ends. */
@@ -90,5 +90,5 @@ void help(const struct command *only)
         print_option(o);
     printf("\n");
     print_statuses();
-    printf("\n%sThis processor's lines are flushed by: %s.\n", durability, flush_best()->name);
+    printf("\n%sThis processor's lines are flushed by: %s.\n", durability, catalogue_file_flush(NULL));
 }

@@ -8,11 +8,12 @@
 #include <string.h>
 
 #include "orderlist.h"
+#include "refusals.h"
 #include "text.h"
 #include "tree.h"
 
 struct judging {
-    struct table *table;
+    const struct table *table;
     const struct change *change;
     struct order_list list;
     uint64_t count;  /* the first that fails */
@@ -51,7 +52,7 @@ static void lose_line(struct judging *j, uint64_t line)
     for (uint64_t i = 0; i < j->count; i++)
         if (j->list.words[2 * i] == CATALOGUE_MARK && j->list.words[2 * i + 1] == line)
             flushed = i;
-    memcpy(j->image + LINE_WORDS * line, j->table->expected + LINE_WORDS * line, LINE_WORDS * sizeof *j->image);
+    memcpy(j->image + LINE_WORDS * line, j->table->base + LINE_WORDS * line, LINE_WORDS * sizeof *j->image);
     for (uint64_t i = 0; i < flushed; i++) {
         const uint64_t *order = j->list.words + 2 * i;
         if (order_stores(order) && order[0] / LINE_WORDS == line)
@@ -80,7 +81,7 @@ static uint64_t wanted(const struct change *c)
 static bool fair(const struct judging *j, uint64_t collection, uint64_t key, uint64_t pointer)
 {
     bool lost;
-    return pointer == look(j, j->table->expected, collection, key, &lost)
+    return pointer == look(j, j->table->base, collection, key, &lost)
            || (collection == j->table->collection && key == j->change->key && pointer == wanted(j->change));
 }
 
@@ -116,7 +117,7 @@ static bool say_image(struct judging *j)
 {
     uint64_t told = 0, count, more, number = 0;
     for (uint64_t n = 1; n <= MOST_COLLECTIONS; n++)
-        told = compare(j, j->table->expected, n, told);
+        told = compare(j, j->table->base, n, told);
     /* Codes that came in besides. */
     for (uint64_t n = 1; n <= MOST_COLLECTIONS && told == 0; n++)
         told = compare(j, j->image, n, told);
@@ -127,7 +128,7 @@ static bool say_image(struct judging *j)
     number = catalogue_list(j->image, j->table->words, 1, 0, 0, j->pairs, 0, &count, &more);
     if (number != 0)
         printf("a cut there may leave a table that is not sound: every change of it is refused with %" PRIu64 "\n", number);
-    bool collections = (j->image[SECOND_ROOT] == 0) != (j->table->expected[SECOND_ROOT] == 0);
+    bool collections = (j->image[SECOND_ROOT] == 0) != (j->table->base[SECOND_ROOT] == 0);
     if (collections && number == 0 && told == 0)
         printf("a cut there may leave another number of collections\n");
     return told > 0 || number != 0 || collections;
@@ -220,9 +221,9 @@ static int judge(struct judging *j)
     const struct table *t = j->table;
     const struct change *c = j->change;
     uint64_t number = c->kind == ADD
-        ? catalogue_judge_insert(t->expected, t->words, j->list.words, 2 * j->list.count, j->image, t->words, t->collection, c->key,
+        ? catalogue_judge_insert(t->base, t->words, j->list.words, 2 * j->list.count, j->image, t->words, t->collection, c->key,
                                  c->recording, c->access, &j->count)
-        : catalogue_judge_delete(t->expected, t->words, j->list.words, 2 * j->list.count, j->image, t->words, t->collection, c->key,
+        : catalogue_judge_delete(t->base, t->words, j->list.words, 2 * j->list.count, j->image, t->words, t->collection, c->key,
                                  &j->count);
     if (number != 0 && number != CATALOGUE_NO)
         return say_refused(j, number);
@@ -233,7 +234,7 @@ static int judge(struct judging *j)
     return (int)number;
 }
 
-int judge_list(struct table *t, const char *name, const struct change *c)
+int judge_list(const struct table *t, const char *name, const struct change *c)
 {
     struct judging j = {.table = t, .change = c, .room = 2 * 11 * (t->words / NODE_WORDS)};
     int status = order_list_read(&j.list, name);

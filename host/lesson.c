@@ -11,8 +11,9 @@
 #include "orderlist.h"
 #include "page.h"
 #include "pool.h"
-#include "stack.h"
+#include "refusals.h"
 #include "text.h"
+#include "tree.h"
 
 /* The drawings' tables, as their commands make them; document 01's. */
 #define DRAWING_NODES 6
@@ -54,7 +55,7 @@ static uint64_t *table_of(const char *csv, size_t *words)
     char code[KEY_TEXT];
     int length;
     for (const char *at = csv; sscanf(at, "%12[A-Z0-9],%" SCNu64 " %n", code, &recording, &length) == 2; at += length)
-        if (read_code(code, strlen(code), &key) == 0)
+        if (catalogue_file_parse(code, strlen(code), &key) == 0)
             put_in(table, *words, key, recording);
     return table;
 }
@@ -186,12 +187,9 @@ static int set_parts(struct part *parts)
 int lesson(bool data)
 {
     size_t count = WRONG + DRAWN;
-    int status = stack_take();
-    if (status != 0)
-        return status;
     struct part *parts = room_of(count, sizeof *parts);
     struct scene *scenes = room_of(count, sizeof *scenes);
-    status = set_parts(parts);
+    int status = set_parts(parts);
     for (size_t i = 0; i < count; i++)
         scenes[i] = parts[i].scene;
     if (status == 0)

@@ -5,15 +5,45 @@
 #include <inttypes.h>
 #include <signal.h>
 #include <stdio.h>
+#include <stdlib.h>
 #include <string.h>
 
-#include "catalogue.h"
-#include "loading.h"
-#include "stack.h"
+#include "progress.h"
+#include "refusals.h"
+#include "rows.h"
 #include "text.h"
+#include "wear.h"
 
 /* Bad lines that are shown; the others are counted. */
 #define SHOWN_BAD 20
+
+/* The library holds no more lines than these before it says what became of them, or refuses them at once. */
+#define RECENT 8192
+
+/* A line's beginning, for a message. */
+struct recent {
+    uint64_t number;
+    char text[ROW_TEXT];
+};
+
+struct loading {
+    struct opened *opened;
+    const struct load_options *options;
+    struct catalogue_file_load load;
+    struct rows rows;
+    struct progress progress;
+    struct recent *recent; /* the lines that were given last, in a ring */
+    uint64_t given;
+    uint64_t bad;
+    int first_bad;    /* the first bad line's exit status */
+    uint64_t stopped; /* the bad line that ended the loading, 0 for none: the lines after it are only read */
+    uint64_t left;    /* the first line that was not taken, 0 for none */
+    struct catalogue_file_line full; /* the line that ended the load for a reason of the table; its tag is 0 if there is none */
+    bool failed;   /* the file did: lines that are in the table may not last */
+    bool finished; /* no more lines are given */
+    bool wear_lost; /* orders were carried out that the wear has not */
+    struct wearing wearing; /* where it is asked for */
+};
 
 /* ---- signals */
 
@@ -22,11 +52,6 @@ static volatile sig_atomic_t signalled;
 static void on_signal(int number)
 {
     signalled = number;
-}
-
-bool load_signalled(void)
-{
-    return signalled != 0;
 }
 
 /* The first signal ends the load between two changes; a second one ends the program at once, which a sound table survives too. */
@@ -38,37 +63,14 @@ static void watch_signal(int number)
         sigaction(number, &action, NULL);
 }
 
-/* ---- what becomes of a line */
-
-bool load_known(const struct loading *l, uint64_t key, uint64_t *recording, uint64_t *access)
-{
-    uint64_t next, higher;
-    if (!l->packing)
-        return catalogue_search(l->table->expected, l->table->words, l->table->collection, key, recording, access, &next, &higher) == 0;
-    int64_t pair = judged_find(&l->packing->judged, key);
-    if (pair < 0)
-        return false;
-    uint64_t pointer = l->packing->judged.pairs[2 * pair + 1];
-    *recording = CATALOGUE_RECORDING(pointer);
-    *access = CATALOGUE_CLASS(pointer);
-    return true;
-}
-
-bool load_there(const struct loading *l, struct line *line)
-{
-    uint64_t recording, access;
-    bool there = load_known(l, line->key, &recording, &access) && recording == line->recording && (!line->classed || access == line->access);
-    if (there)
-        line->access = access;
-    return there;
-}
+/* ---- a bad line */
 
 /* What a line that is refused with 7 has in common with the table. */
-static const char *hint_for(const struct loading *l, const struct line *line, char text[EXPLANATION])
+static const char *hint_for(const struct catalogue_file_line *line, char text[EXPLANATION])
 {
-    uint64_t recording, access;
     char class[KEY_TEXT];
-    if (!load_known(l, line->key, &recording, &access) || recording != line->recording)
+    uint64_t access = CATALOGUE_CLASS(line->there);
+    if (line->number != CATALOGUE_KEY_PRESENT || CATALOGUE_RECORDING(line->there) != line->recording)
         return "";
     if (!line->classed || access == line->access)
         return " with this recording (--again passes over such lines)";
@@ -76,130 +78,149 @@ static const char *hint_for(const struct loading *l, const struct line *line, ch
     return text;
 }
 
-void load_bad(struct loading *l, const struct line *line, int status)
+static const char *text_of(const struct loading *l, uint64_t number)
+{
+    for (uint64_t i = l->given; i > 0 && i + RECENT > l->given; i--)
+        if (l->recent[(i - 1) % RECENT].number == number)
+            return l->recent[(i - 1) % RECENT].text;
+    return "";
+}
+
+/* A line that cannot be loaded, told; the load ends here unless it keeps going. */
+static void tell_bad(struct loading *l, const struct catalogue_file_line *line, const char *text)
 {
     char hint[EXPLANATION];
     char why[EXPLANATION] = "not of the form code,recording or code,recording,class; " RECORDINGS ", " CLASSES;
     if (l->bad++ == 0)
-        l->first_bad = status;
+        l->first_bad = (int)line->number;
     if (l->stopped == 0 && !l->options->keep_going)
-        l->stopped = line->number;
+        l->stopped = line->tag;
     if (l->bad > SHOWN_BAD)
         return;
-    if (status != BAD_LINE)
-        explain((uint64_t)status, l->table, line->key, line->recording, why);
-    const char *more = status == CATALOGUE_KEY_PRESENT ? hint_for(l, line, hint) : "";
+    if (line->number != BAD_LINE)
+        explain(line->number, &l->opened->table, line->key, line->recording, why);
     progress_clear(&l->progress);
-    fail(status, "%s, line %" PRIu64 ", \"%s\": %s%s", l->rows.name, line->number, line->text, why, more);
+    fail((int)line->number, "%s, line %" PRIu64 ", \"%s\": %s%s", l->rows.name, line->tag, text, why, hint_for(line, hint));
 }
 
-uint64_t load_came_in(const struct loading *l, const uint64_t *pairs, uint64_t count)
+/* ---- what the library asks and answers */
+
+static void remember(struct loading *l)
 {
-    const struct table *t = l->table;
-    uint64_t there = 0, recording, access, next, higher;
-    while (there < count && catalogue_search(t->expected, t->words, t->collection, pairs[2 * there], &recording, &access, &next, &higher) == 0)
-        there++;
-    return there;
+    struct recent *r = &l->recent[l->given++ % RECENT];
+    r->number = l->rows.number;
+    rows_text(&l->rows, r->text);
 }
 
-void load_acknowledge(const struct loading *l, uint64_t key, uint64_t recording, uint64_t access)
+/* Nothing that was acknowledged waits for a line that is not there yet. */
+static void show_progress(struct loading *l)
+{
+    if (l->options->each)
+        fflush(stdout);
+    if (l->rows.number > 0)
+        progress_step(&l->progress, l->rows.number);
+}
+
+static int next_line(void *context, struct catalogue_file_line *line, int wait)
+{
+    struct loading *l = context;
+    struct row row = {0};
+    int status = ROW_PASSED;
+    while (status == ROW_PASSED) {
+        if (wait)
+            show_progress(l);
+        else if (rows_wait(&l->rows))
+            return CATALOGUE_FILE_LATER;
+        l->finished = signalled || !rows_next(&l->rows);
+        if (l->finished)
+            return CATALOGUE_FILE_END;
+        status = rows_read(&l->rows, &row);
+    }
+    remember(l);
+    *line = (struct catalogue_file_line){row.key, row.recording, row.access, row.classed, (uint64_t)status, l->rows.number, 0};
+    return CATALOGUE_FILE_LINE;
+}
+
+static void acknowledge(struct loading *l, const struct catalogue_file_line *line)
 {
     char code[KEY_TEXT], pointer[POINTER_TEXT];
-    if (l->options->each && !l->failed)
-        printf("%s,%s\n", key_text(key, code), pointer_text(recording, access, pointer));
+    if (l->options->each)
+        printf("%s,%s\n", key_text(line->key, code), pointer_text(line->recording, line->access, pointer));
 }
 
-int load_ends(struct loading *l, const struct line *line, int status)
+static bool of_line(uint64_t number)
 {
-    progress_clear(&l->progress);
-    return fail(status, "%s: stopped before line %" PRIu64 "; what came before is kept", l->rows.name, line->number);
+    return number == BAD_LINE || number == CATALOGUE_NO_CODE || number == CATALOGUE_BAD_RECORDING || number == CATALOGUE_BAD_CLASS
+           || number == CATALOGUE_KEY_PRESENT || number == CATALOGUE_RECORDING_PRESENT;
 }
 
-/* ---- a line */
-
-/*
- * The number that the change would be refused with on a sound table with the lines before it, as far as that is known without a change. A
- * recording that is there, 8, and a code that a line of the same batch has, the library finds.
- */
-static int judge(const struct loading *l, struct line *line)
+/* A line that is not in the table. */
+static void not_added(struct loading *l, const struct catalogue_file_line *line)
 {
-    uint64_t recording, access;
-    if (l->options->again && load_there(l, line))
-        return LINE_THERE;
-    if (line->recording == 0 || line->recording > CATALOGUE_MOST_RECORDING)
-        return CATALOGUE_BAD_RECORDING;
-    if (load_known(l, line->key, &recording, &access))
-        return CATALOGUE_KEY_PRESENT;
-    return l->packing && judged_has_recording(&l->packing->judged, line->recording) ? CATALOGUE_RECORDING_PRESENT : 0;
+    bool over = l->failed || l->left > 0 || l->full.tag > 0;
+    if (line->number == CATALOGUE_FILE_NOT_TAKEN)
+        l->left = l->left == 0 ? line->tag : l->left;
+    else if (!of_line(line->number))
+        l->full = l->full.tag == 0 || line->tag < l->full.tag ? *line : l->full;
+    else if (!over || l->stopped > 0)
+        tell_bad(l, line, text_of(l, line->tag));
 }
 
-/* A table that is not sound takes nothing; what it has already may be passed over. */
-static int refuse_all(struct loading *l, const struct line *line)
+static int take_answer(void *context, const struct catalogue_file_line *line)
 {
-    int status = batch_carry(l);
-    if (status != 0 || l->stopped > 0)
-        return status;
-    return load_ends(l, line, refuse(l->refusal, l->table, line->key, line->recording));
-}
-
-static int load_line(struct loading *l)
-{
-    struct row row = {0};
-    int status = rows_read(&l->rows, &row);
-    if (status == ROW_PASSED || (status == 0 && l->stopped > 0))
+    struct loading *l = context;
+    if (line->number == 0 || line->number == CATALOGUE_FILE_THERE)
+        acknowledge(l, line);
+    else if (line->number == CATALOGUE_FILE_DISK || line->number == CATALOGUE_FILE_FOLDER)
+        l->failed = true;
+    else
+        not_added(l, line);
+    if (!l->finished)
         return 0;
-    struct line line = {l->rows.number, row.key, row.recording, row.access, row.classed, status, ""};
-    rows_text(&l->rows, line.text);
-    if (status == 0)
-        line.status = judge(l, &line);
-    if (l->batch) {
-        if (status == 0 && l->refusal != 0 && line.status != LINE_THERE)
-            return refuse_all(l, &line);
-        l->batch->lines[l->batch->count++] = line;
-    } else if (line.status > 0) {
-        load_bad(l, &line, line.status);
-    } else {
-        return packing_take(l, &line);
-    }
-    return 0;
+    /* Lines that come into the table after the last one was read: they may be many. */
+    progress_step(&l->progress, line->tag);
+    return signalled != 0;
+}
+
+static void take_orders(void *context, const uint64_t *orders, uint64_t count)
+{
+    struct loading *l = context;
+    if (l->options->wear && !l->wear_lost)
+        l->wear_lost = wearing_add(&l->wearing, orders, count) != 0;
 }
 
 /* ---- the file */
 
-/* The batch is full, or its writer waits for the acknowledgement, perhaps, before the next line. */
-static int carry_if_due(struct loading *l)
+/* The bad lines after the one that ended the load. */
+static void read_on(struct loading *l)
 {
-    if (!l->batch || l->batch->count == 0 || (l->batch->count < l->batch->limit && !rows_wait(&l->rows)))
-        return 0;
-    int status = batch_carry(l);
-    fflush(stdout);
-    return status;
+    char text[ROW_TEXT];
+    struct row row;
+    while (!signalled && rows_next(&l->rows)) {
+        int status = rows_read(&l->rows, &row);
+        struct catalogue_file_line line = {.number = (uint64_t)status, .tag = l->rows.number};
+        if (status != 0 && status != ROW_PASSED)
+            tell_bad(l, &line, rows_text(&l->rows, text));
+        progress_step(&l->progress, l->rows.number);
+    }
 }
 
-static int load_lines(struct loading *l)
+static int stopped_before(const struct loading *l, uint64_t line, int status)
 {
-    int status = 0;
-    while (status == 0 && !signalled && l->full.number == 0 && rows_next(&l->rows)) {
-        status = load_line(l);
-        if (status == 0)
-            status = carry_if_due(l);
-        if (status == 0 && (!l->batch || l->batch->count == 0))
-            progress_step(&l->progress, l->rows.number);
-    }
-    if (status == 0)
-        status = l->batch ? batch_carry(l) : packing_finish(l);
-    progress_clear(&l->progress);
-    return status;
+    return fail(status, "%s: stopped before line %" PRIu64 "; what came before is kept", l->rows.name, line);
 }
 
 /* Why the load ended before the file did, where it did. */
-static int say_end(struct loading *l)
+static int say_end(struct loading *l, uint64_t number)
 {
-    if (l->full.number > 0)
-        return load_ends(l, &l->full, refuse(CATALOGUE_NO_NODES, l->table, l->full.key, l->full.recording));
+    const struct catalogue_file_line *full = &l->full;
+    uint64_t next = l->left > 0 ? l->left : l->rows.number + 1;
+    if (number >= CATALOGUE_FILE_NO_FILE)
+        return stopped_before(l, next, opened_fails(l->opened, number, "; nothing more was changed"));
+    if (full->tag > 0)
+        return stopped_before(l, full->tag, opened_refuses(l->opened, full->number, full->key, full->recording, ""));
     if (signalled)
-        return fail(BY_SIGNAL + signalled, "%s: ended by a signal after line %" PRIu64 "; what came before is kept", l->rows.name,
-                    l->rows.number);
+        return fail(BY_SIGNAL + signalled, "%s: ended by a signal after line %" PRIu64 "; what came before is kept", l->rows.name, next - 1);
     if (l->rows.failed)
         return fail(BAD_FILE, "%s cannot be read further than line %" PRIu64 ": %s; what came before is kept", l->rows.name, l->rows.number,
                     strerror(l->rows.failed));
@@ -223,38 +244,48 @@ static void say_bad(const struct loading *l)
 static void say_loaded(const struct loading *l)
 {
     say_bad(l);
-    printf("%" PRIu64 " added, %" PRIu64 " there already", l->added, l->there);
+    printf("%" PRIu64 " added, %" PRIu64 " there already", l->load.added + l->load.unknown, l->load.there);
     if (l->bad > 0)
         printf(", %" PRIu64 " bad line%s", l->bad, l->bad == 1 ? "" : "s");
     printf("\n");
 }
 
-/* The way for this table: packed where its collection is empty, unless the orders of single changes are wanted. */
 static int begin(struct loading *l)
 {
-    struct table *t = l->table;
-    uint64_t none[1], pairs = 0, more = 0;
-    if (!stack_left())
-        return fail(BAD_FILE, "not enough memory for %s", t->name);
-    l->refusal = catalogue_list(t->working, t->words, t->collection, 0, UINT64_MAX, none, 0, &pairs, &more);
-    int status = l->options->wear ? wearing_begin(&l->wearing, t) : 0;
-    bool packed = l->refusal == 0 && more == 0 && !l->options->wear && t->carrying.pause == 0 && table_replaceable(t);
-    if (status == 0)
-        status = packed ? packing_begin(l) : batch_begin(l);
-    return status != 0 || stack_left() ? status : fail(BAD_FILE, "not enough memory for %s", t->name);
+    const struct load_options *o = l->options;
+    l->load = (struct catalogue_file_load){.collection = l->opened->table.collection, .next = next_line, .done = take_answer,
+                                           .orders = take_orders, .context = l};
+    /* The wear is that of single additions. */
+    l->load.flags = (o->again ? CATALOGUE_FILE_AGAIN : 0) | (o->keep_going ? CATALOGUE_FILE_KEEP_GOING : 0)
+                    | (o->wear ? CATALOGUE_FILE_BY_ORDERS : 0);
+    l->recent = malloc(RECENT * sizeof *l->recent);
+    int status = l->recent ? 0 : fail(BAD_FILE, "not enough memory for the lines of %s", l->rows.name);
+    if (status == 0 && o->wear)
+        status = opened_read(l->opened);
+    return status == 0 && o->wear ? wearing_begin(&l->wearing, &l->opened->table) : status;
+}
+
+/* The lines of the file, as far as they come into the table; why it ended before the file did, where it did. */
+static int load_lines(struct loading *l)
+{
+    uint64_t number = catalogue_file_load(l->opened->file, &l->load);
+    l->wear_lost = l->wear_lost || number >= CATALOGUE_FILE_NO_FILE;
+    if (l->stopped > 0 && number < CATALOGUE_FILE_NO_FILE)
+        read_on(l);
+    progress_clear(&l->progress);
+    return say_end(l, number);
 }
 
 static void end(struct loading *l)
 {
     wearing_end(&l->wearing);
-    batch_end(l);
-    packing_end(l);
+    free(l->recent);
     rows_close(&l->rows);
 }
 
-int load(struct table *t, const char *name, const struct load_options *options)
+int load(struct opened *o, const char *name, const struct load_options *options)
 {
-    struct loading l = {.table = t, .options = options};
+    struct loading l = {.opened = o, .options = options};
     if (!rows_open(&l.rows, name))
         return fail(BAD_FILE, "%s cannot be opened: %s", name, strerror(errno));
     l.rows.ended = &signalled;
@@ -265,12 +296,10 @@ int load(struct table *t, const char *name, const struct load_options *options)
     bool begun = status == 0;
     if (begun)
         status = load_lines(&l);
-    if (begun && status == 0)
-        status = say_end(&l);
     /* What came before a bad line is kept, and must last as well. */
-    int settled = table_settle(t);
+    int settled = opened_settle(o);
     if (status != BAD_FILE && settled == 0)
-        settled = table_compare(t);
+        settled = opened_compare(o);
     say_loaded(&l);
     int told = options->wear && begun && settled == 0 && !l.wear_lost ? wearing_tell(&l.wearing) : 0;
     end(&l);

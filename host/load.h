@@ -4,7 +4,7 @@
 
 #include <stdbool.h>
 
-#include "table.h"
+#include "opened.h"
 
 struct load_options {
     bool again;      /* pass over lines that the table has already */
@@ -14,10 +14,10 @@ struct load_options {
 };
 
 /*
- * Adds the lines of the file, or of standard input where its name is -, to the table's collection: packed into a new file in the table's
- * place where the collection is empty, else by batches. A bad line ends it, unless told to keep going; the lines after it are only read then,
- * to tell which of them are bad. What came before is kept. 0, or an exit status after saying why.
+ * Adds the lines of the file, or of standard input where its name is -, to the table's collection. A bad line ends it, unless told to keep
+ * going; the lines after it are only read then, to tell which of them are bad. What came before is kept. 0, or an exit status after
+ * saying why.
  */
-int load(struct table *t, const char *name, const struct load_options *options);
+int load(struct opened *o, const char *name, const struct load_options *options);
 
 #endif

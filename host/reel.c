@@ -6,8 +6,8 @@
 
 #include "catalogue.h"
 #include "change.h"
-#include "flush.h"
 #include "pool.h"
+#include "tree.h"
 
 static const uint64_t *order_at(const struct reel *r, size_t i)
 {

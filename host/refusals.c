@@ -6,11 +6,10 @@
 #include <stdio.h>
 #include <string.h>
 
-#include "catalogue.h"
 #include "text.h"
 
 const struct refusal refusals[] = {
-    {CATALOGUE_NO_CODE, "no code", "not a code, which has two letters, three letters or digits and seven digits, as AA-000-19-12345"},
+    {CATALOGUE_NO_CODE, "no code", NULL},
     {CATALOGUE_NO_TABLE, "no table", "{table} is not a table: its header or its length is wrong"},
     {CATALOGUE_SEARCH_LOST, "damaged on a search's way",
      "{table} is damaged on the way to {code}, or to the next code up: a node number, a level or a sibling is wrong"},
@@ -67,10 +66,8 @@ const char *explain(uint64_t number, const struct table *t, uint64_t key, uint64
     } fields[] = {{"{table}", t->name}, {"{part}", table_part(t, part)}, {"{collection}", collection}, {"{code}", key_text(key, code)},
                   {"{recording}", digits}};
     const char *from = message_of(number);
-    if (!from) {
-        snprintf(text, EXPLANATION, "refused with the number %" PRIu64, number);
-        return text;
-    }
+    if (!from)
+        from = catalogue_file_strerror(number);
     size_t used = 0;
     while (*from && used < EXPLANATION - 1) {
         size_t taken = 1;
@@ -85,4 +82,10 @@ const char *explain(uint64_t number, const struct table *t, uint64_t key, uint64
         from += taken;
     }
     return text;
+}
+
+int refuse(uint64_t number, const struct table *t, uint64_t key, uint64_t recording)
+{
+    char text[EXPLANATION];
+    return fail((int)number, "%s", explain(number, t, key, recording, text));
 }

@@ -9,7 +9,6 @@
 #include <sys/stat.h>
 #include <unistd.h>
 
-#include "catalogue.h"
 #include "text.h"
 
 bool rows_open(struct rows *r, const char *name)
@@ -188,7 +187,7 @@ int rows_read(struct rows *r, struct row *row)
         return BAD_LINE;
     struct field code = fields[0], number = fields[1];
     *row = (struct row){.access = CATALOGUE_OPEN, .classed = count > 2};
-    uint64_t status = read_code(code.from, length_of(code), &row->key);
+    uint64_t status = catalogue_file_parse(code.from, length_of(code), &row->key);
     /* A header names its columns: no code, and not a digit where the recordings are. */
     if (first && status != 0 && number.from < number.to && !has_digit(number))
         return ROW_PASSED;

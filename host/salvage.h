@@ -2,12 +2,9 @@
 #ifndef SALVAGE_H
 #define SALVAGE_H
 
-#include "table.h"
+#include "opened.h"
 
-/*
- * A new file with a table of as many nodes and collections and the codes that could be read; tells each slot that was dropped, and why,
- * then the counts. 0, or an exit status after saying why; then no file was made.
- */
-int salvage(struct table *t, const char *name);
+/* Into a new file of that name; prints what was dropped and kept. 0, or an exit status after saying why. */
+int salvage(struct opened *o, const char *name);
 
 #endif

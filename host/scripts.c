@@ -6,8 +6,9 @@
 
 #include "catalogue.h"
 #include "change.h"
-#include "table.h"
+#include "refusals.h"
 #include "text.h"
+#include "tree.h"
 
 /* What the scripts are about: their keys, and the table that they start with. */
 #define KEYS 3
@@ -39,13 +40,13 @@ static void act(struct table *t, uint64_t place, uint64_t action)
         return;
     }
     printf(" done");
-    change_print_counts(&c);
+    counts_print(c.stores, c.flushes, c.barriers);
 }
 
 int script(uint64_t number)
 {
     uint64_t actions[5], words[WORDS];
-    struct table t = {.name = "the table", .words = WORDS, .collection = 1, .working = words};
+    struct table t = {.name = "the table", .words = WORDS, .collection = 1, .collections = 1, .working = words};
     uint64_t refused = catalogue_script(number, actions);
     if (refused != 0)
         return fail((int)refused, "%" PRIu64 ": the scripts have the numbers 0 to %d", number, CATALOGUE_SCRIPTS - 1);

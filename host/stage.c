@@ -4,7 +4,6 @@
 #include <stdlib.h>
 
 #include "change.h"
-#include "flush.h"
 #include "pool.h"
 #include "table.h"
 #include "text.h"

@@ -7,13 +7,6 @@
 #include <string.h>
 #include <strings.h>
 
-#include "catalogue.h"
-
-#define CODE_LENGTH 12
-
-static const char *const classes[] = {[CATALOGUE_OPEN] = "open", [CATALOGUE_ROOM] = "room", [CATALOGUE_CLOSED] = "closed"};
-static const size_t class_count = sizeof classes / sizeof classes[0];
-
 int fail(int status, const char *format, ...)
 {
     va_list rest;
@@ -25,12 +18,6 @@ int fail(int status, const char *format, ...)
     va_end(rest);
     fputc('\n', stderr);
     return status;
-}
-
-int refuse(uint64_t number, const struct table *t, uint64_t key, uint64_t recording)
-{
-    char text[EXPLANATION];
-    return fail((int)number, "%s", explain(number, t, key, recording, text));
 }
 
 bool read_number(const char *text, size_t length, uint64_t *number)
@@ -49,34 +36,16 @@ bool read_number(const char *text, size_t length, uint64_t *number)
     return length > 0;
 }
 
-uint64_t read_code(const char *text, size_t length, uint64_t *key)
-{
-    if (length > 0 && text[0] == '#')
-        return read_number(text + 1, length - 1, key) ? 0 : CATALOGUE_NO_CODE;
-    /* One place more than a code has: a longer text stays too long and is refused. */
-    uint8_t plain[CODE_LENGTH + 1];
-    size_t kept = 0;
-    for (size_t i = 0; i < length && kept < sizeof plain; i++) {
-        bool small = text[i] >= 'a' && text[i] <= 'z';
-        if (text[i] != '-' && text[i] != ' ')
-            plain[kept++] = (uint8_t)(small ? text[i] - 'a' + 'A' : text[i]);
-    }
-    return catalogue_parse(plain, kept, key);
-}
-
 const char *key_text(uint64_t key, char text[KEY_TEXT])
 {
-    if (catalogue_print(key, (uint8_t *)text) == 0)
-        text[CODE_LENGTH] = '\0';
-    else
-        snprintf(text, KEY_TEXT, "#%" PRIu64, key);
-    return text;
+    return catalogue_file_print(key, CATALOGUE_FILE_PLAIN, text);
 }
 
 bool read_class(const char *text, size_t length, uint64_t *access)
 {
-    for (size_t i = 0; i < class_count; i++)
-        if (strlen(classes[i]) == length && strncasecmp(classes[i], text, length) == 0) {
+    const char *name;
+    for (uint64_t i = 0; (name = catalogue_file_class(i)); i++)
+        if (strlen(name) == length && strncasecmp(name, text, length) == 0) {
             *access = i;
             return true;
         }
@@ -85,8 +54,9 @@ bool read_class(const char *text, size_t length, uint64_t *access)
 
 const char *class_text(uint64_t access, char text[KEY_TEXT])
 {
-    if (access < class_count)
-        strcpy(text, classes[access]);
+    const char *name = catalogue_file_class(access);
+    if (name)
+        strcpy(text, name);
     else
         snprintf(text, KEY_TEXT, "%" PRIu64, access);
     return text;
@@ -101,8 +71,6 @@ const char *pointer_text(uint64_t recording, uint64_t access, char text[POINTER_
 
 int read_code_word(const char *word, uint64_t *key)
 {
-    char text[EXPLANATION];
-    uint64_t number = read_code(word, strlen(word), key);
-    const struct table none = {.name = ""};
-    return number == 0 ? 0 : fail((int)number, "%.40s: %s", word, explain(number, &none, 0, 0, text));
+    uint64_t number = catalogue_file_parse(word, strlen(word), key);
+    return number == 0 ? 0 : fail((int)number, "%.40s: %s", word, catalogue_file_strerror(number));
 }

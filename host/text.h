@@ -6,28 +6,29 @@
 #include <stddef.h>
 #include <stdint.h>
 
-#include "refusals.h"
-#include "table.h"
+#include "catalogue_file.h"
+
+/* The program's exit statuses, beside the library's refusal numbers, 254 for a list that is judged no and 255 for an absent code. */
+enum {
+    BAD_USAGE = 64,   /* the command line has another form */
+    BAD_LINE = 65,    /* a line of a file to load, or of an order list, has another form */
+    BAD_FILE = 74,    /* a file cannot be opened, read or written, or changed meanwhile */
+    BY_SIGNAL = 128   /* and the signal's number: a load that a signal ended */
+};
+
+#define RECORDINGS "a recording is a whole number from 1 to 72057594037927935"
+#define CLASSES "a class is open, room or closed"
 
 /* Room for a code, or for # and a number, and the final 0. */
-#define KEY_TEXT 24
+#define KEY_TEXT CATALOGUE_FILE_CODE
 
 /* Says why on standard error and gives the status back, so that a caller can return it. */
 int fail(int status, const char *format, ...) __attribute__((format(printf, 2, 3)));
 
-/* The same for a refusal number of the library, of a call on this table. */
-int refuse(uint64_t number, const struct table *t, uint64_t key, uint64_t recording);
-
 /* Decimal digits that fit a word. */
 bool read_number(const char *text, size_t length, uint64_t *number);
 
-/*
- * The key of a code typed with or without hyphens and spaces, in capital or small letters, or of # and a key's number, which list prints
- * where no code has the key: 0 or 1, as catalogue_parse.
- */
-uint64_t read_code(const char *text, size_t length, uint64_t *key);
-
-/* The same for a word of the command line. 0, or an exit status after saying why. */
+/* The key of a code that is a word of the command line. 0, or an exit status after saying why. */
 int read_code_word(const char *word, uint64_t *key);
 
 /* A key's code, or # and the number where no code has it; the text given is filled and returned. */

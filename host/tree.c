@@ -4,8 +4,6 @@
 #include <stdio.h>
 #include <stdlib.h>
 
-#include "table.h"
-
 bool tree_has(const struct tree *tree, uint64_t n)
 {
     return n >= 1 && n <= tree->nodes;
@@ -115,37 +113,13 @@ static unsigned count_slots(const struct tree *tree, uint64_t n, enum slot kind)
     return count;
 }
 
-static size_t codes_of(const struct tree *tree)
+size_t tree_codes(const struct tree *tree)
 {
     size_t codes = 0;
     for (size_t i = 0; i < tree->count; i++)
         if (tree_word(tree, tree->reached[i], LEVEL) == 0)
             codes += count_slots(tree, tree->reached[i], SHOWN);
     return codes;
-}
-
-size_t trees_codes(const struct trees *trees)
-{
-    size_t codes = 0;
-    for (size_t i = 0; i < trees->count; i++)
-        codes += codes_of(&trees->of[i]);
-    return codes;
-}
-
-size_t trees_nodes(const struct trees *trees)
-{
-    size_t nodes = 0;
-    for (size_t i = 0; i < trees->count; i++)
-        nodes += trees->of[i].count;
-    return nodes;
-}
-
-void trees_print(const struct trees *trees)
-{
-    for (size_t i = 0; trees->count > 1 && i < trees->count; i++) {
-        size_t codes = codes_of(&trees->of[i]), nodes = trees->of[i].count;
-        printf("collection %zu: %zu code%s in %zu node%s\n", i + 1, codes, codes == 1 ? "" : "s", nodes, nodes == 1 ? "" : "s");
-    }
 }
 
 /* ---- what it has unfinished */

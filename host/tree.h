@@ -7,6 +7,15 @@
 #include <stdint.h>
 #include <stdio.h>
 
+/* Words of a table, of its header and of a node; a line, as the orders count them. */
+#define HEADER_WORDS 8
+#define FIRST_ROOT 1  /* header word of collection 1's root */
+#define NODE_COUNT 2  /* of the number of nodes */
+#define SECOND_ROOT 3 /* of collection 2's; 0 where the table has one collection */
+#define NODE_WORDS 32
+#define LINE_WORDS 8
+
+#define MOST_NODES 65535
 #define SLOTS 12
 
 /* Words of a node. */
@@ -48,12 +57,8 @@ uint64_t tree_key(const struct tree *tree, uint64_t n, unsigned slot);
 uint64_t tree_pointer(const struct tree *tree, uint64_t n, unsigned slot);
 enum slot tree_slot(const struct tree *tree, uint64_t n, unsigned slot);
 
-/* Of a sound table: codes in all its collections, and nodes that have them. */
-size_t trees_codes(const struct trees *trees);
-size_t trees_nodes(const struct trees *trees);
-
-/* On standard output: "collection 1: 5 codes in 1 node" and so on where there are two; nothing where there is one. */
-void trees_print(const struct trees *trees);
+/* Of a sound table: the codes of a collection. */
+size_t tree_codes(const struct tree *tree);
 
 /* "leftover (b): ..": what a sound table that is not settled has unfinished. */
 void leftover_print(const struct trees *trees, FILE *out);

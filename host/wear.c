@@ -8,10 +8,11 @@
 
 #include "catalogue.h"
 #include "change.h"
-#include "flush.h"
 #include "orderlist.h"
 #include "picture.h"
+#include "refusals.h"
 #include "text.h"
+#include "tree.h"
 
 /* Lines that are told of a load. */
 #define TOLD 10

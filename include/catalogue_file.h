@@ -156,6 +156,9 @@ struct catalogue_file_options {
 };
 uint64_t catalogue_file_open_with(catalogue_file *f, const char *name, const struct catalogue_file_options *options);
 
+/* The name of this flush if the processor has it, or of the best that it has for null; else null. */
+const char *catalogue_file_flush(const char *name);
+
 /* Waits until all changes last. Only a fast handle, or one whose last change failed, has any to wait for. */
 uint64_t catalogue_file_sync(catalogue_file *f);
 
@@ -248,6 +251,7 @@ struct catalogue_file_line {
     uint64_t classed; /* 1 if the line says a class; else access is what it gets if it is added, and is not compared if it is there */
     uint64_t number;  /* as given: 0, or why the caller refuses the line itself. In the answer: what became of it */
     uint64_t tag;     /* the caller's, such as a line number; comes back as it is */
+    uint64_t there;   /* in the answer, if number is 7: the pointer that the code has; else 0 */
 };
 
 /* Answers of a source. */

@@ -100,7 +100,7 @@ def slots_out_of_range(program, folder):
     at = good.index(key(code(2))) + 1
     for pointer, said in ((9 << 56 | 77, "77 with class 9"), (3 << 56 | 72, "72 with class 3"), (255 << 56 | 1, "1 with class 255"), (1 << 56, "0 with class 1")):
         write_words(t, good[:at] + [pointer] + good[at + 1:])
-        program.refuses(NOT_SOUND, f"the slot of {code(2)} in {t} is damaged: recording {said} is none, and must not play", "find", t, code(2))
+        program.refuses(NOT_SOUND, f"the slot of {code(2)} in {t} is damaged: its recording or its class is none, and must not play", "find", t, code(2))
         assert program.done("find", t, code(1)) == "71,open\n" and program.done("find", t, code(3)) == "73,open\n"
         for words in (["list", t], ["check", t], ["film", t, "-", code(1)], ["orders", t, "remove", code(2)], ["add", t, code(9), 9], ["class", t, code(2), "closed"]):
             program.refuses(NOT_SOUND, "is not sound", *words)
@@ -123,7 +123,7 @@ def making(program, folder):
     program.refuses(BAD_FILE, "cannot be made", "make", f"{folder}/none/u", 1)
     assert not os.path.exists(f"{folder}/u")
     program.done("make", f"{folder}/u", 65535)
-    assert os.path.getsize(f"{folder}/u") == 8 * (8 + 32 * 65535)
+    assert os.path.getsize(f"{folder}/u") == 8 * (8 + 32 * 65535 + TRAILER)
     assert program.done("check", f"{folder}/u") == f"{folder}/u is settled: 0 codes in 1 of 65535 nodes, 65534 free\n"
     os.remove(f"{folder}/u")
 

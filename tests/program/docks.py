@@ -96,7 +96,7 @@ def a_barrier_is_a_fence(program, folder):
     if os.uname().machine != "x86_64" or not shutil.which("objdump"):
         return "not looked for"
     code_of = subprocess.run(["objdump", "-d", "--no-show-raw-insn", program.command[-1]], text=True, capture_output=True, check=True).stdout
-    parts = re.findall(r"^[0-9a-f]+ <(carry_out|carry_one|barrier)(?:\.[a-z.0-9]+)?>:\n((?:.+\n)+)", code_of, re.M)
+    parts = re.findall(r"^[0-9a-f]+ <(carry_out|carry_one|flush_barrier)(?:\.[a-z.0-9]+)?>:\n((?:.+\n)+)", code_of, re.M)
     assert any(re.search(r"\bsfence\b", text) for _, text in parts), [name for name, _ in parts]
 
 

@@ -42,11 +42,11 @@ class Program:
 
     def refuses(self, status, pattern, *words, **how):
         """A refusal: its status, one line of message that the pattern fits, no answer, and every file named as it was."""
-        before = [contents(w) for w in words]
+        before = [table_bytes(w) for w in words]
         got, out, err = self(*words, **how)
         assert got == status and re.search(pattern, err) and out == "", (words, status, pattern, got, out, err)
         assert err.startswith("catalogue: ") and err.count("\n") == 1, err
-        assert [contents(w) for w in words] == before, (words, "a file was changed")
+        assert [table_bytes(w) for w in words] == before, (words, "a file was changed")
 
 
 def check_ending(status, err, words):
@@ -60,8 +60,25 @@ def contents(path):
         return f.read()
 
 
-def read_words(path):
+# Words of the trailer, which lies behind the table's words.
+TRAILER = 8
+
+
+def without_trailer(data):
+    """The bytes of a table: its header says how many nodes it has. Another file as it is."""
+    words = 8 + 32 * int.from_bytes(data[16:24], "little")
+    return data[:8 * words] if len(data) == 8 * (words + TRAILER) else data
+
+
+def table_bytes(path):
+    """A file's contents, but of a table without its trailer: a writer adds that, and counts in it."""
     data = contents(path)
+    return data and without_trailer(data)
+
+
+def read_words(path):
+    """A table's words, without its trailer."""
+    data = table_bytes(path)
     return list(struct.unpack(f"<{len(data) // 8}Q", data))
 
 

@@ -92,14 +92,14 @@ def read_only(program, folder):
     os.chmod(t, 0o644)
     os.chmod(folder, 0o755)
     for words in writing(t, csv):
-        program.refuses(BAD_FILE, "is read-only", *words, **other)
+        program.refuses(BAD_FILE, "cannot be opened for writing: Permission denied", *words, **other)
     for words in reading(t):
         program.done(*words, **other)
     for words in anew(t):
         program.refuses(BAD_FILE, "cannot be made: Permission denied", *words, **other)
     os.chmod(t, 0o600)
     for words in reading(t) + anew(t):
-        program.refuses(BAD_FILE, "cannot be opened: Permission denied", *words, **other)
+        program.refuses(BAD_FILE, "cannot be opened for reading: Permission denied", *words, **other)
     return "also as another user"
 
 
@@ -122,43 +122,40 @@ def a_folder_that_cannot_be_read(program, folder):
 
 
 def in_use(program, folder):
-    """A table that another program has locked: a refusal, or a wait; a search takes no lock and answers."""
+    """A table that another writer has locked: a writer is refused, or waits; commands that read take no lock and answer."""
     t, csv = table(program, folder)
     with open(t, "rb") as f:
-        fcntl.flock(f, fcntl.LOCK_EX)
-        assert program.done("find", t, code(1)) == "1,open\n"
-        for words in [w for w in reading(t) if w[0] != "find"] + anew(t) + writing(t, csv):
-            program.refuses(BAD_FILE, "is in use by another program; try again later, or with --wait", *words)
-        fcntl.flock(f, fcntl.LOCK_SH)
-        for words in reading(t):
-            program.done(*words)
-        for words in anew(t):
-            program.done(*words)
-            os.remove(f"{t}.made")
-        for words in writing(t, csv):
-            program.refuses(BAD_FILE, "is in use by another program", *words)
+        for lock in (fcntl.LOCK_EX, fcntl.LOCK_SH):
+            fcntl.flock(f, lock)
+            for words in reading(t):
+                program.done(*words)
+            for words in anew(t):
+                program.done(*words)
+                os.remove(f"{t}.made")
+            for words in writing(t, csv):
+                program.refuses(BAD_FILE, "is in use by another writer; try again later, or with --wait", *words)
 
 
 def waiting(program, folder):
     t, csv = table(program, folder)
-    commands = [["list", t, code(1), code(1), "--wait", 60], ["add", t, code(50), 50, "--wait", 60]]
     with open(t, "rb") as f:
         fcntl.flock(f, fcntl.LOCK_EX)
-        runs = [program.start(*words, stdout=subprocess.PIPE, stderr=subprocess.PIPE) for words in commands]
+        run = program.start("add", t, code(50), 50, "--wait", 60, stdout=subprocess.PIPE, stderr=subprocess.PIPE)
+        # A reader has nothing to wait for.
+        assert program.done("list", t, code(1), code(1), "--wait", 60) == f"{code(1)},1,open\n"
         began = time.monotonic()
         status, _, err = program("repair", t, "--wait=2")
         assert status == BAD_FILE and "waiting for" in err and "is in use" in err and 1.9 < time.monotonic() - began < 30, err
-        assert [run.poll() for run in runs] == 2 * [None]
+        assert run.poll() is None
         fcntl.flock(f, fcntl.LOCK_UN)
-    for run, answer in zip(runs, (f"{code(1)},1,open\n", "added ")):
-        out, err = run.communicate(timeout=60)
-        assert run.returncode == 0 and out.startswith(answer), (out, err)
-        assert err == f"catalogue: waiting for {t}, which another program uses\n", err
+    out, err = run.communicate(timeout=60)
+    assert run.returncode == 0 and out.startswith("added "), (out, err)
+    assert err == f"catalogue: waiting for {t}, which another program uses\n", err
 
 
 def a_writer_among_readers(program, folder):
-    """Readers whose turns overlap: a writer that waits comes to its turn before those that came after it. Each reader here prints more than
-    its pipe takes, and has the table until somebody reads that."""
+    """Readers hold no writer up, whatever they wait for, and each prints the table of one moment. The readers here print more than a pipe
+    takes, and go on once somebody reads that."""
     t, csv = f"{folder}/t", f"{folder}/csv"
     with open(csv, "w") as f:
         f.writelines(f"{code(i)},{i}\n" for i in range(1, 12001))
@@ -166,29 +163,17 @@ def a_writer_among_readers(program, folder):
     program.done("load", t, csv)
 
     def started(*words):
-        return program.start(*words, stdout=subprocess.PIPE, stderr=subprocess.PIPE)
+        run = program.start(*words, stdout=subprocess.PIPE, stderr=subprocess.PIPE)
+        assert select.select([run.stdout], [], [], 60)[0]
+        return run
 
-    def has_begun(run):
-        """The reader has its turn: it has printed."""
-        return bool(select.select([run.stdout], [], [], 0.5)[0])
-
-    first = started("list", t)
-    assert select.select([first.stdout], [], [], 60)[0]
-    other = started("list", t)
-    assert select.select([other.stdout], [], [], 60)[0]
-    writer = started("add", t, code(20000), 20000, "--wait", 60)
-    # It says that it waits after a second.
-    assert writer.stderr.readline() == f"catalogue: waiting for {t}, which another program uses\n"
-    behind = started("list", t, "--wait", 60)
-    program.refuses(BAD_FILE, "is in use by another program", "check", t)
-    assert not has_begun(behind), "a reader came before the writer that waited"
-    for run in (first, other):
+    readers = []
+    for i in range(3):
+        readers.append((started("list", t), 12000 + i))
+        assert program.done("add", t, code(20000 + i), 20000 + i).startswith("added ")
+    for run, count in readers:
         out, err = run.communicate(timeout=60)
-        assert run.returncode == 0 and len(out.splitlines()) == 12000, err
-    out, err = writer.communicate(timeout=60)
-    assert writer.returncode == 0 and out.startswith("added "), (out, err)
-    out, err = behind.communicate(timeout=60)
-    assert behind.returncode == 0 and len(out.splitlines()) == 12001, err
+        assert run.returncode == 0 and len(out.splitlines()) == count, (len(out.splitlines()), count, err)
 
 
 def changed_while_it_loads(program, folder, meddle, prepare=lambda t: None):

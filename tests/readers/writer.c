@@ -28,7 +28,7 @@ void writer_open(struct writer *w)
 uint64_t writer_plan(struct writer *w, enum change kind, uint64_t collection, uint64_t key, uint64_t recording, uint64_t access,
                      const uint64_t *pairs)
 {
-    uint64_t stores = 0, flushes = 0, barriers = 0, taken, number, room = 2 * CATALOGUE_LONG_LIST_WORDS;
+    uint64_t stores = 0, flushes = 0, barriers = 0, taken, stop, number, room = 2 * CATALOGUE_LONG_LIST_WORDS;
     if (kind == INSERT)
         number = catalogue_insert(w->working, w->words, collection, w->orders, room, w->dock, key, recording, access, &stores, &flushes,
                                   &barriers);
@@ -39,8 +39,8 @@ uint64_t writer_plan(struct writer *w, enum change kind, uint64_t collection, ui
     else if (kind == REPAIR)
         number = catalogue_repair(w->working, w->words, w->orders, room, w->dock, &stores, &flushes, &barriers);
     else
-        number = catalogue_insert_many(w->working, w->words, collection, w->orders, room, w->dock, pairs, 2 * recording, &taken, &stores,
-                                       &flushes, &barriers);
+        number = catalogue_insert_many(w->working, w->words, collection, w->orders, room, w->dock, pairs, 2 * recording, &taken, &stop,
+                                       &stores, &flushes, &barriers);
     w->count = stores + flushes + barriers;
     return number;
 }
