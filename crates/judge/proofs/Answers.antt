@@ -21,6 +21,7 @@ use Rattle.model.specs.Ledger.{change}
 use Rattle.model.specs.Judge.{judgedFrom, judged, judgeNumber, judge, countOf, judgeOut}
 use Rattle.list_laws.proofs.Tools.{not-false-iff}
 use Rattle.step_laws.proofs.Accepted.{none-holds}
+use Rattle.two_laws.proofs.CheckTwo.{nothing-settled}
 use Rattle.two_laws.proofs.SameTwo.{settled-sound}
 use Rattle.two_laws.proofs.SearchTwo.{sound-head}
 use Rattle.judge_laws.proofs.Calls.{Judgeable, whole-inside, judge-judged, judge-out}
@@ -37,7 +38,6 @@ use Rattle.judge.specs.declared.Change.{Change}
 use Rattle.judge.specs.declared.Tested.the-variants.{Refused, Passed}
 use Rattle.judge.specs.Tests.{firstTests, tested}
 use Rattle.judge.specs.Wanted.{wanted}
-use Rattle.judge.proofs.Rest.{nothing-settled}
 use Rattle.judge.proofs.Going.{all-orders}
 
 -- ---- the tests, one by one

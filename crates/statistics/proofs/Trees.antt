@@ -1,6 +1,6 @@
 -- The trees of a sound table: their nodes, and which of them has the leftover.
 use mathlib.Core.Path.{_≡_, ap, sym, _∙_}
-use mathlib.Core.Bool.{Bool, true, false, cond, _&&_, _||_, false≢true}
+use mathlib.Core.Bool.{true, false, cond, false≢true}
 use mathlib.Core.Logic.{_≢_, _⊎_, inl, inr}
 use mathlib.Core.List.{[], _∷_}
 use mathlib.Core.Option.{Option, some}
@@ -14,8 +14,11 @@ use Rattle.model.specs.Slots.{viewFrom, viewOf}
 use Rattle.model.specs.Reached.{reached, reachedAll}
 use Rattle.model.specs.SoundTest as model
 use Rattle.model.specs.SoundTest.{leftover, isNothing, soundView, sound}
-use Rattle.list_laws.proofs.Tools.{and-iff, same-or-not}
-use Rattle.two_laws.proofs.CheckTwo.{beside, sound-by-trees, left-alone, count-alone, count-beside}
+use Rattle.list_laws.proofs.Tools.{same-or-not}
+use Rattle.two_laws.proofs.SameTwo.{first-there, second-there}
+use Rattle.two_laws.proofs.SearchTwo.{sound-head}
+use Rattle.two_laws.proofs.CollectionTwo.{collection-sound}
+use Rattle.two_laws.proofs.CheckTwo.{left-alone, count-alone, count-beside}
 use Rattle.sound.specs.declared.Leftover.{Leftover}
 use Rattle.sound.specs.declared.Checked.{Checked}
 use Rattle.sound.specs.declared.Checked.the-variants.{Unsound, Sound}
@@ -24,22 +27,9 @@ use Rattle.sound.proofs.JudgeLaws.{SoundTree, SoundWith, tree-sound, tree-unsou
 use Rattle.sound.proofs.TreesLaws.{tree-at}
 use Rattle.model.specs.Statistics.{leftIn, treeWords}
 
-or-second : (a b : Bool) → a ≡ false → (a || b) ≡ true → b ≡ true
-or-second true b e q = absurd (false≢true (sym e))
-or-second false b e q = q
-
 module _ (t : Words) (s : sound t ≡ true) where
-  pub sound-header : headerOk t ≡ true
-  sound-header = and-iff (headerOk t) _ .0 (sym (sound-by-trees t) ∙ s) .0
-
-  parts : (soundView (viewOf 1 t) ≡ true) × ((eqb (at t 3) 0 || (soundView (viewOf 2 t) && beside (viewOf 1 t) (viewOf 2 t))) ≡ true)
-  parts = and-iff (soundView (viewOf 1 t)) _ .0 (and-iff (headerOk t) _ .0 (sym (sound-by-trees t) ∙ s) .1)
-
-  pub first-sound : soundView (viewOf 1 t) ≡ true
-  first-sound = parts .0
-
-  second-sound : at t 3 ≢ 0 → soundView (viewOf 2 t) ≡ true
-  second-sound z = and-iff (soundView (viewOf 2 t)) _ .0 (or-second (eqb (at t 3) 0) _ (ne-eqb (at t 3) 0 z) (parts .1)) .0
+  first-sound : soundView (viewOf 1 t) ≡ true
+  first-sound = collection-sound 1 t s (first-there t)
 
   -- what the figures of a tree ask, whose root was read from word w
   abbrev pub Ready : (r n : ℕ) → Type 0
@@ -47,7 +37,7 @@ module _ (t : Words) (s : sound t ≡ true) where
 
   ready : (w r n : ℕ) → r ≡ at t w → soundView (viewFrom t (at t w)) ≡ true → n ≡ length (reached (viewFrom t (at t w))) → Ready r n
   ready w r n e a b = (
-    sound-header,
+    sound-head t s,
     (
       ap (λ (k : ℕ). soundView (viewFrom t k)) e ∙ a,
       b ∙ sym (ap (λ (k : ℕ). length (reached (viewFrom t k))) e),
@@ -70,7 +60,7 @@ module _ (t : Words) (s : sound t ≡ true) where
     there o z = o (e ∙ z)
 
     pub second-ready : (r ≡ 0 → ⊥) → (n : ℕ) → length (reached (viewOf 1 t)) + n ≡ length (reachedAll t) → Ready r n
-    second-ready o n q = let z = there o in let c = count-beside t z in ready 3 r n e (second-sound z) (omega (arith, q, c))
+    second-ready o n q = let z = there o in let c = count-beside t z in ready 3 r n e (collection-sound 2 t s (second-there t z)) (omega (arith, q, c))
 
 -- zeros if there is no second tree
 abbrev pub secondWords : Words → Words
@@ -90,7 +80,7 @@ module _ (t : Words) (x : Leftover) (c : ℕ) (h : checked t ≡ Sound x c) wher
   whole = checked-sound t x c .0 h
 
   pub header : headerOk t ≡ true
-  header = sound-header t (whole .is-sound)
+  header = sound-head t (whole .is-sound)
 
   abbrev First : ℕ → ℕ → Type 0
   First n l = (n ≡ length (reached (viewOf 1 t))) × (l ≡ leftIn t)

@@ -15,13 +15,14 @@ use Rattle.model.specs.SoundTest as model
 use Rattle.model.specs.SoundTest.{leftoverAll, sound}
 use Rattle.model.specs.Writes.{unreachable}
 use Rattle.table_laws.proofs.Header.{header-number-iff, header-number-refused}
+use Rattle.two_laws.proofs.SearchTwo.{sound-head}
 use Rattle.sound.specs.declared.Leftover.{Leftover}
 use Rattle.sound.specs.declared.Checked.{Checked}
 use Rattle.sound.specs.declared.Checked.the-variants.{Unsound, Sound}
 use Rattle.sound.specs.Checked.{meant, checked}
 use Rattle.sound.proofs.JudgeLaws.{checked-unsound}
 use Rattle.model.specs.Statistics.{checkNumber, checking, leftWords, orNothing, leftIn, treeWords, report, reportOut}
-use Rattle.statistics.proofs.Trees.{whole, first-few, secondWords, sound-header}
+use Rattle.statistics.proofs.Trees.{whole, first-few, secondWords}
 
 -- ---- the report
 
@@ -68,4 +69,4 @@ module _ (t lent : Words) where
   unfolding checkNumber checking reportOut
   is-sound x c h ws q =
       let b = whole t x c h .is-sound in
-      let a = sound-header t b in (rw (a, b), rw (a, b) q)
+      let a = sound-head t b in (rw (a, b), rw (a, b) q)
