@@ -21,3 +21,5 @@ pub mod InsertSteady
 pub mod RootSteady
 pub mod Returns
 pub mod Returned
+pub mod Copies
+pub mod Snapshots

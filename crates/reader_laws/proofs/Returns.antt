@@ -4,7 +4,7 @@ use mathlib.Core.Path.{_≡_, sym, ap, subst, _∙_}
 use mathlib.Core.Bool.{true, false}
 use mathlib.Core.Logic.{_⊎_, inl, inr}
 use mathlib.Core.List.{List, []}
-use Prim.Native.Nat.{ℕ, _+_, _*_, _<_}
+use Prim.Native.Nat.{ℕ, _+_, _*_, _≤_, _<_}
 use native.Mathlib.Omega.{arith}
 use lib.ListN.{length, take}
 use lib.Seq.{take-length}
@@ -118,17 +118,18 @@ module _ (t : Words) (s : sound t ≡ true) where
 
 -- In the list of an accepted call on a settled table a word never returns to a value that it lost.
 pub no-return : NoReturn
-no-return x words dock t h ok a b c w i j seen e =
+no-return x words dock t h ok z a b c w g i j seen e =
     let os = ordersOf x dock t in
     let ss = storesOf x t in
     let m = moment x dock t in
     let p : ℕ → ℕ = λ d. storeCount (take d os) in
-    let set = settled-same t .1 h in
     let y = accepted x words dock t ok in
-    let u = apply (take (p a) ss) t in
-    let there : Sight u w = sight u (steps x words dock t ok .part-sound (p a)) w (subst (λ (v : Words). InSight v w) (m a) seen) in
-    let l : w < length t = rw (length-apply (take (p a) ss) t) at (sight-long u (steps x words dock t ok .part-sound (p a)) w there) in
+    let u = apply (take (p z) ss) t in
+    let s = steps x words dock t ok .part-sound (p z) in
+    let there : Sight u w = sight u s w (subst (λ (v : Words). InSight v w) (m z) seen) in
+    let l : w < length t = rw (length-apply (take (p z) ss) t) at (sight-long u s w there) in
+    let le : (d f : ℕ) → d ≤ f → p d ≤ p f = λ d f q. storeCount-take-le d f os q in
     ap (λ (v : Words). at v w) (m b)
-    ∙ never-back t ss (call-steady t set x (y .collection) (y .allows)) (p a) (p b) (p c) w (storeCount-take-le a b os i) (storeCount-take-le b c os j) l there
+    ∙ never-back t ss (call-steady t (settled-same t .1 h) x (y .collection) (y .allows)) (p z) (p a) (p b) (p c) w (le z a g) (le a b i) (le b c j) l there
     (sym (ap (λ (v : Words). at v w) (m a)) ∙ e ∙ ap (λ (v : Words). at v w) (m c))
     ∙ sym (ap (λ (v : Words). at v w) (m a))

@@ -7,7 +7,7 @@ use Prim.Native.Nat.{ℕ, _+_, _-_, _≤_, _<_}
 use native.Mathlib.Omega.{arith}
 use lib.Dec.{ltb}
 use lib.ListN.{length, take, drop}
-use lib.Seq.{take-append-le, take-append-add, drop-append-add, take-add}
+use lib.Seq.{take-append-le, take-append-add, drop-append-add, take-add, drop-drop}
 use borrow.Author.Tests.{ltb-true, ltb-false}
 use Rattle.model.specs.Table.{Words, at, noCollection}
 use Rattle.model.specs.Slots.{viewOf}
@@ -61,14 +61,23 @@ module _ (t : Words) (ss us : List Store) where
           late : SteadyFrom t (ss ++ us) (length ss + d) w
           late = rw (part-late d, drop-append-add ss us d) (g d w (rw (length-apply ss t) l) there)
 
--- what it says of the moments
-pub never-back : (t : Words) (ss : List Store) → AllSteady t ss → (a b c w : ℕ) → a ≤ b → b ≤ c → w < length t → Sight (apply (take a ss) t) w
-    → at (apply (take a ss) t) w ≡ at (apply (take c ss) t) w → at (apply (take b ss) t) w ≡ at (apply (take a ss) t) w
+-- ---- what it says of the moments
+
+-- from moment z to moment d
+from-moment : (t : Words) (ss : List Store) (z d : ℕ) → z ≤ d → apply (take d ss) t ≡ apply (take (d - z) (drop z ss)) (apply (take z ss) t)
+from-moment t ss z d g =
+    let q : z + (d - z) ≡ d = omega arith in
+    ap (λ (x : ℕ). apply (take x ss) t) (sym q) ∙ ap (λ (x : List Store). apply x t) (take-add z (d - z) ss) ∙ apply-append (take z ss) (take (d - z) (drop z ss)) t
+
+-- a word that is in sight at moment z is steady from each later one on
+later-steady : (t : Words) (ss : List Store) → AllSteady t ss → (z a w : ℕ) → z ≤ a → w < length t → Sight (apply (take z ss) t) w → SteadyFrom t ss a w
 unfolding AllSteady
-never-back t ss h a b c w i j l s e =
-    let u = apply (take a ss) t in
-    let later : (d : ℕ) → a ≤ d → apply (take d ss) t ≡ apply (take (d - a) (drop a ss)) u = λ d g.
-    let q : a + (d - a) ≡ d = omega arith in
-    ap (λ (x : ℕ). apply (take x ss) t) (sym q) ∙ ap (λ (x : List Store). apply x t) (take-add a (d - a) ss) ∙ apply-append (take a ss) (take (d - a) (drop a ss)) t in
-    ap (λ (x : Words). at x w) (later b i)
-    ∙ steady-back w (drop a ss) (b - a) (c - a) u (rw (length-apply (take a ss) t) l) (h a w l s) (omega arith) (e ∙ ap (λ (x : Words). at x w) (later c (omega arith)))
+later-steady t ss h z a w g l s =
+    let q : z + (a - z) ≡ a = omega arith in
+    rw (from-moment t ss z a g, ap (λ (x : ℕ). drop x ss) (sym q) ∙ sym (drop-drop (a - z) z ss)) (steady-drop (a - z) w (drop z ss) (apply (take z ss) t) (rw (length-apply (take z ss) t) l) (h z w l s))
+
+pub never-back : (t : Words) (ss : List Store) → AllSteady t ss → (z a b c w : ℕ) → z ≤ a → a ≤ b → b ≤ c → w < length t → Sight (apply (take z ss) t) w
+    → at (apply (take a ss) t) w ≡ at (apply (take c ss) t) w → at (apply (take b ss) t) w ≡ at (apply (take a ss) t) w
+never-back t ss h z a b c w g i j l s e =
+    ap (λ (x : Words). at x w) (from-moment t ss a b i)
+    ∙ steady-back w (drop a ss) (b - a) (c - a) (apply (take a ss) t) (rw (length-apply (take a ss) t) l) (later-steady t ss h z a w g l s) (omega arith) (e ∙ ap (λ (x : Words). at x w) (from-moment t ss a c (omega arith)))
