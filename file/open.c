@@ -43,19 +43,33 @@ static uint64_t open_file(struct catalogue_file *f)
     return f->file < 0 ? open_failed(f) : 0;
 }
 
-/* *waited is the time so far, in milliseconds. */
-static uint64_t lock(struct catalogue_file *f, const struct catalogue_file_options *options, uint64_t *waited)
+static int64_t milliseconds_since(const struct timespec *then, struct timespec *now)
+{
+    clock_gettime(CLOCK_MONOTONIC_COARSE, now);
+    return (now->tv_sec - then->tv_sec) * INT64_C(1000) + (now->tv_nsec - then->tv_nsec) / 1000000;
+}
+
+/* A wait for the lock: since when, and whether the caller heard of it. */
+struct lock_wait {
+    struct timespec since;
+    bool said;
+};
+
+static uint64_t lock(struct catalogue_file *f, const struct catalogue_file_options *options, struct lock_wait *wait)
 {
     const struct timespec moment = {.tv_nsec = LOCK_PAUSE * 1000000L};
-    for (; flock(f->file, LOCK_EX | LOCK_NB) != 0; *waited += LOCK_PAUSE) {
+    struct timespec now;
+    while (flock(f->file, LOCK_EX | LOCK_NB) != 0) {
         if (errno == EINTR)
             continue;
         if (errno != EWOULDBLOCK)
             return fails_for(f, CATALOGUE_FILE_DISK, "%s cannot be locked", f->name);
-        if (*waited >= options->wait)
+        int64_t waited = milliseconds_since(&wait->since, &now);
+        if ((uint64_t)waited >= options->wait)
             return fails(f, CATALOGUE_FILE_IN_USE, "%s is in use by another writer", f->name);
-        if (*waited == LOCK_PATIENCE && options->waiting)
+        if (waited >= LOCK_PATIENCE && !wait->said && options->waiting)
             options->waiting(options->context);
+        wait->said = wait->said || waited >= LOCK_PATIENCE;
         nanosleep(&moment, NULL);
     }
     return 0;
@@ -68,12 +82,13 @@ static uint64_t lock(struct catalogue_file *f, const struct catalogue_file_optio
  */
 static uint64_t open_locked(struct catalogue_file *f, const struct catalogue_file_options *options)
 {
-    uint64_t waited = 0;
+    struct lock_wait wait = {0};
     struct stat ours;
+    milliseconds_since(&wait.since, &wait.since);
     for (int tries = 0;; tries++) {
         uint64_t number = open_file(f);
         if (number == 0)
-            number = lock(f, options, &waited);
+            number = lock(f, options, &wait);
         if (number != 0 || tries == MOST_TRIES || has_name(f, &ours))
             return number;
         close(f->file);
@@ -148,12 +163,6 @@ static void release(struct catalogue_file *f)
     f->file = -1;
     f->looking = false;
     f->mapped = f->expected = f->working = f->orders = NULL;
-}
-
-static int64_t milliseconds_since(const struct timespec *then, struct timespec *now)
-{
-    clock_gettime(CLOCK_MONOTONIC_COARSE, now);
-    return (now->tv_sec - then->tv_sec) * INT64_C(1000) + (now->tv_nsec - then->tv_nsec) / 1000000;
 }
 
 /* The file that has the name now, in the old one's place; if it cannot be opened the old one stays, and the next call tries again. */

@@ -63,11 +63,11 @@ static bool more_room(struct packing *p)
     if (pair)
         p->pair = pair;
     uint64_t *tag = pair ? realloc(p->tag, room * sizeof *tag) : NULL;
-    if (tag)
-        p->tag = tag;
-    if (tag)
-        p->room = room;
-    return tag != NULL;
+    if (!tag)
+        return false;
+    p->tag = tag;
+    p->room = room;
+    return true;
 }
 
 /* A line to be handed back in the end, by its pair. */
@@ -175,7 +175,8 @@ static void hand_all_back(struct loading *l, uint64_t number, bool done)
 {
     struct packing *p = l->packing;
     struct catalogue_file_line line;
-    uint64_t added = p->taken.count, there = p->there, next = 0;
+    struct catalogue_file_load *load = l->load;
+    uint64_t next = 0;
     for (size_t at = 0; hands_back(l) && packing_line(l, &at, &line);) {
         bool first = p->pair[at - 1] == next;
         next += first;
@@ -186,12 +187,8 @@ static void hand_all_back(struct loading *l, uint64_t number, bool done)
     }
     if (hands_back(l))
         return;
-    if (!done)
-        l->load->not_taken += added + there;
-    else
-        *(number == 0 ? &l->load->added : &l->load->unknown) += added;
-    if (done)
-        l->load->there += there;
+    *(!done ? &load->not_taken : number != 0 ? &load->unknown : &load->added) += p->taken.count;
+    *(!done ? &load->not_taken : number != 0 ? &load->unknown : &load->there) += p->there;
 }
 
 bool packing_finish(struct loading *l)

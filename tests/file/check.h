@@ -36,6 +36,9 @@ struct test {
 /* The tests of each file; the last one has no name. */
 extern const struct test codes_tests[], files_tests[], reading_tests[], change_tests[], load_tests[], disk_tests[], hard_tests[];
 
+/* So many rounds of a test, or a tenth of them if it runs under a program that watches it and takes its time. */
+uint64_t rounds(uint64_t all);
+
 /* The name of a file in the tests' folder; the text stays until the eighth call after this one. */
 const char *at(const char *name);
 

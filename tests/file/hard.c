@@ -65,7 +65,7 @@ static bool any_words(void)
 {
     static const uint64_t odd[] = {0, 1, 2, 16, 21, UINT64_MAX, UINT64_MAX - 1, UINT64_C(1) << 63, 300};
     uint64_t seed = 11;
-    for (int round = 0; round < 150; round++) {
+    for (uint64_t round = 0; round < rounds(150); round++) {
         unlink(at("any"));
         CHECK(table_with(at("any"), 20, 60));
         for (uint64_t i = 0; i <= chance(&seed, 4); i++) {
@@ -107,7 +107,7 @@ static bool killed_writers(void)
     bool there[610] = {false};
     CHECK(table_with(at("killed"), 60, 60));
     GIVES(0, catalogue_file_open(r, at("killed"), CATALOGUE_FILE_READING, 0));
-    for (uint64_t round = 0; round < 40; round++) {
+    for (uint64_t round = 0; round < rounds(40); round++) {
         int ends[2];
         CHECK(pipe(ends) == 0);
         pid_t writer = fork();
@@ -147,8 +147,6 @@ static bool killed_writers(void)
 }
 
 /* ---- readers beside a writer that changes, loads and puts new files in the table's place */
-
-#define ROUNDS 150
 
 static atomic_bool writing;
 
@@ -238,7 +236,7 @@ static bool beside_a_writer(void)
     writing = true;
     for (size_t i = 0; i < count; i++)
         CHECK(pthread_create(&threads[i], NULL, read_beside, &seen[i]) == 0);
-    for (uint64_t round = 0; written && round < ROUNDS; round++)
+    for (uint64_t round = 0; written && round < rounds(150); round++)
         written = write_beside(w, round);
     writing = false;
     for (size_t i = 0; i < count; i++)
