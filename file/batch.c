@@ -26,6 +26,7 @@
 /* Lines that come into the table together, by one order list or some. The number of a line says what is known of it before that. */
 struct batch {
     struct catalogue_file_line lines[BATCH_LINES];
+    uint64_t given[BATCH_LINES];     /* the number that each came with */
     size_t count, limit;             /* limit: as many as take a second or some */
     uint64_t pairs[2 * BATCH_LINES]; /* key and pointer of those to be added */
     uint64_t orders[BATCH_WORDS];
@@ -93,6 +94,7 @@ static uint64_t judge(const struct loading *l, struct catalogue_file_line *line)
 
 void batch_take(struct loading *l, struct catalogue_file_line line)
 {
+    l->batch->given[l->batch->count] = line.number;
     line.number = judge(l, &line);
     l->batch->lines[l->batch->count++] = line;
 }
@@ -159,6 +161,14 @@ static uint64_t repair_first(struct loading *l)
     return number;
 }
 
+/* The load ended before a line: what the caller said of it stays, what was found out here does not. */
+static void not_taken(struct loading *l, size_t at)
+{
+    struct catalogue_file_line line = l->batch->lines[at];
+    line.number = l->batch->given[at];
+    line_not_taken(l, &line);
+}
+
 /* What became of the lines from one on, so many of which were added: up to the first that is still to be added, or to the end. */
 static size_t hand_back(struct loading *l, size_t from, uint64_t taken)
 {
@@ -169,7 +179,7 @@ static size_t hand_back(struct loading *l, size_t from, uint64_t taken)
             taken--;
             line_added(l, line, 0);
         } else if (l->over) {
-            line_not_taken(l, line);
+            not_taken(l, from);
         } else if (line->number == CATALOGUE_FILE_THERE) {
             line_added(l, line, CATALOGUE_FILE_THERE);
         } else if (line->number != 0) {
@@ -226,7 +236,7 @@ static void failed(struct loading *l, size_t from, uint64_t taken, uint64_t numb
         if (line->number == 0)
             line_added(l, line, --left == 0 || by_file ? number : 0);
         else
-            line_not_taken(l, line);
+            not_taken(l, from);
     }
     hand_back(l, from, 0);
 }

@@ -122,7 +122,8 @@ int show(const struct table *t)
     int status = BAD_FILE;
     if (trees_walk(&trees, t->base)) {
         status = check(t);
-        draw_all(&trees);
+        if (status != BAD_FILE)
+            draw_all(&trees);
     } else {
         fail(status, "not enough memory to draw %s", t->name);
     }

@@ -1,5 +1,4 @@
-"""Request 10: find takes no lock and runs while another program loads; and searches without a lock by the hundred thousand."""
-import os
+"""Request 10: find takes no lock and runs while another program loads; a search of damaged words, and of the largest table."""
 import resource
 import subprocess
 
@@ -41,16 +40,6 @@ def finds_while_it_loads(program, folder):
     assert found >= 5 and absent >= 5, (found, absent)
     assert len(listed(program.done("list", t))) == len(OLD) + len(NEW)
     return f"{found} found and {absent} absent while it loaded"
-
-
-def many_searches(program, folder):
-    """The program's own search beside a process that changes the words as fast as it can: a table of some levels, and one of some leaves."""
-    said = []
-    for searches, nodes, codes in ((300000, 400, 700), (1000000, 8, 8)):
-        run = subprocess.run([os.environ["READERS_PROGRAM"], str(searches), str(nodes), str(codes)], capture_output=True, text=True, timeout=600)
-        assert run.returncode == 0 and run.stdout.startswith(f"{2 * searches} searches during "), (run.returncode, run.stdout, run.stderr)
-        said.append(run.stdout.strip())
-    return "; ".join(said)
 
 
 def looked_at_once(program, folder):
@@ -98,4 +87,4 @@ def few_pages(program, folder):
 
 
 TESTS = [finds_while_it_loads, looked_at_once]
-ONCE = [many_searches, few_pages]
+ONCE = [few_pages]

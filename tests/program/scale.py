@@ -543,7 +543,8 @@ def in_other_places(program, folder):
 
 
 def others_that_wait(program, folder):
-    """Who waits for the lock of a table that a load replaces goes on with the new one: nothing is lost, and nothing old is read."""
+    """Who waits for the lock of a table that a load replaces goes on with the new one: nothing is lost. A list beside it has the table of one
+    moment."""
     t, csv = f"{folder}/t", f"{folder}/csv"
     lines, found = some_lines(random.Random(11), 300)
     for there in ([], [(code(90000), 99999)]):
@@ -553,7 +554,7 @@ def others_that_wait(program, folder):
             load.stdin.write(lines[0] + "\n")
             load.stdin.flush()
             time.sleep(0.05)
-            waiting = [["add", t, code(90001 + i), 100001 + i, "--wait", 60] for i in range(3)] + [["list", t, "--wait", 60]]
+            waiting = [["add", t, code(90001 + i), 100001 + i, "--wait", 60] for i in range(3)] + [["list", t]]
             runs = [program.start(*words, stdout=subprocess.PIPE, stderr=subprocess.PIPE) for words in waiting]
             time.sleep(0.1 * round)
             before = os.stat(t).st_ino
@@ -562,10 +563,11 @@ def others_that_wait(program, folder):
             for run in runs:
                 out, err = run.communicate(timeout=60)
                 assert run.returncode == 0, (run.args, out, err)
-            assert set(found) <= set(everything(out)), "list has not seen the load"
+            seen = everything(out)
             assert os.stat(t).st_ino != before
             now = everything(program.done("list", t))
             assert now == {**found, **{c: (r, "open") for c, r in there}, **{code(90001 + i): (100001 + i, "open") for i in range(3)}}
+            assert seen.items() <= now.items(), len(seen)
             assert "settled" in program.done("check", t)
             os.remove(t)
     # The file of a load is replaced by somebody else meanwhile: it is noticed, and stays.
@@ -719,7 +721,7 @@ def large_loads(program, folder):
     subprocess.run(f"LC_ALL=C sort {csv} | sed 's/$/,open/' | cmp - {made}", shell=True, check=True)
     seconds, memory, _ = measured(program, "copy", t, u)
     said.append(f"copy: {seconds:.1f} s, {memory >> 20} MB")
-    assert memory <= MOST_MEMORY and os.path.getsize(u) == 8 * (8 + NODE * 39673), memory
+    assert memory <= MOST_MEMORY and os.path.getsize(u) == 8 * (8 + NODE * 39673 + TRAILER), memory
     # As many lines as take some seconds.
     at = LARGE
     for count in (10, 1000, 5000):
