@@ -53,7 +53,7 @@ extern "C" {
     fn map_search(map: *const c_void, key: u64) -> u64;
 
     fn flush_best() -> *const Flush;
-    fn carry_out(memory: *mut u64, orders: *const u64, count: u64, how: *const Carrying);
+    fn carry_one_list(memory: *mut u64, orders: *const u64, count: u64, how: *const Carrying);
 }
 
 /// Words that begin at a multiple of 64 bytes, so that a line of the table is a cache line.
@@ -232,7 +232,7 @@ impl Flusher {
     }
 
     pub fn carry(&self, table: &mut [u64], orders: &Orders) {
-        unsafe { carry_out(table.as_mut_ptr(), orders.words.as_ptr(), orders.count(), &self.0) }
+        unsafe { carry_one_list(table.as_mut_ptr(), orders.words.as_ptr(), orders.count(), &self.0) }
     }
 
     /// The instruction that a line is written back with.

@@ -253,7 +253,7 @@ uint64_t carry_list(struct catalogue_file *f, const uint64_t *orders, uint64_t c
     if (!carry_out(f->mapped, orders, count, &counter, &f->carrying, carried)) {
         store_again(f);
         f->unsettled = f->stale = true;
-        return fails_for(f, CATALOGUE_FILE_DISK, "%s did not reach the disk; the change was cut off", f->name);
+        return fails_for(f, CATALOGUE_FILE_DISK, "%s: the change was cut off and did not reach the disk", f->name);
     }
     /* Our own stores move the file's times. */
     fstat(f->file, &f->left);

@@ -1,6 +1,6 @@
 /*
  * The catalogue index: finds a recording by its ISRC code in a table of 64-bit words that may lie in persistent memory.
- * Link with libcatalogue.a (make -C host library). For tables in files, with readers beside a writer, there is catalogue_file.h.
+ * Link with libcatalogue.a (make -C shell library). For tables in files, with readers beside a writer, there is catalogue_file.h.
  *
  * A table is 8 + 32 * N words, N from 1 to 65,535 nodes. Every call takes any words and any length: it does its work or returns a
  * refusal number, and a refusal changes no lent word (but for catalogue_print, which then writes 12 zero bytes). A word that an answer is put

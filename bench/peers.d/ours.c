@@ -1,10 +1,10 @@
-/* Ours: the static library over a mapped file, its orders carried out as the program catalogue does (host/flush.c). */
+/* Ours: the static library over a mapped file, its orders carried out as the program catalogue does (file/carry.c). */
 #include <errno.h>
 #include <stdlib.h>
 #include <string.h>
 #include <sys/mman.h>
 
-#include "../../host/flush.h"
+#include "../carrying.h"
 #include "../plain.h"
 #include "catalogue.h"
 #include "files.h"
@@ -170,7 +170,7 @@ static void close_store(void *store)
 
 static void carry(struct store *s, uint64_t count)
 {
-    if (!carry_out(s->mapped, s->orders, count, &s->how))
+    if (!carry_one_list(s->mapped, s->orders, count, &s->how))
         die("ours: the file did not reach the disk: %s", strerror(errno));
 }
 

@@ -6,8 +6,8 @@ import subprocess
 
 from drive import *
 
-HOST = os.path.join(os.path.dirname(os.path.abspath(__file__)), "..", "..", "host")
-HUNDRED = os.path.join(HOST, "hundred.csv")
+SHELL = os.path.join(os.path.dirname(os.path.abspath(__file__)), "..", "..", "shell")
+HUNDRED = os.path.join(SHELL, "hundred.csv")
 # A table and its listing, by the program as it was before there were classes.
 BEFORE = os.path.join(os.path.dirname(os.path.abspath(__file__)), "before_classes")
 
@@ -43,7 +43,7 @@ def help_of_one_command(program, folder):
 
 def the_manual_page(program, folder):
     """Everything that help lists is in the manual page."""
-    with open(os.path.join(HOST, "catalogue.1.in")) as f:
+    with open(os.path.join(SHELL, "catalogue.1.in")) as f:
         page = f.read().replace("\\-", "-").replace("\\fR", "").replace("\\fI", "").replace("\\fB", "")
     text = program.done("--help")
     for form in re.findall(r"^  ((?:--)?[a-z].*?)(?:   .*)?$", text.split("Exit status")[0], re.M):

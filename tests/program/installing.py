@@ -1,14 +1,15 @@
 """make install, and what the Makefile builds again."""
 import os
 import re
+import shutil
 import subprocess
 import sys
 
-from commands import HOST
+from commands import SHELL
 from drive import *
 
 # The header's folder: the repository's, unless the words for make name another.
-INCLUDE = next((word.split("=", 1)[1] for word in sys.argv if word.startswith("INCLUDE=")), os.path.join(HOST, "..", "include"))
+INCLUDE = next((word.split("=", 1)[1] for word in sys.argv if word.startswith("INCLUDE=")), os.path.join(SHELL, "..", "include"))
 
 EXAMPLE = r"""
 #include <stdio.h>
@@ -40,7 +41,7 @@ int main(void)
 
 
 def make(*words):
-    run = subprocess.run(["make", "--no-print-directory", "-C", HOST, *sys.argv[3:], *words], text=True, capture_output=True)
+    run = subprocess.run(["make", "--no-print-directory", "-C", SHELL, *sys.argv[3:], *words], text=True, capture_output=True)
     assert run.returncode == 0, run.stderr
     return run.stdout
 
@@ -50,8 +51,10 @@ def installed(program, folder):
     make("install", f"PREFIX={folder}/usr")
     place = f"{folder}/usr"
     files = {os.path.relpath(os.path.join(at, f), place) for at, _, names in os.walk(place) for f in names}
-    assert files == {"bin/catalogue", "include/catalogue.h", "lib/libcatalogue.a", "lib/pkgconfig/catalogue.pc",
-                     "share/man/man1/catalogue.1"}, files
+    number = re.search(r"(?m)^#define CATALOGUE_VERSION (\d+)$", contents(f"{INCLUDE}/catalogue.h").decode())[1]
+    assert files == {"bin/catalogue", "include/catalogue.h", "include/catalogue_file.h", "lib/libcatalogue.a", "lib/libcatalogue.so",
+                     f"lib/libcatalogue.so.{number}", "lib/pkgconfig/catalogue.pc", "share/man/man1/catalogue.1",
+                     "share/man/man3/catalogue_file.3"}, files
     version = program.done("--version")
     assert Program([f"{place}/bin/catalogue"], "installed", True).done("--version") == version
     with open(f"{place}/share/man/man1/catalogue.1") as f:
@@ -83,9 +86,9 @@ def an_edited_crate_is_built_again(program, folder):
     assert "build-library" not in make("-n")
     for path in ("search/src/lib.rt", "model/specs/Search.antt", "search/proofs"):
         path = os.path.join("..", "crates", path)
-        if os.path.isdir(os.path.join(HOST, path)):
-            path = next(os.path.join(at, f) for at, _, names in os.walk(os.path.join(HOST, path)) for f in names)
-            path = os.path.relpath(path, HOST)
+        if os.path.isdir(os.path.join(SHELL, path)):
+            path = next(os.path.join(at, f) for at, _, names in os.walk(os.path.join(SHELL, path)) for f in names)
+            path = os.path.relpath(path, SHELL)
         assert "build-library" in make("-n", "-W", path), path
     return None
 
@@ -98,6 +101,7 @@ def a_library_of_another_version(program, folder):
     assert other != header
     with open(f"{folder}/catalogue.h", "w") as f:
         f.write(other)
+    shutil.copy(f"{INCLUDE}/catalogue_file.h", folder)
     make(f"OUT={folder}/out", f"INCLUDE={folder}")
     stale = Program([f"{folder}/out/catalogue"], "of another version", True)
     for words in (["make", f"{folder}/t", 1], ["--help"]):

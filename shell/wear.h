@@ -6,15 +6,8 @@
 #include <stddef.h>
 #include <stdint.h>
 
+#include "picture.h"
 #include "table.h"
-
-/* The library's figures of one list. */
-struct figures {
-    uint64_t total, largest, first_line, pairs;
-    uint64_t *lines;   /* the stores to each line of the table */
-    uint64_t *extents; /* pairs of offset and length */
-    size_t room;       /* words for these */
-};
 
 /*
  * The figures of the orders of a file, or of standard input where its name is -, in the form that orderlist.h tells. Printed, or drawn as

@@ -17,7 +17,7 @@ static int run(struct command_line *l)
     if (!c)
         return BAD_USAGE;
     if (l->help) {
-        help(c);
+        help(commands, c);
         return 0;
     }
     bool fits = l->count >= c->least && l->count <= c->most && (l->given & ~c->takes) == 0;
@@ -37,7 +37,7 @@ static int run_or_tell(struct command_line *l)
         return run(l);
     if (!l->help)
         return fail(BAD_USAGE, "usage: catalogue COMMAND TABLE .. (catalogue --help tells more)");
-    help(NULL);
+    help(commands, NULL);
     return 0;
 }
 

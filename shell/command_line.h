@@ -31,6 +31,19 @@ struct command_line {
     struct change change;
 };
 
+struct command {
+    const char *name;
+    const char *form;
+    const char *about;   /* for --help, a line or more */
+    const char *example; /* for --help */
+    int least, most;     /* words, with the command's name and the table */
+    unsigned takes;      /* options */
+    /* 0, an exit status after saying why, or WRONG_FORM. */
+    int (*run)(struct command_line *l);
+};
+
+enum { WRONG_FORM = -1 };
+
 struct option {
     const char *name;
     const char *form;    /* what it takes, in a word; null for nothing */

@@ -1,4 +1,4 @@
-/* The page of a film, and the drawings that a lesson is made of: files that the assembler puts into the program. make runs here, in host/. */
+/* The page of a film, and the drawings that a lesson is made of: files that the assembler puts into the program. make runs in shell/. */
 #include "page.h"
 
 #include <string.h>
@@ -7,9 +7,9 @@
     __asm__(".pushsection .rodata\n" #name ":\n.incbin \"" path "\"\n.byte 0\n.popsection\n"); \
     extern const char name[]
 
-FILE_IN_PROGRAM(film_page, "film.html");
-FILE_IN_PROGRAM(film_style, "film.css");
-FILE_IN_PROGRAM(film_script, "film.js");
+FILE_IN_PROGRAM(film_page, "../film/film.html");
+FILE_IN_PROGRAM(film_style, "../film/film.css");
+FILE_IN_PROGRAM(film_script, "../film/film.js");
 FILE_IN_PROGRAM(drawing_leaf, "../samples/drawings/leaf.csv");
 FILE_IN_PROGRAM(drawing_full, "../samples/drawings/full.csv");
 FILE_IN_PROGRAM(drawing_right, "../samples/drawings/right.txt");

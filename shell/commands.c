@@ -410,7 +410,7 @@ static int command_help(struct command_line *l)
     const struct command *c = NULL;
     if (l->count == 2 && !(c = command_named(l->words[1])))
         return BAD_USAGE;
-    help(c);
+    help(commands, c);
     return 0;
 }
 

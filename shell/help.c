@@ -76,14 +76,14 @@ static void help_command(const struct command *c)
             print_option(o);
 }
 
-void help(const struct command *only)
+void help(const struct command *all, const struct command *only)
 {
     if (only) {
         help_command(only);
         return;
     }
     fputs(before, stdout);
-    for (const struct command *c = commands; c->name; c++)
+    for (const struct command *c = all; c->name; c++)
         print_entry(c->name, c->form, c->about, c->example);
     printf("\nOptions (catalogue help COMMAND tells which the command takes)\n");
     for (const struct option *o = options; o->name; o++)
