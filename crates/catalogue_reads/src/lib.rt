@@ -1,5 +1,5 @@
 // The C entry points, on numbers and slices: include/catalogue.h has their prototypes. Here those of codes, making, searching, checking, listing
-// and carry-out; catalogue_writes, catalogue_sentinels and catalogue_tools have the others. One archive, libcatalogue.a, has them all (host/library).
+// and carry-out; catalogue_writes, catalogue_sentinels and catalogue_tools have the others. One archive, libcatalogue.a, has them all (shell/build-library).
 use model::Listed;
 use model::Parsed;
 ghost use mathlib.Core.Path.{_≡_};

@@ -22,7 +22,7 @@ use Rattle.two_laws.proofs.SplitTwo.{length-split}
 use Rattle.two_laws.proofs.InsertTwo.{first-course}
 use Rattle.reader_laws.proofs.Values.{valuesTo, values-append, value-same, steady-drop, drop-none}
 use Rattle.reader_laws.proofs.SettledNodes.{beside}
-use Rattle.reader_laws.proofs.SplitValues.{Going, rest, rest-zero, rest-suc, later-none, ready-in, going-next}
+use Rattle.reader_laws.proofs.SplitValues.{Going, rest, rest-zero, rest-suc, later-none, going-next}
 use Rattle.reader_laws.proofs.SplitLevels.{length-put-all, split-sight}
 use Rattle.reader_laws.proofs.RestSteady.{Known, here-steady, rest-steady}
 use Rattle.reader_laws.proofs.Sights.{Sight, SteadyFrom, AllSteady, whole-steady, steady-append}
@@ -77,7 +77,8 @@ module _ (n k y : ℕ) where
     split-from : (a w : ℕ) → a < length ss → w < length t → Sight (apply (take a ss) t) w → SteadyFrom t (ss ++ more) a w
     split-from a w h i (inl j) = known-steady a w i (inl j)
     split-from a w h i (inr (c, m, q, r, o)) =
-        go (split-sight n k y l t g a c m (omega arith) (same-there t (apply (take a ss) t) (first-course l n (beside n t (g .ready .collection) (g .ready .settled) .0) t k (ready-in n k y l t g) .lack a) c q) r)
+        let other = beside n t (g .ready .collection) (g .ready .settled) in
+        go (split-sight n k y l t g a c m (omega arith) (same-there t (apply (take a ss) t) (first-course l n (other .0) t k (other .1) (g .ready) .lack a) c q) r)
       where
         go : (elem m (reachedAll t) ≡ true) ⊎ ((m ≡ fresh t (standing n t l k)) × (32 < a) × (elem m (reachedAll (apply (splitFor n t l k) t)) ≡ true)) → SteadyFrom t (ss ++ more) a w
         go (inl e) = known-steady a w i (inr (m, e, o))

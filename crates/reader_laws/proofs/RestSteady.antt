@@ -6,7 +6,7 @@ use mathlib.Core.List.{List, [], _∷_, _++_, append-nil}
 use Prim.Native.Nat.{ℕ, zero, suc, _+_, _≤_, _<_}
 use native.Mathlib.Omega.{arith}
 use lib.ListN.{length}
-use Rattle.model.specs.Table.{Words, at, nodes, nodeStart}
+use Rattle.model.specs.Table.{Words, at, nodes, rootWord, nodeStart}
 use Rattle.model.specs.Slots.{nodeView, viewOf, height}
 use Rattle.model.specs.Reached.{reachedAll}
 use Rattle.model.specs.SoundTest.{elem, settled}
@@ -25,7 +25,7 @@ use Rattle.two_laws.proofs.CollectionTwo.{reached-up}
 use Rattle.two_laws.proofs.PartsTwo.{Plain, settled-plain, standing-reached}
 use Rattle.reader_laws.proofs.Values.{valuesTo, values-append, values-here, values-past, value-same, value-one, Steady, steady-one, steady-lost, steady-after, inside-or-not, into-none}
 use Rattle.reader_laws.proofs.ShiftValues.{shift-in-steady, one-put, none-put, shown-word}
-use Rattle.reader_laws.proofs.SettledNodes.{shift-in-into, reached-some, reached-few, standing-level}
+use Rattle.reader_laws.proofs.SettledNodes.{shift-in-into, own-fine, reached-some, reached-few, standing-level}
 use Rattle.reader_laws.proofs.SplitValues.{one-node, no-header, shift-none, Going, newAt, keyAt, rest, rest-zero, rest-suc, going-next, stays-reached, new-some, new-fresh, middle-new}
 use Rattle.reader_laws.proofs.SplitValues.{ns, a-reached, b-free, full-node, a-some, p-some, b-some, not-b, a-all, p-all, split-none, split-a, split-p}
 use Rattle.reader_laws.proofs.SplitLevels.{standing-split}
