@@ -173,7 +173,8 @@ fn figures(random: &mut Random) {
             at += taken as usize;
         }
     }
-    for (size, times) in [(1, 20), (100, 5), (3_000, 1)] {
+    let pass = plain_pass(&t);
+    for (size, times) in [(1, 20), (100, 5), (3_000, 3)] {
         let mut best = f64::MAX;
         for _ in 0..times {
             let pairs = fresh(size, &mut codes);
@@ -181,8 +182,25 @@ fn figures(random: &mut Random) {
             assert!(number == 0 || number == 5, "{number}");
             best = best.min(time.as_secs_f64() * 1e6 / taken as f64);
         }
-        println!("batches of {size} into {codes} codes: {best:.1} µs a pair");
+        let passes = best * size as f64 / 1e6 / pass;
+        println!("batches of {size} into {codes} codes: {best:.1} µs a pair, {passes:.0} plain passes");
+        // A batch that checked the table, or looked for its free nodes or its recordings, anew for each pair would take thousands.
+        assert!(passes < MOST_PASSES, "a batch of {size} takes {passes:.0} plain passes over the table");
     }
+}
+
+/// So many plain passes over the table a batch takes at most, of any size: several times what it does.
+const MOST_PASSES: f64 = 400.0;
+
+/// The seconds of one: the best of some.
+fn plain_pass(t: &[u64]) -> f64 {
+    let mut best = f64::MAX;
+    for _ in 0..10 {
+        let begun = std::time::Instant::now();
+        std::hint::black_box(t.iter().fold(0u64, |sum, w| sum.wrapping_add(*w)));
+        best = best.min(begun.elapsed().as_secs_f64());
+    }
+    best
 }
 
 /// A thread with the stack that the header asks for is enough, with splits and fresh nodes on the way.
