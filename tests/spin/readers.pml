@@ -43,6 +43,11 @@
 #else
 #define END_RELEASE 1
 #endif
+#ifdef WORD_COMES_BACK
+#define ONCE 0
+#else
+#define ONCE 1
+#endif
 #ifdef RULE_TOO_WIDE
 #define AT_MOST_ONE(s, e) (e - s <= 4)
 #else
@@ -95,7 +100,10 @@ inline forget_last()
     release[waiting] = 0
 }
 
-/* A release with none before it is delivered at once: the writer reads nothing that others store, so that a later delivery is a slower writer. */
+/*
+ * If all stores are releases, each is delivered at once: they are delivered in order, and the writer reads nothing that others store, so that a
+ * later delivery is a slower writer.
+ */
 inline store(f, w, v, r)
 {
     waiting < WAITING;
@@ -105,7 +113,7 @@ inline store(f, w, v, r)
     release[waiting] = r;
     waiting++;
     if
-    :: waiting == 1 && r -> deliver(0); forget_last()
+    :: WORD_RELEASE && END_RELEASE -> deliver(0); forget_last()
     :: else
     fi
 }
@@ -188,14 +196,10 @@ opened:
         :: else
         fi;
         do
-        :: atomic { stores < STORES && !first_done -> stores++; put(FIRST, 1 - mine[FIRST], WORD_RELEASE);
-#ifndef WORD_COMES_BACK
-            first_done = 1
-#endif
-            }
+        :: atomic { stores < STORES && !first_done -> stores++; put(FIRST, 1 - mine[FIRST], WORD_RELEASE); first_done = 1 }
         :: atomic { stores < STORES && !node_done -> stores++; put(NODE + mine[LINK], 1 - mine[NODE + mine[LINK]], WORD_RELEASE); node_done = 1 }
         :: atomic { stores < STORES && !link_done && !stale_done -> stores++; put(NODE + 1 - mine[LINK], 1 - mine[NODE + 1 - mine[LINK]], WORD_RELEASE); stale_done = 1 }
-        :: atomic { stores < STORES && !link_done -> stores++; put(LINK, 1 - mine[LINK], WORD_RELEASE); link_done = 1; node_done = 0 }
+        :: atomic { stores < STORES && !link_done -> stores++; put(LINK, 1 - mine[LINK], WORD_RELEASE); link_done = ONCE; node_done = 0 }
         :: may_die && may_replace -> may_die = false; goto opened
         :: break
         od;
