@@ -84,11 +84,21 @@ static bool every_number_has_a_text(void)
     return true;
 }
 
+/* The best flush is one of the four; fences alone every processor has. */
+static bool flushes(void)
+{
+    const char *best = catalogue_file_flush(NULL);
+    CHECK(best && strcmp(catalogue_file_flush(best), best) == 0 && strcmp(catalogue_file_flush("none"), "none") == 0);
+    CHECK(!catalogue_file_flush("") && !catalogue_file_flush("clean"));
+    return true;
+}
+
 const struct test codes_tests[] = {
     {"people write codes", people_write_codes},
     {"a code of Iceland", a_code_of_iceland},
     {"keys are printed", keys_are_printed},
     {"what may play", what_may_play},
     {"every number has a text", every_number_has_a_text},
+    {"flushes", flushes},
     {NULL, NULL},
 };

@@ -12,6 +12,7 @@ struct source {
     const struct catalogue_file_line *lines;
     size_t count, at, later;     /* later: before every so many lines the next one is not there yet */
     uint64_t numbers[MOST];      /* what became of each */
+    uint64_t there[MOST];        /* what its code has */
     uint64_t back[MOST], backs;  /* in which order */
     uint64_t waits, orders, end; /* end: ends the load after so many lines came back */
     bool asked;
@@ -35,6 +36,7 @@ static int done(void *context, const struct catalogue_file_line *line)
 {
     struct source *s = context;
     s->numbers[line->tag] = line->number;
+    s->there[line->tag] = line->there;
     s->back[s->backs++] = line->tag;
     return s->end != 0 && s->backs == s->end;
 }
@@ -284,6 +286,46 @@ static bool a_folder_that_fails(void)
     return true;
 }
 
+/* A code that is there comes back with what it has, packed and by batches. Behind the line that ends a load only the caller's refusals stand. */
+static bool refused_lines(void)
+{
+    catalogue_file *f = catalogue_file_new();
+    for (uint64_t flags = 0; flags <= CATALOGUE_FILE_BY_ORDERS; flags += CATALOGUE_FILE_BY_ORDERS) {
+        const struct catalogue_file_line some[] = {line_of(10, 100), line_of(20, 200), line_of(10, 300), line_of(30, 0), line_of(40, 400),
+                                                   {.key = 50, .number = 65}};
+        unlink(at("r"));
+        GIVES(0, catalogue_file_create(f, at("r"), 30, 1));
+        GIVES(0, catalogue_file_open(f, at("r"), CATALOGUE_FILE_WRITING, 0));
+        source = (struct source){.lines = some, .count = 6};
+        struct catalogue_file_load load = load_of(&source, flags);
+        GIVES(CATALOGUE_KEY_PRESENT, catalogue_file_load(f, &load));
+        CHECK(load.added == 2 && source.numbers[2] == CATALOGUE_KEY_PRESENT && source.there[2] == CATALOGUE_POINTER(100, CATALOGUE_OPEN));
+        CHECK(source.there[0] == 0 && source.there[1] == 0);
+        /* By batches the lines behind it are held already. */
+        bool held = flags != 0;
+        CHECK(load.not_taken == (held ? 3 : 0) && source.backs == (held ? 6 : 3));
+        CHECK(!held || (source.numbers[3] == CATALOGUE_FILE_NOT_TAKEN && source.numbers[4] == CATALOGUE_FILE_NOT_TAKEN && source.numbers[5] == 65));
+    }
+    catalogue_file_free(f);
+    return true;
+}
+
+/* A file that another program changed before the first order of a batch: no line of it is in the table, and none is said to be. */
+static bool changed_before_a_batch(void)
+{
+    catalogue_file *f = catalogue_file_new();
+    some_lines(lines, 20);
+    CHECK(table_with(at("meddled"), 30, 0));
+    source = (struct source){.lines = lines, .count = 20};
+    GIVES(0, catalogue_file_open(f, at("meddled"), CATALOGUE_FILE_WRITING, 0));
+    CHECK(truncate(at("meddled"), 0) == 0);
+    struct catalogue_file_load load = load_of(&source, CATALOGUE_FILE_BY_ORDERS | CATALOGUE_FILE_IN_PLACE);
+    GIVES(CATALOGUE_FILE_CHANGED, catalogue_file_load(f, &load));
+    CHECK(strstr(catalogue_file_message(f), "was changed by another program") && load.added == 0 && load.unknown == 0 && load.not_taken == 20);
+    catalogue_file_free(f);
+    return true;
+}
+
 const struct test load_tests[] = {
     {"packed", packed},
     {"by batches", by_batches},
@@ -292,5 +334,7 @@ const struct test load_tests[] = {
     {"full tables", full_tables},
     {"no new file", no_new_file},
     {"a folder that fails", a_folder_that_fails},
+    {"refused lines", refused_lines},
+    {"changed before a batch", changed_before_a_batch},
     {NULL, NULL},
 };
