@@ -69,8 +69,11 @@ def installed(program, folder):
     source, built = f"{folder}/use.c", f"{folder}/use"
     with open(source, "w") as f:
         f.write(EXAMPLE)
-    subprocess.run(["gcc", *cflags, source, *libs, "-o", built], check=True)
-    assert subprocess.run([built], text=True, capture_output=True, check=True).stdout == "7\n"
+    # With the shared library, and with the static one.
+    shared = dict(os.environ, LD_LIBRARY_PATH=f"{place}/lib")
+    for named, environment in ((libs, shared), ([f"{place}/lib/libcatalogue.a"], os.environ)):
+        subprocess.run(["gcc", *cflags, source, *named, "-o", built], check=True)
+        assert subprocess.run([built], text=True, capture_output=True, check=True, env=environment).stdout == "7\n"
 
 
 def installed_below_another_root(program, folder):
