@@ -1,67 +1,57 @@
-/* What a sound table has: nodes, codes, and what is unfinished. */
+/* What a sound table has, as catalogue_check reports it, in words. */
 #include "contents.h"
 
 #include <inttypes.h>
-#include <stdlib.h>
+#include <stdbool.h>
 
-#include "change.h"
-#include "refusals.h"
-#include "text.h"
-
-static int no_memory(const struct table *t)
+uint64_t codes_in(const uint64_t report[CATALOGUE_CHECK_WORDS])
 {
-    return fail(BAD_FILE, "not enough memory to check %s", t->name);
+    return report[CATALOGUE_CHECK_CODES_OF(1)] + report[CATALOGUE_CHECK_CODES_OF(2)];
 }
 
-/* As text, so that it is there when the trees are not. */
-static bool read_leftover(struct contents *c, const struct trees *trees)
+uint64_t nodes_in(const uint64_t report[CATALOGUE_CHECK_WORDS])
 {
-    size_t length;
-    FILE *out = open_memstream(&c->leftover, &length);
-    if (!out)
-        return false;
-    leftover_print(trees, out);
-    bool whole = fflush(out) == 0 && !ferror(out);
-    return fclose(out) == 0 && whole && c->leftover;
+    return report[CATALOGUE_CHECK_NODES] - report[CATALOGUE_CHECK_FREE];
 }
 
-static void count(struct contents *c, const struct trees *trees)
+/* A collection has a root at least. */
+static bool has_two(const uint64_t report[CATALOGUE_CHECK_WORDS])
 {
-    c->nodes = trees->of[0].nodes;
-    c->collections = trees->count;
-    for (size_t i = 0; i < trees->count; i++) {
-        c->codes += c->codes_of[i] = tree_codes(&trees->of[i]);
-        c->used += c->nodes_of[i] = trees->of[i].count;
+    return report[CATALOGUE_CHECK_NODES_OF(2)] > 0;
+}
+
+void collections_print(const uint64_t report[CATALOGUE_CHECK_WORDS])
+{
+    for (uint64_t n = 1; has_two(report) && n <= 2; n++) {
+        uint64_t codes = report[CATALOGUE_CHECK_CODES_OF(n)], nodes = report[CATALOGUE_CHECK_NODES_OF(n)];
+        printf("collection %" PRIu64 ": %" PRIu64 " code%s in %" PRIu64 " node%s\n", n, codes, codes == 1 ? "" : "s", nodes,
+               nodes == 1 ? "" : "s");
     }
 }
 
-int contents_of(const struct table *t, struct contents *c)
+char leftover_letter(const uint64_t report[CATALOGUE_CHECK_WORDS])
 {
-    struct trees trees;
-    struct change repair = {.kind = REPAIR};
-    *c = (struct contents){0};
-    bool room = trees_walk(&trees, t->base);
-    /* The core judges: a repair of the working copy is refused, has stores, or has none. */
-    uint64_t number = room ? change_plan(&repair, t) : 0;
-    c->settled = repair.stores == 0;
-    if (room)
-        count(c, &trees);
-    if (room && number == 0)
-        room = read_leftover(c, &trees);
-    trees_free(&trees);
-    if (!room)
-        return no_memory(t);
-    return number == 0 ? 0 : refuse(number, t, 0, 0);
+    static const char letters[] = {[CATALOGUE_SETTLED] = 0, [CATALOGUE_LEFT_A] = 'a', [CATALOGUE_LEFT_B] = 'b', [CATALOGUE_LEFT_C] = 'c'};
+    return letters[report[CATALOGUE_CHECK_LEFTOVER]];
 }
 
-void contents_free(struct contents *c)
+void leftover_print(const uint64_t report[CATALOGUE_CHECK_WORDS], FILE *out)
 {
-    free(c->leftover);
-}
-
-void contents_print(const struct contents *c)
-{
-    for (uint64_t i = 0; c->collections > 1 && i < c->collections; i++)
-        printf("collection %" PRIu64 ": %" PRIu64 " code%s in %" PRIu64 " node%s\n", i + 1, c->codes_of[i], c->codes_of[i] == 1 ? "" : "s",
-               c->nodes_of[i], c->nodes_of[i] == 1 ? "" : "s");
+    uint64_t left = report[CATALOGUE_CHECK_LEFTOVER], trailing = report[CATALOGUE_CHECK_TRAILING];
+    if (left == CATALOGUE_SETTLED)
+        return;
+    fprintf(out, "leftover (%c)", leftover_letter(report));
+    if (has_two(report))
+        fprintf(out, " in collection %" PRIu64, report[CATALOGUE_CHECK_COLLECTION]);
+    if (left == CATALOGUE_LEFT_A)
+        fprintf(out, ": node %" PRIu64 " has a hidden slot, slot %" PRIu64, report[CATALOGUE_CHECK_HIDDEN_NODE],
+                report[CATALOGUE_CHECK_HIDDEN_SLOT]);
+    else
+        fprintf(out, ": node %" PRIu64 ", the sibling of node %" PRIu64 ", lacks its slot in node %" PRIu64, report[CATALOGUE_CHECK_NODE],
+                report[CATALOGUE_CHECK_NEIGHBOUR], report[CATALOGUE_CHECK_PARENT]);
+    if (left == CATALOGUE_LEFT_C)
+        fprintf(out, ", which has a hidden slot, slot %" PRIu64, report[CATALOGUE_CHECK_HIDDEN_SLOT]);
+    if (trailing > 0)
+        fprintf(out, "; node %" PRIu64 " has %" PRIu64 " trailing slot%s", report[CATALOGUE_CHECK_NEIGHBOUR], trailing, trailing == 1 ? "" : "s");
+    fprintf(out, "\n");
 }

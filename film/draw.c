@@ -6,21 +6,22 @@
 #include <stdlib.h>
 
 #include "contents.h"
+#include "refusals.h"
 #include "text.h"
 #include "tree.h"
 
 int check(const struct table *t)
 {
-    struct contents c;
-    int status = contents_of(t, &c);
-    if (status == 0) {
-        printf("%s is %s: %" PRIu64 " code%s in %" PRIu64 " of %" PRIu64 " nodes, %" PRIu64 " free\n", t->name, c.settled ? "settled" : "sound",
-               c.codes, c.codes == 1 ? "" : "s", c.used, c.nodes, c.nodes - c.used);
-        contents_print(&c);
-        fputs(c.settled ? "" : c.leftover, stdout);
-    }
-    contents_free(&c);
-    return status;
+    uint64_t report[CATALOGUE_CHECK_WORDS], number = catalogue_check(t->base, t->words, report);
+    if (number != 0)
+        return refuse(number, t, 0, 0);
+    uint64_t codes = codes_in(report);
+    printf("%s is %s: %" PRIu64 " code%s in %" PRIu64 " of %" PRIu64 " nodes, %" PRIu64 " free\n", t->name,
+           leftover_letter(report) ? "sound" : "settled", codes, codes == 1 ? "" : "s", nodes_in(report), report[CATALOGUE_CHECK_NODES],
+           report[CATALOGUE_CHECK_FREE]);
+    collections_print(report);
+    leftover_print(report, stdout);
+    return 0;
 }
 
 /* ---- drawing */

@@ -148,7 +148,7 @@ static void visit(void *with, const uint32_t *kept)
     bool whole = has_header(f);
     if (whole && !trees_walk(&trees, f->image))
         end_without_memory();
-    uint32_t sound = pool_number(&f->sound, verdict_sound(&f->verdicts, f->image, &trees));
+    uint32_t sound = pool_number(&f->sound, verdict_sound(&f->verdicts, f->image));
     verdict_maps(&f->verdicts, f->image, &f->differences);
     uint32_t maps = pool_number(&f->maps, differences_json(&f->differences));
     memcpy(f->still, f->image, f->scene->words * sizeof *f->image);

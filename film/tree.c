@@ -1,7 +1,6 @@
 /* The tree in a table's words, walked for people: any words are taken, and nothing is read outside of them. */
 #include "tree.h"
 
-#include <stdio.h>
 #include <stdlib.h>
 
 bool tree_has(const struct tree *tree, uint64_t n)
@@ -101,104 +100,4 @@ void trees_free(struct trees *trees)
         free(trees->of[i].seen);
         free(trees->of[i].parent);
     }
-}
-
-/* ---- what a sound table holds */
-
-static unsigned count_slots(const struct tree *tree, uint64_t n, enum slot kind)
-{
-    unsigned count = 0;
-    for (unsigned i = 0; i < SLOTS; i++)
-        count += tree_slot(tree, n, i) == kind;
-    return count;
-}
-
-size_t tree_codes(const struct tree *tree)
-{
-    size_t codes = 0;
-    for (size_t i = 0; i < tree->count; i++)
-        if (tree_word(tree, tree->reached[i], LEVEL) == 0)
-            codes += count_slots(tree, tree->reached[i], SHOWN);
-    return codes;
-}
-
-/* ---- what it has unfinished */
-
-struct leftover {
-    uint32_t hidden_node; /* 0 for none */
-    unsigned hidden_slot;
-    uint32_t missing; /* node B, which lacks its slot in the parent; 0 for none */
-    uint32_t beside;  /* node A, whose sibling it is */
-    uint32_t parent;
-    unsigned trailing; /* slots of A from B's fence up */
-};
-
-static void find_hidden(const struct tree *tree, uint32_t n, struct leftover *l)
-{
-    for (unsigned i = 0; i < SLOTS; i++)
-        if (tree_slot(tree, n, i) == HIDDEN) {
-            l->hidden_node = n;
-            l->hidden_slot = i;
-        }
-}
-
-static struct leftover leftover_of(const struct tree *tree)
-{
-    struct leftover l = {0};
-    for (size_t i = 0; i < tree->count; i++) {
-        uint32_t n = tree->reached[i];
-        uint64_t sibling = tree_word(tree, n, SIBLING);
-        find_hidden(tree, n, &l);
-        if (tree_has(tree, sibling) && tree->parent[sibling] == 0) {
-            l.missing = (uint32_t)sibling;
-            l.beside = n;
-            l.parent = tree->parent[n];
-            l.trailing = count_slots(tree, n, TRAILING);
-        }
-    }
-    return l;
-}
-
-static char letter_of(const struct leftover *l)
-{
-    if (l->missing == 0)
-        return l->hidden_node ? 'a' : 0;
-    return l->hidden_node ? 'c' : 'b';
-}
-
-/* In a collection, 0 where the table has but one. */
-static void print_one(const struct leftover *l, size_t collection, FILE *out)
-{
-    fprintf(out, "leftover (%c)", letter_of(l));
-    if (collection != 0)
-        fprintf(out, " in collection %zu", collection);
-    if (l->missing == 0) {
-        fprintf(out, ": node %u has a hidden slot, slot %u\n", l->hidden_node, l->hidden_slot);
-        return;
-    }
-    fprintf(out, ": node %u, the sibling of node %u, lacks its slot in node %u", l->missing, l->beside, l->parent);
-    if (l->hidden_node)
-        fprintf(out, ", which has a hidden slot, slot %u", l->hidden_slot);
-    if (l->trailing)
-        fprintf(out, "; node %u has %u trailing slot%s", l->beside, l->trailing, l->trailing == 1 ? "" : "s");
-    fprintf(out, "\n");
-}
-
-void leftover_print(const struct trees *trees, FILE *out)
-{
-    for (size_t i = 0; i < trees->count; i++) {
-        struct leftover l = leftover_of(&trees->of[i]);
-        if (letter_of(&l) != 0)
-            print_one(&l, trees->count > 1 ? i + 1 : 0, out);
-    }
-}
-
-char leftover_letter(const struct trees *trees)
-{
-    char letter = 0;
-    for (size_t i = 0; i < trees->count && letter == 0; i++) {
-        struct leftover l = leftover_of(&trees->of[i]);
-        letter = letter_of(&l);
-    }
-    return letter;
 }

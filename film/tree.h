@@ -5,7 +5,6 @@
 #include <stdbool.h>
 #include <stddef.h>
 #include <stdint.h>
-#include <stdio.h>
 
 /* Words of a table, of its header and of a node; a line, as the orders count them. */
 #define HEADER_WORDS 8
@@ -56,14 +55,5 @@ uint64_t tree_word(const struct tree *tree, uint64_t n, unsigned word);
 uint64_t tree_key(const struct tree *tree, uint64_t n, unsigned slot);
 uint64_t tree_pointer(const struct tree *tree, uint64_t n, unsigned slot);
 enum slot tree_slot(const struct tree *tree, uint64_t n, unsigned slot);
-
-/* Of a sound table: the codes of a collection. */
-size_t tree_codes(const struct tree *tree);
-
-/* "leftover (b): ..": what a sound table that is not settled has unfinished. */
-void leftover_print(const struct trees *trees, FILE *out);
-
-/* Its letter; 0 where nothing is. */
-char leftover_letter(const struct trees *trees);
 
 #endif

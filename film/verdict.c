@@ -5,7 +5,7 @@
 #include <stdlib.h>
 #include <string.h>
 
-#include "catalogue.h"
+#include "contents.h"
 #include "pool.h"
 
 /* A node of a sound table has at most 11 pairs. */
@@ -62,22 +62,24 @@ void orders_json(FILE *out, const uint64_t *orders, size_t count)
     fputc(']', out);
 }
 
-/* Without the line feed at its end. */
-static void leftover_json(FILE *out, const struct trees *trees)
+/* The leftover of a sound image, its letter and its words, without the line feed at their end. */
+static void leftover_json(FILE *out, const uint64_t report[CATALOGUE_CHECK_WORDS])
 {
     char *text = NULL;
     size_t length;
     FILE *said = stream_into(&text, &length);
-    leftover_print(trees, said);
+    leftover_print(report, said);
     stream_text(said, &text);
     if (length > 0)
         text[length - 1] = '\0';
+    fprintf(out, ",\"letter\":\"%c\",\"left\":", leftover_letter(report));
     json_text(out, text);
     free(text);
 }
 
-char *verdict_sound(struct verdicts *v, const uint64_t *image, const struct trees *trees)
+char *verdict_sound(struct verdicts *v, const uint64_t *image)
 {
+    uint64_t report[CATALOGUE_CHECK_WORDS];
     char *text = NULL;
     size_t length;
     FILE *out = stream_into(&text, &length);
@@ -86,9 +88,8 @@ char *verdict_sound(struct verdicts *v, const uint64_t *image, const struct tree
     v->repair = (struct change){.kind = REPAIR};
     v->number = change_plan(&v->repair, &t);
     fprintf(out, "{\"number\":%" PRIu64, v->number);
-    if (v->number == 0 && v->repair.stores > 0) {
-        fprintf(out, ",\"letter\":\"%c\",\"left\":", leftover_letter(trees));
-        leftover_json(out, trees);
+    if (v->number == 0 && v->repair.stores > 0 && catalogue_check(image, v->words, report) == 0) {
+        leftover_json(out, report);
         fputs(",\"repair\":", out);
         orders_json(out, v->repair.orders, change_orders(&v->repair));
     }

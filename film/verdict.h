@@ -4,6 +4,7 @@
 
 #include <stddef.h>
 #include <stdint.h>
+#include <stdio.h>
 
 #include "change.h"
 #include "tree.h"
@@ -31,8 +32,8 @@ struct verdicts {
 uint64_t verdicts_begin(struct verdicts *v, const uint64_t *base, size_t words, uint64_t collection, const struct change *change);
 void verdicts_end(struct verdicts *v);
 
-/* As JSON: {"number": .., "letter": "b", "left": "..", "repair": [orders]}. The trees are the image's. */
-char *verdict_sound(struct verdicts *v, const uint64_t *image, const struct trees *trees);
+/* As JSON: {"number": .., "letter": "b", "left": "..", "repair": [orders]}. */
+char *verdict_sound(struct verdicts *v, const uint64_t *image);
 
 /* How an image's maps stand to those before the list. */
 enum map { OLD, NEW, NEITHER };

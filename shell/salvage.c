@@ -41,26 +41,25 @@ static void say_dropped(const struct catalogue_file_drop *d)
            pointer_text(CATALOGUE_RECORDING(d->pointer), CATALOGUE_CLASS(d->pointer), pointer), d->node, d->slot, reasons[d->reason]);
 }
 
-static void say_salvaged(const char *name, const struct drops *dropped, const struct contents *made)
+static void say_salvaged(const char *name, const struct drops *dropped, const uint64_t made[CATALOGUE_CHECK_WORDS])
 {
     for (size_t i = 0; i < dropped->count; i++)
         say_dropped(&dropped->of[i]);
-    printf("made %s with %" PRIu64 " node%s: %" PRIu64 " code%s kept, %zu slot%s dropped, %" PRIu64 " node%s used\n", name, made->nodes,
-           made->nodes == 1 ? "" : "s", made->codes, made->codes == 1 ? "" : "s", dropped->count, dropped->count == 1 ? "" : "s", made->used,
-           made->used == 1 ? "" : "s");
-    contents_print(made);
+    uint64_t nodes = made[CATALOGUE_CHECK_NODES], codes = codes_in(made), used = nodes_in(made);
+    printf("made %s with %" PRIu64 " node%s: %" PRIu64 " code%s kept, %zu slot%s dropped, %" PRIu64 " node%s used\n", name, nodes,
+           nodes == 1 ? "" : "s", codes, codes == 1 ? "" : "s", dropped->count, dropped->count == 1 ? "" : "s", used, used == 1 ? "" : "s");
+    collections_print(made);
 }
 
 /* What the new file has. */
-static int read_made(const char *name, struct contents *made)
+static int read_made(const char *name, uint64_t made[CATALOGUE_CHECK_WORDS])
 {
     struct opened o;
     const struct opening how = {.collection = 1};
     int status = opened_begin(&o, name, false, &how);
-    if (status == 0)
-        status = opened_read(&o);
-    if (status == 0)
-        status = contents_of(&o.table, made);
+    uint64_t number = status == 0 ? catalogue_file_check(o.file, made) : 0;
+    if (number != 0)
+        status = opened_fails(&o, number, "");
     opened_end(&o);
     return status;
 }
@@ -68,16 +67,14 @@ static int read_made(const char *name, struct contents *made)
 int salvage(struct opened *o, const char *name)
 {
     struct drops dropped = {0};
-    struct contents made = {0};
-    uint64_t count = 0, number = catalogue_file_salvage(o->file, name, take_drop, &dropped, &count);
+    uint64_t made[CATALOGUE_CHECK_WORDS], count = 0, number = catalogue_file_salvage(o->file, name, take_drop, &dropped, &count);
     int status = number == 0 ? 0 : opened_fails(o, number, "");
     if (number == CATALOGUE_FILE_STOPPED)
         fail(0, "not enough memory for what %s lost", o->table.name);
     if (status == 0)
-        status = read_made(name, &made);
+        status = read_made(name, made);
     if (status == 0)
-        say_salvaged(name, &dropped, &made);
-    contents_free(&made);
+        say_salvaged(name, &dropped, made);
     free(dropped.of);
     return status;
 }
