@@ -54,8 +54,10 @@ def installed(program, folder):
     number = re.search(r"(?m)^#define CATALOGUE_VERSION (\d+)$", contents(f"{INCLUDE}/catalogue.h").decode())[1]
     assert files == {"bin/catalogue", "include/catalogue.h", "include/catalogue_file.h", "lib/libcatalogue.a", "lib/libcatalogue.so",
                      f"lib/libcatalogue.so.{number}", "lib/pkgconfig/catalogue.pc", "share/man/man1/catalogue.1",
-                     "share/man/man3/catalogue_file.3"}, files
+                     "share/man/man3/catalogue_file.3", "share/bash-completion/completions/catalogue",
+                     "share/catalogue/catalogue.py"}, files
     version = program.done("--version")
+    assert version == f"catalogue 0.{number}\n", version
     assert Program([f"{place}/bin/catalogue"], "installed", True).done("--version") == version
     with open(f"{place}/share/man/man1/catalogue.1") as f:
         page = f.read()
