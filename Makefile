@@ -1,0 +1,50 @@
+# The whole repository: `make help` lists what there is. CC, CFLAGS, CPPFLAGS, LDFLAGS, PREFIX and DESTDIR go to shell/ and file/.
+MAKEFLAGS += --no-print-directory
+# Tests call make with words of their own.
+ALONE = env -u MAKEFLAGS -u MFLAGS -u MAKELEVEL -u CC -u CFLAGS -u CPPFLAGS -u LDFLAGS -u PREFIX -u DESTDIR
+
+all: needs
+	@$(MAKE) -s -C shell library
+	@$(MAKE) -s -C file
+	@$(MAKE) -s -C shell
+	@echo "built: target/shell/catalogue, target/file/libcatalogue.a and libcatalogue.so"
+
+help:
+	@echo "make            looks for the tools, proves and builds the library, builds the program; the first time some minutes"
+	@echo "make demo       the same, then the program on a table of a hundred codes, step by step, in target/demo"
+	@echo "make check      tests of what is built, a part, in under two minutes"
+	@echo "make test       every test of what is built, but those that want a browser or spin"
+	@echo "make gate       .ci/run: every proof from nothing, every must-fail edit, every test"
+	@echo "make bench      bench/run: the times of searches and changes"
+	@echo "make install    program, libraries, headers, manual pages, completion, Python module (PREFIX=/usr/local, DESTDIR=)"
+	@echo "make uninstall  removes what install put there"
+	@echo "make clean      removes target/, the proofs' results too"
+
+needs:
+	@.ci/needs build
+
+demo: all
+	@shell/demo
+
+check: all
+	@.ci/needs test
+	@$(ALONE) tests/all calls front python 'tree vectors writing check'
+
+test: all
+	@.ci/needs test
+	@$(ALONE) tests/all
+
+gate:
+	@$(ALONE) .ci/run
+
+bench: all
+	@$(ALONE) bench/run
+
+# These look for no tools: what is built is installed, also by a user who has no rt on the path.
+install uninstall:
+	@$(MAKE) -s -C shell $@
+
+clean:
+	rm -rf target
+
+.PHONY: all bench check clean demo gate help install needs test uninstall
