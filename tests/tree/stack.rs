@@ -120,6 +120,8 @@ struct Lent {
     b: u64,
     c: u64,
     d: u64,
+    e: u64,
+    report: [u64; 16],
 }
 
 macro_rules! call {
@@ -137,8 +139,9 @@ const CALLS: &[(&str, fn(&mut Lent) -> u64)] = &[
     call!(catalogue_pack, l, l.out.as_mut_ptr(), l.out.len(), l.collection, l.pairs.as_ptr(), l.pairs.len(), l.pairs.as_ptr(), l.pairs.len()),
     call!(catalogue_search, l, l.table.as_ptr(), l.table.len(), l.collection, l.key, &mut l.a, &mut l.b, &mut l.c, &mut l.d),
     call!(catalogue_list, l, l.table.as_ptr(), l.table.len(), l.collection, 0, MARK, l.room.as_mut_ptr(), l.room.len(), &mut l.a, &mut l.b),
+    call!(catalogue_check, l, l.table.as_ptr(), l.table.len(), l.report.as_mut_ptr()),
     call!(catalogue_insert, l, l.table.as_mut_ptr(), l.table.len(), l.collection, l.orders.as_mut_ptr(), l.orders.len(), l.dock, l.key, l.recording, l.access, &mut l.a, &mut l.b, &mut l.c),
-    call!(catalogue_insert_many, l, l.table.as_mut_ptr(), l.table.len(), l.collection, l.orders.as_mut_ptr(), l.orders.len(), l.dock, l.pairs.as_ptr(), l.pairs.len(), &mut l.a, &mut l.b, &mut l.c, &mut l.d),
+    call!(catalogue_insert_many, l, l.table.as_mut_ptr(), l.table.len(), l.collection, l.orders.as_mut_ptr(), l.orders.len(), l.dock, l.pairs.as_ptr(), l.pairs.len(), &mut l.a, &mut l.e, &mut l.b, &mut l.c, &mut l.d),
     call!(catalogue_delete, l, l.table.as_mut_ptr(), l.table.len(), l.collection, l.orders.as_mut_ptr(), l.orders.len(), l.dock, l.key, &mut l.a, &mut l.b, &mut l.c),
     call!(catalogue_set_class, l, l.table.as_mut_ptr(), l.table.len(), l.collection, l.orders.as_mut_ptr(), l.orders.len(), l.dock, l.key, l.access, &mut l.a, &mut l.b, &mut l.c),
     call!(catalogue_repair, l, l.table.as_mut_ptr(), l.table.len(), l.orders.as_mut_ptr(), l.orders.len(), l.dock, &mut l.a, &mut l.b, &mut l.c),
