@@ -24,6 +24,11 @@ use Rattle.model.specs.Wear
 use Rattle.model.specs.Pack
 use Rattle.model.specs.Batch
 use Rattle.model.specs.Statistics
+use Rattle.model.specs.Marks
+use Rattle.model.specs.Cells
+use Rattle.model.specs.Summary
+use Rattle.model.specs.QuickBatch
+use Rattle.model.specs.QuickHistories
 
 unfoldable pub everything : Unit {0}
 unfolding Codes.isDigit Codes.isLetter Codes.isLetterOrDigit Codes.every Codes.isCode Codes.value Codes.readOn Codes.number Codes.keyOf Codes.parse Codes.character
@@ -72,4 +77,12 @@ unfolding Codes.isDigit Codes.isLetter Codes.isLetterOrDigit Codes.every Codes.i
     Batch.batch
     Statistics.checkNumber Statistics.checking Statistics.hiddenSlot Statistics.trailingSlots Statistics.leftIn Statistics.treeWords Statistics.report
     Statistics.reportOut
+    Marks.has Marks.put Marks.cleared Marks.putEach
+    Cells.mixed Cells.homeOf Cells.nextCell Cells.ahead Cells.seek Cells.cellFor Cells.holds Cells.entered Cells.enteredAll Cells.closedUp Cells.without
+    Summary.markWords Summary.cellWords Summary.recordingsOf Summary.opened Summary.openNumber Summary.opening Summary.openedWords Summary.fitNode Summary.wayOk
+    Summary.unmarked Summary.freeAfter Summary.fullNode Summary.roomy Summary.splitWay Summary.startWay Summary.runOf Summary.wayMade Summary.quickInsert
+    Summary.neighbourOk Summary.tooFewIn Summary.quickNumber Summary.quickStores Summary.quickWords Summary.quickWritten Summary.quickTable Summary.quickList
+    Summary.quickSummary Summary.leavesUpTo Summary.pageOf Summary.quickListNumber Summary.quickListed Summary.quickListOut
+    QuickBatch.quickBatch
+    QuickHistories.runActs QuickHistories.MayActs QuickHistories.plain
 everything = tt

@@ -6,3 +6,4 @@ pub mod Trials
 pub mod Batched
 pub mod Listings
 pub mod Judging
+pub mod QuickCalls

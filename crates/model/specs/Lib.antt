@@ -28,3 +28,8 @@ pub mod Pack
 pub mod Batch
 pub mod Statistics
 pub mod Batches
+pub mod Marks
+pub mod Cells
+pub mod Summary
+pub mod QuickBatch
+pub mod QuickHistories

@@ -1,21 +1,16 @@
 -- Cells that hold numbers, 0 in a free one: what entering a number answers, and the cells after it.
 use mathlib.Core.Path.{_≡_}
-use mathlib.Core.Bool.{Bool, true, false, cond}
+use mathlib.Core.Bool.{Bool, true, false}
 use mathlib.Core.List.{List, [], _∷_}
-use Prim.Native.Nat.{ℕ, zero, suc, _+_, _*_, _%_}
+use Prim.Native.Nat.{ℕ, zero, suc, _%_}
 use lib.Dec.{eqb}
 use lib.ListN.{length, getD, set}
 use Rattle.model.specs.Table.{Words}
 use Rattle.model.specs.SoundTest.{distinct}
+pub use Rattle.model.specs.Cells.{SPREAD}
+unfoldable pub use Rattle.model.specs.Cells.{mixed, nextCell}
 use Rattle.numbers.specs.declared.Entry.{Entry}
 use Rattle.numbers.specs.declared.Entry.the-variants.{Entered, Known, Full}
-
-abbrev pub SPREAD : ℕ
-SPREAD = 4294967291
-
--- a number scattered over 0 to SPREAD - 1: numbers that follow each other, or in small equal steps, fall apart
-unfoldable pub mixed : ℕ → ℕ
-mixed r = (r % 2147483647) * 2246822519 % SPREAD
 
 abbrev pub CELLS : ℕ
 CELLS = 16384
@@ -29,10 +24,6 @@ pub record Outcome : Type 0 where
 
 abbrev pub outcome : Entry → Words → Outcome
 outcome e cs = record { answer = e; cells = cs }
-
--- the cell after cell i of n; the first comes after the last
-unfoldable pub nextCell : (n i : ℕ) → ℕ
-nextCell n i = cond (eqb (i + 1) n) 0 (i + 1)
 
 -- from cell i of n on, so many tries
 unfoldable pub tried : (n : ℕ) → Words → ℕ → ℕ → ℕ → Outcome
