@@ -28,7 +28,7 @@ pub fn mixed(number: u64) -> u64
 }
 
 // The cell after cell at of so many; the first comes after the last.
-fn next_cell(places: usize, at: usize) -> usize
+pub fn next_cell(places: usize, at: usize) -> usize
     requires { ⌜ at < places ⌝ }
     ensures { λ r. ⌜ r ≡ nextCell places at ⌝ }
 {

@@ -1,0 +1,3 @@
+-- Laws of the marks that the code reads and writes.
+pub mod Rows
+pub mod Words

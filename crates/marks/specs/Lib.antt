@@ -1,0 +1,2 @@
+-- Nodes in a row that are marked.
+pub mod Runs

@@ -1,0 +1,2 @@
+-- What cells hold.
+pub mod Sets
