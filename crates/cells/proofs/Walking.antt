@@ -9,8 +9,8 @@ use lib.ListN.{length, set}
 use lib.Seq.{set-out}
 use borrow.Author.Tests.{eq-eqb, ne-eqb, le-leb, lt-leb}
 use Rattle.model.specs.Table.{Words, at}
-use Rattle.list_laws.proofs.Tools.{or-right}
 use Rattle.model.specs.Cells.{mixed, nextCell, homeOf, seek, cellFor, holds, entered, ahead, closedUp, without}
+use Rattle.list_laws.proofs.Tools.{or-right}
 use Rattle.set_laws.proofs.Holding.{past-zero, home-in}
 
 pub home-is : (m x q r : ℕ) → q ≡ mixed x → r ≡ q % m → r ≡ homeOf m x

@@ -8,8 +8,8 @@ use lib.Dec.{eqb, leb}
 use lib.ListN.{length, set, length-set}
 use borrow.Author.Tests.{eqb-false, eq-eqb, ne-eqb, leb-true, leb-false}
 use Rattle.model.specs.Table.{Words, at}
-use Rattle.list_laws.proofs.Tools.{same-or-not, compared, and-iff, not-iff}
 use Rattle.model.specs.Cells.{nextCell, homeOf, cellFor, holds, ahead, closedUp, without}
+use Rattle.list_laws.proofs.Tools.{same-or-not, compared, and-iff, not-iff}
 use Rattle.set_laws.specs.Sets.{SetOf}
 use Rattle.set_laws.proofs.Round.{next-in, ahead-in, ahead-same, ahead-zero, ahead-only, ahead-nearer, ahead-farther, ahead-through, ahead-add, ahead-next}
 use Rattle.set_laws.proofs.Holding.{some-inside, home-in, holds-here, at-set, at-else, Found, Gapped, real, set-gapped, gapped-set}

@@ -12,8 +12,8 @@ use lib.ListN.{length, set, length-set}
 use lib.Seq.{getD-set-same, getD-set-other}
 use borrow.Author.Tests.{eqb-true, eq-eqb, ne-eqb, leb-true, leb-false}
 use Rattle.model.specs.Table.{Words, at}
-use Rattle.list_laws.proofs.Tools.{same-or-not, refuted, or-right}
 use Rattle.model.specs.Cells.{nextCell, homeOf, seek, cellFor, holds, entered, ahead}
+use Rattle.list_laws.proofs.Tools.{same-or-not, refuted, or-right}
 use Rattle.set_laws.specs.Sets.{SetOf}
 use Rattle.set_laws.proofs.Round.{next-in, ahead-in, ahead-same, ahead-nearer}
 

@@ -10,10 +10,10 @@ use lib.ListN.{length, getD, replicate, length-append, length-set}
 use borrow.Author.Tests.{eqb-true, ne-eqb}
 use Rattle.model.specs.Table.{Words, at}
 use Rattle.model.specs.SoundTest.{elem, distinct}
+use Rattle.model.specs.Cells.{cellFor, entered, enteredAll}
 use Rattle.list_laws.proofs.Tools.{Each, same-or-not}
 use Rattle.list_laws.proofs.Members.{each-mem, mem-each, each-at, elem-cons, elem-join, elem-false}
 use Rattle.list_laws.proofs.Distinct.{distinct-cons, once-distinct}
-use Rattle.model.specs.Cells.{cellFor, entered, enteredAll}
 use Rattle.set_laws.specs.Sets.{SetOf}
 use Rattle.set_laws.proofs.Holding.{entered-set}
 
@@ -49,7 +49,8 @@ sub-length (x ∷ xs) ns d h =
     let c = cut-at x ns (h .0) in
     let a = c .before in
     let b = c .after in
-    let rest : Each (λ (y : ℕ). elem y (a ++ b) ≡ true) xs = mem-each _ xs (λ y m. sym (elem-other y x a b (λ q. each-mem (λ (n : ℕ). n ≢ x) (elem-false x xs .0 (u .0)) m q)) ∙ ap (elem y) (sym (c .shape)) ∙ each-mem (λ (y : ℕ). elem y ns ≡ true) (h .1) m) in
+    let rest : Each (λ (y : ℕ). elem y (a ++ b) ≡ true) xs =
+    mem-each _ xs (λ y m. sym (elem-other y x a b (λ q. each-mem (λ (n : ℕ). n ≢ x) (elem-false x xs .0 (u .0)) m q)) ∙ ap (elem y) (sym (c .shape)) ∙ each-mem (λ (y : ℕ). elem y ns ≡ true) (h .1) m) in
     omega (arith, sub-length xs (a ++ b) (u .1) rest, ap length (c .shape), length-append a (x ∷ b), length-append a b)
 
 -- ---- a free cell

@@ -1,6 +1,6 @@
 -- A full node split: every store leaves a sound table with the same map, and the last a settled one.
 use mathlib.Core.Path.{_≡_, refl, ap, sym, _∙_}
-use mathlib.Core.Bool.{Bool, true, false}
+use mathlib.Core.Bool.{Bool, true, false, cond}
 use mathlib.Core.Logic.{_≢_}
 use mathlib.Core.List.{List, [], _∷_, _++_, List·Memᴰ}
 use Prim.Native.Nat.{ℕ, zero, suc, _≤_, _<_}
@@ -445,3 +445,15 @@ module _ (w : ℕ) (ns : List ℕ) where
         go : (c : Bool) → ltb k (middle t a .key) ≡ c → length (u .node (standingAt w done l k) .shown) ≤ 6
         go true c = rw (standing-is w ns done split-settled k l a (a-stands (ltb-true _ _ c)), shown-a, low-length) (omega arith)
         go false c = rw (standing-is w ns done split-settled k l b (b-stands (ltb-false _ _ c)), shown-b) few
+
+    -- B is reached
+    pub split-new : List·Memᴰ b (reached (treeAt w (apply (splitInto w t l k b) t)))
+    split-new = rw reach (splice-in a b (reached v) (once a (reached v) (s .left .orderly .once) (stands-a .reached)))
+
+    -- A stands for k on level l if k is below B's fence, else B does
+    pub split-half : standingAt w (apply (splitInto w t l k b) t) l k ≡ cond (ltb k (middle t (standingAt w t l k) .key)) (standingAt w t l k) b
+    split-half = go (ltb k (middle t a .key)) refl
+      where
+        go : (c : Bool) → ltb k (middle t a .key) ≡ c → standingAt w done l k ≡ cond (ltb k (middle t a .key)) a b
+        go true c = rw c (standing-is w ns done split-settled k l a (a-stands (ltb-true _ _ c)))
+        go false c = rw c (standing-is w ns done split-settled k l b (b-stands (ltb-false _ _ c)))

@@ -51,7 +51,7 @@ put-all-length w [] = refl
 put-all-length w (x ∷ ws) = ap suc (put-all-length (suc w) ws)
 
 -- a node's 32 words lie on four lines
-put-all-few : (b : ℕ) (ws : Words) → length ws ≡ 32 → length (orders (putAll (nodeStart b) ws)) ≤ 36
+pub put-all-few : (b : ℕ) (ws : Words) → length ws ≡ 32 → length (orders (putAll (nodeStart b) ws)) ≤ 36
 put-all-few b [] e = absurd (omega arith)
 put-all-few b (x ∷ ws) e =
     let w = nodeStart b in

@@ -122,12 +122,12 @@ module _ (t t′ : Words) (x : ℕ) (some : 1 ≤ x) (leaf : node t x .level ≡
 
 -- ---- the stores
 
-outside-apply : (a n : ℕ) (t : Words) (ss : List Store) (t′ : Words) → Each (Into a n) ss → Outside a n t t′ → Outside a n t (apply ss t′)
+pub outside-apply : (a n : ℕ) (t : Words) (ss : List Store) (t′ : Words) → Each (Into a n) ss → Outside a n t t′ → Outside a n t (apply ss t′)
 unfolding apply
 outside-apply a n t [] t′ i o = o
 outside-apply a n t (s ∷ ss) t′ i o = outside-apply a n t ss (doStore s t′) (i .1) (outside-store a n t t′ s (i .0) o)
 
-slots-into : (x : ℕ) (qs : List SlotStore) → Each (Below 12) qs → Each (Into (nodeStart x + 8) 24) (map (inNode x) qs)
+pub slots-into : (x : ℕ) (qs : List SlotStore) → Each (Below 12) qs → Each (Into (nodeStart x + 8) 24) (map (inNode x) qs)
 slots-into x [] b = tt
 slots-into x (q ∷ qs) b = (slot-into x q (b .0), slots-into x qs (b .1))
 

@@ -1,7 +1,7 @@
 -- `cells::ahead` meets its contract.
 use native.Mathlib.Omega.{arith}
-use Rattle.cells.proofs.Walking.{ahead-up, ahead-round}
 use borrow.Author.Needs.{needs}
+use Rattle.cells.proofs.Walking.{ahead-up, ahead-round}
 use Rattle.cells.proofs.ahead.Statement.{statement}
 use Rattle.cells.proofs.ahead.Tie as tie
 

@@ -11,7 +11,8 @@ use Rattle.cells.proofs.close_up.Statement.{statement}
 use Rattle.cells.proofs.close_up.Tie as tie
 
 abbrev Inv-loop : tie.InvT-loop
-Inv-loop cells₀ first places gap₀ at₀ left₀ cells gap at left = (length cells ≡ length cells₀) × (places ≡ length cells₀) × (gap < places) × (at < places) × (closedUp cells gap at left ≡ closedUp cells₀ first (nextCell (length cells₀) first) (length cells₀))
+Inv-loop cells₀ first places gap₀ at₀ left₀ cells gap at left =
+    (length cells ≡ length cells₀) × (places ≡ length cells₀) × (gap < places) × (at < places) × (closedUp cells gap at left ≡ closedUp cells₀ first (nextCell (length cells₀) first) (length cells₀))
 
 abbrev μ-loop : tie.MeasureT-loop
 μ-loop cells₀ first places gap₀ at₀ left₀ cells gap at left = left

@@ -1,7 +1,7 @@
 -- `cells::enter` meets its contract.
 use native.Mathlib.Omega.{arith}
-use Rattle.cells.proofs.Walking.{enter-at, enter-past}
 use borrow.Author.Needs.{needs}
+use Rattle.cells.proofs.Walking.{enter-at, enter-past}
 use Rattle.cells.proofs.enter.Statement.{statement}
 use Rattle.cells.proofs.enter.Tie as tie
 

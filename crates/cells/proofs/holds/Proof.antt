@@ -1,6 +1,6 @@
 -- `cells::holds` meets its contract.
-use Rattle.cells.proofs.Walking.{holds-past, holds-at}
 use borrow.Author.Needs.{needs}
+use Rattle.cells.proofs.Walking.{holds-past, holds-at}
 use Rattle.cells.proofs.holds.Statement.{statement}
 use Rattle.cells.proofs.holds.Tie as tie
 

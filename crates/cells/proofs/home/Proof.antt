@@ -1,7 +1,7 @@
 -- `cells::home` meets its contract.
 use mathlib.Core.Path.{refl}
-use Rattle.cells.proofs.Walking.{home-is}
 use borrow.Author.Needs.{needs}
+use Rattle.cells.proofs.Walking.{home-is}
 use Rattle.cells.proofs.home.Statement.{statement}
 use Rattle.cells.proofs.home.Tie as tie
 

@@ -1,8 +1,8 @@
 -- `cells::move_in` meets its contract.
 use mathlib.Core.Path.{refl}
 use native.Mathlib.Omega.{arith}
-use Rattle.cells.proofs.Walking.{home-below, gap-moves, gap-stays}
 use borrow.Author.Needs.{needs}
+use Rattle.cells.proofs.Walking.{home-below, gap-moves, gap-stays}
 use Rattle.cells.proofs.move_in.Statement.{statement}
 use Rattle.cells.proofs.move_in.Tie as tie
 

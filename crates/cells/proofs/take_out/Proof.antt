@@ -1,7 +1,7 @@
 -- `cells::take_out` meets its contract.
 use native.Mathlib.Omega.{arith}
-use Rattle.cells.proofs.Walking.{out-past, out-other, out-at}
 use borrow.Author.Needs.{needs}
+use Rattle.cells.proofs.Walking.{out-past, out-other, out-at}
 use Rattle.cells.proofs.take_out.Statement.{statement}
 use Rattle.cells.proofs.take_out.Tie as tie
 

@@ -1,8 +1,8 @@
 -- `marks::clear` meets its contract.
 use mathlib.Core.Path.{sym, _∙_}
 use borrow.Author.Tests.{not-true, not-false}
-use Rattle.marks.proofs.Words.{clear-none, clear-word}
 use borrow.Author.Needs.{needs}
+use Rattle.marks.proofs.Words.{clear-none, clear-word}
 use Rattle.marks.proofs.clear.Statement.{statement}
 use Rattle.marks.proofs.clear.Tie as tie
 

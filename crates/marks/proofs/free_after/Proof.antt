@@ -1,6 +1,6 @@
 -- `marks::free_after` meets its contract.
-use Rattle.marks.proofs.Rows.{free-next, free-round}
 use borrow.Author.Needs.{needs}
+use Rattle.marks.proofs.Rows.{free-next, free-round}
 use Rattle.marks.proofs.free_after.Statement.{statement}
 use Rattle.marks.proofs.free_after.Tie as tie
 

@@ -1,8 +1,8 @@
 -- `marks::taken_run` meets its contract.
 use mathlib.Core.Path.{sym, _∙_}
 use borrow.Author.Tests.{not-true, not-false}
-use Rattle.marks.proofs.Words.{taken-none, taken-one, taken-word}
 use borrow.Author.Needs.{needs}
+use Rattle.marks.proofs.Words.{taken-none, taken-one, taken-word}
 use Rattle.marks.proofs.taken_run.Statement.{statement}
 use Rattle.marks.proofs.taken_run.Tie as tie
 

@@ -1,0 +1,2 @@
+-- A summary that is true of a table.
+pub mod Current
