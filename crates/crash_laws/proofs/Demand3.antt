@@ -143,7 +143,7 @@ number-answered (some ws) x words dock t =
     unless-number (sliceNumber (seventeenIn x t) (length ws) t) (refusal x words dock t) (written x words dock t) (plain-answered x words dock t)
 
 -- a refused call leaves the table and the order list
-refused-table : (o : Option Words) (x : Call) (words dock : ℕ) (t : Words) → refusalBy o x words dock t ≢ 0 → tableBy o x words dock t ≡ t
+pub refused-table : (o : Option Words) (x : Call) (words dock : ℕ) (t : Words) → refusalBy o x words dock t ≢ 0 → tableBy o x words dock t ≡ t
 unfolding tableAfter tableWith refusalWith
 refused-table none x words dock t z = not-done (refusal x words dock t) (apply (storesOf x t) t) t z
 refused-table (some ws) x words dock t z = not-with (sliceNumber (seventeenIn x t) (length ws) t) (refusal x words dock t) (apply (storesOf x t) t) t z

@@ -2,6 +2,7 @@
 pub mod Demand3
 pub mod Starts
 pub mod Batches
+pub mod QuickHistories
 pub mod Images
 pub mod Happens
 pub mod HappensTwo
@@ -9,3 +10,4 @@ pub mod HappensDocks
 pub mod HappensSentinels
 pub mod Drawings
 pub mod HappensSplit
+pub mod HappensQuick
