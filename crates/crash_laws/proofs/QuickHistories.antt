@@ -1,6 +1,5 @@
 -- Demand 3 with quick calls, from demand 3 of the plain ones: a summary that is there is true of the working copy.
-use mathlib.Core.Path.{_≡_, refl, ap, sym, _∙_}
-use mathlib.Core.Logic.{_≢_}
+use mathlib.Core.Path.{_≡_, refl, ap, _∙_}
 use mathlib.Core.Bool.{Bool, true, false, cond, not}
 use mathlib.Core.List.{[], _∷_}
 use mathlib.Core.Option.{Option, none, some}
@@ -11,9 +10,8 @@ use lib.ListN.{length}
 use Rattle.model.specs.Table.{Words, nodes, headerOk}
 use Rattle.model.specs.Reached.{mapsOf}
 use Rattle.model.specs.SoundTest.{settled, sound}
-use Rattle.model.specs.Sound.{Sound}
 use Rattle.model.specs.Refusals.{unlessRefused, test, firstNumber}
-use Rattle.model.specs.Demand3.{Fate, whole, cut, Event, History, State, both, numberOf, leftBy, afterFate, afterRefusal, step, runFrom, FateMay, MayFrom}
+use Rattle.model.specs.Demand3.{Fate, whole, cut, Event, History, State, both, numberOf, afterFate, afterRefusal, step, runFrom, FateMay, MayFrom}
 use Rattle.model.specs.Summary.{summaryWords, opened, openNumber, openedWords}
 use Rattle.model.specs.QuickHistories.{call, opens, quick, Act, Acts, Host, host, quickNumberOf, quickAfter, quickRefused, quickStep, actStep, runActs}
 use Rattle.model.specs.QuickHistories.{QuickFate, QuickMay, MayActs, plainly, plain, Same, OpensRight, LastRight, SameFrom, KeptActs, Demand3Quick}

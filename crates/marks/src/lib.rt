@@ -1,6 +1,5 @@
 // Marks of nodes in a slice, a bit each: a mark less, the first node that is not marked, and whether so many are not.
 ghost use mathlib.Core.Path.{_≡_};
-ghost use mathlib.Core.List.{_++_};
 ghost use Prim.Native.Nat.{_+_, _-_, _*_, _≤_, _<_};
 ghost use lib.Dec.{ltb};
 ghost use lib.ListN.{length};

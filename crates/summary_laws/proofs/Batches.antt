@@ -7,8 +7,8 @@ use Rattle.model.specs.declared.Written.{Written}
 use Rattle.model.specs.declared.Written.the-variants.{Done, Refused}
 use Rattle.model.specs.Table.{Words}
 use Rattle.model.specs.Slots.{Slot}
-use Rattle.model.specs.Refusals.{written, tableAfter, listAfter}
-use Rattle.model.specs.Batch.{insertionOf, Batched, stopped, behind, batch}
+use Rattle.model.specs.Refusals.{written}
+use Rattle.model.specs.Batch.{insertionOf, stopped, behind, batch}
 use Rattle.model.specs.Summary.{quickWritten, quickTable, quickList, quickSummary}
 use Rattle.model.specs.QuickBatch.{QuickBatched, quickBatched, quickBatch}
 use Rattle.batch_laws.proofs.Folds.{batch-none, batch-stops, batch-goes}

@@ -1,9 +1,8 @@
 -- An insertion by marks on a settled table: the stores of the plain one, and true marks after them.
 use mathlib.Core.Path.{_≡_, refl, ap, sym, _∙_}
 use mathlib.Core.Bool.{Bool, true, false, cond, _&&_, false≢true}
-use mathlib.Core.Logic.{_≢_}
 use mathlib.Core.List.{List, [], _++_, append-assoc, List·Memᴰ}
-use Prim.Native.Nat.{ℕ, suc, _+_, _-_, _≤_, _<_}
+use Prim.Native.Nat.{ℕ, suc, _+_, _≤_, _<_}
 use native.Mathlib.Omega.{arith}
 use lib.Dec.{eqb}
 use lib.ListN.{length}
