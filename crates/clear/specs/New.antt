@@ -3,17 +3,19 @@ use mathlib.Core.Path.{_≡_}
 use mathlib.Core.Bool.{Bool, true, false}
 use mathlib.Core.Logic.{_≢_}
 use mathlib.Core.List.{List, map}
-use Prim.Native.Nat.{ℕ, zero, suc, _-_, _%_}
+use Prim.Native.Nat.{ℕ, zero, suc, _+_, _*_, _-_, _%_}
 use lib.Dec.{eqb}
-use lib.ListN.{getD, take, drop}
+use lib.ListN.{getD, take, drop, replicate}
 use Rattle.model.specs.Table.{Words}
-use Rattle.model.specs.Slots.{Slot, slotsOf, recording, View}
+use Rattle.model.specs.Slots.{Slot, slotsOf, recordingOf, recording, View}
 use Rattle.model.specs.Reached.{flat, kept}
-use Rattle.model.specs.SoundTest.{elem, distinct}
+use Rattle.model.specs.SoundTest.{all, elem, distinct}
 use Rattle.model.specs.Refusals.{hasRecording}
 use Rattle.list_laws.specs.Each.{Each}
 use Rattle.walk_laws.specs.Chain.{along, chain}
-use Rattle.numbers.specs.Cells.{CELLS, TRIES, mixed, nextCell}
+use Rattle.numbers.specs.declared.Entry.{Entry}
+use Rattle.numbers.specs.declared.Entry.the-variants.{Entered, Known, Full}
+use Rattle.numbers.specs.Cells.{CELLS, TRIES, Outcome, outcome, mixed, nextCell, entered, followed}
 use Rattle.numbers.specs.Filed.{Filed}
 
 -- of n cells, m along the path from cell i on: a free one comes before r
@@ -52,3 +54,23 @@ pub record Holds (cs : Words) (rs : List ℕ) : Type 0 where
 pub record New (ps : List Slot) (rs : List ℕ) : Type 0 where
   pub apart : distinct rs ≡ true
   pub absent : Each (λ (r : ℕ). hasRecording r ps ≡ false) rs
+
+-- ---- what is answered
+
+abbrev pub isEntered : Entry → Bool
+isEntered Entered = true
+isEntered Known = false
+isEntered Full = false
+
+-- the recordings of so many pairs from i on entered, from the last to the first
+unfoldable pub enteredDown : (pairs : Words) → (i count : ℕ) → Words → Outcome
+enteredDown pairs i zero cs = outcome Entered cs
+enteredDown pairs i (suc c) cs = followed (entered TRIES cs (recordingOf (getD pairs (2 * (i + c) + 1) 0))) (enteredDown pairs i c)
+
+-- each of them found a cell, and surely none of the tree is among them
+abbrev pub clearOf : View → Outcome → Bool
+clearOf v o = elim (o .answer) [ Entered ↦ all (offPair (o .cells)) (treePairs v) | Known ↦ false | Full ↦ false ]
+
+-- the pairs from i on, before j, are told to have recordings that are new to the tree; else nothing is told of them
+unfoldable pub areNew : View → (pairs : Words) → (i j : ℕ) → Bool
+areNew v pairs i j = clearOf v (enteredDown pairs i (j - i) (replicate CELLS 0))

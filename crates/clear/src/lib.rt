@@ -5,14 +5,14 @@ use slots::Ways;
 ghost use mathlib.Core.Path.{_≡_};
 ghost use mathlib.Core.Bool.{true};
 ghost use mathlib.Core.List.{[]};
-ghost use Prim.Native.Nat.{_*_, _≤_, _<_};
+ghost use Prim.Native.Nat.{_*_, _-_, _≤_, _<_};
 ghost use lib.ListN.{length};
 ghost use Rattle.model.specs.Slots.{viewFrom};
 ghost use Rattle.model.specs.Reached.{mapping};
 ghost use Rattle.model.specs.SoundTest.{all, soundView};
 ghost use Rattle.numbers.specs.Cells.{CELLS, nextCell};
 ghost use Rattle.slots.specs.Gathered.{waysFrom};
-ghost use Rattle.clear.specs.New.{off, offPair, treePairs, recordingsOf, Holds, New};
+ghost use Rattle.clear.specs.New.{off, offPair, treePairs, recordingsOf, Holds, New, isEntered, enteredDown, areNew};
 
 // The cell after cell at of so many; the first comes after the last.
 fn next_cell(places: usize, at: usize) -> usize
@@ -91,6 +91,8 @@ fn enter_pairs(cells: &mut [u64], pairs: &[u64], from: usize, to: usize) -> bool
     requires { ⌜ Holds (now cells) [] ⌝ }
     requires { ⌜ from ≤ to ⌝ }
     requires { ⌜ 2 * to ≤ length (now pairs) ⌝ }
+    ensures { λ r. ⌜ r ≡ isEntered (enteredDown (now (pairs .entry)) from (to - from) (now (cells .entry)) .answer) ⌝ }
+    ensures { λ r. ⌜ now (cells .exit) ≡ enteredDown (now (pairs .entry)) from (to - from) (now (cells .entry)) .cells ⌝ }
     ensures { λ r. ⌜ (r ≡ true → Holds (now (cells .exit)) (recordingsOf (now (pairs .entry)) from to)) ⌝ }
     ensures { λ r. ⌜ length (now (cells .exit)) ≡ CELLS ⌝ }
 {
@@ -108,11 +110,12 @@ fn enter_pairs(cells: &mut [u64], pairs: &[u64], from: usize, to: usize) -> bool
     true
 }
 
-// True says that the recordings of these pairs are new to the map of the tree; false says nothing, as where the cells get full.
+// True says that the recordings of these pairs are new to the map of the tree; false says nothing, as if the cells get full.
 pub fn are_new(table: &[u64], root: u64, pairs: &[u64], from: usize, to: usize) -> bool
     requires { ⌜ soundView (viewFrom (now table) root) ≡ true ⌝ }
     requires { ⌜ from ≤ to ⌝ }
     requires { ⌜ 2 * to ≤ length (now pairs) ⌝ }
+    ensures { λ r. ⌜ r ≡ areNew (viewFrom (now (table .entry)) root) (now (pairs .entry)) from to ⌝ }
     ensures { λ r. ⌜ (r ≡ true → New (mapping (viewFrom (now (table .entry)) root)) (recordingsOf (now (pairs .entry)) from to)) ⌝ }
 {
     let mut cells = [0u64; numbers::CELLS];

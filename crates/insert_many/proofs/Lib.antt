@@ -1,2 +1,3 @@
 -- The laws behind many insertions in one call.
 pub mod Going
+pub mod Widths

@@ -1,19 +1,20 @@
 -- A batch under way: what it has come to, and what it comes to from here.
 use mathlib.Core.Path.{_≡_}
-use mathlib.Core.Bool.{true, false, _||_}
+use mathlib.Core.Bool.{true, false, cond, _||_}
 use mathlib.Core.List.{List}
 use mathlib.Core.Option.{some}
-use Prim.Native.Nat.{ℕ, suc, _+_, _*_, _≤_}
-use lib.Dec.{eqb}
+use Prim.Native.Nat.{ℕ, zero, suc, _+_, _*_, _-_, _/_, _≤_}
+use lib.Dec.{eqb, ltb}
 use lib.ListN.{length, take, drop}
 use Rattle.model.specs.declared.Batch.{Batch}
 use Rattle.model.specs.Table.{Words, noCollection}
-use Rattle.model.specs.Slots.{Slot}
+use Rattle.model.specs.Slots.{Slot, View, viewOf}
 use Rattle.model.specs.Reached.{mapOf, reachedAll}
 use Rattle.model.specs.SoundTest.{leftoverAll, sound}
 use Rattle.model.specs.Refusals.{hasRecording, unlessRefused}
 use Rattle.model.specs.Batch.{Batched, behind, batch}
 use Rattle.sound.specs.Checked.{meant}
+use Rattle.clear.specs.New.{areNew}
 use Rattle.insert_many.specs.declared.Progress.{Progress}
 
 abbrev pub answerOf : Progress → Batch
@@ -45,3 +46,16 @@ pub record Fit (n dock : ℕ) (p : Progress) (list t : Words) : Type 0 where
 -- a pair with recording q that was taken is one more, and its recording is then in the map
 abbrev pub Gains : (n q : ℕ) → (p r : Progress) → (t t′ : Words) → Type 0
 Gains n q p r t t′ = r .number ≡ 0 → (r .taken ≡ suc (p .taken)) × ((x : ℕ) → hasRecording x (mapOf n t′) ≡ (eqb q x || hasRecording x (mapOf n t)))
+
+-- how many pairs from i on are told to be new: of so many if they are, else of half of them, and so on; 0 if not even of two
+unfoldable pub newWidth : View → (pairs : Words) → (i fuel width : ℕ) → ℕ
+newWidth v pairs i zero width = 0
+newWidth v pairs i (suc f) width =
+    elim (ltb 1 width) [
+      | true ↦ elim (areNew v pairs i (i + width)) [ true ↦ width | false ↦ newWidth v pairs i f (width / 2) ]
+      | false ↦ 0
+    ]
+
+-- where the pairs from i on that are told to be new end: as before, if pair i is one of them
+unfoldable pub newEnd : (n : ℕ) → (t pairs : Words) → (i end : ℕ) → ℕ
+newEnd n t pairs i end = let all = length pairs / 2 - i in cond (ltb i end) end (i + newWidth (viewOf n t) pairs i all all)

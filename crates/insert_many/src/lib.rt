@@ -19,7 +19,7 @@ ghost use Rattle.reach.specs.Marks.{Marked};
 ghost use Rattle.sound.specs.Checked.{meant};
 ghost use Rattle.clear.specs.New.{recordingsOf, New};
 ghost use Rattle.insert.specs.Entered.{asWritten, Counts};
-ghost use Rattle.insert_many.specs.Going.{outcome, ahead, Fit, Gains};
+ghost use Rattle.insert_many.specs.Going.{outcome, ahead, Fit, Gains, newEnd};
 
 // How far a batch has come: the number that stopped it, 0 for none; the pairs taken, the words of the list filled and the three counts; what
 // repair has to do, and how many nodes are reached.
@@ -155,6 +155,7 @@ fn new_end(table: &[u64], collection: u64, pairs: &[u64], i: usize, end: usize) 
     requires { ⌜ noCollection collection (now table) ≡ false ⌝ }
     requires { ⌜ i ≤ length (now pairs) / 2 ⌝ }
     requires { ⌜ New (mapOf collection (now table)) (recordingsOf (now pairs) i end) ⌝ }
+    ensures { λ r. ⌜ r ≡ newEnd collection (now (table .entry)) (now (pairs .entry)) i end ⌝ }
     ensures { λ r. ⌜ New (mapOf collection (now (table .entry))) (recordingsOf (now (pairs .entry)) i r) ⌝ }
 {
     if i < end {

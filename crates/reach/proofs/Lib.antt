@@ -6,3 +6,5 @@ pub mod SlotCounts
 pub mod Freeing
 pub mod Running
 pub mod Marking
+pub mod Parents
+pub mod Passing

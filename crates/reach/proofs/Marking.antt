@@ -1,20 +1,23 @@
--- Marked nodes are reached: a node more, and the ways of a reached inner node.
+-- Marked nodes are reached: nodes more, and the ways of a reached inner node.
 use mathlib.Core.Path.{_≡_, refl, ap, sym, _∙_}
-use mathlib.Core.Bool.{Bool, true, false, _||_, false≢true}
-use mathlib.Core.Logic.{_≢_, ⊎-elim}
-use mathlib.Core.List.{_∷_, List·Memᴰ}
-use Prim.Native.Nat.{ℕ, zero, suc, _+_, _*_, _-_, _%_, _<_}
+use mathlib.Core.Bool.{Bool, true, false, cond, _||_, false≢true}
+use mathlib.Core.Logic.{_≢_, _⊎_, ⊎-elim}
+use mathlib.Core.List.{List, [], _∷_, _++_, List·Memᴰ}
+use Prim.Native.Nat.{ℕ, zero, suc, _+_, _*_, _-_, _/_, _≤_, _<_}
+use native.Mathlib.Numerals.{add-one}
 use native.Mathlib.Omega.{arith}
-use native.Mathlib.Nat.{zero-add}
+use lib.Dec.{eqb}
 use lib.ListN.{length, getD, replicate, length-replicate}
+use lib.Seq.{set-out}
+use borrow.Author.Tests.{eq-eqb, ne-eqb}
 use Rattle.model.specs.declared.Node.{Node}
 use Rattle.model.specs.Table.{Words, at, node, root}
 use Rattle.model.specs.Slots.{slot, View, nodeView, viewFrom, viewOf, view, used}
 use Rattle.model.specs.Search.{below}
 use Rattle.model.specs.Reached.{pointers, kept, named, nextChild, children, reached, reachedAll}
 use Rattle.model.specs.SoundTest.{elem, sound}
-use Rattle.list_laws.proofs.Tools.{same-or-not, or-right}
-use Rattle.list_laws.proofs.Members.{elem-iff, getD-in}
+use Rattle.list_laws.proofs.Tools.{Each, same-or-not, compared, or-right}
+use Rattle.list_laws.proofs.Members.{mem-each, elem-iff}
 use Rattle.view_laws.proofs.AnyRoot.{any-kept}
 use Rattle.tree_laws.proofs.Rows.{children-inner, fill-mem}
 use Rattle.tree_laws.proofs.Levels.{Orderly}
@@ -26,14 +29,34 @@ use Rattle.node.proofs.WordLaws.{word-level, word-fence}
 use Rattle.slots.specs.declared.Ways.{Ways}
 use Rattle.slots.specs.Scan.{shownFrom, keeps, keptOf}
 use Rattle.slots.specs.Gathered.{span, slotsIn}
-use Rattle.bits.specs.Bits.{put, full}
-use Rattle.bits.proofs.Marks.{has-put-other, none-marked, full-marked}
-use Rattle.reach.specs.Marks.{MARKS, Taken, AllTaken, Marked, Used, WaysTaken}
+use Rattle.bits.specs.Bits.{put}
+use Rattle.bits.proofs.Marks.{has-put-other, none-marked}
+use Rattle.reach.specs.Marks.{MARKS, Taken, AllTaken, Marked, putAll, namedBy}
 
 -- ---- marks
 
-pub put-taken : (t ws : Words) (n : ℕ) → n < 64 * length ws → AllTaken t ws → Taken t n → AllTaken t (put ws n)
-put-taken t ws n h a k m e = ⊎-elim (λ q. rw q k) (λ q. a m (sym (has-put-other ws n m h q) ∙ e)) (same-or-not m n)
+-- a number past the marks gets none
+pub put-out : (ws : Words) (n : ℕ) → 64 * length ws ≤ n → ws ≡ put ws n
+unfolding put
+put-out ws n h = sym (set-out ws (n / 64) _ (omega arith))
+
+put-inside : (t ws : Words) (n : ℕ) → n < 64 * length ws → AllTaken t ws → Taken t n → AllTaken t (put ws n)
+put-inside t ws n h a k m e = ⊎-elim (λ q. rw q k) (λ q. a m (sym (has-put-other ws n m h q) ∙ e)) (same-or-not m n)
+
+pub put-taken : (t ws : Words) (n : ℕ) → AllTaken t ws → Taken t n → AllTaken t (put ws n)
+put-taken t ws n a k =
+    let past : ((n ≡ 64 * length ws) ⊎ (64 * length ws < n)) → 64 * length ws ≤ n = ⊎-elim (λ (e : n ≡ 64 * length ws). omega arith) (λ (g : 64 * length ws < n). omega arith) in
+    ⊎-elim (λ h. put-inside t ws n h a k) (λ o. rw (sym (put-out ws n (past o))) a) (compared n (64 * length ws))
+
+pub putAll-append : (ms ns : List ℕ) (ws : Words) → putAll (ms ++ ns) ws ≡ putAll ns (putAll ms ws)
+unfolding putAll
+putAll-append [] ns ws = refl
+putAll-append (m ∷ ms) ns ws = putAll-append ms ns (put ws m)
+
+pub putAll-taken : (t : Words) (ns : List ℕ) (ws : Words) → Each (Taken t) ns → AllTaken t ws → AllTaken t (putAll ns ws)
+unfolding putAll
+putAll-taken t [] ws k a = a
+putAll-taken t (n ∷ ns) ws k a = putAll-taken t ns (put ws n) (k .1) (put-taken t ws n a (k .0))
 
 pub none-taken : (t : Words) → Marked t (replicate MARKS 0)
 none-taken t = (length-replicate {A = ℕ} MARKS 0, λ m e. absurd (false≢true (sym (none-marked MARKS m) ∙ e)))
@@ -41,17 +64,6 @@ none-taken t = (length-replicate {A = ℕ} MARKS 0, λ m e. absurd (false≢true
 -- they serve a table that reaches the same nodes and others
 pub stays-marked : (t u marks : Words) → ((n : ℕ) → Taken t n → Taken u n) → Marked t marks → Marked u marks
 stays-marked t u marks f m = (m .0, λ n e. f n (m .1 n e))
-
--- ---- reached nodes in a run
-
-pub used-none : (t : Words) (n : ℕ) → elem n (reachedAll t) ≡ false → Used t n 0
-used-none t n e = record { short = omega arith; run = λ m a b. absurd (omega arith); none = λ z. e }
-
-pub used-one : (t : Words) (n : ℕ) → Taken t n → Used t n 1
-used-one t n k = record { short = omega arith; run = λ m a b. let e : m ≡ n = omega arith in rw e k; none = λ z. absurd (omega arith) }
-
-pub used-word : (t ws : Words) (n : ℕ) → AllTaken t ws → n % 64 ≡ 0 → full ws n ≡ true → Used t n 64
-used-word t ws n a z e = record { short = omega arith; run = λ m p q. a m (full-marked ws n m e (omega arith)); none = λ z. absurd (omega arith) }
 
 -- ---- children of a reached inner node are reached
 
@@ -88,31 +100,66 @@ module _ (t : Words) (s : sound t ≡ true) (n c : ℕ) (z : nodeView t n .level
   pub named-taken : Taken t n → Taken t c
   named-taken e = ⊎-elim (λ y. alone y e) (λ y. beside y e) (same-or-not (at t 3) 0)
 
--- ---- the ways as they are read
+-- whatever a node names that is reached and no leaf
+pub named-by-taken : (t : Words) (n : ℕ) → sound t ≡ true → Each (Taken t) (namedBy t n)
+unfolding namedBy
+named-by-taken t n s = go (eqb (nodeView t n .level) 0) (elem n (reachedAll t)) refl refl
+  where
+    go : (a b : Bool) → eqb (nodeView t n .level) 0 ≡ a → elem n (reachedAll t) ≡ b → Each (Taken t) (cond a [] (cond b (named (view t) n) []))
+    go true b p q = tt
+    go false false p q = tt
+    go false true p q =
+        mem-each (Taken t) (named (view t) n) (λ c m. named-taken t s n c (λ z. false≢true (sym p ∙ eq-eqb (nodeView t n .level) 0 z)) m q)
 
-span-at : (ks ps : Words) (i m j : ℕ) → j < m → getD (pointers (span ks ps i m)) j 0 ≡ getD ps (i + j) 0
+-- ---- the ways as they are read, from one on
+
+-- the numbers that pointers i, i + 1 .. of an array name, m of them
+abbrev pub ahead : (ps : Words) → (i m : ℕ) → List ℕ
+ahead ps i m = pointers (span [] ps i m)
+
+ahead-ways : (ks ps : Words) (i m : ℕ) → ahead ps i m ≡ pointers (span ks ps i m)
 unfolding span
-span-at ks ps i zero j h = absurd (omega arith)
-span-at ks ps i (suc m) zero h = let e : i + 0 ≡ i = omega arith in rw e
-span-at ks ps i (suc m) (suc j) h = let e : suc i + j ≡ i + suc j = omega arith in span-at ks ps (suc i) m j (omega arith) ∙ rw e
+ahead-ways ks ps i zero = refl
+ahead-ways ks ps i (suc m) = ap (λ (ns : List ℕ). getD ps i 0 ∷ ns) (ahead-ways ks ps (suc i) m)
 
-span-length : (ks ps : Words) (i m : ℕ) → length (pointers (span ks ps i m)) ≡ m
-unfolding span
-span-length ks ps i zero = refl
-span-length ks ps i (suc m) = ap suc (span-length ks ps (suc i) m)
+pub ahead-all : (w : Ways) (ws : Words) → putAll (ahead (w .pointers) 0 (w .count - 0)) ws ≡ putAll (pointers (slotsIn w)) ws
+ahead-all w ws = let e : w .count - 0 ≡ w .count = omega arith in rw e (ap (λ (ns : List ℕ). putAll ns ws) (ahead-ways (w .keys) (w .pointers) 0 (w .count)))
 
-module _ (t : Words) (n : ℕ) (x : Node) (b : ℕ) (w : Ways) (is : x ≡ node t n) (fence : b ≡ wordOf t (x .sibling) 3)
-    (ways : slotsIn w ≡ slot (x .fence) (x .left) ∷ keptOf (x .sibling) b (shownFrom (x .left) (x .slots) 0)) where
-  are-named : pointers (slotsIn w) ≡ named (view t) n
-  unfolding used kept below keeps
-  are-named =
-      ap pointers ways
-      ∙ ap (λ (e : ℕ). x .left ∷ pointers (keptOf (x .sibling) e (shownFrom (x .left) (x .slots) 0))) (fence ∙ word-fence t (x .sibling))
-      ∙ ap (λ (y : Node). y .left ∷ pointers (keptOf (y .sibling) (node t (y .sibling) .fence) (shownFrom (y .left) (y .slots) 0))) is
+pub ahead-none : (ps : Words) (i m : ℕ) (ws : Words) → m ≤ i → ws ≡ putAll (ahead ps i (m - i)) ws
+unfolding span putAll
+ahead-none ps i m ws h = let e : m - i ≡ 0 = omega arith in rw e
 
-  pub ways-taken : sound t ≡ true → (l : ℕ) → l ≡ wordOf t n 2 → l ≢ 0 → Taken t n → WaysTaken t w
-  ways-taken s l q z e i h =
-      let at-i : getD (pointers (slotsIn w)) i 0 ≡ getD (w .pointers) i 0 = span-at (w .keys) (w .pointers) 0 (w .count) i h ∙ rw (zero-add i) in
-      let m : List·Memᴰ (getD (pointers (slotsIn w)) i 0) (pointers (slotsIn w)) = getD-in 0 (pointers (slotsIn w)) i (omega (arith, span-length (w .keys) (w .pointers) 0 (w .count))) in
-      let k : Named t n (getD (w .pointers) i 0) = rw (at-i, are-named) at m in
-      named-taken t s n (getD (w .pointers) i 0) (λ y. z (q ∙ word-level t n ∙ y)) k e
+pub ahead-more : (ps : Words) (i m : ℕ) (ws : Words) → i < m → putAll (ahead ps (i + 1) (m - (i + 1))) (put ws (getD ps i 0)) ≡ putAll (ahead ps i (m - i)) ws
+unfolding span putAll
+ahead-more ps i m ws h = let e : m - i ≡ suc (m - suc i) = omega arith in rw (e, add-one i)
+
+-- ---- the children of a node, by the tests in the order of the code
+
+module _ (t : Words) (n l : ℕ) (q : l ≡ wordOf t n 2) (ws : Words) where
+  pub leaf-names-none : l ≡ 0 → ws ≡ putAll (namedBy t n) ws
+  unfolding namedBy putAll
+  leaf-names-none z = rw (eq-eqb (nodeView t n .level) 0 (sym (word-level t n) ∙ sym q ∙ z))
+
+  module _ (z : l ≢ 0) where
+    inner-level : eqb (nodeView t n .level) 0 ≡ false
+    inner-level = ne-eqb (nodeView t n .level) 0 (λ y. z (q ∙ word-level t n ∙ y))
+
+    pub unreached-names-none : elem n (reachedAll t) ≡ false → ws ≡ putAll (namedBy t n) ws
+    unfolding namedBy putAll
+    unreached-names-none e = rw (inner-level, e)
+
+    names-all : Taken t n → namedBy t n ≡ named (view t) n
+    unfolding namedBy
+    names-all e = rw (inner-level, e)
+
+    module _ (x : Node) (b : ℕ) (w : Ways) (is : x ≡ node t n) (fence : b ≡ wordOf t (x .sibling) 3)
+        (ways : slotsIn w ≡ slot (x .fence) (x .left) ∷ keptOf (x .sibling) b (shownFrom (x .left) (x .slots) 0)) where
+      are-named : pointers (slotsIn w) ≡ named (view t) n
+      unfolding used kept below keeps
+      are-named =
+          ap pointers ways
+          ∙ ap (λ (e : ℕ). x .left ∷ pointers (keptOf (x .sibling) e (shownFrom (x .left) (x .slots) 0))) (fence ∙ word-fence t (x .sibling))
+          ∙ ap (λ (y : Node). y .left ∷ pointers (keptOf (y .sibling) (node t (y .sibling) .fence) (shownFrom (y .left) (y .slots) 0))) is
+
+      pub ways-named : Taken t n → (after : Words) → after ≡ putAll (pointers (slotsIn w)) ws → after ≡ putAll (namedBy t n) ws
+      ways-named e after p = p ∙ ap (λ (ns : List ℕ). putAll ns ws) (are-named ∙ sym (names-all e))

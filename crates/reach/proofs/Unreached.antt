@@ -32,7 +32,7 @@ module _ (t : Words) where
   abbrev pub firstFrom : (n last : ℕ) → ℕ
   firstFrom n last = headOr 0 (unreached t (numbers n (last + 1 - n)))
 
-  row-more : (n last : ℕ) → n ≤ last → numbers n (last + 1 - n) ≡ n ∷ numbers (suc n) (last + 1 - suc n)
+  pub row-more : (n last : ℕ) → n ≤ last → numbers n (last + 1 - n) ≡ n ∷ numbers (suc n) (last + 1 - suc n)
   unfolding numbers
   row-more n last h = let e : last + 1 - n ≡ suc (last + 1 - suc n) = omega arith in rw e
 

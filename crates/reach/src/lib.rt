@@ -4,14 +4,18 @@ ghost use mathlib.Core.Path.{_≡_};
 ghost use mathlib.Core.Bool.{true};
 ghost use Prim.Native.Nat.{ℕ, _+_, _-_, _≤_};
 ghost use lib.ListN.{length};
-ghost use Rattle.model.specs.Table.{Words, at, nodes, rootWord};
+ghost use Rattle.model.specs.Table.{at, nodes, rootWord};
 ghost use Rattle.model.specs.Slots.{viewFrom, view};
 ghost use Rattle.model.specs.Search.{moved};
-ghost use Rattle.model.specs.Reached.{headOr, kept, reached, reachedAll};
+ghost use Rattle.model.specs.Reached.{flat, headOr, pointers, kept, trees, reached, reachedAll};
 ghost use Rattle.model.specs.SoundTest.{elem, soundView, sound};
 ghost use Rattle.model.specs.Writes.{numbers, unreached, unreachable, fresh, standingIn, freesLeaf};
+ghost use Rattle.walk_laws.specs.Chain.{along};
+ghost use Rattle.bits.specs.Bits.{put};
+ghost use Rattle.slots.specs.Gathered.{slotsIn};
 ghost use Rattle.reach.specs.Runs.{fullIn, runAfter, fullRun};
-ghost use Rattle.reach.specs.Marks.{MARKS, Taken, AllTaken, Marked, Used, WaysTaken};
+ghost use Rattle.reach.specs.Marks.{MARKS, Marked};
+ghost use Rattle.reach.specs.Marks.{putAll, namedBy, firstParent, namedLeaves, markedOnce, markedIf, usedRun, lookedAt, freshRound, freshMarks};
 
 // Words for a bit of each node.
 pub const MARKS: usize = 1024;
@@ -84,7 +88,7 @@ pub fn is_taken(table: &[u64], n: u64) -> bool
 // Marks node n, if it is one that a table can have.
 fn mark(marks: &mut [u64], n: u64)
     requires { ⌜ length (now marks) ≡ MARKS ⌝ }
-    ensures { λ r. ⌜ ((t : Words) → AllTaken t (now (marks .entry)) → Taken t n → AllTaken t (now (marks .exit))) ⌝ }
+    ensures { λ r. ⌜ now (marks .exit) ≡ put (now (marks .entry)) n ⌝ }
 {
     if 65535 < n {
         return;
@@ -96,7 +100,7 @@ fn mark(marks: &mut [u64], n: u64)
 fn mark_ways(marks: &mut [u64], w: Ways)
     requires { ⌜ length (now marks) ≡ MARKS ⌝ }
     requires { ⌜ w .count ≤ 13 ⌝ }
-    ensures { λ r. ⌜ ((t : Words) → AllTaken t (now (marks .entry)) → WaysTaken t w → AllTaken t (now (marks .exit))) ⌝ }
+    ensures { λ r. ⌜ now (marks .exit) ≡ putAll (pointers (slotsIn w)) (now (marks .entry)) ⌝ }
 {
     let count = w.count;
     let pointers = w.pointers;
@@ -110,8 +114,8 @@ fn mark_ways(marks: &mut [u64], w: Ways)
 // Marks the children that node n names, if it is reached and no leaf.
 fn mark_children(table: &[u64], marks: &mut [u64], n: u64)
     requires { ⌜ sound (now table) ≡ true ⌝ }
-    requires { ⌜ Marked (now table) (now marks) ⌝ }
-    ensures { λ r. ⌜ Marked (now (table .entry)) (now (marks .exit)) ⌝ }
+    requires { ⌜ length (now marks) ≡ MARKS ⌝ }
+    ensures { λ r. ⌜ now (marks .exit) ≡ putAll (namedBy (now (table .entry)) n) (now (marks .entry)) ⌝ }
 {
     if node::word(table, n, 2) == 0 {
         return;
@@ -124,16 +128,15 @@ fn mark_children(table: &[u64], marks: &mut [u64], n: u64)
     mark_ways(marks, slots::gather(x, bound));
 }
 
-// From a root down by left to the level above the leaves, where there is one.
-fn first_parent(table: &[u64], root: u64) -> u64 {
+// From a root down by left to the level above the leaves, if there is one.
+fn first_parent(table: &[u64], root: u64) -> u64
+    ensures { λ r. ⌜ r ≡ firstParent (viewFrom (now (table .entry)) root) ⌝ }
+{
     let mut n = root;
-    let mut left = 16u64;
-    while 0 < left {
-        if node::word(table, n, 2) <= 1 {
-            return n;
-        }
+    let mut level = node::word(table, root, 2);
+    while 1 < level {
         n = node::word(table, n, 0);
-        left -= 1;
+        level -= 1;
     }
     n
 }
@@ -142,8 +145,9 @@ fn first_parent(table: &[u64], root: u64) -> u64 {
 // that they are reached.
 fn mark_along(table: &[u64], marks: &mut [u64], first: u64)
     requires { ⌜ sound (now table) ≡ true ⌝ }
-    requires { ⌜ Marked (now table) (now marks) ⌝ }
-    ensures { λ r. ⌜ Marked (now (table .entry)) (now (marks .exit)) ⌝ }
+    requires { ⌜ length (now marks) ≡ MARKS ⌝ }
+    ensures { λ r. ⌜ now (marks .exit)
+        ≡ putAll (flat (namedBy (now (table .entry))) (along (view (now (table .entry))) (nodes (now (table .entry))) first)) (now (marks .entry)) ⌝ }
 {
     let mut n = first;
     let mut left = table[2];
@@ -160,8 +164,8 @@ fn mark_along(table: &[u64], marks: &mut [u64], first: u64)
 // Marks the leaves of both trees, but one that lacks its slot or is the root.
 fn mark_all(table: &[u64], marks: &mut [u64])
     requires { ⌜ sound (now table) ≡ true ⌝ }
-    requires { ⌜ Marked (now table) (now marks) ⌝ }
-    ensures { λ r. ⌜ Marked (now (table .entry)) (now (marks .exit)) ⌝ }
+    requires { ⌜ length (now marks) ≡ MARKS ⌝ }
+    ensures { λ r. ⌜ now (marks .exit) ≡ putAll (flat namedLeaves (trees (now (table .entry)))) (now (marks .entry)) ⌝ }
 {
     let first = first_parent(table, table[1]);
     let second = first_parent(table, table[3]);
@@ -175,6 +179,7 @@ fn is_used(table: &[u64], marks: &mut [u64], n: u64) -> bool
     requires { ⌜ Marked (now table) (now marks) ⌝ }
     requires { ⌜ n ≤ 65535 ⌝ }
     ensures { λ r. ⌜ r ≡ elem n (reachedAll (now (table .entry))) ⌝ }
+    ensures { λ r. ⌜ now (marks .exit) ≡ markedIf (now (table .entry)) (now (marks .entry)) n ⌝ }
     ensures { λ r. ⌜ Marked (now (table .entry)) (now (marks .exit)) ⌝ }
 {
     if bits::has(marks, n as usize) {
@@ -192,7 +197,8 @@ fn used_run(table: &[u64], marks: &mut [u64], n: u64) -> u64
     requires { ⌜ sound (now table) ≡ true ⌝ }
     requires { ⌜ Marked (now table) (now marks) ⌝ }
     requires { ⌜ n ≤ 65535 ⌝ }
-    ensures { λ r. ⌜ Used (now (table .entry)) n r ⌝ }
+    ensures { λ r. ⌜ r ≡ usedRun (now (table .entry)) (now (marks .exit)) n ⌝ }
+    ensures { λ r. ⌜ now (marks .exit) ≡ markedIf (now (table .entry)) (now (marks .entry)) n ⌝ }
     ensures { λ r. ⌜ Marked (now (table .entry)) (now (marks .exit)) ⌝ }
 {
     if !is_used(table, marks, n) {
@@ -213,6 +219,7 @@ fn first_unreached(table: &[u64], marks: &mut [u64], first: u64, last: u64) -> u
     requires { ⌜ Marked (now table) (now marks) ⌝ }
     requires { ⌜ last ≤ 65535 ⌝ }
     ensures { λ r. ⌜ r ≡ headOr 0 (unreached (now (table .entry)) (numbers first (last + 1 - first))) ⌝ }
+    ensures { λ r. ⌜ now (marks .exit) ≡ lookedAt (now (table .entry)) (numbers first (last + 1 - first)) (now (marks .entry)) ⌝ }
     ensures { λ r. ⌜ Marked (now (table .entry)) (now (marks .exit)) ⌝ }
 {
     let mut n = first;
@@ -230,6 +237,7 @@ fn first_unreached(table: &[u64], marks: &mut [u64], first: u64, last: u64) -> u
 fn mark_once(table: &[u64], marks: &mut [u64])
     requires { ⌜ sound (now table) ≡ true ⌝ }
     requires { ⌜ Marked (now table) (now marks) ⌝ }
+    ensures { λ r. ⌜ now (marks .exit) ≡ markedOnce (now (table .entry)) (now (marks .entry)) ⌝ }
     ensures { λ r. ⌜ Marked (now (table .entry)) (now (marks .exit)) ⌝ }
 {
     if bits::has(marks, table[1] as usize) {
@@ -246,6 +254,7 @@ fn fresh_marked(table: &[u64], marks: &mut [u64], a: u64) -> u64
     requires { ⌜ 1 ≤ a ⌝ }
     requires { ⌜ a ≤ nodes (now table) ⌝ }
     ensures { λ r. ⌜ r ≡ fresh (now (table .entry)) a ⌝ }
+    ensures { λ r. ⌜ now (marks .exit) ≡ freshRound (now (table .entry)) (now (marks .entry)) a ⌝ }
     ensures { λ r. ⌜ Marked (now (table .entry)) (now (marks .exit)) ⌝ }
 {
     mark_once(table, marks);
@@ -264,6 +273,7 @@ pub fn fresh(table: &[u64], marks: &mut [u64], a: u64) -> u64
     requires { ⌜ 1 ≤ a ⌝ }
     requires { ⌜ a ≤ nodes (now table) ⌝ }
     ensures { λ r. ⌜ r ≡ fresh (now (table .entry)) a ⌝ }
+    ensures { λ r. ⌜ now (marks .exit) ≡ freshMarks (now (table .entry)) (now (marks .entry)) a ⌝ }
     ensures { λ r. ⌜ Marked (now (table .entry)) (now (marks .exit)) ⌝ }
 {
     if table[2] <= a {

@@ -62,7 +62,7 @@ new-root-requires c κs =
 
 returns-2 : tie.Need-returns-2
 returns-2 c = let r = last c in let f = freed (r .before) in let d = rooted f in
-    (stored-as _ _ _ (root-stores (handed (entry d)) (read f .root-of .ensures) (not-false _ (d .if1 .left)) (f .fresh .ensures .0)) _ (r .new-root .ensures), f .fresh .ensures .1)
+    (stored-as _ _ _ (root-stores (handed (entry d)) (read f .root-of .ensures) (not-false _ (d .if1 .left)) (f .fresh .ensures .0)) _ (r .new-root .ensures), f .fresh .ensures .1 .1)
 
 pub grow-spec : {M : Type 1} → statement M
 grow-spec =

@@ -46,7 +46,7 @@ split-requires c κs = let m = above c in let f = freed (m .before) in let s = s
 
 returns : tie.Need-returns
 returns c = let d = last c in let m = above (d .before) in let f = freed (m .before) in let s = stood (f .before .before) in let r = read (s .before) in
-    (stored-as _ _ _ (split-as (entry (s .before) .pre .0) (r .root-of .ensures) (s .standing .ensures) (f .fresh .ensures .0) (m .standing2 .ensures)) _ (d .split .ensures), f .fresh .ensures .1)
+    (stored-as _ _ _ (split-as (entry (s .before) .pre .0) (r .root-of .ensures) (s .standing .ensures) (f .fresh .ensures .0) (m .standing2 .ensures)) _ (d .split .ensures), f .fresh .ensures .1 .1)
 
 pub split-at-spec : {M : Type 1} → statement M
 split-at-spec =

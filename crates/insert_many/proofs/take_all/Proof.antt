@@ -57,7 +57,7 @@ new-end-requires c κs = let h = c .before .before .before .loop .inv in let f =
 
 is-known-requires : tie.Need-is-known-requires Inv-loop μ-loop
 is-known-requires c κs = let t = c .before .before .before in let h = t .before .before .loop .inv in let f = h .4 in
-    (f .is-sound, (f .collection, (omega (arith, h .2, t .if1 .taken), c .before .new-end .ensures)))
+    (f .is-sound, (f .collection, (omega (arith, h .2, t .if1 .taken), c .before .new-end .ensures .1)))
 
 take-next-requires : tie.Need-take-next-requires Inv-loop μ-loop
 take-next-requires c κs = let k = c .before .before .before in let t = k .before .before .before .before in let h = t .before .before .loop .inv in
@@ -86,7 +86,7 @@ loop-again c = let j = went c in let w = j .before .before .before .before .befo
       c .if2 .left,
       q .1 .0,
       q .0 ∙ h .5,
-      new-next _ _ _ _ _ (g .0) (later-new _ _ _ _ (w .new-end .ensures) (omega (arith, h .2, t .if1 .taken)) _ (g .1)),
+      new-next _ _ _ _ _ (g .0) (later-new _ _ _ _ (w .new-end .ensures .1) (omega (arith, h .2, t .if1 .taken)) _ (g .1)),
       q .1 .1 .1,
     )
 

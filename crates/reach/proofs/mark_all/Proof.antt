@@ -1,6 +1,7 @@
 -- `reach::mark_all` meets its contract.
 use native.Mathlib.Omega.{arith}
 use Rattle.reach.proofs.Members.{sound-words}
+use Rattle.reach.proofs.Parents.{all-marked}
 use borrow.Author.Needs.{needs}
 use Rattle.reach.proofs.mark_all.Statement.{statement}
 use Rattle.reach.proofs.mark_all.Tie as tie
@@ -11,11 +12,14 @@ shared-slice-read-first-parent c = omega (arith, sound-words _ (c .before .befor
 shared-slice-read-first-parent-2 : tie.Need-shared-slice-read-first-parent-2
 shared-slice-read-first-parent-2 c = omega (arith, sound-words _ (c .before .before .before .before .before .pre .0))
 
-mark-along-requires-2 : tie.Need-mark-along-requires-2
-mark-along-requires-2 c κs =
-    let m = c .before .before .before in
-    let s = m .before .before .before .before .before .before .before .before in
-    (s .pre .0, m .mark-along .ensures)
+returns : tie.Need-returns
+returns c =
+    let n = c .before .before in
+    let m = n .before .before .before .before in
+    let b = m .before .before in
+    let a = b .before .before in
+    let s = a .before .before .before .before in
+    all-marked _ (s .pre .0) _ _ (a .first-parent .ensures) (b .first-parent2 .ensures) _ _ _ (m .mark-along .ensures) (n .mark-along2 .ensures)
 
 pub mark-all-spec : {M : Type 1} → statement M
 mark-all-spec =
@@ -26,6 +30,6 @@ mark-all-spec =
     shared-slice-read-first-parent-2
     (λ c κs. search needs)
     (λ c κs. search needs)
-    mark-along-requires-2
+    (λ c κs. search needs)
     (λ c. search needs)
-    (λ c. search needs))
+    returns)
