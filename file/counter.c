@@ -1,8 +1,6 @@
 /* The counter in a table's trailer. Readers compare it before and after their looks, and so know how many brackets of stores ran meanwhile. */
 #include "counter.h"
 
-#include <stdbool.h>
-
 /* Only the writer stores to the counter, so that it reads what it stored or what the writer before it left. */
 static bool is_open(const uint64_t *word)
 {

@@ -2,6 +2,7 @@
 #ifndef COUNTER_H
 #define COUNTER_H
 
+#include <stdbool.h>
 #include <stdint.h>
 
 /* The trailer, the line behind the table's words: what its words are. Those not named are 0. */
@@ -35,6 +36,12 @@ enum brackets {
     BRACKET_FLUSH, /* those up to a flush: a batch, or one such change beside a disk; no bracket is open while the disk is waited for */
     BRACKET_STORE  /* each by itself: a repair, in which words do come back. A change with its repair is never carried out as one list */
 };
+
+/* Between these two readings of the counter at most one bracket had stores: one that was open, or one that began. */
+static inline bool counter_at_most_one(uint64_t start, uint64_t end)
+{
+    return end - start <= (start % 2 == 0 ? 2 : 1);
+}
 
 /* The counter while one order list is carried out, by the one writer, which holds the table's lock. */
 struct counter {

@@ -260,12 +260,6 @@ static uint64_t search(struct looks *l, uint64_t collection, uint64_t key, struc
 
 /* ---- the answer of one moment */
 
-/* Between these two readings of the counter at most one bracket had stores: one that was open, or one that began. */
-static bool at_most_one(uint64_t start, uint64_t end)
-{
-    return end - start <= (start % 2 == 0 ? 2 : 1);
-}
-
 /* One round: whether the answer is that of a moment. */
 static bool answers(struct looks *l, uint64_t collection, uint64_t key, struct looks_answer *answer, uint64_t *number)
 {
@@ -280,7 +274,7 @@ static bool answers(struct looks *l, uint64_t collection, uint64_t key, struct l
     if (l->holds)
         return true;
     /* Copies of earlier searches are too many to compare. */
-    return !kept && at_most_one(start, end) && unchanged(l) && at_most_one(start, shared_load(l->counter));
+    return !kept && counter_at_most_one(start, end) && unchanged(l) && counter_at_most_one(start, shared_load(l->counter));
 }
 
 uint64_t looks_search(struct looks *l, uint64_t collection, uint64_t key, struct looks_answer *answer)

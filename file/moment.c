@@ -26,12 +26,6 @@ static bool same(const uint64_t *from, const uint64_t *to, size_t words)
     return i == words;
 }
 
-/* Between these two readings of the counter at most one bracket had stores: one that was open, or one that began. */
-static bool at_most_one(uint64_t start, uint64_t end)
-{
-    return end - start <= (start % 2 == 0 ? 2 : 1);
-}
-
 /* One round: the copy was the table at one moment, if no store was made, or if all words are there still and one bracket at most has stores. */
 static bool copied(const struct catalogue_file *f)
 {
@@ -41,7 +35,7 @@ static bool copied(const struct catalogue_file *f)
     uint64_t end = shared_load(counter);
     if (start % 2 == 0 && end == start)
         return true;
-    return at_most_one(start, end) && same(f->mapped, f->working, f->words) && at_most_one(start, shared_load(counter));
+    return counter_at_most_one(start, end) && same(f->mapped, f->working, f->words) && counter_at_most_one(start, shared_load(counter));
 }
 
 uint64_t whole_table(struct catalogue_file *f)

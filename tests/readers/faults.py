@@ -10,11 +10,11 @@ FILE = HERE.parent.parent / "file"
 
 # What is wrong, in which file, what stands there, what is put there.
 FAULTS = [
-    ("no second pass", "looks.c", "at_most_one(start, end) && unchanged(l) &&", "at_most_one(start, end) &&"),
-    ("no counter, two passes alone", "looks.c", "return end - start <= (start % 2 == 0 ? 2 : 1);", "return end >= start;"),
-    ("one bracket too many after an even counter", "looks.c", "(start % 2 == 0 ? 2 : 1)", "(start % 2 == 0 ? 4 : 1)"),
-    ("one bracket too many after an odd counter", "looks.c", "(start % 2 == 0 ? 2 : 1)", "2"),
-    ("the counter is not read after the second pass", "looks.c", " && at_most_one(start, shared_load(l->counter));", ";"),
+    ("no second pass", "looks.c", "counter_at_most_one(start, end) && unchanged(l) &&", "counter_at_most_one(start, end) &&"),
+    ("no counter, two passes alone", "counter.h", "return end - start <= (start % 2 == 0 ? 2 : 1);", "return end >= start;"),
+    ("one bracket too many after an even counter", "counter.h", "(start % 2 == 0 ? 2 : 1)", "(start % 2 == 0 ? 4 : 1)"),
+    ("one bracket too many after an odd counter", "counter.h", "(start % 2 == 0 ? 2 : 1)", "2"),
+    ("the counter is not read after the second pass", "looks.c", " && counter_at_most_one(start, shared_load(l->counter));", ";"),
     ("an odd counter that stands is taken for an even one", "looks.c", "l->holds = start % 2 == 0 && end == start;", "l->holds = end == start;"),
     ("the end is not looked at", "looks.c", "l->holds = start % 2 == 0 && end == start;", "l->holds = start % 2 == 0;"),
     ("copies are kept though the counter has moved", "looks.c", "bool kept = l->holds && start == l->valid;", "bool kept = l->holds;"),
