@@ -1,7 +1,7 @@
 /*
- * Searches beside a writer that changes the table as fast as it can: beside threads|processes SEARCHES NODES CODES. Two readers search. With
- * threads the writer carries lists out that were planned before, round and round, so that stores run all the time; with processes it plans
- * each, is killed now and then, wherever it is, and another one takes over, as the file library's does.
+ * Searches beside a writer that changes the table as fast as it can: beside threads|processes SEARCHES NODES CODES. Two readers search. The
+ * writer carries lists out that were planned before, round and round, so that stores run all the time. With processes it is killed now and
+ * then, wherever it is, and another one takes over, as the file library's does: it ends what the one before left open, repairs, and plans anew.
  * Both collections hold codes that stay, each with a class that changes, and codes that come and go; others never are. A code that is found
  * must have its own recording, the class one that it has had, and a code that is absent the next code up that there may be.
  * The last line says how often each came. Status 0 if nothing was wrong.
@@ -31,7 +31,7 @@ enum kind { STAYS, MOVES, NEVER, KINDS };
 /* What threads and processes share. */
 struct shared {
     _Alignas(64) uint64_t memory[MOST_WORDS];
-    uint64_t changes, writers, ended, wrong;
+    uint64_t changes, writers, within, ended, wrong; /* within: writers that found a bracket open */
     uint64_t found[KINDS], absent[KINDS];
 };
 
@@ -89,26 +89,11 @@ static bool there(uint64_t collection, uint64_t key)
     return catalogue_search(writer.working, words, collection, key, &a, &b, &c, &d) == 0;
 }
 
-/* Codes beside each other come and go in turn, so that leaves split, empty and come back; the brackets are of either kind. */
-static void write_on(uint64_t *state)
-{
-    uint64_t collection = 1 + random_below(state, COLLECTIONS), from = random_below(state, codes), count = random_below(state, 60);
-    bool adds = random_below(state, 2) == 0;
-    writer.brackets = random_below(state, 2) == 0 ? BRACKET_LIST : BRACKET_FLUSH;
-    for (uint64_t i = from; i < from + count && i < codes; i++) {
-        if (there(collection, key_of(i, MOVES)) != adds)
-            writer_change(&writer, adds ? INSERT : DELETE, collection, key_of(i, MOVES), recording_of(collection, i, MOVES),
-                          class_of(collection, i));
-        else
-            writer_change(&writer, CLASS, collection, key_of(i, STAYS), 0, adds ? 0 : class_of(collection, i));
-        add(&shared->changes);
-    }
-}
-
 /* ---- the same changes again and again: they come round to the same words */
 
 #define MOST_LISTS 4000
 #define MOST_TURNS 50
+#define RUN 15
 
 static struct list lists[MOST_LISTS];
 static size_t listed;
@@ -116,37 +101,52 @@ static size_t listed;
 static void keep(enum change kind, uint64_t collection, uint64_t i, enum kind code, uint64_t access)
 {
     writer_change(&writer, kind, collection, key_of(i, code), recording_of(collection, i, code), access);
+    add(&shared->changes);
     if (listed < MOST_LISTS)
         lists[listed++] = writer_list(&writer, kind);
 }
 
-/* Runs of codes come, and go later; classes of codes between them change to and fro. */
-static void one_turn(void)
+/* Codes of a run come, or go if they are there, and then the other way, so that leaves split, empty and come back; a class changes to and fro. */
+static void there_and_back(uint64_t collection, uint64_t from)
 {
-    listed = 0;
-    for (uint64_t at = 0; at < 2 * codes; at += 15)
-        for (unsigned turn = 0; turn < 4; turn++) {
-            uint64_t from = (at + 7 * (turn / 2)) % codes, c = 1 + (at / 15 + turn / 2) % COLLECTIONS;
-            for (uint64_t i = from; i < from + 15 && i < codes; i++)
-                if (turn % 2 == 0)
-                    keep(INSERT, c, i, MOVES, class_of(c, i));
-                else
-                    keep(DELETE, c, i, MOVES, 0);
-            keep(CLASS, c, from, STAYS, turn % 2 == 0 ? 0 : class_of(c, from));
-        }
+    for (unsigned pass = 0; pass < 2; pass++) {
+        for (uint64_t i = from; i < from + RUN && i < codes; i++)
+            if (there(collection, key_of(i, MOVES)))
+                keep(DELETE, collection, i, MOVES, 0);
+            else
+                keep(INSERT, collection, i, MOVES, class_of(collection, i));
+        keep(CLASS, collection, from, STAYS, pass == 0 ? 0 : class_of(collection, from));
+    }
 }
 
-static void plan_turn(void)
+/* Every run of the table, in both collections. */
+static void whole_turn(uint64_t unused)
+{
+    (void)unused;
+    for (uint64_t at = 0; at < 2 * codes; at += RUN) {
+        there_and_back(1 + at / RUN % COLLECTIONS, at % codes);
+        there_and_back(1 + (at / RUN + 1) % COLLECTIONS, (at + RUN / 2) % codes);
+    }
+}
+
+static void small_turn(uint64_t run)
+{
+    there_and_back(1 + run % COLLECTIONS, run / COLLECTIONS % codes);
+}
+
+/* Makes the changes of a turn until they come round to the same words; then the lists of the last one may be carried out again and again. */
+static bool plan_turn(void (*turn)(uint64_t), uint64_t run)
 {
     static uint64_t before[MOST_WORDS];
-    for (unsigned turn = 0; turn < MOST_TURNS; turn++) {
+    for (unsigned turns = 0; turns < MOST_TURNS; turns++) {
         memcpy(before, writer.working, words * sizeof before[0]);
-        one_turn();
+        while (listed > 0)
+            free(lists[--listed].orders);
+        turn(run);
         if (memcmp(before, writer.working, words * sizeof before[0]) == 0)
-            return;
+            return true;
     }
-    printf("the changes do not come round\n");
-    exit(2);
+    return false;
 }
 
 static bool all_ended(void)
@@ -154,14 +154,30 @@ static bool all_ended(void)
     return __atomic_load_n(&shared->ended, __ATOMIC_ACQUIRE) == READERS;
 }
 
+/* So many rounds of the planned lists; the brackets are of either kind. */
+static void carry_rounds(uint64_t rounds)
+{
+    for (uint64_t i = 0; i < rounds * listed && !all_ended(); i++) {
+        const struct list *list = &lists[i % listed];
+        writer.brackets = i % 3 == 0 ? BRACKET_FLUSH : BRACKET_LIST;
+        writer_carry_list(&writer, list, list->count, 0);
+        add(&shared->changes);
+    }
+}
+
+#define ROUNDS 1000
+
 static void write_until(uint64_t seed)
 {
     uint64_t state = seed;
+    if (*writer_counter(&writer) % 2 == 1)
+        add(&shared->within);
     writer_open(&writer);
     writer_change(&writer, REPAIR, 1, 0, 0, 0);
     add(&shared->writers);
     while (!all_ended())
-        write_on(&state);
+        if (plan_turn(small_turn, random_below(&state, COLLECTIONS * codes)))
+            carry_rounds(ROUNDS);
 }
 
 /* ---- a reader */
@@ -224,24 +240,18 @@ static void *read_in_thread(void *seed)
 
 /* ---- threads, and processes */
 
-static void carry_until(void)
-{
-    add(&shared->writers);
-    for (size_t i = 0; !all_ended(); i = (i + 1) % listed) {
-        writer.brackets = i % 3 == 0 ? BRACKET_FLUSH : BRACKET_LIST;
-        writer_carry_list(&writer, &lists[i], lists[i].count, 0);
-        add(&shared->changes);
-    }
-}
-
 static void by_threads(void)
 {
     pthread_t threads[READERS];
-    plan_turn();
+    if (!plan_turn(whole_turn, 0)) {
+        printf("the changes do not come round\n");
+        exit(2);
+    }
     for (uintptr_t i = 0; i < READERS; i++)
         if (pthread_create(&threads[i], NULL, read_in_thread, (void *)(7 + i)) != 0)
             exit(2);
-    carry_until();
+    add(&shared->writers);
+    carry_rounds(UINT32_MAX);
     for (size_t i = 0; i < READERS; i++)
         pthread_join(threads[i], NULL);
 }
@@ -256,19 +266,35 @@ static pid_t start(void (*work)(uint64_t), uint64_t seed)
     return child;
 }
 
-/* A writer lives for some milliseconds. */
+/* A writer is killed when it has made so many changes, or when nobody reads any more. It does not end with a failure by itself. */
+static void live_for(pid_t child, uint64_t more)
+{
+    const struct timespec moment = {.tv_nsec = 200000};
+    uint64_t goal = __atomic_load_n(&shared->changes, __ATOMIC_RELAXED) + more;
+    int status = 0;
+    pid_t gone = 0;
+    while (gone == 0 && __atomic_load_n(&shared->changes, __ATOMIC_RELAXED) < goal && !all_ended()) {
+        nanosleep(&moment, NULL);
+        gone = waitpid(child, &status, WNOHANG);
+    }
+    if (gone == 0) {
+        kill(child, SIGKILL);
+        waitpid(child, &status, 0);
+    }
+    if (WIFEXITED(status) && WEXITSTATUS(status) != 0)
+        exit(2);
+}
+
+#define MOST_CHANGES 20000
+
 static void by_processes(void)
 {
     pid_t readers[READERS];
+    uint64_t state = 88172645463325252u;
     for (uint64_t i = 0; i < READERS; i++)
         readers[i] = start(read_many, 7 + i);
-    for (uint64_t seed = 1; !all_ended(); seed++) {
-        pid_t child = start(write_until, 7919 * seed);
-        struct timespec life = {.tv_nsec = 3000000 + (long)(seed * 7919 % 4000000)};
-        nanosleep(&life, NULL);
-        kill(child, SIGKILL);
-        waitpid(child, NULL, 0);
-    }
+    for (uint64_t seed = 1; !all_ended(); seed++)
+        live_for(start(write_until, 7919 * seed), 1 + random_below(&state, MOST_CHANGES));
     for (uint64_t i = 0; i < READERS; i++)
         waitpid(readers[i], NULL, 0);
 }
@@ -294,8 +320,9 @@ int main(int count, char **arguments)
     uint64_t all = 0;
     for (unsigned kind = STAYS; kind < KINDS; kind++)
         all += shared->found[kind] + shared->absent[kind];
-    printf("%s: %" PRIu64 " searches beside %" PRIu64 " changes by %" PRIu64 " writers; codes that come and go: %" PRIu64 " found, %" PRIu64
-           " absent; %" PRIu64 " wrong\n",
-           arguments[1], all, shared->changes, shared->writers, shared->found[MOVES], shared->absent[MOVES], shared->wrong);
-    return all == searches / READERS * READERS && shared->wrong == 0 ? 0 : 1;
+    printf("%s: %" PRIu64 " searches beside %" PRIu64 " changes by %" PRIu64 " writers, %" PRIu64 " of them after one that was killed within a bracket; "
+           "codes that come and go: %" PRIu64 " found, %" PRIu64 " absent; %" PRIu64 " wrong\n",
+           arguments[1], all, shared->changes, shared->writers, shared->within, shared->found[MOVES], shared->absent[MOVES], shared->wrong);
+    /* Searches beside a writer that was seldom there show little. */
+    return all == searches / READERS * READERS && shared->wrong == 0 && shared->changes >= searches / 1000 ? 0 : 1;
 }
