@@ -3,6 +3,7 @@
 
 #include <sched.h>
 #include <stdlib.h>
+#include <string.h>
 #include <sys/mman.h>
 
 #include "catalogue.h"
@@ -13,13 +14,17 @@
 #define SLOTS 12
 #define MOST_LEVEL 15
 #define PAGE_BYTES 4096
-#define GROUP 16 /* nodes to a page */
 
 /* Words of a node; slot i's key is word KEYS + 2 * i, its pointer the next one. */
 enum { LEFT, SIBLING, LEVEL, FENCE, KEYS = 8, POINTERS };
 
 /* The level, in the copy, of a node that was not looked at. */
 #define NO_LEVEL UINT64_MAX
+
+/* So many copies are forgotten one by one, more of them at once. A test may take another number. */
+#ifndef LOOKS_FEW
+#define LOOKS_FEW 64
+#endif
 
 /* Rounds: after the first number each gives the processor away, after the second the answer is LOOKS_BUSY. */
 #define PATIENT_ROUNDS 100
@@ -39,8 +44,7 @@ bool looks_begin(struct looks *l, const uint64_t *shared, const uint64_t *counte
     l->words = (uint64_t *)l->mapping + PAGE_BYTES / sizeof *l->words - HEADER_WORDS;
     l->state = calloc(nodes + 1, sizeof *l->state);
     l->seen = calloc(nodes + 1, sizeof *l->seen);
-    l->guarded = calloc(nodes / GROUP + 1, sizeof *l->guarded);
-    return l->state && l->seen && l->guarded;
+    return l->state && l->seen;
 }
 
 void looks_end(struct looks *l)
@@ -49,7 +53,6 @@ void looks_end(struct looks *l)
         munmap(l->mapping, l->size);
     free(l->state);
     free(l->seen);
-    free(l->guarded);
 }
 
 /* ---- the copy */
@@ -84,24 +87,23 @@ static bool same(const struct looks *l, size_t from, size_t count)
     return true;
 }
 
-/* No search passes node n before it is looked at: the copy's pages begin as zeros, which are a leaf. */
+/* No search passes node n before it is looked at: its words in the copy are zeros, which are a leaf, or those of a copy that was forgotten. */
 static void guard(struct looks *l, uint64_t n)
 {
-    if (!has(l, n) || l->guarded[(n - 1) / GROUP])
+    if (!has(l, n) || l->state[n] != LOOKS_UNGUARDED)
         return;
-    uint64_t first = (n - 1) / GROUP * GROUP + 1;
-    for (uint64_t i = first; i < first + GROUP && i <= l->nodes; i++)
-        copy_of(l, i)[LEVEL] = NO_LEVEL;
-    l->guarded[(n - 1) / GROUP] = 1;
+    copy_of(l, n)[LEVEL] = NO_LEVEL;
+    l->state[n] = LOOKS_UNSEEN;
 }
 
-/* The nodes that a search may take for leaves when it comes from node n. From higher levels it passes no leaf, so no zeros either. */
+/* The nodes that a search may pass when it comes from node n. If all others are zeros it passes them from a leaf and from level 1 alone. */
 static void guard_named(struct looks *l, uint64_t n)
 {
     const uint64_t *words = copy_of(l, n);
-    if (words[LEVEL] == 0)
+    bool leaf = words[LEVEL] == 0;
+    if (leaf || l->forgot)
         guard(l, words[SIBLING]);
-    if (words[LEVEL] != 1)
+    if (leaf || (words[LEVEL] > 1 && !l->forgot))
         return;
     guard(l, words[LEFT]);
     for (unsigned i = 0; i < SLOTS; i++)
@@ -111,7 +113,7 @@ static void guard_named(struct looks *l, uint64_t n)
 /* A node is recorded once, whatever its words are. */
 static void record(struct looks *l, uint64_t n, uint8_t state)
 {
-    if (l->state[n] == LOOKS_UNSEEN)
+    if (l->state[n] < LOOKS_FENCE)
         l->seen[l->looked++] = (uint32_t)n;
     l->state[n] = state;
 }
@@ -122,7 +124,6 @@ static bool look(struct looks *l, uint64_t n)
     if (!has(l, n))
         return false;
     if (l->state[n] != LOOKS_WHOLE) {
-        guard(l, n);
         load(l, start_of(n), NODE_WORDS);
         record(l, n, LOOKS_WHOLE);
         guard_named(l, n);
@@ -135,9 +136,8 @@ static bool look_at_fence(struct looks *l, uint64_t n)
 {
     if (!has(l, n))
         return false;
-    if (l->state[n] == LOOKS_UNSEEN) {
+    if (l->state[n] < LOOKS_FENCE) {
         uint64_t *words = copy_of(l, n);
-        guard(l, n);
         load(l, start_of(n) + LEVEL, FENCE + 1 - LEVEL);
         words[LEFT] = 0;
         words[SIBLING] = CATALOGUE_MARK;
@@ -147,14 +147,25 @@ static bool look_at_fence(struct looks *l, uint64_t n)
     return true;
 }
 
+/* Many copies stay as they are, unguarded: a byte a node is cleared, and a node costs something when a search comes near it again. */
+static void forget(struct looks *l)
+{
+    if (l->looked > LOOKS_FEW) {
+        memset(l->state, LOOKS_UNGUARDED, l->nodes + 1);
+        l->looked = 0;
+        l->forgot = true;
+    }
+    while (l->looked > 0) {
+        uint64_t n = l->seen[--l->looked];
+        l->state[n] = LOOKS_UNGUARDED;
+        guard(l, n);
+    }
+}
+
 /* All copies are forgotten, and the header is looked at. */
 static void begin_anew(struct looks *l)
 {
-    while (l->looked > 0) {
-        uint64_t n = l->seen[--l->looked];
-        copy_of(l, n)[LEVEL] = NO_LEVEL;
-        l->state[n] = LOOKS_UNSEEN;
-    }
+    forget(l);
     l->holds = false;
     load(l, 0, l->count < HEADER_WORDS ? l->count : HEADER_WORDS);
     if (l->count >= HEADER_WORDS) {

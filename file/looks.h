@@ -6,8 +6,8 @@
 #include <stddef.h>
 #include <stdint.h>
 
-/* What a copy has of a node: nothing, what a search reads of a sibling that it does not move to, everything. */
-enum { LOOKS_UNSEEN, LOOKS_FENCE, LOOKS_WHOLE };
+/* What a copy has of a node: any words; a level that no search passes; what a search reads of a sibling that it does not move to; everything. */
+enum { LOOKS_UNGUARDED, LOOKS_UNSEEN, LOOKS_FENCE, LOOKS_WHOLE };
 
 /*
  * The library's search wants words that keep still. So the header and the nodes that a search passes are copied, and the library searches the
@@ -29,7 +29,7 @@ struct looks {
     uint8_t *state;   /* by node number: LOOKS_WHOLE and so on */
     uint32_t *seen;   /* the nodes that it has something of, each once */
     size_t looked;    /* how many */
-    uint8_t *guarded; /* by group of nodes: those not copied have a level in the copy that no search passes */
+    bool forgot;      /* unguarded nodes may have words that were forgotten; else they are zeros */
     uint64_t valid;   /* the even counter that all copies hold for, if .. */
     bool holds;
 };

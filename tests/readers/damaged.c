@@ -1,7 +1,7 @@
 /*
  * Searches of any words: damaged SEED TABLES. On words that keep still each answer is the library's own search of them: tables with words
- * changed, rings of leaves, any words, any count of words. On words that change at random at any load a search ends and reads inside of its words:
- * guard words lie around them, and the sanitizers watch the rest.
+ * changed, rings of leaves, any words, any count of words; also if words changed since the reader's last search, in a bracket. On words that change
+ * at random at any load a search ends and reads inside of its words: guard words lie around them, and the sanitizers watch the rest.
  */
 #include <inttypes.h>
 #include <stdio.h>
@@ -84,8 +84,6 @@ static void damage(void)
         size_t n = random_below((writer.words - HEADER_WORDS) / NODE_WORDS), w = random_below(3) == 0 ? random_below(4) : random_below(NODE_WORDS);
         memory[HEADER_WORDS + NODE_WORDS * n + w] = any_word();
     }
-    if (random_below(10) == 0)
-        memory[random_below(HEADER_WORDS)] = any_word();
 }
 
 /* All leaves are empty, in a chain that may be a ring. */
@@ -102,7 +100,45 @@ static void empty_leaves(void)
         memory[HEADER_WORDS + NODE_WORDS * n + 3] = random_below(4) == 0 ? 0 : UINT64_MAX;
 }
 
+/* ---- searches */
+
 static uint64_t compared[4]; /* found, absent, lost, other */
+
+static const uint64_t *copy_of(const struct looks *l, uint64_t n)
+{
+    return l->words + HEADER_WORDS + NODE_WORDS * (n - 1);
+}
+
+static bool looked_at(const struct looks *l, uint64_t n)
+{
+    size_t i = 0;
+    while (i < l->looked && l->seen[i] != n)
+        i++;
+    return i < l->looked;
+}
+
+/* A search that stands on node n does not pass the node that it names, on that level, unless it was looked at. */
+static void check_named(const struct looks *l, uint64_t n, uint64_t named, uint64_t level)
+{
+    if (named < 1 || named > l->nodes || looked_at(l, named) || copy_of(l, named)[2] != level)
+        return;
+    printf("node %" PRIu64 ", which node %" PRIu64 " names, was not looked at, and is of level %" PRIu64 "\n", named, n, level);
+    exit(1);
+}
+
+static void check_copy(const struct looks *l)
+{
+    for (size_t i = 0; i < l->looked; i++) {
+        uint64_t n = l->seen[i];
+        const uint64_t *words = copy_of(l, n);
+        /* No search passes a higher level than 15. */
+        if (l->state[n] != LOOKS_WHOLE || words[2] > 15)
+            continue;
+        check_named(l, n, words[1], words[2]);
+        for (unsigned w = 7; words[2] > 0 && w < NODE_WORDS; w += 2)
+            check_named(l, n, words[w == 7 ? 0 : w], words[2] - 1);
+    }
+}
 
 static void compare(struct looks *l, uint64_t collection, uint64_t key)
 {
@@ -114,10 +150,17 @@ static void compare(struct looks *l, uint64_t collection, uint64_t key)
                number, wanted);
         exit(1);
     }
+    check_copy(l);
     compared[number == 0 ? 0 : number == CATALOGUE_ABSENT ? 1 : number == CATALOGUE_SEARCH_LOST ? 2 : 3]++;
 }
 
-/* Many searches by one reader, so that copies are kept; then some while words change, which must end. */
+static void compare_some(struct looks *l, unsigned searches)
+{
+    for (unsigned i = 0; i < searches; i++)
+        compare(l, random_below(9) == 0 ? random_below(4) : 1 + random_below(2), random_below(3) == 0 ? any_word() : 10 * random_below(200) + random_below(2));
+}
+
+/* Many searches by one reader, so that copies are kept, and forgotten when words change; then some while words change, which must end. */
 static void search(size_t count)
 {
     struct looks l;
@@ -125,8 +168,12 @@ static void search(size_t count)
     last_word = writer.words + TRAILER_COUNTER;
     if (!looks_begin(&l, memory, writer_counter(&writer), count))
         exit(2);
-    for (unsigned i = 0; i < 30; i++)
-        compare(&l, random_below(9) == 0 ? random_below(4) : 1 + random_below(2), random_below(3) == 0 ? any_word() : 10 * random_below(200) + random_below(2));
+    compare_some(&l, 30);
+    for (unsigned i = 0; i < 8; i++) {
+        damage();
+        *writer_counter(&writer) += 2;
+        compare_some(&l, 1 + (unsigned)random_below(12));
+    }
     changing = true;
     for (unsigned i = 0; i < 3; i++)
         looks_search(&l, 1 + random_below(2), 10 * random_below(200), &a);
@@ -148,6 +195,8 @@ int main(int count, char **arguments)
         if (i % 50 == 7)
             for (size_t w = 0; w < writer.words; w++)
                 memory[w] = any_word();
+        if (i % 10 == 9)
+            memory[random_below(HEADER_WORDS)] = any_word();
         search(i % 40 == 11 ? random_below(writer.words) : writer.words);
     }
     printf("seed %" PRIu64 ": %" PRIu64 " damaged tables: %" PRIu64 " found, %" PRIu64 " absent, %" PRIu64 " lost, %" PRIu64 " refused otherwise\n", seed,

@@ -1,4 +1,5 @@
-"""Faults planted in a copy of the reader or of the counter: each must be noticed by the scenes. faults.py COMMAND, which builds {}/placing of {}."""
+"""Faults planted in a copy of the reader or of the counter: each must be noticed. faults.py COMMAND, which builds {folder}/tried of the sources in
+{folder} and the objects of {parts}, for a reader that forgets more than {few} copies at once."""
 import concurrent.futures
 import pathlib
 import subprocess
@@ -8,7 +9,12 @@ import tempfile
 HERE = pathlib.Path(__file__).resolve().parent
 FILE = HERE.parent.parent / "file"
 
-# What is wrong, in which file, what stands there, what is put there.
+# What notices a fault: how many copies are few to its reader, its parts, its words.
+PLACING = (64, "placing scenes writer", [])
+AT_ONCE = (0, "placing scenes writer", [])
+DAMAGED = (5, "damaged writer", ["1", "1000"])
+
+# What is wrong, in which file, what stands there, what is put there, and what notices it if not the placings.
 FAULTS = [
     ("no second pass", "looks.c", "counter_at_most_one(start, end) && unchanged(l) &&", "counter_at_most_one(start, end) &&"),
     ("no counter, two passes alone", "counter.h", "return end - start <= (start % 2 == 0 ? 2 : 1);", "return end >= start;"),
@@ -20,8 +26,11 @@ FAULTS = [
     ("copies are kept though the counter has moved", "looks.c", "bool kept = l->holds && start == l->valid;", "bool kept = l->holds;"),
     ("copies are used though the counter has moved", "looks.c", "if (l->holds && shared_load(l->counter) == l->valid) {", "if (l->holds) {"),
     ("a search passes a sibling of which it has the fence alone", "looks.c", "        words[SIBLING] = CATALOGUE_MARK;\n", ""),
-    ("leaves that were not looked at are passed", "looks.c", "copy_of(l, i)[LEVEL] = NO_LEVEL;", "copy_of(l, i)[LEVEL] = 0;"),
+    ("leaves that were not looked at are passed", "looks.c", "copy_of(l, n)[LEVEL] = NO_LEVEL;", "copy_of(l, n)[LEVEL] = 0;"),
     ("the second pass leaves the header out", "looks.c", "bool still = same(l, 0, l->count < HEADER_WORDS ? l->count : HEADER_WORDS);", "bool still = true;"),
+    ("many copies are not forgotten", "looks.c", "        memset(l->state, LOOKS_UNGUARDED, l->nodes + 1);\n", "", AT_ONCE),
+    ("copies that were forgotten at once are taken for zeros", "looks.c", "        l->forgot = true;\n", "", DAMAGED),
+    ("copies that were forgotten one by one are passed", "looks.c", "        guard(l, n);\n    }\n}", "    }\n}", DAMAGED),
     ("the counter is not raised", "counter.c", "    if (!is_open(c->word))\n        open_bracket(c->word);\n", ""),
     ("a repair in one bracket", "counter.c", "    if (c->brackets == BRACKET_STORE)\n        counter_close(c->word);\n", ""),
     ("a batch in one bracket", "counter.c", "    if (c->brackets == BRACKET_FLUSH)\n        counter_close(c->word);\n", "    (void)c;\n"),
@@ -30,7 +39,7 @@ FAULTS = [
 
 
 def planted(fault, folder):
-    name, place, old, new = fault
+    name, place, old, new = fault[:4]
     for source in FILE.glob("*.[ch]"):
         text = source.read_text()
         if source.name == place:
@@ -41,12 +50,14 @@ def planted(fault, folder):
 
 
 def tried(fault, command):
-    """What the scenes say of it; nothing if they notice nothing."""
+    """What is said of it; nothing if it is not noticed."""
+    few, parts, words = fault[4] if len(fault) > 4 else PLACING
     with tempfile.TemporaryDirectory() as folder:
-        folder = pathlib.Path(folder)
-        planted(fault, folder)
-        subprocess.run(["bash", "-c", command.replace("{}", str(folder))], check=True)
-        ran = subprocess.run([folder / "placing"], capture_output=True, text=True)
+        planted(fault, pathlib.Path(folder))
+        for place, value in (("{folder}", folder), ("{few}", str(few)), ("{parts}", "{" + parts.replace(" ", ",") + "}")):
+            command = command.replace(place, value)
+        subprocess.run(["bash", "-c", command], check=True)
+        ran = subprocess.run([pathlib.Path(folder) / "tried", *words], capture_output=True, text=True)
     return ran.stdout.strip() if ran.returncode == 1 else ""
 
 
