@@ -46,44 +46,44 @@ uint64_t change_orders(const struct change *c)
     return c->stores + c->flushes + c->barriers;
 }
 
-void place_print(uint64_t word)
+void place_print(FILE *out, uint64_t word)
 {
     static const char *const node_words[] = {"left", "sibling", "level", "fence"};
     if (word < HEADER_WORDS) {
-        printf(word == FIRST_ROOT ? "the root's number" : word == SECOND_ROOT ? "the root's number of collection 2" : "header");
+        fprintf(out, word == FIRST_ROOT ? "the root's number" : word == SECOND_ROOT ? "the root's number of collection 2" : "header");
         return;
     }
     uint64_t within = (word - HEADER_WORDS) % NODE_WORDS;
-    printf("node %" PRIu64 ", ", (word - HEADER_WORDS) / NODE_WORDS + 1);
+    fprintf(out, "node %" PRIu64 ", ", (word - HEADER_WORDS) / NODE_WORDS + 1);
     if (within < 4)
-        printf("%s", node_words[within]);
+        fprintf(out, "%s", node_words[within]);
     else if (within < 8)
-        printf("word %" PRIu64, within);
+        fprintf(out, "word %" PRIu64, within);
     else
-        printf("%s %" PRIu64, within % 2 == 0 ? "key" : "pointer", (within - 8) / 2);
+        fprintf(out, "%s %" PRIu64, within % 2 == 0 ? "key" : "pointer", (within - 8) / 2);
 }
 
-void line_print(uint64_t line)
+void line_print(FILE *out, uint64_t line)
 {
     if (line == 0) {
-        printf("header");
+        fprintf(out, "header");
         return;
     }
     uint64_t part = (line - 1) % (NODE_WORDS / LINE_WORDS);
-    printf("node %" PRIu64 ", ", (line - 1) / (NODE_WORDS / LINE_WORDS) + 1);
+    fprintf(out, "node %" PRIu64 ", ", (line - 1) / (NODE_WORDS / LINE_WORDS) + 1);
     if (part == 0)
-        printf("left to fence");
+        fprintf(out, "left to fence");
     else
-        printf("slots %" PRIu64 " to %" PRIu64, 4 * part - 4, 4 * part - 1);
+        fprintf(out, "slots %" PRIu64 " to %" PRIu64, 4 * part - 4, 4 * part - 1);
 }
 
-int order_print(const uint64_t order[2])
+int order_print(FILE *out, const uint64_t order[2])
 {
     if (order[0] == CATALOGUE_MARK)
-        return printf("flush %" PRIu64, order[1]);
+        return fprintf(out, "flush %" PRIu64, order[1]);
     if (order[0] == CATALOGUE_BARRIER)
-        return printf("barrier");
-    return printf("store %" PRIu64 " %" PRIu64, order[0], order[1]);
+        return fprintf(out, "barrier");
+    return fprintf(out, "store %" PRIu64 " %" PRIu64, order[0], order[1]);
 }
 
 bool order_stores(const uint64_t order[2])
@@ -96,10 +96,10 @@ void orders_print(const uint64_t *orders, uint64_t count)
     for (uint64_t i = 0; i < count; i++) {
         const uint64_t *order = orders + 2 * i;
         printf("%4" PRIu64 "  ", i + 1);
-        int length = order_print(order);
+        int length = order_print(stdout, order);
         if (order_stores(order)) {
             printf("%*s", length < 34 ? 34 - length : 2, "");
-            place_print(order[0]);
+            place_print(stdout, order[0]);
         }
         printf("\n");
     }

@@ -4,6 +4,7 @@
 
 #include <stdbool.h>
 #include <stdint.h>
+#include <stdio.h>
 
 #include "catalogue_file.h"
 #include "table.h"
@@ -33,13 +34,13 @@ uint64_t change_plan(struct change *c, const struct table *t);
 uint64_t change_orders(const struct change *c);
 
 /* Which word of which node a store goes to: "node 1, pointer 0". */
-void place_print(uint64_t word);
+void place_print(FILE *out, uint64_t word);
 
 /* Which part of which node a line is: "node 1, slots 0 to 3". */
-void line_print(uint64_t line);
+void line_print(FILE *out, uint64_t line);
 
 /* "store 17 7", "flush 2" or "barrier"; its length. */
-int order_print(const uint64_t order[2]);
+int order_print(FILE *out, const uint64_t order[2]);
 
 /* Neither a flush nor a barrier. */
 bool order_stores(const uint64_t order[2]);

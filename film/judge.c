@@ -1,4 +1,4 @@
-/* Judging an order list that was not made here. The library judges; what is told of a no is found out here, on an image of a cut. */
+/* Judging an order list that was not made here. The library judges; what is said of a no is found out here, on an image of a cut. */
 #include "judge.h"
 
 #include <inttypes.h>
@@ -15,7 +15,9 @@
 struct judging {
     const struct table *table;
     const struct change *change;
-    struct order_list list;
+    const uint64_t *orders;
+    size_t total;    /* orders */
+    FILE *out;
     uint64_t count;  /* the first that fails */
     uint64_t *image; /* the table with so many orders carried out */
     uint64_t *pairs; /* room for a listing */
@@ -29,7 +31,7 @@ static int unflushed(const struct judging *j, uint64_t lines[2])
 {
     int held = 0;
     for (uint64_t i = 0; i < j->count; i++) {
-        const uint64_t *order = j->list.words + 2 * i;
+        const uint64_t *order = j->orders + 2 * i;
         uint64_t line = order_stores(order) ? order[0] / LINE_WORDS : order[1];
         if (order[0] == CATALOGUE_BARRIER)
             continue;
@@ -50,11 +52,11 @@ static void lose_line(struct judging *j, uint64_t line)
 {
     uint64_t flushed = 0;
     for (uint64_t i = 0; i < j->count; i++)
-        if (j->list.words[2 * i] == CATALOGUE_MARK && j->list.words[2 * i + 1] == line)
+        if (j->orders[2 * i] == CATALOGUE_MARK && j->orders[2 * i + 1] == line)
             flushed = i;
     memcpy(j->image + LINE_WORDS * line, j->table->base + LINE_WORDS * line, LINE_WORDS * sizeof *j->image);
     for (uint64_t i = 0; i < flushed; i++) {
-        const uint64_t *order = j->list.words + 2 * i;
+        const uint64_t *order = j->orders + 2 * i;
         if (order_stores(order) && order[0] / LINE_WORDS == line)
             j->image[order[0]] = order[1];
     }
@@ -85,16 +87,16 @@ static bool fair(const struct judging *j, uint64_t collection, uint64_t key, uin
            || (collection == j->table->collection && key == j->change->key && pointer == wanted(j->change));
 }
 
-static void say_code(uint64_t key, uint64_t pointer, bool lost)
+static void say_code(const struct judging *j, uint64_t key, uint64_t pointer, bool lost)
 {
     char code[KEY_TEXT], text[POINTER_TEXT];
-    printf("a cut there may leave ");
+    fprintf(j->out, "a cut there may leave ");
     if (lost)
-        printf("no way to %s", key_text(key, code));
+        fprintf(j->out, "no way to %s", key_text(key, code));
     else if (pointer == 0)
-        printf("%s absent", key_text(key, code));
+        fprintf(j->out, "%s absent", key_text(key, code));
     else
-        printf("%s with %s", key_text(key, code), pointer_text(CATALOGUE_RECORDING(pointer), CATALOGUE_CLASS(pointer), text));
+        fprintf(j->out, "%s with %s", key_text(key, code), pointer_text(CATALOGUE_RECORDING(pointer), CATALOGUE_CLASS(pointer), text));
 }
 
 /* The codes of a collection in these words that the image answers otherwise than it may; the first is told. */
@@ -107,7 +109,7 @@ static uint64_t compare(struct judging *j, const uint64_t *words, uint64_t colle
         bool lost;
         uint64_t key = j->pairs[2 * i], pointer = look(j, j->image, collection, key, &lost);
         if ((lost || !fair(j, collection, key, pointer)) && told++ == 0)
-            say_code(key, pointer, lost);
+            say_code(j, key, pointer, lost);
     }
     return told;
 }
@@ -122,15 +124,15 @@ static bool say_image(struct judging *j)
     for (uint64_t n = 1; n <= MOST_COLLECTIONS && told == 0; n++)
         told = compare(j, j->image, n, told);
     if (told > 1)
-        printf(", and %" PRIu64 " code%s more not as before", told - 1, told == 2 ? "" : "s");
+        fprintf(j->out, ", and %" PRIu64 " code%s more not as before", told - 1, told == 2 ? "" : "s");
     if (told > 0)
-        printf("\n");
+        fprintf(j->out, "\n");
     number = catalogue_list(j->image, j->table->words, 1, 0, 0, j->pairs, 0, &count, &more);
     if (number != 0)
-        printf("a cut there may leave a table that is not sound: every change of it is refused with %" PRIu64 "\n", number);
+        fprintf(j->out, "a cut there may leave a table that is not sound: every change of it is refused with %" PRIu64 "\n", number);
     bool collections = (j->image[SECOND_ROOT] == 0) != (j->table->base[SECOND_ROOT] == 0);
     if (collections && number == 0 && told == 0)
-        printf("a cut there may leave another number of collections\n");
+        fprintf(j->out, "a cut there may leave another number of collections\n");
     return told > 0 || number != 0 || collections;
 }
 
@@ -144,43 +146,43 @@ static void say_incomplete(struct judging *j, bool held, uint64_t line)
     struct table after = *j->table;
     struct change repair = {.kind = REPAIR};
     if (held) {
-        printf("all orders leave a store unflushed: line %" PRIu64 ", ", line);
-        line_print(line);
-        printf("\n");
+        fprintf(j->out, "all orders leave a store unflushed: line %" PRIu64 ", ", line);
+        line_print(j->out, line);
+        fprintf(j->out, "\n");
     }
     if (look(j, j->image, j->table->collection, j->change->key, &lost) != wanted(j->change))
-        printf("all orders leave %s as it was\n", key_text(j->change->key, code));
+        fprintf(j->out, "all orders leave %s as it was\n", key_text(j->change->key, code));
     after.working = j->image;
     if (change_plan(&repair, &after) == 0 && repair.stores > 0)
-        printf("all orders leave a table that is not settled\n");
+        fprintf(j->out, "all orders leave a table that is not settled\n");
 }
 
 /* The order that the images went wrong with. */
-static void say_order(const uint64_t order[2])
+static void say_order(const struct judging *j, const uint64_t order[2])
 {
-    printf(", the last of them ");
-    order_print(order);
+    fprintf(j->out, ", the last of them ");
+    order_print(j->out, order);
     if (!order_stores(order))
         return;
-    printf(" (");
-    place_print(order[0]);
-    printf(")");
+    fprintf(j->out, " (");
+    place_print(j->out, order[0]);
+    fprintf(j->out, ")");
 }
 
 static void say_no(struct judging *j)
 {
     uint64_t lines[2];
     int held = unflushed(j, lines);
-    printf("no: after %" PRIu64 " of %zu orders", j->count, j->list.count);
+    fprintf(j->out, "no: after %" PRIu64 " of %zu orders", j->count, j->total);
     if (j->count > 0)
-        say_order(j->list.words + 2 * (j->count - 1));
-    printf("\n");
+        say_order(j, j->orders + 2 * (j->count - 1));
+    fprintf(j->out, "\n");
     if (held == 2) {
-        printf("two lines hold unflushed stores, %" PRIu64 " (", lines[0]);
-        line_print(lines[0]);
-        printf(") and %" PRIu64 " (", lines[1]);
-        line_print(lines[1]);
-        printf(")\n");
+        fprintf(j->out, "two lines hold unflushed stores, %" PRIu64 " (", lines[0]);
+        line_print(j->out, lines[0]);
+        fprintf(j->out, ") and %" PRIu64 " (", lines[1]);
+        line_print(j->out, lines[1]);
+        fprintf(j->out, ")\n");
         lose_line(j, lines[0]);
     }
     if (!say_image(j) && held < 2)
@@ -198,7 +200,7 @@ static bool lies_inside(const struct table *t, const uint64_t order[2])
 static int say_outside(const struct judging *j, int status)
 {
     uint64_t i = 0;
-    while (i + 1 < j->list.count && lies_inside(j->table, j->list.words + 2 * i))
+    while (i + 1 < j->total && lies_inside(j->table, j->orders + 2 * i))
         i++;
     return fail(status, "order %" PRIu64 " lies outside of %s", i + 1, j->table->name);
 }
@@ -216,38 +218,44 @@ static int say_refused(struct judging *j, uint64_t number)
                 explain(why, j->table, j->change->key, j->change->recording, text));
 }
 
+uint64_t judge_count(const struct table *t, const struct change *c, const uint64_t *orders, size_t total, uint64_t *image, uint64_t *count)
+{
+    if (c->kind == ADD)
+        return catalogue_judge_insert(t->base, t->words, orders, 2 * total, image, t->words, t->collection, c->key, c->recording, c->access, count);
+    return catalogue_judge_delete(t->base, t->words, orders, 2 * total, image, t->words, t->collection, c->key, count);
+}
+
 static int judge(struct judging *j)
 {
-    const struct table *t = j->table;
-    const struct change *c = j->change;
-    uint64_t number = c->kind == ADD
-        ? catalogue_judge_insert(t->base, t->words, j->list.words, 2 * j->list.count, j->image, t->words, t->collection, c->key,
-                                 c->recording, c->access, &j->count)
-        : catalogue_judge_delete(t->base, t->words, j->list.words, 2 * j->list.count, j->image, t->words, t->collection, c->key,
-                                 &j->count);
+    uint64_t number = judge_count(j->table, j->change, j->orders, j->total, j->image, &j->count);
     if (number != 0 && number != CATALOGUE_NO)
         return say_refused(j, number);
     if (number == CATALOGUE_NO)
         say_no(j);
     else
-        printf("yes: a cut after any of its %zu orders leaves the codes as before or as after\n", j->list.count);
+        fprintf(j->out, "yes: a cut after any of its %zu orders leaves the codes as before or as after\n", j->total);
     return (int)number;
+}
+
+int judge_orders(const struct table *t, const struct change *c, const uint64_t *orders, size_t total, FILE *out)
+{
+    struct judging j = {.table = t, .change = c, .orders = orders, .total = total, .out = out, .room = 2 * 11 * (t->words / NODE_WORDS)};
+    j.image = calloc(t->words, sizeof *j.image);
+    j.pairs = calloc(j.room, sizeof *j.pairs);
+    int status = j.image && j.pairs ? judge(&j) : fail(BAD_FILE, "not enough memory to judge orders for %s", t->name);
+    free(j.image);
+    free(j.pairs);
+    return status;
 }
 
 int judge_list(const struct table *t, const char *name, const struct change *c)
 {
-    struct judging j = {.table = t, .change = c, .room = 2 * 11 * (t->words / NODE_WORDS)};
-    int status = order_list_read(&j.list, name);
-    if (status == 0 && j.list.changes > 1)
-        status = fail(BAD_LINE, "%s has the lists of %zu changes; one is judged at a time", name, j.list.changes);
-    j.image = calloc(t->words, sizeof *j.image);
-    j.pairs = calloc(j.room, sizeof *j.pairs);
-    if (status == 0 && (!j.image || !j.pairs))
-        status = fail(BAD_FILE, "not enough memory to judge orders for %s", t->name);
+    struct order_list l;
+    int status = order_list_read(&l, name);
+    if (status == 0 && l.changes > 1)
+        status = fail(BAD_LINE, "%s has the lists of %zu changes; one is judged at a time", name, l.changes);
     if (status == 0)
-        status = judge(&j);
-    order_list_free(&j.list);
-    free(j.image);
-    free(j.pairs);
+        status = judge_orders(t, c, l.words, l.count, stdout);
+    order_list_free(&l);
     return status;
 }

@@ -2,6 +2,10 @@
 #ifndef JUDGE_H
 #define JUDGE_H
 
+#include <stddef.h>
+#include <stdint.h>
+#include <stdio.h>
+
 #include "change.h"
 #include "table.h"
 
@@ -10,5 +14,11 @@
  * yes, or no with the first order that fails, its place, and what a cut there leaves. 0, 254 for no, or an exit status after saying why.
  */
 int judge_list(const struct table *t, const char *name, const struct change *c);
+
+/* The same of orders in memory. */
+int judge_orders(const struct table *t, const struct change *c, const uint64_t *orders, size_t total, FILE *out);
+
+/* The library's answer alone: 0 for yes, 254 with the first count that fails, or a refusal. The image is a lent table of as many words. */
+uint64_t judge_count(const struct table *t, const struct change *c, const uint64_t *orders, size_t total, uint64_t *image, uint64_t *count);
 
 #endif

@@ -1,4 +1,4 @@
-/* An order list as text, in the order printer's form or as `catalogue orders` prints it. */
+/* An order list as text: in words, in the order printer's form, or as `catalogue orders` prints it. */
 #include "orderlist.h"
 
 #include <errno.h>
@@ -8,86 +8,51 @@
 #include <stdlib.h>
 #include <string.h>
 
-#include "catalogue.h"
+#include "orderwords.h"
 #include "rows.h"
 #include "text.h"
 
-struct word {
-    const char *from;
-    size_t length;
-};
-
-static bool blank(char c)
-{
-    return c == ' ' || c == '\t';
-}
-
-/* The next word of a line; of length 0 at its end. */
-static struct word next_word(const char **at, const char *end)
-{
-    while (*at < end && blank(**at))
-        ++*at;
-    struct word w = {*at, 0};
-    while (*at < end && !blank(**at))
-        ++*at;
-    w.length = (size_t)(*at - w.from);
-    return w;
-}
-
-static bool is(struct word w, const char *name)
-{
-    return w.length == strlen(name) && memcmp(w.from, name, w.length) == 0;
-}
-
-static bool next_number(const char **at, const char *end, uint64_t *number)
-{
-    struct word w = next_word(at, end);
-    return read_number(w.from, w.length, number);
-}
-
 enum line { ORDER, PASSED, ENDING, WRONG };
 
-/* In a list a store to word MARK would be a flush, and one of 0 to the word before it a barrier: another that no table has a word for. */
-static void outside(uint64_t order[2])
+/* Lines that end a list: done, refused and not made. */
+static bool ends(const char *text, size_t length)
 {
-    if (order[0] == CATALOGUE_MARK || (order[0] == CATALOGUE_BARRIER && order[1] == 0)) {
-        order[0] = CATALOGUE_BARRIER;
-        order[1] = 1;
+    static const char *const words[] = {"done", "refused", "not"};
+    while (length > 0 && (*text == ' ' || *text == '\t'))
+        text++, length--;
+    for (size_t i = 0; i < sizeof words / sizeof words[0]; i++) {
+        size_t own = strlen(words[i]);
+        if (length >= own && memcmp(text, words[i], own) == 0 && (length == own || text[own] == ' ' || text[own] == '\t'))
+            return true;
     }
+    return false;
 }
 
-static bool read_order(struct word name, const char **at, const char *end, uint64_t order[2])
+static enum line read_line(const struct rows *r, uint64_t order[2], struct complaint *c)
 {
-    if (is(name, "barrier")) {
-        order[0] = CATALOGUE_BARRIER;
-        order[1] = 0;
-        return true;
-    }
-    if (is(name, "store")) {
-        bool whole = next_number(at, end, &order[0]) && next_number(at, end, &order[1]);
-        if (whole)
-            outside(order);
-        return whole;
-    }
-    order[0] = CATALOGUE_MARK;
-    return is(name, "flush") && next_number(at, end, &order[1]);
-}
-
-static enum line read_line(const struct rows *r, uint64_t order[2])
-{
-    const char *at = r->text, *end = r->text + r->length;
-    uint64_t number;
-    struct word w = next_word(&at, end);
-    if (w.length == 0 || w.from[0] == '#')
+    if (order_is_remark(r->text, r->length))
         return PASSED;
-    if (read_number(w.from, w.length, &number))
-        w = next_word(&at, end);
-    if (is(w, "done") || is(w, "refused") || is(w, "not"))
+    if (ends(r->text, r->length))
         return ENDING;
-    if (r->too_long || !read_order(w, &at, end, order))
-        return WRONG;
-    /* A number too many is no remark. */
-    return next_number(&at, end, &number) ? WRONG : ORDER;
+    *c = (struct complaint){r->text, 0, "a line has at most 255 letters"};
+    return !r->too_long && order_read(r->text, r->length, order, c) ? ORDER : WRONG;
+}
+
+/* The line, the word in it that is wrong, and what could stand there. */
+static int say_wrong(const struct rows *r, const struct complaint *c)
+{
+    char text[ROW_TEXT], word[ROW_TEXT];
+    rows_text(r, text);
+    size_t length = c->length < sizeof word - 1 ? c->length : sizeof word - 1;
+    memcpy(word, c->from, length);
+    word[length] = '\0';
+    for (size_t i = 0; i < length; i++)
+        if ((unsigned char)word[i] < ' ' || word[i] == 127)
+            word[i] = '?';
+    if (r->too_long || length == 0)
+        return fail(BAD_LINE, "%s, line %" PRIu64 ", \"%s\": %s%s", r->name, r->number, text,
+                    r->too_long ? "it is too long; " : "it ends too soon; wanted: ", c->wanted);
+    return fail(BAD_LINE, "%s, line %" PRIu64 ", \"%s\": \"%s\" cannot stand there; wanted: %s", r->name, r->number, text, word, c->wanted);
 }
 
 static bool add(struct order_list *l, const uint64_t order[2])
@@ -106,14 +71,13 @@ static bool add(struct order_list *l, const uint64_t order[2])
 
 static int read_lines(struct order_list *l, struct rows *r)
 {
-    char text[ROW_TEXT];
     uint64_t order[2];
+    struct complaint complaint;
     bool ended = true;
     while (rows_next(r)) {
-        enum line line = read_line(r, order);
+        enum line line = read_line(r, order, &complaint);
         if (line == WRONG)
-            return fail(BAD_LINE, "%s, line %" PRIu64 ", \"%s\": not of the form store WORD VALUE, flush LINE or barrier", r->name, r->number,
-                        rows_text(r, text));
+            return say_wrong(r, &complaint);
         if (line == ORDER && !add(l, order))
             return fail(BAD_FILE, "not enough memory for %s", r->name);
         l->changes += line == ORDER && ended;

@@ -1,4 +1,4 @@
-/* An order list as text, in the order printer's form or as `catalogue orders` prints it. */
+/* An order list as text: in words, in the order printer's form, or as `catalogue orders` prints it. */
 #ifndef ORDERLIST_H
 #define ORDERLIST_H
 
@@ -13,9 +13,9 @@ struct order_list {
 };
 
 /*
- * From the lines `store WORD VALUE`, `flush LINE` and `barrier` of a file, or of standard input where the name is -. A number before an order
- * and text behind it are passed over, and so are empty lines, those that begin with #, and lines `done ..`, `refused ..` and `not made ..`,
- * which end a list. A store to a word that no table has stays one. 0, or an exit status after saying why; order_list_free in either case.
+ * From the lines of a file, or of standard input where the name is -, each an order as order_read reads it. Empty lines are passed over, and so are
+ * those that begin with #, and lines `done ..`, `refused ..` and `not made ..`, which end a list. 0, or an exit status after saying which word
+ * of which line is wrong and what could stand there; order_list_free in either case.
  */
 int order_list_read(struct order_list *l, const char *name);
 

@@ -91,6 +91,12 @@ static bool set_data(struct command_line *l, const char *value)
     return l->data = true;
 }
 
+static bool set_words(struct command_line *l, const char *value)
+{
+    (void)value;
+    return l->in_words = true;
+}
+
 static bool read_list(struct command_line *l, const char *value)
 {
     l->list = value;
@@ -127,6 +133,8 @@ const struct option options[] = {
     {"--drawings", NULL, NULL, "the whole lesson: the right lists, and each known wrong drawing beside them", "film --drawings > lesson.html",
      FILMING, set_drawings},
     {"--data", NULL, NULL, "the film's states alone, as JSON", "film room.cat - AA0001912345 --data", FILMING, set_data},
+    {"--words", NULL, NULL, "prints the orders in words: node 1 slot 2 key := AA0002600030, flush node 1 slots 0-3",
+     "orders room.cat add AA0001912345 7 --words", WORDING, set_words},
     {"--cut", "C", "a number of orders", "stops after C orders, as a power cut does", "add room.cat AA0001912345 7 --cut=2", CUT,
      read_cut},
     {"--dock", "N", "0 or 1",

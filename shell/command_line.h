@@ -13,7 +13,7 @@
 #define MOST_WORDS 8
 
 /* Kinds of options, for which commands take which. */
-enum { CUT = 1, LOADING = 2, CARRYING = 4, WAITING = 8, NAMING = 16, MAKING = 32, DOCKING = 64, DRAWING = 128, FILMING = 256 };
+enum { CUT = 1, LOADING = 2, CARRYING = 4, WAITING = 8, NAMING = 16, MAKING = 32, DOCKING = 64, DRAWING = 128, FILMING = 256, WORDING = 512 };
 
 struct command_line {
     char *words[MOST_WORDS]; /* the command, the table, and what follows */
@@ -23,6 +23,7 @@ struct command_line {
     uint64_t cut;
     bool loan; /* a new table has two collections */
     bool drawings, data; /* of a film */
+    bool in_words; /* orders as people write them */
     const char *list;
     struct opening opening;
     struct load_options load;

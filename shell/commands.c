@@ -12,6 +12,8 @@
 #include "judge.h"
 #include "lesson.h"
 #include "opened.h"
+#include "orderlist.h"
+#include "orderwords.h"
 #include "refusals.h"
 #include "salvage.h"
 #include "scripts.h"
@@ -83,6 +85,15 @@ static int make_change(struct opened *o, struct command_line *l)
     return finish_change(o, &c, number == CATALOGUE_FILE_CUT);
 }
 
+/* In the form that is asked for. */
+static void print_list(const struct table *t, const struct command_line *l, const uint64_t *orders, size_t count)
+{
+    if (l->in_words)
+        orders_words(stdout, t->base, t->words, orders, count, true);
+    else
+        orders_print(orders, count);
+}
+
 static int print_orders(struct opened *o, struct command_line *l)
 {
     struct catalogue_file_change c = asked(o, &l->change);
@@ -90,7 +101,11 @@ static int print_orders(struct opened *o, struct command_line *l)
     uint64_t number = catalogue_file_plan(o->file, &c, &orders);
     if (number != 0)
         return opened_refuses(o, number, c.key, c.recording, "");
-    orders_print(orders, orders_of(&c));
+    /* Which nodes are leaves the table says. */
+    int status = l->in_words ? opened_read(o) : 0;
+    if (status != 0)
+        return status;
+    print_list(&o->table, l, orders, orders_of(&c));
     printf("not made");
     counts_print(c.stores, c.flushes, c.barriers);
     return 0;
@@ -172,9 +187,20 @@ static int tell_wear(const struct table *t, struct command_line *l)
     return wear(t, l->words[2], l->svg);
 }
 
-static int judge_orders(const struct table *t, struct command_line *l)
+static int judge_file(const struct table *t, struct command_line *l)
 {
     return judge_list(t, l->words[2], &l->change);
+}
+
+/* A list from a file, in the one form or the other. */
+static int print_file(const struct table *t, struct command_line *l)
+{
+    struct order_list list;
+    int status = order_list_read(&list, l->words[3]);
+    if (status == 0)
+        print_list(t, l, list.words, list.count);
+    order_list_free(&list);
+    return status;
 }
 
 static int film_change(const struct table *t, struct command_line *l)
@@ -304,6 +330,8 @@ static int command_orders(struct command_line *l)
         int least, most;
         enum kind kind;
     } kinds[] = {{"add", 5, 6, ADD}, {"remove", 4, 4, REMOVE}, {"class", 5, 5, CLASS}, {"repair", 3, 3, REPAIR}};
+    if (strcmp(l->words[2], "list") == 0 && l->count == 4)
+        return l->given & (NAMING | DOCKING) ? WRONG_FORM : with_table(l, print_file);
     for (size_t i = 0; i < sizeof kinds / sizeof kinds[0]; i++)
         if (strcmp(l->words[2], kinds[i].name) == 0 && l->count >= kinds[i].least && l->count <= kinds[i].most) {
             if (kinds[i].kind == REPAIR && l->given & NAMING)
@@ -321,7 +349,7 @@ static int command_judge(struct command_line *l)
     if (adds ? l->count < 6 : strcmp(l->words[3], "-") != 0 || l->count != 5)
         return WRONG_FORM;
     int status = change_read(&l->change, adds ? ADD : REMOVE, l->words + 4, l->count - 4);
-    return status != 0 ? status : with_table(l, judge_orders);
+    return status != 0 ? status : with_table(l, judge_file);
 }
 
 static int film_lesson(struct command_line *l)
@@ -400,6 +428,22 @@ static int command_script(struct command_line *l)
     return status != 0 ? status : script(number);
 }
 
+/* A code's key, or a key's code. */
+static int command_key(struct command_line *l)
+{
+    char text[KEY_TEXT];
+    uint64_t key;
+    const char *word = l->words[1];
+    if (read_number(word, strlen(word), &key) || (word[0] == '#' && read_number(word + 1, strlen(word + 1), &key))) {
+        printf("%s\n", key_text(key, text));
+        return 0;
+    }
+    int status = read_code_word(word, &key);
+    if (status == 0)
+        printf("%" PRIu64 "\n", key);
+    return status;
+}
+
 static int command_wear(struct command_line *l)
 {
     return with_table(l, tell_wear);
@@ -416,10 +460,12 @@ static int command_help(struct command_line *l)
 
 /* What LIST is; the manual page has the same words. */
 #define LIST_FORM \
-    "LIST is a file, or standard input where it is -, of lines store WORD VALUE, flush LINE and\n" \
-    "barrier. A number before an order and text behind it are passed over, as orders prints\n" \
-    "them, and so are empty lines, those that begin with #, and lines done, refused and not\n" \
-    "made, which end a list"
+    "LIST is a file, or standard input where it is -, of orders, a line each: in words, as\n" \
+    "node 1 slot 2 key := AA0002600030, node 1 slot 2 pointer := 103, header root := node 2,\n" \
+    "flush node 1 slots 0-3 and barrier, or plain, as store WORD VALUE and flush LINE. Capital\n" \
+    "letters, commas, a number before an order and a remark behind it are passed over, and\n" \
+    "so are empty lines, those that begin with #, and lines done, refused and not made,\n" \
+    "which end a list"
 
 const struct command commands[] = {
     {"make", "TABLE NODES", "a new, empty table of 1 to 65535 nodes; allow one for every 4 codes", "make room.cat 100", 3, 3, MAKING,
@@ -453,8 +499,9 @@ const struct command commands[] = {
      "salvage room.cat saved.cat", 3, 3, WAITING, command_salvage},
     {"orders", "TABLE CHANGE ..",
      "prints the stores and flushes of a change, for dock 1 its barriers too, without making it:\n"
-     "add CODE RECORDING [CLASS], remove CODE, class CODE CLASS, or repair",
-     "orders room.cat add AA0001912345 7", 3, 6, NAMING | DOCKING | WAITING, command_orders},
+     "add CODE RECORDING [CLASS], remove CODE, class CODE CLASS, or repair; list LIST prints\n"
+     "those of a file. Plain with the place of each, or in words",
+     "orders room.cat add AA0001912345 7", 3, 6, NAMING | DOCKING | WAITING | WORDING, command_orders},
     {"judge", "TABLE LIST + CODE RECORDING [CLASS], or - CODE",
      "says whether the orders in LIST make this change, in a settled table that stays as it is,\n"
      "so that a power cut may come after any of them: yes, or no with the first order that\n"
@@ -474,6 +521,8 @@ const struct command commands[] = {
     {"show", "TABLE",
      "draws each collection's tree by level, with hidden and trailing slots and the leftover;\n#N is a key that no code has",
      "show room.cat", 2, 2, WAITING, command_show},
+    {"key", "CODE, or NUMBER", "prints the key of a code, as order lists have it, or the code of a key", "key AA0001912345", 2, 2, 0,
+     command_key},
     {"script", "NUMBER",
      "prints the tester's short script with this number, 0 to 1554, and what each of its\nactions does to an empty table of 4 nodes",
      "script 1000", 2, 2, 0, command_script},

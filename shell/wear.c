@@ -53,7 +53,7 @@ static void print_line(uint64_t line, uint64_t stores)
 {
     int length = printf("line %" PRIu64 " %" PRIu64, line, stores);
     printf("%*s", length < 24 ? 24 - length : 2, "");
-    line_print(line);
+    line_print(stdout, line);
     printf("\n");
 }
 

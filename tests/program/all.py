@@ -24,6 +24,7 @@ import salvages
 import scale
 import scripts
 import wears
+import words
 from drive import FOUND_SOMETHING, Program
 
 
@@ -55,11 +56,11 @@ def main():
     watched = ["valgrind", "-q", "--leak-check=full", "--errors-for-leak-kinds=all", f"--error-exitcode={FOUND_SOMETHING}", sys.argv[1]]
     valgrind = Program(watched, "under valgrind", False)
     everything = commands.TESTS + loads.TESTS + files.TESTS + loans.TESTS + docks.TESTS + salvages.TESTS + scripts.TESTS + cuts.TESTS + replay.TESTS
-    everything += readers.TESTS + wears.TESTS + judging.TESTS + films.TESTS + scale.TESTS
+    everything += readers.TESTS + wears.TESTS + judging.TESTS + words.TESTS + films.TESTS + scale.TESTS
     # valgrind takes half a second to start: each kind of work once.
     once = [commands.the_worked_orders, commands.drawing, loads.lines_from_standard_input, loads.larger_copies,
             commands.a_tree_of_sixteen_levels, salvages.damaged_slots, loans.drawing_both, loans.salvages_of_two,
-            wears.figures_of_printed_orders, wears.wear_of_a_load, judging.spoilt_lists, films.a_small_film, films.a_film_of_a_list,
+            wears.figures_of_printed_orders, wears.wear_of_a_load, judging.spoilt_lists, words.both_directions, films.a_small_film, films.a_film_of_a_list,
             scale.the_same_rights, scale.acknowledged_one_by_one]
     # Files in memory where there is such a place: the tests say nothing of a disk.
     place = tempfile.mkdtemp(prefix="catalogue-", dir="/dev/shm" if roomy("/dev/shm") else None)

@@ -12,8 +12,8 @@ HUNDRED = os.path.join(SHELL, "hundred.csv")
 BEFORE = os.path.join(os.path.dirname(os.path.abspath(__file__)), "before_classes")
 
 
-COMMANDS = "make add remove class find list load repair copy salvage orders judge film wear check show script help".split()
-OPTIONS = "--loan --collection --again --keep-going --each --wear --svg --list --drawings --data --cut --dock --wait --fast --flush --pause --help --version".split()
+COMMANDS = "make add remove class find list load repair copy salvage orders judge film wear check show key script help".split()
+OPTIONS = "--loan --collection --again --keep-going --each --wear --svg --list --drawings --data --words --cut --dock --wait --fast --flush --pause --help --version".split()
 
 
 def help_has_an_example_of_each(program, folder):
