@@ -3,9 +3,10 @@
 
 #include <string.h>
 
+/* A global label, hidden in the program: of a local one ARM's code finds the section's beginning. */
 #define FILE_IN_PROGRAM(name, path) \
-    __asm__(".pushsection .rodata\n" #name ":\n.incbin \"" path "\"\n.byte 0\n.popsection\n"); \
-    extern const char name[]
+    __asm__(".pushsection .rodata\n.globl " #name "\n.hidden " #name "\n" #name ":\n.incbin \"" path "\"\n.byte 0\n.popsection\n"); \
+    extern const char name[] __attribute__((visibility("hidden")))
 
 FILE_IN_PROGRAM(film_page, "../film/film.html");
 FILE_IN_PROGRAM(film_style, "../film/film.css");
