@@ -50,6 +50,7 @@ static const struct {
     {CATALOGUE_FILE_THERE, "the table has the line already"},
     {CATALOGUE_FILE_NOT_TAKEN, "the load ended before this line"},
     {CATALOGUE_FILE_CUT, "cut off after the orders that were asked for"},
+    {CATALOGUE_FILE_NO_FLUSH, "no flush of this processor makes a line of the table last"},
 };
 
 const char *catalogue_file_strerror(uint64_t number)

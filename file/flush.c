@@ -73,9 +73,79 @@ static bool by_clflush(void *address)
     _mm_sfence();
     return true;
 }
+
+bool flush_whole_lines(void)
+{
+    return true;
+}
+#elif defined(__aarch64__)
+#include <sys/auxv.h>
+
+/* The bits of the system's two words of features (asm/hwcap.h) that announce DC CVAP and DC CVADP. */
+#define DCPOP_BIT (1ul << 16)
+#define DCPODP_BIT (1ul << 0)
+
+/* The register with the length of the shortest line of the data caches. A test may put its own function in its place. */
+#ifdef CACHE_HOOKED
+uint64_t cache_type(void);
+#else
+static uint64_t cache_type(void)
+{
+    uint64_t word;
+    __asm__("mrs %0, ctr_el0" : "=r"(word));
+    return word;
+}
 #endif
 
-/* Best first: clwb may keep the line in the cache; clflush waits for each line before it. */
+/* Its bits 16 to 19: the logarithm of the number of words of 4 bytes. */
+bool flush_whole_lines(void)
+{
+    return (cache_type() >> 16 & 15) >= 4;
+}
+
+static bool has_cvadp(void)
+{
+    return getauxval(AT_HWCAP2) & DCPODP_BIT && flush_whole_lines();
+}
+
+static bool has_cvap(void)
+{
+    return getauxval(AT_HWCAP) & DCPOP_BIT && flush_whole_lines();
+}
+
+/*
+ * The DSB after each: later stores wait until the line is at its point. Stores before it to the same line come first by themselves. Two are
+ * written as the SYS that they are, for an assembler that does not know ARMv8.2.
+ */
+static bool by_cvadp(void *address)
+{
+    __asm__ volatile("sys #3, c7, c13, #1, %0\n\tdsb sy" ::"r"(address) : "memory");
+    return true;
+}
+
+static bool by_cvap(void *address)
+{
+    __asm__ volatile("sys #3, c7, c12, #1, %0\n\tdsb sy" ::"r"(address) : "memory");
+    return true;
+}
+
+/* Not CVAC, which some processors of this kind carry out wrongly. */
+static bool by_civac(void *address)
+{
+    __asm__ volatile("dc civac, %0\n\tdsb sy" ::"r"(address) : "memory");
+    return true;
+}
+#else
+bool flush_whole_lines(void)
+{
+    return false;
+}
+#endif
+
+/*
+ * Best first: clwb may keep the line in the cache; clflush waits for each line before it. On ARM: to the point of deep persistence, to the
+ * point of persistence, to the point of coherency. The last is memory only if the machine has no cache behind that point.
+ */
 static const struct {
     struct flush flush;
     bool (*has)(void);
@@ -84,6 +154,10 @@ static const struct {
     {{"clwb", by_clwb, true}, has_clwb},
     {{"clflushopt", by_clflushopt, true}, has_clflushopt},
     {{"clflush", by_clflush, true}, has_clflush},
+#elif defined(__aarch64__)
+    {{"cvadp", by_cvadp, true}, has_cvadp},
+    {{"cvap", by_cvap, true}, has_cvap},
+    {{"civac", by_civac, true}, flush_whole_lines},
 #endif
     {{"none", only_fence, false}, always},
 };

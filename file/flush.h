@@ -16,6 +16,12 @@ struct flush {
     bool lasts; /* the line is written back, and not only kept in its order */
 };
 
+/*
+ * Each line of the orders lies in one line of this processor's cache. Of shorter ones a half could reach memory without the other half's
+ * earlier stores, which neither dock allows; longer ones do no harm.
+ */
+bool flush_whole_lines(void);
+
 /* The best way that this processor has. */
 const struct flush *flush_best(void);
 

@@ -163,15 +163,35 @@ static uint64_t begin_on_disk(struct catalogue_file *f)
     return 0;
 }
 
+/* Before anything is stored: no change would last, or a cut could leave what no list of orders allows. */
+static uint64_t must_flush(struct catalogue_file *f)
+{
+    if (!flush_whole_lines())
+        return fails(f, CATALOGUE_FILE_NO_FLUSH, "%s cannot be changed here: this processor's cache has lines of less than 64 bytes", f->name);
+    if (f->persistent && !f->carrying.flush->lasts)
+        return fails(f, CATALOGUE_FILE_NO_FLUSH, "%s lies in persistent memory, where a change lasts only by a flush instruction, not by %s", f->name,
+                     f->carrying.flush->name);
+    return 0;
+}
+
+/* If lines do not last by an instruction a flush is a wait for the disk, unless the caller leaves that out. */
+static void choose_flush(struct catalogue_file *f)
+{
+    if (!f->persistent && !f->fast)
+        f->carrying.flush = flush_by_page();
+}
+
 uint64_t begin_writing(struct catalogue_file *f)
 {
-    uint64_t none = 0;
+    uint64_t none = 0, number = must_flush(f);
+    if (number != 0)
+        return number;
     f->expected = malloc(bytes_of(f->words, false));
     f->working = malloc(bytes_of(f->words, false));
     f->orders = malloc(2 * LIST_WORDS * sizeof *f->orders);
     if (!f->expected || !f->working || !f->orders)
         return no_memory(f);
-    uint64_t number = read_copies(f);
+    number = read_copies(f);
     /* Carry-out of no orders tests the header alone. */
     if (number == 0 && catalogue_carry_out(f->working, f->words, &none, 1, 0) != 0)
         number = wrong_header(f, f->working);
@@ -179,9 +199,7 @@ uint64_t begin_writing(struct catalogue_file *f)
         number = begin_trailer(f);
     if (number == 0)
         number = begin_on_disk(f);
-    /* If lines do not last by an instruction a flush is a wait for the disk, unless the caller leaves that out. */
-    if (!f->persistent && !f->fast)
-        f->carrying.flush = flush_by_page();
+    choose_flush(f);
     return number;
 }
 
@@ -247,8 +265,7 @@ uint64_t carry_list(struct catalogue_file *f, const uint64_t *orders, uint64_t c
     if (number != 0)
         return refuses(f, number);
     /* A list that ends with a flush of its page, or of its line in persistent memory, leaves nothing on the way. */
-    bool lasts = (f->persistent || waits_for_disk(f)) && f->carrying.flush->lasts;
-    if (count > 0 && (!lasts || orders[2 * (count - 1)] != CATALOGUE_MARK))
+    if (count > 0 && ((!f->persistent && !waits_for_disk(f)) || orders[2 * (count - 1)] != CATALOGUE_MARK))
         f->unsettled = true;
     if (!carry_out(f->mapped, orders, count, &counter, &f->carrying, carried)) {
         store_again(f);
@@ -270,6 +287,7 @@ static void take_over(struct catalogue_file *f, int file, uint64_t *mapped, bool
     f->file = file;
     f->mapped = mapped;
     f->persistent = persistent;
+    choose_flush(f);
     f->unsettled = false;
     f->unnamed = true;
     memcpy(f->expected, f->working, bytes_of(f->words, false));

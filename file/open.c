@@ -236,19 +236,28 @@ static char *whole_name(const char *name)
     return path;
 }
 
+/* Barriers do no harm on any processor. Lists without them are for one that keeps its stores in order, unless the caller insists. */
+static bool may_dock(const struct catalogue_file_options *o)
+{
+    return o->dock == CATALOGUE_UNORDERED || o->dock == CATALOGUE_FILE_DOCK || !(o->flags & CATALOGUE_FILE_WRITING)
+           || o->flags & CATALOGUE_FILE_FORCE;
+}
+
 static uint64_t set_options(struct catalogue_file *f, const struct catalogue_file_options *o)
 {
-    uint64_t known = CATALOGUE_FILE_WRITING | CATALOGUE_FILE_FAST;
+    uint64_t known = CATALOGUE_FILE_WRITING | CATALOGUE_FILE_FAST | CATALOGUE_FILE_FORCE;
     f->writing = o->flags & CATALOGUE_FILE_WRITING;
     f->fast = o->flags & CATALOGUE_FILE_FAST;
     f->dock = o->dock;
     f->carrying.pause = o->pause;
     f->carrying.flush = o->flush ? flush_named(o->flush) : flush_best();
-    if ((o->flags & ~known) != 0 || (f->fast && !f->writing))
+    if ((o->flags & ~known) != 0 || (o->flags & (CATALOGUE_FILE_FAST | CATALOGUE_FILE_FORCE) && !f->writing))
         return fails(f, CATALOGUE_FILE_BAD_OPTION, "there are no flags %" PRIu64, o->flags);
     if (!f->carrying.flush)
         return fails(f, CATALOGUE_FILE_BAD_OPTION, "this processor has no flush %s", o->flush);
-    return o->dock <= CATALOGUE_UNORDERED ? 0 : fails(f, CATALOGUE_NO_DOCK, "there is no dock %" PRIu64, o->dock);
+    if (o->dock > CATALOGUE_UNORDERED)
+        return fails(f, CATALOGUE_NO_DOCK, "there is no dock %" PRIu64, o->dock);
+    return may_dock(o) ? 0 : fails(f, CATALOGUE_NO_DOCK, "dock %" PRIu64 " is not this processor's, which may reorder its stores", o->dock);
 }
 
 static uint64_t open_to_write(struct catalogue_file *f, const struct catalogue_file_options *options)
@@ -277,7 +286,7 @@ uint64_t catalogue_file_open_with(catalogue_file *f, const char *name, const str
 
 uint64_t catalogue_file_open(catalogue_file *f, const char *name, uint64_t flags, uint64_t wait)
 {
-    const struct catalogue_file_options options = {.flags = flags, .wait = wait};
+    const struct catalogue_file_options options = {.flags = flags, .wait = wait, .dock = CATALOGUE_FILE_DOCK};
     return catalogue_file_open_with(f, name, &options);
 }
 

@@ -59,6 +59,8 @@
  *                                     file first; while the disk fails it is not made
  *     CATALOGUE_FILE_FOLDER           a new file took the table's place and has all changes, but its folder was not synced: a power cut can
  *                                     bring the old file back. catalogue_file_sync tries again
+ *     CATALOGUE_FILE_NO_FLUSH         nothing was changed: in persistent memory take a flush instruction; a processor whose cache lines have
+ *                                     less than 64 bytes can only read
  */
 #ifndef CATALOGUE_FILE_H
 #define CATALOGUE_FILE_H
@@ -96,7 +98,8 @@ enum {
     CATALOGUE_FILE_STOPPED = 315,     /* a callback ended the call */
     CATALOGUE_FILE_THERE = 316,       /* load: the table has all that the line says */
     CATALOGUE_FILE_NOT_TAKEN = 317,   /* load: it ended before this line */
-    CATALOGUE_FILE_CUT = 318          /* only the first orders were carried out, as asked for */
+    CATALOGUE_FILE_CUT = 318,         /* only the first orders were carried out, as asked for */
+    CATALOGUE_FILE_NO_FLUSH = 319     /* persistent memory and the flush "none", or a processor with cache lines of less than 64 bytes */
 };
 
 /* A text for every number that a call here or in catalogue.h returns: no name, no full stop, never null. */
@@ -135,21 +138,33 @@ uint64_t catalogue_file_create(catalogue_file *f, const char *name, uint64_t nod
 enum {
     CATALOGUE_FILE_READING = 0,
     CATALOGUE_FILE_WRITING = 1,
-    CATALOGUE_FILE_FAST = 2 /* for writing: does not wait for the disk at each flush */
+    CATALOGUE_FILE_FAST = 2, /* for writing: does not wait for the disk at each flush */
+    CATALOGUE_FILE_FORCE = 4 /* for writing: takes dock 0 also on a processor that does not keep its stores in order */
 };
+
+/* The dock of the processor. */
+#if defined(__aarch64__)
+#define CATALOGUE_FILE_DOCK CATALOGUE_UNORDERED
+#else
+#define CATALOGUE_FILE_DOCK CATALOGUE_ORDERED
+#endif
 
 #define CATALOGUE_FILE_FOREVER UINT64_MAX
 
-/* Opens a table; what the handle had open is closed first. wait: milliseconds for another writer's lock. The dock is 0. */
+/* Opens a table; what the handle had open is closed first. wait: milliseconds for another writer's lock. The dock is the processor's. */
 uint64_t catalogue_file_open(catalogue_file *f, const char *name, uint64_t flags, uint64_t wait);
 
 /* All that can be chosen. Zeros are what catalogue_file_open takes for READING without waiting. */
 struct catalogue_file_options {
     uint64_t flags;
     uint64_t wait;     /* milliseconds for the lock */
-    uint64_t dock;     /* that the order lists are for */
+    uint64_t dock;     /* that the order lists are for; on ARM CATALOGUE_FILE_WRITING takes 0 only with CATALOGUE_FILE_FORCE, else it is 18 */
     uint64_t pause;    /* microseconds before each order, so that a test can kill the writer between two */
-    const char *flush; /* "clwb", "clflushopt", "clflush" or "none", for persistent memory; null for the best that the processor has */
+    /*
+     * For persistent memory and CATALOGUE_FILE_FAST: "clwb", "clflushopt" or "clflush", on ARM "cvadp", "cvap" or "civac"; null for the best
+     * that the processor has. "none" flushes nothing, and is refused in persistent memory.
+     */
+    const char *flush;
     /* Called once if the lock was not free for a second; null for nothing. */
     void (*waiting)(void *context);
     void *context;

@@ -5,7 +5,7 @@
 #include <stdio.h>
 #include <unistd.h>
 
-#include "catalogue.h"
+#include "catalogue_file.h"
 #include "command_line.h"
 #include "commands.h"
 #include "help.h"
@@ -20,6 +20,8 @@ static int run(struct command_line *l)
         help(commands, c);
         return 0;
     }
+    if (c->takes & DOCKING && !(l->given & DOCKING))
+        l->opening.dock = CATALOGUE_FILE_DOCK;
     bool fits = l->count >= c->least && l->count <= c->most && (l->given & ~c->takes) == 0;
     int status = fits ? c->run(l) : WRONG_FORM;
     if (status == WRONG_FORM)

@@ -37,6 +37,12 @@ static bool read_dock(struct command_line *l, const char *value)
     return read_number(value, strlen(value), &l->opening.dock) && l->opening.dock <= CATALOGUE_UNORDERED;
 }
 
+static bool set_force(struct command_line *l, const char *value)
+{
+    (void)value;
+    return l->opening.force = true;
+}
+
 static bool set_loan(struct command_line *l, const char *value)
 {
     (void)value;
@@ -138,9 +144,11 @@ const struct option options[] = {
     {"--cut", "C", "a number of orders", "stops after C orders, as a power cut does", "add room.cat AA0001912345 7 --cut=2", CUT,
      read_cut},
     {"--dock", "N", "0 or 1",
-     "for a dock that keeps its stores to one line in order (0, as x86, where none is\n"
-     "named) or does not (1, as ARM): then a barrier follows each store",
+     "for a dock that keeps its stores to one line in order (0, as x86) or does not (1, as\n"
+     "ARM): then a barrier follows each store. If none is named, this processor's",
      "add room.cat AA0001912345 7 --dock 1", DOCKING, read_dock},
+    {"--force", NULL, NULL, "with --dock 0, on ARM: carries a list for dock 0 out, although the processor may\nreorder its stores",
+     "add room.cat AA0001912345 7 --dock 0 --force", CARRYING, set_force},
     {"--wait", "SECONDS", "a number of seconds",
      "waits so long for another writer of the table; without it, not at all. Commands that\nonly read wait for nobody",
      "add room.cat AA0001912345 7 --wait 10", WAITING, read_wait},
@@ -148,8 +156,9 @@ const struct option options[] = {
      "on an ordinary disk: waits for the disk once, at the end, and not at each flush.\n"
      "A power cut before the end can destroy the whole table, older codes too",
      "load new.cat codes.csv --fast", CARRYING, set_fast},
-    {"--flush", "HOW", "clwb, clflushopt, clflush or none, where the processor has it",
-     "clwb, clflushopt, clflush or none instead of the best that the processor has;\nfor persistent memory and --fast",
+    {"--flush", "HOW", "clwb, clflushopt or clflush, on ARM cvadp, cvap or civac, if the processor has it, or none",
+     "clwb, clflushopt or clflush, on ARM cvadp, cvap or civac, instead of the best that the\n"
+     "processor has; for persistent memory and --fast. none flushes nothing: for --fast alone",
      "add room.cat AA0001912345 7 --flush clflush", CARRYING, read_flush},
     {"--pause", "N", "a number of microseconds", "waits N microseconds before each order, to pull the plug or kill -9 between two of them",
      "load room.cat codes.csv --pause 100000", CARRYING, read_pause},

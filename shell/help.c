@@ -68,6 +68,12 @@ static void print_statuses(void)
     printf(".\n");
 }
 
+/* The one instruction that may leave a line short of memory. */
+static const char *reach_of(const char *flush)
+{
+    return strcmp(flush, "civac") == 0 ? " (to the point of coherency: memory, if no cache lies behind it)" : "";
+}
+
 static void help_command(const struct command *c)
 {
     print_entry(c->name, c->form, c->about, c->example);
@@ -90,5 +96,6 @@ void help(const struct command *all, const struct command *only)
         print_option(o);
     printf("\n");
     print_statuses();
-    printf("\n%sThis processor's lines are flushed by: %s.\n", durability, catalogue_file_flush(NULL));
+    const char *flush = catalogue_file_flush(NULL);
+    printf("\n%sThis processor's lines are flushed by: %s%s.\n", durability, flush, reach_of(flush));
 }

@@ -35,6 +35,8 @@ int opened_fails(const struct opened *o, uint64_t number, const char *then)
         then = "; try again later, or with --wait SECONDS";
     if (number == CATALOGUE_FILE_BUSY)
         then = "; try again later";
+    if (number == CATALOGUE_NO_DOCK)
+        then = "; --force with it carries the orders out all the same";
     return fail(status_of(number), "%s%s", catalogue_file_message(o->file), then);
 }
 
@@ -76,7 +78,8 @@ static uint64_t milliseconds(uint64_t seconds)
 static int open_file(struct opened *o, bool writing, const struct opening *how)
 {
     const struct catalogue_file_options options = {
-        .flags = (writing ? CATALOGUE_FILE_WRITING : CATALOGUE_FILE_READING) | (writing && how->fast ? CATALOGUE_FILE_FAST : 0),
+        .flags = (writing ? CATALOGUE_FILE_WRITING : CATALOGUE_FILE_READING) | (writing && how->fast ? CATALOGUE_FILE_FAST : 0)
+                 | (writing && how->force ? CATALOGUE_FILE_FORCE : 0),
         .wait = milliseconds(how->wait), .dock = how->dock, .pause = how->pause, .flush = how->flush, .waiting = say_waiting, .context = o};
     uint64_t number = catalogue_file_open_with(o->file, o->table.name, &options);
     bool begun = writing && (number == CATALOGUE_FILE_DISK || number == CATALOGUE_FILE_FOLDER);

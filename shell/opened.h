@@ -13,6 +13,7 @@ struct opening {
     bool fast;           /* on an ordinary disk: waits for the disk once, at the end, and not at each flush */
     uint64_t collection; /* that the command reads or changes */
     uint64_t dock;       /* that the order lists are for */
+    bool force;          /* dock 0 also on a processor that does not keep its stores in order */
     uint64_t pause;      /* microseconds before each order */
     const char *flush;   /* null for the best that the processor has */
 };

@@ -50,7 +50,7 @@ uint64_t get_word(const char *name, size_t word);
 /* A new table with keys 10, 20, .. 10 * count, recordings 1000 + key, all open; true if it was made. */
 bool table_with(const char *name, uint64_t nodes, uint64_t count);
 
-/* ---- the disk: what the calls msync, fsync, rename and renameat2 of the library do */
+/* ---- the disk: what the calls mmap, msync, fsync, rename and renameat2 of the library do */
 
 struct disk {
     uint64_t syncs;     /* msyncs so far; set to 0 before a handle is opened whose file the image is of */
@@ -58,6 +58,7 @@ struct disk {
     bool fail_on;       /* so do those after it */
     bool no_rename;     /* no file takes another one's place */
     bool no_folder;     /* no folder is synced */
+    bool persistent;    /* grants MAP_SYNC: files lie in persistent memory */
     bool folder_synced; /* since it was last set to false */
     char *image;        /* what the disk has of the mapped file, kept while it is not null; bytes of it */
     size_t bytes;

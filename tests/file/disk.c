@@ -217,6 +217,79 @@ static bool loads_that_fail(void)
     return true;
 }
 
+/* In persistent memory a flush is an instruction: only the opening waits for the disk. */
+static bool persistent_memory(void)
+{
+    catalogue_file *f = catalogue_file_new();
+    struct catalogue_file_about about;
+    CHECK(table_with(at("persistent"), NODES, 60));
+    disk = (struct disk){.persistent = true};
+    GIVES(0, catalogue_file_open(f, at("persistent"), CATALOGUE_FILE_WRITING, 0));
+    GIVES(0, catalogue_file_about(f, &about));
+    CHECK(about.persistent == 1 && disk.syncs == 1);
+    for (uint64_t key = 1; key < 90; key += 2) {
+        GIVES(0, catalogue_file_add(f, 1, key, key, 0));
+        CHECK(catalogue_file_outcome(f) == CATALOGUE_FILE_MADE);
+    }
+    GIVES(0, catalogue_file_close(f));
+    CHECK(disk.syncs == 1);
+    catalogue_file_free(f);
+    return true;
+}
+
+/* There no change is made without such an instruction, and nothing is stored; elsewhere it is the caller's choice. */
+static bool no_flush(void)
+{
+    catalogue_file *f = catalogue_file_new();
+    size_t bytes, again;
+    CHECK(table_with(at("unflushed"), NODES, 60));
+    char *before = contents(at("unflushed"), &bytes);
+    for (uint64_t fast = 0; fast <= CATALOGUE_FILE_FAST; fast += CATALOGUE_FILE_FAST) {
+        struct catalogue_file_options options = {.flags = CATALOGUE_FILE_WRITING | fast, .dock = CATALOGUE_FILE_DOCK, .flush = "none"};
+        disk = (struct disk){.persistent = true};
+        GIVES(CATALOGUE_FILE_NO_FLUSH, catalogue_file_open_with(f, at("unflushed"), &options));
+        CHECK(strstr(catalogue_file_message(f), "persistent memory") && disk.syncs == 0);
+        GIVES(CATALOGUE_FILE_NOT_OPEN, catalogue_file_add(f, 1, 15, 7, 0));
+        char *after = contents(at("unflushed"), &again);
+        CHECK(again == bytes && memcmp(before, after, bytes) == 0);
+        free(after);
+        options.flush = catalogue_file_flush(NULL);
+        GIVES(0, catalogue_file_open_with(f, at("unflushed"), &options));
+        disk.persistent = false;
+        options.flush = "none";
+        GIVES(0, catalogue_file_open_with(f, at("unflushed"), &options));
+        GIVES(0, catalogue_file_close(f));
+    }
+    disk.persistent = true;
+    struct catalogue_file_options reading = {.flush = "none"};
+    GIVES(0, catalogue_file_open_with(f, at("unflushed"), &reading));
+    free(before);
+    catalogue_file_free(f);
+    return true;
+}
+
+/* A packed load leaves the handle with another file, which may lie elsewhere: each flush goes by where that one lies. */
+static bool another_medium(void)
+{
+    catalogue_file *f = catalogue_file_new();
+    uint64_t pairs[120];
+    for (uint64_t i = 0; i < 60; i++) {
+        pairs[2 * i] = 10 * (i + 1);
+        pairs[2 * i + 1] = CATALOGUE_POINTER(1010 + 10 * i, 0);
+    }
+    GIVES(0, catalogue_file_create(f, at("medium"), NODES, 1));
+    disk = (struct disk){.persistent = true};
+    GIVES(0, catalogue_file_open(f, at("medium"), CATALOGUE_FILE_WRITING, 0));
+    disk.persistent = false;
+    GIVES(0, catalogue_file_load_pairs(f, 1, 0, pairs, 60, NULL));
+    struct catalogue_file_change split = {.kind = CATALOGUE_FILE_ADD, .collection = 1, .key = 15, .recording = 7, .cut = CATALOGUE_FILE_ALL};
+    uint64_t syncs = disk.syncs;
+    GIVES(0, catalogue_file_change(f, &split));
+    CHECK(split.flushes > 5 && disk.syncs - syncs == split.flushes);
+    catalogue_file_free(f);
+    return true;
+}
+
 const struct test disk_tests[] = {
     {"waits that fail", waits_that_fail},
     {"answered changes last", answered_changes_last},
@@ -224,5 +297,8 @@ const struct test disk_tests[] = {
     {"a repair writes all", a_repair_writes_all},
     {"opening waits", opening_waits},
     {"loads that fail", loads_that_fail},
+    {"persistent memory", persistent_memory},
+    {"no flush", no_flush},
+    {"another medium", another_medium},
     {NULL, NULL},
 };

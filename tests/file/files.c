@@ -78,9 +78,10 @@ static bool what_is_no_table(void)
             struct stat about;
             CHECK(stat(at("zeros"), &about) == 0 && (size_t)about.st_size == length);
         }
-        GIVES(CATALOGUE_FILE_BAD_OPTION, catalogue_file_open(f, at("zeros"), 4 + flags, 0));
+        GIVES(CATALOGUE_FILE_BAD_OPTION, catalogue_file_open(f, at("zeros"), 8 + flags, 0));
     }
     GIVES(CATALOGUE_FILE_BAD_OPTION, catalogue_file_open(f, at("zeros"), CATALOGUE_FILE_FAST, 0));
+    GIVES(CATALOGUE_FILE_BAD_OPTION, catalogue_file_open(f, at("zeros"), CATALOGUE_FILE_FORCE, 0));
     catalogue_file_free(f);
     return true;
 }
@@ -182,7 +183,8 @@ static bool locks(void)
     struct catalogue_file_pair found;
     pthread_t thread;
     int noted = 0;
-    struct catalogue_file_options options = {.flags = CATALOGUE_FILE_WRITING, .wait = 20000, .waiting = note, .context = &noted};
+    struct catalogue_file_options options = {.flags = CATALOGUE_FILE_WRITING, .dock = CATALOGUE_FILE_DOCK, .wait = 20000, .waiting = note,
+                                             .context = &noted};
     CHECK(table_with(at("locked"), 9, 20));
     GIVES(0, catalogue_file_open(first, at("locked"), CATALOGUE_FILE_WRITING, 0));
     GIVES(CATALOGUE_FILE_IN_USE, catalogue_file_open(second, at("locked"), CATALOGUE_FILE_WRITING, 0));

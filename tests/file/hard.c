@@ -83,7 +83,7 @@ static bool any_words(void)
 /* Adds and removes keys 5, 15, 25 .. for ever, and says each change that was answered: the key to add it, its negative to remove it. */
 static void change_for_ever(int out, const char *name, uint64_t seed)
 {
-    struct catalogue_file_options options = {.flags = CATALOGUE_FILE_WRITING | CATALOGUE_FILE_FAST, .pause = seed % 3};
+    struct catalogue_file_options options = {.flags = CATALOGUE_FILE_WRITING | CATALOGUE_FILE_FAST, .dock = CATALOGUE_FILE_DOCK, .pause = seed % 3};
     catalogue_file *f = catalogue_file_new();
     if (catalogue_file_open_with(f, name, &options) != 0)
         _exit(1);

@@ -78,6 +78,17 @@ bool table_with(const char *name, uint64_t nodes, uint64_t count)
 /* Where the file is mapped: a writer waits for all of it first. */
 static char *mapped;
 
+void *__real_mmap(void *address, size_t bytes, int access, int flags, int file, off_t from);
+void *__wrap_mmap(void *address, size_t bytes, int access, int flags, int file, off_t from);
+
+void *__wrap_mmap(void *address, size_t bytes, int access, int flags, int file, off_t from)
+{
+    if (!(flags & MAP_SYNC))
+        return __real_mmap(address, bytes, access, flags, file, from);
+    errno = EOPNOTSUPP;
+    return disk.persistent ? __real_mmap(address, bytes, access, MAP_SHARED, file, from) : MAP_FAILED;
+}
+
 int msync(void *address, size_t bytes, int flags)
 {
     disk.syncs++;
