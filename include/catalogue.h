@@ -23,7 +23,7 @@
  * the calls that read or change one name it; a repair names none. The two share the nodes: a node belongs to one tree or is free for
  * either. A recording may be in both, under any codes, and is in each once at most.
  *
- * The header is words 0 to 7: 1, the node number of collection 1's root, N, that of collection 2's root or 0 where there is none, and four
+ * The header is words 0 to 7: 1, the node number of collection 1's root, N, that of collection 2's root or 0 if there is none, and four
  * zeros. Node i begins at word 8 + 32 * (i - 1); its 32 words are four lines, the slots' words a key and a pointer in turn:
  *
  *      0 left    1 sibling    2 level    3 fence    4 to 7: 0
@@ -42,8 +42,8 @@
  * table reloaded from memory answers every search as before the change or as after it, and every search of the other collection as ever.
  * The next writing call repairs it, whichever collection it names: a table has at most one change to finish.
  *
- * Each writing call is told which dock its list is for. Dock 0 has a processor that keeps its stores to one line in order, as x86 does.
- * Dock 1 has one that does not, as ARM: there each store is followed by a barrier, CATALOGUE_BARRIER and 0, and the host lets no store pass
+ * A dock is a memory model; each writing call takes the dock that its list is for. The processor of dock 0 keeps its stores to one line in
+ * order, as x86 does. That of dock 1 does not, as ARM: there each store is followed by a barrier, CATALOGUE_BARRIER and 0, and the host lets no store pass
  * it. On ARM the instruction is DMB ISHST, and a flush is DC CVAP with a DSB after it; on x86 a barrier is SFENCE. Without its barriers the
  * list is dock 0's; with them it wants CATALOGUE_LONG_LIST_WORDS words. A table may go from one dock to the other between any two calls, and
  * what a cut left on one may be repaired on the other.
@@ -112,12 +112,12 @@ enum {
     CATALOGUE_CLOSED = 2  /* does not play */
 };
 
-/* What the calls return: 0 where a call does its work, else one of these. */
+/* What the calls return: 0 if a call does its work, else one of these. */
 enum {
     CATALOGUE_NO_CODE = 1,          /* text is not a code, or a key has no code */
-    CATALOGUE_NO_TABLE = 2,         /* wrong length or header, a root outside 1 to N, or two collections where N is 1 */
+    CATALOGUE_NO_TABLE = 2,         /* wrong length or header, a root outside 1 to N, or two collections with N = 1 */
     CATALOGUE_SEARCH_LOST = 3,      /* search: a node number, level or sibling is wrong on its way, or its leaves go round in a ring */
-    CATALOGUE_NOT_SOUND = 4,        /* check, listing, write or judging: the table is not sound, be it in the other collection */
+    CATALOGUE_NOT_SOUND = 4,        /* check, listing, write or judging: the table is not sound, in this collection or in the other */
     CATALOGUE_SHORT_LIST = 5,       /* order list under 2,560 words, for dock 1 under 5,120 */
     CATALOGUE_BAD_RECORDING = 6,    /* recording is 0 or above CATALOGUE_MOST_RECORDING */
     CATALOGUE_KEY_PRESENT = 7,      /* code already in the collection */
@@ -129,10 +129,10 @@ enum {
     CATALOGUE_BAD_CLASS = 14,       /* class above 2; comes straight after 6 */
     CATALOGUE_OTHER_LENGTH = 15,    /* salvage or judging: the second slice is not as long as the table */
     CATALOGUE_SHORT_REPORT = 16,    /* salvage: report under 36 words for each node */
-    CATALOGUE_NO_COLLECTION = 17,   /* collection not 1 or 2, or 2 where the table has one; comes straight after 2 */
+    CATALOGUE_NO_COLLECTION = 17,   /* collection not 1 or 2, or 2 if the table has one; comes straight after 2 */
     CATALOGUE_NO_DOCK = 18,         /* dock neither 0 nor 1; comes straight before 5 */
     CATALOGUE_OTHER_SENTINELS = 19, /* sentinels not 3 words for each node; comes straight after 17 */
-    CATALOGUE_NOT_SETTLED = 20,     /* judging: the table is sound but not settled; comes straight after 4 */
+    CATALOGUE_NOT_SETTLED = 20,     /* judging: the table is sound, but a change is unfinished; comes straight after 4 */
     CATALOGUE_CHANGE_REFUSED = 21,  /* judging: the change itself would be refused on this table; comes last */
     CATALOGUE_NO_SCRIPT = 22,       /* script: number above 1,554 */
     CATALOGUE_BAD_SCRIPT = 23,      /* a script's number: actions that form no such script */
@@ -153,7 +153,7 @@ uint64_t catalogue_print(uint64_t key, uint8_t *text);
 
 /*
  * An empty table of one collection or two in these words: the root of collection 1 is node 1, that of collection 2 node 2, both empty
- * leaves. 0; 2 for the length, or for two collections with N = 1; 17 where collections is not 1 or 2.
+ * leaves. 0; 2 for the length, or for two collections with N = 1; 17 if collections is not 1 or 2.
  */
 uint64_t catalogue_make(uint64_t *table, size_t words, uint64_t collections);
 
@@ -161,19 +161,20 @@ uint64_t catalogue_make(uint64_t *table, size_t words, uint64_t collections);
  * A table filled from pairs (key, whole pointer), as catalogue_list gives them, packed as catalogue_salvage packs: 11 to a leaf, 12 children to
  * an inner node, collection 1's nodes first, the others free. pairs are those of collection 1, loans those of collection 2; for one
  * collection loans is not looked at. Half a pair at the end of a slice is none. The whole table is written, whatever stood there; it is
- * settled, and its maps are exactly these pairs. It is no change with an order list: fill a table that is not in use yet, and store it whole.
- * 0; 2 and 17 as in catalogue_make; 10 where the packing of both needs more than N nodes; 25 where the keys of a slice do not rise strictly,
+ * settled (no change is unfinished), and its maps are exactly these pairs. The call fills no order list: use it for a table that is not in
+ * use yet, and store that whole.
+ * 0; 2 and 17 as in catalogue_make; 10 if the packing of both needs more than N nodes; 25 if the keys of a slice do not rise strictly,
  * a recording is 0, a class above 2, or a recording is in one slice twice. A refusal writes nothing.
- * It looks at the pairs a few times, and once more for every 6,000 to 12,000 of them; where recordings are chosen so that their numbers
+ * It looks at the pairs a few times, and once more for every 6,000 to 12,000 of them; if recordings are chosen so that their numbers
  * crowd, it takes longer by the square of the pairs.
  */
 uint64_t catalogue_pack(uint64_t *table, size_t words, uint64_t collections, const uint64_t *pairs, size_t pair_words, const uint64_t *loans,
                         size_t loan_words);
 
 /*
- * 0, *recording and its class *access where the key is found; in a table that is not sound they are what stands there, recording 0 and
- * classes up to 255: what plays a recording takes a class for open or room only if it is just that, and plays no other.
- * 255 where it is absent: then *higher is 1 and *next the next key up in the map, or *higher is 0 and *next stays, for no key is higher.
+ * 0, *recording and its class *access if the key is found. In a table that is not sound they are what stands there: recording 0, and
+ * classes up to 255. Play a recording only if its class is exactly open, or exactly room in the room.
+ * 255 if it is absent: then *higher is 1 and *next the next key up in the map, or *higher is 0 and *next stays, for no key is higher.
  * Else 2, 17 or 3. A word that is not named for a case stays. Only this collection's nodes are looked at.
  * The next key is looked for from the leaf where the search ended and on along the siblings, past leaves that are empty; a leaf there that
  * fails the search's tests, or more leaves than the table has nodes, give 3. Any key may be the next one, CATALOGUE_MARK too.
@@ -183,12 +184,12 @@ uint64_t catalogue_search(const uint64_t *table, size_t words, uint64_t collecti
 
 /*
  * The collection's pairs (key, whole pointer) with low <= key <= high, rising, into out while whole pairs fit; *pairs is their number,
- * *more 1 where more were left, else 0. 0, or 2, 17 or 4.
+ * *more 1 if more were left, else 0. 0, or 2, 17 or 4.
  */
 uint64_t catalogue_list(const uint64_t *table, size_t words, uint64_t collection, uint64_t low, uint64_t high, uint64_t *out,
                         size_t out_words, uint64_t *pairs, uint64_t *more);
 
-/* What a sound table has left over from a change that was cut off; the next writing call, or catalogue_repair, finishes it. */
+/* The leftover of a sound table: what a change that was cut off has left unfinished; the next writing call, or catalogue_repair, finishes it. */
 enum {
     CATALOGUE_SETTLED = 0, /* nothing */
     CATALOGUE_LEFT_A = 1,  /* a node has a hidden slot */
@@ -262,13 +263,13 @@ uint64_t catalogue_sentinels(const uint64_t *table, size_t words, uint64_t *sent
 
 /*
  * As catalogue_search, with 19 after 17. On a sound table the answer is that of catalogue_search whatever the sentinels hold; on another one
- * it may be another slot of the same leaf with the key, where catalogue_search finds one too.
+ * it may be another slot of the same leaf with the key, if catalogue_search finds one too.
  */
 uint64_t catalogue_search_with(const uint64_t *table, size_t words, const uint64_t *sentinels, size_t sentinel_words, uint64_t collection,
                                uint64_t key, uint64_t *recording, uint64_t *access, uint64_t *next, uint64_t *higher);
 
 /*
- * As the writing calls above, with 19 after 17. Table, list, counts and number are the plain call's; where it is accepted the sentinels of the
+ * As the writing calls above, with 19 after 17. Table, list, counts and number are the plain call's; if it is accepted the sentinels of the
  * nodes that it stored to are set, and no others: true ones stay true. A refusal changes none.
  */
 uint64_t catalogue_insert_with(uint64_t *table, size_t words, uint64_t *sentinels, size_t sentinel_words, uint64_t collection,
@@ -302,7 +303,7 @@ enum {
  * words are node, slot and reason of each, in the order met, the others stay. Or 2, 15, 16, 10.
  * A sound table drops nothing, keeps its maps and never gives 10.
  * It takes as long as some tens of plain read passes over the table, sound or with words changed here and there. It takes longer by the way
- * that keys are met out of order, and, where the slots in use would need more than N nodes, by the square of the pairs.
+ * that keys are met out of order, and, if the slots in use would need more than N nodes, by the square of the pairs.
  */
 uint64_t catalogue_salvage(const uint64_t *table, size_t words, uint64_t *out, size_t out_words, uint64_t *report, size_t report_words,
                            uint64_t *dropped);

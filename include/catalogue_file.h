@@ -19,15 +19,15 @@
  * The file. A table of N nodes is 8 + 32 * N words of 8 bytes, as catalogue.h describes them, from the file's first byte on. Behind them lies
  * the trailer, one line of 8 words: CATALOGUE_FILE_FORMAT, the change counter, 1 while another file takes this one's place or has taken it,
  * and five zeros. Words are little-endian. A file without a trailer, as older programs made them, is a table too: the first handle that is
- * opened for writing adds it. The length tells the two apart: 64 or 128 bytes above a multiple of 256. Nothing else is a table.
+ * opened for writing adds it. The length distinguishes the two: 64 or 128 bytes above a multiple of 256. Nothing else is a table.
  *
  * The lock. A handle opened for writing holds an exclusive flock on the file from its opening to its closing. A handle opened for reading
  * takes no lock, stores nothing, and never waits for a writer nor for the disk. So there is one writer and any number of readers, in threads,
  * processes, containers; a reader needs the right to read the file, and no right in its folder. flock does not reach over every network
  * file system, and a mapping does not: keep a table on a local disk or in persistent memory.
  *
- * Reading beside a writer. A find answers what was true at some moment between its start and its end, whatever the writer does meanwhile, be
- * it killed or stopped. The counter is odd while the writer stores the words of a change; a reader accepts what it read if the counter shows
+ * Reading beside a writer. A find answers what was true at some moment between its start and its end, whatever the writer does meanwhile, even
+ * if it is killed or stopped. The counter is odd while the writer stores the words of a change; a reader accepts what it read if the counter shows
  * that no two changes ran meanwhile and every word that it read was still there at the end. Else it reads again; only after very many rounds
  * does it return CATALOGUE_FILE_BUSY. Each step of a walk is a find by itself. A handle opened for writing reads its own copy.
  * If another file takes the name, a reading handle goes on with that one: from its next call on if the library put it there, as a load does,
@@ -158,7 +158,7 @@ uint64_t catalogue_file_open(catalogue_file *f, const char *name, uint64_t flags
 struct catalogue_file_options {
     uint64_t flags;
     uint64_t wait;     /* milliseconds for the lock */
-    uint64_t dock;     /* that the order lists are for; on ARM CATALOGUE_FILE_WRITING takes 0 only with CATALOGUE_FILE_FORCE, else it is 18 */
+    uint64_t dock;     /* memory model that the order lists are for; on ARM CATALOGUE_FILE_WRITING takes 0 only with CATALOGUE_FILE_FORCE, else it is 18 */
     uint64_t pause;    /* microseconds before each order, so that a test can kill the writer between two */
     /*
      * For persistent memory and CATALOGUE_FILE_FAST: "clwb", "clflushopt" or "clflush", on ARM "cvadp", "cvap" or "civac"; null for the best
