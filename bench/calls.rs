@@ -148,7 +148,7 @@ pub fn make(table: &mut [u64]) -> u64 {
     unsafe { catalogue_make(table.as_mut_ptr(), table.len(), COLLECTION) }
 }
 
-/// A recording, or 0 and the next key up; that is 0 where none is higher.
+/// A recording, or 0 and the next key up; that is 0 if none is higher.
 pub type Found = (u64, u64);
 
 /// The answer of the library. A refusal ends the program.

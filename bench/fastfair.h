@@ -7,17 +7,17 @@
 
 struct fastfair;
 
-/* An empty tree with room for this many keys, or null where memory is short. */
+/* An empty tree with room for this many keys, or null if memory is short. */
 struct fastfair *fastfair_new(size_t keys);
 void fastfair_free(struct fastfair *tree);
 
-/* The value of the key, or 0 where it is absent. */
+/* The value of the key, or 0 if it is absent. */
 uint64_t fastfair_search(const struct fastfair *tree, uint64_t key);
 
 /* A value other than 0 and UINT64_MAX for an absent key. */
 void fastfair_insert(struct fastfair *tree, uint64_t key, uint64_t value);
 
-/* 1 where the key was there and is gone, else 0. Nodes are not merged. */
+/* 1 if the key was there and is gone, else 0. Nodes are not merged. */
 int fastfair_delete(struct fastfair *tree, uint64_t key);
 
 /* Since the tree was made: 8-byte stores that recovery needs, and lines flushed. */

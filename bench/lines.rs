@@ -22,7 +22,7 @@ fn leaf(table: &[u64], key: u64) -> u64 {
     number
 }
 
-/// Slot lines that a look at all slots in use reads, the slot after them included, which tells their end.
+/// Slot lines that a look at all slots in use reads, the slot after them included, which marks their end.
 fn whole(slots: &[u64]) -> usize {
     let used = slots.chunks(2).take_while(|slot| slot[1] != 0).count();
     used.min(11) / 4 + 1
@@ -35,8 +35,8 @@ fn of_words(number: u64) -> usize {
 }
 
 /// What these queries touch in the mean: the plain search, the one with sentinels, and the one that trusts them. Each reads the leaf's first
-/// line. With sentinels a line of slots is known to be in use only by the lines before it, so these are read too; where the key is not on the
-/// line, the whole leaf. Who trusts them reads that line alone where the key is there.
+/// line. With sentinels a line of slots is known to be in use only by the lines before it, so these are read too; if the key is not on the
+/// line, the whole leaf. A search that trusts them reads that line alone if the key is there.
 pub fn count(results: &mut Results, part: &'static str, size: usize, table: &Words, words: &Words, queries: &[u64]) {
     let mut sums = [0; 3];
     for &key in queries {

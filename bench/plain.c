@@ -108,7 +108,7 @@ void plain_pack(uint64_t *table, size_t nodes, const uint64_t *place, const uint
     table[2] = nodes;
 }
 
-/* The node itself, or its sibling where the key is not below that one's fence; never the sibling in a settled table. */
+/* The node itself, or its sibling if the key is not below that one's fence; never the sibling in a settled table. */
 static const uint64_t *stand(const uint64_t *table, uint64_t number, uint64_t key)
 {
     const uint64_t *node = seen_at(table, number);
@@ -154,7 +154,7 @@ static uint64_t in_leaf(const uint64_t *leaf, uint64_t key)
     return 0;
 }
 
-/* The leaf's first shown slot with a larger key, and below the sibling's fence where there is one; 0 for none. */
+/* The leaf's first shown slot with a larger key, and below the sibling's fence if there is one; 0 for none. */
 static uint64_t above(const uint64_t *leaf, const uint64_t *sibling, uint64_t key)
 {
     uint64_t before = leaf[LEFT];
@@ -221,7 +221,7 @@ uint64_t plain_trusting_search(const uint64_t *table, const uint64_t *sentinels,
     return recording != 0 ? recording : answer(table, leaf, key, next);
 }
 
-/* The number of nodes, where length, header and root are as the library wants them; else 0. */
+/* The number of nodes, if length, header and root are as the library wants them; else 0. */
 static uint64_t tested_nodes(const uint64_t *table, size_t words)
 {
     uint64_t nodes = words < HEADER_WORDS ? 0 : (words - HEADER_WORDS) / NODE_WORDS;
@@ -235,7 +235,7 @@ static uint64_t tested_nodes(const uint64_t *table, size_t words)
     return table[FIRST_ROOT] >= 1 && table[FIRST_ROOT] <= nodes ? nodes : 0;
 }
 
-/* The root of a collection; 0 where the table has no such collection. */
+/* The root of a collection; 0 if the table has no such collection. */
 static uint64_t tested_root(const uint64_t *table, uint64_t collection)
 {
     return collection == 1 ? table[FIRST_ROOT] : collection == 2 ? table[SECOND_ROOT] : 0;

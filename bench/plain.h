@@ -14,7 +14,7 @@ size_t plain_nodes(size_t keys);
  */
 void plain_pack(uint64_t *table, size_t nodes, const uint64_t *place, const uint64_t *keys, const uint64_t *recordings, size_t count);
 
-/* The recording of the key; 0 where it is absent, and then *next is the next key up, 0 for none. The table must be sound. */
+/* The recording of the key; 0 if it is absent, and then *next is the next key up, 0 for none. The table must be sound. */
 uint64_t plain_search(const uint64_t *table, uint64_t key, uint64_t *next);
 
 /* The same with the move to a sibling as a branch, whatever the compiler would choose. */

@@ -12,7 +12,7 @@ const PANEL: (f64, f64) = (600.0, 430.0);
 const MARGIN: (f64, f64, f64, f64) = (70.0, 45.0, 150.0, 55.0);
 const LABEL_GAP: f64 = 15.0;
 const LABEL_REACH: f64 = 40.0;
-/// Told apart also by those who confuse red and green (Okabe and Ito, and two more).
+/// Distinct also for people who confuse red and green (Okabe and Ito, and two more).
 const COLOURS: [&str; 10] = ["#000000", "#5d3a9b", "#0072b2", "#56b4e9", "#994f00", "#d55e00", "#009e73", "#cc79a7", "#b58900", "#8a8a8a"];
 /// Of the two kinds of bar: those of the same trees' lines.
 const BARS: [&str; 2] = [COLOURS[0], COLOURS[6]];
@@ -35,7 +35,7 @@ impl Axis {
         self.from + (self.to - self.from) * (value / self.low).ln() / (self.high / self.low).ln()
     }
 
-    /// Powers of ten, with 2 and 5 between them where few powers fit.
+    /// Powers of ten, with 2 and 5 between them if few powers fit.
     fn ticks(&self) -> Vec<f64> {
         let steps: &[f64] = if self.high / self.low > 2e3 { &[1.0] } else { &[1.0, 2.0, 5.0] };
         let powers = (-3..12).map(|p| 10f64.powi(p));

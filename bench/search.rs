@@ -17,7 +17,7 @@ const CHECK_CAP: f64 = 60e9;
 trait Contender {
     fn name(&self) -> &'static str;
 
-    /// The recording, or 0 where the key is absent.
+    /// The recording, or 0 if the key is absent.
     fn find(&self, key: u64) -> u64;
 
     /// The sum of the answers: keeps them alive, and is checked after each run.
@@ -219,7 +219,7 @@ fn race(all: &[Box<dyn Contender + '_>], queries: &[u64], right: u64) -> Vec<Vec
     times
 }
 
-/// The library must take the packed table as settled. Not asked where the check, if it grew with the square, would be over the cap.
+/// The library must take the packed table as settled. Left out if the check, growing with the square, would be over the cap.
 fn accepted(table: &mut Words, expected: f64) -> Option<f64> {
     if expected > CHECK_CAP {
         return None;

@@ -15,7 +15,7 @@
 
 /*
  * Lines of the first batch; batches grow while they take less than the one time, in seconds, and shrink if they take more than the other.
- * The core checks the table once a batch: of the largest that is some tenths of a second, which must not keep the batches small.
+ * The core checks the table once a batch: for the largest table that takes some tenths of a second, which must not keep the batches small.
  */
 #define FIRST_LINES 64
 #define SHORT_TIME 1.0

@@ -131,7 +131,7 @@ static void note_first(struct filming *f, struct first *first, const uint32_t *k
     memcpy(first->kept, kept, f->reel.line_count * sizeof *kept);
 }
 
-/* The code to search for: one that was there before and is not the change's, where there is such. */
+/* The code to search for: one that was there before and is not the change's, if there is one. */
 static uint64_t lost_key(const struct differences *d, uint64_t changed)
 {
     for (size_t i = 0; i < d->count && i < MOST_TOLD; i++)
@@ -255,7 +255,7 @@ static void print_change(const struct filming *f)
             c->kind == ADD ? c->access << 56 | c->recording : 0);
 }
 
-/* What the judge says: -1 for yes, the first count that fails, or null where such a change is not judged. */
+/* What the judge says: -1 for yes, the first count that fails, or null if such a change is not judged. */
 static void print_judge(const struct filming *f)
 {
     const struct scene *s = f->scene;
@@ -331,7 +331,7 @@ static void filming_end(struct filming *f)
     free(f->unsound.kept);
 }
 
-/* The table after all orders, where it still has its header; else before them. */
+/* The table after all orders, if it still has its header; else before them. */
 static void set_stage(struct filming *f)
 {
     const struct scene *s = f->scene;

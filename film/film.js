@@ -24,7 +24,7 @@
     return head + last.toString().padStart(7, "0");
   }
 
-  /* The key of what was typed, as text; null where it is no code and no number. */
+  /* The key of what was typed, as text; null if it is no code and no number. */
   function readCode(text) {
     var plain = text.replace(/[- ]/g, "").toUpperCase();
     if (/^#?[0-9]+$/.test(plain)) {
@@ -76,7 +76,7 @@
     return { flushed: flushed, stored: stored };
   }
 
-  /* The four numbers of the image that holds so many stores of each line; null where this page has not worked it out. */
+  /* The four numbers of the image that holds so many stores of each line; null if this page has not worked it out. */
   function imageOf(s, kept) {
     var birth = 0;
     s.orders.forEach(function (o, i) { if (o[0] === "store" && s.rank[i] <= kept[s.lineOf[i]]) birth = i + 1; });
@@ -691,7 +691,7 @@
     event.preventDefault();
   }
 
-  /* Where the page holds not every choice it holds this one with the other lines written whole. */
+  /* If the page does not hold every choice it holds this one with the other lines written whole. */
   function choose(s, moment, line, kept) {
     state.kept = keptNow(s, moment);
     state.kept[line] = kept;
@@ -715,7 +715,7 @@
     }
   }
 
-  /* #scene=2&order=5&cut=2:1&code=AA0002600040; false where it names no moment. */
+  /* #scene=2&order=5&cut=2:1&code=AA0002600040; false if it names no moment. */
   function readHash() {
     var named = {};
     String(window.location.hash).replace(/^#/, "").split("&").forEach(function (part) {

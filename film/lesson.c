@@ -40,7 +40,7 @@ static uint64_t *empty_table(uint64_t nodes, size_t *words)
     return table;
 }
 
-/* False where the library refuses. */
+/* False if the library refuses. */
 static bool put_in(uint64_t *table, size_t words, uint64_t key, uint64_t recording)
 {
     struct table t = {.working = table, .words = words, .collection = 1, .dock = CATALOGUE_ORDERED};
@@ -104,7 +104,7 @@ static void read_remark(struct part *p, const char *text)
     snprintf(p->title, sizeof p->title, "%.*s", end ? (int)(end - all) : (int)strcspn(all, "."), all);
 }
 
-/* The command in a drawing's file tells its table and its change. */
+/* The command in a drawing's file names its table and its change. */
 static int read_command(struct part *p, const char *text, char table[LINE_TEXT])
 {
     char sign[2] = "", code[KEY_TEXT] = "", recording[KEY_TEXT] = "";

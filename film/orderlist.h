@@ -13,7 +13,7 @@ struct order_list {
 };
 
 /*
- * From the lines of a file, or of standard input where the name is -, each an order as order_read reads it. Empty lines are passed over, and so are
+ * From the lines of a file, or of standard input if the name is -, each an order as order_read reads it. Empty lines are passed over, and so are
  * those that begin with #, and lines `done ..`, `refused ..` and `not made ..`, which end a list. 0, or an exit status after saying which word
  * of which line is wrong and what could stand there; order_list_free in either case.
  */

@@ -8,7 +8,7 @@
 void page_begin(FILE *out);
 void page_end(FILE *out);
 
-/* A file of samples/drawings, with a 0 behind it; null where there is none of that name. */
+/* A file of samples/drawings, with a 0 behind it; null if there is none of that name. */
 const char *drawing_text(const char *name);
 
 #endif

@@ -14,7 +14,7 @@
 #define TOP 70
 #define BOTTOM 50
 
-/* Bars that can still be told apart. */
+/* Bars that can still be distinguished. */
 #define MOST_BARS 160
 
 /* Numbers below the bars. */

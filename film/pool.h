@@ -16,10 +16,10 @@ struct pool {
 /* Memory is short: says so and ends the program. A film changes nothing that would have to be finished. */
 _Noreturn void end_without_memory(void);
 
-/* Zeros for so many things. Where memory is short the program ends so. */
+/* Zeros for so many things. If memory is short the program ends as above. */
 void *room_of(size_t count, size_t size);
 
-/* A stream into a text that is there, to be freed, once stream_text has closed the stream and returned it; the same where memory is short. */
+/* A stream into a text that is there, to be freed, once stream_text has closed the stream and returned it; the same if memory is short. */
 FILE *stream_into(char **text, size_t *length);
 char *stream_text(FILE *out, char **text);
 

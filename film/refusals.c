@@ -14,8 +14,8 @@ const struct refusal refusals[] = {
     {CATALOGUE_SEARCH_LOST, "damaged on a search's way",
      "{table} is damaged on the way to {code}, or to the next code up: a node number, a level or a sibling is wrong"},
     {CATALOGUE_NOT_SOUND, "not sound",
-     "{table} is not sound: a failing disk, another program, or a power cut during --fast or on a disk that does not keep what it was told "
-     "to keep has damaged it; find still answers where its way is whole, and catalogue salvage {table} NEW keeps what can be read"},
+     "{table} is not sound: a failing disk, another program, or a power cut during --fast or on a disk that loses what it reported as "
+     "written has damaged it; find still answers if its way is whole, and catalogue salvage {table} NEW keeps what can be read"},
     {CATALOGUE_SHORT_LIST, "order list too short", "the order list is too short"},
     {CATALOGUE_BAD_RECORDING, "recording 0 or too large", "{recording}: " RECORDINGS},
     {CATALOGUE_KEY_PRESENT, "code there already", "{code} is in {part}{table} already"},
@@ -29,7 +29,7 @@ const struct refusal refusals[] = {
     {CATALOGUE_OTHER_LENGTH, "second slice of another length", NULL},
     {CATALOGUE_SHORT_REPORT, "report of a salvage too short", NULL},
     {CATALOGUE_NO_COLLECTION, "no such collection",
-     "{table} has no collection {collection}; a table has collection 1, and 2 where it was made with --loan"},
+     "{table} has no collection {collection}; a table has collection 1, and 2 if it was made with --loan"},
     {CATALOGUE_NO_DOCK, "no such dock", NULL},
     {CATALOGUE_OTHER_SENTINELS, "sentinels of another length", NULL},
     {CATALOGUE_NOT_SETTLED, "judge: a change is unfinished", "{table} has an unfinished change; catalogue repair {table} finishes it"},

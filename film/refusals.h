@@ -10,7 +10,7 @@ struct refusal {
     uint64_t number;
     const char *name;    /* as --help lists it */
     /*
-     * With {table}, {part} (what table_part says), {collection}, {code} and {recording} for what is refused; null where the place of the
+     * With {table}, {part} (what table_part says), {collection}, {code} and {recording} for what is refused; null if the place of the
      * failure says it.
      */
     const char *message;

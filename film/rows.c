@@ -58,7 +58,7 @@ uint64_t rows_count(const struct rows *r)
     return lines + open_line;
 }
 
-/* More of the file behind what is there of it; false at its end, or where it cannot be read, or is to be read no further. */
+/* More of the file behind what is there of it; false at its end, or if it cannot be read, or is to be read no further. */
 static bool read_more(struct rows *r)
 {
     if (r->file < 0)

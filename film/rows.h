@@ -14,7 +14,7 @@ struct rows {
     const char *name; /* as messages say it */
     int file;
     int failed;      /* errno of a reading that failed, else 0 */
-    const volatile sig_atomic_t *ended; /* where there is one: reading ends, in the midst of a line too, once it is not 0 */
+    const volatile sig_atomic_t *ended; /* if there is one: reading ends, in the middle of a line too, once it is not 0 */
     uint64_t number; /* of the last line read, from 1 */
     bool begun;      /* a line that is not empty was read: the next one is no header */
     /* The last line, without its end; one that is too long lacks the rest. */
@@ -26,18 +26,18 @@ struct rows {
     size_t at, end;
 };
 
-/* The lines of a file, or of standard input where its name is -. False, with errno, where it cannot be opened. */
+/* The lines of a file, or of standard input if its name is -. False, with errno, if it cannot be opened. */
 bool rows_open(struct rows *r, const char *name);
 
-/* The lines of a text; false where it is longer than a part of a file. */
+/* The lines of a text; false if it is longer than a part of a file. */
 bool rows_of_text(struct rows *r, const char *name, const char *text);
 
 void rows_close(struct rows *r);
 
-/* Number of lines to come, where the file can be gone through twice; else 0. */
+/* Number of lines to come, if the file can be read twice; else 0. */
 uint64_t rows_count(const struct rows *r);
 
-/* The next line is not there yet: who asks for it waits for whoever writes it. */
+/* The next line is not there yet: a caller that asks for it waits for the program that writes it. */
 bool rows_wait(struct rows *r);
 
 /* The next line; false at the end of the file. */

@@ -41,7 +41,7 @@ static bool in_use(const struct setting *s, uint64_t n)
     return s->stored_to[n] || seen(&s->before, n) || seen(&s->after, n);
 }
 
-/* The changed collection's tree; null where there is none. */
+/* The changed collection's tree; null if there is none. */
 static const struct tree *own_tree(const struct setting *s, const struct trees *trees)
 {
     return s->collection <= trees->count ? &trees->of[s->collection - 1] : NULL;

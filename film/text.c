@@ -10,7 +10,7 @@
 int fail(int status, const char *format, ...)
 {
     va_list rest;
-    /* What was printed before belongs before the message, also where both go to one file. */
+    /* What was printed before belongs before the message, also if both go to one file. */
     fflush(stdout);
     fputs("catalogue: ", stderr);
     va_start(rest, format);

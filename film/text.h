@@ -31,7 +31,7 @@ bool read_number(const char *text, size_t length, uint64_t *number);
 /* The key of a code that is a word of the command line. 0, or an exit status after saying why. */
 int read_code_word(const char *word, uint64_t *key);
 
-/* A key's code, or # and the number where no code has it; the text given is filled and returned. */
+/* A key's code, or # and the number if no code has it; the text given is filled and returned. */
 const char *key_text(uint64_t key, char text[KEY_TEXT]);
 
 /* A class by its name, in capital or small letters. */

@@ -10,7 +10,7 @@
 #define HEADER_WORDS 8
 #define FIRST_ROOT 1  /* header word of collection 1's root */
 #define NODE_COUNT 2  /* of the number of nodes */
-#define SECOND_ROOT 3 /* of collection 2's; 0 where the table has one collection */
+#define SECOND_ROOT 3 /* of collection 2's; 0 if the table has one collection */
 #define NODE_WORDS 32
 #define LINE_WORDS 8
 
@@ -43,7 +43,7 @@ struct trees {
     size_t count;
 };
 
-/* The words must have a table's header. False where memory is short; trees_free in either case. */
+/* The words must have a table's header. False if memory is short; trees_free in either case. */
 bool trees_walk(struct trees *trees, const uint64_t *words);
 void trees_free(struct trees *trees);
 

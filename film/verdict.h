@@ -9,7 +9,7 @@
 #include "change.h"
 #include "tree.h"
 
-/* Codes that are told of one image; more are counted. */
+/* Codes that are named for one image; more are counted. */
 #define MOST_TOLD 40
 
 struct pairs {
@@ -24,11 +24,11 @@ struct verdicts {
     struct pairs before[MOST_COLLECTIONS]; /* the maps of the table before the list */
     uint64_t *copy;                        /* to repair */
     struct pairs now;                      /* room for a map of an image, or for searches of all codes */
-    struct change repair;                  /* of the image seen last, where it is sound */
+    struct change repair;                  /* of the image seen last, if it is sound */
     uint64_t number;                       /* 0, or why a repair of it is refused */
 };
 
-/* 0, or the refusal of the listing: 4 where the table is not sound. verdicts_end in either case. */
+/* 0, or the refusal of the listing: 4 if the table is not sound. verdicts_end in either case. */
 uint64_t verdicts_begin(struct verdicts *v, const uint64_t *base, size_t words, uint64_t collection, const struct change *change);
 void verdicts_end(struct verdicts *v);
 

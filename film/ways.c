@@ -44,7 +44,7 @@ static int slot_with(const struct tree *tree, uint64_t n, uint64_t key)
     return -1;
 }
 
-/* To the sibling, where the key is the sibling's; false where a test of the search fails. */
+/* To the sibling, if the key is the sibling's; false if a test of the search fails. */
 static bool move(struct way *w, const struct tree *tree, uint64_t *n, uint64_t key)
 {
     uint64_t sibling = tree_word(tree, *n, SIBLING);
@@ -59,7 +59,7 @@ static bool move(struct way *w, const struct tree *tree, uint64_t *n, uint64_t k
     return true;
 }
 
-/* From the root to the leaf; false where the way is lost. */
+/* From the root to the leaf; false if the way is lost. */
 static bool descend(struct way *w, const struct tree *tree, uint64_t root, uint64_t key)
 {
     uint64_t n = root, level = tree_word(tree, root, LEVEL);
@@ -82,7 +82,7 @@ static bool descend(struct way *w, const struct tree *tree, uint64_t root, uint6
     return false;
 }
 
-/* An absent key is refused too where the leaves after it are lost, on which the next code up is looked for. */
+/* An absent key is refused too if the leaves after it, in which the next code up is looked for, are lost. */
 static bool agrees(const struct way *w, const struct tree *tree, bool whole)
 {
     if (!whole)

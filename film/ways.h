@@ -17,8 +17,8 @@ enum { BY_LEFT = -1, BY_ROOT = -2, BY_SIBLING = -3 };
 
 struct way {
     uint64_t number;  /* what catalogue_search returns */
-    uint64_t pointer; /* where it is found */
-    uint64_t next;    /* the next key up, where it is absent and one is */
+    uint64_t pointer; /* if it is found */
+    uint64_t next;    /* the next key up, if it is absent and there is one */
     bool higher;
     int slot; /* of the last node; -1 for none */
     uint64_t nodes[MOST_STEPS];
@@ -26,7 +26,7 @@ struct way {
     size_t count;
 };
 
-/* False where the way does not end at what the library answers. The words have a table's header and the collection. */
+/* False if the way does not end at what the library answers. The words have a table's header and the collection. */
 bool way_find(struct way *w, const uint64_t *words, size_t count, uint64_t collection, uint64_t key);
 
 /* As JSON: [number, "pointer or next", slot, [node, by, ..]]. */

@@ -12,7 +12,7 @@
 
 A find beside a writer answers what was true at some moment while it ran; a change lasts when its call returns. A table is for one thread at a
 time. What the library refuses raises catalogue.Error, with the number of catalogue.h or catalogue_file.h and the library's message.
-The library is the one that CATALOGUE_LIBRARY names, or libcatalogue.so where the system looks for libraries."""
+The library is the one that CATALOGUE_LIBRARY names, or libcatalogue.so in the folders in which the system looks for libraries."""
 import collections
 import ctypes
 import ctypes.util

@@ -43,7 +43,7 @@ static bool too_long(const struct bench *b, size_t i, size_t batch)
     return batch == b->sizes->batch[1] && b->a_code[i] * (double)batch > BATCH_BUDGET;
 }
 
-/* In rounds, so that a slow moment of the disk or the machine meets all; a contender stops where its budget is spent. */
+/* In rounds, so that a slow moment of the disk or the machine affects all; a contender stops when its budget is spent. */
 static void measure_changes(struct bench *b, const char *what, size_t batch, size_t most)
 {
     static struct changes made[PEERS];

@@ -20,7 +20,7 @@ void write_file(const char *folder, const char *name, const void *bytes, size_t 
 /* The file of one folder into another, synced. */
 void copy_file(const char *from, const char *to, const char *name);
 
-/* The bytes of a file, 0 where there is none. */
+/* The bytes of a file, 0 if there is none. */
 uint64_t file_bytes(const char *folder, const char *name);
 
 /* The whole of a file mapped, shared, to read and write. */

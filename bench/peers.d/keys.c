@@ -35,7 +35,7 @@ static uint64_t draw_code(struct random *r)
     return TAIL * head + random_below(r, TAIL);
 }
 
-/* Enters a key into an open hash table of 0 and keys; false where it was there. No code has the key 0. */
+/* Enters a key into an open hash table of 0 and keys; false if it was there. No code has the key 0. */
 static bool enter(uint64_t *table, size_t mask, uint64_t key)
 {
     size_t at = (size_t)((key * UINT64_C(0x9e3779b97f4a7c15)) >> 32) & mask;

@@ -128,7 +128,7 @@ static void *grown(const struct place *place, const struct pair *pairs, size_t c
     return in_file(place, table, words);
 }
 
-/* Sorted where it must be, packed by the library, and written as a new file. */
+/* Sorted if it must be, packed by the library, and written as a new file. */
 static void *load(const struct place *place, const struct pair *pairs, size_t count, bool sorted)
 {
     static const uint64_t none = 0;

@@ -56,14 +56,14 @@ struct peer {
     void (*begin)(void *store);
     void (*end)(void *store);
 
-    /* The pointer of a key; 0 where it is absent. */
+    /* The pointer of a key; 0 if it is absent. */
     uint64_t (*find)(void *store, uint64_t key);
 
     /* The first count pairs from a key up; how many there are. */
     size_t (*range)(void *store, uint64_t low, struct pair *out, size_t count);
     struct scanned (*scan)(void *store);
 
-    /* Bytes of an open store that hold something, where its file has room besides; 0 where the file's length tells. */
+    /* Bytes of an open store that hold something, if its file has room besides; 0 if they are as many as the file's length. */
     uint64_t (*used)(void *store);
 
     /* The files' names in the folder, the first of them the store. */

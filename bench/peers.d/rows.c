@@ -102,19 +102,19 @@ static void print_ratio(const struct row *r, size_t peer)
         printf(" - |");
 }
 
-/* One number where the contenders have the same. */
+/* One number if the contenders have the same. */
 static void print_measured(const struct row *r)
 {
-    size_t told[PEERS], n = 0, same = 0;
+    size_t counts[PEERS], n = 0, same = 0;
     for (size_t i = 0; i < PEERS; i++)
         if (r->measured[i] > 0)
-            told[n++] = r->measured[i];
-    while (same < n && told[same] == told[0])
+            counts[n++] = r->measured[i];
+    while (same < n && counts[same] == counts[0])
         same++;
     if (n == 0)
         printf(" -");
     for (size_t i = 0; i < (same == n && n > 0 ? 1 : n); i++)
-        printf("%s%s", i > 0 ? " / " : " ", text_count(told[i]));
+        printf("%s%s", i > 0 ? " / " : " ", text_count(counts[i]));
     printf(" |\n");
 }
 

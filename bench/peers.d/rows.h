@@ -16,7 +16,7 @@ struct row {
     enum unit unit;
     double figure[PEERS];    /* 0: none */
     bool over[PEERS];        /* the figure is a lower bound: it was broken off */
-    size_t measured[PEERS];  /* changes or runs that the figure is the median of; 0: not told */
+    size_t measured[PEERS];  /* changes or runs that the figure is the median of; 0: not printed */
 };
 
 /* A new row of the table, to be filled. */

@@ -68,7 +68,7 @@ static void close_store(void *store)
     free(s);
 }
 
-/* False where a key or a recording is there already. */
+/* False if a key or a recording is there already. */
 static bool insert_row(struct store *s, const struct pair *pair)
 {
     sqlite3_bind_int64(s->insert, 1, (sqlite3_int64)pair->key);

@@ -99,7 +99,7 @@ def no_such_collection(program, folder):
         fill(program, t, 6, pairs, loans)
         for words in NAMING:
             for n in numbers:
-                pattern = f"^catalogue: {t} has no collection {n}; a table has collection 1, and 2 where it was made with --loan$"
+                pattern = f"^catalogue: {t} has no collection {n}; a table has collection 1, and 2 if it was made with --loan$"
                 program.refuses(NO_COLLECTION, pattern, *[f"{folder}/{w}" if w in ("t", "csv") else w for w in words], *naming(n))
         # It is told before what the table is refused for; a code that is none is told before it.
         words = read_words(t)
