@@ -80,7 +80,7 @@ class Scene:
         self.lines = sorted(self.by_line)
 
     def told(self, numbers):
-        """The four parts told of the image with these stores: it is told at the last of them. None where it is left out."""
+        """The four parts that the film has of the image with these stores, at the last of them. None if it is left out."""
         birth = max(numbers, default=0)
         place = 0
         if birth:
@@ -429,7 +429,7 @@ def main():
     assert kinds["+"] + kinds["-"] + kinds["repair"] == 100 and min(kinds.values()) >= 15, kinds
     print(f"{kinds} and {passed - 100} spoilt lists: {checked}, {met}")
     assert set(met) == {"settled", "a", "b", "c", "unsound", "old", "new", "neither"}, met
-    print(f"a list with too many images: {too_many(chance)} told; one with far too many: {far_too_many(chance)}")
+    print(f"a list with too many images: {too_many(chance)} kept; one with far too many: {far_too_many(chance)}")
     passed += 2
     print(f"{passed} passed, 0 failed")
 

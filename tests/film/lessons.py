@@ -91,7 +91,7 @@ def answers(scene, key):
 
 
 def the_lessons_words(scenes):
-    """What docs/LESSON.md tells of orders is so."""
+    """What docs/LESSON.md says of orders is so."""
     with open(os.path.join(DRAWINGS, "..", "..", "docs", "LESSON.md")) as f:
         text = f.read()
     for said in ("ten scenes", "75 stores and 13 flushes", "Scene 5", "scene 6", "scene 7", "Scene 8", "Scene 10", "order 25", "order 74", "order 75", "order 77", "order 82", "order 9 ",
@@ -107,7 +107,7 @@ def the_lessons_words(scenes):
     found = answers(scenes[5], key + 60)
     assert found[0] and not any(found[1:25]) and all(found[25:])
     assert all(answers(scenes[1], key + 40)), "a code is not found at some moment of the right insertion"
-    done("what the lesson tells of orders")
+    done("what the lesson says of orders")
 
 
 def page_of(name, table, code):

@@ -89,7 +89,7 @@ function plain(html) {
   return text.replace(/\s+/g, " ").replace(/ ([;.,:])/g, "$1");
 }
 
-/* The images in the order in which they are told: with each store, the other lines with unflushed stores as the digits of a counter. By how many stores
+/* The images in the order in which the film has them: with each store, the other lines with unflushed stores as the digits of a counter. By how many stores
  * of each line an image holds. */
 function imagesOf(scene) {
   const images = new Map(), name = (held) => [...held].filter(([, k]) => k > 0).sort((a, b) => a[0] - b[0]).join(";");

@@ -93,7 +93,7 @@ def our_lists(program, folder):
 
 
 def spoilt_lists(program, folder):
-    """What is told of a no."""
+    """What judge prints for a no."""
     t = f"{folder}/t"
     fill(program, t, 6, [(code(i), i) for i in (20, 30, 40)], [(code(50), 50)])
     add = ["+", code(35), 35]

@@ -20,7 +20,7 @@ def write(path, text, encoding="utf-8"):
 
 
 def stops(program, t, csv, status, told, text, added):
-    """Bad lines are told with number and text; the lines before the first are in the table, none after it."""
+    """Bad lines are printed with number and text; the lines before the first are in the table, none after it."""
     write(csv, text)
     got, out, err = program("load", t, csv)
     count = f"{len(told)} bad line{'s' if len(told) > 1 else ''}"
@@ -60,7 +60,7 @@ def bad_lines(program, folder):
     there = "already with this recording .--again passes over such lines."
     one(CODE_THERE, 2, f"{code(6)},6", f".* {there}", f"{code(7)},7\n{code(6)},6\n{code(8)},8\n", 1)
     assert program.done("load", t, csv, "--again") == "1 added, 2 there already\n"
-    # Every bad line is told, the first status is the exit status.
+    # Every bad line is printed, the first status is the exit status.
     some = [(2, "x", FORM), (4, "AA1,4", "not a code, .*"), (5, ",", FORM)]
     stops(program, t, csv, BAD_LINE, some, f"{code(2)},2\nx\n{code(3)},3\nAA1,4\n,\n{code(4)},4\n", 1)
     program.refuses(BAD_FILE, "cannot be opened", "load", t, f"{folder}/none")
@@ -141,7 +141,7 @@ def acknowledging(program, folder):
 
 
 def passing_over_what_is_there(program, folder):
-    """--again looks a code up before it tries to add it: lines that are there need no sound table, and another recording is still told."""
+    """--again looks a code up before it tries to add it: lines that are there need no sound table, and another recording is still reported."""
     t, csv = f"{folder}/t", f"{folder}/csv"
     fill(program, t, 9, [(code(i), i) for i in range(1, 30)])
     write(csv, "".join(f"{code(i)},{i}\n" for i in range(1, 30)) + f"{code(5)},6\n")

@@ -101,7 +101,7 @@ def no_such_collection(program, folder):
             for n in numbers:
                 pattern = f"^catalogue: {t} has no collection {n}; a table has collection 1, and 2 if it was made with --loan$"
                 program.refuses(NO_COLLECTION, pattern, *[f"{folder}/{w}" if w in ("t", "csv") else w for w in words], *naming(n))
-        # It is told before what the table is refused for; a code that is none is told before it.
+        # It is reported before what the table is refused for, and after a code that is none.
         words = read_words(t)
         words[8 + 4] = 1
         write_words(t, words)

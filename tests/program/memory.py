@@ -55,7 +55,7 @@ def allocations_that_fail(program, folder):
 
 
 def wear_of_a_load(program, folder):
-    """Wear figures that are told after an allocation failed are those of the lines that were loaded."""
+    """Wear figures that are printed after an allocation failed are those of the lines that were loaded."""
     t, csv, counted = f"{folder}/t", f"{folder}/csv", f"{folder}/counted"
     program.done("make", f"{folder}/empty", 200)
 

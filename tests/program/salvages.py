@@ -1,4 +1,4 @@
-"""Salvage of damaged tables: what is kept, what is dropped and how it is told, and when no file is made."""
+"""Salvage of damaged tables: what is kept, what is dropped and how it is reported, and when no file is made."""
 import os
 import random
 import re
@@ -188,7 +188,7 @@ def refusals_of_a_salvage(program, folder):
 
 
 def words_that_changed(program, folder):
-    """Some words of a table changed at random: a new table that is settled, each of its pairs a slot of the old one, each slot that is told
+    """Some words of a table changed at random: a new table that is settled, each of its pairs a slot of the old one, each slot that is reported
     as dropped one of the old one too; or the header is not a table's."""
     t, u, chance = f"{folder}/t", f"{folder}/u", random.Random(20261116)
     fill(program, t, 60, [(code(7 * i % 307), 1 + i) for i in range(240)])

@@ -139,7 +139,7 @@ def emptied_tables(program, folder):
 
 
 def full_tables(program, folder):
-    """The first line that does not fit is told as ever, 10; what came before is kept. Single additions never come further."""
+    """The first line that does not fit is refused as before, with 10; what came before is kept. Single additions never come further."""
     t, u, csv, chance = f"{folder}/t", f"{folder}/u", f"{folder}/csv", random.Random(4)
     for nodes in (1, 2, 3, 13, 14, 15, 40):
         most = max(n for n in range(11 * nodes + 1) if nodes_for(n) <= nodes)
@@ -267,7 +267,7 @@ def batches_are_single_additions(program, folder):
 
 
 def acknowledged_one_by_one(program, folder):
-    """Who writes a line and waits for its acknowledgement gets it: a batch ends where the next line is not there yet. Half a line is none."""
+    """A program that writes a line and waits for its acknowledgement gets it: a batch ends if the next line is not there yet. Half a line is none."""
     t = f"{folder}/t"
     fill(program, t, 40, [(code(0), 9999)])
     run = program.start("load", t, "-", "--each", stdin=subprocess.PIPE, stdout=subprocess.PIPE, stderr=subprocess.PIPE)
@@ -636,7 +636,7 @@ def killed_between_batches(program, folder):
             fill(program, t, 900, [(code(90000), 99999)])
             if in_place:
                 os.link(t, f"{folder}/second")
-            # The first one is not killed, and tells how long a load takes.
+            # The first one is not killed, and shows how long a load takes.
             began = time.monotonic()
             acknowledged, killed = kill(program, chance, 1.1 * took if round > 0 else 60, "load", t, csv)
             took = took or time.monotonic() - began
@@ -678,7 +678,7 @@ LARGE = 400000
 MOST_MEMORY = 64 << 20
 
 
-# A child's memory counts from its fork on: a small program of its own starts the command and tells what it used.
+# A child's memory counts from its fork on: a small program of its own starts the command and prints what it used.
 STARTER = """import os, sys
 child = os.posix_spawn(sys.argv[1], sys.argv[1:], os.environ, file_actions=[(os.POSIX_SPAWN_OPEN, 2, os.devnull, os.O_WRONLY, 0)])
 _, status, used = os.wait4(child, 0)

@@ -9,7 +9,7 @@
  * file that SYNCS_DISK names is what the disk has of the mapped file, and the file of that name with .dirty a byte for each page, 1 where the
  * program has stored to it and the system has not written it since; both outlive the program, as the system's memory does. An msync writes
  * the dirty pages that it is for, and then they are clean; one that fails writes none of them, and they are clean all the same. With
- * SYNCS_FAIL_ALL it is every dirty page of the file that was not written: the system had tried to by itself, and tells the next who waits.
+ * SYNCS_FAIL_ALL it is every dirty page of the file that was not written: the system had tried to by itself, and reports the failure to the next one who waits.
  */
 #include <errno.h>
 #include <fcntl.h>

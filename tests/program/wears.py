@@ -165,7 +165,7 @@ def wear_of_a_load(program, folder):
     # As much on the other dock.
     program.done("make", v, 40)
     assert said(program.done("load", v, csv, "--wear", "--dock", 1)) == out
-    # Nothing is worn where nothing is added; what came before a bad line is told.
+    # Nothing is worn if nothing is added; what came before a bad line is reported.
     assert program.done("load", t, csv, "--wear", "--again").splitlines()[1:] == ["0 stores to 0 of 161 lines"]
     write(csv, f"{code(1)},5001\nbad\n{code(2)},5002\n")
     status, out, err = program("load", t, csv, "--wear")

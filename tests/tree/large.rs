@@ -23,7 +23,7 @@ fn scattered(i: u64) -> u64 {
 /// The primes by which numbers get their places, in the first round, the second ..
 const PRIMES: [u64; 6] = [1_048_573, 906_973, 975_157, 1_011_827, 938_459, 891_287];
 
-/// Most of these leave the rest of another by each of the primes, so that no round tells them apart, and all want the same few cells, which
+/// Most of these leave the rest of another by each of the primes, so that no round separates them, and all want the same few cells, which
 /// get full: what is left is compared one by one.
 fn hostile(i: u64) -> u64 {
     static NUMBERS: OnceLock<Vec<u64>> = OnceLock::new();

@@ -61,7 +61,7 @@ impl Node {
         self.slots.iter().position(|s| s.pointer == 0).unwrap_or(12)
     }
 
-    /// Places of the slots in use, told apart: shown, then hidden.
+    /// Places of the slots in use, in two lists: shown, then hidden.
     pub fn places(&self) -> (Vec<usize>, Vec<usize>) {
         let (mut shown, mut hidden) = (Vec::new(), Vec::new());
         for i in 0..self.used() {

@@ -83,7 +83,7 @@ impl Tour {
         self.meet(t, x.sibling, x.level, 0);
     }
 
-    /// The first holder of a code or a recording in the collection keeps it; the first reason that holds is told.
+    /// The first holder of a code or a recording in the collection keeps it; the first reason that holds is reported.
     fn collect(&mut self, i: u64, p: usize, s: Slot) {
         let r = recording(s.pointer);
         let kept = self.kept.last_mut().expect("a collection");
