@@ -57,10 +57,10 @@ pub fn grouped(n: usize) -> String {
     out
 }
 
-/// Three digits that count, or fewer.
+/// Three digits that count, or fewer. No time is below 0: a difference of two that is, is lost in their spread, and printed as a dash.
 fn figure(x: f64) -> String {
     match x {
-        x if x < 0.0 => format!("-{}", figure(-x)),
+        x if x < 0.0 => "-".to_string(),
         x if x >= 99.95 => grouped(x.round() as usize),
         x if x >= 9.995 => format!("{x:.1}"),
         x if x >= 0.0995 || x == 0.0 => format!("{x:.2}"),
@@ -143,7 +143,7 @@ fn change_times(results: &Results, part: &'static str) -> Table {
     table
 }
 
-/// Where a run has one change alone, its figures, counts among them, are of that one.
+/// If a run has one change alone, its figures, counts among them, are of that one.
 fn changes_a_run(results: &Results, part: &str, nodes: usize) -> String {
     match results.median(part, "changes a run", nodes) {
         Some(1.0) => "one change a run".to_string(),
@@ -182,14 +182,16 @@ fn split_ratios(results: &Results) -> Table {
 
 // ---- empty leaves
 
-/// A difference may be lost in the spread, and below 0.
+/// The tests are a difference of two times, and a dash if it is lost in their spread.
 fn walk_ratios(results: &Results) -> Table {
     let head = ["nodes", "leaves", "search, µs", "insertion: check, µs", "insertion: tests of code and recording, µs", "tests / search"];
     let mut table = Table::new("An absent code with all leaves above it empty: the search looks through them for the next code up, an insertion's tests do not", &head);
     for nodes in results.sizes(WALK, "search") {
-        let median = |what| results.get(WALK, what, nodes).map_or(f64::NAN, |s| s.median);
-        let micro = |what| figure(median(what) / 1e3);
-        table.rows.push(vec![grouped(nodes), grouped(median("leaves") as usize), micro("search"), micro("check"), micro("tests"), figure(median("tests") / median("search"))]);
+        let median = |what| results.median(WALK, what, nodes);
+        let mut row = vec![grouped(nodes), grouped(median("leaves").unwrap_or(0.0) as usize)];
+        row.extend(["search", "check", "tests"].map(|what| or_dash(median(what).map(|ns| ns / 1e3))));
+        row.push(ratio(median("tests"), median("search")));
+        table.rows.push(row);
     }
     table
 }
