@@ -204,7 +204,7 @@ static void refused(struct loading *l, struct catalogue_file_line *line, uint64_
     line_refused(l, line, number, ends);
 }
 
-/* Of so many lines to be added, from one on, those that memory has, up to the first that it has not; all if nobody can read it. */
+/* Of so many lines to be added, from one on, those that memory has, up to the first that it has not; all if it cannot be read. */
 static uint64_t lines_there(struct loading *l, size_t from, uint64_t taken)
 {
     struct batch *b = l->batch;

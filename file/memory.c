@@ -90,7 +90,7 @@ uint64_t refresh(struct catalogue_file *f)
 /*
  * After a wait for the disk that failed the system takes the pages that it could not write for written, and no later wait comes back to
  * them. It does not say which: the error may be that of a page which it wrote by itself before. So every page is stored to again, with what
- * it has: whoever waits next waits for them all. Keeps errno.
+ * it has: the next wait is for all of them. Keeps errno.
  */
 static void store_again(struct catalogue_file *f)
 {

@@ -76,8 +76,9 @@ static uint64_t lock(struct catalogue_file *f, const struct catalogue_file_optio
 }
 
 /*
- * A load puts a new file in the table's place, which it has locked before. Who waited for the old one has the lock of a file without a name
- * then, and begins again with the new one; who has the lock of the file with the name keeps it there, since only its holder puts another.
+ * A load puts a new file in the table's place, which it has locked before. A writer that waited for the old one then has the lock of a file
+ * without a name, and begins again with the new one. A writer that has the lock of the file with the name keeps it in its place, since only
+ * the holder of that lock puts another file there.
  * Some file systems never give a file the same number twice: after some tries it goes on, and a writer learns of it before its first store.
  */
 static uint64_t open_locked(struct catalogue_file *f, const struct catalogue_file_options *options)
@@ -224,7 +225,7 @@ void catalogue_file_free(catalogue_file *f)
 
 /* ---- opening and closing */
 
-/* The name from the root folder on; as it is if nobody knows the working folder. */
+/* The name from the root folder on; as it is if the working folder is not known. */
 static char *whole_name(const char *name)
 {
     char *folder = name[0] == '/' ? NULL : getcwd(NULL, 0), *path;

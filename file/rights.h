@@ -6,7 +6,7 @@
 
 /*
  * A new file, which nobody but its maker may open so far, gets the owner, the group, the rights, the access lists and all other extended
- * attributes of an old one, and no others; in between nobody may open it who may not open the old one. False, with errno, if one of them
+ * attributes of an old one, and no others; in between only users who may open the old one may open it. False, with errno, if one of them
  * cannot be carried over.
  */
 bool same_rights(int file, int old);

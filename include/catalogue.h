@@ -39,7 +39,7 @@
  * a store is its word index and its value, a flush is CATALOGUE_MARK and a line number (eight words from a multiple of 8 are a line;
  * lay the table at a multiple of 64 bytes, so that a line is a cache line). The host then carries the orders out on persistent
  * memory, in order: each store, and at a flush the line written back and fenced. It may be cut off between any two orders; the
- * table reloaded from memory answers every search as before the change or as after it, and every search of the other collection as ever.
+ * table reloaded from memory answers every search as before the change or as after it, and every search of the other collection as before.
  * The next writing call repairs it, whichever collection it names: a table has at most one change to finish.
  *
  * A dock is a memory model; each writing call takes the dock that its list is for. The processor of dock 0 keeps its stores to one line in
@@ -328,7 +328,7 @@ uint64_t catalogue_judge_delete(const uint64_t *table, size_t words, const uint6
 #define CATALOGUE_SCRIPTS 1555
 
 /*
- * The short scripts, for whoever tests a host: all those of up to 4 actions over insert or delete of keys 1, 2 and 3 in a table of one
+ * The short scripts, for tests of a host: all those of up to 4 actions over insert or delete of keys 1, 2 and 3 in a table of one
  * collection, with recording 10 plus the key and class 0. Shorter ones come first, equal lengths by the first action that differs: insert
  * before delete, then the smaller key. A script is 5 words: its length, and 4 numbers, 0 to 2 to insert keys 1 to 3, 3 to 5 to delete
  * them, 0 past the length. No table is asked for.

@@ -33,7 +33,7 @@ struct bench {
     const struct sizes *sizes;
     struct place place;
     size_t codes;
-    struct pair *pairs; /* those in the stores from the start, then those to insert, then those asked for in vain */
+    struct pair *pairs; /* those in the stores from the start, then those to insert, then those asked for that are absent */
     size_t next;        /* the next pair to insert */
     struct pair *rising; /* those in the stores from the start */
     struct random random;
@@ -48,7 +48,7 @@ extern const struct peer *const peers[PEERS];
 /* Pairs that all changes of a size insert, at most. */
 size_t to_insert(const struct sizes *s);
 
-/* Those asked for in vain, as many as there are queries. */
+/* Those asked for that are absent, as many as there are queries. */
 const struct pair *absent_pairs(const struct bench *b);
 
 typedef size_t range_call(void *store, uint64_t low, struct pair *out, size_t count);

@@ -543,7 +543,7 @@ def in_other_places(program, folder):
 
 
 def others_that_wait(program, folder):
-    """Who waits for the lock of a table that a load replaces goes on with the new one: nothing is lost. A list beside it has the table of one
+    """A writer that waits for the lock of a table that a load replaces goes on with the new one: nothing is lost. A list beside it has the table of one
     moment."""
     t, csv = f"{folder}/t", f"{folder}/csv"
     lines, found = some_lines(random.Random(11), 300)
