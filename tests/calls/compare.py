@@ -98,7 +98,7 @@ def all_read(calls, mark, text):
 
 
 def differences(header, rust, rattle):
-    """What is not the same in the three texts; [] where they agree."""
+    """What is not the same in the three texts; [] if they agree."""
     try:
         texts = {"the header": from_header(header), "the Rust declaration": from_rust(rust), "the Rattle source": from_rattle(rattle)}
         defined, answered = versions(header, rattle)
@@ -160,7 +160,7 @@ FAULTS = [
 
 
 def planted(text, old, new):
-    """The text with its first old as new; where it has a space or an open bracket the text may have the lines of its layout."""
+    """The text with its first old as new; if it has a space or an open bracket the text may have the lines of its layout."""
     pattern = r"\s+".join(map(re.escape, old.split())).replace(r"\(", r"\(\s*")
     return re.sub(pattern, lambda _: new, text, count=1)
 

@@ -47,7 +47,7 @@ def choices_at(orders, c):
 
 
 def some_parts(late, chance):
-    """First parts of each line's stores: every choice, or where they are very many all, none, those that lack some of one line, and others."""
+    """First parts of each line's stores: every choice, or if they are very many all, none, those that lack some of one line, and others."""
     lines, product = list(late.values()), 1
     for line in lines:
         product *= len(line) + 1
@@ -274,7 +274,7 @@ def split_ready(chance, nodes, top):
 
 
 def leftover(words, chance):
-    """A cut of some change: what it leaves is not settled where there is such a cut."""
+    """A cut of some change: what it leaves is not settled if there is such a cut."""
     keys = [k for k, _ in library.list(words, 1)]
     calls = [("insert", 1, chance.choice(keys) + 3, 99999, 0), ("delete", 1, chance.choice(keys))]
     for name, *rest in chance.sample(calls, 2):

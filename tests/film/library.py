@@ -20,7 +20,7 @@ class Library:
         return list(words)
 
     def search(self, lent, collection, key):
-        """Of words that are lent already: the number; the pointer where it is found, the next key or None where it is absent."""
+        """Of words that are lent already: the number; the pointer if it is found, the next key or None if it is absent."""
         out = [U64(0) for _ in range(4)]
         number = self.calls.catalogue_search(lent, ctypes.c_size_t(len(lent)), U64(collection), U64(key), *map(ctypes.byref, out))
         recording, access, following, higher = (o.value for o in out)
@@ -29,7 +29,7 @@ class Library:
         return number, (following if higher else None) if number == ABSENT else None
 
     def list(self, words, collection):
-        """The pairs, or None where it is refused."""
+        """The pairs, or None if it is refused."""
         room, count, more = Words([0] * (22 * len(words) // 32 + 2)), U64(0), U64(0)
         number = self.calls.catalogue_list(Words(words), ctypes.c_size_t(len(words)), U64(collection), U64(0), U64(MARK), room,
                                            ctypes.c_size_t(len(room)), ctypes.byref(count), ctypes.byref(more))
@@ -50,7 +50,7 @@ class Library:
         return list(lent)
 
     def judge(self, words, orders, change, collection):
-        """-1 for yes, the first count that fails, None where it is refused."""
+        """-1 for yes, the first count that fails, None if it is refused."""
         flat, out, count = Words([w for o in orders for w in o] or [0]), Words([0] * len(words)), U64(0)
         given = [Words(words), ctypes.c_size_t(len(words)), flat, ctypes.c_size_t(2 * len(orders)), out, ctypes.c_size_t(len(words)), U64(collection)]
         if change[0] == "+":

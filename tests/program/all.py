@@ -62,7 +62,7 @@ def main():
             commands.a_tree_of_sixteen_levels, salvages.damaged_slots, loans.drawing_both, loans.salvages_of_two,
             wears.figures_of_printed_orders, wears.wear_of_a_load, judging.spoilt_lists, words.both_directions, films.a_small_film, films.a_film_of_a_list,
             scale.the_same_rights, scale.acknowledged_one_by_one]
-    # Files in memory where there is such a place: the tests say nothing of a disk.
+    # Files in memory if there is such a place: the tests say nothing of a disk.
     place = tempfile.mkdtemp(prefix="catalogue-", dir="/dev/shm" if roomy("/dev/shm") else None)
     os.chmod(place, 0o755)
     works = [(plain, loads.progress_elsewhere, place)] + [(valgrind, t, place) for t in once]

@@ -329,7 +329,7 @@ def classes(program, folder):
     for i in range(6):
         for access in CLASSES + ["open"]:
             before = read_words(t)
-            # Also where it is the class already; the same line, one store.
+            # Also if it is the class already; the same line, one store.
             assert program.done("orders", t, "class", code(i), access).endswith("not made (1 store, 1 flush)\n")
             assert program.done("class", t, code(i), access) == f"class of {code(i)} is {access} (1 store, 1 flush)\n"
             assert program.done("find", t, code(i)) == f"{50 + i},{access}\n"

@@ -29,7 +29,7 @@ def state(program, t):
 
 
 def found(program, t, codes, *words):
-    """What find says of each code, None where it is absent."""
+    """What find says of each code, None if it is absent."""
     answers = {}
     for c in codes:
         status, out, err = program("find", t, c, *words)

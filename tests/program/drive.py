@@ -150,7 +150,7 @@ def naming(collection):
 
 
 def fill(program, path, nodes, pairs, loans=None):
-    """A new table with these pairs, added in this order; of two collections where the second's are given. An empty collection would be
+    """A new table with these pairs, added in this order; of two collections if the second's are given. An empty collection would be
     packed: the first pair is added by itself."""
     csv = path + ".csv"
     program.done("make", path, nodes, *[] if loans is None else ["--loan"])

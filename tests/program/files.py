@@ -83,7 +83,7 @@ def read_only(program, folder):
         os.remove(f"{t}.made")
     if os.geteuid() != 0:
         return None
-    # Another user, whom the system refuses; where that user can run the program at all.
+    # Another user, whom the system refuses; if that user can run the program at all.
     other = {"user": 65534, "group": 65534}
     try:
         program.done("--help", **other)

@@ -62,7 +62,7 @@ def the_lesson(program, folder):
 
 
 def very_many_images(program, folder):
-    """A film has 20,000 images of a list at most, and one of each store at least: where even the short rows are more, the one with all stores."""
+    """A film has 20,000 images of a list at most, and one of each store at least: if even the short rows are more, the one with all stores."""
     t, list = f"{folder}/t", f"{folder}/list"
     fill(program, t, 3, [(code(i), i) for i in (20, 30, 40)])
     write(list, "".join(f"store {17 + 8 * (i % 2)} {1000 + i % 7}\n" for i in range(300)))

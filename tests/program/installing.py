@@ -85,7 +85,7 @@ def installed_below_another_root(program, folder):
 
 
 def an_edited_crate_is_built_again(program, folder):
-    """As make sees it, where a file of a crate is newer than the library."""
+    """As make sees it, if a file of a crate is newer than the library."""
     if any(word.startswith("LIBRARY=") for word in sys.argv[3:]):
         return "not with another library"
     assert "build-library" not in make("-n")

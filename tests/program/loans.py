@@ -49,7 +49,7 @@ def wrong_command_lines(program, folder):
 
 
 def every_command(program, folder):
-    """Each command on one collection, and the other as it was; where none is named it is collection 1."""
+    """Each command on one collection, and the other as it was; if none is named it is collection 1."""
     t, csv = f"{folder}/t", f"{folder}/csv"
     program.done("make", t, 40, "--loan")
     program.done("load", t, HUNDRED)
@@ -90,7 +90,7 @@ def every_command(program, folder):
 
 
 def no_such_collection(program, folder):
-    """17, and every file as it was: 2 where the table has one, and any other number."""
+    """17, and every file as it was: 2 if the table has one, and any other number."""
     t = f"{folder}/t"
     with open(f"{folder}/csv", "w") as f:
         f.write(f"{code(60)},60\n")

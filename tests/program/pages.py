@@ -28,7 +28,7 @@ def preloaded(program, folder, *words, **environment):
 
 
 def recorded(program, folder, *words):
-    """Runs a command that succeeds; the syncs that it made, in order: the words of each, and for an msync, or where a file takes another
+    """Runs a command that succeeds; the syncs that it made, in order: the words of each, and for an msync, or if a file takes another
     one's place, what the file held."""
     status, printed, err = preloaded(program, folder, *words)
     assert status == 0, (words, status, err)
@@ -73,7 +73,7 @@ class Disk:
 
 
 class Judge:
-    """The map of each mix, as the program lists it, of two collections both; None where it is not sound."""
+    """The map of each mix, as the program lists it, of two collections both; None if it is not sound."""
 
     def __init__(self, program, folder, collections=1):
         self.program, self.path, self.known, self.collections = program, f"{folder}/mix", {}, collections
@@ -206,7 +206,7 @@ def lines_to_load(program, folder, t, csv):
 
 
 def a_load_and_its_acknowledgements(program, folder):
-    """Each line that a load has printed by a sync is in every mix of pages there, and beside them at most the one under way where the load
+    """Each line that a load has printed by a sync is in every mix of pages there, and beside them at most the one under way if the load
     goes line by line, else a first part of the lines after it. A table with a second name is changed in place."""
     t, csv, seen, synced = f"{folder}/t", f"{folder}/csv", 0, 0
     have, lines = lines_to_load(program, folder, t, csv)

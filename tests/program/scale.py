@@ -251,7 +251,7 @@ def refused_lines(program, folder):
 
 
 def batches_are_single_additions(program, folder):
-    """The words of a table after batches are those after single additions, on either dock, also where lists are many."""
+    """The words of a table after batches are those after single additions, on either dock, also if lists are many."""
     t, csv, chance = f"{folder}/t", f"{folder}/csv", random.Random(6)
     lines, found = some_lines(chance, 1500 if program.quick else 100)
     write(csv, lines[20:])

@@ -1,12 +1,12 @@
 /*
  * Loaded before the program's libraries: writes down, into the file that SYNCS names, each call by which the program waits for the disk or
  * gives a file its name, in order and before it is done, with how much the program has printed to standard output, a file. At an msync also
- * what the mapped file holds at that moment, where a file takes another one's place what it holds. With SYNCS_NO_RENAME there is no rename
+ * what the mapped file holds at that moment, if a file takes another one's place what it holds. With SYNCS_NO_RENAME there is no rename
  * that keeps a file that is there, as on some file systems. With SYNCS_KILL the program is killed at the fsync of that number; with
  * SYNCS_FAIL_FSYNC that fsync fails, with SYNCS_FAIL_READ the pread of that number, with SYNCS_FAIL_MEMORY the allocation.
  *
  * With SYNCS_FAIL the msync of that number fails, as on a disk that does; with SYNCS_DIE the program is killed before it learns that. The
- * file that SYNCS_DISK names is what the disk has of the mapped file, and the file of that name with .dirty a byte for each page, 1 where the
+ * file that SYNCS_DISK names is what the disk has of the mapped file, and the file of that name with .dirty a byte for each page, 1 if the
  * program has stored to it and the system has not written it since; both outlive the program, as the system's memory does. An msync writes
  * the dirty pages that it is for, and then they are clean; one that fails writes none of them, and they are clean all the same. With
  * SYNCS_FAIL_ALL it is every dirty page of the file that was not written: the system had tried to by itself, and reports the failure to the next one who waits.
@@ -60,7 +60,7 @@ static size_t mapped_bytes;
 /* ---- the pages that the system has not written */
 
 static size_t page;
-static unsigned char *dirty; /* one for each page; null where there is no such disk */
+static unsigned char *dirty; /* one for each page; null if there is no such disk */
 
 static size_t pages(void)
 {

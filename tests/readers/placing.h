@@ -28,7 +28,7 @@ void scene_ask(uint64_t key);
 
 /*
  * The brackets are checked, and every placing is tried: of all single stores, of whole calls, of the first call's stores and then whole calls.
- * A search is followed over three brackets; over two, where single stores are near.
+ * A search is followed over three brackets; over two, if single stores are near.
  */
 enum { SINGLY = 1, WHOLE_CALLS = 2, ONE_SINGLY = 4, NEAR = 8 };
 void scene_play(unsigned how);

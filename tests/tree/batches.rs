@@ -11,7 +11,7 @@ use common::*;
 use reference::*;
 use std::collections::BTreeSet;
 
-/// What a batch comes to: the write, the pairs taken where the count is put, and how many orders each pair taken has.
+/// What a batch comes to: the write, the pairs taken if the count is put, and how many orders each pair taken has.
 struct Batch {
     wrote: Wrote,
     taken: Option<u64>,

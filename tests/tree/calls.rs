@@ -60,7 +60,7 @@ impl Word {
         self.0[2..].as_mut_ptr()
     }
 
-    /// What the word holds, where something was put into it.
+    /// What the word holds, if something was put into it.
     fn put(&self) -> Option<u64> {
         let [a, b, word, c, d] = self.0;
         assert!([a, b, c, d] == [GUARD; 4], "a guard word was written");
@@ -68,7 +68,7 @@ impl Word {
     }
 }
 
-/// What a search left: its number, and each lent word where it put something there.
+/// What a search left: its number, and each lent word if it put something there.
 #[derive(Clone, Copy, Debug, PartialEq)]
 pub struct Looked {
     pub number: u64,
@@ -154,7 +154,7 @@ pub fn check_takes(t: &[u64]) -> (u64, [u64; 16], std::time::Duration) {
     (n, report, started.elapsed())
 }
 
-/// The number; the count and whether more were left, each where the call put it; and the slice after it.
+/// The number; the count and whether more were left, each if the call put it; and the slice after it.
 pub fn list(t: &[u64], collection: u64, low: u64, high: u64, out: &[u64]) -> (u64, [Option<u64>; 2], Vec<u64>) {
     let (mut table, mut slice) = (Lent::new(t), Lent::new(out));
     let (mut pairs, mut more) = (Word::new(), Word::new());
@@ -163,7 +163,7 @@ pub fn list(t: &[u64], collection: u64, low: u64, high: u64, out: &[u64]) -> (u6
     (n, [pairs.put(), more.put()], slice.back().to_vec())
 }
 
-/// What a write left: its number, its stores, its flushes and its barriers, each where it put it, the table and the order list.
+/// What a write left: its number, its stores, its flushes and its barriers, each if it put it, the table and the order list.
 #[derive(Debug, PartialEq)]
 pub struct Wrote {
     pub number: u64,
@@ -190,7 +190,7 @@ pub fn insert(t: &[u64], collection: u64, list: &[u64], dock: u64, key: u64, rec
     wrote(t, list, |a, b, s, f, r| unsafe { catalogue_insert(a, t.len(), collection, b, list.len(), dock, key, recording, access, s, f, r) })
 }
 
-/// What many insertions left: the write, and the pairs taken and the number that stopped them, each where it was put.
+/// What many insertions left: the write, and the pairs taken and the number that stopped them, each if it was put.
 pub fn insert_many(t: &[u64], collection: u64, list: &[u64], dock: u64, pairs: &[u64]) -> (Wrote, Option<u64>, Option<u64>) {
     let (mut lent, mut taken, mut stop) = (Lent::new(pairs), Word::new(), Word::new());
     let (p, n, e) = (lent.pointer(), taken.pointer(), stop.pointer());
@@ -219,7 +219,7 @@ pub fn repair(t: &[u64], list: &[u64], dock: u64) -> Wrote {
     wrote(t, list, |a, b, s, f, r| unsafe { catalogue_repair(a, t.len(), b, list.len(), dock, s, f, r) })
 }
 
-/// The number, the count of dropped slots where it was put, the second slice and the report.
+/// The number, the count of dropped slots if it was put, the second slice and the report.
 pub fn salvage(t: &[u64], out: &[u64], report: &[u64]) -> (u64, Option<u64>, Vec<u64>, Vec<u64>) {
     let (mut table, mut second, mut third) = (Lent::new(t), Lent::new(out), Lent::new(report));
     let mut dropped = Word::new();
@@ -281,7 +281,7 @@ pub fn repair_with(t: &[u64], words: &[u64], list: &[u64], dock: u64) -> Kept {
     kept(t, words, list, |a, w, b, s, f, r| unsafe { catalogue_repair_with(a, t.len(), w, words.len(), b, list.len(), dock, s, f, r) })
 }
 
-/// The number, the count where it was put, and the second slice: of a list for an insertion of a recording and a class, or for a deletion.
+/// The number, the count if it was put, and the second slice: of a list for an insertion of a recording and a class, or for a deletion.
 pub fn judge(t: &[u64], list: &[u64], out: &[u64], collection: u64, key: u64, wanted: Option<(u64, u64)>) -> (u64, Option<u64>, Vec<u64>) {
     let (mut table, mut orders, mut second) = (Lent::new(t), Lent::new(list), Lent::new(out));
     let mut count = Word::new();
@@ -301,7 +301,7 @@ pub fn script(number: u64, lent: [u64; 5]) -> (u64, [u64; 5]) {
     (n, script.back().try_into().unwrap())
 }
 
-/// The number, and the script's number where it was put.
+/// The number, and the script's number if it was put.
 pub fn script_number(words: [u64; 5]) -> (u64, Option<u64>) {
     let (mut script, mut number) = (Lent::new(&words), Word::new());
     let n = unsafe { catalogue_script_number(script.pointer(), number.pointer()) };
@@ -309,7 +309,7 @@ pub fn script_number(words: [u64; 5]) -> (u64, Option<u64>) {
     (n, number.put())
 }
 
-/// What the wear figures left: the number; total, largest, first line and pairs, each where the call put it; and the two slices.
+/// What the wear figures left: the number; total, largest, first line and pairs, each if the call put it; and the two slices.
 #[derive(Debug, PartialEq)]
 pub struct Wore {
     pub number: u64,

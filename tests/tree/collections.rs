@@ -126,7 +126,7 @@ struct Finished {
     left: [[u64; 5]; 2],
 }
 
-/// A call on a table where a collection may be unfinished: as the reference's; accepted, it leaves a settled table, and every cut holds with both
+/// A call on a table in which a collection may be unfinished: as the reference's; accepted, it leaves a settled table, and every cut holds with both
 /// maps. What it stores first is the repair.
 fn finished(t: &[u64], call: Call, met: &mut Finished, seed: u64, name: &str) {
     let sound = judge(t).expect("a sound table");

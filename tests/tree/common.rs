@@ -161,7 +161,7 @@ pub fn before(t: &[u64], n: u64, p: usize) -> u64 {
     if p == 0 { t[start(n)] } else { t[start(n) + 7 + 2 * p] }
 }
 
-/// Slot p is hidden; where the node is an inner one its child then lacks its slot, (c).
+/// Slot p is hidden; if the node is an inner one its child then lacks its slot, (c).
 pub fn hide(t: &mut [u64], n: u64, p: usize) {
     t[start(n) + 9 + 2 * p] = before(t, n, p);
 }
@@ -189,7 +189,7 @@ pub fn damaged(t: &[u64], random: &mut Random) -> Vec<u64> {
     d
 }
 
-/// Any words of a length; mostly with a right header, so that the calls look further: of two collections where asked for and where it can be.
+/// Any words of a length; mostly with a right header, so that the calls look further: of two collections if asked for and if it can be.
 pub fn any_words(len: usize, collections: u64, random: &mut Random) -> Vec<u64> {
     let most = [1, 4, 40, MARK][random.below(4) as usize];
     let mut t: Vec<u64> = (0..len).map(|_| random.below(most)).collect();
@@ -309,7 +309,7 @@ pub struct Held {
 }
 
 /// An image of a cut after c of a call's orders is as the cut rule says: sound with the maps before the call or after it, by every search
-/// asked; before it where c is 0, after it where c is all; and repair settles it with the same maps.
+/// asked; before it if c is 0, after it if c is all; and repair settles it with the same maps.
 pub fn image_holds(image: &[u64], maps: [&Maps; 2], cut: (usize, usize), asked: &BTreeSet<u64>, seed: u64, call: Call) -> Held {
     let [old, new] = maps;
     let (c, all) = cut;

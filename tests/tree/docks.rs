@@ -1,5 +1,5 @@
 //! The two docks side by side: without its barriers a list for the unordered dock is the ordered one's, a cut leaves the same images on both,
-//! and codes are lost where the barriers are left out.
+//! and codes are lost if the barriers are left out.
 mod calls;
 mod common;
 mod reference;
@@ -46,7 +46,7 @@ fn same_images(t: &[u64], [plain, barred]: &[Vec<Order>; 2], call: Call, seed: u
     count
 }
 
-/// Whether a cut on the unordered dock may lose a code that was there and stays, where the list has no barriers. All choices of a line's stores
+/// Whether a cut on the unordered dock may lose a code that was there and stays, if the list has no barriers. All choices of a line's stores
 /// are those just before its flush.
 fn loses_a_code(t: &[u64], plain: &[Order], kept: &[(u64, u64)]) -> bool {
     let flushes = (0..plain.len()).filter(|&c| matches!(plain[c], Order::Flush(_)));

@@ -23,7 +23,7 @@ struct Met {
 }
 
 /// The one code of the leaf is deleted: the list is the reference's, the leaf is unreachable afterwards with its words as they were but for
-/// the one pointer, and every cut holds; where it left the leaf without its slot, repair attaches it again, empty.
+/// the one pointer, and every cut holds; if it left the leaf without its slot, repair attaches it again, empty.
 fn freed(t: &[u64], leaf: u64, met: &mut Met, seed: u64, name: &str) {
     let tree = judge(t);
     expect(tree.is_some(), seed, t, || format!("{name}: the test's own table is not sound"));

@@ -25,7 +25,7 @@ fn unflushed(happened: &[Order]) -> BTreeSet<u64> {
     lines
 }
 
-/// The maps of a table, and whether it is settled, where it is sound; any header may have been stored.
+/// The maps of a table, and whether it is settled, if it is sound; any header may have been stored.
 fn held(m: &[u64]) -> Option<(Maps, bool)> {
     if !header_ok(m) {
         return None;
@@ -94,7 +94,7 @@ fn settled(collections: u64, random: &mut Random) -> Vec<u64> {
     write(&t, LIST_WORDS, ORDERED, Call::Repair).map_or(t, |w| w.t)
 }
 
-/// An insertion or a deletion that the table accepts; where asked for one that frees a leaf, once others were made, if any does.
+/// An insertion or a deletion that the table accepts; if asked for one that frees a leaf, once others were made, if any does.
 fn accepted(t: &mut Vec<u64>, frees: bool, random: &mut Random) -> Option<Call> {
     let n = some_collection(t, random);
     while frees {
@@ -163,7 +163,7 @@ const WAYS: [&str; 16] = [
     "any order of the orders",
 ];
 
-/// Our list, spoilt in one of the ways; None where the way does not apply.
+/// Our list, spoilt in one of the ways; None if the way does not apply.
 fn spoilt(way: usize, t: &[u64], os: &[Order], call: Call, random: &mut Random) -> Option<Vec<Order>> {
     let mut list = os.to_vec();
     let (stores, flushes) = (places(os, true), places(os, false));

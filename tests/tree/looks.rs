@@ -117,7 +117,7 @@ impl Reader<'_> {
         all
     }
 
-    /// Node n was seen as x at moment i; now its sibling, where it has one.
+    /// Node n was seen as x at moment i; now its sibling, if it has one.
     fn from(&mut self, n: u64, x: &Node, level: u64, i: usize) -> Vec<Answer> {
         if x.level != level || x.sibling != 0 && !self.inside(x.sibling) {
             return vec![Answer::Refused(3)];

@@ -123,7 +123,7 @@ fn small(collections: u64, size: u64, random: &mut Random, seed: u64) -> [u64; 2
     noticed
 }
 
-/// The maps after a call, or those before where it is refused.
+/// The maps after a call, or those before if it is refused.
 fn changed_or(maps: &Maps, t: &[u64], call: Call) -> Maps {
     if write(t, LIST_WORDS, ORDERED, call).is_ok() { changed(maps, call) } else { maps.clone() }
 }

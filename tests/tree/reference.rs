@@ -101,7 +101,7 @@ pub fn header_ok(t: &[u64]) -> bool {
     }
 }
 
-/// What refusal 17 tests: a collection that is not 1 or 2, or 2 where word 3 is 0.
+/// What refusal 17 tests: a collection that is not 1 or 2, or 2 if word 3 is 0.
 pub fn no_collection(t: &[u64], collection: u64) -> bool {
     match collection {
         1 => false,
@@ -168,7 +168,7 @@ fn packed_rows(first: u64, pairs: &Map) -> Vec<Vec<Made>> {
     rows
 }
 
-/// A table of n nodes with these maps packed, collection 1 first; none where that takes more than n nodes.
+/// A table of n nodes with these maps packed, collection 1 first; none if that takes more than n nodes.
 pub fn packed(n: u64, maps: &[Map]) -> Option<Vec<u64>> {
     let mut t = make(n, 0);
     let mut number = 1;
@@ -253,7 +253,7 @@ fn stands(t: &[u64], i: u64, level: u64) -> bool {
 }
 
 /// From the search's last leaf on along the siblings: the first shown slot, below its own leaf's sibling's fence, with a larger key; and how
-/// many leaves were entered for it. None where a leaf fails the search's tests, or more than N leaves would be entered.
+/// many leaves were entered for it. None if a leaf fails the search's tests, or more than N leaves would be entered.
 pub fn next_up(t: &[u64], last: Node, k: u64) -> Option<(Option<u64>, u64)> {
     let mut x = last;
     for entered in 1..=t[2] {

@@ -14,7 +14,7 @@ pub struct Rows {
 /// Keys lie so far apart.
 pub const STEP: u64 = 1_000;
 
-/// Parents over leaves with so many codes each, a root above them where they are several, and nodes to spare; numbered at random.
+/// Parents over leaves with so many codes each, a root above them if they are several, and nodes to spare; numbered at random.
 pub fn rows(codes: &[Vec<usize>], spare: usize, random: &mut Random) -> Rows {
     let count: usize = codes.iter().map(|of| 1 + of.len()).sum::<usize>() + (codes.len() > 1) as usize;
     let mut numbers: Vec<u64> = (1..=(count + spare) as u64).collect();
@@ -67,7 +67,7 @@ pub struct Place {
     pub child: usize,
 }
 
-/// Ways to leave the table unfinished around the leaf; each None where the table has no room or no matter for it.
+/// Ways to leave the table unfinished around the leaf; each None if the table has no room or no matter for it.
 pub const LEFTOVERS: [(&str, fn(&Rows, Place) -> Option<Vec<u64>>); 14] = [
     ("settled", |r, _| Some(r.t.clone())),
     ("(a) behind the leaf's slot", |r, p| hidden(r, r.leaves[p.parent][p.child], 1)),

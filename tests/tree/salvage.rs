@@ -61,7 +61,7 @@ impl Tour {
         }
     }
 
-    /// Places of the shown slots below the sibling's fence; where the sibling number is outside 1 to N, of all shown ones.
+    /// Places of the shown slots below the sibling's fence; if the sibling number is outside 1 to N, of all shown ones.
     fn followed(&mut self, t: &[u64], x: &Node) -> Vec<usize> {
         let below = |k: u64| !(1..=t[2]).contains(&x.sibling) || k < node(t, x.sibling).fence;
         let (followed, past): (Vec<usize>, Vec<usize>) = x.places().0.into_iter().partition(|&p| below(x.slots[p].key));
@@ -278,7 +278,7 @@ fn row_of_leaves(slots: &[usize], random: &mut Random) -> Vec<u64> {
     t
 }
 
-/// Up to 12 slots in a leaf, which no sound table has: 10 where the packing needs more nodes than there are.
+/// Up to 12 slots in a leaf, which no sound table has: 10 if the packing needs more nodes than there are.
 fn crowded_tables(count: u64, random: &mut Random, seed: u64) {
     let mut met = Met::default();
     for _ in 0..count {
@@ -470,7 +470,7 @@ fn row_of_pairs(n: u64, pairs: &[(u64, u64)]) -> Vec<u64> {
 }
 
 /// Inner nodes in a chain, each below the one before by way of its left (place none) or of a slot, from a level given down; the last one is
-/// a leaf with codes where the levels come to 0 there.
+/// a leaf with codes if the levels come to 0 there.
 fn chain(n: u64, level: u64, place: Option<u64>) -> Vec<u64> {
     let nodes: Vec<Vec<u64>> = (1..=n)
         .map(|i| {
@@ -492,7 +492,7 @@ fn chain(n: u64, level: u64, place: Option<u64>) -> Vec<u64> {
     t
 }
 
-/// Leaves in a chain of siblings, every sixteenth with a code; half of the nodes are inner ones in a chain of their own where asked for.
+/// Leaves in a chain of siblings, every sixteenth with a code; half of the nodes are inner ones in a chain of their own if asked for.
 fn siblings(n: u64, with_parents: bool) -> Vec<u64> {
     let inner = if with_parents { n / 2 } else { 0 };
     let nodes: Vec<Vec<u64>> = (1..=n)

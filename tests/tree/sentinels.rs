@@ -50,7 +50,7 @@ fn set_words(after: &Writer, words: &[u64]) -> Vec<u64> {
 
 // ---- words to take
 
-/// True words, or false ones of several kinds, for a table of n nodes; the true ones are given where there are any.
+/// True words, or false ones of several kinds, for a table of n nodes; the true ones are given if there are any.
 fn some_words(n: u64, right: Option<&[u64]>, keys: &[u64], random: &mut Random) -> Vec<u64> {
     let len = 3 * n as usize;
     let any = |random: &mut Random| keys[random.below(keys.len() as u64) as usize];
@@ -116,7 +116,7 @@ impl Met {
 // ---- searches
 
 /// Searches with these words for keys of the table, in both collections and in one that there is not: each as the request reads; on a sound
-/// table as the plain search whatever the words are; on another one the plain search finds too where the slot differs.
+/// table as the plain search whatever the words are; on another one the plain search finds too if the slot differs.
 fn same_searches(t: &[u64], words: &[u64], sound: bool, random: &mut Random, met: &mut Met, seed: u64) {
     for n in [1, 2, any_collection(random)] {
         for k in keys(t, random) {
@@ -259,7 +259,7 @@ fn a_leaf(random: &mut Random) -> Vec<u64> {
     t
 }
 
-/// A table of two or three levels unfinished in this way, or settled; None where it has no room or no matter for that.
+/// A table of two or three levels unfinished in this way, or settled; None if it has no room or no matter for that.
 fn left_over(unfinished: fn(&Rows, Place) -> Option<Vec<u64>>, random: &mut Random) -> Option<Vec<u64>> {
     let codes: Vec<Vec<usize>> = (0..1 + random.below(2)).map(|_| (0..2 + random.below(3)).map(|_| 1 + random.below(11) as usize).collect()).collect();
     let r = rows(&codes, 1 + random.below(4) as usize, random);

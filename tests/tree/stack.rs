@@ -162,7 +162,7 @@ const CALLS: &[(&str, fn(&mut Lent) -> u64)] = &[
 
 // ---- tables
 
-/// A list of the call's own, for the calls that take one; of a deletion where it is to be judged.
+/// A list of the call's own, for the calls that take one; of a deletion if it is to be judged.
 fn own_list(lent: &Lent, deletes: bool) -> Vec<u64> {
     let mut l = lent.clone();
     l.dock = 0;

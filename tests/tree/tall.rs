@@ -198,7 +198,7 @@ fn main() {
     }
     passed += 1;
 
-    // A run that includes a root at level 15: 11, with enough nodes, and before 10 where there are too few.
+    // A run that includes a root at level 15: 11, with enough nodes, and before 10 if there are too few.
     for i in 0..8 * size {
         let tower = tower(&floors(15, 16, &mut random), [0, 1, 16, 17, 40][(i % 5) as usize], &mut random);
         let t = left_over(&tower, &mut random);

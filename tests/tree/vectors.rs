@@ -161,7 +161,7 @@ fn neighbours_further_on() {
     lacks(&t, 20, Some(45));
     lacks(&t, 46, Some(60));
     lacks(&t, 61, None);
-    // A leaf further on that fails the tests is met only where no slot before it answers.
+    // A leaf further on that fails the tests is met only if no slot before it answers.
     let t = table(1, &[([MARK, 2, 0, 0], &[(10, 1)]), ([MARK, 3, 0, 40], &[(45, 2)]), ([MARK, 4, 0, 60], &[]), ([MARK, 0, 0, 80], &[(90, 3)])]);
     lacks(&t, 9, Some(10));
     lacks(&t, 50, Some(90));
@@ -172,7 +172,7 @@ fn neighbours_further_on() {
         finds(&bad, 45, 2);
         search_gives(&bad, 46, 3);
     }
-    // The sibling of the search's last leaf is tested before its slots are used, also after a move; not where the key is there.
+    // The sibling of the search's last leaf is tested before its slots are used, also after a move; not if the key is there.
     for (word, value) in [(41, 5), (41, MARK), (74, 1)] {
         let bad = with(&t, word, value);
         search_gives(&bad, 41, 3);
@@ -457,7 +457,7 @@ fn class_changes() {
             let pointer = access * ROOM + recording;
             let mut want = list.to_vec();
             want[..4].copy_from_slice(&[place as u64, pointer, MARK, 2]);
-            // Also where the code has that class already.
+            // Also if the code has that class already.
             gives(&format!("class {access} of {key}"), &t, (after.number, after.counts, after.list), (0, [Some(1), Some(1), Some(0)], want));
             gives(&format!("class {access} of {key}"), &t, &after.table, &with(&t, place, pointer));
             gives(&format!("search for {key}"), &after.table, calls::search(&after.table, 1, key), calls::found(recording, access));
@@ -538,7 +538,7 @@ fn numbers_in(t: &[u64], collection: u64, words: usize) -> [u64; 6] {
     [looked.number, listed.0, numbers[0], numbers[1], numbers[2], numbers[3]]
 }
 
-/// 17 straight after 2: the collection is not 1 or 2, or 2 where word 3 is 0. A repair names none.
+/// 17 straight after 2: the collection is not 1 or 2, or 2 if word 3 is 0. A repair names none.
 fn no_such_collection() {
     let one = table(1, &[([MARK, 0, 0, 0], &[(20, 5)]), FREE]);
     let both = two([1, 2], &[([MARK, 0, 0, 0], &[(20, 5)]), LEAF]);
