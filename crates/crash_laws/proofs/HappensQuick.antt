@@ -77,10 +77,12 @@ pub record CutShort : Type 0 where
   pub half-sound : (sound half ≡ true) × (settled half ≡ false)
   pub half-lacks : (search 1 half 115 ≡ Absent Nothing) × (search 1 half 60 ≡ Found 6 0)
   pub twenty : openNumber 49 half ≡ 20
+  -- an accepted call that does not take the summary ends it too
+  pub other-ends : runActs (both full) (call (event repair whole) ∷ first) .summary ≡ none
 
 pub cut-short : CutShort
 unfolding everything
-cut-short = record { starts-sound = refl; opens-it = refl; answers = (refl, refl); cut-leaves = (refl, refl); half-sound = (refl, refl); half-lacks = (refl, refl); twenty = refl }
+cut-short = record { starts-sound = refl; opens-it = refl; answers = (refl, refl); cut-leaves = (refl, refl); half-sound = (refl, refl); half-lacks = (refl, refl); twenty = refl; other-ends = refl }
 
 -- The repair settles it, and a summary is opened; the insertion comes.
 pub record Comes : Type 0 where

@@ -84,18 +84,18 @@ module _ (m : ℕ) (cs : Words) (long : length cs ≡ m) (x : ℕ) where
           seek-goes i f here ∙ ih later (omega arith)
 
   -- where it ends: at such a cell, or nowhere
-  abbrev Told : (f i p : ℕ) → Type 0
-  Told f i p = ((p ≡ m) × ((c : ℕ) → c < m → ahead m i c < f → Passed c)) ⊎ ((p < m) × Stop p × Before i p)
+  abbrev Ended : (f i p : ℕ) → Type 0
+  Ended f i p = ((p ≡ m) × ((c : ℕ) → c < m → ahead m i c < f → Passed c)) ⊎ ((p < m) × Stop p × Before i p)
 
-  pub seek-told : (f i : ℕ) → i < m → Told f i (seek cs x i f)
+  pub seek-ended : (f i : ℕ) → i < m → Ended f i (seek cs x i f)
   unfolding seek
-  seek-told zero i a = inl (long, λ c l h. absurd (omega arith))
-  seek-told (suc f) i a = ⊎-elim stop (λ p. go p (seek cs x (nextCell m i) f) (seek-goes i f p) (seek-told f (nextCell m i) (next-in m i a))) (stop-or-pass i)
+  seek-ended zero i a = inl (long, λ c l h. absurd (omega arith))
+  seek-ended (suc f) i a = ⊎-elim stop (λ p. go p (seek cs x (nextCell m i) f) (seek-goes i f p) (seek-ended f (nextCell m i) (next-in m i a))) (stop-or-pass i)
     where
-      stop : Stop i → Told (suc f) i (seek cs x i (suc f))
+      stop : Stop i → Ended (suc f) i (seek cs x i (suc f))
       stop s = rw (seek-stops i f s) (inr (a, s, λ c l h. absurd (omega (arith, ahead-same m i a))))
 
-      go : Passed i → (p : ℕ) → seek cs x i (suc f) ≡ p → Told f (nextCell m i) p → Told (suc f) i (seek cs x i (suc f))
+      go : Passed i → (p : ℕ) → seek cs x i (suc f) ≡ p → Ended f (nextCell m i) p → Ended (suc f) i (seek cs x i (suc f))
       go here p e (inl t) = rw e (inl (t .0, λ c l h. ⊎-elim (λ q. rw q here) (λ y. t .1 c l (omega (arith, ahead-nearer m i c a l (λ q. y (sym q))))) (same-or-not c i)))
       go here p e (inr t) =
           let off : i ≢ p = λ q. ⊎-elim (λ s. here .0 (ap (at cs) q ∙ s)) (λ s. here .1 (ap (at cs) q ∙ s)) (t .1) in
@@ -127,7 +127,7 @@ module _ (m : ℕ) (cs : Words) (mem : ℕ → Bool) (some : 0 < m) (zeroless : 
   set-gapped long s = record { long = long; known = λ i z. s .known i; found = λ x e. at-place x e; once = λ i j y z. s .once i j }
     where
       at-place : (x : ℕ) → mem x ≡ true → Found m cs m x
-      at-place x e = go (seek-told m cs long x m (homeOf m x) (home-in m x some))
+      at-place x e = go (seek-ended m cs long x m (homeOf m x) (home-in m x some))
         where
           p : ℕ
           p = seek cs x (homeOf m x) m
@@ -135,7 +135,7 @@ module _ (m : ℕ) (cs : Words) (mem : ℕ → Bool) (some : 0 < m) (zeroless : 
           here : at cs p ≡ x
           here = ap (at cs) (sym (cell-for m cs x long)) ∙ holds-here cs x (s .found x e)
 
-          go : Told m cs long x m (homeOf m x) p → Found m cs m x
+          go : Ended m cs long x m (homeOf m x) p → Found m cs m x
           go (inl t) = absurd (real x e (sym here ∙ past-zero cs p (omega (arith, t .0))))
           go (inr t) = record { place = p; inside = t .0; off = λ q. omega (arith, t .0); here = here; path = λ c l h. inr (t .2 c l h .1) }
 
@@ -192,9 +192,9 @@ module _ (m : ℕ) (cs : Words) (mem : ℕ → Bool) (some : 0 < m) (zeroless : 
     path : (c : ℕ) → c < m → ahead m (homeOf m x) c < ahead m (homeOf m x) p → at cs c ≢ 0
 
   place : Place
-  place = go (seek cs x (homeOf m x) m) (cell-for m cs x long) (seek-told m cs long x m (homeOf m x) (home-in m x some))
+  place = go (seek cs x (homeOf m x) m) (cell-for m cs x long) (seek-ended m cs long x m (homeOf m x) (home-in m x some))
     where
-      go : (q : ℕ) → p ≡ q → Told m cs long x m (homeOf m x) q → Place
+      go : (q : ℕ) → p ≡ q → Ended m cs long x m (homeOf m x) q → Place
       go q y (inl t) = absurd (t .1 e e-in (ahead-in m (homeOf m x) e (home-in m x some) e-in) .1 free)
       go q y (inr t) = record { inside = rw y (t .0); was-free = ap (at cs) y ∙ ⊎-elim (λ z. absurd (not-x q z)) (λ z. z) (t .1); path = λ c l h. t .2 c l (rw y at h) .1 }
 

@@ -1,6 +1,6 @@
 -- An insertion by marks on a settled table: the stores of the plain one, and true marks after them.
 use mathlib.Core.Path.{_≡_, refl, ap, sym, _∙_}
-use mathlib.Core.Bool.{Bool, true, false, cond, _&&_, false≢true}
+use mathlib.Core.Bool.{Bool, true, false, cond, _&&_}
 use mathlib.Core.List.{List, [], _++_, append-assoc, List·Memᴰ}
 use Prim.Native.Nat.{ℕ, suc, _+_, _≤_, _<_}
 use native.Mathlib.Omega.{arith}
@@ -17,7 +17,7 @@ use Rattle.model.specs.Refusals.{tooHigh, tooFew}
 use Rattle.model.specs.Marks.{put}
 use Rattle.model.specs.Summary.{freeAfter, roomy, going, startWay, runOf, wayMade, quickInsert}
 use Rattle.list_laws.proofs.Tools.{and-iff, leb-iff}
-use Rattle.list_laws.proofs.Members.{elem-iff, each-mem}
+use Rattle.list_laws.proofs.Members.{each-mem}
 use Rattle.list_laws.proofs.Distinct.{UpTo}
 use Rattle.cut_laws.proofs.Applying.{apply-append, length-apply}
 use Rattle.tree_laws.proofs.Rows.{range-iff}
@@ -28,10 +28,10 @@ use Rattle.step_laws.proofs.NewRoot.{root-height, root-standing, root-top}
 use Rattle.two_laws.specs.Parts.{Ready}
 use Rattle.two_laws.proofs.TwoLaw.{taken, Tree, Low, tree-fine}
 use Rattle.two_laws.proofs.RootTwo.{root-two-nodes}
-use Rattle.two_laws.proofs.Arrange.{Arr, root-in, arr-low, arr-word, arr-others, arr-covers, settled-tree, free-fresh}
+use Rattle.two_laws.proofs.Arrange.{Arr, root-in, arr-low, arr-word, arr-others, settled-tree, free-fresh}
 use Rattle.two_laws.proofs.LeafStores.{in-reached, leaf-for}
 use Rattle.two_laws.proofs.InsertTwo.{stands-reached, root-first, root-arr, first-root-others, splits-course, splits-room, two-run-short}
-use Rattle.summary_laws.proofs.Marks.{MarksTrue, free-fresh as marks-fresh, marks-more, marks-same}
+use Rattle.summary_laws.proofs.Marks.{reached-own, MarksTrue, free-fresh as marks-fresh, marks-more, marks-same}
 use Rattle.summary_laws.proofs.Splitting.{waysDown, run-down, same-down, WayOf, splits-way}
 
 module _ (n : ℕ) (ws : List ℕ) (t : Words) (k : ℕ) (a : Arr (rootWord n) ws t) (f : Tree (rootWord n) ws t nothing) (not-high : tooHigh n t k ≡ false) (enough : tooFew n t k ≡ false) (ms : Words) (c : MarksTrue ms t) where
@@ -115,11 +115,7 @@ module _ (n : ℕ) (ws : List ℕ) (t : Words) (k : ℕ) (a : Arr (rootWord n) w
     new′ = rw under′ at (stands-reached n ws t′ (arr-low (rootWord n) ws t′ arr′) (settled-tree (rootWord n) ws t′ arr′ (ready′ .settled)) k (run n t k) (omega (arith, height′)))
 
     reached′ : elem (fresh t (at t (rootWord n))) (reachedAll t′) ≡ true
-    reached′ = go (elem r (reachedAll t′)) refl
-      where
-        go : (b : Bool) → elem r (reachedAll t′) ≡ b → elem r (reachedAll t′) ≡ true
-        go true q = q
-        go false q = absurd (false≢true (sym (arr-covers (rootWord n) ws t′ arr′ .split r .0 q .0) ∙ elem-iff r (reached (viewOf n t′)) .1 new′))
+    reached′ = reached-own (rootWord n) ws t′ r arr′ new′
 
     marks′ : MarksTrue (put ms (fresh t (at t (rootWord n)))) t′
     marks′ = marks-more ms t c t′ size r (free .range) (λ x z. ap (λ (ss : List Store). elem x (reachedAll (apply ss t))) (sym (new-is)) ∙ first-root-others n ws t k a f not-high enough e x z) reached′

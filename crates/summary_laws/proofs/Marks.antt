@@ -2,21 +2,32 @@
 use mathlib.Core.Path.{_≡_, refl, ap, sym, _∙_}
 use mathlib.Core.Bool.{Bool, true, false, not, _||_}
 use mathlib.Core.Logic.{_≢_, ⊎-elim}
-use mathlib.Core.List.{List, [], _∷_}
+use mathlib.Core.List.{List, [], _∷_, List·Memᴰ}
 use Prim.Native.Nat.{ℕ, zero, suc, _+_, _-_, _*_, _/_, _≤_, _<_}
 use native.Mathlib.Omega.{arith}
 use lib.ListN.{length, length-replicate, replicate}
 use Rattle.model.specs.Table.{Words, nodes, inRange}
-use Rattle.model.specs.Reached.{filter, headOr, reachedAll}
+use Rattle.model.specs.Reached.{filter, headOr, reached, reachedAll}
 use Rattle.model.specs.SoundTest.{elem}
 use Rattle.model.specs.Writes.{numbers, unreached, unreachable, fresh}
 use Rattle.model.specs.Marks.{has, put, cleared, putEach}
 use Rattle.model.specs.Summary.{markWords, unmarked, freeAfter}
 use Rattle.list_laws.proofs.Tools.{Each, Each-append, Each-map, same-or-not}
+use Rattle.list_laws.proofs.Members.{elem-none}
 use Rattle.list_laws.proofs.Filters.{filter-yes, filter-no}
 use Rattle.list_laws.proofs.Counts.{numbers-each}
 use Rattle.tree_laws.proofs.Rows.{range-iff}
+use Rattle.step_laws.proofs.TreeAt.{treeAt}
+use Rattle.two_laws.proofs.Arrange.{Arr, arr-covers}
 use Rattle.set_laws.proofs.Marks.{has-put-same, has-put-other, put-length, none-marked, cleared-length, has-cleared-same, has-cleared-other, each-length, each-marked}
+
+-- a node that one tree reaches
+pub reached-own : (w : ℕ) (ws : List ℕ) (t : Words) (m : ℕ) → Arr w ws t → List·Memᴰ m (reached (treeAt w t)) → elem m (reachedAll t) ≡ true
+reached-own w ws t m r i = go (elem m (reachedAll t)) refl
+  where
+    go : (b : Bool) → elem m (reachedAll t) ≡ b → elem m (reachedAll t) ≡ true
+    go true e = e
+    go false e = absurd (elem-none m (reached (treeAt w t)) .0 (arr-covers w ws t r .split m .0 e .0) i)
 
 -- ---- marks that are true of a table
 

@@ -1,7 +1,7 @@
 -- The run split by marks: nodes looked up once, fresh ones by the marks. On a settled table with true marks these are the stores of the plain
 -- splits, and the marks stay true.
 use mathlib.Core.Path.{_≡_, refl, ap, sym, _∙_}
-use mathlib.Core.Bool.{Bool, true, false, cond, false≢true}
+use mathlib.Core.Bool.{true, cond}
 use mathlib.Core.List.{List, [], _∷_, _++_, append-assoc, append-nil, List·Memᴰ}
 use Prim.Native.Nat.{ℕ, zero, suc, _-_, _≤_, _<_}
 use native.Mathlib.Omega.{arith}
@@ -19,7 +19,7 @@ use Rattle.model.specs.Writes.{fresh, middle, split, standingIn, standing, run,
 use Rattle.model.specs.Marks.{put}
 use Rattle.model.specs.Summary.{freeAfter, fullNode, roomy, canSplit, Going, going, splitWay, runOf}
 use Rattle.list_laws.proofs.Tools.{and-iff, leb-iff}
-use Rattle.list_laws.proofs.Members.{each-mem, elem-iff}
+use Rattle.list_laws.proofs.Members.{each-mem}
 use Rattle.list_laws.proofs.Distinct.{UpTo}
 use Rattle.cut_laws.proofs.Applying.{apply-append}
 use Rattle.tree_laws.proofs.SearchLaw.{path-length}
@@ -32,9 +32,9 @@ use Rattle.step_laws.proofs.Split.{split-standing, split-new, split-half}
 use Rattle.two_laws.specs.Parts.{splitFor, Ready}
 use Rattle.two_laws.proofs.TwoLaw.{taken, Tree, Low, tree-fine}
 use Rattle.two_laws.proofs.SplitTwo.{two-nodes}
-use Rattle.two_laws.proofs.Arrange.{Arr, arr-low, arr-covers, settled-tree, free-fresh}
+use Rattle.two_laws.proofs.Arrange.{Arr, arr-low, settled-tree, free-fresh}
 use Rattle.two_laws.proofs.InsertTwo.{stands-reached, first-arr, ready-next, first-others}
-use Rattle.summary_laws.proofs.Marks.{MarksTrue, free-fresh as marks-fresh, marks-more}
+use Rattle.summary_laws.proofs.Marks.{reached-own, MarksTrue, free-fresh as marks-fresh, marks-more}
 
 -- ---- the nodes of the run, from the highest down
 
@@ -129,11 +129,7 @@ module _ (l n : ℕ) (ws : List ℕ) (t : Words) (k : ℕ) (arr : Arr (rootWord 
   arr₁ = first-arr l n ws t k arr r
 
   b-reached : elem (fresh t (standing n t l k)) (reachedAll t₁) ≡ true
-  b-reached = go (elem b (reachedAll t₁)) refl
-    where
-      go : (c : Bool) → elem b (reachedAll t₁) ≡ c → elem b (reachedAll t₁) ≡ true
-      go true e = e
-      go false e = absurd (false≢true (sym (arr-covers (rootWord n) ws t₁ arr₁ .split b .0 e .0) ∙ elem-iff b _ .1 (split-new (rootWord n) (taken ws t) t fine k l given b free)))
+  b-reached = reached-own (rootWord n) ws t₁ b arr₁ (split-new (rootWord n) (taken ws t) t fine k l given b free)
 
   size₁ : nodes t₁ ≡ nodes t
   size₁ = two-nodes (rootWord n) ws t low tree k l given b free

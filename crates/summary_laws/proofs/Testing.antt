@@ -20,7 +20,7 @@ use Rattle.model.specs.Writes.{standingIn, standing, run, rootInRun, childBefor
 use Rattle.model.specs.Refusals.{hasKey, tooFew}
 use Rattle.model.specs.Summary.{fitNode, isThere, wayOk, keyThere, frees, neighbourOk, tooFewIn}
 use Rattle.list_laws.proofs.Tools.{Each, Each-map, and-iff, leb-iff, all-each, first-nil, or-right, not-iff}
-use Rattle.list_laws.proofs.Members.{each-mem, elem-iff}
+use Rattle.list_laws.proofs.Members.{each-mem}
 use Rattle.list_laws.proofs.Distinct.{UpTo}
 use Rattle.tree_laws.proofs.Rows.{Good, Named, inner, range-iff}
 use Rattle.tree_laws.proofs.Levels.{Orderly, reached-numbers, mem-leaves}
@@ -30,10 +30,10 @@ use Rattle.word_laws.proofs.ShiftViews.{shown-few}
 use Rattle.change_laws.proofs.Parts.{good-parts}
 use Rattle.change_laws.proofs.Pairs.{has-key-iff, has-key-found}
 use Rattle.two_laws.proofs.TwoLaw.{Tree, Low}
-use Rattle.two_laws.proofs.Arrange.{Arr, arr-low, arr-covers, settled-tree}
+use Rattle.two_laws.proofs.Arrange.{Arr, arr-low, settled-tree}
 use Rattle.two_laws.proofs.CallsTwo.{arranged}
 use Rattle.two_laws.proofs.AcceptedTwo.{there}
-use Rattle.summary_laws.proofs.Marks.{MarksTrue, unmarked-all}
+use Rattle.summary_laws.proofs.Marks.{reached-own, MarksTrue, unmarked-all}
 
 -- the place of a key that is there
 pub has-place : (k : ℕ) (ss : List Slot) → hasKey k ss ≡ true → placeOf k ss < length ss
@@ -66,11 +66,7 @@ module _ (n : ℕ) (t : Words) (h : noCollection n t ≡ false) (s : settled t �
   in-range m i = range-iff (nodes t) m .1 (each-mem (UpTo (nodes t)) (reached-numbers (viewOf n t) o) i)
 
   in-all : (m : ℕ) → List·Memᴰ m (reached (viewOf n t)) → elem m (reachedAll t) ≡ true
-  in-all m i = go (elem m (reachedAll t)) refl
-    where
-      go : (b : Bool) → elem m (reachedAll t) ≡ b → elem m (reachedAll t) ≡ true
-      go true e = e
-      go false e = absurd (false≢true (sym (arr-covers (rootWord n) (beside .0) t (beside .1) .split m .0 e .0) ∙ elem-iff m (reached (viewOf n t)) .1 i))
+  in-all m i = reached-own (rootWord n) (beside .0) t m (beside .1) i
 
   -- ---- the way
 
