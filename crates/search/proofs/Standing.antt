@@ -258,7 +258,7 @@ module _ (t : Words) (low high n k : ℕ) (r : Option ℕ) (inv : locateWithin (
 -- ---- the answer from the leaf come to
 
 -- after a move too the node is on its level
-on-moved : (v : View) (l n k : ℕ) → passes v l n ≡ true → onLevel v l (moved v n k) ≡ true
+pub on-moved : (v : View) (l n k : ℕ) → passes v l n ≡ true → onLevel v l (moved v n k) ≡ true
 unfolding passes moved below
 on-moved v l n k p = go (onLevel v l n) (eqb s 0) (onLevel v l s) (ltb k (v .node s .fence)) refl refl p
   where
