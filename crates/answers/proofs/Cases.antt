@@ -21,7 +21,7 @@ use Rattle.model.specs.declared.Salvaged.{Salvaged}
 use Rattle.model.specs.declared.Verdict.{Verdict}
 use Rattle.model.specs.Listing.{listedNumber, countOr, moreOr}
 use Rattle.model.specs.Salvage.{salvagedNumber, droppedOr}
-use Rattle.answers.specs.Answers.{searchNumber, Looked, Counted, Wrote, puts, Summed, WroteMany, Showed, Rebuilt, Ruled, Wore}
+use Rattle.model.specs.Answers.{searchNumber, Looked, Counted, Wrote, puts, Summed, WroteMany, Showed, Rebuilt, Ruled, Wore}
 use Rattle.list_laws.proofs.Tools.{not-iff, not-false-iff}
 use Rattle.model.specs.declared.Worn.{Worn}
 use Rattle.model.specs.Wear.{worn, wornNumber, totalOr, largestOr, firstLineOr, pairsOr}

@@ -5,7 +5,7 @@ use model::Outcome;
 use model::Written;
 ghost use mathlib.Core.Path.{_≡_};
 ghost use Rattle.model.specs.Table.{outcomeNumber};
-ghost use Rattle.answers.specs.Answers.{Looked, Counted};
+ghost use Rattle.model.specs.Answers.{Looked, Counted};
 
 // Document 01's number of an outcome.
 pub fn number_of(outcome: Outcome) -> u64

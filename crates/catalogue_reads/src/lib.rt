@@ -7,7 +7,7 @@ ghost use Rattle.model.specs.Codes.{parse, print, parsedNumber, keyOr};
 ghost use Rattle.model.specs.Table.{making, made, outcomeNumber};
 ghost use Rattle.model.specs.Orders.{carryOut, carriedOut};
 ghost use Rattle.model.specs.Search.{search};
-ghost use Rattle.answers.specs.Answers.{version, Looked, Showed};
+ghost use Rattle.model.specs.Answers.{version, Looked, Showed};
 ghost use Rattle.model.specs.Statistics.{checking, reportOut};
 ghost use Rattle.model.specs.Listing.{list, listOut};
 ghost use mathlib.Core.Bool.{cond};

@@ -4,8 +4,8 @@ use Prim.Native.Nat.{ℕ}
 use Rattle.model.specs.declared.Written.{Written}
 use Rattle.model.specs.Table.{Words}
 use Rattle.model.specs.Writes.{Call}
-use Rattle.answers.specs.Answers.{Counted, WroteWith}
-use Rattle.sentinels.specs.Anew.{Leaves}
+use Rattle.model.specs.Answers.{Counted, WroteWith}
+use Rattle.model.specs.Sentinels.{Leaves}
 
 pub has-written-with : (x : Call) (t lent ws : Words) (dock : ℕ) {t′ lent′ ws′ : Words} {a : Written} {number stores stores′ flushes flushes′ barriers barriers′ : ℕ}
     → Leaves x dock t t′ lent lent′ ws ws′ a → Counted a number stores stores′ flushes flushes′ barriers barriers′

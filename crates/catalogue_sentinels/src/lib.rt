@@ -2,7 +2,7 @@
 ghost use mathlib.Core.Path.{_≡_};
 ghost use Rattle.model.specs.Table.{outcomeNumber};
 ghost use Rattle.model.specs.Writes.{insertion, deletion, classChange, repair};
-ghost use Rattle.answers.specs.Answers.{Looked, WroteWith};
+ghost use Rattle.model.specs.Answers.{Looked, WroteWith};
 ghost use Rattle.model.specs.Sentinels.{workOut, workedOut, searchWith};
 ghost use lib.ListN.{length};
 

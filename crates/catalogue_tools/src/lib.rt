@@ -6,7 +6,7 @@ use model::Worn;
 ghost use mathlib.Core.Path.{_≡_};
 ghost use Rattle.model.specs.Table.{outcomeNumber};
 ghost use Rattle.model.specs.Writes.{insertion, deletion};
-ghost use Rattle.answers.specs.Answers.{Rebuilt, Ruled, Wore};
+ghost use Rattle.model.specs.Answers.{Rebuilt, Ruled, Wore};
 ghost use Rattle.model.specs.Salvage.{salvage, salvageOut, salvageReport};
 ghost use Rattle.model.specs.Judge.{judge, judgeOut};
 ghost use Rattle.model.specs.Scripts.{scriptAnswer, scriptOut, scriptNumber, rankedNumber, rankOr};

@@ -2,7 +2,7 @@
 use model::Batch;
 ghost use mathlib.Core.Path.{_≡_};
 ghost use Rattle.model.specs.Writes.{insertion, deletion, classChange, repair};
-ghost use Rattle.answers.specs.Answers.{Wrote, puts, Summed, WroteMany};
+ghost use Rattle.model.specs.Answers.{Wrote, puts, Summed, WroteMany};
 
 // 0 and the three counts, or the refusal number; likewise below.
 #[no_mangle]

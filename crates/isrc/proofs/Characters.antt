@@ -11,8 +11,7 @@ use lib.Dec.{leb, ltb, eqb}
 use lib.ListN.{length, getD, drop}
 use lib.Seq.{drop-cons}
 use borrow.Author.Tests.{leb-true, lt-leb, lt-ltb, le-ltb, eq-eqb, ne-eqb}
-use Rattle.model.specs.Codes.{isDigit, isLetter, isLetterOrDigit, every, value, readOn, character}
-use Rattle.isrc.specs.Order.{textBelow}
+use Rattle.model.specs.Codes.{isDigit, isLetter, isLetterOrDigit, every, value, readOn, character, textBelow}
 use Rattle.isrc.proofs.Digits.{Below}
 
 -- ---- one character

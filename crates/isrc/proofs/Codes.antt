@@ -11,8 +11,7 @@ use lib.Seq.{take-all, take-add, length-take-le}
 use lib.Arith.{digits-lt, digits-div}
 use borrow.Author.Tests.{eqb-true, eq-eqb}
 use Rattle.model.specs.declared.Parsed.the-variants.{Key, Refused}
-use Rattle.model.specs.Codes.{isDigit, isLetter, isLetterOrDigit, every, isCode, value, number, keyOf, parse, digits, spelling, hasCode, print}
-use Rattle.isrc.specs.Order.{textBelow}
+use Rattle.model.specs.Codes.{isDigit, isLetter, isLetterOrDigit, every, isCode, value, number, keyOf, parse, digits, spelling, hasCode, print, textBelow}
 use Rattle.isrc.proofs.Digits.{Below, number-bound, readOn-number, digits-readOn, digits-number, number-below, readings-below}
 use Rattle.isrc.proofs.Characters.{digit-is, letter-is, value-bound, digit-bound, every-append, every-imply, every-below, characters-values, values-order}
 

@@ -11,8 +11,7 @@ use lib.Dec.{ltb, eqb}
 use lib.ListN.{length, length-append}
 use lib.Arith.{digits-lt, digits-div, digits-mod, mod-mul}
 use borrow.Author.Tests.{lt-ltb, le-ltb, eq-eqb, ne-eqb}
-use Rattle.model.specs.Codes.{readOn, number, digits}
-use Rattle.isrc.specs.Order.{textBelow}
+use Rattle.model.specs.Codes.{readOn, number, digits, textBelow}
 
 -- all digits below the base
 abbrev pub Below : ℕ → List ℕ → Type 0

@@ -6,8 +6,7 @@ use mathlib.Core.List.{List}
 use Prim.Native.Nat.{ℕ, _<_}
 use borrow.Author.Tests.{ltb-true, lt-ltb}
 use Rattle.model.specs.declared.Parsed.the-variants.{Key}
-use Rattle.model.specs.Codes.{isCode, keyOf, parse, spelling, hasCode, print}
-use Rattle.isrc.specs.Order.{textBelow}
+use Rattle.model.specs.Codes.{isCode, keyOf, parse, spelling, hasCode, print, textBelow}
 use Rattle.isrc.proofs.Codes.{code, spelling-key, codes-order, parse-code, parsed, spelled, key-has-code, print-code}
 
 -- Printing a code's key gives the code back.

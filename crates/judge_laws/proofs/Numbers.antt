@@ -12,25 +12,13 @@ use Rattle.model.specs.SoundTest.{elem, sound, settled}
 use Rattle.model.specs.Orders.{decode, allInside, carryNumber}
 use Rattle.model.specs.Writes.{Call}
 use Rattle.model.specs.Refusals.{Test, seventeenIn, refusal}
-use Rattle.model.specs.Judge.{judgeTests, judgeNumber}
+use Rattle.model.specs.Judge.{judgeTests, judgeNumber, JudgeNumbers}
 use Rattle.list_laws.proofs.Tools.{not-iff, not-false-iff, refuted}
 use Rattle.step_laws.proofs.Numbers.{first-iff}
 use Rattle.two_laws.proofs.SearchTwo.{sound-head}
 use Rattle.two_laws.proofs.SameTwo.{settled-sound}
 use Rattle.two_laws.proofs.CollectionTwo.{settled-head}
 use Rattle.judge_laws.proofs.Calls.{whole-inside}
-
--- on table t, of a list and a second slice of so many words, for the change x
-pub record JudgeNumbers (x : Call) (t list : Words) (out : ℕ) : Type 0 where
-  pub two : (judgeNumber x t list out ≡ 2) ↔ (headerOk t ≡ false)
-  pub seventeen : (judgeNumber x t list out ≡ 17) ↔ ((headerOk t ≡ true) × (seventeenIn x t ≡ true))
-  pub four : (judgeNumber x t list out ≡ 4) ↔ ((headerOk t ≡ true) × (seventeenIn x t ≡ false) × (sound t ≡ false))
-  pub twenty : (judgeNumber x t list out ≡ 20) ↔ ((seventeenIn x t ≡ false) × (sound t ≡ true) × (settled t ≡ false))
-  pub thirteen : (judgeNumber x t list out ≡ 13) ↔ ((seventeenIn x t ≡ false) × (settled t ≡ true) × (allInside (length t) (decode list) ≡ false))
-  pub fifteen : (judgeNumber x t list out ≡ 15)
-      ↔ ((seventeenIn x t ≡ false) × (settled t ≡ true) × (allInside (length t) (decode list) ≡ true) × (out ≢ length t))
-  pub twenty-one : (judgeNumber x t list out ≡ 21)
-      ↔ ((seventeenIn x t ≡ false) × (settled t ≡ true) × (allInside (length t) (decode list) ≡ true) × (out ≡ length t) × (refusal x 2560 0 t ≢ 0))
 
 -- the test of two different numbers
 differ-iff : (a b : ℕ) → (not (eqb a b) ≡ true) ↔ (a ≢ b)

@@ -32,7 +32,7 @@ use Rattle.model.specs.QuickHistories
 
 unfoldable pub everything : Unit {0}
 unfolding Codes.isDigit Codes.isLetter Codes.isLetterOrDigit Codes.every Codes.isCode Codes.value Codes.readOn Codes.number Codes.keyOf Codes.parse Codes.character
-    Codes.digits Codes.spelling Codes.hasCode Codes.print
+    Codes.digits Codes.spelling Codes.hasCode Codes.print Codes.textBelow
     Table.tableLength Table.nodesFor Table.lengthOk Table.inRange Table.allZero Table.headerOk Table.headerNumber Table.noCollection Table.nodeStart
     Table.hasNode Table.blank Table.nodeFrom Table.node Table.spare Table.empty Table.emptyOf Table.makeNumber Table.making Table.made
     Slots.slotsOf Slots.recordingOf Slots.classOf Slots.pointerOf Slots.recordingOk Slots.classOk Slots.pointerOk Slots.inUse Slots.shown Slots.hidden
@@ -72,7 +72,7 @@ unfolding Codes.isDigit Codes.isLetter Codes.isLetterOrDigit Codes.every Codes.i
     Scripts.scriptAnswer Scripts.scriptOut Scripts.formScript Scripts.scriptNumber Scripts.cutTables Scripts.agrees Scripts.badTables Scripts.along
     Scripts.overAll Scripts.metText
     Wear.storedTo Wear.storesTo Wear.wearOf Wear.largest Wear.firstAt Wear.joinAll Wear.extentsOf Wear.extentWords Wear.wearNumber Wear.figures Wear.worn
-    Wear.linesAfter Wear.pairsAfter
+    Wear.linesAfter Wear.pairsAfter Wear.sum Wear.covered
     Pack.pairsOk Pack.mapsIn Pack.mapsOk Pack.packNumber Pack.packing Pack.packOut
     Batch.batch
     Statistics.checkNumber Statistics.checking Statistics.hiddenSlot Statistics.trailingSlots Statistics.leftIn Statistics.treeWords Statistics.report

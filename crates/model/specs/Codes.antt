@@ -1,5 +1,5 @@
 -- Document 01, "Codes": reading and printing an ISRC code.
-use mathlib.Core.Bool.{Bool, true, cond, _&&_, _||_}
+use mathlib.Core.Bool.{Bool, true, false, cond, _&&_, _||_}
 use mathlib.Core.List.{List, [], _∷_, _++_, map}
 use Prim.Native.Nat.{ℕ, zero, suc, _+_, _-_, _*_, _/_, _%_}
 use lib.Dec.{leb, ltb, eqb}
@@ -75,3 +75,12 @@ parsedNumber (Refused n) = n
 abbrev pub keyOr : Parsed → ℕ → ℕ
 keyOr (Key k) old = k
 keyOr (Refused n) old = old
+
+-- ---- the order of texts: demand 2 says that a larger code is a larger key
+
+-- Character by character: the first difference decides, and a text comes before its continuations.
+unfoldable pub textBelow : List ℕ → List ℕ → Bool
+textBelow [] [] = false
+textBelow [] (d ∷ ds) = true
+textBelow (c ∷ cs) [] = false
+textBelow (c ∷ cs) (d ∷ ds) = ltb c d || eqb c d && textBelow cs ds

@@ -1,7 +1,7 @@
 -- Change request 9: judging a supplier's order list. What is asked of each count of its orders, over all images of a cut there; what computes
 -- the answer; the call.
 use mathlib.Core.Path.{_≡_}
-use mathlib.Core.Logic.{_≢_, _⊎_}
+use mathlib.Core.Logic.{_≢_, _⊎_, _↔_}
 use mathlib.Core.Bool.{Bool, true, false, cond, not, _&&_, _||_}
 use mathlib.Core.List.{List, [], _∷_}
 use mathlib.Core.Option.{Option, none, some}
@@ -15,7 +15,7 @@ use Rattle.model.specs.Slots.{Slot}
 use Rattle.model.specs.Reached.{Maps, mapsOf}
 use Rattle.model.specs.SoundTest.{sound, settled}
 use Rattle.model.specs.Sound.{Settled, Sound}
-use Rattle.model.specs.Orders.{Order, store, flush, barrier, carry, decode, carryNumber, carriedOut}
+use Rattle.model.specs.Orders.{Order, store, flush, barrier, carry, decode, carryNumber, carriedOut, allInside}
 use Rattle.model.specs.Cuts.{laterStores, CutImage}
 use Rattle.model.specs.Writes.{Call}
 use Rattle.model.specs.Refusals.{Test, test, firstNumber, seventeenIn, refusal, unlessRefused}
@@ -122,6 +122,18 @@ judgeTests x t list out =
 -- 0: accepted
 unfoldable pub judgeNumber : Call → (t list : Words) → (out : ℕ) → ℕ
 judgeNumber x t list out = firstNumber (judgeTests x t list out)
+
+-- on table t, of a list and a second slice of so many words, for the change x
+pub record JudgeNumbers (x : Call) (t list : Words) (out : ℕ) : Type 0 where
+  pub two : (judgeNumber x t list out ≡ 2) ↔ (headerOk t ≡ false)
+  pub seventeen : (judgeNumber x t list out ≡ 17) ↔ ((headerOk t ≡ true) × (seventeenIn x t ≡ true))
+  pub four : (judgeNumber x t list out ≡ 4) ↔ ((headerOk t ≡ true) × (seventeenIn x t ≡ false) × (sound t ≡ false))
+  pub twenty : (judgeNumber x t list out ≡ 20) ↔ ((seventeenIn x t ≡ false) × (sound t ≡ true) × (settled t ≡ false))
+  pub thirteen : (judgeNumber x t list out ≡ 13) ↔ ((seventeenIn x t ≡ false) × (settled t ≡ true) × (allInside (length t) (decode list) ≡ false))
+  pub fifteen : (judgeNumber x t list out ≡ 15)
+      ↔ ((seventeenIn x t ≡ false) × (settled t ≡ true) × (allInside (length t) (decode list) ≡ true) × (out ≢ length t))
+  pub twenty-one : (judgeNumber x t list out ≡ 21)
+      ↔ ((seventeenIn x t ≡ false) × (settled t ≡ true) × (allInside (length t) (decode list) ≡ true) × (out ≡ length t) × (refusal x 2560 0 t ≢ 0))
 
 unfoldable pub judge : Call → (t list : Words) → (out : ℕ) → Verdict
 judge x t list out = unlessRefused (judgeNumber x t list out) (judged x t (decode list)) (Refused (judgeNumber x t list out))

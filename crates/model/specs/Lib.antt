@@ -22,6 +22,7 @@ pub mod Salvage
 pub mod Sentinels
 pub mod Judge
 pub mod Looks
+pub mod Returns
 pub mod Scripts
 pub mod Wear
 pub mod Pack
@@ -33,3 +34,5 @@ pub mod Cells
 pub mod Summary
 pub mod QuickBatch
 pub mod QuickHistories
+pub mod Answers
+pub mod Twelve

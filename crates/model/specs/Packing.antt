@@ -1,11 +1,12 @@
 -- Change request 5: pairs in rising key order packed into a fresh table, as rows of nodes from the leaves up; request 6: of both collections.
+use mathlib.Core.Path.{_≡_}
 use mathlib.Core.List.{List, [], _∷_, _++_, map}
 use mathlib.Core.Option.{Option, none, some}
 use Prim.Native.Nat.{ℕ, zero, suc, _+_, _-_, _*_}
 use lib.ListN.{length, take, drop, replicate}
 use Rattle.model.specs.Table.{MARK, Words}
 use Rattle.model.specs.Slots.{Slot, slot}
-use Rattle.model.specs.Reached.{Maps}
+use Rattle.model.specs.Reached.{Maps, flat}
 use Rattle.model.specs.Writes.{nodeWords}
 
 module _ {A : Type 0} (n : ℕ) where
@@ -105,3 +106,39 @@ packedTable N m =
     let c = packedCount (m .one) in
     (1 ∷ c ∷ N ∷ ofSecond 0 (λ (qs : List Slot). c + packedCount qs) (m .two) ∷ replicate 4 0)
     ++ (packedWords 1 (m .one) ++ (ofSecond [] (packedWords (suc c)) (m .two) ++ replicate (32 * (N - packedBoth m)) 0))
+
+-- ---- its fences: each node after its level's first has the lowest key below it
+
+abbrev pub Some : {A : Type 0} → List A → Type 0
+Some [] = ⊥
+Some (x ∷ xs) = Unit {0}
+
+-- the groups in a row
+abbrev pub inTurn : {A : Type 0} → List (List A) → List A
+inTurn {A} gs = flat (λ (g : List A). g) gs
+
+-- the pairs below the nodes of a row, a list for each: of the leaves, their own
+abbrev pub inLeaves : List Slot → List (List Slot)
+inLeaves ps = take 11 ps ∷ groups 11 (length ps) (drop 11 ps)
+
+-- of the row above: those below the children, 12 of them to a node
+abbrev pub inAbove : List (List Slot) → List (List Slot)
+inAbove bs = map inTurn (groups 12 (length bs) bs)
+
+-- each node has as fence the lowest key below it; some pair is below it
+abbrev pub Lowest : List Made → List (List Slot) → Type 0
+Lowest [] [] = Unit {0}
+Lowest [] (b ∷ bs) = ⊥
+Lowest (x ∷ xs) [] = ⊥
+Lowest (x ∷ xs) (b ∷ bs) = (x .fence ≡ lowest b) × Some b × Lowest xs bs
+
+-- each but the first, whose fence is 0
+abbrev pub Fenced : List Made → List (List Slot) → Type 0
+Fenced [] bs = ⊥
+Fenced (x ∷ xs) [] = ⊥
+Fenced (x ∷ xs) (b ∷ bs) = (x .fence ≡ 0) × Lowest xs bs
+
+-- so in every row from this one up, and the pairs below its nodes are all pairs ps
+abbrev pub AllFenced : List Slot → List (List Made) → List (List Slot) → Type 0
+AllFenced ps [] bs = Unit {0}
+AllFenced ps (xs ∷ xss) bs = Fenced xs bs × (inTurn bs ≡ ps) × AllFenced ps xss (inAbove bs)

@@ -1,19 +1,20 @@
 -- Request 8: sentinels for the leaves. A second lent slice holds 3 words a node, which spare a search whole lines of a leaf.
+use mathlib.Core.Path.{_≡_}
 use mathlib.Core.Bool.{Bool, true, false, cond, not}
-use mathlib.Core.List.{List, [], _∷_, map}
+use mathlib.Core.List.{List, [], _∷_, map, List·Memᴰ}
 use mathlib.Core.Option.{Option, none, some}
 use Prim.Native.Nat.{ℕ, _+_, _-_, _*_, _/_}
 use lib.Dec.{eqb, leb}
 use lib.ListN.{length, take, drop, replicate}
 use Rattle.model.specs.declared.Answer.{Answer}
-use Rattle.model.specs.declared.Answer.the-variants.{Refused}
+use Rattle.model.specs.declared.Answer.the-variants.{Found, Refused}
 use Rattle.model.specs.declared.Outcome.{Outcome}
 use Rattle.model.specs.declared.Outcome.the-variants.{Done, Refused as NotDone}
 use Rattle.model.specs.declared.Written.{Written}
 use Rattle.model.specs.declared.Written.the-variants.{Refused as NotWritten}
 use Rattle.model.specs.Table.{MARK, Words, at, nodes, node, headerOk, noCollection}
-use Rattle.model.specs.Slots.{Slot, shown, used, View, viewOf, height}
-use Rattle.model.specs.Search.{locate, firstWith, answerOf, searchView}
+use Rattle.model.specs.Slots.{Slot, recording, class, shown, used, View, nodeView, viewOf, height}
+use Rattle.model.specs.Search.{locate, firstWith, answerOf, searchView, search}
 use Rattle.model.specs.Reached.{flat, leaves, trees}
 use Rattle.model.specs.SoundTest.{elem, sound}
 use Rattle.model.specs.Orders.{Store, apply}
@@ -92,6 +93,22 @@ searchWith n ws t k =
     let v = viewOf n t in
     unlessRefused r (answerOf (ledTo ws t k (leafFrom v k)) (searchView v k)) (Refused r)
 
+-- a shown slot of leaf m with key k
+pub record Shows (t : Words) (m k : ℕ) (s : Slot) : Type 0 where
+  pub in-leaf : List·Memᴰ s (nodeView t m .shown)
+  pub key : s .key ≡ k
+
+-- Both searches find, each a shown slot of the leaf with the key.
+pub record OtherSlot (n : ℕ) (ws t : Words) (k : ℕ) : Type 0 where
+  pub leaf : ℕ
+  pub come-to : leafFrom (viewOf n t) k ≡ some leaf
+  pub plain : Slot
+  pub chosen : Slot
+  pub plain-shows : Shows t leaf k plain
+  pub chosen-shows : Shows t leaf k chosen
+  pub plain-found : search n t k ≡ Found (recording plain) (class plain)
+  pub chosen-found : searchWith n ws t k ≡ Found (recording chosen) (class chosen)
+
 -- ---- the writing calls: all but the slice is the plain call's
 
 -- with a slice of m words
@@ -123,3 +140,10 @@ setAnew these t ws = flat (λ (n : ℕ). cond (these n) (sentinelsOf t n) (words
 unfoldable pub sentinelsWith : Call → (ws : Words) → (words dock : ℕ) → Words → Words
 sentinelsWith x ws words dock t =
     unlessRefused (refusalWith x (length ws) words dock t) (setAnew (storedTo (storesOf x t)) (apply (storesOf x t) t) ws) ws
+
+-- What a writing call that takes the slice answers, and what it leaves of the table, the list and the slice.
+pub record Leaves (x : Call) (dock : ℕ) (t t′ lent lent′ ws ws′ : Words) (answer : Written) : Type 0 where
+  pub answered : answer ≡ writtenWith x (length ws) (length lent) dock t
+  pub table : t′ ≡ tableWith x (length ws) (length lent) dock t
+  pub listed : lent′ ≡ ordersWith x (length ws) lent dock t
+  pub slice : ws′ ≡ sentinelsWith x ws (length lent) dock t

@@ -1,16 +1,18 @@
 -- The check of a whole table as a call: whether it is sound, what is left over, and how much of it each collection uses.
-use mathlib.Core.Bool.{cond}
+use mathlib.Core.Path.{_≡_}
+use mathlib.Core.Logic.{_≢_, _↔_}
+use mathlib.Core.Bool.{true, false, cond}
 use mathlib.Core.List.{[], _∷_, _++_}
 use mathlib.Core.Option.{Option, none, some}
-use Prim.Native.Nat.{ℕ, suc, _-_}
+use Prim.Native.Nat.{ℕ, suc, _+_, _-_}
 use lib.Dec.{eqb}
 use lib.ListN.{length, replicate}
 use Rattle.model.specs.declared.Outcome.{Outcome}
 use Rattle.model.specs.declared.Outcome.the-variants.{Done, Refused}
 use Rattle.model.specs.Table.{Words, at, nodes, headerOk}
 use Rattle.model.specs.Slots.{View, nodeView, viewOf, view, height, used}
-use Rattle.model.specs.Reached.{kept, reached, mapping}
-use Rattle.model.specs.SoundTest.{Leftover, nothing, hiddenIn, missingIn, bothIn, leftover, isNothing, leftoverAll, sound}
+use Rattle.model.specs.Reached.{kept, reached, mapping, mapOf}
+use Rattle.model.specs.SoundTest.{Leftover, nothing, hiddenIn, missingIn, bothIn, leftover, isNothing, leftoverAll, sound, settled}
 use Rattle.model.specs.Shifts.{hiddenPlace}
 use Rattle.model.specs.Writes.{unreachable}
 
@@ -59,3 +61,16 @@ report t =
 -- the lent words then; a check that is refused leaves them
 unfoldable pub reportOut : Words → Words → Words
 reportOut t lent = cond (eqb (checkNumber t) 0) (report t) lent
+
+-- ---- what it means of a sound table
+
+pub record Meant (t : Words) : Type 0 where
+  -- word 0 is 0 exactly if the table is settled
+  pub settled-iff : (at (report t) 0 ≡ 0) ↔ (settled t ≡ true)
+  -- else word 1 is the collection whose leftover the table has
+  pub left-in : settled t ≡ false → leftover (viewOf (at (report t) 1) t) ≡ leftoverAll t
+  -- each node is one collection's, or free
+  pub all-nodes : at (report t) 9 + (at (report t) 10 + at (report t) 13) ≡ at (report t) 8
+  -- the codes are those of the maps
+  pub codes-one : at (report t) 11 ≡ length (mapOf 1 t)
+  pub codes-two : at t 3 ≢ 0 → at (report t) 14 ≡ length (mapOf 2 t)

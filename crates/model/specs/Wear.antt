@@ -1,12 +1,13 @@
 -- Request 12, "Wear figures": over an order list of any length, the stores to each line of a table, and the words that have a store.
-use mathlib.Core.Bool.{cond, _||_}
+use mathlib.Core.Path.{_≡_}
+use mathlib.Core.Bool.{Bool, false, cond, _&&_, _||_}
 use mathlib.Core.List.{List, [], _∷_, _++_, map}
-use Prim.Native.Nat.{ℕ, suc, _*_, _/_, max}
-use lib.Dec.{eqb, ltb}
+use Prim.Native.Nat.{ℕ, suc, _+_, _*_, _/_, _≤_, _<_, max}
+use lib.Dec.{eqb, leb, ltb}
 use lib.ListN.{length, drop}
 use Rattle.model.specs.declared.Worn.{Worn}
 use Rattle.model.specs.declared.Worn.the-variants.{Figures, Refused}
-use Rattle.model.specs.Table.{Words, line}
+use Rattle.model.specs.Table.{Words, line, at}
 use Rattle.model.specs.Search.{filter}
 use Rattle.model.specs.SoundTest.{elem}
 use Rattle.model.specs.Orders.{Order, store, flush, barrier, storeCount, decode, carryNumber}
@@ -115,3 +116,35 @@ firstLineOr (Refused n) old = old
 abbrev pub pairsOr : Worn → ℕ → ℕ
 pairsOr (Figures total most first pairs) old = pairs
 pairsOr (Refused n) old = old
+
+-- ---- what holds of the figures
+
+unfoldable pub sum : Words → ℕ
+sum [] = 0
+sum (n ∷ ns) = n + sum ns
+
+-- word w lies in one of the extents
+unfoldable pub covered : ℕ → List Extent → Bool
+covered w [] = false
+covered w (e ∷ es) = (leb (e .offset) w && ltb w (e .offset + e .size)) || covered w es
+
+-- each has a word, and ends before the word before the next: they rise and do not touch
+abbrev pub Apart : List Extent → Type 0
+Apart [] = Unit {0}
+Apart (e ∷ []) = 1 ≤ e .size
+Apart (e ∷ f ∷ es) = (1 ≤ e .size) × (e .offset + e .size < f .offset) × Apart (f ∷ es)
+
+-- What holds of the figures of orders on a table of so many words, with the lines' numbers ns and the extents es.
+pub record Figured (words : ℕ) (os : List Order) (ns : Words) (es : List Extent) : Type 0 where
+  -- the per-line numbers are counts of the list and sum to the total
+  pub counts : (l : ℕ) → l < words / 8 → at ns l ≡ storesTo os l
+  pub total : sum ns ≡ storeCount os
+  -- the largest is one of them; the first line is the first that has it
+  pub top : (l : ℕ) → at ns l ≤ largest ns
+  pub first : (firstAt (largest ns) ns < length ns) × (at ns (firstAt (largest ns) ns) ≡ largest ns)
+  pub before : (l : ℕ) → l < firstAt (largest ns) ns → at ns l < largest ns
+  -- a word is in an extent exactly if it has a store; extents rise and do not touch
+  pub cover : (w : ℕ) → covered w es ≡ elem w (storedTo os)
+  pub apart : Apart es
+  -- a list without stores gives largest 0, first line 0 and no pairs
+  pub none : storeCount os ≡ 0 → (largest ns ≡ 0) × (firstAt (largest ns) ns ≡ 0) × (es ≡ [])

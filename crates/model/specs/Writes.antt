@@ -1,11 +1,12 @@
 -- Document 01, "Orders": insertion, deletion, a changed class and repair, each as its list of stores on a table.
+use mathlib.Core.Path.{_≡_}
 use mathlib.Core.Bool.{Bool, true, false, not, _&&_}
 use mathlib.Core.List.{List, [], _∷_, _++_, map}
 use mathlib.Core.Option.{Option, none, some}
 use Prim.Native.Nat.{ℕ, zero, suc, pred, _-_}
 use lib.Dec.{eqb, ltb}
 use lib.ListN.{length, getD, take, drop, replicate}
-use Rattle.model.specs.Table.{MARK, Words, at, nodes, rootWord, nodeStart}
+use Rattle.model.specs.Table.{MARK, Words, at, nodes, rootWord, nodeStart, inRange}
 use Rattle.model.specs.Slots.{Slot, slot, slotWords, pointerOf, withClass, View, nodeView, viewFrom, viewOf, view, height, used, full}
 use Rattle.model.specs.Search.{path}
 use Rattle.model.specs.Reached.{filter, headOr, reachedAll}
@@ -207,3 +208,11 @@ storesOf (insertion n k r c) t = insertStores n t k (pointerOf r c)
 storesOf (deletion n k) t = deleteStores n t k
 storesOf (classChange n k c) t = classStores n t k c
 storesOf repair t = repairStores t
+
+-- ---- a leaf that a deletion freed
+
+-- node x of t′ is reached from neither root, and t′ has one unreachable node more than t
+pub record FreeAfter (t : Words) (x : ℕ) (t′ : Words) : Type 0 where
+  pub range : inRange (nodes t′) x ≡ true
+  pub unreached : elem x (reachedAll t′) ≡ false
+  pub one-more : length (unreachable t′) ≡ suc (length (unreachable t))

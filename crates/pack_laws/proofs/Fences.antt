@@ -6,39 +6,9 @@ use native.Mathlib.Omega.{arith}
 use lib.ListN.{length, take, drop, take-append-drop, length-drop}
 use Rattle.model.specs.Slots.{Slot}
 use Rattle.model.specs.Reached.{flat}
-use Rattle.model.specs.Packing.{groups, Made, lowest, leafFrom, bottom, numbered, innerFrom, rowAbove, rowsAbove, packed}
+use Rattle.model.specs.Packing.{groups, Made, lowest, leafFrom, bottom, numbered, innerFrom, rowAbove, rowsAbove, packed, inTurn, Some, inLeaves, inAbove, Lowest, Fenced, AllFenced}
 use Rattle.list_laws.proofs.Tools.{Each, flat-append}
-use Rattle.pack_laws.proofs.Groups.{Some, joined, groups-joined, groups-fit}
-
--- ---- the pairs below the nodes of a row, a list for each
-
--- of the leaves: their own
-abbrev pub inLeaves : List Slot → List (List Slot)
-inLeaves ps = take 11 ps ∷ groups 11 (length ps) (drop 11 ps)
-
--- of the row above: those below the children, 12 of them to a node
-abbrev pub inAbove : List (List Slot) → List (List Slot)
-inAbove bs = map joined (groups 12 (length bs) bs)
-
--- ---- what is said of a row
-
--- each node has as fence the lowest key below it; some pair is below it
-abbrev pub Lowest : List Made → List (List Slot) → Type 0
-Lowest [] [] = Unit {0}
-Lowest [] (b ∷ bs) = ⊥
-Lowest (x ∷ xs) [] = ⊥
-Lowest (x ∷ xs) (b ∷ bs) = (x .fence ≡ lowest b) × Some b × Lowest xs bs
-
--- each but the first, whose fence is 0
-abbrev pub Fenced : List Made → List (List Slot) → Type 0
-Fenced [] bs = ⊥
-Fenced (x ∷ xs) [] = ⊥
-Fenced (x ∷ xs) (b ∷ bs) = (x .fence ≡ 0) × Lowest xs bs
-
--- so in every row from this one up, and the pairs below its nodes are all pairs ps
-abbrev pub AllFenced : List Slot → List (List Made) → List (List Slot) → Type 0
-AllFenced ps [] bs = Unit {0}
-AllFenced ps (xs ∷ xss) bs = Fenced xs bs × (joined bs ≡ ps) × AllFenced ps xss (inAbove bs)
+use Rattle.pack_laws.proofs.Groups.{groups-joined, groups-fit}
 
 -- ---- lists of pairs
 
@@ -50,10 +20,10 @@ some-first : (b c : List Slot) → Some b → Some (b ++ c)
 some-first [] c h = absurd h
 some-first (s ∷ ss) c h = tt
 
-joined-twice : (gs : List (List (List Slot))) → joined (map joined gs) ≡ joined (joined gs)
+joined-twice : (gs : List (List (List Slot))) → inTurn (map inTurn gs) ≡ inTurn (inTurn gs)
 unfolding flat
 joined-twice [] = refl
-joined-twice (g ∷ gs) = ap (λ (l : List Slot). joined g ++ l) (joined-twice gs) ∙ sym (flat-append (λ (b : List Slot). b) g (joined gs))
+joined-twice (g ∷ gs) = ap (λ (l : List Slot). inTurn g ++ l) (joined-twice gs) ∙ sym (flat-append (λ (b : List Slot). b) g (inTurn gs))
 
 -- ---- the leaves
 
@@ -65,7 +35,7 @@ bottom-fenced : (ps : List Slot) → Fenced (bottom ps) (inLeaves ps)
 unfolding bottom
 bottom-fenced ps = (refl, leaves-lowest (groups 11 (length ps) (drop 11 ps)) (groups-fit 10 (length ps) (drop 11 ps)))
 
-leaves-all : (ps : List Slot) → joined (inLeaves ps) ≡ ps
+leaves-all : (ps : List Slot) → inTurn (inLeaves ps) ≡ ps
 unfolding flat
 leaves-all ps = ap (λ (l : List Slot). take 11 ps ++ l) (groups-joined 10 (length ps) (drop 11 ps) (simp length-drop (omega arith))) ∙ take-append-drop 11 ps
 
@@ -90,7 +60,7 @@ drop-numbered zero n xs = let e : 0 + n ≡ n = omega arith in rw e
 drop-numbered (suc k) n [] = refl
 drop-numbered (suc k) n (x ∷ xs) = let e : k + suc n ≡ suc k + n = omega arith in drop-numbered k (suc n) xs ∙ ap (λ (m : ℕ). numbered m (drop k xs)) e
 
-groups-lowest : (f n : ℕ) (xs : List Made) (bs : List (List Slot)) → Lowest xs bs → Lowest (map innerFrom (groups 12 f (numbered n xs))) (map joined (groups 12 f bs))
+groups-lowest : (f n : ℕ) (xs : List Made) (bs : List (List Slot)) → Lowest xs bs → Lowest (map innerFrom (groups 12 f (numbered n xs))) (map inTurn (groups 12 f bs))
 unfolding groups numbered flat
 groups-lowest zero n xs bs h = tt
 groups-lowest (suc f) n [] [] h = tt
@@ -111,12 +81,12 @@ above-fenced n (x ∷ xs) (b ∷ bs) h = (
   rw (lowest-length xs bs (h .1), drop-numbered 11 (suc n) xs) (groups-lowest (length bs) (11 + suc n) (drop 11 xs) (drop 11 bs) (lowest-drop 11 xs bs (h .1))),
 )
 
-above-all : (bs : List (List Slot)) → joined (inAbove bs) ≡ joined bs
-above-all bs = joined-twice (groups 12 (length bs) bs) ∙ ap joined (groups-joined 11 (length bs) bs (omega arith))
+above-all : (bs : List (List Slot)) → inTurn (inAbove bs) ≡ inTurn bs
+above-all bs = joined-twice (groups 12 (length bs) bs) ∙ ap inTurn (groups-joined 11 (length bs) bs (omega arith))
 
 -- ---- every row
 
-rows-fenced : (f n : ℕ) (xs : List Made) (bs : List (List Slot)) (ps : List Slot) → Fenced xs bs → joined bs ≡ ps → AllFenced ps (rowsAbove f n xs) (inAbove bs)
+rows-fenced : (f n : ℕ) (xs : List Made) (bs : List (List Slot)) (ps : List Slot) → Fenced xs bs → inTurn bs ≡ ps → AllFenced ps (rowsAbove f n xs) (inAbove bs)
 unfolding rowsAbove
 rows-fenced zero n xs bs ps h e = tt
 rows-fenced (suc f) n [] bs ps h e = tt

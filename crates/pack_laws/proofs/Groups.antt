@@ -15,19 +15,11 @@ use Rattle.list_laws.proofs.Distinct.{distinct-append}
 use Rattle.list_laws.proofs.Recordings.{recordings-iff, pointers-apart}
 use Rattle.slot_laws.proofs.Hiding.{AllShown, all-split, distinct-shown}
 use Rattle.tree_laws.proofs.Rising.{rising-cons, rising-apart}
-use Rattle.model.specs.Packing.{groups, Made, leafWith, leafFrom, bottom, numbered, innerFrom, rowAbove, rowsAbove}
+use Rattle.model.specs.Packing.{groups, Made, leafWith, leafFrom, bottom, numbered, innerFrom, rowAbove, rowsAbove, inTurn, Some}
 use Rattle.pack_laws.proofs.Standing.{Writable}
 
-abbrev pub Some : {A : Type 0} → List A → Type 0
-Some [] = ⊥
-Some (x ∷ xs) = Unit {0}
-
--- the groups in a row
-abbrev pub joined : {A : Type 0} → List (List A) → List A
-joined {A} gs = flat (λ (g : List A). g) gs
-
 module _ {A : Type 0} (k : ℕ) where
-  pub groups-joined : (f : ℕ) (xs : List A) → length xs ≤ f → joined (groups (suc k) f xs) ≡ xs
+  pub groups-joined : (f : ℕ) (xs : List A) → length xs ≤ f → inTurn (groups (suc k) f xs) ≡ xs
   unfolding groups flat
   groups-joined zero [] h = refl
   groups-joined zero (x ∷ xs) h = absurd (omega arith)
@@ -60,11 +52,11 @@ recordings-parts a b r =
 recordings-shown : (ps : List Slot) → recordingsOk ps ≡ true → AllShown MARK ps
 recordings-shown ps r = let u = pointers-apart ps r in distinct-shown MARK ps (u .1) (u .0)
 
-pub leaves-writable : (gs : List (List Slot)) → recordingsOk (joined gs) ≡ true → Each (λ (g : List Slot). Some g × (length g ≤ 11)) gs → Each Writable (map leafFrom gs)
+pub leaves-writable : (gs : List (List Slot)) → recordingsOk (inTurn gs) ≡ true → Each (λ (g : List Slot). Some g × (length g ≤ 11)) gs → Each Writable (map leafFrom gs)
 unfolding flat
 leaves-writable [] r h = tt
 leaves-writable (g ∷ gs) r h =
-    let u = recordings-parts g (joined gs) r in
+    let u = recordings-parts g (inTurn gs) r in
     ((recordings-shown g (u .0), h .0 .1), leaves-writable gs (u .1) (h .1))
 
 -- k is below the fence of the first of these
@@ -81,16 +73,16 @@ each-unit : (ss : List Slot) → Each (λ (s : Slot). Before (s .key) []) ss
 each-unit [] = tt
 each-unit (s ∷ ss) = (tt, each-unit ss)
 
-pub leaf-row : (k : ℕ) (s : Slot) (ss : List Slot) (gs : List (List Slot)) → rising k (s ∷ ss ++ joined gs) ≡ true → Each (λ (g : List Slot). Some g × (length g ≤ 11)) gs → LeafRow (leafWith k (s ∷ ss) ∷ map leafFrom gs)
+pub leaf-row : (k : ℕ) (s : Slot) (ss : List Slot) (gs : List (List Slot)) → rising k (s ∷ ss ++ inTurn gs) ≡ true → Each (λ (g : List Slot). Some g × (length g ≤ 11)) gs → LeafRow (leafWith k (s ∷ ss) ∷ map leafFrom gs)
 unfolding flat
 leaf-row k s ss [] r h = (rising-apart k (s ∷ ss) [] r .left, tt, each-unit (s ∷ ss), tt)
 leaf-row k s ss ([] ∷ gs) r h = absurd (h .0 .0)
 leaf-row k s ss ((u ∷ us) ∷ gs) r h =
-    let a = rising-apart k (s ∷ ss) (u ∷ us ++ joined gs) r in
+    let a = rising-apart k (s ∷ ss) (u ∷ us ++ inTurn gs) r in
     let low = rising-cons k s ss .0 (a .left) .0 in
-    let up = rising-cons k u (us ++ joined gs) .0 (a .right) in
+    let up = rising-cons k u (us ++ inTurn gs) .0 (a .right) in
     let b : Each (λ (x : Slot). x .key < u .key) (s ∷ ss) = Each-map _ (λ (x : Slot). x .key < u .key) (s ∷ ss) (λ x e. e .0) (a .between) in
-    (a .left, omega (arith, b .0), b, leaf-row (u .key) u us gs (rising-cons (u .key) u (us ++ joined gs) .1 (omega arith, up .1)) (h .1))
+    (a .left, omega (arith, b .0), b, leaf-row (u .key) u us gs (rising-cons (u .key) u (us ++ inTurn gs) .1 (omega arith, up .1)) (h .1))
 
 -- ---- inner nodes
 
@@ -99,19 +91,19 @@ unfolding numbered
 numbered-shown p n [] h = tt
 numbered-shown p n (x ∷ xs) h = (λ e. omega arith, λ e. omega arith, numbered-shown n (suc n) xs (omega arith))
 
-inner-writable : (p : ℕ) (gs : List (List Slot)) → AllShown p (joined gs) → Each (λ (g : List Slot). Some g × (length g ≤ 12)) gs → Each Writable (map innerFrom gs)
+inner-writable : (p : ℕ) (gs : List (List Slot)) → AllShown p (inTurn gs) → Each (λ (g : List Slot). Some g × (length g ≤ 12)) gs → Each Writable (map innerFrom gs)
 unfolding flat
 inner-writable p [] a h = tt
 inner-writable p ([] ∷ gs) a h = absurd (h .0 .0)
 inner-writable p ((s ∷ ss) ∷ gs) a h =
-    let u = all-split p (s ∷ ss) (joined gs) a in
+    let u = all-split p (s ∷ ss) (inTurn gs) a in
     ((u .0 .2, omega (arith, h .0 .1)), inner-writable (lastPointer p (s ∷ ss)) gs (u .1) (h .1))
 
 -- the ways of inner nodes made of groups are these groups
 abbrev pub waysMade : Made → List Slot
 waysMade x = slot (x .fence) (x .left) ∷ x .slots
 
-inner-ways : (gs : List (List Slot)) → Each (λ (g : List Slot). Some g × (length g ≤ 12)) gs → flat waysMade (map innerFrom gs) ≡ joined gs
+inner-ways : (gs : List (List Slot)) → Each (λ (g : List Slot). Some g × (length g ≤ 12)) gs → flat waysMade (map innerFrom gs) ≡ inTurn gs
 unfolding flat
 inner-ways [] h = refl
 inner-ways ([] ∷ gs) h = absurd (h .0 .0)
@@ -123,7 +115,7 @@ length-numbered n [] = refl
 length-numbered n (x ∷ xs) = ap suc (length-numbered (suc n) xs)
 
 module _ (n : ℕ) (xs : List Made) where
-  above-joined : joined (groups 12 (length xs) (numbered n xs)) ≡ numbered n xs
+  above-joined : inTurn (groups 12 (length xs) (numbered n xs)) ≡ numbered n xs
   above-joined = groups-joined 11 (length xs) (numbered n xs) (omega (arith, length-numbered n xs))
 
   pub above-ways : flat waysMade (rowAbove n xs) ≡ numbered n xs
@@ -151,7 +143,7 @@ above-some n x xs = omega arith
 
 -- ---- the leaves of given pairs
 
-leaves-slots : (gs : List (List Slot)) → flat (λ (x : Made). x .slots) (map leafFrom gs) ≡ joined gs
+leaves-slots : (gs : List (List Slot)) → flat (λ (x : Made). x .slots) (map leafFrom gs) ≡ inTurn gs
 unfolding flat
 leaves-slots [] = refl
 leaves-slots (g ∷ gs) = ap (λ (l : List Slot). g ++ l) (leaves-slots gs)
@@ -164,7 +156,7 @@ module _ (ps : List Slot) where
   abbrev others : List (List Slot)
   others = groups 11 (length ps) (drop 11 ps)
 
-  others-joined : joined others ≡ drop 11 ps
+  others-joined : inTurn others ≡ drop 11 ps
   others-joined = groups-joined 10 (length ps) (drop 11 ps) (simp length-drop (omega arith))
 
   pub bottom-slots : flat (λ (x : Made). x .slots) (bottom ps) ≡ ps

@@ -23,7 +23,7 @@ use Rattle.word_laws.proofs.Outside.{part-same}
 use Rattle.word_laws.proofs.Frames.{has-node-same, view-same}
 use Rattle.tree_laws.proofs.Cover.{stays, moves}
 use Rattle.two_laws.proofs.AcceptedTwo.{there as there-is}
-use Rattle.reader_laws.specs.Returns.{OfNode}
+use Rattle.model.specs.Returns.{OfNode}
 
 -- node n of u is that of v, or it is missing: on a level that no search passes
 abbrev pub OrMissing : (u v : View) → ℕ → Type 0

@@ -13,7 +13,7 @@ use Rattle.model.specs.SoundTest.{elem, settled}
 use Rattle.model.specs.Orders.{Store, put, apply}
 use Rattle.model.specs.Shifts.{pointerWord}
 use Rattle.model.specs.Writes.{shiftInAt, fresh, putAll, middle, splitWords, split, standing}
-use Rattle.reader_laws.specs.Returns.{OfNode}
+use Rattle.model.specs.Returns.{OfNode}
 use Rattle.table_laws.proofs.Collections.{by-number}
 use Rattle.two_laws.proofs.SameTwo.{first-there, second-there}
 use Rattle.cut_laws.proofs.Applying.{apply-append}

@@ -13,7 +13,7 @@ use Rattle.model.specs.SoundTest.{elem, settled}
 use Rattle.model.specs.Orders.{Store, put, apply}
 use Rattle.model.specs.Shifts.{pointerWord}
 use Rattle.model.specs.Writes.{shiftInAt, fresh, middle, standing}
-use Rattle.reader_laws.specs.Returns.{OfNode}
+use Rattle.model.specs.Returns.{OfNode}
 use Rattle.list_laws.proofs.Tools.{Each, same-or-not}
 use Rattle.list_laws.proofs.Members.{each-elem}
 use Rattle.list_laws.proofs.Distinct.{UpTo}

@@ -19,7 +19,7 @@ use Rattle.model.specs.Refusals.{refusal}
 use Rattle.model.proofs.Everything.{everything}
 use Rattle.model.proofs.Worked.{tenSlots}
 use Rattle.model.proofs.Tables.{stale, ways, oneLevel, twoLevels}
-use Rattle.reader_laws.specs.Returns.{tableAt, InSight}
+use Rattle.model.specs.Returns.{tableAt, InSight}
 
 -- leaves 1, 2 and 3 with a key each, 10, 210 and 410; node 4 is the root, with slots for 2 and 3
 abbrev three : Words

@@ -12,13 +12,14 @@ use Rattle.model.specs.Table.{Words, at, nodes, nodeStart}
 use Rattle.model.specs.Slots.{viewOf}
 use Rattle.model.specs.Search.{search}
 use Rattle.model.specs.Reached.{Maps, reached, mapsOf}
+use Rattle.model.specs.Sound.{Settled}
 use Rattle.model.specs.SoundTest.{settled, sound}
 use Rattle.model.specs.Orders.{Store, apply, storeCount}
 use Rattle.model.specs.Judge.{OldOrNew}
 use Rattle.model.specs.Ledger.{listIn, answerFrom}
 use Rattle.model.specs.Writes.{Call, insertion, deletion, classChange, repair, repaired, insertStores, deleteStores, classStores, setClassAt, storesOf}
 use Rattle.model.specs.Refusals.{seventeenIn, refusal, ordersOf, tableAfter}
-use Rattle.reader_laws.specs.Returns.{tableAt, MomentRight, InSight, NoReturn}
+use Rattle.model.specs.Returns.{tableAt, MomentRight, InSight, NoReturn}
 use Rattle.list_laws.proofs.Members.{each-mem, elem-iff}
 use Rattle.list_laws.proofs.Distinct.{UpTo}
 use Rattle.table_laws.proofs.Header.{header-iff}
@@ -116,6 +117,9 @@ module _ (t : Words) (s : sound t ≡ true) where
   sight w (inl l) = inl l
   sight w (inr (c, m, h, i, o)) = inr (c, m, h, elem-iff m (reached (viewOf c t)) .0 (reached-same (viewOf c t) (sound-orderly (viewOf c t) (collection-sound c t s h)) m .0 i), o)
 
+tested : (t : Words) → Settled t → settled t ≡ true
+tested t h = settled-same t .1 h
+
 -- In the list of an accepted call on a settled table a word never returns to a value that it lost.
 pub no-return : NoReturn
 no-return x words dock t h ok z a b c w g i j seen e =
@@ -130,6 +134,6 @@ no-return x words dock t h ok z a b c w g i j seen e =
     let l : w < length t = rw (length-apply (take (p z) ss) t) at (sight-long u s w there) in
     let le : (d f : ℕ) → d ≤ f → p d ≤ p f = λ d f q. storeCount-take-le d f os q in
     ap (λ (v : Words). at v w) (m b)
-    ∙ never-back t ss (call-steady t (settled-same t .1 h) x (y .collection) (y .allows)) (p z) (p a) (p b) (p c) w (le z a g) (le a b i) (le b c j) l there
+    ∙ never-back t ss (call-steady t (tested t h) x (y .collection) (y .allows)) (p z) (p a) (p b) (p c) w (le z a g) (le a b i) (le b c j) l there
     (sym (ap (λ (v : Words). at v w) (m a)) ∙ e ∙ ap (λ (v : Words). at v w) (m c))
     ∙ sym (ap (λ (v : Words). at v w) (m a))

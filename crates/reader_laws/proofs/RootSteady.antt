@@ -16,7 +16,7 @@ use Rattle.model.specs.SoundTest.{elem, nothing, settled}
 use Rattle.model.specs.Orders.{Store, put, apply}
 use Rattle.model.specs.Writes.{fresh, unreachable, putAll, nodeWords, newRootAt, newRoot, rootStores, run, rootInRun, insertSettled, standing}
 use Rattle.model.specs.Refusals.{tooHigh, tooFew}
-use Rattle.reader_laws.specs.Returns.{OfNode}
+use Rattle.model.specs.Returns.{OfNode}
 use Rattle.list_laws.proofs.Tools.{same-or-not}
 use Rattle.list_laws.proofs.Recordings.{recording-iff, recording-of, pair-of}
 use Rattle.word_laws.proofs.NewNodes.{length-node-words}

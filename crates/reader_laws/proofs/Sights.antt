@@ -13,7 +13,7 @@ use Rattle.model.specs.Table.{Words, at, noCollection}
 use Rattle.model.specs.Slots.{viewOf}
 use Rattle.model.specs.Reached.{reached}
 use Rattle.model.specs.Orders.{Store, apply}
-use Rattle.reader_laws.specs.Returns.{OfNode}
+use Rattle.model.specs.Returns.{OfNode}
 use Rattle.cut_laws.proofs.Applying.{apply-append, length-apply}
 use Rattle.reader_laws.proofs.Values.{valuesTo, Steady, steady-drop, steady-back}
 

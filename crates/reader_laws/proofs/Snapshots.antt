@@ -12,7 +12,7 @@ use Rattle.model.specs.Sound.{Settled}
 use Rattle.model.specs.Writes.{Call}
 use Rattle.model.specs.Refusals.{refusal, ordersOf}
 use Rattle.cut_laws.proofs.Applying.{length-carry}
-use Rattle.reader_laws.specs.Returns.{tableAt, OfNode, ReadTwice, CopyRight}
+use Rattle.model.specs.Returns.{tableAt, OfNode, ReadTwice, CopyRight}
 use Rattle.reader_laws.proofs.Returns.{moment-right, no-return}
 use Rattle.reader_laws.proofs.Copies.{copy-answers}
 

@@ -13,7 +13,7 @@ use Rattle.model.specs.SoundTest.{elem, nothing, settled}
 use Rattle.model.specs.Orders.{Store, put, apply}
 use Rattle.model.specs.Shifts.{pointerWord}
 use Rattle.model.specs.Writes.{shiftInAt, fresh, putAll, middle, splitWords, split, splits, standing}
-use Rattle.reader_laws.specs.Returns.{OfNode}
+use Rattle.model.specs.Returns.{OfNode}
 use Rattle.list_laws.proofs.Tools.{Each, Each-map}
 use Rattle.list_laws.proofs.Members.{each-mem, mem-each, each-at, elem-iff}
 use Rattle.list_laws.proofs.Lists.{each-map}

@@ -16,7 +16,7 @@ use Rattle.model.specs.Table.{Words, nodes, headerOk, noCollection}
 use Rattle.model.specs.Slots.{Slot, recording, class, View, nodeView, viewOf, height}
 use Rattle.model.specs.Search.{within, kept, locate, firstWith, nextFrom, answerOf, answerIn, searchView, search}
 use Rattle.model.specs.SoundTest.{sound}
-use Rattle.model.specs.Sentinels.{shownOn, onLine, lineFor, wordsOf, ledTo, leafFrom, searchWith}
+use Rattle.model.specs.Sentinels.{shownOn, onLine, lineFor, wordsOf, ledTo, leafFrom, searchWith, Shows, OtherSlot}
 use Rattle.list_laws.proofs.Members.{each-mem}
 use Rattle.list_laws.proofs.Filters.{mem-filter}
 use Rattle.list_laws.proofs.Tools.{first-filter}
@@ -45,11 +45,6 @@ on-line t n k none s e = let z : _≡_ {A = ℕ} 0 1 = cc in absurd (omega arith
 on-line t n k (some j) s e = let m = first-mem k s (shownOn t n j) e in (line-shown t n j s (m .0), m .1)
 
 -- ---- one tree
-
--- a shown slot of leaf m with key k
-pub record Shows (t : Words) (m k : ℕ) (s : Slot) : Type 0 where
-  pub in-leaf : List·Memᴰ s (nodeView t m .shown)
-  pub key : s .key ≡ k
 
 -- what a search finds in its leaf
 found-in : (v : View) (m k : ℕ) (s : Slot) → firstWith k (v .node m .shown) ≡ some s → answerIn v k (some m) ≡ Found (recording s) (class s)
@@ -108,17 +103,6 @@ module _ (n : ℕ) (ws t : Words) (k : ℕ) (long : length ws ≡ 3 * nodes t) w
 led : (ws t : Words) (k : ℕ) (l : Option ℕ) (s : Slot) → ledTo ws t k l ≡ some s → (m : ℕ) × (l ≡ some m) × Shows t m k s
 led ws t k none s e = let z : _≡_ {A = ℕ} 0 1 = cc in absurd (omega arith)
 led ws t k (some m) s e = let u = on-line t m k (lineFor k (wordsOf ws m)) s e in (m, refl, record { in-leaf = u .0; key = u .1 })
-
--- Both searches find, each a shown slot of the leaf with the key.
-pub record OtherSlot (n : ℕ) (ws t : Words) (k : ℕ) : Type 0 where
-  pub leaf : ℕ
-  pub come-to : leafFrom (viewOf n t) k ≡ some leaf
-  pub plain : Slot
-  pub chosen : Slot
-  pub plain-shows : Shows t leaf k plain
-  pub chosen-shows : Shows t leaf k chosen
-  pub plain-found : search n t k ≡ Found (recording plain) (class plain)
-  pub chosen-found : searchWith n ws t k ≡ Found (recording chosen) (class chosen)
 
 -- On every table, with any words of the right length, it is the plain search, or both find and only the slot differs.
 pub search-but-slot : (n : ℕ) (ws t : Words) (k : ℕ) → length ws ≡ 3 * nodes t → (searchWith n ws t k ≡ search n t k) ⊎ OtherSlot n ws t k

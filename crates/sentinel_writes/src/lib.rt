@@ -1,7 +1,7 @@
 // The writing calls that take the sentinels: each is the plain call, and then the words of the nodes that it stored to are set.
 use model::Written;
 ghost use Rattle.model.specs.Writes.{insertion, deletion, classChange, repair};
-ghost use Rattle.sentinels.specs.Anew.{Leaves};
+ghost use Rattle.model.specs.Sentinels.{Leaves};
 
 pub fn insert_with(
     table: &mut [u64],

@@ -15,7 +15,7 @@ use Rattle.model.specs.SoundTest.{elem, sound}
 use Rattle.model.specs.Orders.{Store, Order, store, flush, barrier, BAR, encode, apply, orders, listWith}
 use Rattle.model.specs.Writes.{Call, storesOf}
 use Rattle.model.specs.Refusals.{seventeenIn, ordersOf, refusal, written, ordersAnswered, tableAfter, listAfter}
-use Rattle.model.specs.Sentinels.{nodeOf, storedTo, setAnew, sliceNumber, refusalWith, writtenWith, tableWith, ordersWith, sentinelsWith}
+use Rattle.model.specs.Sentinels.{nodeOf, storedTo, setAnew, sliceNumber, refusalWith, writtenWith, tableWith, ordersWith, sentinelsWith, Leaves}
 use Rattle.cut_laws.specs.Inside.{StoresInside}
 use Rattle.cut_laws.specs.Unflushed.{storesIn}
 use Rattle.cut_laws.proofs.Applying.{counts-length, length-apply}
@@ -30,7 +30,7 @@ use Rattle.two_laws.proofs.SearchTwo.{sound-head}
 use Rattle.two_laws.proofs.DocksTwo.{list-fits}
 use Rattle.cut_laws.proofs.Lent.{header-length, length-encode}
 use Rattle.sentinels.proofs.Setting.{anew-same, anew-none}
-use Rattle.sentinels.specs.Anew.{named, Asks, Leaves}
+use Rattle.sentinels.specs.Anew.{named, Asks}
 
 -- ---- an order list from its front
 

@@ -1,4 +1,4 @@
--- A slice of 3 words a node with the words of one node put in; the nodes that an order list stores to; what a call with the slice leaves.
+-- A slice of 3 words a node with the words of one node put in; the nodes that an order list stores to; what setting the words asks.
 use mathlib.Core.Path.{_≡_}
 use mathlib.Core.Bool.{Bool, true, false, _&&_, _||_}
 use mathlib.Core.List.{_++_}
@@ -9,8 +9,7 @@ use Rattle.model.specs.declared.Written.{Written}
 use Rattle.model.specs.Table.{Words, at, nodes, headerOk}
 use Rattle.model.specs.SoundTest.{sound}
 use Rattle.model.specs.Refusals.{ordersAnswered}
-use Rattle.model.specs.Writes.{Call}
-use Rattle.model.specs.Sentinels.{nodeOf, writtenWith, tableWith, ordersWith, sentinelsWith}
+use Rattle.model.specs.Sentinels.{nodeOf}
 
 -- the words x for node n
 unfoldable pub putWords : Words → (n : ℕ) → Words → Words
@@ -27,10 +26,3 @@ pub record Asks (t list ws : Words) (answer : Written) : Type 0 where
   pub sound-if : 0 < ordersAnswered answer → sound t ≡ true
   pub slice : length ws ≡ 3 * nodes t
   pub room : 2 * ordersAnswered answer ≤ length list
-
--- What a writing call that takes the slice answers, and what it leaves of the table, the list and the slice.
-pub record Leaves (x : Call) (dock : ℕ) (t t′ lent lent′ ws ws′ : Words) (answer : Written) : Type 0 where
-  pub answered : answer ≡ writtenWith x (length ws) (length lent) dock t
-  pub table : t′ ≡ tableWith x (length ws) (length lent) dock t
-  pub listed : lent′ ≡ ordersWith x (length ws) lent dock t
-  pub slice : ws′ ≡ sentinelsWith x ws (length lent) dock t

@@ -11,14 +11,14 @@ use lib.ListN.{length, replicate}
 use borrow.Author.Tests.{eq-eqb, ne-eqb}
 use Rattle.model.specs.Table.{Words, at, nodes}
 use Rattle.model.specs.Slots.{View, viewOf, height}
-use Rattle.model.specs.Reached.{reached, mapping, mapOf}
+use Rattle.model.specs.Reached.{reached, mapping}
 use Rattle.model.specs.SoundTest.{Leftover, nothing, hiddenIn, missingIn, bothIn, leftover, isNothing, leftoverAll, sound, settled}
 use Rattle.model.specs.Writes.{unreachable}
 use Rattle.list_laws.proofs.Tools.{same-or-not}
 use Rattle.two_laws.proofs.Arrange.{SoundAs, sound-tree, left-all}
 use Rattle.two_laws.proofs.CheckTwo.{left-alone, left-beside, count-alone, count-beside, nothing-settled}
 use Rattle.two_laws.proofs.CollectionTwo.{unreachable-all}
-use Rattle.model.specs.Statistics.{leftWords, orNothing, leftIn, treeWords, report}
+use Rattle.model.specs.Statistics.{leftWords, orNothing, leftIn, treeWords, report, Meant}
 
 -- ---- the words of a leftover, with others after them
 
@@ -47,17 +47,6 @@ module _ (n f a b l : ℕ) (s : Words) where
   counts-are t c (bothIn p q) = (refl, refl, refl, refl, refl, refl)
 
 -- ---- of a sound table
-
-pub record Meant (t : Words) : Type 0 where
-  -- word 0 is 0 exactly if the table is settled
-  pub settled-iff : (at (report t) 0 ≡ 0) ↔ (settled t ≡ true)
-  -- else word 1 is the collection whose leftover the table has
-  pub left-in : settled t ≡ false → leftover (viewOf (at (report t) 1) t) ≡ leftoverAll t
-  -- each node is one collection's, or free
-  pub all-nodes : at (report t) 9 + (at (report t) 10 + at (report t) 13) ≡ at (report t) 8
-  -- the codes are those of the maps
-  pub codes-one : at (report t) 11 ≡ length (mapOf 1 t)
-  pub codes-two : at t 3 ≢ 0 → at (report t) 14 ≡ length (mapOf 2 t)
 
 module _ (t : Words) (s : sound t ≡ true) where
   u : SoundAs t

@@ -7,12 +7,12 @@ use Prim.Native.Nat.{ℕ, suc, _+_, _-_, _<_}
 use native.Mathlib.Omega.{arith}
 use lib.ListN.{length, take}
 use lib.Seq.{take-all}
-use Rattle.model.specs.Table.{Words, nodes, inRange, rootWord, noCollection}
-use Rattle.model.specs.SoundTest.{elem, nothing, sound, settled}
+use Rattle.model.specs.Table.{Words, rootWord, noCollection}
+use Rattle.model.specs.SoundTest.{nothing, sound, settled}
 use Rattle.model.specs.Orders.{Store, apply}
 use Rattle.model.specs.Refusals.{hasKey}
 use Rattle.model.specs.Reached.{reachedAll, mapOf}
-use Rattle.model.specs.Writes.{unreachable, shiftOutAt, freeStores, repairStores, repaired, standing, freesLeaf, deleteSettled, deleteStores}
+use Rattle.model.specs.Writes.{shiftOutAt, freeStores, repairStores, repaired, standing, freesLeaf, deleteSettled, deleteStores, FreeAfter}
 use Rattle.list_laws.proofs.Lists.{take-append}
 use Rattle.cut_laws.proofs.Applying.{apply-append}
 use Rattle.two_laws.proofs.TwoLaw.{Tree, Low}
@@ -22,12 +22,6 @@ use Rattle.two_laws.proofs.DeleteTwo.{Lacks, stores-freeing, delete-cou
 use Rattle.two_laws.proofs.CallsTwo.{repairs, arranged, is-repaired, delete-two}
 use Rattle.two_laws.proofs.AcceptedTwo.{there}
 use Rattle.two_laws.proofs.JudgedTwo.{reached-later, unreachable-later}
-
--- node x of t′ is reached from neither root, and t′ has one unreachable node more than t
-pub record FreeAfter (t : Words) (x : ℕ) (t′ : Words) : Type 0 where
-  pub range : inRange (nodes t′) x ≡ true
-  pub unreached : elem x (reachedAll t′) ≡ false
-  pub one-more : length (unreachable t′) ≡ suc (length (unreachable t))
 
 -- t is settled and reaches these nodes
 abbrev pub SettledReach : List ℕ → Words → Type 0

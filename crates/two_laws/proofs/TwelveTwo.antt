@@ -2,29 +2,21 @@
 -- 4 did not come first.
 use mathlib.Core.Path.{_≡_, refl}
 use mathlib.Core.Logic.{_≢_}
-use mathlib.Core.Bool.{Bool, true, false, not}
-use mathlib.Core.List.{List, _∷_}
+use mathlib.Core.Bool.{Bool, true, false}
+use mathlib.Core.List.{_∷_}
 use mathlib.Core.Option.{Option, none, some}
 use Prim.Native.Nat.{ℕ}
 use native.Mathlib.Omega.{arith}
-use lib.Dec.{ltb}
 use lib.ListN.{length}
 use borrow.Author.Tests.{ne-eqb}
-use Rattle.model.specs.Table.{Words, headerOk}
+use Rattle.model.specs.Table.{Words}
 use Rattle.model.specs.Slots.{nodeView, full}
 use Rattle.model.specs.SoundTest.{elem, Leftover, nothing, hiddenIn, missingIn, bothIn, leftoverAll, sound}
-use Rattle.model.specs.Writes.{repaired, Call, insertion, deletion, classChange, repair}
-use Rattle.model.specs.Refusals.{Test, test, firstNumber, seventeenIn, mapTests, elevenIn, tenIn, ownMap, wordsFor, refusal}
+use Rattle.model.specs.Writes.{Call, insertion, deletion, classChange, repair}
+use Rattle.model.specs.Twelve.{fullParent, firstTests, laterTests}
+use Rattle.model.specs.Refusals.{test, firstNumber, refusal}
 use Rattle.step_laws.proofs.Numbers.{not-first}
 use Rattle.two_laws.proofs.MendTwo.{missing-room, both-room}
-
--- repair would find 11 shown slots in the parent
-abbrev fullParent : Words → Option Leftover → Bool
-fullParent t none = false
-fullParent t (some nothing) = false
-fullParent t (some (hiddenIn x)) = false
-fullParent t (some (missingIn p a trailing)) = full (nodeView t p .shown)
-fullParent t (some (bothIn p a)) = full (nodeView t p .shown)
 
 never-full : (t : Words) (y : Option Leftover) → sound t ≡ true → leftoverAll t ≡ y → fullParent t y ≡ false
 unfolding full
@@ -33,13 +25,6 @@ never-full t (some nothing) s e = refl
 never-full t (some (hiddenIn x)) s e = refl
 never-full t (some (missingIn p a trailing)) s e = let r = missing-room t s p a trailing e in ne-eqb (length (nodeView t p .shown)) 11 (λ q. omega arith)
 never-full t (some (bothIn p a)) s e = let r = both-room t s p a e in ne-eqb (length (nodeView t p .shown)) 11 (λ q. omega arith)
-
-abbrev firstTests : Call → (words dock : ℕ) → Words → List Test → List Test
-firstTests x words dock t later =
-    test (not (headerOk t)) 2 ∷ test (seventeenIn x t) 17 ∷ test (not (sound t)) 4 ∷ test (ltb 1 dock) 18 ∷ test (ltb words (wordsFor dock)) 5 ∷ later
-
-abbrev laterTests : Call → Words → List Test
-laterTests x t = mapTests x (elevenIn x (repaired t)) (tenIn x (repaired t)) (ownMap x (repaired t))
 
 -- With that test in its place every call answers as without it: on any words, of either collection, with an order list of any length, for any dock.
 pub same-with-twelve : (x : Call) (words dock : ℕ) (t : Words)

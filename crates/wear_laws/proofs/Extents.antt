@@ -12,11 +12,11 @@ use Rattle.model.specs.Search.{filter}
 use Rattle.model.specs.SoundTest.{elem}
 use Rattle.model.specs.Orders.{Order, allInside}
 use Rattle.model.specs.Writes.{numbers}
-use Rattle.model.specs.Wear.{storedTo, Extent, extent, joined, joinAll, extentsOf}
+use Rattle.model.specs.Wear.{storedTo, Extent, extent, joined, joinAll, extentsOf, covered, Apart}
 use Rattle.list_laws.proofs.Tools.{same-or-not, compared, same-test, or-right}
 use Rattle.list_laws.proofs.Filters.{filter-yes, filter-no, mem-filter}
 use Rattle.list_laws.proofs.Members.{elem-iff, each-elem}
-use Rattle.wear_laws.specs.Wearing.{covered, Apart, extentsIn, Sought}
+use Rattle.wear_laws.specs.Wearing.{extentsIn, Sought}
 use Rattle.wear_laws.proofs.Stored.{stored-inside}
 
 -- ---- a word joined to an extent that it touches, or before one that it does not touch

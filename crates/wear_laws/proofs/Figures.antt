@@ -12,12 +12,11 @@ use Rattle.model.specs.SoundTest.{elem}
 use Rattle.model.specs.Orders.{Order, withoutBarriers, storeCount, decode, allInside, carryNumber}
 use Rattle.model.specs.Writes.{numbers}
 use Rattle.model.specs.Refusals.{unlessRefused}
-use Rattle.model.specs.Wear.{storedTo, storesTo, wearOf, largest, joinAll, extentsOf, figures, wearNumber}
+use Rattle.model.specs.Wear.{storedTo, storesTo, wearOf, largest, joinAll, extentsOf, figures, wearNumber, Figured}
 use Rattle.list_laws.proofs.Tools.{and-iff}
 use Rattle.list_laws.proofs.Members.{mem-each}
 use Rattle.list_laws.proofs.Filters.{filter-none}
 use Rattle.table_laws.proofs.Header.{header-iff}
-use Rattle.wear_laws.specs.Wearing.{Figured}
 use Rattle.wear_laws.proofs.Stored.{all-orders, stored-count, stored-without}
 use Rattle.wear_laws.proofs.Lines.{onLine, wear-length, wear-at, wear-sum, largest-top, first-has, first-before, none-largest}
 use Rattle.wear_laws.proofs.Extents.{extents-cover, extents-apart}

@@ -13,11 +13,10 @@ use Rattle.model.specs.Table.{Words, at, line}
 use Rattle.model.specs.Search.{filter}
 use Rattle.model.specs.Orders.{Order, storeCount, allInside}
 use Rattle.model.specs.Writes.{numbers}
-use Rattle.model.specs.Wear.{storedTo, storesTo, wearOf, largest, firstAt}
+use Rattle.model.specs.Wear.{storedTo, storesTo, wearOf, largest, firstAt, sum}
 use Rattle.list_laws.proofs.Tools.{Each, Each-map, same-or-not, compared}
 use Rattle.list_laws.proofs.Filters.{filter-yes, filter-no}
 use Rattle.list_laws.proofs.Counts.{numbers-length}
-use Rattle.wear_laws.specs.Wearing.{sum}
 use Rattle.wear_laws.proofs.Stored.{stored-count, stored-inside}
 
 -- ---- counts

@@ -1,2 +1,0 @@
--- What the C entry points answer.
-pub mod Answers
