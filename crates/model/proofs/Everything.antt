@@ -60,7 +60,7 @@ unfolding Codes.isDigit Codes.isLetter Codes.isLetterOrDigit Codes.every Codes.i
     Printer.doCall Printer.doForm Printer.doLine Printer.doLines Printer.printer
     Packing.groups Packing.bottom Packing.numbered Packing.rowAbove Packing.rowsAbove Packing.packed Packing.rowWords Packing.rowsWords Packing.countRows
     Packing.packedCount Packing.packedWords Packing.packedBoth Packing.packedTable
-    Salvage.shownAt Salvage.underFence Salvage.followed Salvage.meetings Salvage.mayEnter Salvage.order Salvage.enteredFrom Salvage.entered Salvage.outOfRange
+    Salvage.shownAt Salvage.underFence Salvage.followed Salvage.meetings Salvage.mayEnter Salvage.visit Salvage.enteredFrom Salvage.entered Salvage.outOfRange
     Salvage.reasonFor Salvage.gatherSlot Salvage.gatherSlots Salvage.collected Salvage.gatherNodes Salvage.gatheredAlong Salvage.gathered Salvage.keptMaps
     Salvage.droppedAll Salvage.dropWords Salvage.outgrows Salvage.salvageNumber Salvage.salvage Salvage.salvageOut Salvage.salvageReport
     Sentinels.shownOn Sentinels.leavesAll Sentinels.sentinelsOf Sentinels.sentinels Sentinels.sliceNumber Sentinels.workNumber Sentinels.workOut

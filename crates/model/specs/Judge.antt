@@ -53,7 +53,8 @@ Says x t os Yes = (c : ℕ) → c ≤ length os → CountHolds x t os c
 Says x t os (No c) = (c ≤ length os) × ((d : ℕ) → d < c → CountHolds x t os d) × (CountHolds x t os c → ⊥)
 Says x t os (Refused n) = ⊥
 
--- ---- what computes it: the orders one by one, on the table as those before leave it
+-- ---- what computes it: the orders one by one, on the table as those before leave it. Proved twin of `Says`, which needs no belief:
+-- `judged-iff` in crates/judge_laws/proofs/Judged.antt.
 
 unfoldable pub sameSlots : List Slot → List Slot → Bool
 sameSlots [] [] = true

@@ -19,7 +19,9 @@ headOr d (x ∷ xs) = x
 abbrev pub pointers : List Slot → List ℕ
 pointers ss = map (λ (s : Slot). s .pointer) ss
 
--- ---- the nodes reached, by left, by sibling and by kept slots
+-- ---- the nodes reached, by left, by sibling and by kept slots. Proved twin of `Reached` in Sound.antt, and so is `mapping` of document 01's
+-- sentence about the map: `reached-same` and `map-same` in crates/sound_laws/proofs/Same.antt, on every sound table, where alone they are
+-- used. Only `kept` and the collections of a table, below, need belief.
 
 -- the children that an inner node names: left, then by its kept slots
 abbrev pub named : View → ℕ → List ℕ

@@ -61,19 +61,22 @@ unfoldable pub mayEnter : Words → Meeting → List ℕ → Bool
 mayEnter t x es = inRange (nodes t) (x .node) && (eqb (nodeView t (x .node) .level) (x .level) && not (elem (x .node) es))
 
 module _ (t : Words) where
-  -- the nodes entered from here on, in order: what a node meets comes before what was still to be met
-  unfoldable pub order : (fuel : ℕ) → List Meeting → List ℕ → List ℕ
-  order zero todo es = []
-  order (suc f) [] es = []
-  order (suc f) (x ∷ todo) es = elim (mayEnter t x es) [ true ↦ x .node ∷ order f (meetings t (x .node) ++ todo) (x .node ∷ es) | false ↦ order f todo es ]
+  -- Each meeting in turn: enter the node if it may be, go everywhere from it, then on to what comes after it. The nodes entered by then, in order,
+  -- where es were entered before.
+  unfoldable pub visit : (fuel : ℕ) → List Meeting → List ℕ → List ℕ
+  visit zero xs es = es
+  visit (suc f) [] es = es
+  visit (suc f) (x ∷ xs) es =
+      elim (mayEnter t x es) [ true ↦ visit f xs (visit f (meetings t (x .node)) (es ++ x .node ∷ [])) | false ↦ visit f xs es ]
 
 -- a root, whatever its level
 abbrev pub start : Words → (root : ℕ) → List Meeting
 start t r = meet r (nodeView t r .level) ∷ []
 
--- The nodes entered from a root, in order, where es were entered before. Each of them meets 14 at most.
+-- The nodes entered from a root, in order, where es were entered before: what comes after these. Each node meets 14 at most, so the fuel
+-- suffices.
 unfoldable pub enteredFrom : Words → (root : ℕ) → List ℕ → List ℕ
-enteredFrom t r es = order t (2 + 14 * nodes t) (start t r) es
+enteredFrom t r es = drop (length es) (visit t (2 + 14 * nodes t) (start t r) es)
 
 -- Salvage takes both, collection 1 first: a node entered for it is not entered again for collection 2.
 abbrev pub earlier : (n : ℕ) → Words → List ℕ

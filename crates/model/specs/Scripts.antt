@@ -59,7 +59,9 @@ firstDiffers (a ∷ s) (b ∷ u) = cond (eqb a b) (firstDiffers s u) (actionBefo
 unfoldable pub before : Script → Script → Bool
 before s u = ltb (length s) (length u) || (eqb (length s) (length u) && firstDiffers s u)
 
--- ---- numbers
+-- ---- numbers. `rank` and `scriptOf` are proved twins of the order `before` and need no belief: each script has one number below 1,555, in that
+-- order (`script-there`, `script-once` and `script-order` in crates/short_laws/proofs/Rank.antt), and `rank` goes the other way
+-- (`rank-script` in crates/short_laws/proofs/Rank.antt).
 
 -- That is 1,555 scripts.
 abbrev pub SCRIPTS : ℕ

@@ -1,4 +1,4 @@
--- Document 01, "Sound tables", sentence by sentence. SoundTest.antt has the same as a test that computes.
+-- Document 01, "Sound tables", sentence by sentence. This is what is believed; SoundTest.antt is its twin that computes.
 use mathlib.Core.Path.{_≡_}
 use mathlib.Core.Logic.{_≢_, _⊎_}
 use mathlib.Core.Bool.{true, false}

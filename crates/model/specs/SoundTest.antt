@@ -1,4 +1,6 @@
--- Document 01, "Sound tables", as a test that computes on any words. Sound.antt has it sentence by sentence; the two say the same.
+-- Proved twin of Sound.antt, which needs no belief: `sound-same`, `settled-same` and `leftover-same` in crates/two_laws/proofs/SameTwo.antt.
+-- Document 01, "Sound tables", as a test that computes on any words; Sound.antt has it sentence by sentence. To be read here: `Leftover`,
+-- which Sound.antt names, and the tests that other files take over: `all`, `elem`, `distinct`, `rising`, `recordingsOk`.
 use mathlib.Core.Bool.{Bool, true, false, cond, not, _&&_, _||_}
 use mathlib.Core.List.{List, [], _∷_, map}
 use mathlib.Core.Option.{Option, none, some}

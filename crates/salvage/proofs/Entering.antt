@@ -13,7 +13,7 @@ use Rattle.list_laws.proofs.Tools.{Each-map, all-each}
 use Rattle.list_laws.proofs.Distinct.{UpTo}
 use Rattle.table_laws.proofs.Header.{header-iff}
 use Rattle.tree_laws.proofs.Rows.{range-iff}
-use Rattle.tour_laws.proofs.Ends.{first-numbers}
+use Rattle.tour_laws.proofs.Recursion.{first-numbers}
 use Rattle.bits.proofs.Marks.{none-marked}
 use Rattle.tour.specs.Loop.{Marked}
 use Rattle.pack.proofs.Leaves.{take-drop}

@@ -21,7 +21,8 @@ use Rattle.bits.proofs.Marks.{has-put-same, has-put-other}
 use Rattle.tour_laws.specs.Walk.{waysFrom, Frame, frame, todoOf}
 use Rattle.tour_laws.proofs.Steps.{may-iff}
 use Rattle.tour_laws.proofs.Ends.{Numbers}
-use Rattle.tour_laws.proofs.Remaining.{remaining, remaining-none, remaining-no, remaining-start, remaining-enter, more-last, elem-last}
+use Rattle.tour_laws.proofs.Remaining.{remaining, remaining-none, remaining-no, remaining-enter, more-last, elem-last}
+use Rattle.tour_laws.proofs.Recursion.{remaining-start}
 use Rattle.tour.specs.declared.Sight.{Sight}
 use Rattle.tour.specs.Loop.{Looked, Marked, unmarked}
 

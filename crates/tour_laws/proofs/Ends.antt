@@ -1,20 +1,20 @@
 -- The tour ends: from any words, the fuel suffices for every meeting.
 use mathlib.Core.Path.{_≡_, refl, ap, sym, _∙_}
 use mathlib.Core.Bool.{Bool, true, false, cond, _||_}
-use mathlib.Core.List.{List, [], _∷_, _++_, map, append-nil}
+use mathlib.Core.List.{List, [], _∷_, _++_, map}
 use Prim.Native.Nat.{ℕ, zero, suc, pred, _+_, _-_, _*_, _≤_}
 use native.Mathlib.Omega.{arith}
 use lib.Dec.{eqb}
 use lib.ListN.{length, take, drop, replicate, length-append}
-use Rattle.model.specs.Table.{Words, at, nodes, root, node, nodeFrom, nodeStart, hasNode, blank}
+use Rattle.model.specs.Table.{Words, nodes, node, nodeFrom, nodeStart, hasNode, blank}
 use Rattle.model.specs.Slots.{Slot, slot, nodeView, slotsOf, inUse, used}
 use Rattle.model.specs.SoundTest.{elem, distinct}
 use Rattle.list_laws.proofs.Tools.{Each, Each-split, Each-append}
 use Rattle.list_laws.proofs.Filters.{filter-short}
 use Rattle.list_laws.proofs.Distinct.{distinct-cons, distinct-middle, UpTo, pigeonhole}
 use Rattle.tree_laws.proofs.Rows.{range-iff}
-use Rattle.model.specs.Salvage.{Placed, Meeting, meet, shownAt, followed, meetings, mayEnter, order, start, enteredFrom, entered}
-use Rattle.tour_laws.specs.Visits.{unmet}
+use Rattle.model.specs.Salvage.{Placed, Meeting, meet, shownAt, followed, meetings, mayEnter, start}
+use Rattle.tour_laws.specs.Visits.{order, unmet, touredFrom}
 use Rattle.tour_laws.proofs.Steps.{order-yes, order-no, unmet-yes, unmet-no, may-iff, may-elem}
 
 -- ---- a node meets 14 at most
@@ -189,26 +189,10 @@ module _ (t : Words) where
 -- ---- from a root
 
 module _ (t : Words) (r : ℕ) (es : List ℕ) (u : Numbers t es) where
-  pub from-numbers : Numbers t (enteredFrom t r es ++ es)
-  unfolding enteredFrom
+  pub from-numbers : Numbers t (touredFrom t r es ++ es)
+  unfolding touredFrom
   from-numbers = order-numbers t (2 + 14 * nodes t) (start t r) es u
 
   -- The tour takes every meeting, from any words.
   pub tour-ends : unmet t (2 + 14 * nodes t) (start t r) es ≡ []
   tour-ends = unmet-none t (2 + 14 * nodes t) (start t r) es u (unfold need in omega arith)
-
-  -- More fuel changes nothing.
-  pub more-fuel : (k : ℕ) → order t (2 + 14 * nodes t + k) (start t r) es ≡ enteredFrom t r es
-  unfolding enteredFrom need
-  more-fuel k = order-same t (2 + 14 * nodes t + k) (2 + 14 * nodes t) (start t r) es u (omega arith) (omega arith)
-
--- ---- for both collections
-
-pub first-numbers : (t : Words) → Numbers t (entered 1 t)
-unfolding entered
-first-numbers t = rw (append-nil (enteredFrom t (root t) [])) at (from-numbers t (root t) [] (no-numbers t))
-
--- Each node is entered once, for one of the collections, and its number is in 1 to N.
-pub entered-once : (t : Words) → Numbers t (entered 2 t ++ entered 1 t)
-unfolding entered
-entered-once t = from-numbers t (at t 3) (entered 1 t) (first-numbers t)

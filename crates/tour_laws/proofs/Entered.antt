@@ -20,7 +20,8 @@ use Rattle.tree_laws.proofs.Rows.{At, Row, not-zero, linked-cons, head-children
 use Rattle.tree_laws.proofs.Levels.{Orderly, Level, level-root, level-lower, level-leaves, mem-leaves, ascending, row-distinct, row-tail}
 use Rattle.tree_laws.proofs.Kept.{by-level}
 use Rattle.tree_laws.proofs.Parents.{reached-children}
-use Rattle.model.specs.Salvage.{Meeting, meet, meetings, mayEnter, order, start, enteredFrom}
+use Rattle.model.specs.Salvage.{Meeting, meet, meetings, mayEnter, start}
+use Rattle.tour_laws.specs.Visits.{order, touredFrom}
 use Rattle.tour_laws.proofs.Steps.{order-yes, order-no, may-iff}
 use Rattle.tour_laws.proofs.Meets.{Known, meetings-leaf, meetings-inner, furtherMet, further-known, inner-known, reached-known, left-reached}
 
@@ -149,13 +150,13 @@ module _ (t : Words) (r : ℕ) (o : Orderly (viewFrom t r)) where
   root-known = rw (reached-children v o) (List·Memᴰ·head refl)
 
   -- The leaves entered are the tree's leaves, in their order, where none of its nodes was entered before.
-  pub entered-leaves : (es : List ℕ) → ((j : ℕ) → List·Memᴰ j (reached v) → elem j es ≡ false) → leavesIn t (enteredFrom t r es) ≡ leaves v
-  unfolding enteredFrom
+  pub entered-leaves : (es : List ℕ) → ((j : ℕ) → List·Memᴰ j (reached v) → elem j es ≡ false) → leavesIn t (touredFrom t r es) ≡ leaves v
+  unfolding touredFrom
   entered-leaves es h =
       let q = range-iff (v .nodes) r .0 (o .top .range) in
       down (height v) (2 + 14 * nodes t) r [] [] es (level-root v (o .top) (o .good)) root-known refl (λ j m l. h j m) tt (omega (arith, o .top .level, leaves-few, q .0, q .1))
 
   -- Only nodes that the root reaches are entered.
-  pub entered-reached : (es : List ℕ) → Each (λ (m : ℕ). List·Memᴰ m (reached v)) (enteredFrom t r es)
-  unfolding enteredFrom
+  pub entered-reached : (es : List ℕ) → Each (λ (m : ℕ). List·Memᴰ m (reached v)) (touredFrom t r es)
+  unfolding touredFrom
   entered-reached es = known-reached (2 + 14 * nodes t) (start t r) es (inr root-known, tt)

@@ -13,7 +13,8 @@ use Rattle.list_laws.proofs.Tools.{refuted, Each-append}
 use Rattle.list_laws.proofs.Members.{elem-join}
 use Rattle.list_laws.proofs.Distinct.{UpTo, distinct-cons, distinct-middle}
 use Rattle.tree_laws.proofs.Rows.{range-iff}
-use Rattle.model.specs.Salvage.{Meeting, meet, meetings, mayEnter, order, start, enteredFrom}
+use Rattle.model.specs.Salvage.{Meeting, meet, meetings, mayEnter, start}
+use Rattle.tour_laws.specs.Visits.{order, touredFrom}
 use Rattle.tour_laws.proofs.Steps.{order-yes, order-no, may-iff}
 use Rattle.tour_laws.proofs.Ends.{Numbers, more-numbers, need, need-yes, need-no, order-same, order-elem}
 
@@ -39,9 +40,9 @@ module _ (t : Words) where
   order-none (suc f) es = refl
 
   -- 0 is no root: without collection 2 nothing is entered for it
-  pub none-entered : (es : List ℕ) → enteredFrom t 0 es ≡ []
-  unfolding enteredFrom
-  none-entered es =
+  pub none-toured : (es : List ℕ) → touredFrom t 0 es ≡ []
+  unfolding touredFrom
+  none-toured es =
       let x = meet 0 (nodeView t 0 .level) in
       let e : 2 + 14 * nodes t ≡ suc (1 + 14 * nodes t) = omega arith in
       ap (λ (f : ℕ). order t f (x ∷ []) es) e
@@ -65,9 +66,9 @@ module _ (t : Words) where
   unfolding remaining
   remaining-no x todo es c = ap (λ (f : ℕ). order t f (x ∷ todo) es) (sym (need-no t x todo es)) ∙ order-no t (need t todo es) x todo es c
 
-  pub remaining-start : (r : ℕ) (es : List ℕ) → Numbers t es → enteredFrom t r es ≡ remaining t (start t r) es
-  unfolding remaining enteredFrom
-  remaining-start r es u = order-same t (2 + 14 * nodes t) _ (start t r) es u (unfold need in omega arith) (omega arith)
+  pub toured-start : (r : ℕ) (es : List ℕ) → Numbers t es → touredFrom t r es ≡ remaining t (start t r) es
+  unfolding remaining touredFrom
+  toured-start r es u = order-same t (2 + 14 * nodes t) _ (start t r) es u (unfold need in omega arith) (omega arith)
 
   -- ---- with the nodes entered in their order
 

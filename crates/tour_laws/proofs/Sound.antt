@@ -12,7 +12,7 @@ use Rattle.model.specs.Slots.{Slot, recording, View, viewFrom, viewOf}
 use Rattle.model.specs.Reached.{filter, flat, kept, reached, leaves, mapping, mapOf, mapsOf}
 use Rattle.model.specs.SoundTest.{elem, pairOk, sound}
 use Rattle.model.specs.Ledger.{enter}
-use Rattle.model.specs.Salvage.{Placed, followed, enteredFrom, entered, Gathered, reasonFor, gatherSlot, gatherSlots, collected, gatherNodes, gatheredAlong, gathered, keptMaps, droppedAll}
+use Rattle.model.specs.Salvage.{Placed, followed, entered, Gathered, reasonFor, gatherSlot, gatherSlots, collected, gatherNodes, gatheredAlong, gathered, keptMaps, droppedAll}
 use Rattle.list_laws.proofs.Tools.{Each, Each-split, Each-map, same-or-not}
 use Rattle.list_laws.proofs.Members.{each-mem, elem-none, elem-append}
 use Rattle.list_laws.proofs.Distinct.{distinct-append, distinct-middle}
@@ -24,7 +24,8 @@ use Rattle.tree_laws.proofs.MapLaw.{MapRises, map-rises}
 use Rattle.change_laws.proofs.Pairs.{has-key-iff, has-recording, enter-at}
 use Rattle.two_laws.proofs.SameTwo.{each-sound, first-there, second-there}
 use Rattle.two_laws.proofs.CollectionTwo.{collection-orderly}
-use Rattle.tour_laws.proofs.Remaining.{none-entered}
+use Rattle.tour_laws.specs.Visits.{touredFrom}
+use Rattle.tour_laws.proofs.Recursion.{entered-one, entered-two, none-entered}
 use Rattle.tour_laws.proofs.Meets.{SiblingIn, good-sibling, followed-kept}
 use Rattle.tour_laws.proofs.Entered.{leavesIn, leaf-in, inner-out, entered-leaves, entered-reached}
 use Rattle.tour_laws.proofs.Gathering.{range-iff, no-reason, slot-kept, collected-leaf, collected-inner}
@@ -107,22 +108,22 @@ module _ (all : List Slot) (f : MapRises all) where
 -- a sound tree none of whose nodes was entered before: its map is kept, and nothing is dropped
 module _ (t : Words) (r : ℕ) (o : Orderly (viewFrom t r)) (es : List ℕ) (h : (j : ℕ) → List·Memᴰ j (reached (viewFrom t r)) → elem j es ≡ false) where
   abbrev g : Gathered
-  g = gatheredAlong t (enteredFrom t r es)
+  g = gatheredAlong t (touredFrom t r es)
 
   tree-gathers : (g .kept ≡ mapping (viewFrom t r)) × (g .dropped ≡ [])
   unfolding mapping gatheredAlong
   tree-gathers =
       let v = viewFrom t r in
       let q = entered-leaves t r o es h in
-      let s : Each (SiblingIn v) (leavesIn t (enteredFrom t r es)) = rw q (Each-map (Good v) (SiblingIn v) (leaves v) (λ n g. good-sibling v n g) (level-leaves v o .row .good)) in
-      let u = nodes-gather (mapping v) (map-rises v o) t r (enteredFrom t r es) (record { kept = []; dropped = [] }) s (ap (flat (kept v)) q) in
+      let s : Each (SiblingIn v) (leavesIn t (touredFrom t r es)) = rw q (Each-map (Good v) (SiblingIn v) (leaves v) (λ n g. good-sibling v n g) (level-leaves v o .row .good)) in
+      let u = nodes-gather (mapping v) (map-rises v o) t r (touredFrom t r es) (record { kept = []; dropped = [] }) s (ap (flat (kept v)) q) in
       (sym (append-nil _) ∙ u .rest, u .dropped)
 
 -- Without collection 2 a salvage is that of collection 1.
 module _ (t : Words) (z : at t 3 ≡ 0) where
   no-second : gathered 2 t .dropped ≡ []
-  unfolding gathered gatheredAlong entered gatherNodes
-  no-second = rw (z, none-entered t (entered 1 t))
+  unfolding gathered gatheredAlong gatherNodes
+  no-second = rw (none-entered t z)
 
   pub alone-maps : keptMaps t ≡ record { one = gathered 1 t .kept; two = none }
   unfolding keptMaps
@@ -139,20 +140,19 @@ beside-maps t z = rw (ne-eqb (at t 3) 0 z)
 
 module _ (t : Words) (s : sound t ≡ true) where
   one : (gathered 1 t .kept ≡ mapOf 1 t) × (gathered 1 t .dropped ≡ [])
-  unfolding gathered entered
-  one = tree-gathers t (at t 1) (collection-orderly 1 t s (first-there t)) [] (λ j m. unfold elem in refl)
+  unfolding gathered
+  one = rw (entered-one t) (tree-gathers t (at t 1) (collection-orderly 1 t s (first-there t)) [] (λ j m. unfold elem in refl))
 
   -- no node of the second tree is entered from the first root
   fresh : at t 3 ≢ 0 → (j : ℕ) → List·Memᴰ j (reached (viewOf 2 t)) → elem j (entered 1 t) ≡ false
-  unfolding entered
   fresh z j m = elem-none j (entered 1 t) .1 (λ i.
-      let k = each-mem (λ (n : ℕ). List·Memᴰ n (reached (viewOf 1 t))) (entered-reached t (at t 1) (collection-orderly 1 t s (first-there t)) []) i in
+      let k = each-mem (λ (n : ℕ). List·Memᴰ n (reached (viewOf 1 t))) (rw (entered-one t) (entered-reached t (at t 1) (collection-orderly 1 t s (first-there t)) [])) i in
       let off = distinct-append (reached (viewOf 1 t)) (reached (viewOf 2 t)) .0 (rw (append-nil (reached (viewOf 2 t))) at (each-sound t .0 s .once z)) .2 in
       elem-none j (reached (viewOf 2 t)) .0 (each-mem (λ (n : ℕ). elem n (reached (viewOf 2 t)) ≡ false) off k) m)
 
   two : at t 3 ≢ 0 → (gathered 2 t .kept ≡ mapOf 2 t) × (gathered 2 t .dropped ≡ [])
-  unfolding gathered entered
-  two z = tree-gathers t (at t 3) (collection-orderly 2 t s (second-there t z)) (entered 1 t) (fresh z)
+  unfolding gathered
+  two z = rw (entered-two t) (tree-gathers t (at t 3) (collection-orderly 2 t s (second-there t z)) (entered 1 t) (fresh z))
 
   -- A sound table drops nothing and gives the same maps.
   pub tour-sound : (keptMaps t ≡ mapsOf t) × (droppedAll t ≡ [])

@@ -7,9 +7,9 @@ use Prim.Native.Nat.{ℕ, suc}
 use Rattle.model.specs.Table.{Words, inRange, nodes}
 use Rattle.model.specs.Slots.{nodeView}
 use Rattle.model.specs.SoundTest.{elem}
-use Rattle.model.specs.Salvage.{Meeting, meetings, mayEnter, order}
+use Rattle.model.specs.Salvage.{Meeting, meetings, mayEnter}
 use Rattle.list_laws.proofs.Tools.{decode, not-iff}
-use Rattle.tour_laws.specs.Visits.{unmet}
+use Rattle.tour_laws.specs.Visits.{order, unmet}
 
 module _ (t : Words) where
   pub order-yes : (f : ℕ) (x : Meeting) (todo : List Meeting) (es : List ℕ) → mayEnter t x es ≡ true → order t (suc f) (x ∷ todo) es ≡ x .node ∷ order t f (meetings t (x .node) ++ todo) (x .node ∷ es)
