@@ -554,7 +554,7 @@ module _ (t : Words) (q : Sound t) (h : History) (p : MayFrom (both t) h) (n doc
         fates = w .fates;
         may = may;
         comes-to = to ∙ e;
-        kept = demand3-from t q .1 (es ++ h) may;
+        stands = demand3-from t q .1 (es ++ h) may;
         stops = g (ap (λ (u : State). mapsOf (u .working)) (sym to) ∙ along t q (es ++ h) may .2);
       }
 

@@ -23,8 +23,8 @@ use Rattle.model.specs.Cuts.{CutImage}
 use Rattle.model.specs.Refusals.{unlessRefused, writtenNumber, ordersAnswered, ordersOf, seventeenIn, refusal, written, tableAfter, listAfter}
 use Rattle.model.specs.Ledger.{fedOf, End, cutAfter, taken, change, Ledger, noPairs, listIn, answerFrom, lacking, pairsOf, otherSlice, ledgerRefusal, feed}
 use Rattle.model.specs.Sentinels.{sliceNumber, refusalWith, writtenWith, tableWith, ordersWith, searchWith}
-use Rattle.model.specs.Demand3.{Fate, whole, cut, State, both, Event, History, refusalBy, writtenBy, tableBy, ordersBy, numberOf, answered, listOf, eventOrders, leftBy, afterFate, afterRefusal, step, runFrom}
-use Rattle.model.specs.Demand3.{FateMay, MayFrom, endOf, ledgerFrom, Agrees, Completed, Carried, Keeps, StayTrue, Right, KeptFrom, Demand3, HoldsFrom, Demand3From}
+use Rattle.model.specs.Demand3.{Fate, whole, cut, State, both, Event, History, refusalBy, writtenBy, tableBy, ordersBy, numberOf, answered, listOf, eventOrders, leftBy, afterFate, afterRefusal, step}
+use Rattle.model.specs.Demand3.{runFrom, FateMay, MayFrom, endOf, ledgerFrom, Agrees, Completed, Carried, Keeps, StayTrue, Right, StandsFrom, Demand3, HoldsFrom, Demand3From}
 use Rattle.model.specs.SoundTest.{sound}
 use Rattle.model.specs.Search.{search}
 use Rattle.model.specs.Reached.{Maps, mapsOf}
@@ -395,7 +395,7 @@ module _ (N : ℕ) (s : State) (ps : Ledger) (v : Inv N s ps) where
   inv [] p = v
   inv (e ∷ h) p = step-inv N (runFrom s h) e (ledgerFrom (choose s) N s ps h) (inv h (p .0)) (p .1)
 
-  kept : (h : History) → MayFrom s h → KeptFrom (choose s) N s ps h
+  kept : (h : History) → MayFrom s h → StandsFrom (choose s) N s ps h
   unfolding runFrom MayFrom
   kept [] p = agrees N _ _ (inv [] p)
   kept (e ∷ h) p = (agrees N _ _ (inv (e ∷ h) p), step-right N (runFrom s h) e (ledgerFrom (choose s) N s ps h) (inv h (p .0)) (p .1))

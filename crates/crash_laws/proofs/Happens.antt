@@ -16,7 +16,7 @@ use Rattle.model.specs.SoundTest.{settled, sound}
 use Rattle.model.specs.Orders.{Order}
 use Rattle.model.specs.Cuts.{CutImage}
 use Rattle.model.specs.Writes.{Call, insertion, deletion, classChange}
-use Rattle.model.specs.Demand3.{Fate, whole, cut, Event, History, numberOf, answered, eventOrders, runAll, MayFrom, May, Kept}
+use Rattle.model.specs.Demand3.{Fate, whole, cut, Event, History, numberOf, answered, eventOrders, runAll, MayFrom, May, Stands}
 use Rattle.model.proofs.Everything.{everything}
 use Rattle.crash_laws.proofs.Images.{values, withLine, imageBy, imageOf, imageOf-image}
 use Rattle.crash_laws.proofs.Demand3.{demand3}
@@ -60,7 +60,7 @@ unfolding MayFrom
 happens = ((((tt, λ e. tt), λ e. (within-list, may-leave)), λ e. tt), λ e. tt)
 
 -- what demand 3 says of it
-pub happens-kept : (choose : History → Bool) × Kept choose 1 1 deleted
+pub happens-kept : (choose : History → Bool) × Stands choose 1 1 deleted
 happens-kept = let d = demand3 1 1 (inl refl) (omega arith) (omega arith) in (d .0, d .1 deleted happens)
 
 -- No call was refused; the image is sound, not settled, and still has the first pair; the class change gives it its class and leaves

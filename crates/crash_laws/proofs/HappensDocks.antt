@@ -18,7 +18,7 @@ use Rattle.model.specs.Orders.{Order, orders}
 use Rattle.model.specs.Cuts.{CutImage}
 use Rattle.model.specs.Writes.{Call, insertion, deletion, storesOf}
 use Rattle.model.specs.Refusals.{ordersOf}
-use Rattle.model.specs.Demand3.{Fate, whole, cut, Event, History, numberOf, answered, eventOrders, runAll, MayFrom, May, Kept}
+use Rattle.model.specs.Demand3.{Fate, whole, cut, Event, History, numberOf, answered, eventOrders, runAll, MayFrom, May, Stands}
 use Rattle.model.proofs.Everything.{everything}
 use Rattle.cut_laws.proofs.Docks.{barred-images}
 use Rattle.crash_laws.proofs.Images.{values, withLine, imageBy, imageOf, imageOf-image}
@@ -80,7 +80,7 @@ unfolding MayFrom
 happens = (((tt, λ e. tt), λ e. (within-list, may-leave)), λ e. tt)
 
 -- what demand 3 says of it
-pub happens-kept : (choose : History → Bool) × Kept choose 1 1 deleted
+pub happens-kept : (choose : History → Bool) × Stands choose 1 1 deleted
 happens-kept = let d = demand3 1 1 (inl refl) (omega arith) (omega arith) in (d .0, d .1 deleted happens)
 
 -- No call was refused; a third dock is; the image is sound, not settled, and still has the first pair; the deletion takes it and leaves

@@ -18,7 +18,7 @@ use Rattle.model.specs.Writes.{Call, insertion}
 use Rattle.model.specs.Refusals.{unlessRefused}
 use Rattle.model.specs.Ledger.{Ledger, fedOf, listIn, answerFrom, cutAfter, taken, change, ledgerRefusal, feed}
 use Rattle.model.specs.Pack.{mapsIn, packNumber, packOut}
-use Rattle.model.specs.Demand3.{Fate, whole, cut, Event, History, both, State, numberOf, answered, eventOrders, runFrom, MayFrom, ledgerFrom, KeptFrom, HoldsFrom}
+use Rattle.model.specs.Demand3.{Fate, whole, cut, Event, History, both, State, numberOf, answered, eventOrders, runFrom, MayFrom, ledgerFrom, StandsFrom, HoldsFrom}
 use Rattle.model.proofs.Everything.{everything}
 use Rattle.cut_laws.proofs.Images.{carry-image}
 use Rattle.crash_laws.proofs.Starts.{packed-start}
@@ -174,5 +174,5 @@ module _ (d : HoldsFrom (nodes full) full start) where
       (λ q. found-not-absent _ _ (computed .kept) (sym in-half ∙ computed .reloaded) (q ∙ ap (λ (m : Ledger). answerFrom 115 (listIn 1 m)) (omitted (insertion 1 115 12 0) false 2560 0 f 11 ps)))
 
 -- so does the choice of which demand 3 holds
-pub split-kept : (choose : History → Bool) × (KeptFrom choose (nodes full) (both full) start cutLate × (choose cutHalf ≡ false) × (choose cutLate ≡ true))
+pub split-kept : (choose : History → Bool) × (StandsFrom choose (nodes full) (both full) start cutLate × (choose cutHalf ≡ false) × (choose cutLate ≡ true))
 split-kept = let d = packed-start 1 elevenPairs [] (replicate 104 0) (counted .packs) in (d .0, (d .1 cutLate happens, first-omitted d, second-taken d))

@@ -13,7 +13,7 @@ use Rattle.model.specs.declared.Next.the-variants.{Nothing}
 use Rattle.model.specs.Table.{Words}
 use Rattle.model.specs.Orders.{Order}
 use Rattle.model.specs.Cuts.{CutImage}
-use Rattle.model.specs.Demand3.{whole, cut, History, numberOf, answered, eventOrders, runAll, MayFrom, May, Kept}
+use Rattle.model.specs.Demand3.{whole, cut, History, numberOf, answered, eventOrders, runAll, MayFrom, May, Stands}
 use Rattle.model.proofs.Everything.{everything}
 use Rattle.model.specs.SoundTest.{sound, settled}
 use Rattle.model.specs.Search.{search}
@@ -55,7 +55,7 @@ unfolding MayFrom
 happens = (((tt, λ e. tt), λ e. (within-list, may-leave)), λ e. tt)
 
 -- what demand 3 says of it
-pub happens-kept : (choose : History → Bool) × Kept choose 2 2 deleted
+pub happens-kept : (choose : History → Bool) × Stands choose 2 2 deleted
 happens-kept = let d = demand3 2 2 (inr refl) (omega arith) (omega arith) in (d .0, d .1 deleted happens)
 
 -- No call was refused; the image is sound, not settled, and has the pair of 1 and none of 2; the deletion leaves nothing unfinished.

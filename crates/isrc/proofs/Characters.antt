@@ -11,7 +11,8 @@ use lib.Dec.{leb, ltb, eqb}
 use lib.ListN.{length, getD, drop}
 use lib.Seq.{drop-cons}
 use borrow.Author.Tests.{leb-true, lt-leb, lt-ltb, le-ltb, eq-eqb, ne-eqb}
-use Rattle.model.specs.Codes.{isDigit, isLetter, isLetterOrDigit, every, value, readOn, character, textBelow}
+use Rattle.model.specs.Codes.{isDigit, isLetter, isLetterOrDigit, value, readOn, character, textBelow}
+use Rattle.model.specs.Lists.{all}
 use Rattle.isrc.proofs.Digits.{Below}
 
 -- ---- one character
@@ -113,50 +114,50 @@ value-order c d e f = go (decLt c d) (decLt d c)
 
 -- ---- all characters of a text
 
-pub every-cons : (p : ℕ → Bool) (c : ℕ) (cs : List ℕ) → every p (c ∷ cs) ≡ true → (p c ≡ true) × (every p cs ≡ true)
-unfolding every
-every-cons p c cs e = and-eq-true-iff (p c) (every p cs) .0 e
+pub every-cons : (p : ℕ → Bool) (c : ℕ) (cs : List ℕ) → all p (c ∷ cs) ≡ true → (p c ≡ true) × (all p cs ≡ true)
+unfolding all
+every-cons p c cs e = and-eq-true-iff (p c) (all p cs) .0 e
 
 -- from place i on: the character there, then what follows
 pub every-at : (p : ℕ → Bool) (xs : List ℕ) (i : ℕ) (r s : Bool) → i < length xs → r ≡ p (getD xs i 0) → r ≡ s
-    → every p (drop i xs) ≡ (s && every p (drop (i + 1) xs))
-unfolding every
+    → all p (drop i xs) ≡ (s && all p (drop (i + 1) xs))
+unfolding all
 every-at p xs i r s h e f = rw (drop-cons xs i 0 h, add-one i, ← e, f)
 
-pub every-getD : (p : ℕ → Bool) (xs : List ℕ) (i : ℕ) → every p xs ≡ true → i < length xs → p (getD xs i 0) ≡ true
+pub every-getD : (p : ℕ → Bool) (xs : List ℕ) (i : ℕ) → all p xs ≡ true → i < length xs → p (getD xs i 0) ≡ true
 every-getD p [] i e h = absurd (omega arith)
 every-getD p (x ∷ xs) zero e h = every-cons p x xs e .0
 every-getD p (x ∷ xs) (suc i) e h = every-getD p xs i (every-cons p x xs e .1) (omega arith)
 
-pub every-append : (p : ℕ → Bool) (xs ys : List ℕ) → every p xs ≡ true → every p ys ≡ true → every p (xs ++ ys) ≡ true
-unfolding every
+pub every-append : (p : ℕ → Bool) (xs ys : List ℕ) → all p xs ≡ true → all p ys ≡ true → all p (xs ++ ys) ≡ true
+unfolding all
 every-append p [] ys e f = f
 every-append p (x ∷ xs) ys e f =
     let t = every-cons p x xs e in
     rw (t .0) (every-append p xs ys (t .1) f)
 
 pub every-imply : (p q : ℕ → Bool) → ((c : ℕ) → p c ≡ true → q c ≡ true)
-    → (xs : List ℕ) → every p xs ≡ true → every q xs ≡ true
-unfolding every
+    → (xs : List ℕ) → all p xs ≡ true → all q xs ≡ true
+unfolding all
 every-imply p q h [] e = refl
 every-imply p q h (x ∷ xs) e =
     let t = every-cons p x xs e in
     rw (h x (t .0)) (every-imply p q h xs (t .1))
 
 pub every-below : (p : ℕ → Bool) (b : ℕ) → ((c : ℕ) → p c ≡ true → value c < b)
-    → (xs : List ℕ) → every p xs ≡ true → Below b (map value xs)
+    → (xs : List ℕ) → all p xs ≡ true → Below b (map value xs)
 every-below p b h [] e = tt
 every-below p b h (x ∷ xs) e =
     let t = every-cons p x xs e in
     (h x (t .0), every-below p b h xs (t .1))
 
-pub characters-values : (xs : List ℕ) → every isLetterOrDigit xs ≡ true → map character (map value xs) ≡ xs
+pub characters-values : (xs : List ℕ) → all isLetterOrDigit xs ≡ true → map character (map value xs) ≡ xs
 characters-values [] e = refl
 characters-values (x ∷ xs) e =
     let t = every-cons isLetterOrDigit x xs e in
     ap₂ _∷_ (character-value x (t .0)) (characters-values xs (t .1))
 
-pub values-order : (xs ys : List ℕ) → every isLetterOrDigit xs ≡ true → every isLetterOrDigit ys ≡ true
+pub values-order : (xs ys : List ℕ) → all isLetterOrDigit xs ≡ true → all isLetterOrDigit ys ≡ true
     → textBelow xs ys ≡ textBelow (map value xs) (map value ys)
 unfolding textBelow
 values-order [] [] e f = refl

@@ -11,7 +11,8 @@ use lib.Seq.{take-all, take-add, length-take-le}
 use lib.Arith.{digits-lt, digits-div}
 use borrow.Author.Tests.{eqb-true, eq-eqb}
 use Rattle.model.specs.declared.Parsed.the-variants.{Key, Refused}
-use Rattle.model.specs.Codes.{isDigit, isLetter, isLetterOrDigit, every, isCode, value, number, keyOf, parse, digits, spelling, hasCode, print, textBelow}
+use Rattle.model.specs.Codes.{isDigit, isLetter, isLetterOrDigit, isCode, value, number, keyOf, parse, digits, spelling, hasCode, print, textBelow}
+use Rattle.model.specs.Lists.{all}
 use Rattle.isrc.proofs.Digits.{Below, number-bound, readOn-number, digits-readOn, digits-number, number-below, readings-below}
 use Rattle.isrc.proofs.Characters.{digit-is, letter-is, value-bound, digit-bound, every-append, every-imply, every-below, characters-values, values-order}
 
@@ -30,16 +31,16 @@ low text = map value (drop 5 text)
 
 pub record Code (text : List ℕ) : Type 0 where
   pub long : length text ≡ 12
-  pub front : every isLetterOrDigit (take 5 text) ≡ true
-  pub back : every isDigit (drop 5 text) ≡ true
+  pub front : all isLetterOrDigit (take 5 text) ≡ true
+  pub back : all isDigit (drop 5 text) ≡ true
 
 pub code : (text : List ℕ) → isCode text ≡ true → Code text
 unfolding isCode
 code text e =
     let t =
-    and-eq-true-iff (eqb (length text) 12 && every isLetter (take 2 text) && every isLetterOrDigit (take 3 (drop 2 text))) (every isDigit (drop 5 text)) .0 e in
-    let u = and-eq-true-iff (eqb (length text) 12 && every isLetter (take 2 text)) (every isLetterOrDigit (take 3 (drop 2 text))) .0 (t .0) in
-    let v = and-eq-true-iff (eqb (length text) 12) (every isLetter (take 2 text)) .0 (u .0) in
+    and-eq-true-iff (eqb (length text) 12 && all isLetter (take 2 text) && all isLetterOrDigit (take 3 (drop 2 text))) (all isDigit (drop 5 text)) .0 e in
+    let u = and-eq-true-iff (eqb (length text) 12 && all isLetter (take 2 text)) (all isLetterOrDigit (take 3 (drop 2 text))) .0 (t .0) in
+    let v = and-eq-true-iff (eqb (length text) 12) (all isLetter (take 2 text)) .0 (u .0) in
     let l = every-imply isLetter isLetterOrDigit letter-is (take 2 text) (v .1) in
     record {
       long = eqb-true (length text) 12 (v .0);
@@ -54,12 +55,12 @@ module _ (text : List ℕ) (c : Code text) where
   pub length-back : length (drop 5 text) ≡ 7
   length-back = length-drop 5 text ∙ rw (c .long)
 
-  pub back-counted : every isLetterOrDigit (drop 5 text) ≡ true
+  pub back-counted : all isLetterOrDigit (drop 5 text) ≡ true
   back-counted = every-imply isDigit isLetterOrDigit digit-is (drop 5 text) (c .back)
 
-  all-counted : every isLetterOrDigit text ≡ true
+  all-counted : all isLetterOrDigit text ≡ true
   all-counted =
-      subst (λ (l : List ℕ). every isLetterOrDigit l ≡ true) (take-append-drop 5 text)
+      subst (λ (l : List ℕ). all isLetterOrDigit l ≡ true) (take-append-drop 5 text)
       (every-append isLetterOrDigit (take 5 text) (drop 5 text) (c .front) back-counted)
 
   length-high : length (high text) ≡ 5

@@ -5,7 +5,8 @@ ghost use mathlib.Core.List.{map};
 ghost use Prim.Native.Nat.{_≤_};
 ghost use lib.Dec.{leb};
 ghost use lib.ListN.{length};
-ghost use Rattle.model.specs.Codes.{isLetterOrDigit, every, isCode, value, number, parse, character, digits, spelling, print};
+ghost use Rattle.model.specs.Codes.{isLetterOrDigit, isCode, value, number, parse, character, digits, spelling, print};
+ghost use Rattle.model.specs.Lists.{all};
 ghost use Rattle.isrc.specs.Kinds.{test};
 use model::Parsed;
 use model::Printed;
@@ -44,7 +45,7 @@ fn is_of(kind: Kind, c: u8) -> bool
 
 // Whether all of the text is of one kind.
 fn all_of(kind: Kind, text: &[u8]) -> bool
-    ensures { λ r. ⌜ r ≡ every (test kind) (now (text .entry)) ⌝ }
+    ensures { λ r. ⌜ r ≡ all (test kind) (now (text .entry)) ⌝ }
 {
     let mut i = 0;
     while i < text.len() {
@@ -84,7 +85,7 @@ fn value_of(c: u8) -> u64
 
 // Letters and digits read as one number; at most seven of them, so that it fits a word.
 fn number_of(text: &[u8], base: u64) -> u64
-    requires { ⌜ (every isLetterOrDigit (now text) ≡ true) × (length (now text) ≤ 7) × (base ≤ 36) ⌝ }
+    requires { ⌜ (all isLetterOrDigit (now text) ≡ true) × (length (now text) ≤ 7) × (base ≤ 36) ⌝ }
     ensures { λ r. ⌜ r ≡ number base (map value (now (text .entry))) ⌝ }
 {
     let mut n: u64 = 0;

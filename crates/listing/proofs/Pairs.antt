@@ -11,8 +11,8 @@ use lib.ListN.{length, take, drop, set, length-append, length-drop}
 use lib.Seq.{length-take-le, take-all, take-append-le, take-at, drop-at, drop-drop, sets-eq}
 use borrow.Author.Tests.{lt-ltb, le-ltb, leb-true, leb-false}
 use Rattle.model.specs.Table.{Words}
-use Rattle.model.specs.Slots.{Slot}
-use Rattle.model.specs.Listing.{fitting, pairWords, listedWords}
+use Rattle.model.specs.Slots.{Slot, slotWords}
+use Rattle.model.specs.Listing.{fitting, listedWords}
 use Rattle.tree_laws.proofs.ListLaw.{length-pairs}
 use Rattle.listing.specs.Taking.{Sheet, begun, written, passed, taken, allTaken}
 use Rattle.listing.proofs.Steps.{pair-left, pair-written}
@@ -22,17 +22,16 @@ abbrev pub after : List Slot → Words → Sheet
 after ss out =
     record { words = listedWords ss out; count = length (fitting (length out) ss); more = ltb (length (fitting (length out) ss)) (length ss) }
 
-pairs-append : (a b : List Slot) → pairWords (a ++ b) ≡ pairWords a ++ pairWords b
-unfolding pairWords
+pairs-append : (a b : List Slot) → slotWords (a ++ b) ≡ slotWords a ++ slotWords b
 pairs-append [] b = refl
 pairs-append (s ∷ a) b = ap (λ (ws : Words). s .key ∷ s .pointer ∷ ws) (pairs-append a b)
 
 -- pairs that fit leave the slice its length
-length-kept : (ss : List Slot) (out : Words) → length ss ≤ length out / 2 → length (pairWords ss ++ drop (2 * length ss) out) ≡ length out
-length-kept ss out h = length-append (pairWords ss) (drop (2 * length ss) out) ∙ omega (arith, length-pairs ss, length-drop (2 * length ss) out, div-mul-le-self (length out) 2)
+length-kept : (ss : List Slot) (out : Words) → length ss ≤ length out / 2 → length (slotWords ss ++ drop (2 * length ss) out) ≡ length out
+length-kept ss out h = length-append (slotWords ss) (drop (2 * length ss) out) ∙ omega (arith, length-pairs ss, length-drop (2 * length ss) out, div-mul-le-self (length out) 2)
 
 -- while all pairs fit
-after-few : (ss : List Slot) (out : Words) → length ss ≤ length out / 2 → after ss out ≡ record { words = pairWords ss ++ drop (2 * length ss) out; count = length ss; more = false }
+after-few : (ss : List Slot) (out : Words) → length ss ≤ length out / 2 → after ss out ≡ record { words = slotWords ss ++ drop (2 * length ss) out; count = length ss; more = false }
 unfolding listedWords
 after-few ss out h = rw (take-all (length out / 2) ss h, le-ltb (length ss) (length ss) (omega arith))
 
@@ -47,15 +46,14 @@ module _ (ss : List Slot) (out : Words) (s : Slot) where
   longer = length-append ss (s ∷ [])
 
   -- two words stored after those of the pairs before them
-  store-pair : length ss < most → set (set (pairWords ss ++ drop (2 * length ss) out) (2 * length ss) (s .key)) (2 * length ss + 1) (s .pointer) ≡ pairWords all ++ drop (2 * length all) out
-  unfolding pairWords
+  store-pair : length ss < most → set (set (slotWords ss ++ drop (2 * length ss) out) (2 * length ss) (s .key)) (2 * length ss + 1) (s .pointer) ≡ slotWords all ++ drop (2 * length all) out
   store-pair h =
       let n = 2 * length ss in
-      let l = pairWords ss ++ drop n out in
+      let l = slotWords ss ++ drop n out in
       let pair = s .key ∷ s .pointer ∷ [] in
       let fits : n + 2 ≤ length l = omega (arith, length-kept ss out (omega arith), div-mul-le-self (length out) 2) in
-      let head : take n l ≡ pairWords ss = take-at (pairWords ss) (drop n out) n (length-pairs ss) in
-      let past : drop (n + 2) l ≡ drop (n + 2) out = sym (drop-drop 2 n l) ∙ ap (drop 2) (drop-at (pairWords ss) (drop n out) n (length-pairs ss)) ∙ drop-drop 2 n out in
+      let head : take n l ≡ slotWords ss = take-at (slotWords ss) (drop n out) n (length-pairs ss) in
+      let past : drop (n + 2) l ≡ drop (n + 2) out = sym (drop-drop 2 n l) ∙ ap (drop 2) (drop-at (slotWords ss) (drop n out) n (length-pairs ss)) ∙ drop-drop 2 n out in
       let end : 2 * length all ≡ n + 2 = omega (arith, longer) in
       ap (λ (j : ℕ). set (set l n (s .key)) j (s .pointer)) (add-one n) ∙ sets-eq pair l n fits ∙ rw (head, past, pairs-append ss (s ∷ []), end)
 
@@ -88,7 +86,6 @@ taken-after (s ∷ ps) ss out =
 
 -- all the pairs of a listing
 pub taken-all : (ps : List Slot) (out : Words) → allTaken ps (begun out) ≡ after ps out
-unfolding pairWords
 taken-all ps out = ap (allTaken ps) (sym (after-few [] out (omega arith))) ∙ taken-after ps [] out
 
 -- ---- pairs taken in parts

@@ -1,4 +1,5 @@
 -- One name that unfolds every definition of document 01, for closed computations. Written by .ci/everything.
+use Rattle.model.specs.Lists
 use Rattle.model.specs.Codes
 use Rattle.model.specs.Table
 use Rattle.model.specs.Slots
@@ -31,20 +32,21 @@ use Rattle.model.specs.QuickBatch
 use Rattle.model.specs.QuickHistories
 
 unfoldable pub everything : Unit {0}
-unfolding Codes.isDigit Codes.isLetter Codes.isLetterOrDigit Codes.every Codes.isCode Codes.value Codes.readOn Codes.number Codes.keyOf Codes.parse Codes.character
-    Codes.digits Codes.spelling Codes.hasCode Codes.print Codes.textBelow
+unfolding Lists.all
+    Codes.isDigit Codes.isLetter Codes.isLetterOrDigit Codes.isCode Codes.value Codes.readOn Codes.number Codes.keyOf Codes.parse Codes.character Codes.digits
+    Codes.spelling Codes.hasCode Codes.print Codes.textBelow
     Table.tableLength Table.nodesFor Table.lengthOk Table.inRange Table.allZero Table.headerOk Table.headerNumber Table.noCollection Table.nodeStart
     Table.hasNode Table.blank Table.nodeFrom Table.node Table.spare Table.empty Table.emptyOf Table.makeNumber Table.making Table.made
-    Slots.slotsOf Slots.recordingOf Slots.classOf Slots.pointerOf Slots.recordingOk Slots.classOk Slots.pointerOk Slots.inUse Slots.shown Slots.hidden
+    Slots.slotsOf Slots.recordingOf Slots.classOf Slots.pointerOf Slots.recordingOk Slots.classOk Slots.pointerOk Slots.inUse Slots.shown Slots.hiddenSlots
     Slots.full Slots.used Slots.clearIn
     Search.below Search.moved Search.route Search.onLevel Search.passes Search.locate Search.pathFrom Search.firstWith Search.filter Search.kept
     Search.firstAbove Search.nextFrom Search.lookup Search.searchView Search.search
     Reached.flat Reached.firstChild Reached.fillRow Reached.children Reached.reachedFrom Reached.leavesFrom Reached.mapping Reached.reachedAll Reached.mapsOf
-    SoundTest.all SoundTest.elem SoundTest.distinct SoundTest.siblingOk SoundTest.rising SoundTest.comeFirst SoundTest.keysOk SoundTest.linked SoundTest.childOk
+    SoundTest.elem SoundTest.distinct SoundTest.siblingOk SoundTest.rising SoundTest.comeFirst SoundTest.keysOk SoundTest.linked SoundTest.childOk
     SoundTest.slotOk SoundTest.leafOk SoundTest.innerOk SoundTest.nodeOk SoundTest.rootOk SoundTest.recordingsOk SoundTest.orderly SoundTest.trailingIn
     SoundTest.own SoundTest.rowUnfinished SoundTest.unfinishedAt SoundTest.unfinished SoundTest.leftoverOf SoundTest.leftover SoundTest.room
     SoundTest.settledView SoundTest.soundView SoundTest.leftoverIn SoundTest.oneLeft SoundTest.sound SoundTest.settled
-    Listing.inRangeOf Listing.pairWords Listing.listed Listing.listedWords Listing.listNumber Listing.list Listing.listOut
+    Listing.inRangeOf Listing.listed Listing.listedWords Listing.listNumber Listing.list Listing.listOut
     Orders.apply Orders.carry Orders.ordersAfter Orders.orders Orders.withBarriers Orders.withoutBarriers Orders.storeCount Orders.flushCount
     Orders.barrierCount Orders.encode Orders.decode Orders.listWith Orders.allInside Orders.carryNumber Orders.carryOut Orders.carriedOut
     Cuts.flushed Cuts.upToFlush Cuts.sinceFlush Cuts.laterStores Cuts.toBarrier Cuts.choice
@@ -64,10 +66,11 @@ unfolding Codes.isDigit Codes.isLetter Codes.isLetterOrDigit Codes.every Codes.i
     Salvage.reasonFor Salvage.gatherSlot Salvage.gatherSlots Salvage.collected Salvage.gatherNodes Salvage.gatheredAlong Salvage.gathered Salvage.keptMaps
     Salvage.droppedAll Salvage.dropWords Salvage.outgrows Salvage.salvageNumber Salvage.salvage Salvage.salvageOut Salvage.salvageReport
     Sentinels.shownOn Sentinels.leavesAll Sentinels.sentinelsOf Sentinels.sentinels Sentinels.sliceNumber Sentinels.workNumber Sentinels.workOut
-    Sentinels.workedOut Sentinels.lineFor Sentinels.leafFrom Sentinels.searchWith Sentinels.refusalWith Sentinels.writtenWith Sentinels.tableWith
-    Sentinels.ordersWith Sentinels.storedTo Sentinels.setAnew Sentinels.sentinelsWith
+    Sentinels.workedOut Sentinels.lineFor Sentinels.leafSought Sentinels.searchWith Sentinels.refusalWith Sentinels.writtenWith Sentinels.tableWith
+    Sentinels.ordersWith Sentinels.storesToNode Sentinels.setAnew Sentinels.sentinelsWith
     Judge.sameSlots Judge.sameMaps Judge.goodImage Judge.completes Judge.judgedFrom Judge.judged Judge.judgeNumber Judge.judge Judge.judgeOut
     Looks.seenOn Looks.seenPass Looks.seenWithin Looks.stood Looks.stoodOn Looks.seenKept Looks.nextLooks Looks.answerLooks Looks.searchLooks
+   
     Scripts.callOf Scripts.isScript Scripts.actionBefore Scripts.firstDiffers Scripts.before Scripts.rankOn Scripts.unrank Scripts.scriptWords
     Scripts.scriptAnswer Scripts.scriptOut Scripts.formScript Scripts.scriptNumber Scripts.cutTables Scripts.agrees Scripts.badTables Scripts.along
     Scripts.overAll Scripts.metText

@@ -12,14 +12,14 @@ use lib.Seq.{getD-drop, drop-drop}
 use borrow.Author.Tests.{leb-true, leb-false, eqb-true}
 use Rattle.model.specs.declared.Node.{Node}
 use Rattle.model.specs.Table.{Words, allZero, blank, nodes, root, tableLength, nodeStart, hasNode, node, nodeFrom, spare}
-use Rattle.model.specs.Slots.{slotsOf, inUse, shown, hidden, used, clearIn, NodeView, View, view}
+use Rattle.model.specs.Slots.{slotsOf, inUse, shown, hiddenSlots, used, clearIn, NodeView, View, view}
 
 -- what a view says of one node, by the words read once
 abbrev pub readNode : Node → Words → NodeView
 readNode n spares =
     let ss = inUse (slotsOf (n .slots)) in
     let visible = shown (n .left) ss in
-    let count = length (hidden (n .left) ss) in
+    let count = length (hiddenSlots (n .left) ss) in
     let clear = allZero spares && eqb (getD (n .slots) 23 0) 0 in
     record { left = n .left; sibling = n .sibling; level = n .level; fence = n .fence; shown = visible; hidden = count; clear = clear }
 

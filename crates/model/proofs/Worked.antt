@@ -9,7 +9,7 @@ use Rattle.model.specs.declared.Written.the-variants.{Done as WriteDone,
 use Rattle.model.specs.Text.{ascii}
 use Rattle.model.specs.Codes.{parse, print}
 use Rattle.model.specs.Table.{MARK, Words, making, made, empty, root}
-use Rattle.model.specs.Slots.{Slot, slot, shown, hidden, inUse, nodeView}
+use Rattle.model.specs.Slots.{Slot, slot, shown, hiddenSlots, inUse, nodeView}
 use Rattle.model.specs.Search.{route}
 use Rattle.model.specs.Orders.{orders, storeCount, flushCount}
 use Rattle.model.specs.Shifts.{shiftIn, inNode}
@@ -53,7 +53,7 @@ pub record Worked : Type 0 where
   pub short : (ws : Words) → length ws ≡ 39 → making 1 ws ≡ MakingRefused 2
   pub smallest : (ws : Words) → length ws ≡ 40 → (making 1 ws ≡ Done) × (made 1 ws ≡ empty 1)
   -- Leaf slots (20,5) (25,5) (30,6): 25 is hidden.
-  pub hides : (shown MARK (inUse (slot 20 5 ∷ slot 25 5 ∷ slot 30 6 ∷ [])) ≡ slot 20 5 ∷ slot 30 6 ∷ []) × (hidden MARK (inUse (slot 20 5 ∷ slot 25 5 ∷ slot 30 6 ∷ [])) ≡ slot 25 5 ∷ [])
+  pub hides : (shown MARK (inUse (slot 20 5 ∷ slot 25 5 ∷ slot 30 6 ∷ [])) ≡ slot 20 5 ∷ slot 30 6 ∷ []) × (hiddenSlots MARK (inUse (slot 20 5 ∷ slot 25 5 ∷ slot 30 6 ∷ [])) ≡ slot 25 5 ∷ [])
   -- Left 2, slot (40,3): key 39 goes to node 2, key 40 to node 3.
   pub routes : (route 39 2 (slot 40 3 ∷ []) ≡ 2) × (route 40 2 (slot 40 3 ∷ []) ≡ 3)
   -- Shift in with n = 10: p = 0 gives 24 stores, 3 flushes; p = 10 gives 4 and 1.

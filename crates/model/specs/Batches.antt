@@ -15,7 +15,7 @@ use Rattle.model.specs.Orders.{Order, decode, listWith, storeCount, flus
 use Rattle.model.specs.Cuts.{CutImage}
 use Rattle.model.specs.Writes.{Call, insertion}
 use Rattle.model.specs.Ledger.{Ledger, enter, onMap, fedOf, ledgerRefusal}
-use Rattle.model.specs.Demand3.{Fate, whole, cut, History, State, both, numberOf, runFrom, MayFrom, ledgerFrom, KeptFrom}
+use Rattle.model.specs.Demand3.{Fate, whole, cut, History, State, both, numberOf, runFrom, MayFrom, ledgerFrom, StandsFrom}
 use Rattle.model.specs.Batch.{Batched, batch}
 
 -- ---- what becomes of a batch's orders
@@ -91,7 +91,7 @@ pub record Singles (choose : History → Bool) (t : Words) (h : History) (n dock
   -- fed onto the history before it they may happen, come to what the batch comes to, and demand 3 holds of them
   pub may : MayFrom (both t) (events ++ h)
   pub comes-to : runFrom (both t) (events ++ h) ≡ afterBatch f (runFrom (both t) h) r
-  pub kept : KeptFrom choose (nodes t) (both t) (mapsOf t) (events ++ h)
+  pub stands : StandsFrom choose (nodes t) (both t) (mapsOf t) (events ++ h)
   -- the number that stopped it is the ledger's
   pub stops : StopsBy f n (length list - 2 * batchAnswered r) dock (r .answer .number)
       (ledgerFrom choose (nodes t) (both t) (mapsOf t) (events ++ h)) (drop (r .answer .taken) ss)

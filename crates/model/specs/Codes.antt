@@ -7,6 +7,7 @@ use lib.ListN.{length, take, drop, replicate}
 use Rattle.model.specs.declared.Parsed.{Parsed}
 use Rattle.model.specs.declared.Parsed.the-variants.{Key, Refused}
 use Rattle.model.specs.declared.Printed.{Printed}
+use Rattle.model.specs.Lists.{all}
 
 -- characters in ASCII
 unfoldable pub isDigit : ℕ → Bool
@@ -18,14 +19,10 @@ isLetter c = leb 65 c && leb c 90
 unfoldable pub isLetterOrDigit : ℕ → Bool
 isLetterOrDigit c = isLetter c || isDigit c
 
-unfoldable pub every : (ℕ → Bool) → List ℕ → Bool
-every p [] = true
-every p (c ∷ cs) = p c && every p cs
-
 -- A code is 12 characters: two letters, three letters or digits, seven digits.
 unfoldable pub isCode : List ℕ → Bool
 isCode text =
-    eqb (length text) 12 && every isLetter (take 2 text) && every isLetterOrDigit (take 3 (drop 2 text)) && every isDigit (drop 5 text)
+    eqb (length text) 12 && all isLetter (take 2 text) && all isLetterOrDigit (take 3 (drop 2 text)) && all isDigit (drop 5 text)
 
 -- Digits count 0 to 9, letters 10 to 35.
 unfoldable pub value : ℕ → ℕ

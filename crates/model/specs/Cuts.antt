@@ -26,7 +26,8 @@ unfoldable pub sinceFlush : ℕ → List Order → List Order
 sinceFlush l [] = []
 sinceFlush l (o ∷ os) = cond (flushed l (o ∷ os)) (sinceFlush l os) (o ∷ os)
 
--- the later stores to line l: those after its last flush; with none, all stores to it
+-- the later stores to line l: those after its last flush; with none, all stores to it. They are the stores to it of `sinceFlush`:
+-- `since-later` in crates/cut_laws/proofs/Docks.antt.
 unfoldable pub laterStores : ℕ → List Order → List Store
 laterStores l [] = []
 laterStores l (flush k ∷ os) = laterStores l os

@@ -12,11 +12,11 @@ use Rattle.model.specs.declared.Next.the-variants.{Key, Nothing}
 use Rattle.model.specs.declared.Listed.{Listed}
 use Rattle.model.specs.declared.Listed.the-variants.{Pairs}
 use Rattle.model.specs.Table.{Words, noCollection}
-use Rattle.model.specs.Slots.{Slot, slot, recording, class, pointerOf, withClass, nodeView, viewOf}
+use Rattle.model.specs.Slots.{Slot, slot, recording, class, pointerOf, withClass, nodeView, viewOf, slotWords}
 use Rattle.model.specs.Search.{within, search}
 use Rattle.model.specs.Reached.{mapOf}
 use Rattle.model.specs.Sound.{Reached, Rise, Settled, Sound}
-use Rattle.model.specs.Listing.{pairWords, list, listOut}
+use Rattle.model.specs.Listing.{list, listOut}
 use Rattle.model.specs.Writes.{unreachable, Call, insertion, deletion, classChange, repair, repaired}
 use Rattle.model.specs.Refusals.{elevenIn, tenIn, testsFrom18, firstNumber, refusal, tableAfter}
 
@@ -60,7 +60,7 @@ pub record Listing (ps : List Slot) (low high : ℕ) (out : Words) (answer : Lis
   pub full : more ≡ true → length out < 2 * length pairs + 2
   pub further : (more ≡ true) ↔ ((s : Slot) × Listable ps low high s × (List·Memᴰ s pairs → ⊥))
   -- (key, recording and class); other words stay.
-  pub writes : slice ≡ pairWords pairs ++ drop (2 * length pairs) out
+  pub writes : slice ≡ slotWords pairs ++ drop (2 * length pairs) out
   -- Lowest above highest gives none.
   pub none : high < low → (answer ≡ Pairs 0 false) × (slice ≡ out)
 

@@ -16,8 +16,7 @@ use Rattle.model.specs.Sound.{Settled, Sound}
 use Rattle.model.specs.Orders.{Order, decode, carriedOut, carryNumber}
 use Rattle.model.specs.Cuts.{CutImage}
 use Rattle.model.specs.Writes.{Call, insertion, deletion, classChange, repair, repaired}
-use Rattle.model.specs.Refusals.{elevenIn, tenIn, refusal, unlessRefused}
-use Rattle.model.specs.Refusals.{written, writtenNumber, ordersAnswered, tableAfter, listAfter}
+use Rattle.model.specs.Refusals.{elevenIn, tenIn, refusal, unlessRefused, written, writtenNumber, ordersAnswered, tableAfter, listAfter}
 use Rattle.model.specs.Sentinels.{sentinels, searchWith, refusalWith, writtenWith, tableWith, ordersWith, sentinelsWith}
 use Rattle.model.specs.Ledger.{Ledger, noPairs, listIn, answerFrom, fedOf, otherSlice, ledgerRefusal, End, completed, cutAfter, feed}
 
@@ -179,9 +178,9 @@ pub record Right (N : ℕ) (e : Event) (s s′ : State) (ps : Ledger) : Type 0 w
   pub repair-keeps : Keeps (e .call) s s′
   pub stay-true : StayTrue (e .slice) (e .call) (length (e .lent)) (e .dock) (s .working)
 
-abbrev pub KeptFrom : (choose : History → Bool) → (N : ℕ) → State → Ledger → History → Type 0
-KeptFrom choose N s ps [] = Agrees N (runFrom s []) (ledgerFrom choose N s ps [])
-KeptFrom choose N s ps (e ∷ h) =
+abbrev pub StandsFrom : (choose : History → Bool) → (N : ℕ) → State → Ledger → History → Type 0
+StandsFrom choose N s ps [] = Agrees N (runFrom s []) (ledgerFrom choose N s ps [])
+StandsFrom choose N s ps (e ∷ h) =
     Agrees N (runFrom s (e ∷ h)) (ledgerFrom choose N s ps (e ∷ h)) × Right N e (runFrom s h) (runFrom s (e ∷ h)) (ledgerFrom choose N s ps h)
 
 -- ---- from the empty table
@@ -193,19 +192,19 @@ runAll n N h = runFrom (both (emptyOf n N)) h
 abbrev pub May : (n N : ℕ) → History → Type 0
 May n N h = MayFrom (both (emptyOf n N)) h
 
-abbrev pub Kept : (choose : History → Bool) → (n N : ℕ) → History → Type 0
-Kept choose n N h = KeptFrom choose N (both (emptyOf n N)) (noPairs n) h
+abbrev pub Stands : (choose : History → Bool) → (n N : ℕ) → History → Type 0
+Stands choose n N h = StandsFrom choose N (both (emptyOf n N)) (noPairs n) h
 
 -- Demand 3: for one collection or two and every N that making takes there is a way to take or omit the cut changes such that, after every
 -- history that may happen, all of it holds.
 abbrev pub Demand3 : Type 0
-Demand3 = (n N : ℕ) → (n ≡ 1) ⊎ (n ≡ 2) → n ≤ N → N ≤ 65535 → (choose : History → Bool) × ((h : History) → May n N h → Kept choose n N h)
+Demand3 = (n N : ℕ) → (n ≡ 1) ⊎ (n ≡ 2) → n ≤ N → N ≤ 65535 → (choose : History → Bool) × ((h : History) → May n N h → Stands choose n N h)
 
 -- ---- from every sound table
 
 -- The same of histories that start with table t of N nodes, stored whole in memory and copied as the working copy, and with the ledger ps.
 abbrev pub HoldsFrom : (N : ℕ) → Words → Ledger → Type 0
-HoldsFrom N t ps = (choose : History → Bool) × ((h : History) → MayFrom (both t) h → KeptFrom choose N (both t) ps h)
+HoldsFrom N t ps = (choose : History → Bool) × ((h : History) → MayFrom (both t) h → StandsFrom choose N (both t) ps h)
 
 -- Its ledger is its maps.
 abbrev pub Demand3From : Type 0

@@ -1,13 +1,13 @@
 -- Document 01, "Search": a listing of the map's pairs in a range of keys.
 use mathlib.Core.Bool.{cond, _&&_}
-use mathlib.Core.List.{List, [], _∷_, _++_}
+use mathlib.Core.List.{List, _++_}
 use Prim.Native.Nat.{ℕ, _*_, _/_}
 use lib.Dec.{eqb, leb, ltb}
 use lib.ListN.{length, take, drop}
 use Rattle.model.specs.declared.Listed.{Listed}
 use Rattle.model.specs.declared.Listed.the-variants.{Pairs, Refused}
 use Rattle.model.specs.Table.{Words, headerOk, noCollection}
-use Rattle.model.specs.Slots.{Slot}
+use Rattle.model.specs.Slots.{Slot, slotWords}
 use Rattle.model.specs.Reached.{filter, mapOf}
 use Rattle.model.specs.SoundTest.{sound}
 
@@ -19,18 +19,13 @@ inRangeOf low high ps = filter (λ (s : Slot). leb low (s .key) && leb (s .key) 
 abbrev pub fitting : ℕ → List Slot → List Slot
 fitting words ps = take (words / 2) ps
 
--- pairs as words: key, pointer (recording and class)
-unfoldable pub pairWords : List Slot → Words
-pairWords [] = []
-pairWords (s ∷ ss) = s .key ∷ s .pointer ∷ pairWords ss
-
 -- the number of pairs written and whether more were left, where ps are the pairs in the range
 unfoldable pub listed : List Slot → ℕ → Listed
 listed ps words = Pairs (length (fitting words ps)) (ltb (length (fitting words ps)) (length ps))
 
 -- the slice then: the pairs written; other words stay
 unfoldable pub listedWords : List Slot → Words → Words
-listedWords ps out = pairWords (fitting (length out) ps) ++ drop (2 * length (fitting (length out) ps)) out
+listedWords ps out = slotWords (fitting (length out) ps) ++ drop (2 * length (fitting (length out) ps)) out
 
 -- What a listing refuses with: 2, then 17, then 4; else 0.
 unfoldable pub listNumber : (n : ℕ) → Words → ℕ

@@ -7,7 +7,8 @@ use lib.ListN.{length, replicate}
 use Rattle.model.specs.declared.Parsed.{Parsed}
 use Rattle.model.specs.declared.Parsed.the-variants.{Key, Refused}
 use Rattle.model.specs.Text.{ascii}
-use Rattle.model.specs.Codes.{isDigit, every, value, number, parse}
+use Rattle.model.specs.Lists.{all}
+use Rattle.model.specs.Codes.{isDigit, value, number, parse}
 use Rattle.model.specs.Table.{MARK, Words, empty}
 use Rattle.model.specs.Orders.{Order, store, flush, barrier, BAR, storeCount, flushCount}
 use Rattle.model.specs.Writes.{Call, insertion, deletion}
@@ -49,7 +50,7 @@ abbrev pub decimalValue : Bytes → ℕ
 decimalValue ds = number 10 (map value ds)
 
 unfoldable pub isRecording : Bytes → Bool
-isRecording ds = nonEmpty ds && (every isDigit ds && leb (decimalValue ds) MARK)
+isRecording ds = nonEmpty ds && (all isDigit ds && leb (decimalValue ds) MARK)
 
 -- the first field is just this character
 abbrev pub justIs : ℕ → Bytes → Bool

@@ -22,7 +22,8 @@ pub record Placed : Type 0 where
   pub place : ℕ
   pub slot : Slot
 
--- the shown slots with their places; i is the first one's, p the pointer before it
+-- the shown slots with their places; i is the first one's, p the pointer before it. Without the places they are `shown`:
+-- `shown-at` in crates/tour_laws/proofs/Meets.antt.
 unfoldable pub shownAt : (p i : ℕ) → List Slot → List Placed
 shownAt p i [] = []
 shownAt p i (s ∷ ss) =

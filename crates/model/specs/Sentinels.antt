@@ -83,15 +83,15 @@ abbrev pub ledTo : (ws : Words) → Words → (k : ℕ) → Option ℕ → Optio
 ledTo ws t k none = none
 ledTo ws t k (some n) = onLine t n k (lineFor k (wordsOf ws n))
 
-unfoldable pub leafFrom : View → (k : ℕ) → Option ℕ
-leafFrom v k = elim (leb (height v) 15) [ true ↦ locate v (height v) (v .root) k | false ↦ none ]
+unfoldable pub leafSought : View → (k : ℕ) → Option ℕ
+leafSought v k = elim (leb (height v) 15) [ true ↦ locate v (height v) (v .root) k | false ↦ none ]
 
 -- It looks first at that line, then at the whole leaf, as the plain search does.
 unfoldable pub searchWith : (n : ℕ) → (ws : Words) → Words → (k : ℕ) → Answer
 searchWith n ws t k =
     let r = sliceNumber (noCollection n t) (length ws) t in
     let v = viewOf n t in
-    unlessRefused r (answerOf (ledTo ws t k (leafFrom v k)) (searchView v k)) (Refused r)
+    unlessRefused r (answerOf (ledTo ws t k (leafSought v k)) (searchView v k)) (Refused r)
 
 -- a shown slot of leaf m with key k
 pub record Shows (t : Words) (m k : ℕ) (s : Slot) : Type 0 where
@@ -101,7 +101,7 @@ pub record Shows (t : Words) (m k : ℕ) (s : Slot) : Type 0 where
 -- Both searches find, each a shown slot of the leaf with the key.
 pub record OtherSlot (n : ℕ) (ws t : Words) (k : ℕ) : Type 0 where
   pub leaf : ℕ
-  pub come-to : leafFrom (viewOf n t) k ≡ some leaf
+  pub come-to : leafSought (viewOf n t) k ≡ some leaf
   pub plain : Slot
   pub chosen : Slot
   pub plain-shows : Shows t leaf k plain
@@ -129,8 +129,8 @@ abbrev pub nodeOf : (word : ℕ) → ℕ
 nodeOf w = (w + 24) / 32
 
 -- some store goes to node n
-unfoldable pub storedTo : List Store → (n : ℕ) → Bool
-storedTo ss n = elem n (map (λ (s : Store). nodeOf (s .word)) ss)
+unfoldable pub storesToNode : List Store → (n : ℕ) → Bool
+storesToNode ss n = elem n (map (λ (s : Store). nodeOf (s .word)) ss)
 
 -- a slice with the words of these nodes set by table t, and no others
 unfoldable pub setAnew : (these : ℕ → Bool) → Words → (ws : Words) → Words
@@ -139,7 +139,7 @@ setAnew these t ws = flat (λ (n : ℕ). cond (these n) (sentinelsOf t n) (words
 -- An accepted write sets the words of the nodes it stored to, by the table that it leaves.
 unfoldable pub sentinelsWith : Call → (ws : Words) → (words dock : ℕ) → Words → Words
 sentinelsWith x ws words dock t =
-    unlessRefused (refusalWith x (length ws) words dock t) (setAnew (storedTo (storesOf x t)) (apply (storesOf x t) t) ws) ws
+    unlessRefused (refusalWith x (length ws) words dock t) (setAnew (storesToNode (storesOf x t)) (apply (storesOf x t) t) ws) ws
 
 -- What a writing call that takes the slice answers, and what it leaves of the table, the list and the slice.
 pub record Leaves (x : Call) (dock : ℕ) (t t′ lent lent′ ws ws′ : Words) (answer : Written) : Type 0 where

@@ -19,7 +19,7 @@ slotsOf [] = []
 slotsOf (k ∷ []) = []
 slotsOf (k ∷ p ∷ ws) = slot k p ∷ slotsOf ws
 
--- and back
+-- and back: a key word and a pointer word (recording and class) for each
 abbrev pub slotWords : List Slot → Words
 slotWords [] = []
 slotWords (s ∷ ss) = s .key ∷ s .pointer ∷ slotWords ss
@@ -72,9 +72,9 @@ unfoldable pub shown : ℕ → List Slot → List Slot
 shown p [] = []
 shown p (s ∷ ss) = elim (eqb (s .pointer) p) [ true ↦ shown (s .pointer) ss | false ↦ s ∷ shown (s .pointer) ss ]
 
-unfoldable pub hidden : ℕ → List Slot → List Slot
-hidden p [] = []
-hidden p (s ∷ ss) = elim (eqb (s .pointer) p) [ true ↦ s ∷ hidden (s .pointer) ss | false ↦ hidden (s .pointer) ss ]
+unfoldable pub hiddenSlots : ℕ → List Slot → List Slot
+hiddenSlots p [] = []
+hiddenSlots p (s ∷ ss) = elim (eqb (s .pointer) p) [ true ↦ s ∷ hiddenSlots (s .pointer) ss | false ↦ hiddenSlots (s .pointer) ss ]
 
 -- A node is full with 11 shown slots.
 unfoldable pub full : List Slot → Bool
@@ -112,7 +112,7 @@ nodeView t i =
       level = n .level;
       fence = n .fence;
       shown = shown (n .left) (used t i);
-      hidden = length (hidden (n .left) (used t i));
+      hidden = length (hiddenSlots (n .left) (used t i));
       clear = clearIn t i;
     }
 

@@ -86,7 +86,7 @@ module _ (v : View) (x : Leftover) where
     pub keys-above : {n : ℕ} {s : Slot} → Reached v n → 0 < v .node n .level → List·Memᴰ s (kept v n) → v .node n .fence < s .key
     pub keys-below : {n : ℕ} → Reached v n → (Trails x n → ⊥) → v .node n .shown ≡ kept v n
     -- Siblings join each level from left to right: its nodes have different fences, and each one's sibling is the next, 0 for the last.
-    pub apart : {m n : ℕ} → Reached v m → Reached v n → v .node m .level ≡ v .node n .level → v .node m .fence ≡ v .node n .fence → m ≡ n
+    pub fences-differ : {m n : ℕ} → Reached v m → Reached v n → v .node m .level ≡ v .node n .level → v .node m .fence ≡ v .node n .fence → m ≡ n
     pub sibling-level : {n : ℕ} → Reached v n → v .node n .sibling ≢ 0 → v .node (v .node n .sibling) .level ≡ v .node n .level
     pub sibling-right : {n : ℕ} → Reached v n → v .node n .sibling ≢ 0 → v .node n .fence < v .node (v .node n .sibling) .fence
     pub sibling-next : {m n : ℕ} → Reached v m → Reached v n → v .node m .level ≡ v .node n .level → v .node n .fence < v .node m .fence

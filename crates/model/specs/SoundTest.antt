@@ -1,6 +1,6 @@
 -- Proved twin of Sound.antt, which needs no belief: `sound-same`, `settled-same` and `leftover-same` in crates/two_laws/proofs/SameTwo.antt.
 -- Document 01, "Sound tables", as a test that computes on any words; Sound.antt has it sentence by sentence. To be read here: `Leftover`,
--- which Sound.antt names, and the tests that other files take over: `all`, `elem`, `distinct`, `rising`, `recordingsOk`.
+-- which Sound.antt names, and the tests that other files take over: `elem`, `distinct`, `rising`, `recordingsOk`.
 use mathlib.Core.Bool.{Bool, true, false, cond, not, _&&_, _||_}
 use mathlib.Core.List.{List, [], _∷_, map}
 use mathlib.Core.Option.{Option, none, some}
@@ -12,14 +12,11 @@ use Rattle.model.specs.declared.Few.the-variants.{Zero, One, Many}
 use Rattle.model.specs.declared.Missing.{Missing}
 use Rattle.model.specs.declared.Missing.the-variants.{Nowhere, Under, Several}
 use Rattle.model.specs.declared.Unfinished.{Unfinished}
+unfoldable pub use Rattle.model.specs.Lists.{all}
 use Rattle.model.specs.Table.{MARK, Words, inRange, headerOk}
 use Rattle.model.specs.Slots.{Slot, recording, pointerOk, View, height}
 use Rattle.model.specs.Search.{within}
 use Rattle.model.specs.Reached.{headOr, kept, named, nextChild, children, reached, mapping, trees, reachedAll}
-
-unfoldable pub all {ℓ} : {A : Type ℓ} → (A → Bool) → List A → Bool
-all p [] = true
-all p (x ∷ xs) = p x && all p xs
 
 unfoldable pub elem : ℕ → List ℕ → Bool
 elem x [] = false

@@ -129,10 +129,10 @@ covered w [] = false
 covered w (e ∷ es) = (leb (e .offset) w && ltb w (e .offset + e .size)) || covered w es
 
 -- each has a word, and ends before the word before the next: they rise and do not touch
-abbrev pub Apart : List Extent → Type 0
-Apart [] = Unit {0}
-Apart (e ∷ []) = 1 ≤ e .size
-Apart (e ∷ f ∷ es) = (1 ≤ e .size) × (e .offset + e .size < f .offset) × Apart (f ∷ es)
+abbrev pub Separate : List Extent → Type 0
+Separate [] = Unit {0}
+Separate (e ∷ []) = 1 ≤ e .size
+Separate (e ∷ f ∷ es) = (1 ≤ e .size) × (e .offset + e .size < f .offset) × Separate (f ∷ es)
 
 -- What holds of the figures of orders on a table of so many words, with the lines' numbers ns and the extents es.
 pub record Figured (words : ℕ) (os : List Order) (ns : Words) (es : List Extent) : Type 0 where
@@ -145,6 +145,6 @@ pub record Figured (words : ℕ) (os : List Order) (ns : Words) (es : List Exten
   pub before : (l : ℕ) → l < firstAt (largest ns) ns → at ns l < largest ns
   -- a word is in an extent exactly if it has a store; extents rise and do not touch
   pub cover : (w : ℕ) → covered w es ≡ elem w (storedTo os)
-  pub apart : Apart es
+  pub separate : Separate es
   -- a list without stores gives largest 0, first line 0 and no pairs
   pub none : storeCount os ≡ 0 → (largest ns ≡ 0) × (firstAt (largest ns) ns ≡ 0) × (es ≡ [])

@@ -13,7 +13,6 @@ use Rattle.model.specs.Table.{MARK, Words, at, allZero, nodeStart, headerOk, em
 use Rattle.model.specs.Slots.{Slot, viewOf}
 use Rattle.model.specs.Reached.{Maps, reached, unlessLacking, mapsOf}
 use Rattle.model.specs.SoundTest.{elem, distinct, settled}
-use Rattle.model.specs.Listing.{pairWords}
 use Rattle.model.specs.Writes.{nodeWords}
 use Rattle.list_laws.proofs.Tools.{Each, Each-map}
 use Rattle.list_laws.proofs.Members.{elem-false}
@@ -192,7 +191,7 @@ module _ (N : ℕ) (m : Maps) (low : packedBoth m ≤ N) (high : N ≤ 65535) (o
 
 -- With no pairs the result is the empty table.
 pub packed-none : (N : ℕ) → 1 ≤ N → packedTable N (record { one = []; two = none }) ≡ emptyOf 1 N
-unfolding packedTable packedBoth packedCount packedWords packed bottom groups rowsAbove countRows rowsWords rowWords nodeWords pairWords empty emptyOf
+unfolding packedTable packedBoth packedCount packedWords packed bottom groups rowsAbove countRows rowsWords rowWords nodeWords empty emptyOf
 packed-none N h =
     let e : 32 * N - 1 ≡ 31 + 32 * (N - 1) = omega arith in
     rw (e, ← replicate-append-replicate {A = ℕ} 31 (32 * (N - 1)) 0)
@@ -204,7 +203,7 @@ packed-leaf n = refl
 
 -- With none in either, the empty table of two collections.
 pub packed-none-two : (N : ℕ) → 2 ≤ N → packedTable N (record { one = []; two = some [] }) ≡ emptyOf 2 N
-unfolding packedTable packedBoth packedCount packedWords packed bottom groups rowsAbove countRows rowsWords rowWords nodeWords pairWords empty emptyOf nodeStart
+unfolding packedTable packedBoth packedCount packedWords packed bottom groups rowsAbove countRows rowsWords rowWords nodeWords empty emptyOf nodeStart
 packed-none-two N h =
     let e : 32 * N - 1 ≡ 31 + (32 + 32 * (N - 2)) = omega arith in
     rw (e, ← replicate-append-replicate {A = ℕ} 31 (32 + 32 * (N - 2)) 0, ← replicate-append-replicate {A = ℕ} 32 (32 * (N - 2)) 0)

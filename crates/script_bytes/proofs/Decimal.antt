@@ -15,7 +15,8 @@ use Rattle.isrc.proofs.Digits.{number-nil, number-snoc}
 use Rattle.model.specs.Table.{MARK}
 use Rattle.model.specs.Text.{ascii}
 use Rattle.model.specs.Orders.{Order, store, flush, barrier, BAR}
-use Rattle.model.specs.Codes.{isDigit, every, value, character, digits}
+use Rattle.model.specs.Codes.{isDigit, value, character, digits}
+use Rattle.model.specs.Lists.{all}
 use Rattle.model.specs.Printer.{Bytes, nonEmpty, decimalValue, isRecording, decimalFrom, decimal, numbersText, printed, orderText, refusedLine}
 
 -- ---- digit by digit
@@ -89,12 +90,12 @@ digit-counts d h =
     let e : isDigit (48 + d) ≡ true = rw (le-leb 48 (48 + d) (omega arith), le-leb (48 + d) 57 (omega arith)) in
     (e, value-digit (48 + d) e ∙ omega arith)
 
-reads-next : (f n : ℕ) → (every isDigit (decimalFrom f (n / 10)) ≡ true) × (decimalValue (decimalFrom f (n / 10)) ≡ n / 10)
-    → (every isDigit (decimalFrom (suc f) n) ≡ true) × (decimalValue (decimalFrom (suc f) n) ≡ n)
-unfolding every
+reads-next : (f n : ℕ) → (all isDigit (decimalFrom f (n / 10)) ≡ true) × (decimalValue (decimalFrom f (n / 10)) ≡ n / 10)
+    → (all isDigit (decimalFrom (suc f) n) ≡ true) × (decimalValue (decimalFrom (suc f) n) ≡ n)
+unfolding all
 reads-next f n ih = go (decLt n 10)
   where
-    go : Dec (n < 10) → (every isDigit (decimalFrom (suc f) n) ≡ true) × (decimalValue (decimalFrom (suc f) n) ≡ n)
+    go : Dec (n < 10) → (all isDigit (decimalFrom (suc f) n) ≡ true) × (decimalValue (decimalFrom (suc f) n) ≡ n)
     go (yes h) = rw (decimal-small f n h) (rw (digit-counts n h .0), number-snoc 10 [] (value (48 + n)) ∙ rw (number-nil, digit-counts n h .1) (omega arith))
     go (no h) =
         let d = digit-counts (n % 10) (mod-lt n (lit< tt)) in
@@ -103,8 +104,8 @@ reads-next f n ih = go (decLt n 10)
           rw (map-append, number-snoc, d .1, ih .1) (div-add-mod' n 10),
         )
 
-pub decimal-reads : (f n : ℕ) → n < 10 ^ f → (every isDigit (decimalFrom f n) ≡ true) × (decimalValue (decimalFrom f n) ≡ n)
-unfolding decimalFrom every
+pub decimal-reads : (f n : ℕ) → n < 10 ^ f → (all isDigit (decimalFrom f n) ≡ true) × (decimalValue (decimalFrom f n) ≡ n)
+unfolding decimalFrom all
 decimal-reads zero n h = (refl, number-nil 10 ∙ omega arith)
 decimal-reads (suc f) n h = reads-next f n (decimal-reads f (n / 10) (tenth f n h))
 

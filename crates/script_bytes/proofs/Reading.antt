@@ -12,7 +12,8 @@ use borrow.Author.Tests.{ltb-true, ltb-false, leb-true, leb-false, eqb-true, eqb
 use Rattle.isrc.proofs.Codes.{parse-other}
 use Rattle.model.specs.declared.Parsed.{Parsed}
 use Rattle.model.specs.Table.{MARK}
-use Rattle.model.specs.Codes.{isDigit, every, isCode, value, readOn, number, parse}
+use Rattle.model.specs.Codes.{isDigit, isCode, value, readOn, number, parse}
+use Rattle.model.specs.Lists.{all}
 use Rattle.model.specs.Printer.{Bytes, atFirst, fields, plus, other, decimalValue, isRecording, justIs, formOf}
 use Rattle.script_bytes.specs.Line.{begin, nextPlace, moved, withCharacter, withDigit, entered, step, after, codeOf, insertionOf, requestAt, request, requestOf}
 use Rattle.script_bytes.specs.declared.LineState.{LineState}
@@ -41,7 +42,7 @@ recorded s r = record { place = Recording; plus = s .plus; code = s .code; count
 
 -- what a recording that goes on with the bytes l comes to
 abbrev recordedAs : LineState → ℕ → Bytes → Request
-recordedAs s r l = cond (every isDigit l && leb (readOn 10 r (map value l)) MARK) (insertionOf (codeOf s) (readOn 10 r (map value l))) (Refused 0)
+recordedAs s r l = cond (all isDigit l && leb (readOn 10 r (map value l)) MARK) (insertionOf (codeOf s) (readOn 10 r (map value l))) (Refused 0)
 
 digit-yes : (s : LineState) (r b : ℕ) → isDigit b ≡ true → leb (r * 10 + value b) MARK ≡ true
     → withDigit (recorded s r) b ≡ recorded s (r * 10 + value b)
@@ -53,7 +54,7 @@ unfolding withDigit
 digit-no s b e = rw e
 
 after-recording : (s : LineState) (r : ℕ) (l : Bytes) → r ≤ MARK → request (after (recorded s r) l) ≡ recordedAs s r l
-unfolding after step entered nextPlace requestAt codeOf every readOn
+unfolding after step entered nextPlace requestAt codeOf all readOn
 after-recording s r [] h = rw (le-leb r MARK h)
 after-recording s r (b ∷ bs) h = go (isDigit b) (leb (r * 10 + value b) MARK) refl refl (after-recording s (r * 10 + value b) bs)
   where
@@ -88,10 +89,10 @@ data Cut (l : Bytes) : Type 0 where
   -- no space
   whole : fields l ≡ l ∷ [] → Cut l
   -- a space, which is no digit
-  spaced : (f g : Bytes) (fs : List Bytes) → fields l ≡ f ∷ g ∷ fs → every isDigit l ≡ false → Cut l
+  spaced : (f g : Bytes) (fs : List Bytes) → fields l ≡ f ∷ g ∷ fs → all isDigit l ≡ false → Cut l
 
 cut : (l : Bytes) → Cut l
-unfolding fields every isDigit
+unfolding fields all isDigit
 cut [] = whole refl
 cut (b ∷ bs) = go (eqb b 32) refl (cut bs)
   where
@@ -101,7 +102,7 @@ cut (b ∷ bs) = go (eqb b 32) refl (cut bs)
     go false e (whole h) = whole (fields-other b bs e ∙ ap (atFirst b) h)
     go false e (spaced f g fs h n) = spaced (b ∷ f) g fs (fields-other b bs e ∙ ap (atFirst b) h) (rw (n, and-false))
 
-not-recording : (l : Bytes) → every isDigit l ≡ false → isRecording l ≡ false
+not-recording : (l : Bytes) → all isDigit l ≡ false → isRecording l ≡ false
 unfolding isRecording
 not-recording l n = rw (n, and-false)
 

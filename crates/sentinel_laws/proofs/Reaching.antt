@@ -13,10 +13,10 @@ use Rattle.model.specs.Reached.{reachedAll, mapOf}
 use Rattle.model.specs.SoundTest.{elem, nothing, sound}
 use Rattle.model.specs.Orders.{Store, apply}
 use Rattle.model.specs.Shifts.{shiftOut}
-use Rattle.model.specs.Writes.{shiftInAt, shiftOutAt, putAll, split, splitWords, nodeWords, newRoot, unreachable, fresh, standing, run, rootInRun, splits, rootStores}
-use Rattle.model.specs.Writes.{insertSettled, insertStores, freesLeaf, deleteSettled, deleteStores, classStores, repairStores, repaired, Call, insertion, deletion, classChange, repair, storesOf}
+use Rattle.model.specs.Writes.{shiftInAt, shiftOutAt, putAll, split, splitWords, nodeWords, newRoot, unreachable, fresh, standing, run, rootInRun, splits, rootStores, insertSettled, insertStores}
+use Rattle.model.specs.Writes.{freesLeaf, deleteSettled, deleteStores, classStores, repairStores, repaired, Call, insertion, deletion, classChange, repair, storesOf}
 use Rattle.model.specs.Refusals.{hasKey, tooHigh, tooFew, refusal}
-use Rattle.model.specs.Sentinels.{storedTo}
+use Rattle.model.specs.Sentinels.{storesToNode}
 use Rattle.list_laws.proofs.Slots.{place-length}
 use Rattle.tree_laws.proofs.Rows.{range-iff}
 use Rattle.word_laws.proofs.NewNodes.{length-node-words}
@@ -35,7 +35,7 @@ use Rattle.sentinel_laws.proofs.Unstored.{stored-cons, stored-append, n
 
 -- x is reached after these stores as before, if none goes to it
 abbrev pub SameReach : ℕ → List Store → Words → Type 0
-SameReach x ss t = storedTo ss x ≡ false → elem x (reachedAll (apply ss t)) ≡ elem x (reachedAll t)
+SameReach x ss t = storesToNode ss x ≡ false → elem x (reachedAll (apply ss t)) ≡ elem x (reachedAll t)
 
 same-exact : (x : ℕ) (ss : List Store) (t : Words) → reachedAll (apply ss t) ≡ reachedAll t → SameReach x ss t
 same-exact x ss t e h = ap (elem x) e
@@ -44,7 +44,7 @@ same-append : (x : ℕ) (ss us : List Store) (t : Words) → SameReach x ss t �
 same-append x ss us t f g h = let u = stored-append ss us x .0 h in ap (λ (z : Words). elem x (reachedAll z)) (apply-append ss us t) ∙ g (u .1) ∙ f (u .0)
 
 -- a node that is written whole is stored to
-new-stored : (b : ℕ) (ws : Words) (us : List Store) (x : ℕ) → 1 ≤ b → 0 < length ws → storedTo (putAll (nodeStart b) ws ++ us) x ≡ false → x ≢ b
+new-stored : (b : ℕ) (ws : Words) (us : List Store) (x : ℕ) → 1 ≤ b → 0 < length ws → storesToNode (putAll (nodeStart b) ws ++ us) x ≡ false → x ≢ b
 unfolding putAll
 new-stored b [] us x some l h = absurd (omega arith)
 new-stored b (w ∷ ws) us x some l h = λ e. stored-cons _ _ x .0 h .0 (e ∙ sym (node-of b (nodeStart b) some (omega arith) (omega arith)))
@@ -106,7 +106,7 @@ insert-same n ws t k r c x arr f e =
     (same-exact x (shiftInAt t₂ y k (pointerOf r c)) t₂ (in-reached t₂ y (leaf .some) (leaf .level) k (pointerOf r c) (splits-room m n ws t₁ k i (a .1)))))
 
 -- the leaf that a deletion empties is stored to
-out-stored : (t : Words) (x k : ℕ) (us : List Store) (y : ℕ) → Leaf t x → storedTo (shiftOutAt t x k ++ us) y ≡ false → y ≢ x
+out-stored : (t : Words) (x k : ℕ) (us : List Store) (y : ℕ) → Leaf t x → storesToNode (shiftOutAt t x k ++ us) y ≡ false → y ≢ x
 unfolding shiftOutAt shiftOut
 out-stored t x k us y l h e =
     stored-cons _ _ y .0 h .0 (e ∙ sym (node-of x _ (l .some) (omega arith) (omega (arith, l .few, place-length k (nodeView t x .shown)))))

@@ -16,7 +16,7 @@ use Rattle.model.specs.Table.{Words, nodes, headerOk, noCollection}
 use Rattle.model.specs.Slots.{Slot, recording, class, View, nodeView, viewOf, height}
 use Rattle.model.specs.Search.{within, kept, locate, firstWith, nextFrom, answerOf, answerIn, searchView, search}
 use Rattle.model.specs.SoundTest.{sound}
-use Rattle.model.specs.Sentinels.{shownOn, onLine, lineFor, wordsOf, ledTo, leafFrom, searchWith, Shows, OtherSlot}
+use Rattle.model.specs.Sentinels.{shownOn, onLine, lineFor, wordsOf, ledTo, leafSought, searchWith, Shows, OtherSlot}
 use Rattle.list_laws.proofs.Members.{each-mem}
 use Rattle.list_laws.proofs.Filters.{mem-filter}
 use Rattle.list_laws.proofs.Tools.{first-filter}
@@ -32,8 +32,8 @@ use Rattle.sentinel_laws.proofs.Slices.{slice-bad, slice-lacks, slice-w
 -- ---- the leaf, and what the words lead to in it
 
 -- the plain search is the answer from that leaf
-from-leaf : (v : View) (k : ℕ) → searchView v k ≡ answerIn v k (leafFrom v k)
-unfolding searchView leafFrom
+from-leaf : (v : View) (k : ℕ) → searchView v k ≡ answerIn v k (leafSought v k)
+unfolding searchView leafSought
 from-leaf v k = go (leb (height v) 15)
   where
     go : (b : Bool) → elim b as (λ b. Answer) [ true ↦ answerIn v k (locate v (height v) (v .root) k) | false ↦ Refused 3 ] ≡ answerIn v k (elim b as (λ b. Option ℕ) [ true ↦ locate v (height v) (v .root) k | false ↦ none ])
@@ -69,9 +69,9 @@ only-one v k o s m e =
     ∙ ap (λ (j : ℕ). firstWith j (kept v x)) (sym e) ∙ mem-first (v .node x .fence) s (kept v x) (kept-rises v x (c .good)) (mem-filter (λ (u : Slot). within v x (u .key)) s (v .node x .shown) .1 (m, i))
 
 -- its leaf
-leaf-is : (v : View) (k : ℕ) → Orderly v → leafFrom v k ≡ some (leafFor v k)
-unfolding leafFrom
-leaf-is v k o = rw (le-leb (height v) 15 (o .top .level), leafFrom) (locate-leaf v k o)
+leaf-is : (v : View) (k : ℕ) → Orderly v → leafSought v k ≡ some (leafFor v k)
+unfolding leafSought
+leaf-is v k o = rw (le-leb (height v) 15 (o .top .level), leafSought) (locate-leaf v k o)
 
 -- ---- the call
 
@@ -88,7 +88,7 @@ module _ (n : ℕ) (ws t : Words) (k : ℕ) (long : length ws ≡ 3 * nodes t) w
   no-tree h c = rw (slice-lacks (noCollection n t) (length ws) t h c, h, c, search)
 
   module _ (h : headerOk t ≡ true) (c : noCollection n t ≡ false) where
-    pub with-tree : searchWith n ws t k ≡ answerOf (ledTo ws t k (leafFrom (viewOf n t) k)) (searchView (viewOf n t) k)
+    pub with-tree : searchWith n ws t k ≡ answerOf (ledTo ws t k (leafSought (viewOf n t) k)) (searchView (viewOf n t) k)
     unfolding searchWith
     with-tree = rw (slice-right (noCollection n t) (length ws) t h c long)
 
@@ -96,7 +96,7 @@ module _ (n : ℕ) (ws t : Words) (k : ℕ) (long : length ws ≡ 3 * nodes t) w
     unfolding search
     plain-tree = rw (h, c, search)
 
-    not-led : ledTo ws t k (leafFrom v k) ≡ none → searchWith n ws t k ≡ search n t k
+    not-led : ledTo ws t k (leafSought v k) ≡ none → searchWith n ws t k ≡ search n t k
     not-led e = with-tree ∙ ap (λ (o : Option Slot). answerOf o (searchView v k)) e ∙ sym plain-tree
 
 -- where the words lead to a slot, there is a leaf, and it shows the slot
@@ -111,10 +111,10 @@ search-but-slot n ws t k long = go (headerOk t) refl (noCollection n t) refl
     v : View
     v = viewOf n t
 
-    chosen : headerOk t ≡ true → noCollection n t ≡ false → (o : Option Slot) → ledTo ws t k (leafFrom v k) ≡ o → (searchWith n ws t k ≡ search n t k) ⊎ OtherSlot n ws t k
+    chosen : headerOk t ≡ true → noCollection n t ≡ false → (o : Option Slot) → ledTo ws t k (leafSought v k) ≡ o → (searchWith n ws t k ≡ search n t k) ⊎ OtherSlot n ws t k
     chosen h c none e = inl (not-led n ws t k long h c e)
     chosen h c (some s) e =
-        let (m, l, shows) = led ws t k (leafFrom v k) s e in
+        let (m, l, shows) = led ws t k (leafSought v k) s e in
         let (x, first) = finds t m k s shows in
         let u = first-mem k x (nodeView t m .shown) first in
         inr (record {
@@ -131,7 +131,7 @@ search-but-slot n ws t k long = go (headerOk t) refl (noCollection n t) refl
     go : (a : Bool) → headerOk t ≡ a → (b : Bool) → noCollection n t ≡ b → (searchWith n ws t k ≡ search n t k) ⊎ OtherSlot n ws t k
     go false h b c = inl (bad-header n ws t k long h)
     go true h true c = inl (no-tree n ws t k long h c)
-    go true h false c = chosen h c (ledTo ws t k (leafFrom v k)) refl
+    go true h false c = chosen h c (ledTo ws t k (leafSought v k)) refl
 
 -- On a sound table it is the plain search, true words or not, the neighbour included.
 pub search-as-plain : (n : ℕ) (ws t : Words) (k : ℕ) → sound t ≡ true → length ws ≡ 3 * nodes t → searchWith n ws t k ≡ search n t k
@@ -143,11 +143,11 @@ search-as-plain n ws t k s long = go (noCollection n t) refl
     h : headerOk t ≡ true
     h = sound-head t s
 
-    chosen : noCollection n t ≡ false → (o : Option Slot) → ledTo ws t k (leafFrom v k) ≡ o → searchWith n ws t k ≡ search n t k
+    chosen : noCollection n t ≡ false → (o : Option Slot) → ledTo ws t k (leafSought v k) ≡ o → searchWith n ws t k ≡ search n t k
     chosen c none e = not-led n ws t k long h c e
     chosen c (some x) e =
         let o = collection-orderly n t s c in
-        let (m, l, shows) = led ws t k (leafFrom v k) x e in
+        let (m, l, shows) = led ws t k (leafSought v k) x e in
         let q : m ≡ leafFor v k = Option·some-injective m (leafFor v k) (sym l ∙ leaf-is v k o) in
         let first = only-one v k o x (rw q at (shows .in-leaf)) (shows .key) in
         with-tree n ws t k long h c ∙ ap (λ (o : Option Slot). answerOf o (searchView v k)) e
@@ -155,7 +155,7 @@ search-as-plain n ws t k s long = go (noCollection n t) refl
 
     go : (b : Bool) → noCollection n t ≡ b → searchWith n ws t k ≡ search n t k
     go true c = no-tree n ws t k long h c
-    go false c = chosen c (ledTo ws t k (leafFrom v k)) refl
+    go false c = chosen c (ledTo ws t k (leafSought v k)) refl
 
 -- With a slice of another length it is refused with 19, where the header is right and the collection is there.
 pub search-wrong-slice : (n : ℕ) (ws t : Words) (k : ℕ) → headerOk t ≡ true → noCollection n t ≡ false → length ws ≢ 3 * nodes t → searchWith n ws t k ≡ Refused 19

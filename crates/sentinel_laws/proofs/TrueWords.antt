@@ -14,7 +14,7 @@ use Rattle.model.specs.SoundTest.{elem, sound}
 use Rattle.model.specs.Orders.{Store, apply}
 use Rattle.model.specs.Writes.{Call, storesOf}
 use Rattle.model.specs.Refusals.{refusal, unlessRefused, tableAfter}
-use Rattle.model.specs.Sentinels.{shownOn, firstKey, leavesAll, sentinelsOf, sentinels, wordsOf, storedTo, setAnew, refusalWith, tableWith, sentinelsWith}
+use Rattle.model.specs.Sentinels.{shownOn, firstKey, leavesAll, sentinelsOf, sentinels, wordsOf, storesToNode, setAnew, refusalWith, tableWith, sentinelsWith}
 use Rattle.table_laws.proofs.Header.{header-iff}
 use Rattle.cut_laws.proofs.Applying.{length-apply}
 use Rattle.two_laws.proofs.AcceptedTwo.{accepted-iff}
@@ -95,7 +95,7 @@ module _ (x : Call) (words dock : ℕ) (t : Words) (ok : refusal x words dock t 
       omega (arith, a, b, length-apply ss t)
 
   -- of a node that it does not store to
-  module _ (n : ℕ) (some : 1 ≤ n) (e : storedTo (storesOf x t) n ≡ false) where
+  module _ (n : ℕ) (some : 1 ≤ n) (e : storesToNode (storesOf x t) n ≡ false) where
     leaf-same : elem n (leavesAll t′) ≡ elem n (leavesAll t)
     leaf-same =
         leaves-level t′ n sound-after ∙ ap (λ (b : Bool). b && eqb (node t′ n .level) 0) (reached-same x words dock t ok n e)
@@ -106,12 +106,12 @@ module _ (x : Call) (words dock : ℕ) (t : Words) (ok : refusal x words dock t 
     words-same = rw (leaf-same, lines-unstored ss t n some e 0, lines-unstored ss t n some e 1, lines-unstored ss t n some e 2)
 
   -- True words stay true.
-  pub stay-true : setAnew (storedTo (storesOf x t)) (apply (storesOf x t) t) (sentinels t) ≡ sentinels (apply (storesOf x t) t)
+  pub stay-true : setAnew (storesToNode (storesOf x t)) (apply (storesOf x t) t) (sentinels t) ≡ sentinels (apply (storesOf x t) t)
   stay-true =
       let l : length (sentinels t) ≡ 3 * nodes t′ = length-sentinels t ∙ ap (λ (n : ℕ). 3 * n) (sym nodes-after) in
-      slices-same (nodes t′) _ _ (length-anew (storedTo ss) t′ (sentinels t) l) (length-sentinels t′) (λ n a b. anew-at (storedTo ss) t′ (sentinels t) l n a b ∙ go n a b (storedTo ss n) refl ∙ sym (sentinels-at t′ n a b))
+      slices-same (nodes t′) _ _ (length-anew (storesToNode ss) t′ (sentinels t) l) (length-sentinels t′) (λ n a b. anew-at (storesToNode ss) t′ (sentinels t) l n a b ∙ go n a b (storesToNode ss n) refl ∙ sym (sentinels-at t′ n a b))
     where
-      go : (n : ℕ) → 1 ≤ n → n ≤ nodes t′ → (c : Bool) → storedTo ss n ≡ c → cond (storedTo ss n) (sentinelsOf t′ n) (wordsOf (sentinels t) n) ≡ sentinelsOf t′ n
+      go : (n : ℕ) → 1 ≤ n → n ≤ nodes t′ → (c : Bool) → storesToNode ss n ≡ c → cond (storesToNode ss n) (sentinelsOf t′ n) (wordsOf (sentinels t) n) ≡ sentinelsOf t′ n
       go n a b true e = rw e
       go n a b false e = rw e (sentinels-at t n a (rw nodes-after at b) ∙ sym (words-same n a e))
 
@@ -123,13 +123,13 @@ pub kept-true : (x : Call) (ws : Words) (words dock : ℕ) (t : Words) → refus
 unfolding sentinelsWith tableWith tableAfter
 kept-true x ws words dock t ok e =
     let a = with-accepted x (length ws) words dock t ok in
-    rw (ok, a .0, a .1) (ap (setAnew (storedTo (storesOf x t)) (apply (storesOf x t) t)) e ∙ stay-true x words dock t (a .1))
+    rw (ok, a .0, a .1) (ap (setAnew (storesToNode (storesOf x t)) (apply (storesOf x t) t)) e ∙ stay-true x words dock t (a .1))
 
 -- After a refused one they are what they were.
 pub kept-refused : (x : Call) (ws : Words) (words dock : ℕ) (t : Words) → refusalWith x (length ws) words dock t ≢ 0 → sentinelsWith x ws words dock t ≡ ws
 unfolding sentinelsWith
 kept-refused x ws words dock t = go (refusalWith x (length ws) words dock t)
   where
-    go : (r : ℕ) → r ≢ 0 → unlessRefused r (setAnew (storedTo (storesOf x t)) (apply (storesOf x t) t) ws) ws ≡ ws
+    go : (r : ℕ) → r ≢ 0 → unlessRefused r (setAnew (storesToNode (storesOf x t)) (apply (storesOf x t) t) ws) ws ≡ ws
     go zero z = absurd (z refl)
     go (suc r) z = refl

@@ -11,7 +11,7 @@ use Rattle.model.specs.declared.Node.{Node}
 use Rattle.model.specs.Table.{Words, at, nodeStart, hasNode, node, nodeFrom, blank}
 use Rattle.model.specs.Slots.{used}
 use Rattle.model.specs.Orders.{Store, apply}
-use Rattle.model.specs.Sentinels.{nodeOf, storedTo, shownOn}
+use Rattle.model.specs.Sentinels.{nodeOf, storesToNode, shownOn}
 use Rattle.list_laws.proofs.Members.{elem-cons, elem-append}
 use Rattle.cut_laws.proofs.Applying.{length-apply}
 use Rattle.word_laws.proofs.Frames.{has-node-same}
@@ -22,12 +22,12 @@ stored s = nodeOf (s .word)
 
 -- ---- stores that do not go to node n
 
-pub stored-cons : (s : Store) (ss : List Store) (n : ℕ) → (storedTo (s ∷ ss) n ≡ false) ↔ ((n ≢ nodeOf (s .word)) × (storedTo ss n ≡ false))
-unfolding storedTo
+pub stored-cons : (s : Store) (ss : List Store) (n : ℕ) → (storesToNode (s ∷ ss) n ≡ false) ↔ ((n ≢ nodeOf (s .word)) × (storesToNode ss n ≡ false))
+unfolding storesToNode
 stored-cons s ss n = elem-cons n (stored s) (map stored ss)
 
-pub stored-append : (ss us : List Store) (n : ℕ) → (storedTo (ss ++ us) n ≡ false) ↔ ((storedTo ss n ≡ false) × (storedTo us n ≡ false))
-unfolding storedTo
+pub stored-append : (ss us : List Store) (n : ℕ) → (storesToNode (ss ++ us) n ≡ false) ↔ ((storesToNode ss n ≡ false) × (storesToNode us n ≡ false))
+unfolding storesToNode
 stored-append ss us n = rw (map-append stored ss us) (elem-append n (map stored ss) (map stored us))
 
 -- the words of a node
@@ -35,7 +35,7 @@ pub node-of : (n w : ℕ) → 1 ≤ n → nodeStart n ≤ w → w < nodeStart n 
 unfolding nodeStart
 node-of n w h a b = omega arith
 
-at-unstored : (ss : List Store) (t : Words) (n w : ℕ) → storedTo ss n ≡ false → nodeOf w ≡ n → at (apply ss t) w ≡ at t w
+at-unstored : (ss : List Store) (t : Words) (n w : ℕ) → storesToNode ss n ≡ false → nodeOf w ≡ n → at (apply ss t) w ≡ at t w
 unfolding apply
 at-unstored [] t n w h e = refl
 at-unstored (s ∷ ss) t n w h e =
@@ -44,7 +44,7 @@ at-unstored (s ∷ ss) t n w h e =
 
 -- ---- the node
 
-module _ (ss : List Store) (t : Words) (n : ℕ) (some : 1 ≤ n) (h : storedTo ss n ≡ false) where
+module _ (ss : List Store) (t : Words) (n : ℕ) (some : 1 ≤ n) (h : storesToNode ss n ≡ false) where
   abbrev t′ : Words
   t′ = apply ss t
 

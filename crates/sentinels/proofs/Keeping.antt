@@ -15,7 +15,7 @@ use Rattle.model.specs.SoundTest.{elem, sound}
 use Rattle.model.specs.Orders.{Store, Order, store, flush, barrier, BAR, encode, apply, orders, listWith}
 use Rattle.model.specs.Writes.{Call, storesOf}
 use Rattle.model.specs.Refusals.{seventeenIn, ordersOf, refusal, written, ordersAnswered, tableAfter, listAfter}
-use Rattle.model.specs.Sentinels.{nodeOf, storedTo, setAnew, sliceNumber, refusalWith, writtenWith, tableWith, ordersWith, sentinelsWith, Leaves}
+use Rattle.model.specs.Sentinels.{nodeOf, storesToNode, setAnew, sliceNumber, refusalWith, writtenWith, tableWith, ordersWith, sentinelsWith, Leaves}
 use Rattle.cut_laws.specs.Inside.{StoresInside}
 use Rattle.cut_laws.specs.Unflushed.{storesIn}
 use Rattle.cut_laws.proofs.Applying.{counts-length, length-apply}
@@ -56,8 +56,8 @@ missed : (len w n : ℕ) → len ≤ w → hits len w n ≡ false
 missed len w n h = rw (le-ltb w len h)
 
 -- the nodes that the orders of a list store to
-named-orders : (len : ℕ) (os : List Order) (rest : Words) (n : ℕ) → len ≤ BAR → StoresInside len (storesIn os) → named len (encode os ++ rest) (length os) n ≡ storedTo (storesIn os) n
-unfolding encode storesIn storedTo elem named
+named-orders : (len : ℕ) (os : List Order) (rest : Words) (n : ℕ) → len ≤ BAR → StoresInside len (storesIn os) → named len (encode os ++ rest) (length os) n ≡ storesToNode (storesIn os) n
+unfolding encode storesIn storesToNode elem named
 named-orders len [] rest n h i = refl
 named-orders len (store s ∷ os) rest n h i =
     named-front len (s .word) (s .value) (encode os ++ rest) (length os) n
@@ -109,7 +109,7 @@ module _ (x : Call) (lent ws t : Words) (dock : ℕ) (fit : sliceNumber (sevente
       unfolding listWith
       long-list = ap length list ∙ simp (length-append, length-drop, length-encode) (omega (arith, list-fits x (length lent) dock t ok))
 
-      same-stores : (n : ℕ) → named (length t′) lent′ (ordersAnswered answer) n ≡ storedTo (storesOf x t) n
+      same-stores : (n : ℕ) → named (length t′) lent′ (ordersAnswered answer) n ≡ storesToNode (storesOf x t) n
       unfolding listWith
       same-stores n =
           let os = ordersOf x dock t in
@@ -117,7 +117,7 @@ module _ (x : Call) (lent ws t : Words) (dock : ℕ) (fit : sliceNumber (sevente
           let i = accepted-steps x (length lent) dock t (a .sound) ok .stores-inside in
           ap (λ (u : Words). named (length u) lent′ (ordersAnswered answer) n) table ∙ ap (λ (m : ℕ). named m lent′ (ordersAnswered answer) n) (length-apply (storesOf x t) t)
           ∙ ap (λ (u : Words). named (length t) u (ordersAnswered answer) n) list ∙ ap (λ (m : ℕ). named (length t) (listWith os lent) m n) count
-          ∙ named-orders (length t) os (drop (2 * length os) lent) n (header-length t (a .header) .1) (rw (call-stores x dock t) i) ∙ ap (λ (ss : List Store). storedTo ss n) (call-stores x dock t)
+          ∙ named-orders (length t) os (drop (2 * length os) lent) n (header-length t (a .header) .1) (rw (call-stores x dock t) i) ∙ ap (λ (ss : List Store). storesToNode ss n) (call-stores x dock t)
 
       asks-accepted : Asks t′ lent′ ws answer
       asks-accepted =
@@ -131,7 +131,7 @@ module _ (x : Call) (lent ws t : Words) (dock : ℕ) (fit : sliceNumber (sevente
 
       gives-accepted : ws′ ≡ setAnew (named (length t′) lent′ (ordersAnswered answer)) t′ ws → ws′ ≡ sentinelsWith x ws (length lent) dock t
       unfolding sentinelsWith refusalWith
-      gives-accepted h = rw (fit, ok) (h ∙ anew-same t′ ws (asks-accepted .slice) _ _ (λ n a b. same-stores n) ∙ ap (λ (u : Words). setAnew (storedTo (storesOf x t)) u ws) table)
+      gives-accepted h = rw (fit, ok) (h ∙ anew-same t′ ws (asks-accepted .slice) _ _ (λ n a b. same-stores n) ∙ ap (λ (u : Words). setAnew (storesToNode (storesOf x t)) u ws) table)
 
     -- refused
     module _ (r : ℕ) (q : refusal x (length lent) dock t ≡ suc r) where

@@ -15,7 +15,7 @@ use Rattle.model.specs.declared.Node.{Node}
 use Rattle.model.specs.Table.{Words, at, nodes, root, rootWord, noCollection, node, nodeFrom, hasNode, nodeStart, headerOk}
 use Rattle.model.specs.Slots.{Slot, recordingOf, classOf, View, view, viewOf, height, nodeView, used}
 use Rattle.model.specs.Search.{onLevel, passes, firstWith, nextFrom, answerOf, answerIn, searchView, search}
-use Rattle.model.specs.Sentinels.{sliceNumber, lineFor, onLine, ledTo, leafFrom, searchWith, wordsOf, shownOn}
+use Rattle.model.specs.Sentinels.{sliceNumber, lineFor, onLine, ledTo, leafSought, searchWith, wordsOf, shownOn}
 use Rattle.list_laws.proofs.Tools.{and-iff}
 use Rattle.list_laws.proofs.Members.{each-mem}
 use Rattle.table_laws.proofs.Nodes.{has-node-iff, has-node-range, node-in}
@@ -145,13 +145,13 @@ with-wrong n ws t k r b e z q f =
     let u = root-there n t r e z in
     refused-with n ws t k 19 (wrong-length (noCollection n t) (length ws) t (u .0) (u .1) b q f) (λ y. omega arith)
 
-leaf-within : (v : View) (k : ℕ) → leafFrom v k ≡ locateWithin v 0 15 (v .root) k
-unfolding leafFrom
+leaf-within : (v : View) (k : ℕ) → leafSought v k ≡ locateWithin v 0 15 (v .root) k
+unfolding leafSought
 leaf-within v k = go (leb (height v) 15) refl
   where
-    go : (c : Bool) → leb (height v) 15 ≡ c → leafFrom v k ≡ locateWithin v 0 15 (v .root) k
-    go true c = rw (c, leafFrom) (within-in v 0 15 (v .root) k (omega arith) (leb-true _ _ c))
-    go false c = rw (c, leafFrom) (within-high v 0 15 (v .root) k (omega arith) (leb-false _ _ c))
+    go : (c : Bool) → leb (height v) 15 ≡ c → leafSought v k ≡ locateWithin v 0 15 (v .root) k
+    go true c = rw (c, leafSought) (within-in v 0 15 (v .root) k (omega arith) (leb-true _ _ c))
+    go false c = rw (c, leafSought) (within-high v 0 15 (v .root) k (omega arith) (leb-false _ _ c))
 
 -- no slot in use has pointer 0
 no-slot : (t : Words) (m k : ℕ) (o : Option ℕ) → pointerIn (onLine t m k o) ≡ 0 → onLine t m k o ≡ none
@@ -176,13 +176,13 @@ module _ (n : ℕ) (ws t : Words) (k r leaf : ℕ) (e : r ≡ rootIn n t) (z : r
   pub long : length ws ≡ 3 * nodes t
   long = eqb-true _ _ (sym fit ∙ fits)
 
-  with-led : searchWith n ws t k ≡ answerOf (ledTo ws t k (leafFrom v k)) (searchView v k)
+  with-led : searchWith n ws t k ≡ answerOf (ledTo ws t k (leafSought v k)) (searchView v k)
   with-led = with-tree n ws t k long (there .0) (there .1)
 
   plain : search n t k ≡ searchView v k
   plain = plain-tree n ws t k long (there .0) (there .1)
 
-  same-leaf : leafFrom v k ≡ found
+  same-leaf : leafSought v k ≡ found
   same-leaf = leaf-within v k ∙ sym (any-within t (root t) (v .root) 0 15 r k ∙ ap (λ (i : ℕ). locateWithin v 0 15 i k) (there .2))
 
   abbrev seen : Stood

@@ -8,7 +8,7 @@ use lib.Dec.{eqb}
 use lib.ListN.{length, length-take, length-drop}
 use Rattle.model.specs.declared.Node.{Node}
 use Rattle.model.specs.Table.{Words, at, nodeStart, hasNode, node, nodeFrom}
-use Rattle.model.specs.Slots.{Slot, withClass, shown, hidden, used, nodeView}
+use Rattle.model.specs.Slots.{Slot, withClass, shown, hiddenSlots, used, nodeView}
 use Rattle.model.specs.Shifts.{SlotStore, keyTo, pointerTo, inNode, placeOf, hiddenPlace}
 use Rattle.model.specs.Writes.{shiftInAt, shiftOutAt, setClassAt, closeAt, cutOff, attach}
 use Rattle.node.specs.Word.{startOf, wordOf}
@@ -25,14 +25,14 @@ in-node-from n (keyTo i x ∷ ss) = rw (in-node-from n ss)
 in-node-from n (pointerTo i x ∷ ss) = rw (in-node-from n ss)
 
 -- where nothing is hidden all slots in use are shown
-pub shown-all : (p : ℕ) (ss : List Slot) → length (hidden p ss) ≡ 0 → shown p ss ≡ ss
-unfolding shown hidden
+pub shown-all : (p : ℕ) (ss : List Slot) → length (hiddenSlots p ss) ≡ 0 → shown p ss ≡ ss
+unfolding shown hiddenSlots
 shown-all p [] h = refl
 shown-all p (s ∷ ss) h = go (eqb (s .pointer) p) refl h (shown-all (s .pointer) ss)
   where
-    go : (b : Bool) → eqb (s .pointer) p ≡ b → length (hidden p (s ∷ ss)) ≡ 0 → (length (hidden (s .pointer) ss) ≡ 0 → shown (s .pointer) ss ≡ ss) → shown p (s ∷ ss) ≡ s ∷ ss
-    go true e g ih = absurd (omega (arith, rw (e, hidden) at g))
-    go false e g ih = rw (e, shown) (ap (λ (us : List Slot). s ∷ us) (ih (rw (e, hidden) at g)))
+    go : (b : Bool) → eqb (s .pointer) p ≡ b → length (hiddenSlots p (s ∷ ss)) ≡ 0 → (length (hiddenSlots (s .pointer) ss) ≡ 0 → shown (s .pointer) ss ≡ ss) → shown p (s ∷ ss) ≡ s ∷ ss
+    go true e g ih = absurd (omega (arith, rw (e, hiddenSlots) at g))
+    go false e g ih = rw (e, shown) (ap (λ (us : List Slot). s ∷ us) (ih (rw (e, hiddenSlots) at g)))
 
 module _ (t : Words) (n w : ℕ) (h : hasNode t n ≡ true) (e : w ≡ startOf t n) where
   pub starts : w ≡ nodeStart n

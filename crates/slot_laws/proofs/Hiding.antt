@@ -7,7 +7,7 @@ use native.Mathlib.Omega.{arith}
 use lib.Dec.{eqb}
 use lib.ListN.{length, getD, length-append}
 use borrow.Author.Tests.{eqb-true, eqb-false, eq-eqb, ne-eqb, not-true}
-use Rattle.model.specs.Slots.{Slot, slot, inUse, shown, hidden}
+use Rattle.model.specs.Slots.{Slot, slot, inUse, shown, hiddenSlots}
 use Rattle.model.specs.Shifts.{lastPointer, hiddenPlace}
 use Rattle.model.specs.Reached.{pointers}
 use Rattle.model.specs.SoundTest.{elem, distinct}
@@ -25,14 +25,15 @@ shown-append p (s ∷ xs) ys = go (eqb (s .pointer) p) refl (shown-append (s .po
     go true e ih = rw (e, shown) ih
     go false e ih = rw (e, shown) (ap (λ (l : List Slot). s ∷ l) ih)
 
-pub hidden-append : (p : ℕ) (xs ys : List Slot) → hidden p (xs ++ ys) ≡ hidden p xs ++ hidden (lastPointer p xs) ys
-unfolding hidden lastPointer
+pub hidden-append : (p : ℕ) (xs ys : List Slot) → hiddenSlots p (xs ++ ys) ≡ hiddenSlots p xs ++ hiddenSlots (lastPointer p xs) ys
+unfolding hiddenSlots lastPointer
 hidden-append p [] ys = refl
 hidden-append p (s ∷ xs) ys = go (eqb (s .pointer) p) refl (hidden-append (s .pointer) xs ys)
   where
-    go : (b : Bool) → eqb (s .pointer) p ≡ b → hidden (s .pointer) (xs ++ ys) ≡ hidden (s .pointer) xs ++ hidden (lastPointer (s .pointer) xs) ys → hidden p (s ∷ xs ++ ys) ≡ hidden p (s ∷ xs) ++ hidden (lastPointer p (s ∷ xs)) ys
-    go true e ih = rw (e, hidden) (ap (λ (l : List Slot). s ∷ l) ih)
-    go false e ih = rw (e, hidden) ih
+    go : (b : Bool) → eqb (s .pointer) p ≡ b
+        → hiddenSlots (s .pointer) (xs ++ ys) ≡ hiddenSlots (s .pointer) xs ++ hiddenSlots (lastPointer (s .pointer) xs) ys → hiddenSlots p (s ∷ xs ++ ys) ≡ hiddenSlots p (s ∷ xs) ++ hiddenSlots (lastPointer p (s ∷ xs)) ys
+    go true e ih = rw (e, hiddenSlots) (ap (λ (l : List Slot). s ∷ l) ih)
+    go false e ih = rw (e, hiddenSlots) ih
 
 pub last-append : (p : ℕ) (xs ys : List Slot) → lastPointer p (xs ++ ys) ≡ lastPointer (lastPointer p xs) ys
 unfolding lastPointer
@@ -45,15 +46,15 @@ shown-repeat : (q c : ℕ) (ys : List Slot) → shown q (slot c q ∷ ys) ≡ sh
 unfolding shown
 shown-repeat q c ys = rw (eq-eqb q q refl, shown)
 
-hidden-repeat : (q c : ℕ) (ys : List Slot) → hidden q (slot c q ∷ ys) ≡ slot c q ∷ hidden q ys
-unfolding hidden
-hidden-repeat q c ys = rw (eq-eqb q q refl, hidden)
+hidden-repeat : (q c : ℕ) (ys : List Slot) → hiddenSlots q (slot c q ∷ ys) ≡ slot c q ∷ hiddenSlots q ys
+unfolding hiddenSlots
+hidden-repeat q c ys = rw (eq-eqb q q refl, hiddenSlots)
 
 module _ (p c : ℕ) (xs ys : List Slot) where
   pub hide-shown : shown p (xs ++ slot c (lastPointer p xs) ∷ ys) ≡ shown p (xs ++ ys)
   hide-shown = rw (shown-append p xs (slot c (lastPointer p xs) ∷ ys), shown-append p xs ys, shown-repeat)
 
-  pub hide-hidden : length (hidden p (xs ++ slot c (lastPointer p xs) ∷ ys)) ≡ suc (length (hidden p (xs ++ ys)))
+  pub hide-hidden : length (hiddenSlots p (xs ++ slot c (lastPointer p xs) ∷ ys)) ≡ suc (length (hiddenSlots p (xs ++ ys)))
   hide-hidden = rw (hidden-append p xs (slot c (lastPointer p xs) ∷ ys), hidden-append p xs ys, hidden-repeat) (simp length-append (omega arith))
 
 -- ---- slots in use
@@ -107,14 +108,14 @@ in-use-before (s ∷ ss) (suc m) h = go (eqb (s .pointer) 0) refl (in-use-before
     go false e ih = rw (e, inUse) (omega arith)
 
 -- each slot is shown or hidden
-pub shown-and-hidden : (p : ℕ) (ss : List Slot) → length (shown p ss) + length (hidden p ss) ≡ length ss
-unfolding shown hidden
+pub shown-and-hidden : (p : ℕ) (ss : List Slot) → length (shown p ss) + length (hiddenSlots p ss) ≡ length ss
+unfolding shown hiddenSlots
 shown-and-hidden p [] = refl
 shown-and-hidden p (s ∷ ss) = go (eqb (s .pointer) p) refl (shown-and-hidden (s .pointer) ss)
   where
-    go : (b : Bool) → eqb (s .pointer) p ≡ b → length (shown (s .pointer) ss) + length (hidden (s .pointer) ss) ≡ length ss → length (shown p (s ∷ ss)) + length (hidden p (s ∷ ss)) ≡ length (s ∷ ss)
-    go true e ih = rw (e, shown, hidden) (omega arith)
-    go false e ih = rw (e, shown, hidden) (omega arith)
+    go : (b : Bool) → eqb (s .pointer) p ≡ b → length (shown (s .pointer) ss) + length (hiddenSlots (s .pointer) ss) ≡ length ss → length (shown p (s ∷ ss)) + length (hiddenSlots p (s ∷ ss)) ≡ length (s ∷ ss)
+    go true e ih = rw (e, shown, hiddenSlots) (omega arith)
+    go false e ih = rw (e, shown, hiddenSlots) (omega arith)
 
 -- ---- slots all of which are shown after the pointer p: in use, and none repeats the pointer before it
 
@@ -136,20 +137,20 @@ unfolding shown
 all-shown p [] h = refl
 all-shown p (s ∷ ss) h = rw (ne-eqb (s .pointer) p (h .1), shown) (ap (λ (l : List Slot). s ∷ l) (all-shown (s .pointer) ss (h .2)))
 
-pub none-hidden : (p : ℕ) (ss : List Slot) → AllShown p ss → hidden p ss ≡ []
-unfolding hidden
+pub none-hidden : (p : ℕ) (ss : List Slot) → AllShown p ss → hiddenSlots p ss ≡ []
+unfolding hiddenSlots
 none-hidden p [] h = refl
-none-hidden p (s ∷ ss) h = rw (ne-eqb (s .pointer) p (h .1), hidden) (none-hidden (s .pointer) ss (h .2))
+none-hidden p (s ∷ ss) h = rw (ne-eqb (s .pointer) p (h .1), hiddenSlots) (none-hidden (s .pointer) ss (h .2))
 
 -- slots in use none of which is hidden are all shown
-pub not-hidden : (p : ℕ) (ss : List Slot) → Each Used ss → length (hidden p ss) ≡ 0 → AllShown p ss
-unfolding hidden
+pub not-hidden : (p : ℕ) (ss : List Slot) → Each Used ss → length (hiddenSlots p ss) ≡ 0 → AllShown p ss
+unfolding hiddenSlots
 not-hidden p [] u h = tt
 not-hidden p (s ∷ ss) u h = go (eqb (s .pointer) p) refl (not-hidden (s .pointer) ss (u .1))
   where
-    go : (b : Bool) → eqb (s .pointer) p ≡ b → (length (hidden (s .pointer) ss) ≡ 0 → AllShown (s .pointer) ss) → AllShown p (s ∷ ss)
-    go true e ih = let z : suc (length (hidden (s .pointer) ss)) ≡ 0 = rw (e, hidden) at h in absurd (omega arith)
-    go false e ih = (u .0, eqb-false (s .pointer) p e, ih (rw (e, hidden) at h))
+    go : (b : Bool) → eqb (s .pointer) p ≡ b → (length (hiddenSlots (s .pointer) ss) ≡ 0 → AllShown (s .pointer) ss) → AllShown p (s ∷ ss)
+    go true e ih = let z : suc (length (hiddenSlots (s .pointer) ss)) ≡ 0 = rw (e, hiddenSlots) at h in absurd (omega arith)
+    go false e ih = (u .0, eqb-false (s .pointer) p e, ih (rw (e, hiddenSlots) at h))
 
 pub last-used : (p : ℕ) (ss : List Slot) → (p ≡ 0 → ⊥) → Each Used ss → lastPointer p ss ≡ 0 → ⊥
 unfolding lastPointer
@@ -178,7 +179,7 @@ shown-used = each-shown Used
 
 pub record Shows (p : ℕ) (ss : List Slot) (h : ℕ) (all : List Slot) : Type 0 where
   pub shows : shown p (inUse all) ≡ ss
-  pub hides : length (hidden p (inUse all)) ≡ h
+  pub hides : length (hiddenSlots p (inUse all)) ≡ h
 
 -- it shows ss and hides one slot at most
 abbrev pub MayHide : ℕ → List Slot → List Slot → Type 0
@@ -239,13 +240,13 @@ module _ (p : ℕ) (s : Slot) (us : List Slot) (u : Each Used (s ∷ us)) where
         all = (u .0, q, g .all);
       }
 
-pub one-hidden : (p : ℕ) (us : List Slot) → Each Used us → length (hidden p us) ≡ 1 → OneHidden p us
-unfolding hidden
+pub one-hidden : (p : ℕ) (us : List Slot) → Each Used us → length (hiddenSlots p us) ≡ 1 → OneHidden p us
+unfolding hiddenSlots
 one-hidden p [] u h = absurd (omega arith)
 one-hidden p (s ∷ us) u h = go (eqb (s .pointer) p) refl (one-hidden (s .pointer) us (u .1))
   where
-    go : (b : Bool) → eqb (s .pointer) p ≡ b → (length (hidden (s .pointer) us) ≡ 1 → OneHidden (s .pointer) us) → OneHidden p (s ∷ us)
+    go : (b : Bool) → eqb (s .pointer) p ≡ b → (length (hiddenSlots (s .pointer) us) ≡ 1 → OneHidden (s .pointer) us) → OneHidden p (s ∷ us)
     go true e ih =
-        let n : suc (length (hidden (s .pointer) us)) ≡ 1 = rw (e, hidden) at h in
+        let n : suc (length (hiddenSlots (s .pointer) us)) ≡ 1 = rw (e, hiddenSlots) at h in
         hidden-here p s us u (eqb-true (s .pointer) p e) (not-hidden (s .pointer) us (u .1) (omega arith))
-    go false e ih = hidden-later p s us u (eqb-false (s .pointer) p e) (ih (rw (e, hidden) at h))
+    go false e ih = hidden-later p s us u (eqb-false (s .pointer) p e) (ih (rw (e, hiddenSlots) at h))

@@ -6,7 +6,7 @@ use Prim.Native.Nat.{ℕ, suc, pred, _+_, _*_, _-_, _≤_, _<_}
 use native.Mathlib.Omega.{arith}
 use lib.Dec.{eqb}
 use lib.ListN.{length, take, drop, length-append, length-drop}
-use Rattle.model.specs.Slots.{Slot, hidden}
+use Rattle.model.specs.Slots.{Slot, hiddenSlots}
 use Rattle.model.specs.Shifts.{SlotStore, keyTo, pointerTo, lastPointer, moveUp, moveDown, shiftIn, shiftOut, close, hiddenPlace}
 use Rattle.list_laws.proofs.Tools.{Each, Each-append, Each-map}
 use Rattle.list_laws.proofs.Steps.{Along, along-each}
@@ -39,14 +39,14 @@ shift-out-count left ss p h = close-count ss p h
 -- ---- the places
 
 -- the place of a hidden slot
-pub hidden-place-lt : (p : ℕ) (us : List Slot) → length (hidden p us) ≡ 1 → hiddenPlace p us < length us
-unfolding hidden hiddenPlace
+pub hidden-place-lt : (p : ℕ) (us : List Slot) → length (hiddenSlots p us) ≡ 1 → hiddenPlace p us < length us
+unfolding hiddenSlots hiddenPlace
 hidden-place-lt p [] h = absurd (omega arith)
 hidden-place-lt p (s ∷ us) h = go (eqb (s .pointer) p) refl (hidden-place-lt (s .pointer) us)
   where
-    go : (b : Bool) → eqb (s .pointer) p ≡ b → (length (hidden (s .pointer) us) ≡ 1 → hiddenPlace (s .pointer) us < length us) → hiddenPlace p (s ∷ us) < length (s ∷ us)
+    go : (b : Bool) → eqb (s .pointer) p ≡ b → (length (hiddenSlots (s .pointer) us) ≡ 1 → hiddenPlace (s .pointer) us < length us) → hiddenPlace p (s ∷ us) < length (s ∷ us)
     go true e ih = rw (e, hiddenPlace) (omega arith)
-    go false e ih = let i = ih (rw (e, hidden) at h) in rw (e, hiddenPlace) (omega arith)
+    go false e ih = let i = ih (rw (e, hiddenSlots) at h) in rw (e, hiddenPlace) (omega arith)
 
 abbrev pub Below : ℕ → SlotStore → Type 0
 Below b q = place q < b

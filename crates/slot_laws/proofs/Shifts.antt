@@ -5,7 +5,7 @@ use Prim.Native.Nat.{ℕ, suc, pred, _+_, _≤_, _<_}
 use native.Mathlib.Omega.{arith}
 use lib.ListN.{length, take, drop, getD, length-append, take-append-drop}
 use lib.Seq.{length-take-le, split-at, drop-at}
-use Rattle.model.specs.Slots.{Slot, slot, inUse, shown, hidden}
+use Rattle.model.specs.Slots.{Slot, slot, inUse, shown, hiddenSlots}
 use Rattle.model.specs.Shifts.{keyTo, pointerTo, lastPointer, moveUp, moveDown, shiftIn, shiftOut, close, hiddenPlace}
 use Rattle.list_laws.proofs.Tools.{Each}
 use Rattle.list_laws.proofs.Steps.{doAll, Until, AtFirst, until-append, until-end}
@@ -137,7 +137,7 @@ close-used left us r g e =
     rw (g .shows, g .place) (subst (λ (w : List Slot). Until doSlotStore (P 1) (P 0) (close w (length a)) (w ++ r)) (sym (g .shape)) one)
 
 -- While the hidden slot of a node is closed it shows what it showed; the slot is hidden until the last store, and then none is.
-pub close-slots : (left : ℕ) (all : List Slot) → length (hidden left (inUse all)) ≡ 1
+pub close-slots : (left : ℕ) (all : List Slot) → length (hiddenSlots left (inUse all)) ≡ 1
     → Until doSlotStore (Shows left (shown left (inUse all)) 1) (Shows left (shown left (inUse all)) 0) (close (inUse all) (hiddenPlace left (inUse all))) all
 close-slots left all h =
     let u = parts all in

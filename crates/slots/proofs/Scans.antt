@@ -8,7 +8,7 @@ use lib.Dec.{eqb}
 use lib.ListN.{length, drop}
 use borrow.Author.Tests.{eqb-true, eqb-false, eq-eqb, ne-eqb}
 use Rattle.model.specs.Table.{Words, at}
-use Rattle.model.specs.Slots.{Slot, slot, slotsOf, inUse, shown, hidden}
+use Rattle.model.specs.Slots.{Slot, slot, slotsOf, inUse, shown, hiddenSlots}
 use Rattle.model.specs.Reached.{filter}
 use Rattle.list_laws.proofs.Filters.{filter-yes, filter-no}
 use Rattle.table_laws.proofs.SlotWords.{slots-cons, slots-end}
@@ -73,13 +73,13 @@ module _ (before : ℕ) (s : Slot) (ss : List Slot) where
   unfolding shown
   shown-show h = rw (ne-eqb (s .pointer) before h, shown)
 
-  pub hidden-hide : s .pointer ≡ before → hidden before (s ∷ ss) ≡ s ∷ hidden (s .pointer) ss
-  unfolding hidden
-  hidden-hide h = rw (eq-eqb (s .pointer) before h, hidden)
+  pub hidden-hide : s .pointer ≡ before → hiddenSlots before (s ∷ ss) ≡ s ∷ hiddenSlots (s .pointer) ss
+  unfolding hiddenSlots
+  hidden-hide h = rw (eq-eqb (s .pointer) before h, hiddenSlots)
 
-  pub hidden-show : (s .pointer ≡ before → ⊥) → hidden before (s ∷ ss) ≡ hidden (s .pointer) ss
-  unfolding hidden
-  hidden-show h = rw (ne-eqb (s .pointer) before h, hidden)
+  pub hidden-show : (s .pointer ≡ before → ⊥) → hiddenSlots before (s ∷ ss) ≡ hiddenSlots (s .pointer) ss
+  unfolding hiddenSlots
+  hidden-show h = rw (ne-eqb (s .pointer) before h, hiddenSlots)
 
 -- the shown slots that pass a test: s comes first among them exactly if it is shown and passes
 pub picked : (t : Slot → Bool) (before : ℕ) (s : Slot) (ss : List Slot)

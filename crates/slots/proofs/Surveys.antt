@@ -7,7 +7,7 @@ use native.Mathlib.Omega.{arith}
 use lib.Dec.{leb, ltb, eqb}
 use lib.ListN.{length}
 use borrow.Author.Tests.{eqb-true, eqb-false, eq-eqb, ne-eqb}
-use Rattle.model.specs.Slots.{Slot, slot, shown, hidden}
+use Rattle.model.specs.Slots.{Slot, slot, shown, hiddenSlots}
 use Rattle.model.specs.Reached.{filter}
 use Rattle.model.specs.SoundTest.{all, rising, comeFirst}
 use Rattle.list_laws.proofs.Filters.{filter-yes, filter-no}
@@ -161,11 +161,11 @@ module _ (sibling e : ℕ) where
           ∙ rw (filter-yes kept x sh c, first-yes kept x sh c, c, rising-more (lowest (s .strict) (s .low)) x (filter kept sh), reaches-lowest (s .strict) (s .low) (x .key))
 
   abbrev Means : List Slot → Survey → Type 0
-  Means ss s = Surveyed s (surveyed sibling e ss s) (length (hidden (s .before) ss)) (shown (s .before) ss)
+  Means ss s = Surveyed s (surveyed sibling e ss s) (length (hiddenSlots (s .before) ss)) (shown (s .before) ss)
 
   pub survey-means : (ss : List Slot) (s : Survey) → Means ss s
   unfolding surveyed
-  survey-means [] s = unfold shown in unfold hidden in none s
+  survey-means [] s = unfold shown in unfold hiddenSlots in none s
   survey-means (x ∷ xs) s = go (eqb (x .pointer) (s .before)) (kept x) refl refl (survey-means xs)
     where
       go : (a b : Bool) → eqb (x .pointer) (s .before) ≡ a → kept x ≡ b → ((s : Survey) → Means xs s) → Means (x ∷ xs) s

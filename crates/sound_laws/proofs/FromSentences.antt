@@ -42,7 +42,7 @@ module _ (v : View) (x : Leftover) (s : SettledBut v x) (i : IsLeft v x) where
     slot-fence = s .slot-fence;
     keys-rise = s .keys-rise;
     keys-above = s .keys-above;
-    apart = s .apart;
+    apart = s .fences-differ;
     sibling-level = s .sibling-level;
     sibling-right = s .sibling-right;
     sibling-next = s .sibling-next;

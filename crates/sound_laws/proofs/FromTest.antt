@@ -254,7 +254,7 @@ module _ (v : View) (o : Orderly v) where
           keys-from = λ {n} {s} r m. each-mem (λ (u : Slot). v .node n .fence ≤ u .key) (kept-from v n (good-of r)) m;
           keys-above = keys-above;
           keys-below = λ r z. sym (keys-below v (reached-listed v w r) x l z);
-          apart = j .apart;
+          fences-differ = j .apart;
           sibling-level = j .sibling-level;
           sibling-right = j .sibling-right;
           sibling-next = j .sibling-next;

@@ -7,7 +7,7 @@ use native.Mathlib.Omega.{arith}
 use lib.ListN.{replicate}
 use Rattle.model.specs.declared.Node.{Node}
 use Rattle.model.specs.Table.{MARK, Words, allZero, node, spare, empty}
-use Rattle.model.specs.Slots.{slotsOf, inUse, shown, hidden, used, clearIn, nodeView}
+use Rattle.model.specs.Slots.{slotsOf, inUse, shown, hiddenSlots, used, clearIn, nodeView}
 use Rattle.view_laws.proofs.NodeViews.{newNode}
 use Rattle.table_laws.proofs.Empty.{empty-leaf, empty-spare}
 
@@ -21,7 +21,7 @@ module _ (t : Words) (i : ℕ) (leaf : node t i ≡ emptyLeaf) (spares : spare t
   shows = rw leaf
 
   hides : nodeView t i .hidden ≡ 0
-  unfolding used slotsOf inUse hidden
+  unfolding used slotsOf inUse hiddenSlots
   hides = rw leaf
 
   clear : nodeView t i .clear ≡ true

@@ -12,17 +12,16 @@ use lib.Seq.{take-nil}
 use borrow.Author.Tests.{ltb-true, lt-ltb, leb-true, lt-leb}
 use Rattle.model.specs.declared.Listed.the-variants.{Pairs}
 use Rattle.model.specs.Table.{Words}
-use Rattle.model.specs.Slots.{Slot}
+use Rattle.model.specs.Slots.{Slot, slotWords}
 use Rattle.model.specs.SoundTest.{rising}
 use Rattle.model.specs.Demand2.{Listing}
-use Rattle.model.specs.Listing.{inRangeOf, pairWords, listed, listedWords}
+use Rattle.model.specs.Listing.{inRangeOf, listed, listedWords}
 use Rattle.list_laws.proofs.Tools.{decode, Each}
 use Rattle.list_laws.proofs.Members.{each-mem, mem-each}
 use Rattle.list_laws.proofs.Filters.{mem-filter, filter-none}
 use Rattle.tree_laws.proofs.Rising.{rising-filter, rise-from-rising, Apart, rising-apart}
 
-pub length-pairs : (ss : List Slot) → length (pairWords ss) ≡ 2 * length ss
-unfolding pairWords
+pub length-pairs : (ss : List Slot) → length (slotWords ss) ≡ 2 * length ss
 length-pairs [] = refl
 length-pairs (s ∷ ss) = omega (arith, length-pairs ss)
 
@@ -84,7 +83,7 @@ unfolding listed
 no-pairs n = rw (take-nil {A = Slot} (n / 2)) refl
 
 no-words : (out : Words) → listedWords [] out ≡ out
-unfolding listedWords pairWords
+unfolding listedWords
 no-words out = rw (take-nil {A = Slot} (length out / 2)) refl
 
 pub list-law : (m : List Slot) (low high : ℕ) (out : Words) → rising 0 m ≡ true → Listing m low high out (listed (inRangeOf low high m) (length out)) (listedWords (inRangeOf low high m) out)

@@ -11,7 +11,7 @@ use Rattle.model.specs.Reached.{mapOf}
 use Rattle.model.specs.SoundTest.{sound}
 use Rattle.model.specs.Shifts.{keyWord, pointerWord}
 use Rattle.model.specs.Writes.{insertion, deletion, repair, storesOf}
-use Rattle.model.specs.Sentinels.{sentinels, wordsOf, storedTo, searchWith, workNumber, refusalWith, sentinelsWith}
+use Rattle.model.specs.Sentinels.{sentinels, wordsOf, storesToNode, searchWith, workNumber, refusalWith, sentinelsWith}
 use Rattle.model.proofs.Everything.{everything}
 use Rattle.trials.proofs.Calls.{cutAfter}
 use Rattle.trials.proofs.Collections.{after, fill, start, twelfth, halfSplit, nearly}
@@ -49,8 +49,8 @@ pub record SentinelWords : Type 0 where
   -- Ignored slots count: in the midst of a split A still shows them.
   pub ignored : (sound linked ≡ true) × (length (mapOf 2 linked) ≡ 11) × (wordsOf (sentinels linked) 2 ≡ 1 ∷ 5 ∷ 9 ∷ []) × (wordsOf (sentinels linked) 4 ≡ 6 ∷ 10 ∷ MARK ∷ [])
   -- An inner node has 0, and so has a leaf that a deletion freed; both were stored to.
-  pub inner : (storedTo (storesOf twelfth start) 3 ≡ true) × (wordsOf (sentinelsWith twelfth (sentinels start) 2560 0 start) 3 ≡ 0 ∷ 0 ∷ 0 ∷ [])
-  pub freed : (storedTo (storesOf (deletion 2 12) nearly) 4 ≡ true) × (sentinelsWith (deletion 2 12) (sentinels nearly) 2560 0 nearly ≡ (5 ∷ MARK ∷ MARK ∷ 1 ∷ 5 ∷ MARK ∷ []) ++ replicate 12 0)
+  pub inner : (storesToNode (storesOf twelfth start) 3 ≡ true) × (wordsOf (sentinelsWith twelfth (sentinels start) 2560 0 start) 3 ≡ 0 ∷ 0 ∷ 0 ∷ [])
+  pub freed : (storesToNode (storesOf (deletion 2 12) nearly) 4 ≡ true) × (sentinelsWith (deletion 2 12) (sentinels nearly) 2560 0 nearly ≡ (5 ∷ MARK ∷ MARK ∷ 1 ∷ 5 ∷ MARK ∷ []) ++ replicate 12 0)
   -- Kept true by accepted writes, a repair too; no words are set but of the nodes stored to.
   pub split-true : (sentinelsWith twelfth (sentinels start) 2560 0 start ≡ grown) × (sentinels (after twelfth start) ≡ grown)
   pub freed-true : sentinels (after (deletion 2 12) nearly) ≡ (5 ∷ MARK ∷ MARK ∷ 1 ∷ 5 ∷ MARK ∷ []) ++ replicate 12 0

@@ -12,7 +12,7 @@ use Rattle.model.specs.Search.{filter}
 use Rattle.model.specs.SoundTest.{elem}
 use Rattle.model.specs.Orders.{Order, allInside}
 use Rattle.model.specs.Writes.{numbers}
-use Rattle.model.specs.Wear.{storedTo, Extent, extent, joined, joinAll, extentsOf, covered, Apart}
+use Rattle.model.specs.Wear.{storedTo, Extent, extent, joined, joinAll, extentsOf, covered, Separate}
 use Rattle.list_laws.proofs.Tools.{same-or-not, compared, same-test, or-right}
 use Rattle.list_laws.proofs.Filters.{filter-yes, filter-no, mem-filter}
 use Rattle.list_laws.proofs.Members.{elem-iff, each-elem}
@@ -119,32 +119,32 @@ from-earlier : (w : ℕ) (es : List Extent) → From (suc w) es → From w es
 from-earlier w [] h = tt
 from-earlier w (e ∷ es) h = omega arith
 
-longer-apart : (w : ℕ) (e : Extent) (es : List Extent) → e .offset ≡ suc w → Apart (e ∷ es) → Apart (extent w (suc (e .size)) ∷ es)
+longer-apart : (w : ℕ) (e : Extent) (es : List Extent) → e .offset ≡ suc w → Separate (e ∷ es) → Separate (extent w (suc (e .size)) ∷ es)
 longer-apart w e [] h a = omega arith
 longer-apart w e (f ∷ es) h a = let l = a .1 in (omega arith, omega arith, a .2)
 
-joined-rises : (w : ℕ) (es : List Extent) → From (suc w) es → Apart es → From w (joined w es) × Apart (joined w es)
+joined-rises : (w : ℕ) (es : List Extent) → From (suc w) es → Separate es → From w (joined w es) × Separate (joined w es)
 joined-rises w [] h a = (omega arith, omega arith)
 joined-rises w (e ∷ es) h a = ⊎-elim touching apart (same-or-not (e .offset) (suc w))
   where
-    touching : e .offset ≡ suc w → From w (joined w (e ∷ es)) × Apart (joined w (e ∷ es))
+    touching : e .offset ≡ suc w → From w (joined w (e ∷ es)) × Separate (joined w (e ∷ es))
     touching t = rw (joined-touching w e es t) (omega arith, longer-apart w e es t a)
 
-    apart : e .offset ≢ suc w → From w (joined w (e ∷ es)) × Apart (joined w (e ∷ es))
+    apart : e .offset ≢ suc w → From w (joined w (e ∷ es)) × Separate (joined w (e ∷ es))
     apart t = rw (joined-apart w e es t) (omega arith, (omega arith, omega arith, a))
 
-extents-rise : (f : ℕ → Bool) (from count : ℕ) → From from (extentsIn f from count) × Apart (extentsIn f from count)
+extents-rise : (f : ℕ → Bool) (from count : ℕ) → From from (extentsIn f from count) × Separate (extentsIn f from count)
 unfolding filter numbers joinAll
 extents-rise f from zero = (tt, tt)
 extents-rise f from (suc c) = go (f from) refl (extents-rise f (suc from) c)
   where
-    go : (b : Bool) → f from ≡ b → From (suc from) (extentsIn f (suc from) c) × Apart (extentsIn f (suc from) c)
-        → From from (extentsIn f from (suc c)) × Apart (extentsIn f from (suc c))
+    go : (b : Bool) → f from ≡ b → From (suc from) (extentsIn f (suc from) c) × Separate (extentsIn f (suc from) c)
+        → From from (extentsIn f from (suc c)) × Separate (extentsIn f from (suc c))
     go true e ih = rw (extents-yes f from c e) (joined-rises from (extentsIn f (suc from) c) (ih .0) (ih .1))
     go false e ih = rw (extents-no f from c e) (from-earlier from (extentsIn f (suc from) c) (ih .0), ih .1)
 
 -- The extents rise and do not touch.
-pub extents-apart : (n : ℕ) (os : List Order) → Apart (extentsOf n os)
+pub extents-apart : (n : ℕ) (os : List Order) → Separate (extentsOf n os)
 unfolding extentsOf
 extents-apart n os = extents-rise (λ (w : ℕ). elem w (storedTo os)) 0 n .1
 

@@ -60,7 +60,7 @@ figured n os h i =
       first = first-has ns (omega (arith, wear-length (8 * n) os));
       before = λ l b. omega (arith, largest-top ns l, first-before (largest ns) ns l b);
       cover = extents-cover (8 * n) os i;
-      apart = extents-apart (8 * n) os;
+      separate = extents-apart (8 * n) os;
       none = λ e. let u = none-largest n os i e in (u .0, u .1, none-extents (8 * n) os e);
     }
 

@@ -7,7 +7,7 @@ use native.Mathlib.Omega.{arith}
 use lib.Dec.{eqb}
 use lib.ListN.{length, set}
 use Rattle.model.specs.Table.{Words, at, hasNode, nodeStart, node, spare, allZero}
-use Rattle.model.specs.Slots.{inUse, slotsOf, shown, hidden, clearIn, used, nodeView}
+use Rattle.model.specs.Slots.{inUse, slotsOf, shown, hiddenSlots, clearIn, used, nodeView}
 use Rattle.model.specs.Orders.{put}
 use Rattle.view_laws.proofs.NodeViews.{ButAt, joining}
 use Rattle.table_laws.proofs.Nodes.{has-node-iff}
@@ -46,7 +46,7 @@ module _ (t : Words) (a b : ℕ) (h : hasNode t a ≡ true) where
       level = level-same (nodeStart a + 1) 1 t t′ outside a (omega arith) i;
       fence = fence-same (nodeStart a + 1) 1 t t′ outside a (omega arith) i;
       shown = shown (lefts i) (inUse (slotsOf (slots i)));
-      hidden = length (hidden (lefts i) (inUse (slotsOf (slots i))));
+      hidden = length (hiddenSlots (lefts i) (inUse (slotsOf (slots i))));
       clear = allZero (spares i) && eqb (at (slots i) 23) 0;
     };
   }

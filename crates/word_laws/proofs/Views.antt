@@ -7,7 +7,7 @@ use native.Mathlib.Omega.{arith}
 use lib.Dec.{eqb}
 use lib.ListN.{length}
 use Rattle.model.specs.Table.{Words, hasNode, nodeStart, node, spare, allZero}
-use Rattle.model.specs.Slots.{Slot, inUse, shown, hidden, clearIn, used, NodeView, nodeView}
+use Rattle.model.specs.Slots.{Slot, inUse, shown, hiddenSlots, clearIn, used, NodeView, nodeView}
 use Rattle.view_laws.proofs.NodeViews.{ButAt}
 use Rattle.table_laws.proofs.Nodes.{has-node-iff}
 use Rattle.slot_laws.proofs.SlotStores.{pointerAt}
@@ -26,7 +26,7 @@ holding t x ss =
       level = n .level;
       fence = n .fence;
       shown = shown (n .left) (inUse ss);
-      hidden = length (hidden (n .left) (inUse ss));
+      hidden = length (hiddenSlots (n .left) (inUse ss));
       clear = allZero (spare t x) && eqb (pointerAt ss 11) 0;
     }
 
@@ -59,7 +59,7 @@ module _ (t t′ : Words) (x : ℕ) (ss : List Slot) (h : hasNode t x ≡ true) 
       level = level-same slotWords 24 t t′ (o .outside) x (omega arith) i;
       fence = fence-same slotWords 24 t t′ (o .outside) x (omega arith) i;
       shown = shown (lefts i) (useds i);
-      hidden = length (hidden (lefts i) (useds i));
+      hidden = length (hiddenSlots (lefts i) (useds i));
       clear = clears i;
     };
   }

@@ -6,7 +6,8 @@ use native.Mathlib.Omega.{arith}
 use lib.ListN.{length, take, drop}
 use lib.Seq.{length-take-le}
 use borrow.Author.Tests.{eq-eqb, ne-eqb, not-true, not-false}
-use Rattle.model.specs.Codes.{every, isCode}
+use Rattle.model.specs.Codes.{isCode}
+use Rattle.model.specs.Lists.{all}
 use mathlib.Core.List.{List}
 use Rattle.isrc.specs.Kinds.{test}
 use Rattle.isrc.specs.declared.Kind.the-variants.{Letter, LetterOrDigit, Digit}
@@ -16,8 +17,8 @@ use Rattle.isrc.proofs.is_code.Statement.{statement}
 use Rattle.isrc.proofs.is_code.Tie as tie
 
 -- a text of 12 characters, with what the tests of its parts gave
-parts : (text : List ℕ) (a b d : Bool) → length text ≡ 12 → every (test Letter) (take 2 text) ≡ a
-    → every (test LetterOrDigit) (take 3 (drop 2 text)) ≡ b → every (test Digit) (drop 5 text) ≡ d → (a && b && d) ≡ isCode text
+parts : (text : List ℕ) (a b d : Bool) → length text ≡ 12 → all (test Letter) (take 2 text) ≡ a
+    → all (test LetterOrDigit) (take 3 (drop 2 text)) ≡ b → all (test Digit) (drop 5 text) ≡ d → (a && b && d) ≡ isCode text
 unfolding isCode test
 parts text a b d l e f g = rw (← e, ← f, ← g, eq-eqb (length text) 12 l)
 
@@ -48,7 +49,7 @@ returns-4 c =
     parts _ _ _ _ (a .before .before .before .if1 .left)
     (sym (a .before .all-of .ensures) ∙ not-false _ (a .if2 .left))
     (sym (b .before .all-of2 .ensures) ∙ not-false _ (b .if3 .left))
-    (sym (c .all-of3 .ensures ∙ ap (every (test Digit)) (rest 5 text)))
+    (sym (c .all-of3 .ensures ∙ ap (all (test Digit)) (rest 5 text)))
 
 pub is-code-spec : {M : Type 1} → statement M
 is-code-spec =
