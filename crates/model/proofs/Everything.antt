@@ -69,8 +69,8 @@ unfolding Lists.all
     Sentinels.workedOut Sentinels.lineFor Sentinels.leafSought Sentinels.searchWith Sentinels.refusalWith Sentinels.writtenWith Sentinels.tableWith
     Sentinels.ordersWith Sentinels.storesToNode Sentinels.setAnew Sentinels.sentinelsWith
     Judge.sameSlots Judge.sameMaps Judge.goodImage Judge.completes Judge.judgedFrom Judge.judged Judge.judgeNumber Judge.judge Judge.judgeOut
-    Looks.seenOn Looks.seenPass Looks.seenWithin Looks.stood Looks.stoodOn Looks.seenKept Looks.nextLooks Looks.answerLooks Looks.searchLooks
-   
+    Looks.seenOn Looks.seenPass Looks.seenWithin Looks.stood Looks.stoodOn Looks.seenKept Looks.nextLooks Looks.answerLooks Looks.searchLooks Looks.nextSeen
+    Looks.answerSeen Looks.searchSeen
     Scripts.callOf Scripts.isScript Scripts.actionBefore Scripts.firstDiffers Scripts.before Scripts.rankOn Scripts.unrank Scripts.scriptWords
     Scripts.scriptAnswer Scripts.scriptOut Scripts.formScript Scripts.scriptNumber Scripts.cutTables Scripts.agrees Scripts.badTables Scripts.along
     Scripts.overAll Scripts.metText

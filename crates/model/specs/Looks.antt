@@ -1,14 +1,17 @@
--- Document 02, request 10: a search whose looks fall between the orders of one call.
+-- Document 02, request 10: a search whose looks fall between the orders of one call. With one table throughout it is the search of Search.antt:
+-- `looks-still` in crates/reader_laws/proofs/Still.antt.
 use mathlib.Core.Path.{_≡_}
 use mathlib.Core.Logic.{_⊎_}
-use mathlib.Core.Bool.{Bool, true, false, cond, _&&_, _||_}
-use mathlib.Core.List.{List}
-use Prim.Native.Nat.{ℕ, zero, suc, _≤_}
+use mathlib.Core.Bool.{Bool, true, false, cond, not, _&&_, _||_}
+use mathlib.Core.List.{List, [], _∷_, _++_, List·Memᴰ}
+use mathlib.Core.Option.{Option, none, some}
+use Prim.Native.Nat.{ℕ, zero, suc, _≤_, _<_}
 use lib.Dec.{leb, ltb, eqb}
-use lib.ListN.{take}
+use lib.ListN.{length, take}
 use Rattle.model.specs.declared.Answer.{Answer}
 use Rattle.model.specs.declared.Answer.the-variants.{Found, Absent, Refused}
-use Rattle.model.specs.declared.Next.the-variants.{Nothing}
+use Rattle.model.specs.declared.Next.{Next}
+use Rattle.model.specs.declared.Next.the-variants.{Key, Nothing}
 use Rattle.model.specs.Table.{Words, at, nodes, rootWord, inRange, headerOk, noCollection}
 use Rattle.model.specs.Slots.{Slot, NodeView, nodeView}
 use Rattle.model.specs.Search.{filter, route, firstWith, firstAbove, absentOr, answerOf, search}
@@ -86,6 +89,74 @@ searchLooks n when k =
       ]
       | false ↦ Refused 2
     ]
+
+-- ---- which looks a search makes, in turn
+
+-- look i is at node n
+pub record Seen : Type 0 where
+  pub look : ℕ
+  pub node : ℕ
+
+abbrev pub seen : (i n : ℕ) → Seen
+seen i n = record { look = i; node = n }
+
+abbrev pub noneAbove : Next → Bool
+noneAbove (Key j) = false
+noneAbove Nothing = true
+
+abbrev pub noSlot : Option Slot → Bool
+noSlot none = true
+noSlot (some s) = false
+
+-- the look at a sibling, where there is one
+abbrev pub siblingSeen : (i s : ℕ) → List Seen
+siblingSeen i s = elim (eqb s 0) [ true ↦ [] | false ↦ seen i s ∷ [] ]
+
+module _ (look : (i n : ℕ) → NodeView) (N k : ℕ) where
+  -- after look i at leaf n: along the siblings, until a leaf fails, has a larger key or is the last
+  unfoldable pub nextSeen : (c i n : ℕ) → List Seen
+  nextSeen zero i n = []
+  nextSeen (suc c) i n =
+      let x = look i n in
+      let s = x .sibling in
+      let y = look (suc i) s in
+      let on = seenPass N 0 n x y && (noneAbove (firstAbove k (seenKept x y)) && not (eqb s 0)) in
+      siblingSeen (suc i) s ++ elim on [ true ↦ nextSeen c (suc i) s | false ↦ [] ]
+
+  -- a node and its sibling, a level a turn; if the key is absent, the leaf once more and its siblings
+  unfoldable pub answerSeen : (i l n : ℕ) → List Seen
+  answerSeen i zero n =
+      let x = look i n in
+      let y = look (suc i) (x .sibling) in
+      let m = stoodOn n x y k in
+      let absent = seenPass N 0 n x y && noSlot (firstWith k (stood x y k .shown)) in
+      (seen i n ∷ siblingSeen (suc i) (x .sibling))
+      ++ elim absent [ true ↦ seen (suc (suc i)) m ∷ nextSeen N (suc (suc i)) m | false ↦ [] ]
+  answerSeen i (suc l) n =
+      let x = look i n in
+      let y = look (suc i) (x .sibling) in
+      let z = stood x y k in
+      (seen i n ∷ siblingSeen (suc i) (x .sibling))
+      ++ elim (seenPass N (suc l) n x y) [ true ↦ answerSeen (suc (suc i)) l (route k (z .left) (z .shown)) | false ↦ [] ]
+
+-- after the header, look 0; a root above level 15 is looked at once
+unfoldable pub searchSeen : (n : ℕ) → (when : ℕ → Words) → (k : ℕ) → List Seen
+searchSeen n when k =
+    let t = when 0 in
+    let look : ℕ → ℕ → NodeView = λ (i m : ℕ). nodeView (when i) m in
+    let r = at t (rootWord n) in
+    let l = look 1 r .level in
+    elim (headerOk t && not (noCollection n t)) [
+      | true ↦ elim (leb l 15) [ true ↦ answerSeen look (nodes t) k 1 l r | false ↦ seen 1 r ∷ [] ]
+      | false ↦ []
+    ]
+
+-- What a search answers goes by these looks alone: by the header as look 0 sees it, and by each node as the look that is at it sees it.
+abbrev pub LooksDecide : Type 0
+LooksDecide =
+    (n k : ℕ) (when when′ : ℕ → Words) → length (when′ 0) ≡ length (when 0) → ((w : ℕ) → w < 8 → at (when′ 0) w ≡ at (when 0) w)
+    → ((i m : ℕ) → List·Memᴰ (seen i m) (searchSeen n when k) → nodeView (when′ i) m ≡ nodeView (when i) m)
+    → searchLooks n when′ k ≡ searchLooks n when k
 
 -- ---- during one call
 

@@ -232,11 +232,11 @@ module _ (t u : Words) (long : length u ≡ length t) (header : (w : ℕ) → w 
       other true e = spare-in u m (has-node-same t u m long ∙ e) ∙ part-same t u long (w + 4) 4 (λ x a b. h x (omega arith, omega arith)) ∙ sym (spare-in t m e)
       other false e = rw (has-node-same t u m long ∙ e, e, spare)
 
-  head-same : headerOk u ≡ headerOk t
+  pub head-same : headerOk u ≡ headerOk t
   unfolding headerOk
   head-same = rw (long, header 0 (omega arith), header 1 (omega arith), header 2 (omega arith), header 3 (omega arith), part-same t u long 4 4 (λ w a b. header w (omega arith)))
 
-  lack-same : (n : ℕ) → noCollection n u ≡ noCollection n t
+  pub lack-same : (n : ℕ) → noCollection n u ≡ noCollection n t
   unfolding noCollection
   lack-same n = rw (header 3 (omega arith))
 

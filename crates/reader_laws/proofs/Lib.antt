@@ -23,3 +23,5 @@ pub mod Returns
 pub mod Returned
 pub mod Copies
 pub mod Snapshots
+-- What a search by looks answers goes by its looks alone.
+pub mod Decide
