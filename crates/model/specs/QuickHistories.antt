@@ -17,7 +17,7 @@ use Rattle.model.specs.Orders.{Order, decode, carriedOut}
 use Rattle.model.specs.Cuts.{CutImage}
 use Rattle.model.specs.Refusals.{unlessRefused, written, ordersAnswered, tableAfter, listAfter}
 use Rattle.model.specs.Ledger.{Ledger}
-use Rattle.model.specs.Demand3.{Fate, whole, cut, Event, History, State, both, numberOf, step, runFrom, FateMay, MayFrom, KeptFrom}
+use Rattle.model.specs.Demand3.{Fate, whole, cut, Event, History, State, both, numberOf, step, runFrom, FateMay, MayFrom, StandsFrom}
 use Rattle.model.specs.Batch.{batch}
 use Rattle.model.specs.Summary.{summaryWords, openNumber, openedWords, quickNumber, quickWritten, quickTable, quickList, quickSummary}
 use Rattle.model.specs.Summary.{quickListed, quickListOut}
@@ -154,7 +154,7 @@ pub record KeptActs (choose : History → Bool) (N : ℕ) (s : State) (ps : Ledg
   -- memory and working copy are those of the plain calls; these may happen, and demand 3 holds of them
   pub state : runActs s h .state ≡ runFrom s (plain h)
   pub may : MayFrom s (plain h)
-  pub kept : KeptFrom choose N s ps (plain h)
+  pub kept : StandsFrom choose N s ps (plain h)
   -- what comes next may take the summary too
   pub next : (ws : Words) → runActs s h .summary ≡ some ws → SameFrom ws (runActs s h .state .working)
 

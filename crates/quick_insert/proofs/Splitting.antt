@@ -2,7 +2,7 @@
 use mathlib.Core.Path.{_≡_, refl, ap, sym, _∙_, subst}
 use mathlib.Core.Bool.{Bool, true, false, cond, _&&_, and-false}
 use mathlib.Core.List.{List, [], _∷_, _++_, append-assoc, append-nil}
-use Prim.Native.Nat.{ℕ, zero, suc, _+_, _*_, _≤_, _<_}
+use Prim.Native.Nat.{ℕ, suc, _+_, _*_, _≤_, _<_}
 use native.Mathlib.Omega.{arith}
 use lib.Dec.{eqb, leb, ltb}
 use lib.ListN.{length, getD, take, drop, length-take, drop-of-length-le}
@@ -13,7 +13,7 @@ use Rattle.model.specs.Table.{Words, inRange, hasNode, node, at}
 use Rattle.model.specs.Slots.{Slot, slot, nodeView, full}
 use Rattle.model.specs.Orders.{Store, apply}
 use Rattle.model.specs.Writes.{middle, split}
-use Rattle.list_laws.proofs.Tools.{and-iff, leb-iff}
+use Rattle.list_laws.proofs.Tools.{and-iff}
 use Rattle.tree_laws.proofs.Rows.{range-iff}
 use Rattle.table_laws.proofs.Nodes.{has-node-iff}
 use Rattle.orders.specs.declared.Pen.{Pen}

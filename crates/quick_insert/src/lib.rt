@@ -83,7 +83,8 @@ pub fn split_run(
     requires { ⌜ nodes ≤ 65535 ⌝ }
     requires { ⌜ nodes < 64 * length (now marks) ⌝ }
     requires { ⌜ end ≤ 16 ⌝ }
-    requires { ⌜ Room (splitWay nodes key (drop first (take end path)) (going [] (now table) (now marks) (from .under)) .stores) (desk (now table) (now list) (from .pen)) ⌝ }
+    requires { ⌜ Room (splitWay nodes key (drop first (take end path)) (going [] (now table) (now marks) (from .under)) .stores)
+        (desk (now table) (now list) (from .pen)) ⌝ }
     ensures { λ r. ⌜ desk (now (table .exit)) (now (list .exit)) (r .pen)
         ≡ storedAll (splitWay nodes key (drop first (take end path)) (going [] (now (table .entry)) (now (marks .entry)) (from .under)) .stores)
             (desk (now (table .entry)) (now (list .entry)) (from .pen)) ⌝ }

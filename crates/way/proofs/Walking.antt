@@ -1,18 +1,18 @@
 -- The way of a quick call, by the tests in the order of the code.
 use mathlib.Core.Path.{_≡_, refl, ap, sym, _∙_, subst}
-use mathlib.Core.Bool.{Bool, true, false, cond, _&&_, and-false, and-assoc, false≢true}
+use mathlib.Core.Bool.{Bool, true, false, cond, _&&_, and-false, false≢true}
 use mathlib.Core.List.{List, [], _∷_, _++_, append-assoc}
-use mathlib.Core.Option.{Option, none, some}
-use Prim.Native.Nat.{ℕ, zero, suc, _+_, _-_, _*_, _≤_, _<_}
+use mathlib.Core.Option.{none, some}
+use Prim.Native.Nat.{ℕ, zero, suc, _+_, _-_, _≤_, _<_}
 use native.Mathlib.Numerals.{add-one}
 use native.Mathlib.Omega.{arith}
 use lib.Dec.{eqb, leb}
 use lib.ListN.{length, getD, take, set, replicate, length-set}
 use lib.Seq.{take-suc-set, getD-take}
-use borrow.Author.Tests.{eqb-true, eq-eqb, ne-eqb, le-leb, lt-leb, leb-true, leb-false}
+use borrow.Author.Tests.{eq-eqb, ne-eqb, le-leb, lt-leb, leb-true, leb-false}
 use Rattle.model.specs.declared.Node.{Node}
 use Rattle.model.specs.Table.{Words, inRange, headerOk, hasNode, node, nodes}
-use Rattle.model.specs.Slots.{View, nodeView, viewFrom, viewOf, view, height, used, shown, hidden, full}
+use Rattle.model.specs.Slots.{View, nodeView, viewFrom, viewOf, view, height, used, shown, full}
 use Rattle.model.specs.Search.{below, moved, down, onLevel, passes, locate, pathFrom, path, firstWith}
 use Rattle.model.specs.SoundTest.{all}
 use Rattle.model.specs.Writes.{runIn, run, standingIn, standing}

@@ -1,8 +1,5 @@
 -- `way::find` meets its contract. The loop keeps that the nodes so far and the way from node n on are the path (`Walking`).
-use mathlib.Core.Path.{ap, sym, _∙_, subst}
 use native.Mathlib.Omega.{arith}
-use Rattle.model.specs.Slots.{viewFrom}
-use Rattle.way.specs.Ways.{Walked}
 use Rattle.way.proofs.Walking.{Walking, lost-high, walking-start, lost-step, walking-next, walked-end}
 use borrow.Author.Needs.{needs}
 use Rattle.way.proofs.find.Statement.{statement}

@@ -1,5 +1,4 @@
 -- `way::run_after` meets its contract.
-use mathlib.Core.Path.{_≡_}
 use borrow.Author.Tests.{eq-eqb, ne-eqb}
 use borrow.Author.Needs.{needs}
 use Rattle.way.proofs.run_after.Statement.{statement}
