@@ -139,11 +139,11 @@ way-pre N k (a ∷ rest) xs ys t ms u =
     let b = freeAfter N ms a in
     let ss = split t a b u in
     go (canSplit N t a b u) refl (ap (λ (zs : List Store). splitWay N k rest (going zs (apply ss t) (put ms b) (cond (ltb k (middle t a .key)) a b))) (append-assoc xs ys ss)
-        ∙ way-pre N k rest xs (ys ++ ss) (apply ss t) (put ms b) (cond (ltb k (middle t a .key)) a b))
+    ∙ way-pre N k rest xs (ys ++ ss) (apply ss t) (put ms b) (cond (ltb k (middle t a .key)) a b))
   where
     go : (c : Bool) → canSplit N t a (freeAfter N ms a) u ≡ c
         → splitWay N k rest (going ((xs ++ ys) ++ split t a (freeAfter N ms a) u) (apply (split t a (freeAfter N ms a) u) t) (put ms (freeAfter N ms a)) (cond (ltb k (middle t a .key)) a (freeAfter N ms a)))
-            ≡ pre xs (splitWay N k rest (going (ys ++ split t a (freeAfter N ms a) u) (apply (split t a (freeAfter N ms a) u) t) (put ms (freeAfter N ms a)) (cond (ltb k (middle t a .key)) a (freeAfter N ms a))))
+        ≡ pre xs (splitWay N k rest (going (ys ++ split t a (freeAfter N ms a) u) (apply (split t a (freeAfter N ms a) u) t) (put ms (freeAfter N ms a)) (cond (ltb k (middle t a .key)) a (freeAfter N ms a))))
         → splitWay N k (a ∷ rest) (going (xs ++ ys) t ms u) ≡ pre xs (splitWay N k (a ∷ rest) (going ys t ms u))
     go true e ih = rw (e, splitWay) ih
     go false e ih = rw (e, splitWay)

@@ -87,7 +87,7 @@ pub fn split_run(
         (desk (now table) (now list) (from .pen)) ⌝ }
     ensures { λ r. ⌜ desk (now (table .exit)) (now (list .exit)) (r .pen)
         ≡ storedAll (splitWay nodes key (drop first (take end path)) (going [] (now (table .entry)) (now (marks .entry)) (from .under)) .stores)
-            (desk (now (table .entry)) (now (list .entry)) (from .pen)) ⌝ }
+        (desk (now (table .entry)) (now (list .entry)) (from .pen)) ⌝ }
     ensures { λ r. ⌜ now (marks .exit)
         ≡ splitWay nodes key (drop first (take end path)) (going [] (now (table .entry)) (now (marks .entry)) (from .under)) .marks ⌝ }
     ensures { λ r. ⌜ r .under ≡ splitWay nodes key (drop first (take end path)) (going [] (now (table .entry)) (now (marks .entry)) (from .under)) .under ⌝ }

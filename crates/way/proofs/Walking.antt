@@ -213,7 +213,11 @@ module _ (ms t : Words) (root k top : ℕ) (e : top ≡ wordOf t root 2) where
       let v = viewFrom t root in
       let w = le-leb (height v) 15 (omega (arith, high)) in
       record {
-        low = h; sum = omega arith; short = omega arith; long = refl; top-is = high;
+        low = h;
+        sum = omega arith;
+        short = omega arith;
+        long = refl;
+        top-is = high;
         tests = rw (w, high);
         stands = ap (λ (l : ℕ). pathFrom v l root k) high;
         run-on = ap (λ (l : ℕ). runFrom (fullAt v) 0 (pathFrom v l root k)) high ∙ run-end (fullAt v) (path v k) ∙ sym (run-in v (path v k));

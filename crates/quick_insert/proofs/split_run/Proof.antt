@@ -117,7 +117,7 @@ loop-again c =
       search needs,
       l .loop .inv .3,
       left-next _ _ _ _ _ _ _ _ _ _ _ _ (left (full f .before)) _ (f .free-after .ensures) (splittable y) _ _ _ (s .split .ensures) _ (c .before .before .before .put .ensures) _
-      (c .half .ensures ∙ ap (λ (x : ℕ). cond (ltb (entry l .args .key) x) (node-at l) (f .free-after .result)) (w .word .ensures ∙ middle-word _ _ _ _ u)),
+          (c .half .ensures ∙ ap (λ (x : ℕ). cond (ltb (entry l .args .key) x) (node-at l) (f .free-after .result)) (w .word .ensures ∙ middle-word _ _ _ _ u)),
     )
 
 returns-3 : tie.Need-returns-3 Inv-loop μ-loop
