@@ -17,10 +17,10 @@ int change_read(struct change *c, enum kind kind, char **words, int count)
     if (status != 0)
         return status;
     if (kind == ADD && !read_number(words[1], strlen(words[1]), &c->recording))
-        return fail(BAD_USAGE, "%.40s: " RECORDINGS, words[1]);
+        return fail(CATALOGUE_BAD_RECORDING, "%.40s: " RECORDINGS, words[1]);
     const char *class = kind == CLASS ? words[1] : kind == ADD && count > 2 ? words[2] : NULL;
     if (class && !read_class(class, strlen(class), &c->access))
-        return fail(BAD_USAGE, "%.40s: " CLASSES, class);
+        return fail(CATALOGUE_BAD_CLASS, "%.40s: " CLASSES, class);
     return 0;
 }
 

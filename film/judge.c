@@ -99,41 +99,41 @@ static void say_code(const struct judging *j, uint64_t key, uint64_t pointer, bo
         fprintf(j->out, "%s with %s", key_text(key, code), pointer_text(CATALOGUE_RECORDING(pointer), CATALOGUE_CLASS(pointer), text));
 }
 
-/* The codes of a collection in these words that the image answers otherwise than it may; the first is told. */
-static uint64_t compare(struct judging *j, const uint64_t *words, uint64_t collection, uint64_t told)
+/* The codes of a collection in these words that the image answers otherwise than it may; the first is wrong. */
+static uint64_t compare(struct judging *j, const uint64_t *words, uint64_t collection, uint64_t wrong)
 {
     uint64_t count = 0, more;
     if (catalogue_list(words, j->table->words, collection, 0, UINT64_MAX, j->pairs, j->room, &count, &more) != 0)
-        return told;
+        return wrong;
     for (uint64_t i = 0; i < count; i++) {
         bool lost;
         uint64_t key = j->pairs[2 * i], pointer = look(j, j->image, collection, key, &lost);
-        if ((lost || !fair(j, collection, key, pointer)) && told++ == 0)
+        if ((lost || !fair(j, collection, key, pointer)) && wrong++ == 0)
             say_code(j, key, pointer, lost);
     }
-    return told;
+    return wrong;
 }
 
-/* Tells what is wrong with the image; false where nothing is. */
+/* Prints what is wrong with the image; false if nothing is. */
 static bool say_image(struct judging *j)
 {
-    uint64_t told = 0, count, more, number = 0;
+    uint64_t wrong = 0, count, more, number = 0;
     for (uint64_t n = 1; n <= MOST_COLLECTIONS; n++)
-        told = compare(j, j->table->base, n, told);
+        wrong = compare(j, j->table->base, n, wrong);
     /* Codes that came in besides. */
-    for (uint64_t n = 1; n <= MOST_COLLECTIONS && told == 0; n++)
-        told = compare(j, j->image, n, told);
-    if (told > 1)
-        fprintf(j->out, ", and %" PRIu64 " code%s more not as before", told - 1, told == 2 ? "" : "s");
-    if (told > 0)
+    for (uint64_t n = 1; n <= MOST_COLLECTIONS && wrong == 0; n++)
+        wrong = compare(j, j->image, n, wrong);
+    if (wrong > 1)
+        fprintf(j->out, ", and %" PRIu64 " code%s more not as before", wrong - 1, wrong == 2 ? "" : "s");
+    if (wrong > 0)
         fprintf(j->out, "\n");
     number = catalogue_list(j->image, j->table->words, 1, 0, 0, j->pairs, 0, &count, &more);
     if (number != 0)
         fprintf(j->out, "a cut there may leave a table that is not sound: every change of it is refused with %" PRIu64 "\n", number);
     bool collections = (j->image[SECOND_ROOT] == 0) != (j->table->base[SECOND_ROOT] == 0);
-    if (collections && number == 0 && told == 0)
+    if (collections && number == 0 && wrong == 0)
         fprintf(j->out, "a cut there may leave another number of collections\n");
-    return told > 0 || number != 0 || collections;
+    return wrong > 0 || number != 0 || collections;
 }
 
 /* ---- the answer */
@@ -248,14 +248,15 @@ int judge_orders(const struct table *t, const struct change *c, const uint64_t *
     return status;
 }
 
-int judge_list(const struct table *t, const char *name, const struct change *c)
+int judge_list(const struct table *t, const char *name, const struct change *c, FILE *out, size_t *total)
 {
     struct order_list l;
     int status = order_list_read(&l, name);
     if (status == 0 && l.changes > 1)
         status = fail(BAD_LINE, "%s has the lists of %zu changes; one is judged at a time", name, l.changes);
+    *total = l.count;
     if (status == 0)
-        status = judge_orders(t, c, l.words, l.count, stdout);
+        status = judge_orders(t, c, l.words, l.count, out);
     order_list_free(&l);
     return status;
 }

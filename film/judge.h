@@ -10,10 +10,11 @@
 #include "table.h"
 
 /*
- * Says whether the list of that file, or of standard input for -, makes the addition or removal so that a cut may come after any of its orders:
- * yes, or no with the first order that fails, its place, and what a cut there leaves. 0, 254 for no, or an exit status after saying why.
+ * Prints whether the list of that file, or of standard input for -, makes the addition or removal so that a cut may come after any of its
+ * orders: yes, or no with the first order that fails, its place, and what a cut there leaves. 0, 254 for no, or an exit status after saying
+ * why. The number of orders is put into total.
  */
-int judge_list(const struct table *t, const char *name, const struct change *c);
+int judge_list(const struct table *t, const char *name, const struct change *c, FILE *out, size_t *total);
 
 /* The same of orders in memory. */
 int judge_orders(const struct table *t, const struct change *c, const uint64_t *orders, size_t total, FILE *out);

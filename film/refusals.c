@@ -4,22 +4,24 @@
 #include <inttypes.h>
 #include <signal.h>
 #include <stdio.h>
+#include <stdlib.h>
 #include <string.h>
 
 #include "text.h"
+#include "tree.h"
 
 const struct refusal refusals[] = {
-    {CATALOGUE_NO_CODE, "no code", NULL},
+    {CATALOGUE_NO_CODE, "not a code, or a code to find absent", NULL},
     {CATALOGUE_NO_TABLE, "no table", "{table} is not a table: its header or its length is wrong"},
     {CATALOGUE_SEARCH_LOST, "damaged on a search's way",
      "{table} is damaged on the way to {code}, or to the next code up: a node number, a level or a sibling is wrong"},
     {CATALOGUE_NOT_SOUND, "not sound",
-     "{table} is not sound: a failing disk, another program, or a power cut during --fast or on a disk that loses what it reported as "
-     "written has damaged it; find still answers if its way is whole, and catalogue salvage {table} NEW keeps what can be read"},
+     "{table} is not sound: some of its words are damaged; find still answers if it can, and catalogue salvage {table} NEW keeps what can be "
+     "read"},
     {CATALOGUE_SHORT_LIST, "order list too short", "the order list is too short"},
     {CATALOGUE_BAD_RECORDING, "recording 0 or too large", "{recording}: " RECORDINGS},
     {CATALOGUE_KEY_PRESENT, "code there already", "{code} is in {part}{table} already"},
-    {CATALOGUE_RECORDING_PRESENT, "recording there already", "recording {recording} is in {part}{table} under another code"},
+    {CATALOGUE_RECORDING_PRESENT, "recording there already", "recording {recording} is in {part}{table} under {holder}"},
     {CATALOGUE_KEY_ABSENT, "code to change absent", "{code} is not in {part}{table}"},
     {CATALOGUE_NO_NODES, "no free nodes",
      "{table} is full: adding {code} takes more nodes than are free; catalogue copy {table} NEW NODES makes a larger table"},
@@ -44,7 +46,6 @@ const struct refusal refusals[] = {
     {BY_SIGNAL + SIGINT, "load ended by an interrupt", NULL},
     {BY_SIGNAL + SIGTERM, "load ended by a request to terminate", NULL},
     {CATALOGUE_NO, "judge: no", NULL},
-    {CATALOGUE_ABSENT, "code to find absent", NULL},
     {0, NULL, NULL},
 };
 
@@ -56,15 +57,32 @@ static const char *message_of(uint64_t number)
     return r->message;
 }
 
+/* The code that has a recording, if the table's words are there to look for it. */
+static const char *holder_text(const struct table *t, uint64_t recording, char text[KEY_TEXT])
+{
+    size_t room = t->base ? 2 * 11 * (t->words / NODE_WORDS) : 0;
+    uint64_t *pairs = calloc(room + 1, sizeof *pairs), count = 0, more;
+    strcpy(text, "another code");
+    if (room == 0 || !pairs || catalogue_list(t->base, t->words, t->collection, 0, UINT64_MAX, pairs, room, &count, &more) != 0)
+        count = 0;
+    for (uint64_t i = 0; i < count; i++)
+        if (CATALOGUE_RECORDING(pairs[2 * i + 1]) == recording)
+            key_text(pairs[2 * i], text);
+    free(pairs);
+    return text;
+}
+
 const char *explain(uint64_t number, const struct table *t, uint64_t key, uint64_t recording, char text[EXPLANATION])
 {
-    char code[KEY_TEXT], digits[KEY_TEXT], part[PART_TEXT], collection[KEY_TEXT];
+    char code[KEY_TEXT], digits[KEY_TEXT], part[PART_TEXT], collection[KEY_TEXT], holder[KEY_TEXT] = "";
+    if (number == CATALOGUE_RECORDING_PRESENT)
+        holder_text(t, recording, holder);
     snprintf(digits, sizeof digits, "%" PRIu64, recording);
     snprintf(collection, sizeof collection, "%" PRIu64, t->collection);
     const struct {
         const char *name, *value;
     } fields[] = {{"{table}", t->name}, {"{part}", table_part(t, part)}, {"{collection}", collection}, {"{code}", key_text(key, code)},
-                  {"{recording}", digits}};
+                  {"{recording}", digits}, {"{holder}", holder}};
     const char *from = message_of(number);
     if (!from)
         from = catalogue_file_strerror(number);

@@ -10,8 +10,8 @@ struct refusal {
     uint64_t number;
     const char *name;    /* as --help lists it */
     /*
-     * With {table}, {part} (what table_part says), {collection}, {code} and {recording} for what is refused; null if the place of the
-     * failure says it.
+     * With {table}, {part} (what table_part says), {collection}, {code} and {recording} for what is refused, and {holder} for the code
+     * that has the recording; null if the place of the failure says it.
      */
     const char *message;
 };

@@ -11,6 +11,7 @@ struct table {
     uint64_t collections; /* that it has */
     uint64_t dock;        /* that its order lists are for */
     size_t words;
+    uint64_t bytes;       /* of its file */
     const uint64_t *base; /* as they are */
     uint64_t *working;    /* a copy, which the library's calls change */
 };

@@ -36,6 +36,11 @@ bool read_number(const char *text, size_t length, uint64_t *number)
     return length > 0;
 }
 
+bool read_recording(const char *text, size_t length, uint64_t *recording)
+{
+    return read_number(text, length, recording) && *recording > 0 && *recording <= CATALOGUE_MOST_RECORDING;
+}
+
 const char *key_text(uint64_t key, char text[KEY_TEXT])
 {
     return catalogue_file_print(key, CATALOGUE_FILE_PLAIN, text);

@@ -8,7 +8,7 @@
 
 #include "catalogue_file.h"
 
-/* The program's exit statuses, beside the library's refusal numbers, 254 for a list that is judged no and 255 for an absent code. */
+/* The program's exit statuses, beside the library's refusal numbers and 254 for a list that is judged no. */
 enum {
     BAD_USAGE = 64,   /* the command line has another form */
     BAD_LINE = 65,    /* a line of a file to load, or of an order list, has another form */
@@ -27,6 +27,9 @@ int fail(int status, const char *format, ...) __attribute__((format(printf, 2, 3
 
 /* Decimal digits that fit a word. */
 bool read_number(const char *text, size_t length, uint64_t *number);
+
+/* A recording's number: digits, from 1 to the largest that there may be. */
+bool read_recording(const char *text, size_t length, uint64_t *recording);
 
 /* The key of a code that is a word of the command line. 0, or an exit status after saying why. */
 int read_code_word(const char *word, uint64_t *key);

@@ -13,32 +13,14 @@
 
 static int run(struct command_line *l)
 {
-    const struct command *c = command_named(l->words[0]);
-    if (!c)
-        return BAD_USAGE;
-    if (l->help) {
-        help(commands, c);
-        return 0;
-    }
-    if (c->takes & DOCKING && !(l->given & DOCKING))
-        l->opening.dock = CATALOGUE_FILE_DOCK;
-    bool fits = l->count >= c->least && l->count <= c->most && (l->given & ~c->takes) == 0;
-    int status = fits ? c->run(l) : WRONG_FORM;
-    if (status == WRONG_FORM)
-        status = fail(BAD_USAGE, "usage: catalogue %s %s (catalogue help %s tells more)", c->name, c->form, c->name);
-    return status;
-}
-
-static int run_or_tell(struct command_line *l)
-{
     if (l->version) {
         printf("catalogue %s\n", PROGRAM_VERSION);
         return 0;
     }
     if (l->count > 0)
-        return run(l);
+        return command_run(l);
     if (!l->help)
-        return fail(BAD_USAGE, "usage: catalogue COMMAND TABLE .. (catalogue --help tells more)");
+        return fail(BAD_USAGE, "usage: catalogue COMMAND TABLE .. (catalogue --help says more)");
     help(commands, NULL);
     return 0;
 }
@@ -83,7 +65,8 @@ int main(int count, char **words)
     if (status == 0)
         status = command_line_read(&l, count - 1, words + 1);
     if (status == 0)
-        status = run_or_tell(&l);
+        status = run(&l);
+    command_line_free(&l);
     if ((fflush(stdout) != 0 || ferror(stdout)) && status == 0)
         status = fail(BAD_FILE, "the answer cannot be printed");
     return status;

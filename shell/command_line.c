@@ -2,10 +2,14 @@
 #include "command_line.h"
 
 #include <stddef.h>
+#include <stdlib.h>
 #include <string.h>
 
 #include "catalogue.h"
+#include "guess.h"
 #include "text.h"
+
+#define MOST_STATUS 255
 
 static bool read_cut(struct command_line *l, const char *value)
 {
@@ -109,6 +113,50 @@ static bool read_list(struct command_line *l, const char *value)
     return value[0] != '\0';
 }
 
+static bool read_absent(struct command_line *l, const char *value)
+{
+    uint64_t status = 0;
+    bool fits = read_number(value, strlen(value), &status) && status <= MOST_STATUS;
+    l->absent = (int)status;
+    return fits;
+}
+
+static bool set_by_recording(struct command_line *l, const char *value)
+{
+    (void)value;
+    return l->by_recording = true;
+}
+
+static bool set_json(struct command_line *l, const char *value)
+{
+    (void)value;
+    return l->json = true;
+}
+
+static bool set_header(struct command_line *l, const char *value)
+{
+    (void)value;
+    return l->header = true;
+}
+
+static bool read_from(struct command_line *l, const char *value)
+{
+    l->from = value;
+    return value[0] != '\0';
+}
+
+static bool read_to(struct command_line *l, const char *value)
+{
+    l->to = value;
+    return value[0] != '\0';
+}
+
+static bool read_output(struct command_line *l, const char *value)
+{
+    l->output = value;
+    return value[0] != '\0';
+}
+
 static bool set_help(struct command_line *l, const char *value)
 {
     (void)value;
@@ -126,11 +174,23 @@ const struct option options[] = {
      "make room.cat 100 --loan", MAKING, set_loan},
     {"--collection", "N", "a number, 1 or 2", "works on collection N of the table; 1 where none is named",
      "add room.cat AA0001912345 7 --collection 2", NAMING, read_collection},
+    {"--recording", NULL, NULL, "the words are recordings, and find prints their codes; it reads the whole table", "find room.cat --recording 7",
+     FINDING, set_by_recording},
+    {"--absent", "STATUS", "a number from 0 to 255", "the exit status if a code is absent, instead of 1", "find room.cat AA0001912345 --absent 255",
+     FINDING, read_absent},
+    {"--json", NULL, NULL, "prints JSON; a recording is a text there, for many readers of JSON round large numbers",
+     "find room.cat AA0001912345 --json",
+     STRUCTURED, set_json},
+    {"--header", NULL, NULL, "prints a first line code,recording,class", "list room.cat --header > codes.csv", LISTING, set_header},
+    {"--from", "CODE", "a code", "lists from this code on", "list room.cat --from AA0001912345", LISTING, read_from},
+    {"--to", "CODE", "a code", "lists up to this code", "list room.cat --to AA0001912345", LISTING, read_to},
+    {"--output", "FILE", "a file's name", "writes what is printed to FILE; -o is the same", "film room.cat repair --output film.html", WRITING,
+     read_output},
     {"--again", NULL, NULL, "passes over lines that the table has already", "load room.cat codes.csv --again", LOADING, set_again},
     {"--keep-going", NULL, NULL, "passes over bad lines and loads the rest; the exit status is that of the first bad line",
      "load room.cat codes.csv --keep-going", LOADING, set_keep_going},
     {"--each", NULL, NULL, "prints each line once the table has it", "load room.cat codes.csv --each", LOADING, set_each},
-    {"--wear", NULL, NULL, "tells at the end which lines the load stored to most", "load room.cat codes.csv --wear", LOADING, set_wear},
+    {"--wear", NULL, NULL, "prints at the end which lines the load stored to most", "load room.cat codes.csv --wear", LOADING, set_wear},
     {"--svg", NULL, NULL, "draws the wear by line, as SVG, instead of printing it", "wear room.cat orders.txt --svg > wear.svg", DRAWING,
      set_svg},
     {"--list", "FILE", "a file of orders, or - for standard input",
@@ -172,44 +232,79 @@ static const struct option *option_named(const char *name, size_t length)
 {
     if (length == 2 && strncmp(name, "-h", 2) == 0)
         return option_named("--help", strlen("--help"));
+    if (length == 2 && strncmp(name, "-o", 2) == 0)
+        return option_named("--output", strlen("--output"));
     for (const struct option *o = options; o->name; o++)
         if (strlen(o->name) == length && strncmp(o->name, name, length) == 0)
             return o;
     return NULL;
 }
 
+const struct option *option_given(const struct command_line *l, unsigned kinds)
+{
+    for (size_t i = 0; options[i].name; i++)
+        if (l->said >> i & 1 && options[i].kind & kinds)
+            return &options[i];
+    return NULL;
+}
+
+/* There is no such option; perhaps one is near. */
+static int no_option(const char *word, size_t length)
+{
+    char text[GUESS_TEXT];
+    struct guess g = guess_begin(word, length);
+    for (const struct option *o = options; o->name; o++)
+        guess_try(&g, o->name);
+    return fail(BAD_USAGE, "there is no option %.40s%s (catalogue --help lists them)", word, guess_text(g.name, text));
+}
+
 /* An option, and its value behind = or in the next word; then *at is that word. */
 static int read_option(struct command_line *l, int count, char **words, int *at)
 {
     char *word = words[*at], *equals = strchr(word, '=');
-    const struct option *o = option_named(word, equals ? (size_t)(equals - word) : strlen(word));
+    size_t length = equals ? (size_t)(equals - word) : strlen(word);
+    const struct option *o = option_named(word, length);
     if (!o)
-        return fail(BAD_USAGE, "there is no option %.40s (catalogue --help tells more)", word);
+        return no_option(word, length);
     if (!o->form && equals)
         return fail(BAD_USAGE, "%s takes no value", o->name);
     const char *value = equals ? equals + 1 : "";
     if (o->form && !equals && *at + 1 < count)
         value = words[++*at];
     l->given |= o->kind;
+    l->said |= UINT64_C(1) << (o - options);
     return o->read(l, value) ? 0 : fail(BAD_USAGE, "%s takes %s", o->name, o->takes);
+}
+
+static bool is_option(const char *word)
+{
+    return strncmp(word, "--", 2) == 0 || strcmp(word, "-h") == 0 || strcmp(word, "-o") == 0;
 }
 
 int command_line_read(struct command_line *l, int count, char **words)
 {
     bool only_words = false;
-    l->opening.collection = 1;
+    *l = (struct command_line){.absent = 1, .opening.collection = 1};
+    l->words = calloc((size_t)count + 1, sizeof *l->words);
+    if (!l->words)
+        return fail(BAD_FILE, "not enough memory: nothing was done");
     for (int i = 0; i < count; i++) {
-        bool option = !only_words && (strncmp(words[i], "--", 2) == 0 || strcmp(words[i], "-h") == 0);
+        bool option = !only_words && is_option(words[i]);
         if (option && strcmp(words[i], "--") == 0) {
             only_words = true;
         } else if (option) {
             int status = read_option(l, count, words, &i);
             if (status != 0)
                 return status;
-        } else if (l->count < MOST_WORDS) {
-            /* A word too many is kept as a count alone. */
+        } else {
             l->words[l->count++] = words[i];
         }
     }
     return 0;
+}
+
+void command_line_free(struct command_line *l)
+{
+    free(l->words);
+    l->words = NULL;
 }

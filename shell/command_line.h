@@ -9,17 +9,36 @@
 #include "load.h"
 #include "opened.h"
 
-/* One more than any command takes. */
-#define MOST_WORDS 8
-
 /* Kinds of options, for which commands take which. */
-enum { CUT = 1, LOADING = 2, CARRYING = 4, WAITING = 8, NAMING = 16, MAKING = 32, DOCKING = 64, DRAWING = 128, FILMING = 256, WORDING = 512 };
+enum {
+    CUT = 1 << 0,
+    LOADING = 1 << 1,
+    CARRYING = 1 << 2,
+    WAITING = 1 << 3,
+    NAMING = 1 << 4,
+    MAKING = 1 << 5,
+    DOCKING = 1 << 6,
+    DRAWING = 1 << 7,
+    FILMING = 1 << 8,
+    FINDING = 1 << 9,
+    LISTING = 1 << 10,
+    STRUCTURED = 1 << 11,
+    WRITING = 1 << 12,
+    WORDING = 1 << 13
+};
 
 struct command_line {
-    char *words[MOST_WORDS]; /* the command, the table, and what follows */
+    char **words; /* the command, the table, and what follows */
     int count;
-    unsigned given; /* kinds of options */
+    uint64_t said;  /* options, by their places in the list */
+    unsigned given; /* their kinds */
     bool help, version, svg;
+    bool json;
+    bool by_recording; /* find: the words are recordings */
+    bool header;           /* list: a first line with the names of the columns */
+    const char *from, *to; /* list: one end of a range, or both; null for none */
+    const char *output;    /* the file that the answer goes to; null for standard output */
+    int absent;        /* find: the exit status of a code that is not there */
     uint64_t cut;
     bool loan; /* a new table has two collections */
     bool drawings, data; /* of a film */
@@ -58,7 +77,11 @@ struct option {
 /* The last one has no name. */
 extern const struct option options[];
 
-/* 0, or an exit status after saying why. */
+/* 0, or an exit status after saying why. The words stay the caller's; command_line_free in either case. */
 int command_line_read(struct command_line *l, int count, char **words);
+void command_line_free(struct command_line *l);
+
+/* The first option of these kinds that was given; null if none was. */
+const struct option *option_given(const struct command_line *l, unsigned kinds);
 
 #endif

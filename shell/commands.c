@@ -2,179 +2,33 @@
 #include "commands.h"
 
 #include <inttypes.h>
+#include <limits.h>
 #include <stdio.h>
-#include <stdlib.h>
 #include <string.h>
 
+#include "changes.h"
 #include "draw.h"
 #include "film.h"
+#include "find.h"
+#include "guess.h"
 #include "help.h"
 #include "judge.h"
+#include "judge_json.h"
 #include "lesson.h"
+#include "list.h"
 #include "opened.h"
 #include "orderlist.h"
-#include "orderwords.h"
+#include "output.h"
 #include "refusals.h"
 #include "salvage.h"
 #include "scripts.h"
 #include "stack.h"
+#include "state.h"
 #include "text.h"
 #include "tree.h"
 #include "wear.h"
 
-/* ---- changes: 0, or an exit status after saying why */
-
-/* What the library is asked for. */
-static struct catalogue_file_change asked(const struct opened *o, const struct change *c)
-{
-    return (struct catalogue_file_change){.kind = c->kind, .collection = o->table.collection, .key = c->key, .recording = c->recording,
-                                          .access = c->access, .cut = CATALOGUE_FILE_ALL};
-}
-
-static uint64_t orders_of(const struct catalogue_file_change *c)
-{
-    return c->stores + c->flushes + c->barriers;
-}
-
-static void say_done(const struct catalogue_file_change *c)
-{
-    char code[KEY_TEXT], class[KEY_TEXT], pointer[POINTER_TEXT];
-    key_text(c->key, code);
-    if (c->kind == ADD)
-        printf("added %s,%s", code, pointer_text(c->recording, c->access, pointer));
-    else if (c->kind == REMOVE)
-        printf("removed %s", code);
-    else if (c->kind == CLASS)
-        printf("class of %s is %s", code, class_text(c->access, class));
-    else
-        printf(c->stores == 0 ? "nothing to repair" : "repaired");
-    counts_print(c->stores, c->flushes, c->barriers);
-}
-
-/* What became of a change that failed. */
-static const char *what_is_left(const struct opened *o, const struct catalogue_file_change *c)
-{
-    if (catalogue_file_outcome(o->file) != CATALOGUE_FILE_NOT_MADE)
-        return "; the change is made now, a power cut may take it back, and repair waits for the disk once more";
-    return c->carried == 0 ? "; nothing more was changed" : "; the codes are as before, and repair finishes what was begun";
-}
-
-static int finish_change(struct opened *o, const struct catalogue_file_change *c, bool cut)
-{
-    int status = opened_settle(o);
-    if (status == 0)
-        status = opened_compare(o);
-    if (status == 0 && cut)
-        printf("cut off after %" PRIu64 " of %" PRIu64 " orders; show draws what is left\n", c->cut, orders_of(c));
-    if (status == 0 && !cut)
-        say_done(c);
-    return status;
-}
-
-/* A cut change: whatever a power cut leaves of it is a first part of its stores, so that a count of orders shows every case. */
-static int make_change(struct opened *o, struct command_line *l)
-{
-    struct catalogue_file_change c = asked(o, &l->change);
-    if (l->given & CUT)
-        c.cut = l->cut < CATALOGUE_FILE_ALL ? l->cut : CATALOGUE_FILE_ALL - 1;
-    uint64_t number = catalogue_file_change(o->file, &c);
-    if (number == CATALOGUE_FILE_BAD_OPTION)
-        return fail(BAD_USAGE, "--cut %" PRIu64 ": this change has %" PRIu64 " orders; nothing was changed", l->cut, orders_of(&c));
-    if (number != 0 && number != CATALOGUE_FILE_CUT)
-        return opened_refuses(o, number, c.key, c.recording, what_is_left(o, &c));
-    return finish_change(o, &c, number == CATALOGUE_FILE_CUT);
-}
-
-/* In the form that is asked for. */
-static void print_list(const struct table *t, const struct command_line *l, const uint64_t *orders, size_t count)
-{
-    if (l->in_words)
-        orders_words(stdout, t->base, t->words, orders, count, true);
-    else
-        orders_print(orders, count);
-}
-
-static int print_orders(struct opened *o, struct command_line *l)
-{
-    struct catalogue_file_change c = asked(o, &l->change);
-    const uint64_t *orders;
-    uint64_t number = catalogue_file_plan(o->file, &c, &orders);
-    if (number != 0)
-        return opened_refuses(o, number, c.key, c.recording, "");
-    /* Which nodes are leaves the table says. */
-    int status = l->in_words ? opened_read(o) : 0;
-    if (status != 0)
-        return status;
-    print_list(&o->table, l, orders, orders_of(&c));
-    printf("not made");
-    counts_print(c.stores, c.flushes, c.barriers);
-    return 0;
-}
-
-/* ---- reading: 0, or an exit status after saying why */
-
-/* The code is not there; the next one up, or null for none. */
-static int say_absent(const struct table *t, uint64_t key, const uint64_t *next)
-{
-    char code[KEY_TEXT], above[KEY_TEXT], part[PART_TEXT];
-    key_text(key, code);
-    table_part(t, part);
-    if (!next)
-        return fail(CATALOGUE_ABSENT, "%s is not in %s%s, and no code there is higher", code, part, t->name);
-    return fail(CATALOGUE_ABSENT, "%s is not in %s%s; the next code up is %s", code, part, t->name, key_text(*next, above));
-}
-
-/* A slot that no sound table has: its recording must not play. Nothing is printed that a player could take for an answer. */
-static int say_damaged(const struct table *t, uint64_t key)
-{
-    char code[KEY_TEXT], part[PART_TEXT];
-    key_text(key, code);
-    table_part(t, part);
-    return fail(CATALOGUE_NOT_SOUND,
-                "the slot of %s in %s%s is damaged: its recording or its class is none, and must not play; catalogue salvage %s NEW keeps the "
-                "codes that can be read, and catalogue show %s prints the slot",
-                code, part, t->name, t->name, t->name);
-}
-
-/* It runs beside a change, as every command that only reads. */
-static int find(struct opened *o, struct command_line *l)
-{
-    struct catalogue_file_pair found;
-    char pointer[POINTER_TEXT];
-    uint64_t number = catalogue_file_find(o->file, o->table.collection, l->low, &found);
-    if (number == CATALOGUE_ABSENT)
-        return say_absent(&o->table, l->low, found.higher ? &found.next : NULL);
-    if (number == CATALOGUE_NOT_SOUND)
-        return say_damaged(&o->table, l->low);
-    if (number != 0)
-        return opened_refuses(o, number, l->low, 0, "");
-    printf("%s\n", pointer_text(found.recording, found.access, pointer));
-    return 0;
-}
-
-static int list(const struct table *t, struct command_line *l)
-{
-    /* A node of a sound table has at most 11 pairs: all of them fit, and none are left. */
-    size_t room = 2 * 11 * (t->words / NODE_WORDS);
-    uint64_t *pairs = calloc(room, sizeof *pairs), count = 0, more;
-    if (!pairs)
-        return fail(BAD_FILE, "not enough memory to list %s", t->name);
-    char code[KEY_TEXT], pointer[POINTER_TEXT];
-    uint64_t number = catalogue_list(t->base, t->words, t->collection, l->low, l->high, pairs, room, &count, &more);
-    if (number != 0)
-        refuse(number, t, 0, 0);
-    for (uint64_t i = 0; i < count; i++)
-        printf("%s,%s\n", key_text(pairs[2 * i], code),
-               pointer_text(CATALOGUE_RECORDING(pairs[2 * i + 1]), CATALOGUE_CLASS(pairs[2 * i + 1]), pointer));
-    free(pairs);
-    return (int)number;
-}
-
-static int check_table(const struct table *t, struct command_line *l)
-{
-    (void)l;
-    return check(t);
-}
+/* ---- tables of one moment: 0, or an exit status after saying why */
 
 static int show_table(const struct table *t, struct command_line *l)
 {
@@ -182,14 +36,15 @@ static int show_table(const struct table *t, struct command_line *l)
     return show(t);
 }
 
-static int tell_wear(const struct table *t, struct command_line *l)
+static int print_wear(const struct table *t, struct command_line *l)
 {
-    return wear(t, l->words[2], l->svg);
+    return wear(t, l->words[2], l->svg ? WEAR_SVG : l->json ? WEAR_JSON : WEAR_TEXT);
 }
 
 static int judge_file(const struct table *t, struct command_line *l)
 {
-    return judge_list(t, l->words[2], &l->change);
+    size_t total;
+    return l->json ? judge_json(t, l->words[2], &l->change) : judge_list(t, l->words[2], &l->change, stdout, &total);
 }
 
 /* A list from a file, in the one form or the other. */
@@ -259,10 +114,10 @@ static int with_table(struct command_line *l, int (*work)(const struct table *t,
     return status;
 }
 
-/* The number of nodes of a new table, from a word. */
+/* The number of nodes of a new table, from a word. The library says how many it may be. */
 static int read_nodes(struct command_line *l, const char *word)
 {
-    return read_number(word, strlen(word), &l->nodes) ? 0 : fail(BAD_USAGE, "%.40s: a table has 1 to %d nodes", word, MOST_NODES);
+    return read_number(word, strlen(word), &l->nodes) ? 0 : fail(CATALOGUE_NO_TABLE, "%.40s: a table has 1 to %d nodes", word, MOST_NODES);
 }
 
 static int say_made(const char *name, uint64_t nodes, const char *more)
@@ -291,7 +146,7 @@ static int command_copy(struct command_line *l)
 {
     int status = l->count > 3 ? read_nodes(l, l->words[3]) : 0;
     if (status == 0 && l->count > 3 && l->nodes == 0)
-        status = fail(BAD_USAGE, "0: a table has 1 to %d nodes", MOST_NODES);
+        status = fail(CATALOGUE_NO_TABLE, "0: a table has 1 to %d nodes", MOST_NODES);
     if (status == 0)
         status = with_file(l, false, copy_table);
     return status != 0 ? status : say_made(l->words[2], l->nodes, "");
@@ -323,6 +178,12 @@ static int command_repair(struct command_line *l)
     return change_table(l, REPAIR);
 }
 
+/* An option of these kinds was given, which what is asked for does not take. */
+static int unfit(const struct command_line *l, unsigned kinds, const char *what)
+{
+    return fail(BAD_USAGE, "%s takes no %s (catalogue help %s lists its options)", what, option_given(l, kinds)->name, l->words[0]);
+}
+
 static int command_orders(struct command_line *l)
 {
     static const struct {
@@ -335,7 +196,7 @@ static int command_orders(struct command_line *l)
     for (size_t i = 0; i < sizeof kinds / sizeof kinds[0]; i++)
         if (strcmp(l->words[2], kinds[i].name) == 0 && l->count >= kinds[i].least && l->count <= kinds[i].most) {
             if (kinds[i].kind == REPAIR && l->given & NAMING)
-                return WRONG_FORM;
+                return unfit(l, NAMING, "orders repair");
             int status = change_read(&l->change, kinds[i].kind, l->words + 3, l->count - 3);
             return status != 0 ? status : with_file(l, false, print_orders);
         }
@@ -361,11 +222,15 @@ static int film_lesson(struct command_line *l)
 /* The change is written as for judge. */
 static int command_film(struct command_line *l)
 {
+    if (l->drawings && l->given & (NAMING | WAITING))
+        return unfit(l, NAMING | WAITING, "film --drawings");
     if (l->drawings)
-        return l->count == 1 && !l->list && !(l->given & (NAMING | WAITING)) ? film_lesson(l) : WRONG_FORM;
+        return l->count == 1 && !l->list ? film_lesson(l) : WRONG_FORM;
     bool adds = l->count >= 5 && l->count <= 6 && strcmp(l->words[2], "+") == 0;
     bool removes = l->count == 4 && strcmp(l->words[2], "-") == 0;
-    bool repairs = l->count == 3 && strcmp(l->words[2], "repair") == 0 && !(l->given & NAMING);
+    bool repairs = l->count == 3 && strcmp(l->words[2], "repair") == 0;
+    if (repairs && l->given & NAMING)
+        return unfit(l, NAMING, "film repair");
     if (!adds && !removes && !repairs)
         return WRONG_FORM;
     int status = change_read(&l->change, adds ? ADD : removes ? REMOVE : REPAIR, l->words + 3, l->count - 3);
@@ -376,10 +241,9 @@ static int command_film(struct command_line *l)
 static int command_find(struct command_line *l)
 {
     struct opened o;
-    int status = read_code_word(l->words[2], &l->low);
-    if (status != 0)
-        return status;
-    status = opened_begin(&o, l->words[1], false, &l->opening);
+    if (l->by_recording)
+        return with_file(l, false, find);
+    int status = opened_begin(&o, l->words[1], false, &l->opening);
     if (status == 0)
         status = find(&o, l);
     opened_end(&o);
@@ -388,14 +252,7 @@ static int command_find(struct command_line *l)
 
 static int command_list(struct command_line *l)
 {
-    l->high = UINT64_MAX;
-    if (l->count == 3)
-        return WRONG_FORM;
-    int status = 0;
-    if (l->count == 4)
-        status = read_code_word(l->words[2], &l->low);
-    if (l->count == 4 && status == 0)
-        status = read_code_word(l->words[3], &l->high);
+    int status = list_range(l);
     return status != 0 ? status : with_table(l, list);
 }
 
@@ -407,6 +264,11 @@ static int command_load(struct command_line *l)
 static int command_check(struct command_line *l)
 {
     return with_table(l, check_table);
+}
+
+static int command_stat(struct command_line *l)
+{
+    return with_table(l, stat_table);
 }
 
 static int command_salvage(struct command_line *l)
@@ -423,7 +285,7 @@ static int command_script(struct command_line *l)
 {
     uint64_t number;
     if (!read_number(l->words[1], strlen(l->words[1]), &number))
-        return fail(BAD_USAGE, "%.40s: a script's number is a whole number from 0 to %d", l->words[1], CATALOGUE_SCRIPTS - 1);
+        return fail(CATALOGUE_NO_SCRIPT, "%.40s: the scripts have the numbers 0 to %d", l->words[1], CATALOGUE_SCRIPTS - 1);
     int status = stack_take();
     return status != 0 ? status : script(number);
 }
@@ -446,14 +308,16 @@ static int command_key(struct command_line *l)
 
 static int command_wear(struct command_line *l)
 {
-    return with_table(l, tell_wear);
+    if (l->svg && l->json)
+        return WRONG_FORM;
+    return with_table(l, print_wear);
 }
 
 static int command_help(struct command_line *l)
 {
     const struct command *c = NULL;
     if (l->count == 2 && !(c = command_named(l->words[1])))
-        return BAD_USAGE;
+        return no_command(l->words[1]);
     help(commands, c);
     return 0;
 }
@@ -476,16 +340,21 @@ const struct command commands[] = {
      command_remove},
     {"class", "TABLE CODE CLASS", "another class for a code's recording: open, room or closed", "class room.cat AA-000-19-12345 closed",
      4, 4, NAMING | DOCKING | CUT | CARRYING | WAITING, command_class},
-    {"find", "TABLE CODE", "prints the code's recording,class; if the code is absent, says the next one up. A slot\n"
-     "with recording 0 or a class that there is not is refused with 4: it must not play",
-     "find room.cat AA0001912345", 3, 3, NAMING, command_find},
-    {"list", "TABLE [FROM TO]", "prints the codes from FROM to TO, or all, as lines code,recording,class that load\nreads",
-     "list room.cat AA0000000000 AAZZZ9999999", 2, 4, NAMING | WAITING, command_list},
+    {"find", "TABLE CODE ..",
+     "prints the code's recording,class, of several codes code,recording,class. For - it reads\n"
+     "codes from standard input, one a line. If a code is absent it says the next one up and\n"
+     "ends with status 1. A slot with recording 0 or a class that there is not is refused with\n"
+     "4: it must not play",
+     "find room.cat AA0001912345", 3, INT_MAX, NAMING | FINDING | STRUCTURED, command_find},
+    {"list", "TABLE [FROM TO | BEGINNING]",
+     "prints the codes from FROM to TO, those that begin so, or all, as lines\n"
+     "code,recording,class that load reads",
+     "list room.cat AA-000", 2, 4, NAMING | WAITING | LISTING | STRUCTURED | WRITING, command_list},
     {"load", "TABLE FILE.csv",
      "adds the lines code,recording or code,recording,class of a file, or of standard input\n"
      "where it is -; a line without a class is open. A byte-order mark, a header line, empty\n"
      "lines, spaces and quotes around the fields are passed over. Loading stops at the first\n"
-     "bad line; the first 20 are told. Into an empty collection the lines are packed, by a new\n"
+     "bad line and prints the first 20. Into an empty collection the lines are packed, by a new\n"
      "file in the table's place; into one with codes they go by batches",
      "load room.cat codes.csv", 3, 3, NAMING | DOCKING | LOADING | CARRYING | WAITING, command_load},
     {"repair", "TABLE",
@@ -501,26 +370,31 @@ const struct command commands[] = {
      "prints the stores and flushes of a change, for dock 1 its barriers too, without making it:\n"
      "add CODE RECORDING [CLASS], remove CODE, class CODE CLASS, or repair; list LIST prints\n"
      "those of a file. Plain with the place of each, or in words",
-     "orders room.cat add AA0001912345 7", 3, 6, NAMING | DOCKING | WAITING | WORDING, command_orders},
+     "orders room.cat add AA0001912345 7", 3, 6, NAMING | DOCKING | WAITING | WRITING | WORDING, command_orders},
     {"judge", "TABLE LIST + CODE RECORDING [CLASS], or - CODE",
      "says whether the orders in LIST make this change, in a settled table that stays as it is,\n"
      "so that a power cut may come after any of them: yes, or no with the first order that\n"
      "fails, its place, and what a cut there may leave. One list, for dock 0.\n" LIST_FORM,
-     "judge room.cat orders.txt + AA0001912345 7", 5, 7, NAMING | WAITING, command_judge},
+     "judge room.cat orders.txt + AA0001912345 7", 5, 7, NAMING | WAITING | STRUCTURED, command_judge},
     {"film", "TABLE + CODE RECORDING [CLASS], - CODE, or repair",
      "a page for a browser that goes through every order of this change, and through every cut,\n"
      "without making it: nodes, lines and slots, working copy and memory, the way of a search.\n"
      "It needs nothing else. With --drawings, and no table, the whole lesson. For dock 0",
-     "film room.cat + AA0001912345 7 > split.html", 1, 6, FILMING | NAMING | WAITING, command_film},
+     "film room.cat + AA0001912345 7 > split.html", 1, 6, FILMING | NAMING | WAITING | WRITING, command_film},
     {"wear", "TABLE LIST",
      "prints how often the orders in LIST store to each line of the table, and which words they\n"
      "store to, as words OFFSET LENGTH; the table stays as it is.\n" LIST_FORM,
-     "wear room.cat orders.txt", 3, 3, DRAWING | WAITING, command_wear},
+     "wear room.cat orders.txt", 3, 3, DRAWING | WAITING | STRUCTURED | WRITING, command_wear},
     {"check", "TABLE", "says whether the table is settled, sound with a leftover, or not sound, and how many\nnodes are free for more codes",
-     "check room.cat", 2, 2, WAITING, command_check},
+     "check room.cat", 2, 2, WAITING | STRUCTURED, command_check},
+    {"stat", "TABLE",
+     "prints what the table has: its bytes, its nodes and those that are free, and for each\n"
+     "collection its codes, levels, nodes and fill: how many it has of the 11 codes for each\n"
+     "node. A packed collection has about 91 %, since some of its nodes hold no codes",
+     "stat room.cat", 2, 2, WAITING | STRUCTURED, command_stat},
     {"show", "TABLE",
      "draws each collection's tree by level, with hidden and trailing slots and the leftover;\n#N is a key that no code has",
-     "show room.cat", 2, 2, WAITING, command_show},
+     "show room.cat", 2, 2, WAITING | WRITING, command_show},
     {"key", "CODE, or NUMBER", "prints the key of a code, as order lists have it, or the code of a key", "key AA0001912345", 2, 2, 0,
      command_key},
     {"script", "NUMBER",
@@ -535,8 +409,44 @@ const struct command *command_named(const char *name)
     const struct command *c = commands;
     while (c->name && strcmp(c->name, name) != 0)
         c++;
-    if (c->name)
-        return c;
-    fail(BAD_USAGE, "there is no command %.40s (catalogue --help tells more)", name);
-    return NULL;
+    return c->name ? c : NULL;
+}
+
+int no_command(const char *word)
+{
+    char text[GUESS_TEXT];
+    struct guess g = guess_begin(word, strlen(word));
+    for (const struct command *c = commands; c->name; c++)
+        guess_try(&g, c->name);
+    const char *other = guess_command(word);
+    return fail(BAD_USAGE, "there is no command %.40s%s (catalogue --help lists them)", word, guess_text(other ? other : g.name, text));
+}
+
+static int usage(const struct command *c)
+{
+    return fail(BAD_USAGE, "usage: catalogue %s %s (catalogue help %s says more)", c->name, c->form, c->name);
+}
+
+int command_run(struct command_line *l)
+{
+    const struct command *c = command_named(l->words[0]);
+    if (!c)
+        return no_command(l->words[0]);
+    if (l->help) {
+        help(commands, c);
+        return 0;
+    }
+    if (l->given & ~c->takes)
+        return unfit(l, ~c->takes, c->name);
+    if (l->count < c->least || l->count > c->most)
+        return usage(c);
+    if (c->takes & DOCKING && !(l->given & DOCKING))
+        l->opening.dock = CATALOGUE_FILE_DOCK;
+    struct output o;
+    int status = output_begin(&o, l->output, l->count > 1 ? l->words[1] : NULL);
+    if (status == 0)
+        status = c->run(l);
+    if (status == WRONG_FORM)
+        status = usage(c);
+    return output_end(&o, status);
 }

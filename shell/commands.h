@@ -7,7 +7,13 @@
 /* The last one has no name. */
 extern const struct command commands[];
 
-/* Null, after saying so, where there is none. */
+/* Null if there is none. */
 const struct command *command_named(const char *name);
+
+/* Says that there is no such command, and which may be meant. Gives the exit status. */
+int no_command(const char *word);
+
+/* Runs the command that the first word names: 0, or an exit status after saying why. */
+int command_run(struct command_line *l);
 
 #endif

@@ -91,7 +91,7 @@ void help(const struct command *all, const struct command *only)
     fputs(before, stdout);
     for (const struct command *c = all; c->name; c++)
         print_entry(c->name, c->form, c->about, c->example);
-    printf("\nOptions (catalogue help COMMAND tells which the command takes)\n");
+    printf("\nOptions (catalogue help COMMAND lists those of a command)\n");
     for (const struct option *o = options; o->name; o++)
         print_option(o);
     printf("\n");

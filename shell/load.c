@@ -86,8 +86,8 @@ static const char *text_of(const struct loading *l, uint64_t number)
     return "";
 }
 
-/* A line that cannot be loaded, told; the load ends here unless it keeps going. */
-static void tell_bad(struct loading *l, const struct catalogue_file_line *line, const char *text)
+/* Prints a line that cannot be loaded; the load ends here unless it keeps going. */
+static void say_bad_line(struct loading *l, const struct catalogue_file_line *line, const char *text)
 {
     char hint[EXPLANATION];
     char why[EXPLANATION] = "not of the form code,recording or code,recording,class; " RECORDINGS ", " CLASSES;
@@ -163,7 +163,7 @@ static void not_added(struct loading *l, const struct catalogue_file_line *line)
     else if (!of_line(line->number))
         l->full = l->full.tag == 0 || line->tag < l->full.tag ? *line : l->full;
     else if (!over || l->stopped > 0)
-        tell_bad(l, line, text_of(l, line->tag));
+        say_bad_line(l, line, text_of(l, line->tag));
 }
 
 static int take_answer(void *context, const struct catalogue_file_line *line)
@@ -200,7 +200,7 @@ static void read_on(struct loading *l)
         int status = rows_read(&l->rows, &row);
         struct catalogue_file_line line = {.number = (uint64_t)status, .tag = l->rows.number};
         if (status != 0 && status != ROW_PASSED)
-            tell_bad(l, &line, rows_text(&l->rows, text));
+            say_bad_line(l, &line, rows_text(&l->rows, text));
         progress_step(&l->progress, l->rows.number);
     }
 }
@@ -301,11 +301,11 @@ int load(struct opened *o, const char *name, const struct load_options *options)
     if (status != BAD_FILE && settled == 0)
         settled = opened_compare(o);
     say_loaded(&l);
-    int told = options->wear && begun && settled == 0 && !l.wear_lost ? wearing_tell(&l.wearing) : 0;
+    int printed = options->wear && begun && settled == 0 && !l.wear_lost ? wearing_print(&l.wearing) : 0;
     end(&l);
     if (settled != 0)
         return settled;
     if (status == 0)
-        status = told;
+        status = printed;
     return status != 0 ? status : l.first_bad;
 }

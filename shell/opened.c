@@ -42,7 +42,13 @@ int opened_fails(const struct opened *o, uint64_t number, const char *then)
 
 int opened_refuses(const struct opened *o, uint64_t number, uint64_t key, uint64_t recording, const char *then)
 {
-    return number < CATALOGUE_FILE_NO_FILE ? refuse(number, &o->table, key, recording) : opened_fails(o, number, then);
+    struct table t = o->table;
+    if (number >= CATALOGUE_FILE_NO_FILE)
+        return opened_fails(o, number, then);
+    /* The message names the code that has the recording. */
+    if (number == CATALOGUE_RECORDING_PRESENT && catalogue_file_table(o->file, &t.base, &t.words) != 0)
+        t.base = NULL;
+    return refuse(number, &t, key, recording);
 }
 
 /* ---- opening */
@@ -95,6 +101,7 @@ static int test_table(struct opened *o, const struct opening *how)
         return opened_fails(o, number, "");
     o->table.collections = about.collections;
     o->table.words = about.words;
+    o->table.bytes = (about.words + (about.trailer ? CATALOGUE_FILE_TRAILER : 0)) * sizeof(uint64_t);
     if (how->collection == 0 || how->collection > about.collections)
         return refuse(CATALOGUE_NO_COLLECTION, &o->table, 0, 0);
     if (about.writing && how->fast && !about.persistent)

@@ -8,14 +8,15 @@
 
 #include "catalogue.h"
 #include "change.h"
+#include "json.h"
 #include "orderlist.h"
 #include "picture.h"
 #include "refusals.h"
 #include "text.h"
 #include "tree.h"
 
-/* Lines that are told of a load. */
-#define TOLD 10
+/* Lines that are printed of a load. */
+#define PRINTED 10
 
 /* Words of orders that are summed at a time. */
 #define PART_WORDS ((size_t)CATALOGUE_LONG_LIST_WORDS)
@@ -68,28 +69,59 @@ static void print_figures(const struct table *t, const struct figures *f)
         printf("words %" PRIu64 " %" PRIu64 "\n", f->extents[2 * i], f->extents[2 * i + 1]);
 }
 
+static void json_figures(const struct table *t, const struct figures *f)
+{
+    struct json j = {0};
+    json_open(&j, NULL, '{');
+    json_number(&j, "total", f->total);
+    json_number(&j, "largest", f->largest);
+    json_number(&j, "first_line", f->first_line);
+    json_open(&j, "lines", '[');
+    for (size_t i = 0; i < t->words / LINE_WORDS; i++) {
+        if (f->lines[i] == 0)
+            continue;
+        json_open(&j, NULL, '{');
+        json_number(&j, "line", i);
+        json_number(&j, "stores", f->lines[i]);
+        json_close(&j, '}');
+    }
+    json_close(&j, ']');
+    json_open(&j, "words", '[');
+    for (uint64_t i = 0; i < f->pairs; i++) {
+        json_open(&j, NULL, '{');
+        json_number(&j, "offset", f->extents[2 * i]);
+        json_number(&j, "length", f->extents[2 * i + 1]);
+        json_close(&j, '}');
+    }
+    json_close(&j, ']');
+    json_close(&j, '}');
+    json_end();
+}
+
 /* ---- a list in a file */
 
-static int tell(const struct table *t, const struct order_list *l, bool svg)
+static int print_list(const struct table *t, const struct order_list *l, enum wear_form form)
 {
     struct figures f;
     int status = figures_begin(&f, t, 2 * l->count);
     if (status == 0)
         status = figures_of(&f, t, l->words, 2 * l->count);
-    if (status == 0 && svg)
+    if (status == 0 && form == WEAR_SVG)
         picture(t->name, f.lines, t->words / LINE_WORDS, &f);
+    else if (status == 0 && form == WEAR_JSON)
+        json_figures(t, &f);
     else if (status == 0)
         print_figures(t, &f);
     figures_free(&f);
     return status;
 }
 
-int wear(const struct table *t, const char *name, bool svg)
+int wear(const struct table *t, const char *name, enum wear_form form)
 {
     struct order_list l;
     int status = order_list_read(&l, name);
     if (status == 0)
-        status = tell(t, &l, svg);
+        status = print_list(t, &l, form);
     order_list_free(&l);
     return status;
 }
@@ -143,7 +175,7 @@ static size_t next_worn(const struct wearing *w, size_t count, size_t before)
     return found;
 }
 
-int wearing_tell(struct wearing *w)
+int wearing_print(struct wearing *w)
 {
     int status = wearing_sum(w);
     if (status != 0)
@@ -155,9 +187,9 @@ int wearing_tell(struct wearing *w)
         worn += w->lines[i] > 0;
     }
     printf("%" PRIu64 " store%s to %zu of %zu lines%s\n", total, total == 1 ? "" : "s", worn, count,
-           worn > TOLD ? "; the most to these:" : worn > 0 ? ":" : "");
+           worn > PRINTED ? "; the most to these:" : worn > 0 ? ":" : "");
     size_t line = count;
-    for (size_t i = 0; i < TOLD && i < worn; i++) {
+    for (size_t i = 0; i < PRINTED && i < worn; i++) {
         line = next_worn(w, count, line);
         print_line(line, w->lines[line]);
     }

@@ -2,18 +2,19 @@
 #ifndef WEAR_H
 #define WEAR_H
 
-#include <stdbool.h>
 #include <stddef.h>
 #include <stdint.h>
 
 #include "picture.h"
 #include "table.h"
 
+enum wear_form { WEAR_TEXT, WEAR_SVG, WEAR_JSON };
+
 /*
- * The figures of the orders of a file, or of standard input where its name is -, in the form that orderlist.h tells. Printed, or drawn as
- * SVG. 0, or an exit status after saying why.
+ * Prints the figures of the orders of a file, or of standard input if its name is -, which orderlist.h describes. 0, or an exit status after
+ * saying why.
  */
-int wear(const struct table *t, const char *name, bool svg);
+int wear(const struct table *t, const char *name, enum wear_form form);
 
 /* The wear of many lists, one after the other. */
 struct wearing {
@@ -24,12 +25,12 @@ struct wearing {
     struct figures part; /* of those that are summed at a time */
 };
 
-/* These return 0, or an exit status after saying why. A wearing that was begun is ended, also where the beginning failed. */
+/* These return 0, or an exit status after saying why. A wearing that was begun is ended, also if the beginning failed. */
 int wearing_begin(struct wearing *w, const struct table *t);
 int wearing_add(struct wearing *w, const uint64_t *orders, uint64_t count);
 
 /* Prints the lines with the most stores. */
-int wearing_tell(struct wearing *w);
+int wearing_print(struct wearing *w);
 
 void wearing_end(struct wearing *w);
 

@@ -17,7 +17,9 @@ import judging
 import loads
 import loans
 import memory
+import outputs
 import pages
+import questions
 import readers
 import replay
 import salvages
@@ -56,7 +58,7 @@ def main():
     watched = ["valgrind", "-q", "--leak-check=full", "--errors-for-leak-kinds=all", f"--error-exitcode={FOUND_SOMETHING}", sys.argv[1]]
     valgrind = Program(watched, "under valgrind", False)
     everything = commands.TESTS + loads.TESTS + files.TESTS + loans.TESTS + docks.TESTS + salvages.TESTS + scripts.TESTS + cuts.TESTS + replay.TESTS
-    everything += readers.TESTS + wears.TESTS + judging.TESTS + words.TESTS + films.TESTS + scale.TESTS
+    everything += questions.TESTS + outputs.TESTS + readers.TESTS + wears.TESTS + judging.TESTS + words.TESTS + films.TESTS + scale.TESTS
     # valgrind takes half a second to start: each kind of work once.
     once = [commands.the_worked_orders, commands.drawing, loads.lines_from_standard_input, loads.larger_copies,
             commands.a_tree_of_sixteen_levels, salvages.damaged_slots, loans.drawing_both, loans.salvages_of_two,

@@ -45,7 +45,7 @@ def wrong_docks(program, folder):
         for words in (["add", t, code(1), 1], ["repair", t], ["orders", t, "add", code(1), 1], ["load", t, HUNDRED]):
             program.refuses(BAD_USAGE, "^catalogue: --dock takes 0 or 1$", *words, f"--dock={dock}")
     for words in (["make", u, 4], ["find", t, code(1)], ["list", t], ["check", t], ["show", t], ["copy", t, u, 9], ["salvage", t, u], ["help"]):
-        program.refuses(BAD_USAGE, "usage: catalogue ", *words, *ONE)
+        program.refuses(BAD_USAGE, f"{words[0]} takes no --dock", *words, *ONE)
     assert not os.path.exists(u)
 
 

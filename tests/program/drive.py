@@ -8,8 +8,10 @@ MARK = 2**64 - 1
 # Exit statuses.
 NO_CODE, NO_TABLE, LOST, NOT_SOUND = 1, 2, 3, 4
 BAD_RECORDING, CODE_THERE, RECORDING_THERE, NOT_THERE, NO_NODES, TOO_HIGH = 6, 7, 8, 9, 10, 11
-NO_COLLECTION = 17
-ABSENT, BAD_USAGE, BAD_LINE, BAD_FILE = 255, 64, 65, 74
+BAD_CLASS, NO_COLLECTION, NO_SCRIPT = 14, 17, 22
+# Of find: as a word that is no code.
+ABSENT = 1
+BAD_USAGE, BAD_LINE, BAD_FILE = 64, 65, 74
 MOST_RECORDING = 2**56 - 1
 CLASSES = ["open", "room", "closed"]
 # What a sanitizer or valgrind that found something ends a program with.

@@ -78,12 +78,15 @@ def refusals(program, folder):
     t, list = f"{folder}/t", f"{folder}/list"
     fill(program, t, 4, [(code(i), i) for i in (20, 30)])
     write(list, program.done("orders", t, "add", code(25), 25))
-    for words in ([], [t], [t, "+", code(25)], [t, "-"], [t, "-", code(25), 25], [t, "*", code(25), 25], [t, "repair", code(20)], [t, "repair", *naming(1)], [t, "--drawings"],
-                  ["--drawings", "--list", list], ["--drawings", *naming(1)], [t, "-", code(20), "--dock", 1], [t, "+", code(25), 25, "open", "x"], ["--data"]):
+    for words in ([], [t], [t, "+", code(25)], [t, "-"], [t, "-", code(25), 25], [t, "*", code(25), 25], [t, "repair", code(20)], [t, "--drawings"],
+                  ["--drawings", "--list", list], [t, "+", code(25), 25, "open", "x"], ["--data"]):
         program.refuses(BAD_USAGE, "usage: catalogue film TABLE", "film", *words)
-    program.refuses(BAD_USAGE, "usage: catalogue check", "check", t, "--data")
+    for words, said in (([t, "repair", *naming(1)], "film repair takes no --collection"), (["--drawings", *naming(1)], "film --drawings takes no --collection"),
+                        ([t, "-", code(20), "--dock", 1], "film takes no --dock")):
+        program.refuses(BAD_USAGE, said, "film", *words)
+    program.refuses(BAD_USAGE, "check takes no --data", "check", t, "--data")
     program.refuses(BAD_USAGE, "--list takes a file", "film", t, "-", code(20), "--list")
-    for words, status, why in ((["+", code(20), 25], CODE_THERE, "already$"), (["+", code(25), 20], RECORDING_THERE, "another code$"), (["-", code(25)], NOT_THERE, "is not in"),
+    for words, status, why in ((["+", code(20), 25], CODE_THERE, "already$"), (["+", code(25), 20], RECORDING_THERE, f"under {code(20)}$"), (["-", code(25)], NOT_THERE, "is not in"),
                                (["+", code(25), 0], BAD_RECORDING, "a recording is"), (["-", "AA"], NO_CODE, "not a code"), (["-", code(20), *naming(2)], NO_COLLECTION, "no collection 2")):
         program.refuses(status, why, "film", t, *words)
     program.refuses(BAD_FILE, "there is no file", "film", f"{folder}/none", "repair")

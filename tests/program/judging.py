@@ -171,12 +171,12 @@ def refusals(program, folder):
     program.refuses(BAD_USAGE, "usage: catalogue judge TABLE LIST", "judge", t, list)
     for words in (["+", code(25)], ["-"], ["-", code(25), 25], ["*", code(25), 25], ["add", code(25), 25], ["+", code(25), 25, "open", "x"]):
         program.refuses(BAD_USAGE, "usage: catalogue judge", "judge", t, list, *words)
-    program.refuses(BAD_USAGE, "usage: catalogue judge", *add, "--dock", 1)
+    program.refuses(BAD_USAGE, "judge takes no --dock", *add, "--dock", 1)
     program.refuses(NO_CODE, "not a code", "judge", t, list, "-", "AA")
     program.refuses(BAD_FILE, "cannot be opened", "judge", t, f"{folder}/none", "-", code(20))
     program.refuses(NO_TABLE, "is not a table", "judge", list, list, "-", code(20))
     program.refuses(NO_COLLECTION, "no collection 2", *add, *naming(2))
-    for change, why in ((["+", code(20), 25], "7: .* already$"), (["+", code(25), 20], "8: .*another code$"), (["-", code(25)], "9: "), (["+", code(25), 0], "6: ")):
+    for change, why in ((["+", code(20), 25], "7: .* already$"), (["+", code(25), 20], f"8: .*under {code(20)}$"), (["-", code(25)], "9: "), (["+", code(25), 0], "6: ")):
         program.refuses(CHANGE_REFUSED, f"the change itself is refused with {why}", "judge", t, list, *change)
     for text, place in (("store 136 1\n", 1), ("flush 0\nflush 17\n", 2), (f"store 0 1\nstore {MARK} 1\n", 2), (f"barrier\nstore {MARK - 1} 0\n", 2),
                         (f"store {MARK - 1} 1\nflush 99\n", 1), (f"flush {MARK}\n", 1)):

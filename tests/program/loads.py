@@ -303,8 +303,8 @@ def larger_copies(program, folder):
 def copies_of_all_sorts(program, folder):
     t, u, csv = f"{folder}/t", f"{folder}/u", f"{folder}/csv"
     fill(program, t, 1, [(code(10 * i), 100 + i) for i in range(1, 12)])
-    program.refuses(BAD_USAGE, "1 to 65535 nodes", "copy", t, u, "many")
-    program.refuses(BAD_USAGE, "1 to 65535 nodes", "copy", t, u, 0)
+    program.refuses(NO_TABLE, "1 to 65535 nodes", "copy", t, u, "many")
+    program.refuses(NO_TABLE, "1 to 65535 nodes", "copy", t, u, 0)
     program.refuses(NO_TABLE, "1 to 65535 nodes, not 65536", "copy", t, u, 65536)
     program.refuses(BAD_FILE, "exists already and stays", "copy", t, t, 5)
     program.refuses(BAD_FILE, "there is no file", "copy", f"{folder}/none", u, 5)

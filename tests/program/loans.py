@@ -40,9 +40,9 @@ def wrong_command_lines(program, folder):
     program.done("make", t, 4, "--loan")
     for words in (["make", f"{folder}/u", 4], ["check", t], ["show", t], ["repair", t], ["copy", t, f"{folder}/u", 9],
                   ["salvage", t, f"{folder}/u"], ["orders", t, "repair"], ["help"]):
-        program.refuses(BAD_USAGE, "usage: catalogue ", *words, *TWO)
+        program.refuses(BAD_USAGE, f"{words[0]}( repair)? takes no --collection", *words, *TWO)
     for words in (["add", t, code(1), 1], ["check", t], ["copy", t, f"{folder}/u", 9]):
-        program.refuses(BAD_USAGE, "usage: catalogue ", *words, "--loan")
+        program.refuses(BAD_USAGE, f"{words[0]} takes no --loan", *words, "--loan")
     for collection in ("", "two", "-1", "1.0", 2**64):
         program.refuses(BAD_USAGE, "--collection takes a number, 1 or 2", "list", t, f"--collection={collection}")
     program.refuses(BAD_USAGE, "--collection takes a number", "list", t, "--collection")
@@ -60,9 +60,9 @@ def every_command(program, folder):
     assert program.done("find", t, c, *TWO) == f"{r},room\n" and program.done("find", t, c) == program.done("find", t, c, *naming(1)) == f"{r},open\n"
     assert both(program, t) == [first, f"{c},{r},room\n"]
     program.refuses(CODE_THERE, f"{c} is in collection 2 of {t} already$", "add", t, c, 5, *TWO)
-    program.refuses(RECORDING_THERE, f"recording {r} is in collection 2 of {t} under another code$", "add", t, code(5), r, *TWO)
+    program.refuses(RECORDING_THERE, f"recording {r} is in collection 2 of {t} under {c}$", "add", t, code(5), r, *TWO)
     other, s = listed(first)[7]
-    program.refuses(RECORDING_THERE, f"recording {s} is in collection 1 of {t} under another code$", "add", t, code(5), s)
+    program.refuses(RECORDING_THERE, f"recording {s} is in collection 1 of {t} under {other}$", "add", t, code(5), s)
     program.refuses(NOT_THERE, f"{other} is not in collection 2 of {t}$", "remove", t, other, *TWO)
     program.refuses(NOT_THERE, f"{other} is not in collection 2 of {t}$", "class", t, other, "room", *TWO)
     program.refuses(NOT_THERE, f"{code(5)} is not in collection 1 of {t}$", "remove", t, code(5))

@@ -173,8 +173,10 @@ def refusals_of_a_salvage(program, folder):
     program.refuses(BAD_FILE, "cannot be made", "salvage", t, f"{folder}/none/u")
     program.refuses(BAD_FILE, "cannot be made: File name too long", "salvage", t, f"{folder}/{'u' * 300}")
     program.refuses(BAD_FILE, "there is no file", "salvage", u, f"{folder}/v")
-    for words in (["salvage", t], ["salvage"], ["salvage", t, u, 3], ["salvage", t, u, "--fast"], ["salvage", t, u, "--cut", 1]):
+    for words in (["salvage", t], ["salvage"], ["salvage", t, u, 3]):
         program.refuses(BAD_USAGE, "usage: catalogue salvage TABLE NEW ", *words)
+    for option in (["--fast"], ["--cut", 1]):
+        program.refuses(BAD_USAGE, f"salvage takes no {option[0]}", "salvage", t, u, *option)
 
     def small_files():
         resource.setrlimit(resource.RLIMIT_FSIZE, (100, 100))

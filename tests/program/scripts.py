@@ -3,7 +3,6 @@ import itertools
 
 from drive import *
 
-NO_SCRIPT = 22
 
 
 def all_scripts():
@@ -46,10 +45,10 @@ def numbers_without_a_script(program, folder):
     for number in (1555, 1556, 2**32, 2**64 - 1):
         program.refuses(NO_SCRIPT, f"{number}: the scripts have the numbers 0 to 1554", "script", number)
     for word in ("x", "-1", "", "1.5", 2**64, "0x10"):
-        program.refuses(BAD_USAGE, "a script's number is a whole number from 0 to 1554", "script", "--", word)
+        program.refuses(NO_SCRIPT, "the scripts have the numbers 0 to 1554", "script", "--", word)
     program.refuses(BAD_USAGE, "usage: catalogue script NUMBER ", "script")
     program.refuses(BAD_USAGE, "usage: catalogue script NUMBER ", "script", 1, 2)
-    program.refuses(BAD_USAGE, "usage: catalogue script NUMBER ", "script", 1, "--wait", 1)
+    program.refuses(BAD_USAGE, "script takes no --wait", "script", 1, "--wait", 1)
 
 
 TESTS = [scripts_by_number, numbers_without_a_script]

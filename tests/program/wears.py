@@ -101,8 +101,8 @@ def lists_that_are_refused(program, folder):
     write(list, "store 0 1\n")
     program.refuses(NO_TABLE, "is not a table", "wear", list, list)
     program.refuses(BAD_USAGE, "usage: catalogue wear TABLE LIST", "wear", t)
-    program.refuses(BAD_USAGE, "usage: catalogue list", "list", t, "--svg")
-    program.refuses(BAD_USAGE, "usage: catalogue wear", "wear", t, list, "--wear")
+    program.refuses(BAD_USAGE, "list takes no --svg", "list", t, "--svg")
+    program.refuses(BAD_USAGE, "wear takes no --wear", "wear", t, list, "--wear")
 
 
 def picture(program, folder):
