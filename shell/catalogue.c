@@ -55,6 +55,15 @@ static int test_library(void)
     return fail(BAD_FILE, "built for version %d of the library and linked with version %" PRIu64, CATALOGUE_VERSION, version);
 }
 
+/* What was done is done, whether its answer can be printed or not. */
+static int finish(const struct command_line *l, int status)
+{
+    if (fflush(stdout) == 0 && !ferror(stdout))
+        return status;
+    int failed = fail(BAD_FILE, "%s%s cannot be printed", l->made ? l->made : "the answer", l->made ? ", but the answer" : "");
+    return status != 0 ? status : failed;
+}
+
 int main(int count, char **words)
 {
     static struct command_line l;
@@ -67,7 +76,5 @@ int main(int count, char **words)
     if (status == 0)
         status = run(&l);
     command_line_free(&l);
-    if ((fflush(stdout) != 0 || ferror(stdout)) && status == 0)
-        status = fail(BAD_FILE, "the answer cannot be printed");
-    return status;
+    return finish(&l, status);
 }

@@ -44,6 +44,7 @@ static const char *what_is_left(const struct opened *o, const struct catalogue_f
 
 static int finish_change(struct opened *o, const struct catalogue_file_change *c, bool cut)
 {
+    o->made = true;
     int status = opened_settle(o);
     if (status == 0)
         status = opened_compare(o);

@@ -44,6 +44,7 @@ struct command_line {
     bool drawings, data; /* of a film */
     bool in_words; /* orders as people write them */
     const char *list;
+    const char *made; /* what the command did and a lost answer must not hide, as "the change is made"; null for nothing */
     struct opening opening;
     struct load_options load;
     /* What a command reads from its words. */

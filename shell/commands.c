@@ -3,6 +3,7 @@
 
 #include <inttypes.h>
 #include <limits.h>
+#include <signal.h>
 #include <stdio.h>
 #include <string.h>
 
@@ -65,6 +66,12 @@ static int film_change(const struct table *t, struct command_line *l)
 
 /* ---- files: 0, or an exit status after saying why */
 
+/* Nobody may read the answer of a command that changes something; it says then that it is done. */
+static void outlive_readers(void)
+{
+    signal(SIGPIPE, SIG_IGN);
+}
+
 static int load_file(struct opened *o, struct command_line *l)
 {
     return load(o, l->words[2], &l->load);
@@ -80,7 +87,11 @@ static int copy_table(struct opened *o, struct command_line *l)
 
 static int salvage_table(struct opened *o, struct command_line *l)
 {
-    return salvage(o, l->words[2]);
+    outlive_readers();
+    int status = salvage(o, l->words[2]);
+    if (status == 0)
+        l->made = "the new table is made";
+    return status;
 }
 
 /* ---- the commands */
@@ -91,9 +102,13 @@ static int with_file(struct command_line *l, bool writing, int (*work)(struct op
     int status = stack_take();
     if (status != 0)
         return status;
+    if (writing)
+        outlive_readers();
     status = opened_begin(&o, l->words[1], writing, &l->opening);
     if (status == 0)
         status = work(&o, l);
+    if (o.made)
+        l->made = "the change is made";
     opened_end(&o);
     return status;
 }
@@ -120,8 +135,10 @@ static int read_nodes(struct command_line *l, const char *word)
     return read_number(word, strlen(word), &l->nodes) ? 0 : fail(CATALOGUE_NO_TABLE, "%.40s: a table has 1 to %d nodes", word, MOST_NODES);
 }
 
-static int say_made(const char *name, uint64_t nodes, const char *more)
+static int say_made(struct command_line *l, const char *name, const char *more)
 {
+    uint64_t nodes = l->nodes;
+    l->made = "the new table is made";
     printf("made %s with %" PRIu64 " node%s%s\n", name, nodes, nodes == 1 ? "" : "s", more);
     return 0;
 }
@@ -136,20 +153,22 @@ static int make_file(struct command_line *l)
 
 static int command_make(struct command_line *l)
 {
+    outlive_readers();
     int status = read_nodes(l, l->words[2]);
     if (status == 0)
         status = make_file(l);
-    return status != 0 ? status : say_made(l->words[1], l->nodes, l->loan ? " and two collections" : "");
+    return status != 0 ? status : say_made(l, l->words[1], l->loan ? " and two collections" : "");
 }
 
 static int command_copy(struct command_line *l)
 {
+    outlive_readers();
     int status = l->count > 3 ? read_nodes(l, l->words[3]) : 0;
     if (status == 0 && l->count > 3 && l->nodes == 0)
         status = fail(CATALOGUE_NO_TABLE, "0: a table has 1 to %d nodes", MOST_NODES);
     if (status == 0)
         status = with_file(l, false, copy_table);
-    return status != 0 ? status : say_made(l->words[2], l->nodes, "");
+    return status != 0 ? status : say_made(l, l->words[2], "");
 }
 
 static int change_table(struct command_line *l, enum kind kind)

@@ -301,6 +301,7 @@ int load(struct opened *o, const char *name, const struct load_options *options)
     if (status != BAD_FILE && settled == 0)
         settled = opened_compare(o);
     say_loaded(&l);
+    o->made = l.load.added + l.load.unknown > 0;
     int printed = options->wear && begun && settled == 0 && !l.wear_lost ? wearing_print(&l.wearing) : 0;
     end(&l);
     if (settled != 0)

@@ -21,6 +21,7 @@ struct opening {
 struct opened {
     catalogue_file *file;
     struct table table; /* its words are there once they are read */
+    bool made;          /* a change was made here */
 };
 
 /* These return 0, or an exit status after saying why. */

@@ -2,6 +2,8 @@
 import os
 import re
 import shutil
+import signal
+import struct
 import subprocess
 
 from drive import *
@@ -292,6 +294,45 @@ def answers_that_cannot_be_printed(program, folder):
         assert run.returncode == BAD_FILE and "cannot be printed" in err, (run.returncode, err)
 
 
+def made_but_not_printed(program, folder):
+    """A change whose answer goes to a full disk, or to a pipe that nobody reads any more: it is made, and says so."""
+    t, csv = f"{folder}/t", f"{folder}/csv"
+    program.done("make", t, 9)
+    with open(csv, "w") as f:
+        f.write(f"{code(5)},5\n")
+    changes = [["add", t, code(1), 1], ["class", t, code(1), "room"], ["remove", t, code(1), "--cut", 1], ["repair", t], ["add", t, code(1), 1], ["load", t, csv],
+               ["load", t, csv, "--again"], ["remove", t, code(1)], ["copy", t, f"{folder}/u"], ["salvage", t, f"{folder}/v"], ["make", f"{folder}/w", 3]]
+    for words in changes:
+        made = "the new table is made" if words[0] in ("copy", "salvage", "make") else "the change is made"
+        expected = "the answer cannot be printed" if "--again" in words else f"{made}, but the answer cannot be printed"
+        before, new = table_bytes(t), words[2] if words[0] in ("copy", "salvage") else words[1]
+        for broken in ("full", "pipe"):
+            if broken == "full":
+                out = os.open("/dev/full", os.O_WRONLY)
+            else:
+                reader, out = os.pipe()
+                os.close(reader)
+            run = program.start(*words, stdout=out, stderr=subprocess.PIPE)
+            os.close(out)
+            _, err = run.communicate(timeout=120)
+            assert (run.returncode, err) == (BAD_FILE, f"catalogue: {expected}\n"), (words, broken, run.returncode, err)
+            assert os.path.exists(new) and (table_bytes(t) != before or "the change" not in expected), words
+            if broken == "pipe":
+                continue
+            # Once more from the start.
+            if new != t:
+                os.remove(new)
+            else:
+                write_words(t, list(struct.unpack(f"<{len(before) // 8}Q", before)))
+    # A command that only reads is ended by the pipe, without a word.
+    reader, out = os.pipe()
+    os.close(reader)
+    run = program.start("list", t, stdout=out, stderr=subprocess.PIPE)
+    os.close(out)
+    _, err = run.communicate(timeout=120)
+    assert (run.returncode, err) == (-signal.SIGPIPE, ""), (run.returncode, err)
+
+
 def drawing(program, folder):
     """A cut split, drawn to the letter: nodes by level, fences, trailing slots, the leftover; then a hidden slot."""
     t = f"{folder}/t"
@@ -418,5 +459,5 @@ def the_first_hour(program, folder):
 
 TESTS = [help_has_an_example_of_each, help_of_one_command, the_manual_page, words_and_options, wrong_command_lines, slots_out_of_range, making,
          the_worked_orders, orders_are_what_is_carried_out, fast_says_what_it_risks, codes_as_people_type_them, refusals_of_changes,
-         a_tree_of_sixteen_levels, searching_and_listing, the_next_code_up, answers_that_cannot_be_printed, drawing, classes,
+         a_tree_of_sixteen_levels, searching_and_listing, the_next_code_up, answers_that_cannot_be_printed, made_but_not_printed, drawing, classes,
          before_there_were_classes, nodes_come_free, the_first_hour]

@@ -1,4 +1,6 @@
 """Request 10: find takes no lock and runs while another program loads; a search of damaged words, and of the largest table."""
+import json
+import re
 import resource
 import subprocess
 
@@ -40,6 +42,34 @@ def finds_while_it_loads(program, folder):
     assert found >= 5 and absent >= 5, (found, absent)
     assert len(listed(program.done("list", t))) == len(OLD) + len(NEW)
     return f"{found} found and {absent} absent while it loaded"
+
+
+def whole_tables_while_it_loads(program, folder):
+    """list, check, show, stat and a search by recording beside a load: each has the table of one moment, so that of the lines that are loaded
+    one after another, in no order of the codes, a first part is there and nothing else."""
+    t, csv = f"{folder}/t", f"{folder}/csv"
+    fill(program, t, 400, [(code(i), recording(i)) for i in OLD])
+    order = [NEW[7 * i % len(NEW)] for i in range(len(NEW))]
+    with open(csv, "w") as f:
+        f.writelines(f"{code(i)},{recording(i)}\n" for i in order)
+    load = program.start("load", t, csv, "--pause", 200, stdout=subprocess.PIPE, stderr=subprocess.PIPE)
+    seen, states = [], set()
+    while load.poll() is None:
+        there = {i for i in (int(c[7:]) for c, _ in listed(program.done("list", t)))}
+        count = len(there) - len(OLD)
+        assert there == set(OLD) | set(order[:count]) and count >= (seen[-1] if seen else 0), "no moment of the load"
+        seen.append(count)
+        state = json.loads(program.done("check", t, "--json"))
+        states.add(state["state"])
+        assert seen[-1] <= state["codes"] - len(OLD) <= len(NEW), state
+        assert re.match(rf"{t} is (settled|sound): \d+ codes in ", program.done("show", t))
+        assert program.done("find", t, "--recording", recording(OLD[3])) == f"{code(OLD[3])},open\n"
+    out, err = load.communicate()
+    check_ending(load.returncode, err, ["load"])
+    assert load.returncode == 0 and out == f"{len(NEW)} added, 0 there already\n", (out, err)
+    between = sorted({count for count in seen if 0 < count < len(NEW)})
+    assert len(between) >= 3, seen
+    return f"{len(seen)} moments, {len(between)} of them in the midst of the load, {' and '.join(sorted(states))}"
 
 
 def looked_at_once(program, folder):
@@ -86,5 +116,5 @@ def few_pages(program, folder):
     return f"{most} page faults, of which {least} are the program's start"
 
 
-TESTS = [finds_while_it_loads, looked_at_once]
+TESTS = [finds_while_it_loads, whole_tables_while_it_loads, looked_at_once]
 ONCE = [few_pages]
