@@ -3,26 +3,31 @@
 #include <inttypes.h>
 #include <signal.h>
 #include <stdio.h>
+#include <string.h>
+#include <sys/stat.h>
 #include <unistd.h>
 
 #include "catalogue_file.h"
 #include "command_line.h"
 #include "commands.h"
-#include "help.h"
+#include "session.h"
 #include "text.h"
 
+static bool is_there(const char *name)
+{
+    struct stat about;
+    return stat(name, &about) == 0;
+}
+
+/* A table alone, which no command is called: its commands are typed. */
 static int run(struct command_line *l)
 {
-    if (l->version) {
-        printf("catalogue %s\n", PROGRAM_VERSION);
-        return 0;
-    }
-    if (l->count > 0)
-        return command_run(l);
-    if (!l->help)
-        return fail(BAD_USAGE, "usage: catalogue COMMAND TABLE .. (catalogue --help says more)");
-    help(commands, NULL);
-    return 0;
+    bool alone = l->count == 1 && !l->help && !l->version && l->said == 0 && !command_named(l->words[0]);
+    if (alone && is_there(l->words[0]))
+        return session(l->words[0]);
+    if (alone && strpbrk(l->words[0], "./"))
+        return fail(BAD_FILE, "there is no file %s (to make one: catalogue make %s NODES)", l->words[0], l->words[0]);
+    return command_run(l);
 }
 
 /* A mapped file that becomes shorter has no memory behind its last words any more. */
@@ -55,15 +60,6 @@ static int test_library(void)
     return fail(BAD_FILE, "built for version %d of the library and linked with version %" PRIu64, CATALOGUE_VERSION, version);
 }
 
-/* What was done is done, whether its answer can be printed or not. */
-static int finish(const struct command_line *l, int status)
-{
-    if (fflush(stdout) == 0 && !ferror(stdout))
-        return status;
-    int failed = fail(BAD_FILE, "%s%s cannot be printed", l->made ? l->made : "the answer", l->made ? ", but the answer" : "");
-    return status != 0 ? status : failed;
-}
-
 int main(int count, char **words)
 {
     static struct command_line l;
@@ -76,5 +72,5 @@ int main(int count, char **words)
     if (status == 0)
         status = run(&l);
     command_line_free(&l);
-    return finish(&l, status);
+    return command_finish(&l, status);
 }

@@ -285,7 +285,8 @@ int command_line_read(struct command_line *l, int count, char **words)
 {
     bool only_words = false;
     *l = (struct command_line){.absent = 1, .opening.collection = 1};
-    l->words = calloc((size_t)count + 1, sizeof *l->words);
+    /* A session puts in the table's name. */
+    l->words = calloc((size_t)count + 2, sizeof *l->words);
     if (!l->words)
         return fail(BAD_FILE, "not enough memory: nothing was done");
     for (int i = 0; i < count; i++) {

@@ -46,6 +46,7 @@ struct command_line {
     const char *list;
     const char *made; /* what the command did and a lost answer must not hide, as "the change is made"; null for nothing */
     struct opening opening;
+    struct opened *open; /* the table, if a session has it open for reading */
     struct load_options load;
     /* What a command reads from its words. */
     uint64_t low, high, nodes;

@@ -262,6 +262,8 @@ static int command_find(struct command_line *l)
     struct opened o;
     if (l->by_recording)
         return with_file(l, false, find);
+    if (l->open)
+        return find(l->open, l);
     int status = opened_begin(&o, l->words[1], false, &l->opening);
     if (status == 0)
         status = find(&o, l);
@@ -351,7 +353,7 @@ static int command_help(struct command_line *l)
     "which end a list"
 
 const struct command commands[] = {
-    {"make", "TABLE NODES", "a new, empty table of 1 to 65535 nodes; allow one for every 4 codes", "make room.cat 100", 3, 3, MAKING,
+    {"make", "NEW NODES", "a new, empty table of 1 to 65535 nodes; allow one for every 4 codes", "make room.cat 100", 3, 3, MAKING,
      command_make},
     {"add", "TABLE CODE RECORDING [CLASS]", "a new code, with its recording's class: open (if none is given), room or closed",
      "add room.cat AA-000-19-12345 7 room", 4, 5, NAMING | DOCKING | CUT | CARRYING | WAITING, command_add},
@@ -446,19 +448,9 @@ static int usage(const struct command *c)
     return fail(BAD_USAGE, "usage: catalogue %s %s (catalogue help %s says more)", c->name, c->form, c->name);
 }
 
-int command_run(struct command_line *l)
+/* The words fit: with standard output where the options ask for it. */
+static int run(const struct command *c, struct command_line *l)
 {
-    const struct command *c = command_named(l->words[0]);
-    if (!c)
-        return no_command(l->words[0]);
-    if (l->help) {
-        help(commands, c);
-        return 0;
-    }
-    if (l->given & ~c->takes)
-        return unfit(l, ~c->takes, c->name);
-    if (l->count < c->least || l->count > c->most)
-        return usage(c);
     if (c->takes & DOCKING && !(l->given & DOCKING))
         l->opening.dock = CATALOGUE_FILE_DOCK;
     struct output o;
@@ -468,4 +460,32 @@ int command_run(struct command_line *l)
     if (status == WRONG_FORM)
         status = usage(c);
     return output_end(&o, status);
+}
+
+int command_run(struct command_line *l)
+{
+    const struct command *c = l->count > 0 ? command_named(l->words[0]) : NULL;
+    if (l->version) {
+        printf("catalogue %s\n", PROGRAM_VERSION);
+        return 0;
+    }
+    if (l->count > 0 && !c)
+        return no_command(l->words[0]);
+    if (l->help) {
+        help(commands, c);
+        return 0;
+    }
+    if (!c)
+        return fail(BAD_USAGE, "usage: catalogue COMMAND TABLE .. (catalogue --help says more)");
+    if (l->given & ~c->takes)
+        return unfit(l, ~c->takes, c->name);
+    return l->count >= c->least && l->count <= c->most ? run(c, l) : usage(c);
+}
+
+int command_finish(const struct command_line *l, int status)
+{
+    if (fflush(stdout) == 0 && !ferror(stdout))
+        return status;
+    int failed = fail(BAD_FILE, "%s%s cannot be printed", l->made ? l->made : "the answer", l->made ? ", but the answer" : "");
+    return status != 0 ? status : failed;
 }

@@ -14,6 +14,7 @@
 
 static const char before[] =
     "catalogue COMMAND TABLE ..: recordings by their ISRC codes, in a table that survives a power cut at any moment\n"
+    "catalogue TABLE: reads commands, a line each, and keeps the table open for them; they take no TABLE then\n"
     "\n"
     "A table is a file, mapped into memory. A code is typed with or without hyphens and spaces, in capital or small letters\n"
     "(AA-000-19-12345, in quotes where it has spaces). A recording is a whole number from 1 to 72057594037927935. Its class\n"

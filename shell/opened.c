@@ -92,13 +92,13 @@ static int open_file(struct opened *o, bool writing, const struct opening *how)
     return number == 0 ? 0 : opened_fails(o, number, begun ? "; nothing was changed now" : "");
 }
 
-/* What the table has, and the command needs. */
-static int test_table(struct opened *o, const struct opening *how)
+int opened_choose(struct opened *o, const struct opening *how)
 {
     struct catalogue_file_about about;
     uint64_t number = catalogue_file_about(o->file, &about);
     if (number != 0)
         return opened_fails(o, number, "");
+    o->table.collection = how->collection;
     o->table.collections = about.collections;
     o->table.words = about.words;
     o->table.bytes = (about.words + (about.trailer ? CATALOGUE_FILE_TRAILER : 0)) * sizeof(uint64_t);
@@ -119,7 +119,7 @@ int opened_begin(struct opened *o, const char *name, bool writing, const struct 
     if (!o->file)
         return fail(BAD_FILE, "not enough memory for %s", name);
     status = open_file(o, writing, how);
-    return status == 0 ? test_table(o, how) : status;
+    return status == 0 ? opened_choose(o, how) : status;
 }
 
 void opened_end(struct opened *o)

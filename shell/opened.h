@@ -28,6 +28,9 @@ struct opened {
 
 /* opened_end in either case. */
 int opened_begin(struct opened *o, const char *name, bool writing, const struct opening *how);
+
+/* The collection of a table that is open already. */
+int opened_choose(struct opened *o, const struct opening *how);
 void opened_end(struct opened *o);
 
 /* The words of one moment into the table, with a copy; they are there until the next call of the library with this file. */
