@@ -3,6 +3,7 @@ pub mod Demand3
 pub mod Starts
 pub mod Batches
 pub mod QuickHistories
+pub mod QuickSingles
 pub mod Images
 pub mod Happens
 pub mod HappensTwo

@@ -24,7 +24,7 @@ use Rattle.summary_laws.proofs.Batches.{quick-batch}
 use Rattle.crash_laws.proofs.Demand3.{refused-table, demand3-from, along}
 
 -- what a host may have: a summary that is true of the working copy, or none
-abbrev Good : Host → Type 0
+abbrev pub Good : Host → Type 0
 Good h = (ws : Words) → h .summary ≡ some ws → Current ws (h .state .working)
 
 not-some : (ws : Words) → _≡_ {A = Option Words} none (some ws) → ⊥
@@ -131,10 +131,10 @@ opens-good lent h g = go (openNumber (length lent) (h .state .working)) refl
 
 -- ---- all acts, beside the plain calls
 
-record Beside (s : State) (h : Acts) : Type 0 where
-  state : runActs s h .state ≡ runFrom s (plain h)
-  good : Good (runActs s h)
-  may : MayFrom s (plain h)
+pub record Beside (s : State) (h : Acts) : Type 0 where
+  pub state : runActs s h .state ≡ runFrom s (plain h)
+  pub good : Good (runActs s h)
+  pub may : MayFrom s (plain h)
 
 quick-beside : (e : Event) (s u : State) (w : Option Words) (p : History) → u ≡ runFrom s p → Good (host u w) → MayFrom s p → QuickMay w u e
     → (quickStep w u e .state ≡ runFrom s (plainly e ∷ p)) × Good (quickStep w u e) × MayFrom s (plainly e ∷ p)
@@ -145,7 +145,7 @@ quick-beside e s u (some ws) p q g m f =
     let may : numberOf u (plainly e) ≡ 0 → FateMay (e .fate) u (plainly e) = λ z. fate-same ws u e c (e .fate) (f (same ws u e c .number ∙ z)) in
     (quick-state ws u e c ∙ ap (λ (x : State). step x (plainly e)) q, quick-good ws u e c, (m, rw q at may))
 
-beside : (s : State) (h : Acts) → MayActs s h → Beside s h
+pub beside : (s : State) (h : Acts) → MayActs s h → Beside s h
 unfolding runActs MayActs plain MayFrom runFrom
 beside s [] m = record { state = refl; good = λ w y. absurd (not-some w y); may = tt }
 beside s (call e ∷ h) m =

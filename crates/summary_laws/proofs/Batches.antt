@@ -31,9 +31,14 @@ module _ (n dock : ℕ) (s : Slot) (ss : List Slot) (list ws t : Words) where
     | Refused m ↦ quickBatched (stopped m list t) ws
   ]
 
-  quick-next : (w : Written) → quickWritten (insertionOf n s) (length list) dock ws t ≡ w → quickBatch n dock (s ∷ ss) list ws t ≡ next w
+  pub quick-stops : (m : ℕ) → quickWritten (insertionOf n s) (length list) dock ws t ≡ Refused m → quickBatch n dock (s ∷ ss) list ws t ≡ quickBatched (stopped m list t) ws
   unfolding quickBatch
-  quick-next w e = ap (λ (w : Written). next w) e
+  quick-stops m e = ap (λ (w : Written). next w) e
+
+  pub quick-goes : (a b c : ℕ) → quickWritten (insertionOf n s) (length list) dock ws t ≡ Done a b c
+      → quickBatch n dock (s ∷ ss) list ws t ≡ quickBatched (behind 1 a b c (take (2 * (a + b + c)) later) (rest (2 * (a + b + c)) .batched)) (rest (2 * (a + b + c)) .summary)
+  unfolding quickBatch
+  quick-goes a b c e = ap (λ (w : Written). next w) e
 
 -- ---- all pairs
 
@@ -52,10 +57,10 @@ quick-batch n dock (s ∷ ss) list ws t c =
     go : (w : Written) → written (insertionOf n s) (length list) dock t ≡ w
         → ((l : Words) → SameBatch n dock ss l (quickSummary (insertionOf n s) (length list) dock ws t) (quickTable (insertionOf n s) (length list) dock ws t)) → SameBatch n dock (s ∷ ss) list ws t
     go (Refused m) e ih =
-        let q = quick-next n dock s ss list ws t (Refused m) (quick-written ws t c (insertionOf n s) (length list) dock ∙ e) in
+        let q = quick-stops n dock s ss list ws t m (quick-written ws t c (insertionOf n s) (length list) dock ∙ e) in
         record { same = ap (λ (r : QuickBatched). r .batched) q ∙ sym (batch-stops n dock s ss list t m e); stays-true = rw q c }
     go (Done a b d) e ih =
-        let q = quick-next n dock s ss list ws t (Done a b d) (quick-written ws t c (insertionOf n s) (length list) dock ∙ e) in
+        let q = quick-goes n dock s ss list ws t a b d (quick-written ws t c (insertionOf n s) (length list) dock ∙ e) in
         let h = ih (drop (2 * (a + b + d)) (quickList (insertionOf n s) list dock ws t)) in
         record {
           same =

@@ -1,0 +1,2 @@
+-- What histories come to.
+pub mod QuickSingles
