@@ -278,7 +278,9 @@ static bool answers(struct looks *l, uint64_t collection, uint64_t key, struct l
     bool kept = l->holds && start == l->valid;
     if (!kept)
         begin_anew(l);
+    size_t looked = l->looked;
     *number = search(l, collection, key, answer);
+    l->filled = l->looked == looked;
     uint64_t end = shared_load(l->counter);
     l->holds = start % 2 == 0 && end == start;
     l->valid = start;
@@ -292,7 +294,7 @@ uint64_t looks_search(struct looks *l, uint64_t collection, uint64_t key, struct
 {
     uint64_t number;
     /* The copies were the table's words when the counter was read, whatever it is now. */
-    if (l->holds && shared_load(l->counter) == l->valid) {
+    if (l->holds && l->filled && shared_load(l->counter) == l->valid) {
         number = ask(l, collection, key, answer);
         if (number != CATALOGUE_SEARCH_LOST)
             return number;

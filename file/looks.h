@@ -29,6 +29,7 @@ struct looks {
     uint8_t *state;   /* by node number: LOOKS_WHOLE and so on */
     uint32_t *seen;   /* the nodes that it has something of, each once */
     size_t looked;    /* how many */
+    bool filled;      /* the last search that looked for nodes found all of them copied: the next one may too */
     bool forgot;      /* unguarded nodes may have words that were forgotten; else they are zeros */
     uint64_t valid;   /* the even counter that all copies hold for, if .. */
     bool holds;

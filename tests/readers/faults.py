@@ -24,7 +24,7 @@ FAULTS = [
     ("an odd counter that stands is taken for an even one", "looks.c", "l->holds = start % 2 == 0 && end == start;", "l->holds = end == start;"),
     ("the end is not looked at", "looks.c", "l->holds = start % 2 == 0 && end == start;", "l->holds = start % 2 == 0;"),
     ("copies are kept though the counter has moved", "looks.c", "bool kept = l->holds && start == l->valid;", "bool kept = l->holds;"),
-    ("copies are used though the counter has moved", "looks.c", "if (l->holds && shared_load(l->counter) == l->valid) {", "if (l->holds) {"),
+    ("copies are used though the counter has moved", "looks.c", "if (l->holds && l->filled && shared_load(l->counter) == l->valid) {", "if (l->holds && l->filled) {"),
     ("a search passes a sibling of which it has the fence alone", "looks.c", "        words[SIBLING] = CATALOGUE_MARK;\n", ""),
     ("leaves that were not looked at are passed", "looks.c", "copy_of(l, n)[LEVEL] = NO_LEVEL;", "copy_of(l, n)[LEVEL] = 0;"),
     ("the second pass leaves the header out", "looks.c", "bool still = same(l, 0, l->count < HEADER_WORDS ? l->count : HEADER_WORDS);", "bool still = true;"),

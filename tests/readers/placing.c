@@ -413,7 +413,9 @@ static void warm(const struct scene *s, uint64_t collection, uint64_t key, unsig
     if (warmth == COLD)
         return;
     memcpy(memory, s->state[0], sizeof memory);
-    looks_search(&looks, collection, warmth == WARM ? key : s->asked[0], &a);
+    /* The second one finds all copied; after that a search goes by the copies alone, if they are enough. */
+    for (unsigned i = 0; i < 2; i++)
+        looks_search(&looks, collection, warmth == WARM ? key : s->asked[0], &a);
 }
 
 static void search_all(const struct scene *s, uint64_t collection, uint64_t key, unsigned warmth)
