@@ -1,8 +1,11 @@
 /*
- * Time of a search beside a writer: speed CODES NODES. The library's search of the mapped words, then the reader's: beside an idle writer, beside
- * one that is stopped within a bracket, beside one that changes one code as fast as it can, and beside one that does so every 10 ms. First the
- * time and the page faults of the first search of a new reader. No writer runs during the library's search.
+ * Finds of one open handle: speed FOLDER CODES NODES, with the processor time of the thread that finds. The core's search of the mapped words,
+ * the handle's find beside an idle writer and, if it is built with LMDB (WITH_LMDB), LMDB's get of the same keys take turns; the figure is the
+ * median of their rounds. Then finds beside writers: one that is stopped within a bracket, one that makes a change every 10 ms, one that does so
+ * without pause, and one that carries lists out that were planned before, without pause; and LMDB's beside one that inserts every 10 ms. The first
+ * line is the first find of a new handle, with its page faults, the last one that after a change of a handle that has walked the whole table.
  */
+#include <fcntl.h>
 #include <inttypes.h>
 #include <pthread.h>
 #include <stdio.h>
@@ -11,22 +14,33 @@
 #include <sys/mman.h>
 #include <sys/resource.h>
 #include <time.h>
-#include <unistd.h>
 
-#include "looks.h"
+#include "catalogue_file.h"
 #include "writer.h"
+#ifdef WITH_LMDB
+#include "peer.h"
+#endif
 
-#define SEARCHES 300000
+#define SEARCHES 200000
 #define LISTS 4
-#define ROUNDS 3
+#define ROUNDS 9
+#define TEN_MILLISECONDS 10000000
 
-static struct writer writer;
+static char name[4096];
+static struct writer writer; /* on the file's words, without a lock */
 static struct list lists[LISTS];
-static uint64_t *keys;
-static uint64_t codes;
+static uint64_t *keys, codes;
 static uint64_t state = 88172645463325252u;
-static long pause_between = -1; /* nanoseconds between two changes; no writer if negative */
+static catalogue_file *handle;
 static uint64_t ended, changes;
+
+static void wants(bool holds, const char *what)
+{
+    if (holds)
+        return;
+    fprintf(stderr, "speed: %s\n", what);
+    exit(2);
+}
 
 static uint64_t next_random(void)
 {
@@ -36,10 +50,10 @@ static uint64_t next_random(void)
     return state;
 }
 
+/* Seconds of this thread's own processor time: the machine may be busy with other things. */
 static double now(void)
 {
     struct timespec t;
-    /* The reader's own processor time: the machine may be busy with other things. */
     clock_gettime(CLOCK_THREAD_CPUTIME_ID, &t);
     return (double)t.tv_sec + (double)t.tv_nsec * 1e-9;
 }
@@ -51,138 +65,302 @@ static long faults(void)
     return usage.ru_minflt + usage.ru_majflt;
 }
 
-/* ---- the table, in a file that is mapped, as the program has it */
+/* ---- the table, packed, and its words mapped */
 
-static void make_table(uint64_t nodes)
+static uint64_t *make_pairs(void)
 {
-    size_t words = HEADER_WORDS + NODE_WORDS * nodes, bytes = (words + TRAILER_WORDS) * sizeof(uint64_t);
-    char name[] = "/tmp/speed.XXXXXX";
-    int file = mkstemp(name);
     uint64_t *pairs = malloc(codes * 2 * sizeof *pairs);
-    writer = (struct writer){.words = words, .working = calloc(words, sizeof(uint64_t)), .brackets = BRACKET_LIST};
     keys = malloc(codes * sizeof *keys);
-    if (file < 0 || unlink(name) != 0 || ftruncate(file, (off_t)bytes) != 0 || !pairs || !keys || !writer.working)
-        exit(2);
+    wants(pairs && keys, "not enough memory");
     for (uint64_t i = 0, key = 0; i < codes; i++) {
         key += 2 + next_random() % 1000;
         keys[i] = pairs[2 * i] = key;
-        pairs[2 * i + 1] = i + 1;
+        pairs[2 * i + 1] = CATALOGUE_POINTER(i + 1, CATALOGUE_OPEN);
     }
-    if (catalogue_pack(writer.working, words, 1, pairs, 2 * codes, pairs, 0) != 0)
-        exit(2);
-    free(pairs);
-    writer.memory = mmap(NULL, bytes, PROT_READ | PROT_WRITE, MAP_SHARED, file, 0);
-    if (writer.memory == MAP_FAILED || pwrite(file, writer.working, words * sizeof(uint64_t), 0) != (ssize_t)(words * sizeof(uint64_t)))
-        exit(2);
+    return pairs;
 }
 
-/* One code goes and comes back: lists that may be carried out again and again. */
-static void plan(void)
+static void make_table(const uint64_t *pairs, uint64_t nodes)
 {
-    for (unsigned turn = 0; turn < 2; turn++)
-        for (unsigned i = 0; i < LISTS; i++) {
-            enum change kind = i == 0 ? DELETE : i == 1 ? INSERT : CLASS;
-            if (writer_plan(&writer, kind, 1, keys[codes / 2], codes / 2 + 1, i == 2 ? 2 : 0, NULL) != 0)
-                exit(2);
-            writer_carry(&writer, kind, writer.count, 0);
-            lists[i] = writer_list(&writer, kind);
-        }
+    catalogue_file *f = catalogue_file_new();
+    wants(f && catalogue_file_create(f, name, nodes, 1) == 0 && catalogue_file_open(f, name, CATALOGUE_FILE_WRITING, 0) == 0
+              && catalogue_file_load_pairs(f, 1, 0, pairs, codes, NULL) == 0 && catalogue_file_close(f) == 0,
+          "the table cannot be made");
+    catalogue_file_free(f);
 }
 
-static void *write_until(void *unused)
+static void map_table(uint64_t nodes)
 {
-    (void)unused;
-    for (unsigned i = 0; !__atomic_load_n(&ended, __ATOMIC_RELAXED); i = (i + 1) % LISTS) {
-        struct timespec pause = {.tv_nsec = pause_between};
-        writer_carry_list(&writer, &lists[i], lists[i].count, 0);
-        changes++;
-        if (pause_between > 0)
-            nanosleep(&pause, NULL);
-    }
-    return NULL;
+    size_t words = HEADER_WORDS + NODE_WORDS * nodes;
+    int file = open(name, O_RDWR | O_CLOEXEC);
+    writer = (struct writer){.words = words, .working = malloc(words * sizeof(uint64_t)), .brackets = BRACKET_LIST};
+    writer.memory = mmap(NULL, (words + TRAILER_WORDS) * sizeof(uint64_t), PROT_READ | PROT_WRITE, MAP_SHARED, file, 0);
+    wants(file >= 0 && writer.working && writer.memory != MAP_FAILED, "the table cannot be mapped");
+    writer_open(&writer);
 }
 
-/* ---- searches */
+/* ---- contenders */
 
-static struct looks looks;
-
-static uint64_t by_library(uint64_t key)
+static uint64_t by_core(uint64_t key)
 {
     uint64_t recording = 0, access, next, higher;
     catalogue_search(writer.memory, writer.words, 1, key, &recording, &access, &next, &higher);
     return recording;
 }
 
-static uint64_t by_reader(uint64_t key)
+static uint64_t by_find(uint64_t key)
 {
-    struct looks_answer a;
-    looks_search(&looks, 1, key, &a);
-    return a.recording;
+    struct catalogue_file_pair found;
+    catalogue_file_find(handle, 1, key, &found);
+    return found.recording;
 }
 
-/* The best of some rounds. */
-static double time_of(uint64_t (*search)(uint64_t))
+#ifdef WITH_LMDB
+static void *store;
+
+static uint64_t by_get(uint64_t key)
 {
-    double best = 1e9;
-    for (unsigned round = 0; round < ROUNDS; round++) {
-        double start = now();
-        for (uint64_t n = 0; n < SEARCHES; n++) {
-            uint64_t i = next_random() % codes;
-            if (search(keys[i]) != i + 1 && i != codes / 2)
-                exit(1);
-        }
-        double took = now() - start;
-        best = took < best ? took : best;
+    return CATALOGUE_RECORDING(lmdb.find(store, key));
+}
+
+static uint64_t by_transaction(uint64_t key)
+{
+    lmdb.begin(store);
+    uint64_t recording = by_get(key);
+    lmdb.end(store);
+    return recording;
+}
+#endif
+
+struct contender {
+    const char *name;
+    uint64_t (*find)(uint64_t);
+    bool transaction; /* one for all finds of a round */
+    double times[ROUNDS];
+};
+
+static struct contender contenders[] = {
+    {.name = "the core's search", .find = by_core},
+    {.name = "find, an idle writer", .find = by_find},
+#ifdef WITH_LMDB
+    {.name = "LMDB's get, one read transaction for all", .find = by_get, .transaction = true},
+    {.name = "LMDB's get, a read transaction each", .find = by_transaction},
+#endif
+};
+
+/* Nanoseconds a find. The code in the middle comes and goes. */
+static double time_of(uint64_t (*find)(uint64_t))
+{
+    double start = now();
+    for (uint64_t n = 0; n < SEARCHES; n++) {
+        uint64_t i = next_random() % codes;
+        wants(find(keys[i]) == i + 1 || i == codes / 2, "a wrong recording");
     }
-    return best / SEARCHES * 1e9;
+    return (now() - start) / SEARCHES * 1e9;
 }
 
-static void beside(const char *what, long pause, double library)
+static double time_in_turn(struct contender *c)
+{
+#ifdef WITH_LMDB
+    if (c->transaction)
+        lmdb.begin(store);
+#endif
+    double took = time_of(c->find);
+#ifdef WITH_LMDB
+    if (c->transaction)
+        lmdb.end(store);
+#endif
+    return took;
+}
+
+static int rising(const void *a, const void *b)
+{
+    const double *x = a, *y = b;
+    return (*x > *y) - (*x < *y);
+}
+
+static double median(double *times)
+{
+    qsort(times, ROUNDS, sizeof *times, rising);
+    return times[ROUNDS / 2];
+}
+
+static void print(const char *what, double took, double core)
+{
+    printf("   %s: %.0f ns, %.2f million a second, %.2f times the core's\n", what, took, 1e3 / took, took / core);
+    fflush(stdout);
+}
+
+/* In turn; the core's time. */
+static double compare(void)
+{
+    size_t count = sizeof contenders / sizeof contenders[0];
+    for (unsigned round = 0; round < ROUNDS; round++)
+        for (size_t i = 0; i < count; i++)
+            contenders[i].times[round] = time_in_turn(&contenders[i]);
+    double core = median(contenders[0].times);
+    for (size_t i = 0; i < count; i++)
+        print(contenders[i].name, i == 0 ? core : median(contenders[i].times), core);
+    return core;
+}
+
+/* ---- writers */
+
+static bool goes_on(void)
+{
+    return !__atomic_load_n(&ended, __ATOMIC_RELAXED);
+}
+
+/* One code goes and comes back, and has another class and its own; nanoseconds between two changes. */
+static void *by_library(void *between)
+{
+    struct timespec pause = {.tv_nsec = *(long *)between};
+    catalogue_file *f = catalogue_file_new();
+    uint64_t key = keys[codes / 2], recording = codes / 2 + 1;
+    wants(f && catalogue_file_open(f, name, CATALOGUE_FILE_WRITING | CATALOGUE_FILE_FAST, 0) == 0, "no second handle");
+    for (unsigned i = 0; goes_on() || i % 4 != 0; i++) {
+        uint64_t number = i % 4 == 0   ? catalogue_file_remove(f, 1, key)
+                          : i % 4 == 1 ? catalogue_file_add(f, 1, key, recording, CATALOGUE_OPEN)
+                                       : catalogue_file_set_class(f, 1, key, i % 4 == 2 ? CATALOGUE_CLOSED : CATALOGUE_OPEN);
+        wants(number == 0, "a change was refused");
+        changes++;
+        if (pause.tv_nsec > 0)
+            nanosleep(&pause, NULL);
+    }
+    catalogue_file_free(f);
+    return NULL;
+}
+
+/* The same changes as lists that may be carried out again and again. */
+static void plan(void)
+{
+    for (unsigned turn = 0; turn < 2; turn++)
+        for (unsigned i = 0; i < LISTS; i++) {
+            enum change kind = i == 0 ? DELETE : i == 1 ? INSERT : CLASS;
+            wants(writer_plan(&writer, kind, 1, keys[codes / 2], codes / 2 + 1, i == 2 ? 2 : 0, NULL) == 0, "a change was refused");
+            writer_carry(&writer, kind, writer.count, 0);
+            lists[i] = writer_list(&writer, kind);
+        }
+}
+
+static void *by_lists(void *unused)
+{
+    (void)unused;
+    for (unsigned i = 0; goes_on() || i != 0; i = (i + 1) % LISTS) {
+        writer_carry_list(&writer, &lists[i], lists[i].count, 0);
+        changes++;
+    }
+    return NULL;
+}
+
+#ifdef WITH_LMDB
+/* Codes between the others come. */
+static void *by_peer(void *between)
+{
+    struct timespec pause = {.tv_nsec = *(long *)between};
+    for (uint64_t i = 0; goes_on() && i < codes; i++) {
+        struct pair pair = {keys[i] + 1, codes + 1 + i};
+        wants(lmdb.insert(store, &pair, 1), "a change was refused");
+        changes++;
+        nanosleep(&pause, NULL);
+    }
+    return NULL;
+}
+#endif
+
+static double median_of(uint64_t (*find)(uint64_t))
+{
+    double times[ROUNDS];
+    for (unsigned round = 0; round < ROUNDS; round++)
+        times[round] = time_of(find);
+    return median(times);
+}
+
+static void beside(const char *what, uint64_t (*find)(uint64_t), void *(*work)(void *), long between, double core)
 {
     pthread_t thread;
-    pause_between = pause;
+    char with[100];
     ended = changes = 0;
-    if (pause >= 0 && pthread_create(&thread, NULL, write_until, NULL) != 0)
-        exit(2);
-    double reader = time_of(by_reader);
+    wants(pthread_create(&thread, NULL, work, &between) == 0, "no thread");
+    double took = median_of(find);
     __atomic_store_n(&ended, 1, __ATOMIC_RELAXED);
-    if (pause >= 0)
-        pthread_join(thread, NULL);
-    printf("   beside %s: %.0f ns, %.2f times the library's, %.2f million a second\n", what, reader, reader / library, 1e3 / reader);
+    pthread_join(thread, NULL);
+    snprintf(with, sizeof with, "%s (%" PRIu64 " of them)", what, changes);
+    print(with, took, core);
 }
 
-static void first_search(void)
+static void beside_stopped(double core)
+{
+    struct counter stopped = counter_start(writer_counter(&writer), BRACKET_LIST);
+    counter_store(&stopped, &writer.memory[HEADER_WORDS], writer.memory[HEADER_WORDS]);
+    print("find, a writer stopped within a bracket", median_of(by_find), core);
+    counter_finish(&stopped);
+}
+
+/* ---- single finds */
+
+static int pass(void *count, const struct catalogue_file_pair *pair)
+{
+    *(uint64_t *)count += pair->recording != 0;
+    return 0;
+}
+
+/* Of a handle that has copied the whole table, the first find after a change. */
+static void after_a_walk(void)
+{
+    double times[ROUNDS];
+    for (unsigned round = 0; round < ROUNDS; round++) {
+        uint64_t walked = 0;
+        wants(catalogue_file_walk(handle, 1, 0, UINT64_MAX, pass, &walked) == 0 && walked == codes, "the walk has not all codes");
+        /* A class, to and fro. */
+        const struct list *list = &lists[2 + round % 2];
+        writer_carry_list(&writer, list, list->count, 0);
+        double start = now();
+        by_find(keys[codes / 3]);
+        times[round] = (now() - start) * 1e6;
+    }
+    double middle = median(times);
+    printf("   first find after a change, of a handle that walked the whole table: %.1f us, at most %.1f\n", middle, times[ROUNDS - 1]);
+}
+
+static void first_find(void)
 {
     long before = faults();
     double start = now();
-    if (!looks_begin(&looks, writer.memory, writer_counter(&writer), writer.words))
-        exit(2);
-    by_reader(keys[codes / 3]);
+    handle = catalogue_file_new();
+    wants(handle && catalogue_file_open(handle, name, CATALOGUE_FILE_READING, 0) == 0, "the table cannot be opened");
+    by_find(keys[codes / 3]);
     double took = now() - start;
-    printf("   first search of a new reader: %ld page faults, %.0f us\n", faults() - before, took * 1e6);
+    printf("   opening a handle and its first find: %ld page faults, %.0f us\n", faults() - before, took * 1e6);
 }
 
 int main(int count, char **arguments)
 {
-    if (count != 3)
-        return 2;
-    codes = strtoull(arguments[1], NULL, 10);
-    make_table(strtoull(arguments[2], NULL, 10));
-    printf("%" PRIu64 " codes in %s nodes\n", codes, arguments[2]);
-    first_search();
-    looks_end(&looks);
+    wants(count == 4, "speed FOLDER CODES NODES");
+    codes = strtoull(arguments[2], NULL, 10);
+    uint64_t nodes = strtoull(arguments[3], NULL, 10), *pairs = make_pairs();
+    snprintf(name, sizeof name, "%s/table", arguments[1]);
+    make_table(pairs, nodes);
+#ifdef WITH_LMDB
+    const struct place place = {.folder = arguments[1], .scratch = arguments[1], .codes = codes};
+    store = lmdb.load(&place, (const struct pair *)pairs, codes, true);
+#endif
+    printf("%" PRIu64 " codes in %" PRIu64 " nodes\n", codes, nodes);
+    map_table(nodes);
+    first_find();
+    double core = compare();
+    beside_stopped(core);
+    beside("find, changes every 10 ms", by_find, by_library, TEN_MILLISECONDS, core);
+    beside("find, changes without pause", by_find, by_library, 0, core);
+    writer_open(&writer);
     plan();
-    if (!looks_begin(&looks, writer.memory, writer_counter(&writer), writer.words))
-        return 2;
-    double library = time_of(by_library);
-    printf("   the library's search: %.0f ns\n", library);
-    beside("an idle writer", -1, library);
-    struct counter stopped = counter_start(writer_counter(&writer), BRACKET_LIST);
-    counter_store(&stopped, &writer.memory[HEADER_WORDS], writer.memory[HEADER_WORDS]);
-    beside("a writer that is stopped within a bracket", -1, library);
-    counter_finish(&stopped);
-    beside("a writer that changes one code every 10 ms", 10000000, library);
-    beside("a writer that changes one code without pause", 0, library);
-    looks_end(&looks);
+    beside("find, planned lists without pause", by_find, by_lists, 0, core);
+#ifdef WITH_LMDB
+    beside("LMDB's get, a read transaction each, insertions every 10 ms", by_transaction, by_peer, TEN_MILLISECONDS, core);
+#endif
+    after_a_walk();
+#ifdef WITH_LMDB
+    lmdb.close(store);
+#endif
     return 0;
 }
