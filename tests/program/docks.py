@@ -36,6 +36,7 @@ def the_worked_orders(program, folder):
     assert program.done("repair", t, *ONE) == "nothing to repair (0 stores, 0 flushes)\n"
     assert program.done("remove", t, "AA0001912345", "--cut", 2, *ONE).startswith("cut off after 2 of 5 orders")
     assert program.done("repair", t, *ONE) == "repaired (1 store, 1 flush, 1 barrier)\n"
+    assert program.done("add", t, "AA-000-19-12345", 7, *docked(0), "--force") == "added AA0001912345,7,open (4 stores, 1 flush)\n"
 
 
 def wrong_docks(program, folder):
@@ -46,6 +47,8 @@ def wrong_docks(program, folder):
             program.refuses(BAD_USAGE, "^catalogue: --dock takes 0 or 1$", *words, f"--dock={dock}")
     for words in (["make", u, 4], ["find", t, code(1)], ["list", t], ["check", t], ["show", t], ["copy", t, u, 9], ["salvage", t, u], ["help"]):
         program.refuses(BAD_USAGE, f"{words[0]} takes no --dock", *words, *ONE)
+    for words in (["orders", t, "repair"], ["find", t, code(1)], ["make", u, 4]):
+        program.refuses(BAD_USAGE, f"{words[0]} takes no --force", *words, "--force")
     assert not os.path.exists(u)
 
 
