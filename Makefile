@@ -13,6 +13,7 @@ all: needs
 help:
 	@echo "make            looks for the tools, proves and builds the library, builds the program; the first time some minutes"
 	@echo "make demo       the same, then the program on a table of a hundred codes, step by step, in target/demo"
+	@echo "make wasm       library, judge and film as the WebAssembly module of the lesson's page: target/wasm/live.wasm"
 	@echo "make check      tests of what is built, a part, in under two minutes"
 	@echo "make test       every test of what is built, but those that want a browser or spin"
 	@echo "make gate       .ci/run: every proof from nothing, every must-fail edit, every test"
@@ -40,6 +41,11 @@ test: own all
 	@.ci/needs test
 	@$(ALONE) tests/all
 
+wasm: needs
+	@wasm/build --needs
+	@$(MAKE) -s -C shell module
+	@ls -l target/wasm/live.wasm
+
 gate:
 	@$(ALONE) .ci/run
 
@@ -53,4 +59,4 @@ install uninstall:
 clean:
 	rm -rf target
 
-.PHONY: all bench check clean demo gate help install needs own test uninstall
+.PHONY: all bench check clean demo gate help install needs own test uninstall wasm

@@ -43,7 +43,7 @@ struct filming {
     uint64_t *image, *still; /* the image, and what it was before it was searched */
     struct pool sound, maps, rows, ways, kinds;
     size_t order; /* with which the images first appear */
-    size_t images;
+    size_t images, most; /* so far; at most */
     bool begun;       /* an image of this order is printed */
     bool at_odds;     /* a way did not end where the library's answer is, or a search changed a word */
     struct first lost, unsound;
@@ -176,7 +176,7 @@ static size_t set_aside(const struct filming *f, size_t *least)
         sum += least[c];
         stores += least[c] > 0;
     }
-    if (sum <= MOST_IMAGES)
+    if (sum <= f->most)
         return sum;
     for (size_t c = 0; c <= f->reel.count; c++)
         least[c] = least[c] > 0;
@@ -193,7 +193,7 @@ static void print_images(struct filming *f)
         later -= least[f->order];
         f->begun = false;
         fputs(f->order == 0 ? "[" : ",[", f->out);
-        if (reel_births(&f->reel, f->order, MOST_IMAGES - f->images - later, visit, f))
+        if (reel_births(&f->reel, f->order, f->most - f->images - later, visit, f))
             some[count++] = f->order;
         fputc(']', f->out);
     }
@@ -273,6 +273,25 @@ static void print_judge(const struct filming *f)
     free(out);
 }
 
+/* The differences from the list beside it: [[at, length, at there, length there, "what breaks" or null], ..]. */
+static void print_hunks(const struct filming *f)
+{
+    const struct hunks *h = f->scene->hunks;
+    if (!h)
+        return;
+    fputs("\"hunks\":[", f->out);
+    for (size_t i = 0; i < h->count; i++) {
+        const struct hunk *one = &h->of[i];
+        fprintf(f->out, "%s[%zu,%zu,%zu,%zu,", i == 0 ? "" : ",", one->at, one->length, one->right_at, one->right_length);
+        if (one->breaks)
+            json_text(f->out, one->breaks);
+        else
+            fputs("null", f->out);
+        fputc(']', f->out);
+    }
+    fputs("],\n", f->out);
+}
+
 static void print_head(const struct filming *f)
 {
     const struct scene *s = f->scene;
@@ -280,6 +299,10 @@ static void print_head(const struct filming *f)
     json_text(f->out, s->title);
     fputs(",\"told\":", f->out);
     json_text(f->out, s->told);
+    if (s->ask) {
+        fputs(",\"ask\":", f->out);
+        json_text(f->out, s->ask);
+    }
     fputs(",\"list\":", f->out);
     json_text(f->out, s->list);
     fprintf(f->out, ",\"own\":%s,\"beside\":%d,\n", s->own ? "true" : "false", s->beside);
@@ -287,6 +310,7 @@ static void print_head(const struct filming *f)
             s->base[SECOND_ROOT] == 0 ? 1 : 2, f->verdicts.before[0].count, f->verdicts.before[1].count);
     print_change(f);
     print_judge(f);
+    print_hunks(f);
     fputs("\"orders\":", f->out);
     orders_json(f->out, s->orders, s->count);
     fputs(",\n", f->out);
@@ -335,15 +359,21 @@ static void filming_end(struct filming *f)
 static void set_stage(struct filming *f)
 {
     const struct scene *s = f->scene;
+    struct way way = {0};
+    struct wanted_nodes also = {.nodes = way.nodes, .spare = s->spare};
     memcpy(f->image, s->base, s->words * sizeof *f->image);
     catalogue_carry_out(f->image, s->words, s->orders, 2 * s->count, s->count);
-    stage_set(&f->stage, &f->reel, has_header(f) ? f->image : s->base, s->collection, f->verdicts.before[s->collection - 1].count);
+    if (s->spare > 0 && way_find(&way, s->base, s->words, s->collection, s->change->key))
+        also.count = way.count;
+    stage_set(&f->stage, &f->reel, has_header(f) ? f->image : s->base, s->collection, f->verdicts.before[s->collection - 1].count, &also);
     memcpy(f->image, s->base, s->words * sizeof *f->image);
 }
 
 int scene_print(const struct scene *s, FILE *out)
 {
     struct filming f = {.scene = s, .out = out, .image = room_of(s->words, sizeof *f.image), .still = room_of(s->words, sizeof *f.still)};
+    /* Each store keeps one, also if fewer are asked for. */
+    f.most = s->most == 0 ? MOST_IMAGES : s->count < s->most ? s->most : s->count + 1;
     reel_begin(&f.reel, s->base, s->words, s->orders, s->count);
     uint64_t number = verdicts_begin(&f.verdicts, s->base, s->words, s->collection, s->change);
     const struct table t = {.name = "the table", .collection = s->collection};
@@ -362,17 +392,17 @@ int scene_print(const struct scene *s, FILE *out)
     return status;
 }
 
-int film_print(const struct scene *scenes, size_t count, bool data)
+int film_print(const struct scene *scenes, size_t count, bool data, bool board, const char *more)
 {
     int status = 0;
     if (!data)
-        page_begin(stdout);
+        page_begin(stdout, board);
     fputs("{\"format\":1,\"scenes\":[\n", stdout);
     for (size_t i = 0; i < count && status == 0; i++) {
         fputs(i == 0 ? "" : ",\n", stdout);
         status = scene_print(&scenes[i], stdout);
     }
-    fputs("]}\n", stdout);
+    printf("]%s}\n", more ? more : "");
     if (!data)
         page_end(stdout);
     return status;
@@ -408,6 +438,33 @@ static int test_list(const struct table *t, const struct order_list *l, const ch
     return number == 0 ? 0 : refuse(number, t, 0, 0);
 }
 
+/* The list drawn, beside the nearest right one: that is the library's, or a third scene. */
+static int film_drawn(const struct table *t, const struct change *wanted, struct scene *scenes, bool data)
+{
+    static const char *const names[] = {[MENDED_LIST] = "the list drawn, mended", [SHORT_LIST] = "the library's orders, without those that change no word"};
+    struct scene *drawn = &scenes[1];
+    struct nearest n;
+    struct hunks h = {0};
+    nearest_find(&n, t, wanted, drawn->orders, drawn->count);
+    bool third = n.whose == MENDED_LIST || n.whose == SHORT_LIST;
+    if (third) {
+        scenes[2] = scenes[0];
+        scenes[2].list = names[n.whose];
+        scenes[2].own = false;
+        scenes[2].orders = n.orders;
+        scenes[2].count = n.count;
+        drawn->beside = 2;
+    }
+    if (nearest_mends(t, drawn->count)) {
+        hunks_find(&h, t, wanted, drawn->orders, drawn->count, scenes[drawn->beside].orders, scenes[drawn->beside].count);
+        drawn->hunks = &h;
+    }
+    int status = film_print(scenes, third ? 3 : 2, data, false, NULL);
+    hunks_free(&h);
+    nearest_free(&n);
+    return status;
+}
+
 int film(const struct table *t, const struct change *wanted, const char *list, bool data)
 {
     char title[EXPLANATION];
@@ -422,7 +479,7 @@ int film(const struct table *t, const struct change *wanted, const char *list, b
     struct scene own = {.title = title_of(t, wanted, title, sizeof title), .told = "", .list = "the library's orders", .own = true,
                         .beside = -1, .base = t->base, .words = t->words, .collection = t->collection, .change = wanted,
                         .orders = planned.orders, .count = change_orders(&planned)};
-    struct scene scenes[] = {own, own};
+    struct scene scenes[] = {own, own, own};
     if (list) {
         scenes[1].list = strcmp(list, "-") == 0 ? "the orders of standard input" : list;
         scenes[1].own = false;
@@ -430,8 +487,10 @@ int film(const struct table *t, const struct change *wanted, const char *list, b
         scenes[1].orders = l.words;
         scenes[1].count = l.count;
     }
-    if (status == 0)
-        status = film_print(scenes, list ? 2 : 1, data);
+    if (status == 0 && list && wanted->kind != REPAIR)
+        status = film_drawn(t, wanted, scenes, data);
+    else if (status == 0)
+        status = film_print(scenes, list ? 2 : 1, data, false, NULL);
     order_list_free(&l);
     return status;
 }

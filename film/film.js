@@ -3,9 +3,11 @@
 (function () {
   var data = JSON.parse(document.getElementById("data").textContent);
   var MARK = "18446744073709551615";
-  var STATE_WIDTH = 52, FOLDED_WIDTH = 92, NODE_HEIGHT = 192, TITLE = 20, GAP = 30, ROW_GAP = 34;
+  var STATE_WIDTH = 52, FOLDED_WIDTH = 92, TITLE = 20, GAP = 30, ROW_GAP = 34;
+  /* A line of a node, with its rule; on a drawing board its words are large enough to be tapped. */
+  var LINE = 43, BOARD_LINE = 63;
   var DIGITS = "0123456789ABCDEFGHIJKLMNOPQRSTUVWXYZabcdefghijklmnopqrstuvwxyz-_";
-  var state = { scene: 0, order: 0, kept: null, code: "", pair: null };
+  var state = { scene: 0, order: 0, kept: null, code: "", pair: null, guess: false, asked: false };
   var playing = null;
 
   function by(id) { return document.getElementById(id); }
@@ -60,9 +62,20 @@
     s.long = codeTexts(s).some(function (t) { return t.length - s.prefix.length > 6; });
     s.cell = s.long ? 60 : 46;
     s.wide = 4 * s.cell + STATE_WIDTH;
-    layOut(s);
+    s.tall = TITLE + 4 * (s.board ? BOARD_LINE : LINE);
     s.first = imageOf(s, s.lines.map(function () { return 0; }));
+    if (s.board) fold(s);
+    layOut(s);
     s.ready = true;
+  }
+
+  /* On a board a free node is narrow until it is used. */
+  function fold(s) {
+    s.places.forEach(function (p, i) {
+      var used = s.first.kinds[i][0] === "r" || s.board.opened[p.node]
+        || s.orders.some(function (o) { return o[0] === "store" && o[1] >= 8 && Math.floor((o[1] - 8) / 32) + 1 === p.node; });
+      p.narrow = !used;
+    });
   }
 
   /* After c orders, by line: the stores that memory has for certain, and those that were made. */
@@ -167,9 +180,9 @@
     var rows = {}, top = 50;
     s.places.forEach(function (p) { (rows[p.level] = rows[p.level] || []).push(p); });
     var levels = Object.keys(rows).map(Number).sort(function (a, b) { return b - a; });
-    function width(p) { return p.words ? s.wide : FOLDED_WIDTH; }
+    function width(p) { return p.words && !p.narrow ? s.wide : FOLDED_WIDTH; }
     var widths = levels.map(function (l) { return rows[l].reduce(function (sum, p) { return sum + width(p) + GAP; }, -GAP); });
-    s.width = Math.max.apply(null, widths.concat([1.4 * s.wide])) + 28;
+    s.width = Math.max.apply(null, widths.concat([s.board ? s.wide : 1.4 * s.wide])) + 28;
     levels.forEach(function (l, i) {
       var left = (s.width - widths[i]) / 2;
       rows[l].forEach(function (p, k) {
@@ -178,7 +191,7 @@
         p.next = rows[l][k + 1] || null;
         left += width(p) + GAP;
       });
-      top += NODE_HEIGHT + ROW_GAP;
+      top += s.tall + ROW_GAP;
     });
     s.height = top - ROW_GAP + 6;
   }
@@ -246,8 +259,11 @@
 
   function titleOf(s) { return s.title + (s.own ? "" : " (" + s.list + ")"); }
 
+  /* Counts, verdicts and the right list wait until they are asked for. */
+  function hides(s) { return (state.guess || Boolean(s.ask)) && !state.asked; }
+
   function momentText(s, c) {
-    var head = "Order " + c + " of " + s.orders.length + ": ";
+    var head = "Order " + c + (hides(s) ? ": " : " of " + s.orders.length + ": ");
     return head + (c === 0 ? "before the first order" : orderText(s, s.orders[c - 1])) + (c === s.orders.length && c > 0 ? " — the last" : "");
   }
 
@@ -259,6 +275,19 @@
     var led = adds ? code + " leads to recording " + esc(pointerText(s.change.pointer)) : code + " is absent";
     if (map[0] === "new") return "<b>Map: the new one.</b> " + led + "; every other code leads where it did.";
     return "<b>Map: neither old nor new.</b> " + plural(map[1], "code leads", "codes lead") + " elsewhere:";
+  }
+
+  /* The verdict in a class's words. */
+  function plainText(s, image) {
+    var n = image.map[1], broken = image.sound.number !== 0, adds = s.change.kind === "add";
+    if (image.map[0] === "neither") {
+      var gone = image.map[2].every(function (d) { return d[4] !== 0; });
+      return plural(n, "code") + (gone ? n === 1 ? " is lost" : " are lost" : n === 1 ? " leads elsewhere" : " are lost or lead elsewhere")
+        + (broken ? ", and the tree itself is broken." : ", though the tree itself is in order.");
+    }
+    if (broken) return "No code is lost, but the tree itself is broken: every later change is refused.";
+    var there = image.map[0] === "new" && s.change.kind !== "repair" ? adds ? ", the new one too" : ", and the one to remove is gone" : "";
+    return "Every code is found" + there + (image.sound.letter ? "; something is unfinished, and nobody sees it." : "; nothing is unfinished.");
   }
 
   function foundText(number, pointer) {
@@ -318,7 +347,16 @@
     var classes = [more];
     if (view.stored === word) classes.push("stored");
     if (view.unsure[word]) classes.push("unsure");
-    return '<b class="' + classes.join(" ").trim() + '" data-word="' + word + '" data-value="' + view.words[word] + '">' + esc(text) + "</b>";
+    var rest = ' data-word="' + word + '" data-value="' + view.words[word] + '"';
+    if (!view.tap) return '<b class="' + classes.join(" ").trim() + '"' + rest + ">" + esc(text) + "</b>";
+    return '<button type="button" class="word ' + classes.join(" ").trim() + '"' + rest + ' aria-label="' + esc(place(view.scene, word) + ": " + value(view.scene, word, view.words[word])
+      + ". Store here") + '">' + esc(text) + "</button>";
+  }
+
+  /* On a board the mark at the end of a line flushes it. */
+  function stateMark(view, line, st) {
+    if (!view.tap) return '<span class="state">' + esc(st.text) + "</span>";
+    return '<button type="button" class="state" data-flush="' + line + '" aria-label="flush ' + esc(lineText(line)) + '">' + (st.text ? esc(st.text) + (line === 0 ? " " : "<br>") : "") + "flush</button>";
   }
 
   function headLine(s, view, p, start) {
@@ -326,8 +364,8 @@
     return names.map(function (name, i) {
       var v = view.words[start + i], two = i === 3 && v !== "0" ? twoRows(s, v) : { above: "", text: v };
       var text = i === 0 && v === MARK ? "MARK" : two.text;
-      return '<span class="cell"><i>' + name + (two.above ? " " + two.above : "") + "</i>" + cellWord(view, start + i, text, "")
-        + cellWord(view, start + 4 + i, view.words[start + 4 + i], "rest") + "</span>";
+      return '<span class="cell" role="cell"><i>' + name + (two.above ? " " + two.above : "") + "</i>" + cellWord(view, start + i, text, "")
+        + (view.tap ? "" : cellWord(view, start + 4 + i, view.words[start + 4 + i], "rest")) + "</span>";
     }).join("");
   }
 
@@ -342,7 +380,7 @@
     var two = key === "0" ? { above: "", text: kind === "." ? "·" : "0" } : twoRows(s, key);
     var title = "slot " + slot + ", " + KIND_WORDS[kind] + ": key " + keyText(key) + ", pointer " + pointerText(pointer);
     var above = s.long ? "<i>" + (two.above || "&nbsp;") + "</i>" : "";
-    return '<span class="cell ' + (kind === "." ? "free" : kind) + (taken ? " taken" : "") + '" title="' + title + '">' + above
+    return '<span class="cell ' + (kind === "." ? "free" : kind) + (taken ? " taken" : "") + '" role="cell" title="' + title + '">' + above
       + cellWord(view, word, two.text, "key")
       + cellWord(view, word + 1, kind === "." && pointer === "0" ? "·" : text, "") + (KINDS[kind] ? "<em>" + KINDS[kind] + "</em>" : "") + "</span>";
   }
@@ -353,7 +391,10 @@
     var badge = step ? '<span class="badge" aria-hidden="true">' + step + "</span>" : "", passed = step ? " passed" : "";
     if (!p.words) return '<div class="node folded' + passed + '"' + style + "><h3>node " + p.node + "</h3>no order<br>stores here" + badge + "</div>";
     var start = 8 + 32 * (p.node - 1), before = s.first.kinds[s.places.indexOf(p)][0] === "r";
-    if (!reached && !before && !view.begun[p.node])
+    if (p.narrow)
+      return '<div class="node folded free" data-node="' + p.node + '"' + style.replace(/;width:.*"/, '"') + "><h3>node " + p.node + "</h3>free"
+        + (view.tap ? '<button type="button" data-use="' + p.node + '" aria-label="use the free node ' + p.node + '">use it</button>' : "") + "</div>";
+    if (!reached && !before && !view.begun[p.node] && !s.board)
       return '<div class="node free" data-node="' + p.node + '"' + style + "><h3>node " + p.node + " <span>free</span></h3></div>";
     var root = view.words[1] === String(p.node) || (s.collections === 2 && view.words[3] === String(p.node));
     var what = before ? "nothing links it now" : "not linked yet", of = s.collections === 2 ? ", collection " + p.collection : "";
@@ -363,9 +404,9 @@
       var st = view.line(1 + 4 * (p.node - 1) + part);
       var slots = [0, 1, 2, 3].map(function (i) { return 4 * part - 4 + i; });
       var cells = part === 0 ? headLine(s, view, p, start) : slots.map(function (i) { return slotCell(s, view, p, kinds, i); }).join("");
-      return '<div class="line ' + st.kind + '">' + cells + '<span class="state">' + esc(st.text) + "</span></div>";
+      return '<div class="line ' + st.kind + '" role="row">' + cells + stateMark(view, 1 + 4 * (p.node - 1) + part, st) + "</div>";
     });
-    return '<div class="node' + (reached ? "" : " alone") + passed + '" data-node="' + p.node + '" data-kinds="' + kinds + '"' + style
+    return '<div class="node' + (reached ? "" : " alone") + passed + '" role="table" aria-label="node ' + p.node + ", " + what + '" data-node="' + p.node + '" data-kinds="' + kinds + '"' + style
       + "><h3>node " + p.node + " <span>" + what + "</span></h3>"
       + lines.join("") + badge + "</div>";
   }
@@ -374,7 +415,7 @@
     var bend = 16;
     var path = "M" + from.x + " " + from.y + " L" + (to.x - 7) + " " + to.y;
     if (kind === "down") path = "M" + [from.x, from.y, "C" + from.x, from.y + bend, to.x, to.y - bend, to.x, to.y - 7].join(" ");
-    return '<path d="' + path + '" fill="none" stroke="#111" stroke-width="' + (kind === "down" ? 2 : 2.5) + '"'
+    return '<path d="' + path + '" fill="none" stroke="currentColor" stroke-width="' + (kind === "down" ? 2 : 2.5) + '"'
       + (kind === "down" ? "" : ' stroke-dasharray="6 3"') + ' marker-end="url(#head-' + kind + ')"/>';
   }
 
@@ -384,7 +425,7 @@
     if (!p.words || kinds[0] !== "r") return "";
     function down(v, x) {
       var child = placeOf(s, v);
-      if (child) out.push(arrow({ x: x, y: p.y + NODE_HEIGHT }, { x: child.x + (child.words ? s.wide : FOLDED_WIDTH) / 2, y: child.y }, "down"));
+      if (child) out.push(arrow({ x: x, y: p.y + s.tall }, { x: child.x + (child.words ? s.wide : FOLDED_WIDTH) / 2, y: child.y }, "down"));
     }
     if (p.level > 0) down(view.words[start], p.x + 12);
     for (var i = 0; p.level > 0 && i < 12; i++)
@@ -397,7 +438,7 @@
 
   var HEADS = ["down", "side"].map(function (kind) {
     return '<marker id="head-' + kind
-      + '" markerWidth="9" markerHeight="9" refX="5" refY="4" orient="auto" markerUnits="userSpaceOnUse"><path d="M0 0 L8 4 L0 8 z" fill="#111"/></marker>';
+      + '" markerWidth="9" markerHeight="9" refX="5" refY="4" orient="auto" markerUnits="userSpaceOnUse"><path d="M0 0 L8 4 L0 8 z" fill="currentColor"/></marker>';
   }).join("");
 
   /* The table's first line: its eight words. */
@@ -406,8 +447,9 @@
     var words = s.header.map(function (_, i) {
       return (names[i] ? "<i>" + names[i] + "</i>" : "") + cellWord(view, i, view.words[i], i < 3 || names[i] ? "" : "rest");
     });
-    return '<div class="header ' + st.kind + '" style="width:' + (s.width - 24) + 'px"><span>header</span>' + words.join("")
-      + '<span class="state">' + esc(st.text) + "</span></div>";
+    if (view.tap) words = [1, 3].filter(function (i) { return names[i]; }).map(function (i) { return words[i]; });
+    return '<div class="header ' + st.kind + '" role="group" aria-label="the table’s header" style="width:' + (s.width - 24) + 'px"><span>header</span>' + words.join("")
+      + stateMark(view, 0, st) + "</div>";
   }
 
   function table(s, view) {
@@ -417,13 +459,13 @@
     var svg = '<svg width="' + s.width + '" height="' + s.height + '" aria-hidden="true"><defs>' + HEADS + "</defs>"
       + s.places.map(function (p) { return arrows(s, view, p, kinds[p.node]); }).join("") + "</svg>";
     var nodes = s.places.map(function (p) { return node(s, view, p, kinds[p.node]); }).join("");
-    return '<div class="inner" style="width:' + s.width + "px;height:" + s.height + 'px">' + header(s, view) + nodes + svg + "</div>";
+    return '<div class="inner' + (s.board ? " large" : "") + '" style="width:' + s.width + "px;height:" + s.height + 'px">' + header(s, view) + nodes + svg + "</div>";
   }
 
   /* What one side shows: the table with so many stores of each line. */
   function viewOf(s, moment, kept, memory) {
     var image = imageOf(s, kept), order = s.orders[state.order - 1];
-    var view = { words: wordsOf(s, kept), image: image, unsure: {}, begun: {}, steps: {}, stored: -1, way: null, last: 0 };
+    var view = { scene: s, tap: Boolean(s.board) && !memory, words: wordsOf(s, kept), image: image, unsure: {}, begun: {}, steps: {}, stored: -1, way: null, last: 0 };
     s.orders.slice(0, state.order).forEach(function (o, i) {
       if (o[0] !== "store") return;
       if (o[1] >= 8) view.begun[Math.floor((o[1] - 8) / 32) + 1] = true;
@@ -441,8 +483,11 @@
 
   function said(s, view, memory) {
     var image = view.image;
+    if (hides(s)) return '<p class="hidden-answer">What does a search find now? Guess first.</p>';
     if (!image) return "<p>This choice is one of more than this page holds.</p>";
-    var bad = image.map[0] === "neither", out = '<p class="' + (bad ? "bad" : "good") + '">' + mapText(s, image.map) + "</p>"
+    var bad = image.map[0] === "neither", wrong = bad || image.sound.number !== 0;
+    var out = '<p class="plain ' + (wrong ? "bad" : "good") + '"><b>' + esc(plainText(s, image)) + "</b></p>"
+      + '<p class="' + (bad ? "bad" : "good") + '">' + mapText(s, image.map) + "</p>"
       + (bad ? lostTable(s, image.map) : "");
     out += soundText(image.sound);
     if (memory) out += repairText(s, image.sound);
@@ -455,8 +500,8 @@
   }
 
   /* The verdict in a word, beside the heading. */
-  function tagText(image) {
-    if (!image) return "";
+  function tagText(s, image) {
+    if (!image || hides(s)) return "";
     var bad = image.map[0] === "neither" || image.sound.number !== 0;
     var map = image.map[0] === "neither" ? plural(image.map[1], "code") + " wrong" : image.map[0] === "new" ? "new map" : "old map";
     var sound = image.sound.number !== 0 ? "not sound" : image.sound.letter ? "leftover (" + image.sound.letter + ")" : "settled";
@@ -489,10 +534,24 @@
 
   function listOf(s, c, shown, odd) {
     return s.orders.map(function (o, i) {
+      if (hides(s) && !s.board && i + 1 > c) return "";
       var classes = [o[0] === "flush" ? "flush" : "", i + 1 === c ? "now" : i + 1 > c ? "later" : "", odd && odd[i] ? "odd" : ""].join(" ").trim();
-      return '<li><button type="button" tabindex="-1" class="' + classes + '" data-scene="' + shown + '" data-order="' + (i + 1) + '" title="'
-        + esc(orderText(s, o)) + '">' + (i + 1) + " " + esc(orderShort(s, o)) + "</button></li>";
+      var why = odd && typeof odd[i] === "string" ? " — " + odd[i] : "";
+      return '<li><button type="button" tabindex="' + (i + 1 === c ? 0 : -1) + '" class="' + classes + '" data-scene="' + shown + '" data-order="' + (i + 1) + '" title="'
+        + esc(orderText(s, o) + why) + '"' + (i + 1 === c ? ' aria-current="step"' : "") + ">" + (i + 1) + " " + esc(s.words && !(state.pair && window.innerWidth < 1100) ? s.words[i] : orderShort(s, o)) + "</button></li>";
     }).join("");
+  }
+
+  /* Which orders of a drawing and of the list beside it differ in a way that breaks something, and what. Nothing of a list that the judge accepts. */
+  function oddByHunks(s, right) {
+    var odd = [s.orders.map(function () { return false; }), right.orders.map(function () { return false; })];
+    s.hunks.forEach(function (h) {
+      if (h[4] === null) return;
+      var why = h[4].trim().replace(/^no: after \d+ of \d+ orders[^\n]*\n/, "").replace(/\n/g, "; ") || "the change is not completed";
+      for (var i = 0; i < h[1]; i++) odd[0][h[0] + i] = why;
+      for (i = 0; i < h[3]; i++) odd[1][h[2] + i] = why;
+    });
+    return odd;
   }
 
   /* Which orders of one list are not in the longest part that it shares with the other. */
@@ -512,16 +571,19 @@
   function drawLists(s) {
     function one(index, title, odd) {
       var scene = data.scenes[index], c = index === state.scene ? state.order : -1;
-      return '<div class="list' + (state.pair ? " two" : "") + '"><h2>' + title + "</h2><ol>" + listOf(scene, c, index, odd) + "</ol></div>";
+      return '<div class="list' + (state.pair ? " two" : "") + (scene.words ? " words" : "") + '"><h2>' + title + "</h2><ol>" + listOf(scene, c, index, odd) + "</ol></div>";
     }
-    if (!state.pair) return one(state.scene, "The orders");
-    var wrong = data.scenes[state.pair.wrong], right = data.scenes[state.pair.right];
-    state.pair.odd = state.pair.odd || [oddOrders(wrong, right), oddOrders(right, wrong)];
-    return one(state.pair.wrong, "As drawn", state.pair.odd[0]) + one(state.pair.right, "As it should be", state.pair.odd[1]);
+    if (!state.pair) return one(state.scene, s.board ? "Your orders" : "The orders");
+    var wrong = data.scenes[state.pair.wrong], right = data.scenes[state.pair.right], drawn = wrong.board ? "Your orders" : "As drawn";
+    if (hides(s)) return one(state.pair.wrong, drawn);
+    state.pair.odd = state.pair.odd || (wrong.hunks ? oddByHunks(wrong, right) : [oddOrders(wrong, right), oddOrders(right, wrong)]);
+    return one(state.pair.wrong, drawn, state.pair.odd[0]) + one(state.pair.right, wrong.judge === -1 ? "Right as well" : "The nearest right list", state.pair.odd[1]);
   }
 
   function toldText(s) {
     var images = s.images.reduce(function (sum, x) { return sum + x.length / 4; }, 0), out = esc(s.told);
+    if (s.board) return "";
+    if (hides(s)) return esc(s.ask || "Guess first: where may a cut lose a code?") + ' <button type="button" data-go="ask">show the answer</button>';
     if (s.lost) out += " <b>The first cut that loses a code comes after order " + s.lost.order + ".</b> ";
     else if (s.unsound) out += " <b>The first cut that leaves a table that is not sound comes after order " + s.unsound.order + ".</b> ";
     else if (s.some.length) out += " A cut may leave more images than this page holds; the " + images + " that it holds keep the old map or the new one. ";
@@ -536,7 +598,8 @@
   function drawTicks(s) {
     var n = Math.max(1, s.orders.length);
     var marks = s.orders.map(function (o, i) { return o[0] === "flush" ? '<i style="left:' + 100 * (i + 1) / n + '%"></i>' : ""; }).join("");
-    var bad = s.lost || s.unsound;
+    var bad = !hides(s) && (s.lost || s.unsound);
+    if (hides(s)) marks = "";
     return marks + (bad ? '<b style="left:' + 100 * bad.order / n + '%">&#9650;</b>' : "");
   }
 
@@ -562,11 +625,29 @@
     var stage = by(id), inner = stage.firstElementChild, wide = stage.clientWidth;
     if (!inner || !wide) return;
     var scale = Math.min(1.5, wide / s.width, Math.max(0.82, (window.innerHeight - 400) / s.height));
+    /* What is to be tapped stays as large as it is; the side scrolls. */
+    if (s.board && id === "working-stage") scale = Math.max(1, Math.min(1.25, wide / s.width));
     inner.style.transform = "translateX(" + Math.max(0, (wide - scale * s.width) / 2) + "px) scale(" + scale + ")";
     stage.style.height = Math.ceil(scale * s.height) + "px";
+    if (stage.style.setProperty) { stage.style.setProperty("--w", s.width); stage.style.setProperty("--h", s.height); }
+  }
+
+  /* What had the focus is drawn anew: its like gets it back. */
+  function focusName() {
+    var on = document.activeElement, d = on && on.dataset;
+    if (!on || !d || on.id) return null;
+    var names = ["line", "kept", "scene", "order", "word", "flush", "use", "go"].filter(function (n) { return d[n] !== undefined; });
+    return names.length ? names.map(function (n) { return "[data-" + n + '="' + d[n] + '"]'; }).join("") : null;
   }
 
   function show() {
+    var focused = focusName();
+    draw();
+    var again = focused && document.querySelector(focused);
+    if (again) again.focus({ preventScroll: true });
+  }
+
+  function draw() {
     var s = data.scenes[state.scene], moment = at(s, state.order), kept = keptNow(s, moment);
     by("title").textContent = titleOf(s);
     document.title = "Film: " + s.title;
@@ -576,14 +657,15 @@
     by("order").value = state.order;
     by("order").setAttribute("aria-valuetext", momentText(s, state.order));
     by("ticks").innerHTML = drawTicks(s);
-    by("scene").value = String(state.scene);
+    if (!s.board) by("scene").value = String(state.scene);
+    by("guess").checked = state.guess;
     by("to-first").disabled = by("to-previous").disabled = state.order === 0;
     by("to-last").disabled = by("to-next").disabled = state.order === s.orders.length;
     var working = viewOf(s, moment, moment.stored, false), memory = viewOf(s, moment, kept, true);
     by("working-stage").innerHTML = table(s, working);
     by("working-said").innerHTML = said(s, working, false);
-    by("working-tag").innerHTML = tagText(working.image);
-    by("memory-tag").innerHTML = tagText(memory.image);
+    by("working-tag").innerHTML = tagText(s, working.image);
+    by("memory-tag").innerHTML = tagText(s, memory.image);
     by("memory-kind").textContent = kept.some(function (k, l) { return moment.stored[l] > moment.flushed[l]; })
       ? "as you choose below" : "all is flushed";
     by("memory-stage").innerHTML = memory.image ? table(s, memory) : "";
@@ -601,6 +683,11 @@
       var list = button.closest("ol");
       list.scrollTop = button.offsetTop - list.offsetTop - list.clientHeight / 2;
     });
+    /* The list beside it is shown from where it differs. */
+    document.querySelectorAll("#lists ol").forEach(function (list) {
+      var odd = list.querySelector(".odd");
+      if (odd && !list.querySelector(".now")) list.scrollTop = odd.offsetTop - list.offsetTop - list.clientHeight / 3;
+    });
   }
 
   /* The choice of a cut, kept inside what this moment allows; without one, nothing that is not flushed is written. */
@@ -616,6 +703,8 @@
     s.lines.forEach(function (line, l) { if (kept[l] > moment.flushed[l]) cut.push(line + ":" + (kept[l] - moment.flushed[l])); });
     var hash = "#scene=" + (state.scene + 1) + "&order=" + state.order + (cut.length ? "&cut=" + cut.join(",") : "");
     if (state.code) hash += "&code=" + encodeURIComponent(state.code);
+    if (s.board) hash = "#board";
+    else if (s.ask && state.asked && state.order === 0) hash += "&shown=1";
     try { window.history.replaceState(null, "", hash); } catch (e) { /* a page from a file may not */ }
   }
 
@@ -632,6 +721,7 @@
     state.order = 0;
     state.kept = null;
     state.code = "";
+    if (!keepPair) state.asked = false;
     if (!keepPair) state.pair = s.beside >= 0 ? { wrong: index, right: s.beside } : null;
     if (state.pair && !data.scenes[state.pair.right].ready) prepare(data.scenes[state.pair.right]);
     by("codes").innerHTML = codesOf(s).map(function (c) { return '<option value="' + esc(c) + '">'; }).join("");
@@ -647,10 +737,11 @@
 
   function goToBad() {
     var s = data.scenes[state.scene], bad = s.lost || s.unsound;
+    if (s.board && s.lost && s.unsound && s.unsound.order < s.lost.order) bad = s.unsound;
     if (!bad) return;
     state.order = bad.order;
     state.kept = bad.kept.slice();
-    state.code = s.lost ? keyText(bad.key) : "";
+    state.code = bad === s.lost ? keyText(bad.key) : "";
     by("code").value = state.code;
   }
 
@@ -659,7 +750,7 @@
     stop();
     openScene(index, false);
     by("code").value = "";
-    goToBad();
+    if (!hides(data.scenes[index])) goToBad();
     show();
   }
 
@@ -681,7 +772,7 @@
   }
 
   function press(event) {
-    var from = event.target || {}, typing = from.id === "code" || from.id === "scene";
+    var from = event.target || {}, typing = from.id === "code" || from.id === "scene" || /^(TEXTAREA|SELECT)$/.test(from.tagName) || from.type === "text";
     var steps = { ArrowLeft: -1, ArrowRight: 1, ArrowUp: 1, ArrowDown: -1, PageUp: 10, PageDown: -10 }, n = data.scenes[state.scene].orders.length;
     if (typing || event.altKey || event.ctrlKey || event.metaKey) return;
     if (steps[event.key] !== undefined && (from.id === "order" || /^Arrow(Left|Right)$/.test(event.key))) go(state.order + steps[event.key]);
@@ -699,10 +790,14 @@
   }
 
   function click(event) {
-    var from = event.target.closest ? event.target.closest("[data-order], [data-kept], [data-go]") : null;
+    var from = event.target.closest ? event.target.closest("[data-order], [data-kept], [data-go], [data-row]") : null;
     if (!from) return;
     var d = from.dataset;
-    if (d.go) { goToBad(); show(); }
+    if (d.row !== undefined) {
+      enter(Number(d.row));
+      if (by("controls").scrollIntoView) by("controls").scrollIntoView();
+    } else if (d.go === "ask") { state.asked = true; show(); }
+    else if (d.go) { goToBad(); show(); }
     else if (d.kept) {
       var s = data.scenes[state.scene];
       choose(s, at(s, state.order), Number(d.line), Number(d.kept));
@@ -720,14 +815,15 @@
     var named = {};
     String(window.location.hash).replace(/^#/, "").split("&").forEach(function (part) {
       var two = part.split("=");
-      named[two[0]] = decodeURIComponent(two[1] || "");
+      try { named[two[0]] = decodeURIComponent(two[1] || ""); } catch (e) { /* no address of ours */ }
     });
     if (named.scene === undefined && named.order === undefined) return false;
     var index = Number(named.scene || 1) - 1;
-    if (!data.scenes[index]) return false;
+    if (!data.scenes[index] || data.scenes[index].board) return false;
     openScene(index, false);
     var s = data.scenes[index], order = Number(named.order || 0);
-    state.order = Math.max(0, Math.min(s.orders.length, order || 0));
+    state.order = Math.max(0, Math.min(s.orders.length, Math.floor(order) || 0));
+    state.asked = state.order > 0 || named.shown === "1";
     state.code = named.code || "";
     by("code").value = state.code;
     if (named.cut) {
@@ -735,11 +831,39 @@
       state.kept = moment.flushed.slice();
       named.cut.split(",").forEach(function (one) {
         var two = one.split(":"), l = s.lines.indexOf(Number(two[0]));
-        if (l >= 0) state.kept[l] += Number(two[1]);
+        if (l >= 0) state.kept[l] += Math.floor(Number(two[1])) || 0;
       });
     }
     show();
     return true;
+  }
+
+  /* The teacher's table: a row a list, which opens it. */
+  function drawClass() {
+    var known = {};
+    data.class.forEach(function (r) { if (r.mistake) known[r.mistake] = (known[r.mistake] || 0) + 1; });
+    var right = data.class.filter(function (r) { return r.judge === -1; }).length, sums = Object.keys(known).sort(function (a, b) { return known[b] - known[a]; });
+    by("class").hidden = false;
+    by("class").innerHTML = "<h2>" + plural(data.class.length, "list") + ": " + right + " right" + sums.map(function (m) { return ", " + known[m] + " " + esc(m); }).join("") + "</h2>"
+      + "<table><thead><tr><th>who</th><th>verdict</th><th>first count that fails</th><th>mistake</th></tr></thead><tbody>" + data.class.map(function (r) {
+      if (r.wrong) return "<tr><th scope=\"row\">" + esc(r.who) + '</th><td colspan="3">not judged: ' + esc(r.wrong) + "</td></tr>";
+      return '<tr class="' + (r.judge < 0 ? "good" : "bad") + '"><th scope="row"><button type="button" data-row="' + r.scene + '">' + esc(r.who) + "</button></th><td>" + (r.judge < 0 ? "yes" : "no") + "</td><td>"
+        + (r.judge < 0 ? "" : r.judge + " of " + r.orders) + "</td><td>" + esc(r.mistake) + "</td></tr>";
+    }).join("") + "</tbody></table>";
+  }
+
+  /* A finger that moves sideways over a drawing goes one order on, or back. */
+  function swipes() {
+    ["working-stage", "memory-stage"].forEach(function (id) {
+      var from = null;
+      by(id).addEventListener("touchstart", function (e) { from = e.touches.length === 1 ? [e.touches[0].clientX, e.touches[0].clientY] : null; }, { passive: true });
+      by(id).addEventListener("touchend", function (e) {
+        if (!from || data.scenes[state.scene].board) return;
+        var x = e.changedTouches[0].clientX - from[0], y = e.changedTouches[0].clientY - from[1];
+        if (Math.abs(x) > 60 && Math.abs(x) > 2 * Math.abs(y)) go(state.order + (x < 0 ? 1 : -1));
+        from = null;
+      });
+    });
   }
 
   function begin() {
@@ -749,6 +873,7 @@
     by("choose").hidden = data.scenes.length === 1;
     by("title").className = data.scenes.length === 1 ? "" : "in-print";
     by("legend").innerHTML = drawLegend();
+    if (data.class) drawClass();
     by("scene").addEventListener("change", function () {
       enter(Number(by("scene").value));
       /* So that the arrow keys step on. */
@@ -761,16 +886,19 @@
     by("to-next").addEventListener("click", function () { go(state.order + 1); });
     by("to-last").addEventListener("click", function () { go(data.scenes[state.scene].orders.length); });
     by("play").addEventListener("click", play);
+    by("guess").addEventListener("change", function () { state.guess = Boolean(by("guess").checked); state.asked = false; show(); });
+    swipes();
     document.addEventListener("keydown", press);
     document.addEventListener("click", click);
     window.addEventListener("resize", show);
     window.addEventListener("beforeprint", show);
-    window.addEventListener("hashchange", readHash);
-    /* With a list of one's own that is bad the page opens there. */
-    if (!readHash()) enter(data.scenes.length === 2 && data.scenes[1].beside === 0 ? 1 : 0);
+    window.addEventListener("hashchange", function () { if (!data.scenes[state.scene].board) readHash(); });
+    /* With a list of one's own the page opens there. */
+    if (!readHash()) enter(!data.class && data.scenes.length > 1 && data.scenes.length < 4 && data.scenes[1].beside >= 0 ? 1 : 0);
   }
 
   window.film = { data: data, state: state, at: at, imageOf: imageOf, wordsOf: wordsOf, wayOf: wayOf, keyText: keyText, readCode: readCode,
-    prepare: prepare, go: go, enter: enter };
+    prepare: prepare, go: go, enter: enter, openScene: openScene, show: show, goToBad: goToBad, place: place, lineText: lineText, orderText: orderText, pointerText: pointerText,
+    short: short, esc: esc, by: by, stop: stop };
   begin();
 })();

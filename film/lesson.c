@@ -12,6 +12,7 @@
 #include "page.h"
 #include "pool.h"
 #include "refusals.h"
+#include "tables.h"
 #include "text.h"
 #include "tree.h"
 
@@ -27,6 +28,7 @@ struct part {
     uint64_t *base;
     struct change change;
     struct order_list list;
+    struct hunks hunks; /* the differences from the right list */
     char title[LINE_TEXT], told[4 * LINE_TEXT];
 };
 
@@ -51,13 +53,11 @@ static bool put_in(uint64_t *table, size_t words, uint64_t key, uint64_t recordi
 /* From lines code,recording. */
 static uint64_t *table_of(const char *csv, size_t *words)
 {
-    uint64_t *table = empty_table(DRAWING_NODES, words), key, recording;
-    char code[KEY_TEXT];
-    int length;
-    for (const char *at = csv; sscanf(at, "%12[A-Z0-9],%" SCNu64 " %n", code, &recording, &length) == 2; at += length)
-        if (catalogue_file_parse(code, strlen(code), &key) == 0)
-            put_in(table, *words, key, recording);
-    return table;
+    struct table t;
+    table_of_lines(&t, DRAWING_NODES, csv);
+    *words = t.words;
+    free(t.working);
+    return (uint64_t *)t.base;
 }
 
 static uint64_t *worked_table(size_t *words)
@@ -138,9 +138,12 @@ static int set_worked(struct part *p)
     size_t words;
     p->base = worked_table(&words);
     p->change = (struct change){.kind = ADD, .key = 115, .recording = 12};
-    return plan_own(p, words, "Right: the worked split of document 01",
-                    "A leaf with the keys 10, 20 .. 110 is full, and 115 comes: 75 stores and 13 flushes. A new root is made whole before the "
-                    "header names it, a new node B before its neighbour links to it, and only then the old node lets go of its upper half.");
+    int status = plan_own(p, words, "Right: the worked split of document 01",
+                          "A leaf with the keys 10, 20 .. 110 is full, and 115 comes: 75 stores and 13 flushes. A new root is made whole before the "
+                          "header names it, a new node B before its neighbour links to it, and only then the old node lets go of its upper half.");
+    p->scene.ask = "A leaf with the keys 10, 20 .. 110 is full, and 115 is to be inserted. How many orders will that take, stores and flushes? "
+                   "Write a number down, then step through it.";
+    return status;
 }
 
 static int set_leaf(struct part *p, const char *sign, const char *code, const char *recording, const char *title, const char *told)
@@ -162,7 +165,8 @@ static const struct {
     const char *name;
     int beside;
 } drawn[] = {{"key-before-pointer.txt", INSERTION}, {"one-movement.txt", SPLIT}, {"flush-at-the-end.txt", SPLIT},
-             {"linked-before-flush.txt", SPLIT}, {"sibling-by-first-key.txt", SPLIT}, {"hidden-by-equal-keys.txt", DELETION}};
+             {"linked-before-flush.txt", SPLIT}, {"sibling-by-first-key.txt", SPLIT}, {"hidden-by-equal-keys.txt", DELETION},
+             {"search-tidies.txt", INSERTION}};
 
 #define DRAWN (sizeof drawn / sizeof drawn[0])
 
@@ -177,11 +181,17 @@ static int set_parts(struct part *parts)
                           "One store hides the slot: its pointer becomes equal to the one before it. Then the slots behind it move left.");
     if (status == 0)
         status = read_drawing(&parts[SPLIT], "right.txt", -1);
-    if (status == 0)
-        snprintf(parts[SPLIT].title, LINE_TEXT, "Right: a split of a full leaf, drawn short");
     for (size_t i = 0; i < DRAWN && status == 0; i++)
         status = read_drawing(&parts[WRONG + i], drawn[i].name, drawn[i].beside);
     return status;
+}
+
+/* What each difference of a drawing from the right list breaks. */
+static void find_hunks(struct part *p, const struct part *right)
+{
+    struct table t = {.name = "the lesson's table", .base = p->base, .words = p->scene.words, .collection = 1};
+    hunks_find(&p->hunks, &t, &p->change, p->scene.orders, p->scene.count, right->scene.orders, right->scene.count);
+    p->scene.hunks = &p->hunks;
 }
 
 int lesson(bool data)
@@ -190,12 +200,15 @@ int lesson(bool data)
     struct part *parts = room_of(count, sizeof *parts);
     struct scene *scenes = room_of(count, sizeof *scenes);
     int status = set_parts(parts);
+    for (size_t i = WRONG; status == 0 && i < count; i++)
+        find_hunks(&parts[i], &parts[parts[i].scene.beside]);
     for (size_t i = 0; i < count; i++)
         scenes[i] = parts[i].scene;
     if (status == 0)
-        status = film_print(scenes, count, data);
+        status = film_print(scenes, count, data, true, NULL);
     for (size_t i = 0; i < count; i++) {
         order_list_free(&parts[i].list);
+        hunks_free(&parts[i].hunks);
         free(parts[i].base);
     }
     free(parts);

@@ -39,7 +39,7 @@ static enum line read_line(const struct rows *r, uint64_t order[2], struct compl
 }
 
 /* The line, the word in it that is wrong, and what could stand there. */
-static int say_wrong(const struct rows *r, const struct complaint *c)
+static int note_wrong(struct order_list *l, const struct rows *r, const struct complaint *c)
 {
     char text[ROW_TEXT], word[ROW_TEXT];
     rows_text(r, text);
@@ -50,9 +50,17 @@ static int say_wrong(const struct rows *r, const struct complaint *c)
         if ((unsigned char)word[i] < ' ' || word[i] == 127)
             word[i] = '?';
     if (r->too_long || length == 0)
-        return fail(BAD_LINE, "%s, line %" PRIu64 ", \"%s\": %s%s", r->name, r->number, text,
-                    r->too_long ? "it is too long; " : "it ends too soon; wanted: ", c->wanted);
-    return fail(BAD_LINE, "%s, line %" PRIu64 ", \"%s\": \"%s\" cannot stand there; wanted: %s", r->name, r->number, text, word, c->wanted);
+        snprintf(l->wrong, sizeof l->wrong, "line %" PRIu64 ", \"%s\": %s%s", r->number, text,
+                 r->too_long ? "it is too long; " : "it ends too soon; wanted: ", c->wanted);
+    else
+        snprintf(l->wrong, sizeof l->wrong, "line %" PRIu64 ", \"%s\": \"%s\" cannot stand there; wanted: %s", r->number, text, word, c->wanted);
+    return BAD_LINE;
+}
+
+static int note_failure(struct order_list *l, const char *why)
+{
+    snprintf(l->wrong, sizeof l->wrong, "%s", why);
+    return BAD_FILE;
 }
 
 static bool add(struct order_list *l, const uint64_t order[2])
@@ -77,13 +85,13 @@ static int read_lines(struct order_list *l, struct rows *r)
     while (rows_next(r)) {
         enum line line = read_line(r, order, &complaint);
         if (line == WRONG)
-            return say_wrong(r, &complaint);
+            return note_wrong(l, r, &complaint);
         if (line == ORDER && !add(l, order))
-            return fail(BAD_FILE, "not enough memory for %s", r->name);
+            return note_failure(l, "there is not enough memory for it");
         l->changes += line == ORDER && ended;
         ended = line == PASSED ? ended : line == ENDING;
     }
-    return r->failed ? fail(BAD_FILE, "%s cannot be read further: %s", r->name, strerror(r->failed)) : 0;
+    return r->failed ? note_failure(l, strerror(r->failed)) : 0;
 }
 
 /* The orders of lines that are open. */
@@ -91,7 +99,15 @@ static int read_orders(struct order_list *l, struct rows *r)
 {
     *l = (struct order_list){.room = 64};
     l->words = calloc(2 * l->room, sizeof *l->words);
-    return l->words ? read_lines(l, r) : fail(BAD_FILE, "not enough memory for %s", r->name);
+    return l->words ? read_lines(l, r) : note_failure(l, "there is not enough memory for it");
+}
+
+/* Why a list of this name cannot be read. */
+static int say_why(const struct order_list *l, const char *name, int status)
+{
+    if (status == BAD_FILE)
+        return fail(status, "%s cannot be read further: %s", name, l->wrong);
+    return status == 0 ? 0 : fail(status, "%s, %s", name, l->wrong);
 }
 
 int order_list_read(struct order_list *l, const char *name)
@@ -102,14 +118,19 @@ int order_list_read(struct order_list *l, const char *name)
         return fail(BAD_FILE, "%s cannot be opened: %s", name, strerror(errno));
     int status = read_orders(l, &r);
     rows_close(&r);
-    return status;
+    return say_why(l, r.name, status);
+}
+
+int order_list_scan(struct order_list *l, const char *name, const char *text)
+{
+    struct rows r;
+    *l = (struct order_list){0};
+    return rows_of_text(&r, name, text) ? read_orders(l, &r) : note_failure(l, "it is too long");
 }
 
 int order_list_read_text(struct order_list *l, const char *name, const char *text)
 {
-    struct rows r;
-    *l = (struct order_list){0};
-    return rows_of_text(&r, name, text) ? read_orders(l, &r) : fail(BAD_FILE, "%s is too long", name);
+    return say_why(l, name, order_list_scan(l, name, text));
 }
 
 void order_list_free(struct order_list *l)

@@ -11,6 +11,9 @@
 FILE_IN_PROGRAM(film_page, "../film/film.html");
 FILE_IN_PROGRAM(film_style, "../film/film.css");
 FILE_IN_PROGRAM(film_script, "../film/film.js");
+FILE_IN_PROGRAM(live_script, "../film/live.js");
+FILE_IN_PROGRAM(board_script, "../film/board.js");
+FILE_IN_PROGRAM(film_module, MODULE_TEXT);
 FILE_IN_PROGRAM(drawing_leaf, "../samples/drawings/leaf.csv");
 FILE_IN_PROGRAM(drawing_full, "../samples/drawings/full.csv");
 FILE_IN_PROGRAM(drawing_right, "../samples/drawings/right.txt");
@@ -20,6 +23,7 @@ FILE_IN_PROGRAM(drawing_first_key, "../samples/drawings/sibling-by-first-key.txt
 FILE_IN_PROGRAM(drawing_linked, "../samples/drawings/linked-before-flush.txt");
 FILE_IN_PROGRAM(drawing_flush, "../samples/drawings/flush-at-the-end.txt");
 FILE_IN_PROGRAM(drawing_movement, "../samples/drawings/one-movement.txt");
+FILE_IN_PROGRAM(drawing_tidied, "../samples/drawings/search-tidies.txt");
 
 static const struct {
     const char *name, *text;
@@ -33,6 +37,7 @@ static const struct {
     {"linked-before-flush.txt", drawing_linked},
     {"flush-at-the-end.txt", drawing_flush},
     {"one-movement.txt", drawing_movement},
+    {"search-tidies.txt", drawing_tidied},
 };
 
 const char *drawing_text(const char *name)
@@ -45,6 +50,7 @@ const char *drawing_text(const char *name)
 
 /* The page has a line of its own for each part that is put in. */
 #define STYLE_HERE "@STYLE@\n"
+#define MODULE_HERE "@MODULE@\n"
 #define DATA_HERE "@DATA@\n"
 #define SCRIPT_HERE "@SCRIPT@\n"
 
@@ -57,10 +63,13 @@ static const char *put_until(FILE *out, const char *from, const char *mark)
     return at ? at + strlen(mark) : from + length;
 }
 
-void page_begin(FILE *out)
+void page_begin(FILE *out, bool board)
 {
     const char *rest = put_until(out, film_page, STYLE_HERE);
     fputs(film_style, out);
+    rest = put_until(out, rest, MODULE_HERE);
+    if (board)
+        fprintf(out, "%s\n", film_module);
     put_until(out, rest, DATA_HERE);
 }
 
@@ -68,5 +77,7 @@ void page_end(FILE *out)
 {
     const char *rest = put_until(out, strstr(film_page, DATA_HERE) + strlen(DATA_HERE), SCRIPT_HERE);
     fputs(film_script, out);
+    fputs(live_script, out);
+    fputs(board_script, out);
     fputs(rest, out);
 }

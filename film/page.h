@@ -2,10 +2,12 @@
 #ifndef PAGE_H
 #define PAGE_H
 
+#include <stdbool.h>
 #include <stddef.h>
 #include <stdio.h>
 
-void page_begin(FILE *out);
+/* With a board the page has the library, the judge and the film inside, as a WebAssembly module. */
+void page_begin(FILE *out, bool board);
 void page_end(FILE *out);
 
 /* A file of samples/drawings, with a 0 behind it; null if there is none of that name. */

@@ -123,6 +123,21 @@ static void fold_beside(struct setting *s, const struct trees *trees)
     }
 }
 
+/* For a drawing board: those that are asked for, and the first free ones; one at least, however many the list has taken into use. */
+static void draw_wanted(struct setting *s, const struct wanted_nodes *also)
+{
+    size_t spare = also->spare;
+    for (size_t i = 0; i < also->count; i++)
+        s->part[also->nodes[i]] = DRAWN;
+    for (uint64_t n = 1; n <= s->nodes && spare > 1; n++)
+        spare -= s->stored_to[n] && !seen(&s->before, n);
+    for (uint64_t n = 1; n <= s->nodes && spare > 0; n++)
+        if (s->part[n] == LEFT_OUT && !in_use(s, n)) {
+            s->part[n] = DRAWN;
+            spare--;
+        }
+}
+
 static void choose(struct setting *s)
 {
     size_t used = 0;
@@ -147,7 +162,8 @@ static struct place place_of(const struct setting *s, uint64_t n, uint64_t colle
         if (trees->of[i].seen[n])
             p.collection = i + 1;
     p.level = level_of(s, n);
-    p.fence = tree_word(&trees->of[0], n, FENCE);
+    /* A node that nothing uses stands behind the others. */
+    p.fence = in_use(s, n) ? tree_word(&trees->of[0], n, FENCE) : UINT64_MAX;
     return p;
 }
 
@@ -195,7 +211,8 @@ static void set_keys(struct stage *stage, const struct setting *s)
         stage->low = 0, stage->high = UINT64_MAX;
 }
 
-void stage_set(struct stage *stage, const struct reel *r, const uint64_t *last, uint64_t collection, size_t codes)
+void stage_set(struct stage *stage, const struct reel *r, const uint64_t *last, uint64_t collection, size_t codes,
+               const struct wanted_nodes *also)
 {
     struct setting s = {.reel = r, .nodes = r->base[2], .collection = collection};
     *stage = (struct stage){.high = UINT64_MAX};
@@ -207,6 +224,7 @@ void stage_set(struct stage *stage, const struct reel *r, const uint64_t *last, 
         end_without_memory();
     find_stored(&s);
     choose(&s);
+    draw_wanted(&s, also);
     set_places(stage, &s, collection);
     if (codes > MOST_SEARCHED)
         set_keys(stage, &s);

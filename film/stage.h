@@ -27,8 +27,14 @@ struct stage {
     uint64_t low, high;
 };
 
+/* What a drawing board needs besides: nodes to be drawn in any case, and so many of the free ones. */
+struct wanted_nodes {
+    const uint64_t *nodes;
+    size_t count, spare;
+};
+
 /* The table before the list and after it. */
-void stage_set(struct stage *s, const struct reel *r, const uint64_t *last, uint64_t collection, size_t codes);
+void stage_set(struct stage *s, const struct reel *r, const uint64_t *last, uint64_t collection, size_t codes, const struct wanted_nodes *also);
 void stage_free(struct stage *s);
 
 #endif

@@ -420,7 +420,11 @@ def main():
         with open(f"{FOLDER}/list.txt", "w") as f:
             f.writelines(f"flush {v}\n" if w == MARK else f"store {w} {v}\n" for w, v in wrong)
         scenes = film(words, change, 1, "--data", "--list", f"{FOLDER}/list.txt")
-        assert len(scenes) == 2 and scenes[1]["beside"] == 0
+        # Beside it the nearest right list: the library's, or another.
+        assert len(scenes) == (3 if scenes[1]["beside"] == 2 else 2) and scenes[1]["beside"] in (0, 2)
+        for right in scenes[2:]:
+            assert right["judge"] == -1 and right["lost"] is None and right["unsound"] is None
+            check_scene(right, words, [(o[1], int(o[2])) if o[0] == "store" else (MARK, o[1]) for o in right["orders"]], change, 1, chance, False)
         check_scene(scenes[0], words, orders, change, 1, chance, True)
         check_scene(scenes[1], words, wrong, change, 1, chance, False)
         passed += 1

@@ -84,6 +84,13 @@ function compare(html, words, what) {
   return { stored: found.stored, nodes: Object.keys(perNode).map(Number) };
 }
 
+/* The verdict in a class's words stands first. */
+function classWords(html, map, sound) {
+  const text = plain(html.match(/<p class="plain [^]*?<\/p>/)[0]);
+  if (map[0] === "neither") return text.includes(map[1] + " code") && text.includes(sound.number ? "the tree itself is broken" : "though the tree itself is in order");
+  return sound.number ? text.includes("No code is lost, but the tree itself is broken") : text.includes("Every code is found");
+}
+
 function plain(html) {
   const text = html.replace(/<[^>]*>/g, " ").replace(/&quot;/g, '"').replace(/&nbsp;/g, " ").replace(/&#10132;/g, ">").replace(/&amp;/g, "&");
   return text.replace(/\s+/g, " ").replace(/ ([;.,:])/g, "$1");
@@ -112,6 +119,7 @@ function imagesOf(scene) {
 function checkTold(p, scene, side, four, what) {
   assert(four, what + ": no image");
   const text = plain(p.elements[side + "-said"].innerHTML), sound = scene.sound[four[0]], map = scene.maps[four[1]], kinds = scene.kinds[four[3]].split("|");
+  assert(classWords(p.elements[side + "-said"].innerHTML, map, sound), what + ": " + text);
   const said = text.match(/Map: (the old one|the new one|unchanged|neither old nor new)\./)[1];
   assert.strictEqual(said, { old: scene.change.kind === "repair" ? "unchanged" : "the old one", new: "the new one", neither: "neither old nor new" }[map[0]], what);
   if (map[0] === "neither") assert(text.includes("nor new. " + map[1] + " code") && (p.elements[side + "-said"].innerHTML.match(/<li>/g) || []).length >= Math.min(12, map[1]), text);
@@ -218,6 +226,9 @@ function checkPage(page) {
     p.elements.scene.fire("change");
     const bad = scene.lost || scene.unsound;
     assert.strictEqual(Number(p.elements.order.value), bad ? bad.order : 0, scene.title);
+    if (scene.ask) checkAsked(p, scene);
+    checkGuess(p, scene, index);
+    if (scene.lost || scene.unsound) { p.elements.scene.fire("change"); }
     if (scene.lost) {
       const text = plain(p.elements["memory-said"].innerHTML);
       assert(/neither old nor new/.test(text) && text.includes(p.elements.code.value + ": "), text);
@@ -253,6 +264,42 @@ function checkPage(page) {
   return counts;
 }
 
+/* A scene that asks first answers nothing before it is asked: no count, no later order, no verdict. */
+function checkAsked(p, scene) {
+  assert(p.elements.told.innerHTML.includes("show the answer") && !p.elements.told.innerHTML.includes(String(scene.orders.filter((o) => o[0] === "store").length)), "the question is answered");
+  press(p, "ArrowRight");
+  assert(/^Order 1: /.test(p.elements.now.textContent), p.elements.now.textContent);
+  assert.strictEqual((p.elements.lists.innerHTML.match(/data-order/g) || []).length, 1);
+  assert(!/Map:|Sound/.test(p.elements["working-said"].innerHTML + p.elements["memory-said"].innerHTML) && p.elements["memory-tag"].innerHTML === "");
+  press(p, "Home");
+  click(p, { go: "ask" });
+  assert(/^Order 0 of /.test(p.elements.now.textContent));
+}
+
+/* Guess first: counts, verdicts and the right list wait, and come when asked for. */
+function checkGuess(p, scene, index) {
+  p.elements.guess.checked = true;
+  p.elements.guess.fire("change");
+  p.elements.scene.value = String(index);
+  p.elements.scene.fire("change");
+  assert.strictEqual(Number(p.elements.order.value), 0, scene.title);
+  assert(/^Order 0: /.test(p.elements.now.textContent) && !/Map:|Sound/.test(p.elements["memory-said"].innerHTML) && p.elements["working-tag"].innerHTML === "");
+  assert(!/first cut that|The judge says|nearest right list/.test(p.elements.told.innerHTML + p.elements.lists.innerHTML) && !/9650/.test(p.elements.ticks.innerHTML), scene.title);
+  click(p, { go: "ask" });
+  assert(/Map:/.test(p.elements["memory-said"].innerHTML) && (/The judge says/.test(p.elements.told.innerHTML) || scene.judge === null));
+  p.elements.guess.checked = false;
+  p.elements.guess.fire("change");
+  if (scene.ask) click(p, { go: "ask" });
+}
+
+/* Addresses that are none of ours show the first scene, or what they name as far as it is there. */
+function checkHostile(page) {
+  for (const hash of ["#code=%", "#scene=%&order=%", "#scene=1&order=5&code=%E0%A4%A", "#scene=99", "#scene=-1&order=2", "#order=1e99", "#scene=1&order=NaN&cut=x:y,,:", "#board", "#&&&===", "#scene=1&order=3&cut=2:99999", "#scene=constructor"]) {
+    const p = open(page, hash);
+    assert(/^Order \d+/.test(p.elements.now.textContent) && p.elements["working-stage"].innerHTML.includes("data-word"), hash + ": " + p.elements.now.textContent);
+  }
+}
+
 /* The address after the # opens the same moment. */
 function checkHash(page, p) {
   const hash = p.window.location.hash, again = open(page, hash);
@@ -277,6 +324,8 @@ function checkCodes(page, pairs) {
 const pages = process.argv.slice(2);
 let passed = 0;
 checkCodes(pages[0], [["172627201912345", "AA0001912345"], ["604661759999999", "ZZZZZ9999999"], ["172627202600060", "AA0002600060"]]);
+passed++;
+checkHostile(pages[0]);
 passed++;
 pages.forEach((page) => {
   const counts = checkPage(page);

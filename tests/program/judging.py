@@ -60,7 +60,7 @@ def the_drawings(program, folder):
         assert (out.splitlines(), err) == (told[at + 1:], ""), (path, out, err)
         assert status == (0 if name == "right.txt" else NO), (path, status)
         seen += 1
-    assert seen == 7
+    assert seen == 8
 
 
 def changes(program, t, collection):

@@ -1,8 +1,9 @@
 """Order lists in words: printed by orders, read by judge, film, wear and orders itself, in both directions with the plain form; wrong lines; keys of codes."""
+import json
 import random
 
 from drive import *
-from judging import DRAWINGS, text_of, write
+from judging import DRAWINGS, NO, text_of, write
 
 
 def both_directions(program, folder):
@@ -107,4 +108,32 @@ def keys_of_codes(program, folder):
     program.refuses(BAD_USAGE, "usage: catalogue key", "key")
 
 
-TESTS = [both_directions, any_orders, as_people_write, wrong_lines, keys_of_codes]
+def the_nearest_list(program, folder):
+    """A film of a list has the nearest right one beside it: nothing is marked if the judge accepts the list, else what breaks is said of few orders."""
+    for table in ("leaf", "full"):
+        program.done("make", f"{folder}/{table}.cat", 6)
+        program.done("load", f"{folder}/{table}.cat", f"{DRAWINGS}/{table}.csv")
+    marked = {}
+    for name in sorted(os.listdir(DRAWINGS)):
+        if not name.endswith(".txt"):
+            continue
+        with open(f"{DRAWINGS}/{name}") as f:
+            table, _, *change = re.search(r"^# catalogue judge (.*)$", f.read(), re.M)[1].split()
+        scenes = json.loads(program.done("film", f"{folder}/{table}", *change, "--list", f"{DRAWINGS}/{name}", "--data"))["scenes"]
+        drawn, right = scenes[1], scenes[scenes[1]["beside"]]
+        assert right["judge"] == -1 and right["lost"] is None
+        broken = [h for h in drawn["hunks"] if h[4] is not None]
+        marked[name] = sum(h[1] for h in broken), sum(h[3] for h in broken)
+        assert (drawn["judge"] == -1) == (not drawn["hunks"]), name
+        # What is said of a difference is what the judge says of the right list with it.
+        for at, length, there, there_length, breaks in broken:
+            assert breaks.startswith("no: after "), breaks
+            orders = right["orders"][:there] + drawn["orders"][at:at + length] + right["orders"][there + there_length:]
+            write(f"{folder}/list", "".join(" ".join(map(str, o)) + "\n" for o in orders))
+            assert program("judge", f"{folder}/{table}", f"{folder}/list", *change) == (NO, breaks, ""), name
+    assert marked["right.txt"] == (0, 0) and all(sum(m) <= 16 for m in marked.values()), marked
+    assert sum(marked["one-movement.txt"]) <= 5 and sum(marked["linked-before-flush.txt"]) <= 1, marked
+    return ", ".join(f"{name[:-4]} {sum(m)}" for name, m in marked.items())
+
+
+TESTS = [both_directions, any_orders, as_people_write, wrong_lines, keys_of_codes, the_nearest_list]

@@ -1,0 +1,54 @@
+/* A table in memory, made of lines code,recording. */
+#include "tables.h"
+
+#include <inttypes.h>
+#include <stdlib.h>
+#include <string.h>
+
+#include "catalogue.h"
+#include "change.h"
+#include "pool.h"
+#include "refusals.h"
+#include "rows.h"
+#include "text.h"
+#include "tree.h"
+
+static int add_row(const struct table *t, struct rows *r)
+{
+    struct row row;
+    int status = rows_read(r, &row);
+    if (status == ROW_PASSED)
+        return 0;
+    if (status != 0)
+        return fail(status, "line %" PRIu64 " of the table: a line is code,recording or code,recording,class", r->number);
+    struct change c = {.kind = ADD, .key = row.key, .recording = row.recording, .access = row.access};
+    uint64_t number = change_plan(&c, t);
+    return number == 0 ? 0 : refuse(number, t, row.key, row.recording);
+}
+
+static int add_rows(const struct table *t, const char *lines)
+{
+    struct rows *r = room_of(1, sizeof *r);
+    int status = rows_of_text(r, t->name, lines) ? 0 : fail(BAD_LINE, "the table is too long");
+    while (status == 0 && rows_next(r))
+        status = add_row(t, r);
+    free(r);
+    return status;
+}
+
+int table_of_lines(struct table *t, uint64_t nodes, const char *lines)
+{
+    *t = (struct table){.name = "the table", .words = HEADER_WORDS + NODE_WORDS * (size_t)nodes, .collection = 1, .collections = 1};
+    t->working = room_of(t->words, sizeof *t->working);
+    uint64_t *base = room_of(t->words, sizeof *base), number = catalogue_make(t->working, t->words, 1);
+    t->base = base;
+    int status = number == 0 ? add_rows(t, lines) : refuse(number, t, 0, 0);
+    memcpy(base, t->working, t->words * sizeof *base);
+    return status;
+}
+
+void table_free(struct table *t)
+{
+    free(t->working);
+    free((uint64_t *)t->base);
+}
