@@ -1,4 +1,4 @@
-// What the C entry points put into lent words: an answer, only where the call does its work, and the number that they return.
+// What the C entry points put into lent words: an answer, only if the call does its work, and the number that they return.
 use model::Answer;
 use model::Next;
 use model::Outcome;
@@ -53,7 +53,7 @@ pub fn put_answer(
     }
 }
 
-// A write's number, and its counts into the lent words where it was done.
+// A write's number; if it was done, its counts go into the lent words.
 pub fn put_counts(answer: Written, stores: &mut u64, flushes: &mut u64, barriers: &mut u64) -> u64
     ensures { λ r. ⌜ Counted answer r (now (stores .entry)) (now (stores .exit)) (now (flushes .entry)) (now (flushes .exit))
         (now (barriers .entry)) (now (barriers .exit)) ⌝ }

@@ -56,7 +56,7 @@ pub extern "C" fn catalogue_make(table: &mut [u64], collections: u64) -> u64
     answers::number_of(node::make(table, collections))
 }
 
-// 0, the recording and the class where the collection has the key; 255 where it is absent, with 1 and the next key up, or 0 where there is none;
+// 0, the recording and the class if the collection has the key; 255 if it is absent, with 1 and the next key up, or with 0 if there is none;
 // else 2, 17 or 3.
 #[no_mangle]
 pub extern "C" fn catalogue_search(

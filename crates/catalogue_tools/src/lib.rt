@@ -50,7 +50,7 @@ pub extern "C" fn catalogue_salvage(
     }
 }
 
-// A judgement's number, and the count that fails into the lent word where it is no.
+// A judgement's number; if it is no, the count that fails goes into the lent word.
 fn put_count(verdict: Verdict, count: &mut u64) -> u64
     ensures { λ r. ⌜ Ruled verdict r (now (count .entry)) (now (count .exit)) ⌝ }
 {

@@ -110,7 +110,7 @@ fn enter_pairs(cells: &mut [u64], pairs: &[u64], from: usize, to: usize) -> bool
     true
 }
 
-// True says that the recordings of these pairs are new to the map of the tree; false says nothing, as if the cells get full.
+// True says that the recordings of these pairs are new to the map of the tree; false says nothing, for instance if the cells get full.
 pub fn are_new(table: &[u64], root: u64, pairs: &[u64], from: usize, to: usize) -> bool
     requires { ⌜ soundView (viewFrom (now table) root) ≡ true ⌝ }
     requires { ⌜ from ≤ to ⌝ }

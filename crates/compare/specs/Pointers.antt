@@ -17,6 +17,6 @@ held k ps = pointerIn (firstWith k ps)
 unfoldable pub withPointer : (k x : ℕ) → List Slot → List Slot
 withPointer k x ps = cond (eqb x 0) (leave k ps) (enter k x (leave k ps))
 
--- these pairs are the old ones or, where they are to change, those with the new pointer
+-- these pairs are the old ones or, if they are to change, those with the new pointer
 unfoldable pub oldOrNew : (own : Bool) → (k x : ℕ) → (old ps : List Slot) → Bool
 oldOrNew own k x old ps = sameSlots ps old || (own && sameSlots ps (withPointer k x old))

@@ -79,7 +79,7 @@ fn past(c: Cursor) -> Cursor
     }
 }
 
-// The next leaf, where the present one has no pair more.
+// The next leaf, if the present one has no pair more.
 fn load(table: &[u64], c: Cursor) -> Cursor
     requires { ⌜ c .ways .count ≤ c .at ⌝ }
     requires { ⌜ (c .next ≡ 0 → ⊥) × (c .left ≡ 0 → ⊥) ⌝ }
@@ -113,7 +113,7 @@ fn seek(table: &[u64], from: Cursor, key: u64) -> Cursor
     c
 }
 
-// Whether two places have the same pair, where the first has one.
+// Whether two places have the same pair, if the first has one.
 fn same_pair(a: Cursor, b: Cursor) -> bool
     requires { ⌜ (a .at < a .ways .count) × (a .ways .count ≤ 13) × (b .ways .count ≤ 13) ⌝ }
     ensures { λ r. ⌜ r ≡ samePair a b ⌝ }

@@ -39,7 +39,7 @@ fn is_kept(words: &[u64], bound: usize, t: Tally, recording: u64) -> bool
     pairs::has_recording(&words[high..end], 0, recording)
 }
 
-// Whether a recording is new; then it is in the set from now on. Where no cell is free, which only a table of one node can bring about, the
+// Whether a recording is new; then it is in the set from now on. If no cell is free, which only a table of one node can bring about, the
 // pairs are looked through.
 fn is_new(words: &mut [u64], bound: usize, t: Tally, recording: u64) -> bool
     requires { ⌜ Standing (now words) bound t ⌝ }
@@ -87,7 +87,7 @@ fn reason(words: &mut [u64], bound: usize, t: Tally, key: u64, pointer: u64) -> 
     0
 }
 
-// A slot of node n that is collected: kept where no reason holds against it, else reported.
+// A slot of node n that is collected: kept if no reason holds against it, else reported.
 fn gather_slot(
     words: &mut [u64],
     bound: usize,
@@ -239,7 +239,7 @@ fn gather_nodes(
     p
 }
 
-// What is gathered along these nodes, where at most so many pairs are kept: the pairs in the first words, the dropped slots in the report.
+// What is gathered along these nodes, if at most so many pairs are kept: the pairs in the first words, the dropped slots in the report.
 pub fn gather(
     table: &[u64],
     top: u64,

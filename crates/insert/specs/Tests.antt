@@ -29,6 +29,6 @@ highRun v run = run .root && eqb (height v) 15
 abbrev pub fewFor : (free : ℕ) → Run → Bool
 fewFor free run = ltb free (run .length + cond (run .root) 1 0)
 
--- the number of the first test from 6 on that holds; 0 where none does
+-- the number of the first test from 6 on that holds; 0 if none does
 unfoldable pub numberFor : (n : ℕ) → Words → (k r c : ℕ) → Run → ℕ
 numberFor n t k r c run = firstNumber (mapTests (insertion n k r c) (highRun (viewOf n t) run) (fewFor (length (unreachable t)) run) (mapOf n t))

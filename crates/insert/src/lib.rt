@@ -85,7 +85,7 @@ fn too_few(free: u64, run: Run) -> bool
     free < run.length
 }
 
-// The number of the first test from 6 on that holds; 0 where none does. Whether the map has the recording is known; 10 counts the nodes that
+// The number of the first test from 6 on that holds; 0 if none does. Whether the map has the recording is known; 10 counts the nodes that
 // neither root reaches.
 fn number_known(
     table: &[u64],
@@ -125,7 +125,7 @@ fn number_known(
     0
 }
 
-// The same where the recording is still to be looked for.
+// The same if the recording is still to be looked for.
 pub fn number(
     table: &[u64],
     collection: u64,
@@ -146,7 +146,7 @@ pub fn number(
 
 // ---- into a settled table
 
-// A new root of the collection's tree, where the run includes the root.
+// A new root of the collection's tree, if the run includes the root.
 fn grow(
     table: &mut [u64],
     list: &mut [u64],
@@ -267,7 +267,7 @@ fn reached_after(reached: u64, run: Run) -> u64
 
 // ---- the call
 
-// The insertion into a sound table whose leftover and reached nodes are known, with a list that is long enough for the dock, where it is known
+// The insertion into a sound table whose leftover and reached nodes are known, with a list that is long enough for the dock, if it is known
 // whether the map has the recording. Marks of reached nodes stay so: an insertion frees none.
 pub fn insert_known(
     table: &mut [u64],

@@ -34,7 +34,7 @@ pub struct Progress {
     pub reached: u64,
 }
 
-// The single call for a pair, on a table that is known to be sound, where it is known whether the map has the recording.
+// The single call for a pair, on a table that is known to be sound, if it is known whether the map has the recording.
 fn take_one(
     table: &mut [u64],
     list: &mut [u64],
@@ -148,8 +148,8 @@ fn take_next(
     }
 }
 
-// Where pairs from pair i on that are known to have new recordings end: as known before, where pair i is one of them. Else a pass of the
-// leaves is to tell, of all pairs that are left; where it does not, of half of them, and so on.
+// Where pairs from pair i on that are known to have new recordings end: as known before, if pair i is one of them. Else a pass over the
+// leaves looks for the recordings of all pairs that are left; if it finds nothing out, another looks for half of them, and so on.
 fn new_end(table: &[u64], collection: u64, pairs: &[u64], i: usize, end: usize) -> usize
     requires { ⌜ sound (now table) ≡ true ⌝ }
     requires { ⌜ noCollection collection (now table) ≡ false ⌝ }

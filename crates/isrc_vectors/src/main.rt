@@ -2,7 +2,7 @@
 use libc::STDOUT_FILENO;
 use model::Parsed;
 
-// A byte as it is, or in hexadecimal where it is no visible character.
+// A byte as it is, or in hexadecimal if it is no visible character.
 fn show_byte(b: u8) {
     if b > 32 {
         if b < 127 {

@@ -1,4 +1,4 @@
-// Judging a supplier's order list: yes, or no with the first count of orders that fails. Each image is built in a second slice: where at most
+// Judging a supplier's order list: yes, or no with the first count of orders that fails. Each image is built in a second slice: if at most
 // one line ever holds unflushed stores, the images of a cut are what first parts of the list leave, and each is looked at once.
 use model::MARK;
 use model::Verdict;

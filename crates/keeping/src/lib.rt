@@ -1,4 +1,4 @@
-// How many pairs a salvage keeps, told without writing to a lent word: at most, in one pass; or exactly, by a bit for each slot of the nodes
+// How many pairs a salvage keeps, found without writing to a lent word: at most, in one pass; or exactly, by a bit for each slot of the nodes
 // entered, 12 to a node, each slot compared with those marked before it.
 ghost use mathlib.Core.Path.{_≡_};
 ghost use mathlib.Core.Bool.{_||_};

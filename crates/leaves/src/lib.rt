@@ -35,7 +35,7 @@ pub enum Hit {
     Nowhere,
 }
 
-// The leftmost leaf: from the root down by left; 0 where the root is too high.
+// The leftmost leaf: from the root down by left; 0 if the root is too high.
 pub fn first_leaf(table: &[u64], root: u64) -> u64
     ensures { λ r. ⌜ r ≡ firstLeaf (viewFrom (now (table .entry)) root) ⌝ }
 {

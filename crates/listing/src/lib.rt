@@ -37,7 +37,7 @@ fn wants(w: Window, key: u64) -> bool
     slots::keeps(w.sibling, w.bound, key)
 }
 
-// One pair more: written where it fits whole, else noted as left.
+// One pair more: written if it fits whole, else noted as left.
 fn take_pair(out: &mut [u64], p: Progress, key: u64, pointer: u64) -> Progress
     ensures { λ r. ⌜ sheet (now (out .exit)) r ≡ taken (slot key pointer) (sheet (now (out .entry)) p) ⌝ }
 {

@@ -34,7 +34,7 @@ searchNumber (Found r c) = 0
 searchNumber (Absent x) = 255
 searchNumber (Refused n) = n
 
--- a search's answer: its number, and what is put into the lent words, which stay where it has nothing for them
+-- a search's answer: its number, and what is put into the lent words, which stay if it has nothing for them
 pub record Looked (x : Answer) (number recording recording′ access access′ next next′ higher higher′ : ℕ) : Type 0 where
   pub number-is : number ≡ searchNumber x
   pub recording-is : recording′ ≡ recordingOr x recording

@@ -8,11 +8,11 @@ use Rattle.model.specs.Table.{Words, at, lengthOk, nodesFor, headerOk, rootWord
 unfoldable pub nodesIn : ℕ → ℕ
 nodesIn len = cond (lengthOk len) (nodesFor len) 0
 
--- collection n's root; 0 where the header is refused, or no such collection is there
+-- collection n's root; 0 if the header is refused, or if there is no such collection
 unfoldable pub rootIn : (n : ℕ) → Words → ℕ
 rootIn n t = cond (headerOk t) (cond (noCollection n t) 0 (at t (rootWord n))) 0
 
--- 2 where the header is refused, 17 where no such collection is there, else 0
+-- 2 if the header is refused, 17 if there is no such collection, else 0
 unfoldable pub numberIn : (n : ℕ) → Words → ℕ
 numberIn n t = cond (headerOk t) (cond (noCollection n t) 17 0) 2
 

@@ -40,7 +40,7 @@ fn second_fits(n: u64, second: u64) -> bool
     false
 }
 
-// The collection's root, in one look at the header; 0 where it or the collection is refused.
+// The collection's root, in one look at the header; 0 if it or the collection is refused.
 pub fn root(table: &[u64], collection: u64) -> u64
     ensures { λ r. ⌜ r ≡ rootIn collection (now (table .entry)) ⌝ }
 {
@@ -104,7 +104,7 @@ pub fn refusal(table: &[u64], collection: u64) -> u8
     17
 }
 
-// The root of a collection that the table has, where its header is right.
+// The root of a collection that the table has, if its header is right.
 pub fn root_of(table: &[u64], collection: u64) -> u64
     requires { ⌜ headerOk (now table) ≡ true ⌝ }
     requires { ⌜ noCollection collection (now table) ≡ false ⌝ }

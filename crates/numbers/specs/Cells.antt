@@ -51,7 +51,7 @@ unfoldable pub enteredAll : (ℕ → Bool) → List ℕ → Words → Outcome
 enteredAll p [] cs = outcome Entered cs
 enteredAll p (x ∷ xs) cs = followed (enteredIf p cs x) (enteredAll p xs)
 
--- what the answer tells of the numbers: none is there twice, or one is; where the cells got full, nothing
+-- what the answer says of the numbers: none is there twice, or one is; if the cells got full, nothing
 abbrev pub Tells : Entry → List ℕ → Type 0
 Tells Entered ys = distinct ys ≡ true
 Tells Known ys = distinct ys ≡ false

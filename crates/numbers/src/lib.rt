@@ -7,7 +7,7 @@ ghost use Rattle.numbers.specs.Cells.{mixed, nextCell, outcome, entered}
 // Numbers are scattered below this prime.
 pub const SPREAD: u64 = 4294967291;
 
-// Cells, and tries, for a set that is to tell soon that it is crowded.
+// Cells, and tries, for a set that is to notice soon that it is crowded.
 pub const CELLS: usize = 16384;
 
 pub const TRIES: usize = 128;

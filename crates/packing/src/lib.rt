@@ -121,7 +121,7 @@ pub fn put_header(table: &mut [u64], root: u64, second: u64, top: u64)
     table[7] = 0;
 }
 
-// The whole table, where the packing fits.
+// The whole table, if the packing fits.
 fn put_table(table: &mut [u64], top: u64, collections: u64, pairs: &[u64], loans: &[u64])
     requires { ⌜ (length (now table) ≡ 8 + 32 * top) × (top ≤ 65535) × (packedBoth (mapsIn collections (now pairs) (now loans)) ≤ top) ⌝ }
     ensures { λ r. ⌜ now (table .exit) ≡ packedTable top (mapsIn collections (now (pairs .entry)) (now (loans .entry))) ⌝ }

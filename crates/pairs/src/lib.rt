@@ -12,7 +12,7 @@ ghost use Rattle.model.specs.Pack.{pairsOk};
 ghost use Rattle.numbers.specs.Cells.{CELLS, outcome, enteredIf, enteredAll, Tells};
 ghost use Rattle.pairs.specs.Passes.{inPass};
 
-// Where the cells get full, passes narrower than this are not tried.
+// If the cells get full, passes narrower than this are not tried.
 const NARROWEST: u64 = 4194304;
 
 // Whether the keys rise strictly.
@@ -131,7 +131,7 @@ fn pass(pairs: &[u64], low: u64, high: u64) -> Entry
     enter_all(&mut cells, pairs, low, high)
 }
 
-// No recording number is there twice. The first pass takes all; where the cells get full, half its range is tried.
+// No recording number is there twice. The first pass takes all; if the cells get full, half its range is tried.
 fn once(pairs: &[u64]) -> bool
     ensures { λ r. ⌜ r ≡ distinct (map recording (slotsOf (now (pairs .entry)))) ⌝ }
 {

@@ -10,7 +10,7 @@ use Rattle.model.specs.Reached.{kept}
 use Rattle.model.specs.SoundTest.{all}
 use Rattle.reach.specs.declared.Run.{Run}
 
--- Node n will be full: it keeps 11 slots, counting the one that it is to get where it is the parent that lacks a slot.
+-- Node n will be full: it keeps 11 slots, counting the one that it is to get if it is the parent that lacks a slot.
 unfoldable pub fullIn : View → (parent n : ℕ) → Bool
 fullIn v parent n = eqb (length (kept v n) + cond (eqb n parent) 1 0) 11
 

@@ -173,7 +173,7 @@ fn mark_all(table: &[u64], marks: &mut [u64])
     mark_along(table, marks, second);
 }
 
-// Whether node n is reached from either root: a descent only where it is not marked. What a descent finds is marked too.
+// Whether node n is reached from either root: a descent only if it is not marked. What a descent finds is marked too.
 fn is_used(table: &[u64], marks: &mut [u64], n: u64) -> bool
     requires { ⌜ sound (now table) ≡ true ⌝ }
     requires { ⌜ Marked (now table) (now marks) ⌝ }
@@ -192,7 +192,7 @@ fn is_used(table: &[u64], marks: &mut [u64], n: u64) -> bool
     true
 }
 
-// So many nodes from node n on are reached: none where n is not, a whole word of marks at once where it begins with n.
+// So many nodes from node n on are reached: none if n is not, a whole word of marks at once if it begins with n.
 fn used_run(table: &[u64], marks: &mut [u64], n: u64) -> u64
     requires { ⌜ sound (now table) ≡ true ⌝ }
     requires { ⌜ Marked (now table) (now marks) ⌝ }
@@ -265,7 +265,7 @@ fn fresh_marked(table: &[u64], marks: &mut [u64], a: u64) -> u64
     first_unreached(table, marks, 1, a - 1)
 }
 
-// The first unreachable node after node a, going round from N to 1; 0 if there is none. The next node is asked for by itself: where codes
+// The first unreachable node after node a, going round from N to 1; 0 if there is none. The next node is tested by itself: if codes
 // come in order it is the one. Marks save descents, and what is found out is marked: they serve for the next fresh node too.
 pub fn fresh(table: &[u64], marks: &mut [u64], a: u64) -> u64
     requires { ⌜ sound (now table) ≡ true ⌝ }

@@ -1,4 +1,4 @@
--- The marked leaves, the rounds that tell suspects, and numbers compared with all after them.
+-- The marked leaves, the rounds that find suspects, and numbers compared with all after them.
 pub mod Marked
 pub mod Rounds
 pub mod Once

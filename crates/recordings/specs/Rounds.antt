@@ -1,4 +1,4 @@
--- Numbers that may be there twice, told by bits: in a round each suspect hits a place, and those whose place is hit twice stay suspects.
+-- Numbers that may be there twice, found by bits: in a round each suspect hits a place, and those whose place is hit twice stay suspects.
 use mathlib.Core.Path.{_≡_}
 use mathlib.Core.Bool.{Bool, true, false, cond, _&&_, _||_}
 use mathlib.Core.List.{List, [], _∷_}

@@ -228,7 +228,7 @@ fn hit_slot(
     hit(once, twice, at, crowded)
 }
 
-// Hits the places of a leaf's suspects; crowded tells of those before it.
+// Hits the places of a leaf's suspects; crowded is the answer for those before it.
 fn hit_leaf(
     olds: &[u64],
     once: &mut [u64],

@@ -6,7 +6,7 @@ ghost use lib.ListN.{length};
 ghost use Rattle.model.specs.Writes.{repair};
 ghost use Rattle.model.specs.Refusals.{written, tableAfter, listAfter};
 
-// What a cut left over is made good.
+// Finishes what a cut left unfinished.
 pub fn repair(table: &mut [u64], list: &mut [u64], dock: u64) -> Written
     ensures { λ r. ⌜ r ≡ written repair (length (now (list .entry))) dock (now (table .entry)) ⌝ }
     ensures { λ r. ⌜ now (table .exit) ≡ tableAfter repair (length (now (list .entry))) dock (now (table .entry)) ⌝ }

@@ -73,7 +73,7 @@ struct Pairs {
     two: usize,
 }
 
-// At least as many as the pairs kept, and too many for the table only where these are: the slots in use, if their packing fits; else the
+// At least as many as the pairs kept, and too many for the table only if these are: the slots in use, if their packing fits; else the
 // pairs kept, which takes far longer to know.
 fn most_kept(table: &[u64], top: u64, order: &[u16], first: usize, all: usize) -> Pairs
     requires { ⌜ Toured (now table) top (now order) first all ⌝ }
@@ -135,7 +135,7 @@ struct Rebuilt {
     dropped: usize,
 }
 
-// The nodes of the new table, and the report, where at most so many pairs are kept of each collection.
+// The nodes of the new table, and the report, if at most so many pairs are kept of each collection.
 fn fill_both(
     table: &[u64],
     top: u64,
@@ -179,7 +179,7 @@ fn fill_both(
     }
 }
 
-// The second slice and the report, where the packing fits; the answer is how many slots were dropped.
+// The second slice and the report, if the packing fits; the answer is how many slots were dropped.
 fn rebuild(
     table: &[u64],
     top: u64,

@@ -61,7 +61,7 @@ fn end_line(table: &mut [u64], list: &mut [u64], out: &mut [u8], line: LineState
     script_bytes::put_answer(out, list, answer)
 }
 
-// The bytes of a piece up to its first line feed, where the line is carried out; all of them where it has none.
+// The bytes of a piece up to its first line feed, at which the line is carried out; all of them if it has none.
 pub fn read_line(
     table: &mut [u64],
     list: &mut [u64],

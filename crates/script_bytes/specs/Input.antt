@@ -36,7 +36,7 @@ unfoldable pub joined : List Bytes → Bytes
 joined [] = []
 joined (p ∷ ps) = p ++ joined ps
 
--- what a line read leaves: carried out where it has ended, and a new one begun
+-- what a line read leaves: carried out if it has ended, and a new one begun
 unfoldable pub lineDone : {A : Type 0} → (Request → A → A) → LineRead → A → Reading A
 lineDone act x a = cond (x .ended) (reading begin (act (request (x .line)) a)) (reading (x .line) a)
 

@@ -78,7 +78,7 @@ after s (b ∷ bs) = after (step s b) bs
 abbrev pub further : LineRead → LineRead
 further x = record { line = x .line; used = suc (x .used); ended = x .ended }
 
--- up to the piece's first line feed, which is used too; all of it where it has none
+-- up to the piece's first line feed, which is used too; all of it if it has none
 unfoldable pub lineIn : LineState → Bytes → LineRead
 lineIn s [] = record { line = s; used = 0; ended = false }
 lineIn s (b ∷ bs) = cond (eqb b 10) (record { line = s; used = 1; ended = true }) (further (lineIn (step s b) bs))

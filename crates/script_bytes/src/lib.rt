@@ -194,7 +194,7 @@ fn take(s: LineState, b: u8) -> LineState
     }
 }
 
-// The line with the bytes of a piece up to its first line feed, which is used too; with all of them where it has none.
+// The line with the bytes of a piece up to its first line feed, which is used too; with all of them if it has none.
 pub fn read_line(line: LineState, piece: &[u8]) -> LineRead
     ensures { λ r. ⌜ r ≡ lineIn line (now (piece .entry)) ⌝ }
 {

@@ -16,12 +16,12 @@ stood n way held = record { node = n; way = way; held = held }
 abbrev pub nowhere : Stood
 nowhere = stood 0 0 0
 
--- of node m, where a search for k stands on it; 0 where a test failed
+-- of node m, if a search for k stands on it; 0 if a test failed
 abbrev pub seenIn : View → (k : ℕ) → Option ℕ → Stood
 seenIn v k none = nowhere
 seenIn v k (some m) = stood m (down v m k) (pointerIn (firstWith k (v .node m .shown)))
 
--- the node that a search for k stands on, coming to n on level l; none where a test fails
+-- the node that a search for k stands on, coming to n on level l; none if a test fails
 unfoldable pub standOn : View → (l n k : ℕ) → Option ℕ
 standOn v l n k = cond (passes v l n) (some (moved v n k)) none
 
@@ -29,6 +29,6 @@ standOn v l n k = cond (passes v l n) (some (moved v n k)) none
 unfoldable pub locateWithin : View → (low high n k : ℕ) → Option ℕ
 locateWithin v low high n k = let l = v .node n .level in cond (leb low l && leb l high) (locate v l n k) none
 
--- from the pointer of the key's slot, 0 for none; the answer where there is none is given
+-- from the pointer of the key's slot, 0 for none; the answer if there is none is given
 abbrev pub answerHeld : ℕ → (absent : Answer) → Answer
 answerHeld p absent = cond (eqb p 0) absent (Found (recordingOf p) (classOf p))

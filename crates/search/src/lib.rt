@@ -28,7 +28,7 @@ pub struct Stood {
     pub held: u64,
 }
 
-// Where a test fails.
+// If a test fails.
 fn lost() -> Stood
     ensures { λ r. ⌜ r ≡ nowhere ⌝ }
 {
@@ -145,7 +145,7 @@ fn next_from(table: &[u64], leaf: u64, read: Node, key: u64) -> Answer
     Answer::Refused(3)
 }
 
-// The answer from leaf m, with the pointer of the key's slot in it. Only where there is none is the next key looked for, by looks of its own.
+// The answer from leaf m, with the pointer of the key's slot in it. The next key is looked for only if there is none, by looks of its own.
 pub fn answer(table: &[u64], m: u64, held: u64, key: u64) -> Answer
     requires { ⌜ headerOk (now table) ≡ true ⌝ }
     requires { ⌜ onLevel (view (now table)) 0 m ≡ true ⌝ }

@@ -118,7 +118,7 @@ fn line_key(table: &[u64], w: usize, first: usize) -> u64
     MARK
 }
 
-// The pointer of the first shown slot on the line with the key; 0 where there is none.
+// The pointer of the first shown slot on the line with the key; 0 if there is none.
 fn line_find(table: &[u64], w: usize, first: usize, key: u64) -> u64
     requires { ⌜ w + 32 ≤ length (now table) ⌝ }
     requires { ⌜ first ≤ 8 ⌝ }
@@ -311,7 +311,7 @@ fn line_for(words: &[u64], n: u64, key: u64) -> usize
     3
 }
 
-// The pointer of the first shown slot with the key on the line of leaf m that its words name; 0 where there is none.
+// The pointer of the first shown slot with the key on the line of leaf m that its words name; 0 if there is none.
 fn on_line(table: &[u64], words: &[u64], m: u64, key: u64) -> u64
     requires { ⌜ headerOk (now table) ≡ true ⌝ }
     requires { ⌜ onLevel (view (now table)) 0 m ≡ true ⌝ }
@@ -326,7 +326,7 @@ fn on_line(table: &[u64], words: &[u64], m: u64, key: u64) -> u64
     line_find(table, w, 4 * j, key)
 }
 
-// The leaf that a search stands on, coming to node n on level 0, which is read: n or its sibling; 0 where a test fails.
+// The leaf that a search stands on, coming to node n on level 0, which is read: n or its sibling; 0 if a test fails.
 fn leaf_at(table: &[u64], n: u64, read: Node, key: u64) -> u64
     requires { ⌜ headerOk (now table) ≡ true ⌝ }
     requires { ⌜ onLevel (view (now table)) (read .level) n ≡ true ⌝ }
@@ -350,7 +350,7 @@ fn leaf_at(table: &[u64], n: u64, read: Node, key: u64) -> u64
     sibling
 }
 
-// The leaf that a search comes to from a root, as the plain one does, but without a look at its slots; 0 where a test fails.
+// The leaf that a search comes to from a root, as the plain one does, but without a look at its slots; 0 if a test fails.
 fn leaf_for(table: &[u64], root: u64, key: u64) -> u64
     requires { ⌜ headerOk (now table) ≡ true ⌝ }
     ensures { λ r. ⌜ r ≡ seenIn (view (now (table .entry))) key (locateWithin (view (now (table .entry))) 0 15 root key) .node ⌝ }

@@ -10,7 +10,7 @@ use Rattle.short_scripts.specs.declared.Held.{Held}
 abbrev pub held : (one two three : Bool) → Held
 held a b c = record { one = a; two = b; three = c }
 
--- key k's pair, where it is there
+-- key k's pair, if it is there
 abbrev pub pair : (k : ℕ) → Bool → List Slot
 pair k there = cond there (slot k (pointerOf (10 + k) 0) ∷ []) []
 

@@ -328,7 +328,7 @@ fn count_bad(table: [u64; 136], list: &[u64], count: u64, old: Held, new: Held) 
     bad
 }
 
-// The action's call. A caller learns the list's length here, for its own type does not tell it.
+// The action's call. A caller gets the list's length from this contract: the list's type does not say it.
 fn call(table: &mut [u64; 136], list: &mut [u64; 2560], action: u64) -> Written
     ensures { λ r. ⌜ r ≡ written (callOf action) 2560 0 (now (table .entry)) ⌝ }
     ensures { λ r. ⌜ now (table .exit) ≡ tableAfter (callOf action) 2560 0 (now (table .entry)) ⌝ }

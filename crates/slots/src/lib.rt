@@ -30,7 +30,7 @@ pub fn count(slots: [u64; 24]) -> usize
     i
 }
 
-// The place of the last slot in use; 0 where none is.
+// The place of the last slot in use; 0 if none is.
 pub fn last(slots: [u64; 24]) -> usize
     ensures { λ r. ⌜ r ≡ pred (length (inUseOf slots)) ⌝ }
     ensures { λ r. ⌜ r ≤ 12 ⌝ }
@@ -94,7 +94,7 @@ pub fn pointer_before(slots: [u64; 24], left: u64, p: usize) -> u64
 
 // ---- shown slots: the way down, and the slot of a key
 
-// The way down after a slot in use: its pointer where it is shown and its key is at most the key looked for.
+// The way down after a slot in use: its pointer if it is shown and its key is at most the key looked for.
 fn way_after(way: u64, before: u64, k: u64, p: u64, key: u64) -> u64
     ensures { λ r. ⌜ r ≡ wayAfter way before k p key ⌝ }
 {
@@ -107,7 +107,7 @@ fn way_after(way: u64, before: u64, k: u64, p: u64, key: u64) -> u64
     way
 }
 
-// The pointer of the first shown slot with the key, after a slot in use; 0 where there is none.
+// The pointer of the first shown slot with the key, after a slot in use; 0 if there is none.
 fn held_after(held: u64, before: u64, k: u64, p: u64, key: u64) -> u64
     ensures { λ r. ⌜ r ≡ heldAfter held before k p key ⌝ }
 {
@@ -123,7 +123,7 @@ fn held_after(held: u64, before: u64, k: u64, p: u64, key: u64) -> u64
     held
 }
 
-// What one look at a node's slots tells of a key: the way down, and the pointer of the first shown slot with the key, 0 for none.
+// What one look at a node's slots finds for a key: the way down, and the pointer of the first shown slot with the key, 0 for none.
 pub struct Seen {
     pub way: u64,
     pub held: u64,
@@ -211,7 +211,7 @@ pub fn is_way(sibling: u64, bound: u64, before: u64, key: u64, pointer: u64) -> 
     keeps(sibling, bound, key)
 }
 
-// The count after a slot in use: one more where it is shown and kept.
+// The count after a slot in use: one more if it is shown and kept.
 fn count_after(count: u64, sibling: u64, bound: u64, before: u64, key: u64, pointer: u64) -> u64
     requires { ⌜ count < 12 ⌝ }
     ensures { λ r. ⌜ r ≡ countAfter count sibling bound before key pointer ⌝ }
@@ -320,7 +320,7 @@ pub fn gather(x: Node, bound: u64) -> Ways
 // ---- the survey of a node's slots
 
 // What is known after some of a node's slots in use: whether the kept ones rise and come first; whether some are not kept; the key that
-// the next kept one must reach, or exceed where strict; the pointer before it; how many are hidden.
+// the next kept one must reach, or exceed if strict; the pointer before it; how many are hidden.
 pub struct Survey {
     pub fair: bool,
     pub trailing: bool,
@@ -330,7 +330,7 @@ pub struct Survey {
     pub hidden: u64,
 }
 
-// Whether a key is above low; where not strict, or low itself.
+// Whether a key is above low; if not strict, or low itself.
 fn reaches(strict: bool, low: u64, key: u64) -> bool
     ensures { λ r. ⌜ r ≡ reaches strict low key ⌝ }
 {

@@ -314,7 +314,7 @@ fn check_node(
     }
 }
 
-// Checks the node below a slot of the parent, which the node on the right follows, and its sibling where that lacks its slot.
+// Checks the node below a slot of the parent, which the node on the right follows, and its sibling if that lacks its slot.
 fn check_slot(
     table: &[u64],
     parent: u64,
@@ -407,7 +407,7 @@ pub enum Checked {
     Sound { leftover: Leftover, reached: u64 },
 }
 
-// The leftover where nothing is hidden and nothing trails.
+// The leftover if nothing is hidden and nothing trails.
 fn missing_alone(missing: Missing) -> Verdict
     ensures { λ r. ⌜ r ≡ verdictOf (leftoverFrom Few.Zero Few.Zero missing) ⌝ }
 {
@@ -425,7 +425,7 @@ fn missing_alone(missing: Missing) -> Verdict
     }
 }
 
-// The leftover where node x shows slots from its sibling's fence up.
+// The leftover if node x shows slots from its sibling's fence up.
 fn with_trailing(x: u64, missing: Missing) -> Verdict
     ensures { λ r. ⌜ r ≡ verdictOf (leftoverFrom Few.Zero (Few.One x) missing) ⌝ }
 {
@@ -446,7 +446,7 @@ fn with_trailing(x: u64, missing: Missing) -> Verdict
     }
 }
 
-// The leftover where node q has a hidden slot.
+// The leftover if node q has a hidden slot.
 fn with_hidden(q: u64, missing: Missing) -> Verdict
     ensures { λ r. ⌜ r ≡ verdictOf (leftoverFrom (Few.One q) Few.Zero missing) ⌝ }
 {

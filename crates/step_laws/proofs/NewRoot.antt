@@ -72,7 +72,7 @@ module _ (w : ℕ) (ns : List ℕ) where
     rooted : Rooted v₁ (withRoot v₁ r) r
     rooted = new-root v₁ r (stays .fine .left) above
 
-    -- ---- header word 1
+    -- ---- the tree's header word
 
     abbrev t₂ : Words
     t₂ = set t₁ w r

@@ -35,7 +35,7 @@ module _ (v : View) where
   rightmost zero n = n
   rightmost (suc d) n = rightmost d (lastChild n)
 
--- the leftmost leaf; 0 for none where the root is too high
+-- the leftmost leaf; 0 if the root is too high
 unfoldable pub firstLeaf : View → ℕ
 firstLeaf v = elim (leb (height v) 15) [ true ↦ leftmost v (height v) (v .root) | false ↦ 0 ]
 

@@ -32,7 +32,7 @@ aloneOk v n = v .node n .clear && (siblingOk v n && elim (eqb (v .node n .level)
 unfoldable pub fits : View → Visit → Bool
 fits v x = stands v x && aloneOk v (x .node)
 
--- the visits for slots of p, whose nodes stand on level d and are followed by e: each slot's node, and its sibling where that lacks its slot
+-- the visits for slots of p, whose nodes stand on level d and are followed by e: each slot's node, and its sibling if that lacks its slot
 module _ (v : View) (p d : ℕ) where
   unfoldable pub visitsOf : List Slot → ℕ → List Visit
   visitsOf [] e = []

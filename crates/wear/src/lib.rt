@@ -82,7 +82,7 @@ fn unwanted(marks: &[u64], w: usize, wanted: bool) -> usize
     n
 }
 
-// The first number from a number on that is marked, or that is not, as wanted; len where there is none below it. A word of marks a turn.
+// The first number from a number on that is marked, or that is not, as wanted; len if there is none below it. A word of marks a turn.
 fn seek(marks: &[u64], from: usize, len: usize, wanted: bool) -> usize
     requires { ⌜ (from ≤ len) × (len ≤ 64 * length (now marks)) ⌝ }
     ensures { λ r. ⌜ Sought (has (now (marks .entry))) wanted from len r ⌝ }

@@ -11,7 +11,7 @@ use Rattle.model.specs.Wear.{Extent, joinAll}
 abbrev pub extentsIn : (ℕ → Bool) → (from count : ℕ) → List Extent
 extentsIn f from count = joinAll (filter f (numbers from count))
 
--- r is the first number from `from` on, below len, whose test says `wanted`; len where there is none
+-- r is the first number from `from` on, below len, whose test says `wanted`; len if there is none
 pub record Sought (f : ℕ → Bool) (wanted : Bool) (from len r : ℕ) : Type 0 where
   pub after : from ≤ r
   pub within : r ≤ len

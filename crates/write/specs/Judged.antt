@@ -18,7 +18,7 @@ sharedTests seventeen words dock t =
     test (not (headerOk t)) 2 ∷ test seventeen 17 ∷ test (not (sound t)) 4
     ∷ test (ltb 1 dock) 18 ∷ test (ltb words (wordsFor dock)) 5 ∷ []
 
--- the number of the first of them that holds; 0 where none does
+-- the number of the first of them that holds; 0 if none does
 unfoldable pub shared : (seventeen : Bool) → (words dock : ℕ) → Words → ℕ
 shared seventeen words dock t = firstNumber (sharedTests seventeen words dock t)
 
