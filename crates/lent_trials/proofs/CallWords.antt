@@ -18,7 +18,7 @@ use Rattle.model.specs.Orders.{apply}
 use Rattle.model.specs.Refusals.{listAfter}
 use Rattle.model.specs.Sentinels.{sentinels}
 use Rattle.model.proofs.Everything.{everything}
-use Rattle.answers.specs.Answers.{version, searchNumber, Looked, Counted, Wrote, puts, Summed, WroteMany, WroteWith, Showed, Rebuilt, Ruled, Wore}
+use Rattle.model.specs.Answers.{version, searchNumber, Looked, Counted, Wrote, puts, Summed, WroteMany, WroteWith, Showed, Rebuilt, Ruled, Wore}
 
 -- an insertion into the empty table, its list for dock 1, and what it comes to
 abbrev pub enters : Call
