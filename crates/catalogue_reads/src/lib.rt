@@ -17,7 +17,7 @@ ghost use mathlib.Core.Bool.{cond};
 pub extern "C" fn catalogue_version() -> u64
     ensures { λ r. ⌜ r ≡ version ⌝ }
 {
-    14
+    15
 }
 
 // 0 and the code's key, or 1.

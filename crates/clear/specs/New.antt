@@ -71,6 +71,6 @@ enteredDown pairs i (suc c) cs = followed (entered TRIES cs (recordingOf (getD p
 abbrev pub clearOf : View → Outcome → Bool
 clearOf v o = elim (o .answer) [ Entered ↦ all (offPair (o .cells)) (treePairs v) | Known ↦ false | Full ↦ false ]
 
--- the pairs from i on, before j, are told to have recordings that are new to the tree; else nothing is told of them
+-- the pairs from i on, before j, are known to have recordings that are new to the tree; else nothing is known of them
 unfoldable pub areNew : View → (pairs : Words) → (i j : ℕ) → Bool
 areNew v pairs i j = clearOf v (enteredDown pairs i (j - i) (replicate CELLS 0))

@@ -47,7 +47,7 @@ pub record Fit (n dock : ℕ) (p : Progress) (list t : Words) : Type 0 where
 abbrev pub Gains : (n q : ℕ) → (p r : Progress) → (t t′ : Words) → Type 0
 Gains n q p r t t′ = r .number ≡ 0 → (r .taken ≡ suc (p .taken)) × ((x : ℕ) → hasRecording x (mapOf n t′) ≡ (eqb q x || hasRecording x (mapOf n t)))
 
--- how many pairs from i on are told to be new: of so many if they are, else of half of them, and so on; 0 if not even of two
+-- how many pairs from i on are known to be new: of so many if they are, else of half of them, and so on; 0 if not even of two
 unfoldable pub newWidth : View → (pairs : Words) → (i fuel width : ℕ) → ℕ
 newWidth v pairs i zero width = 0
 newWidth v pairs i (suc f) width =
@@ -56,6 +56,6 @@ newWidth v pairs i (suc f) width =
       | false ↦ 0
     ]
 
--- where the pairs from i on that are told to be new end: as before, if pair i is one of them
+-- where the pairs from i on that are known to be new end: as before, if pair i is one of them
 unfoldable pub newEnd : (n : ℕ) → (t pairs : Words) → (i end : ℕ) → ℕ
 newEnd n t pairs i end = let all = length pairs / 2 - i in cond (ltb i end) end (i + newWidth (viewOf n t) pairs i all all)

@@ -26,7 +26,7 @@ use Rattle.model.specs.Wear.{wornNumber, totalOr, largestOr, firstLineOr
 
 -- the version of the calls' shapes: raised by each change of a name, a parameter or what a word means
 abbrev pub version : ℕ
-version = 14
+version = 15
 
 -- a search of C's: 0 for found, 255 for absent
 abbrev pub searchNumber : Answer → ℕ
