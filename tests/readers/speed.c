@@ -1,9 +1,10 @@
 /*
- * Finds of one open handle: speed FOLDER CODES NODES, with the processor time of the thread that finds. The core's search of the mapped words,
+ * Finds of one open handle: speed FOLDER CODES NODES, in processor time of the thread that finds. The core's search of words that keep still,
  * the handle's find beside an idle writer and, if it is built with LMDB (WITH_LMDB), LMDB's get of the same keys take turns; the figure is the
- * median of their rounds. Then finds beside writers: one that is stopped within a bracket, one that makes a change every 10 ms, one that does so
- * without pause, and one that carries lists out that were planned before, without pause; and LMDB's beside one that inserts every 10 ms. The first
- * line is the first find of a new handle, with its page faults, the last one that after a change of a handle that has walked the whole table.
+ * median of their rounds. Then the core's search takes turns with finds beside a writer: one that is stopped within a bracket, one that makes
+ * a change every 10 ms, one that does so without pause, and one that carries lists out that were planned before, without pause; and with LMDB's get
+ * beside one that inserts every 10 ms. The first line is the first find of a new handle, with its page faults, the last one that after a change of a
+ * handle that has walked the whole table.
  */
 #include <fcntl.h>
 #include <inttypes.h>
@@ -24,10 +25,11 @@
 #define SEARCHES 200000
 #define LISTS 4
 #define ROUNDS 9
-#define TEN_MILLISECONDS 10000000
+#define TEN_MILLISECONDS 0.01
 
 static char name[4096];
 static struct writer writer; /* on the file's words, without a lock */
+static uint64_t *still;      /* a copy of them, for the core */
 static struct list lists[LISTS];
 static uint64_t *keys, codes;
 static uint64_t state = 88172645463325252u;
@@ -50,11 +52,14 @@ static uint64_t next_random(void)
     return state;
 }
 
-/* Seconds of this thread's own processor time: the machine may be busy with other things. */
+/* The clock is the processor time of the thread that finds, for its writer too: the machine may be busy with other things. */
+static clockid_t reader;
+
+/* Seconds. */
 static double now(void)
 {
     struct timespec t;
-    clock_gettime(CLOCK_THREAD_CPUTIME_ID, &t);
+    clock_gettime(reader, &t);
     return (double)t.tv_sec + (double)t.tv_nsec * 1e-9;
 }
 
@@ -95,8 +100,10 @@ static void map_table(uint64_t nodes)
     int file = open(name, O_RDWR | O_CLOEXEC);
     writer = (struct writer){.words = words, .working = malloc(words * sizeof(uint64_t)), .brackets = BRACKET_LIST};
     writer.memory = mmap(NULL, (words + TRAILER_WORDS) * sizeof(uint64_t), PROT_READ | PROT_WRITE, MAP_SHARED, file, 0);
-    wants(file >= 0 && writer.working && writer.memory != MAP_FAILED, "the table cannot be mapped");
+    still = malloc(words * sizeof(uint64_t));
+    wants(file >= 0 && writer.working && still && writer.memory != MAP_FAILED, "the table cannot be mapped");
     writer_open(&writer);
+    memcpy(still, writer.memory, words * sizeof(uint64_t));
 }
 
 /* ---- contenders */
@@ -104,7 +111,7 @@ static void map_table(uint64_t nodes)
 static uint64_t by_core(uint64_t key)
 {
     uint64_t recording = 0, access, next, higher;
-    catalogue_search(writer.memory, writer.words, 1, key, &recording, &access, &next, &higher);
+    catalogue_search(still, writer.words, 1, key, &recording, &access, &next, &higher);
     return recording;
 }
 
@@ -187,12 +194,11 @@ static double median(double *times)
 
 static void print(const char *what, double took, double core)
 {
-    printf("   %s: %.0f ns, %.2f million a second, %.2f times the core's\n", what, took, 1e3 / took, took / core);
+    printf("   %s: %.0f ns, %.2f million a second, %.2f times the core's %.0f\n", what, took, 1e3 / took, took / core, core);
     fflush(stdout);
 }
 
-/* In turn; the core's time. */
-static double compare(void)
+static void compare(void)
 {
     size_t count = sizeof contenders / sizeof contenders[0];
     for (unsigned round = 0; round < ROUNDS; round++)
@@ -200,8 +206,7 @@ static double compare(void)
             contenders[i].times[round] = time_in_turn(&contenders[i]);
     double core = median(contenders[0].times);
     for (size_t i = 0; i < count; i++)
-        print(contenders[i].name, i == 0 ? core : median(contenders[i].times), core);
-    return core;
+        print(contenders[i].name, median(contenders[i].times), core);
 }
 
 /* ---- writers */
@@ -211,10 +216,17 @@ static bool goes_on(void)
     return !__atomic_load_n(&ended, __ATOMIC_RELAXED);
 }
 
-/* One code goes and comes back, and has another class and its own; nanoseconds between two changes. */
+static void pause_for(double seconds)
+{
+    const struct timespec moment = {.tv_nsec = 200000};
+    double until = now() + seconds;
+    while (goes_on() && now() < until)
+        nanosleep(&moment, NULL);
+}
+
+/* One code goes and comes back, and has another class and its own; between two changes so many seconds. */
 static void *by_library(void *between)
 {
-    struct timespec pause = {.tv_nsec = *(long *)between};
     catalogue_file *f = catalogue_file_new();
     uint64_t key = keys[codes / 2], recording = codes / 2 + 1;
     wants(f && catalogue_file_open(f, name, CATALOGUE_FILE_WRITING | CATALOGUE_FILE_FAST, 0) == 0, "no second handle");
@@ -224,8 +236,7 @@ static void *by_library(void *between)
                                        : catalogue_file_set_class(f, 1, key, i % 4 == 2 ? CATALOGUE_CLOSED : CATALOGUE_OPEN);
         wants(number == 0, "a change was refused");
         changes++;
-        if (pause.tv_nsec > 0)
-            nanosleep(&pause, NULL);
+        pause_for(*(double *)between);
     }
     catalogue_file_free(f);
     return NULL;
@@ -257,43 +268,43 @@ static void *by_lists(void *unused)
 /* Codes between the others come. */
 static void *by_peer(void *between)
 {
-    struct timespec pause = {.tv_nsec = *(long *)between};
     for (uint64_t i = 0; goes_on() && i < codes; i++) {
         struct pair pair = {keys[i] + 1, codes + 1 + i};
         wants(lmdb.insert(store, &pair, 1), "a change was refused");
         changes++;
-        nanosleep(&pause, NULL);
+        pause_for(*(double *)between);
     }
     return NULL;
 }
 #endif
 
-static double median_of(uint64_t (*find)(uint64_t))
+/* The core's search and a find in turn. */
+static void compare_two(const char *what, uint64_t (*find)(uint64_t))
 {
-    double times[ROUNDS];
-    for (unsigned round = 0; round < ROUNDS; round++)
+    double times[ROUNDS], core[ROUNDS];
+    for (unsigned round = 0; round < ROUNDS; round++) {
+        core[round] = time_of(by_core);
         times[round] = time_of(find);
-    return median(times);
+    }
+    print(what, median(times), median(core));
 }
 
-static void beside(const char *what, uint64_t (*find)(uint64_t), void *(*work)(void *), long between, double core)
+static void beside(const char *what, uint64_t (*find)(uint64_t), void *(*work)(void *), double between)
 {
     pthread_t thread;
-    char with[100];
     ended = changes = 0;
     wants(pthread_create(&thread, NULL, work, &between) == 0, "no thread");
-    double took = median_of(find);
+    compare_two(what, find);
     __atomic_store_n(&ended, 1, __ATOMIC_RELAXED);
     pthread_join(thread, NULL);
-    snprintf(with, sizeof with, "%s (%" PRIu64 " of them)", what, changes);
-    print(with, took, core);
+    printf("      %" PRIu64 " changes\n", changes);
 }
 
-static void beside_stopped(double core)
+static void beside_stopped(void)
 {
     struct counter stopped = counter_start(writer_counter(&writer), BRACKET_LIST);
     counter_store(&stopped, &writer.memory[HEADER_WORDS], writer.memory[HEADER_WORDS]);
-    print("find, a writer stopped within a bracket", median_of(by_find), core);
+    compare_two("find, a writer stopped within a bracket", by_find);
     counter_finish(&stopped);
 }
 
@@ -336,7 +347,7 @@ static void first_find(void)
 
 int main(int count, char **arguments)
 {
-    wants(count == 4, "speed FOLDER CODES NODES");
+    wants(count == 4 && pthread_getcpuclockid(pthread_self(), &reader) == 0, "speed FOLDER CODES NODES");
     codes = strtoull(arguments[2], NULL, 10);
     uint64_t nodes = strtoull(arguments[3], NULL, 10), *pairs = make_pairs();
     snprintf(name, sizeof name, "%s/table", arguments[1]);
@@ -348,15 +359,15 @@ int main(int count, char **arguments)
     printf("%" PRIu64 " codes in %" PRIu64 " nodes\n", codes, nodes);
     map_table(nodes);
     first_find();
-    double core = compare();
-    beside_stopped(core);
-    beside("find, changes every 10 ms", by_find, by_library, TEN_MILLISECONDS, core);
-    beside("find, changes without pause", by_find, by_library, 0, core);
+    compare();
+    beside_stopped();
+    beside("find, a change every 10 ms", by_find, by_library, TEN_MILLISECONDS);
+    beside("find, changes without pause", by_find, by_library, 0);
     writer_open(&writer);
     plan();
-    beside("find, planned lists without pause", by_find, by_lists, 0, core);
+    beside("find, planned lists without pause", by_find, by_lists, 0);
 #ifdef WITH_LMDB
-    beside("LMDB's get, a read transaction each, insertions every 10 ms", by_transaction, by_peer, TEN_MILLISECONDS, core);
+    beside("LMDB's get, a read transaction each, an insertion every 10 ms", by_transaction, by_peer, TEN_MILLISECONDS);
 #endif
     after_a_walk();
 #ifdef WITH_LMDB
