@@ -404,7 +404,7 @@ int film_print(const struct scene *scenes, size_t count, bool data, bool board, 
     }
     printf("]%s}\n", more ? more : "");
     if (!data)
-        page_end(stdout);
+        page_end(stdout, board);
     return status;
 }
 

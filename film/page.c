@@ -73,11 +73,13 @@ void page_begin(FILE *out, bool board)
     put_until(out, rest, DATA_HERE);
 }
 
-void page_end(FILE *out)
+void page_end(FILE *out, bool board)
 {
     const char *rest = put_until(out, strstr(film_page, DATA_HERE) + strlen(DATA_HERE), SCRIPT_HERE);
     fputs(film_script, out);
-    fputs(live_script, out);
-    fputs(board_script, out);
+    if (board) {
+        fputs(live_script, out);
+        fputs(board_script, out);
+    }
     fputs(rest, out);
 }

@@ -8,6 +8,7 @@
 #include <string.h>
 
 #include "changes.h"
+#include "class.h"
 #include "draw.h"
 #include "film.h"
 #include "find.h"
@@ -187,9 +188,15 @@ static int command_remove(struct command_line *l)
     return change_table(l, REMOVE);
 }
 
+/* Another class for a code; or, of a folder alone, the lists of a school class. */
 static int command_class(struct command_line *l)
 {
-    return change_table(l, CLASS);
+    if (l->count == 3 || (l->count == 4 && l->data) || (l->count == 2 && l->given & ~(unsigned)FILMING) || l->list || l->drawings)
+        return WRONG_FORM;
+    if (l->count == 4)
+        return change_table(l, CLASS);
+    int status = stack_take();
+    return status != 0 ? status : class_page(l->words[1], l->data);
 }
 
 static int command_repair(struct command_line *l)
@@ -359,8 +366,11 @@ const struct command commands[] = {
      "add room.cat AA-000-19-12345 7 room", 4, 5, NAMING | DOCKING | CUT | CARRYING | WAITING, command_add},
     {"remove", "TABLE CODE", "a code taken out", "remove room.cat AA-000-19-12345", 3, 3, NAMING | DOCKING | CUT | CARRYING | WAITING,
      command_remove},
-    {"class", "TABLE CODE CLASS", "another class for a code's recording: open, room or closed", "class room.cat AA-000-19-12345 closed",
-     4, 4, NAMING | DOCKING | CUT | CARRYING | WAITING, command_class},
+    {"class", "TABLE CODE CLASS, or FOLDER",
+     "another class for a code's recording: open, room or closed. Of a FOLDER: judges each list\n"
+     "NAME.txt in it, as the lesson's board saves them, and prints one page for the teacher:\n"
+     "who, yes or no, the first count that fails, which mistake, and a film of each",
+     "class room.cat AA-000-19-12345 closed", 2, 4, NAMING | DOCKING | CUT | CARRYING | WAITING | FILMING | WRITING, command_class},
     {"find", "TABLE CODE ..",
      "prints the code's recording,class, of several codes code,recording,class. For - it reads\n"
      "codes from standard input, one a line. If a code is absent it says the next one up and\n"

@@ -200,7 +200,8 @@ void page_begin(FILE *out, bool board)
     (void)board;
 }
 
-void page_end(FILE *out)
+void page_end(FILE *out, bool board)
 {
     (void)out;
+    (void)board;
 }

@@ -78,7 +78,7 @@ def wrong_command_lines(program, folder):
     program.refuses(BAD_USAGE, "no option --faster", "check", t, "--faster")
     wrong = [["make", t], ["add", t, code(1)], ["remove", t], ["find", t], ["list", t, code(1), code(2), code(3)], ["load", t], ["repair"], ["orders", t]]
     wrong += [["orders", t, "add", code(1)], ["orders", t, "load", "x"], ["check"], ["show"], ["check", t, "x"], ["add", t, code(1), 1, "open", 2]]
-    wrong += [["class", t, code(1)], ["class", t, code(1), "open", "room"], ["class", t], ["orders", t, "class", code(1)]]
+    wrong += [["class", t, code(1)], ["class", t, code(1), "open", "room"], ["class"], ["class", folder, "--wait", 1], ["class", folder, "--drawings"], ["class", t, code(1), "room", "--data"], ["orders", t, "class", code(1)]]
     wrong += [["orders", t, "class", code(1), "open", "x"], ["orders", t, "add", code(1), 1, "open", "x"], ["copy", t], ["help", "add", "x"]]
     wrong += [["add", t, code(1), 1] + 9 * ["x"]]
     for words in wrong:

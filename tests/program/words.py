@@ -136,4 +136,44 @@ def the_nearest_list(program, folder):
     return ", ".join(f"{name[:-4]} {sum(m)}" for name, m in marked.items())
 
 
-TESTS = [both_directions, any_orders, as_people_write, wrong_lines, keys_of_codes, the_nearest_list]
+def a_class(program, folder):
+    """Each list of a folder judged: the known mistakes by name, what is not judged with its reason; the table from the list's own lines, from the folder or the lesson's."""
+    known = {"key-before-pointer": "shift order", "one-movement": "one movement", "flush-at-the-end": "flush at the end", "linked-before-flush": "linked before flushed",
+             "sibling-by-first-key": "first key", "hidden-by-equal-keys": "equal keys", "search-tidies": "a search that tidies", "right": ""}
+    counts = {}
+    for name in known:
+        with open(f"{DRAWINGS}/{name}.txt") as f:
+            text = f.read()
+        counts[name] = int((re.search(r"^# no: after (\d+) of", text, re.M) or [0, -1])[1])
+        write(f"{folder}/{name}.txt", text)
+    head = "# catalogue judge leaf.cat x.txt + AA0002600010 101\n"
+    own = "# catalogue judge mine.cat x.txt + #15 9\n# table #10,1\n# table #20,2\n"
+    write(f"{folder}/mine.csv", "#10,1\n#20,2\n#30,3\n")
+    others = {"empty": (head, "not finished", 0), "own": (own, "not finished", 0), "folder": (own.split("\n")[0] + "\nnode 1 slot 0 pointer := 0\nflush node 1 slots 0-3\n", "one movement", 1)}
+    wrong = {"nothing": ("node 1 left := MARK\n", "does not name its table"), "line": (head + "node 1 slot 12 key := 0\n", '"12" cannot stand there'), "far": (head + "store 9999 1\n", "outside of its table"),
+             "table": (head.replace("leaf", "none"), "its table is not there"), "there": (head.replace("010 101", "020 101"), "its change is refused"), "long": (head + "flush 0\n" * 4097, "more orders than")}
+    for name, (text, *_) in {**others, **wrong}.items():
+        write(f"{folder}/{name}.txt", text)
+    write(f"{folder}/notes.md", "no list")
+    page, data = program.done("class", folder), program.done("class", folder, "--data")
+    data = json.loads(data)
+    rows = {r["who"]: r for r in data["class"]}
+    assert sorted(rows) == sorted([*known, *others, *wrong]) and '<section id="class"' in page
+    for name, mistake in known.items():
+        r = rows[name]
+        assert (r["mistake"], r["judge"]) == (mistake, counts[name]), r
+        scene = data["scenes"][r["scene"]]
+        assert scene["judge"] == r["judge"] and len(scene["orders"]) == r["orders"] and name in scene["title"]
+        assert scene["beside"] == (-1 if name == "right" else r["scene"] + 1) and (name == "right" or data["scenes"][scene["beside"]]["judge"] == -1)
+    for name, (_, mistake, count) in others.items():
+        assert (rows[name]["mistake"], rows[name]["judge"]) == (mistake, count), rows[name]
+    for name, (_, why) in wrong.items():
+        assert why in rows[name]["wrong"] and "scene" not in rows[name], rows[name]
+    os.mkdir(f"{folder}/none")
+    program.refuses(BAD_FILE, "has no lists", "class", f"{folder}/none")
+    program.refuses(BAD_FILE, "cannot be opened", "class", f"{folder}/nowhere")
+    write(f"{folder}/none/a.txt", "flush 0\n")
+    program.refuses(BAD_LINE, "no list of the folder can be judged", "class", f"{folder}/none")
+
+
+TESTS = [both_directions, any_orders, as_people_write, wrong_lines, keys_of_codes, the_nearest_list, a_class]
