@@ -191,7 +191,7 @@ static int command_remove(struct command_line *l)
 /* Another class for a code; or, of a folder alone, the lists of a school class. */
 static int command_class(struct command_line *l)
 {
-    if (l->count == 3 || (l->count == 4 && l->data) || (l->count == 2 && l->given & ~(unsigned)FILMING) || l->list || l->drawings)
+    if (l->count == 3 || (l->count == 4 && l->data) || (l->count == 2 && l->given & ~(unsigned)(FILMING | WRITING)) || l->list || l->drawings)
         return WRONG_FORM;
     if (l->count == 4)
         return change_table(l, CLASS);
