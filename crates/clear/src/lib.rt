@@ -10,21 +10,9 @@ ghost use lib.ListN.{length};
 ghost use Rattle.model.specs.Slots.{viewFrom};
 ghost use Rattle.model.specs.Reached.{mapping};
 ghost use Rattle.model.specs.SoundTest.{all, soundView};
-ghost use Rattle.numbers.specs.Cells.{CELLS, nextCell};
+ghost use Rattle.numbers.specs.Cells.{CELLS};
 ghost use Rattle.slots.specs.Gathered.{waysFrom};
 ghost use Rattle.clear.specs.New.{off, offPair, treePairs, recordingsOf, Holds, New, isEntered, enteredDown, areNew};
-
-// The cell after cell at of so many; the first comes after the last.
-fn next_cell(places: usize, at: usize) -> usize
-    requires { ⌜ at < places ⌝ }
-    ensures { λ r. ⌜ r ≡ nextCell places at ⌝ }
-{
-    let next = at + 1;
-    if next == places {
-        return 0;
-    }
-    next
-}
 
 // Whether a number is surely not in the cells: a free one comes before it on its path.
 fn is_off(cells: &[u64], number: u64) -> bool
@@ -41,7 +29,7 @@ fn is_off(cells: &[u64], number: u64) -> bool
         if held == 0 {
             return true;
         }
-        at = next_cell(numbers::CELLS, at);
+        at = numbers::next_cell(numbers::CELLS, at);
         left -= 1;
     }
     false
