@@ -43,10 +43,10 @@
  * The next writing call repairs it, whichever collection it names: a table has at most one change to finish.
  *
  * A dock is a memory model; each writing call takes the dock that its list is for. The processor of dock 0 keeps its stores to one line in
- * order, as x86 does. That of dock 1 does not, as ARM: there each store is followed by a barrier, CATALOGUE_BARRIER and 0, and the host lets no store pass
- * it. On ARM the instruction is DMB ISHST, and a flush is DC CVAP with a DSB after it; on x86 a barrier is SFENCE. Without its barriers the
- * list is dock 0's; with them it wants CATALOGUE_LONG_LIST_WORDS words. A table may go from one dock to the other between any two calls, and
- * what a cut left on one may be repaired on the other.
+ * order, as x86 does. That of dock 1 does not, as ARM: there each store is followed by a barrier, CATALOGUE_BARRIER and 0, and the host
+ * lets no store pass it. On ARM the instruction is DMB ISHST, and a flush is DC CVAP with a DSB after it; on x86 a barrier is SFENCE.
+ * Without its barriers the list is dock 0's; with them it wants CATALOGUE_LONG_LIST_WORDS words. A table may go from one dock to the other
+ * between any two calls, and what a cut left on one may be repaired on the other.
  *
  * Sentinels are words beside a table, CATALOGUE_SENTINELS(N) of them in a slice of their own, three for each node: the first key on each
  * line of a leaf's slots that has any, CATALOGUE_MARK for a line that has none, and 0 for a node that is no leaf of either tree. They are
@@ -172,8 +172,8 @@ uint64_t catalogue_pack(uint64_t *table, size_t words, uint64_t collections, con
                         size_t loan_words);
 
 /*
- * 0, *recording and its class *access if the key is found. In a table that is not sound they are what stands there: recording 0, and
- * classes up to 255. Play a recording only if its class is exactly open, or exactly room in the room.
+ * 0, *recording and its class *access if the key is found. In a table that is not sound they are what stands there, which may be recording 0
+ * or a class up to 255: play a recording only if its class is exactly open, or is exactly room and it plays in the room.
  * 255 if it is absent: then *higher is 1 and *next the next key up in the map, or *higher is 0 and *next stays, for no key is higher.
  * Else 2, 17 or 3. A word that is not named for a case stays. Only this collection's nodes are looked at.
  * The next key is looked for from the leaf where the search ended and on along the siblings, past leaves that are empty; a leaf there that
