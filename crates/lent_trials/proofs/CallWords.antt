@@ -41,7 +41,7 @@ abbrev pub sums : (number taken : ℕ) → Batch
 sums number taken = record { number = number; taken = taken; stores = 5; flushes = 6; barriers = 7 }
 
 pub record CallWords : Type 0 where
-  pub is-version : version ≡ 14
+  pub is-version : version ≡ 15
   -- 0 for found, 255 for absent, else the number.
   pub searches : (searchNumber (answer.Found 5 1) ≡ 0) × (searchNumber (answer.Absent next.Nothing) ≡ 255) × (searchNumber (answer.Refused 3) ≡ 3)
   pub found : Looked (answer.Found 5 1) 0 11 5 12 1 13 13 14 14
