@@ -102,8 +102,9 @@ SOME = [commands.the_worked_orders, commands.making, docks.the_worked_orders, lo
         films.a_film_of_a_list]
 ALL = commands.TESTS + loads.TESTS + files.TESTS + loans.TESTS + docks.TESTS + salvages.TESTS + scripts.TESTS + cuts.TESTS + replay.TESTS + readers.TESTS
 ALL += wears.TESTS + judging.TESTS + films.TESTS + scale.TESTS
-# Two look for instructions of x86 in the program or in the system's file about the processor.
-OTHERS = [commands.orders_are_what_is_carried_out, docks.a_barrier_is_a_fence]
+# Two look for instructions of x86 in the program or in the system's file about the processor; one waits until the program catches a signal, which
+# the emulator does from its start.
+OTHERS = [commands.orders_are_what_is_carried_out, docks.a_barrier_is_a_fence, loads.a_line_without_an_end]
 
 
 def main():
