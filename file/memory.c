@@ -174,10 +174,10 @@ static uint64_t must_flush(struct catalogue_file *f)
     return 0;
 }
 
-/* If lines do not last by an instruction a flush is a wait for the disk, unless the caller leaves that out. */
+/* If lines do not last by an instruction a flush is a wait for the disk, unless on a disk the caller leaves that out. */
 static void choose_flush(struct catalogue_file *f)
 {
-    if (!f->persistent && !f->fast)
+    if (f->persistent ? !f->carrying.flush->lasts : !f->fast)
         f->carrying.flush = flush_by_page();
 }
 

@@ -268,8 +268,8 @@ static bool no_flush(void)
     return true;
 }
 
-/* A packed load leaves the handle with another file, which may lie elsewhere: each flush goes by where that one lies. */
-static bool another_medium(void)
+/* A packed load leaves the handle with another file, which may lie elsewhere; then a split waits for the disk at each flush. */
+static bool waits_after_load(const char *name, const struct catalogue_file_options *options, bool persistent)
 {
     catalogue_file *f = catalogue_file_new();
     uint64_t pairs[120];
@@ -277,10 +277,10 @@ static bool another_medium(void)
         pairs[2 * i] = 10 * (i + 1);
         pairs[2 * i + 1] = CATALOGUE_POINTER(1010 + 10 * i, 0);
     }
-    GIVES(0, catalogue_file_create(f, at("medium"), NODES, 1));
-    disk = (struct disk){.persistent = true};
-    GIVES(0, catalogue_file_open(f, at("medium"), CATALOGUE_FILE_WRITING, 0));
-    disk.persistent = false;
+    disk = (struct disk){.persistent = !persistent};
+    GIVES(0, catalogue_file_create(f, name, NODES, 1));
+    GIVES(0, catalogue_file_open_with(f, name, options));
+    disk.persistent = persistent;
     GIVES(0, catalogue_file_load_pairs(f, 1, 0, pairs, 60, NULL));
     struct catalogue_file_change split = {.kind = CATALOGUE_FILE_ADD, .collection = 1, .key = 15, .recording = 7, .cut = CATALOGUE_FILE_ALL};
     uint64_t syncs = disk.syncs;
@@ -288,6 +288,13 @@ static bool another_medium(void)
     CHECK(split.flushes > 5 && disk.syncs - syncs == split.flushes);
     catalogue_file_free(f);
     return true;
+}
+
+static bool another_medium(void)
+{
+    const struct catalogue_file_options plain = {.flags = CATALOGUE_FILE_WRITING, .dock = CATALOGUE_FILE_DOCK};
+    const struct catalogue_file_options none = {.flags = CATALOGUE_FILE_WRITING | CATALOGUE_FILE_FAST, .dock = CATALOGUE_FILE_DOCK, .flush = "none"};
+    return waits_after_load(at("medium"), &plain, false) && waits_after_load(at("medium2"), &none, true);
 }
 
 const struct test disk_tests[] = {
