@@ -27,9 +27,17 @@ static uint64_t read_number(const char *text, size_t length, uint64_t *number)
     return 0;
 }
 
-static bool between(char c)
+/* The bytes of what may stand between the characters of a code: a hyphen, a dash, a blank, a colon; 0 if none does. Dashes are in UTF-8. */
+static size_t between(const char *at, size_t left)
 {
-    return c == '-' || c == ' ' || c == '\t' || c == ':';
+    static const char *const others[] = {"\xc2\xa0", "\xe2\x80\x90", "\xe2\x80\x91", "\xe2\x80\x92", "\xe2\x80\x93", "\xe2\x80\x94",
+                                         "\xe2\x80\x95", "\xe2\x80\xaf", "\xe2\x88\x92"};
+    if (*at == '-' || *at == ' ' || *at == '\t' || *at == ':')
+        return 1;
+    for (size_t i = 0; i < sizeof others / sizeof others[0]; i++)
+        if (strlen(others[i]) <= left && memcmp(at, others[i], strlen(others[i])) == 0)
+            return strlen(others[i]);
+    return 0;
 }
 
 uint64_t catalogue_file_parse(const char *text, size_t length, uint64_t *key)
@@ -41,9 +49,10 @@ uint64_t catalogue_file_parse(const char *text, size_t length, uint64_t *key)
     /* One place more than a code with its prefix has: a longer text stays too long and is refused. */
     uint8_t plain[PREFIX_LENGTH + CODE_LENGTH + 1];
     size_t kept = 0;
-    for (size_t i = 0; i < length && kept < sizeof plain; i++) {
+    for (size_t i = 0, gap; i < length && kept < sizeof plain; i += gap > 0 ? gap : 1) {
         bool small = text[i] >= 'a' && text[i] <= 'z';
-        if (!between(text[i]))
+        gap = between(text + i, length - i);
+        if (gap == 0)
             plain[kept++] = (uint8_t)(small ? text[i] - 'a' + 'A' : text[i]);
     }
     /* The length decides: ISRC12345678 is a code of Iceland. */

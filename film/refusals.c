@@ -57,26 +57,27 @@ static const char *message_of(uint64_t number)
     return r->message;
 }
 
-/* The code that has a recording, if the table's words are there to look for it. */
-static const char *holder_text(const struct table *t, uint64_t recording, char text[KEY_TEXT])
+bool holder_of(const struct table *t, uint64_t recording, uint64_t *key)
 {
     size_t room = t->base ? 2 * 11 * (t->words / NODE_WORDS) : 0;
     uint64_t *pairs = calloc(room + 1, sizeof *pairs), count = 0, more;
-    strcpy(text, "another code");
+    bool there = false;
     if (room == 0 || !pairs || catalogue_list(t->base, t->words, t->collection, 0, UINT64_MAX, pairs, room, &count, &more) != 0)
         count = 0;
-    for (uint64_t i = 0; i < count; i++)
-        if (CATALOGUE_RECORDING(pairs[2 * i + 1]) == recording)
-            key_text(pairs[2 * i], text);
+    for (uint64_t i = 0; i < count && !there; i++) {
+        there = CATALOGUE_RECORDING(pairs[2 * i + 1]) == recording;
+        *key = pairs[2 * i];
+    }
     free(pairs);
-    return text;
+    return there;
 }
 
 const char *explain(uint64_t number, const struct table *t, uint64_t key, uint64_t recording, char text[EXPLANATION])
 {
-    char code[KEY_TEXT], digits[KEY_TEXT], part[PART_TEXT], collection[KEY_TEXT], holder[KEY_TEXT] = "";
-    if (number == CATALOGUE_RECORDING_PRESENT)
-        holder_text(t, recording, holder);
+    char code[KEY_TEXT], digits[KEY_TEXT], part[PART_TEXT], collection[KEY_TEXT], holder[KEY_TEXT] = "another code";
+    uint64_t held;
+    if (number == CATALOGUE_RECORDING_PRESENT && holder_of(t, recording, &held))
+        key_text(held, holder);
     snprintf(digits, sizeof digits, "%" PRIu64, recording);
     snprintf(collection, sizeof collection, "%" PRIu64, t->collection);
     const struct {

@@ -2,6 +2,7 @@
 #ifndef REFUSALS_H
 #define REFUSALS_H
 
+#include <stdbool.h>
 #include <stdint.h>
 
 #include "table.h"
@@ -24,6 +25,9 @@ extern const struct refusal refusals[];
 
 /* What a refusal number says of this table, key and recording; the text given is filled and returned. */
 const char *explain(uint64_t number, const struct table *t, uint64_t key, uint64_t recording, char text[EXPLANATION]);
+
+/* The key that has a recording in the table's collection; false if none has, or if the table's words are not there. */
+bool holder_of(const struct table *t, uint64_t recording, uint64_t *key);
 
 /* Says the same on standard error and gives the number back, as an exit status. */
 int refuse(uint64_t number, const struct table *t, uint64_t key, uint64_t recording);

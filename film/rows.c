@@ -1,4 +1,4 @@
-/* The lines `code,recording` or `code,recording,class` of a file, as people and spreadsheets write them. */
+/* The lines of a file that people or other programs write, in UTF-8 or UTF-16. */
 #include "rows.h"
 
 #include <errno.h>
@@ -8,8 +8,6 @@
 #include <string.h>
 #include <sys/stat.h>
 #include <unistd.h>
-
-#include "text.h"
 
 bool rows_open(struct rows *r, const char *name)
 {
@@ -77,10 +75,74 @@ static bool read_more(struct rows *r)
     return got > 0;
 }
 
-static int next_byte(struct rows *r)
+static int raw_byte(struct rows *r)
 {
     return r->at < r->end || read_more(r) ? (unsigned char)r->part[r->at++] : EOF;
 }
+
+/* ---- UTF-16 */
+
+/* A mark at the file's beginning, or a zero in one of its first two bytes, which are no zeros in UTF-8. */
+static enum wide wide_of(struct rows *r)
+{
+    while (r->end - r->at < 2 && read_more(r))
+        ;
+    if (r->end - r->at < 2)
+        return WIDE_NOT;
+    unsigned char first = (unsigned char)r->part[r->at], second = (unsigned char)r->part[r->at + 1];
+    if ((first == 0xff && second == 0xfe) || (first == 0xfe && second == 0xff)) {
+        r->at += 2;
+        return first == 0xff ? WIDE_LITTLE : WIDE_BIG;
+    }
+    return first != 0 && second == 0 ? WIDE_LITTLE : first == 0 && second != 0 ? WIDE_BIG : WIDE_NOT;
+}
+
+/* The next unit of two bytes; EOF at the end, also in the midst of one. */
+static long unit(struct rows *r)
+{
+    int first = raw_byte(r), second = first == EOF ? EOF : raw_byte(r);
+    if (second == EOF)
+        return EOF;
+    return r->wide == WIDE_LITTLE ? first | second << 8 : first << 8 | second;
+}
+
+/* The next character, of one unit or two; half of two is the replacement character. */
+static long wide_character(struct rows *r)
+{
+    long first = unit(r), second;
+    if (first < 0xd800 || first > 0xdfff)
+        return first;
+    if (first > 0xdbff || (second = unit(r)) < 0xdc00 || second > 0xdfff)
+        return 0xfffd;
+    return 0x10000 + ((first - 0xd800) << 10) + (second - 0xdc00);
+}
+
+/* The same in UTF-8; false at the end. */
+static bool make_character(struct rows *r)
+{
+    long c = wide_character(r);
+    int more = c < 0x80 ? 0 : c < 0x800 ? 1 : c < 0x10000 ? 2 : 3;
+    static const unsigned char first[] = {0, 0xc0, 0xe0, 0xf0};
+    r->given = 0;
+    r->made = 0;
+    if (c == EOF)
+        return false;
+    r->character[r->made++] = (unsigned char)(first[more] | c >> 6 * more);
+    while (more-- > 0)
+        r->character[r->made++] = (unsigned char)(0x80 | (c >> 6 * more & 0x3f));
+    return true;
+}
+
+static int next_byte(struct rows *r)
+{
+    if (r->wide == WIDE_UNKNOWN)
+        r->wide = wide_of(r);
+    if (r->wide == WIDE_NOT)
+        return raw_byte(r);
+    return r->given < r->made || make_character(r) ? r->character[r->given++] : EOF;
+}
+
+/* ---- lines */
 
 bool rows_wait(struct rows *r)
 {
@@ -94,15 +156,13 @@ bool rows_wait(struct rows *r)
     return false;
 }
 
-bool rows_next(struct rows *r)
+/* A line behind what is there of one; false at the end of the file. */
+static bool read_line(struct rows *r)
 {
-    static const char byte_order_mark[] = "\xef\xbb\xbf";
     int c = r->failed ? EOF : next_byte(r);
     if (c == EOF)
         return false;
     r->number++;
-    r->length = 0;
-    r->too_long = false;
     for (; c != EOF && c != '\n'; c = next_byte(r)) {
         if (r->length < ROW_ROOM)
             r->text[r->length++] = (char)c;
@@ -116,95 +176,36 @@ bool rows_next(struct rows *r)
     }
     if (r->length > 0 && r->text[r->length - 1] == '\r')
         r->length--;
+    return true;
+}
+
+bool rows_next(struct rows *r)
+{
+    static const char byte_order_mark[] = "\xef\xbb\xbf";
+    r->length = 0;
+    r->too_long = false;
+    if (!read_line(r))
+        return false;
     if (r->number == 1 && r->length >= 3 && memcmp(r->text, byte_order_mark, 3) == 0)
         memmove(r->text, r->text + 3, r->length -= 3);
     return true;
 }
 
-struct field {
-    const char *from, *to;
-};
-
-static bool blank(char c)
+bool rows_join(struct rows *r)
 {
-    return c == ' ' || c == '\t';
+    if (r->too_long || r->length == ROW_ROOM)
+        return false;
+    r->text[r->length++] = '\n';
+    return read_line(r) && !r->too_long;
 }
 
-static struct field trimmed(struct field f)
+const char *rows_text(const char *from, size_t length, char text[ROW_TEXT])
 {
-    while (f.from < f.to && blank(*f.from))
-        f.from++;
-    while (f.to > f.from && blank(f.to[-1]))
-        f.to--;
-    return f;
-}
-
-/* Without spaces around it, and without quotes. */
-static struct field plain(struct field f)
-{
-    f = trimmed(f);
-    if (f.to - f.from >= 2 && *f.from == '"' && f.to[-1] == '"')
-        f = trimmed((struct field){f.from + 1, f.to - 1});
-    return f;
-}
-
-static bool has_digit(struct field f)
-{
-    while (f.from < f.to && (*f.from < '0' || *f.from > '9'))
-        f.from++;
-    return f.from < f.to;
-}
-
-static size_t length_of(struct field f)
-{
-    return (size_t)(f.to - f.from);
-}
-
-/* The fields of a line, at most MOST_FIELDS, the last one with all that follows; their number. */
-#define MOST_FIELDS 3
-static int split(struct field all, struct field fields[MOST_FIELDS])
-{
-    int count = 0;
-    for (const char *comma = all.from; comma && count < MOST_FIELDS; count++) {
-        fields[count] = (struct field){comma + (count > 0), all.to};
-        comma = memchr(fields[count].from, ',', length_of(fields[count]));
-        if (comma && count + 1 < MOST_FIELDS)
-            fields[count].to = comma;
-        fields[count] = plain(fields[count]);
-    }
-    return count;
-}
-
-int rows_read(struct rows *r, struct row *row)
-{
-    struct field all = trimmed((struct field){r->text, r->text + r->length}), fields[MOST_FIELDS];
-    if (all.from == all.to)
-        return ROW_PASSED;
-    bool first = !r->begun;
-    r->begun = true;
-    int count = split(all, fields);
-    if (count < 2 || r->too_long)
-        return BAD_LINE;
-    struct field code = fields[0], number = fields[1];
-    *row = (struct row){.access = CATALOGUE_OPEN, .classed = count > 2};
-    uint64_t status = catalogue_file_parse(code.from, length_of(code), &row->key);
-    /* A header names its columns: no code, and not a digit where the recordings are. */
-    if (first && status != 0 && number.from < number.to && !has_digit(number))
-        return ROW_PASSED;
-    if (!read_number(number.from, length_of(number), &row->recording))
-        return BAD_LINE;
-    if (row->classed && !read_class(fields[2].from, length_of(fields[2]), &row->access))
-        return BAD_LINE;
-    return (int)status;
-}
-
-const char *rows_text(const struct rows *r, char text[ROW_TEXT])
-{
-    size_t shown = r->length < ROW_TEXT - 3 ? r->length : ROW_TEXT - 3;
+    size_t shown = length < ROW_TEXT - 3 ? length : ROW_TEXT - 3;
     for (size_t i = 0; i < shown; i++) {
-        unsigned char c = (unsigned char)r->text[i];
+        unsigned char c = (unsigned char)from[i];
         text[i] = c < ' ' || c == 127 ? '?' : (char)c;
     }
-    strcpy(text + shown, shown < r->length || r->too_long ? ".." : "");
+    strcpy(text + shown, shown < length ? ".." : "");
     return text;
 }

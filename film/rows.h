@@ -1,4 +1,4 @@
-/* The lines `code,recording` or `code,recording,class` of a file, as people and spreadsheets write them. */
+/* The lines of a file that people or other programs write, in UTF-8 or UTF-16. */
 #ifndef ROWS_H
 #define ROWS_H
 
@@ -7,8 +7,11 @@
 #include <stddef.h>
 #include <stdint.h>
 
-/* Longer than any line of that form that people write. */
-#define ROW_ROOM 256
+/* Longer than any line that people write. */
+#define ROW_ROOM 16384
+
+/* How the file's characters are written. */
+enum wide { WIDE_UNKNOWN, WIDE_NOT, WIDE_LITTLE, WIDE_BIG };
 
 struct rows {
     const char *name; /* as messages say it */
@@ -16,7 +19,6 @@ struct rows {
     int failed;      /* errno of a reading that failed, else 0 */
     const volatile sig_atomic_t *ended; /* if there is one: reading ends, in the middle of a line too, once it is not 0 */
     uint64_t number; /* of the last line read, from 1 */
-    bool begun;      /* a line that is not empty was read: the next one is no header */
     /* The last line, without its end; one that is too long lacks the rest. */
     char text[ROW_ROOM];
     size_t length;
@@ -24,6 +26,10 @@ struct rows {
     /* What was read of the file and is not in a line yet. */
     char part[65536];
     size_t at, end;
+    /* UTF-16 becomes UTF-8: what is there of a character. */
+    enum wide wide;
+    unsigned char character[4];
+    size_t given, made;
 };
 
 /* The lines of a file, or of standard input if its name is -. False, with errno, if it cannot be opened. */
@@ -43,21 +49,13 @@ bool rows_wait(struct rows *r);
 /* The next line; false at the end of the file. */
 bool rows_next(struct rows *r);
 
-enum { ROW_PASSED = -1 };
-
-/* What a line says. */
-struct row {
-    uint64_t key, recording, access;
-    bool classed; /* it has a class; one that has none is open */
-};
-
-/* The last line: 0, the refusal number 1, BAD_LINE, or ROW_PASSED for an empty line or a header. */
-int rows_read(struct rows *r, struct row *row);
+/* Puts the next line behind the last one, with a line feed between them; false at the end of the file, or if it is too long then. */
+bool rows_join(struct rows *r);
 
 /* Room for rows_text. */
 #define ROW_TEXT 64
 
-/* The last line as a message shows it: its beginning, without control characters; the text given is filled and returned. */
-const char *rows_text(const struct rows *r, char text[ROW_TEXT]);
+/* The beginning of some text, as a message shows it, without control characters; the text given is filled and returned. */
+const char *rows_text(const char *from, size_t length, char text[ROW_TEXT]);
 
 #endif

@@ -345,8 +345,8 @@ uint64_t catalogue_file_check(catalogue_file *f, uint64_t *report);
 /* ---- codes as people write them */
 
 /*
- * The key of a code in capital or small letters, with hyphens, spaces and tabs or without, and with ISRC before it or without, or of # and a
- * key's number. length is the text's, or SIZE_MAX for a text that ends with a 0. 0 or 1.
+ * The key of a code in capital or small letters, with hyphens, dashes, spaces, tabs and colons or without, and with ISRC before it or without,
+ * or of # and a key's number. Dashes (as an en dash) and spaces that break no line are in UTF-8. length is the text's, or SIZE_MAX for a text that ends with a 0. 0 or 1.
  */
 uint64_t catalogue_file_parse(const char *text, size_t length, uint64_t *key);
 

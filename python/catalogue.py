@@ -107,7 +107,7 @@ _library = _load()
 
 def key(code):
     """The key of a code as people write it, or of '#' and a number."""
-    found, text = word(), code.encode("ascii", "replace")
+    found, text = word(), code.encode("utf-8", "replace")
     number = _library.catalogue_file_parse(text, len(text), ctypes.byref(found))
     if number:
         raise Error(number, f"{code}: {_library.catalogue_file_strerror(number).decode()}")

@@ -157,6 +157,11 @@ static bool read_output(struct command_line *l, const char *value)
     return value[0] != '\0';
 }
 
+static bool read_columns(struct command_line *l, const char *value)
+{
+    return columns_read(&l->load.columns, value);
+}
+
 static bool set_help(struct command_line *l, const char *value)
 {
     (void)value;
@@ -189,6 +194,10 @@ const struct option options[] = {
     {"--again", NULL, NULL, "passes over lines that the table has already", "load room.cat codes.csv --again", LOADING, set_again},
     {"--keep-going", NULL, NULL, "passes over bad lines and loads the rest; the exit status is that of the first bad line",
      "load room.cat codes.csv --keep-going", LOADING, set_keep_going},
+    {"--columns", "PLACES", "places as code=2,recording=5 or code=ISRC,recording=Number,class=Access",
+     "which columns the lines have code, recording and class in, each by its number or by its\n"
+     "name in the first line; other columns are passed over",
+     "load room.cat codes.csv --columns code=2,recording=5", LOADING, read_columns},
     {"--each", NULL, NULL, "prints each line once the table has it", "load room.cat codes.csv --each", LOADING, set_each},
     {"--wear", NULL, NULL, "prints at the end which lines the load stored to most", "load room.cat codes.csv --wear", LOADING, set_wear},
     {"--svg", NULL, NULL, "draws the wear by line, as SVG, instead of printing it", "wear room.cat orders.txt --svg > wear.svg", DRAWING,

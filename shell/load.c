@@ -8,9 +8,11 @@
 #include <stdlib.h>
 #include <string.h>
 
+#include "earlier.h"
 #include "progress.h"
 #include "refusals.h"
 #include "rows.h"
+#include "sheet.h"
 #include "text.h"
 #include "wear.h"
 
@@ -20,10 +22,10 @@
 /* The library holds no more lines than these before it says what became of them, or refuses them at once. */
 #define RECENT 8192
 
-/* A line's beginning, for a message. */
+/* Why a line was refused here, for when the library hands it back. */
 struct recent {
     uint64_t number;
-    char text[ROW_TEXT];
+    struct fault fault;
 };
 
 struct loading {
@@ -31,9 +33,11 @@ struct loading {
     const struct load_options *options;
     struct catalogue_file_load load;
     struct rows rows;
+    struct sheet sheet;
     struct progress progress;
-    struct recent *recent; /* the lines that were given last, in a ring */
+    struct recent *recent; /* the last lines that were refused here, in a ring */
     uint64_t given;
+    uint64_t refused[SHOWN_BAD]; /* the bad lines, as far as they are shown */
     uint64_t bad;
     int first_bad;    /* the first bad line's exit status */
     uint64_t stopped; /* the bad line that ended the loading, 0 for none: the lines after it are only read */
@@ -70,7 +74,7 @@ static const char *hint_for(const struct catalogue_file_line *line, char text[EX
 {
     char class[KEY_TEXT];
     uint64_t access = CATALOGUE_CLASS(line->there);
-    if (line->number != CATALOGUE_KEY_PRESENT || CATALOGUE_RECORDING(line->there) != line->recording)
+    if (CATALOGUE_RECORDING(line->there) != line->recording)
         return "";
     if (!line->classed || access == line->access)
         return " with this recording (--again passes over such lines)";
@@ -78,38 +82,71 @@ static const char *hint_for(const struct catalogue_file_line *line, char text[EX
     return text;
 }
 
-static const char *text_of(const struct loading *l, uint64_t number)
+/* Where a code or a recording is already, and its code there: in the file, or in the table from before. A pipe cannot be read again. */
+static const char *where_already(const struct loading *l, const struct catalogue_file_line *line, bool by_code, char text[EXPLANATION], char code[KEY_TEXT])
+{
+    const struct table *t = &l->opened->table;
+    const uint64_t *key = by_code ? &line->key : NULL;
+    char part[PART_TEXT];
+    struct earlier first;
+    strcpy(code, "another code");
+    if (earlier_line(&l->sheet, line->tag, key, line->recording, (struct refused_lines){l->refused, l->bad - 1}, &first))
+        snprintf(text, EXPLANATION, "in line %" PRIu64 " already", first.line);
+    else if (opened_has(l->opened, key, line->recording, &first.key))
+        snprintf(text, EXPLANATION, "in %s%s already", table_part(t, part), t->name);
+    else
+        return strcpy(text, "in an earlier line already");
+    key_text(first.key, code);
+    return text;
+}
+
+static void say_twice(const struct loading *l, const struct catalogue_file_line *line)
+{
+    char text[EXPLANATION], hint[EXPLANATION], code[KEY_TEXT], typed[KEY_TEXT];
+    bool by_code = line->number == CATALOGUE_KEY_PRESENT;
+    where_already(l, line, by_code, text, code);
+    if (by_code)
+        fail(0, "%s, line %" PRIu64 ", code \"%s\": %s%s", l->rows.name, line->tag, key_text(line->key, typed), text, hint_for(line, hint));
+    else
+        fail(0, "%s, line %" PRIu64 ", recording \"%" PRIu64 "\": %s, under %s", l->rows.name, line->tag, line->recording, text, code);
+}
+
+static const struct fault *fault_of(const struct loading *l, uint64_t number)
 {
     for (uint64_t i = l->given; i > 0 && i + RECENT > l->given; i--)
         if (l->recent[(i - 1) % RECENT].number == number)
-            return l->recent[(i - 1) % RECENT].text;
-    return "";
+            return &l->recent[(i - 1) % RECENT].fault;
+    return NULL;
+}
+
+static void say_fault(const struct loading *l, uint64_t number, const struct fault *fault)
+{
+    fail(0, "%s, line %" PRIu64 ", %s%s\"%s\": %s", l->rows.name, number, fault->what, fault->what[0] ? " " : "", fault->text, fault->why);
 }
 
 /* Prints a line that cannot be loaded; the load ends here unless it keeps going. */
-static void say_bad_line(struct loading *l, const struct catalogue_file_line *line, const char *text)
+static void say_bad_line(struct loading *l, const struct catalogue_file_line *line, const struct fault *fault)
 {
-    char hint[EXPLANATION];
-    char why[EXPLANATION] = "not of the form code,recording or code,recording,class; " RECORDINGS ", " CLASSES;
+    if (l->bad < SHOWN_BAD)
+        l->refused[l->bad] = line->tag;
     if (l->bad++ == 0)
         l->first_bad = (int)line->number;
     if (l->stopped == 0 && !l->options->keep_going)
         l->stopped = line->tag;
     if (l->bad > SHOWN_BAD)
         return;
-    if (line->number != BAD_LINE)
-        explain(line->number, &l->opened->table, line->key, line->recording, why);
     progress_clear(&l->progress);
-    fail((int)line->number, "%s, line %" PRIu64 ", \"%s\": %s%s", l->rows.name, line->tag, text, why, hint_for(line, hint));
+    if (fault)
+        say_fault(l, line->tag, fault);
+    else
+        say_twice(l, line);
 }
 
 /* ---- what the library asks and answers */
 
-static void remember(struct loading *l)
+static void remember(struct loading *l, const struct fault *fault)
 {
-    struct recent *r = &l->recent[l->given++ % RECENT];
-    r->number = l->rows.number;
-    rows_text(&l->rows, r->text);
+    l->recent[l->given++ % RECENT] = (struct recent){l->sheet.line, *fault};
 }
 
 /* Nothing that was acknowledged waits for a line that is not there yet. */
@@ -125,6 +162,7 @@ static int next_line(void *context, struct catalogue_file_line *line, int wait)
 {
     struct loading *l = context;
     struct row row = {0};
+    struct fault fault;
     int status = ROW_PASSED;
     while (status == ROW_PASSED) {
         if (wait)
@@ -134,10 +172,11 @@ static int next_line(void *context, struct catalogue_file_line *line, int wait)
         l->finished = signalled || !rows_next(&l->rows);
         if (l->finished)
             return CATALOGUE_FILE_END;
-        status = rows_read(&l->rows, &row);
+        status = sheet_read(&l->sheet, &row, &fault);
     }
-    remember(l);
-    *line = (struct catalogue_file_line){row.key, row.recording, row.access, row.classed, (uint64_t)status, l->rows.number, 0};
+    if (status != 0)
+        remember(l, &fault);
+    *line = (struct catalogue_file_line){row.key, row.recording, row.access, row.classed, (uint64_t)status, l->sheet.line, 0};
     return CATALOGUE_FILE_LINE;
 }
 
@@ -163,7 +202,7 @@ static void not_added(struct loading *l, const struct catalogue_file_line *line)
     else if (!of_line(line->number))
         l->full = l->full.tag == 0 || line->tag < l->full.tag ? *line : l->full;
     else if (!over || l->stopped > 0)
-        say_bad_line(l, line, text_of(l, line->tag));
+        say_bad_line(l, line, fault_of(l, line->tag));
 }
 
 static int take_answer(void *context, const struct catalogue_file_line *line)
@@ -194,13 +233,13 @@ static void take_orders(void *context, const uint64_t *orders, uint64_t count)
 /* The bad lines after the one that ended the load. */
 static void read_on(struct loading *l)
 {
-    char text[ROW_TEXT];
     struct row row;
+    struct fault fault;
     while (!signalled && rows_next(&l->rows)) {
-        int status = rows_read(&l->rows, &row);
-        struct catalogue_file_line line = {.number = (uint64_t)status, .tag = l->rows.number};
+        int status = sheet_read(&l->sheet, &row, &fault);
+        struct catalogue_file_line line = {.number = (uint64_t)status, .tag = l->sheet.line};
         if (status != 0 && status != ROW_PASSED)
-            say_bad_line(l, &line, rows_text(&l->rows, text));
+            say_bad_line(l, &line, &fault);
         progress_step(&l->progress, l->rows.number);
     }
 }
@@ -289,6 +328,7 @@ int load(struct opened *o, const char *name, const struct load_options *options)
     if (!rows_open(&l.rows, name))
         return fail(BAD_FILE, "%s cannot be opened: %s", name, strerror(errno));
     l.rows.ended = &signalled;
+    sheet_begin(&l.sheet, &l.rows, &options->columns);
     watch_signal(SIGINT);
     watch_signal(SIGTERM);
     progress_begin(&l.progress, l.rows.name, rows_count(&l.rows));

@@ -5,11 +5,13 @@
 #include <stdbool.h>
 
 #include "opened.h"
+#include "sheet.h"
 
 struct load_options {
     bool again;      /* pass over lines that the table has already */
     bool keep_going; /* pass over bad lines */
     bool each;       /* print each line once the table has it, on the disk or in persistent memory */
+    struct columns columns; /* where code, recording and class stand */
     bool wear;       /* print which lines of the table were stored to most */
 };
 

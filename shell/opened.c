@@ -142,6 +142,22 @@ int opened_read(struct opened *o)
     return 0;
 }
 
+/* By a handle of its own: this one may be in the midst of a change. */
+bool opened_has(const struct opened *o, const uint64_t *key, uint64_t recording, uint64_t *holder)
+{
+    struct table t = o->table;
+    struct catalogue_file_pair found;
+    catalogue_file *f = catalogue_file_new();
+    bool there = f && catalogue_file_open(f, t.name, CATALOGUE_FILE_READING, 0) == 0;
+    if (there && key) {
+        *holder = *key;
+        there = catalogue_file_find(f, t.collection, *key, &found) == 0;
+    } else if (there)
+        there = catalogue_file_table(f, &t.base, &t.words) == 0 && holder_of(&t, recording, holder);
+    catalogue_file_free(f);
+    return there;
+}
+
 /* ---- after the last change */
 
 int opened_settle(struct opened *o)

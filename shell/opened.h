@@ -42,6 +42,9 @@ int opened_fails(const struct opened *o, uint64_t number, const char *then);
 /* The same, but a refusal of the change is said with its code and recording. */
 int opened_refuses(const struct opened *o, uint64_t number, uint64_t key, uint64_t recording, const char *then);
 
+/* Whether the table has a key or, for a null key, a recording, as others see it now; *holder is its key. */
+bool opened_has(const struct opened *o, const uint64_t *key, uint64_t recording, uint64_t *holder);
+
 /* After the last change: it lasts, and no other program has changed the file. */
 int opened_settle(struct opened *o);
 int opened_compare(struct opened *o);

@@ -7,9 +7,11 @@
 static bool people_write_codes(void)
 {
     static const char *const same[] = {"AA0001912345", "AA-000-19-12345", "aa-000-19-12345", " AA 000 19 12345 ", "ISRC AA-000-19-12345",
-                                       "isrcaa0001912345", "ISRC: AA0001912345", "ISRC-AA-000-19-12345", "AA\t000\t19\t12345"};
+                                       "isrcaa0001912345", "ISRC: AA0001912345", "ISRC-AA-000-19-12345", "AA\t000\t19\t12345", "AA\xe2\x80\x93" "000\xe2\x80\x93" "19\xe2\x80\x93" "12345",
+                                       "AA\xe2\x80\x94" "000\xe2\x88\x92" "19\xc2\xa0" "12345\xc2\xa0"};
     static const char *const none[] = {"", "A", "AA000191234", "AA00019123456", "ISRC", "ISRCAA000191234", "ISRCISRCAA0001912345",
-                                       "AA_0001912345", "1A0001912345", "#", "#x", "#18446744073709551616", "AA000191234X", "ISRD AA0001912345"};
+                                       "AA_0001912345", "1A0001912345", "#", "#x", "#18446744073709551616", "AA000191234X", "ISRD AA0001912345", "AA\xe2\x80" "0001912345", "AA0001912345\xe2\x80",
+                                       "AA\xe2\x80\x96" "0001912345", "\xc2\xa0"};
     uint64_t key, wanted;
     GIVES(0, catalogue_parse((const uint8_t *)"AA0001912345", 12, &wanted));
     for (size_t i = 0; i < sizeof same / sizeof same[0]; i++) {

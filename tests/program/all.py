@@ -26,6 +26,7 @@ import salvages
 import scale
 import scripts
 import sessions
+import sheets
 import wears
 import words
 from drive import FOUND_SOMETHING, Program
@@ -59,7 +60,7 @@ def main():
     watched = ["valgrind", "-q", "--leak-check=full", "--errors-for-leak-kinds=all", f"--error-exitcode={FOUND_SOMETHING}", sys.argv[1]]
     valgrind = Program(watched, "under valgrind", False)
     everything = commands.TESTS + loads.TESTS + files.TESTS + loans.TESTS + docks.TESTS + salvages.TESTS + scripts.TESTS + cuts.TESTS + replay.TESTS
-    everything += questions.TESTS + outputs.TESTS + sessions.TESTS + readers.TESTS + wears.TESTS + judging.TESTS + words.TESTS + films.TESTS + scale.TESTS
+    everything += questions.TESTS + outputs.TESTS + sessions.TESTS + sheets.TESTS + readers.TESTS + wears.TESTS + judging.TESTS + words.TESTS + films.TESTS + scale.TESTS
     # valgrind takes half a second to start: each kind of work once.
     once = [commands.the_worked_orders, commands.drawing, loads.lines_from_standard_input, loads.larger_copies,
             commands.a_tree_of_sixteen_levels, salvages.damaged_slots, loans.drawing_both, loans.salvages_of_two,

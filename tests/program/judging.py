@@ -156,7 +156,7 @@ def forms_of_lists(program, folder):
         status, out = judged(program, t, text, *add)
         assert status == 0 and out.startswith("yes"), (text, out)
     for line in ("store 1", "store 1 2 3", "store x 1", "store 1 -1", "flush", "flush 1 2", "store 18446744073709551616 0", "stores 1 2", "3",
-                 "3 4 store 1 2", "1 flush 2 3", "barrier 0", "barriers", "nothing", "store 1 2" + " " * 300):
+                 "3 4 store 1 2", "1 flush 2 3", "barrier 0", "barriers", "nothing", "store 1 2" + " " * 17000):
         write(list, f"flush 0\n{line}\nstore 0 0\n")
         wrong = 'line 2, ".*": (".*" cannot stand there; wanted: |it ends too soon; wanted: |it is too long; )'
         program.refuses(BAD_LINE, wrong, "wear", t, list)

@@ -11,7 +11,9 @@ import time
 from commands import HUNDRED
 from drive import *
 
-FORM = "not of the form code,recording or code,recording,class; a recording is .*, a class is .*"
+NUMBER = "a recording is a whole number from 1 to 72057594037927935"
+CLASS = "a class is open, room or closed"
+NOT_A_CODE = "not a code, .*"
 
 
 def write(path, text, encoding="utf-8"):
@@ -20,14 +22,14 @@ def write(path, text, encoding="utf-8"):
 
 
 def stops(program, t, csv, status, told, text, added):
-    """Bad lines are printed with number and text; the lines before the first are in the table, none after it."""
+    """Bad lines are printed with their number, field and reason; the lines before the first are in the table, none after it."""
     write(csv, text)
     got, out, err = program("load", t, csv)
     count = f"{len(told)} bad line{'s' if len(told) > 1 else ''}"
     assert (got, out) == (status, f"{added} added, 0 there already, {count}\n"), (text, got, out, err)
     lines = err.splitlines()
     for line, (number, shown, why) in zip(lines, told):
-        assert re.fullmatch(f'catalogue: {csv}, line {number}, "{re.escape(shown)}": {why}', line), (line, number, shown, why)
+        assert re.fullmatch(f'catalogue: {csv}, line {number}, {shown}: {why}', line), (line, number, shown, why)
     last = f"catalogue: {csv}: {count}; nothing was loaded from line {told[0][0]} on .--keep-going loads the good lines."
     assert len(lines) == len(told) + 1 and re.fullmatch(last, lines[-1]), err
 
@@ -39,29 +41,35 @@ def bad_lines(program, folder):
     def one(status, number, shown, why, text, added):
         stops(program, t, csv, status, [(number, shown, why)], text, added)
 
-    one(BAD_LINE, 1, code(5), FORM, f"{code(5)}\n", 0)
-    one(BAD_LINE, 1, f"{code(5)},", FORM, f"{code(5)},\n", 0)
-    one(BAD_LINE, 1, f"{code(5)},x", FORM, f"{code(5)},x\n", 0)
-    for third in ("6", "0", "", "shut", "open,", "open,open", "open room", '"'):
-        one(BAD_LINE, 1, f"{code(5)},5,{third}", FORM, f"{code(5)},5,{third}\n", 0)
-    one(BAD_LINE, 1, f"{code(5)},,open", FORM, f"{code(5)},,open\n", 0)
-    one(BAD_LINE, 1, f"{code(5)},5?", FORM, f"{code(5)},5\0\n", 0)
-    one(BAD_LINE, 1, f"{code(5)},{2**64}", FORM, f"{code(5)},{2**64}\n", 0)
-    one(BAD_LINE, 2, 61 * "x" + "..", FORM, f"{code(5)},5\n" + 5000 * "x", 1)
-    one(BAD_LINE, 1, f"{code(9)},{48 * ' '}..", FORM, f"{code(9)},{241 * ' '}12345\n", 0)
-    one(BAD_LINE, 2, "code,recording", FORM, f"{code(1)},1\ncode,recording\n", 1)
-    one(NO_CODE, 1, "AA00019,6", "not a code, .*", "AA00019,6\n", 0)
-    one(BAD_RECORDING, 2, f"{code(7)},0", "0: a recording is .*", f"{code(6)},6\n{code(7)},0\n{code(8)},8\n", 1)
-    one(BAD_RECORDING, 1, f"{code(7)},{2**56},room", f"{2**56}: a recording is .*", f"{code(7)},{2**56},room\n", 0)
-    one(RECORDING_THERE, 1, f"{code(7)},6", "recording 6 is in .*", f"{code(7)},6\n", 0)
-    one(CODE_THERE, 1, f"{code(6)},7", f"{code(6)} is in .* already", f"{code(6)},7\n", 0)
+    quoted = lambda what, text: f'{what} "{re.escape(text)}"'
+    line = lambda text: f'"{re.escape(text)}"'
+    one(BAD_LINE, 1, line(code(5)), "the line has no recording", f"{code(5)}\n", 0)
+    one(BAD_LINE, 1, line(f"{code(5)},"), "the line has no recording", f"{code(5)},\n", 0)
+    one(BAD_LINE, 1, line("x"), "the line has no recording", "x\n", 0)
+    one(BAD_RECORDING, 1, quoted("recording", "x"), NUMBER, f"{code(5)},x\n", 0)
+    for third in ("6", "0", "shut", "open room"):
+        one(BAD_CLASS, 1, quoted("class", third), CLASS, f"{code(5)},5,{third}\n", 0)
+    for rest in ("open,open", "open,,,x"):
+        one(BAD_LINE, 1, line(f"{code(5)},5,{rest}"), "the line has more fields than .*; --columns says which of them these are", f"{code(5)},5,{rest}\n", 0)
+    one(BAD_LINE, 1, line(f'{code(5)},5,"'), "a quote is not closed", f'{code(5)},5,"\n', 0)
+    one(BAD_RECORDING, 1, quoted("recording", ""), NUMBER, f"{code(5)},,open\n", 0)
+    one(BAD_RECORDING, 1, quoted("recording", "5?"), NUMBER, f"{code(5)},5\0\n", 0)
+    one(BAD_RECORDING, 1, quoted("recording", str(2**64)), NUMBER, f"{code(5)},{2**64}\n", 0)
+    one(BAD_LINE, 2, line(61 * "x" + ".."), "the line has no recording", f"{code(5)},5\n" + 5000 * "x", 1)
+    one(BAD_LINE, 1, line(f"{code(9)},"), "the line is too long", f"{code(9)},{16384 * ' '}12345\n", 0)
+    one(NO_CODE, 2, quoted("code", "code"), NOT_A_CODE, f"{code(1)},1\ncode,recording\n", 1)
+    one(NO_CODE, 1, quoted("code", "AA00019"), NOT_A_CODE, "AA00019,6\n", 0)
+    one(BAD_RECORDING, 2, quoted("recording", "0"), NUMBER, f"{code(6)},6\n{code(7)},0\n{code(8)},8\n", 1)
+    one(BAD_RECORDING, 1, quoted("recording", str(2**56)), NUMBER, f"{code(7)},{2**56},room\n", 0)
+    one(RECORDING_THERE, 1, quoted("recording", "6"), f"in {t} already, under {code(6)}", f"{code(7)},6\n", 0)
+    one(CODE_THERE, 1, quoted("code", code(6)), f"in {t} already", f"{code(6)},7\n", 0)
     another = "already with this recording, and is open .catalogue class changes that."
-    one(CODE_THERE, 1, f"{code(6)},6,room", f".* {another}", f"{code(6)},6,room\n", 0)
+    one(CODE_THERE, 1, quoted("code", code(6)), f"in {t} {another}", f"{code(6)},6,room\n", 0)
     there = "already with this recording .--again passes over such lines."
-    one(CODE_THERE, 2, f"{code(6)},6", f".* {there}", f"{code(7)},7\n{code(6)},6\n{code(8)},8\n", 1)
+    one(CODE_THERE, 2, quoted("code", code(6)), f"in {t} {there}", f"{code(7)},7\n{code(6)},6\n{code(8)},8\n", 1)
     assert program.done("load", t, csv, "--again") == "1 added, 2 there already\n"
     # Every bad line is printed, the first status is the exit status.
-    some = [(2, "x", FORM), (4, "AA1,4", "not a code, .*"), (5, ",", FORM)]
+    some = [(2, line("x"), "the line has no recording"), (4, quoted("code", "AA1"), NOT_A_CODE), (5, line(","), "the line has no recording")]
     stops(program, t, csv, BAD_LINE, some, f"{code(2)},2\nx\n{code(3)},3\nAA1,4\n,\n{code(4)},4\n", 1)
     program.refuses(BAD_FILE, "cannot be opened", "load", t, f"{folder}/none")
     before = contents(t)
@@ -75,11 +83,11 @@ def many_bad_lines(program, folder):
     program.done("make", t, 30)
     write(csv, "".join(f"{code(i)},{i if i % 2 else 'x'}\n" for i in range(1, 51)))
     status, out, err = program("load", t, csv)
-    assert (status, out) == (BAD_LINE, "1 added, 0 there already, 25 bad lines\n"), (status, out)
-    assert err.count(": not of the form") == 20 and "line 40, " in err and "line 42, " not in err, err
+    assert (status, out) == (BAD_RECORDING, "1 added, 0 there already, 25 bad lines\n"), (status, out)
+    assert err.count(', recording "x": a recording is') == 20 and "line 40, " in err and "line 42, " not in err, err
     assert err.endswith(f"{csv}: 25 bad lines, the first 20 shown; nothing was loaded from line 2 on (--keep-going loads the good lines)\n")
     status, out, err = program("load", t, csv, "--keep-going", "--again")
-    assert (status, out) == (BAD_LINE, "24 added, 1 there already, 25 bad lines\n"), (status, out)
+    assert (status, out) == (BAD_RECORDING, "24 added, 1 there already, 25 bad lines\n"), (status, out)
     assert err.count("\n") == 21 and err.endswith(": 25 bad lines, the first 20 shown\n"), err
     assert listed(program.done("list", t)) == [(code(i), i) for i in range(1, 51, 2)]
     # Refusals of single lines are bad lines too; a full table ends the load all the same.
@@ -122,7 +130,7 @@ def lines_from_standard_input(program, folder):
     run = program.start("load", t, "-", stdin=subprocess.PIPE, stdout=subprocess.PIPE, stderr=subprocess.PIPE)
     out, err = run.communicate(f"{code(1)},1\nx\n", timeout=120)
     assert run.returncode == BAD_LINE and out == "1 added, 0 there already, 1 bad line\n", (run.returncode, out)
-    assert err.startswith('catalogue: standard input, line 2, "x": not of the form'), err
+    assert err.startswith('catalogue: standard input, line 2, "x": the line has no recording'), err
 
 
 def acknowledging(program, folder):

@@ -75,7 +75,7 @@ def every_command(program, folder):
     assert program.done("load", t, csv, *TWO) == "30 added, 0 there already\n"
     assert program.done("load", t, csv, "--again", "--each", *TWO) == contents(csv).decode() + "0 added, 30 there already\n"
     status, out, err = program("load", t, csv, *TWO)
-    assert status == CODE_THERE and f"{code(0)} is in collection 2 of {t} already with this recording" in err, (status, err)
+    assert status == CODE_THERE and f'code "{code(0)}": in collection 2 of {t} already with this recording' in err, (status, err)
     assert program.done("list", t, code(100), code(120), *TWO) == "".join(contents(csv).decode().splitlines(True)[10:13])
     assert both(program, t) == [first, contents(csv).decode() + f"{c},{r},closed\n"]
     orders = orders_of(program.done("orders", t, "remove", code(100), *TWO))

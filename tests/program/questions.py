@@ -104,9 +104,11 @@ def one_mistake_one_status(program, folder):
     for recording in (0, 2**56, 2**63, 2**64, 10**30, "x", "-1", "1.5"):
         for words in (["add", t, code(5), recording], ["orders", t, "add", code(5), recording], ["film", t, "+", code(5), recording]):
             program.refuses(BAD_RECORDING, "a recording is a whole number from 1 to 72057594037927935", *words)
+        assert loaded(f"{code(5)},{recording}") == BAD_RECORDING, recording
     for access in ("shut", "1", "openly"):
         for words in (["add", t, code(5), 5, access], ["class", t, code(1), access], ["orders", t, "class", code(1), access], ["film", t, "+", code(5), 5, access]):
             program.refuses(BAD_CLASS, "a class is open, room or closed", *words)
+        assert loaded(f"{code(5)},5,{access}") == BAD_CLASS, access
     for number in (1555, 2**64, "x"):
         program.refuses(NO_SCRIPT, "the scripts have the numbers 0 to 1554", "script", number)
     for nodes in (0, 65536, 2**64, "x"):

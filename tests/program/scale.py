@@ -196,17 +196,19 @@ def judged(lines, there, again, keep_going):
         c, _, rest = line.partition(",")
         r, _, access = rest.partition(",")
         status = 0
-        if not r.isdigit() or access not in CLASSES + [""] or "," not in line:
+        if not r:
             status = BAD_LINE
         elif len(c) != 12:
             status = NO_CODE
+        elif not r.isdigit() or not 0 < int(r) < 2**56:
+            status = BAD_RECORDING
+        elif access not in CLASSES + [""]:
+            status = BAD_CLASS
         elif stopped:
             continue
         elif again and c in found and found[c][0] == int(r) and access in ("", found[c][1]):
             known += 1
             continue
-        elif not 0 < int(r) < 2**56:
-            status = BAD_RECORDING
         elif c in found:
             status = CODE_THERE
         elif int(r) in {recording for recording, _ in found.values()}:
@@ -247,7 +249,7 @@ def refused_lines(program, folder):
                 os.remove(t)
             assert ends.count(ends[0]) == len(ends), ends
             seen.update(s for _, s in bad)
-    assert not program.quick or seen == {NO_CODE, BAD_RECORDING, CODE_THERE, RECORDING_THERE, BAD_LINE}, seen
+    assert not program.quick or seen == {NO_CODE, BAD_RECORDING, BAD_CLASS, CODE_THERE, RECORDING_THERE, BAD_LINE}, seen
 
 
 def batches_are_single_additions(program, folder):

@@ -31,6 +31,7 @@ def code(i):
 
 def codes():
     expect("a code as people write it", catalogue.key("isrc aa-000-19-12345") == 172627201912345)
+    expect("a code with dashes", catalogue.key("AA\u2013000\u201319\u201312345") == 172627201912345)
     expect("and back", catalogue.code(172627201912345) == "AA0001912345")
     expect("a key that no code has", catalogue.code(5) == "#5" and catalogue.key("#5") == 5)
     expect("no code", refused(1, catalogue.key, "1A0001912345"))
