@@ -42,7 +42,7 @@ static enum line read_line(const struct rows *r, uint64_t order[2], struct compl
 static int note_wrong(struct order_list *l, const struct rows *r, const struct complaint *c)
 {
     char text[ROW_TEXT], word[ROW_TEXT];
-    rows_text(r, text);
+    rows_text(r->text, r->length, text);
     size_t length = c->length < sizeof word - 1 ? c->length : sizeof word - 1;
     memcpy(word, c->from, length);
     word[length] = '\0';

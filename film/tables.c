@@ -9,18 +9,19 @@
 #include "change.h"
 #include "pool.h"
 #include "refusals.h"
-#include "rows.h"
+#include "sheet.h"
 #include "text.h"
 #include "tree.h"
 
-static int add_row(const struct table *t, struct rows *r)
+static int add_row(const struct table *t, struct sheet *s)
 {
     struct row row;
-    int status = rows_read(r, &row);
+    struct fault fault;
+    int status = sheet_read(s, &row, &fault);
     if (status == ROW_PASSED)
         return 0;
     if (status != 0)
-        return fail(status, "line %" PRIu64 " of the table: a line is code,recording or code,recording,class", r->number);
+        return fail(status, "line %" PRIu64 " of the table, %s%s\"%s\": %s", s->line, fault.what, fault.what[0] ? " " : "", fault.text, fault.why);
     struct change c = {.kind = ADD, .key = row.key, .recording = row.recording, .access = row.access};
     uint64_t number = change_plan(&c, t);
     return number == 0 ? 0 : refuse(number, t, row.key, row.recording);
@@ -28,10 +29,13 @@ static int add_row(const struct table *t, struct rows *r)
 
 static int add_rows(const struct table *t, const char *lines)
 {
+    static const struct columns any;
     struct rows *r = room_of(1, sizeof *r);
+    struct sheet s;
     int status = rows_of_text(r, t->name, lines) ? 0 : fail(BAD_LINE, "the table is too long");
+    sheet_begin(&s, r, &any);
     while (status == 0 && rows_next(r))
-        status = add_row(t, r);
+        status = add_row(t, &s);
     free(r);
     return status;
 }
