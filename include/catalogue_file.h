@@ -339,6 +339,14 @@ struct catalogue_file_drop {
 uint64_t catalogue_file_salvage(catalogue_file *f, const char *name, int (*each)(void *context, const struct catalogue_file_drop *drop),
                                 void *context, uint64_t *dropped);
 
+/*
+ * The same for a file that is no table any more, since its header is damaged or it was cut short: nodes and the collections' roots are taken
+ * for those of its header, and nodes that the file lacks are passed over. roots[1] is 0 for one collection. Nothing needs to be open. 2 if the
+ * nodes are not 1 to 65535 or a root is none of them.
+ */
+uint64_t catalogue_file_rescue(catalogue_file *f, const char *table, uint64_t nodes, const uint64_t roots[2], const char *name,
+                               int (*each)(void *context, const struct catalogue_file_drop *drop), void *context, uint64_t *dropped);
+
 /* What a sound table has: the report of catalogue_check, CATALOGUE_CHECK_WORDS words. 0; 4 if it is not sound, 2, or one from 300 on. */
 uint64_t catalogue_file_check(catalogue_file *f, uint64_t *report);
 

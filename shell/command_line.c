@@ -8,6 +8,7 @@
 #include "catalogue.h"
 #include "guess.h"
 #include "text.h"
+#include "tree.h"
 
 #define MOST_STATUS 255
 
@@ -162,6 +163,27 @@ static bool read_columns(struct command_line *l, const char *value)
     return columns_read(&l->load.columns, value);
 }
 
+static bool read_node(const char *value, uint64_t *node)
+{
+    return read_number(value, strlen(value), node) && *node > 0 && *node <= MOST_NODES;
+}
+
+static bool read_rescued(struct command_line *l, const char *value)
+{
+    return read_node(value, &l->rescue.nodes);
+}
+
+static bool read_root(struct command_line *l, const char *value)
+{
+    return read_node(value, &l->rescue.root);
+}
+
+static bool read_loan_root(struct command_line *l, const char *value)
+{
+    l->rescue.loan_root_given = true;
+    return strcmp(value, "0") == 0 || read_node(value, &l->rescue.loan_root);
+}
+
 static bool set_help(struct command_line *l, const char *value)
 {
     (void)value;
@@ -191,6 +213,12 @@ const struct option options[] = {
     {"--to", "CODE", "a code", "lists up to this code", "list room.cat --to AA0001912345", LISTING, read_to},
     {"--output", "FILE", "a file's name", "writes what is printed to FILE; -o is the same", "film room.cat repair --output film.html", WRITING,
      read_output},
+    {"--nodes", "N", "a number of nodes", "takes the table for one of N nodes: its file was cut short, or its header is damaged",
+     "salvage cut.cat saved.cat --nodes 40", RESCUING, read_rescued},
+    {"--root", "R", "a node's number", "takes node R for the root of collection 1: the header is damaged", "salvage bad.cat saved.cat --root 11", RESCUING,
+     read_root},
+    {"--loan-root", "R", "a node's number, or 0 for no second collection", "takes node R for the root of collection 2",
+     "salvage bad.cat saved.cat --root 11 --loan-root 12", RESCUING, read_loan_root},
     {"--again", NULL, NULL, "passes over lines that the table has already", "load room.cat codes.csv --again", LOADING, set_again},
     {"--keep-going", NULL, NULL, "passes over bad lines and loads the rest; the exit status is that of the first bad line",
      "load room.cat codes.csv --keep-going", LOADING, set_keep_going},

@@ -8,6 +8,7 @@
 #include "change.h"
 #include "load.h"
 #include "opened.h"
+#include "salvage.h"
 
 /* Kinds of options, for which commands take which. */
 enum {
@@ -24,7 +25,8 @@ enum {
     LISTING = 1 << 10,
     STRUCTURED = 1 << 11,
     WRITING = 1 << 12,
-    WORDING = 1 << 13
+    WORDING = 1 << 13,
+    RESCUING = 1 << 14
 };
 
 struct command_line {
@@ -45,6 +47,7 @@ struct command_line {
     bool in_words; /* orders as people write them */
     const char *list;
     const char *made; /* what the command did and a lost answer must not hide, as "the change is made"; null for nothing */
+    struct rescue rescue; /* salvage: what is taken instead of a damaged header */
     struct opening opening;
     struct opened *open; /* the table, if a session has it open for reading */
     struct load_options load;

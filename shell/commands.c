@@ -301,7 +301,16 @@ static int command_stat(struct command_line *l)
 
 static int command_salvage(struct command_line *l)
 {
-    return with_file(l, false, salvage_table);
+    if (!(l->given & RESCUING))
+        return with_file(l, false, salvage_table);
+    int status = stack_take();
+    if (status != 0)
+        return status;
+    outlive_readers();
+    status = rescue(l->words[1], l->rescue, l->words[2]);
+    if (status == 0)
+        l->made = "the new table is made";
+    return status;
 }
 
 static int command_show(struct command_line *l)
@@ -395,8 +404,9 @@ const struct command commands[] = {
      "copy room.cat larger.cat 200", 3, 4, WAITING, command_copy},
     {"salvage", "TABLE NEW",
      "a new table of as many nodes with what can be read of TABLE, which is damaged and stays\n"
-     "as it is; prints each slot that is dropped, and why",
-     "salvage room.cat saved.cat", 3, 3, WAITING, command_salvage},
+     "as it is; prints each slot that is dropped, and why. If the header is damaged, or the file\n"
+     "was cut short, --nodes and --root say what the header said",
+     "salvage room.cat saved.cat", 3, 3, WAITING | RESCUING, command_salvage},
     {"orders", "TABLE CHANGE ..",
      "prints the stores and flushes of a change, for dock 1 its barriers too, without making it:\n"
      "add CODE RECORDING [CLASS], remove CODE, class CODE CLASS, or repair; list LIST prints\n"

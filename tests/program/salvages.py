@@ -3,6 +3,7 @@ import os
 import random
 import re
 import resource
+import struct
 import subprocess
 
 from drive import *
@@ -189,6 +190,71 @@ def refusals_of_a_salvage(program, folder):
     assert os.listdir(folder) == ["t"], os.listdir(folder)
 
 
+def no_table_any_more(program, folder):
+    """A damaged header, and a file cut short: with the nodes and the root that the header had everything that is there is kept."""
+    t, u = f"{folder}/t", f"{folder}/u"
+    fill(program, t, 40, [(code(10 * i), 100 + i) for i in range(100)])
+    whole, good = contents(t), read_words(t)
+    lines, root = program.done("list", t), good[1]
+    last = "made {} with 40 nodes: 100 codes kept, 0 slots dropped, 11 nodes used\n".format(u)
+
+    def damaged(data):
+        with open(t, "wb") as f:
+            f.write(data)
+
+    for at, word in ((0, 0), (0, 77), (1, 0), (1, 41), (1, MARK), (2, 0), (2, 39), (2, MARK), (4, 1), (7, MARK)):
+        damaged(struct.pack("<Q", word).join((whole[:8 * at], whole[8 * at + 8:])))
+        for command in (["salvage", t, u], ["check", t], ["find", t, code(10)]):
+            program.refuses(NO_TABLE, "is not a table|its header says", *command)
+        assert program.done("salvage", t, u, "--root", root) == last and program.done("list", u) == lines, (at, word)
+        os.remove(u)
+        if at != 1:
+            assert program.done("salvage", t, u, "--nodes", 40) == last and program.done("list", u) == lines, (at, word)
+            os.remove(u)
+        assert contents(t)[:8] == (whole[:8] if at else struct.pack("<Q", word))
+    # No header at all: the highest node is named, and is the root.
+    damaged(bytes(64) + whole[64:])
+    program.refuses(NO_TABLE, f"the header of {t} names no root: say it with --root; the highest node is {root}$", "salvage", t, u, "--nodes", 40)
+    assert program.done("salvage", t, u, "--root", root, "--nodes", 40) == last and program.done("list", u) == lines
+    program.refuses(BAD_FILE, f"{u} exists already and stays as it is$", "salvage", t, u, "--root", root)
+    os.remove(u)
+    # Cut short: what is left of the leaves, each code with its own recording. The trailer, or half a node, counts for nothing.
+    for nodes in range(1, 41) if program.quick else (5, 20):
+        for more in (0, 64, 100):
+            damaged(whole[:64 + 256 * nodes + more])
+            out = program.done("salvage", t, u, "--nodes", 40, "--root", root if root <= nodes else 1)
+            kept = program.done("list", u)
+            assert set(kept.splitlines()) <= set(lines.splitlines()) and f"{kept.count(chr(10))} codes kept" in out.replace("code kept", "codes kept"), out
+            assert kept.count("\n") >= min(nodes - 1, 8), (nodes, out)
+            if nodes == 40 or nodes >= 22 and more:
+                assert nodes < 40 or kept == lines, (nodes, more)
+            os.remove(u)
+    damaged(whole[:100])
+    assert "0 codes kept" in program.done("salvage", t, u, "--nodes", 40, "--root", 3)
+    os.remove(u)
+    damaged(whole)
+    assert program.done("salvage", t, u, "--nodes", 40) == last
+    os.remove(u)
+    for option in (["--nodes", 0], ["--nodes", 65536], ["--nodes", "x"], ["--root", 0], ["--root", 65536], ["--loan-root", "x"]):
+        program.refuses(BAD_USAGE, f"{option[0]} takes a n", "salvage", t, u, *option)
+    program.refuses(NO_TABLE, "a root is one of them", "salvage", t, u, "--root", 41)
+    program.refuses(NO_TABLE, "a root is one of them", "salvage", t, u, "--root", 3, "--loan-root", 3)
+    program.refuses(BAD_FILE, "cannot be read: No such file", "salvage", f"{folder}/none", u, "--root", 3)
+    program.refuses(BAD_FILE, "cannot be read: ", "salvage", folder, u, "--root", 3)
+    # Two collections.
+    os.remove(t)
+    fill(program, t, 40, [(code(10 * i), 100 + i) for i in range(30)], [(code(i), 100 + i) for i in range(50)])
+    both, roots = [program.done("list", t, *naming(n)) for n in (1, 2)], read_words(t)[1:4:2]
+    damaged(bytes(64) + contents(t)[64:])
+    program.done("salvage", t, u, "--root", roots[0], "--loan-root", roots[1])
+    assert [program.done("list", u, *naming(n)) for n in (1, 2)] == both
+    os.remove(u)
+    program.done("salvage", t, u, "--root", roots[0], "--loan-root", 0)
+    assert program.done("list", u) == both[0]
+    program.refuses(NO_COLLECTION, "no collection 2", "list", u, *naming(2))
+    return None
+
+
 def words_that_changed(program, folder):
     """Some words of a table changed at random: a new table that is settled, each of its pairs a slot of the old one, each slot that is reported
     as dropped one of the old one too; or the header is not a table's."""
@@ -220,4 +286,4 @@ def words_that_changed(program, folder):
     return f"{sum(ended.values())} tables, dropped {list(reasons.values())}"
 
 
-TESTS = [nothing_lost, damaged_slots, damaged_ways, writes_again, refusals_of_a_salvage, words_that_changed]
+TESTS = [nothing_lost, damaged_slots, damaged_ways, writes_again, refusals_of_a_salvage, no_table_any_more, words_that_changed]
