@@ -52,8 +52,8 @@
   function ownTask() {
     var lines = by("own-codes").value.split("\n").map(function (l) { return l.trim().split(/[,;\t]/); }).filter(function (l) { return l.length > 1; }), codes = [];
     lines.forEach(function (l) {
-      var key = film.readCode(l[0].replace(/"/g, "")), recording = l[1].replace(/[" ]/g, "");
-      if (key !== null && /^[0-9]+$/.test(recording)) codes.push({ key: key, pointer: recording });
+      var key = film.readCode(l[0].replace(/"/g, "")), recording = l[1].replace(/[" ]/g, ""), access = ["open", "room", "closed"].indexOf((l[2] || "open").trim().toLowerCase());
+      if (key !== null && access >= 0 && /^[0-9]+$/.test(recording)) codes.push({ key: key, pointer: (BigInt(access) << 56n | BigInt(recording)).toString() });
     });
     codes.sort(function (a, b) { return BigInt(a.key) < BigInt(b.key) ? -1 : 1; });
     var key = film.readCode(by("own-code").value), sign = by("own-sign").value, recording = by("own-recording").value.trim() || "0";
@@ -85,7 +85,6 @@
     film.go(at);
     by("verdict").dataset.took = (window.performance.now() - began).toFixed(1);
     drawVerdict();
-    drawTools();
   }
 
   function change(list, at) {
@@ -327,6 +326,8 @@
     past = [];
     future = [];
     opened = {};
+    state.code = "";
+    by("code").value = "";
     by("own").hidden = true;
     drawTasks();
     return update(list.length);
@@ -357,7 +358,6 @@
     else if (d.use !== undefined) { opened[d.use] = true; update(state.order); }
     else if (d.value !== undefined && from.closest("#chooser")) put(["store", chosen, d.value]);
     else if (d.board === "compare") compare();
-    else if (d.order !== undefined) drawTools();
   }
 
   function begin() {
@@ -375,6 +375,7 @@
     by("own-file").addEventListener("change", function () { readFile(by("own-file"), function (text) { by("own-codes").value = text; }); });
     by("open-list").addEventListener("change", function () { readFile(by("open-list"), openText); });
     by("board-guess").addEventListener("change", function () { state.guess = by("board-guess").checked; shown = false; drawVerdict(); film.show(); });
+    film.after = function () { if (document.body.classList.contains("board") && scene()) drawTools(); };
     document.addEventListener("click", click);
     document.addEventListener("keydown", function (e) { if (e.key === "Escape") closeChooser(); });
     window.addEventListener("afterprint", function () { document.body.classList.remove("sheet"); });

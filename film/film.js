@@ -532,13 +532,19 @@
     return out.join("") || '<p class="clean">No line is dirty: memory holds just this, whatever happens.</p>';
   }
 
+  /* An order of a board's list in words, beside another list without what all codes begin with. */
+  function listText(s, o, i) {
+    if (!s.words || (state.pair && window.innerWidth < 1100)) return orderShort(s, o);
+    return state.pair && s.prefix ? s.words[i].replace(s.prefix, "…") : s.words[i];
+  }
+
   function listOf(s, c, shown, odd) {
     return s.orders.map(function (o, i) {
       if (hides(s) && !s.board && i + 1 > c) return "";
       var classes = [o[0] === "flush" ? "flush" : "", i + 1 === c ? "now" : i + 1 > c ? "later" : "", odd && odd[i] ? "odd" : ""].join(" ").trim();
       var why = odd && typeof odd[i] === "string" ? " — " + odd[i] : "";
       return '<li><button type="button" tabindex="' + (i + 1 === c ? 0 : -1) + '" class="' + classes + '" data-scene="' + shown + '" data-order="' + (i + 1) + '" title="'
-        + esc(orderText(s, o) + why) + '"' + (i + 1 === c ? ' aria-current="step"' : "") + ">" + (i + 1) + " " + esc(s.words && !(state.pair && window.innerWidth < 1100) ? s.words[i] : orderShort(s, o)) + "</button></li>";
+        + esc(orderText(s, o) + why) + '"' + (i + 1 === c ? ' aria-current="step"' : "") + ">" + (i + 1) + " " + esc(listText(s, o, i)) + "</button></li>";
     }).join("");
   }
 
@@ -645,6 +651,7 @@
     draw();
     var again = focused && document.querySelector(focused);
     if (again) again.focus({ preventScroll: true });
+    if (window.film && window.film.after) window.film.after();
   }
 
   function draw() {

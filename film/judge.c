@@ -8,6 +8,7 @@
 #include <string.h>
 
 #include "orderlist.h"
+#include "pool.h"
 #include "refusals.h"
 #include "text.h"
 #include "tree.h"
@@ -218,6 +219,12 @@ static int say_refused(struct judging *j, uint64_t number)
                 explain(why, j->table, j->change->key, j->change->recording, text));
 }
 
+/* A node of a sound table has at most 11 pairs. */
+static size_t listing_room(const struct table *t)
+{
+    return 2 * 11 * (t->words / NODE_WORDS);
+}
+
 uint64_t judge_count(const struct table *t, const struct change *c, const uint64_t *orders, size_t total, uint64_t *image, uint64_t *count)
 {
     if (c->kind == ADD)
@@ -239,10 +246,10 @@ static int judge(struct judging *j)
 
 int judge_orders(const struct table *t, const struct change *c, const uint64_t *orders, size_t total, FILE *out)
 {
-    struct judging j = {.table = t, .change = c, .orders = orders, .total = total, .out = out, .room = 2 * 11 * (t->words / NODE_WORDS)};
-    j.image = calloc(t->words, sizeof *j.image);
-    j.pairs = calloc(j.room, sizeof *j.pairs);
-    int status = j.image && j.pairs ? judge(&j) : fail(BAD_FILE, "not enough memory to judge orders for %s", t->name);
+    struct judging j = {.table = t, .change = c, .orders = orders, .total = total, .out = out, .room = listing_room(t)};
+    j.image = room_of(t->words, sizeof *j.image);
+    j.pairs = room_of(j.room, sizeof *j.pairs);
+    int status = judge(&j);
     free(j.image);
     free(j.pairs);
     return status;
@@ -251,12 +258,21 @@ int judge_orders(const struct table *t, const struct change *c, const uint64_t *
 int judge_list(const struct table *t, const char *name, const struct change *c, FILE *out, size_t *total)
 {
     struct order_list l;
+    struct judging j = {.table = t, .change = c, .out = out, .room = listing_room(t)};
     int status = order_list_read(&l, name);
     if (status == 0 && l.changes > 1)
         status = fail(BAD_LINE, "%s has the lists of %zu changes; one is judged at a time", name, l.changes);
     *total = l.count;
+    j.image = calloc(t->words, sizeof *j.image);
+    j.pairs = calloc(j.room, sizeof *j.pairs);
+    if (status == 0 && (!j.image || !j.pairs))
+        status = fail(BAD_FILE, "not enough memory to judge orders for %s", t->name);
+    j.orders = l.words;
+    j.total = l.count;
     if (status == 0)
-        status = judge_orders(t, c, l.words, l.count, out);
+        status = judge(&j);
     order_list_free(&l);
+    free(j.image);
+    free(j.pairs);
     return status;
 }

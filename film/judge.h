@@ -16,7 +16,7 @@
  */
 int judge_list(const struct table *t, const char *name, const struct change *c, FILE *out, size_t *total);
 
-/* The same of orders in memory. */
+/* The same of orders in memory, as part of a film: where memory is short the program ends. */
 int judge_orders(const struct table *t, const struct change *c, const uint64_t *orders, size_t total, FILE *out);
 
 /* The library's answer alone: 0 for yes, 254 with the first count that fails, or a refusal. The image is a lent table of as many words. */

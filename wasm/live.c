@@ -25,7 +25,7 @@
 
 /* Free nodes that a board shows: a split of a root needs two. Its scene is made anew after each tap. */
 #define SPARE 2
-#define MOST_IMAGES 1500
+#define MOST_IMAGES 600
 
 static struct table t;
 static const uint64_t *base;

@@ -2,126 +2,16 @@
  * real ones. The last line is 'N passed, 0 failed'. */
 "use strict";
 const assert = require("assert");
-const { spawn } = require("child_process");
-const fs = require("fs");
 const path = require("path");
-const smaller = require("./smaller.js");
+const { Browser, WIDTH, HEIGHT } = require("./browser.js");
+const { LAYOUT } = require("./look.js");
 
 const [browser, folder, pictures] = process.argv.slice(2);
-const WIDTH = 1280, HEIGHT = 800;
 let passed = 0;
-
-/* ---- the browser */
-
-class Browser {
-  constructor() {
-    const words = ["--headless", "--no-sandbox", "--disable-gpu", "--hide-scrollbars", "--disable-lcd-text", "--force-color-profile=srgb", "--remote-debugging-pipe",
-      "--user-data-dir=" + path.join(folder, "profile"), "--window-size=" + WIDTH + "," + HEIGHT, "about:blank"];
-    this.process = spawn(browser, words, { stdio: ["ignore", "ignore", "ignore", "pipe", "pipe"] });
-    this.waiting = new Map();
-    this.heard = [];
-    this.number = 0;
-    let rest = "";
-    this.process.stdio[4].setEncoding("utf8");
-    this.process.stdio[4].on("data", (text) => {
-      const parts = (rest + text).split("\0");
-      rest = parts.pop();
-      parts.forEach((part) => this.hear(JSON.parse(part)));
-    });
-  }
-
-  hear(message) {
-    const waiting = this.waiting.get(message.id);
-    if (!waiting) { this.heard.push(message); return; }
-    this.waiting.delete(message.id);
-    if (message.error) waiting.reject(new Error(JSON.stringify(message.error))); else waiting.resolve(message.result);
-  }
-
-  send(method, params) {
-    const id = ++this.number;
-    this.process.stdio[3].write(JSON.stringify({ id, method, params: params || {}, sessionId: this.session }) + "\0");
-    return new Promise((resolve, reject) => this.waiting.set(id, { resolve, reject }));
-  }
-
-  async open(url) {
-    const { targetId } = await this.send("Target.createTarget", { url: "about:blank" });
-    this.session = (await this.send("Target.attachToTarget", { targetId, flatten: true })).sessionId;
-    for (const domain of ["Page", "Runtime", "Network", "Log"]) await this.send(domain + ".enable");
-    await this.send("Emulation.setDeviceMetricsOverride", { width: WIDTH, height: HEIGHT, deviceScaleFactor: 1, mobile: false });
-    await this.send("Page.navigate", { url });
-    await this.until('document.readyState === "complete" && Boolean(window.film)');
-  }
-
-  async run(code) {
-    const { result, exceptionDetails } = await this.send("Runtime.evaluate", { expression: code, returnByValue: true });
-    assert(!exceptionDetails, code + ": " + JSON.stringify(exceptionDetails));
-    return result.value;
-  }
-
-  async until(code) {
-    for (let i = 0; i < 200; i++) {
-      if (await this.run(code)) return;
-      await new Promise((resolve) => setTimeout(resolve, 50));
-    }
-    throw new Error("never: " + code);
-  }
-
-  async key(key) {
-    const codes = { ArrowLeft: 37, ArrowRight: 39, Home: 36, End: 35 };
-    const params = { key, code: key, windowsVirtualKeyCode: codes[key] || 0 };
-    await this.send("Input.dispatchKeyEvent", Object.assign({ type: "rawKeyDown" }, params));
-    await this.send("Input.dispatchKeyEvent", Object.assign({ type: "keyUp" }, params));
-  }
-
-  async click(selector) {
-    const at = await this.run(`(function () {
-      var b = document.querySelector(${JSON.stringify(selector)});
-      b.scrollIntoView({ block: "nearest" });
-      var r = b.getBoundingClientRect();
-      return [r.x + r.width / 2, r.y + r.height / 2];
-    })()`);
-    for (const type of ["mousePressed", "mouseReleased"]) await this.send("Input.dispatchMouseEvent", { type, x: at[0], y: at[1], button: "left", clickCount: 1 });
-  }
-
-  async type(selector, text) {
-    await this.run(`document.querySelector(${JSON.stringify(selector)}).focus(), document.querySelector(${JSON.stringify(selector)}).select()`);
-    await this.send("Input.insertText", { text });
-  }
-
-  async picture(name) {
-    await this.run("window.scrollTo(0, 0)");
-    const { data } = await this.send("Page.captureScreenshot", { format: "png" });
-    fs.writeFileSync(path.join(pictures, name), smaller(Buffer.from(data, "base64")));
-  }
-
-  text(id) { return this.run(`document.getElementById(${JSON.stringify(id)}).innerText`); }
-
-  async close() {
-    const ended = new Promise((resolve) => this.process.on("exit", resolve));
-    this.session = undefined;
-    this.send("Browser.close").catch(() => {});
-    await ended;
-  }
-}
 
 /* ---- what is looked at */
 
 function done(what) { passed++; console.log(what); }
-
-/* No word runs out of its box, no node lies over another, and nothing is wider than the window. */
-const LAYOUT = `(function () {
-  var wrong = [];
-  if (document.documentElement.scrollWidth > window.innerWidth) wrong.push("wider than the window: " + document.documentElement.scrollWidth);
-  document.querySelectorAll(".stage").forEach(function (stage) {
-    var boxes = [].map.call(stage.querySelectorAll(".node"), function (n) { return n.getBoundingClientRect(); }), around = stage.getBoundingClientRect();
-    boxes.forEach(function (a, i) {
-      if (a.left < around.left - 1 || a.right > around.right + 1 || a.bottom > around.bottom + 1) wrong.push("a node outside of its side");
-      boxes.slice(i + 1).forEach(function (b) { if (a.left < b.right && b.left < a.right && a.top < b.bottom && b.top < a.bottom) wrong.push("two nodes overlap"); });
-    });
-    stage.querySelectorAll(".cell b").forEach(function (b) { if (b.scrollWidth > b.clientWidth + 1) wrong.push("too long for its cell: " + b.textContent); });
-  });
-  return wrong;
-})()`;
 
 const WORDS = `(function () { var out = {}; document.querySelectorAll("#working-stage [data-word]").forEach(function (b) { out[b.dataset.word] = b.dataset.value; }); return out; })()`;
 
@@ -129,8 +19,12 @@ async function firstLook(b) {
   const box = await b.run('(function () { var r = document.getElementById("order").getBoundingClientRect(); return [r.top, r.bottom, r.width]; })()');
   assert(box[0] > 0 && box[1] < HEIGHT / 3 && box[2] > WIDTH / 2, "the slider is not in sight: " + box);
   assert(/Drag the slider, or press the arrow keys/.test(await b.text("hint")));
+  assert.strictEqual(await b.text("now"), "Order 0: before the first order");
+  assert(!/88|75/.test(await b.text("told")), "the first question is answered");
+  await b.click('[data-go="ask"]');
   assert.strictEqual(await b.text("now"), "Order 0 of 88: before the first order");
-  done("the slider is in sight at once");
+  await b.run('document.getElementById("order").focus()');
+  done("the slider is in sight at once; the first question is asked and not answered");
 }
 
 async function searchAndPicture(b) {
@@ -195,6 +89,7 @@ async function theDrawings(b) {
 
 async function otherWays(b) {
   await b.run('(function () { var s = document.getElementById("scene"); s.value = "0"; s.dispatchEvent(new Event("change")); })()');
+  await b.click('[data-go="ask"]');
   await b.click("#to-next");
   await b.click("#to-next");
   assert((await b.text("now")).startsWith("Order 2 of 88"));
@@ -214,7 +109,7 @@ async function otherWays(b) {
 }
 
 async function main() {
-  const b = new Browser();
+  const b = new Browser(browser, folder, pictures);
   try {
     await b.open("file://" + path.join(folder, "lesson.html"));
     await firstLook(b);

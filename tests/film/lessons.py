@@ -1,6 +1,7 @@
 """The lesson: `catalogue film --drawings` shows the worked split and every list of samples/drawings with what the judge says of it.
 
 lessons.py PROGRAM LIBRARY FOLDER. Its page must be in FOLDER already. The last line is 'N passed, 0 failed'."""
+import base64
 import glob
 import json
 import os
@@ -148,7 +149,10 @@ def main():
         page = f.read()
     inside = re.search(r'<script type="application/json" id="data">(.*?)</script>', page, re.S)[1]
     assert json.loads(inside) == data and page.count("@") == page.count("@media") + page.count("@page")
-    done("the page holds the same data")
+    assert len(page) < 700_000, len(page)
+    module = re.search(r'<script type="text/plain" id="module">\n(.*?)</script>', page, re.S)[1].strip()
+    assert module == "" or base64.b64decode(module)[:4] == b"\0asm"
+    done(f"the page holds the same data, {len(page)} bytes, {'with' if module else 'without'} the library inside")
     sizes = {"split": page_of("split", "full.cat", "AA0002600120"), "of many": page_of("large", *split_of_many())}
     with open(f"{FOLDER}/settled.html", "w") as f:
         f.write(run("film", "full.cat", "repair"))
