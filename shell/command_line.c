@@ -140,6 +140,12 @@ static bool set_header(struct command_line *l, const char *value)
     return l->header = true;
 }
 
+static bool set_schema(struct command_line *l, const char *value)
+{
+    (void)value;
+    return l->schema = true;
+}
+
 static bool read_from(struct command_line *l, const char *value)
 {
     l->from = value;
@@ -209,6 +215,10 @@ const struct option options[] = {
      "find room.cat AA0001912345 --json",
      STRUCTURED, set_json},
     {"--header", NULL, NULL, "prints a first line code,recording,class", "list room.cat --header > codes.csv", LISTING, set_header},
+    {"--schema", NULL, NULL,
+     "prints instead the SQL table that takes the lines, for SQLite and PostgreSQL; codes and\n"
+     "recordings stay unique there",
+     "list room.cat --schema | sqlite3 room.db", LISTING, set_schema},
     {"--from", "CODE", "a code", "lists from this code on", "list room.cat --from AA0001912345", LISTING, read_from},
     {"--to", "CODE", "a code", "lists up to this code", "list room.cat --to AA0001912345", LISTING, read_to},
     {"--output", "FILE", "a file's name", "writes what is printed to FILE; -o is the same", "film room.cat repair --output film.html", WRITING,

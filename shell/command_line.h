@@ -38,6 +38,7 @@ struct command_line {
     bool json;
     bool by_recording; /* find: the words are recordings */
     bool header;           /* list: a first line with the names of the columns */
+    bool schema;           /* list: the table of a database that takes the lines, and no line */
     const char *from, *to; /* list: one end of a range, or both; null for none */
     const char *output;    /* the file that the answer goes to; null for standard output */
     int absent;        /* find: the exit status of a code that is not there */

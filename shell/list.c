@@ -42,6 +42,18 @@ static void print_lines(const struct listing *g, bool header)
                pointer_text(CATALOGUE_RECORDING(g->pairs[i].pointer), CATALOGUE_CLASS(g->pairs[i].pointer), pointer));
 }
 
+/* What both SQLite and PostgreSQL read; a table for each collection. A key that no code has is # and up to 20 digits. */
+static int print_schema(const struct table *t)
+{
+    printf("CREATE TABLE %s (\n"
+           "    code VARCHAR(21) NOT NULL PRIMARY KEY,\n"
+           "    recording BIGINT NOT NULL UNIQUE CHECK (recording BETWEEN 1 AND %" PRIu64 "),\n"
+           "    class VARCHAR(6) NOT NULL CHECK (class IN ('open', 'room', 'closed'))\n"
+           ");\n",
+           t->collection == 2 ? "loans" : "recordings", CATALOGUE_MOST_RECORDING);
+    return 0;
+}
+
 static void print_json(const struct listing *g)
 {
     struct json j = {0};
@@ -61,6 +73,8 @@ static void print_json(const struct listing *g)
 int list(const struct table *t, struct command_line *l)
 {
     struct listing g;
+    if (l->schema)
+        return print_schema(t);
     int status = listing_read(&g, t, l->low, l->high);
     if (status == 0 && l->json)
         print_json(&g);

@@ -15,7 +15,7 @@ BEFORE = os.path.join(os.path.dirname(os.path.abspath(__file__)), "before_classe
 
 
 COMMANDS = "make add remove class find list load repair copy salvage orders judge film wear check stat show key script help".split()
-OPTIONS = "--loan --collection --recording --absent --json --header --from --to --output --nodes --root --loan-root --again --keep-going --columns --each --wear --svg --list --drawings --data --words --cut --dock --force --wait --fast --flush --pause --help --version".split()
+OPTIONS = "--loan --collection --recording --absent --json --header --schema --from --to --output --nodes --root --loan-root --again --keep-going --columns --each --wear --svg --list --drawings --data --words --cut --dock --force --wait --fast --flush --pause --help --version".split()
 
 
 def help_has_an_example_of_each(program, folder):

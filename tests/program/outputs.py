@@ -1,6 +1,7 @@
 """JSON, stat, the parts of a listing, and answers that go to a file."""
 import json
 import os
+import sqlite3
 import stat
 import subprocess
 import xml.dom.minidom
@@ -130,6 +131,21 @@ def parts_of_a_listing(program, folder):
     program.refuses(BAD_USAGE, "usage: catalogue list", "list", t, "AA", "--from", middle)
     assert program.done("list", t, "--header") == "code,recording,class\n" + listing(lambda c: True)
     assert program.done("list", t, "BB", "--header") == "code,recording,class\n"
+    # SQLite, as Python has it, takes the lines, and keeps codes and recordings unique.
+    base = sqlite3.connect(":memory:")
+    base.executescript(program.done("list", t, "--schema"))
+    insert = "INSERT INTO recordings VALUES (?, ?, ?)"
+    base.executemany(insert, [line.split(",") for line in program.done("list", t).splitlines()])
+    assert base.execute("SELECT code, recording, class FROM recordings ORDER BY code").fetchall() == [(c, i + 1, "open") for i, c in enumerate(codes)]
+    for row in ((codes[0], 99, "open"), ("AA0001900009", 1, "open"), ("AA0001900009", 99, "shut"), ("AA0001900009", 0, "open"), ("AA0001900009", 2**56, "open"),
+                (None, 99, "open"), ("AA0001900009", None, "open"), ("AA0001900009", 99, None)):
+        try:
+            base.execute(insert, row)
+            raise AssertionError(row)
+        except sqlite3.IntegrityError:
+            pass
+    program.done("make", f"{folder}/both", 2, "--loan")
+    assert program.done("list", f"{folder}/both", "--schema", *naming(2)) == program.done("list", t, "--schema").replace("recordings", "loans")
     with open(f"{folder}/csv", "w") as f:
         f.write(program.done("list", t, "--header"))
     program.done("make", f"{folder}/u", 9)
