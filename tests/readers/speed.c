@@ -22,7 +22,7 @@
 #include "peer.h"
 #endif
 
-#define SEARCHES 200000
+#define SEARCHES 100000
 #define LISTS 4
 #define ROUNDS 9
 #define TEN_MILLISECONDS 0.01
