@@ -2,24 +2,10 @@
 #include "stack.h"
 
 #include <stddef.h>
-#include <stdlib.h>
 #include <sys/resource.h>
 
+#include "../file/stack.h"
 #include "text.h"
-
-/* Bytes: more than the stack that any call takes (catalogue.h). */
-#define STACK ((size_t)4 << 20)
-
-bool stack_left(void)
-{
-    volatile char *room = malloc(STACK);
-    if (!room)
-        return false;
-    /* A compiler may leave out room that nobody uses. */
-    room[0] = 0;
-    free((void *)room);
-    return true;
-}
 
 /* Bytes that a command takes, with the program's own frames. */
 #define TAKEN ((size_t)768 << 10)

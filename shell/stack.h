@@ -2,11 +2,6 @@
 #ifndef STACK_H
 #define STACK_H
 
-#include <stdbool.h>
-
-/* Where memory is limited and no stack is left, the system would end the program without a word. */
-bool stack_left(void);
-
 /*
  * Takes the stack that any call of the library needs, before other memory is taken: it stays the program's. 0, or an exit status after
  * saying why.
