@@ -7,7 +7,7 @@
 #include <stdint.h>
 #include <stdio.h>
 
-#include "change.h"
+#include "planned.h"
 #include "nearest.h"
 #include "table.h"
 

@@ -6,7 +6,7 @@
 #include <stdint.h>
 #include <stdio.h>
 
-#include "change.h"
+#include "planned.h"
 #include "table.h"
 
 /*

@@ -5,7 +5,7 @@
 #include <stddef.h>
 #include <stdint.h>
 
-#include "change.h"
+#include "planned.h"
 #include "table.h"
 
 struct mistake {

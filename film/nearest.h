@@ -6,7 +6,7 @@
 #include <stddef.h>
 #include <stdint.h>
 
-#include "change.h"
+#include "planned.h"
 #include "table.h"
 
 /* Whose list the nearest one is: the drawn one itself, the drawn one mended, or the library's, without the stores that change no word or with them. */

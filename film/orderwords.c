@@ -6,7 +6,7 @@
 #include <strings.h>
 
 #include "catalogue.h"
-#include "change.h"
+#include "planned.h"
 #include "text.h"
 #include "tree.h"
 

@@ -5,7 +5,7 @@
 #include <string.h>
 
 #include "catalogue.h"
-#include "change.h"
+#include "planned.h"
 #include "pool.h"
 #include "tree.h"
 

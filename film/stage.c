@@ -3,7 +3,7 @@
 
 #include <stdlib.h>
 
-#include "change.h"
+#include "planned.h"
 #include "pool.h"
 #include "table.h"
 #include "text.h"

@@ -6,7 +6,7 @@
 #include <string.h>
 
 #include "catalogue.h"
-#include "change.h"
+#include "planned.h"
 #include "pool.h"
 #include "refusals.h"
 #include "sheet.h"

@@ -6,7 +6,7 @@
 #include <stdint.h>
 #include <stdio.h>
 
-#include "change.h"
+#include "planned.h"
 #include "tree.h"
 
 /* Codes that are named for one image; more are counted. */

@@ -5,7 +5,7 @@
 #include <stdlib.h>
 
 #include "catalogue.h"
-#include "change.h"
+#include "planned.h"
 #include "table.h"
 #include "tree.h"
 

@@ -5,10 +5,10 @@
 #include <stdbool.h>
 #include <stdint.h>
 
-#include "change.h"
-#include "load.h"
+#include "planned.h"
+#include "intake.h"
 #include "opened.h"
-#include "salvage.h"
+#include "rescue.h"
 
 /* Kinds of options, for which commands take which. */
 enum {

@@ -2,7 +2,7 @@
 #ifndef JUDGE_JSON_H
 #define JUDGE_JSON_H
 
-#include "change.h"
+#include "planned.h"
 #include "table.h"
 
 /* Prints what judge_list prints as an object: verdict, orders, and for a no the count after which it fails, its line and the reasons. */

@@ -5,7 +5,7 @@
 #include <stdio.h>
 
 #include "catalogue.h"
-#include "change.h"
+#include "planned.h"
 #include "refusals.h"
 #include "text.h"
 #include "tree.h"

@@ -7,7 +7,7 @@
 #include <string.h>
 
 #include "catalogue.h"
-#include "change.h"
+#include "planned.h"
 #include "json.h"
 #include "orderlist.h"
 #include "picture.h"

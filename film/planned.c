@@ -1,5 +1,5 @@
 /* A change of a table: read from words, planned by the library, printed. */
-#include "change.h"
+#include "planned.h"
 
 #include <inttypes.h>
 #include <stdio.h>

@@ -1,6 +1,6 @@
 /* Salvage: a new table with what can be read of a damaged one. */
-#ifndef SALVAGE_H
-#define SALVAGE_H
+#ifndef RESCUE_H
+#define RESCUE_H
 
 #include "opened.h"
 

@@ -1,6 +1,6 @@
 /* A change of a table: read from words, planned by the library, printed. */
-#ifndef CHANGE_H
-#define CHANGE_H
+#ifndef PLANNED_H
+#define PLANNED_H
 
 #include <stdbool.h>
 #include <stdint.h>

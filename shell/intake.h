@@ -1,6 +1,6 @@
 /* Loading the lines of a file. */
-#ifndef LOAD_H
-#define LOAD_H
+#ifndef INTAKE_H
+#define INTAKE_H
 
 #include <stdbool.h>
 

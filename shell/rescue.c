@@ -1,5 +1,5 @@
 /* Salvage: a new table with what can be read of a damaged one. */
-#include "salvage.h"
+#include "rescue.h"
 
 #include <errno.h>
 #include <inttypes.h>

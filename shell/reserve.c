@@ -1,5 +1,5 @@
 /* Room for the library's stack. */
-#include "stack.h"
+#include "reserve.h"
 
 #include <stddef.h>
 #include <sys/resource.h>

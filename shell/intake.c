@@ -1,5 +1,5 @@
 /* Loading the lines of a file. */
-#include "load.h"
+#include "intake.h"
 
 #include <errno.h>
 #include <inttypes.h>
