@@ -11,7 +11,7 @@
 #include "class.h"
 #include "draw.h"
 #include "film.h"
-#include "find.h"
+#include "lookup.h"
 #include "guess.h"
 #include "help.h"
 #include "judge.h"

@@ -5,7 +5,7 @@
 #include <stdio.h>
 
 #include "json.h"
-#include "listing.h"
+#include "all_pairs.h"
 #include "prefix.h"
 #include "text.h"
 

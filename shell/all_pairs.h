@@ -1,6 +1,6 @@
 /* The pairs of a table's collection, as the library lists them. */
-#ifndef LISTING_H
-#define LISTING_H
+#ifndef ALL_PAIRS_H
+#define ALL_PAIRS_H
 
 #include "table.h"
 

@@ -1,5 +1,5 @@
 /* The pairs of a table's collection, as the library lists them. */
-#include "listing.h"
+#include "all_pairs.h"
 
 #include <stdlib.h>
 

@@ -1,6 +1,6 @@
 /* Recordings by their codes, and codes by their recordings. */
-#ifndef FIND_H
-#define FIND_H
+#ifndef LOOKUP_H
+#define LOOKUP_H
 
 #include "command_line.h"
 #include "opened.h"

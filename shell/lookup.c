@@ -1,5 +1,5 @@
 /* Recordings by their codes, and codes by their recordings. */
-#include "find.h"
+#include "lookup.h"
 
 #include <inttypes.h>
 #include <stdio.h>
@@ -7,7 +7,7 @@
 #include <string.h>
 
 #include "json.h"
-#include "listing.h"
+#include "all_pairs.h"
 #include "refusals.h"
 #include "rows.h"
 #include "text.h"
