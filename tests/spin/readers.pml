@@ -223,7 +223,11 @@ end:
        do
        :: atomic { stores < STORES && !first_done -> stores++; put(FIRST, 1 - MINE(FIRST), WORD_RELEASE); first_done = 1 }
        :: atomic { stores < STORES && !node_done -> stores++; put(NODE + MINE(LINK), 1 - MINE(NODE + MINE(LINK)), WORD_RELEASE); node_done = 1 }
-       :: atomic { stores < STORES && !link_done && !stale_done -> stores++; put(NODE + 1 - MINE(LINK), 1 - MINE(NODE + 1 - MINE(LINK)), WORD_RELEASE); stale_done = 1 }
+       :: atomic {
+              stores < STORES && !link_done && !stale_done -> stores++;
+              put(NODE + 1 - MINE(LINK), 1 - MINE(NODE + 1 - MINE(LINK)), WORD_RELEASE);
+              stale_done = 1
+          }
        :: atomic { stores < STORES && !link_done -> stores++; put(LINK, 1 - MINE(LINK), WORD_RELEASE); link_done = ONCE; node_done = 0 }
        :: atomic { may_die -> may_die = 0; goto opened }
        :: atomic {
