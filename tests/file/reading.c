@@ -218,6 +218,44 @@ static bool salvages(void)
     return true;
 }
 
+/* A header of zeros, and a file cut short in its last leaf: with the nodes and the root that they had. */
+static bool rescues(void)
+{
+    catalogue_file *f = catalogue_file_new(), *saved = catalogue_file_new();
+    struct catalogue_file_pair found;
+    struct drops drops = {0};
+    uint64_t dropped = 99;
+    CHECK(table_with(at("lost"), 20, 60));
+    const uint64_t roots[2] = {get_word(at("lost"), 1), 0}, none[2] = {0, 0}, both[2] = {3, 3}, outside[2] = {21, 0};
+    for (size_t word = 0; word < 8; word++)
+        CHECK(put_word(at("lost"), word, UINT64_MAX));
+    GIVES(CATALOGUE_NO_TABLE, catalogue_file_open(f, at("lost"), CATALOGUE_FILE_READING, 0));
+    GIVES(CATALOGUE_NO_TABLE, catalogue_file_rescue(f, at("lost"), 20, none, at("found"), NULL, NULL, &dropped));
+    GIVES(CATALOGUE_NO_TABLE, catalogue_file_rescue(f, at("lost"), 20, both, at("found"), NULL, NULL, &dropped));
+    GIVES(CATALOGUE_NO_TABLE, catalogue_file_rescue(f, at("lost"), 20, outside, at("found"), NULL, NULL, &dropped));
+    GIVES(CATALOGUE_NO_TABLE, catalogue_file_rescue(f, at("lost"), 65536, roots, at("found"), NULL, NULL, &dropped));
+    GIVES(CATALOGUE_FILE_NO_FILE, catalogue_file_rescue(f, at("nothing"), 20, roots, at("found"), NULL, NULL, &dropped));
+    CHECK(dropped == 99 && access(at("found"), F_OK) != 0);
+    GIVES(0, catalogue_file_rescue(f, at("lost"), 20, roots, at("found"), drop, &drops, &dropped));
+    CHECK(dropped == 0 && drops.count == 0);
+    GIVES(CATALOGUE_FILE_EXISTS, catalogue_file_rescue(f, at("lost"), 20, roots, at("found"), NULL, NULL, &dropped));
+    GIVES(0, catalogue_file_open(saved, at("found"), CATALOGUE_FILE_READING, 0));
+    for (uint64_t key = 10; key <= 600; key += 10) {
+        GIVES(0, catalogue_file_find(saved, 1, key, &found));
+        CHECK(found.recording == 1000 + key);
+    }
+    /* One node is left, the first leaf: its codes stay, though its sibling is gone. */
+    CHECK(truncate(at("lost"), 64 + 256 + 10) == 0);
+    const uint64_t first[2] = {1, 0};
+    GIVES(0, catalogue_file_rescue(f, at("lost"), 20, first, at("part"), NULL, NULL, &dropped));
+    GIVES(0, catalogue_file_open(saved, at("part"), CATALOGUE_FILE_READING, 0));
+    GIVES(0, catalogue_file_find(saved, 1, 10, &found));
+    GIVES(CATALOGUE_ABSENT, catalogue_file_find(saved, 1, 600, &found));
+    catalogue_file_free(f);
+    catalogue_file_free(saved);
+    return true;
+}
+
 static bool copies(void)
 {
     static struct model m;
@@ -296,6 +334,7 @@ const struct test reading_tests[] = {
     {"the highest key", the_highest_key},
     {"damaged words", damaged_words},
     {"salvages", salvages},
+    {"rescues", rescues},
     {"copies", copies},
     {"checks", checks},
     {"tables", tables},
