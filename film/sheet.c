@@ -143,18 +143,19 @@ static bool is_called(struct field f, const char *name, size_t length)
     return at == length && length > 0;
 }
 
-/* What spreadsheets call the columns. */
-static bool is_usual(struct field f, enum column column)
+/* The column with the first of its usual names that is there; -1 for none. A mere number may be that of the row, and is no such name. */
+static int usual_place(const struct fields *fields, enum column c)
 {
-    static const char *const usual[COLUMNS][8] = {
-        {"isrc", "code", "isrccode"},
-        {"recording", "recordingnumber", "recordingno", "recordingnr", "recordingid", "number", "no", "nr"},
+    static const char *const usual[COLUMNS][5] = {
+        {"isrc", "isrccode", "code"},
+        {"recording", "recordingnumber", "recordingno", "recordingnr", "recordingid"},
         {"class", "access", "accessclass"},
     };
-    for (size_t i = 0; i < sizeof usual[0] / sizeof usual[0][0] && usual[column][i]; i++)
-        if (is_called(f, usual[column][i], strlen(usual[column][i])))
-            return true;
-    return false;
+    for (size_t name = 0; name < sizeof usual[0] / sizeof usual[0][0] && usual[c][name]; name++)
+        for (int i = 0; i < fields->count; i++)
+            if (is_called(fields->of[i], usual[c][name], strlen(usual[c][name])))
+                return i;
+    return -1;
 }
 
 static bool same_text(struct field f, const char *name, size_t length)
@@ -165,9 +166,10 @@ static bool same_text(struct field f, const char *name, size_t length)
 /* The place of a column by its name in the first line, asked for or usual; -1 if there is none. */
 static int place_of(const struct sheet *s, const struct fields *fields, enum column c)
 {
-    const char *name = s->asked->name[c];
     int i = 0;
-    while (i < fields->count && !(name ? same_text(fields->of[i], name, s->asked->length[c]) : is_usual(fields->of[i], c)))
+    if (!s->asked->name[c])
+        return usual_place(fields, c);
+    while (i < fields->count && !same_text(fields->of[i], s->asked->name[c], s->asked->length[c]))
         i++;
     return i < fields->count ? i : -1;
 }

@@ -86,6 +86,11 @@ def other_columns(program, folder):
         loads(program, folder, sheet([row[::-1] for row in rows], separator, header=header[::-1]))
     opened = [(c, r, "open") for c, r, _ in ROWS]
     loads(program, folder, sheet(rows), "--columns", "recording=5,code=3", rows=opened)
+    # The number of a row, and another code, are neither.
+    numbered = [(i, "x", f"B{i}", c, r) for i, (c, r, _) in enumerate(ROWS, 1)]
+    loads(program, folder, sheet(numbered, ";", header=["No.", "Number", "Code", "ISRC", "Recording"]), rows=opened)
+    loads(program, folder, sheet([row[::-1] for row in numbered], header=["Recording number", "isrc", "code", "nr", "no"]), rows=opened)
+    refused(program, folder, sheet(numbered, header=["No.", "Number", "Code", "ISRC", "Nr."]), BAD_LINE, '1, ".*": the line has more fields than .*')
     # Other names than the usual ones.
     foreign = sheet([(r, c) for c, r, _ in ROWS], ";", header=["Aufnahme", "Kennung"])
     loads(program, folder, foreign, "--columns", "code=Kennung,recording=aufnahme", rows=opened)
