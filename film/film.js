@@ -260,7 +260,7 @@
   function titleOf(s) { return s.title + (s.own ? "" : " (" + s.list + ")"); }
 
   /* Counts, verdicts and the right list wait until they are asked for. */
-  function hides(s) { return (state.guess || Boolean(s.ask)) && !state.asked; }
+  function hides(s) { return (state.guess || (Boolean(s.ask) && !s.answered)) && !state.asked; }
 
   function momentText(s, c) {
     var head = "Order " + c + (hides(s) ? ": " : " of " + s.orders.length + ": ");
@@ -711,7 +711,7 @@
     var hash = "#scene=" + (state.scene + 1) + "&order=" + state.order + (cut.length ? "&cut=" + cut.join(",") : "");
     if (state.code) hash += "&code=" + encodeURIComponent(state.code);
     if (s.board) hash = "#board";
-    else if (s.ask && state.asked && state.order === 0) hash += "&shown=1";
+    else if (s.ask && !hides(s) && state.order === 0) hash += "&shown=1";
     try { window.history.replaceState(null, "", hash); } catch (e) { /* a page from a file may not */ }
   }
 
@@ -803,7 +803,7 @@
     if (d.row !== undefined) {
       enter(Number(d.row));
       if (by("controls").scrollIntoView) by("controls").scrollIntoView();
-    } else if (d.go === "ask") { state.asked = true; show(); }
+    } else if (d.go === "ask") { state.asked = data.scenes[state.scene].answered = true; show(); }
     else if (d.go) { goToBad(); show(); }
     else if (d.kept) {
       var s = data.scenes[state.scene];
