@@ -78,8 +78,9 @@ static int read_list(struct order_list *l, const char *text)
 /* As catalogue judge prints it of a list on standard input. */
 int EXPORTED(live_judge)(void)
 {
+    size_t total;
     restore();
-    return finish(judge_list(&t, "-", &wanted));
+    return finish(judge_list(&t, "-", &wanted, stdout, &total));
 }
 
 /* The states that catalogue film --data prints, for the library's orders or, from standard input, for others. */
