@@ -6,7 +6,10 @@
 
 #include "table.h"
 
-/* The codes added one by one to an empty table of so many nodes; base and working are alike. 0, or an exit status after saying why; table_free in either case. */
+/*
+ * The codes added one by one to an empty table of so many nodes; base and working are alike. 0, or an exit status after saying why; table_free in
+ * either case.
+ */
 int table_of_lines(struct table *t, uint64_t nodes, const char *lines);
 
 void table_free(struct table *t);
