@@ -94,7 +94,7 @@ def lists_that_are_refused(program, folder):
         write(list, text)
         program.refuses(BAD_ORDERS, "an order lies outside of .*t$", "wear", t, list)
     for line in ("store 1", "store 1 2 3", "store x 1", "store 1 -1", "flush", "flush 1 2", "store 18446744073709551616 0", "stores 1 2", "3",
-                 "3 4 store 1 2", "1 flush 2 3", "barrier 0", "barriers", "nothing", "store 1 2" + " " * 300):
+                 "3 4 store 1 2", "1 flush 2 3", "barrier 0", "barriers", "nothing", "store 1 2" + " " * 17000):
         write(list, f"flush 0\n{line}\nstore 0 0\n")
         program.refuses(BAD_LINE, 'line 2, ".*": .*(cannot stand there; wanted: |ends too soon; wanted: |too long; )', "wear", t, list)
     program.refuses(BAD_FILE, "cannot be opened", "wear", t, f"{folder}/none")
