@@ -48,7 +48,7 @@ def the_docks_of_arm(program, folder):
     assert program.done("add", t, code(3), 9, "--dock", 0, "--force") == f"added {code(3)},9,open (4 stores, 1 flush)\n"
     plain, barred = (orders_of(program.done("orders", t, "remove", code(1), *more)) for more in (["--dock", 0], []))
     assert BARRIER not in plain and plain == [o for o in barred if o != BARRIER] and BARRIER in barred
-    program.refuses(BAD_USAGE, "usage: catalogue orders", "orders", t, "remove", code(1), "--force")
+    program.refuses(BAD_USAGE, "orders takes no --force", "orders", t, "remove", code(1), "--force")
     film = program.done("film", t, "-", code(1), "--data")
     assert "barrier" not in film
     program.refuses(BAD_USAGE, "--dock takes 0 or 1", "add", t, code(4), 10, "--dock", 2, "--force")
