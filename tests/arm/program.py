@@ -30,9 +30,19 @@ from drive import *
 FLUSHES = "^catalogue: --flush takes clwb, clflushopt or clflush, on ARM cvadp, cvap or civac, if the processor has it, or none$"
 
 
+class Emulated(Program):
+    """A program that takes its time."""
+
+    def __call__(self, *words, **how):
+        run = self.start(*words, stdout=subprocess.PIPE, stderr=subprocess.PIPE, stdin=subprocess.DEVNULL, **how)
+        out, err = run.communicate(timeout=1200)
+        check_ending(run.returncode, err, words)
+        return run.returncode, out, err
+
+
 def as_it_is(program):
     """The same program with no words added to what a test gives it."""
-    other = Program(program.command, program.name, program.quick)
+    other = Emulated(program.command, program.name, program.quick)
     other.environment = dict(program.environment, EMULATED_AS_IT_IS="yes")
     return other
 
@@ -109,7 +119,7 @@ OTHERS = [commands.orders_are_what_is_carried_out, docks.a_barrier_is_a_fence, l
 
 def main():
     everything = sys.argv[2:] == ["--all"]
-    program = Program([os.path.join(HERE, "emulated")], "on ARM", False)
+    program = Emulated([os.path.join(HERE, "emulated")], "on ARM", False)
     tests = OWN + ([t for t in ALL if t not in OTHERS] if everything else SOME)
     place = tempfile.mkdtemp(prefix="catalogue-arm-", dir="/dev/shm" if os.access("/dev/shm", os.W_OK) else None)
     os.chmod(place, 0o755)
