@@ -37,11 +37,11 @@ class Terminal:
         os.close(theirs)
         self.ours, self.seen = ours, ""
 
-    def expect(self, pattern):
+    def expect(self, pattern, seconds=60):
         """What came up to the end of the first match."""
-        end = time.monotonic() + 60
+        end = time.monotonic() + seconds
         while not (match := re.search(pattern, self.plain())):
-            assert time.monotonic() < end and select.select([self.ours], [], [], 60)[0], (pattern, self.seen)
+            assert time.monotonic() < end and select.select([self.ours], [], [], seconds)[0], (pattern, self.seen)
             try:
                 part = os.read(self.ours, 65536).decode("utf-8", "replace")
             except OSError:
@@ -61,6 +61,17 @@ class Terminal:
 
     def type(self, text):
         os.write(self.ours, text.encode())
+
+    def interrupt(self):
+        """ctrl-C, and the next prompt. An editor that is still drawing may lose one; a person presses again."""
+        for _ in range(5):
+            self.type("\x03")
+            try:
+                self.expect("> ", 10)
+                return
+            except AssertionError:
+                pass
+        raise AssertionError(("no prompt after ctrl-C", self.seen))
 
     def asks(self, line, answer):
         """A line, and its answer before the next prompt."""
@@ -141,8 +152,7 @@ def interrupts(program, folder):
         s.expect("> ")
         s.type("remove " + code(10))
         s.expect(code(10))
-        s.type("\x03")
-        s.expect("> ")
+        s.interrupt()
         s.asks("", "")
         s.asks(f"find {code(10)}", "101,open\n")
         # While a change waits before its orders, while a load waits for a line, and while find does.
@@ -150,8 +160,7 @@ def interrupts(program, folder):
             s.type(line + "\n")
             s.expect(re.escape(line) + "\n")
             time.sleep(0.5)
-            s.type("\x03")
-            s.expect("> ")
+            s.interrupt()
             s.asks(f"find {code(10)}", "101,open\n")
         s.asks("repair", "repaired|nothing to repair")
         s.asks(f"find {code(5)}", "is not in")
