@@ -34,7 +34,7 @@ static enum line read_line(const struct rows *r, uint64_t order[2], struct compl
         return PASSED;
     if (ends(r->text, r->length))
         return ENDING;
-    *c = (struct complaint){r->text, 0, "a line has at most 255 letters"};
+    *c = (struct complaint){r->text, 0, "a line has at most 16384 letters"};
     return !r->too_long && order_read(r->text, r->length, order, c) ? ORDER : WRONG;
 }
 

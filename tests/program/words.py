@@ -89,9 +89,9 @@ def wrong_lines(program, folder):
     for line in ("store", "store 1", "flush", "node 1", "node 1 slot 2", "node 1 slot 2 key", "node 1 slot 2 key :=", "header", "3", "flush node 1"):
         write(list, f"flush 0\n{line}\n")
         program.refuses(BAD_LINE, f'line 2, "{line}": it ends too soon; wanted: ', "judge", t, list, *add)
-    program.refuses(BAD_LINE, "it is too long; a line has at most 255 letters$", "wear", t, write_to(list, "store 1 2" + " " * 300 + "\n"))
+    program.refuses(BAD_LINE, "it is too long; a line has at most 16384 letters$", "wear", t, write_to(list, "store 1 2" + " " * 20000 + "\n"))
     for words in (["orders", t, "list"], ["orders", t, "list", list, "x"], ["orders", t, "list", list, *naming(1)], ["orders", t, "list", list, "--dock", 1], ["judge", t, list, *add, "--words"]):
-        program.refuses(BAD_USAGE, "usage: catalogue", *words)
+        program.refuses(BAD_USAGE, "usage: catalogue|judge takes no --words", *words)
 
 
 def write_to(path, text):
