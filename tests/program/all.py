@@ -64,7 +64,7 @@ def main():
     # valgrind takes half a second to start: each kind of work once.
     once = [commands.the_worked_orders, commands.drawing, loads.lines_from_standard_input, loads.larger_copies,
             commands.a_tree_of_sixteen_levels, salvages.damaged_slots, loans.drawing_both, loans.salvages_of_two,
-            wears.figures_of_printed_orders, wears.wear_of_a_load, judging.spoilt_lists, words.both_directions, words.the_nearest_list, words.a_class, films.a_small_film, films.a_film_of_a_list,
+            wears.figures_of_printed_orders, wears.wear_of_a_load, judging.spoilt_lists, words.a_class, films.a_small_film, films.a_film_of_a_list,
             scale.the_same_rights, scale.acknowledged_one_by_one]
     # Files in memory if there is such a place: the tests say nothing of a disk.
     place = tempfile.mkdtemp(prefix="catalogue-", dir="/dev/shm" if roomy("/dev/shm") else None)
