@@ -1,4 +1,6 @@
 // What the C entry points put into lent words: an answer, only if the call does its work, and the number that they return.
+#![tactic(auto)]
+
 ghost use Rattle.std.specs.Prelude.{◌≡◌};
 ghost use Rattle.model.specs.Table.{outcome_number};
 ghost use Rattle.model.specs.Answers.{Looked, Counted};

@@ -1,4 +1,6 @@
 // Marks as bits, 64 to a word: a set of numbers below 64 times the words.
+#![tactic(auto)]
+
 ghost use Rattle.std.specs.Prelude.{◌≡◌, ◌*◌, ◌<◌, length};
 ghost use Rattle.bits.specs.Bits.{has, put, full};
 

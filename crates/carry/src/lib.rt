@@ -1,4 +1,6 @@
 // Carry-out: the first c orders of a list, applied to a table.
+#![tactic(auto)]
+
 ghost use Rattle.std.specs.Prelude.{◌≡◌, true, ◌&&◌, [], ◌∷◌, ◌*◌, ◌≤◌, eqb, length};
 ghost use Rattle.model.specs.Orders.{BAR, order_of, inside, all_inside, carry, carry_out, carried_out};
 ghost use Rattle.carry.specs.Firsts.{firsts};

@@ -1,5 +1,7 @@
 // The C entry points, on numbers and slices: include/catalogue.h has their prototypes. Here those of codes, making, searching, checking, listing
 // and carry-out; catalogue_writes, catalogue_sentinels and catalogue_tools have the others. One archive, libcatalogue.a, has them all (shell/build-library).
+#![tactic(auto)]
+
 ghost use Rattle.std.specs.Prelude.{◌≡◌, cond};
 ghost use Rattle.model.specs.Codes.{parse, print, parsed_number, key_or};
 ghost use Rattle.model.specs.Table.{making, made, outcome_number};

@@ -1,4 +1,6 @@
 // The C entry points of the tools: packing, salvage, the judge, the short scripts, wear figures.
+#![tactic(auto)]
+
 ghost use Rattle.std.specs.Prelude.{◌≡◌, length};
 ghost use Rattle.model.specs.Table.{outcome_number};
 ghost use Rattle.model.specs.Writes.{insertion, deletion};

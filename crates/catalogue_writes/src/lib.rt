@@ -1,4 +1,6 @@
 // The C entry points that change a table.
+#![tactic(auto)]
+
 ghost use Rattle.std.specs.Prelude.{◌≡◌};
 ghost use Rattle.model.specs.Writes.{insertion, deletion, class_change, repair};
 ghost use Rattle.model.specs.Answers.{Wrote, puts, Summed, WroteMany};

@@ -1,4 +1,6 @@
 // A set of numbers in a slice of cells, by open addressing: 0 is a free cell. A number that is taken out leaves no gap on another one's path.
+#![tactic(auto)]
+
 ghost use Rattle.std.specs.Prelude.{◌≡◌, ◌≢◌, ℕ, suc, ◌<◌, length};
 ghost use Rattle.model.specs.Table.{at as word_at};
 ghost use Rattle.model.specs.Cells.{next_cell, home_of, cell_for, holds, entered, ahead, closed_up, without};

@@ -2,7 +2,7 @@
 pub mod Lists
 pub mod Parts
 pub mod Updates
-pub mod Hidden
+pub mod Hiding
 pub mod Shown
 pub mod Cut
 pub mod Pairs

@@ -1,5 +1,7 @@
 // Whether the recordings of pairs are new to a tree: none of them twice, none in its map. The pairs' numbers are entered into a set of cells,
 // then the leaves are passed once.
+#![tactic(auto)]
+
 ghost use Rattle.std.specs.Prelude.{◌≡◌, true, [], ◌*◌, ◌-◌, ◌≤◌, ◌<◌, length};
 ghost use Rattle.model.specs.Slots.{view_from};
 ghost use Rattle.model.specs.Reached.{mapping};

@@ -1,4 +1,6 @@
 // Two tables compared: whether the pairs of a tree in one are those of a tree in the other, but for the pointer of one key.
+#![tactic(auto)]
+
 ghost use Rattle.std.specs.Prelude.{◌≡◌, true, false, ◌≤◌, ◌<◌};
 ghost use Rattle.model.specs.Slots.{view_from, view};
 ghost use Rattle.model.specs.Reached.{mapping};
@@ -13,7 +15,7 @@ use slots::Ways;
 // ---- the pairs of a tree, one by one
 
 // A place among the pairs of a tree: a leaf's ways, the next of them, the next leaf, and how many leaves may follow.
-#[derive(Drop)]
+#[derive(Clone, Copy)]
 struct Cursor {
     ways: Ways,
     at: usize,

@@ -1,5 +1,7 @@
 // The deletion call: repair, then the slot of the key is shifted out of its leaf; a leaf that this empties is freed, unless it is its
 // parent's leftmost child or the root.
+#![tactic(auto)]
+
 ghost use Rattle.std.specs.Prelude.{◌≡◌, true, false, length};
 ghost use Rattle.model.specs.Table.{no_collection};
 ghost use Rattle.model.specs.Reached.{map_of};

@@ -1,5 +1,7 @@
 // Every short script, run: prints how many tables they met, and how many of these agreed with the map neither before nor after the action,
 // on a line each.
+#![tactic(auto)]
+
 ghost use Rattle.std.specs.Prelude.{[], ◌∷◌, ◌++◌, ◌+◌, ◌≤◌, ◌<◌, length};
 ghost use Rattle.model.specs.Printer.{decimal};
 ghost use Rattle.model.specs.Scripts.{met_text};

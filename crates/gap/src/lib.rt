@@ -1,5 +1,7 @@
 // Pairs in a slice, in the order of their keys, around a gap: those below it in the first words, those above it in the last. It is moved to
 // where the next pair goes, so that keys that come in runs cost no more than the way from run to run.
+#![tactic(auto)]
+
 ghost use Rattle.std.specs.Prelude.{◌≡◌, ◌∷◌, ◌++◌, ◌+◌, ◌*◌, ◌≤◌, ◌<◌, length, take, drop};
 ghost use Rattle.pack.specs.Rows.{pairs_in};
 ghost use Rattle.gap.specs.Around.{around, Fits, Under, Over, ends_with};

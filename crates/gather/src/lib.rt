@@ -1,6 +1,8 @@
 // What a salvage gathers along nodes entered: pairs kept, in the order of their keys, and slots dropped, in the order met, as node,
 // slot and reason in the report. The pairs stand around a gap in the first words of a slice of nodes, two words for each that there may be;
 // the words after these are the cells of a set of their recordings.
+#![tactic(auto)]
+
 ghost use Rattle.std.specs.Prelude.{◌≡◌, not, [], ◌∷◌, ◌+◌, ◌-◌, ◌*◌, ◌≤◌, ◌<◌, eqb, length};
 ghost use Rattle.std.proofs.lemmas.List.Edits.{sets};
 ghost use Rattle.model.specs.Table.{nodes};
@@ -13,7 +15,7 @@ ghost use Rattle.gather.specs.Held.{placed, pairs_of, held, gathered_in, met, St
 use numbers::Entry;
 
 // How many pairs are kept, how many of them are below the gap, and how many slots were dropped.
-#[derive(Drop)]
+#[derive(Clone, Copy)]
 pub struct Tally {
     pub kept: usize,
     pub at: usize,

@@ -1,4 +1,6 @@
 // The insertion call: repair, a new root if the run of full nodes includes the root, the splits of the run, the pair shifted in.
+#![tactic(auto)]
+
 ghost use Rattle.std.specs.Prelude.{◌≡◌, true, false, cond, ◌+◌, ◌≤◌, length};
 ghost use Rattle.std.proofs.Math.Option.{some};
 ghost use Rattle.model.specs.Table.{no_collection};
@@ -23,7 +25,7 @@ use write::Judged;
 
 // What an insertion into a table that is known to be sound answers: how many stores, flushes and barriers its order list has, and how many
 // nodes are reached after it.
-#[derive(Drop)]
+#[derive(Clone, Copy)]
 pub enum Entered {
     Done {
         stores: u64,

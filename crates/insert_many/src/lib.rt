@@ -1,5 +1,7 @@
 // Many insertions in one call: one check, then the pairs one by one, each on the table that the one before it left and with the list behind
 // the words that it filled.
+#![tactic(auto)]
+
 ghost use Rattle.std.specs.Prelude.{◌≡◌, true, false, ◌+◌, ◌*◌, ◌/◌, ◌≤◌, ◌<◌, length, get_or};
 ghost use Rattle.std.proofs.Math.Option.{some};
 ghost use Rattle.model.specs.Table.{no_collection};
@@ -21,7 +23,7 @@ use write::Judged;
 
 // How far a batch has come: the number that stopped it, 0 for none; the pairs taken, the words of the list filled and the three counts; what
 // repair has to do, and how many nodes are reached.
-#[derive(Drop)]
+#[derive(Clone, Copy)]
 pub struct Progress {
     pub number: u8,
     pub taken: usize,

@@ -1,4 +1,6 @@
 // Reading and printing an ISRC code (document 01, "Codes").
+#![tactic(auto)]
+
 ghost use Rattle.std.specs.Prelude.{◌≡◌, true, ◌&&◌, map, ◌≤◌, leb, length};
 ghost use Rattle.model.specs.Codes.{is_letter_or_digit, is_code, value, number, parse, character, digits, spelling, print};
 ghost use Rattle.model.specs.Lists.{all};
@@ -7,7 +9,7 @@ ghost use Rattle.isrc.specs.Kinds.{test};
 use model::{Parsed, Printed};
 
 // The kinds of characters that a place of a code takes.
-#[derive(Drop)]
+#[derive(Clone, Copy)]
 enum Kind {
     Letter,
     LetterOrDigit,

@@ -1,4 +1,6 @@
 // Runs vectors of document 01, "Codes", through reading and printing, and writes what comes out, a line for each.
+#![tactic(auto)]
+
 use libc::STDOUT_FILENO;
 use model::Parsed;
 

@@ -1,5 +1,7 @@
 // Judging a supplier's order list: yes, or no with the first count of orders that fails. Each image is built in a second slice: if at most
 // one line ever holds unflushed stores, the images of a cut are what first parts of the list leave, and each is looked at once.
+#![tactic(auto)]
+
 ghost use Rattle.std.specs.Prelude.{◌≡◌, true, false, not, ◌&&◌, [], ◌∷◌, ◌*◌, ◌/◌, eqb, length, take};
 ghost use Rattle.std.proofs.Math.Option.{none, some};
 ghost use Rattle.model.specs.Table.{no_collection};
@@ -17,7 +19,7 @@ use sound::{Checked, Leftover};
 use write::Judged;
 
 // The change that is wanted: a collection's key gets this pointer; 0 for none.
-#[derive(Drop)]
+#[derive(Clone, Copy)]
 struct Change {
     collection: u64,
     key: u64,
@@ -86,7 +88,7 @@ fn is_settled(table: &[u64]) -> bool
 // ---- the orders, one by one
 
 // Whether the count of orders holds, and the line, plus 1, that holds unflushed stores then; 0 for none.
-#[derive(Drop)]
+#[derive(Clone, Copy)]
 struct Step {
     holds: bool,
     line: u64,
@@ -219,7 +221,7 @@ fn judge_copy(table: &[u64], list: &[u64], out: &mut [u64], change: Change) -> V
 }
 
 // What the tests before 21 answer: a refusal's number, or how many nodes are reached.
-#[derive(Drop)]
+#[derive(Clone, Copy)]
 enum Tested {
     Refused(u8),
     Passed(u64),

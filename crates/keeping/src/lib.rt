@@ -1,5 +1,7 @@
 // How many pairs a salvage keeps, found without writing to a lent word: at most, in one pass; or exactly, by a bit for each slot of the nodes
 // entered, 12 to a node, each slot compared with those marked before it.
+#![tactic(auto)]
+
 ghost use Rattle.std.specs.Prelude.{◌≡◌, ◌||◌, ◌+◌, ◌*◌, ◌≤◌, ◌<◌, eqb, length};
 ghost use Rattle.model.specs.Table.{nodes};
 ghost use Rattle.model.specs.Slots.{slot};
@@ -39,7 +41,7 @@ pub fn count_used(table: &[u64], order: &[u16]) -> usize
 // ---- pairs kept
 
 // A slot's two words.
-#[derive(Drop)]
+#[derive(Clone, Copy)]
 struct Pair {
     key: u64,
     pointer: u64,

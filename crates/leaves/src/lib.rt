@@ -1,4 +1,6 @@
 // The leaves of a tree: the leftmost and the last one, and the finder of a recording number along the siblings.
+#![tactic(auto)]
+
 ghost use Rattle.std.specs.Prelude.{◌≡◌, ◌≤◌};
 ghost use Rattle.model.specs.Table.{at};
 ghost use Rattle.model.specs.Slots.{view, view_from};
@@ -30,7 +32,7 @@ pub fn ways_of(table: &[u64], n: u64) -> Ways
 }
 
 // Where a recording number is in the map: in which leaf, and at which place among the leaf's slots of the map.
-#[derive(Drop)]
+#[derive(Clone, Copy)]
 pub enum Hit {
     At { node: u64, slot: u64 },
     Nowhere,

@@ -1,4 +1,6 @@
 // A listing: the map's pairs in a range of keys, written into a lent slice while whole pairs fit.
+#![tactic(auto)]
+
 ghost use Rattle.std.specs.Prelude.{◌≡◌, true};
 ghost use Rattle.model.specs.Slots.{slot, view_from};
 ghost use Rattle.model.specs.Reached.{mapping};
@@ -10,14 +12,14 @@ ghost use Rattle.listing.specs.Taking.{sheet, begun, taken, all_taken, wants, wa
 use model::{Listed, Node};
 
 // How far a listing has come: the pairs written, and whether one was left that did not fit.
-#[derive(Drop)]
+#[derive(Clone, Copy)]
 struct Progress {
     count: usize,
     more: bool,
 }
 
 // What is asked of a leaf's slot: a key from low to high, and below the sibling's fence, the bound; with sibling 0 every key is.
-#[derive(Drop)]
+#[derive(Clone, Copy)]
 struct Window {
     low: u64,
     high: u64,

@@ -1,4 +1,6 @@
 // Marks of nodes in a slice, a bit each: a mark less, the first node that is not marked, and whether so many are not.
+#![tactic(auto)]
+
 ghost use Rattle.std.specs.Prelude.{◌≡◌, ◌+◌, ◌-◌, ◌*◌, ◌≤◌, ◌<◌, ltb, length};
 ghost use Rattle.model.specs.Reached.{head_or};
 ghost use Rattle.model.specs.Writes.{numbers};

@@ -1,4 +1,6 @@
 // The header test, reading a node, and making a table.
+#![tactic(auto)]
+
 ghost use Rattle.std.specs.Prelude.{◌≡◌, true, false, ◌&&◌, ◌||◌, ◌+◌, ◌≤◌, eqb, leb, length, take, drop, replicate};
 ghost use Rattle.model.specs.Table.{at, header_ok, header_number, root_word, no_collection, has_node, node, make_number, making, made};
 ghost use Rattle.node.specs.Word.{nodes_in, root_in, number_in, start_of, word_of};

@@ -1,4 +1,6 @@
 // A set of numbers in a slice of cells, by open addressing: 0 is a free cell.
+#![tactic(auto)]
+
 ghost use Rattle.std.specs.Prelude.{◌≡◌, ◌<◌, length};
 ghost use Rattle.numbers.specs.Cells.{mixed, next_cell, outcome, entered};
 
@@ -11,7 +13,7 @@ pub const CELLS: usize = 16384;
 pub const TRIES: usize = 128;
 
 // What entering a number came to. Full says only that its cells are taken; 0 is never entered.
-#[derive(Drop)]
+#[derive(Clone, Copy)]
 pub enum Entry {
     Entered,
     Known,

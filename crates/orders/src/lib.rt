@@ -1,4 +1,6 @@
 // The order list of a write: each store is made on the working copy and listed, after the flush that is due; for dock 1 its barrier follows.
+#![tactic(auto)]
+
 ghost use Rattle.std.specs.Prelude.{◌≡◌, [], ◌∷◌};
 ghost use Rattle.model.specs.Table.{Words};
 ghost use Rattle.model.specs.Orders.{put};
@@ -8,7 +10,7 @@ use model::{BAR, MARK};
 
 // How far a write has come in its list, which is for this dock: the words filled, the line that is open plus 1 (0 for none), and the three
 // counts.
-#[derive(Drop)]
+#[derive(Clone, Copy)]
 pub struct Pen {
     pub dock: u64,
     pub at: usize,

@@ -1,5 +1,7 @@
 // Pairs in the words of a slice packed into the nodes of a table, in place, after the nodes that are made already. Nodes are counted from 0
 // here: node k begins at word 32 * k, its number is k + 1. A slice of nodes is a table without its header.
+#![tactic(auto)]
+
 ghost use Rattle.std.specs.Prelude.{◌≡◌, ◌++◌, suc, min, ◌+◌, ◌-◌, ◌*◌, ◌/◌, ◌≤◌, ◌<◌, length, take, drop, replicate};
 ghost use Rattle.std.proofs.lemmas.List.Edits.{sets};
 ghost use Rattle.model.specs.Packing.{bottom, row_words, packed_count};

@@ -1,5 +1,7 @@
 // A table filled from pairs in rising key order, by the packing that a salvage uses: the pairs are copied behind the nodes that are made
 // already, and packed there.
+#![tactic(auto)]
+
 ghost use Rattle.std.specs.Prelude.{◌≡◌, true, false, ◌++◌, min, ◌+◌, ◌*◌, ◌/◌, ◌≤◌, ltb, length, drop};
 ghost use Rattle.std.proofs.lemmas.List.Edits.{sets};
 ghost use Rattle.model.specs.Slots.{slots_of};
@@ -82,7 +84,7 @@ fn fill(words: &mut [u64], before: usize, pairs: &[u64], top: usize) -> usize
 }
 
 // The roots' numbers, 0 for no second one.
-#[derive(Drop)]
+#[derive(Clone, Copy)]
 struct Roots {
     one: usize,
     two: usize,

@@ -1,5 +1,7 @@
 // Whether the pairs of a slice, a key and a whole pointer each, may be the map of a collection: the keys rise strictly, each recording number
 // and class is in its range, and no recording number is there twice. Half a pair at the end of a slice is none.
+#![tactic(auto)]
+
 ghost use Rattle.std.specs.Prelude.{◌≡◌, map, length, drop};
 ghost use Rattle.model.specs.Slots.{recording, slots_of};
 ghost use Rattle.model.specs.Reached.{filter};

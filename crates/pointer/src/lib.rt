@@ -1,4 +1,6 @@
 // A leaf's pointer: the access class in its top 8 bits, the recording number in its low 56, taken apart and put together.
+#![tactic(auto)]
+
 ghost use Rattle.std.specs.Prelude.{◌≡◌, ◌≤◌, ◌<◌};
 ghost use Rattle.model.specs.Slots.{RECORDINGS, recording_of, class_of, pointer_of, with_class, recording_ok, class_ok, pointer_ok};
 

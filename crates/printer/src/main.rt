@@ -1,4 +1,6 @@
 // The order printer: reads standard input in pieces, hands each to `script`, and writes what that leaves in the buffer.
+#![tactic(auto)]
+
 ghost use Rattle.std.specs.Prelude.{◌≡◌, ◌+◌, ◌*◌, ◌≤◌, length};
 ghost use Rattle.model.specs.Printer.{first_desk};
 ghost use Rattle.script.specs.Spoken.{desk_of, silent, After};

@@ -1,4 +1,6 @@
 // The splits of a quick insertion: the nodes of the run, the highest first, each into the next node that the summary does not mark.
+#![tactic(auto)]
+
 ghost use Rattle.std.specs.Prelude.{◌≡◌, cond, [], ◌+◌, ◌*◌, ◌<◌, ◌≤◌, ltb, length, take, drop};
 ghost use Rattle.model.specs.Summary.{full_node, roomy, can_split, going, split_way};
 ghost use Rattle.orders.specs.Desk.{desk, stored_all, Room};
@@ -6,7 +8,7 @@ ghost use Rattle.orders.specs.Desk.{desk, stored_all, Room};
 use orders::Pen;
 
 // An insertion under way: the pen, and the node that takes the next slot.
-#[derive(Drop)]
+#[derive(Clone, Copy)]
 pub struct Going {
     pub pen: Pen,
     pub under: u64,

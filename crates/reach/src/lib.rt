@@ -1,4 +1,6 @@
 // Where a search stands on each level, which nodes are reached, and what is counted before a write. Nothing is written.
+#![tactic(auto)]
+
 ghost use Rattle.std.specs.Prelude.{◌≡◌, true, ℕ, ◌+◌, ◌-◌, ◌≤◌, length};
 ghost use Rattle.model.specs.Table.{at, nodes, root_word};
 ghost use Rattle.model.specs.Slots.{view_from, view};
@@ -19,7 +21,7 @@ use slots::Ways;
 pub const MARKS: usize = 1024;
 
 // The unbroken run of full nodes from the leaf upward: its length, and whether it includes the root.
-#[derive(Drop)]
+#[derive(Clone, Copy)]
 pub struct Run {
     pub length: u64,
     pub root: bool,

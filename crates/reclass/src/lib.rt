@@ -1,4 +1,6 @@
 // The class change call: repair, then the class is stored in the pointer of the key's slot.
+#![tactic(auto)]
+
 ghost use Rattle.std.specs.Prelude.{◌≡◌, length};
 ghost use Rattle.model.specs.Writes.{class_change};
 ghost use Rattle.model.specs.Refusals.{written, table_after, list_after};

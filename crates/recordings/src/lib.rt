@@ -1,5 +1,7 @@
 // Whether the recording numbers and classes of the leaves among marked nodes are right: each in its range, no recording number twice. Nodes
 // are passed by number, in the order of memory.
+#![tactic(auto)]
+
 ghost use Rattle.std.specs.Prelude.{◌≡◌, true, false, cond, map, ◌+◌, ◌-◌, ◌≤◌, ◌<◌, length};
 ghost use Rattle.model.specs.Table.{nodes, header_ok};
 ghost use Rattle.model.specs.Slots.{recording_of, recording, view, pointer_ok};

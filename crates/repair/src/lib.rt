@@ -1,4 +1,6 @@
 // The repair call.
+#![tactic(auto)]
+
 ghost use Rattle.std.specs.Prelude.{◌≡◌, length};
 ghost use Rattle.model.specs.Writes.{repair};
 ghost use Rattle.model.specs.Refusals.{written, table_after, list_after};

@@ -1,5 +1,7 @@
 // Salvage into a fresh table: what can be read of a damaged table, packed into a second slice, and a report of what was dropped. Collection 1
 // comes first, in the tour, in the new nodes and in the report.
+#![tactic(auto)]
+
 ghost use Rattle.std.specs.Prelude.{◌≡◌, true, ◌+◌, ◌*◌, ◌≤◌, ltb, length};
 ghost use Rattle.model.specs.Table.{header_ok, nodes};
 ghost use Rattle.model.specs.Packing.{packed_count, packed_table};
@@ -11,7 +13,7 @@ ghost use Rattle.salvage.specs.Parts.{Toured, needed_both, Most, Fits, Reported}
 use model::Salvaged;
 
 // How many nodes were entered: for collection 1, and in all.
-#[derive(Drop)]
+#[derive(Clone, Copy)]
 struct Counts {
     first: usize,
     all: usize,
@@ -52,7 +54,7 @@ fn needed_both(table: &[u64], one: usize, two: usize) -> usize
 }
 
 // Numbers of pairs, for each collection.
-#[derive(Drop)]
+#[derive(Clone, Copy)]
 struct Pairs {
     one: usize,
     two: usize,
@@ -81,7 +83,7 @@ fn most_kept(table: &[u64], top: u64, order: &[u16], first: usize, all: usize) -
 // ---- the new table
 
 // What a collection's nodes come to: the root's number, and how many slots were dropped.
-#[derive(Drop)]
+#[derive(Clone, Copy)]
 struct Filled {
     root: usize,
     dropped: usize,
@@ -115,7 +117,7 @@ fn fill(
 }
 
 // The roots' numbers, 0 for no second one, and how many slots were dropped.
-#[derive(Drop)]
+#[derive(Clone, Copy)]
 struct Rebuilt {
     one: usize,
     two: usize,

@@ -1,5 +1,7 @@
 // The order printer, but for reading its input and writing its output: each call takes what was read, and leaves what is to be written
 // in a lent buffer.
+#![tactic(auto)]
+
 ghost use Rattle.std.specs.Prelude.{◌≡◌, ◌+◌, ◌*◌, ◌≤◌, length};
 ghost use Rattle.model.specs.Printer.{first_desk};
 ghost use Rattle.script_bytes.specs.Line.{request};
@@ -10,7 +12,7 @@ use model::Written;
 use script_bytes::{LineState, Request};
 
 // What a piece of the input led to: the line so far, how many of its bytes were used, and how many bytes are to be written.
-#[derive(Drop)]
+#[derive(Clone, Copy)]
 pub struct Said {
     pub line: LineState,
     pub used: usize,

@@ -1,4 +1,6 @@
 // The order printer's bytes: a line read byte by byte, what it asks, and the text of an answer. No table is needed here.
+#![tactic(auto)]
+
 ghost use Rattle.std.specs.Prelude.{◌≡◌, cond, [], ◌∷◌, ◌+◌, ◌*◌, ◌/◌, ◌≤◌, ◌<◌, min, eqb, length, take};
 ghost use Rattle.model.specs.Text.{ascii};
 ghost use Rattle.model.specs.Codes.{is_digit};
@@ -11,7 +13,7 @@ ghost use Rattle.script_bytes.specs.Text.{Put, Begins, order_lines, spoken};
 use model::{MARK, Parsed, Written};
 
 // Where in a line's form its bytes so far end.
-#[derive(Drop)]
+#[derive(Clone, Copy)]
 pub enum Place {
     Start,
     Sign,
@@ -24,7 +26,7 @@ pub enum Place {
 
 // A line so far, of any length: where its form stands, whether its sign is a plus, its code's first 12 bytes and how many bytes
 // the code has (13 for all above 12), and the value of its recording's digits.
-#[derive(Drop)]
+#[derive(Clone, Copy)]
 pub struct LineState {
     pub place: Place,
     pub plus: bool,
@@ -34,7 +36,7 @@ pub struct LineState {
 }
 
 // A piece of the input read up to its first line feed: the line so far, how many bytes were used, and whether the line has ended.
-#[derive(Drop)]
+#[derive(Clone, Copy)]
 pub struct LineRead {
     pub line: LineState,
     pub used: usize,
@@ -42,7 +44,7 @@ pub struct LineRead {
 }
 
 // What a line asks for; a line of another form is refused with 0, a code that is none with 1.
-#[derive(Drop)]
+#[derive(Clone, Copy)]
 pub enum Request {
     Insertion { key: u64, recording: u64 },
     Deletion(u64),

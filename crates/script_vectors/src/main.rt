@@ -1,5 +1,7 @@
 // Reads lines from standard input in pieces of seven bytes and writes what is judged of each; then some inputs of a few bytes,
 // and the lines that the printer prints.
+#![tactic(auto)]
+
 use libc::{STDIN_FILENO, STDOUT_FILENO};
 use script_bytes::{LineRead, LineState, Request};
 

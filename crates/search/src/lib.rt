@@ -1,4 +1,6 @@
 // Search: finding the leaf, the slot in it, and the answer; the next code up. Nothing is written.
+#![tactic(auto)]
+
 ghost use Rattle.std.specs.Prelude.{◌≡◌, true};
 ghost use Rattle.model.specs.Table.{header_ok, node, nodes};
 ghost use Rattle.model.specs.Slots.{view};
@@ -20,7 +22,7 @@ pub fn down(table: &[u64], m: u64, key: u64) -> u64
 }
 
 // What a search sees of the node that it stands on: its number, the way down, and the pointer of the key's slot, 0 for none.
-#[derive(Drop)]
+#[derive(Clone, Copy)]
 pub struct Stood {
     pub node: u64,
     pub way: u64,

@@ -1,4 +1,6 @@
 // The writing calls that take the sentinels: each is the plain call, and then the words of the nodes that it stored to are set.
+#![tactic(auto)]
+
 ghost use Rattle.model.specs.Writes.{insertion, deletion, class_change, repair};
 ghost use Rattle.model.specs.Sentinels.{Leaves};
 

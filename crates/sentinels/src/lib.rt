@@ -1,5 +1,7 @@
 // Sentinels for the leaves, in a slice beside the table, 3 words a node: worked out, set anew where stores went, and taken by a search. They
 // appear in no order list.
+#![tactic(auto)]
+
 ghost use Rattle.std.specs.Prelude.{◌≡◌, true, false, cond, ◌||◌, [], ◌∷◌, ◌+◌, ◌*◌, ◌≤◌, ◌<◌, eqb, ltb, length};
 ghost use Rattle.model.specs.Table.{header_ok, no_collection, node, nodes};
 ghost use Rattle.model.specs.Slots.{view};
@@ -56,7 +58,7 @@ pub fn refusal_any(table: &[u64], words: usize) -> u8
 // ---- one line of a node that begins at word w, by the slot that the line begins with. Only the lines up to it are read.
 
 // What comes before slot first: whether the slots up to it are in use, and the pointer before it.
-#[derive(Drop)]
+#[derive(Clone, Copy)]
 struct Begun {
     there: bool,
     before: u64,

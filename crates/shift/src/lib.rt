@@ -1,4 +1,6 @@
 // Shifts, another class, cutting off, a leaf freed, split and new root on the nodes of the working copy: each store is made and listed.
+#![tactic(auto)]
+
 ghost use Rattle.std.specs.Prelude.{◌≡◌, true, [], ◌∷◌, ◌++◌, ◌+◌, ◌≤◌, ◌<◌, length, drop};
 ghost use Rattle.model.specs.Table.{MARK, at, has_node};
 ghost use Rattle.model.specs.Slots.{view_from, view, height};

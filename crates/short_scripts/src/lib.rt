@@ -1,4 +1,6 @@
 // Every short script: a number's script, a script's number, and all of them run.
+#![tactic(auto)]
+
 ghost use Rattle.std.specs.Prelude.{◌≡◌, true, cond, ◌&&◌, ◌+◌, ◌≤◌, ◌<◌, leb, ltb, length, take, drop};
 ghost use Rattle.model.specs.Table.{all_zero, empty};
 ghost use Rattle.model.specs.Search.{first_above, lookup, search};
@@ -14,7 +16,7 @@ ghost use Rattle.short_scripts.specs.Met.{is_bad, bad_among, Acts, Runs};
 use model::{Answer, Next, Outcome, Ranked, Written};
 
 // Which of the three keys the map has, each with recording 10 plus the key and class 0.
-#[derive(Drop)]
+#[derive(Clone, Copy)]
 struct Held {
     one: bool,
     two: bool,
@@ -22,14 +24,14 @@ struct Held {
 }
 
 // What was met: tables, and of these the bad ones, which agreed with the map neither before nor after the action.
-#[derive(Drop)]
+#[derive(Clone, Copy)]
 pub struct Met {
     pub tables: u64,
     pub bad: u64,
 }
 
 // What an action met, and the map after it.
-#[derive(Drop)]
+#[derive(Clone, Copy)]
 struct Acted {
     tables: u64,
     bad: u64,

@@ -1,4 +1,6 @@
 // The slots of one node, given by value: its slot words, or its record. No table is read, nothing is written.
+#![tactic(auto)]
+
 ghost use Rattle.std.specs.Prelude.{◌≡◌, [], ◌∷◌, pred, ◌≤◌, ◌<◌, length, take};
 ghost use Rattle.model.specs.Slots.{slot};
 ghost use Rattle.model.specs.Search.{route, first_with, first_above};
@@ -121,7 +123,7 @@ fn held_after(held: u64, before: u64, k: u64, p: u64, key: u64) -> u64
 }
 
 // What one look at a node's slots finds for a key: the way down, and the pointer of the first shown slot with the key, 0 for none.
-#[derive(Drop)]
+#[derive(Clone, Copy)]
 pub struct Seen {
     pub way: u64,
     pub held: u64,
@@ -160,7 +162,7 @@ pub fn scan(slots: [u64; 24], left: u64, key: u64, end: usize) -> Seen
 }
 
 // The slot that holds a key: its pointer, or that there is none.
-#[derive(Drop)]
+#[derive(Clone, Copy)]
 pub enum Held {
     Pointer(u64),
     Nothing,
@@ -271,7 +273,7 @@ pub fn above(slots: [u64; 24], left: u64, sibling: u64, bound: u64, key: u64) ->
 }
 
 // The ways down from a node: left, with the node's fence as key, then its kept slots.
-#[derive(Drop)]
+#[derive(Clone, Copy)]
 pub struct Ways {
     pub count: usize,
     pub keys: [u64; 13],
@@ -321,7 +323,7 @@ pub fn gather(x: Node, bound: u64) -> Ways
 
 // What is known after some of a node's slots in use: whether the kept ones rise and come first; whether some are not kept; the key that
 // the next kept one must reach, or exceed if strict; the pointer before it; how many are hidden.
-#[derive(Drop)]
+#[derive(Clone, Copy)]
 pub struct Survey {
     pub fair: bool,
     pub trailing: bool,

@@ -1,4 +1,6 @@
 // The check of a whole table: whether it is sound, what is left over, how many nodes are reached.
+#![tactic(auto)]
+
 ghost use Rattle.std.specs.Prelude.{◌≡◌, true, cond, ◌&&◌, ◌≤◌, length};
 ghost use Rattle.std.proofs.Math.Option.{some};
 ghost use Rattle.model.specs.Table.{header_ok, has_node};
@@ -21,7 +23,7 @@ const MARKS: usize = 1025;
 // ---- one node
 
 // What is seen of a node without its children: whether it is in order, and what is unfinished in it.
-#[derive(Drop)]
+#[derive(Clone, Copy)]
 struct Look {
     alone: bool,
     own: Unfinished,
@@ -378,7 +380,7 @@ fn walk(table: &[u64], root: u64, marks: &mut [u64]) -> Tally
 
 // What a sound table has left: nothing; a hidden slot in a node; a node whose sibling lacks its slot in the parent, and whether it still
 // shows slots from that sibling's fence up; such a node, and a hidden slot in the parent.
-#[derive(Drop)]
+#[derive(Clone, Copy)]
 pub enum Leftover {
     Nothing,
     HiddenIn(u64),
@@ -394,14 +396,14 @@ pub enum Leftover {
 }
 
 // What is unfinished: one of the leftovers, or more than that.
-#[derive(Drop)]
+#[derive(Clone, Copy)]
 enum Verdict {
     Allowed(Leftover),
     TooMuch,
 }
 
 // What the check of a table answers: the leftover and the number of nodes reached, if it is sound.
-#[derive(Drop)]
+#[derive(Clone, Copy)]
 pub enum Checked {
     Unsound,
     Sound { leftover: Leftover, reached: u64 },

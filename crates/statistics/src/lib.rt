@@ -1,4 +1,6 @@
 // The check of a whole table as a call: whether it is sound, what is left over, and how much of it each collection uses.
+#![tactic(auto)]
+
 ghost use Rattle.std.specs.Prelude.{◌≡◌, true, cond, ◌+◌, ◌≤◌, length, replicate, eqb};
 ghost use Rattle.std.proofs.Math.Option.{some};
 ghost use Rattle.model.specs.Table.{at, header_ok};
@@ -49,7 +51,7 @@ fn codes_of(table: &[u64], root: u64) -> u64
 // ---- one collection
 
 // What a collection has: nodes reached, codes in its map, levels.
-#[derive(Drop)]
+#[derive(Clone, Copy)]
 struct Tree {
     nodes: u64,
     codes: u64,
@@ -93,7 +95,7 @@ fn second_tree(table: &[u64], nodes: u64) -> Tree
 
 // Document 01's leftover by numbers: its kind, its collection; the node with the hidden slot, and the slot; the node that lacks its slot in
 // the parent, its left neighbour, and the parent; the slots that the neighbour shows from the node's fence up.
-#[derive(Drop)]
+#[derive(Clone, Copy)]
 struct Left {
     kind: u64,
     collection: u64,
@@ -178,7 +180,7 @@ fn left_of(table: &[u64], collection: u64, left: Leftover) -> Left
 // ---- the whole table
 
 // The nodes of the first collection, and which collection has the leftover of the table.
-#[derive(Drop)]
+#[derive(Clone, Copy)]
 struct First {
     nodes: u64,
     left_in: u64,

@@ -33,7 +33,7 @@ use Rattle.tree_laws.proofs.Leftovers.{NothingUnfinished}
 use Rattle.cut_laws.proofs.Applying.{apply-append}
 use Rattle.change_laws.proofs.Updates.{update-at, update-off, with_shown, with_hidden, with_sibling, sibling-change}
 use Rattle.change_laws.proofs.Parts.{has-left-iff, all-finished, Keeps}
-use Rattle.change_laws.proofs.Hidden.{hide-missing}
+use Rattle.change_laws.proofs.Hiding.{hide-missing}
 use Rattle.change_laws.proofs.Parents.{child-reached, child-level, distinct-children}
 use Rattle.change_laws.proofs.Detach.{detach, child-next, before-child}
 use Rattle.change_laws.proofs.Splice.{splice, mem-splice}

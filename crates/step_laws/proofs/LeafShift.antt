@@ -33,7 +33,7 @@ use Rattle.tree_laws.proofs.SearchLaw.{leaf_for, leaf-mem, leaf-covers}
 use Rattle.tree_laws.proofs.PlaceOf.{standing-leaf}
 use Rattle.change_laws.proofs.Updates.{with_shown, with_hidden}
 use Rattle.change_laws.proofs.Parts.{leaf-iff, Settles}
-use Rattle.change_laws.proofs.Hidden.{hide}
+use Rattle.change_laws.proofs.Hiding.{hide}
 use Rattle.change_laws.proofs.Pairs.{slot_to}
 use Rattle.change_laws.proofs.LeafSlots.{NewPair, enter-leaf, enter-fresh, leave-leaf, leave-place, ClassPlace, class-leaf}
 use Rattle.step_laws.proofs.Phase.{Phase}

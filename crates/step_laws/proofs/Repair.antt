@@ -30,7 +30,7 @@ use Rattle.tree_laws.proofs.Leftovers.{MissingOnly, gap-children}
 use Rattle.cut_laws.specs.Inside.{StoresInside}
 use Rattle.change_laws.proofs.Updates.{with_shown, with_hidden}
 use Rattle.change_laws.proofs.Parts.{has-left-iff, Keeps}
-use Rattle.change_laws.proofs.Hidden.{unhide, hide-missing, unhide-missing}
+use Rattle.change_laws.proofs.Hiding.{unhide, hide-missing, unhide-missing}
 use Rattle.change_laws.proofs.Cut.{kept-take, cut-keeps}
 use Rattle.change_laws.proofs.Parents.{child-reached, child-level}
 use Rattle.change_laws.proofs.Attach.{attach-fresh, attach-settles}

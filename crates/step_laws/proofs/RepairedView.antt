@@ -27,7 +27,7 @@ use Rattle.tree_laws.proofs.Leftovers.{NoneTrailing, HiddenOnly}
 use Rattle.cut_laws.proofs.Applying.{apply-append, apply-nil}
 use Rattle.change_laws.proofs.Updates.{with_hidden}
 use Rattle.change_laws.proofs.Parts.{has-left-iff, Keeps}
-use Rattle.change_laws.proofs.Hidden.{unhide, unhide-missing}
+use Rattle.change_laws.proofs.Hiding.{unhide, unhide-missing}
 use Rattle.change_laws.proofs.Cut.{cut-keeps}
 use Rattle.change_laws.proofs.Pairs.{slot_in}
 use Rattle.change_laws.proofs.Attach.{attach-settles}

@@ -1,1 +1,2 @@
 // Laws of a table's words, in proofs/; no code.
+#![tactic(auto)]

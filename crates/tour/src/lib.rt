@@ -1,4 +1,6 @@
 // The tour of a salvage: the nodes entered, in order. A stack of nodes, each with the way to look at next, stands for what is still to be met.
+#![tactic(auto)]
+
 ghost use Rattle.std.specs.Prelude.{◌≡◌, ◌++◌, pred, ◌≤◌, length, take};
 ghost use Rattle.model.specs.Table.{nodes, in_range};
 ghost use Rattle.model.specs.Salvage.{under_fence, entered_from};
@@ -7,7 +9,7 @@ ghost use Rattle.tour.specs.Loop.{Looked, Marked, Ready, pointer_before, unmarke
 use model::Node;
 
 // What a way leads to: a node and the level that it must have, if it meets one; and the way after it.
-#[derive(Drop)]
+#[derive(Clone, Copy)]
 struct Sight {
     meets: bool,
     node: u64,

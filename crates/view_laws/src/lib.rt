@@ -1,1 +1,2 @@
 // Laws on what is read of the nodes of a table, in proofs/. No code.
+#![tactic(auto)]

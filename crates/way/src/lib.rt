@@ -1,11 +1,13 @@
 // The way of a quick call: from a root down to the leaf for a key, by the tests of a search and of the summary. Nothing is written.
+#![tactic(auto)]
+
 ghost use Rattle.std.specs.Prelude.{◌≡◌, true, false, ◌-◌, ◌*◌, ◌<◌, ◌≤◌, length, get_or};
 ghost use Rattle.model.specs.Table.{header_ok, nodes};
 ghost use Rattle.model.specs.Slots.{view_from, view};
 ghost use Rattle.way.specs.Ways.{plain_count, shown_fit, step_of, run_after, lost_way, Walked};
 
 // A node on the way: its number, the way down from it, and how many slots it shows; node 0 if a test fails.
-#[derive(Drop)]
+#[derive(Clone, Copy)]
 struct Step {
     node: u64,
     way: u64,
@@ -13,7 +15,7 @@ struct Step {
 }
 
 // The nodes that a search stands on, from the root's level down, and the length of the run of full nodes that ends them.
-#[derive(Drop)]
+#[derive(Clone, Copy)]
 pub struct Way {
     pub ok: bool,
     pub height: u64,

@@ -1,4 +1,6 @@
 // Wear figures: how often an order list stores to each line of a table, and which words it stores to.
+#![tactic(auto)]
+
 ghost use Rattle.std.specs.Prelude.{◌≡◌, ◌||◌, [], ◌∷◌, ℕ, ◌+◌, ◌-◌, ◌*◌, ◌%◌, ◌<◌, ◌≤◌, length};
 ghost use Rattle.std.specs.Bool.{beq};
 ghost use Rattle.model.specs.Table.{MARK, at};
@@ -16,7 +18,7 @@ use model::{MARK, Worn};
 const MARKS: usize = 32768;
 
 // The most stores to a line, and the first line that has so many.
-#[derive(Drop)]
+#[derive(Clone, Copy)]
 struct Most {
     largest: u64,
     first: usize,

@@ -1,4 +1,6 @@
 // What every writing call begins with: its refusals 2, 17, 4, 18 and 5, the first pen and the repair; and whether a map has a key.
+#![tactic(auto)]
+
 ghost use Rattle.std.specs.Prelude.{◌≡◌, true, false};
 ghost use Rattle.std.proofs.Math.Option.{some};
 ghost use Rattle.model.specs.Table.{header_ok, no_collection};
@@ -16,7 +18,7 @@ use slots::Held;
 use sound::{Checked, Leftover};
 
 // What the tests that all writing calls share answer: a refusal's number, or what repair has to do and how many nodes are reached.
-#[derive(Drop)]
+#[derive(Clone, Copy)]
 pub enum Judged {
     Refused(u8),
     Ready { left: Leftover, reached: u64 },
