@@ -13,78 +13,78 @@ use Rattle.node.proofs.Roots.{fits-two, fits-not, root-refused, root-first, root
 use Rattle.node.proofs.root.Statement.{statement}
 use Rattle.node.proofs.root.Tie as tie
 
-abbrev invariant-loop : tie.invariant-loop
+abbrev invariant-loop : tie.invariant-loop-w
 invariant-loop table collection n w₀ w = LengthFacts (length table) n × (4 ≤ w) × (w ≤ 8) × ((k : ℕ) → k < w → 4 ≤ k → at table k ≡ 0)
 
-abbrev decreases-loop : tie.decreases-loop
+abbrev decreases-loop : tie.decreases-loop-w
 decreases-loop table collection n w₀ w = 8 - w
 
-sized : (c : tie.Else1 invariant-loop decreases-loop) → LengthFacts (length c.before.before.before.args.table.now) c.before.nodes-in.result
-sized c = nodes-in-found _ _ c.before.nodes-in.ensures c.if1.false
+sized : (c : tie.Else-n-eq0 invariant-loop decreases-loop) → LengthFacts (length c.args.table.now) c.nodes_in-n.result
+sized c = nodes-in-found _ _ c.nodes_in-n.ensures c.if-n-eq0.false
 
-returns : tie.Need-returns invariant-loop decreases-loop
-returns c = let t = c.before.before.before.args.table.now in sym (root-refused _ t (λ f. omega (arith, header-nodes t _ c.before.nodes-in.ensures f)))
+returns : tie.Need-returns-then-n-eq0 invariant-loop decreases-loop
+returns c = let t = c.args.table.now in sym (root-refused _ t (λ f. omega (arith, header-nodes t _ c.nodes_in-n.ensures f)))
 
-shared-slice-read-if2 : tie.Need-shared-slice-read-if2 invariant-loop decreases-loop
+shared-slice-read-if2 : tie.Need-bounds-table-0 invariant-loop decreases-loop
 shared-slice-read-if2 c = omega (arith, sized c.before)
 
-returns-2 : tie.Need-returns-2 invariant-loop decreases-loop
+returns-2 : tie.Need-returns-then-table-ne1 invariant-loop decreases-loop
 returns-2 c = sym (root-refused _ _ (λ f. omega arith))
 
-shared-slice-read-if3 : tie.Need-shared-slice-read-if3 invariant-loop decreases-loop
+shared-slice-read-if3 : tie.Need-bounds-table-2 invariant-loop decreases-loop
 shared-slice-read-if3 c = omega (arith, sized c.before.before.before)
 
-returns-3 : tie.Need-returns-3 invariant-loop decreases-loop
-returns-3 c = let t = c.before.before.before.before.before.before.before.args.table.now in sym (root-refused _ t (λ f. omega (arith, header-nodes t _ c.before.before.before.before.before.nodes-in.ensures f)))
+returns-3 : tie.Need-returns-then-table-n invariant-loop decreases-loop
+returns-3 c = let t = c.args.table.now in sym (root-refused _ t (λ f. omega (arith, header-nodes t _ c.nodes_in-n.ensures f)))
 
-loop-holds : tie.Need-loop-init invariant-loop decreases-loop
+loop-holds : tie.Need-loop-w-init invariant-loop decreases-loop
 loop-holds c = (sized c.before.before.before.before, omega arith, omega arith, λ k l u. omega arith)
 
-returns-4 : tie.Need-returns-4 invariant-loop decreases-loop
-returns-4 c = let w = c.before.before.before.loop.w in sym (root-refused _ _ (λ f. omega (arith, f.zeros w (omega arith) (omega arith))))
+returns-4 : tie.Need-returns-then-table-w-ne0 invariant-loop decreases-loop
+returns-4 c = let w = c.loop-w.w in sym (root-refused _ _ (λ f. omega (arith, f.zeros w (omega arith) (omega arith))))
 
-loop-again : tie.Need-loop-preserved invariant-loop decreases-loop
-loop-again c = let inv = c.before.before.before.loop.invariant in (inv.0, omega arith, omega arith, below_more _ _ inv.3 (λ l. c.if4.false))
+loop-again : tie.Need-loop-w-preserved invariant-loop decreases-loop
+loop-again c = let inv = c.loop-w.invariant in (inv.0, omega arith, omega arith, below_more _ _ inv.3 (λ l. c.if-table-w-ne0.false))
 
-returns-5 : tie.Need-returns-5 invariant-loop decreases-loop
+returns-5 : tie.Need-returns-then-first-eq0 invariant-loop decreases-loop
 returns-5 c = sym (root-refused _ _ (λ f. omega arith))
 
-returns-6 : tie.Need-returns-6 invariant-loop decreases-loop
+returns-6 : tie.Need-returns-then-n-first invariant-loop decreases-loop
 returns-6 c = sym (root-refused _ _ (λ f. omega arith))
 
 -- the places: the loop that has ended, and the start
-abbrev ended : tie.Else7 invariant-loop decreases-loop → tie.At-loop invariant-loop decreases-loop
+abbrev ended : tie.Else-not-second_fits invariant-loop decreases-loop → tie.At-loop-w invariant-loop decreases-loop
 ended c = c.before.before.before.before.before.before.before
 
-abbrev entry : tie.At-loop invariant-loop decreases-loop → tie.Start invariant-loop decreases-loop
+abbrev entry : tie.At-loop-w invariant-loop decreases-loop → tie.Start invariant-loop decreases-loop
 entry c = c.before.before.before.before.before.before.before.before
 
-facts : (c : tie.Else7 invariant-loop decreases-loop) → HeaderFacts (entry (ended c)).args.table.now
+facts : (c : tie.Else-not-second_fits invariant-loop decreases-loop) → HeaderFacts (entry (ended c)).args.table.now
 facts c =
-    let inv = (ended c).loop.invariant in
+    let inv = (ended c).loop-w.invariant in
     record {
       size = omega arith;
       first = omega arith;
       zeros = λ w l u. inv.3 w (omega arith) l;
       root-some = omega arith;
       root-in = omega arith;
-      two = λ z. let u = fits-two _ _ (sym (not-false _ c.if7.false) ∙ c.before.second_fits.ensures) z in (omega (arith, u.0), omega (arith, u.1));
+      two = λ z. let u = fits-two _ _ (sym (not-false _ c.if-not-second_fits.false-raw) ∙ c.second_fits.ensures) z in (omega (arith, u.0), omega (arith, u.1));
     }
 
-returns-7 : tie.Need-returns-7 invariant-loop decreases-loop
-returns-7 c = sym (root-refused _ _ (λ f. fits-not _ _ (sym (not-true _ c.if7.true) ∙ c.before.second_fits.ensures) (λ z. let u = f.two z in (omega (arith, u.0), omega (arith, u.1)))))
+returns-7 : tie.Need-returns-then-not-second_fits invariant-loop decreases-loop
+returns-7 c = sym (root-refused _ _ (λ f. fits-not _ _ (sym (not-true _ c.if-not-second_fits.true-raw) ∙ c.second_fits.ensures) (λ z. let u = f.two z in (omega (arith, u.0), omega (arith, u.1)))))
 
-returns-8 : tie.Need-returns-8 invariant-loop decreases-loop
-returns-8 c = rw c.if8.true (sym (root-first _ (facts c.before)))
+returns-8 : tie.Need-returns-then-collection-eq1 invariant-loop decreases-loop
+returns-8 c = rw c.if-collection-eq1.true (sym (root-first _ (facts c.before)))
 
-returns-9 : tie.Need-returns-9 invariant-loop decreases-loop
-returns-9 c = rw c.if9.true (sym (root-second _ (facts c.before.before)))
+returns-9 : tie.Need-returns-then-collection-eq2 invariant-loop decreases-loop
+returns-9 c = rw c.if-collection-eq2.true (sym (root-second _ (facts c.before.before)))
 
-returns-10 : tie.Need-returns-10 invariant-loop decreases-loop
-returns-10 c = sym (root-other _ _ c.before.if8.false c.if9.false)
+returns-10 : tie.Need-returns invariant-loop decreases-loop
+returns-10 c = sym (root-other _ _ c.if-collection-eq1.false c.if-collection-eq2.false)
 
-pub root-spec : {M : Type 1} → statement M
-root-spec =
+pub root_spec : {M : Type 1} → statement M
+root_spec =
     tie.close
     (tie.spec
     invariant-loop

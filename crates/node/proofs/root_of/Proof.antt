@@ -10,17 +10,23 @@ use Rattle.node.proofs.root_of.Tie as tie
 wide : (c : tie.Start) → 8 ≤ length c.args.table.now
 wide c = omega (arith, ((header-iff _).0 c.requires.0).size)
 
-shared-slice-read-result : tie.Need-shared-slice-read-result
+shared-slice-read-result : tie.Need-bounds-table-1
 shared-slice-read-result c = omega (arith, wide c.before.before)
 
-returns : tie.Need-returns
-returns c = first-root _ c.before.before.args.table.now c.before.if1.true
+returns : tie.Need-returns-then-collection-eq1
+returns c = first-root _ c.args.table.now c.if-collection-eq1.true
 
-shared-slice-read-result-2 : tie.Need-shared-slice-read-result-2
+shared-slice-read-result-2 : tie.Need-bounds-table-3
 shared-slice-read-result-2 c = omega (arith, wide c.before.before)
 
-returns-2 : tie.Need-returns-2
-returns-2 c = second-root _ _ c.before.before.requires.1 c.before.if1.false
+returns-2 : tie.Need-returns
+returns-2 c = second-root _ _ c.requires.1 c.if-collection-eq1.false
 
-pub root-of-spec : {M : Type 1} → statement M
-root-of-spec = tie.close (tie.spec shared-slice-read-result returns shared-slice-read-result-2 returns-2)
+pub root_of_spec : {M : Type 1} → statement M
+root_of_spec =
+    tie.close
+    (tie.spec
+    shared-slice-read-result
+    returns
+    shared-slice-read-result-2
+    returns-2)

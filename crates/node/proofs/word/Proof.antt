@@ -6,29 +6,29 @@ use borrow.Author.Rules.{rules}
 use Rattle.node.proofs.word.Statement.{statement}
 use Rattle.node.proofs.word.Tie as tie
 
-found : (c : tie.Else2) → Found c.before.before.before.before.args.table.now c.before.before.before.before.args.i c.before.start.result
-found c = start-found _ _ _ c.before.start.ensures c.if2.false
+found : (c : tie.Else-w-eq0) → Found c.args.table.now c.args.i c.start-w.result
+found c = start-found _ _ _ c.start-w.ensures c.if-w-eq0.false
 
-returns : tie.Need-returns
+returns : tie.Need-returns-then-j-ge32
 returns c = sym (word-past _ _ _ (omega arith))
 
-returns-2 : tie.Need-returns-2
-returns-2 c = sym (word-none _ _ _ (start-missing _ _ _ c.before.start.ensures c.if2.true))
+returns-2 : tie.Need-returns-then-w-eq0
+returns-2 c = sym (word-none _ _ _ (start-missing _ _ _ c.start-w.ensures c.if-w-eq0.true))
 
-add-result : tie.Need-overflow-add-result
+add-result : tie.Need-overflow_add-result
 add-result c = omega (arith, found c)
 
-mul-result : tie.Need-overflow-mul-result
+mul-result : tie.Need-offset_bounds-table-w
 mul-result c = omega (arith, found c)
 
-shared-slice-read-result : tie.Need-shared-slice-read-result
+shared-slice-read-result : tie.Need-bounds-table-w
 shared-slice-read-result c = omega (arith, found c.before)
 
-returns-3 : tie.Need-returns-3
+returns-3 : tie.Need-returns
 returns-3 c = sym (word-found _ _ _ _ (found c.before) (omega arith))
 
-pub word-spec : {M : Type 1} → statement M
-word-spec =
+pub word_spec : {M : Type 1} → statement M
+word_spec =
     tie.close
     (tie.spec
     returns
