@@ -11,39 +11,32 @@ use Rattle.isrc.proofs.Characters.{every-at}
 use Rattle.isrc.proofs.all_of.Statement.{statement}
 use Rattle.isrc.proofs.all_of.Tie as tie
 
-abbrev invariant-loop : tie.invariant-loop
+abbrev invariant-loop : tie.invariant-loop-i
 invariant-loop kind text i₀ i = (i ≤ length text) × (all (test kind) (drop i text) ≡ all (test kind) text)
 
-abbrev decreases-loop : tie.decreases-loop
+abbrev decreases-loop : tie.decreases-loop-i
 decreases-loop kind text i₀ i = length text - i
 
 -- a turn's character decides with what follows it
-turn : (c : tie.After-is-of invariant-loop decreases-loop) (s : Bool) → c.is-of.result ≡ s
-    → let a = c.before.before.before in
-    let kind = a.before.before.args.kind in
-    let text = a.before.before.args.text.now in
-    (s && all (test kind) (drop (a.loop.i + 1) text)) ≡ all (test kind) text
+turn : (c : tie.After-is_of invariant-loop decreases-loop) (s : Bool) → c.is_of.result ≡ s → let kind = c.args.kind in let text = c.args.text.now in (s && all (test kind) (drop (c.loop-i.i + 1) text)) ≡ all (test kind) text
 turn c s e =
-    let a = c.before.before.before in
-    let kind = a.before.before.args.kind in
-    let text = a.before.before.args.text.now in
-    sym (every-at (test kind) text a.loop.i _ s c.before.before.loop-test.true c.is-of.ensures e) ∙ a.loop.invariant.1
+    let kind = c.args.kind in
+    let text = c.args.text.now in
+    sym (every-at (test kind) text c.loop-i.i _ s c.loop-i-test.true c.is_of.ensures e) ∙ c.loop-i.invariant.1
 
-returns : tie.Need-returns invariant-loop decreases-loop
-returns c = turn c.before _ (not-true _ c.if1.true)
+returns : tie.Need-returns-then-not-is_of invariant-loop decreases-loop
+returns c = turn c.before _ (not-true _ c.if-not-is_of.true-raw)
 
-loop-again : tie.Need-loop-preserved invariant-loop decreases-loop
-loop-again c = (search rules, turn c.before _ (not-false _ c.if1.false))
+loop-again : tie.Need-loop-i-preserved invariant-loop decreases-loop
+loop-again c = (search rules, turn c.before _ (not-false _ c.if-not-is_of.false-raw))
 
-returns-2 : tie.Need-returns-2 invariant-loop decreases-loop
+returns-2 : tie.Need-returns invariant-loop decreases-loop
 unfolding all
-returns-2 c =
-    let s = c.before.before.before in
-    let e = drop_of_length-le s.args.text.now c.loop-test.false in
-    sym (ap (all (test s.args.kind)) e) ∙ c.before.loop.invariant.1
+returns-2 c = let e = drop_of_length-le c.args.text.now c.loop-i-test.false in
+    sym (ap (all (test c.args.kind)) e) ∙ c.loop-i.invariant.1
 
-pub all-of-spec : {M : Type 1} → statement M
-all-of-spec =
+pub all_of_spec : {M : Type 1} → statement M
+all_of_spec =
     tie.close
     (tie.spec
     invariant-loop

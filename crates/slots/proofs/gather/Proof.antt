@@ -13,63 +13,55 @@ use borrow.Author.Rules.{rules}
 use Rattle.slots.proofs.gather.Statement.{statement}
 use Rattle.slots.proofs.gather.Tie as tie
 
-abbrev invariant-loop : tie.invariant-loop
+abbrev invariant-loop : tie.invariant-loop-i
 invariant-loop x bound slots keys₀ pointers₀ count₀ before₀ i₀ keys pointers count before i =
     (i ≤ 12) × (length slots ≡ 24) × (count ≤ i + 1) × (length keys ≡ 13) × (length pointers ≡ 13)
     × (span keys pointers 0 count ++ kept_of x.sibling bound (shown_from before slots i) ≡ slot x.fence x.left ∷ kept_of x.sibling bound (shown_from x.left slots 0))
 
-abbrev decreases-loop : tie.decreases-loop
+abbrev decreases-loop : tie.decreases-loop-i
 decreases-loop x bound slots keys₀ pointers₀ count₀ before₀ i₀ keys pointers count before i = 12 - i
 
 -- what the ways so far and slots come to
-abbrev comes : tie.At-loop invariant-loop decreases-loop → List Slot → List Slot
-comes c ss = let a = c.before.before.args in let l = c.loop in span l.keys l.pointers 0 l.count ++ kept_of a.x.sibling a.bound (shown l.before ss)
+abbrev comes : tie.At-loop-i invariant-loop decreases-loop → List Slot → List Slot
+comes c ss = let a = c.args in let l = c.loop-i in span l.keys l.pointers 0 l.count ++ kept_of a.x.sibling a.bound (shown l.before ss)
 
 -- the state at the head of the loop
-abbrev turn : tie.After-is-way invariant-loop decreases-loop → tie.At-loop invariant-loop decreases-loop
+abbrev turn : tie.After-is_way-way invariant-loop decreases-loop → tie.At-loop-i invariant-loop decreases-loop
 turn c = c.before.before.before
 
-loop-holds : tie.Need-loop-init invariant-loop decreases-loop
+loop-holds : tie.Need-loop-i-init invariant-loop decreases-loop
 loop-holds c = (omega arith, search rules, omega arith, search rules, search rules, first-way _ _ _)
 
-returns : tie.Need-returns invariant-loop decreases-loop
-returns c =
-    let l = c.before.before in
-    (sym (ways-none _ _ l.loop.before _) ∙ scan-stop (comes l) _ l.loop.i l.loop.invariant.5 (omega arith) c.if1.true, omega arith)
+returns : tie.Need-returns-then-pointer-eq0 invariant-loop decreases-loop
+returns c = (sym (ways-none _ _ c.loop-i.before _) ∙ scan-stop (comes c.before.before) _ c.loop-i.i c.loop-i.invariant.5 (omega arith) c.if-pointer-eq0.true, omega arith)
 
-loop-again : tie.Need-loop-preserved invariant-loop decreases-loop
-loop-again c =
-    let w = c.before in
-    let l = (turn w).loop in (
-      omega arith,
-      l.inv.1,
-      omega arith,
-      simp length-set l.inv.3,
-      simp length-set l.inv.4,
-      scan-more (comes (turn w)) _ l.i l.inv.5 (omega arith) w.before.if1.false
-          (way-taken _ _ _ _ _ _ _ _ _ _ w.is-way.ensures c.if2.true (omega arith) (omega arith)),
-    )
+loop-again : tie.Need-loop-i-preserved-then-way invariant-loop decreases-loop
+loop-again c = let l = c.loop-i in (
+  omega arith,
+  l.invariant.1,
+  omega arith,
+  simp length-set l.invariant.3,
+  simp length-set l.invariant.4,
+  scan-more (comes c.before.before.before.before) _ l.i l.invariant.5 (omega arith) c.if-pointer-eq0.false
+      (way-taken _ _ _ _ _ _ _ _ _ _ c.is_way-way.ensures c.if-way.true (omega arith) (omega arith)),
+)
 
-loop-again-2 : tie.Need-loop-preserved-2 invariant-loop decreases-loop
-loop-again-2 c =
-    let w = c.before in
-    let l = (turn w).loop in (
-      omega arith,
-      l.inv.1,
-      omega arith,
-      l.inv.3,
-      l.inv.4,
-      scan-more (comes (turn w)) _ l.i l.inv.5 (omega arith) w.before.if1.false
-          (way-passed _ _ _ _ _ _ _ _ _ _ w.is-way.ensures c.if2.false),
-    )
+loop-again-2 : tie.Need-loop-i-preserved invariant-loop decreases-loop
+loop-again-2 c = let l = c.loop-i in (
+  omega arith,
+  l.invariant.1,
+  omega arith,
+  l.invariant.3,
+  l.invariant.4,
+  scan-more (comes c.before.before.before.before) _ l.i l.invariant.5 (omega arith) c.if-pointer-eq0.false
+      (way-passed _ _ _ _ _ _ _ _ _ _ c.is_way-way.ensures c.if-way.false),
+)
 
-returns-2 : tie.Need-returns-2 invariant-loop decreases-loop
-returns-2 c =
-    let l = c.before in
-    (sym (ways-none _ _ l.loop.before _) ∙ scan-past (comes l) _ l.loop.i l.loop.invariant.5 (omega arith), omega arith)
+returns-2 : tie.Need-returns invariant-loop decreases-loop
+returns-2 c = (sym (ways-none _ _ c.loop-i.before _) ∙ scan-past (comes c.before) _ c.loop-i.i c.loop-i.invariant.5 (omega arith), omega arith)
 
-pub gather-spec : {M : Type 1} → statement M
-gather-spec =
+pub gather_spec : {M : Type 1} → statement M
+gather_spec =
     tie.close
     (tie.spec
     invariant-loop

@@ -12,38 +12,34 @@ use borrow.Author.Rules.{rules}
 use Rattle.slots.proofs.kept_count.Statement.{statement}
 use Rattle.slots.proofs.kept_count.Tie as tie
 
-abbrev invariant-loop : tie.invariant-loop
+abbrev invariant-loop : tie.invariant-loop-i
 invariant-loop left sibling bound slots count₀ before₀ i₀ count before i =
     (i ≤ 12) × (length slots ≡ 24) × (count ≤ i)
     × (count + length (kept_of sibling bound (shown_from before slots i)) ≡ length (kept_of sibling bound (shown_from left slots 0)))
 
-abbrev decreases-loop : tie.decreases-loop
+abbrev decreases-loop : tie.decreases-loop-i
 decreases-loop left sibling bound slots count₀ before₀ i₀ count before i = 12 - i
 
 -- what the count so far and slots come to
-abbrev counts : tie.At-loop invariant-loop decreases-loop → List Slot → ℕ
-counts c ss = let a = c.before.args in let l = c.loop in l.count + length (kept_of a.sibling a.bound (shown l.before ss))
+abbrev counts : tie.At-loop-i invariant-loop decreases-loop → List Slot → ℕ
+counts c ss = let a = c.args in let l = c.loop-i in l.count + length (kept_of a.sibling a.bound (shown l.before ss))
 
-returns : tie.Need-returns invariant-loop decreases-loop
-returns c =
-    let l = c.before.before in
-    sym (count-none _ _ _ l.loop.before) ∙ scan-stop (counts l) _ l.loop.i l.loop.invariant.3 (omega arith) c.if1.true
+returns : tie.Need-returns-then-p-eq0 invariant-loop decreases-loop
+returns c = sym (count-none _ _ _ c.loop-i.before) ∙ scan-stop (counts c.before.before) _ c.loop-i.i c.loop-i.invariant.3 (omega arith) c.if-p-eq0.true
 
-loop-again : tie.Need-loop-preserved invariant-loop decreases-loop
-loop-again c =
-    let l = c.before.before.before in
-    let q = c.count-after.ensures in (
-      omega arith,
-      l.loop.invariant.1,
-      omega (arith, count-most _ _ _ _ _ _ _ q),
-      scan-more (counts l) _ l.loop.i l.loop.invariant.3 (omega arith) c.before.if1.false (count-more _ _ _ _ _ _ _ _ q),
-    )
+loop-again : tie.Need-loop-i-preserved invariant-loop decreases-loop
+loop-again c = let q = c.count_after-count.ensures in (
+  omega arith,
+  c.loop-i.invariant.1,
+  omega (arith, count-most _ _ _ _ _ _ _ q),
+  scan-more (counts c.before.before.before) _ c.loop-i.i c.loop-i.invariant.3 (omega arith) c.if-p-eq0.false (count-more _ _ _ _ _ _ _ _ q),
+)
 
-returns-2 : tie.Need-returns-2 invariant-loop decreases-loop
-returns-2 c = let l = c.before in sym (count-none _ _ _ l.loop.before) ∙ scan-past (counts l) _ l.loop.i l.loop.invariant.3 (omega arith)
+returns-2 : tie.Need-returns invariant-loop decreases-loop
+returns-2 c = sym (count-none _ _ _ c.loop-i.before) ∙ scan-past (counts c.before) _ c.loop-i.i c.loop-i.invariant.3 (omega arith)
 
-pub kept-count-spec : {M : Type 1} → statement M
-kept-count-spec =
+pub kept_count_spec : {M : Type 1} → statement M
+kept_count_spec =
     tie.close
     (tie.spec
     invariant-loop

@@ -13,45 +13,39 @@ use borrow.Author.Rules.{rules}
 use Rattle.slots.proofs.scan.Statement.{statement}
 use Rattle.slots.proofs.scan.Tie as tie
 
-abbrev invariant-loop : tie.invariant-loop
+abbrev invariant-loop : tie.invariant-loop-i
 invariant-loop left key end slots way₀ held₀ before₀ i₀ way held before i =
     (i ≤ end) × (end ≤ 12) × (used_from slots end ≡ []) × (length slots ≡ 24)
     × (seen_after key way held (shown before (used_from slots i)) ≡ seen_after key left 0 (shown left (used_from slots 0)))
 
-abbrev decreases-loop : tie.decreases-loop
+abbrev decreases-loop : tie.decreases-loop-i
 decreases-loop left key end slots way₀ held₀ before₀ i₀ way held before i = end - i
 
 -- what was seen so far and slots come to
-abbrev says : tie.At-loop invariant-loop decreases-loop → List Slot → Seen
-says c ss = let l = c.loop in seen_after c.before.args.key l.way l.held (shown l.before ss)
+abbrev says : tie.At-loop-i invariant-loop decreases-loop → List Slot → Seen
+says c ss = let l = c.loop-i in seen_after c.args.key l.way l.held (shown l.before ss)
 
-returns : tie.Need-returns invariant-loop decreases-loop
-returns c =
-    let l = c.before.before in
-    let e = sym (seen-none _ l.loop.way l.loop.held l.loop.before) ∙ scan-stop (says l) _ l.loop.i l.loop.invariant.4 (omega arith) c.if1.true in
+returns : tie.Need-returns-then-p-eq0 invariant-loop decreases-loop
+returns c = let e = sym (seen-none _ c.loop-i.way c.loop-i.held c.loop-i.before) ∙ scan-stop (says c.before.before) _ c.loop-i.i c.loop-i.invariant.4 (omega arith) c.if-p-eq0.true in
     (ap (λ (s : Seen). s.way) e, ap (λ (s : Seen). s.held) e)
 
-loop-again : tie.Need-loop-preserved invariant-loop decreases-loop
-loop-again c =
-    let w = c.before in
-    let l = w.before.before.before in (
-      omega arith,
-      l.loop.invariant.1,
-      l.loop.invariant.2,
-      l.loop.invariant.3,
-      scan-more (says l) _ l.loop.i l.loop.invariant.4 (omega arith) w.before.if1.false
-          (seen-more _ _ _ _ _ _ _ _ _ w.before.if1.false w.way-after.ensures c.held_after.ensures),
-    )
+loop-again : tie.Need-loop-i-preserved invariant-loop decreases-loop
+loop-again c = (
+  omega arith,
+  c.loop-i.invariant.1,
+  c.loop-i.invariant.2,
+  c.loop-i.invariant.3,
+  scan-more (says c.before.before.before.before) _ c.loop-i.i c.loop-i.invariant.4 (omega arith) c.if-p-eq0.false
+      (seen-more _ _ _ _ _ _ _ _ _ c.if-p-eq0.false c.way_after-way.ensures c.held_after-held.ensures),
+)
 
-returns-2 : tie.Need-returns-2 invariant-loop decreases-loop
-returns-2 c =
-    let l = c.before in
-    let i : l.loop.i ≡ l.before.args.end = omega arith in
-    let e = sym (seen-none _ l.loop.way l.loop.held l.loop.before) ∙ sym (ap (says l) (ap (used_from _) i ∙ l.loop.invariant.2)) ∙ l.loop.invariant.4 in
+returns-2 : tie.Need-returns invariant-loop decreases-loop
+returns-2 c = let i : c.loop-i.i ≡ c.args.end = omega arith in
+    let e = sym (seen-none _ c.loop-i.way c.loop-i.held c.loop-i.before) ∙ sym (ap (says c.before) (ap (used_from _) i ∙ c.loop-i.invariant.2)) ∙ c.loop-i.invariant.4 in
     (ap (λ (s : Seen). s.way) e, ap (λ (s : Seen). s.held) e)
 
-pub scan-spec : {M : Type 1} → statement M
-scan-spec =
+pub scan_spec : {M : Type 1} → statement M
+scan_spec =
     tie.close
     (tie.spec
     invariant-loop

@@ -1,0 +1,44 @@
+-- `isrc::write_digits` meets its contract. The loop's invariant: the digits that are still to be written, then what is written, are the whole.
+use borrow.Author.Rules.{rules}
+use mathlib.Core.Path.{◌≡◌, refl, ◌∙◌}
+use mathlib.Core.List.{List, ◌∷◌, ◌++◌, map, append-nil, append_assoc, map-append}
+use Prim.Native.Nat.{ℕ, zero, suc, ◌/◌, ◌%◌, ◌≤◌, ◌<◌, ◌-◌}
+use native.Mathlib.Nat.{mod-lt, le_refl}
+use native.Mathlib.Omega.{arith}
+use lib.ListN.{length, drop, set, length-set}
+use lib.Seq.{lt-length-set, drop-length, drop-cons, get_or-set_same, drop-set-lt}
+use Rattle.model.specs.Codes.{character, digits}
+use Rattle.isrc.proofs.write_digits.Goals as goal
+
+drop-set : (text : List ℕ) (i v : ℕ) → i < length text → drop i (set text i v) ≡ v ∷ drop (suc i) text
+drop-set text i v l =
+    rw (drop-cons (set text i v) i 0 (lt-length-set text i v l), get_or-set_same text i v 0 l, drop-set-lt (suc i) text i v (le_refl (suc i)))
+
+-- the last of the i digits that are still to be written goes to place i - 1
+write : (base left i v : ℕ) (text : List ℕ) → 0 < i → i ≤ length text → v ≡ character (left % base) → map character (digits base (i - 1) (left / base)) ++ drop (i - 1) (set text (i - 1) v) ≡ map character (digits base i left) ++ drop i text
+unfolding digits
+write base left zero v text h l e = absurd (omega arith)
+write base left (suc i) v text h l e =
+    let p : suc i - 1 ≡ i = omega arith in
+    rw (p, drop-set text i v l, map-append, append_assoc, e)
+
+-- with no digit left the text is written
+done : (base left i : ℕ) (text : List ℕ) → i ≤ 0 → text ≡ map character (digits base i left) ++ drop i text
+unfolding digits
+done base left zero text h = refl
+done base left (suc i) text h = absurd (omega arith)
+
+pub loop-i-init : goal.loop-i-init
+loop-i-init c = (search rules, search rules, rw (drop-length, append-nil))
+
+pub character_of-requires : goal.character_of-requires
+character_of-requires c = omega (arith, mod-lt c.loop-i.left c.requires.0)
+
+pub loop-i-preserved : goal.loop-i-preserved
+loop-i-preserved c = let e =
+    write c.args.base c.loop-i.left c.loop-i.i c.character_of.result c.loop-i.text c.loop-i-test.true
+    c.loop-i.invariant.0 c.character_of.ensures in
+    (rw length-set (omega arith), search rules, e ∙ c.loop-i.invariant.2)
+
+pub returns : goal.returns
+returns c = done c.args.base c.loop-i.left c.loop-i.i c.loop-i.text c.loop-i-test.false ∙ c.loop-i.invariant.2

@@ -1,0 +1,14 @@
+-- `pointer::with_class` meets its contract.
+use mathlib.Core.Path.{ap, ◌∙◌}
+use Prim.Native.Nat.{ℕ}
+use Rattle.model.specs.Slots.{pointer_of}
+use Rattle.pointer.proofs.Tests.{is-below}
+use Rattle.pointer.proofs.with_class.Goals as goal
+
+-- recording-requires
+
+pub join-requires : goal.join-requires
+join-requires c = record { recording_bound = is-below _ _ c.recording.ensures; access_bound = c.requires }
+
+pub returns : goal.returns
+returns c = c.join.ensures ∙ ap (λ (r : ℕ). pointer_of r c.args.access) c.recording.ensures
