@@ -45,6 +45,7 @@ module _ (v : View) where
 
   end-of : (e n : ℕ) (ns : List ℕ) → linked v ns 0 ≡ true → Each Some ns → Memᴰ n ns → End n (last_or e ns)
   unfolding last_or
+  end-of e n [] l s h = elim h [ ]
   end-of e n (m ∷ ms) l s (Memᴰ.head q) = record { rest = ms; chain = rw q l; some = s.1; last = rw q }
   end-of e n (m ∷ ms) l s (Memᴰ.tail h) = end-of m n ms ((linked-cons v m ms 0).0 l).1 s.1 h
 

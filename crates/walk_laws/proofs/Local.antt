@@ -1,5 +1,5 @@
 -- Every visit fits exactly if the first one does and every node below is in order.
-use mathlib.Core.Path.{◌≡◌, refl, ap, sym, ◌∙◌}
+use mathlib.Core.Path.{◌≡◌, refl, ap, sym, subst, ◌∙◌}
 use mathlib.Core.Bool.{Bool, true, false}
 use mathlib.Core.Logic.{◌↔◌}
 use mathlib.Core.List.{List, [], ◌∷◌, map}
@@ -150,7 +150,7 @@ unfolding node_ok inner_ok all slot_ok
 good-children v d n e h =
     let u = simp and-iff at (rw (ne_eqb (v.node n).level 0 (λ z. omega arith)) at (simp and-iff at h).1.1) in
     let q = children-inner v d n e in
-    record { names = rw (← e) (simp and-iff (u.1.0, u.1.1.0)); range = rw (← q) u.1.1.1.0; chain = rw (← q) u.1.1.1.1 }
+    record { names = subst (λ (l : ℕ). all (slot_ok v l) (ways v n) ≡ true) e (simp and-iff (u.1.0, u.1.1.0)); range = rw (← q) u.1.1.1.0; chain = rw (← q) u.1.1.1.1 }
 
 children-good : (v : View) (d n : ℕ) → (v.node n).level ≡ suc d → alone_ok v n ≡ true → ChildrenOk v d n → Good v n
 unfolding node_ok alone_ok inner_ok all slot_ok
@@ -158,7 +158,7 @@ children-good v d n e h k =
     let u = simp and-iff at h in
     let z = ne_eqb (v.node n).level 0 (λ z. omega arith) in
     let q = children-inner v d n e in
-    let w = simp and-iff at (rw (← e) at k.names) in
+    let w = simp and-iff at (subst (λ (l : ℕ). all (slot_ok v l) (ways v n) ≡ true) (sym e) k.names) in
     simp and-iff (u.0, (u.1.0, rw z (simp and-iff (rw z at u.1.1, (w.0, (w.1, (rw q k.range, rw q k.chain)))))))
 
 pub visits-level : (v : View) (p d : ℕ) (ss : List Slot) (e : ℕ) → Each (λ (x : Visit). x.level ≡ d) (visits_of v p d ss e)
