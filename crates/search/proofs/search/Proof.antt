@@ -9,40 +9,38 @@ use Rattle.search.proofs.search.Statement.{statement}
 use Rattle.search.proofs.search.Tie as tie
 
 -- the header has passed
-passed : (c : tie.Else1) → header_ok c.before.before.before.args.table.now ≡ true
-passed c = (root-there _ _ _ c.before.root.ensures c.if1.false).0
+passed : (c : tie.Else-root-eq0) → header_ok c.args.table.now ≡ true
+passed c = (root-there _ _ _ c.root-root.ensures c.if-root-eq0.false).0
 
-root-requires : tie.Need-root-requires
+root-requires : tie.Need-root-root-requires
 root-requires c κs = search rules
 
-refusal-requires : tie.Need-refusal-requires
+refusal-requires : tie.Need-refusal-number-requires
 refusal-requires c κs = search rules
 
-returns : tie.Need-returns
-returns c = let e = c.before in bad-header _ _ _ _ _ e.before.root.ensures e.if1.true c.refusal.ensures
+returns : tie.Need-returns-then-root-eq0
+returns c = bad-header _ _ _ _ _ c.root-root.ensures c.if-root-eq0.true c.refusal-number.ensures
 
-descend-requires : tie.Need-descend-requires
+descend-requires : tie.Need-descend-s-requires
 descend-requires c κs = passed c
 
-returns-2 : tie.Need-returns-2
-returns-2 c =
-    let d = c.before.before in
-    let e = d.before in
-    answered-lost _ _ _ _ e.before.root.ensures e.if1.false _ d.descend.ensures c.if2.true
+returns-2 : tie.Need-returns-then-s-eq0
+returns-2 c = answered-lost _ _ _ _ c.root-root.ensures c.if-root-eq0.false _ c.descend-s.ensures c.if-s-eq0.true
 
 answer-requires : tie.Need-answer-requires
-answer-requires c κs =
-    let d = c.before.before in
-    let e = d.before in
-    (passed e, stood-on _ _ _ _ e.before.root.ensures e.if1.false _ d.descend.ensures c.if2.false)
+answer-requires c κs = (passed c.before.before.before, stood-on _ _ _ _ c.root-root.ensures c.if-root-eq0.false _ c.descend-s.ensures c.if-s-eq0.false)
 
-returns-3 : tie.Need-returns-3
-returns-3 c =
-    let s = c.before in
-    let d = s.before.before in
-    let e = d.before in
-    answered _ _ _ _ e.before.root.ensures e.if1.false _ d.descend.ensures s.if2.false _ c.answer.ensures
+returns-3 : tie.Need-returns
+returns-3 c = answered _ _ _ _ c.root-root.ensures c.if-root-eq0.false _ c.descend-s.ensures c.if-s-eq0.false _ c.answer.ensures
 
-pub search-spec : {M : Type 1} → statement M
-search-spec =
-    tie.close (tie.spec root-requires refusal-requires returns descend-requires returns-2 answer-requires returns-3)
+pub search_spec : {M : Type 1} → statement M
+search_spec =
+    tie.close
+    (tie.spec
+    root-requires
+    refusal-requires
+    returns
+    descend-requires
+    returns-2
+    answer-requires
+    returns-3)

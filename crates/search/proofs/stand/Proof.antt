@@ -7,62 +7,42 @@ use Rattle.search.proofs.stand.Statement.{statement}
 use Rattle.search.proofs.stand.Tie as tie
 
 -- the start, from where the slots of n were scanned
-abbrev entry : tie.After-scan → tie.Start
+abbrev entry : tie.After-scan-seen → tie.Start
 entry c = c.before.before.before
 
-scan-requires : tie.Need-scan-requires
-scan-requires c κs = (omega arith, slots-end _ _ _ c.before.before.requires.1.1)
+scan-requires : tie.Need-scan-seen-requires
+scan-requires c κs = (omega arith, slots-end _ _ _ c.requires.1.1)
 
-returns : tie.Need-returns
-returns c =
-    let s = c.before in
-    let p = (entry s).requires in
-    seen-read _ _ _ _ _ _ _ _ (read-last _ _ _ _ p.0 _ p.1.1 p.1.0 c.if1.true) p.1.1 s.scan.ensures.0 s.scan.ensures.1
+returns : tie.Need-returns-then-sibling-eq0
+returns c = let p = c.requires in
+    seen-read _ _ _ _ _ _ _ _ (read-last _ _ _ _ p.0 _ p.1.1 p.1.0 c.if-sibling-eq0.true) p.1.1 c.scan-seen.ensures.0 c.scan-seen.ensures.1
 
-returns-2 : tie.Need-returns-2
-returns-2 c =
-    let h = c.before.before in
-    let s = h.before.before in
-    let p = (entry s).requires in
-    seen-lost _ _ _ _ _ c.lost.ensures (read-out _ _ _ (entry s).args.key p.0 _ p.1.1 p.1.0 h.before.if1.false _ h.has.ensures (not-true _ c.before.if2.true))
+returns-2 : tie.Need-returns-then-not-has
+returns-2 c = let p = c.requires in
+    seen-lost _ _ _ _ _ c.lost.ensures (read-out _ _ _ c.args.key p.0 _ p.1.1 p.1.0 c.if-sibling-eq0.false _ c.has.ensures (not-true _ c.if-not-has.true-raw))
 
-returns-3 : tie.Need-returns-3
-returns-3 c =
-    let y = c.before.before.before.before in
-    let h = y.before.before in
-    let s = h.before.before in
-    let p = (entry s).requires in
-    seen-lost _ _ _ _ _ c.lost2.ensures
-    (read-high _ _ _ (entry s).args.key p.0 _ p.1.1 p.1.0 h.before.if1.false _ h.has.ensures (not-false _ y.before.if2.false) _ y.read.ensures c.before.if3.true)
+returns-3 : tie.Need-returns-then-y-read
+returns-3 c = let p = c.requires in
+    seen-lost _ _ _ _ _ c.lost-then-y-read.ensures
+    (read-high _ _ _ c.args.key p.0 _ p.1.1 p.1.0 c.if-sibling-eq0.false _ c.has.ensures (not-false _ c.if-not-has.false-raw) _ c.read-y.ensures c.if-y-read.true)
 
-returns-4 : tie.Need-returns-4
-returns-4 c =
-    let l = c.before.before in
-    let y = l.before.before.before in
-    let h = y.before.before in
-    let s = h.before.before in
-    let p = (entry s).requires in
+returns-4 : tie.Need-returns-then-key-y
+returns-4 c = let p = c.requires in
     seen-read _ _ _ _ _ _ _ _
-    (read-here _ _ _ _ p.0 _ p.1.1 p.1.0 h.before.if1.false _ h.has.ensures (not-false _ y.before.if2.false) _ y.read.ensures l.if3.false c.if4.true)
-    p.1.1 s.scan.ensures.0 s.scan.ensures.1
+    (read-here _ _ _ _ p.0 _ p.1.1 p.1.0 c.if-sibling-eq0.false _ c.has.ensures (not-false _ c.if-not-has.false-raw) _ c.read-y.ensures c.if-y-read.false c.if-key-y.true)
+    p.1.1 c.scan-seen.ensures.0 c.scan-seen.ensures.1
 
-scan-requires-2 : tie.Need-scan-requires-2
-scan-requires-2 c κs = let y = c.before.before.before.before.before.before in (omega arith, slots-end _ _ _ y.read.ensures)
+scan-requires-2 : tie.Need-scan-moved-requires
+scan-requires-2 c κs = (omega arith, slots-end _ _ _ c.read-y.ensures)
 
-returns-5 : tie.Need-returns-5
-returns-5 c =
-    let r = c.before.before in
-    let l = r.before.before in
-    let y = l.before.before.before in
-    let h = y.before.before in
-    let s = h.before.before in
-    let p = (entry s).requires in
+returns-5 : tie.Need-returns
+returns-5 c = let p = c.requires in
     seen-read _ _ _ _ _ _ _ _
-    (read-right _ _ _ _ p.0 _ p.1.1 p.1.0 h.before.if1.false _ h.has.ensures (not-false _ y.before.if2.false) _ y.read.ensures l.if3.false r.if4.false)
-    y.read.ensures c.scan2.ensures.0 c.scan2.ensures.1
+    (read-right _ _ _ _ p.0 _ p.1.1 p.1.0 c.if-sibling-eq0.false _ c.has.ensures (not-false _ c.if-not-has.false-raw) _ c.read-y.ensures c.if-y-read.false c.if-key-y.false)
+    c.read-y.ensures c.scan-moved.ensures.0 c.scan-moved.ensures.1
 
-pub stand-spec : {M : Type 1} → statement M
-stand-spec =
+pub stand_spec : {M : Type 1} → statement M
+stand_spec =
     tie.close
     (tie.spec
     scan-requires
