@@ -16,10 +16,9 @@ use Rattle.model.specs.declared.Next.{Next}
 use Rattle.model.specs.declared.Next.TheVariants.{Key, Nothing}
 use Rattle.model.specs.Table.{Words, at, nodes, root_word, header_ok, no_collection, has_node, node, spare}
 use Rattle.model.specs.Slots.{Slot, NodeView, node_view, used, clear_in}
-use Rattle.model.specs.Search.{route, first_with, first_above, absent_or, answer_of, search}
+use Rattle.model.specs.Search.{route, first_with, first_above, absent_or, answer_of}
 use Rattle.model.specs.Looks.{seen_pass, stood, stood_on, seen_kept, next_looks, answer_looks, search_looks, Seen, seen, none_above, no_slot, sibling_seen, next_seen, answer_seen, search_seen, LooksDecide}
 use Rattle.two_laws.proofs.AcceptedTwo.{there}
-use Rattle.reader_laws.proofs.Still.{looks-still}
 use Rattle.reader_laws.proofs.Copies.{head-same, lack-same}
 
 -- ---- what a turn answers, by its tests; it goes on only if they say so
@@ -176,8 +175,3 @@ looks-decide n k when when' long header same = go (header_ok (when 0)) (no_colle
     go true false p q =
         rw (head-same (when 0) (when' 0) long header ∙ p, lack-same (when 0) (when' 0) long header n ∙ q, p, q, search_looks)
         (answered-same n k when when' long header (header (root_word n) (low (there n (when 0) q).0)) (rw (p, q, search_seen) at same))
-
--- So what the plain search answers goes by the header and by the nodes of these looks: a table that agrees with t on them gives the same answer.
-pub search-decides : (n k : ℕ) (t u : Words) → length u ≡ length t → ((w : ℕ) → w < 8 → at u w ≡ at t w)
-    → ((i m : ℕ) → Memᴰ (seen i m) (search_seen n (λ (j : ℕ). t) k) → node_view u m ≡ node_view t m) → search n u k ≡ search n t k
-search-decides n k t u long header same = sym (looks-still n u k) ∙ looks-decide n k (λ (j : ℕ). t) (λ (j : ℕ). u) long header same ∙ looks-still n t k

@@ -25,3 +25,4 @@ pub mod Copies
 pub mod Snapshots
 -- What a search by looks answers goes by its looks alone.
 pub mod Decide
+pub mod Decided
