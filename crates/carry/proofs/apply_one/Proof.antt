@@ -7,30 +7,39 @@ use borrow.Author.Rules.{rules}
 use Rattle.carry.proofs.apply_one.Statement.{statement}
 use Rattle.carry.proofs.apply_one.Tie as tie
 
-returns : tie.Need-returns
-returns c = flush-carry 0 _ _ _ c.if1.true
+returns : tie.Need-returns-then-a-eq-MARK
+returns c = flush-carry 0 _ _ _ c.if-a-eq-MARK.true
 
-is-barrier-requires : tie.Need-is-barrier-requires
+is-barrier-requires : tie.Need-is_barrier-requires
 is-barrier-requires c κs = search rules
 
-returns-2 : tie.Need-returns-2
-returns-2 c = barrier-carry 0 _ _ c.before.before.if1.false _ c.before.is-barrier.ensures _ c.if2.true
+returns-2 : tie.Need-returns-then-is_barrier
+returns-2 c = barrier-carry 0 _ _ c.if-a-eq-MARK.false _ c.is_barrier.ensures _ c.if-is_barrier.true
 
 -- past both tests the order is a store inside the table
-below : (c : tie.Else2) → let s = c.before.before.before.before in s.args.a < length s.args.table.now
-below c = store-below _ _ _ c.before.before.if1.false _ c.before.is-barrier.ensures c.if2.false c.before.before.before.before.requires
+below : (c : tie.Else-is_barrier) → c.args.a < length c.args.table.now
+below c = store-below _ _ _ c.if-a-eq-MARK.false _ c.is_barrier.ensures c.if-is_barrier.false c.requires
 
-mul-table : tie.Need-overflow-mul-table
+mul-table : tie.Need-offset_bounds-table-w
 mul-table c = omega (arith, below c)
 
-slice-write-table : tie.Need-slice-write-table
+slice-write-table : tie.Need-bounds-table-w
 slice-write-table c = below c
 
-same-length : tie.Need-same-length
+same-length : tie.Need-shape_of-table
 same-length c = search rules
 
-returns-3 : tie.Need-returns-3
-returns-3 c = store-carry 0 _ _ c.before.before.if1.false _ c.before.is-barrier.ensures _ c.if2.false
+returns-3 : tie.Need-returns
+returns-3 c = store-carry 0 _ _ c.if-a-eq-MARK.false _ c.is_barrier.ensures _ c.if-is_barrier.false
 
-pub apply-one-spec : {M : Type 1} → statement M
-apply-one-spec = tie.close (tie.spec returns is-barrier-requires returns-2 mul-table slice-write-table same-length returns-3)
+pub apply_one_spec : {M : Type 1} → statement M
+apply_one_spec =
+    tie.close
+    (tie.spec
+    returns
+    is-barrier-requires
+    returns-2
+    mul-table
+    slice-write-table
+    same-length
+    returns-3)

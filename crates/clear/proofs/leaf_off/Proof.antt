@@ -12,39 +12,30 @@ use borrow.Author.Rules.{rules}
 use Rattle.clear.proofs.leaf_off.Statement.{statement}
 use Rattle.clear.proofs.leaf_off.Tie as tie
 
-abbrev invariant-loop : tie.invariant-loop
+abbrev invariant-loop : tie.invariant-loop-i
 invariant-loop cells count pointers i₀ i = (length cells ≡ CELLS) × Looking cells (keyless pointers count) (all (off_pair cells) (ways_from (keyless pointers count) 1)) i
 
-abbrev decreases-loop : tie.decreases-loop
+abbrev decreases-loop : tie.decreases-loop-i
 decreases-loop cells count pointers i₀ i = count - i
 
 -- the whole leaf, at a pointer's turn
-whole : (c : tie.At-loop invariant-loop decreases-loop) → let a = c.before.before.before.args in
-    all (off_pair a.cells.now) (ways_from (keyless a.w.pointers a.w.count) 1) ≡ all (off_pair a.cells.now) (ways_from a.w 1)
-whole c = let a = c.before.before.before.args in same-pointers a.cells.now a.w 1
+whole : (c : tie.At-loop-i invariant-loop decreases-loop) → let a = c.args in all (off_pair a.cells.now) (ways_from (keyless a.w.pointers a.w.count) 1) ≡ all (off_pair a.cells.now) (ways_from a.w 1)
+whole c = let a = c.args in same-pointers a.cells.now a.w 1
 
-loop-holds : tie.Need-loop-init invariant-loop decreases-loop
-loop-holds c = let e = c.before.before.requires in (e.0, record { few = e.1; comes-to = refl })
+loop-holds : tie.Need-loop-i-init invariant-loop decreases-loop
+loop-holds c = let e = c.requires in (e.0, record { few = e.1; comes-to = refl })
 
-returns : tie.Need-returns invariant-loop decreases-loop
-returns c =
-    let o = c.before in
-    let r = o.before in
-    let l = r.before.before in
-    look-wrong l.loop.invariant.1 r.before.loop-test.true _ (o.is-off.ensures ∙ ap (off _) r.recording.ensures) (not-true _ c.if1.true) ∙ whole l
+returns : tie.Need-returns-then-not-is_off invariant-loop decreases-loop
+returns c = look-wrong c.loop-i.invariant.1 c.loop-i-test.true _ (c.is_off.ensures ∙ ap (off _) c.recording.ensures) (not-true _ c.if-not-is_off.true-raw) ∙ whole c.before.before.before.before
 
-loop-again : tie.Need-loop-preserved invariant-loop decreases-loop
-loop-again c =
-    let o = c.before in
-    let r = o.before in
-    let l = r.before.before in
-    (l.loop.invariant.0, look-next l.loop.invariant.1 r.before.loop-test.true _ (o.is-off.ensures ∙ ap (off _) r.recording.ensures) (not-false _ c.if1.false))
+loop-again : tie.Need-loop-i-preserved invariant-loop decreases-loop
+loop-again c = (c.loop-i.invariant.0, look-next c.loop-i.invariant.1 c.loop-i-test.true _ (c.is_off.ensures ∙ ap (off _) c.recording.ensures) (not-false _ c.if-not-is_off.false-raw))
 
-returns-2 : tie.Need-returns-2 invariant-loop decreases-loop
-returns-2 c = look-end c.before.loop.invariant.1 c.loop-test.false ∙ whole c.before
+returns-2 : tie.Need-returns invariant-loop decreases-loop
+returns-2 c = look-end c.loop-i.invariant.1 c.loop-i-test.false ∙ whole c.before
 
-pub leaf-off-spec : {M : Type 1} → statement M
-leaf-off-spec =
+pub leaf_off_spec : {M : Type 1} → statement M
+leaf_off_spec =
     tie.close
     (tie.spec
     invariant-loop

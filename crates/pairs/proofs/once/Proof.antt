@@ -9,38 +9,37 @@ use borrow.Author.Rules.{rules}
 use Rattle.pairs.proofs.once.Statement.{statement}
 use Rattle.pairs.proofs.once.Tie as tie
 
-abbrev invariant-loop : tie.invariant-loop
+abbrev invariant-loop : tie.invariant-loop-low
 invariant-loop pairs low₀ width₀ low width = Passed (map recording (slots_of pairs)) low width
 
-abbrev decreases-loop : tie.decreases-loop
+abbrev decreases-loop : tie.decreases-loop-low
 decreases-loop pairs low₀ width₀ low width = (SPREAD - low) + width
 
 -- a pass's turn in the loop
-abbrev turn : tie.After-pass invariant-loop decreases-loop → tie.At-loop invariant-loop decreases-loop
+abbrev turn : tie.After-pass-entry invariant-loop decreases-loop → tie.At-loop-low invariant-loop decreases-loop
 turn c = c.before.before
 
-loop-holds : tie.Need-loop-init invariant-loop decreases-loop
+loop-holds : tie.Need-loop-low-init invariant-loop decreases-loop
 loop-holds c = pass-start _
 
-loop-again : tie.Need-loop-preserved invariant-loop decreases-loop
-loop-again c = pass-more (turn c.before.before).loop.inv _ c.before.before.pass.ensures c.enum_told.given.1
+loop-again : tie.Need-loop-low-preserved-in-Entered invariant-loop decreases-loop
+loop-again c = pass-more c.loop-low.invariant _ c.pass-entry.ensures c.in-Entered.is
 
-returns : tie.Need-returns invariant-loop decreases-loop
-returns c = pass-twice (turn c.before.before).loop.inv _ c.before.before.pass.ensures c.enum-told2.given.1
+returns : tie.Need-returns-in-Known invariant-loop decreases-loop
+returns c = pass-twice c.loop-low.invariant _ c.pass-entry.ensures c.in-Known.is
 
-returns-2 : tie.Need-returns-2 invariant-loop decreases-loop
-returns-2 c = c.compared-once.ensures
+returns-2 : tie.Need-returns-then-width-le-NARROWEST invariant-loop decreases-loop
+returns-2 c = c.compared_once.ensures
 
-loop-again-2 : tie.Need-loop-preserved-2 invariant-loop decreases-loop
-loop-again-2 c =
-    let k = (turn c.before.before.before).loop.inv in
+loop-again-2 : tie.Need-loop-low-preserved invariant-loop decreases-loop
+loop-again-2 c = let k = c.loop-low.invariant in
     record { some = omega arith; small = omega arith; so-far = k.so-far }
 
-returns-3 : tie.Need-returns-3 invariant-loop decreases-loop
-returns-3 c = pass-all c.before.loop.invariant c.loop-test.false
+returns-3 : tie.Need-returns invariant-loop decreases-loop
+returns-3 c = pass-all c.loop-low.invariant c.loop-low-test.false
 
-pub once-spec : {M : Type 1} → statement M
-once-spec =
+pub once_spec : {M : Type 1} → statement M
+once_spec =
     tie.close
     (tie.spec
     invariant-loop

@@ -4,34 +4,23 @@ use borrow.Author.Rules.{rules}
 use Rattle.reach.proofs.frees_leaf.Statement.{statement}
 use Rattle.reach.proofs.frees_leaf.Tie as tie
 
--- ---- the places
-
-abbrev counted : tie.After-word → tie.Else1
+abbrev counted : tie.After-word → tie.Else-shown_count-ne1
 counted c = c.before
 
-abbrev above : tie.After-word2 → tie.Else2
+abbrev above : tie.After-word-2 → tie.Else-word-eq0
 above c = c.before
 
--- ---- the answers
+returns : tie.Need-returns-then-shown_count-ne1
+returns c n h = more-left n _ _ _ _ c.shown_count.ensures c.if-shown_count-ne1.true
 
-returns : tie.Need-returns
-returns c n h = more-left n _ _ _ _ c.before.shown-count.ensures c.if1.true
+returns-2 : tie.Need-returns-then-word-eq0
+returns-2 c n h = root-leaf n _ _ _ _ c.shown_count.ensures c.if-shown_count-ne1.false _ _ h c.word.ensures c.if-word-eq0.true
 
-returns-2 : tie.Need-returns-2
-returns-2 c n h =
-    let w = c.before in
-    let e = counted w in
-    root-leaf n _ _ _ _ e.before.shown-count.ensures e.if1.left _ _ h w.word.ensures c.if2.true
+returns-3 : tie.Need-returns
+returns-3 c n h = not-leftmost n _ _ _ _ c.shown_count.ensures c.if-shown_count-ne1.false _ _ h c.word.ensures c.if-word-eq0.false _ c.word-2.ensures
 
-returns-3 : tie.Need-returns-3
-returns-3 c n h =
-    let f = above c in
-    let w = f.before in
-    let e = counted w in
-    not-leftmost n _ _ _ _ e.before.shown-count.ensures e.if1.left _ _ h w.word.ensures f.if2.left _ c.word2.ensures
-
-pub frees-leaf-spec : {M : Type 1} → statement M
-frees-leaf-spec =
+pub frees_leaf_spec : {M : Type 1} → statement M
+frees_leaf_spec =
     tie.close
     (tie.spec
     (λ c κs. search rules)

@@ -7,55 +7,42 @@ use borrow.Author.Rules.{rules}
 use Rattle.reach.proofs.fresh_marked.Statement.{statement}
 use Rattle.reach.proofs.fresh_marked.Tie as tie
 
--- ---- the places
-
-abbrev entry : tie.After-mark-once → tie.Start
+abbrev entry : tie.After-mark_once → tie.Start
 entry c = c.before.before.before.before
 
-abbrev marked : tie.After-first-unreached → tie.After-mark-once
+abbrev marked : tie.After-first_unreached-n → tie.After-mark_once
 marked c = c.before.before.before.before.before
 
-abbrev looked : tie.Else1 → tie.After-first-unreached
+abbrev looked : tie.Else-n-ne0 → tie.After-first_unreached-n
 looked c = c.before.before.before
 
--- ---- the answers
+add-first-unreached : tie.Need-overflow_add-a
+add-first-unreached c = omega (arith, sound-few _ c.requires.0)
 
-add-first-unreached : tie.Need-overflow-add-first-unreached
-add-first-unreached c = omega (arith, sound-few _ (entry c.before.before.before).requires.0)
+shared-slice-read-first-unreached : tie.Need-bounds-table-2
+shared-slice-read-first-unreached c = omega (arith, sound-words _ c.requires.0)
 
-shared-slice-read-first-unreached : tie.Need-shared-slice-read-first-unreached
-shared-slice-read-first-unreached c = omega (arith, sound-words _ (entry c.before.before.before.before).requires.0)
+first-unreached-requires : tie.Need-first_unreached-n-requires
+first-unreached-requires c κs = (c.requires.0, (c.mark_once.ensures.1, sound-few _ c.requires.0))
 
-first-unreached-requires : tie.Need-first-unreached-requires
-first-unreached-requires c κs = let m = c.before.before.before.before in let e = (entry m).requires in (e.0, (m.mark-once.ensures.1, sound-few _ e.0))
+returns : tie.Need-returns-then-n-ne0
+returns c = (
+  fresh-after _ _ _ c.requires.1.1.0 c.first_unreached-n.ensures.0 c.if-n-ne0.true,
+  (round-found _ _ _ _ _ c.mark_once.ensures.0 c.first_unreached-n.ensures.1.0 _ c.first_unreached-n.ensures.0 c.if-n-ne0.true, c.first_unreached-n.ensures.1.1),
+)
 
-returns : tie.Need-returns
-returns c =
-    let u = c.before.before.before in
-    let m = marked u in
-    let e = u.first-unreached.ensures in (
-      fresh-after _ _ _ (entry m).pre.1.1.0 e.0 c.if1.true,
-      (round-found _ _ _ _ _ m.mark-once.ensures.0 e.1.0 _ e.0 c.if1.true, e.1.1),
-    )
+first-unreached-requires-2 : tie.Need-first_unreached-requires
+first-unreached-requires-2 c κs = let e = (entry c.before.before.before.before.before.before.before.before.before).requires in
+    (e.0, (c.first_unreached-n.ensures.1.1, omega (arith, sound-few _ e.0)))
 
-first-unreached-requires-2 : tie.Need-first-unreached-requires-2
-first-unreached-requires-2 c κs = let u = looked c.before in let e = (entry (marked u)).requires in
-    (e.0, (u.first-unreached.ensures.1.1, omega (arith, sound-few _ e.0)))
+returns-2 : tie.Need-returns
+returns-2 c = (
+  fresh-round _ _ _ _ c.requires.1.1.0 c.first_unreached-n.ensures.0 c.if-n-ne0.false c.first_unreached.ensures.0,
+  (round-on _ _ _ _ _ c.mark_once.ensures.0 c.first_unreached-n.ensures.1.0 _ c.first_unreached-n.ensures.0 c.if-n-ne0.false _ c.first_unreached.ensures.1.0, c.first_unreached.ensures.1.1),
+)
 
-returns-2 : tie.Need-returns-2
-returns-2 c =
-    let v = c.before.before in
-    let k = v.before.before in
-    let u = looked k in
-    let m = marked u in
-    let e = u.first-unreached.ensures in
-    let f = v.first-unreached2.ensures in (
-      fresh-round _ _ _ _ (entry m).pre.1.1.0 e.0 k.if1.false f.0,
-      (round-on _ _ _ _ _ m.mark-once.ensures.0 e.1.0 _ e.0 k.if1.false _ f.1.0, f.1.1),
-    )
-
-pub fresh-marked-spec : {M : Type 1} → statement M
-fresh-marked-spec =
+pub fresh_marked_spec : {M : Type 1} → statement M
+fresh_marked_spec =
     tie.close
     (tie.spec
     (λ c κs. search rules)

@@ -11,51 +11,40 @@ use borrow.Author.Rules.{rules}
 use Rattle.reach.proofs.full_run.Statement.{statement}
 use Rattle.reach.proofs.full_run.Tie as tie
 
-abbrev invariant-loop : tie.invariant-loop
+abbrev invariant-loop : tie.invariant-loop-level
 invariant-loop table root key parent n₀ top level₀ count₀ n level count =
     let p = full_in (view table) parent in
     let v = view_from table root in
     (top ≤ 15) × (count + level ≤ top) × (run_from p count (path_from (view table) level n key) ≡ end_run (full_in v parent) (path v key))
 
-abbrev decreases-loop : tie.decreases-loop
+abbrev decreases-loop : tie.decreases-loop-level
 decreases-loop table root key parent n₀ top level₀ count₀ n level count = level
 
 -- the places: the turn of the loop in which a move was made, and the start
-abbrev turn : tie.After-moved invariant-loop decreases-loop → tie.In-loop invariant-loop decreases-loop
+abbrev turn : tie.After-moved-m invariant-loop decreases-loop → tie.In-loop-level invariant-loop decreases-loop
 turn c = c.before
 
-abbrev entry : tie.At-loop invariant-loop decreases-loop → tie.Start invariant-loop decreases-loop
+abbrev entry : tie.At-loop-level invariant-loop decreases-loop → tie.Start invariant-loop decreases-loop
 entry c = c.before.before.before
 
-loop-holds : tie.Need-loop-init invariant-loop decreases-loop
-loop-holds c =
-    let s = c.before.before in
-    let h = sound-height _ _ _ s.requires c.word.ensures in
-    (h, omega arith, run-top _ _ _ _ _ c.word.ensures)
+loop-holds : tie.Need-loop-level-init invariant-loop decreases-loop
+loop-holds c = let h = sound-height _ _ _ c.requires c.word-top.ensures in
+    (h, omega arith, run-top _ _ _ _ _ c.word-top.ensures)
 
-loop-again : tie.Need-loop-preserved invariant-loop decreases-loop
-loop-again c =
-    let r = c.before in
-    let m = r.before in
-    let i = turn m in
-    let l = i.before in
-    let a = (entry l).args in (
-      l.loop.inv.0,
-      omega (arith, r.run-after.ensures, after-most (full_in (view a.table.now) a.parent) l.loop.count m.moved.result),
-      run-lower _ _ l.loop.n _ _ l.loop.count _ m.moved.ensures r.run-after.ensures l.loop.level _ i.loop-test.taken c.down.ensures
-          ∙ l.loop.inv.2,
-    )
+loop-again : tie.Need-loop-level-preserved invariant-loop decreases-loop
+loop-again c = let a = c.args in (
+  c.loop-level.invariant.0,
+  omega (arith, c.run_after-count.ensures, after-most (full_in (view a.table.now) a.parent) c.loop-level.count c.moved-m.result),
+  run-lower _ _ c.loop-level.n _ _ c.loop-level.count _ c.moved-m.ensures c.run_after-count.ensures c.loop-level.level _ c.loop-level-test.true c.down-n.ensures
+      ∙ c.loop-level.invariant.2,
+)
 
 returns : tie.Need-returns invariant-loop decreases-loop
-returns c =
-    let m = c.before in
-    let e = m.before in
-    let l = e.before in
-    run-read _ _ _ _ _ _ l.before.word.ensures
-    (run-last _ _ l.loop.n _ _ l.loop.count _ m.moved2.ensures c.run-after2.ensures l.loop.level e.loop-test.false ∙ l.loop.invariant.2)
+returns c = run-read _ _ _ _ _ _ c.word-top.ensures
+    (run-last _ _ c.loop-level.n _ _ c.loop-level.count _ c.moved-leaf.ensures c.run_after-length.ensures c.loop-level.level c.loop-level-test.false ∙ c.loop-level.invariant.2)
 
-pub full-run-spec : {M : Type 1} → statement M
-full-run-spec =
+pub full_run_spec : {M : Type 1} → statement M
+full_run_spec =
     tie.close
     (tie.spec
     invariant-loop

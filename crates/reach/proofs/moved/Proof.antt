@@ -5,25 +5,30 @@ use Rattle.reach.proofs.moved.Statement.{statement}
 use Rattle.reach.proofs.moved.Tie as tie
 
 -- the test of the sibling
-abbrev linked : tie.After-word2 → tie.Else1
+abbrev linked : tie.After-word → tie.Else-sibling-eq0
 linked c = c.before
 
-word-requires : tie.Need-word-requires
+word-requires : tie.Need-word-sibling-requires
 word-requires c κs = search rules
 
-returns : tie.Need-returns
-returns c = moved-last _ _ _ _ c.before.word.ensures c.if1.true
+returns : tie.Need-returns-then-sibling-eq0
+returns c = moved-last _ _ _ _ c.word-sibling.ensures c.if-sibling-eq0.true
 
-word-requires-2 : tie.Need-word-requires-2
+word-requires-2 : tie.Need-word-requires
 word-requires-2 c κs = search rules
 
-returns-2 : tie.Need-returns-2
-returns-2 c = moved-here _ _ _ _ (linked c.before).before.word.ensures _ c.before.word2.ensures c.if2.true
+returns-2 : tie.Need-returns-then-key-word
+returns-2 c = moved-here _ _ _ _ c.word-sibling.ensures _ c.word.ensures c.if-key-word.true
 
-returns-3 : tie.Need-returns-3
-returns-3 c =
-    let e = linked c.before in
-    moved-right _ _ _ _ e.before.word.ensures _ c.before.word2.ensures e.if1.left c.if2.false
+returns-3 : tie.Need-returns
+returns-3 c = moved-right _ _ _ _ c.word-sibling.ensures _ c.word.ensures c.if-sibling-eq0.false c.if-key-word.false
 
-pub moved-spec : {M : Type 1} → statement M
-moved-spec = tie.close (tie.spec word-requires returns word-requires-2 returns-2 returns-3)
+pub moved_spec : {M : Type 1} → statement M
+moved_spec =
+    tie.close
+    (tie.spec
+    word-requires
+    returns
+    word-requires-2
+    returns-2
+    returns-3)

@@ -7,32 +7,27 @@ use borrow.Author.Rules.{rules}
 use Rattle.reach.proofs.standing.Statement.{statement}
 use Rattle.reach.proofs.standing.Tie as tie
 
-abbrev invariant-loop : tie.invariant-loop
+abbrev invariant-loop : tie.invariant-loop-l
 invariant-loop table root level key n₀ l₀ n l = node_on (view table) l n key level ≡ standing_in (view_from table root) level key
 
-abbrev decreases-loop : tie.decreases-loop
+abbrev decreases-loop : tie.decreases-loop-l
 decreases-loop table root level key n₀ l₀ n l = l
 
 -- the turn of the loop in which a move was made
-abbrev turn : tie.After-moved invariant-loop decreases-loop → tie.In-loop invariant-loop decreases-loop
+abbrev turn : tie.After-moved-m invariant-loop decreases-loop → tie.In-loop-l invariant-loop decreases-loop
 turn c = c.before
 
-loop-holds : tie.Need-loop-init invariant-loop decreases-loop
-loop-holds c = on-top _ _ _ _ _ c.word.ensures
+loop-holds : tie.Need-loop-l-init invariant-loop decreases-loop
+loop-holds c = on-top _ _ _ _ _ c.word-l.ensures
 
-loop-again : tie.Need-loop-preserved invariant-loop decreases-loop
-loop-again c =
-    let m = c.before in
-    let i = turn m in
-    on-lower _ _ i.before.loop.n _ _ _ _ i.loop-test.taken m.moved.ensures c.down.ensures ∙ i.before.loop.inv
+loop-again : tie.Need-loop-l-preserved invariant-loop decreases-loop
+loop-again c = on-lower _ _ c.loop-l.n _ _ _ _ c.loop-l-test.true c.moved-m.ensures c.down-n.ensures ∙ c.loop-l.invariant
 
 returns : tie.Need-returns invariant-loop decreases-loop
-returns c =
-    let e = c.before in
-    c.moved2.ensures ∙ sym (on-here _ _ _ _ _ e.loop-test.false) ∙ e.before.loop.invariant
+returns c = c.moved.ensures ∙ sym (on-here _ _ _ _ _ c.loop-l-test.false) ∙ c.loop-l.invariant
 
-pub standing-spec : {M : Type 1} → statement M
-standing-spec =
+pub standing_spec : {M : Type 1} → statement M
+standing_spec =
     tie.close
     (tie.spec
     invariant-loop

@@ -1,0 +1,27 @@
+-- `reach::is_taken` meets its contract, by the tests that led to each return.
+use native.Mathlib.Omega.{arith}
+use Rattle.two_laws.proofs.SameTwo.{first-there, second-there}
+use Rattle.two_laws.proofs.CollectionTwo.{collection-sound}
+use Rattle.reach.proofs.Members.{sound-words, taken-first, taken-alone, taken-second}
+use Rattle.reach.proofs.is_taken.Goals as goal
+
+pub bounds-table-1 : goal.bounds-table-1
+bounds-table-1 c = omega (arith, sound-words _ c.requires)
+
+pub is_reached-requires : goal.is_reached-requires
+is_reached-requires c = collection-sound 1 _ c.requires (first-there _)
+
+pub returns-then-is_reached : goal.returns-then-is_reached
+returns-then-is_reached c = taken-first _ _ _ c.is_reached.ensures c.if-is_reached.true
+
+pub bounds-table-3 : goal.bounds-table-3
+bounds-table-3 c = omega (arith, sound-words _ c.requires)
+
+pub returns-then-second-eq0 : goal.returns-then-second-eq0
+returns-then-second-eq0 c = taken-alone _ _ _ c.is_reached.ensures c.if-is_reached.false c.if-second-eq0.true
+
+pub is_reached-requires-2 : goal.is_reached-requires-2
+is_reached-requires-2 c = collection-sound 2 _ c.requires (second-there _ c.if-second-eq0.false)
+
+pub returns : goal.returns
+returns c = taken-second _ _ _ c.is_reached.ensures c.if-is_reached.false c.if-second-eq0.false _ c.is_reached-2.ensures

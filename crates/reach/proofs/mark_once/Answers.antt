@@ -1,0 +1,22 @@
+-- `reach::mark_once` meets its contract.
+use mathlib.Core.Path.{sym, ◌∙◌}
+use native.Mathlib.Omega.{arith}
+use Rattle.reach.proofs.Members.{sound-words, root-few}
+use Rattle.reach.proofs.Passing.{once-known, once-new, once-taken}
+use borrow.Author.Rules.{rules}
+use Rattle.reach.proofs.mark_once.Goals as goal
+
+pub bounds-table-1 : goal.bounds-table-1
+bounds-table-1 c = omega (arith, sound-words _ c.requires.table_value)
+
+pub has-requires : goal.has-requires
+has-requires c = omega (arith, root-few _ c.requires.table_value, c.requires.marked.0)
+
+pub bounds-table-1-2 : goal.bounds-table-1-2
+bounds-table-1-2 c = omega (arith, sound-words _ c.requires.table_value)
+
+pub returns-then-has : goal.returns-then-has
+returns-then-has c = record { marks_after = once-known _ _ (sym c.has.ensures ∙ c.if-has.true); marked_2 = search rules }
+
+pub returns : goal.returns
+returns c = let free = sym c.has.ensures ∙ c.if-has.false in record { marks_after = once-new _ _ free _ _ c.mark_all.ensures c.mark.ensures; marked_2 = (search rules, once-taken _ _ c.requires.table_value c.requires.marked.1 _ _ c.mark_all.ensures c.mark.ensures) }
