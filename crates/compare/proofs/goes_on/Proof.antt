@@ -9,31 +9,38 @@ use borrow.Author.Rules.{rules}
 use Rattle.compare.proofs.goes_on.Statement.{statement}
 use Rattle.compare.proofs.goes_on.Tie as tie
 
-at-end-requires : tie.Need-at-end-requires
+at-end-requires : tie.Need-at_end-requires
 at-end-requires c κs = search rules
 
-returns : tie.Need-returns
-returns c = let e = c.before.before in no-leaf _ _ (sym e.before.at-end.ensures ∙ e.if1.true) c.if2.true
+returns : tie.Need-returns-then-c-eq0
+returns c = no-leaf _ _ (sym c.at_end.ensures ∙ c.if-at_end.true) c.if-c-eq0.true
 
-returns-2 : tie.Need-returns-2
-returns-2 c = let e = c.before.before.before in by-left _ _ (sym e.before.at-end.ensures ∙ e.if1.true) c.before.if2.false
+returns-2 : tie.Need-returns-then-at_end
+returns-2 c = by-left _ _ (sym c.at_end.ensures ∙ c.if-at_end.true) c.if-c-eq0.false
 
 -- at a pair
-there : (c : tie.After-keys) → let x = c.before.before.before.before.args.c in at_end x ≡ false
-there c = let e = c.before.before in sym e.before.at-end.ensures ∙ e.if1.false
+there : (c : tie.After-w-1) → let x = c.args.c in at_end x ≡ false
+there c = sym c.at_end.ensures ∙ c.if-at_end.false
 
-inside : (c : tie.After-keys) → let x = c.before.before.before.before.args.c in x.at < 13
-inside c = let s = c.before.before.before.before in omega (arith, a-pair s.args.c (there c), s.requires)
+inside : (c : tie.After-w-1) → let x = c.args.c in x.at < 13
+inside c = omega (arith, a-pair c.args.c (there c), c.requires)
 
-mul-result : tie.Need-overflow-mul-result
-mul-result c = let h = inside c in search rules
+mul-result : tie.Need-offset_bounds-keys-at
+mul-result c = let h = inside c.before in search rules
 
-array-read-result : tie.Need-array-read-result
-array-read-result c = inside c
+array-read-result : tie.Need-bounds-keys-at
+array-read-result c = inside c.before
 
-returns-3 : tie.Need-returns-3
-returns-3 c = by-key _ _ (there c)
+returns-3 : tie.Need-returns
+returns-3 c = by-key _ _ (there c.before)
 
-pub goes-on-spec : {M : Type 1} → statement M
-goes-on-spec =
-    tie.close (tie.spec at-end-requires returns returns-2 mul-result array-read-result returns-3)
+pub goes_on_spec : {M : Type 1} → statement M
+goes_on_spec =
+    tie.close
+    (tie.spec
+    at-end-requires
+    returns
+    returns-2
+    mul-result
+    array-read-result
+    returns-3)

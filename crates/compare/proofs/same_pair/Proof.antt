@@ -10,41 +10,41 @@ use Rattle.compare.proofs.same_pair.Statement.{statement}
 use Rattle.compare.proofs.same_pair.Tie as tie
 
 -- the second has a pair too
-there : (c : tie.Else1) → at_end c.before.before.args.b ≡ false
-there c = sym c.before.at-end.ensures ∙ c.if1.false
+there : (c : tie.Else-at_end) → at_end c.args.b ≡ false
+there c = sym c.at_end.ensures ∙ c.if-at_end.false
 
-inside : (c : tie.Else1) → c.before.before.args.b.at < 13
-inside c = let s = c.before.before in omega (arith, a-pair s.args.b (there c), s.requires.2)
+inside : (c : tie.Else-at_end) → c.args.b.at < 13
+inside c = omega (arith, a-pair c.args.b (there c), c.requires.2)
 
-abbrev keys : tie.After-second → tie.Else1
-keys c = c.before.before.before.before
+abbrev keys : tie.After-first-1 → tie.Else-at_end
+keys c = c.before.before.before
 
-abbrev pointers : tie.After-two → tie.Else2
-pointers c = c.before.before
+abbrev pointers : tie.After-one-1 → tie.Else-first-i
+pointers c = c.before
 
-returns : tie.Need-returns
-returns c = pair-none _ _ (sym c.before.at-end.ensures ∙ c.if1.true)
+returns : tie.Need-returns-then-at_end
+returns c = pair-none _ _ (sym c.at_end.ensures ∙ c.if-at_end.true)
 
-mul-if2-2 : tie.Need-overflow-mul-if2-2
-mul-if2-2 c = let h = inside (keys c) in search rules
+mul-if2-2 : tie.Need-offset_bounds-second-j
+mul-if2-2 c = let h = inside (keys c.before) in search rules
 
-array-read-if2-2 : tie.Need-array-read-if2-2
-array-read-if2-2 c = inside (keys c)
+array-read-if2-2 : tie.Need-bounds-second-j
+array-read-if2-2 c = inside (keys c.before)
 
-returns-2 : tie.Need-returns-2
-returns-2 c = pair-keys _ _ (there (keys c.before)) c.if2.true
+returns-2 : tie.Need-returns-then-first-i
+returns-2 c = pair-keys _ _ (there (keys c.before.before)) c.if-first-i.true
 
-mul-result-2 : tie.Need-overflow-mul-result-2
-mul-result-2 c = let h = inside (keys (pointers c).before) in search rules
+mul-result-2 : tie.Need-offset_bounds-two-j
+mul-result-2 c = let h = inside (keys c.before.before.before.before) in search rules
 
-array-read-result-2 : tie.Need-array-read-result-2
-array-read-result-2 c = inside (keys (pointers c).before)
+array-read-result-2 : tie.Need-bounds-two-j
+array-read-result-2 c = inside (keys c.before.before.before.before)
 
-returns-3 : tie.Need-returns-3
-returns-3 c = pair-pointers _ _ (there (keys (pointers c).before)) (pointers c).if2.false
+returns-3 : tie.Need-returns
+returns-3 c = pair-pointers _ _ (there (keys c.before.before.before.before)) c.if-first-i.false
 
-pub same-pair-spec : {M : Type 1} → statement M
-same-pair-spec =
+pub same_pair_spec : {M : Type 1} → statement M
+same_pair_spec =
     tie.close
     (tie.spec
     (λ c κs. search rules)

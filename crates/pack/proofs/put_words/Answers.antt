@@ -8,7 +8,7 @@ use Rattle.pack.proofs.Filling.{copy-start, copy-step, copy-end}
 use Rattle.pack.proofs.put_words.Goals as goal
 
 pub loop-i-init : goal.loop-i-init
-loop-i-init c = let a = c.args in (omega arith, search rules, refl, search rules, copy-start a.nodes.now a.t3 a.w)
+loop-i-init c = let a = c.args in (omega arith, search rules, refl, search rules, copy-start a.nodes.now a.words a.w)
 
 pub loop-i-preserved : goal.loop-i-preserved
 loop-i-preserved c = let l = c.loop-i in

@@ -16,54 +16,49 @@ use borrow.Author.Rules.{rules}
 use Rattle.recordings.proofs.enter_leaf.Statement.{statement}
 use Rattle.recordings.proofs.enter_leaf.Tie as tie
 
-abbrev invariant-loop : tie.invariant-loop
+abbrev invariant-loop : tie.invariant-loop-i
 invariant-loop cells₀ twice round x bound slots before₀ i₀ cells before i =
     (i ≤ 12) × (length slots ≡ 24) × (length cells ≡ CELLS)
     × (entered_all (suspect round twice) (map recording (kept_of x.sibling bound (shown_from before slots i))) cells
     ≡ entered_all (suspect round twice) (map recording (kept_of x.sibling bound (shown_from x.left slots 0))) cells₀)
 
-abbrev decreases-loop : tie.decreases-loop
+abbrev decreases-loop : tie.decreases-loop-i
 decreases-loop cells₀ twice round x bound slots before₀ i₀ cells before i = 12 - i
 
 -- what slots come to, where this pointer is before them
-abbrev comes : tie.At-loop invariant-loop decreases-loop → List Slot → Outcome
+abbrev comes : tie.At-loop-i invariant-loop decreases-loop → List Slot → Outcome
 comes c ss =
-    let a = c.before.before.before.before.args in
-    entered_all (suspect a.round a.twice.now) (map recording (kept_of a.x.sibling a.bound (shown c.loop.before ss))) c.loop.cells
+    let a = c.args in
+    entered_all (suspect a.round a.twice.now) (map recording (kept_of a.x.sibling a.bound (shown c.loop-i.before ss))) c.loop-i.cells
 
-loop-holds : tie.Need-loop-init invariant-loop decreases-loop
-loop-holds c = (omega arith, search rules, c.before.before.before.requires.0, refl)
+loop-holds : tie.Need-loop-i-init invariant-loop decreases-loop
+loop-holds c = (omega arith, search rules, c.requires.0, refl)
 
-returns : tie.Need-returns invariant-loop decreases-loop
-returns c = let l = c.before.before in enter-none _ _ l.loop.before _ _ ∙ scan-stop (comes l) _ l.loop.i l.loop.invariant.3 (omega arith) c.if1.true
+returns : tie.Need-returns-then-p-eq0 invariant-loop decreases-loop
+returns c = enter-none _ _ c.loop-i.before _ _ ∙ scan-stop (comes c.before.before) _ c.loop-i.i c.loop-i.invariant.3 (omega arith) c.if-p-eq0.true
 
-returns-2 : tie.Need-returns-2 invariant-loop decreases-loop
-returns-2 c =
-    let l = c.before.before.before.before.before.before.before.before.before in
-    scan-more (comes l) _ l.loop.i l.loop.invariant.3 (omega arith) c.before.before.before.before.before.before.before.if1.false
-    (enter-ends _ _ _ _ _ _ _ c.before.before.before.before.before.before.is-way.ensures _ _ _ _ c.before.before.before.before.enter-slot.ensures Known known-last c.enum-told2.given.1)
+returns-2 : tie.Need-returns-in-Known invariant-loop decreases-loop
+returns-2 c = scan-more (comes c.before.before.before.before.before.before.before.before) _ c.loop-i.i c.loop-i.invariant.3 (omega arith) c.if-p-eq0.false
+    (enter-ends _ _ _ _ _ _ _ c.is_way-kept.ensures _ _ _ _ c.enter_slot-entry.ensures Known known-last c.in-Known.is)
 
-returns-3 : tie.Need-returns-3 invariant-loop decreases-loop
-returns-3 c =
-    let l = c.before.before.before.before.before.before.before.before.before in
-    scan-more (comes l) _ l.loop.i l.loop.invariant.3 (omega arith) c.before.before.before.before.before.before.before.if1.false
-    (enter-ends _ _ _ _ _ _ _ c.before.before.before.before.before.before.is-way.ensures _ _ _ _ c.before.before.before.before.enter-slot.ensures Full full-last c.enum-told3.given.1)
+returns-3 : tie.Need-returns-in-Full invariant-loop decreases-loop
+returns-3 c = scan-more (comes c.before.before.before.before.before.before.before.before) _ c.loop-i.i c.loop-i.invariant.3 (omega arith) c.if-p-eq0.false
+    (enter-ends _ _ _ _ _ _ _ c.is_way-kept.ensures _ _ _ _ c.enter_slot-entry.ensures Full full-last c.in-Full.is)
 
-loop-again : tie.Need-loop-preserved invariant-loop decreases-loop
-loop-again c =
-    let l = c.before.before.before.before.before.before.before.before.before in (
-      omega arith,
-      l.loop.invariant.1,
-      search rules,
-      scan-more (comes l) _ l.loop.i l.loop.invariant.3 (omega arith) c.before.before.before.before.before.before.before.if1.false
-          (enter-goes _ _ _ _ _ _ _ c.before.before.before.before.before.before.is-way.ensures _ _ _ _ c.before.before.before.before.enter-slot.ensures c.enum_told.given.1),
-    )
+loop-again : tie.Need-loop-i-preserved invariant-loop decreases-loop
+loop-again c = (
+  omega arith,
+  c.loop-i.invariant.1,
+  search rules,
+  scan-more (comes c.before.before.before.before.before.before.before.before) _ c.loop-i.i c.loop-i.invariant.3 (omega arith) c.if-p-eq0.false
+      (enter-goes _ _ _ _ _ _ _ c.is_way-kept.ensures _ _ _ _ c.enter_slot-entry.ensures c.in-Entered.is),
+)
 
-returns-4 : tie.Need-returns-4 invariant-loop decreases-loop
-returns-4 c = let l = c.before in enter-none _ _ l.loop.before _ _ ∙ scan-past (comes l) _ l.loop.i l.loop.invariant.3 (omega arith)
+returns-4 : tie.Need-returns invariant-loop decreases-loop
+returns-4 c = enter-none _ _ c.loop-i.before _ _ ∙ scan-past (comes c.before) _ c.loop-i.i c.loop-i.invariant.3 (omega arith)
 
-pub enter-leaf-spec : {M : Type 1} → statement M
-enter-leaf-spec =
+pub enter_leaf_spec : {M : Type 1} → statement M
+enter_leaf_spec =
     tie.close
     (tie.spec
     invariant-loop

@@ -16,69 +16,58 @@ use borrow.Author.Rules.{rules}
 use Rattle.recordings.proofs.enter_leaves.Statement.{statement}
 use Rattle.recordings.proofs.enter_leaves.Tie as tie
 
-abbrev invariant-loop : tie.invariant-loop
+abbrev invariant-loop : tie.invariant-loop-n
 invariant-loop cells₀ twice table marks round last n₀ cells n =
     (length cells ≡ CELLS)
     × (entered_all (suspect round twice) (map recording (own_from (view table) marks n (last + 1 - n))) cells
     ≡ entered_all (suspect round twice) (map recording (marked_pairs (view table) marks)) cells₀)
 
-abbrev decreases-loop : tie.decreases-loop
+abbrev decreases-loop : tie.decreases-loop-n
 decreases-loop cells₀ twice table marks round last n₀ cells n = last + 1 - n
 
 -- what slots come to, from the cells as they are
-abbrev comes : tie.At-loop invariant-loop decreases-loop → List Slot → Outcome
-comes c ss = let a = c.before.before.before.before.before.before.args in entered_all (suspect a.round a.twice.now) (map recording ss) c.loop.cells
+abbrev comes : tie.At-loop-n invariant-loop decreases-loop → List Slot → Outcome
+comes c ss = let a = c.args in entered_all (suspect a.round a.twice.now) (map recording ss) c.loop-n.cells
 
 -- the pairs of the node in its turn
-abbrev here : tie.At-loop invariant-loop decreases-loop → List Slot
-here c = let a = c.before.before.before.before.before.before.args in own (view a.table.now) a.marks.now c.loop.n
+abbrev here : tie.At-loop-n invariant-loop decreases-loop → List Slot
+here c = let a = c.args in own (view a.table.now) a.marks.now c.loop-n.n
 
-loop-holds : tie.Need-loop-init invariant-loop decreases-loop
-loop-holds c =
-    let s = c.before.before.before.before.before in
-    let a = s.args in
-    (s.requires.0, row-marked (λ (ss : List Slot). entered_all (suspect a.round a.twice.now) (map recording ss) a.cells.now) _ _ _ c.last-marked.ensures)
+loop-holds : tie.Need-loop-n-init invariant-loop decreases-loop
+loop-holds c = let a = c.args in
+    (c.requires.0, row-marked (λ (ss : List Slot). entered_all (suspect a.round a.twice.now) (map recording ss) a.cells.now) _ _ _ c.last_marked-last.ensures)
 
-leaf-requires : tie.Need-leaf-requires invariant-loop decreases-loop
-leaf-requires c κs = let s = c.before.before.before.before.before.before.before in (s.requires.1.1.1, few-marked _ _ _ _ s.requires.1.1.0 c.before.before.last-marked.ensures c.loop-test.true)
+leaf-requires : tie.Need-leaf-x-requires invariant-loop decreases-loop
+leaf-requires c κs = (c.requires.1.1.1, few-marked _ _ _ _ c.requires.1.1.0 c.last_marked-last.ensures c.loop-n-test.true)
 
-returns : tie.Need-returns invariant-loop decreases-loop
-returns c =
-    let l = c.before.before.before.before.before.before.before.before.before in
-    let x = c.before.before.before.before.before.before.before.leaf in
-    let kept = leaf-kept _ _ _ x.result _ x.ensures c.before.before.before.before.before.before.word.ensures in
-    row-more (comes l) _ _ l.loop.n _ l.loop.invariant.1 c.before.before.before.before.before.before.before.before.loop-test.true
-    (enter-last (here l) _ _ l.loop.cells _ _ (c.before.before.before.before.enter-leaf.ensures ∙ ap (comes l) kept) Known known-last c.enum-told2.given.1)
+returns : tie.Need-returns-in-Known invariant-loop decreases-loop
+returns c = let x = c.leaf-x in
+    let kept = leaf-kept _ _ _ x.result _ x.ensures c.word-bound.ensures in
+    row-more (comes c.before.before.before.before.before.before.before.before) _ _ c.loop-n.n _ c.loop-n.invariant.1 c.loop-n-test.true
+    (enter-last (here c.before.before.before.before.before.before.before.before) _ _ c.loop-n.cells _ _ (c.enter_leaf-entry.ensures ∙ ap (comes c.before.before.before.before.before.before.before.before) kept) Known known-last c.in-Known.is)
 
-returns-2 : tie.Need-returns-2 invariant-loop decreases-loop
-returns-2 c =
-    let l = c.before.before.before.before.before.before.before.before.before in
-    let x = c.before.before.before.before.before.before.before.leaf in
-    let kept = leaf-kept _ _ _ x.result _ x.ensures c.before.before.before.before.before.before.word.ensures in
-    row-more (comes l) _ _ l.loop.n _ l.loop.invariant.1 c.before.before.before.before.before.before.before.before.loop-test.true
-    (enter-last (here l) _ _ l.loop.cells _ _ (c.before.before.before.before.enter-leaf.ensures ∙ ap (comes l) kept) Full full-last c.enum-told3.given.1)
+returns-2 : tie.Need-returns-in-Full invariant-loop decreases-loop
+returns-2 c = let x = c.leaf-x in
+    let kept = leaf-kept _ _ _ x.result _ x.ensures c.word-bound.ensures in
+    row-more (comes c.before.before.before.before.before.before.before.before) _ _ c.loop-n.n _ c.loop-n.invariant.1 c.loop-n-test.true
+    (enter-last (here c.before.before.before.before.before.before.before.before) _ _ c.loop-n.cells _ _ (c.enter_leaf-entry.ensures ∙ ap (comes c.before.before.before.before.before.before.before.before) kept) Full full-last c.in-Full.is)
 
-add-n : tie.Need-overflow-add-n invariant-loop decreases-loop
-add-n c =
-    let i = c.before.before.before.before.before.before.before.before in
-    let l = i.before.before in
-    omega (arith, few-marked _ _ _ _ l.before.before.before.before.before.requires.1.1.0 l.last-marked.ensures i.loop-test.true)
+add-n : tie.Need-overflow_add-n invariant-loop decreases-loop
+add-n c = omega (arith, few-marked _ _ _ _ c.requires.1.1.0 c.last_marked-last.ensures c.loop-n-test.true)
 
-loop-again : tie.Need-loop-preserved invariant-loop decreases-loop
-loop-again c =
-    let l = c.before.before.before.before.before.before.before.before.before in
-    let x = c.before.before.before.before.before.before.before.leaf in
-    let kept = leaf-kept _ _ _ x.result _ x.ensures c.before.before.before.before.before.before.word.ensures in (
+loop-again : tie.Need-loop-n-preserved invariant-loop decreases-loop
+loop-again c = let x = c.leaf-x in
+    let kept = leaf-kept _ _ _ x.result _ x.ensures c.word-bound.ensures in (
       search rules,
-      row-more (comes l) _ _ l.loop.n _ l.loop.invariant.1 c.before.before.before.before.before.before.before.before.loop-test.true
-          (enter-next (here l) _ _ l.loop.cells _ _ (c.before.before.before.before.enter-leaf.ensures ∙ ap (comes l) kept) c.enum_told.given.1),
+      row-more (comes c.before.before.before.before.before.before.before.before) _ _ c.loop-n.n _ c.loop-n.invariant.1 c.loop-n-test.true
+          (enter-next (here c.before.before.before.before.before.before.before.before) _ _ c.loop-n.cells _ _ (c.enter_leaf-entry.ensures ∙ ap (comes c.before.before.before.before.before.before.before.before) kept) c.in-Entered.is),
     )
 
-returns-3 : tie.Need-returns-3 invariant-loop decreases-loop
-returns-3 c = let l = c.before in enter-none _ _ ∙ row-end (comes l) _ _ l.loop.n _ l.loop.invariant.1 c.loop-test.false
+returns-3 : tie.Need-returns invariant-loop decreases-loop
+returns-3 c = enter-none _ _ ∙ row-end (comes c.before) _ _ c.loop-n.n _ c.loop-n.invariant.1 c.loop-n-test.false
 
-pub enter-leaves-spec : {M : Type 1} → statement M
-enter-leaves-spec =
+pub enter_leaves_spec : {M : Type 1} → statement M
+enter_leaves_spec =
     tie.close
     (tie.spec
     invariant-loop

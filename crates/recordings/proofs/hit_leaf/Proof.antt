@@ -13,45 +13,43 @@ use borrow.Author.Rules.{rules}
 use Rattle.recordings.proofs.hit_leaf.Statement.{statement}
 use Rattle.recordings.proofs.hit_leaf.Tie as tie
 
-abbrev invariant-loop : tie.invariant-loop
+abbrev invariant-loop : tie.invariant-loop-i
 invariant-loop olds once₀ twice₀ round x bound crowded slots crowd₀ before₀ i₀ once twice crowd before i =
     (i ≤ 12) × (length slots ≡ 24) × (length once ≡ ONCE) × (length twice ≡ TWICE)
     × (hit_all (suspect round olds) (place_of round) (map recording (kept_of x.sibling bound (shown_from before slots i))) (hits once twice crowd)
     ≡ hit_all (suspect round olds) (place_of round) (map recording (kept_of x.sibling bound (shown_from x.left slots 0))) (hits once₀ twice₀ crowded))
 
-abbrev decreases-loop : tie.decreases-loop
+abbrev decreases-loop : tie.decreases-loop-i
 decreases-loop olds once₀ twice₀ round x bound crowded slots crowd₀ before₀ i₀ once twice crowd before i = 12 - i
 
 -- what slots come to, where this pointer is before them
-abbrev comes : tie.At-loop invariant-loop decreases-loop → List Slot → Hits
+abbrev comes : tie.At-loop-i invariant-loop decreases-loop → List Slot → Hits
 comes c ss =
-    let a = c.before.before.before.before.before.args in
-    let l = c.loop in
+    let a = c.args in
+    let l = c.loop-i in
     hit_all (suspect a.round a.olds.now) (place_of a.round) (map recording (kept_of a.x.sibling a.bound (shown l.before ss))) (hits l.once l.twice l.crowd)
 
-loop-holds : tie.Need-loop-init invariant-loop decreases-loop
-loop-holds c = let s = c.before.before.before.before.requires in (omega arith, search rules, s.1.0, s.1.1, refl)
+loop-holds : tie.Need-loop-i-init invariant-loop decreases-loop
+loop-holds c = (omega arith, search rules, c.requires.1.0, c.requires.1.1, refl)
 
-returns : tie.Need-returns invariant-loop decreases-loop
-returns c = let l = c.before.before in hit-none _ _ l.loop.before _ _ _ ∙ scan-stop (comes l) _ l.loop.i l.loop.invariant.4 (omega arith) c.if1.true
+returns : tie.Need-returns-then-p-eq0 invariant-loop decreases-loop
+returns c = hit-none _ _ c.loop-i.before _ _ _ ∙ scan-stop (comes c.before.before) _ c.loop-i.i c.loop-i.invariant.4 (omega arith) c.if-p-eq0.true
 
-loop-again : tie.Need-loop-preserved invariant-loop decreases-loop
-loop-again c =
-    let l = c.before.before.before.before.before.before.before.before.before.before in
-    let e = c.before.before.before.before.before.before.before.before in (
-      omega arith,
-      l.loop.invariant.1,
-      search rules,
-      search rules,
-      scan-more (comes l) _ l.loop.i l.loop.invariant.4 (omega arith) e.if1.false
-          (hit-more _ _ _ _ _ _ _ c.before.before.before.before.before.before.before.is-way.ensures _ _ _ _ c.before.before.before.before.hit-slot.ensures),
-    )
+loop-again : tie.Need-loop-i-preserved invariant-loop decreases-loop
+loop-again c = (
+  omega arith,
+  c.loop-i.invariant.1,
+  search rules,
+  search rules,
+  scan-more (comes c.before.before.before.before.before.before.before.before.before.before) _ c.loop-i.i c.loop-i.invariant.4 (omega arith) c.if-p-eq0.false
+      (hit-more _ _ _ _ _ _ _ c.is_way-kept.ensures _ _ _ _ c.hit_slot-crowd.ensures),
+)
 
-returns-2 : tie.Need-returns-2 invariant-loop decreases-loop
-returns-2 c = let l = c.before in hit-none _ _ l.loop.before _ _ _ ∙ scan-past (comes l) _ l.loop.i l.loop.invariant.4 (omega arith)
+returns-2 : tie.Need-returns invariant-loop decreases-loop
+returns-2 c = hit-none _ _ c.loop-i.before _ _ _ ∙ scan-past (comes c.before) _ c.loop-i.i c.loop-i.invariant.4 (omega arith)
 
-pub hit-leaf-spec : {M : Type 1} → statement M
-hit-leaf-spec =
+pub hit_leaf_spec : {M : Type 1} → statement M
+hit_leaf_spec =
     tie.close
     (tie.spec
     invariant-loop

@@ -14,51 +14,44 @@ use borrow.Author.Rules.{rules}
 use Rattle.recordings.proofs.hit_leaves.Statement.{statement}
 use Rattle.recordings.proofs.hit_leaves.Tie as tie
 
-abbrev invariant-loop : tie.invariant-loop
+abbrev invariant-loop : tie.invariant-loop-n
 invariant-loop olds once₀ twice₀ table marks round last crowded₀ n₀ once twice crowded n =
     (length once ≡ ONCE) × (length twice ≡ TWICE)
     × (hit_all (suspect round olds) (place_of round) (map recording (own_from (view table) marks n (last + 1 - n))) (hits once twice crowded)
     ≡ hit_all (suspect round olds) (place_of round) (map recording (marked_pairs (view table) marks)) (hits once₀ twice₀ false))
 
-abbrev decreases-loop : tie.decreases-loop
+abbrev decreases-loop : tie.decreases-loop-n
 decreases-loop olds once₀ twice₀ table marks round last crowded₀ n₀ once twice crowded n = last + 1 - n
 
 -- what slots come to, from the places hit so far
-abbrev comes : tie.At-loop invariant-loop decreases-loop → List Slot → Hits
-comes c ss = let a = c.before.before.before.before.before.before.before.args in let l = c.loop in hit_all (suspect a.round a.olds.now) (place_of a.round) (map recording ss) (hits l.once l.twice l.crowded)
+abbrev comes : tie.At-loop-n invariant-loop decreases-loop → List Slot → Hits
+comes c ss = let a = c.args in let l = c.loop-n in hit_all (suspect a.round a.olds.now) (place_of a.round) (map recording ss) (hits l.once l.twice l.crowded)
 
-loop-holds : tie.Need-loop-init invariant-loop decreases-loop
-loop-holds c =
-    let s = c.before.before.before.before.before.before in
-    let a = s.args in
-    (s.requires.1.0, s.requires.1.1.0, row-marked (λ (ss : List Slot). hit_all (suspect a.round a.olds.now) (place_of a.round) (map recording ss) (hits a.once.now a.twice.now false)) _ _ _ c.last-marked.ensures)
+loop-holds : tie.Need-loop-n-init invariant-loop decreases-loop
+loop-holds c = let a = c.args in
+    (c.requires.1.0, c.requires.1.1.0, row-marked (λ (ss : List Slot). hit_all (suspect a.round a.olds.now) (place_of a.round) (map recording ss) (hits a.once.now a.twice.now false)) _ _ _ c.last_marked-last.ensures)
 
-leaf-requires : tie.Need-leaf-requires invariant-loop decreases-loop
-leaf-requires c κs = let s = c.before.before.before.before.before.before.before.before in (s.requires.1.1.1.1, few-marked _ _ _ _ s.requires.1.1.1.0 c.before.before.last-marked.ensures c.loop-test.true)
+leaf-requires : tie.Need-leaf-x-requires invariant-loop decreases-loop
+leaf-requires c κs = (c.requires.1.1.1.1, few-marked _ _ _ _ c.requires.1.1.1.0 c.last_marked-last.ensures c.loop-n-test.true)
 
-add-n : tie.Need-overflow-add-n invariant-loop decreases-loop
-add-n c =
-    let i = c.before.before.before.before.before.before.before.before.before in
-    let l = i.before.before in
-    omega (arith, few-marked _ _ _ _ l.before.before.before.before.before.before.requires.1.1.1.0 l.last-marked.ensures i.loop-test.true)
+add-n : tie.Need-overflow_add-n invariant-loop decreases-loop
+add-n c = omega (arith, few-marked _ _ _ _ c.requires.1.1.1.0 c.last_marked-last.ensures c.loop-n-test.true)
 
-loop-again : tie.Need-loop-preserved invariant-loop decreases-loop
-loop-again c =
-    let l = c.before.before.before.before.before.before.before.before.before.before in
-    let x = c.before.before.before.before.before.before.before.before.leaf in
-    let a = c.before.before.before.before.before.before.before.before.before.before.before.before.before.before.before.before.before.args in
-    let kept = leaf-kept _ _ _ x.result _ x.ensures c.before.before.before.before.before.before.before.word.ensures in (
+loop-again : tie.Need-loop-n-preserved invariant-loop decreases-loop
+loop-again c = let x = c.leaf-x in
+    let a = c.args in
+    let kept = leaf-kept _ _ _ x.result _ x.ensures c.word-bound.ensures in (
       search rules,
       search rules,
-      row-more (comes l) _ _ l.loop.n _ l.loop.invariant.2 c.before.before.before.before.before.before.before.before.before.loop-test.true
-          (hit-next (own (view a.table.now) a.marks.now l.loop.n) _ _ _ (hits l.loop.once l.loop.twice l.loop.crowded) _ (c.before.before.before.before.hit-leaf.ensures ∙ ap (comes l) kept)),
+      row-more (comes c.before.before.before.before.before.before.before.before.before.before) _ _ c.loop-n.n _ c.loop-n.invariant.2 c.loop-n-test.true
+          (hit-next (own (view a.table.now) a.marks.now c.loop-n.n) _ _ _ (hits c.loop-n.once c.loop-n.twice c.loop-n.crowded) _ (c.hit_leaf-crowded.ensures ∙ ap (comes c.before.before.before.before.before.before.before.before.before.before) kept)),
     )
 
 returns : tie.Need-returns invariant-loop decreases-loop
-returns c = let l = c.before in hit-none _ _ _ ∙ row-end (comes l) _ _ l.loop.n _ l.loop.invariant.2 c.loop-test.false
+returns c = hit-none _ _ _ ∙ row-end (comes c.before) _ _ c.loop-n.n _ c.loop-n.invariant.2 c.loop-n-test.false
 
-pub hit-leaves-spec : {M : Type 1} → statement M
-hit-leaves-spec =
+pub hit_leaves_spec : {M : Type 1} → statement M
+hit_leaves_spec =
     tie.close
     (tie.spec
     invariant-loop

@@ -15,42 +15,37 @@ use borrow.Author.Rules.{rules}
 use Rattle.recordings.proofs.leaf_ok.Statement.{statement}
 use Rattle.recordings.proofs.leaf_ok.Tie as tie
 
-abbrev invariant-loop : tie.invariant-loop
+abbrev invariant-loop : tie.invariant-loop-i
 invariant-loop x bound slots before₀ i₀ before i =
     (i ≤ 12) × (length slots ≡ 24) × (all pair_ok (kept_of x.sibling bound (shown_from before slots i)) ≡ all pair_ok (kept_of x.sibling bound (shown_from x.left slots 0)))
 
-abbrev decreases-loop : tie.decreases-loop
+abbrev decreases-loop : tie.decreases-loop-i
 decreases-loop x bound slots before₀ i₀ before i = 12 - i
 
 -- what slots come to, where this pointer is before them
-abbrev comes : tie.At-loop invariant-loop decreases-loop → List Slot → Bool
-comes c ss = let a = c.before.before.args in all pair_ok (kept_of a.x.sibling a.bound (shown c.loop.before ss))
+abbrev comes : tie.At-loop-i invariant-loop decreases-loop → List Slot → Bool
+comes c ss = let a = c.args in all pair_ok (kept_of a.x.sibling a.bound (shown c.loop-i.before ss))
 
-returns : tie.Need-returns invariant-loop decreases-loop
-returns c = let l = c.before.before in ok-none _ _ l.loop.before ∙ scan-stop (comes l) _ l.loop.i l.loop.invariant.2 (omega arith) c.if1.true
+returns : tie.Need-returns-then-p-eq0 invariant-loop decreases-loop
+returns c = ok-none _ _ c.loop-i.before ∙ scan-stop (comes c.before.before) _ c.loop-i.i c.loop-i.invariant.2 (omega arith) c.if-p-eq0.true
 
-returns-2 : tie.Need-returns-2 invariant-loop decreases-loop
-returns-2 c =
-    let l = c.before.before.before.before.before in
-    let e = c.before.before.before in
-    scan-more (comes l) _ l.loop.i l.loop.invariant.2 (omega arith) e.if1.false
-    (ok-wrong _ _ _ _ _ _ _ c.before.before.is-way.ensures _ c.before.Slot-ok.ensures (not-true _ c.if2.true))
+returns-2 : tie.Need-returns-then-not-slot_ok invariant-loop decreases-loop
+returns-2 c = scan-more (comes c.before.before.before.before.before) _ c.loop-i.i c.loop-i.invariant.2 (omega arith) c.if-p-eq0.false
+    (ok-wrong _ _ _ _ _ _ _ c.is_way-kept.ensures _ c.slot_ok.ensures (not-true _ c.if-not-slot_ok.true-raw))
 
-loop-again : tie.Need-loop-preserved invariant-loop decreases-loop
-loop-again c =
-    let l = c.before.before.before.before.before in
-    let e = c.before.before.before in (
-      omega arith,
-      l.loop.invariant.1,
-      scan-more (comes l) _ l.loop.i l.loop.invariant.2 (omega arith) e.if1.false
-          (ok-next _ _ _ _ _ _ _ c.before.before.is-way.ensures _ c.before.Slot-ok.ensures (not-false _ c.if2.false)),
-    )
+loop-again : tie.Need-loop-i-preserved invariant-loop decreases-loop
+loop-again c = (
+  omega arith,
+  c.loop-i.invariant.1,
+  scan-more (comes c.before.before.before.before.before) _ c.loop-i.i c.loop-i.invariant.2 (omega arith) c.if-p-eq0.false
+      (ok-next _ _ _ _ _ _ _ c.is_way-kept.ensures _ c.slot_ok.ensures (not-false _ c.if-not-slot_ok.false-raw)),
+)
 
-returns-3 : tie.Need-returns-3 invariant-loop decreases-loop
-returns-3 c = let l = c.before in ok-none _ _ l.loop.before ∙ scan-past (comes l) _ l.loop.i l.loop.invariant.2 (omega arith)
+returns-3 : tie.Need-returns invariant-loop decreases-loop
+returns-3 c = ok-none _ _ c.loop-i.before ∙ scan-past (comes c.before) _ c.loop-i.i c.loop-i.invariant.2 (omega arith)
 
-pub leaf-ok-spec : {M : Type 1} → statement M
-leaf-ok-spec =
+pub leaf_ok_spec : {M : Type 1} → statement M
+leaf_ok_spec =
     tie.close
     (tie.spec
     invariant-loop

@@ -12,44 +12,37 @@ use borrow.Author.Rules.{rules}
 use Rattle.recordings.proofs.leaf_once.Statement.{statement}
 use Rattle.recordings.proofs.leaf_once.Tie as tie
 
-abbrev invariant-loop : tie.invariant-loop
+abbrev invariant-loop : tie.invariant-loop-i
 invariant-loop table marks w next count pointers i₀ i =
     let later = own_numbers (view table) marks next (nodes table + 1 - next) in
     Comparing w later (once_before (recordings_from w 1) later) i
 
-abbrev decreases-loop : tie.decreases-loop
+abbrev decreases-loop : tie.decreases-loop-i
 decreases-loop table marks w next count pointers i₀ i = count - i
 
-loop-holds : tie.Need-loop-init invariant-loop decreases-loop
-loop-holds c = record { few = c.before.before.before.requires.1.1; after-left = omega arith; comes-to = refl }
+loop-holds : tie.Need-loop-i-init invariant-loop decreases-loop
+loop-holds c = record { few = c.requires.1.1; after-left = omega arith; comes-to = refl }
 
 -- where i is compared with the later ways, and with the later leaves
 abbrev turn : tie.After-appears invariant-loop decreases-loop → tie.After-repeats invariant-loop decreases-loop
 turn c = c.before.before
 
-returns : tie.Need-returns invariant-loop decreases-loop
-returns c =
-    let r = c.before in
-    let n = r.before in
-    once-repeats n.before.before.loop.invariant n.before.loop-test.true _ n.recording.ensures _ c.if1.true r.repeats.ensures
+returns : tie.Need-returns-then-repeats invariant-loop decreases-loop
+returns c = once-repeats c.loop-i.invariant c.loop-i-test.true _ c.recording-number.ensures _ c.if-repeats.true c.repeats.ensures
 
-returns-2 : tie.Need-returns-2 invariant-loop decreases-loop
-returns-2 c =
-    let n = (turn c.before).before in
-    once-appears n.before.before.loop.inv n.before.loop-test.taken _ n.recording.ensures _ c.if2.true c.before.appears.ensures
+returns-2 : tie.Need-returns-then-appears invariant-loop decreases-loop
+returns-2 c = once-appears c.loop-i.invariant c.loop-i-test.true _ c.recording-number.ensures _ c.if-appears.true c.appears.ensures
 
-loop-again : tie.Need-loop-preserved invariant-loop decreases-loop
-loop-again c =
-    let r = turn c.before in
-    let n = r.before in
-    once-next n.before.before.loop.inv n.before.loop-test.taken _ n.recording.ensures _ _ c.before.before.if1.false r.repeats.ensures c.if2.false
-    c.before.appears.ensures
+loop-again : tie.Need-loop-i-preserved invariant-loop decreases-loop
+loop-again c = let r = turn c.before in
+    once-next r.loop-i.invariant r.loop-i-test.true _ r.recording-number.ensures _ _ c.if-repeats.false r.repeats.ensures c.if-appears.false
+    c.appears.ensures
 
-returns-3 : tie.Need-returns-3 invariant-loop decreases-loop
-returns-3 c = once-end c.before.loop.invariant c.loop-test.false
+returns-3 : tie.Need-returns invariant-loop decreases-loop
+returns-3 c = once-end c.loop-i.invariant c.loop-i-test.false
 
-pub leaf-once-spec : {M : Type 1} → statement M
-leaf-once-spec =
+pub leaf_once_spec : {M : Type 1} → statement M
+leaf_once_spec =
     tie.close
     (tie.spec
     invariant-loop

@@ -6,36 +6,30 @@ use Rattle.recordings.proofs.step.Statement.{statement}
 use Rattle.recordings.proofs.step.Tie as tie
 
 -- the places: the start, and the places and pairs cleared, before they were hit
-abbrev start : tie.After-hit-leaves → tie.Start
+abbrev start : tie.After-hit_leaves → tie.Start
 start c = c.before.before.before.before.before.before.before.before.before.before.before.before.before.before.before.before
 
-abbrev cleared : tie.After-hit-leaves → tie.After-zero2
+abbrev cleared : tie.After-hit_leaves → tie.After-zero-2
 cleared c = c.before.before.before.before.before
 
-hit-leaves-requires : tie.Need-hit-leaves-requires
-hit-leaves-requires c κs = let p = c.before.before.before.before.before.before.before.before.before.before.before.before.before.before.before.requires in (p.0, (search rules, (search rules, (p.1.1.1.0, p.1.1.1.1.0))))
+hit-leaves-requires : tie.Need-hit_leaves-requires
+hit-leaves-requires c κs = (c.requires.0, (search rules, (search rules, (c.requires.1.1.1.0, c.requires.1.1.1.1.0))))
 
-returns : tie.Need-returns
-returns c =
-    let h = c.before.before.before.before.before in
-    let p = (start h).requires in
-    let a = (start h).args in
-    let s = p.1.1.1.1.1.1 in
-    let e = from-zero _ _ _ a.once.now a.twice.now _ _ _ p.1.0 p.1.1.0 (cleared h).before.before.before.before.zero.ensures (cleared h).zero2.ensures h.hit-leaves.ensures in
-    (round-apart _ _ _ s _ e (not-true _ c.if1.true), round-stays _ _ _ s _ e)
+returns : tie.Need-returns-then-not-hit_leaves
+returns c = let a = c.args in
+    let s = c.requires.1.1.1.1.1.1 in
+    let e = from-zero _ _ _ a.once.now a.twice.now _ _ _ c.requires.1.0 c.requires.1.1.0 c.zero.ensures c.zero-2.ensures c.hit_leaves.ensures in
+    (round-apart _ _ _ s _ e (not-true _ c.if-not-hit_leaves.true-raw), round-stays _ _ _ s _ e)
 
-enter-leaves-requires : tie.Need-enter-leaves-requires
-enter-leaves-requires c κs = let p = (start c.before.before.before.before.before.before.before.before.before.before.before).requires in (search rules, (search rules, (p.1.1.1.0, p.1.1.1.1.0)))
+enter-leaves-requires : tie.Need-enter_leaves-requires
+enter-leaves-requires c κs = (search rules, (search rules, (c.requires.1.1.1.0, c.requires.1.1.1.1.0)))
 
-returns-2 : tie.Need-returns-2
-returns-2 c =
-    let h = c.before.before.before.before.before.before.before.before.before.before.before.before.before.before in
-    let p = (start h).requires in
-    let a = (start h).args in
-    let s = p.1.1.1.1.1.1 in
-    let e = from-zero _ _ _ a.once.now a.twice.now _ _ _ p.1.0 p.1.1.0 (cleared h).before.before.before.before.zero.ensures (cleared h).zero2.ensures h.hit-leaves.ensures in
+returns-2 : tie.Need-returns
+returns-2 c = let a = c.args in
+    let s = c.requires.1.1.1.1.1.1 in
+    let e = from-zero _ _ _ a.once.now a.twice.now _ _ _ c.requires.1.0 c.requires.1.1.0 c.zero.ensures c.zero-2.ensures c.hit_leaves.ensures in
     let stays = round-stays _ _ _ s _ e in
-    (cells-tell _ _ stays h.hit-leaves.new.1.0 _ _ _ (search rules) c.before.before.before.before.before.before.before.zero3.ensures c.before.before.enter-leaves.ensures, stays)
+    (cells-tell _ _ stays c.hit_leaves.new.twice _ _ _ (search rules) c.zero-3.ensures c.enter_leaves.ensures, stays)
 
 pub step_spec : {M : Type 1} → statement M
 step_spec =

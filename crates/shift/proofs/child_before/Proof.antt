@@ -7,38 +7,36 @@ use borrow.Author.Rules.{rules}
 use Rattle.shift.proofs.child_before.Statement.{statement}
 use Rattle.shift.proofs.child_before.Tie as tie
 
--- ---- the places
-
-abbrev parent : tie.After-place → tie.After-read
+abbrev parent : tie.After-place-at → tie.After-read-read
 parent c = c.before.before
 
-abbrev fence : tie.After-read → tie.After-word
+abbrev fence : tie.After-read-read → tie.After-word-fence
 fence c = c.before
 
--- ---- the answers
-
-word-requires : tie.Need-word-requires
+word-requires : tie.Need-word-fence-requires
 word-requires c κs = search rules
 
-read-requires : tie.Need-read-requires
+read-requires : tie.Need-read-read-requires
 read-requires c κs = search rules
 
-place-requires : tie.Need-place-requires
+place-requires : tie.Need-place-at-requires
 place-requires c κs = search rules
 
-pointer-before-requires : tie.Need-pointer-before-requires
-pointer-before-requires c κs =
-    let r = parent c in
-    omega (arith, c.place.ensures.0, place-length (fence r).word.result (in_use_of r.read.result.slots))
+pointer-before-requires : tie.Need-pointer_before-requires
+pointer-before-requires c κs = let r = parent c in
+    omega (arith, c.place-at.ensures.0, place-length r.word-fence.result (in_use_of r.read-read.result.slots))
 
 returns : tie.Need-returns
-returns c =
-    let p = c.before in
-    let r = parent p in
+returns c = let r = parent c.before in
     let w = fence r in
-    let entry = w.before.before in
-    before-as _ _ _ _ _ _ _ entry.pre.0 entry.pre.1 w.word.ensures r.read.ensures p.place.ensures.0 c.pointer-before.ensures
+    before-as _ _ _ _ _ _ _ w.requires.0 w.requires.1 w.word-fence.ensures r.read-read.ensures c.place-at.ensures.0 c.pointer_before.ensures
 
-pub child-before-spec : {M : Type 1} → statement M
-child-before-spec =
-    tie.close (tie.spec word-requires read-requires place-requires pointer-before-requires returns)
+pub child_before_spec : {M : Type 1} → statement M
+child_before_spec =
+    tie.close
+    (tie.spec
+    word-requires
+    read-requires
+    place-requires
+    pointer-before-requires
+    returns)

@@ -13,50 +13,44 @@ use borrow.Author.Rules.{rules}
 use Rattle.shift.proofs.move_up.Statement.{statement}
 use Rattle.shift.proofs.move_up.Tie as tie
 
-abbrev invariant-loop : tie.invariant-loop
+abbrev invariant-loop : tie.invariant-loop-i
 invariant-loop table₀ list₀ w p slots at₀ i₀ table list at i =
     (i ≤ 12) × (i ≤ length (in_use_of slots)) × (length table ≡ length table₀) × (length list ≡ length list₀) × Rest (up_to w slots p i) (desk table list at) (stored_all (moves_up w slots p) (desk table₀ list₀ at₀))
 
-abbrev decreases-loop : tie.decreases-loop
+abbrev decreases-loop : tie.decreases-loop-i
 decreases-loop table₀ list₀ w p slots at₀ i₀ table list at i = i
 
--- ---- the places
-
-abbrev to-entry : tie.After-count invariant-loop decreases-loop → tie.Start invariant-loop decreases-loop
+abbrev to-entry : tie.After-count-i invariant-loop decreases-loop → tie.Start invariant-loop decreases-loop
 to-entry c = c.before.before.before
 
-abbrev to-loop : tie.After-put-pointer-arg2 invariant-loop decreases-loop → tie.At-loop invariant-loop decreases-loop
+abbrev to-loop : tie.After-put_pointer-arg-in-loop-i-1 invariant-loop decreases-loop → tie.At-loop-i invariant-loop decreases-loop
 to-loop c = c.before.before.before
 
-abbrev to-put-pointer : tie.After-put-key-arg2 invariant-loop decreases-loop → tie.After-put-pointer invariant-loop decreases-loop
+abbrev to-put-pointer : tie.After-put_key-arg-in-loop-i-1 invariant-loop decreases-loop → tie.After-put_pointer-at invariant-loop decreases-loop
 to-put-pointer c = c.before.before.before.before.before.before
 
-abbrev to-put-key : tie.After-slice-known6 invariant-loop decreases-loop → tie.After-put-key invariant-loop decreases-loop
+abbrev to-put-key : tie.After-slice_known-in-loop-i-4-1 invariant-loop decreases-loop → tie.After-put_key-at invariant-loop decreases-loop
 to-put-key c = c.before.before.before.before
 
--- ---- the answers
+loop-holds : tie.Need-loop-i-init invariant-loop decreases-loop
+loop-holds c = let s = c.args.slots in (omega (arith, in-use-short s), omega arith, refl, refl, rest-same (up-start _ s _ _ c.count-i.ensures.0) (rest-start c.requires.1))
 
-loop-holds : tie.Need-loop-init invariant-loop decreases-loop
-loop-holds c = let s = (to-entry c).args.t5 in (omega (arith, in-use-short s), omega arith, refl, refl, rest-same (up-start _ s _ _ c.count.ensures.0) (rest-start (to-entry c).requires.1))
+put-pointer-requires : tie.Need-put_pointer-at-requires invariant-loop decreases-loop
+put-pointer-requires c κs = let l = c.loop-i in (omega arith, (omega arith, two-first (up-next _ _ _ l.i (omega arith) l.invariant.1) l.invariant.4))
 
-put-pointer-requires : tie.Need-put-pointer-requires invariant-loop decreases-loop
-put-pointer-requires c κs = let l = (to-loop c).loop in (omega arith, (omega arith, two-first (up-next _ _ _ l.i (omega arith) l.inv.1) l.inv.4))
-
-put-key-requires : tie.Need-put-key-requires invariant-loop decreases-loop
-put-key-requires c κs =
-    let after-put-pointer = to-put-pointer c in
+put-key-requires : tie.Need-put_key-at-requires invariant-loop decreases-loop
+put-key-requires c κs = let after-put-pointer = to-put-pointer c in
     let at-loop = to-loop after-put-pointer.before in
-    let l = at-loop.loop in (omega arith, (omega arith, two-second (up-next _ _ _ l.i (omega arith) l.inv.1) l.inv.4 after-put-pointer.put-pointer.ensures))
+    let l = at-loop.loop-i in (omega arith, (omega arith, two-second (up-next _ _ _ l.i (omega arith) l.invariant.1) l.invariant.4 after-put-pointer.put_pointer-at.ensures))
 
-loop-again : tie.Need-loop-preserved invariant-loop decreases-loop
-loop-again c =
-    let after-put-key = to-put-key c in
+loop-again : tie.Need-loop-i-preserved invariant-loop decreases-loop
+loop-again c = let after-put-key = to-put-key c in
     let after-put-pointer = to-put-pointer after-put-key.before in
     let at-loop = to-loop after-put-pointer.before in
-    let l = at-loop.loop in (omega arith, omega arith, search rules, search rules, two-after (up-next _ _ _ l.i (omega arith) l.inv.1) l.inv.4 after-put-pointer.put-pointer.ensures after-put-key.put-key.ensures)
+    let l = at-loop.loop-i in (omega arith, omega arith, search rules, search rules, two-after (up-next _ _ _ l.i (omega arith) l.invariant.1) l.invariant.4 after-put-pointer.put_pointer-at.ensures after-put-key.put_key-at.ensures)
 
 returns : tie.Need-returns invariant-loop decreases-loop
-returns c = let l = c.before.loop in rest-none (rest-same (up-end _ _ _ l.i (omega arith)) l.invariant.4)
+returns c = let l = c.loop-i in rest-none (rest-same (up-end _ _ _ l.i (omega arith)) l.invariant.4)
 
 pub move_up_spec : {M : Type 1} → statement M
 move_up_spec =

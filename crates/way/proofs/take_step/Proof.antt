@@ -10,60 +10,45 @@ use borrow.Author.Rules.{rules}
 use Rattle.way.proofs.take_step.Statement.{statement}
 use Rattle.way.proofs.take_step.Tie as tie
 
-returns : tie.Need-returns
-returns c =
-    let h = c.before in
-    let a = h.before.before.before in
-    step-lost _ _ _ _ _ (pass-off _ _ _ (level-out _ _ _ a.requires.0 (sym h.has.ensures ∙ not-true _ c.if1.true)))
+returns : tie.Need-returns-then-not-has
+returns c = step-lost _ _ _ _ _ (pass-off _ _ _ (level-out _ _ _ c.requires.0 (sym c.has.ensures ∙ not-true _ c.if-not-has.true-raw)))
 
-returns-2 : tie.Need-returns-2
-returns-2 c =
-    let r = c.before.before in
-    let e = r.before in
-    let h = e.before in
-    let a = h.before.before.before in
-    step-lost _ _ _ _ _ (pass-off _ _ _ (off-level _ _ _ _ a.requires.0 (sym h.has.ensures ∙ not-false _ e.if1.false) r.read.ensures c.if2.true))
+returns-2 : tie.Need-returns-then-x-level
+returns-2 c = step-lost _ _ _ _ _ (pass-off _ _ _ (off-level _ _ _ _ c.requires.0 (sym c.has.ensures ∙ not-false _ c.if-not-has.false-raw) c.read-x.ensures c.if-x-level.true))
 
-stand-requires : tie.Need-stand-requires
-stand-requires c κs =
-    let r = c.before.before in
-    let e = r.before in
-    let h = e.before in
-    let p = h.before.before.before.requires in
-    (p.0, (sym (level-in _ _ _ _ p.0 (sym h.has.ensures ∙ not-false _ e.if1.false) r.read.ensures) ∙ eq-eqb r.read.result.level _ refl, r.read.ensures))
+stand-requires : tie.Need-stand-s-requires
+stand-requires c κs = (c.requires.0, (sym (level-in _ _ _ _ c.requires.0 (sym c.has.ensures ∙ not-false _ c.if-not-has.false-raw) c.read-x.ensures) ∙ eq-eqb c.read-x.result.level _ refl, c.read-x.ensures))
 
 -- the start, from where the search stood; and what it saw there
-abbrev entry : tie.After-stand → tie.Start
+abbrev entry : tie.After-stand-s → tie.Start
 entry s = s.before.before.before.before.before.before.before.before
 
-abbrev seen : (s : tie.After-stand) → s.stand.result ≡ seen_in (view (entry s).args.table.now) (entry s).args.key (stand_on (view (entry s).args.table.now) (entry s).args.level (entry s).args.n (entry s).args.key)
-seen s = seen-level _ _ _ _ _ _ s.stand.ensures s.before.if2.false
+abbrev seen : (s : tie.After-stand-s) → s.stand-s.result ≡ seen_in (view s.args.table.now) s.args.key (stand_on (view s.args.table.now) s.args.level s.args.n s.args.key)
+seen s = seen-level _ _ _ _ _ _ s.stand-s.ensures s.if-x-level.false
 
-returns-3 : tie.Need-returns-3
-returns-3 c = let s = c.before.before in step-nowhere _ _ _ _ _ _ (seen s) c.if3.true
+returns-3 : tie.Need-returns-then-s-eq0
+returns-3 c = step-nowhere _ _ _ _ _ _ (seen c.before.before) c.if-s-eq0.true
 
-shown-fit-requires : tie.Need-shown-fit-requires
-shown-fit-requires c κs =
-    let s = c.before.before in
-    let p = (entry s).requires in
-    let w = stood-few (entry s).args.marks.now _ _ _ _ _ (seen s) c.if3.false in
-    (omega (arith, w, p.1), omega (arith, w, header-few _ p.0))
+shown-fit-requires : tie.Need-shown_fit-shown-requires
+shown-fit-requires c κs = let w = stood-few c.args.marks.now _ _ _ _ _ (seen c.before.before) c.if-s-eq0.false in
+    (omega (arith, w, c.requires.1), omega (arith, w, header-few _ c.requires.0))
 
-returns-4 : tie.Need-returns-4
-returns-4 c =
-    let f = c.before in
-    let e = f.before in
-    let s = e.before.before in
-    step-unfit _ _ _ _ _ _ (seen s) e.if3.false _ f.shown-fit.ensures c.if4.true
+returns-4 : tie.Need-returns-then-shown-eq12
+returns-4 c = step-unfit _ _ _ _ _ _ (seen c.before.before.before.before) c.if-s-eq0.false _ c.shown_fit-shown.ensures c.if-shown-eq12.true
 
-returns-5 : tie.Need-returns-5
-returns-5 c =
-    let f = c.before in
-    let e = f.before in
-    let s = e.before.before in
-    step-fit _ _ _ _ _ _ (seen s) e.if3.false _ f.shown-fit.ensures c.if4.false
+returns-5 : tie.Need-returns
+returns-5 c = step-fit _ _ _ _ _ _ (seen c.before.before.before.before) c.if-s-eq0.false _ c.shown_fit-shown.ensures c.if-shown-eq12.false
 
-pub take-step-spec : {M : Type 1} → statement M
-take-step-spec =
+pub take_step_spec : {M : Type 1} → statement M
+take_step_spec =
     tie.close
-    (tie.spec (λ c κs. search rules) returns (λ c κs. search rules) returns-2 stand-requires returns-3 shown-fit-requires returns-4 returns-5)
+    (tie.spec
+    (λ c κs. search rules)
+    returns
+    (λ c κs. search rules)
+    returns-2
+    stand-requires
+    returns-3
+    shown-fit-requires
+    returns-4
+    returns-5)

@@ -1,0 +1,21 @@
+-- `compare::tree_ok` meets its contract.
+use mathlib.Core.Logic.{inl, inr, ⊎_elim}
+use borrow.Author.Tests.{not-true, not-false}
+use Rattle.compare.proofs.Trees.{tree-fixed, tree-other, tree-same}
+use Rattle.compare.proofs.tree_ok.Goals as goal
+
+-- held-after-requires
+
+-- held-requires
+
+pub returns-then-not-own : goal.returns-then-not-own
+returns-then-not-own c = tree-fixed c.args.image.now c.args.table.now c.args.top c.args.root _ _ _ c.requires.top_value c.requires.root_value _ _ c.held-after.ensures c.held.ensures c.if-after-held.true (not-true _ c.if-not-own.true-raw)
+
+pub returns-then-after-pointer : goal.returns-then-after-pointer
+returns-then-after-pointer c = tree-other c.args.image.now c.args.table.now c.args.top c.args.root _ _ _ c.requires.top_value c.requires.root_value _ _ c.held-after.ensures c.held.ensures c.if-after-held.true c.if-after-pointer.true
+
+-- same_but-requires
+
+pub returns : goal.returns
+returns c = tree-same c.args.image.now c.args.table.now c.args.top c.args.root _ _ _ c.requires.top_value c.requires.root_value _ _ c.held-after.ensures c.held.ensures _ c.same_but.ensures
+    (⊎_elim (λ w. inr (not-false _ w.1.left, w.2.left)) (λ w. inl w.left) c.if-after-held.branch)
