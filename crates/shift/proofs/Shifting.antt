@@ -22,7 +22,7 @@ pub record Gauged (n : Node) (k p b : ℕ) : Type 0 where
 pub in-steps : (w : ℕ) (n : Node) (k x p m b : ℕ) → Gauged n k p b → m ≡ length (in_use_of n.slots)
     → slot_in w n k x ≡ in_from w (pointer_to (m + 1) 0) ∷ (moves_up w n.slots p ++ (in_from w (pointer_to p b) ∷ in_from w (key_to p k) ∷ in_from w (pointer_to p x) ∷ []))
 unfolding slot_in shift_in
-in-steps w n k x p m b c em = rw (c.pointer, em, c.place, add-one, map-append)
+in-steps w n k x p m b c em = rw (c.pointer, em, c.place, add-one, map-append (in_from w))
 
 -- ---- closing a gap: the moves, a store
 

@@ -43,7 +43,7 @@ shift-out-requires c κs = let s = started c in let e = entry s in (e.requires.0
 
 add-store : tie.Need-overflow_add-w
 add-store c = let s = started c.before.before.before.before.before.before.before in
-    omega (arith, node-fits _ _ _ (rw (← s.child_before-neighbour.ensures) at s.requires.1.1.0) s.start-w.ensures, s.good)
+    omega (arith, node-fits _ _ _ (rw (← s.child_before-neighbour.ensures) at s.requires.1.1.0) s.start-w.ensures, s.well_formed)
 
 store-requires : tie.Need-store-requires
 store-requires c κs = let o = out c in let s = started o.before in then-room _ _ _ _ o.shift_out-out.ensures (room-as _ _ _ (stores s) s.requires.1.1.1)

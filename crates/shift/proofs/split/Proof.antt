@@ -120,7 +120,7 @@ put-words-requires c κs = let p = parts (known (worded c)) in
 
 add-store : tie.Need-overflow_add-w
 add-store c = let k = known (words₁ (filled c)) in
-    omega (arith, node-fits _ _ _ (parts k).lower (parts k).lower-start, k.good)
+    omega (arith, node-fits _ _ _ (parts k).lower (parts k).lower-start, k.well_formed)
 
 store-requires : tie.Need-store-linked-requires
 store-requires c κs = rest-one (rest₁ (filled c))
