@@ -1,5 +1,4 @@
 -- `recordings::step` meets its contract.
-use mathlib.Core.Path.{◌∙◌}
 use Rattle.recordings.proofs.RoundLaws.{round-stays, round-apart, from-zero, cells-tell}
 use borrow.Author.Tests.{not-true}
 use borrow.Author.Rules.{rules}
@@ -30,7 +29,7 @@ returns-2 c = let a = c.args in
     let s = c.requires.1.1.1.1.1.1 in
     let e = from-zero _ _ _ a.once.now a.twice.now _ _ _ c.requires.1.0 c.requires.1.1.0 c.zero.ensures c.zero-2.ensures c.hit_leaves.ensures in
     let stays = round-stays _ _ _ s _ e in
-    (cells-tell _ _ stays c.hit_leaves.new.twice _ _ _ (c.hit_leaves.auto.twice ∙ c.zero-2.auto.table ∙ c.requires.1.1.0) c.zero-3.ensures c.enter_leaves.ensures, stays)
+    (cells-tell _ _ stays c.hit_leaves.new.once _ _ _ (search rules) c.zero-3.ensures c.enter_leaves.ensures, stays)
 
 pub step_spec : {M : Type 1} → statement M
 step_spec =
