@@ -3,6 +3,7 @@ use mathlib.Core.Logic.{inl, inr, ⊎_elim}
 use borrow.Author.Tests.{not-true, not-false}
 use Rattle.compare.proofs.Trees.{tree-fixed, tree-other, tree-same}
 use Rattle.compare.proofs.tree_ok.Goals as goal
+use Rattle.compare.proofs.tree_ok.Goals.{then-after-held+else-not-own+else-after-pointer, else-after-held}
 
 -- held-after-requires
 
@@ -18,4 +19,4 @@ returns-then-after-pointer c = tree-other c.args.image.now c.args.table.now c.ar
 
 pub returns : goal.returns
 returns c = tree-same c.args.image.now c.args.table.now c.args.top c.args.root _ _ _ c.requires.top_value c.requires.root_value _ _ c.held-after.ensures c.held.ensures _ c.same_but.ensures
-    (⊎_elim (λ w. inr (not-false _ w.1.left, w.2.left)) (λ w. inl w.left) c.if-after-held.branch)
+    (elim c.if-after-held.branch [ then-after-held+else-not-own+else-after-pointer w ↦ inr (w.if-not-own.false, w.if-after-pointer.false) | else-after-held w ↦ inl w.if-after-held.false ])

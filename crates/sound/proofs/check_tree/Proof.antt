@@ -15,76 +15,72 @@ use Rattle.sound.proofs.check_tree.Statement.{statement}
 use Rattle.sound.proofs.check_tree.Tie as tie
 
 -- the places: the table walked, what the walk met, the verdict on it, the leftover allowed
-abbrev walked : tie.After-seen → tie.After-walk
-walked c = c.before.before.before
+abbrev walked : tie.In-Visited → tie.After-walk-seen
+walked c = c.before.before
 
-abbrev seen : tie.After-judge → tie.After-seen
-seen c = c.before.before
+abbrev seen : tie.After-judge-verdict → tie.In-Visited
+seen c = c.before
 
-abbrev judged : tie.After-verdict → tie.After-judge
-judged c = c.before.before
+abbrev judged : tie.In-Allowed → tie.After-judge-verdict
+judged c = c.before
 
-abbrev allowed : tie.After-has-room → tie.After-verdict
-allowed c = c.before.before
+abbrev allowed : tie.After-has_room → tie.In-Allowed
+allowed c = c.before
 
-abbrev start : tie.After-walk → tie.Start
+abbrev start : tie.After-walk-seen → tie.Start
 start c = c.before.before.before
 
-abbrev tree : tie.After-walk → View
-tree c = let a = (start c).args in view_from a.table.now a.root
+abbrev tree : tie.After-walk-seen → View
+tree c = let a = c.args in view_from a.table.now a.root
 
-abbrev found : (c : tie.After-judge) → Found (tree (walked (seen c))) c.judge.result
+abbrev found : (c : tie.After-judge-verdict) → Found (tree (walked (seen c))) c.judge-verdict.result
 found c =
     let w = walked (seen c) in
-    record { count = _; unfinished = _; walked = sym w.walk.ensures.0 ∙ (seen c).seen.given.1; verdict = c.judge.ensures }
+    record { count = _; unfinished = _; walked = sym w.walk-seen.ensures.0 ∙ c.in-Visited.is; verdict = c.judge-verdict.ensures }
 
 -- what the marked leaves tell, told of the map
-abbrev roomed : tie.After-ok → tie.After-has-room
+abbrev roomed : tie.After-ok → tie.After-has_room
 roomed c = c.before.before.before.before
 
 -- the marks keep their length
-long : (c : tie.After-walk) → length c.walk.new.1.1.0 ≡ MARKS
-long c = c.walk.auto.1.1.0
+long : (c : tie.After-walk-seen) → length c.walk-seen.new.1.1.0 ≡ MARKS
+long c = c.walk-seen.auto.1.1.0
 
-right : (c : tie.After-ok) → let a = (start (walked (seen (judged (allowed (roomed c)))))).args in c.ok.result ≡ recordings_ok (mapping (view_from a.table.now a.root))
+right : (c : tie.After-ok) → let a = c.args in c.ok.result ≡ recordings_ok (mapping (view_from a.table.now a.root))
 right c =
     let v = allowed (roomed c) in
     let s = seen (judged v) in
     let w = walked s in
-    let a = (start w).args in
-    walk-right a.table.now a.root MARKS _ _ _ _ _ _ (start w).pre (long w) w.walk.ensures.0 s.seen.given.1 w.walk.ensures.1
-    (allowed-is _ _ _ (judged v).judge.ensures v.verdict.given.1) c.before.before.uncut.ensures _ c.ok.ensures
+    let a = w.args in
+    walk-right a.table.now a.root MARKS _ _ _ _ _ _ w.requires (long w) w.walk-seen.ensures.0 s.in-Visited.is w.walk-seen.ensures.1
+    (allowed-is _ _ _ v.judge-verdict.ensures v.in-Allowed.is) c.uncut.ensures _ c.ok.ensures
 
 -- the parent's room, in the tree that is checked
-roomy : (c : tie.After-has-room) → c.has_room.result ≡ has_room (tree (walked (seen (judged (allowed c))))) (meant (allowed c).verdict.given.0.0)
+roomy : (c : tie.After-has_room) → c.has_room.result ≡ has_room (tree (walked (seen (judged (allowed c))))) (meant c.in-Allowed.left)
 roomy c =
-    let a = (start (walked (seen (judged (allowed c))))).args in
-    c.has_room.ensures ∙ room-any a.table.now (root a.table.now) a.root (meant (allowed c).verdict.given.0.0)
+    let a = c.args in
+    c.has_room.ensures ∙ room-any a.table.now (root a.table.now) a.root (meant c.in-Allowed.left)
 
-returns : tie.Need-returns
-returns c =
-    let a = allowed c.before in
-    wrong-room (found (judged a)) _ a.verdict.given.1 (sym (roomy c.before) ∙ not-true _ c.if1.true)
+returns : tie.Need-returns-then-not-has_room
+returns c = let a = allowed c.before in
+    wrong-room (found (judged a)) _ a.in-Allowed.is (sym (roomy c.before) ∙ not-true _ c.if-not-has_room.true-raw)
 
-returns-2 : tie.Need-returns-2
-returns-2 c =
-    let a = allowed (roomed c.before) in
-    wrong-recordings (found (judged a)) _ a.verdict.given.1 (sym (right c.before) ∙ not-true _ c.if2.true)
+returns-2 : tie.Need-returns-then-not-ok
+returns-2 c = let a = allowed (roomed c.before) in
+    wrong-recordings (found (judged a)) _ a.in-Allowed.is (sym (right c.before) ∙ not-true _ c.if-not-ok.true-raw)
 
-returns-3 : tie.Need-returns-3
-returns-3 c = wrong-walk _ _ c.before.before.before.walk.ensures.0 c.enum_told.given.1
+returns-3 : tie.Need-returns-in-Unsound
+returns-3 c = wrong-walk _ _ c.walk-seen.ensures.0 c.in-Unsound.is
 
-returns-4 : tie.Need-returns-4
-returns-4 c = wrong-leftover (found c.before.before) c.enum-told2.given.1
+returns-4 : tie.Need-returns-in-TooMuch
+returns-4 c = wrong-leftover (found c.before) c.in-TooMuch.is
 
-returns-5 : tie.Need-returns-5
-returns-5 c =
-    let i = c.before.before.before.before in
-    let a = allowed i.before in
-    all-right (found (judged a)) _ a.verdict.given.1 (sym (roomy i.before) ∙ not-false _ i.if1.false) (sym (right c.before) ∙ not-false _ c.if2.false)
+returns-5 : tie.Need-returns-else-not-ok
+returns-5 c = let a = allowed c.before.before.before.before.before in
+    all-right (found (judged a)) _ a.in-Allowed.is (sym (roomy c.before.before.before.before.before) ∙ not-false _ c.if-not-has_room.false-raw) (sym (right c.before) ∙ not-false _ c.if-not-ok.false-raw)
 
-pub check-tree-spec : {M : Type 1} → statement M
-check-tree-spec =
+pub check_tree_spec : {M : Type 1} → statement M
+check_tree_spec =
     tie.close
     (tie.spec
     (λ c. search rules)

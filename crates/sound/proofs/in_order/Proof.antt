@@ -8,28 +8,34 @@ use Rattle.sound.proofs.in_order.Statement.{statement}
 use Rattle.sound.proofs.in_order.Tie as tie
 
 -- past the first test
-cleared : (c : tie.Else1) → let a = c.before.before.before.args in clear_in a.table.now a.n ≡ true
-cleared c = sym c.before.clear.ensures ∙ not-false _ c.if1.false
+cleared : (c : tie.Else-not-clear) → let a = c.args in clear_in a.table.now a.n ≡ true
+cleared c = sym c.clear.ensures ∙ not-false _ c.if-not-clear.false-raw
 
 clear-requires : tie.Need-clear-requires
 clear-requires c κs = search rules
 
-returns : tie.Need-returns
-returns c = rw (sym c.before.clear.ensures ∙ not-true _ c.if1.true)
+returns : tie.Need-returns-then-not-clear
+returns c = rw (sym c.clear.ensures ∙ not-true _ c.if-not-clear.true-raw)
 
-sibling-ok-requires : tie.Need-sibling-ok-requires
+sibling-ok-requires : tie.Need-sibling_ok-requires
 sibling-ok-requires c κs = search rules
 
-returns-2 : tie.Need-returns-2
-returns-2 c = rw (cleared c.before.before, sym c.before.sibling-ok.ensures ∙ not-true _ c.if2.true)
+returns-2 : tie.Need-returns-then-not-sibling_ok
+returns-2 c = rw (cleared c.before.before, sym c.sibling_ok.ensures ∙ not-true _ c.if-not-sibling_ok.true-raw)
 
-leaf-fair-requires : tie.Need-leaf-fair-requires
+leaf-fair-requires : tie.Need-leaf_fair-requires
 leaf-fair-requires c κs = search rules
 
-returns-3 : tie.Need-returns-3
-returns-3 c =
-    let s = c.before.before in
-    rw (cleared s.before, sym s.sibling-ok.ensures ∙ not-false _ c.before.if2.false) c.leaf-fair.ensures
+returns-3 : tie.Need-returns
+returns-3 c = rw (cleared c.before.before.before, sym c.sibling_ok.ensures ∙ not-false _ c.if-not-sibling_ok.false-raw) c.leaf_fair.ensures
 
-pub in-order-spec : {M : Type 1} → statement M
-in-order-spec = tie.close (tie.spec clear-requires returns sibling-ok-requires returns-2 leaf-fair-requires returns-3)
+pub in_order_spec : {M : Type 1} → statement M
+in_order_spec =
+    tie.close
+    (tie.spec
+    clear-requires
+    returns
+    sibling-ok-requires
+    returns-2
+    leaf-fair-requires
+    returns-3)

@@ -13,28 +13,26 @@ start c = c.before.before
 abbrev has : tie.After-word → tie.After-has
 has c = c.before.before
 
-abbrev level : tie.After-word2 → tie.After-word
+abbrev level : tie.After-word-2 → tie.After-word
 level c = c.before.before
 
-returns : tie.Need-returns
-returns c = stands-out _ _ _ _ _ (start c.before).requires (sym c.before.has.ensures ∙ not-true _ c.if1.true)
+returns : tie.Need-returns-then-not-has
+returns c = stands-out _ _ _ _ _ c.requires (sym c.has.ensures ∙ not-true _ c.if-not-has.true-raw)
 
-returns-2 : tie.Need-returns-2
-returns-2 c = stands-level _ _ _ _ _ (start (has c.before)).requires _ c.before.word.ensures c.if2.true
+returns-2 : tie.Need-returns-then-word-level
+returns-2 c = stands-level _ _ _ _ _ c.requires _ c.word.ensures c.if-word-level.true
 
-returns-3 : tie.Need-returns-3
-returns-3 c = stands-fence _ _ _ _ _ (start (has (level c.before))).requires _ c.before.word2.ensures c.if3.true
+returns-3 : tie.Need-returns-then-word-fence
+returns-3 c = stands-fence _ _ _ _ _ c.requires _ c.word-2.ensures c.if-word-fence.true
 
-returns-4 : tie.Need-returns-4
-returns-4 c =
-    let f = c.before.before in
-    let l = level f in
+returns-4 : tie.Need-returns
+returns-4 c = let l = level c.before.before in
     let h = has l in
-    stands-all _ _ _ _ _ (start h).pre _ _ _ (sym h.has.ensures ∙ not-false _ l.before.if1.left) l.word.ensures f.before.if2.false
-    f.word2.ensures c.before.if3.false c.word3.ensures
+    stands-all _ _ _ _ _ h.requires _ _ _ (sym h.has.ensures ∙ not-false _ l.if-not-has.false) l.word.ensures c.if-word-level.false
+    c.word-2.ensures c.if-word-fence.false c.word-3.ensures
 
-pub stands-spec : {M : Type 1} → statement M
-stands-spec =
+pub stands_spec : {M : Type 1} → statement M
+stands_spec =
     tie.close
     (tie.spec
     (λ c κs. search rules)

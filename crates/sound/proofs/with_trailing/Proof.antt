@@ -5,37 +5,40 @@ use Rattle.sound.proofs.with_trailing.Statement.{statement}
 use Rattle.sound.proofs.with_trailing.Tie as tie
 
 -- where the parent and the node are known
-abbrev start : tie.After-missing → tie.Start
-start c = c.before.before
+abbrev start : tie.In-Under → tie.Start
+start c = c.before
 
-enum_told : tie.Need-enum-told
+enum_told : tie.Need-enum_told-1
 enum_told c = search rules
 
-enum-known-missing : tie.Need-enum-known-missing
+enum-known-missing : tie.Need-enum_known-missing
 enum-known-missing c = search rules
 
-returns : tie.Need-returns
-returns c =
-    let m = c.before.before in
-    let a = (start m).args in
-    trailing-other a.missing _ _ m.missing.given.1 a.x c.if1.true
+returns : tie.Need-returns-then-x-node
+returns c = let a = c.args in
+    trailing-other a.missing _ _ c.in-Under.is a.x c.if-x-node.true
 
-enum-told-2 : tie.Need-enum-told-2
+enum-told-2 : tie.Need-enum_told-in-Several
 enum-told-2 c = search rules
 
-returns-2 : tie.Need-returns-2
+returns-2 : tie.Need-returns-in-Nowhere
 returns-2 c = search rules
 
-returns-3 : tie.Need-returns-3
-returns-3 c =
-    let m = c.before.before in
-    let a = (start m).args in
-    trailing-same a.missing _ _ m.missing.given.1 a.x c.if1.false
+returns-3 : tie.Need-returns-else-x-node
+returns-3 c = let a = c.args in
+    trailing-same a.missing _ _ c.in-Under.is a.x c.if-x-node.false
 
-returns-4 : tie.Need-returns-4
+returns-4 : tie.Need-returns-in-Several
 returns-4 c = search rules
 
-pub with-trailing-spec : {M : Type 1} → statement M
-with-trailing-spec =
+pub with_trailing_spec : {M : Type 1} → statement M
+with_trailing_spec =
     tie.close
-    (tie.spec enum_told enum-known-missing returns enum-told-2 returns-2 returns-3 returns-4)
+    (tie.spec
+    enum_told
+    enum-known-missing
+    returns
+    enum-told-2
+    returns-2
+    returns-3
+    returns-4)
