@@ -24,29 +24,28 @@ unfolding with_digit
 too_large s b d l =
     rw (d, value-digit b d, lt-leb (s.recording * 10 + (b - 48)) MARK (omega (arith, digit-range b d)))
 
-in-word : (s : LineState) (b : ℕ) → is_digit b ≡ true → s.recording ≤ (MARK - (b - 48)) / 10
-    → record { place = Recording; plus = s.plus; code = s.code; count = s.count; recording = s.recording * 10 + (b - 48) } ≡ with_digit s b
+in-word : (s : LineState) (b : ℕ) → is_digit b ≡ true → s.recording ≤ (MARK - (b - 48)) / 10 → record { place = Recording; plus = s.plus; code = s.code; count = s.count; recording = s.recording * 10 + (b - 48) } ≡ with_digit s b
 unfolding with_digit
 in-word s b d l =
     rw (d, value-digit b d, le-leb (s.recording * 10 + (b - 48)) MARK (omega (arith, digit-range b d)))
 
-is_digit : (c : tie.Else1) → is_digit c.before.before.args.b ≡ true
-is_digit c = sym c.before.is_digit.ensures ∙ not-false _ c.if1.false
+is-digit : (c : tie.Else-not-is_digit) → is_digit c.args.b ≡ true
+is-digit c = sym c.is_digit.ensures ∙ not-false _ c.if-not-is_digit.false-raw
 
-returns : tie.Need-returns
-returns c = c.moved.ensures ∙ no_digit _ _ (sym c.before.before.is_digit.ensures ∙ not-true _ c.before.if1.true)
+returns : tie.Need-returns-then-not-is_digit
+returns c = c.moved.ensures ∙ no_digit _ _ (sym c.is_digit.ensures ∙ not-true _ c.if-not-is_digit.true-raw)
 
-sub-d : tie.Need-overflow-sub-d
-sub-d c = omega (arith, digit-range c.before.before.args.b (is_digit c))
+sub-d : tie.Need-overflow_sub-d
+sub-d c = omega (arith, digit-range c.args.b (is-digit c))
 
-returns-2 : tie.Need-returns-2
-returns-2 c = c.moved2.ensures ∙ too_large _ _ (is_digit c.before.before.before) c.before.if2.true
+returns-2 : tie.Need-returns-then-d-s
+returns-2 c = c.moved-then-d-s.ensures ∙ too_large _ _ (is-digit c.before.before.before) c.if-d-s.true
 
-returns-3 : tie.Need-returns-3
-returns-3 c = in-word _ _ (is_digit c.before.before.before.before) c.before.before.if2.false
+returns-3 : tie.Need-returns
+returns-3 c = in-word _ _ (is-digit c.before.before.before.before) c.if-d-s.false
 
-pub with-digit-spec : {M : Type 1} → statement M
-with-digit-spec =
+pub with_digit_spec : {M : Type 1} → statement M
+with_digit_spec =
     tie.close
     (tie.spec
     (λ c κs. search rules)

@@ -1,8 +1,8 @@
 -- `script_bytes::read_line` meets its contract. The loop's invariant: what is left of the piece, read from the line so far, is the whole read.
 use mathlib.Core.Path.{◌≡◌, sym, ap, ◌∙◌}
-use mathlib.Core.Logic.{◌≢◌}
 use mathlib.Core.Bool.{true, false}
-use Prim.Native.Nat.{ℕ, suc, ◌+◌, ◌-◌, ◌≤◌, ◌<◌}
+use mathlib.Core.Logic.{◌≢◌}
+use Prim.Native.Nat.{ℕ, suc, ◌+◌, ◌≤◌, ◌<◌}
 use native.Mathlib.Numerals.{add-one}
 use native.Mathlib.Omega.{arith}
 use lib.ListN.{length, get_or, drop, drop_of_length-le}
@@ -12,17 +12,8 @@ use borrow.Author.Tests.{ne_eqb}
 use Rattle.model.specs.Printer.{Bytes}
 use Rattle.script_bytes.specs.Line.{step, line_in}
 use Rattle.script_bytes.specs.declared.LineState.{LineState}
-use Rattle.script_bytes.specs.declared.LineRead.{LineRead}
-use Rattle.script_bytes.proofs.read_line.Statement.{statement}
-use Rattle.script_bytes.proofs.read_line.Tie as tie
-
--- the same read, n bytes used
-abbrev used_as : LineRead → ℕ → LineRead
-used_as x n = record { line = x.line; used = n; ended = x.ended }
-
--- what is left of the piece, after i bytes
-abbrev left : LineState → ℕ → Bytes → LineRead
-left s i piece = let x = line_in s (drop i piece) in used_as x (i + x.used)
+use Rattle.script_bytes.proofs.read_line.Invariants.{left, used_as}
+use Rattle.script_bytes.proofs.read_line.Goals as goal
 
 at-start : (s : LineState) (piece : Bytes) → line_in s piece ≡ left s 0 piece
 at-start s piece =
@@ -47,36 +38,14 @@ module _ (s : LineState) (i : ℕ) (piece : Bytes) where
       let n : i ≡ i + 0 = omega arith in
       rw (drop_of_length-le piece h, line_in) (ap (used_as (record { line = s; used = i; ended = false })) n)
 
-abbrev invariant-loop : tie.invariant-loop
-invariant-loop piece s₀ i₀ s i = (i ≤ length piece) × (line_in s₀ piece ≡ left s i piece)
+pub loop-i-init : goal.loop-i-init
+loop-i-init c = (search rules, at-start _ _)
 
-abbrev decreases-loop : tie.decreases-loop
-decreases-loop piece s₀ i₀ s i = length piece - i
+pub returns-then-b-eq10 : goal.returns-then-b-eq10
+returns-then-b-eq10 c = at-feed _ _ _ (omega arith) c.if-b-eq10.true ∙ sym c.loop-i.invariant.1
 
-loop-holds : tie.Need-loop-init invariant-loop decreases-loop
-loop-holds c = (search rules, at-start _ _)
+pub loop-i-preserved : goal.loop-i-preserved
+loop-i-preserved c = (search rules, c.loop-i.invariant.1 ∙ at_other _ _ _ (omega arith) c.if-b-eq10.false _ c.take-s.ensures)
 
-returns : tie.Need-returns invariant-loop decreases-loop
-returns c = at-feed _ _ _ (omega arith) c.if1.true ∙ sym c.before.before.before.loop.invariant.1
-
-loop-again : tie.Need-loop-preserved invariant-loop decreases-loop
-loop-again c = (search rules, c.before.before.before.before.loop.invariant.1 ∙ at_other _ _ _ (omega arith) c.before.if1.false _ c.take.ensures)
-
-returns-2 : tie.Need-returns-2 invariant-loop decreases-loop
-returns-2 c = at-end _ _ _ (omega arith) ∙ sym c.before.loop.invariant.1
-
-pub read-line-spec : {M : Type 1} → statement M
-read-line-spec =
-    tie.close
-    (tie.spec
-    invariant-loop
-    decreases-loop
-    loop-holds
-    (λ c. search rules)
-    (λ c. search rules)
-    returns
-    (λ c κs. search rules)
-    (λ c. search rules)
-    (λ c. search rules)
-    loop-again
-    returns-2)
+pub returns : goal.returns
+returns c = at-end _ _ _ (omega arith) ∙ sym c.loop-i.invariant.1
