@@ -21,7 +21,7 @@ help:
 	@echo "make install    program, libraries, headers, manual pages, completion, Python module (PREFIX=/usr/local, DESTDIR=)"
 	@echo "make uninstall  removes what install put there"
 	@echo "                TARGET=aarch64 with make, make install: for 64-bit ARM, in target/aarch64 (TARGET=x86_64: for x86-64)"
-	@echo "make clean      removes target/, the proofs' results too"
+	@echo "make clean      removes target/, and crates/*/out with the proofs' results"
 
 needs:
 	@.ci/needs build $(TARGET)
@@ -57,6 +57,6 @@ install uninstall:
 	@$(MAKE) -s -C shell $@
 
 clean:
-	rm -rf target
+	rm -rf target crates/*/out
 
 .PHONY: all bench check clean demo gate help install needs own test uninstall wasm

@@ -53,9 +53,9 @@ def from_rust(text):
 def from_rattle(text):
     """A lent slice is a pointer and a length. The length has no name in Rattle: None."""
     calls = {}
-    for attribute, name, inside, back in re.findall(r'(#\[no_mangle\]\s*)?pub extern "C" fn\s+(\w+)\s*\(([^)]*)\)([^{]*?)(?:ensures|requires|\{)', text):
+    for attribute, name, inside, back in re.findall(r'(#\[unsafe\(no_mangle\)\]\s*)?pub extern "C" fn\s+(\w+)\s*\(([^)]*)\)([^{]*?)(?:ensures|requires|\{)', text):
         if not attribute:
-            raise Unread(f"{name} lacks #[no_mangle]")
+            raise Unread(f"{name} lacks #[unsafe(no_mangle)]")
         parameters = []
         for p in parts(inside):
             its_name, lent, kind = one(r"(\w+)\s*:\s*(&mut |&)?(.+)", p)
@@ -150,9 +150,9 @@ FAULTS = [
     (2, "collection: u64, low: u64", "low: u64"),
     (2, "text: &mut [u8; 12]", "text: &mut [u8]"),
     (2, "orders: &[u64], c: u64", "c: u64, orders: &[u64]"),
-    (2, "#[no_mangle]\npub extern \"C\" fn catalogue_make", "pub extern \"C\" fn catalogue_make"),
+    (2, "#[unsafe(no_mangle)]\npub extern \"C\" fn catalogue_make", "pub extern \"C\" fn catalogue_make"),
     (2, "-> u64\n    ensures", "-> usize\n    ensures"),
-    (2, "fn one_if", "#[no_mangle]\nfn one_if"),
+    (2, "fn one_if", "#[unsafe(no_mangle)]\nfn one_if"),
     (2, "next: &mut u64", "next: u64"),
     (2, "out: &mut [u64], collection: u64", "collection: u64, out: &mut [u64]"),
     (2, "orders: &mut [u64], dock: u64", "dock: u64, orders: &mut [u64]"),

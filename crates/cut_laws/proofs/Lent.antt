@@ -46,7 +46,8 @@ set-two p lent n x y e h =
     rw (drop-cons lent n 0 (omega arith), drop-cons lent (suc n) 0 h, set_at p (get_or lent n 0) (next ∷ rest) x n e, ← (append_snoc p x (next ∷ rest)), set_at (p ++ (x ∷ [])) next rest y (suc n) (simp length-append (omega arith)))
     (simp append_assoc)
 
-list_with-snoc : (os : List Order) (o : Order) (lent : Words) (x y : ℕ) → encode (o ∷ []) ≡ x ∷ y ∷ [] → 2 * length os + 2 ≤ length lent → set (set (list_with os lent) (2 * length os) x) (2 * length os + 1) y ≡ list_with (os ++ (o ∷ [])) lent
+list_with-snoc : (os : List Order) (o : Order) (lent : Words) (x y : ℕ) → encode (o ∷ []) ≡ x ∷ y ∷ [] → 2 * length os + 2 ≤ length lent
+    → set (set (list_with os lent) (2 * length os) x) (2 * length os + 1) y ≡ list_with (os ++ (o ∷ [])) lent
 unfolding list_with
 list_with-snoc os o lent x y e h =
     let n : 2 * length (os ++ (o ∷ [])) ≡ suc (suc (2 * length os)) = simp length-append (omega arith) in

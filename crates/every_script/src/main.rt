@@ -7,7 +7,7 @@ ghost use Rattle.model.specs.Printer.{decimal};
 ghost use Rattle.model.specs.Scripts.{met_text};
 ghost use Rattle.script_bytes.specs.Text.{Put, Begins};
 
-use libc::STDOUT_FILENO;
+use std::io;
 
 fn end_line(out: &mut [u8], at: usize) -> usize
     requires { at < length out.old }
@@ -36,10 +36,8 @@ fn report(out: &mut [u8]) -> usize
     put_line(out, next, met.bad)
 }
 
-fn main() {
+fn main(rt: HostRuntime) -> io::Result<()> {
     let mut out = [0u8; 42];
     let n = report(&mut out);
-    if 0 < n {
-        io::write_all(STDOUT_FILENO, &out[..n]);
-    }
+    rt.write_all(&out[..n])
 }

@@ -16,4 +16,5 @@ first_tests seventeen t list out =
 
 unfoldable pub tested : (seventeen : Bool) → (t list : Words) → (out : ℕ) → Tested
 tested seventeen t list out =
-    unless_refused (first_number (first_tests seventeen t list out)) (Passed (length (reached_all t))) (Refused (first_number (first_tests seventeen t list out)))
+    unless_refused (first_number (first_tests seventeen t list out)) (Passed (length (reached_all t)))
+    (Refused (first_number (first_tests seventeen t list out)))

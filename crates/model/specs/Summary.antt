@@ -1,7 +1,8 @@
 -- Scale 3: quick calls. A summary is a second lent slice, in ordinary memory: which nodes are reached, and which recordings are in use. Opening
 -- works it out from a settled table, every accepted quick call keeps it, and no order list has it. While it is true of the table, a quick call
 -- answers, stores and refuses as the plain one, and looks only at the nodes on its way. On other words it is what is defined here.
-use Rattle.std.specs.Prelude.{Bool, true, false, cond, not, ◌&&◌, ◌||◌, List, [], ◌∷◌, ◌++◌, map, ℕ, zero, suc, pred, ◌+◌, ◌-◌, ◌*◌, ◌/◌, eqb, leb, ltb, length, take, drop, replicate}
+use Rattle.std.specs.Prelude.{Bool, true, false, cond, not, ◌&&◌, ◌||◌, List, [], ◌∷◌, ◌++◌, map, ℕ, zero, suc, pred, ◌+◌, ◌-◌, ◌*◌, ◌/◌, eqb, leb, ltb, length}
+use Rattle.std.specs.Prelude.{take, drop, replicate}
 use Rattle.std.proofs.Math.Option.{Option, none, some}
 use Rattle.model.specs.declared.Listed.{Listed}
 use Rattle.model.specs.declared.Listed.TheVariants.{Refused as NotListed}

@@ -1,5 +1,6 @@
 -- Document 01, "Table and node": the words of a table, its header, its nodes, and the empty table; request 6: one collection or two.
-use Rattle.std.specs.Prelude.{Bool, true, cond, not, ◌&&◌, ◌||◌, List, [], ◌∷◌, ◌++◌, ℕ, ◌+◌, ◌-◌, ◌*◌, ◌/◌, leb, eqb, length, get_or, take, drop, replicate, set}
+use Rattle.std.specs.Prelude.{Bool, true, cond, not, ◌&&◌, ◌||◌, List, [], ◌∷◌, ◌++◌, ℕ, ◌+◌, ◌-◌, ◌*◌, ◌/◌, leb, eqb, length, get_or, take, drop, replicate}
+use Rattle.std.specs.Prelude.{set}
 use Rattle.model.specs.declared.Node.{Node}
 use Rattle.model.specs.declared.Outcome.{Outcome}
 use Rattle.model.specs.declared.Outcome.TheVariants.{Done, Refused}

@@ -1,5 +1,6 @@
 -- Document 01, "Orders": insertion, deletion, a changed class and repair, each as its list of stores on a table.
-use Rattle.std.specs.Prelude.{◌≡◌, Bool, true, false, not, ◌&&◌, List, [], ◌∷◌, ◌++◌, map, ℕ, zero, suc, pred, ◌-◌, eqb, ltb, length, get_or, take, drop, replicate}
+use Rattle.std.specs.Prelude.{◌≡◌, Bool, true, false, not, ◌&&◌, List, [], ◌∷◌, ◌++◌, map, ℕ, zero, suc, pred, ◌-◌, eqb, ltb, length, get_or, take, drop}
+use Rattle.std.specs.Prelude.{replicate}
 use Rattle.std.proofs.Math.Option.{Option, none, some}
 use Rattle.model.specs.Table.{MARK, Words, at, nodes, root_word, node_start, in_range}
 use Rattle.model.specs.Slots.{Slot, slot, slot_words, pointer_of, with_class, View, node_view, view_from, view_of, view, height, used, full}

@@ -5,20 +5,23 @@ ghost use Rattle.std.specs.Prelude.{◌≡◌, ◌+◌, ◌*◌, ◌≤◌, leng
 ghost use Rattle.model.specs.Printer.{first_desk};
 ghost use Rattle.script.specs.Spoken.{desk_of, silent, After};
 
-use libc::{STDIN_FILENO, STDOUT_FILENO};
 use script_bytes::LineState;
+use std::io;
+use std::io::Read;
 
-// The first n bytes of the buffer, written.
-fn print(out: &[u8], n: usize)
+// The first n bytes of the buffer, written, unless an earlier write failed.
+fn print(rt: &impl Print, wrote: &mut io::Result<()>, out: &[u8], n: usize)
     requires { n ≤ length out.now }
 {
-    if 0 < n {
-        io::write_all(STDOUT_FILENO, &out[..n]);
+    if 0 < n && wrote.is_ok() {
+        *wrote = rt.write_all(&out[..n]);
     }
 }
 
 // A piece of the input, line by line: the line so far, the table and the list after it.
 fn read_piece(
+    rt: &impl Print,
+    wrote: &mut io::Result<()>,
     table: &mut [u64],
     list: &mut [u64],
     out: &mut [u8],
@@ -32,7 +35,7 @@ fn read_piece(
     let mut i = 0;
     while i < piece.len() {
         let said = script::read_line(table, list, out, s, &piece[i..]);
-        print(out, said.printed);
+        print(rt, wrote, out, said.printed);
         let next = said.line;
         s = next;
         i += said.used;
@@ -40,29 +43,31 @@ fn read_piece(
     s
 }
 
-// All of standard input, up to more pieces than any input has.
-fn read_input(table: &mut [u64], list: &mut [u64])
+// All of standard input, up to more pieces than any input has, or up to a piece that is not read or whose lines are not written.
+fn read_input(rt: &(impl Print + Input), table: &mut [u64], list: &mut [u64]) -> io::Result<()>
     requires { desk_of table.old list.old ≡ first_desk }
 {
+    let mut input = rt.reader();
+    let mut wrote = Ok(());
     let mut out = [0u8; 61488];
     let mut s = script_bytes::start();
     let mut buffer = [0u8; 4096];
     let mut left: u64 = 1099511627776;
-    while 0 < left {
-        let got = libc::read(STDIN_FILENO, &mut buffer);
-        let n = io::count(got, &buffer);
+    while 0 < left && wrote.is_ok() {
+        let n = input.read(&mut buffer)?;
         if n == 0 {
             break;
         }
-        s = read_piece(table, list, &mut out, s, &buffer[..n]);
+        s = read_piece(rt, &mut wrote, table, list, &mut out, s, &buffer[..n]);
         left -= 1;
     }
     let last = script::finish(table, list, &mut out, s);
-    print(&out, last);
+    print(rt, &mut wrote, &out, last);
+    wrote
 }
 
-fn main() {
+fn main(rt: HostRuntime) -> io::Result<()> {
     let mut table = script::first_table();
     let mut list = script::first_list();
-    read_input(&mut table, &mut list);
+    read_input(&rt, &mut table, &mut list)
 }

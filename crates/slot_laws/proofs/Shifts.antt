@@ -89,7 +89,8 @@ module _ (left : ℕ) (a b : List Slot) (end : ℕ) (next : Slot) (more : List S
       let q1 : do_slot_stores (move_up n b) ready ≡ a ++ first (slot end 0) b ∷ (b ++ rest) = moved-up n a b (slot end 0) rest l in
       let q2 : set_pointer (do_slot_stores (move_up n b) ready) n (last_pointer left a) ≡ a ++ slot (first (slot end 0) b).key (last_pointer left a) ∷ (b ++ rest) = rw q1 (set-pointer-at a _ (b ++ rest) n _ l) in
       let q3 : set_key (set_pointer (do_slot_stores (move_up n b) ready) n (last_pointer left a)) n k ≡ a ++ slot k (last_pointer left a) ∷ (b ++ rest) = rw q2 (set-key-at a _ (b ++ rest) n k l) in
-      let q4 : set_pointer (set_key (set_pointer (do_slot_stores (move_up n b) ready) n (last_pointer left a)) n k) n x ≡ (a ++ slot k x ∷ b) ++ rest = rw q3 (set-pointer-at a _ (b ++ rest) n x l ∙ sym (append_assoc a (slot k x ∷ b) rest)) in (
+      let q4 : set_pointer (set_key (set_pointer (do_slot_stores (move_up n b) ready) n (last_pointer left a)) n k) n x ≡ (a ++ slot k x ∷ b) ++ rest =
+      rw q3 (set-pointer-at a _ (b ++ rest) n x l ∙ sym (append_assoc a (slot k x ∷ b) rest)) in (
         start,
         rw ended (until-append do_slot_store P P (Shows left (a ++ slot k x ∷ b) 0) (move_up n b) _ ready along
             (until-end do_slot_store P P (move_up n b) ready along, (rw q2 (gap a b _ refl q), (rw q3 (gap a b k refl q), rw q4 (shows-all left (a ++ slot k x ∷ b) rest new refl))))),

@@ -14,7 +14,8 @@ use Rattle.model.specs.Table.{in_range}
 use Rattle.model.specs.Slots.{Slot, slot, View, height, recording, class}
 use Rattle.model.specs.Search.{within}
 use Rattle.model.specs.Reached.{kept, named, next_child, fill_row, children, reached, leaves, mapping}
-use Rattle.model.specs.SoundTest.{all, distinct, sibling_ok, come_first, keys_ok, linked, child_ok, slot_ok, leaf_ok, inner_ok, node_ok, pair_ok, recordings_ok, orderly, Leftover, nothing, hidden_in, missing_in, both_in, leftover, room, has_room}
+use Rattle.model.specs.SoundTest.{all, distinct, sibling_ok, come_first, keys_ok, linked, child_ok, slot_ok, leaf_ok, inner_ok, node_ok, pair_ok, recordings_ok, orderly, Leftover, nothing, hidden_in, missing_in, both_in, leftover, room}
+use Rattle.model.specs.SoundTest.{has_room}
 use Rattle.model.specs.Sound.{Reached, at-root, by-sibling, Child, left-child, Lacks, Trails, Hides, SettledBut, OneHidden, LacksSlot, TrailingSlots, IsLeft}
 use Rattle.view_laws.proofs.NodeViews.{level_of, fence_of}
 use Rattle.list_laws.proofs.Tools.{and-iff, leb-iff, same-or-not, Each, Each-map, all-each}

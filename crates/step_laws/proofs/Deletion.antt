@@ -33,7 +33,8 @@ out-one (s ∷ []) zero e h = refl
 out-one (s ∷ []) (suc i) e h = absurd (omega arith)
 out-one (s ∷ r ∷ ss) i e h = absurd (omega arith)
 
-slot-same : (x : ℕ) {f f' : ℕ} {ss ss' : List Slot} → f' ≡ f → ss' ≡ ss → (place_of f ss < length ss) × ((get_or ss (place_of f ss) (slot 0 0)).pointer ≡ x) → (place_of f' ss' < length ss') × ((get_or ss' (place_of f' ss') (slot 0 0)).pointer ≡ x)
+slot-same : (x : ℕ) {f f' : ℕ} {ss ss' : List Slot} → f' ≡ f → ss' ≡ ss → (place_of f ss < length ss) × ((get_or ss (place_of f ss) (slot 0 0)).pointer ≡ x)
+    → (place_of f' ss' < length ss') × ((get_or ss' (place_of f' ss') (slot 0 0)).pointer ≡ x)
 slot-same x e q h = rw (e, q) h
 
 -- what it says that a leaf is freed

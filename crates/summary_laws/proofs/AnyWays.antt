@@ -164,7 +164,8 @@ module _ (n : ℕ) (ms t : Words) (k : ℕ) (size : length t ≡ 8 + 32 * nodes 
         let long : length t₁ ≡ length t = length-apply (shift_out_at t x k) t in
         let slots : (node_view t₁ p).shown ≡ (node_view t p).shown = ap (λ (v : NodeView). v.shown) same-p in
         let few : length (node_view t₁ p).shown ≤ 11 = omega (arith, parent.few, ap length slots) in
-        let at-place : place_of (node_view t₁ x).fence (node_view t₁ p).shown ≡ place_of (node_view t x).fence (node_view t p).shown = ap (λ (f : ℕ). place_of f (node_view t₁ p).shown) same-fence ∙ ap (place_of (node_view t x).fence) slots in
+        let at-place : place_of (node_view t₁ x).fence (node_view t₁ p).shown ≡ place_of (node_view t x).fence (node_view t p).shown =
+        ap (λ (f : ℕ). place_of f (node_view t₁ p).shown) same-fence ∙ ap (place_of (node_view t x).fence) slots in
         let there : place_of (node_view t₁ x).fence (node_view t₁ p).shown < length (node_view t₁ p).shown = omega (arith, tests.0, at-place, ap length slots) in
         let p-in : has_node t₁ p ≡ true = in-table (nodes t) t₁ (long ∙ size) p parent.range in
         let q = (range-iff (nodes t) _).0 tests.1 in

@@ -29,7 +29,8 @@ abbrev pub in_leaf : List Trial
 in_leaf =
     small (empty 1) (insertion 1 0 1 2 ∷ insertion 1 MARK 7 1 ∷ repair ∷ [])
     ∷ small (one_level 1 []) (deletion 1 10 ∷ [])
-    ∷ small (apply (put (key_word 1 3) 33 ∷ put (key_word 1 4) 35 ∷ put (pointer_word 1 4) 88 ∷ []) (one_level 3 [])) (insertion 1 0 7 0 ∷ insertion 1 25 7 0 ∷ insertion 1 35 7 0 ∷ deletion 1 10 ∷ deletion 1 20 ∷ deletion 1 30 ∷ repair ∷ [])
+    ∷ small (apply (put (key_word 1 3) 33 ∷ put (key_word 1 4) 35 ∷ put (pointer_word 1 4) 88 ∷ []) (one_level 3 []))
+    (insertion 1 0 7 0 ∷ insertion 1 25 7 0 ∷ insertion 1 35 7 0 ∷ deletion 1 10 ∷ deletion 1 20 ∷ deletion 1 30 ∷ repair ∷ [])
     ∷ done (one_level 10 []) (10 ∷ 50 ∷ 100 ∷ []) (insertion 1 5 7 0 ∷ insertion 1 105 7 0 ∷ [])
     ∷ done (one_level 11 []) (20 ∷ 60 ∷ 110 ∷ []) (deletion 1 10 ∷ deletion 1 110 ∷ [])
     ∷ []
@@ -81,7 +82,8 @@ missing_slots =
 -- shifts over two lines; a split, where the fresh node is full of stale words, so it must be whole in memory before A leads to it; a leaf
 -- freed
 abbrev pub cuts : List Trial
-cuts = cut (one_level 4 []) (insertion 1 5 7 0 ∷ []) ∷ cut (one_level 5 []) (deletion 1 10 ∷ []) ∷ cut (two_levels (11 ∷ []) [] (stale 1)) (insertion 1 115 7 0 ∷ []) ∷ cut (two_levels (1 ∷ 1 ∷ 1 ∷ []) (ways 2 2) []) (deletion 1 210 ∷ []) ∷ []
+cuts =
+    cut (one_level 4 []) (insertion 1 5 7 0 ∷ []) ∷ cut (one_level 5 []) (deletion 1 10 ∷ []) ∷ cut (two_levels (11 ∷ []) [] (stale 1)) (insertion 1 115 7 0 ∷ []) ∷ cut (two_levels (1 ∷ 1 ∷ 1 ∷ []) (ways 2 2) []) (deletion 1 210 ∷ []) ∷ []
 
 -- an emptied leaf is freed, and no other node: in the middle, at the end, below a full parent, below a second parent; not a root leaf, nor
 -- a leftmost child. Cut between the parent's first store and the last, repair attaches it again; emptied by a cut or a repair, it stays.

@@ -10,7 +10,8 @@ use borrow.Rule.Slice.PartMut.{put_mid}
 use Rattle.isrc.proofs.spelling_of.Goals as goal
 
 -- xs in front of zeros, then ys in the place of the zeros
-joined : (xs ys : List ℕ) (key : ℕ) → length xs ≡ 5 → xs ≡ map character (digits 36 5 (key / 10000000)) → ys ≡ map character (digits 10 (length (take 7 (drop 5 (xs ++ replicate 7 0)))) key) → put_mid 5 7 (xs ++ replicate 7 0) ys ≡ spelling key
+joined : (xs ys : List ℕ) (key : ℕ) → length xs ≡ 5 → xs ≡ map character (digits 36 5 (key / 10000000)) → ys ≡ map character (digits 10 (length (take 7 (drop 5 (xs ++ replicate 7 0)))) key)
+    → put_mid 5 7 (xs ++ replicate 7 0) ys ≡ spelling key
 unfolding spelling
 joined xs ys key l e f =
     let d : drop 5 (xs ++ replicate 7 0) ≡ replicate 7 0 = drop_at xs (replicate 7 0) 5 l in
