@@ -43,8 +43,8 @@ abbrev roomed : tie.After-ok → tie.After-has_room
 roomed c = c.before.before.before.before
 
 -- the marks keep their length
-long : (c : tie.After-walk-seen) → length c.walk-seen.new.1.1.0 ≡ MARKS
-long c = c.walk-seen.auto.1.1.0
+long : (c : tie.After-walk-seen) → length c.walk-seen.new.marks ≡ MARKS
+long c = c.walk-seen.auto.marks
 
 right : (c : tie.After-ok) → let a = c.args in c.ok.result ≡ recordings_ok (mapping (view_from a.table.now a.root))
 right c =

@@ -28,7 +28,7 @@ returns-3 c = stands-fence _ _ _ _ _ c.requires _ c.word-2.ensures c.if-word-fen
 returns-4 : tie.Need-returns
 returns-4 c = let l = level c.before.before in
     let h = has l in
-    stands-all _ _ _ _ _ h.requires _ _ _ (sym h.has.ensures ∙ not-false _ l.if-not-has.false) l.word.ensures c.if-word-level.false
+    stands-all _ _ _ _ _ h.requires _ _ _ (sym h.has.ensures ∙ l.if-not-has.false) l.word.ensures c.if-word-level.false
     c.word-2.ensures c.if-word-fence.false c.word-3.ensures
 
 pub stands_spec : {M : Type 1} → statement M

@@ -1,0 +1,24 @@
+-- `sound::check_node` and `sound::check_slot`: the level falls. The loop keeps what checking the ways from i on, from the present state, comes to.
+use Prim.Native.Nat.{◌+◌, ◌-◌, ◌*◌}
+use mathlib.Core.Path.{◌≡◌}
+use lib.ListN.{length}
+use Rattle.model.specs.Slots.{view}
+use Rattle.recordings.specs.Marked.{MARKS}
+use Rattle.sound.proofs.CheckLaws.{Rest}
+use Rattle.sound.proofs.MarkLaws.{Marking}
+use Rattle.sound.proofs.+check_node_check_slot.Given as goal
+
+abbrev pub decreases-check_node : goal.decreases-check_node
+decreases-check_node l = 2 * l.level
+
+abbrev pub decreases-check_slot : goal.decreases-check_slot
+decreases-check_slot l = 2 * l.level + 1
+
+abbrev pub invariant-check_node-loop-i : goal.invariant-check_node-loop-i
+invariant-check_node-loop-i l =
+    (length l.marks ≡ MARKS)
+    × Rest (view l.table) l.n (l.level - 1) l.w l.next l.initial.state l.state l.i
+    × Marking (view l.table) (l.level - 1) l.w l.next l.state l.initial.marks l.marks l.i
+
+abbrev pub decreases-check_node-loop-i : goal.decreases-check_node-loop-i
+decreases-check_node-loop-i l = l.ways - l.i
