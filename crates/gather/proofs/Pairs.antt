@@ -8,7 +8,7 @@ use native.Mathlib.Omega.{arith}
 use lib.Dec.{eqb, ltb}
 use lib.ListN.{length, take, drop, length-drop, length-append, take-append-drop, drop_of_length-le}
 use lib.Seq.{take-take, take_all, take_at, drop_at, get_or-take, length-take-le}
-use Rattle.model.specs.Table.{Words, at}
+use Rattle.model.specs.Table.{Words}
 use Rattle.model.specs.Slots.{Slot, slot, slots_of, recording_of, recording, pointer_ok}
 use Rattle.model.specs.Refusals.{has_key, has_recording}
 use Rattle.model.specs.Ledger.{enter}

@@ -1,0 +1,27 @@
+-- `salvage::enter_nodes` meets its contract.
+use native.Mathlib.Omega.{arith}
+use borrow.Author.Rules.{rules}
+use Rattle.salvage.proofs.Entering.{words-some, first-ready, second-ready, both-toured}
+use Rattle.salvage.proofs.enter_nodes.Goals as goal
+
+pub bounds-table-1 : goal.bounds-table-1
+bounds-table-1 c = let h = words-some _ c.requires.0 in omega (arith, h)
+
+pub tour-first-requires : goal.tour-first-requires
+tour-first-requires c = first-ready _ _ _ c.requires.0 c.requires.1 c.requires.2
+
+pub bounds-table-3 : goal.bounds-table-3
+bounds-table-3 c = let h = words-some _ c.requires.0 in omega (arith, h)
+
+pub tour-all-requires : goal.tour-all-requires
+tour-all-requires c = let a = c.args in
+    let t = c.tour-first in
+    second-ready a.table.now a.top a.order.now c.requires.0 c.requires.1 c.requires.2 t.new.order t.result (search rules) t.ensures.order_after t.ensures.lower_bound.1
+    t.new.marks t.new.stack t.new.ways t.ensures.marked (search rules) (search rules) (search rules)
+
+pub returns : goal.returns
+returns c = let a = c.args in
+    let t = c.tour-first in
+    let u = c.tour-all in
+    both-toured a.table.now a.top a.order.now c.requires.0 c.requires.1 c.requires.2 t.new.order t.result (search rules) t.ensures.order_after t.ensures.lower_bound.1
+    u.new.order u.result (search rules) u.ensures.order_after u.ensures.lower_bound
