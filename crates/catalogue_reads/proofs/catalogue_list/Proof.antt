@@ -6,21 +6,19 @@ use Rattle.catalogue_reads.proofs.catalogue_list.Statement.{statement}
 use Rattle.catalogue_reads.proofs.catalogue_list.Tie as tie
 
 -- the call, from where its answer is taken apart
-abbrev called : tie.After-slice-known2 → tie.After-list
+abbrev called : tie.After-slice_known-2-1 → tie.After-list
 called c = c.before.before
 
-returns : tie.Need-returns
-returns c =
-    let m = (called c.before.before.before.before).list in
-    (has-shown _ _ _ _ _ (sym m.ensures.0 ∙ c.before.before.count.given.1) c.one-if.ensures, m.ensures.1)
+returns : tie.Need-returns-in-Pairs
+returns c = let m = c.list in
+    (has-shown _ _ _ _ _ (sym m.ensures.0 ∙ c.in-Pairs.is) c.one_if.ensures, m.ensures.1)
 
-returns-2 : tie.Need-returns-2
-returns-2 c =
-    let m = (called c.before.before.before).list in
-    (has-shown _ _ _ _ _ (sym m.ensures.0 ∙ c.before.n.given.1) refl, m.ensures.1)
+returns-2 : tie.Need-returns-in-Refused
+returns-2 c = let m = c.list in
+    (has-shown _ _ _ _ _ (sym m.ensures.0 ∙ c.in-Refused.is) refl, m.ensures.1)
 
-pub catalogue-list-spec : {M : Type 1} → statement M
-catalogue-list-spec =
+pub catalogue_list_spec : {M : Type 1} → statement M
+catalogue_list_spec =
     tie.close
     (tie.spec
     (λ c κs. search rules)

@@ -5,17 +5,22 @@ use Rattle.catalogue_reads.proofs.catalogue_search.Statement.{statement}
 use Rattle.catalogue_reads.proofs.catalogue_search.Tie as tie
 
 -- the call, from its answer put
-abbrev called : tie.After-put-answer → tie.After-search
+abbrev called : tie.After-put_answer → tie.After-search-answer
 called c = c.before.before.before.before.before
 
-search-requires : tie.Need-search-requires
+search-requires : tie.Need-search-answer-requires
 search-requires c κs = search rules
 
-put-answer-requires : tie.Need-put-answer-requires
+put-answer-requires : tie.Need-put_answer-requires
 put-answer-requires c κs = search rules
 
 returns : tie.Need-returns
-returns c = looked _ (called c).search.ensures c.put-answer.ensures
+returns c = looked _ c.search-answer.ensures c.put_answer.ensures
 
-pub catalogue-search-spec : {M : Type 1} → statement M
-catalogue-search-spec = tie.close (tie.spec search-requires put-answer-requires returns)
+pub catalogue_search_spec : {M : Type 1} → statement M
+catalogue_search_spec =
+    tie.close
+    (tie.spec
+    search-requires
+    put-answer-requires
+    returns)

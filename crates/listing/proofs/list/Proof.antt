@@ -12,36 +12,30 @@ use Rattle.listing.proofs.list.Statement.{statement}
 use Rattle.listing.proofs.list.Tie as tie
 
 -- the table has passed the test
-judged : (e : tie.Else2) → sound e.before.before.before.before.before.before.args.table.now ≡ true
-judged e = sym e.before.is-sound.ensures ∙ not-false _ e.if2.false
+judged : (e : tie.Else-not-is_sound) → sound e.args.table.now ≡ true
+judged e = sym e.is_sound.ensures ∙ not-false _ e.if-not-is_sound.false-raw
 
 -- and has the collection
-named : (e : tie.Else2) → (header_ok e.before.before.before.before.before.before.args.table.now ≡ true)
-    × (no_collection e.before.before.before.before.before.before.args.collection e.before.before.before.before.before.before.args.table.now ≡ false)
-named e = let f = e.before.before in number-zero _ _ _ f.before.refusal.ensures f.if1.false
+named : (e : tie.Else-not-is_sound) → (header_ok e.args.table.now ≡ true) × (no_collection e.args.collection e.args.table.now ≡ false)
+named e = number-zero _ _ _ e.refusal-number.ensures e.if-number-ne0.false
 
-returns : tie.Need-returns
-returns c = no-collection _ _ _ _ _ _ c.before.refusal.ensures c.if1.true
+returns : tie.Need-returns-then-number-ne0
+returns c = no-collection _ _ _ _ _ _ c.refusal-number.ensures c.if-number-ne0.true
 
-returns-2 : tie.Need-returns-2
-returns-2 c = let b = c.before in not-sound _ _ _ _ _ _ b.before.before.refusal.ensures b.before.if1.false _ b.is-sound.ensures (not-true _ c.if2.true)
+returns-2 : tie.Need-returns-then-not-is_sound
+returns-2 c = not-sound _ _ _ _ _ _ c.refusal-number.ensures c.if-number-ne0.false _ c.is_sound.ensures (not-true _ c.if-not-is_sound.true-raw)
 
-root-of-requires : tie.Need-root-of-requires
+root-of-requires : tie.Need-root_of-requires
 root-of-requires c κs = named c
 
-list-leaves-requires : tie.Need-list-leaves-requires
-list-leaves-requires c κs = let r = c.before in rw r.root-of.ensures (collection-sound _ _ (judged r.before) (named r.before).1)
+list-leaves-requires : tie.Need-list_leaves-p-requires
+list-leaves-requires c κs = rw c.root_of.ensures (collection-sound _ _ (judged c.before.before) (named c.before.before).1)
 
-returns-3 : tie.Need-returns-3
-returns-3 c =
-    let b = c.before.before in
-    let r = b.before.before in
-    let e = r.before in
-    let f = e.before.before in
-    done _ _ _ _ _ _ f.before.refusal.ensures f.if1.false _ _ _ (judged e) r.root-of.ensures b.list-leaves.ensures
+returns-3 : tie.Need-returns
+returns-3 c = done _ _ _ _ _ _ c.refusal-number.ensures c.if-number-ne0.false _ _ _ (judged c.before.before.before.before.before) c.root_of.ensures c.list_leaves-p.ensures
 
-pub list-spec : {M : Type 1} → statement M
-list-spec =
+pub list_spec : {M : Type 1} → statement M
+list_spec =
     tie.close
     (tie.spec
     (λ c κs. search rules)

@@ -13,48 +13,41 @@ use Rattle.listing.proofs.Steps.{slots-none, slots-more}
 use Rattle.listing.proofs.list_leaf.Statement.{statement}
 use Rattle.listing.proofs.list_leaf.Tie as tie
 
-abbrev invariant-loop : tie.invariant-loop
+abbrev invariant-loop : tie.invariant-loop-i
 invariant-loop out₀ w slots p₀ before₀ i₀ out p before i =
     (i ≤ 12) × (length slots ≡ 24) × (length out ≡ length out₀)
     × (all_taken (wanted w (shown_from before slots i)) (sheet out p) ≡ all_taken (wanted w (shown_from before₀ slots 0)) (sheet out₀ p₀))
 
-abbrev decreases-loop : tie.decreases-loop
+abbrev decreases-loop : tie.decreases-loop-i
 decreases-loop out₀ w slots p₀ before₀ i₀ out p before i = 12 - i
 
 -- the places: the start, and the state at the head of the loop
-abbrev entry : tie.At-loop invariant-loop decreases-loop → tie.Start invariant-loop decreases-loop
+abbrev entry : tie.At-loop-i invariant-loop decreases-loop → tie.Start invariant-loop decreases-loop
 entry c = c.before.before.before
 
-abbrev turn : tie.Else1 invariant-loop decreases-loop → tie.At-loop invariant-loop decreases-loop
+abbrev turn : tie.Else-pointer-eq0 invariant-loop decreases-loop → tie.At-loop-i invariant-loop decreases-loop
 turn c = c.before.before
 
 -- what the sheet so far and slots come to
-abbrev comes : tie.At-loop invariant-loop decreases-loop → List Slot → Sheet
-comes c ss = let l = c.loop in all_taken (wanted (entry c).args.w (shown l.before ss)) (sheet l.out l.p)
+abbrev comes : tie.At-loop-i invariant-loop decreases-loop → List Slot → Sheet
+comes c ss = let l = c.loop-i in all_taken (wanted c.args.w (shown l.before ss)) (sheet l.out l.p)
 
-returns : tie.Need-returns invariant-loop decreases-loop
-returns c =
-    let l = c.before.before in
-    sym (slots-none _ l.loop.before _) ∙ scan-stop (comes l) _ l.loop.i l.loop.invariant.3 (omega arith) c.if1.true
+returns : tie.Need-returns-then-pointer-eq0 invariant-loop decreases-loop
+returns c = sym (slots-none _ c.loop-i.before _) ∙ scan-stop (comes c.before.before) _ c.loop-i.i c.loop-i.invariant.3 (omega arith) c.if-pointer-eq0.true
 
-loop-again : tie.Need-loop-preserved invariant-loop decreases-loop
-loop-again c =
-    let b = c.before.before in
-    let e = b.before.before in
-    let l = turn e in (
-      omega arith,
-      l.loop.inv.1,
-      search rules,
-      scan-more (comes l) _ l.loop.i l.loop.inv.3 (omega arith) e.if1.false (slots-more _ _ _ _ _ _ _ b.take-slot.ensures),
-    )
+loop-again : tie.Need-loop-i-preserved invariant-loop decreases-loop
+loop-again c = let l = turn c.before.before.before.before in (
+  omega arith,
+  l.loop-i.invariant.1,
+  search rules,
+  scan-more (comes l) _ l.loop-i.i l.loop-i.invariant.3 (omega arith) c.if-pointer-eq0.false (slots-more _ _ _ _ _ _ _ c.take_slot-p.ensures),
+)
 
-returns-2 : tie.Need-returns-2 invariant-loop decreases-loop
-returns-2 c =
-    let l = c.before in
-    sym (slots-none _ l.loop.before _) ∙ scan-past (comes l) _ l.loop.i l.loop.invariant.3 (omega arith)
+returns-2 : tie.Need-returns invariant-loop decreases-loop
+returns-2 c = sym (slots-none _ c.loop-i.before _) ∙ scan-past (comes c.before) _ c.loop-i.i c.loop-i.invariant.3 (omega arith)
 
-pub list-leaf-spec : {M : Type 1} → statement M
-list-leaf-spec =
+pub list_leaf_spec : {M : Type 1} → statement M
+list_leaf_spec =
     tie.close
     (tie.spec
     invariant-loop

@@ -12,64 +12,56 @@ use Rattle.listing.proofs.Leaves.{onward, Ahead, ahead-first, ahead-end, ahead-p
 use Rattle.listing.proofs.list_leaves.Statement.{statement}
 use Rattle.listing.proofs.list_leaves.Tie as tie
 
-abbrev invariant-loop : tie.invariant-loop
+abbrev invariant-loop : tie.invariant-loop-leaf
 invariant-loop table root low high out₀ p₀ leaf₀ out p leaf =
     (length out ≡ length out₀) × Spent (sheet out p)
     × Ahead (view_from table root) low high leaf (sheet out p) (all_taken (in_range_of low high (mapping (view_from table root))) (begun out₀))
 
-abbrev decreases-loop : tie.decreases-loop
+abbrev decreases-loop : tie.decreases-loop-leaf
 decreases-loop table root low high out₀ p₀ leaf₀ out p leaf = length (onward (view_from table root) leaf)
 
 -- the places: the start, the turn of the loop in which a leaf was read, and the record read there
-abbrev entry : tie.At-loop invariant-loop decreases-loop → tie.Start invariant-loop decreases-loop
+abbrev entry : tie.At-loop-leaf invariant-loop decreases-loop → tie.Start invariant-loop decreases-loop
 entry c = c.before.before.before.before
 
-abbrev turn : tie.After-read invariant-loop decreases-loop → tie.In-loop invariant-loop decreases-loop
+abbrev turn : tie.After-read-x invariant-loop decreases-loop → tie.In-loop-leaf invariant-loop decreases-loop
 turn c = c.before.before
 
-abbrev leaf : tie.After-word invariant-loop decreases-loop → tie.After-read invariant-loop decreases-loop
+abbrev leaf : tie.After-word invariant-loop decreases-loop → tie.After-read-x invariant-loop decreases-loop
 leaf c = c.before.before.before
 
-abbrev window : tie.After-list-leaf invariant-loop decreases-loop → tie.After-word invariant-loop decreases-loop
+abbrev window : tie.After-list_leaf-p invariant-loop decreases-loop → tie.After-word invariant-loop decreases-loop
 window c = c.before.before
 
-loop-holds : tie.Need-loop-init invariant-loop decreases-loop
-loop-holds c = (refl, λ e. absurd (false≢true e), ahead-first _ _ _ _ _ _ (begun c.before.before.before.args.out.now) c.before.before.before.requires c.standing.ensures)
+loop-holds : tie.Need-loop-leaf-init invariant-loop decreases-loop
+loop-holds c = (refl, λ e. absurd (false≢true e), ahead-first _ _ _ _ _ _ (begun c.args.out.now) c.requires c.standing-leaf.ensures)
 
-returns : tie.Need-returns invariant-loop decreases-loop
-returns c = let l = c.before.before.loop in sym (spent-stop _ _ l.invariant.1 c.if1.true) ∙ l.invariant.2.rest
+returns : tie.Need-returns-then-p invariant-loop decreases-loop
+returns c = let l = c.loop-leaf in sym (spent-stop _ _ l.invariant.1 c.if-p.true) ∙ l.invariant.2.rest
 
-returns-2 : tie.Need-returns-2 invariant-loop decreases-loop
-returns-2 c =
-    let r = c.before.before in
+returns-2 : tie.Need-returns-then-high-x invariant-loop decreases-loop
+returns-2 c = let i = turn c.before.before in
+    ahead-past _ _ _ _ _ _ _ i.requires _ c.read-x.ensures i.loop-leaf-test.true i.loop-leaf.invariant.2 c.if-high-x.true
+
+loop-less : tie.Need-loop-leaf-smaller invariant-loop decreases-loop
+loop-less c = let r = leaf (window c.before.before) in
     let i = turn r in
-    let l = i.before in
-    ahead-past _ _ _ _ _ _ _ (entry l).pre _ r.read.ensures i.loop-test.taken l.loop.inv.2 c.if2.true
+    ahead-fewer _ _ _ _ _ _ _ i.requires _ r.read-x.ensures i.loop-leaf-test.true i.loop-leaf.invariant.2
 
-loop-less : tie.Need-loop-smaller invariant-loop decreases-loop
-loop-less c =
-    let r = leaf (window c.before.before) in
-    let i = turn r in
-    let l = i.before in
-    ahead-fewer _ _ _ _ _ _ _ (entry l).pre _ r.read.ensures i.loop-test.taken l.loop.inv.2
-
-loop-again : tie.Need-loop-preserved invariant-loop decreases-loop
-loop-again c =
-    let b = c.before.before in
-    let w = window b in
+loop-again : tie.Need-loop-leaf-preserved invariant-loop decreases-loop
+loop-again c = let w = window c.before.before in
     let r = leaf w in
-    let i = turn r in
-    let l = i.before in (
+    let i = turn r in (
       search rules,
-      spent-after _ _ _ l.loop.inv.1 b.list-leaf.ensures,
-      ahead-next _ _ _ _ _ _ _ (entry l).pre _ r.read.ensures i.loop-test.taken l.loop.inv.2 _ _ w.word.ensures b.list-leaf.ensures,
+      spent-after _ _ _ i.loop-leaf.invariant.1 c.list_leaf-p.ensures,
+      ahead-next _ _ _ _ _ _ _ i.requires _ r.read-x.ensures i.loop-leaf-test.true i.loop-leaf.invariant.2 _ _ w.word.ensures c.list_leaf-p.ensures,
     )
 
-returns-3 : tie.Need-returns-3 invariant-loop decreases-loop
-returns-3 c = let l = c.before.loop in ahead-end _ _ _ _ _ _ l.invariant.2 c.loop-test.false
+returns-3 : tie.Need-returns invariant-loop decreases-loop
+returns-3 c = let l = c.loop-leaf in ahead-end _ _ _ _ _ _ l.invariant.2 c.loop-leaf-test.false
 
-pub list-leaves-spec : {M : Type 1} → statement M
-list-leaves-spec =
+pub list_leaves_spec : {M : Type 1} → statement M
+list_leaves_spec =
     tie.close
     (tie.spec
     invariant-loop

@@ -12,51 +12,47 @@ use borrow.Author.Rules.{rules}
 use Rattle.repair.proofs.repair.Statement.{statement}
 use Rattle.repair.proofs.repair.Tie as tie
 
--- ---- the places, and what is known at them
+abbrev entry : tie.After-judge_any-judgement → tie.Start
+entry c = c.before.before.before
 
-abbrev entry : tie.After-judge-any → tie.Start
-entry c = c.before.before.before.before
+abbrev refused : tie.In-Refused → tie.In-Refused
+refused c = c
 
-abbrev refused : tie.After-known-told → tie.After-judgement
-refused c = c.before
+abbrev ready : tie.After-begin → tie.In-Ready
+ready c = c.before.before.before
 
-abbrev ready : tie.After-begin → tie.After-judgement2
-ready c = c.before.before.before.before
-
-abbrev mended : tie.After-finish-arg → tie.After-mend
+abbrev mended : tie.After-finish-arg-1 → tie.After-mend-mended
 mended c = c.before.before.before.before.before
 
-abbrev finished : tie.After-slice-known5 → tie.After-finish
+abbrev finished : tie.After-slice_known-in-Ready-3-1 → tie.After-finish-done
 finished c = c.before.before
 
 abbrev asked : tie.After-begin → tie.Start
-asked c = entry (ready c).before.before
+asked c = entry c.before.before.before.before
 
-passed : (c : tie.After-begin) → let v = (ready c).judgement2.given.0 in Passed repair (length (asked c).args.list.now) (asked c).args.dock (asked c).args.table.now v.0 v.1.0
-passed c = judged-ready repair _ _ _ _ _ (sym (ready c).before.before.judge-any.ensures ∙ (ready c).judgement2.given.1)
+passed : (c : tie.After-begin) → let v = c.judgement2.given.0 in Passed repair (length c.args.list.now) c.args.dock c.args.table.now v.0 v.1.0
+passed c = judged-ready repair _ _ _ _ _ (sym c.judge_any-judgement.ensures ∙ c.in-Ready.is)
 
 abbrev nothing : Words → List Store
 nothing t = []
 
-begun : (c : tie.After-begin) → Begun repair (asked c).args.table.now (asked c).args.list.now (asked c).args.dock c.begin.result nothing
+begun : (c : tie.After-begin) → Begun repair c.args.table.now c.args.list.now c.args.dock c.begin.result nothing
 begun c = record { is-sound = (passed c).found.is-sound; accepted = ready-accepted repair _ _ _ (passed c) tt; first = c.begin.ensures; stores = repair-stores _ }
 
--- ---- the answers
-
-mend-requires : tie.Need-mend-requires
+mend-requires : tie.Need-mend-mended-requires
 mend-requires c κs = ((passed c).found.is-sound, ((passed c).found.leftover-is, mend-room (begun c)))
 
-finish-requires : tie.Need-finish-requires
-finish-requires c κs = let m = mended c in finish-room (begun m.before) m.mend.ensures (sym (stored_all-nil _))
+finish-requires : tie.Need-finish-done-requires
+finish-requires c κs = let m = mended c in finish-room (begun m.before) m.mend-mended.ensures (sym (stored_all-nil _))
 
-returns : tie.Need-returns
-returns c = let j = refused c in judge-refuses repair _ _ _ _ (sym j.before.before.judge-any.ensures ∙ j.judgement.given.1)
+returns : tie.Need-returns-in-Refused
+returns c = let j = refused c in judge-refuses repair _ _ _ _ (sym j.judge_any-judgement.ensures ∙ j.in-Refused.is)
 
-returns-2 : tie.Need-returns-2
-returns-2 c = let f = finished c in let m = mended f.before in done-call (begun m.before) m.mend.ensures (sym (stored_all-nil _)) f.finish.ensures
+returns-2 : tie.Need-returns-in-Ready
+returns-2 c = let f = finished c in let m = mended f.before in done-call (begun m.before) m.mend-mended.ensures (sym (stored_all-nil _)) f.finish-done.ensures
 
-pub repair-spec : {M : Type 1} → statement M
-repair-spec =
+pub repair_spec : {M : Type 1} → statement M
+repair_spec =
     tie.close
     (tie.spec
     (λ c κs. search rules)

@@ -14,41 +14,38 @@ use borrow.Author.Rules.{rules}
 use Rattle.sentinels.proofs.fill.Statement.{statement}
 use Rattle.sentinels.proofs.fill.Tie as tie
 
-abbrev invariant-loop : tie.invariant-loop
+abbrev invariant-loop : tie.invariant-loop-n
 invariant-loop table words₀ count n₀ words n = (1 ≤ n) × (n ≤ suc (nodes table)) × (length words ≡ 3 * nodes table) × (words ≡ set_anew (λ (m : ℕ). ltb m n) table words₀)
 
-abbrev decreases-loop : tie.decreases-loop
+abbrev decreases-loop : tie.decreases-loop-n
 decreases-loop table words₀ count n₀ words n = suc count - n
 
 -- where the function starts, from the head of the loop
-abbrev start : tie.At-loop invariant-loop decreases-loop → tie.Start invariant-loop decreases-loop
+abbrev start : tie.At-loop-n invariant-loop decreases-loop → tie.Start invariant-loop decreases-loop
 start l = l.before.before.before.before
 
-shared-slice-read-count : tie.Need-shared-slice-read-count invariant-loop decreases-loop
-shared-slice-read-count c = omega (arith, (few-nodes _ (sound-head _ c.before.before.before.requires.0)).0)
+shared-slice-read-count : tie.Need-bounds-table-2 invariant-loop decreases-loop
+shared-slice-read-count c = omega (arith, (few-nodes _ (sound-head _ c.requires.0)).0)
 
-loop-holds : tie.Need-loop-init invariant-loop decreases-loop
-loop-holds c = let b = c.before.before.before in (omega arith, omega arith, b.requires.1, fill-start b.args.table.now _ b.requires.1)
+loop-holds : tie.Need-loop-n-init invariant-loop decreases-loop
+loop-holds c = (omega arith, omega arith, c.requires.1, fill-start c.args.table.now _ c.requires.1)
 
 renew-requires : tie.Need-renew-requires invariant-loop decreases-loop
-renew-requires c κs = let l = c.before.before in ((start l).requires.0, (l.loop.invariant.2, (l.loop.invariant.0, omega arith)))
+renew-requires c κs = (c.requires.0, (c.loop-n.invariant.2, (c.loop-n.invariant.0, omega arith)))
 
-add-n : tie.Need-overflow-add-n invariant-loop decreases-loop
-add-n c = let l = c.before.before.before.before.before in omega (arith, (few-nodes _ (sound-head _ (start l).requires.0)).1)
+add-n : tie.Need-overflow_add-n invariant-loop decreases-loop
+add-n c = omega (arith, (few-nodes _ (sound-head _ c.requires.0)).1)
 
-loop-again : tie.Need-loop-preserved invariant-loop decreases-loop
-loop-again c =
-    let r = c.before.before in
-    let l = r.before.before.before in
-    let b = start l in
-    let e = fill-more b.args.table.now b.args.words.now b.pre.1 _ _ l.loop.n l.loop.invariant.3 l.loop.invariant.0 (omega arith) r.renew.ensures in
-    (omega arith, omega arith, ap length e ∙ length-anew _ b.args.table.now b.args.words.now b.pre.1, e)
+loop-again : tie.Need-loop-n-preserved invariant-loop decreases-loop
+loop-again c = let b = start c.before.before.before.before.before in
+    let e = fill-more b.args.table.now b.args.words.now b.requires.1 _ _ c.loop-n.n c.loop-n.invariant.3 c.loop-n.invariant.0 (omega arith) c.renew.ensures in
+    (omega arith, omega arith, ap length e ∙ length-anew _ b.args.table.now b.args.words.now b.requires.1, e)
 
-same-length : tie.Need-same-length invariant-loop decreases-loop
-same-length c = let l = c.before in l.loop.invariant.2 ∙ sym (start l).requires.1
+same-length : tie.Need-shape_of-words invariant-loop decreases-loop
+same-length c = c.loop-n.invariant.2 ∙ sym c.requires.1
 
 returns : tie.Need-returns invariant-loop decreases-loop
-returns c = let l = c.before in let b = start l in fill-done b.args.table.now b.args.words.now b.pre.1 _ l.loop.n l.loop.invariant.3 (omega arith)
+returns c = let b = start c.before in fill-done b.args.table.now b.args.words.now b.requires.1 _ c.loop-n.n c.loop-n.invariant.3 (omega arith)
 
 pub fill_spec : {M : Type 1} → statement M
 fill_spec =

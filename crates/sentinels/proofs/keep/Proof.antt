@@ -11,36 +11,28 @@ use Rattle.sentinels.proofs.keep.Statement.{statement}
 use Rattle.sentinels.proofs.keep.Tie as tie
 
 -- where the function starts, from where the counts are known
-abbrev start : tie.After-known-told → tie.Start
-start k = k.before.before.before.before.before.before
+abbrev start : tie.In-Done → tie.Start
+start k = k.before.before.before.before
 
-room : (k : tie.After-known-told) → 2 * orders_answered (start k).args.answer ≤ length (start k).args.list.now
-room k = (start k).requires.room
+room : (k : tie.In-Done) → 2 * orders_answered k.args.answer ≤ length k.args.list.now
+room k = k.requires.room
 
-add-count : tie.Need-overflow-add-count
-add-count c = omega (arith, done-count _ _ _ _ c.before.answer.given.1, room c)
+add-count : tie.Need-overflow_add-count
+add-count c = omega (arith, done-count _ _ _ _ c.in-Done.is, room c)
 
-add-count-2 : tie.Need-overflow-add-count-2
-add-count-2 c = omega (arith, done-count _ _ _ _ c.before.answer.given.1, room c)
+add-count-2 : tie.Need-overflow_add-count-in-Done
+add-count-2 c = omega (arith, done-count _ _ _ _ c.in-Done.is, room c)
 
-renew-stored-requires : tie.Need-renew-stored-requires
-renew-stored-requires c κs =
-    let k = c.before in
-    let p = (start k).requires in
-    let e = done-count _ _ _ _ k.before.answer.given.1 in
-    (p.header, (λ h. p.sound-if (omega (arith, e, h)), (p.slice, omega (arith, e, p.room))))
+renew-stored-requires : tie.Need-renew_stored-requires
+renew-stored-requires c κs = let e = done-count _ _ _ _ c.in-Done.is in
+    (c.requires.header, (λ h. c.requires.sound-if (omega (arith, e, h)), (c.requires.slice, omega (arith, e, c.requires.room))))
 
-returns : tie.Need-returns
-returns c =
-    let r = c.before.before in
-    let k = r.before.before in
-    let a = start k in
-    same-count a.args.table.now _ a.args.words.now _ _ _ (sym (done-count _ _ _ _ k.before.answer.given.1)) r.renew-stored.ensures
+returns : tie.Need-returns-in-Done
+returns c = let a = start c.before.before.before.before in
+    same-count a.args.table.now _ a.args.words.now _ _ _ (sym (done-count _ _ _ _ c.in-Done.is)) c.renew_stored.ensures
 
-returns-2 : tie.Need-returns-2
-returns-2 c =
-    let a = c.before.before.before.before.before in
-    same-count a.args.table.now _ a.args.words.now _ 0 _ (sym (refused-count _ _ c.enum_told.given.1)) (stored-none a.args.table.now a.args.words.now _ a.requires.slice)
+returns-2 : tie.Need-returns-in-Refused
+returns-2 c = same-count c.args.table.now _ c.args.words.now _ 0 _ (sym (refused-count _ _ c.in-Refused.is)) (stored-none c.args.table.now c.args.words.now _ c.requires.slice)
 
 pub keep_spec : {M : Type 1} → statement M
 keep_spec =

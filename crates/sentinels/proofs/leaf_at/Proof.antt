@@ -10,53 +10,42 @@ use Rattle.sentinels.proofs.leaf_at.Tie as tie
 abbrev start : tie.After-has → tie.Start
 start h = h.before.before.before
 
-returns : tie.Need-returns
-returns c =
-    let p = c.before.before.requires in
-    stood-on _ _ _ _ _ (read-last _ _ _ _ p.0 _ p.1.1 p.1.0 c.if1.true)
+returns : tie.Need-returns-then-sibling-eq0
+returns c = stood-on _ _ _ _ _ (read-last _ _ _ _ c.requires.0 _ c.requires.1.1 c.requires.1.0 c.if-sibling-eq0.true)
 
 has-requires : tie.Need-has-requires
 has-requires c κs = search rules
 
-returns-2 : tie.Need-returns-2
-returns-2 c =
-    let h = c.before in
-    let a = start h in
-    let p = a.pre in
-    stood-lost _ _ _ _ (read-out _ _ _ a.args.key p.0 _ p.1.1 p.1.0 h.before.if1.false _ h.has.ensures (not-true _ c.if2.true))
+returns-2 : tie.Need-returns-then-not-has
+returns-2 c = let a = start c.before in
+    stood-lost _ _ _ _ (read-out _ _ _ a.args.key a.requires.0 _ a.requires.1.1 a.requires.1.0 c.if-sibling-eq0.false _ c.has.ensures (not-true _ c.if-not-has.true-raw))
 
-read-requires : tie.Need-read-requires
+read-requires : tie.Need-read-y-requires
 read-requires c κs = search rules
 
-returns-3 : tie.Need-returns-3
-returns-3 c =
-    let y = c.before.before.before in
-    let h = y.before.before in
-    let a = start h in
-    let p = a.pre in
+returns-3 : tie.Need-returns-then-y-read
+returns-3 c = let a = start c.before.before.before.before.before in
     stood-lost _ _ _ _
-    (read-high _ _ _ a.args.key p.0 _ p.1.1 p.1.0 h.before.if1.false _ h.has.ensures (not-false _ y.before.if2.false) _ y.read.ensures c.if3.true)
+    (read-high _ _ _ a.args.key a.requires.0 _ a.requires.1.1 a.requires.1.0 c.if-sibling-eq0.false _ c.has.ensures (not-false _ c.if-not-has.false-raw) _ c.read-y.ensures c.if-y-read.true)
 
-returns-4 : tie.Need-returns-4
-returns-4 c =
-    let l = c.before.before in
-    let y = l.before.before.before in
-    let h = y.before.before in
-    let a = start h in
-    let p = a.pre in
+returns-4 : tie.Need-returns-then-key-y
+returns-4 c = let a = start c.before.before.before.before.before.before.before in
     stood-on _ _ _ _ _
-    (read-here _ _ _ _ p.0 _ p.1.1 p.1.0 h.before.if1.false _ h.has.ensures (not-false _ y.before.if2.false) _ y.read.ensures l.if3.false c.if4.true)
+    (read-here _ _ _ _ a.requires.0 _ a.requires.1.1 a.requires.1.0 c.if-sibling-eq0.false _ c.has.ensures (not-false _ c.if-not-has.false-raw) _ c.read-y.ensures c.if-y-read.false c.if-key-y.true)
 
-returns-5 : tie.Need-returns-5
-returns-5 c =
-    let l = c.before.before in
-    let y = l.before.before.before in
-    let h = y.before.before in
-    let a = start h in
-    let p = a.pre in
+returns-5 : tie.Need-returns
+returns-5 c = let a = start c.before.before.before.before.before.before.before in
     stood-on _ _ _ _ _
-    (read-right _ _ _ _ p.0 _ p.1.1 p.1.0 h.before.if1.false _ h.has.ensures (not-false _ y.before.if2.false) _ y.read.ensures l.if3.false c.if4.false)
+    (read-right _ _ _ _ a.requires.0 _ a.requires.1.1 a.requires.1.0 c.if-sibling-eq0.false _ c.has.ensures (not-false _ c.if-not-has.false-raw) _ c.read-y.ensures c.if-y-read.false c.if-key-y.false)
 
-pub leaf-at-spec : {M : Type 1} → statement M
-leaf-at-spec =
-    tie.close (tie.spec returns has-requires returns-2 read-requires returns-3 returns-4 returns-5)
+pub leaf_at_spec : {M : Type 1} → statement M
+leaf_at_spec =
+    tie.close
+    (tie.spec
+    returns
+    has-requires
+    returns-2
+    read-requires
+    returns-3
+    returns-4
+    returns-5)

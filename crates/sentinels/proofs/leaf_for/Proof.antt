@@ -11,76 +11,46 @@ use borrow.Author.Rules.{rules}
 use Rattle.sentinels.proofs.leaf_for.Statement.{statement}
 use Rattle.sentinels.proofs.leaf_for.Tie as tie
 
-abbrev invariant-loop : tie.invariant-loop
+abbrev invariant-loop : tie.invariant-loop-root
 invariant-loop table root key n₀ low₀ high₀ n low high = locate_within (view table) low high n key ≡ locate_within (view table) 0 15 root key
 
-abbrev decreases-loop : tie.decreases-loop
+abbrev decreases-loop : tie.decreases-loop-root
 decreases-loop table root key n₀ low₀ high₀ n low high = high
 
 -- where the function starts, from the head of the loop
-abbrev start : tie.At-loop invariant-loop decreases-loop → tie.Start invariant-loop decreases-loop
+abbrev start : tie.At-loop-root invariant-loop decreases-loop → tie.Start invariant-loop decreases-loop
 start l = l.before.before
 
 -- the leaf's number, 0 for none
-abbrev number : tie.At-loop invariant-loop decreases-loop → Option ℕ → ℕ
-number l o = (seen_in (view (start l).args.table.now) (start l).args.key o).node
+abbrev number : tie.At-loop-root invariant-loop decreases-loop → Option ℕ → ℕ
+number l o = (seen_in (view l.args.table.now) l.args.key o).node
 
-loop-holds : tie.Need-loop-init invariant-loop decreases-loop
+loop-holds : tie.Need-loop-root-init invariant-loop decreases-loop
 loop-holds c = refl
 
-returns : tie.Need-returns invariant-loop decreases-loop
-returns c =
-    let h = c.before in
-    let l = h.before in
-    ap (number l) (turn-out (start l).args.table.now l.loop.low l.loop.high _ _ _ l.loop.invariant (start l).requires (sym h.has.ensures ∙ not-true _ c.if1.true))
+returns : tie.Need-returns-then-not-has invariant-loop decreases-loop
+returns c = ap (number c.before.before) (turn-out c.args.table.now c.loop-root.low c.loop-root.high _ _ _ c.loop-root.invariant c.requires (sym c.has.ensures ∙ not-true _ c.if-not-has.true-raw))
 
-returns-2 : tie.Need-returns-2 invariant-loop decreases-loop
-returns-2 c =
-    let d = c.before in
-    let l = d.before.before.before in
-    ap (number l) (turn-low (start l).args.table.now _ l.loop.high _ _ _ l.loop.invariant _ d.read.ensures c.if2.true)
+returns-2 : tie.Need-returns-then-level-low invariant-loop decreases-loop
+returns-2 c = ap (number c.before.before.before.before) (turn-low c.args.table.now _ c.loop-root.high _ _ _ c.loop-root.invariant _ c.read-x.ensures c.if-level-low.true)
 
-returns-3 : tie.Need-returns-3 invariant-loop decreases-loop
-returns-3 c =
-    let e = c.before in
-    let d = e.before in
-    let l = d.before.before.before in
-    ap (number l) (turn-high (start l).args.table.now _ _ _ _ _ l.loop.invariant _ d.read.ensures e.if2.false c.if3.true)
+returns-3 : tie.Need-returns-then-high-level invariant-loop decreases-loop
+returns-3 c = ap (number c.before.before.before.before.before) (turn-high c.args.table.now _ _ _ _ _ c.loop-root.invariant _ c.read-x.ensures c.if-level-low.false c.if-high-level.true)
 
-leaf-at-requires : tie.Need-leaf-at-requires invariant-loop decreases-loop
-leaf-at-requires c κs =
-    let d = c.before.before.before in
-    let h = d.before.before in
-    let p = (start h.before).pre in
-    (p, (sym (level-in _ _ _ _ p (sym h.has.ensures ∙ not-false _ d.before.if1.false) d.read.ensures) ∙ eq-eqb d.read.result.level _ refl, d.read.ensures))
+leaf-at-requires : tie.Need-leaf_at-requires invariant-loop decreases-loop
+leaf-at-requires c κs = (c.requires, (sym (level-in _ _ _ _ c.requires (sym c.has.ensures ∙ not-false _ c.if-not-has.false-raw) c.read-x.ensures) ∙ eq-eqb c.read-x.result.level _ refl, c.read-x.ensures))
 
-returns-4 : tie.Need-returns-4 invariant-loop decreases-loop
-returns-4 c =
-    let z = c.before in
-    let f = z.before in
-    let e = f.before in
-    let d = e.before in
-    let l = d.before.before.before in
-    c.leaf-at.ensures ∙ ap (λ (s : Stood). s.node) (turn-leaf _ _ _ _ _ _ l.loop.invariant _ d.read.ensures e.if2.false f.if3.false _ refl z.if4.true)
+returns-4 : tie.Need-returns-then-level-eq0 invariant-loop decreases-loop
+returns-4 c = c.leaf_at.ensures ∙ ap (λ (s : Stood). s.node) (turn-leaf _ _ _ _ _ _ c.loop-root.invariant _ c.read-x.ensures c.if-level-low.false c.if-high-level.false _ refl c.if-level-eq0.true)
 
-stand-requires : tie.Need-stand-requires invariant-loop decreases-loop
-stand-requires c κs =
-    let d = c.before.before.before in
-    let h = d.before.before in
-    let p = (start h.before).pre in
-    (p, (sym (level-in _ _ _ _ p (sym h.has.ensures ∙ not-false _ d.before.if1.false) d.read.ensures) ∙ eq-eqb d.read.result.level _ refl, d.read.ensures))
+stand-requires : tie.Need-stand-s-requires invariant-loop decreases-loop
+stand-requires c κs = (c.requires, (sym (level-in _ _ _ _ c.requires (sym c.has.ensures ∙ not-false _ c.if-not-has.false-raw) c.read-x.ensures) ∙ eq-eqb c.read-x.result.level _ refl, c.read-x.ensures))
 
-loop-again : tie.Need-loop-preserved invariant-loop decreases-loop
-loop-again c =
-    let z = c.before in
-    let f = z.before in
-    let e = f.before in
-    let d = e.before in
-    let l = d.before.before.before in
-    turn-down _ _ _ _ _ _ l.loop.invariant _ d.read.ensures e.if2.false f.if3.false _ c.stand.ensures z.if4.false
+loop-again : tie.Need-loop-root-preserved invariant-loop decreases-loop
+loop-again c = turn-down _ _ _ _ _ _ c.loop-root.invariant _ c.read-x.ensures c.if-level-low.false c.if-high-level.false _ c.stand-s.ensures c.if-level-eq0.false
 
-pub leaf-for-spec : {M : Type 1} → statement M
-leaf-for-spec =
+pub leaf_for_spec : {M : Type 1} → statement M
+leaf_for_spec =
     tie.close
     (tie.spec
     invariant-loop

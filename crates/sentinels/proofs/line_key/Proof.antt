@@ -13,55 +13,41 @@ use borrow.Author.Rules.{rules}
 use Rattle.sentinels.proofs.line_key.Statement.{statement}
 use Rattle.sentinels.proofs.line_key.Tie as tie
 
-abbrev invariant-loop : tie.invariant-loop
+abbrev invariant-loop : tie.invariant-loop-i
 invariant-loop table w first before i₀ i =
     (first ≤ i) × (i ≤ first + 4) × (first_key (shown before (take (first + 4 - i) (used_from (words_at table w) i))) ≡ first_key (line_of table w first))
 
-abbrev decreases-loop : tie.decreases-loop
+abbrev decreases-loop : tie.decreases-loop-i
 decreases-loop table w first before i₀ i = first + 4 - i
 
 -- where the function starts, from the head of the loop
-abbrev start : tie.At-loop invariant-loop decreases-loop → tie.Start invariant-loop decreases-loop
+abbrev start : tie.At-loop-i invariant-loop decreases-loop → tie.Start invariant-loop decreases-loop
 start l = l.before.before.before.before.before
 
-returns : tie.Need-returns invariant-loop decreases-loop
-returns c =
-    let b = c.before.before in
-    ap first_key (sym (line-shut b.before.before.args.table.now b.before.before.args.w _ _ b.begin.ensures (not-true _ c.if1.true)))
+returns : tie.Need-returns-then-not-b invariant-loop decreases-loop
+returns c = ap first_key (sym (line-shut c.args.table.now c.args.w _ _ c.begin-b.ensures (not-true _ c.if-not-b.true)))
 
-loop-holds : tie.Need-loop-init invariant-loop decreases-loop
-loop-holds c =
-    let b = c.before.before in
-    (omega arith, omega arith, ap first_key (line-start b.before.before.args.table.now b.before.before.args.w _ _ b.begin.ensures (not-false _ c.if1.false)))
+loop-holds : tie.Need-loop-i-init invariant-loop decreases-loop
+loop-holds c = (omega arith, omega arith, ap first_key (line-start c.args.table.now c.args.w _ _ c.begin-b.ensures (not-false _ c.if-not-b.false)))
 
-returns-2 : tie.Need-returns-2 invariant-loop decreases-loop
-returns-2 c =
-    let l = c.before.before.before in
-    let a = start l in
-    line-stop first_key a.args.table.now a.args.w _ (a.args.first + 4) l.loop.i _ l.loop.invariant.2 a.pre.0 (omega arith) (omega arith) c.if2.true
+returns-2 : tie.Need-returns-then-p-eq0 invariant-loop decreases-loop
+returns-2 c = let a = start c.before.before.before in
+    line-stop first_key a.args.table.now a.args.w _ (a.args.first + 4) c.loop-i.i _ c.loop-i.invariant.2 a.requires.0 (omega arith) (omega arith) c.if-p-eq0.true
 
-returns-3 : tie.Need-returns-3 invariant-loop decreases-loop
-returns-3 c =
-    let e = c.before.before in
-    let l = e.before.before.before in
-    let a = start l in
-    line-shows first_key a.args.table.now a.args.w _ (a.args.first + 4) l.loop.i _ l.loop.invariant.2 a.pre.0 (omega arith) (omega arith) e.if2.false c.before.if3.true refl
+returns-3 : tie.Need-returns-then-p-before invariant-loop decreases-loop
+returns-3 c = let a = start c.before.before.before.before.before in
+    line-shows first_key a.args.table.now a.args.w _ (a.args.first + 4) c.loop-i.i _ c.loop-i.invariant.2 a.requires.0 (omega arith) (omega arith) c.if-p-eq0.false c.if-p-before.true refl
 
-loop-again : tie.Need-loop-preserved invariant-loop decreases-loop
-loop-again c =
-    let e = c.before in
-    let l = e.before.before.before in
-    let a = start l in
-    (omega arith, omega arith, line-stays first_key a.args.table.now a.args.w _ (a.args.first + 4) l.loop.i _ l.loop.invariant.2 a.pre.0 (omega arith) (omega arith) e.if2.false c.if3.false)
+loop-again : tie.Need-loop-i-preserved invariant-loop decreases-loop
+loop-again c = let a = start c.before.before.before.before in
+    (omega arith, omega arith, line-stays first_key a.args.table.now a.args.w _ (a.args.first + 4) c.loop-i.i _ c.loop-i.invariant.2 a.requires.0 (omega arith) (omega arith) c.if-p-eq0.false c.if-p-before.false)
 
-returns-4 : tie.Need-returns-4 invariant-loop decreases-loop
-returns-4 c =
-    let l = c.before in
-    let a = start l in
-    line-end first_key a.args.table.now a.args.w _ (a.args.first + 4) l.loop.i _ l.loop.invariant.2 (omega arith)
+returns-4 : tie.Need-returns invariant-loop decreases-loop
+returns-4 c = let a = start c.before in
+    line-end first_key a.args.table.now a.args.w _ (a.args.first + 4) c.loop-i.i _ c.loop-i.invariant.2 (omega arith)
 
-pub line-key-spec : {M : Type 1} → statement M
-line-key-spec =
+pub line_key_spec : {M : Type 1} → statement M
+line_key_spec =
     tie.close
     (tie.spec
     invariant-loop

@@ -10,20 +10,27 @@ use Rattle.sentinels.proofs.refusal_any.Tie as tie
 header-requires : tie.Need-header-requires
 header-requires c κs = search rules
 
-fine : (c : tie.Else1) → header_ok c.before.before.before.args.table.now ≡ true
-fine c = header-passed _ _ c.before.header.ensures c.if1.false
+fine : (c : tie.Else-header-ne0) → header_ok c.args.table.now ≡ true
+fine c = header-passed _ _ c.header.ensures c.if-header-ne0.false
 
-returns : tie.Need-returns
-returns c = header-lost _ _ _ c.before.header.ensures c.if1.true
+returns : tie.Need-returns-then-header-ne0
+returns c = header-lost _ _ _ c.header.ensures c.if-header-ne0.true
 
 fits-requires : tie.Need-fits-requires
 fits-requires c κs = fine c
 
-returns-2 : tie.Need-returns-2
-returns-2 c = let f = c.before in right-length _ _ _ (fine f.before) refl _ f.fits2.ensures c.if2.true
+returns-2 : tie.Need-returns-then-fits
+returns-2 c = right-length _ _ _ (fine c.before.before) refl _ c.fits.ensures c.if-fits.true
 
-returns-3 : tie.Need-returns-3
-returns-3 c = let f = c.before in wrong-length _ _ _ (fine f.before) refl _ f.fits2.ensures c.if2.false
+returns-3 : tie.Need-returns
+returns-3 c = wrong-length _ _ _ (fine c.before.before) refl _ c.fits.ensures c.if-fits.false
 
-pub refusal-any-spec : {M : Type 1} → statement M
-refusal-any-spec = tie.close (tie.spec header-requires returns fits-requires returns-2 returns-3)
+pub refusal_any_spec : {M : Type 1} → statement M
+refusal_any_spec =
+    tie.close
+    (tie.spec
+    header-requires
+    returns
+    fits-requires
+    returns-2
+    returns-3)

@@ -16,56 +16,47 @@ use borrow.Author.Rules.{rules}
 use Rattle.sentinels.proofs.renew_stored.Statement.{statement}
 use Rattle.sentinels.proofs.renew_stored.Tie as tie
 
-abbrev invariant-loop : tie.invariant-loop
+abbrev invariant-loop : tie.invariant-loop-i
 invariant-loop table words₀ list count len last₀ i₀ words last i =
     (i ≤ count) × (length words ≡ 3 * nodes table) × (words ≡ set_anew (named (length table) list i) table words₀) × (last ≢ 0 → named (length table) list i last ≡ true)
 
-abbrev decreases-loop : tie.decreases-loop
+abbrev decreases-loop : tie.decreases-loop-i
 decreases-loop table words₀ list count len last₀ i₀ words last i = count - i
 
 -- where the function starts, from the head of the loop
-abbrev start : tie.At-loop invariant-loop decreases-loop → tie.Start invariant-loop decreases-loop
+abbrev start : tie.At-loop-i invariant-loop decreases-loop → tie.Start invariant-loop decreases-loop
 start l = l.before.before.before.before
 
-loop-holds : tie.Need-loop-init invariant-loop decreases-loop
-loop-holds c = let b = c.before.before.before in (omega arith, b.requires.1.1.0, stored-none b.args.table.now b.args.words.now _ b.requires.1.1.0, λ z. absurd (z refl))
+loop-holds : tie.Need-loop-i-init invariant-loop decreases-loop
+loop-holds c = (omega arith, c.requires.1.1.0, stored-none c.args.table.now c.args.words.now _ c.requires.1.1.0, λ z. absurd (z refl))
 
-stored-node-requires : tie.Need-stored-node-requires invariant-loop decreases-loop
-stored-node-requires c κs = let l = c.before.before in let f = ((header-iff _).0 (start l).requires.0).size in omega (arith, f.long, f.few)
+stored-node-requires : tie.Need-stored_node-n-requires invariant-loop decreases-loop
+stored-node-requires c κs = let f = ((header-iff _).0 c.requires.0).size in omega (arith, f.long, f.few)
 
-renew-once-requires : tie.Need-renew-once-requires invariant-loop decreases-loop
-renew-once-requires c κs =
-    let n = c.before in
-    let l = n.before.before.before in
-    let b = start l in
-    (b.pre.1.0 (omega arith), (l.loop.invariant.1, stored-few b.args.table.now b.args.words.now _ b.pre.1.1.0 _ _ _ ((header-iff _).0 b.pre.0).size.long n.stored-node.ensures l.loop.invariant.3))
+renew-once-requires : tie.Need-renew_once-last-requires invariant-loop decreases-loop
+renew-once-requires c κs = let b = start c.before.before.before.before in
+    (b.requires.1.0 (omega arith), (c.loop-i.invariant.1, stored-few b.args.table.now b.args.words.now _ b.requires.1.1.0 _ _ _ ((header-iff _).0 b.requires.0).size.long c.stored_node-n.ensures c.loop-i.invariant.3))
 
-loop-again : tie.Need-loop-preserved invariant-loop decreases-loop
-loop-again c =
-    let r = c.before.before in
-    let n = r.before.before in
-    let l = n.before.before.before in
-    let b = start l in
-    let size = ((header-iff _).0 b.pre.0).size.long in
-    let e = stored-more b.args.table.now b.args.words.now _ b.pre.1.1.0 l.loop.i _ _ size n.stored-node.ensures l.loop.invariant.3 _ _ l.loop.invariant.2 r.renew-once.ensures.1 in (
+loop-again : tie.Need-loop-i-preserved invariant-loop decreases-loop
+loop-again c = let b = start c.before.before.before.before.before.before.before in
+    let size = ((header-iff _).0 b.requires.0).size.long in
+    let e = stored-more b.args.table.now b.args.words.now _ b.requires.1.1.0 c.loop-i.i _ _ size c.stored_node-n.ensures c.loop-i.invariant.3 _ _ c.loop-i.invariant.2 c.renew_once-last.ensures.1 in (
       omega arith,
-      ap length e ∙ length-anew _ b.args.table.now b.args.words.now b.pre.1.1.0,
+      ap length e ∙ length-anew _ b.args.table.now b.args.words.now b.requires.1.1.0,
       e,
-      stored-last b.args.table.now b.args.words.now _ b.pre.1.1.0 l.loop.i _ _ size n.stored-node.ensures l.loop.invariant.3 _ r.renew-once.ensures.0,
+      stored-last b.args.table.now b.args.words.now _ b.requires.1.1.0 c.loop-i.i _ _ size c.stored_node-n.ensures c.loop-i.invariant.3 _ c.renew_once-last.ensures.0,
     )
 
-same-length : tie.Need-same-length invariant-loop decreases-loop
-same-length c = let l = c.before in l.loop.invariant.1 ∙ sym (start l).requires.1.1.0
+same-length : tie.Need-shape_of-words invariant-loop decreases-loop
+same-length c = c.loop-i.invariant.1 ∙ sym c.requires.1.1.0
 
 returns : tie.Need-returns invariant-loop decreases-loop
-returns c =
-    let l = c.before in
-    let b = start l in
-    let q : l.loop.i ≡ b.args.count = omega arith in
-    l.loop.invariant.2 ∙ ap (λ (j : ℕ). set_anew (named (length b.args.table.now) b.args.list.now j) b.args.table.now b.args.words.now) q
+returns c = let b = start c.before in
+    let q : c.loop-i.i ≡ b.args.count = omega arith in
+    c.loop-i.invariant.2 ∙ ap (λ (j : ℕ). set_anew (named (length b.args.table.now) b.args.list.now j) b.args.table.now b.args.words.now) q
 
-pub renew-stored-spec : {M : Type 1} → statement M
-renew-stored-spec =
+pub renew_stored_spec : {M : Type 1} → statement M
+renew_stored_spec =
     tie.close
     (tie.spec
     invariant-loop

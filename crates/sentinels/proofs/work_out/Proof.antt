@@ -11,38 +11,30 @@ use Rattle.sentinels.proofs.work_out.Statement.{statement}
 use Rattle.sentinels.proofs.work_out.Tie as tie
 
 -- where the function starts
-abbrev start : tie.After-refusal-any → tie.Start
+abbrev start : tie.After-refusal_any-number → tie.Start
 start r = r.before.before.before
 
 -- the header and the length have passed
-fine : (c : tie.Else1) → ◌≡◌ {A = ℕ} 0 (slice_number false (length (start c.before).args.words.now) (start c.before).args.table.now)
-fine c = sym c.if1.false ∙ c.before.refusal-any.ensures
+fine : (c : tie.Else-number-ne0) → ◌≡◌ {A = ℕ} 0 (slice_number false (length c.args.words.now) c.args.table.now)
+fine c = sym c.if-number-ne0.false ∙ c.refusal_any-number.ensures
 
-returns : tie.Need-returns
-returns c = let r = c.before in let a = start r in work-refused a.args.words.now a.args.table.now _ r.refusal-any.ensures c.if1.true
+returns : tie.Need-returns-then-number-ne0
+returns c = let a = start c.before in work-refused a.args.words.now a.args.table.now _ c.refusal_any-number.ensures c.if-number-ne0.true
 
-returns-2 : tie.Need-returns-2
-returns-2 c =
-    let s = c.before in
-    let a = start s.before.before in
-    work-unsound a.args.words.now a.args.table.now (fine s.before) (sym s.is-sound.ensures ∙ not-true _ c.if2.true)
+returns-2 : tie.Need-returns-then-not-is_sound
+returns-2 c = let a = start c.before.before.before in
+    work-unsound a.args.words.now a.args.table.now (fine c.before.before) (sym c.is_sound.ensures ∙ not-true _ c.if-not-is_sound.true-raw)
 
 fill-requires : tie.Need-fill-requires
-fill-requires c κs =
-    let s = c.before.before in
-    let a = start s.before.before in
-    (sym s.is-sound.ensures ∙ not-false _ c.before.if2.false, work-long a.args.words.now a.args.table.now (fine s.before))
+fill-requires c κs = let a = start c.before.before.before.before in
+    (sym c.is_sound.ensures ∙ not-false _ c.if-not-is_sound.false-raw, work-long a.args.words.now a.args.table.now (fine c.before.before.before))
 
-returns-3 : tie.Need-returns-3
-returns-3 c =
-    let f = c.before.before in
-    let e = f.before.before in
-    let s = e.before in
-    let a = start s.before.before in
-    work-done a.args.words.now a.args.table.now (fine s.before) _ (sym s.is-sound.ensures ∙ not-false _ e.if2.false) f.fill.ensures
+returns-3 : tie.Need-returns
+returns-3 c = let a = start c.before.before.before.before.before.before.before in
+    work-done a.args.words.now a.args.table.now (fine c.before.before.before.before.before.before) _ (sym c.is_sound.ensures ∙ not-false _ c.if-not-is_sound.false-raw) c.fill.ensures
 
-pub work-out-spec : {M : Type 1} → statement M
-work-out-spec =
+pub work_out_spec : {M : Type 1} → statement M
+work_out_spec =
     tie.close
     (tie.spec
     (λ c κs. search rules)

@@ -8,37 +8,35 @@ use Rattle.statistics.proofs.check.Statement.{statement}
 use Rattle.statistics.proofs.check.Tie as tie
 
 -- what the check of the table answered
-answered : (c : tie.After-answer) → checked c.before.before.before.before.before.before.args.table.now ≡ Sound c.answer.given.0.0 c.answer.given.0.1.0
-answered c = sym c.before.before.check.ensures ∙ c.answer.given.1
+answered : (c : tie.In-Sound) → checked c.args.table.now ≡ Sound c.in-Sound.left c.in-Sound.count
+answered c = sym c.check-answer.ensures ∙ c.in-Sound.is
 
 header-requires : tie.Need-header-requires
 header-requires c κs = search rules
 
-returns : tie.Need-returns
-returns c = no-table _ _ _ c.before.header.ensures c.if1.true
+returns : tie.Need-returns-then-header-ne0
+returns c = no-table _ _ _ c.header.ensures c.if-header-ne0.true
 
-check-requires : tie.Need-check-requires
+check-requires : tie.Need-check-answer-requires
 check-requires c κs = search rules
 
-enum_told : tie.Need-enum-told
+enum_told : tie.Need-enum_told-1
 enum_told c = search rules
 
-enum-known-answer : tie.Need-enum-known-answer
+enum-known-answer : tie.Need-enum_known-answer
 enum-known-answer c = search rules
 
-report-of-requires : tie.Need-report-of-requires
-report-of-requires c κs = answered c.before
+report-of-requires : tie.Need-report_of-words-requires
+report-of-requires c κs = answered c
 
-returns-2 : tie.Need-returns-2
-returns-2 c =
-    let k = c.before.before in
-    not-sound _ _ _ k.before.before.header.ensures k.before.if1.false _ k.check.ensures c.enum_told.given.1
+returns-2 : tie.Need-returns-in-Unsound
+returns-2 c = not-sound _ _ _ c.header.ensures c.if-header-ne0.false _ c.check-answer.ensures c.in-Unsound.is
 
-returns-3 : tie.Need-returns-3
-returns-3 c = is-sound _ _ _ _ (answered c.before.before) _ c.report-of.ensures
+returns-3 : tie.Need-returns-in-Sound
+returns-3 c = is-sound _ _ _ _ (answered c.before) _ c.report_of-words.ensures
 
-pub check-spec : {M : Type 1} → statement M
-check-spec =
+pub check_spec : {M : Type 1} → statement M
+check_spec =
     tie.close
     (tie.spec
     header-requires

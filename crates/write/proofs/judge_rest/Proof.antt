@@ -6,48 +6,40 @@ use borrow.Author.Rules.{rules}
 use Rattle.write.proofs.judge_rest.Statement.{statement}
 use Rattle.write.proofs.judge_rest.Tie as tie
 
--- ---- the places, and what is known at them: the table is sound
-
-abbrev entry : tie.After-check → tie.Start
+abbrev entry : tie.After-check-answer → tie.Start
 entry c = c.before.before
 
-abbrev answered : tie.After-answer → tie.After-check
-answered c = c.before.before
+abbrev answered : tie.In-Sound → tie.After-check-answer
+answered c = c.before
 
 -- after the test of the dock, and after the length that it asks for
-abbrev docked : tie.Else1 → tie.After-answer
-docked c = c.before.before
+abbrev docked : tie.Else-dock-gt1 → tie.In-Sound
+docked c = c.before
 
-abbrev measured : tie.After-words-for → tie.Else1
+abbrev measured : tie.After-words_for → tie.Else-dock-gt1
 measured c = c.before
 
-found : (c : tie.After-answer) → SoundWith (entry (answered c)).args.table.now c.answer.given.0.0 c.answer.given.0.1.0
-found c = (checked-sound _ _ _).0 (sym (answered c).check.ensures ∙ c.answer.given.1)
+found : (c : tie.In-Sound) → SoundWith c.args.table.now c.in-Sound.leftover c.in-Sound.reached
+found c = (checked-sound _ _ _).0 (sym c.check-answer.ensures ∙ c.in-Sound.is)
 
--- ---- the answers
+returns : tie.Need-returns-then-dock-gt1
+returns c = wrong-dock _ _ _ c.requires _ _ (found c.before) c.if-dock-gt1.true
 
-returns : tie.Need-returns
-returns c = let a = c.before.before in wrong-dock _ _ _ (entry (answered a)).requires _ _ (found a) c.if1.true
-
-returns-2 : tie.Need-returns-2
-returns-2 c =
-    let w = c.before in
-    let b = measured w in
+returns-2 : tie.Need-returns-then-words-words_for
+returns-2 c = let b = measured c.before in
     let a = docked b in
-    too-short _ _ _ (entry (answered a)).requires _ _ (found a) b.if1.left _ w.words-for.ensures c.if2.true
+    too-short _ _ _ a.requires _ _ (found a) b.if-dock-gt1.false _ c.words_for.ensures c.if-words-words_for.true
 
-returns-3 : tie.Need-returns-3
-returns-3 c = let a = c.before.before in not-sound _ _ _ (entry a).requires (sym a.check.ensures ∙ c.enum_told.given.1)
+returns-3 : tie.Need-returns-in-Unsound
+returns-3 c = not-sound _ _ _ c.requires (sym c.check-answer.ensures ∙ c.in-Unsound.is)
 
-returns-4 : tie.Need-returns-4
-returns-4 c =
-    let w = c.before in
-    let b = measured w in
+returns-4 : tie.Need-returns-else-words-words_for
+returns-4 c = let b = measured c.before in
     let a = docked b in
-    all-passed _ _ _ (entry (answered a)).requires _ _ (found a) b.if1.left _ w.words-for.ensures c.if2.false
+    all-passed _ _ _ a.requires _ _ (found a) b.if-dock-gt1.false _ c.words_for.ensures c.if-words-words_for.false
 
-pub judge-rest-spec : {M : Type 1} → statement M
-judge-rest-spec =
+pub judge_rest_spec : {M : Type 1} → statement M
+judge_rest_spec =
     tie.close
     (tie.spec
     (λ c κs. search rules)
