@@ -6,80 +6,72 @@ use borrow.Author.Rules.{rules}
 use Rattle.delete.proofs.take_out.Statement.{statement}
 use Rattle.delete.proofs.take_out.Tie as tie
 
--- ---- the places, and what is known at them
+abbrev parent : tie.After-frees_leaf-frees → tie.After-standing-parent
+parent c = c.before
 
-abbrev parent : tie.After-frees-leaf → tie.After-standing2
-parent c = c.before.before
+abbrev leaf : tie.After-standing-parent → tie.After-standing-leaf
+leaf c = c.before
 
-abbrev leaf : tie.After-standing2 → tie.After-standing
-leaf c = c.before.before
+abbrev read : tie.After-standing-leaf → tie.After-root_of-root
+read c = c.before
 
-abbrev read : tie.After-standing → tie.After-root-of
-read c = c.before.before
+abbrev start : tie.After-root_of-root → tie.Start
+start c = c.before.before.before
 
-abbrev start : tie.After-root-of → tie.Start
-start c = c.before.before.before.before
-
-abbrev entry : tie.After-standing → tie.Start
+abbrev entry : tie.After-standing-leaf → tie.Start
 entry c = start (read c)
 
-abbrev judged : tie.After-shift-out-arg2 → tie.After-frees-leaf
+abbrev judged : tie.After-shift_out-arg-2-1 → tie.After-frees_leaf-frees
 judged c = c.before.before
 
-abbrev shifted : tie.Then1 → tie.After-shift-out
+abbrev shifted : tie.Then-not-frees → tie.After-shift_out-out
 shifted c = c.before.before.before.before.before
 
-abbrev freeing : tie.After-free-leaf-arg2 → tie.Else1
+abbrev freeing : tie.After-free_leaf-arg-2-1 → tie.Else-not-frees
 freeing c = c.before.before
 
-abbrev out : tie.Else1 → tie.After-shift-out
+abbrev out : tie.Else-not-frees → tie.After-shift_out-out
 out c = c.before.before.before.before.before
 
-abbrev freed : tie.After-slice-known6 → tie.After-free-leaf
+abbrev freed : tie.After-slice_known-6-1 → tie.After-free_leaf
 freed c = c.before.before.before.before
 
-found : (c : tie.After-frees-leaf) → let p = parent c in let x = leaf p in let r = read x in let a = (entry x).args in
-    Found a.collection a.key a.table.now a.list.now a.pen r.root-of.result x.standing.result p.standing2.result c.frees-leaf.result
-found c = let p = parent c in let x = leaf p in let e = (entry x).pre in record {
-  collection = e.0;
-  is-settled = e.1.0;
-  has-key = e.1.1.0;
-  room = e.1.1.1;
-  root = (read x).root-of.ensures;
-  leaf-at = x.standing.ensures;
-  parent-at = p.standing2.ensures;
-  frees = c.frees-leaf.ensures;
+found : (c : tie.After-frees_leaf-frees) → let p = parent c in let x = leaf p in let r = read x in let a = x.args in Found a.collection a.key a.table.now a.list.now a.pen r.root_of-root.result x.standing-leaf.result p.standing-parent.result c.frees_leaf-frees.result
+found c = let p = parent c in let x = leaf p in record {
+  collection = x.requires.0;
+  is-settled = x.requires.1.0;
+  has-key = x.requires.1.1.0;
+  room = x.requires.1.1.1;
+  root = x.root_of-root.ensures;
+  leaf-at = x.standing-leaf.ensures;
+  parent-at = p.standing-parent.ensures;
+  frees = c.frees_leaf-frees.ensures;
 }
 
--- ---- the answers
+root-of-requires : tie.Need-root_of-root-requires
+root-of-requires c κs = (settled-head _ c.requires.1.0, c.requires.0)
 
-root-of-requires : tie.Need-root-of-requires
-root-of-requires c κs = let e = c.before.before.before.requires in (settled-head _ e.1.0, e.0)
-
-shift-out-requires : tie.Need-shift-out-requires
+shift-out-requires : tie.Need-shift_out-out-requires
 shift-out-requires c κs = let f = found (judged c) in ((leaf-plain f).there, ((leaf-plain f).plain, out-room f))
 
-returns : tie.Need-returns
-returns c = let o = shifted c in stays-stored (found (judged o.before)) (not-true _ c.if1.true) o.shift-out.ensures
+returns : tie.Need-returns-then-not-frees
+returns c = let o = shifted c in stays-stored (found (judged o.before)) (not-true _ c.if-not-frees.true-raw) o.shift_out-out.ensures
 
-free-leaf-requires : tie.Need-free-leaf-requires
-free-leaf-requires c κs =
-    let e = freeing c in
+free-leaf-requires : tie.Need-free_leaf-requires
+free-leaf-requires c κs = let e = freeing c in
     let o = out e in
     let f = found (judged o.before) in
-    let z = not-false _ e.if1.left in
-    let g = o.shift-out.ensures in
-    ((parent-plain f z g).there, ((parent-plain f z g).plain, (neighbour-plain f z g, free-room f z g)))
+    let z = not-false _ e.if-not-frees.false-raw in
+    ((parent-plain f z o.shift_out-out.ensures).there, ((parent-plain f z o.shift_out-out.ensures).plain, (neighbour-plain f z o.shift_out-out.ensures, free-room f z o.shift_out-out.ensures)))
 
-returns-2 : tie.Need-returns-2
-returns-2 c =
-    let z = freed c in
+returns-2 : tie.Need-returns
+returns-2 c = let z = freed c in
     let e = freeing z.before in
     let o = out e in
-    free-stored (found (judged o.before)) (not-false _ e.if1.left) o.shift-out.ensures z.free-leaf.ensures
+    free-stored (found (judged o.before)) (not-false _ e.if-not-frees.false-raw) o.shift_out-out.ensures z.free_leaf.ensures
 
-pub take-out-spec : {M : Type 1} → statement M
-take-out-spec =
+pub take_out_spec : {M : Type 1} → statement M
+take_out_spec =
     tie.close
     (tie.spec
     root-of-requires

@@ -13,51 +13,45 @@ use borrow.Author.Rules.{rules}
 use Rattle.insert.proofs.insert.Statement.{statement}
 use Rattle.insert.proofs.insert.Tie as tie
 
--- ---- the places, and what is known at them
+abbrev entry : tie.After-judge-judgement → tie.Start
+entry c = c.before.before.before
 
-abbrev entry : tie.After-judge → tie.Start
-entry c = c.before.before.before.before
+abbrev asked : tie.In-Ready → tie.Start
+asked c = entry c.before
 
-abbrev asked : tie.After-judgement2 → tie.Start
-asked c = entry c.before.before
+abbrev ready : tie.In-Ready → tie.In-Ready
+ready c = c
 
-abbrev ready : tie.After-has-recording-arg → tie.After-judgement2
-ready c = c.before.before
-
-abbrev looked : tie.After-insert-known-arg2 → tie.After-has-recording
+abbrev looked : tie.After-insert_known-arg-in-Ready-1 → tie.After-has_recording-known
 looked c = c.before.before
 
 abbrev call : tie.Start → Call
 call c = let a = c.args in insertion a.collection a.key a.recording a.access
 
-passed : (c : tie.After-judgement2) → let v = c.judgement2.given.0 in let a = asked c in Passed (call a) (length a.args.list.now) a.args.dock a.args.table.now v.0 v.1.0
-passed c = judged-ready (call (asked c)) _ _ _ _ _ (sym c.before.before.judge.ensures ∙ c.judgement2.given.1)
+passed : (c : tie.In-Ready) → let a = asked c in Passed (call a) (length a.args.list.now) a.args.dock a.args.table.now c.in-Ready.left c.in-Ready.reached
+passed c = judged-ready (call (asked c)) _ _ _ _ _ (sym c.judge-judgement.ensures ∙ c.in-Ready.is)
 
--- ---- the answers
-
-root-of-requires : tie.Need-root-of-requires
+root-of-requires : tie.Need-root_of-requires
 root-of-requires c κs = let p = passed (ready c) in (sound-head _ p.found.is-sound, p.collection)
 
-has-recording-requires : tie.Need-has-recording-requires
-has-recording-requires c κs = let p = passed (ready c.before) in root-sound _ _ _ c.root-of.ensures p.found.is-sound p.collection
+has-recording-requires : tie.Need-has_recording-known-requires
+has-recording-requires c κs = let p = passed (ready c.before) in root-sound _ _ _ c.root_of.ensures p.found.is-sound p.collection
 
-insert-known-requires : tie.Need-insert-known-requires
-insert-known-requires c κs = let h = looked c.before in let r = h.before in let p = passed (ready r.before) in let f = p.found in let a = (asked (ready r.before)).args in
-    (f.is-sound, (f.leftover-is, (f.reached-are, (p.collection, (p.dock-ok, (p.long, (found-here a.collection a.table.now _ r.root-of.ensures _ _ h.has-recording.ensures, none-taken _)))))))
+insert-known-requires : tie.Need-insert_known-entered-requires
+insert-known-requires c κs = let h = looked c.before in let p = passed (ready h.before.before) in let f = p.found in let a = h.args in
+    (f.is-sound, (f.leftover-is, (f.reached-are, (p.collection, (p.dock-ok, (p.long, (found-here a.collection a.table.now _ h.root_of.ensures _ _ h.has_recording-known.ensures, none-taken _)))))))
 
-returns : tie.Need-returns
-returns c = let j = c.before in judge-refuses _ _ _ _ _ (sym j.before.before.judge.ensures ∙ j.judgement.given.1)
+returns : tie.Need-returns-in-Refused
+returns c = judge-refuses _ _ _ _ _ (sym c.judge-judgement.ensures ∙ c.in-Refused.is)
 
-returns-2 : tie.Need-returns-2
-returns-2 c = let q = c.before.before.before.before.before.before.before.before.insert-known.ensures in
-    (entered-refused c.before.entered.given.1 q.0, (q.1.0, q.1.1.0))
+returns-2 : tie.Need-returns-in-Refused-entered
+returns-2 c = (entered-refused c.in-Refused-entered.is c.insert_known-entered.ensures.0, (c.insert_known-entered.ensures.1.0, c.insert_known-entered.ensures.1.1.0))
 
-returns-3 : tie.Need-returns-3
-returns-3 c = let q = c.before.before.before.before.before.before.before.before.insert-known.ensures in
-    (entered-done c.before.entered2.given.1 q.0, (q.1.0, q.1.1.0))
+returns-3 : tie.Need-returns-in-Done
+returns-3 c = (entered-done c.in-Done.is c.insert_known-entered.ensures.0, (c.insert_known-entered.ensures.1.0, c.insert_known-entered.ensures.1.1.0))
 
-pub insert-spec : {M : Type 1} → statement M
-insert-spec =
+pub insert_spec : {M : Type 1} → statement M
+insert_spec =
     tie.close
     (tie.spec
     (λ c κs. search rules)

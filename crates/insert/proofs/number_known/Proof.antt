@@ -17,97 +17,93 @@ use borrow.Author.Rules.{rules}
 use Rattle.insert.proofs.number_known.Statement.{statement}
 use Rattle.insert.proofs.number_known.Tie as tie
 
--- ---- the places, and what is known at them
-
-abbrev start : tie.After-root-of → tie.Start
+abbrev start : tie.After-root_of-root → tie.Start
 start c = c.before.before
 
-abbrev entry : tie.Else1 → tie.After-root-of
+abbrev entry : tie.Else-not-recording_ok → tie.After-root_of-root
 entry c = c.before.before
 
-abbrev ranged : tie.Else2 → tie.Else1
+abbrev ranged : tie.Else-not-class_ok → tie.Else-not-recording_ok
 ranged c = c.before.before
 
-abbrev keyed : tie.Else3 → tie.Else2
+abbrev keyed : tie.Else-has_key → tie.Else-not-class_ok
 keyed c = c.before.before
 
-abbrev fresh : tie.Else4 → tie.Else3
+abbrev fresh : tie.Else-known → tie.Else-has_key
 fresh c = c.before
 
-abbrev low : tie.Else5 → tie.Else4
+abbrev low : tie.Else-too_high → tie.Else-known
 low c = c.before.before
 
 -- the tree under the root that was read
-abbrev tree : tie.After-root-of → View
-tree s = view_from (start s).args.table.now s.root-of.result
+abbrev tree : tie.After-root_of-root → View
+tree s = view_from s.args.table.now s.root_of-root.result
 
-tree-sound : (c : tie.After-root-of) → sound_view (tree c) ≡ true
-tree-sound c = let e = (start c).requires in root-sound _ _ _ c.root-of.ensures e.1.0 e.0
+tree-sound : (c : tie.After-root_of-root) → sound_view (tree c) ≡ true
+tree-sound c = root-sound _ _ _ c.root_of-root.ensures c.requires.1.0 c.requires.0
 
 -- whether its map has the recording
-knows : (c : tie.After-root-of) → has_recording (start c).args.recording (mapping (tree c)) ≡ (start c).args.known
-knows c = let a = (start c).args in known-here a.collection a.table.now c.root-of.result c.root-of.ensures a.known a.recording (start c).requires.1.1.1
+knows : (c : tie.After-root_of-root) → has_recording c.args.recording (mapping (tree c)) ≡ c.args.known
+knows c = let a = c.args in known-here a.collection a.table.now c.root_of-root.result c.root_of-root.ensures a.known a.recording c.requires.1.1.1
 
-abbrev tests : tie.After-root-of → List Test
-tests s = let a = (start s).args in
+abbrev tests : tie.After-root_of-root → List Test
+tests s = let a = s.args in
     map_tests (insertion a.collection a.key a.recording a.access) (high_run (tree s) a.run) (few_for (length (unreachable a.table.now)) a.run) (mapping (tree s))
 
 -- the number is that of the tests from the i-th on
-abbrev From : tie.After-root-of → ℕ → Type 0
-From s i = let a = (start s).args in number_for a.collection a.table.now a.key a.recording a.access a.run ≡ first_number (drop i (tests s))
+abbrev From : tie.After-root_of-root → ℕ → Type 0
+From s i = let a = s.args in number_for a.collection a.table.now a.key a.recording a.access a.run ≡ first_number (drop i (tests s))
 
-from₆ : (c : tie.After-root-of) → From c 0
-from₆ c = number-first _ _ _ _ _ _ _ c.root-of.ensures
+from₆ : (c : tie.After-root_of-root) → From c 0
+from₆ c = number-first _ _ _ _ _ _ _ c.root_of-root.ensures
 
-from₁₄ : (c : tie.Else1) → From (entry c) 1
-from₁₄ c = from₆ (entry c) ∙ test-so _ _ _ _ c.before.recording-ok.ensures c.if1.false
+from₁₄ : (c : tie.Else-not-recording_ok) → From (entry c) 1
+from₁₄ c = from₆ (entry c) ∙ test-so _ _ _ _ c.recording_ok.ensures c.if-not-recording_ok.false-raw
 
-from₇ : (c : tie.Else2) → From (entry (ranged c)) 2
-from₇ c = from₁₄ (ranged c) ∙ test-so _ _ _ _ c.before.class-ok.ensures c.if2.false
+from₇ : (c : tie.Else-not-class_ok) → From (entry (ranged c)) 2
+from₇ c = from₁₄ (ranged c) ∙ test-so _ _ _ _ c.class_ok.ensures c.if-not-class_ok.false-raw
 
-from₈ : (c : tie.Else3) → From (entry (ranged (keyed c))) 3
-from₈ c = from₇ (keyed c) ∙ test-passed _ _ _ (sym c.before.has-key.ensures ∙ c.if3.false)
+from₈ : (c : tie.Else-has_key) → From (entry (ranged (keyed c))) 3
+from₈ c = from₇ (keyed c) ∙ test-passed _ _ _ (sym c.has_key.ensures ∙ c.if-has_key.false)
 
-from₁₁ : (c : tie.Else4) → From (entry (ranged (keyed (fresh c)))) 4
-from₁₁ c = from₈ (fresh c) ∙ test-passed _ _ _ (knows (entry (ranged (keyed (fresh c)))) ∙ c.if4.false)
+from₁₁ : (c : tie.Else-known) → From (entry (ranged (keyed (fresh c)))) 4
+from₁₁ c = from₈ (fresh c) ∙ test-passed _ _ _ (knows (entry (ranged (keyed (fresh c)))) ∙ c.if-known.false)
 
-from₁₀ : (c : tie.Else5) → From (entry (ranged (keyed (fresh (low c))))) 5
-from₁₀ c = from₁₁ (low c) ∙ test-passed _ _ _ (sym c.before.too-high.ensures ∙ c.if5.false)
+from₁₀ : (c : tie.Else-too_high) → From (entry (ranged (keyed (fresh (low c))))) 5
+from₁₀ c = from₁₁ (low c) ∙ test-passed _ _ _ (sym c.too_high.ensures ∙ c.if-too_high.false)
 
-few : (c : tie.After-too-few) → let a = (start (entry (ranged (keyed (fresh (low c.before.before)))))).args in few_for (length (unreachable a.table.now)) a.run ≡ c.too_few.result
-few c = ap (λ (n : ℕ). few_for n (start (entry (ranged (keyed (fresh (low c.before.before)))))).args.run) (sym c.before.unreachable.ensures) ∙ sym c.too_few.ensures
+few : (c : tie.After-too_few) → let a = c.args in few_for (length (unreachable a.table.now)) a.run ≡ c.too_few.result
+few c = ap (λ (n : ℕ). few_for n c.args.run) (sym c.unreachable.ensures) ∙ sym c.too_few.ensures
 
--- ---- the answers
+root-of-requires : tie.Need-root_of-root-requires
+root-of-requires c κs = (sound-head _ c.requires.1.0, c.requires.0)
 
-root-of-requires : tie.Need-root-of-requires
-root-of-requires c κs = let e = c.before.requires in (sound-head _ e.1.0, e.0)
+returns : tie.Need-returns-then-not-recording_ok
+returns c = test-not _ _ _ _ c.recording_ok.ensures c.if-not-recording_ok.true-raw ∙ sym (from₆ c.before.before)
 
-returns : tie.Need-returns
-returns c = test-not _ _ _ _ c.before.recording-ok.ensures c.if1.true ∙ sym (from₆ c.before.before)
+returns-2 : tie.Need-returns-then-not-class_ok
+returns-2 c = test-not _ _ _ _ c.class_ok.ensures c.if-not-class_ok.true-raw ∙ sym (from₁₄ c.before.before)
 
-returns-2 : tie.Need-returns-2
-returns-2 c = test-not _ _ _ _ c.before.class-ok.ensures c.if2.true ∙ sym (from₁₄ c.before.before)
-
-has-key-requires : tie.Need-has-key-requires
+has-key-requires : tie.Need-has_key-requires
 has-key-requires c κs = tree-sound (entry (ranged c))
 
-returns-3 : tie.Need-returns-3
-returns-3 c = test-holds _ _ _ (sym c.before.has-key.ensures ∙ c.if3.true) ∙ sym (from₇ c.before.before)
+returns-3 : tie.Need-returns-then-has_key
+returns-3 c = test-holds _ _ _ (sym c.has_key.ensures ∙ c.if-has_key.true) ∙ sym (from₇ c.before.before)
 
-returns-4 : tie.Need-returns-4
-returns-4 c = test-holds _ _ _ (knows (entry (ranged (keyed c.before))) ∙ c.if4.true) ∙ sym (from₈ c.before)
+returns-4 : tie.Need-returns-then-known
+returns-4 c = test-holds _ _ _ (knows (entry (ranged (keyed c.before))) ∙ c.if-known.true) ∙ sym (from₈ c.before)
 
-returns-5 : tie.Need-returns-5
-returns-5 c = test-holds _ _ _ (sym c.before.too-high.ensures ∙ c.if5.true) ∙ sym (from₁₁ c.before.before)
+returns-5 : tie.Need-returns-then-too_high
+returns-5 c = test-holds _ _ _ (sym c.too_high.ensures ∙ c.if-too_high.true) ∙ sym (from₁₁ c.before.before)
 
-returns-6 : tie.Need-returns-6
-returns-6 c = test-holds _ _ _ (few c.before ∙ c.if6.true) ∙ sym (from₁₀ c.before.before.before)
+returns-6 : tie.Need-returns-then-too_few
+returns-6 c = test-holds _ _ _ (few c.before ∙ c.if-too_few.true) ∙ sym (from₁₀ c.before.before.before)
 
-returns-7 : tie.Need-returns-7
-returns-7 c = sym (from₁₀ c.before.before.before ∙ test-passed _ _ _ (few c.before ∙ c.if6.false))
+returns-7 : tie.Need-returns
+returns-7 c = sym (from₁₀ c.before.before.before ∙ test-passed _ _ _ (few c.before ∙ c.if-too_few.false))
 
-pub number-known-spec : {M : Type 1} → statement M
-number-known-spec =
+pub number_known_spec : {M : Type 1} → statement M
+number_known_spec =
     tie.close
     (tie.spec
     root-of-requires

@@ -30,7 +30,7 @@ finished c = c.before.before
 abbrev asked : tie.After-begin → tie.Start
 asked c = entry c.before.before.before.before
 
-passed : (c : tie.After-begin) → let v = c.judgement2.given.0 in Passed repair (length c.args.list.now) c.args.dock c.args.table.now v.0 v.1.0
+passed : (c : tie.After-begin) → Passed repair (length c.args.list.now) c.args.dock c.args.table.now c.in-Ready.left c.in-Ready.reached
 passed c = judged-ready repair _ _ _ _ _ (sym c.judge_any-judgement.ensures ∙ c.in-Ready.is)
 
 abbrev nothing : Words → List Store
