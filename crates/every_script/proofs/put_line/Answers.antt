@@ -1,0 +1,11 @@
+-- `every_script::put_line` meets its contract.
+use native.Mathlib.Omega.{arith}
+use Rattle.script_bytes.proofs.Decimal.{decimal-most}
+use Rattle.script_bytes.proofs.Text.{put-then}
+use Rattle.every_script.proofs.put_line.Goals as goal
+
+pub end_line-requires : goal.end_line-requires
+end_line-requires c = omega (arith, c.requires, c.put_number-end.ensures.next, c.put_number-end.auto.out, decimal-most c.args.n)
+
+pub returns : goal.returns
+returns c = put-then c.put_number-end.ensures (omega (arith, c.requires, decimal-most c.args.n)) c.end_line.ensures
