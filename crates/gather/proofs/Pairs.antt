@@ -47,7 +47,8 @@ unfolding enter has_recording
 enter-recording q k p [] = refl
 enter-recording q k p (s ∷ ss) = go (ltb k s.key) (enter-recording q k p ss)
   where
-    go : (b : Bool) → has_recording q (enter k p ss) ≡ (eqb (recording_of p) q || has_recording q ss) → has_recording q (cond b (slot k p ∷ s ∷ ss) (s ∷ enter k p ss)) ≡ (eqb (recording_of p) q || (eqb (recording s) q || has_recording q ss))
+    go : (b : Bool) → has_recording q (enter k p ss) ≡ (eqb (recording_of p) q || has_recording q ss)
+        → has_recording q (cond b (slot k p ∷ s ∷ ss) (s ∷ enter k p ss)) ≡ (eqb (recording_of p) q || (eqb (recording s) q || has_recording q ss))
     go true h = unfold has_recording in refl
     go false h = unfold has_recording in (ap (λ (b : Bool). eqb (recording s) q || b) h ∙ or-swap (eqb (recording s) q) (eqb (recording_of p) q) (has_recording q ss))
 

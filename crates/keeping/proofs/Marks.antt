@@ -115,7 +115,8 @@ module _ (t order : Words) where
     pub clash-skip : (x : ℕ) → 0 < x → has ms (x - 1) ≡ false → clash (x - 1) ≡ clash x
     clash-skip x h e = let f : x ≡ suc (x - 1) = omega arith in ap (λ (l : List Slot). has_key k l || has_recording r l) (sym (marked-no ms (x - 1) e) ∙ ap (marked_to t order ms) (sym f))
 
-    opened : (x : ℕ) → 0 < x → has ms (x - 1) ≡ true → (s : Slot) → s ≡ slot_of t order (x - 1) → clash x ≡ ((eqb s.key k || has_key k (marked_to t order ms (x - 1))) || (eqb (recording s) r || has_recording r (marked_to t order ms (x - 1))))
+    opened : (x : ℕ) → 0 < x → has ms (x - 1) ≡ true → (s : Slot) → s ≡ slot_of t order (x - 1)
+        → clash x ≡ ((eqb s.key k || has_key k (marked_to t order ms (x - 1))) || (eqb (recording s) r || has_recording r (marked_to t order ms (x - 1))))
     opened x h e s q =
         let f : x ≡ suc (x - 1) = omega arith in
         ap (λ (l : List Slot). has_key k l || has_recording r l) (ap (marked_to t order ms) f ∙ marked-yes ms (x - 1) e ∙ ap (λ (u : Slot). u ∷ marked_to t order ms (x - 1)) (sym q)) ∙ (unfold has_key has_recording in refl)

@@ -111,7 +111,8 @@ module _ (ws : Words) (k c l : ℕ) (fits : 32 * (k + c + (c + 11) / 12) ≤ len
       let fence : at t (32 * a + 3) ≡ at ws (32 * a + 3) =
       sym (get_or-take (32 * (k + c)) t (32 * a + 3) 0 (omega arith)) ∙ ap (λ (x : Words). get_or x (32 * a + 3) 0) r.below ∙ get_or-take (32 * (k + c)) ws (32 * a + 3) 0 (omega arith) in
       let kids : children_from t (suc a) (pred n) ≡ children_from ws (suc a) (pred n) = children-same t ws (32 * (k + c)) (suc a) (pred n) r.below (omega arith) in
-      let same : u ≡ sets t (32 * b) node = q ∙ ap (sets t (32 * b)) (ap (λ (x : ℕ). node_words (suc a) (next_number b e) l x (children_from t (suc a) (pred n))) fence ∙ ap (node_words (suc a) (next_number b e) l (at ws (32 * a + 3))) kids) in
+      let same : u ≡ sets t (32 * b) node =
+      q ∙ ap (sets t (32 * b)) (ap (λ (x : ℕ). node_words (suc a) (next_number b e) l x (children_from t (suc a) (pred n))) fence ∙ ap (node_words (suc a) (next_number b e) l (at ws (32 * a + 3))) kids) in
       let last : b + ((c + 11) / 12 - g) ≡ e = omega arith in
       let words : row_words l (suc b) (drop g up) ≡ node ++ later = row-words ws k c l b g (omega arith) ∙ ap (λ (x : ℕ). inner_words ws a (min 12 (c - 12 * g)) l b x ++ later) last
       ∙ ap (λ (x : ℕ). inner_words ws a x l b e ++ later) (sym m) in

@@ -5,7 +5,8 @@ ghost use Rattle.std.specs.Prelude.{◌≡◌, true, [], ◌∷◌, ◌++◌, �
 ghost use Rattle.model.specs.Table.{MARK, at, has_node};
 ghost use Rattle.model.specs.Slots.{view_from, view, height};
 ghost use Rattle.model.specs.Shifts.{key_to, pointer_to, place_of};
-ghost use Rattle.model.specs.Writes.{shift_in_at, shift_out_at, set_class_at, close_at, put_all, node_words, split, new_root_at, cut_off, attach, child_before, free_stores};
+ghost use Rattle.model.specs.Writes.{shift_in_at, shift_out_at, set_class_at, close_at, put_all, node_words, split, new_root_at, cut_off, attach, child_before};
+ghost use Rattle.model.specs.Writes.{free_stores};
 ghost use Rattle.orders.specs.Desk.{desk, stored, stored_all, Room};
 ghost use Rattle.slots.specs.Scan.{in_use_of};
 ghost use Rattle.shift.specs.Stores.{in_from, moves_up, moves_down, slot_in, slot_out, gap_closed, upper_words};

@@ -153,8 +153,11 @@ module _ (t : Words) (n : ℕ) (nd : Node) (q : nd ≡ node t n) where
     sight-hidden o e h i = (ap (ways_from t n) at-j ∙ ways-hidden t n j (omega (arith, few)) (λ z. h (sym pointer-is ∙ z)) (pointer-is ∙ i ∙ e ∙ sym (before-is j few)) ∙ ap (ways_from t n) (sym after), omega arith, omega (arith, b, c))
 
     pub sight-ignored : (o : ℕ) → o ≡ pointer_before nd j → p ≢ 0 → p ≢ o → under_fence t nd.sibling k ≡ false → Leads w [] (w + 1)
-    sight-ignored o e h i l =
-        (ap (ways_from t n) at-j ∙ ways-ignored t n j (omega (arith, few)) (λ z. h (sym pointer-is ∙ z)) (λ z. i (sym pointer-is ∙ z ∙ before-is j few ∙ sym e)) (goes-is ∙ l) ∙ ap (ways_from t n) (sym after), omega arith, omega (arith, b, c))
+    sight-ignored o e h i l = (
+      ap (ways_from t n) at-j ∙ ways-ignored t n j (omega (arith, few)) (λ z. h (sym pointer-is ∙ z)) (λ z. i (sym pointer-is ∙ z ∙ before-is j few ∙ sym e)) (goes-is ∙ l) ∙ ap (ways_from t n) (sym after),
+      omega arith,
+      omega (arith, b, c),
+    )
 
     pub sight-next : (o m : ℕ) → o ≡ pointer_before nd j → m ≡ pred nd.level → p ≢ 0 → p ≢ o → under_fence t nd.sibling k ≡ true → Leads w (meet p m ∷ []) (w + 1)
     sight-next o m e f h i l = (

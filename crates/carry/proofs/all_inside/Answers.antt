@@ -1,5 +1,4 @@
 use borrow.Author.Tests.{not-true, not-false}
-use Prim.Native.Nat.{◌-◌}
 use native.Mathlib.Omega.{arith}
 use Rattle.carry.proofs.Turns.{test-next, test-fails, test-end}
 use Rattle.carry.proofs.all_inside.Goals as goal

@@ -1,5 +1,4 @@
 -- `carry::apply_all` meets its contract. The loop's invariant: the orders from i on, carried out now, leave what all of them leave.
-use Prim.Native.Nat.{◌-◌}
 use native.Mathlib.Omega.{arith}
 use Rattle.carry.proofs.Turns.{inside-here, inside-next, carry-next, carry-end}
 use borrow.Author.Rules.{rules}

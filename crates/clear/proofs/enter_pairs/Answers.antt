@@ -1,5 +1,4 @@
 -- `clear::enter_pairs` meets its contract. The loop keeps that the cells hold the recordings of the pairs from i on.
-use Prim.Native.Nat.{◌-◌}
 use mathlib.Core.Path.{refl, ap, ◌∙◌}
 use mathlib.Core.Bool.{Bool, false≢true}
 use native.Mathlib.Omega.{arith}

@@ -1,6 +1,6 @@
 -- `compare::tree_ok` meets its contract.
-use mathlib.Core.Logic.{inl, inr, ⊎_elim}
-use borrow.Author.Tests.{not-true, not-false}
+use mathlib.Core.Logic.{inl, inr}
+use borrow.Author.Tests.{not-true}
 use Rattle.compare.proofs.Trees.{tree-fixed, tree-other, tree-same}
 use Rattle.compare.proofs.tree_ok.Goals as goal
 use Rattle.compare.proofs.tree_ok.Goals.{then-after-held+else-not-own+else-after-pointer, else-after-held}

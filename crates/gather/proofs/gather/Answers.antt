@@ -22,4 +22,8 @@ returns c = let a = c.args in
     let g = c.gather_nodes-t in
     let k = c.close in
     let w = g.new.words in
-    let r = g.new.report in record { result_after = closed-pairs w a.bound r g.result (gathered_along a.table.now a.order.now) k.new.pairs g.ensures.standing.0 g.ensures.result_after k.auto.pairs k.ensures; kept_le_bound = (g.ensures.standing.0.few, g.ensures.standing.1) }
+    let r = g.new.report in record {
+      result_after = closed-pairs w a.bound r g.result (gathered_along a.table.now a.order.now) k.new.pairs g.ensures.standing.0 g.ensures.result_after k.auto.pairs k.ensures;
+      kept_le_bound =
+          (g.ensures.standing.0.few, g.ensures.standing.1);
+    }

@@ -12,7 +12,8 @@ ends_with-requires c = let s = c.requires.0 in (omega (arith, s.below, s.few, s.
 
 pub returns-then-ends_with : goal.returns-then-ends_with
 returns-then-ends_with c = let a = c.args in
-    let k = standing-key a.words.now a.bound a.t a.key c.requires.0 c.requires.1 c.requires.2 in record { value = reason-key _ _ _ (sym c.ok.ensures ∙ c.if-not-ok.false) (sym k ∙ sym c.ends_with.ensures ∙ c.if-ends_with.true); filing = filing-none a.words.now a.bound a.t _ c.requires.0 }
+    let k = standing-key a.words.now a.bound a.t a.key c.requires.0 c.requires.1 c.requires.2 in
+    record { value = reason-key _ _ _ (sym c.ok.ensures ∙ c.if-not-ok.false) (sym k ∙ sym c.ends_with.ensures ∙ c.if-ends_with.true); filing = filing-none a.words.now a.bound a.t _ c.requires.0 }
 
 pub is_new-requires : goal.is_new-requires
 is_new-requires c = c.requires.0
@@ -23,7 +24,11 @@ returns-then-not-is_new c = let a = c.args in
     let k = standing-key a.words.now a.bound a.t a.key c.requires.0 c.requires.1 c.requires.2 in
     let e = c.if-not-is_new.true in
     let o = sym c.ok.ensures ∙ c.if-not-ok.false in
-    let n = sym k ∙ sym c.ends_with.ensures ∙ c.if-ends_with.false in record { value = reason-recording _ _ _ o n (recorded-is _ _ _ _ _ c.recording.ensures w.ensures.value e); filing = filing-as a.words.now a.bound a.t _ _ _ _ _ c.recording.ensures e w.ensures.filing }
+    let n = sym k ∙ sym c.ends_with.ensures ∙ c.if-ends_with.false in record {
+      value = reason-recording _ _ _ o n (recorded-is _ _ _ _ _ c.recording.ensures w.ensures.value e);
+      filing =
+          filing-as a.words.now a.bound a.t _ _ _ _ _ c.recording.ensures e w.ensures.filing;
+    }
 
 pub returns : goal.returns
 returns c = let a = c.args in
@@ -31,4 +36,8 @@ returns c = let a = c.args in
     let k = standing-key a.words.now a.bound a.t a.key c.requires.0 c.requires.1 c.requires.2 in
     let e = c.if-not-is_new.false in
     let o = sym c.ok.ensures ∙ c.if-not-ok.false in
-    let n = sym k ∙ sym c.ends_with.ensures ∙ c.if-ends_with.false in record { value = reason-none _ _ _ o n (recorded-is _ _ _ _ _ c.recording.ensures w.ensures.value e); filing = filing-as a.words.now a.bound a.t _ _ _ _ _ c.recording.ensures e w.ensures.filing }
+    let n = sym k ∙ sym c.ends_with.ensures ∙ c.if-ends_with.false in record {
+      value = reason-none _ _ _ o n (recorded-is _ _ _ _ _ c.recording.ensures w.ensures.value e);
+      filing =
+          filing-as a.words.now a.bound a.t _ _ _ _ _ c.recording.ensures e w.ensures.filing;
+    }

@@ -1,7 +1,7 @@
 -- `isrc::write_digits` meets its contract. The loop's invariant: the digits that are still to be written, then what is written, are the whole.
 use mathlib.Core.Path.{◌≡◌}
 use mathlib.Core.List.{◌++◌, map}
-use Prim.Native.Nat.{◌≤◌, ◌-◌}
+use Prim.Native.Nat.{◌≤◌}
 use lib.ListN.{length, drop}
 use Rattle.model.specs.Codes.{character, digits}
 use Rattle.isrc.proofs.write_digits.Given as goal

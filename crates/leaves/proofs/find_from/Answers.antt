@@ -1,5 +1,4 @@
 -- `leaves::find_from` meets its contract. Both loops keep what looking on, from the present leaf and slot, comes to.
-use Prim.Native.Nat.{◌-◌}
 use mathlib.Core.Path.{refl, sym, ◌∙◌}
 use Rattle.leaves.proofs.HitLaws.{hit-no-leaf, hit-no-more, hit-enter, hit-here, hit-next, hit-leave}
 use Rattle.leaves.proofs.find_from.Goals as goal

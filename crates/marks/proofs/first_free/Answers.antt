@@ -1,7 +1,6 @@
 -- `marks::first_free` meets its contract. The loop keeps what the nodes from n on come to.
 use mathlib.Core.Path.{sym, ◌∙◌}
 use native.Mathlib.Omega.{arith}
-use Prim.Native.Nat.{◌-◌}
 use Rattle.marks.proofs.Rows.{first-none, first-here, first-past}
 use Rattle.marks.proofs.first_free.Goals as goal
 

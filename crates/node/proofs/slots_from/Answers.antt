@@ -1,5 +1,5 @@
 -- `node::slots_from` meets its contract. The loop's invariant: the words of the first i slots are the table's.
-use Prim.Native.Nat.{◌*◌, ◌-◌}
+use Prim.Native.Nat.{◌*◌}
 use borrow.Author.Rules.{rules}
 use native.Mathlib.Omega.{arith}
 use Rattle.node.proofs.Loops.{copy-slot, copied}

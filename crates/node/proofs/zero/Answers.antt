@@ -1,6 +1,5 @@
 -- `node::zero` meets its contract. The loop's invariant: the first w words are 0, the others as they came.
 use mathlib.Core.Path.{ap, ◌∙◌}
-use Prim.Native.Nat.{◌-◌}
 use borrow.Author.Fill.{fill_more}
 use native.Mathlib.Omega.{arith}
 use lib.ListN.{set, length-set}

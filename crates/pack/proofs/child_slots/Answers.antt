@@ -1,6 +1,5 @@
 -- `pack::child_slots` meets its contract.
 use mathlib.Core.Path.{refl, sym, ◌∙◌}
-use Prim.Native.Nat.{◌-◌}
 use native.Mathlib.Omega.{arith}
 use lib.ListN.{length-set}
 use Rattle.pack.proofs.Filling.{child-start, child-step, child-full}

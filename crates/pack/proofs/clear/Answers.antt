@@ -1,6 +1,5 @@
 -- `pack::clear` meets its contract.
 use mathlib.Core.Path.{refl, sym, ◌∙◌}
-use Prim.Native.Nat.{◌-◌}
 use native.Mathlib.Omega.{arith}
 use lib.ListN.{length-set}
 use Rattle.pack.proofs.Raising.{clear-step, clear-end}

@@ -1,6 +1,5 @@
 -- `pack::needed` meets its contract.
 use mathlib.Core.Path.{sym, ◌∙◌}
-use Prim.Native.Nat.{◌-◌}
 use native.Mathlib.Omega.{arith}
 use Rattle.pack.proofs.Filling.{needed-start, needed-step, needed-out, needed-one}
 use Rattle.pack.proofs.needed.Goals as goal

@@ -37,4 +37,6 @@ pub returns : goal.returns
 returns c = let a = c.args in
     let e = c.leaf_count-leaves in
     let l = c.put_leaves in
-    let b = leaves-back a.nodes.now a.before a.pairs a.count c.requires.0 c.requires.2 l.new.nodes e.result e.ensures l.ensures in let both = packed-all a.nodes.now a.before a.pairs a.count c.requires.0 c.requires.2 _ b _ _ e.result _ e.ensures c.put_rows-root.ensures.nodes_after c.put_rows-root.ensures.value c.clear.ensures in record { nodes_after = both.0; value = both.1 }
+    let b = leaves-back a.nodes.now a.before a.pairs a.count c.requires.0 c.requires.2 l.new.nodes e.result e.ensures l.ensures in let both =
+    packed-all a.nodes.now a.before a.pairs a.count c.requires.0 c.requires.2 _ b _ _ e.result _ e.ensures c.put_rows-root.ensures.nodes_after c.put_rows-root.ensures.value c.clear.ensures in
+    record { nodes_after = both.0; value = both.1 }

@@ -1,5 +1,4 @@
 -- `pack::put_leaves` meets its contract.
-use Prim.Native.Nat.{◌-◌}
 use Rattle.pack.proofs.Leaves.{Written}
 use Rattle.pack.proofs.put_leaves.Given as goal
 

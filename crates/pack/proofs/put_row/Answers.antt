@@ -1,6 +1,5 @@
 -- `pack::put_row` meets its contract.
 use mathlib.Core.Path.{refl}
-use Prim.Native.Nat.{◌-◌}
 use native.Mathlib.Omega.{arith}
 use Rattle.pack.proofs.Rows.{raised-start, raised-step, raised-end}
 use Rattle.pack.proofs.put_row.Goals as goal

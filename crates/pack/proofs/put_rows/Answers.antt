@@ -1,5 +1,4 @@
 -- `pack::put_rows` meets its contract.
-use Prim.Native.Nat.{◌-◌}
 use native.Mathlib.Omega.{arith}
 use Rattle.pack.proofs.Raising.{rising-start, rising-fits, rising-step, rising-one, rising-top}
 use Rattle.pack.proofs.put_rows.Goals as goal

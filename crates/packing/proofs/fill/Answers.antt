@@ -17,4 +17,5 @@ pack-requires c = let a = c.args in
 pub returns : goal.returns
 returns c = let a = c.args in
     let k = c.copy in
-    let x = c.pack in let both = filled a.words.now a.pairs.now a.before a.top c.requires.0 c.requires.1 c.requires.2 k.new.words k.ensures x.new.nodes x.result x.ensures.nodes_after x.ensures.value in record { words_after = both.0; value = both.1 }
+    let x = c.pack in let both = filled a.words.now a.pairs.now a.before a.top c.requires.0 c.requires.1 c.requires.2 k.new.words k.ensures x.new.nodes x.result x.ensures.nodes_after x.ensures.value in
+    record { words_after = both.0; value = both.1 }

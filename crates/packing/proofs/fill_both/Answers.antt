@@ -12,7 +12,8 @@ fill-one-requires c = let a = c.args in (c.requires.0, c.requires.1, first-fits 
 
 pub returns-then-collections-eq1 : goal.returns-then-collections-eq1
 returns-then-collections-eq1 c = let a = c.args in
-    let f = c.fill-one in let both = alone a.collections a.pairs.now a.loans.now a.words.now a.top c.requires.2 f.new.words f.result f.ensures.words_after f.ensures.value c.if-collections-eq1.true in record { words_after = both.0; one_value = both.1 }
+    let f = c.fill-one in let both = alone a.collections a.pairs.now a.loans.now a.words.now a.top c.requires.2 f.new.words f.result f.ensures.words_after f.ensures.value c.if-collections-eq1.true in
+    record { words_after = both.0; one_value = both.1 }
 
 pub fill-two-requires : goal.fill-two-requires
 fill-two-requires c = let a = c.args in
@@ -26,4 +27,6 @@ fill-two-requires c = let a = c.args in
 pub returns : goal.returns
 returns c = let a = c.args in
     let f = c.fill-one in
-    let g = c.fill-two in let both = beside a.collections a.pairs.now a.loans.now a.words.now a.top c.requires.2 f.new.words f.result f.ensures.words_after f.ensures.value c.if-collections-eq1.false g.new.words g.result g.ensures.words_after g.ensures.value in record { words_after = both.0; one_value = both.1 }
+    let g = c.fill-two in let both =
+    beside a.collections a.pairs.now a.loans.now a.words.now a.top c.requires.2 f.new.words f.result f.ensures.words_after f.ensures.value c.if-collections-eq1.false g.new.words g.result g.ensures.words_after g.ensures.value in
+    record { words_after = both.0; one_value = both.1 }

@@ -43,7 +43,8 @@ put-table-requires c κs = let f = sized c.before.before.before.before.before in
 
 returns-4 : tie.Need-returns
 returns-4 c = let x = c.put_table in
-    packs _ _ _ _ (number c.before.before.before.before.before.before.before.before) _ (size c.before.before.before.before.before.before.before.before) _ c.outgrows.ensures c.if-outgrows.false _ c.maps_ok.ensures (not-false _ c.if-not-maps_ok.false-raw) x.new.table x.ensures
+    packs _ _ _ _ (number c.before.before.before.before.before.before.before.before) _ (size c.before.before.before.before.before.before.before.before) _ c.outgrows.ensures c.if-outgrows.false _ c.maps_ok.ensures
+    (not-false _ c.if-not-maps_ok.false-raw) x.new.table x.ensures
 
 pub pack_table_spec : {M : Type 1} → statement M
 pack_table_spec =

@@ -1,6 +1,5 @@
 -- `pairs::compared_once` meets its contract. The loop keeps that the numbers left are there once as all are.
 use mathlib.Core.Path.{refl}
-use Prim.Native.Nat.{◌-◌}
 use Rattle.pairs.proofs.Slices.{once-end, once-twice, once-next}
 use borrow.Author.Rules.{rules}
 use Rattle.pairs.proofs.compared_once.Goals as goal

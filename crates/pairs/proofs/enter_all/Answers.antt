@@ -1,6 +1,5 @@
 -- `pairs::enter_all` meets its contract. The loop keeps what entering the numbers that are left comes to.
 use mathlib.Core.Path.{refl}
-use Prim.Native.Nat.{◌-◌}
 use Rattle.numbers.specs.declared.Entry.TheVariants.{Known, Full}
 use Rattle.numbers.proofs.Once.{known-last, full-last}
 use Rattle.pairs.proofs.Passes.{enter-end, enter-goes, enter-ends}

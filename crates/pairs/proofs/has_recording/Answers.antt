@@ -1,6 +1,5 @@
 -- `pairs::has_recording` meets its contract. The loop keeps that the pairs left have the number as all from the first on do.
 use mathlib.Core.Path.{refl}
-use Prim.Native.Nat.{◌-◌}
 use Rattle.pairs.proofs.Slices.{recording-here, recording-next, recording-none}
 use borrow.Author.Rules.{rules}
 use Rattle.pairs.proofs.has_recording.Goals as goal

@@ -1,6 +1,5 @@
 -- `pairs::in_range` meets its contract. The loop keeps that the pointers left are in range as all are.
 use mathlib.Core.Path.{refl}
-use Prim.Native.Nat.{◌-◌}
 use borrow.Author.Tests.{not-true, not-false}
 use Rattle.pairs.proofs.Slices.{range-end, range-wrong, range-next}
 use borrow.Author.Rules.{rules}

@@ -1,6 +1,5 @@
 -- `pairs::rise` meets its contract. The loop keeps that the keys behind the last pair seen rise as all do.
 use mathlib.Core.Path.{refl}
-use Prim.Native.Nat.{◌-◌}
 use Rattle.pairs.proofs.Slices.{rise-start, rise-end, rise-wrong, rise-next}
 use borrow.Author.Rules.{rules}
 use Rattle.pairs.proofs.rise.Goals as goal

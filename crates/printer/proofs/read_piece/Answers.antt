@@ -1,6 +1,6 @@
 -- `printer::read_piece` meets its contract.
-use mathlib.Core.Path.{◌≡◌, subst}
-use Prim.Native.Nat.{ℕ, ◌-◌, ◌<◌}
+use mathlib.Core.Path.{subst}
+use Prim.Native.Nat.{ℕ, ◌-◌}
 use native.Mathlib.Omega.{arith}
 use lib.ListN.{length, drop, take, length-drop}
 use lib.Seq.{take_all}
@@ -27,8 +27,7 @@ pub loop-i-preserved : goal.loop-i-preserved
 loop-i-preserved g c =
     let rest = drop c.loop-i.i c.args.piece.now in
     let long = length-drop c.loop-i.i c.args.piece.now in
-    let said = told c.loop-i.s (desk_of c.loop-i.table c.loop-i.list) c.args.piece.now c.loop-i.i c.read_line-said.ensures in
-    (
+    let said = told c.loop-i.s (desk_of c.loop-i.table c.loop-i.list) c.args.piece.now c.loop-i.i c.read_line-said.ensures in (
       omega (arith, said.used-within, long),
       search rules,
       search rules,

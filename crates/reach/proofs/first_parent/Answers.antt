@@ -1,6 +1,5 @@
 -- `reach::first_parent` meets its contract. The loop keeps the node that left leads to from the present one.
 use mathlib.Core.Path.{◌∙◌}
-use Prim.Native.Nat.{◌-◌}
 use native.Mathlib.Omega.{arith}
 use Rattle.reach.proofs.Parents.{parent-start, parent-down, parent-here}
 use Rattle.reach.proofs.first_parent.Goals as goal

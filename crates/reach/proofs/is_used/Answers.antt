@@ -15,4 +15,9 @@ returns-then-not-is_taken c = let e = sym c.is_taken.ensures ∙ not-true _ c.if
 
 pub returns : goal.returns
 returns c = let p = c.requires.marked in
-    let taken = sym c.is_taken.ensures ∙ not-false _ c.if-not-is_taken.false-raw in record { value = sym taken; marks_after = if-new _ _ _ taken (sym c.has.ensures ∙ c.if-has.false) _ c.mark.ensures; marked_2 = (search rules, rw c.mark.ensures (put-taken _ _ _ p.1 taken)) }
+    let taken = sym c.is_taken.ensures ∙ not-false _ c.if-not-is_taken.false-raw in record {
+      value = sym taken;
+      marks_after = if-new _ _ _ taken (sym c.has.ensures ∙ c.if-has.false) _ c.mark.ensures;
+      marked_2 =
+          (search rules, rw c.mark.ensures (put-taken _ _ _ p.1 taken));
+    }

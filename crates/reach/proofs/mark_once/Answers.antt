@@ -19,4 +19,8 @@ pub returns-then-has : goal.returns-then-has
 returns-then-has c = record { marks_after = once-known _ _ (sym c.has.ensures ∙ c.if-has.true); marked_2 = search rules }
 
 pub returns : goal.returns
-returns c = let free = sym c.has.ensures ∙ c.if-has.false in record { marks_after = once-new _ _ free _ _ c.mark_all.ensures c.mark.ensures; marked_2 = (search rules, once-taken _ _ c.requires.table_value c.requires.marked.1 _ _ c.mark_all.ensures c.mark.ensures) }
+returns c = let free = sym c.has.ensures ∙ c.if-has.false in record {
+  marks_after = once-new _ _ free _ _ c.mark_all.ensures c.mark.ensures;
+  marked_2 =
+      (search rules, once-taken _ _ c.requires.table_value c.requires.marked.1 _ _ c.mark_all.ensures c.mark.ensures);
+}

@@ -1,5 +1,4 @@
 -- `reach::mark_ways` meets its contract. The loop keeps what the marks come to with the ways that are left.
-use Prim.Native.Nat.{◌-◌}
 use mathlib.Core.Path.{refl, ap, ◌∙◌}
 use Rattle.reach.specs.Marks.{put_all}
 use Rattle.reach.proofs.Marking.{ahead-all, ahead-none, ahead-more}

@@ -24,7 +24,8 @@ abbrev comes : tie.At-loop-n invariant-loop decreases-loop → List Slot → Boo
 comes c ss = elem c.args.recording (map recording ss)
 
 -- as many nodes as the table has
-whole : (c : tie.At-loop-n invariant-loop decreases-loop) → let a = c.args in let v = view a.table.now in elem a.recording (map recording (own_from v a.marks.now a.first (c.word_at-last.result + 1 - a.first))) ≡ elem a.recording (map recording (own_from v a.marks.now a.first (v.nodes + 1 - a.first)))
+whole : (c : tie.At-loop-n invariant-loop decreases-loop) → let a = c.args in let v = view a.table.now in
+    elem a.recording (map recording (own_from v a.marks.now a.first (c.word_at-last.result + 1 - a.first))) ≡ elem a.recording (map recording (own_from v a.marks.now a.first (v.nodes + 1 - a.first)))
 whole c = let a = c.args in ap (λ (k : ℕ). elem a.recording (map recording (own_from (view a.table.now) a.marks.now a.first (k + 1 - a.first)))) c.word_at-last.ensures
 
 -- the pairs of the node in its turn, and of those after it

@@ -51,13 +51,15 @@ leaf-once-requires : tie.Need-leaf_once-requires invariant-loop decreases-loop
 leaf-once-requires c κs = (c.requires.0, (c.requires.1, c.ways-w.ensures.1))
 
 returns : tie.Need-returns-then-not-leaf_once invariant-loop decreases-loop
-returns c = row-more comes _ _ c.loop-n.n _ c.loop-n.invariant c.loop-n-test.true (once-wrong (here c.before.before.before.before) (later c.before.before.before.before c.word_at-last.result) _ (compared c.before) (not-true _ c.if-not-leaf_once.true-raw))
+returns c = row-more comes _ _ c.loop-n.n _ c.loop-n.invariant c.loop-n-test.true
+    (once-wrong (here c.before.before.before.before) (later c.before.before.before.before c.word_at-last.result) _ (compared c.before) (not-true _ c.if-not-leaf_once.true-raw))
 
 add-n : tie.Need-overflow_add-n-in-loop-n invariant-loop decreases-loop
 add-n c = omega (arith, few-nodes _ _ _ c.requires.0 c.word_at-last.ensures c.loop-n-test.true)
 
 loop-again : tie.Need-loop-n-preserved invariant-loop decreases-loop
-loop-again c = row-more comes _ _ c.loop-n.n _ c.loop-n.invariant c.loop-n-test.true (once-next (here c.before.before.before.before) (later c.before.before.before.before c.word_at-last.result) _ (compared c.before) (not-false _ c.if-not-leaf_once.false-raw))
+loop-again c = row-more comes _ _ c.loop-n.n _ c.loop-n.invariant c.loop-n-test.true
+    (once-next (here c.before.before.before.before) (later c.before.before.before.before c.word_at-last.result) _ (compared c.before) (not-false _ c.if-not-leaf_once.false-raw))
 
 returns-2 : tie.Need-returns invariant-loop decreases-loop
 returns-2 c = once-none ∙ row-end comes _ _ c.loop-n.n _ c.loop-n.invariant c.loop-n-test.false

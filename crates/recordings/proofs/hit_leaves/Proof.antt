@@ -44,7 +44,8 @@ loop-again c = let x = c.leaf-x in
       search rules,
       search rules,
       row-more (comes c.before.before.before.before.before.before.before.before.before.before) _ _ c.loop-n.n _ c.loop-n.invariant.2 c.loop-n-test.true
-          (hit-next (own (view a.table.now) a.marks.now c.loop-n.n) _ _ _ (hits c.loop-n.once c.loop-n.twice c.loop-n.crowded) _ (c.hit_leaf-crowded.ensures ∙ ap (comes c.before.before.before.before.before.before.before.before.before.before) kept)),
+          (hit-next (own (view a.table.now) a.marks.now c.loop-n.n) _ _ _ (hits c.loop-n.once c.loop-n.twice c.loop-n.crowded) _ (c.hit_leaf-crowded.ensures
+          ∙ ap (comes c.before.before.before.before.before.before.before.before.before.before) kept)),
     )
 
 returns : tie.Need-returns invariant-loop decreases-loop

@@ -1,7 +1,6 @@
 -- `recordings::once` meets its contract. The loop keeps that whatever is there twice is a suspect.
 use Rattle.recordings.proofs.RoundLaws.{first-stays, tells-once, tells-twice, two-rounds}
 use native.Mathlib.Omega.{arith}
-use Prim.Native.Nat.{◌-◌}
 use borrow.Author.Rules.{rules}
 use Rattle.recordings.proofs.once.Goals as goal
 
@@ -18,7 +17,16 @@ pub returns-in-Known : goal.returns-in-Known
 returns-in-Known c = tells-twice _ _ c.step-first.ensures.tells c.in-Known.is
 
 pub step-second-requires : goal.step-second-requires
-step-second-requires c = record { olds_len = search rules; once_len = search rules; twice_len = search rules; table_value = c.requires.table_value; marks_len = c.requires.marks_len; round_bound = omega arith; stays = c.step-first.ensures.stays_2 }
+step-second-requires c = record {
+  olds_len = search rules;
+  once_len = search rules;
+  twice_len = search rules;
+  table_value = c.requires.table_value;
+  marks_len = c.requires.marks_len;
+  round_bound = omega arith;
+  stays =
+      c.step-first.ensures.stays_2;
+}
 
 pub returns-in-Entered-second : goal.returns-in-Entered-second
 returns-in-Entered-second c = tells-once _ _ c.step-second.ensures.tells c.in-Entered-second.is

@@ -5,7 +5,6 @@ use borrow.Author.Tests.{not-true, not-false}
 use Rattle.recordings.proofs.LeafLaws.{leaf-kept}
 use native.Mathlib.Omega.{arith}
 use mathlib.Core.Path.{ap, ◌∙◌}
-use Prim.Native.Nat.{◌-◌}
 use Rattle.recordings.proofs.pairs_ok.Goals as goal
 
 pub loop-n-init : goal.loop-n-init

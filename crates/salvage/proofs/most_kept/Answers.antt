@@ -24,7 +24,11 @@ needed_both-requires c = let b = few _ _ _ _ _ c.requires _ _ c.count_used-one.e
     (words-some _ _ _ _ _ c.requires, b.0, b.1)
 
 pub returns-then-needed_both-top : goal.returns-then-needed_both-top
-returns-then-needed_both-top c = record { most = most _ _ _ _ _ c.requires _ _ c.count_used-one.ensures.1 c.count_used-two.ensures.1 c.count_used-one.ensures.0 c.count_used-two.ensures.0; two_value = used-fit _ _ _ _ _ c.requires _ _ c.count_used-one.ensures.1 c.count_used-two.ensures.1 c.count_used-one.ensures.0 c.count_used-two.ensures.0 _ c.needed_both.ensures c.if-needed_both-top.true }
+returns-then-needed_both-top c = record {
+  most = most _ _ _ _ _ c.requires _ _ c.count_used-one.ensures.1 c.count_used-two.ensures.1 c.count_used-one.ensures.0 c.count_used-two.ensures.0;
+  two_value =
+      used-fit _ _ _ _ _ c.requires _ _ c.count_used-one.ensures.1 c.count_used-two.ensures.1 c.count_used-one.ensures.0 c.count_used-two.ensures.0 _ c.needed_both.ensures c.if-needed_both-top.true;
+}
 
 pub slice_bounds-count_kept-end : goal.slice_bounds-count_kept-end
 slice_bounds-count_kept-end c = sym (one-long _ _ _ _ _ c.requires)

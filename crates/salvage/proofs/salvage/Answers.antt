@@ -7,7 +7,8 @@ use Rattle.salvage.proofs.Call.{header-good, header-bad, order-long, refused-hea
 use Rattle.salvage.proofs.salvage.Goals as goal
 
 pub returns-then-header-ne0 : goal.returns-then-header-ne0
-returns-then-header-ne0 c = let a = c.args in let both = refused-header a.table.now a.out.now a.report.now (header-bad a.table.now _ c.header.ensures c.if-header-ne0.true) in record { value = both.0; out_after = both.1.0; report_after = both.1.1 }
+returns-then-header-ne0 c = let a = c.args in let both = refused-header a.table.now a.out.now a.report.now (header-bad a.table.now _ c.header.ensures c.if-header-ne0.true) in
+    record { value = both.0; out_after = both.1.0; report_after = both.1.1 }
 
 pub returns-then-out-table : goal.returns-then-out-table
 returns-then-out-table c = let a = c.args in
@@ -27,7 +28,8 @@ overflow_mul-top c = let a = c.args in
 
 pub returns-then-report-top : goal.returns-then-report-top
 returns-then-report-top c = let a = c.args in
-    let h = header-good a.table.now _ c.header.ensures c.if-header-ne0.false in let both = refused-report a.table.now a.out.now a.report.now h c.if-out-table.false c.if-report-top.true in record { value = both.0; out_after = both.1.0; report_after = both.1.1 }
+    let h = header-good a.table.now _ c.header.ensures c.if-header-ne0.false in let both = refused-report a.table.now a.out.now a.report.now h c.if-out-table.false c.if-report-top.true in
+    record { value = both.0; out_after = both.1.0; report_after = both.1.1 }
 
 pub enter_nodes-counts-requires : goal.enter_nodes-counts-requires
 enter_nodes-counts-requires c = let a = c.args in
@@ -45,7 +47,8 @@ returns-then-top-needed_both c = let a = c.args in
     let h = header-good a.table.now _ c.header.ensures c.if-header-ne0.false in
     let e = c.enter_nodes-counts in
     let m = c.most_kept-bounds in
-    let g = grown a.table.now e.new.order _ _ _ e.ensures m.result.one m.result.two _ c.needed_both.ensures m.ensures.two_value c.if-top-needed_both.true in let both = refused-outgrown a.table.now a.out.now a.report.now h c.if-out-table.false c.if-report-top.false g in record { value = both.0; out_after = both.1.0; report_after = both.1.1 }
+    let g = grown a.table.now e.new.order _ _ _ e.ensures m.result.one m.result.two _ c.needed_both.ensures m.ensures.two_value c.if-top-needed_both.true in let both =
+    refused-outgrown a.table.now a.out.now a.report.now h c.if-out-table.false c.if-report-top.false g in record { value = both.0; out_after = both.1.0; report_after = both.1.1 }
 
 pub rebuild-dropped-requires : goal.rebuild-dropped-requires
 rebuild-dropped-requires c = let e = c.enter_nodes-counts in

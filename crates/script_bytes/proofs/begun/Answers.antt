@@ -1,19 +1,16 @@
 -- `script_bytes::begun` meets its contract.
 use mathlib.Core.Path.{◌≡◌, refl, sym, ap}
 use mathlib.Core.Bool.{true}
-use mathlib.Core.List.{[], ◌∷◌}
-use types.Run.{OneOf, miss}
-use denote.Enum.Declared.{tag_of}
+use mathlib.Core.Logic.{◌≢◌}
 use Rattle.script_bytes.specs.Line.{begun}
 use Rattle.script_bytes.specs.declared.Place.{Place}
 use Rattle.script_bytes.specs.declared.Place.TheVariants.{Start, Sign, CodeStart, Code, RecordingStart, Recording, Other}
-use Rattle.script_bytes.specs.contracts.Place.{the_type}
 use Rattle.script_bytes.proofs.begun.Goals as goal
 
 -- all variants but the first
-past-start : (p : Place) → OneOf (1 ∷ 2 ∷ 3 ∷ 4 ∷ 5 ∷ 6 ∷ []) (tag_of the_type p) → true ≡ begun p
+past-start : (p : Place) → p ≢ Start → true ≡ begun p
 unfolding begun
-past-start Start h = absurd (miss (1 ∷ 2 ∷ 3 ∷ 4 ∷ 5 ∷ 6 ∷ []) 0 tt h)
+past-start Start h = absurd (h refl)
 past-start Sign h = refl
 past-start CodeStart h = refl
 past-start Code h = refl
@@ -28,4 +25,4 @@ unfolding begun
 returns-in-Start c = sym (ap begun c.in-Start.is)
 
 pub returns-in_default : goal.returns-in_default
-returns-in_default c = past-start c.args.s.place c.in_default.in_default-own.keys2
+returns-in_default c = past-start _ c.in_default.not-Start

@@ -1,6 +1,5 @@
 -- `script_bytes::put_orders` meets its contract. The loop's invariant: the lines of the first i orders are put, 48 bytes each at most.
 use mathlib.Core.Path.{◌≡◌}
-use Prim.Native.Nat.{◌-◌}
 use native.Mathlib.Omega.{arith}
 use Rattle.script_bytes.proofs.Text.{nothing-put, order-reach, order-put}
 use borrow.Author.Rules.{rules}

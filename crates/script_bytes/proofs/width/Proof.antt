@@ -17,7 +17,8 @@ abbrev decreases-loop : tie.decreases-loop-left
 decreases-loop n left₀ count₀ left count = 20 - count
 
 -- one digit less
-less : (a : tie.At-loop-left invariant-loop decreases-loop) → 10 ≤ a.loop-left.left → let f = 21 - a.loop-left.count in let n = a.loop-left.left in (1 < f) × (n / 10 < 10 ^ (f - 1)) × (length (decimal_from f n) ≡ length (decimal_from (f - 1) (n / 10)) + 1)
+less : (a : tie.At-loop-left invariant-loop decreases-loop) → 10 ≤ a.loop-left.left → let f = 21 - a.loop-left.count in let n = a.loop-left.left in (1 < f) × (n / 10 < 10 ^ (f - 1))
+    × (length (decimal_from f n) ≡ length (decimal_from (f - 1) (n / 10)) + 1)
 less a h = digit-less (21 - a.loop-left.count) a.loop-left.left h a.loop-left.invariant.2
 
 loop-holds : tie.Need-loop-left-init invariant-loop decreases-loop

@@ -22,7 +22,12 @@ returns-then-high-level c = let a = c.args in
     c.lost-then-high-level.ensures ∙ ap (seen_in (view a.table.now) a.key) (turn-high a.table.now _ _ _ _ _ c.loop-root.invariant _ c.read-x.ensures c.if-level-low.false c.if-high-level.true)
 
 pub stand-s-requires : goal.stand-s-requires
-stand-s-requires c = let p = c.requires in record { table_value = p; n_value = sym (level-in _ _ _ _ p (sym c.has.ensures ∙ not-false _ c.if-not-has.false-raw) c.read-x.ensures) ∙ eq-eqb c.read-x.result.level _ refl; read_value = c.read-x.ensures }
+stand-s-requires c = let p = c.requires in record {
+  table_value = p;
+  n_value = sym (level-in _ _ _ _ p (sym c.has.ensures ∙ not-false _ c.if-not-has.false-raw) c.read-x.ensures) ∙ eq-eqb c.read-x.result.level _ refl;
+  read_value =
+      c.read-x.ensures;
+}
 
 pub returns-then-level-eq0 : goal.returns-then-level-eq0
 returns-then-level-eq0 c = turn-leaf _ _ _ _ _ _ c.loop-root.invariant _ c.read-x.ensures c.if-level-low.false c.if-high-level.false _ c.stand-s.ensures c.if-level-eq0.true

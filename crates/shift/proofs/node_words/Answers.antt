@@ -1,5 +1,4 @@
 -- `shift::node_words` meets its contract. The loop's invariant: the first j slot words from slot `from` on are in place, the others are 0.
-use Prim.Native.Nat.{◌-◌}
 use mathlib.Core.Path.{refl}
 use native.Mathlib.Omega.{arith}
 use Rattle.shift.proofs.NodeWords.{fill-next, fill-end}

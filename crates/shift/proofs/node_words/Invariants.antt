@@ -7,7 +7,8 @@ use Rattle.shift.proofs.NodeWords.{partly}
 use Rattle.shift.proofs.node_words.Given as goal
 
 abbrev pub invariant-loop-j : goal.invariant-loop-j
-invariant-loop-j l = (l.from ≤ 12) × (l.end ≤ 24) × (l.first ≡ 2 * l.from) × (l.end ≡ 2 * length (in_use_of l.slots)) × (l.j ≤ l.end - l.first) × (length l.slots ≡ 24) × (length l.words ≡ 32) × (l.words ≡ partly l.left l.sibling l.level l.fence (drop (2 * l.from) l.slots) l.j)
+invariant-loop-j l = (l.from ≤ 12) × (l.end ≤ 24) × (l.first ≡ 2 * l.from) × (l.end ≡ 2 * length (in_use_of l.slots)) × (l.j ≤ l.end - l.first) × (length l.slots ≡ 24) × (length l.words ≡ 32)
+    × (l.words ≡ partly l.left l.sibling l.level l.fence (drop (2 * l.from) l.slots) l.j)
 
 abbrev pub decreases-loop-j : goal.decreases-loop-j
 decreases-loop-j l = 24 - l.j

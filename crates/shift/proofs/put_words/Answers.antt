@@ -1,5 +1,4 @@
 -- `shift::put_words` meets its contract. The loop's invariant: the words from j on are left, and lead to what all of them lead to.
-use Prim.Native.Nat.{◌-◌}
 use mathlib.Core.Path.{refl}
 use native.Mathlib.Nat.{add-zero}
 use native.Mathlib.Omega.{arith}

@@ -8,7 +8,8 @@ use Rattle.orders.proofs.Rest.{Rest}
 use Rattle.shift.proofs.put_words.Given as goal
 
 abbrev pub invariant-loop-j : goal.invariant-loop-j
-invariant-loop-j l = (l.j ≤ 32) × (length l.words ≡ 32) × (length l.table ≡ length l.initial.table) × (length l.list ≡ length l.initial.list) × Rest (put_all (l.w + l.j) (drop l.j l.words)) (desk l.table l.list l.at) (stored_all (put_all l.w l.words) (desk l.initial.table l.initial.list l.initial.at))
+invariant-loop-j l = (l.j ≤ 32) × (length l.words ≡ 32) × (length l.table ≡ length l.initial.table) × (length l.list ≡ length l.initial.list)
+    × Rest (put_all (l.w + l.j) (drop l.j l.words)) (desk l.table l.list l.at) (stored_all (put_all l.w l.words) (desk l.initial.table l.initial.list l.initial.at))
 
 abbrev pub decreases-loop-j : goal.decreases-loop-j
 decreases-loop-j l = 32 - l.j

@@ -1,5 +1,5 @@
 -- `slots::count` meets its contract. The loop keeps that i and the slots in use from i on make the whole.
-use Prim.Native.Nat.{◌+◌, ◌-◌}
+use Prim.Native.Nat.{◌+◌}
 use mathlib.Core.List.{List}
 use native.Mathlib.Omega.{arith}
 use lib.ListN.{length}

@@ -15,8 +15,8 @@ use Rattle.walk_laws.specs.Walk.{stands}
 use Rattle.sound.specs.declared.Look.{Look}
 use Rattle.sound.specs.Nodes.{standing, look_of}
 use Rattle.bits.proofs.Marks.{put-length}
-use Rattle.sound.proofs.CheckLaws.{node-unsound, node-over, node-elsewhere, node-wrong, Met, few-met, node-fits, node-all, node-leaf, node-inner, stands-has, slot-right, slot-lacks, Rest, rest-next, rest-done}
-use Rattle.sound.proofs.MarkLaws.{stands-low, leaf-marked, inner-marked, right-marked, lacks-marked, check-seen, Marking, marking-all, marking-next, marking-done}
+use Rattle.sound.proofs.CheckLaws.{node-unsound, node-over, node-elsewhere, node-wrong, Met, few-met, node-fits, node-all, node-leaf, node-inner, stands-has, slot-right, slot-lacks, rest-next, rest-done}
+use Rattle.sound.proofs.MarkLaws.{stands-low, leaf-marked, inner-marked, right-marked, lacks-marked, check-seen, marking-all, marking-next, marking-done}
 use Rattle.sound.proofs.+check_node_check_slot.Goals as goal
 
 -- the tally taken apart, N read, the node's standing, what was seen of it, all unfinished

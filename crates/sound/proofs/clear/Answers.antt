@@ -1,5 +1,4 @@
 -- `sound::clear` meets its contract. The loop keeps that the words so far are 0.
-use Prim.Native.Nat.{◌-◌}
 use native.Mathlib.Omega.{arith}
 use Rattle.sound.proofs.NodeLaws.{clear-not, clear-more, clear-all}
 use Rattle.sound.proofs.clear.Goals as goal

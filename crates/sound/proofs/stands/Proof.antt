@@ -1,6 +1,6 @@
 -- `sound::stands` meets its contract.
 use mathlib.Core.Path.{sym, ◌∙◌}
-use borrow.Author.Tests.{not-true, not-false}
+use borrow.Author.Tests.{not-true}
 use Rattle.sound.proofs.NodeLaws.{stands-out, stands-level, stands-fence, stands-all}
 use borrow.Author.Rules.{rules}
 use Rattle.sound.proofs.stands.Statement.{statement}

@@ -1,5 +1,4 @@
 -- `tour::tour` meets its contract.
-use Prim.Native.Nat.{◌-◌}
 use Rattle.tour.proofs.Going.{measure}
 use Rattle.tour.proofs.State.{State, whole_from}
 use Rattle.tour.proofs.tour.Given as goal

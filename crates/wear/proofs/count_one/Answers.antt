@@ -17,4 +17,5 @@ pub bounds-lines-l-2 : goal.bounds-lines-l-2
 bounds-lines-l-2 c = tally-inside c.args.a c.args.b _ c.is_store.ensures c.args.lines.now c.if-not-is_store.false-raw c.requires.each
 
 pub returns : goal.returns
-returns c = let h = tally-inside c.args.a c.args.b _ c.is_store.ensures c.args.lines.now c.if-not-is_store.false-raw c.requires.each in let both = tally-one c.args.a c.args.b _ c.is_store.ensures c.args.lines.now c.if-not-is_store.false-raw h in record { value = both.0; by_index_2 = both.1 }
+returns c = let h = tally-inside c.args.a c.args.b _ c.is_store.ensures c.args.lines.now c.if-not-is_store.false-raw c.requires.each in let both =
+    tally-one c.args.a c.args.b _ c.is_store.ensures c.args.lines.now c.if-not-is_store.false-raw h in record { value = both.0; by_index_2 = both.1 }

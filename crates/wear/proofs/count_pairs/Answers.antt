@@ -1,5 +1,4 @@
 -- `wear::count_pairs` meets its contract.
-use Prim.Native.Nat.{◌-◌}
 use mathlib.Core.Path.{ap}
 use mathlib.Core.Bool.{true}
 use native.Mathlib.Omega.{arith}
@@ -16,8 +15,12 @@ loop-w-smaller c = let l = c.loop-w in
 
 pub loop-w-preserved : goal.loop-w-preserved
 loop-w-preserved c = let l = c.loop-w in
-    let y = l.invariant.2 c.loop-w-test.true in
-    (c.seek-w-in-loop-w.ensures.within, omega (arith, left-longer _ _ l.w _ _ (omega arith) y c.seek-end.ensures c.seek-w-in-loop-w.ensures), c.seek-w-in-loop-w.ensures.found, counted-next _ _ l.w _ _ (omega arith) y c.seek-end.ensures c.seek-w-in-loop-w.ensures _ l.invariant.3)
+    let y = l.invariant.2 c.loop-w-test.true in (
+      c.seek-w-in-loop-w.ensures.within,
+      omega (arith, left-longer _ _ l.w _ _ (omega arith) y c.seek-end.ensures c.seek-w-in-loop-w.ensures),
+      c.seek-w-in-loop-w.ensures.found,
+      counted-next _ _ l.w _ _ (omega arith) y c.seek-end.ensures c.seek-w-in-loop-w.ensures _ l.invariant.3,
+    )
 
 pub returns : goal.returns
 returns c = let l = c.loop-w in counted-end _ _ l.w (omega arith) _ l.invariant.3

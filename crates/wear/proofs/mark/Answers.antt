@@ -1,5 +1,4 @@
 -- `wear::mark` meets its contract. The loop's invariant: the orders from i on, marked now, leave what all of them leave.
-use Prim.Native.Nat.{◌-◌}
 use mathlib.Core.Path.{refl}
 use native.Mathlib.Omega.{arith}
 use borrow.Author.Rules.{rules}

@@ -1,5 +1,4 @@
 -- `wear::seek` meets its contract. The loop's invariant: no number passed is one that is wanted.
-use Prim.Native.Nat.{◌-◌}
 use native.Mathlib.Omega.{arith}
 use Rattle.wear.proofs.Seeking.{seek-none, seek-found, seek-next, seek-end}
 use borrow.Author.Rules.{rules}

@@ -14,10 +14,12 @@ pub returns-then-header-ne0 : goal.returns-then-header-ne0
 returns-then-header-ne0 c = let both = no-header c.args.list.now c.args.table.now _ c.header.ensures c.if-header-ne0.true c.args.lines.now c.args.pairs.now in record { value = both.0; lines_after = both.1.0; pairs_after = both.1.1 }
 
 pub returns-then-not-all_inside : goal.returns-then-not-all_inside
-returns-then-not-all_inside c = let both = outside c.args.list.now c.args.table.now _ c.header.ensures c.if-header-ne0.false _ c.all_inside.ensures (not-true _ c.if-not-all_inside.true-raw) c.args.lines.now c.args.pairs.now in record { value = both.0; lines_after = both.1.0; pairs_after = both.1.1 }
+returns-then-not-all_inside c = let both = outside c.args.list.now c.args.table.now _ c.header.ensures c.if-header-ne0.false _ c.all_inside.ensures (not-true _ c.if-not-all_inside.true-raw) c.args.lines.now c.args.pairs.now in
+    record { value = both.0; lines_after = both.1.0; pairs_after = both.1.1 }
 
 pub returns-then-lines-k : goal.returns-then-lines-k
-returns-then-lines-k c = let inside = all-inside c.args.list.now c.args.table.now _ c.header.ensures c.if-header-ne0.false _ c.all_inside.ensures (not-false _ c.if-not-all_inside.false-raw) in let both = few-lines _ _ inside c.args.lines.now c.args.pairs.now c.if-lines-k.true in record { value = both.0; lines_after = both.1.0; pairs_after = both.1.1 }
+returns-then-lines-k c = let inside = all-inside c.args.list.now c.args.table.now _ c.header.ensures c.if-header-ne0.false _ c.all_inside.ensures (not-false _ c.if-not-all_inside.false-raw) in let both =
+    few-lines _ _ inside c.args.lines.now c.args.pairs.now c.if-lines-k.true in record { value = both.0; lines_after = both.1.0; pairs_after = both.1.1 }
 
 pub mark-requires : goal.mark-requires
 mark-requires c = let inside = all-inside c.args.list.now c.args.table.now _ c.header.ensures c.if-header-ne0.false _ c.all_inside.ensures (not-false _ c.if-not-all_inside.false-raw) in
@@ -32,7 +34,8 @@ overflow_mul-end c = let inside = all-inside c.args.list.now c.args.table.now _ 
     omega (arith, marks-enough _ _ inside _ c.mark.auto.marks, pairs-few _ _ inside _ c.mark.ensures _ c.count_pairs-n.ensures)
 
 pub returns-then-pairs-end : goal.returns-then-pairs-end
-returns-then-pairs-end c = let inside = all-inside c.args.list.now c.args.table.now _ c.header.ensures c.if-header-ne0.false _ c.all_inside.ensures (not-false _ c.if-not-all_inside.false-raw) in let both = few-pairs _ _ inside _ c.mark.ensures _ c.count_pairs-n.ensures c.args.lines.now c.args.pairs.now c.if-lines-k.false c.if-pairs-end.true in record { value = both.0; lines_after = both.1.0; pairs_after = both.1.1 }
+returns-then-pairs-end c = let inside = all-inside c.args.list.now c.args.table.now _ c.header.ensures c.if-header-ne0.false _ c.all_inside.ensures (not-false _ c.if-not-all_inside.false-raw) in let both =
+    few-pairs _ _ inside _ c.mark.ensures _ c.count_pairs-n.ensures c.args.lines.now c.args.pairs.now c.if-lines-k.false c.if-pairs-end.true in record { value = both.0; lines_after = both.1.0; pairs_after = both.1.1 }
 
 pub slice_bounds-write_pairs-end-2 : goal.slice_bounds-write_pairs-end-2
 slice_bounds-write_pairs-end-2 c = sym (length-take-le _ c.args.pairs.now (omega arith))
@@ -59,5 +62,6 @@ returns c = let inside = all-inside c.args.list.now c.args.table.now _ c.header.
     let cut = length-take-le k c.args.lines.now (omega arith) in
     let lines = c.count_stores-total.new.lines in
     let worn = c.count_stores-total.ensures.lines_after ∙ ap (λ (n : ℕ). wear_of (8 * n) (decode c.args.list.now)) cut in
-    let most = part-most lines (drop k c.args.lines.now) k (c.count_stores-total.auto.lines ∙ cut) _ _ (c.worst-m.ensures.largest_value, c.worst-m.ensures.first_value) in let both = done _ _ inside _ c.mark.ensures _ c.count_pairs-n.ensures c.args.lines.now c.args.pairs.now
+    let most = part-most lines (drop k c.args.lines.now) k (c.count_stores-total.auto.lines ∙ cut) _ _ (c.worst-m.ensures.largest_value, c.worst-m.ensures.first_value) in let both =
+    done _ _ inside _ c.mark.ensures _ c.count_pairs-n.ensures c.args.lines.now c.args.pairs.now
     c.if-lines-k.false c.if-pairs-end.false _ _ _ lines _ c.count_stores-total.ensures.value worn most c.write_pairs.ensures in record { value = both.0; lines_after = both.1.0; pairs_after = both.1.1 }

@@ -1,5 +1,5 @@
 -- `wear::worst` meets its contract.
-use Prim.Native.Nat.{◌-◌, ◌≤◌}
+use Prim.Native.Nat.{◌≤◌}
 use lib.ListN.{length}
 use Rattle.wear.proofs.Tallying.{MostFrom}
 use Rattle.wear.proofs.worst.Given as goal
