@@ -3,10 +3,6 @@ use mathlib.Core.Path.{refl}
 use Rattle.bits.specs.Bits.{full}
 use Rattle.bits.proofs.full.Goals as goal
 
--- offset_bounds-words-x
-
--- bounds-words-x
-
 pub returns : goal.returns
 unfolding full
 returns c = refl

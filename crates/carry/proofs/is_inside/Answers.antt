@@ -5,8 +5,6 @@ use Rattle.carry.proofs.is_inside.Goals as goal
 pub returns-then-a-eq-MARK : goal.returns-then-a-eq-MARK
 returns-then-a-eq-MARK c = flush-inside _ _ _ c.if-a-eq-MARK.true
 
--- is_barrier-requires
-
 pub returns-then-is_barrier : goal.returns-then-is_barrier
 returns-then-is_barrier c = barrier-inside _ _ _ c.if-a-eq-MARK.false _ c.is_barrier.ensures c.if-is_barrier.true
 

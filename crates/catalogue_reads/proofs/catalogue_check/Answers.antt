@@ -3,9 +3,5 @@ use mathlib.Core.Path.{ap, ◌∙◌}
 use Rattle.model.specs.Table.{outcome_number}
 use Rattle.catalogue_reads.proofs.catalogue_check.Goals as goal
 
--- check-requires
-
--- number_of-requires
-
 pub returns : goal.returns
 returns c = record { value = c.number_of.ensures ∙ ap outcome_number c.check.ensures.value; report_after = c.check.ensures.out_after }

@@ -3,14 +3,6 @@ use mathlib.Core.Path.{sym, ◌∙◌}
 use Rattle.answers.proofs.Cases.{was-read}
 use Rattle.catalogue_reads.proofs.catalogue_parse.Goals as goal
 
--- parse-requires
-
--- enum_known-k
-
--- enum_known-n
-
--- overflow_cast-result
-
 pub returns-in-Key : goal.returns-in-Key
 returns-in-Key c = let both = was-read _ _ _ (sym c.parse.ensures ∙ c.in-Key.is) in record { value = both.0; key_after = both.1 }
 

@@ -3,9 +3,5 @@ use mathlib.Core.Path.{ap}
 use Rattle.model.specs.declared.Printed.{Printed}
 use Rattle.catalogue_reads.proofs.catalogue_print.Goals as goal
 
--- print-printed-requires
-
--- overflow_cast-result
-
 pub returns : goal.returns
 returns c = record { value = ap (λ (p : Printed). p.number) c.print-printed.ensures; text_after = ap (λ (p : Printed). p.text) c.print-printed.ensures }

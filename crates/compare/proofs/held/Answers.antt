@@ -4,10 +4,6 @@ use Rattle.search.proofs.Standing.{slots-end}
 use Rattle.compare.proofs.Trees.{leaf-held}
 use Rattle.compare.proofs.held.Goals as goal
 
--- standing-leaf-requires
-
--- read-x-requires
-
 pub scan-seen-requires : goal.scan-seen-requires
 scan-seen-requires c = record { end_bound = omega arith; end_value = slots-end _ _ _ c.read-x.ensures }
 

@@ -3,12 +3,6 @@ use native.Mathlib.Omega.{arith}
 use Rattle.compare.proofs.Places.{pairs-load}
 use Rattle.compare.proofs.load.Goals as goal
 
--- ways_of-w-requires
-
--- word-requires
-
--- overflow_sub-result
-
 pub returns : goal.returns
 returns c = record {
   result_value = pairs-load _ _ _ _ c.requires.count_le_at c.requires.fact.0 c.requires.fact.1 c.ways_of-w.ensures.result_value c.word.ensures;

@@ -7,10 +7,6 @@ use Rattle.model.specs.Table.{MARK}
 use Rattle.gap.proofs.Around.{closed}
 use Rattle.gap.proofs.close.Goals as goal
 
--- seek_up-requires
-
--- shape_of-pairs
-
 pub returns : goal.returns
 returns c = let a = c.args in
     let u = c.seek_up in

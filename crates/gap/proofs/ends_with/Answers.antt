@@ -5,13 +5,5 @@ use Rattle.gap.proofs.ends_with.Goals as goal
 pub returns-then-at-eq0 : goal.returns-then-at-eq0
 returns-then-at-eq0 c = ends-none _ _ _ c.if-at-eq0.true
 
--- overflow_mul-result
-
--- overflow_sub-result
-
--- offset_bounds-pairs-at
-
--- bounds-pairs-at
-
 pub returns : goal.returns
 returns c = ends-some _ _ _ c.if-at-eq0.false

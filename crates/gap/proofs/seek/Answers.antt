@@ -2,12 +2,6 @@
 use Rattle.gap.proofs.Around.{sought}
 use Rattle.gap.proofs.seek.Goals as goal
 
--- seek_down-low-requires
-
--- seek_up-requires
-
--- shape_of-pairs
-
 pub returns : goal.returns
 returns c = let a = c.args in
     let u = c.seek_up in

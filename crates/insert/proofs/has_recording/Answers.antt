@@ -2,12 +2,6 @@
 use Rattle.insert.proofs.Testing.{recording-at, recording-nowhere}
 use Rattle.insert.proofs.has_recording.Goals as goal
 
--- find_recording-hit-requires
-
--- enum_told-1
-
--- enum_told-in-Nowhere
-
 pub returns-in-At : goal.returns-in-At
 returns-in-At c = recording-at _ _ c.requires _ c.find_recording-hit.ensures _ _ c.in-At.is
 

@@ -2,14 +2,8 @@
 use Rattle.insert.proofs.Testing.{sum-whole, sum-part}
 use Rattle.insert.proofs.reached_after.Goals as goal
 
--- overflow_add-result
-
--- overflow_add-result-then-run
-
 pub returns-then-run : goal.returns-then-run
 returns-then-run c = sum-whole _ _ _ c.if-run.true
-
--- overflow_add-result-2
 
 pub returns : goal.returns
 returns c = sum-part _ _ _ c.if-run.false

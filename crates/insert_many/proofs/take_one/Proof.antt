@@ -5,34 +5,27 @@ use borrow.Author.Rules.{rules}
 use Rattle.insert_many.proofs.take_one.Statement.{statement}
 use Rattle.insert_many.proofs.take_one.Tie as tie
 
--- ---- the places
-
-abbrev parts : tie.After-insert-known-arg3 → tie.After-class
+abbrev parts : tie.After-insert_known-arg-3-1 → tie.After-class-access
 parts c = c.before.before.before
 
-abbrev last : tie.After-slice-known6 → tie.After-insert-known
+abbrev last : tie.After-slice_known-6-1 → tie.After-insert_known
 last c = c.before.before.before.before.before.before
 
--- ---- the answers
+returns : tie.Need-returns-then-list-words_for
+returns c = let a = c.args in let p = short a.collection a.key a.pointer a.dock a.table.now a.list.now c.requires.0 c.requires.1.1.1.0 c.requires.1.1.1.1.0 _ c.words_for.ensures c.if-list-words_for.true in
+    (p.0, (p.1.0, (p.1.1.0, (tt, c.requires.1.1.1.1.1.1))))
 
-returns : tie.Need-returns
-returns c = let i = c.before.before.before.before.before in let a = i.args in let e = i.requires in
-    let p = short a.collection a.key a.pointer a.dock a.table.now a.list.now e.0 e.1.1.1.0 e.1.1.1.1.0 _ c.before.words-for.ensures c.if1.true in
-    (p.0, (p.1.0, (p.1.1.0, (tt, e.1.1.1.1.1.1))))
+insert-known-requires : tie.Need-insert_known-requires
+insert-known-requires c κs = let a = c.args in let known = known-as a.collection a.pointer a.table.now _ c.recording-recording.ensures _ c.requires.1.1.1.1.1.0 in
+    (c.requires.0, (c.requires.1.0, (c.requires.1.1.0, (c.requires.1.1.1.0, (c.requires.1.1.1.1.0, (omega (arith, c.words_for.ensures, c.if-list-words_for.false), (known, c.requires.1.1.1.1.1.1)))))))
 
-insert-known-requires : tie.Need-insert-known-requires
-insert-known-requires c κs = let r = (parts c).before in let k = r.before in let i = k.before.before.before.before.before in let a = i.args in let e = i.pre in
-    let known = known-as a.collection a.pointer a.table.now _ r.recording.ensures _ e.1.1.1.1.1.0 in
-    (e.0, (e.1.0, (e.1.1.0, (e.1.1.1.0, (e.1.1.1.1.0, (omega (arith, k.before.words-for.ensures, k.if1.left), (known, e.1.1.1.1.1.1)))))))
+returns-2 : tie.Need-returns
+returns-2 c = let j = last c in let u = parts j.before in let a = u.args in let p = as-pair a.collection a.key a.pointer a.dock a.table.now a.list.now _ _ u.recording-recording.ensures u.class-access.ensures
+    j.insert_known.result j.insert_known.last.0 j.insert_known.last.1.0 (j.insert_known.ensures.0, (j.insert_known.ensures.1.0, (j.insert_known.ensures.1.1.0, j.insert_known.ensures.1.1.1.0))) in
+    (p.0, (p.1.0, (p.1.1.0, (p.1.1.1, j.insert_known.ensures.1.1.1.1))))
 
-returns-2 : tie.Need-returns-2
-returns-2 c = let j = last c in let u = parts j.before in let r = u.before in let a = r.before.before.before.before.before.before.args in let q = j.insert-known.ensures in
-    let p = as-pair a.collection a.key a.pointer a.dock a.table.now a.list.now _ _ r.recording.ensures u.class.ensures
-    j.insert-known.result j.insert-known.last.0 j.insert-known.last.1.0 (q.0, (q.1.0, (q.1.1.0, q.1.1.1.0))) in
-    (p.0, (p.1.0, (p.1.1.0, (p.1.1.1, q.1.1.1.1))))
-
-pub take-one-spec : {M : Type 1} → statement M
-take-one-spec =
+pub take_one_spec : {M : Type 1} → statement M
+take_one_spec =
     tie.close
     (tie.spec
     (λ c κs. search rules)

@@ -13,74 +13,60 @@ use Rattle.judge.proofs.image_ok.Statement.{statement}
 use Rattle.judge.proofs.image_ok.Tie as tie
 
 -- the start; the image is sound
-abbrev entry : tie.After-is-sound → tie.Start
+abbrev entry : tie.After-is_sound → tie.Start
 entry c = c.before.before.before
 
-abbrev begun : tie.After-tree-ok → tie.Else1
+abbrev begun : tie.After-tree_ok → tie.Else-not-is_sound
 begun c = c.before.before.before.before
 
-is-good : (c : tie.Else1) → sound (entry c.before).args.image.now ≡ true
-is-good c = sym c.before.is-sound.ensures ∙ not-false _ c.if1.false
+is-good : (c : tie.Else-not-is_sound) → sound c.args.image.now ≡ true
+is-good c = sym c.is_sound.ensures ∙ not-false _ c.if-not-is_sound.false-raw
 
-returns : tie.Need-returns
-returns c = not-sound _ _ _ (sym c.before.is-sound.ensures ∙ not-true _ c.if1.true)
+returns : tie.Need-returns-then-not-is_sound
+returns c = not-sound _ _ _ (sym c.is_sound.ensures ∙ not-true _ c.if-not-is_sound.true-raw)
 
-tree-ok-requires : tie.Need-tree-ok-requires
-tree-ok-requires c κs =
-    let e = c.before.before.before in
-    let s = entry e.before in
-    (first-sound s.args.image.now _ c.before.word_at.ensures (is-good e), first-sound s.args.table.now _ c.word-at2.ensures (settled-sound _ s.pre.settles))
+tree-ok-requires : tie.Need-tree_ok-requires
+tree-ok-requires c κs = let s = entry c.before.before.before.before in
+    (first-sound s.args.image.now _ c.word_at-top.ensures (is-good c.before.before.before), first-sound s.args.table.now _ c.word_at-root.ensures (settled-sound _ s.requires.settles))
 
 -- the first tree
-firstly : (c : tie.After-tree-ok) → let x = (entry (begun c).before).args in c.tree-ok.result ≡ old_or_new (eqb x.change.collection 1) x.change.key x.change.pointer (map_of 1 x.table.now) (map_of 1 x.image.now)
+firstly : (c : tie.After-tree_ok) → let x = c.args in c.tree_ok.result ≡ old_or_new (eqb x.change.collection 1) x.change.key x.change.pointer (map_of 1 x.table.now) (map_of 1 x.image.now)
 firstly c =
-    let x = (entry (begun c).before).args in
-    let w = c.before in
-    as-first x.image.now x.table.now (eqb x.change.collection 1) x.change.key x.change.pointer _ _ w.before.word_at.ensures w.word-at2.ensures _ c.tree-ok.ensures
+    let x = c.args in
+    as-first x.image.now x.table.now (eqb x.change.collection 1) x.change.key x.change.pointer _ _ c.word_at-top.ensures c.word_at-root.ensures _ c.tree_ok.ensures
 
-returns-2 : tie.Need-returns-2
-returns-2 c =
-    let w = c.before in
-    let x = (entry (begun w).before).args in
-    first-wrong x.change x.table.now x.image.now (is-good (begun w)) _ (firstly w) (not-true _ c.if2.true)
+returns-2 : tie.Need-returns-then-not-tree_ok
+returns-2 c = let x = c.args in
+    first-wrong x.change x.table.now x.image.now (is-good (begun c.before)) _ (firstly c.before) (not-true _ c.if-not-tree_ok.true-raw)
 
 -- what is known once the first tree passed, and the words 3 were read
-abbrev tree : tie.After-word-at4 → tie.After-tree-ok
+abbrev tree : tie.After-word_at-second → tie.After-tree_ok
 tree c = c.before.before.before
 
-passed : (c : tie.After-word-at4) → (tree c).tree-ok.result ≡ true
-passed c = not-false _ c.before.before.if2.false
+passed : (c : tie.After-word_at-second) → c.tree_ok.result ≡ true
+passed c = not-false _ c.if-not-tree_ok.false-raw
 
-returns-3 : tie.Need-returns-3
-returns-3 c =
-    let w = c.before in
-    let x = (entry (begun (tree w)).before).args in
-    lacks-second x.change x.table.now x.image.now (is-good (begun (tree w))) _ (firstly (tree w)) (passed w) _ _ w.before.word-at3.ensures w.word-at4.ensures c.if3.true
+returns-3 : tie.Need-returns-then-other-eq0
+returns-3 c = let x = c.args in
+    lacks-second x.change x.table.now x.image.now (is-good (begun (tree c.before))) _ (firstly (tree c.before)) (passed c.before) _ _ c.word_at-other.ensures c.word_at-second.ensures c.if-other-eq0.true
 
-returns-4 : tie.Need-returns-4
-returns-4 c =
-    let w = c.before.before in
-    let x = (entry (begun (tree w)).before).args in
-    none-wanted x.change x.table.now x.image.now (is-good (begun (tree w))) _ (firstly (tree w)) (passed w) _ _ w.before.word-at3.ensures w.word-at4.ensures c.before.if3.false c.if4.true
+returns-4 : tie.Need-returns-then-second-eq0
+returns-4 c = let x = c.args in
+    none-wanted x.change x.table.now x.image.now (is-good (begun (tree c.before.before))) _ (firstly (tree c.before.before)) (passed c.before.before) _ _ c.word_at-other.ensures c.word_at-second.ensures c.if-other-eq0.false c.if-second-eq0.true
 
-tree-ok-requires-2 : tie.Need-tree-ok-requires-2
-tree-ok-requires-2 c κs =
-    let w = c.before.before in
-    let s = entry (begun (tree w)).before in (
-      second-sound s.args.image.now _ w.before.word-at3.ensures c.before.if3.false (is-good (begun (tree w))),
-      second-sound s.args.table.now _ w.word-at4.ensures c.if4.false (settled-sound _ s.pre.settles),
-    )
+tree-ok-requires-2 : tie.Need-tree_ok-requires-2
+tree-ok-requires-2 c κs = let s = entry c.before.before.before.before.before.before.before.before.before.before in (
+  second-sound s.args.image.now _ c.word_at-other.ensures c.if-other-eq0.false (is-good (begun (tree c.before.before))),
+  second-sound s.args.table.now _ c.word_at-second.ensures c.if-second-eq0.false (settled-sound _ s.requires.settles),
+)
 
-returns-5 : tie.Need-returns-5
-returns-5 c =
-    let d = c.before in
-    let w = d.before.before in
-    let x = (entry (begun (tree w)).before).args in
-    second-judged x.change x.table.now x.image.now (is-good (begun (tree w))) _ (firstly (tree w)) (passed w) _ _
-    w.before.word-at3.ensures w.word-at4.ensures d.before.if3.false d.if4.false _ c.tree-ok2.ensures
+returns-5 : tie.Need-returns
+returns-5 c = let x = c.args in
+    second-judged x.change x.table.now x.image.now (is-good (begun (tree c.before.before.before))) _ (firstly (tree c.before.before.before)) (passed c.before.before.before) _ _
+    c.word_at-other.ensures c.word_at-second.ensures c.if-other-eq0.false c.if-second-eq0.false _ c.tree_ok-2.ensures
 
-pub image-ok-spec : {M : Type 1} → statement M
-image-ok-spec =
+pub image_ok_spec : {M : Type 1} → statement M
+image_ok_spec =
     tie.close
     (tie.spec
     (λ c κs. search rules)

@@ -2,12 +2,8 @@
 use Rattle.keeping.proofs.Used.{inner-none, leaf-used}
 use Rattle.keeping.proofs.used_slots.Goals as goal
 
--- read-x-requires
-
 pub returns-then-x-ne0 : goal.returns-then-x-ne0
 returns-then-x-ne0 c = inner-none _ _ _ c.read-x.ensures c.if-x-ne0.true
-
--- count-requires
 
 pub returns : goal.returns
 returns c = let k = c.count in (leaf-used _ _ _ c.read-x.ensures c.if-x-ne0.false _ k.ensures.value, k.ensures.upper_bound)

@@ -2,11 +2,5 @@
 use Rattle.leaves.proofs.FoundLaws.{hit-chain}
 use Rattle.leaves.proofs.find_recording.Goals as goal
 
--- first_leaf-first-requires
-
--- word_at-requires
-
--- find_from-requires
-
 pub returns : goal.returns
 returns c = let a = c.args in hit-chain a.table.now a.root _ _ a.recording _ c.first_leaf-first.ensures c.word_at.ensures c.find_from.ensures

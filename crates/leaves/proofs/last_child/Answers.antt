@@ -3,16 +3,8 @@ use mathlib.Core.Path.{refl}
 use Rattle.leaves.proofs.HitLaws.{some-way, last-alone, last-beside}
 use Rattle.leaves.proofs.last_child.Goals as goal
 
--- ways_of-w-requires
-
 pub overflow_sub-last : goal.overflow_sub-last
 overflow_sub-last c = some-way _ _ _ c.ways_of-w.ensures.result_value
-
--- offset_bounds-pointers-count
-
--- bounds-pointers-count
-
--- word-sibling-requires
 
 pub returns-then-sibling-eq0 : goal.returns-then-sibling-eq0
 returns-then-sibling-eq0 c = last-alone _ _ _ c.ways_of-w.ensures.result_value _ _ refl c.word-sibling.ensures c.if-sibling-eq0.true

@@ -9,7 +9,5 @@ returns-then-key-w c = wants-low _ _ c.if-key-w.true
 pub returns-then-w-key : goal.returns-then-w-key
 returns-then-w-key c = wants-high _ _ c.if-w-key.true
 
--- keeps-requires
-
 pub returns : goal.returns
 returns c = c.keeps.ensures ∙ wants-kept _ _ c.if-key-w.false c.if-w-key.false

@@ -2,8 +2,6 @@
 use Rattle.node.proofs.Roots.{header-refused, header-accepted}
 use Rattle.node.proofs.header.Goals as goal
 
--- root-requires
-
 pub returns-then-root-eq0 : goal.returns-then-root-eq0
 returns-then-root-eq0 c = header-refused _ _ c.root.ensures c.if-root-eq0.true
 

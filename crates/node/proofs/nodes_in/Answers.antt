@@ -9,15 +9,9 @@ pub returns-then-len-lt40 : goal.returns-then-len-lt40
 unfolding nodes_for
 returns-then-len-lt40 c = sym (nodes-in-none _ (length-refused _ (λ f. omega arith)))
 
--- overflow_sub-n
-
 pub returns-then-n-gt65535 : goal.returns-then-n-gt65535
 unfolding nodes_for
 returns-then-n-gt65535 c = sym (nodes-in-none _ (length-refused _ (λ f. omega arith)))
-
--- overflow_mul-n
-
--- overflow_add-n
 
 pub returns-then-n-len : goal.returns-then-n-len
 unfolding nodes_for

@@ -3,8 +3,6 @@ use mathlib.Core.Path.{refl}
 use Rattle.numbers.specs.Cells.{mixed}
 use Rattle.numbers.proofs.mixed.Goals as goal
 
--- overflow_mul-result
-
 pub returns : goal.returns
 unfolding mixed
 returns c = refl

@@ -2,8 +2,6 @@
 use Rattle.numbers.proofs.Trying.{next-first, next-up}
 use Rattle.numbers.proofs.next_cell.Goals as goal
 
--- overflow_add-next
-
 pub returns-then-next-places : goal.returns-then-next-places
 returns-then-next-places c = next-first _ _ c.if-next-places.true
 

@@ -28,7 +28,5 @@ overflow_add-result c = omega (arith, c.requires.space c.if-pen-eq0.false)
 pub overflow_add-result-2 : goal.overflow_add-result-2
 overflow_add-result-2 c = omega (arith, c.requires.space c.if-pen-eq0.false, c.requires.counts)
 
--- shape_of-list
-
 pub returns : goal.returns
 returns c = λ t. rule-some t _ _ c.if-pen-eq0.false

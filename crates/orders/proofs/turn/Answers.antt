@@ -5,9 +5,5 @@ use Rattle.orders.proofs.turn.Goals as goal
 pub returns-then-pen-line : goal.returns-then-pen-line
 returns-then-pen-line c = λ t. turn-same t _ _ _ c.if-pen-line.true
 
--- finish-requires
-
--- shape_of-list
-
 pub returns : goal.returns
 returns c = λ t. turn-other _ _ _ c.if-pen-line.false (c.finish.ensures t)

@@ -5,11 +5,5 @@ use Rattle.pack.proofs.leaf_fence.Goals as goal
 pub returns-then-j-eq0 : goal.returns-then-j-eq0
 returns-then-j-eq0 c = fence-first _ _ c.if-j-eq0.true
 
--- overflow_mul-result
-
--- offset_bounds-nodes-j
-
--- bounds-nodes-j
-
 pub returns : goal.returns
 returns c = fence-later _ _ c.if-j-eq0.false

@@ -2,10 +2,6 @@
 use Rattle.pack.proofs.Filling.{next-some, next-none}
 use Rattle.pack.proofs.next_number.Goals as goal
 
--- overflow_add-k
-
--- overflow_add-result
-
 pub returns-then-k-e : goal.returns-then-k-e
 returns-then-k-e c = next-some _ _ c.if-k-e.true
 

@@ -8,8 +8,6 @@ use Rattle.packing.proofs.fill_both.Goals as goal
 pub fill-one-requires : goal.fill-one-requires
 fill-one-requires c = let a = c.args in (c.requires.0, c.requires.1, first-fits a.collections a.pairs.now a.loans.now a.words.now a.top c.requires.2)
 
--- shape_of-words-then-collections-eq1
-
 pub returns-then-collections-eq1 : goal.returns-then-collections-eq1
 returns-then-collections-eq1 c = let a = c.args in
     let f = c.fill-one in let both = alone a.collections a.pairs.now a.loans.now a.words.now a.top c.requires.2 f.new.words f.result f.ensures.words_after f.ensures.value c.if-collections-eq1.true in
@@ -21,8 +19,6 @@ fill-two-requires c = let a = c.args in
     let w = f.new.words in
     let u : length w ≡ length a.words.now = search rules in
     (u ∙ c.requires.0, c.requires.1, second-fits a.collections a.pairs.now a.loans.now a.words.now a.top c.requires.2 w f.result f.ensures.words_after f.ensures.value c.if-collections-eq1.false)
-
--- shape_of-words
 
 pub returns : goal.returns
 returns c = let a = c.args in

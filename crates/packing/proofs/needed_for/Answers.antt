@@ -4,9 +4,3 @@ use Rattle.packing.proofs.needed_for.Goals as goal
 
 pub returns-then-pairs-gt16777216 : goal.returns-then-pairs-gt16777216
 returns-then-pairs-gt16777216 c = needed-many _ c.if-pairs-gt16777216.true
-
--- needed-nodes-requires
-
--- returns-then-nodes-lt65536
-
--- returns

@@ -2,14 +2,8 @@
 use Rattle.packing.proofs.Fits.{grows-alone, grows-beside}
 use Rattle.packing.proofs.outgrows.Goals as goal
 
--- needed_for-one-requires
-
 pub returns-then-collections-eq1 : goal.returns-then-collections-eq1
 returns-then-collections-eq1 c = grows-alone _ _ _ _ _ c.requires c.needed_for-one.ensures c.if-collections-eq1.true
-
--- needed_for-two-requires
-
--- overflow_add-result
 
 pub returns : goal.returns
 returns c = grows-beside _ _ _ _ _ c.requires c.needed_for-one.ensures c.if-collections-eq1.false _ c.needed_for-two.ensures

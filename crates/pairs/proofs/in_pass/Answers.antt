@@ -2,8 +2,6 @@
 use Rattle.pairs.proofs.Passes.{pass-below, pass-from}
 use Rattle.pairs.proofs.in_pass.Goals as goal
 
--- mixed-place-requires
-
 pub returns-then-place-low : goal.returns-then-place-low
 returns-then-place-low c = let a = c.args in pass-below a.low a.high a.number _ c.mixed-place.ensures c.if-place-low.true
 

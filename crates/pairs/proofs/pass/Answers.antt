@@ -2,9 +2,5 @@
 use Rattle.numbers.proofs.Once.{all-tells}
 use Rattle.pairs.proofs.pass.Goals as goal
 
--- slice_bounds-enter_all-end
-
--- enter_all-requires
-
 pub returns : goal.returns
 returns c = all-tells _ _ _ _ c.enter_all.ensures

@@ -3,10 +3,6 @@ use mathlib.Core.Path.{refl}
 use Rattle.model.specs.Slots.{pointer_of}
 use Rattle.pointer.proofs.join.Goals as goal
 
--- overflow_mul-result
-
--- overflow_add-result
-
 pub returns : goal.returns
 unfolding pointer_of
 returns c = refl

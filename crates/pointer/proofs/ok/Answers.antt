@@ -4,16 +4,8 @@ use borrow.Author.Tests.{not-true, not-false}
 use Rattle.pointer.proofs.Tests.{number-wrong, number-right}
 use Rattle.pointer.proofs.ok.Goals as goal
 
--- recording-requires
-
--- recording_ok-requires
-
 pub returns-then-not-recording_ok : goal.returns-then-not-recording_ok
 returns-then-not-recording_ok c = number-wrong _ _ c.recording.ensures _ c.recording_ok.ensures (not-true _ c.if-not-recording_ok.true-raw)
-
--- class-requires
-
--- class_ok-requires
 
 pub returns : goal.returns
 returns c = c.class_ok.ensures

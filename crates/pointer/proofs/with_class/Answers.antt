@@ -5,8 +5,6 @@ use Rattle.model.specs.Slots.{pointer_of}
 use Rattle.pointer.proofs.Tests.{is-below}
 use Rattle.pointer.proofs.with_class.Goals as goal
 
--- recording-requires
-
 pub join-requires : goal.join-requires
 join-requires c = record { recording_bound = is-below _ _ c.recording.ensures; access_bound = c.requires }
 

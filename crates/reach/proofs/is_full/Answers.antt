@@ -2,8 +2,6 @@
 use Rattle.reach.proofs.Running.{full-pending, full-other}
 use Rattle.reach.proofs.is_full.Goals as goal
 
--- kept_count-kept-requires
-
 pub returns-then-n-parent : goal.returns-then-n-parent
 returns-then-n-parent c = full-pending _ _ _ _ c.kept_count-kept.ensures c.if-n-parent.true
 

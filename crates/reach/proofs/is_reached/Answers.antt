@@ -2,11 +2,5 @@
 use Rattle.reach.proofs.Members.{stands-there}
 use Rattle.reach.proofs.is_reached.Goals as goal
 
--- word-level-requires
-
--- word-fence-requires
-
--- standing-requires
-
 pub returns : goal.returns
 returns c = stands-there _ _ _ _ _ _ c.requires c.word-level.ensures c.word-fence.ensures c.standing.ensures

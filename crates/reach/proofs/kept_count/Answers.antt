@@ -2,11 +2,5 @@
 use Rattle.reach.proofs.SlotCounts.{kept-read}
 use Rattle.reach.proofs.kept_count.Goals as goal
 
--- read-x-requires
-
--- word-bound-requires
-
--- kept_count-requires
-
 pub returns : goal.returns
 returns c = kept-read _ _ _ c.read-x.ensures _ _ c.word-bound.ensures c.kept_count.ensures

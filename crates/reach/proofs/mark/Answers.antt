@@ -6,7 +6,5 @@ use Rattle.reach.proofs.mark.Goals as goal
 pub returns-then-n-gt65535 : goal.returns-then-n-gt65535
 returns-then-n-gt65535 c = put-out _ _ (omega arith)
 
--- put-requires
-
 pub returns : goal.returns
 returns c = c.put.ensures

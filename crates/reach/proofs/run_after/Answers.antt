@@ -2,10 +2,6 @@
 use mathlib.Core.Path.{sym, ◌∙◌}
 use Rattle.reach.proofs.run_after.Goals as goal
 
--- is_full-requires
-
--- overflow_add-result
-
 pub returns-then-is_full : goal.returns-then-is_full
 returns-then-is_full c = rw (sym c.is_full.ensures ∙ c.if-is_full.true)
 

@@ -2,9 +2,5 @@
 use Rattle.reach.proofs.SlotCounts.{shown-read}
 use Rattle.reach.proofs.shown_count.Goals as goal
 
--- read-x-requires
-
--- shown_count-requires
-
 pub returns : goal.returns
 returns c = shown-read _ _ _ c.read-x.ensures _ c.shown_count.ensures

@@ -6,7 +6,5 @@ use Rattle.recordings.proofs.slot_ok.Goals as goal
 pub returns-then-not-kept : goal.returns-then-not-kept
 returns-then-not-kept c = let a = c.args in ok-past a.kept a.pointer (not-true _ c.if-not-kept.true-raw)
 
--- ok-requires
-
 pub returns : goal.returns
 returns c = let a = c.args in ok-kept a.kept a.pointer _ (not-false _ c.if-not-kept.false-raw) c.ok.ensures

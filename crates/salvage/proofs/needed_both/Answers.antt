@@ -4,14 +4,8 @@ use Rattle.pack_laws.proofs.Counts.{needed-few}
 use Rattle.salvage.proofs.Bounds.{needed-alone, needed-beside}
 use Rattle.salvage.proofs.needed_both.Goals as goal
 
--- needed-first-requires
-
--- bounds-table-3
-
 pub returns-then-table-eq0 : goal.returns-then-table-eq0
 returns-then-table-eq0 c = needed-alone _ _ _ _ c.needed-first.ensures c.if-table-eq0.true
-
--- needed-requires
 
 pub overflow_add-result : goal.overflow_add-result
 overflow_add-result c = let a = needed-few c.args.one in

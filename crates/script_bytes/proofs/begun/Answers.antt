@@ -18,8 +18,6 @@ past-start RecordingStart h = refl
 past-start Recording h = refl
 past-start Other h = refl
 
--- enum_told-1
-
 pub returns-in-Start : goal.returns-in-Start
 unfolding begun
 returns-in-Start c = sym (ap begun c.in-Start.is)

@@ -7,10 +7,6 @@ pub returns-then-s-ne12 : goal.returns-then-s-ne12
 unfolding code_of
 returns-then-s-ne12 c = rw (ne_eqb _ _ c.if-s-ne12.true)
 
--- slice_bounds-parse-end
-
--- parse-requires
-
 pub returns : goal.returns
 unfolding code_of
 returns c = rw (eq-eqb _ _ c.if-s-ne12.false) c.parse.ensures

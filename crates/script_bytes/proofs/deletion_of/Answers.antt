@@ -3,10 +3,6 @@ use mathlib.Core.Path.{sym, ap}
 use Rattle.script_bytes.specs.Line.{deletion_of}
 use Rattle.script_bytes.proofs.deletion_of.Goals as goal
 
--- enum_known-code
-
--- enum_known-code-in-Refused-1
-
 pub returns-in-Key : goal.returns-in-Key
 returns-in-Key c = sym (ap deletion_of c.in-Key.is)
 

@@ -4,10 +4,6 @@ use Rattle.model.specs.declared.Parsed.{Parsed}
 use Rattle.script_bytes.specs.Line.{insertion_of}
 use Rattle.script_bytes.proofs.insertion_of.Goals as goal
 
--- enum_known-code
-
--- enum_known-code-in-Refused-1
-
 pub returns-in-Key : goal.returns-in-Key
 returns-in-Key c = sym (ap (λ (p : Parsed). insertion_of p c.args.recording) c.in-Key.is)
 

@@ -3,11 +3,5 @@ use Rattle.script_bytes.proofs.Text.{put-then}
 use borrow.Author.Rules.{rules}
 use Rattle.script_bytes.proofs.put_field.Goals as goal
 
--- put_byte-next-requires
-
--- put_number-requires
-
--- shape_of-out
-
 pub returns : goal.returns
 returns c = put-then c.put_byte-next.ensures (search rules) c.put_number.ensures

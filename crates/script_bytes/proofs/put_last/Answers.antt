@@ -5,12 +5,8 @@ use Rattle.script_bytes.proofs.Decimal.{decimal-most}
 use Rattle.script_bytes.proofs.Text.{put-then}
 use Rattle.script_bytes.proofs.put_last.Goals as goal
 
--- put_field-next-requires
-
 pub put_byte-requires : goal.put_byte-requires
 put_byte-requires c = omega (arith, c.requires, c.put_field-next.ensures.next, c.put_field-next.auto.out, decimal-most c.args.n)
-
--- shape_of-out
 
 pub returns : goal.returns
 unfolding numbers_text

@@ -5,14 +5,8 @@ use Rattle.script_bytes.proofs.Decimal.{decimal-most}
 use Rattle.script_bytes.proofs.Text.{put-then}
 use Rattle.script_bytes.proofs.put_two.Goals as goal
 
--- put_text-next-requires
-
--- put_field-last-requires
-
 pub put_last-requires : goal.put_last-requires
 put_last-requires c = omega (arith, c.requires, c.put_text-next.ensures.next, c.put_text-next.auto.out, c.put_field-last.ensures.next, c.put_field-last.auto.out, decimal-most c.args.m)
-
--- shape_of-out
 
 pub returns : goal.returns
 unfolding numbers_text

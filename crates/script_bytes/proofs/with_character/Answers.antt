@@ -3,10 +3,6 @@ use borrow.Author.Tests.{lt-ltb, le-ltb}
 use Rattle.script_bytes.specs.Line.{with_character}
 use Rattle.script_bytes.proofs.with_character.Goals as goal
 
--- bounds-code-n
-
--- overflow_add-n
-
 pub returns-then-n-lt12 : goal.returns-then-n-lt12
 unfolding with_character
 returns-then-n-lt12 c = rw (lt-ltb _ _ c.if-n-lt12.true)

@@ -3,10 +3,6 @@ use Rattle.slots.proofs.Scans.{used-counted}
 use Rattle.search.proofs.Standing.{down-read}
 use Rattle.search.proofs.down.Goals as goal
 
--- read-x-requires
-
--- count-end-requires
-
 pub scan-seen-requires : goal.scan-seen-requires
 scan-seen-requires c = record { end_bound = c.count-end.ensures.upper_bound; end_value = used-counted _ _ c.count-end.ensures.value }
 

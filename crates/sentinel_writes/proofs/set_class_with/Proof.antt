@@ -9,44 +9,31 @@ use Rattle.sentinels.proofs.Keeping.{keep-not, keep-asks, keep-gives}
 use Rattle.sentinel_writes.proofs.set_class_with.Statement.{statement}
 use Rattle.sentinel_writes.proofs.set_class_with.Tie as tie
 
-abbrev start : tie.After-refusal → tie.Start
-start r = r.before.before.before.before.before
+abbrev start : tie.After-refusal-number → tie.Start
+start r = r.before.before.before.before
 
 -- the call
-abbrev call : tie.After-refusal → Call
-call r = let a = (start r).args in class_change a.collection a.key a.access
+abbrev call : tie.After-refusal-number → Call
+call r = let a = r.args in class_change a.collection a.key a.access
 
 -- the slice has the right length
-fits : (c : tie.Else1) → slice_number (seventeen_in (call c.before) (start c.before).args.table.now) (length (start c.before).args.words.now) (start c.before).args.table.now ≡ 0
-fits c = sym c.before.refusal.ensures ∙ c.if1.false
+fits : (c : tie.Else-number-ne0) → slice_number (seventeen_in (call c.before) c.args.table.now) (length c.args.words.now) c.args.table.now ≡ 0
+fits c = sym c.refusal-number.ensures ∙ c.if-number-ne0.false
 
-returns : tie.Need-returns
-returns c =
-    let r = c.before in
-    let a = (start r).args in
-    keep-not (call r) a.list.now a.words.now a.table.now a.dock _ r.refusal.ensures c.if1.true
+returns : tie.Need-returns-then-number-ne0
+returns c = let a = c.args in
+    keep-not (call c.before) a.list.now a.words.now a.table.now a.dock _ c.refusal-number.ensures c.if-number-ne0.true
 
 keep-requires : tie.Need-keep-requires
-keep-requires c κs =
-    let w = c.before.before.before.before.before.before.before in
-    let e = w.before.before.before in
-    let r = e.before in
-    let a = (start r).args in
-    let p = w.set-class.ensures in
-    keep-asks (call r) a.list.now a.words.now a.table.now a.dock (fits e) _ _ a.words.now _ p.0 p.1.0 p.1.1
+keep-requires c κs = let a = c.args in
+    keep-asks (call c.before.before.before.before.before.before.before.before.before) a.list.now a.words.now a.table.now a.dock (fits c.before.before.before.before.before.before.before.before) _ _ a.words.now _ c.set_class-answer.ensures.0 c.set_class-answer.ensures.1.0 c.set_class-answer.ensures.1.1
 
-returns-2 : tie.Need-returns-2
-returns-2 c =
-    let k = c.before.before in
-    let w = k.before.before.before.before.before.before.before.before in
-    let e = w.before.before.before in
-    let r = e.before in
-    let a = (start r).args in
-    let p = w.set-class.ensures in
-    keep-gives (call r) a.list.now a.words.now a.table.now a.dock (fits e) _ _ _ _ p.0 p.1.0 p.1.1 k.keep.ensures
+returns-2 : tie.Need-returns
+returns-2 c = let a = c.args in
+    keep-gives (call c.before.before.before.before.before.before.before.before.before.before.before.before) a.list.now a.words.now a.table.now a.dock (fits c.before.before.before.before.before.before.before.before.before.before.before) _ _ _ _ c.set_class-answer.ensures.0 c.set_class-answer.ensures.1.0 c.set_class-answer.ensures.1.1 c.keep.ensures
 
-pub set-class-with-spec : {M : Type 1} → statement M
-set-class-with-spec =
+pub set_class_with_spec : {M : Type 1} → statement M
+set_class_with_spec =
     tie.close
     (tie.spec
     (λ c κs. search rules)

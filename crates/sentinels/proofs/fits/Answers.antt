@@ -8,5 +8,3 @@ bounds-table-2 c = omega (arith, (few-nodes _ c.requires).0)
 
 pub overflow_mul-result : goal.overflow_mul-result
 overflow_mul-result c = omega (arith, (few-nodes _ c.requires).1)
-
--- returns

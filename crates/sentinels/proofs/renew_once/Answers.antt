@@ -13,7 +13,5 @@ returns-then-n-last c = let z = c.if-n-eq0.false in record { value = sym c.if-n-
 pub renew-requires : goal.renew-requires
 renew-requires c = record { table_value = c.requires.table_value; words_len = c.requires.words_len; le_n = omega (arith, c.if-n-eq0.false); n_bound = c.requires.n_bound }
 
--- shape_of-words
-
 pub returns : goal.returns
 returns c = let z = c.if-n-eq0.false in record { value = once-other _ _ z; words_after = c.renew.ensures ∙ once-sets _ _ _ _ z c.if-n-last.false }

@@ -2,8 +2,6 @@
 use Rattle.sentinels.proofs.Setting.{in-table, past-table}
 use Rattle.sentinels.proofs.stored_node.Goals as goal
 
--- overflow_add-result
-
 pub returns-then-w-len : goal.returns-then-w-len
 returns-then-w-len c = in-table _ _ c.if-w-len.true
 

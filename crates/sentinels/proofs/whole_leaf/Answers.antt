@@ -5,8 +5,6 @@ use Rattle.sentinels.proofs.Searching.{whole-answer}
 use borrow.Author.Rules.{rules}
 use Rattle.sentinels.proofs.whole_leaf.Goals as goal
 
--- read-x-requires
-
 pub scan-seen-requires : goal.scan-seen-requires
 scan-seen-requires c = record { end_bound = omega arith; end_value = slots-end _ _ _ c.read-x.ensures }
 

@@ -3,16 +3,8 @@ use Rattle.orders.proofs.Rest.{room-as, stored-as}
 use Rattle.shift.proofs.AtNode.{attach-as}
 use Rattle.shift.proofs.attach.Goals as goal
 
--- word-b-requires
-
--- word-fence-requires
-
 pub shift_in-requires : goal.shift_in-requires
 shift_in-requires c = record { n_value = c.requires.p_value; n_value_2 = c.requires.p_value_2; room = room-as _ _ _ (attach-as _ _ _ _ _ c.word-b.ensures c.word-fence.ensures) c.requires.room }
-
--- shape_of-table
-
--- shape_of-list
 
 pub returns : goal.returns
 returns c = stored-as _ _ _ (attach-as _ _ _ _ _ c.word-b.ensures c.word-fence.ensures) _ c.shift_in.ensures

@@ -3,16 +3,8 @@ use Rattle.orders.proofs.Rest.{room-as, stored-as}
 use Rattle.shift.proofs.AtNode.{node-fits, shift-in-as}
 use Rattle.shift.proofs.shift_in.Goals as goal
 
--- start-w-requires
-
--- read-read-requires
-
 pub slot_in-requires : goal.slot_in-requires
 slot_in-requires c = record { w_in_bounds = node-fits _ _ _ c.requires.n_value c.start-w.ensures; room = room-as _ _ _ (shift-in-as _ _ _ c.requires.n_value c.start-w.ensures _ c.read-read.ensures c.requires.n_value_2 _ _) c.requires.room }
-
--- shape_of-table
-
--- shape_of-list
 
 pub returns : goal.returns
 returns c = stored-as _ _ _ (shift-in-as _ _ _ c.requires.n_value c.start-w.ensures _ c.read-read.ensures c.requires.n_value_2 _ _) _ c.slot_in.ensures

@@ -9,8 +9,6 @@ use borrow.Author.Rules.{rules}
 use Rattle.slots.specs.Scan.{in_use_of}
 use Rattle.slots.proofs.count.Goals as goal
 
--- loop-i-init
-
 pub returns-then-slots-i-eq0 : goal.returns-then-slots-i-eq0
 returns-then-slots-i-eq0 c = let l = c.loop-i in record { value = omega (arith, scan-stop (λ (ss : List Slot). l.i + length ss) _ l.i l.invariant.2 (omega arith) c.if-slots-i-eq0.true); upper_bound = omega arith }
 

@@ -2,10 +2,6 @@
 use mathlib.Core.Path.{sym, ◌∙◌}
 use Rattle.slots.proofs.count_after.Goals as goal
 
--- is_way-requires
-
--- overflow_add-result
-
 pub returns-then-is_way : goal.returns-then-is_way
 returns-then-is_way c = rw (sym c.is_way.ensures ∙ c.if-is_way.true)
 

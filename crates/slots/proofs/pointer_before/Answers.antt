@@ -6,8 +6,6 @@ use Rattle.slots.proofs.pointer_before.Goals as goal
 pub returns-then-p-eq0 : goal.returns-then-p-eq0
 returns-then-p-eq0 c = pointer-first _ _ _ c.if-p-eq0.true
 
--- overflow_sub-result
-
 pub overflow_mul-result : goal.overflow_mul-result
 overflow_mul-result c = omega (arith, in-use-short c.args.slots)
 

@@ -4,7 +4,5 @@ use lib.ListN.{length}
 use Rattle.slots.proofs.Kept.{all-kept}
 use Rattle.slots.proofs.shown_count.Goals as goal
 
--- kept_count-requires
-
 pub returns : goal.returns
 returns c = c.kept_count.ensures ∙ ap length (all-kept 0 _)

@@ -10,7 +10,5 @@ returns-then-not-s c = unfair-before _ _ (not-true _ c.if-not-s.true)
 pub returns-then-s : goal.returns-then-s
 returns-then-s c = unfair-late _ _ c.if-s.true
 
--- reaches-requires
-
 pub returns : goal.returns
 returns c = c.reaches.ensures ∙ fair-so-far _ _ (not-false _ c.if-not-s.false) c.if-s.false

@@ -3,12 +3,6 @@ use mathlib.Core.Path.{sym, ◌∙◌}
 use Rattle.sound.proofs.JudgeLaws.{checked-sound, checked-unsound}
 use Rattle.sound.proofs.is_sound.Goals as goal
 
--- check-answer-requires
-
--- enum_told-1
-
--- enum_told-in-Sound
-
 pub returns-in-Unsound : goal.returns-in-Unsound
 returns-in-Unsound c = sym ((checked-unsound _).0 (sym c.check-answer.ensures ∙ c.in-Unsound.is))
 

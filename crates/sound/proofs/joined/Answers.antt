@@ -2,12 +2,8 @@
 use Rattle.sound.proofs.TreesLaws.{join-first, join-second, join-neither}
 use Rattle.sound.proofs.joined.Goals as goal
 
--- is_nothing-requires
-
 pub returns-then-is_nothing : goal.returns-then-is_nothing
 returns-then-is_nothing c = let a = c.args in join-first a.first a.second a.reached _ c.is_nothing.ensures c.if-is_nothing.true
-
--- is_nothing-requires-2
 
 pub returns-then-is_nothing-2 : goal.returns-then-is_nothing-2
 returns-then-is_nothing-2 c = let a = c.args in

@@ -2,12 +2,8 @@
 use Rattle.sound.proofs.NodeLaws.{next-none, next-some}
 use Rattle.sound.proofs.next_child.Goals as goal
 
--- word-s-requires
-
 pub returns-then-s-eq0 : goal.returns-then-s-eq0
 returns-then-s-eq0 c = next-none _ _ _ c.word-s.ensures c.if-s-eq0.true
-
--- word-requires
 
 pub returns : goal.returns
 returns c = next-some _ _ _ _ c.word-s.ensures c.if-s-eq0.false c.word.ensures

@@ -2,13 +2,5 @@
 use Rattle.sound.proofs.LookLaws.{noted-is}
 use Rattle.sound.proofs.note.Goals as goal
 
--- enum_told-1
-
--- enum_known-seen
-
--- together-requires
-
--- returns-in-Unsound
-
 pub returns-in-Visited : goal.returns-in-Visited
 returns-in-Visited c = noted-is _ _ _ _ _ _ c.in-Visited.is c.together.ensures

@@ -5,9 +5,5 @@ use Rattle.sound.proofs.pointer_from.Goals as goal
 pub returns-then-w-i : goal.returns-then-w-i
 returns-then-w-i c = pointer-past _ _ _ c.if-w-i.true
 
--- offset_bounds-pointers-i
-
--- bounds-pointers-i
-
 pub returns : goal.returns
 returns c = pointer-here _ _ _ c.if-w-i.false

@@ -2,9 +2,5 @@
 use Rattle.sound.proofs.JudgeLaws.{room-is}
 use Rattle.sound.proofs.room.Goals as goal
 
--- read-x-requires
-
--- shown_count-requires
-
 pub returns : goal.returns
 returns c = room-is _ _ _ _ c.read-x.ensures c.shown_count.ensures

@@ -2,8 +2,6 @@
 use Rattle.sound.proofs.NodeLaws.{times-one, times-many}
 use Rattle.sound.proofs.times.Goals as goal
 
--- returns-then-k-eq0
-
 pub returns-then-k-eq1 : goal.returns-then-k-eq1
 returns-then-k-eq1 c = times-one _ _ c.if-k-eq1.true
 

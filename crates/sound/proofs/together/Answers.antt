@@ -2,11 +2,5 @@
 use Rattle.sound.proofs.LookLaws.{together-is}
 use Rattle.sound.proofs.together.Goals as goal
 
--- add_few-requires
-
--- add_few-requires-2
-
--- add_missing-requires
-
 pub returns : goal.returns
 returns c = let a = c.args in together-is a.a a.b _ _ _ c.add_few.ensures c.add_few-2.ensures c.add_missing.ensures

@@ -3,10 +3,6 @@ use native.Mathlib.Omega.{arith}
 use Rattle.statistics.proofs.Codes.{nodes-few, codes-all}
 use Rattle.statistics.proofs.codes_of.Goals as goal
 
--- first_leaf-first-requires
-
--- word_at-most-requires
-
 pub codes_along-requires : goal.codes_along-requires
 codes_along-requires c = omega (arith, c.word_at-most.ensures, nodes-few c.args.table.now c.requires.table_value)
 

@@ -3,23 +3,11 @@ use mathlib.Core.Path.{sym, ◌∙◌}
 use Rattle.statistics.proofs.Trees.{header, first-alone, first-beside, first-never}
 use Rattle.statistics.proofs.first_tree.Goals as goal
 
--- word_at-requires
-
--- collection_of-requires
-
 pub returns-then-word_at-eq0 : goal.returns-then-word_at-eq0
 returns-then-word_at-eq0 c = let both = first-alone _ _ _ c.requires (sym c.word_at.ensures ∙ c.if-word_at-eq0.true) _ c.collection_of.ensures in record { nodes_value = both.0; left_in_value = both.1 }
 
--- word_at-root-requires
-
 pub check_tree-one-requires : goal.check_tree-one-requires
 check_tree-one-requires c = header _ _ _ c.requires
-
--- enum_told-1
-
--- enum_known-one
-
--- collection_of-requires-in-Sound
 
 pub returns-in-Unsound : goal.returns-in-Unsound
 returns-in-Unsound c = let both = first-never _ _ _ c.requires _ c.word_at-root.ensures _ c.check_tree-one.ensures c.in-Unsound.is in record { nodes_value = both.0; left_in_value = both.1 }

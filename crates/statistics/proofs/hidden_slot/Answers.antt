@@ -2,9 +2,5 @@
 use Rattle.statistics.proofs.Lefts.{slot-is}
 use Rattle.statistics.proofs.hidden_slot.Goals as goal
 
--- read-x-requires
-
--- hidden_place-requires
-
 pub returns : goal.returns
 returns c = slot-is _ _ _ _ c.read-x.ensures c.hidden_place.ensures.value

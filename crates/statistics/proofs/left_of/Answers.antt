@@ -3,24 +3,6 @@ use Rattle.sound.specs.declared.Leftover.TheVariants.{Nothing}
 use Rattle.statistics.proofs.Lefts.{words-of, words-hidden, words-missing, words-both}
 use Rattle.statistics.proofs.left_of.Goals as goal
 
--- enum_told-1
-
--- enum_known-left
-
--- hidden_slot-requires
-
--- enum_known-left-in-MissingIn-1
-
--- word-requires
-
--- trailing_slots-requires
-
--- enum_known-left-in-BothIn-1
-
--- hidden_slot-requires-in-BothIn
-
--- word-requires-in-BothIn
-
 pub returns-in-Nothing : goal.returns-in-Nothing
 returns-in-Nothing c = let a = c.args in words-of a.table.now a.collection a.left Nothing c.in-Nothing.is
 

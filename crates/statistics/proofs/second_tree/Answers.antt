@@ -2,8 +2,6 @@
 use Rattle.statistics.proofs.Trees.{second-ready, second-none, second-words}
 use Rattle.statistics.proofs.second_tree.Goals as goal
 
--- word_at-root-requires
-
 pub returns-then-root-eq0 : goal.returns-then-root-eq0
 returns-then-root-eq0 c = second-none c.args.table.now _ c.word_at-root.ensures c.if-root-eq0.true
 

@@ -5,10 +5,6 @@ use Rattle.statistics.proofs.Lefts.{kept-shown}
 use borrow.Author.Rules.{rules}
 use Rattle.statistics.proofs.trailing_slots.Goals as goal
 
--- shown_count-shown-requires
-
--- kept_count-requires
-
 pub overflow_sub-result : goal.overflow_sub-result
 overflow_sub-result c = let a = c.args in
     omega (arith, c.kept_count.ensures, c.shown_count-shown.ensures, kept-shown a.table.now a.n)

@@ -7,8 +7,6 @@ use Rattle.statistics.proofs.tree_of.Goals as goal
 pub codes_of-codes-requires : goal.codes_of-codes-requires
 codes_of-codes-requires c = record { table_value = search rules; root_value = search rules }
 
--- word-top-requires
-
 pub overflow_add-result : goal.overflow_add-result
 overflow_add-result c = omega (arith, top-few c.args.table.now c.args.root c.requires.root_value _ c.word-top.ensures)
 

@@ -7,12 +7,8 @@ use Rattle.list_laws.proofs.Tools.{not-iff, not-false-iff}
 use Rattle.tour.proofs.Looks.{range-most, may-out, may-level, may-mark}
 use Rattle.tour.proofs.may_enter.Goals as goal
 
--- in_range-requires
-
 pub returns-then-not-in_range : goal.returns-then-not-in_range
 returns-then-not-in_range c = may-out _ _ _ _ _ c.requires.0 (sym c.in_range.ensures ∙ (not-iff c.in_range.result).0 c.if-not-in_range.true-raw)
-
--- read-requires
 
 pub returns-then-read-level : goal.returns-then-read-level
 returns-then-read-level c = may-level _ _ _ _ (λ e. c.if-read-level.true (ap (λ (x : Node). x.level) c.read.ensures ∙ e))

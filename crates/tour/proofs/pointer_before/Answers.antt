@@ -5,13 +5,5 @@ use Rattle.tour.proofs.pointer_before.Goals as goal
 pub returns-then-j-eq0 : goal.returns-then-j-eq0
 returns-then-j-eq0 c = before-first _ _ c.if-j-eq0.true
 
--- overflow_mul-result
-
--- overflow_sub-result
-
--- offset_bounds-n-j
-
--- bounds-n-j
-
 pub returns : goal.returns
 returns c = before-later _ _ c.if-j-eq0.false

@@ -6,12 +6,8 @@ use Rattle.list_laws.proofs.Tools.{not-iff, not-false-iff}
 use Rattle.tour.proofs.Looks.{leads-out, leads-in}
 use Rattle.tour.proofs.under_fence.Goals as goal
 
--- in_range-requires
-
 pub returns-then-not-in_range : goal.returns-then-not-in_range
 returns-then-not-in_range c = leads-out _ _ _ _ c.requires (sym c.in_range.ensures ∙ (not-iff c.in_range.result).0 c.if-not-in_range.true-raw)
-
--- read-requires
 
 pub returns : goal.returns
 returns c = ap (λ (x : Node). ltb c.args.key x.fence) c.read.ensures

@@ -5,7 +5,5 @@ use Rattle.wear.proofs.is_store.Goals as goal
 pub returns-then-a-eq-MARK : goal.returns-then-a-eq-MARK
 returns-then-a-eq-MARK c = mark-is-none _ _ c.if-a-eq-MARK.true
 
--- is_barrier-requires
-
 pub returns : goal.returns
 returns c = not-barrier _ _ c.if-a-eq-MARK.false _ c.is_barrier.ensures

@@ -2,15 +2,11 @@
 use Rattle.wear.proofs.Marking.{mark-none, mark-below, mark-put}
 use Rattle.wear.proofs.mark_one.Goals as goal
 
--- is_store-requires
-
 pub returns-then-not-is_store : goal.returns-then-not-is_store
 returns-then-not-is_store c = mark-none c.args.a c.args.b _ c.is_store.ensures c.if-not-is_store.true-raw _
 
 pub put-requires : goal.put-requires
 put-requires c = mark-below c.args.a c.args.b _ c.is_store.ensures c.if-not-is_store.false-raw _ c.requires
-
--- shape_of-marks
 
 pub returns : goal.returns
 returns c = let below = mark-below c.args.a c.args.b _ c.is_store.ensures c.if-not-is_store.false-raw _ c.requires in

@@ -6,7 +6,5 @@ use Rattle.wear.proofs.wanted_bits.Goals as goal
 pub returns-then-wanted : goal.returns-then-wanted
 returns-then-wanted c = bits-marked _ _ c.if-wanted.true
 
--- overflow_sub-result
-
 pub returns : goal.returns
 returns c = bits-unmarked _ _ c.if-wanted.false (omega (arith, c.ranges.word))

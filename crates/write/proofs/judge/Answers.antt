@@ -2,8 +2,6 @@
 use Rattle.write.proofs.Judging.{wrong-collection, right-collection, judged-rest}
 use Rattle.write.proofs.judge.Goals as goal
 
--- refusal-n-requires
-
 pub returns-then-n-ne0 : goal.returns-then-n-ne0
 returns-then-n-ne0 c = wrong-collection _ _ _ _ _ c.refusal-n.ensures c.if-n-ne0.true
 
