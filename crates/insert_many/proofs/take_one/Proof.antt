@@ -21,7 +21,7 @@ insert-known-requires c κs = let a = c.args in let known = known-as a.collectio
 
 returns-2 : tie.Need-returns
 returns-2 c = let j = last c in let u = parts j.before in let a = u.args in let p = as-pair a.collection a.key a.pointer a.dock a.table.now a.list.now _ _ u.recording-recording.ensures u.class-access.ensures
-    j.insert_known.result j.insert_known.last.0 j.insert_known.last.1.0 (j.insert_known.ensures.0, (j.insert_known.ensures.1.0, (j.insert_known.ensures.1.1.0, j.insert_known.ensures.1.1.1.0))) in
+    j.insert_known.result j.insert_known.new.table j.insert_known.new.list (j.insert_known.ensures.0, (j.insert_known.ensures.1.0, (j.insert_known.ensures.1.1.0, j.insert_known.ensures.1.1.1.0))) in
     (p.0, (p.1.0, (p.1.1.0, (p.1.1.1, j.insert_known.ensures.1.1.1.1))))
 
 pub take_one_spec : {M : Type 1} → statement M
