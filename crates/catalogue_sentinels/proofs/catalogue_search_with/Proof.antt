@@ -5,17 +5,22 @@ use Rattle.catalogue_sentinels.proofs.catalogue_search_with.Statement.{statement
 use Rattle.catalogue_sentinels.proofs.catalogue_search_with.Tie as tie
 
 -- the call, from its answer put
-abbrev called : tie.After-put-answer → tie.After-search-with
+abbrev called : tie.After-put_answer → tie.After-search_with-answer
 called c = c.before.before.before.before.before
 
-search-with-requires : tie.Need-search-with-requires
+search-with-requires : tie.Need-search_with-answer-requires
 search-with-requires c κs = search rules
 
-put-answer-requires : tie.Need-put-answer-requires
+put-answer-requires : tie.Need-put_answer-requires
 put-answer-requires c κs = search rules
 
 returns : tie.Need-returns
-returns c = looked _ (called c).search-with.ensures c.put-answer.ensures
+returns c = looked _ c.search_with-answer.ensures c.put_answer.ensures
 
-pub catalogue-search-with-spec : {M : Type 1} → statement M
-catalogue-search-with-spec = tie.close (tie.spec search-with-requires put-answer-requires returns)
+pub catalogue_search_with_spec : {M : Type 1} → statement M
+catalogue_search_with_spec =
+    tie.close
+    (tie.spec
+    search-with-requires
+    put-answer-requires
+    returns)

@@ -5,24 +5,30 @@ use Rattle.catalogue_writes.proofs.catalogue_set_class.Statement.{statement}
 use Rattle.catalogue_writes.proofs.catalogue_set_class.Tie as tie
 
 -- the call, from its answer's counts
-abbrev called : tie.After-put-counts → tie.After-set-class
+abbrev called : tie.After-put_counts → tie.After-set_class-answer
 called c = c.before.before.before.before.before.before.before.before
 
-set-class-requires : tie.Need-set-class-requires
+set-class-requires : tie.Need-set_class-answer-requires
 set-class-requires c κs = search rules
 
-put-counts-requires : tie.Need-put-counts-requires
+put-counts-requires : tie.Need-put_counts-requires
 put-counts-requires c κs = search rules
 
-same-length : tie.Need-same-length
+same-length : tie.Need-shape_of-table
 same-length c = search rules
 
-same-length-2 : tie.Need-same-length-2
+same-length-2 : tie.Need-shape_of-orders
 same-length-2 c = search rules
 
 returns : tie.Need-returns
-returns c = has-written _ _ _ _ (called c).set-class.ensures c.put-counts.ensures
+returns c = has-written _ _ _ _ c.set_class-answer.ensures c.put_counts.ensures
 
-pub catalogue-set-class-spec : {M : Type 1} → statement M
-catalogue-set-class-spec =
-    tie.close (tie.spec set-class-requires put-counts-requires same-length same-length-2 returns)
+pub catalogue_set_class_spec : {M : Type 1} → statement M
+catalogue_set_class_spec =
+    tie.close
+    (tie.spec
+    set-class-requires
+    put-counts-requires
+    same-length
+    same-length-2
+    returns)

@@ -15,11 +15,15 @@ use Rattle.short_scripts.proofs.call.Goals as goal
 pub returns-then-action-lt3 : goal.returns-then-action-lt3
 returns-then-action-lt3 c = let e = call-inserts c.args.action (omega arith) in
     let l : length c.args.list.now ≡ 2560 = search rules in
-    let k = rw l at (c.insert.ensures.value, (c.insert.ensures.table_after, c.insert.ensures.list_after)) in let both = rw (← e) (k.0, (k.1.0, (k.1.1, l))) in record { value = both.0; table_after = both.1.0; list_after = both.1.1.0; list_len = both.1.1.1 }
+    let v = rw l at c.insert.ensures.value in
+    let t = rw l at c.insert.ensures.table_after in
+    record { value = rw (← e) v; table_after = rw (← e) t; list_after = rw (← e) c.insert.ensures.list_after; list_len = search rules }
 
 -- delete-requires
 
 pub returns : goal.returns
 returns c = let e = call-deletes c.args.action (omega arith) in
     let l : length c.args.list.now ≡ 2560 = search rules in
-    let k = rw l at (c.delete.ensures.value, (c.delete.ensures.table_after, c.delete.ensures.list_after)) in let both = rw (← e) (k.0, (k.1.0, (k.1.1, l))) in record { value = both.0; table_after = both.1.0; list_after = both.1.1.0; list_len = both.1.1.1 }
+    let v = rw l at c.delete.ensures.value in
+    let t = rw l at c.delete.ensures.table_after in
+    record { value = rw (← e) v; table_after = rw (← e) t; list_after = rw (← e) c.delete.ensures.list_after; list_len = search rules }
