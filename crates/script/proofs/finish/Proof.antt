@@ -5,20 +5,19 @@ use Rattle.script.proofs.finish.Statement.{statement}
 use Rattle.script.proofs.finish.Tie as tie
 
 -- the places of the code
-abbrev ended : tie.After-slice-known6 → tie.After-end-line
+abbrev ended : tie.After-slice_known-then-begun-3-1 → tie.After-end_line
 ended c = c.before.before.before.before.before.before
 
-abbrev begun : tie.After-end-line → tie.Then1
+abbrev begun : tie.After-end_line → tie.Then-begun
 begun c = c.before.before.before.before
 
-returns : tie.Need-returns
-returns c =
-    let p = ended c in
+returns : tie.Need-returns-then-begun
+returns c = let p = ended c in
     let t = begun p in
-    finish-line _ _ t.before.begun.ensures t.if1.taken _ p.end_line.ensures
+    finish-line _ _ t.begun.ensures t.if-begun.true _ p.end_line.ensures
 
-returns-2 : tie.Need-returns-2
-returns-2 c = finish-none _ _ c.before.begun.ensures c.if1.false
+returns-2 : tie.Need-returns
+returns-2 c = finish-none _ _ c.begun.ensures c.if-begun.false
 
 pub finish_spec : {M : Type 1} → statement M
 finish_spec =

@@ -7,26 +7,25 @@ use Rattle.script.proofs.read_line.Statement.{statement}
 use Rattle.script.proofs.read_line.Tie as tie
 
 -- the places of the code
-abbrev was-read : tie.After-struct-known → tie.After-read-line
+abbrev was-read : tie.After-struct_known-1 → tie.After-read_line-read
 was-read c = c.before.before
 
-abbrev carried : tie.After-start → tie.After-end-line
+abbrev carried : tie.After-start-new → tie.After-end_line-n
 carried c = c.before.before.before.before.before.before.before
 
-abbrev ended : tie.After-end-line → tie.Else1
+abbrev ended : tie.After-end_line-n → tie.Else-not-read
 ended c = c.before.before.before.before
 
-returns : tie.Need-returns
-returns c = part-read _ _ _ (was-read c.before).read-line.ensures _ refl (not-true _ c.if1.true)
+returns : tie.Need-returns-then-not-read
+returns c = part-read _ _ _ c.read_line-read.ensures _ refl (not-true _ c.if-not-read.true)
 
-returns-2 : tie.Need-returns-2
-returns-2 c =
-    let e = carried c in
+returns-2 : tie.Need-returns
+returns-2 c = let e = carried c in
     let t = ended e in
-    line-told _ _ _ (was-read t.before).read-line.ensures _ _ c.start.ensures (not-false _ t.if1.left) e.end_line.ensures
+    line-told _ _ _ t.read_line-read.ensures _ _ c.start-new.ensures (not-false _ t.if-not-read.false) e.end_line-n.ensures
 
-pub read-line-spec : {M : Type 1} → statement M
-read-line-spec =
+pub read_line_spec : {M : Type 1} → statement M
+read_line_spec =
     tie.close
     (tie.spec
     (λ c κs. search rules)
