@@ -5,21 +5,26 @@ use Rattle.catalogue_tools.proofs.catalogue_judge_insert.Statement.{statement}
 use Rattle.catalogue_tools.proofs.catalogue_judge_insert.Tie as tie
 
 -- the call, from its answer's number
-abbrev called : tie.After-put-count → tie.After-judge-insert
+abbrev called : tie.After-put_count → tie.After-judge_insert-verdict
 called c = c.before.before.before.before
 
-judge-insert-requires : tie.Need-judge-insert-requires
+judge-insert-requires : tie.Need-judge_insert-verdict-requires
 judge-insert-requires c κs = search rules
 
-put-count-requires : tie.Need-put-count-requires
+put-count-requires : tie.Need-put_count-requires
 put-count-requires c κs = search rules
 
-same-length : tie.Need-same-length
+same-length : tie.Need-shape_of-out
 same-length c = search rules
 
 returns : tie.Need-returns
-returns c = let e = (called c).judge-insert.ensures in (has-ruled _ _ e.0 c.put_count.ensures, e.1)
+returns c = (has-ruled _ _ c.judge_insert-verdict.ensures.0 c.put_count.ensures, c.judge_insert-verdict.ensures.1)
 
-pub catalogue-judge-insert-spec : {M : Type 1} → statement M
-catalogue-judge-insert-spec =
-    tie.close (tie.spec judge-insert-requires put-count-requires same-length returns)
+pub catalogue_judge_insert_spec : {M : Type 1} → statement M
+catalogue_judge_insert_spec =
+    tie.close
+    (tie.spec
+    judge-insert-requires
+    put-count-requires
+    same-length
+    returns)

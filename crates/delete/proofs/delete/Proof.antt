@@ -67,7 +67,8 @@ mend-requires : tie.Need-mend-mended-requires
 mend-requires c κs = let f = (passed (told c)).found in (f.is-sound, (f.leftover-is, mend-room (begun c)))
 
 take-out-requires : tie.Need-take_out-out-requires
-take-out-requires c κs = let m = mended c in let b = begun m.before in (mended-collection b m.mend-mended.ensures, (mended-settled b m.mend-mended.ensures, (rw (← mended-table b m.mend-mended.ensures) at (begun-allows b), rest-room b m.mend-mended.ensures)))
+take-out-requires c κs = let m = mended c in
+    let b = begun m.before in (mended-collection b m.mend-mended.ensures, (mended-settled b m.mend-mended.ensures, (rw (← mended-table b m.mend-mended.ensures) at (begun-allows b), rest-room b m.mend-mended.ensures)))
 
 finish-requires : tie.Need-finish-done-requires
 finish-requires c κs = let o = taken c in let m = mended o.before in finish-room (begun m.before) m.mend-mended.ensures o.take_out-out.ensures

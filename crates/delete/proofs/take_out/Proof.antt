@@ -36,7 +36,8 @@ out c = c.before.before.before.before.before
 abbrev freed : tie.After-slice_known-6-1 → tie.After-free_leaf
 freed c = c.before.before.before.before
 
-found : (c : tie.After-frees_leaf-frees) → let p = parent c in let x = leaf p in let r = read x in let a = x.args in Found a.collection a.key a.table.now a.list.now a.pen r.root_of-root.result x.standing-leaf.result p.standing-parent.result c.frees_leaf-frees.result
+found : (c : tie.After-frees_leaf-frees) → let p = parent c in let x = leaf p in let r = read x in
+    let a = x.args in Found a.collection a.key a.table.now a.list.now a.pen r.root_of-root.result x.standing-leaf.result p.standing-parent.result c.frees_leaf-frees.result
 found c = let p = parent c in let x = leaf p in record {
   collection = x.requires.0;
   is-settled = x.requires.1.0;

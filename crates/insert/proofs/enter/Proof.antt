@@ -54,7 +54,10 @@ same-length-2 c = let i = last c in let s = split i.before.before.before.before.
 
 returns : tie.Need-returns
 returns c = let i = last c in let j = joined i.before in let r = read j.before in let s = split r.before in let g = grown s.before in
-    let h = handed g.before in let a = g.grow-grown.ensures.0 in (all-entered h a s.split_run-split.ensures.0 r.root_of.ensures j.standing-leaf.ensures j.join-x.ensures i.shift_in.ensures, in-marked h a s.split_run-split.ensures.0 r.root_of.ensures j.standing-leaf.ensures j.join-x.ensures i.shift_in.ensures _ s.split_run-split.ensures.1)
+    let h = handed g.before in let a = g.grow-grown.ensures.0 in (
+      all-entered h a s.split_run-split.ensures.0 r.root_of.ensures j.standing-leaf.ensures j.join-x.ensures i.shift_in.ensures,
+      in-marked h a s.split_run-split.ensures.0 r.root_of.ensures j.standing-leaf.ensures j.join-x.ensures i.shift_in.ensures _ s.split_run-split.ensures.1,
+    )
 
 pub enter_spec : {M : Type 1} → statement M
 enter_spec =

@@ -80,8 +80,19 @@ mend-requires : tie.Need-mend-mended-requires
 mend-requires c κs = let f = (passed (told c)).found in (f.is-sound, (f.leftover-is, mend-room (begun c)))
 
 enter-requires : tie.Need-enter-entered-requires
-enter-requires c κs = let m = mended c in let b = begun m.before in let run = running m.before.before.before.before.before.before in
-    (mended-collection b m.mend-mended.ensures, (mended-settled b m.mend-mended.ensures, (enter-enters b m.mend-mended.ensures, (enter-run b m.mend-mended.ensures run, (rest-room b m.mend-mended.ensures, enter-marked b m.mend-mended.ensures _ m.requires.1.1.1.1.1.1.1)))))
+enter-requires c κs = let m = mended c in let b = begun m.before in let run = running m.before.before.before.before.before.before in (
+  mended-collection b m.mend-mended.ensures,
+  (
+    mended-settled b m.mend-mended.ensures,
+    (
+      enter-enters b m.mend-mended.ensures,
+      (
+        enter-run b m.mend-mended.ensures run,
+        (rest-room b m.mend-mended.ensures, enter-marked b m.mend-mended.ensures _ m.requires.1.1.1.1.1.1.1),
+      ),
+    ),
+  ),
+)
 
 finish-requires : tie.Need-finish-done-requires
 finish-requires c κs = let e = entered c in let m = mended e.before in finish-room (begun m.before) m.mend-mended.ensures e.enter-entered.ensures.0

@@ -11,4 +11,10 @@ pub has_recording-known-requires : goal.has_recording-known-requires
 has_recording-known-requires c = root-sound _ _ _ c.root_of.ensures c.requires.table_value_2 c.requires.table_value
 
 pub number_known-requires : goal.number_known-requires
-number_known-requires c = record { table_value = c.requires.table_value; table_value_2 = c.requires.table_value_2; count_value = c.requires.count_value; known_value = found-here c.args.collection c.args.table.now _ c.root_of.ensures _ _ c.has_recording-known.ensures }
+number_known-requires c = record {
+  table_value = c.requires.table_value;
+  table_value_2 = c.requires.table_value_2;
+  count_value = c.requires.count_value;
+  known_value = found-here c.args.collection
+      c.args.table.now _ c.root_of.ensures _ _ c.has_recording-known.ensures;
+}

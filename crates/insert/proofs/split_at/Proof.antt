@@ -35,8 +35,26 @@ add-standing : tie.Need-overflow_add-l
 add-standing c = omega (arith, split-low c.requires.0)
 
 split-requires : tie.Need-split-requires
-split-requires c κs = let m = above c in let f = freed m.before in let s = stood f.before in let h = s.requires.0 in let eb = f.fresh-b.ensures.0 in let a = lower-plain h s.root_of-root.ensures s.standing-a.ensures in let p = parent-plain h s.root_of-root.ensures s.standing-a.ensures eb m.standing-parent.ensures in
-    (a.there, (a.plain, (lower-full h s.root_of-root.ensures s.standing-a.ensures, (upper-there h s.root_of-root.ensures s.standing-a.ensures eb m.standing-parent.ensures, (p.there, (p.plain, room-as _ _ _ (split-as h s.root_of-root.ensures s.standing-a.ensures eb m.standing-parent.ensures) s.requires.1.0))))))
+split-requires c κs = let m = above c in let f = freed m.before in let s = stood f.before in let h = s.requires.0 in let eb = f.fresh-b.ensures.0 in
+    let a = lower-plain h s.root_of-root.ensures s.standing-a.ensures in let p = parent-plain h s.root_of-root.ensures s.standing-a.ensures eb m.standing-parent.ensures in (
+      a.there,
+      (
+        a.plain,
+        (
+          lower-full h s.root_of-root.ensures s.standing-a.ensures,
+          (
+            upper-there h s.root_of-root.ensures s.standing-a.ensures eb m.standing-parent.ensures,
+            (
+              p.there,
+              (
+                p.plain,
+                room-as _ _ _ (split-as h s.root_of-root.ensures s.standing-a.ensures eb m.standing-parent.ensures) s.requires.1.0,
+              ),
+            ),
+          ),
+        ),
+      ),
+    )
 
 returns : tie.Need-returns
 returns c = let d = last c in let m = above d.before in let f = freed m.before in let s = stood f.before in let r = read s.before in

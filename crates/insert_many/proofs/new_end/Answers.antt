@@ -1,5 +1,4 @@
 -- `insert_many::new_end` meets its contract. The loop keeps that the pairs that are asked for are there, and what the widths come to.
-use Prim.Native.Nat.{◌-◌}
 use native.Mathlib.Omega.{arith}
 use Rattle.two_laws.proofs.SearchTwo.{sound-head}
 use Rattle.write.proofs.Rooted.{root-sound}
@@ -21,7 +20,11 @@ pub are_new-requires : goal.are_new-requires
 are_new-requires c = let l = c.loop-width in let e = l.invariant in record { root_value = root-sound _ _ _ e.0 c.requires.table_value c.requires.table_value_2; from_le_to = omega arith; to_in_bounds = omega (arith, e.1) }
 
 pub returns-then-are_new : goal.returns-then-are_new
-returns-then-are_new c = let a = c.args in record { value = end-told _ _ _ _ _ c.if-i-end.false _ _ c.loop-width.invariant.0 (widths-told c.loop-width.invariant.2 c.loop-width-test.true _ c.are_new.ensures.value c.if-are_new.true); new_2 = new-here a.collection a.table.now _ c.loop-width.invariant.0 _ (c.are_new.ensures.new c.if-are_new.true) }
+returns-then-are_new c = let a = c.args in record {
+  value = end-told _ _ _ _ _ c.if-i-end.false _ _ c.loop-width.invariant.0 (widths-told c.loop-width.invariant.2 c.loop-width-test.true _
+      c.are_new.ensures.value c.if-are_new.true);
+  new_2 = new-here a.collection a.table.now _ c.loop-width.invariant.0 _ (c.are_new.ensures.new c.if-are_new.true);
+}
 
 pub loop-width-preserved : goal.loop-width-preserved
 loop-width-preserved c = let l = c.loop-width.invariant in

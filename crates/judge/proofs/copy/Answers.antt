@@ -1,6 +1,5 @@
 -- `judge::copy` meets its contract. The loop has copied the words before w.
 use native.Mathlib.Omega.{arith}
-use Prim.Native.Nat.{◌-◌}
 use lib.ListN.{length-set}
 use Rattle.judge.proofs.Rest.{copied-more, copied-all}
 use Rattle.judge.proofs.copy.Goals as goal

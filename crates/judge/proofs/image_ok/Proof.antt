@@ -52,7 +52,8 @@ returns-3 c = let x = c.args in
 
 returns-4 : tie.Need-returns-then-second-eq0
 returns-4 c = let x = c.args in
-    none-wanted x.change x.table.now x.image.now (is-good (begun (tree c.before.before))) _ (firstly (tree c.before.before)) (passed c.before.before) _ _ c.word_at-other.ensures c.word_at-second.ensures c.if-other-eq0.false c.if-second-eq0.true
+    none-wanted x.change x.table.now x.image.now (is-good (begun (tree c.before.before))) _ (firstly (tree c.before.before)) (passed c.before.before) _ _ c.word_at-other.ensures
+    c.word_at-second.ensures c.if-other-eq0.false c.if-second-eq0.true
 
 tree-ok-requires-2 : tie.Need-tree_ok-requires-2
 tree-ok-requires-2 c κs = let s = entry c.before.before.before.before.before.before.before.before.before.before in (

@@ -48,7 +48,9 @@ yes c = c.before
 abbrev node_at : tie.At-loop-i invariant-loop decreases-loop → ℕ
 node_at l = get_or l.args.path l.loop-i.i 0
 
-left : (c : tie.After-full_node invariant-loop decreases-loop) → let l = turn c in let a = l.args in let g = split_way a.nodes a.key (drop a.first (take a.end a.path)) (going [] a.table.now a.marks.now a.from.under) in Left a.nodes a.key (node_at l ∷ drop (l.loop-i.i + 1) (take a.end a.path)) l.loop-i.table l.loop-i.list l.loop-i.marks l.loop-i.pen l.loop-i.under (stored_all g.stores (desk a.table.now a.list.now a.from.pen)) g.marks g.under
+left : (c : tie.After-full_node invariant-loop decreases-loop) → let l = turn c in let a = l.args in
+    let g = split_way a.nodes a.key (drop a.first (take a.end a.path)) (going [] a.table.now a.marks.now a.from.under) in
+    Left a.nodes a.key (node_at l ∷ drop (l.loop-i.i + 1) (take a.end a.path)) l.loop-i.table l.loop-i.list l.loop-i.marks l.loop-i.pen l.loop-i.under (stored_all g.stores (desk a.table.now a.list.now a.from.pen)) g.marks g.under
 left c = let l = turn c in let a = l.args in
     left-as _ _ (rest-of a.path l.loop-i.i a.end c.loop-i-test.true (omega (arith, l.requires.1.1.1.0, l.loop-i.invariant.3))) l.loop-i.invariant.4
 

@@ -26,11 +26,13 @@ returns c = let a = c.args in
 
 keep-requires : tie.Need-keep-requires
 keep-requires c κs = let a = c.args in
-    keep-asks (call c.before.before.before.before.before.before.before.before.before) a.list.now a.words.now a.table.now a.dock (fits c.before.before.before.before.before.before.before.before) _ _ a.words.now _ c.delete-answer.ensures.0 c.delete-answer.ensures.1.0 c.delete-answer.ensures.1.1
+    keep-asks (call c.before.before.before.before.before.before.before.before.before) a.list.now a.words.now a.table.now a.dock (fits c.before.before.before.before.before.before.before.before) _ _
+    a.words.now _ c.delete-answer.ensures.0 c.delete-answer.ensures.1.0 c.delete-answer.ensures.1.1
 
 returns-2 : tie.Need-returns
 returns-2 c = let a = c.args in
-    keep-gives (call c.before.before.before.before.before.before.before.before.before.before.before.before) a.list.now a.words.now a.table.now a.dock (fits c.before.before.before.before.before.before.before.before.before.before.before) _ _ _ _ c.delete-answer.ensures.0 c.delete-answer.ensures.1.0 c.delete-answer.ensures.1.1 c.keep.ensures
+    keep-gives (call c.before.before.before.before.before.before.before.before.before.before.before.before) a.list.now a.words.now a.table.now a.dock (fits
+    c.before.before.before.before.before.before.before.before.before.before.before) _ _ _ _ c.delete-answer.ensures.0 c.delete-answer.ensures.1.0 c.delete-answer.ensures.1.1 c.keep.ensures
 
 pub delete_with_spec : {M : Type 1} → statement M
 delete_with_spec =

@@ -1,5 +1,4 @@
 -- `sentinels::begin` meets its contract. The loop keeps that the slots from i on tell what comes before slot first as all of them do.
-use Prim.Native.Nat.{◌-◌}
 use native.Mathlib.Omega.{arith}
 use Rattle.sentinels.proofs.Reading.{begun-start, begun-stop, begun-on, begun-done}
 use Rattle.sentinels.proofs.begin.Goals as goal

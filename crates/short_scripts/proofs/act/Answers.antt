@@ -23,4 +23,5 @@ returns-in-Done c = let k = c.call-answer in record {
 }
 
 pub returns-in-Refused : goal.returns-in-Refused
-returns-in-Refused c = let k = c.call-answer in record { acts = acts-refused c.args.action c.args.list.now c.args.table.now c.args.held k.ensures.list_len c.requires.table_value c.requires.table_value_2 _ _ k.ensures.value c.in-Refused.is; table_after = k.ensures.table_after }
+returns-in-Refused c = let k = c.call-answer in
+    record { acts = acts-refused c.args.action c.args.list.now c.args.table.now c.args.held k.ensures.list_len c.requires.table_value c.requires.table_value_2 _ _ k.ensures.value c.in-Refused.is; table_after = k.ensures.table_after }

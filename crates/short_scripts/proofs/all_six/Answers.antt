@@ -1,6 +1,5 @@
 -- `short_scripts::all_six` meets its contract.
 use mathlib.Core.Path.{sym, ap, ◌∙◌}
-use Prim.Native.Nat.{◌-◌}
 use native.Mathlib.Omega.{arith}
 use Rattle.short_scripts.proofs.Words.{left-first, six_of, six-next, six-not, six-none}
 use borrow.Author.Rules.{rules}

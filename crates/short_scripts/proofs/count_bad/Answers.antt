@@ -1,6 +1,5 @@
 -- `short_scripts::count_bad` meets its contract.
 use mathlib.Core.Path.{◌∙◌}
-use Prim.Native.Nat.{◌-◌}
 use native.Mathlib.Omega.{arith}
 use Rattle.short_scripts.proofs.Counting.{one-most, among-first, among-all, judged-one, among-next}
 use Rattle.short_scripts.proofs.count_bad.Goals as goal

@@ -1,6 +1,5 @@
 -- `short_scripts::rank` meets its contract.
 use mathlib.Core.Path.{sym, ap, ◌∙◌}
-use Prim.Native.Nat.{◌-◌}
 use native.Mathlib.Omega.{arith}
 use Rattle.model.specs.Table.{at}
 use Rattle.model.specs.Scripts.{rank_on}

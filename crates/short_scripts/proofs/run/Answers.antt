@@ -1,6 +1,5 @@
 -- `short_scripts::run` meets its contract.
 use mathlib.Core.Path.{◌≡◌}
-use Prim.Native.Nat.{◌-◌}
 use native.Mathlib.Omega.{arith}
 use lib.ListN.{length}
 use Rattle.short_scripts.proofs.Running.{running-start, running-next, running-end}

@@ -1,5 +1,4 @@
 -- `short_scripts::run_all` meets its contract.
-use Prim.Native.Nat.{◌-◌}
 use native.Mathlib.Omega.{arith}
 use Rattle.short_scripts.proofs.Running.{totals-start, script-runs, totals-next, totals-end}
 use Rattle.short_scripts.proofs.run_all.Goals as goal

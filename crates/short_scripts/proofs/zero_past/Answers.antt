@@ -1,6 +1,5 @@
 -- `short_scripts::zero_past` meets its contract.
 use mathlib.Core.Path.{sym, ap, ◌∙◌}
-use Prim.Native.Nat.{◌-◌}
 use native.Mathlib.Omega.{arith}
 use Rattle.model.specs.Table.{all_zero}
 use Rattle.short_scripts.proofs.Words.{zero-first, zero-next, zero-not, zero-none}
