@@ -2,19 +2,37 @@
 """width.py FILE.ll..: is a module that was made for 64-bit pointers right where a pointer has 4 bytes (wasm32)?
 
 What could be wrong there: an address turned into a number or back; a place that holds a pointer read as a number, or a number as a pointer; a
-copy of 8 bytes from or to a place that the compiler made for a pointer; a pointer inside a struct, a vector or a constant. Every use of every
-place made by alloca is followed, with its constant offsets. The last line is what was found; the status is 1 if that is not nothing."""
+copy of 8 bytes from or to a place that the compiler made for a pointer; a pointer inside a struct, a vector or a constant. A struct of numbers
+alone, as a small result, lies alike everywhere. Every use of every place made by alloca is followed, with its constant offsets. The last line is
+what was found; the status is 1 if that is not nothing."""
 import re
 import sys
 
 SIZE = {'i1': 1, 'i8': 1, 'i16': 2, 'i32': 4, 'i64': 8, 'float': 4, 'double': 8, 'ptr': 4}
-FORBIDDEN = ('ptrtoint', 'inttoptr', 'addrspacecast', 'bitcast', 'blockaddress', '<{', ' x ptr]', 'insertvalue', 'extractvalue', 'va_arg', 'cmpxchg', 'atomicrmw')
+FORBIDDEN = ('ptrtoint', 'inttoptr', 'addrspacecast', 'bitcast', 'blockaddress', '<{', '{ {', ' x ptr]', 'va_arg', 'cmpxchg', 'atomicrmw')
 bad, followed = [], 0
+
+
+NUMBERS = re.compile(r'\{ ((?:i8|i16|i32|i64)(?:, (?:i8|i16|i32|i64))*) \}')
 
 
 def size(kind):
     array = re.fullmatch(r'\[(\d+) x (.+)\]', kind)
     return int(array[1]) * size(array[2]) if array else SIZE[kind]
+
+
+def parts(kind):
+    """The kinds that a value of this kind has in memory, each with its offset; of a struct of numbers each of them."""
+    struct, at = NUMBERS.fullmatch(kind), 0
+    for part in struct[1].split(', ') if struct else [kind]:
+        at += -at % size(part)
+        yield part, at
+        at += size(part)
+
+
+def odd(text):
+    """The structs of a text that are not of numbers alone."""
+    return [struct for struct in re.findall(r'\{ [^{}]* \}', text) if not NUMBERS.fullmatch(struct)]
 
 
 class Places:
@@ -39,9 +57,10 @@ class Places:
         return m
 
     def access(self, line):
-        m = re.match(r'(?:%\S+ = )?(?:load (\S+), ptr|store (\S+) \S+, ptr) (%[^,\s]+|@\S+?),', line)
-        if m and m[3] in self.of:
-            kind, (root, room, at) = m[1] or m[2], self.of[m[3]]
+        m = re.match(r'(?:%\S+ = )?(?:load (\{[^{}]*\}|\S+), ptr|store (\{[^{}]*\}|\S+) \S+, ptr) (%[^,\s]+|@\S+?),', line)
+        for kind, inside in parts(m[1] or m[2]) if m and m[3] in self.of and not odd(m[1] or m[2]) else []:
+            root, room, at = self.of[m[3]]
+            at = at + inside if at is not None else None
             if at is not None and at + size(kind) > room:
                 bad.append(('past its place', line))
             self.kinds.setdefault((root, at), set()).add('ptr' if kind == 'ptr' else 'number')
@@ -71,8 +90,9 @@ def look(text):
     bad.extend(('a constant with a pointer', g) for g in re.findall(r'^@.* = .*', text, re.M) if 'ptr' in g)
     for body in re.findall(r'^define .*?^}', text, re.M | re.S):
         lines = body.split('\n')
-        if re.search(r'\{|\bx ptr', lines[0].rsplit('#', 1)[0].replace(' {', '')):
+        if re.search(r'\bx ptr', lines[0]):
             bad.append(('an aggregate by value', lines[0]))
+        bad.extend(('a struct with more than numbers', line) for line in lines if odd(line))
         places = Places(lines[0])
         for line in map(str.strip, lines[1:]):
             places.alloca(line) or places.offset(line) or places.access(line) or places.copy(line)
