@@ -26,9 +26,11 @@ enum { LEFT, SIBLING, LEVEL, FENCE, KEYS = 8, POINTERS };
 #define LOOKS_FEW 64
 #endif
 
-/* Rounds: after the first number each gives the processor away, after the second the answer is LOOKS_BUSY. */
+/* Rounds: after the first number each gives the processor away, after the second the answer is LOOKS_BUSY. A test may take another second one. */
 #define PATIENT_ROUNDS 100
+#ifndef MOST_ROUNDS
 #define MOST_ROUNDS 100000
+#endif
 
 bool looks_begin(struct looks *l, const uint64_t *shared, const uint64_t *counter, size_t count)
 {
