@@ -1,19 +1,20 @@
 #!/usr/bin/env python3
 """width.py FILE.ll..: is a module that was made for 64-bit pointers right where a pointer has 4 bytes (wasm32)?
 
-What could be wrong there: an address turned into a number or back; a place that holds a pointer read as a number, or a number as a pointer; a
-copy of 8 bytes from or to a place that the compiler made for a pointer; a pointer inside a struct, a vector or a constant. A struct of numbers
-alone, as a small result, lies alike everywhere. Every use of every place made by alloca is followed, with its constant offsets. The last line is
-what was found; the status is 1 if that is not nothing."""
+What could be wrong there: an address turned into a number of 8 bytes or back; a pointer in memory, in a struct, a vector or a constant; an access or a copy
+past the place that it is to. A struct of numbers alone, as a small result, lies alike everywhere. Every use of every place made by alloca is
+followed, with its constant offsets. The last line is what was found; the status is 1 if that is not nothing."""
 import re
 import sys
 
-SIZE = {'i1': 1, 'i8': 1, 'i16': 2, 'i32': 4, 'i64': 8, 'float': 4, 'double': 8, 'ptr': 4}
-FORBIDDEN = ('ptrtoint', 'inttoptr', 'addrspacecast', 'bitcast', 'blockaddress', '<{', '{ {', ' x ptr]', 'va_arg', 'cmpxchg', 'atomicrmw')
+SIZE = {'i1': 1, 'i8': 1, 'i16': 2, 'i32': 4, 'i64': 8, 'ptr': 4}
+FORBIDDEN = ('inttoptr', 'addrspacecast', 'bitcast', 'blockaddress', '<{', '{ {', ' x ptr]', 'va_arg', 'cmpxchg', 'atomicrmw')
 bad, followed = [], 0
 
 
-NUMBERS = re.compile(r'\{ ((?:i8|i16|i32|i64)(?:, (?:i8|i16|i32|i64))*) \}')
+NUMBER = r'(?:i8|i16|i32|i64)(?: [\w.-]+)?'
+# Of a constant each number has its value beside its kind.
+NUMBERS = re.compile(r'\{ (%s(?:, %s)*) \}' % (NUMBER, NUMBER))
 
 
 def size(kind):
@@ -38,8 +39,8 @@ def odd(text):
 class Places:
     """The places of one function: a value that points into one, as its root, the root's bytes and the offset there (None if it is computed)."""
 
-    def __init__(self, head):
-        self.head, self.of, self.kinds = head, {}, {}
+    def __init__(self):
+        self.of = {}
 
     def alloca(self, line):
         m = re.match(r'(%\S+) = alloca (.+?), align (\d+)$', line)
@@ -49,7 +50,8 @@ class Places:
 
     def offset(self, line):
         m = re.match(r'(%\S+) = getelementptr (inbounds nuw |inbounds |nuw )?i8, ptr (%\S+), i64 (\S+)$', line)
-        if not m and 'getelementptr' in line:
+        # A constant table of numbers has the same steps everywhere.
+        if not m and 'getelementptr' in line and not re.search(r'getelementptr (inbounds |nuw )*i(8|16|32|64), ptr @', line):
             bad.append(('another getelementptr', line))
         if m and m[3] in self.of:
             root, room, at = self.of[m[3]]
@@ -63,11 +65,10 @@ class Places:
             at = at + inside if at is not None else None
             if at is not None and at + size(kind) > room:
                 bad.append(('past its place', line))
-            self.kinds.setdefault((root, at), set()).add('ptr' if kind == 'ptr' else 'number')
         return m
 
     def copy(self, line):
-        m = re.match(r'call void @llvm\.(?:memmove|memset|memcpy)\S*\((.*)\)$', line)
+        m = re.match(r'(?:tail )?call void @llvm\.(?:memmove|memset|memcpy)\S*\((.*)\)(?:, !.*| #\d+)?$', line)
         parts = [p.strip() for p in m[1].split(',')] if m else []
         amount = [p.split()[-1] for p in parts if p.startswith('i64')][-1] if m else ''
         for value in (p.split()[-1] for p in parts if p.startswith('ptr')):
@@ -75,11 +76,6 @@ class Places:
             if amount.isdigit() and at is not None and at + int(amount) > room:
                 bad.append((f'{amount} bytes copied at {at} of a place of {room}', line))
         return m
-
-    def end(self):
-        for (root, at), kinds in self.kinds.items():
-            if at is not None and len(kinds) > 1:
-                bad.append(('read as pointer and as number', f'{self.head} {root} + {at}'))
 
 
 def look(text):
@@ -93,10 +89,11 @@ def look(text):
         if re.search(r'\bx ptr', lines[0]):
             bad.append(('an aggregate by value', lines[0]))
         bad.extend(('a struct with more than numbers', line) for line in lines if odd(line))
-        places = Places(lines[0])
+        bad.extend(('an address of 8 bytes', line) for line in lines if re.search(r'ptrto(int|addr) .* to (?!i32$)', line))
+        bad.extend(('a pointer in memory', line) for line in lines if re.search(r'\b(load|store) (volatile )?ptr\b', line))
+        places = Places()
         for line in map(str.strip, lines[1:]):
             places.alloca(line) or places.offset(line) or places.access(line) or places.copy(line)
-        places.end()
         followed += len(places.of)
 
 
