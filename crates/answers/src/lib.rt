@@ -2,18 +2,18 @@
 #![tactic(auto)]
 
 ghost use Rattle.std.specs.Prelude.{◌≡◌};
-ghost use Rattle.model.specs.Table.{outcome_number};
+ghost use Rattle.model.specs.Results.{answer_number};
 ghost use Rattle.model.specs.Answers.{Looked, Counted};
 
-use model::{Answer, Next, Outcome, Written};
+use model::{Answer, Outcome, Written};
 
-// Document 01's number of an outcome.
+// The number of an outcome: 0 if the call did its work, else its refusal's.
 pub fn number_of(outcome: Outcome) -> u64
-    ensures { result ≡ outcome_number outcome }
+    ensures { result ≡ answer_number outcome }
 {
     match outcome {
-        Outcome::Done => 0,
-        Outcome::Refused(n) => n as u64,
+        Ok(()) => 0,
+        Err(r) => u64::from(r),
     }
 }
 
@@ -37,19 +37,16 @@ pub fn put_answer(
             *access = c;
             0
         }
-        Answer::Absent(up) => {
-            match up {
-                Next::Key(k) => {
-                    *next = k;
-                    *higher = 1;
-                }
-                Next::Nothing => {
-                    *higher = 0;
-                }
-            }
+        Answer::Absent(Some(k)) => {
+            *next = k;
+            *higher = 1;
             255
         }
-        Answer::Refused(n) => n as u64,
+        Answer::Absent(None) => {
+            *higher = 0;
+            255
+        }
+        Answer::Refused(n) => u64::from(n),
     }
 }
 
@@ -59,16 +56,12 @@ pub fn put_counts(answer: Written, stores: &mut u64, flushes: &mut u64, barriers
         barriers.old barriers.new }
 {
     match answer {
-        Written::Done {
-            stores: s,
-            flushes: f,
-            barriers: b,
-        } => {
-            *stores = s;
-            *flushes = f;
-            *barriers = b;
+        Ok(counts) => {
+            *stores = counts.stores;
+            *flushes = counts.flushes;
+            *barriers = counts.barriers;
             0
         }
-        Written::Refused(n) => n as u64,
+        Err(refusal) => u64::from(refusal),
     }
 }

@@ -4,8 +4,9 @@ use mathlib.Core.List.{List, [], ◌∷◌, ◌++◌, append_assoc}
 use Prim.Native.Nat.{ℕ, zero, suc, ◌+◌, ◌*◌, ◌/◌, ◌≤◌, ◌<◌}
 use native.Mathlib.Omega.{arith}
 use lib.ListN.{length, take, drop, get_or}
-use Rattle.model.specs.declared.Written.{Written}
-use Rattle.model.specs.declared.Written.TheVariants.{Done, Refused}
+use Rattle.std.specs.Prelude.{Option, Some, None, Ok, Err}
+use Rattle.model.specs.declared.Refusal.{Refusal}
+use Rattle.model.specs.Results.{Written, done_with}
 use Rattle.model.specs.Table.{Words}
 use Rattle.model.specs.Slots.{Slot, slot, slots_of}
 use Rattle.model.specs.Refusals.{written, table_after, list_after}
@@ -46,8 +47,8 @@ pairs-past ws i h = go i (slots_of ws) (omega (arith, pairs-count ws))
 same-batched : {a a' : Batch} {t t' l l' : Words} → a ≡ a' → t ≡ t' → l ≡ l' → ◌≡◌ {A = Batched} (record { answer = a; table = t; list = l }) (record { answer = a'; table = t'; list = l' })
 same-batched e f g = rw (e, f, g)
 
-same-answer : {m i i' a a' b b' c c' : ℕ} → i ≡ i' → a ≡ a' → b ≡ b' → c ≡ c'
-    → ◌≡◌ {A = Batch} (record { number = m; taken = i; stores = a; flushes = b; barriers = c }) (record { number = m; taken = i'; stores = a'; flushes = b'; barriers = c' })
+same-answer : {m : Option Refusal} {i i' a a' b b' c c' : ℕ} → i ≡ i' → a ≡ a' → b ≡ b' → c ≡ c'
+    → ◌≡◌ {A = Batch} (record { stop = m; taken = i; stores = a; flushes = b; barriers = c }) (record { stop = m; taken = i'; stores = a'; flushes = b'; barriers = c' })
 same-answer e f g h = rw (e, f, g, h)
 
 pub behind-none : (r : Batched) → behind 0 0 0 0 [] r ≡ r
@@ -65,21 +66,22 @@ module _ (n dock : ℕ) (s : Slot) (ss : List Slot) (list t : Words) where
   next w =
       let later = list_after (insertion_of n s) list dock t in
       elim w [
-        | Done a b c ↦
-            behind 1 a b c (take (2 * (a + b + c)) later) (batch n dock ss (drop (2 * (a + b + c)) later) (table_after (insertion_of n s) (length list) dock t))
-        | Refused m ↦ stopped m list t
+        | Ok w ↦
+            let filled = 2 * (w.stores + w.flushes + w.barriers) in
+            behind 1 w.stores w.flushes w.barriers (take filled later) (batch n dock ss (drop filled later) (table_after (insertion_of n s) (length list) dock t))
+        | Err r ↦ stopped (Some r) list t
       ]
 
-  pub batch-stops : (m : ℕ) → written (insertion_of n s) (length list) dock t ≡ Refused m → batch n dock (s ∷ ss) list t ≡ stopped m list t
+  pub batch-stops : (r : Refusal) → written (insertion_of n s) (length list) dock t ≡ Err r → batch n dock (s ∷ ss) list t ≡ stopped (Some r) list t
   unfolding batch
-  batch-stops m e = ap (λ (w : Written). next w) e
+  batch-stops r e = ap (λ (w : Written). next w) e
 
-  pub batch-goes : (a b c : ℕ) → written (insertion_of n s) (length list) dock t ≡ Done a b c
+  pub batch-goes : (a b c : ℕ) → written (insertion_of n s) (length list) dock t ≡ done_with a b c
       → batch n dock (s ∷ ss) list t
       ≡ (let later = list_after (insertion_of n s) list dock t in behind 1 a b c (take (2 * (a + b + c)) later) (batch n dock ss (drop (2 * (a + b + c)) later) (table_after (insertion_of n s) (length list) dock t)))
   unfolding batch
   batch-goes a b c e = ap (λ (w : Written). next w) e
 
-pub batch-none : (n dock : ℕ) (list t : Words) → batch n dock [] list t ≡ stopped 0 list t
+pub batch-none : (n dock : ℕ) (list t : Words) → batch n dock [] list t ≡ stopped None list t
 unfolding batch
 batch-none n dock list t = refl

@@ -18,7 +18,7 @@ pub fn put(words: &mut [u64], x: usize)
     ensures { words.new ≡ put words.old x }
 {
     let i = x / 64;
-    words[i] = words[i] | (1 << (x % 64));
+    words[i] |= 1 << (x % 64);
 }
 
 // Whether all 64 numbers of x's word are marked.
@@ -26,5 +26,5 @@ pub fn full(words: &[u64], x: usize) -> bool
     requires { x < 64 * length words.now }
     ensures { result ≡ full words.now x }
 {
-    words[x / 64] == 18446744073709551615
+    words[x / 64] == u64::MAX
 }

@@ -2,7 +2,7 @@
 use mathlib.Core.Path.{◌≡◌, refl, ap, sym, ◌∙◌}
 use mathlib.Core.Bool.{Bool, true, false, ◌&&◌}
 use mathlib.Core.List.{List, [], ◌∷◌}
-use Prim.Native.Nat.{ℕ, zero, suc, ◌+◌, ◌-◌, ◌*◌, ◌/◌, ◌≤◌, ◌<◌}
+use Prim.Native.Nat.{ℕ, zero, suc, ◌+◌, ◌-◌, ◌*◌, ◌≤◌, ◌<◌}
 use native.Mathlib.Numerals.{add-one}
 use native.Mathlib.Omega.{arith}
 use lib.Dec.{eqb, ltb}
@@ -81,19 +81,13 @@ module _ (n c : ℕ) (ws : Words) (i : ℕ) (h : i < c) (l : 2 * c ≤ length ws
 -- ---- one order, by its two words
 
 module _ (n a b : ℕ) where
-  pub flush-inside : a ≡ MARK → ltb b (n / 8) ≡ inside n (order_of a b)
-  flush-inside e = rw (eq-eqb a MARK e)
-
   pub flush-carry : (t : Words) → a ≡ MARK → t ≡ carry (order_of a b ∷ []) t
   unfolding carry
   flush-carry t e = rw (eq-eqb a MARK e, carry)
 
   -- r tells whether it is a barrier
   module _ (z : a ≡ MARK → ⊥) (r : Bool) (q : r ≡ (eqb a BAR && eqb b 0)) where
-    pub barrier-inside : r ≡ true → true ≡ inside n (order_of a b)
-    barrier-inside e = rw (ne_eqb a MARK z, sym q ∙ e)
-
-    pub store-inside : r ≡ false → ltb a n ≡ inside n (order_of a b)
+    store-inside : r ≡ false → ltb a n ≡ inside n (order_of a b)
     store-inside e = rw (ne_eqb a MARK z, sym q ∙ e)
 
     pub store-below : r ≡ false → inside n (order_of a b) ≡ true → a < n
@@ -106,10 +100,3 @@ module _ (n a b : ℕ) where
     pub store-carry : (t : Words) → r ≡ false → set t a b ≡ carry (order_of a b ∷ []) t
     unfolding carry
     store-carry t e = rw (ne_eqb a MARK z, sym q ∙ e, carry)
-
--- the two words of a barrier
-pub no-barrier : (a b : ℕ) → (a ≡ BAR → ⊥) → false ≡ (eqb a BAR && eqb b 0)
-no-barrier a b e = rw (ne_eqb a BAR e)
-
-pub by-second : (a b : ℕ) → a ≡ BAR → eqb b 0 ≡ (eqb a BAR && eqb b 0)
-by-second a b e = rw (eq-eqb a BAR e)

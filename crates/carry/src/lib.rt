@@ -5,16 +5,13 @@ ghost use Rattle.std.specs.Prelude.{◌≡◌, true, ◌&&◌, [], ◌∷◌, �
 ghost use Rattle.model.specs.Orders.{BAR, order_of, inside, all_inside, carry, carry_out, carried_out};
 ghost use Rattle.carry.specs.Firsts.{firsts};
 
-use model::{BAR, MARK, Outcome};
+use model::{BAR, MARK, Outcome, Refusal};
 
 // Whether these two words are a barrier.
 pub fn is_barrier(a: u64, b: u64) -> bool
     ensures { result ≡ (eqb a BAR && eqb b 0) }
 {
-    if a != BAR {
-        return false;
-    }
-    b == 0
+    a == BAR && b == 0
 }
 
 // Whether the order of these two words lies in a table of so many words.
@@ -24,10 +21,7 @@ fn is_inside(len: usize, a: u64, b: u64) -> bool
     if a == MARK {
         return b < (len / 8) as u64;
     }
-    if is_barrier(a, b) {
-        return true;
-    }
-    a < len as u64
+    is_barrier(a, b) || a < len as u64
 }
 
 // Whether the first c orders do.
@@ -35,12 +29,10 @@ pub fn all_inside(len: usize, list: &[u64], c: usize) -> bool
     requires { 2 * c ≤ length list.now }
     ensures { result ≡ all_inside len (firsts c list.now 0) }
 {
-    let mut i = 0;
-    while i < c {
+    for i in 0..c {
         if !is_inside(len, list[2 * i], list[2 * i + 1]) {
             return false;
         }
-        i += 1;
     }
     true
 }
@@ -66,10 +58,8 @@ fn apply_all(table: &mut [u64], list: &[u64], c: usize)
     requires list_value { all_inside (length table.old) (firsts c list.now 0) ≡ true }
     ensures { table.new ≡ carry (firsts c list.now 0) table.old }
 {
-    let mut i = 0;
-    while i < c {
+    for i in 0..c {
         apply_one(table, list[2 * i], list[2 * i + 1]);
-        i += 1;
     }
 }
 
@@ -78,16 +68,14 @@ pub fn carry_out(table: &mut [u64], list: &[u64], c: u64) -> Outcome
     ensures value { result ≡ carry_out c list.now table.old }
     ensures table_after { table.new ≡ carried_out c list.now table.old }
 {
-    if node::header(table) != 0 {
-        return Outcome::Refused(2);
-    }
+    node::header(table)?;
     if ((list.len() / 2) as u64) < c {
-        return Outcome::Refused(13);
+        return Err(Refusal::BadOrders);
     }
     let n = c as usize;
     if !all_inside(table.len(), list, n) {
-        return Outcome::Refused(13);
+        return Err(Refusal::BadOrders);
     }
     apply_all(table, list, n);
-    Outcome::Done
+    Ok(())
 }

@@ -1,17 +1,17 @@
 // The C entry points, on numbers and slices: include/catalogue.h has their prototypes. Here those of codes, making, searching, checking, listing
 // and carry-out; catalogue_writes, catalogue_sentinels and catalogue_tools have the others. One archive, libcatalogue.a, has them all (shell/build-library).
+// C calls each by its own name: bodies that differ in the inner call alone stay apart.
 #![tactic(auto)]
 
-ghost use Rattle.std.specs.Prelude.{◌≡◌, cond};
-ghost use Rattle.model.specs.Codes.{parse, print, parsed_number, key_or};
-ghost use Rattle.model.specs.Table.{making, made, outcome_number};
+ghost use Rattle.std.specs.Prelude.{◌≡◌};
+ghost use Rattle.model.specs.Results.{answer_number};
+ghost use Rattle.model.specs.Codes.{parse, print, characters_of, key_or};
+ghost use Rattle.model.specs.Table.{making, made};
 ghost use Rattle.model.specs.Orders.{carry_out, carried_out};
 ghost use Rattle.model.specs.Search.{search};
 ghost use Rattle.model.specs.Answers.{version, Looked, Showed};
 ghost use Rattle.model.specs.Statistics.{checking, report_out};
 ghost use Rattle.model.specs.Listing.{list, list_out};
-
-use model::{Listed, Parsed};
 
 // The version of the calls' shapes; the header's CATALOGUE_VERSION is the same.
 #[unsafe(no_mangle)]
@@ -24,34 +24,40 @@ pub extern "C" fn catalogue_version() -> u64
 // 0 and the code's key, or 1.
 #[unsafe(no_mangle)]
 pub extern "C" fn catalogue_parse(text: &[u8], key: &mut u64) -> u64
-    ensures value { result ≡ parsed_number (parse text.now) }
+    ensures value { result ≡ answer_number (parse text.now) }
     ensures key_after { key.new ≡ key_or (parse text.now) key.old }
 {
     match isrc::parse(text) {
-        Parsed::Key(k) => {
+        Ok(k) => {
             *key = k;
             0
         }
-        Parsed::Refused(n) => n as u64,
+        Err(no_code) => u64::from(no_code),
     }
 }
 
 // 0 and the key's code, or 1 and 12 zero bytes.
 #[unsafe(no_mangle)]
 pub extern "C" fn catalogue_print(key: u64, text: &mut [u8; 12]) -> u64
-    ensures value { result ≡ (print key).number }
-    ensures text_after { text.new ≡ (print key).text }
+    ensures value { result ≡ answer_number (print key) }
+    ensures text_after { text.new ≡ characters_of (print key) }
 {
-    let printed = isrc::print(key);
-    let t = printed.text;
-    *text = t;
-    printed.number as u64
+    match isrc::print(key) {
+        Ok(code) => {
+            *text = code;
+            0
+        }
+        Err(refusal) => {
+            *text = [0u8; 12];
+            u64::from(refusal)
+        }
+    }
 }
 
 // 0, or 2 or 17.
 #[unsafe(no_mangle)]
 pub extern "C" fn catalogue_make(table: &mut [u64], collections: u64) -> u64
-    ensures value { result ≡ outcome_number (making collections table.old) }
+    ensures value { result ≡ answer_number (making collections table.old) }
     ensures table_after { table.new ≡ made collections table.old }
 {
     answers::number_of(node::make(table, collections))
@@ -79,20 +85,10 @@ pub extern "C" fn catalogue_search(
 // 0 and the report of a sound table, or 2 or 4.
 #[unsafe(no_mangle)]
 pub extern "C" fn catalogue_check(table: &[u64], report: &mut [u64; 16]) -> u64
-    ensures value { result ≡ outcome_number (checking table.now) }
+    ensures value { result ≡ answer_number (checking table.now) }
     ensures report_after { report.new ≡ report_out table.now report.old }
 {
     answers::number_of(statistics::check(table, report))
-}
-
-// 1 for true, 0 for false.
-fn one_if(b: bool) -> u64
-    ensures { result ≡ cond b 1 0 }
-{
-    if b {
-        return 1;
-    }
-    0
 }
 
 // 0, the pairs written and 1 or 0 for more left, or 2, 17 or 4.
@@ -111,19 +107,19 @@ pub extern "C" fn catalogue_list(
     ensures out_after { out.new ≡ list_out collection table.now low high out.old }
 {
     match listing::list(table, collection, low, high, out) {
-        Listed::Pairs { count, more: left } => {
-            *pairs = count;
-            *more = one_if(left);
+        Ok(page) => {
+            *pairs = page.count;
+            *more = u64::from(page.more);
             0
         }
-        Listed::Refused(n) => n as u64,
+        Err(refusal) => u64::from(refusal),
     }
 }
 
 // 0, or 2 or 13.
 #[unsafe(no_mangle)]
 pub extern "C" fn catalogue_carry_out(table: &mut [u64], orders: &[u64], c: u64) -> u64
-    ensures value { result ≡ outcome_number (carry_out c orders.now table.old) }
+    ensures value { result ≡ answer_number (carry_out c orders.now table.old) }
     ensures table_after { table.new ≡ carried_out c orders.now table.old }
 {
     answers::number_of(carry::carry_out(table, orders, c))

@@ -1,8 +1,8 @@
-// The C entry points that take sentinels.
+// The C entry points that take sentinels. C calls each by its own name: bodies that differ in the inner call alone stay apart.
 #![tactic(auto)]
 
 ghost use Rattle.std.specs.Prelude.{◌≡◌, length};
-ghost use Rattle.model.specs.Table.{outcome_number};
+ghost use Rattle.model.specs.Results.{answer_number};
 ghost use Rattle.model.specs.Writes.{insertion, deletion, class_change, repair};
 ghost use Rattle.model.specs.Answers.{Looked, WroteWith};
 ghost use Rattle.model.specs.Sentinels.{work_out, worked_out, search_with};
@@ -10,7 +10,7 @@ ghost use Rattle.model.specs.Sentinels.{work_out, worked_out, search_with};
 // 0 and the sentinels worked out, or 2, 19 or 4.
 #[unsafe(no_mangle)]
 pub extern "C" fn catalogue_sentinels(table: &[u64], sentinels: &mut [u64]) -> u64
-    ensures value { result ≡ outcome_number (work_out (length sentinels.old) table.now) }
+    ensures value { result ≡ answer_number (work_out (length sentinels.old) table.now) }
     ensures sentinels_after { sentinels.new ≡ worked_out sentinels.old table.now }
 {
     answers::number_of(sentinels::work_out(table, sentinels))

@@ -1,17 +1,18 @@
-// The C entry points of the tools: packing, salvage, the judge, the short scripts, wear figures.
+// The C entry points of the tools: packing, salvage, the judge, the short scripts, wear figures. C calls each by its own name: bodies
+// that differ in the inner call alone stay apart.
 #![tactic(auto)]
 
 ghost use Rattle.std.specs.Prelude.{◌≡◌, length};
-ghost use Rattle.model.specs.Table.{outcome_number};
+ghost use Rattle.model.specs.Results.{answer_number};
 ghost use Rattle.model.specs.Writes.{insertion, deletion};
 ghost use Rattle.model.specs.Answers.{Rebuilt, Ruled, Wore};
 ghost use Rattle.model.specs.Salvage.{salvage, salvage_out, salvage_report};
 ghost use Rattle.model.specs.Judge.{judge, judge_out};
-ghost use Rattle.model.specs.Scripts.{script_answer, script_out, script_number, ranked_number, rank_or};
+ghost use Rattle.model.specs.Scripts.{script_answer, script_out, script_number, rank_or};
 ghost use Rattle.model.specs.Wear.{worn, lines_after, pairs_after};
 ghost use Rattle.model.specs.Pack.{packing, pack_out};
 
-use model::{Ranked, Salvaged, Verdict, Worn};
+use model::Verdict;
 
 // 0, or 2, 17, 10 or 25.
 #[unsafe(no_mangle)]
@@ -21,7 +22,7 @@ pub extern "C" fn catalogue_pack(
     pairs: &[u64],
     loans: &[u64],
 ) -> u64
-    ensures value { result ≡ outcome_number (packing collections pairs.now loans.now table.old) }
+    ensures value { result ≡ answer_number (packing collections pairs.now loans.now table.old) }
     ensures table_after { table.new ≡ pack_out collections pairs.now loans.now table.old }
 {
     answers::number_of(packing::pack_table(table, collections, pairs, loans))
@@ -41,11 +42,11 @@ pub extern "C" fn catalogue_salvage(
     ensures report_after { report.new ≡ salvage_report table.now (length out.old) report.old }
 {
     match salvage::salvage(table, out, report) {
-        Salvaged::Dropped(count) => {
+        Ok(count) => {
             *dropped = count;
             0
         }
-        Salvaged::Refused(n) => n as u64,
+        Err(refusal) => u64::from(refusal),
     }
 }
 
@@ -54,12 +55,12 @@ fn put_count(verdict: Verdict, count: &mut u64) -> u64
     ensures { Ruled verdict result count.old count.new }
 {
     match verdict {
-        Verdict::Yes => 0,
-        Verdict::No(c) => {
+        Ok(None) => 0,
+        Ok(Some(c)) => {
             *count = c;
             254
         }
-        Verdict::Refused(n) => n as u64,
+        Err(refusal) => u64::from(refusal),
     }
 }
 
@@ -103,7 +104,7 @@ pub extern "C" fn catalogue_judge_delete(
 // 0 and the script with this number, as a length and four actions, or 22.
 #[unsafe(no_mangle)]
 pub extern "C" fn catalogue_script(number: u64, script: &mut [u64; 5]) -> u64
-    ensures value { result ≡ outcome_number (script_answer number) }
+    ensures value { result ≡ answer_number (script_answer number) }
     ensures script_after { script.new ≡ script_out number script.old }
 {
     answers::number_of(short_scripts::script_of(number, script))
@@ -112,16 +113,15 @@ pub extern "C" fn catalogue_script(number: u64, script: &mut [u64; 5]) -> u64
 // 0 and the number of a script, or 23.
 #[unsafe(no_mangle)]
 pub extern "C" fn catalogue_script_number(script: &[u64; 5], number: &mut u64) -> u64
-    ensures value { result ≡ ranked_number (script_number script.now) }
+    ensures value { result ≡ answer_number (script_number script.now) }
     ensures number_after { number.new ≡ rank_or (script_number script.now) number.old }
 {
-    let words = *script;
-    match short_scripts::number_of(words) {
-        Ranked::Number(n) => {
+    match short_scripts::number_of(*script) {
+        Ok(n) => {
             *number = n;
             0
         }
-        Ranked::Refused(n) => n as u64,
+        Err(refusal) => u64::from(refusal),
     }
 }
 
@@ -144,18 +144,13 @@ pub extern "C" fn catalogue_wear(
     ensures extents_after { extents.new ≡ pairs_after orders.now lines.old extents.old table.now }
 {
     match wear::wear(table, orders, lines, extents) {
-        Worn::Figures {
-            total: t,
-            largest: l,
-            first_line: f,
-            pairs: p,
-        } => {
-            *total = t;
-            *largest = l;
-            *first_line = f;
-            *pairs = p;
+        Ok(figures) => {
+            *total = figures.total;
+            *largest = figures.largest;
+            *first_line = figures.first_line;
+            *pairs = figures.pairs;
             0
         }
-        Worn::Refused(n) => n as u64,
+        Err(refusal) => u64::from(refusal),
     }
 }

@@ -1,11 +1,12 @@
-// The C entry points that change a table.
+// The C entry points that change a table. C calls each by its own name: bodies that differ in the inner call alone stay apart.
 #![tactic(auto)]
 
 ghost use Rattle.std.specs.Prelude.{◌≡◌};
+ghost use Rattle.model.specs.Numbers.{stop_number};
 ghost use Rattle.model.specs.Writes.{insertion, deletion, class_change, repair};
 ghost use Rattle.model.specs.Answers.{Wrote, puts, Summed, WroteMany};
 
-use model::Batch;
+use model::{Batch, Refusal};
 
 // 0 and the three counts, or the refusal number; likewise below.
 #[unsafe(no_mangle)]
@@ -29,14 +30,21 @@ pub extern "C" fn catalogue_insert(
     answers::put_counts(answer, stores, flushes, barriers)
 }
 
+// The number of the refusal that stopped a batch; 0 for none.
+fn stop_number(stop: Option<Refusal>) -> u64
+    ensures { result ≡ stop_number stop }
+{
+    match stop {
+        Some(refusal) => u64::from(refusal),
+        None => 0,
+    }
+}
+
 // Whether a batch does its work: a pair was taken, or none was refused.
 fn puts(answer: Batch) -> bool
     ensures { result ≡ puts answer }
 {
-    if answer.number == 0 {
-        return true;
-    }
-    0 < answer.taken
+    stop_number(answer.stop) == 0 || 0 < answer.taken
 }
 
 // 0 with a batch's counts and the number that stopped it in the lent words, or the number that refused its first pair.
@@ -51,7 +59,7 @@ fn put_sums(
     ensures { Summed answer result taken.old taken.new stop.old stop.new
         stores.old stores.new flushes.old flushes.new barriers.old barriers.new }
 {
-    let number = answer.number as u64;
+    let number = stop_number(answer.stop);
     if !puts(answer) {
         return number;
     }

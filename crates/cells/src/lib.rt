@@ -32,17 +32,12 @@ pub fn cell_for(cells: &[u64], number: u64) -> usize
 {
     let places = cells.len();
     let mut at = home(places, number);
-    let mut left = places;
-    while 0 < left {
+    for _ in 0..places {
         let held = cells[at];
-        if held == number {
-            return at;
-        }
-        if held == 0 {
+        if held == number || held == 0 {
             return at;
         }
         at = numbers::next_cell(places, at);
-        left -= 1;
     }
     places
 }
@@ -54,10 +49,7 @@ pub fn holds(cells: &[u64], number: u64) -> bool
     ensures { result ≡ holds cells.now number }
 {
     let at = cell_for(cells, number);
-    if cells.len() <= at {
-        return false;
-    }
-    cells[at] == number
+    at < cells.len() && cells[at] == number
 }
 
 // Enters a number that they do not hold.
@@ -96,15 +88,13 @@ fn close_up(cells: &mut [u64], first: usize)
     let places = cells.len();
     let mut gap = first;
     let mut at = numbers::next_cell(places, first);
-    let mut left = places;
-    while 0 < left {
+    for _ in 0..places {
         if cells[at] == 0 {
             cells[gap] = 0;
             return;
         }
         gap = move_in(cells, gap, at);
         at = numbers::next_cell(places, at);
-        left -= 1;
     }
     cells[gap] = 0;
 }

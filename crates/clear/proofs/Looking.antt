@@ -18,7 +18,7 @@ use Rattle.walk_laws.specs.Walk.{ways}
 use Rattle.walk_laws.specs.Chain.{along, first_leaf}
 use Rattle.walk_laws.proofs.ChainLaw.{along-none, along-more}
 use Rattle.slots.specs.declared.Ways.{Ways}
-use Rattle.slots.specs.Gathered.{span, slots_in, ways_from}
+use Rattle.slots.specs.Gathered.{slots_in, ways_from}
 use Rattle.slots.proofs.Kept.{ways-end, ways-next}
 use Rattle.leaves.proofs.HitLaws.{kept-ways}
 use Rattle.leaves.proofs.FoundLaws.{whole-is}
@@ -95,19 +95,6 @@ module _ {cs : Words} {w : Ways} {b : Bool} {i : ℕ} (k : Looking cs w b i) whe
 
     pub look-next : y ≡ true → Looking cs w b (i + 1)
     look-next n = record { few = k.few; comes-to = ap (λ (c : Bool). c && all (off_pair cs) (ways_from w (i + 1))) (sym n) ∙ look-step }
-
--- the keys do not matter
-span-pointers : (cs : Words) (ks ps : List ℕ) (i m : ℕ) → all (off_pair cs) (span [] ps i m) ≡ all (off_pair cs) (span ks ps i m)
-unfolding span all
-span-pointers cs ks ps i zero = refl
-span-pointers cs ks ps i (suc m) = ap (λ (b : Bool). off cs (recording_of (get_or ps i 0)) && b) (span-pointers cs ks ps (suc i) m)
-
-abbrev pub keyless : List ℕ → ℕ → Ways
-keyless ps m = record { count = m; keys = []; pointers = ps }
-
-pub same-pointers : (cs : Words) (w : Ways) (i : ℕ) → all (off_pair cs) (ways_from (keyless w.pointers w.count) i) ≡ all (off_pair cs) (ways_from w i)
-unfolding ways_from
-same-pointers cs w i = span-pointers cs w.keys w.pointers i (w.count - i)
 
 -- ---- the leaves, one by one
 

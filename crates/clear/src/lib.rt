@@ -2,7 +2,7 @@
 // then the leaves are passed once.
 #![tactic(auto)]
 
-ghost use Rattle.std.specs.Prelude.{◌≡◌, true, [], ◌*◌, ◌-◌, ◌≤◌, ◌<◌, length};
+ghost use Rattle.std.specs.Prelude.{◌≡◌, true, [], ◌*◌, ◌-◌, ◌≤◌, length};
 ghost use Rattle.model.specs.Slots.{view_from};
 ghost use Rattle.model.specs.Reached.{mapping};
 ghost use Rattle.model.specs.SoundTest.{all, sound_view};
@@ -19,8 +19,7 @@ fn is_off(cells: &[u64], number: u64) -> bool
     ensures { result ≡ off cells.now number }
 {
     let mut at = (numbers::mixed(number) % numbers::CELLS as u64) as usize;
-    let mut left = numbers::TRIES;
-    while 0 < left {
+    for _ in 0..numbers::TRIES {
         let held = cells[at];
         if held == number {
             return false;
@@ -29,7 +28,6 @@ fn is_off(cells: &[u64], number: u64) -> bool
             return true;
         }
         at = numbers::next_cell(numbers::CELLS, at);
-        left -= 1;
     }
     false
 }
@@ -40,14 +38,10 @@ fn leaf_off(cells: &[u64], w: Ways) -> bool
     requires count_bound { w.count ≤ 13 }
     ensures { result ≡ all (off_pair cells.now) (ways_from w 1) }
 {
-    let count = w.count;
-    let pointers = w.pointers;
-    let mut i = 1;
-    while i < count {
-        if !is_off(cells, pointer::recording(pointers[i])) {
+    for i in 1..w.count {
+        if !is_off(cells, pointer::recording(w.pointers[i])) {
             return false;
         }
-        i += 1;
     }
     true
 }
@@ -58,9 +52,9 @@ fn leaves_off(cells: &[u64], table: &[u64], root: u64) -> bool
     ensures { result ≡ all (off_pair cells.now) (tree_pairs (view_from table.now root)) }
 {
     let mut leaf = leaves::first_leaf(table, root);
-    let mut left = leaves::word_at(table, 2);
-    while leaf != 0 {
-        if left == 0 {
+    let nodes = leaves::word_at(table, 2);
+    for _ in 0..nodes {
+        if leaf == 0 {
             return true;
         }
         let w = leaves::ways_of(table, leaf);
@@ -68,7 +62,6 @@ fn leaves_off(cells: &[u64], table: &[u64], root: u64) -> bool
             return false;
         }
         leaf = node::word(table, leaf, 1);
-        left -= 1;
     }
     true
 }
@@ -83,9 +76,7 @@ fn enter_pairs(cells: &mut [u64], pairs: &[u64], from: usize, to: usize) -> bool
     ensures holds_2 { result ≡ true → Holds cells.new (recordings_of pairs.now from to) }
     ensures cells_len { length cells.new ≡ CELLS }
 {
-    let mut i = to;
-    while from < i {
-        i -= 1;
+    for i in (from..to).rev() {
         let number = pointer::recording(pairs[2 * i + 1]);
         let entry = numbers::enter(cells, numbers::TRIES, number);
         match entry {
@@ -106,8 +97,5 @@ pub fn are_new(table: &[u64], root: u64, pairs: &[u64], from: usize, to: usize) 
     ensures new { result ≡ true → New (mapping (view_from table.now root)) (recordings_of pairs.now from to) }
 {
     let mut cells = [0u64; numbers::CELLS];
-    if !enter_pairs(&mut cells, pairs, from, to) {
-        return false;
-    }
-    leaves_off(&cells, table, root)
+    enter_pairs(&mut cells, pairs, from, to) && leaves_off(&cells, table, root)
 }

@@ -5,7 +5,7 @@ use mathlib.Core.List.{List, [], ◌∷◌, ◌++◌}
 use Prim.Native.Nat.{ℕ, suc, ◌-◌, ◌≤◌, ◌<◌}
 use native.Mathlib.Omega.{arith}
 use lib.Dec.{eqb}
-use borrow.Author.Tests.{eq-eqb, ne_eqb, eqb-true, eqb-false, leb-true, leb-false, le-leb, lt-leb}
+use borrow.Author.Tests.{eqb-true, eqb-false, leb-true, leb-false, le-leb, lt-leb}
 use Rattle.model.specs.Table.{Words, at, nodes}
 use Rattle.model.specs.Slots.{Slot, View, node_view, view_from, view}
 use Rattle.model.specs.Search.{below}
@@ -48,15 +48,7 @@ module _ (c : Cursor) where
   at-end-of h = le-leb c.ways.count c.at h
 
   module _ (k : ℕ) where
-    pub no-leaf : at_end c ≡ true → c.next ≡ 0 → false ≡ goes_on k c
-    unfolding goes_on
-    no-leaf e z = rw (e, eq-eqb c.next 0 z)
-
-    pub by-left : at_end c ≡ true → (c.next ≡ 0 → ⊥) → not (eqb c.left 0) ≡ goes_on k c
-    unfolding goes_on
-    by-left e z = rw (e, ne_eqb c.next 0 z)
-
-    pub by-key : at_end c ≡ false → eqb (pair_at c).key k ≡ goes_on k c
+    by-key : at_end c ≡ false → eqb (pair_at c).key k ≡ goes_on k c
     unfolding goes_on
     by-key e = rw e
 
@@ -134,20 +126,6 @@ module _ (v : View) (k : ℕ) (c : Cursor) where
   at-none g h = ap (leave k) (pairs-end v c k g h)
 
 -- ---- two places side by side
-
-module _ (a b : Cursor) where
-  pub pair-none : at_end b ≡ true → false ≡ same_pair a b
-  unfolding same_pair
-  pair-none e = rw e
-
-  module _ (e : at_end b ≡ false) where
-    pub pair-keys : ((pair_at a).key ≡ (pair_at b).key → ⊥) → false ≡ same_pair a b
-    unfolding same_pair
-    pair-keys z = rw (e, ne_eqb (pair_at a).key (pair_at b).key z)
-
-    pub pair-pointers : (pair_at a).key ≡ (pair_at b).key → eqb (pair_at a).pointer (pair_at b).pointer ≡ same_pair a b
-    unfolding same_pair
-    pair-pointers q = rw (e, eq-eqb (pair_at a).key (pair_at b).key q)
 
 -- from the first pairs of two trees on
 pub compared-all : (v w : View) (k : ℕ) (a a₀ b b₀ : Cursor) {ps qs : List Slot} → leave k (pairs_at v a) ≡ leave k (pairs_at v a₀) → pairs_at v a₀ ≡ ps → leave k (pairs_at w b) ≡ leave k (pairs_at w b₀)

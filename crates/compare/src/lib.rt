@@ -34,7 +34,7 @@ fn start(table: &[u64], root: u64) -> Cursor
         pointers: [0u64; 13],
     };
     Cursor {
-        ways: ways,
+        ways,
         at: 0,
         next: leaves::first_leaf(table, root),
         left: leaves::word_at(table, 2),
@@ -42,28 +42,24 @@ fn start(table: &[u64], root: u64) -> Cursor
 }
 
 // Whether the leaf has no pair more.
+#[tactic(auto, unfolding(crate::specs::Cursors::at_end))]
 fn at_end(c: Cursor) -> bool
     ensures { result ≡ at_end c }
 {
-    let w = c.ways;
-    w.count <= c.at
+    c.ways.count <= c.at
 }
 
 // Whether to go on: the leaf has no pair more and another leaf follows, or the pair has this key.
+#[tactic(auto, unfolding(crate::specs::Cursors::goes_on, crate::specs::Cursors::at_end))]
 fn goes_on(c: Cursor, key: u64) -> bool
     requires { c.ways.count ≤ 13 }
     ensures { result ≡ goes_on key c }
 {
     if at_end(c) {
-        if c.next == 0 {
-            return false;
-        }
-        return c.left != 0;
+        c.next != 0 && c.left != 0
+    } else {
+        c.ways.keys[c.at] == key
     }
-    let w = c.ways;
-    let keys = w.keys;
-    let at = c.at;
-    keys[at] == key
 }
 
 // One pair further.
@@ -72,13 +68,7 @@ fn past(c: Cursor) -> Cursor
     requires count_bound { c.ways.count ≤ 13 }
     ensures { result ≡ past c }
 {
-    let w = c.ways;
-    Cursor {
-        ways: w,
-        at: c.at + 1,
-        next: c.next,
-        left: c.left,
-    }
+    Cursor { at: c.at + 1, ..c }
 }
 
 // The next leaf, if the present one has no pair more.
@@ -88,12 +78,10 @@ fn load(table: &[u64], c: Cursor) -> Cursor
     ensures result_value { pairs_at (view table.now) result ≡ pairs_at (view table.now) c }
     ensures count_bound { (result.ways.count ≤ 13) × (distance result < distance c) }
 {
-    let n = c.next;
-    let w = leaves::ways_of(table, n);
     Cursor {
-        ways: w,
+        ways: leaves::ways_of(table, c.next),
         at: 1,
-        next: node::word(table, n, 1),
+        next: node::word(table, c.next, 1),
         left: c.left - 1,
     }
 }
@@ -105,6 +93,7 @@ fn seek(table: &[u64], from: Cursor, key: u64) -> Cursor
     ensures count_bound { (result.ways.count ≤ 13) × (goes_on key result ≡ false) × (distance result ≤ distance from) }
 {
     let mut c = from;
+    // A turn goes to the next leaf or the next slot: no count says how many.
     while goes_on(c, key) {
         if at_end(c) {
             c = load(table, c);
@@ -116,25 +105,14 @@ fn seek(table: &[u64], from: Cursor, key: u64) -> Cursor
 }
 
 // Whether two places have the same pair, if the first has one.
+#[tactic(auto, unfolding(crate::specs::Cursors::same_pair, crate::specs::Cursors::at_end))]
 fn same_pair(a: Cursor, b: Cursor) -> bool
     requires { (a.at < a.ways.count) × (a.ways.count ≤ 13) × (b.ways.count ≤ 13) }
     ensures { result ≡ same_pair a b }
 {
-    if at_end(b) {
-        return false;
-    }
-    let v = a.ways;
-    let w = b.ways;
-    let i = a.at;
-    let j = b.at;
-    let first = v.keys;
-    let second = w.keys;
-    if first[i] != second[j] {
-        return false;
-    }
-    let one = v.pointers;
-    let two = w.pointers;
-    one[i] == two[j]
+    !at_end(b)
+        && a.ways.keys[a.at] == b.ways.keys[b.at]
+        && a.ways.pointers[a.at] == b.ways.pointers[b.at]
 }
 
 // Whether two trees have the same pairs, but for one key.
@@ -143,6 +121,7 @@ fn same_but(image: &[u64], top: u64, table: &[u64], root: u64, key: u64) -> bool
 {
     let mut a = seek(image, start(image, top), key);
     let mut b = seek(table, start(table, root), key);
+    // Two cursors that go on together, each to its next pair.
     while !at_end(a) {
         if !same_pair(a, b) {
             return false;
@@ -162,9 +141,7 @@ pub fn held(table: &[u64], root: u64, key: u64) -> u64
 {
     let leaf = reach::standing(table, root, 0, key);
     let x = node::read(table, leaf);
-    let slots = x.slots;
-    let seen = slots::scan(slots, x.left, key, 12);
-    seen.held
+    slots::scan(x.slots, x.left, key, 12).held
 }
 
 // Whether the map of an image's tree is the table's or, in the tree that is to change, the new one.
@@ -183,6 +160,7 @@ pub fn tree_ok(
 {
     let after = held(image, top, key);
     if after != held(table, root, key) {
+        // Two tests, as the definition has them; one joined condition is no plainer.
         if !own {
             return false;
         }

@@ -1,6 +1,6 @@
 -- Many insertions in one call, whole or cut: a batch is the insertions of its first pairs, so demand 3 holds of histories with batches.
 use mathlib.Core.Path.{◌≡◌, refl, sym, ap, ◌∙◌}
-use mathlib.Core.Logic.{◌≢◌}
+use mathlib.Core.Logic.{◌≢◌, inl, inr}
 use mathlib.Core.Bool.{Bool, true, false, cond}
 use mathlib.Core.List.{List, [], ◌∷◌, ◌++◌, map, append_assoc}
 use mathlib.Core.Option
@@ -11,7 +11,12 @@ use lib.Dec.{eqb, leb}
 use lib.ListN.{length, take, drop, length-append, length-drop}
 use lib.Seq.{take-length, take-append-add, take-append-le, take_at, drop_at, drop-drop}
 use borrow.Author.Tests.{leb-true, leb-false}
-use Rattle.model.specs.declared.Written.TheVariants.{Done}
+use Rattle.std.specs.Prelude as rust
+use Rattle.std.specs.Prelude.{Some, None}
+use Rattle.model.specs.declared.Refusal.{Refusal}
+use Rattle.model.specs.Numbers.{refusal_number, refusal_of, stop_number}
+use Rattle.model.proofs.Numbers.{Numbered, refusal-numbered}
+use Rattle.model.specs.Results.{done_with}
 use Rattle.model.specs.Table.{Words, at, line, nodes}
 use Rattle.model.specs.Slots.{Slot, recording, class, pointer_of}
 use Rattle.model.specs.Reached.{flat, Maps, maps_of}
@@ -220,7 +225,7 @@ module _ (n dock : ℕ) (s : Slot) (ss : List Slot) (list t : Words) where
     abbrev filled : ℕ
     filled = 2 * (store_count own + flush_count own + barrier_count own)
 
-    is-written : written x (length list) dock t ≡ Done (store_count own) (flush_count own) (barrier_count own)
+    is-written : written x (length list) dock t ≡ done_with (store_count own) (flush_count own) (barrier_count own)
     unfolding written
     is-written = rw ok
 
@@ -287,9 +292,16 @@ module _ (n dock : ℕ) (s : Slot) (ss : List Slot) (list t : Words) where
 
   -- it is refused
   module _ (k : ℕ) (not_taken : refusal (insertion_of n s) (length list) dock t ≡ suc k) where
-    stops-here : batch n dock (s ∷ ss) list t ≡ stopped (suc k) list t
+    stops-here : batch n dock (s ∷ ss) list t ≡ stopped (Some (refusal_of (suc k))) list t
     unfolding written
-    stops-here = batch-stops n dock s ss list t (suc k) (rw not_taken)
+    stops-here = batch-stops n dock s ss list t (refusal_of (suc k)) (rw not_taken)
+
+    number-here : refusal_number (refusal_of (suc k)) ≡ suc k
+    number-here = go (rw not_taken at (refusal-numbered (insertion_of n s) (length list) dock t))
+      where
+        go : Numbered (suc k) → refusal_number (refusal_of (suc k)) ≡ suc k
+        go (inl z) = absurd (omega arith)
+        go (inr e) = e
 
     no-orders : all_orders n dock (s ∷ ss) list t ≡ []
     unfolding batch_stores flat
@@ -354,12 +366,12 @@ record Facts (n dock : ℕ) (ss : List Slot) (list t : Words) (r : Batched) (os 
   gives : carry os t ≡ r.table
   fine : sound r.table ≡ true
   enters : maps_of r.table ≡ on_map n (enter_all (take r.answer.taken ss)) (maps_of t)
-  stops : StopsAt n dock (length list - 2 * batch_answered r) r.answer.number r.table (drop r.answer.taken ss)
+  stops : StopsAt n dock (length list - 2 * batch_answered r) (stop_number r.answer.stop) r.table (drop r.answer.taken ss)
 
 -- nothing was taken
-facts-none : (n dock : ℕ) (ss : List Slot) (list t : Words) (k : ℕ) → sound t ≡ true → StopsAt n dock (length list) k t ss → Facts n dock ss list t (stopped k list t) []
+facts-none : (n dock : ℕ) (ss : List Slot) (list t : Words) (stop : rust.Option Refusal) → sound t ≡ true → StopsAt n dock (length list) (stop_number stop) t ss → Facts n dock ss list t (stopped stop list t) []
 unfolding store_count flush_count barrier_count all_inside carry
-facts-none n dock ss list t k s e = record {
+facts-none n dock ss list t stop s e = record {
   list-is = sym (list_with-nil list);
   stores-are = refl;
   flushes-are = refl;
@@ -368,7 +380,7 @@ facts-none n dock ss list t k s e = record {
   gives = refl;
   fine = s;
   enters = sym (on-map-id n (enter_all []) (maps_of t) (λ ps. refl));
-  stops = stops-same n dock (length list) _ k t ss ss (omega arith) refl e;
+  stops = stops-same n dock (length list) _ (stop_number stop) t ss ss (omega arith) refl e;
 }
 
 -- one pair first
@@ -395,7 +407,7 @@ facts-first n dock s ss list t r os fine ok v =
           let words : length (drop (2 * length own) list) - 2 * batch_answered r ≡ length list - 2 * batch_answered (behind 1 (store_count own) (flush_count own) (barrier_count own) (encode own) r) =
           omega (arith, length-drop (2 * length own) list, counts-length own) in
           let one : suc r.answer.taken ≡ 1 + r.answer.taken = omega arith in
-          stops-same n dock _ _ r.answer.number r.table (drop r.answer.taken ss) _ words (ap (λ (k : ℕ). drop k (s ∷ ss)) one) v.stops;
+          stops-same n dock _ _ (stop_number r.answer.stop) r.table (drop r.answer.taken ss) _ words (ap (λ (k : ℕ). drop k (s ∷ ss)) one) v.stops;
     }
 
 none-orders : (n dock : ℕ) (list t : Words) → all_orders n dock [] list t ≡ []
@@ -403,14 +415,17 @@ unfolding batch_stores flat
 none-orders n dock list t = barred-nil dock
 
 facts : (n dock : ℕ) (ss : List Slot) (list t : Words) → sound t ≡ true → Facts n dock ss list t (batch n dock ss list t) (all_orders n dock ss list t)
-facts n dock [] list t fine = rw (batch-none n dock list t, none-orders n dock list t) (facts-none n dock [] list t 0 fine refl)
+facts n dock [] list t fine = rw (batch-none n dock list t, none-orders n dock list t) (facts-none n dock [] list t None fine refl)
 facts n dock (s ∷ ss) list t fine = go (refusal (insertion_of n s) (length list) dock t) refl (facts n dock ss)
   where
     go : (k : ℕ) → refusal (insertion_of n s) (length list) dock t ≡ k
         → ((list t : Words) → sound t ≡ true → Facts n dock ss list t (batch n dock ss list t) (all_orders n dock ss list t))
         → Facts n dock (s ∷ ss) list t (batch n dock (s ∷ ss) list t) (all_orders n dock (s ∷ ss) list t)
     go zero ok ih = rw (goes n dock s ss list t ok, joined n dock s ss list t ok) (facts-first n dock s ss list t _ _ fine ok (ih _ _ (sound₁ n dock s ss list t ok fine)))
-    go (suc k) f ih = rw (stops-here n dock s ss list t k f, no-orders n dock s ss list t k f) (facts-none n dock (s ∷ ss) list t (suc k) fine ((λ e. omega arith), sym f))
+    go (suc k) f ih =
+        let e = number-here n dock s ss list t k f in
+        rw (stops-here n dock s ss list t k f, no-orders n dock s ss list t k f)
+        (facts-none n dock (s ∷ ss) list t (Some (refusal_of (suc k))) fine ((λ z. omega (arith, e, z)), e ∙ sym f))
 
 -- ---- a batch whole, and cut
 
@@ -538,7 +553,7 @@ module _ (t : Words) (q : Sound t) (h : History) (p : MayFrom (both t) h) (n doc
   -- the insertions fed onto the history; what the batch comes to, and its number, by its fate
   singles-by : (f : Fate) (s' : State) (w : Ways n dock ss now.working f r.answer.taken s') → s' ≡ after_batch f now r
       → (maps_of s'.working ≡ ledger_from (demand3-from t q).0 (nodes t) (both t) (maps_of t) (w.events ++ h)
-      → StopsBy f n (length list - 2 * batch_answered r) dock r.answer.number (ledger_from (demand3-from t q).0 (nodes t) (both t) (maps_of t) (w.events ++ h)) (drop r.answer.taken ss))
+      → StopsBy f n (length list - 2 * batch_answered r) dock (stop_number r.answer.stop) (ledger_from (demand3-from t q).0 (nodes t) (both t) (maps_of t) (w.events ++ h)) (drop r.answer.taken ss))
       → Singles (demand3-from t q).0 t h n dock ss list r f
   singles-by f s' w e g =
       let es = w.events in
@@ -559,7 +574,7 @@ module _ (t : Words) (q : Sound t) (h : History) (p : MayFrom (both t) h) (n doc
         stops = g (ap (λ (u : State). maps_of u.working) (sym to) ∙ (along t q (es ++ h) may).2);
       }
 
-  stopped-by : (left : List Slot) (words : ℕ) (ps : Ledger) → maps_of r.table ≡ ps → StopsAt n dock words r.answer.number r.table left → Stops n words dock r.answer.number ps left
+  stopped-by : (left : List Slot) (words : ℕ) (ps : Ledger) → maps_of r.table ≡ ps → StopsAt n dock words (stop_number r.answer.stop) r.table left → Stops n words dock (stop_number r.answer.stop) ps left
   stopped-by [] words ps e u = u
   stopped-by (s ∷ left) words ps e u = (u.0, rw (u.1, ← e) (number-in-ledger (insertion_of n s) words dock r.table known.fine))
 

@@ -14,13 +14,13 @@ use lib.Dec.{eqb}
 use borrow.Author.Tests.{eqb-true}
 use lib.ListN.{length, take, set}
 use lib.Seq.{get_or-set_other}
-use Rattle.model.specs.declared.Written.{Written}
-use Rattle.model.specs.declared.Written.TheVariants.{Done, Refused}
+use Rattle.model.proofs.Numbers.{answered-number, itself, refusal-numbered, slice-numbered}
+use Rattle.model.specs.Results.{done_with, answer_number}
 use Rattle.model.specs.Table.{MARK, Words, nodes, node_start, empty, empty_of}
 use Rattle.model.specs.Slots.{Slot}
 use Rattle.model.specs.Orders.{Store, Order, apply, orders, barred, decode, store_count, flush_count, barrier_count, list_with, carry_number, carried_out}
 use Rattle.model.specs.Cuts.{CutImage}
-use Rattle.model.specs.Refusals.{unless_refused, written_number, orders_answered, orders_of, seventeen_in, refusal, written, table_after, list_after}
+use Rattle.model.specs.Refusals.{unless_refused, orders_answered, orders_of, seventeen_in, refusal, written, table_after, list_after}
 use Rattle.model.specs.Ledger.{fed_of, End, cut_after, taken, change, Ledger, no_pairs, list_in, answer_from, lacking, pairs_of, other_slice, ledger_refusal, feed}
 use Rattle.model.specs.Sentinels.{slice_number, refusal_with, written_with, table_with, orders_with, search_with}
 use Rattle.model.specs.Demand3.{Fate, whole, cut, State, both, Event, History, refusal_by, written_by, table_by, orders_by, number_of, answered, list_of, event_orders, left_by, after_fate, after_refusal, step}
@@ -123,24 +123,19 @@ not-with zero n done left z = not-done n done left z
 not-with (suc r) n done left z = refl
 
 -- a call answers its number
-unless-number : (n m : ℕ) (done : Written) → written_number done ≡ m → written_number (unless_refused n done (Refused n)) ≡ unless_refused n m n
-unless-number zero m done e = e
-unless-number (suc n) m done e = refl
-
-plain-answered : (x : Call) (words dock : ℕ) (t : Words) → written_number (written x words dock t) ≡ refusal x words dock t
+plain-answered : (x : Call) (words dock : ℕ) (t : Words) → answer_number (written x words dock t) ≡ refusal x words dock t
 unfolding written
 plain-answered x words dock t =
-    let os = orders_of x dock t in unless-number (refusal x words dock t) 0 (Done (store_count os) (flush_count os) (barrier_count os)) refl ∙ itself (refusal x words dock t)
-  where
-    itself : (n : ℕ) → unless_refused n 0 n ≡ n
-    itself zero = refl
-    itself (suc n) = refl
+    let n = refusal x words dock t in
+    let os = orders_of x dock t in
+    answered-number n 0 (done_with (store_count os) (flush_count os) (barrier_count os)) (refusal-numbered x words dock t) refl ∙ itself n
 
-number-answered : (o : Option Words) (x : Call) (words dock : ℕ) (t : Words) → written_number (written_by o x words dock t) ≡ refusal_by o x words dock t
+number-answered : (o : Option Words) (x : Call) (words dock : ℕ) (t : Words) → answer_number (written_by o x words dock t) ≡ refusal_by o x words dock t
 unfolding written_with refusal_with
 number-answered none x words dock t = plain-answered x words dock t
 number-answered (some ws) x words dock t =
-    unless-number (slice_number (seventeen_in x t) (length ws) t) (refusal x words dock t) (written x words dock t) (plain-answered x words dock t)
+    let n = slice_number (seventeen_in x t) (length ws) t in
+    answered-number n (refusal x words dock t) (written x words dock t) (slice-numbered (seventeen_in x t) (length ws) t) (plain-answered x words dock t)
 
 -- a refused call leaves the table and the order list
 pub refused-table : (o : Option Words) (x : Call) (words dock : ℕ) (t : Words) → refusal_by o x words dock t ≢ 0 → table_by o x words dock t ≡ t

@@ -8,7 +8,7 @@ use Prim.Native.Nat.{ℕ, suc, ◌+◌, ◌*◌}
 use lib.Dec.{eqb}
 use lib.ListN.{length, take, drop, set, replicate}
 use Rattle.model.specs.declared.Answer.TheVariants.{Found, Absent}
-use Rattle.model.specs.declared.Next.TheVariants.{Key, Nothing}
+use Rattle.std.specs.Prelude.{Some, None}
 use Rattle.model.specs.Table.{MARK, Words, nodes, root, empty, node_start, line}
 use Rattle.model.specs.Slots.{Slot, slot, View, view, used, node_view}
 use Rattle.model.specs.Search.{search_view, search}
@@ -87,7 +87,7 @@ pub record KeyFirst : Type 0 where
   pub right-maps : maps_of_parts (shift_by move_up) two_slots ≡ replicate 8 two_pairs ++ ((slot 10 101 ∷ two_pairs) ∷ [])
   -- key first: a shown slot pairs 20 with the recording of 30, and 30 is lost
   pub wrong-pair : map_of 1 key_first_cut ≡ slot 20 102 ∷ slot 20 103 ∷ []
-  pub lost : search 1 key_first_cut 30 ≡ Absent Nothing
+  pub lost : search 1 key_first_cut 30 ≡ Absent None
   pub neither : OldOrNew (insertion 1 10 101 0) two_slots key_first_cut → ⊥
   pub unsound : sound key_first_cut ≡ false
 
@@ -130,10 +130,10 @@ pub record FirstKey : Type 0 where
   -- no key read as 0: the search for 50 leaves A for the empty B
   pub emptied-settled : settled emptied ≡ true
   pub finds-fifty : search 1 emptied 50 ≡ Found 105 0
-  pub misses-fifty : search_view (by_first_key 0 (view emptied)) 50 ≡ Absent Nothing
+  pub misses-fifty : search_view (by_first_key 0 (view emptied)) 50 ≡ Absent None
   -- no key read as the largest: the search for 60 stays in A and finds what the map does not have
   pub trailing-sound : sound trailing ≡ true
-  pub sixty-absent : search 1 trailing 60 ≡ Absent Nothing
+  pub sixty-absent : search 1 trailing 60 ≡ Absent None
   pub finds-sixty : search_view (by_first_key MARK (view trailing)) 60 ≡ Found 106 0
 
 pub first-key : FirstKey
@@ -160,7 +160,7 @@ shift_cut = apply (take 2 (stores_of (insertion 1 10 101 0) two_slots)) two_slot
 
 pub record EqualKeys : Type 0 where
   pub right-map : map_of 1 shift_cut ≡ two_pairs
-  pub right-answer : search 1 shift_cut 40 ≡ Absent Nothing
+  pub right-answer : search 1 shift_cut 40 ≡ Absent None
   -- the deleted code 40 leads to its neighbour's recording
   pub wrong-map : mapping (hiding_by_keys shift_cut) ≡ two_pairs ++ (slot 40 103 ∷ [])
   pub wrong-answer : search_view (hiding_by_keys shift_cut) 40 ≡ Found 103 0
@@ -249,7 +249,7 @@ pub record FlushedAtEnd : Type 0 where
   -- the link arrives before B, whose fence is still 0: every pair is lost
   pub wrong-image : CutImage 0 66 full_leaf (flushed_at_end (stores_of next_key full_leaf)) unordered_image
   pub lost : map_of 1 unordered_image ≡ []
-  pub lost-ten : search 1 unordered_image 10 ≡ Absent Nothing
+  pub lost-ten : search 1 unordered_image 10 ≡ Absent None
   pub neither : OldOrNew next_key full_leaf unordered_image → ⊥
 
 pub flushed-at-end : FlushedAtEnd
@@ -283,7 +283,7 @@ pub record NoBarriers : Type 0 where
   pub right-images : (c : ℕ) (m : Words) → CutImage 1 c two_slots (orders_of lowest 1 two_slots) m → OldOrNew lowest two_slots m
   -- the same list without them: 20 is lost
   pub wrong-image : CutImage 1 8 two_slots (orders_of lowest 0 two_slots) unbarred_image
-  pub lost : search 1 unbarred_image 20 ≡ Absent (Key 30)
+  pub lost : search 1 unbarred_image 20 ≡ Absent (Some 30)
   pub neither : OldOrNew lowest two_slots unbarred_image → ⊥
 
 -- the images of an accepted call's list

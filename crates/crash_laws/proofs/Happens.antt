@@ -9,7 +9,7 @@ use Prim.Native.Nat.{ℕ, ◌≤◌}
 use native.Mathlib.Omega.{arith}
 use lib.ListN.{length, take, replicate}
 use Rattle.model.specs.declared.Answer.TheVariants.{Found, Absent}
-use Rattle.model.specs.declared.Next.TheVariants.{Key, Nothing}
+use Rattle.std.specs.Prelude.{Some, None}
 use Rattle.model.specs.Table.{Words}
 use Rattle.model.specs.Search.{search}
 use Rattle.model.specs.SoundTest.{settled, sound}
@@ -71,10 +71,10 @@ pub record Computed : Type 0 where
       × (number_of (run_all 1 1 closed) (event (deletion 1 20) whole) ≡ 0)
   pub seven-orders : length orders_cut ≡ 7
   pub image-sound : (sound image ≡ true) × (settled image ≡ false)
-  pub image-has : (search 1 image 20 ≡ Found 102 1) × (search 1 image 10 ≡ Absent (Key 20))
+  pub image-has : (search 1 image 20 ≡ Found 102 1) × (search 1 image 10 ≡ Absent (Some 20))
   pub reloaded : ((run_all 1 1 cut_short).memory ≡ image) × ((run_all 1 1 cut_short).working ≡ image)
   pub changed : (search 1 (run_all 1 1 closed).memory 20 ≡ Found 102 2) × (settled (run_all 1 1 closed).memory ≡ true)
-  pub gone : search 1 (run_all 1 1 deleted).memory 20 ≡ Absent Nothing
+  pub gone : search 1 (run_all 1 1 deleted).memory 20 ≡ Absent None
   pub settled-again : settled (run_all 1 1 deleted).memory ≡ true
 
 pub computed : Computed

@@ -9,7 +9,7 @@ use Prim.Native.Nat.{ℕ, ◌≤◌}
 use native.Mathlib.Omega.{arith}
 use lib.ListN.{length, take, replicate}
 use Rattle.model.specs.declared.Answer.TheVariants.{Found, Absent}
-use Rattle.model.specs.declared.Next.TheVariants.{Key}
+use Rattle.std.specs.Prelude.{Some}
 use Rattle.model.specs.Table.{Words, empty_of}
 use Rattle.model.specs.Search.{search}
 use Rattle.model.specs.Reached.{map_of}
@@ -91,7 +91,7 @@ pub record Computed : Type 0 where
   pub no-third : number_of (run_all 1 1 cut_short) (on 2 (deletion 1 20) whole) ≡ 18
   pub thirteen-orders : length orders_cut ≡ 13
   pub image-sound : (sound image ≡ true) × (settled image ≡ false)
-  pub image-has : (search 1 image 20 ≡ Found 102 1) × (search 1 image 10 ≡ Absent (Key 20))
+  pub image-has : (search 1 image 20 ≡ Found 102 1) × (search 1 image 10 ≡ Absent (Some 20))
   pub gone : map_of 1 (run_all 1 1 deleted).memory ≡ []
   pub settled-again : settled (run_all 1 1 deleted).memory ≡ true
 

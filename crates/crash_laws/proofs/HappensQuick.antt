@@ -10,7 +10,7 @@ use Prim.Native.Nat.{ℕ, ◌≤◌}
 use native.Mathlib.Omega.{arith}
 use lib.ListN.{take, replicate}
 use Rattle.model.specs.declared.Answer.TheVariants.{Found, Absent}
-use Rattle.model.specs.declared.Next.TheVariants.{Key, Nothing}
+use Rattle.std.specs.Prelude.{Some, None}
 use Rattle.model.specs.Table.{Words, nodes}
 use Rattle.model.specs.Search.{search}
 use Rattle.model.specs.Reached.{maps_of}
@@ -75,7 +75,7 @@ pub record CutShort : Type 0 where
   pub answers : (quick_number_of (opened full) (both full) (inserting whole) ≡ 0) × (quick_answered (opened full) (both full) (inserting whole) ≡ 88)
   pub cut-leaves : ((run_acts (both full) cut_half).state.memory ≡ half) × ((run_acts (both full) cut_half).summary ≡ none)
   pub half-sound : (sound half ≡ true) × (settled half ≡ false)
-  pub half-lacks : (search 1 half 115 ≡ Absent Nothing) × (search 1 half 60 ≡ Found 6 0)
+  pub half-lacks : (search 1 half 115 ≡ Absent None) × (search 1 half 60 ≡ Found 6 0)
   pub twenty : open_number 49 half ≡ 20
   -- an accepted call that does not take the summary ends it too
   pub other-ends : (run_acts (both full) (call (event repair whole) ∷ first)).summary ≡ none
@@ -98,7 +98,7 @@ comes-again = record { mends = refl; accepted = refl; comes = refl }
 pub record Goes : Type 0 where
   pub eight : number_after again (event (insertion 1 120 12 0) whole) ≡ 8
   pub accepted : number_after refused (event (deletion 1 60) whole) ≡ 0
-  pub gone : search 1 (run_acts (both full) last).state.memory 60 ≡ Absent (Key 70)
+  pub gone : search 1 (run_acts (both full) last).state.memory 60 ≡ Absent (Some 70)
   pub stays : search 1 (run_acts (both full) last).state.memory 115 ≡ Found 12 0
   pub settled-again : settled (run_acts (both full) last).state.memory ≡ true
 

@@ -9,7 +9,7 @@ use lib.Dec.{eqb}
 use lib.ListN.{take, replicate}
 use Rattle.model.specs.declared.Answer.{Answer}
 use Rattle.model.specs.declared.Answer.TheVariants.{Found, Absent}
-use Rattle.model.specs.declared.Next.TheVariants.{Nothing}
+use Rattle.std.specs.Prelude.{None}
 use Rattle.model.specs.Table.{Words, nodes}
 use Rattle.model.specs.Search.{search}
 use Rattle.model.specs.SoundTest.{settled, sound}
@@ -54,7 +54,7 @@ pub record Counted : Type 0 where
   pub first-accepted : number_of (both full) (inserting whole) ≡ 0
   pub first-answered : answered (both full) (inserting whole) ≡ 88
   pub half-sound : (sound half ≡ true) × (settled half ≡ false)
-  pub half-lacks : search 1 half 115 ≡ Absent Nothing
+  pub half-lacks : search 1 half 115 ≡ Absent None
   pub half-keeps : search 1 half 60 ≡ Found 6 0
 
 pub counted : Counted
@@ -69,7 +69,7 @@ abbrev pub cut_late : History
 cut_late = inserting (cut 11 almost) ∷ cut_half
 
 pub record Computed : Type 0 where
-  pub reloaded : search 1 (run_from (both full) cut_half).memory 115 ≡ Absent Nothing
+  pub reloaded : search 1 (run_from (both full) cut_half).memory 115 ≡ Absent None
   pub second-accepted : number_of (run_from (both full) cut_half) (inserting whole) ≡ 0
   pub second-answered : answered (run_from (both full) cut_half) (inserting whole) ≡ 12
   pub almost-has : search 1 almost 115 ≡ Found 12 0
@@ -115,8 +115,8 @@ is-false : (g : Bool → Answer) (a : Answer) (b : Bool) → a ≡ g b → (a �
 is-false g a true e z = absurd (z e)
 is-false g a false e z = refl
 
-found-not-absent : (a b : Answer) → a ≡ Found 12 0 → b ≡ Absent Nothing → a ≡ b → ⊥
-found-not-absent a b p q e = let z : Found 12 0 ≡ Absent Nothing = sym p ∙ e ∙ q in let y : ◌≡◌ {A = ℕ} 0 1 = cc in omega arith
+found-not-absent : (a b : Answer) → a ≡ Found 12 0 → b ≡ Absent None → a ≡ b → ⊥
+found-not-absent a b p q e = let z : Found 12 0 ≡ Absent None = sym p ∙ e ∙ q in let y : ◌≡◌ {A = ℕ} 0 1 = cc in omega arith
 
 -- what the ledger ps answers for 115 once it was fed the insertion, cut after c orders and not after all
 abbrev fed_by : (fed c : ℕ) → (all : Bool) → Ledger → Bool → Answer

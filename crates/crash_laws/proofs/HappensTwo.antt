@@ -9,7 +9,7 @@ use Prim.Native.Nat.{ℕ, ◌≤◌}
 use native.Mathlib.Omega.{arith}
 use lib.ListN.{length, take}
 use Rattle.model.specs.declared.Answer.TheVariants.{Found, Absent}
-use Rattle.model.specs.declared.Next.TheVariants.{Nothing}
+use Rattle.std.specs.Prelude.{None}
 use Rattle.model.specs.Table.{Words}
 use Rattle.model.specs.Orders.{Order}
 use Rattle.model.specs.Cuts.{CutImage}
@@ -64,7 +64,7 @@ pub record Computed : Type 0 where
       × (number_of (run_all 2 2 cut_short) (event (deletion 1 20) whole) ≡ 0)
   pub five-orders : length orders_cut ≡ 5
   pub image-sound : (sound image ≡ true) × (settled image ≡ false)
-  pub image-has : (search 1 image 20 ≡ Found 102 1) × (search 2 image 20 ≡ Absent Nothing)
+  pub image-has : (search 1 image 20 ≡ Found 102 1) × (search 2 image 20 ≡ Absent None)
   pub settled-again : settled (run_all 2 2 deleted).memory ≡ true
   pub both-empty : maps_of (run_all 2 2 deleted).memory ≡ record { one = []; two = some [] }
 

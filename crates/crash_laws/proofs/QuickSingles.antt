@@ -5,13 +5,14 @@ use mathlib.Core.Option.{some}
 use Prim.Native.Nat.{ℕ, zero, suc, ◌+◌, ◌*◌}
 use native.Mathlib.Omega.{arith}
 use lib.ListN.{length, drop}
-use Rattle.model.specs.declared.Written.{Written}
-use Rattle.model.specs.declared.Written.TheVariants.{Done, Refused}
+use Rattle.std.specs.Prelude.{Ok, Err}
+use Rattle.model.specs.declared.Refusal.{Refusal}
+use Rattle.model.specs.Results.{Written, refused_with, done_with}
 use Rattle.model.specs.Table.{Words}
 use Rattle.model.specs.Slots.{Slot}
 use Rattle.model.specs.Sound.{Sound}
 use Rattle.model.specs.Orders.{carried_out}
-use Rattle.model.specs.Refusals.{unless_refused, written_number}
+use Rattle.model.specs.Refusals.{unless_refused}
 use Rattle.model.specs.Demand3.{whole, Event, State, both, run_from}
 use Rattle.model.specs.Writes.{Call}
 use Rattle.model.specs.Batch.{insertion_of, Batched, batch}
@@ -39,23 +40,23 @@ module _ (n dock : ℕ) (s : Slot) (ss : List Slot) (list ws u : Words) where
   rest used = singles n dock ss (drop used (quick_list x list dock ws u)) (quick_summary x (length list) dock ws u) (quick_table x (length list) dock ws u)
 
   abbrev next : Written → Acts
-  next w = elim w [ Done a b c ↦ rest (2 * (a + b + c)) ++ (quick (pair_event n dock list s) ∷ []) | Refused m ↦ [] ]
+  next w = elim w [ Ok w ↦ rest (2 * (w.stores + w.flushes + w.barriers)) ++ (quick (pair_event n dock list s) ∷ []) | Err r ↦ [] ]
 
-  singles-stop : (m : ℕ) → quick_written (insertion_of n s) (length list) dock ws u ≡ Refused m → singles n dock (s ∷ ss) list ws u ≡ []
+  singles-stop : (r : Refusal) → quick_written (insertion_of n s) (length list) dock ws u ≡ Err r → singles n dock (s ∷ ss) list ws u ≡ []
   unfolding singles
-  singles-stop m e = ap (λ (w : Written). next w) e
+  singles-stop r e = ap (λ (w : Written). next w) e
 
-  singles-go : (a b c : ℕ) → quick_written (insertion_of n s) (length list) dock ws u ≡ Done a b c → singles n dock (s ∷ ss) list ws u ≡ rest (2 * (a + b + c)) ++ (quick (pair_event n dock list s) ∷ [])
+  singles-go : (a b c : ℕ) → quick_written (insertion_of n s) (length list) dock ws u ≡ done_with a b c → singles n dock (s ∷ ss) list ws u ≡ rest (2 * (a + b + c)) ++ (quick (pair_event n dock list s) ∷ [])
   unfolding singles
   singles-go a b c e = ap (λ (w : Written). next w) e
 
-  accepted : (a b c : ℕ) → quick_written (insertion_of n s) (length list) dock ws u ≡ Done a b c → quick_number (insertion_of n s) (length list) dock ws u ≡ 0
+  accepted : (a b c : ℕ) → quick_written (insertion_of n s) (length list) dock ws u ≡ done_with a b c → quick_number (insertion_of n s) (length list) dock ws u ≡ 0
   unfolding quick_written
   accepted a b c e = go (quick_number x (length list) dock ws u) _ e
     where
-      go : (m : ℕ) (done : Written) → unless_refused m done (Refused m) ≡ Done a b c → m ≡ 0
+      go : (m : ℕ) (done : Written) → unless_refused m done (refused_with m) ≡ done_with a b c → m ≡ 0
       go zero done e = refl
-      go (suc m) done e = absurd (omega (arith, ap written_number e))
+      go (suc m) done e = let z : ◌≡◌ {A = ℕ} 0 1 = cc in absurd (omega arith)
 
 -- ---- a history that goes on with it
 
@@ -98,8 +99,11 @@ module _ (t : Words) (q : Sound t) where
           → ((l : Words) → quick_number (insertion_of n s) (length list) dock ws u ≡ 0
           → Come n dock ss l (quick_summary (insertion_of n s) (length list) dock ws u) (quick_table (insertion_of n s) (length list) dock ws u) (quick (pair_event n dock list s) ∷ h))
           → Come n dock (s ∷ ss) list ws u h
-      go (Refused k) e ih = record { may = rw (singles-stop n dock s ss list ws u k e) m; come = rw (singles-stop n dock s ss list ws u k e, quick-stops n dock s ss list ws u k e) is }
-      go (Done a b c) e ih =
+      go (Err k) e ih = record { may = rw (singles-stop n dock s ss list ws u k e) m; come = rw (singles-stop n dock s ss list ws u k e, quick-stops n dock s ss list ws u k e) is }
+      go (Ok w) e ih =
+          let a = w.stores in
+          let b = w.flushes in
+          let c = w.barriers in
           let r = ih (drop (2 * (a + b + c)) (quick_list (insertion_of n s) list dock ws u)) (accepted n dock s ss list ws u a b c e) in
           let acts = singles n dock ss (drop (2 * (a + b + c)) (quick_list (insertion_of n s) list dock ws u)) (quick_summary (insertion_of n s) (length list) dock ws u) (quick_table (insertion_of n s) (length list) dock ws u) in
           let shape : singles n dock (s ∷ ss) list ws u ++ h ≡ acts ++ (quick (pair_event n dock list s) ∷ h) =

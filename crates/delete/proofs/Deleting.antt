@@ -4,6 +4,8 @@ use mathlib.Core.Bool.{Bool, true, false}
 use mathlib.Core.List.{List, ◌++◌}
 use Prim.Native.Nat.{ℕ}
 use native.Mathlib.Omega.{arith}
+use lib.ListN.{length}
+use Rattle.std.specs.Prelude.{Ok}
 use Rattle.model.specs.Table.{Words, at, root_word, no_collection, has_node}
 use Rattle.model.specs.Slots.{view_from, view}
 use Rattle.model.specs.Reached.{mapping, map_of}
@@ -15,19 +17,24 @@ use Rattle.two_laws.proofs.DeleteTwo.{stores-begin, stores-freeing, stores-plain
 use Rattle.two_laws.proofs.JudgedTwo.{map-later}
 use Rattle.two_laws.proofs.PartsTwo as parts
 use Rattle.two_laws.proofs.PartsTwo.{Plain, settled-plain, standing-reached, neighbour-there}
-use Rattle.sound.specs.declared.Leftover.{Leftover}
+use Rattle.sound.specs.declared.Sound.{Sound}
 use Rattle.orders.specs.declared.Pen.{Pen}
-use Rattle.orders.specs.Desk.{Desk, desk, stored_all, Room}
+use Rattle.orders.specs.Desk.{Desk, desk, first_pen, stored_all, Room}
 use Rattle.orders.proofs.Rooms.{room-first}
 use Rattle.orders.proofs.Rest.{room-as, stored-as}
-use Rattle.write.proofs.Judging.{Passed, ready-accepted, ready-number}
+use Rattle.write.specs.Judged.{judged}
+use Rattle.write.proofs.Judging.{Passed, judged-ready, ready-accepted, ready-number}
+use Rattle.write.proofs.Ending.{Begun}
 use Rattle.write.proofs.Parts.{part-table, part-room, part-stored}
 use Rattle.write.proofs.Rooted.{root-sound, root-stands, root-key}
 
 -- ---- 9
 
 -- the root that was read, and whether its tree has the key
-module _ {c k words dock : ℕ} {t : Words} {x : Leftover} {n : ℕ} (p : Passed (deletion c k) words dock t x n) {r : ℕ} (q : r ≡ at t (root_word c)) where
+module _ (c k words dock : ℕ) (t : Words) (s : Sound) (j : judged (no_collection c t) words dock t ≡ Ok s) {r : ℕ} (q : r ≡ at t (root_word c)) where
+  abbrev p : Passed (deletion c k) words dock t s.leftover s.reached
+  p = judged-ready (deletion c k) words dock t s j
+
   pub tree-sound : sound_view (view_from t r) ≡ true
   tree-sound = root-sound c t r q p.found.is-sound p.collection
 
@@ -43,9 +50,16 @@ module _ {c k words dock : ℕ} {t : Words} {x : Leftover} {n : ℕ} (p : Passed
 
 -- ---- the stores: the repair, then those that the repaired table calls for
 
-pub delete-stores : (c : ℕ) (t : Words) (k : ℕ) → stores_of (deletion c k) t ≡ repair_stores t ++ delete_settled c (repaired t) k
+delete-stores : (c : ℕ) (t : Words) (k : ℕ) → stores_of (deletion c k) t ≡ repair_stores t ++ delete_settled c (repaired t) k
 unfolding stores_of delete_stores
 delete-stores c t k = refl
+
+-- an accepted deletion, from its first pen on
+pub begun : (c k dock : ℕ) (t lent : Words) (s : Sound) (pen : Pen) {r : ℕ} {b : Bool} → judged (no_collection c t) (length lent) dock t ≡ Ok s → r ≡ at t (root_word c)
+    → b ≡ has_key k (mapping (view_from t r)) → b ≡ true → pen ≡ first_pen dock → Begun (deletion c k) t lent dock pen (λ (u : Words). delete_settled c u k)
+begun c k dock t lent s pen j q e h f =
+    let p = judged-ready (deletion c k) (length lent) dock t s j in
+    record { is-sound = p.found.is-sound; accepted = delete-accepted c k (length lent) dock t s j q e h; first = f; stores = delete-stores c t k }
 
 -- by the root r: leaf x, its parent p and whether the leaf is freed, looked up on a settled table before the first of these stores
 pub record Found (c k : ℕ) (t lent : Words) (pen : Pen) (r x p : ℕ) (b : Bool) : Type 0 where
@@ -57,6 +71,11 @@ pub record Found (c k : ℕ) (t lent : Words) (pen : Pen) (r x p : ℕ) (b : Boo
   pub leaf-at : x ≡ standing_in (view_from t r) 0 k
   pub parent-at : p ≡ standing_in (view_from t r) 1 k
   pub frees : (n : ℕ) → r ≡ at t (root_word n) → b ≡ frees_leaf n t p x
+
+pub found : {c k : ℕ} {t lent : Words} {pen : Pen} {r x p : ℕ} {b : Bool} → no_collection c t ≡ false → settled t ≡ true → has_key k (map_of c t) ≡ true
+    → Room (delete_settled c t k) (desk t lent pen) → r ≡ at t (root_word c) → x ≡ standing_in (view_from t r) 0 k → p ≡ standing_in (view_from t r) 1 k
+    → ((n : ℕ) → r ≡ at t (root_word n) → b ≡ frees_leaf n t p x) → Found c k t lent pen r x p b
+found a s h m e q u f = record { collection = a; is-settled = s; has-key = h; room = m; root = e; leaf-at = q; parent-at = u; frees = f }
 
 module _ {c k : ℕ} {t lent : Words} {pen : Pen} {r x p : ℕ} {b : Bool} (f : Found c k t lent pen r x p b) where
   leaf : x ≡ standing c t 0 k

@@ -10,9 +10,9 @@ ghost use Rattle.model.specs.Writes.{delete_settled, deletion};
 ghost use Rattle.model.specs.Refusals.{has_key, written, table_after, list_after};
 ghost use Rattle.orders.specs.Desk.{desk, stored_all, Room};
 
-use model::Written;
+use model::{Counts, Refusal, Written};
 use orders::Pen;
-use write::Judged;
+use sound::Sound;
 
 // The stores after the repair. Leaf and parent are looked up before the first of them.
 fn take_out(table: &mut [u64], list: &mut [u64], pen: Pen, collection: u64, key: u64) -> Pen
@@ -39,21 +39,16 @@ pub fn delete(table: &mut [u64], list: &mut [u64], dock: u64, collection: u64, k
     ensures table_after { table.new ≡ table_after (deletion collection key) (length list.old) dock table.old }
     ensures list_after { list.new ≡ list_after (deletion collection key) list.old dock table.old }
 {
-    let judgement = write::judge(table, collection, list.len(), dock);
-    match judgement {
-        Judged::Refused(n) => Written::Refused(n),
-        Judged::Ready { left, reached: _ } => {
-            if !write::has_key(table, node::root_of(table, collection), key) {
-                return Written::Refused(9);
-            }
-            let mended = write::mend(table, list, write::begin(dock), left);
-            let out = take_out(table, list, mended, collection, key);
-            let done = orders::finish(list, out);
-            Written::Done {
-                stores: done.stores,
-                flushes: done.flushes,
-                barriers: done.barriers,
-            }
-        }
+    let Sound { leftover, .. } = write::judge(table, collection, list.len(), dock)?;
+    if !write::has_key(table, node::root_of(table, collection), key) {
+        return Err(Refusal::KeyAbsent);
     }
+    let mended = write::mend(table, list, write::begin(dock), leftover);
+    let out = take_out(table, list, mended, collection, key);
+    let done = orders::finish(list, out);
+    Ok(Counts {
+        stores: done.stores,
+        flushes: done.flushes,
+        barriers: done.barriers,
+    })
 }

@@ -37,6 +37,7 @@ fn report(out: &mut [u8]) -> usize
 }
 
 fn main(rt: HostRuntime) -> io::Result<()> {
+    // Room for two lines: memory is fixed, there is no heap.
     let mut out = [0u8; 42];
     let n = report(&mut out);
     rt.write_all(&out[..n])

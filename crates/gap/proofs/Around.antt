@@ -190,20 +190,16 @@ module _ (ws₀ : Words) (m i₀ gap : ℕ) (ws : Words) (i : ℕ) (c : Moved ws
   room-now : 2 * m ≤ length ws
   room-now = let a = c.room in let b = c.long in omega arith
 
-  pub moved-down : 0 < i → Moved ws₀ m i₀ gap (stored ws (gap + 2 * (i - 1)) (at ws (2 * i - 2)) (at ws (2 * i - 1))) (i - 1)
-  moved-down h =
+  pub moved-down : (j : ℕ) → i ≡ j + 1 → Moved ws₀ m i₀ gap (stored ws (gap + 2 * j) (at ws (2 * j)) (at ws (2 * j + 1))) j
+  moved-down j e =
       let f = c.below in
-      let j = i - 1 in
-      let a : 2 * i - 2 ≡ 2 * j = omega arith in
-      let b : 2 * i - 1 ≡ 2 * j + 1 = omega arith in
-      let e : i ≡ j + 1 = omega arith in
       record {
         below = omega arith;
         room = c.room;
         few = c.few;
         wide = c.wide;
-        long = length-set (set ws (gap + 2 * j) (at ws (2 * i - 2))) (gap + 2 * j + 1) (at ws (2 * i - 1)) ∙ length-set ws (gap + 2 * j) (at ws (2 * i - 2)) ∙ c.long;
-        same = rw (a, b, ← wide-now) (move-down ws m room-now j (omega arith)) ∙ ap (λ (x : ℕ). around ws x m) (sym e) ∙ c.same;
+        long = length-set (set ws (gap + 2 * j) (at ws (2 * j))) (gap + 2 * j + 1) (at ws (2 * j + 1)) ∙ length-set ws (gap + 2 * j) (at ws (2 * j)) ∙ c.long;
+        same = rw (← wide-now) (move-down ws m room-now j (omega arith)) ∙ ap (λ (x : ℕ). around ws x m) (sym e) ∙ c.same;
       }
 
   pub moved-up : i < m → Moved ws₀ m i₀ gap (stored ws (2 * i) (at ws (gap + 2 * i)) (at ws (gap + 2 * i + 1))) (i + 1)
@@ -217,8 +213,10 @@ module _ (ws₀ : Words) (m i₀ gap : ℕ) (ws : Words) (i : ℕ) (c : Moved ws
         same = rw (← wide-now) (move-up ws m room-now i h) ∙ c.same;
       }
 
-  pub moved-under : (k : ℕ) → 0 < i → at ws (2 * i - 2) ≤ k → Under (around ws₀ i₀ m) k i
-  moved-under k z h = let e = key-below ws m room-now i z c.below in inr (rw (← c.same) (omega arith))
+  pub moved-under : (k j : ℕ) → i ≡ j + 1 → at ws (2 * j) ≤ k → Under (around ws₀ i₀ m) k i
+  moved-under k j n h =
+      let a : 2 * i - 2 ≡ 2 * j = omega arith in
+      let e = key-below ws m room-now i (omega arith) c.below in inr (rw (← c.same) (rw (e, a) h))
 
   pub moved-over : (k : ℕ) → i < m → k < at ws (gap + 2 * i) → Over (around ws₀ i₀ m) k i
   moved-over k l h = let e = key-above ws m room-now i l in let g = wide-now in inr (rw (← c.same) (rw (e, g) h))

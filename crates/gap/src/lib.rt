@@ -15,18 +15,16 @@ fn seek_down(pairs: &mut [u64], kept: usize, at: usize, key: u64) -> usize
     ensures under { Under (around pairs.old at kept) key result }
 {
     let gap = pairs.len() - 2 * kept;
-    let mut i = at;
-    while 0 < i {
-        let k = pairs[2 * i - 2];
+    for i in (0..at).rev() {
+        let k = pairs[2 * i];
         if k <= key {
-            return i;
+            return i + 1;
         }
-        let p = pairs[2 * i - 1];
-        i -= 1;
+        let p = pairs[2 * i + 1];
         pairs[gap + 2 * i] = k;
         pairs[gap + 2 * i + 1] = p;
     }
-    i
+    0
 }
 
 // Pairs whose key is at most this one go down across the gap; the answer is how many are below it then.
@@ -37,8 +35,7 @@ fn seek_up(pairs: &mut [u64], kept: usize, at: usize, key: u64) -> usize
         × Over (around pairs.old at kept) key result }
 {
     let gap = pairs.len() - 2 * kept;
-    let mut i = at;
-    while i < kept {
+    for i in at..kept {
         let k = pairs[gap + 2 * i];
         if key < k {
             return i;
@@ -46,9 +43,8 @@ fn seek_up(pairs: &mut [u64], kept: usize, at: usize, key: u64) -> usize
         let p = pairs[gap + 2 * i + 1];
         pairs[2 * i] = k;
         pairs[2 * i + 1] = p;
-        i += 1;
     }
-    i
+    kept
 }
 
 // The gap goes to the place of a key, after the last pair whose key is at most this one; the answer is how many are below it then.
@@ -62,14 +58,12 @@ pub fn seek(pairs: &mut [u64], kept: usize, at: usize, key: u64) -> usize
 }
 
 // Whether the last pair below the gap has this key.
+#[tactic(auto, unfolding(crate::specs::Around::ends_with))]
 pub fn ends_with(pairs: &[u64], at: usize, key: u64) -> bool
     requires { (2 * at ≤ length pairs.now) × (at < 16777216) }
     ensures { result ≡ ends_with pairs.now at key }
 {
-    if at == 0 {
-        return false;
-    }
-    pairs[2 * at - 2] == key
+    at != 0 && pairs[2 * at - 2] == key
 }
 
 // One pair more, below the gap.

@@ -30,12 +30,10 @@ fn is_kept(words: &[u64], bound: usize, t: Tally, recording: u64) -> bool
     ensures { result ≡ has_recording recording (pairs_of words.now bound t) }
 {
     let low = 2 * t.at;
-    if pairs::has_recording(&words[..low], 0, recording) {
-        return true;
-    }
     let end = 2 * bound;
     let high = end - 2 * (t.kept - t.at);
-    pairs::has_recording(&words[high..end], 0, recording)
+    pairs::has_recording(&words[..low], 0, recording)
+        || pairs::has_recording(&words[high..end], 0, recording)
 }
 
 // Whether a recording is new; then it is in the set from now on. If no cell is free, which only a table of one node can bring about, the
@@ -62,9 +60,7 @@ fn put_drop(report: &mut [u64], count: usize, node: u64, place: u64, reason: u64
     requires { (3 * count + 3 ≤ length report.old) × (count < 16777216) }
     ensures { report.new ≡ sets report.old (3 * count) (node ∷ place ∷ reason ∷ []) }
 {
-    report[3 * count] = node;
-    report[3 * count + 1] = place;
-    report[3 * count + 2] = reason;
+    report[3 * count..3 * count + 3].copy_from_slice(&[node, place, reason]);
 }
 
 // The first reason against a pair whose place is at the gap; 0 for none, and then its recording is in the set.
@@ -73,6 +69,7 @@ fn reason(words: &mut [u64], bound: usize, t: Tally, key: u64, pointer: u64) -> 
     ensures value { result ≡ reason_for (pairs_of words.old bound t) (slot key pointer) }
     ensures filing { Filing words.old bound t (recording_of pointer) (eqb result 0) words.new }
 {
+    // Numbers, and no enum: they are words of the report, as catalogue.h names them; 0 drops nothing.
     if !pointer::ok(pointer) {
         return 1;
     }
@@ -103,29 +100,22 @@ fn gather_slot(
         ≡ gather_slot n (held words.old bound report.old t) (placed place key pointer) }
     ensures standing { Standing words.new bound result × Kept report.old t report.new result 1 }
 {
-    let kept = t.kept;
-    let dropped = t.dropped;
     let end = 2 * bound;
-    let at = gap::seek(&mut words[..end], kept, t.at, key);
-    let sought = Tally {
-        kept: kept,
-        at: at,
-        dropped: dropped,
-    };
+    let at = gap::seek(&mut words[..end], t.kept, t.at, key);
+    let sought = Tally { at, ..t };
     let why = reason(words, bound, sought, key, pointer);
     if why == 0 {
         gap::put(&mut words[..end], at, key, pointer);
         return Tally {
-            kept: kept + 1,
+            kept: t.kept + 1,
             at: at + 1,
-            dropped: dropped,
+            ..t
         };
     }
-    put_drop(report, dropped, n, place, why);
+    put_drop(report, t.dropped, n, place, why);
     Tally {
-        kept: kept,
-        at: at,
-        dropped: dropped + 1,
+        dropped: t.dropped + 1,
+        ..sought
     }
 }
 
@@ -181,12 +171,10 @@ fn gather_node(
     if x.level != 0 {
         return t;
     }
-    let slots = x.slots;
     let mut p = t;
     let mut before = x.left;
-    let mut i = 0;
-    while i < 12 {
-        let pointer = slots[2 * i + 1];
+    for i in 0..12 {
+        let pointer = x.slots[2 * i + 1];
         if pointer == 0 {
             return p;
         }
@@ -201,11 +189,10 @@ fn gather_node(
             x.sibling,
             before,
             i as u64,
-            slots[2 * i],
+            x.slots[2 * i],
             pointer,
         );
         before = pointer;
-        i += 1;
     }
     p
 }
@@ -230,10 +217,8 @@ fn gather_nodes(
         at: 0,
         dropped: 0,
     };
-    let mut i = 0;
-    while i < order.len() {
-        p = gather_node(table, top, words, bound, report, p, order[i] as u64);
-        i += 1;
+    for &n in order {
+        p = gather_node(table, top, words, bound, report, p, n as u64);
     }
     p
 }
@@ -254,7 +239,6 @@ pub fn gather(
     let end = 2 * bound;
     pack::clear(words, end);
     let t = gather_nodes(table, top, order, words, bound, report);
-    let kept = t.kept;
-    gap::close(&mut words[..end], kept, t.at);
+    gap::close(&mut words[..end], t.kept, t.at);
     t
 }

@@ -1,12 +1,10 @@
--- The count of the nodes that are reached after an accepted insertion; and the answer of an insertion into a sound table.
-use mathlib.Core.Path.{◌≡◌, ap, sym, ◌∙◌}
+-- The count of the nodes that are reached after an accepted insertion.
+use mathlib.Core.Path.{◌≡◌, ap, ◌∙◌}
 use mathlib.Core.Bool.{cond}
 use Prim.Native.Nat.{ℕ, ◌+◌, ◌≤◌}
 use native.Mathlib.Omega.{arith}
 use lib.ListN.{length}
 use borrow.Author.Tests.{ltb-false}
-use Rattle.model.specs.declared.Written as answer
-use Rattle.model.specs.declared.Written.TheVariants as answers
 use Rattle.model.specs.Table.{Words}
 use Rattle.model.specs.Reached.{reached_all}
 use Rattle.model.specs.Orders.{apply}
@@ -18,10 +16,7 @@ use Rattle.two_laws.proofs.JudgedTwo.{unreachable-later}
 use Rattle.two_laws.proofs.CollectionTwo.{unreachable-all}
 use Rattle.batch_laws.proofs.Taking.{takes, reached-after}
 use Rattle.reach.specs.declared.Run.{Run}
-use Rattle.insert.specs.declared.Entered.{Entered}
-use Rattle.insert.specs.declared.Entered.TheVariants.{Done, Refused}
 use Rattle.insert.specs.Tests.{run_of}
-use Rattle.insert.specs.Entered.{as_written}
 
 module _ (o k r c words dock : ℕ) (t : Words) (ok : refusal (insertion o k r c) words dock t ≡ 0) {run : Run} (e : run ≡ run_of o (repaired t) k) {n : ℕ} (f : n ≡ length (reached_all t)) where
   taking : run.length + cond run.root 1 0 ≡ takes o (repaired t) k
@@ -40,9 +35,3 @@ module _ (o k r c words dock : ℕ) (t : Words) (ok : refusal (insertion o k r c
       let z : t' ≡ apply (stores_of (insertion o k r c) t) t = q ∙ rw ok in
       let h = reached-after o k r c words dock t ok in
       omega (arith, g, taking, h, ap (λ (u : Words). length (reached_all u)) z)
-
-pub entered-refused : {x : Entered} {m : ℕ} {w : answer.Written} → x ≡ Refused m → as_written x ≡ w → answers.Refused m ≡ w
-entered-refused e f = sym (ap as_written e) ∙ f
-
-pub entered-done : {x : Entered} {a b c n : ℕ} {w : answer.Written} → x ≡ Done a b c n → as_written x ≡ w → answers.Done a b c ≡ w
-entered-done e f = sym (ap as_written e) ∙ f

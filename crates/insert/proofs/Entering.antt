@@ -9,7 +9,7 @@ use Rattle.model.specs.Slots.{RECORDINGS, pointer_of, view_from}
 use Rattle.model.specs.Reached.{reached_all}
 use Rattle.model.specs.SoundTest.{elem, settled}
 use Rattle.model.specs.Orders.{Store, apply}
-use Rattle.model.specs.Writes.{shift_in_at, standing_in, standing, root_in_run, splits, root_stores, insert_settled, insert_stores, repair_stores, repaired, insertion, stores_of}
+use Rattle.model.specs.Writes.{shift_in_at, standing_in, standing, splits, root_stores, insert_settled, insert_stores, repair_stores, repaired, insertion, stores_of}
 use Rattle.list_laws.proofs.Recordings.{recording-iff, class-iff}
 use Rattle.two_laws.specs.Parts.{Enters, Ready}
 use Rattle.two_laws.proofs.CollectionTwo.{settled-head}
@@ -42,6 +42,10 @@ pub record Enterable (o : ℕ) (t lent : Words) (pen : Pen) (k r c : ℕ) (run :
   pub run-is : run ≡ run_of o t k
   pub room : Room (insert_settled o t k (pointer_of r c)) (desk t lent pen)
 
+pub enterable : {o : ℕ} {t lent : Words} {pen : Pen} {k r c : ℕ} {run : Run} → no_collection o t ≡ false → settled t ≡ true → Enters o k r c t → run ≡ run_of o t k
+    → Room (insert_settled o t k (pointer_of r c)) (desk t lent pen) → Enterable o t lent pen k r c run
+enterable e s x f m = record { collection = e; is-settled = s; enters = x; run-is = f; room = m }
+
 module _ {o : ℕ} {t lent : Words} {pen : Pen} {k r c : ℕ} {run : Run} (h : Enterable o t lent pen k r c run) where
   -- the pointer that is shifted in
   abbrev y : ℕ
@@ -52,9 +56,6 @@ module _ {o : ℕ} {t lent : Words} {pen : Pen} {k r c : ℕ} {run : Run} (h : E
 
   pub class-low : c ≤ 2
   class-low = (class-iff c).0 h.enters.class-ok
-
-  pub run-root : run.root ≡ root_in_run o t k
-  run-root = ap (λ (u : Run). u.root) h.run-is
 
   whole-stores : insert_settled o t k y ≡ root_stores o t k ++ later o k y run.length (apply (root_stores o t k) t)
   unfolding insert_settled

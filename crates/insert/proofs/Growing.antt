@@ -25,6 +25,9 @@ pub record Growable (n : ℕ) (t : Words) (k : ℕ) (whole : Bool) : Type 0 wher
   pub enough : too_few n t k ≡ false
   pub whole-is : whole ≡ root_in_run n t k
 
+pub growable : {n : ℕ} {t : Words} {k : ℕ} {whole : Bool} → no_collection n t ≡ false → settled t ≡ true → too_few n t k ≡ false → whole ≡ root_in_run n t k → Growable n t k whole
+growable e s f w = record { collection = e; is-settled = s; enough = f; whole-is = w }
+
 module _ {n : ℕ} {t : Words} {k : ℕ} {whole : Bool} (h : Growable n t k whole) where
   pub number-low : (1 ≤ n) × (n ≤ 2)
   number-low = go (there n t h.collection).0

@@ -1,20 +1,21 @@
--- The run counted on a sound table is that of the table as repair would leave it, and the number found is the call's.
+-- The run counted on a sound table is that of the table as repair would leave it, and the refusal found is the call's.
 use mathlib.Core.Path.{◌≡◌, refl, ap, sym, ◌∙◌}
 use mathlib.Core.Logic.{◌≢◌}
 use mathlib.Core.Bool.{true, false, cond}
 use mathlib.Core.List.{Memᴰ}
 use mathlib.Core.Option.{Option, some}
-use Prim.Native.Nat.{ℕ, ◌+◌}
+use Prim.Native.Nat.{ℕ, ◌+◌, ◌≤◌}
 use lib.Dec.{eqb}
 use lib.ListN.{length}
 use borrow.Author.Tests.{ne_eqb}
+use Rattle.model.specs.Results.{Outcome, passed}
 use Rattle.model.specs.Table.{Words, at, root_word, no_collection}
 use Rattle.model.specs.Slots.{node_view, view_from, view_of, full}
 use Rattle.model.specs.Search.{path}
-use Rattle.model.specs.Reached.{kept, reached}
+use Rattle.model.specs.Reached.{kept, reached, reached_all}
 use Rattle.model.specs.SoundTest.{Leftover, nothing, hidden_in, missing_in, both_in, leftover_all, sound}
 use Rattle.model.specs.Writes.{repaired, insertion}
-use Rattle.model.specs.Refusals.{too_high, too_few, refusal}
+use Rattle.model.specs.Refusals.{too_high, too_few, words_for, refusal}
 use Rattle.list_laws.proofs.Tools.{Each-map}
 use Rattle.tree_laws.proofs.Rows.{not-zero}
 use Rattle.tree_laws.proofs.Shape.{shape-view}
@@ -54,6 +55,11 @@ run-judged n t y k s h e =
     run-of v n (repaired t) k (parent_of y) ((repaired-later t (root_word n) s i).path k)
     (Each-map (λ (m : ℕ). Memᴰ m (reached v)) (λ (m : ℕ). full_in v (parent_of y) m ≡ full (node_view (repaired t) m).shown) (path v k) judged (path-reached v k o))
 
+-- a sound table, with what is known of it
+pub handed : (o k r c : ℕ) {words dock : ℕ} {t : Words} {x : said.Leftover} {n : ℕ} → sound t ≡ true → leftover_all t ≡ some (meant x) → n ≡ length (reached_all t)
+    → no_collection o t ≡ false → dock ≤ 1 → words_for dock ≤ words → Passed (insertion o k r c) words dock t x n
+handed o k r c s l m h d w = record { found = record { is-sound = s; leftover-is = l; reached-are = m }; collection = h; dock-ok = d; long = w }
+
 module _ {o k r c words dock : ℕ} {t : Words} {x : said.Leftover} {n : ℕ} (p : Passed (insertion o k r c) words dock t x n) where
   pub run-later : {parent root : ℕ} {run : Run} → parent ≡ parent_of (meant x) → root ≡ at t (root_word o) → run ≡ full_run (view_from t root) k parent
       → run ≡ run_of o (repaired t) k
@@ -67,5 +73,5 @@ module _ {o k r c words dock : ℕ} {t : Words} {x : said.Leftover} {n : ℕ} (p
       let v = repaired-later t (root_word o) s (there o t p.collection).1 in
       sym (ready-number (insertion o k r c) words dock t p ∙ rw (v.height, unreachable-later t s))
 
-  pub insert-number : {run : Run} {m : ℕ} → run ≡ run_of o (repaired t) k → m ≡ number_for o t k r c run → refusal (insertion o k r c) words dock t ≡ m
-  insert-number e q = sym (q ∙ ap (number_for o t k r c) e ∙ number-is)
+  pub insert-number : {run : Run} {m : Outcome} → run ≡ run_of o (repaired t) k → m ≡ passed (number_for o t k r c run) → passed (refusal (insertion o k r c) words dock t) ≡ m
+  insert-number e q = sym (q ∙ ap (λ (u : Run). passed (number_for o t k r c u)) e ∙ ap passed number-is)

@@ -5,13 +5,12 @@ use mathlib.Core.List.{◌++◌, Memᴰ}
 use Prim.Native.Nat.{ℕ, zero, suc, ◌+◌, ◌-◌, ◌≤◌, ◌<◌}
 use native.Mathlib.Numerals.{add-one}
 use native.Mathlib.Omega.{arith}
-use lib.ListN.{length}
 use Rattle.model.specs.Table.{Words, at, nodes, header_ok, root_word, has_node}
-use Rattle.model.specs.Slots.{node_view, view_from, view_of}
+use Rattle.model.specs.Slots.{view_from, view_of}
 use Rattle.model.specs.Reached.{reached}
 use Rattle.model.specs.SoundTest.{sound}
 use Rattle.model.specs.Orders.{apply}
-use Rattle.model.specs.Writes.{fresh, split, standing_in, standing, splits}
+use Rattle.model.specs.Writes.{fresh, standing_in, standing, splits}
 use Rattle.list_laws.proofs.Members.{each-mem}
 use Rattle.list_laws.proofs.Distinct.{UpTo}
 use Rattle.tree_laws.proofs.Levels.{reached-numbers}
@@ -53,9 +52,6 @@ module _ {n : ℕ} {t : Words} {k l : ℕ} (s : Splittable n t k l) where
     pub lower-plain : Plain t a
     lower-plain = rw lower (settled-plain n t s.collection s.settled _ lower-reached)
 
-    pub lower-full : 6 ≤ length (node_view t a).shown
-    lower-full = rw lower (omega (arith, s.node.full))
-
     -- B and the parent
     module _ {b : ℕ} (eb : b ≡ fresh t a) {p : ℕ} (ep : p ≡ standing_in (view_from t r) (l + 1) k) where
       above : p ≡ standing n t (suc l) k
@@ -66,9 +62,6 @@ module _ {n : ℕ} {t : Words} {k l : ℕ} (s : Splittable n t k l) where
 
       pub parent-plain : Plain t p
       parent-plain = rw above (settled-plain n t s.collection s.settled _ (standing-reached n t s.collection s.settled (suc l) k s.node.high))
-
-      pub split-as : split_for n t l k ≡ split t a b p
-      split-as = rw (above, eb, lower)
 
 -- ---- the run, from the highest level down
 

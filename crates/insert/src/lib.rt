@@ -8,32 +8,25 @@ ghost use Rattle.model.specs.Slots.{pointer_of, view_from};
 ghost use Rattle.model.specs.Reached.{mapping, map_of, reached_all};
 ghost use Rattle.model.specs.SoundTest.{leftover_all, settled, sound_view, sound};
 ghost use Rattle.model.specs.Writes.{root_in_run, splits, root_stores, insert_settled, insertion};
+ghost use Rattle.model.specs.Results.{passed};
 ghost use Rattle.model.specs.Refusals.{too_few, has_recording, words_for, written, table_after, list_after};
 ghost use Rattle.two_laws.specs.Parts.{Enters, split_for, Splittable, Ready};
 ghost use Rattle.reach.specs.Marks.{Marked};
 ghost use Rattle.sound.specs.Checked.{meant};
 ghost use Rattle.orders.specs.Desk.{desk, stored_all, Room};
 ghost use Rattle.insert.specs.Tests.{parent_of, high_run, few_for, number_for, run_of};
-ghost use Rattle.insert.specs.Entered.{as_written, Counts};
+ghost use Rattle.insert.specs.Entered.{as_written, Reaches};
 
-use leaves::Hit;
-use model::Written;
+use model::{Counts, Outcome, Refusal, Written};
 use orders::Pen;
 use reach::Run;
-use sound::Leftover;
-use write::Judged;
+use sound::{Leftover, Sound};
 
-// What an insertion into a table that is known to be sound answers: how many stores, flushes and barriers its order list has, and how many
-// nodes are reached after it.
+// What an insertion into a table that is known to be sound comes to: what its order list has, and how many nodes are reached after it.
 #[derive(Clone, Copy)]
-pub enum Entered {
-    Done {
-        stores: u64,
-        flushes: u64,
-        barriers: u64,
-        reached: u64,
-    },
-    Refused(u8),
+pub struct Entered {
+    pub counts: Counts,
+    pub reached: u64,
 }
 
 // ---- the tests from 6 on
@@ -43,14 +36,8 @@ fn parent_of(left: Leftover) -> u64
     ensures { result ≡ parent_of (meant left) }
 {
     match left {
-        Leftover::Nothing => 0,
-        Leftover::HiddenIn(_) => 0,
-        Leftover::MissingIn {
-            parent,
-            node: _,
-            trailing: _,
-        } => parent,
-        Leftover::BothIn { parent, node: _ } => parent,
+        Leftover::Nothing | Leftover::HiddenIn(_) => 0,
+        Leftover::MissingIn { parent, .. } | Leftover::BothIn { parent, .. } => parent,
     }
 }
 
@@ -59,21 +46,14 @@ pub fn has_recording(table: &[u64], root: u64, recording: u64) -> bool
     requires { sound_view (view_from table.now root) ≡ true }
     ensures { result ≡ has_recording recording (mapping (view_from table.now root)) }
 {
-    let hit = leaves::find_recording(table, root, recording);
-    match hit {
-        Hit::At { node: _, slot: _ } => true,
-        Hit::Nowhere => false,
-    }
+    leaves::find_recording(table, root, recording).is_some()
 }
 
 // Whether the run includes a root at level 15.
 fn too_high(table: &[u64], root: u64, run: Run) -> bool
     ensures { result ≡ high_run (view_from table.now root) run }
 {
-    if !run.root {
-        return false;
-    }
-    node::word(table, root, 2) == 15
+    run.root && node::word(table, root, 2) == 15
 }
 
 // Whether so many unreachable nodes are fewer than the run's length, plus 1 for a new root.
@@ -86,9 +66,9 @@ fn too_few(free: u64, run: Run) -> bool
     free < run.length
 }
 
-// The number of the first test from 6 on that holds; 0 if none does. Whether the map has the recording is known; 10 counts the nodes that
-// neither root reaches.
-fn number_known(
+// The refusal of the first test from 6 on that holds, if one does. Whether the map has the recording is known; 10 counts the nodes that neither
+// root reaches.
+fn may_insert_known(
     table: &[u64],
     collection: u64,
     key: u64,
@@ -97,37 +77,37 @@ fn number_known(
     run: Run,
     count: u64,
     known: bool,
-) -> u8
+) -> Outcome
     requires table_value { no_collection collection table.now ≡ false }
     requires table_value_2 { sound table.now ≡ true }
     requires count_value { count ≡ length (reached_all table.now) }
     requires known_value { known ≡ has_recording recording (map_of collection table.now) }
-    ensures { result ≡ number_for collection table.now key recording access run }
+    ensures { result ≡ passed (number_for collection table.now key recording access run) }
 {
     let root = node::root_of(table, collection);
     if !pointer::recording_ok(recording) {
-        return 6;
+        return Err(Refusal::BadRecording);
     }
     if !pointer::class_ok(access) {
-        return 14;
+        return Err(Refusal::BadClass);
     }
     if write::has_key(table, root, key) {
-        return 7;
+        return Err(Refusal::KeyPresent);
     }
     if known {
-        return 8;
+        return Err(Refusal::RecordingPresent);
     }
     if too_high(table, root, run) {
-        return 11;
+        return Err(Refusal::TooHigh);
     }
     if too_few(reach::unreachable(table, count), run) {
-        return 10;
+        return Err(Refusal::NoNodes);
     }
-    0
+    Ok(())
 }
 
 // The same if the recording is still to be looked for.
-pub fn number(
+pub fn may_insert(
     table: &[u64],
     collection: u64,
     key: u64,
@@ -135,14 +115,14 @@ pub fn number(
     access: u64,
     run: Run,
     count: u64,
-) -> u8
+) -> Outcome
     requires table_value { no_collection collection table.now ≡ false }
     requires table_value_2 { sound table.now ≡ true }
     requires count_value { count ≡ length (reached_all table.now) }
-    ensures { result ≡ number_for collection table.now key recording access run }
+    ensures { result ≡ passed (number_for collection table.now key recording access run) }
 {
     let known = has_recording(table, node::root_of(table, collection), recording);
-    number_known(table, collection, key, recording, access, run, count, known)
+    may_insert_known(table, collection, key, recording, access, run, count, known)
 }
 
 // ---- into a settled table
@@ -218,9 +198,7 @@ fn split_run(
     ensures marked_2 { Marked table.new marks.new }
 {
     let mut at = pen;
-    let mut l = count;
-    while 0 < l {
-        l -= 1;
+    for l in (0..count).rev() {
         at = split_at(table, list, marks, at, collection, key, l);
     }
     at
@@ -282,7 +260,7 @@ pub fn insert_known(
     left: Leftover,
     reached: u64,
     known: bool,
-) -> Entered
+) -> Result<Entered, Refusal>
     requires table_value { sound table.old ≡ true }
     requires table_value_2 { leftover_all table.old ≡ some (meant left) }
     requires reached_value { reached ≡ length (reached_all table.old) }
@@ -294,28 +272,27 @@ pub fn insert_known(
     ensures result_value { as_written result ≡ written (insertion collection key recording access) (length list.old) dock table.old }
     ensures table_after { table.new ≡ table_after (insertion collection key recording access) (length list.old) dock table.old }
     ensures list_after { list.new ≡ list_after (insertion collection key recording access) list.old dock table.old }
-    ensures counts { Counts result table.new }
+    ensures counts { Reaches result table.new }
     ensures marked_2 { Marked table.new marks.new }
 {
     let root = node::root_of(table, collection);
     let run = reach::full_run(table, root, key, parent_of(left));
-    let n = number_known(
+    may_insert_known(
         table, collection, key, recording, access, run, reached, known,
-    );
-    if n != 0 {
-        return Entered::Refused(n);
-    }
+    )?;
     let mended = write::mend(table, list, write::begin(dock), left);
     let entered = enter(
         table, list, marks, mended, collection, key, recording, access, run,
     );
     let done = orders::finish(list, entered);
-    Entered::Done {
-        stores: done.stores,
-        flushes: done.flushes,
-        barriers: done.barriers,
+    Ok(Entered {
+        counts: Counts {
+            stores: done.stores,
+            flushes: done.flushes,
+            barriers: done.barriers,
+        },
         reached: reached_after(reached, run),
-    }
+    })
 }
 
 // The insertion call.
@@ -332,29 +309,11 @@ pub fn insert(
     ensures table_after { table.new ≡ table_after (insertion collection key recording access) (length list.old) dock table.old }
     ensures list_after { list.new ≡ list_after (insertion collection key recording access) list.old dock table.old }
 {
-    let judgement = write::judge(table, collection, list.len(), dock);
-    match judgement {
-        Judged::Refused(n) => Written::Refused(n),
-        Judged::Ready { left, reached } => {
-            let known = has_recording(table, node::root_of(table, collection), recording);
-            let mut marks = [0u64; reach::MARKS];
-            let entered = insert_known(
-                table, list, &mut marks, dock, collection, key, recording, access, left, reached,
-                known,
-            );
-            match entered {
-                Entered::Refused(n) => Written::Refused(n),
-                Entered::Done {
-                    stores,
-                    flushes,
-                    barriers,
-                    reached: _,
-                } => Written::Done {
-                    stores: stores,
-                    flushes: flushes,
-                    barriers: barriers,
-                },
-            }
-        }
-    }
+    let Sound { leftover, reached } = write::judge(table, collection, list.len(), dock)?;
+    let known = has_recording(table, node::root_of(table, collection), recording);
+    let mut marks = [0u64; reach::MARKS];
+    let entered = insert_known(
+        table, list, &mut marks, dock, collection, key, recording, access, leftover, reached, known,
+    )?;
+    Ok(entered.counts)
 }

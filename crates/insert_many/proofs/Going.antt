@@ -1,96 +1,97 @@
 -- A batch under way: one pair more, all pairs.
 use mathlib.Core.Path.{◌≡◌, refl, ap, sym, ◌∙◌}
-use mathlib.Core.Logic.{◌≢◌}
-use mathlib.Core.Bool.{Bool, true, false}
+use mathlib.Core.Bool.{Bool, true, false, false≢true}
 use mathlib.Core.List.{List, [], ◌∷◌, ◌++◌, append-nil}
 use Prim.Native.Nat.{ℕ, zero, suc, ◌+◌, ◌*◌, ◌-◌, ◌/◌, ◌≤◌, ◌<◌}
 use native.Mathlib.Omega.{arith}
 use lib.ListN.{length, take, drop, get_or, length-append, length-drop}
 use lib.Seq.{take_all, take-append-add, drop-append-add, length-take-le, drop-length}
 use borrow.Rule.Slice.PartMut.{mid_of, put_mid, put_same}
-use Rattle.model.specs.declared.Written as answer
-use Rattle.model.specs.declared.Written.TheVariants as answers
+use Rattle.std.specs.Prelude.{Option, Some, None, is_some, Result, Ok, Err}
+use Rattle.model.specs.declared.Refusal.{Refusal}
+use Rattle.model.specs.declared.Refusal.TheVariants.{ShortList}
+use Rattle.model.specs.declared.Counts.{Counts}
 use Rattle.model.specs.declared.Batch.{Batch}
+use Rattle.model.specs.Results.{Written, done_with, refused_with}
 use Rattle.model.specs.Table.{Words, at, root_word, no_collection}
 use Rattle.model.specs.Slots.{Slot, slot, slots_of, recording_of, class_of, view_from}
 use Rattle.model.specs.Reached.{mapping, map_of}
 use Rattle.model.specs.SoundTest.{sound}
 use Rattle.model.specs.Orders.{apply, encode, list_with, store_count, flush_count, barrier_count}
 use Rattle.model.specs.Writes.{Call, insertion, stores_of}
-use Rattle.model.specs.Refusals.{has_recording, words_for, unless_refused, refusal, orders_of, written, table_after, list_after}
+use Rattle.model.specs.Refusals.{has_recording, words_for, refusal, orders_of, written, table_after, list_after}
+use Rattle.model.proofs.Numbers.{refused-by}
 use Rattle.model.specs.Batch.{insertion_of, Batched, stopped, behind, batch}
 use Rattle.cut_laws.proofs.Applying.{counts-length}
 use Rattle.cut_laws.proofs.Lent.{length-encode}
 use Rattle.two_laws.proofs.DocksTwo.{list-fits}
 use Rattle.batch_laws.proofs.After.{five, after-sound, after-nothing, after-collection, after-recordings}
 use Rattle.batch_laws.proofs.Folds.{pair-at, pairs-past, behind-behind, behind-none, batch-stops, batch-goes, batch-none}
-use Rattle.write.specs.declared.Judged.TheVariants as judgement
 use Rattle.write.specs.Judged.{judged}
 use Rattle.write.proofs.Ending.{refused-call, judge-refuses}
 use Rattle.sound.specs.declared.Leftover.TheVariants.{Nothing}
 use Rattle.clear.specs.New.{recordings_of, New}
 use Rattle.insert.specs.declared.Entered.{Entered}
-use Rattle.insert.specs.declared.Entered.TheVariants.{Done, Refused}
-use Rattle.insert.specs.Entered.{as_written, Counts}
+use Rattle.insert.specs.Entered.{as_written, Reaches}
 use Rattle.insert_many.specs.declared.Progress.{Progress}
-use Rattle.insert_many.specs.Going.{answer_of, outcome, onward, ahead, Fit, Gains}
+use Rattle.insert_many.specs.Going.{answer_of, outcome, onward, unless_stopped, ahead, Fit, Gains}
 
 -- ---- what a single call's answer says
 
 module _ (x : Call) (lent : Words) (dock : ℕ) (t : Words) where
-  pub record IsRefused (m : ℕ) : Type 0 where
-    pub some-number : m ≢ 0
-    pub number-is : refusal x (length lent) dock t ≡ m
+  pub record IsRefused : Type 0 where
     pub same-table : table_after x (length lent) dock t ≡ t
     pub same-list : list_after x lent dock t ≡ lent
 
-  pub is-refused : (m : ℕ) → written x (length lent) dock t ≡ answers.Refused m → IsRefused m
+  pub is-refused : (r : Refusal) → written x (length lent) dock t ≡ Err r → IsRefused
   unfolding written table_after list_after
-  is-refused m e = go (refusal x (length lent) dock t) refl
+  is-refused r e = go (refusal x (length lent) dock t) refl
     where
-      go : (k : ℕ) → refusal x (length lent) dock t ≡ k → IsRefused m
+      go : (k : ℕ) → refusal x (length lent) dock t ≡ k → IsRefused
       go zero q =
           let os = orders_of x dock t in
-          let z : answers.Done (store_count os) (flush_count os) (barrier_count os) ≡ answers.Refused m = sym (rw q) ∙ e in
+          let z : done_with (store_count os) (flush_count os) (barrier_count os) ≡ Err r = sym (rw q) ∙ e in
           let i : ◌≡◌ {A = ℕ} 0 1 = cc in absurd (omega arith)
-      go (suc k) q =
-          let z : answers.Refused (suc k) ≡ answers.Refused m = sym (rw q) ∙ e in
-          let i : suc k ≡ m = cc in
-          record { some-number = λ y. omega (arith, i, y); number-is = q ∙ i; same-table = rw q; same-list = rw q }
+      go (suc k) q = record { same-table = rw q; same-list = rw q }
 
-  pub record IsDone (a b c : ℕ) : Type 0 where
+  pub record IsDone (w : Counts) : Type 0 where
     pub accepted : refusal x (length lent) dock t ≡ 0
     pub new-table : table_after x (length lent) dock t ≡ apply (stores_of x t) t
-    pub fits : 2 * (a + b + c) ≤ length lent
+    pub fits : 2 * (w.stores + w.flushes + w.barriers) ≤ length lent
     pub long : length (list_after x lent dock t) ≡ length lent
 
-  pub is-done : (a b c : ℕ) → written x (length lent) dock t ≡ answers.Done a b c → IsDone a b c
+  pub is-done : (w : Counts) → written x (length lent) dock t ≡ Ok w → IsDone w
   unfolding written table_after list_after list_with
-  is-done a b c e = go (refusal x (length lent) dock t) refl
+  is-done w e = go (refusal x (length lent) dock t) refl
     where
-      go : (k : ℕ) → refusal x (length lent) dock t ≡ k → IsDone a b c
+      go : (k : ℕ) → refusal x (length lent) dock t ≡ k → IsDone w
       go zero q =
-          let z : answers.Done (store_count (orders_of x dock t)) (flush_count (orders_of x dock t)) (barrier_count (orders_of x dock t)) ≡ answers.Done a b c = sym (rw q) ∙ e in
-          let i : store_count (orders_of x dock t) ≡ a = cc in
-          let j : flush_count (orders_of x dock t) ≡ b = cc in
-          let k : barrier_count (orders_of x dock t) ≡ c = cc in
           let os = orders_of x dock t in
+          let z : done_with (store_count os) (flush_count os) (barrier_count os) ≡ Ok w = sym (rw q) ∙ e in
+          let same-counts : ◌≡◌ {A = Counts} (record { stores = store_count os; flushes = flush_count os; barriers = barrier_count os }) w = cc in
+          let i : store_count os ≡ w.stores = ap (λ (u : Counts). u.stores) same-counts in
+          let j : flush_count os ≡ w.flushes = ap (λ (u : Counts). u.flushes) same-counts in
+          let k : barrier_count os ≡ w.barriers = ap (λ (u : Counts). u.barriers) same-counts in
           let room = list-fits x (length lent) dock t q in
           let same : length (encode os ++ drop (2 * length os) lent) ≡ length lent = omega (arith, room, length-append (encode os) (drop (2 * length os) lent), length-encode os, length-drop (2 * length os) lent) in
           record { accepted = q; new-table = rw q; fits = omega (arith, i, j, k, counts-length os, room); long = rw q same }
-      go (suc k) q = let z : answers.Refused (suc k) ≡ answers.Done a b c = sym (rw q) ∙ e in let i : ◌≡◌ {A = ℕ} 0 1 = cc in absurd (omega arith)
+      go (suc k) q = let z : ◌≡◌ {A = Written} (refused_with (suc k)) (Ok w) = sym (rw q) ∙ e in let i : ◌≡◌ {A = ℕ} 0 1 = cc in absurd (omega arith)
 
 -- ---- one pair more
 
-unless-stop : {A : Type 0} (m : ℕ) (a b : A) → m ≢ 0 → unless_refused m a b ≡ b
-unless-stop zero a b z = absurd (z refl)
-unless-stop (suc m) a b z = refl
+unless-some : {A : Type 0} (s : Option Refusal) (a b : A) → is_some s ≡ true → unless_stopped s a b ≡ b
+unless-some None a b e = absurd (false≢true e)
+unless-some (Some r) a b e = refl
+
+pub stops-none : (s : Option Refusal) → is_some s ≡ false → s ≡ None
+stops-none None e = refl
+stops-none (Some r) e = absurd (false≢true (sym e))
 
 same-batched : {a a' : Batch} {t t' l l' : Words} → a ≡ a' → t ≡ t' → l ≡ l' → ◌≡◌ {A = Batched} (record { answer = a; table = t; list = l }) (record { answer = a'; table = t'; list = l' })
 same-batched e f g = rw (e, f, g)
 
-same-answer : {m i i' a a' b b' c c' : ℕ} → i ≡ i' → a ≡ a' → b ≡ b' → c ≡ c'
-    → ◌≡◌ {A = Batch} (record { number = m; taken = i; stores = a; flushes = b; barriers = c }) (record { number = m; taken = i'; stores = a'; flushes = b'; barriers = c' })
+same-answer : {m : Option Refusal} {i i' a a' b b' c c' : ℕ} → i ≡ i' → a ≡ a' → b ≡ b' → c ≡ c'
+    → ◌≡◌ {A = Batch} (record { stop = m; taken = i; stores = a; flushes = b; barriers = c }) (record { stop = m; taken = i'; stores = a'; flushes = b'; barriers = c' })
 same-answer e f g h = rw (e, f, g, h)
 
 -- the rest of a list, lent
@@ -104,7 +105,7 @@ rest-back a l part =
     let f : drop (length l - a) (drop a l) ≡ [] = ap (λ (k : ℕ). drop k (drop a l)) e ∙ drop-length (drop a l) in
     ap (λ (z : Words). take a l ++ (part ++ z)) f ∙ ap (λ (z : Words). take a l ++ z) (append-nil part)
 
-module _ (n dock : ℕ) (pairs : Words) (p : Progress) (list t : Words) (fit : Fit n dock p list t) (zero_number : p.number ≡ 0) (more : 2 * p.taken + 1 < length pairs) where
+module _ (n dock : ℕ) (pairs : Words) (p : Progress) (list t : Words) (fit : Fit n dock p list t) (none : p.stop ≡ None) (more : 2 * p.taken + 1 < length pairs) where
   abbrev ss : List Slot
   ss = slots_of pairs
 
@@ -117,13 +118,13 @@ module _ (n dock : ℕ) (pairs : Words) (p : Progress) (list t : Words) (fit : F
   here : ahead n dock (slots_of pairs) p list t ≡ behind p.taken p.stores p.flushes p.barriers (take p.at list) (batch n dock (s ∷ drop (suc p.taken) ss) lent t)
   unfolding ahead
   here =
-      ap (λ (m : ℕ). unless_refused m (onward n dock ss p list t) (outcome p list t)) zero_number
+      ap (λ (m : Option Refusal). unless_stopped m (onward n dock ss p list t) (outcome p list t)) none
       ∙ ap (λ (u : List Slot). behind p.taken p.stores p.flushes p.barriers (take p.at list) (batch n dock u (drop p.at list) t)) (pair-at pairs p.taken more)
       ∙ ap (λ (l : Words). behind p.taken p.stores p.flushes p.barriers (take p.at list) (batch n dock (s ∷ drop (suc p.taken) ss) l t)) (sym (rest-lent p.at list))
 
-  module _ (e : Entered) (t' part : Words) (g : as_written e ≡ written (insertion_of n (slot (get_or pairs (2 * p.taken) 0) (get_or pairs (2 * p.taken + 1) 0))) (length (mid_of p.at (length list - p.at) list)) dock t)
+  module _ (e : Result Entered Refusal) (t' part : Words) (g : as_written e ≡ written (insertion_of n (slot (get_or pairs (2 * p.taken) 0) (get_or pairs (2 * p.taken + 1) 0))) (length (mid_of p.at (length list - p.at) list)) dock t)
       (h : t' ≡ table_after (insertion_of n (slot (get_or pairs (2 * p.taken) 0) (get_or pairs (2 * p.taken + 1) 0))) (length (mid_of p.at (length list - p.at) list)) dock t)
-      (k : part ≡ list_after (insertion_of n (slot (get_or pairs (2 * p.taken) 0) (get_or pairs (2 * p.taken + 1) 0))) (mid_of p.at (length list - p.at) list) dock t) (count : Counts e t') where
+      (k : part ≡ list_after (insertion_of n (slot (get_or pairs (2 * p.taken) 0) (get_or pairs (2 * p.taken + 1) 0))) (mid_of p.at (length list - p.at) list) dock t) (count : Reaches e t') where
     abbrev x : Call
     x = insertion_of n s
 
@@ -135,19 +136,19 @@ module _ (n dock : ℕ) (pairs : Words) (p : Progress) (list t : Words) (fit : F
       pub fits : Fit n dock r (put_mid p.at (length list - p.at) list part) t'
       pub gains : Gains n (recording_of (get_or pairs (2 * p.taken + 1) 0)) p r t t'
 
-    pub next-refused : (m : ℕ) → e ≡ Refused m
-        → Next (record { number = m; taken = p.taken; at = p.at; stores = p.stores; flushes = p.flushes; barriers = p.barriers; left = p.left; reached = p.reached })
+    pub next-refused : (r : Refusal) → e ≡ Err r
+        → Next (record { stop = Some r; taken = p.taken; at = p.at; stores = p.stores; flushes = p.flushes; barriers = p.barriers; left = p.left; reached = p.reached })
     unfolding ahead
-    next-refused m q =
-        let w : written x (length lent) dock t ≡ answers.Refused m = sym g ∙ ap as_written q in
-        let u = is-refused x lent dock t m w in
+    next-refused r q =
+        let w : written x (length lent) dock t ≡ Err r = sym g ∙ ap as_written q in
+        let u = is-refused x lent dock t r w in
         let a : t' ≡ t = h ∙ u.same-table in
         let b : list' ≡ list = ap (put_mid p.at (length list - p.at) list) (k ∙ u.same-list) ∙ put_same p.at (length list - p.at) list in
         let f : take p.at list ++ lent ≡ list = sym (rest-back p.at list lent) ∙ put_same p.at (length list - p.at) list in
         record {
           same =
-              unless-stop m _ _ u.some-number ∙ same-batched (same-answer (omega arith) (omega arith) (omega arith) (omega arith)) a (b ∙ sym f)
-              ∙ sym (here ∙ ap (behind p.taken p.stores p.flushes p.barriers (take p.at list)) (batch-stops n dock s (drop (suc p.taken) ss) lent t m w));
+              same-batched (same-answer (omega arith) (omega arith) (omega arith) (omega arith)) a (b ∙ sym f)
+              ∙ sym (here ∙ ap (behind p.taken p.stores p.flushes p.barriers (take p.at list)) (batch-stops n dock s (drop (suc p.taken) ss) lent t r w));
           fits = rw (a, b) (record {
             is-sound = fit.is-sound;
             leftover-is = fit.leftover-is;
@@ -157,23 +158,35 @@ module _ (n dock : ℕ) (pairs : Words) (p : Progress) (list t : Words) (fit : F
             filled = fit.filled;
             inside = fit.inside;
           });
-          gains = λ z. absurd (u.some-number z);
+          gains = λ z. let i : ◌≡◌ {A = ℕ} 0 1 = cc in absurd (omega arith);
         }
 
-    module _ (a b c m : ℕ) (q : e ≡ Done a b c m) where
-      is-written : written x (length lent) dock t ≡ answers.Done a b c
+    module _ (y : Entered) (q : e ≡ Ok y) where
+      abbrev o : Counts
+      o = y.counts
+
+      is-written : written x (length lent) dock t ≡ Ok o
       is-written = sym g ∙ ap as_written q
 
-      done : IsDone x lent dock t a b c
-      done = is-done x lent dock t a b c is-written
+      done : IsDone x lent dock t o
+      done = is-done x lent dock t o is-written
 
-      pub orders-fit : p.at + 2 * (a + b + c) ≤ length list
+      pub orders-fit : p.at + 2 * (y.counts.stores + y.counts.flushes + y.counts.barriers) ≤ length list
       orders-fit = omega (arith, done.fits, fit.inside, ap length (rest-lent p.at list), length-drop p.at list)
 
-      pub next-done : Next (record { number = 0; taken = p.taken + 1; at = p.at + 2 * (a + b + c); stores = p.stores + a; flushes = p.flushes + b; barriers = p.barriers + c; left = Nothing; reached = m })
+      pub next-done : Next (record {
+        stop = None;
+        taken = p.taken + 1;
+        at = p.at + 2 * (y.counts.stores + y.counts.flushes + y.counts.barriers);
+        stores = p.stores + y.counts.stores;
+        flushes = p.flushes + y.counts.flushes;
+        barriers = p.barriers + y.counts.barriers;
+        left = Nothing;
+        reached = y.reached;
+      })
       unfolding ahead
       next-done =
-          let w = 2 * (a + b + c) in
+          let w = 2 * (o.stores + o.flushes + o.barriers) in
           let later = list_after x lent dock t in
           let new : t' ≡ apply (stores_of x t) t = h ∙ done.new-table in
           let front : length (take p.at list) ≡ p.at = length-take-le p.at list fit.inside in
@@ -188,8 +201,9 @@ module _ (n dock : ℕ) (pairs : Words) (p : Progress) (list t : Words) (fit : F
           record {
             same =
                 rw (first, rest, h, one)
-                (rw one at (sym (behind-behind p.taken p.stores p.flushes p.barriers 1 a b c (take p.at list) (take w later) (batch n dock (drop (suc p.taken) ss) (drop w later) (table_after x (length lent) dock t)))))
-                ∙ sym (here ∙ ap (behind p.taken p.stores p.flushes p.barriers (take p.at list)) (batch-goes n dock s (drop (suc p.taken) ss) lent t a b c is-written));
+                (rw one at (sym (behind-behind p.taken p.stores p.flushes p.barriers 1 o.stores o.flushes o.barriers (take p.at list) (take w later)
+                (batch n dock (drop (suc p.taken) ss) (drop w later) (table_after x (length lent) dock t)))))
+                ∙ sym (here ∙ ap (behind p.taken p.stores p.flushes p.barriers (take p.at list)) (batch-goes n dock s (drop (suc p.taken) ss) lent t o.stores o.flushes o.barriers is-written));
             fits = record {
               is-sound = rw new (after-sound _ _ _ _ _ _ t done.accepted);
               leftover-is = rw new (after-nothing _ _ _ _ _ _ t done.accepted);
@@ -199,16 +213,16 @@ module _ (n dock : ℕ) (pairs : Words) (p : Progress) (list t : Words) (fit : F
               filled = omega (arith, fit.filled);
               inside = omega (arith, orders-fit, long);
             };
-            gains = λ z. (one, λ y. rw new (after-recordings _ _ _ _ _ _ t done.accepted y));
+            gains = λ z. (one, λ i. rw new (after-recordings _ _ _ _ _ _ t done.accepted i));
           }
 
 -- ---- from the first pair to the last
 
-pub ahead-start : (n dock : ℕ) (ss : List Slot) (p : Progress) (list t : Words) → p.number ≡ 0 → p.taken ≡ 0 → p.at ≡ 0 → p.stores ≡ 0 → p.flushes ≡ 0 → p.barriers ≡ 0
+pub ahead-start : (n dock : ℕ) (ss : List Slot) (p : Progress) (list t : Words) → p.stop ≡ None → p.taken ≡ 0 → p.at ≡ 0 → p.stores ≡ 0 → p.flushes ≡ 0 → p.barriers ≡ 0
     → ahead n dock ss p list t ≡ batch n dock ss list t
 unfolding ahead
 ahead-start n dock ss p list t a b c d e f =
-    ap (λ (m : ℕ). unless_refused m (onward n dock ss p list t) (outcome p list t)) a
+    ap (λ (m : Option Refusal). unless_stopped m (onward n dock ss p list t) (outcome p list t)) a
     ∙ ap (λ (i : ℕ). behind i p.stores p.flushes p.barriers (take p.at list) (batch n dock (drop i ss) (drop p.at list) t)) b
     ∙ ap (λ (i : ℕ). behind 0 p.stores p.flushes p.barriers (take i list) (batch n dock ss (drop i list) t)) c
     ∙ ap (λ (i : ℕ). behind 0 i p.flushes p.barriers [] (batch n dock ss list t)) d
@@ -216,27 +230,27 @@ ahead-start n dock ss p list t a b c d e f =
     ∙ ap (λ (i : ℕ). behind 0 0 0 i [] (batch n dock ss list t)) f
     ∙ behind-none (batch n dock ss list t)
 
--- stopped by a number
-pub ahead-stopped : (n dock : ℕ) (ss : List Slot) (p : Progress) (list t : Words) → p.number ≢ 0 → outcome p list t ≡ ahead n dock ss p list t
+-- stopped by a refusal
+pub ahead-stopped : (n dock : ℕ) (ss : List Slot) (p : Progress) (list t : Words) → is_some p.stop ≡ true → outcome p list t ≡ ahead n dock ss p list t
 unfolding ahead
-ahead-stopped n dock ss p list t z = sym (unless-stop p.number _ _ z)
+ahead-stopped n dock _ p list t z = sym (unless-some p.stop _ _ z)
 
 -- no pair is left
-pub ahead-all : (n dock : ℕ) (pairs : Words) (p : Progress) (list t : Words) → p.number ≡ 0 → length pairs / 2 ≤ p.taken → p.at ≤ length list → outcome p list t ≡ ahead n dock (slots_of pairs) p list t
+pub ahead-all : (n dock : ℕ) (pairs : Words) (p : Progress) (list t : Words) → p.stop ≡ None → length pairs / 2 ≤ p.taken → p.at ≤ length list → outcome p list t ≡ ahead n dock (slots_of pairs) p list t
 unfolding ahead
 ahead-all n dock pairs p list t z h i =
     sym (
-    ap (λ (m : ℕ). unless_refused m (onward n dock (slots_of pairs) p list t) (outcome p list t)) z
+    ap (λ (m : Option Refusal). unless_stopped m (onward n dock (slots_of pairs) p list t) (outcome p list t)) z
     ∙ ap (λ (u : List Slot). behind p.taken p.stores p.flushes p.barriers (take p.at list) (batch n dock u (drop p.at list) t)) (pairs-past pairs p.taken h)
     ∙ ap (behind p.taken p.stores p.flushes p.barriers (take p.at list)) (batch-none n dock (drop p.at list) t)
-    ∙ same-batched (number-zero z) refl (sym (rest-back p.at list (drop p.at list)) ∙ ap (put_mid p.at (length list - p.at) list) (sym (rest-lent p.at list)) ∙ put_same p.at (length list - p.at) list)
+    ∙ same-batched (not-stopped z) refl (sym (rest-back p.at list (drop p.at list)) ∙ ap (put_mid p.at (length list - p.at) list) (sym (rest-lent p.at list)) ∙ put_same p.at (length list - p.at) list)
     )
   where
-    number-zero : p.number ≡ 0
-        → ◌≡◌ {A = Batch} (record { number = 0; taken = p.taken + 0; stores = p.stores + 0; flushes = p.flushes + 0; barriers = p.barriers + 0 }) (answer_of p)
-    number-zero z =
+    not-stopped : p.stop ≡ None
+        → ◌≡◌ {A = Batch} (record { stop = None; taken = p.taken + 0; stores = p.stores + 0; flushes = p.flushes + 0; barriers = p.barriers + 0 }) (answer_of p)
+    not-stopped z =
         same-answer (omega arith) (omega arith) (omega arith) (omega arith)
-        ∙ ap (λ (m : ℕ). record { number = m; taken = p.taken; stores = p.stores; flushes = p.flushes; barriers = p.barriers }) (sym z)
+        ∙ ap (λ (m : Option Refusal). record { stop = m; taken = p.taken; stores = p.stores; flushes = p.flushes; barriers = p.barriers }) (sym z)
 
 -- ---- a pair
 
@@ -246,17 +260,17 @@ known-pair n t root e r x f b g = g ∙ ap (λ (q : ℕ). has_recording q (mappi
 
 -- the list is too short for one more
 pub short : (n k x dock : ℕ) (t lent : Words) → sound t ≡ true → no_collection n t ≡ false → dock ≤ 1 → (least : ℕ) → least ≡ words_for dock → length lent < least
-    → (answers.Refused 5 ≡ written (insertion n k (recording_of x) (class_of x)) (length lent) dock t)
+    → (◌≡◌ {A = Written} (Err ShortList) (written (insertion n k (recording_of x) (class_of x)) (length lent) dock t))
     × ((t ≡ table_after (insertion n k (recording_of x) (class_of x)) (length lent) dock t) × ((lent ≡ list_after (insertion n k (recording_of x) (class_of x)) lent dock t) × Unit {0}))
 short n k x dock t lent s h d least e l =
     let p = refused-call (insertion n k (recording_of x) (class_of x)) t lent dock 5 (λ z. omega arith) (five n k (recording_of x) (class_of x) (length lent) dock t s h d (omega (arith, e, l))) in
-    (p.0, (p.1.0, (p.1.1, tt)))
+    (sym (refused-by ShortList) ∙ p.0, (p.1.0, (p.1.1, tt)))
 
 -- the call with recording and class taken from the pointer
-pub as-pair : (n k x dock : ℕ) (t lent : Words) (r c : ℕ) → r ≡ recording_of x → c ≡ class_of x → (e : Entered) (t' list' : Words)
-    → (as_written e ≡ written (insertion n k r c) (length lent) dock t) × ((t' ≡ table_after (insertion n k r c) (length lent) dock t) × ((list' ≡ list_after (insertion n k r c) lent dock t) × Counts e t'))
+pub as-pair : (n k x dock : ℕ) (t lent : Words) (r c : ℕ) → r ≡ recording_of x → c ≡ class_of x → (e : Result Entered Refusal) (t' list' : Words)
+    → (as_written e ≡ written (insertion n k r c) (length lent) dock t) × ((t' ≡ table_after (insertion n k r c) (length lent) dock t) × ((list' ≡ list_after (insertion n k r c) lent dock t) × Reaches e t'))
     → (as_written e ≡ written (insertion n k (recording_of x) (class_of x)) (length lent) dock t)
-    × ((t' ≡ table_after (insertion n k (recording_of x) (class_of x)) (length lent) dock t) × ((list' ≡ list_after (insertion n k (recording_of x) (class_of x)) lent dock t) × Counts e t'))
+    × ((t' ≡ table_after (insertion n k (recording_of x) (class_of x)) (length lent) dock t) × ((list' ≡ list_after (insertion n k (recording_of x) (class_of x)) lent dock t) × Reaches e t'))
 as-pair n k x dock t lent r c f g e t' list' h = rw (f, g) at h
 
 pub known-as : (n x : ℕ) (t : Words) (r : ℕ) → r ≡ recording_of x → (b : Bool) → b ≡ has_recording (recording_of x) (map_of n t) → b ≡ has_recording r (map_of n t)
@@ -272,19 +286,19 @@ Gives n dock pairs list t r t' list' =
 gives-as : (n dock : ℕ) (pairs list t : Words) (b : Batched) → b ≡ batch n dock (slots_of pairs) list t → Gives n dock pairs list t b.answer b.table b.list
 gives-as n dock pairs list t b e = (ap (λ (z : Batched). z.answer) e, (ap (λ (z : Batched). z.table) e, ap (λ (z : Batched). z.list) e))
 
-pub gives-none : (n dock : ℕ) (pairs list t : Words) → length pairs < 2 → (r : Batch) → r ≡ (stopped 0 list t).answer → Gives n dock pairs list t r t list
+pub gives-none : (n dock : ℕ) (pairs list t : Words) → length pairs < 2 → (r : Batch) → r ≡ (stopped None list t).answer → Gives n dock pairs list t r t list
 gives-none n dock pairs list t h r e =
     let q : slots_of pairs ≡ [] = pairs-past pairs 0 (omega arith) in
-    let g = gives-as n dock pairs list t (stopped 0 list t) (sym (ap (λ (u : List Slot). batch n dock u list t) q ∙ batch-none n dock list t)) in
+    let g = gives-as n dock pairs list t (stopped None list t) (sym (ap (λ (u : List Slot). batch n dock u list t) q ∙ batch-none n dock list t)) in
     (e ∙ g.0, g.1)
 
-pub gives-refused : (n dock : ℕ) (pairs list t : Words) → 2 ≤ length pairs → (m : ℕ) → judged (no_collection n t) (length list) dock t ≡ judgement.Refused m
-    → (r : Batch) → r ≡ (stopped m list t).answer → Gives n dock pairs list t r t list
+pub gives-refused : (n dock : ℕ) (pairs list t : Words) → 2 ≤ length pairs → (m : Refusal) → judged (no_collection n t) (length list) dock t ≡ Err m
+    → (r : Batch) → r ≡ (stopped (Some m) list t).answer → Gives n dock pairs list t r t list
 gives-refused n dock pairs list t h m j r e =
     let s = slot (get_or pairs 0 0) (get_or pairs 1 0) in
     let q : slots_of pairs ≡ s ∷ drop 1 (slots_of pairs) = pair-at pairs 0 (omega arith) in
     let w = (judge-refuses (insertion_of n s) t list dock m j).0 in
-    let g = gives-as n dock pairs list t (stopped m list t) (sym (ap (λ (u : List Slot). batch n dock u list t) q ∙ batch-stops n dock s (drop 1 (slots_of pairs)) list t m (sym w))) in
+    let g = gives-as n dock pairs list t (stopped (Some m) list t) (sym (ap (λ (u : List Slot). batch n dock u list t) q ∙ batch-stops n dock s (drop 1 (slots_of pairs)) list t m (sym w))) in
     (e ∙ g.0, g.1)
 
 pub gives-all : (n dock : ℕ) (pairs list t : Words) (p : Progress) (list' t' : Words) → outcome p list' t' ≡ batch n dock (slots_of pairs) list t → Gives n dock pairs list t (answer_of p) t' list'

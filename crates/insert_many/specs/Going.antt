@@ -1,19 +1,20 @@
 -- A batch under way: what it has come to, and what it comes to from here.
-use Rattle.std.specs.Prelude.{◌≡◌, true, false, cond, ◌||◌, List, ℕ, zero, suc, ◌+◌, ◌*◌, ◌-◌, ◌/◌, ◌≤◌, eqb, ltb, length, take, drop}
+use Rattle.std.specs.Prelude.{◌≡◌, true, false, cond, ◌||◌, List, ℕ, zero, suc, ◌+◌, ◌*◌, ◌-◌, ◌/◌, ◌≤◌, eqb, ltb, length, take, drop, Option, Some, None}
 use Rattle.std.proofs.Math.Option.{some}
+use Rattle.model.specs.declared.Refusal.{Refusal}
 use Rattle.model.specs.declared.Batch.{Batch}
 use Rattle.model.specs.Table.{Words, no_collection}
 use Rattle.model.specs.Slots.{Slot, View, view_of}
 use Rattle.model.specs.Reached.{map_of, reached_all}
 use Rattle.model.specs.SoundTest.{leftover_all, sound}
-use Rattle.model.specs.Refusals.{has_recording, unless_refused}
+use Rattle.model.specs.Refusals.{has_recording}
 use Rattle.model.specs.Batch.{Batched, behind, batch}
 use Rattle.sound.specs.Checked.{meant}
 use Rattle.clear.specs.New.{are_new}
 use Rattle.insert_many.specs.declared.Progress.{Progress}
 
 abbrev pub answer_of : Progress → Batch
-answer_of p = record { number = p.number; taken = p.taken; stores = p.stores; flushes = p.flushes; barriers = p.barriers }
+answer_of p = record { stop = p.stop; taken = p.taken; stores = p.stores; flushes = p.flushes; barriers = p.barriers }
 
 -- as it stands
 abbrev pub outcome : Progress → (list t : Words) → Batched
@@ -24,9 +25,13 @@ abbrev pub onward : (n dock : ℕ) → List Slot → Progress → (list t : Word
 onward n dock ss p list t =
     behind p.taken p.stores p.flushes p.barriers (take p.at list) (batch n dock (drop p.taken ss) (drop p.at list) t)
 
+abbrev pub unless_stopped : {A : Type 0} → Option Refusal → (goes stops : A) → A
+unless_stopped None goes stops = goes
+unless_stopped (Some r) goes stops = stops
+
 -- what the batch of the pairs ss comes to from here: it goes on, unless it was stopped
 unfoldable pub ahead : (n dock : ℕ) → List Slot → Progress → (list t : Words) → Batched
-ahead n dock ss p list t = unless_refused p.number (onward n dock ss p list t) (outcome p list t)
+ahead n dock ss p list t = unless_stopped p.stop (onward n dock ss p list t) (outcome p list t)
 
 -- the table is sound, with what is said of it, and the list is filled up to its place
 pub record Fit (n dock : ℕ) (p : Progress) (list t : Words) : Type 0 where
@@ -40,7 +45,7 @@ pub record Fit (n dock : ℕ) (p : Progress) (list t : Words) : Type 0 where
 
 -- a pair with recording q that was taken is one more, and its recording is then in the map
 abbrev pub Gains : (n q : ℕ) → (p r : Progress) → (t t' : Words) → Type 0
-Gains n q p r t t' = r.number ≡ 0 → (r.taken ≡ suc p.taken) × ((x : ℕ) → has_recording x (map_of n t') ≡ (eqb q x || has_recording x (map_of n t)))
+Gains n q p r t t' = r.stop ≡ None → (r.taken ≡ suc p.taken) × ((x : ℕ) → has_recording x (map_of n t') ≡ (eqb q x || has_recording x (map_of n t)))
 
 -- how many pairs from i on are known to be new: of so many if they are, else of half of them, and so on; 0 if not even of two
 unfoldable pub new_width : View → (pairs : Words) → (i fuel width : ℕ) → ℕ

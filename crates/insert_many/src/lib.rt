@@ -2,7 +2,7 @@
 // the words that it filled.
 #![tactic(auto)]
 
-ghost use Rattle.std.specs.Prelude.{◌≡◌, true, false, ◌+◌, ◌*◌, ◌/◌, ◌≤◌, ◌<◌, length, get_or};
+ghost use Rattle.std.specs.Prelude.{◌≡◌, true, false, None, ◌+◌, ◌*◌, ◌/◌, ◌≤◌, ◌<◌, length, get_or};
 ghost use Rattle.std.proofs.Math.Option.{some};
 ghost use Rattle.model.specs.Table.{no_collection};
 ghost use Rattle.model.specs.Slots.{slot, slots_of, recording_of};
@@ -13,19 +13,18 @@ ghost use Rattle.model.specs.Batch.{insertion_of, batch};
 ghost use Rattle.reach.specs.Marks.{Marked};
 ghost use Rattle.sound.specs.Checked.{meant};
 ghost use Rattle.clear.specs.New.{recordings_of, New};
-ghost use Rattle.insert.specs.Entered.{as_written, Counts};
+ghost use Rattle.insert.specs.Entered.{as_written, Reaches};
 ghost use Rattle.insert_many.specs.Going.{outcome, ahead, Fit, Gains, new_end};
 
 use insert::Entered;
-use model::Batch;
-use sound::Leftover;
-use write::Judged;
+use model::{Batch, Refusal};
+use sound::{Leftover, Sound};
 
-// How far a batch has come: the number that stopped it, 0 for none; the pairs taken, the words of the list filled and the three counts; what
+// How far a batch has come: the refusal that stopped it, if one did; the pairs taken, the words of the list filled and the three counts; what
 // repair has to do, and how many nodes are reached.
 #[derive(Clone, Copy)]
 pub struct Progress {
-    pub number: u8,
+    pub stop: Option<Refusal>,
     pub taken: usize,
     pub at: usize,
     pub stores: u64,
@@ -47,7 +46,7 @@ fn take_one(
     left: Leftover,
     reached: u64,
     known: bool,
-) -> Entered
+) -> Result<Entered, Refusal>
     requires table_value { sound table.old ≡ true }
     requires table_value_2 { leftover_all table.old ≡ some (meant left) }
     requires reached_value { reached ≡ length (reached_all table.old) }
@@ -58,11 +57,11 @@ fn take_one(
     ensures result_value { as_written result ≡ written (insertion_of collection (slot key pointer)) (length list.old) dock table.old }
     ensures table_after { table.new ≡ table_after (insertion_of collection (slot key pointer)) (length list.old) dock table.old }
     ensures list_after { list.new ≡ list_after (insertion_of collection (slot key pointer)) list.old dock table.old }
-    ensures counts { Counts result table.new }
+    ensures counts { Reaches result table.new }
     ensures marked_2 { Marked table.new marks.new }
 {
     if list.len() < write::words_for(dock) {
-        return Entered::Refused(5);
+        return Err(Refusal::ShortList);
     }
     let recording = pointer::recording(pointer);
     let access = pointer::class(pointer);
@@ -83,7 +82,7 @@ fn take_next(
     known: bool,
 ) -> Progress
     requires fit { Fit collection dock p list.old table.old }
-    requires number_value { p.number ≡ 0 }
+    requires stop_value { p.stop ≡ None }
     requires taken_in_bounds { 2 * p.taken + 1 < length pairs.now }
     requires known_value { known ≡ has_recording (recording_of (get_or pairs.now (2 * p.taken + 1) 0)) (map_of collection table.old) }
     requires marked { Marked table.old marks.old }
@@ -111,30 +110,19 @@ fn take_next(
         known,
     );
     match entered {
-        Entered::Refused(n) => Progress {
-            number: n,
-            taken: i,
-            at: at,
-            stores: p.stores,
-            flushes: p.flushes,
-            barriers: p.barriers,
-            left: left,
-            reached: p.reached,
+        Err(refusal) => Progress {
+            stop: Some(refusal),
+            ..p
         },
-        Entered::Done {
-            stores,
-            flushes,
-            barriers,
-            reached,
-        } => Progress {
-            number: 0,
+        Ok(Entered { counts, reached }) => Progress {
+            stop: None,
             taken: i + 1,
-            at: at + 2 * (stores + flushes + barriers) as usize,
-            stores: p.stores + stores,
-            flushes: p.flushes + flushes,
-            barriers: p.barriers + barriers,
+            at: at + 2 * (counts.stores + counts.flushes + counts.barriers) as usize,
+            stores: p.stores + counts.stores,
+            flushes: p.flushes + counts.flushes,
+            barriers: p.barriers + counts.barriers,
             left: Leftover::Nothing,
-            reached: reached,
+            reached,
         },
     }
 }
@@ -154,11 +142,12 @@ fn new_end(table: &[u64], collection: u64, pairs: &[u64], i: usize, end: usize) 
     }
     let root = node::root_of(table, collection);
     let mut width = pairs.len() / 2 - i;
+    // A width halves: no range or iterator says that more plainly.
     while 1 < width {
         if clear::are_new(table, root, pairs, i, i + width) {
             return i + width;
         }
-        width = width / 2;
+        width /= 2;
     }
     i
 }
@@ -198,22 +187,22 @@ fn take_all(
 {
     let count = pairs.len() / 2;
     let mut p = Progress {
-        number: 0,
+        stop: None,
         taken: 0,
         at: 0,
         stores: 0,
         flushes: 0,
         barriers: 0,
-        left: left,
-        reached: reached,
+        left,
+        reached,
     };
     let mut marks = [0u64; reach::MARKS];
     let mut end = 0;
-    while p.taken < count {
-        end = new_end(table, collection, pairs, p.taken, end);
-        let known = is_known(table, collection, pairs, p.taken, end);
+    for i in 0..count {
+        end = new_end(table, collection, pairs, i, end);
+        let known = is_known(table, collection, pairs, i, end);
         p = take_next(table, list, &mut marks, dock, collection, pairs, p, known);
-        if p.number != 0 {
+        if p.stop.is_some() {
             return p;
         }
     }
@@ -221,11 +210,11 @@ fn take_all(
 }
 
 // A batch that is stopped before its first pair.
-fn stopped(number: u8) -> Batch
-    ensures { result ≡ record { number = number; taken = 0; stores = 0; flushes = 0; barriers = 0 } }
+fn stopped(stop: Option<Refusal>) -> Batch
+    ensures { result ≡ record { stop = stop; taken = 0; stores = 0; flushes = 0; barriers = 0 } }
 {
     Batch {
-        number: number,
+        stop,
         taken: 0,
         stores: 0,
         flushes: 0,
@@ -246,15 +235,14 @@ pub fn insert_many(
     ensures list_after { list.new ≡ (batch collection dock (slots_of pairs.now) list.old table.old).list }
 {
     if pairs.len() < 2 {
-        return stopped(0);
+        return stopped(None);
     }
-    let judgement = write::judge(table, collection, list.len(), dock);
-    match judgement {
-        Judged::Refused(n) => stopped(n),
-        Judged::Ready { left, reached } => {
-            let p = take_all(table, list, dock, collection, pairs, left, reached);
+    match write::judge(table, collection, list.len(), dock) {
+        Err(refusal) => stopped(Some(refusal)),
+        Ok(Sound { leftover, reached }) => {
+            let p = take_all(table, list, dock, collection, pairs, leftover, reached);
             Batch {
-                number: p.number,
+                stop: p.stop,
                 taken: p.taken as u64,
                 stores: p.stores,
                 flushes: p.flushes,

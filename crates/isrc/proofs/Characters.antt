@@ -11,6 +11,7 @@ use lib.Dec.{leb, ltb, eqb}
 use lib.ListN.{length, get_or, drop}
 use lib.Seq.{drop-cons}
 use borrow.Author.Tests.{leb-true, lt-leb, lt-ltb, le-ltb, eq-eqb, ne_eqb}
+use Rattle.std.specs.List.{list_all}
 use Rattle.model.specs.Codes.{is_digit, is_letter, is_letter_or_digit, value, read_on, character, text_below}
 use Rattle.model.specs.Lists.{all}
 use Rattle.isrc.proofs.Digits.{Below}
@@ -118,11 +119,10 @@ pub every-cons : (p : ℕ → Bool) (c : ℕ) (cs : List ℕ) → all p (c ∷ c
 unfolding all
 every-cons p c cs e = (and-eq-true_iff (p c) (all p cs)).0 e
 
--- from place i on: the character there, then what follows
-pub every-at : (p : ℕ → Bool) (xs : List ℕ) (i : ℕ) (r s : Bool) → i < length xs → r ≡ p (get_or xs i 0) → r ≡ s
-    → all p (drop i xs) ≡ (s && all p (drop (i + 1) xs))
+pub listed-all : (p : ℕ → Bool) (cs : List ℕ) → list_all p cs ≡ all p cs
 unfolding all
-every-at p xs i r s h e f = rw (drop-cons xs i 0 h, add-one i, ← e, f)
+listed-all p [] = refl
+listed-all p (c ∷ cs) = ap (λ b. p c && b) (listed-all p cs)
 
 pub every-get_d : (p : ℕ → Bool) (xs : List ℕ) (i : ℕ) → all p xs ≡ true → i < length xs → p (get_or xs i 0) ≡ true
 every-get_d p [] i e h = absurd (omega arith)

@@ -6,11 +6,12 @@ use Prim.Native.Nat.{ℕ, ◌-◌, ◌/◌, ◌<◌}
 use native.Mathlib.Nat.{le_of_eq}
 use native.Mathlib.Omega.{arith}
 use lib.Dec.{eqb, ltb}
-use lib.ListN.{length, take, drop, replicate, length-drop, length-map, take-append-drop}
+use lib.ListN.{length, take, drop, length-drop, length-map, take-append-drop}
 use lib.Seq.{take_all, take-add, length-take-le}
 use lib.Arith.{digits_lt, digits_div}
 use borrow.Author.Tests.{eqb-true, eq-eqb}
-use Rattle.model.specs.declared.Parsed.TheVariants.{Key, Refused}
+use Rattle.std.specs.Prelude.{Ok}
+use Rattle.model.specs.Results.{refused_with}
 use Rattle.model.specs.Codes.{is_digit, is_letter, is_letter_or_digit, is_code, value, number, key_of, parse, digits, spelling, has_code, print, text_below}
 use Rattle.model.specs.Lists.{all}
 use Rattle.isrc.proofs.Digits.{Below, number-bound, read_on-number, digits-read_on, digits-number, number-below, readings-below}
@@ -115,19 +116,19 @@ module _ (a b : List ℕ) (c : Code a) (d : Code b) where
 
 -- ---- what reading and printing come to
 
-pub parse-code : (text : List ℕ) → is_code text ≡ true → parse text ≡ Key (key_of text)
+pub parse-code : (text : List ℕ) → is_code text ≡ true → parse text ≡ Ok (key_of text)
 unfolding parse
 parse-code text e = rw e
 
-pub parse-other : (text : List ℕ) → is_code text ≡ false → parse text ≡ Refused 1
+pub parse-other : (text : List ℕ) → is_code text ≡ false → parse text ≡ refused_with 1
 unfolding parse
 parse-other text e = rw e
 
-read-by : (b : Bool) (n k : ℕ) → cond b (Key n) (Refused 1) ≡ Key k → (b ≡ true) × (n ≡ k)
+read-by : (b : Bool) (n k : ℕ) → cond b (Ok n) (refused_with 1) ≡ Ok k → (b ≡ true) × (n ≡ k)
 read-by true n k e = (refl, cc)
 read-by false n k e = let z : ◌≡◌ {A = ℕ} 0 1 = cc in absurd (omega arith)
 
-pub parsed : (text : List ℕ) (k : ℕ) → parse text ≡ Key k → (is_code text ≡ true) × (key_of text ≡ k)
+pub parsed : (text : List ℕ) (k : ℕ) → parse text ≡ Ok k → (is_code text ≡ true) × (key_of text ≡ k)
 unfolding parse
 parsed text k e = read-by (is_code text) (key_of text) k e
 
@@ -142,14 +143,14 @@ unfolding has_code
 key-has-code text e =
     rw (spelling-key text (code text e), e) (eq-eqb (key_of text) (key_of text) refl)
 
-pub print-code : (k : ℕ) → has_code k ≡ true → print k ≡ record { number = 0; text = spelling k }
+pub print-code : (k : ℕ) → has_code k ≡ true → print k ≡ Ok (spelling k)
 unfolding print
 print-code k e = rw e
 
-pub print-other : (k : ℕ) → (has_code k ≡ true → ⊥) → print k ≡ record { number = 1; text = replicate 12 0 }
+pub print-other : (k : ℕ) → (has_code k ≡ true → ⊥) → print k ≡ refused_with 1
 unfolding print
 print-other k h = go (has_code k) refl
   where
-    go : (b : Bool) → has_code k ≡ b → print k ≡ record { number = 1; text = replicate 12 0 }
+    go : (b : Bool) → has_code k ≡ b → print k ≡ refused_with 1
     go true e = absurd (h e)
     go false e = rw e

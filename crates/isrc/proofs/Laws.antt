@@ -5,28 +5,28 @@ use mathlib.Core.Logic.{◌↔◌}
 use mathlib.Core.List.{List}
 use Prim.Native.Nat.{ℕ, ◌<◌}
 use borrow.Author.Tests.{ltb-true, lt-ltb}
-use Rattle.model.specs.declared.Parsed.TheVariants.{Key}
-use Rattle.model.specs.Codes.{is_code, key_of, parse, spelling, has_code, print, text_below}
+use Rattle.std.specs.Prelude.{Ok}
+use Rattle.model.specs.Codes.{is_code, key_of, parse, spelling, has_code, print, characters_of, text_below}
 use Rattle.isrc.proofs.Codes.{code, spelling-key, codes-order, parse-code, parsed, spelled, key-has-code, print-code}
 
 -- Printing a code's key gives the code back.
-pub print-key_of : (text : List ℕ) → is_code text ≡ true → print (key_of text) ≡ record { number = 0; text = text }
+pub print-key_of : (text : List ℕ) → is_code text ≡ true → print (key_of text) ≡ Ok text
 print-key_of text e = rw (print-code (key_of text) (key-has-code text e), spelling-key text (code text e))
 
-pub print-parsed : (text : List ℕ) (k : ℕ) → parse text ≡ Key k → print k ≡ record { number = 0; text = text }
+pub print-parsed : (text : List ℕ) (k : ℕ) → parse text ≡ Ok k → print k ≡ Ok text
 print-parsed text k e =
     let p = parsed text k e in
     rw p.1 at (print-key_of text p.0)
 
 -- What a key with a code spells, and so what it prints as, reads as the key.
-pub parse-spelling : (k : ℕ) → has_code k ≡ true → parse (spelling k) ≡ Key k
-parse-spelling k e = let t = spelled k e in parse-code (spelling k) t.0 ∙ ap Key t.1
+pub parse-spelling : (k : ℕ) → has_code k ≡ true → parse (spelling k) ≡ Ok k
+parse-spelling k e = let t = spelled k e in parse-code (spelling k) t.0 ∙ ap Ok t.1
 
-pub parse-print : (k : ℕ) → has_code k ≡ true → parse (print k).text ≡ Key k
+pub parse-print : (k : ℕ) → has_code k ≡ true → parse (characters_of (print k)) ≡ Ok k
 parse-print k e = rw (print-code k e) (parse-spelling k e)
 
 -- A key prints exactly if some code reads as it.
-pub prints-iff-read : (k : ℕ) → (has_code k ≡ true) ↔ ((text : List ℕ) × (parse text ≡ Key k))
+pub prints-iff-read : (k : ℕ) → (has_code k ≡ true) ↔ ((text : List ℕ) × (parse text ≡ Ok k))
 prints-iff-read k = (
   λ e. (spelling k, parse-spelling k e),
   λ t. let p = parsed t.0 k t.1 in rw p.1 at (key-has-code t.0 p.0),

@@ -6,7 +6,7 @@ ghost use Rattle.model.specs.Codes.{is_letter_or_digit, is_code, value, number, 
 ghost use Rattle.model.specs.Lists.{all};
 ghost use Rattle.isrc.specs.Kinds.{test};
 
-use model::{Parsed, Printed};
+use model::{Parsed, Printed, Refusal};
 
 // The kinds of characters that a place of a code takes.
 #[derive(Clone, Copy)]
@@ -20,10 +20,7 @@ enum Kind {
 fn within(c: u8, low: u8, high: u8) -> bool
     ensures { result ≡ (leb low c && leb c high) }
 {
-    if c < low {
-        return false;
-    }
-    c <= high
+    (low..=high).contains(&c)
 }
 
 fn is_of(kind: Kind, c: u8) -> bool
@@ -32,12 +29,7 @@ fn is_of(kind: Kind, c: u8) -> bool
     match kind {
         Kind::Letter => within(c, b'A', b'Z'),
         Kind::Digit => within(c, b'0', b'9'),
-        Kind::LetterOrDigit => {
-            if within(c, b'A', b'Z') {
-                return true;
-            }
-            within(c, b'0', b'9')
-        }
+        Kind::LetterOrDigit => within(c, b'A', b'Z') || within(c, b'0', b'9'),
     }
 }
 
@@ -45,19 +37,13 @@ fn is_of(kind: Kind, c: u8) -> bool
 fn all_of(kind: Kind, text: &[u8]) -> bool
     ensures { result ≡ all (test kind) text.now }
 {
-    let mut i = 0;
-    while i < text.len() {
-        if !is_of(kind, text[i]) {
-            return false;
-        }
-        i += 1;
-    }
-    true
+    text.iter().all(|&c| is_of(kind, c))
 }
 
 fn is_code(text: &[u8]) -> bool
     ensures { result ≡ is_code text.now }
 {
+    // One by one: joined by && the tests are no plainer, and each slice's bounds need the joined truth taken apart.
     if text.len() != 12 {
         return false;
     }
@@ -87,10 +73,8 @@ fn number_of(text: &[u8], base: u64) -> u64
     ensures { result ≡ number base (map value text.now) }
 {
     let mut n: u64 = 0;
-    let mut i = 0;
-    while i < text.len() {
-        n = n * base + value_of(text[i]);
-        i += 1;
+    for &c in text {
+        n = n * base + value_of(c);
     }
     n
 }
@@ -100,11 +84,11 @@ pub fn parse(text: &[u8]) -> Parsed
     ensures { result ≡ parse text.now }
 {
     if !is_code(text) {
-        return Parsed::Refused(1);
+        return Err(Refusal::NoCode);
     }
     let first = number_of(&text[..5], 36);
     let last = number_of(&text[5..], 10);
-    Parsed::Key(first * 10000000 + last)
+    Ok(first * 10000000 + last)
 }
 
 // The character that counts d.
@@ -124,9 +108,7 @@ pub fn write_digits(text: &mut [u8], base: u64, x: u64)
     ensures { text.new ≡ map character (digits base (length text.old) x) }
 {
     let mut left = x;
-    let mut i = text.len();
-    while 0 < i {
-        i -= 1;
+    for i in (0..text.len()).rev() {
         text[i] = character_of(left % base);
         left = left / base;
     }
@@ -147,16 +129,8 @@ pub fn print(key: u64) -> Printed
     ensures { result ≡ print key }
 {
     let text = spelling_of(key);
-    if let Parsed::Key(k) = parse(&text) {
-        if k == key {
-            return Printed {
-                number: 0,
-                text: text,
-            };
-        }
-    }
-    Printed {
-        number: 1,
-        text: [0u8; 12],
+    match parse(&text) {
+        Ok(k) if k == key => Ok(text),
+        _ => Err(Refusal::NoCode),
     }
 }

@@ -1,25 +1,19 @@
 // Runs vectors of document 01, "Codes", through reading and printing, and writes what comes out, a line for each.
 #![tactic(auto)]
 
-use model::Parsed;
 use std::io;
 
 // A byte as it is, or in hexadecimal if it is no visible character.
 fn show_byte(rt: &impl Print, b: u8) -> io::Result<()> {
-    if b > 32 {
-        if b < 127 {
-            let one = [b];
-            return rt.write_all(&one);
-        }
+    if b.is_ascii_graphic() {
+        return rt.write_all(&[b]);
     }
     print!(rt; "\\{b:02x}")
 }
 
 fn show(rt: &impl Print, text: &[u8]) -> io::Result<()> {
-    let mut i = 0;
-    while i < text.len() {
-        show_byte(rt, text[i])?;
-        i += 1;
+    for &b in text {
+        show_byte(rt, b)?;
     }
     Ok(())
 }
@@ -29,23 +23,24 @@ fn show_parse(rt: &impl Print, text: &[u8]) -> io::Result<()> {
     print!(rt; "parse ")?;
     show(rt, text)?;
     match isrc::parse(text) {
-        Parsed::Key(k) => println!(rt; " key {k}"),
-        Parsed::Refused(n) => println!(rt; " refused {n}"),
+        Ok(k) => println!(rt; " key {k}"),
+        Err(refusal) => println!(rt; " refused {}", u64::from(refusal)),
     }
 }
 
-// The key, and its text or the refusal's number with the bytes beside it.
+// The key, and its text, or the refusal's number with zeros in the text's place.
 fn show_print(rt: &impl Print, key: u64) -> io::Result<()> {
     print!(rt; "print {key}")?;
-    let r = isrc::print(key);
-    let text = r.text;
-    let number = r.number;
-    if number == 0 {
-        print!(rt; " text ")?;
-    } else {
-        print!(rt; " refused {number} ")?;
+    match isrc::print(key) {
+        Ok(text) => {
+            print!(rt; " text ")?;
+            show(rt, &text)?;
+        }
+        Err(refusal) => {
+            print!(rt; " refused {} ", u64::from(refusal))?;
+            show(rt, &[0u8; 12])?;
+        }
     }
-    show(rt, &text)?;
     println!(rt; "")
 }
 

@@ -1,10 +1,12 @@
 -- The insertion or deletion that is wanted: whether it would be refused, and its new maps, on a table that passed the tests before.
-use mathlib.Core.Path.{◌≡◌, refl, sym, ◌∙◌}
-use mathlib.Core.Bool.{Bool, true, false}
+use mathlib.Core.Path.{◌≡◌, refl, ap, sym, ◌∙◌}
+use mathlib.Core.Bool.{Bool, true, false, false≢true}
 use mathlib.Core.Logic.{◌≢◌}
-use Prim.Native.Nat.{ℕ, ◌≤◌, ◌<◌}
+use Prim.Native.Nat.{ℕ, zero, suc, ◌≤◌, ◌<◌}
 use native.Mathlib.Omega.{arith}
 use lib.ListN.{length}
+use Rattle.std.specs.Prelude.{is_err}
+use Rattle.model.specs.Results.{Outcome, passed}
 use Rattle.model.specs.Table.{Words, at, root_word}
 use Rattle.model.specs.Slots.{RECORDINGS, pointer_of, view_from}
 use Rattle.model.specs.Reached.{mapping, map_of, maps_of, reached_all}
@@ -46,11 +48,22 @@ suits b k x = record { settles = b.settles; collection = b.collection }
 -- ---- an insertion
 
 module _ (n k r c : ℕ) (t list : Words) (out m : ℕ) (b : Before21 n t list out m) where
-  passed : Passed (insertion n k r c) 2560 0 t left.Nothing m
-  passed = record { found = settled-with t m b.settles b.reached; collection = b.collection; dock-ok = omega arith; long = omega arith }
+  ready : Passed (insertion n k r c) 2560 0 t left.Nothing m
+  ready = record { found = settled-with t m b.settles b.reached; collection = b.collection; dock-ok = omega arith; long = omega arith }
 
-  pub insert-refusal : (root : ℕ) (run : Run) (j : ℕ) → root ≡ at t (root_word n) → run ≡ full_run (view_from t root) k 0 → j ≡ number_for n t k r c run → refusal (insertion n k r c) 2560 0 t ≡ j
-  insert-refusal root run j e q d = insert-number passed (run-later passed refl e q) d
+  module _ (root : ℕ) (run : Run) {j : Outcome} (e : root ≡ at t (root_word n)) (q : run ≡ full_run (view_from t root) k 0) (d : j ≡ passed (number_for n t k r c run)) where
+    judged-as : is_err (passed (refusal (insertion n k r c) 2560 0 t)) ≡ is_err j
+    judged-as = ap is_err (insert-number ready (run-later ready refl e q) d)
+
+    pub insert-refused : is_err j ≡ true → refusal (insertion n k r c) 2560 0 t ≢ 0
+    insert-refused z y = false≢true (ap (λ (m : ℕ). is_err (passed m)) (sym y) ∙ judged-as ∙ z)
+
+    pub insert-accepted : is_err j ≡ false → refusal (insertion n k r c) 2560 0 t ≡ 0
+    insert-accepted z = go (refusal (insertion n k r c) 2560 0 t) (judged-as ∙ z)
+      where
+        go : (m : ℕ) → is_err (passed m) ≡ false → m ≡ 0
+        go zero y = refl
+        go (suc m) y = absurd (false≢true (sym y))
 
   module _ (a : refusal (insertion n k r c) 2560 0 t ≡ 0) where
     allowed : Accepted (insertion n k r c) 2560 0 t

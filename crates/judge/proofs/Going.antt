@@ -7,10 +7,10 @@ use mathlib.Core.Option.{Option, none}
 use Prim.Native.Nat.{ℕ, zero, suc, ◌+◌, ◌-◌, ◌*◌, ◌/◌, ◌≤◌, ◌<◌}
 use native.Mathlib.Numerals.{add-one}
 use native.Mathlib.Omega.{arith}
+use Rattle.std.specs.Prelude.{is_some, Option as Known, Some, None, Ok}
 use lib.ListN.{length, take, drop, length-drop, drop_of_length-le}
 use lib.Seq.{take_all}
-use Rattle.model.specs.declared.Verdict.{Verdict}
-use Rattle.model.specs.declared.Verdict.TheVariants.{Yes, No}
+use Rattle.model.specs.Results.{Verdict}
 use Rattle.model.specs.Table.{Words, at}
 use Rattle.model.specs.Reached.{Maps, maps_of}
 use Rattle.model.specs.Orders.{Order, order_of, decode, inside, all_inside, carry}
@@ -35,15 +35,15 @@ order_count list = length list / 2
 pub all-orders : (list : Words) → firsts (order_count list) list 0 ≡ decode list
 all-orders list = take_all (order_count list - 0) (decode list) (omega (arith, decode-length list))
 
-pub record Going (old new : Maps) (t list u : Words) (line i : ℕ) : Type 0 where
+pub record Going (old new : Maps) (t list u : Words) (line : Known ℕ) (i : ℕ) : Type 0 where
   pub up-to : i ≤ order_count list
   pub image : u ≡ carry (take i (decode list)) t
   pub good : good_image old new u ≡ true
   pub all-in : all_inside (length t) (firsts (order_count list) list i) ≡ true
   pub rest : judged_from old new (firsts (order_count list) list i) i (line_of line) u ≡ judged_from old new (decode list) 0 none t
 
-pub going-start : (c : Change) (t list u : Words) → Suits c t → u ≡ t → all_inside (length t) (decode list) ≡ true → Going (maps_of t) (wanted c t) t list u 0 0
-unfolding carry line_of
+pub going-start : (c : Change) (t list u : Words) → Suits c t → u ≡ t → all_inside (length t) (decode list) ≡ true → Going (maps_of t) (wanted c t) t list u None 0
+unfolding carry
 going-start c t list u b e a =
     rw e
     (record {
@@ -63,7 +63,7 @@ taken-more (suc i) (y ∷ xs) x r e = ap (λ q. y ∷ q) (taken-more i xs x r e)
 firsts-drop : (list : Words) (i : ℕ) → firsts (order_count list) list i ≡ drop i (decode list)
 firsts-drop list i = take_all (order_count list - i) (drop i (decode list)) (simp length-drop (omega (arith, decode-length list)))
 
-module _ {old new : Maps} {t list u : Words} {line i : ℕ} (g : Going old new t list u line i) where
+module _ {old new : Maps} {t list u : Words} {line : Known ℕ} {i : ℕ} (g : Going old new t list u line i) where
   pub going-length : length u ≡ length t
   going-length = ap length g.image ∙ length-carry (take i (decode list)) t
 
@@ -80,45 +80,45 @@ module _ {old new : Maps} {t list u : Words} {line i : ℕ} (g : Going old new t
     more : firsts (order_count list) list i ≡ o ∷ later
     more = next (order_count list) list i h (omega arith)
 
-    module _ (u' : Words) (e : u' ≡ carry (order_of (at list (2 * i)) (at list (2 * i + 1)) ∷ []) u) (b : Bool) (l : ℕ)
-        (k : Holds old new (line_of line) (order_of (at list (2 * i)) (at list (2 * i + 1))) u' b l) where
+    module _ (u' : Words) (e : u' ≡ carry (order_of (at list (2 * i)) (at list (2 * i + 1)) ∷ []) u) (r : Known (Known ℕ))
+        (k : Holds old new (line_of line) (order_of (at list (2 * i)) (at list (2 * i + 1))) u' r) where
       image-more : u' ≡ carry (take (i + 1) (decode list)) t
       image-more = e ∙ ap (carry (o ∷ [])) g.image
           ∙ sym (rw (add-one i, taken-more i (decode list) o later (sym (firsts-drop list i) ∙ more)) (carry-append (take i (decode list)) (o ∷ []) t))
 
-      tested : b ≡ (not (second_line (line_of line) o) && good_image old new (carry (o ∷ []) u))
+      tested : is_some r ≡ (not (second_line (line_of line) o) && good_image old new (carry (o ∷ []) u))
       tested = rw e at k.is-held
 
       rest-is : judged_from old new (o ∷ later) i (line_of line) u ≡ judged_from old new (decode list) 0 none t
       rest-is = sym (ap (λ (os : List Order). judged_from old new os i (line_of line) u) more) ∙ g.rest
 
       -- the count does not hold
-      pub going-fails : b ≡ false → No (i + 1) ≡ judged_from old new (decode list) 0 none t
-      going-fails z = ap No (add-one i) ∙ sym (judged-stops old new o later i (line_of line) u (sym tested ∙ z)) ∙ rest-is
+      pub going-fails : r ≡ None → Ok (Some (i + 1)) ≡ judged_from old new (decode list) 0 none t
+      going-fails z = ap (λ (n : ℕ). Ok (Some n)) (add-one i) ∙ sym (judged-stops old new o later i (line_of line) u (sym tested ∙ ap is_some z)) ∙ rest-is
 
-      pub going-failed : u' ≡ carry (take (count_of (No (i + 1)) (order_count list)) (decode list)) t
+      pub going-failed : u' ≡ carry (take (count_of (Ok (Some (i + 1))) (order_count list)) (decode list)) t
       going-failed = image-more
 
       -- it holds
-      pub going-next : b ≡ true → Going old new t list u' l (i + 1)
-      going-next z =
-          let w = (and-iff (not (second_line (line_of line) o)) (good_image old new (carry (o ∷ []) u))).0 (sym tested ∙ z) in
+      pub going-next : (l : Known ℕ) → r ≡ Some l → Going old new t list u' l (i + 1)
+      going-next l z =
+          let w = (and-iff (not (second_line (line_of line) o)) (good_image old new (carry (o ∷ []) u))).0 (sym tested ∙ ap is_some z) in
           record {
             up-to = omega arith;
             image = image-more;
             good = rw e w.1;
             all-in = inside-next (length t) (order_count list) list i h (omega arith) g.all-in;
             rest =
-                ap (λ (m : ℕ). judged_from old new later m (line_of l) u') (add-one i) ∙ ap (λ (x : Option ℕ). judged_from old new later (suc i) x u') (k.line-is z)
-                ∙ ap (judged_from old new later (suc i) (unflushed_after (line_of line) o)) e ∙ sym (judged-goes old new o later i (line_of line) u (sym tested ∙ z)) ∙ rest-is;
+                ap (λ (m : ℕ). judged_from old new later m (line_of l) u') (add-one i) ∙ ap (λ (x : Option ℕ). judged_from old new later (suc i) x u') (k.line-is l z)
+                ∙ ap (judged_from old new later (suc i) (unflushed_after (line_of line) o)) e ∙ sym (judged-goes old new o later i (line_of line) u (sym tested ∙ ap is_some z)) ∙ rest-is;
           }
 
 -- all orders held
-module _ (c : Change) (t list u : Words) (line i : ℕ) (b : Suits c t) (g : Going (maps_of t) (wanted c t) t list u line i) (h : order_count list ≤ i) (r : Verdict) (e : r ≡ ended (line_of line) u c (order_count list)) where
+module _ (c : Change) (t list u : Words) (line : Known ℕ) (i : ℕ) (b : Suits c t) (g : Going (maps_of t) (wanted c t) t list u line i) (h : order_count list ≤ i) (r : Verdict) (e : r ≡ ended (line_of line) u c (order_count list)) where
   all : i ≡ order_count list
   all = omega (arith, g.up-to)
 
-  answer-is : r ≡ cond (completes (wanted c t) (line_of line) u) Yes (No (order_count list))
+  answer-is : r ≡ cond (completes (wanted c t) (line_of line) u) (Ok None) (Ok (Some (order_count list)))
   answer-is = e ∙ ended-is c t b line u (order_count list) g.good
 
   pub going-ends : r ≡ judged_from (maps_of t) (wanted c t) (decode list) 0 none t
@@ -130,6 +130,6 @@ module _ (c : Change) (t list u : Words) (line i : ℕ) (b : Suits c t) (g : Goi
   pub going-ended : u ≡ carry (take (count_of r (order_count list)) (decode list)) t
   going-ended = g.image ∙ ap (λ (n : ℕ). carry (take n (decode list)) t) (all ∙ sym (ap (λ (x : Verdict). count_of x (order_count list)) answer-is ∙ counted (completes (wanted c t) (line_of line) u)))
     where
-      counted : (b : Bool) → count_of (cond b Yes (No (order_count list))) (order_count list) ≡ order_count list
+      counted : (b : Bool) → count_of (cond b (Ok None) (Ok (Some (order_count list)))) (order_count list) ≡ order_count list
       counted true = refl
       counted false = refl

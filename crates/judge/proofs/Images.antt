@@ -76,11 +76,15 @@ module _ (c : Change) (t u : Words) where
     unfolding maps_of
     second-is v b e = rw e
 
-    module _ (x : Bool) (e : x ≡ old_or_new own c.key c.pointer (map_of 1 t) (map_of 1 u)) where
+    -- the first trees by the roots that were read
+    module _ {top root : ℕ} (i : top ≡ at u 1) (j : root ≡ at t 1) {x : Bool} (d : x ≡ old_or_new own c.key c.pointer (mapping (view_from t root)) (mapping (view_from u top))) where
+      e : x ≡ old_or_new own c.key c.pointer (map_of 1 t) (map_of 1 u)
+      e = rw (i, j) at d
+
       first-fails : (own b n s w : Bool) → b || (own && n) ≡ false → parts own b n s w ≡ false
       first-fails true false false s w q = refl
       first-fails false false n s w q = refl
-      first-fails own true n s w q = absurd (false≢true (sym q))
+      first-fails o true n s w q = absurd (false≢true (sym q))
       first-fails true false true s w q = absurd (false≢true (sym q))
 
       pub first-wrong : x ≡ false → false ≡ good_image (maps_of t) (wanted c t) u
@@ -106,24 +110,20 @@ module _ (c : Change) (t u : Words) where
         unfolding old_or_new
         good-rest = good-parts ∙ rest own b₁ n₁ _ _ (sym e ∙ y)
 
-        pub lacks-second : (a b : ℕ) → a ≡ at u 3 → b ≡ at t 3 → a ≡ 0 → eqb b 0 ≡ good_image (maps_of t) (wanted c t) u
-        lacks-second a b p q z =
+        pub lacks-second : {a b : ℕ} → a ≡ at u 3 → b ≡ at t 3 → a ≡ 0 → eqb b 0 ≡ good_image (maps_of t) (wanted c t) u
+        lacks-second p q z =
             sym (good-rest ∙ rw (second-is u true (eq-eqb (at u 3) 0 (sym p ∙ z)), second-is t (eqb (at t 3) 0) refl, q) (lacking (not own) (eqb (at t 3) 0) f (map_of 2 t)))
 
-        pub none-wanted : (a b : ℕ) → a ≡ at u 3 → b ≡ at t 3 → (a ≡ 0 → ⊥) → b ≡ 0 → false ≡ good_image (maps_of t) (wanted c t) u
-        none-wanted a b p q z w =
-            sym (good-rest ∙ rw (second-is u false (ne_eqb (at u 3) 0 (λ d. z (p ∙ d))), second-is t true (eq-eqb (at t 3) 0 (sym q ∙ w))) (none-for (not own)))
+        pub none-wanted : {a b : ℕ} → a ≡ at u 3 → b ≡ at t 3 → (a ≡ 0 → ⊥) → b ≡ 0 → false ≡ good_image (maps_of t) (wanted c t) u
+        none-wanted p q z w =
+            sym (good-rest ∙ rw (second-is u false (ne_eqb (at u 3) 0 (λ y. z (p ∙ y))), second-is t true (eq-eqb (at t 3) 0 (sym q ∙ w))) (none-for (not own)))
           where
             none-for : (o : Bool) → false || (o && false) ≡ false
             none-for true = refl
             none-for false = refl
 
-        pub second-judged : (a b : ℕ) → a ≡ at u 3 → b ≡ at t 3 → (a ≡ 0 → ⊥) → (b ≡ 0 → ⊥) → (r : Bool)
+        pub second-judged : {a b : ℕ} → a ≡ at u 3 → b ≡ at t 3 → (a ≡ 0 → ⊥) → (b ≡ 0 → ⊥) → {r : Bool}
             → r ≡ old_or_new (not own) c.key c.pointer (mapping (view_from t b)) (mapping (view_from u a)) → r ≡ good_image (maps_of t) (wanted c t) u
         unfolding old_or_new
-        second-judged a b p q z w r d =
-            rw (p, q) at d ∙ sym (good-rest ∙ rw (second-is u false (ne_eqb (at u 3) 0 (λ d. z (p ∙ d))), second-is t false (ne_eqb (at t 3) 0 (λ d. w (q ∙ d)))))
-
--- the first trees by the roots that were read
-pub as-first : (u t : Words) (own : Bool) (k x : ℕ) (a b : ℕ) → a ≡ at u 1 → b ≡ at t 1 → (r : Bool) → r ≡ old_or_new own k x (mapping (view_from t b)) (mapping (view_from u a)) → r ≡ old_or_new own k x (map_of 1 t) (map_of 1 u)
-as-first u t own k x a b p q r e = rw (p, q) at e
+        second-judged p q z w g =
+            rw (p, q) at g ∙ sym (good-rest ∙ rw (second-is u false (ne_eqb (at u 3) 0 (λ y. z (p ∙ y))), second-is t false (ne_eqb (at t 3) 0 (λ y. w (q ∙ y)))))

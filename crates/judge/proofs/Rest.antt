@@ -2,16 +2,13 @@
 use mathlib.Core.Path.{◌≡◌, refl, ap, sym, ◌∙◌}
 use mathlib.Core.Bool.{Bool, true, false, cond, false≢true}
 use mathlib.Core.Logic.{◌≢◌, ◌↔◌, ◌⊎◌, inl, inr}
-use mathlib.Core.List.{List, [], ◌∷◌, ◌++◌}
+use mathlib.Core.List.{List}
 use mathlib.Core.Option.{Option, none, some, map}
-use Prim.Native.Nat.{ℕ, zero, suc, ◌+◌, ◌≤◌, ◌<◌}
-use native.Mathlib.Numerals.{add-one}
+use Prim.Native.Nat.{ℕ}
 use native.Mathlib.Omega.{arith}
 use lib.Dec.{eqb}
+use Rattle.std.specs.Prelude.{is_some, Option as Known, Some, None, Ok}
 use borrow.Author.Tests.{eq-eqb, ne_eqb}
-use lib.ListN.{length, take, set}
-use lib.Seq.{take_all, take-suc, take-suc-set}
-use Rattle.model.specs.declared.Verdict.TheVariants.{Yes, No}
 use Rattle.model.specs.Table.{Words, at, root_word, no_collection}
 use Rattle.model.specs.Slots.{Slot, view_from, view_of}
 use Rattle.model.specs.Reached.{mapping, map_of, Maps, maps_of}
@@ -37,26 +34,33 @@ unsound-unsettled t e = sym (refuted (settled t) (λ s. false≢true (sym e ∙ 
 
 -- ---- the answer after all orders
 
-module _ (l : ℕ) (u : Words) (c : Change) (n : ℕ) where
-  pub end-line : (l ≡ 0 → ⊥) → No n ≡ ended (line_of l) u c n
-  unfolding ended line_of
+module _ (l : Known ℕ) (u : Words) (c : Change) (n : ℕ) where
+  pub end-line : is_some l ≡ true → Ok (Some n) ≡ ended (line_of l) u c n
+  unfolding ended
   end-line z = go l z
     where
-      go : (l : ℕ) → (l ≡ 0 → ⊥) → No n ≡ ended (line_of l) u c n
-      go zero z = absurd (z refl)
-      go (suc l) z = refl
+      go : (l : Known ℕ) → is_some l ≡ true → Ok (Some n) ≡ ended (line_of l) u c n
+      go None z = absurd (false≢true z)
+      go (Some l) z = refl
 
-  module _ (z : l ≡ 0) where
-    pub end-unsettled : settled u ≡ false → No n ≡ ended (line_of l) u c n
-    unfolding ended line_of
+  module _ (y : is_some l ≡ false) where
+    z : l ≡ None
+    z = go l y
+      where
+        go : (l : Known ℕ) → is_some l ≡ false → l ≡ None
+        go None y = refl
+        go (Some l) y = absurd (false≢true (sym y))
+
+    pub end-unsettled : settled u ≡ false → Ok (Some n) ≡ ended (line_of l) u c n
+    unfolding ended
     end-unsettled e = rw (z, e)
 
-    pub end-pointer : settled u ≡ true → (x : ℕ) → x ≡ held c.key (map_of c.collection u) → (x ≡ c.pointer → ⊥) → No n ≡ ended (line_of l) u c n
-    unfolding ended line_of
+    pub end-pointer : settled u ≡ true → (x : ℕ) → x ≡ held c.key (map_of c.collection u) → (x ≡ c.pointer → ⊥) → Ok (Some n) ≡ ended (line_of l) u c n
+    unfolding ended
     end-pointer e x q y = rw (z, e, ← q, ne_eqb x c.pointer y)
 
-    pub end-yes : settled u ≡ true → (x : ℕ) → x ≡ held c.key (map_of c.collection u) → x ≡ c.pointer → Yes ≡ ended (line_of l) u c n
-    unfolding ended line_of
+    pub end-yes : settled u ≡ true → (x : ℕ) → x ≡ held c.key (map_of c.collection u) → x ≡ c.pointer → Ok None ≡ ended (line_of l) u c n
+    unfolding ended
     end-yes e x q y = rw (z, e, ← q, eq-eqb x c.pointer y)
 
 -- ---- what a good image has
@@ -159,7 +163,7 @@ module _ (c : Change) (t : Words) (b : Suits c t) where
           refuted (same_maps (maps_of u) (wanted c t)) (λ d. y (as-new ((maps-same (maps_of u) (wanted c t)).0 d))) ∙ sym (ne_eqb _ _ y)
 
   -- So the answer after all orders is as the definition has it.
-  pub ended-is : (l : ℕ) (u : Words) (n : ℕ) → good_image (maps_of t) (wanted c t) u ≡ true → ended (line_of l) u c n ≡ cond (completes (wanted c t) (line_of l) u) Yes (No n)
+  pub ended-is : (l : Known ℕ) (u : Words) (n : ℕ) → good_image (maps_of t) (wanted c t) u ≡ true → ended (line_of l) u c n ≡ cond (completes (wanted c t) (line_of l) u) (Ok None) (Ok (Some n))
   unfolding ended completes
   ended-is l u n g = rw (new-pointer u g)
 
@@ -167,11 +171,3 @@ module _ (c : Change) (t : Words) (b : Suits c t) where
 
 pub held-own : (t : Words) (n k r : ℕ) → r ≡ at t (root_word n) → (x : ℕ) → x ≡ held k (mapping (view_from t r)) → x ≡ held k (map_of n t)
 held-own t n k r e x q = rw e at q
-
--- ---- words copied
-
-pub copied-more : (t out : Words) (w : ℕ) → take w out ≡ take w t → w < length out → length out ≡ length t → take (w + 1) (set out w (at t w)) ≡ take (w + 1) t
-copied-more t out w e h l = rw (add-one w) (take-suc-set out w (at t w) h ∙ ap (λ (q : Words). q ++ (at t w ∷ [])) e ∙ sym (take-suc t w 0 (omega arith)))
-
-pub copied-all : (t out : Words) (w : ℕ) → take w out ≡ take w t → length t ≤ w → length out ≡ length t → out ≡ t
-copied-all t out w e h l = sym (take_all w out (omega arith)) ∙ e ∙ take_all w t h

@@ -8,8 +8,8 @@ use native.Mathlib.Omega.{arith}
 use borrow.Author.Tests.{eqb-true, eq-eqb, le-leb}
 use lib.ListN.{length, take}
 use lib.Seq.{take_all}
-use Rattle.model.specs.declared.Verdict.{Verdict}
-use Rattle.model.specs.declared.Verdict.TheVariants.{Yes, No, Refused}
+use Rattle.std.specs.Prelude.{Ok, Err, Some, None}
+use Rattle.model.specs.Results.{Verdict, refused_with}
 use Rattle.model.specs.Table.{Words, header_ok}
 use Rattle.model.specs.SoundTest.{sound, settled}
 use Rattle.model.specs.Orders.{Order, orders, carry, order_of, decode, all_inside, carry_number, carried_out}
@@ -100,7 +100,7 @@ judgeable-iff x t list out =
 
 -- Refused: the number of the first test that fails, and no word of the second slice is written.
 pub judge-refused : (x : Call) (t list out : Words) (n : ℕ) → judge_number x t list (length out) ≡ suc n
-    → (judge x t list (length out) ≡ Refused (suc n)) × (judge_out x t list out ≡ out)
+    → (judge x t list (length out) ≡ refused_with (suc n)) × (judge_out x t list out ≡ out)
 unfolding judge judge_out
 judge-refused x t list out n e = (rw e refl, rw e refl)
 
@@ -124,9 +124,9 @@ unfolding carried_out carry_number
 carried c list t h a l = rw (h, le-leb c (length list / 2) l, inside-take (length t) c (decode list) a)
 
 count-within : (x : Call) (t : Words) (os : List Order) (r : Verdict) (n : ℕ) → n ≡ length os → Says x t os r → count_of r n ≤ n
-count-within x t os Yes n e h = omega arith
-count-within x t os (No c) n e h = rw e h.0
-count-within x t os (Refused m) n e h = absurd h
+count-within x t os (Ok None) n e h = omega arith
+count-within x t os (Ok (Some c)) n e h = rw e h.0
+count-within x t os (Err m) n e h = absurd h
 
 module _ (x : Call) (t list out : Words) (j : Judgeable x t list (length out)) where
   -- It ends as the table with the list carried out, whole for yes, up to the named count for no.
@@ -141,7 +141,7 @@ module _ (x : Call) (t list out : Words) (j : Judgeable x t list (length out)) w
 
 -- The first words of the lent list that an accepted call on a settled table fills, so many as it answers orders, twice, are accepted.
 pub ours-judged : (x : Call) (lent : Words) (dock : ℕ) (t : Words) → settled t ≡ true → refusal x (length lent) dock t ≡ 0
-    → judge x t (take (2 * orders_answered (written x (length lent) dock t)) (list_after x lent dock t)) (length t) ≡ Yes
+    → judge x t (take (2 * orders_answered (written x (length lent) dock t)) (list_after x lent dock t)) (length t) ≡ Ok None
 ours-judged x lent dock t s a =
     let u = (accepted-iff x (length lent) dock t).0 a in
     let n = orders_answered (written x (length lent) dock t) in

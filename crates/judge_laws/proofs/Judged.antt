@@ -10,8 +10,8 @@ use native.Mathlib.Omega.{arith}
 use native.Mathlib.Decide.{dec_le}
 use lib.ListN.{length, take, length-append}
 use lib.Seq.{take-nil, take_all, take-append-le}
-use Rattle.model.specs.declared.Verdict.{Verdict}
-use Rattle.model.specs.declared.Verdict.TheVariants.{Yes, No, Refused}
+use Rattle.std.specs.Prelude.{Ok, Err, Some, None}
+use Rattle.model.specs.Results.{Verdict}
 use Rattle.model.specs.Table.{Words}
 use Rattle.model.specs.Reached.{Maps, maps_of}
 use Rattle.model.specs.SoundTest.{sound, settled}
@@ -79,7 +79,7 @@ module _ (old new : Maps) (o : Order) (b : List Order) (c : ℕ) (l : Option ℕ
   unfolding judged_from
   judged-goes e = rw (e, judged_from)
 
-  pub judged-stops : not (second_line l o) && good_image old new (carry (o ∷ []) u) ≡ false → judged_from old new (o ∷ b) c l u ≡ No (suc c)
+  pub judged-stops : not (second_line l o) && good_image old new (carry (o ∷ []) u) ≡ false → judged_from old new (o ∷ b) c l u ≡ Ok (Some (suc c))
   unfolding judged_from
   judged-stops e = rw (e, judged_from)
 
@@ -139,7 +139,7 @@ module _ (x : Call) (t : Words) where
   -- ---- the answer from there on
 
   -- all orders were looked at
-  at-end : (a : List Order) (l : Option ℕ) (u : Words) → Looked a l → u ≡ carry a t → Says x t a (cond (completes new l u) Yes (No (length a)))
+  at-end : (a : List Order) (l : Option ℕ) (u : Words) → Looked a l → u ≡ carry a t → Says x t a (cond (completes new l u) (Ok None) (Ok (Some (length a))))
   at-end a l u k e = go (completes new l u) refl
     where
       i : (completes new l u ≡ true) ↔ Completes x t a
@@ -148,13 +148,13 @@ module _ (x : Call) (t : Words) where
       holds : (d : ℕ) → d ≤ length a → (d ≡ length a → Completes x t a) → CountHolds x t a d
       holds d h w = rw append-nil at (looked-holds a [] l k d h (rw append-nil w))
 
-      go : (b : Bool) → completes new l u ≡ b → Says x t a (cond b Yes (No (length a)))
+      go : (b : Bool) → completes new l u ≡ b → Says x t a (cond b (Ok None) (Ok (Some (length a))))
       go true c = λ d h. holds d h (λ q. i.0 c)
       go false c = (omega arith, λ d h. holds d (omega arith) (λ q. absurd (omega arith)), λ h. false≢true (sym c ∙ i.1 (h.whole refl)))
 
   -- an order that fails
   at-order : (a : List Order) (o : Order) (b : List Order) (l : Option ℕ) (u : Words) → Looked a l → u ≡ carry (a ++ (o ∷ [])) t
-      → not (second_line l o) && good u ≡ false → Says x t (a ++ (o ∷ b)) (No (suc (length a)))
+      → not (second_line l o) && good u ≡ false → Says x t (a ++ (o ∷ b)) (Ok (Some (suc (length a))))
   at-order a o b l u k e f = (
     simp length-append (omega arith),
     λ d h. looked-holds a (o ∷ b) l k d (omega arith) (λ q. absurd (omega (arith, simp length-append at q))),
@@ -196,16 +196,16 @@ judged-says x t os s = from x t os [] 0 none t (looked-nil x t s) refl refl
 -- ---- there is one answer
 
 says-same : (x : Call) (t : Words) (os : List Order) (a b : Verdict) → Says x t os a → Says x t os b → a ≡ b
-says-same x t os (Refused n) b h k = absurd h
-says-same x t os Yes (Refused n) h k = absurd k
-says-same x t os Yes Yes h k = refl
-says-same x t os Yes (No c) h k = absurd (k.2 (h c k.0))
-says-same x t os (No c) (Refused n) h k = absurd k
-says-same x t os (No c) Yes h k = absurd (h.2 (k c h.0))
-says-same x t os (No c) (No d) h k =
+says-same x t os (Err n) b h k = absurd h
+says-same x t os (Ok None) (Err n) h k = absurd k
+says-same x t os (Ok None) (Ok None) h k = refl
+says-same x t os (Ok None) (Ok (Some c)) h k = absurd (k.2 (h c k.0))
+says-same x t os (Ok (Some c)) (Err n) h k = absurd k
+says-same x t os (Ok (Some c)) (Ok None) h k = absurd (h.2 (k c h.0))
+says-same x t os (Ok (Some c)) (Ok (Some d)) h k =
     elim (compared c d) [
       | inl l ↦ absurd (h.2 (k.1 c l))
-      | inr (inl e) ↦ ap No e
+      | inr (inl e) ↦ ap (λ (c : ℕ). Ok (Some c)) e
       | inr (inr g) ↦ absurd (k.2 (h.1 d g))
     ]
 

@@ -4,7 +4,7 @@ use mathlib.Core.Bool.{true}
 use mathlib.Core.List.{List}
 use Prim.Native.Nat.{ℕ}
 use lib.ListN.{take}
-use Rattle.model.specs.declared.Verdict.TheVariants.{Yes}
+use Rattle.std.specs.Prelude.{Ok, None}
 use Rattle.model.specs.Table.{Words}
 use Rattle.model.specs.SoundTest.{settled}
 use Rattle.model.specs.Sound.{Sound}
@@ -41,7 +41,7 @@ module _ (x : Call) (dock : ℕ) (t : Words) (s : Steps x t) where
       }
 
 -- Each list that an accepted call gives on a settled table is accepted.
-pub ours-accepted : (x : Call) (words dock : ℕ) (t : Words) → settled t ≡ true → refusal x words dock t ≡ 0 → judged x t (orders_of x dock t) ≡ Yes
+pub ours-accepted : (x : Call) (words dock : ℕ) (t : Words) → settled t ≡ true → refusal x words dock t ≡ 0 → judged x t (orders_of x dock t) ≡ Ok None
 ours-accepted x words dock t s a =
     let k = accepted-steps x words dock t (settled-sound t s) a in
-    (judged-iff x t (orders_of x dock t) Yes s).1 (λ c h. count-holds x dock t k c)
+    (judged-iff x t (orders_of x dock t) (Ok None) s).1 (λ c h. count-holds x dock t k c)

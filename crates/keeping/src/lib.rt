@@ -20,8 +20,7 @@ fn used_slots(table: &[u64], n: u64) -> usize
     if x.level != 0 {
         return 0;
     }
-    let slots = x.slots;
-    slots::count(slots)
+    slots::count(x.slots)
 }
 
 // How many slots are in use in the leaves among these nodes: no fewer than the pairs kept.
@@ -30,10 +29,8 @@ pub fn count_used(table: &[u64], order: &[u16]) -> usize
     ensures { (length (gathered_along table.now order.now).kept ≤ result) × (result ≤ 12 * length order.now) }
 {
     let mut used = 0;
-    let mut j = 0;
-    while j < order.len() {
-        used += used_slots(table, order[j] as u64);
-        j += 1;
+    for &n in order {
+        used += used_slots(table, n as u64);
     }
     used
 }
@@ -54,11 +51,9 @@ fn slot_of(table: &[u64], order: &[u16], x: usize) -> Pair
 {
     let n = node::read(table, order[x / 12] as u64);
     let i = x % 12;
-    let key = n.slots[2 * i];
-    let pointer = n.slots[2 * i + 1];
     Pair {
-        key: key,
-        pointer: pointer,
+        key: n.slots[2 * i],
+        pointer: n.slots[2 * i + 1],
     }
 }
 
@@ -75,9 +70,7 @@ fn clashes(
     ensures { result ≡ (has_key key (marked_to table.now order.now marks.now end)
         || has_recording recording (marked_to table.now order.now marks.now end)) }
 {
-    let mut x = end;
-    while 0 < x {
-        x -= 1;
+    for x in (0..end).rev() {
         if bits::has(marks, x) {
             let s = slot_of(table, order, x);
             if s.key == key {
@@ -96,10 +89,7 @@ fn keeps(table: &[u64], order: &[u16], marks: &[u64], end: usize, key: u64, poin
     requires { (end ≤ 12 * length order.now) × (length order.now ≤ 65535) × (length marks.now ≡ 12288) }
     ensures { result ≡ eqb (reason_for (marked_to table.now order.now marks.now end) (slot key pointer)) 0 }
 {
-    if !pointer::ok(pointer) {
-        return false;
-    }
-    !clashes(table, order, marks, end, key, pointer::recording(pointer))
+    pointer::ok(pointer) && !clashes(table, order, marks, end, key, pointer::recording(pointer))
 }
 
 // Slot i in use of the node entered at place j, where before is the pointer before it: marked if it is kept; the answer is 1 then.
@@ -142,12 +132,10 @@ fn mark_node(table: &[u64], top: u64, order: &[u16], marks: &mut [u64], j: usize
     if x.level != 0 {
         return 0;
     }
-    let slots = x.slots;
     let mut kept = 0;
     let mut before = x.left;
-    let mut i = 0;
-    while i < 12 {
-        let pointer = slots[2 * i + 1];
+    for i in 0..12 {
+        let pointer = x.slots[2 * i + 1];
         if pointer == 0 {
             return kept;
         }
@@ -160,11 +148,10 @@ fn mark_node(table: &[u64], top: u64, order: &[u16], marks: &mut [u64], j: usize
             i,
             x.sibling,
             before,
-            slots[2 * i],
+            x.slots[2 * i],
             pointer,
         );
         before = pointer;
-        i += 1;
     }
     kept
 }
@@ -174,12 +161,11 @@ pub fn count_kept(table: &[u64], top: u64, order: &[u16]) -> usize
     requires { (top ≡ nodes table.now) × (length order.now ≤ 65535) }
     ensures { (result ≡ length (gathered_along table.now order.now).kept) × (result ≤ 12 * length order.now) }
 {
+    // A set of numbers as bits: memory is fixed, there is no heap.
     let mut marks = [0u64; 12288];
     let mut kept = 0;
-    let mut j = 0;
-    while j < order.len() {
+    for j in 0..order.len() {
         kept += mark_node(table, top, order, &mut marks, j);
-        j += 1;
     }
     kept
 }

@@ -16,8 +16,9 @@ use Rattle.walk_laws.specs.Chain.{along, first_leaf, chain}
 use Rattle.walk_laws.proofs.WalkLaw.{InOrder, sound-in-order}
 use Rattle.walk_laws.proofs.ChainLaw.{chain-leaves}
 use Rattle.walk_laws.proofs.AnyRoot.{any-along}
+use Rattle.std.specs.Prelude.{Option, is_some}
 use Rattle.leaves.specs.declared.Hit.{Hit}
-use Rattle.leaves.specs.Hits.{recordings, hit_among, first_hit, hit_along, hit_in, is_hit}
+use Rattle.leaves.specs.Hits.{recordings, hit_among, first_hit, hit_along, hit_in}
 
 map-append : (ss ts : List Slot) → map recording (ss ++ ts) ≡ map recording ss ++ map recording ts
 map-append [] ts = refl
@@ -29,16 +30,16 @@ recordings-cons v n ns = map-append (kept v n) (flat (kept v) ns)
 
 -- ---- the finder finds a number exactly if it is there
 
-hit-among : (r n i : ℕ) (xs : List ℕ) (later : Hit) → is_hit (hit_among r n i xs later) ≡ (elem r xs || is_hit later)
+hit-among : (r n i : ℕ) (xs : List ℕ) (later : Option Hit) → is_some (hit_among r n i xs later) ≡ (elem r xs || is_some later)
 unfolding hit_among elem
 hit-among r n i [] later = refl
 hit-among r n i (x ∷ xs) later = go (eqb x r) refl (hit-among r n (suc i) xs later)
   where
-    go : (b : Bool) → eqb x r ≡ b → is_hit (hit_among r n (suc i) xs later) ≡ (elem r xs || is_hit later) → is_hit (hit_among r n i (x ∷ xs) later) ≡ (elem r (x ∷ xs) || is_hit later)
+    go : (b : Bool) → eqb x r ≡ b → is_some (hit_among r n (suc i) xs later) ≡ (elem r xs || is_some later) → is_some (hit_among r n i (x ∷ xs) later) ≡ (elem r (x ∷ xs) || is_some later)
     go true e ih = rw (e, hit_among) (rw (eqb-sym r x, e))
     go false e ih = rw (e, hit_among) (ih ∙ rw (eqb-sym r x, e))
 
-hit-elem : (v : View) (r : ℕ) (ns : List ℕ) → is_hit (first_hit v r ns) ≡ elem r (recordings v ns)
+hit-elem : (v : View) (r : ℕ) (ns : List ℕ) → is_some (first_hit v r ns) ≡ elem r (recordings v ns)
 unfolding first_hit
 hit-elem v r [] = unfold recordings in unfold flat in unfold elem in refl
 hit-elem v r (n ∷ ns) =
@@ -56,7 +57,7 @@ any-hit : (t : Words) (a b r : ℕ) (ns : List ℕ) → first_hit (view_from t a
 unfolding first_hit kept below
 any-hit t a b r ns = refl
 
-pub hit-chain : (t : Words) (root first n r : ℕ) (h : Hit) → first ≡ first_leaf (view_from t root) → n ≡ nodes t → h ≡ hit_along (view t) n first r → h ≡ hit_in (view_from t root) r
+pub hit-chain : (t : Words) (root first n r : ℕ) (h : Option Hit) → first ≡ first_leaf (view_from t root) → n ≡ nodes t → h ≡ hit_along (view t) n first r → h ≡ hit_in (view_from t root) r
 hit-chain t root first n r h e q i =
     let v = view_from t root in
     i ∙ any-hit t (at t 1) root r (along (view t) n first) ∙ ap (first_hit v r) (any-along t (at t 1) root n first ∙ whole-is v first n e q)
@@ -77,8 +78,8 @@ elem-recording r [] = refl
 elem-recording r (s ∷ ss) = ap (λ (b : Bool). b || elem r (map recording ss)) (eqb-sym r (recording s)) ∙ ap (λ (b : Bool). eqb (recording s) r || b) (elem-recording r ss)
 
 -- the finder finds a number exactly if the map has it
-hit-recording : (v : View) (r : ℕ) → InOrder v → is_hit (hit_in v r) ≡ has_recording r (mapping v)
+hit-recording : (v : View) (r : ℕ) → InOrder v → is_some (hit_in v r) ≡ has_recording r (mapping v)
 hit-recording v r o = hit-elem v r (chain v) ∙ ap (elem r) (recordings-mapping v o) ∙ elem-recording r (mapping v)
 
-pub found-recording : (v : View) (r : ℕ) → sound_view v ≡ true → is_hit (hit_in v r) ≡ has_recording r (mapping v)
+pub found-recording : (v : View) (r : ℕ) → sound_view v ≡ true → is_some (hit_in v r) ≡ has_recording r (mapping v)
 found-recording v r h = hit-recording v r (sound-in-order v h)

@@ -12,15 +12,14 @@ use Rattle.model.specs.Table.{Words, root}
 use Rattle.model.specs.Slots.{Slot, recording_of, recording, View, node_view, view_from, view, height}
 use Rattle.model.specs.Search.{below}
 use Rattle.model.specs.Reached.{pointers, kept, named}
-use Rattle.model.specs.SoundTest.{elem}
 use Rattle.view_laws.proofs.AnyRoot.{any-kept}
 use Rattle.node.specs.Word.{word_of}
 use Rattle.node.proofs.WordLaws.{word-left, word-sibling, word-level}
 use Rattle.walk_laws.specs.Walk.{ways}
 use Rattle.walk_laws.specs.Chain.{last_or, leftmost, along, or_sibling, last_child, rightmost, first_leaf, last_leaf}
 use Rattle.walk_laws.proofs.ChainLaw.{along-none, along-more}
+use Rattle.std.specs.Prelude.{Option, Some, None}
 use Rattle.leaves.specs.declared.Hit.{Hit}
-use Rattle.leaves.specs.declared.Hit.TheVariants.{At, Nowhere}
 use Rattle.slots.specs.declared.Ways.{Ways}
 use Rattle.slots.specs.Gathered.{span, slots_in, ways_from}
 use Rattle.leaves.specs.Hits.{numbers_from, recordings_from, hit_among, first_hit, hit_along}
@@ -62,21 +61,6 @@ module _ (t : Words) (r n : ℕ) (w : Ways) (is : slots_in w ≡ ways (view t) n
   pub kept-numbers : numbers_from w.pointers 1 (w.count - 1) ≡ map recording (kept (view_from t r) n)
   kept-numbers = sym (ways-numbers w 1) ∙ ap (map recording) kept-ways
 
--- ---- is a number among those of an array
-
-module _ (x : ℕ) (ps : List ℕ) (j m : ℕ) where
-  pub elem-end : m ≤ j → elem x (numbers_from ps j (m - j)) ≡ false
-  unfolding elem
-  elem-end h = ap (elem x) (numbers-end ps j m h)
-
-  pub elem-here : j < m → recording_of (get_or ps j 0) ≡ x → elem x (numbers_from ps j (m - j)) ≡ true
-  unfolding elem
-  elem-here h e = ap (elem x) (numbers-next ps j m h) ∙ rw (eq-eqb x (recording_of (get_or ps j 0)) (sym e))
-
-  pub elem-next : j < m → (recording_of (get_or ps j 0) ≡ x → ⊥) → elem x (numbers_from ps (j + 1) (m - (j + 1))) ≡ elem x (numbers_from ps j (m - j))
-  unfolding elem
-  elem-next h e = sym (ap (elem x) (numbers-next ps j m h) ∙ rw (ne_eqb x (recording_of (get_or ps j 0)) (λ q. e (sym q))))
-
 -- ---- the leftmost leaf
 
 module _ (t : Words) (r l : ℕ) (q : l ≡ word_of t r 2) where
@@ -106,12 +90,8 @@ leftmost-left : (v : View) (d n : ℕ) → leftmost v d (v.node n).left ≡ left
 unfolding leftmost
 leftmost-left v d n = refl
 
-pub leaf-down : (t : Words) (r n d m : ℕ) → 0 < d → m ≡ word_of t n 0 → leftmost (view_from t r) (d - 1) m ≡ leftmost (view_from t r) d n
-leaf-down t r n zero m h e = absurd (omega arith)
-leaf-down t r n (suc d) m h e =
-    let v = view_from t r in
-    let z : suc d - 1 ≡ d = omega arith in
-    ap (λ (k : ℕ). leftmost v k m) z ∙ ap (leftmost v d) (e ∙ word-left t n) ∙ leftmost-left v d n
+pub leaf-down : (t : Words) (r n d e m : ℕ) → d ≡ suc e → m ≡ word_of t n 0 → leftmost (view_from t r) e m ≡ leftmost (view_from t r) d n
+leaf-down t r n d e m z q = let v = view_from t r in ap (leftmost v e) (q ∙ word-left t n) ∙ leftmost-left v e n ∙ ap (λ (k : ℕ). leftmost v k n) (sym z)
 
 -- ---- the last leaf
 
@@ -163,75 +143,59 @@ rightmost-last : (v : View) (d n : ℕ) → rightmost v d (last_child v n) ≡ r
 unfolding rightmost
 rightmost-last v d n = refl
 
-pub last-down : (t : Words) (r n d m : ℕ) → 0 < d → m ≡ last_child (view t) n → rightmost (view_from t r) (d - 1) m ≡ rightmost (view_from t r) d n
-last-down t r n zero m h e = absurd (omega arith)
-last-down t r n (suc d) m h e =
-    let v = view_from t r in
-    let z : suc d - 1 ≡ d = omega arith in
-    ap (λ (k : ℕ). rightmost v k m) z ∙ ap (rightmost v d) (e ∙ any-last t (root t) r n) ∙ rightmost-last v d n
+pub last-down : (t : Words) (r n d e m : ℕ) → d ≡ suc e → m ≡ last_child (view t) n → rightmost (view_from t r) e m ≡ rightmost (view_from t r) d n
+last-down t r n d e m z q =
+    let v = view_from t r in ap (rightmost v e) (q ∙ any-last t (root t) r n) ∙ rightmost-last v e n ∙ ap (λ (k : ℕ). rightmost v k n) (sym z)
 
 -- ---- a number in the leaves
 
 -- what is left: looking on from this leaf, through at most so many, comes to h
-pub record Ahead (t : Words) (r : ℕ) (h : Hit) (leaf left : ℕ) : Type 0 where
+pub record Ahead (t : Words) (r : ℕ) (h : Option Hit) (leaf left : ℕ) : Type 0 where
   pub comes-to : hit_along (view t) left leaf r ≡ h
 
--- and within the leaf, whose ways are m with the pointers ps, from place i among its slots of the map on
-pub record Within (t : Words) (r : ℕ) (h : Hit) (leaf left m : ℕ) (ps : List ℕ) (i : ℕ) : Type 0 where
-  pub few : m ≤ 13
-  pub low : i ≤ 13
-  pub comes-to : hit_among r leaf i (numbers_from ps (i + 1) (m - (i + 1))) (hit_along (view t) (left - 1) (node_view t leaf).sibling r) ≡ h
+-- and within the leaf, whose ways are m with the pointers ps, from way j on, with at most so many leaves after it
+pub record Within (t : Words) (r : ℕ) (h : Option Hit) (leaf left m : ℕ) (ps : List ℕ) (j : ℕ) : Type 0 where
+  pub comes-to : hit_among r leaf (j - 1) (numbers_from ps j (m - j)) (hit_along (view t) left (node_view t leaf).sibling r) ≡ h
 
-module _ {t : Words} {r : ℕ} {h : Hit} {leaf left : ℕ} (k : Ahead t r h leaf left) where
-  pub hit-no-leaf : leaf ≡ 0 → Nowhere ≡ h
+module _ {t : Words} {r : ℕ} {h : Option Hit} {leaf left : ℕ} (k : Ahead t r h leaf left) where
+  pub hit-no-leaf : leaf ≡ 0 → None ≡ h
   unfolding first_hit
   hit-no-leaf z = sym (ap (first_hit (view t) r) (ap (along (view t) left) z ∙ along-none (view t) left)) ∙ k.comes-to
 
-  pub hit-no-more : left ≡ 0 → Nowhere ≡ h
+  pub hit-no-more : left ≡ 0 → None ≡ h
   unfolding first_hit along
   hit-no-more z = sym (ap (λ (c : ℕ). first_hit (view t) r (along (view t) c leaf)) z) ∙ k.comes-to
 
-  pub hit-enter : (w : Ways) → (leaf ≡ 0 → ⊥) → (left ≡ 0 → ⊥) → slots_in w ≡ ways (view t) leaf → w.count ≤ 13 → Within t r h leaf left w.count w.pointers 0
+  pub hit-enter : (fewer : ℕ) (w : Ways) → (leaf ≡ 0 → ⊥) → left ≡ suc fewer → slots_in w ≡ ways (view t) leaf → Within t r h leaf fewer w.count w.pointers 1
   unfolding first_hit
-  hit-enter w z y e b =
-      let more : left ≡ suc (left - 1) = omega arith in
-      let first : along (view t) left leaf ≡ leaf ∷ along (view t) (left - 1) (node_view t leaf).sibling =
-      ap (λ (c : ℕ). along (view t) c leaf) more ∙ along-more (view t) (left - 1) leaf z in
+  hit-enter fewer w z more e =
       record {
-        few = b;
-        low = omega arith;
         comes-to =
-            ap (λ (xs : List ℕ). hit_among r leaf 0 xs (hit_along (view t) (left - 1) (node_view t leaf).sibling r)) (kept-numbers t (root t) leaf w e)
-            ∙ sym (ap (first_hit (view t) r) first) ∙ k.comes-to;
+            ap (λ (xs : List ℕ). hit_among r leaf 0 xs (hit_along (view t) fewer (node_view t leaf).sibling r)) (kept-numbers t (root t) leaf w e)
+            ∙ sym (ap (first_hit (view t) r) (ap (λ (c : ℕ). along (view t) c leaf) more ∙ along-more (view t) fewer leaf z)) ∙ k.comes-to;
       }
 
-module _ {t : Words} {r : ℕ} {h : Hit} {leaf left m : ℕ} {ps : List ℕ} {i : ℕ} (k : Within t r h leaf left m ps i) where
-  abbrev later : Hit
-  later = hit_along (view t) (left - 1) (node_view t leaf).sibling r
+module _ {t : Words} {r : ℕ} {h : Option Hit} {leaf left m : ℕ} {ps : List ℕ} {j : ℕ} (k : Within t r h leaf left m ps j) where
+  abbrev among : List ℕ → Option Hit
+  among xs = hit_among r leaf (j - 1) xs (hit_along (view t) left (node_view t leaf).sibling r)
 
-  pub hit-here : i + 1 < m → recording_of (get_or ps (i + 1) 0) ≡ r → At leaf i ≡ h
+  pub hit-here : j < m → recording_of (get_or ps j 0) ≡ r → Some (record { node = leaf; slot = j - 1 }) ≡ h
   unfolding hit_among
-  hit-here l e =
-      sym (ap (λ (xs : List ℕ). hit_among r leaf i xs later) (numbers-next ps (i + 1) m l) ∙ rw (eq-eqb (recording_of (get_or ps (i + 1) 0)) r e, hit_among))
-      ∙ k.comes-to
+  hit-here l e = sym (ap among (numbers-next ps j m l) ∙ rw (eq-eqb (recording_of (get_or ps j 0)) r e, hit_among)) ∙ k.comes-to
 
-  pub hit-next : i + 1 < m → (recording_of (get_or ps (i + 1) 0) ≡ r → ⊥) → Within t r h leaf left m ps (i + 1)
+  pub hit-next : 1 ≤ j → j < m → (recording_of (get_or ps j 0) ≡ r → ⊥) → Within t r h leaf left m ps (j + 1)
   unfolding hit_among
-  hit-next l e =
+  hit-next b l e =
+      let z : j + 1 - 1 ≡ suc (j - 1) = omega arith in
       record {
-        few = k.few;
-        low = omega arith;
         comes-to =
-            ap (λ (c : ℕ). hit_among r leaf c (numbers_from ps (i + 1 + 1) (m - (i + 1 + 1))) later) (add-one i)
-            ∙ sym (ap (λ (xs : List ℕ). hit_among r leaf i xs later) (numbers-next ps (i + 1) m l) ∙ rw (ne_eqb (recording_of (get_or ps (i + 1) 0)) r e, hit_among))
-            ∙ k.comes-to;
+            ap (λ (c : ℕ). hit_among r leaf c (numbers_from ps (j + 1) (m - (j + 1))) (hit_along (view t) left (node_view t leaf).sibling r)) z
+            ∙ sym (ap among (numbers-next ps j m l) ∙ rw (ne_eqb (recording_of (get_or ps j 0)) r e, hit_among)) ∙ k.comes-to;
       }
 
-  pub hit-leave : (next : ℕ) → m ≤ i + 1 → next ≡ word_of t leaf 1 → Ahead t r h next (left - 1)
+  pub hit-leave : (next : ℕ) → m ≤ j → next ≡ word_of t leaf 1 → Ahead t r h next left
   unfolding hit_among
   hit-leave next l q =
       record {
-        comes-to =
-            ap (λ (n : ℕ). hit_along (view t) (left - 1) n r) (q ∙ word-sibling t leaf)
-            ∙ sym (ap (λ (xs : List ℕ). hit_among r leaf i xs later) (numbers-end ps (i + 1) m l)) ∙ k.comes-to;
+        comes-to = ap (λ (n : ℕ). hit_along (view t) left n r) (q ∙ word-sibling t leaf) ∙ sym (ap among (numbers-end ps j m l)) ∙ k.comes-to;
       }

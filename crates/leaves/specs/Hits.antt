@@ -1,12 +1,11 @@
 -- The recording numbers of the map, leaf by leaf, and where one of them is.
-use Rattle.std.specs.Prelude.{Bool, true, false, List, [], ◌∷◌, map, ℕ, zero, suc, eqb, get_or}
+use Rattle.std.specs.Prelude.{true, false, List, [], ◌∷◌, map, ℕ, zero, suc, eqb, get_or, Option, Some, None}
 use Rattle.model.specs.Slots.{recording_of, recording, View}
 use Rattle.model.specs.Reached.{flat, kept}
 use Rattle.walk_laws.specs.Chain.{along, chain}
 use Rattle.slots.specs.declared.Ways.{Ways}
 use Rattle.slots.specs.Gathered.{ways_from}
 use Rattle.leaves.specs.declared.Hit.{Hit}
-use Rattle.leaves.specs.declared.Hit.TheVariants.{At, Nowhere}
 
 -- the recording numbers in the leaves ns
 unfoldable pub recordings : View → List ℕ → List ℕ
@@ -22,23 +21,19 @@ abbrev pub recordings_from : Ways → ℕ → List ℕ
 recordings_from w i = map recording (ways_from w i)
 
 -- the first r among numbers of leaf n, of which the first has place i; else what comes after them
-unfoldable pub hit_among : ℕ → ℕ → ℕ → List ℕ → Hit → Hit
+unfoldable pub hit_among : ℕ → ℕ → ℕ → List ℕ → Option Hit → Option Hit
 hit_among r n i [] later = later
-hit_among r n i (x ∷ xs) later = elim (eqb x r) [ true ↦ At n i | false ↦ hit_among r n (suc i) xs later ]
+hit_among r n i (x ∷ xs) later = elim (eqb x r) [ true ↦ Some (record { node = n; slot = i }) | false ↦ hit_among r n (suc i) xs later ]
 
 -- the first number r in the leaves ns, leaf by leaf, each one's slots of the map in turn
 module _ (v : View) (r : ℕ) where
-  unfoldable pub first_hit : List ℕ → Hit
-  first_hit [] = Nowhere
+  unfoldable pub first_hit : List ℕ → Option Hit
+  first_hit [] = None
   first_hit (n ∷ ns) = hit_among r n 0 (map recording (kept v n)) (first_hit ns)
 
 -- in the leaves from n along the siblings, at most c
-abbrev pub hit_along : View → ℕ → ℕ → ℕ → Hit
+abbrev pub hit_along : View → ℕ → ℕ → ℕ → Option Hit
 hit_along v c n r = first_hit v r (along v c n)
 
-abbrev pub hit_in : View → ℕ → Hit
+abbrev pub hit_in : View → ℕ → Option Hit
 hit_in v r = first_hit v r (chain v)
-
-abbrev pub is_hit : Hit → Bool
-is_hit (At n i) = true
-is_hit Nowhere = false

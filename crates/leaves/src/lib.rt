@@ -15,10 +15,7 @@ use slots::Ways;
 pub fn word_at(table: &[u64], w: usize) -> u64
     ensures { result ≡ at table.now w }
 {
-    if table.len() <= w {
-        return 0;
-    }
-    table[w]
+    if w < table.len() { table[w] } else { 0 }
 }
 
 // The ways down from node n.
@@ -33,9 +30,9 @@ pub fn ways_of(table: &[u64], n: u64) -> Ways
 
 // Where a recording number is in the map: in which leaf, and at which place among the leaf's slots of the map.
 #[derive(Clone, Copy)]
-pub enum Hit {
-    At { node: u64, slot: u64 },
-    Nowhere,
+pub struct Hit {
+    pub node: u64,
+    pub slot: u64,
 }
 
 // The leftmost leaf: from the root down by left; 0 if the root is too high.
@@ -47,10 +44,8 @@ pub fn first_leaf(table: &[u64], root: u64) -> u64
         return 0;
     }
     let mut n = root;
-    let mut level = top;
-    while 0 < level {
+    for _ in 0..top {
         n = node::word(table, n, 0);
-        level -= 1;
     }
     n
 }
@@ -60,14 +55,9 @@ fn last_child(table: &[u64], n: u64) -> u64
     ensures { result ≡ last_child (view table.now) n }
 {
     let w = ways_of(table, n);
-    let count = w.count;
-    let pointers = w.pointers;
-    let last = pointers[count - 1];
+    let last = w.pointers[w.count - 1];
     let sibling = node::word(table, last, 1);
-    if sibling == 0 {
-        return last;
-    }
-    sibling
+    if sibling == 0 { last } else { sibling }
 }
 
 // The last leaf: from the root down by the last child.
@@ -75,49 +65,40 @@ pub fn last_leaf(table: &[u64], root: u64) -> u64
     ensures { result ≡ last_leaf (view_from table.now root) }
 {
     let mut n = root;
-    let mut level = node::word(table, root, 2);
-    while 0 < level {
+    for _ in 0..node::word(table, root, 2) {
         n = last_child(table, n);
-        level -= 1;
     }
     n
 }
 
 // The first slot of the map with this recording number, in the leaves from the first along the siblings, at most so many.
-fn find_from(table: &[u64], first: u64, most: u64, recording: u64) -> Hit
+// Nested loops left by a label, as document 01 names them.
+fn find_from(table: &[u64], first: u64, most: u64, recording: u64) -> Option<Hit>
     ensures { result ≡ hit_along (view table.now) most first recording }
 {
     let mut leaf = first;
-    let mut left = most;
-    let mut slot = 0;
-    'leaves: loop {
+    let mut hit = None;
+    'leaves: for _ in 0..most {
         if leaf == 0 {
-            return Hit::Nowhere;
-        }
-        if left == 0 {
-            return Hit::Nowhere;
+            break;
         }
         let w = ways_of(table, leaf);
-        let count = w.count;
-        let pointers = w.pointers;
-        slot = 0;
-        while slot + 1 < count {
-            if pointer::recording(pointers[slot + 1]) == recording {
+        for i in 1..w.count {
+            if pointer::recording(w.pointers[i]) == recording {
+                hit = Some(Hit {
+                    node: leaf,
+                    slot: i as u64 - 1,
+                });
                 break 'leaves;
             }
-            slot += 1;
         }
         leaf = node::word(table, leaf, 1);
-        left -= 1;
     }
-    Hit::At {
-        node: leaf,
-        slot: slot as u64,
-    }
+    hit
 }
 
 // Where this recording number is in the map of a tree.
-pub fn find_recording(table: &[u64], root: u64, recording: u64) -> Hit
+pub fn find_recording(table: &[u64], root: u64, recording: u64) -> Option<Hit>
     ensures { result ≡ hit_in (view_from table.now root) recording }
 {
     let first = first_leaf(table, root);

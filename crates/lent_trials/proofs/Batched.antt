@@ -4,6 +4,9 @@ use mathlib.Core.List.{List, [], ◌∷◌, ◌++◌}
 use mathlib.Core.Option.{some}
 use Prim.Native.Nat.{ℕ}
 use lib.ListN.{length, drop, replicate}
+use Rattle.std.specs.Prelude as rust
+use Rattle.model.specs.declared.Refusal.{Refusal}
+use Rattle.model.specs.declared.Refusal.TheVariants.{ShortList, BadRecording, KeyPresent}
 use Rattle.model.specs.declared.Batch.{Batch}
 use Rattle.model.specs.Table.{MARK, Words, empty, empty_of}
 use Rattle.model.specs.Slots.{Slot, slot, slots_of, pointer_of}
@@ -16,8 +19,8 @@ use Rattle.model.proofs.Worked.{ten_slots}
 use Rattle.model.proofs.Tables.{table_of, stale, one_level}
 
 -- an answer, word by word
-abbrev pub sums : (number taken stores flushes barriers : ℕ) → Batch
-sums number taken stores flushes barriers = record { number = number; taken = taken; stores = stores; flushes = flushes; barriers = barriers }
+abbrev pub sums : (stop : rust.Option Refusal) → (taken stores flushes barriers : ℕ) → Batch
+sums stop taken stores flushes barriers = record { stop = stop; taken = taken; stores = stores; flushes = flushes; barriers = barriers }
 
 -- three pairs, of three classes, the second below the first; then one whose key is there
 abbrev pub three : List Slot
@@ -40,8 +43,8 @@ pub record BatchCalls : Type 0 where
   -- The single call for a pair has the pair's key, and its pointer's recording and class.
   pub single : insertion_of 2 (slot 20 (pointer_of 7 2)) ≡ insertion 2 20 7 2
   -- All pairs are taken, in their order; the sums are those of the single calls, on either dock.
-  pub plain : (ran 0 three 2600).answer ≡ sums 0 3 14 3 0
-  pub docked : (ran 1 three 5200).answer ≡ sums 0 3 14 3 14
+  pub plain : (ran 0 three 2600).answer ≡ sums rust.None 3 14 3 0
+  pub docked : (ran 1 three 5200).answer ≡ sums rust.None 3 14 3 14
   -- The map has each with its recording and class, and the table nothing else.
   pub map : map_of 1 (ran 0 three 2600).table ≡ sorted
   pub table : (ran 0 three 2600).table ≡ table_of 1 (node_words MARK 0 0 0 sorted ∷ [])
@@ -53,12 +56,12 @@ pub record BatchLists : Type 0 where
 
 pub record BatchStops : Type 0 where
   -- A refused pair stops it with its number; those before it are taken, and nothing of those after it.
-  pub stops : ((ran 0 clash 2600).answer ≡ sums 7 3 14 3 0) × ((ran 0 clash 2600).table ≡ table_of 1 (node_words MARK 0 0 0 sorted ∷ [])) × (drop 34 (ran 0 clash 2600).list ≡ lent 2566)
+  pub stops : ((ran 0 clash 2600).answer ≡ sums (rust.Some KeyPresent) 3 14 3 0) × ((ran 0 clash 2600).table ≡ table_of 1 (node_words MARK 0 0 0 sorted ∷ [])) × (drop 34 (ran 0 clash 2600).list ≡ lent 2566)
   -- 5 by the words that are left of the list.
-  pub five : (ran 0 three 2560).answer ≡ sums 5 1 4 1 0
+  pub five : (ran 0 three 2560).answer ≡ sums (rust.Some ShortList) 1 4 1 0
   -- A batch that stops before its first pair, or has none, changes nothing.
-  pub first : ran 0 (slot 20 0 ∷ three) 2600 ≡ record { answer = sums 6 0 0 0 0; table = empty 1; list = lent 2600 }
-  pub none : ran 0 [] 3 ≡ record { answer = sums 0 0 0 0 0; table = empty 1; list = lent 3 }
+  pub first : ran 0 (slot 20 0 ∷ three) 2600 ≡ record { answer = sums (rust.Some BadRecording) 0 0 0 0; table = empty 1; list = lent 2600 }
+  pub none : ran 0 [] 3 ≡ record { answer = sums rust.None 0 0 0 0; table = empty 1; list = lent 3 }
 
 pub record BatchGoesOn : Type 0 where
   -- It is of its own collection.

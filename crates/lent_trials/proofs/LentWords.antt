@@ -2,28 +2,22 @@
 use mathlib.Core.Path.{◌≡◌, refl}
 use mathlib.Core.Bool.{true, false}
 use mathlib.Core.List.{[], ◌∷◌}
+use Prim.Native.Nat.{ℕ}
 use lib.ListN.{replicate, set}
-use Rattle.model.specs.declared.Parsed.TheVariants as parsed
-use Rattle.model.specs.declared.Answer.TheVariants as answer
-use Rattle.model.specs.declared.Next.TheVariants as next
-use Rattle.model.specs.declared.Listed.TheVariants as listed
-use Rattle.model.specs.declared.Outcome.TheVariants as outcome
-use Rattle.model.specs.declared.Written.TheVariants as written
-use Rattle.model.specs.declared.Salvaged.TheVariants as salvaged
-use Rattle.model.specs.declared.Verdict.TheVariants as verdict
-use Rattle.model.specs.declared.Worn.TheVariants as worn
-use Rattle.model.specs.declared.Ranked.TheVariants as ranked
-use Rattle.model.specs.Codes.{parsed_number, key_or}
-use Rattle.model.specs.Table.{MARK, Words, empty, empty_of, making, made, outcome_number}
+use Rattle.std.specs.Prelude.{Ok, Some, None}
+use Rattle.model.specs.Results.{refused_with, done_with, page_with, worn_with, answer_number}
+use Rattle.model.specs.declared.Answer.TheVariants.{Found, Absent, Refused}
+use Rattle.model.specs.Codes.{key_or}
+use Rattle.model.specs.Table.{MARK, Words, empty, empty_of, making, made}
 use Rattle.model.specs.Search.{recording_or, access_or, next_or, higher_or}
-use Rattle.model.specs.Listing.{listed_number, count_or, more_or}
+use Rattle.model.specs.Listing.{count_or, more_or}
 use Rattle.model.specs.Orders.{carry_out, carried_out}
-use Rattle.model.specs.Refusals.{written_number, orders_answered, stores_or, flushes_or, barriers_or}
-use Rattle.model.specs.Salvage.{salvaged_number, dropped_or}
+use Rattle.model.specs.Refusals.{orders_answered, stores_or, flushes_or, barriers_or}
+use Rattle.model.specs.Salvage.{dropped_or}
 use Rattle.model.specs.Sentinels.{work_out, worked_out}
-use Rattle.model.specs.Scripts.{ranked_number, rank_or}
+use Rattle.model.specs.Scripts.{rank_or}
 use Rattle.model.specs.Judge.{verdict_number, fails_or}
-use Rattle.model.specs.Wear.{worn_number, total_or, largest_or, first_line_or, pairs_or}
+use Rattle.model.specs.Wear.{total_or, largest_or, first_line_or, pairs_or}
 use Rattle.model.specs.Statistics.{checking, report_out}
 use Rattle.model.proofs.Everything.{everything}
 
@@ -43,47 +37,47 @@ orders = 10 ∷ 5 ∷ MARK ∷ 1 ∷ 72 ∷ 5 ∷ []
 
 pub record LentWords : Type 0 where
   -- A code that is read puts its key.
-  pub code-numbers : (parsed_number (parsed.Key 5) ≡ 0) × (parsed_number (parsed.Refused 1) ≡ 1)
-  pub code-words : (key_or (parsed.Key 5) 8 ≡ 5) × (key_or (parsed.Refused 1) 8 ≡ 8)
+  pub code-numbers : (answer_number {T = ℕ} (Ok 5) ≡ 0) × (answer_number {T = ℕ} (refused_with 1) ≡ 1)
+  pub code-words : (key_or (Ok 5) 8 ≡ 5) × (key_or (refused_with 1) 8 ≡ 8)
   -- A search that finds puts recording and class; one that does not puts the next key up and 1, or 0; one that is refused nothing.
-  pub recordings : (recording_or (answer.Found 5 1) 8 ≡ 5) × (recording_or (answer.Absent (next.Key 6)) 8 ≡ 8) × (recording_or (answer.Refused 3) 8 ≡ 8)
-  pub classes : (access_or (answer.Found 5 1) 8 ≡ 1) × (access_or (answer.Absent (next.Key 6)) 8 ≡ 8) × (access_or (answer.Refused 3) 8 ≡ 8)
-  pub nexts : (next_or (answer.Found 5 1) 8 ≡ 8) × (next_or (answer.Absent (next.Key 6)) 8 ≡ 6) × (next_or (answer.Absent next.Nothing) 8 ≡ 8) × (next_or (answer.Refused 3) 8 ≡ 8)
-  pub highers : (higher_or (answer.Found 5 1) 8 ≡ 8) × (higher_or (answer.Absent (next.Key 6)) 8 ≡ 1) × (higher_or (answer.Absent next.Nothing) 8 ≡ 0) × (higher_or (answer.Refused 3) 8 ≡ 8)
+  pub recordings : (recording_or (Found 5 1) 8 ≡ 5) × (recording_or (Absent (Some 6)) 8 ≡ 8) × (recording_or (Refused 3) 8 ≡ 8)
+  pub classes : (access_or (Found 5 1) 8 ≡ 1) × (access_or (Absent (Some 6)) 8 ≡ 8) × (access_or (Refused 3) 8 ≡ 8)
+  pub nexts : (next_or (Found 5 1) 8 ≡ 8) × (next_or (Absent (Some 6)) 8 ≡ 6) × (next_or (Absent None) 8 ≡ 8) × (next_or (Refused 3) 8 ≡ 8)
+  pub highers : (higher_or (Found 5 1) 8 ≡ 8) × (higher_or (Absent (Some 6)) 8 ≡ 1) × (higher_or (Absent None) 8 ≡ 0) × (higher_or (Refused 3) 8 ≡ 8)
   -- A listing puts its count, and 1 if more are left, 0 if not.
-  pub list-numbers : (listed_number (listed.Pairs 5 true) ≡ 0) × (listed_number (listed.Refused 17) ≡ 17)
-  pub counts : (count_or (listed.Pairs 5 true) 8 ≡ 5) × (count_or (listed.Refused 17) 8 ≡ 8)
-  pub mores : (more_or (listed.Pairs 5 true) 8 ≡ 1) × (more_or (listed.Pairs 5 false) 8 ≡ 0) × (more_or (listed.Refused 17) 8 ≡ 8)
+  pub list-numbers : (answer_number (page_with 5 true) ≡ 0) × (answer_number {T = ℕ} (refused_with 17) ≡ 17)
+  pub counts : (count_or (page_with 5 true) 8 ≡ 5) × (count_or (refused_with 17) 8 ≡ 8)
+  pub mores : (more_or (page_with 5 true) 8 ≡ 1) × (more_or (page_with 5 false) 8 ≡ 0) × (more_or (refused_with 17) 8 ≡ 8)
   -- A write puts its three counts; a refused one answers no orders.
-  pub write-numbers : (written_number (written.Done 5 6 7) ≡ 0) × (written_number (written.Refused 10) ≡ 10)
-  pub answered : (orders_answered (written.Done 5 6 7) ≡ 18) × (orders_answered (written.Refused 10) ≡ 0)
-  pub stores : (stores_or (written.Done 5 6 7) 8 ≡ 5) × (stores_or (written.Refused 10) 8 ≡ 8)
-  pub flushes : (flushes_or (written.Done 5 6 7) 8 ≡ 6) × (flushes_or (written.Refused 10) 8 ≡ 8)
-  pub barriers : (barriers_or (written.Done 5 6 7) 8 ≡ 7) × (barriers_or (written.Refused 10) 8 ≡ 8)
+  pub write-numbers : (answer_number (done_with 5 6 7) ≡ 0) × (answer_number {T = ℕ} (refused_with 10) ≡ 10)
+  pub answered : (orders_answered (done_with 5 6 7) ≡ 18) × (orders_answered (refused_with 10) ≡ 0)
+  pub stores : (stores_or (done_with 5 6 7) 8 ≡ 5) × (stores_or (refused_with 10) 8 ≡ 8)
+  pub flushes : (flushes_or (done_with 5 6 7) 8 ≡ 6) × (flushes_or (refused_with 10) 8 ≡ 8)
+  pub barriers : (barriers_or (done_with 5 6 7) 8 ≡ 7) × (barriers_or (refused_with 10) 8 ≡ 8)
   -- A salvage puts the count of dropped slots.
-  pub salvage-numbers : (salvaged_number (salvaged.Dropped 5) ≡ 0) × (salvaged_number (salvaged.Refused 16) ≡ 16)
-  pub dropped : (dropped_or (salvaged.Dropped 5) 8 ≡ 5) × (dropped_or (salvaged.Refused 16) 8 ≡ 8)
+  pub salvage-numbers : (answer_number {T = ℕ} (Ok 5) ≡ 0) × (answer_number {T = ℕ} (refused_with 16) ≡ 16)
+  pub dropped : (dropped_or (Ok 5) 8 ≡ 5) × (dropped_or (refused_with 16) 8 ≡ 8)
   -- A judge answers 0 for yes, 254 and the count that fails for no.
-  pub judge-numbers : (verdict_number verdict.Yes ≡ 0) × (verdict_number (verdict.No 5) ≡ 254) × (verdict_number (verdict.Refused 20) ≡ 20)
-  pub fails : (fails_or verdict.Yes 8 ≡ 8) × (fails_or (verdict.No 5) 8 ≡ 5) × (fails_or (verdict.Refused 20) 8 ≡ 8)
+  pub judge-numbers : (verdict_number (Ok None) ≡ 0) × (verdict_number (Ok (Some 5)) ≡ 254) × (verdict_number (refused_with 20) ≡ 20)
+  pub fails : (fails_or (Ok None) 8 ≡ 8) × (fails_or (Ok (Some 5)) 8 ≡ 5) × (fails_or (refused_with 20) 8 ≡ 8)
   -- The wear figures: the total, the most to one line, the first line that has so many, the pairs.
-  pub wear-numbers : (worn_number (worn.Figures 4 5 6 7) ≡ 0) × (worn_number (worn.Refused 24) ≡ 24)
-  pub totals : (total_or (worn.Figures 4 5 6 7) 8 ≡ 4) × (total_or (worn.Refused 24) 8 ≡ 8)
-  pub largest : (largest_or (worn.Figures 4 5 6 7) 8 ≡ 5) × (largest_or (worn.Refused 24) 8 ≡ 8)
-  pub first-lines : (first_line_or (worn.Figures 4 5 6 7) 8 ≡ 6) × (first_line_or (worn.Refused 24) 8 ≡ 8)
-  pub extents : (pairs_or (worn.Figures 4 5 6 7) 8 ≡ 7) × (pairs_or (worn.Refused 24) 8 ≡ 8)
+  pub wear-numbers : (answer_number (worn_with 4 5 6 7) ≡ 0) × (answer_number {T = ℕ} (refused_with 24) ≡ 24)
+  pub totals : (total_or (worn_with 4 5 6 7) 8 ≡ 4) × (total_or (refused_with 24) 8 ≡ 8)
+  pub largest : (largest_or (worn_with 4 5 6 7) 8 ≡ 5) × (largest_or (refused_with 24) 8 ≡ 8)
+  pub first-lines : (first_line_or (worn_with 4 5 6 7) 8 ≡ 6) × (first_line_or (refused_with 24) 8 ≡ 8)
+  pub extents : (pairs_or (worn_with 4 5 6 7) 8 ≡ 7) × (pairs_or (refused_with 24) 8 ≡ 8)
   -- A script puts its number.
-  pub script-numbers : (ranked_number (ranked.Number 5) ≡ 0) × (ranked_number (ranked.Refused 23) ≡ 23)
-  pub ranks : (rank_or (ranked.Number 5) 8 ≡ 5) × (rank_or (ranked.Refused 23) 8 ≡ 8)
+  pub script-numbers : (answer_number {T = ℕ} (Ok 5) ≡ 0) × (answer_number {T = ℕ} (refused_with 23) ≡ 23)
+  pub ranks : (rank_or (Ok 5) 8 ≡ 5) × (rank_or (refused_with 23) 8 ≡ 8)
   -- Calls that answer a number alone, and what they leave of their words.
-  pub outcomes : (outcome_number outcome.Done ≡ 0) × (outcome_number (outcome.Refused 13) ≡ 13)
-  pub makes : (making 2 (replicate 72 7) ≡ outcome.Done) × (made 2 (replicate 72 7) ≡ good) × (making 3 good ≡ outcome.Refused 17) × (made 3 headless ≡ headless) × (making 2 (empty 1) ≡ outcome.Refused 2)
-  pub carries : (carry_out 2 orders good ≡ outcome.Done) × (carried_out 2 orders good ≡ set good 10 5) × (carried_out 0 orders good ≡ good)
-  pub carries-not : (carry_out 3 orders good ≡ outcome.Refused 13) × (carried_out 3 orders good ≡ good) × (carry_out 4 orders good ≡ outcome.Refused 13) × (carry_out 0 orders headless ≡ outcome.Refused 2)
-  pub checks : (checking good ≡ outcome.Done) × (checking shared ≡ outcome.Refused 4) × (checking headless ≡ outcome.Refused 2)
+  pub outcomes : (answer_number {T = Unit {0}} (Ok tt) ≡ 0) × (answer_number {T = ℕ} (refused_with 13) ≡ 13)
+  pub makes : (making 2 (replicate 72 7) ≡ Ok tt) × (made 2 (replicate 72 7) ≡ good) × (making 3 good ≡ refused_with 17) × (made 3 headless ≡ headless) × (making 2 (empty 1) ≡ refused_with 2)
+  pub carries : (carry_out 2 orders good ≡ Ok tt) × (carried_out 2 orders good ≡ set good 10 5) × (carried_out 0 orders good ≡ good)
+  pub carries-not : (carry_out 3 orders good ≡ refused_with 13) × (carried_out 3 orders good ≡ good) × (carry_out 4 orders good ≡ refused_with 13) × (carry_out 0 orders headless ≡ refused_with 2)
+  pub checks : (checking good ≡ Ok tt) × (checking shared ≡ refused_with 4) × (checking headless ≡ refused_with 2)
   pub reports : (report_out shared (replicate 16 8) ≡ replicate 16 8) × (report_out headless (replicate 16 8) ≡ replicate 16 8)
   -- The sentinels worked out: all words are the table's, or all stay.
-  pub works : (work_out 6 good ≡ outcome.Done) × (work_out 5 good ≡ outcome.Refused 19) × (work_out 6 shared ≡ outcome.Refused 4) × (work_out 5 headless ≡ outcome.Refused 2)
+  pub works : (work_out 6 good ≡ Ok tt) × (work_out 5 good ≡ refused_with 19) × (work_out 6 shared ≡ refused_with 4) × (work_out 5 headless ≡ refused_with 2)
   pub worked : (worked_out (replicate 6 8) good ≡ replicate 6 MARK) × (worked_out (replicate 5 8) good ≡ replicate 5 8) × (worked_out (replicate 6 8) shared ≡ replicate 6 8)
 
 pub lent-words : LentWords

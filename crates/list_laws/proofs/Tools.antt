@@ -9,10 +9,9 @@ use native.Mathlib.Omega.{arith}
 use lib.Dec.{eqb, ltb, leb}
 use borrow.Author.Tests.{ltb-true, ltb-false, leb-true, eqb-true, eqb-false, eq-eqb, ne_eqb, lt-ltb, le-ltb, le-leb}
 use Rattle.model.specs.declared.Answer.TheVariants.{Absent}
-use Rattle.model.specs.declared.Next.{Next}
-use Rattle.model.specs.declared.Next.TheVariants.{Key}
+use Rattle.std.specs.Prelude.{Some}
 use Rattle.model.specs.Slots.{Slot}
-use Rattle.model.specs.Search.{first_with, first_above, absent_or}
+use Rattle.model.specs.Search.{first_with, first_above, absent_or, Next}
 use Rattle.model.specs.Reached.{filter, flat}
 use Rattle.model.specs.SoundTest.{all}
 pub use Rattle.list_laws.specs.Each.{Each}
@@ -186,7 +185,7 @@ unfolding first_with
 first-past k s ss z = rw (ne_eqb s.key k z, first_with)
 
 -- the next key up, in joined lists
-pub above-here : (k : ℕ) (s : Slot) (ss : List Slot) → k < s.key → first_above k (s ∷ ss) ≡ Key s.key
+pub above-here : (k : ℕ) (s : Slot) (ss : List Slot) → k < s.key → first_above k (s ∷ ss) ≡ Some s.key
 unfolding first_above
 above-here k s ss h = rw (lt-ltb k s.key h, first_above)
 
@@ -206,6 +205,6 @@ absent-append k [] b = refl
 absent-append k (s ∷ a) b = go (ltb k s.key) (absent-append k a b)
   where
     go : (c : Bool) → absent_or (first_above k a) (Absent (first_above k b)) ≡ Absent (first_above k (a ++ b))
-        → absent_or (elim c as (λ x. Next) [ true ↦ Key s.key | false ↦ first_above k a ]) (Absent (first_above k b)) ≡ Absent (elim c as (λ x. Next) [ true ↦ Key s.key | false ↦ first_above k (a ++ b) ])
+        → absent_or (elim c as (λ x. Next) [ true ↦ Some s.key | false ↦ first_above k a ]) (Absent (first_above k b)) ≡ Absent (elim c as (λ x. Next) [ true ↦ Some s.key | false ↦ first_above k (a ++ b) ])
     go true ih = refl
     go false ih = ih

@@ -5,15 +5,15 @@ use mathlib.Core.Logic.{◌≢◌}
 use Prim.Native.Nat.{ℕ}
 use native.Mathlib.Omega.{arith}
 use borrow.Author.Tests.{ne_eqb}
-use Rattle.model.specs.declared.Listed.{Listed}
-use Rattle.model.specs.declared.Listed.TheVariants.{Pairs, Refused}
+use Rattle.std.specs.Prelude.{Ok}
+use Rattle.model.specs.Results.{Listed, refused_with, page_with}
 use Rattle.model.specs.Table.{Words, at, header_ok, root_word, no_collection}
 use Rattle.model.specs.Slots.{view_from}
 use Rattle.model.specs.Reached.{mapping, map_of}
 use Rattle.model.specs.SoundTest.{sound}
 use Rattle.model.specs.Listing.{in_range_of, listed, list_number, list, list_out}
-use Rattle.node.specs.Word.{number_in}
-use Rattle.node.proofs.Roots.{number-zero}
+use Rattle.node.specs.Word.{number_in, found_root}
+use Rattle.node.proofs.Roots.{root-there, found-ok}
 use Rattle.listing.specs.declared.Progress.{Progress}
 use Rattle.listing.specs.Taking.{Sheet, sheet, begun, all_taken}
 use Rattle.listing.proofs.Pairs.{taken-all}
@@ -23,32 +23,35 @@ module _ (i : ℕ) (t : Words) (low high : ℕ) (out : Words) where
   abbrev Answers : Listed → Words → Type 0
   Answers r u = (r ≡ list i t low high out) × (u ≡ list_out i t low high out)
 
-  refused : (n : ℕ) → n ≡ list_number i t → n ≢ 0 → Answers (Refused n) out
+  refused : (n : ℕ) → n ≡ list_number i t → n ≢ 0 → Answers (refused_with n) out
   unfolding list list_out
   refused n e z = rw (← e, ne_eqb n 0 z) (refl, refl)
 
-  module _ (n : ℕ) (e : n ≡ number_in i t) where
-    -- 2 and 17
-    pub no-collection : n ≢ 0 → Answers (Refused n) out
-    unfolding list_number number_in
-    no-collection z = refused n (go (header_ok t) (no_collection i t) e) z
-      where
-        go : (a b : Bool) → n ≡ cond a (cond b 17 0) 2 → n ≡ cond a (cond b 17 (cond (sound t) 0 4)) 2
-        go true true q = q
-        go true false q = absurd (z q)
-        go false b q = q
+  -- 2 and 17
+  pub no-collection : number_in i t ≢ 0 → Answers (refused_with (number_in i t)) out
+  unfolding list_number number_in
+  no-collection z = refused (number_in i t) (go (header_ok t) (no_collection i t) z) z
+    where
+      go : (a b : Bool) → cond {A = ℕ} a (cond b 17 0) 2 ≢ 0 → ◌≡◌ {A = ℕ} (cond a (cond b 17 0) 2) (cond a (cond b 17 (cond (sound t) 0 4)) 2)
+      go true true q = refl
+      go true false q = absurd (q refl)
+      go false b q = refl
 
-    module _ (z : n ≡ 0) where
-      number-sound : list_number i t ≡ cond (sound t) 0 4
-      unfolding list_number
-      number-sound = let u = number-zero i t n e z in rw (u.0, u.1)
+  -- from the collection's root on
+  module _ {r : ℕ} (e : found_root i t ≡ Ok r) where
+    pub there : (header_ok t ≡ true) × (no_collection i t ≡ false) × (r ≡ at t (root_word i))
+    there = let u = found-ok i t e in root-there i t r u.0 u.1
 
-      pub not-sound : (r : Bool) → r ≡ sound t → r ≡ false → Answers (Refused 4) out
-      not-sound r q f = let g : sound t ≡ false = sym q ∙ f in refused 4 (sym (number-sound ∙ rw g)) (λ y. omega (arith, y))
+    number-sound : list_number i t ≡ cond (sound t) 0 4
+    unfolding list_number
+    number-sound = rw (there.0, there.1)
 
-      pub done : (p : Progress) (u : Words) (r : ℕ) → sound t ≡ true → r ≡ at t (root_word i) → sheet u p ≡ all_taken (in_range_of low high (mapping (view_from t r))) (begun out) → Answers (Pairs p.count p.more) u
-      unfolding list list_out listed
-      done p u r h q w =
-          let all = (rw q at w) ∙ taken-all (in_range_of low high (map_of i t)) out in
-          let g : list_number i t ≡ 0 = number-sound ∙ rw h in
-          rw g (ap (λ (x : Sheet). Pairs x.count x.more) all, ap (λ (x : Sheet). x.words) all)
+    pub not-sound : sound t ≡ false → Answers (refused_with 4) out
+    not-sound f = refused 4 (sym (number-sound ∙ rw f)) (λ y. omega (arith, y))
+
+    pub done : (p : Progress) (u : Words) → sound t ≡ true → sheet u p ≡ all_taken (in_range_of low high (mapping (view_from t r))) (begun out) → Answers (page_with p.count p.more) u
+    unfolding list list_out listed
+    done p u h w =
+        let all = (rw there.2 at w) ∙ taken-all (in_range_of low high (map_of i t)) out in
+        let g : list_number i t ≡ 0 = number-sound ∙ rw h in
+        rw g (ap (λ (x : Sheet). page_with x.count x.more) all, ap (λ (x : Sheet). x.words) all)

@@ -9,7 +9,7 @@ ghost use Rattle.model.specs.Listing.{in_range_of, list, list_out};
 ghost use Rattle.slots.specs.Scan.{shown_from};
 ghost use Rattle.listing.specs.Taking.{sheet, begun, taken, all_taken, wants, wanted, slot_taken};
 
-use model::{Listed, Node};
+use model::{Listed, Node, Page, Refusal};
 
 // How far a listing has come: the pairs written, and whether one was left that did not fit.
 #[derive(Clone, Copy)]
@@ -28,38 +28,32 @@ struct Window {
 }
 
 // Whether the window has the key.
+#[tactic(auto, unfolding(crate::specs::Taking::wants))]
 fn wants(w: Window, key: u64) -> bool
     ensures { result ≡ wants w key }
 {
-    if key < w.low {
-        return false;
-    }
-    if w.high < key {
-        return false;
-    }
-    slots::keeps(w.sibling, w.bound, key)
+    (w.low..=w.high).contains(&key) && slots::keeps(w.sibling, w.bound, key)
 }
 
 // One pair more: written if it fits whole, else noted as left.
+#[tactic(auto, unfolding(crate::specs::Taking::taken))]
 fn take_pair(out: &mut [u64], p: Progress, key: u64, pointer: u64) -> Progress
     ensures { sheet out.new result ≡ taken (slot key pointer) (sheet out.old p) }
 {
     let count = p.count;
     if out.len() / 2 <= count {
-        return Progress {
-            count: count,
-            more: true,
-        };
+        return Progress { more: true, ..p };
     }
     out[2 * count] = key;
     out[2 * count + 1] = pointer;
     Progress {
         count: count + 1,
-        more: p.more,
+        ..p
     }
 }
 
 // One slot in use more, where before is the pointer before it: a shown slot in the window is taken.
+#[tactic(auto, unfolding(crate::specs::Taking::slot_taken))]
 fn take_slot(
     out: &mut [u64],
     p: Progress,
@@ -70,13 +64,11 @@ fn take_slot(
 ) -> Progress
     ensures { sheet out.new result ≡ slot_taken w before key pointer (sheet out.old p) }
 {
-    if pointer == before {
-        return p;
+    if pointer != before && wants(w, key) {
+        take_pair(out, p, key, pointer)
+    } else {
+        p
     }
-    if !wants(w, key) {
-        return p;
-    }
-    take_pair(out, p, key, pointer)
 }
 
 // The slots of one leaf in turn.
@@ -86,15 +78,13 @@ fn list_leaf(out: &mut [u64], start: Progress, x: Node, w: Window) -> Progress
     let slots = x.slots;
     let mut p = start;
     let mut before = x.left;
-    let mut i = 0;
-    while i < 12 {
+    for i in 0..12 {
         let pointer = slots[2 * i + 1];
         if pointer == 0 {
             return p;
         }
         p = take_slot(out, p, w, before, slots[2 * i], pointer);
         before = pointer;
-        i += 1;
     }
     p
 }
@@ -110,6 +100,7 @@ fn list_leaves(table: &[u64], root: u64, low: u64, high: u64, out: &mut [u64]) -
         more: false,
     };
     let mut leaf = reach::standing(table, root, 0, low);
+    // Along the siblings: their number is not known before.
     while leaf != 0 {
         if p.more {
             return p;
@@ -119,8 +110,8 @@ fn list_leaves(table: &[u64], root: u64, low: u64, high: u64, out: &mut [u64]) -
             return p;
         }
         let w = Window {
-            low: low,
-            high: high,
+            low,
+            high,
             sibling: x.sibling,
             bound: node::word(table, x.sibling, 3),
         };
@@ -136,16 +127,13 @@ pub fn list(table: &[u64], collection: u64, low: u64, high: u64, out: &mut [u64]
     ensures value { result ≡ list collection table.now low high out.old }
     ensures out_after { out.new ≡ list_out collection table.now low high out.old }
 {
-    let number = node::refusal(table, collection);
-    if number != 0 {
-        return Listed::Refused(number);
-    }
+    let root = node::find_root(table, collection)?;
     if !sound::is_sound(table) {
-        return Listed::Refused(4);
+        return Err(Refusal::NotSound);
     }
-    let p = list_leaves(table, node::root_of(table, collection), low, high, out);
-    Listed::Pairs {
+    let p = list_leaves(table, root, low, high, out);
+    Ok(Page {
         count: p.count as u64,
         more: p.more,
-    }
+    })
 }

@@ -9,10 +9,9 @@ use native.Mathlib.Omega.{arith}
 use lib.Dec.{eqb}
 use borrow.Author.Tests.{eq-eqb, ne_eqb}
 use Rattle.model.specs.declared.Answer.TheVariants.{Found, Absent}
-use Rattle.model.specs.declared.Next.{Next}
 use Rattle.model.specs.Table.{Words, at, root_word, no_collection}
 use Rattle.model.specs.Slots.{Slot, recording, class, pointer_of, view_of}
-use Rattle.model.specs.Search.{answer_of, first_with, first_above, lookup, within, kept}
+use Rattle.model.specs.Search.{answer_of, first_with, first_above, lookup, within, kept, Next}
 use Rattle.model.specs.Listing.{list, list_out}
 use Rattle.model.specs.SoundTest.{sound_view, rising, sound}
 use Rattle.model.specs.Reached.{Maps, unless_lacking, map_of, maps_of}

@@ -8,8 +8,8 @@ use Prim.Native.Nat.{ℕ, ◌≤◌}
 use native.Mathlib.Omega.{arith}
 use lib.Dec.{eqb, ltb}
 use borrow.Author.Tests.{eqb-true, eqb-false}
-use Rattle.model.specs.declared.Next.{Next}
-use Rattle.model.specs.declared.Next.TheVariants.{Key, Nothing}
+use Rattle.std.specs.Prelude.{Some, None}
+use Rattle.model.specs.Search.{Next}
 use Rattle.model.specs.Slots.{Slot, slot, with_class}
 use Rattle.model.specs.Ledger.{enter, leave, reclass}
 use Rattle.model.specs.Demand2.{IsNext}
@@ -79,11 +79,11 @@ mem-reclass k c s (p ∷ ps) = go (eqb p.key k) refl (mem-reclass k c s ps)
         )
 
 pub next-once : (k : ℕ) (ps : List Slot) (x y : Next) → IsNext k ps x → IsNext k ps y → x ≡ y
-next-once k ps (Key i) (Key j) a b =
+next-once k ps (Some i) (Some j) a b =
     let p : j ≤ i = b.2 (slot i a.0.0) a.0.1 a.1 in
     let q : i ≤ j = a.2 (slot j b.0.0) b.0.1 b.1 in
     let e : i ≡ j = omega (arith, p, q) in
-    ap Key e
-next-once k ps (Key i) Nothing a b = let p : i ≤ k = b (slot i a.0.0) a.0.1 in absurd (omega (arith, p, a.1))
-next-once k ps Nothing (Key j) a b = let p : j ≤ k = a (slot j b.0.0) b.0.1 in absurd (omega (arith, p, b.1))
-next-once k ps Nothing Nothing a b = refl
+    ap Some e
+next-once k ps (Some i) None a b = let p : i ≤ k = b (slot i a.0.0) a.0.1 in absurd (omega (arith, p, a.1))
+next-once k ps None (Some j) a b = let p : j ≤ k = a (slot j b.0.0) b.0.1 in absurd (omega (arith, p, b.1))
+next-once k ps None None a b = refl

@@ -8,7 +8,7 @@ use native.Mathlib.Numerals.{add-one, sub-one}
 use native.Mathlib.Omega.{arith}
 use lib.Dec.{leb, ltb}
 use lib.ListN.{length}
-use borrow.Author.Tests.{leb-true, leb-false, lt-ltb, le-ltb}
+use borrow.Author.Tests.{leb-true, leb-false, lt-ltb}
 use Rattle.model.specs.Table.{Words}
 use Rattle.model.specs.Reached.{filter, head_or}
 use Rattle.model.specs.Writes.{numbers}
@@ -123,17 +123,11 @@ module _ (ms : Words) where
   abbrev pub total : (N : ℕ) → ℕ
   total N = length (unmarked ms (numbers 1 N))
 
-  pub rest-all : (N want : ℕ) → total N + want ≡ rest_after N 0 + want
-  rest-all N want = let e : N + 1 - (0 + 1) ≡ N = omega arith in rw e
+  pub few-yes : (N after f k want : ℕ) → total N ≡ rest_after N after + k → f ≡ first_from (after + 1) N → f ≡ 0 → k < want → true ≡ ltb (total N) want
+  few-yes N after f k want e q z h = sym (lt-ltb (total N) want (omega (arith, e, count-none (after + 1) N (omega arith) (sym z ∙ q))))
 
-  pub few-yes : (N after f left want : ℕ) → 1 ≤ after + 1 → total N + left ≡ rest_after N after + want → f ≡ first_from (after + 1) N → f ≡ 0 → 0 < left → true ≡ ltb (total N) want
-  few-yes N after f left want l e q z h = sym (lt-ltb (total N) want (omega (arith, e, count-none (after + 1) N l (sym z ∙ q))))
-
-  pub few-no : (N after left want : ℕ) → total N + left ≡ rest_after N after + want → left ≡ 0 → false ≡ ltb (total N) want
-  few-no N after left want e z = sym (le-ltb (total N) want (omega (arith, e)))
-
-  pub few-next : (N after f left want : ℕ) → total N + left ≡ rest_after N after + want → f ≡ first_from (after + 1) N → f ≢ 0 → 0 < left → total N + (left - 1) ≡ rest_after N f + want
-  few-next N after f left want e q z h = omega (arith, e, count-next (N + 1 - (after + 1)) (after + 1) N f refl q z)
+  pub few-next : (N after f k : ℕ) → total N ≡ rest_after N after + k → f ≡ first_from (after + 1) N → f ≢ 0 → total N ≡ rest_after N f + (k + 1)
+  few-next N after f k e q z = omega (arith, e, count-next (N + 1 - (after + 1)) (after + 1) N f refl q z)
 
   pub first-small : (N after f : ℕ) → N ≤ 65535 → f ≡ first_from (after + 1) N → f ≤ 65535
   first-small N after f h e = omega (arith, e, first-last (N + 1 - (after + 1)) (after + 1) N refl)

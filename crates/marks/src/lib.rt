@@ -17,7 +17,7 @@ pub fn clear(marks: &mut [u64], x: usize)
         return;
     }
     let i = x / 64;
-    marks[i] = marks[i] ^ (1 << (x % 64));
+    marks[i] ^= 1 << (x % 64);
 }
 
 // So many nodes from node n on are marked: none where n is not, a whole word at once where it begins with n.
@@ -45,6 +45,7 @@ fn first_free(marks: &[u64], first: u64, last: u64) -> u64
     ensures { result ≡ head_or 0 (unmarked marks.now (numbers first (last + 1 - first))) }
 {
     let mut n = first;
+    // The step is the run that a call gives, so no range counts it.
     while n <= last {
         let run = taken_run(marks, n);
         if run == 0 {
@@ -77,13 +78,11 @@ pub fn few(marks: &[u64], nodes: u64, want: u64) -> bool
     ensures { result ≡ ltb (length (unmarked marks.now (numbers 1 nodes))) want }
 {
     let mut after = 0;
-    let mut left = want;
-    while 0 < left {
+    for _ in 0..want {
         after = first_free(marks, after + 1, nodes);
         if after == 0 {
             return true;
         }
-        left -= 1;
     }
     false
 }

@@ -1,4 +1,5 @@
 -- One name that unfolds every definition of document 01, for closed computations. Written by .ci/everything.
+use Rattle.model.specs.Numbers
 use Rattle.model.specs.Lists
 use Rattle.model.specs.Codes
 use Rattle.model.specs.Table
@@ -32,7 +33,8 @@ use Rattle.model.specs.QuickBatch
 use Rattle.model.specs.QuickHistories
 
 unfoldable pub everything : Unit {0}
-unfolding Lists.all
+unfolding Numbers.first_of Numbers.refusal_of
+    Lists.all
     Codes.is_digit Codes.is_letter Codes.is_letter_or_digit Codes.is_code Codes.value Codes.read_on Codes.number Codes.key_of Codes.parse Codes.character
     Codes.digits Codes.spelling Codes.has_code Codes.print Codes.text_below
     Table.table_length Table.nodes_for Table.length_ok Table.in_range Table.all_zero Table.header_ok Table.header_number Table.no_collection Table.node_start

@@ -7,3 +7,4 @@ pub mod Batched
 pub mod Listings
 pub mod Judging
 pub mod QuickCalls
+pub mod Numbers

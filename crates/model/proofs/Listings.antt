@@ -3,7 +3,7 @@ use mathlib.Core.Path.{◌≡◌, refl}
 use mathlib.Core.Bool.{true, false}
 use mathlib.Core.List.{[], ◌∷◌}
 use lib.ListN.{replicate}
-use Rattle.model.specs.declared.Listed.TheVariants.{Pairs}
+use Rattle.model.specs.Results.{page_with}
 use Rattle.model.specs.Table.{Words}
 use Rattle.model.specs.Slots.{pointer_of}
 use Rattle.model.specs.Listing.{list, list_out}
@@ -16,11 +16,11 @@ three = four_taken.table
 
 pub record ListTrial : Type 0 where
   pub both-ends : list_out 1 three 10 30 (replicate 7 9) ≡ 10 ∷ 101 ∷ 20 ∷ pointer_of 102 1 ∷ 30 ∷ pointer_of 103 2 ∷ 9 ∷ []
-  pub all-three : list 1 three 10 30 (replicate 7 9) ≡ Pairs 3 false
+  pub all-three : list 1 three 10 30 (replicate 7 9) ≡ page_with 3 false
   pub two-fit : list_out 1 three 10 30 (replicate 5 9) ≡ 10 ∷ 101 ∷ 20 ∷ pointer_of 102 1 ∷ 9 ∷ []
-  pub more-left : list 1 three 10 30 (replicate 5 9) ≡ Pairs 2 true
+  pub more-left : list 1 three 10 30 (replicate 5 9) ≡ page_with 2 true
   pub between : list_out 1 three 11 29 (replicate 3 9) ≡ 20 ∷ pointer_of 102 1 ∷ 9 ∷ []
-  pub none-there : list 1 three 30 10 (replicate 7 9) ≡ Pairs 0 false
+  pub none-there : list 1 three 30 10 (replicate 7 9) ≡ page_with 0 false
 
 pub list-tried : ListTrial
 unfolding everything

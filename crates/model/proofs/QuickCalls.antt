@@ -4,7 +4,7 @@ use mathlib.Core.Path.{◌≡◌, refl}
 use mathlib.Core.Bool.{true, false}
 use mathlib.Core.List.{[], ◌∷◌}
 use lib.ListN.{take, replicate, set}
-use Rattle.model.specs.declared.Listed.TheVariants.{Pairs, Refused}
+use Rattle.model.specs.Results.{refused_with, page_with}
 use Rattle.model.specs.Table.{MARK, Words, empty}
 use Rattle.model.specs.Slots.{pointer_of}
 use Rattle.model.specs.Writes.{Call, insertion, deletion, repair, stores_of}
@@ -68,8 +68,8 @@ pub record QuickTrial : Type 0 where
   pub enters : (holds (cells_in 3 (opened full)) (pointer_of 99 1) ≡ false) × (holds (cells_in 3 (later splitting full)) (pointer_of 99 1) ≡ true)
   pub leaves : (holds (cells_in 3 (opened pair)) (pointer_of 121 1) ≡ true) × (holds (cells_in 3 (later freeing pair)) (pointer_of 121 1) ≡ false)
   -- a page of two pairs from key 100 on, and that more are left
-  pub page : (quick_listed 1 (opened pair) pair 100 MARK (replicate 4 0) ≡ Pairs 2 true) × (quick_list_out 1 (opened pair) pair 100 MARK (replicate 4 0) ≡ 100 ∷ 110 ∷ 110 ∷ 111 ∷ [])
-  pub last-page : (quick_listed 1 (opened pair) pair 111 MARK (replicate 4 0) ≡ Pairs 1 false) × (quick_listed 1 (replicate 49 0) pair 111 MARK [] ≡ Refused 4)
+  pub page : (quick_listed 1 (opened pair) pair 100 MARK (replicate 4 0) ≡ page_with 2 true) × (quick_list_out 1 (opened pair) pair 100 MARK (replicate 4 0) ≡ 100 ∷ 110 ∷ 110 ∷ 111 ∷ [])
+  pub last-page : (quick_listed 1 (opened pair) pair 111 MARK (replicate 4 0) ≡ page_with 1 false) × (quick_listed 1 (replicate 49 0) pair 111 MARK [] ≡ refused_with 4)
 
 pub quick-tried : QuickTrial
 unfolding everything ten_slots

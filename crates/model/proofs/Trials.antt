@@ -7,11 +7,8 @@ use mathlib.Core.Option.{none}
 use Prim.Native.Nat.{ℕ, suc, pred, ◌*◌}
 use lib.Dec.{eqb}
 use lib.ListN.{length, take, drop, set, replicate}
-use Rattle.model.specs.declared.Answer.{Answer}
-use Rattle.model.specs.declared.Answer.TheVariants.{Found, Absent, Refused}
-use Rattle.model.specs.declared.Next.{Next}
-use Rattle.model.specs.declared.Next.TheVariants.{Key, Nothing}
-use Rattle.model.specs.declared.Written.TheVariants.{Done}
+use Rattle.model.specs.Results.{done_with}
+use Rattle.model.specs.Scripts.{same_answer}
 use Rattle.model.specs.Table.{MARK, Words, at, line, header_ok, empty}
 use Rattle.model.specs.Slots.{Slot, slot, View, view}
 use Rattle.model.specs.Search.{search_view, lookup}
@@ -30,21 +27,6 @@ use Rattle.model.proofs.Quick.{quick, quick-is-view}
 use Rattle.model.proofs.Tables.{table_of, leaf_of, ways, stale, one_level, two_levels}
 
 -- ---- answers, maps, words, keys
-
-abbrev pub same_next : Next → Next → Bool
-same_next (Key a) (Key b) = eqb a b
-same_next (Key a) Nothing = false
-same_next Nothing (Key b) = false
-same_next Nothing Nothing = true
-
-abbrev pub same_answer : Answer → Answer → Bool
-same_answer (Found a c) (Found b d) = eqb a b && eqb c d
-same_answer (Found a c) (Absent y) = false
-same_answer (Found a c) (Refused n) = false
-same_answer (Absent x) (Found b d) = false
-same_answer (Absent x) (Absent y) = same_next x y
-same_answer (Absent x) (Refused n) = false
-same_answer (Refused m) y = false
 
 abbrev pub same_map : List Slot → List Slot → Bool
 same_map [] [] = true
@@ -249,7 +231,7 @@ pub record Docked : Type 0 where
   -- each store, then its barrier; the flush; other words stay
   pub listed : list_after first_pair (replicate 5120 3) 1 (empty 1)
       ≡ (19 ∷ 0 ∷ BAR ∷ 0 ∷ 17 ∷ MARK ∷ BAR ∷ 0 ∷ 16 ∷ 5 ∷ BAR ∷ 0 ∷ 17 ∷ 7 ∷ BAR ∷ 0 ∷ MARK ∷ 2 ∷ []) ++ replicate 5102 3
-  pub counted : (written first_pair 5120 1 (empty 1) ≡ Done 4 1 4) × (written first_pair 2560 0 (empty 1) ≡ Done 4 1 0)
+  pub counted : (written first_pair 5120 1 (empty 1) ≡ done_with 4 1 4) × (written first_pair 2560 0 (empty 1) ≡ done_with 4 1 0)
   -- 4, then 18, then 5, by the dock
   pub unsound-first : refusal first_pair 0 2 (set (empty 1) 10 1) ≡ 4
   pub no-dock : refusal first_pair 0 2 (empty 1) ≡ 18

@@ -1,24 +1,21 @@
 -- What the C entry points return and leave in lent words.
 use Rattle.std.specs.Prelude.{◌≡◌, Bool, cond, ◌||◌, ℕ, eqb, ltb, length}
-use Rattle.model.specs.declared.Batch.{Batch}
+use Rattle.model.specs.Numbers.{stop_number}
+use Rattle.model.specs.Results.{Listed, Salvaged, Verdict, Worn, Written, answer_number}
 use Rattle.model.specs.declared.Answer.{Answer}
 use Rattle.model.specs.declared.Answer.TheVariants.{Found, Absent, Refused}
-use Rattle.model.specs.declared.Listed.{Listed}
-use Rattle.model.specs.declared.Salvaged.{Salvaged}
-use Rattle.model.specs.declared.Verdict.{Verdict}
-use Rattle.model.specs.declared.Worn.{Worn}
-use Rattle.model.specs.declared.Written.{Written}
+use Rattle.model.specs.declared.Batch.{Batch}
 use Rattle.model.specs.Table.{Words}
 use Rattle.model.specs.Slots.{slots_of}
 use Rattle.model.specs.Writes.{Call}
 use Rattle.model.specs.Search.{recording_or, access_or, next_or, higher_or}
-use Rattle.model.specs.Listing.{listed_number, count_or, more_or}
-use Rattle.model.specs.Refusals.{written, table_after, list_after, written_number, stores_or, flushes_or, barriers_or}
-use Rattle.model.specs.Salvage.{salvaged_number, dropped_or}
+use Rattle.model.specs.Listing.{count_or, more_or}
+use Rattle.model.specs.Refusals.{written, table_after, list_after, stores_or, flushes_or, barriers_or}
+use Rattle.model.specs.Salvage.{dropped_or}
 use Rattle.model.specs.Sentinels.{written_with, table_with, orders_with, sentinels_with}
 use Rattle.model.specs.Judge.{verdict_number, fails_or}
 use Rattle.model.specs.Batch.{batch}
-use Rattle.model.specs.Wear.{worn_number, total_or, largest_or, first_line_or, pairs_or}
+use Rattle.model.specs.Wear.{total_or, largest_or, first_line_or, pairs_or}
 
 -- the version of the calls' shapes: raised by each change of a name, a parameter or what a word means
 abbrev pub version : ℕ
@@ -40,7 +37,7 @@ pub record Looked (x : Answer) (number recording recording' access access' next 
 
 -- a write's answer: its number, and the three counts in lent words, which stay on refusal
 pub record Counted (x : Written) (number stores stores' flushes flushes' barriers barriers' : ℕ) : Type 0 where
-  pub number-is : number ≡ written_number x
+  pub number-is : number ≡ answer_number x
   pub stores-are : stores' ≡ stores_or x stores
   pub flushes-are : flushes' ≡ flushes_or x flushes
   pub barriers-are : barriers' ≡ barriers_or x barriers
@@ -54,12 +51,12 @@ pub record Wrote (x : Call) (number : ℕ) (t t' lent lent' : Words) (dock store
 -- A batch that stops before its first pair is refused, and the lent words stay; else it returns 0, and the number that stopped it, 0 if all
 -- pairs were taken, goes into a lent word with its counts.
 abbrev pub puts : Batch → Bool
-puts x = eqb x.number 0 || ltb 0 x.taken
+puts x = eqb (stop_number x.stop) 0 || ltb 0 x.taken
 
 pub record Summed (x : Batch) (number taken taken' stop stop' stores stores' flushes flushes' barriers barriers' : ℕ) : Type 0 where
-  pub number-is : number ≡ cond (puts x) 0 x.number
+  pub number-is : number ≡ cond (puts x) 0 (stop_number x.stop)
   pub taken-are : taken' ≡ cond (puts x) x.taken taken
-  pub stop-is : stop' ≡ cond (puts x) x.number stop
+  pub stop-is : stop' ≡ cond (puts x) (stop_number x.stop) stop
   pub stores-are : stores' ≡ cond (puts x) x.stores stores
   pub flushes-are : flushes' ≡ cond (puts x) x.flushes flushes
   pub barriers-are : barriers' ≡ cond (puts x) x.barriers barriers
@@ -80,13 +77,13 @@ pub record WroteWith (x : Call) (number : ℕ) (t t' ws ws' lent lent' : Words) 
 
 -- a listing's answer: its number, the count, and 1 or 0 for more left
 pub record Showed (x : Listed) (number pairs pairs' more more' : ℕ) : Type 0 where
-  pub number-is : number ≡ listed_number x
+  pub number-is : number ≡ answer_number x
   pub pairs-are : pairs' ≡ count_or x pairs
   pub more-is : more' ≡ more_or x more
 
 -- a salvage's answer: its number, and the count of dropped slots
 pub record Rebuilt (x : Salvaged) (number dropped dropped' : ℕ) : Type 0 where
-  pub number-is : number ≡ salvaged_number x
+  pub number-is : number ≡ answer_number x
   pub dropped-are : dropped' ≡ dropped_or x dropped
 
 -- a judgement's answer: its number, and the first count that fails
@@ -96,7 +93,7 @@ pub record Ruled (x : Verdict) (number count count' : ℕ) : Type 0 where
 
 -- the wear figures: the call's number, and the figures in lent words, which stay on refusal
 pub record Wore (x : Worn) (number total total' largest largest' first first' pairs pairs' : ℕ) : Type 0 where
-  pub number-is : number ≡ worn_number x
+  pub number-is : number ≡ answer_number x
   pub total-is : total' ≡ total_or x total
   pub largest-is : largest' ≡ largest_or x largest
   pub first-is : first' ≡ first_line_or x first

@@ -1,6 +1,6 @@
 -- Scale 2: many insertions in one call, the fold of the single call: the pairs in the order given, one order list for all.
-use Rattle.std.specs.Prelude.{List, [], ◌∷◌, ◌++◌, ℕ, ◌+◌, ◌*◌, length, take, drop}
-use Rattle.model.specs.declared.Written.TheVariants.{Done, Refused}
+use Rattle.std.specs.Prelude.{List, [], ◌∷◌, ◌++◌, ℕ, ◌+◌, ◌*◌, length, take, drop, Option, Some, None, Ok, Err}
+use Rattle.model.specs.declared.Refusal.{Refusal}
 use Rattle.model.specs.declared.Batch.{Batch}
 use Rattle.model.specs.Table.{Words}
 use Rattle.model.specs.Slots.{Slot, recording, class}
@@ -17,16 +17,16 @@ pub record Batched : Type 0 where
   pub table : Words
   pub list : Words
 
--- it stops with a number before its first pair, and nothing changes; 0: there is no pair
-abbrev pub stopped : ℕ → (list t : Words) → Batched
-stopped m list t = record { answer = record { number = m; taken = 0; stores = 0; flushes = 0; barriers = 0 }; table = t; list = list }
+-- it stops with a refusal before its first pair, and nothing changes; none: there is no pair
+abbrev pub stopped : Option Refusal → (list t : Words) → Batched
+stopped r list t = record { answer = record { stop = r; taken = 0; stores = 0; flushes = 0; barriers = 0 }; table = t; list = list }
 
 -- what comes behind i pairs, which made so many stores, flushes and barriers and filled the front of the list
 abbrev pub behind : (i a b c : ℕ) → (front : Words) → Batched → Batched
 behind i a b c front r =
     let x = r.answer in
     record {
-      answer = record { number = x.number; taken = i + x.taken; stores = a + x.stores; flushes = b + x.flushes; barriers = c + x.barriers };
+      answer = record { stop = x.stop; taken = i + x.taken; stores = a + x.stores; flushes = b + x.flushes; barriers = c + x.barriers };
       table = r.table;
       list = front ++ r.list;
     }
@@ -34,12 +34,13 @@ behind i a b c front r =
 -- The pairs are taken one by one. A refused one stops the batch with its number; after an accepted one the others go on with the table that it
 -- left and with the list behind the words that it filled.
 unfoldable pub batch : (n dock : ℕ) → List Slot → (list t : Words) → Batched
-batch n dock [] list t = stopped 0 list t
+batch n dock [] list t = stopped None list t
 batch n dock (s ∷ ss) list t =
     let x = insertion_of n s in
     let later = list_after x list dock t in
     elim (written x (length list) dock t) [
-      | Done a b c ↦
-          behind 1 a b c (take (2 * (a + b + c)) later) (batch n dock ss (drop (2 * (a + b + c)) later) (table_after x (length list) dock t))
-      | Refused m ↦ stopped m list t
+      | Ok w ↦
+          let filled = 2 * (w.stores + w.flushes + w.barriers) in
+          behind 1 w.stores w.flushes w.barriers (take filled later) (batch n dock ss (drop filled later) (table_after x (length list) dock t))
+      | Err r ↦ stopped (Some r) list t
     ]

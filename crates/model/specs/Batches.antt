@@ -2,6 +2,7 @@
 -- onto the history before it; so demand 3 holds of histories with batches.
 use Rattle.std.specs.Prelude.{◌≡◌, ◌≢◌, Bool, false, List, [], ◌∷◌, ◌++◌, map, ℕ, ◌+◌, ◌-◌, ◌*◌, ◌≤◌, length, take, drop}
 use Rattle.std.proofs.Math.Option.{none}
+use Rattle.model.specs.Numbers.{stop_number}
 use Rattle.model.specs.Table.{Words, nodes}
 use Rattle.model.specs.Slots.{Slot, recording, class}
 use Rattle.model.specs.Reached.{maps_of}
@@ -88,7 +89,7 @@ pub record Singles (choose : History → Bool) (t : Words) (h : History) (n dock
   pub comes-to : run_from (both t) (events ++ h) ≡ after_batch f (run_from (both t) h) r
   pub stands : StandsFrom choose (nodes t) (both t) (maps_of t) (events ++ h)
   -- the number that stopped it is the ledger's
-  pub stops : StopsBy f n (length list - 2 * batch_answered r) dock r.answer.number
+  pub stops : StopsBy f n (length list - 2 * batch_answered r) dock (stop_number r.answer.stop)
       (ledger_from choose (nodes t) (both t) (maps_of t) (events ++ h)) (drop r.answer.taken ss)
 
 -- the pairs enter one after another

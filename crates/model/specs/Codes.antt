@@ -1,9 +1,7 @@
 -- Document 01, "Codes": reading and printing an ISRC code.
-use Rattle.std.specs.Prelude.{Bool, true, false, cond, ◌&&◌, ◌||◌, List, [], ◌∷◌, ◌++◌, map, ℕ, zero}
+use Rattle.std.specs.Prelude.{Bool, true, false, cond, ◌&&◌, ◌||◌, List, [], ◌∷◌, ◌++◌, map, ℕ, zero, Ok, Err}
 use Rattle.std.specs.Prelude.{suc, ◌+◌, ◌-◌, ◌*◌, ◌/◌, ◌%◌, leb, ltb, eqb, length, take, drop, replicate}
-use Rattle.model.specs.declared.Parsed.{Parsed}
-use Rattle.model.specs.declared.Parsed.TheVariants.{Key, Refused}
-use Rattle.model.specs.declared.Printed.{Printed}
+use Rattle.model.specs.Results.{Parsed, Printed, refused_with}
 use Rattle.model.specs.Lists.{all}
 
 -- characters in ASCII
@@ -38,7 +36,7 @@ unfoldable pub key_of : List ℕ → ℕ
 key_of text = number 36 (map value (take 5 text)) * 10000000 + number 10 (map value (drop 5 text))
 
 unfoldable pub parse : List ℕ → Parsed
-parse text = cond (is_code text) (Key (key_of text)) (Refused 1)
+parse text = cond (is_code text) (Ok (key_of text)) (refused_with 1)
 
 -- the character that counts d, and the last n digits of x in base b, highest first
 unfoldable pub character : ℕ → ℕ
@@ -58,17 +56,17 @@ has_code k = is_code (spelling k) && eqb (key_of (spelling k)) k
 
 -- Printing gives 12 characters; a key that no code has is refused, with 12 zero bytes.
 unfoldable pub print : ℕ → Printed
-print k = cond (has_code k) (record { number = 0; text = spelling k }) (record { number = 1; text = replicate 12 0 })
+print k = cond (has_code k) (Ok (spelling k)) (refused_with 1)
 
--- Document 01's number for each case: 0 where the call does its work.
-abbrev pub parsed_number : Parsed → ℕ
-parsed_number (Key k) = 0
-parsed_number (Refused n) = n
+-- the characters that lent bytes then hold
+abbrev pub characters_of : Printed → List ℕ
+characters_of (Ok text) = text
+characters_of (Err r) = replicate 12 0
 
 -- the key that a lent word then holds; it stays where there is none
 abbrev pub key_or : Parsed → ℕ → ℕ
-key_or (Key k) old = k
-key_or (Refused n) old = old
+key_or (Ok k) old = k
+key_or (Err r) old = old
 
 -- ---- the order of texts: demand 2 says that a larger code is a larger key
 

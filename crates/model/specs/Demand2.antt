@@ -1,15 +1,12 @@
 -- Demand 2 as one claim over tables: on every sound table a search, a listing, an insertion, a deletion and a class change agree with an
 -- ordinary map from code to recording and class.
-use Rattle.std.specs.Prelude.{◌≡◌, ◌≢◌, ◌⊎◌, ◌↔◌, Bool, true, false, ℕ, ◌+◌, ◌*◌, ◌≤◌, ◌<◌, length, drop}
+use Rattle.std.specs.Prelude.{◌≡◌, ◌≢◌, ◌⊎◌, ◌↔◌, Bool, true, false, ℕ, ◌+◌, ◌*◌, ◌≤◌, ◌<◌, length, drop, Some, None}
 use mathlib.Core.List.{List, ◌++◌, Memᴰ}
+use Rattle.model.specs.Results.{Listed, page_with}
 use Rattle.model.specs.declared.Answer.TheVariants.{Found, Absent, Refused}
-use Rattle.model.specs.declared.Next.{Next}
-use Rattle.model.specs.declared.Next.TheVariants.{Key, Nothing}
-use Rattle.model.specs.declared.Listed.{Listed}
-use Rattle.model.specs.declared.Listed.TheVariants.{Pairs}
 use Rattle.model.specs.Table.{Words, no_collection}
 use Rattle.model.specs.Slots.{Slot, slot, recording, class, pointer_of, with_class, node_view, view_of, slot_words}
-use Rattle.model.specs.Search.{within, search}
+use Rattle.model.specs.Search.{within, search, Next}
 use Rattle.model.specs.Reached.{map_of}
 use Rattle.model.specs.Sound.{Reached, Rise, Settled, Sound}
 use Rattle.model.specs.Listing.{list, list_out}
@@ -32,8 +29,8 @@ Has n t s = Memᴰ s (map_of n t)
 
 -- of the pairs ps: it is in them and above k, and none of them is between; or none is above k
 abbrev pub IsNext : ℕ → List Slot → Next → Type 0
-IsNext k ps (Key j) = ((r : ℕ) × Memᴰ (slot j r) ps) × (k < j) × ((s : Slot) → Memᴰ s ps → k < s.key → j ≤ s.key)
-IsNext k ps Nothing = (s : Slot) → Memᴰ s ps → s.key ≤ k
+IsNext k ps (Some j) = ((r : ℕ) × Memᴰ (slot j r) ps) × (k < j) × ((s : Slot) → Memᴰ s ps → k < s.key → j ≤ s.key)
+IsNext k ps None = (s : Slot) → Memᴰ s ps → s.key ≤ k
 
 -- ---- a listing
 
@@ -46,7 +43,7 @@ pub record Listing (ps : List Slot) (low high : ℕ) (out : Words) (answer : Lis
   -- It answers the number of the pairs that it writes, and whether more were left.
   pub pairs : List Slot
   pub more : Bool
-  pub answers : answer ≡ Pairs (length pairs) more
+  pub answers : answer ≡ page_with (length pairs) more
   -- It writes pairs in that range, rising; one that it does not write is above them all.
   pub in-range : (s : Slot) → Memᴰ s pairs → Listable ps low high s
   pub rises : Rise pairs
@@ -58,7 +55,7 @@ pub record Listing (ps : List Slot) (low high : ℕ) (out : Words) (answer : Lis
   -- (key, recording and class); other words stay.
   pub writes : slice ≡ slot_words pairs ++ drop (2 * length pairs) out
   -- Lowest above highest gives none.
-  pub none : high < low → (answer ≡ Pairs 0 false) × (slice ≡ out)
+  pub none : high < low → (answer ≡ page_with 0 false) × (slice ≡ out)
 
 -- ---- the calls
 

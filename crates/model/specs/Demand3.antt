@@ -2,7 +2,7 @@
 -- for dock 0 or dock 1, with sentinels or without; from the empty table, and from every sound one.
 use Rattle.std.specs.Prelude.{◌≡◌, ◌≢◌, ◌⊎◌, Bool, true, List, [], ◌∷◌, ℕ, ◌*◌, ◌≤◌, eqb, length, take}
 use Rattle.std.proofs.Math.Option.{Option, none, some}
-use Rattle.model.specs.declared.Written.{Written}
+use Rattle.model.specs.Results.{Written, answer_number}
 use Rattle.model.specs.Table.{Words, nodes, empty_of}
 use Rattle.model.specs.Search.{search}
 use Rattle.model.specs.Reached.{maps_of}
@@ -10,7 +10,7 @@ use Rattle.model.specs.Sound.{Settled, Sound}
 use Rattle.model.specs.Orders.{Order, decode, carried_out, carry_number}
 use Rattle.model.specs.Cuts.{CutImage}
 use Rattle.model.specs.Writes.{Call, insertion, deletion, class_change, repair, repaired}
-use Rattle.model.specs.Refusals.{eleven_in, ten_in, refusal, unless_refused, written, written_number, orders_answered, table_after, list_after}
+use Rattle.model.specs.Refusals.{eleven_in, ten_in, refusal, unless_refused, written, orders_answered, table_after, list_after}
 use Rattle.model.specs.Sentinels.{sentinels, search_with, refusal_with, written_with, table_with, orders_with, sentinels_with}
 use Rattle.model.specs.Ledger.{Ledger, no_pairs, list_in, answer_from, fed_of, other_slice, ledger_refusal, End, completed, cut_after, feed}
 
@@ -159,7 +159,7 @@ StayTrue (some ws) x words dock t =
 pub record Right (N : ℕ) (e : Event) (s s' : State) (ps : Ledger) : Type 0 where
   -- accepted or refused as in the ledger, with the same number
   pub same-number : number_of s e ≡ ledger_refusal e.call (other_slice N e.slice) (length e.lent) e.dock (fed_of (number_of s e)) ps
-  pub answers-it : written_number (written_by e.slice e.call (length e.lent) e.dock s.working) ≡ number_of s e
+  pub answers-it : answer_number (written_by e.slice e.call (length e.lent) e.dock s.working) ≡ number_of s e
   -- 10 and 11 only on their conditions
   pub ten-only : number_of s e ≡ 10 → ten_in e.call (repaired s.working) ≡ true
   pub eleven-only : number_of s e ≡ 11 → eleven_in e.call (repaired s.working) ≡ true

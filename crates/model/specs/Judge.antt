@@ -1,9 +1,10 @@
 -- Change request 9: judging a supplier's order list. What is asked of each count of its orders, over all images of a cut there; what computes
 -- the answer; the call.
 use Rattle.std.specs.Prelude.{◌≡◌, ◌≢◌, ◌⊎◌, ◌↔◌, Bool, true, false, cond, not, ◌&&◌, ◌||◌, List, [], ◌∷◌, ℕ, suc, ◌/◌, ◌≤◌, ◌<◌, eqb, length, take}
+use Rattle.std.specs.Prelude.{Ok, Err, Some, None}
 use Rattle.std.proofs.Math.Option.{Option, none, some}
-use Rattle.model.specs.declared.Verdict.{Verdict}
-use Rattle.model.specs.declared.Verdict.TheVariants.{Yes, No, Refused}
+use Rattle.model.specs.Numbers.{refusal_number}
+use Rattle.model.specs.Results.{Verdict, refused_with}
 use Rattle.model.specs.Table.{Words, line, header_ok}
 use Rattle.model.specs.Slots.{Slot}
 use Rattle.model.specs.Reached.{Maps, maps_of}
@@ -43,9 +44,9 @@ pub record CountHolds (x : Call) (t : Words) (os : List Order) (c : ℕ) : Type 
 
 -- Yes exactly if every count holds; else no, with the first count that fails.
 abbrev pub Says : Call → Words → List Order → Verdict → Type 0
-Says x t os Yes = (c : ℕ) → c ≤ length os → CountHolds x t os c
-Says x t os (No c) = (c ≤ length os) × ((d : ℕ) → d < c → CountHolds x t os d) × (CountHolds x t os c → ⊥)
-Says x t os (Refused n) = ⊥
+Says x t os (Ok None) = (c : ℕ) → c ≤ length os → CountHolds x t os c
+Says x t os (Ok (Some c)) = (c ≤ length os) × ((d : ℕ) → d < c → CountHolds x t os d) × (CountHolds x t os c → ⊥)
+Says x t os (Err r) = ⊥
 
 -- ---- what computes it: the orders one by one, on the table as those before leave it. Proved twin of `Says`, which needs no belief:
 -- `judged-iff` in crates/judge_laws/proofs/Judged.antt.
@@ -94,11 +95,11 @@ completes new l u = is_none l && (settled u && same_maps (maps_of u) new)
 -- c orders were carried out, each count of which holds, and left u and line l unflushed; these are the others
 module _ (old new : Maps) where
   unfoldable pub judged_from : List Order → (c : ℕ) → (line : Option ℕ) → (u : Words) → Verdict
-  judged_from [] c l u = cond (completes new l u) Yes (No c)
+  judged_from [] c l u = cond (completes new l u) (Ok None) (Ok (Some c))
   judged_from (o ∷ os) c l u =
       elim (not (second_line l o) && good_image old new (carry (o ∷ []) u)) [
         | true ↦ judged_from os (suc c) (unflushed_after l o) (carry (o ∷ []) u)
-        | false ↦ No (suc c)
+        | false ↦ Ok (Some (suc c))
       ]
 
 unfoldable pub judged : Call → (t : Words) → List Order → Verdict
@@ -131,13 +132,13 @@ pub record JudgeNumbers (x : Call) (t list : Words) (out : ℕ) : Type 0 where
       ↔ ((seventeen_in x t ≡ false) × (settled t ≡ true) × (all_inside (length t) (decode list) ≡ true) × (out ≡ length t) × (refusal x 2560 0 t ≢ 0))
 
 unfoldable pub judge : Call → (t list : Words) → (out : ℕ) → Verdict
-judge x t list out = unless_refused (judge_number x t list out) (judged x t (decode list)) (Refused (judge_number x t list out))
+judge x t list out = unless_refused (judge_number x t list out) (judged x t (decode list)) (refused_with (judge_number x t list out))
 
 -- the count that the second slice is carried out to: all for yes, the named one for no
 abbrev pub count_of : Verdict → (orders : ℕ) → ℕ
-count_of Yes n = n
-count_of (No c) n = c
-count_of (Refused r) n = 0
+count_of (Ok None) n = n
+count_of (Ok (Some c)) n = c
+count_of (Err r) n = 0
 
 -- the second slice ends as the table with the list carried out, whole for yes, up to the named count for no
 unfoldable pub judge_out : Call → (t list out : Words) → Words
@@ -146,11 +147,11 @@ judge_out x t list out =
 
 -- the number for each case, 0 for yes, 254 for no; and the count that a lent word then holds
 abbrev pub verdict_number : Verdict → ℕ
-verdict_number Yes = 0
-verdict_number (No c) = 254
-verdict_number (Refused n) = n
+verdict_number (Ok None) = 0
+verdict_number (Ok (Some c)) = 254
+verdict_number (Err r) = refusal_number r
 
 abbrev pub fails_or : Verdict → ℕ → ℕ
-fails_or Yes old = old
-fails_or (No c) old = c
-fails_or (Refused n) old = old
+fails_or (Ok None) old = old
+fails_or (Ok (Some c)) old = c
+fails_or (Err r) old = old

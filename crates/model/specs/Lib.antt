@@ -1,4 +1,6 @@
 -- Document 01 as definitions, a file for each of its sections, in its order; then what change requests add to it.
+pub mod Numbers
+pub mod Results
 pub mod Lists
 pub mod Text
 pub mod Codes

@@ -1,7 +1,6 @@
 -- Document 01, "Search": a listing of the map's pairs in a range of keys.
-use Rattle.std.specs.Prelude.{cond, ◌&&◌, List, ◌++◌, ℕ, ◌*◌, ◌/◌, eqb, leb, ltb, length, take, drop}
-use Rattle.model.specs.declared.Listed.{Listed}
-use Rattle.model.specs.declared.Listed.TheVariants.{Pairs, Refused}
+use Rattle.std.specs.Prelude.{cond, ◌&&◌, List, ◌++◌, ℕ, ◌*◌, ◌/◌, eqb, leb, ltb, length, take, drop, Ok, Err}
+use Rattle.model.specs.Results.{Listed, refused_with, page_with}
 use Rattle.model.specs.Table.{Words, header_ok, no_collection}
 use Rattle.model.specs.Slots.{Slot, slot_words}
 use Rattle.model.specs.Reached.{filter, map_of}
@@ -17,7 +16,7 @@ fitting words ps = take (words / 2) ps
 
 -- the number of pairs written and whether more were left, where ps are the pairs in the range
 unfoldable pub listed : List Slot → ℕ → Listed
-listed ps words = Pairs (length (fitting words ps)) (ltb (length (fitting words ps)) (length ps))
+listed ps words = page_with (length (fitting words ps)) (ltb (length (fitting words ps)) (length ps))
 
 -- the slice then: the pairs written; other words stay
 unfoldable pub listed_words : List Slot → Words → Words
@@ -30,21 +29,16 @@ list_number n t = cond (header_ok t) (cond (no_collection n t) 17 (cond (sound t
 -- the listing of collection n, and the slice then; one that is refused leaves the slice
 unfoldable pub list : (n : ℕ) → Words → (low high : ℕ) → Words → Listed
 list n t low high out =
-    cond (eqb (list_number n t) 0) (listed (in_range_of low high (map_of n t)) (length out)) (Refused (list_number n t))
+    cond (eqb (list_number n t) 0) (listed (in_range_of low high (map_of n t)) (length out)) (refused_with (list_number n t))
 
 unfoldable pub list_out : (n : ℕ) → Words → (low high : ℕ) → Words → Words
 list_out n t low high out = cond (eqb (list_number n t) 0) (listed_words (in_range_of low high (map_of n t)) out) out
 
--- Document 01's number for each case: 0 where the call does its work.
-abbrev pub listed_number : Listed → ℕ
-listed_number (Pairs count more) = 0
-listed_number (Refused n) = n
-
 -- the count, and 1 where more were left, 0 where not, that lent words then hold; they stay where there is none
 abbrev pub count_or : Listed → ℕ → ℕ
-count_or (Pairs count more) old = count
-count_or (Refused n) old = old
+count_or (Ok p) old = p.count
+count_or (Err r) old = old
 
 abbrev pub more_or : Listed → ℕ → ℕ
-more_or (Pairs count more) old = cond more 1 0
-more_or (Refused n) old = old
+more_or (Ok p) old = cond p.more 1 0
+more_or (Err r) old = old

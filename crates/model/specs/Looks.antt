@@ -1,15 +1,13 @@
 -- Document 02, request 10: a search whose looks fall between the orders of one call. With one table throughout it is the search of Search.antt:
 -- `looks-still` in crates/reader_laws/proofs/Still.antt.
-use Rattle.std.specs.Prelude.{◌≡◌, ◌⊎◌, Bool, true, false, cond, not, ◌&&◌, ◌||◌, ℕ, zero, suc, ◌≤◌, ◌<◌, leb, ltb, eqb, length, take}
+use Rattle.std.specs.Prelude.{◌≡◌, ◌⊎◌, Bool, true, false, cond, not, ◌&&◌, ◌||◌, ℕ, zero, suc, ◌≤◌, ◌<◌, leb, ltb, eqb, length, take, Some, None}
 use mathlib.Core.List.{List, [], ◌∷◌, ◌++◌, Memᴰ}
 use Rattle.std.proofs.Math.Option.{Option, none, some}
 use Rattle.model.specs.declared.Answer.{Answer}
 use Rattle.model.specs.declared.Answer.TheVariants.{Found, Absent, Refused}
-use Rattle.model.specs.declared.Next.{Next}
-use Rattle.model.specs.declared.Next.TheVariants.{Key, Nothing}
 use Rattle.model.specs.Table.{Words, at, nodes, root_word, in_range, header_ok, no_collection}
 use Rattle.model.specs.Slots.{Slot, NodeView, node_view}
-use Rattle.model.specs.Search.{filter, route, first_with, first_above, absent_or, answer_of, search}
+use Rattle.model.specs.Search.{filter, route, first_with, first_above, absent_or, answer_of, search, Next}
 use Rattle.model.specs.Sound.{Settled}
 use Rattle.model.specs.Orders.{Order, carry}
 use Rattle.model.specs.Writes.{Call}
@@ -51,7 +49,7 @@ module _ (look : (i n : ℕ) → NodeView) (N k : ℕ) where
       let s = x.sibling in
       let y = look (suc i) s in
       elim (seen_pass N 0 n x y) [
-        | true ↦ absent_or (first_above k (seen_kept x y)) (elim (eqb s 0) [ true ↦ Absent Nothing | false ↦ next_looks c (suc i) s ])
+        | true ↦ absent_or (first_above k (seen_kept x y)) (elim (eqb s 0) [ true ↦ Absent None | false ↦ next_looks c (suc i) s ])
         | false ↦ Refused 3
       ]
 
@@ -96,8 +94,8 @@ abbrev pub seen : (i n : ℕ) → Seen
 seen i n = record { look = i; node = n }
 
 abbrev pub none_above : Next → Bool
-none_above (Key j) = false
-none_above Nothing = true
+none_above (Some j) = false
+none_above None = true
 
 abbrev pub no_slot : Option Slot → Bool
 no_slot none = true
@@ -166,7 +164,7 @@ during os t moment i = carry (take (moment i) os) t
 -- The neighbour of request 1 is left out.
 abbrev pub without_next : Answer → Answer
 without_next (Found r c) = Found r c
-without_next (Absent x) = Absent Nothing
+without_next (Absent x) = Absent None
 without_next (Refused n) = Refused n
 
 -- Request 10: on a table that was settled, a search of collection n for k whose looks fall between the orders of one accepted call x answers as

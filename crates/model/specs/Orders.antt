@@ -1,7 +1,6 @@
 -- Document 01, "Orders": stores and flushes, their words in a lent list, the flush rule, and carry-out; request 7: barriers.
-use Rattle.std.specs.Prelude.{Bool, true, false, cond, ◌&&◌, List, [], ◌∷◌, ◌++◌, ℕ, zero, suc, ◌*◌, ◌/◌, eqb, ltb, leb, length, take, drop, set}
-use Rattle.model.specs.declared.Outcome.{Outcome}
-use Rattle.model.specs.declared.Outcome.TheVariants.{Done, Refused}
+use Rattle.std.specs.Prelude.{Bool, true, false, cond, ◌&&◌, List, [], ◌∷◌, ◌++◌, ℕ, zero, suc, ◌*◌, ◌/◌, eqb, ltb, leb, length, take, drop, set, Ok}
+use Rattle.model.specs.Results.{Outcome, refused_with}
 use Rattle.model.specs.Table.{MARK, Words, line, header_ok}
 
 pub record Store : Type 0 where
@@ -121,7 +120,7 @@ carry_number c list t =
     cond (header_ok t) (cond (leb c (length list / 2) && all_inside (length t) (take c (decode list))) 0 13) 2
 
 unfoldable pub carry_out : ℕ → Words → Words → Outcome
-carry_out c list t = cond (eqb (carry_number c list t) 0) Done (Refused (carry_number c list t))
+carry_out c list t = cond (eqb (carry_number c list t) 0) (Ok tt) (refused_with (carry_number c list t))
 
 -- the table that it leaves
 unfoldable pub carried_out : ℕ → Words → Words → Words

@@ -1,7 +1,6 @@
 -- Scale 2, "Packing as a call": a table filled from pairs in rising key order, by the packing of request 5.
-use Rattle.std.specs.Prelude.{Bool, true, not, ◌&&◌, List, [], ◌∷◌, ℕ, eqb, ltb, length}
-use Rattle.model.specs.declared.Outcome.{Outcome}
-use Rattle.model.specs.declared.Outcome.TheVariants.{Done, Refused}
+use Rattle.std.specs.Prelude.{Bool, true, not, ◌&&◌, List, [], ◌∷◌, ℕ, eqb, ltb, length, Ok}
+use Rattle.model.specs.Results.{Outcome, refused_with}
 use Rattle.model.specs.Table.{Words, nodes_for, make_number}
 use Rattle.model.specs.Slots.{Slot, slots_of}
 use Rattle.model.specs.Reached.{Maps, unless_lacking}
@@ -33,7 +32,7 @@ pack_number n pairs loans t =
 
 -- what it answers, and the words that it leaves: the whole table is written, whatever stood there
 unfoldable pub packing : (n : ℕ) → (pairs loans : Words) → Words → Outcome
-packing n pairs loans t = unless_refused (pack_number n pairs loans t) Done (Refused (pack_number n pairs loans t))
+packing n pairs loans t = unless_refused (pack_number n pairs loans t) (Ok tt) (refused_with (pack_number n pairs loans t))
 
 unfoldable pub pack_out : (n : ℕ) → (pairs loans : Words) → Words → Words
 pack_out n pairs loans t = unless_refused (pack_number n pairs loans t) (packed_table (nodes_for (length t)) (maps_in n pairs loans)) t

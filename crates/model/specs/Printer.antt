@@ -1,7 +1,7 @@
 -- Document 01, "Worked on paper": the order printer, from input bytes to output bytes.
-use Rattle.std.specs.Prelude.{Bool, true, false, cond, ◌&&◌, List, [], ◌∷◌, ◌++◌, map, ℕ, zero, suc, ◌+◌, ◌/◌, ◌%◌, eqb, ltb, leb, length, replicate}
-use Rattle.model.specs.declared.Parsed.{Parsed}
-use Rattle.model.specs.declared.Parsed.TheVariants.{Key, Refused}
+use Rattle.std.specs.Prelude.{Bool, true, false, cond, ◌&&◌, List, [], ◌∷◌, ◌++◌, map, ℕ, zero, suc, ◌+◌, ◌/◌, ◌%◌, eqb, ltb, leb, length, replicate, Ok, Err}
+use Rattle.model.specs.Numbers.{refusal_number}
+use Rattle.model.specs.Results.{Parsed}
 use Rattle.model.specs.Text.{ascii}
 use Rattle.model.specs.Lists.{all}
 use Rattle.model.specs.Codes.{is_digit, value, number, parse}
@@ -120,8 +120,8 @@ do_call x d =
 
 -- the call for a code that was read, or its refusal
 abbrev pub with_key : Parsed → (ℕ → Call) → Desk → Reply
-with_key (Key k) call d = do_call (call k) d
-with_key (Refused n) call d = reply (refused_line n) d
+with_key (Ok k) call d = do_call (call k) d
+with_key (Err r) call d = reply (refused_line (refusal_number r)) d
 
 unfoldable pub do_form : Form → Desk → Reply
 do_form (plus code r) d = with_key (parse code) (λ (k : ℕ). insertion 1 k r 0) d

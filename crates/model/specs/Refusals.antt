@@ -1,7 +1,6 @@
 -- Document 01, "What refuses, and with which number": for each writing call, the numbers in their order; and what a call answers.
-use Rattle.std.specs.Prelude.{Bool, false, cond, not, ◌&&◌, ◌||◌, List, [], ◌∷◌, ℕ, zero, suc, ◌+◌, eqb, ltb, length}
-use Rattle.model.specs.declared.Written.{Written}
-use Rattle.model.specs.declared.Written.TheVariants.{Done, Refused}
+use Rattle.std.specs.Prelude.{Bool, false, cond, not, ◌&&◌, ◌||◌, List, [], ◌∷◌, ℕ, zero, suc, ◌+◌, eqb, ltb, length, Ok, Err}
+use Rattle.model.specs.Results.{Written, refused_with, done_with}
 use Rattle.model.specs.Table.{Words, header_ok, no_collection}
 use Rattle.model.specs.Slots.{Slot, recording, recording_ok, class_ok, view_of, height}
 use Rattle.model.specs.Reached.{map_of}
@@ -108,7 +107,7 @@ orders_of x dock t = barred dock (orders (stores_of x t))
 unfoldable pub written : Call → (words dock : ℕ) → Words → Written
 written x words dock t =
     let os = orders_of x dock t in
-    unless_refused (refusal x words dock t) (Done (store_count os) (flush_count os) (barrier_count os)) (Refused (refusal x words dock t))
+    unless_refused (refusal x words dock t) (done_with (store_count os) (flush_count os) (barrier_count os)) (refused_with (refusal x words dock t))
 
 -- the working copy, and the lent order list, after the call
 unfoldable pub table_after : Call → (words dock : ℕ) → Words → Words
@@ -117,24 +116,20 @@ table_after x words dock t = unless_refused (refusal x words dock t) (apply (sto
 unfoldable pub list_after : Call → Words → (dock : ℕ) → Words → Words
 list_after x lent dock t = unless_refused (refusal x (length lent) dock t) (list_with (orders_of x dock t) lent) lent
 
--- Document 01's number for each case, 0 where the call is accepted, and the orders that it answered
-abbrev pub written_number : Written → ℕ
-written_number (Done stores flushes barriers) = 0
-written_number (Refused n) = n
-
+-- the orders that an accepted call answered
 abbrev pub orders_answered : Written → ℕ
-orders_answered (Done stores flushes barriers) = stores + flushes + barriers
-orders_answered (Refused n) = 0
+orders_answered (Ok w) = w.stores + w.flushes + w.barriers
+orders_answered (Err r) = 0
 
 -- the three counts that lent words then hold; they stay where there is none
 abbrev pub stores_or : Written → ℕ → ℕ
-stores_or (Done stores flushes barriers) old = stores
-stores_or (Refused n) old = old
+stores_or (Ok w) old = w.stores
+stores_or (Err r) old = old
 
 abbrev pub flushes_or : Written → ℕ → ℕ
-flushes_or (Done stores flushes barriers) old = flushes
-flushes_or (Refused n) old = old
+flushes_or (Ok w) old = w.flushes
+flushes_or (Err r) old = old
 
 abbrev pub barriers_or : Written → ℕ → ℕ
-barriers_or (Done stores flushes barriers) old = barriers
-barriers_or (Refused n) old = old
+barriers_or (Ok w) old = w.barriers
+barriers_or (Err r) old = old

@@ -1,8 +1,7 @@
 -- Change request 5: salvage of a damaged table into a fresh one. Which nodes are entered, in which order; what is gathered along them; the
 -- call. Request 6: salvage takes both collections.
-use Rattle.std.specs.Prelude.{Bool, true, false, not, ◌&&◌, ◌||◌, List, [], ◌∷◌, ◌++◌, map, ℕ, zero, suc, pred, ◌+◌, ◌*◌, eqb, ltb, length, drop}
-use Rattle.model.specs.declared.Salvaged.{Salvaged}
-use Rattle.model.specs.declared.Salvaged.TheVariants.{Dropped, Refused}
+use Rattle.std.specs.Prelude.{Bool, true, false, not, ◌&&◌, ◌||◌, List, [], ◌∷◌, ◌++◌, map, ℕ, zero, suc, pred, ◌+◌, ◌*◌, eqb, ltb, length, drop, Ok, Err}
+use Rattle.model.specs.Results.{Salvaged, refused_with}
 use Rattle.model.specs.Table.{Words, at, in_range, nodes, root, root_word, header_ok}
 use Rattle.model.specs.Slots.{Slot, pointer_ok, recording, node_view, used}
 use Rattle.model.specs.Reached.{filter, Maps, unless_lacking}
@@ -158,7 +157,7 @@ salvage_number t out report =
 -- The answer counts the dropped slots.
 unfoldable pub salvage : Words → (out report : ℕ) → Salvaged
 salvage t out report =
-    unless_refused (salvage_number t out report) (Dropped (length (dropped_all t))) (Refused (salvage_number t out report))
+    unless_refused (salvage_number t out report) (Ok (length (dropped_all t))) (refused_with (salvage_number t out report))
 
 -- the second slice, and the report, after the call; the report's words past what is written stay
 unfoldable pub salvage_out : Words → (out : Words) → (report : ℕ) → Words
@@ -169,11 +168,7 @@ salvage_report t out report =
     let ds = dropped_all t in
     unless_refused (salvage_number t out (length report)) (drop_words ds ++ drop (3 * length ds) report) report
 
--- the number for each case, 0 where the call does its work; and the count that a lent word then holds
-abbrev pub salvaged_number : Salvaged → ℕ
-salvaged_number (Dropped count) = 0
-salvaged_number (Refused n) = n
-
+-- the count that a lent word then holds; it stays where there is none
 abbrev pub dropped_or : Salvaged → ℕ → ℕ
-dropped_or (Dropped count) old = count
-dropped_or (Refused n) old = old
+dropped_or (Ok count) old = count
+dropped_or (Err r) old = old

@@ -1,17 +1,13 @@
 -- Request 11: every short script, its number, and the tables that are met while it runs.
-use Rattle.std.specs.Prelude.{Bool, true, false, cond, not, ◌&&◌, ◌||◌, List, [], ◌∷◌, ◌++◌, map, ℕ, zero, suc, ◌+◌, ◌-◌, ◌*◌, ◌/◌, ◌%◌, eqb, ltb, leb, length}
+use Rattle.std.specs.Prelude.{Bool, true, false, cond, not, ◌&&◌, ◌||◌, List, [], ◌∷◌, ◌++◌, map, ℕ, zero, suc, ◌+◌, ◌-◌, ◌*◌, ◌/◌, ◌%◌, eqb, ltb}
+use Rattle.std.specs.Prelude.{leb, length, Some, None, Ok, Err}
 use Rattle.std.specs.Prelude.{take, drop, replicate}
+use Rattle.model.specs.Results.{Outcome, Ranked, refused_with}
 use Rattle.model.specs.declared.Answer.{Answer}
 use Rattle.model.specs.declared.Answer.TheVariants.{Found, Absent, Refused}
-use Rattle.model.specs.declared.Next.{Next}
-use Rattle.model.specs.declared.Next.TheVariants.{Key, Nothing}
-use Rattle.model.specs.declared.Outcome.{Outcome}
-use Rattle.model.specs.declared.Outcome.TheVariants as outcome
-use Rattle.model.specs.declared.Ranked.{Ranked}
-use Rattle.model.specs.declared.Ranked.TheVariants as ranked
 use Rattle.model.specs.Table.{Words, at, all_zero, empty}
 use Rattle.model.specs.Slots.{Slot}
-use Rattle.model.specs.Search.{lookup, search}
+use Rattle.model.specs.Search.{lookup, search, Next}
 use Rattle.model.specs.Reached.{filter, map_of}
 use Rattle.model.specs.SoundTest.{all}
 use Rattle.model.specs.Orders.{carry}
@@ -89,7 +85,7 @@ script_words s = length s ∷ (s ++ replicate (4 - length s) 0)
 
 -- 22, number above 1,554; else the script
 unfoldable pub script_answer : (number : ℕ) → Outcome
-script_answer n = cond (ltb n SCRIPTS) outcome.Done (outcome.Refused 22)
+script_answer n = cond (ltb n SCRIPTS) (Ok tt) (refused_with 22)
 
 unfoldable pub script_out : (number : ℕ) → Words → Words
 script_out n lent = cond (ltb n SCRIPTS) (script_words (script_of n)) lent
@@ -104,16 +100,12 @@ form_script ws = leb (at ws 0) 4 && (all (λ (a : ℕ). leb a 5) (actions_in ws)
 
 -- 23, actions that form no such script; else the number
 unfoldable pub script_number : Words → Ranked
-script_number ws = cond (form_script ws) (ranked.Number (rank (actions_in ws))) (ranked.Refused 23)
+script_number ws = cond (form_script ws) (Ok (rank (actions_in ws))) (refused_with 23)
 
--- Document 01's way with each case: the number that is answered, 0 where the call does its work, and what a lent word then holds.
-abbrev pub ranked_number : Ranked → ℕ
-ranked_number (ranked.Number n) = 0
-ranked_number (ranked.Refused m) = m
-
+-- what a lent word then holds; it stays where there is none
 abbrev pub rank_or : Ranked → ℕ → ℕ
-rank_or (ranked.Number n) old = n
-rank_or (ranked.Refused m) old = old
+rank_or (Ok n) old = n
+rank_or (Err r) old = old
 
 -- ---- what an action meets
 
@@ -122,10 +114,10 @@ unfoldable pub cut_tables : Call → Words → List Words
 cut_tables x t = let os = orders_of x 0 t in map (λ (c : ℕ). carry (take c os) t) (numbers 0 (suc (length os)))
 
 abbrev pub same_next : Next → Next → Bool
-same_next (Key j) (Key k) = eqb j k
-same_next (Key j) Nothing = false
-same_next Nothing (Key k) = false
-same_next Nothing Nothing = true
+same_next (Some j) (Some k) = eqb j k
+same_next (Some j) None = false
+same_next None (Some k) = false
+same_next None None = true
 
 abbrev pub same_answer : Answer → Answer → Bool
 same_answer (Found r c) (Found s d) = eqb r s && eqb c d

@@ -1,10 +1,9 @@
 -- Document 01, "Search": finding the leaf, finding the slot in it, and the answer; request 1: the next code up.
-use Rattle.std.specs.Prelude.{Bool, true, false, ◌&&◌, ◌||◌, List, [], ◌∷◌, ℕ, zero, suc, leb, ltb, eqb}
+use Rattle.std.specs.Prelude.{Bool, true, false, ◌&&◌, ◌||◌, List, [], ◌∷◌, ℕ, zero, suc, leb, ltb, eqb, Some, None}
+use Rattle.std.specs.Prelude as rust
 use Rattle.std.proofs.Math.Option.{Option, none, some}
 use Rattle.model.specs.declared.Answer.{Answer}
 use Rattle.model.specs.declared.Answer.TheVariants.{Found, Absent, Refused}
-use Rattle.model.specs.declared.Next.{Next}
-use Rattle.model.specs.declared.Next.TheVariants.{Key, Nothing}
 use Rattle.model.specs.Table.{Words, in_range, header_ok, no_collection}
 use Rattle.model.specs.Slots.{Slot, recording, class, View, view_of, height}
 
@@ -69,15 +68,19 @@ filter p (x ∷ xs) = elim (p x) [ true ↦ x ∷ filter p xs | false ↦ filter
 unfoldable pub kept : View → ℕ → List Slot
 kept v n = filter (λ (s : Slot). within v n s.key) (v.node n).shown
 
+-- the next code up, if there is one
+abbrev pub Next : Type 0
+Next = rust.Option ℕ
+
 -- the first slot with a larger key
 unfoldable pub first_above : ℕ → List Slot → Next
-first_above k [] = Nothing
-first_above k (s ∷ ss) = elim (ltb k s.key) [ true ↦ Key s.key | false ↦ first_above k ss ]
+first_above k [] = None
+first_above k (s ∷ ss) = elim (ltb k s.key) [ true ↦ Some s.key | false ↦ first_above k ss ]
 
 -- the larger key of a leaf, or what the leaves after it answer
 abbrev pub absent_or : Next → Answer → Answer
-absent_or (Key j) later = Absent (Key j)
-absent_or Nothing later = later
+absent_or (Some j) later = Absent (Some j)
+absent_or None later = later
 
 module _ (v : View) where
   -- It is looked for from leaf n and on along the siblings: the first shown slot, below its own leaf's sibling's fence, with a larger key.
@@ -87,7 +90,7 @@ module _ (v : View) where
   next_from (suc c) n k =
       let s = (v.node n).sibling in
       elim (passes v 0 n) [
-        | true ↦ absent_or (first_above k (kept v n)) (elim (eqb s 0) [ true ↦ Absent Nothing | false ↦ next_from c s k ])
+        | true ↦ absent_or (first_above k (kept v n)) (elim (eqb s 0) [ true ↦ Absent None | false ↦ next_from c s k ])
         | false ↦ Refused 3
       ]
 
@@ -129,12 +132,12 @@ access_or (Refused n) old = old
 -- the next key up, and 1 where there is one, 0 where there is none, that lent words then hold; they stay where the key is not absent
 abbrev pub next_or : Answer → ℕ → ℕ
 next_or (Found r c) old = old
-next_or (Absent (Key j)) old = j
-next_or (Absent Nothing) old = old
+next_or (Absent (Some j)) old = j
+next_or (Absent None) old = old
 next_or (Refused n) old = old
 
 abbrev pub higher_or : Answer → ℕ → ℕ
 higher_or (Found r c) old = old
-higher_or (Absent (Key j)) old = 1
-higher_or (Absent Nothing) old = 0
+higher_or (Absent (Some j)) old = 1
+higher_or (Absent None) old = 0
 higher_or (Refused n) old = old

@@ -1,13 +1,10 @@
 -- Request 8: sentinels for the leaves. A second lent slice holds 3 words a node, which spare a search whole lines of a leaf.
-use Rattle.std.specs.Prelude.{◌≡◌, Bool, true, false, cond, not, ℕ, ◌+◌, ◌-◌, ◌*◌, ◌/◌, eqb, leb, length, take, drop, replicate}
+use Rattle.std.specs.Prelude.{◌≡◌, Bool, true, false, cond, not, ℕ, ◌+◌, ◌-◌, ◌*◌, ◌/◌, eqb, leb, length, take, drop, replicate, Ok}
 use mathlib.Core.List.{List, [], ◌∷◌, map, Memᴰ}
 use Rattle.std.proofs.Math.Option.{Option, none, some}
+use Rattle.model.specs.Results.{Outcome, Written, refused_with}
 use Rattle.model.specs.declared.Answer.{Answer}
 use Rattle.model.specs.declared.Answer.TheVariants.{Found, Refused}
-use Rattle.model.specs.declared.Outcome.{Outcome}
-use Rattle.model.specs.declared.Outcome.TheVariants.{Done, Refused as NotDone}
-use Rattle.model.specs.declared.Written.{Written}
-use Rattle.model.specs.declared.Written.TheVariants.{Refused as NotWritten}
 use Rattle.model.specs.Table.{MARK, Words, at, nodes, node, header_ok, no_collection}
 use Rattle.model.specs.Slots.{Slot, recording, class, shown, used, View, node_view, view_of, height}
 use Rattle.model.specs.Search.{locate, first_with, answer_of, search_view, search}
@@ -57,7 +54,7 @@ unfoldable pub work_number : (m : ℕ) → Words → ℕ
 work_number m t = let n = slice_number false m t in unless_refused n (cond (sound t) 0 4) n
 
 unfoldable pub work_out : (m : ℕ) → Words → Outcome
-work_out m t = unless_refused (work_number m t) Done (NotDone (work_number m t))
+work_out m t = unless_refused (work_number m t) (Ok tt) (refused_with (work_number m t))
 
 -- the slice that it leaves
 unfoldable pub worked_out : (ws : Words) → Words → Words
@@ -112,7 +109,7 @@ unfoldable pub refusal_with : Call → (m words dock : ℕ) → Words → ℕ
 refusal_with x m words dock t = let r = slice_number (seventeen_in x t) m t in unless_refused r (refusal x words dock t) r
 
 unfoldable pub written_with : Call → (m words dock : ℕ) → Words → Written
-written_with x m words dock t = let r = slice_number (seventeen_in x t) m t in unless_refused r (written x words dock t) (NotWritten r)
+written_with x m words dock t = let r = slice_number (seventeen_in x t) m t in unless_refused r (written x words dock t) (refused_with r)
 
 unfoldable pub table_with : Call → (m words dock : ℕ) → Words → Words
 table_with x m words dock t = unless_refused (slice_number (seventeen_in x t) m t) (table_after x words dock t) t

@@ -1,8 +1,7 @@
 -- The check of a whole table as a call: whether it is sound, what is left over, and how much of it each collection uses.
-use Rattle.std.specs.Prelude.{◌≡◌, ◌≢◌, ◌↔◌, true, false, cond, [], ◌∷◌, ◌++◌, ℕ, suc, ◌+◌, ◌-◌, eqb, length, replicate}
+use Rattle.std.specs.Prelude.{◌≡◌, ◌≢◌, ◌↔◌, true, false, cond, [], ◌∷◌, ◌++◌, ℕ, suc, ◌+◌, ◌-◌, eqb, length, replicate, Ok}
 use Rattle.std.proofs.Math.Option.{Option, none, some}
-use Rattle.model.specs.declared.Outcome.{Outcome}
-use Rattle.model.specs.declared.Outcome.TheVariants.{Done, Refused}
+use Rattle.model.specs.Results.{Outcome, refused_with}
 use Rattle.model.specs.Table.{Words, at, nodes, header_ok}
 use Rattle.model.specs.Slots.{View, node_view, view_of, view, height, used}
 use Rattle.model.specs.Reached.{kept, reached, mapping, map_of}
@@ -15,7 +14,7 @@ unfoldable pub check_number : Words → ℕ
 check_number t = cond (header_ok t) (cond (sound t) 0 4) 2
 
 unfoldable pub checking : Words → Outcome
-checking t = cond (eqb (check_number t) 0) Done (Refused (check_number t))
+checking t = cond (eqb (check_number t) 0) (Ok tt) (refused_with (check_number t))
 
 -- ---- the report, 16 words
 

@@ -1,15 +1,11 @@
 -- Scale 3: quick calls. A summary is a second lent slice, in ordinary memory: which nodes are reached, and which recordings are in use. Opening
 -- works it out from a settled table, every accepted quick call keeps it, and no order list has it. While it is true of the table, a quick call
 -- answers, stores and refuses as the plain one, and looks only at the nodes on its way. On other words it is what is defined here.
-use Rattle.std.specs.Prelude.{Bool, true, false, cond, not, ◌&&◌, ◌||◌, List, [], ◌∷◌, ◌++◌, map, ℕ, zero, suc, pred, ◌+◌, ◌-◌, ◌*◌, ◌/◌, eqb, leb, ltb, length}
+use Rattle.std.specs.Prelude.{Bool, true, false, cond, not, ◌&&◌, ◌||◌, List, [], ◌∷◌, ◌++◌, map, ℕ, zero, suc, pred, ◌+◌, ◌-◌, ◌*◌, ◌/◌, eqb, leb}
+use Rattle.std.specs.Prelude.{ltb, length, Ok}
 use Rattle.std.specs.Prelude.{take, drop, replicate}
 use Rattle.std.proofs.Math.Option.{Option, none, some}
-use Rattle.model.specs.declared.Listed.{Listed}
-use Rattle.model.specs.declared.Listed.TheVariants.{Refused as NotListed}
-use Rattle.model.specs.declared.Outcome.{Outcome}
-use Rattle.model.specs.declared.Outcome.TheVariants.{Done, Refused as NotDone}
-use Rattle.model.specs.declared.Written.{Written}
-use Rattle.model.specs.declared.Written.TheVariants.{Done as Accepted, Refused}
+use Rattle.model.specs.Results.{Listed, Outcome, Written, refused_with, done_with}
 use Rattle.model.specs.Table.{Words, at, nodes, root_word, in_range, header_ok, no_collection}
 use Rattle.model.specs.Slots.{Slot, recording, pointer_of, recording_ok, class_ok, View, node_view, view_of, height, full}
 use Rattle.model.specs.Search.{filter, locate, path, first_with}
@@ -68,7 +64,7 @@ open_number m t =
     first_number (test (not (header_ok t)) 2 ∷ test (not (eqb m (summary_words (nodes t)))) 26 ∷ test (not (sound t)) 4 ∷ test (not (settled t)) 20 ∷ [])
 
 unfoldable pub opening : (m : ℕ) → Words → Outcome
-opening m t = unless_refused (open_number m t) Done (NotDone (open_number m t))
+opening m t = unless_refused (open_number m t) (Ok tt) (refused_with (open_number m t))
 
 -- the slice that it leaves
 unfoldable pub opened_words : (ws : Words) → Words → Words
@@ -233,7 +229,7 @@ unfoldable pub quick_written : Call → (words dock : ℕ) → (ws t : Words) �
 quick_written x words dock ws t =
     let os = quick_orders x dock ws t in
     let n = quick_number x words dock ws t in
-    unless_refused n (Accepted (store_count os) (flush_count os) (barrier_count os)) (Refused n)
+    unless_refused n (done_with (store_count os) (flush_count os) (barrier_count os)) (refused_with n)
 
 -- the working copy, the lent order list and the summary after the call
 unfoldable pub quick_table : Call → (words dock : ℕ) → (ws t : Words) → Words
@@ -264,7 +260,7 @@ quick_list_number n ws t low =
 
 unfoldable pub quick_listed : (n : ℕ) → (ws t : Words) → (low high : ℕ) → (out : Words) → Listed
 quick_listed n ws t low high out =
-    let r = quick_list_number n ws t low in unless_refused r (listed (page_of n t low high) (length out)) (NotListed r)
+    let r = quick_list_number n ws t low in unless_refused r (listed (page_of n t low high) (length out)) (refused_with r)
 
 unfoldable pub quick_list_out : (n : ℕ) → (ws t : Words) → (low high : ℕ) → (out : Words) → Words
 quick_list_out n ws t low high out = unless_refused (quick_list_number n ws t low) (listed_words (page_of n t low high) out) out

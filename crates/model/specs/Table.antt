@@ -1,9 +1,9 @@
 -- Document 01, "Table and node": the words of a table, its header, its nodes, and the empty table; request 6: one collection or two.
-use Rattle.std.specs.Prelude.{Bool, true, cond, not, ◌&&◌, ◌||◌, List, [], ◌∷◌, ◌++◌, ℕ, ◌+◌, ◌-◌, ◌*◌, ◌/◌, leb, eqb, length, get_or, take, drop, replicate}
+use Rattle.std.specs.Prelude.{Bool, true, cond, not, ◌&&◌, ◌||◌, List, [], ◌∷◌, ◌++◌, ℕ, ◌+◌, ◌-◌, ◌*◌, ◌/◌, leb, eqb, length, get_or, take, drop}
+use Rattle.std.specs.Prelude.{replicate, Ok}
 use Rattle.std.specs.Prelude.{set}
+use Rattle.model.specs.Results.{Outcome, refused_with}
 use Rattle.model.specs.declared.Node.{Node}
-use Rattle.model.specs.declared.Outcome.{Outcome}
-use Rattle.model.specs.declared.Outcome.TheVariants.{Done, Refused}
 
 -- the largest word
 abbrev pub MARK : ℕ
@@ -122,12 +122,7 @@ make_number n t =
 
 -- what it answers, and the words that it leaves
 unfoldable pub making : (n : ℕ) → Words → Outcome
-making n t = cond (eqb (make_number n t) 0) Done (Refused (make_number n t))
+making n t = cond (eqb (make_number n t) 0) (Ok tt) (refused_with (make_number n t))
 
 unfoldable pub made : (n : ℕ) → Words → Words
 made n t = cond (eqb (make_number n t) 0) (empty_of n (nodes_for (length t))) t
-
--- Document 01's number for each case: 0 where the call does its work.
-abbrev pub outcome_number : Outcome → ℕ
-outcome_number Done = 0
-outcome_number (Refused n) = n

@@ -1,7 +1,7 @@
 -- Request 12, "Wear figures": over an order list of any length, the stores to each line of a table, and the words that have a store.
-use Rattle.std.specs.Prelude.{◌≡◌, Bool, false, cond, ◌&&◌, ◌||◌, List, [], ◌∷◌, ◌++◌, map, ℕ, suc, ◌+◌, ◌*◌, ◌/◌, ◌≤◌, ◌<◌, max, eqb, leb, ltb, length, drop}
-use Rattle.model.specs.declared.Worn.{Worn}
-use Rattle.model.specs.declared.Worn.TheVariants.{Figures, Refused}
+use Rattle.std.specs.Prelude.{◌≡◌, Bool, false, cond, ◌&&◌, ◌||◌, List, [], ◌∷◌, ◌++◌, map, ℕ, suc, ◌+◌, ◌*◌, ◌/◌, ◌≤◌, ◌<◌, max, eqb, leb, ltb}
+use Rattle.std.specs.Prelude.{length, drop, Ok, Err}
+use Rattle.model.specs.Results.{Worn, refused_with, worn_with}
 use Rattle.model.specs.Table.{Words, line, at}
 use Rattle.model.specs.Search.{filter}
 use Rattle.model.specs.SoundTest.{elem}
@@ -75,11 +75,11 @@ wear_number list lines pairs t =
 -- the total, the largest, the first line that has it, and the number of pairs
 unfoldable pub figures : (words : ℕ) → List Order → Worn
 figures words os =
-    let ns = wear_of words os in Figures (store_count os) (largest ns) (first_at (largest ns) ns) (length (extents_of words os))
+    let ns = wear_of words os in worn_with (store_count os) (largest ns) (first_at (largest ns) ns) (length (extents_of words os))
 
 unfoldable pub worn : (list : Words) (lines pairs : ℕ) → Words → Worn
 worn list lines pairs t =
-    unless_refused (wear_number list lines pairs t) (figures (length t) (decode list)) (Refused (wear_number list lines pairs t))
+    unless_refused (wear_number list lines pairs t) (figures (length t) (decode list)) (refused_with (wear_number list lines pairs t))
 
 -- the two lent slices after the call; words past what is written stay
 unfoldable pub lines_after : (list lines pairs : Words) → Words → Words
@@ -91,26 +91,22 @@ pairs_after list lines pairs t =
     let es = extents_of (length t) (decode list) in
     unless_refused (wear_number list (length lines) (length pairs) t) (extent_words es ++ drop (2 * length es) pairs) pairs
 
--- The number for each case, 0 where the call does its work, and the figures that lent words then hold; they stay where there are none.
-abbrev pub worn_number : Worn → ℕ
-worn_number (Figures total most first pairs) = 0
-worn_number (Refused n) = n
-
+-- the figures that lent words then hold; they stay where there are none
 abbrev pub total_or : Worn → ℕ → ℕ
-total_or (Figures total most first pairs) old = total
-total_or (Refused n) old = old
+total_or (Ok w) old = w.total
+total_or (Err r) old = old
 
 abbrev pub largest_or : Worn → ℕ → ℕ
-largest_or (Figures total most first pairs) old = most
-largest_or (Refused n) old = old
+largest_or (Ok w) old = w.largest
+largest_or (Err r) old = old
 
 abbrev pub first_line_or : Worn → ℕ → ℕ
-first_line_or (Figures total most first pairs) old = first
-first_line_or (Refused n) old = old
+first_line_or (Ok w) old = w.first_line
+first_line_or (Err r) old = old
 
 abbrev pub pairs_or : Worn → ℕ → ℕ
-pairs_or (Figures total most first pairs) old = pairs
-pairs_or (Refused n) old = old
+pairs_or (Ok w) old = w.pairs
+pairs_or (Err r) old = old
 
 -- ---- what holds of the figures
 

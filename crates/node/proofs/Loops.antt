@@ -1,10 +1,9 @@
--- A loop that copies a part of a list, and a loop that fills a list with zeros: one turn more, and the end.
+-- A loop that copies a part of a list: one slot more, and the end.
 use mathlib.Core.Path.{◌≡◌, sym, ◌∙◌}
-use mathlib.Core.List.{[], ◌++◌, append-nil}
 use Prim.Native.Nat.{ℕ, ◌+◌, ◌*◌, ◌≤◌, ◌<◌}
 use native.Mathlib.Numerals.{add-one}
 use native.Mathlib.Omega.{arith}
-use lib.ListN.{length, take, drop, set, replicate, length-drop, length-set, drop_of_length-le}
+use lib.ListN.{length, take, drop, set, length-drop, length-set}
 use lib.Seq.{take-suc-set, take-suc, take_all, get_or-drop}
 use Rattle.model.specs.Table.{Words, at}
 
@@ -22,9 +21,3 @@ copy-slot s t a i h l e =
 
 pub copied : (s t : Words) (a n j : ℕ) → j ≤ n → n ≤ j → length s ≡ n → take j s ≡ take j (drop a t) → s ≡ take n (drop a t)
 copied s t a n j l u h e = let q : j ≡ n = omega arith in sym (take_all n s (omega arith)) ∙ (rw q at e)
-
-pub filled : (t d : Words) (w : ℕ) → w ≤ length d → length d ≤ w → t ≡ replicate w 0 ++ drop w d → t ≡ replicate (length d) 0
-filled t d w l u e =
-    let q : w ≡ length d = omega arith in
-    let z : drop w d ≡ [] = drop_of_length-le d u in
-    e ∙ rw (z, append-nil, q)

@@ -6,8 +6,9 @@ use Prim.Native.Nat.{ℕ, ◌+◌, ◌-◌, ◌*◌}
 use native.Mathlib.Omega.{arith}
 use lib.ListN.{length, set, replicate, replicate-append-replicate}
 use borrow.Author.Tests.{ne_eqb}
+use Rattle.std.specs.Prelude.{Ok}
+use Rattle.model.specs.Results.{refused_with}
 use Rattle.model.specs.Table.{MARK, Words, length_ok, node_start, empty, empty_of, make_number, making, made}
-use Rattle.model.specs.declared.Outcome.TheVariants.{Done, Refused}
 use Rattle.table_laws.proofs.Header.{LengthFacts, length-iff}
 
 -- ---- the number
@@ -45,19 +46,19 @@ stored-empty len n f =
     rw (e, ← replicate-append-replicate {A = ℕ} 9 (32 * n - 1) 0)
 
 module _ (n : ℕ) (t : Words) where
-  pub making-refused : (x : ℕ) → x ≡ make_number n t → x ≢ 0 → (Refused x ≡ making n t) × (t ≡ made n t)
+  pub making-refused : make_number n t ≢ 0 → (refused_with (make_number n t) ≡ making n t) × (t ≡ made n t)
   unfolding making made
-  making-refused x e z = rw (← e, ne_eqb x 0 z) (refl, refl)
+  making-refused z = rw (ne_eqb (make_number n t) 0 z) (refl, refl)
 
   module _ (d : Words) (z : make_number n t ≡ 0) (N : ℕ) (f : LengthFacts (length t) N) (e : d ≡ replicate (length t) 0) where
-    making-done : (u : Words) → u ≡ empty_of n N → (Done ≡ making n t) × (u ≡ made n t)
+    making-done : (u : Words) → u ≡ empty_of n N → (Ok tt ≡ making n t) × (u ≡ made n t)
     unfolding making made
     making-done u q = rw (z, ← ((length-iff (length t) N).1 f).1) (refl, q)
 
-    pub making-one : n ≡ 1 → (Done ≡ making n t) × (stored d N ≡ made n t)
+    pub making-one : n ≡ 1 → (Ok tt ≡ making n t) × (stored d N ≡ made n t)
     unfolding empty_of
     making-one o = making-done (stored d N) (rw (o, e) (stored-empty (length t) N f))
 
-    pub making-two : n ≡ 2 → (Done ≡ making n t) × (set (set (stored d N) 3 2) 40 MARK ≡ made n t)
+    pub making-two : n ≡ 2 → (Ok tt ≡ making n t) × (set (set (stored d N) 3 2) 40 MARK ≡ made n t)
     unfolding empty_of node_start
     making-two o = making-done (set (set (stored d N) 3 2) 40 MARK) (rw (o, e, stored-empty (length t) N f))

@@ -2,33 +2,24 @@
 use mathlib.Core.Bool.{Bool, true, false, cond, ◌&&◌, ◌||◌, false≢true}
 use mathlib.Core.Path.{◌≡◌, refl, sym, ◌∙◌}
 use mathlib.Core.Logic.{◌≢◌, ◌⊎◌, inl, inr}
-use Prim.Native.Nat.{ℕ, ◌≤◌, ◌<◌}
+use Prim.Native.Nat.{ℕ, ◌≤◌}
 use native.Mathlib.Omega.{arith}
 use lib.Dec.{eqb, leb}
-use borrow.Author.Tests.{ne_eqb, le-leb, lt-leb}
+use borrow.Author.Tests.{ne_eqb, le-leb}
+use Rattle.std.specs.Prelude.{Ok}
+use Rattle.model.specs.Results.{refused_with}
 use Rattle.model.specs.Table.{Words, at, header_ok, header_number, root_word, no_collection}
+use Rattle.model.proofs.Numbers.{done-ok}
 use Rattle.list_laws.proofs.Tools.{decode, refuted, same-or-not}
-use Rattle.table_laws.proofs.Header.{HeaderFacts, header-iff}
+use Rattle.table_laws.proofs.Header.{HeaderFacts, header-iff, header-number-iff, header-number-refused}
 use Rattle.table_laws.proofs.Collections.{by-number}
-use Rattle.node.specs.Word.{root_in, number_in}
-
-pub first-root : (n : ℕ) (t : Words) → n ≡ 1 → at t 1 ≡ at t (root_word n)
-first-root n t e = rw e
+use Rattle.node.specs.Word.{root_in, number_in, found_root}
 
 -- the one that is not 1 is 2
 pub second-root : (n : ℕ) (t : Words) → no_collection n t ≡ false → n ≢ 1 → at t 3 ≡ at t (root_word n)
 second-root n t h z = by-number t (λ (m : ℕ). m ≢ 1 → at t 3 ≡ at t (root_word m)) (λ y. absurd (y refl)) (λ s y. refl) n h z
 
 -- ---- what the test of word 3 says
-
-pub fits-none : (n s : ℕ) → s ≡ 0 → true ≡ (eqb s 0 || (leb s n && leb 2 n))
-fits-none n s z = rw z
-
-pub fits-low : (n s : ℕ) → s ≢ 0 → s ≤ n → leb 2 n ≡ (eqb s 0 || (leb s n && leb 2 n))
-fits-low n s z l = rw (ne_eqb s 0 z, le-leb s n l)
-
-pub fits-high : (n s : ℕ) → s ≢ 0 → n < s → false ≡ (eqb s 0 || (leb s n && leb 2 n))
-fits-high n s z l = rw (ne_eqb s 0 z, lt-leb s n l)
 
 pub fits-two : (n s : ℕ) → true ≡ (eqb s 0 || (leb s n && leb 2 n)) → s ≢ 0 → (s ≤ n) × (2 ≤ n)
 fits-two n s e z = simp decode at (rw (ne_eqb s 0 z) at (sym e))
@@ -92,22 +83,32 @@ pub header-accepted : (t : Words) (r : ℕ) → r ≡ root_in 1 t → r ≢ 0 �
 unfolding header_number
 header-accepted t r e z = rw (root-there 1 t r e z).0
 
--- the number by the root: 0 where there is one
-pub number-there : (n : ℕ) (t : Words) (r : ℕ) → r ≡ root_in n t → r ≢ 0 → 0 ≡ number_in n t
-unfolding number_in
-number-there n t r e z = let u = root-there n t r e z in rw (u.0, u.1)
+-- the answer by the root: it, if there is one, else the refusal
+pub root-found : (n : ℕ) (t : Words) (r : ℕ) → r ≡ root_in n t → r ≢ 0 → Ok r ≡ found_root n t
+unfolding found_root number_in
+root-found n t r e z = let u = root-there n t r e z in rw (u.0, u.1, e)
 
-pub number-header : (n : ℕ) (t : Words) → header_ok t ≡ false → 2 ≡ number_in n t
-unfolding number_in
-number-header n t h = rw h
+pub root-no-table : (n : ℕ) (t : Words) → header_number t ≢ 0 → refused_with (header_number t) ≡ found_root n t
+unfolding found_root number_in header_number
+root-no-table n t z = rw (header-number-refused t z)
 
-pub number-none : (n : ℕ) (t : Words) (r : ℕ) → r ≡ root_in n t → r ≡ 0 → header_ok t ≡ true → 17 ≡ number_in n t
-unfolding number_in
-number-none n t r e z h = rw (h, there (no_collection n t) refl)
+pub root-no-collection : (n : ℕ) (t : Words) (r : ℕ) → r ≡ root_in n t → r ≡ 0 → header_number t ≡ 0 → refused_with 17 ≡ found_root n t
+unfolding found_root number_in
+root-no-collection n t r e z q = let h = (header-number-iff t).0 q in rw (h, there h (no_collection n t) refl)
   where
-    there : (b : Bool) → no_collection n t ≡ b → no_collection n t ≡ true
-    there true c = c
-    there false c = absurd (root-some n t h c (sym e ∙ z))
+    there : header_ok t ≡ true → (b : Bool) → no_collection n t ≡ b → no_collection n t ≡ true
+    there h true c = c
+    there h false c = absurd (root-some n t h c (sym e ∙ z))
+
+-- what a caller learns
+pub found-ok : (n : ℕ) (t : Words) {r : ℕ} → found_root n t ≡ Ok r → (r ≡ root_in n t) × (r ≢ 0)
+unfolding found_root number_in
+found-ok n t {r} e = go (header_ok t) (no_collection n t) refl refl (done-ok _ (root_in n t) e)
+  where
+    go : (a b : Bool) → header_ok t ≡ a → no_collection n t ≡ b → (cond {A = ℕ} a (cond b 17 0) 2 ≡ 0) × (root_in n t ≡ r) → (r ≡ root_in n t) × (r ≢ 0)
+    go true false h c q = (sym q.1, λ z. root-some n t h c (q.1 ∙ z))
+    go true true h c q = absurd (omega (arith, q.0))
+    go false b h c q = absurd (omega (arith, q.0))
 
 -- what a caller of the number learns: 0 only for a collection that is there
 pub number-zero : (n : ℕ) (t : Words) (x : ℕ) → x ≡ number_in n t → x ≡ 0 → (header_ok t ≡ true) × (no_collection n t ≡ false)

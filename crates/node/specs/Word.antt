@@ -1,5 +1,8 @@
 -- The number of nodes by a slice's length, a collection's root, where a node begins, and one word of a node.
-use Rattle.std.specs.Prelude.{cond, ◌&&◌, ℕ, ◌+◌, ltb}
+use Rattle.std.specs.Prelude.{cond, ◌&&◌, ℕ, ◌+◌, ltb, Result, Ok}
+use Rattle.model.specs.declared.Refusal.{Refusal}
+use Rattle.model.specs.Results.{refused_with}
+use Rattle.model.specs.Refusals.{unless_refused}
 use Rattle.model.specs.Table.{Words, at, length_ok, nodes_for, header_ok, root_word, no_collection, node_start, has_node}
 
 -- the N of a slice of this length; 0 for a wrong length
@@ -13,6 +16,10 @@ root_in n t = cond (header_ok t) (cond (no_collection n t) 0 (at t (root_word n)
 -- 2 if the header is refused, 17 if there is no such collection, else 0
 unfoldable pub number_in : (n : ℕ) → Words → ℕ
 number_in n t = cond (header_ok t) (cond (no_collection n t) 17 0) 2
+
+-- its root, or that refusal
+unfoldable pub found_root : (n : ℕ) → Words → Result ℕ Refusal
+found_root n t = unless_refused (number_in n t) (Ok (root_in n t)) (refused_with (number_in n t))
 
 -- the index of node i's first word; 0 for a number that no node has
 unfoldable pub start_of : Words → ℕ → ℕ

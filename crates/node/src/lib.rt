@@ -2,10 +2,11 @@
 #![tactic(auto)]
 
 ghost use Rattle.std.specs.Prelude.{◌≡◌, true, false, ◌&&◌, ◌||◌, ◌+◌, ◌≤◌, eqb, leb, length, take, drop, replicate};
+ghost use Rattle.model.specs.Results.{passed};
 ghost use Rattle.model.specs.Table.{at, header_ok, header_number, root_word, no_collection, has_node, node, make_number, making, made};
-ghost use Rattle.node.specs.Word.{nodes_in, root_in, number_in, start_of, word_of};
+ghost use Rattle.node.specs.Word.{nodes_in, root_in, found_root, start_of, word_of};
 
-use model::{MARK, Node, Outcome};
+use model::{MARK, Node, Outcome, Refusal};
 
 // The N of a slice of this length; 0 for a wrong length.
 pub fn nodes_in(len: usize) -> u64
@@ -28,13 +29,7 @@ pub fn nodes_in(len: usize) -> u64
 fn second_fits(n: u64, second: u64) -> bool
     ensures { result ≡ (eqb second 0 || (leb second n && leb 2 n)) }
 {
-    if second == 0 {
-        return true;
-    }
-    if second <= n {
-        return 2 <= n;
-    }
-    false
+    second == 0 || second <= n && 2 <= n
 }
 
 // The collection's root, in one look at the header; 0 if it or the collection is refused.
@@ -51,12 +46,10 @@ pub fn root(table: &[u64], collection: u64) -> u64
     if table[2] != n {
         return 0;
     }
-    let mut w = 4;
-    while w < 8 {
+    for w in 4..8 {
         if table[w] != 0 {
             return 0;
         }
-        w += 1;
     }
     let first = table[1];
     if first == 0 {
@@ -69,36 +62,33 @@ pub fn root(table: &[u64], collection: u64) -> u64
     if !second_fits(n, second) {
         return 0;
     }
-    if collection == 1 {
-        return first;
+    match collection {
+        1 => first,
+        2 => second,
+        _ => 0,
     }
-    if collection == 2 {
-        return second;
-    }
-    0
 }
 
-// 0, or 2 for a wrong length or header, or a root outside 1 to N.
-pub fn header(table: &[u64]) -> u8
-    ensures { result ≡ header_number table.now }
+// The header test: 2 for a wrong length or header, or a root outside 1 to N.
+pub fn header(table: &[u64]) -> Outcome
+    ensures { result ≡ passed (header_number table.now) }
 {
     if root(table, 1) == 0 {
-        return 2;
+        return Err(Refusal::NoTable);
     }
-    0
+    Ok(())
 }
 
-// 0, or 2 as the header test, then 17 for a collection that the table does not have. Only a refusal looks at the header twice.
-pub fn refusal(table: &[u64], collection: u64) -> u8
-    ensures { result ≡ number_in collection table.now }
+// The collection's root; or 2 as the header test, then 17 for a collection that the table does not have. Only a refusal looks at the header twice.
+pub fn find_root(table: &[u64], collection: u64) -> Result<u64, Refusal>
+    ensures { result ≡ found_root collection table.now }
 {
-    if root(table, collection) != 0 {
-        return 0;
+    let root = root(table, collection);
+    if root != 0 {
+        return Ok(root);
     }
-    if header(table) != 0 {
-        return 2;
-    }
-    17
+    header(table)?;
+    Err(Refusal::NoCollection)
 }
 
 // The root of a collection that the table has, if its header is right.
@@ -117,6 +107,7 @@ pub fn root_of(table: &[u64], collection: u64) -> u64
 pub fn has(table: &[u64], i: u64) -> bool
     ensures { result ≡ has_node table.now i }
 {
+    // One by one: joined by && the last test's subtraction needs the joined truth taken apart.
     if i == 0 {
         return false;
     }
@@ -143,13 +134,11 @@ fn slots_from(table: &[u64], first: usize) -> [u64; 24]
     ensures { result ≡ take 24 (drop first table.now) }
 {
     let mut slots = [0u64; 24];
-    let mut i = 0;
-    while i < 12 {
+    for i in 0..12 {
         let key = 2 * i;
         let pointer = key + 1;
         slots[key] = table[first + key];
         slots[pointer] = table[first + pointer];
-        i += 1;
     }
     slots
 }
@@ -174,7 +163,7 @@ pub fn read(table: &[u64], i: u64) -> Node
         sibling: table[w + 1],
         level: table[w + 2],
         fence: table[w + 3],
-        slots: slots,
+        slots,
     }
 }
 
@@ -195,31 +184,27 @@ pub fn word(table: &[u64], i: u64, j: usize) -> u64
 pub fn zero(table: &mut [u64])
     ensures { table.new ≡ replicate (length table.old) 0 }
 {
-    let mut w = 0;
-    while w < table.len() {
-        table[w] = 0;
-        w += 1;
-    }
+    table.fill(0);
 }
 
-// 0, or why no table of these collections is made in a slice of this length.
-pub fn make_number(table: &[u64], collections: u64) -> u8
-    ensures { result ≡ make_number collections table.now }
+// Whether a table of these collections can be made in a slice of this length, or why not.
+pub fn may_make(table: &[u64], collections: u64) -> Outcome
+    ensures { result ≡ passed (make_number collections table.now) }
 {
     let n = nodes_in(table.len());
     if n == 0 {
-        return 2;
+        return Err(Refusal::NoTable);
     }
     if collections == 1 {
-        return 0;
+        return Ok(());
     }
     if collections != 2 {
-        return 17;
+        return Err(Refusal::NoCollection);
     }
     if n == 1 {
-        return 2;
+        return Err(Refusal::NoTable);
     }
-    0
+    Ok(())
 }
 
 // An empty table of one or two collections over the whole slice. Only the length is tested; a refusal changes no word.
@@ -227,10 +212,7 @@ pub fn make(table: &mut [u64], collections: u64) -> Outcome
     ensures value { result ≡ making collections table.old }
     ensures table_after { table.new ≡ made collections table.old }
 {
-    let number = make_number(table, collections);
-    if number != 0 {
-        return Outcome::Refused(number);
-    }
+    may_make(table, collections)?;
     let n = nodes_in(table.len());
     zero(table);
     table[0] = 1;
@@ -238,9 +220,9 @@ pub fn make(table: &mut [u64], collections: u64) -> Outcome
     table[2] = n;
     table[8] = MARK;
     if collections == 1 {
-        return Outcome::Done;
+        return Ok(());
     }
     table[3] = 2;
     table[40] = MARK;
-    Outcome::Done
+    Ok(())
 }

@@ -50,8 +50,7 @@ pub fn enter(cells: &mut [u64], tries: usize, number: u64) -> Entry
     }
     let places = cells.len();
     let mut at = (mixed(number) % places as u64) as usize;
-    let mut left = tries;
-    while 0 < left {
+    for _ in 0..tries {
         let held = cells[at];
         if held == number {
             return Entry::Known;
@@ -61,7 +60,6 @@ pub fn enter(cells: &mut [u64], tries: usize, number: u64) -> Entry
             return Entry::Entered;
         }
         at = next_cell(places, at);
-        left -= 1;
     }
     Entry::Full
 }

@@ -32,12 +32,10 @@ pub fn finish(list: &mut [u64], pen: Pen) -> Pen
     list[at] = MARK;
     list[at + 1] = pen.line - 1;
     Pen {
-        dock: pen.dock,
         at: at + 2,
         line: 0,
-        stores: pen.stores,
         flushes: pen.flushes + 1,
-        barriers: pen.barriers,
+        ..pen
     }
 }
 
@@ -64,12 +62,9 @@ fn rule(list: &mut [u64], pen: Pen) -> Pen
     list[at] = BAR;
     list[at + 1] = 0;
     Pen {
-        dock: pen.dock,
         at: at + 2,
-        line: pen.line,
-        stores: pen.stores,
-        flushes: pen.flushes,
         barriers: pen.barriers + 1,
+        ..pen
     }
 }
 
@@ -85,12 +80,10 @@ pub fn store(table: &mut [u64], list: &mut [u64], pen: Pen, w: usize, x: u64) ->
     list[at] = w as u64;
     list[at + 1] = x;
     let listed = Pen {
-        dock: p.dock,
         at: at + 2,
-        line: line,
+        line,
         stores: p.stores + 1,
-        flushes: p.flushes,
-        barriers: p.barriers,
+        ..p
     };
     rule(list, listed)
 }

@@ -1,11 +1,12 @@
 -- Words and slots written one by one.
 use mathlib.Core.Path.{◌≡◌, refl, ap, sym, ◌∙◌}
 use mathlib.Core.Logic.{◌≢◌}
-use mathlib.Core.List.{List, [], ◌∷◌, ◌++◌, append-nil}
+use mathlib.Core.List.{List, [], ◌∷◌, ◌++◌, append_assoc}
 use Prim.Native.Nat.{ℕ, zero, suc, pred, ◌+◌, ◌-◌, ◌*◌, ◌/◌, ◌≤◌, ◌<◌}
 use native.Mathlib.Omega.{arith}
-use lib.ListN.{length, get_or, set, take, drop, replicate, length-take, drop_of_length-le}
-use lib.Seq.{sets, sets-eq, drop-cons, get_or-take, length-take-le}
+use lib.ListN.{length, set, take, drop, replicate, length-take}
+use lib.Seq.{sets, sets-eq, drop-drop, get_or-take, length-take-le}
+use borrow.Rule.Slice.PartMut.{put_mid}
 use borrow.Author.Tests.{eq-eqb, ne_eqb, lt-ltb, le-ltb}
 use Rattle.model.specs.Table.{MARK, Words, at}
 use Rattle.model.specs.Slots.{Slot, slot, slot_words}
@@ -17,24 +18,11 @@ use Rattle.pack.specs.Rows.{pairs_in, head_words, slotted, next_number, leaf_fen
 
 -- ---- words
 
-pub copy-start : (l ws : Words) (w : ℕ) → sets l (w + 0) (drop 0 ws) ≡ sets l w ws
-copy-start l ws w = let e : w + 0 ≡ w = omega arith in rw e
-
-pub copy-step : (l ws : Words) (w i : ℕ) → i < length ws → sets l (w + i) (drop i ws) ≡ sets (set l (w + i) (get_or ws i 0)) (w + (i + 1)) (drop (i + 1) ws)
-copy-step l ws w i h =
-    let e : w + (i + 1) ≡ suc (w + i) = omega arith in
-    let f : i + 1 ≡ suc i = omega arith in
-    ap (sets l (w + i)) (drop-cons ws i 0 h) ∙ rw (e, f)
-
-pub copy-end : (l ws : Words) (w i : ℕ) → length ws ≤ i → sets l (w + i) (drop i ws) ≡ l
-copy-end l ws w i h = ap (sets l (w + i)) (drop_of_length-le ws h)
-
--- the words of a node from its parts
-pub node-copied : (left sibling level fence : ℕ) (slots : Words) → length slots ≡ 24 → sets (head_words left sibling level fence ++ replicate 24 0) 8 slots ≡ head_words left sibling level fence ++ slots
-node-copied left sibling level fence slots h =
-    sets-eq slots (head_words left sibling level fence ++ replicate 24 0) 8 (omega arith)
-    ∙ ap (λ (n : ℕ). head_words left sibling level fence ++ (slots ++ drop (8 + n) (head_words left sibling level fence ++ replicate 24 0))) h
-    ∙ ap (λ (l : Words). head_words left sibling level fence ++ l) (append-nil slots)
+-- a part of a slice written over
+pub written-over : (xs vs ys : Words) (w k : ℕ) → ys ≡ vs → length vs ≡ k → w + k ≤ length xs → put_mid w k xs ys ≡ sets xs w vs
+written-over xs vs ys w k e n h =
+    rw e (ap (λ (l : Words). take w xs ++ (vs ++ l)) (drop-drop k w xs ∙ ap (λ (m : ℕ). drop (w + m) xs) (sym n)))
+    ∙ sym (sets-eq vs xs w (omega arith) ∙ append_assoc (take w xs) vs _)
 
 pub node-made : (left sibling level fence : ℕ) (ss : List Slot) → head_words left sibling level fence ++ slotted ss ≡ node_words left sibling level fence ss
 unfolding node_words

@@ -1,10 +1,10 @@
 -- The rows up to the root, and the packed nodes as a whole.
 use mathlib.Core.Path.{◌≡◌, refl, ap, sym, subst, ◌∙◌}
-use mathlib.Core.List.{List, [], ◌∷◌, ◌++◌, map, append_assoc, append-nil}
+use mathlib.Core.List.{List, [], ◌∷◌, ◌++◌, map, append_assoc}
 use Prim.Native.Nat.{ℕ, zero, suc, ◌+◌, ◌-◌, ◌*◌, ◌/◌, ◌≤◌, ◌<◌}
 use native.Mathlib.Omega.{arith}
-use lib.ListN.{length, get_or, set, take, drop, replicate, length-append, length-drop}
-use lib.Seq.{sets, sets-eq, length-sets, take-append_seam, take_at, drop-append-add, drop-drop, get_or-append-add, take-suc-set, take_all, length-take-le}
+use lib.ListN.{length, get_or, take, drop, replicate, length-append, length-drop}
+use lib.Seq.{sets, sets-eq, length-sets, take-append_seam, take_at, drop-append-add, drop-drop, get_or-append-add, length-take-le}
 use Rattle.model.specs.Table.{Words, at}
 use Rattle.model.specs.Slots.{Slot}
 use Rattle.model.specs.Writes.{node_words}
@@ -89,20 +89,6 @@ module _ (ws : Words) (z leaves : ℕ) (t : Words) (first row level : ℕ) (r : 
       let a : raised (16 - level) t first row level ≡ t = rw e (raised-out t first row level) in
       let b : nodes_above (16 - level) row ≡ 0 = rw e in
       (sym a ∙ r.words, let d = r.count in omega arith)
-
--- ---- zeros to the end
-
-pub clear-step : (t : Words) (i : ℕ) → i < length t → take (i + 1) (set t i 0) ++ replicate (length t - (i + 1)) 0 ≡ take i t ++ replicate (length t - i) 0
-clear-step t i h =
-    let e : i + 1 ≡ suc i = omega arith in
-    let f : length t - i ≡ suc (length t - (i + 1)) = omega arith in
-    ap (λ (n : ℕ). take n (set t i 0) ++ replicate (length t - (i + 1)) 0) e
-    ∙ ap (λ (l : Words). l ++ replicate (length t - (i + 1)) 0) (take-suc-set t i 0 h)
-    ∙ append_assoc (take i t) (0 ∷ []) (replicate (length t - (i + 1)) 0)
-    ∙ ap (λ (n : ℕ). take i t ++ replicate n 0) (sym f)
-
-pub clear-end : (t : Words) (i : ℕ) → length t ≤ i → take i t ++ replicate (length t - i) 0 ≡ t
-clear-end t i h = let f : length t - i ≡ 0 = omega arith in rw (take_all i t h, f) (append-nil t)
 
 -- ---- the rows stand as the packing wants them
 

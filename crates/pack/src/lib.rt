@@ -16,10 +16,7 @@ fn leaf_count(pairs: usize) -> usize
     requires { pairs ≤ 16777216 }
     ensures { result ≡ suc ((pairs - 1) / 11) }
 {
-    if pairs == 0 {
-        return 1;
-    }
-    (pairs - 1) / 11 + 1
+    pairs.saturating_sub(1) / 11 + 1
 }
 
 // How many nodes so many pairs need.
@@ -29,14 +26,12 @@ pub fn needed(pairs: usize) -> usize
 {
     let mut row = leaf_count(pairs);
     let mut total = row;
-    let mut left = 15usize;
-    while 1 < row {
-        if left == 0 {
+    for _ in 0..15usize {
+        if row <= 1 {
             return total;
         }
         row = (row + 11) / 12;
         total += row;
-        left -= 1;
     }
     total
 }
@@ -52,11 +47,7 @@ fn node_words(left: u64, sibling: u64, level: u64, fence: u64, slots: [u64; 24])
     words[1] = sibling;
     words[2] = level;
     words[3] = fence;
-    let mut i = 0;
-    while i < 24 {
-        words[8 + i] = slots[i];
-        i += 1;
-    }
+    words[8..].copy_from_slice(&slots);
     words
 }
 
@@ -65,11 +56,7 @@ fn put_words(nodes: &mut [u64], w: usize, words: [u64; 32])
     requires { w + 32 ≤ length nodes.old }
     ensures { nodes.new ≡ sets nodes.old w words }
 {
-    let mut i = 0;
-    while i < 32 {
-        nodes[w + i] = words[i];
-        i += 1;
-    }
+    nodes[w..w + 32].copy_from_slice(&words);
 }
 
 // The number of the node after node k, in a row that ends before node e; 0 for none.
@@ -91,15 +78,13 @@ fn leaf_slots(nodes: &[u64], pairs: usize, j: usize) -> [u64; 24]
     ensures { result ≡ slotted (take 11 (drop (11 * j) (pairs_in nodes.now pairs))) }
 {
     let mut slots = [0u64; 24];
-    let mut i = 0;
-    while i < 11 {
+    for i in 0..11 {
         let p = 11 * j + i;
         if pairs <= p {
             return slots;
         }
         slots[2 * i] = nodes[2 * p];
         slots[2 * i + 1] = nodes[2 * p + 1];
-        i += 1;
     }
     slots
 }
@@ -138,9 +123,7 @@ fn put_leaves(nodes: &mut [u64], before: usize, pairs: usize, leaves: usize)
         × (before + leaves < 16777216) }
     ensures { nodes.new ≡ row_words 0 (suc before) (bottom (pairs_in nodes.old pairs)) ++ drop (32 * leaves) nodes.old }
 {
-    let mut j = leaves;
-    while 0 < j {
-        j -= 1;
+    for j in (0..leaves).rev() {
         put_leaf(nodes, before, pairs, leaves, j);
     }
 }
@@ -153,12 +136,10 @@ fn child_slots(nodes: &[u64], first: usize, count: usize) -> [u64; 24]
     ensures { result ≡ slotted (children_from nodes.now first count) }
 {
     let mut slots = [0u64; 24];
-    let mut i = 0;
-    while i < count {
+    for i in 0..count {
         let k = first + i;
         slots[2 * i] = nodes[32 * k + 3];
         slots[2 * i + 1] = (k + 1) as u64;
-        i += 1;
     }
     slots
 }
@@ -174,16 +155,6 @@ fn put_inner(nodes: &mut [u64], first: usize, count: usize, level: u64, k: usize
     put_words(nodes, 32 * k, words);
 }
 
-// At most 12 of so many.
-fn dozen(count: usize) -> usize
-    ensures { result ≡ min 12 count }
-{
-    if count < 12 {
-        return count;
-    }
-    12
-}
-
 // The row above so many nodes from node first on; the answer is how many it has.
 fn put_row(nodes: &mut [u64], first: usize, count: usize, level: u64) -> usize
     requires { (32 * (first + count + (count + 11) / 12) ≤ length nodes.old) × (first + count + count < 16777216) }
@@ -192,17 +163,15 @@ fn put_row(nodes: &mut [u64], first: usize, count: usize, level: u64) -> usize
     ensures value { result ≡ (count + 11) / 12 }
 {
     let row = (count + 11) / 12;
-    let mut g = 0;
-    while g < row {
+    for g in 0..row {
         put_inner(
             nodes,
             first + 12 * g,
-            dozen(count - 12 * g),
+            (count - 12 * g).min(12),
             level,
             first + count + g,
             first + count + row,
         );
-        g += 1;
     }
     row
 }
@@ -215,15 +184,13 @@ fn put_rows(nodes: &mut [u64], before: usize, leaves: usize) -> usize
 {
     let mut first = before;
     let mut row = leaves;
-    let mut level = 1u64;
-    while level < 16 {
+    for level in 1..16 {
         if row <= 1 {
             return first + row;
         }
         let above = put_row(nodes, first, row, level);
         first += row;
         row = above;
-        level += 1;
     }
     first + row
 }
@@ -233,11 +200,7 @@ pub fn clear(nodes: &mut [u64], w: usize)
     requires { w ≤ length nodes.old }
     ensures { nodes.new ≡ take w nodes.old ++ replicate (length nodes.old - w) 0 }
 {
-    let mut i = w;
-    while i < nodes.len() {
-        nodes[i] = 0;
-        i += 1;
-    }
+    nodes[w..].fill(0);
 }
 
 // The pairs in the words after the nodes before packed into the nodes that follow these, of so many in all. The answer is the root's number,

@@ -7,20 +7,21 @@ use Prim.Native.Nat.{ℕ, zero, suc, ◌+◌, ◌-◌, ◌*◌, ◌≤◌}
 use native.Mathlib.Omega.{arith}
 use lib.Dec.{ltb}
 use lib.ListN.{length, take, drop}
-use lib.Seq.{sets, sets-eq}
 use borrow.Author.Tests.{ltb-false}
-use Rattle.model.specs.declared.Outcome.TheVariants.{Done, Refused}
+use Rattle.std.specs.Prelude.{Ok, Err}
+use Rattle.model.specs.declared.Refusal.{Refusal}
+use Rattle.model.specs.declared.Refusal.TheVariants.{NoNodes, BadPairs}
+use Rattle.model.specs.Numbers.{refusal_number}
+use Rattle.model.specs.Results.{Outcome, refused_with}
 use Rattle.model.specs.Table.{Words, nodes_for, make_number}
 use Rattle.model.specs.Reached.{Maps}
 use Rattle.model.specs.Packing.{packed_count, packed_both, packed_table}
 use Rattle.model.specs.Pack.{maps_in, maps_ok, pack_number, packing, pack_out}
+use Rattle.model.proofs.Numbers.{refused-by}
 use Rattle.pack.proofs.Parts.{rest-long, back-is, back-drop, back-long}
 use Rattle.packing.specs.Parts.{header_words, second_root, packed_nodes}
 
 -- ---- the table
-
-pub header-put : (t : Words) (root second n : ℕ) → 8 ≤ length t → sets t 0 (header_words root second n) ≡ header_words root second n ++ drop 8 t
-header-put t root second n h = sets-eq (header_words root second n) t 0 h
 
 pub table-packed : (n : ℕ) (m : Maps) → header_words (packed_count m.one) (second_root m) n ++ packed_nodes n m ≡ packed_table n m
 unfolding packed_table
@@ -48,16 +49,24 @@ module _ (n : ℕ) (pairs loans t : Words) where
   abbrev m : Maps
   m = maps_in n pairs loans
 
-  abbrev Refuses : ℕ → Type 0
-  Refuses k = (Refused k ≡ packing n pairs loans t) × (t ≡ pack_out n pairs loans t)
+  abbrev Answers : Outcome → Type 0
+  Answers r = (r ≡ packing n pairs loans t) × (t ≡ pack_out n pairs loans t)
 
-  refuses : (k : ℕ) → pack_number n pairs loans t ≡ suc k → Refuses (suc k)
+  refuses : (k : ℕ) → pack_number n pairs loans t ≡ k → k ≢ 0 → Answers (refused_with k)
   unfolding packing pack_out
-  refuses k e = (rw e, rw e)
+  refuses zero e z = absurd (z refl)
+  refuses (suc k) e z = (rw e, rw e)
 
-  pub refused-making : (k : ℕ) → k ≡ make_number n t → k ≢ 0 → Refuses k
-  refused-making zero e z = absurd (z refl)
-  refused-making (suc k) e z = refuses k (unfold pack_number in rw (← e))
+  refuses-by : (r : Refusal) → pack_number n pairs loans t ≡ refusal_number r → refusal_number r ≢ 0 → Answers (Err r)
+  refuses-by r e z = let both = refuses (refusal_number r) e z in (sym (refused-by r) ∙ both.0, both.1)
+
+  number-making : (k : ℕ) → make_number n t ≡ k → k ≢ 0 → pack_number n pairs loans t ≡ k
+  unfolding pack_number
+  number-making zero e z = absurd (z refl)
+  number-making (suc k) e z = rw e
+
+  pub refused-making : make_number n t ≢ 0 → Answers (refused_with (make_number n t))
+  refused-making z = refuses (make_number n t) (number-making (make_number n t) refl z) z
 
   module _ (h : make_number n t ≡ 0) where
     number-outgrown : ltb (nodes_for (length t)) (packed_both m) ≡ true → pack_number n pairs loans t ≡ 10
@@ -76,13 +85,13 @@ module _ (n : ℕ) (pairs loans t : Words) where
       tested : ltb (nodes_for (length t)) (packed_both m) ≡ b
       tested = ap (λ (i : ℕ). ltb i (packed_both m)) (sym size) ∙ sym e
 
-      pub refused-outgrown : b ≡ true → Refuses 10
-      refused-outgrown y = refuses 9 (number-outgrown (tested ∙ y))
+      pub refused-outgrown : b ≡ true → Answers (Err NoNodes)
+      refused-outgrown y = refuses-by NoNodes (number-outgrown (tested ∙ y)) (λ w. omega arith)
 
       module _ (y : b ≡ false) (a : Bool) (q : a ≡ maps_ok m) where
-        pub refused-pairs : a ≡ false → Refuses 25
-        refused-pairs f = refuses 24 (number-pairs (tested ∙ y) (sym q ∙ f))
+        pub refused-pairs : a ≡ false → Answers (Err BadPairs)
+        refused-pairs f = refuses-by BadPairs (number-pairs (tested ∙ y) (sym q ∙ f)) (λ w. omega arith)
 
-        pub packs : a ≡ true → (x : Words) → x ≡ packed_table top m → (Done ≡ packing n pairs loans t) × (x ≡ pack_out n pairs loans t)
+        pub packs : a ≡ true → (x : Words) → x ≡ packed_table top m → (Ok tt ≡ packing n pairs loans t) × (x ≡ pack_out n pairs loans t)
         unfolding packing pack_out
         packs f x p = let z = number-none (tested ∙ y) (sym q ∙ f) in (rw z, rw z (p ∙ ap (λ (i : ℕ). packed_table i m) size))

@@ -1,11 +1,11 @@
 -- The nodes of one collection: its pairs copied behind the nodes before, and packed there; then those of both.
 use mathlib.Core.Path.{◌≡◌, refl, ap, sym, ◌∙◌}
 use mathlib.Core.Logic.{◌≢◌}
-use mathlib.Core.List.{List, ◌++◌}
-use Prim.Native.Nat.{ℕ, suc, ◌+◌, ◌-◌, ◌*◌, ◌/◌, ◌≤◌, ◌<◌}
+use mathlib.Core.List.{List, ◌++◌, append_assoc}
+use Prim.Native.Nat.{ℕ, suc, ◌+◌, ◌-◌, ◌*◌, ◌/◌, ◌≤◌}
 use native.Mathlib.Omega.{arith}
-use lib.ListN.{length, get_or, set, take, drop, replicate}
-use lib.Seq.{sets, sets-eq, length-sets, take_at, take_all, length-take-le}
+use lib.ListN.{length, take, drop, replicate}
+use lib.Seq.{sets, sets-eq, length-sets, take_at, drop_at, take_all, length-take-le}
 use borrow.Author.Tests.{eq-eqb, ne_eqb}
 use Rattle.model.specs.Table.{Words}
 use Rattle.model.specs.Slots.{Slot, slots_of}
@@ -15,20 +15,10 @@ use Rattle.model.specs.Pack.{maps_in}
 use Rattle.pack_laws.specs.Needed.{nodes_needed}
 use Rattle.pack_laws.proofs.Fresh.{words-long}
 use Rattle.pack.specs.Rows.{pairs_in, pairs_after, packed_after}
-use Rattle.pack.proofs.Filling.{copy-step, copy-end}
-use Rattle.pack.proofs.Parts.{rest-long, back-is, back-take, back-drop, back-long}
 use Rattle.pack.proofs.Leaves.{slots-take}
 use Rattle.pack.proofs.Raising.{room-facts}
 use Rattle.packing.specs.Parts.{second_root, packed_nodes}
 use Rattle.packing.proofs.Fits.{slots-half, slice-needs, both-beside}
-
--- ---- words copied one by one
-
-pub copy-next : (l ws : Words) (i : ℕ) → i < length ws → sets l i (drop i ws) ≡ sets (set l i (get_or ws i 0)) (i + 1) (drop (i + 1) ws)
-copy-next l ws i h = let a : 0 + i ≡ i = omega arith in let b : 0 + (i + 1) ≡ i + 1 = omega arith in rw (a, b) at (copy-step l ws 0 i h)
-
-pub copy-last : (l ws : Words) (i : ℕ) → length ws ≤ i → l ≡ sets l i (drop i ws)
-copy-last l ws i h = let a : 0 + i ≡ i = omega arith in sym (rw a at (copy-end l ws 0 i h))
 
 -- ---- one collection
 
@@ -46,40 +36,31 @@ module _ (words pairs : Words) (before top : ℕ) (long : length words ≡ 32 * 
   abbrev count : ℕ
   count = length pairs / 2
 
-  -- the words lent: those behind the nodes before, and those of the pairs
-  abbrev part : Words
-  part = take (length words - w) (drop w words)
-
+  -- the words of the pairs
   abbrev from : Words
   from = take (2 * count) pairs
 
   pub words-fit : (w ≤ length words) × (before ≤ 65535)
   words-fit = (omega (arith, room, long), omega (arith, room))
 
-  part-long : length part ≡ 32 * (top - before)
-  part-long = rest-long words w ∙ omega (arith, long)
-
-  pub from-fits : length from ≤ length part
-  from-fits = let r = (room-facts before count top room).0 in omega (arith, pairs-long pairs, part-long, r)
+  pub pairs-fit : w + 2 * count ≤ length words
+  pairs-fit = let r = (room-facts before count top room).0 in omega (arith, r, long)
 
   -- after the copying
-  module _ (w' : Words) (e : w' ≡ sets part 0 from) where
-    abbrev whole : Words
-    whole = take w words ++ (w' ++ drop (length words - w) (drop w words))
-
-    copied-long : length w' ≡ length words - w
-    copied-long = ap length e ∙ length-sets part 0 from ∙ rest-long words w
+  module _ (whole : Words) (e : whole ≡ sets words w from) where
+    split : whole ≡ take w words ++ (from ++ drop (w + length from) words)
+    split = e ∙ sets-eq from words w (omega (arith, pairs-fit, pairs-long pairs)) ∙ append_assoc (take w words) from _
 
     whole-long : length whole ≡ length words
-    whole-long = ap length (back-is words w w') ∙ back-long words w words-fit.0 w' copied-long
+    whole-long = ap length e ∙ length-sets words w from
 
-    copied : take (2 * count) w' ≡ from
-    copied = ap (take (2 * count)) (e ∙ sets-eq from part 0 (omega (arith, from-fits))) ∙ take_at from (drop (0 + length from) part) (2 * count) (pairs-long pairs)
+    head-long : length (take w words) ≡ w
+    head-long = length-take-le w words words-fit.0
 
     whole-pairs : pairs_after before whole count ≡ slots_of pairs
     whole-pairs =
-        ap (λ (x : Words). pairs_in x count) (ap (drop w) (back-is words w w') ∙ back-drop words w words-fit.0 w')
-        ∙ ap slots_of copied ∙ first-pairs pairs
+        ap (λ (x : Words). pairs_in x count) (ap (drop w) split ∙ drop_at (take w words) _ w head-long)
+        ∙ ap slots_of (take_at from (drop (w + length from) words) (2 * count) (pairs-long pairs)) ∙ first-pairs pairs
 
     pub pack-fits : (length whole ≡ 32 * top) × (top ≤ 65535) × (before + nodes_needed count ≤ top) × (count ≤ 16777216)
     pack-fits = (whole-long ∙ long, few, room, (let r = (room-facts before count top room).0 in omega (arith, r, few)))
@@ -87,7 +68,7 @@ module _ (words pairs : Words) (before top : ℕ) (long : length words ≡ 32 * 
     pub filled : (x : Words) (root : ℕ) → x ≡ packed_after before top whole (pairs_after before whole count) → root ≡ before + packed_count (pairs_after before whole count)
         → (x ≡ packed_after before top words (slots_of pairs)) × (root ≡ before + packed_count (slots_of pairs))
     filled x root a c =
-        let same : take w whole ≡ take w words = ap (take w) (back-is words w w') ∙ back-take words w words-fit.0 w' in (
+        let same : take w whole ≡ take w words = ap (take w) split ∙ take_at (take w words) _ w head-long in (
           a ∙ ap (packed_after before top whole) whole-pairs
               ∙ ap (λ (y : Words). y ++ (packed_words (suc before) (slots_of pairs) ++ replicate (32 * (top - (before + packed_count (slots_of pairs)))) 0)) same,
           c ∙ ap (λ (ps : List Slot). before + packed_count ps) whole-pairs,

@@ -2,8 +2,7 @@
 // already, and packed there.
 #![tactic(auto)]
 
-ghost use Rattle.std.specs.Prelude.{◌≡◌, true, false, ◌++◌, min, ◌+◌, ◌*◌, ◌/◌, ◌≤◌, ltb, length, drop};
-ghost use Rattle.std.proofs.lemmas.List.Edits.{sets};
+ghost use Rattle.std.specs.Prelude.{◌≡◌, ◌++◌, min, ◌+◌, ◌*◌, ◌/◌, ◌≤◌, ltb, length, drop};
 ghost use Rattle.model.specs.Slots.{slots_of};
 ghost use Rattle.model.specs.Packing.{packed_count, packed_both, packed_table};
 ghost use Rattle.model.specs.Pack.{maps_in, maps_ok, packing, pack_out};
@@ -11,7 +10,7 @@ ghost use Rattle.pack_laws.specs.Needed.{nodes_needed};
 ghost use Rattle.pack.specs.Rows.{packed_after};
 ghost use Rattle.packing.specs.Parts.{header_words, second_root, packed_nodes};
 
-use model::Outcome;
+use model::{Outcome, Refusal};
 
 // ---- whether the packing fits
 
@@ -23,11 +22,7 @@ fn needed_for(words: usize) -> usize
     if 16777216 < pairs {
         return 65536;
     }
-    let nodes = pack::needed(pairs);
-    if nodes < 65536 {
-        return nodes;
-    }
-    65536
+    pack::needed(pairs).min(65536)
 }
 
 // Whether the pairs need more than so many nodes.
@@ -47,28 +42,10 @@ fn outgrows(top: usize, collections: u64, pairs: &[u64], loans: &[u64]) -> bool
 fn maps_ok(collections: u64, pairs: &[u64], loans: &[u64]) -> bool
     ensures { result ≡ maps_ok (maps_in collections pairs.now loans.now) }
 {
-    if !pairs::ok(pairs) {
-        return false;
-    }
-    if collections == 1 {
-        return true;
-    }
-    pairs::ok(loans)
+    pairs::ok(pairs) && (collections == 1 || pairs::ok(loans))
 }
 
 // ---- the table
-
-// These words over the first ones of a slice.
-fn copy(words: &mut [u64], from: &[u64])
-    requires { length from.now ≤ length words.old }
-    ensures { words.new ≡ sets words.old 0 from.now }
-{
-    let mut i = 0;
-    while i < from.len() {
-        words[i] = from[i];
-        i += 1;
-    }
-}
 
 // The pairs of a slice packed behind the nodes before, of so many in all. The answer is the root's number.
 fn fill(words: &mut [u64], before: usize, pairs: &[u64], top: usize) -> usize
@@ -79,19 +56,25 @@ fn fill(words: &mut [u64], before: usize, pairs: &[u64], top: usize) -> usize
     let count = pairs.len() / 2;
     let w = 32 * before;
     let end = 2 * count;
-    copy(&mut words[w..], &pairs[..end]);
+    words[w..w + end].copy_from_slice(&pairs[..end]);
     pack::pack(words, before, count, top)
 }
 
-// The roots' numbers, 0 for no second one.
+// A value for each collection.
 #[derive(Clone, Copy)]
-struct Roots {
-    one: usize,
-    two: usize,
+pub struct Both<T> {
+    pub one: T,
+    pub two: T,
 }
 
-// The nodes of the table, collection 1 first.
-fn fill_both(words: &mut [u64], collections: u64, pairs: &[u64], loans: &[u64], top: usize) -> Roots
+// The nodes of the table, collection 1 first; the answer is the roots' numbers, 0 for no second one.
+fn fill_both(
+    words: &mut [u64],
+    collections: u64,
+    pairs: &[u64],
+    loans: &[u64],
+    top: usize,
+) -> Both<usize>
     requires { (length words.old ≡ 32 * top) × (top ≤ 65535) × (packed_both (maps_in collections pairs.now loans.now) ≤ top) }
     ensures words_after { words.new ≡ packed_nodes top (maps_in collections pairs.now loans.now) }
     ensures one_value { (result.one ≡ packed_count (maps_in collections pairs.now loans.now).one)
@@ -99,10 +82,10 @@ fn fill_both(words: &mut [u64], collections: u64, pairs: &[u64], loans: &[u64], 
 {
     let one = fill(words, 0, pairs, top);
     if collections == 1 {
-        return Roots { one: one, two: 0 };
+        return Both { one, two: 0 };
     }
     let two = fill(words, one, loans, top);
-    Roots { one: one, two: two }
+    Both { one, two }
 }
 
 // The header of a table with these roots, of so many nodes.
@@ -110,14 +93,7 @@ pub fn put_header(table: &mut [u64], root: u64, second: u64, top: u64)
     requires { 8 ≤ length table.old }
     ensures { table.new ≡ header_words root second top ++ drop 8 table.old }
 {
-    table[0] = 1;
-    table[1] = root;
-    table[2] = top;
-    table[3] = second;
-    table[4] = 0;
-    table[5] = 0;
-    table[6] = 0;
-    table[7] = 0;
+    table[..8].copy_from_slice(&[1, root, top, second, 0, 0, 0, 0]);
 }
 
 // The whole table, if the packing fits.
@@ -126,9 +102,7 @@ fn put_table(table: &mut [u64], top: u64, collections: u64, pairs: &[u64], loans
     ensures { table.new ≡ packed_table top (maps_in collections pairs.now loans.now) }
 {
     let roots = fill_both(&mut table[8..], collections, pairs, loans, top as usize);
-    let one = roots.one;
-    let two = roots.two;
-    put_header(table, one as u64, two as u64, top);
+    put_header(table, roots.one as u64, roots.two as u64, top);
 }
 
 // ---- the call
@@ -138,17 +112,14 @@ pub fn pack_table(table: &mut [u64], collections: u64, pairs: &[u64], loans: &[u
     ensures value { result ≡ packing collections pairs.now loans.now table.old }
     ensures table_after { table.new ≡ pack_out collections pairs.now loans.now table.old }
 {
-    let number = node::make_number(table, collections);
-    if number != 0 {
-        return Outcome::Refused(number);
-    }
+    node::may_make(table, collections)?;
     let top = node::nodes_in(table.len());
     if outgrows(top as usize, collections, pairs, loans) {
-        return Outcome::Refused(10);
+        return Err(Refusal::NoNodes);
     }
     if !maps_ok(collections, pairs, loans) {
-        return Outcome::Refused(25);
+        return Err(Refusal::BadPairs);
     }
     put_table(table, top, collections, pairs, loans);
-    Outcome::Done
+    Ok(())
 }

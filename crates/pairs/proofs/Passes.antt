@@ -1,13 +1,13 @@
 -- Recording numbers entered in passes: one number, the pairs of a slice; what the passes come to, for any list of numbers.
 use mathlib.Core.Path.{◌≡◌, refl, ap, sym, subst, ◌∙◌}
 use mathlib.Core.Bool.{Bool, true, false, false≢true}
-use mathlib.Core.Logic.{◌↔◌, ◌⊎◌, inl, inr, ⊎_elim}
+use mathlib.Core.Logic.{◌↔◌, ◌≢◌, ◌⊎◌, inl, inr, ⊎_elim}
 use mathlib.Core.List.{List, [], ◌∷◌, Memᴰ}
 use Prim.Native.Nat.{ℕ, ◌+◌, ◌*◌, ◌/◌, ◌≤◌, ◌<◌}
 use native.Mathlib.Omega.{arith}
 use lib.Dec.{leb, ltb}
 use lib.ListN.{length}
-use borrow.Author.Tests.{le-leb, lt-leb, lt-ltb, leb-true, ltb-true, ltb-false}
+use borrow.Author.Tests.{le-leb, lt-ltb, leb-true, ltb-true, ltb-false}
 use Rattle.model.specs.Table.{Words, at}
 use Rattle.model.specs.Slots.{recording_of}
 use Rattle.model.specs.Reached.{filter}
@@ -17,9 +17,9 @@ use Rattle.list_laws.proofs.Members.{mem-each, elem-iff}
 use Rattle.list_laws.proofs.Filters.{filter-yes, filter-no, filter-all, filter-none, mem-filter}
 use Rattle.list_laws.proofs.Distinct.{distinct-cons}
 use Rattle.numbers.specs.declared.Entry.{Entry}
-use Rattle.numbers.specs.declared.Entry.TheVariants.{Entered, Known}
+use Rattle.numbers.specs.declared.Entry.TheVariants.{Entered, Known, Full}
 use Rattle.numbers.specs.Cells.{SPREAD, CELLS, mixed, Outcome, outcome, followed, entered_if, entered_all, Tells}
-use Rattle.numbers.proofs.Once.{Last, goes-on, ends}
+use Rattle.numbers.proofs.Once.{Last, known-last, full-last, goes-on, ends}
 use Rattle.pairs.specs.Passes.{in_pass}
 use Rattle.pairs.proofs.Slices.{numbers_of, number-next, number-none}
 
@@ -29,15 +29,13 @@ place-below : (r : ℕ) → mixed r < SPREAD
 unfolding mixed
 place-below r = omega arith
 
-pub pass-below : (low high r m : ℕ) → m ≡ mixed r → m < low → false ≡ in_pass low high r
-unfolding in_pass
-pass-below low high r m q h = sym (rw (← q, lt-leb low m h))
-
-pub pass-from : (low high r m : ℕ) → m ≡ mixed r → low ≤ m → ltb m high ≡ in_pass low high r
-unfolding in_pass
-pass-from low high r m q h = sym (rw (← q, le-leb low m h))
-
 -- ---- the pairs of a slice, number by number
+
+-- entering ends at an answer other than Entered
+pub last-unless : (e : Entry) → e ≢ Entered → Last e
+last-unless Entered h = absurd (h refl)
+last-unless Known h = known-last
+last-unless Full h = full-last
 
 -- what is left to enter, from pair i on, into the cells as they are, comes to o
 pub record Entering (p : ℕ → Bool) (ws : Words) (o : Outcome) (cs : Words) (i : ℕ) : Type 0 where

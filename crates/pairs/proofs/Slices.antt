@@ -10,9 +10,8 @@ use lib.ListN.{length, drop}
 use borrow.Author.Tests.{eq-eqb, ne_eqb, le-leb, lt-leb, ltb-true, ltb-false}
 use Rattle.model.specs.Table.{Words, at}
 use Rattle.model.specs.Slots.{Slot, slot, slots_of, recording_of, recording, pointer_ok}
-use Rattle.model.specs.SoundTest.{all, elem, distinct, pair_ok, rising, recordings_ok}
+use Rattle.model.specs.SoundTest.{all, elem, distinct, pair_ok, rising}
 use Rattle.model.specs.Refusals.{has_recording}
-use Rattle.model.specs.Pack.{pairs_ok}
 use Rattle.table_laws.proofs.SlotWords.{slots-cons, slots-end}
 use Rattle.change_laws.proofs.Pairs.{has-recording}
 
@@ -134,24 +133,3 @@ module _ (ws : Words) where
 
       pub once-next : y ≡ false → distinct (numbers_of (i + 1)) ≡ distinct (map recording ps)
       once-next f = ap (λ (b : Bool). not b && distinct (numbers_of (i + 1))) (sym f) ∙ once-step
-
--- ---- all three
-
-module _ (ps : List Slot) (a : Bool) (e : a ≡ rising 0 ps) where
-  pub ok-falls : a ≡ false → false ≡ pairs_ok ps
-  unfolding pairs_ok
-  ok-falls n = ap (λ (x : Bool). x && recordings_ok ps) (sym n ∙ e)
-
-  module _ (t : a ≡ true) (b : Bool) (f : b ≡ all pair_ok ps) where
-    parts-are : (a && (b && distinct (map recording ps))) ≡ pairs_ok ps
-    unfolding pairs_ok recordings_ok
-    parts-are = ap (λ (x : Bool). x && (b && distinct (map recording ps))) e ∙ ap (λ (x : Bool). rising 0 ps && (x && distinct (map recording ps))) f
-
-    risen : (b && distinct (map recording ps)) ≡ pairs_ok ps
-    risen = ap (λ (x : Bool). x && (b && distinct (map recording ps))) (sym t) ∙ parts-are
-
-    pub ok-range : b ≡ false → false ≡ pairs_ok ps
-    ok-range n = ap (λ (x : Bool). x && distinct (map recording ps)) (sym n) ∙ risen
-
-    pub ok-once : b ≡ true → (c : Bool) → c ≡ distinct (map recording ps) → c ≡ pairs_ok ps
-    ok-once n c g = g ∙ ap (λ (x : Bool). x && distinct (map recording ps)) (sym n) ∙ risen

@@ -20,13 +20,10 @@ const NARROWEST: u64 = 4194304;
 fn rise(pairs: &[u64]) -> bool
     ensures { result ≡ rising 0 (slots_of pairs.now) }
 {
-    let count = pairs.len() / 2;
-    let mut i = 1;
-    while i < count {
+    for i in 1..pairs.len() / 2 {
         if pairs[2 * i] <= pairs[2 * i - 2] {
             return false;
         }
-        i += 1;
     }
     true
 }
@@ -35,13 +32,10 @@ fn rise(pairs: &[u64]) -> bool
 fn in_range(pairs: &[u64]) -> bool
     ensures { result ≡ all pair_ok (slots_of pairs.now) }
 {
-    let count = pairs.len() / 2;
-    let mut i = 0;
-    while i < count {
+    for i in 0..pairs.len() / 2 {
         if !pointer::ok(pairs[2 * i + 1]) {
             return false;
         }
-        i += 1;
     }
     true
 }
@@ -52,13 +46,10 @@ fn in_range(pairs: &[u64]) -> bool
 pub fn has_recording(pairs: &[u64], first: usize, recording: u64) -> bool
     ensures { result ≡ has_recording recording (drop first (slots_of pairs.now)) }
 {
-    let count = pairs.len() / 2;
-    let mut i = first;
-    while i < count {
+    for i in first..pairs.len() / 2 {
         if pointer::recording(pairs[2 * i + 1]) == recording {
             return true;
         }
-        i += 1;
     }
     false
 }
@@ -68,14 +59,11 @@ pub fn has_recording(pairs: &[u64], first: usize, recording: u64) -> bool
 fn compared_once(pairs: &[u64]) -> bool
     ensures { result ≡ distinct (map recording (slots_of pairs.now)) }
 {
-    let count = pairs.len() / 2;
-    let mut i = 0;
-    while i < count {
+    for i in 0..pairs.len() / 2 {
         let number = pointer::recording(pairs[2 * i + 1]);
         if has_recording(pairs, i + 1, number) {
             return false;
         }
-        i += 1;
     }
     true
 }
@@ -86,11 +74,7 @@ fn compared_once(pairs: &[u64]) -> bool
 fn in_pass(number: u64, low: u64, high: u64) -> bool
     ensures { result ≡ in_pass low high number }
 {
-    let place = numbers::mixed(number);
-    if place < low {
-        return false;
-    }
-    place < high
+    (low..high).contains(&numbers::mixed(number))
 }
 
 // Enters a number, if it is one of the pass.
@@ -109,17 +93,12 @@ fn enter_all(cells: &mut [u64], pairs: &[u64], low: u64, high: u64) -> Entry
     requires { length cells.old ≡ CELLS }
     ensures { outcome result cells.new ≡ entered_all (in_pass low high) (map recording (slots_of pairs.now)) cells.old }
 {
-    let count = pairs.len() / 2;
-    let mut i = 0;
-    while i < count {
+    for i in 0..pairs.len() / 2 {
         let number = pointer::recording(pairs[2 * i + 1]);
-        let entry = enter_one(cells, number, low, high);
-        match entry {
+        match enter_one(cells, number, low, high) {
             Entry::Entered => {}
-            Entry::Known => return Entry::Known,
-            Entry::Full => return Entry::Full,
+            ended => return ended,
         }
-        i += 1;
     }
     Entry::Entered
 }
@@ -138,18 +117,16 @@ fn once(pairs: &[u64]) -> bool
 {
     let mut low = 0;
     let mut width = 4294967296;
+    // No range counts this: a pass is as wide as the cells let it be.
     while low < numbers::SPREAD {
-        let entry = pass(pairs, low, low + width);
-        match entry {
-            Entry::Entered => {
-                low += width;
-            }
+        match pass(pairs, low, low + width) {
+            Entry::Entered => low += width,
             Entry::Known => return false,
             Entry::Full => {
                 if width <= NARROWEST {
                     return compared_once(pairs);
                 }
-                width = width / 2;
+                width /= 2;
             }
         }
     }
@@ -160,11 +137,5 @@ fn once(pairs: &[u64]) -> bool
 pub fn ok(pairs: &[u64]) -> bool
     ensures { result ≡ pairs_ok (slots_of pairs.now) }
 {
-    if !rise(pairs) {
-        return false;
-    }
-    if !in_range(pairs) {
-        return false;
-    }
-    once(pairs)
+    rise(pairs) && in_range(pairs) && once(pairs)
 }

@@ -1,20 +1,10 @@
--- The tests of a recording number and of a pointer, a condition at a time.
+-- The test of a pointer, a condition at a time.
 use mathlib.Core.Path.{◌≡◌, ap, sym, ◌∙◌}
 use mathlib.Core.Bool.{Bool, true, false, ◌&&◌}
 use Prim.Native.Nat.{ℕ, ◌<◌}
 use native.Mathlib.Omega.{arith}
-use lib.Dec.{ltb}
-use borrow.Author.Tests.{le-leb, lt-leb}
 use Rattle.model.specs.Slots.{RECORDINGS, recording_of, class_of, recording_ok, class_ok, pointer_ok}
 use Rattle.list_laws.proofs.Recordings.{recording-below}
-
-pub number-zero : (r : ℕ) → r ≡ 0 → false ≡ recording_ok r
-unfolding recording_ok
-number-zero r z = sym (ap (λ (b : Bool). b && ltb r RECORDINGS) (lt-leb 1 r (omega arith)))
-
-pub number-some : (r : ℕ) → (r ≡ 0 → ⊥) → ltb r RECORDINGS ≡ recording_ok r
-unfolding recording_ok
-number-some r z = sym (ap (λ (b : Bool). b && ltb r RECORDINGS) (le-leb 1 r (omega arith)))
 
 pub is-below : (p r : ℕ) → r ≡ recording_of p → r < RECORDINGS
 is-below p r e = omega (arith, recording-below p)

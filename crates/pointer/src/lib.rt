@@ -37,13 +37,11 @@ pub fn with_class(pointer: u64, access: u64) -> u64
 }
 
 // Whether there is such a recording number.
+#[tactic(auto, unfolding(model::specs::Slots::recording_ok))]
 pub fn recording_ok(recording: u64) -> bool
     ensures { result ≡ recording_ok recording }
 {
-    if recording == 0 {
-        return false;
-    }
-    recording < RECORDINGS
+    (1..RECORDINGS).contains(&recording)
 }
 
 // Whether there is such a class.
@@ -57,8 +55,5 @@ pub fn class_ok(access: u64) -> bool
 pub fn ok(pointer: u64) -> bool
     ensures { result ≡ pointer_ok pointer }
 {
-    if !recording_ok(recording(pointer)) {
-        return false;
-    }
-    class_ok(class(pointer))
+    recording_ok(recording(pointer)) && class_ok(class(pointer))
 }

@@ -33,11 +33,11 @@ fn read_piece(
 {
     let mut s = line;
     let mut i = 0;
+    // How many bytes a call uses is its answer: no range has that step.
     while i < piece.len() {
         let said = script::read_line(table, list, out, s, &piece[i..]);
         print(rt, wrote, out, said.printed);
-        let next = said.line;
-        s = next;
+        s = said.line;
         i += said.used;
     }
     s
@@ -49,17 +49,19 @@ fn read_input(rt: &(impl Print + Input), table: &mut [u64], list: &mut [u64]) ->
 {
     let mut input = rt.reader();
     let mut wrote = Ok(());
+    // Room for a piece, and for what the longest prints: memory is fixed, there is no heap.
     let mut out = [0u8; 61488];
     let mut s = script_bytes::start();
     let mut buffer = [0u8; 4096];
-    let mut left: u64 = 1099511627776;
-    while 0 < left && wrote.is_ok() {
+    for _ in 0..1099511627776u64 {
+        if wrote.is_err() {
+            break;
+        }
         let n = input.read(&mut buffer)?;
         if n == 0 {
             break;
         }
         s = read_piece(rt, &mut wrote, table, list, &mut out, s, &buffer[..n]);
-        left -= 1;
     }
     let last = script::finish(table, list, &mut out, s);
     print(rt, &mut wrote, &out, last);

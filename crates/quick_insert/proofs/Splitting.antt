@@ -1,6 +1,6 @@
 -- The splits of a run on any table: each test by what the code counts, and the run in the rest form.
 use mathlib.Core.Path.{◌≡◌, refl, ap, sym, ◌∙◌, subst}
-use mathlib.Core.Bool.{Bool, true, false, cond, ◌&&◌, and-false}
+use mathlib.Core.Bool.{Bool, true, false, cond, ◌&&◌}
 use mathlib.Core.List.{List, [], ◌∷◌, ◌++◌, append_assoc, append-nil}
 use Prim.Native.Nat.{ℕ, suc, ◌+◌, ◌*◌, ◌≤◌, ◌<◌}
 use native.Mathlib.Omega.{arith}
@@ -8,8 +8,8 @@ use lib.Dec.{eqb, leb, ltb}
 use lib.ListN.{length, get_or, take, drop, length-take, drop_of_length-le}
 use lib.Seq.{drop-cons, get_or-take, length-take-le}
 use native.Mathlib.Numerals.{add-one}
-use borrow.Author.Tests.{eqb-true, lt-leb}
-use Rattle.model.specs.Table.{Words, in_range, has_node, node, at}
+use borrow.Author.Tests.{eqb-true}
+use Rattle.model.specs.Table.{Words, in_range, has_node, node}
 use Rattle.model.specs.Slots.{Slot, slot, node_view, full}
 use Rattle.model.specs.Orders.{Store, apply}
 use Rattle.model.specs.Writes.{middle, split}
@@ -30,17 +30,6 @@ use Rattle.model.specs.Marks.{put}
 use Rattle.model.specs.Summary.{full_node, roomy, can_split, free_after, Going, going, split_way}
 
 -- ---- the tests
-
-pub range-none : (N a : ℕ) → a ≡ 0 → in_range N a ≡ false
-unfolding in_range
-range-none N a e = rw e
-
-pub range-past : (N a : ℕ) → N < a → in_range N a ≡ false
-unfolding in_range
-range-past N a h = rw (lt-leb a N h) (and-false (leb 1 a))
-
-pub range-in : (N a : ℕ) → (a ≡ 0 → ⊥) → a ≤ N → in_range N a ≡ true
-range-in N a z h = (range-iff N a).1 (omega (arith, z), h)
 
 module _ (N : ℕ) (t : Words) (a : ℕ) where
   pub full-none : in_range N a ≡ false → false ≡ full_node N t a
@@ -71,14 +60,8 @@ module _ (N : ℕ) (t : Words) (a : ℕ) where
         go false z w = rw (r, z, w)
 
 module _ (N : ℕ) (t : Words) (a b p : ℕ) where
-  pub split-out : in_range N b ≡ false → false ≡ can_split N t a b p
-  split-out e = rw (e, and-false)
-
   pub split-unfull : full_node N t a ≡ false → false ≡ can_split N t a b p
   split-unfull e = rw e
-
-  pub split-by : in_range N b ≡ true → full_node N t a ≡ true → (r : Bool) → r ≡ roomy N t p → r ≡ can_split N t a b p
-  split-by i f r e = rw (i, f) e
 
 -- ---- what a split asks of its nodes, in a table of N nodes
 
@@ -91,7 +74,7 @@ pub record Splits (t : Words) (a b p : ℕ) : Type 0 where
   pub room : (node_view t p).hidden ≡ 0
 
 module _ (N : ℕ) (t : Words) (size : length t ≡ 8 + 32 * N) where
-  pub in-table : (a : ℕ) → in_range N a ≡ true → has_node t a ≡ true
+  in-table : (a : ℕ) → in_range N a ≡ true → has_node t a ≡ true
   in-table a r = let u = (range-iff N a).0 r in (has-node-iff t a).1 (u.0, omega (arith, u.0, u.1, size))
 
   pub splits-of : (a b p : ℕ) → can_split N t a b p ≡ true → Splits t a b p
@@ -106,10 +89,6 @@ module _ (N : ℕ) (t : Words) (size : length t ≡ 8 + 32 * N) where
         above = in-table p u.1.1.0;
         room = eqb-true _ _ u.1.1.1.0;
       }
-
-  pub roomy-of : (p : ℕ) → roomy N t p ≡ true → (has_node t p ≡ true) × ((node_view t p).hidden ≡ 0)
-  unfolding roomy
-  roomy-of p e = let u = simp and-iff at e in (in-table p u.0, eqb-true _ _ u.1.0)
 
 pub full-range : (N : ℕ) (t : Words) (a : ℕ) → full_node N t a ≡ true → (1 ≤ a) × (a ≤ N)
 unfolding full_node
@@ -216,10 +195,15 @@ module _ (N k : ℕ) (t l ms : Words) (p : Pen) (u : ℕ) (x : Desk) (ms' : Word
 
 -- ---- the list of nodes, one fewer
 
-pub rest-of : (ns : List ℕ) (i e : ℕ) → i < e → e ≤ length ns → drop i (take e ns) ≡ get_or ns i 0 ∷ drop (i + 1) (take e ns)
+rest-of : (ns : List ℕ) (i e : ℕ) → i < e → e ≤ length ns → drop i (take e ns) ≡ get_or ns i 0 ∷ drop (i + 1) (take e ns)
 rest-of ns i e h l =
     drop-cons (take e ns) i 0 (omega (arith, length-take-le e ns l)) ∙ ap (λ (x : ℕ). x ∷ drop (suc i) (take e ns)) (get_or-take e ns i 0 h)
     ∙ ap (λ (y : ℕ). get_or ns i 0 ∷ drop y (take e ns)) (sym (add-one i))
+
+-- the next node of those that are left
+pub left-at : {N k : ℕ} (ns : List ℕ) (i e : ℕ) {t l ms : Words} {p : Pen} {u : ℕ} {x : Desk} {ms' : Words} {u' : ℕ} → i < e → e ≤ length ns
+    → Left N k (drop i (take e ns)) t l ms p u x ms' u' → Left N k (get_or ns i 0 ∷ drop (i + 1) (take e ns)) t l ms p u x ms' u'
+left-at ns i e h l w = left-as _ _ (rest-of ns i e h l) w
 
 pub rest-past : (ns : List ℕ) (i e : ℕ) → e ≤ i → drop i (take e ns) ≡ []
 rest-past ns i e h = drop_of_length-le (take e ns) {i = i} (simp length-take (omega arith))

@@ -2,6 +2,7 @@
 #![tactic(auto)]
 
 ghost use Rattle.std.specs.Prelude.{◌≡◌, cond, [], ◌+◌, ◌*◌, ◌<◌, ◌≤◌, ltb, length, take, drop};
+ghost use Rattle.model.specs.Table.{in_range};
 ghost use Rattle.model.specs.Summary.{full_node, roomy, can_split, going, split_way};
 ghost use Rattle.orders.specs.Desk.{desk, stored_all, Room};
 
@@ -14,56 +15,39 @@ pub struct Going {
     pub under: u64,
 }
 
+// Whether node a is one of so many.
+fn in_range(nodes: u64, a: u64) -> bool
+    ensures { result ≡ in_range nodes a }
+{
+    (1..=nodes).contains(&a)
+}
+
 // Whether node a is one of so many, hides nothing and is full.
 fn full_node(table: &[u64], nodes: u64, a: u64) -> bool
     ensures { result ≡ full_node nodes table.now a }
 {
-    if a == 0 {
-        return false;
-    }
-    if nodes < a {
-        return false;
-    }
-    way::plain_count(table, a) == 11
+    in_range(nodes, a) && way::plain_count(table, a) == 11
 }
 
 // Whether node p is one of so many, hides nothing and shows at most 10 slots.
 fn roomy(table: &[u64], nodes: u64, p: u64) -> bool
     ensures { result ≡ roomy nodes table.now p }
 {
-    if p == 0 {
-        return false;
-    }
-    if nodes < p {
-        return false;
-    }
-    way::plain_count(table, p) <= 10
+    in_range(nodes, p) && way::plain_count(table, p) <= 10
 }
 
 // Whether node a, which is full, can be split into b under p.
 fn can_split(table: &[u64], nodes: u64, a: u64, b: u64, p: u64) -> bool
     ensures { result ≡ can_split nodes table.now a b p }
 {
-    if b == 0 {
-        return false;
-    }
-    if nodes < b {
-        return false;
-    }
-    if !full_node(table, nodes, a) {
-        return false;
-    }
-    roomy(table, nodes, p)
+    in_range(nodes, b) && full_node(table, nodes, a) && roomy(table, nodes, p)
 }
 
 // The half of a split node that takes the key's slot.
 fn half(key: u64, fence: u64, a: u64, b: u64) -> u64
     ensures { result ≡ cond (ltb key fence) a b }
 {
-    if key < fence {
-        return a;
-    }
-    b
+    if key < fence { a } else { b }
 }
 
 // Splits the nodes of the run, the highest first, each into the next node that is not marked.
@@ -91,32 +75,20 @@ pub fn split_run(
         ≡ (split_way nodes key (drop first (take end path)) (going [] table.old marks.old from.under)).marks }
     ensures under_value { result.under ≡ (split_way nodes key (drop first (take end path)) (going [] table.old marks.old from.under)).under }
 {
-    let mut pen = from.pen;
-    let mut under = from.under;
-    let mut i = first;
-    while i < end {
+    let mut going = from;
+    for i in first..end {
         let a = path[i];
         if !full_node(table, nodes, a) {
-            return Going {
-                pen: pen,
-                under: under,
-            };
+            return going;
         }
         let b = marks::free_after(marks, nodes, a);
-        if !can_split(table, nodes, a, b, under) {
-            return Going {
-                pen: pen,
-                under: under,
-            };
+        if !can_split(table, nodes, a, b, going.under) {
+            return going;
         }
         let fence = node::word(table, a, 18);
-        pen = shift::split(table, list, pen, a, b, under);
+        going.pen = shift::split(table, list, going.pen, a, b, going.under);
         bits::put(marks, b as usize);
-        under = half(key, fence, a, b);
-        i += 1;
+        going.under = half(key, fence, a, b);
     }
-    Going {
-        pen: pen,
-        under: under,
-    }
+    going
 }

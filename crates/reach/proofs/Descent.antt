@@ -1,7 +1,7 @@
 -- One level of a search's descent from the words of a table, and the node on a level that it stands on.
 use mathlib.Core.Path.{◌≡◌, ap, sym, ◌∙◌}
 use mathlib.Core.List.{List}
-use Prim.Native.Nat.{ℕ, zero, suc, ◌-◌, ◌≤◌, ◌<◌}
+use Prim.Native.Nat.{ℕ, zero, suc, ◌+◌, ◌-◌, ◌≤◌, ◌<◌}
 use native.Mathlib.Omega.{arith}
 use lib.ListN.{get_or}
 use borrow.Author.Tests.{eq-eqb}
@@ -46,13 +46,14 @@ unfolding path_from
 on-here v zero n k j h = let e : 0 - j ≡ 0 = omega arith in rw e
 on-here v (suc l) n k j h = let e : suc l - j ≡ 0 = omega arith in rw e
 
-pub on-lower : (v : View) (l n k j m c : ℕ) → j < l → m ≡ moved v n k → c ≡ down v m k → node_on v (l - 1) c k j ≡ node_on v l n k j
+-- one level down, from level l to r
+pub on-lower : (v : View) (l r n k j m c : ℕ) → j < l → r + 1 ≡ l → m ≡ moved v n k → c ≡ down v m k → node_on v r c k j ≡ node_on v l n k j
 unfolding path_from
-on-lower v zero n k j m c h p d = absurd (omega arith)
-on-lower v (suc l) n k j m c h p d =
+on-lower v zero r n k j m c h o p d = absurd (omega arith)
+on-lower v (suc l) r n k j m c h o p d =
     let e : suc l - j ≡ suc (l - j) = omega arith in
-    let o : suc l - 1 ≡ l = omega arith in
-    rw (e, o, d, p)
+    let q : r ≡ l = omega arith in
+    rw (e, q, d, p)
 
 -- the whole descent
 pub on-top : (t : Words) (r l k j : ℕ) → l ≡ word_of t r 2 → node_on (view t) l r k j ≡ standing_in (view_from t r) j k

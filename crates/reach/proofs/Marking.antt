@@ -7,8 +7,8 @@ use Prim.Native.Nat.{ℕ, zero, suc, ◌+◌, ◌*◌, ◌-◌, ◌/◌, ◌≤�
 use native.Mathlib.Numerals.{add-one}
 use native.Mathlib.Omega.{arith}
 use lib.Dec.{eqb}
-use lib.ListN.{length, get_or, replicate, length-replicate}
-use lib.Seq.{set_out}
+use lib.ListN.{length, get_or, take, drop, drop_of_length-le, replicate, length-replicate}
+use lib.Seq.{set_out, drop-cons}
 use borrow.Author.Tests.{eq-eqb, ne_eqb}
 use Rattle.model.specs.declared.Node.{Node}
 use Rattle.model.specs.Table.{Words, at, node, root}
@@ -111,27 +111,24 @@ named-by-taken t n s = go (eqb (node_view t n).level 0) (elem n (reached_all t))
     go false true p q =
         mem-each (Taken t) (named (view t) n) (λ c m. named-taken t s n c (λ z. false≢true (sym p ∙ eq-eqb (node_view t n).level 0 z)) m q)
 
--- ---- the ways as they are read, from one on
+-- ---- the ways as they are read
 
--- the numbers that pointers i, i + 1 .. of an array name, m of them
-abbrev pub ahead : (ps : Words) → (i m : ℕ) → List ℕ
-ahead ps i m = pointers (span [] ps i m)
-
-ahead-ways : (ks ps : Words) (i m : ℕ) → ahead ps i m ≡ pointers (span ks ps i m)
+-- the numbers that the ways from i on lead to, m of them
+ways-taken : (ks ps : Words) (i m : ℕ) → i + m ≤ length ps → pointers (span ks ps i m) ≡ take m (drop i ps)
 unfolding span
-ahead-ways ks ps i zero = refl
-ahead-ways ks ps i (suc m) = ap (λ (ns : List ℕ). get_or ps i 0 ∷ ns) (ahead-ways ks ps (suc i) m)
+ways-taken ks ps i zero h = refl
+ways-taken ks ps i (suc m) h = rw (drop-cons ps i 0 (omega arith)) (ap (λ (ns : List ℕ). get_or ps i 0 ∷ ns) (ways-taken ks ps (suc i) m (omega arith)))
 
-pub ahead-all : (w : Ways) (ws : Words) → put_all (ahead w.pointers 0 (w.count - 0)) ws ≡ put_all (pointers (slots_in w)) ws
-ahead-all w ws = let e : w.count - 0 ≡ w.count = omega arith in rw e (ap (λ (ns : List ℕ). put_all ns ws) (ahead-ways w.keys w.pointers 0 w.count))
+pub pointers-taken : (w : Ways) → w.count ≤ length w.pointers → pointers (slots_in w) ≡ take w.count w.pointers
+pointers-taken w h = ways-taken w.keys w.pointers 0 w.count (omega arith)
 
-pub ahead-none : (ps : Words) (i m : ℕ) (ws : Words) → m ≤ i → ws ≡ put_all (ahead ps i (m - i)) ws
-unfolding span put_all
-ahead-none ps i m ws h = let e : m - i ≡ 0 = omega arith in rw e
+pub put_all-more : (ns : List ℕ) (i : ℕ) (ws : Words) → i < length ns → put_all (drop (i + 1) ns) (put ws (get_or ns i 0)) ≡ put_all (drop i ns) ws
+unfolding put_all
+put_all-more ns i ws h = rw (add-one i, drop-cons ns i 0 h)
 
-pub ahead-more : (ps : Words) (i m : ℕ) (ws : Words) → i < m → put_all (ahead ps (i + 1) (m - (i + 1))) (put ws (get_or ps i 0)) ≡ put_all (ahead ps i (m - i)) ws
-unfolding span put_all
-ahead-more ps i m ws h = let e : m - i ≡ suc (m - suc i) = omega arith in rw (e, add-one i)
+pub put_all-end : (ns : List ℕ) (i : ℕ) (ws : Words) → length ns ≤ i → ws ≡ put_all (drop i ns) ws
+unfolding put_all
+put_all-end ns i ws h = rw (drop_of_length-le ns h)
 
 -- ---- the children of a node, by the tests in the order of the code
 

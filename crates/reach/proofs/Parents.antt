@@ -3,7 +3,7 @@ use mathlib.Core.Path.{◌≡◌, refl, ap, sym, ◌∙◌}
 use mathlib.Core.Bool.{true, false}
 use mathlib.Core.Logic.{◌≢◌, ⊎_elim}
 use mathlib.Core.List.{List, [], ◌∷◌, ◌++◌, Memᴰ, append-nil}
-use Prim.Native.Nat.{ℕ, zero, suc, ◌+◌, ◌-◌, ◌≤◌, ◌<◌}
+use Prim.Native.Nat.{ℕ, zero, suc, ◌+◌, ◌-◌, ◌≤◌}
 use native.Mathlib.Omega.{arith}
 use lib.Dec.{eqb}
 use lib.ListN.{length, length-append}
@@ -36,15 +36,16 @@ pub parent-start : (t : Words) (r l : ℕ) → l ≡ word_of t r 2 → leftmost 
 unfolding first_parent
 parent-start t r l q = rw (q ∙ word-level t r)
 
-pub parent-down : (t : Words) (r n l m : ℕ) → 1 < l → m ≡ word_of t n 0 → leftmost (view_from t r) (l - 1 - 1) m ≡ leftmost (view_from t r) (l - 1) n
+-- so many levels left, and one less
+pub parent-down : (t : Words) (r n more less m : ℕ) → less + 1 ≡ more → m ≡ word_of t n 0 → leftmost (view_from t r) less m ≡ leftmost (view_from t r) more n
 unfolding leftmost
-parent-down t r n l m h e =
-    let d : l - 1 ≡ suc (l - 1 - 1) = omega arith in
-    ap (leftmost (view_from t r) (l - 1 - 1)) (e ∙ word-left t n) ∙ sym (ap (λ (k : ℕ). leftmost (view_from t r) k n) d)
+parent-down t r n more less m d e =
+    let q : more ≡ suc less = omega arith in
+    rw (q, e ∙ word-left t n)
 
-pub parent-here : (v : View) (n l m : ℕ) → l ≤ 1 → leftmost v (l - 1) n ≡ m → n ≡ m
+pub parent-here : (v : View) (n left m : ℕ) → left ≡ 0 → leftmost v left n ≡ m → n ≡ m
 unfolding leftmost
-parent-here v n l m h e = let d : l - 1 ≡ 0 = omega arith in sym (ap (λ (k : ℕ). leftmost v k n) d) ∙ e
+parent-here v n left m d e = sym (ap (λ (k : ℕ). leftmost v k n) d) ∙ e
 
 -- ---- along the siblings, as the code goes
 
@@ -60,12 +61,13 @@ module _ (t : Words) (n : ℕ) (ws : Words) where
   unfolding put_all flat along
   along-end left z = rw z
 
-  pub along-next : (left m : ℕ) (after : Words) → n ≢ 0 → 0 < left → after ≡ put_all (named_by t n) ws → m ≡ word_of t n 1 → put_all (passed (left - 1) m) after ≡ put_all (passed left n) ws
+  -- so many nodes left, and one less
+  pub along-next : (more less m : ℕ) (after : Words) → n ≢ 0 → less + 1 ≡ more → after ≡ put_all (named_by t n) ws → m ≡ word_of t n 1 → put_all (passed less m) after ≡ put_all (passed more n) ws
   unfolding flat
-  along-next left m after z h e q =
-      let d : left ≡ suc (left - 1) = omega arith in
-      let p : along (view t) left n ≡ n ∷ along (view t) (left - 1) (node_view t n).sibling = ap (λ (c : ℕ). along (view t) c n) d ∙ along-more (view t) (left - 1) n z in
-      rw (q ∙ word-sibling t n, e, p, put_all-append (named_by t n) (passed (left - 1) (node_view t n).sibling) ws)
+  along-next more less m after z h e q =
+      let d : more ≡ suc less = omega arith in
+      let p : along (view t) more n ≡ n ∷ along (view t) less (node_view t n).sibling = ap (λ (c : ℕ). along (view t) c n) d ∙ along-more (view t) less n z in
+      rw (q ∙ word-sibling t n, e, p, put_all-append (named_by t n) (passed less (node_view t n).sibling) ws)
 
 -- ---- a row i levels down
 

@@ -20,6 +20,9 @@ use slots::Ways;
 // Words for a bit of each node.
 pub const MARKS: usize = 1024;
 
+// The highest number that a node can have.
+const LAST: u64 = 65535;
+
 // The unbroken run of full nodes from the leaf upward: its length, and whether it includes the root.
 #[derive(Clone, Copy)]
 pub struct Run {
@@ -33,6 +36,7 @@ pub struct Run {
 fn moved(table: &[u64], n: u64, key: u64) -> u64
     ensures { result ≡ moved (view table.now) n key }
 {
+    // Two returns: the condition joined by || was tried, and its proof is longer.
     let sibling = node::word(table, n, 1);
     if sibling == 0 {
         return n;
@@ -47,12 +51,11 @@ fn moved(table: &[u64], n: u64, key: u64) -> u64
 pub fn standing(table: &[u64], root: u64, level: u64, key: u64) -> u64
     ensures { result ≡ standing_in (view_from table.now root) level key }
 {
+    let top = node::word(table, root, 2);
     let mut n = root;
-    let mut l = node::word(table, n, 2);
-    while level < l {
+    for _ in level..top {
         let m = moved(table, n, key);
         n = search::down(table, m, key);
-        l -= 1;
     }
     moved(table, n, key)
 }
@@ -78,10 +81,7 @@ pub fn is_taken(table: &[u64], n: u64) -> bool
         return true;
     }
     let second = table[3];
-    if second == 0 {
-        return false;
-    }
-    is_reached(table, second, n)
+    second != 0 && is_reached(table, second, n)
 }
 
 // ---- fresh nodes
@@ -91,7 +91,7 @@ fn mark(marks: &mut [u64], n: u64)
     requires { length marks.old ≡ MARKS }
     ensures { marks.new ≡ put marks.old n }
 {
-    if 65535 < n {
+    if LAST < n {
         return;
     }
     bits::put(marks, n as usize);
@@ -103,12 +103,8 @@ fn mark_ways(marks: &mut [u64], w: Ways)
     requires count_bound { w.count ≤ 13 }
     ensures { marks.new ≡ put_all (pointers (slots_in w)) marks.old }
 {
-    let count = w.count;
-    let pointers = w.pointers;
-    let mut i = 0;
-    while i < count {
-        mark(marks, pointers[i]);
-        i += 1;
+    for &n in &w.pointers[..w.count] {
+        mark(marks, n);
     }
 }
 
@@ -134,10 +130,8 @@ fn first_parent(table: &[u64], root: u64) -> u64
     ensures { result ≡ first_parent (view_from table.now root) }
 {
     let mut n = root;
-    let mut level = node::word(table, root, 2);
-    while 1 < level {
+    for _ in 1..node::word(table, root, 2) {
         n = node::word(table, n, 0);
-        level -= 1;
     }
     n
 }
@@ -151,14 +145,12 @@ fn mark_along(table: &[u64], marks: &mut [u64], first: u64)
         ≡ put_all (flat (named_by table.now) (along (view table.now) (nodes table.now) first)) marks.old }
 {
     let mut n = first;
-    let mut left = table[2];
-    while 0 < left {
+    for _ in 0..table[2] {
         if n == 0 {
             return;
         }
         mark_children(table, marks, n);
         n = node::word(table, n, 1);
-        left -= 1;
     }
 }
 
@@ -224,6 +216,7 @@ fn first_unreached(table: &[u64], marks: &mut [u64], first: u64, last: u64) -> u
     ensures marked_2 { Marked table.now marks.new }
 {
     let mut n = first;
+    // No range: used_run gives each step.
     while n <= last {
         let run = used_run(table, marks, n);
         if run == 0 {
@@ -302,9 +295,7 @@ pub fn shown_count(table: &[u64], n: u64) -> u64
     ensures { result ≡ length ((view table.now).node n).shown }
 {
     let x = node::read(table, n);
-    let slots = x.slots;
-    let left = x.left;
-    slots::shown_count(slots, left)
+    slots::shown_count(x.slots, x.left)
 }
 
 // How many of them it keeps.
@@ -312,11 +303,8 @@ pub fn kept_count(table: &[u64], n: u64) -> u64
     ensures { result ≡ length (kept (view table.now) n) }
 {
     let x = node::read(table, n);
-    let slots = x.slots;
-    let left = x.left;
-    let sibling = x.sibling;
-    let bound = node::word(table, sibling, 3);
-    slots::kept_count(slots, left, sibling, bound)
+    let bound = node::word(table, x.sibling, 3);
+    slots::kept_count(x.slots, x.left, x.sibling, bound)
 }
 
 // Whether the deletion of a slot empties its leaf x, which is not the leftmost child of its parent p, in the collection of that root; a
@@ -327,10 +315,7 @@ pub fn frees_leaf(table: &[u64], root: u64, p: u64, x: u64) -> bool
     if shown_count(table, x) != 1 {
         return false;
     }
-    if node::word(table, root, 2) == 0 {
-        return false;
-    }
-    node::word(table, p, 0) != x
+    node::word(table, root, 2) != 0 && node::word(table, p, 0) != x
 }
 
 // ---- the run of full nodes
@@ -362,20 +347,18 @@ pub fn full_run(table: &[u64], root: u64, key: u64, parent: u64) -> Run
     requires { sound_view (view_from table.now root) ≡ true }
     ensures { result ≡ full_run (view_from table.now root) key parent }
 {
+    let top = node::word(table, root, 2);
     let mut n = root;
-    let top = node::word(table, n, 2);
-    let mut level = top;
     let mut count = 0;
-    while 0 < level {
+    for _ in 0..top {
         let m = moved(table, n, key);
         count = run_after(table, count, m, parent);
         n = search::down(table, m, key);
-        level -= 1;
     }
     let leaf = moved(table, n, key);
     let length = run_after(table, count, leaf, parent);
     Run {
-        length: length,
+        length,
         root: length == top + 1,
     }
 }

@@ -11,11 +11,10 @@ use lib.ListN.{length}
 use borrow.Author.Tests.{eqb-true, eqb-false, leb-true}
 use Rattle.model.specs.declared.Answer.{Answer}
 use Rattle.model.specs.declared.Answer.TheVariants.{Absent, Refused}
-use Rattle.model.specs.declared.Next.{Next}
-use Rattle.model.specs.declared.Next.TheVariants.{Key, Nothing}
+use Rattle.std.specs.Prelude.{Some, None}
 use Rattle.model.specs.Table.{Words, at, node_start, root_word, in_range, header_ok, no_collection, has_node, node, node_from, spare}
 use Rattle.model.specs.Slots.{Slot, NodeView, View, node_view, view_of, height}
-use Rattle.model.specs.Search.{filter, below, within, moved, route, down, on_level, passes, locate, first_with, kept, first_above, absent_or, next_from, answer_of, answer_in, search_view, search}
+use Rattle.model.specs.Search.{filter, below, within, moved, route, down, on_level, passes, locate, first_with, kept, first_above, absent_or, next_from, answer_of, answer_in, search_view, search, Next}
 use Rattle.list_laws.proofs.Tools.{decode}
 use Rattle.view_laws.proofs.NodeViews.{shown-eq}
 use Rattle.table_laws.proofs.Nodes.{node-in, node-out, spare-in}
@@ -138,8 +137,8 @@ module _ (u v : View) (N : u.nodes ≡ v.nodes) (same : (n : ℕ) → OrMissing 
   to-same a b c (inr p) e = inr p
 
   absent-same : (x : Next) (a b : Answer) → SameOr3 a b → SameOr3 (absent_or x a) (absent_or x b)
-  absent-same (Key j) a b h = inl refl
-  absent-same Nothing a b h = h
+  absent-same (Some j) a b h = inl refl
+  absent-same None a b h = h
 
   next-same : (c n : ℕ) → SameOr3 (next_from u c n k) (next_from v c n k)
   unfolding next_from
@@ -159,7 +158,7 @@ module _ (u v : View) (N : u.nodes ≡ v.nodes) (same : (n : ℕ) → OrMissing 
           by : (b : Bool) → eqb (u.node n).sibling 0 ≡ b → SameOr3 (next_from u (suc c) n k) (next_from v (suc c) n k)
           by true q =
               let q' : eqb (v.node n).sibling 0 ≡ true = ap (λ (s : ℕ). eqb s 0) (sym (sibling n a)) ∙ q in
-              inl (rw (e, sym (passes-same n a 0) ∙ e, q, q', next_from) (ap (λ (x : Next). absent_or x (Absent Nothing)) first))
+              inl (rw (e, sym (passes-same n a 0) ∙ e, q, q', next_from) (ap (λ (x : Next). absent_or x (Absent None)) first))
           by false q =
               let q' : eqb (v.node n).sibling 0 ≡ false = ap (λ (s : ℕ). eqb s 0) (sym (sibling n a)) ∙ q in
               rw (e, sym (passes-same n a 0) ∙ e, q, q', next_from)

@@ -12,11 +12,10 @@ use lib.ListN.{length}
 use borrow.Author.Tests.{eqb-true}
 use Rattle.model.specs.declared.Answer.{Answer}
 use Rattle.model.specs.declared.Answer.TheVariants.{Absent, Refused}
-use Rattle.model.specs.declared.Next.{Next}
-use Rattle.model.specs.declared.Next.TheVariants.{Key, Nothing}
+use Rattle.std.specs.Prelude.{Some, None}
 use Rattle.model.specs.Table.{Words, at, nodes, root_word, header_ok, no_collection, has_node, node, spare}
 use Rattle.model.specs.Slots.{Slot, NodeView, node_view, used, clear_in}
-use Rattle.model.specs.Search.{route, first_with, first_above, absent_or, answer_of}
+use Rattle.model.specs.Search.{route, first_with, first_above, absent_or, answer_of, Next}
 use Rattle.model.specs.Looks.{seen_pass, stood, stood_on, seen_kept, next_looks, answer_looks, search_looks, Seen, seen, none_above, no_slot, sibling_seen, next_seen, answer_seen, search_seen, LooksDecide}
 use Rattle.two_laws.proofs.AcceptedTwo.{there}
 use Rattle.reader_laws.proofs.Copies.{head-same, lack-same}
@@ -24,12 +23,12 @@ use Rattle.reader_laws.proofs.Copies.{head-same, lack-same}
 -- ---- what a turn answers, by its tests; it goes on only if they say so
 
 abbrev next_turn : (p : Bool) (q : Next) (z : Bool) → Answer → Answer
-next_turn p q z rest = elim p [ true ↦ absent_or q (elim z [ true ↦ Absent Nothing | false ↦ rest ]) | false ↦ Refused 3 ]
+next_turn p q z rest = elim p [ true ↦ absent_or q (elim z [ true ↦ Absent None | false ↦ rest ]) | false ↦ Refused 3 ]
 
 next-turn : (p : Bool) (q : Next) (z : Bool) (r s : Answer) → (p && (none_above q && not z) ≡ true → r ≡ s) → next_turn p q z r ≡ next_turn p q z s
-next-turn true (Key j) z r s h = refl
-next-turn true Nothing true r s h = refl
-next-turn true Nothing false r s h = h refl
+next-turn true (Some j) z r s h = refl
+next-turn true None true r s h = refl
+next-turn true None false r s h = h refl
 next-turn false q z r s h = refl
 
 abbrev leaf_turn : (p : Bool) → Option Slot → Answer → Answer

@@ -9,10 +9,9 @@ use lib.Dec.{leb}
 use borrow.Author.Tests.{le-leb}
 use Rattle.model.specs.declared.Answer.{Answer}
 use Rattle.model.specs.declared.Answer.TheVariants.{Absent}
-use Rattle.model.specs.declared.Next.{Next}
 use Rattle.model.specs.Table.{Words, at, nodes, root_word, header_ok, no_collection}
 use Rattle.model.specs.Slots.{Slot, NodeView, View, node_view, view_of, height}
-use Rattle.model.specs.Search.{below, down, route, first_with, first_above, answer_of, lookup, search}
+use Rattle.model.specs.Search.{below, down, route, first_with, first_above, answer_of, lookup, search, Next}
 use Rattle.model.specs.Reached.{mapping}
 use Rattle.model.specs.SoundTest.{sound}
 use Rattle.model.specs.Looks.{seen_on, seen_pass, stood, stood_on, next_looks, answer_looks, search_looks, Forward, without_next}

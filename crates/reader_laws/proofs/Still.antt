@@ -5,7 +5,7 @@ use mathlib.Core.List.{List}
 use Prim.Native.Nat.{ℕ, zero, suc}
 use lib.Dec.{eqb, leb}
 use Rattle.model.specs.declared.Answer.TheVariants.{Absent}
-use Rattle.model.specs.declared.Next.TheVariants.{Nothing}
+use Rattle.std.specs.Prelude.{None}
 use Rattle.model.specs.Table.{Words, header_ok, no_collection}
 use Rattle.model.specs.Slots.{Slot, NodeView, View, view_of, height}
 use Rattle.model.specs.Search.{below, within, moved, route, down, on_level, passes, locate, first_with, first_above, kept, absent_or, next_from, answer_of, answer_in, search_view, search}
@@ -51,7 +51,7 @@ module _ (v : View) (k : ℕ) where
     where
       go : (a b : Bool) → passes v 0 n ≡ a → eqb (v.node n).sibling 0 ≡ b → next_looks look v.nodes k c (suc i) (v.node n).sibling ≡ next_from v c (v.node n).sibling k
           → next_looks look v.nodes k (suc c) i n ≡ next_from v (suc c) n k
-      go true true e f h = rw (still-pass 0 n, e, f, next_looks, next_from) (ap (λ (ss : List Slot). absent_or (first_above k ss) (Absent Nothing)) (still-kept n))
+      go true true e f h = rw (still-pass 0 n, e, f, next_looks, next_from) (ap (λ (ss : List Slot). absent_or (first_above k ss) (Absent None)) (still-kept n))
       go true false e f h =
           rw (still-pass 0 n, e, f, next_looks, next_from) (ap (λ (ss : List Slot). absent_or (first_above k ss) (next_looks look v.nodes k c (suc i) (v.node n).sibling)) (still-kept n) ∙ ap (absent_or (first_above k (kept v n))) h)
       go false b e f h = rw (still-pass 0 n, e, next_looks, next_from)

@@ -10,11 +10,10 @@ use lib.ListN.{length}
 use borrow.Author.Tests.{eqb-false}
 use Rattle.model.specs.declared.Answer.{Answer}
 use Rattle.model.specs.declared.Answer.TheVariants.{Absent}
-use Rattle.model.specs.declared.Next.{Next}
-use Rattle.model.specs.declared.Next.TheVariants.{Key, Nothing}
+use Rattle.std.specs.Prelude.{Some, None}
 use Rattle.model.specs.Table.{in_range}
 use Rattle.model.specs.Slots.{NodeView, View}
-use Rattle.model.specs.Search.{first_above, absent_or}
+use Rattle.model.specs.Search.{first_above, absent_or, Next}
 use Rattle.model.specs.SoundTest.{distinct}
 use Rattle.model.specs.Looks.{seen_pass, seen_kept, next_looks, Forward}
 use Rattle.list_laws.proofs.Tools.{Each, Each-map}
@@ -36,8 +35,8 @@ pub record Leaves (w : ℕ → View) : Type 0 where
 
 -- an absent answer, whatever comes after
 absent-or : (x : Next) (later : Answer) → (z : Next) × (later ≡ Absent z) → (z : Next) × (absent_or x later ≡ Absent z)
-absent-or (Key j) later h = (Key j, refl)
-absent-or Nothing later h = h
+absent-or (Some j) later h = (Some j, refl)
+absent-or None later h = h
 
 module _ (w : ℕ → View) (N k : ℕ) (orderly : (i : ℕ) → Orderly (w i)) (nodes : (i : ℕ) → (w i).nodes ≡ N) (y : Leaves w) (moment : ℕ → ℕ) (forward : Forward moment) where
   abbrev look : (i n : ℕ) → NodeView
@@ -102,7 +101,7 @@ module _ (w : ℕ → View) (N k : ℕ) (orderly : (i : ℕ) → Orderly (w i)) 
       go (eqb (s i n ms u h) 0) refl (λ z. walk c (suc i) (s i n ms u h) (n ∷ ms) (next-leaf i n ms u h z) (next-before i n ms u h z) (entered (moment i) n ms u h d).0 (omega (arith, g)))
     where
       go : (b : Bool) → eqb (s i n ms u h) 0 ≡ b → (s i n ms u h ≢ 0 → (z : Next) × (next_looks look N k c (suc i) (s i n ms u h) ≡ Absent z)) → (z : Next) × (next_looks look N k (suc c) i n ≡ Absent z)
-      go true e ih = rw (pass i n ms u h, e, next_looks) (absent-or (first_above k (seen_kept (look i n) (look (suc i) (look i n).sibling))) (Absent Nothing) (Nothing, refl))
+      go true e ih = rw (pass i n ms u h, e, next_looks) (absent-or (first_above k (seen_kept (look i n) (look (suc i) (look i n).sibling))) (Absent None) (None, refl))
       go false e ih = rw (pass i n ms u h, e, next_looks) (absent-or (first_above k (seen_kept (look i n) (look (suc i) (look i n).sibling))) _ (ih (eqb-false _ 0 e)))
 
   pub walk-absent : (i n : ℕ) → WasLeaf w (moment i) n → (z : Next) × (next_looks look N k N i n ≡ Absent z)

@@ -5,7 +5,8 @@ use mathlib.Core.List.{List, ◌++◌}
 use Prim.Native.Nat.{ℕ, ◌≤◌, ◌<◌}
 use native.Mathlib.Omega.{arith}
 use lib.ListN.{length}
-use Rattle.model.specs.Table.{Words, at, header_ok, root_word}
+use Rattle.std.specs.Prelude.{Ok}
+use Rattle.model.specs.Table.{Words, at, header_ok, root_word, no_collection}
 use Rattle.model.specs.Slots.{class_ok, node_view, view_from}
 use Rattle.model.specs.Reached.{mapping, map_of}
 use Rattle.model.specs.SoundTest.{sound_view}
@@ -17,16 +18,20 @@ use Rattle.list_laws.proofs.Recordings.{class-iff}
 use Rattle.two_laws.proofs.CollectionTwo.{settled-head}
 use Rattle.two_laws.proofs.JudgedTwo.{map-later}
 use Rattle.two_laws.proofs.PartsTwo.{Plain, settled-plain, standing-reached, key-place}
-use Rattle.sound.specs.declared.Leftover.{Leftover}
+use Rattle.sound.specs.declared.Sound.{Sound}
 use Rattle.orders.specs.declared.Pen.{Pen}
-use Rattle.orders.specs.Desk.{Desk, desk, stored_all, Room}
-use Rattle.write.proofs.Judging.{Passed, ready-accepted, ready-number}
+use Rattle.orders.specs.Desk.{Desk, desk, first_pen, stored_all, Room}
+use Rattle.write.specs.Judged.{judged}
+use Rattle.write.proofs.Judging.{Passed, judged-ready, ready-accepted, ready-number}
 use Rattle.write.proofs.Ending.{Begun, begun-allows, mended-table, mended-settled, mended-collection, rest-room}
 use Rattle.write.proofs.Rooted.{root-sound, root-stands, root-key}
 
 -- ---- 14 and 9
 
-module _ {o k c words dock : ℕ} {t : Words} {x : Leftover} {n : ℕ} (p : Passed (class_change o k c) words dock t x n) {a : Bool} (q : a ≡ class_ok c) where
+module _ (o k c words dock : ℕ) (t : Words) (s : Sound) (j : judged (no_collection o t) words dock t ≡ Ok s) {a : Bool} (q : a ≡ class_ok c) where
+  abbrev p : Passed (class_change o k c) words dock t s.leftover s.reached
+  p = judged-ready (class_change o k c) words dock t s j
+
   pub class-refused : a ≡ false → refusal (class_change o k c) words dock t ≡ 14
   class-refused h = ready-number (class_change o k c) words dock t p ∙ rw (sym q ∙ h)
 
@@ -42,7 +47,7 @@ module _ {o k c words dock : ℕ} {t : Words} {x : Leftover} {n : ℕ} (p : Pass
       pub key-refused : b ≡ false → refusal (class_change o k c) words dock t ≡ 9
       key-refused h = ready-number (class_change o k c) words dock t p ∙ rw (sym q ∙ y, sym has ∙ h)
 
-      pub class-accepted : b ≡ true → refusal (class_change o k c) words dock t ≡ 0
+      class-accepted : b ≡ true → refusal (class_change o k c) words dock t ≡ 0
       class-accepted h = ready-accepted (class_change o k c) words dock t p (sym q ∙ y, ap (has_key k) (map-later o t p.found.is-sound p.collection) ∙ sym has ∙ h)
 
 -- ---- the stores: the repair, then the class in its leaf
@@ -50,9 +55,17 @@ module _ {o k c words dock : ℕ} {t : Words} {x : Leftover} {n : ℕ} (p : Pass
 abbrev pub classed : (o k c : ℕ) → Words → List Store
 classed o k c t = set_class_at t (standing o t 0 k) k c
 
-pub class-stores : (o : ℕ) (t : Words) (k c : ℕ) → stores_of (class_change o k c) t ≡ repair_stores t ++ classed o k c (repaired t)
+class-stores : (o : ℕ) (t : Words) (k c : ℕ) → stores_of (class_change o k c) t ≡ repair_stores t ++ classed o k c (repaired t)
 unfolding stores_of class_stores
 class-stores o t k c = refl
+
+-- an accepted class change, from its first pen on
+pub begun : (o k c dock : ℕ) (t lent : Words) (s : Sound) (pen : Pen) {a : Bool} {r : ℕ} {b : Bool} → judged (no_collection o t) (length lent) dock t ≡ Ok s
+    → a ≡ class_ok c → a ≡ true → r ≡ at t (root_word o) → b ≡ has_key k (mapping (view_from t r)) → b ≡ true → pen ≡ first_pen dock
+    → Begun (class_change o k c) t lent dock pen (classed o k c)
+begun o k c dock t lent s pen j q y f e h g =
+    let p = judged-ready (class_change o k c) (length lent) dock t s j in
+    record { is-sound = p.found.is-sound; accepted = class-accepted o k c (length lent) dock t s j q y f e h; first = g; stores = class-stores o t k c }
 
 -- the repair is made
 module _ {o k c dock : ℕ} {t lent : Words} {pen : Pen} (b : Begun (class_change o k c) t lent dock pen (classed o k c)) {t₁ list : Words} {at₁ : Pen}

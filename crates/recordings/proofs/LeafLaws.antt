@@ -3,8 +3,10 @@ use mathlib.Core.Path.{◌≡◌, refl, ap, sym, ◌∙◌}
 use mathlib.Core.Bool.{Bool, true, false, cond, ◌&&◌}
 use mathlib.Core.Logic.{◌≢◌}
 use mathlib.Core.List.{List, [], ◌∷◌, map, tail}
-use Prim.Native.Nat.{ℕ, zero, suc, ◌-◌}
+use Prim.Native.Nat.{ℕ, zero, suc, ◌+◌, ◌-◌, ◌≤◌}
 use native.Mathlib.Omega.{arith}
+use lib.ListN.{length, get_or, take, drop}
+use lib.Seq.{drop-cons}
 use borrow.Author.Tests.{eq-eqb, ne_eqb}
 use Rattle.model.specs.declared.Node.{Node}
 use Rattle.model.specs.Table.{Words, node, has_node}
@@ -16,12 +18,12 @@ use Rattle.node.specs.Word.{word_of}
 use Rattle.node.proofs.Answers.{node-none}
 use Rattle.node.proofs.WordLaws.{word-level, word-fence}
 use Rattle.numbers.specs.declared.Entry.{Entry}
-use Rattle.numbers.specs.declared.Entry.TheVariants.{Entered}
+use Rattle.numbers.specs.declared.Entry.TheVariants.{Entered, Known, Full}
 use Rattle.numbers.specs.Cells.{Outcome, outcome, followed, entered_if, entered_all}
-use Rattle.numbers.proofs.Once.{Last, goes-on, ends}
+use Rattle.numbers.proofs.Once.{Last, known-last, full-last, goes-on, ends}
 use Rattle.slots.specs.declared.Ways.{Ways}
 use Rattle.slots.specs.Scan.{shown_from, keeps, kept_of, is_way}
-use Rattle.slots.specs.Gathered.{span, slots_in, ways_from}
+use Rattle.slots.specs.Gathered.{span, slots_in}
 use Rattle.slots.proofs.Kept.{kept-more}
 use Rattle.bits.specs.Bits.{has}
 use Rattle.recordings.specs.Marked.{uncut, own, kept_in}
@@ -63,36 +65,48 @@ module _ (t marks : Words) (n : ℕ) where
 pub leaf-kept : (t marks : Words) (n : ℕ) (x : Node) (b : ℕ) → kept_in x (word_of t x.sibling 3) ≡ own (view t) marks n → b ≡ word_of t x.sibling 3 → kept_in x b ≡ own (view t) marks n
 leaf-kept t marks n x b e q = ap (kept_in x) q ∙ e
 
--- the ways from the second on are the kept slots
-pub ways-kept : (x : Node) (b : ℕ) (w : Ways) → slots_in w ≡ slot x.fence x.left ∷ kept_in x b → ways_from w 1 ≡ kept_in x b
-unfolding ways_from span
-ways-kept x b w is = go w.count is
-  where
-    go : (c : ℕ) → span w.keys w.pointers 0 c ≡ slot x.fence x.left ∷ kept_in x b → span w.keys w.pointers 1 (c - 1) ≡ kept_in x b
-    go zero q = ap tail q
-    go (suc c) q = let z : suc c - 1 ≡ c = omega arith in ap (span w.keys w.pointers 1) z ∙ ap tail q
+-- ---- the ways, of which the first is none of the slots
+
+numbers-taken : (ks ps : Words) (i m : ℕ) → i + m ≤ length ps → map recording_of (take m (drop i ps)) ≡ map recording (span ks ps i m)
+unfolding span
+numbers-taken ks ps i zero h = refl
+numbers-taken ks ps i (suc m) h = rw (drop-cons ps i 0 (omega arith)) (ap (λ (ns : List ℕ). recording_of (get_or ps i 0) ∷ ns) (numbers-taken ks ps (suc i) m (omega arith)))
+
+module _ (x : Node) (b : ℕ) (w : Ways) (is : slots_in w ≡ slot x.fence x.left ∷ kept_in x b) where
+  pub ways-some : 1 ≤ w.count
+  unfolding span
+  ways-some = go w.count is
+    where
+      go : (c : ℕ) → span w.keys w.pointers 0 c ≡ slot x.fence x.left ∷ kept_in x b → 1 ≤ c
+      go zero q = cc
+      go (suc c) q = omega arith
+
+  ways-rest : span w.keys w.pointers 1 (w.count - 1) ≡ kept_in x b
+  unfolding span
+  ways-rest = go w.count is
+    where
+      go : (c : ℕ) → span w.keys w.pointers 0 c ≡ slot x.fence x.left ∷ kept_in x b → span w.keys w.pointers 1 (c - 1) ≡ kept_in x b
+      go zero q = ap tail q
+      go (suc c) q = let z : suc c - 1 ≡ c = omega arith in ap (span w.keys w.pointers 1) z ∙ ap tail q
+
+  pub ways-kept : w.count ≤ length w.pointers → map recording_of (take (w.count - 1) (drop 1 w.pointers)) ≡ map recording (kept_in x b)
+  ways-kept h = let some = ways-some in numbers-taken w.keys w.pointers 1 (w.count - 1) (omega arith) ∙ ap (map recording) ways-rest
 
 -- ---- slot by slot
 
+-- an answer other than this one is the last
+pub other-last : (e : Entry) → (e ≡ Entered → ⊥) → Last e
+other-last Entered z = absurd (z refl)
+other-last Known z = known-last
+other-last Full z = full-last
+
 -- by whether it is kept
 module _ (w : Bool) where
-  pub ok-past : (p : ℕ) → w ≡ false → true ≡ cond w (pointer_ok p) true
-  ok-past p e = rw e
-
-  pub ok-kept : (p : ℕ) (r : Bool) → w ≡ true → r ≡ pointer_ok p → r ≡ cond w (pointer_ok p) true
-  ok-kept p r e q = q ∙ rw e
-
   module _ (q : ℕ → Bool) (place : ℕ → ℕ) (r : ℕ) (h : Hits) where
-    pub hit-past : w ≡ false → h ≡ cond w (hit_if q place r h) h
-    hit-past e = rw e
-
     pub hit-kept : (after : Hits) → w ≡ true → after ≡ hit_if q place r h → after ≡ cond w (hit_if q place r h) h
     hit-kept after e f = f ∙ rw e
 
   module _ (q : ℕ → Bool) (r : ℕ) (cs : Words) where
-    pub enter-past : w ≡ false → outcome Entered cs ≡ cond w (entered_if q cs r) (outcome Entered cs)
-    enter-past e = rw e
-
     pub enter-kept : (o : Outcome) → w ≡ true → o ≡ entered_if q cs r → o ≡ cond w (entered_if q cs r) (outcome Entered cs)
     enter-kept o e f = f ∙ rw e
 
@@ -152,5 +166,5 @@ module _ (s b before k p : ℕ) (ss : List Slot) (w : Bool) (e : w ≡ is_way s 
     pub enter-goes : a ≡ Entered → entered_all q (map recording (kept_of s b (shown before (slot k p ∷ ss)))) cs ≡ entered_all q (map recording (kept_of s b (shown p ss))) after
     enter-goes g = sym (goes-on (entered_all q (map recording rest)) _ (outcome a after) a after enter-more refl g)
 
-    pub enter-ends : (x : Entry) → Last x → a ≡ x → entered_all q (map recording (kept_of s b (shown before (slot k p ∷ ss)))) cs ≡ outcome x after
-    enter-ends x l g = sym (ends (entered_all q (map recording rest)) _ (outcome a after) a after enter-more refl x l g)
+    pub enter-ends : (a ≡ Entered → ⊥) → entered_all q (map recording (kept_of s b (shown before (slot k p ∷ ss)))) cs ≡ outcome a after
+    enter-ends z = sym (ends (entered_all q (map recording rest)) _ (outcome a after) a after enter-more refl a (other-last a z) refl)

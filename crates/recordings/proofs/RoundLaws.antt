@@ -1,5 +1,5 @@
 -- What is there twice stays a suspect, round by round; where no place is hit twice, nothing is there twice.
-use mathlib.Core.Path.{◌≡◌, refl, ap, sym, subst, ◌∙◌}
+use mathlib.Core.Path.{◌≡◌, refl, ap, sym, ◌∙◌}
 use mathlib.Core.Bool.{Bool, true, false, cond, not, ◌&&◌, ◌||◌, false≢true}
 use mathlib.Core.Logic.{◌≢◌, ⊎_elim}
 use mathlib.Core.List.{List, [], ◌∷◌}
@@ -17,7 +17,6 @@ use Rattle.list_laws.proofs.Members.{elem-iff}
 use Rattle.list_laws.proofs.Filters.{filter-yes, filter-no, mem-filter}
 use Rattle.list_laws.proofs.Distinct.{distinct-cons}
 use Rattle.numbers.specs.declared.Entry.{Entry}
-use Rattle.numbers.specs.declared.Entry.TheVariants.{Entered, Known}
 use Rattle.numbers.specs.Cells.{CELLS, outcome, entered_all, Tells}
 use Rattle.numbers.proofs.Once.{tells-same, all-tells}
 use Rattle.bits.specs.Bits.{has, put}
@@ -43,9 +42,9 @@ pub place-at : (k x p : ℕ) → prime_of k ≡ p → x % p ≡ place_of k x
 unfolding place_of
 place-at k x p e = rw e
 
-pub prime-last : (k : ℕ) → k ≢ 0 → k ≢ 1 → k ≢ 2 → k ≢ 3 → k ≢ 4 → prime_of k ≡ 891287
+pub prime-last : (k : ℕ) → 4 < k → prime_of k ≡ 891287
 unfolding prime_of
-prime-last k a b c d e = let z : k ≡ suc (suc (suc (suc (suc (k - 5))))) = omega arith in rw z
+prime-last k h = let z : k ≡ suc (suc (suc (suc (suc (k - 5))))) = omega arith in rw z
 
 pub suspect-first : (k : ℕ) (ws : Words) (x : ℕ) → k ≡ 0 → true ≡ suspect k ws x
 unfolding suspect
@@ -250,13 +249,3 @@ from-zero q place xs a b once twice h l m e f i =
 pub cells-tell : (p : ℕ → Bool) (xs : List ℕ) → Stays p xs → (a cells after : Words) (r : Entry) → length a ≡ CELLS → cells ≡ replicate (length a) 0 → outcome r after ≡ entered_all p xs cells → Tells r xs
 cells-tell p xs s a cells after r l e i =
     tells-same r (filter p xs) xs (stays-distinct p xs s) (all-tells p xs r after (i ∙ ap (entered_all p xs) (e ∙ ap (λ (n : ℕ). replicate n 0) l)))
-
-module _ (e : Entry) (xs : List ℕ) (t : Tells e xs) where
-  pub tells-once : e ≡ Entered → true ≡ distinct xs
-  tells-once a = sym (subst (λ (x : Entry). Tells x xs) a t)
-
-  pub tells-twice : e ≡ Known → false ≡ distinct xs
-  tells-twice a = sym (subst (λ (x : Entry). Tells x xs) a t)
-
-pub two-rounds : (k : ℕ) (ws : Words) (xs : List ℕ) → Stays (suspect (k + 1 + 1) ws) xs → Stays (suspect (k + 2) ws) xs
-two-rounds k ws xs s = let z : k + 1 + 1 ≡ k + 2 = omega arith in rw z at s

@@ -18,10 +18,11 @@ use Rattle.bits.specs.Bits.{has}
 use Rattle.numbers.specs.declared.Entry.{Entry}
 use Rattle.numbers.specs.declared.Entry.TheVariants.{Entered}
 use Rattle.numbers.specs.Cells.{outcome, followed, entered_all}
-use Rattle.numbers.proofs.Once.{all-append, Last, goes-on, ends}
+use Rattle.numbers.proofs.Once.{all-append, goes-on, ends}
 use Rattle.recordings.specs.Marked.{LastMarked, own, own_from, marked_pairs}
 use Rattle.recordings.specs.Rounds.{Hits, hit_if, hit_all}
 use Rattle.recordings.specs.Once.{once_before}
+use Rattle.recordings.proofs.LeafLaws.{other-last}
 
 -- ---- rows of numbers
 
@@ -139,8 +140,8 @@ module _ (xs ys : List Slot) where
     pub enter-next : a ≡ Entered → entered_all q (map recording (xs ++ ys)) cs ≡ entered_all q (map recording ys) after
     enter-next g = sym (goes-on (entered_all q (map recording ys)) _ (entered_all q (map recording xs) cs) a after enter-join e g)
 
-    pub enter-last : (x : Entry) → Last x → a ≡ x → entered_all q (map recording (xs ++ ys)) cs ≡ outcome x after
-    enter-last x l g = sym (ends (entered_all q (map recording ys)) _ (entered_all q (map recording xs) cs) a after enter-join e x l g)
+    pub enter-last : (a ≡ Entered → ⊥) → entered_all q (map recording (xs ++ ys)) cs ≡ outcome a after
+    enter-last z = sym (ends (entered_all q (map recording ys)) _ (entered_all q (map recording xs) cs) a after enter-join e a (other-last a z) refl)
 
   module _ (r : ℕ) (b : Bool) (e : b ≡ elem r (map recording xs)) where
     found : elem r (map recording (xs ++ ys)) ≡ (b || elem r (map recording ys))

@@ -2,14 +2,12 @@
 // are passed by number, in the order of memory.
 #![tactic(auto)]
 
-ghost use Rattle.std.specs.Prelude.{◌≡◌, true, false, cond, map, ◌+◌, ◌-◌, ◌≤◌, ◌<◌, length};
+ghost use Rattle.std.specs.Prelude.{◌≡◌, true, false, cond, map, ◌+◌, ◌-◌, ◌≤◌, ◌<◌, length, take, drop};
 ghost use Rattle.model.specs.Table.{nodes, header_ok};
 ghost use Rattle.model.specs.Slots.{recording_of, recording, view, pointer_ok};
 ghost use Rattle.model.specs.SoundTest.{all, elem, distinct, pair_ok, recordings_ok};
 ghost use Rattle.node.specs.Word.{word_of};
 ghost use Rattle.numbers.specs.Cells.{CELLS, outcome, entered_if, entered_all, Tells};
-ghost use Rattle.slots.specs.Gathered.{ways_from};
-ghost use Rattle.leaves.specs.Hits.{recordings_from};
 ghost use Rattle.recordings.specs.Marked.{MARKS, NoneOf, LastMarked, own, own_numbers, marked_pairs, marked_numbers, kept_in};
 ghost use Rattle.recordings.specs.Rounds.{PLACES, ONCE, TWICE, place_of, hits, hit, hit_if, hit_all, suspect, Stays};
 ghost use Rattle.recordings.specs.Once.{once_before};
@@ -40,14 +38,7 @@ fn leaf(table: &[u64], marks: &[u64], n: u64) -> Node
     if marks[UNCUT] == n {
         return x;
     }
-    let slots = x.slots;
-    Node {
-        left: x.left,
-        sibling: 0,
-        level: 0,
-        fence: x.fence,
-        slots: slots,
-    }
+    Node { sibling: 0, ..x }
 }
 
 // So many numbers from m down, at least, are not marked: those of its word if that is 0.
@@ -73,49 +64,43 @@ fn last_marked(table: &[u64], marks: &[u64]) -> u64
     ensures { LastMarked (nodes table.now) marks.now result }
 {
     let mut m = leaves::word_at(table, 2);
+    // No range: unmarked gives each step.
     while 0 < m {
         let skip = unmarked(marks, m as usize) as u64;
         if skip == 0 {
             return m;
         }
-        if m < skip {
-            return 0;
-        }
-        m -= skip;
+        m = m.saturating_sub(skip);
     }
     0
 }
 
 // ---- each pair in range
 
+// Walks over slots and nodes are loops, here and below, and no function with a closure: of one that writes to what it captures a proof knows nothing.
+
 // Whether a slot, if it is kept, has a recording number and a class that there are.
 fn slot_ok(kept: bool, pointer: u64) -> bool
     ensures { result ≡ cond kept (pointer_ok pointer) true }
 {
-    if !kept {
-        return true;
-    }
-    pointer::ok(pointer)
+    !kept || pointer::ok(pointer)
 }
 
 // Whether each kept slot of a leaf has.
 fn leaf_ok(x: Node, bound: u64) -> bool
     ensures { result ≡ all pair_ok (kept_in x bound) }
 {
-    let slots = x.slots;
     let mut before = x.left;
-    let mut i = 0;
-    while i < 12 {
-        let p = slots[2 * i + 1];
+    for i in 0..12 {
+        let p = x.slots[2 * i + 1];
         if p == 0 {
             return true;
         }
-        let kept = slots::is_way(x.sibling, bound, before, slots[2 * i], p);
+        let kept = slots::is_way(x.sibling, bound, before, x.slots[2 * i], p);
         if !slot_ok(kept, p) {
             return false;
         }
         before = p;
-        i += 1;
     }
     true
 }
@@ -127,14 +112,12 @@ fn pairs_ok(table: &[u64], marks: &[u64]) -> bool
     ensures { result ≡ all pair_ok (marked_pairs (view table.now) marks.now) }
 {
     let last = last_marked(table, marks);
-    let mut n = 1;
-    while n <= last {
+    for n in 1..last + 1 {
         let x = leaf(table, marks, n);
         let bound = node::word(table, x.sibling, 3);
         if !leaf_ok(x, bound) {
             return false;
         }
-        n += 1;
     }
     true
 }
@@ -154,22 +137,15 @@ fn place(round: u64, number: u64) -> usize
     ensures value { result ≡ place_of round number }
     ensures upper_bound { result < PLACES }
 {
-    if round == 0 {
-        return (number % 1048573) as usize;
-    }
-    if round == 1 {
-        return (number % 906973) as usize;
-    }
-    if round == 2 {
-        return (number % 975157) as usize;
-    }
-    if round == 3 {
-        return (number % 1011827) as usize;
-    }
-    if round == 4 {
-        return (number % 938459) as usize;
-    }
-    (number % 891287) as usize
+    let at = match round {
+        0 => number % 1048573,
+        1 => number % 906973,
+        2 => number % 975157,
+        3 => number % 1011827,
+        4 => number % 938459,
+        _ => number % 891287,
+    };
+    at as usize
 }
 
 // Whether a number is a suspect in a round, by the pairs of places of which one was hit twice in the round before.
@@ -177,11 +153,7 @@ fn is_suspect(twice: &[u64], round: u64, number: u64) -> bool
     requires { length twice.now ≡ TWICE }
     ensures { result ≡ suspect round twice.now number }
 {
-    if round == 0 {
-        return true;
-    }
-    let at = place(round - 1, number);
-    bits::has(twice, at / 2)
+    round == 0 || bits::has(twice, place(round - 1, number) / 2)
 }
 
 // Hits a place: its first hit is marked, at a later one its pair. Whether any was hit twice, this one or one before.
@@ -235,7 +207,7 @@ fn hit_leaf(
     round: u64,
     x: Node,
     bound: u64,
-    crowded: bool,
+    mut crowded: bool,
 ) -> bool
     requires olds_len { length olds.now ≡ TWICE }
     requires once_len { length once.old ≡ ONCE }
@@ -244,21 +216,17 @@ fn hit_leaf(
         ≡ hit_all (suspect round olds.now) (place_of round) (map recording (kept_in x bound))
         (hits once.old twice.old crowded) }
 {
-    let slots = x.slots;
-    let mut crowd = crowded;
     let mut before = x.left;
-    let mut i = 0;
-    while i < 12 {
-        let p = slots[2 * i + 1];
+    for i in 0..12 {
+        let p = x.slots[2 * i + 1];
         if p == 0 {
-            return crowd;
+            return crowded;
         }
-        let kept = slots::is_way(x.sibling, bound, before, slots[2 * i], p);
-        crowd = hit_slot(olds, once, twice, round, kept, p, crowd);
+        let kept = slots::is_way(x.sibling, bound, before, x.slots[2 * i], p);
+        crowded = hit_slot(olds, once, twice, round, kept, p, crowded);
         before = p;
-        i += 1;
     }
-    crowd
+    crowded
 }
 
 // Hits the places of all suspects; whether any was hit twice.
@@ -281,12 +249,10 @@ fn hit_leaves(
 {
     let last = last_marked(table, marks);
     let mut crowded = false;
-    let mut n = 1;
-    while n <= last {
+    for n in 1..last + 1 {
         let x = leaf(table, marks, n);
         let bound = node::word(table, x.sibling, 3);
         crowded = hit_leaf(olds, once, twice, round, x, bound, crowded);
-        n += 1;
     }
     crowded
 }
@@ -317,23 +283,18 @@ fn enter_leaf(cells: &mut [u64], twice: &[u64], round: u64, x: Node, bound: u64)
     ensures { outcome result cells.new
         ≡ entered_all (suspect round twice.now) (map recording (kept_in x bound)) cells.old }
 {
-    let slots = x.slots;
     let mut before = x.left;
-    let mut i = 0;
-    while i < 12 {
-        let p = slots[2 * i + 1];
+    for i in 0..12 {
+        let p = x.slots[2 * i + 1];
         if p == 0 {
             return Entry::Entered;
         }
-        let kept = slots::is_way(x.sibling, bound, before, slots[2 * i], p);
-        let entry = enter_slot(cells, twice, round, kept, p);
-        match entry {
+        let kept = slots::is_way(x.sibling, bound, before, x.slots[2 * i], p);
+        match enter_slot(cells, twice, round, kept, p) {
             Entry::Entered => {}
-            Entry::Known => return Entry::Known,
-            Entry::Full => return Entry::Full,
+            last => return last,
         }
         before = p;
-        i += 1;
     }
     Entry::Entered
 }
@@ -348,17 +309,13 @@ fn enter_leaves(cells: &mut [u64], twice: &[u64], table: &[u64], marks: &[u64], 
         ≡ entered_all (suspect round twice.now) (marked_numbers (view table.now) marks.now) cells.old }
 {
     let last = last_marked(table, marks);
-    let mut n = 1;
-    while n <= last {
+    for n in 1..last + 1 {
         let x = leaf(table, marks, n);
         let bound = node::word(table, x.sibling, 3);
-        let entry = enter_leaf(cells, twice, round, x, bound);
-        match entry {
+        match enter_leaf(cells, twice, round, x, bound) {
             Entry::Entered => {}
-            Entry::Known => return Entry::Known,
-            Entry::Full => return Entry::Full,
+            last => return last,
         }
-        n += 1;
     }
     Entry::Entered
 }
@@ -369,29 +326,20 @@ fn enter_leaves(cells: &mut [u64], twice: &[u64], table: &[u64], marks: &[u64], 
 fn ways(table: &[u64], marks: &[u64], n: u64) -> Ways
     requires marks_len { length marks.now ≡ MARKS }
     requires n_bound { n ≤ 65535 }
-    ensures result_value { ways_from result 1 ≡ own (view table.now) marks.now n }
-    ensures count_bound { result.count ≤ 13 }
+    ensures numbers { map recording_of (take (result.count - 1) (drop 1 result.pointers)) ≡ map recording (own (view table.now) marks.now n) }
+    ensures count_low { 1 ≤ result.count }
+    ensures count_high { result.count ≤ 13 }
 {
     let x = leaf(table, marks, n);
     let bound = node::word(table, x.sibling, 3);
     slots::gather(x, bound)
 }
 
-// Whether one of the ways from i on has this recording number.
-fn repeats(w: Ways, i: usize, recording: u64) -> bool
-    requires { w.count ≤ 13 }
-    ensures { result ≡ elem recording (recordings_from w i) }
+// Whether one of these pointers has this recording number.
+fn repeats(pointers: &[u64], recording: u64) -> bool
+    ensures { result ≡ elem recording (map recording_of pointers.now) }
 {
-    let count = w.count;
-    let pointers = w.pointers;
-    let mut j = i;
-    while j < count {
-        if pointer::recording(pointers[j]) == recording {
-            return true;
-        }
-        j += 1;
-    }
-    false
+    pointers.iter().any(|&p| pointer::recording(p) == recording)
 }
 
 // Whether a recording number is in a leaf from node first on.
@@ -402,37 +350,30 @@ fn appears(table: &[u64], marks: &[u64], first: u64, recording: u64) -> bool
         ≡ elem recording (own_numbers (view table.now) marks.now first (nodes table.now + 1 - first)) }
 {
     let last = leaves::word_at(table, 2);
-    let mut n = first;
-    while n <= last {
+    for n in first..last + 1 {
         let w = ways(table, marks, n);
-        if repeats(w, 1, recording) {
+        if repeats(&w.pointers[1..w.count], recording) {
             return true;
         }
-        n += 1;
     }
     false
 }
 
-// Whether no recording number of a leaf, its first way left aside, comes again in it or in the leaves from the next node on.
-fn leaf_once(table: &[u64], marks: &[u64], w: Ways, next: u64) -> bool
+// Whether no recording number of a leaf's pointers comes again in it or in the leaves from the next node on.
+fn leaf_once(table: &[u64], marks: &[u64], pointers: &[u64], next: u64) -> bool
     requires table_value { header_ok table.now ≡ true }
     requires marks_len { length marks.now ≡ MARKS }
-    requires count_bound { w.count ≤ 13 }
-    ensures { result ≡ once_before (recordings_from w 1)
+    ensures { result ≡ once_before (map recording_of pointers.now)
         (own_numbers (view table.now) marks.now next (nodes table.now + 1 - next)) }
 {
-    let count = w.count;
-    let pointers = w.pointers;
-    let mut i = 1;
-    while i < count {
-        let number = pointer::recording(pointers[i]);
-        if repeats(w, i + 1, number) {
+    for (i, &p) in pointers.iter().enumerate() {
+        let number = pointer::recording(p);
+        if repeats(&pointers[i + 1..], number) {
             return false;
         }
         if appears(table, marks, next, number) {
             return false;
         }
-        i += 1;
     }
     true
 }
@@ -444,13 +385,11 @@ fn compared_once(table: &[u64], marks: &[u64]) -> bool
     ensures { result ≡ distinct (marked_numbers (view table.now) marks.now) }
 {
     let last = leaves::word_at(table, 2);
-    let mut n = 1;
-    while n <= last {
+    for n in 1..last + 1 {
         let w = ways(table, marks, n);
-        if !leaf_once(table, marks, w, n + 1) {
+        if !leaf_once(table, marks, &w.pointers[1..w.count], n + 1) {
             return false;
         }
-        n += 1;
     }
     true
 }
@@ -495,21 +434,14 @@ fn once(table: &[u64], marks: &[u64]) -> bool
     let mut places = [0u64; ONCE];
     let mut even = [0u64; TWICE];
     let mut odd = [0u64; TWICE];
-    let mut round = 0;
-    while round < ROUNDS {
-        let first = step(&odd, &mut places, &mut even, table, marks, round);
-        match first {
+    let mut olds = &mut odd;
+    let mut twice = &mut even;
+    for round in 0..ROUNDS {
+        match step(olds, &mut places, twice, table, marks, round) {
             Entry::Entered => return true,
             Entry::Known => return false,
-            Entry::Full => {}
+            Entry::Full => std::mem::swap(&mut olds, &mut twice),
         }
-        let second = step(&even, &mut places, &mut odd, table, marks, round + 1);
-        match second {
-            Entry::Entered => return true,
-            Entry::Known => return false,
-            Entry::Full => {}
-        }
-        round += 2;
     }
     compared_once(table, marks)
 }

@@ -5,8 +5,8 @@ ghost use Rattle.std.specs.Prelude.{◌≡◌, length};
 ghost use Rattle.model.specs.Writes.{repair};
 ghost use Rattle.model.specs.Refusals.{written, table_after, list_after};
 
-use model::Written;
-use write::Judged;
+use model::{Counts, Written};
+use sound::Sound;
 
 // Finishes what a cut left unfinished.
 pub fn repair(table: &mut [u64], list: &mut [u64], dock: u64) -> Written
@@ -14,17 +14,12 @@ pub fn repair(table: &mut [u64], list: &mut [u64], dock: u64) -> Written
     ensures table_after { table.new ≡ table_after repair (length list.old) dock table.old }
     ensures list_after { list.new ≡ list_after repair list.old dock table.old }
 {
-    let judgement = write::judge_any(table, list.len(), dock);
-    match judgement {
-        Judged::Refused(n) => Written::Refused(n),
-        Judged::Ready { left, reached: _ } => {
-            let mended = write::mend(table, list, write::begin(dock), left);
-            let done = orders::finish(list, mended);
-            Written::Done {
-                stores: done.stores,
-                flushes: done.flushes,
-                barriers: done.barriers,
-            }
-        }
-    }
+    let Sound { leftover, .. } = write::judge_any(table, list.len(), dock)?;
+    let mended = write::mend(table, list, write::begin(dock), leftover);
+    let done = orders::finish(list, mended);
+    Ok(Counts {
+        stores: done.stores,
+        flushes: done.flushes,
+        barriers: done.barriers,
+    })
 }

@@ -1,5 +1,5 @@
 -- The whole second slice, and the call.
-use mathlib.Core.Path.{◌≡◌, ap, sym, ◌∙◌}
+use mathlib.Core.Path.{◌≡◌, refl, ap, sym, ◌∙◌}
 use mathlib.Core.Bool.{true, false}
 use mathlib.Core.Logic.{◌≢◌}
 use mathlib.Core.List.{◌++◌}
@@ -7,10 +7,15 @@ use Prim.Native.Nat.{ℕ, zero, suc, ◌+◌, ◌-◌, ◌*◌, ◌≤◌, ◌<�
 use native.Mathlib.Omega.{arith}
 use lib.ListN.{length, take, drop, replicate, length-replicate}
 use borrow.Author.Tests.{eq-eqb, ne_eqb, lt-ltb, le-ltb}
-use Rattle.model.specs.declared.Salvaged.TheVariants.{Dropped, Refused}
+use Rattle.std.specs.Prelude.{Ok, Err}
+use Rattle.model.specs.declared.Refusal.{Refusal}
+use Rattle.model.specs.declared.Refusal.TheVariants.{NoNodes, OtherLength, ShortReport}
+use Rattle.model.specs.Numbers.{refusal_number}
+use Rattle.model.specs.Results.{Outcome, Salvaged, refused_with, passed}
 use Rattle.model.specs.Table.{Words, header_ok, header_number, nodes}
 use Rattle.model.specs.Packing.{packed_count, packed_table}
 use Rattle.model.specs.Salvage.{kept_maps, dropped_all, drop_words, outgrows, salvage_number, salvage, salvage_out, salvage_report}
+use Rattle.model.proofs.Numbers.{refused-by, passed-zero}
 use Rattle.table_laws.proofs.Header.{header-iff, header-number-iff, header-number-refused}
 use Rattle.packing.specs.Parts.{header_words, second_root, packed_nodes}
 use Rattle.packing.proofs.Call.{nodes-long, put-back, put-table}
@@ -41,44 +46,50 @@ module _ (t out report : Words) where
   abbrev num : ℕ
   num = salvage_number t (length out) (length report)
 
-  abbrev Refuses : ℕ → Type 0
-  Refuses k = (Refused k ≡ salvage t (length out) (length report)) × ((out ≡ salvage_out t out (length report)) × (report ≡ salvage_report t (length out) report))
+  abbrev Answers : Salvaged → Type 0
+  Answers r = (r ≡ salvage t (length out) (length report)) × ((out ≡ salvage_out t out (length report)) × (report ≡ salvage_report t (length out) report))
 
-  refuses : (k : ℕ) → num ≡ suc k → Refuses (suc k)
+  refuses : (k : ℕ) → num ≡ k → k ≢ 0 → Answers (refused_with k)
   unfolding salvage salvage_out salvage_report
-  refuses k e = (rw e, (rw e, rw e))
+  refuses zero e z = absurd (z refl)
+  refuses (suc k) e z = (rw e, (rw e, rw e))
 
-  pub refused-header : header_ok t ≡ false → Refuses 2
-  refused-header e = refuses 1 (unfold salvage_number in rw e)
+  refuses-by : (r : Refusal) → num ≡ refusal_number r → refusal_number r ≢ 0 → Answers (Err r)
+  refuses-by r e z = let all = refuses (refusal_number r) e z in (sym (refused-by r) ∙ all.0, all.1)
+
+  pub refused-header : header_number t ≢ 0 → Answers (refused_with (header_number t))
+  unfolding header_number salvage_number
+  refused-header z = let h : header_ok t ≡ false = header-number-refused t z in refuses (header_number t) (rw h) z
 
   module _ (h : header_ok t ≡ true) where
-    pub refused-length : length out ≢ length t → Refuses 15
-    refused-length d = refuses 14 (unfold salvage_number in rw (h, ne_eqb (length out) (length t) d))
+    pub refused-length : length out ≢ length t → Answers (Err OtherLength)
+    unfolding salvage_number
+    refused-length d = refuses-by OtherLength (rw (h, ne_eqb (length out) (length t) d)) (λ w. omega arith)
 
     module _ (l : length out ≡ length t) where
-      pub refused-report : length report < 36 * nodes t → Refuses 16
-      refused-report d = refuses 15 (unfold salvage_number in rw (h, eq-eqb (length out) (length t) l, lt-ltb (length report) (36 * nodes t) d))
+      pub refused-report : length report < 36 * nodes t → Answers (Err ShortReport)
+      unfolding salvage_number
+      refused-report d = refuses-by ShortReport (rw (h, eq-eqb (length out) (length t) l, lt-ltb (length report) (36 * nodes t) d)) (λ w. omega arith)
 
       module _ (r : 36 * nodes t ≤ length report) where
-        pub refused-outgrown : outgrows t ≡ true → Refuses 10
-        refused-outgrown o = refuses 9 (unfold salvage_number in rw (h, eq-eqb (length out) (length t) l, le-ltb (length report) (36 * nodes t) r, o))
+        pub refused-outgrown : outgrows t ≡ true → Answers (Err NoNodes)
+        unfolding salvage_number
+        refused-outgrown o =
+            refuses-by NoNodes (rw (h, eq-eqb (length out) (length t) l, le-ltb (length report) (36 * nodes t) r, o)) (λ w. omega arith)
 
         accepted : outgrows t ≡ false → num ≡ 0
         unfolding salvage_number
         accepted o = rw (h, eq-eqb (length out) (length t) l, le-ltb (length report) (36 * nodes t) r, o)
 
         pub salvaged : outgrows t ≡ false → (d : ℕ) (o' r' : Words) → o' ≡ packed_table (nodes t) (kept_maps t) → Reported report r' (dropped_all t) d
-            → (Dropped d ≡ salvage t (length out) (length report)) × ((o' ≡ salvage_out t out (length report)) × (r' ≡ salvage_report t (length out) report))
+            → (Ok d ≡ salvage t (length out) (length report)) × ((o' ≡ salvage_out t out (length report)) × (r' ≡ salvage_report t (length out) report))
         unfolding salvage salvage_out salvage_report
         salvaged o d o' r' a b = let e = accepted o in (rw (e, b.0), (rw e a, rw e (b.1 ∙ ap (λ (i : ℕ). drop_words (dropped_all t) ++ drop (3 * i) report) b.0)))
 
--- ---- the header test
+-- ---- the header test, and the order slice
 
-pub header-good : (t : Words) (n : ℕ) → n ≡ header_number t → n ≡ 0 → header_ok t ≡ true
-header-good t n e z = (header-number-iff t).0 (sym e ∙ z)
-
-pub header-bad : (t : Words) (n : ℕ) → n ≡ header_number t → n ≢ 0 → header_ok t ≡ false
-header-bad t n e z = header-number-refused t (λ q. z (e ∙ q))
+pub header-good : (t : Words) {r : Outcome} {x : Unit {0}} → r ≡ passed (header_number t) → r ≡ Ok x → header_ok t ≡ true
+header-good t e w = (header-number-iff t).0 (passed-zero (header_number t) (sym e ∙ w))
 
 pub order-long : length (replicate 65536 zero) ≡ 65536
 order-long = length-replicate {A = ℕ} 65536 0

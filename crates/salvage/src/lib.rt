@@ -10,7 +10,8 @@ ghost use Rattle.pack.specs.Rows.{packed_after};
 ghost use Rattle.packing.specs.Parts.{second_root, packed_nodes};
 ghost use Rattle.salvage.specs.Parts.{Toured, needed_both, Most, Fits, Reported};
 
-use model::Salvaged;
+use model::{Refusal, Salvaged};
+use packing::Both;
 
 // How many nodes were entered: for collection 1, and in all.
 #[derive(Clone, Copy)]
@@ -24,6 +25,7 @@ fn enter_nodes(table: &[u64], top: u64, order: &mut [u16]) -> Counts
     requires { (header_ok table.now ≡ true) × (top ≡ nodes table.now) × (length order.old ≡ 65536) }
     ensures { Toured table.now top order.new result.first result.all }
 {
+    // A set of numbers as bits, and a stack in two arrays: memory is fixed, there is no heap.
     let mut marks = [0u64; 1024];
     let mut stack = [0u16; 65536];
     let mut ways = [0u8; 65536];
@@ -33,48 +35,40 @@ fn enter_nodes(table: &[u64], top: u64, order: &mut [u16]) -> Counts
     let all = tour::tour(
         table, top, table[3], &mut marks, &mut stack, &mut ways, order, first,
     );
-    Counts {
-        first: first,
-        all: all,
-    }
+    Counts { first, all }
 }
 
 // ---- whether the packing fits
 
 // How many nodes so many pairs of each collection need; without collection 2 none for it.
-fn needed_both(table: &[u64], one: usize, two: usize) -> usize
-    requires { (8 ≤ length table.now) × (one ≤ 16777216) × (two ≤ 16777216) }
-    ensures { result ≡ needed_both table.now one two }
+fn needed_both(table: &[u64], pairs: Both<usize>) -> usize
+    requires { (8 ≤ length table.now) × (pairs.one ≤ 16777216) × (pairs.two ≤ 16777216) }
+    ensures { result ≡ needed_both table.now pairs.one pairs.two }
 {
-    let first = pack::needed(one);
+    let first = pack::needed(pairs.one);
     if table[3] == 0 {
         return first;
     }
-    first + pack::needed(two)
-}
-
-// Numbers of pairs, for each collection.
-#[derive(Clone, Copy)]
-struct Pairs {
-    one: usize,
-    two: usize,
+    first + pack::needed(pairs.two)
 }
 
 // At least as many as the pairs kept, and too many for the table only if these are: the slots in use, if their packing fits; else the
 // pairs kept, which takes far longer to know.
-fn most_kept(table: &[u64], top: u64, order: &[u16], first: usize, all: usize) -> Pairs
-    requires { Toured table.now top order.now first all }
+fn most_kept(table: &[u64], top: u64, order: &[u16], counts: Counts) -> Both<usize>
+    requires { Toured table.now top order.now counts.first counts.all }
     ensures most { Most table.now result.one result.two }
     ensures two_value { ltb top (needed_both table.now result.one result.two) ≡ outgrows table.now }
 {
+    let Counts { first, all } = counts;
     let one = keeping::count_used(table, &order[..first]);
     let two = keeping::count_used(table, &order[first..all]);
-    if needed_both(table, one, two) <= top as usize {
-        return Pairs { one: one, two: two };
+    let used = Both { one, two };
+    if needed_both(table, used) <= top as usize {
+        return used;
     }
     let least = keeping::count_kept(table, top, &order[..first]);
     let other = keeping::count_kept(table, top, &order[first..all]);
-    Pairs {
+    Both {
         one: least,
         two: other,
     }
@@ -82,10 +76,10 @@ fn most_kept(table: &[u64], top: u64, order: &[u16], first: usize, all: usize) -
 
 // ---- the new table
 
-// What a collection's nodes come to: the root's number, and how many slots were dropped.
+// What the nodes filled come to: the root's number, or both, and how many slots were dropped.
 #[derive(Clone, Copy)]
-struct Filled {
-    root: usize,
+struct Filled<R> {
+    root: R,
     dropped: usize,
 }
 
@@ -98,7 +92,7 @@ fn fill(
     before: usize,
     bound: usize,
     report: &mut [u64],
-) -> Filled
+) -> Filled<usize>
     requires { (top ≡ nodes table.now) × Fits table.now order.now words.old before bound report.old }
     ensures words_after { (words.new ≡ packed_after before top words.old (gathered_along table.now order.now).kept)
         × (result.root ≡ before + packed_count (gathered_along table.now order.now).kept) }
@@ -107,64 +101,58 @@ fn fill(
 {
     let w = 32 * before;
     let t = gather::gather(table, top, order, &mut words[w..], bound, report);
-    let kept = t.kept;
-    let dropped = t.dropped;
-    let root = pack::pack(words, before, kept, top as usize);
+    let root = pack::pack(words, before, t.kept, top as usize);
     Filled {
-        root: root,
-        dropped: dropped,
+        root,
+        dropped: t.dropped,
     }
 }
 
-// The roots' numbers, 0 for no second one, and how many slots were dropped.
-#[derive(Clone, Copy)]
-struct Rebuilt {
-    one: usize,
-    two: usize,
-    dropped: usize,
-}
-
-// The nodes of the new table, and the report, if at most so many pairs are kept of each collection.
+// The nodes of the new table, and the report, if at most so many pairs are kept of each collection. The second root is 0 where there is none.
 fn fill_both(
     table: &[u64],
     top: u64,
     order: &[u16],
-    first: usize,
-    all: usize,
+    counts: Counts,
     words: &mut [u64],
-    bounds: Pairs,
+    bounds: Both<usize>,
     report: &mut [u64],
-) -> Rebuilt
-    requires { Toured table.now top order.now first all × Most table.now bounds.one bounds.two
+) -> Filled<Both<usize>>
+    requires { Toured table.now top order.now counts.first counts.all × Most table.now bounds.one bounds.two
         × (needed_both table.now bounds.one bounds.two ≤ top) × (length words.old ≡ 32 * top) × (36 * top ≤ length report.old) }
     ensures words_after { words.new ≡ packed_nodes top (kept_maps table.now) }
-    ensures one_value { (result.one ≡ packed_count (kept_maps table.now).one) × (result.two ≡ second_root (kept_maps table.now)) }
+    ensures one_value { (result.root.one ≡ packed_count (kept_maps table.now).one) × (result.root.two ≡ second_root (kept_maps table.now)) }
     ensures reported { Reported report.old report.new (dropped_all table.now) result.dropped }
 {
+    let Counts { first, all } = counts;
     let f = fill(table, top, &order[..first], words, 0, bounds.one, report);
-    let root = f.root;
-    let dropped = f.dropped;
     if table[3] == 0 {
-        return Rebuilt {
-            one: root,
+        let root = Both {
+            one: f.root,
             two: 0,
-            dropped: dropped,
+        };
+        return Filled {
+            root,
+            dropped: f.dropped,
         };
     }
-    let w = 3 * dropped;
+    let w = 3 * f.dropped;
     let g = fill(
         table,
         top,
         &order[first..all],
         words,
-        root,
+        f.root,
         bounds.two,
         &mut report[w..],
     );
-    Rebuilt {
-        one: root,
+    let root = Both {
+        one: f.root,
         two: g.root,
-        dropped: dropped + g.dropped,
+    };
+    Filled {
+        root,
+        dropped: f.dropped + g.dropped,
     }
 }
 
@@ -173,23 +161,19 @@ fn rebuild(
     table: &[u64],
     top: u64,
     order: &[u16],
-    first: usize,
-    all: usize,
+    counts: Counts,
     out: &mut [u64],
-    bounds: Pairs,
+    bounds: Both<usize>,
     report: &mut [u64],
 ) -> usize
-    requires { Toured table.now top order.now first all × Most table.now bounds.one bounds.two
+    requires { Toured table.now top order.now counts.first counts.all × Most table.now bounds.one bounds.two
         × (needed_both table.now bounds.one bounds.two ≤ top) × (length out.old ≡ length table.now) × (36 * top ≤ length report.old) }
     ensures out_after { out.new ≡ packed_table (nodes table.now) (kept_maps table.now) }
     ensures reported { Reported report.old report.new (dropped_all table.now) result }
 {
-    let f = fill_both(table, top, order, first, all, &mut out[8..], bounds, report);
-    let one = f.one;
-    let two = f.two;
-    let dropped = f.dropped;
-    packing::put_header(out, one as u64, two as u64, top);
-    dropped
+    let f = fill_both(table, top, order, counts, &mut out[8..], bounds, report);
+    packing::put_header(out, f.root.one as u64, f.root.two as u64, top);
+    f.dropped
 }
 
 // ---- the call
@@ -201,24 +185,21 @@ pub fn salvage(table: &[u64], out: &mut [u64], report: &mut [u64]) -> Salvaged
     ensures out_after { out.new ≡ salvage_out table.now out.old (length report.old) }
     ensures report_after { report.new ≡ salvage_report table.now (length out.old) report.old }
 {
-    if node::header(table) != 0 {
-        return Salvaged::Refused(2);
-    }
+    node::header(table)?;
     if out.len() != table.len() {
-        return Salvaged::Refused(15);
+        return Err(Refusal::OtherLength);
     }
     let top = table[2];
     if report.len() < 36 * top as usize {
-        return Salvaged::Refused(16);
+        return Err(Refusal::ShortReport);
     }
+    // Room for every node that a table can have: memory is fixed, there is no heap.
     let mut order = [0u16; 65536];
     let counts = enter_nodes(table, top, &mut order);
-    let first = counts.first;
-    let all = counts.all;
-    let bounds = most_kept(table, top, &order, first, all);
-    if (top as usize) < needed_both(table, bounds.one, bounds.two) {
-        return Salvaged::Refused(10);
+    let bounds = most_kept(table, top, &order, counts);
+    if (top as usize) < needed_both(table, bounds) {
+        return Err(Refusal::NoNodes);
     }
-    let dropped = rebuild(table, top, &order, first, all, out, bounds, report);
-    Salvaged::Dropped(dropped as u64)
+    let dropped = rebuild(table, top, &order, counts, out, bounds, report);
+    Ok(dropped as u64)
 }

@@ -1,26 +1,32 @@
 -- What is printed from the answer and the list is document 01's text of the request; so the calls over all pieces print the printer's bytes.
 use mathlib.Core.Path.{◌≡◌, refl, sym, ap, ◌∙◌}
 use mathlib.Core.Bool.{Bool, true, false}
+use mathlib.Core.Logic.{inl, inr}
 use mathlib.Core.List.{List, [], ◌∷◌, ◌++◌, append-nil, append_assoc}
 use Prim.Native.Nat.{ℕ, zero, suc, ◌+◌, ◌≤◌, ◌<◌}
 use native.Mathlib.Omega.{arith}
 use lib.Dec.{eqb}
 use lib.ListN.{length, take, drop, take-append-drop, drop_of_length-le}
 use lib.Seq.{drop-drop}
-use Rattle.model.specs.declared.Written.{Written}
-use Rattle.model.specs.declared.Written.TheVariants as written_as
+use Rattle.std.specs.Prelude.{Some, None, Ok, Err}
+use Rattle.model.specs.declared.Refusal.{Refusal}
+use Rattle.model.specs.Numbers.{refusal_number, refusal_of}
+use Rattle.model.specs.Results.{Written}
 use Rattle.model.specs.Table.{Words}
 use Rattle.model.specs.Orders.{Order, store_count, flush_count, decode, list_with}
 use Rattle.model.specs.Writes.{Call, insertion, deletion, stores_of}
 use Rattle.model.specs.Refusals.{refusal, unless_refused, orders_of, written, table_after, list_after}
-use Rattle.model.specs.Printer.{Bytes, orders_text, Desk, Reply, reply, do_call, first_desk, printer}
+use Rattle.model.specs.Printer.{Bytes, orders_text, refused_line, Desk, Reply, reply, do_call, first_desk, printer}
 use Rattle.script_bytes.specs.declared.Request.{Request}
-use Rattle.script_bytes.specs.declared.Request.TheVariants.{Insertion, Deletion, Refused}
+use Rattle.script_bytes.specs.declared.Request.TheVariants.{Insertion, Deletion}
 use Rattle.script_bytes.specs.declared.LineState.{LineState}
-use Rattle.script_bytes.specs.Line.{begin, line_in, request, begun}
+use Rattle.script_bytes.specs.Line.{Asked, begin, line_in, request, begun}
 use Rattle.script_bytes.specs.declared.LineRead.{LineRead}
-use Rattle.script_bytes.specs.Text.{Begins, order_lines, done_line, spoken}
+use Rattle.script_bytes.specs.Text.{Put, Begins, order_lines, done_line, spoken}
 use Rattle.script_bytes.specs.Input.{Reading, reading, read_byte, read_bytes, do_request, print_on, read_pieces, joined, line_done, finished}
+use Rattle.model.proofs.Numbers.{Numbered, refusal-numbered}
+use Rattle.script_bytes.proofs.Decimal.{refused-most}
+use Rattle.script_bytes.proofs.Text.{put-begins}
 use Rattle.script_bytes.proofs.Input.{bytes-append, line-done, line-used, printer-read}
 use Rattle.cut_laws.proofs.Applying.{counts-length}
 use Rattle.cut_laws.proofs.Lent.{list-read-back}
@@ -51,7 +57,8 @@ call-list x d = unless-of (λ (r : Reply). r.desk.list) (refusal x (length d.lis
 -- what carrying request q out leaves and answers
 abbrev pub Acted : Request → (t lent : Words) → Written → (t' lent' : Words) → Type 0
 Acted q t lent a t' lent' =
-    (a ≡ answer_to q (desk_of t lent)) × ((t' ≡ (do_request q (desk_of t lent)).desk.table) × (lent' ≡ (do_request q (desk_of t lent)).desk.list))
+    let r = do_request (Ok (Some q)) (desk_of t lent) in
+    (a ≡ answer_to q (desk_of t lent)) × ((t' ≡ r.desk.table) × (lent' ≡ r.desk.list))
 
 abbrev Called : Call → (t lent : Words) → Written → (t' lent' : Words) → Type 0
 Called x t lent a t' lent' =
@@ -64,10 +71,6 @@ acted-insertion q t lent k r e a t' lent' h = rw (e, call-table, call-list) h
 pub acted-deletion : (q : Request) (t lent : Words) (k : ℕ) → q ≡ Deletion k → (a : Written) (t' lent' : Words) → Called (deletion 1 k) t lent a t' lent' → Acted q t lent a t' lent'
 unfolding answer_to do_request
 acted-deletion q t lent k e a t' lent' h = rw (e, call-table, call-list) h
-
-pub acted-refused : (q : Request) (t lent : Words) (n : ℕ) → q ≡ Refused n → Acted q t lent (written_as.Refused n) t lent
-unfolding answer_to do_request
-acted-refused q t lent n e = rw e (refl, (refl, refl))
 
 -- ---- what is printed
 
@@ -84,24 +87,44 @@ call-read x lent t e =
     let counted : store_count (orders_of x 0 t) + flush_count (orders_of x 0 t) ≡ length (orders_of x 0 t) = omega (arith, counts-length (orders_of x 0 t), no-barriers x t) in
     rw counted (list-read-back 0 (stores_of x t) lent t u.header (accepted-steps x (length lent) 0 t u.sound e).stores-inside)
 
+-- a number that refuses is a refusal's
+numbered-more : (m n : ℕ) → m ≡ suc n → Numbered m → refusal_number (refusal_of (suc n)) ≡ suc n
+numbered-more m n e (inl z) = absurd (omega arith)
+numbered-more m n e (inr h) = ap (λ (k : ℕ). refusal_number (refusal_of k)) (sym e) ∙ h ∙ e
+
 call-spoken : (x : Call) (d : Desk) (n : ℕ) → refusal x (length d.list) 0 d.table ≡ n → spoken (answer_of x d) (list_after x d.list 0 d.table) ≡ (do_call x d).bytes
 unfolding spoken written list_after do_call
 call-spoken x d zero e = rw (e, call-read x d.list d.table e) (lines-text (orders_of x 0 d.table) (orders_of x 0 d.table))
-call-spoken x d (suc n) e = rw e
+call-spoken x d (suc n) e = rw (e, numbered-more _ n e (refusal-numbered x (length d.list) 0 d.table))
 
 -- What is printed of a request, from its answer and the list after it, is document 01's text.
-pub request-spoken : (q : Request) (d : Desk) → spoken (answer_to q d) (do_request q d).desk.list ≡ (do_request q d).bytes
+pub request-spoken : (q : Request) (d : Desk) → spoken (answer_to q d) (do_request (Ok (Some q)) d).desk.list ≡ (do_request (Ok (Some q)) d).bytes
 unfolding answer_to do_request spoken
 request-spoken (Insertion k r) d = rw call-list (call-spoken (insertion 1 k r 0) d _ refl)
 request-spoken (Deletion k) d = rw call-list (call-spoken (deletion 1 k) d _ refl)
-request-spoken (Refused n) d = refl
 
 -- ---- what the calls leave
 
-pub ended-left : (q : Request) (s : LineState) → q ≡ request s → (t l : Words) {a : Written} {t' l' : Words} → Acted q t l a t' l'
+pub ended-left : (q : Request) (s : LineState) (x : Asked) → x ≡ request s → x ≡ Ok (Some q) → (t l : Words) {a : Written} {t' l' : Words} → Acted q t l a t' l'
     → {out : Bytes} {n : ℕ} → Begins out n (spoken a l') → Left (do_request (request s) (desk_of t l)) t' l' out n
-ended-left q s e t l h b =
-    record { whole = rw (b.first, h.0, h.1.0, h.1.1, e, request-spoken (request s) (desk_of t l)); within = b.within }
+ended-left q s x e f t l h b =
+    record { whole = rw (b.first, h.0, h.1.0, h.1.1, ← e, f, request-spoken q (desk_of t l)); within = b.within }
+
+-- a line that asks nothing, and one that is refused
+pub asks-nothing : (s : LineState) (x : Asked) (d : Desk) → x ≡ request s → x ≡ Ok None → do_request (request s) d ≡ reply (refused_line 0) d
+unfolding do_request
+asks-nothing s x d e f = rw (← e, f)
+
+pub asks-refused : (s : LineState) (x : Asked) (r : Refusal) (n : ℕ) (d : Desk) → x ≡ request s → x ≡ Err r → n ≡ refusal_number r
+    → do_request (request s) d ≡ reply (refused_line n) d
+unfolding do_request
+asks-refused s x r n d e f m = rw (← e, f, m)
+
+pub refused-left : (n : ℕ) (x : Reply) (t l : Words) {out out' : Bytes} {r : ℕ} → x ≡ reply (refused_line n) (desk_of t l) → 48 ≤ length out
+    → Put out 0 (refused_line n) out' r → Left x t l out' r
+refused-left n x t l e h p =
+    let b = put-begins (omega (arith, refused-most n)) p in
+    record { whole = rw (e, b.first); within = b.within }
 
 -- at the end of the input
 module _ (s : LineState) (b : Bool) (e : b ≡ begun s.place) {t l : Words} {out : Bytes} where

@@ -1,14 +1,13 @@
 -- The answer to a request, what a call of the printer leaves of a piece of the input, and what is written over all pieces.
 use Rattle.std.specs.Prelude.{◌≡◌, List, [], ◌∷◌, ◌++◌, ℕ, ◌≤◌, ◌<◌, length, take}
-use Rattle.model.specs.declared.Written.{Written}
-use Rattle.model.specs.declared.Written.TheVariants as written_as
+use Rattle.model.specs.Results.{Written}
 use Rattle.model.specs.Table.{Words}
 use Rattle.model.specs.Writes.{Call, insertion, deletion}
 use Rattle.model.specs.Refusals.{written}
 use Rattle.model.specs.Printer.{Bytes, Desk, Reply, reply}
 use Rattle.script_bytes.specs.declared.LineState.{LineState}
 use Rattle.script_bytes.specs.declared.Request.{Request}
-use Rattle.script_bytes.specs.declared.Request.TheVariants.{Insertion, Deletion, Refused}
+use Rattle.script_bytes.specs.declared.Request.TheVariants.{Insertion, Deletion}
 use Rattle.script_bytes.specs.Input.{Reading, reading, read_bytes, finished, print_on}
 use Rattle.script.specs.declared.Said.{Said}
 
@@ -22,7 +21,6 @@ answer_of x d = written x (length d.list) 0 d.table
 unfoldable pub answer_to : Request → Desk → Written
 answer_to (Insertion k r) d = answer_of (insertion 1 k r 0) d
 answer_to (Deletion k) d = answer_of (deletion 1 k) d
-answer_to (Refused n) d = written_as.Refused n
 
 -- ---- what a call leaves
 

@@ -2,7 +2,7 @@
 // in a lent buffer.
 #![tactic(auto)]
 
-ghost use Rattle.std.specs.Prelude.{◌≡◌, ◌+◌, ◌*◌, ◌≤◌, length};
+ghost use Rattle.std.specs.Prelude.{◌≡◌, ◌+◌, ◌*◌, ◌≤◌, length, Some, Ok};
 ghost use Rattle.model.specs.Printer.{first_desk};
 ghost use Rattle.script_bytes.specs.Line.{request};
 ghost use Rattle.script_bytes.specs.Input.{do_request, print_on, finished};
@@ -26,7 +26,7 @@ pub fn first_table() -> [u64; 136]
     ensures { result ≡ first_desk.table }
 {
     let mut table = [0u64; 136];
-    node::make(&mut table, 1);
+    let _ = node::make(&mut table, 1);
     table
 }
 
@@ -39,27 +39,33 @@ pub fn first_list() -> [u64; 2560]
 
 // ---- lines
 
-pub fn act(table: &mut [u64], list: &mut [u64], request: Request) -> Written
+// A request's call on the table.
+fn act(table: &mut [u64], list: &mut [u64], request: Request) -> Written
     ensures value { result ≡ answer_to request (desk_of table.old list.old) }
-    ensures table_after { table.new ≡ (do_request request (desk_of table.old list.old)).desk.table }
-    ensures list_after { list.new ≡ (do_request request (desk_of table.old list.old)).desk.list }
+    ensures table_after { table.new ≡ (do_request (Ok (Some request)) (desk_of table.old list.old)).desk.table }
+    ensures list_after { list.new ≡ (do_request (Ok (Some request)) (desk_of table.old list.old)).desk.list }
 {
     match request {
         Request::Insertion { key, recording: r } => insert::insert(table, list, 0, 1, key, r, 0),
         Request::Deletion(key) => delete::delete(table, list, 0, 1, key),
-        Request::Refused(n) => Written::Refused(n),
     }
 }
 
 // A line carried out, and its text put at the buffer's start; how many bytes that is. The buffer has 24 bytes for each of the list's
-// words and 48 more, as below.
+// words and 48 more, as below. A line of another form is refused with 0.
 fn end_line(table: &mut [u64], list: &mut [u64], out: &mut [u8], line: LineState) -> usize
     requires { 24 * length list.old + 48 ≤ length out.old }
     ensures { Left (do_request (request line) (desk_of table.old list.old))
         table.new list.new out.new result }
 {
-    let answer = act(table, list, script_bytes::judge(line));
-    script_bytes::put_answer(out, list, answer)
+    match script_bytes::judge(line) {
+        Ok(Some(request)) => {
+            let answer = act(table, list, request);
+            script_bytes::put_answer(out, list, answer)
+        }
+        Ok(None) => script_bytes::put_refused(out, 0, 0),
+        Err(refusal) => script_bytes::put_refused(out, 0, u64::from(refusal)),
+    }
 }
 
 // The bytes of a piece up to its first line feed, at which the line is carried out; all of them if it has none.
@@ -75,20 +81,18 @@ pub fn read_line(
         table.new list.new out.new }
 {
     let read = script_bytes::read_line(line, piece);
-    let next = read.line;
     if !read.ended {
         return Said {
-            line: next,
+            line: read.line,
             used: read.used,
             printed: 0,
         };
     }
-    let n = end_line(table, list, out, next);
-    let new = script_bytes::start();
+    let printed = end_line(table, list, out, read.line);
     Said {
-        line: new,
+        line: script_bytes::start(),
         used: read.used,
-        printed: n,
+        printed,
     }
 }
 

@@ -7,17 +7,16 @@ use native.Mathlib.Omega.{arith}
 use lib.Dec.{eqb, ltb, leb}
 use lib.ListN.{length, take}
 use borrow.Author.Tests.{eqb-true}
-use Rattle.model.specs.declared.Parsed.{Parsed}
-use Rattle.model.specs.declared.Parsed.TheVariants as parsed
+use Rattle.std.specs.Prelude.{Ok, Err}
+use Rattle.model.specs.Results.{Parsed}
 use Rattle.model.specs.Table.{MARK}
 use Rattle.model.specs.Codes.{is_digit, value, parse}
 use Rattle.model.specs.Writes.{insertion, deletion}
 use Rattle.model.specs.Printer.{Bytes, at_first, lines, fields, Form, plus, minus, other, form_of, Desk, Reply, reply, with_key, do_form, do_line, do_lines, first_desk, printer}
-use Rattle.script_bytes.specs.Line.{begin, next_place, with_character, with_digit, entered, step, after, further, line_in, insertion_of, deletion_of, request, request_of, begun}
+use Rattle.script_bytes.specs.Line.{Asked, begin, next_place, with_character, with_digit, entered, step, after, further, line_in, insertion_of, deletion_of, request, request_of, begun}
 use Rattle.script_bytes.specs.Input.{Reading, reading, read_byte, read_bytes, read_pieces, joined, line_done, finished, carried, do_request, print_on, opening}
 use Rattle.script_bytes.specs.declared.LineState.{LineState}
 use Rattle.script_bytes.specs.declared.LineRead.{LineRead}
-use Rattle.script_bytes.specs.declared.Request.{Request}
 use Rattle.script_bytes.specs.declared.Place.{Place}
 use Rattle.script_bytes.specs.declared.Place.TheVariants.{Start, Sign, CodeStart, Code, RecordingStart, Recording, Other}
 use Rattle.script_bytes.proofs.Reading.{onward, onward-first, line-judged}
@@ -95,20 +94,20 @@ unfolding lines
 lines-other b bs e = rw (e, lines)
 
 -- a line feed, and any other byte
-pub byte-feed : {A : Type 0} (act : Request → A → A) (s : LineState) (a : A) → read_byte act (reading s a) 10 ≡ reading begin (act (request s) a)
+pub byte-feed : {A : Type 0} (act : Asked → A → A) (s : LineState) (a : A) → read_byte act (reading s a) 10 ≡ reading begin (act (request s) a)
 unfolding read_byte
 byte-feed act s a = refl
 
-pub byte-other : {A : Type 0} (act : Request → A → A) (s : LineState) (a : A) (b : ℕ) → eqb b 10 ≡ false → read_byte act (reading s a) b ≡ reading (step s b) a
+pub byte-other : {A : Type 0} (act : Asked → A → A) (s : LineState) (a : A) (b : ℕ) → eqb b 10 ≡ false → read_byte act (reading s a) b ≡ reading (step s b) a
 unfolding read_byte
 byte-other act s a b e = rw e
 
-module _ {A : Type 0} (act : Request → A → A) where
+module _ {A : Type 0} (act : Asked → A → A) where
   -- at the end of the input
   at-end : (text : Bytes) (a : A) → finished act (reading (after begin text) a) ≡ carried act (left_lines text []) a
   unfolding finished carried begun after
   at-end [] a = refl
-  at-end (c ∷ cs) a = rw (line-begun c cs) (ap (λ (q : Request). act q a) (line-judged (c ∷ cs)))
+  at-end (c ∷ cs) a = rw (line-begun c cs) (ap (λ (q : Asked). act q a) (line-judged (c ∷ cs)))
 
   -- one byte on
   at-byte : (text : Bytes) (a : A) (b : ℕ) (bs : Bytes)
@@ -172,13 +171,13 @@ line-used s (b ∷ bs) = go (eqb b 10) (line_in (step s b) bs) (line-used (step 
 
 asked-key : (x : Parsed) (r : ℕ) (d : Desk) → with_key x (λ (k : ℕ). insertion 1 k r 0) d ≡ do_request (insertion_of x r) d
 unfolding do_request
-asked-key (parsed.Key k) r d = refl
-asked-key (parsed.Refused n) r d = refl
+asked-key (Ok k) r d = refl
+asked-key (Err e) r d = refl
 
 asked-gone : (x : Parsed) (d : Desk) → with_key x (λ (k : ℕ). deletion 1 k) d ≡ do_request (deletion_of x) d
 unfolding do_request
-asked-gone (parsed.Key k) d = refl
-asked-gone (parsed.Refused n) d = refl
+asked-gone (Ok k) d = refl
+asked-gone (Err e) d = refl
 
 -- What a line's form does is what its request does.
 pub form-asked : (f : Form) (d : Desk) → do_form f d ≡ do_request (request_of f) d

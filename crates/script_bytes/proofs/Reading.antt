@@ -10,21 +10,20 @@ use lib.ListN.{length, take, set, replicate, length-append, length-set}
 use lib.Seq.{take_all, take-suc-set}
 use borrow.Author.Tests.{ltb-true, ltb-false, leb-true, leb-false, eqb-true, eqb-false, le-leb, lt-leb, ne_eqb}
 use Rattle.isrc.proofs.Codes.{parse-other}
-use Rattle.model.specs.declared.Parsed.{Parsed}
+use Rattle.std.specs.Prelude.{None, Ok}
+use Rattle.model.specs.Results.{Parsed}
 use Rattle.model.specs.Table.{MARK}
 use Rattle.model.specs.Codes.{is_digit, is_code, value, read_on, number, parse}
 use Rattle.model.specs.Lists.{all}
 use Rattle.model.specs.Printer.{Bytes, at_first, fields, plus, other, decimal_value, is_recording, just_is, form_of}
-use Rattle.script_bytes.specs.Line.{begin, next_place, moved, with_character, with_digit, entered, step, after, code_of, insertion_of, request_at, request, request_of}
+use Rattle.script_bytes.specs.Line.{Asked, begin, next_place, moved, with_character, with_digit, entered, step, after, code_of, insertion_of, request_at, request, request_of}
 use Rattle.script_bytes.specs.declared.LineState.{LineState}
-use Rattle.script_bytes.specs.declared.Request.{Request}
-use Rattle.script_bytes.specs.declared.Request.TheVariants.{Refused}
 use Rattle.script_bytes.specs.declared.Place.{Place}
 use Rattle.script_bytes.specs.declared.Place.TheVariants.{Sign, CodeStart, Code, RecordingStart, Recording, Other}
 
 -- ---- a line of another form stays one
 
-after-other : (s : LineState) (l : Bytes) → request (after (moved s Other) l) ≡ Refused 0
+after-other : (s : LineState) (l : Bytes) → request (after (moved s Other) l) ≡ Ok None
 unfolding after step entered next_place request_at
 after-other s [] = refl
 after-other s (b ∷ bs) = after-other s bs
@@ -41,8 +40,8 @@ abbrev recorded : LineState → ℕ → LineState
 recorded s r = record { place = Recording; plus = s.plus; code = s.code; count = s.count; recording = r }
 
 -- what a recording that goes on with the bytes l comes to
-abbrev recorded_as : LineState → ℕ → Bytes → Request
-recorded_as s r l = cond (all is_digit l && leb (read_on 10 r (map value l)) MARK) (insertion_of (code_of s) (read_on 10 r (map value l))) (Refused 0)
+abbrev recorded_as : LineState → ℕ → Bytes → Asked
+recorded_as s r l = cond (all is_digit l && leb (read_on 10 r (map value l)) MARK) (insertion_of (code_of s) (read_on 10 r (map value l))) (Ok None)
 
 digit-yes : (s : LineState) (r b : ℕ) → is_digit b ≡ true → leb (r * 10 + value b) MARK ≡ true
     → with_digit (recorded s r) b ≡ recorded s (r * 10 + value b)
@@ -70,7 +69,7 @@ after-recording s r (b ∷ bs) h = go (is_digit b) (leb (r * 10 + value b) MARK)
 
 -- from the space before it on
 after-recording-start : (s : LineState) (l : Bytes)
-    → request (after (moved (recorded s 0) RecordingStart) l) ≡ cond (is_recording l) (insertion_of (code_of s) (decimal_value l)) (Refused 0)
+    → request (after (moved (recorded s 0) RecordingStart) l) ≡ cond (is_recording l) (insertion_of (code_of s) (decimal_value l)) (Ok None)
 unfolding after step entered next_place with_digit request_at is_recording number
 after-recording-start s [] = refl
 after-recording-start s (b ∷ bs) = after-recording s 0 (b ∷ bs) (omega arith)
@@ -224,7 +223,7 @@ character-more p code count text b h = go (ltb count 12) refl
     go false e = (code, 13, rw e, held-full code count text b h (ltb-false count 12 e))
 
 asked-plus : (t : Bool) (x : Parsed) (text : Bytes) (r : ℕ) → x ≡ parse text
-    → cond t (insertion_of x r) (Refused 0) ≡ request_of (cond t (plus text r) other)
+    → cond t (insertion_of x r) (Ok None) ≡ request_of (cond t (plus text r) other)
 asked-plus true x text r e = rw e
 asked-plus false x text r e = refl
 
@@ -242,7 +241,7 @@ unfolding step entered next_place
 step-code p code count b e = rw e
 
 -- what a line asks whose code was read up to these bytes and that goes on with l
-abbrev goes_on : Bool → Bytes → Bytes → Request
+abbrev goes_on : Bool → Bytes → Bytes → Asked
 goes_on p text l = request_of (form_of ((sign_of p ∷ []) ∷ onward text (fields l)))
 
 code-byte : (p : Bool) (code : List ℕ) (count c : ℕ) (cs : Bytes) (b : ℕ) (bs : Bytes) → Held code count (c ∷ cs)

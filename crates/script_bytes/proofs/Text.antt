@@ -10,8 +10,11 @@ use lib.Dec.{eqb}
 use borrow.Author.Tests.{eqb-true, ne_eqb}
 use lib.ListN.{length, get_or, take, drop, length-append, length-take, length-drop}
 use lib.Seq.{take_at, take_all, take-append_seam, drop-append-add, drop-drop, length-take-le}
-use Rattle.model.specs.declared.Written.{Written}
-use Rattle.model.specs.declared.Written.TheVariants.{Done, Refused}
+use Rattle.std.specs.Prelude.{Ok, Err}
+use Rattle.model.specs.declared.Counts.{Counts}
+use Rattle.model.specs.declared.Refusal.{Refusal}
+use Rattle.model.specs.Numbers.{refusal_number}
+use Rattle.model.specs.Results.{Written}
 use Rattle.model.specs.Text.{ascii}
 use Rattle.model.specs.Table.{MARK, Words}
 use Rattle.model.specs.Orders.{put, Order, store, barrier, BAR, order_of, decode}
@@ -111,17 +114,20 @@ first-orders list n k e = go (dec_le k (length list / 2))
     go (no h) = take_all n (decode list) (omega (arith, decode-most list)) ∙ sym (take_all k (decode list) (omega (arith, decode-most list)))
 
 -- the orders and their counts, and the refusal, are all that is spoken
-pub done-begins : (list : Words) (a : Written) (s f bs n : ℕ) → a ≡ Done s f bs → {out out' out'' : Bytes} {r r'' : ℕ} → n ≡ min (s + f) (length list / 2) → 24 * length list + 48 ≤ length out
-    → Put out 0 (order_lines (take n (decode list))) out' r → Put out' r (done_line s f) out'' r'' → Begins out'' r'' (spoken a list)
+pub done-begins : (list : Words) (a : Written) (c : Counts) (n : ℕ) → a ≡ Ok c → {out out' out'' : Bytes} {r r'' : ℕ} → n ≡ min (c.stores + c.flushes) (length list / 2)
+    → 24 * length list + 48 ≤ length out → Put out 0 (order_lines (take n (decode list))) out' r → Put out' r (done_line c.stores c.flushes) out'' r''
+    → Begins out'' r'' (spoken a list)
 unfolding spoken
-done-begins list a s f bs n b e h p q =
+done-begins list a c n b e h p q =
     let reach : length (order_lines (take n (decode list))) ≤ 24 * length list = omega (arith, p.next, orders-reach list n p) in
-    let all : length (order_lines (take n (decode list)) ++ done_line s f) ≤ 24 * length list + 48 = omega (arith, length-append (order_lines (take n (decode list))) (done_line s f), done-most s f) in
-    rw (b, ← first-orders list n (s + f) e) (put-begins (omega arith) (put-then p (omega arith) q))
+    let all : length (order_lines (take n (decode list)) ++ done_line c.stores c.flushes) ≤ 24 * length list + 48 =
+    omega (arith, length-append (order_lines (take n (decode list))) (done_line c.stores c.flushes), done-most c.stores c.flushes) in
+    rw (b, ← first-orders list n (c.stores + c.flushes) e) (put-begins (omega arith) (put-then p (omega arith) q))
 
-pub refused-begins : (list : Words) (a : Written) (n : ℕ) → a ≡ Refused n → {out out' : Bytes} {r : ℕ} → 48 ≤ length out → Put out 0 (refused_line n) out' r → Begins out' r (spoken a list)
+pub refused-begins : (list : Words) (a : Written) (e : Refusal) (n : ℕ) → a ≡ Err e → n ≡ refusal_number e → {out out' : Bytes} {r : ℕ} → 48 ≤ length out
+    → Put out 0 (refused_line n) out' r → Begins out' r (spoken a list)
 unfolding spoken
-refused-begins list a n b h p = rw b (put-begins (omega (arith, refused-most n)) p)
+refused-begins list a e n b m h p = rw (b, ← m) (put-begins (omega (arith, refused-most n)) p)
 
 -- two words that are no flush are printed as a store
 pub store-text : (a b : ℕ) → (a ≡ MARK → ⊥) → order_text (order_of a b) ≡ printed (ascii "store") (a ∷ b ∷ [])

@@ -1,7 +1,8 @@
 -- A line read byte by byte: the state after its bytes, and what that state asks.
-use Rattle.std.specs.Prelude.{Bool, true, false, cond, ◌&&◌, ◌||◌, [], ◌∷◌, ℕ, suc, ◌+◌, ◌*◌, eqb, ltb, leb, set, replicate}
-use Rattle.model.specs.declared.Parsed.{Parsed}
-use Rattle.model.specs.declared.Parsed.TheVariants as parsed
+use Rattle.std.specs.Prelude.{Bool, true, false, cond, ◌&&◌, ◌||◌, [], ◌∷◌, ℕ, suc, ◌+◌, ◌*◌, eqb, ltb, leb}
+use Rattle.std.specs.Prelude.{set, replicate, Option, Some, None, Result, Ok, Err}
+use Rattle.model.specs.declared.Refusal.{Refusal}
+use Rattle.model.specs.Results.{Parsed, refused_with}
 use Rattle.model.specs.Codes.{is_digit, value, parse}
 use Rattle.model.specs.Table.{MARK}
 use Rattle.model.specs.Printer.{Bytes, Form, plus, minus, other}
@@ -10,7 +11,7 @@ use Rattle.script_bytes.specs.declared.Place.TheVariants.{Start, Sign, CodeStart
 use Rattle.script_bytes.specs.declared.LineState.{LineState}
 use Rattle.script_bytes.specs.declared.LineRead.{LineRead}
 use Rattle.script_bytes.specs.declared.Request.{Request}
-use Rattle.script_bytes.specs.declared.Request.TheVariants.{Insertion, Deletion, Refused}
+use Rattle.script_bytes.specs.declared.Request.TheVariants.{Insertion, Deletion}
 
 -- no byte yet
 abbrev pub begin : LineState
@@ -81,36 +82,40 @@ line_in s (b ∷ bs) = cond (eqb b 10) (record { line = s; used = 1; ended = tru
 
 -- ---- what a line asks
 
+-- a request; none, if the line is of another form; or the refusal of its code
+abbrev pub Asked : Type 0
+Asked = Result (Option Request) Refusal
+
 -- the code that was read
 unfoldable pub code_of : LineState → Parsed
-code_of s = cond (eqb s.count 12) (parse s.code) (parsed.Refused 1)
+code_of s = cond (eqb s.count 12) (parse s.code) (refused_with 1)
 
-abbrev pub insertion_of : Parsed → ℕ → Request
-insertion_of (parsed.Key k) r = Insertion k r
-insertion_of (parsed.Refused n) r = Refused n
+abbrev pub insertion_of : Parsed → ℕ → Asked
+insertion_of (Ok k) r = Ok (Some (Insertion k r))
+insertion_of (Err e) r = Err e
 
-abbrev pub deletion_of : Parsed → Request
-deletion_of (parsed.Key k) = Deletion k
-deletion_of (parsed.Refused n) = Refused n
+abbrev pub deletion_of : Parsed → Asked
+deletion_of (Ok k) = Ok (Some (Deletion k))
+deletion_of (Err e) = Err e
 
 -- by the state that a line's bytes leave, whose place is the first argument
-unfoldable pub request_at : Place → LineState → Request
-request_at Start s = Refused 0
-request_at Sign s = Refused 0
-request_at CodeStart s = Refused 0
-request_at Code s = cond s.plus (Refused 0) (deletion_of (code_of s))
-request_at RecordingStart s = Refused 0
+unfoldable pub request_at : Place → LineState → Asked
+request_at Start s = Ok None
+request_at Sign s = Ok None
+request_at CodeStart s = Ok None
+request_at Code s = cond s.plus (Ok None) (deletion_of (code_of s))
+request_at RecordingStart s = Ok None
 request_at Recording s = insertion_of (code_of s) s.recording
-request_at Other s = Refused 0
+request_at Other s = Ok None
 
-abbrev pub request : LineState → Request
+abbrev pub request : LineState → Asked
 request s = request_at s.place s
 
 -- by document 01's form of the line
-abbrev pub request_of : Form → Request
+abbrev pub request_of : Form → Asked
 request_of (plus code r) = insertion_of (parse code) r
 request_of (minus code) = deletion_of (parse code)
-request_of other = Refused 0
+request_of other = Ok None
 
 -- a line has begun once it has a byte
 unfoldable pub begun : Place → Bool

@@ -1,7 +1,7 @@
 -- What is printed of an answer, and bytes put into a buffer.
-use Rattle.std.specs.Prelude.{◌≡◌, List, [], ◌∷◌, ◌++◌, ℕ, ◌+◌, ◌≤◌, length, take, drop}
-use Rattle.model.specs.declared.Written.{Written}
-use Rattle.model.specs.declared.Written.TheVariants.{Done, Refused}
+use Rattle.std.specs.Prelude.{◌≡◌, List, [], ◌∷◌, ◌++◌, ℕ, ◌+◌, ◌≤◌, length, take, drop, Ok, Err}
+use Rattle.model.specs.Numbers.{refusal_number}
+use Rattle.model.specs.Results.{Written}
 use Rattle.model.specs.Text.{ascii}
 use Rattle.model.specs.Table.{Words}
 use Rattle.model.specs.Orders.{Order, decode}
@@ -18,8 +18,8 @@ done_line s f = printed (ascii "done") (s ∷ f ∷ [])
 
 -- as many stores and flushes of the list as the answer counts, then these counts (dock 0 has no barriers); or the refusal
 unfoldable pub spoken : Written → (list : Words) → Bytes
-spoken (Done s f b) list = order_lines (take (s + f) (decode list)) ++ done_line s f
-spoken (Refused n) list = refused_line n
+spoken (Ok c) list = order_lines (take (c.stores + c.flushes) (decode list)) ++ done_line c.stores c.flushes
+spoken (Err r) list = refused_line (refusal_number r)
 
 -- ---- a buffer
 

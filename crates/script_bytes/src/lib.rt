@@ -7,10 +7,10 @@ ghost use Rattle.model.specs.Codes.{is_digit};
 ghost use Rattle.model.specs.Orders.{order_of, decode};
 ghost use Rattle.model.specs.Printer.{decimal, numbers_text, printed, order_text, refused_line};
 ghost use Rattle.script_bytes.specs.Line.{begin, next_place, moved, with_sign, with_character, with_digit, step};
-ghost use Rattle.script_bytes.specs.Line.{line_in, code_of, insertion_of, deletion_of, request, begun};
+ghost use Rattle.script_bytes.specs.Line.{line_in, code_of, request, begun};
 ghost use Rattle.script_bytes.specs.Text.{Put, Begins, order_lines, spoken};
 
-use model::{MARK, Parsed, Written};
+use model::{Counts, MARK, Parsed, Refusal, Written};
 
 // Where in a line's form its bytes so far end.
 #[derive(Clone, Copy)]
@@ -43,13 +43,15 @@ pub struct LineRead {
     pub ended: bool,
 }
 
-// What a line asks for; a line of another form is refused with 0, a code that is none with 1.
+// What a line of document 01's two forms asks for.
 #[derive(Clone, Copy)]
 pub enum Request {
     Insertion { key: u64, recording: u64 },
     Deletion(u64),
-    Refused(u8),
 }
+
+// What a line asks: nothing, if it is of another form; a code that is none is refused.
+pub type Asked = Result<Option<Request>, Refusal>;
 
 // ---- reading a line
 
@@ -69,20 +71,14 @@ pub fn start() -> LineState
 fn is_digit(b: u8) -> bool
     ensures { result ≡ is_digit b }
 {
-    if b < b'0' {
-        return false;
-    }
-    b <= b'9'
+    b.is_ascii_digit()
 }
 
 // One place or the other, by whether b is c.
 fn if_is(b: u8, c: u8, there: Place, otherwise: Place) -> Place
     ensures { result ≡ cond (eqb b c) there otherwise }
 {
-    if b == c {
-        return there;
-    }
-    otherwise
+    if b == c { there } else { otherwise }
 }
 
 // Where in the form byte b stands.
@@ -104,8 +100,7 @@ fn next_place(place: Place, plus: bool, b: u8) -> Place
             }
             if_is(b, b' ', Place::Other, Place::Code)
         }
-        Place::RecordingStart => Place::Recording,
-        Place::Recording => Place::Recording,
+        Place::RecordingStart | Place::Recording => Place::Recording,
         Place::Other => Place::Other,
     }
 }
@@ -114,27 +109,17 @@ fn next_place(place: Place, plus: bool, b: u8) -> Place
 fn moved(s: LineState, place: Place) -> LineState
     ensures { result ≡ moved s place }
 {
-    let code = s.code;
-    LineState {
-        place: place,
-        plus: s.plus,
-        code: code,
-        count: s.count,
-        recording: s.recording,
-    }
+    LineState { place, ..s }
 }
 
 // The line with its sign.
 fn with_sign(s: LineState, b: u8) -> LineState
     ensures { result ≡ with_sign s b }
 {
-    let code = s.code;
     LineState {
         place: Place::Sign,
         plus: b == b'+',
-        code: code,
-        count: s.count,
-        recording: s.recording,
+        ..s
     }
 }
 
@@ -143,19 +128,16 @@ fn with_character(s: LineState, b: u8) -> LineState
     ensures { result ≡ with_character s b }
 {
     let mut code = s.code;
-    let mut n = s.count;
-    if n < 12 {
-        code[n] = b;
-        n += 1;
-    } else {
-        n = 13;
+    let mut count = 13;
+    if s.count < 12 {
+        code[s.count] = b;
+        count = s.count + 1;
     }
     LineState {
         place: Place::Code,
-        plus: s.plus,
-        code: code,
-        count: n,
-        recording: s.recording,
+        code,
+        count,
+        ..s
     }
 }
 
@@ -170,13 +152,10 @@ fn with_digit(s: LineState, b: u8) -> LineState
     if (MARK - d) / 10 < s.recording {
         return moved(s, Place::Other);
     }
-    let code = s.code;
     LineState {
         place: Place::Recording,
-        plus: s.plus,
-        code: code,
-        count: s.count,
         recording: s.recording * 10 + d,
+        ..s
     }
 }
 
@@ -184,8 +163,7 @@ fn with_digit(s: LineState, b: u8) -> LineState
 fn take(s: LineState, b: u8) -> LineState
     ensures { result ≡ step s b }
 {
-    let before = s.place;
-    let place = next_place(before, s.plus, b);
+    let place = next_place(s.place, s.plus, b);
     match place {
         Place::Sign => with_sign(s, b),
         Place::Code => with_character(s, b),
@@ -199,9 +177,7 @@ pub fn read_line(line: LineState, piece: &[u8]) -> LineRead
     ensures { result ≡ line_in line piece.now }
 {
     let mut s = line;
-    let mut i = 0;
-    while i < piece.len() {
-        let b = piece[i];
+    for (i, &b) in piece.iter().enumerate() {
         if b == b'\n' {
             return LineRead {
                 line: s,
@@ -210,11 +186,10 @@ pub fn read_line(line: LineState, piece: &[u8]) -> LineRead
             };
         }
         s = take(s, b);
-        i += 1;
     }
     LineRead {
         line: s,
-        used: i,
+        used: piece.len(),
         ended: false,
     }
 }
@@ -226,44 +201,25 @@ fn code_of(s: LineState) -> Parsed
     ensures { result ≡ code_of s }
 {
     if s.count != 12 {
-        return Parsed::Refused(1);
+        return Err(Refusal::NoCode);
     }
     let code = s.code;
     isrc::parse(&code)
 }
 
-fn insertion_of(code: Parsed, recording: u64) -> Request
-    ensures { result ≡ insertion_of code recording }
-{
-    match code {
-        Parsed::Key(key) => Request::Insertion { key, recording },
-        Parsed::Refused(n) => Request::Refused(n),
-    }
-}
-
-fn deletion_of(code: Parsed) -> Request
-    ensures { result ≡ deletion_of code }
-{
-    match code {
-        Parsed::Key(key) => Request::Deletion(key),
-        Parsed::Refused(n) => Request::Refused(n),
-    }
-}
-
 // What the line asks, its bytes being all read.
-pub fn judge(s: LineState) -> Request
+pub fn judge(s: LineState) -> Asked
     ensures { result ≡ request s }
 {
-    let place = s.place;
-    match place {
-        Place::Code => {
-            if s.plus {
-                return Request::Refused(0);
-            }
-            deletion_of(code_of(s))
+    match s.place {
+        Place::Code if s.plus => Ok(None),
+        Place::Code => Ok(Some(Request::Deletion(code_of(s)?))),
+        Place::Recording => {
+            let key = code_of(s)?;
+            let recording = s.recording;
+            Ok(Some(Request::Insertion { key, recording }))
         }
-        Place::Recording => insertion_of(code_of(s), s.recording),
-        _ => Request::Refused(0),
+        _ => Ok(None),
     }
 }
 
@@ -271,11 +227,7 @@ pub fn judge(s: LineState) -> Request
 pub fn begun(s: LineState) -> bool
     ensures { result ≡ begun s.place }
 {
-    let place = s.place;
-    match place {
-        Place::Start => false,
-        _ => true,
-    }
+    !matches!(s.place, Place::Start)
 }
 
 // ---- printing
@@ -292,12 +244,9 @@ fn put_text(out: &mut [u8], at: usize, text: &[u8]) -> usize
     requires { at + length text.now ≤ length out.old }
     ensures { Put out.old at text.now out.new result }
 {
-    let mut i = 0;
-    while i < text.len() {
-        out[at + i] = text[i];
-        i += 1;
-    }
-    at + i
+    let end = at + text.len();
+    out[at..end].copy_from_slice(text);
+    end
 }
 
 // How many digits n has.
@@ -306,8 +255,9 @@ fn width(n: u64) -> usize
 {
     let mut left = n;
     let mut count = 1;
+    // What is left is divided: no range or iterator says that more plainly.
     while 10 <= left {
-        left = left / 10;
+        left /= 10;
         count += 1;
     }
     count
@@ -380,25 +330,18 @@ pub fn put_done(out: &mut [u8], at: usize, stores: u64, flushes: u64) -> usize
 }
 
 // The line of a refusal.
-pub fn put_refused(out: &mut [u8], at: usize, number: u8) -> usize
+pub fn put_refused(out: &mut [u8], at: usize, number: u64) -> usize
     requires { at + 48 ≤ length out.old }
     ensures { Put out.old at (refused_line number) out.new result }
 {
-    put_one(out, at, b"refused", number as u64)
+    put_one(out, at, b"refused", number)
 }
 
 // How many orders are printed: as many as the answer counts, and no more than the list has.
 fn spoken_count(words: usize, stores: u64, flushes: u64) -> usize
     ensures { result ≡ min (stores + flushes) (words / 2) }
 {
-    let most = words / 2;
-    if (most as u64) < stores {
-        return most;
-    }
-    if most as u64 - stores < flushes {
-        return most;
-    }
-    (stores + flushes) as usize
+    stores.saturating_add(flushes).min(words as u64 / 2) as usize
 }
 
 // The lines of the first orders of a list, from the buffer's start on.
@@ -408,10 +351,8 @@ fn put_orders(out: &mut [u8], list: &[u64], count: usize) -> usize
     ensures { Put out.old 0 (order_lines (take count (decode list.now))) out.new result }
 {
     let mut at = 0;
-    let mut i = 0;
-    while i < count {
+    for i in 0..count {
         at = put_order(out, at, list[2 * i], list[2 * i + 1]);
-        i += 1;
     }
     at
 }
@@ -423,15 +364,17 @@ pub fn put_answer(out: &mut [u8], list: &[u64], answer: Written) -> usize
     ensures { Begins out.new result (spoken answer list.now) }
 {
     match answer {
-        Written::Done {
-            stores,
-            flushes,
-            barriers: _,
-        } => {
+        Ok(
+            Counts {
+                stores,
+                flushes,
+                ..
+            },
+        ) => {
             let count = spoken_count(list.len(), stores, flushes);
             let next = put_orders(out, list, count);
             put_done(out, next, stores, flushes)
         }
-        Written::Refused(n) => put_refused(out, 0, n),
+        Err(refusal) => put_refused(out, 0, u64::from(refusal)),
     }
 }

@@ -2,18 +2,21 @@
 // and the lines that the printer prints.
 #![tactic(auto)]
 
-use script_bytes::{LineRead, LineState, Request};
+use script_bytes::{Asked, LineRead, LineState, Request};
 use std::io;
 use std::io::Read;
 
 // ---- reading
 
-// What a line asks.
-fn show(rt: &impl Print, request: Request) -> io::Result<()> {
-    match request {
-        Request::Insertion { key, recording } => println!(rt; "insertion {key} {recording}"),
-        Request::Deletion(key) => println!(rt; "deletion {key}"),
-        Request::Refused(n) => println!(rt; "refused {n}"),
+// What a line asks; a line of another form is refused with 0.
+fn show(rt: &impl Print, asked: Asked) -> io::Result<()> {
+    match asked {
+        Ok(Some(Request::Insertion { key, recording })) => println!(rt;
+            "insertion {key} {recording}"
+        ),
+        Ok(Some(Request::Deletion(key))) => println!(rt; "deletion {key}"),
+        Ok(None) => println!(rt; "refused 0"),
+        Err(refusal) => println!(rt; "refused {}", u64::from(refusal)),
     }
 }
 
@@ -30,6 +33,7 @@ fn shown(rt: &impl Print, read: LineRead) -> io::Result<LineState> {
 fn read_piece(rt: &impl Print, line: LineState, piece: &[u8]) -> io::Result<LineState> {
     let mut s = line;
     let mut i = 0;
+    // How many bytes a call uses is its answer: no range has that step.
     while i < piece.len() {
         let read = script_bytes::read_line(s, &piece[i..]);
         s = shown(rt, read)?;
@@ -49,15 +53,14 @@ fn finish(rt: &impl Print, s: LineState) -> io::Result<()> {
 fn read_input(rt: &(impl Print + Input)) -> io::Result<()> {
     let mut input = rt.reader();
     let mut s = script_bytes::start();
+    // Pieces that end within codes and numbers.
     let mut buffer = [0u8; 7];
-    let mut rounds: u64 = 0;
-    while rounds < 10000 {
+    for _ in 0..10000 {
         let n = input.read(&mut buffer)?;
         if n == 0 {
             break;
         }
         s = read_piece(rt, s, &buffer[..n])?;
-        rounds += 1;
     }
     finish(rt, s)
 }
@@ -86,32 +89,34 @@ fn inputs(rt: &impl Print) -> io::Result<()> {
 
 // ---- printing
 
-// The bytes of a buffer from one place to another.
-fn show_part(rt: &impl Print, out: &[u8], from: usize, to: usize) -> io::Result<()> {
-    if from <= to {
-        if to <= out.len() {
-            rt.write_all(&out[from..to])?;
-        }
+// What a printing function puts into a buffer from a place on, up to the place that it answers.
+fn show_put<F: FnOnce(&mut [u8; 60]) -> usize>(
+    rt: &impl Print,
+    from: usize,
+    put: F,
+) -> io::Result<()>
+    requires { F.IsAlwaysCallable put }
+{
+    // Room for one line: memory is fixed, there is no heap.
+    let mut out = [0u8; 60];
+    let to = put(&mut out);
+    match out.get(from..to) {
+        Some(part) => rt.write_all(part),
+        None => Ok(()),
     }
-    Ok(())
 }
 
+// Past the start of the buffer, where the next two are at its start.
 fn show_order(rt: &impl Print, first: u64, second: u64) -> io::Result<()> {
-    let mut out = [0u8; 60];
-    let n = script_bytes::put_order(&mut out, 7, first, second);
-    show_part(rt, &out, 7, n)
+    show_put(rt, 7, |out| script_bytes::put_order(out, 7, first, second))
 }
 
 fn show_done(rt: &impl Print, stores: u64, flushes: u64) -> io::Result<()> {
-    let mut out = [0u8; 48];
-    let n = script_bytes::put_done(&mut out, 0, stores, flushes);
-    show_part(rt, &out, 0, n)
+    show_put(rt, 0, |out| script_bytes::put_done(out, 0, stores, flushes))
 }
 
-fn show_refused(rt: &impl Print, number: u8) -> io::Result<()> {
-    let mut out = [0u8; 48];
-    let n = script_bytes::put_refused(&mut out, 0, number);
-    show_part(rt, &out, 0, n)
+fn show_refused(rt: &impl Print, number: u64) -> io::Result<()> {
+    show_put(rt, 0, |out| script_bytes::put_refused(out, 0, number))
 }
 
 fn lines(rt: &impl Print) -> io::Result<()> {

@@ -5,23 +5,22 @@ use Prim.Native.Nat.{ℕ, zero, suc, ◌-◌, ◌<◌, ◌≤◌}
 use native.Mathlib.Omega.{arith}
 use lib.Dec.{eqb}
 use borrow.Author.Tests.{eq-eqb, ne_eqb}
+use Rattle.std.specs.Prelude.{Some, None}
 use Rattle.model.specs.declared.Answer.{Answer}
 use Rattle.model.specs.declared.Answer.TheVariants.{Absent, Refused}
-use Rattle.model.specs.declared.Next.{Next}
-use Rattle.model.specs.declared.Next.TheVariants.{Key, Nothing}
 use Rattle.model.specs.declared.Node.{Node}
 use Rattle.model.specs.Table.{Words, header_ok, has_node, node}
 use Rattle.model.specs.Slots.{View, view, used}
-use Rattle.model.specs.Search.{below, on_level, passes, kept, first_above, absent_or, next_from}
+use Rattle.model.specs.Search.{below, on_level, passes, kept, first_above, absent_or, next_from, Next}
 use Rattle.slots.specs.Scan.{shown_from, keeps, kept_of}
 use Rattle.slots.proofs.Kept.{all-kept}
 use Rattle.search.proofs.Standing.{level-out, level-in}
 
 -- ---- one leaf
 
-absent-last : (x : Next) → absent_or x (Absent Nothing) ≡ Absent x
-absent-last (Key j) = refl
-absent-last Nothing = refl
+absent-last : (x : Next) → absent_or x (Absent None) ≡ Absent x
+absent-last (Some j) = refl
+absent-last None = refl
 
 -- no leaf more may be entered
 pub too-many : (v : View) (c n k : ℕ) → c ≤ 0 → Refused 3 ≡ next_from v c n k
@@ -31,7 +30,7 @@ too-many v (suc c) n k h = absurd (omega arith)
 
 -- what a leaf on level 0 answers, with c leaves more after it
 entered : (v : View) (c n k : ℕ) (b : Bool) → passes v 0 n ≡ b
-    → next_from v (suc c) n k ≡ cond b (absent_or (first_above k (kept v n)) (elim (eqb (v.node n).sibling 0) [ true ↦ Absent Nothing | false ↦ next_from v c (v.node n).sibling k ])) (Refused 3)
+    → next_from v (suc c) n k ≡ cond b (absent_or (first_above k (kept v n)) (elim (eqb (v.node n).sibling 0) [ true ↦ Absent None | false ↦ next_from v c (v.node n).sibling k ])) (Refused 3)
 unfolding next_from
 entered v c n k true e = rw (e, next_from)
 entered v c n k false e = rw (e, next_from)
@@ -118,8 +117,8 @@ module _ (t : Words) (k : ℕ) (x : Node) (c : ℕ) (r : Answer) (u : Turn t k x
               ∙ ap (λ (m : ℕ). absent_or (first_above k (kept (view t) u.at)) (next_from (view t) (c - 1) m k)) sib
               ∙ next-later (view t) c u.at k some u.on w (rw sib at on-sib) ∙ u.rest
 
-          pub turn-found : (j : ℕ) → a ≡ Key j → Absent (Key j) ≡ r
+          pub turn-found : (j : ℕ) → a ≡ Some j → Absent (Some j) ≡ r
           turn-found j p = ap (λ (o : Next). absent_or o (next_from (view t) (c - 1) x.sibling k)) (sym p) ∙ later
 
-          pub turn-on : a ≡ Nothing → Turn t k y (c - 1) r
+          pub turn-on : a ≡ None → Turn t k y (c - 1) r
           turn-on p = record { at = x.sibling; read = q; on = on-sib; rest = ap (λ (o : Next). absent_or o (next_from (view t) (c - 1) x.sibling k)) (sym p) ∙ later }

@@ -1,6 +1,7 @@
 -- Where a search stands on a level, by the tests in the order of the code, and what it answers from there.
 use mathlib.Core.Path.{◌≡◌, refl, ap, sym, ◌∙◌, subst}
 use mathlib.Core.Bool.{Bool, true, false, cond, ◌&&◌, ◌||◌, and-false, false≢true}
+use mathlib.Core.Logic.{◌≢◌, inl, inr}
 use mathlib.Core.Option.{Option, none, some, some-injective, none-ne-some}
 use Prim.Native.Nat.{ℕ, zero, suc, ◌-◌, ◌≤◌, ◌<◌}
 use native.Mathlib.Omega.{arith}
@@ -8,20 +9,25 @@ use lib.Dec.{eqb, leb, ltb}
 use mathlib.Core.List.{List, [], ◌∷◌}
 use lib.ListN.{length, length-take}
 use borrow.Author.Tests.{eqb-true, eqb-false, eq-eqb, ne_eqb, lt-ltb, le-ltb, le-leb, lt-leb, leb-true, leb-false}
+use Rattle.std.specs.Prelude.{Result, Err}
+use Rattle.model.specs.declared.Refusal.{Refusal}
+use Rattle.model.specs.declared.Refusal.TheVariants.{NoTable, NoCollection}
+use Rattle.model.specs.Numbers.{refusal_number, refusal_of}
+use Rattle.model.specs.Results.{refused_with}
 use Rattle.model.specs.declared.Answer.{Answer}
 use Rattle.model.specs.declared.Answer.TheVariants.{Found, Refused}
 use Rattle.model.specs.declared.Node.{Node}
 use Rattle.model.specs.Table.{Words, in_range, header_ok, has_node, node, node_from, blank, at, nodes, root, root_word, no_collection}
 use Rattle.model.specs.Slots.{Slot, recording_of, class_of, View, node_view, view_from, view, height, used}
 use Rattle.model.specs.Search.{below, moved, route, down, on_level, passes, locate, first_with, next_from, answer_of, answer_in, search_view, search}
-use mathlib.Core.Logic.{◌≢◌}
+use Rattle.model.proofs.Numbers.{Numbered, refusal-of-number, done-err}
 use Rattle.list_laws.proofs.Tools.{Each}
 use Rattle.list_laws.proofs.Slots.{each-shown, in-use-some}
 use Rattle.table_laws.proofs.Header.{header-iff}
 use Rattle.table_laws.proofs.Nodes.{has-node-range, node-in, node-out}
 use Rattle.view_laws.proofs.AnyRoot.{any-locate, any-answer}
-use Rattle.node.specs.Word.{root_in, number_in}
-use Rattle.node.proofs.Roots.{root-there, number-none}
+use Rattle.node.specs.Word.{root_in, number_in, found_root}
+use Rattle.node.proofs.Roots.{root-there}
 use Rattle.slots.specs.Scan.{used_from, shown_from}
 use Rattle.slots.specs.Held.{pointer_in}
 use Rattle.slots.proofs.Scans.{used-past}
@@ -321,14 +327,34 @@ held-none p r x e q = rw (eq-eqb p 0 e) q
 
 -- ---- the whole search
 
-pub bad-header : (n : ℕ) (t : Words) (k r x : ℕ) → r ≡ root_in n t → r ≡ 0 → x ≡ number_in n t → Refused x ≡ search n t k
+pub bad-header : (n : ℕ) (t : Words) (k : ℕ) → number_in n t ≢ 0 → Refused (number_in n t) ≡ search n t k
 unfolding search number_in
-bad-header n t k r x e z q = go (header_ok t) (no_collection n t) refl refl
+bad-header n t k z = go (header_ok t) (no_collection n t) refl refl
   where
-    go : (a b : Bool) → header_ok t ≡ a → no_collection n t ≡ b → Refused x ≡ search n t k
-    go false b h c = let w : number_in n t ≡ 2 = rw h in ap Refused (q ∙ w) ∙ sym (rw (h, search))
-    go true true h c = let w : number_in n t ≡ 17 = rw (h, c) in ap Refused (q ∙ w) ∙ sym (rw (h, c, search))
-    go true false h c = let w : number_in n t ≡ 0 = rw (h, c) in absurd (omega (arith, w, number-none n t r e z h))
+    go : (a b : Bool) → header_ok t ≡ a → no_collection n t ≡ b → Refused (number_in n t) ≡ search n t k
+    go false b h c = rw (h, search)
+    go true true h c = rw (h, c, search)
+    go true false h c = absurd (z (rw (h, c)))
+
+-- the number of the refusal that the root was refused with
+number-numbered : (n : ℕ) (t : Words) → Numbered (number_in n t)
+unfolding number_in
+number-numbered n t = go (header_ok t) (no_collection n t)
+  where
+    go : (a b : Bool) → Numbered (cond a (cond b 17 0) 2)
+    go true true = inr (ap refusal_number (refusal-of-number NoCollection))
+    go true false = inl refl
+    go false b = inr (ap refusal_number (refusal-of-number NoTable))
+
+pub root-refused : (n : ℕ) (t : Words) (k x : ℕ) (r : Refusal) → found_root n t ≡ Err r → x ≡ refusal_number r → Refused x ≡ search n t k
+unfolding found_root
+root-refused n t k x r e q =
+    let f = done-err (number_in n t) (root_in n t) e in
+    ap Refused (q ∙ go (number_in n t) f.0 f.1 (number-numbered n t)) ∙ bad-header n t k f.0
+  where
+    go : (m : ℕ) → m ≢ 0 → ◌≡◌ {A = Result ℕ Refusal} (refused_with m) (Err r) → Numbered m → refusal_number r ≡ m
+    go m z h (inl a) = absurd (z a)
+    go m z h (inr a) = let same : refusal_of m ≡ r = cc in ap refusal_number (sym same) ∙ a
 
 -- the leaf come to does not depend on the root that the reading started from
 pub any-within : (t : Words) (r q low high n k : ℕ) → locate_within (view_from t r) low high n k ≡ locate_within (view_from t q) low high n k

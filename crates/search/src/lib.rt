@@ -7,18 +7,15 @@ ghost use Rattle.model.specs.Slots.{view};
 ghost use Rattle.model.specs.Search.{on_level, down, next_from, search};
 ghost use Rattle.search.specs.Descent.{nowhere, seen_in, stand_on, locate_within, answer_held};
 
-use model::{Answer, Next, Node};
+use model::{Answer, Node};
 
 // The child that a search goes down to from node m.
 pub fn down(table: &[u64], m: u64, key: u64) -> u64
     ensures { result ≡ down (view table.now) m key }
 {
     let x = node::read(table, m);
-    let slots = x.slots;
-    let left = x.left;
-    let end = slots::count(slots);
-    let seen = slots::scan(slots, left, key, end);
-    seen.way
+    let end = slots::count(x.slots);
+    slots::scan(x.slots, x.left, key, end).way
 }
 
 // What a search sees of the node that it stands on: its number, the way down, and the pointer of the key's slot, 0 for none.
@@ -48,8 +45,7 @@ pub fn stand(table: &[u64], n: u64, read: Node, key: u64) -> Stood
     ensures { result ≡ seen_in (view table.now) key (stand_on (view table.now) read.level n key) }
 {
     // A search mostly stands on n: its slots are scanned first, so that it does not wait for the sibling's fence.
-    let slots = read.slots;
-    let seen = slots::scan(slots, read.left, key, 12);
+    let seen = slots::scan(read.slots, read.left, key, 12);
     let here = Stood {
         node: n,
         way: seen.way,
@@ -69,8 +65,7 @@ pub fn stand(table: &[u64], n: u64, read: Node, key: u64) -> Stood
     if key < y.fence {
         return here;
     }
-    let others = y.slots;
-    let moved = slots::scan(others, y.left, key, 12);
+    let moved = slots::scan(y.slots, y.left, key, 12);
     Stood {
         node: sibling,
         way: moved.way,
@@ -87,16 +82,14 @@ fn descend(table: &[u64], root: u64, key: u64) -> Stood
     let mut n = root;
     let mut low = 0;
     let mut high = 15;
+    // A loop, and no range: how many levels there are is read on the way.
     loop {
         if !node::has(table, n) {
             return lost();
         }
         let x = node::read(table, n);
         let level = x.level;
-        if level < low {
-            return lost();
-        }
-        if high < level {
+        if level < low || high < level {
             return lost();
         }
         let s = stand(table, n, x, key);
@@ -117,8 +110,7 @@ fn next_from(table: &[u64], leaf: u64, read: Node, key: u64) -> Answer
     ensures { result ≡ next_from (view table.now) (nodes table.now) leaf key }
 {
     let mut x = read;
-    let mut left = table[2];
-    while 0 < left {
+    for entered in 0..table[2] {
         let slots = x.slots;
         let sibling = x.sibling;
         if sibling == 0 {
@@ -133,15 +125,10 @@ fn next_from(table: &[u64], leaf: u64, read: Node, key: u64) -> Answer
             return Answer::Refused(3);
         }
         let next = slots::above(slots, x.left, sibling, y.fence, key);
-        match next {
-            Next::Key(k) => {
-                return Answer::Absent(Next::Key(k));
-            }
-            Next::Nothing => {
-                x = y;
-                left -= 1;
-            }
+        if let Some(k) = next {
+            return Answer::Absent(Some(k));
         }
+        x = y;
     }
     Answer::Refused(3)
 }
@@ -167,11 +154,10 @@ pub fn answer(table: &[u64], m: u64, held: u64, key: u64) -> Answer
 pub fn search(table: &[u64], collection: u64, key: u64) -> Answer
     ensures { result ≡ search collection table.now key }
 {
-    let root = node::root(table, collection);
-    if root == 0 {
-        let number = node::refusal(table, collection);
-        return Answer::Refused(number);
-    }
+    let root = match node::find_root(table, collection) {
+        Ok(root) => root,
+        Err(refusal) => return Answer::Refused(u8::from(refusal)),
+    };
     let s = descend(table, root, key);
     if s.node == 0 {
         return Answer::Refused(3);

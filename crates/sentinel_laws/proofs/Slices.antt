@@ -8,7 +8,7 @@ use lib.Dec.{eqb}
 use lib.ListN.{length}
 use borrow.Author.Tests.{eq-eqb, ne_eqb, eqb-true}
 use native.Mathlib.Omega.{arith}
-use Rattle.model.specs.declared.Written.TheVariants.{Refused}
+use Rattle.model.specs.Results.{refused_with}
 use Rattle.model.specs.Table.{Words, nodes, header_ok}
 use Rattle.model.specs.SoundTest.{sound}
 use Rattle.model.specs.Writes.{Call, repaired}
@@ -110,7 +110,7 @@ plain-call x m lent dock t e = go (slice_number (seventeen_in x t) m t) refl
 -- With another it is refused before anything is stored, where the header is right and the collection is there with 19.
 pub record Refuses (x : Call) (m : ℕ) (lent : Words) (dock : ℕ) (t : Words) (n : ℕ) : Type 0 where
   pub number : refusal_with x m (length lent) dock t ≡ n
-  pub answer : written_with x m (length lent) dock t ≡ Refused n
+  pub answer : written_with x m (length lent) dock t ≡ refused_with n
   pub table : table_with x m (length lent) dock t ≡ t
   pub list : orders_with x m lent dock t ≡ lent
 

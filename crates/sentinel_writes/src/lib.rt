@@ -19,10 +19,7 @@ pub fn insert_with(
     ensures { Leaves (insertion collection key recording access) dock table.old table.new
         list.old list.new words.old words.new result }
 {
-    let number = sentinels::refusal(table, words.len(), collection);
-    if number != 0 {
-        return Written::Refused(number);
-    }
+    sentinels::refusal(table, words.len(), collection)?;
     let answer = insert::insert(table, list, dock, collection, key, recording, access);
     sentinels::keep(table, words, list, answer);
     answer
@@ -39,10 +36,7 @@ pub fn delete_with(
     ensures { Leaves (deletion collection key) dock table.old table.new
         list.old list.new words.old words.new result }
 {
-    let number = sentinels::refusal(table, words.len(), collection);
-    if number != 0 {
-        return Written::Refused(number);
-    }
+    sentinels::refusal(table, words.len(), collection)?;
     let answer = delete::delete(table, list, dock, collection, key);
     sentinels::keep(table, words, list, answer);
     answer
@@ -60,10 +54,7 @@ pub fn set_class_with(
     ensures { Leaves (class_change collection key access) dock table.old table.new
         list.old list.new words.old words.new result }
 {
-    let number = sentinels::refusal(table, words.len(), collection);
-    if number != 0 {
-        return Written::Refused(number);
-    }
+    sentinels::refusal(table, words.len(), collection)?;
     let answer = reclass::set_class(table, list, dock, collection, key, access);
     sentinels::keep(table, words, list, answer);
     answer
@@ -74,10 +65,7 @@ pub fn repair_with(table: &mut [u64], words: &mut [u64], list: &mut [u64], dock:
     ensures { Leaves repair dock table.old table.new
         list.old list.new words.old words.new result }
 {
-    let number = sentinels::refusal_any(table, words.len());
-    if number != 0 {
-        return Written::Refused(number);
-    }
+    sentinels::refusal_any(table, words.len())?;
     let answer = repair::repair(table, list, dock);
     sentinels::keep(table, words, list, answer);
     answer

@@ -1,15 +1,16 @@
 -- The words after a writing call: those of the nodes that its list stores to are those of the nodes that its stores go to.
 use mathlib.Core.Path.{◌≡◌, refl, sym, ap, ◌∙◌}
 use mathlib.Core.Bool.{Bool, true, false, ◌&&◌, ◌||◌}
-use mathlib.Core.Logic.{◌≢◌}
 use mathlib.Core.List.{List, [], ◌∷◌, ◌++◌}
-use Prim.Native.Nat.{ℕ, zero, suc, ◌+◌, ◌*◌, ◌≤◌}
+use Prim.Native.Nat.{ℕ, zero, suc, ◌*◌, ◌≤◌}
 use native.Mathlib.Omega.{arith}
 use lib.Dec.{eqb, ltb}
 use lib.ListN.{length, drop, length-append, length-drop}
 use borrow.Author.Tests.{lt-ltb, le-ltb}
-use Rattle.model.specs.declared.Written.{Written}
-use Rattle.model.specs.declared.Written.TheVariants.{Done, Refused}
+use Rattle.std.specs.Prelude.{Err}
+use Rattle.model.specs.declared.Refusal.{Refusal}
+use Rattle.model.specs.Results.{Written, passed}
+use Rattle.model.proofs.Numbers.{failed-some, failed-with}
 use Rattle.model.specs.Table.{MARK, Words, at, nodes}
 use Rattle.model.specs.SoundTest.{elem, sound}
 use Rattle.model.specs.Orders.{Store, Order, store, flush, barrier, BAR, encode, apply, orders, list_with}
@@ -69,17 +70,6 @@ named-orders len (barrier ∷ os) rest n h i =
     named-front len BAR 0 (encode os ++ rest) (length os) n ∙ ap (λ (b : Bool). b || named len (encode os ++ rest) (length os) n) (missed len BAR n h) ∙ named-orders len os rest n h i
 
 -- ---- a call
-
--- the orders of an answer
-pub done-count : (answer : Written) (a b c : ℕ) → answer ≡ Done a b c → orders_answered answer ≡ a + b + c
-done-count answer a b c e = ap orders_answered e
-
-pub refused-count : (answer : Written) (n : ℕ) → answer ≡ Refused n → orders_answered answer ≡ 0
-refused-count answer n e = ap orders_answered e
-
--- words set by as many orders
-pub same-count : (t list ws us : Words) (m n : ℕ) → m ≡ n → us ≡ set_anew (named (length t) list m) t ws → us ≡ set_anew (named (length t) list n) t ws
-same-count t list ws us m n e h = h ∙ ap (λ (j : ℕ). set_anew (named (length t) list j) t ws) e
 
 -- of a list as its dock needs it
 call-stores : (x : Call) (dock : ℕ) (t : Words) → stores_in (orders_of x dock t) ≡ stores_of x t
@@ -175,7 +165,10 @@ module _ (x : Call) (lent ws t : Words) (dock : ℕ) (fit : slice_number (sevent
 
 -- ---- refused before the plain call
 
-pub keep-not : (x : Call) (lent ws t : Words) (dock n : ℕ) → n ≡ slice_number (seventeen_in x t) (length ws) t → n ≢ 0 → Leaves x dock t t lent lent ws ws (Refused n)
+pub keep-not : (x : Call) (lent ws t : Words) (dock : ℕ) (r : Refusal) → passed (slice_number (seventeen_in x t) (length ws) t) ≡ Err r → Leaves x dock t t lent lent ws ws (Err r)
 unfolding written_with table_with orders_with sentinels_with refusal_with
-keep-not x lent ws t dock zero e z = absurd (z refl)
-keep-not x lent ws t dock (suc n) e z = record { answered = rw (← e); table = rw (← e); listed = rw (← e); slice = rw (← e) }
+keep-not x lent ws t dock r = go (slice_number (seventeen_in x t) (length ws) t) refl
+  where
+    go : (n : ℕ) → slice_number (seventeen_in x t) (length ws) t ≡ n → passed n ≡ Err r → Leaves x dock t t lent lent ws ws (Err r)
+    go zero e h = absurd (failed-some 0 h refl)
+    go (suc n) e h = record { answered = sym (failed-with (suc n) h) ∙ sym (rw e); table = rw e; listed = rw e; slice = rw e }

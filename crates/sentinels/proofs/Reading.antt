@@ -1,6 +1,6 @@
 -- A line of a node, slot by slot.
 use mathlib.Core.Path.{◌≡◌, refl, sym, ap, ◌∙◌}
-use mathlib.Core.Bool.{Bool, true, false, false≢true}
+use mathlib.Core.Bool.{Bool, true, false}
 use mathlib.Core.Logic.{◌≢◌}
 use mathlib.Core.List.{List, [], ◌∷◌}
 use Prim.Native.Nat.{ℕ, zero, suc, ◌+◌, ◌-◌, ◌*◌, ◌≤◌, ◌<◌}
@@ -8,6 +8,7 @@ use native.Mathlib.Omega.{arith}
 use lib.Dec.{eqb}
 use lib.ListN.{length, take, drop, length-take, length-drop}
 use lib.Seq.{take-nil}
+use Rattle.std.specs.Prelude.{Option, Some, None}
 use Rattle.model.specs.Table.{Words, at}
 use Rattle.model.specs.Slots.{Slot, slot, slots_of, in_use, shown}
 use Rattle.model.specs.Search.{first_with}
@@ -17,7 +18,6 @@ use Rattle.table_laws.proofs.Words.{at-part}
 use Rattle.slots.specs.Scan.{used_from}
 use Rattle.slots.specs.Held.{pointer_in}
 use Rattle.slots.proofs.Scans.{scan-stop, scan-more, shown-hide, shown-show}
-use Rattle.sentinels.specs.declared.Begun.{Begun}
 use Rattle.sentinels.specs.Lines.{left_at, words_at, slots_at, begun_in, line_of}
 
 -- ---- the words
@@ -34,7 +34,7 @@ module _ (t : Words) (w i : ℕ) (h : i < 12) where
 
 -- ---- what comes before a line
 
-begun-end : (p m : ℕ) → 0 < m → begun_in p m [] ≡ record { there = false; before = 0 }
+begun-end : (p m : ℕ) → 0 < m → begun_in p m [] ≡ None
 unfolding begun_in
 begun-end p zero h = absurd (omega arith)
 begun-end p (suc m) h = refl
@@ -45,11 +45,11 @@ begun-more p zero s ss h = absurd (omega arith)
 begun-more p (suc m) s ss h = let q : m ≡ suc m - 1 = omega arith in ap (λ (n : ℕ). begun_in s.pointer n ss) q
 
 -- A turn of the loop to the line's first slot, at slot i with pointer p: what comes before that slot is then x.
-module _ (t : Words) (w p first i : ℕ) (x : Begun) (long : w + 32 ≤ length t) (few : first ≤ 12) (h : i < first) (keeps : begun_in p (first - i) (used_from (words_at t w) i) ≡ x) where
+module _ (t : Words) (w p first i : ℕ) (x : Option ℕ) (long : w + 32 ≤ length t) (few : first ≤ 12) (h : i < first) (keeps : begun_in p (first - i) (used_from (words_at t w) i) ≡ x) where
   inside : 2 * i + 1 < length (words_at t w)
   inside = omega (arith, words-long t w long)
 
-  pub begun-stop : at t (w + 2 * i + 9) ≡ 0 → record { there = false; before = 0 } ≡ x
+  pub begun-stop : at t (w + 2 * i + 9) ≡ 0 → None ≡ x
   begun-stop e = sym (begun-end p (first - i) (omega arith)) ∙ scan-stop (begun_in p (first - i)) (words_at t w) i keeps inside (pointer-at t w i (omega arith) ∙ e)
 
   pub begun-on : at t (w + 2 * i + 9) ≢ 0 → begun_in (at t (w + 2 * i + 9)) (first - (i + 1)) (used_from (words_at t w) (i + 1)) ≡ x
@@ -61,47 +61,44 @@ module _ (t : Words) (w p first i : ℕ) (x : Begun) (long : w + 32 ≤ length t
       ∙ ap (λ (y : ℕ). begun_in y (first - (i + 1)) (used_from (words_at t w) (i + 1))) a
       )
 
-pub begun-start : (p first : ℕ) (ss : List Slot) → begun_in p (first - 0) ss ≡ begun_in p first ss
-begun-start p first ss = let q : first - 0 ≡ first = omega arith in ap (λ (n : ℕ). begun_in p n ss) q
-
-pub begun-done : (p first i : ℕ) (ws : Words) (x : Begun) → first ≤ i → begun_in p (first - i) (used_from ws i) ≡ x → record { there = true; before = p } ≡ x
+pub begun-done : (p first i : ℕ) (ws : Words) (x : Option ℕ) → first ≤ i → begun_in p (first - i) (used_from ws i) ≡ x → Some p ≡ x
 unfolding begun_in
 begun-done p first i ws x h keeps = let q : first - i ≡ 0 = omega arith in sym (ap (λ (n : ℕ). begun_in p n (used_from ws i)) q) ∙ keeps
 
 -- ---- the line
 
 -- there are slots up to it: it goes on from the pointer before it
-open-line : (p m : ℕ) (ss : List Slot) (b : Begun) → b ≡ begun_in p m (in_use ss) → b.there ≡ true → (last_pointer p (take m (in_use ss)) ≡ b.before) × (drop m (in_use ss) ≡ in_use (drop m ss))
+open-line : (p m : ℕ) (ss : List Slot) (q : ℕ) → begun_in p m (in_use ss) ≡ Some q → (last_pointer p (take m (in_use ss)) ≡ q) × (drop m (in_use ss) ≡ in_use (drop m ss))
 unfolding begun_in last_pointer in_use
-open-line p zero ss b e h = (ap (λ (x : Begun). x.before) (sym e), refl)
-open-line p (suc m) [] b e h = absurd (false≢true (ap (λ (x : Begun). x.there) (sym e) ∙ h))
-open-line p (suc m) (s ∷ ss) b e h = go (eqb s.pointer 0) refl (open-line s.pointer m ss b)
+open-line p zero ss q e = (cc, refl)
+open-line p (suc m) [] q e = cc
+open-line p (suc m) (s ∷ ss) q e = go (eqb s.pointer 0) refl (open-line s.pointer m ss q)
   where
     go : (c : Bool) → eqb s.pointer 0 ≡ c
-        → (b ≡ begun_in s.pointer m (in_use ss) → b.there ≡ true → (last_pointer s.pointer (take m (in_use ss)) ≡ b.before) × (drop m (in_use ss) ≡ in_use (drop m ss)))
-        → (last_pointer p (take (suc m) (in_use (s ∷ ss))) ≡ b.before) × (drop (suc m) (in_use (s ∷ ss)) ≡ in_use (drop m ss))
-    go true c ih = absurd (false≢true (ap (λ (x : Begun). x.there) (sym (rw (c, in_use) at e)) ∙ h))
-    go false c ih = rw (c, in_use) (ih (rw (c, in_use) at e) h)
+        → (begun_in s.pointer m (in_use ss) ≡ Some q → (last_pointer s.pointer (take m (in_use ss)) ≡ q) × (drop m (in_use ss) ≡ in_use (drop m ss)))
+        → (last_pointer p (take (suc m) (in_use (s ∷ ss))) ≡ q) × (drop (suc m) (in_use (s ∷ ss)) ≡ in_use (drop m ss))
+    go true c ih = let none : None ≡ Some q = rw (c, in_use) at e in cc
+    go false c ih = rw (c, in_use) (ih (rw (c, in_use) at e))
 
 -- there are not: it shows none
-shut-line : (p m : ℕ) (us : List Slot) (b : Begun) → b ≡ begun_in p m us → b.there ≡ false → drop m us ≡ []
+shut-line : (p m : ℕ) (us : List Slot) → begun_in p m us ≡ None → drop m us ≡ []
 unfolding begun_in
-shut-line p zero us b e h = absurd (false≢true (sym h ∙ ap (λ (x : Begun). x.there) e))
-shut-line p (suc m) [] b e h = refl
-shut-line p (suc m) (s ∷ us) b e h = shut-line s.pointer m us b e h
+shut-line p zero us e = cc
+shut-line p (suc m) [] e = refl
+shut-line p (suc m) (s ∷ us) e = shut-line s.pointer m us e
 
-module _ (t : Words) (w first : ℕ) (b : Begun) (e : b ≡ begun_in (left_at t w) first (slots_at t w)) where
-  pub line-shut : b.there ≡ false → line_of t w first ≡ []
+module _ (t : Words) (w first : ℕ) where
+  pub line-shut : begun_in (left_at t w) first (slots_at t w) ≡ None → line_of t w first ≡ []
   unfolding line_of shown
-  line-shut h = ap (λ (ss : List Slot). shown (last_pointer (left_at t w) (take first (slots_at t w))) (take 4 ss)) (shut-line (left_at t w) first (slots_at t w) b e h)
-
-  pub line-open : b.there ≡ true → line_of t w first ≡ shown b.before (take 4 (used_from (words_at t w) first))
-  unfolding line_of
-  line-open h = let u = open-line (left_at t w) first (slots_of (words_at t w)) b e h in rw (u.0, u.1)
+  line-shut e = ap (λ (ss : List Slot). shown (last_pointer (left_at t w) (take first (slots_at t w))) (take 4 ss)) (shut-line (left_at t w) first (slots_at t w) e)
 
   -- where a loop over it begins
-  pub line-start : b.there ≡ true → shown b.before (take (first + 4 - first) (used_from (words_at t w) first)) ≡ line_of t w first
-  line-start h = let q : first + 4 - first ≡ 4 = omega arith in ap (λ (n : ℕ). shown b.before (take n (used_from (words_at t w) first))) q ∙ sym (line-open h)
+  pub line-start : (q : ℕ) → begun_in (left_at t w) first (slots_at t w) ≡ Some q → shown q (take (first + 4 - first) (used_from (words_at t w) first)) ≡ line_of t w first
+  unfolding line_of
+  line-start q e =
+      let u = open-line (left_at t w) first (slots_of (words_at t w)) q e in
+      let n : first + 4 - first ≡ 4 = omega arith in
+      rw (n, u.0, u.1)
 
 -- ---- a turn of that loop, at slot i after pointer p, with the slots left before stop: what they come to is x
 

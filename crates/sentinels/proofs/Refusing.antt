@@ -1,80 +1,101 @@
 -- The number of the first test that holds, by the tests in the order of the code.
-use mathlib.Core.Path.{◌≡◌, refl, sym, ◌∙◌}
-use mathlib.Core.Bool.{Bool, true, false}
+use mathlib.Core.Path.{◌≡◌, refl, ap, sym, ◌∙◌}
+use mathlib.Core.Bool.{Bool, true, false, cond, not}
+use mathlib.Core.List.{[], ◌∷◌}
 use mathlib.Core.Logic.{◌≢◌}
 use Prim.Native.Nat.{ℕ, zero, suc, ◌*◌, ◌≤◌}
 use native.Mathlib.Omega.{arith}
 use lib.Dec.{eqb}
 use lib.ListN.{length}
-use borrow.Author.Tests.{eqb-true, eqb-false}
+use borrow.Author.Tests.{eqb-true, ne_eqb}
+use Rattle.std.specs.Prelude.{Ok, Err}
+use Rattle.model.specs.declared.Refusal.{Refusal}
+use Rattle.model.specs.declared.Refusal.TheVariants.{OtherSentinels}
+use Rattle.model.specs.Results.{Outcome, refused_with, passed}
+use Rattle.model.specs.Refusals.{test, first_number}
+use Rattle.model.proofs.Numbers.{fails}
 use Rattle.model.specs.Table.{Words, nodes, header_ok, header_number, no_collection}
-use Rattle.model.specs.declared.Outcome.TheVariants.{Done, Refused}
 use Rattle.model.specs.SoundTest.{sound}
 use Rattle.model.specs.Sentinels.{sentinels, slice_number, work_number, work_out, worked_out}
-use Rattle.table_laws.proofs.Header.{header-iff, header-number-iff, header-number-refused}
-use Rattle.sentinel_laws.proofs.Slices.{slice-bad, slice-lacks, slice-wrong, slice-right, fits}
-use Rattle.node.specs.Word.{number_in}
+use Rattle.table_laws.proofs.Header.{header-iff, header-number-refused}
+use Rattle.sentinel_laws.proofs.Slices.{slice-bad, slice-lacks, fits}
+use Rattle.node.specs.Word.{number_in, found_root}
+use Rattle.node.proofs.Roots.{root-there, found-ok}
 
 -- ---- a right header
 
 pub few-nodes : (t : Words) → header_ok t ≡ true → (3 ≤ length t) × (nodes t ≤ 65535)
 few-nodes t h = let f = (header-iff t).0 h in (omega (arith, f.size.long), f.size.few)
 
--- ---- the tests of a collection
+-- ---- the length: 19, where it is not 3 words a node
 
-pub record Passed (n : ℕ) (t : Words) : Type 0 where
-  pub header : header_ok t ≡ true
-  pub there : no_collection n t ≡ false
+abbrev pub length_number : (m : ℕ) → Words → ℕ
+length_number m t = cond (eqb m (3 * nodes t)) 0 19
 
-pub passed : (n : ℕ) (t : Words) (r : ℕ) → r ≡ number_in n t → r ≡ 0 → Passed n t
-unfolding number_in
-passed n t r e z = go (header_ok t) (no_collection n t) refl refl (sym e ∙ z)
+pub length-wrong : (m : ℕ) (t : Words) → m ≢ 3 * nodes t → Err OtherSentinels ≡ passed (length_number m t)
+length-wrong m t z = fails OtherSentinels (sym (rw (ne_eqb m (3 * nodes t) z)))
+
+pub length-is : (m : ℕ) (t : Words) → length_number m t ≡ 0 → m ≡ 3 * nodes t
+length-is m t e = go (eqb m (3 * nodes t)) refl e
   where
-    go : (a b : Bool) → header_ok t ≡ a → no_collection n t ≡ b → number_in n t ≡ 0 → Passed n t
-    go true false h c q = record { header = h; there = c }
-    go true true h c q = absurd (omega (arith, rw (h, c) at q))
-    go false b h c q = absurd (omega (arith, rw h at q))
+    go : (b : Bool) → eqb m (3 * nodes t) ≡ b → cond {A = ℕ} b 0 19 ≡ 0 → m ≡ 3 * nodes t
+    go true f z = eqb-true m (3 * nodes t) f
+    go false f z = absurd (omega (arith, z))
 
-pub not-passed : (n : ℕ) (t : Words) (m r : ℕ) → r ≡ number_in n t → r ≢ 0 → r ≡ slice_number (no_collection n t) m t
-unfolding number_in
-not-passed n t m r e z = go (header_ok t) (no_collection n t) refl refl
+pub length-nineteen : (m : ℕ) (t : Words) → length_number m t ≢ 0 → length_number m t ≡ 19
+length-nineteen m t = go (eqb m (3 * nodes t))
   where
-    go : (a b : Bool) → header_ok t ≡ a → no_collection n t ≡ b → r ≡ slice_number (no_collection n t) m t
-    go true false h c = absurd (z (e ∙ rw (h, c)))
-    go true true h c = e ∙ rw (h, c) (sym (slice-lacks true m t h refl))
-    go false b h c = e ∙ rw h (sym (slice-bad (no_collection n t) m t h))
+    go : (b : Bool) → cond {A = ℕ} b 0 19 ≢ 0 → cond {A = ℕ} b 0 19 ≡ 19
+    go true z = absurd (z refl)
+    go false z = refl
 
--- ---- the length
+-- it is what is left to test
+pub rest-number : (lacks : Bool) (m : ℕ) (t : Words) → header_ok t ≡ true → lacks ≡ false → slice_number lacks m t ≡ length_number m t
+unfolding slice_number
+rest-number lacks m t h c = rw (h, c) (go (eqb m (3 * nodes t)))
+  where
+    go : (b : Bool) → first_number (test false 2 ∷ test false 17 ∷ test (not b) 19 ∷ []) ≡ cond {A = ℕ} b 0 19
+    go true = refl
+    go false = refl
 
-module _ (lacks : Bool) (m : ℕ) (t : Words) (h : header_ok t ≡ true) (c : lacks ≡ false) (b : Bool) (e : b ≡ eqb m (3 * nodes t)) where
-  pub right-length : b ≡ true → 0 ≡ slice_number lacks m t
-  right-length q = sym (slice-right lacks m t h c (eqb-true _ _ (sym e ∙ q)))
+-- ---- the tests before it
 
-  pub wrong-length : b ≡ false → 19 ≡ slice_number lacks m t
-  wrong-length q = sym (slice-wrong lacks m t h c (eqb-false _ _ (sym e ∙ q)))
+pub collection-number : (n m : ℕ) (t : Words) → number_in n t ≢ 0 → slice_number (no_collection n t) m t ≡ number_in n t
+unfolding number_in
+collection-number n m t z = go (header_ok t) (no_collection n t) refl refl
+  where
+    go : (a b : Bool) → header_ok t ≡ a → no_collection n t ≡ b → slice_number (no_collection n t) m t ≡ cond (header_ok t) (cond (no_collection n t) 17 0) 2
+    go true false h c = absurd (z (rw (h, c)))
+    go true true h c = slice-lacks (no_collection n t) m t h c ∙ sym (rw (h, c))
+    go false b h c = slice-bad (no_collection n t) m t h ∙ sym (rw h)
 
--- ---- no collection
+pub header-number : (m : ℕ) (t : Words) → header_number t ≢ 0 → slice_number false m t ≡ header_number t
+unfolding header_number
+header-number m t z = let h = header-number-refused t z in slice-bad false m t h ∙ sym (rw h)
 
-pub header-passed : (t : Words) (r : ℕ) → r ≡ header_number t → r ≡ 0 → header_ok t ≡ true
-header-passed t r e z = (header-number-iff t).0 (sym e ∙ z)
+-- the collection is there
+pub found-there : (n : ℕ) (t : Words) {r : ℕ} → found_root n t ≡ Ok r → (header_ok t ≡ true) × (no_collection n t ≡ false)
+found-there n t e = let f = found-ok n t e in let u = root-there n t _ f.0 f.1 in (u.0, u.1)
 
-pub header-lost : (t : Words) (m r : ℕ) → r ≡ header_number t → r ≢ 0 → 2 ≡ slice_number false m t
-header-lost t m r e z = sym (slice-bad false m t (header-number-refused t (λ q. z (e ∙ q))))
+-- a refusal of theirs is handed on
+pub handed-on : (n : ℕ) {m : ℕ} {r : Refusal} → n ≢ 0 → ◌≡◌ {A = Outcome} (refused_with n) (Err r) → m ≡ n → Err r ≡ passed m
+handed-on zero z e q = absurd (z refl)
+handed-on (suc n) z e q = sym e ∙ sym (ap passed q)
 
 -- ---- working them out: the answer, and the slice
 
 module _ (ws t : Words) where
-  pub work-refused : (x : ℕ) → x ≡ slice_number false (length ws) t → x ≢ 0 → (Refused x ≡ work_out (length ws) t) × (ws ≡ worked_out ws t)
+  pub work-refused : (x : ℕ) → x ≡ slice_number false (length ws) t → x ≢ 0 → (refused_with x ≡ work_out (length ws) t) × (ws ≡ worked_out ws t)
   unfolding work_out worked_out work_number
   work-refused zero e z = absurd (z refl)
   work-refused (suc x) e z = rw (← e) (refl, refl)
 
   module _ (e : 0 ≡ slice_number false (length ws) t) where
-    pub work-unsound : sound t ≡ false → (Refused 4 ≡ work_out (length ws) t) × (ws ≡ worked_out ws t)
+    pub work-unsound : sound t ≡ false → (refused_with 4 ≡ work_out (length ws) t) × (ws ≡ worked_out ws t)
     unfolding work_out worked_out work_number
     work-unsound s = rw (← e, s) (refl, refl)
 
-    pub work-done : (us : Words) → sound t ≡ true → us ≡ sentinels t → (Done ≡ work_out (length ws) t) × (us ≡ worked_out ws t)
+    pub work-done : (us : Words) → sound t ≡ true → us ≡ sentinels t → (Ok tt ≡ work_out (length ws) t) × (us ≡ worked_out ws t)
     unfolding work_out worked_out work_number
     work-done us s q = rw (← e, s) (refl, q)
 

@@ -1,14 +1,19 @@
 -- The search that takes the words, by the tests in the order of the code.
-use mathlib.Core.Path.{◌≡◌, refl, sym, ap, ◌∙◌}
+use mathlib.Core.Path.{◌≡◌, refl, sym, ap, subst, ◌∙◌}
 use mathlib.Core.Bool.{Bool, true, false, cond}
-use mathlib.Core.Logic.{◌≢◌}
+use mathlib.Core.Logic.{◌≢◌, inl, inr}
 use mathlib.Core.List.{List}
 use mathlib.Core.Option.{Option, none, some}
 use Prim.Native.Nat.{ℕ, zero, suc, ◌+◌, ◌-◌, ◌*◌, ◌≤◌, ◌<◌}
 use native.Mathlib.Omega.{arith}
-use lib.Dec.{eqb, leb}
+use lib.Dec.{leb}
 use lib.ListN.{length}
-use borrow.Author.Tests.{le-leb, lt-leb, leb-true, leb-false, eqb-true}
+use borrow.Author.Tests.{le-leb, lt-leb, leb-true, leb-false}
+use Rattle.std.specs.Prelude.{Result, Ok, Err}
+use Rattle.model.specs.declared.Refusal.{Refusal}
+use Rattle.model.specs.Numbers.{refusal_number, refusal_of}
+use Rattle.model.proofs.Numbers.{Numbered, slice-numbered, done-err, failed-some, passed-zero}
+use Rattle.model.specs.Results.{refused_with, passed}
 use Rattle.model.specs.declared.Answer.{Answer}
 use Rattle.model.specs.declared.Answer.TheVariants.{Found, Refused}
 use Rattle.model.specs.declared.Node.{Node}
@@ -26,13 +31,13 @@ use Rattle.sentinel_laws.proofs.Searches.{with-tree, plain-tree}
 use Rattle.tree_laws.proofs.Rising.{first-mem}
 use Rattle.slots.specs.Held.{pointer_in}
 use Rattle.slots.specs.Scan.{shown_from}
-use Rattle.node.specs.Word.{start_of, root_in, number_in}
+use Rattle.node.specs.Word.{start_of, root_in, number_in, found_root}
 use Rattle.node.proofs.Answers.{start-some}
-use Rattle.node.proofs.Roots.{root-there, number-none}
+use Rattle.node.proofs.Roots.{root-there, found-ok}
 use Rattle.search.specs.declared.Stood.{Stood}
 use Rattle.search.specs.Descent.{seen_in, stand_on, locate_within, answer_held}
 use Rattle.search.proofs.Standing.{Stands, held-read, held-answer, shown-some, any-within, within-in, within-high, come, by-root, answered-lost, stood-on as located-on}
-use Rattle.sentinels.proofs.Refusing.{passed, not-passed, wrong-length}
+use Rattle.sentinels.proofs.Refusing.{length_number, length-is, length-nineteen, rest-number, collection-number, found-there}
 use Rattle.sentinels.specs.Lines.{line_number, line_of}
 
 -- ---- the line
@@ -134,16 +139,22 @@ refused-with n ws t k x e z = go x e z
     go zero q u = absurd (u refl)
     go (suc y) q u = rw (← q)
 
-pub with-bad : (n : ℕ) (ws t : Words) (k r x : ℕ) → r ≡ root_in n t → r ≡ 0 → x ≡ number_in n t → Refused x ≡ search_with n ws t k
-with-bad n ws t k r x e z q = refused-with n ws t k x (not-passed n t (length ws) x q some) some
+pub with-bad : (n : ℕ) (ws t : Words) (k x : ℕ) (r : Refusal) → found_root n t ≡ Err r → x ≡ refusal_number r → Refused x ≡ search_with n ws t k
+unfolding found_root
+with-bad n ws t k x r e q =
+    let f = done-err (number_in n t) (root_in n t) e in
+    let same = collection-number n (length ws) t f.0 in
+    let y : x ≡ number_in n t = q ∙ go (number_in n t) f.0 f.1 (subst (λ (m : ℕ). Numbered m) same (slice-numbered (no_collection n t) (length ws) t)) in
+    refused-with n ws t k x (y ∙ sym same) (λ z. f.0 (sym y ∙ z))
   where
-    some : x ≢ 0
-    some y = let u = passed n t x q y in omega (arith, sym q ∙ y, number-none n t r e z u.header, q, y)
+    go : (m : ℕ) → m ≢ 0 → ◌≡◌ {A = Result ℕ Refusal} (refused_with m) (Err r) → Numbered m → refusal_number r ≡ m
+    go m z h (inl a) = absurd (z a)
+    go m z h (inr a) = let s : refusal_of m ≡ r = cc in ap refusal_number (sym s) ∙ a
 
-pub with-wrong : (n : ℕ) (ws t : Words) (k r : ℕ) (b : Bool) → r ≡ root_in n t → r ≢ 0 → b ≡ eqb (length ws) (3 * nodes t) → b ≡ false → Refused 19 ≡ search_with n ws t k
-with-wrong n ws t k r b e z q f =
-    let u = root-there n t r e z in
-    refused-with n ws t k 19 (wrong-length (no_collection n t) (length ws) t u.0 u.1 b q f) (λ y. omega arith)
+pub with-wrong : (n : ℕ) (ws t : Words) (k : ℕ) {r : ℕ} {b : Refusal} → found_root n t ≡ Ok r → passed (length_number (length ws) t) ≡ Err b → Refused 19 ≡ search_with n ws t k
+with-wrong n ws t k f g =
+    let u = found-there n t f in
+    refused-with n ws t k 19 (sym (rest-number (no_collection n t) (length ws) t u.0 u.1 ∙ length-nineteen (length ws) t (failed-some (length_number (length ws) t) g))) (λ z. omega (arith, z))
 
 leaf-within : (v : View) (k : ℕ) → leaf_sought v k ≡ locate_within v 0 15 v.root k
 unfolding leaf_sought
@@ -162,7 +173,7 @@ no-slot t m k (some j) e = go (first_with k (shown_on t m j)) refl
     go none q = q
     go (some s) q = absurd (each-mem (λ (s : Slot). s.pointer ≢ 0) (shown-some t m) (line-shown t m j s (first-mem k s (shown_on t m j) q).0) (ap pointer_in (sym q) ∙ e))
 
-module _ (n : ℕ) (ws t : Words) (k r leaf : ℕ) (e : r ≡ root_in n t) (z : r ≢ 0) (b : Bool) (fit : b ≡ eqb (length ws) (3 * nodes t)) (fits : b ≡ true)
+module _ (n : ℕ) (ws t : Words) (k r leaf : ℕ) (f : found_root n t ≡ Ok r) {u : Unit {0}} (g : passed (length_number (length ws) t) ≡ Ok u)
     (l : leaf ≡ (seen_in (view t) k (locate_within (view t) 0 15 r k)).node) where
   abbrev v : View
   v = view_of n t
@@ -170,11 +181,17 @@ module _ (n : ℕ) (ws t : Words) (k r leaf : ℕ) (e : r ≡ root_in n t) (z : 
   abbrev found : Option ℕ
   found = locate_within (view t) 0 15 r k
 
+  e : r ≡ root_in n t
+  e = (found-ok n t f).0
+
+  z : r ≢ 0
+  z = (found-ok n t f).1
+
   there : (header_ok t ≡ true) × (no_collection n t ≡ false) × (r ≡ at t (root_word n))
   there = root-there n t r e z
 
   pub long : length ws ≡ 3 * nodes t
-  long = eqb-true _ _ (sym fit ∙ fits)
+  long = length-is (length ws) t (passed-zero (length_number (length ws) t) g)
 
   with-led : search_with n ws t k ≡ answer_of (led_to ws t k (leaf_sought v k)) (search_view v k)
   with-led = with-tree n ws t k long there.0 there.1

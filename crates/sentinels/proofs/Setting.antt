@@ -140,21 +140,15 @@ past-table w len h = rw (le-ltb w len h)
 
 -- ---- the words of the nodes that the first orders of a list store to
 
--- what renew_once leaves: the last node set, and the slice
-pub once-zero : (n last : ℕ) → n ≡ 0 → last ≡ cond (eqb n 0) last n
-once-zero n last z = rw (eq-eqb n 0 z)
-
-pub once-other : (n last : ℕ) → n ≢ 0 → n ≡ cond (eqb n 0) last n
-once-other n last z = rw (ne_eqb n 0 z)
-
+-- what renew_once leaves of the slice
 module _ (n last : ℕ) (vs us : Words) where
-  pub once-skips : n ≡ 0 → vs ≡ cond (eqb n 0 || eqb n last) vs us
+  once-skips : n ≡ 0 → vs ≡ cond (eqb n 0 || eqb n last) vs us
   once-skips z = rw (eq-eqb n 0 z)
 
-  pub once-had : n ≢ 0 → n ≡ last → vs ≡ cond (eqb n 0 || eqb n last) vs us
+  once-had : n ≢ 0 → n ≡ last → vs ≡ cond (eqb n 0 || eqb n last) vs us
   once-had z e = rw (ne_eqb n 0 z, eq-eqb n last e)
 
-  pub once-sets : n ≢ 0 → n ≢ last → us ≡ cond (eqb n 0 || eqb n last) vs us
+  once-sets : n ≢ 0 → n ≢ last → us ≡ cond (eqb n 0 || eqb n last) vs us
   once-sets z e = rw (ne_eqb n 0 z, ne_eqb n last e)
 
 module _ (t ws list : Words) (long : length ws ≡ 3 * nodes t) where

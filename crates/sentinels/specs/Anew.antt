@@ -1,6 +1,6 @@
 -- A slice of 3 words a node with the words of one node put in; the nodes that an order list stores to; what setting the words asks.
 use Rattle.std.specs.Prelude.{◌≡◌, Bool, true, false, ◌&&◌, ◌||◌, ◌++◌, ℕ, zero, suc, ◌-◌, ◌*◌, ◌≤◌, ◌<◌, eqb, ltb, length, take, drop}
-use Rattle.model.specs.declared.Written.{Written}
+use Rattle.model.specs.Results.{Written}
 use Rattle.model.specs.Table.{Words, at, nodes, header_ok}
 use Rattle.model.specs.SoundTest.{sound}
 use Rattle.model.specs.Refusals.{orders_answered}

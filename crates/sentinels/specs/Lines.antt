@@ -1,11 +1,10 @@
 -- One slot line of a node that begins at word w of a table, by the slot that the line begins with.
-use Rattle.std.specs.Prelude.{true, false, List, [], ◌∷◌, ℕ, zero, suc, ◌+◌, take, drop}
+use Rattle.std.specs.Prelude.{List, [], ◌∷◌, ℕ, zero, suc, ◌+◌, take, drop, Option as Answer, Some, None}
 use Rattle.std.proofs.Math.Option.{Option, none, some}
 use Rattle.model.specs.Table.{Words, at}
 use Rattle.model.specs.Slots.{Slot, shown}
 use Rattle.model.specs.Shifts.{last_pointer}
 use Rattle.slots.specs.Scan.{used_from}
-use Rattle.sentinels.specs.declared.Begun.{Begun}
 
 abbrev pub left_at : Words → (w : ℕ) → ℕ
 left_at t w = at t w
@@ -17,10 +16,10 @@ words_at t w = take 24 (drop (w + 8) t)
 abbrev pub slots_at : Words → (w : ℕ) → List Slot
 slots_at t w = used_from (words_at t w) 0
 
--- what comes before the slot after m slots, of these slots in use: whether there are so many, and the pointer before it
-unfoldable pub begun_in : (before m : ℕ) → List Slot → Begun
-begun_in before zero ss = record { there = true; before = before }
-begun_in before (suc m) [] = record { there = false; before = 0 }
+-- the pointer before the slot after m slots, of these slots in use, if there are so many
+unfoldable pub begun_in : (before m : ℕ) → List Slot → Answer ℕ
+begun_in before zero ss = Some before
+begun_in before (suc m) [] = None
 begun_in before (suc m) (s ∷ ss) = begun_in s.pointer m ss
 
 -- the shown slots on the line

@@ -7,6 +7,7 @@ ghost use Rattle.model.specs.Table.{header_ok, no_collection, node, nodes};
 ghost use Rattle.model.specs.Slots.{view};
 ghost use Rattle.model.specs.Search.{first_with, on_level, answer_in};
 ghost use Rattle.model.specs.SoundTest.{elem, sound};
+ghost use Rattle.model.specs.Results.{passed};
 ghost use Rattle.model.specs.Refusals.{orders_answered};
 ghost use Rattle.model.specs.Sentinels.{first_key, leaves_all, sentinels_of, sentinels, words_of, node_of, set_anew};
 ghost use Rattle.model.specs.Sentinels.{slice_number, work_out, worked_out, line_for, on_line, search_with};
@@ -16,76 +17,54 @@ ghost use Rattle.search.specs.Descent.{seen_in, stand_on, locate_within};
 ghost use Rattle.sentinels.specs.Lines.{slots_at, left_at, begun_in, line_of, line_number};
 ghost use Rattle.sentinels.specs.Anew.{put_words, named, Asks};
 
-use model::{Answer, MARK, Node, Outcome, Written};
+use model::{Answer, Counts, MARK, Node, Outcome, Refusal, Written};
 
 // ---- refusals
 
-// Whether a slice of so many words has 3 words for each node.
-fn fits(table: &[u64], words: usize) -> bool
+// Refusal 19: a slice of so many words has not 3 words for each node.
+fn fits(table: &[u64], words: usize) -> Outcome
     requires { header_ok table.now ≡ true }
-    ensures { result ≡ eqb words (3 * nodes table.now) }
+    ensures { result ≡ passed (cond (eqb words (3 * nodes table.now)) 0 19) }
 {
-    words as u64 == 3 * table[2]
+    if words as u64 == 3 * table[2] {
+        return Ok(());
+    }
+    Err(Refusal::OtherSentinels)
 }
 
-// What a call that takes a slice of so many words tests first, for a collection: 0, or 2, 17 or 19.
-pub fn refusal(table: &[u64], words: usize, collection: u64) -> u8
-    ensures { result ≡ slice_number (no_collection collection table.now) words table.now }
+// What a call that takes a slice of so many words tests first, for a collection: 2, 17 and 19.
+pub fn refusal(table: &[u64], words: usize, collection: u64) -> Outcome
+    ensures { result ≡ passed (slice_number (no_collection collection table.now) words table.now) }
 {
-    let number = node::refusal(table, collection);
-    if number != 0 {
-        return number;
-    }
-    if fits(table, words) {
-        return 0;
-    }
-    19
+    node::find_root(table, collection)?;
+    fits(table, words)
 }
 
-// For a call that names none: 0, or 2 or 19.
-pub fn refusal_any(table: &[u64], words: usize) -> u8
-    ensures { result ≡ slice_number false words table.now }
+// For a call that names none: 2 and 19.
+pub fn refusal_any(table: &[u64], words: usize) -> Outcome
+    ensures { result ≡ passed (slice_number false words table.now) }
 {
-    if node::header(table) != 0 {
-        return 2;
-    }
-    if fits(table, words) {
-        return 0;
-    }
-    19
+    node::header(table)?;
+    fits(table, words)
 }
 
 // ---- one line of a node that begins at word w, by the slot that the line begins with. Only the lines up to it are read.
 
-// What comes before slot first: whether the slots up to it are in use, and the pointer before it.
-#[derive(Clone, Copy)]
-struct Begun {
-    there: bool,
-    before: u64,
-}
-
-fn begin(table: &[u64], w: usize, first: usize) -> Begun
+// The pointer before slot first, if the slots up to it are in use.
+fn begin(table: &[u64], w: usize, first: usize) -> Option<u64>
     requires w_in_bounds { w + 32 ≤ length table.now }
     requires first_bound { first ≤ 12 }
     ensures { result ≡ begun_in (left_at table.now w) first (slots_at table.now w) }
 {
     let mut before = table[w];
-    let mut i = 0;
-    while i < first {
+    for i in 0..first {
         let p = table[w + 2 * i + 9];
         if p == 0 {
-            return Begun {
-                there: false,
-                before: 0,
-            };
+            return None;
         }
         before = p;
-        i += 1;
     }
-    Begun {
-        there: true,
-        before: before,
-    }
+    Some(before)
 }
 
 // The key of the first shown slot on the line, else MARK.
@@ -94,13 +73,10 @@ fn line_key(table: &[u64], w: usize, first: usize) -> u64
     requires first_bound { first ≤ 8 }
     ensures { result ≡ first_key (line_of table.now w first) }
 {
-    let b = begin(table, w, first);
-    if !b.there {
+    let Some(before) = begin(table, w, first) else {
         return MARK;
-    }
-    let before = b.before;
-    let mut i = first;
-    while i < first + 4 {
+    };
+    for i in first..first + 4 {
         let p = table[w + 2 * i + 9];
         if p == 0 {
             return MARK;
@@ -108,7 +84,6 @@ fn line_key(table: &[u64], w: usize, first: usize) -> u64
         if p != before {
             return table[w + 2 * i + 8];
         }
-        i += 1;
     }
     MARK
 }
@@ -119,24 +94,18 @@ fn line_find(table: &[u64], w: usize, first: usize, key: u64) -> u64
     requires first_bound { first ≤ 8 }
     ensures { result ≡ pointer_in (first_with key (line_of table.now w first)) }
 {
-    let b = begin(table, w, first);
-    if !b.there {
+    let Some(mut before) = begin(table, w, first) else {
         return 0;
-    }
-    let mut before = b.before;
-    let mut i = first;
-    while i < first + 4 {
+    };
+    for i in first..first + 4 {
         let p = table[w + 2 * i + 9];
         if p == 0 {
             return 0;
         }
-        if p != before {
-            if table[w + 2 * i + 8] == key {
-                return p;
-            }
+        if p != before && table[w + 2 * i + 8] == key {
+            return p;
         }
         before = p;
-        i += 1;
     }
     0
 }
@@ -148,10 +117,7 @@ fn is_leaf(table: &[u64], n: u64) -> bool
     requires { sound table.now ≡ true }
     ensures { result ≡ elem n (leaves_all table.now) }
 {
-    if node::word(table, n, 2) != 0 {
-        return false;
-    }
-    reach::is_taken(table, n)
+    node::word(table, n, 2) == 0 && reach::is_taken(table, n)
 }
 
 // The words of node n in a slice.
@@ -191,11 +157,8 @@ fn fill(table: &[u64], words: &mut [u64])
     requires words_len { length words.old ≡ 3 * nodes table.now }
     ensures { words.new ≡ sentinels table.now }
 {
-    let count = table[2];
-    let mut n = 1;
-    while n <= count {
+    for n in 1..=table[2] {
         renew(table, words, n);
-        n += 1;
     }
 }
 
@@ -204,15 +167,12 @@ pub fn work_out(table: &[u64], words: &mut [u64]) -> Outcome
     ensures value { result ≡ work_out (length words.old) table.now }
     ensures words_after { words.new ≡ worked_out words.old table.now }
 {
-    let number = refusal_any(table, words.len());
-    if number != 0 {
-        return Outcome::Refused(number);
-    }
+    refusal_any(table, words.len())?;
     if !sound::is_sound(table) {
-        return Outcome::Refused(4);
+        return Err(Refusal::NotSound);
     }
     fill(table, words);
-    Outcome::Done
+    Ok(())
 }
 
 // ---- the words of the nodes that were stored to
@@ -237,10 +197,7 @@ fn renew_once(table: &[u64], words: &mut [u64], n: u64, last: u64) -> u64
     ensures words_after { words.new
         ≡ cond (eqb n 0 || eqb n last) words.old (put_words words.old n (sentinels_of table.now n)) }
 {
-    if n == 0 {
-        return last;
-    }
-    if n == last {
+    if n == 0 || n == last {
         return last;
     }
     renew(table, words, n);
@@ -258,11 +215,9 @@ fn renew_stored(table: &[u64], words: &mut [u64], list: &[u64], count: usize)
 {
     let len = table.len();
     let mut last = 0;
-    let mut i = 0;
-    while i < count {
+    for i in 0..count {
         let n = stored_node(list[2 * i], len);
         last = renew_once(table, words, n, last);
-        i += 1;
     }
 }
 
@@ -272,16 +227,16 @@ pub fn keep(table: &[u64], words: &mut [u64], list: &[u64], answer: Written)
     ensures { words.new
         ≡ set_anew (named (length table.now) list.now (orders_answered answer)) table.now words.old }
 {
-    match answer {
-        Written::Done {
+    if let Ok(
+        Counts {
             stores,
             flushes,
             barriers,
-        } => {
-            let count = stores + flushes + barriers;
-            renew_stored(table, words, list, count as usize);
-        }
-        Written::Refused(_) => {}
+        },
+    ) = answer
+    {
+        let count = stores + flushes + barriers;
+        renew_stored(table, words, list, count as usize);
     }
 }
 
@@ -353,16 +308,14 @@ fn leaf_for(table: &[u64], root: u64, key: u64) -> u64
     let mut n = root;
     let mut low = 0;
     let mut high = 15;
+    // No count of turns: the level that is read says how far down it is, and the first one is not known before.
     loop {
         if !node::has(table, n) {
             return 0;
         }
         let x = node::read(table, n);
         let level = x.level;
-        if level < low {
-            return 0;
-        }
-        if high < level {
+        if level < low || high < level {
             return 0;
         }
         if level == 0 {
@@ -391,14 +344,13 @@ fn whole_leaf(table: &[u64], m: u64, key: u64) -> Answer
 pub fn search_with(table: &[u64], words: &[u64], collection: u64, key: u64) -> Answer
     ensures { result ≡ search_with collection words.now table.now key }
 {
-    let root = node::root(table, collection);
-    if root == 0 {
-        let number = node::refusal(table, collection);
-        return Answer::Refused(number);
-    }
-    if !fits(table, words.len()) {
+    let root = match node::find_root(table, collection) {
+        Ok(root) => root,
+        Err(refusal) => return Answer::Refused(u8::from(refusal)),
+    };
+    let Ok(()) = fits(table, words.len()) else {
         return Answer::Refused(19);
-    }
+    };
     let leaf = leaf_for(table, root, key);
     if leaf == 0 {
         return Answer::Refused(3);

@@ -1,7 +1,7 @@
 -- The moves that make and close a gap, slot by slot.
 use mathlib.Core.Path.{◌≡◌}
 use mathlib.Core.List.{List, [], ◌∷◌, ◌++◌, map}
-use Prim.Native.Nat.{ℕ, suc, ◌+◌, ◌-◌, ◌*◌, ◌<◌, ◌≤◌}
+use Prim.Native.Nat.{ℕ, zero, suc, ◌+◌, ◌-◌, ◌*◌, ◌<◌, ◌≤◌}
 use native.Mathlib.Numerals.{add-one}
 use native.Mathlib.Omega.{arith}
 use lib.ListN.{length, take, drop, length-drop, drop_of_length-le}
@@ -45,17 +45,21 @@ module _ (w : ℕ) (ws : Words) (p i : ℕ) where
     last : suc (p + length (take (i - 1 - p) (drop p (in_use_of ws)))) ≡ i
     last = rw (length-take-le (i - 1 - p) (drop p (in_use_of ws)) (rw length-drop (omega arith))) (omega arith)
 
-    pub up-next : up_to w ws p i ≡ in_from w (pointer_to i (at ws (2 * (i - 1) + 1))) ∷ in_from w (key_to i (at ws (2 * (i - 1)))) ∷ up_to w ws p (i - 1)
-    up-next = rw (shorter, move-up-snoc, last)
+    pub up-next : up_to w ws p i ≡ in_from w (pointer_to (i - 1 + 1) (at ws (2 * (i - 1) + 1))) ∷ in_from w (key_to (i - 1 + 1) (at ws (2 * (i - 1)))) ∷ up_to w ws p (i - 1)
+    up-next = let e : i - 1 + 1 ≡ i = omega arith in rw (shorter, move-up-snoc, last, e)
 
 -- ---- down: the first slot moves first
 
-module _ (w : ℕ) (ws : Words) (i : ℕ) where
-  pub down-next : i + 1 < length (in_use_of ws)
-      → moves_down w ws i ≡ in_from w (key_to i (at ws (2 * (i + 1)))) ∷ in_from w (pointer_to i (at ws (2 * (i + 1) + 1))) ∷ moves_down w ws (i + 1)
+module _ (w : ℕ) (ws : Words) where
+  pub down-next : (i : ℕ) → 0 < i → i < length (in_use_of ws)
+      → moves_down w ws (i - 1) ≡ in_from w (key_to (i - 1) (at ws (2 * i))) ∷ in_from w (pointer_to (i - 1) (at ws (2 * i + 1))) ∷ moves_down w ws (i + 1 - 1)
   unfolding move_down
-  down-next h = let l : suc i < length (in_use_of ws) = omega arith in rw (add-one i, in-use-cons ws (suc i) l, add-one (suc i))
+  down-next zero z h = absurd (omega arith)
+  down-next (suc i) z h =
+      let before : suc i - 1 ≡ i = omega arith in
+      let after : suc i + 1 - 1 ≡ suc i = omega arith in
+      rw (before, after, in-use-cons ws (suc i) h, add-one (suc i))
 
-  pub down-end : length (in_use_of ws) ≤ i + 1 → moves_down w ws i ≡ []
+  pub down-end : (i : ℕ) → 0 < i → length (in_use_of ws) ≤ i → moves_down w ws (i - 1) ≡ []
   unfolding move_down
-  down-end h = rw (drop_of_length-le (in_use_of ws) {i = suc i} (omega arith))
+  down-end i z h = rw (drop_of_length-le (in_use_of ws) {i = suc (i - 1)} (omega arith))

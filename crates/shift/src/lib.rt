@@ -48,11 +48,9 @@ fn move_up(
     ensures { desk table.new list.new result ≡ stored_all (moves_up w slots p) (desk table.old list.old pen) }
 {
     let mut at = pen;
-    let mut i = slots::count(slots);
-    while p < i {
-        at = put_pointer(table, list, at, w, i, slots[2 * (i - 1) + 1]);
-        at = put_key(table, list, at, w, i, slots[2 * (i - 1)]);
-        i -= 1;
+    for i in (p..slots::count(slots)).rev() {
+        at = put_pointer(table, list, at, w, i + 1, slots[2 * i + 1]);
+        at = put_key(table, list, at, w, i + 1, slots[2 * i]);
     }
     at
 }
@@ -71,13 +69,10 @@ fn move_down(
     requires room { Room (moves_down w slots p) (desk table.old list.old pen) }
     ensures { desk table.new list.new result ≡ stored_all (moves_down w slots p) (desk table.old list.old pen) }
 {
-    let n = slots::count(slots);
     let mut at = pen;
-    let mut i = p;
-    while i + 1 < n {
-        at = put_key(table, list, at, w, i, slots[2 * (i + 1)]);
-        at = put_pointer(table, list, at, w, i, slots[2 * (i + 1) + 1]);
-        i += 1;
+    for i in p + 1..slots::count(slots) {
+        at = put_key(table, list, at, w, i - 1, slots[2 * i]);
+        at = put_pointer(table, list, at, w, i - 1, slots[2 * i + 1]);
     }
     at
 }
@@ -285,7 +280,7 @@ fn node_words(
     slots: [u64; 24],
     from: usize,
 ) -> [u64; 32]
-    requires { from ≤ 12 }
+    requires { from ≤ length (in_use_of slots) }
     ensures { result ≡ node_words left sibling level fence (drop from (in_use_of slots)) }
 {
     let mut words = [0u64; 32];
@@ -293,13 +288,8 @@ fn node_words(
     words[1] = sibling;
     words[2] = level;
     words[3] = fence;
-    let first = 2 * from;
-    let end = 2 * slots::count(slots);
-    let mut j = 0;
-    while first + j < end {
-        words[8 + j] = slots[first + j];
-        j += 1;
-    }
+    let used = &slots[2 * from..2 * slots::count(slots)];
+    words[8..8 + used.len()].copy_from_slice(used);
     words
 }
 
@@ -322,10 +312,8 @@ fn put_words(table: &mut [u64], list: &mut [u64], pen: Pen, w: usize, words: [u6
     ensures { desk table.new list.new result ≡ stored_all (put_all w words) (desk table.old list.old pen) }
 {
     let mut at = pen;
-    let mut j = 0;
-    while j < 32 {
-        at = orders::store(table, list, at, w + j, words[j]);
-        j += 1;
+    for (j, &word) in words.iter().enumerate() {
+        at = orders::store(table, list, at, w + j, word);
     }
     at
 }

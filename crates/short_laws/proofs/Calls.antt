@@ -10,8 +10,8 @@ use lib.Dec.{ltb, leb}
 use lib.ListN.{length, take, drop, replicate, length-drop, take-append-drop}
 use lib.Seq.{take_at, drop_at, length-take-le}
 use borrow.Author.Tests.{ltb-false, lt-ltb, le-ltb, le-leb}
-use Rattle.model.specs.declared.Outcome.TheVariants.{Done, Refused}
-use Rattle.model.specs.declared.Ranked.TheVariants as ranked
+use Rattle.std.specs.Prelude.{Ok}
+use Rattle.model.specs.Results.{Outcome, refused_with}
 use Rattle.model.specs.Table.{Words, at, all_zero}
 use Rattle.model.specs.SoundTest.{all}
 use Rattle.list_laws.proofs.Tools.{and-iff, eqb-iff, leb-iff, refuted}
@@ -58,17 +58,17 @@ form-words (n ∷ ws) l e = let p = simp (and-iff, leb-iff) at e in form-parts n
 -- ---- the calls
 
 -- the script of a number has this number
-pub script-call : (n : ℕ) (lent : Words) → n < SCRIPTS → script_number (script_out n lent) ≡ ranked.Number n
+pub script-call : (n : ℕ) (lent : Words) → n < SCRIPTS → script_number (script_out n lent) ≡ Ok n
 unfolding script_out script_number
 script-call n lent h =
     rw (lt-ltb n SCRIPTS h, words-form (script_of n) (script-is n), words-actions (script_of n), script-rank n h)
 
 -- and the number of a script gives it back
-pub number-call : (ws lent : Words) (n : ℕ) → length ws ≡ 5 → script_number ws ≡ ranked.Number n → (script_answer n ≡ Done) × (script_out n lent ≡ ws)
+pub number-call : (ws lent : Words) (n : ℕ) → length ws ≡ 5 → script_number ws ≡ Ok n → (script_answer n ≡ Ok tt) × (script_out n lent ≡ ws)
 unfolding script_answer script_out script_number
 number-call ws lent n l e = go (form_script ws) refl e
   where
-    go : (b : Bool) → form_script ws ≡ b → cond b (ranked.Number (rank (actions_in ws))) (ranked.Refused 23) ≡ ranked.Number n → (script_answer n ≡ Done) × (script_out n lent ≡ ws)
+    go : (b : Bool) → form_script ws ≡ b → cond b (Ok (rank (actions_in ws))) (refused_with 23) ≡ Ok n → (script_answer n ≡ Ok tt) × (script_out n lent ≡ ws)
     go true f q =
         let p = form-words ws l f in
         let m : rank (actions_in ws) ≡ n = cc in
@@ -77,20 +77,26 @@ number-call ws lent n l e = go (form_script ws) refl e
     go false f q = let z : ◌≡◌ {A = ℕ} 0 1 = cc in absurd (omega arith)
 
 -- 22, number above 1,554
-pub twenty-two : (n : ℕ) → (script_answer n ≡ Refused 22) ↔ (1554 < n)
+pub twenty-two : (n : ℕ) → (script_answer n ≡ refused_with 22) ↔ (1554 < n)
 unfolding script_answer
-twenty-two n = (go (ltb n SCRIPTS) refl, λ h. rw (le-ltb n SCRIPTS h))
+twenty-two n = (go (ltb n SCRIPTS) refl, above)
   where
-    go : (b : Bool) → ltb n SCRIPTS ≡ b → cond b Done (Refused 22) ≡ Refused 22 → 1554 < n
+    answer : Bool → Outcome
+    answer b = cond b (Ok tt) (refused_with 22)
+
+    above : 1554 < n → answer (ltb n SCRIPTS) ≡ refused_with 22
+    above h = rw (le-ltb n SCRIPTS h)
+
+    go : (b : Bool) → ltb n SCRIPTS ≡ b → answer b ≡ refused_with 22 → 1554 < n
     go true f q = let z : ◌≡◌ {A = ℕ} 0 1 = cc in absurd (omega arith)
     go false f q = omega (arith, ltb-false n SCRIPTS f)
 
 -- 23, actions that form no such script
-pub twenty-three : (ws : Words) → length ws ≡ 5 → (script_number ws ≡ ranked.Refused 23) ↔ ((s : Script) → is_script s ≡ true → script_words s ≡ ws → ⊥)
+pub twenty-three : (ws : Words) → length ws ≡ 5 → (script_number ws ≡ refused_with 23) ↔ ((s : Script) → is_script s ≡ true → script_words s ≡ ws → ⊥)
 unfolding script_number
 twenty-three ws l = (λ e s c q. go (form_script ws) refl e s c q, λ f. rw (refuted (form_script ws) (λ h. let p = form-words ws l h in f (actions_in ws) p.0 p.1)))
   where
-    go : (b : Bool) → form_script ws ≡ b → cond b (ranked.Number (rank (actions_in ws))) (ranked.Refused 23) ≡ ranked.Refused 23
+    go : (b : Bool) → form_script ws ≡ b → cond b (Ok (rank (actions_in ws))) (refused_with 23) ≡ refused_with 23
         → (s : Script) → is_script s ≡ true → script_words s ≡ ws → ⊥
     go true f q s c r = let z : ◌≡◌ {A = ℕ} 0 1 = cc in omega arith
     go false f q s c r = false≢true (sym f ∙ ap form_script (sym r) ∙ words-form s c)

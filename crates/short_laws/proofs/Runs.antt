@@ -9,11 +9,10 @@ use native.Mathlib.Omega.{arith}
 use lib.ListN.{length, take}
 use borrow.Author.Tests.{eq-eqb}
 use Rattle.model.specs.declared.Answer.TheVariants.{Absent}
-use Rattle.model.specs.declared.Next.{Next}
-use Rattle.model.specs.declared.Next.TheVariants.{Key, Nothing}
+use Rattle.std.specs.Prelude.{Some, None}
 use Rattle.model.specs.Table.{Words, empty, empty_of}
 use Rattle.model.specs.Slots.{Slot, recording, class}
-use Rattle.model.specs.Search.{first_above, first_with, answer_of, lookup, search}
+use Rattle.model.specs.Search.{first_above, first_with, answer_of, lookup, search, Next}
 use Rattle.model.specs.Reached.{map_of, Maps, maps_of}
 use Rattle.model.specs.SoundTest.{all, sound}
 use Rattle.model.specs.Orders.{carry, apply, store_count}
@@ -36,8 +35,8 @@ use Rattle.model.specs.Scripts.{Script, call_of, script_of, SCRIPTS, cut_tables,
 -- ---- a sound table agrees with its own map
 
 same-next : (x : Next) → same_next x x ≡ true
-same-next (Key j) = eq-eqb j j refl
-same-next Nothing = refl
+same-next (Some j) = eq-eqb j j refl
+same-next None = refl
 
 lookup-same : (k : ℕ) (ps : List Slot) → same_answer (lookup k ps) (lookup k ps) ≡ true
 unfolding lookup

@@ -2,11 +2,14 @@
 use mathlib.Core.Path.{◌≡◌, refl, sym, ap, ◌∙◌}
 use mathlib.Core.Bool.{Bool, true, false, cond}
 use mathlib.Core.List.{List, [], ◌∷◌, map}
-use Prim.Native.Nat.{ℕ, zero, suc, ◌+◌, ◌≤◌}
+use Prim.Native.Nat.{ℕ, zero, suc, ◌+◌, ◌%◌, ◌≤◌}
 use native.Mathlib.Omega.{arith}
-use lib.ListN.{length, take, length-map}
-use Rattle.model.specs.declared.Written.{Written}
-use Rattle.model.specs.declared.Written.TheVariants.{Done, Refused}
+use lib.ListN.{length, take, set, length-map}
+use Rattle.std.specs.Prelude.{Ok, Err}
+use Rattle.model.specs.declared.Counts.{Counts}
+use Rattle.model.specs.declared.Refusal.{Refusal}
+use Rattle.model.specs.Results.{Written, refused_with, done_with}
+use Rattle.model.proofs.Numbers.{done-ok}
 use Rattle.model.specs.Table.{Words}
 use Rattle.model.specs.Slots.{Slot}
 use Rattle.model.specs.Reached.{filter, map_of, Maps, maps_of}
@@ -26,8 +29,7 @@ use Rattle.two_laws.proofs.MapsTwo.{accepted-steps, call-steps}
 use Rattle.two_laws.proofs.DocksTwo.{no-barriers}
 use Rattle.two_laws.proofs.SearchTwo.{sound-head}
 use Rattle.short_laws.proofs.Runs.{after-map}
-use Rattle.short_scripts.specs.declared.Held.{Held}
-use Rattle.short_scripts.specs.Held.{pairs, with_key, changed}
+use Rattle.short_scripts.specs.Held.{Held, pairs, changed}
 use Rattle.short_scripts.specs.Met.{is_bad, bad_among, Acts}
 use Rattle.short_scripts.proofs.Keys.{enter-held, leave-held}
 
@@ -41,24 +43,21 @@ map-each f g (x ∷ xs) e = rw (e.0, map-each f g xs e.1)
 
 module _ (x : Call) (words : ℕ) (t : Words) where
   abbrev told : (number : ℕ) → Written
-  told n = unless_refused n (Done (store_count (orders_of x 0 t)) (flush_count (orders_of x 0 t)) (barrier_count (orders_of x 0 t))) (Refused n)
+  told n = unless_refused n (done_with (store_count (orders_of x 0 t)) (flush_count (orders_of x 0 t)) (barrier_count (orders_of x 0 t))) (refused_with n)
 
-  pub done-accepts : (w : Written) (s f b : ℕ) → w ≡ written x words 0 t → w ≡ Done s f b → (refusal x words 0 t ≡ 0) × (s + f ≡ length (orders_of x 0 t))
+  pub done-accepts : (w : Written) (k : Counts) → w ≡ written x words 0 t → w ≡ Ok k → (refusal x words 0 t ≡ 0) × (k.stores + k.flushes ≡ length (orders_of x 0 t))
   unfolding written
-  done-accepts w s f b e d = go (refusal x words 0 t) refl (sym d ∙ e)
-    where
-      go : (n : ℕ) → refusal x words 0 t ≡ n → Done s f b ≡ told n → (refusal x words 0 t ≡ 0) × (s + f ≡ length (orders_of x 0 t))
-      go zero r q =
-          let p : s ≡ store_count (orders_of x 0 t) = cc in
-          let q : f ≡ flush_count (orders_of x 0 t) = cc in
-          (r, omega (arith, p, q, counts-length (orders_of x 0 t), no-barriers x t))
-      go (suc n) r q = let z : ◌≡◌ {A = ℕ} 0 1 = cc in absurd (omega arith)
+  done-accepts w k e d =
+      let both = done-ok (refusal x words 0 t) _ (sym e ∙ d) in
+      let p : store_count (orders_of x 0 t) ≡ k.stores = ap (λ (c : Counts). c.stores) both.1 in
+      let q : flush_count (orders_of x 0 t) ≡ k.flushes = ap (λ (c : Counts). c.flushes) both.1 in
+      (both.0, omega (arith, p, q, counts-length (orders_of x 0 t), no-barriers x t))
 
-  pub refused-not : (w : Written) (m : ℕ) → w ≡ written x words 0 t → w ≡ Refused m → (n : ℕ) × (refusal x words 0 t ≡ suc n)
+  pub refused-not : (w : Written) (k : Refusal) → w ≡ written x words 0 t → w ≡ Err k → (n : ℕ) × (refusal x words 0 t ≡ suc n)
   unfolding written
-  refused-not w m e d = go (refusal x words 0 t) refl (sym d ∙ e)
+  refused-not w k e d = go (refusal x words 0 t) refl (sym d ∙ e)
     where
-      go : (n : ℕ) → refusal x words 0 t ≡ n → Refused m ≡ told n → (n : ℕ) × (refusal x words 0 t ≡ suc n)
+      go : (n : ℕ) → refusal x words 0 t ≡ n → Err k ≡ told n → (n : ℕ) × (refusal x words 0 t ≡ suc n)
       go zero r q = let z : ◌≡◌ {A = ℕ} 0 1 = cc in absurd (omega arith)
       go (suc n) r q = (n, r)
 
@@ -99,46 +98,46 @@ repaired-map t s = ap (λ (m : Maps). m.one) (call-steps repair t s refl tt).all
 abbrev call_by : Bool → (a : ℕ) → Call
 call_by b a = cond b (insertion 1 (action_key a) (10 + action_key a) 0) (deletion 1 (action_key a))
 
-map-by : (b : Bool) (a : ℕ) (t : Words) (h : Held) → sound t ≡ true → map_of 1 t ≡ pairs h → refusal (call_by b a) 2560 0 t ≡ 0
-    → map_of 1 (table_after (call_by b a) 2560 0 t) ≡ pairs (with_key h (action_key a) b)
+map-by : (b : Bool) (a : ℕ) (t : Words) (h : Held) → length h ≡ 3 → sound t ≡ true → map_of 1 t ≡ pairs h → refusal (call_by b a) 2560 0 t ≡ 0
+    → map_of 1 (table_after (call_by b a) 2560 0 t) ≡ pairs (set h (a % 3) b)
 unfolding on_map maps_of
-map-by true a t h s m ok =
+map-by true a t h l s m ok =
     let free : has_key (action_key a) (map_of 1 (repaired t)) ≡ false = ((accepted-iff (call_by true a) 2560 0 t).0 ok).allows.no-key in
-    after-map (call_by true a) 2560 t s ok ∙ rw m (enter-held h a (rw (repaired-map t s, m) at free))
-map-by false a t h s m ok = after-map (call_by false a) 2560 t s ok ∙ rw m (leave-held h a)
+    after-map (call_by true a) 2560 t s ok ∙ rw m (enter-held h a l (rw (repaired-map t s, m) at free))
+map-by false a t h l s m ok = after-map (call_by false a) 2560 t s ok ∙ rw m (leave-held h a)
 
-pub map-after : (a : ℕ) (t : Words) (h : Held) → sound t ≡ true → map_of 1 t ≡ pairs h → refusal (call_of a) 2560 0 t ≡ 0
+pub map-after : (a : ℕ) (t : Words) (h : Held) → length h ≡ 3 → sound t ≡ true → map_of 1 t ≡ pairs h → refusal (call_of a) 2560 0 t ≡ 0
     → map_of 1 (table_after (call_of a) 2560 0 t) ≡ pairs (changed h a)
 unfolding call_of changed
-map-after a t h s m ok = map-by (inserts a) a t h s m ok
+map-after a t h l s m ok = map-by (inserts a) a t h l s m ok
 
 -- ---- the action
 
 module _ (a : ℕ) (lent t : Words) (h : Held) (long : length lent ≡ 2560) (s : sound t ≡ true) (m : map_of 1 t ≡ pairs h) where
   -- an accepted call has few orders
-  pub few-orders : (w : Written) (st f b : ℕ) → w ≡ written (call_of a) 2560 0 t → w ≡ Done st f b → st + f ≤ 1121
-  few-orders w st f b e d =
-      let p = done-accepts (call_of a) 2560 t w st f b e d in
+  pub few-orders : (w : Written) (k : Counts) → w ≡ written (call_of a) 2560 0 t → w ≡ Ok k → k.stores + k.flushes ≤ 1121
+  few-orders w k e d =
+      let p = done-accepts (call_of a) 2560 t w k e d in
       omega (arith, p.1, (accepted-steps (call_of a) 2560 0 t s p.0).few)
 
-  pub acts-done : (w : Written) (st f b : ℕ) → w ≡ written (call_of a) 2560 0 t → w ≡ Done st f b
-      → (next : Held) → next ≡ changed h a → (list : Words) → list ≡ list_after (call_of a) lent 0 t
-      → (bad : ℕ) → bad ≡ bad_among (pairs h) (pairs next) t list 0 (st + f + 1)
-      → Acts a t (record { tables = st + f + 1; bad = bad; held = next })
-  acts-done w st f b e d next n list l bad q =
-      let p = done-accepts (call_of a) 2560 t w st f b e d in
-      let few = few-orders w st f b e d in
-      let after = map-after a t h s m p.0 ∙ ap pairs (sym n) in
-      let count : st + f + 1 ≡ suc (length (orders_of (call_of a) 0 t)) = omega (arith, p.1) in
+  pub acts-done : (w : Written) (k : Counts) → w ≡ written (call_of a) 2560 0 t → w ≡ Ok k
+      → length h ≡ 3 → (next : Held) → next ≡ changed h a → (list : Words) → list ≡ list_after (call_of a) lent 0 t
+      → (bad : ℕ) → bad ≡ bad_among (pairs h) (pairs next) t list 0 (k.stores + k.flushes + 1)
+      → Acts a t (record { tables = k.stores + k.flushes + 1; bad = bad }) next
+  acts-done w k e d three next n list l bad q =
+      let p = done-accepts (call_of a) 2560 t w k e d in
+      let few = few-orders w k e d in
+      let after = map-after a t h three s m p.0 ∙ ap pairs (sym n) in
+      let count : k.stores + k.flushes + 1 ≡ suc (length (orders_of (call_of a) 0 t)) = omega (arith, p.1) in
       record {
         tables-are = rw p.0 (count ∙ sym (tables-counted (call_of a) t));
         bad-are = rw p.0 (q ∙ rw (l, count, ← after, ← m) (bad-counted (call_of a) lent t s (rw long p.0) long));
         tables-few = omega arith;
-        bad-few = omega (arith, q, among-few (pairs h) (pairs next) t list (st + f + 1));
+        bad-few = omega (arith, q, among-few (pairs h) (pairs next) t list (k.stores + k.flushes + 1));
         map-is = after;
       }
 
-  pub acts-refused : (w : Written) (k : ℕ) → w ≡ written (call_of a) 2560 0 t → w ≡ Refused k → Acts a t (record { tables = 0; bad = 0; held = h })
+  pub acts-refused : (w : Written) (k : Refusal) → w ≡ written (call_of a) 2560 0 t → w ≡ Err k → Acts a t (record { tables = 0; bad = 0 }) h
   unfolding table_after
   acts-refused w k e d =
       let (n, r) = refused-not (call_of a) 2560 t w k e d in

@@ -1,27 +1,16 @@
--- Answers compared, and a table held to a map: from what the parts answered.
+-- A table held to a map, and the call of an action: from what the parts answered.
 use mathlib.Core.Path.{◌≡◌, refl}
-use mathlib.Core.Bool.{Bool, true, false, not, ◌&&◌}
+use mathlib.Core.Bool.{Bool, true, false, ◌&&◌}
 use mathlib.Core.List.{List}
 use Prim.Native.Nat.{ℕ, ◌+◌, ◌%◌, ◌≤◌, ◌<◌}
 use native.Mathlib.Numerals.{add-one}
-use lib.Dec.{eqb}
 use borrow.Author.Tests.{lt-ltb, le-ltb}
-use Rattle.model.specs.declared.Answer.{Answer}
-use Rattle.model.specs.declared.Next.{Next}
-use Rattle.model.specs.declared.Next.TheVariants.{Key}
 use Rattle.model.specs.Table.{Words}
 use Rattle.model.specs.Slots.{Slot}
 use Rattle.model.specs.Search.{lookup, search}
 use Rattle.model.specs.SoundTest.{all}
 use Rattle.model.specs.Writes.{insertion, deletion}
-use Rattle.model.specs.Scripts.{call_of, same_next, same_answer, agrees}
-use Rattle.short_scripts.specs.Met.{is_bad}
-
-pub same-keys : (x y : Next) (j k : ℕ) → x ≡ Key j → y ≡ Key k → eqb j k ≡ same_next x y
-same-keys x y j k e f = rw (e, f)
-
-pub same-both : (x y a b : Answer) (r : Bool) → x ≡ a → y ≡ b → r ≡ same_answer a b → r ≡ same_answer x y
-same-both x y a b r e f g = rw (e, f) g
+use Rattle.model.specs.Scripts.{call_of, same_answer, agrees}
 
 -- ---- the three keys
 
@@ -44,14 +33,6 @@ module _ (ps : List Slot) (t : Words) where
       go : (b : Bool) → b && true ≡ b
       go true = refl
       go false = refl
-
--- ---- a bad table
-
-pub old-agrees : (old new : List Slot) (u : Words) → agrees old u ≡ true → is_bad old new u ≡ false
-old-agrees old new u e = rw e
-
-pub new-decides : (old new : List Slot) (u : Words) → agrees old u ≡ false → is_bad old new u ≡ not (agrees new u)
-new-decides old new u e = rw e
 
 -- ---- the action's call
 

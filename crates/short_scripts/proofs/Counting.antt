@@ -1,5 +1,5 @@
 -- What is met, counted on: tables of an action, actions of a script, scripts.
-use mathlib.Core.Path.{◌≡◌, refl, ap, ◌∙◌}
+use mathlib.Core.Path.{◌≡◌, sym, ap, ◌∙◌}
 use mathlib.Core.Bool.{Bool, true, false, cond}
 use mathlib.Core.List.{List}
 use Prim.Native.Nat.{ℕ, suc, ◌+◌, ◌-◌, ◌≤◌, ◌<◌}
@@ -17,10 +17,6 @@ use Rattle.short_scripts.specs.Met.{is_bad, bad_among}
 
 -- ---- the tables of an action
 
-pub one-most : (r : ℕ) (b : Bool) → r ≡ cond b 1 0 → r ≤ 1
-one-most r true e = omega arith
-one-most r false e = omega arith
-
 module _ (old new : List Slot) (t l : Words) where
   one-more : (c n : ℕ) (b : Bool) → is_bad old new (carried_out c l t) ≡ b → bad_among old new t l c (suc n) ≡ cond b 1 0 + bad_among old new t l (suc c) n
   unfolding bad_among numbers
@@ -36,14 +32,10 @@ module _ (old new : List Slot) (t l : Words) where
   unfolding bad_among numbers filter
   among-all c count bad h e = let z : count + 1 - c ≡ 0 = omega arith in omega (arith, rw z at e)
 
-  -- one table, as it was judged
-  pub judged-one : (c r : ℕ) (b : Bool) (u : Words) → r ≡ cond b 1 0 → b ≡ is_bad old new u → u ≡ carried_out c l t → r ≡ cond (is_bad old new (carried_out c l t)) 1 0
-  judged-one c r b u e f g = rw (← g, ← f) e
-
-  -- one table more
-  pub among-next : (c count bad r : ℕ) → c ≤ count → r ≡ cond (is_bad old new (carried_out c l t)) 1 0
-      → bad + r + bad_among old new t l (c + 1) (count + 1 - (c + 1)) ≡ bad + bad_among old new t l c (count + 1 - c)
-  among-next c count bad r h e =
+  -- one table more, as it was judged
+  pub among-next : (c count bad more : ℕ) (b : Bool) (u : Words) → c ≤ count → b ≡ is_bad old new u → u ≡ carried_out c l t → more ≡ bad + cond b 1 0
+      → more + bad_among old new t l (c + 1) (count + 1 - (c + 1)) ≡ bad + bad_among old new t l c (count + 1 - c)
+  among-next c count bad more b u h f g e =
       let m : count + 1 - c ≡ suc (count + 1 - (c + 1)) = omega arith in
       let k : c + 1 ≡ suc c = add-one c in
-      rw (m, k) (omega (arith, e, one-more c (count + 1 - suc c) (is_bad old new (carried_out c l t)) refl))
+      rw (m, k) (omega (arith, e, one-more c (count + 1 - suc c) b (rw g at (sym f))))

@@ -1,109 +1,87 @@
--- The map by its three keys: what is there, what comes next, and what an accepted action makes of it.
-use mathlib.Core.Path.{◌≡◌, refl, sym, ap, ◌∙◌}
+-- The map by its three keys: what is there, what comes next, and what an accepted action makes of it. Most of it holds of any number of keys.
+use mathlib.Core.Path.{◌≡◌, refl, sym, ◌∙◌}
 use mathlib.Core.Bool.{Bool, true, false, cond, ◌&&◌, false≢true}
 use mathlib.Core.Logic.{◌⊎◌, inl, inr, ◌≢◌}
-use mathlib.Core.List.{List, [], ◌∷◌, ◌++◌, append-nil}
-use mathlib.Core.Option.{none}
-use Prim.Native.Nat.{ℕ, zero, suc, ◌+◌, ◌%◌, ◌≤◌, ◌<◌}
+use mathlib.Core.List.{List, [], ◌∷◌}
+use mathlib.Core.Option.{none, some}
+use Prim.Native.Nat.{ℕ, zero, suc, ◌+◌, ◌-◌, ◌%◌, ◌≤◌, ◌<◌}
+use native.Mathlib.Numerals.{add-one}
 use native.Mathlib.Omega.{arith}
 use lib.Dec.{ltb}
-use borrow.Author.Tests.{eqb-false, ne_eqb}
+use lib.ListN.{length, drop, get_or, set, drop_of_length-le}
+use lib.Seq.{drop-cons}
+use borrow.Author.Tests.{eqb-false, ne_eqb, eq-eqb, lt-ltb, le-ltb}
 use Rattle.model.specs.declared.Answer.TheVariants.{Found, Absent}
-use Rattle.model.specs.declared.Next.{Next}
-use Rattle.model.specs.declared.Next.TheVariants.{Key, Nothing}
-use Rattle.model.specs.Slots.{Slot, recording_of, class_of, pointer_of}
+use Rattle.std.specs.Prelude.{Some, None}
+use Rattle.model.specs.Slots.{Slot, slot, recording_of, class_of, pointer_of}
 use Rattle.model.specs.Search.{first_with, first_above, lookup}
 use Rattle.model.specs.Refusals.{has_key}
 use Rattle.model.specs.Ledger.{enter, leave}
-use Rattle.short_scripts.specs.declared.Held.{Held}
 use Rattle.model.specs.Scripts.{action_key}
-use Rattle.list_laws.proofs.Tools.{or-false-iff, same-or-not, first-nil, first-past}
-use Rattle.short_scripts.specs.Held.{held, pair, pairs, with_key}
-
--- what holds of the eight maps holds of each
-of-eight : (P : Held → Type 0) → P (held true true true) → P (held true true false) → P (held true false true) → P (held true false false)
-    → P (held false true true) → P (held false true false) → P (held false false true) → P (held false false false) → (h : Held) → P h
-of-eight P p₁ p₂ p₃ p₄ p₅ p₆ p₇ p₈ h = go h.one h.two h.three
-  where
-    go : (a b c : Bool) → P (held a b c)
-    go true true true = p₁
-    go true true false = p₂
-    go true false true = p₃
-    go true false false = p₄
-    go false true true = p₅
-    go false true false = p₆
-    go false false true = p₇
-    go false false false = p₈
+use Rattle.list_laws.proofs.Tools.{or-false-iff, same-or-not, first-nil, first-here, first-past}
+use Rattle.short_scripts.specs.Held.{Held, pairs_from, pairs}
 
 -- ---- what is there
 
-pub has-one : (h : Held) → has_key 1 (pairs h) ≡ h.one
-unfolding pairs has_key
-has-one h = of-eight (λ (h : Held). has_key 1 (pairs h) ≡ h.one) refl refl refl refl refl refl refl refl h
-
-pub has-two : (h : Held) → has_key 2 (pairs h) ≡ h.two
-unfolding pairs has_key
-has-two h = of-eight (λ (h : Held). has_key 2 (pairs h) ≡ h.two) refl refl refl refl refl refl refl refl h
-
-pub has-three : (h : Held) → has_key 3 (pairs h) ≡ h.three
-unfolding pairs has_key
-has-three h = of-eight (λ (h : Held). has_key 3 (pairs h) ≡ h.three) refl refl refl refl refl refl refl refl h
-
--- another key's pair
-has-off : (k j : ℕ) (b : Bool) (ps : List Slot) → (k ≡ j → ⊥) → has_key k (pair j b ++ ps) ≡ has_key k ps
+-- a key that is there is one of them
+within-from : (h : Held) (k j : ℕ) → has_key j (pairs_from k h) ≡ true → (k ≤ j) × (j < k + length h)
 unfolding has_key
-has-off k j true ps n = rw (ne_eqb j k (λ e. n (sym e)))
-has-off k j false ps n = refl
-
-pub has-other : (h : Held) (k : ℕ) → (k ≡ 1 → ⊥) → (k ≡ 2 → ⊥) → (k ≡ 3 → ⊥) → has_key k (pairs h) ≡ false
-unfolding pairs has_key
-has-other h k x y z =
-    has-off k 1 h.one (pair 2 h.two ++ pair 3 h.three) x ∙ has-off k 2 h.two (pair 3 h.three) y
-    ∙ rw (← (append-nil (pair 3 h.three))) (has-off k 3 h.three [] z)
-
--- a key that is there is one of the three
-one-of-three : (h : Held) (k : ℕ) → has_key k (pairs h) ≡ true → (k ≡ 1) ⊎ ((k ≡ 2) ⊎ (k ≡ 3))
-one-of-three h k e = go (same-or-not k 1) (same-or-not k 2) (same-or-not k 3)
+within-from [] k j e = absurd (false≢true e)
+within-from (false ∷ h) k j e = let p = within-from h (suc k) j e in (omega (arith, p.0), omega (arith, p.1))
+within-from (true ∷ h) k j e = go (same-or-not k j) (within-from h (suc k) j)
   where
-    go : (k ≡ 1) ⊎ (k ≢ 1) → (k ≡ 2) ⊎ (k ≢ 2) → (k ≡ 3) ⊎ (k ≢ 3) → (k ≡ 1) ⊎ ((k ≡ 2) ⊎ (k ≡ 3))
-    go (inl p) q r = inl p
-    go (inr x) (inl q) r = inr (inl q)
-    go (inr x) (inr y) (inl r) = inr (inr r)
-    go (inr x) (inr y) (inr z) = absurd (false≢true (sym (has-other h k x y z) ∙ e))
+    go : (k ≡ j) ⊎ (k ≢ j) → (has_key j (pairs_from (suc k) h) ≡ true → (suc k ≤ j) × (j < suc k + length h)) → (k ≤ j) × (j < k + suc (length h))
+    go (inl q) later = (omega (arith, q), omega (arith, q))
+    go (inr n) later = let p = later (rw (ne_eqb k j n) at e) in (omega (arith, p.0), omega (arith, p.1))
 
-pub has-within : (h : Held) (k : ℕ) → has_key k (pairs h) ≡ true → k ≤ 3
-has-within h k e = go (one-of-three h k e)
+has-outside : (h : Held) (k j : ℕ) → ((k ≤ j) × (j < k + length h) → ⊥) → has_key j (pairs_from k h) ≡ false
+has-outside h k j n = go (has_key j (pairs_from k h)) refl
   where
-    go : (k ≡ 1) ⊎ ((k ≡ 2) ⊎ (k ≡ 3)) → k ≤ 3
-    go (inl q) = omega arith
-    go (inr (inl q)) = omega arith
-    go (inr (inr q)) = omega arith
+    go : (b : Bool) → has_key j (pairs_from k h) ≡ b → b ≡ false
+    go true e = absurd (n (within-from h k j e))
+    go false e = refl
+
+has-from : (h : Held) (k i j : ℕ) → j ≡ k + i → has_key j (pairs_from k h) ≡ get_or h i false
+unfolding has_key
+has-from [] k i j e = refl
+has-from (true ∷ h) k zero j e = rw (eq-eqb k j (omega (arith, e)))
+has-from (false ∷ h) k zero j e = has-outside h (suc k) j (λ p. omega (arith, e, p.0))
+has-from (true ∷ h) k (suc i) j e = rw (ne_eqb k j (λ q. omega (arith, e, q))) (has-from h (suc k) i j (omega (arith, e)))
+has-from (false ∷ h) k (suc i) j e = has-from h (suc k) i j (omega (arith, e))
+
+pub has-at : (h : Held) (k : ℕ) → 0 < k → get_or h (k - 1) false ≡ has_key k (pairs h)
+unfolding pairs
+has-at h zero l = absurd (omega arith)
+has-at h (suc i) l = let e : suc i - 1 ≡ i = omega arith in rw e (sym (has-from h 1 i (suc i) (omega arith)))
+
+pub has-other : (h : Held) (k : ℕ) → length h ≡ 3 → ((1 ≤ k) × (k ≤ 3) → ⊥) → false ≡ has_key k (pairs h)
+unfolding pairs
+has-other h k l n = sym (has-outside h 1 k (λ p. n (p.0, omega (arith, p.1))))
+
+pub has-within : (h : Held) (k : ℕ) → length h ≡ 3 → has_key k (pairs h) ≡ true → k ≤ 3
+unfolding pairs
+has-within h k l e = omega (arith, (within-from h 1 k e).1)
 
 -- ---- the answer
 
 -- where the key is there, and where it is not
-abbrev found_in : (k : ℕ) → Held → Type 0
-found_in k h = has_key k (pairs h) ≡ true → lookup k (pairs h) ≡ Found (10 + k) 0
-
-found-one : (h : Held) → found_in 1 h
-unfolding pairs has_key lookup first_with recording_of class_of pointer_of
-found-one h = of-eight (found_in 1) (λ e. refl) (λ e. refl) (λ e. refl) (λ e. refl) (λ e. absurd (false≢true e)) (λ e. absurd (false≢true e)) (λ e. absurd (false≢true e)) (λ e. absurd (false≢true e)) h
-
-found-two : (h : Held) → found_in 2 h
-unfolding pairs has_key lookup first_with recording_of class_of pointer_of
-found-two h = of-eight (found_in 2) (λ e. refl) (λ e. refl) (λ e. absurd (false≢true e)) (λ e. absurd (false≢true e)) (λ e. refl) (λ e. refl) (λ e. absurd (false≢true e)) (λ e. absurd (false≢true e)) h
-
-found-three : (h : Held) → found_in 3 h
-unfolding pairs has_key lookup first_with recording_of class_of pointer_of
-found-three h = of-eight (found_in 3) (λ e. refl) (λ e. absurd (false≢true e)) (λ e. refl) (λ e. absurd (false≢true e)) (λ e. refl) (λ e. absurd (false≢true e)) (λ e. refl) (λ e. absurd (false≢true e)) h
-
-pub there-answer : (h : Held) (k : ℕ) → has_key k (pairs h) ≡ true → lookup k (pairs h) ≡ Found (10 + k) 0
-there-answer h k e = go (one-of-three h k e)
+first-from : (h : Held) (k j : ℕ) → has_key j (pairs_from k h) ≡ true → first_with j (pairs_from k h) ≡ some (slot j (pointer_of (10 + j) 0))
+unfolding has_key
+first-from [] k j e = absurd (false≢true e)
+first-from (false ∷ h) k j e = first-from h (suc k) j e
+first-from (true ∷ h) k j e = go (same-or-not k j) (first-from h (suc k) j)
   where
-    go : (k ≡ 1) ⊎ ((k ≡ 2) ⊎ (k ≡ 3)) → lookup k (pairs h) ≡ Found (10 + k) 0
-    go (inl q) = rw q (found-one h (rw q at e))
-    go (inr (inl q)) = rw q (found-two h (rw q at e))
-    go (inr (inr q)) = rw q (found-three h (rw q at e))
+    go : (k ≡ j) ⊎ (k ≢ j) → (has_key j (pairs_from (suc k) h) ≡ true → first_with j (pairs_from (suc k) h) ≡ some (slot j (pointer_of (10 + j) 0)))
+        → first_with j (slot k (pointer_of (10 + k) 0) ∷ pairs_from (suc k) h) ≡ some (slot j (pointer_of (10 + j) 0))
+    go (inl q) later = rw q (first-here j (slot j (pointer_of (10 + j) 0)) (pairs_from (suc j) h) refl)
+    go (inr n) later = first-past j (slot k (pointer_of (10 + k) 0)) (pairs_from (suc k) h) n ∙ later (rw (ne_eqb k j n) at e)
+
+pub there-answer : (h : Held) (k : ℕ) → k ≤ 3 → has_key k (pairs h) ≡ true → lookup k (pairs h) ≡ Found (10 + k) 0
+unfolding pairs lookup recording_of class_of pointer_of
+there-answer h k l e =
+    let r : recording_of (pointer_of (10 + k) 0) ≡ 10 + k = omega arith in
+    let c : class_of (pointer_of (10 + k) 0) ≡ 0 = omega arith in
+    rw (first-from h 1 k e, r, c)
 
 first-none : (k : ℕ) (ps : List Slot) → has_key k ps ≡ false → first_with k ps ≡ none
 unfolding has_key
@@ -116,68 +94,66 @@ absent-answer k ps e = rw (first-none k ps e)
 
 -- ---- the next one up
 
-above-pair : (k j : ℕ) (b : Bool) (ps : List Slot) → first_above k (pair j b ++ ps) ≡ cond (b && ltb k j) (Key j) (first_above k ps)
+-- key k, and those after it
+next-from : (b : Bool) (later : Held) (q k : ℕ) → first_above q (pairs_from k (b ∷ later)) ≡ cond (ltb q k && b) (Some k) (first_above q (pairs_from (suc k) later))
 unfolding first_above
-above-pair k j false ps = refl
-above-pair k j true ps = go (ltb k j)
+next-from b later q k = go b (ltb q k) refl
   where
-    go : (b : Bool) → (elim b as (λ q. Next) [ true ↦ Key j | false ↦ first_above k ps ]) ≡ cond b (Key j) (first_above k ps)
-    go true = refl
-    go false = refl
+    go : (b t : Bool) → ltb q k ≡ t → first_above q (pairs_from k (b ∷ later)) ≡ cond (t && b) (Some k) (first_above q (pairs_from (suc k) later))
+    go true true e = rw (e, first_above)
+    go true false e = rw (e, first_above)
+    go false true e = refl
+    go false false e = refl
 
--- the first of the three that is there and above the key
-pub next-held : (h : Held) (k : ℕ) → first_above k (pairs h)
-    ≡ cond (h.one && ltb k 1) (Key 1) (cond (h.two && ltb k 2) (Key 2) (cond (h.three && ltb k 3) (Key 3) Nothing))
-unfolding pairs first_above
-next-held h k =
-    above-pair k 1 h.one (pair 2 h.two ++ pair 3 h.three)
-    ∙ ap (cond (h.one && ltb k 1) (Key 1)) (above-pair k 2 h.two (pair 3 h.three)
-    ∙ ap (cond (h.two && ltb k 2) (Key 2)) (rw (← (append-nil (pair 3 h.three))) (above-pair k 3 h.three [])))
+pub next-held : (h : Held) (q k : ℕ) → length h ≡ 3 → 0 < k → k ≤ 3 → first_above q (pairs_from k (drop (k - 1) h))
+    ≡ cond (ltb q k && has_key k (pairs h)) (Some k) (first_above q (pairs_from (k + 1) (drop (k + 1 - 1) h)))
+next-held h q zero n f l = absurd (omega (arith, f))
+next-held h q (suc i) n f l =
+    let e : suc i - 1 ≡ i = omega arith in
+    let g : suc i + 1 - 1 ≡ suc i = omega arith in
+    rw (e, g, add-one (suc i), drop-cons h i false (omega (arith, n, l)), ← (has-at h (suc i) f), e) (next-from (get_or h i false) (drop (suc i) h) q (suc i))
+
+pub next-none : (h : Held) (q k : ℕ) → length h ≡ 3 → 3 < k → first_above q (pairs_from k (drop (k - 1) h)) ≡ None
+unfolding first_above
+next-none h q k n l = rw (drop_of_length-le h {i = k - 1} (omega (arith, n, l)))
 
 -- ---- after an accepted action
 
-abbrev enters_in : (k : ℕ) → Held → Type 0
-enters_in k h = has_key k (pairs h) ≡ false → enter k (pointer_of (10 + k) 0) (pairs h) ≡ pairs (with_key h k true)
+leave-below : (h : Held) (k j : ℕ) → j < k → leave j (pairs_from k h) ≡ pairs_from k h
+unfolding leave
+leave-below [] k j l = refl
+leave-below (false ∷ h) k j l = leave-below h (suc k) j (omega arith)
+leave-below (true ∷ h) k j l = rw (ne_eqb k j (λ q. omega (arith, q)), leave-below h (suc k) j (omega arith))
 
-abbrev leaves_in : (k : ℕ) → Held → Type 0
-leaves_in k h = leave k (pairs h) ≡ pairs (with_key h k false)
+leave-from : (h : Held) (k i j : ℕ) → j ≡ k + i → leave j (pairs_from k h) ≡ pairs_from k (set h i false)
+unfolding leave
+leave-from [] k i j e = refl
+leave-from (true ∷ h) k zero j e = rw (eq-eqb k j (omega (arith, e))) (leave-below h (suc k) j (omega (arith, e)))
+leave-from (false ∷ h) k zero j e = leave-below h (suc k) j (omega (arith, e))
+leave-from (true ∷ h) k (suc i) j e = rw (ne_eqb k j (λ q. omega (arith, e, q)), leave-from h (suc k) i j (omega (arith, e)))
+leave-from (false ∷ h) k (suc i) j e = leave-from h (suc k) i j (omega (arith, e))
 
-enter-one : (h : Held) → enters_in 1 h
-unfolding pairs has_key enter
-enter-one h = of-eight (enters_in 1) (λ e. absurd (false≢true (sym e))) (λ e. absurd (false≢true (sym e))) (λ e. absurd (false≢true (sym e))) (λ e. absurd (false≢true (sym e))) (λ e. refl) (λ e. refl) (λ e. refl) (λ e. refl) h
+enter-below : (h : Held) (k j x : ℕ) → j < k → enter j x (pairs_from k h) ≡ slot j x ∷ pairs_from k h
+unfolding enter
+enter-below [] k j x l = refl
+enter-below (false ∷ h) k j x l = enter-below h (suc k) j x (omega arith)
+enter-below (true ∷ h) k j x l = rw (lt-ltb j k l)
 
-leave-one : (h : Held) → leaves_in 1 h
-unfolding pairs leave
-leave-one h = of-eight (leaves_in 1) refl refl refl refl refl refl refl refl h
+enter-from : (h : Held) (k i j : ℕ) → j ≡ k + i → i < length h → has_key j (pairs_from k h) ≡ false
+    → enter j (pointer_of (10 + j) 0) (pairs_from k h) ≡ pairs_from k (set h i true)
+unfolding enter has_key
+enter-from [] k i j e l n = absurd (omega (arith, l))
+enter-from (true ∷ h) k zero j e l n = absurd (false≢true (sym n ∙ rw (eq-eqb k j (omega (arith, e)))))
+enter-from (false ∷ h) k zero j e l n = let z : j ≡ k = omega (arith, e) in rw z (enter-below h (suc k) k (pointer_of (10 + k) 0) (omega arith))
+enter-from (true ∷ h) k (suc i) j e l n =
+    rw (le-ltb j k (omega (arith, e)), enter-from h (suc k) i j (omega (arith, e)) (omega (arith, l)) (rw (ne_eqb k j (λ q. omega (arith, e, q))) at n))
+enter-from (false ∷ h) k (suc i) j e l n = enter-from h (suc k) i j (omega (arith, e)) (omega (arith, l)) n
 
-enter-two : (h : Held) → enters_in 2 h
-unfolding pairs has_key enter
-enter-two h = of-eight (enters_in 2) (λ e. absurd (false≢true (sym e))) (λ e. absurd (false≢true (sym e))) (λ e. refl) (λ e. refl) (λ e. absurd (false≢true (sym e))) (λ e. absurd (false≢true (sym e))) (λ e. refl) (λ e. refl) h
+pub enter-held : (h : Held) (a : ℕ) → length h ≡ 3 → has_key (action_key a) (pairs h) ≡ false
+    → enter (action_key a) (pointer_of (10 + action_key a) 0) (pairs h) ≡ pairs (set h (a % 3) true)
+unfolding pairs
+enter-held h a l n = enter-from h 1 (a % 3) (action_key a) (omega arith) (omega (arith, l)) n
 
-leave-two : (h : Held) → leaves_in 2 h
-unfolding pairs leave
-leave-two h = of-eight (leaves_in 2) refl refl refl refl refl refl refl refl h
-
-enter-three : (h : Held) → enters_in 3 h
-unfolding pairs has_key enter
-enter-three h = of-eight (enters_in 3) (λ e. absurd (false≢true (sym e))) (λ e. refl) (λ e. absurd (false≢true (sym e))) (λ e. refl) (λ e. absurd (false≢true (sym e))) (λ e. refl) (λ e. absurd (false≢true (sym e))) (λ e. refl) h
-
-leave-three : (h : Held) → leaves_in 3 h
-unfolding pairs leave
-leave-three h = of-eight (leaves_in 3) refl refl refl refl refl refl refl refl h
-
--- what holds of the three keys holds of an action's
-of-three : (P : ℕ → Type 0) → P 1 → P 2 → P 3 → (a : ℕ) → P (action_key a)
-of-three P p q r a = go (a % 3) (omega arith)
-  where
-    go : (n : ℕ) → n < 3 → P (suc n)
-    go zero l = p
-    go (suc zero) l = q
-    go (suc (suc zero)) l = r
-    go (suc (suc (suc n))) l = absurd (omega arith)
-
-pub enter-held : (h : Held) (a : ℕ) → enters_in (action_key a) h
-enter-held h a = of-three (λ (k : ℕ). enters_in k h) (enter-one h) (enter-two h) (enter-three h) a
-
-pub leave-held : (h : Held) (a : ℕ) → leaves_in (action_key a) h
-leave-held h a = of-three (λ (k : ℕ). leaves_in k h) (leave-one h) (leave-two h) (leave-three h) a
+pub leave-held : (h : Held) (a : ℕ) → leave (action_key a) (pairs h) ≡ pairs (set h (a % 3) false)
+unfolding pairs
+leave-held h a = leave-from h 1 (a % 3) (action_key a) (omega arith)

@@ -5,87 +5,80 @@ use mathlib.Core.List.{[], map}
 use Prim.Native.Nat.{ℕ, suc, ◌+◌, ◌-◌, ◌*◌, ◌≤◌, ◌<◌}
 use native.Mathlib.Numerals.{add-one}
 use native.Mathlib.Omega.{arith}
-use lib.ListN.{length}
-use Rattle.model.specs.Table.{Words, at, empty, empty_of}
+use lib.ListN.{length, drop, get_or, replicate, drop_of_length-le}
+use lib.Seq.{drop-cons}
+use Rattle.model.specs.Table.{Words, empty, empty_of}
 use Rattle.model.specs.Reached.{map_of, Maps, maps_of}
 use Rattle.model.specs.SoundTest.{sound}
 use Rattle.model.specs.Writes.{numbers, Call}
 use Rattle.model.specs.Refusals.{table_after}
-use Rattle.model.specs.Scripts.{call_of, SCRIPTS, script_of, script_words, actions_in, form_script, sum, along, over_all, table_count, bad_count}
+use Rattle.model.specs.Scripts.{Script, call_of, SCRIPTS, script_of, script_words, actions_in, form_script, sum, along, over_all, table_count, bad_count}
 use Rattle.two_laws.proofs.EmptyTwo.{empty-one-maps}
 use Rattle.short_laws.proofs.Rank.{script-is}
 use Rattle.short_laws.proofs.Calls.{words-form, words-actions}
 use Rattle.short_laws.proofs.Runs.{after-call, start-sound}
-use Rattle.short_scripts.specs.declared.Held.{Held}
 use Rattle.short_scripts.specs.declared.Met.{Met}
-use Rattle.short_scripts.specs.declared.Acted.{Acted}
-use Rattle.short_scripts.specs.Held.{held, pairs}
+use Rattle.short_scripts.specs.Held.{Held, pairs}
 use Rattle.short_scripts.specs.Met.{at_action, Acts, Runs}
-use Rattle.short_scripts.proofs.Words.{left, left-first, left-next, left-none, form-says}
+use Rattle.short_scripts.proofs.Words.{form-says}
 
 -- ---- one script
 
--- what is left to be met, from place i on
-abbrev onward : (Call → Words → ℕ) → (ws : Words) → (count i : ℕ) → Words → ℕ
-onward f ws count i t = along f (left ws i count) t
-
-pub record Running (ws : Words) (count : ℕ) (t : Words) (h : Held) (tables bad i : ℕ) : Type 0 where
-  pub place : i ≤ count
-  pub few : count ≤ 4
-  pub long : length ws ≡ 5
+-- from place i on what is left is still to be met
+pub record Running (s : Script) (t : Words) (h : Held) (tables bad i : ℕ) : Type 0 where
+  pub place : i ≤ length s
+  pub few : length s ≤ 4
   pub fine : sound t ≡ true
   pub map-is : map_of 1 t ≡ pairs h
   pub tables-few : tables ≤ 1122 * i
   pub bad-few : bad ≤ 1122 * i
-  pub tables-are : tables + onward table_count ws count i t ≡ along table_count (actions_in ws) (empty 4)
-  pub bad-are : bad + onward bad_count ws count i t ≡ along bad_count (actions_in ws) (empty 4)
+  pub tables-are : tables + along table_count (drop i s) t ≡ along table_count s (empty 4)
+  pub bad-are : bad + along bad_count (drop i s) t ≡ along bad_count s (empty 4)
 
 empty-map : map_of 1 (empty 4) ≡ []
 unfolding maps_of empty_of
 empty-map = ap (λ (m : Maps). m.one) (empty-one-maps 4 (omega arith) (omega arith))
 
-pub running-start : (ws t : Words) → form_script ws ≡ true → length ws ≡ 5 → t ≡ empty 4 → Running ws (at ws 0) t (held false false false) 0 0 0
+pub running-start : (ws t : Words) → form_script ws ≡ true → t ≡ empty 4 → Running (actions_in ws) t (replicate 3 false) 0 0 0
 unfolding pairs
-running-start ws t f l e = record {
+running-start ws t f e = record {
   place = omega arith;
-  few = (form-says ws f).0;
-  long = l;
+  few = (form-says ws f).1;
   fine = rw e start-sound;
   map-is = rw e empty-map;
   tables-few = omega arith;
   bad-few = omega arith;
-  tables-are = rw (e, left-first ws (at ws 0)) (omega arith);
-  bad-are = rw (e, left-first ws (at ws 0)) (omega arith);
+  tables-are = rw e (omega arith);
+  bad-are = rw e (omega arith);
 }
 
 -- one action more
-module _ (ws : Words) (count : ℕ) (t : Words) (h : Held) (tables bad i : ℕ) (r : Running ws count t h tables bad i) where
-  onward-next : (f : Call → Words → ℕ) → i < count
-      → onward f ws count i t ≡ at_action f (at ws (i + 1)) t + onward f ws count (i + 1) (table_after (call_of (at ws (i + 1))) 2560 0 t)
+module _ {s : Script} {t : Words} {h : Held} {tables bad i : ℕ} (r : Running s t h tables bad i) where
+  onward-next : (f : Call → Words → ℕ) → i < length s
+      → along f (drop i s) t ≡ at_action f (get_or s i 0) t + along f (drop (i + 1) s) (table_after (call_of (get_or s i 0)) 2560 0 t)
   unfolding along
-  onward-next f k = rw (left-next ws i count k (omega (arith, r.long, r.few)))
+  onward-next f k = rw (drop-cons s i 0 k, add-one i)
 
-  pub running-next : (a : Acted) (u : Words) → i < count → Acts (at ws (i + 1)) t a → u ≡ table_after (call_of (at ws (i + 1))) 2560 0 t
-      → Running ws count u a.held (tables + a.tables) (bad + a.bad) (i + 1)
-  running-next a u k m e = record {
+  pub running-next : (m : Met) (g : Held) (u : Words) → i < length s → Acts (get_or s i 0) t m g → u ≡ table_after (call_of (get_or s i 0)) 2560 0 t
+      → Running s u g (tables + m.tables) (bad + m.bad) (i + 1)
+  running-next m g u k a e = record {
     place = omega arith;
     few = r.few;
-    long = r.long;
-    fine = rw e (after-call (call_of (at ws (i + 1))) 2560 t r.fine);
-    map-is = rw e m.map-is;
-    tables-few = omega (arith, r.tables-few, m.tables-few);
-    bad-few = omega (arith, r.bad-few, m.bad-few);
-    tables-are = rw e (omega (arith, r.tables-are, m.tables-are, onward-next table_count k));
-    bad-are = rw e (omega (arith, r.bad-are, m.bad-are, onward-next bad_count k));
+    fine = rw e (after-call (call_of (get_or s i 0)) 2560 t r.fine);
+    map-is = rw e a.map-is;
+    tables-few = omega (arith, r.tables-few, a.tables-few);
+    bad-few = omega (arith, r.bad-few, a.bad-few);
+    tables-are = rw e (omega (arith, r.tables-are, a.tables-are, onward-next table_count k));
+    bad-are = rw e (omega (arith, r.bad-are, a.bad-are, onward-next bad_count k));
   }
 
-  pub running-end : count ≤ i → Runs (actions_in ws) (record { tables = tables; bad = bad })
+  pub running-end : length s ≤ i → Runs s (record { tables = tables; bad = bad })
   unfolding along
   running-end k =
-      let n = left-none ws i count k in
+      let none : drop i s ≡ [] = drop_of_length-le s {i = i} k in
       record {
-        tables-are = omega (arith, rw n at r.tables-are);
-        bad-are = omega (arith, rw n at r.bad-are);
+        tables-are = omega (arith, rw none at r.tables-are);
+        bad-are = omega (arith, rw none at r.bad-are);
         tables-few = omega (arith, r.tables-few, r.place, r.few);
         bad-few = omega (arith, r.bad-few, r.place, r.few);
       }

@@ -7,79 +7,83 @@ use native.Mathlib.Nat.{sub-zero}
 use native.Mathlib.Numerals.{add-one}
 use native.Mathlib.Omega.{arith}
 use lib.Dec.{leb}
-use lib.ListN.{length, take, drop, set, replicate, length-set}
-use lib.Seq.{drop-cons, drop-drop, drop-length}
-use borrow.Author.Tests.{le-leb, lt-leb, ne_eqb, eq-eqb}
+use lib.ListN.{length, take, drop, get_or, set, replicate, length-set, length-drop, drop_of_length-le}
+use Rattle.std.proofs.lemmas.List.{length-take}
+use lib.Seq.{drop-cons, drop-drop, take_all}
+use borrow.Author.Tests.{le-leb, lt-leb, ne_eqb}
 use Rattle.model.specs.Table.{Words, at, all_zero}
 use Rattle.model.specs.SoundTest.{all}
-use Rattle.model.specs.Scripts.{Script, rank_on, unrank, script_of, script_words, form_script}
+use Rattle.model.specs.Scripts.{Script, rank_on, actions_in, unrank, script_of, script_words, form_script}
 use Rattle.list_laws.proofs.Tools.{and-iff, leb-iff}
 use Rattle.short_laws.proofs.Rank.{grown, grown-suc, grown-rises, unrank-length, script-within, unrank-enough}
 
--- ---- the actions from place i on, up to a count
+-- ---- none is above a number
 
-abbrev pub left : Words → (i count : ℕ) → Script
-left ws i count = take (count - i) (drop (i + 1) ws)
+abbrev pub within : ℕ → Words → Bool
+within most ws = all (λ (w : ℕ). leb w most) ws
 
-pub left-first : (ws : Words) (count : ℕ) → left ws 0 count ≡ take count (drop 1 ws)
-left-first ws count = rw sub-zero
-
-pub left-next : (ws : Words) (i count : ℕ) → i < count → i + 1 < length ws → left ws i count ≡ at ws (i + 1) ∷ left ws (i + 1) count
-left-next ws i count h k =
-    let e : count - i ≡ suc (count - (i + 1)) = omega arith in
-    rw (e, drop-cons ws (i + 1) 0 k, add-one (i + 1))
-
-pub left-none : (ws : Words) (i count : ℕ) → count ≤ i → left ws i count ≡ []
-left-none ws i count h = let e : count - i ≡ 0 = omega arith in rw e
-
--- each is one of the six
-abbrev pub six_of : Script → Bool
-six_of s = all (λ (a : ℕ). leb a 5) s
-
-pub six-next : (ws : Words) (i count : ℕ) → i < count → i + 1 < length ws → at ws (i + 1) ≤ 5 → six_of (left ws i count) ≡ six_of (left ws (i + 1) count)
+pub within-next : (most : ℕ) (ws : Words) (i : ℕ) → i < length ws → get_or ws i 0 ≤ most → within most (drop i ws) ≡ within most (drop (i + 1) ws)
 unfolding all
-six-next ws i count h k l = rw (left-next ws i count h k, le-leb (at ws (i + 1)) 5 l)
+within-next most ws i h k = rw (drop-cons ws i 0 h, le-leb (get_or ws i 0) most k, add-one i)
 
-pub six-not : (ws : Words) (i count : ℕ) → i < count → i + 1 < length ws → 5 < at ws (i + 1) → six_of (left ws i count) ≡ false
+pub within-not : (most : ℕ) (ws : Words) (i : ℕ) → i < length ws → most < get_or ws i 0 → within most (drop i ws) ≡ false
 unfolding all
-six-not ws i count h k l = rw (left-next ws i count h k, lt-leb (at ws (i + 1)) 5 l)
+within-not most ws i h k = rw (drop-cons ws i 0 h, lt-leb (get_or ws i 0) most k)
 
-pub six-none : (ws : Words) (i count : ℕ) → count ≤ i → six_of (left ws i count) ≡ true
+pub within-none : (most : ℕ) (ws : Words) (i : ℕ) → length ws ≤ i → within most (drop i ws) ≡ true
 unfolding all
-six-none ws i count h = rw (left-none ws i count h)
+within-none most ws i h = rw (drop_of_length-le ws {i = i} h)
 
--- the first of them is, and the rest are
-pub six-both : (ws : Words) (i count : ℕ) → i < count → i + 1 < length ws → six_of (left ws i count) ≡ true
-    → (at ws (i + 1) ≤ 5) × (six_of (left ws (i + 1) count) ≡ true)
+zeros-within : (ws : Words) → within 0 ws ≡ all_zero ws
+unfolding all all_zero
+zeros-within [] = refl
+zeros-within (zero ∷ ws) = zeros-within ws
+zeros-within (suc w ∷ ws) = rw (lt-leb (suc w) 0 (omega arith), ne_eqb (suc w) 0 (λ e. omega arith))
+
+-- the first of those that are left is not, and the rest are not
+pub within-both : (most : ℕ) (ws : Words) (i : ℕ) → i < length ws → within most (drop i ws) ≡ true → (get_or ws i 0 ≤ most) × (within most (drop (i + 1) ws) ≡ true)
 unfolding all
-six-both ws i count h k e = simp (and-iff, leb-iff) at (rw (left-next ws i count h k) at e)
+within-both most ws i h e = let n : i + 1 ≡ suc i = add-one i in rw n (simp (and-iff, leb-iff) at (rw (drop-cons ws i 0 h) at e))
 
--- ---- 0 from place i on
+-- ---- the parts of a script's words
 
-pub zero-first : (ws : Words) (count : ℕ) → drop (count + 1) ws ≡ drop count (drop 1 ws)
-zero-first ws count = let e : count + 1 ≡ 1 + count = omega arith in rw e (sym (drop-drop count 1 ws))
+-- the actions, and what is past them, as they are cut out
+pub actions-cut : (ws : Words) (n : ℕ) → take (n + 1 - 1) (drop 1 ws) ≡ take n (drop 1 ws)
+actions-cut ws n = let e : n + 1 - 1 ≡ n = omega arith in rw e
 
-pub zero-next : (ws : Words) (i : ℕ) → i + 1 < length ws → at ws (i + 1) ≡ 0 → all_zero (drop (i + 1) ws) ≡ all_zero (drop (i + 1 + 1) ws)
-unfolding all_zero
-zero-next ws i k z = rw (drop-cons ws (i + 1) 0 k, eq-eqb (at ws (i + 1)) 0 z, add-one (i + 1))
+past-cut : (ws : Words) (n m : ℕ) → length ws ≤ n + 1 + m → take m (drop (n + 1) ws) ≡ drop n (drop 1 ws)
+past-cut ws n m h = let e : n + 1 ≡ 1 + n = omega arith in take_all m (drop (n + 1) ws) (omega (arith, length-drop (n + 1) ws)) ∙ rw e (sym (drop-drop n 1 ws))
 
-pub zero-not : (ws : Words) (i : ℕ) → i + 1 < length ws → (at ws (i + 1) ≡ 0 → ⊥) → all_zero (drop (i + 1) ws) ≡ false
-unfolding all_zero
-zero-not ws i k z = rw (drop-cons ws (i + 1) 0 k, ne_eqb (at ws (i + 1)) 0 z)
+-- what they pass
+module _ (ws : Words) (h : at ws 0 ≤ 4) (a : Bool) (e : a ≡ within 5 (take (at ws 0 + 1 - 1) (drop 1 ws))) where
+  six : {t : Bool} → a ≡ t → within 5 (actions_in ws) ≡ t
+  six q = rw (actions-cut ws (at ws 0)) at (sym e ∙ q)
 
-pub zero-none : (ws : Words) (i : ℕ) → length ws ≡ i + 1 → all_zero (drop (i + 1) ws) ≡ true
-unfolding all_zero
-zero-none ws i l = rw (← l, drop-length)
+  pub form-past : a ≡ true → (m : ℕ) → length ws ≤ at ws 0 + 1 + m → (b : Bool) → b ≡ within 0 (take m (drop (at ws 0 + 1) ws)) → b ≡ form_script ws
+  unfolding form_script
+  form-past q m l b f = rw (le-leb (at ws 0) 4 h, six q) (f ∙ ap (within 0) (past-cut ws (at ws 0) m l) ∙ zeros-within (drop (at ws 0) (drop 1 ws)))
+
+  pub form-other : a ≡ false → a ≡ form_script ws
+  unfolding form_script
+  form-other q = rw (le-leb (at ws 0) 4 h, six q) q
+
+pub form-long : (ws : Words) → 4 < at ws 0 → false ≡ form_script ws
+unfolding form_script
+form-long ws h = rw (lt-leb (at ws 0) 4 h)
+
+pub form-says : (ws : Words) → form_script ws ≡ true → (at ws 0 ≤ 4) × (length (actions_in ws) ≤ 4) × (within 5 (actions_in ws) ≡ true)
+unfolding form_script
+form-says ws e = let p = simp (and-iff, leb-iff) at e in (p.0, omega (arith, p.0, length-take (at ws 0) (drop 1 ws)), p.1.0)
 
 -- ---- the number
 
-pub rank-next : (ws : Words) (i count n : ℕ) → i < count → i + 1 < length ws → rank_on n (left ws i count) ≡ rank_on (6 * n + at ws (i + 1) + 1) (left ws (i + 1) count)
+pub rank-next : (s : Script) (i n : ℕ) → i < length s → rank_on n (drop i s) ≡ rank_on (6 * n + get_or s i 0 + 1) (drop (i + 1) s)
 unfolding rank_on
-rank-next ws i count n h k = let e : 6 * n + at ws (i + 1) + 1 ≡ 6 * n + suc (at ws (i + 1)) = omega arith in rw (left-next ws i count h k, e)
+rank-next s i n h = let e : 6 * n + get_or s i 0 + 1 ≡ 6 * n + suc (get_or s i 0) = omega arith in rw (drop-cons s i 0 h, e, add-one i)
 
-pub rank-none : (ws : Words) (i count n : ℕ) → count ≤ i → rank_on n (left ws i count) ≡ n
+pub rank-none : (s : Script) (i n : ℕ) → length s ≤ i → rank_on n (drop i s) ≡ n
 unfolding rank_on
-rank-none ws i count n h = rw (left-none ws i count h)
+rank-none s i n h = rw (drop_of_length-le s {i = i} h)
 
 -- it stays below the first number of the next length
 pub rank-below : (i n a : ℕ) → n < grown 1 i → a ≤ 5 → 6 * n + a + 1 < grown 1 (i + 1)
@@ -87,11 +91,6 @@ rank-below i n a h k = let e : i + 1 ≡ suc i = add-one i in rw e (omega (arith
 
 pub rank-small : (i n : ℕ) → i ≤ 4 → n < grown 1 i → n < 1555
 rank-small i n h k = omega (arith, grown-rises 1 i 4 h)
-
--- what the words of a script pass
-pub form-says : (ws : Words) → form_script ws ≡ true → (at ws 0 ≤ 4) × (six_of (left ws 0 (at ws 0)) ≡ true)
-unfolding form_script
-form-says ws e = let p = simp (and-iff, leb-iff) at e in (p.0, rw (left-first ws (at ws 0)) p.1.0)
 
 -- ---- filled in from the last action on
 

@@ -1,23 +1,19 @@
--- The map that a script's table is held to: which of the three keys it has, each with recording 10 plus the key and class 0.
-use Rattle.std.specs.Prelude.{Bool, cond, List, [], ◌∷◌, ◌++◌, ℕ, ◌+◌, eqb}
+-- The map that a script's table is held to: which of the keys 1, 2 and 3 it has, each with recording 10 plus the key and class 0.
+use Rattle.std.specs.Prelude.{Bool, cond, List, [], ◌∷◌, ℕ, suc, ◌+◌, ◌%◌, set}
 use Rattle.model.specs.Slots.{Slot, slot, pointer_of}
-use Rattle.model.specs.Scripts.{inserts, action_key}
-use Rattle.short_scripts.specs.declared.Held.{Held}
+use Rattle.model.specs.Scripts.{inserts}
 
-abbrev pub held : (one two three : Bool) → Held
-held a b c = record { one = a; two = b; three = c }
+abbrev pub Held : Type 0
+Held = List Bool
 
--- key k's pair, if it is there
-abbrev pub pair : (k : ℕ) → Bool → List Slot
-pair k there = cond there (slot k (pointer_of (10 + k) 0) ∷ []) []
+-- the pairs of the keys from k on that are there
+abbrev pub pairs_from : (k : ℕ) → Held → List Slot
+pairs_from k [] = []
+pairs_from k (there ∷ later) = cond there (slot k (pointer_of (10 + k) 0) ∷ pairs_from (suc k) later) (pairs_from (suc k) later)
 
 unfoldable pub pairs : Held → List Slot
-pairs h = pair 1 h.one ++ (pair 2 h.two ++ pair 3 h.three)
-
--- with key k there or not
-abbrev pub with_key : Held → (k : ℕ) → Bool → Held
-with_key h k b = held (cond (eqb k 1) b h.one) (cond (eqb k 2) b h.two) (cond (eqb k 3) b h.three)
+pairs h = pairs_from 1 h
 
 -- after an accepted action
 unfoldable pub changed : Held → (action : ℕ) → Held
-changed h a = with_key h (action_key a) (inserts a)
+changed h a = set h (a % 3) (inserts a)

@@ -8,7 +8,7 @@ use Rattle.model.specs.Writes.{numbers, Call}
 use Rattle.model.specs.Refusals.{unless_refused, refusal, table_after}
 use Rattle.model.specs.Scripts.{Script, call_of, agrees, along, table_count, bad_count}
 use Rattle.short_scripts.specs.declared.Met.{Met}
-use Rattle.short_scripts.specs.declared.Acted.{Acted}
+use Rattle.short_scripts.specs.Held.{Held}
 use Rattle.short_scripts.specs.Held.{pairs}
 
 -- a table that agrees with neither map
@@ -24,12 +24,12 @@ abbrev pub at_action : (Call → Words → ℕ) → (action : ℕ) → Words →
 at_action count a t = unless_refused (refusal (call_of a) 2560 0 t) (count (call_of a) t) 0
 
 -- what an action on table t met, and the map after it
-pub record Acts (action : ℕ) (t : Words) (r : Acted) : Type 0 where
+pub record Acts (action : ℕ) (t : Words) (r : Met) (h : Held) : Type 0 where
   pub tables-are : r.tables ≡ at_action table_count action t
   pub bad-are : r.bad ≡ at_action bad_count action t
   pub tables-few : r.tables ≤ 1122
   pub bad-few : r.bad ≤ 1122
-  pub map-is : map_of 1 (table_after (call_of action) 2560 0 t) ≡ pairs r.held
+  pub map-is : map_of 1 (table_after (call_of action) 2560 0 t) ≡ pairs h
 
 -- what a script met
 pub record Runs (s : Script) (r : Met) : Type 0 where

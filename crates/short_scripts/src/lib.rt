@@ -1,41 +1,28 @@
 // Every short script: a number's script, a script's number, and all of them run.
 #![tactic(auto)]
 
-ghost use Rattle.std.specs.Prelude.{◌≡◌, true, cond, ◌&&◌, ◌+◌, ◌≤◌, ◌<◌, leb, ltb, length, take, drop};
-ghost use Rattle.model.specs.Table.{all_zero, empty};
+ghost use Rattle.std.specs.Prelude.{◌≡◌, true, ◌+◌, ◌≤◌, ◌<◌, leb, length};
+ghost use Rattle.model.specs.Table.{empty};
 ghost use Rattle.model.specs.Search.{first_above, lookup, search};
 ghost use Rattle.model.specs.Reached.{map_of};
 ghost use Rattle.model.specs.SoundTest.{all, sound};
 ghost use Rattle.model.specs.Orders.{carried_out};
 ghost use Rattle.model.specs.Refusals.{has_key, written, table_after, list_after};
 ghost use Rattle.model.specs.Scripts.{call_of, rank, script_of, script_words, script_answer, script_out, actions_in, form_script, script_number};
-ghost use Rattle.model.specs.Scripts.{same_next, same_answer, agrees, tables_met, bad_met};
+ghost use Rattle.model.specs.Scripts.{same_answer, agrees, tables_met, bad_met};
 ghost use Rattle.short_scripts.specs.Held.{pairs, changed};
 ghost use Rattle.short_scripts.specs.Met.{is_bad, bad_among, Acts, Runs};
 
-use model::{Answer, Next, Outcome, Ranked, Written};
+use model::{Answer, Outcome, Ranked, Refusal, Written};
 
-// Which of the three keys the map has, each with recording 10 plus the key and class 0.
-#[derive(Clone, Copy)]
-struct Held {
-    one: bool,
-    two: bool,
-    three: bool,
-}
+// Which of the keys 1, 2 and 3 the map has, each with recording 10 plus the key and class 0.
+type Held = [bool; 3];
 
 // What was met: tables, and of these the bad ones, which agreed with the map neither before nor after the action.
 #[derive(Clone, Copy)]
 pub struct Met {
     pub tables: u64,
     pub bad: u64,
-}
-
-// What an action met, and the map after it.
-#[derive(Clone, Copy)]
-struct Acted {
-    tables: u64,
-    bad: u64,
-    held: Held,
 }
 
 // ---- a number's script
@@ -45,19 +32,13 @@ fn length_of(number: u64) -> usize
     requires { number < 1555 }
     ensures { result ≡ length (script_of number) }
 {
-    if number < 1 {
-        return 0;
+    match number {
+        0 => 0,
+        1..=6 => 1,
+        7..=42 => 2,
+        43..=258 => 3,
+        _ => 4,
     }
-    if number < 7 {
-        return 1;
-    }
-    if number < 43 {
-        return 2;
-    }
-    if number < 259 {
-        return 3;
-    }
-    4
 }
 
 // The script with this number, its actions from the last one on.
@@ -65,14 +46,13 @@ fn words_of(number: u64) -> [u64; 5]
     requires { number < 1555 }
     ensures { result ≡ script_words (script_of number) }
 {
-    let mut i = length_of(number);
+    let count = length_of(number);
     let mut words = [0u64; 5];
-    words[0] = i as u64;
+    words[0] = count as u64;
     let mut n = number;
-    while 0 < i {
-        words[i] = (n - 1) % 6;
+    for i in (0..count).rev() {
+        words[i + 1] = (n - 1) % 6;
         n = (n - 1) / 6;
-        i -= 1;
     }
     words
 }
@@ -83,57 +63,35 @@ pub fn script_of(number: u64, out: &mut [u64; 5]) -> Outcome
     ensures out_after { out.new ≡ script_out number out.old }
 {
     if 1554 < number {
-        return Outcome::Refused(22);
+        return Err(Refusal::NoScript);
     }
-    let words = words_of(number);
-    *out = words;
-    Outcome::Done
+    *out = words_of(number);
+    Ok(())
 }
 
 // ---- a script's number
 
-// Whether each of the first actions is one of the six.
-fn all_six(words: [u64; 5], count: usize) -> bool
-    requires { count ≤ 4 }
-    ensures { result ≡ all (λ a. leb a 5) (take count (drop 1 words)) }
+// Whether no word is above a number.
+fn none_above(words: &[u64], most: u64) -> bool
+    ensures { result ≡ all (λ w. leb w most) words.now }
 {
-    let mut i = 0;
-    while i < count {
-        if 5 < words[i + 1] {
+    for &word in words {
+        if most < word {
             return false;
         }
-        i += 1;
     }
     true
 }
 
-// Whether there is 0 past these.
-fn zero_past(words: [u64; 5], count: usize) -> bool
-    requires { count ≤ 4 }
-    ensures { result ≡ all_zero (drop count (drop 1 words)) }
-{
-    let mut i = count;
-    while i < 4 {
-        if words[i + 1] != 0 {
-            return false;
-        }
-        i += 1;
-    }
-    true
-}
-
+// At most four actions, each one of the six, and 0 past them.
 fn forms(words: [u64; 5]) -> bool
     ensures { result ≡ form_script words }
 {
-    let count = words[0];
-    if 4 < count {
+    if 4 < words[0] {
         return false;
     }
-    let n = count as usize;
-    if !all_six(words, n) {
-        return false;
-    }
-    zero_past(words, n)
+    let count = words[0] as usize;
+    none_above(&words[1..=count], 5) && none_above(&words[count + 1..], 0)
 }
 
 // The number that a script's actions make.
@@ -142,11 +100,10 @@ fn rank(words: [u64; 5]) -> u64
     ensures { result ≡ rank (actions_in words) }
 {
     let count = words[0] as usize;
+    let actions = &words[1..=count];
     let mut n = 0;
-    let mut i = 0;
-    while i < count {
-        n = 6 * n + words[i + 1] + 1;
-        i += 1;
+    for &action in actions {
+        n = 6 * n + action + 1;
     }
     n
 }
@@ -156,9 +113,9 @@ pub fn number_of(words: [u64; 5]) -> Ranked
     ensures { result ≡ script_number words }
 {
     if !forms(words) {
-        return Ranked::Refused(23);
+        return Err(Refusal::BadScript);
     }
-    Ranked::Number(rank(words))
+    Ok(rank(words))
 }
 
 // ---- the map, and a table that is searched
@@ -166,41 +123,18 @@ pub fn number_of(words: [u64; 5]) -> Ranked
 fn holds(held: Held, key: u64) -> bool
     ensures { result ≡ has_key key (pairs held) }
 {
-    if key == 1 {
-        return held.one;
-    }
-    if key == 2 {
-        return held.two;
-    }
-    if key == 3 {
-        return held.three;
-    }
-    false
+    (1..=3).contains(&key) && held[(key - 1) as usize]
 }
 
-// Whether key k is there and above the key.
-fn is_above(there: bool, k: u64, key: u64) -> bool
-    ensures { result ≡ there && ltb key k }
-{
-    if !there {
-        return false;
-    }
-    key < k
-}
-
-fn next_of(held: Held, key: u64) -> Next
+fn next_of(held: Held, key: u64) -> Option<u64>
     ensures { result ≡ first_above key (pairs held) }
 {
-    if is_above(held.one, 1, key) {
-        return Next::Key(1);
+    for k in 1..4 {
+        if key < k && holds(held, k) {
+            return Some(k);
+        }
     }
-    if is_above(held.two, 2, key) {
-        return Next::Key(2);
-    }
-    if is_above(held.three, 3, key) {
-        return Next::Key(3);
-    }
-    Next::Nothing
+    None
 }
 
 // What a search for the key is to answer.
@@ -216,71 +150,21 @@ fn expected(held: Held, key: u64) -> Answer
     Answer::Absent(next_of(held, key))
 }
 
-fn same_next(x: Next, y: Next) -> bool
-    ensures { result ≡ same_next x y }
-{
-    match x {
-        Next::Key(j) => match y {
-            Next::Key(k) => j == k,
-            Next::Nothing => false,
-        },
-        Next::Nothing => match y {
-            Next::Key(_) => false,
-            Next::Nothing => true,
-        },
-    }
-}
-
-fn same_pair(recording: u64, access: u64, r: u64, c: u64) -> bool
-    ensures { result ≡ same_answer (Answer.Found recording access) (Answer.Found r c) }
-{
-    if recording != r {
-        return false;
-    }
-    access == c
-}
-
-fn same(x: Answer, y: Answer) -> bool
-    ensures { result ≡ same_answer x y }
-{
-    match x {
-        Answer::Found { recording, access } => match y {
-            Answer::Found {
-                recording: r,
-                access: c,
-            } => same_pair(recording, access, r, c),
-            Answer::Absent(_) => false,
-            Answer::Refused(_) => false,
-        },
-        Answer::Absent(next) => match y {
-            Answer::Found {
-                recording: _,
-                access: _,
-            } => false,
-            Answer::Absent(other) => same_next(next, other),
-            Answer::Refused(_) => false,
-        },
-        Answer::Refused(_) => false,
-    }
-}
-
+// Whether a search for the key answers as the map does, which never refuses.
 fn answers(table: &[u64], held: Held, key: u64) -> bool
     ensures { result ≡ same_answer (search 1 table.now key) (lookup key (pairs held)) }
 {
-    same(search::search(table, 1, key), expected(held, key))
+    match search::search(table, 1, key) {
+        Answer::Refused(_) => false,
+        found => found == expected(held, key),
+    }
 }
 
 // Whether the table, searched for the three keys, agrees with the map.
 fn agrees(table: &[u64], held: Held) -> bool
     ensures { result ≡ agrees (pairs held) table.now }
 {
-    if !answers(table, held, 1) {
-        return false;
-    }
-    if !answers(table, held, 2) {
-        return false;
-    }
-    answers(table, held, 3)
+    answers(table, held, 1) && answers(table, held, 2) && answers(table, held, 3)
 }
 
 // ---- what an action meets
@@ -290,26 +174,14 @@ fn cut_at(table: [u64; 136], list: &[u64], c: u64) -> [u64; 136]
     ensures { result ≡ carried_out c list.now table }
 {
     let mut memory = table;
-    carry::carry_out(&mut memory, list, c);
+    let _ = carry::carry_out(&mut memory, list, c);
     memory
 }
 
 fn is_bad(table: [u64; 136], old: Held, new: Held) -> bool
     ensures { result ≡ is_bad (pairs old) (pairs new) table }
 {
-    if agrees(&table, old) {
-        return false;
-    }
-    !agrees(&table, new)
-}
-
-fn one_if(b: bool) -> u64
-    ensures { result ≡ cond b 1 0 }
-{
-    if b {
-        return 1;
-    }
-    0
+    !agrees(&table, old) && !agrees(&table, new)
 }
 
 // How many tables are bad, after every count of orders from 0 to this one.
@@ -318,10 +190,10 @@ fn count_bad(table: [u64; 136], list: &[u64], count: u64, old: Held, new: Held) 
     ensures { result ≡ bad_among (pairs old) (pairs new) table list.now 0 (count + 1) }
 {
     let mut bad = 0;
-    let mut c = 0;
-    while c <= count {
-        bad += one_if(is_bad(cut_at(table, list, c), old, new));
-        c += 1;
+    for c in 0..count + 1 {
+        if is_bad(cut_at(table, list, c), old, new) {
+            bad += 1;
+        }
     }
     bad
 }
@@ -340,58 +212,37 @@ fn call(table: &mut [u64; 136], list: &mut [u64; 2560], action: u64) -> Written
     delete::delete(table, list, 0, 1, key)
 }
 
-// One or the other, by whether this is the key.
-fn flag(is_key: bool, new: bool, old: bool) -> bool
-    ensures { result ≡ cond is_key new old }
-{
-    if is_key {
-        return new;
-    }
-    old
-}
-
 // The map after an accepted action.
 fn change(held: Held, action: u64) -> Held
     ensures { result ≡ changed held action }
 {
-    let key = action % 3 + 1;
-    let there = action < 3;
-    Held {
-        one: flag(key == 1, there, held.one),
-        two: flag(key == 2, there, held.two),
-        three: flag(key == 3, there, held.three),
-    }
+    let mut next = held;
+    next[(action % 3) as usize] = action < 3;
+    next
 }
 
 // One action: its call on the working copy, and every cut of its orders on the table as it was.
-fn act(table: &mut [u64; 136], list: &mut [u64; 2560], held: Held, action: u64) -> Acted
+fn act(table: &mut [u64; 136], list: &mut [u64; 2560], held: &mut Held, action: u64) -> Met
     requires table_value { sound table.old ≡ true }
-    requires table_value_2 { map_of 1 table.old ≡ pairs held }
-    ensures acts { Acts action table.old result }
+    requires table_value_2 { map_of 1 table.old ≡ pairs held.old }
+    ensures acts { Acts action table.old result held.new }
     ensures table_after { table.new ≡ table_after (call_of action) 2560 0 table.old }
 {
     let before = *table;
     let answer = call(table, list, action);
     match answer {
-        Written::Done {
-            stores,
-            flushes,
-            barriers: _,
-        } => {
-            let count = stores + flushes;
-            let next = change(held, action);
-            let bad = count_bad(before, list, count, held, next);
-            Acted {
+        Ok(counts) => {
+            let count = counts.stores + counts.flushes;
+            let old = *held;
+            let next = change(old, action);
+            let bad = count_bad(before, list, count, old, next);
+            *held = next;
+            Met {
                 tables: count + 1,
-                bad: bad,
-                held: next,
+                bad,
             }
         }
-        Written::Refused(_) => Acted {
-            tables: 0,
-            bad: 0,
-            held: held,
-        },
+        Err(_) => Met { tables: 0, bad: 0 },
     }
 }
 
@@ -402,7 +253,7 @@ fn first_table() -> [u64; 136]
     ensures { result ≡ empty 4 }
 {
     let mut table = [0u64; 136];
-    node::make(&mut table, 1);
+    let _ = node::make(&mut table, 1);
     table
 }
 
@@ -416,27 +267,17 @@ fn run(words: [u64; 5], list: &mut [u64; 2560]) -> Met
     ensures { Runs (actions_in words) result }
 {
     let mut table = first_table();
-    let mut held = Held {
-        one: false,
-        two: false,
-        three: false,
-    };
+    let mut held = [false; 3];
     let mut tables = 0;
     let mut bad = 0;
     let count = words[0] as usize;
-    let mut i = 0;
-    while i < count {
-        let acted = act(&mut table, list, held, words[i + 1]);
-        tables += acted.tables;
-        bad += acted.bad;
-        let next = acted.held;
-        held = next;
-        i += 1;
+    let actions = &words[1..=count];
+    for &action in actions {
+        let met = act(&mut table, list, &mut held, action);
+        tables += met.tables;
+        bad += met.bad;
     }
-    Met {
-        tables: tables,
-        bad: bad,
-    }
+    Met { tables, bad }
 }
 
 // Every script.
@@ -447,15 +288,10 @@ pub fn run_all() -> Met
     let mut list = first_list();
     let mut tables = 0;
     let mut bad = 0;
-    let mut number = 0;
-    while number < 1555 {
+    for number in 0..1555 {
         let met = run(words_of(number), &mut list);
         tables += met.tables;
         bad += met.bad;
-        number += 1;
     }
-    Met {
-        tables: tables,
-        bad: bad,
-    }
+    Met { tables, bad }
 }

@@ -6,12 +6,11 @@ use Prim.Native.Nat.{ℕ, zero, suc, ◌+◌, ◌-◌, ◌<◌, ◌≤◌}
 use native.Mathlib.Numerals.{add-one}
 use native.Mathlib.Nat.{add-zero, zero-add}
 use native.Mathlib.Omega.{arith}
-use lib.Dec.{eqb, leb, ltb}
+use lib.Dec.{eqb, leb}
 use lib.ListN.{length, get_or, set, replicate}
 use lib.Seq.{get_or-set_same, get_or-set_other}
 use borrow.Author.Tests.{eqb-true, eqb-false, eq-eqb, ne_eqb}
-use Rattle.model.specs.declared.Next.TheVariants as next
-use Rattle.model.specs.declared.Next.TheVariants.{Key}
+use Rattle.std.specs.Prelude.{Some, None}
 use Rattle.model.specs.Table.{Words}
 use Rattle.model.specs.Slots.{Slot, slot, shown}
 use Rattle.model.specs.Search.{route, first_with, first_above}
@@ -21,10 +20,8 @@ use Rattle.list_laws.proofs.Members.{mem-each}
 use Rattle.list_laws.proofs.Filters.{filter-all}
 use Rattle.slots.specs.declared.Seen.{Seen}
 use Rattle.slots.specs.declared.Ways.{Ways}
-use Rattle.slots.specs.declared.Held.TheVariants as held
-use Rattle.slots.specs.declared.Held.TheVariants.{Pointer}
 use Rattle.slots.specs.Held.{pointer_in, held_by}
-use Rattle.slots.specs.Scan.{keeps, is_kept, kept_of, is_way, way_after, held_after, count_after}
+use Rattle.slots.specs.Scan.{keeps, is_kept, kept_of, is_way, way_after, held_after}
 use Rattle.slots.specs.Gathered.{span, ways_from}
 use Rattle.slots.proofs.Scans.{shown-hide, shown-show, picked}
 
@@ -49,12 +46,12 @@ way-more key way before k p w ss h = go (eqb p before) (leb k key) refl refl h
 
 -- ---- the slot of a key
 
-pub found-none : (key before : ℕ) → held_by (first_with key (shown before [])) ≡ held.Nothing
+pub found-none : (key before : ℕ) → held_by (first_with key (shown before [])) ≡ None
 unfolding first_with shown
 found-none key before = refl
 
 module _ (key before k p : ℕ) (ss : List Slot) where
-  pub found-here : (p ≡ before → ⊥) → k ≡ key → held_by (first_with key (shown before (slot k p ∷ ss))) ≡ Pointer p
+  pub found-here : (p ≡ before → ⊥) → k ≡ key → held_by (first_with key (shown before (slot k p ∷ ss))) ≡ Some p
   found-here d q = ap (λ (x : List Slot). held_by (first_with key x)) (shown-show before (slot k p) ss d) ∙ ap held_by (first-here key (slot k p) (shown p ss) q)
 
   pub found-later : (p ≡ before → ⊥) → (k ≡ key → ⊥) → held_by (first_with key (shown before (slot k p ∷ ss))) ≡ held_by (first_with key (shown p ss))
@@ -107,44 +104,21 @@ pub keeps-all : (s b k : ℕ) → s ≡ 0 → true ≡ keeps s b k
 unfolding keeps
 keeps-all s b k z = rw (eq-eqb s 0 z)
 
-pub keeps-below : (s b k : ℕ) → (s ≡ 0 → ⊥) → ltb k b ≡ keeps s b k
-unfolding keeps
-keeps-below s b k z = rw (ne_eqb s 0 z)
-
 -- without a sibling all shown slots are kept
 pub all-kept : (b : ℕ) (ss : List Slot) → kept_of 0 b ss ≡ ss
 all-kept b ss = filter-all (is_kept 0 b) ss (mem-each (λ (s : Slot). is_kept 0 b s ≡ true) ss (λ s m. sym (keeps-all 0 b s.key refl)))
 
 module _ (s b before k p : ℕ) where
-  pub way-hidden : p ≡ before → false ≡ is_way s b before k p
-  unfolding is_way
-  way-hidden h = rw (eq-eqb p before h)
-
-  pub way-shown : (p ≡ before → ⊥) → keeps s b k ≡ is_way s b before k p
-  unfolding is_way
-  way-shown h = rw (ne_eqb p before h)
-
   pub kept-more : (ss : List Slot) → kept_of s b (shown before (slot k p ∷ ss)) ≡ cond (is_way s b before k p) (slot k p ∷ kept_of s b (shown p ss)) (kept_of s b (shown p ss))
   unfolding is_way
   kept-more ss = picked (is_kept s b) before (slot k p) ss
 
-  -- the count
-  pub count-most : (count c : ℕ) → c ≡ count_after count s b before k p → c ≤ count + 1
-  count-most count c h = go (is_way s b before k p) h
-    where
-      go : (y : Bool) → c ≡ cond y (count + 1) count → c ≤ count + 1
-      go true h = omega arith
-      go false h = omega arith
+  module _ (ss : List Slot) {w : Bool} (e : w ≡ is_way s b before k p) where
+    pub kept-taken : w ≡ true → kept_of s b (shown before (slot k p ∷ ss)) ≡ slot k p ∷ kept_of s b (shown p ss)
+    kept-taken h = rw (kept-more ss, ← e, h)
 
-  pub count-more : (count c : ℕ) (ss : List Slot) → c ≡ count_after count s b before k p
-      → count + length (kept_of s b (shown before (slot k p ∷ ss))) ≡ c + length (kept_of s b (shown p ss))
-  count-more count c ss h = go (is_way s b before k p) h (ap length (kept-more ss))
-    where
-      go : (y : Bool) → c ≡ cond y (count + 1) count
-          → length (kept_of s b (shown before (slot k p ∷ ss))) ≡ length (cond y (slot k p ∷ kept_of s b (shown p ss)) (kept_of s b (shown p ss)))
-          → count + length (kept_of s b (shown before (slot k p ∷ ss))) ≡ c + length (kept_of s b (shown p ss))
-      go true h e = omega arith
-      go false h e = omega arith
+    pub kept-passed : w ≡ false → kept_of s b (shown before (slot k p ∷ ss)) ≡ kept_of s b (shown p ss)
+    kept-passed h = rw (kept-more ss, ← e, h)
 
 pub count-none : (count s b before : ℕ) → count + length (kept_of s b (shown before [])) ≡ count
 unfolding shown filter
@@ -152,12 +126,12 @@ count-none count s b before = omega arith
 
 -- ---- the next key up
 
-pub above-none : (key s b before : ℕ) → first_above key (kept_of s b (shown before [])) ≡ next.Nothing
+pub above-none : (key s b before : ℕ) → first_above key (kept_of s b (shown before [])) ≡ None
 unfolding first_above shown filter
 above-none key s b before = refl
 
 module _ (key s b before k p : ℕ) (ss : List Slot) (w : Bool) (e : w ≡ is_way s b before k p) where
-  pub above-found : w ≡ true → key < k → first_above key (kept_of s b (shown before (slot k p ∷ ss))) ≡ Key k
+  pub above-found : w ≡ true → key < k → first_above key (kept_of s b (shown before (slot k p ∷ ss))) ≡ Some k
   above-found h l = ap (first_above key) (rw (kept-more s b before k p ss, ← e, h)) ∙ above-here key (slot k p) (kept_of s b (shown p ss)) l
 
   pub above-low : w ≡ true → k ≤ key → first_above key (kept_of s b (shown before (slot k p ∷ ss))) ≡ first_above key (kept_of s b (shown p ss))
@@ -190,15 +164,9 @@ span-more ks ps a k p h g =
     ap (span us qs 0) (add-one a) ∙ span-last us qs 0 a
     ∙ rw (span-before ks ps 0 a a k p (omega arith), zero-add a, get_or-set_same ks a k 0 h, get_or-set_same ps a p 0 g)
 
-module _ (s b before k p : ℕ) (ks ps : Words) (a : ℕ) (ss : List Slot) (w : Bool) (e : w ≡ is_way s b before k p) where
-  pub way-passed : w ≡ false → span ks ps 0 a ++ kept_of s b (shown before (slot k p ∷ ss)) ≡ span ks ps 0 a ++ kept_of s b (shown p ss)
-  way-passed h = rw (kept-more s b before k p ss, ← e, h)
-
-  pub way-taken : w ≡ true → a < length ks → a < length ps
-      → span ks ps 0 a ++ kept_of s b (shown before (slot k p ∷ ss)) ≡ span (set ks a k) (set ps a p) 0 (a + 1) ++ kept_of s b (shown p ss)
-  way-taken h l m =
-      rw (kept-more s b before k p ss, ← e, h, span-more ks ps a k p l m)
-      (sym (append_assoc (span ks ps 0 a) (slot k p ∷ []) (kept_of s b (shown p ss))))
+pub way-taken : (ks ps : Words) (a k p : ℕ) (ss : List Slot) → a < length ks → a < length ps
+    → span ks ps 0 a ++ slot k p ∷ ss ≡ span (set ks a k) (set ps a p) 0 (a + 1) ++ ss
+way-taken ks ps a k p ss l m = rw (span-more ks ps a k p l m) (sym (append_assoc (span ks ps 0 a) (slot k p ∷ []) ss))
 
 -- the first way alone
 pub first-way : (k p : ℕ) (ss : List Slot) → span (set (replicate 13 0) 0 k) (set (replicate 13 0) 0 p) 0 1 ++ ss ≡ slot k p ∷ ss

@@ -1,10 +1,10 @@
 -- The survey of a node's slots: its tests and steps as their code meets them, and what it comes to.
 use mathlib.Core.Path.{◌≡◌, refl, ap, sym, ◌∙◌}
-use mathlib.Core.Bool.{Bool, true, false, cond, not, ◌&&◌, ◌||◌, and-true, and-false, or-false}
+use mathlib.Core.Bool.{Bool, true, false, cond, not, ◌&&◌, ◌||◌, and-true, or-false}
 use mathlib.Core.List.{List, [], ◌∷◌}
 use Prim.Native.Nat.{ℕ, suc, ◌+◌, ◌≤◌}
 use native.Mathlib.Omega.{arith}
-use lib.Dec.{leb, ltb, eqb}
+use lib.Dec.{leb, eqb}
 use lib.ListN.{length}
 use borrow.Author.Tests.{eqb-true, eqb-false, eq-eqb, ne_eqb}
 use Rattle.model.specs.Slots.{Slot, slot, shown, hidden_slots}
@@ -15,23 +15,6 @@ use Rattle.slots.specs.declared.Survey.{Survey}
 use Rattle.slots.specs.Scan.{keeps, is_kept}
 use Rattle.slots.specs.Surveyed.{reaches, still_fair, hiding, trailed, keeping, surveyed_slot, surveyed}
 use Rattle.slots.proofs.Scans.{shown-hide, shown-show, hidden-hide, hidden-show}
-
-pub reaches-if : (b strict : Bool) (low k : ℕ) → strict ≡ b → cond b (ltb low k) (leb low k) ≡ reaches strict low k
-unfolding reaches
-reaches-if b strict low k e = rw e
-
-pub unfair-before : (s : Survey) (k : ℕ) → s.fair ≡ false → false ≡ still_fair s k
-unfolding still_fair
-unfair-before s k e = ap (λ (b : Bool). b && (not s.trailing && reaches s.strict s.low k)) (sym e)
-
-pub unfair-late : (s : Survey) (k : ℕ) → s.trailing ≡ true → false ≡ still_fair s k
-unfolding still_fair
-unfair-late s k e = sym (and-false s.fair) ∙ ap (λ (b : Bool). s.fair && (not b && reaches s.strict s.low k)) (sym e)
-
-pub fair-so-far : (s : Survey) (k : ℕ) → s.fair ≡ true → s.trailing ≡ false → reaches s.strict s.low k ≡ still_fair s k
-unfolding still_fair
-fair-so-far s k e l =
-    ap (λ (b : Bool). b && (not false && reaches s.strict s.low k)) (sym e) ∙ ap (λ (b : Bool). s.fair && (not b && reaches s.strict s.low k)) (sym l)
 
 -- ---- a slot of the survey
 

@@ -1,5 +1,5 @@
 -- A node's slots from one of them on, and what one slot in use does to a way down and to a count.
-use Rattle.std.specs.Prelude.{Bool, cond, not, ◌&&◌, ◌||◌, List, ℕ, ◌+◌, eqb, leb, ltb, drop}
+use Rattle.std.specs.Prelude.{Bool, cond, not, ◌&&◌, ◌||◌, List, ℕ, eqb, leb, ltb, drop}
 use Rattle.model.specs.Table.{Words}
 use Rattle.model.specs.Slots.{Slot, slots_of, in_use, shown}
 use Rattle.model.specs.Reached.{filter}
@@ -40,7 +40,3 @@ way_after way before k p key = cond (eqb p before) way (cond (leb k key) p way)
 -- the pointer of the first shown one with the key, after it, with that so far; 0 is none
 abbrev pub held_after : (held before k p key : ℕ) → ℕ
 held_after held before k p key = cond (eqb p before) held (cond (eqb k key) (cond (eqb held 0) p held) held)
-
--- the number of shown and kept ones after it, with the number so far
-abbrev pub count_after : (count sibling bound before k p : ℕ) → ℕ
-count_after count sibling bound before k p = cond (is_way sibling bound before k p) (count + 1) count

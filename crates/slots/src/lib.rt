@@ -5,28 +5,27 @@ ghost use Rattle.std.specs.Prelude.{◌≡◌, [], ◌∷◌, pred, ◌≤◌, �
 ghost use Rattle.model.specs.Slots.{slot};
 ghost use Rattle.model.specs.Search.{route, first_with, first_above};
 ghost use Rattle.model.specs.Shifts.{last_pointer, place_of, hidden_place};
-ghost use Rattle.slots.specs.Scan.{used_from, in_use_of, shown_from, keeps, kept_of, is_way, way_after, held_after, count_after};
+ghost use Rattle.slots.specs.Scan.{used_from, in_use_of, shown_from, keeps, kept_of, is_way, way_after, held_after};
 ghost use Rattle.slots.specs.Held.{pointer_in, held_by};
 ghost use Rattle.slots.specs.Surveyed.{reaches, still_fair, surveyed_slot, surveyed, begun};
 ghost use Rattle.slots.specs.Gathered.{slots_in};
 
-use model::{Next, Node};
+use model::Node;
 
 // ---- slots in use: places
 
 // How many slots are in use.
+#[tactic(auto, unfolding(crate::specs::Scan::in_use_of))]
 pub fn count(slots: [u64; 24]) -> usize
     ensures value { result ≡ length (in_use_of slots) }
     ensures upper_bound { result ≤ 12 }
 {
-    let mut i = 0;
-    while i < 12 {
+    for i in 0..12 {
         if slots[2 * i + 1] == 0 {
             return i;
         }
-        i += 1;
     }
-    i
+    12
 }
 
 // The place of the last slot in use; 0 if none is.
@@ -34,50 +33,38 @@ pub fn last(slots: [u64; 24]) -> usize
     ensures value { result ≡ pred (length (in_use_of slots)) }
     ensures upper_bound { result ≤ 12 }
 {
-    let n = count(slots);
-    if n == 0 {
-        return 0;
-    }
-    n - 1
+    count(slots).saturating_sub(1)
 }
 
 // The place of key k: before the first slot in use whose key is not below it.
+#[tactic(auto, unfolding(crate::specs::Scan::in_use_of))]
 pub fn place(slots: [u64; 24], k: u64) -> usize
     ensures value { result ≡ place_of k (in_use_of slots) }
     ensures upper_bound { result ≤ 12 }
 {
-    let mut i = 0;
-    while i < 12 {
-        if slots[2 * i + 1] == 0 {
+    for i in 0..12 {
+        if slots[2 * i + 1] == 0 || k <= slots[2 * i] {
             return i;
         }
-        if k <= slots[2 * i] {
-            return i;
-        }
-        i += 1;
     }
-    i
+    12
 }
 
 // The place of the first hidden slot.
+#[tactic(auto, unfolding(crate::specs::Scan::in_use_of))]
 pub fn hidden_place(slots: [u64; 24], left: u64) -> usize
     ensures value { result ≡ hidden_place left (in_use_of slots) }
     ensures upper_bound { result ≤ 12 }
 {
     let mut before = left;
-    let mut i = 0;
-    while i < 12 {
+    for i in 0..12 {
         let p = slots[2 * i + 1];
-        if p == 0 {
-            return i;
-        }
-        if p == before {
+        if p == 0 || p == before {
             return i;
         }
         before = p;
-        i += 1;
     }
-    i
+    12
 }
 
 // The pointer before place p.
@@ -97,29 +84,18 @@ pub fn pointer_before(slots: [u64; 24], left: u64, p: usize) -> u64
 fn way_after(way: u64, before: u64, k: u64, p: u64, key: u64) -> u64
     ensures { result ≡ way_after way before k p key }
 {
-    if p == before {
-        return way;
-    }
-    if k <= key {
-        return p;
-    }
-    way
+    if p != before && k <= key { p } else { way }
 }
 
 // The pointer of the first shown slot with the key, after a slot in use; 0 if there is none.
 fn held_after(held: u64, before: u64, k: u64, p: u64, key: u64) -> u64
     ensures { result ≡ held_after held before k p key }
 {
-    if p == before {
-        return held;
+    if p != before && k == key && held == 0 {
+        p
+    } else {
+        held
     }
-    if k != key {
-        return held;
-    }
-    if held == 0 {
-        return p;
-    }
-    held
 }
 
 // What one look at a node's slots finds for a key: the way down, and the pointer of the first shown slot with the key, 0 for none.
@@ -140,87 +116,53 @@ pub fn scan(slots: [u64; 24], left: u64, key: u64, end: usize) -> Seen
     let mut way = left;
     let mut held = 0;
     let mut before = left;
-    let mut i = 0;
-    while i < end {
+    for i in 0..end {
         let p = slots[2 * i + 1];
         if p == 0 {
-            return Seen {
-                way: way,
-                held: held,
-            };
+            return Seen { way, held };
         }
         let k = slots[2 * i];
         way = way_after(way, before, k, p, key);
         held = held_after(held, before, k, p, key);
         before = p;
-        i += 1;
     }
-    Seen {
-        way: way,
-        held: held,
-    }
+    Seen { way, held }
 }
 
-// The slot that holds a key: its pointer, or that there is none.
-#[derive(Clone, Copy)]
-pub enum Held {
-    Pointer(u64),
-    Nothing,
-}
-
-// Which of a leaf's slots holds the key: the first shown one whose key it is.
-pub fn find(slots: [u64; 24], left: u64, key: u64) -> Held
+// Which of a leaf's slots holds the key: the pointer of the first shown one whose key it is.
+pub fn find(slots: [u64; 24], left: u64, key: u64) -> Option<u64>
     ensures { result ≡ held_by (first_with key (shown_from left slots 0)) }
 {
     let mut before = left;
-    let mut i = 0;
-    while i < 12 {
+    for i in 0..12 {
         let p = slots[2 * i + 1];
         if p == 0 {
-            return Held::Nothing;
+            return None;
         }
-        if p != before {
-            if slots[2 * i] == key {
-                return Held::Pointer(p);
-            }
+        if p != before && slots[2 * i] == key {
+            return Some(p);
         }
         before = p;
-        i += 1;
     }
-    Held::Nothing
+    None
 }
 
 // ---- kept slots: their number, the next key up, and the ways down
 
 // Whether the key of a slot is below the sibling's fence, the bound; with sibling 0 every key is.
+#[tactic(auto, unfolding(crate::specs::Scan::keeps))]
 pub fn keeps(sibling: u64, bound: u64, key: u64) -> bool
     ensures { result ≡ keeps sibling bound key }
 {
-    if sibling == 0 {
-        return true;
-    }
-    key < bound
+    sibling == 0 || key < bound
 }
 
 // Whether a slot in use is shown and kept, where before is the pointer before it.
+#[tactic(auto, unfolding(crate::specs::Scan::is_way))]
 pub fn is_way(sibling: u64, bound: u64, before: u64, key: u64, pointer: u64) -> bool
     ensures { result ≡ is_way sibling bound before key pointer }
 {
-    if pointer == before {
-        return false;
-    }
-    keeps(sibling, bound, key)
-}
-
-// The count after a slot in use: one more if it is shown and kept.
-fn count_after(count: u64, sibling: u64, bound: u64, before: u64, key: u64, pointer: u64) -> u64
-    requires { count < 12 }
-    ensures { result ≡ count_after count sibling bound before key pointer }
-{
-    if is_way(sibling, bound, before, key, pointer) {
-        return count + 1;
-    }
-    count
+    pointer != before && keeps(sibling, bound, key)
 }
 
 // How many of a node's slots are shown and kept, the bound being the sibling's fence; with sibling 0 all that are shown.
@@ -229,15 +171,15 @@ pub fn kept_count(slots: [u64; 24], left: u64, sibling: u64, bound: u64) -> u64
 {
     let mut count = 0;
     let mut before = left;
-    let mut i = 0;
-    while i < 12 {
+    for i in 0..12 {
         let p = slots[2 * i + 1];
         if p == 0 {
             return count;
         }
-        count = count_after(count, sibling, bound, before, slots[2 * i], p);
+        if is_way(sibling, bound, before, slots[2 * i], p) {
+            count += 1;
+        }
         before = p;
-        i += 1;
     }
     count
 }
@@ -250,26 +192,24 @@ pub fn shown_count(slots: [u64; 24], left: u64) -> u64
 }
 
 // The first key above the key among a leaf's kept slots, the bound being the sibling's fence.
-pub fn above(slots: [u64; 24], left: u64, sibling: u64, bound: u64, key: u64) -> Next
+pub fn above(slots: [u64; 24], left: u64, sibling: u64, bound: u64, key: u64) -> Option<u64>
     ensures { result ≡ first_above key (kept_of sibling bound (shown_from left slots 0)) }
 {
     let mut before = left;
-    let mut i = 0;
-    while i < 12 {
+    for i in 0..12 {
         let p = slots[2 * i + 1];
         if p == 0 {
-            return Next::Nothing;
+            return None;
         }
         let k = slots[2 * i];
         if is_way(sibling, bound, before, k, p) {
             if key < k {
-                return Next::Key(k);
+                return Some(k);
             }
         }
         before = p;
-        i += 1;
     }
-    Next::Nothing
+    None
 }
 
 // The ways down from a node: left, with the node's fence as key, then its kept slots.
@@ -292,30 +232,27 @@ pub fn gather(x: Node, bound: u64) -> Ways
     pointers[0] = x.left;
     let mut count = 1;
     let mut before = x.left;
-    let mut i = 0;
-    while i < 12 {
+    for i in 0..12 {
         let key = slots[2 * i];
         let pointer = slots[2 * i + 1];
         if pointer == 0 {
             return Ways {
-                count: count,
-                keys: keys,
-                pointers: pointers,
+                count,
+                keys,
+                pointers,
             };
         }
-        let way = is_way(x.sibling, bound, before, key, pointer);
-        before = pointer;
-        i += 1;
-        if way {
+        if is_way(x.sibling, bound, before, key, pointer) {
             keys[count] = key;
             pointers[count] = pointer;
             count += 1;
         }
+        before = pointer;
     }
     Ways {
-        count: count,
-        keys: keys,
-        pointers: pointers,
+        count,
+        keys,
+        pointers,
     }
 }
 
@@ -334,61 +271,47 @@ pub struct Survey {
 }
 
 // Whether a key is above low; if not strict, or low itself.
+#[tactic(auto, unfolding(crate::specs::Surveyed::reaches))]
 fn reaches(strict: bool, low: u64, key: u64) -> bool
     ensures { result ≡ reaches strict low key }
 {
-    if strict {
-        return low < key;
-    }
-    low <= key
+    if strict { low < key } else { low <= key }
 }
 
 // Whether the kept slots rise and come first, one more of this key counted.
+#[tactic(auto, unfolding(crate::specs::Surveyed::still_fair))]
 fn still_fair(s: Survey, key: u64) -> bool
     ensures { result ≡ still_fair s key }
 {
-    if !s.fair {
-        return false;
-    }
-    if s.trailing {
-        return false;
-    }
-    reaches(s.strict, s.low, key)
+    s.fair && !s.trailing && reaches(s.strict, s.low, key)
 }
 
 // One slot in use more.
+#[tactic(auto, unfolding(crate::specs::Surveyed::surveyed_slot))]
 fn survey_slot(s: Survey, sibling: u64, bound: u64, key: u64, pointer: u64) -> Survey
     requires { s.hidden < 12 }
     ensures { result ≡ surveyed_slot sibling bound key pointer s }
 {
     if pointer == s.before {
         return Survey {
-            fair: s.fair,
-            trailing: s.trailing,
-            strict: s.strict,
-            low: s.low,
             before: pointer,
             hidden: s.hidden + 1,
+            ..s
         };
     }
     if !keeps(sibling, bound, key) {
         return Survey {
-            fair: s.fair,
             trailing: true,
-            strict: s.strict,
-            low: s.low,
             before: pointer,
-            hidden: s.hidden,
+            ..s
         };
     }
-    let fair = still_fair(s, key);
     Survey {
-        fair: fair,
-        trailing: s.trailing,
+        fair: still_fair(s, key),
         strict: true,
         low: key,
         before: pointer,
-        hidden: s.hidden,
+        ..s
     }
 }
 
@@ -400,19 +323,17 @@ pub fn survey_slots(x: Node, strict: bool, bound: u64) -> Survey
     let mut s = Survey {
         fair: true,
         trailing: false,
-        strict: strict,
+        strict,
         low: x.fence,
         before: x.left,
         hidden: 0,
     };
-    let mut i = 0;
-    while i < 12 {
+    for i in 0..12 {
         let p = slots[2 * i + 1];
         if p == 0 {
             return s;
         }
         s = survey_slot(s, x.sibling, bound, slots[2 * i], p);
-        i += 1;
     }
     s
 }

@@ -1,6 +1,6 @@
 -- Laws of the check of a node and of a slot, as their code meets them.
 use mathlib.Core.Path.{◌≡◌, refl, ap, sym, ◌∙◌}
-use mathlib.Core.Bool.{Bool, true, false, ◌&&◌, and-false}
+use mathlib.Core.Bool.{Bool, true, false, cond, ◌&&◌, and-false}
 use mathlib.Core.List.{List, [], ◌∷◌}
 use Prim.Native.Nat.{ℕ, zero, suc, ◌+◌, ◌-◌, ◌≤◌, ◌<◌}
 use native.Mathlib.Omega.{arith}
@@ -8,7 +8,10 @@ use native.Mathlib.Numerals.{add-one}
 use lib.Dec.{eqb, ltb, leb}
 use lib.ListN.{get_or}
 use borrow.Author.Tests.{eq-eqb, ne_eqb, le-leb, lt-leb}
+use Rattle.std.specs.Prelude.{None, Some}
+use Rattle.std.proofs.lemmas.Option.{none-some, cond_some}
 use Rattle.model.specs.declared.Unfinished.{Unfinished}
+use Rattle.model.specs.declared.Visited.{Visited}
 use Rattle.model.specs.Table.{Words, root, nodes, in_range, header_ok, has_node}
 use Rattle.model.specs.Slots.{Slot, slot, View, node_view, view_from, view, height}
 use Rattle.model.specs.Reached.{head_or, pointers, next_child, flat}
@@ -17,14 +20,11 @@ use Rattle.list_laws.proofs.Tools.{and-iff}
 use Rattle.table_laws.proofs.Nodes.{has-node-range}
 use Rattle.node.specs.Word.{word_of}
 use Rattle.node.proofs.WordLaws.{word-sibling, word-level, word-fence}
-use Rattle.model.specs.declared.Tally.{Tally}
-use Rattle.model.specs.declared.Tally.TheVariants.{Unsound, Visited}
-use Rattle.walk_laws.specs.Walk.{Visit, stands, alone_ok, fits, visits_of, ways, visits_below, visit, fold, check, walk}
+use Rattle.walk_laws.specs.Walk.{Visit, stands, alone_ok, fits, visits_of, ways, visits_below, Tally, tally, visit, fold, check, walk}
 use Rattle.walk_laws.proofs.Sums.{joint}
 use Rattle.walk_laws.proofs.Run.{visits, check-fold, fold-unsound, visit-yes, visit-unfit, visit-over, met}
 use Rattle.walk_laws.proofs.Local.{visits-yes, visits-no}
 use Rattle.walk_laws.proofs.AnyRoot.{any-check}
-use Rattle.sound.specs.declared.Look.{Look}
 use Rattle.slots.specs.declared.Ways.{Ways}
 use Rattle.slots.specs.Gathered.{span, slots_in, ways_from, pointers_from}
 use Rattle.sound.specs.Nodes.{standing, look_of, noted, slot_checked}
@@ -32,22 +32,26 @@ use Rattle.slots.proofs.Kept.{ways-end, ways-next}
 
 -- ---- a visit that is refused, and one that is not
 
-pub check-unsound : (v : View) (d : ℕ) (x : Visit) → check v d x Unsound ≡ Unsound
-check-unsound v d x = check-fold v d x Unsound ∙ fold-unsound v (visits v d x)
+pub check-unsound : (v : View) (d : ℕ) (x : Visit) → check v d x None ≡ None
+check-unsound v d x = check-fold v d x None ∙ fold-unsound v (visits v d x)
 
-refused : (v : View) (d : ℕ) (x : Visit) (s : Tally) → visit v x s ≡ Unsound → check v d x s ≡ Unsound
+checks-unsound : (v : View) (d : ℕ) (xs : List Visit) → fold (check v d) xs None ≡ None
+checks-unsound v d [] = refl
+checks-unsound v d (x ∷ xs) = ap (fold (check v d) xs) (check-unsound v d x) ∙ checks-unsound v d xs
+
+refused : (v : View) (d : ℕ) (x : Visit) (s : Tally) → visit v x s ≡ None → check v d x s ≡ None
 unfolding visits
 refused v zero x s e = check-fold v zero x s ∙ e
 refused v (suc d) x s e =
     check-fold v (suc d) x s ∙ ap (fold (visit v) (flat (visits v d) (visits_below v d x.node))) e
     ∙ fold-unsound v (flat (visits v d) (visits_below v d x.node))
 
-check-leaf : (v : View) (x : Visit) (c : ℕ) (u : Unfinished) → fits v x ≡ true → c < v.nodes → check v 0 x (Visited c u) ≡ Visited (suc c) (together u (met v x))
+check-leaf : (v : View) (x : Visit) (c : ℕ) (u : Unfinished) → fits v x ≡ true → c < v.nodes → check v 0 x (tally c u) ≡ tally (suc c) (together u (met v x))
 unfolding check
 check-leaf v x c u e l = visit-yes v x c u e l
 
 check-inner : (v : View) (d : ℕ) (x : Visit) (c : ℕ) (u : Unfinished) → fits v x ≡ true → c < v.nodes
-    → check v (suc d) x (Visited c u) ≡ fold (check v d) (visits_of v x.node d (ways v x.node) (next_child v x.node)) (Visited (suc c) (together u (met v x)))
+    → check v (suc d) x (tally c u) ≡ fold (check v d) (visits_of v x.node d (ways v x.node) (next_child v x.node)) (tally (suc c) (together u (met v x)))
 unfolding check visits_below
 check-inner v d x c u e l = ap (fold (check v d) (visits_below v d x.node)) (visit-yes v x c u e l)
 
@@ -57,65 +61,57 @@ module _ (v : View) (n l k r : ℕ) where
   abbrev here : Visit
   here = standing n l k r
 
-  pub node-unsound : (s : Tally) → s ≡ Unsound → Unsound ≡ check v l here s
-  node-unsound s e = rw e (sym (check-unsound v l here))
+  pub node-over : (s : Visited) (m : ℕ) → m ≡ v.nodes → m ≤ s.count → None ≡ check v l here (Some s)
+  node-over s m q h = sym (refused v l here (Some s) (visit-over v here s.count s.unfinished (omega arith)))
 
-  pub node-over : (s : Tally) (c m : ℕ) (u : Unfinished) → s ≡ Visited c u → m ≡ v.nodes → m ≤ c → Unsound ≡ check v l here s
-  node-over s c m u e q h = rw e (sym (refused v l here (Visited c u) (visit-over v here c u (omega arith))))
-
-  unfit : (s : Tally) → fits v here ≡ false → Unsound ≡ check v l here s
+  unfit : (s : Tally) → fits v here ≡ false → None ≡ check v l here s
   unfit s e = sym (refused v l here s (visit-unfit v here s e))
 
-  pub node-elsewhere : (s : Tally) → stands v here ≡ false → Unsound ≡ check v l here s
+  pub node-elsewhere : (s : Tally) → stands v here ≡ false → None ≡ check v l here s
   unfolding fits
   node-elsewhere s e = unfit s (rw e)
 
-  pub node-wrong : (s : Tally) (x : Look) → x ≡ look_of v n → x.alone ≡ false → Unsound ≡ check v l here s
+  pub node-wrong : (s : Tally) → None ≡ look_of v n → None ≡ check v l here s
   unfolding fits look_of
-  node-wrong s x e h =
-      let a : alone_ok v n ≡ false = sym (ap (λ (y : Look). y.alone) e) ∙ h in
-      unfit s (rw (a, and-false (stands v here)))
+  node-wrong s e = unfit s (rw (alone (alone_ok v n) e, and-false (stands v here)))
+    where
+      alone : (b : Bool) → None ≡ cond b (Some (own v n)) None → b ≡ false
+      alone true q = absurd (none-some _ q)
+      alone false q = refl
 
--- a node on level l that fits, met after others with so much unfinished; w is unfinished together with what is in it
-pub record Met (v : View) (n l k r : ℕ) (s : Tally) (w : Unfinished) : Type 0 where
-  pub count : ℕ
-  pub so-far : Unfinished
-  pub tally : s ≡ Visited count so-far
-  pub few : count < v.nodes
+-- a node on level l that fits, met after others; w is unfinished in them together with what is in it
+pub record Met (v : View) (n l k r : ℕ) (s : Visited) (w : Unfinished) : Type 0 where
+  pub few : s.count < v.nodes
   pub fit : fits v (standing n l k r) ≡ true
-  pub all : w ≡ together so-far (met v (standing n l k r))
+  pub all : w ≡ together s.unfinished (met v (standing n l k r))
 
-pub few-met : (c m n : ℕ) → m ≡ n → c < m → c < n
-few-met c m n q h = omega arith
+-- N as it was read, the node's standing, what is unfinished in it, all that is
+pub node-met : (v : View) (n l k r : ℕ) (s : Visited) (m : ℕ) (b : Bool) (x w : Unfinished) → m ≡ v.nodes → s.count < m → b ≡ stands v (standing n l k r) → b ≡ true
+    → Some x ≡ look_of v n → w ≡ together s.unfinished x → Met v n l k r s w
+unfolding fits look_of met
+node-met v n l k r s m b x w q h st p look all =
+    let u = cond_some (alone_ok v n) (own v n) x (sym look) in
+    record {
+      few = omega arith;
+      fit = (and-iff (stands v (standing n l k r)) (alone_ok v n)).1 (sym st ∙ p, u.0);
+      all = all ∙ ap (together s.unfinished) (sym u.1);
+    }
 
-module _ (v : View) (n l k r : ℕ) (x : Look) (e : x ≡ look_of v n) where
-  pub node-fits : (b : Bool) → b ≡ stands v (standing n l k r) → b ≡ true → x.alone ≡ true → fits v (standing n l k r) ≡ true
-  unfolding fits look_of
-  node-fits b st q al = (and-iff (stands v (standing n l k r)) (alone_ok v n)).1 (sym st ∙ q, sym (ap (λ (y : Look). y.alone) e) ∙ al)
-
-  pub node-all : (u w : Unfinished) → w ≡ together u x.own → w ≡ together u (met v (standing n l k r))
-  unfolding look_of met
-  node-all u w p = p ∙ ap (λ (y : Look). together u y.own) e
-
-module _ {v : View} {n l k r : ℕ} {s : Tally} {w : Unfinished} (m : Met v n l k r s w) where
+module _ {v : View} {n l k r : ℕ} {s : Visited} {w : Unfinished} (m : Met v n l k r s w) where
   abbrev visited : Visit
   visited = standing n l k r
 
-  after : Visited (m.count + 1) w ≡ Visited (suc m.count) (together m.so-far (met v visited))
-  after = ap (λ (i : ℕ). Visited i w) (add-one m.count) ∙ ap (Visited (suc m.count)) m.all
+  after : tally (s.count + 1) w ≡ tally (suc s.count) (together s.unfinished (met v visited))
+  after = ap (λ (i : ℕ). tally i w) (add-one s.count) ∙ ap (tally (suc s.count)) m.all
 
-  pub node-leaf : l ≡ 0 → Visited (m.count + 1) w ≡ check v l visited s
-  node-leaf z =
-      after
-      ∙ sym (ap (check v l visited) m.tally ∙ ap (λ (d : ℕ). check v d visited (Visited m.count m.so-far)) z ∙ check-leaf v visited m.count m.so-far m.fit m.few)
+  pub node-leaf : l ≡ 0 → tally (s.count + 1) w ≡ check v l visited (Some s)
+  node-leaf z = after ∙ sym (ap (λ (d : ℕ). check v d visited (Some s)) z ∙ check-leaf v visited s.count s.unfinished m.fit m.few)
 
-  pub node-inner : (l ≡ 0 → ⊥) → fold (check v (l - 1)) (visits_of v n (l - 1) (ways v n) (next_child v n)) (Visited (m.count + 1) w) ≡ check v l visited s
+  pub node-inner : (l ≡ 0 → ⊥) → fold (check v (l - 1)) (visits_of v n (l - 1) (ways v n) (next_child v n)) (tally (s.count + 1) w) ≡ check v l visited (Some s)
   node-inner z =
       let d : l ≡ suc (l - 1) = omega arith in
       ap (fold (check v (l - 1)) (visits_of v n (l - 1) (ways v n) (next_child v n))) after
-      ∙ sym
-      (ap (check v l visited) m.tally ∙ ap (λ (e : ℕ). check v e visited (Visited m.count m.so-far)) d
-      ∙ check-inner v (l - 1) visited m.count m.so-far m.fit m.few)
+      ∙ sym (ap (λ (e : ℕ). check v e visited (Some s)) d ∙ check-inner v (l - 1) visited s.count s.unfinished m.fit m.few)
 
 -- a node that stands somewhere is in the table
 pub stands-has : (t : Words) (n l k r : ℕ) → header_ok t ≡ true → (b : Bool) → b ≡ stands (view t) (standing n l k r) → b ≡ true → has_node t n ≡ true
@@ -125,19 +121,19 @@ stands-has t n l k r h b e q = has-node-range t n h ∙ ((and-iff (in_range (nod
 -- ---- a slot
 
 visit-way : (v : View) (n l k r p a c : ℕ) (u : Unfinished)
-    → visit v (record { node = n; level = l; fence = k; right = r; way = missing_at p a }) (Visited c u) ≡ visit v (standing n l k r) (Visited c (together u (missing_at p a)))
+    → visit v (record { node = n; level = l; fence = k; right = r; way = missing_at p a }) (tally c u) ≡ visit v (standing n l k r) (tally c (together u (missing_at p a)))
 unfolding visit fits stands
 visit-way v n l k r p a c u =
-    ap (λ (z : Unfinished). elim (fits v (standing n l k r) && ltb c v.nodes) as (λ (b : Bool). Tally) [ true ↦ Visited (suc c) z | false ↦ Unsound ])
+    ap (λ (z : Unfinished). elim (fits v (standing n l k r) && ltb c v.nodes) as (λ (b : Bool). Tally) [ true ↦ tally (suc c) z | false ↦ None ])
     (sym (joint.assoc u (missing_at p a) (own v n)))
 
 -- what is missing on the way may be noted before the visit
 way-noted : (v : View) (d n l k r p a : ℕ) (s : Tally)
     → check v d (record { node = n; level = l; fence = k; right = r; way = missing_at p a }) s ≡ check v d (standing n l k r) (noted p a s)
 unfolding check
-way-noted v d n l k r p a Unsound = check-unsound v d _ ∙ sym (check-unsound v d _)
-way-noted v zero n l k r p a (Visited c u) = visit-way v n l k r p a c u
-way-noted v (suc d) n l k r p a (Visited c u) = ap (fold (check v d) (visits_below v d n)) (visit-way v n l k r p a c u)
+way-noted v d n l k r p a None = check-unsound v d _ ∙ sym (check-unsound v d _)
+way-noted v zero n l k r p a (Some s) = visit-way v n l k r p a s.count s.unfinished
+way-noted v (suc d) n l k r p a (Some s) = ap (fold (check v d) (visits_below v d n)) (visit-way v n l k r p a s.count s.unfinished)
 
 module _ (t : Words) (p d k c r : ℕ) (s : Tally) (b : ℕ) (e : b ≡ word_of t c 1) where
   is-sibling : (node_view t c).sibling ≡ b
@@ -201,13 +197,23 @@ module _ {v : View} {n d : ℕ} {w : Ways} {e : ℕ} {s₀ s : Tally} {i : ℕ} 
             ∙ k.comes-to;
       }
 
-  pub rest-done : w.count ≤ i → slots_in w ≡ ways v n → e ≡ next_child v n → s ≡ fold (check v d) (visits_of v n d (ways v n) (next_child v n)) s₀
+  all-ways : slots_in w ≡ ways v n → e ≡ next_child v n → rest_checked v n d w 0 e s₀ ≡ fold (check v d) (visits_of v n d (ways v n) (next_child v n)) s₀
   unfolding rest_checked ways_from
-  rest-done h p q =
+  all-ways p q =
       let z : w.count - 0 ≡ w.count = omega arith in
-      sym (ap (λ (ss : List Slot). fold (check v d) (visits_of v n d ss e) s) (ways-end w i h) ∙ (unfold visits_of in refl)) ∙ k.comes-to
-      ∙ ap (λ (m : ℕ). fold (check v d) (visits_of v n d (span w.keys w.pointers 0 m) e) s₀) z
+      ap (λ (m : ℕ). fold (check v d) (visits_of v n d (span w.keys w.pointers 0 m) e) s₀) z
       ∙ ap (λ (ss : List Slot). fold (check v d) (visits_of v n d ss e) s₀) p ∙ ap (λ (m : ℕ). fold (check v d) (visits_of v n d (ways v n) m) s₀) q
+
+  pub rest-done : w.count ≤ i → slots_in w ≡ ways v n → e ≡ next_child v n → s ≡ fold (check v d) (visits_of v n d (ways v n) (next_child v n)) s₀
+  unfolding rest_checked
+  rest-done h p q =
+      sym (ap (λ (ss : List Slot). fold (check v d) (visits_of v n d ss e) s) (ways-end w i h) ∙ (unfold visits_of in refl)) ∙ k.comes-to ∙ all-ways p q
+
+  pub rest-refused : s ≡ None → slots_in w ≡ ways v n → e ≡ next_child v n → None ≡ fold (check v d) (visits_of v n d (ways v n) (next_child v n)) s₀
+  unfolding rest_checked
+  rest-refused z p q =
+      let xs = visits_of v n d (ways_from w i) e in
+      sym (ap (fold (check v d) xs) z ∙ checks-unsound v d xs) ∙ k.comes-to ∙ all-ways p q
 
 -- ---- the whole walk
 
@@ -218,13 +224,13 @@ module _ (t : Words) (r l : ℕ) (q : l ≡ word_of t r 2) where
   top : l ≡ height tree
   top = q ∙ word-level t r
 
-  pub walk-high : 15 < l → Unsound ≡ walk (view_from t r)
+  pub walk-high : 15 < l → None ≡ walk (view_from t r)
   unfolding walk
   walk-high h = let z : leb (height tree) 15 ≡ false = lt-leb (height tree) 15 (omega (arith, top)) in rw (z, walk)
 
-  pub walk-low : (s : Tally) → l ≤ 15 → s ≡ check (view t) l (standing r l 0 0) (Visited 0 finished) → s ≡ walk (view_from t r)
+  pub walk-low : (s : Tally) → l ≤ 15 → s ≡ check (view t) l (standing r l 0 0) (tally 0 finished) → s ≡ walk (view_from t r)
   unfolding walk
   walk-low s h i =
       let z : leb (height tree) 15 ≡ true = le-leb (height tree) 15 (omega (arith, top)) in
-      i ∙ any-check t (root t) r l (standing r l 0 0) (Visited 0 finished)
-      ∙ ap (λ (k : ℕ). check tree k (standing r k 0 0) (Visited 0 finished)) top ∙ rw (z, walk)
+      i ∙ any-check t (root t) r l (standing r l 0 0) (tally 0 finished)
+      ∙ ap (λ (k : ℕ). check tree k (standing r k 0 0) (tally 0 finished)) top ∙ rw (z, walk)

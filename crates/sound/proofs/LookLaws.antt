@@ -7,36 +7,26 @@ use native.Mathlib.Nat.{zero-add}
 use lib.Dec.{eqb}
 use lib.ListN.{length}
 use borrow.Author.Tests.{eqb-true, eq-eqb}
+use Rattle.std.specs.Prelude.{None, Some}
 use Rattle.model.specs.declared.Node.{Node}
 use Rattle.model.specs.declared.Few.{Few}
 use Rattle.model.specs.declared.Few.TheVariants.{Zero, One}
-use Rattle.model.specs.declared.Missing.{Missing}
 use Rattle.model.specs.declared.Missing.TheVariants.{Nowhere}
-use Rattle.model.specs.declared.Unfinished.{Unfinished}
 use Rattle.model.specs.Table.{MARK, Words, node}
 use Rattle.model.specs.Slots.{Slot, used, node_view, view, clear_in}
 use Rattle.model.specs.Search.{below}
 use Rattle.model.specs.Reached.{filter, kept}
-use Rattle.model.specs.SoundTest.{all, sibling_ok, keys_ok, leaf_ok, add_few, add_missing, together, times, trailing_in, missing_at, own}
+use Rattle.model.specs.SoundTest.{all, sibling_ok, keys_ok, leaf_ok, times, trailing_in, own}
 use Rattle.list_laws.proofs.Tools.{same-test, all-each}
 use Rattle.tree_laws.proofs.Members.{filter-all, filter-whole}
 use Rattle.node.specs.Word.{word_of}
-use Rattle.model.specs.declared.Tally.{Tally}
-use Rattle.model.specs.declared.Tally.TheVariants.{Visited}
 use Rattle.walk_laws.specs.Walk.{alone_ok}
 use Rattle.slots.specs.declared.Survey.{Survey}
 use Rattle.slots.specs.Scan.{used_from, keeps, is_kept}
 use Rattle.slots.specs.Surveyed.{surveyed, begun}
 use Rattle.slots.proofs.Surveys.{lowest, Surveyed, survey-means}
 use Rattle.leaves.proofs.WaysLaws.{bound_of, bound-is}
-use Rattle.sound.specs.Nodes.{leaf_fair, look_of, noted}
-
-pub together-is : (a b : Unfinished) (h t : Few) (m : Missing)
-    → h ≡ add_few a.hidden b.hidden → t ≡ add_few a.trailing b.trailing → m ≡ add_missing a.missing b.missing → record { hidden = h; trailing = t; missing = m } ≡ together a b
-together-is a b h t m p q r = λ i. record { hidden = p i; trailing = q i; missing = r i }
-
-pub noted-is : (s : Tally) (c p n : ℕ) (u x : Unfinished) → s ≡ Visited c u → x ≡ together u (missing_at p n) → Visited c x ≡ noted p n s
-noted-is s c p n u x e q = rw (e, q)
+use Rattle.sound.specs.Nodes.{leaf_fair, look_of}
 
 -- ---- the number kept is the number shown exactly if all are kept
 
@@ -109,10 +99,17 @@ module _ (t : Words) (n : ℕ) where
         ap (λ (y : Survey). clear_in t n && (sibling_ok (view t) n && leaf_fair y.fair x.level x.left)) seen-is
         ∙ ap (λ (y : Node). clear_in t n && (sibling_ok (view t) n && leaf_fair seen.fair y.level y.left)) is ∙ seen-alone
 
-    pub look-is : (a : Bool) (h tr : Few) → a ≡ (clear_in t n && (sibling_ok (view t) n && leaf_fair s.fair x.level x.left))
-        → h ≡ times n s.hidden → tr ≡ cond s.trailing (One n) Zero
-        → record { alone = a; own = record { hidden = h; trailing = tr; missing = Nowhere } } ≡ look_of (view t) n
+    abbrev Alone : Bool → Type 0
+    Alone a = a ≡ (clear_in t n && (sibling_ok (view t) n && leaf_fair s.fair x.level x.left))
+
+    pub look-wrong : (a : Bool) → Alone a → a ≡ false → None ≡ look_of (view t) n
     unfolding look_of
-    look-is a h tr z p r =
+    look-wrong a z y = let b : alone_ok (view t) n ≡ false = sym (z ∙ alone-is) ∙ y in rw b
+
+    pub look-is : (a : Bool) (h tr : Few) → Alone a → a ≡ true → h ≡ times n s.hidden → tr ≡ cond s.trailing (One n) Zero
+        → Some (record { hidden = h; trailing = tr; missing = Nowhere }) ≡ look_of (view t) n
+    unfolding look_of
+    look-is a h tr z y p r =
+        let b : alone_ok (view t) n ≡ true = sym (z ∙ alone-is) ∙ y in
         let o = seen-own h tr (p ∙ ap (λ (y : Survey). times n y.hidden) seen-is) (r ∙ ap (λ (y : Survey). cond y.trailing (One n) Zero) seen-is) in
-        λ i. record { alone = (z ∙ alone-is) i; own = o i }
+        rw b (ap Some o)

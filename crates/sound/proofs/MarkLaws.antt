@@ -8,8 +8,9 @@ use native.Mathlib.Omega.{arith}
 use lib.Dec.{eqb}
 use lib.ListN.{length, get_or}
 use borrow.Author.Tests.{eq-eqb, ne_eqb}
+use Rattle.std.specs.Prelude.{None, Some}
 use Rattle.model.specs.Table.{Words, root, nodes, in_range, header_ok}
-use Rattle.model.specs.Slots.{Slot, slot, View, node_view, view_from, view, height}
+use Rattle.model.specs.Slots.{Slot, View, node_view, view_from, view, height}
 use Rattle.model.specs.Search.{below}
 use Rattle.model.specs.Reached.{flat, head_or, pointers, kept, named, first_child, next_child, fill_row, children, reached}
 use Rattle.model.specs.SoundTest.{elem}
@@ -20,9 +21,7 @@ use Rattle.tree_laws.proofs.Rows.{At, range-iff, children-inner, link-yes, link-
 use Rattle.tree_laws.proofs.Levels.{Level, level-lower}
 use Rattle.node.specs.Word.{word_of}
 use Rattle.node.proofs.WordLaws.{word-sibling, word-level}
-use Rattle.model.specs.declared.Tally.{Tally}
-use Rattle.model.specs.declared.Tally.TheVariants.{Unsound, Visited}
-use Rattle.walk_laws.specs.Walk.{Visit, stands, visits_of, ways, fold, check, walk}
+use Rattle.walk_laws.specs.Walk.{stands, ways, Tally, walk}
 use Rattle.walk_laws.proofs.Sums.{Monoid, sum, depth_first, sum-depth-first}
 use Rattle.walk_laws.proofs.WalkLaw.{InOrder, in-order-iff, top-level, walk-iff}
 use Rattle.slots.specs.declared.Ways.{Ways}
@@ -30,9 +29,8 @@ use Rattle.slots.specs.Gathered.{span, slots_in, ways_from, pointers_from}
 use Rattle.slots.proofs.Kept.{ways-end, ways-next}
 use Rattle.bits.specs.Bits.{has, put}
 use Rattle.bits.proofs.Marks.{has-put-same, has-put-other}
-use Rattle.sound.specs.Nodes.{standing, slot_checked}
+use Rattle.sound.specs.Nodes.{standing}
 use Rattle.sound.specs.Visited.{visited, slot_visited, Adds, Seen}
-use Rattle.sound.proofs.CheckLaws.{check-unsound}
 
 -- ---- marks
 
@@ -52,23 +50,6 @@ unfolding elem
 adds-put ws n l x =
     ⊎_elim (λ e. rw e (has-put-same ws n l ∙ sym (ap (λ (y : Bool). has ws n || (y || false)) (eq-eqb n n refl) ∙ or_comm (has ws n) true)))
     (λ e. has-put-other ws n x l e ∙ sym (ap (λ (y : Bool). has ws x || (y || false)) (ne_eqb x n e) ∙ or-false (has ws x))) (same-or-not x n)
-
--- ---- a check that is not refused began with one that was not
-
-unseen : (s u : Tally) → (s ≡ Unsound → u ≡ Unsound) → Seen u → Seen s
-unseen (Visited c w) u f h = tt
-unseen Unsound u f h = subst Seen (f refl) h
-
-pub check-seen : (v : View) (d : ℕ) (x : Visit) (s u : Tally) → u ≡ check v d x s → Seen u → Seen s
-check-seen v d x s u e = unseen s u (λ z. e ∙ ap (check v d x) z ∙ check-unsound v d x)
-
-fold-unsound : (v : View) (d : ℕ) (xs : List Visit) → fold (check v d) xs Unsound ≡ Unsound
-fold-unsound v d [] = refl
-fold-unsound v d (x ∷ xs) = ap (fold (check v d) xs) (check-unsound v d x) ∙ fold-unsound v d xs
-
-slot-seen : (v : View) (p d k c r : ℕ) (s u : Tally) → u ≡ slot_checked v p d k c r s → Seen u → Seen s
-unfolding slot_checked
-slot-seen v p d k c r s u e = unseen s u (λ z. e ∙ ap (fold (check v d) (visits_of v p d (slot k c ∷ []) r)) z ∙ fold-unsound v d (visits_of v p d (slot k c ∷ []) r))
 
 -- ---- a node
 
@@ -129,35 +110,34 @@ way-split v d w i e h =
     ap (λ (ss : List Slot). flat (visited v d) (fill_row v (pointers ss) e)) (ways-next w i h) ∙ ap (flat (visited v d)) (row-split v c cs e)
     ∙ flat-append (visited v d) (fill_row v (c ∷ []) (head_or e cs)) (fill_row v cs e)
 
--- Unless the check was refused: with the nodes below the ways from i on, those below all ways are marked besides.
-pub record Marking (v : View) (d : ℕ) (w : Ways) (e : ℕ) (s : Tally) (first marks : Words) (i : ℕ) : Type 0 where
-  pub goes : Seen s → (after : Words) → Adds (below_ways v d w i e) marks after → Adds (below_ways v d w 0 e) first after
+-- with the nodes below the ways from i on, those below all ways are marked besides
+pub record Marking (v : View) (d : ℕ) (w : Ways) (e : ℕ) (first marks : Words) (i : ℕ) : Type 0 where
+  pub goes : (after : Words) → Adds (below_ways v d w i e) marks after → Adds (below_ways v d w 0 e) first after
 
-pub marking-all : (v : View) (d : ℕ) (w : Ways) (e : ℕ) (s : Tally) (marks : Words) → Marking v d w e s marks marks 0
-marking-all v d w e s marks = record { goes = λ h after a. a }
+pub marking-all : (v : View) (d : ℕ) (w : Ways) (e : ℕ) (marks : Words) → Marking v d w e marks marks 0
+marking-all v d w e marks = record { goes = λ after a. a }
 
-module _ {v : View} {d : ℕ} {w : Ways} {e : ℕ} {s : Tally} {first marks : Words} {i : ℕ} (k : Marking v d w e s first marks i) where
-  pub marking-next : (n a : ℕ) (u : Tally) (more : Words) → i < w.count → a ≡ head_or e (pointers_from w (i + 1)) → u ≡ slot_checked v n d (get_or w.keys i 0) (get_or w.pointers i 0) a s
-      → (Seen u → Adds (slot_visited v d (get_or w.pointers i 0) a) marks more) → Marking v d w e u first more (i + 1)
-  marking-next n a u more h p q f =
+module _ {v : View} {d : ℕ} {w : Ways} {e : ℕ} {first marks : Words} {i : ℕ} (k : Marking v d w e first marks i) where
+  pub marking-next : (a : ℕ) (more : Words) → i < w.count → a ≡ head_or e (pointers_from w (i + 1))
+      → Adds (slot_visited v d (get_or w.pointers i 0) a) marks more → Marking v d w e first more (i + 1)
+  marking-next a more h p f =
       let c = get_or w.pointers i 0 in
       let r = head_or e (pointers_from w (i + 1)) in
       record {
-        goes = λ seen after g.
-            let here : Adds (slot_visited v d c r) marks more = subst (λ (x : ℕ). Adds (slot_visited v d c x) marks more) p (f seen) in
-            k.goes (slot-seen v n d (get_or w.keys i 0) c a s u q seen) after
-            (adds-same marks after _ _ (sym (way-split v d w i e h)) (adds-then (slot_visited v d c r) (below_ways v d w (i + 1) e) marks more after here g));
+        goes = λ after g.
+            let here : Adds (slot_visited v d c r) marks more = subst (λ (x : ℕ). Adds (slot_visited v d c x) marks more) p f in
+            k.goes after (adds-same marks after _ _ (sym (way-split v d w i e h)) (adds-then (slot_visited v d c r) (below_ways v d w (i + 1) e) marks more after here g));
       }
 
-  pub marking-done : (n : ℕ) → w.count ≤ i → slots_in w ≡ ways v n → e ≡ next_child v n → Seen s → Adds (flat (visited v d) (fill_row v (named v n) (next_child v n))) first marks
+  pub marking-done : (n : ℕ) → w.count ≤ i → slots_in w ≡ ways v n → e ≡ next_child v n → Adds (flat (visited v d) (fill_row v (named v n) (next_child v n))) first marks
   unfolding ways_from flat fill_row
-  marking-done n h p q seen =
+  marking-done n h p q =
       let none : below_ways v d w i e ≡ [] = ap (λ (ss : List Slot). flat (visited v d) (fill_row v (pointers ss) e)) (ways-end w i h) in
       let z : w.count - 0 ≡ w.count = omega arith in
       let all : below_ways v d w 0 e ≡ flat (visited v d) (fill_row v (named v n) (next_child v n)) =
       ap (λ (m : ℕ). flat (visited v d) (fill_row v (pointers (span w.keys w.pointers 0 m)) e)) z ∙ ap (λ (ss : List Slot). flat (visited v d) (fill_row v (pointers ss) e)) p
       ∙ ap (λ (m : ℕ). flat (visited v d) (fill_row v (named v n) m)) q in
-      adds-same first marks _ _ all (k.goes seen marks (adds-same marks marks _ _ (sym none) (adds-none marks)))
+      adds-same first marks _ _ all (k.goes marks (adds-same marks marks _ _ (sym none) (adds-none marks)))
 
 -- ---- the whole walk
 
@@ -197,8 +177,8 @@ elem-visited v o x =
 
 -- a walk that was not refused
 pub seen-order : (v : View) (s : Tally) → s ≡ walk v → Seen s → InOrder v
-seen-order v Unsound e h = absurd h
-seen-order v (Visited c u) e h = let p = (walk-iff v c u).0 (sym e) in (in-order-iff v).0 ((and-iff _ _).1 (p.root-ok, p.nodes-ok))
+seen-order v None e h = absurd h
+seen-order v (Some s) e h = let p = (walk-iff v s.count s.unfinished).0 (sym e) in (in-order-iff v).0 ((and-iff _ _).1 (p.root-ok, p.nodes-ok))
 
 any-visited : (t : Words) (r q d n : ℕ) → visited (view_from t r) d n ≡ visited (view_from t q) d n
 unfolding visited kept below first_child fill_row

@@ -1,6 +1,6 @@
 -- Where the reached nodes are marked, the leaves among the marked nodes, by their numbers, have the pairs of the map in another order: every
 -- sum over them is the map's, and so are both tests of the recordings.
-use mathlib.Core.Path.{◌≡◌, refl, ap, sym, subst, ◌∙◌}
+use mathlib.Core.Path.{◌≡◌, refl, ap, sym, ◌∙◌}
 use mathlib.Core.Bool.{Bool, true, false, cond, ◌&&◌, ◌||◌, false≢true}
 use mathlib.Core.Logic.{◌↔◌, ◌≢◌}
 use mathlib.Core.List.{List, [], ◌∷◌, map}
@@ -11,7 +11,9 @@ use lib.ListN.{length, set, replicate}
 use lib.Seq.{get_or-set_same, get_or-set_other}
 use mathlib.Core.Option.{some}
 use borrow.Author.Tests.{eqb-true, eqb-false, eq-eqb, ne_eqb}
+use Rattle.std.specs.Prelude.{Some}
 use Rattle.model.specs.declared.Unfinished.{Unfinished}
+use Rattle.model.specs.declared.Visited.{Visited}
 use Rattle.model.specs.Table.{Words, root, header_ok}
 use Rattle.model.specs.Slots.{Slot, recording, View, view_from, view, height}
 use Rattle.model.specs.Search.{below}
@@ -26,8 +28,6 @@ use Rattle.tree_laws.proofs.Leftovers.{Left, leftover-iff}
 use Rattle.list_laws.proofs.Distinct.{distinct-cons, UpTo}
 use Rattle.tree_laws.proofs.Rows.{At, range-iff}
 use Rattle.tree_laws.proofs.Levels.{Level, level-lower}
-use Rattle.model.specs.declared.Tally.{Tally}
-use Rattle.model.specs.declared.Tally.TheVariants.{Visited}
 use Rattle.walk_laws.specs.Walk.{walk}
 use Rattle.walk_laws.proofs.Sums as sums
 use Rattle.walk_laws.proofs.Sums.{Monoid, sum, tests, unit-right, sum-append, sum-flat, sum-both}
@@ -35,7 +35,7 @@ use Rattle.walk_laws.proofs.WalkLaw.{InOrder, top-level, in-order-once, walk-iff
 use Rattle.bits.specs.Bits.{has}
 use Rattle.bits.proofs.Marks.{none-marked}
 use Rattle.recordings.specs.Marked.{MARKS, UNCUT, uncut, own, marked_pairs}
-use Rattle.sound.specs.Visited.{Adds, Seen}
+use Rattle.sound.specs.Visited.{Adds}
 use Rattle.sound.specs.Checked.{uncut_in}
 use Rattle.sound.proofs.MarkLaws.{seen-order}
 
@@ -239,9 +239,6 @@ any-marked : (t : Words) (r q : ℕ) (marks : Words) → marked_pairs (view_from
 unfolding marked_pairs own kept below
 any-marked t r q marks = refl
 
-visited-seen : (s : Tally) (c : ℕ) (u : Unfinished) → s ≡ Visited c u → Seen s
-visited-seen s c u e = subst Seen (sym e) tt
-
 module _ (v : View) (marks : Words) (marked : (n : ℕ) → n ≤ v.nodes → has marks n ≡ elem n (reached v))
     (keeps : (n : ℕ) → elem n (reached v) ≡ true → uncut marks ≢ n → kept v n ≡ (v.node n).shown) (o : InOrder v) where
   -- The recordings of the leaves among the nodes that a walk marked are right exactly if the map's are.
@@ -255,19 +252,18 @@ module _ (v : View) (marks : Words) (marked : (n : ℕ) → n ≤ v.nodes → ha
       ap (λ (b : Bool). b && distinct (map recording (marked_pairs v marks))) ranges ∙ ap (λ (b : Bool). all pair_ok (mapping v) && b) once
 
 -- a walk was not refused, and marked what it reached: the marked leaves tell of the map
-pub walk-right : (t : Words) (r n : ℕ) (s : Tally) (c : ℕ) (u : Unfinished) (marks : Words) (y : ℕ) (x : Leftover) → header_ok t ≡ true → length marks ≡ MARKS → s ≡ walk (view_from t r)
-    → s ≡ Visited c u → (Seen s → Adds (reached (view_from t r)) (replicate n 0) marks) → leftover_of u ≡ some x → y ≡ uncut_in x
+pub walk-right : (t : Words) (r n : ℕ) (s : Visited) (marks : Words) (y : ℕ) (x : Leftover) → header_ok t ≡ true → length marks ≡ MARKS → Some s ≡ walk (view_from t r)
+    → Adds (reached (view_from t r)) (replicate n 0) marks → leftover_of s.unfinished ≡ some x → y ≡ uncut_in x
     → (b : Bool) → b ≡ recordings_ok (marked_pairs (view t) (set marks UNCUT y)) → b ≡ recordings_ok (mapping (view_from t r))
-walk-right t r n s c u marks y x hd len e q a l w b g =
+walk-right t r n s marks y x hd len e a l w b g =
     let v = view_from t r in
-    let h = visited-seen s c u q in
-    let o = seen-order v s e h in
-    let p = (walk-iff v c u).0 (sym e ∙ q) in
+    let o = seen-order v (Some s) e tt in
+    let p = (walk-iff v s.count s.unfinished).0 (sym e) in
     let few = ((header-iff t).0 hd).size.few in
-    let is-left = left-is v u x p.unfinished-is l in
+    let is-left = left-is v s.unfinished x p.unfinished-is l in
     let after = set marks UNCUT y in
     let at : uncut after ≡ uncut_in x = get_or-set_same marks UNCUT y 0 (omega (arith, len)) ∙ w in
     let marked : (i : ℕ) → i ≤ v.nodes → has after i ≡ elem i (reached v) = λ i k.
-    still-marked marks y i (omega (arith, few)) ∙ a h i ∙ ap (λ (z : Bool). z || elem i (reached v)) (none-marked n i) in
+    still-marked marks y i (omega (arith, few)) ∙ a i ∙ ap (λ (z : Bool). z || elem i (reached v)) (none-marked n i) in
     let keeps : (i : ℕ) → elem i (reached v) ≡ true → uncut after ≢ i → kept v i ≡ (v.node i).shown = λ i k z. left-keeps v x ((leftover-iff v p.once x).0 is-left) i k (λ d. z (at ∙ d)) in
     g ∙ ap recordings_ok (any-marked t (root t) r after) ∙ marked-right v after marked keeps o

@@ -1,36 +1,22 @@
 -- What the functions over one node answer, from what they read.
-use mathlib.Core.Path.{◌≡◌, refl, ap, sym, ◌∙◌}
-use mathlib.Core.Bool.{Bool, true, false, cond, ◌&&◌}
-use Prim.Native.Nat.{ℕ, zero, suc, ◌+◌, ◌-◌, ◌≤◌, ◌<◌}
+use mathlib.Core.Path.{◌≡◌, ap, sym, ◌∙◌}
+use mathlib.Core.Bool.{true, false, ◌&&◌}
+use Prim.Native.Nat.{ℕ, ◌+◌, ◌-◌, ◌≤◌, ◌<◌}
 use native.Mathlib.Omega.{arith}
 use lib.Dec.{ltb, eqb}
 use borrow.Author.Tests.{eq-eqb, ne_eqb, lt-ltb}
 use borrow.Author.Count.{below_more}
-use Rattle.model.specs.declared.Few.TheVariants.{Zero, One, Many}
-use Rattle.model.specs.Table.{MARK, Words, at, nodes, in_range, header_ok, node_start, has_node, node}
+use Rattle.model.specs.Table.{Words, at, nodes, in_range, header_ok, node_start, has_node, node}
 use Rattle.model.specs.Slots.{view, clear_in}
 use Rattle.model.specs.Reached.{first_child, next_child}
-use Rattle.model.specs.SoundTest.{sibling_ok, times}
+use Rattle.model.specs.SoundTest.{sibling_ok}
 use Rattle.list_laws.proofs.Tools.{decode, and-iff, refuted}
 use Rattle.table_laws.proofs.Words.{part-zero-iff}
 use Rattle.table_laws.proofs.Nodes.{has-node-range, spare-in}
 use Rattle.node.specs.Word.{word_of}
 use Rattle.node.proofs.WordLaws.{word-left, word-sibling, word-level, word-fence, word-slot}
 use Rattle.walk_laws.specs.Walk.{stands}
-use Rattle.sound.specs.Nodes.{standing, leaf_fair}
-
--- ---- counts
-
-pub times-one : (n k : ℕ) → k ≡ 1 → One n ≡ times n k
-times-one n k e = ap (times n) (sym e)
-
-pub times-many : (n k : ℕ) → (k ≡ 0 → ⊥) → (k ≡ 1 → ⊥) → Many ≡ times n k
-times-many n zero z o = absurd (z refl)
-times-many n (suc zero) z o = absurd (o refl)
-times-many n (suc (suc k)) z o = refl
-
-pub found-if : (n : ℕ) (a b : Bool) → a ≡ b → cond b (One n) Zero ≡ cond a (One n) Zero
-found-if n a b e = rw e
+use Rattle.sound.specs.Nodes.{standing}
 
 -- ---- the words that must be 0
 
@@ -134,17 +120,3 @@ module _ (t : Words) (n l k r : ℕ) (h : header_ok t ≡ true) where
       let level : eqb (node t n).level l ≡ true = eq-eqb (node t n).level l (sym (p ∙ word-level t n) ∙ p') in
       let fence : eqb (node t n).fence k ≡ true = eq-eqb (node t n).fence k (sym (q ∙ word-fence t n) ∙ q') in
       rw (← has-node-range t n h, o, level, fence, s, word-sibling t n)
-
--- ---- a leaf's left
-
-pub leaf-inner : (a : Bool) (l x : ℕ) → (l ≡ 0 → ⊥) → a ≡ leaf_fair a l x
-unfolding leaf_fair
-leaf-inner a l x z = rw (ne_eqb l 0 z)
-
-pub leaf-wrong : (a : Bool) (l x : ℕ) → l ≡ 0 → (x ≡ MARK → ⊥) → false ≡ leaf_fair a l x
-unfolding leaf_fair
-leaf-wrong a l x z m = rw (eq-eqb l 0 z, ne_eqb x MARK m)
-
-pub leaf-right : (a : Bool) (l x : ℕ) → l ≡ 0 → x ≡ MARK → a ≡ leaf_fair a l x
-unfolding leaf_fair
-leaf-right a l x z m = rw (eq-eqb l 0 z, eq-eqb x MARK m)

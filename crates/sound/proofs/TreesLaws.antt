@@ -1,12 +1,14 @@
 -- The check of a table by the checks of its trees.
 use mathlib.Core.Path.{◌≡◌, refl, ap, sym, ◌∙◌}
-use mathlib.Core.Bool.{Bool, true, false, cond, ◌&&◌, ◌||◌, and-false, and-true}
+use mathlib.Core.Bool.{Bool, true, false, cond, ◌&&◌, ◌||◌, and-false, and-true, false≢true}
 use mathlib.Core.Logic.{◌≢◌}
 use mathlib.Core.Option.{Option, some}
-use Prim.Native.Nat.{ℕ, ◌+◌, ◌≤◌}
+use Prim.Native.Nat.{ℕ, zero, suc, ◌+◌, ◌≤◌}
 use native.Mathlib.Omega.{arith}
 use lib.ListN.{length}
 use borrow.Author.Tests.{eq-eqb, ne_eqb}
+use Rattle.std.specs.Prelude.{None, Some, is_err}
+use Rattle.model.specs.Results.{Outcome, passed}
 use Rattle.model.specs.Table.{Words, at, header_ok, header_number}
 use Rattle.model.specs.Slots.{View, view_from, view_of}
 use Rattle.model.specs.Reached.{reached, reached_all}
@@ -17,33 +19,16 @@ use Rattle.walk_laws.specs.Chain.{last_leaf}
 use Rattle.walk_laws.proofs.WalkLaw.{sound-in-order, in-order-few}
 use Rattle.two_laws.proofs.CheckTwo.{beside, sound-by-trees, left-alone, left-beside, count-alone, count-beside}
 use Rattle.sound.specs.declared.Leftover.{Leftover}
-use Rattle.sound.specs.declared.Checked.{Checked}
-use Rattle.sound.specs.declared.Checked.TheVariants.{Unsound, Sound}
-use Rattle.sound.specs.Checked.{meant, sound_with, checked_tree, joined, checked}
-use Rattle.sound.proofs.JudgeLaws.{SoundTree, tree-unsound, said-meant}
+use Rattle.sound.specs.declared.Sound.{Sound}
+use Rattle.sound.specs.Checked.{meant, Checked, found, sound_with, checked_tree, joined, checked}
+use Rattle.sound.proofs.JudgeLaws.{SoundTree, tree-sound, tree-unsound, said-meant}
 
 -- two sound trees without a common node: what the answers and the leftovers come to
 joined-is : (x y : Leftover) (n : ℕ) (a b : Bool)
-    → cond a (Sound y n) (cond b (Sound x n) Unsound) ≡ sound_with (a || b) (cond a (some (meant y)) (some (meant x))) n
-joined-is x y n true b = ap (λ (l : Leftover). Sound l n) (sym (said-meant y))
-joined-is x y n false true = ap (λ (l : Leftover). Sound l n) (sym (said-meant x))
+    → cond a (found y n) (cond b (found x n) None) ≡ sound_with (a || b) (cond a (some (meant y)) (some (meant x))) n
+joined-is x y n true b = ap (λ (l : Leftover). found l n) (sym (said-meant y))
+joined-is x y n false true = ap (λ (l : Leftover). found l n) (sym (said-meant x))
 joined-is x y n false false = refl
-
-module _ (x y : Leftover) (n : ℕ) (a : Bool) (p : a ≡ is_nothing (some (meant x))) where
-  pub join-first : a ≡ true → Sound y n ≡ joined x y n
-  join-first e = ap (λ (z : Bool). cond z (Sound y n) (cond (is_nothing (some (meant y))) (Sound x n) Unsound)) (sym e ∙ p)
-
-  module _ (e : a ≡ false) (b : Bool) (q : b ≡ is_nothing (some (meant y))) where
-    rest : cond b (Sound x n) Unsound ≡ joined x y n
-    rest =
-        ap (λ (z : Bool). cond z (Sound x n) Unsound) q
-        ∙ ap (λ (z : Bool). cond z (Sound y n) (cond (is_nothing (some (meant y))) (Sound x n) Unsound)) (sym e ∙ p)
-
-    pub join-second : b ≡ true → Sound x n ≡ joined x y n
-    join-second s = ap (λ (z : Bool). cond z (Sound x n) Unsound) (sym s) ∙ rest
-
-    pub join-neither : b ≡ false → Unsound ≡ joined x y n
-    join-neither s = ap (λ (z : Bool). cond z (Sound x n) Unsound) (sym s) ∙ rest
 
 -- ---- the whole table
 
@@ -56,15 +41,19 @@ module _ (t : Words) (w r : ℕ) (e : r ≡ at t w) where
   leaf-at n q = q ∙ ap (λ (k : ℕ). last_leaf (view_from t k)) e
 
 module _ (t : Words) where
-  refused : sound t ≡ false → Unsound ≡ checked t
+  refused : sound t ≡ false → None ≡ checked t
   unfolding checked
   refused e = rw (e, checked)
 
-  pub header-ok : (k : ℕ) → k ≡ header_number t → k ≡ 0 → header_ok t ≡ true
-  header-ok k e z = (header-number-iff t).0 (sym e ∙ z)
+  pub header-ok : (a : Outcome) → a ≡ passed (header_number t) → is_err a ≡ false → header_ok t ≡ true
+  header-ok a e z = (header-number-iff t).0 (go (header_number t) (ap is_err (sym e) ∙ z))
+    where
+      go : (n : ℕ) → is_err (passed n) ≡ false → n ≡ 0
+      go zero h = refl
+      go (suc n) h = absurd (false≢true (sym h))
 
-  pub wrong-header : (k : ℕ) → k ≡ header_number t → (k ≡ 0 → ⊥) → Unsound ≡ checked t
-  wrong-header k e z = refused (unfold sound in rw (header-number-refused t (λ q. z (e ∙ q))))
+  pub wrong-header : (a : Outcome) → a ≡ passed (header_number t) → is_err a ≡ true → None ≡ checked t
+  wrong-header a e z = refused (unfold sound in rw (header-number-refused t (λ q. false≢true (sym (ap is_err (e ∙ ap passed q)) ∙ z))))
 
   answer-is : (b : Bool) (o : Option model.Leftover) (n : ℕ) → sound t ≡ b → leftover_all t ≡ o → length (reached_all t) ≡ n → sound_with b o n ≡ checked t
   unfolding checked
@@ -86,14 +75,14 @@ module _ (t : Words) where
         let s : sound t ≡ sound_view v₁ = sound-by-trees t ∙ rw (h, eq-eqb (at t 3) 0 z, and-true (sound_view v₁)) in
         answer-is (sound_view v₁) (leftover v₁) (length (reached v₁)) s (left-alone t z) (count-alone t z)
 
+    pub first-wrong : checked_tree (view_of 1 t) ≡ None → None ≡ checked t
+    first-wrong e = refused (sound-by-trees t ∙ rw (h, tree-unsound v₁ e))
+
     module _ (z : at t 3 ≢ 0) where
       by-two : sound t ≡ (sound_view v₁ && (sound_view v₂ && beside v₁ v₂))
       by-two = sound-by-trees t ∙ rw (h, ne_eqb (at t 3) 0 z)
 
-      pub first-wrong : checked_tree (view_of 1 t) ≡ Unsound → Unsound ≡ checked t
-      first-wrong e = refused (by-two ∙ rw (tree-unsound v₁ e))
-
-      pub second-wrong : checked_tree (view_of 2 t) ≡ Unsound → Unsound ≡ checked t
+      pub second-wrong : checked_tree (view_of 2 t) ≡ None → None ≡ checked t
       second-wrong e = refused (by-two ∙ rw (tree-unsound v₂ e, and-false (sound_view v₁)))
 
 -- two sound trees, with these leftovers and so many nodes
@@ -102,6 +91,16 @@ pub record BothSound (t : Words) (x y : Leftover) (c d : ℕ) : Type 0 where
   pub there : at t 3 ≢ 0
   pub one : SoundTree (view_of 1 t) x c
   pub two : SoundTree (view_of 2 t) y d
+
+-- as they were checked, from the roots r and q
+pub both-checked : (t : Words) (r q : ℕ) (x y : Sound) → header_ok t ≡ true → r ≡ at t 1 → q ≡ at t 3 → (q ≡ 0 → ⊥) → Some x ≡ checked_tree (view_from t r) → Some y ≡ checked_tree (view_from t q)
+    → BothSound t x.leftover y.leftover x.reached y.reached
+both-checked t r q x y h e g z a b = record {
+  header = h;
+  there = λ i. z (g ∙ i);
+  one = tree-sound (view_of 1 t) x.leftover x.reached (tree-at t 1 r e (Some x) a);
+  two = tree-sound (view_of 2 t) y.leftover y.reached (tree-at t 3 q g (Some y) b);
+}
 
 module _ {t : Words} {x y : Leftover} {c d : ℕ} (k : BothSound t x y c d) where
   abbrev last₁ : ℕ
@@ -118,7 +117,7 @@ module _ {t : Words} {x y : Leftover} {c d : ℕ} (k : BothSound t x y c d) wher
       let few : (v : View) (l : Leftover) (n : ℕ) → SoundTree v l n → n ≤ v.nodes = λ v l n s. omega (arith, s.reached-are, in-order-few v (sound-in-order v s.is-sound)) in
       omega (arith, few (view_of 1 t) x c k.one, few (view_of 2 t) y d k.two, ((header-iff t).0 k.header).size.few)
 
-  pub same-leaf : last_leaf (view_of 1 t) ≡ last_leaf (view_of 2 t) → Unsound ≡ checked t
+  pub same-leaf : last_leaf (view_of 1 t) ≡ last_leaf (view_of 2 t) → None ≡ checked t
   same-leaf e = refused t (by-beside ∙ rw (eq-eqb last₁ last₂ e))
 
   pub both-trees : last_leaf (view_of 1 t) ≢ last_leaf (view_of 2 t) → joined x y (c + d) ≡ checked t

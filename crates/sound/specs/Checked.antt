@@ -1,5 +1,6 @@
 -- What the check of a table answers, in model's words.
-use Rattle.std.specs.Prelude.{Bool, true, false, cond, ℕ, length}
+use Rattle.std.specs.Prelude as rust
+use Rattle.std.specs.Prelude.{Bool, true, false, cond, None, Some, ℕ, length}
 use Rattle.std.proofs.Math.Option.{Option, none, some}
 use Rattle.model.specs.Table.{Words}
 use Rattle.model.specs.Slots.{View}
@@ -7,10 +8,7 @@ use Rattle.model.specs.Reached.{reached, reached_all}
 use Rattle.model.specs.SoundTest as model
 use Rattle.sound.specs.declared.Leftover.{Leftover}
 use Rattle.sound.specs.declared.Leftover.TheVariants.{Nothing, HiddenIn, MissingIn, BothIn}
-use Rattle.sound.specs.declared.Verdict.{Verdict}
-use Rattle.sound.specs.declared.Verdict.TheVariants.{Allowed, TooMuch}
-use Rattle.sound.specs.declared.Checked.{Checked}
-use Rattle.sound.specs.declared.Checked.TheVariants.{Unsound, Sound}
+use Rattle.sound.specs.declared.Sound.{Sound}
 
 -- the leftover that an answer means, and the answer for a leftover
 abbrev pub meant : Leftover → model.Leftover
@@ -25,9 +23,9 @@ said (model.hidden_in x) = HiddenIn x
 said (model.missing_in p a trailing) = MissingIn p a trailing
 said (model.both_in p a) = BothIn p a
 
-abbrev pub verdict_of : Option model.Leftover → Verdict
-verdict_of none = TooMuch
-verdict_of (some x) = Allowed (said x)
+abbrev pub verdict_of : Option model.Leftover → rust.Option Leftover
+verdict_of none = None
+verdict_of (some x) = Some (said x)
 
 -- the node that shows slots from its sibling's fence up; 0 if none does
 abbrev pub uncut_in : model.Leftover → ℕ
@@ -37,10 +35,16 @@ uncut_in (model.missing_in p a trailing) = cond trailing a 0
 uncut_in (model.both_in p a) = 0
 
 -- what a check answers: the leftover and the number of nodes reached, if it is sound
+abbrev pub Checked : Type 0
+Checked = rust.Option Sound
+
+abbrev pub found : Leftover → ℕ → Checked
+found x c = Some (record { leftover = x; reached = c })
+
 abbrev pub sound_with : (sound : Bool) → Option model.Leftover → ℕ → Checked
-sound_with false o c = Unsound
-sound_with true none c = Unsound
-sound_with true (some x) c = Sound (said x) c
+sound_with false o c = None
+sound_with true none c = None
+sound_with true (some x) c = found (said x) c
 
 -- of one tree, and of a table
 unfoldable pub checked_tree : View → Checked
@@ -51,4 +55,4 @@ checked t = sound_with (model.sound t) (model.leftover_all t) (length (reached_a
 
 -- for two sound trees without a common node, with these leftovers and so many nodes: in one of them nothing may be left
 abbrev pub joined : Leftover → Leftover → ℕ → Checked
-joined x y c = cond (model.is_nothing (some (meant x))) (Sound y c) (cond (model.is_nothing (some (meant y))) (Sound x c) Unsound)
+joined x y c = cond (model.is_nothing (some (meant x))) (found y c) (cond (model.is_nothing (some (meant y))) (found x c) None)

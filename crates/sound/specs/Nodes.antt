@@ -1,12 +1,10 @@
 -- What is seen of one node, and what is noted on the way to another.
-use Rattle.std.specs.Prelude.{Bool, cond, ◌&&◌, [], ◌∷◌, ℕ, eqb}
+use Rattle.std.specs.Prelude.{Bool, cond, ◌&&◌, Option, None, Some, [], ◌∷◌, ℕ, eqb}
 use Rattle.model.specs.Table.{MARK}
 use Rattle.model.specs.Slots.{slot, View}
 use Rattle.model.specs.SoundTest.{finished, together, missing_at, own}
-use Rattle.model.specs.declared.Tally.{Tally}
-use Rattle.model.specs.declared.Tally.TheVariants.{Unsound, Visited}
-use Rattle.walk_laws.specs.Walk.{Visit, alone_ok, visits_of, fold, check}
-use Rattle.sound.specs.declared.Look.{Look}
+use Rattle.model.specs.declared.Unfinished.{Unfinished}
+use Rattle.walk_laws.specs.Walk.{Visit, alone_ok, visits_of, Tally, tally, fold, check}
 
 -- a visit on whose way nothing is unfinished
 abbrev pub standing : ℕ → ℕ → ℕ → ℕ → Visit
@@ -16,13 +14,14 @@ standing n level fence right = record { node = n; level = level; fence = fence; 
 unfoldable pub leaf_fair : Bool → ℕ → ℕ → Bool
 leaf_fair fair level left = cond (eqb level 0) (eqb left MARK && fair) fair
 
-unfoldable pub look_of : View → ℕ → Look
-look_of v n = record { alone = alone_ok v n; own = own v n }
+-- what is unfinished in n, if it is in order without its children
+unfoldable pub look_of : View → ℕ → Option Unfinished
+look_of v n = cond (alone_ok v n) (Some (own v n)) None
 
 -- the sibling of c lacks its slot in p
 abbrev pub noted : ℕ → ℕ → Tally → Tally
-noted p c Unsound = Unsound
-noted p c (Visited k u) = Visited k (together u (missing_at p c))
+noted p c None = None
+noted p c (Some s) = tally s.count (together s.unfinished (missing_at p c))
 
 -- the check of one slot of p, with key k and pointer c, on level d, which r follows
 unfoldable pub slot_checked : View → ℕ → ℕ → ℕ → ℕ → ℕ → Tally → Tally

@@ -1,11 +1,10 @@
 -- The nodes that the check of a node visits, and their marks.
-use Rattle.std.specs.Prelude.{◌≡◌, ◌||◌, List, [], ◌∷◌, ℕ, zero, suc}
+use Rattle.std.specs.Prelude.{◌≡◌, ◌||◌, None, Some, List, [], ◌∷◌, ℕ, zero, suc}
 use Rattle.model.specs.Table.{Words}
 use Rattle.model.specs.Slots.{View}
 use Rattle.model.specs.Reached.{flat, named, next_child, fill_row}
 use Rattle.model.specs.SoundTest.{elem}
-use Rattle.model.specs.declared.Tally.{Tally}
-use Rattle.model.specs.declared.Tally.TheVariants.{Unsound, Visited}
+use Rattle.walk_laws.specs.Walk.{Tally}
 use Rattle.bits.specs.Bits.{has}
 
 module _ (v : View) where
@@ -24,5 +23,5 @@ Adds ns before after = (x : ℕ) → has after x ≡ (has before x || elem x ns)
 
 -- the check was not refused
 abbrev pub Seen : Tally → Type 0
-Seen Unsound = ⊥
-Seen (Visited c u) = Unit {0}
+Seen None = ⊥
+Seen (Some s) = Unit {0}

@@ -66,15 +66,12 @@ module _ (t : Words) where
     pub counted-out : left ≡ 0 → codes ≡ codes_along most first
     counted-out e = omega (arith, h.comes-to, ap (λ (c : ℕ). codes_along c leaf) e, no-more leaf)
 
-  pub counted-leaf : (most first leaf left codes k s : ℕ) → Counted most first leaf left codes → (leaf ≡ 0 → ⊥) → (left ≡ 0 → ⊥)
-      → k ≡ length (kept (view t) leaf) → s ≡ word_of t leaf 1 → Counted most first s (left - 1) (codes + k)
-  counted-leaf most first leaf zero codes k s h z o e q = absurd (o refl)
-  counted-leaf most first leaf (suc c) codes k s h z o e q =
-      let less : suc c - 1 ≡ c = omega arith in
-      let here : codes_along (suc c - 1) s ≡ codes_along c (node_view t leaf).sibling =
-      ap (λ (d : ℕ). codes_along d s) less ∙ ap (codes_along c) (q ∙ word-sibling t leaf) in
+  pub counted-leaf : (most first leaf left fewer codes k s : ℕ) → Counted most first leaf left codes → (leaf ≡ 0 → ⊥) → left ≡ suc fewer
+      → k ≡ length (kept (view t) leaf) → s ≡ word_of t leaf 1 → Counted most first s fewer (codes + k)
+  counted-leaf most first leaf left fewer codes k s h z o e q =
+      let here = ap (codes_along fewer) (q ∙ word-sibling t leaf) in
       record {
-        comes-to = omega (arith, h.comes-to, one-leaf c leaf z, here, e);
+        comes-to = omega (arith, h.comes-to, ap (λ (c : ℕ). codes_along c leaf) o, one-leaf fewer leaf z, here, e);
         few = omega (arith, h.few);
         small = omega (arith, h.few, h.small, e, kept-few leaf);
       }

@@ -9,6 +9,7 @@ use native.Mathlib.Omega.{arith}
 use lib.Dec.{eqb}
 use lib.ListN.{length, replicate}
 use borrow.Author.Tests.{eq-eqb, ne_eqb}
+use Rattle.std.specs.Prelude.{None}
 use Rattle.model.specs.Table.{Words, at, header_ok}
 use Rattle.model.specs.Slots.{view_from, view_of}
 use Rattle.model.specs.Reached.{reached, reached_all}
@@ -20,9 +21,7 @@ use Rattle.two_laws.proofs.SearchTwo.{sound-head}
 use Rattle.two_laws.proofs.CollectionTwo.{collection-sound}
 use Rattle.two_laws.proofs.CheckTwo.{left-alone, count-alone, count-beside}
 use Rattle.sound.specs.declared.Leftover.{Leftover}
-use Rattle.sound.specs.declared.Checked.{Checked}
-use Rattle.sound.specs.declared.Checked.TheVariants.{Unsound, Sound}
-use Rattle.sound.specs.Checked.{meant, checked_tree, checked}
+use Rattle.sound.specs.Checked.{meant, found, checked_tree, checked}
 use Rattle.sound.proofs.JudgeLaws.{SoundTree, SoundWith, tree-sound, tree-unsound, checked-sound}
 use Rattle.sound.proofs.TreesLaws.{tree-at}
 use Rattle.model.specs.Statistics.{left_in, tree_words}
@@ -75,7 +74,7 @@ module _ (t : Words) (r : ℕ) (e : r ≡ at t 3) where
 
 -- ---- with this leftover and so many nodes reached
 
-module _ (t : Words) (x : Leftover) (c : ℕ) (h : checked t ≡ Sound x c) where
+module _ (t : Words) (x : Leftover) (c : ℕ) (h : checked t ≡ found x c) where
   pub whole : SoundWith t x c
   whole = (checked-sound t x c).0 h
 
@@ -94,12 +93,12 @@ module _ (t : Words) (x : Leftover) (c : ℕ) (h : checked t ≡ Sound x c) wher
   first-alone z l q = (whole.reached-are ∙ count-alone t z, left-from x (sym (left-alone t z) ∙ whole.leftover-is) l q)
 
   -- else the first tree is checked by itself
-  module _ (r : ℕ) (e : r ≡ at t 1) (o : Checked) (q : o ≡ checked_tree (view_from t r)) where
-    pub first-beside : (y : Leftover) (n : ℕ) → o ≡ Sound y n → (l : ℕ) → l ≡ cond (is_nothing (some (meant y))) 2 1 → First n l
+  module _ (r : ℕ) (e : r ≡ at t 1) where
+    pub first-beside : (y : Leftover) (n : ℕ) → found y n ≡ checked_tree (view_from t r) → (l : ℕ) → l ≡ cond (is_nothing (some (meant y))) 2 1 → First n l
     first-beside y n a l b =
-        let k : SoundTree (view_of 1 t) y n = tree-sound (view_of 1 t) y n (tree-at t 1 r e o q ∙ a) in
+        let k : SoundTree (view_of 1 t) y n = tree-sound (view_of 1 t) y n (tree-at t 1 r e (found y n) a) in
         (k.reached-are, left-from y k.leftover-is l b)
 
-    pub first-never : o ≡ Unsound → First 0 0
+    pub first-never : None ≡ checked_tree (view_from t r) → First 0 0
     first-never a =
-        absurd (false≢true (sym (tree-unsound (view_of 1 t) (tree-at t 1 r e o q ∙ a)) ∙ first-sound t whole.is-sound))
+        absurd (false≢true (sym (tree-unsound (view_of 1 t) (tree-at t 1 r e None a)) ∙ first-sound t whole.is-sound))

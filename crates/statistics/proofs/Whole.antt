@@ -1,13 +1,14 @@
 -- The report of a sound table from its parts, and what the check answers.
 use mathlib.Core.Path.{◌≡◌, ap, sym, ◌∙◌}
 use mathlib.Core.Bool.{true}
+use mathlib.Core.Logic.{◌≢◌}
 use mathlib.Core.List.{◌∷◌, ◌++◌}
 use mathlib.Core.Option.{Option}
 use Prim.Native.Nat.{ℕ, ◌+◌, ◌-◌, ◌≤◌}
 use native.Mathlib.Omega.{arith}
 use lib.ListN.{length}
-use Rattle.model.specs.declared.Outcome.{Outcome}
-use Rattle.model.specs.declared.Outcome.TheVariants.{Done, Refused}
+use Rattle.std.specs.Prelude.{None, Ok}
+use Rattle.model.specs.Results.{Outcome, refused_with}
 use Rattle.model.specs.Table.{Words, at, nodes, header_number}
 use Rattle.model.specs.Slots.{view_from, view_of}
 use Rattle.model.specs.Reached.{reached, reached_all}
@@ -17,16 +18,14 @@ use Rattle.model.specs.Writes.{unreachable}
 use Rattle.table_laws.proofs.Header.{header-number-iff, header-number-refused}
 use Rattle.two_laws.proofs.SearchTwo.{sound-head}
 use Rattle.sound.specs.declared.Leftover.{Leftover}
-use Rattle.sound.specs.declared.Checked.{Checked}
-use Rattle.sound.specs.declared.Checked.TheVariants.{Unsound, Sound}
-use Rattle.sound.specs.Checked.{meant, checked}
+use Rattle.sound.specs.Checked.{meant, found, checked}
 use Rattle.sound.proofs.JudgeLaws.{checked-unsound}
 use Rattle.model.specs.Statistics.{check_number, checking, left_words, or_nothing, left_in, tree_words, report, report_out}
 use Rattle.statistics.proofs.Trees.{whole, first-few, second_words}
 
 -- ---- the report
 
-module _ (t : Words) (x : Leftover) (c : ℕ) (h : checked t ≡ Sound x c) where
+module _ (t : Words) (x : Leftover) (c : ℕ) (h : checked t ≡ found x c) where
   pub is-counted : (sound t ≡ true) × (c ≡ length (reached_all t))
   is-counted = let w = whole t x c h in (w.is-sound, w.reached-are)
 
@@ -55,17 +54,17 @@ module _ (t lent : Words) where
   abbrev Answers : Outcome → Words → Type 0
   Answers o out = (o ≡ checking t) × (out ≡ report_out t lent)
 
-  pub no-table : (k : ℕ) → k ≡ header_number t → (k ≡ 0 → ⊥) → Answers (Refused 2) lent
-  unfolding check_number checking report_out
-  no-table k e z = let q = header-number-refused t (λ y. z (e ∙ y)) in (rw q, rw q)
+  pub no-table : header_number t ≢ 0 → Answers (refused_with (header_number t)) lent
+  unfolding check_number checking report_out header_number
+  no-table z = let q = header-number-refused t z in (rw q, rw q)
 
-  pub not-sound : (k : ℕ) → k ≡ header_number t → k ≡ 0 → (o : Checked) → o ≡ checked t → o ≡ Unsound → Answers (Refused 4) lent
+  pub not-sound : header_number t ≡ 0 → None ≡ checked t → Answers (refused_with 4) lent
   unfolding check_number checking report_out
-  not-sound k e z o q u =
-      let a = (header-number-iff t).0 (sym e ∙ z) in
-      let b = (checked-unsound t).0 (sym q ∙ u) in (rw (a, b), rw (a, b))
+  not-sound z q =
+      let a = (header-number-iff t).0 z in
+      let b = (checked-unsound t).0 (sym q) in (rw (a, b), rw (a, b))
 
-  pub is-sound : (x : Leftover) (c : ℕ) → checked t ≡ Sound x c → (ws : Words) → ws ≡ report t → Answers Done ws
+  pub is-sound : (x : Leftover) (c : ℕ) → checked t ≡ found x c → (ws : Words) → ws ≡ report t → Answers (Ok tt) ws
   unfolding check_number checking report_out
   is-sound x c h ws q =
       let b = (whole t x c h).is-sound in

@@ -8,13 +8,12 @@ ghost use Rattle.model.specs.Slots.{view_of, view_from, view};
 ghost use Rattle.model.specs.Reached.{flat, kept, mapping, reached, reached_all};
 ghost use Rattle.model.specs.SoundTest.{leftover, is_nothing, sound_view, sound};
 ghost use Rattle.walk_laws.specs.Chain.{along};
-ghost use Rattle.sound.specs.Checked.{meant, checked};
-ghost use Rattle.sound.specs.declared.Checked.TheVariants.{Sound};
+ghost use Rattle.sound.specs.Checked.{meant, found, checked};
 ghost use Rattle.model.specs.Statistics.{checking, hidden_slot, trailing_slots, left_words, left_in, tree_words, report, report_out};
 ghost use Rattle.statistics.specs.Parts.{left_part, tree_part};
 
-use model::Outcome;
-use sound::{Checked, Leftover};
+use model::{Outcome, Refusal};
+use sound::{Leftover, Sound};
 
 // ---- the codes
 
@@ -24,15 +23,13 @@ fn codes_along(table: &[u64], first: u64, most: u64) -> u64
     ensures { result ≡ length (flat (kept (view table.now)) (along (view table.now) most first)) }
 {
     let mut leaf = first;
-    let mut left = most;
     let mut codes = 0;
-    while leaf != 0 {
-        if left == 0 {
+    for _ in 0..most {
+        if leaf == 0 {
             return codes;
         }
         codes += reach::kept_count(table, leaf);
         leaf = node::word(table, leaf, 1);
-        left -= 1;
     }
     codes
 }
@@ -68,8 +65,8 @@ fn tree_of(table: &[u64], root: u64, nodes: u64) -> Tree
     let codes = codes_of(table, root);
     let top = node::word(table, root, 2);
     Tree {
-        nodes: nodes,
-        codes: codes,
+        nodes,
+        codes,
         levels: top + 1,
     }
 }
@@ -94,7 +91,8 @@ fn second_tree(table: &[u64], nodes: u64) -> Tree
 // ---- what is left over
 
 // Document 01's leftover by numbers: its kind, its collection; the node with the hidden slot, and the slot; the node that lacks its slot in
-// the parent, its left neighbour, and the parent; the slots that the neighbour shows from the node's fence up.
+// the parent, its left neighbour, and the parent; the slots that the neighbour shows from the node's fence up. The kind is a number, since
+// all are words of the report; the enum that it numbers is Leftover.
 #[derive(Clone, Copy)]
 struct Left {
     kind: u64,
@@ -107,14 +105,23 @@ struct Left {
     trailing: u64,
 }
 
+const NONE: Left = Left {
+    kind: 0,
+    collection: 0,
+    hidden: 0,
+    slot: 0,
+    node: 0,
+    neighbour: 0,
+    parent: 0,
+    trailing: 0,
+};
+
 // The hidden slot of node n.
 fn hidden_slot(table: &[u64], n: u64) -> u64
     ensures { result ≡ hidden_slot table.now n }
 {
     let x = node::read(table, n);
-    let slots = x.slots;
-    let left = x.left;
-    slots::hidden_place(slots, left) as u64
+    slots::hidden_place(x.slots, x.left) as u64
 }
 
 // How many slots node n shows from its sibling's fence up.
@@ -130,48 +137,35 @@ fn left_of(table: &[u64], collection: u64, left: Leftover) -> Left
     ensures { left_part result ≡ left_words table.now collection (meant left) }
 {
     match left {
-        Leftover::Nothing => Left {
-            kind: 0,
-            collection: 0,
-            hidden: 0,
-            slot: 0,
-            node: 0,
-            neighbour: 0,
-            parent: 0,
-            trailing: 0,
-        },
+        Leftover::Nothing => NONE,
         Leftover::HiddenIn(x) => Left {
             kind: 1,
-            collection: collection,
+            collection,
             hidden: x,
             slot: hidden_slot(table, x),
-            node: 0,
-            neighbour: 0,
-            parent: 0,
-            trailing: 0,
+            ..NONE
         },
         Leftover::MissingIn {
-            parent: p,
+            parent,
             node: a,
-            trailing: _,
+            ..
         } => Left {
             kind: 2,
-            collection: collection,
-            hidden: 0,
-            slot: 0,
+            collection,
             node: node::word(table, a, 1),
             neighbour: a,
-            parent: p,
+            parent,
             trailing: trailing_slots(table, a),
+            ..NONE
         },
-        Leftover::BothIn { parent: p, node: a } => Left {
+        Leftover::BothIn { parent, node: a } => Left {
             kind: 3,
-            collection: collection,
-            hidden: p,
-            slot: hidden_slot(table, p),
+            collection,
+            hidden: parent,
+            slot: hidden_slot(table, parent),
             node: node::word(table, a, 1),
             neighbour: a,
-            parent: p,
+            parent,
             trailing: 0,
         },
     }
@@ -190,16 +184,13 @@ struct First {
 fn collection_of(left: Leftover) -> u64
     ensures { result ≡ cond (is_nothing (some (meant left))) 2 1 }
 {
-    if sound::is_nothing(left) {
-        return 2;
-    }
-    1
+    if sound::is_nothing(left) { 2 } else { 1 }
 }
 
 // Of a sound table with this leftover and so many nodes reached. If it has two collections, the first tree is checked once more: the check of
 // the table counts the nodes of both together.
 fn first_tree(table: &[u64], left: Leftover, count: u64) -> First
-    requires { checked table.now ≡ Sound left count }
+    requires { checked table.now ≡ found left count }
     ensures nodes_value { result.nodes ≡ length (reached (view_of 1 table.now)) }
     ensures left_in_value { result.left_in ≡ left_in table.now }
 {
@@ -210,25 +201,21 @@ fn first_tree(table: &[u64], left: Leftover, count: u64) -> First
         };
     }
     let root = leaves::word_at(table, 1);
-    let one = sound::check_tree(table, root);
-    match one {
-        Checked::Unsound => First {
+    match sound::check_tree(table, root) {
+        Some(Sound { leftover, reached }) => First {
+            nodes: reached,
+            left_in: collection_of(leftover),
+        },
+        None => First {
             nodes: 0,
             left_in: 0,
-        },
-        Checked::Sound {
-            leftover: own,
-            reached: nodes,
-        } => First {
-            nodes: nodes,
-            left_in: collection_of(own),
         },
     }
 }
 
 // The report of a sound table with this leftover and so many nodes reached.
 fn report_of(table: &[u64], left: Leftover, count: u64) -> [u64; 16]
-    requires { checked table.now ≡ Sound left count }
+    requires { checked table.now ≡ found left count }
     ensures { result ≡ report table.now }
 {
     let first = first_tree(table, left, count);
@@ -264,19 +251,10 @@ pub fn check(table: &[u64], out: &mut [u64; 16]) -> Outcome
     ensures value { result ≡ checking table.now }
     ensures out_after { out.new ≡ report_out table.now out.old }
 {
-    if node::header(table) != 0 {
-        return Outcome::Refused(2);
-    }
-    let answer = sound::check(table);
-    match answer {
-        Checked::Unsound => Outcome::Refused(4),
-        Checked::Sound {
-            leftover: left,
-            reached: count,
-        } => {
-            let words = report_of(table, left, count);
-            *out = words;
-            Outcome::Done
-        }
-    }
+    node::header(table)?;
+    let Some(Sound { leftover, reached }) = sound::check(table) else {
+        return Err(Refusal::NotSound);
+    };
+    *out = report_of(table, leftover, reached);
+    Ok(())
 }

@@ -3,8 +3,9 @@ use mathlib.Core.Path.{◌≡◌, refl, ap, sym, ◌∙◌}
 use mathlib.Core.List.{List, [], ◌∷◌}
 use Prim.Native.Nat.{ℕ, ◌+◌, ◌*◌}
 use lib.ListN.{length, take, drop}
-use Rattle.model.specs.declared.Written.{Written}
-use Rattle.model.specs.declared.Written.TheVariants.{Done, Refused}
+use Rattle.std.specs.Prelude.{Some, Ok, Err}
+use Rattle.model.specs.declared.Refusal.{Refusal}
+use Rattle.model.specs.Results.{Written, done_with}
 use Rattle.model.specs.Table.{Words}
 use Rattle.model.specs.Slots.{Slot}
 use Rattle.model.specs.Refusals.{written}
@@ -27,15 +28,17 @@ module _ (n dock : ℕ) (s : Slot) (ss : List Slot) (list ws t : Words) where
 
   abbrev next : Written → QuickBatched
   next w = elim w [
-    | Done a b c ↦ quick_batched (behind 1 a b c (take (2 * (a + b + c)) later) (rest (2 * (a + b + c))).batched) (rest (2 * (a + b + c))).summary
-    | Refused m ↦ quick_batched (stopped m list t) ws
+    | Ok w ↦
+        let filled = 2 * (w.stores + w.flushes + w.barriers) in
+        quick_batched (behind 1 w.stores w.flushes w.barriers (take filled later) (rest filled).batched) (rest filled).summary
+    | Err r ↦ quick_batched (stopped (Some r) list t) ws
   ]
 
-  pub quick-stops : (m : ℕ) → quick_written (insertion_of n s) (length list) dock ws t ≡ Refused m → quick_batch n dock (s ∷ ss) list ws t ≡ quick_batched (stopped m list t) ws
+  pub quick-stops : (r : Refusal) → quick_written (insertion_of n s) (length list) dock ws t ≡ Err r → quick_batch n dock (s ∷ ss) list ws t ≡ quick_batched (stopped (Some r) list t) ws
   unfolding quick_batch
-  quick-stops m e = ap (λ (w : Written). next w) e
+  quick-stops r e = ap (λ (w : Written). next w) e
 
-  pub quick-goes : (a b c : ℕ) → quick_written (insertion_of n s) (length list) dock ws t ≡ Done a b c
+  pub quick-goes : (a b c : ℕ) → quick_written (insertion_of n s) (length list) dock ws t ≡ done_with a b c
       → quick_batch n dock (s ∷ ss) list ws t ≡ quick_batched (behind 1 a b c (take (2 * (a + b + c)) later) (rest (2 * (a + b + c))).batched) (rest (2 * (a + b + c))).summary
   unfolding quick_batch
   quick-goes a b c e = ap (λ (w : Written). next w) e
@@ -56,10 +59,13 @@ quick-batch n dock (s ∷ ss) list ws t c =
   where
     go : (w : Written) → written (insertion_of n s) (length list) dock t ≡ w
         → ((l : Words) → SameBatch n dock ss l (quick_summary (insertion_of n s) (length list) dock ws t) (quick_table (insertion_of n s) (length list) dock ws t)) → SameBatch n dock (s ∷ ss) list ws t
-    go (Refused m) e ih =
+    go (Err m) e ih =
         let q = quick-stops n dock s ss list ws t m (quick-written ws t c (insertion_of n s) (length list) dock ∙ e) in
         record { same = ap (λ (r : QuickBatched). r.batched) q ∙ sym (batch-stops n dock s ss list t m e); stays-true = rw q c }
-    go (Done a b d) e ih =
+    go (Ok w) e ih =
+        let a = w.stores in
+        let b = w.flushes in
+        let d = w.barriers in
         let q = quick-goes n dock s ss list ws t a b d (quick-written ws t c (insertion_of n s) (length list) dock ∙ e) in
         let h = ih (drop (2 * (a + b + d)) (quick_list (insertion_of n s) list dock ws t)) in
         record {

@@ -8,7 +8,7 @@ use native.Mathlib.Omega.{arith}
 use lib.Dec.{eqb, leb, ltb}
 use lib.ListN.{length}
 use borrow.Author.Tests.{eq-eqb, ne_eqb, ltb-true, ltb-false, lt-ltb, le-ltb}
-use Rattle.model.specs.declared.Listed.TheVariants.{Refused}
+use Rattle.model.specs.Results.{refused_with}
 use Rattle.model.specs.Table.{Words, nodes, no_collection}
 use Rattle.model.specs.Slots.{Slot, View, view_of}
 use Rattle.model.specs.Reached.{flat, head_or, kept, map_of}
@@ -124,7 +124,7 @@ module _ (ws t : Words) (c : Current ws t) (n low high : ℕ) (out : Words) wher
   unfolding quick_listed list
   quick-listed = rw list-number (go (no_collection n t) refl)
     where
-      go : (b : Bool) → no_collection n t ≡ b → unless_refused (list_number n t) (listed (page_of n t low high) (length out)) (Refused (list_number n t)) ≡ list n t low high out
+      go : (b : Bool) → no_collection n t ≡ b → unless_refused (list_number n t) (listed (page_of n t low high) (length out)) (refused_with (list_number n t)) ≡ list n t low high out
       go true e = rw (number-lacks e)
       go false e = rw (number-there e, page-same n t e c.settled low high)
 

@@ -10,7 +10,7 @@ use lib.Dec.{eqb, ltb}
 use lib.ListN.{length, length-append, length-take, length-drop}
 use lib.Seq.{take_at, drop_at}
 use borrow.Author.Tests.{eqb-true, eqb-false, eq-eqb, ne_eqb}
-use Rattle.model.specs.declared.Written.TheVariants.{Done as Accepted', Refused}
+use Rattle.model.specs.Results.{refused_with, done_with}
 use Rattle.model.specs.Table.{Words, at, nodes, root_word, header_ok, no_collection}
 use Rattle.model.specs.Slots.{Slot, RECORDINGS, recording, pointer_of, recording_ok, view_of}
 use Rattle.model.specs.Search.{first_with}
@@ -383,8 +383,8 @@ module _ (ws t : Words) (c : Current ws t) (x : Call) where
   quick-written words dock = rw (quick-number ws t c x words dock) (go (refusal x words dock t) refl)
     where
       go : (m : ℕ) → refusal x words dock t ≡ m
-          → unless_refused (refusal x words dock t) (Accepted' (store_count (quick_orders x dock ws t)) (flush_count (quick_orders x dock ws t)) (barrier_count (quick_orders x dock ws t))) (Refused (refusal x words dock t))
-          ≡ unless_refused (refusal x words dock t) (Accepted' (store_count (orders_of x dock t)) (flush_count (orders_of x dock t)) (barrier_count (orders_of x dock t))) (Refused (refusal x words dock t))
+          → unless_refused (refusal x words dock t) (done_with (store_count (quick_orders x dock ws t)) (flush_count (quick_orders x dock ws t)) (barrier_count (quick_orders x dock ws t))) (refused_with (refusal x words dock t))
+          ≡ unless_refused (refusal x words dock t) (done_with (store_count (orders_of x dock t)) (flush_count (orders_of x dock t)) (barrier_count (orders_of x dock t))) (refused_with (refusal x words dock t))
       go zero e = rw (e, quick-stores ws t c x words dock e)
       go (suc m) e = rw e
 

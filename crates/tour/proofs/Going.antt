@@ -1,6 +1,6 @@
 -- The state of the loop against the definition.
 use mathlib.Core.Path.{◌≡◌, refl, ap, sym, subst, ◌∙◌}
-use mathlib.Core.Bool.{Bool, true, false, not, ◌&&◌, cond}
+use mathlib.Core.Bool.{Bool, true, false, not, ◌&&◌}
 use mathlib.Core.Logic.{⊎_elim}
 use mathlib.Core.List.{List, [], ◌∷◌, ◌++◌, append-nil}
 use Prim.Native.Nat.{ℕ, zero, suc, ◌+◌, ◌-◌, ◌*◌, ◌≤◌, ◌<◌}
@@ -23,8 +23,10 @@ use Rattle.tour_laws.proofs.Steps.{may-iff}
 use Rattle.tour_laws.proofs.Ends.{Numbers}
 use Rattle.tour_laws.proofs.Remaining.{remaining, remaining-none, remaining-no, remaining-enter, more-last, elem-last}
 use Rattle.tour_laws.proofs.Recursion.{remaining-start}
+use Rattle.tour.specs.declared.Met.{Met}
 use Rattle.tour.specs.declared.Sight.{Sight}
-use Rattle.tour.specs.Loop.{Looked, Marked, unmarked}
+use Rattle.std.proofs.Common.{Option, None, Some}
+use Rattle.tour.specs.Loop.{Looked, Marked, met_by, unmarked}
 
 -- the stack, the top first
 unfoldable pub frames_to : Words → Words → ℕ → List Frame
@@ -130,28 +132,28 @@ module _ (t : Words) (whole : List ℕ) (ms st ws os : Words) (count d : ℕ) (s
     less-pass = let e = get_or-set_same ws d r.way 0 lw in let q = go-set ws d d r.way (omega arith) in omega (arith, e, q, k.1, k.2)
 
     -- nothing was met
-    pub going-on : r.meets ≡ false → Going t whole ms st (set ws d r.way) os count (suc d)
+    pub going-on : r.met ≡ None → Going t whole ms st (set ws d r.way) os count (suc d)
     going-on m = record {
       rest = ap (λ (l : List Meeting). es ++ remaining t l es)
-          (set-todo ∙ sym (opened ∙ ap (λ (l : List Meeting). l ++ later) (k.0 ∙ ap (λ (b : Bool). cond b (meet r.node r.level ∷ []) [] ++ ways_from t (get_or st d 0) r.way) m))) ∙ s.rest;
+          (set-todo ∙ sym (opened ∙ ap (λ (l : List Meeting). l ++ later) (k.0 ∙ ap (λ (o : Option Met). met_by o ++ ways_from t (get_or st d 0) r.way) m))) ∙ s.rest;
       numbers = s.numbers;
       inside = s.inside;
       deep = s.deep;
       marked = s.marked;
     }
 
-    module _ (m : r.meets ≡ true) where
+    module _ (y : Met) (m : r.met ≡ Some y) where
       abbrev x : Meeting
-      x = meet r.node r.level
+      x = meet y.node y.level
 
       met : todo_of t (frames_to st ws (suc d)) ≡ x ∷ (ways_from t (get_or st d 0) r.way ++ later)
-      met = opened ∙ ap (λ (l : List Meeting). l ++ later) (k.0 ∙ ap (λ (b : Bool). cond b (meet r.node r.level ∷ []) [] ++ ways_from t (get_or st d 0) r.way) m)
+      met = opened ∙ ap (λ (l : List Meeting). l ++ later) (k.0 ∙ ap (λ (o : Option Met). met_by o ++ ways_from t (get_or st d 0) r.way) m)
 
-      same : unmarked t ms r.node r.level ≡ may_enter t x es
-      same = same-may t ms es r.node r.level s.marked
+      same : unmarked t ms y.node y.level ≡ may_enter t x es
+      same = same-may t ms es y.node y.level s.marked
 
       -- it may not be entered
-      pub going-refused : unmarked t ms r.node r.level ≡ false → Going t whole ms st (set ws d r.way) os count (suc d)
+      pub going-refused : unmarked t ms y.node y.level ≡ false → Going t whole ms st (set ws d r.way) os count (suc d)
       going-refused c = record {
         rest = ap (λ (l : List Meeting). es ++ remaining t l es) set-todo
             ∙ ap (λ (l : List ℕ). es ++ l) (sym (ap (λ (l : List Meeting). remaining t l es) met ∙ remaining-no t x (ways_from t (get_or st d 0) r.way ++ later) es (sym same ∙ c)))
@@ -162,44 +164,44 @@ module _ (t : Words) (whole : List ℕ) (ms st ws os : Words) (count d : ℕ) (s
         marked = s.marked;
       }
 
-      module _ (c : unmarked t ms r.node r.level ≡ true) where
+      module _ (c : unmarked t ms y.node y.level ≡ true) where
         may : may_enter t x es ≡ true
         may = sym same ∙ c
 
-        pub in-range : in_range (nodes t) r.node ≡ true
+        pub in-range : in_range (nodes t) y.node ≡ true
         in-range = ((may-iff t x es).0 may).0
 
-        more : Numbers t (es ++ r.node ∷ [])
+        more : Numbers t (es ++ y.node ∷ [])
         more = more-last t x es may s.numbers
 
         pub room : count < nodes t
-        room = omega (arith, length-take-le count os s.inside, length-append es (r.node ∷ []), pigeonhole (nodes t) (es ++ r.node ∷ []) more.apart more.range)
+        room = omega (arith, length-take-le count os s.inside, length-append es (y.node ∷ []), pigeonhole (nodes t) (es ++ y.node ∷ []) more.apart more.range)
 
-        module _ (lm : r.node < 64 * length ms) (ls : suc d < length st) (lv : suc d < length ws) (lo : count < length os) where
-          new-es : take (suc count) (set os count r.node) ≡ es ++ r.node ∷ []
-          new-es = take-suc-set os count r.node lo
+        module _ (lm : y.node < 64 * length ms) (ls : suc d < length st) (lv : suc d < length ws) (lo : count < length os) where
+          new-es : take (suc count) (set os count y.node) ≡ es ++ y.node ∷ []
+          new-es = take-suc-set os count y.node lo
 
-          new-frames : frames_to (set st (suc d) r.node) (set (set ws d r.way) (suc d) 0) (suc (suc d)) ≡ frame r.node 0 ∷ frame (get_or st d 0) r.way ∷ frames_to st ws d
+          new-frames : frames_to (set st (suc d) y.node) (set (set ws d r.way) (suc d) 0) (suc (suc d)) ≡ frame y.node 0 ∷ frame (get_or st d 0) r.way ∷ frames_to st ws d
           new-frames =
               let v = set ws d r.way in
               let lv' : suc d < length v = rw (length-set ws d r.way) lv in
-              top-set (set st (suc d) r.node) v (suc d) 0 lv'
-              ∙ ap (λ (n : ℕ). frame n 0 ∷ frames_to (set st (suc d) r.node) v (suc d)) (get_or-set_same st (suc d) r.node 0 ls)
-              ∙ ap (λ (l : List Frame). frame r.node 0 ∷ l) (frames-stack st v (suc d) (suc d) r.node (omega arith) ∙ top-set st ws d r.way lw)
+              top-set (set st (suc d) y.node) v (suc d) 0 lv'
+              ∙ ap (λ (n : ℕ). frame n 0 ∷ frames_to (set st (suc d) y.node) v (suc d)) (get_or-set_same st (suc d) y.node 0 ls)
+              ∙ ap (λ (l : List Frame). frame y.node 0 ∷ l) (frames-stack st v (suc d) (suc d) y.node (omega arith) ∙ top-set st ws d r.way lw)
 
           -- it is entered
-          pub going-enter : Going t whole (put ms r.node) (set st (suc d) r.node) (set (set ws d r.way) (suc d) 0) (set os count r.node) (suc count) (suc (suc d))
+          pub going-enter : Going t whole (put ms y.node) (set st (suc d) y.node) (set (set ws d r.way) (suc d) 0) (set os count y.node) (suc count) (suc (suc d))
           unfolding todo_of flat ways_from
           going-enter = record {
-            rest = ap (λ (l : List ℕ). l ++ remaining t (todo_of t (frames_to (set st (suc d) r.node) (set (set ws d r.way) (suc d) 0) (suc (suc d)))) l) new-es
-                ∙ ap (λ (l : List Frame). (es ++ r.node ∷ []) ++ remaining t (todo_of t l) (es ++ r.node ∷ [])) new-frames
+            rest = ap (λ (l : List ℕ). l ++ remaining t (todo_of t (frames_to (set st (suc d) y.node) (set (set ws d r.way) (suc d) 0) (suc (suc d)))) l) new-es
+                ∙ ap (λ (l : List Frame). (es ++ y.node ∷ []) ++ remaining t (todo_of t l) (es ++ y.node ∷ [])) new-frames
                 ∙ remaining-enter t x (ways_from t (get_or st d 0) r.way ++ later) es s.numbers may
                 ∙ ap (λ (l : List Meeting). es ++ remaining t l es) (sym met)
                 ∙ s.rest;
             numbers = subst (λ (l : List ℕ). Numbers t l) (sym new-es) more;
-            inside = omega (arith, lo, length-set os count r.node);
+            inside = omega (arith, lo, length-set os count y.node);
             deep = omega (arith, s.deep);
-            marked = subst (λ (l : List ℕ). Marked t (put ms r.node) l) (sym new-es) (marked-last t ms es r.node lm s.marked);
+            marked = subst (λ (l : List ℕ). Marked t (put ms y.node) l) (sym new-es) (marked-last t ms es y.node lm s.marked);
           }
 
           pub less-enter : measure t (set (set ws d r.way) (suc d) 0) (suc count) (suc (suc d)) < measure t ws count (suc d)

@@ -1,6 +1,6 @@
 -- The whole state of the tour's loop, and its steps as the code takes them.
 use mathlib.Core.Path.{◌≡◌, ap, sym, subst, ◌∙◌}
-use mathlib.Core.Bool.{Bool, true, false, not}
+use mathlib.Core.Bool.{Bool, true, false}
 use mathlib.Core.List.{List, [], ◌∷◌, ◌++◌}
 use Prim.Native.Nat.{ℕ, suc, ◌+◌, ◌*◌, ◌≤◌, ◌<◌}
 use native.Mathlib.Omega.{arith}
@@ -11,7 +11,7 @@ use Rattle.model.specs.declared.Node.{Node}
 use Rattle.model.specs.Table.{Words, in_range, nodes, node}
 use Rattle.model.specs.Slots.{node_view}
 use Rattle.model.specs.Salvage.{Meeting, meet, may_enter, entered_from}
-use Rattle.list_laws.proofs.Tools.{Each-map, all-each, not-iff, not-false-iff}
+use Rattle.list_laws.proofs.Tools.{Each-map, all-each}
 use Rattle.list_laws.proofs.Distinct.{UpTo, pigeonhole}
 use Rattle.table_laws.proofs.Header.{header-iff}
 use Rattle.tree_laws.proofs.Rows.{range-iff}
@@ -20,7 +20,9 @@ use Rattle.bits.proofs.Marks.{put-length}
 use Rattle.tour_laws.proofs.Steps.{may-iff}
 use Rattle.tour_laws.proofs.Ends.{Numbers}
 use Rattle.tour_laws.proofs.Remaining.{more-last}
+use Rattle.tour.specs.declared.Met.{Met}
 use Rattle.tour.specs.declared.Sight.{Sight}
+use Rattle.std.proofs.Common.{None, Some}
 use Rattle.tour.specs.Loop.{Looked, Marked, Ready, unmarked}
 use Rattle.tour.proofs.Going.{Going, measure, same-may, none-more, going-start, going-end, going-pop, going-on, going-refused, going-enter, less-pop, less-pass, less-enter, room, in-range}
 
@@ -63,13 +65,10 @@ module _ (t : Words) (top : ℕ) (ms st ws os : Words) (before : ℕ) (h : Ready
     may = sym (q ∙ ap (λ (x : Node). unmarked t ms r x.level) e ∙ same-may t ms (take before os) r (node_view t r).level h.marked)
 
     -- the root may not be entered
-    pub root-not : not b ≡ true → (take before os ≡ whole_from t r before os) × Marked t ms (take before os) × ((before ≤ before) × (before ≤ top))
-    root-not y = (none-more t r os before numbers (may ∙ (not-iff b).0 y), h.marked, (omega arith, h.few))
+    pub root-not : b ≡ false → (take before os ≡ whole_from t r before os) × Marked t ms (take before os) × ((before ≤ before) × (before ≤ top))
+    root-not y = (none-more t r os before numbers (may ∙ y), h.marked, (omega arith, h.few))
 
-    module _ (left : not b ≡ false) where
-      y : b ≡ true
-      y = (not-false-iff b).0 left
-
+    module _ (y : b ≡ true) where
       root-in : (1 ≤ r) × (r ≤ nodes t)
       root-in = (range-iff (nodes t) r).0 ((may-iff t x (take before os)).0 (may ∙ y)).0
 
@@ -123,26 +122,26 @@ module _ (t : Words) (top : ℕ) (whole : List ℕ) (before : ℕ) (ms st ws os 
           going = subst (λ (k : ℕ). Going t whole ms st (set ws d r.way) os count k) (sym e) g;
         }
 
-    pub state-on : r.meets ≡ false → State t top whole before ms st (set ws d r.way) os count depth
+    pub state-on : r.met ≡ None → State t top whole before ms st (set ws d r.way) os count depth
     state-on m = with-way (going-on t whole ms st ws os count d here r k way-in m)
 
-    pub state-refused : r.meets ≡ true → (b : Bool) → b ≡ unmarked t ms r.node r.level → b ≡ false → State t top whole before ms st (set ws d r.way) os count depth
-    state-refused m b q y = with-way (going-refused t whole ms st ws os count d here r k way-in m (sym q ∙ y))
+    pub state-refused : (y : Met) → r.met ≡ Some y → (b : Bool) → b ≡ unmarked t ms y.node y.level → b ≡ false → State t top whole before ms st (set ws d r.way) os count depth
+    state-refused y m b q z = with-way (going-refused t whole ms st ws os count d here r k way-in y m (sym q ∙ z))
 
     pub pass-less : measure t (set ws d r.way) count depth < measure t ws count depth
     pass-less = subst (λ (j : ℕ). measure t (set ws d r.way) count j < measure t ws count j) (sym e) (less-pass t whole ms st ws os count d here r k way-in)
 
-    module _ (m : r.meets ≡ true) (b : Bool) (q : b ≡ unmarked t ms r.node r.level) (y : b ≡ true) where
-      abbrev c : unmarked t ms r.node r.level ≡ true
-      c = sym q ∙ y
+    module _ (y : Met) (m : r.met ≡ Some y) (b : Bool) (q : b ≡ unmarked t ms y.node y.level) (h : b ≡ true) where
+      abbrev c : unmarked t ms y.node y.level ≡ true
+      c = sym q ∙ h
 
-      pub node-few : r.node ≤ 65535
-      node-few = omega (arith, s.nodes-are, s.few, ((range-iff (nodes t) r.node).0 (in-range t whole ms st ws os count d here r k way-in m c)).1)
+      pub node-few : y.node ≤ 65535
+      node-few = omega (arith, s.nodes-are, s.few, ((range-iff (nodes t) y.node).0 (in-range t whole ms st ws os count d here r k way-in y m c)).1)
 
       pub count-less : count < top
-      count-less = omega (arith, s.nodes-are, room t whole ms st ws os count d here r k way-in m c)
+      count-less = omega (arith, s.nodes-are, room t whole ms st ws os count d here r k way-in y m c)
 
-      abbrev a : r.node < 64 * length ms
+      abbrev a : y.node < 64 * length ms
       a = omega (arith, node-few, s.long.marks)
 
       abbrev u : suc d < length st
@@ -154,7 +153,7 @@ module _ (t : Words) (top : ℕ) (whole : List ℕ) (before : ℕ) (ms st ws os 
       abbrev o : count < length os
       o = omega (arith, count-less, s.few, s.long.order)
 
-      pub state-enter : (ms' : Words) → ms' ≡ put ms r.node → State t top whole before ms' (set st depth r.node) (set (set ws d r.way) depth 0) (set os count r.node) (count + 1) (depth + 1)
+      pub state-enter : (ms' : Words) → ms' ≡ put ms y.node → State t top whole before ms' (set st depth y.node) (set (set ws d r.way) depth 0) (set os count y.node) (count + 1) (depth + 1)
       state-enter ms' z =
           let l = s.long in
           record {
@@ -164,18 +163,18 @@ module _ (t : Words) (top : ℕ) (whole : List ℕ) (before : ℕ) (ms st ws os 
             entered-few = omega (arith, count-less);
             deep = omega (arith, s.deep);
             long = record {
-              marks = ap length z ∙ put-length ms r.node ∙ l.marks;
-              stack = length-set st depth r.node ∙ l.stack;
+              marks = ap length z ∙ put-length ms y.node ∙ l.marks;
+              stack = length-set st depth y.node ∙ l.stack;
               ways = length-set (set ws d r.way) depth 0 ∙ length-set ws d r.way ∙ l.ways;
-              order = length-set os count r.node ∙ l.order;
+              order = length-set os count y.node ∙ l.order;
             };
-            going = rw z (subst (λ (j : ℕ). Going t whole (put ms r.node) (set st j r.node) (set (set ws d r.way) j 0) (set os count r.node) (count + 1) (j + 1)) (sym e)
-                (rw (add-one count, add-one (suc d)) (going-enter t whole ms st ws os count d here r k way-in m c a u w o)));
+            going = rw z (subst (λ (j : ℕ). Going t whole (put ms y.node) (set st j y.node) (set (set ws d r.way) j 0) (set os count y.node) (count + 1) (j + 1)) (sym e)
+                (rw (add-one count, add-one (suc d)) (going-enter t whole ms st ws os count d here r k way-in y m c a u w o)));
           }
 
       pub enter-less : measure t (set (set ws d r.way) depth 0) (count + 1) (depth + 1) < measure t ws count depth
       enter-less = subst (λ (j : ℕ). measure t (set (set ws d r.way) j 0) (count + 1) (j + 1) < measure t ws count j) (sym e)
-          (rw (add-one count, add-one (suc d)) (less-enter t whole ms st ws os count d here r k way-in m c a u w o))
+          (rw (add-one count, add-one (suc d)) (less-enter t whole ms st ws os count d here r k way-in y m c a u w o))
 
 pub state-end : (t : Words) (top r before : ℕ) (os₀ ms st ws os : Words) (count depth : ℕ) → depth ≡ 0 → State t top (whole_from t r before (set os₀ before r)) before ms st ws os count depth
     → (take count os ≡ whole_from t r before os₀) × Marked t ms (take count os) × ((before ≤ count) × (count ≤ top))

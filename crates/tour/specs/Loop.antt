@@ -1,5 +1,5 @@
 -- What the tour's functions take and give.
-use Rattle.std.specs.Prelude.{◌≡◌, Bool, true, not, ◌&&◌, cond, List, [], ◌∷◌, ◌++◌, ℕ, ◌-◌, ◌*◌, ◌≤◌, ◌<◌, eqb, length, get_or, take}
+use Rattle.std.specs.Prelude.{Option, None, Some, ◌≡◌, Bool, true, not, ◌&&◌, cond, List, [], ◌∷◌, ◌++◌, ℕ, ◌-◌, ◌*◌, ◌≤◌, ◌<◌, eqb, length, get_or, take}
 use Rattle.model.specs.Table.{Words, in_range, nodes, header_ok}
 use Rattle.model.specs.Slots.{node_view}
 use Rattle.model.specs.SoundTest.{all, elem, distinct}
@@ -7,6 +7,7 @@ use Rattle.model.specs.declared.Node.{Node}
 use Rattle.model.specs.Salvage.{Meeting, meet}
 use Rattle.bits.specs.Bits.{has}
 use Rattle.tour_laws.specs.Walk.{ways_from}
+use Rattle.tour.specs.declared.Met.{Met}
 use Rattle.tour.specs.declared.Sight.{Sight}
 
 -- the pointer before slot j of a node
@@ -14,12 +15,13 @@ unfoldable pub pointer_before : Node → ℕ → ℕ
 pointer_before n j = cond (eqb j 0) n.left (get_or n.slots (2 * j - 1) 0)
 
 -- what a look at a way has met
-abbrev pub met_by : Sight → List Meeting
-met_by r = cond r.meets (meet r.node r.level ∷ []) []
+abbrev pub met_by : Option Met → List Meeting
+met_by None = []
+met_by (Some x) = meet x.node x.level ∷ []
 
 -- A look goes on to a later way; the ways from w are what it has met, then those from there.
 abbrev pub Looked : Words → ℕ → ℕ → Sight → Type 0
-Looked t n w r = (ways_from t n w ≡ met_by r ++ ways_from t n r.way) × (w < r.way) × (r.way ≤ 14)
+Looked t n w r = (ways_from t n w ≡ met_by r.met ++ ways_from t n r.way) × (w < r.way) × (r.way ≤ 14)
 
 -- node i may be entered, going by the marks
 unfoldable pub unmarked : Words → Words → ℕ → ℕ → Bool

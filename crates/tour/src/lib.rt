@@ -1,40 +1,33 @@
 // The tour of a salvage: the nodes entered, in order. A stack of nodes, each with the way to look at next, stands for what is still to be met.
 #![tactic(auto)]
 
-ghost use Rattle.std.specs.Prelude.{◌≡◌, ◌++◌, pred, ◌≤◌, length, take};
+ghost use Rattle.std.specs.Prelude.{◌≡◌, ◌++◌, ◌≤◌, length, take};
 ghost use Rattle.model.specs.Table.{nodes, in_range};
 ghost use Rattle.model.specs.Salvage.{under_fence, entered_from};
 ghost use Rattle.tour.specs.Loop.{Looked, Marked, Ready, pointer_before, unmarked};
 
 use model::Node;
 
-// What a way leads to: a node and the level that it must have, if it meets one; and the way after it.
+// A node, and the level that it must have.
 #[derive(Clone, Copy)]
-struct Sight {
-    meets: bool,
+struct Met {
     node: u64,
     level: u64,
+}
+
+// What a way leads to, if it meets a node; and the way after it. Ways are bytes in the slice that the caller lends, so they are no enum.
+#[derive(Clone, Copy)]
+struct Sight {
+    met: Option<Met>,
     way: u8,
 }
 
-// One less; 0 for 0.
-fn below(level: u64) -> u64
-    ensures { result ≡ pred level }
-{
-    if level == 0 {
-        return 0;
-    }
-    level - 1
-}
-
 // Whether i is a node number of a table of so many nodes.
+#[tactic(auto, unfolding(model::specs::Table::in_range))]
 fn in_range(top: u64, i: u64) -> bool
     ensures { result ≡ in_range top i }
 {
-    if i == 0 {
-        return false;
-    }
-    i <= top
+    i != 0 && i <= top
 }
 
 // The pointer before slot j.
@@ -53,6 +46,7 @@ pub fn under_fence(table: &[u64], top: u64, sibling: u64, key: u64) -> bool
     requires { top ≡ nodes table.now }
     ensures { result ≡ under_fence table.now sibling key }
 {
+    // Two steps: without a sibling no fence is read.
     if !in_range(top, sibling) {
         return true;
     }
@@ -67,25 +61,24 @@ fn look(table: &[u64], top: u64, n: u64, w: u8) -> Sight
     let node = node::read(table, n);
     if w == 0 {
         if node.level == 0 {
-            return Sight {
-                meets: false,
-                node: 0,
-                level: 0,
-                way: 13,
-            };
+            return Sight { met: None, way: 13 };
         }
-        return Sight {
-            meets: true,
+        let met = Met {
             node: node.left,
-            level: below(node.level),
+            level: node.level - 1,
+        };
+        return Sight {
+            met: Some(met),
             way: 1,
         };
     }
     if w == 13 {
-        return Sight {
-            meets: true,
+        let met = Met {
             node: node.sibling,
             level: node.level,
+        };
+        return Sight {
+            met: Some(met),
             way: 14,
         };
     }
@@ -93,34 +86,22 @@ fn look(table: &[u64], top: u64, n: u64, w: u8) -> Sight
     let key = node.slots[2 * j];
     let pointer = node.slots[2 * j + 1];
     if pointer == 0 {
-        return Sight {
-            meets: false,
-            node: 0,
-            level: 0,
-            way: 13,
-        };
+        return Sight { met: None, way: 13 };
     }
+    let way = w + 1;
     if pointer == pointer_before(node, j) {
-        return Sight {
-            meets: false,
-            node: 0,
-            level: 0,
-            way: w + 1,
-        };
+        return Sight { met: None, way };
     }
     if !under_fence(table, top, node.sibling, key) {
-        return Sight {
-            meets: false,
-            node: 0,
-            level: 0,
-            way: w + 1,
-        };
+        return Sight { met: None, way };
     }
-    Sight {
-        meets: true,
+    let met = Met {
         node: pointer,
-        level: below(node.level),
-        way: w + 1,
+        level: node.level.saturating_sub(1),
+    };
+    Sight {
+        met: Some(met),
+        way,
     }
 }
 
@@ -129,13 +110,11 @@ fn may_enter(table: &[u64], top: u64, marks: &[u64], i: u64, level: u64) -> bool
     requires { (top ≡ nodes table.now) × (top ≤ 65535) × (length marks.now ≡ 1024) }
     ensures { result ≡ unmarked table.now marks.now i level }
 {
+    // Two steps: the range first, since the node is read only there.
     if !in_range(top, i) {
         return false;
     }
-    if node::read(table, i).level != level {
-        return false;
-    }
-    !bits::has(marks, i as usize)
+    node::read(table, i).level == level && !bits::has(marks, i as usize)
 }
 
 // The nodes entered from a root, in order, put after so many that were entered before; the answer is how many there are then. Nodes are
@@ -165,6 +144,7 @@ pub fn tour(
     order[before] = root as u16;
     let mut count = before + 1;
     let mut depth = 1;
+    // No range counts this: the stack grows and shrinks.
     while 0 < depth {
         let last = depth - 1;
         let n = stack[last] as u64;
@@ -174,12 +154,12 @@ pub fn tour(
         } else {
             let seen = look(table, top, n, w);
             ways[last] = seen.way;
-            if seen.meets {
-                if may_enter(table, top, marks, seen.node, seen.level) {
-                    bits::put(marks, seen.node as usize);
-                    order[count] = seen.node as u16;
+            if let Some(met) = seen.met {
+                if may_enter(table, top, marks, met.node, met.level) {
+                    bits::put(marks, met.node as usize);
+                    order[count] = met.node as u16;
                     count += 1;
-                    stack[depth] = seen.node as u16;
+                    stack[depth] = met.node as u16;
                     ways[depth] = 0;
                     depth += 1;
                 }

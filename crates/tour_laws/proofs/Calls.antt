@@ -8,7 +8,7 @@ use native.Mathlib.Omega.{arith}
 use lib.Dec.{eqb, ltb}
 use lib.ListN.{length}
 use borrow.Author.Tests.{eq-eqb, le-ltb, ltb-false}
-use Rattle.model.specs.declared.Salvaged.TheVariants.{Dropped}
+use Rattle.std.specs.Prelude.{Ok}
 use Rattle.model.specs.Table.{Words, nodes, header_ok}
 use Rattle.model.specs.Reached.{maps_of}
 use Rattle.model.specs.SoundTest.{settled, sound}
@@ -73,7 +73,7 @@ module _ (t out : Words) (report : ℕ) (s : sound t ≡ true) (l : length out �
       (record { header = sound-head t s; long = eq-eqb (length out) (length t) l; roomy = le-ltb report (36 * nodes t) r; fits = unfold outgrows in le-ltb (nodes t) (packed_both (kept_maps t)) (sound-fits t s) })
 
   -- A sound table drops nothing.
-  pub sound-drops-none : salvage t (length out) report ≡ Dropped 0
+  pub sound-drops-none : salvage t (length out) report ≡ Ok 0
   unfolding salvage
   sound-drops-none = rw (sound-passes, (tour-sound t s).1)
 

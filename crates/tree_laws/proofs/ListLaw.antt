@@ -10,7 +10,7 @@ use lib.Dec.{leb, ltb}
 use lib.ListN.{length, take, drop, length-append, length-take, take-append-drop}
 use lib.Seq.{take-nil}
 use borrow.Author.Tests.{ltb-true, lt-ltb, leb-true, lt-leb}
-use Rattle.model.specs.declared.Listed.TheVariants.{Pairs}
+use Rattle.model.specs.Results.{page_with}
 use Rattle.model.specs.Table.{Words}
 use Rattle.model.specs.Slots.{Slot, slot_words}
 use Rattle.model.specs.SoundTest.{rising}
@@ -78,7 +78,7 @@ module _ (n : ℕ) (ps : List Slot) (r : rising 0 ps ≡ true) where
       to : (s : Slot) → Memᴰ s ps → (Memᴰ s (take n ps) → ⊥) → length (take n ps) < length ps
       to s m h = ⊎_elim (λ a. absurd (h a)) (λ (b : Memᴰ s (drop n ps)). omega (arith, some (drop n ps) s b, longer)) (mathlib.Core.List.Memᴰ.append_cases {a = s} (take n ps) (rw joined m))
 
-no-pairs : (n : ℕ) → listed [] n ≡ Pairs 0 false
+no-pairs : (n : ℕ) → listed [] n ≡ page_with 0 false
 unfolding listed
 no-pairs n = rw (take-nil {A = Slot} (n / 2)) refl
 

@@ -10,11 +10,10 @@ use lib.Dec.{eqb, ltb}
 use lib.ListN.{length, length-append}
 use borrow.Author.Tests.{eqb-false, eq-eqb, ne_eqb, ltb-true, ltb-false}
 use Rattle.model.specs.declared.Answer.TheVariants.{Absent}
-use Rattle.model.specs.declared.Next.{Next}
-use Rattle.model.specs.declared.Next.TheVariants.{Key, Nothing}
+use Rattle.std.specs.Prelude.{Some, None}
 use Rattle.model.specs.Table.{in_range}
 use Rattle.model.specs.Slots.{Slot, View, height}
-use Rattle.model.specs.Search.{on_level, passes, kept, first_above, next_from}
+use Rattle.model.specs.Search.{on_level, passes, kept, first_above, next_from, Next}
 use Rattle.model.specs.Reached.{flat, children, leaves_from, reached_from, leaves, mapping}
 use Rattle.model.specs.SoundTest.{rising}
 use Rattle.model.specs.Demand2.{IsNext}
@@ -69,9 +68,9 @@ next-law v k x o m f =
 
 -- a pair in front that is not above k
 next-past : (k : ℕ) (x : Next) (s : Slot) (ps : List Slot) → s.key ≤ k → IsNext k ps x → IsNext k (s ∷ ps) x
-next-past k (Key j) s ps h u =
+next-past k (Some j) s ps h u =
     ((u.0.0, Memᴰ.tail u.0.1), u.1, λ y m l. ⊎_elim (λ e. absurd (omega (arith, ap (λ (z : Slot). z.key) e))) (λ t. u.2 y t l) (Memᴰ.cases_cons m))
-next-past k Nothing s ps h u = λ y m. ⊎_elim (λ e. omega (arith, ap (λ (z : Slot). z.key) e)) (λ t. u y t) (Memᴰ.cases_cons m)
+next-past k None s ps h u = λ y m. ⊎_elim (λ e. omega (arith, ap (λ (z : Slot). z.key) e)) (λ t. u y t) (Memᴰ.cases_cons m)
 
 -- the first one above k of pairs whose keys rise
 pub next-least : (lo k : ℕ) (ps : List Slot) → rising lo ps ≡ true → IsNext k ps (first_above k ps)

@@ -11,9 +11,8 @@ use lib.Dec.{eqb, ltb}
 use lib.ListN.{length, take, drop, take-append-drop}
 use borrow.Author.Tests.{ltb-true, ltb-false, eqb-true, eqb-false, lt-ltb, le-ltb}
 use Rattle.model.specs.declared.Answer.TheVariants.{Found, Absent, Refused}
-use Rattle.model.specs.declared.Next.{Next}
 use Rattle.model.specs.Slots.{Slot, slot, recording_of, class_of, pointer_of, recording, class, recording_ok, class_ok}
-use Rattle.model.specs.Search.{first_with, first_above, answer_of, lookup}
+use Rattle.model.specs.Search.{first_with, first_above, answer_of, lookup, Next}
 use Rattle.model.specs.Reached.{filter}
 use Rattle.model.specs.SoundTest.{distinct, rising, pair_ok}
 use Rattle.model.specs.Sound.{Rise}

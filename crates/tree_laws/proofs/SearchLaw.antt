@@ -9,9 +9,8 @@ use native.Mathlib.Omega.{arith}
 use lib.ListN.{length, get_or}
 use borrow.Author.Tests.{le-leb}
 use Rattle.model.specs.declared.Answer.TheVariants.{Found, Absent, Refused}
-use Rattle.model.specs.declared.Next.{Next}
 use Rattle.model.specs.Slots.{Slot, slot, recording_of, class_of, recording_ok, class_ok, View, height}
-use Rattle.model.specs.Search.{below, within, moved, down, locate, path_from, path, first_with, first_above, next_from, answer_of, lookup, answer_in, search_view}
+use Rattle.model.specs.Search.{below, within, moved, down, locate, path_from, path, first_with, first_above, next_from, answer_of, lookup, answer_in, search_view, Next}
 use Rattle.model.specs.Reached.{flat, head_or, kept, named, next_child, children, leaves_from, reached, leaves, mapping}
 use Rattle.model.specs.SoundTest.{sound_view}
 use Rattle.model.specs.Demand2.{IsNext}

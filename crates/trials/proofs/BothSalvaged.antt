@@ -5,7 +5,7 @@ use mathlib.Core.List.{List, [], ◌∷◌, ◌++◌, map}
 use mathlib.Core.Option.{some}
 use Prim.Native.Nat.{ℕ}
 use lib.ListN.{replicate, set}
-use Rattle.model.specs.declared.Salvaged.TheVariants.{Dropped}
+use Rattle.std.specs.Prelude.{Ok}
 use Rattle.model.specs.Table.{MARK, Words, empty_of}
 use Rattle.model.specs.Slots.{Slot, slot}
 use Rattle.model.specs.Reached.{map_of, Maps, maps_of}
@@ -60,7 +60,7 @@ pub record Calls : Type 0 where
   -- Duplicates are judged per collection.
   pub per-collection : kept_maps twins ≡ both (slot 10 100 ∷ slot 30 300 ∷ []) (slot 10 300 ∷ slot 20 100 ∷ [])
   pub drops : dropped_all twins ≡ dropped 1 1 2 ∷ dropped 2 2 3 ∷ []
-  pub answers : salvage twins 72 72 ≡ Dropped 2
+  pub answers : salvage twins 72 72 ≡ Ok 2
   pub gives : salvage_out twins (replicate 72 9) 72 ≡ packed_table 2 (both (slot 10 100 ∷ slot 30 300 ∷ []) (slot 10 300 ∷ slot 20 100 ∷ []))
   pub reports : salvage_report twins 72 (replicate 72 9) ≡ (1 ∷ 1 ∷ 2 ∷ 2 ∷ 2 ∷ 3 ∷ []) ++ replicate 66 9
   -- 10 by the nodes that both need together: 12 pairs need three, an empty collection one.

@@ -4,9 +4,9 @@ use mathlib.Core.Bool.{Bool, true, false, ◌&&◌}
 use mathlib.Core.List.{List, [], ◌∷◌, map}
 use Prim.Native.Nat.{ℕ, zero, suc, ◌+◌}
 use lib.ListN.{length, set, replicate}
+use Rattle.std.specs.Prelude.{Some}
+use Rattle.model.specs.Results.{refused_with}
 use Rattle.model.specs.declared.Answer.TheVariants.{Found, Absent, Refused}
-use Rattle.model.specs.declared.Next.TheVariants.{Key}
-use Rattle.model.specs.declared.Listed.TheVariants.{Refused as ListRefused}
 use Rattle.model.specs.Table.{Words, at, header_ok, empty, empty_of, make_number, node_start}
 use Rattle.model.specs.Slots.{slot}
 use Rattle.model.specs.Search.{search}
@@ -81,7 +81,7 @@ pub record Collections : Type 0 where
   -- Uniqueness of recordings is per collection.
   pub per-collection : (refusal (insertion 1 9 101 0) 2560 0 start ≡ 0) × (refusal (insertion 2 12 101 0) 2560 0 start ≡ 8)
   -- Word 3 above N, or other than 0 with N = 1, returns 2, in every call.
-  pub above-n : (refusal repair 2560 0 (set (empty_of 2 6) 3 7) ≡ 2) × (search 1 (set (empty_of 2 6) 3 7) 5 ≡ Refused 2) × (list 1 (set (empty_of 2 6) 3 7) 0 9 [] ≡ ListRefused 2)
+  pub above-n : (refusal repair 2560 0 (set (empty_of 2 6) 3 7) ≡ 2) × (search 1 (set (empty_of 2 6) 3 7) 5 ≡ Refused 2) × (list 1 (set (empty_of 2 6) 3 7) 0 9 [] ≡ refused_with 2)
   pub alone : (refusal repair 2560 0 (set (empty 1) 3 1) ≡ 2) × (search 1 (set (empty 1) 3 1) 5 ≡ Refused 2)
   -- No node is reached from both roots: 4, where search does not notice.
   pub shared-root : (header_ok (set (empty_of 2 6) 3 1) ≡ true) × (sound (set (empty_of 2 6) 3 1) ≡ false) × (search 2 (set start 3 1) 5 ≡ Found 105 0)
@@ -90,9 +90,9 @@ pub record Collections : Type 0 where
   pub after-it : (refusal (deletion 1 6) 0 0 (set (empty_of 2 6) 3 1) ≡ 4) × (refusal (deletion 1 6) 0 0 (empty_of 2 6) ≡ 5) × (refusal (deletion 2 6) 2560 0 (empty_of 2 6) ≡ 9)
   pub before-it : refusal (deletion 3 6) 0 0 (set (empty_of 2 6) 3 7) ≡ 2
   pub search-seventeen : (search 3 start 1 ≡ Refused 17) × (search 2 (empty 6) 1 ≡ Refused 17)
-  pub list-seventeen : (list 0 (set (empty_of 2 6) 3 1) 0 9 [] ≡ ListRefused 17) × (list 1 (set (empty_of 2 6) 3 1) 0 9 [] ≡ ListRefused 4)
+  pub list-seventeen : (list 0 (set (empty_of 2 6) 3 1) 0 9 [] ≡ refused_with 17) × (list 1 (set (empty_of 2 6) 3 1) 0 9 [] ≡ refused_with 4)
   -- Search and listing name a collection: the next code up, and the pairs, are its own.
-  pub next-own : (search 1 start 1 ≡ Absent (Key 5)) × (search 2 start 0 ≡ Absent (Key 1))
+  pub next-own : (search 1 start 1 ≡ Absent (Some 5)) × (search 2 start 0 ≡ Absent (Some 1))
   pub list-own : (list_out 1 start 6 9 (replicate 4 0) ≡ 6 ∷ 106 ∷ 7 ∷ 107 ∷ []) × (list_out 2 start 10 99 (replicate 4 0) ≡ 10 ∷ 110 ∷ 11 ∷ 111 ∷ [])
   -- A repair names none: it mends the second tree too.
   pub mends-second : (keeps_sound repair (set pair (node_start 4 + 11) 101) ≡ true) × (sound (set pair (node_start 4 + 11) 101) ≡ true)

@@ -6,7 +6,7 @@ use Prim.Native.Nat.{ℕ}
 use lib.Dec.{ltb}
 use Rattle.model.specs.declared.Answer.{Answer}
 use Rattle.model.specs.declared.Answer.TheVariants.{Found, Absent}
-use Rattle.model.specs.declared.Next.TheVariants.{Key, Nothing}
+use Rattle.std.specs.Prelude.{Some, None}
 use Rattle.model.specs.Table.{Words}
 use Rattle.model.specs.Search.{search}
 use Rattle.model.specs.SoundTest.{sound, settled}
@@ -46,13 +46,13 @@ pub record Looked : Type 0 where
   -- The leaf is looked at before the split and its sibling, where it had none, not at all.
   pub sibling-later : answer joined 4 300 ≡ Found 130 0
   -- The new code is absent to a look at the leaf before the split, found by one after it.
-  pub new-early : answer joined 4 315 ≡ Absent Nothing
+  pub new-early : answer joined 4 315 ≡ Absent None
   pub new-late : answer joined 3 315 ≡ Found 900 0
   -- A table that is sound, but not settled: 300 is there before the call and after it, and these looks miss it. The root, seen before the
   -- repair, leads to leaf 1; from there one move comes to leaf 2, and leaf 2 has been split.
   pub unsettled : (sound lacking ≡ true) × (settled lacking ≡ false)
   pub there : (search 1 lacking 300 ≡ Found 130 0) × (search 1 (table_after splits 2560 0 lacking) 300 ≡ Found 130 0)
-  pub missed : answer lacking 3 300 ≡ Absent (Key 310)
+  pub missed : answer lacking 3 300 ≡ Absent (Some 310)
 
 pub looked : Looked
 unfolding everything ten_slots

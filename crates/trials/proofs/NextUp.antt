@@ -2,7 +2,7 @@
 use mathlib.Core.Path.{◌≡◌, refl}
 use mathlib.Core.List.{[], ◌∷◌}
 use Rattle.model.specs.declared.Answer.TheVariants.{Found, Absent, Refused}
-use Rattle.model.specs.declared.Next.TheVariants.{Key, Nothing}
+use Rattle.std.specs.Prelude.{Some, None}
 use Rattle.model.specs.Table.{MARK, Words}
 use Rattle.model.specs.Slots.{slot}
 use Rattle.model.specs.Search.{search, recording_or, next_or, higher_or}
@@ -29,15 +29,15 @@ ring = apply (word 2 1 1 ∷ []) (two_levels (1 ∷ 1 ∷ []) (ways 2 1) [])
 
 pub record NextUp : Type 0 where
   -- The nearest higher code in the map, or that there is none.
-  pub here : (search 1 (one_level 3 []) 5 ≡ Absent (Key 10)) × (search 1 (one_level 3 []) 11 ≡ Absent (Key 20))
-  pub none : search 1 (one_level 3 []) 31 ≡ Absent Nothing
+  pub here : (search 1 (one_level 3 []) 5 ≡ Absent (Some 10)) × (search 1 (one_level 3 []) 11 ≡ Absent (Some 20))
+  pub none : search 1 (one_level 3 []) 31 ≡ Absent None
   -- It is looked for on along the siblings, past emptied leaves too.
-  pub along : search 1 (two_levels (2 ∷ 0 ∷ 0 ∷ 1 ∷ []) (ways 2 3) []) 25 ≡ Absent (Key 610)
+  pub along : search 1 (two_levels (2 ∷ 0 ∷ 0 ∷ 1 ∷ []) (ways 2 3) []) 25 ≡ Absent (Some 610)
   -- MARK is a key like others.
-  pub largest : search 1 (table_of 1 (node_words MARK 0 0 0 (slot MARK 7 ∷ []) ∷ [])) 5 ≡ Absent (Key MARK)
+  pub largest : search 1 (table_of 1 (node_words MARK 0 0 0 (slot MARK 7 ∷ []) ∷ [])) 5 ≡ Absent (Some MARK)
   -- The first one by its place in the leaf, and only below its own leaf's sibling's fence.
-  pub by-place : search 1 (apply (key 1 0 30 ∷ []) (one_level 2 [])) 5 ≡ Absent (Key 30)
-  pub below-fence : search 1 (apply (key 1 0 250 ∷ []) (two_levels (1 ∷ 1 ∷ []) (ways 2 1) [])) 5 ≡ Absent (Key 210)
+  pub by-place : search 1 (apply (key 1 0 30 ∷ []) (one_level 2 [])) 5 ≡ Absent (Some 30)
+  pub below-fence : search 1 (apply (key 1 0 250 ∷ []) (two_levels (1 ∷ 1 ∷ []) (ways 2 1) [])) 5 ≡ Absent (Some 210)
   -- A leaf on the way fails the search's tests, the sibling of the search's last one included: a found key is answered all the same.
   pub outside : (search 1 sibling_outside 205 ≡ Refused 3) × (search 1 sibling_outside 210 ≡ Found 121 0)
   pub other-level : (search 1 sibling_high 205 ≡ Refused 3) × (search 1 sibling_high 210 ≡ Found 121 0)

@@ -4,7 +4,8 @@ use mathlib.Core.Bool.{true}
 use mathlib.Core.List.{[], ◌∷◌, ◌++◌}
 use mathlib.Core.Option.{none, some}
 use lib.ListN.{replicate}
-use Rattle.model.specs.declared.Outcome.TheVariants.{Done, Refused}
+use Rattle.std.specs.Prelude.{Ok}
+use Rattle.model.specs.Results.{refused_with}
 use Rattle.model.specs.Table.{MARK, Words, empty, empty_of}
 use Rattle.model.specs.Slots.{slot, slot_words, pointer_of}
 use Rattle.model.specs.Reached.{maps_of}
@@ -29,7 +30,7 @@ old = replicate 104 77
 pub record PackCalls : Type 0 where
   -- 11 to a leaf, the root last; the old words do not matter.
   pub fills : pack_out 1 twelve [] old ≡ table_of 3 (node_words MARK 2 0 0 (pairs 11 1) ∷ node_words MARK 0 0 120 (pairs 1 12) ∷ node_words 1 0 1 0 (slot 120 2 ∷ []) ∷ [])
-  pub answers : (packing 1 twelve [] old ≡ Done) × (settled (pack_out 1 twelve [] old) ≡ true)
+  pub answers : (packing 1 twelve [] old ≡ Ok tt) × (settled (pack_out 1 twelve [] old) ≡ true)
   -- Its maps are exactly the pairs; the same recordings in both collections.
   pub maps : maps_of (pack_out 2 eleven eleven old) ≡ record { one = pairs 11 1; two = some (pairs 11 1) }
   -- For one collection the second slice is not looked at.
@@ -39,17 +40,17 @@ pub record PackCalls : Type 0 where
   -- Without pairs it is the table that is made.
   pub none-there : (pack_out 1 [] [] old ≡ empty 3) × (pack_out 2 [] [] old ≡ empty_of 2 3)
   -- 2 by length, and for two collections with N = 1; then 17; then 10; then 25.
-  pub two : (packing 3 twelve (5 ∷ 0 ∷ []) (7 ∷ old) ≡ Refused 2) × (packing 2 [] [] (replicate 40 7) ≡ Refused 2)
-  pub seventeen : packing 3 twelve (5 ∷ 0 ∷ []) old ≡ Refused 17
-  pub ten : (packing 2 twelve (5 ∷ 0 ∷ []) old ≡ Refused 10) × (pack_out 2 twelve (5 ∷ 0 ∷ []) old ≡ old)
+  pub two : (packing 3 twelve (5 ∷ 0 ∷ []) (7 ∷ old) ≡ refused_with 2) × (packing 2 [] [] (replicate 40 7) ≡ refused_with 2)
+  pub seventeen : packing 3 twelve (5 ∷ 0 ∷ []) old ≡ refused_with 17
+  pub ten : (packing 2 twelve (5 ∷ 0 ∷ []) old ≡ refused_with 10) × (pack_out 2 twelve (5 ∷ 0 ∷ []) old ≡ old)
   -- 25: a key twice, falling keys, recording 0, class 3, a recording twice, be it in another class.
-  pub same-key : packing 1 (5 ∷ 1 ∷ 5 ∷ 2 ∷ []) [] old ≡ Refused 25
-  pub falling : packing 2 eleven (6 ∷ 1 ∷ 5 ∷ 2 ∷ []) old ≡ Refused 25
-  pub no-recording : packing 1 (5 ∷ pointer_of 0 1 ∷ []) [] old ≡ Refused 25
-  pub no-class : packing 1 (5 ∷ pointer_of 1 3 ∷ []) [] old ≡ Refused 25
-  pub twice : (packing 1 (5 ∷ pointer_of 9 0 ∷ 6 ∷ pointer_of 9 2 ∷ []) [] old ≡ Refused 25) × (pack_out 1 (5 ∷ 9 ∷ 6 ∷ 9 ∷ []) [] old ≡ old)
+  pub same-key : packing 1 (5 ∷ 1 ∷ 5 ∷ 2 ∷ []) [] old ≡ refused_with 25
+  pub falling : packing 2 eleven (6 ∷ 1 ∷ 5 ∷ 2 ∷ []) old ≡ refused_with 25
+  pub no-recording : packing 1 (5 ∷ pointer_of 0 1 ∷ []) [] old ≡ refused_with 25
+  pub no-class : packing 1 (5 ∷ pointer_of 1 3 ∷ []) [] old ≡ refused_with 25
+  pub twice : (packing 1 (5 ∷ pointer_of 9 0 ∷ 6 ∷ pointer_of 9 2 ∷ []) [] old ≡ refused_with 25) × (pack_out 1 (5 ∷ 9 ∷ 6 ∷ 9 ∷ []) [] old ≡ old)
   -- The first and the last key that there are.
-  pub ends : packing 1 (0 ∷ 1 ∷ MARK ∷ 2 ∷ []) [] old ≡ Done
+  pub ends : packing 1 (0 ∷ 1 ∷ MARK ∷ 2 ∷ []) [] old ≡ Ok tt
 
 pub packs-computed : PackCalls
 unfolding everything

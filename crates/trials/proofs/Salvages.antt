@@ -5,7 +5,7 @@ use mathlib.Core.List.{List, [], ◌∷◌, ◌++◌}
 use mathlib.Core.Option.{none}
 use Prim.Native.Nat.{ℕ, zero, suc, ◌*◌, ◌+◌}
 use lib.ListN.{replicate}
-use Rattle.model.specs.declared.Salvaged.TheVariants.{Dropped}
+use Rattle.std.specs.Prelude.{Ok}
 use Rattle.model.specs.Table.{MARK, Words, empty}
 use Rattle.model.specs.Slots.{Slot, slot, pointer_of}
 use Rattle.model.specs.Reached.{map_of, Maps, maps_of}
@@ -167,7 +167,7 @@ wide = refl
 abbrev twice_table : Words
 twice_table = tree 2 0 0 (slot 20 400 ∷ slot 60 100 ∷ slot 70 500 ∷ [])
 
-pub answers : salvage twice_table 136 144 ≡ Dropped 2
+pub answers : salvage twice_table 136 144 ≡ Ok 2
 unfolding everything
 answers = refl
 

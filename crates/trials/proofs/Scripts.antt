@@ -3,8 +3,8 @@ use mathlib.Core.Path.{◌≡◌, refl}
 use mathlib.Core.Bool.{true, false}
 use mathlib.Core.List.{[], ◌∷◌, map}
 use Prim.Native.Nat.{ℕ}
-use Rattle.model.specs.declared.Outcome.TheVariants.{Done, Refused}
-use Rattle.model.specs.declared.Ranked.TheVariants as ranked
+use Rattle.std.specs.Prelude.{Ok}
+use Rattle.model.specs.Results.{refused_with}
 use Rattle.model.specs.Table.{MARK, Words, empty}
 use Rattle.model.specs.Slots.{slot}
 use Rattle.model.specs.Writes.{insertion, deletion}
@@ -27,7 +27,7 @@ pub record ScriptsAre : Type 0 where
       ≡ (0 ∷ 0 ∷ 0 ∷ 0 ∷ 0 ∷ []) ∷ (1 ∷ 0 ∷ 0 ∷ 0 ∷ 0 ∷ []) ∷ (2 ∷ 0 ∷ 0 ∷ 0 ∷ 0 ∷ []) ∷ (3 ∷ 0 ∷ 0 ∷ 0 ∷ 0 ∷ []) ∷ (4 ∷ 0 ∷ 0 ∷ 0 ∷ 0 ∷ []) ∷ []
   pub last : script_words (script_of 1554) ≡ 4 ∷ 5 ∷ 5 ∷ 5 ∷ 5 ∷ []
   pub thousand : script_words (script_of 1000) ≡ 4 ∷ 3 ∷ 2 ∷ 3 ∷ 3 ∷ []
-  pub back : script_number (4 ∷ 3 ∷ 2 ∷ 3 ∷ 3 ∷ []) ≡ ranked.Number 1000
+  pub back : script_number (4 ∷ 3 ∷ 2 ∷ 3 ∷ 3 ∷ []) ≡ Ok 1000
   pub delete-after : before (2 ∷ []) (3 ∷ []) ≡ true
   pub short-first : before (5 ∷ []) (0 ∷ 0 ∷ []) ≡ true
 
@@ -38,12 +38,12 @@ scripts-are = record { first = refl; last = refl; thousand = refl; back = refl; 
 -- ---- 22 and 23; a lent word stays
 
 pub record Refuses : Type 0 where
-  pub above : (script_answer 1555 ≡ Refused 22) × (script_out 1555 (7 ∷ 8 ∷ 9 ∷ 10 ∷ 11 ∷ []) ≡ 7 ∷ 8 ∷ 9 ∷ 10 ∷ 11 ∷ [])
-  pub within : script_answer 1554 ≡ Done
-  pub long : script_number (5 ∷ 0 ∷ 0 ∷ 0 ∷ 0 ∷ []) ≡ ranked.Refused 23
-  pub far : script_number (MARK ∷ 0 ∷ 0 ∷ 0 ∷ 0 ∷ []) ≡ ranked.Refused 23
-  pub no-action : script_number (2 ∷ 0 ∷ 6 ∷ 0 ∷ 0 ∷ []) ≡ ranked.Refused 23
-  pub past : script_number (2 ∷ 0 ∷ 5 ∷ 0 ∷ 1 ∷ []) ≡ ranked.Refused 23
+  pub above : (script_answer 1555 ≡ refused_with 22) × (script_out 1555 (7 ∷ 8 ∷ 9 ∷ 10 ∷ 11 ∷ []) ≡ 7 ∷ 8 ∷ 9 ∷ 10 ∷ 11 ∷ [])
+  pub within : script_answer 1554 ≡ Ok tt
+  pub long : script_number (5 ∷ 0 ∷ 0 ∷ 0 ∷ 0 ∷ []) ≡ refused_with 23
+  pub far : script_number (MARK ∷ 0 ∷ 0 ∷ 0 ∷ 0 ∷ []) ≡ refused_with 23
+  pub no-action : script_number (2 ∷ 0 ∷ 6 ∷ 0 ∷ 0 ∷ []) ≡ refused_with 23
+  pub past : script_number (2 ∷ 0 ∷ 5 ∷ 0 ∷ 1 ∷ []) ≡ refused_with 23
 
 pub refuses : Refuses
 unfolding everything

@@ -4,9 +4,8 @@ use mathlib.Core.Bool.{true, false}
 use mathlib.Core.List.{List, [], ◌∷◌, ◌++◌}
 use Prim.Native.Nat.{ℕ, suc, ◌+◌}
 use lib.ListN.{replicate, set}
-use Rattle.model.specs.declared.Printed.{Printed}
+use Rattle.model.specs.Results.{Printed, refused_with}
 use Rattle.model.specs.declared.Answer.TheVariants.{Found, Refused}
-use Rattle.model.specs.declared.Listed.TheVariants.{Refused as ListRefused}
 use Rattle.model.specs.Codes.{print}
 use Rattle.model.specs.Table.{MARK, Words, table_length, length_ok, empty}
 use Rattle.model.specs.Slots.{pointer_of}
@@ -24,7 +23,7 @@ use Rattle.trials.proofs.Unsound.{chain_from, chain}
 
 -- what printing answers for a key that no code has
 abbrev pub no_code : Printed
-no_code = record { number = 1; text = replicate 12 0 }
+no_code = refused_with 1
 
 -- two orders inside a table of 40 words, and one outside
 abbrev pub three_orders : List Order
@@ -55,8 +54,8 @@ pub record Sentences : Type 0 where
   -- A listing's second word is the whole pointer.
   pub whole-pointer : list_out 1 classed 0 MARK (replicate 4 0) ≡ 10 ∷ pointer_of 101 2 ∷ 20 ∷ 102 ∷ []
   -- A listing refuses with 2 before 4.
-  pub listing-two : list 1 (apply (put 3 1 ∷ put 12 1 ∷ []) (empty 1)) 0 MARK [] ≡ ListRefused 2
-  pub listing-four : list 1 (apply (put 12 1 ∷ []) (empty 1)) 0 MARK [] ≡ ListRefused 4
+  pub listing-two : list 1 (apply (put 3 1 ∷ put 12 1 ∷ []) (empty 1)) 0 MARK [] ≡ refused_with 2
+  pub listing-four : list 1 (apply (put 12 1 ∷ []) (empty 1)) 0 MARK [] ≡ refused_with 4
   -- Carry-out applies the first c orders, and looks at no other; c above half the list's length, rounded down, is refused with 13.
   pub first-two : (carry_number 2 (encode three_orders) (empty 1) ≡ 0) × (carried_out 2 (encode three_orders) (empty 1) ≡ set (empty 1) 16 5)
   pub all-three : (carry_number 3 (encode three_orders) (empty 1) ≡ 13) × (carried_out 3 (encode three_orders) (empty 1) ≡ empty 1)

@@ -4,7 +4,7 @@ use mathlib.Core.Bool.{true, false}
 use mathlib.Core.List.{[], ◌∷◌, ◌++◌}
 use lib.ListN.{length, replicate, set}
 use Rattle.model.specs.declared.Answer.TheVariants.{Found, Absent, Refused}
-use Rattle.model.specs.declared.Next.TheVariants.{Key, Nothing}
+use Rattle.std.specs.Prelude.{Some, None}
 use Rattle.model.specs.Table.{MARK, Words, empty, empty_of}
 use Rattle.model.specs.Search.{search}
 use Rattle.model.specs.Reached.{map_of}
@@ -58,10 +58,10 @@ pub record SentinelWords : Type 0 where
   pub others-stay : words_of (sentinels_with twelfth (replicate 18 7) 2560 0 start) 1 ≡ 7 ∷ 7 ∷ 7 ∷ []
   -- With false words a search equals the plain one on a sound table, be it led to no line, or to one where the key is not.
   pub no-line : search_with 2 (replicate 18 MARK) start 3 ≡ Found 103 0
-  pub last-line : (search_with 2 (replicate 18 0) start 3 ≡ Found 103 0) × (search_with 2 (replicate 18 0) start 12 ≡ Absent Nothing)
-  pub neighbour : (search_with 1 (replicate 18 6) start 0 ≡ Absent (Key 5)) × (search_with 1 (replicate 18 0) start 0 ≡ Absent (Key 5))
+  pub last-line : (search_with 2 (replicate 18 0) start 3 ≡ Found 103 0) × (search_with 2 (replicate 18 0) start 12 ≡ Absent None)
+  pub neighbour : (search_with 1 (replicate 18 6) start 0 ≡ Absent (Some 5)) × (search_with 1 (replicate 18 0) start 0 ≡ Absent (Some 5))
   -- Slots past the first pointer 0 are not in use, whatever they hold and whatever the words say.
-  pub past-the-end : (sound stale ≡ true) × (sentinels stale ≡ MARK ∷ MARK ∷ MARK ∷ []) × (search_with 1 (sentinels stale) stale MARK ≡ Absent Nothing)
+  pub past-the-end : (sound stale ≡ true) × (sentinels stale ≡ MARK ∷ MARK ∷ MARK ∷ []) × (search_with 1 (sentinels stale) stale MARK ≡ Absent None)
   -- The key MARK is found, though its line may have the word of a line without shown slots.
   pub mark-found : (search_with 1 (sentinels marked) marked MARK ≡ Found 9 0) × (search_with 1 (0 ∷ 0 ∷ 0 ∷ []) marked MARK ≡ Found 9 0)
   -- On another table the slot chosen differs, and nothing else.

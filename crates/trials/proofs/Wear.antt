@@ -2,7 +2,7 @@
 use mathlib.Core.Path.{◌≡◌, refl}
 use mathlib.Core.List.{[], ◌∷◌}
 use lib.ListN.{replicate}
-use Rattle.model.specs.declared.Worn.TheVariants.{Figures, Refused}
+use Rattle.model.specs.Results.{refused_with, worn_with}
 use Rattle.model.specs.Table.{MARK, Words, empty}
 use Rattle.model.specs.Orders.{BAR}
 use Rattle.model.specs.Wear.{worn, lines_after, pairs_after}
@@ -18,22 +18,22 @@ ends = 39 ∷ 1 ∷ 0 ∷ 1 ∷ 39 ∷ 1 ∷ 1 ∷ 1 ∷ []
 
 pub record WearFigures : Type 0 where
   -- Total, largest, first line, pairs; the lines and the pairs, and lent words past them.
-  pub answered : worn printed 5 4 (empty 1) ≡ Figures 6 6 2 2
+  pub answered : worn printed 5 4 (empty 1) ≡ worn_with 6 6 2 2
   pub lines : lines_after printed (replicate 6 77) (replicate 5 88) (empty 1) ≡ 0 ∷ 0 ∷ 6 ∷ 0 ∷ 0 ∷ 77 ∷ []
   pub pairs : pairs_after printed (replicate 6 77) (replicate 5 88) (empty 1) ≡ 16 ∷ 2 ∷ 19 ∷ 1 ∷ 88 ∷ []
   -- Of lines with as many stores the first.
-  pub first-of-equals : worn ends 5 4 (empty 1) ≡ Figures 4 2 0 2
+  pub first-of-equals : worn ends 5 4 (empty 1) ≡ worn_with 4 2 0 2
   -- Touching words are joined across lines, in whatever order they are stored to; a single last word is no order.
-  pub across : (worn (8 ∷ 1 ∷ 7 ∷ 1 ∷ 40 ∷ []) 5 2 (empty 1) ≡ Figures 2 1 0 1) × (pairs_after (8 ∷ 1 ∷ 7 ∷ 1 ∷ []) (replicate 5 0) (0 ∷ 0 ∷ []) (empty 1) ≡ 7 ∷ 2 ∷ [])
+  pub across : (worn (8 ∷ 1 ∷ 7 ∷ 1 ∷ 40 ∷ []) 5 2 (empty 1) ≡ worn_with 2 1 0 1) × (pairs_after (8 ∷ 1 ∷ 7 ∷ 1 ∷ []) (replicate 5 0) (0 ∷ 0 ∷ []) (empty 1) ≡ 7 ∷ 2 ∷ [])
   -- A list without stores.
-  pub no-store : (worn [] 5 0 (empty 1) ≡ Figures 0 0 0 0) × (worn (MARK ∷ 4 ∷ []) 5 0 (empty 1) ≡ Figures 0 0 0 0)
+  pub no-store : (worn [] 5 0 (empty 1) ≡ worn_with 0 0 0 0) × (worn (MARK ∷ 4 ∷ []) 5 0 (empty 1) ≡ worn_with 0 0 0 0)
   -- A barrier counts for nothing and is inside every table; with another second word its first is a store's word, outside every table.
-  pub barriers : (worn (9 ∷ 1 ∷ BAR ∷ 0 ∷ 9 ∷ 2 ∷ BAR ∷ 0 ∷ MARK ∷ 1 ∷ []) 5 2 (empty 1) ≡ Figures 2 2 1 1) × (worn (BAR ∷ 1 ∷ []) 5 2 (empty 1) ≡ Refused 13)
+  pub barriers : (worn (9 ∷ 1 ∷ BAR ∷ 0 ∷ 9 ∷ 2 ∷ BAR ∷ 0 ∷ MARK ∷ 1 ∷ []) 5 2 (empty 1) ≡ worn_with 2 2 1 1) × (worn (BAR ∷ 1 ∷ []) 5 2 (empty 1) ≡ refused_with 13)
   -- 2, then 13 over the whole list, then 24 for the lines, also without a store, or for the pairs.
-  pub two : worn (40 ∷ 1 ∷ []) 0 0 (7 ∷ empty 1) ≡ Refused 2
-  pub thirteen : (worn (0 ∷ 1 ∷ 40 ∷ 1 ∷ []) 0 0 (empty 1) ≡ Refused 13) × (worn (0 ∷ 1 ∷ MARK ∷ 5 ∷ []) 0 0 (empty 1) ≡ Refused 13)
-  pub few-lines : worn [] 4 9 (empty 1) ≡ Refused 24
-  pub few-pairs : (worn printed 5 3 (empty 1) ≡ Refused 24) × (lines_after printed (replicate 5 77) (replicate 3 88) (empty 1) ≡ replicate 5 77)
+  pub two : worn (40 ∷ 1 ∷ []) 0 0 (7 ∷ empty 1) ≡ refused_with 2
+  pub thirteen : (worn (0 ∷ 1 ∷ 40 ∷ 1 ∷ []) 0 0 (empty 1) ≡ refused_with 13) × (worn (0 ∷ 1 ∷ MARK ∷ 5 ∷ []) 0 0 (empty 1) ≡ refused_with 13)
+  pub few-lines : worn [] 4 9 (empty 1) ≡ refused_with 24
+  pub few-pairs : (worn printed 5 3 (empty 1) ≡ refused_with 24) × (lines_after printed (replicate 5 77) (replicate 3 88) (empty 1) ≡ replicate 5 77)
 
 pub wear-computed : WearFigures
 unfolding everything

@@ -7,8 +7,7 @@ use mathlib.Core.Option.{Option, none, some}
 use Prim.Native.Nat.{ℕ}
 use lib.ListN.{length, take}
 use borrow.Author.Tests.{ne_eqb}
-use Rattle.model.specs.declared.Listed.{Listed}
-use Rattle.model.specs.declared.Listed.TheVariants.{Refused}
+use Rattle.model.specs.Results.{Listed, refused_with}
 use Rattle.model.specs.Table.{Words, no_collection}
 use Rattle.model.specs.Slots.{Slot}
 use Rattle.model.specs.Listing.{in_range_of, listed, listed_words, list_number, list, list_out}
@@ -27,7 +26,7 @@ use Rattle.two_laws.proofs.LedgerTwo.{list-there, list-lacking, searched}
 -- ---- a listing by the maps
 
 abbrev pub listed_from : (low high words : ℕ) → Option (List Slot) → Listed
-listed_from low high words none = Refused 17
+listed_from low high words none = refused_with 17
 listed_from low high words (some ps) = listed (in_range_of low high ps) words
 
 abbrev pub written_from : (low high : ℕ) → Words → Option (List Slot) → Words

@@ -2,14 +2,13 @@
 use mathlib.Core.Path.{◌≡◌, refl, ap, ◌∙◌}
 use mathlib.Core.List.{List, [], ◌∷◌}
 use Prim.Native.Nat.{ℕ, zero, suc}
+use Rattle.std.specs.Prelude.{None, Some}
 use Rattle.model.specs.Table.{Words}
 use Rattle.model.specs.Slots.{view_from}
 use Rattle.model.specs.Search.{below}
 use Rattle.model.specs.Reached.{kept, first_child}
 use Rattle.model.specs.SoundTest.{sibling_ok, keys_ok, leaf_ok, trailing_in, own}
-use Rattle.model.specs.declared.Tally.{Tally}
-use Rattle.model.specs.declared.Tally.TheVariants.{Unsound, Visited}
-use Rattle.walk_laws.specs.Walk.{Visit, stands, alone_ok, fits, visits_of, visits_below, visit, fold, check}
+use Rattle.walk_laws.specs.Walk.{Visit, stands, alone_ok, fits, visits_of, visits_below, Tally, visit, fold, check}
 use Rattle.walk_laws.specs.Chain.{along}
 
 fold-same : {A : Type 0} (g h : A → Tally → Tally) → ((x : A) (s : Tally) → g x s ≡ h x s) → (xs : List A) (s : Tally) → fold g xs s ≡ fold h xs s
@@ -23,8 +22,8 @@ module _ (t : Words) (r q : ℕ) where
 
   any-visit : (x : Visit) (s : Tally) → visit (view_from t r) x s ≡ visit (view_from t q) x s
   unfolding visit fits stands alone_ok sibling_ok keys_ok leaf_ok own trailing_in kept below
-  any-visit x Unsound = refl
-  any-visit x (Visited c u) = refl
+  any-visit x None = refl
+  any-visit x (Some u) = refl
 
   any-below : (d n : ℕ) → visits_below (view_from t r) d n ≡ visits_below (view_from t q) d n
   unfolding visits_below visits_of kept below first_child

@@ -8,13 +8,12 @@ use native.Mathlib.Nat.{add-zero, add-suc, suc-add}
 use lib.Dec.{ltb, leb}
 use lib.ListN.{length}
 use borrow.Author.Tests.{ltb-true, ltb-false, lt-ltb, le-ltb, le-leb, lt-leb}
+use Rattle.std.specs.Prelude.{None, Some}
 use Rattle.model.specs.declared.Unfinished.{Unfinished}
 use Rattle.model.specs.Slots.{View}
 use Rattle.model.specs.Reached.{flat}
 use Rattle.model.specs.SoundTest.{all, together, own}
-use Rattle.model.specs.declared.Tally.{Tally}
-use Rattle.model.specs.declared.Tally.TheVariants.{Unsound, Visited}
-use Rattle.walk_laws.specs.Walk.{Visit, fits, visits_below, visit, fold, check}
+use Rattle.walk_laws.specs.Walk.{Visit, fits, visits_below, Tally, tally, visit, fold, check}
 use Rattle.walk_laws.proofs.Sums.{joint, sum, unit-right}
 
 -- the visits that a check makes, in order
@@ -43,22 +42,22 @@ check-fold v (suc d) x s = fold-flat (visit v) (check v d) (visits v d) (visits_
 unfoldable pub met : View → Visit → Unfinished
 met v x = together x.way (own v x.node)
 
-pub visit-yes : (v : View) (x : Visit) (c : ℕ) (u : Unfinished) → fits v x ≡ true → c < v.nodes → visit v x (Visited c u) ≡ Visited (suc c) (together u (met v x))
+pub visit-yes : (v : View) (x : Visit) (c : ℕ) (u : Unfinished) → fits v x ≡ true → c < v.nodes → visit v x (tally c u) ≡ tally (suc c) (together u (met v x))
 unfolding visit met
 visit-yes v x c u e l = rw (e, lt-ltb c v.nodes l, visit)
 
-pub visit-unfit : (v : View) (x : Visit) (s : Tally) → fits v x ≡ false → visit v x s ≡ Unsound
+pub visit-unfit : (v : View) (x : Visit) (s : Tally) → fits v x ≡ false → visit v x s ≡ None
 unfolding visit
-visit-unfit v x Unsound e = refl
-visit-unfit v x (Visited c u) e = rw (e, visit)
+visit-unfit v x None e = refl
+visit-unfit v x (Some s) e = rw (e, visit)
 
-pub visit-over : (v : View) (x : Visit) (c : ℕ) (u : Unfinished) → v.nodes ≤ c → visit v x (Visited c u) ≡ Unsound
+pub visit-over : (v : View) (x : Visit) (c : ℕ) (u : Unfinished) → v.nodes ≤ c → visit v x (tally c u) ≡ None
 unfolding visit
 visit-over v x c u l = rw (le-ltb c v.nodes l, and-false (fits v x), visit)
 
 -- ---- a run of visits
 
-pub fold-unsound : (v : View) (xs : List Visit) → fold (visit v) xs Unsound ≡ Unsound
+pub fold-unsound : (v : View) (xs : List Visit) → fold (visit v) xs None ≡ None
 unfolding visit
 fold-unsound v [] = refl
 fold-unsound v (x ∷ xs) = fold-unsound v xs
@@ -67,18 +66,18 @@ unfoldable pub allowed : View → List Visit → ℕ → Bool
 allowed v xs c = all (fits v) xs && leb (c + length xs) v.nodes
 
 unfoldable pub outcome : View → List Visit → ℕ → Unfinished → Tally
-outcome v xs c u = cond (allowed v xs c) (Visited (c + length xs) (together u (sum joint (met v) xs))) Unsound
+outcome v xs c u = cond (allowed v xs c) (tally (c + length xs) (together u (sum joint (met v) xs))) None
 
-outcome-refused : (v : View) (xs : List Visit) (c : ℕ) (u : Unfinished) → allowed v xs c ≡ false → outcome v xs c u ≡ Unsound
+outcome-refused : (v : View) (xs : List Visit) (c : ℕ) (u : Unfinished) → allowed v xs c ≡ false → outcome v xs c u ≡ None
 unfolding outcome
 outcome-refused v xs c u e = rw e
 
-pub fold-outcome : (v : View) (xs : List Visit) (c : ℕ) (u : Unfinished) → c ≤ v.nodes → fold (visit v) xs (Visited c u) ≡ outcome v xs c u
+pub fold-outcome : (v : View) (xs : List Visit) (c : ℕ) (u : Unfinished) → c ≤ v.nodes → fold (visit v) xs (tally c u) ≡ outcome v xs c u
 fold-outcome v [] c u h = unfold outcome in unfold allowed in unfold all in rw (add-zero c, le-leb c v.nodes h, unit-right joint u)
 fold-outcome v (x ∷ xs) c u h = go (fits v x) (ltb c v.nodes) refl refl (fold-outcome v xs (suc c) (together u (met v x)))
   where
-    go : (a b : Bool) → fits v x ≡ a → ltb c v.nodes ≡ b → (suc c ≤ v.nodes → fold (visit v) xs (Visited (suc c) (together u (met v x))) ≡ outcome v xs (suc c) (together u (met v x)))
-        → fold (visit v) (x ∷ xs) (Visited c u) ≡ outcome v (x ∷ xs) c u
+    go : (a b : Bool) → fits v x ≡ a → ltb c v.nodes ≡ b → (suc c ≤ v.nodes → fold (visit v) xs (tally (suc c) (together u (met v x))) ≡ outcome v xs (suc c) (together u (met v x)))
+        → fold (visit v) (x ∷ xs) (tally c u) ≡ outcome v (x ∷ xs) c u
     go true true e l ih =
         let less = ltb-true c v.nodes l in
         ap (fold (visit v) xs) (visit-yes v x c u e less) ∙ ih less ∙ (unfold outcome in unfold allowed in unfold all in rw (e, suc-add c (length xs), add-suc c (length xs), joint.assoc u (met v x) (sum joint (met v) xs)))
@@ -87,4 +86,4 @@ fold-outcome v (x ∷ xs) c u h = go (fits v x) (ltb c v.nodes) refl refl (fold-
         let over : allowed v (x ∷ xs) c ≡ false = unfold allowed in rw (lt-leb (c + suc (length xs)) v.nodes (omega arith), and-false) in
         ap (fold (visit v) xs) (visit-over v x c u more) ∙ fold-unsound v xs ∙ sym (outcome-refused v (x ∷ xs) c u over)
     go false b e l ih =
-        ap (fold (visit v) xs) (visit-unfit v x (Visited c u) e) ∙ fold-unsound v xs ∙ sym (outcome-refused v (x ∷ xs) c u (unfold allowed in unfold all in rw e))
+        ap (fold (visit v) xs) (visit-unfit v x (tally c u) e) ∙ fold-unsound v xs ∙ sym (outcome-refused v (x ∷ xs) c u (unfold allowed in unfold all in rw e))

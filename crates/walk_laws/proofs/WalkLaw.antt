@@ -9,7 +9,10 @@ use native.Mathlib.Nat.{zero-add}
 use lib.Dec.{eqb, leb}
 use lib.ListN.{length, length-append}
 use borrow.Author.Tests.{eq-eqb, ne_eqb, leb-true, le-leb}
+use Rattle.std.specs.Prelude.{None, Some}
+use Rattle.std.proofs.lemmas.Option.{same_Some}
 use Rattle.model.specs.declared.Unfinished.{Unfinished}
+use Rattle.model.specs.declared.Visited.{Visited}
 use Rattle.model.specs.Table.{in_range}
 use Rattle.model.specs.Slots.{Slot, View, height}
 use Rattle.model.specs.Reached.{flat, head_or, pointers, named, next_child, children, reached_from, reached, mapping}
@@ -18,9 +21,7 @@ use Rattle.list_laws.proofs.Tools.{decode, and-iff, refuted, same-test, Each, Ea
 use Rattle.tree_laws.proofs.Members.{UpTo, pigeonhole}
 use Rattle.tree_laws.proofs.Rows.{Good, At, Deep, children-inner}
 use Rattle.tree_laws.proofs.Levels.{RootFacts, root-iff, Level, level-root, level-lower, once-follows, sound-orderly}
-use Rattle.model.specs.declared.Tally.{Tally}
-use Rattle.model.specs.declared.Tally.TheVariants.{Unsound, Visited}
-use Rattle.walk_laws.specs.Walk.{Visit, fits, visits_of, ways, visits_below, check, root_visit, walk}
+use Rattle.walk_laws.specs.Walk.{Visit, fits, visits_of, ways, visits_below, Tally, tally, check, root_visit, walk}
 use Rattle.walk_laws.proofs.Sums.{Monoid, joint, tests, numbers, sum, swap, unit-right, sum-append, depth_first, sum-depth-first}
 use Rattle.walk_laws.proofs.Run.{visits, check-fold, met, allowed, outcome, fold-outcome}
 use Rattle.walk_laws.proofs.Local.{Fits, fits-iff, nodes_of, visits-nodes, visits-level, visits-good, good-alone}
@@ -192,8 +193,8 @@ visits-unfinished v h = met-all v (height v) (root_visit v) refl h ∙ sum-one j
 
 -- ---- the walk
 
-check-outcome : (v : View) → check v (height v) (root_visit v) (Visited 0 finished) ≡ outcome v (root_visits v) 0 finished
-check-outcome v = check-fold v (height v) (root_visit v) (Visited 0 finished) ∙ fold-outcome v (root_visits v) 0 finished (omega arith)
+check-outcome : (v : View) → check v (height v) (root_visit v) (tally 0 finished) ≡ outcome v (root_visits v) 0 finished
+check-outcome v = check-fold v (height v) (root_visit v) (tally 0 finished) ∙ fold-outcome v (root_visits v) 0 finished (omega arith)
 
 allowed-iff : (v : View) → height v ≤ 15 → allowed v (root_visits v) 0 ≡ in_order v
 unfolding allowed
@@ -204,13 +205,13 @@ allowed-iff v l =
     )
 
 abbrev pub answer : View → Tally
-answer v = cond (in_order v) (Visited (length (reached v)) (unfinished v)) Unsound
+answer v = cond (in_order v) (tally (length (reached v)) (unfinished v)) None
 
 walk-low : (v : View) → leb (height v) 15 ≡ true → walk v ≡ outcome v (root_visits v) 0 finished
 unfolding walk
 walk-low v e = rw (e, walk) (check-outcome v)
 
-walk-high : (v : View) → leb (height v) 15 ≡ false → walk v ≡ Unsound
+walk-high : (v : View) → leb (height v) 15 ≡ false → walk v ≡ None
 unfolding walk
 walk-high v e = rw (e, walk)
 
@@ -218,7 +219,7 @@ outcome-answer : (v : View) → height v ≤ 15 → outcome v (root_visits v) 0 
 unfolding outcome
 outcome-answer v l = rw (allowed-iff v l) (go (in_order v) refl)
   where
-    go : (b : Bool) → in_order v ≡ b → cond b (Visited (0 + length (root_visits v)) (together finished (sum joint (met v) (root_visits v)))) Unsound ≡ cond b (Visited (length (reached v)) (unfinished v)) Unsound
+    go : (b : Bool) → in_order v ≡ b → cond b (tally (0 + length (root_visits v)) (together finished (sum joint (met v) (root_visits v)))) None ≡ cond b (tally (length (reached v)) (unfinished v)) None
     go true e =
         let f = in-order-visits v ((in-order-iff v).0 e) in
         rw (zero-add (length (root_visits v)), visits-count v f, visits-unfinished v f)
@@ -245,11 +246,14 @@ pub record Passed (v : View) (c : ℕ) (u : Unfinished) : Type 0 where
   pub count-is : c ≡ length (reached v)
   pub few : c ≤ v.nodes
 
-answer-cases : (b : Bool) (a c : ℕ) (x u : Unfinished) → (cond b (Visited a x) Unsound ≡ Visited c u) ↔ ((b ≡ true) × ((c ≡ a) × (u ≡ x)))
-answer-cases true a c x u = (λ e. (refl, (cc, cc)), λ h. cc)
+answer-cases : (b : Bool) (a c : ℕ) (x u : Unfinished) → (cond b (tally a x) None ≡ tally c u) ↔ ((b ≡ true) × ((c ≡ a) × (u ≡ x)))
+answer-cases true a c x u = (
+  λ e. let z = same_Some _ _ (sym e) in (refl, (ap (λ (y : Visited). y.count) z, ap (λ (y : Visited). y.unfinished) z)),
+  λ h. cc,
+)
 answer-cases false a c x u = (λ e. let z : ◌≡◌ {A = ℕ} 0 1 = cc in absurd (omega arith), λ h. absurd (false≢true h.0))
 
-pub walk-iff : (v : View) (c : ℕ) (u : Unfinished) → (walk v ≡ Visited c u) ↔ Passed v c u
+pub walk-iff : (v : View) (c : ℕ) (u : Unfinished) → (walk v ≡ tally c u) ↔ Passed v c u
 walk-iff v c u = (
   λ e. let h = (answer-cases (in_order v) (length (reached v)) c (unfinished v) u).0 (sym (walk-answer v) ∙ e) in
       let o = (in-order-iff v).0 h.0 in
@@ -262,8 +266,8 @@ walk-iff v c u = (
 
 -- what is left to judge after the walk: the recording numbers and the leftover
 abbrev pub judged : View → Tally → Bool
-judged v Unsound = false
-judged v (Visited c u) = recordings_ok (mapping v) && is_allowed v (leftover_of u)
+judged v None = false
+judged v (Some s) = recordings_ok (mapping v) && is_allowed v (leftover_of s.unfinished)
 
 pub sound-walk : (v : View) → sound_view v ≡ judged v (walk v)
 unfolding sound_view orderly leftover

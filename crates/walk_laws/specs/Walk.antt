@@ -1,12 +1,11 @@
 -- Document 01's check, "Checking a node checks its slots and checking a slot checks the node below it", as a fold over visits.
-use Rattle.std.specs.Prelude.{Bool, true, false, ◌&&◌, List, [], ◌∷◌, ℕ, zero, suc, leb, ltb, eqb}
+use Rattle.std.specs.Prelude.{Bool, true, false, ◌&&◌, Option, None, Some, List, [], ◌∷◌, ℕ, zero, suc, leb, ltb, eqb}
 use Rattle.model.specs.declared.Unfinished.{Unfinished}
 use Rattle.model.specs.Table.{in_range}
 use Rattle.model.specs.Slots.{Slot, slot, View, height}
 use Rattle.model.specs.Reached.{head_or, pointers, kept, next_child}
 use Rattle.model.specs.SoundTest.{sibling_ok, keys_ok, leaf_ok, finished, together, missing_at, own}
-use Rattle.model.specs.declared.Tally.{Tally}
-use Rattle.model.specs.declared.Tally.TheVariants.{Unsound, Visited}
+use Rattle.model.specs.declared.Visited.{Visited}
 
 -- a visit: a node, where it must stand and what its sibling must be, and what is found unfinished on the way to it
 pub record Visit : Type 0 where
@@ -50,11 +49,18 @@ ways v n = slot (v.node n).fence (v.node n).left ∷ kept v n
 unfoldable pub visits_below : View → ℕ → ℕ → List Visit
 visits_below v d n = visits_of v n d (ways v n) (next_child v n)
 
+-- what the visits so far come to: None if one was refused
+abbrev pub Tally : Type 0
+Tally = Option Visited
+
+abbrev pub tally : ℕ → Unfinished → Tally
+tally c u = Some (record { count = c; unfinished = u })
+
 -- one visit more; with N nodes visited there is no further one
 unfoldable pub visit : View → Visit → Tally → Tally
-visit v x Unsound = Unsound
-visit v x (Visited c u) =
-    elim (fits v x && ltb c v.nodes) [ true ↦ Visited (suc c) (together u (together x.way (own v x.node))) | false ↦ Unsound ]
+visit v x None = None
+visit v x (Some s) =
+    elim (fits v x && ltb s.count v.nodes) [ true ↦ tally (suc s.count) (together s.unfinished (together x.way (own v x.node))) | false ↦ None ]
 
 abbrev pub fold {ℓ} : {A : Type ℓ} → (A → Tally → Tally) → List A → Tally → Tally
 fold g [] s = s
@@ -71,4 +77,4 @@ root_visit v = record { node = v.root; level = height v; fence = 0; right = 0; w
 
 -- the whole check but for the recording numbers and the leftover
 unfoldable pub walk : View → Tally
-walk v = elim (leb (height v) 15) [ true ↦ check v (height v) (root_visit v) (Visited 0 finished) | false ↦ Unsound ]
+walk v = elim (leb (height v) 15) [ true ↦ check v (height v) (root_visit v) (tally 0 finished) | false ↦ None ]

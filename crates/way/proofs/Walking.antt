@@ -7,6 +7,7 @@ use Prim.Native.Nat.{ℕ, zero, suc, ◌+◌, ◌-◌, ◌≤◌, ◌<◌}
 use native.Mathlib.Numerals.{add-one}
 use native.Mathlib.Omega.{arith}
 use lib.Dec.{eqb, leb}
+use Rattle.std.specs.Prelude.{Option, Some, None}
 use lib.ListN.{length, get_or, take, set, replicate, length-set}
 use lib.Seq.{take-suc-set, get_or-take}
 use borrow.Author.Tests.{eq-eqb, ne_eqb, le-leb, lt-leb, leb-true, leb-false}
@@ -32,7 +33,7 @@ use Rattle.model.specs.Marks.{has}
 use Rattle.model.specs.Summary.{fit_node, is_there, way_ok}
 use Rattle.way.specs.declared.Step.{Step}
 use Rattle.way.specs.declared.Way.{Way}
-use Rattle.way.specs.Ways.{plain_count, shown_fit, step_to, no_step, step_ok, step_of, run_after, lost_way, ok_from, Walked, Along}
+use Rattle.way.specs.Ways.{plain_count, shown_fit, step_to, step_ok, step_of, run_after, ok_from, Walked, Along}
 
 -- ---- a fit node, from the record that the code has read: x is node m
 
@@ -94,25 +95,25 @@ seen-level v k n l m s e q = rw q at e
 -- ---- one level: coming to n, the search stands on m
 
 module _ (ms : Words) (v : View) (l n k : ℕ) where
-  pub step-lost : passes v l n ≡ false → no_step ≡ step_of ms v l n k
+  pub step-lost : passes v l n ≡ false → None ≡ step_of ms v l n k
   unfolding step_of step_ok
   step-lost e = rw e
 
-  step-off : (passes v l n && fit_node ms v (moved v n k)) ≡ false → no_step ≡ step_of ms v l n k
+  step-off : (passes v l n && fit_node ms v (moved v n k)) ≡ false → None ≡ step_of ms v l n k
   unfolding step_of step_ok
   step-off e = rw e
 
-  step-on : passes v l n ≡ true → fit_node ms v (moved v n k) ≡ true → step_to v k (moved v n k) ≡ step_of ms v l n k
+  step-on : passes v l n ≡ true → fit_node ms v (moved v n k) ≡ true → Some (step_to v k (moved v n k)) ≡ step_of ms v l n k
   unfolding step_of step_ok
   step-on e f = rw (e, f)
 
   -- s is what the search sees there
   module _ (s : Stood) (e : s ≡ seen_in v k (stand_on v l n k)) where
-    pub step-nowhere : s.node ≡ 0 → no_step ≡ step_of ms v l n k
+    pub step-nowhere : s.node ≡ 0 → None ≡ step_of ms v l n k
     unfolding stand_on
     step-nowhere z = go (passes v l n) refl (ap (λ (x : Stood). x.node) e)
       where
-        go : (b : Bool) → passes v l n ≡ b → s.node ≡ (seen_in v k (cond b (some (moved v n k)) none)).node → no_step ≡ step_of ms v l n k
+        go : (b : Bool) → passes v l n ≡ b → s.node ≡ (seen_in v k (cond b (some (moved v n k)) none)).node → None ≡ step_of ms v l n k
         go true p q = absurd (some-level v l (moved v n k) (on-moved v l n k p) (sym q ∙ z))
         go false p q = step-lost p
 
@@ -143,22 +144,22 @@ module _ (ms : Words) (v : View) (l n k : ℕ) where
       unfolding shown_fit
       fit = f ∙ ap (shown_fit ms v) on
 
-      pub step-unfit : c ≡ 12 → no_step ≡ step_of ms v l n k
+      pub step-unfit : c ≡ 12 → None ≡ step_of ms v l n k
       step-unfit q = go (fit_node ms v (moved v n k)) refl fit
         where
-          go : (b : Bool) → fit_node ms v (moved v n k) ≡ b → c ≡ cond b (length (v.node (moved v n k)).shown) 12 → no_step ≡ step_of ms v l n k
+          go : (b : Bool) → fit_node ms v (moved v n k) ≡ b → c ≡ cond b (length (v.node (moved v n k)).shown) 12 → None ≡ step_of ms v l n k
           go true g w = absurd (omega (arith, fit-few ms v (moved v n k) g, w, q))
           go false g w = step-off (ap (λ (b : Bool). passes v l n && b) g ∙ and-false (passes v l n))
 
-      pub step-fit : (c ≡ 12 → ⊥) → record { node = s.node; way = s.way; shown = c } ≡ step_of ms v l n k
+      pub step-fit : (c ≡ 12 → ⊥) → Some (record { node = s.node; way = s.way; shown = c }) ≡ step_of ms v l n k
       step-fit q = go (fit_node ms v (moved v n k)) refl fit
         where
           go : (b : Bool) → fit_node ms v (moved v n k) ≡ b → c ≡ cond b (length (v.node (moved v n k)).shown) 12
-              → record { node = s.node; way = s.way; shown = c } ≡ step_of ms v l n k
+              → Some (record { node = s.node; way = s.way; shown = c }) ≡ step_of ms v l n k
           go true g w =
               let u = stood-on z in
-              ap (λ (x : Stood). record { node = x.node; way = x.way; shown = c }) u.1
-              ∙ ap (λ (x : ℕ). record { node = moved v n k; way = down v (moved v n k) k; shown = x }) w ∙ step-on u.0 g
+              ap (λ (x : Stood). Some (record { node = x.node; way = x.way; shown = c })) u.1
+              ∙ ap (λ (x : ℕ). Some (record { node = moved v n k; way = down v (moved v n k) k; shown = x })) w ∙ step-on u.0 g
           go false g w = absurd (q w)
 
 -- ---- from one level to the next
@@ -202,10 +203,10 @@ module _ (ms t : Words) (root k top : ℕ) (e : top ≡ word_of t root 2) where
   high : top ≡ height (view_from t root)
   high = e ∙ word-level t root
 
-  pub lost-high : 15 < top → Walked ms (view_from t root) k lost_way
+  pub lost-high : 15 < top → Walked ms (view_from t root) k None
   unfolding way_ok
   lost-high h = let w = lt-leb (height (view_from t root)) 15 (omega (arith, high)) in
-      record { tests = rw w; top = λ q. absurd (false≢true q); stands = λ q. absurd (false≢true q); full = λ q. absurd (false≢true q) }
+      record { tests = rw w; goes = λ y q. cc }
 
   pub walking-start : top ≤ 15 → Walking ms t root k top top 0 0 root (replicate 16 0)
   unfolding way_ok
@@ -246,21 +247,21 @@ module _ (ms : Words) (v : View) (n k : ℕ) where
   unfolding step_ok
   step-passes l f = ((and-iff (passes v l n) (fit_node ms v (moved v n k))).0 f).0
 
-  step-none : (l : ℕ) (s : Step) → s ≡ step_of ms v l n k → s.node ≡ 0 → step_ok ms v l n k ≡ false
+  step-none : (l : ℕ) → step_of ms v l n k ≡ None → step_ok ms v l n k ≡ false
   unfolding step_of
-  step-none l s e z = go (step_ok ms v l n k) refl (ap (λ (x : Step). x.node) e)
+  step-none l e = go (step_ok ms v l n k) refl
     where
-      go : (b : Bool) → step_ok ms v l n k ≡ b → s.node ≡ (cond (step_ok ms v l n k) (step_to v k (moved v n k)) no_step).node → step_ok ms v l n k ≡ false
-      go true f q = absurd (some-level v l (moved v n k) (on-moved v l n k (step-passes l f)) (sym (rw f at q) ∙ z))
-      go false f q = f
+      go : (b : Bool) → step_ok ms v l n k ≡ b → step_ok ms v l n k ≡ false
+      go true f = let z : Some (step_to v k (moved v n k)) ≡ None = rw f at e in cc
+      go false f = f
 
-  step-some : (l : ℕ) (s : Step) → s ≡ step_of ms v l n k → (s.node ≡ 0 → ⊥) → (step_ok ms v l n k ≡ true) × (s ≡ step_to v k (moved v n k))
+  step-some : (l : ℕ) (s : Step) → step_of ms v l n k ≡ Some s → (step_ok ms v l n k ≡ true) × (s ≡ step_to v k (moved v n k))
   unfolding step_of
-  step-some l s e z = go (step_ok ms v l n k) refl e
+  step-some l s e = go (step_ok ms v l n k) refl
     where
-      go : (b : Bool) → step_ok ms v l n k ≡ b → s ≡ cond b (step_to v k (moved v n k)) no_step → (step_ok ms v l n k ≡ true) × (s ≡ step_to v k (moved v n k))
-      go true f q = (f, q)
-      go false f q = absurd (z (ap (λ (x : Step). x.node) q))
+      go : (b : Bool) → step_ok ms v l n k ≡ b → (step_ok ms v l n k ≡ true) × (s ≡ step_to v k (moved v n k))
+      go true f = let z : Some (step_to v k (moved v n k)) ≡ Some s = rw f at e in (f, cc)
+      go false f = let z : None ≡ Some s = rw f at e in cc
 
 after-short : (run shown : ℕ) → run_after run shown ≤ run + 1
 after-short run shown = go (eqb shown 11)
@@ -269,21 +270,21 @@ after-short run shown = go (eqb shown 11)
     go true = omega arith
     go false = omega arith
 
--- ---- a turn: s is the step at n
+-- ---- a turn: r is the step at n
 
-module _ (ms t : Words) (root k top level run i n : ℕ) (ns : Words) (w : Walking ms t root k top level run i n ns) (s : Step) (e : s ≡ step_of ms (view t) level n k) where
-  step-is : s ≡ step_of ms (view_from t root) level n k
+module _ (ms t : Words) (root k top level run i n : ℕ) (ns : Words) (w : Walking ms t root k top level run i n ns) (r : Option Step) (e : r ≡ step_of ms (view t) level n k) where
+  step-is : r ≡ step_of ms (view_from t root) level n k
   unfolding step_of step_ok passes on_level fit_node moved below
   step-is = e
 
-  pub lost-step : s.node ≡ 0 → Walked ms (view_from t root) k lost_way
+  pub lost-step : r ≡ None → Walked ms (view_from t root) k None
   lost-step z =
-      let f = ok-not ms (view_from t root) n k level (step-none ms (view_from t root) n k level s step-is z) in
-      record { tests = sym (sym w.tests ∙ f); top = λ q. absurd (false≢true q); stands = λ q. absurd (false≢true q); full = λ q. absurd (false≢true q) }
+      let f = ok-not ms (view_from t root) n k level (step-none ms (view_from t root) n k level (sym step-is ∙ z)) in
+      record { tests = sym (sym w.tests ∙ f); goes = λ y q. cc }
 
-  module _ (z : s.node ≡ 0 → ⊥) where
+  module _ (s : Step) (z : r ≡ Some s) where
     here : (step_ok ms (view_from t root) level n k ≡ true) × (s ≡ step_to (view_from t root) k (moved (view_from t root) n k))
-    here = step-some ms (view_from t root) n k level s step-is z
+    here = step-some ms (view_from t root) n k level s (sym step-is ∙ z)
 
     stands-on : s.node ≡ moved (view_from t root) n k
     stands-on = ap (λ (x : Step). x.node) here.1
@@ -296,8 +297,8 @@ module _ (ms t : Words) (root k top level run i n : ℕ) (ns : Words) (w : Walki
     one-more : take (suc i) (set ns i s.node) ≡ take i ns ++ (moved (view_from t root) n k ∷ [])
     one-more = take-suc-set ns i s.node (omega (arith, w.sum, w.low, w.long)) ∙ ap (λ (x : ℕ). take i ns ++ (x ∷ [])) stands-on
 
-    pub walking-next : (level ≡ 0 → ⊥) → Walking ms t root k top (level - 1) (run_after run s.shown) (i + 1) s.way (set ns i s.node)
-    walking-next h =
+    lower-turn : (level ≡ 0 → ⊥) → Walking ms t root k top (level - 1) (run_after run s.shown) (i + 1) s.way (set ns i s.node)
+    lower-turn h =
         let v = view_from t root in
         let m = moved v n k in
         let p : 0 < level = omega (arith, h) in
@@ -314,38 +315,43 @@ module _ (ms t : Words) (root k top level run i n : ℕ) (ns : Words) (w : Walki
           run-on = run-lower (full_at v) v n k s.node run _ stands-on counted level _ p (q ∙ ap (λ (x : ℕ). down v x k) (sym stands-on)) ∙ w.run-on;
         }
 
-    pub walked-end : level ≡ 0 → Walked ms (view_from t root) k (record { ok = true; height = top; run = run_after run s.shown; nodes = set ns i s.node })
+    pub walking-next : (level ≡ 0 → ⊥) → (lower : ℕ) → lower ≡ level - 1 → Walking ms t root k top lower (run_after run s.shown) (i + 1) s.way (set ns i s.node)
+    walking-next h lower d = rw d (lower-turn h)
+
+    pub walked-end : level ≡ 0 → Walked ms (view_from t root) k (Some (record { height = top; run = run_after run s.shown; nodes = set ns i s.node }))
     walked-end h =
         let v = view_from t root in
         let at-end : height v ≡ i = omega (arith, w.top-is, w.sum, h) in
         record {
           tests = sym (sym w.tests ∙ ap (λ (l : ℕ). ok_from ms v l n k) h ∙ ok-leaf ms v n k ∙ ap (λ (l : ℕ). step_ok ms v l n k) (sym h) ∙ here.0);
-          top = λ o. w.top-is;
-          stands = λ o. ap (λ (l : ℕ). take (suc l) (set ns i s.node)) at-end ∙ one-more ∙ ap (λ (x : List ℕ). take i ns ++ x) (sym (path-leaf ms v n k level h)) ∙ w.stands;
-          full = λ o. run-last (full_at v) v n k s.node run _ stands-on counted level (omega (arith, h)) ∙ w.run-on;
+          goes = λ y q. let same : y ≡ record { height = top; run = run_after run s.shown; nodes = set ns i s.node } = cc in rw same (record {
+            top = w.top-is;
+            stands = ap (λ (l : ℕ). take (suc l) (set ns i s.node)) at-end ∙ one-more ∙ ap (λ (x : List ℕ). take i ns ++ x) (sym (path-leaf ms v n k level h)) ∙ w.stands;
+            full = run-last (full_at v) v n k s.node run _ stands-on counted level (omega (arith, h)) ∙ w.run-on;
+          });
         }
 
 -- ---- a way along which every test passed
 
-module _ {n : ℕ} {ms t : Words} {k : ℕ} {r : Way} (a : Along n ms t k r) where
+module _ {n : ℕ} {ms t : Words} {k : ℕ} {w : Way} (a : Along n ms t k w) where
   pub along-ok : way_ok ms (view_of n t) k ≡ true
-  along-ok = sym a.walked.tests ∙ a.ok
+  along-ok = sym a.walked.tests
 
-  pub along-height : r.height ≡ height (view_of n t)
-  along-height = a.walked.top a.ok
+  pub along-height : w.height ≡ height (view_of n t)
+  along-height = (a.walked.goes w refl).top
 
-  pub along-low : r.height ≤ 15
+  pub along-low : w.height ≤ 15
   unfolding way_ok
   along-low = omega (arith, along-height, leb-true (height (view_of n t)) 15 ((and-iff (leb (height (view_of n t)) 15) _).0 along-ok).0)
 
-  pub along-path : take (suc r.height) r.nodes ≡ path (view_of n t) k
-  along-path = ap (λ (l : ℕ). take (suc l) r.nodes) along-height ∙ a.walked.stands a.ok
+  pub along-path : take (suc w.height) w.nodes ≡ path (view_of n t) k
+  along-path = ap (λ (l : ℕ). take (suc l) w.nodes) along-height ∙ (a.walked.goes w refl).stands
 
-  pub along-run : r.run ≡ run n t k
-  along-run = a.walked.full a.ok
+  pub along-run : w.run ≡ run n t k
+  along-run = (a.walked.goes w refl).full
 
-  pub along-on : (l x : ℕ) → x ≡ get_or r.nodes (r.height - l) 0 → x ≡ standing n t l k
+  pub along-on : (l x : ℕ) → x ≡ get_or w.nodes (w.height - l) 0 → x ≡ standing n t l k
   unfolding standing_in
   along-on l x e =
-      e ∙ sym (get_or-take (suc r.height) r.nodes (r.height - l) 0 (omega arith)) ∙ ap (λ (ns : List ℕ). get_or ns (r.height - l) 0) along-path
+      e ∙ sym (get_or-take (suc w.height) w.nodes (w.height - l) 0 (omega arith)) ∙ ap (λ (ns : List ℕ). get_or ns (w.height - l) 0) along-path
       ∙ ap (λ (h : ℕ). get_or (path (view_of n t) k) (h - l) 0) along-height

@@ -1,12 +1,12 @@
 // The way of a quick call: from a root down to the leaf for a key, by the tests of a search and of the summary. Nothing is written.
 #![tactic(auto)]
 
-ghost use Rattle.std.specs.Prelude.{◌≡◌, true, false, ◌-◌, ◌*◌, ◌<◌, ◌≤◌, length, get_or};
+ghost use Rattle.std.specs.Prelude.{◌≡◌, true, ◌-◌, ◌*◌, ◌<◌, ◌≤◌, length, get_or};
 ghost use Rattle.model.specs.Table.{header_ok, nodes};
 ghost use Rattle.model.specs.Slots.{view_from, view};
-ghost use Rattle.way.specs.Ways.{plain_count, shown_fit, step_of, run_after, lost_way, Walked};
+ghost use Rattle.way.specs.Ways.{plain_count, shown_fit, step_of, run_after, Walked};
 
-// A node on the way: its number, the way down from it, and how many slots it shows; node 0 if a test fails.
+// A node on the way: its number, the way down from it, and how many slots it shows.
 #[derive(Clone, Copy)]
 struct Step {
     node: u64,
@@ -17,7 +17,6 @@ struct Step {
 // The nodes that a search stands on, from the root's level down, and the length of the run of full nodes that ends them.
 #[derive(Clone, Copy)]
 pub struct Way {
-    pub ok: bool,
     pub height: u64,
     pub run: u64,
     pub nodes: [u64; 16],
@@ -50,37 +49,32 @@ fn shown_fit(table: &[u64], marks: &[u64], m: u64) -> u64
     plain_count(table, m)
 }
 
-// Coming to node n on a level: the node that the search stands on there, n or its sibling.
-fn take_step(table: &[u64], marks: &[u64], n: u64, level: u64, key: u64) -> Step
+// Coming to node n on a level: the node that the search stands on there, n or its sibling, if every test passes.
+fn take_step(table: &[u64], marks: &[u64], n: u64, level: u64, key: u64) -> Option<Step>
     requires table_value { header_ok table.now ≡ true }
     requires table_bound { nodes table.now < 64 * length marks.now }
     ensures { result ≡ step_of marks.now (view table.now) level n key }
 {
-    let lost = Step {
-        node: 0,
-        way: 0,
-        shown: 0,
-    };
     if !node::has(table, n) {
-        return lost;
+        return None;
     }
     let x = node::read(table, n);
     if x.level != level {
-        return lost;
+        return None;
     }
     let s = search::stand(table, n, x, key);
     if s.node == 0 {
-        return lost;
+        return None;
     }
     let shown = shown_fit(table, marks, s.node);
     if shown == 12 {
-        return lost;
+        return None;
     }
-    Step {
+    Some(Step {
         node: s.node,
         way: s.way,
-        shown: shown,
-    }
+        shown,
+    })
 }
 
 // The length of the run of full nodes after one that shows so many slots.
@@ -88,57 +82,33 @@ fn run_after(run: u64, shown: u64) -> u64
     requires { run ≤ 15 }
     ensures { result ≡ run_after run shown }
 {
-    if shown == 11 {
-        return run + 1;
-    }
-    0
+    if shown == 11 { run + 1 } else { 0 }
 }
 
-fn lost() -> Way
-    ensures { result ≡ lost_way }
-{
-    Way {
-        ok: false,
-        height: 0,
-        run: 0,
-        nodes: [0u64; 16],
-    }
-}
-
-// The way to the leaf for a key, a level a turn.
-pub fn find(table: &[u64], marks: &[u64], root: u64, key: u64) -> Way
+// The way to the leaf for a key, a level a turn, if every test passes.
+pub fn find(table: &[u64], marks: &[u64], root: u64, key: u64) -> Option<Way>
     requires table_value { header_ok table.now ≡ true }
     requires table_bound { nodes table.now < 64 * length marks.now }
     ensures { Walked marks.now (view_from table.now root) key result }
 {
     let top = node::word(table, root, 2);
     if 15 < top {
-        return lost();
+        return None;
     }
     let mut nodes = [0u64; 16];
     let mut n = root;
-    let mut level = top;
     let mut run = 0;
-    let mut i = 0;
-    loop {
-        let s = take_step(table, marks, n, level, key);
-        if s.node == 0 {
-            return lost();
-        }
-        nodes[i] = s.node;
+    for i in 0..=top {
+        let s = take_step(table, marks, n, top - i, key)?;
+        nodes[i as usize] = s.node;
         run = run_after(run, s.shown);
-        if level == 0 {
-            return Way {
-                ok: true,
-                height: top,
-                run: run,
-                nodes: nodes,
-            };
-        }
         n = s.way;
-        level -= 1;
-        i += 1;
     }
+    Some(Way {
+        height: top,
+        run,
+        nodes,
+    })
 }
 
 // The node of the way on a level; a level above the root's gives the root's.
@@ -146,9 +116,5 @@ pub fn on_level(way: Way, level: u64) -> u64
     requires { way.height ≤ 15 }
     ensures { result ≡ get_or way.nodes (way.height - level) 0 }
 {
-    let nodes = way.nodes;
-    if way.height <= level {
-        return nodes[0];
-    }
-    nodes[(way.height - level) as usize]
+    way.nodes[way.height.saturating_sub(level) as usize]
 }

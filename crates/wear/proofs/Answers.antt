@@ -1,19 +1,24 @@
 -- What the call answers and leaves, from the tests in their order.
 use mathlib.Core.Path.{◌≡◌, refl, ap, sym, ◌∙◌}
 use mathlib.Core.Bool.{Bool, true, false, ◌||◌, or-false}
+use mathlib.Core.Logic.{◌≢◌}
 use mathlib.Core.List.{List, ◌++◌}
-use Prim.Native.Nat.{ℕ, suc, ◌+◌, ◌*◌, ◌/◌, ◌≤◌, ◌<◌}
+use Prim.Native.Nat.{ℕ, zero, suc, ◌+◌, ◌*◌, ◌/◌, ◌≤◌, ◌<◌}
 use native.Mathlib.Nat.{sub-zero}
 use native.Mathlib.Omega.{arith}
 use lib.ListN.{length, take, drop, replicate}
 use lib.Seq.{take_at}
 use borrow.Author.Tests.{le-leb, lt-ltb, le-ltb}
-use Rattle.model.specs.declared.Worn.{Worn}
-use Rattle.model.specs.declared.Worn.TheVariants.{Figures, Refused}
+use Rattle.std.specs.Prelude.{Err}
+use Rattle.model.specs.declared.Refusal.{Refusal}
+use Rattle.model.specs.declared.Refusal.TheVariants.{BadOrders, ShortFigures}
+use Rattle.model.specs.Numbers.{refusal_number}
+use Rattle.model.specs.Results.{Worn, refused_with, worn_with}
 use Rattle.model.specs.Table.{Words, header_ok, header_number, nodes}
 use Rattle.model.specs.SoundTest.{elem}
 use Rattle.model.specs.Orders.{Order, decode, all_inside, store_count, carry_number}
 use Rattle.model.specs.Wear.{stored_to, wear_of, largest, first_at, extents_of, extent_words, wear_number, figures, worn, lines_after, pairs_after}
+use Rattle.model.proofs.Numbers.{refused-by}
 use Rattle.list_laws.proofs.Tools.{Each, Each-map}
 use Rattle.table_laws.proofs.Header.{header-iff, header-number-iff, header-number-refused}
 use Rattle.carry.specs.Firsts.{firsts}
@@ -28,9 +33,16 @@ abbrev pub Answers : (list lines pairs t : Words) (r : Worn) (l p : Words) → T
 Answers list lines pairs t r l p =
     (r ≡ worn list (length lines) (length pairs) t) × ((l ≡ lines_after list lines pairs t) × (p ≡ pairs_after list lines pairs t))
 
-refused : (list lines pairs t : Words) (n : ℕ) → wear_number list (length lines) (length pairs) t ≡ suc n → Answers list lines pairs t (Refused (suc n)) lines pairs
+refused : (list lines pairs t : Words) (n : ℕ) → wear_number list (length lines) (length pairs) t ≡ n → n ≢ 0 → Answers list lines pairs t (refused_with n) lines pairs
 unfolding worn lines_after pairs_after
-refused list lines pairs t n e = rw e (refl, (refl, refl))
+refused list lines pairs t zero e z = absurd (z refl)
+refused list lines pairs t (suc n) e z = rw e (refl, (refl, refl))
+
+refuses : (r : Refusal) (list lines pairs t : Words) → wear_number list (length lines) (length pairs) t ≡ refusal_number r → refusal_number r ≢ 0
+    → Answers list lines pairs t (Err r) lines pairs
+refuses r list lines pairs t e z =
+    let all = refused list lines pairs t (refusal_number r) e z in
+    (sym (refused-by r) ∙ all.0, all.1)
 
 -- the lines counted, seen as the first part of the slice that they were written into
 module _ (l past : Words) (k : ℕ) (h : length l ≡ k) where
@@ -48,21 +60,21 @@ pub record Inside (list t : Words) : Type 0 where
   pub header : header_ok t ≡ true
   pub orders : all_inside (length t) (decode list) ≡ true
 
-module _ (list t : Words) (n : ℕ) (e : n ≡ header_number t) where
-  pub no-header : (n ≡ 0 → ⊥) → (lines pairs : Words) → Answers list lines pairs t (Refused 2) lines pairs
-  unfolding wear_number carry_number
-  no-header z lines pairs = let h : header_ok t ≡ false = header-number-refused t (λ y. z (e ∙ y)) in refused list lines pairs t 1 (rw h)
+module _ (list t : Words) where
+  pub no-header : header_number t ≢ 0 → (lines pairs : Words) → Answers list lines pairs t (refused_with (header_number t)) lines pairs
+  unfolding header_number wear_number carry_number
+  no-header z lines pairs = let h : header_ok t ≡ false = header-number-refused t z in refused list lines pairs t (header_number t) (rw h) z
 
-  module _ (z : n ≡ 0) (r : Bool) (q : r ≡ all_inside (length t) (firsts (length list / 2) list 0)) where
+  module _ (z : header_number t ≡ 0) (r : Bool) (q : r ≡ all_inside (length t) (firsts (length list / 2) list 0)) where
     ok : header_ok t ≡ true
-    ok = (header-number-iff t).0 (sym e ∙ z)
+    ok = (header-number-iff t).0 z
 
     same : r ≡ all_inside (length t) (take (length list / 2) (decode list))
     same = q ∙ rw sub-zero
 
-    pub outside : r ≡ false → (lines pairs : Words) → Answers list lines pairs t (Refused 13) lines pairs
+    pub outside : r ≡ false → (lines pairs : Words) → Answers list lines pairs t (Err BadOrders) lines pairs
     unfolding wear_number carry_number
-    outside f lines pairs = refused list lines pairs t 12 (rw (ok, le-leb (length list / 2) (length list / 2) (omega arith), sym same ∙ f))
+    outside f lines pairs = refuses BadOrders list lines pairs t (rw (ok, le-leb (length list / 2) (length list / 2) (omega arith), sym same ∙ f)) (λ y. omega arith)
 
     pub all-inside : r ≡ true → Inside list t
     all-inside f = record { header = ok; orders = ap (all_inside (length t)) (sym (all-orders list)) ∙ sym same ∙ f }
@@ -97,9 +109,9 @@ module _ (list t : Words) (i : Inside list t) where
   whole : 8 * (length t / 8) ≡ length t
   whole = omega (arith, size)
 
-  pub few-lines : (lines pairs : Words) → length lines < length t / 8 → Answers list lines pairs t (Refused 24) lines pairs
+  pub few-lines : (lines pairs : Words) → length lines < length t / 8 → Answers list lines pairs t (Err ShortFigures) lines pairs
   unfolding wear_number
-  few-lines lines pairs h = refused list lines pairs t 23 (rw (carried, lt-ltb (length lines) (length t / 8) h))
+  few-lines lines pairs h = refuses ShortFigures list lines pairs t (rw (carried, lt-ltb (length lines) (length t / 8) h)) (λ y. omega arith)
 
   module _ (marks : Words) (m : (w : ℕ) → has marks w ≡ elem w (stored_to os) || has (replicate 32768 0) w) (k : ℕ) (count : k ≡ length (extents_in (has marks) 0 (length t))) where
     extents : extents_in (has marks) 0 (length t) ≡ extents_of (length t) os
@@ -113,9 +125,9 @@ module _ (list t : Words) (i : Inside list t) where
     needed = omega (arith, count, ap length extents)
 
     module _ (lines pairs : Words) (enough : length t / 8 ≤ length lines) where
-      pub few-pairs : length pairs < 2 * k → Answers list lines pairs t (Refused 24) lines pairs
+      pub few-pairs : length pairs < 2 * k → Answers list lines pairs t (Err ShortFigures) lines pairs
       unfolding wear_number
-      few-pairs h = refused list lines pairs t 23 (rw (carried, le-ltb (length lines) (length t / 8) enough, needed, lt-ltb (length pairs) (2 * k) h))
+      few-pairs h = refuses ShortFigures list lines pairs t (rw (carried, le-ltb (length lines) (length t / 8) enough, needed, lt-ltb (length pairs) (2 * k) h)) (λ y. omega arith)
 
       module _ (room : 2 * k ≤ length pairs) where
         accepted : wear_number list (length lines) (length pairs) t ≡ 0
@@ -124,7 +136,7 @@ module _ (list t : Words) (i : Inside list t) where
 
         pub done : (total most first : ℕ) (l p : Words) → total ≡ store_count os → l ≡ wear_of (8 * (length t / 8)) os
             → (most ≡ largest l) × (first ≡ first_at (largest l) l) → p ≡ extent_words (extents_in (has marks) 0 (length t))
-            → Answers list lines pairs t (Figures total most first k) (l ++ drop (length t / 8) lines) (p ++ drop (2 * k) pairs)
+            → Answers list lines pairs t (worn_with total most first k) (l ++ drop (length t / 8) lines) (p ++ drop (2 * k) pairs)
         unfolding worn lines_after pairs_after figures
         done total most first l p a b c e =
             let n : k ≡ length (extents_of (length t) os) = count ∙ ap length extents in

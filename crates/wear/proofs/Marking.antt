@@ -2,8 +2,8 @@
 use mathlib.Core.Path.{◌≡◌, ap, sym, ◌∙◌}
 use mathlib.Core.Logic.{⊎_elim}
 use mathlib.Core.Bool.{Bool, true, false, not, ◌||◌, or_assoc, or_comm, or-false}
-use mathlib.Core.List.{List, [], ◌∷◌}
-use Prim.Native.Nat.{ℕ, ◌+◌, ◌*◌, ◌/◌, ◌≤◌, ◌<◌}
+use mathlib.Core.List.{List, [], ◌∷◌, ◌++◌}
+use Prim.Native.Nat.{ℕ, ◌*◌, ◌<◌}
 use lib.Dec.{eqb}
 use lib.ListN.{length}
 use borrow.Author.Tests.{eq-eqb, ne_eqb, not-true, not-false}
@@ -15,7 +15,7 @@ use Rattle.list_laws.proofs.Tools.{Each, same-or-not}
 use Rattle.bits.specs.Bits.{has, put}
 use Rattle.bits.proofs.Marks.{has-put-same, has-put-other}
 use Rattle.wear.specs.Counting.{is_store}
-use Rattle.wear.proofs.Turns.{stored-one, stored-none, elem-order, rest, rest-next, rest-end}
+use Rattle.wear.proofs.Turns.{stored-one, stored-none, elem-order, next-order, no-order}
 
 -- what is marked after w is marked
 has-put : (marks : Words) (x : ℕ) → x < 64 * length marks → (w : ℕ) → has (put marks x) w ≡ eqb w x || has marks w
@@ -41,23 +41,22 @@ module _ (a b : ℕ) (r : Bool) (e : r ≡ is_store (order_of a b)) where
 
 -- ---- one turn
 
--- the orders from order i on mark what all of them mark
-abbrev pub Marking : (list marks₀ : Words) (i : ℕ) (marks : Words) → Type 0
-Marking list marks₀ i marks = (w : ℕ) → elem w (stored_to (rest list i)) || has marks w ≡ elem w (stored_to (decode list)) || has marks₀ w
+-- the orders of the words left mark what all of them mark
+abbrev pub Marking : (list marks₀ ws marks : Words) → Type 0
+Marking list marks₀ ws marks = (w : ℕ) → elem w (stored_to (decode ws)) || has marks w ≡ elem w (stored_to (decode list)) || has marks₀ w
 
-module _ (list marks₀ : Words) (i : ℕ) (marks : Words) (e : Marking list marks₀ i marks) where
-  pub marking-next : i < length list / 2 → (new : Words)
-      → ((w : ℕ) → has new w ≡ elem w (stored_to (order_of (at list (2 * i)) (at list (2 * i + 1)) ∷ [])) || has marks w) → Marking list marks₀ (i + 1) new
-  marking-next h new q w =
-      let o = order_of (at list (2 * i)) (at list (2 * i + 1)) in
-      let left = rest list (i + 1) in
+module _ (list marks₀ ws marks : Words) (e : Marking list marks₀ ws marks) where
+  pub marking-next : (pair after : Words) → ws ≡ pair ++ after → length pair ≡ 2 → (new : Words)
+      → ((w : ℕ) → has new w ≡ elem w (stored_to (order_of (at pair 0) (at pair 1) ∷ [])) || has marks w) → Marking list marks₀ after new
+  marking-next pair after p two new q w =
+      let o = order_of (at pair 0) (at pair 1) in
       rw (q w)
-      (swap (elem w (stored_to left)) (elem w (stored_to (o ∷ []))) (has marks w)
-      ∙ sym (ap (λ (b : Bool). b || has marks w) (ap (λ (os : List Order). elem w (stored_to os)) (rest-next list i h) ∙ elem-order w o left)) ∙ e w)
+      (swap (elem w (stored_to (decode after))) (elem w (stored_to (o ∷ []))) (has marks w)
+      ∙ sym (ap (λ (b : Bool). b || has marks w) (ap (λ (os : List Order). elem w (stored_to os)) (next-order ws pair after p two) ∙ elem-order w o (decode after))) ∙ e w)
     where
       swap : (a b c : Bool) → a || (b || c) ≡ (b || a) || c
       swap a b c = sym (or_assoc a b c) ∙ ap (λ (x : Bool). x || c) (or_comm a b)
 
-  pub marking-end : length list / 2 ≤ i → (w : ℕ) → has marks w ≡ elem w (stored_to (decode list)) || has marks₀ w
+  pub marking-end : length ws < 2 → (w : ℕ) → has marks w ≡ elem w (stored_to (decode list)) || has marks₀ w
   unfolding elem stored_to
-  marking-end h w = ap (λ (os : List Order). elem w (stored_to os) || has marks w) (sym (rest-end list i h)) ∙ e w
+  marking-end h w = ap (λ (os : List Order). elem w (stored_to os) || has marks w) (sym (no-order ws h)) ∙ e w

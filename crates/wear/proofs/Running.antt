@@ -1,13 +1,16 @@
 -- Extents counted and written one by one: the next one, and the end.
 use mathlib.Core.Path.{◌≡◌, ap, sym, ◌∙◌}
+use mathlib.Core.Logic.{⊎_elim}
 use mathlib.Core.Bool.{Bool, true, false}
 use mathlib.Core.List.{List, [], ◌∷◌, ◌++◌, append_assoc, append-nil}
-use Prim.Native.Nat.{ℕ, suc, ◌+◌, ◌-◌, ◌*◌, ◌≤◌, ◌<◌}
+use Prim.Native.Nat.{ℕ, suc, ◌+◌, ◌-◌, ◌*◌, ◌/◌, ◌≤◌, ◌<◌}
 use native.Mathlib.Nat.{sub-zero}
 use native.Mathlib.Numerals.{add-one}
 use native.Mathlib.Omega.{arith}
 use lib.ListN.{length, take, set, length-set}
 use lib.Seq.{take-suc-set, take_all}
+use Rattle.std.proofs.lemmas.Bool.{cases_lt}
+use Rattle.std.proofs.lemmas.List.{nil_from_length}
 use Rattle.model.specs.Table.{Words}
 use Rattle.model.specs.Writes.{numbers}
 use Rattle.model.specs.Search.{filter}
@@ -65,15 +68,19 @@ module _ (f : ℕ → Bool) (len : ℕ) (pairs : Words) where
   written-first w s h = record { room = omega (arith, ap length (left-first f len w s)); words = ap extent_words (left-first f len w s) }
 
   module _ (k w : ℕ) (i : Written f len pairs k w) where
-    pub written-end : len ≤ w → pairs ≡ extent_words (extents_in f 0 len)
+    pub written-end : length pairs / 2 ≤ k → pairs ≡ extent_words (extents_in f 0 len)
     unfolding extent_words
     written-end h =
-        let z = left-none f len w h in
+        let z : left f len w ≡ [] = nil_from_length (left f len w) (omega (arith, i.room)) in
         let all : take (2 * k) pairs ≡ pairs = take_all (2 * k) pairs (omega (arith, i.room, ap length z)) in
         sym all ∙ sym (append-nil (take (2 * k) pairs)) ∙ ap (λ (es : List Extent). take (2 * k) pairs ++ extent_words es) (sym z) ∙ i.words
 
+    module _ (some : k < length pairs / 2) where
+      pub written-more : w < len
+      written-more = ⊎_elim (λ h. h) (λ h. absurd (omega (arith, i.room, ap length (left-none f len w h)))) (cases_lt w len)
+
     module _ (e : ℕ) (h : w < len) (y : f w ≡ true) (s : Sought f false w len e) where
-      pub written-room : 2 * k + 1 < length pairs
+      written-room : 2 * k + 1 < length pairs
       written-room = omega (arith, i.room, ap length (sought-run f len w e h y s))
 
       pub written-next : (v : ℕ) → Sought f true e len v → Written f len (set (set pairs (2 * k) w) (2 * k + 1) (e - w)) (k + 1) v

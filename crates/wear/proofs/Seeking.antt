@@ -2,11 +2,12 @@
 use mathlib.Core.Path.{◌≡◌, refl, ap, sym, ◌∙◌}
 use mathlib.Core.Logic.{⊎_elim}
 use mathlib.Core.Bool.{Bool, true, false, not, beq, false≢true}
-use Prim.Native.Nat.{ℕ, ◌+◌, ◌-◌, ◌/◌, ◌%◌, ◌^◌, ◌≤◌, ◌<◌}
+use Prim.Native.Nat.{ℕ, ◌+◌, ◌-◌, ◌/◌, ◌%◌, ◌^◌, ◌≤◌, ◌<◌, min}
 use native.Mathlib.Omega.{arith}
 use lib.Dec.{eqb}
 use lib.Count.{count_trailing_zeros}
 use lib.Pow.{shr-shr}
+use Rattle.std.proofs.lemmas.Bool.{cases_lt}
 use Rattle.model.specs.Table.{Words, at}
 use Rattle.list_laws.proofs.Tools.{compared}
 use Rattle.bits.specs.Bits.{has}
@@ -51,16 +52,22 @@ module _ (marks : Words) (w : ℕ) where
     before : (n : ℕ) → n ≤ zeros → n ≤ 64 - w % 64 → (v : ℕ) → w ≤ v → v < w + n → has marks v ≡ not wanted
     before n h l v a b = let q : v ≡ w + (v - w) = omega arith in rw q (passed (v - w) (omega arith) (omega arith))
 
-    pub word-passed : 64 - w % 64 < zeros → Sought (has marks) wanted w (w + (64 - w % 64)) (w + (64 - w % 64))
+    word-passed : 64 - w % 64 < zeros → Sought (has marks) wanted w (w + (64 - w % 64)) (w + (64 - w % 64))
     word-passed h = record { after = omega arith; within = omega arith; before = before (64 - w % 64) (omega arith) (omega arith); found = λ l. absurd (omega arith) }
 
-    pub word-found : zeros ≤ 64 - w % 64 → Sought (has marks) wanted w (w + (64 - w % 64)) (w + zeros)
+    word-found : zeros ≤ 64 - w % 64 → Sought (has marks) wanted w (w + (64 - w % 64)) (w + zeros)
     word-found h = record {
       after = omega arith;
       within = omega arith;
       before = before zeros (omega arith) h;
       found = λ l. mark-bit zeros (omega arith) ∙ same (bit word zeros) wanted (sym (e zeros (omega arith)) ∙ zeros-end 64 bits (omega arith));
     }
+
+    pub word-least : Sought (has marks) wanted w (w + (64 - w % 64)) (w + min zeros (64 - w % 64))
+    word-least = ⊎_elim
+        (λ h. let e : min zeros (64 - w % 64) ≡ 64 - w % 64 = omega arith in rw e (word-passed h))
+        (λ h. let e : min zeros (64 - w % 64) ≡ zeros = omega arith in rw e (word-found h))
+        (cases_lt (64 - w % 64) zeros)
 
 -- ---- one word after another
 

@@ -2,14 +2,14 @@
 use mathlib.Core.Path.{◌≡◌, refl, ap, sym, ◌∙◌}
 use mathlib.Core.Logic.{◌≢◌, ⊎_elim}
 use mathlib.Core.Bool.{Bool, true, false, cond, not}
-use mathlib.Core.List.{List, [], ◌∷◌}
+use mathlib.Core.List.{List, [], ◌∷◌, ◌++◌}
 use Prim.Native.Nat.{ℕ, zero, suc, ◌+◌, ◌*◌, ◌/◌, ◌≤◌, ◌<◌}
 use native.Mathlib.Numerals.{add-one}
 use native.Mathlib.Omega.{arith}
 use lib.Dec.{eqb, ltb}
 use lib.ListN.{length, drop, set, replicate}
 use lib.Seq.{get_or-set_same, get_or-set_other, ext_get_or, drop-length, drop-cons}
-use borrow.Author.Tests.{eq-eqb, ne_eqb, not-true, not-false, ltb-true, ltb-false, lt-ltb, le-ltb}
+use borrow.Author.Tests.{eq-eqb, ne_eqb, not-true, not-false, ltb-true, ltb-false}
 use Rattle.model.specs.Table.{Words, at, line}
 use Rattle.model.specs.Search.{filter}
 use Rattle.model.specs.Orders.{Order, order_of, store_count, decode}
@@ -20,7 +20,7 @@ use Rattle.wear_laws.proofs.Stored.{decode-length, stored-count, stored-few}
 use Rattle.wear_laws.proofs.Lines.{one, on-line-cons, wear-length, wear-at, largest-here, largest-later, first-here, first-later}
 use Rattle.wear.specs.Counting.{is_store, or_here}
 use Rattle.wear.specs.declared.Most.{Most}
-use Rattle.wear.proofs.Turns.{stored-one, stored-none, stores-order, count-order, rest, rest-next, rest-end}
+use Rattle.wear.proofs.Turns.{stored-one, stored-none, stores-order, count-order, next-order, no-order}
 
 -- ---- one order
 
@@ -52,26 +52,20 @@ module _ (a b : ℕ) (r : Bool) (e : r ≡ is_store (order_of a b)) (lines : Wor
 
 -- ---- one turn
 
--- the lines' numbers, with the orders from order i on, come to those of the whole list; so does the total
-pub record Tally (list : Words) (i total : ℕ) (lines : Words) : Type 0 where
-  pub counted : (l : ℕ) → at lines l + stores_to (rest list i) l ≡ stores_to (decode list) l
-  pub summed : total + store_count (rest list i) ≡ store_count (decode list)
+-- the lines' numbers, with the orders of the words left, come to those of the whole list; so does the total
+pub record Tally (list ws : Words) (total : ℕ) (lines : Words) : Type 0 where
+  pub counted : (l : ℕ) → at lines l + stores_to (decode ws) l ≡ stores_to (decode list) l
+  pub summed : total + store_count (decode ws) ≡ store_count (decode list)
 
 zero-at : (n l : ℕ) → at (replicate n 0) l ≡ 0
 zero-at zero l = refl
 zero-at (suc n) zero = refl
 zero-at (suc n) (suc l) = zero-at n l
 
-pub tally-begins : (list : Words) (n : ℕ) (lines : Words) → lines ≡ replicate n 0 → Tally list 0 0 lines
+pub tally-begins : (list : Words) (n : ℕ) (lines : Words) → lines ≡ replicate n 0 → Tally list list 0 lines
 tally-begins list n lines e = record { counted = λ l. rw (e, zero-at n l) (omega arith); summed = omega arith }
 
-module _ (list : Words) (i total : ℕ) (lines : Words) (t : Tally list i total lines) where
-  abbrev a : ℕ
-  a = at list (2 * i)
-
-  abbrev b : ℕ
-  b = at list (2 * i + 1)
-
+module _ (list ws : Words) (total : ℕ) (lines : Words) (t : Tally list ws total lines) where
   -- no number, and no total, is above the number of orders
   few : (l : ℕ) → stores_to (decode list) l ≤ length list / 2
   unfolding stores_to
@@ -80,37 +74,33 @@ module _ (list : Words) (i total : ℕ) (lines : Words) (t : Tally list i total 
   pub tally-few : (l : ℕ) → at lines l ≤ length list / 2
   tally-few l = omega (arith, t.counted l, few l)
 
-  module _ (h : i < length list / 2) where
-    pub total-few : (r : ℕ) → r ≡ store_count (order_of a b ∷ []) → total + r ≤ length list / 2
-    total-few r q =
-        omega (arith, t.summed, ap store_count (rest-next list i h), count-order (order_of a b) (rest list (i + 1)), stored-count (decode list), stored-few (decode list), decode-length list)
+  module _ (pair after : Words) (p : ws ≡ pair ++ after) (two : length pair ≡ 2) where
+    abbrev o : Order
+    o = order_of (at pair 0) (at pair 1)
 
-    pub tally-next : (r : ℕ) (new : Words) → Tallied a b lines r new → Tally list (i + 1) (total + r) new
+    pub total-few : (r : ℕ) → r ≡ store_count (o ∷ []) → total + r ≤ length list / 2
+    total-few r q =
+        omega (arith, t.summed, ap store_count (next-order ws pair after p two), count-order o (decode after), stored-count (decode list), stored-few (decode list), decode-length list)
+
+    pub tally-next : (r : ℕ) (new : Words) → Tallied (at pair 0) (at pair 1) lines r new → Tally list after (total + r) new
     tally-next r new q = record {
-      counted = λ l. omega (arith, t.counted l, q.1 l, ap (λ (os : List Order). stores_to os l) (rest-next list i h), stores-order (order_of a b) (rest list (i + 1)) l);
-      summed = omega (arith, t.summed, q.0, ap store_count (rest-next list i h), count-order (order_of a b) (rest list (i + 1)));
+      counted = λ l. omega (arith, t.counted l, q.1 l, ap (λ (os : List Order). stores_to os l) (next-order ws pair after p two), stores-order o (decode after) l);
+      summed = omega (arith, t.summed, q.0, ap store_count (next-order ws pair after p two), count-order o (decode after));
     }
 
-  module _ (h : length list / 2 ≤ i) where
+  module _ (h : length ws < 2) where
     pub tally-total : total ≡ store_count (decode list)
     unfolding store_count
-    tally-total = omega (arith, t.summed, ap store_count (rest-end list i h))
+    tally-total = omega (arith, t.summed, ap store_count (no-order ws h))
 
     pub tally-lines : (n : ℕ) → length lines ≡ n → lines ≡ wear_of (8 * n) (decode list)
     unfolding stores_to stored_to filter
     tally-lines n e =
         let m : 8 * n / 8 ≡ n = omega arith in
         ext_get_or 0 lines (wear_of (8 * n) (decode list)) (omega (arith, wear-length (8 * n) (decode list)))
-        (λ l u. omega (arith, t.counted l, ap (λ (os : List Order). stores_to os l) (rest-end list i h), wear-at (8 * n) (decode list) l (omega arith)))
+        (λ l u. omega (arith, t.counted l, ap (λ (os : List Order). stores_to os l) (no-order ws h), wear-at (8 * n) (decode list) l (omega arith)))
 
 -- ---- the most over the lines from line i on
-
-module _ (m : Most) (i stores : ℕ) where
-  pub keeps : stores < m.largest → m ≡ or_here m i stores
-  keeps h = rw (lt-ltb stores m.largest h)
-
-  pub takes : m.largest ≤ stores → record { largest = stores; first = i } ≡ or_here m i stores
-  takes h = rw (le-ltb stores m.largest h)
 
 -- m has the largest number of the lines from i on, and the first of these lines that has it
 pub record MostFrom (lines : Words) (i : ℕ) (m : Most) : Type 0 where

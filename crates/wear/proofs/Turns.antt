@@ -1,21 +1,17 @@
 -- Orders taken one by one: what the next one adds to the words marked and to the lines' numbers.
 use mathlib.Core.Path.{◌≡◌, refl, ap, sym, ◌∙◌}
-use mathlib.Core.Bool.{Bool, true, false, cond, not, ◌&&◌, ◌||◌, or-false, false≢true}
-use mathlib.Core.List.{List, [], ◌∷◌}
-use Prim.Native.Nat.{ℕ, ◌+◌, ◌*◌, ◌/◌, ◌≤◌, ◌<◌}
-use native.Mathlib.Numerals.{add-one}
+use mathlib.Core.Bool.{Bool, true, false, cond, ◌&&◌, ◌||◌, or-false, false≢true}
+use mathlib.Core.List.{List, [], ◌∷◌, ◌++◌}
+use Prim.Native.Nat.{ℕ, ◌+◌, ◌*◌, ◌<◌}
 use native.Mathlib.Omega.{arith}
 use lib.Dec.{eqb}
-use borrow.Author.Tests.{eq-eqb, ne_eqb}
-use lib.ListN.{length, drop, drop_of_length-le}
+use lib.ListN.{length}
 use Rattle.model.specs.Table.{MARK, Words, at}
 use Rattle.model.specs.Search.{filter}
 use Rattle.model.specs.SoundTest.{elem}
 use Rattle.model.specs.Orders.{Order, store, flush, barrier, put, BAR, order_of, store_count, decode}
 use Rattle.model.specs.Wear.{stored_to, stores_to}
-use Rattle.carry.proofs.Turns.{decode-cons}
 use Rattle.list_laws.proofs.Tools.{Each}
-use Rattle.wear_laws.proofs.Stored.{decode-length}
 use Rattle.wear_laws.proofs.Lines.{on-line-cons}
 use Rattle.wear.specs.Counting.{is_store}
 
@@ -26,17 +22,6 @@ abbrev told : (a b : ℕ) → Bool → Bool → Order
 told a b x y = cond x (flush b) (cond y barrier (store (put a b)))
 
 module _ (a b : ℕ) where
-  pub mark-is-none : a ≡ MARK → false ≡ is_store (order_of a b)
-  mark-is-none e = rw (eq-eqb a MARK e)
-
-  -- r tells whether it is a barrier
-  pub not-barrier : (a ≡ MARK → ⊥) → (r : Bool) → r ≡ (eqb a BAR && eqb b 0) → not r ≡ is_store (order_of a b)
-  not-barrier z r q = rw (ne_eqb a MARK z, sym q) (go r)
-    where
-      go : (y : Bool) → not y ≡ is_store (told a b false y)
-      go true = refl
-      go false = refl
-
   pub stored-one : is_store (order_of a b) ≡ true → stored_to (order_of a b ∷ []) ≡ a ∷ []
   stored-one = go (eqb a MARK) (eqb a BAR && eqb b 0)
     where
@@ -82,25 +67,36 @@ count-order barrier os = omega arith
 pub below-as : (k m n : ℕ) (ws : List ℕ) → m ≡ n → Each (λ (w : ℕ). w < k * n) ws → Each (λ (w : ℕ). w < k * m) ws
 below-as k m n ws e h = rw e h
 
--- ---- the orders from order i on
+-- ---- the orders of the words left, of which a turn takes the first two
 
-abbrev pub rest : Words → ℕ → List Order
-rest list i = drop i (decode list)
+module _ (ws : Words) where
+  module _ (pair after : Words) (e : ws ≡ pair ++ after) (two : length pair ≡ 2) where
+    pub next-order : decode ws ≡ order_of (at pair 0) (at pair 1) ∷ decode after
+    unfolding decode
+    next-order = rw e (go pair two)
+      where
+        go : (p : Words) → length p ≡ 2 → decode (p ++ after) ≡ order_of (at p 0) (at p 1) ∷ decode after
+        go [] n = absurd (omega arith)
+        go (a ∷ []) n = absurd (omega arith)
+        go (a ∷ b ∷ []) n = refl
+        go (a ∷ b ∷ x ∷ p) n = absurd (omega arith)
 
-module _ (list : Words) (i : ℕ) where
-  pub rest-next : i < length list / 2 → rest list i ≡ order_of (at list (2 * i)) (at list (2 * i + 1)) ∷ rest list (i + 1)
-  rest-next h = rw (add-one i) (decode-cons list i (omega arith))
+    -- what holds of the words that are stored to holds of the next order's and of those after it
+    module _ (n : ℕ) (b : Each (λ (w : ℕ). w < n) (stored_to (decode ws))) where
+      both : Each (λ (w : ℕ). w < n) (stored_to (order_of (at pair 0) (at pair 1) ∷ [])) × Each (λ (w : ℕ). w < n) (stored_to (decode after))
+      both = each-order (λ (w : ℕ). w < n) _ _ (rw next-order at b)
 
-  pub rest-end : length list / 2 ≤ i → rest list i ≡ []
-  rest-end h = let l : length (decode list) ≤ i = omega (arith, decode-length list) in drop_of_length-le (decode list) l
+      pub below-here : (m : ℕ) → m ≡ n → Each (λ (w : ℕ). w < m) (stored_to (order_of (at pair 0) (at pair 1) ∷ []))
+      below-here m q = rw q both.0
 
-  -- what holds of the words left holds of the next order's and of those after it
-  module _ (h : i < length list / 2) (n : ℕ) (e : Each (λ (w : ℕ). w < n) (stored_to (rest list i))) where
-    both : Each (λ (w : ℕ). w < n) (stored_to (order_of (at list (2 * i)) (at list (2 * i + 1)) ∷ [])) × Each (λ (w : ℕ). w < n) (stored_to (rest list (i + 1)))
-    both = each-order (λ (w : ℕ). w < n) _ _ (rw (rest-next h) at e)
+      pub below-next : Each (λ (w : ℕ). w < n) (stored_to (decode after))
+      below-next = both.1
 
-    pub below-here : (m : ℕ) → m ≡ n → Each (λ (w : ℕ). w < m) (stored_to (order_of (at list (2 * i)) (at list (2 * i + 1)) ∷ []))
-    below-here m q = rw q both.0
-
-    pub below-next : Each (λ (w : ℕ). w < n) (stored_to (rest list (i + 1)))
-    below-next = both.1
+  pub no-order : length ws < 2 → decode ws ≡ []
+  unfolding decode
+  no-order = go ws
+    where
+      go : (p : Words) → length p < 2 → decode p ≡ []
+      go [] h = refl
+      go (a ∷ []) h = refl
+      go (a ∷ b ∷ p) h = absurd (omega arith)

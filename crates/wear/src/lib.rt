@@ -12,7 +12,7 @@ ghost use Rattle.wear_laws.specs.Wearing.{extents_in, Sought};
 ghost use Rattle.bits.specs.Bits.{has};
 ghost use Rattle.wear.specs.Counting.{is_store, bit, or_here};
 
-use model::{MARK, Worn};
+use model::{Figures, MARK, Refusal, Worn};
 
 // Words for a mark each of the largest table's words: 8 + 32 times 65,535 of them, 64 to a word.
 const MARKS: usize = 32768;
@@ -28,10 +28,7 @@ struct Most {
 fn is_store(a: u64, b: u64) -> bool
     ensures { result ≡ is_store (order_of a b) }
 {
-    if a == MARK {
-        return false;
-    }
-    !carry::is_barrier(a, b)
+    a != MARK && !carry::is_barrier(a, b)
 }
 
 // One order's word marked, if it is a store.
@@ -50,11 +47,8 @@ fn mark(marks: &mut [u64], list: &[u64])
     requires { Each (λ (w : ℕ). w < 64 * length marks.old) (stored_to (decode list.now)) }
     ensures { (w : ℕ) → has marks.new w ≡ elem w (stored_to (decode list.now)) || has marks.old w }
 {
-    let n = list.len() / 2;
-    let mut i = 0;
-    while i < n {
-        mark_one(marks, list[2 * i], list[2 * i + 1]);
-        i += 1;
+    for pair in list.chunks_exact(2) {
+        mark_one(marks, pair[0], pair[1]);
     }
 }
 
@@ -75,11 +69,7 @@ fn unwanted(marks: &[u64], w: usize, wanted: bool) -> usize
 {
     let bits = wanted_bits(marks[w / 64] >> (w % 64), wanted);
     let n = u64::trailing_zeros(bits) as usize;
-    let left = 64 - w % 64;
-    if left < n {
-        return left;
-    }
-    n
+    n.min(64 - w % 64)
 }
 
 // The first number from a number on that is marked, or that is not, as wanted; len if there is none below it. A word of marks a turn.
@@ -88,6 +78,7 @@ fn seek(marks: &[u64], from: usize, len: usize, wanted: bool) -> usize
     ensures { Sought (has marks.now) wanted from len result }
 {
     let mut w = from;
+    // No fixed step: the marks say how far a turn goes.
     while w < len {
         let n = unwanted(marks, w, wanted);
         if len - w <= n {
@@ -108,6 +99,7 @@ fn count_pairs(marks: &[u64], len: usize) -> usize
 {
     let mut pairs = 0;
     let mut w = seek(marks, 0, len, true);
+    // No fixed step: an extent a turn, of any length.
     while w < len {
         let end = seek(marks, w, len, false);
         pairs += 1;
@@ -122,13 +114,11 @@ fn write_pairs(pairs: &mut [u64], marks: &[u64], len: usize)
     requires pairs_len { length pairs.old ≡ 2 * length (extents_in (has marks.now) 0 len) }
     ensures { pairs.new ≡ extent_words (extents_in (has marks.now) 0 len) }
 {
-    let mut k = 0;
     let mut w = seek(marks, 0, len, true);
-    while w < len {
+    for k in 0..pairs.len() / 2 {
         let end = seek(marks, w, len, false);
         pairs[2 * k] = w as u64;
         pairs[2 * k + 1] = (end - w) as u64;
-        k += 1;
         w = seek(marks, end, len, true);
     }
 }
@@ -155,12 +145,9 @@ fn count_stores(lines: &mut [u64], list: &[u64]) -> u64
     ensures lines_after { lines.new ≡ wear_of (8 * length lines.old) (decode list.now) }
 {
     node::zero(lines);
-    let n = list.len() / 2;
     let mut total = 0;
-    let mut i = 0;
-    while i < n {
-        total += count_one(lines, list[2 * i], list[2 * i + 1]);
-        i += 1;
+    for pair in list.chunks_exact(2) {
+        total += count_one(lines, pair[0], pair[1]);
     }
     total
 }
@@ -183,13 +170,11 @@ fn worst(lines: &[u64]) -> Most
     ensures largest_value { result.largest ≡ largest lines.now }
     ensures first_value { result.first ≡ first_at (largest lines.now) lines.now }
 {
-    let mut i = lines.len();
     let mut m = Most {
         largest: 0,
-        first: i,
+        first: lines.len(),
     };
-    while 0 < i {
-        i -= 1;
+    for i in (0..lines.len()).rev() {
         m = or_here(m, i, lines[i]);
     }
     m
@@ -202,31 +187,30 @@ pub fn wear(table: &[u64], list: &[u64], lines: &mut [u64], pairs: &mut [u64]) -
     ensures lines_after { lines.new ≡ lines_after list.now lines.old pairs.old table.now }
     ensures pairs_after { pairs.new ≡ pairs_after list.now lines.old pairs.old table.now }
 {
-    if node::header(table) != 0 {
-        return Worn::Refused(2);
-    }
+    node::header(table)?;
     let len = table.len();
     if !carry::all_inside(len, list, list.len() / 2) {
-        return Worn::Refused(13);
+        return Err(Refusal::BadOrders);
     }
     let k = len / 8;
     if lines.len() < k {
-        return Worn::Refused(24);
+        return Err(Refusal::ShortFigures);
     }
+    // A set of numbers as bits: memory is fixed, there is no heap.
     let mut marks = [0u64; MARKS];
     mark(&mut marks, list);
     let n = count_pairs(&marks, len);
     let end = 2 * n;
     if pairs.len() < end {
-        return Worn::Refused(24);
+        return Err(Refusal::ShortFigures);
     }
     write_pairs(&mut pairs[..end], &marks, len);
     let total = count_stores(&mut lines[..k], list);
     let m = worst(&lines[..k]);
-    Worn::Figures {
-        total: total,
+    Ok(Figures {
+        total,
         largest: m.largest,
         first_line: m.first as u64,
         pairs: n as u64,
-    }
+    })
 }

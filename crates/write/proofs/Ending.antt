@@ -1,13 +1,15 @@
 -- A writing call from its refusal or its first store to its end: a refusal changes no word, and the stores, made and finished, are what the
 -- call promises.
-use mathlib.Core.Path.{◌≡◌, refl, ap, sym, ◌∙◌}
+use mathlib.Core.Path.{◌≡◌, refl, ap, sym, subst, ◌∙◌}
 use mathlib.Core.Logic.{◌≢◌}
 use mathlib.Core.Bool.{true, false}
 use mathlib.Core.List.{List, [], ◌++◌, append-nil}
 use Prim.Native.Nat.{ℕ, zero, suc, ◌*◌, ◌≤◌}
 use lib.ListN.{length}
-use Rattle.model.specs.declared.Written as answer
-use Rattle.model.specs.declared.Written.TheVariants.{Done, Refused}
+use Rattle.std.specs.Prelude.{Err}
+use Rattle.model.specs.declared.Refusal.{Refusal}
+use Rattle.model.specs.Results as answer
+use Rattle.model.specs.Results.{refused_with, done_with}
 use Rattle.model.specs.Table.{Words}
 use Rattle.model.specs.SoundTest.{sound, settled}
 use Rattle.model.specs.Orders.{Store, orders, barred}
@@ -23,7 +25,6 @@ use Rattle.orders.specs.Desk.{desk, first_pen, stored_all, finished, Room}
 use Rattle.orders.proofs.Rooms.{room-first, room-rest}
 use Rattle.orders.proofs.Rest.{room-as, stored-as}
 use Rattle.orders.proofs.Meaning.{Written, finished-means, start-room}
-use Rattle.write.specs.declared.Judged.TheVariants as judgement
 use Rattle.write.specs.Judged.{judged}
 use Rattle.write.proofs.Judging.{judged-refused}
 use Rattle.write.proofs.Parts.{part-table, part-room, part-stored}
@@ -32,19 +33,24 @@ use Rattle.write.proofs.Parts.{part-table, part-room, part-stored}
 abbrev pub Promised : Call → (t lent : Words) → (dock : ℕ) → answer.Written → (t' list' : Words) → Type 0
 Promised x t lent dock r t' list' = (r ≡ written x (length lent) dock t) × ((t' ≡ table_after x (length lent) dock t) × (list' ≡ list_after x lent dock t))
 
-done-same : {a a' b b' c c' : ℕ} → a ≡ a' → b ≡ b' → c ≡ c' → Done a b c ≡ Done a' b' c'
+done-same : {a a' b b' c c' : ℕ} → a ≡ a' → b ≡ b' → c ≡ c' → done_with a b c ≡ done_with a' b' c'
 done-same e f g = rw (e, f, g)
 
 -- ---- a refused call
 
-pub refused-call : (x : Call) (t lent : Words) (dock n : ℕ) → n ≢ 0 → refusal x (length lent) dock t ≡ n → Promised x t lent dock (Refused n) t lent
+pub refused-call : (x : Call) (t lent : Words) (dock n : ℕ) → n ≢ 0 → refusal x (length lent) dock t ≡ n → Promised x t lent dock (refused_with n) t lent
 unfolding written table_after list_after
 refused-call x t lent dock zero z e = absurd (z refl)
 refused-call x t lent dock (suc n) z e = rw (e, written, table_after, list_after) (refl, (refl, refl))
 
+pub refused-as : (x : Call) (t lent : Words) (dock : ℕ) (r : Refusal) → refusal x (length lent) dock t ≢ 0
+    → ◌≡◌ {A = answer.Written} (refused_with (refusal x (length lent) dock t)) (Err r) → Promised x t lent dock (Err r) t lent
+refused-as x t lent dock r z e =
+    subst (λ (w : answer.Written). Promised x t lent dock w t lent) e (refused-call x t lent dock (refusal x (length lent) dock t) z refl)
+
 -- by one of the tests that all share
-pub judge-refuses : (x : Call) (t lent : Words) (dock n : ℕ) → judged (seventeen_in x t) (length lent) dock t ≡ judgement.Refused n → Promised x t lent dock (Refused n) t lent
-judge-refuses x t lent dock n e = let u = judged-refused x (length lent) dock t n e in refused-call x t lent dock n u.0 u.1
+pub judge-refuses : (x : Call) (t lent : Words) (dock : ℕ) (r : Refusal) → judged (seventeen_in x t) (length lent) dock t ≡ Err r → Promised x t lent dock (Err r) t lent
+judge-refuses x t lent dock r e = let u = judged-refused x (length lent) dock t r e in refused-as x t lent dock r u.0 u.1
 
 -- a collection is there after repair
 seventeen-later : (x : Call) (t : Words) → sound t ≡ true → seventeen_in x t ≡ false → seventeen_in x (repaired t) ≡ false
@@ -111,7 +117,7 @@ module _ {x : Call} {t lent : Words} {dock : ℕ} {pen : Pen} {rest : Words → 
           record { inside = tt; space = r.space; counts = r.counts }
 
       -- and it is finished
-      pub done-call : {list' : Words} {last : Pen} → ((u : Words) → desk u list' last ≡ finished (desk u list₂ at₂)) → Promised x t lent dock (Done last.stores last.flushes last.barriers) t₂ list'
+      pub done-call : {list' : Words} {last : Pen} → ((u : Words) → desk u list' last ≡ finished (desk u list₂ at₂)) → Promised x t lent dock (done_with last.stores last.flushes last.barriers) t₂ list'
       unfolding written table_after list_after
       done-call {list'} {last} f =
           let q = all-stored ∙ ap (λ (p : Pen). stored_all (stores_of x t) (desk t lent p)) b.first in

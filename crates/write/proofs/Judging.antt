@@ -7,9 +7,15 @@ use Prim.Native.Nat.{ℕ, zero, suc, ◌-◌, ◌≤◌, ◌<◌}
 use native.Mathlib.Omega.{arith}
 use lib.ListN.{get_or}
 use borrow.Author.Tests.{ltb-false, lt-ltb, le-ltb}
+use Rattle.std.specs.Prelude as rust
+use Rattle.std.proofs.Math.Option.{Option}
+use Rattle.std.specs.Prelude.{is_some, None, Some, Ok, Err}
+use Rattle.model.specs.declared.Refusal.{Refusal}
+use Rattle.model.specs.Numbers.{refusal_of}
+use Rattle.model.specs.Results.{Written, refused_with}
 use Rattle.model.specs.declared.Node.{Node}
 use Rattle.model.specs.Table.{Words, header_ok, header_number, no_collection, node}
-use Rattle.model.specs.Slots.{View, view_from, node_view, height, used}
+use Rattle.model.specs.Slots.{Slot, View, view_from, node_view, height, used}
 use Rattle.model.specs.Search.{path, first_with}
 use Rattle.model.specs.Reached.{mapping}
 use Rattle.model.specs.SoundTest.{sound_view, sound}
@@ -25,64 +31,59 @@ use Rattle.two_laws.proofs.AcceptedTwo.{Allows, accepted-iff}
 use Rattle.two_laws.proofs.SearchTwo.{sound-head}
 use Rattle.two_laws.proofs.JudgedTwo.{number-on-sound}
 use Rattle.node.specs.Word.{number_in}
-use Rattle.slots.specs.declared.Held.{Held}
-use Rattle.slots.specs.declared.Held.TheVariants.{Pointer, Nothing}
 use Rattle.slots.specs.Scan.{shown_from}
 use Rattle.slots.specs.Held.{held_by}
 use Rattle.sound.specs.declared.Leftover.{Leftover}
-use Rattle.sound.specs.declared.Checked.{Checked}
-use Rattle.sound.specs.declared.Checked.TheVariants.{Unsound, Sound}
-use Rattle.sound.specs.Checked.{checked}
+use Rattle.sound.specs.declared.Sound.{Sound}
+use Rattle.sound.specs.Checked.{Checked, checked}
 use Rattle.sound.proofs.JudgeLaws.{SoundWith, checked-sound, checked-unsound}
-use Rattle.write.specs.declared.Judged.{Judged}
-use Rattle.write.specs.declared.Judged.TheVariants.{Refused, Ready}
-use Rattle.write.specs.Judged.{shared_tests, shared, ready_with, judged}
+use Rattle.write.specs.Judged.{shared_tests, shared, Judged, ready_with, judged}
 
 -- ---- the answer, test by test
 
-pub wrong-header : (words dock : ℕ) (t : Words) (k : ℕ) → k ≡ header_number t → (k ≡ 0 → ⊥) → Refused 2 ≡ judged false words dock t
-unfolding judged shared
-wrong-header words dock t k e z = rw (header-number-refused t (λ q. z (e ∙ q)), judged, shared)
+pub wrong-header : (words dock : ℕ) (t : Words) → header_number t ≢ 0 → refused_with (header_number t) ≡ judged false words dock t
+unfolding judged shared header_number
+wrong-header words dock t z = rw (header-number-refused t z, judged, shared)
 
 -- 2 and 17, in one look
-module _ (words dock : ℕ) (t : Words) (n k : ℕ) (e : k ≡ number_in n t) where
-  pub wrong-collection : (k ≡ 0 → ⊥) → Refused k ≡ judged (no_collection n t) words dock t
+module _ (words dock : ℕ) (t : Words) (n : ℕ) where
+  pub wrong-collection : number_in n t ≢ 0 → refused_with (number_in n t) ≡ judged (no_collection n t) words dock t
   unfolding judged shared number_in
-  wrong-collection z = rw e (go (header_ok t) (no_collection n t) refl refl)
+  wrong-collection z = go (header_ok t) (no_collection n t) refl refl
     where
-      go : (a b : Bool) → header_ok t ≡ a → no_collection n t ≡ b → Refused (cond (header_ok t) (cond (no_collection n t) 17 0) 2) ≡ judged (no_collection n t) words dock t
+      go : (a b : Bool) → header_ok t ≡ a → no_collection n t ≡ b → refused_with (cond (header_ok t) (cond (no_collection n t) 17 0) 2) ≡ judged (no_collection n t) words dock t
       go false b f g = rw (f, judged, shared)
       go true true f g = rw (f, g, judged, shared)
-      go true false f g = absurd (z (e ∙ rw (f, g)))
+      go true false f g = absurd (z (rw (f, g)))
 
-  pub right-collection : k ≡ 0 → (header_ok t ≡ true) × (no_collection n t ≡ false)
+  pub right-collection : number_in n t ≡ 0 → (header_ok t ≡ true) × (no_collection n t ≡ false)
   unfolding number_in
   right-collection z = go (header_ok t) (no_collection n t) refl refl
     where
       go : (a b : Bool) → header_ok t ≡ a → no_collection n t ≡ b → (header_ok t ≡ true) × (no_collection n t ≡ false)
-      go false b f g = let q : ◌≡◌ {A = ℕ} 2 0 = sym (e ∙ rw f) ∙ z in absurd (omega arith)
-      go true true f g = let q : ◌≡◌ {A = ℕ} 17 0 = sym (e ∙ rw (f, g)) ∙ z in absurd (omega arith)
+      go false b f g = let q : ◌≡◌ {A = ℕ} 2 0 = sym (rw f) ∙ z in absurd (omega arith)
+      go true true f g = let q : ◌≡◌ {A = ℕ} 17 0 = sym (rw (f, g)) ∙ z in absurd (omega arith)
       go true false f g = (f, g)
 
-  pub judged-rest : k ≡ 0 → (j : Judged) → j ≡ judged false words dock t → j ≡ judged (no_collection n t) words dock t
+  pub judged-rest : number_in n t ≡ 0 → (j : Judged) → j ≡ judged false words dock t → j ≡ judged (no_collection n t) words dock t
   judged-rest z j q = rw (right-collection z).1 q
 
 module _ (words dock : ℕ) (t : Words) (header : header_ok t ≡ true) where
-  pub not-sound : checked t ≡ Unsound → Refused 4 ≡ judged false words dock t
+  pub not-sound : checked t ≡ None → refused_with 4 ≡ judged false words dock t
   unfolding judged shared
   not-sound g = rw (header, (checked-unsound t).0 g, judged, shared)
 
   module _ (x : Leftover) (n : ℕ) (found : SoundWith t x n) where
-    pub wrong-dock : 1 < dock → Refused 18 ≡ judged false words dock t
+    pub wrong-dock : 1 < dock → refused_with 18 ≡ judged false words dock t
     unfolding judged shared
     wrong-dock h = rw (header, found.is-sound, lt-ltb 1 dock h, judged, shared)
 
     module _ (ok : dock ≤ 1) (least : ℕ) (l : least ≡ words_for dock) where
-      pub too-short : words < least → Refused 5 ≡ judged false words dock t
+      pub too-short : words < least → refused_with 5 ≡ judged false words dock t
       unfolding judged shared
       too-short h = rw (header, found.is-sound, le-ltb 1 dock ok, lt-ltb words (words_for dock) (rw l at h), judged, shared)
 
-      pub all-passed : least ≤ words → Ready x n ≡ judged false words dock t
+      pub all-passed : least ≤ words → Ok (record { leftover = x; reached = n }) ≡ judged false words dock t
       unfolding judged shared
       all-passed h = rw (header, found.is-sound, le-ltb 1 dock ok, le-ltb words (words_for dock) (rw l at h), (checked-sound t x n).1 found, judged, shared)
 
@@ -104,13 +105,13 @@ first-shared (c ∷ cs) ds z = go c.holds z (first-shared cs ds)
     go true w ih = refl
     go false w ih = ih w
 
-ready-sound : (c : Checked) (x : Leftover) (n : ℕ) → ready_with c ≡ Ready x n → c ≡ Sound x n
-ready-sound Unsound x n e = let z : ◌≡◌ {A = ℕ} 0 1 = cc in absurd (omega arith)
-ready-sound (Sound y m) x n e = let p : y ≡ x = cc in let q : m ≡ n = cc in rw (p, q)
+ready-sound : (c : Checked) (s : Sound) → ready_with c ≡ Ok s → c ≡ Some s
+ready-sound None s e = let z : ◌≡◌ {A = ℕ} 0 1 = cc in absurd (omega arith)
+ready-sound (Some u) s e = let p : u ≡ s = cc in ap Some p
 
-refused-unsound : (c : Checked) (n : ℕ) → ready_with c ≡ Refused n → c ≡ Unsound
-refused-unsound Unsound n e = refl
-refused-unsound (Sound y m) n e = let z : ◌≡◌ {A = ℕ} 0 1 = cc in absurd (omega arith)
+refused-unsound : (c : Checked) (r : Refusal) → ready_with c ≡ Err r → c ≡ None
+refused-unsound None r e = refl
+refused-unsound (Some s) r e = let z : ◌≡◌ {A = ℕ} 0 1 = cc in absurd (omega arith)
 
 -- none of the shared tests holds
 record SharedPassed (seventeen : Bool) (words dock : ℕ) (t : Words) : Type 0 where
@@ -138,15 +139,17 @@ module _ (y : Call) (words dock : ℕ) (t : Words) where
   unfolding refusal shared
   shared-refused z = first-shared (shared_tests (seventeen_in y t) words dock t) later z
 
-  pub judged-refused : (n : ℕ) → judged (seventeen_in y t) words dock t ≡ Refused n → (n ≢ 0) × (refusal y words dock t ≡ n)
+  pub judged-refused : (r : Refusal) → judged (seventeen_in y t) words dock t ≡ Err r → (refusal y words dock t ≢ 0) × ◌≡◌ {A = Written} (refused_with (refusal y words dock t)) (Err r)
   unfolding judged
-  judged-refused n = go number refl
+  judged-refused r = go number refl
     where
-      go : (m : ℕ) → number ≡ m → judged (seventeen_in y t) words dock t ≡ Refused n → (n ≢ 0) × (refusal y words dock t ≡ n)
-      go zero e q = absurd (false≢true (sym ((checked-unsound t).0 (refused-unsound (checked t) n (rw (e, judged) at q))) ∙ (shared-passed (seventeen_in y t) words dock t e).sound))
+      go : (m : ℕ) → number ≡ m → judged (seventeen_in y t) words dock t ≡ Err r → (refusal y words dock t ≢ 0) × ◌≡◌ {A = Written} (refused_with (refusal y words dock t)) (Err r)
+      go zero e q = absurd (false≢true (sym ((checked-unsound t).0 (refused-unsound (checked t) r (rw (e, judged) at q))) ∙ (shared-passed (seventeen_in y t) words dock t e).sound))
       go (suc m) e q =
-          let r : Refused (suc m) ≡ Refused n = rw (e, judged) at q in
-          let p : suc m ≡ n = cc in (λ z. omega arith, shared-refused (λ z. omega (arith, e, z)) ∙ e ∙ p)
+          let f : refused_with (suc m) ≡ Err r = rw (e, judged) at q in
+          let same : refusal_of (suc m) ≡ r = cc in
+          let n : refusal y words dock t ≡ suc m = shared-refused (λ z. omega (arith, e, z)) ∙ e in
+          ((λ z. omega (arith, n, z)), ap Err (ap refusal_of n ∙ same))
 
   pub record Passed (x : Leftover) (n : ℕ) : Type 0 where
     pub found : SoundWith t x n
@@ -154,16 +157,16 @@ module _ (y : Call) (words dock : ℕ) (t : Words) where
     pub dock-ok : dock ≤ 1
     pub long : words_for dock ≤ words
 
-  pub judged-ready : (x : Leftover) (n : ℕ) → judged (seventeen_in y t) words dock t ≡ Ready x n → Passed x n
+  pub judged-ready : (s : Sound) → judged (seventeen_in y t) words dock t ≡ Ok s → Passed s.leftover s.reached
   unfolding judged
-  judged-ready x n = go number refl
+  judged-ready s = go number refl
     where
-      go : (m : ℕ) → number ≡ m → judged (seventeen_in y t) words dock t ≡ Ready x n → Passed x n
+      go : (m : ℕ) → number ≡ m → judged (seventeen_in y t) words dock t ≡ Ok s → Passed s.leftover s.reached
       go zero e q =
           let a = shared-passed (seventeen_in y t) words dock t e in
-          record { found = (checked-sound t x n).0 (ready-sound (checked t) x n (rw (e, judged) at q)); collection = a.collection; dock-ok = a.dock-ok; long = a.long }
+          record { found = (checked-sound t s.leftover s.reached).0 (ready-sound (checked t) s (rw (e, judged) at q)); collection = a.collection; dock-ok = a.dock-ok; long = a.long }
       go (suc m) e q =
-          let r : Refused (suc m) ≡ Ready x n = rw (e, judged) at q in
+          let r : refused_with (suc m) ≡ Ok s = rw (e, judged) at q in
           let z : ◌≡◌ {A = ℕ} 0 1 = cc in absurd (omega arith)
 
   module _ {x : Leftover} {n : ℕ} (p : Passed x n) where
@@ -185,7 +188,7 @@ module _ (y : Call) (words dock : ℕ) (t : Words) where
 -- ---- whether the map of a tree has a key
 
 -- the leaf n for k, which is x, holds the slot that the map has for k
-module _ (t : Words) (o k n : ℕ) (x : Node) (h : Held) (s : sound_view (view_from t o) ≡ true) (e : n ≡ standing_in (view_from t o) 0 k) (q : x ≡ node t n)
+module _ (t : Words) (o k n : ℕ) (x : Node) (h : rust.Option ℕ) (s : sound_view (view_from t o) ≡ true) (e : n ≡ standing_in (view_from t o) 0 k) (q : x ≡ node t n)
     (f : h ≡ held_by (first_with k (shown_from x.left x.slots 0))) where
   abbrev v : View
   v = view_from t o
@@ -200,21 +203,9 @@ module _ (t : Words) (o k n : ℕ) (x : Node) (h : Held) (s : sound_view (view_f
       f ∙ ap (λ (y : Node). held_by (first_with k (shown_from y.left y.slots 0))) q ∙ ap (λ (m : ℕ). held_by (first_with k (node_view t m).shown)) l
       ∙ ap held_by (sym (range-first v k (leaf_for v k) o (leaf-mem v k o) c.fence c.inside))
 
-  pub key-absent : h ≡ Nothing → false ≡ has_key k (mapping (view_from t o))
-  key-absent z = go (has_key k (mapping v)) refl
+  pub key-held : is_some h ≡ has_key k (mapping (view_from t o))
+  key-held = ap is_some held-map ∙ go (has_key k (mapping v)) refl
     where
-      go : (b : Bool) → has_key k (mapping v) ≡ b → false ≡ has_key k (mapping v)
-      go false g = sym g
-      go true g =
-          let u = has-key-found k (mapping v) g in
-          let p : Nothing ≡ Pointer u.0 = sym z ∙ held-map ∙ ap held_by u.1 in
-          let i : ◌≡◌ {A = ℕ} 0 1 = cc in absurd (omega arith)
-
-  pub key-found : (r : ℕ) → h ≡ Pointer r → true ≡ has_key k (mapping (view_from t o))
-  key-found r z = go (has_key k (mapping v)) refl
-    where
-      go : (b : Bool) → has_key k (mapping v) ≡ b → true ≡ has_key k (mapping v)
-      go true g = sym g
-      go false g =
-          let p : Pointer r ≡ Nothing = sym z ∙ held-map ∙ ap held_by (first-nil k (mapping v) ((has-key-iff k (mapping v)).0 g)) in
-          let i : ◌≡◌ {A = ℕ} 0 1 = cc in absurd (omega arith)
+      go : (b : Bool) → has_key k (mapping v) ≡ b → is_some (held_by (first_with k (mapping v))) ≡ b
+      go true g = ap (λ (s : Option Slot). is_some (held_by s)) (has-key-found k (mapping v) g).1
+      go false g = ap (λ (s : Option Slot). is_some (held_by s)) (first-nil k (mapping v) ((has-key-iff k (mapping v)).0 g))

@@ -13,16 +13,12 @@ ghost use Rattle.sound.specs.Checked.{meant};
 ghost use Rattle.orders.specs.Desk.{desk, first_pen, stored_all, Room};
 ghost use Rattle.write.specs.Judged.{judged};
 
+use model::Refusal;
 use orders::Pen;
-use slots::Held;
-use sound::{Checked, Leftover};
+use sound::{Leftover, Sound};
 
-// What the tests that all writing calls share answer: a refusal's number, or what repair has to do and how many nodes are reached.
-#[derive(Clone, Copy)]
-pub enum Judged {
-    Refused(u8),
-    Ready { left: Leftover, reached: u64 },
-}
+// What the tests that all writing calls share answer: what repair has to do and how many nodes are reached, or a refusal.
+pub type Judged = Result<Sound, Refusal>;
 
 // The words that an order list for the dock must have.
 pub fn words_for(dock: u64) -> usize
@@ -39,32 +35,23 @@ fn judge_rest(table: &[u64], words: usize, dock: u64) -> Judged
     requires { header_ok table.now ≡ true }
     ensures { result ≡ judged false words dock table.now }
 {
-    let answer = sound::check(table);
-    match answer {
-        Checked::Unsound => Judged::Refused(4),
-        Checked::Sound { leftover, reached } => {
-            if 1 < dock {
-                return Judged::Refused(18);
-            }
-            if words < words_for(dock) {
-                return Judged::Refused(5);
-            }
-            Judged::Ready {
-                left: leftover,
-                reached: reached,
-            }
-        }
+    let Some(sound) = sound::check(table) else {
+        return Err(Refusal::NotSound);
+    };
+    if 1 < dock {
+        return Err(Refusal::NoDock);
     }
+    if words < words_for(dock) {
+        return Err(Refusal::ShortList);
+    }
+    Ok(sound)
 }
 
 // The tests that all writing calls share, for a call that names a collection.
 pub fn judge(table: &[u64], collection: u64, words: usize, dock: u64) -> Judged
     ensures { result ≡ judged (no_collection collection table.now) words dock table.now }
 {
-    let n = node::refusal(table, collection);
-    if n != 0 {
-        return Judged::Refused(n);
-    }
+    node::find_root(table, collection)?;
     judge_rest(table, words, dock)
 }
 
@@ -72,9 +59,7 @@ pub fn judge(table: &[u64], collection: u64, words: usize, dock: u64) -> Judged
 pub fn judge_any(table: &[u64], words: usize, dock: u64) -> Judged
     ensures { result ≡ judged false words dock table.now }
 {
-    if node::header(table) != 0 {
-        return Judged::Refused(2);
-    }
+    node::header(table)?;
     judge_rest(table, words, dock)
 }
 
@@ -85,12 +70,7 @@ pub fn has_key(table: &[u64], root: u64, key: u64) -> bool
 {
     let leaf = reach::standing(table, root, 0, key);
     let x = node::read(table, leaf);
-    let slots = x.slots;
-    let left = x.left;
-    match slots::find(slots, left, key) {
-        Held::Pointer(_) => true,
-        Held::Nothing => false,
-    }
+    slots::find(x.slots, x.left, key).is_some()
 }
 
 // A pen before the first order of a list for the dock.

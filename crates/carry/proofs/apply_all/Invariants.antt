@@ -1,5 +1,4 @@
--- `carry::apply_all` meets its contract. The loop's invariant: the orders from i on, carried out now, leave what all of them leave.
-use Prim.Native.Nat.{◌≤◌, ◌-◌}
+-- The orders from i on lie in the table, and carried out now they leave what all of them leave.
 use mathlib.Core.Path.{◌≡◌}
 use mathlib.Core.Bool.{true}
 use lib.ListN.{length}
@@ -8,7 +7,6 @@ use Rattle.carry.specs.Firsts.{firsts}
 use Rattle.carry.proofs.apply_all.Given as goal
 
 abbrev pub invariant-loop-i : goal.invariant-loop-i
-invariant-loop-i l = (l.i ≤ l.c) × (length l.table ≡ length l.initial.table) × (all_inside (length l.initial.table) (firsts l.c l.list l.i) ≡ true) × (carry (firsts l.c l.list l.i) l.table ≡ carry (firsts l.c l.list 0) l.initial.table)
-
-abbrev pub decreases-loop-i : goal.decreases-loop-i
-decreases-loop-i l = l.c - l.i
+invariant-loop-i l =
+    (all_inside (length l.initial.table) (firsts l.c l.list l.i) ≡ true)
+    × (carry (firsts l.c l.list l.i) l.table ≡ carry (firsts l.c l.list 0) l.initial.table)

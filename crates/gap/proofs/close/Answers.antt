@@ -12,4 +12,4 @@ returns c = let a = c.args in
     let u = c.seek_up in
     let l : length u.new.pairs ≡ length a.pairs.now = search rules in
     closed a.pairs.now u.new.pairs a.kept a.at u.result MARK (omega (arith, l, c.requires.room)) u.ensures.kept_after.0 u.ensures.kept_after.1 u.ensures.under.1
-    (λ j. let f = c.slice_known-2-1.given j in omega (arith, f))
+    (λ j. omega (arith, c.type_inv.pairs j))

@@ -5,6 +5,3 @@ use Rattle.gap.proofs.seek_down.Given as goal
 
 abbrev pub invariant-loop-i : goal.invariant-loop-i
 invariant-loop-i l = Moved l.initial.pairs l.kept l.at l.gap l.pairs l.i × (l.i ≤ l.at)
-
-abbrev pub decreases-loop-i : goal.decreases-loop-i
-decreases-loop-i l = l.i

@@ -1,4 +1,5 @@
 -- `gap::seek_up` meets its contract.
+use mathlib.Core.Path.{◌≡◌}
 use native.Mathlib.Omega.{arith}
 use lib.ListN.{length-set}
 use Rattle.gap.proofs.Around.{moved-up, moved-over, moved-next, moved-all}
@@ -17,4 +18,6 @@ loop-i-preserved c = let l = c.loop-i.invariant in
     (moved-up _ _ _ _ _ _ l.0 t, λ u. moved-next _ _ _ _ _ _ l.0 _ t (omega (arith, f)))
 
 pub returns : goal.returns
-returns c = let l = c.loop-i.invariant in let t = c.loop-i-test.false in record { kept_after = (l.0.same, l.0.below); under = (l.1, moved-all _ _ _ _ _ _ l.0 _ (omega (arith, t))) }
+returns c = let l = c.loop-i.invariant in
+    let e : c.loop-i.i ≡ c.args.kept = omega (arith, c.loop-i-test.false, l.0.below) in
+    record { kept_after = (rw e at l.0.same, omega arith); under = (λ u. rw e at (l.1 u), rw e at (moved-all _ _ _ _ _ _ l.0 c.args.key (omega arith))) }

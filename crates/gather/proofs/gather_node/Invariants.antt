@@ -1,6 +1,6 @@
 -- `gather::gather_node` meets its contract.
 use mathlib.Core.Path.{◌≡◌}
-use Prim.Native.Nat.{◌-◌, ◌≤◌}
+use Prim.Native.Nat.{◌≤◌}
 use lib.ListN.{length}
 use Rattle.model.specs.Table.{node}
 use Rattle.model.specs.Salvage.{gather_slots, collected}
@@ -9,9 +9,6 @@ use Rattle.gather.specs.Held.{held, Room}
 use Rattle.gather.proofs.gather_node.Given as goal
 
 abbrev pub invariant-loop-i : goal.invariant-loop-i
-invariant-loop-i l = (q : l.x ≡ node l.table l.n) × (l.slots ≡ l.x.slots) × (room : Room l.initial.report l.initial.p 12)
+invariant-loop-i l = (q : l.x ≡ node l.table l.n) × (room : Room l.initial.report l.initial.p 12)
     × (most : length (gather_slots l.n (collected l.table l.n) (held l.initial.words l.bound l.initial.report l.initial.p)).kept ≤ l.bound)
     × Collecting l.table l.n l.x q l.bound l.initial.words l.initial.report l.initial.p room most l.words l.report l.p l.before l.i
-
-abbrev pub decreases-loop-i : goal.decreases-loop-i
-decreases-loop-i l = 12 - l.i

@@ -1,5 +1,5 @@
 -- `gather::is_kept` meets its contract.
-use mathlib.Core.Path.{sym}
+use mathlib.Core.Path.{sym, ◌∙◌}
 use Prim.Native.Nat.{◌*◌}
 use native.Mathlib.Omega.{arith}
 use lib.Seq.{length-take-le}
@@ -12,9 +12,9 @@ slice_bounds-has_recording-end c = let a = c.args in
 
 pub returns-then-has_recording : goal.returns-then-has_recording
 returns-then-has_recording c = let a = c.args in
-    kept-low a.words.now a.bound a.t a.recording c.requires c.has_recording.result c.has_recording.ensures c.if-has_recording.true
+    c.if-has_recording.true ∙ kept-low a.words.now a.bound a.t a.recording c.requires c.has_recording.result c.has_recording.ensures c.if-has_recording.true
 
-pub returns : goal.returns
-returns c = let a = c.args in
-    kept-high a.words.now a.bound a.t a.recording c.requires c.has_recording.result c.has_recording-2.result
-    c.has_recording.ensures c.if-has_recording.false c.has_recording-2.ensures
+pub returns-else-has_recording : goal.returns-else-has_recording
+returns-else-has_recording c = let a = c.args in
+    let y = c.has_recording-else-has_recording in
+    kept-high a.words.now a.bound a.t a.recording c.requires c.has_recording.result y.result c.has_recording.ensures c.if-has_recording.false y.ensures

@@ -1,9 +1,7 @@
 -- `insert::has_recording` meets its contract.
-use Rattle.insert.proofs.Testing.{recording-at, recording-nowhere}
+use mathlib.Core.Path.{◌∙◌}
+use Rattle.insert.proofs.Testing.{recording-hit}
 use Rattle.insert.proofs.has_recording.Goals as goal
 
-pub returns-in-At : goal.returns-in-At
-returns-in-At c = recording-at _ _ c.requires _ c.find_recording-hit.ensures _ _ c.in-At.is
-
-pub returns-in-Nowhere : goal.returns-in-Nowhere
-returns-in-Nowhere c = recording-nowhere _ _ c.requires _ c.find_recording-hit.ensures c.in-Nowhere.is
+pub returns : goal.returns
+returns c = c.is_some.ensures ∙ recording-hit _ _ _ c.requires c.find_recording.ensures

@@ -1,7 +1,5 @@
 -- `insert::split_run` meets its contract. The loop's invariant: the lowest l nodes of the run are left, ready to be split, and what is marked is
 -- reached.
-use mathlib.Core.Path.{◌≡◌}
-use lib.ListN.{length}
 use Rattle.model.specs.Writes.{splits}
 use Rattle.two_laws.specs.Parts.{Ready}
 use Rattle.reach.specs.Marks.{Marked}
@@ -10,8 +8,5 @@ use Rattle.orders.proofs.Rest.{Rest}
 use Rattle.insert.proofs.split_run.Given as goal
 
 abbrev pub invariant-loop-l : goal.invariant-loop-l
-invariant-loop-l l = (length l.table ≡ length l.initial.table) × (length l.list ≡ length l.initial.list) × (length l.marks ≡ length l.initial.marks) × Marked l.table l.marks
-    × Ready l.l l.collection l.table l.key × Rest (splits l.collection l.l l.table l.key) (desk l.table l.list l.at) (stored_all (splits l.collection l.count l.initial.table l.key) (desk l.initial.table l.initial.list l.initial.at))
-
-abbrev pub decreases-loop-l : goal.decreases-loop-l
-decreases-loop-l l = l.l
+invariant-loop-l l = Marked l.table l.marks × Ready l.l l.collection l.table l.key
+    × Rest (splits l.collection l.l l.table l.key) (desk l.table l.list l.at) (stored_all (splits l.collection l.count l.initial.table l.key) (desk l.initial.table l.initial.list l.initial.at))

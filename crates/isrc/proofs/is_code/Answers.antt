@@ -1,11 +1,12 @@
 -- `isrc::is_code` meets its contract.
+use borrow.Author.Rules.{rules}
 use mathlib.Core.Path.{◌≡◌, refl, sym, ap, ◌∙◌}
-use mathlib.Core.Bool.{Bool, ◌&&◌}
+use mathlib.Core.Bool.{Bool, true, false, ◌&&◌}
 use Prim.Native.Nat.{ℕ}
 use native.Mathlib.Omega.{arith}
 use lib.ListN.{length, take, drop}
 use lib.Seq.{length-take-le}
-use borrow.Author.Tests.{eq-eqb, ne_eqb, not-true, not-false}
+use borrow.Author.Tests.{eq-eqb, ne_eqb}
 use Rattle.model.specs.Codes.{is_code}
 use Rattle.model.specs.Lists.{all}
 use mathlib.Core.List.{List}
@@ -27,17 +28,19 @@ pub slice_bounds-all_of-end : goal.slice_bounds-all_of-end
 slice_bounds-all_of-end c = sym (length-take-le 2 c.args.text.now (omega arith))
 
 pub returns-then-not-all_of : goal.returns-then-not-all_of
-returns-then-not-all_of c = parts _ _ _ _ c.if-text-ne12.false (sym c.all_of.ensures ∙ not-true _ c.if-not-all_of.true-raw) refl refl
+returns-then-not-all_of c =
+    let f : c.all_of.result ≡ false = search rules in
+    parts _ _ _ _ c.if-text-ne12.false (sym c.all_of.ensures ∙ f) refl refl
 
 pub returns-then-not-all_of-2 : goal.returns-then-not-all_of-2
-returns-then-not-all_of-2 c = parts _ _ _ _ c.if-text-ne12.false
-    (sym c.all_of.ensures ∙ not-false _ c.if-not-all_of.false-raw)
-    (sym c.all_of-2.ensures ∙ not-true _ c.if-not-all_of-2.true-raw)
-    refl
+returns-then-not-all_of-2 c =
+    let e : c.all_of.result ≡ true = search rules in
+    let f : c.all_of-2.result ≡ false = search rules in
+    parts _ _ _ _ c.if-text-ne12.false (sym c.all_of.ensures ∙ e) (sym c.all_of-2.ensures ∙ f) refl
 
 pub returns : goal.returns
-returns c = let text = c.args.text.now in
-    parts _ _ _ _ c.if-text-ne12.false
-    (sym c.all_of.ensures ∙ not-false _ c.if-not-all_of.false-raw)
-    (sym c.all_of-2.ensures ∙ not-false _ c.if-not-all_of-2.false-raw)
-    (sym (c.all_of-3.ensures ∙ ap (all (test Digit)) (rest 5 text)))
+returns c =
+    let e : c.all_of.result ≡ true = search rules in
+    let f : c.all_of-2.result ≡ true = search rules in
+    parts _ _ _ _ c.if-text-ne12.false (sym c.all_of.ensures ∙ e) (sym c.all_of-2.ensures ∙ f)
+    (sym (c.all_of-3.ensures ∙ ap (all (test Digit)) (rest 5 c.args.text.now)))

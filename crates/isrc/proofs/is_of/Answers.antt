@@ -23,7 +23,7 @@ unfolding test is_letter_or_digit is_letter is_digit
 either-test kind c r s e f g = rw (e, ← f, g)
 
 pub returns-then-within : goal.returns-then-within
-returns-then-within c = either-test _ _ _ _ c.in-LetterOrDigit.is c.within-in-LetterOrDigit.ensures c.if-within.true
+returns-then-within c = c.if-within.true ∙ either-test _ _ _ _ c.in-LetterOrDigit.is c.within-in-LetterOrDigit.ensures c.if-within.true
 
 pub returns-in-Letter : goal.returns-in-Letter
 returns-in-Letter c = c.within.ensures ∙ letter-test _ _ c.in-Letter.is
@@ -32,4 +32,4 @@ pub returns-in-Digit : goal.returns-in-Digit
 returns-in-Digit c = c.within-in-Digit.ensures ∙ digit-test _ _ c.in-Digit.is
 
 pub returns-else-within : goal.returns-else-within
-returns-else-within c = c.within-in-LetterOrDigit-2.ensures ∙ either-test _ _ _ _ c.in-LetterOrDigit.is c.within-in-LetterOrDigit.ensures c.if-within.false
+returns-else-within c = c.within-else-within.ensures ∙ either-test _ _ _ _ c.in-LetterOrDigit.is c.within-in-LetterOrDigit.ensures c.if-within.false

@@ -1,12 +1,11 @@
--- `isrc::write_digits` meets its contract. The loop's invariant: the digits that are still to be written, then what is written, are the whole.
-use borrow.Author.Rules.{rules}
+-- `isrc::write_digits` meets its contract.
 use mathlib.Core.Path.{◌≡◌, refl, ◌∙◌}
-use mathlib.Core.List.{List, ◌∷◌, ◌++◌, map, append-nil, append_assoc, map-append}
+use mathlib.Core.List.{List, ◌∷◌, ◌++◌, map, append_assoc, map-append}
 use Prim.Native.Nat.{ℕ, zero, suc, ◌/◌, ◌%◌, ◌≤◌, ◌<◌, ◌-◌}
-use native.Mathlib.Nat.{mod-lt, le_refl}
+use native.Mathlib.Nat.{le_refl}
 use native.Mathlib.Omega.{arith}
-use lib.ListN.{length, drop, set, length-set}
-use lib.Seq.{lt-length-set, drop-length, drop-cons, get_or-set_same, drop-set-lt}
+use lib.ListN.{length, drop, set}
+use lib.Seq.{lt-length-set, drop-cons, get_or-set_same, drop-set-lt}
 use Rattle.model.specs.Codes.{character, digits}
 use Rattle.isrc.proofs.write_digits.Goals as goal
 
@@ -28,17 +27,10 @@ unfolding digits
 done base left zero text h = refl
 done base left (suc i) text h = absurd (omega arith)
 
-pub loop-i-init : goal.loop-i-init
-loop-i-init c = (search rules, search rules, rw (drop-length, append-nil))
-
-pub character_of-requires : goal.character_of-requires
-character_of-requires c = omega (arith, mod-lt c.loop-i.left c.requires.0)
-
 pub loop-i-preserved : goal.loop-i-preserved
-loop-i-preserved c = let e =
-    write c.args.base c.loop-i.left c.loop-i.i c.character_of.result c.loop-i.text c.loop-i-test.true
-    c.loop-i.invariant.0 c.character_of.ensures in
-    (rw length-set (omega arith), search rules, e ∙ c.loop-i.invariant.2)
+loop-i-preserved c =
+    write c.args.base c.loop-i.left c.loop-i.i c.character_of.result c.loop-i.text c.loop-i-test.true (omega arith) c.character_of.ensures
+    ∙ c.loop-i.invariant
 
 pub returns : goal.returns
-returns c = done c.args.base c.loop-i.left c.loop-i.i c.loop-i.text c.loop-i-test.false ∙ c.loop-i.invariant.2
+returns c = done c.args.base c.loop-i.left c.loop-i.i c.loop-i.text c.loop-i-test.false ∙ c.loop-i.invariant

@@ -1,13 +1,9 @@
 -- `keeping::mark_node` meets its contract.
 use mathlib.Core.Path.{◌≡◌}
-use Prim.Native.Nat.{◌-◌}
 use lib.ListN.{get_or}
 use Rattle.model.specs.Table.{node}
 use Rattle.keeping.proofs.Nodes.{Looking}
 use Rattle.keeping.proofs.mark_node.Given as goal
 
 abbrev pub invariant-loop-i : goal.invariant-loop-i
-invariant-loop-i l = (q : l.x ≡ node l.table (get_or l.order l.j 0)) × (l.slots ≡ l.x.slots) × Looking l.table l.order l.j l.x q l.initial.marks l.marks l.kept l.before l.i
-
-abbrev pub decreases-loop-i : goal.decreases-loop-i
-decreases-loop-i l = 12 - l.i
+invariant-loop-i l = (q : l.x ≡ node l.table (get_or l.order l.j 0)) × Looking l.table l.order l.j l.x q l.initial.marks l.marks l.kept l.before l.i

@@ -16,18 +16,12 @@ returns-then-not-under_fence c = let a = c.args in
     let u = c.under_fence in
     marked-past a.table.now a.order.now a.marks.now (12 * a.j + a.i) a.key a.pointer a.sibling a.before a.i c.if-pointer-before.false (sym u.ensures ∙ c.if-not-under_fence.true)
 
-pub keeps-requires : goal.keeps-requires
-keeps-requires c = (omega (arith, c.requires.1, c.requires.2), c.requires.3, c.requires.4)
-
 pub returns-then-not-keeps : goal.returns-then-not-keeps
 returns-then-not-keeps c = let a = c.args in
     let u = c.under_fence in
     let k = c.keeps in
     marked-left a.table.now a.order.now a.marks.now (12 * a.j + a.i) a.key a.pointer a.sibling a.before a.i c.if-pointer-before.false
     (sym u.ensures ∙ c.if-not-under_fence.false) (sym k.ensures ∙ c.if-not-keeps.true)
-
-pub put-requires : goal.put-requires
-put-requires c = omega (arith, c.requires.1, c.requires.2, c.requires.4)
 
 pub returns : goal.returns
 returns c = let a = c.args in

@@ -1,25 +1,22 @@
--- `leaves::find_from` meets its contract. Both loops keep what looking on, from the present leaf and slot, comes to.
-use mathlib.Core.Path.{refl, sym, ◌∙◌}
+-- `leaves::find_from` meets its contract. Both loops keep what looking on, from the present leaf and way, comes to, and that nothing is found yet.
+use Rattle.std.proofs.Common.{arith, sym, ◌∙◌}
 use Rattle.leaves.proofs.HitLaws.{hit-no-leaf, hit-no-more, hit-enter, hit-here, hit-next, hit-leave}
 use Rattle.leaves.proofs.find_from.Goals as goal
 
-pub leaves-init : goal.leaves-init
-leaves-init c = record { comes-to = refl }
-
 pub returns-then-leaf-eq0 : goal.returns-then-leaf-eq0
-returns-then-leaf-eq0 c = hit-no-leaf c.leaves.invariant c.if-leaf-eq0.true
+returns-then-leaf-eq0 c = c.leaves.invariant.0 ∙ hit-no-leaf c.leaves.invariant.1 c.if-leaf-eq0.true
 
-pub returns-then-left-eq0 : goal.returns-then-left-eq0
-returns-then-left-eq0 c = hit-no-more c.leaves.invariant c.if-left-eq0.true
+pub loop-i-init : goal.loop-i-init
+loop-i-init c = (c.leaves.invariant.0, hit-enter c.leaves.invariant.1 _ _ c.if-leaf-eq0.false (omega arith) c.ways_of-w.ensures.result_value)
 
-pub loop-slot-init : goal.loop-slot-init
-loop-slot-init c = hit-enter c.leaves.invariant _ c.if-leaf-eq0.false c.if-left-eq0.false c.ways_of-w.ensures.result_value c.ways_of-w.ensures.count_bound
+pub returns-then-recording : goal.returns-then-recording
+returns-then-recording c = hit-here c.loop-i.invariant.1 c.loop-i-test.true (sym c.recording.ensures ∙ c.if-recording.true)
 
-pub loop-slot-preserved : goal.loop-slot-preserved
-loop-slot-preserved c = hit-next c.loop-slot.invariant c.loop-slot-test.true (λ e. c.if-recording.false (c.recording.ensures ∙ e))
+pub loop-i-preserved : goal.loop-i-preserved
+loop-i-preserved c = (c.loop-i.invariant.0, hit-next c.loop-i.invariant.1 (omega arith) c.loop-i-test.true (λ e. c.if-recording.false (c.recording.ensures ∙ e)))
 
 pub leaves-preserved : goal.leaves-preserved
-leaves-preserved c = hit-leave c.loop-slot.invariant _ c.loop-slot-test.false c.word-leaf.ensures
+leaves-preserved c = (c.loop-i.invariant.0, hit-leave c.loop-i.invariant.1 _ (omega arith) c.word-leaf.ensures)
 
-pub returns : goal.returns
-returns c = hit-here c.loop-slot.invariant c.loop-slot-test.true (sym c.recording.ensures ∙ c.if-recording.true)
+pub returns-after-leaves : goal.returns-after-leaves
+returns-after-leaves c = c.leaves.invariant.0 ∙ hit-no-more c.leaves.invariant.1 (omega arith)

@@ -9,5 +9,5 @@ overflow_sub-last c = some-way _ _ _ c.ways_of-w.ensures.result_value
 pub returns-then-sibling-eq0 : goal.returns-then-sibling-eq0
 returns-then-sibling-eq0 c = last-alone _ _ _ c.ways_of-w.ensures.result_value _ _ refl c.word-sibling.ensures c.if-sibling-eq0.true
 
-pub returns : goal.returns
-returns c = last-beside _ _ _ c.ways_of-w.ensures.result_value _ _ refl c.word-sibling.ensures c.if-sibling-eq0.false
+pub returns-else-sibling-eq0 : goal.returns-else-sibling-eq0
+returns-else-sibling-eq0 c = last-beside _ _ _ c.ways_of-w.ensures.result_value _ _ refl c.word-sibling.ensures c.if-sibling-eq0.false

@@ -2,5 +2,5 @@
 use Rattle.leaves.proofs.WaysLaws.{past-end}
 use Rattle.leaves.proofs.word_at.Goals as goal
 
-pub returns-then-table-w : goal.returns-then-table-w
-returns-then-table-w c = let a = c.args in past-end a.table.now a.w c.if-table-w.true
+pub returns-else-w-table : goal.returns-else-w-table
+returns-else-w-table c = let a = c.args in past-end a.table.now a.w c.if-w-table.false

@@ -1,11 +1,12 @@
 -- `marks::clear` meets its contract.
-use mathlib.Core.Path.{sym, ◌∙◌}
-use borrow.Author.Tests.{not-true, not-false}
+use borrow.Author.Rules.{rules}
+use mathlib.Core.Bool.{true, false}
+use mathlib.Core.Path.{◌≡◌, sym, ◌∙◌}
 use Rattle.marks.proofs.Words.{clear-none, clear-word}
 use Rattle.marks.proofs.clear.Goals as goal
 
 pub returns-then-not-has : goal.returns-then-not-has
-returns-then-not-has c = clear-none _ _ (sym c.has.ensures ∙ not-true _ c.if-not-has.true-raw)
+returns-then-not-has c = let e : c.has.result ≡ false = search rules in clear-none _ _ (sym c.has.ensures ∙ e)
 
 pub returns : goal.returns
-returns c = clear-word _ _ (sym c.has.ensures ∙ not-false _ c.if-not-has.false-raw)
+returns c = let e : c.has.result ≡ true = search rules in clear-word _ _ (sym c.has.ensures ∙ e)

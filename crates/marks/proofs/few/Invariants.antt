@@ -1,11 +1,8 @@
--- `marks::few` meets its contract. The loop keeps what the nodes that are left come to.
+-- The nodes that are left, and those that are passed, come to all of them.
 use mathlib.Core.Path.{◌≡◌}
 use Prim.Native.Nat.{◌+◌, ◌≤◌}
 use Rattle.marks.proofs.Rows.{total, rest_after}
 use Rattle.marks.proofs.few.Given as goal
 
-abbrev pub invariant-loop-left : goal.invariant-loop-left
-invariant-loop-left l = (l.after ≤ 65535) × (total l.marks l.nodes + l.left ≡ rest_after l.marks l.nodes l.after + l.want)
-
-abbrev pub decreases-loop-left : goal.decreases-loop-left
-decreases-loop-left l = l.left
+abbrev pub invariant-loop : goal.invariant-loop
+invariant-loop l = (l.after ≤ 65535) × (total l.marks l.nodes ≡ rest_after l.marks l.nodes l.after + l.counter)

@@ -1,11 +1,8 @@
--- `node::slots_from` meets its contract. The loop's invariant: the words of the first i slots are the table's.
+-- The words of the first i slots are the table's.
 use mathlib.Core.Path.{◌≡◌}
-use Prim.Native.Nat.{◌*◌, ◌-◌, ◌≤◌}
+use Prim.Native.Nat.{◌*◌}
 use lib.ListN.{length, take, drop}
 use Rattle.node.proofs.slots_from.Given as goal
 
 abbrev pub invariant-loop-i : goal.invariant-loop-i
-invariant-loop-i l = (l.i ≤ 12) × (length l.slots ≡ 24) × (take (2 * l.i) l.slots ≡ take (2 * l.i) (drop l.first l.table))
-
-abbrev pub decreases-loop-i : goal.decreases-loop-i
-decreases-loop-i l = 12 - l.i
+invariant-loop-i l = (length l.slots ≡ 24) × (take (2 * l.i) l.slots ≡ take (2 * l.i) (drop l.first l.table))

@@ -1,19 +1,20 @@
 -- `pack::needed` meets its contract.
-use mathlib.Core.Path.{sym, ◌∙◌}
+use mathlib.Core.Path.{◌≡◌, sym, ◌∙◌}
+use Prim.Native.Nat.{◌+◌, ◌-◌}
 use native.Mathlib.Omega.{arith}
 use Rattle.pack.proofs.Filling.{needed-start, needed-step, needed-out, needed-one}
 use Rattle.pack.proofs.needed.Goals as goal
 
-pub loop-row-init : goal.loop-row-init
-loop-row-init c = (omega arith, omega (arith, c.leaf_count-row.ensures, c.requires), omega (arith, c.leaf_count-row.ensures, c.requires), needed-start _ _ c.leaf_count-row.ensures)
+pub loop-init : goal.loop-init
+loop-init c = (omega arith, omega arith, needed-start _ _ c.leaf_count-row.ensures)
 
-pub returns-then-left-eq0 : goal.returns-then-left-eq0
-returns-then-left-eq0 c = let l = c.loop-row in sym (needed-out _ _ _ c.if-left-eq0.true) ∙ l.invariant.3
+pub returns-then-row-le1 : goal.returns-then-row-le1
+returns-then-row-le1 c = let l = c.loop in sym (needed-one l.row (15 - l.counter) l.total c.if-row-le1.true) ∙ l.invariant.2
 
-pub loop-row-preserved : goal.loop-row-preserved
-loop-row-preserved c = let l = c.loop-row in
-    let t = c.loop-row-test.true in
-    (omega arith, omega arith, omega (arith, c.if-left-eq0.false, l.invariant.2, l.invariant.1, l.invariant.0), sym (needed-step l.row l.left l.total (omega (arith, t)) c.if-left-eq0.false) ∙ l.invariant.3)
+pub loop-preserved : goal.loop-preserved
+loop-preserved c = let l = c.loop in
+    let e : 15 - l.counter - 1 ≡ 15 - (l.counter + 1) = omega arith in
+    (omega arith, omega arith, rw (← e) (sym (needed-step l.row (15 - l.counter) l.total c.if-row-le1.false (λ z. omega arith)) ∙ l.invariant.2))
 
 pub returns : goal.returns
-returns c = let l = c.loop-row in sym (needed-one l.row l.left l.total (omega (arith, c.loop-row-test.false))) ∙ l.invariant.3
+returns c = let l = c.loop in sym (needed-out l.row (15 - l.counter) l.total (omega arith)) ∙ l.invariant.2

@@ -4,6 +4,3 @@ use Rattle.pack.proofs.put_leaves.Given as goal
 
 abbrev pub invariant-loop-j : goal.invariant-loop-j
 invariant-loop-j l = Written l.initial.nodes l.before l.pairs l.leaves l.nodes l.j
-
-abbrev pub decreases-loop-j : goal.decreases-loop-j
-decreases-loop-j l = l.j

@@ -1,10 +1,6 @@
 -- `pack::put_rows` meets its contract.
-use Prim.Native.Nat.{◌-◌}
 use Rattle.pack.proofs.Raising.{Rising}
 use Rattle.pack.proofs.put_rows.Given as goal
 
 abbrev pub invariant-loop-level : goal.invariant-loop-level
 invariant-loop-level l = Rising l.initial.nodes l.before l.leaves l.nodes l.first l.row l.level
-
-abbrev pub decreases-loop-level : goal.decreases-loop-level
-decreases-loop-level l = 16 - l.level

@@ -1,8 +1,5 @@
 -- `pairs::enter_all` meets its contract. The loop keeps what entering the numbers that are left comes to.
-use mathlib.Core.Path.{◌≡◌}
 use mathlib.Core.List.{map}
-use Prim.Native.Nat.{◌-◌, ◌/◌}
-use lib.ListN.{length}
 use Rattle.model.specs.Slots.{recording, slots_of}
 use Rattle.numbers.specs.Cells.{entered_all}
 use Rattle.pairs.specs.Passes.{in_pass}
@@ -10,7 +7,4 @@ use Rattle.pairs.proofs.Passes.{Entering}
 use Rattle.pairs.proofs.enter_all.Given as goal
 
 abbrev pub invariant-loop-i : goal.invariant-loop-i
-invariant-loop-i l = (l.count ≡ length l.pairs / 2) × Entering (in_pass l.low l.high) l.pairs (entered_all (in_pass l.low l.high) (map recording (slots_of l.pairs)) l.initial.cells) l.cells l.i
-
-abbrev pub decreases-loop-i : goal.decreases-loop-i
-decreases-loop-i l = l.count - l.i
+invariant-loop-i l = Entering (in_pass l.low l.high) l.pairs (entered_all (in_pass l.low l.high) (map recording (slots_of l.pairs)) l.initial.cells) l.cells l.i

@@ -1,9 +1,16 @@
 -- `pairs::in_pass` meets its contract.
-use Rattle.pairs.proofs.Passes.{pass-below, pass-from}
+use Rattle.std.proofs.Common.{ℕ, ◌≡◌, ◌∙◌, arith, nat_cmp, is_le, is_lt}
+use lib.Dec.{leb, ltb}
+use Rattle.std.proofs.lemmas.Bool.Decides.{nat_tests}
+use Rattle.pairs.specs.Passes.{in_pass}
 use Rattle.pairs.proofs.in_pass.Goals as goal
 
-pub returns-then-place-low : goal.returns-then-place-low
-returns-then-place-low c = let a = c.args in pass-below a.low a.high a.number _ c.mixed-place.ensures c.if-place-low.true
+le-same : (a b : ℕ) → is_le (nat_cmp a b) ≡ leb a b
+le-same a b = grind (arith, nat_tests)
+
+lt-same : (a b : ℕ) → is_lt (nat_cmp a b) ≡ ltb a b
+lt-same a b = grind (arith, nat_tests)
 
 pub returns : goal.returns
-returns c = let a = c.args in pass-from a.low a.high a.number _ c.mixed-place.ensures c.if-place-low.false
+unfolding in_pass
+returns c = c.contains.ensures.value ∙ simp (le-same, lt-same, c.mixed.ensures)

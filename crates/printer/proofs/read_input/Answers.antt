@@ -10,5 +10,5 @@ use Rattle.printer.proofs.read_input.Goals as goal
 list-long : (t l : Words) → desk_of t l ≡ first_desk → length l ≡ 2560
 list-long t l e = ap (λ (d : Desk). length d.list) e
 
-pub loop-left-init : goal.loop-left-init
-loop-left-init g c = (search rules, search rules, search rules, search rules, list-long _ _ c.requires)
+pub loop-init : goal.loop-init
+loop-init g c = (search rules, list-long _ _ c.requires)

@@ -1,5 +1,6 @@
 -- `reach::is_taken` meets its contract, by the tests that led to each return.
 use native.Mathlib.Omega.{arith}
+use borrow.Author.Tests.{eq-eqb}
 use Rattle.two_laws.proofs.SameTwo.{first-there, second-there}
 use Rattle.two_laws.proofs.CollectionTwo.{collection-sound}
 use Rattle.reach.proofs.Members.{sound-words, taken-first, taken-alone, taken-second}
@@ -17,11 +18,11 @@ returns-then-is_reached c = taken-first _ _ _ c.is_reached.ensures c.if-is_reach
 pub bounds-table-3 : goal.bounds-table-3
 bounds-table-3 c = omega (arith, sound-words _ c.requires)
 
-pub returns-then-second-eq0 : goal.returns-then-second-eq0
-returns-then-second-eq0 c = taken-alone _ _ _ c.is_reached.ensures c.if-is_reached.false c.if-second-eq0.true
+pub returns-else-second-ne0 : goal.returns-else-second-ne0
+returns-else-second-ne0 c = rw (eq-eqb _ _ c.if-second-ne0.false) (taken-alone _ _ _ c.is_reached.ensures c.if-is_reached.false c.if-second-ne0.false)
 
-pub is_reached-requires-2 : goal.is_reached-requires-2
-is_reached-requires-2 c = collection-sound 2 _ c.requires (second-there _ c.if-second-eq0.false)
+pub is_reached-requires-then-second-ne0 : goal.is_reached-requires-then-second-ne0
+is_reached-requires-then-second-ne0 c = collection-sound 2 _ c.requires (second-there _ c.if-second-ne0.true)
 
-pub returns : goal.returns
-returns c = taken-second _ _ _ c.is_reached.ensures c.if-is_reached.false c.if-second-eq0.false _ c.is_reached-2.ensures
+pub returns-then-second-ne0 : goal.returns-then-second-ne0
+returns-then-second-ne0 c = taken-second _ _ _ c.is_reached.ensures c.if-is_reached.false c.if-second-ne0.true _ c.is_reached-then-second-ne0.ensures

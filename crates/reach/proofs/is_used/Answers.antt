@@ -1,6 +1,5 @@
 -- `reach::is_used` meets its contract.
 use mathlib.Core.Path.{sym, ◌∙◌}
-use borrow.Author.Tests.{not-true, not-false}
 use Rattle.reach.proofs.Marking.{put-taken}
 use Rattle.reach.proofs.Passing.{if-marked, if-free, if-new}
 use borrow.Author.Rules.{rules}
@@ -11,11 +10,11 @@ returns-then-has c = let p = c.requires.marked in
     let e = sym c.has.ensures ∙ c.if-has.true in record { value = sym (p.1 _ e); marks_after = if-marked _ _ _ p.1 e; marked_2 = p }
 
 pub returns-then-not-is_taken : goal.returns-then-not-is_taken
-returns-then-not-is_taken c = let e = sym c.is_taken.ensures ∙ not-true _ c.if-not-is_taken.true-raw in record { value = sym e; marks_after = if-free _ _ _ e; marked_2 = search rules }
+returns-then-not-is_taken c = let e = sym c.is_taken.ensures ∙ c.if-not-is_taken.true in record { value = sym e; marks_after = if-free _ _ _ e; marked_2 = search rules }
 
 pub returns : goal.returns
 returns c = let p = c.requires.marked in
-    let taken = sym c.is_taken.ensures ∙ not-false _ c.if-not-is_taken.false-raw in record {
+    let taken = sym c.is_taken.ensures ∙ c.if-not-is_taken.false in record {
       value = sym taken;
       marks_after = if-new _ _ _ taken (sym c.has.ensures ∙ c.if-has.false) _ c.mark.ensures;
       marked_2 =

@@ -1,5 +1,4 @@
 -- `reach::mark_children` meets its contract, by the tests that led to each return.
-use borrow.Author.Tests.{not-true, not-false}
 use mathlib.Core.Path.{sym, ◌∙◌}
 use Rattle.reach.proofs.Marking.{leaf-names-none, unreached-names-none, ways-named}
 use Rattle.reach.proofs.mark_children.Goals as goal
@@ -8,8 +7,8 @@ pub returns-then-word-eq0 : goal.returns-then-word-eq0
 returns-then-word-eq0 c = leaf-names-none _ _ _ c.word.ensures _ c.if-word-eq0.true
 
 pub returns-then-not-is_taken : goal.returns-then-not-is_taken
-returns-then-not-is_taken c = unreached-names-none _ _ _ c.word.ensures _ c.if-word-eq0.false (sym c.is_taken.ensures ∙ not-true _ c.if-not-is_taken.true-raw)
+returns-then-not-is_taken c = unreached-names-none _ _ _ c.word.ensures _ c.if-word-eq0.false (sym c.is_taken.ensures ∙ c.if-not-is_taken.true)
 
 pub returns : goal.returns
 returns c = ways-named _ _ _ c.word.ensures _ c.if-word-eq0.false _ _ _ c.read-x.ensures c.word-bound.ensures c.gather.ensures.result_value
-    (sym c.is_taken.ensures ∙ not-false _ c.if-not-is_taken.false-raw) _ c.mark_ways.ensures
+    (sym c.is_taken.ensures ∙ c.if-not-is_taken.false) _ c.mark_ways.ensures

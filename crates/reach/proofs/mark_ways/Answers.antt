@@ -1,16 +1,15 @@
 -- `reach::mark_ways` meets its contract. The loop keeps what the marks come to with the ways that are left.
-use mathlib.Core.Path.{refl, ap, ◌∙◌}
+use Rattle.std.proofs.Common.{◌≤◌, length, ap, ◌∙◌, arith}
 use Rattle.reach.specs.Marks.{put_all}
-use Rattle.reach.proofs.Marking.{ahead-all, ahead-none, ahead-more}
-use borrow.Author.Rules.{rules}
+use Rattle.reach.proofs.Marking.{pointers-taken, put_all-more, put_all-end}
 use Rattle.reach.proofs.mark_ways.Goals as goal
 
-pub loop-i-init : goal.loop-i-init
-loop-i-init c = (c.requires.marks_len, refl)
-
-pub loop-i-preserved : goal.loop-i-preserved
-loop-i-preserved c = (search rules, ap (put_all _) c.mark.ensures ∙ ahead-more _ _ _ _ c.loop-i-test.true ∙ c.loop-i.invariant.1)
+pub loop-n-preserved : goal.loop-n-preserved
+loop-n-preserved c = let l = c.loop-n in record {
+  marks_len = omega (arith, c.mark.auto.marks, l.invariant.marks_len);
+  rest = ap (put_all _) c.mark.ensures ∙ put_all-more _ _ _ c.loop-n-test.true ∙ l.invariant.rest;
+}
 
 pub returns : goal.returns
-returns c = let l = c.loop-i in
-    ahead-none _ _ _ _ c.loop-i-test.false ∙ l.invariant.1 ∙ ahead-all c.args.w _
+returns c = let w = c.args.w in let h : w.count ≤ length w.pointers = omega arith in
+    rw (pointers-taken w h) (put_all-end _ _ _ c.loop-n-test.false ∙ c.loop-n.invariant.rest)

@@ -1,32 +1,28 @@
 -- `recordings::place` meets its contract.
-use Prim.Native.Nat.{ℕ, ◌%◌, ◌<◌}
-use mathlib.Core.Path.{◌≡◌, ap}
-use Rattle.recordings.specs.Rounds.{PLACES, prime_of, place_of}
-use Rattle.recordings.proofs.RoundLaws.{place-below, place-at, prime-last}
+use Rattle.std.proofs.Common.{ap, arith}
+use Rattle.recordings.specs.Rounds.{prime_of}
+use Rattle.recordings.proofs.RoundLaws.{place-at, prime-last}
 use Rattle.recordings.proofs.place.Goals as goal
 
-both : (k x p : ℕ) → prime_of k ≡ p → (x % p ≡ place_of k x) × (x % p < PLACES)
-both k x p e = let q = place-at k x p e in (q, rw q (place-below k x))
-
-pub returns-then-round-eq0 : goal.returns-then-round-eq0
+pub returns-in-0-clause-value : goal.returns-in-0-clause-value
 unfolding prime_of
-returns-then-round-eq0 c = let both = both c.args.round _ 1048573 (ap prime_of c.if-round-eq0.true) in record { value = both.0; upper_bound = both.1 }
+returns-in-0-clause-value c = place-at _ _ 1048573 (ap prime_of c.in-0.is)
 
-pub returns-then-round-eq1 : goal.returns-then-round-eq1
+pub returns-in-1-clause-value : goal.returns-in-1-clause-value
 unfolding prime_of
-returns-then-round-eq1 c = let both = both c.args.round _ 906973 (ap prime_of c.if-round-eq1.true) in record { value = both.0; upper_bound = both.1 }
+returns-in-1-clause-value c = place-at _ _ 906973 (ap prime_of c.in-1.is)
 
-pub returns-then-round-eq2 : goal.returns-then-round-eq2
+pub returns-in-2-clause-value : goal.returns-in-2-clause-value
 unfolding prime_of
-returns-then-round-eq2 c = let both = both c.args.round _ 975157 (ap prime_of c.if-round-eq2.true) in record { value = both.0; upper_bound = both.1 }
+returns-in-2-clause-value c = place-at _ _ 975157 (ap prime_of c.in-2.is)
 
-pub returns-then-round-eq3 : goal.returns-then-round-eq3
+pub returns-in-3-clause-value : goal.returns-in-3-clause-value
 unfolding prime_of
-returns-then-round-eq3 c = let both = both c.args.round _ 1011827 (ap prime_of c.if-round-eq3.true) in record { value = both.0; upper_bound = both.1 }
+returns-in-3-clause-value c = place-at _ _ 1011827 (ap prime_of c.in-3.is)
 
-pub returns-then-round-eq4 : goal.returns-then-round-eq4
+pub returns-in-4-clause-value : goal.returns-in-4-clause-value
 unfolding prime_of
-returns-then-round-eq4 c = let both = both c.args.round _ 938459 (ap prime_of c.if-round-eq4.true) in record { value = both.0; upper_bound = both.1 }
+returns-in-4-clause-value c = place-at _ _ 938459 (ap prime_of c.in-4.is)
 
-pub returns : goal.returns
-returns c = let both = both c.args.round _ 891287 (prime-last _ c.if-round-eq0.false c.if-round-eq1.false c.if-round-eq2.false c.if-round-eq3.false c.if-round-eq4.false) in record { value = both.0; upper_bound = both.1 }
+pub returns-in_default-clause-value : goal.returns-in_default-clause-value
+returns-in_default-clause-value c = place-at _ _ 891287 (prime-last _ (omega arith))

@@ -1,11 +1,15 @@
 -- `recordings::ways` meets its contract.
-use mathlib.Core.Path.{◌∙◌}
-use Rattle.recordings.proofs.LeafLaws.{leaf-kept, ways-kept}
-use borrow.Author.Rules.{rules}
+use Rattle.std.proofs.Common.{◌≤◌, map, ap, length, ◌∙◌, arith}
+use Rattle.model.specs.Slots.{recording}
+use Rattle.recordings.proofs.LeafLaws.{leaf-kept, ways-some, ways-kept}
 use Rattle.recordings.proofs.ways.Goals as goal
 
-pub leaf-x-requires : goal.leaf-x-requires
-leaf-x-requires c = record { marks_len = search rules; n_bound = search rules }
-
 pub returns : goal.returns
-returns c = let x = c.leaf-x.result in record { result_value = ways-kept x _ _ c.gather.ensures.result_value ∙ leaf-kept _ _ _ x _ c.leaf-x.ensures c.word-bound.ensures; count_bound = c.gather.ensures.count_bound }
+returns c = let w = c.gather.result in
+    let is = c.gather.ensures.result_value in
+    let high : w.count ≤ length w.pointers = omega (arith, c.gather.ensures.count_bound) in
+    record {
+      numbers = ways-kept c.leaf-x.result _ w is high ∙ ap (map recording) (leaf-kept _ _ _ c.leaf-x.result _ c.leaf-x.ensures c.word-bound.ensures);
+      count_low = ways-some c.leaf-x.result _ w is;
+      count_high = c.gather.ensures.count_bound;
+    }

@@ -1,50 +1,56 @@
 -- `salvage::salvage` meets its contract.
-use mathlib.Core.Path.{refl}
+use mathlib.Core.Path.{refl, sym, ◌∙◌}
 use native.Mathlib.Omega.{arith}
+use Rattle.std.proofs.lemmas.Result.{err_from_is_err_and}
+use Rattle.model.proofs.Numbers.{failed-some, failed-with}
 use Rattle.salvage.proofs.Entering.{words-some}
 use Rattle.salvage.proofs.Bounds.{grown, fits}
-use Rattle.salvage.proofs.Call.{header-good, header-bad, order-long, refused-header, refused-length, refused-report, refused-outgrown, salvaged}
+use Rattle.salvage.proofs.Call.{header-good, order-long, refused-header, refused-length, refused-report, refused-outgrown, salvaged}
 use Rattle.salvage.proofs.salvage.Goals as goal
 
-pub returns-then-header-ne0 : goal.returns-then-header-ne0
-returns-then-header-ne0 c = let a = c.args in let both = refused-header a.table.now a.out.now a.report.now (header-bad a.table.now _ c.header.ensures c.if-header-ne0.true) in
-    record { value = both.0; out_after = both.1.0; report_after = both.1.1 }
+pub returns-in_err-header : goal.returns-in_err-header
+returns-in_err-header c =
+    let a = c.args in
+    let p = err_from_is_err_and c.from_residual.result c.from_residual.ensures.1 in
+    let e = sym c.header.ensures ∙ c.in_err-header.was in
+    let all = refused-header a.table.now a.out.now a.report.now (failed-some _ e) in
+    record { value = rw (p.1, p.2) (sym (failed-with _ e) ∙ all.0); out_after = all.1.0; report_after = all.1.1 }
 
 pub returns-then-out-table : goal.returns-then-out-table
 returns-then-out-table c = let a = c.args in
-    let h = header-good a.table.now _ c.header.ensures c.if-header-ne0.false in let both = refused-length a.table.now a.out.now a.report.now h c.if-out-table.true in record { value = both.0; out_after = both.1.0; report_after = both.1.1 }
+    let h = header-good a.table.now c.header.ensures c.in_ok-header.was in let both = refused-length a.table.now a.out.now a.report.now h c.if-out-table.true in record { value = both.0; out_after = both.1.0; report_after = both.1.1 }
 
 pub bounds-table-2 : goal.bounds-table-2
 bounds-table-2 c = let a = c.args in
-    let h = header-good a.table.now _ c.header.ensures c.if-header-ne0.false in
+    let h = header-good a.table.now c.header.ensures c.in_ok-header.was in
     let w = words-some a.table.now h in
     omega (arith, w.0)
 
 pub overflow_mul-top : goal.overflow_mul-top
 overflow_mul-top c = let a = c.args in
-    let h = header-good a.table.now _ c.header.ensures c.if-header-ne0.false in
+    let h = header-good a.table.now c.header.ensures c.in_ok-header.was in
     let w = words-some a.table.now h in
     omega (arith, w.1)
 
 pub returns-then-report-top : goal.returns-then-report-top
 returns-then-report-top c = let a = c.args in
-    let h = header-good a.table.now _ c.header.ensures c.if-header-ne0.false in let both = refused-report a.table.now a.out.now a.report.now h c.if-out-table.false c.if-report-top.true in
+    let h = header-good a.table.now c.header.ensures c.in_ok-header.was in let both = refused-report a.table.now a.out.now a.report.now h c.if-out-table.false c.if-report-top.true in
     record { value = both.0; out_after = both.1.0; report_after = both.1.1 }
 
 pub enter_nodes-counts-requires : goal.enter_nodes-counts-requires
 enter_nodes-counts-requires c = let a = c.args in
-    let h = header-good a.table.now _ c.header.ensures c.if-header-ne0.false in
+    let h = header-good a.table.now c.header.ensures c.in_ok-header.was in
     (h, refl, order-long)
 
 pub needed_both-requires : goal.needed_both-requires
 needed_both-requires c = let a = c.args in
-    let h = header-good a.table.now _ c.header.ensures c.if-header-ne0.false in
+    let h = header-good a.table.now c.header.ensures c.in_ok-header.was in
     let m = c.most_kept-bounds.ensures.most in
     ((words-some a.table.now h).0, m.one-few, m.two-few)
 
 pub returns-then-top-needed_both : goal.returns-then-top-needed_both
 returns-then-top-needed_both c = let a = c.args in
-    let h = header-good a.table.now _ c.header.ensures c.if-header-ne0.false in
+    let h = header-good a.table.now c.header.ensures c.in_ok-header.was in
     let e = c.enter_nodes-counts in
     let m = c.most_kept-bounds in
     let g = grown a.table.now e.new.order _ _ _ e.ensures m.result.one m.result.two _ c.needed_both.ensures m.ensures.two_value c.if-top-needed_both.true in let both =
@@ -58,7 +64,7 @@ rebuild-dropped-requires c = let e = c.enter_nodes-counts in
 
 pub returns : goal.returns
 returns c = let a = c.args in
-    let h = header-good a.table.now _ c.header.ensures c.if-header-ne0.false in
+    let h = header-good a.table.now c.header.ensures c.in_ok-header.was in
     let e = c.enter_nodes-counts in
     let m = c.most_kept-bounds in
     let b = fits a.table.now e.new.order _ _ _ e.ensures m.result.one m.result.two _ c.needed_both.ensures m.ensures.two_value c.if-top-needed_both.false in

@@ -1,11 +1,12 @@
 -- `script_bytes::begun` meets its contract.
-use mathlib.Core.Path.{◌≡◌, refl, sym, ap}
+use mathlib.Core.Path.{◌≡◌, refl}
 use mathlib.Core.Bool.{true}
 use mathlib.Core.Logic.{◌≢◌}
 use Rattle.script_bytes.specs.Line.{begun}
 use Rattle.script_bytes.specs.declared.Place.{Place}
 use Rattle.script_bytes.specs.declared.Place.TheVariants.{Start, Sign, CodeStart, Code, RecordingStart, Recording, Other}
 use Rattle.script_bytes.proofs.begun.Goals as goal
+use Rattle.script_bytes.proofs.begun.Goals.{in-Start, in_default}
 
 -- all variants but the first
 past-start : (p : Place) → p ≢ Start → true ≡ begun p
@@ -18,9 +19,6 @@ past-start RecordingStart h = refl
 past-start Recording h = refl
 past-start Other h = refl
 
-pub returns-in-Start : goal.returns-in-Start
+pub returns : goal.returns
 unfolding begun
-returns-in-Start c = sym (ap begun c.in-Start.is)
-
-pub returns-in_default : goal.returns-in_default
-returns-in_default c = past-start _ c.in_default.not-Start
+returns c = elim c.match-matches.branch [ in-Start w ↦ rw (w.matches-is, w.in-Start.is) | in_default w ↦ rw w.matches-is (past-start _ w.in_default.not-Start) ]

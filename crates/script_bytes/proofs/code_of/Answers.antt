@@ -1,11 +1,14 @@
 -- `script_bytes::code_of` meets its contract.
+use mathlib.Core.Path.{sym}
 use borrow.Author.Tests.{eq-eqb, ne_eqb}
+use Rattle.model.specs.declared.Refusal.TheVariants.{NoCode}
+use Rattle.model.proofs.Numbers.{refused-by}
 use Rattle.script_bytes.specs.Line.{code_of}
 use Rattle.script_bytes.proofs.code_of.Goals as goal
 
 pub returns-then-s-ne12 : goal.returns-then-s-ne12
 unfolding code_of
-returns-then-s-ne12 c = rw (ne_eqb _ _ c.if-s-ne12.true)
+returns-then-s-ne12 c = rw (ne_eqb _ _ c.if-s-ne12.true) (sym (refused-by NoCode))
 
 pub returns : goal.returns
 unfolding code_of

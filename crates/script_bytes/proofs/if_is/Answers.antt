@@ -5,5 +5,5 @@ use Rattle.script_bytes.proofs.if_is.Goals as goal
 pub returns-then-b-c : goal.returns-then-b-c
 returns-then-b-c c = rw (eq-eqb c.args.b c.args.c c.if-b-c.true)
 
-pub returns : goal.returns
-returns c = rw (ne_eqb c.args.b c.args.c c.if-b-c.false)
+pub returns-else-b-c : goal.returns-else-b-c
+returns-else-b-c c = rw (ne_eqb c.args.b c.args.c c.if-b-c.false)

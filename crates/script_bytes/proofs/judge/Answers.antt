@@ -1,20 +1,27 @@
 -- `script_bytes::judge` meets its contract.
-use mathlib.Core.Path.{◌≡◌, refl, ap, ◌∙◌}
+use mathlib.Core.Path.{◌≡◌, refl, sym, ◌∙◌}
+use mathlib.Core.Bool.{false}
 use mathlib.Core.Logic.{◌≢◌}
-use Rattle.script_bytes.specs.Line.{deletion_of, request_at}
+use Rattle.std.specs.Prelude.{None, Ok}
+use Rattle.std.proofs.lemmas.Result.{err_from_is_err_and}
+use Rattle.model.specs.Results.{Parsed}
+use Rattle.script_bytes.specs.Line.{code_of, insertion_of, deletion_of, request_at}
 use Rattle.script_bytes.specs.declared.LineState.{LineState}
-use Rattle.script_bytes.specs.declared.Request.{Request}
-use Rattle.script_bytes.specs.declared.Request.TheVariants.{Refused}
 use Rattle.script_bytes.specs.declared.Place.{Place}
 use Rattle.script_bytes.specs.declared.Place.TheVariants.{Start, Sign, CodeStart, Code, RecordingStart, Recording, Other}
 use Rattle.script_bytes.proofs.judge.Goals as goal
 
--- what the arm of place q gives is right where the place is q
-arm : (s : LineState) (p q : Place) (r : Request) → p ≡ q → r ≡ request_at q s → r ≡ request_at p s
-arm s p q r e h = rw e h
+-- the two whole forms, by what their code is read as
+deletes : (s : LineState) (p : Place) (x : Parsed) → p ≡ Code → s.plus ≡ false → x ≡ code_of s → deletion_of x ≡ request_at p s
+unfolding request_at
+deletes s p x e f h = rw (e, ← h, f)
+
+inserts : (s : LineState) (p : Place) (x : Parsed) → p ≡ Recording → x ≡ code_of s → insertion_of x s.recording ≡ request_at p s
+unfolding request_at
+inserts s p x e h = rw (e, ← h)
 
 -- the places of no whole form
-unfinished : (s : LineState) (p : Place) → p ≢ Code → p ≢ Recording → Refused 0 ≡ request_at p s
+unfinished : (s : LineState) (p : Place) → p ≢ Code → p ≢ Recording → Ok None ≡ request_at p s
 unfolding request_at
 unfinished s Start h i = refl
 unfinished s Sign h i = refl
@@ -24,18 +31,26 @@ unfinished s RecordingStart h i = refl
 unfinished s Recording h i = absurd (i refl)
 unfinished s Other h i = refl
 
-pub returns-then-s : goal.returns-then-s
-unfolding request_at
-returns-then-s c = arm _ _ _ _ c.in-Code.is (rw c.if-s.true)
+pub returns-in_err-code_of-in-Code-2 : goal.returns-in_err-code_of-in-Code-2
+returns-in_err-code_of-in-Code-2 c =
+    let p = err_from_is_err_and c.from_residual.result c.from_residual.ensures.1 in
+    rw (p.1, p.2) (deletes _ _ _ c.in-Code-2.is c.if-s.false (sym c.in_err-code_of-in-Code-2.was ∙ c.code_of.ensures))
 
-pub returns-else-s : goal.returns-else-s
-unfolding request_at
-returns-else-s c = arm _ _ _ _ c.in-Code.is
-    (c.deletion_of.ensures ∙ ap deletion_of c.code_of.ensures ∙ rw c.if-s.false)
+pub returns-in_err-key-in-Recording : goal.returns-in_err-key-in-Recording
+returns-in_err-key-in-Recording c =
+    let r = c.from_residual-in_err-key-in-Recording in
+    let p = err_from_is_err_and r.result r.ensures.1 in
+    rw (p.1, p.2) (inserts _ _ _ c.in-Recording.is (sym c.in_err-key-in-Recording.was ∙ c.code_of-in-Recording.ensures))
 
-pub returns-in-Recording : goal.returns-in-Recording
+pub returns-in-Code : goal.returns-in-Code
 unfolding request_at
-returns-in-Recording c = arm _ _ _ _ c.in-Recording.is (c.insertion_of.ensures ∙ rw c.code_of-in-Recording.ensures)
+returns-in-Code c = rw (c.in-Code.is, c.if-s.true)
+
+pub returns-in_ok-code_of-in-Code-2 : goal.returns-in_ok-code_of-in-Code-2
+returns-in_ok-code_of-in-Code-2 c = deletes _ _ _ c.in-Code-2.is c.if-s.false (sym c.in_ok-code_of-in-Code-2.was ∙ c.code_of.ensures)
+
+pub returns-in_ok-key-in-Recording : goal.returns-in_ok-key-in-Recording
+returns-in_ok-key-in-Recording c = inserts _ _ _ c.in-Recording.is (sym c.in_ok-key-in-Recording.was ∙ c.code_of-in-Recording.ensures)
 
 pub returns-in_default : goal.returns-in_default
 returns-in_default c = unfinished _ _ c.in_default.not-Code c.in_default.not-Recording

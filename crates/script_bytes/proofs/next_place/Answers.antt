@@ -1,6 +1,7 @@
 -- `script_bytes::next_place` meets its contract.
 use mathlib.Core.Path.{◌≡◌, refl, ◌∙◌}
 use mathlib.Core.Bool.{Bool}
+use mathlib.Core.Logic.{inl, inr}
 use Prim.Native.Nat.{ℕ}
 use borrow.Author.Tests.{eq-eqb, ne_eqb}
 use Rattle.script_bytes.specs.Line.{next_place}
@@ -38,11 +39,7 @@ returns-else-plus c = arm _ _ _ _ _ c.in-Code.is (c.if_is-in-Code.ensures ∙ rw
 
 pub returns-in-RecordingStart : goal.returns-in-RecordingStart
 unfolding next_place
-returns-in-RecordingStart c = arm _ _ _ _ _ c.in-RecordingStart.is refl
-
-pub returns-in-Recording : goal.returns-in-Recording
-unfolding next_place
-returns-in-Recording c = arm _ _ _ _ _ c.in-Recording.is refl
+returns-in-RecordingStart c = elim c.in-RecordingStart.is [ inl e ↦ arm _ _ _ _ _ e refl | inr e ↦ arm _ _ _ _ _ e refl ]
 
 pub returns-in-Other : goal.returns-in-Other
 unfolding next_place

@@ -2,12 +2,11 @@
 use mathlib.Core.Path.{◌≡◌, sym, ap, ◌∙◌}
 use mathlib.Core.Bool.{true, false}
 use mathlib.Core.Logic.{◌≢◌}
-use Prim.Native.Nat.{ℕ, suc, ◌+◌, ◌≤◌, ◌<◌}
+use Prim.Native.Nat.{ℕ, suc, ◌+◌, ◌<◌}
 use native.Mathlib.Numerals.{add-one}
 use native.Mathlib.Omega.{arith}
 use lib.ListN.{length, get_or, drop, drop_of_length-le}
 use lib.Seq.{drop-cons}
-use borrow.Author.Rules.{rules}
 use borrow.Author.Tests.{ne_eqb}
 use Rattle.model.specs.Printer.{Bytes}
 use Rattle.script_bytes.specs.Line.{step, line_in}
@@ -32,20 +31,20 @@ module _ (s : LineState) (i : ℕ) (piece : Bytes) where
       let n : i + suc x.used ≡ suc i + x.used = omega arith in
       rw (drop-cons piece i 0 h, line_in, ne_eqb (get_or piece i 0) 10 e, add-one i, f) (ap (used_as x) n)
 
-  at-end : length piece ≤ i → record { line = s; used = i; ended = false } ≡ left s i piece
+  at-end : length piece ≡ i → record { line = s; used = length piece; ended = false } ≡ left s i piece
   unfolding line_in
   at-end h =
-      let n : i ≡ i + 0 = omega arith in
-      rw (drop_of_length-le piece h, line_in) (ap (used_as (record { line = s; used = i; ended = false })) n)
+      let n : length piece ≡ i + 0 = omega arith in
+      rw (drop_of_length-le piece {i = i} (omega (arith, h)), line_in) (ap (used_as (record { line = s; used = i; ended = false })) n)
 
 pub loop-i-init : goal.loop-i-init
-loop-i-init c = (search rules, at-start _ _)
+loop-i-init c = at-start _ _
 
 pub returns-then-b-eq10 : goal.returns-then-b-eq10
-returns-then-b-eq10 c = at-feed _ _ _ (omega arith) c.if-b-eq10.true ∙ sym c.loop-i.invariant.1
+returns-then-b-eq10 c = at-feed _ _ _ (omega arith) c.if-b-eq10.true ∙ sym c.loop-i.invariant
 
 pub loop-i-preserved : goal.loop-i-preserved
-loop-i-preserved c = (search rules, c.loop-i.invariant.1 ∙ at_other _ _ _ (omega arith) c.if-b-eq10.false _ c.take-s.ensures)
+loop-i-preserved c = c.loop-i.invariant ∙ at_other _ _ _ (omega arith) c.if-b-eq10.false _ c.take-s.ensures
 
 pub returns : goal.returns
-returns c = at-end _ _ _ (omega arith) ∙ sym c.loop-i.invariant.1
+returns c = at-end _ _ _ (omega arith) ∙ sym c.loop-i.invariant

@@ -1,7 +1,7 @@
 -- `script_bytes::read_line` meets its contract. The loop's invariant: what is left of the piece, read from the line so far, is the whole read.
 use mathlib.Core.Path.{◌≡◌}
-use Prim.Native.Nat.{ℕ, ◌+◌, ◌-◌, ◌≤◌}
-use lib.ListN.{length, drop}
+use Prim.Native.Nat.{ℕ, ◌+◌}
+use lib.ListN.{drop}
 use Rattle.model.specs.Printer.{Bytes}
 use Rattle.script_bytes.specs.Line.{line_in}
 use Rattle.script_bytes.specs.declared.LineState.{LineState}
@@ -17,7 +17,4 @@ abbrev pub left : LineState → ℕ → Bytes → LineRead
 left s i piece = let x = line_in s (drop i piece) in used_as x (i + x.used)
 
 abbrev pub invariant-loop-i : goal.invariant-loop-i
-invariant-loop-i l = (l.i ≤ length l.piece) × (line_in l.initial.s l.piece ≡ left l.s l.i l.piece)
-
-abbrev pub decreases-loop-i : goal.decreases-loop-i
-decreases-loop-i l = length l.piece - l.i
+invariant-loop-i l = line_in l.initial.s l.piece ≡ left l.s l.i l.piece

@@ -3,10 +3,10 @@ use borrow.Author.Tests.{lt-ltb, le-ltb}
 use Rattle.script_bytes.specs.Line.{with_character}
 use Rattle.script_bytes.proofs.with_character.Goals as goal
 
-pub returns-then-n-lt12 : goal.returns-then-n-lt12
+pub returns-then-s-lt12 : goal.returns-then-s-lt12
 unfolding with_character
-returns-then-n-lt12 c = rw (lt-ltb _ _ c.if-n-lt12.true)
+returns-then-s-lt12 c = rw (lt-ltb _ _ c.if-s-lt12.true)
 
-pub returns-else-n-lt12 : goal.returns-else-n-lt12
+pub returns-else-s-lt12 : goal.returns-else-s-lt12
 unfolding with_character
-returns-else-n-lt12 c = rw (le-ltb _ _ c.if-n-lt12.false)
+returns-else-s-lt12 c = rw (le-ltb _ _ c.if-s-lt12.false)

@@ -3,9 +3,9 @@ use Rattle.slots.proofs.Scans.{used-counted}
 use Rattle.search.proofs.Standing.{down-read}
 use Rattle.search.proofs.down.Goals as goal
 
-pub scan-seen-requires : goal.scan-seen-requires
-scan-seen-requires c = record { end_bound = c.count-end.ensures.upper_bound; end_value = used-counted _ _ c.count-end.ensures.value }
+pub scan-requires-clause-end_value : goal.scan-requires-clause-end_value
+scan-requires-clause-end_value c = used-counted _ _ c.count-end.ensures.value
 
 pub returns : goal.returns
 returns c = let a = c.args in
-    down-read a.table.now a.m a.key c.read-x.result _ c.read-x.ensures c.scan-seen.ensures.way_value
+    down-read a.table.now a.m a.key c.read-x.result _ c.read-x.ensures c.scan.ensures.way_value

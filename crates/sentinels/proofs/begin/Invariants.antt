@@ -1,12 +1,9 @@
 -- `sentinels::begin` meets its contract. The loop keeps that the slots from i on tell what comes before slot first as all of them do.
 use mathlib.Core.Path.{◌≡◌}
-use Prim.Native.Nat.{◌≤◌, ◌-◌}
+use Prim.Native.Nat.{◌-◌}
 use Rattle.slots.specs.Scan.{used_from}
 use Rattle.sentinels.specs.Lines.{left_at, words_at, slots_at, begun_in}
 use Rattle.sentinels.proofs.begin.Given as goal
 
 abbrev pub invariant-loop-i : goal.invariant-loop-i
-invariant-loop-i l = (l.i ≤ l.first) × (begun_in l.before (l.first - l.i) (used_from (words_at l.table l.w) l.i) ≡ begun_in (left_at l.table l.w) l.first (slots_at l.table l.w))
-
-abbrev pub decreases-loop-i : goal.decreases-loop-i
-decreases-loop-i l = l.first - l.i
+invariant-loop-i l = begun_in l.before (l.first - l.i) (used_from (words_at l.table l.w) l.i) ≡ begun_in (left_at l.table l.w) l.first (slots_at l.table l.w)

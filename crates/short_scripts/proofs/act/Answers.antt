@@ -1,27 +1,28 @@
 -- `short_scripts::act` meets its contract.
 use native.Mathlib.Omega.{arith}
+use borrow.Author.Rules.{rules}
 use Rattle.short_scripts.proofs.Acting.{few-orders, acts-done, acts-refused}
 use Rattle.short_scripts.proofs.act.Goals as goal
 
 pub overflow_add-count : goal.overflow_add-count
 overflow_add-count c = let k = c.call-answer in
-    omega (arith, few-orders c.args.action c.args.list.now c.args.table.now c.args.held k.ensures.list_len c.requires.table_value c.requires.table_value_2 _ _ _ _ k.ensures.value c.in-Done.is)
+    omega (arith, few-orders c.args.action c.args.list.now c.args.table.now c.args.held.now k.ensures.list_len c.requires.table_value c.requires.table_value_2 _ _ k.ensures.value c.in-Ok.is)
 
 pub count_bad-bad-requires : goal.count_bad-bad-requires
 count_bad-bad-requires c = let k = c.call-answer in
-    omega (arith, few-orders c.args.action c.args.list.now c.args.table.now c.args.held k.ensures.list_len c.requires.table_value c.requires.table_value_2 _ _ _ _ k.ensures.value c.in-Done.is)
+    omega (arith, few-orders c.args.action c.args.list.now c.args.table.now c.args.held.now k.ensures.list_len c.requires.table_value c.requires.table_value_2 _ _ k.ensures.value c.in-Ok.is)
 
 pub overflow_add-result : goal.overflow_add-result
 overflow_add-result c = let k = c.call-answer in
-    omega (arith, few-orders c.args.action c.args.list.now c.args.table.now c.args.held k.ensures.list_len c.requires.table_value c.requires.table_value_2 _ _ _ _ k.ensures.value c.in-Done.is)
+    omega (arith, few-orders c.args.action c.args.list.now c.args.table.now c.args.held.now k.ensures.list_len c.requires.table_value c.requires.table_value_2 _ _ k.ensures.value c.in-Ok.is)
 
-pub returns-in-Done : goal.returns-in-Done
-returns-in-Done c = let k = c.call-answer in record {
-  acts = acts-done c.args.action c.args.list.now c.args.table.now c.args.held k.ensures.list_len c.requires.table_value c.requires.table_value_2 _ _ _ _ k.ensures.value c.in-Done.is
-      _ c.change-next.ensures _ k.ensures.list_after _ c.count_bad-bad.ensures;
+pub returns-in-Ok : goal.returns-in-Ok
+returns-in-Ok c = let k = c.call-answer in record {
+  acts = acts-done c.args.action c.args.list.now c.args.table.now c.args.held.now k.ensures.list_len c.requires.table_value c.requires.table_value_2 _ _ k.ensures.value c.in-Ok.is
+      (search rules) _ c.change-next.ensures _ k.ensures.list_after _ c.count_bad-bad.ensures;
   table_after = k.ensures.table_after;
 }
 
-pub returns-in-Refused : goal.returns-in-Refused
-returns-in-Refused c = let k = c.call-answer in
-    record { acts = acts-refused c.args.action c.args.list.now c.args.table.now c.args.held k.ensures.list_len c.requires.table_value c.requires.table_value_2 _ _ k.ensures.value c.in-Refused.is; table_after = k.ensures.table_after }
+pub returns-in-Err : goal.returns-in-Err
+returns-in-Err c = let k = c.call-answer in
+    record { acts = acts-refused c.args.action c.args.list.now c.args.table.now c.args.held.now k.ensures.list_len c.requires.table_value c.requires.table_value_2 _ _ k.ensures.value c.in-Err.is; table_after = k.ensures.table_after }

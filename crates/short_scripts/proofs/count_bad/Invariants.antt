@@ -6,7 +6,4 @@ use Rattle.short_scripts.specs.Met.{bad_among}
 use Rattle.short_scripts.proofs.count_bad.Given as goal
 
 abbrev pub invariant-loop-c : goal.invariant-loop-c
-invariant-loop-c l = (l.c ≤ l.count + 1) × (l.bad ≤ l.c) × (l.bad + bad_among (pairs l.old) (pairs l.new) l.table l.list l.c (l.count + 1 - l.c) ≡ bad_among (pairs l.old) (pairs l.new) l.table l.list 0 (l.count + 1))
-
-abbrev pub decreases-loop-c : goal.decreases-loop-c
-decreases-loop-c l = l.count + 1 - l.c
+invariant-loop-c l = (l.bad ≤ l.c) × (l.bad + bad_among (pairs l.old) (pairs l.new) l.table l.list l.c (l.count + 1 - l.c) ≡ bad_among (pairs l.old) (pairs l.new) l.table l.list 0 (l.count + 1))

@@ -1,25 +1,17 @@
 -- `short_scripts::forms` meets its contract.
-use mathlib.Core.Path.{sym, ◌∙◌}
-use borrow.Author.Tests.{lt-leb, le-leb, not-true, not-false}
-use Rattle.model.specs.Scripts.{form_script}
+use mathlib.Core.Path.{◌≡◌}
+use native.Mathlib.Omega.{arith}
+use lib.ListN.{length}
+use borrow.Author.Rules.{rules}
+use Rattle.short_scripts.proofs.Words.{form-past, form-other, form-long}
 use Rattle.short_scripts.proofs.forms.Goals as goal
 
--- bounds-words-0
+pub returns-then-words-gt4 : goal.returns-then-words-gt4
+returns-then-words-gt4 c = form-long _ c.if-words-gt4.true
 
-pub returns-then-count-gt4 : goal.returns-then-count-gt4
-unfolding form_script
-returns-then-count-gt4 c = rw (lt-leb _ _ c.if-count-gt4.true)
+pub returns-then-none_above : goal.returns-then-none_above
+returns-then-none_above c = let l : length c.args.words ≡ 5 = search rules in
+    form-past c.args.words c.if-words-gt4.false _ c.none_above.ensures c.if-none_above.true _ (omega arith) _ c.none_above-then-none_above.ensures
 
--- all_six-requires
-
-pub returns-then-not-all_six : goal.returns-then-not-all_six
-unfolding form_script
-returns-then-not-all_six c = let e = sym c.all_six.ensures ∙ not-true _ c.if-not-all_six.true-raw in
-    rw (le-leb _ _ c.if-count-gt4.false, e)
-
--- zero_past-requires
-
-pub returns : goal.returns
-unfolding form_script
-returns c = let e = sym c.all_six.ensures ∙ not-false _ c.if-not-all_six.false-raw in
-    c.zero_past.ensures ∙ rw (le-leb _ _ c.if-count-gt4.false, e)
+pub returns-else-none_above : goal.returns-else-none_above
+returns-else-none_above c = form-other c.args.words c.if-words-gt4.false _ c.none_above.ensures c.if-none_above.false

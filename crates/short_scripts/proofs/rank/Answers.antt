@@ -1,29 +1,38 @@
 -- `short_scripts::rank` meets its contract.
-use mathlib.Core.Path.{sym, ap, ◌∙◌}
+use mathlib.Core.Path.{sym, ◌∙◌}
 use native.Mathlib.Omega.{arith}
-use Rattle.model.specs.Table.{at}
-use Rattle.model.specs.Scripts.{rank_on}
-use Rattle.short_scripts.proofs.Words.{left-first, six-both, rank-next, rank-none, rank-below, rank-small, form-says}
 use borrow.Author.Rules.{rules}
+use Rattle.model.specs.Table.{at}
+use Rattle.short_scripts.proofs.Words.{actions-cut, within-both, rank-next, rank-none, rank-below, rank-small, form-says}
 use Rattle.short_scripts.proofs.rank.Goals as goal
 
-pub loop-i-init : goal.loop-i-init
-loop-i-init c = let f = form-says c.args.words c.requires in (omega arith, f.0, search rules, omega arith, f.1, ap (rank_on 0) (left-first c.args.words (at c.args.words 0)))
+pub overflow_add-actions : goal.overflow_add-actions
+overflow_add-actions c = omega (arith, (form-says c.args.words c.requires).0)
+
+pub slice_bounds-actions-end : goal.slice_bounds-actions-end
+slice_bounds-actions-end c = let h = (form-says c.args.words c.requires).0 in search rules
+
+pub overflow_add-n : goal.overflow_add-n
+overflow_add-n c = let i = c.loop-action.invariant in omega (arith, rank-small c.loop-action.action-index c.loop-action.n (omega (arith, i.few)) i.small, (within-both 5 _ c.loop-action.action-index (omega arith) i.six).0)
+
+pub overflow_add-n-in-loop-action : goal.overflow_add-n-in-loop-action
+overflow_add-n-in-loop-action c = let i = c.loop-action.invariant in omega (arith, rank-small c.loop-action.action-index c.loop-action.n (omega (arith, i.few)) i.small, (within-both 5 _ c.loop-action.action-index (omega arith) i.six).0)
+
+pub loop-action-init : goal.loop-action-init
+loop-action-init c = let f = form-says c.args.words c.requires in
+    let e = actions-cut c.args.words (at c.args.words 0) in record { few = rw e f.1; small = omega arith; six = rw e f.2; same = rw e }
 
 pub overflow_mul-n : goal.overflow_mul-n
-overflow_mul-n c = let l = c.loop-i in omega (arith, rank-small l.i l.n (omega arith) l.invariant.3)
+overflow_mul-n c = let i = c.loop-action.invariant in omega (arith, rank-small c.loop-action.action-index c.loop-action.n (omega (arith, i.few)) i.small)
 
-pub overflow_add-n-in-loop-i : goal.overflow_add-n-in-loop-i
-overflow_add-n-in-loop-i c = let l = c.loop-i in omega (arith, rank-small l.i l.n (omega arith) l.invariant.3, (six-both _ l.i _ (omega arith) (omega arith) l.invariant.4).0)
-
-pub overflow_add-n-in-loop-i-2 : goal.overflow_add-n-in-loop-i-2
-overflow_add-n-in-loop-i-2 c = let l = c.loop-i in omega (arith, rank-small l.i l.n (omega arith) l.invariant.3, (six-both _ l.i _ (omega arith) (omega arith) l.invariant.4).0)
-
-pub loop-i-preserved : goal.loop-i-preserved
-loop-i-preserved c = let l = c.loop-i in
-    let s = six-both _ l.i _ (omega arith) (omega arith) l.invariant.4 in
-    let r = sym (rank-next _ l.i _ l.n (omega arith) (omega arith)) ∙ l.invariant.5 in
-    (omega arith, l.invariant.1, l.invariant.2, rank-below l.i l.n _ l.invariant.3 s.0, s.1, r)
+pub loop-action-preserved : goal.loop-action-preserved
+loop-action-preserved c = let l = c.loop-action in let i = l.invariant in
+    let s = within-both 5 _ l.action-index (omega arith) i.six in record {
+      few = i.few;
+      small = rank-below l.action-index l.n _ i.small s.0;
+      six = s.1;
+      same = sym (rank-next _ l.action-index l.n (omega arith)) ∙ i.same;
+    }
 
 pub returns : goal.returns
-returns c = let l = c.loop-i in sym (rank-none _ l.i _ l.n (omega arith)) ∙ l.invariant.5
+returns c = let l = c.loop-action in sym (rank-none _ l.action-index l.n (omega arith)) ∙ l.invariant.same

@@ -3,9 +3,6 @@ use native.Mathlib.Omega.{arith}
 use Rattle.short_scripts.proofs.Running.{totals-start, script-runs, totals-next, totals-end}
 use Rattle.short_scripts.proofs.run_all.Goals as goal
 
-pub first_list-list-requires : goal.first_list-list-requires
-first_list-list-requires c = tt
-
 pub loop-number-init : goal.loop-number-init
 loop-number-init c = totals-start
 
@@ -20,12 +17,6 @@ overflow_add-tables c = let r = c.loop-number.invariant in omega (arith, r.table
 
 pub overflow_add-bad : goal.overflow_add-bad
 overflow_add-bad c = let r = c.loop-number.invariant in omega (arith, r.bad-few, r.place, c.run-met.ensures.bad-few)
-
-pub overflow_add-number : goal.overflow_add-number
-overflow_add-number c = let r = c.loop-number.invariant in omega (arith, r.place)
-
-pub loop-number-smaller : goal.loop-number-smaller
-loop-number-smaller c = omega arith
 
 pub loop-number-preserved : goal.loop-number-preserved
 loop-number-preserved c = let l = c.loop-number in

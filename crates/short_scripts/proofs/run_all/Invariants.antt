@@ -1,10 +1,6 @@
 -- `short_scripts::run_all` meets its contract.
-use Prim.Native.Nat.{◌-◌}
 use Rattle.short_scripts.proofs.Running.{Totals}
 use Rattle.short_scripts.proofs.run_all.Given as goal
 
 abbrev pub invariant-loop-number : goal.invariant-loop-number
 invariant-loop-number l = Totals l.tables l.bad l.number
-
-abbrev pub decreases-loop-number : goal.decreases-loop-number
-decreases-loop-number l = 1555 - l.number

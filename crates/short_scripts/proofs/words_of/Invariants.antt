@@ -7,7 +7,4 @@ use Rattle.short_scripts.proofs.Words.{filled}
 use Rattle.short_scripts.proofs.words_of.Given as goal
 
 abbrev pub invariant-loop-i : goal.invariant-loop-i
-invariant-loop-i l = (l.i ≤ 4) × (length l.words ≡ 5) × (grown 0 l.i ≤ l.n) × (l.n < grown 1 l.i) × (filled l.i l.n l.words ≡ filled l.initial.i l.number l.initial.words)
-
-abbrev pub decreases-loop-i : goal.decreases-loop-i
-decreases-loop-i l = l.i
+invariant-loop-i l = (l.i ≤ 4) × (length l.words ≡ 5) × (grown 0 l.i ≤ l.n) × (l.n < grown 1 l.i) × (filled l.i l.n l.words ≡ filled l.count l.number l.initial.words)

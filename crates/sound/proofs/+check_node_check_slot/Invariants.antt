@@ -2,6 +2,7 @@
 use Prim.Native.Nat.{◌+◌, ◌-◌, ◌*◌}
 use mathlib.Core.Path.{◌≡◌}
 use lib.ListN.{length}
+use Rattle.std.specs.Prelude.{Some}
 use Rattle.model.specs.Slots.{view}
 use Rattle.recordings.specs.Marked.{MARKS}
 use Rattle.sound.proofs.CheckLaws.{Rest}
@@ -17,8 +18,5 @@ decreases-check_slot l = 2 * l.level + 1
 abbrev pub invariant-check_node-loop-i : goal.invariant-check_node-loop-i
 invariant-check_node-loop-i l =
     (length l.marks ≡ MARKS)
-    × Rest (view l.table) l.n (l.level - 1) l.w l.next l.initial.state l.state l.i
-    × Marking (view l.table) (l.level - 1) l.w l.next l.state l.initial.marks l.marks l.i
-
-abbrev pub decreases-check_node-loop-i : goal.decreases-check_node-loop-i
-decreases-check_node-loop-i l = l.ways - l.i
+    × Rest (view l.table) l.n (l.level - 1) l.w l.next (Some l.initial.state) (Some l.state) l.i
+    × Marking (view l.table) (l.level - 1) l.w l.next l.initial.marks l.marks l.i

@@ -12,54 +12,54 @@ may_enter-requires c = let h = c.requires in (h.nodes-are, top-few _ _ _ _ _ _ _
 pub returns-then-not-may_enter : goal.returns-then-not-may_enter
 returns-then-not-may_enter c = let m = c.may_enter in
     let h = c.requires in
-    let r = root-not _ _ _ _ _ _ _ h _ c.read.result c.read.ensures m.result m.ensures c.if-not-may_enter.true-raw in record { order_after = r.0; marked = r.1; lower_bound = r.2 }
+    let r = root-not _ _ _ _ _ _ _ h _ c.read.result c.read.ensures m.result m.ensures c.if-not-may_enter.true in record { order_after = r.0; marked = r.1; lower_bound = r.2 }
 
 pub put-requires : goal.put-requires
 put-requires c = let m = c.may_enter in
     let h = c.requires in
-    let q = root-few _ _ _ _ _ _ _ h _ c.read.result c.read.ensures m.result m.ensures c.if-not-may_enter.false-raw in
+    let q = root-few _ _ _ _ _ _ _ h _ c.read.result c.read.ensures m.result m.ensures c.if-not-may_enter.false in
     omega (arith, q, h.marks)
 
 pub overflow_cast-stack : goal.overflow_cast-stack
 overflow_cast-stack c = let m = c.may_enter in
     let h = c.requires in
-    let q = root-few _ _ _ _ _ _ _ h _ c.read.result c.read.ensures m.result m.ensures c.if-not-may_enter.false-raw in
+    let q = root-few _ _ _ _ _ _ _ h _ c.read.result c.read.ensures m.result m.ensures c.if-not-may_enter.false in
     omega (arith, q)
 
 pub overflow_cast-order : goal.overflow_cast-order
 overflow_cast-order c = let m = c.may_enter in
     let h = c.requires in
-    let q = root-few _ _ _ _ _ _ _ h _ c.read.result c.read.ensures m.result m.ensures c.if-not-may_enter.false-raw in
+    let q = root-few _ _ _ _ _ _ _ h _ c.read.result c.read.ensures m.result m.ensures c.if-not-may_enter.false in
     omega (arith, q)
 
 pub offset_bounds-order-before : goal.offset_bounds-order-before
 offset_bounds-order-before c = let m = c.may_enter in
     let h = c.requires in
-    let q = before-less _ _ _ _ _ _ _ h _ c.read.result c.read.ensures m.result m.ensures c.if-not-may_enter.false-raw in
+    let q = before-less _ _ _ _ _ _ _ h _ c.read.result c.read.ensures m.result m.ensures c.if-not-may_enter.false in
     let f = top-few _ _ _ _ _ _ _ h in
     omega (arith, q, f)
 
 pub bounds-order-before : goal.bounds-order-before
 bounds-order-before c = let m = c.may_enter in
     let h = c.requires in
-    let q = before-less _ _ _ _ _ _ _ h _ c.read.result c.read.ensures m.result m.ensures c.if-not-may_enter.false-raw in
+    let q = before-less _ _ _ _ _ _ _ h _ c.read.result c.read.ensures m.result m.ensures c.if-not-may_enter.false in
     let f = top-few _ _ _ _ _ _ _ h in
     omega (arith, q, f, h.order)
 
 pub overflow_add-count : goal.overflow_add-count
 overflow_add-count c = let m = c.may_enter in
     let h = c.requires in
-    let q = before-less _ _ _ _ _ _ _ h _ c.read.result c.read.ensures m.result m.ensures c.if-not-may_enter.false-raw in
+    let q = before-less _ _ _ _ _ _ _ h _ c.read.result c.read.ensures m.result m.ensures c.if-not-may_enter.false in
     let f = top-few _ _ _ _ _ _ _ h in
     omega (arith, q, f)
 
 pub loop-depth-init : goal.loop-depth-init
 loop-depth-init c = let m = c.may_enter in
     let h = c.requires in
-    state-start _ _ _ _ _ _ _ h _ c.read.result c.read.ensures m.result m.ensures c.if-not-may_enter.false-raw _ c.put.ensures
+    state-start _ _ _ _ _ _ _ h _ c.read.result c.read.ensures m.result m.ensures c.if-not-may_enter.false _ c.put.ensures
 
 pub overflow_cast-n : goal.overflow_cast-n
-overflow_cast-n c = let d = c.loop-depth.depth in omega (arith, c.slice_known-in-loop-depth-1.given (d - 1))
+overflow_cast-n c = let d = c.loop-depth.depth in omega (arith, c.type_inv.stack (d - 1))
 
 pub loop-depth-smaller-then-w-gt13 : goal.loop-depth-smaller-then-w-gt13
 loop-depth-smaller-then-w-gt13 c = let d = c.loop-depth-test.true in pop-less _ _ _ _ _ _ _ _ _ _ _ (omega (arith, d)) c.loop-depth.invariant
@@ -70,41 +70,41 @@ loop-depth-preserved-then-w-gt13 c = let d = c.loop-depth-test.true in state-pop
 pub put-requires-then-may_enter : goal.put-requires-then-may_enter
 put-requires-then-may_enter c = let d = c.loop-depth-test.true in
     let s = c.loop-depth.invariant in
-    let q = node-few _ _ _ _ _ _ _ _ _ _ _ (omega (arith, d)) s c.look-seen.result c.look-seen.ensures c.if-seen.true c.may_enter-then-seen.result c.may_enter-then-seen.ensures c.if-may_enter.true in
+    let q = node-few _ _ _ _ _ _ _ _ _ _ _ (omega (arith, d)) s c.look-seen.result c.look-seen.ensures c.in-Some.met c.in-Some.is c.may_enter-in-Some.result c.may_enter-in-Some.ensures c.if-may_enter.true in
     omega (arith, q, s.long.marks)
 
 pub overflow_cast-order-then-may_enter : goal.overflow_cast-order-then-may_enter
 overflow_cast-order-then-may_enter c = let d = c.loop-depth-test.true in
     let s = c.loop-depth.invariant in
-    let q = node-few _ _ _ _ _ _ _ _ _ _ _ (omega (arith, d)) s c.look-seen.result c.look-seen.ensures c.if-seen.true c.may_enter-then-seen.result
-    c.may_enter-then-seen.ensures c.if-may_enter.true in
+    let q = node-few _ _ _ _ _ _ _ _ _ _ _ (omega (arith, d)) s c.look-seen.result c.look-seen.ensures c.in-Some.met c.in-Some.is c.may_enter-in-Some.result
+    c.may_enter-in-Some.ensures c.if-may_enter.true in
     omega (arith, q)
 
 pub overflow_cast-stack-then-may_enter : goal.overflow_cast-stack-then-may_enter
 overflow_cast-stack-then-may_enter c = let d = c.loop-depth-test.true in
     let s = c.loop-depth.invariant in
-    let q = node-few _ _ _ _ _ _ _ _ _ _ _ (omega (arith, d)) s c.look-seen.result c.look-seen.ensures c.if-seen.true c.may_enter-then-seen.result
-    c.may_enter-then-seen.ensures c.if-may_enter.true in
+    let q = node-few _ _ _ _ _ _ _ _ _ _ _ (omega (arith, d)) s c.look-seen.result c.look-seen.ensures c.in-Some.met c.in-Some.is c.may_enter-in-Some.result
+    c.may_enter-in-Some.ensures c.if-may_enter.true in
     omega (arith, q)
 
 pub bounds-ways-depth : goal.bounds-ways-depth
 bounds-ways-depth c = let d = c.loop-depth-test.true in
     let s = c.loop-depth.invariant in
-    let q = count-less _ _ _ _ _ _ _ _ _ _ _ (omega (arith, d)) s c.look-seen.result c.look-seen.ensures c.if-seen.true c.may_enter-then-seen.result
-    c.may_enter-then-seen.ensures c.if-may_enter.true in
+    let q = count-less _ _ _ _ _ _ _ _ _ _ _ (omega (arith, d)) s c.look-seen.result c.look-seen.ensures c.in-Some.met c.in-Some.is c.may_enter-in-Some.result
+    c.may_enter-in-Some.ensures c.if-may_enter.true in
     simp length-set (omega (arith, q, s.deep, s.few, s.long.ways))
 
 pub loop-depth-smaller-then-may_enter : goal.loop-depth-smaller-then-may_enter
 loop-depth-smaller-then-may_enter c = let d = c.loop-depth-test.true in
     let s = c.loop-depth.invariant in
-    enter-less _ _ _ _ _ _ _ _ _ _ _ (omega (arith, d)) s c.look-seen.result c.look-seen.ensures c.if-seen.true c.may_enter-then-seen.result
-    c.may_enter-then-seen.ensures c.if-may_enter.true
+    enter-less _ _ _ _ _ _ _ _ _ _ _ (omega (arith, d)) s c.look-seen.result c.look-seen.ensures c.in-Some.met c.in-Some.is c.may_enter-in-Some.result
+    c.may_enter-in-Some.ensures c.if-may_enter.true
 
 pub loop-depth-preserved-then-may_enter : goal.loop-depth-preserved-then-may_enter
 loop-depth-preserved-then-may_enter c = let d = c.loop-depth-test.true in
     let s = c.loop-depth.invariant in
-    state-enter _ _ _ _ _ _ _ _ _ _ _ (omega (arith, d)) s c.look-seen.result c.look-seen.ensures c.if-seen.true c.may_enter-then-seen.result
-    c.may_enter-then-seen.ensures c.if-may_enter.true _ c.put-then-may_enter.ensures
+    state-enter _ _ _ _ _ _ _ _ _ _ _ (omega (arith, d)) s c.look-seen.result c.look-seen.ensures c.in-Some.met c.in-Some.is c.may_enter-in-Some.result
+    c.may_enter-in-Some.ensures c.if-may_enter.true _ c.put-then-may_enter.ensures
 
 pub loop-depth-smaller-else-may_enter : goal.loop-depth-smaller-else-may_enter
 loop-depth-smaller-else-may_enter c = let d = c.loop-depth-test.true in
@@ -114,7 +114,7 @@ loop-depth-smaller-else-may_enter c = let d = c.loop-depth-test.true in
 pub loop-depth-preserved-else-may_enter : goal.loop-depth-preserved-else-may_enter
 loop-depth-preserved-else-may_enter c = let d = c.loop-depth-test.true in
     let s = c.loop-depth.invariant in
-    state-refused _ _ _ _ _ _ _ _ _ _ _ (omega (arith, d)) s c.look-seen.result c.look-seen.ensures c.if-seen.true c.may_enter-then-seen.result c.may_enter-then-seen.ensures c.if-may_enter.false
+    state-refused _ _ _ _ _ _ _ _ _ _ _ (omega (arith, d)) s c.look-seen.result c.look-seen.ensures c.in-Some.met c.in-Some.is c.may_enter-in-Some.result c.may_enter-in-Some.ensures c.if-may_enter.false
 
 pub loop-depth-smaller : goal.loop-depth-smaller
 loop-depth-smaller c = let d = c.loop-depth-test.true in
@@ -124,7 +124,7 @@ loop-depth-smaller c = let d = c.loop-depth-test.true in
 pub loop-depth-preserved : goal.loop-depth-preserved
 loop-depth-preserved c = let d = c.loop-depth-test.true in
     let s = c.loop-depth.invariant in
-    state-on _ _ _ _ _ _ _ _ _ _ _ (omega (arith, d)) s c.look-seen.result c.look-seen.ensures c.if-seen.false
+    state-on _ _ _ _ _ _ _ _ _ _ _ (omega (arith, d)) s c.look-seen.result c.look-seen.ensures c.in_default.is
 
 pub shape_of-marks : goal.shape_of-marks
 shape_of-marks c = c.loop-depth.invariant.long.marks ∙ sym c.requires.marks

@@ -1,6 +1,5 @@
 -- `wear::count_pairs` meets its contract.
 use mathlib.Core.Path.{ap}
-use mathlib.Core.Bool.{true}
 use native.Mathlib.Omega.{arith}
 use lib.ListN.{length}
 use Rattle.wear.proofs.Running.{left-first, counted-end, left-longer, counted-next}

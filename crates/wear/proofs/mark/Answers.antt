@@ -1,20 +1,21 @@
--- `wear::mark` meets its contract. The loop's invariant: the orders from i on, marked now, leave what all of them leave.
-use mathlib.Core.Path.{refl}
-use native.Mathlib.Omega.{arith}
-use borrow.Author.Rules.{rules}
+-- `wear::mark` meets its contract. The loop's invariant: the orders of the words left, marked now, leave what all of them leave.
+use mathlib.Core.Path.{◌∙◌}
+use Rattle.std.proofs.Common.{rules, arith}
 use Rattle.wear.proofs.Turns.{below-here, below-next}
 use Rattle.wear.proofs.Marking.{marking-next, marking-end}
 use Rattle.wear.proofs.mark.Goals as goal
 
-pub loop-i-init : goal.loop-i-init
-loop-i-init c = (search rules, search rules, c.requires, λ w. refl)
-
 pub mark_one-requires : goal.mark_one-requires
-mark_one-requires c = let l = c.loop-i in below-here _ l.i (omega arith) _ l.invariant.2 _ (omega arith)
+mark_one-requires c = let l = c.loop-pair in let s = c.in-Some.ensures.steps in
+    below-here _ _ _ s.1.0 (s.1.1 ∙ l.invariant.pairs) _ l.invariant.below _ (omega arith)
 
-pub loop-i-preserved : goal.loop-i-preserved
-loop-i-preserved c = let l = c.loop-i in
-    (omega arith, search rules, below-next _ l.i (omega arith) _ l.invariant.2, marking-next _ _ l.i _ l.invariant.3 (omega arith) _ c.mark_one.ensures)
+pub loop-pair-preserved : goal.loop-pair-preserved
+loop-pair-preserved c = let l = c.loop-pair in let s = c.in-Some.ensures.steps in record {
+  pairs = s.0 ∙ l.invariant.pairs;
+  room = search rules;
+  below = below-next _ _ _ s.1.0 (s.1.1 ∙ l.invariant.pairs) _ l.invariant.below;
+  marking = marking-next _ _ _ _ l.invariant.marking _ _ s.1.0 (s.1.1 ∙ l.invariant.pairs) _ c.mark_one.ensures;
+}
 
 pub returns : goal.returns
-returns c = let l = c.loop-i in marking-end _ _ l.i _ l.invariant.3 (omega arith)
+returns c = let l = c.loop-pair in marking-end _ _ _ _ l.invariant.marking (omega (arith, c.in-None.ensures.steps.1.0))

@@ -1,5 +1,5 @@
 -- `wear::write_pairs` meets its contract.
-use Prim.Native.Nat.{◌-◌, ◌≤◌, ◌<◌}
+use Prim.Native.Nat.{◌≤◌, ◌<◌}
 use mathlib.Core.Path.{◌≡◌}
 use mathlib.Core.Bool.{true}
 use lib.ListN.{length}
@@ -7,8 +7,10 @@ use Rattle.bits.specs.Bits.{has}
 use Rattle.wear.proofs.Running.{Written}
 use Rattle.wear.proofs.write_pairs.Given as goal
 
-abbrev pub invariant-loop-w : goal.invariant-loop-w
-invariant-loop-w l = (l.w ≤ l.len) × (l.w < l.len → has l.marks l.w ≡ true) × (length l.pairs ≡ length l.initial.pairs) × Written (has l.marks) l.len l.pairs l.k l.w
-
-abbrev pub decreases-loop-w : goal.decreases-loop-w
-decreases-loop-w l = l.len - l.w
+abbrev pub invariant-loop-k : goal.invariant-loop-k
+invariant-loop-k l = record {
+  inside : l.w ≤ l.len;
+  marked : l.w < l.len → has l.marks l.w ≡ true;
+  room : length l.pairs ≡ length l.initial.pairs;
+  written : Written (has l.marks) l.len l.pairs l.k l.w;
+}

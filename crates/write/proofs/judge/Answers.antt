@@ -1,12 +1,27 @@
 -- `write::judge` meets its contract.
+use mathlib.Core.Path.{sym, ◌∙◌}
+use Rattle.std.proofs.lemmas.Result.{err_from_is_err_and}
+use Rattle.model.proofs.Numbers.{done-ok, done-err}
+use Rattle.node.specs.Word.{root_in, number_in, found_root}
 use Rattle.write.proofs.Judging.{wrong-collection, right-collection, judged-rest}
 use Rattle.write.proofs.judge.Goals as goal
 
-pub returns-then-n-ne0 : goal.returns-then-n-ne0
-returns-then-n-ne0 c = wrong-collection _ _ _ _ _ c.refusal-n.ensures c.if-n-ne0.true
+pub returns-in_err-find_root : goal.returns-in_err-find_root
+unfolding found_root
+returns-in_err-find_root c =
+    let a = c.args in
+    let p = err_from_is_err_and c.from_residual.result c.from_residual.ensures.1 in
+    let f = done-err (number_in a.collection a.table.now) (root_in a.collection a.table.now) (sym c.find_root.ensures ∙ c.in_err-find_root.was) in
+    rw (p.1, p.2) (sym f.1 ∙ wrong-collection _ _ _ _ f.0)
 
 pub judge_rest-requires : goal.judge_rest-requires
-judge_rest-requires c = (right-collection 0 0 _ _ _ c.refusal-n.ensures c.if-n-ne0.false).0
+unfolding found_root
+judge_rest-requires c =
+    let a = c.args in
+    (right-collection 0 0 _ _ (done-ok (number_in a.collection a.table.now) (root_in a.collection a.table.now) (sym c.find_root.ensures ∙ c.in_ok-find_root.was)).0).0
 
 pub returns : goal.returns
-returns c = judged-rest _ _ _ _ _ c.refusal-n.ensures c.if-n-ne0.false _ c.judge_rest.ensures
+unfolding found_root
+returns c =
+    let a = c.args in
+    judged-rest _ _ _ _ (done-ok (number_in a.collection a.table.now) (root_in a.collection a.table.now) (sym c.find_root.ensures ∙ c.in_ok-find_root.was)).0 _ c.judge_rest.ensures

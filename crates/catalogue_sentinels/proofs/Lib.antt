@@ -1,2 +1,0 @@
--- Laws that the entry points' proofs cite.
-pub mod Cases

@@ -1,0 +1,44 @@
+-- `compare::same_but` meets its contract. The loop keeps what is left to compare.
+use Rattle.std.proofs.Common.{arith, ap, sym, ◌∙◌}
+use Rattle.compare.specs.Cursors.{distance}
+use Rattle.compare.proofs.Places.{no-pair, a-pair, compared-end, compared-differ, compared-both, compared-next, compared-all}
+use Rattle.compare.proofs.same_but.Goals as goal
+
+pub loop-a-init : goal.loop-a-init
+loop-a-init c = record {
+  first = (c.seek-a.ensures.count_bound.0, c.seek-a.ensures.count_bound.1);
+  second = (c.seek-b.ensures.count_bound.0, c.seek-b.ensures.count_bound.1);
+  comes-to = compared-all _ _ _ _ _ _ _ c.seek-a.ensures.result_value c.start.ensures.result_value c.seek-b.ensures.result_value c.start-2.ensures.result_value;
+}
+
+pub same_pair-requires : goal.same_pair-requires
+same_pair-requires c = let k = c.loop-a.invariant in (a-pair c.loop-a.a (sym c.at_end.ensures ∙ c.loop-a-test.true), k.first.0, k.second.0)
+
+pub returns-then-not-same_pair : goal.returns-then-not-same_pair
+returns-then-not-same_pair c =
+    compared-differ c.loop-a.invariant (a-pair c.loop-a.a (sym c.at_end.ensures ∙ c.loop-a-test.true)) _ c.same_pair.ensures c.if-not-same_pair.true
+
+pub past-requires-clause-at_lt_count : goal.past-requires-clause-at_lt_count
+past-requires-clause-at_lt_count c = a-pair c.loop-a.a (sym c.at_end.ensures ∙ c.loop-a-test.true)
+
+pub past-requires-in-loop-a-clause-at_lt_count : goal.past-requires-in-loop-a-clause-at_lt_count
+past-requires-in-loop-a-clause-at_lt_count c =
+    compared-both c.loop-a.invariant (a-pair c.loop-a.a (sym c.at_end.ensures ∙ c.loop-a-test.true)) _ c.same_pair.ensures c.if-not-same_pair.false
+
+pub loop-a-smaller : goal.loop-a-smaller
+loop-a-smaller c =
+    omega (arith, c.seek-a-in-loop-a.ensures.count_bound.2, ap distance c.past.ensures, a-pair c.loop-a.a (sym c.at_end.ensures ∙ c.loop-a-test.true))
+
+pub loop-a-preserved : goal.loop-a-preserved
+loop-a-preserved c = let a = c.seek-a-in-loop-a.ensures in
+    let b = c.seek-b-in-loop-a.ensures in
+    record {
+      first = (a.count_bound.0, a.count_bound.1);
+      second = (b.count_bound.0, b.count_bound.1);
+      comes-to =
+          compared-next c.loop-a.invariant (a-pair c.loop-a.a (sym c.at_end.ensures ∙ c.loop-a-test.true)) _ c.same_pair.ensures c.if-not-same_pair.false _ _
+          (rw c.past.ensures at a.result_value) (rw c.past-in-loop-a.ensures at b.result_value);
+    }
+
+pub returns : goal.returns
+returns c = c.at_end-2.ensures ∙ compared-end c.loop-a.invariant (no-pair c.loop-a.a (sym c.at_end.ensures ∙ c.loop-a-test.false))

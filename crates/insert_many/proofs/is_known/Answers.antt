@@ -1,0 +1,19 @@
+-- `insert_many::is_known` meets its contract.
+use mathlib.Core.Path.{sym}
+use Rattle.two_laws.proofs.SearchTwo.{sound-head}
+use Rattle.write.proofs.Rooted.{root-sound}
+use Rattle.clear.proofs.Fresh.{first-new}
+use Rattle.insert_many.proofs.Going.{known-pair}
+use Rattle.insert_many.proofs.is_known.Goals as goal
+
+pub returns-then-i-end : goal.returns-then-i-end
+returns-then-i-end c = let a = c.args in sym (first-new _ a.pairs.now a.i a.end c.requires.new c.requires.i_in_bounds c.if-i-end.true)
+
+pub root_of-root-requires : goal.root_of-root-requires
+root_of-root-requires c = record { table_value = sound-head _ c.requires.table_value; table_value_2 = c.requires.table_value_2 }
+
+pub has_recording-requires : goal.has_recording-requires
+has_recording-requires c = root-sound _ _ _ c.root_of-root.ensures c.requires.table_value c.requires.table_value_2
+
+pub returns : goal.returns
+returns c = let a = c.args in known-pair a.collection a.table.now c.root_of-root.result c.root_of-root.ensures _ _ c.recording.ensures _ c.has_recording.ensures

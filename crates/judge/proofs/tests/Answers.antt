@@ -1,0 +1,30 @@
+-- `judge::tests` meets its contract, test by test.
+use mathlib.Core.Path.{sym, ◌∙◌}
+use Rattle.std.proofs.lemmas.Result.{err_from_is_err_and}
+use Rattle.model.specs.declared.Refusal.TheVariants.{NotSettled, BadOrders, OtherLength}
+use Rattle.model.proofs.Numbers.{refused-by}
+use Rattle.judge.proofs.Answers.{shared-refused, not-settled, not-inside, other-length, all-passed}
+use Rattle.judge.proofs.tests.Goals as goal
+
+pub returns-in_err-ready : goal.returns-in_err-ready
+returns-in_err-ready c =
+    let p = err_from_is_err_and c.from_residual.result c.from_residual.ensures.1 in
+    rw (p.1, p.2) (shared-refused _ _ _ _ (sym c.judge.ensures ∙ c.in_err-ready.was))
+
+pub returns-then-not-is_nothing : goal.returns-then-not-is_nothing
+returns-then-not-is_nothing c =
+    sym (refused-by NotSettled) ∙ not-settled _ _ _ _ (sym c.judge.ensures ∙ c.in_ok-ready.was) c.is_nothing.ensures c.if-not-is_nothing.true
+
+pub returns-then-not-all_inside : goal.returns-then-not-all_inside
+returns-then-not-all_inside c =
+    sym (refused-by BadOrders)
+    ∙ not-inside _ _ _ _ (sym c.judge.ensures ∙ c.in_ok-ready.was) c.is_nothing.ensures c.if-not-is_nothing.false c.all_inside.ensures c.if-not-all_inside.true
+
+pub returns-then-words-table : goal.returns-then-words-table
+returns-then-words-table c =
+    sym (refused-by OtherLength)
+    ∙ other-length _ _ _ _ (sym c.judge.ensures ∙ c.in_ok-ready.was) c.is_nothing.ensures c.if-not-is_nothing.false c.all_inside.ensures c.if-not-all_inside.false c.if-words-table.true
+
+pub returns : goal.returns
+returns c =
+    all-passed _ _ _ _ (sym c.judge.ensures ∙ c.in_ok-ready.was) c.is_nothing.ensures c.if-not-is_nothing.false c.all_inside.ensures c.if-not-all_inside.false c.if-words-table.false

@@ -1,0 +1,52 @@
+-- `node::make` meets its contract.
+use mathlib.Core.Path.{sym, ◌∙◌}
+use native.Mathlib.Omega.{arith}
+use lib.ListN.{length-set}
+use Rattle.std.proofs.lemmas.Result.{err_from_is_err_and}
+use Rattle.model.proofs.Numbers.{passed-zero, failed-some, failed-with}
+use Rattle.table_laws.proofs.Making.{makes}
+use Rattle.node.proofs.Answers.{nodes-in-sized}
+use Rattle.node.proofs.Making.{making-refused, making-one, making-two}
+use Rattle.node.proofs.make.Goals as goal
+
+pub returns-in_err-may_make : goal.returns-in_err-may_make
+returns-in_err-may_make c =
+    let p = err_from_is_err_and c.from_residual.result c.from_residual.ensures.1 in
+    let e = sym c.may_make.ensures ∙ c.in_err-may_make.was in
+    let both = making-refused _ _ (failed-some _ e) in
+    record { value = rw (p.1, p.2) (sym (failed-with _ e) ∙ both.0); table_after = both.1 }
+
+pub bounds-table-0 : goal.bounds-table-0
+bounds-table-0 c = omega (arith, (makes _ _ (passed-zero _ (sym c.may_make.ensures ∙ c.in_ok-may_make.was))).size)
+
+pub bounds-table-1 : goal.bounds-table-1
+bounds-table-1 c = simp length-set (omega (arith, (makes _ _ (passed-zero _ (sym c.may_make.ensures ∙ c.in_ok-may_make.was))).size))
+
+pub bounds-table-2 : goal.bounds-table-2
+bounds-table-2 c = simp length-set (omega (arith, (makes _ _ (passed-zero _ (sym c.may_make.ensures ∙ c.in_ok-may_make.was))).size))
+
+pub bounds-table-8 : goal.bounds-table-8
+bounds-table-8 c = simp length-set (omega (arith, (makes _ _ (passed-zero _ (sym c.may_make.ensures ∙ c.in_ok-may_make.was))).size))
+
+pub returns-then-collections-eq1 : goal.returns-then-collections-eq1
+returns-then-collections-eq1 c =
+    let z = passed-zero _ (sym c.may_make.ensures ∙ c.in_ok-may_make.was) in
+    let both = making-one _ _ _ z _ (nodes-in-sized _ _ _ c.nodes_in-n.ensures (makes _ _ z).size) c.zero.ensures c.if-collections-eq1.true in
+    record { value = both.0; table_after = both.1 }
+
+pub bounds-table-3 : goal.bounds-table-3
+bounds-table-3 c =
+    let m = makes _ _ (passed-zero _ (sym c.may_make.ensures ∙ c.in_ok-may_make.was)) in
+    simp length-set (omega (arith, m.size, (m.two c.if-collections-eq1.false).1))
+
+pub bounds-table-40 : goal.bounds-table-40
+bounds-table-40 c =
+    let m = makes _ _ (passed-zero _ (sym c.may_make.ensures ∙ c.in_ok-may_make.was)) in
+    simp length-set (omega (arith, m.size, (m.two c.if-collections-eq1.false).1))
+
+pub returns : goal.returns
+returns c =
+    let z = passed-zero _ (sym c.may_make.ensures ∙ c.in_ok-may_make.was) in
+    let m = makes _ _ z in
+    let both = making-two _ _ _ z _ (nodes-in-sized _ _ _ c.nodes_in-n.ensures m.size) c.zero.ensures (m.two c.if-collections-eq1.false).0 in
+    record { value = both.0; table_after = both.1 }

@@ -1,0 +1,69 @@
+-- `node::root` meets its contract.
+use mathlib.Core.Path.{◌≡◌, sym, ◌∙◌}
+use mathlib.Core.Bool.{Bool, true, false, ◌&&◌, ◌||◌}
+use mathlib.Core.Logic.{◌≢◌}
+use Prim.Native.Nat.{ℕ, ◌≤◌, ◌<◌}
+use native.Mathlib.Omega.{arith}
+use borrow.Author.Rules.{rules}
+use lib.Dec.{eqb, leb}
+use lib.ListN.{length}
+use Rattle.model.specs.Table.{Words, at}
+use Rattle.table_laws.proofs.Header.{LengthFacts, HeaderFacts}
+use Rattle.node.proofs.Answers.{header-nodes, nodes-in-found}
+use Rattle.node.proofs.Roots.{fits-two, fits-not, root-refused, root-first, root-second, root-other}
+use Rattle.node.proofs.root.Goals as goal
+
+-- what the tests of all words of the header found
+facts : (t : Words) (n : ℕ) (r : Bool) → LengthFacts (length t) n → at t 0 ≡ 1 → at t 2 ≡ n → ((k : ℕ) → k < 8 → 4 ≤ k → at t k ≡ 0) → at t 1 ≢ 0 → at t 1 ≤ n
+    → r ≡ (eqb (at t 3) 0 || (leb (at t 3) n && leb 2 n)) → r ≡ true → HeaderFacts t
+facts t n r s a b z d u e f = record {
+  size = omega arith;
+  first = a;
+  zeros = λ w l h. z w h l;
+  root-some = omega arith;
+  root-in = omega arith;
+  two = λ q. let v = fits-two n (at t 3) (sym f ∙ e) q in (omega (arith, v.0), omega (arith, v.1));
+}
+
+pub returns-then-n-eq0 : goal.returns-then-n-eq0
+returns-then-n-eq0 c = sym (root-refused _ c.args.table.now (λ f. omega (arith, header-nodes c.args.table.now _ c.nodes_in-n.ensures f)))
+
+pub bounds-table-0 : goal.bounds-table-0
+bounds-table-0 c = omega (arith, nodes-in-found _ _ c.nodes_in-n.ensures c.if-n-eq0.false)
+
+pub returns-then-table-ne1 : goal.returns-then-table-ne1
+returns-then-table-ne1 c = sym (root-refused _ _ (λ f. omega arith))
+
+pub bounds-table-2 : goal.bounds-table-2
+bounds-table-2 c = omega (arith, nodes-in-found _ _ c.nodes_in-n.ensures c.if-n-eq0.false)
+
+pub returns-then-table-n : goal.returns-then-table-n
+returns-then-table-n c = sym (root-refused _ c.args.table.now (λ f. omega (arith, header-nodes c.args.table.now _ c.nodes_in-n.ensures f)))
+
+pub loop-w-init : goal.loop-w-init
+loop-w-init c = (nodes-in-found _ _ c.nodes_in-n.ensures c.if-n-eq0.false, λ k l u. omega arith)
+
+pub returns-then-table-w-ne0 : goal.returns-then-table-w-ne0
+returns-then-table-w-ne0 c = sym (root-refused _ _ (λ f. omega (arith, f.zeros c.loop-w.w (omega arith) (omega arith))))
+
+pub returns-then-first-eq0 : goal.returns-then-first-eq0
+returns-then-first-eq0 c = sym (root-refused _ _ (λ f. omega arith))
+
+pub returns-then-n-first : goal.returns-then-n-first
+returns-then-n-first c = sym (root-refused _ _ (λ f. omega arith))
+
+pub returns-then-not-second_fits : goal.returns-then-not-second_fits
+returns-then-not-second_fits c =
+    let r : c.second_fits.result ≡ false = search rules in
+    sym (root-refused _ _ (λ f. fits-not _ _ (sym r ∙ c.second_fits.ensures) (λ z. let u = f.two z in (omega (arith, u.0), omega (arith, u.1)))))
+
+pub returns-in-1 : goal.returns-in-1
+returns-in-1 c = let inv = c.loop-w.invariant in
+    rw c.in-1.is (sym (root-first _ (facts _ _ _ inv.0 (omega arith) (omega arith) (λ k h. inv.1 k (omega arith)) (omega arith) (omega arith) c.second_fits.ensures (search rules))))
+
+pub returns-in-2 : goal.returns-in-2
+returns-in-2 c = let inv = c.loop-w.invariant in
+    rw c.in-2.is (sym (root-second _ (facts _ _ _ inv.0 (omega arith) (omega arith) (λ k h. inv.1 k (omega arith)) (omega arith) (omega arith) c.second_fits.ensures (search rules))))
+
+pub returns-in_default : goal.returns-in_default
+returns-in_default c = sym (root-other _ _ (search rules) (search rules))

@@ -1,0 +1,69 @@
+-- `reclass::set_class` meets its contract.
+use mathlib.Core.Path.{sym, ◌∙◌}
+use native.Mathlib.Omega.{arith}
+use Rattle.std.proofs.lemmas.Result.{err_from_is_err_and}
+use Rattle.model.specs.declared.Refusal.TheVariants.{KeyAbsent, BadClass}
+use Rattle.model.specs.Writes.{class_change}
+use Rattle.model.proofs.Numbers.{refused-by}
+use Rattle.two_laws.proofs.SearchTwo.{sound-head}
+use Rattle.write.proofs.Judging.{judged-ready}
+use Rattle.write.proofs.Ending.{refused-call, judge-refuses, mend-room, mended-collection, finish-room, done-call}
+use Rattle.reclass.proofs.Reclassing.{tree-sound, class-refused, key-refused, begun, class-low, mended-header, leaf-plain, leaf-place, class-room, class-stored}
+use Rattle.reclass.proofs.set_class.Goals as goal
+
+pub returns-in_err-leftover : goal.returns-in_err-leftover
+returns-in_err-leftover c =
+    let p = err_from_is_err_and c.from_residual.result c.from_residual.ensures.1 in
+    let all = judge-refuses (class_change c.args.collection c.args.key c.args.access) _ _ _ _ (sym c.judge.ensures ∙ c.in_err-leftover.was) in
+    record { value = rw (p.1, p.2) all.0; table_after = all.1.0; list_after = all.1.1 }
+
+pub returns-then-not-class_ok : goal.returns-then-not-class_ok
+returns-then-not-class_ok c =
+    let n = class-refused c.args.collection c.args.key _ _ _ _ _ (sym c.judge.ensures ∙ c.in_ok-leftover.was) c.class_ok.ensures c.if-not-class_ok.true in
+    let all = refused-call (class_change c.args.collection c.args.key c.args.access) _ _ _ 14 (λ z. omega arith) n in
+    record { value = sym (refused-by BadClass) ∙ all.0; table_after = all.1.0; list_after = all.1.1 }
+
+pub root_of-requires : goal.root_of-requires
+root_of-requires c =
+    let p = judged-ready (class_change c.args.collection c.args.key c.args.access) _ _ _ _ (sym c.judge.ensures ∙ c.in_ok-leftover.was) in
+    record { table_value = sound-head _ p.found.is-sound; table_value_2 = p.collection }
+
+pub has_key-requires : goal.has_key-requires
+has_key-requires c = tree-sound _ c.args.key _ _ _ _ _ (sym c.judge.ensures ∙ c.in_ok-leftover.was) c.class_ok.ensures c.if-not-class_ok.false c.root_of.ensures
+
+pub returns-then-not-has_key : goal.returns-then-not-has_key
+returns-then-not-has_key c =
+    let n = key-refused _ _ _ _ _ _ _ (sym c.judge.ensures ∙ c.in_ok-leftover.was) c.class_ok.ensures c.if-not-class_ok.false c.root_of.ensures c.has_key.ensures c.if-not-has_key.true in
+    let all = refused-call (class_change c.args.collection c.args.key c.args.access) _ _ _ 9 (λ z. omega arith) n in
+    record { value = sym (refused-by KeyAbsent) ∙ all.0; table_after = all.1.0; list_after = all.1.1 }
+
+pub mend-mended-requires : goal.mend-mended-requires
+mend-mended-requires c =
+    let f = (judged-ready (class_change c.args.collection c.args.key c.args.access) _ _ _ _ (sym c.judge.ensures ∙ c.in_ok-leftover.was)).found in
+    let b = begun _ _ _ _ _ _ _ _ (sym c.judge.ensures ∙ c.in_ok-leftover.was) c.class_ok.ensures c.if-not-class_ok.false c.root_of.ensures c.has_key.ensures c.if-not-has_key.false c.begin.ensures in
+    record { table_value = f.is-sound; table_value_2 = f.leftover-is; room = mend-room b }
+
+pub root_of-requires-2 : goal.root_of-requires-2
+root_of-requires-2 c =
+    let b = begun _ _ _ _ _ _ _ _ (sym c.judge.ensures ∙ c.in_ok-leftover.was) c.class_ok.ensures c.if-not-class_ok.false c.root_of.ensures c.has_key.ensures c.if-not-has_key.false c.begin.ensures in
+    record { table_value = mended-header b c.mend-mended.ensures; table_value_2 = mended-collection b c.mend-mended.ensures }
+
+pub set_class-set-requires : goal.set_class-set-requires
+set_class-set-requires c =
+    let b = begun _ _ _ _ _ _ _ _ (sym c.judge.ensures ∙ c.in_ok-leftover.was) c.class_ok.ensures c.if-not-class_ok.false c.root_of.ensures c.has_key.ensures c.if-not-has_key.false c.begin.ensures in
+    let m = c.mend-mended.ensures in
+    let r = c.root_of-2.ensures in
+    let s = c.standing-leaf.ensures in
+    let n = leaf-plain b m r s in
+    record { n_value = n.there; n_value_2 = n.plain; n_in_bounds = leaf-place b m r s; access_bound = omega (arith, class-low b m); room = class-room b m r s }
+
+pub finish-done-requires : goal.finish-done-requires
+finish-done-requires c =
+    let b = begun _ _ _ _ _ _ _ _ (sym c.judge.ensures ∙ c.in_ok-leftover.was) c.class_ok.ensures c.if-not-class_ok.false c.root_of.ensures c.has_key.ensures c.if-not-has_key.false c.begin.ensures in
+    finish-room b c.mend-mended.ensures (class-stored b c.mend-mended.ensures c.root_of-2.ensures c.standing-leaf.ensures c.set_class-set.ensures)
+
+pub returns : goal.returns
+returns c =
+    let b = begun _ _ _ _ _ _ _ _ (sym c.judge.ensures ∙ c.in_ok-leftover.was) c.class_ok.ensures c.if-not-class_ok.false c.root_of.ensures c.has_key.ensures c.if-not-has_key.false c.begin.ensures in
+    let all = done-call b c.mend-mended.ensures (class-stored b c.mend-mended.ensures c.root_of-2.ensures c.standing-leaf.ensures c.set_class-set.ensures) c.finish-done.ensures in
+    record { value = all.0; table_after = all.1.0; list_after = all.1.1 }

@@ -1,0 +1,32 @@
+-- `recordings::hit_leaf` meets its contract. The loop keeps what hitting the places of the slots from i on comes to.
+use Rattle.std.proofs.Common.{List, map, ℕ, ◌∙◌, arith}
+use Rattle.model.specs.declared.Node.{Node}
+use Rattle.model.specs.Table.{Words}
+use Rattle.model.specs.Slots.{Slot, recording, shown}
+use Rattle.slots.specs.Scan.{kept_of}
+use Rattle.slots.proofs.Scans.{scan-past, scan-stop, scan-more}
+use Rattle.recordings.specs.Rounds.{Hits, hits, hit_all, place_of, suspect}
+use Rattle.recordings.proofs.LeafLaws.{hit-none, hit-more}
+use Rattle.recordings.proofs.hit_leaf.Goals as goal
+
+-- what slots come to, with this pointer before them, from the places hit so far
+abbrev comes : (round : ℕ) (olds : Words) → Node → (bound before : ℕ) → Hits → List Slot → Hits
+comes round olds x b before h ss = hit_all (suspect round olds) (place_of round) (map recording (kept_of x.sibling b (shown before ss))) h
+
+pub returns-then-p-eq0 : goal.returns-then-p-eq0
+returns-then-p-eq0 c = let a = c.args in let l = c.loop-i in
+    hit-none _ _ _ _ _ _
+    ∙ scan-stop (comes a.round a.olds.now a.x a.bound l.before (hits l.once l.twice l.crowded)) _ l.i l.invariant.rest (omega arith) c.if-p-eq0.true
+
+pub loop-i-preserved : goal.loop-i-preserved
+loop-i-preserved c = let a = c.args in let l = c.loop-i in record {
+  once_len = omega (arith, c.hit_slot-crowded.auto.once, l.invariant.once_len);
+  twice_len = omega (arith, c.hit_slot-crowded.auto.twice, l.invariant.twice_len);
+  rest = scan-more (comes a.round a.olds.now a.x a.bound l.before (hits l.once l.twice l.crowded)) _ l.i l.invariant.rest (omega arith) c.if-p-eq0.false
+      (hit-more _ _ _ _ _ _ _ c.is_way-kept.ensures _ _ _ _ c.hit_slot-crowded.ensures);
+}
+
+pub returns : goal.returns
+returns c = let a = c.args in let l = c.loop-i in
+    hit-none _ _ _ _ _ _
+    ∙ scan-past (comes a.round a.olds.now a.x a.bound l.before (hits l.once l.twice l.crowded)) _ l.i l.invariant.rest (omega arith)

@@ -1,0 +1,29 @@
+-- `recordings::leaf_ok` meets its contract. The loop keeps that the slots from i on answer as all of them do.
+use Rattle.std.proofs.Common.{Bool, List, ℕ, ◌∙◌, arith}
+use Rattle.model.specs.declared.Node.{Node}
+use Rattle.model.specs.Slots.{Slot, shown}
+use Rattle.model.specs.SoundTest.{all, pair_ok}
+use Rattle.slots.specs.Scan.{kept_of}
+use Rattle.slots.proofs.Scans.{scan-past, scan-stop, scan-more}
+use Rattle.recordings.proofs.LeafLaws.{ok-none, ok-wrong, ok-next}
+use Rattle.recordings.proofs.leaf_ok.Goals as goal
+
+-- what slots come to, with this pointer before them
+abbrev comes : Node → (bound before : ℕ) → List Slot → Bool
+comes x b before ss = all pair_ok (kept_of x.sibling b (shown before ss))
+
+pub returns-then-p-eq0 : goal.returns-then-p-eq0
+returns-then-p-eq0 c = let l = c.loop-i in ok-none _ _ _ ∙ scan-stop (comes c.args.x c.args.bound l.before) _ l.i l.invariant (omega arith) c.if-p-eq0.true
+
+pub returns-then-not-slot_ok : goal.returns-then-not-slot_ok
+returns-then-not-slot_ok c = let l = c.loop-i in
+    scan-more (comes c.args.x c.args.bound l.before) _ l.i l.invariant (omega arith) c.if-p-eq0.false
+    (ok-wrong _ _ _ _ _ _ _ c.is_way-kept.ensures _ c.slot_ok.ensures c.if-not-slot_ok.true)
+
+pub loop-i-preserved : goal.loop-i-preserved
+loop-i-preserved c = let l = c.loop-i in
+    scan-more (comes c.args.x c.args.bound l.before) _ l.i l.invariant (omega arith) c.if-p-eq0.false
+    (ok-next _ _ _ _ _ _ _ c.is_way-kept.ensures _ c.slot_ok.ensures c.if-not-slot_ok.false)
+
+pub returns : goal.returns
+returns c = let l = c.loop-i in ok-none _ _ _ ∙ scan-past (comes c.args.x c.args.bound l.before) _ l.i l.invariant (omega arith)
