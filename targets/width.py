@@ -1,9 +1,9 @@
 #!/usr/bin/env python3
 """width.py FILE.ll..: is a module that was made for 64-bit pointers right where a pointer has 4 bytes (wasm32)?
 
-What could be wrong there: an address turned into a number of 8 bytes or back; a pointer in memory, in a struct, a vector or a constant; an access or a copy
-past the place that it is to. A struct of numbers alone, as a small result, lies alike everywhere. Every use of every place made by alloca is
-followed, with its constant offsets. The last line is what was found; the status is 1 if that is not nothing."""
+What could be wrong there: an address turned into a number, but for two that are compared, or back; a pointer in memory, in a struct, a vector or
+a constant; an access or a copy past the place that it is to. A struct of numbers alone, as a small result, lies alike everywhere. Every use of
+every place made by alloca is followed, with its constant offsets. The last line is what was found; the status is 1 if that is not nothing."""
 import re
 import sys
 
@@ -78,6 +78,25 @@ class Places:
         return m
 
 
+def numbered(lines):
+    """The lines that use an address as a number, but for the comparison of two: each has 4 bytes and zeros above (targets/retarget), and what is
+    compared is their difference."""
+    low, address, apart = set(), set(), set()
+    for line in map(str.strip, lines):
+        taken = re.fullmatch(r'(%\S+) = ptrtoint ptr \S+ to i32', line)
+        wide = re.fullmatch(r'(%\S+) = zext i32 (%\S+) to i64', line)
+        minus = re.fullmatch(r'(%\S+) = sub i64 (%\S+), (%\S+)', line)
+        used = set(re.findall(r'%[\w.-]+', line))
+        if taken:
+            low.add(taken[1])
+        elif wide and wide[2] in low:
+            address.add(wide[1])
+        elif minus and minus[2] in address and minus[3] in address:
+            apart.add(minus[1])
+        elif re.search(r'\bptrto(int|addr)\b', line) or used & (low | address) or used & apart and not re.match(r'%\S+ = icmp ', line):
+            yield line
+
+
 def look(text):
     global followed
     for word in FORBIDDEN:
@@ -89,7 +108,7 @@ def look(text):
         if re.search(r'\bx ptr', lines[0]):
             bad.append(('an aggregate by value', lines[0]))
         bad.extend(('a struct with more than numbers', line) for line in lines if odd(line))
-        bad.extend(('an address of 8 bytes', line) for line in lines if re.search(r'ptrto(int|addr) .* to (?!i32$)', line))
+        bad.extend(('an address as a number', line) for line in numbered(lines[1:]))
         bad.extend(('a pointer in memory', line) for line in lines if re.search(r'\b(load|store) (volatile )?ptr\b', line))
         places = Places()
         for line in map(str.strip, lines[1:]):
