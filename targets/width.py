@@ -1,9 +1,11 @@
 #!/usr/bin/env python3
 """width.py FILE.ll..: is a module that was made for 64-bit pointers right where a pointer has 4 bytes (wasm32)?
 
-What could be wrong there: an address turned into a number, but for two that are compared, or back; a pointer in memory, in a struct, a vector or
-a constant; an access or a copy past the place that it is to. A struct of numbers alone, as a small result, lies alike everywhere. Every use of
-every place made by alloca is followed, with its constant offsets. The last line is what was found; the status is 1 if that is not nothing."""
+What could be wrong there: an address turned into a number, but for two that are compared, or back; a pointer in a struct, a vector or a constant;
+an access or a copy past the place that it is to. A pointer may be kept in a place of 8 bytes that is only ever written and read as a pointer: the
+4 bytes above it are then never read. For this each place, made by alloca or handed in, is followed through the functions that it is handed to. A
+struct of numbers alone, as a small result, lies alike everywhere. Every use of every place made by alloca is followed, with its constant offsets.
+The last line is what was found; the status is 1 if that is not nothing."""
 import re
 import sys
 
@@ -97,23 +99,128 @@ def numbered(lines):
             yield line
 
 
+def split(text):
+    """The parts between commas that stand in no bracket."""
+    depth, part = 0, ''
+    for c in text:
+        depth += (c in '([{') - (c in ')]}')
+        if c == ',' and depth == 0:
+            yield part.strip()
+            part = ''
+        else:
+            part += c
+    if part.strip():
+        yield part.strip()
+
+
+def arguments(line):
+    """The function that a call or a definition names, and its arguments."""
+    m = re.search(r'(@"[^"]*"|@[\w.$-]+)\((.*)', line)
+    depth, end = 1, 0
+    while depth:
+        depth += {'(': 1, ')': -1}.get(m[2][end], 0)
+        end += 1
+    return m[1], list(split(m[2][:end - 1]))
+
+
+class Handed:
+    """The places of one function, as those that are made there or handed to it; what is done to each: (offset, bytes, kind), None if computed."""
+
+    def __init__(self, lines):
+        self.name, parameters = arguments(lines[0])
+        self.shared = not re.match(r'define (?:internal|private)\b', lines[0])
+        self.parameters = [p.split()[-1] if p.startswith('ptr') else None for p in parameters]
+        self.of = {p: (p, 0) for p in self.parameters if p}
+        self.done = {p: {} for p in self.of}
+        self.calls, self.astray = [], []
+        for line in map(str.strip, lines[1:]):
+            self.take(line)
+
+    def take(self, line):
+        made = re.match(r'(%\S+) = alloca ', line)
+        step = re.match(r'(%\S+) = getelementptr .*?, ptr (%[^,\s]+), (.*)$', line)
+        access = re.match(r'(?:%\S+ = )?(?:load (?:volatile )?(\{[^{}]*\}|<[^<>]*>|\S+), ptr|store (?:volatile )?(\{[^{}]*\}|<[^<>]*>|\S+) (\S+|<[^<>]*>), ptr) ([%@][^,\s]+),', line)
+        call = re.match(r'(?:%\S+ = )?(?:tail )?call ', line)
+        if made:
+            self.of[made[1]], self.done[made[1]] = (made[1], 0), {}
+        elif step:
+            if step[2] in self.of:
+                root, at = self.of[step[2]]
+                number = re.fullmatch(r'i64 (-?\d+)', step[3])
+                self.of[step[1]] = (root, at + int(number[1]) if at is not None and number else None)
+        elif access:
+            vector = re.fullmatch(r'<(\d+) x (\w+)>', access[1] or access[2])
+            for kind, inside in [(vector[2], i * SIZE[vector[2]]) for i in range(int(vector[1]))] if vector else parts(access[1] or access[2]):
+                self.do(access[4], inside, SIZE[kind], kind, line)
+            if access[3] in self.of:
+                self.do(access[3], None, 0, 'elsewhere', line)
+        elif 'llvm.lifetime' in line:
+            pass
+        elif call:
+            name, given = arguments(line)
+            amount = [a.split()[-1] for a in given if a.startswith('i64')]
+            for i, value in enumerate(a.split()[-1] for a in given):
+                if 'llvm.mem' in name:
+                    self.do(value, 0, int(amount[-1]) if amount[-1].isdigit() else 1 << 60, 'bytes', line)
+                elif value in self.of:
+                    self.calls.append((name, i, *self.of[value], line))
+        elif not line.startswith(';'):
+            for value in set(re.findall(r'%[\w.$-]+', line)) & set(self.of):
+                self.do(value, None, 0, 'elsewhere', line)
+
+    def do(self, value, inside, size, kind, line):
+        if value in self.of:
+            root, at = self.of[value]
+            self.done[root][at + inside if at is not None and inside is not None else None, size, kind] = line
+        elif kind == 'ptr':
+            self.astray.append(line)
+
+
+def kept(functions):
+    """What is wrong with the pointers that are kept in memory."""
+    by_name, more = {f.name: f for f in functions}, True
+    while more:
+        more = False
+        for f in functions:
+            for name, i, root, at, line in f.calls:
+                other = by_name.get(name)
+                done = other.done[other.parameters[i]] if other else {(None, 0, 'elsewhere'): line}
+                for (to, size, kind), where in list(done.items()):
+                    new = (at + to if at is not None and to is not None else None, size, kind)
+                    more |= new not in f.done[root]
+                    f.done[root].setdefault(new, where)
+    for f in functions:
+        for line in f.astray:
+            yield 'a pointer in a place that is not followed', line
+        for root, done in f.done.items():
+            pointers = [(at, line) for (at, size, kind), line in done.items() if kind == 'ptr']
+            for start, line in pointers:
+                if f.shared and root in f.parameters:
+                    yield 'a pointer in a place that C hands in', line
+                for (at, size, kind), where in done.items():
+                    if at is None or start is None or kind == 'ptr' and 0 < abs(at - start) < 8 or kind != 'ptr' and at < start + 8 and start < at + size:
+                        yield 'a place that holds a pointer is used otherwise', where
+
+
 def look(text):
     global followed
     for word in FORBIDDEN:
         bad.extend((f'{word.strip()}', line) for line in text.split('\n') if word in line and not line.startswith(';'))
     bad.extend(('a struct type', t) for t in re.findall(r'^%\S+ = type .*', text, re.M))
     bad.extend(('a constant with a pointer', g) for g in re.findall(r'^@.* = .*', text, re.M) if 'ptr' in g)
+    functions = []
     for body in re.findall(r'^define .*?^}', text, re.M | re.S):
         lines = body.split('\n')
         if re.search(r'\bx ptr', lines[0]):
             bad.append(('an aggregate by value', lines[0]))
         bad.extend(('a struct with more than numbers', line) for line in lines if odd(line))
         bad.extend(('an address as a number', line) for line in numbered(lines[1:]))
-        bad.extend(('a pointer in memory', line) for line in lines if re.search(r'\b(load|store) (volatile )?ptr\b', line))
+        functions.append(Handed(lines))
         places = Places()
         for line in map(str.strip, lines[1:]):
             places.alloca(line) or places.offset(line) or places.access(line) or places.copy(line)
         followed += len(places.of)
+    bad.extend(kept(functions))
 
 
 for name in sys.argv[1:]:

@@ -1,11 +1,11 @@
 // What the C entry points put into lent words: an answer, only if the call does its work, and the number that they return.
 #![tactic(auto)]
 
-ghost use Rattle.std.specs.Prelude.{◌≡◌};
+ghost use Rattle.std.specs.Prelude.{◌≡◌, MatchResult};
 ghost use Rattle.model.specs.Results.{answer_number};
 ghost use Rattle.model.specs.Answers.{Looked, Counted};
 
-use model::{Answer, Outcome, Written};
+use model::{Answer, Outcome, Refusal, Written};
 
 // The number of an outcome: 0 if the call did its work, else its refusal's.
 pub fn number_of(outcome: Outcome) -> u64
@@ -17,7 +17,21 @@ pub fn number_of(outcome: Outcome) -> u64
     }
 }
 
-// A search's number, and its answer into the lent words that it has one for.
+// An answer's number; if the call did its work, what it says goes into the lent word.
+pub fn put(answer: Result<u64, Refusal>, word: &mut u64) -> u64
+    ensures value { result ≡ answer_number answer }
+    ensures word_after { MatchResult answer (λ x. word.new ≡ x) (λ _. word.new ≡ word.old) }
+{
+    match answer {
+        Ok(x) => {
+            *word = x;
+            0
+        }
+        Err(reason) => u64::from(reason),
+    }
+}
+
+// A search's number, and its answer into the lent words that it has one for. C lends each word by itself, here and below.
 pub fn put_answer(
     answer: Answer,
     recording: &mut u64,

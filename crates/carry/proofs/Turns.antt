@@ -5,9 +5,10 @@ use mathlib.Core.List.{List, [], ◌∷◌}
 use Prim.Native.Nat.{ℕ, zero, suc, ◌+◌, ◌-◌, ◌*◌, ◌≤◌, ◌<◌}
 use native.Mathlib.Numerals.{add-one}
 use native.Mathlib.Omega.{arith}
-use lib.Dec.{eqb, ltb}
-use borrow.Author.Tests.{eq-eqb, ne_eqb, ltb-true}
+use lib.Dec.{eqb}
+use borrow.Author.Tests.{eq-eqb, ne_eqb}
 use lib.ListN.{length, drop, set}
+use Rattle.std.specs.List.{list_all, range_with_len}
 use Rattle.list_laws.proofs.Tools.{and-iff}
 use Rattle.cut_laws.proofs.Applying.{carry-append}
 use Rattle.model.specs.Table.{MARK, Words, at}
@@ -38,23 +39,15 @@ module _ (c : ℕ) (ws : Words) (i : ℕ) where
   pub none-left : c ≤ i → firsts c ws i ≡ []
   none-left h = let e : c - i ≡ 0 = omega arith in rw e
 
--- ---- one turn of the test
+-- ---- the test, over the numbers of the orders
 
-module _ (n c : ℕ) (ws : Words) (i : ℕ) (x : Bool) (e : all_inside n (firsts c ws i) ≡ x) where
-  module _ (h : i < c) (l : 2 * c ≤ length ws) (r : Bool) (q : r ≡ inside n (order_of (at ws (2 * i)) (at ws (2 * i + 1)))) where
-    split : r && all_inside n (firsts c ws (i + 1)) ≡ x
-    unfolding all_inside
-    split = rw q (sym (ap (all_inside n) (next c ws i h l)) ∙ e)
-
-    pub test-next : r ≡ true → all_inside n (firsts c ws (i + 1)) ≡ x
-    test-next t = rw t at split
-
-    pub test-fails : r ≡ false → false ≡ x
-    test-fails t = rw t at split
-
-  pub test-end : c ≤ i → true ≡ x
-  unfolding all_inside
-  test-end h = sym (ap (all_inside n) (none-left c ws i h)) ∙ e
+pub listed-orders : (n c : ℕ) (ws : Words) (i m : ℕ) → c - i ≡ m → 2 * c ≤ length ws
+    → list_all (λ k. inside n (order_of (at ws (2 * k)) (at ws (2 * k + 1)))) (range_with_len i m) ≡ all_inside n (firsts c ws i)
+unfolding all_inside
+listed-orders n c ws i zero e l = sym (ap (all_inside n) (none-left c ws i (omega arith)))
+listed-orders n c ws i (suc m) e l =
+    ap (λ b. inside n (order_of (at ws (2 * i)) (at ws (2 * i + 1))) && b) (listed-orders n c ws (i + 1) m (omega arith) l)
+    ∙ sym (ap (all_inside n) (next c ws i (omega arith) l))
 
 -- ---- one turn of applying
 
@@ -87,12 +80,6 @@ module _ (n a b : ℕ) where
 
   -- r tells whether it is a barrier
   module _ (z : a ≡ MARK → ⊥) (r : Bool) (q : r ≡ (eqb a BAR && eqb b 0)) where
-    store-inside : r ≡ false → ltb a n ≡ inside n (order_of a b)
-    store-inside e = rw (ne_eqb a MARK z, sym q ∙ e)
-
-    pub store-below : r ≡ false → inside n (order_of a b) ≡ true → a < n
-    store-below e h = ltb-true a n (store-inside e ∙ h)
-
     pub barrier-carry : (t : Words) → r ≡ true → t ≡ carry (order_of a b ∷ []) t
     unfolding carry
     barrier-carry t e = rw (ne_eqb a MARK z, sym q ∙ e, carry)

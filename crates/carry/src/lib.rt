@@ -29,12 +29,7 @@ pub fn all_inside(len: usize, list: &[u64], c: usize) -> bool
     requires { 2 * c ≤ length list.now }
     ensures { result ≡ all_inside len (firsts c list.now 0) }
 {
-    for i in 0..c {
-        if !is_inside(len, list[2 * i], list[2 * i + 1]) {
-            return false;
-        }
-    }
-    true
+    (0..c).all(|i| is_inside(len, list[2 * i], list[2 * i + 1]))
 }
 
 // One order carried out: a store is made, a flush or a barrier changes no word.
@@ -52,7 +47,7 @@ pub fn apply_one(table: &mut [u64], a: u64, b: u64)
     table[w] = b;
 }
 
-// The first c orders carried out.
+// The first c orders carried out. Table and list are the two slices that C lends.
 fn apply_all(table: &mut [u64], list: &[u64], c: usize)
     requires c_in_bounds { 2 * c ≤ length list.now }
     requires list_value { all_inside (length table.old) (firsts c list.now 0) ≡ true }

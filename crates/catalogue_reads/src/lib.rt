@@ -1,6 +1,7 @@
 // The C entry points, on numbers and slices: include/catalogue.h has their prototypes. Here those of codes, making, searching, checking, listing
 // and carry-out; catalogue_writes, catalogue_sentinels and catalogue_tools have the others. One archive, libcatalogue.a, has them all (shell/build-library).
 // C calls each by its own name: bodies that differ in the inner call alone stay apart.
+// C hands over each number, slice and lent word by itself: those that calls take together stay parameters.
 #![tactic(auto)]
 
 ghost use Rattle.std.specs.Prelude.{◌≡◌};
@@ -27,13 +28,7 @@ pub extern "C" fn catalogue_parse(text: &[u8], key: &mut u64) -> u64
     ensures value { result ≡ answer_number (parse text.now) }
     ensures key_after { key.new ≡ key_or (parse text.now) key.old }
 {
-    match isrc::parse(text) {
-        Ok(k) => {
-            *key = k;
-            0
-        }
-        Err(no_code) => u64::from(no_code),
-    }
+    answers::put(isrc::parse(text), key)
 }
 
 // 0 and the key's code, or 1 and 12 zero bytes.

@@ -1,4 +1,5 @@
-// The C entry points that take sentinels. C calls each by its own name: bodies that differ in the inner call alone stay apart.
+// The C entry points that take sentinels. C calls each by its own name, with the parameters of its declaration: bodies that differ in the inner
+// call alone stay apart.
 #![tactic(auto)]
 
 ghost use Rattle.std.specs.Prelude.{◌≡◌, length};

@@ -1,5 +1,6 @@
 // The C entry points of the tools: packing, salvage, the judge, the short scripts, wear figures. C calls each by its own name: bodies
 // that differ in the inner call alone stay apart.
+// C hands over each number, slice and lent word by itself: those that calls take together stay parameters.
 #![tactic(auto)]
 
 ghost use Rattle.std.specs.Prelude.{◌≡◌, length};
@@ -41,13 +42,7 @@ pub extern "C" fn catalogue_salvage(
     ensures out_after { out.new ≡ salvage_out table.now out.old (length report.old) }
     ensures report_after { report.new ≡ salvage_report table.now (length out.old) report.old }
 {
-    match salvage::salvage(table, out, report) {
-        Ok(count) => {
-            *dropped = count;
-            0
-        }
-        Err(refusal) => u64::from(refusal),
-    }
+    answers::put(salvage::salvage(table, out, report), dropped)
 }
 
 // A judgement's number; if it is no, the count that fails goes into the lent word.
@@ -116,13 +111,7 @@ pub extern "C" fn catalogue_script_number(script: &[u64; 5], number: &mut u64) -
     ensures value { result ≡ answer_number (script_number script.now) }
     ensures number_after { number.new ≡ rank_or (script_number script.now) number.old }
 {
-    match short_scripts::number_of(*script) {
-        Ok(n) => {
-            *number = n;
-            0
-        }
-        Err(refusal) => u64::from(refusal),
-    }
+    answers::put(short_scripts::number_of(*script), number)
 }
 
 // 0 and the figures, or 2, 13 or 24.

@@ -1,4 +1,5 @@
 // The C entry points that change a table. C calls each by its own name: bodies that differ in the inner call alone stay apart.
+// C hands over each number, slice and lent word by itself: those that calls take together stay parameters.
 #![tactic(auto)]
 
 ghost use Rattle.std.specs.Prelude.{◌≡◌};
@@ -34,17 +35,14 @@ pub extern "C" fn catalogue_insert(
 fn stop_number(stop: Option<Refusal>) -> u64
     ensures { result ≡ stop_number stop }
 {
-    match stop {
-        Some(refusal) => u64::from(refusal),
-        None => 0,
-    }
+    stop.map_or(0, u64::from)
 }
 
 // Whether a batch does its work: a pair was taken, or none was refused.
 fn puts(answer: Batch) -> bool
     ensures { result ≡ puts answer }
 {
-    stop_number(answer.stop) == 0 || 0 < answer.taken
+    answer.stop.is_none() || 0 < answer.taken
 }
 
 // 0 with a batch's counts and the number that stopped it in the lent words, or the number that refused its first pair.

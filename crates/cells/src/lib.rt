@@ -25,7 +25,8 @@ fn ahead(places: usize, i: usize, j: usize) -> usize
     places - (i - j)
 }
 
-// The cell that holds a number, or the first free one of its path; the number of cells where there is none.
+// The cell that holds a number, or the first free one of its path; the number of cells where there is none. A caller lends cells out of a
+// longer slice: no type of theirs says that there are some.
 pub fn cell_for(cells: &[u64], number: u64) -> usize
     requires { 0 < length cells.now }
     ensures { result ≡ cell_for cells.now number }

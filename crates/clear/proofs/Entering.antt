@@ -1,6 +1,7 @@
 -- The pairs' recordings entered, from the last to the first.
 use mathlib.Core.Path.{◌≡◌, refl, ap, sym, ◌∙◌, subst}
 use mathlib.Core.Bool.{Bool, true, false, false≢true}
+use mathlib.Core.Logic.{◌≢◌}
 use mathlib.Core.List.{List, [], ◌∷◌, map}
 use Prim.Native.Nat.{ℕ, suc, ◌+◌, ◌*◌, ◌-◌, ◌%◌, ◌≤◌, ◌<◌}
 use native.Mathlib.Omega.{arith}
@@ -78,11 +79,18 @@ module _ (pairs : Words) (from i : ℕ) (cs : Words) where
     pub down-next : e ≡ Entered → entered_down pairs from (i - 1 - from) after ≡ entered_down pairs from (i - from) cs
     down-next a = ap (λ (y : Entry). followed (outcome y after) (entered_down pairs from (i - 1 - from))) (sym a) ∙ down-step
 
-    pub down-known : e ≡ Known → outcome Known after ≡ entered_down pairs from (i - from) cs
-    down-known a = ap (λ (y : Entry). followed (outcome y after) (entered_down pairs from (i - 1 - from))) (sym a) ∙ down-step
+    pub down-ends : e ≢ Entered → outcome e after ≡ entered_down pairs from (i - from) cs
+    down-ends n = go e refl
+      where
+        go : (s : Entry) → e ≡ s → outcome e after ≡ entered_down pairs from (i - from) cs
+        go Entered a = absurd (n a)
+        go Known a = ap (λ (y : Entry). outcome y after) a ∙ ap (λ (y : Entry). followed (outcome y after) (entered_down pairs from (i - 1 - from))) (sym a) ∙ down-step
+        go Full a = ap (λ (y : Entry). outcome y after) a ∙ ap (λ (y : Entry). followed (outcome y after) (entered_down pairs from (i - 1 - from))) (sym a) ∙ down-step
 
-    pub down-full : e ≡ Full → outcome Full after ≡ entered_down pairs from (i - from) cs
-    down-full a = ap (λ (y : Entry). followed (outcome y after) (entered_down pairs from (i - 1 - from))) (sym a) ∙ down-step
+pub not-entered : (e : Entry) → e ≢ Entered → false ≡ is_entered e
+not-entered Entered n = absurd (n refl)
+not-entered Known n = refl
+not-entered Full n = refl
 
 -- ---- the answer
 

@@ -3,11 +3,12 @@ use mathlib.Core.Path.{◌≡◌, refl, ap, sym, ◌∙◌}
 use mathlib.Core.Bool.{Bool, true, false, ◌&&◌, and_assoc}
 use mathlib.Core.List.{List, [], ◌∷◌, ◌++◌}
 use mathlib.Core.Logic.{◌≢◌, inl, inr}
-use Prim.Native.Nat.{ℕ, zero, suc, ◌+◌, ◌-◌, ◌%◌, ◌≤◌, ◌<◌}
+use Prim.Native.Nat.{ℕ, zero, suc, ◌+◌, ◌-◌, ◌%◌, ◌<◌}
 use native.Mathlib.Omega.{arith}
 use lib.Dec.{eqb}
 use lib.ListN.{get_or}
 use borrow.Author.Tests.{eq-eqb, ne_eqb}
+use Rattle.std.specs.List.{list_all, range_with_len}
 use Rattle.model.specs.Table.{Words, nodes}
 use Rattle.model.specs.Slots.{Slot, recording_of, node_view, view_from, view}
 use Rattle.model.specs.Reached.{flat, kept}
@@ -73,28 +74,14 @@ held-met n cs r i (suc m) z (inr c) = go (eqb (get_or cs i 0) r) (held-met n cs 
     go true h = refl
     go false h = rw (ne_eqb (get_or cs i 0) 0 c.0) h
 
--- ---- the slots of a leaf, one by one
+-- ---- the slots of a leaf, from way i on
 
--- what is left to look at, from way i on, comes to b
-pub record Looking (cs : Words) (w : Ways) (b : Bool) (i : ℕ) : Type 0 where
-  pub few : w.count ≤ 13
-  pub comes-to : all (off_pair cs) (ways_from w i) ≡ b
-
-module _ {cs : Words} {w : Ways} {b : Bool} {i : ℕ} (k : Looking cs w b i) where
-  pub look-end : w.count ≤ i → true ≡ b
-  unfolding all
-  look-end h = sym (ap (all (off_pair cs)) (ways-end w i h)) ∙ k.comes-to
-
-  module _ (h : i < w.count) (y : Bool) (e : y ≡ off cs (recording_of (get_or w.pointers i 0))) where
-    look-step : (y && all (off_pair cs) (ways_from w (i + 1))) ≡ b
-    unfolding all
-    look-step = ap (λ (c : Bool). c && all (off_pair cs) (ways_from w (i + 1))) e ∙ sym (ap (all (off_pair cs)) (ways-next w i h)) ∙ k.comes-to
-
-    pub look-wrong : y ≡ false → false ≡ b
-    look-wrong n = ap (λ (c : Bool). c && all (off_pair cs) (ways_from w (i + 1))) (sym n) ∙ look-step
-
-    pub look-next : y ≡ true → Looking cs w b (i + 1)
-    look-next n = record { few = k.few; comes-to = ap (λ (c : Bool). c && all (off_pair cs) (ways_from w (i + 1))) (sym n) ∙ look-step }
+pub listed-ways : (cs : Words) (w : Ways) (i m : ℕ) → w.count - i ≡ m → list_all (λ k. off cs (recording_of (get_or w.pointers k 0))) (range_with_len i m) ≡ all (off_pair cs) (ways_from w i)
+unfolding all
+listed-ways cs w i zero e = sym (ap (all (off_pair cs)) (ways-end w i (omega arith)))
+listed-ways cs w i (suc m) e =
+    ap (λ b. off cs (recording_of (get_or w.pointers i 0)) && b) (listed-ways cs w (i + 1) m (omega arith))
+    ∙ sym (ap (all (off_pair cs)) (ways-next w i (omega arith)))
 
 -- ---- the leaves, one by one
 

@@ -6,7 +6,6 @@ ghost use Rattle.std.specs.Prelude.{◌≡◌, true, [], ◌*◌, ◌-◌, ◌�
 ghost use Rattle.model.specs.Slots.{view_from};
 ghost use Rattle.model.specs.Reached.{mapping};
 ghost use Rattle.model.specs.SoundTest.{all, sound_view};
-ghost use Rattle.numbers.specs.Cells.{CELLS};
 ghost use Rattle.slots.specs.Gathered.{ways_from};
 ghost use Rattle.clear.specs.New.{off, off_pair, tree_pairs, recordings_of, Holds, New, is_entered, entered_down, are_new};
 
@@ -14,11 +13,11 @@ use numbers::Entry;
 use slots::Ways;
 
 // Whether a number is surely not in the cells: a free one comes before it on its path.
-fn is_off(cells: &[u64], number: u64) -> bool
-    requires { length cells.now ≡ CELLS }
+fn is_off(cells: &[u64; numbers::CELLS], number: u64) -> bool
     ensures { result ≡ off cells.now number }
 {
     let mut at = (numbers::mixed(number) % numbers::CELLS as u64) as usize;
+    // No `all`: each cell of a path is found from the one before, and the cell that ends it says which answer.
     for _ in 0..numbers::TRIES {
         let held = cells[at];
         if held == number {
@@ -33,26 +32,20 @@ fn is_off(cells: &[u64], number: u64) -> bool
 }
 
 // Whether each recording of a leaf, its first way left aside, surely is not.
-fn leaf_off(cells: &[u64], w: Ways) -> bool
-    requires cells_len { length cells.now ≡ CELLS }
-    requires count_bound { w.count ≤ 13 }
+fn leaf_off(cells: &[u64; numbers::CELLS], w: Ways) -> bool
+    requires { w.count ≤ 13 }
     ensures { result ≡ all (off_pair cells.now) (ways_from w 1) }
 {
-    for i in 1..w.count {
-        if !is_off(cells, pointer::recording(w.pointers[i])) {
-            return false;
-        }
-    }
-    true
+    (1..w.count).all(|i| is_off(cells, pointer::recording(w.pointers[i])))
 }
 
-// Whether each recording of a tree surely is not.
-fn leaves_off(cells: &[u64], table: &[u64], root: u64) -> bool
-    requires { length cells.now ≡ CELLS }
+// Whether each recording of a tree surely is not. A table is a lent slice (document 01 says so), and each tree has a root of its own.
+fn leaves_off(cells: &[u64; numbers::CELLS], table: &[u64], root: u64) -> bool
     ensures { result ≡ all (off_pair cells.now) (tree_pairs (view_from table.now root)) }
 {
     let mut leaf = leaves::first_leaf(table, root);
     let nodes = leaves::word_at(table, 2);
+    // No `all`: each leaf is found from the one before.
     for _ in 0..nodes {
         if leaf == 0 {
             return true;
@@ -67,23 +60,20 @@ fn leaves_off(cells: &[u64], table: &[u64], root: u64) -> bool
 }
 
 // Enters the recordings of the pairs from one on, before another, from the last to the first: whether each was entered.
-fn enter_pairs(cells: &mut [u64], pairs: &[u64], from: usize, to: usize) -> bool
+fn enter_pairs(cells: &mut [u64; numbers::CELLS], pairs: &[u64], from: usize, to: usize) -> bool
     requires holds { Holds cells.old [] }
     requires from_le_to { from ≤ to }
     requires to_in_bounds { 2 * to ≤ length pairs.now }
     ensures value { result ≡ is_entered (entered_down pairs.now from (to - from) cells.old).answer }
     ensures cells_after { cells.new ≡ (entered_down pairs.now from (to - from) cells.old).cells }
     ensures holds_2 { result ≡ true → Holds cells.new (recordings_of pairs.now from to) }
-    ensures cells_len { length cells.new ≡ CELLS }
 {
+    // No `all`: its closure would write to the cells, and a proof knows nothing of what a closure writes to.
     for i in (from..to).rev() {
         let number = pointer::recording(pairs[2 * i + 1]);
-        let entry = numbers::enter(cells, numbers::TRIES, number);
-        match entry {
-            Entry::Entered => {}
-            Entry::Known => return false,
-            Entry::Full => return false,
-        }
+        let Entry::Entered = numbers::enter(cells, numbers::TRIES, number) else {
+            return false;
+        };
     }
     true
 }
@@ -96,6 +86,7 @@ pub fn are_new(table: &[u64], root: u64, pairs: &[u64], from: usize, to: usize) 
     ensures value { result ≡ are_new (view_from table.now root) pairs.now from to }
     ensures new { result ≡ true → New (mapping (view_from table.now root)) (recordings_of pairs.now from to) }
 {
+    // A set of numbers: memory is fixed, there is no heap.
     let mut cells = [0u64; numbers::CELLS];
     enter_pairs(&mut cells, pairs, from, to) && leaves_off(&cells, table, root)
 }

@@ -1,11 +1,13 @@
 -- The map of a sound tree: its pairs along the leaves, in order, with the slot of a key where its search ends.
-use mathlib.Core.Path.{◌≡◌, ap, sym, ◌∙◌}
+use mathlib.Core.Path.{◌≡◌, refl, ap, sym, ◌∙◌}
 use mathlib.Core.Bool.{Bool, true, false, false≢true}
 use mathlib.Core.Logic.{◌≢◌, ◌⊎◌, inl, inr}
 use mathlib.Core.List.{List}
+use mathlib.Core.Option.{Option, none, some}
 use Prim.Native.Nat.{ℕ, ◌-◌}
 use native.Mathlib.Omega.{arith}
 use lib.ListN.{get_or}
+use Rattle.std.specs.Prelude.{unwrap_or, Option as Known}
 use Rattle.model.specs.declared.Node.{Node}
 use Rattle.model.specs.Table.{Words, node}
 use Rattle.model.specs.Slots.{Slot, View, view_from, node_view, height, used, recording_of, recording_ok, pointer_ok}
@@ -19,7 +21,7 @@ use Rattle.tree_laws.proofs.MapLaw.{map-rises}
 use Rattle.tree_laws.proofs.SearchLaw.{leaf_for, leaf-mem, leaf-covers, path-leaf, range-first}
 use Rattle.walk_laws.proofs.WalkLaw.{sound-in-order}
 use Rattle.slots.specs.Scan.{shown_from}
-use Rattle.slots.specs.Held.{pointer_in}
+use Rattle.slots.specs.Held.{pointer_in, held_by}
 use Rattle.leaves.proofs.FoundLaws.{chain-mapping}
 use Rattle.compare.specs.Along.{all_pairs}
 use Rattle.compare.specs.Cursors.{same_but}
@@ -39,17 +41,23 @@ map-ordered v s =
     let m = map-rises v (sound-orderly v s) in
     record { rises = m.rising; pointers = Each-map (λ (s : Slot). pair_ok s ≡ true) (λ (s : Slot). s.pointer ≢ 0) (mapping v) (λ s e. not-zero s.pointer e) m.pairs-ok }
 
+-- the pointer of a slot found, 0 for none
+found-pointer : (s : Option Slot) → unwrap_or (held_by s) 0 ≡ pointer_in s
+found-pointer none = refl
+found-pointer (some s) = refl
+
 -- the leaf n for k, which is x, holds the slot that the map has for k
-pub leaf-held : (t : Words) (o k n : ℕ) (x : Node) (h : ℕ) → sound_view (view_from t o) ≡ true → n ≡ standing_in (view_from t o) 0 k → x ≡ node t n
-    → h ≡ pointer_in (first_with k (shown_from x.left x.slots 0)) → h ≡ held k (mapping (view_from t o))
+pub leaf-held : (t : Words) (o k n : ℕ) (x : Node) (f : Known ℕ) (h : ℕ) → sound_view (view_from t o) ≡ true → n ≡ standing_in (view_from t o) 0 k → x ≡ node t n
+    → f ≡ held_by (first_with k (shown_from x.left x.slots 0)) → h ≡ unwrap_or f 0 → h ≡ held k (mapping (view_from t o))
 unfolding standing_in used
-leaf-held t r k n x h s e q f =
+leaf-held t r k n x m h s e q f u =
     let v = view_from t r in
     let o = sound-orderly v s in
     let c = leaf-covers v k o in
     let d : height v - 0 ≡ height v = omega arith in
     let l : n ≡ leaf_for v k = e ∙ ap (λ (i : ℕ). get_or (path v k) i 0) d ∙ path-leaf v k o in
-    f ∙ ap (λ (y : Node). pointer_in (first_with k (shown_from y.left y.slots 0))) q ∙ ap (λ (m : ℕ). pointer_in (first_with k (node_view t m).shown)) l
+    u ∙ ap (λ (p : Known ℕ). unwrap_or p 0) f ∙ found-pointer (first_with k (shown_from x.left x.slots 0))
+    ∙ ap (λ (y : Node). pointer_in (first_with k (shown_from y.left y.slots 0))) q ∙ ap (λ (m : ℕ). pointer_in (first_with k (node_view t m).shown)) l
     ∙ ap pointer_in (sym (range-first v k (leaf_for v k) o (leaf-mem v k o) c.fence c.inside))
 
 -- ---- an image's tree beside the table's, with the pointers that the two have for the key

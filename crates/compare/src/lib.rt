@@ -116,35 +116,35 @@ fn same_pair(a: Cursor, b: Cursor) -> bool
 }
 
 // Whether two trees have the same pairs, but for one key.
+// A table is a lent slice (document 01 says so), and each tree has a root of its own: they stay two parameters.
 fn same_but(image: &[u64], top: u64, table: &[u64], root: u64, key: u64) -> bool
     ensures { result ≡ same_but key (all_pairs (view_from image.now top)) (all_pairs (view_from table.now root)) }
 {
     let mut a = seek(image, start(image, top), key);
     let mut b = seek(table, start(table, root), key);
-    // Two cursors that go on together, each to its next pair.
-    while !at_end(a) {
-        if !same_pair(a, b) {
-            return false;
-        }
+    // Two cursors that go on together, each to its next pair, while the pairs are the same.
+    while !at_end(a) && same_pair(a, b) {
         a = seek(image, past(a), key);
         b = seek(table, past(b), key);
     }
-    at_end(b)
+    at_end(a) && at_end(b)
 }
 
 // ---- two trees
 
 // The pointer of a key in the map of the tree under a root; 0 for none.
+// That the tree is sound is said of table and root together, and the table is a lent slice: so it is a clause.
 pub fn held(table: &[u64], root: u64, key: u64) -> u64
     requires { sound_view (view_from table.now root) ≡ true }
     ensures { result ≡ held key (mapping (view_from table.now root)) }
 {
     let leaf = reach::standing(table, root, 0, key);
     let x = node::read(table, leaf);
-    slots::scan(x.slots, x.left, key, 12).held
+    slots::find(x.slots, x.left, key).unwrap_or(0)
 }
 
 // Whether the map of an image's tree is the table's or, in the tree that is to change, the new one.
+// own is data: whether the change names this tree. A pointer of 0 is compared as any other, so no Option says that there is none.
 pub fn tree_ok(
     image: &[u64],
     top: u64,
@@ -158,15 +158,8 @@ pub fn tree_ok(
     requires root_value { sound_view (view_from table.now root) ≡ true }
     ensures { result ≡ old_or_new own key pointer (mapping (view_from table.now root)) (mapping (view_from image.now top)) }
 {
+    let before = held(table, root, key);
     let after = held(image, top, key);
-    if after != held(table, root, key) {
-        // Two tests, as the definition has them; one joined condition is no plainer.
-        if !own {
-            return false;
-        }
-        if after != pointer {
-            return false;
-        }
-    }
-    same_but(image, top, table, root, key)
+    let fits = after == before || own && after == pointer;
+    fits && same_but(image, top, table, root, key)
 }

@@ -18,8 +18,8 @@ use Rattle.two_laws.proofs.JudgedTwo.{map-later}
 use Rattle.two_laws.proofs.PartsTwo as parts
 use Rattle.two_laws.proofs.PartsTwo.{Plain, settled-plain, standing-reached, neighbour-there}
 use Rattle.sound.specs.declared.Sound.{Sound}
-use Rattle.orders.specs.declared.Pen.{Pen}
-use Rattle.orders.specs.Desk.{Desk, desk, first_pen, stored_all, Room}
+use Rattle.orders.specs.declared.Writer.{Writer}
+use Rattle.orders.specs.Desk.{Desk, first_pen, of, Makes, Room}
 use Rattle.orders.proofs.Rooms.{room-first}
 use Rattle.orders.proofs.Rest.{room-as, stored-as}
 use Rattle.write.specs.Judged.{judged}
@@ -55,29 +55,33 @@ unfolding stores_of delete_stores
 delete-stores c t k = refl
 
 -- an accepted deletion, from its first pen on
-pub begun : (c k dock : ℕ) (t lent : Words) (s : Sound) (pen : Pen) {r : ℕ} {b : Bool} → judged (no_collection c t) (length lent) dock t ≡ Ok s → r ≡ at t (root_word c)
-    → b ≡ has_key k (mapping (view_from t r)) → b ≡ true → pen ≡ first_pen dock → Begun (deletion c k) t lent dock pen (λ (u : Words). delete_settled c u k)
-begun c k dock t lent s pen j q e h f =
-    let p = judged-ready (deletion c k) (length lent) dock t s j in
-    record { is-sound = p.found.is-sound; accepted = delete-accepted c k (length lent) dock t s j q e h; first = f; stores = delete-stores c t k }
+pub begun : (c k dock : ℕ) {d : Desk} (s : Sound) {r : ℕ} {b : Bool} → judged (no_collection c d.table) (length d.list) dock d.table ≡ Ok s → r ≡ at d.table (root_word c)
+    → b ≡ has_key k (mapping (view_from d.table r)) → b ≡ true → d.pen ≡ first_pen dock → Begun (deletion c k) dock d (λ (u : Words). delete_settled c u k)
+begun c k dock {d} s j q e h f =
+    let p = judged-ready (deletion c k) (length d.list) dock d.table s j in
+    record { is-sound = p.found.is-sound; accepted = delete-accepted c k (length d.list) dock d.table s j q e h; first = f; stores = delete-stores c d.table k }
 
 -- by the root r: leaf x, its parent p and whether the leaf is freed, looked up on a settled table before the first of these stores
-pub record Found (c k : ℕ) (t lent : Words) (pen : Pen) (r x p : ℕ) (b : Bool) : Type 0 where
-  pub collection : no_collection c t ≡ false
-  pub is-settled : settled t ≡ true
-  pub has-key : has_key k (map_of c t) ≡ true
-  pub room : Room (delete_settled c t k) (desk t lent pen)
-  pub root : r ≡ at t (root_word c)
-  pub leaf-at : x ≡ standing_in (view_from t r) 0 k
-  pub parent-at : p ≡ standing_in (view_from t r) 1 k
-  pub frees : (n : ℕ) → r ≡ at t (root_word n) → b ≡ frees_leaf n t p x
+pub record Found (c k : ℕ) (w : Writer) (r x p : ℕ) (b : Bool) : Type 0 where
+  pub collection : no_collection c w.table.now ≡ false
+  pub is-settled : settled w.table.now ≡ true
+  pub has-key : has_key k (map_of c w.table.now) ≡ true
+  pub room : Room (delete_settled c w.table.now k) (of w)
+  pub root : r ≡ at w.table.now (root_word c)
+  pub leaf-at : x ≡ standing_in (view_from w.table.now r) 0 k
+  pub parent-at : p ≡ standing_in (view_from w.table.now r) 1 k
+  pub frees : (n : ℕ) → r ≡ at w.table.now (root_word n) → b ≡ frees_leaf n w.table.now p x
 
-pub found : {c k : ℕ} {t lent : Words} {pen : Pen} {r x p : ℕ} {b : Bool} → no_collection c t ≡ false → settled t ≡ true → has_key k (map_of c t) ≡ true
-    → Room (delete_settled c t k) (desk t lent pen) → r ≡ at t (root_word c) → x ≡ standing_in (view_from t r) 0 k → p ≡ standing_in (view_from t r) 1 k
-    → ((n : ℕ) → r ≡ at t (root_word n) → b ≡ frees_leaf n t p x) → Found c k t lent pen r x p b
-found a s h m e q u f = record { collection = a; is-settled = s; has-key = h; room = m; root = e; leaf-at = q; parent-at = u; frees = f }
+-- as the code reads them, from a slice that has the table's words
+pub found : {c k : ℕ} {w : Writer} {u : Words} {r x p : ℕ} {b : Bool} → u ≡ w.table.now → no_collection c w.table.now ≡ false → settled w.table.now ≡ true → has_key k (map_of c w.table.now) ≡ true
+    → Room (delete_settled c w.table.now k) (of w) → r ≡ at u (root_word c) → x ≡ standing_in (view_from u r) 0 k → p ≡ standing_in (view_from u r) 1 k
+    → ((n : ℕ) → r ≡ at u (root_word n) → b ≡ frees_leaf n u p x) → Found c k w r x p b
+found t a s h m e q v f = record { collection = a; is-settled = s; has-key = h; room = m; root = rw t at e; leaf-at = rw t at q; parent-at = rw t at v; frees = rw t at f }
 
-module _ {c k : ℕ} {t lent : Words} {pen : Pen} {r x p : ℕ} {b : Bool} (f : Found c k t lent pen r x p b) where
+module _ {c k : ℕ} {w : Writer} {r x p : ℕ} {b : Bool} (f : Found c k w r x p b) where
+  abbrev t : Words
+  t = w.table.now
+
   leaf : x ≡ standing c t 0 k
   leaf = root-stands c t r f.root x 0 k f.leaf-at
 
@@ -87,35 +91,35 @@ module _ {c k : ℕ} {t lent : Words} {pen : Pen} {r x p : ℕ} {b : Bool} (f : 
   pub leaf-plain : Plain t x
   leaf-plain = rw leaf (settled-plain c t f.collection f.is-settled _ (standing-reached c t f.collection f.is-settled 0 k (omega arith)))
 
-  pub out-room : Room (shift_out_at t x k) (desk t lent pen)
+  pub out-room : Room (shift_out_at t x k) (of w)
   out-room = let u = stores-begin c t k in rw (leaf) (room-first _ u.0 _ (room-as _ _ _ u.1 f.room))
 
   frees-as : frees_leaf c t (standing c t 1 k) (standing c t 0 k) ≡ b
   frees-as = rw (← leaf, ← parent) (sym (f.frees c f.root))
 
   -- it stays
-  pub stays-stored : b ≡ false → {d : Desk} → d ≡ stored_all (shift_out_at t x k) (desk t lent pen) → d ≡ stored_all (delete_settled c t k) (desk t lent pen)
+  pub stays-stored : b ≡ false → {v : Writer} → Makes (shift_out_at t x k) w v → Makes (delete_settled c t k) w v
   stays-stored z h = rw (stores-plain c t k (frees-as ∙ z)) (rw (leaf) at h)
 
   -- it is freed, after the shift out
-  module _ (z : b ≡ true) {t₁ list : Words} {at : Pen} (g : desk t₁ list at ≡ stored_all (shift_out_at t x k) (desk t lent pen)) where
+  module _ (z : b ≡ true) {v : Writer} (g : Makes (shift_out_at t x k) w v) where
     abbrev rest : Words → List Store
     rest u = free_stores u p x
 
     stores : delete_settled c t k ≡ shift_out_at t x k ++ rest (apply (shift_out_at t x k) t)
     stores = rw (leaf, parent) (stores-freeing c t k (frees-as ∙ z))
 
-    table-is : t₁ ≡ apply (shift_out_at t x k) t
-    table-is = part-table (shift_out_at t x k) rest t lent pen t₁ list at g
+    table-is : v.table.now ≡ apply (shift_out_at t x k) t
+    table-is = part-table (shift_out_at t x k) rest g
 
-    pub parent-plain : Plain t₁ p
+    pub parent-plain : Plain v.table.now p
     parent-plain = rw (table-is, leaf, parent) (parts.parent-plain c t f.collection f.is-settled k f.has-key (frees-as ∙ z))
 
-    pub neighbour-plain : has_node t₁ (child_before (view t₁) p x) ≡ true
+    pub neighbour-plain : has_node v.table.now (child_before (view v.table.now) p x) ≡ true
     neighbour-plain = rw (table-is, leaf, parent) (neighbour-there c t f.collection f.is-settled k f.has-key (frees-as ∙ z))
 
-    pub free-room : Room (free_stores t₁ p x) (desk t₁ list at)
-    free-room = part-room (shift_out_at t x k) rest t lent pen t₁ list at g (room-as _ _ _ stores f.room)
+    pub free-room : Room (free_stores v.table.now p x) (of v)
+    free-room = part-room (shift_out_at t x k) rest g (room-as _ _ _ stores f.room)
 
-    pub free-stored : {d : Desk} → d ≡ stored_all (free_stores t₁ p x) (desk t₁ list at) → d ≡ stored_all (delete_settled c t k) (desk t lent pen)
-    free-stored h = stored-as _ _ _ stores _ (part-stored (shift_out_at t x k) rest t lent pen t₁ list at g _ h)
+    pub free-stored : {y : Writer} → Makes (free_stores v.table.now p x) v y → Makes (delete_settled c t k) w y
+    free-stored h = stored-as stores (part-stored (shift_out_at t x k) rest g h)

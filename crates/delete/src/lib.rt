@@ -8,32 +8,33 @@ ghost use Rattle.model.specs.Reached.{map_of};
 ghost use Rattle.model.specs.SoundTest.{settled};
 ghost use Rattle.model.specs.Writes.{delete_settled, deletion};
 ghost use Rattle.model.specs.Refusals.{has_key, written, table_after, list_after};
-ghost use Rattle.orders.specs.Desk.{desk, stored_all, Room};
+ghost use Rattle.orders.specs.Desk.{of, Room, Makes};
 
-use model::{Counts, Refusal, Written};
-use orders::Pen;
+use model::{Refusal, Written};
+use orders::{Pen, Writer};
 use sound::Sound;
 
-// The stores after the repair. Leaf and parent are looked up before the first of them.
-fn take_out(table: &mut [u64], list: &mut [u64], pen: Pen, collection: u64, key: u64) -> Pen
-    requires table_value { no_collection collection table.old ≡ false }
-    requires table_value_2 { settled table.old ≡ true }
-    requires table_value_3 { has_key key (map_of collection table.old) ≡ true }
-    requires room { Room (delete_settled collection table.old key) (desk table.old list.old pen) }
-    ensures { desk table.new list.new result
-        ≡ stored_all (delete_settled collection table.old key) (desk table.old list.old pen) }
+// The stores after the repair. Leaf and parent are looked up before the first of them. What is said of the table before a store is a clause: no
+// type has it, since the store makes another table.
+fn take_out(writer: &mut Writer<'_>, collection: u64, key: u64)
+    requires table_value { no_collection collection writer.old.table.now ≡ false }
+    requires table_value_2 { settled writer.old.table.now ≡ true }
+    requires table_value_3 { has_key key (map_of collection writer.old.table.now) ≡ true }
+    requires room { Room (delete_settled collection writer.old.table.now key) (of writer.old) }
+    ensures { Makes (delete_settled collection writer.old.table.now key) writer.old writer.new }
 {
+    let table = writer.table();
     let root = node::root_of(table, collection);
     let leaf = reach::standing(table, root, 0, key);
     let parent = reach::standing(table, root, 1, key);
     let frees = reach::frees_leaf(table, root, parent, leaf);
-    let out = shift::shift_out(table, list, pen, leaf, key);
-    if !frees {
-        return out;
+    shift::shift_out(writer, leaf, key);
+    if frees {
+        shift::free_leaf(writer, parent, leaf);
     }
-    shift::free_leaf(table, list, out, parent, leaf)
 }
 
+// The deletion call. Table, list and numbers come as C lends them, here and in the other calls.
 pub fn delete(table: &mut [u64], list: &mut [u64], dock: u64, collection: u64, key: u64) -> Written
     ensures value { result ≡ written (deletion collection key) (length list.old) dock table.old }
     ensures table_after { table.new ≡ table_after (deletion collection key) (length list.old) dock table.old }
@@ -43,12 +44,12 @@ pub fn delete(table: &mut [u64], list: &mut [u64], dock: u64, collection: u64, k
     if !write::has_key(table, node::root_of(table, collection), key) {
         return Err(Refusal::KeyAbsent);
     }
-    let mended = write::mend(table, list, write::begin(dock), leftover);
-    let out = take_out(table, list, mended, collection, key);
-    let done = orders::finish(list, out);
-    Ok(Counts {
-        stores: done.stores,
-        flushes: done.flushes,
-        barriers: done.barriers,
-    })
+    let mut writer = Writer {
+        table,
+        list,
+        pen: Pen::new(dock),
+    };
+    write::mend(&mut writer, leftover);
+    take_out(&mut writer, collection, key);
+    Ok(writer.finish())
 }

@@ -2,28 +2,20 @@
 // on a line each.
 #![tactic(auto)]
 
-ghost use Rattle.std.specs.Prelude.{[], ◌∷◌, ◌++◌, ◌+◌, ◌≤◌, ◌<◌, length};
+ghost use Rattle.std.specs.Prelude.{[], ◌∷◌, ◌++◌, ◌+◌, ◌≤◌, length};
 ghost use Rattle.model.specs.Printer.{decimal};
 ghost use Rattle.model.specs.Scripts.{met_text};
 ghost use Rattle.script_bytes.specs.Text.{Put, Begins};
 
 use std::io;
 
-fn end_line(out: &mut [u8], at: usize) -> usize
-    requires { at < length out.old }
-    ensures { Put out.old at (10 ∷ []) out.new result }
-{
-    out[at] = b'\n';
-    at + 1
-}
-
-// A number in decimal and a line feed; the place after them.
+// A number in decimal and a line feed; the place after them. Buffer and place go apart, as in `script_bytes`.
 fn put_line(out: &mut [u8], at: usize, n: u64) -> usize
     requires { at + 21 ≤ length out.old }
     ensures { Put out.old at (decimal n ++ (10 ∷ [])) out.new result }
 {
     let end = script_bytes::put_number(out, at, n);
-    end_line(out, end)
+    script_bytes::put_byte(out, end, b'\n')
 }
 
 // What is printed, at the buffer's start; how many bytes that is.

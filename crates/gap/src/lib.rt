@@ -8,7 +8,8 @@ ghost use Rattle.gap.specs.Around.{around, Fits, Under, Over, ends_with};
 
 use model::MARK;
 
-// Pairs whose key is above this one go up across the gap; the answer is how many are below it then.
+// Pairs whose key is above this one go up across the gap; the answer is how many are below it then. kept and at are two numbers and no
+// struct: at is what each function here answers or changes, while kept stays.
 fn seek_down(pairs: &mut [u64], kept: usize, at: usize, key: u64) -> usize
     requires { Fits pairs.old at kept }
     ensures kept_after { (around pairs.new result kept ≡ around pairs.old at kept) × (result ≤ at) }

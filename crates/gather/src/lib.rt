@@ -24,7 +24,8 @@ pub struct Tally {
 
 // ---- the recordings kept
 
-// Whether a kept pair has this recording number.
+// Whether a kept pair has this recording number. Here and below words, bound and tally come one by one: the words are a slice
+// that C lends, and the bound stays while the tally goes on.
 fn is_kept(words: &[u64], bound: usize, t: Tally, recording: u64) -> bool
     requires { Standing words.now bound t }
     ensures { result ≡ has_recording recording (pairs_of words.now bound t) }
@@ -55,6 +56,15 @@ fn is_new(words: &mut [u64], bound: usize, t: Tally, recording: u64) -> bool
 
 // ---- one slot
 
+// A slot in use: its node, its place there, its two words.
+#[derive(Clone, Copy)]
+struct InUse {
+    node: u64,
+    place: u64,
+    key: u64,
+    pointer: u64,
+}
+
 // A dropped slot is reported.
 fn put_drop(report: &mut [u64], count: usize, node: u64, place: u64, reason: u64)
     requires { (3 * count + 3 ≤ length report.old) × (count < 16777216) }
@@ -83,36 +93,27 @@ fn reason(words: &mut [u64], bound: usize, t: Tally, key: u64, pointer: u64) -> 
     0
 }
 
-// A slot of node n that is collected: kept if no reason holds against it, else reported.
-fn gather_slot(
-    words: &mut [u64],
-    bound: usize,
-    report: &mut [u64],
-    t: Tally,
-    n: u64,
-    place: u64,
-    key: u64,
-    pointer: u64,
-) -> Tally
+// A slot that is collected: kept if no reason holds against it, else reported.
+fn gather_slot(words: &mut [u64], bound: usize, report: &mut [u64], t: Tally, s: InUse) -> Tally
     requires { Standing words.old bound t × Room report.old t 1
-        × (length (gather_slot n (held words.old bound report.old t) (placed place key pointer)).kept ≤ bound) }
+        × (length (gather_slot s.node (held words.old bound report.old t) (placed s.place s.key s.pointer)).kept ≤ bound) }
     ensures result_after { held words.new bound report.new result
-        ≡ gather_slot n (held words.old bound report.old t) (placed place key pointer) }
+        ≡ gather_slot s.node (held words.old bound report.old t) (placed s.place s.key s.pointer) }
     ensures standing { Standing words.new bound result × Kept report.old t report.new result 1 }
 {
     let end = 2 * bound;
-    let at = gap::seek(&mut words[..end], t.kept, t.at, key);
+    let at = gap::seek(&mut words[..end], t.kept, t.at, s.key);
     let sought = Tally { at, ..t };
-    let why = reason(words, bound, sought, key, pointer);
+    let why = reason(words, bound, sought, s.key, s.pointer);
     if why == 0 {
-        gap::put(&mut words[..end], at, key, pointer);
+        gap::put(&mut words[..end], at, s.key, s.pointer);
         return Tally {
             kept: t.kept + 1,
             at: at + 1,
             ..t
         };
     }
-    put_drop(report, t.dropped, n, place, why);
+    put_drop(report, t.dropped, s.node, s.place, why);
     Tally {
         dropped: t.dropped + 1,
         ..sought
@@ -121,7 +122,7 @@ fn gather_slot(
 
 // ---- leaves
 
-// A slot in use of node n, where before is the pointer before it: a shown slot that is not past the sibling's fence is collected.
+// A slot, and before the pointer before it: a shown slot that is not past the sibling's fence is collected.
 fn gather_shown(
     table: &[u64],
     top: u64,
@@ -129,26 +130,24 @@ fn gather_shown(
     bound: usize,
     report: &mut [u64],
     t: Tally,
-    n: u64,
     sibling: u64,
     before: u64,
-    place: u64,
-    key: u64,
-    pointer: u64,
+    s: InUse,
 ) -> Tally
     requires { (top ≡ nodes table.now) × Standing words.old bound t × Room report.old t 1
-        × (length (gather_slots n (met table.now sibling before place key pointer) (held words.old bound report.old t)).kept ≤ bound) }
+        × (length (gather_slots s.node (met table.now sibling before s.place s.key s.pointer) (held words.old bound report.old t)).kept
+        ≤ bound) }
     ensures result_after { held words.new bound report.new result
-        ≡ gather_slots n (met table.now sibling before place key pointer) (held words.old bound report.old t) }
+        ≡ gather_slots s.node (met table.now sibling before s.place s.key s.pointer) (held words.old bound report.old t) }
     ensures standing { Standing words.new bound result × Kept report.old t report.new result 1 }
 {
-    if pointer == before {
+    if s.pointer == before {
         return t;
     }
-    if !tour::under_fence(table, top, sibling, key) {
+    if !tour::under_fence(table, top, sibling, s.key) {
         return t;
     }
-    gather_slot(words, bound, report, t, n, place, key, pointer)
+    gather_slot(words, bound, report, t, s)
 }
 
 // The slots of node n, if it is a leaf.
@@ -178,26 +177,19 @@ fn gather_node(
         if pointer == 0 {
             return p;
         }
-        p = gather_shown(
-            table,
-            top,
-            words,
-            bound,
-            report,
-            p,
-            n,
-            x.sibling,
-            before,
-            i as u64,
-            x.slots[2 * i],
+        let s = InUse {
+            node: n,
+            place: i as u64,
+            key: x.slots[2 * i],
             pointer,
-        );
+        };
+        p = gather_shown(table, top, words, bound, report, p, x.sibling, before, s);
         before = pointer;
     }
     p
 }
 
-// The slots of the leaves among these nodes, in order.
+// The slots of the leaves among these nodes, in order. top is word 2 of the table, read once by the caller that tested the header.
 fn gather_nodes(
     table: &[u64],
     top: u64,

@@ -18,8 +18,8 @@ use Rattle.two_laws.proofs.PartsTwo.{Plain, settled-plain, standing-reached, roo
 use Rattle.reach.specs.declared.Run.{Run}
 use Rattle.reach.specs.Marks.{Marked}
 use Rattle.reach.proofs.Marking.{stays-marked}
-use Rattle.orders.specs.declared.Pen.{Pen}
-use Rattle.orders.specs.Desk.{Desk, desk, stored_all, Room}
+use Rattle.orders.specs.declared.Writer.{Writer}
+use Rattle.orders.specs.Desk.{of, Makes, Room}
 use Rattle.orders.proofs.Rooms.{room-first}
 use Rattle.orders.proofs.Rest.{room-as, stored-as}
 use Rattle.write.proofs.Parts.{part-table, part-room, part-stored}
@@ -35,18 +35,21 @@ abbrev later : (o k y m : ℕ) → Words → List Store
 later o k y m t = splits o m t k ++ last o k y (apply (splits o m t k) t)
 
 -- what `enter` is handed: the pair goes into collection o
-pub record Enterable (o : ℕ) (t lent : Words) (pen : Pen) (k r c : ℕ) (run : Run) : Type 0 where
-  pub collection : no_collection o t ≡ false
-  pub is-settled : settled t ≡ true
-  pub enters : Enters o k r c t
-  pub run-is : run ≡ run_of o t k
-  pub room : Room (insert_settled o t k (pointer_of r c)) (desk t lent pen)
+pub record Enterable (o : ℕ) (w : Writer) (k r c : ℕ) (run : Run) : Type 0 where
+  pub collection : no_collection o w.table.now ≡ false
+  pub is-settled : settled w.table.now ≡ true
+  pub enters : Enters o k r c w.table.now
+  pub run-is : run ≡ run_of o w.table.now k
+  pub room : Room (insert_settled o w.table.now k (pointer_of r c)) (of w)
 
-pub enterable : {o : ℕ} {t lent : Words} {pen : Pen} {k r c : ℕ} {run : Run} → no_collection o t ≡ false → settled t ≡ true → Enters o k r c t → run ≡ run_of o t k
-    → Room (insert_settled o t k (pointer_of r c)) (desk t lent pen) → Enterable o t lent pen k r c run
-enterable e s x f m = record { collection = e; is-settled = s; enters = x; run-is = f; room = m }
+pub enterable : {o : ℕ} (w : Writer) {k r c : ℕ} {run : Run} → no_collection o w.table.now ≡ false → settled w.table.now ≡ true → Enters o k r c w.table.now → run ≡ run_of o w.table.now k
+    → Room (insert_settled o w.table.now k (pointer_of r c)) (of w) → Enterable o w k r c run
+enterable w e s x f m = record { collection = e; is-settled = s; enters = x; run-is = f; room = m }
 
-module _ {o : ℕ} {t lent : Words} {pen : Pen} {k r c : ℕ} {run : Run} (h : Enterable o t lent pen k r c run) where
+module _ {o : ℕ} {w : Writer} {k r c : ℕ} {run : Run} (h : Enterable o w k r c run) where
+  abbrev t : Words
+  t = w.table.now
+
   -- the pointer that is shifted in
   abbrev y : ℕ
   y = pointer_of r c
@@ -61,69 +64,69 @@ module _ {o : ℕ} {t lent : Words} {pen : Pen} {k r c : ℕ} {run : Run} (h : E
   unfolding insert_settled
   whole-stores = rw h.run-is
 
-  whole-room : Room (root_stores o t k ++ later o k y run.length (apply (root_stores o t k) t)) (desk t lent pen)
-  whole-room = room-as _ _ (desk t lent pen) whole-stores h.room
+  whole-room : Room (root_stores o t k ++ later o k y run.length (apply (root_stores o t k) t)) (of w)
+  whole-room = room-as _ _ (of w) whole-stores h.room
 
-  pub root-room : Room (root_stores o t k) (desk t lent pen)
-  root-room = room-first _ _ (desk t lent pen) whole-room
+  pub root-room : Room (root_stores o t k) (of w)
+  root-room = room-first _ _ (of w) whole-room
 
   -- the new root is made
-  module _ {t₁ list₁ : Words} {at₁ : Pen} (g₁ : desk t₁ list₁ at₁ ≡ stored_all (root_stores o t k) (desk t lent pen)) where
-    pub run-ready : Ready run.length o t₁ k
+  module _ {v : Writer} (g : Makes (root_stores o t k) w v) where
+    pub run-ready : Ready run.length o v.table.now k
     run-ready =
-        rw (part-table (root_stores o t k) (later o k y run.length) t lent pen t₁ list₁ at₁ g₁, h.run-is)
+        rw (part-table (root_stores o t k) (later o k y run.length) g, h.run-is)
         (root-ready o t h.collection h.is-settled k h.enters.not-high h.enters.enough)
 
     -- what is marked is still reached
-    pub root-marked : (marks : Words) → Marked t marks → Marked t₁ marks
+    pub root-marked : (marks : Words) → Marked t marks → Marked v.table.now marks
     root-marked marks m =
-        rw (part-table (root_stores o t k) (later o k y run.length) t lent pen t₁ list₁ at₁ g₁)
+        rw (part-table (root_stores o t k) (later o k y run.length) g)
         (stays-marked t _ marks (root-stays o t h.collection h.is-settled k h.enters.not-high h.enters.enough) m)
 
-    later-room : Room (later o k y run.length t₁) (desk t₁ list₁ at₁)
-    later-room = part-room (root_stores o t k) (later o k y run.length) t lent pen t₁ list₁ at₁ g₁ whole-room
+    later-room : Room (later o k y run.length v.table.now) (of v)
+    later-room = part-room (root_stores o t k) (later o k y run.length) g whole-room
 
-    pub splits-room : Room (splits o run.length t₁ k) (desk t₁ list₁ at₁)
-    splits-room = room-first _ _ (desk t₁ list₁ at₁) later-room
+    pub splits-room : Room (splits o run.length v.table.now k) (of v)
+    splits-room = room-first _ _ (of v) later-room
 
     -- the run is split
-    module _ {t₂ list₂ : Words} {at₂ : Pen} (g₂ : desk t₂ list₂ at₂ ≡ stored_all (splits o run.length t₁ k) (desk t₁ list₁ at₁)) where
-      table-is : t₂ ≡ apply (splits o run.length t₁ k) t₁
-      table-is = part-table (splits o run.length t₁ k) (last o k y) t₁ list₁ at₁ t₂ list₂ at₂ g₂
+    module _ {u : Writer} (s : Makes (splits o run.length v.table.now k) v u) where
+      table-is : u.table.now ≡ apply (splits o run.length v.table.now k) v.table.now
+      table-is = part-table (splits o run.length v.table.now k) (last o k y) s
 
-      split-settled : settled t₂ ≡ true
-      split-settled = rw table-is (splits-settled run.length o t₁ k run-ready)
+      split-settled : settled u.table.now ≡ true
+      split-settled = rw table-is (splits-settled run.length o v.table.now k run-ready)
 
-      pub split-header : header_ok t₂ ≡ true
-      split-header = settled-head t₂ split-settled
+      pub split-header : header_ok u.table.now ≡ true
+      split-header = settled-head u.table.now split-settled
 
-      pub split-collection : no_collection o t₂ ≡ false
-      split-collection = rw table-is (splits-there run.length o t₁ k run-ready)
+      pub split-collection : no_collection o u.table.now ≡ false
+      split-collection = rw table-is (splits-there run.length o v.table.now k run-ready)
 
       -- the leaf, by the root that was read
-      module _ {root : ℕ} (e : root ≡ at t₂ (root_word o)) {n : ℕ} (f : n ≡ standing_in (view_from t₂ root) 0 k) where
-        leaf : n ≡ standing o t₂ 0 k
-        leaf = root-stands o t₂ root e n 0 k f
+      module _ {root : ℕ} (e : root ≡ at u.table.now (root_word o)) {n : ℕ} (f : n ≡ standing_in (view_from u.table.now root) 0 k) where
+        leaf : n ≡ standing o u.table.now 0 k
+        leaf = root-stands o u.table.now root e n 0 k f
 
-        pub leaf-plain : Plain t₂ n
-        leaf-plain = rw leaf (settled-plain o t₂ split-collection split-settled _ (standing-reached o t₂ split-collection split-settled 0 k (omega arith)))
+        pub leaf-plain : Plain u.table.now n
+        leaf-plain = rw leaf (settled-plain o u.table.now split-collection split-settled _ (standing-reached o u.table.now split-collection split-settled 0 k (omega arith)))
 
         module _ {x : ℕ} (q : x ≡ pointer_of r c) where
-          pub in-room : Room (shift_in_at t₂ n k x) (desk t₂ list₂ at₂)
-          in-room = rw (leaf, q) (part-room (splits o run.length t₁ k) (last o k y) t₁ list₁ at₁ t₂ list₂ at₂ g₂ later-room)
+          pub in-room : Room (shift_in_at u.table.now n k x) (of u)
+          in-room = rw (leaf, q) (part-room (splits o run.length v.table.now k) (last o k y) s later-room)
 
-          pub all-entered : {d : Desk} → d ≡ stored_all (shift_in_at t₂ n k x) (desk t₂ list₂ at₂) → d ≡ stored_all (insert_settled o t k (pointer_of r c)) (desk t lent pen)
-          all-entered {d} i =
-              stored-as _ _ (desk t lent pen) whole-stores d
-              (part-stored (root_stores o t k) (later o k y run.length) t lent pen t₁ list₁ at₁ g₁ d
-              (part-stored (splits o run.length t₁ k) (last o k y) t₁ list₁ at₁ t₂ list₂ at₂ g₂ d (rw (leaf, q) at i)))
+          in-reached : reached_all (apply (shift_in_at u.table.now n k x) u.table.now) ≡ reached_all u.table.now
+          in-reached = rw (leaf, table-is) (in-same run.length o v.table.now k run-ready x)
 
-          in-reached : reached_all (apply (shift_in_at t₂ n k x) t₂) ≡ reached_all t₂
-          in-reached = rw (leaf, table-is) (in-same run.length o t₁ k run-ready x)
+          module _ {z : Writer} (i : Makes (shift_in_at u.table.now n k x) u z) where
+            pub all-entered : Makes (insert_settled o t k (pointer_of r c)) w z
+            all-entered =
+                stored-as whole-stores
+                (part-stored (root_stores o t k) (later o k y run.length) g (part-stored (splits o run.length v.table.now k) (last o k y) s (rw (leaf, q) at i)))
 
-          pub in-marked : {t₃ list₃ : Words} {at₃ : Pen} → desk t₃ list₃ at₃ ≡ stored_all (shift_in_at t₂ n k x) (desk t₂ list₂ at₂) → (marks : Words) → Marked t₂ marks → Marked t₃ marks
-          in-marked {t₃} {list₃} {at₃} i marks m =
-              rw (part-table (shift_in_at t₂ n k x) (λ (u : Words). []) t₂ list₂ at₂ t₃ list₃ at₃ i) (stays-marked t₂ _ marks (λ j e. ap (elem j) in-reached ∙ e) m)
+            pub in-marked : (marks : Words) → Marked u.table.now marks → Marked z.table.now marks
+            in-marked marks m =
+                rw (part-table (shift_in_at u.table.now n k x) (λ (a : Words). []) i) (stays-marked u.table.now _ marks (λ j d. ap (elem j) in-reached ∙ d) m)
 
 -- ---- after the repair
 
@@ -134,13 +137,12 @@ pub insert-stores : (o : ℕ) (t : Words) (k r c : ℕ) → stores_of (insertion
 unfolding stores_of insert_stores
 insert-stores o t k r c = refl
 
-module _ {o k r c dock : ℕ} {t lent : Words} {pen : Pen} (b : Begun (insertion o k r c) t lent dock pen (entering o k r c)) {t₁ list : Words} {at₁ : Pen}
-    (g : desk t₁ list at₁ ≡ stored_all (repair_stores t) (desk t lent pen)) where
-  pub enter-enters : Enters o k r c t₁
+module _ {o k r c dock : ℕ} {w v : Writer} (b : Begun (insertion o k r c) dock (of w) (entering o k r c)) (g : Makes (repair_stores w.table.now) w v) where
+  pub enter-enters : Enters o k r c v.table.now
   enter-enters = rw (mended-table b g) (begun-allows b)
 
-  pub enter-run : {run : Run} → run ≡ run_of o (repaired t) k → run ≡ run_of o t₁ k
+  pub enter-run : {run : Run} → run ≡ run_of o (repaired w.table.now) k → run ≡ run_of o v.table.now k
   enter-run e = e ∙ ap (λ (u : Words). run_of o u k) (sym (mended-table b g))
 
-  pub enter-marked : (marks : Words) → Marked t marks → Marked t₁ marks
-  enter-marked marks m = rw (mended-table b g) (stays-marked t (repaired t) marks (λ j e. ap (elem j) (reached-later t b.is-sound) ∙ e) m)
+  pub enter-marked : (marks : Words) → Marked w.table.now marks → Marked v.table.now marks
+  enter-marked marks m = rw (mended-table b g) (stays-marked w.table.now (repaired w.table.now) marks (λ j e. ap (elem j) (reached-later w.table.now b.is-sound) ∙ e) m)

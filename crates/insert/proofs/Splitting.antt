@@ -20,9 +20,9 @@ use Rattle.two_laws.proofs.CollectionTwo.{settled-head, collection-orderly}
 use Rattle.two_laws.proofs.PartsTwo.{Stays, Plain, settled-plain, standing-reached, fresh-there, ready-first, ready-later, split-stays}
 use Rattle.reach.specs.Marks.{Marked}
 use Rattle.reach.proofs.Marking.{stays-marked}
-use Rattle.orders.specs.declared.Pen.{Pen}
-use Rattle.orders.specs.Desk.{Desk, desk, stored_all, Room}
-use Rattle.orders.proofs.Rest.{Rest, rest-same, rest-first, rest-after}
+use Rattle.orders.specs.declared.Writer.{Writer}
+use Rattle.orders.specs.Desk.{Desk, of, Becomes, Makes, Room}
+use Rattle.orders.proofs.Rest.{Rest, rest-same, rest-first, rest-after, rest-none}
 use Rattle.write.proofs.Parts.{part-table}
 use Rattle.write.proofs.Rooted.{root-stands}
 
@@ -83,28 +83,29 @@ module _ (n : ℕ) (t : Words) (k : ℕ) where
   highest-stays zero h r = absurd (omega arith)
   highest-stays (suc l) h r = let o : suc l - 1 ≡ l = omega arith in rw o (split-stays l n t k r)
 
-  module _ (l : ℕ) (lent : Words) (pen : Pen) (x : Desk) (pos : 0 < l) (w : Rest (splits n l t k) (desk t lent pen) x) where
-    rest : Rest (split_for n t (l - 1) k ++ splits n (l - 1) (apply (split_for n t (l - 1) k) t) k) (desk t lent pen) x
-    rest = rest-same (highest l pos) w
+-- of a writer that has l nodes of the run left
+module _ (n k l : ℕ) {f w : Writer} {x : Desk} (pos : 0 < l) (r : Rest (splits n l w.table.now k) f w x) where
+  rest : Rest (split_for n w.table.now (l - 1) k ++ splits n (l - 1) (apply (split_for n w.table.now (l - 1) k) w.table.now) k) f w x
+  rest = rest-same (highest n w.table.now k l pos) r
 
-    pub next-room : Room (split_for n t (l - 1) k) (desk t lent pen)
-    next-room = rest-first _ _ rest
+  pub next-room : Room (split_for n w.table.now (l - 1) k) (of w)
+  next-room = rest-first _ _ rest
 
-    -- the split is made
-    module _ (t₁ list : Words) (at₁ : Pen) (q : desk t₁ list at₁ ≡ stored_all (split_for n t (l - 1) k) (desk t lent pen)) where
-      table-is : t₁ ≡ apply (split_for n t (l - 1) k) t
-      table-is = part-table (split_for n t (l - 1) k) (λ (u : Words). splits n (l - 1) u k) t lent pen t₁ list at₁ q
+  -- the split is made
+  module _ {v : Writer} (q : Makes (split_for n w.table.now (l - 1) k) w v) where
+    table-is : v.table.now ≡ apply (split_for n w.table.now (l - 1) k) w.table.now
+    table-is = part-table (split_for n w.table.now (l - 1) k) (λ (u : Words). splits n (l - 1) u k) q
 
-      pub next-ready : Ready l n t k → Ready (l - 1) n t₁ k
-      next-ready r = rw table-is (after-highest l pos r)
+    pub next-ready : Ready l n w.table.now k → Ready (l - 1) n v.table.now k
+    next-ready h = rw table-is (after-highest n w.table.now k l pos h)
 
-      pub next-marked : Ready l n t k → (marks : Words) → Marked t marks → Marked t₁ marks
-      next-marked r marks m = rw table-is (stays-marked t _ marks (highest-stays l pos r) m)
+    pub next-marked : Ready l n w.table.now k → (marks : Words) → Marked w.table.now marks → Marked v.table.now marks
+    next-marked h marks m = rw table-is (stays-marked w.table.now _ marks (highest-stays n w.table.now k l pos h) m)
 
-      pub next-rest : Rest (splits n (l - 1) t₁ k) (desk t₁ list at₁) x
-      next-rest = rest-same (ap (λ (u : Words). splits n (l - 1) u k) (sym table-is)) (rest-after _ _ rest q)
+    pub next-rest : Rest (splits n (l - 1) v.table.now k) f v x
+    next-rest = rest-same (ap (λ (u : Words). splits n (l - 1) u k) (sym table-is)) (rest-after _ _ rest q)
 
-pub splits-done : (n l : ℕ) (t : Words) (k : ℕ) (d x : Desk) → l ≤ 0 → Rest (splits n l t k) d x → d ≡ x
-unfolding splits stored_all
-splits-done n zero t k d x h r = r.leads
-splits-done n (suc l) t k d x h r = absurd (omega arith)
+pub splits-done : (n l k : ℕ) {f w : Writer} {x : Desk} → l ≤ 0 → Rest (splits n l w.table.now k) f w x → Becomes f x w
+unfolding splits
+splits-done n zero k h r = rest-none r
+splits-done n (suc l) k h r = absurd (omega arith)

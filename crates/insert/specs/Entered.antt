@@ -4,7 +4,13 @@ use Rattle.model.specs.declared.Refusal.{Refusal}
 use Rattle.model.specs.Results.{Written}
 use Rattle.model.specs.Table.{Words}
 use Rattle.model.specs.Reached.{reached_all}
+use Rattle.model.specs.Writes.{Call, insertion}
 use Rattle.insert.specs.declared.Entered.{Entered}
+use Rattle.insert.specs.declared.Insertion.{Insertion}
+
+-- the call that enters this
+abbrev pub call_of : Insertion → Call
+call_of x = insertion x.collection x.key x.recording x.access
 
 abbrev pub as_written : Result Entered Refusal → Written
 as_written (Ok e) = Ok e.counts

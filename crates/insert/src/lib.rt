@@ -13,12 +13,12 @@ ghost use Rattle.model.specs.Refusals.{too_few, has_recording, words_for, writte
 ghost use Rattle.two_laws.specs.Parts.{Enters, split_for, Splittable, Ready};
 ghost use Rattle.reach.specs.Marks.{Marked};
 ghost use Rattle.sound.specs.Checked.{meant};
-ghost use Rattle.orders.specs.Desk.{desk, stored_all, Room};
+ghost use Rattle.orders.specs.Desk.{of, Room, Makes};
 ghost use Rattle.insert.specs.Tests.{parent_of, high_run, few_for, number_for, run_of};
-ghost use Rattle.insert.specs.Entered.{as_written, Reaches};
+ghost use Rattle.insert.specs.Entered.{call_of, as_written, Reaches};
 
 use model::{Counts, Outcome, Refusal, Written};
-use orders::Pen;
+use orders::{Pen, Writer};
 use reach::Run;
 use sound::{Leftover, Sound};
 
@@ -27,6 +27,15 @@ use sound::{Leftover, Sound};
 pub struct Entered {
     pub counts: Counts,
     pub reached: u64,
+}
+
+// What goes into a collection: a key with a recording and its class.
+#[derive(Clone, Copy)]
+pub struct Insertion {
+    pub collection: u64,
+    pub key: u64,
+    pub recording: u64,
+    pub access: u64,
 }
 
 // ---- the tests from 6 on
@@ -67,31 +76,22 @@ fn too_few(free: u64, run: Run) -> bool
 }
 
 // The refusal of the first test from 6 on that holds, if one does. Whether the map has the recording is known; 10 counts the nodes that neither
-// root reaches.
-fn may_insert_known(
-    table: &[u64],
-    collection: u64,
-    key: u64,
-    recording: u64,
-    access: u64,
-    run: Run,
-    count: u64,
-    known: bool,
-) -> Outcome
-    requires table_value { no_collection collection table.now ≡ false }
+// root reaches. What the check found is said of this table, and each store makes another of it: so it is a clause here and below, and no type.
+fn may_insert_known(table: &[u64], x: Insertion, run: Run, count: u64, known: bool) -> Outcome
+    requires table_value { no_collection x.collection table.now ≡ false }
     requires table_value_2 { sound table.now ≡ true }
     requires count_value { count ≡ length (reached_all table.now) }
-    requires known_value { known ≡ has_recording recording (map_of collection table.now) }
-    ensures { result ≡ passed (number_for collection table.now key recording access run) }
+    requires known_value { known ≡ has_recording x.recording (map_of x.collection table.now) }
+    ensures { result ≡ passed (number_for x.collection table.now x.key x.recording x.access run) }
 {
-    let root = node::root_of(table, collection);
-    if !pointer::recording_ok(recording) {
+    let root = node::root_of(table, x.collection);
+    if !pointer::recording_ok(x.recording) {
         return Err(Refusal::BadRecording);
     }
-    if !pointer::class_ok(access) {
+    if !pointer::class_ok(x.access) {
         return Err(Refusal::BadClass);
     }
-    if write::has_key(table, root, key) {
+    if write::has_key(table, root, x.key) {
         return Err(Refusal::KeyPresent);
     }
     if known {
@@ -107,130 +107,102 @@ fn may_insert_known(
 }
 
 // The same if the recording is still to be looked for.
-pub fn may_insert(
-    table: &[u64],
-    collection: u64,
-    key: u64,
-    recording: u64,
-    access: u64,
-    run: Run,
-    count: u64,
-) -> Outcome
-    requires table_value { no_collection collection table.now ≡ false }
+pub fn may_insert(table: &[u64], x: Insertion, run: Run, count: u64) -> Outcome
+    requires table_value { no_collection x.collection table.now ≡ false }
     requires table_value_2 { sound table.now ≡ true }
     requires count_value { count ≡ length (reached_all table.now) }
-    ensures { result ≡ passed (number_for collection table.now key recording access run) }
+    ensures { result ≡ passed (number_for x.collection table.now x.key x.recording x.access run) }
 {
-    let known = has_recording(table, node::root_of(table, collection), recording);
-    may_insert_known(table, collection, key, recording, access, run, count, known)
+    let known = has_recording(table, node::root_of(table, x.collection), x.recording);
+    may_insert_known(table, x, run, count, known)
 }
 
 // ---- into a settled table
 
-// A new root of the collection's tree, if the run includes the root.
+// A new root of the collection's tree, if the run includes the root. The marks lie beside the writer, here and below: an insertion alone has them,
+// and a batch keeps them from pair to pair.
 fn grow(
-    table: &mut [u64],
-    list: &mut [u64],
-    marks: &mut [u64],
-    pen: Pen,
+    writer: &mut Writer<'_>,
+    marks: &mut [u64; reach::MARKS],
     collection: u64,
     key: u64,
-    whole: bool,
-) -> Pen
-    requires table_value { no_collection collection table.old ≡ false }
-    requires table_value_2 { settled table.old ≡ true }
-    requires key_value { too_few collection table.old key ≡ false }
-    requires whole_value { whole ≡ root_in_run collection table.old key }
-    requires room { Room (root_stores collection table.old key) (desk table.old list.old pen) }
-    requires marked { Marked table.old marks.old }
-    ensures result_after { desk table.new list.new result
-        ≡ stored_all (root_stores collection table.old key) (desk table.old list.old pen) }
-    ensures marked_2 { Marked table.old marks.new }
+    run: Run,
+)
+    requires table_value { no_collection collection writer.old.table.now ≡ false }
+    requires table_value_2 { settled writer.old.table.now ≡ true }
+    requires key_value { too_few collection writer.old.table.now key ≡ false }
+    requires run_value { run.root ≡ root_in_run collection writer.old.table.now key }
+    requires room { Room (root_stores collection writer.old.table.now key) (of writer.old) }
+    requires marked { Marked writer.old.table.now marks.old }
+    ensures stores { Makes (root_stores collection writer.old.table.now key) writer.old writer.new }
+    ensures marked_2 { Marked writer.old.table.now marks.new }
 {
-    if !whole {
-        return pen;
+    if run.root {
+        let table = writer.table();
+        let root = node::root_of(table, collection);
+        let fresh = reach::fresh(table, marks, root);
+        shift::new_root(writer, 2 * collection as usize - 1, fresh);
     }
-    let root = node::root_of(table, collection);
-    let fresh = reach::fresh(table, marks, root);
-    let word = 2 * collection as usize - 1;
-    shift::new_root(table, list, pen, word, fresh)
 }
 
 // Splits the node on level l of the collection's tree that the search for the key stands on.
 fn split_at(
-    table: &mut [u64],
-    list: &mut [u64],
-    marks: &mut [u64],
-    pen: Pen,
+    writer: &mut Writer<'_>,
+    marks: &mut [u64; reach::MARKS],
     collection: u64,
     key: u64,
     l: u64,
-) -> Pen
-    requires splittable { Splittable collection table.old key l }
-    requires room { Room (split_for collection table.old l key) (desk table.old list.old pen) }
-    requires marked { Marked table.old marks.old }
-    ensures result_after { desk table.new list.new result
-        ≡ stored_all (split_for collection table.old l key) (desk table.old list.old pen) }
-    ensures marked_2 { Marked table.old marks.new }
+)
+    requires splittable { Splittable collection writer.old.table.now key l }
+    requires room { Room (split_for collection writer.old.table.now l key) (of writer.old) }
+    requires marked { Marked writer.old.table.now marks.old }
+    ensures stores { Makes (split_for collection writer.old.table.now l key) writer.old writer.new }
+    ensures marked_2 { Marked writer.old.table.now marks.new }
 {
+    let table = writer.table();
     let root = node::root_of(table, collection);
     let a = reach::standing(table, root, l, key);
     let b = reach::fresh(table, marks, a);
     let parent = reach::standing(table, root, l + 1, key);
-    shift::split(table, list, pen, a, b, parent)
+    shift::split(writer, a, b, parent);
 }
 
 // Splits the run's nodes, from the highest down.
 fn split_run(
-    table: &mut [u64],
-    list: &mut [u64],
-    marks: &mut [u64],
-    pen: Pen,
+    writer: &mut Writer<'_>,
+    marks: &mut [u64; reach::MARKS],
     collection: u64,
     key: u64,
     count: u64,
-) -> Pen
-    requires ready { Ready count collection table.old key }
-    requires room { Room (splits collection count table.old key) (desk table.old list.old pen) }
-    requires marked { Marked table.old marks.old }
-    ensures result_after { desk table.new list.new result
-        ≡ stored_all (splits collection count table.old key) (desk table.old list.old pen) }
-    ensures marked_2 { Marked table.new marks.new }
+)
+    requires ready { Ready count collection writer.old.table.now key }
+    requires room { Room (splits collection count writer.old.table.now key) (of writer.old) }
+    requires marked { Marked writer.old.table.now marks.old }
+    ensures stores { Makes (splits collection count writer.old.table.now key) writer.old writer.new }
+    ensures marked_2 { Marked writer.new.table.now marks.new }
 {
-    let mut at = pen;
     for l in (0..count).rev() {
-        at = split_at(table, list, marks, at, collection, key, l);
+        split_at(writer, marks, collection, key, l);
     }
-    at
 }
 
 // Inserts the pair into a collection of a settled table that has room for it.
-fn enter(
-    table: &mut [u64],
-    list: &mut [u64],
-    marks: &mut [u64],
-    pen: Pen,
-    collection: u64,
-    key: u64,
-    recording: u64,
-    access: u64,
-    run: Run,
-) -> Pen
-    requires table_value { no_collection collection table.old ≡ false }
-    requires table_value_2 { settled table.old ≡ true }
-    requires enters { Enters collection key recording access table.old }
-    requires run_value { run ≡ run_of collection table.old key }
-    requires room { Room (insert_settled collection table.old key (pointer_of recording access)) (desk table.old list.old pen) }
-    requires marked { Marked table.old marks.old }
-    ensures result_after { desk table.new list.new result
-        ≡ stored_all (insert_settled collection table.old key (pointer_of recording access)) (desk table.old list.old pen) }
-    ensures marked_2 { Marked table.new marks.new }
+fn enter(writer: &mut Writer<'_>, marks: &mut [u64; reach::MARKS], x: Insertion, run: Run)
+    requires table_value { no_collection x.collection writer.old.table.now ≡ false }
+    requires table_value_2 { settled writer.old.table.now ≡ true }
+    requires enters { Enters x.collection x.key x.recording x.access writer.old.table.now }
+    requires run_value { run ≡ run_of x.collection writer.old.table.now x.key }
+    requires room { Room (insert_settled x.collection writer.old.table.now x.key (pointer_of x.recording x.access)) (of writer.old) }
+    requires marked { Marked writer.old.table.now marks.old }
+    ensures stores { Makes (insert_settled x.collection writer.old.table.now x.key (pointer_of x.recording x.access)) writer.old writer.new }
+    ensures marked_2 { Marked writer.new.table.now marks.new }
 {
-    let grown = grow(table, list, marks, pen, collection, key, run.root);
-    let split = split_run(table, list, marks, grown, collection, key, run.length);
-    let leaf = reach::standing(table, node::root_of(table, collection), 0, key);
-    let x = pointer::join(recording, access);
-    shift::shift_in(table, list, split, leaf, key, x)
+    grow(writer, marks, x.collection, x.key, run);
+    split_run(writer, marks, x.collection, x.key, run.length);
+    let table = writer.table();
+    let root = node::root_of(table, x.collection);
+    let leaf = reach::standing(table, root, 0, x.key);
+    shift::shift_in(writer, leaf, x.key, pointer::join(x.recording, x.access));
 }
 
 // How many nodes are reached after an insertion with this run.
@@ -247,51 +219,44 @@ fn reached_after(reached: u64, run: Run) -> u64
 // ---- the call
 
 // The insertion into a sound table whose leftover and reached nodes are known, with a list that is long enough for the dock, if it is known
-// whether the map has the recording. Marks of reached nodes stay so: an insertion frees none.
+// whether the map has the recording. Marks of reached nodes stay so: an insertion frees none. The dock is the call's number, by which the
+// definitions say what the call writes.
 pub fn insert_known(
     table: &mut [u64],
     list: &mut [u64],
-    marks: &mut [u64],
+    marks: &mut [u64; reach::MARKS],
     dock: u64,
-    collection: u64,
-    key: u64,
-    recording: u64,
-    access: u64,
-    left: Leftover,
-    reached: u64,
+    x: Insertion,
+    checked: Sound,
     known: bool,
 ) -> Result<Entered, Refusal>
     requires table_value { sound table.old ≡ true }
-    requires table_value_2 { leftover_all table.old ≡ some (meant left) }
-    requires reached_value { reached ≡ length (reached_all table.old) }
-    requires table_value_3 { no_collection collection table.old ≡ false }
+    requires table_value_2 { leftover_all table.old ≡ some (meant checked.leftover) }
+    requires reached_value { checked.reached ≡ length (reached_all table.old) }
+    requires table_value_3 { no_collection x.collection table.old ≡ false }
     requires dock_bound { dock ≤ 1 }
     requires dock_in_bounds { words_for dock ≤ length list.old }
-    requires known_value { known ≡ has_recording recording (map_of collection table.old) }
+    requires known_value { known ≡ has_recording x.recording (map_of x.collection table.old) }
     requires marked { Marked table.old marks.old }
-    ensures result_value { as_written result ≡ written (insertion collection key recording access) (length list.old) dock table.old }
-    ensures table_after { table.new ≡ table_after (insertion collection key recording access) (length list.old) dock table.old }
-    ensures list_after { list.new ≡ list_after (insertion collection key recording access) list.old dock table.old }
+    ensures result_value { as_written result ≡ written (call_of x) (length list.old) dock table.old }
+    ensures table_after { table.new ≡ table_after (call_of x) (length list.old) dock table.old }
+    ensures list_after { list.new ≡ list_after (call_of x) list.old dock table.old }
     ensures counts { Reaches result table.new }
     ensures marked_2 { Marked table.new marks.new }
 {
-    let root = node::root_of(table, collection);
-    let run = reach::full_run(table, root, key, parent_of(left));
-    may_insert_known(
-        table, collection, key, recording, access, run, reached, known,
-    )?;
-    let mended = write::mend(table, list, write::begin(dock), left);
-    let entered = enter(
-        table, list, marks, mended, collection, key, recording, access, run,
-    );
-    let done = orders::finish(list, entered);
+    let root = node::root_of(table, x.collection);
+    let run = reach::full_run(table, root, x.key, parent_of(checked.leftover));
+    may_insert_known(table, x, run, checked.reached, known)?;
+    let mut writer = Writer {
+        table,
+        list,
+        pen: Pen::new(dock),
+    };
+    write::mend(&mut writer, checked.leftover);
+    enter(&mut writer, marks, x, run);
     Ok(Entered {
-        counts: Counts {
-            stores: done.stores,
-            flushes: done.flushes,
-            barriers: done.barriers,
-        },
-        reached: reached_after(reached, run),
+        counts: writer.finish(),
+        reached: reached_after(checked.reached, run),
     })
 }
 
@@ -309,11 +274,15 @@ pub fn insert(
     ensures table_after { table.new ≡ table_after (insertion collection key recording access) (length list.old) dock table.old }
     ensures list_after { list.new ≡ list_after (insertion collection key recording access) list.old dock table.old }
 {
-    let Sound { leftover, reached } = write::judge(table, collection, list.len(), dock)?;
+    let checked = write::judge(table, collection, list.len(), dock)?;
     let known = has_recording(table, node::root_of(table, collection), recording);
     let mut marks = [0u64; reach::MARKS];
-    let entered = insert_known(
-        table, list, &mut marks, dock, collection, key, recording, access, leftover, reached, known,
-    )?;
+    let x = Insertion {
+        collection,
+        key,
+        recording,
+        access,
+    };
+    let entered = insert_known(table, list, &mut marks, dock, x, checked, known)?;
     Ok(entered.counts)
 }

@@ -115,12 +115,12 @@ module _ (n dock : ℕ) (pairs : Words) (p : Progress) (list t : Words) (fit : F
   abbrev lent : Words
   lent = mid_of p.at (length list - p.at) list
 
-  here : ahead n dock (slots_of pairs) p list t ≡ behind p.taken p.stores p.flushes p.barriers (take p.at list) (batch n dock (s ∷ drop (suc p.taken) ss) lent t)
+  here : ahead n dock (slots_of pairs) p list t ≡ behind p.taken p.counts.stores p.counts.flushes p.counts.barriers (take p.at list) (batch n dock (s ∷ drop (suc p.taken) ss) lent t)
   unfolding ahead
   here =
       ap (λ (m : Option Refusal). unless_stopped m (onward n dock ss p list t) (outcome p list t)) none
-      ∙ ap (λ (u : List Slot). behind p.taken p.stores p.flushes p.barriers (take p.at list) (batch n dock u (drop p.at list) t)) (pair-at pairs p.taken more)
-      ∙ ap (λ (l : Words). behind p.taken p.stores p.flushes p.barriers (take p.at list) (batch n dock (s ∷ drop (suc p.taken) ss) l t)) (sym (rest-lent p.at list))
+      ∙ ap (λ (u : List Slot). behind p.taken p.counts.stores p.counts.flushes p.counts.barriers (take p.at list) (batch n dock u (drop p.at list) t)) (pair-at pairs p.taken more)
+      ∙ ap (λ (l : Words). behind p.taken p.counts.stores p.counts.flushes p.counts.barriers (take p.at list) (batch n dock (s ∷ drop (suc p.taken) ss) l t)) (sym (rest-lent p.at list))
 
   module _ (e : Result Entered Refusal) (t' part : Words) (g : as_written e ≡ written (insertion_of n (slot (get_or pairs (2 * p.taken) 0) (get_or pairs (2 * p.taken + 1) 0))) (length (mid_of p.at (length list - p.at) list)) dock t)
       (h : t' ≡ table_after (insertion_of n (slot (get_or pairs (2 * p.taken) 0) (get_or pairs (2 * p.taken + 1) 0))) (length (mid_of p.at (length list - p.at) list)) dock t)
@@ -137,7 +137,7 @@ module _ (n dock : ℕ) (pairs : Words) (p : Progress) (list t : Words) (fit : F
       pub gains : Gains n (recording_of (get_or pairs (2 * p.taken + 1) 0)) p r t t'
 
     pub next-refused : (r : Refusal) → e ≡ Err r
-        → Next (record { stop = Some r; taken = p.taken; at = p.at; stores = p.stores; flushes = p.flushes; barriers = p.barriers; left = p.left; reached = p.reached })
+        → Next (record { stop = Some r; taken = p.taken; at = p.at; counts = p.counts; checked = p.checked })
     unfolding ahead
     next-refused r q =
         let w : written x (length lent) dock t ≡ Err r = sym g ∙ ap as_written q in
@@ -148,7 +148,7 @@ module _ (n dock : ℕ) (pairs : Words) (p : Progress) (list t : Words) (fit : F
         record {
           same =
               same-batched (same-answer (omega arith) (omega arith) (omega arith) (omega arith)) a (b ∙ sym f)
-              ∙ sym (here ∙ ap (behind p.taken p.stores p.flushes p.barriers (take p.at list)) (batch-stops n dock s (drop (suc p.taken) ss) lent t r w));
+              ∙ sym (here ∙ ap (behind p.taken p.counts.stores p.counts.flushes p.counts.barriers (take p.at list)) (batch-stops n dock s (drop (suc p.taken) ss) lent t r w));
           fits = rw (a, b) (record {
             is-sound = fit.is-sound;
             leftover-is = fit.leftover-is;
@@ -178,11 +178,8 @@ module _ (n dock : ℕ) (pairs : Words) (p : Progress) (list t : Words) (fit : F
         stop = None;
         taken = p.taken + 1;
         at = p.at + 2 * (y.counts.stores + y.counts.flushes + y.counts.barriers);
-        stores = p.stores + y.counts.stores;
-        flushes = p.flushes + y.counts.flushes;
-        barriers = p.barriers + y.counts.barriers;
-        left = Nothing;
-        reached = y.reached;
+        counts = record { stores = p.counts.stores + y.counts.stores; flushes = p.counts.flushes + y.counts.flushes; barriers = p.counts.barriers + y.counts.barriers };
+        checked = record { leftover = Nothing; reached = y.reached };
       })
       unfolding ahead
       next-done =
@@ -201,9 +198,9 @@ module _ (n dock : ℕ) (pairs : Words) (p : Progress) (list t : Words) (fit : F
           record {
             same =
                 rw (first, rest, h, one)
-                (rw one at (sym (behind-behind p.taken p.stores p.flushes p.barriers 1 o.stores o.flushes o.barriers (take p.at list) (take w later)
+                (rw one at (sym (behind-behind p.taken p.counts.stores p.counts.flushes p.counts.barriers 1 o.stores o.flushes o.barriers (take p.at list) (take w later)
                 (batch n dock (drop (suc p.taken) ss) (drop w later) (table_after x (length lent) dock t)))))
-                ∙ sym (here ∙ ap (behind p.taken p.stores p.flushes p.barriers (take p.at list)) (batch-goes n dock s (drop (suc p.taken) ss) lent t o.stores o.flushes o.barriers is-written));
+                ∙ sym (here ∙ ap (behind p.taken p.counts.stores p.counts.flushes p.counts.barriers (take p.at list)) (batch-goes n dock s (drop (suc p.taken) ss) lent t o.stores o.flushes o.barriers is-written));
             fits = record {
               is-sound = rw new (after-sound _ _ _ _ _ _ t done.accepted);
               leftover-is = rw new (after-nothing _ _ _ _ _ _ t done.accepted);
@@ -218,16 +215,14 @@ module _ (n dock : ℕ) (pairs : Words) (p : Progress) (list t : Words) (fit : F
 
 -- ---- from the first pair to the last
 
-pub ahead-start : (n dock : ℕ) (ss : List Slot) (p : Progress) (list t : Words) → p.stop ≡ None → p.taken ≡ 0 → p.at ≡ 0 → p.stores ≡ 0 → p.flushes ≡ 0 → p.barriers ≡ 0
-    → ahead n dock ss p list t ≡ batch n dock ss list t
+pub ahead-start : (n dock : ℕ) (ss : List Slot) (p : Progress) (list t : Words) → p.stop ≡ None → p.taken ≡ 0 → p.at ≡ 0
+    → p.counts ≡ record { stores = 0; flushes = 0; barriers = 0 } → ahead n dock ss p list t ≡ batch n dock ss list t
 unfolding ahead
-ahead-start n dock ss p list t a b c d e f =
+ahead-start n dock ss p list t a b c d =
     ap (λ (m : Option Refusal). unless_stopped m (onward n dock ss p list t) (outcome p list t)) a
-    ∙ ap (λ (i : ℕ). behind i p.stores p.flushes p.barriers (take p.at list) (batch n dock (drop i ss) (drop p.at list) t)) b
-    ∙ ap (λ (i : ℕ). behind 0 p.stores p.flushes p.barriers (take i list) (batch n dock ss (drop i list) t)) c
-    ∙ ap (λ (i : ℕ). behind 0 i p.flushes p.barriers [] (batch n dock ss list t)) d
-    ∙ ap (λ (i : ℕ). behind 0 0 i p.barriers [] (batch n dock ss list t)) e
-    ∙ ap (λ (i : ℕ). behind 0 0 0 i [] (batch n dock ss list t)) f
+    ∙ ap (λ (i : ℕ). behind i p.counts.stores p.counts.flushes p.counts.barriers (take p.at list) (batch n dock (drop i ss) (drop p.at list) t)) b
+    ∙ ap (λ (i : ℕ). behind 0 p.counts.stores p.counts.flushes p.counts.barriers (take i list) (batch n dock ss (drop i list) t)) c
+    ∙ ap (λ (o : Counts). behind 0 o.stores o.flushes o.barriers [] (batch n dock ss list t)) d
     ∙ behind-none (batch n dock ss list t)
 
 -- stopped by a refusal
@@ -241,16 +236,16 @@ unfolding ahead
 ahead-all n dock pairs p list t z h i =
     sym (
     ap (λ (m : Option Refusal). unless_stopped m (onward n dock (slots_of pairs) p list t) (outcome p list t)) z
-    ∙ ap (λ (u : List Slot). behind p.taken p.stores p.flushes p.barriers (take p.at list) (batch n dock u (drop p.at list) t)) (pairs-past pairs p.taken h)
-    ∙ ap (behind p.taken p.stores p.flushes p.barriers (take p.at list)) (batch-none n dock (drop p.at list) t)
+    ∙ ap (λ (u : List Slot). behind p.taken p.counts.stores p.counts.flushes p.counts.barriers (take p.at list) (batch n dock u (drop p.at list) t)) (pairs-past pairs p.taken h)
+    ∙ ap (behind p.taken p.counts.stores p.counts.flushes p.counts.barriers (take p.at list)) (batch-none n dock (drop p.at list) t)
     ∙ same-batched (not-stopped z) refl (sym (rest-back p.at list (drop p.at list)) ∙ ap (put_mid p.at (length list - p.at) list) (sym (rest-lent p.at list)) ∙ put_same p.at (length list - p.at) list)
     )
   where
     not-stopped : p.stop ≡ None
-        → ◌≡◌ {A = Batch} (record { stop = None; taken = p.taken + 0; stores = p.stores + 0; flushes = p.flushes + 0; barriers = p.barriers + 0 }) (answer_of p)
+        → ◌≡◌ {A = Batch} (record { stop = None; taken = p.taken + 0; stores = p.counts.stores + 0; flushes = p.counts.flushes + 0; barriers = p.counts.barriers + 0 }) (answer_of p)
     not-stopped z =
         same-answer (omega arith) (omega arith) (omega arith) (omega arith)
-        ∙ ap (λ (m : Option Refusal). record { stop = m; taken = p.taken; stores = p.stores; flushes = p.flushes; barriers = p.barriers }) (sym z)
+        ∙ ap (λ (m : Option Refusal). record { stop = m; taken = p.taken; stores = p.counts.stores; flushes = p.counts.flushes; barriers = p.counts.barriers }) (sym z)
 
 -- ---- a pair
 

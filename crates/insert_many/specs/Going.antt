@@ -14,7 +14,7 @@ use Rattle.clear.specs.New.{are_new}
 use Rattle.insert_many.specs.declared.Progress.{Progress}
 
 abbrev pub answer_of : Progress → Batch
-answer_of p = record { stop = p.stop; taken = p.taken; stores = p.stores; flushes = p.flushes; barriers = p.barriers }
+answer_of p = record { stop = p.stop; taken = p.taken; stores = p.counts.stores; flushes = p.counts.flushes; barriers = p.counts.barriers }
 
 -- as it stands
 abbrev pub outcome : Progress → (list t : Words) → Batched
@@ -23,7 +23,7 @@ outcome p list t = record { answer = answer_of p; table = t; list = list }
 -- with the pairs that are left
 abbrev pub onward : (n dock : ℕ) → List Slot → Progress → (list t : Words) → Batched
 onward n dock ss p list t =
-    behind p.taken p.stores p.flushes p.barriers (take p.at list) (batch n dock (drop p.taken ss) (drop p.at list) t)
+    behind p.taken p.counts.stores p.counts.flushes p.counts.barriers (take p.at list) (batch n dock (drop p.taken ss) (drop p.at list) t)
 
 abbrev pub unless_stopped : {A : Type 0} → Option Refusal → (goes stops : A) → A
 unless_stopped None goes stops = goes
@@ -36,11 +36,11 @@ ahead n dock ss p list t = unless_stopped p.stop (onward n dock ss p list t) (ou
 -- the table is sound, with what is said of it, and the list is filled up to its place
 pub record Fit (n dock : ℕ) (p : Progress) (list t : Words) : Type 0 where
   pub is-sound : sound t ≡ true
-  pub leftover-is : leftover_all t ≡ some (meant p.left)
-  pub reached-are : p.reached ≡ length (reached_all t)
+  pub leftover-is : leftover_all t ≡ some (meant p.checked.leftover)
+  pub reached-are : p.checked.reached ≡ length (reached_all t)
   pub collection : no_collection n t ≡ false
   pub dock-ok : dock ≤ 1
-  pub filled : 2 * (p.stores + p.flushes + p.barriers) ≡ p.at
+  pub filled : 2 * (p.counts.stores + p.counts.flushes + p.counts.barriers) ≡ p.at
   pub inside : p.at ≤ length list
 
 -- a pair with recording q that was taken is one more, and its recording is then in the map

@@ -16,40 +16,37 @@ ghost use Rattle.clear.specs.New.{recordings_of, New};
 ghost use Rattle.insert.specs.Entered.{as_written, Reaches};
 ghost use Rattle.insert_many.specs.Going.{outcome, ahead, Fit, Gains, new_end};
 
-use insert::Entered;
-use model::{Batch, Refusal};
+use insert::{Entered, Insertion};
+use model::{Batch, Counts, Refusal};
 use sound::{Leftover, Sound};
 
-// How far a batch has come: the refusal that stopped it, if one did; the pairs taken, the words of the list filled and the three counts; what
+// How far a batch has come: the refusal that stopped it, if one did; the pairs taken, the words of the list filled and its order counts; what
 // repair has to do, and how many nodes are reached.
 #[derive(Clone, Copy)]
 pub struct Progress {
     pub stop: Option<Refusal>,
     pub taken: usize,
     pub at: usize,
-    pub stores: u64,
-    pub flushes: u64,
-    pub barriers: u64,
-    pub left: Leftover,
-    pub reached: u64,
+    pub counts: Counts,
+    pub checked: Sound,
 }
 
-// The single call for a pair, on a table that is known to be sound, if it is known whether the map has the recording.
+// The single call for a pair, on a table that is known to be sound, if it is known whether the map has the recording. What is known of the table
+// is a clause, here and below, and slices and numbers are those that C lends and hands over.
 fn take_one(
     table: &mut [u64],
     list: &mut [u64],
-    marks: &mut [u64],
+    marks: &mut [u64; reach::MARKS],
     dock: u64,
     collection: u64,
     key: u64,
     pointer: u64,
-    left: Leftover,
-    reached: u64,
+    checked: Sound,
     known: bool,
 ) -> Result<Entered, Refusal>
     requires table_value { sound table.old ≡ true }
-    requires table_value_2 { leftover_all table.old ≡ some (meant left) }
-    requires reached_value { reached ≡ length (reached_all table.old) }
+    requires table_value_2 { leftover_all table.old ≡ some (meant checked.leftover) }
+    requires reached_value { checked.reached ≡ length (reached_all table.old) }
     requires table_value_3 { no_collection collection table.old ≡ false }
     requires dock_bound { dock ≤ 1 }
     requires known_value { known ≡ has_recording (recording_of pointer) (map_of collection table.old) }
@@ -65,16 +62,20 @@ fn take_one(
     }
     let recording = pointer::recording(pointer);
     let access = pointer::class(pointer);
-    insert::insert_known(
-        table, list, marks, dock, collection, key, recording, access, left, reached, known,
-    )
+    let x = Insertion {
+        collection,
+        key,
+        recording,
+        access,
+    };
+    insert::insert_known(table, list, marks, dock, x, checked, known)
 }
 
 // The next pair of a batch that is not stopped.
 fn take_next(
     table: &mut [u64],
     list: &mut [u64],
-    marks: &mut [u64],
+    marks: &mut [u64; reach::MARKS],
     dock: u64,
     collection: u64,
     pairs: &[u64],
@@ -94,20 +95,11 @@ fn take_next(
 {
     let i = p.taken;
     let at = p.at;
-    let left = p.left;
     let key = pairs[2 * i];
     let pointer = pairs[2 * i + 1];
+    let free = &mut list[at..];
     let entered = take_one(
-        table,
-        &mut list[at..],
-        marks,
-        dock,
-        collection,
-        key,
-        pointer,
-        left,
-        p.reached,
-        known,
+        table, free, marks, dock, collection, key, pointer, p.checked, known,
     );
     match entered {
         Err(refusal) => Progress {
@@ -118,11 +110,15 @@ fn take_next(
             stop: None,
             taken: i + 1,
             at: at + 2 * (counts.stores + counts.flushes + counts.barriers) as usize,
-            stores: p.stores + counts.stores,
-            flushes: p.flushes + counts.flushes,
-            barriers: p.barriers + counts.barriers,
-            left: Leftover::Nothing,
-            reached,
+            counts: Counts {
+                stores: p.counts.stores + counts.stores,
+                flushes: p.counts.flushes + counts.flushes,
+                barriers: p.counts.barriers + counts.barriers,
+            },
+            checked: Sound {
+                leftover: Leftover::Nothing,
+                reached,
+            },
         },
     }
 }
@@ -160,11 +156,8 @@ fn is_known(table: &[u64], collection: u64, pairs: &[u64], i: usize, end: usize)
     requires new { New (map_of collection table.now) (recordings_of pairs.now i end) }
     ensures { result ≡ has_recording (recording_of (get_or pairs.now (2 * i + 1) 0)) (map_of collection table.now) }
 {
-    if i < end {
-        return false;
-    }
     let root = node::root_of(table, collection);
-    insert::has_recording(table, root, pointer::recording(pairs[2 * i + 1]))
+    end <= i && insert::has_recording(table, root, pointer::recording(pairs[2 * i + 1]))
 }
 
 // All pairs, from a table that the check found sound.
@@ -174,12 +167,11 @@ fn take_all(
     dock: u64,
     collection: u64,
     pairs: &[u64],
-    left: Leftover,
-    reached: u64,
+    checked: Sound,
 ) -> Progress
     requires table_value { sound table.old ≡ true }
-    requires table_value_2 { leftover_all table.old ≡ some (meant left) }
-    requires reached_value { reached ≡ length (reached_all table.old) }
+    requires table_value_2 { leftover_all table.old ≡ some (meant checked.leftover) }
+    requires reached_value { checked.reached ≡ length (reached_all table.old) }
     requires table_value_3 { no_collection collection table.old ≡ false }
     requires dock_bound { dock ≤ 1 }
     ensures { outcome result list.new table.new
@@ -190,11 +182,12 @@ fn take_all(
         stop: None,
         taken: 0,
         at: 0,
-        stores: 0,
-        flushes: 0,
-        barriers: 0,
-        left,
-        reached,
+        counts: Counts {
+            stores: 0,
+            flushes: 0,
+            barriers: 0,
+        },
+        checked,
     };
     let mut marks = [0u64; reach::MARKS];
     let mut end = 0;
@@ -239,14 +232,14 @@ pub fn insert_many(
     }
     match write::judge(table, collection, list.len(), dock) {
         Err(refusal) => stopped(Some(refusal)),
-        Ok(Sound { leftover, reached }) => {
-            let p = take_all(table, list, dock, collection, pairs, leftover, reached);
+        Ok(checked) => {
+            let p = take_all(table, list, dock, collection, pairs, checked);
             Batch {
                 stop: p.stop,
                 taken: p.taken as u64,
-                stores: p.stores,
-                flushes: p.flushes,
-                barriers: p.barriers,
+                stores: p.counts.stores,
+                flushes: p.counts.flushes,
+                barriers: p.counts.barriers,
             }
         }
     }

@@ -11,7 +11,6 @@ use lib.Dec.{leb, ltb, eqb}
 use lib.ListN.{length, get_or, drop}
 use lib.Seq.{drop-cons}
 use borrow.Author.Tests.{leb-true, lt-leb, lt-ltb, le-ltb, eq-eqb, ne_eqb}
-use Rattle.std.specs.List.{list_all}
 use Rattle.model.specs.Codes.{is_digit, is_letter, is_letter_or_digit, value, read_on, character, text_below}
 use Rattle.model.specs.Lists.{all}
 use Rattle.isrc.proofs.Digits.{Below}
@@ -118,11 +117,6 @@ value-order c d e f = go (dec_lt c d) (dec_lt d c)
 pub every-cons : (p : ℕ → Bool) (c : ℕ) (cs : List ℕ) → all p (c ∷ cs) ≡ true → (p c ≡ true) × (all p cs ≡ true)
 unfolding all
 every-cons p c cs e = (and-eq-true_iff (p c) (all p cs)).0 e
-
-pub listed-all : (p : ℕ → Bool) (cs : List ℕ) → list_all p cs ≡ all p cs
-unfolding all
-listed-all p [] = refl
-listed-all p (c ∷ cs) = ap (λ b. p c && b) (listed-all p cs)
 
 pub every-get_d : (p : ℕ → Bool) (xs : List ℕ) (i : ℕ) → all p xs ≡ true → i < length xs → p (get_or xs i 0) ≡ true
 every-get_d p [] i e h = absurd (omega arith)

@@ -43,17 +43,10 @@ fn all_of(kind: Kind, text: &[u8]) -> bool
 fn is_code(text: &[u8]) -> bool
     ensures { result ≡ is_code text.now }
 {
-    // One by one: joined by && the tests are no plainer, and each slice's bounds need the joined truth taken apart.
-    if text.len() != 12 {
-        return false;
-    }
-    if !all_of(Kind::Letter, &text[..2]) {
-        return false;
-    }
-    if !all_of(Kind::LetterOrDigit, &text[2..5]) {
-        return false;
-    }
-    all_of(Kind::Digit, &text[5..])
+    text.len() == 12
+        && all_of(Kind::Letter, &text[..2])
+        && all_of(Kind::LetterOrDigit, &text[2..5])
+        && all_of(Kind::Digit, &text[5..])
 }
 
 // What a letter or digit counts.

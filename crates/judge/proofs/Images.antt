@@ -1,11 +1,11 @@
 -- An image by its two trees: sound, each map the old one or, in the collection that is to change, the new one.
-use mathlib.Core.Path.{◌≡◌, refl, sym, ◌∙◌}
-use mathlib.Core.Bool.{Bool, true, false, cond, not, ◌&&◌, ◌||◌, false≢true}
+use mathlib.Core.Path.{◌≡◌, refl, ap, sym, ◌∙◌}
+use mathlib.Core.Bool.{Bool, true, false, cond, not, ◌&&◌, ◌||◌, beq, false≢true}
 use mathlib.Core.List.{List}
 use mathlib.Core.Option.{none, map}
 use Prim.Native.Nat.{ℕ}
 use lib.Dec.{eqb}
-use borrow.Author.Tests.{eq-eqb, ne_eqb}
+use borrow.Author.Tests.{eqb-true, eqb-false, eq-eqb, ne_eqb}
 use Rattle.model.specs.Table.{Words, at}
 use Rattle.model.specs.Slots.{Slot, view_from}
 use Rattle.model.specs.Reached.{mapping, map_of, Maps, maps_of, unless_lacking}
@@ -17,6 +17,16 @@ use Rattle.two_laws.proofs.CollectionTwo.{collection-sound}
 use Rattle.compare.specs.Pointers.{with_pointer, old_or_new}
 use Rattle.judge.specs.declared.Change.{Change}
 use Rattle.judge.specs.Wanted.{wanted}
+
+-- ---- tests in a row
+
+all-passed : (s f x y : Bool) → ((s && f) && beq x y) ≡ true → (s ≡ true) × ((f ≡ true) × (x ≡ y))
+all-passed true true true true h = (refl, (refl, refl))
+all-passed true true true false h = absurd (false≢true h)
+all-passed true true false true h = absurd (false≢true h)
+all-passed true true false false h = (refl, (refl, refl))
+all-passed true false x y h = absurd (false≢true h)
+all-passed false f x y h = absurd (false≢true h)
 
 -- ---- the trees of a sound table
 
@@ -57,7 +67,7 @@ module _ (c : Change) (t u : Words) where
   abbrev good : Bool
   good = good_image (maps_of t) (wanted c t) u
 
-  pub not-sound : sound u ≡ false → false ≡ good_image (maps_of t) (wanted c t) u
+  not-sound : sound u ≡ false → false ≡ good_image (maps_of t) (wanted c t) u
   unfolding good_image
   not-sound e = rw e
 
@@ -87,7 +97,7 @@ module _ (c : Change) (t u : Words) where
       first-fails o true n s w q = absurd (false≢true (sym q))
       first-fails true false true s w q = absurd (false≢true (sym q))
 
-      pub first-wrong : x ≡ false → false ≡ good_image (maps_of t) (wanted c t) u
+      first-wrong : x ≡ false → false ≡ good_image (maps_of t) (wanted c t) u
       unfolding old_or_new
       first-wrong z = sym (good-parts ∙ first-fails own b₁ n₁ _ _ (sym e ∙ z))
 
@@ -110,11 +120,11 @@ module _ (c : Change) (t u : Words) where
         unfolding old_or_new
         good-rest = good-parts ∙ rest own b₁ n₁ _ _ (sym e ∙ y)
 
-        pub lacks-second : {a b : ℕ} → a ≡ at u 3 → b ≡ at t 3 → a ≡ 0 → eqb b 0 ≡ good_image (maps_of t) (wanted c t) u
+        lacks-second : {a b : ℕ} → a ≡ at u 3 → b ≡ at t 3 → a ≡ 0 → eqb b 0 ≡ good_image (maps_of t) (wanted c t) u
         lacks-second p q z =
             sym (good-rest ∙ rw (second-is u true (eq-eqb (at u 3) 0 (sym p ∙ z)), second-is t (eqb (at t 3) 0) refl, q) (lacking (not own) (eqb (at t 3) 0) f (map_of 2 t)))
 
-        pub none-wanted : {a b : ℕ} → a ≡ at u 3 → b ≡ at t 3 → (a ≡ 0 → ⊥) → b ≡ 0 → false ≡ good_image (maps_of t) (wanted c t) u
+        none-wanted : {a b : ℕ} → a ≡ at u 3 → b ≡ at t 3 → (a ≡ 0 → ⊥) → b ≡ 0 → false ≡ good_image (maps_of t) (wanted c t) u
         none-wanted p q z w =
             sym (good-rest ∙ rw (second-is u false (ne_eqb (at u 3) 0 (λ y. z (p ∙ y))), second-is t true (eq-eqb (at t 3) 0 (sym q ∙ w))) (none-for (not own)))
           where
@@ -122,8 +132,42 @@ module _ (c : Change) (t u : Words) where
             none-for true = refl
             none-for false = refl
 
-        pub second-judged : {a b : ℕ} → a ≡ at u 3 → b ≡ at t 3 → (a ≡ 0 → ⊥) → (b ≡ 0 → ⊥) → {r : Bool}
+        second-judged : {a b : ℕ} → a ≡ at u 3 → b ≡ at t 3 → (a ≡ 0 → ⊥) → (b ≡ 0 → ⊥) → {r : Bool}
             → r ≡ old_or_new (not own) c.key c.pointer (mapping (view_from t b)) (mapping (view_from u a)) → r ≡ good_image (maps_of t) (wanted c t) u
         unfolding old_or_new
         second-judged p q z w g =
             rw (p, q) at g ∙ sym (good-rest ∙ rw (second-is u false (ne_eqb (at u 3) 0 (λ y. z (p ∙ y))), second-is t false (ne_eqb (at t 3) 0 (λ y. w (q ∙ y)))))
+
+  -- the tests in a row: v is what the first two come to, w what they come to with whether both have a second tree, or neither
+  module _ {top root a b : ℕ} (i : top ≡ at u 1) (j : root ≡ at t 1) (p : a ≡ at u 3) (q : b ≡ at t 3) (v w : Bool)
+      (e : v ≡ (sound u && old_or_new own c.key c.pointer (mapping (view_from t root)) (mapping (view_from u top)))) (g : w ≡ (v && beq (eqb a 0) (eqb b 0))) where
+    abbrev first : Bool
+    first = old_or_new own c.key c.pointer (mapping (view_from t root)) (mapping (view_from u top))
+
+    row : ((sound u && first) && beq (eqb a 0) (eqb b 0)) ≡ w
+    row = ap (λ (x : Bool). x && beq (eqb a 0) (eqb b 0)) (sym e) ∙ sym g
+
+    pub passed : w ≡ true → (sound u ≡ true) × ((first ≡ true) × (eqb a 0 ≡ eqb b 0))
+    passed h = all-passed (sound u) first (eqb a 0) (eqb b 0) (row ∙ h)
+
+    pub refused : w ≡ false → w ≡ good_image (maps_of t) (wanted c t) u
+    refused h = h ∙ go (sound u) first (eqb a 0) (eqb b 0) refl refl refl refl (row ∙ h)
+      where
+        go : (s f x y : Bool) → sound u ≡ s → first ≡ f → eqb a 0 ≡ x → eqb b 0 ≡ y → ((s && f) && beq x y) ≡ false → false ≡ good
+        go false f x y s d l m z = not-sound s
+        go true false x y s d l m z = first-wrong s i j refl d
+        go true true true false s d l m z = sym m ∙ lacks-second s i j refl d p q (eqb-true a 0 l)
+        go true true false true s d l m z = none-wanted s i j refl d p q (eqb-false a 0 l) (eqb-true b 0 m)
+        go true true true true s d l m z = absurd (false≢true (sym z))
+        go true true false false s d l m z = absurd (false≢true (sym z))
+
+    pub both-lack : w ≡ true → a ≡ 0 → eqb a 0 ≡ good_image (maps_of t) (wanted c t) u
+    both-lack h z = let r = passed h in r.1.1 ∙ lacks-second r.0 i j refl r.1.0 p q z
+
+    -- the second has one too
+    pub both-have : w ≡ true → (a ≡ 0 → ⊥) → b ≡ 0 → ⊥
+    both-have h z y = z (eqb-true a 0 ((passed h).1.1 ∙ eq-eqb b 0 y))
+
+    pub both-judged : (h : w ≡ true) → (z : a ≡ 0 → ⊥) → {r : Bool} → r ≡ old_or_new (not own) c.key c.pointer (mapping (view_from t b)) (mapping (view_from u a))
+        → r ≡ good_image (maps_of t) (wanted c t) u
+    both-judged h z d = let r = passed h in second-judged r.0 i j refl r.1.0 p q z (both-have h z) d

@@ -7,12 +7,12 @@ use mathlib.Core.Option.{Option, none, some, map}
 use Prim.Native.Nat.{ℕ}
 use native.Mathlib.Omega.{arith}
 use lib.Dec.{eqb}
-use Rattle.std.specs.Prelude.{is_some, Option as Known, Some, None, Ok}
+use Rattle.std.specs.Prelude.{is_some, Option as Known, Some, None, Ok, MatchOption}
 use borrow.Author.Tests.{eq-eqb, ne_eqb}
 use Rattle.model.specs.Table.{Words, at, root_word, no_collection}
 use Rattle.model.specs.Slots.{Slot, view_from, view_of}
 use Rattle.model.specs.Reached.{mapping, map_of, Maps, maps_of}
-use Rattle.model.specs.SoundTest.{sound, settled}
+use Rattle.model.specs.SoundTest.{is_nothing, sound, settled}
 use Rattle.model.specs.Ledger.{on_map, pairs_of}
 use Rattle.model.specs.Judge.{same_maps, good_image, completes}
 use Rattle.list_laws.proofs.Tools.{same-or-not, refuted}
@@ -21,6 +21,10 @@ use Rattle.two_laws.proofs.SameTwo.{first-there, second-there, settled-sound}
 use Rattle.judge_laws.proofs.Compared.{maps-same}
 use Rattle.judge_laws.proofs.Judged.{good-maps}
 use Rattle.two_laws.proofs.CollectionTwo.{collection-sound}
+use Rattle.two_laws.proofs.CheckTwo.{nothing-settled}
+use Rattle.sound.specs.declared.Sound.{Sound}
+use Rattle.sound.specs.Checked.{meant, checked}
+use Rattle.sound.proofs.JudgeLaws.{checked-sound, checked-unsound}
 use Rattle.compare.specs.Pointers.{held, with_pointer}
 use Rattle.compare.proofs.Maps.{with-held, with-same}
 use Rattle.compare.proofs.Trees.{map-ordered}
@@ -29,8 +33,14 @@ use Rattle.judge.specs.Wanted.{wanted, Suits, line_of, ended}
 
 -- ---- settled: sound, with nothing left
 
-pub unsound-unsettled : (t : Words) → sound t ≡ false → false ≡ settled t
+unsound-unsettled : (t : Words) → sound t ≡ false → false ≡ settled t
 unsound-unsettled t e = sym (refuted (settled t) (λ s. false≢true (sym e ∙ settled-sound t s)))
+
+-- what the check found has nothing left
+pub settled-by : (t : Words) (o : Known Sound) (r : Bool) → o ≡ checked t → (P : Sound → Type 0) → ((x : Sound) → P x → r ≡ is_nothing (some (meant x.leftover)))
+    → MatchOption o (r ≡ false) P → r ≡ settled t
+settled-by t None r e P h q = q ∙ unsound-unsettled t ((checked-unsound t).0 (sym e))
+settled-by t (Some x) r e P h q = let f = (checked-sound t x.leftover x.reached).0 (sym e) in h x q ∙ nothing-settled t (meant x.leftover) f.is-sound f.leftover-is
 
 -- ---- the answer after all orders
 

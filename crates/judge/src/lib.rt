@@ -13,10 +13,11 @@ ghost use Rattle.model.specs.Judge.{good_image, unflushed_after, judged_from, co
 ghost use Rattle.judge.specs.Tests.{tested};
 ghost use Rattle.judge.specs.Wanted.{wanted, Suits, line_of, other_line, Holds, ended};
 
+use insert::Insertion;
 use model::{MARK, Refusal, Verdict};
-use sound::Sound;
 
 // The change that is wanted: a collection's key gets this pointer; 0 for none.
+// That it suits a table is said of both together, and the table is a lent slice: so it is a clause.
 #[derive(Clone, Copy)]
 struct Change {
     collection: u64,
@@ -26,41 +27,29 @@ struct Change {
 
 // ---- an image
 
-// Whether an image is sound with the table's maps or the new ones. Its header is tested before a root is used.
+// Whether an image is sound with the table's maps or the new ones. It is tested before a root is used.
 fn image_ok(image: &[u64], table: &[u64], change: Change) -> bool
     requires { Suits change table.now }
     ensures { result ≡ good_image (maps_of table.now) (wanted change table.now) image.now }
 {
-    if !sound::is_sound(image) {
-        return false;
-    }
     let key = change.key;
     let pointer = change.pointer;
     let own = change.collection == 1;
     let top = leaves::word_at(image, 1);
     let root = leaves::word_at(table, 1);
-    if !compare::tree_ok(image, top, table, root, own, key, pointer) {
-        return false;
-    }
     let other = leaves::word_at(image, 3);
     let second = leaves::word_at(table, 3);
-    if other == 0 {
-        return second == 0;
-    }
-    if second == 0 {
-        return false;
-    }
-    compare::tree_ok(image, other, table, second, !own, key, pointer)
+    sound::is_sound(image)
+        && compare::tree_ok(image, top, table, root, own, key, pointer)
+        && (other == 0) == (second == 0)
+        && (other == 0 || compare::tree_ok(image, other, table, second, !own, key, pointer))
 }
 
 // Whether a table is settled.
 fn is_settled(table: &[u64]) -> bool
     ensures { result ≡ settled table.now }
 {
-    match sound::check(table) {
-        Some(Sound { leftover, .. }) => sound::is_nothing(leftover),
-        None => false,
-    }
+    sound::check(table).is_some_and(|found| sound::is_nothing(found.leftover))
 }
 
 // ---- the orders, one by one
@@ -69,24 +58,18 @@ fn is_settled(table: &[u64]) -> bool
 fn line_after(line: Option<u64>, flushed: u64) -> Option<u64>
     ensures { line_of result ≡ unflushed_after (line_of line) (flush flushed) }
 {
-    match line {
-        Some(l) if l != flushed => line,
-        _ => None,
-    }
+    line.filter(|&l| l != flushed)
 }
 
 // Whether a store to a line makes it the second that holds unflushed stores.
 fn second_line(line: Option<u64>, stored: u64) -> bool
     ensures { result ≡ other_line line stored }
 {
-    match line {
-        Some(l) => stored != l,
-        None => false,
-    }
+    line.is_some_and(|l| stored != l)
 }
 
 // One order more, on an image that was good: the line that holds unflushed stores then, if the count of orders holds. Only a store leaves a
-// new image.
+// new image. An Option in an Option: that the count fails and that no line holds unflushed stores are two answers.
 fn turn(
     image: &mut [u64],
     table: &[u64],
@@ -154,6 +137,7 @@ fn judge_orders(image: &mut [u64], table: &[u64], list: &[u64], change: Change) 
 // ---- the call
 
 // Judges the list on a copy of the table.
+// Table, list and copy are the three slices that C lends.
 fn judge_copy(table: &[u64], list: &[u64], out: &mut [u64], change: Change) -> Verdict
     requires suits { Suits change table.now }
     requires out_len { length out.old ≡ length table.now }
@@ -185,6 +169,7 @@ fn tests(table: &[u64], list: &[u64], words: usize, collection: u64) -> Result<u
 
 // Judges a list for the insertion of a key with a recording and a class; 2, 17, 4, 20, 13, 15 and 21 in that order. A refusal changes no word;
 // else the second slice ends as the table with the list carried out, whole for yes, up to the named count for no.
+// Collection, key, recording and class come one by one, as C hands them over.
 pub fn judge_insert(
     table: &[u64],
     list: &[u64],
@@ -199,7 +184,17 @@ pub fn judge_insert(
 {
     let reached = tests(table, list, out.len(), collection)?;
     let run = reach::full_run(table, node::root_of(table, collection), key, 0);
-    let allowed = insert::may_insert(table, collection, key, recording, access, run, reached);
+    let allowed = insert::may_insert(
+        table,
+        Insertion {
+            collection,
+            key,
+            recording,
+            access,
+        },
+        run,
+        reached,
+    );
     if allowed.is_err() {
         return Err(Refusal::ChangeRefused);
     }

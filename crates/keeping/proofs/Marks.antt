@@ -1,9 +1,9 @@
 -- Marked slots stand for the pairs kept: the same codes, the same recordings, as many.
 use mathlib.Core.Path.{◌≡◌, refl, ap, sym, subst, ◌∙◌}
-use mathlib.Core.Bool.{Bool, true, false, not, ◌||◌}
+use mathlib.Core.Bool.{Bool, true, false, not, ◌&&◌, ◌||◌}
 use mathlib.Core.Logic.{◌≢◌}
 use mathlib.Core.List.{List, [], ◌∷◌}
-use Prim.Native.Nat.{ℕ, zero, suc, ◌+◌, ◌-◌, ◌*◌, ◌/◌, ◌%◌, ◌≤◌, ◌<◌}
+use Prim.Native.Nat.{ℕ, zero, suc, ◌+◌, ◌*◌, ◌/◌, ◌%◌, ◌≤◌, ◌<◌}
 use native.Mathlib.Omega.{arith}
 use lib.Dec.{eqb}
 use lib.ListN.{length, get_or}
@@ -19,13 +19,17 @@ use Rattle.bits.specs.Bits.{has, put}
 use Rattle.bits.proofs.Marks.{has-put-same, has-put-other, put-length}
 use Rattle.gather.specs.Held.{placed, met}
 use Rattle.gather.proofs.Pairs.{enter-key, enter-recording, enter-length}
+use Rattle.std.specs.List.{list_any}
 use Rattle.keeping.specs.Marks.{slot_of, marked_to, Matches, Unmarked, Marked}
+use Rattle.keeping.proofs.Downwards.{downwards}
 
 -- ---- the pairs kept and the marked ones
 
-or-true : (a : Bool) → (a || true) ≡ true
-or-true true = refl
-or-true false = refl
+or-apart : (a b c d : Bool) → ((a || b) || (c || d)) ≡ ((a || c) || (b || d))
+or-apart true b c d = refl
+or-apart false true true d = refl
+or-apart false true false d = refl
+or-apart false false c d = refl
 
 matches-enter : (k p : ℕ) (ps ms : List Slot) → Matches ps ms → Matches (enter k p ps) (slot k p ∷ ms)
 matches-enter k p ps ms m = record {
@@ -102,37 +106,28 @@ module _ (t order : Words) where
           (rw (now, list) (matches-enter k p g.kept (marked_to t order ms x) m), ap length now ∙ enter-length k p g.kept ∙ omega arith);
     }
 
-  -- ---- the scan for a clash
+  -- ---- the marked slots that clash
 
   module _ (ms : Words) (k r : ℕ) where
-    abbrev pub clash : ℕ → Bool
-    clash x = has_key k (marked_to t order ms x) || has_recording r (marked_to t order ms x)
+    -- slot x is marked, and has this key or this recording
+    abbrev pub clashing : ℕ → Bool
+    clashing x = has ms x && (eqb (slot_of t order x).key k || eqb (recording (slot_of t order x)) r)
 
-    pub clash-none : (x : ℕ) → x ≡ 0 → false ≡ clash x
-    unfolding marked_to has_key has_recording
-    clash-none x e = rw e
+    pub clash-any : (x : ℕ) → list_any clashing (downwards 0 x) ≡ (has_key k (marked_to t order ms x) || has_recording r (marked_to t order ms x))
+    unfolding marked_to has_key has_recording downwards
+    clash-any zero = refl
+    clash-any (suc x) = let z : 0 + x ≡ x = omega arith in rw z (go (has ms x) refl (clash-any x))
+      where
+        s : Slot
+        s = slot_of t order x
 
-    pub clash-skip : (x : ℕ) → 0 < x → has ms (x - 1) ≡ false → clash (x - 1) ≡ clash x
-    clash-skip x h e = let f : x ≡ suc (x - 1) = omega arith in ap (λ (l : List Slot). has_key k l || has_recording r l) (sym (marked-no ms (x - 1) e) ∙ ap (marked_to t order ms) (sym f))
+        before : List Slot
+        before = marked_to t order ms x
 
-    opened : (x : ℕ) → 0 < x → has ms (x - 1) ≡ true → (s : Slot) → s ≡ slot_of t order (x - 1)
-        → clash x ≡ ((eqb s.key k || has_key k (marked_to t order ms (x - 1))) || (eqb (recording s) r || has_recording r (marked_to t order ms (x - 1))))
-    opened x h e s q =
-        let f : x ≡ suc (x - 1) = omega arith in
-        ap (λ (l : List Slot). has_key k l || has_recording r l) (ap (marked_to t order ms) f ∙ marked-yes ms (x - 1) e ∙ ap (λ (u : Slot). u ∷ marked_to t order ms (x - 1)) (sym q)) ∙ (unfold has_key has_recording in refl)
-
-    pub clash-key : (x : ℕ) → 0 < x → has ms (x - 1) ≡ true → (s : Slot) → s ≡ slot_of t order (x - 1) → s.key ≡ k → true ≡ clash x
-    clash-key x h e s q z = sym (opened x h e s q ∙ ap (λ (b : Bool). (b || has_key k (marked_to t order ms (x - 1))) || (eqb (recording s) r || has_recording r (marked_to t order ms (x - 1)))) (eq-eqb s.key k z))
-
-    pub clash-recording : (x : ℕ) → 0 < x → has ms (x - 1) ≡ true → (s : Slot) → s ≡ slot_of t order (x - 1) → recording s ≡ r → true ≡ clash x
-    clash-recording x h e s q z =
-        sym (opened x h e s q ∙ ap (λ (b : Bool). (eqb s.key k || has_key k (marked_to t order ms (x - 1))) || (b || has_recording r (marked_to t order ms (x - 1)))) (eq-eqb (recording s) r z)
-        ∙ or-true (eqb s.key k || has_key k (marked_to t order ms (x - 1))))
-
-    pub clash-next : (x : ℕ) → 0 < x → has ms (x - 1) ≡ true → (s : Slot) → s ≡ slot_of t order (x - 1) → s.key ≢ k → recording s ≢ r → clash (x - 1) ≡ clash x
-    clash-next x h e s q y z =
-        sym (opened x h e s q ∙ ap (λ (b : Bool). (b || has_key k (marked_to t order ms (x - 1))) || (eqb (recording s) r || has_recording r (marked_to t order ms (x - 1)))) (ne_eqb s.key k y)
-        ∙ ap (λ (b : Bool). has_key k (marked_to t order ms (x - 1)) || (b || has_recording r (marked_to t order ms (x - 1)))) (ne_eqb (recording s) r z))
+        go : (b : Bool) → has ms x ≡ b → list_any clashing (downwards 0 x) ≡ (has_key k before || has_recording r before)
+            → (clashing x || list_any clashing (downwards 0 x)) ≡ (has_key k (marked_to t order ms (suc x)) || has_recording r (marked_to t order ms (suc x)))
+        go true e ih = rw e (ap (λ (b : Bool). (eqb s.key k || eqb (recording s) r) || b) ih ∙ or-apart (eqb s.key k) (eqb (recording s) r) (has_key k before) (has_recording r before))
+        go false e ih = rw e ih
 
 -- ---- no reason
 

@@ -4,8 +4,8 @@
 
 ghost use Rattle.std.specs.Prelude.{◌≡◌, ◌||◌, ◌+◌, ◌*◌, ◌≤◌, ◌<◌, eqb, length};
 ghost use Rattle.model.specs.Table.{nodes};
-ghost use Rattle.model.specs.Slots.{slot};
 ghost use Rattle.model.specs.Refusals.{has_key, has_recording};
+ghost use Rattle.model.specs.Slots.{recording_of};
 ghost use Rattle.model.specs.Salvage.{reason_for, collected, gathered_along};
 ghost use Rattle.gather.specs.Held.{met};
 ghost use Rattle.keeping.specs.Marks.{slot_of, pair_of, marked_to, Marked, NodeMarked};
@@ -57,39 +57,30 @@ fn slot_of(table: &[u64], order: &[u16], x: usize) -> Pair
     }
 }
 
-// Whether a marked slot before slot end has this key or this recording.
-fn clashes(
-    table: &[u64],
-    order: &[u16],
-    marks: &[u64],
-    end: usize,
-    key: u64,
-    recording: u64,
-) -> bool
-    requires { (end ≤ 12 * length order.now) × (length order.now ≤ 65535) × (length marks.now ≡ 12288) }
-    ensures { result ≡ (has_key key (marked_to table.now order.now marks.now end)
-        || has_recording recording (marked_to table.now order.now marks.now end)) }
+// Whether a slot has this key or this recording.
+fn clash(s: Pair, key: u64, recording: u64) -> bool
+    ensures { result ≡ (eqb s.key key || eqb (recording_of s.pointer) recording) }
 {
-    for x in (0..end).rev() {
-        if bits::has(marks, x) {
-            let s = slot_of(table, order, x);
-            if s.key == key {
-                return true;
-            }
-            if pointer::recording(s.pointer) == recording {
-                return true;
-            }
-        }
-    }
-    false
+    s.key == key || pointer::recording(s.pointer) == recording
+}
+
+// Whether a marked slot before slot end has this pair's key or recording.
+fn clashes(table: &[u64], order: &[u16], marks: &[u64], end: usize, pair: Pair) -> bool
+    requires { (end ≤ 12 * length order.now) × (length order.now ≤ 65535) × (length marks.now ≡ 12288) }
+    ensures { result ≡ (has_key pair.key (marked_to table.now order.now marks.now end)
+        || has_recording (recording_of pair.pointer) (marked_to table.now order.now marks.now end)) }
+{
+    let recording = pointer::recording(pair.pointer);
+    (0..end).rev().any(|x| bits::has(marks, x)
+        && clash(slot_of(table, order, x), pair.key, recording))
 }
 
 // Whether no reason holds against a pair.
-fn keeps(table: &[u64], order: &[u16], marks: &[u64], end: usize, key: u64, pointer: u64) -> bool
+fn keeps(table: &[u64], order: &[u16], marks: &[u64], end: usize, pair: Pair) -> bool
     requires { (end ≤ 12 * length order.now) × (length order.now ≤ 65535) × (length marks.now ≡ 12288) }
-    ensures { result ≡ eqb (reason_for (marked_to table.now order.now marks.now end) (slot key pointer)) 0 }
+    ensures { result ≡ eqb (reason_for (marked_to table.now order.now marks.now end) (pair_of pair)) 0 }
 {
-    pointer::ok(pointer) && !clashes(table, order, marks, end, key, pointer::recording(pointer))
+    pointer::ok(pair.pointer) && !clashes(table, order, marks, end, pair)
 }
 
 // Slot i in use of the node entered at place j, where before is the pointer before it: marked if it is kept; the answer is 1 then.
@@ -102,20 +93,19 @@ fn mark_slot(
     i: usize,
     sibling: u64,
     before: u64,
-    key: u64,
-    pointer: u64,
+    pair: Pair,
 ) -> usize
     requires { (top ≡ nodes table.now) × (j < length order.now) × (i < 12) × (length order.now ≤ 65535) × (length marks.old ≡ 12288) }
-    ensures { Marked table.now order.now marks.old marks.new (12 * j + i) key pointer
-        (met table.now sibling before i key pointer) result }
+    ensures { Marked table.now order.now marks.old marks.new (12 * j + i) pair.key pair.pointer
+        (met table.now sibling before i pair.key pair.pointer) result }
 {
-    if pointer == before {
+    if pair.pointer == before {
         return 0;
     }
-    if !tour::under_fence(table, top, sibling, key) {
+    if !tour::under_fence(table, top, sibling, pair.key) {
         return 0;
     }
-    if !keeps(table, order, marks, 12 * j + i, key, pointer) {
+    if !keeps(table, order, marks, 12 * j + i, pair) {
         return 0;
     }
     bits::put(marks, 12 * j + i);
@@ -139,6 +129,7 @@ fn mark_node(table: &[u64], top: u64, order: &[u16], marks: &mut [u64], j: usize
         if pointer == 0 {
             return kept;
         }
+        let key = x.slots[2 * i];
         kept += mark_slot(
             table,
             top,
@@ -148,8 +139,7 @@ fn mark_node(table: &[u64], top: u64, order: &[u16], marks: &mut [u64], j: usize
             i,
             x.sibling,
             before,
-            x.slots[2 * i],
-            pointer,
+            Pair { key, pointer },
         );
         before = pointer;
     }

@@ -5,7 +5,7 @@ ghost use Rattle.std.specs.Prelude.{◌≡◌, ◌≤◌};
 ghost use Rattle.model.specs.Table.{at};
 ghost use Rattle.model.specs.Slots.{view, view_from};
 ghost use Rattle.walk_laws.specs.Walk.{ways};
-ghost use Rattle.walk_laws.specs.Chain.{first_leaf, last_child, last_leaf};
+ghost use Rattle.walk_laws.specs.Chain.{leftmost, first_leaf, last_child, last_leaf};
 ghost use Rattle.slots.specs.Gathered.{slots_in};
 ghost use Rattle.leaves.specs.Hits.{hit_along, hit_in};
 
@@ -35,6 +35,17 @@ pub struct Hit {
     pub slot: u64,
 }
 
+// The node that left leads to from this one, so many levels down.
+pub fn leftmost(table: &[u64], from: u64, levels: u64) -> u64
+    ensures { result ≡ leftmost (view_from table.now from) levels from }
+{
+    let mut n = from;
+    for _ in 0..levels {
+        n = node::word(table, n, 0);
+    }
+    n
+}
+
 // The leftmost leaf: from the root down by left; 0 if the root is too high.
 pub fn first_leaf(table: &[u64], root: u64) -> u64
     ensures { result ≡ first_leaf (view_from table.now root) }
@@ -43,11 +54,7 @@ pub fn first_leaf(table: &[u64], root: u64) -> u64
     if 15 < top {
         return 0;
     }
-    let mut n = root;
-    for _ in 0..top {
-        n = node::word(table, n, 0);
-    }
-    n
+    leftmost(table, root, top)
 }
 
 // The last child of a node without sibling: the last that it names, or that one's sibling.

@@ -29,16 +29,9 @@ use Rattle.model.specs.Sentinels.{slice_number, work_number, work_out, refusal_w
 use Rattle.model.specs.Summary.{open_number, opening, own_tests, marks_in, cells_in, quick_number, quick_orders, quick_written, page_of, quick_list_number, quick_listed}
 use Rattle.model.specs.Scripts.{SCRIPTS, rank, actions_in, form_script, script_answer, script_number}
 use Rattle.model.specs.Judge.{judged, judge_number, judge, verdict_number}
-use Rattle.model.proofs.Numbers.{refusal-of-number, Numbered, none-numbered, more-numbered, answered-number, itself, refusal-numbered, slice-numbered}
+use Rattle.model.proofs.Numbers.{refusal-of-number, Numbered, numbered, none-numbered, one-more, answered-number, itself, refusal-numbered, slice-numbered}
 
 -- ---- numbers of refusals
-
-numbered : (r : Refusal) → Numbered (refusal_number r)
-numbered r = inr (ap refusal_number (refusal-of-number r))
-
--- a test that fails with a refusal's number, before others
-one-more : (b : Bool) (r : Refusal) (n : ℕ) → Numbered n → Numbered (cond b (refusal_number r) n)
-one-more b r n h = more-numbered b (refusal_number r) n (ap refusal_number (refusal-of-number r)) h
 
 either : (b : Bool) (n m : ℕ) → Numbered n → Numbered m → Numbered (cond b n m)
 either true n m g h = g

@@ -1,5 +1,6 @@
 -- Laws on Booleans, numbers and lists.
 pub mod Tools
+pub mod Tests
 pub mod Members
 pub mod Filters
 pub mod Distinct

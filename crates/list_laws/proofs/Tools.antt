@@ -9,7 +9,8 @@ use native.Mathlib.Omega.{arith}
 use lib.Dec.{eqb, ltb, leb}
 use borrow.Author.Tests.{ltb-true, ltb-false, leb-true, eqb-true, eqb-false, eq-eqb, ne_eqb, lt-ltb, le-ltb, le-leb}
 use Rattle.model.specs.declared.Answer.TheVariants.{Absent}
-use Rattle.std.specs.Prelude.{Some}
+use Rattle.std.specs.Prelude.{Result, Some, Err, IsErrAnd}
+use Rattle.std.proofs.lemmas.Result.{err_from_is_err_and}
 use Rattle.model.specs.Slots.{Slot}
 use Rattle.model.specs.Search.{first_with, first_above, absent_or, Next}
 use Rattle.model.specs.Reached.{filter, flat}
@@ -208,3 +209,7 @@ absent-append k (s ∷ a) b = go (ltb k s.key) (absent-append k a b)
         → absent_or (elim c as (λ x. Next) [ true ↦ Some s.key | false ↦ first_above k a ]) (Absent (first_above k b)) ≡ Absent (elim c as (λ x. Next) [ true ↦ Some s.key | false ↦ first_above k (a ++ b) ])
     go true ih = refl
     go false ih = ih
+
+-- what a `?` hands on is the refusal that it met
+pub handed-on : {T E : Type 0} {r : Result T E} {e : E} → IsErrAnd r (λ y. y ≡ e) → r ≡ Err e
+handed-on {r = r} h = let p = err_from_is_err_and r h in p.1 ∙ ap Err p.2

@@ -1,7 +1,7 @@
 -- The first node of a row of numbers that is not marked, and the first after a node, going round.
 use mathlib.Core.Path.{◌≡◌, refl, ap, sym, ◌∙◌}
 use mathlib.Core.Bool.{Bool, true, false, not}
-use mathlib.Core.Logic.{◌≢◌}
+use mathlib.Core.Logic.{◌≢◌, ⊎_elim}
 use mathlib.Core.List.{List, [], ◌∷◌, ◌++◌}
 use Prim.Native.Nat.{ℕ, zero, suc, pred, ◌+◌, ◌-◌, ◌≤◌, ◌<◌}
 use native.Mathlib.Numerals.{add-one, sub-one}
@@ -14,6 +14,7 @@ use Rattle.model.specs.Reached.{filter, head_or}
 use Rattle.model.specs.Writes.{numbers}
 use Rattle.model.specs.Marks.{has}
 use Rattle.model.specs.Summary.{unmarked, free_after}
+use Rattle.list_laws.proofs.Tools.{same-or-not}
 use Rattle.list_laws.proofs.Filters.{filter-yes, filter-no, filter-append}
 
 module _ (ms : Words) where
@@ -59,6 +60,42 @@ module _ (ms : Words) where
       one true q = first-later n last (leb-true n last q) (h n (omega arith) (omega arith))
       one false q = let g = leb-false n last q in first-none (n + 1) last (omega arith) ∙ sym (first-none n last g)
 
+  -- what the first is: it is not marked, and those before it are
+  pub record First (n last f : ℕ) : Type 0 where
+    pub no-less : n ≤ f
+    pub within : f ≤ last
+    pub free : has ms f ≡ false
+    pub before : (m : ℕ) → n ≤ m → m < f → has ms m ≡ true
+
+  -- a marked one more in front
+  first-more : (n last f : ℕ) → has ms n ≡ true → First (n + 1) last f → First n last f
+  first-more n last f e r = record { no-less = omega (arith, r.no-less); within = r.within; free = r.free; before = λ m a b. ⊎_elim (λ q. rw q e) (λ q. r.before m (omega (arith, q)) b) (same-or-not m n) }
+
+  first-at : (c n last f : ℕ) → last + 1 - n ≡ c → f ≡ first_from n last → f ≢ 0 → First n last f
+  first-at zero n last f w q z = absurd (z (q ∙ first-none n last (omega arith)))
+  first-at (suc c) n last f w q z = go (has ms n) refl (λ p. first-at c (n + 1) last f (omega arith) p z)
+    where
+      go : (b : Bool) → has ms n ≡ b → (f ≡ first_from (n + 1) last → First (n + 1) last f) → First n last f
+      go true e later = first-more n last f e (later (q ∙ sym (first-later n last (omega arith) e)))
+      go false e later =
+          let here : f ≡ n = q ∙ first-here n last (omega arith) e in
+          record { no-less = omega arith; within = omega arith; free = rw here e; before = λ m a b. absurd (omega arith) }
+
+  pub first-is : (n last f : ℕ) → f ≡ first_from n last → f ≢ 0 → First n last f
+  first-is n last f q z = first-at (last + 1 - n) n last f refl q z
+
+  -- where 0 says that there is none, all are marked
+  pub none-is : (n last f : ℕ) → 1 ≤ n → f ≡ first_from n last → f ≡ 0 → (m : ℕ) → n ≤ m → m ≤ last → has ms m ≡ true
+  none-is n last f l q z = none-at (last + 1 - n) n refl l (sym q ∙ z)
+    where
+      none-at : (c k : ℕ) → last + 1 - k ≡ c → 1 ≤ k → first_from k last ≡ 0 → (m : ℕ) → k ≤ m → m ≤ last → has ms m ≡ true
+      none-at zero k w h y m a b = absurd (omega arith)
+      none-at (suc c) k w h y m a b = here (has ms k) refl (λ p. none-at c (k + 1) (omega arith) (omega arith) p)
+        where
+          here : (b : Bool) → has ms k ≡ b → (first_from (k + 1) last ≡ 0 → (j : ℕ) → k + 1 ≤ j → j ≤ last → has ms j ≡ true) → has ms m ≡ true
+          here true e later = ⊎_elim (λ r. rw r e) (λ r. later (first-later k last (omega arith) e ∙ y) m (omega (arith, r)) b) (same-or-not m k)
+          here false e later = let none : k ≡ 0 = sym (first-here k last (omega arith) e) ∙ y in absurd (omega arith)
+
   -- ---- going round
 
   -- where 0 says that there is none
@@ -76,18 +113,18 @@ module _ (ms : Words) where
   head-append (x ∷ xs) ys z = refl
 
   -- the two rows of `fresh`, as the code has them
-  rows : (N a : ℕ) → 1 ≤ a → free_after N ms a ≡ head_or 0 (unmarked ms (numbers (a + 1) (N + 1 - (a + 1))) ++ unmarked ms (numbers 1 (a - 1 + 1 - 1)))
+  rows : (N a : ℕ) → free_after N ms a ≡ head_or 0 (unmarked ms (numbers (a + 1) (N + 1 - (a + 1))) ++ unmarked ms (numbers 1 (a - 1 + 1 - 1)))
   unfolding free_after
-  rows N a h =
+  rows N a =
       let e : N + 1 - (a + 1) ≡ N - a = omega arith in
       let f : a - 1 + 1 - 1 ≡ pred a = ap (λ (n : ℕ). n + 1 - 1) (sub-one a) ∙ omega arith in
       rw (e, f, add-one a) (ap (head_or 0) (unmarked-append (numbers (suc a) (N - a)) (numbers 1 (pred a))))
 
-  pub free-next : (N a n : ℕ) → 1 ≤ a → n ≡ first_from (a + 1) (N) → n ≢ 0 → n ≡ free_after N ms a
-  free-next N a n h e z = e ∙ sym (rows N a h ∙ head-append (unmarked ms (numbers (a + 1) (N + 1 - (a + 1)))) _ (λ y. z (e ∙ y)))
+  pub free-next : (N a n : ℕ) → n ≡ first_from (a + 1) (N) → n ≢ 0 → n ≡ free_after N ms a
+  free-next N a n e z = e ∙ sym (rows N a ∙ head-append (unmarked ms (numbers (a + 1) (N + 1 - (a + 1)))) _ (λ y. z (e ∙ y)))
 
-  pub free-round : (N a n r : ℕ) → 1 ≤ a → n ≡ first_from (a + 1) (N) → n ≡ 0 → r ≡ first_from 1 (a - 1) → r ≡ free_after N ms a
-  free-round N a n r h e z q = q ∙ sym (rows N a h ∙ ap (λ (l : List ℕ). head_or 0 (l ++ unmarked ms (numbers 1 (a - 1 + 1 - 1)))) (empty-row (a + 1) (N + 1 - (a + 1)) (omega arith) (sym e ∙ z)))
+  pub free-round : (N a n r : ℕ) → n ≡ first_from (a + 1) (N) → n ≡ 0 → r ≡ first_from 1 (a - 1) → r ≡ free_after N ms a
+  free-round N a n r e z q = q ∙ sym (rows N a ∙ ap (λ (l : List ℕ). head_or 0 (l ++ unmarked ms (numbers 1 (a - 1 + 1 - 1)))) (empty-row (a + 1) (N + 1 - (a + 1)) (omega arith) (sym e ∙ z)))
 
   -- ---- how many
 

@@ -21,11 +21,5 @@ pub clear-none : (ms : Words) (x : ℕ) → has ms x ≡ false → ms ≡ cleare
 unfolding cleared
 clear-none ms x e = rw e
 
-pub taken-none : (ms : Words) (n : ℕ) → has ms n ≡ false → Taken ms n 0
-taken-none ms n e = record { short = omega arith; run = λ m a b. absurd (omega arith); none = λ z. e }
-
-pub taken-one : (ms : Words) (n : ℕ) → has ms n ≡ true → Taken ms n 1
-taken-one ms n e = record { short = omega arith; run = λ m a b. let q : m ≡ n = omega arith in rw q e; none = λ z. absurd (omega arith) }
-
 pub taken-word : (ms : Words) (n : ℕ) → n % 64 ≡ 0 → full ms n ≡ true → Taken ms n 64
 taken-word ms n z e = record { short = omega arith; run = λ m a b. full-marked ms n m e (omega arith); none = λ q. absurd (omega arith) }

@@ -21,25 +21,23 @@ pub fn clear(marks: &mut [u64], x: usize)
 }
 
 // So many nodes from node n on are marked: none where n is not, a whole word at once where it begins with n.
-fn taken_run(marks: &[u64], n: u64) -> u64
-    requires n_bound { n ≤ 65535 }
-    requires n_bound_2 { n < 64 * length marks.now }
+fn taken_run(marks: &[u64], n: usize) -> u64
+    requires { n < 64 * length marks.now }
     ensures { Taken marks.now n result }
 {
-    if !bits::has(marks, n as usize) {
+    if !bits::has(marks, n) {
         return 0;
     }
-    if n % 64 != 0 {
-        return 1;
+    if n % 64 == 0 && bits::full(marks, n) {
+        64
+    } else {
+        1
     }
-    if !bits::full(marks, n as usize) {
-        return 1;
-    }
-    64
 }
 
-// The first node from first to last that is not marked; 0 if there is none.
-fn first_free(marks: &[u64], first: u64, last: u64) -> u64
+// The first node from first to last that is not marked; 0 if there is none. The bounds are required, not typed: as u16 nodes would be cast from
+// a table's words and back at each call, and the marks of a summary are a slice whose length goes by the table.
+pub fn first_free(marks: &[u64], first: u64, last: u64) -> u64
     requires last_bound { last ≤ 65535 }
     requires last_bound_2 { last < 64 * length marks.now }
     ensures { result ≡ head_or 0 (unmarked marks.now (numbers first (last + 1 - first))) }
@@ -47,7 +45,7 @@ fn first_free(marks: &[u64], first: u64, last: u64) -> u64
     let mut n = first;
     // The step is the run that a call gives, so no range counts it.
     while n <= last {
-        let run = taken_run(marks, n);
+        let run = taken_run(marks, n as usize);
         if run == 0 {
             return n;
         }
@@ -60,7 +58,6 @@ fn first_free(marks: &[u64], first: u64, last: u64) -> u64
 pub fn free_after(marks: &[u64], nodes: u64, a: u64) -> u64
     requires nodes_bound { nodes ≤ 65535 }
     requires nodes_bound_2 { nodes < 64 * length marks.now }
-    requires le_a { 1 ≤ a }
     requires a_le_nodes { a ≤ nodes }
     ensures { result ≡ free_after nodes marks.now a }
 {
@@ -68,7 +65,7 @@ pub fn free_after(marks: &[u64], nodes: u64, a: u64) -> u64
     if n != 0 {
         return n;
     }
-    first_free(marks, 1, a - 1)
+    first_free(marks, 1, a.saturating_sub(1))
 }
 
 // Whether fewer than so many of the nodes are not marked.
@@ -78,6 +75,7 @@ pub fn few(marks: &[u64], nodes: u64, want: u64) -> bool
     ensures { result ≡ ltb (length (unmarked marks.now (numbers 1 nodes))) want }
 {
     let mut after = 0;
+    // No `any`: of a closure that writes `after` for the next turn the proof knows nothing.
     for _ in 0..want {
         after = first_free(marks, after + 1, nodes);
         if after == 0 {

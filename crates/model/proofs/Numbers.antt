@@ -114,13 +114,21 @@ done-err (suc n) d e = let same : refusal_of (suc n) ≡ _ = cc in ((λ z. omega
 abbrev pub Numbered : ℕ → Type 0
 Numbered n = (n ≡ 0) ⊎ (refusal_number (refusal_of n) ≡ n)
 
+pub numbered : (r : Refusal) → Numbered (refusal_number r)
+numbered r = inr (ap refusal_number (refusal-of-number r))
+
 -- tests whose numbers are those of refusals
 pub none-numbered : Numbered (first_number [])
 none-numbered = inl refl
 
-pub more-numbered : (b : Bool) (n m : ℕ) → refusal_number (refusal_of n) ≡ n → Numbered m → Numbered (cond b n m)
-more-numbered true n m e h = inr e
-more-numbered false n m e h = h
+pub one-more : (b : Bool) (r : Refusal) (n : ℕ) → Numbered n → Numbered (cond b (refusal_number r) n)
+one-more true r n h = numbered r
+one-more false r n h = h
+
+-- a refusal that a number gave has that number
+pub handed-number : {T : Type 0} (m : ℕ) {r : Refusal} → m ≢ 0 → ◌≡◌ {A = Result T Refusal} (refused_with m) (Err r) → Numbered m → refusal_number r ≡ m
+handed-number m z h (inl a) = absurd (z a)
+handed-number m {r} z h (inr a) = let same : refusal_of m ≡ r = cc in ap refusal_number (sym same) ∙ a
 
 -- what answers with the refusal of a number has that number
 pub answered-number : {T : Type 0} (n m : ℕ) (done : Result T Refusal) → Numbered n → answer_number done ≡ m
@@ -134,12 +142,6 @@ itself zero = refl
 itself (suc n) = refl
 
 -- what a writing call refuses with is the number of a refusal
-numbered-at : (r : Refusal) → refusal_number (refusal_of (refusal_number r)) ≡ refusal_number r
-numbered-at r = ap refusal_number (refusal-of-number r)
-
-one-more : (b : Bool) (r : Refusal) (n : ℕ) → Numbered n → Numbered (cond b (refusal_number r) n)
-one-more b r n h = more-numbered b (refusal_number r) n (numbered-at r) h
-
 map-numbered : (x : Call) (eleven ten : Bool) (ps : List Slot) → Numbered (first_number (map_tests x eleven ten ps))
 map-numbered (insertion n k r c) eleven ten ps =
     one-more _ BadRecording _ (one-more _ BadClass _ (one-more _ KeyPresent _ (one-more _ RecordingPresent _

@@ -31,7 +31,7 @@ behind i a b c front r =
       list = front ++ r.list;
     }
 
--- The pairs are taken one by one. A refused one stops the batch with its number; after an accepted one the others go on with the table that it
+-- The pairs are taken one by one. A refused one stops the batch with its refusal; after an accepted one the others go on with the table that it
 -- left and with the list behind the words that it filled.
 unfoldable pub batch : (n dock : ℕ) → List Slot → (list t : Words) → Batched
 batch n dock [] list t = stopped None list t

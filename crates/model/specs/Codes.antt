@@ -63,7 +63,7 @@ abbrev pub characters_of : Printed → List ℕ
 characters_of (Ok text) = text
 characters_of (Err r) = replicate 12 0
 
--- the key that a lent word then holds; it stays where there is none
+-- the key that a lent word then holds; it stays if there is none
 abbrev pub key_or : Parsed → ℕ → ℕ
 key_or (Ok k) old = k
 key_or (Err r) old = old

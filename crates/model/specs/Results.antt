@@ -39,7 +39,7 @@ Ranked = Result ℕ Refusal
 abbrev pub refused_with : {T : Type 0} → ℕ → Result T Refusal
 refused_with n = Err (refusal_of n)
 
--- 0 where a test passes, else the number of its refusal
+-- what a test answers by its number: it passes with 0, and refuses with any other
 abbrev pub passed : ℕ → Outcome
 passed zero = Ok tt
 passed (suc n) = refused_with (suc n)
@@ -54,7 +54,7 @@ page_with n m = Ok (record { count = n; more = m })
 abbrev pub worn_with : (total largest first_line pairs : ℕ) → Worn
 worn_with t l f p = Ok (record { total = t; largest = l; first_line = f; pairs = p })
 
--- the number of an answer's refusal; 0 where the call does its work
+-- the number of an answer's refusal; 0 if the call did its work
 abbrev pub answer_number : {T : Type 0} → Result T Refusal → ℕ
 answer_number (Ok x) = 0
 answer_number (Err r) = refusal_number r

@@ -168,7 +168,7 @@ salvage_report t out report =
     let ds = dropped_all t in
     unless_refused (salvage_number t out (length report)) (drop_words ds ++ drop (3 * length ds) report) report
 
--- the count that a lent word then holds; it stays where there is none
+-- the count that a lent word then holds; it stays if there is none
 abbrev pub dropped_or : Salvaged → ℕ → ℕ
 dropped_or (Ok count) old = count
 dropped_or (Err r) old = old

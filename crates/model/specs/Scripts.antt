@@ -102,7 +102,7 @@ form_script ws = leb (at ws 0) 4 && (all (λ (a : ℕ). leb a 5) (actions_in ws)
 unfoldable pub script_number : Words → Ranked
 script_number ws = cond (form_script ws) (Ok (rank (actions_in ws))) (refused_with 23)
 
--- what a lent word then holds; it stays where there is none
+-- what a lent word then holds; it stays if there is none
 abbrev pub rank_or : Ranked → ℕ → ℕ
 rank_or (Ok n) old = n
 rank_or (Err r) old = old

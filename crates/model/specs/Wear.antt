@@ -91,7 +91,7 @@ pairs_after list lines pairs t =
     let es = extents_of (length t) (decode list) in
     unless_refused (wear_number list (length lines) (length pairs) t) (extent_words es ++ drop (2 * length es) pairs) pairs
 
--- the figures that lent words then hold; they stay where there are none
+-- the figures that lent words then hold; they stay if there are none
 abbrev pub total_or : Worn → ℕ → ℕ
 total_or (Ok w) old = w.total
 total_or (Err r) old = old

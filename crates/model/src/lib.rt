@@ -19,7 +19,8 @@ pub struct Node {
     pub slots: [u64; 24],
 }
 
-// Why a call refuses, in the order of the numbers, which include/catalogue.h lists with what each means.
+// Why a call refuses, in the order of the numbers. include/catalogue.h lists those that C's calls answer, with what each means; OtherSummary
+// refuses a summary, which no C call takes.
 #[derive(Clone, Copy, PartialEq, Eq)]
 pub enum Refusal {
     NoCode,
@@ -54,7 +55,7 @@ impl From<Refusal> for u8 {
 
     ghost from_gives = { λ r n. n ≡ refusal_number r };
 
-    // Document 01's number of a refusal, and those of the requests; 12 stands for nothing.
+    // Document 01's numbers, then the requests', and our own from 25 on. No refusal has number 12.
     fn from(refusal: Refusal) -> u8 {
         match refusal {
             Refusal::NoCode => 1,

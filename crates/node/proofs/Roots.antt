@@ -6,10 +6,11 @@ use Prim.Native.Nat.{ℕ, ◌≤◌}
 use native.Mathlib.Omega.{arith}
 use lib.Dec.{eqb, leb}
 use borrow.Author.Tests.{ne_eqb, le-leb}
-use Rattle.std.specs.Prelude.{Ok}
+use Rattle.std.specs.Prelude.{Result, Ok, Err}
+use Rattle.model.specs.declared.Refusal.{Refusal}
 use Rattle.model.specs.Results.{refused_with}
 use Rattle.model.specs.Table.{Words, at, header_ok, header_number, root_word, no_collection}
-use Rattle.model.proofs.Numbers.{done-ok}
+use Rattle.model.proofs.Numbers.{done-ok, done-err}
 use Rattle.list_laws.proofs.Tools.{decode, refuted, same-or-not}
 use Rattle.table_laws.proofs.Header.{HeaderFacts, header-iff, header-number-iff, header-number-refused}
 use Rattle.table_laws.proofs.Collections.{by-number}
@@ -110,12 +111,6 @@ found-ok n t {r} e = go (header_ok t) (no_collection n t) refl refl (done-ok _ (
     go true true h c q = absurd (omega (arith, q.0))
     go false b h c q = absurd (omega (arith, q.0))
 
--- what a caller of the number learns: 0 only for a collection that is there
-pub number-zero : (n : ℕ) (t : Words) (x : ℕ) → x ≡ number_in n t → x ≡ 0 → (header_ok t ≡ true) × (no_collection n t ≡ false)
-unfolding number_in
-number-zero n t x e z = go (header_ok t) (no_collection n t) refl refl (sym z ∙ e)
-  where
-    go : (a b : Bool) → header_ok t ≡ a → no_collection n t ≡ b → 0 ≡ cond {A = ℕ} a (cond b 17 0) 2 → (header_ok t ≡ true) × (no_collection n t ≡ false)
-    go true false h c q = (h, c)
-    go true true h c q = absurd (omega (arith, q))
-    go false b h c q = absurd (omega (arith, q))
+pub found-err : {T : Type 0} (n : ℕ) (t : Words) {r : Refusal} → found_root n t ≡ Err r → (number_in n t ≢ 0) × ◌≡◌ {A = Result T Refusal} (refused_with (number_in n t)) (Err r)
+unfolding found_root
+found-err n t e = done-err (number_in n t) (root_in n t) e

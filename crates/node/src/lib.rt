@@ -3,7 +3,7 @@
 
 ghost use Rattle.std.specs.Prelude.{◌≡◌, true, false, ◌&&◌, ◌||◌, ◌+◌, ◌≤◌, eqb, leb, length, take, drop, replicate};
 ghost use Rattle.model.specs.Results.{passed};
-ghost use Rattle.model.specs.Table.{at, header_ok, header_number, root_word, no_collection, has_node, node, make_number, making, made};
+ghost use Rattle.model.specs.Table.{at, header_ok, header_number, root_word, no_collection, has_node, node, make_number, making, made, empty};
 ghost use Rattle.node.specs.Word.{nodes_in, root_in, found_root, start_of, word_of};
 
 use model::{MARK, Node, Outcome, Refusal};
@@ -92,6 +92,8 @@ pub fn find_root(table: &[u64], collection: u64) -> Result<u64, Refusal>
 }
 
 // The root of a collection that the table has, if its header is right.
+// Each function that rests on a right header asks for it: the table is a lent slice, and a value that carried the fact would be made anew after
+// each write.
 pub fn root_of(table: &[u64], collection: u64) -> u64
     requires table_value { header_ok table.now ≡ true }
     requires table_value_2 { no_collection collection table.now ≡ false }
@@ -107,15 +109,7 @@ pub fn root_of(table: &[u64], collection: u64) -> u64
 pub fn has(table: &[u64], i: u64) -> bool
     ensures { result ≡ has_node table.now i }
 {
-    // One by one: joined by && the last test's subtraction needs the joined truth taken apart.
-    if i == 0 {
-        return false;
-    }
-    let len = table.len();
-    if len < 8 {
-        return false;
-    }
-    i <= ((len - 8) / 32) as u64
+    i != 0 && i <= (table.len().saturating_sub(8) / 32) as u64
 }
 
 // The index of node i's first word; 0 for a number that no node has.
@@ -225,4 +219,13 @@ pub fn make(table: &mut [u64], collections: u64) -> Outcome
     table[3] = 2;
     table[40] = MARK;
     Ok(())
+}
+
+// The empty table of 4 nodes, with which the order printer and each short script start.
+pub fn first_table() -> [u64; 136]
+    ensures { result ≡ empty 4 }
+{
+    let mut table = [0u64; 136];
+    let _ = make(&mut table, 1);
+    table
 }

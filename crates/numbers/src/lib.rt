@@ -40,7 +40,9 @@ pub fn next_cell(places: usize, at: usize) -> usize
     next
 }
 
-// Enters a number in the first free cell of its path, unless it is met before that. The path has so many cells.
+// Enters a number in the first free cell of its path, unless it is met before that. The path has so many cells. A caller lends cells out of
+// a longer slice: no type of theirs says that there are some. The walk is its own: that of cells::cell_for does not report whether the number
+// was met, and to ask the cell again slows a check of pairs, as measured.
 pub fn enter(cells: &mut [u64], tries: usize, number: u64) -> Entry
     requires { 0 < length cells.old }
     ensures { outcome result cells.new ≡ entered tries cells.old number }

@@ -1,7 +1,7 @@
 -- What a finished desk holds: the stores applied, their orders in the lent list, and the three counts.
 use mathlib.Core.Path.{◌≡◌, refl, sym, ◌∙◌}
 use mathlib.Core.List.{List, [], ◌∷◌, ◌++◌, append-nil}
-use Prim.Native.Nat.{ℕ, ◌+◌, ◌*◌, ◌≤◌}
+use Prim.Native.Nat.{ℕ, zero, suc, ◌+◌, ◌*◌, ◌≤◌}
 use native.Mathlib.Omega.{arith}
 use lib.ListN.{length, length-append}
 use lib.Seq.{append_snoc}
@@ -14,7 +14,7 @@ use Rattle.cut_laws.proofs.Docks.{list-apply}
 use Rattle.cut_laws.specs.Growing.{closing, open_orders, open_line}
 use Rattle.cut_laws.specs.Inside.{StoresInside}
 use Rattle.cut_laws.proofs.Lent.{list_with-nil, list_with-store, list_with-flush, list_with-barrier}
-use Rattle.orders.specs.Desk.{Desk, start, noted, noted_all, stored_all, finished, Room}
+use Rattle.orders.specs.Desk.{Desk, dock_of, dock_number, start, noted, noted_all, stored_all, finished, Room}
 use Rattle.orders.proofs.Steps.{noted_all-append, closing-barred, stored_all-noted, stored_all-open}
 
 -- the desk holds these orders, begun on table t and the lent list
@@ -67,12 +67,19 @@ noted-holds t lent os [] d h i = rw append-nil i
 noted-holds t lent os (o ∷ ps) d h i =
     rw (← (append_snoc os o ps)) (noted-holds t lent (os ++ (o ∷ [])) ps (noted o d) (rw append_snoc h) (one-more t lent os o d (omega (arith, length-append os (o ∷ ps))) i))
 
+-- a list as the dock with a number needs it
+pub barred-dock : (n : ℕ) (os : List Order) → barred (dock_number (dock_of n)) os ≡ barred n os
+barred-dock zero os = refl
+barred-dock (suc n) os = refl
+
 module _ (ss : List Store) (t lent : Words) (dock : ℕ) where
   -- a finished desk has noted the orders of its stores, as the dock needs them
   finished-noted : finished (stored_all ss (start t lent dock)) ≡ noted_all (barred dock (orders ss)) (start t lent dock)
   unfolding finished
   finished-noted =
-      rw (stored_all-open ss (start t lent dock), stored_all-noted ss (start t lent dock), orders-closed ss, barred-append dock (open_orders ss) (closing (open_line ss)), closing-barred dock (open_line ss), noted_all-append)
+      let d = start t lent dock in
+      let o = open_line ss in
+      rw (stored_all-open ss d, stored_all-noted ss d, barred-dock dock (open_orders ss), orders-closed ss, barred-append dock (open_orders ss) (closing o), closing-barred dock o, noted_all-append)
 
   -- The finished desk: the table is the stores applied, the list has their orders, and the counts are those of the list.
   pub record Written (d : Desk) : Type 0 where
@@ -90,4 +97,4 @@ module _ (ss : List Store) (t lent : Words) (dock : ℕ) where
 
     -- Before the first store there is room for stores inside the table whose orders fit the list.
     pub start-room : StoresInside (length t) ss → Room ss (start t lent dock)
-    start-room a = record { inside = a; space = rw (← (orders-closed ss)) (omega arith); counts = omega arith }
+    start-room a = record { inside = a; space = rw (barred-dock dock, ← (orders-closed ss)) (omega arith); counts = omega arith }

@@ -12,16 +12,16 @@ use Rattle.model.specs.Orders.{Store, Order, store, barred}
 use Rattle.cut_laws.specs.Growing.{due, added, open_after, closing}
 use Rattle.cut_laws.proofs.Barriers.{barred-append, barred-longer}
 use Rattle.cut_laws.proofs.FlushRule.{added-append, open_after-append}
-use Rattle.orders.specs.Desk.{Desk, open_at, stored, stored_all, closed, Room}
+use Rattle.orders.specs.Desk.{Desk, dock_at, open_at, stored, stored_all, closed, Room}
 use Rattle.orders.proofs.Steps.{noted-at, noted-list-length, noted-table-length, noted-counts, closing-barred, stored_all-noted, stored_all-open, stored_all-dock}
 
 -- ---- what stores leave: the place, lengths, counts
 
 -- the orders that they add on the desk's dock
 abbrev added_on : List Store → Desk → List Order
-added_on ss d = barred d.pen.dock (added (open_at d) ss)
+added_on ss d = barred (dock_at d) (added (open_at d) ss)
 
-pub stored-at : (ss : List Store) (d : Desk) → (stored_all ss d).pen.at ≡ d.pen.at + 2 * length (barred d.pen.dock (added (open_at d) ss))
+pub stored-at : (ss : List Store) (d : Desk) → (stored_all ss d).pen.at ≡ d.pen.at + 2 * length (barred (dock_at d) (added (open_at d) ss))
 stored-at ss d = rw (stored_all-noted ss d) (noted-at (added_on ss d) d)
 
 pub stored-list-length : (ss : List Store) (d : Desk) → length (stored_all ss d).list ≡ length d.list
@@ -65,11 +65,11 @@ closed-append dock o a b =
 
 module _ (a b : List Store) (d : Desk) where
   -- the orders of both are those of a, and of b on the desk that a leaves
-  both : length (closed d.pen.dock (open_at d) (a ++ b)) ≡ length (added_on a d) + length (closed (stored_all a d).pen.dock (open_at (stored_all a d)) b)
-  both = rw (stored_all-open a d, stored_all-dock a d) (closed-append d.pen.dock (open_at d) a b)
+  both : length (closed (dock_at d) (open_at d) (a ++ b)) ≡ length (added_on a d) + length (closed (dock_at (stored_all a d)) (open_at (stored_all a d)) b)
+  both = rw (stored_all-open a d, stored_all-dock a d) (closed-append (dock_at d) (open_at d) a b)
 
-  less : length (closed d.pen.dock (open_at d) a) ≤ length (closed d.pen.dock (open_at d) (a ++ b))
-  less = omega (arith, closed-append d.pen.dock (open_at d) a b, closed-length d.pen.dock (open_at d) a, closed-grows d.pen.dock (open_after (open_at d) a) b)
+  less : length (closed (dock_at d) (open_at d) a) ≤ length (closed (dock_at d) (open_at d) (a ++ b))
+  less = omega (arith, closed-append (dock_at d) (open_at d) a b, closed-length (dock_at d) (open_at d) a, closed-grows (dock_at d) (open_after (open_at d) a) b)
 
   pub room-append : Room (a ++ b) d ↔ (Room a d × Room b (stored_all a d))
   room-append = (

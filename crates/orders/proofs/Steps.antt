@@ -14,7 +14,8 @@ use Rattle.cut_laws.specs.Growing.{due, added, open_after, closing}
 use Rattle.cut_laws.proofs.Applying.{carry-stores, length-carry}
 use Rattle.cut_laws.proofs.Barriers.{barred-nil, barred-append, barred-carry}
 use Rattle.cut_laws.proofs.FlushRule.{added-stores}
-use Rattle.orders.specs.Desk.{Desk, open_at, noted, noted_all, stored, stored_all}
+use Rattle.orders.specs.declared.Dock.{Dock}
+use Rattle.orders.specs.Desk.{Desk, dock_number, dock_at, open_at, noted, noted_all, stored, stored_all}
 
 pub noted_all-append : (a b : List Order) (d : Desk) → noted_all (a ++ b) d ≡ noted_all b (noted_all a d)
 unfolding noted_all
@@ -96,11 +97,11 @@ open-after (suc n) s d = rw add-one
 pub stored-open : (s : Store) (d : Desk) → open_at (stored s d) ≡ some (line s.word)
 unfolding stored
 stored-open s d =
-    ap open_at (noted_all-append (due (open_at d) s) (barred d.pen.dock (store s ∷ [])) d) ∙ open-after d.pen.dock s (noted_all (due (open_at d) s) d)
+    ap open_at (noted_all-append (due (open_at d) s) (barred (dock_at d) (store s ∷ [])) d) ∙ open-after (dock_at d) s (noted_all (due (open_at d) s) d)
 
 pub stored-dock : (s : Store) (d : Desk) → (stored s d).pen.dock ≡ d.pen.dock
 unfolding stored
-stored-dock s d = noted-dock (due (open_at d) s ++ barred d.pen.dock (store s ∷ [])) d
+stored-dock s d = noted-dock (due (open_at d) s ++ barred (dock_at d) (store s ∷ [])) d
 
 -- what the first store adds, and the others
 added-first : (dock : ℕ) (o : Option ℕ) (s : Store) (ss : List Store)
@@ -111,14 +112,14 @@ added-first dock o s ss =
     ∙ ap (λ q. due o s ++ q) (barred-append dock (store s ∷ []) (added (some (line s.word)) ss)) ∙ sym (append_assoc (due o s) (barred dock (store s ∷ [])) (barred dock (added (some (line s.word)) ss)))
 
 -- stores note the orders that they add
-pub stored_all-noted : (ss : List Store) (d : Desk) → stored_all ss d ≡ noted_all (barred d.pen.dock (added (open_at d) ss)) d
+pub stored_all-noted : (ss : List Store) (d : Desk) → stored_all ss d ≡ noted_all (barred (dock_at d) (added (open_at d) ss)) d
 unfolding stored_all noted_all added stored
-stored_all-noted [] d = ap (λ q. noted_all q d) (sym (barred-nil d.pen.dock))
+stored_all-noted [] d = ap (λ q. noted_all q d) (sym (barred-nil (dock_at d)))
 stored_all-noted (s ∷ ss) d =
-    let dock = d.pen.dock in
+    let dock = dock_at d in
     let later = added (some (line s.word)) ss in
-    stored_all-noted ss (stored s d) ∙ ap (λ (o : Option ℕ). noted_all (barred (stored s d).pen.dock (added o ss)) (stored s d)) (stored-open s d)
-    ∙ ap (λ (k : ℕ). noted_all (barred k later) (stored s d)) (stored-dock s d)
+    stored_all-noted ss (stored s d) ∙ ap (λ (o : Option ℕ). noted_all (barred (dock_at (stored s d)) (added o ss)) (stored s d)) (stored-open s d)
+    ∙ ap (λ (k : Dock). noted_all (barred (dock_number k) later) (stored s d)) (stored-dock s d)
     ∙ sym (noted_all-append (due (open_at d) s ++ barred dock (store s ∷ [])) (barred dock later) d) ∙ ap (λ q. noted_all q d) (sym (added-first dock (open_at d) s ss))
 
 pub stored_all-open : (ss : List Store) (d : Desk) → open_at (stored_all ss d) ≡ open_after (open_at d) ss
@@ -134,4 +135,4 @@ stored_all-dock (s ∷ ss) d = stored_all-dock ss (stored s d) ∙ stored-dock s
 -- the working copy is the table with the stores applied
 pub stored_all-table : (ss : List Store) (d : Desk) → (stored_all ss d).table ≡ apply ss d.table
 stored_all-table ss d =
-    rw (stored_all-noted ss d, noted-table (barred d.pen.dock (added (open_at d) ss)) d, barred-carry d.pen.dock (added (open_at d) ss) d.table, carry-stores (added (open_at d) ss) d.table, added-stores (open_at d) ss)
+    rw (stored_all-noted ss d, noted-table (barred (dock_at d) (added (open_at d) ss)) d, barred-carry (dock_at d) (added (open_at d) ss) d.table, carry-stores (added (open_at d) ss) d.table, added-stores (open_at d) ss)

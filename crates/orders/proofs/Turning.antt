@@ -3,48 +3,57 @@ use mathlib.Core.Path.{◌≡◌, refl, sym, ap, ◌∙◌}
 use mathlib.Core.Bool.{Bool, true, false, cond}
 use mathlib.Core.List.{[], ◌∷◌, ◌++◌}
 use mathlib.Core.Option.{Option, some}
-use Prim.Native.Nat.{ℕ, zero, suc, ◌+◌, ◌-◌, ◌/◌, ◌≤◌, ◌<◌}
+use Prim.Native.Nat.{ℕ, zero, suc, ◌+◌, ◌-◌, ◌≤◌, ◌<◌}
 use native.Mathlib.Omega.{arith}
 use native.Mathlib.Decide.{ℕ_discrete}
 use lib.Dec.{eqb}
 use borrow.Author.Tests.{eq-eqb, ne_eqb}
-use lib.ListN.{length, set, length-set, length-append}
-use Rattle.model.specs.Table.{MARK, Words, line}
-use Rattle.model.specs.Orders.{Store, put, store, flush, with_barriers, barred, BAR}
+use lib.ListN.{length, length-set, length-append}
+use Rattle.model.specs.Table.{MARK, line}
+use Rattle.model.specs.Orders.{Store, store, flush, barrier, with_barriers, barred}
 use Rattle.cut_laws.specs.Growing.{due, added, open_after, closing}
 use Rattle.cut_laws.proofs.Barriers.{barred-append}
-use Rattle.orders.specs.declared.Pen.{Pen}
-use Rattle.orders.specs.Desk.{Desk, desk, filled, open_of, open_at, noted, noted_all, stored, turned, finished, ruled, closed, Room, Ruling}
-use Rattle.orders.proofs.Steps.{noted_all-append, noted-at, noted-list-length, noted-counts, noted-dock, due-barred, closing-barred}
+use Rattle.orders.specs.declared.Writer.{Writer}
+use Rattle.orders.specs.declared.Dock.{Dock}
+use Rattle.orders.specs.declared.Dock.TheVariants.{Ordered, Unordered}
+use Rattle.orders.specs.Desk.{Desk, desk, filled, of, Becomes, dock_number, dock_at, open_of, open_at, noted, noted_all, stored, turned, finished, ruled, closed, Room, Ruling}
+use Rattle.orders.proofs.Steps.{noted_all-append, noted-at, noted-list-length, noted-table-length, noted-counts, noted-dock, due-barred, closing-barred}
 use Rattle.orders.proofs.Rooms.{room-first}
 
 -- ---- finishing
 
-pub finish-none : (t l : Words) (p : Pen) → p.line ≡ 0 → desk t l p ≡ finished (desk t l p)
+pub stays : {w : Writer} {d : Desk} → of w ≡ d → Becomes w d w
+stays e = record { is = e; same_table = refl; same_list = refl }
+
+pub becomes-as : {w v : Writer} {d e : Desk} → e ≡ d → Becomes w d v → Becomes w e v
+becomes-as q h = record { is = h.is ∙ sym q; same_table = h.same_table; same_list = h.same_list }
+
+pub finish-none : (d : Desk) → d.pen.line ≡ 0 → d ≡ finished d
 unfolding finished noted_all
-finish-none t l p e = rw e
+finish-none d e = rw e
 
-pub finish-open : (t l : Words) (p : Pen) → (p.line ≡ 0 → ⊥)
-    → desk t (filled l p.at MARK (p.line - 1)) (record { dock = p.dock; at = p.at + 2; line = 0; stores = p.stores; flushes = p.flushes + 1; barriers = p.barriers }) ≡ finished (desk t l p)
+pub finish-open : (d : Desk) → (d.pen.line ≡ 0 → ⊥)
+    → (let p = d.pen in desk d.table (filled d.list p.at MARK (p.line - 1)) (record { dock = p.dock; at = p.at + 2; line = 0; stores = p.stores; flushes = p.flushes + 1; barriers = p.barriers })) ≡ finished d
 unfolding finished noted_all noted
-finish-open t l p h = let e : p.line ≡ suc (p.line - 1) = omega arith in rw (ap open_of e)
+finish-open d h = let e : d.pen.line ≡ suc (d.pen.line - 1) = omega arith in rw (ap open_of e)
 
-pub room-open : (t l : Words) (p : Pen) → Room [] (desk t l p) → (p.line ≡ 0 → ⊥) → p.at + 2 ≤ length l
+pub room-open : (d : Desk) → Room [] d → (d.pen.line ≡ 0 → ⊥) → d.pen.at + 2 ≤ length d.list
 unfolding added open_after
-room-open t l p r h =
+room-open d r h =
+    let p = d.pen in
     let e : p.line ≡ suc (p.line - 1) = omega arith in
-    let q : length (closed p.dock (open_of p.line) []) ≡ 1 = ap length (closing-barred p.dock (open_of p.line)) ∙ rw (ap open_of e) in
+    let q : length (closed (dock_at d) (open_of p.line) []) ≡ 1 = ap length (closing-barred (dock_at d) (open_of p.line)) ∙ rw (ap open_of e) in
     omega arith
 
 -- ---- turning to the line of a store
 
-pub turn-same : (t l : Words) (p : Pen) (n : ℕ) → p.line ≡ n → desk t l p ≡ turned n (desk t l p)
+pub turn-same : (d : Desk) (n : ℕ) → d.pen.line ≡ n → d ≡ turned n d
 unfolding turned
-turn-same t l p n e = rw (eq-eqb p.line n e)
+turn-same d n e = rw (eq-eqb d.pen.line n e)
 
-pub turn-other : (d e : Desk) (n : ℕ) → (d.pen.line ≡ n → ⊥) → e ≡ finished d → e ≡ turned n d
+pub turn-other : (d : Desk) (n : ℕ) → (d.pen.line ≡ n → ⊥) → turned n d ≡ finished d
 unfolding turned
-turn-other d e n h q = q ∙ rw (ne_eqb d.pen.line n h)
+turn-other d n h = rw (ne_eqb d.pen.line n h)
 
 -- what is noted then is what is due
 due-turning : (n : ℕ) (s : Store) → due (open_of n) s ≡ cond (eqb n (line s.word + 1)) [] (closing (open_of n))
@@ -65,35 +74,38 @@ turned-due s d = rw (due-turning d.pen.line s) (go (eqb d.pen.line (line s.word 
 
 -- ---- the barrier after a store
 
-pub rule-none : (t l : Words) (p : Pen) → p.dock ≡ 0 → desk t l p ≡ ruled (desk t l p)
+pub rule-none : (d : Desk) → d.pen.dock ≡ Ordered → d ≡ ruled d
 unfolding ruled
-rule-none t l p e = rw (eq-eqb p.dock 0 e)
+rule-none d e = rw e
 
-pub rule-some : (t l : Words) (p : Pen) → (p.dock ≡ 0 → ⊥)
-    → desk t (filled l p.at BAR 0) (record { dock = p.dock; at = p.at + 2; line = p.line; stores = p.stores; flushes = p.flushes; barriers = p.barriers + 1 }) ≡ ruled (desk t l p)
-unfolding ruled noted
-rule-some t l p h = rw (ne_eqb p.dock 0 h)
+pub rule-some : (d : Desk) → (d.pen.dock ≡ Ordered → ⊥) → noted barrier d ≡ ruled d
+unfolding ruled
+rule-some d h = go d.pen.dock h
+  where
+    go : (k : Dock) → (k ≡ Ordered → ⊥) → noted barrier d ≡ cond (eqb (dock_number k) 0) d (noted barrier d)
+    go Ordered z = absurd (z refl)
+    go Unordered z = refl
 
 -- a store as the dock needs it
-store-ruled : (dock : ℕ) (s : Store) (d : Desk) → d.pen.dock ≡ dock → noted_all (barred dock (store s ∷ [])) d ≡ ruled (noted (store s) d)
+store-ruled : (k : Dock) (s : Store) (d : Desk) → d.pen.dock ≡ k → noted_all (barred (dock_number k) (store s ∷ [])) d ≡ ruled (noted (store s) d)
 unfolding noted_all ruled noted with_barriers
-store-ruled zero s d e = rw (eq-eqb d.pen.dock 0 e)
-store-ruled (suc n) s d e = rw (ne_eqb d.pen.dock 0 (λ z. omega (arith, e, z)))
+store-ruled Ordered s d e = rw e
+store-ruled Unordered s d e = rw e
 
 pub stored-turned : (s : Store) (d : Desk) → ruled (noted (store s) (turned (line s.word + 1) d)) ≡ stored s d
 unfolding stored
 stored-turned s d =
     let due-noted = noted_all (due (open_at d) s) d in
     ap (λ (e : Desk). ruled (noted (store s) e)) (turned-due s d) ∙ sym (store-ruled d.pen.dock s due-noted (noted-dock (due (open_at d) s) d))
-    ∙ sym (noted_all-append (due (open_at d) s) (barred d.pen.dock (store s ∷ [])) d)
+    ∙ sym (noted_all-append (due (open_at d) s) (barred (dock_at d) (store s ∷ [])) d)
 
 -- ---- room for one store
 
 -- room at the place where a store is listed, after the flush that is due, and for its barrier
 pub record Place (s : Store) (d e : Desk) : Type 0 where
-  pub word : s.word < length d.table
+  pub word : s.word < length e.table
   pub space : e.pen.at + 2 ≤ length d.list
-  pub barrier-space : (e.pen.dock ≡ 0 → ⊥) → e.pen.at + 4 ≤ length d.list
+  pub barrier-space : (e.pen.dock ≡ Ordered → ⊥) → e.pen.at + 4 ≤ length d.list
   pub keeps : length e.list ≡ length d.list
   pub counts : e.pen.stores + e.pen.flushes + e.pen.barriers ≤ e.pen.at
 
@@ -104,20 +116,20 @@ one-closed dock o s =
     rw (barred-append dock (due o s ++ (store s ∷ [])) (flush (line s.word) ∷ []), closing-barred dock (some (line s.word)), barred-append dock (due o s) (store s ∷ []), due-barred dock o s)
     (simp length-append)
 
-with-barrier : (dock : ℕ) (s : Store) → (1 ≤ length (barred dock (store s ∷ []))) × ((dock ≡ 0 → ⊥) → length (barred dock (store s ∷ [])) ≡ 2)
+with-barrier : (k : Dock) (s : Store) → (1 ≤ length (barred (dock_number k) (store s ∷ []))) × ((k ≡ Ordered → ⊥) → length (barred (dock_number k) (store s ∷ [])) ≡ 2)
 unfolding with_barriers
-with-barrier zero s = (omega arith, λ z. absurd (z refl))
-with-barrier (suc n) s = (omega arith, λ z. refl)
+with-barrier Ordered s = (omega arith, λ z. absurd (z refl))
+with-barrier Unordered s = (omega arith, λ z. refl)
 
 pub room-place : (s : Store) (d e : Desk) → Room (s ∷ []) d → e ≡ turned (line s.word + 1) d → Place s d e
 room-place s d e r q =
-    let all = one-closed d.pen.dock (open_at d) s in
+    let all = one-closed (dock_at d) (open_at d) s in
     let place = noted-at (due (open_at d) s) d in
     let dock = noted-dock (due (open_at d) s) d in
     let b = with-barrier d.pen.dock s in
     rw (q ∙ turned-due s d)
     (record {
-      word = r.inside.0;
+      word = omega (arith, r.inside.0, noted-table-length (due (open_at d) s) d);
       space = omega (arith, r.space, all, place, b.0);
       barrier-space = λ z. omega (arith, r.space, all, place, b.1 (λ y. z (dock ∙ y)));
       keeps = noted-list-length (due (open_at d) s) d;
@@ -125,17 +137,14 @@ room-place s d e r q =
     })
 
 -- room for a store is room for what is due
-pub room-due : (t u l : Words) (p : Pen) (s : Store) → Room (s ∷ []) (desk t l p) → Room [] (desk u l p)
-room-due t u l p s r = record { inside = tt; space = (room-first [] (s ∷ []) (desk t l p) r).space; counts = r.counts }
+pub room-due : (s : Store) (d : Desk) → Room (s ∷ []) d → Room [] d
+room-due s d r = room-first [] (s ∷ []) d r
 
 -- once the store is listed there is room for its barrier
-pub rule-room : (t l m : Words) (p q : Pen) (w x : ℕ) → Place (put w x) (desk t l p) (desk t m q)
-    → Ruling (desk [] (filled m q.at w x) (record { dock = q.dock; at = q.at + 2; line = w / 8 + 1; stores = q.stores + 1; flushes = q.flushes; barriers = q.barriers }))
-rule-room t l m p q w x h = record { space = λ z. simp length-set (omega (arith, h.barrier-space z, h.keeps)); counts = omega (arith, h.counts) }
+pub rule-room : (s : Store) (d e : Desk) → Place s d e → Ruling (noted (store s) e)
+unfolding noted
+rule-room s d e h = record { space = λ z. simp length-set (omega (arith, h.barrier-space z, h.keeps)); counts = omega (arith, h.counts) }
 
 -- the store made and listed, with its barrier
-pub store-done : (t l m : Words) (p q : Pen) (w x : ℕ) → desk t m q ≡ turned (w / 8 + 1) (desk t l p) → (e : Desk)
-    → e ≡ ruled (desk (set t w x) (filled m q.at w x) (record { dock = q.dock; at = q.at + 2; line = w / 8 + 1; stores = q.stores + 1; flushes = q.flushes; barriers = q.barriers }))
-    → e ≡ stored (put w x) (desk t l p)
-unfolding noted
-store-done t l m p q w x f e g = g ∙ ap (λ (d : Desk). ruled (noted (store (put w x)) d)) f ∙ stored-turned (put w x) (desk t l p)
+pub store-done : (s : Store) (d e : Desk) → e ≡ turned (line s.word + 1) d → ruled (noted (store s) e) ≡ stored s d
+store-done s d e q = ap (λ (f : Desk). ruled (noted (store s) f)) q ∙ stored-turned s d

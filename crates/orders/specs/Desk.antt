@@ -1,11 +1,15 @@
 -- A write under way: the working copy, the lent list and the pen, and what an order, a store, stores and the end make of them.
 use Rattle.std.specs.Prelude.{◌≡◌, cond, List, [], ◌∷◌, ◌++◌, ℕ, zero, suc, ◌+◌, ◌*◌, ◌≤◌, eqb, length, set}
 use Rattle.std.proofs.Math.Option.{Option, none, some}
+use Rattle.model.specs.declared.Counts.{Counts}
 use Rattle.model.specs.Table.{MARK, Words, line}
 use Rattle.model.specs.Orders.{Store, Order, store, flush, barrier, barred, BAR}
 use Rattle.cut_laws.specs.Growing.{due, added, open_after, closing}
 use Rattle.cut_laws.specs.Inside.{StoresInside}
+use Rattle.orders.specs.declared.Dock.{Dock}
+use Rattle.orders.specs.declared.Dock.TheVariants.{Ordered, Unordered}
 use Rattle.orders.specs.declared.Pen.{Pen}
+use Rattle.orders.specs.declared.Writer.{Writer}
 
 pub record Desk : Type 0 where
   pub table : Words
@@ -15,9 +19,34 @@ pub record Desk : Type 0 where
 abbrev pub desk : Words → Words → Pen → Desk
 desk t l p = record { table = t; list = l; pen = p }
 
+-- the desk that a writer has, and a writer whose desk becomes d: over the same table and list
+abbrev pub of : Writer → Desk
+of w = desk w.table.now w.list.now w.pen
+
+pub record Becomes (w : Writer) (d : Desk) (v : Writer) : Type 0 where
+  pub is : of v ≡ d
+  pub same_table : v.table.ghost_name ≡ w.table.ghost_name
+  pub same_list : v.list.ghost_name ≡ w.list.ghost_name
+
+-- the three counts of a desk
+abbrev pub counts_of : Desk → Counts
+counts_of d = record { stores = d.pen.stores; flushes = d.pen.flushes; barriers = d.pen.barriers }
+
+-- the dock with a number, and the number of a dock
+abbrev pub dock_of : ℕ → Dock
+dock_of zero = Ordered
+dock_of (suc n) = Unordered
+
+abbrev pub dock_number : Dock → ℕ
+dock_number Ordered = 0
+dock_number Unordered = 1
+
+abbrev pub dock_at : Desk → ℕ
+dock_at d = dock_number d.pen.dock
+
 -- the pen before the first store, and the desk
 abbrev pub first_pen : (dock : ℕ) → Pen
-first_pen dock = record { dock = dock; at = 0; line = 0; stores = 0; flushes = 0; barriers = 0 }
+first_pen dock = record { dock = dock_of dock; at = 0; line = 0; stores = 0; flushes = 0; barriers = 0 }
 
 abbrev pub start : Words → Words → (dock : ℕ) → Desk
 start t l dock = desk t l (first_pen dock)
@@ -56,11 +85,15 @@ noted_all (o ∷ os) d = noted_all os (noted o d)
 -- ---- stores: each after the flush that is due, and as the dock needs it; the flush at the end
 
 unfoldable pub stored : Store → Desk → Desk
-stored s d = noted_all (due (open_at d) s ++ barred d.pen.dock (store s ∷ [])) d
+stored s d = noted_all (due (open_at d) s ++ barred (dock_at d) (store s ∷ [])) d
 
 unfoldable pub stored_all : List Store → Desk → Desk
 stored_all [] d = d
 stored_all (s ∷ ss) d = stored_all ss (stored s d)
+
+-- a writer after these stores
+abbrev pub Makes : List Store → Writer → Writer → Type 0
+Makes ss w v = Becomes w (stored_all ss (of w)) v
 
 unfoldable pub finished : Desk → Desk
 finished d = noted_all (closing (open_at d)) d
@@ -71,7 +104,7 @@ turned l d = cond (eqb d.pen.line l) d (finished d)
 
 -- after a store: with the barrier that the dock needs
 unfoldable pub ruled : Desk → Desk
-ruled d = cond (eqb d.pen.dock 0) d (noted barrier d)
+ruled d = cond (eqb (dock_at d) 0) d (noted barrier d)
 
 -- ---- room: what stores, and the flush at the end, need of a desk
 
@@ -81,10 +114,10 @@ closed dock o ss = barred dock (added o ss ++ closing (open_after o ss))
 
 pub record Room (ss : List Store) (d : Desk) : Type 0 where
   pub inside : StoresInside (length d.table) ss
-  pub space : d.pen.at + 2 * length (closed d.pen.dock (open_at d) ss) ≤ length d.list
+  pub space : d.pen.at + 2 * length (closed (dock_at d) (open_at d) ss) ≤ length d.list
   pub counts : d.pen.stores + d.pen.flushes + d.pen.barriers ≤ d.pen.at
 
 -- room for the barrier
 pub record Ruling (d : Desk) : Type 0 where
-  pub space : (d.pen.dock ≡ 0 → ⊥) → d.pen.at + 2 ≤ length d.list
+  pub space : (d.pen.dock ≡ Ordered → ⊥) → d.pen.at + 2 ≤ length d.list
   pub counts : d.pen.stores + d.pen.flushes + d.pen.barriers ≤ d.pen.at

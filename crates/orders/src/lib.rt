@@ -2,17 +2,37 @@
 #![tactic(auto)]
 
 ghost use Rattle.std.specs.Prelude.{◌≡◌, [], ◌∷◌};
-ghost use Rattle.model.specs.Table.{Words};
 ghost use Rattle.model.specs.Orders.{put};
-ghost use Rattle.orders.specs.Desk.{desk, stored, turned, finished, ruled, Room, Ruling};
+ghost use Rattle.orders.specs.Desk.{first_pen, of, turned, finished, ruled, Room, Ruling, Becomes, Makes, counts_of};
 
-use model::{BAR, MARK};
+use model::{BAR, Counts, MARK};
+
+// Whether the processor keeps stores to one line in order; document 02's request 7 has the numbers: 0 ordered, 1 unordered.
+#[derive(Clone, Copy, PartialEq, Eq)]
+pub enum Dock {
+    Ordered,
+    Unordered,
+}
+
+impl From<u64> for Dock {
+    ghost use Rattle.orders.specs.Desk.{dock_of};
+
+    ghost from_gives = { λ n d. d ≡ dock_of n };
+
+    // Any number but 0 is that of the unordered dock, as in `barred` of the model.
+    fn from(number: u64) -> Dock {
+        match number {
+            0 => Dock::Ordered,
+            _ => Dock::Unordered,
+        }
+    }
+}
 
 // How far a write has come in its list, which is for this dock: the words filled, the line that is open plus 1 (0 for none), and the three
 // counts.
 #[derive(Clone, Copy)]
 pub struct Pen {
-    pub dock: u64,
+    pub dock: Dock,
     pub at: usize,
     pub line: u64,
     pub stores: u64,
@@ -20,70 +40,108 @@ pub struct Pen {
     pub barriers: u64,
 }
 
-// Lists the flush of the open line, if there is one.
-pub fn finish(list: &mut [u64], pen: Pen) -> Pen
-    requires { Room [] (desk [] list.old pen) }
-    ensures { (t : Words) → desk t list.new result ≡ finished (desk t list.old pen) }
-{
-    if pen.line == 0 {
-        return pen;
-    }
-    let at = pen.at;
-    list[at] = MARK;
-    list[at + 1] = pen.line - 1;
-    Pen {
-        at: at + 2,
-        line: 0,
-        flushes: pen.flushes + 1,
-        ..pen
+impl Pen {
+    // Before the first order of a list for the dock.
+    pub fn new(dock: u64) -> Self
+        ensures { result ≡ first_pen dock }
+    {
+        Pen {
+            dock: Dock::from(dock),
+            at: 0,
+            line: 0,
+            stores: 0,
+            flushes: 0,
+            barriers: 0,
+        }
     }
 }
 
-// Lists the flush that is due before a store to this line (plus 1).
-fn turn(list: &mut [u64], pen: Pen, line: u64) -> Pen
-    requires { Room [] (desk [] list.old pen) }
-    ensures { (t : Words) → desk t list.new result ≡ turned line (desk t list.old pen) }
-{
-    if pen.line == line {
-        return pen;
-    }
-    finish(list, pen)
+// A write under way: the working copy, the lent list and how far it has come.
+#[derive(Drop)]
+pub struct Writer<'a> {
+    pub table: &'a mut [u64],
+    pub list: &'a mut [u64],
+    pub pen: Pen,
 }
 
-// Lists the barrier that follows a store, if the dock needs one.
-fn rule(list: &mut [u64], pen: Pen) -> Pen
-    requires { Ruling (desk [] list.old pen) }
-    ensures { (t : Words) → desk t list.new result ≡ ruled (desk t list.old pen) }
-{
-    if pen.dock == 0 {
-        return pen;
+impl Writer<'_> {
+    // The working copy, to read.
+    pub fn table(&self) -> &[u64]
+        ensures { result.now ≡ self.now.table.now }
+    {
+        &*self.table
     }
-    let at = pen.at;
-    list[at] = BAR;
-    list[at + 1] = 0;
-    Pen {
-        at: at + 2,
-        barriers: pen.barriers + 1,
-        ..pen
-    }
-}
 
-// Makes a store on the working copy and lists it, after the flush that is due, with its barrier.
-pub fn store(table: &mut [u64], list: &mut [u64], pen: Pen, w: usize, x: u64) -> Pen
-    requires { Room (put w x ∷ []) (desk table.old list.old pen) }
-    ensures { desk table.new list.new result ≡ stored (put w x) (desk table.old list.old pen) }
-{
-    let line = (w / 8) as u64 + 1;
-    let p = turn(list, pen, line);
-    let at = p.at;
-    table[w] = x;
-    list[at] = w as u64;
-    list[at + 1] = x;
-    let listed = Pen {
-        at: at + 2,
-        line,
-        stores: p.stores + 1,
-        ..p
-    };
-    rule(list, listed)
+    // Makes a store on the working copy and lists it, after the flush that is due, with its barrier.
+    pub fn store(&mut self, w: usize, x: u64)
+        requires { Room (put w x ∷ []) (of self.old) }
+        ensures { Makes (put w x ∷ []) self.old self.new }
+    {
+        let line = (w / 8) as u64 + 1;
+        self.turn(line);
+        let at = self.pen.at;
+        self.table[w] = x;
+        self.list[at] = w as u64;
+        self.list[at + 1] = x;
+        self.pen.at = at + 2;
+        self.pen.line = line;
+        self.pen.stores += 1;
+        self.rule();
+    }
+
+    // Ends the list with the flush of the open line, and answers what the list has. That there is room is a clause, here and below: each order takes
+    // some of it.
+    pub fn finish(&mut self) -> Counts
+        requires { Room [] (of self.old) }
+        ensures writer { Becomes self.old (finished (of self.old)) self.new }
+        ensures counts { result ≡ counts_of (finished (of self.old)) }
+    {
+        self.flush();
+        Counts {
+            stores: self.pen.stores,
+            flushes: self.pen.flushes,
+            barriers: self.pen.barriers,
+        }
+    }
+
+    // Lists the flush of the open line, if there is one.
+    fn flush(&mut self)
+        requires { Room [] (of self.old) }
+        ensures { Becomes self.old (finished (of self.old)) self.new }
+    {
+        if self.pen.line == 0 {
+            return;
+        }
+        let at = self.pen.at;
+        self.list[at] = MARK;
+        self.list[at + 1] = self.pen.line - 1;
+        self.pen.at = at + 2;
+        self.pen.line = 0;
+        self.pen.flushes += 1;
+    }
+
+    // Lists the flush that is due before a store to this line (plus 1).
+    fn turn(&mut self, line: u64)
+        requires { Room [] (of self.old) }
+        ensures { Becomes self.old (turned line (of self.old)) self.new }
+    {
+        if self.pen.line != line {
+            self.flush();
+        }
+    }
+
+    // Lists the barrier that follows a store, if the dock needs one.
+    fn rule(&mut self)
+        requires { Ruling (of self.old) }
+        ensures { Becomes self.old (ruled (of self.old)) self.new }
+    {
+        if self.pen.dock == Dock::Ordered {
+            return;
+        }
+        let at = self.pen.at;
+        self.list[at] = BAR;
+        self.list[at + 1] = 0;
+        self.pen.at = at + 2;
+        self.pen.barriers += 1;
+    }
 }

@@ -92,9 +92,6 @@ module _ (ws : Words) (m j : ℕ) where
       go zero = refl
       go (suc n) = refl
 
-  pub leaf-full : (l : Words) (i : ℕ) → 11 ≤ i → sets l (2 * i) (slot_words (leaf_rest i)) ≡ l
-  leaf-full l i h = let e : 11 - i ≡ 0 = omega arith in rw e
-
 -- ---- the slots of an inner node
 
 pub length-children : (ws : Words) (k c : ℕ) → length (children_from ws k c) ≡ c

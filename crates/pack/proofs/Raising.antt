@@ -50,9 +50,6 @@ pub record Rising (ws : Words) (z leaves : ℕ) (t : Words) (first row level : �
   pub count : first + row + nodes_above (16 - level) row ≡ z + (leaves + nodes_above 15 leaves)
   pub fits : 32 * (z + (leaves + nodes_above 15 leaves)) ≤ length ws
 
-pub rising-start : (ws : Words) (z leaves : ℕ) → 32 * (z + (leaves + nodes_above 15 leaves)) ≤ length ws → z + leaves < 65536 → Rising ws z leaves ws z leaves 1
-rising-start ws z leaves h f = record { low = omega arith; high = omega arith; long = refl; few = omega arith; bound = omega arith; low-nodes = omega arith; words = refl; count = omega arith; fits = h }
-
 module _ (ws : Words) (z leaves : ℕ) (t : Words) (first row level : ℕ) (r : Rising ws z leaves t first row level) where
   pub rising-fits : level < 16 → 1 < row → 32 * (first + row + (row + 11) / 12) ≤ length t
   rising-fits h d =

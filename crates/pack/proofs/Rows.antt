@@ -95,9 +95,6 @@ pub record Raised (ws : Words) (k c l : ℕ) (t : Words) (g : ℕ) : Type 0 wher
   pub rest : sets t (32 * (k + c + g)) (row_words l (suc (k + c + g)) (drop g (row_over ws k c))) ≡ sets ws (32 * (k + c)) (row_words l (suc (k + c)) (row_over ws k c))
 
 module _ (ws : Words) (k c l : ℕ) (fits : 32 * (k + c + (c + 11) / 12) ≤ length ws) where
-  pub raised-start : Raised ws k c l ws 0
-  raised-start = let e : k + c + 0 ≡ k + c = omega arith in record { few = omega arith; long = refl; below = refl; rest = rw e }
-
   pub raised-step : (t u : Words) (g n : ℕ) → g < (c + 11) / 12 → n ≡ min 12 (c - 12 * g) → Raised ws k c l t g
       → u ≡ sets t (32 * (k + c + g)) (inner_words t (k + 12 * g) n l (k + c + g) (k + c + (c + 11) / 12)) → Raised ws k c l u (g + 1)
   raised-step t u g n h m r q =

@@ -42,6 +42,7 @@ pub fn needed(pairs: usize) -> usize
 fn node_words(left: u64, sibling: u64, level: u64, fence: u64, slots: [u64; 24]) -> [u64; 32]
     ensures { result ≡ head_words left sibling level fence ++ slots }
 {
+    // Nodes and slots are whole values of a fixed size: memory is fixed, there is no heap.
     let mut words = [0u64; 32];
     words[0] = left;
     words[1] = sibling;
@@ -100,7 +101,7 @@ fn leaf_fence(nodes: &[u64], j: usize) -> u64
     nodes[22 * j]
 }
 
-// Leaf j of so many, in the slice from the first of them on.
+// Leaf j of so many, in the slice from the first of them on. A struct of the three numbers would be made for one call, and taken apart here.
 fn put_leaf(nodes: &mut [u64], before: usize, pairs: usize, leaves: usize, j: usize)
     requires { (2 * pairs ≤ length nodes.old) × (32 * leaves ≤ length nodes.old) × (j < leaves) × (before + leaves < 16777216) }
     ensures { nodes.new ≡ sets nodes.old (32 * j) (leaf_words nodes.old before pairs leaves j) }
@@ -130,7 +131,8 @@ fn put_leaves(nodes: &mut [u64], before: usize, pairs: usize, leaves: usize)
 
 // ---- inner nodes
 
-// The slot words of an inner node over so many nodes from node first on, all but the one that is its left.
+// The slot words of an inner node over so many nodes from node first on, all but the one that is its left. Each caller of these functions
+// works out another first and count: a struct of the two would not be handed on.
 fn child_slots(nodes: &[u64], first: usize, count: usize) -> [u64; 24]
     requires { (count ≤ 12) × (32 * (first + count) ≤ length nodes.now) × (first < 16777216) }
     ensures { result ≡ slotted (children_from nodes.now first count) }

@@ -25,7 +25,7 @@ fn needed_for(words: usize) -> usize
     pack::needed(pairs).min(65536)
 }
 
-// Whether the pairs need more than so many nodes.
+// Whether the pairs need more than so many nodes. Pairs and loans are two slices that C lends.
 fn outgrows(top: usize, collections: u64, pairs: &[u64], loans: &[u64]) -> bool
     requires { top ≤ 65535 }
     ensures { result ≡ ltb top (packed_both (maps_in collections pairs.now loans.now)) }

@@ -18,7 +18,7 @@ use Rattle.list_laws.proofs.Filters.{filter-yes, filter-no, filter-all, filter-n
 use Rattle.list_laws.proofs.Distinct.{distinct-cons}
 use Rattle.numbers.specs.declared.Entry.{Entry}
 use Rattle.numbers.specs.declared.Entry.TheVariants.{Entered, Known, Full}
-use Rattle.numbers.specs.Cells.{SPREAD, CELLS, mixed, Outcome, outcome, followed, entered_if, entered_all, Tells}
+use Rattle.numbers.specs.Cells.{SPREAD, mixed, Outcome, outcome, followed, entered_if, entered_all, Tells}
 use Rattle.numbers.proofs.Once.{Last, known-last, full-last, goes-on, ends}
 use Rattle.pairs.specs.Passes.{in_pass}
 use Rattle.pairs.proofs.Slices.{numbers_of, number-next, number-none}
@@ -39,7 +39,6 @@ last-unless Full h = full-last
 
 -- what is left to enter, from pair i on, into the cells as they are, comes to o
 pub record Entering (p : ℕ → Bool) (ws : Words) (o : Outcome) (cs : Words) (i : ℕ) : Type 0 where
-  pub wide : length cs ≡ CELLS
   pub comes-to : entered_all p (numbers_of ws i) cs ≡ o
 
 module _ {p : ℕ → Bool} {ws : Words} {o : Outcome} {cs : Words} {i : ℕ} (k : Entering p ws o cs i) where

@@ -2,13 +2,13 @@
 // and class is in its range, and no recording number is there twice. Half a pair at the end of a slice is none.
 #![tactic(auto)]
 
-ghost use Rattle.std.specs.Prelude.{◌≡◌, map, length, drop};
+ghost use Rattle.std.specs.Prelude.{◌≡◌, map, drop};
 ghost use Rattle.model.specs.Slots.{recording, slots_of};
 ghost use Rattle.model.specs.Reached.{filter};
 ghost use Rattle.model.specs.SoundTest.{all, distinct, pair_ok, rising};
 ghost use Rattle.model.specs.Refusals.{has_recording};
 ghost use Rattle.model.specs.Pack.{pairs_ok};
-ghost use Rattle.numbers.specs.Cells.{CELLS, outcome, entered_if, entered_all, Tells};
+ghost use Rattle.numbers.specs.Cells.{outcome, entered_if, entered_all, Tells};
 ghost use Rattle.pairs.specs.Passes.{in_pass};
 
 use numbers::Entry;
@@ -20,24 +20,14 @@ const NARROWEST: u64 = 4194304;
 fn rise(pairs: &[u64]) -> bool
     ensures { result ≡ rising 0 (slots_of pairs.now) }
 {
-    for i in 1..pairs.len() / 2 {
-        if pairs[2 * i] <= pairs[2 * i - 2] {
-            return false;
-        }
-    }
-    true
+    (1..pairs.len() / 2).all(|i| pairs[2 * i - 2] < pairs[2 * i])
 }
 
 // Whether each pointer has a recording number and a class that there are.
 fn in_range(pairs: &[u64]) -> bool
     ensures { result ≡ all pair_ok (slots_of pairs.now) }
 {
-    for i in 0..pairs.len() / 2 {
-        if !pointer::ok(pairs[2 * i + 1]) {
-            return false;
-        }
-    }
-    true
+    (0..pairs.len() / 2).all(|i| pointer::ok(pairs[2 * i + 1]))
 }
 
 // ---- each recording number compared with all after it
@@ -46,12 +36,7 @@ fn in_range(pairs: &[u64]) -> bool
 pub fn has_recording(pairs: &[u64], first: usize, recording: u64) -> bool
     ensures { result ≡ has_recording recording (drop first (slots_of pairs.now)) }
 {
-    for i in first..pairs.len() / 2 {
-        if pointer::recording(pairs[2 * i + 1]) == recording {
-            return true;
-        }
-    }
-    false
+    (first..pairs.len() / 2).any(|i| pointer::recording(pairs[2 * i + 1]) == recording)
 }
 
 // No recording number is there twice: each is compared with all after it. The last resort, for numbers chosen so that they crowd the same
@@ -59,13 +44,7 @@ pub fn has_recording(pairs: &[u64], first: usize, recording: u64) -> bool
 fn compared_once(pairs: &[u64]) -> bool
     ensures { result ≡ distinct (map recording (slots_of pairs.now)) }
 {
-    for i in 0..pairs.len() / 2 {
-        let number = pointer::recording(pairs[2 * i + 1]);
-        if has_recording(pairs, i + 1, number) {
-            return false;
-        }
-    }
-    true
+    (0..pairs.len() / 2).all(|i| !has_recording(pairs, i + 1, pointer::recording(pairs[2 * i + 1])))
 }
 
 // ---- the recording numbers, entered in passes
@@ -78,8 +57,7 @@ fn in_pass(number: u64, low: u64, high: u64) -> bool
 }
 
 // Enters a number, if it is one of the pass.
-fn enter_one(cells: &mut [u64], number: u64, low: u64, high: u64) -> Entry
-    requires { length cells.old ≡ CELLS }
+fn enter_one(cells: &mut [u64; numbers::CELLS], number: u64, low: u64, high: u64) -> Entry
     ensures { outcome result cells.new ≡ entered_if (in_pass low high) cells.old number }
 {
     if !in_pass(number, low, high) {
@@ -89,8 +67,7 @@ fn enter_one(cells: &mut [u64], number: u64, low: u64, high: u64) -> Entry
 }
 
 // Enters those of the pairs' recording numbers that are of the pass.
-fn enter_all(cells: &mut [u64], pairs: &[u64], low: u64, high: u64) -> Entry
-    requires { length cells.old ≡ CELLS }
+fn enter_all(cells: &mut [u64; numbers::CELLS], pairs: &[u64], low: u64, high: u64) -> Entry
     ensures { outcome result cells.new ≡ entered_all (in_pass low high) (map recording (slots_of pairs.now)) cells.old }
 {
     for i in 0..pairs.len() / 2 {
@@ -107,6 +84,7 @@ fn enter_all(cells: &mut [u64], pairs: &[u64], low: u64, high: u64) -> Entry
 fn pass(pairs: &[u64], low: u64, high: u64) -> Entry
     ensures { Tells result (filter (in_pass low high) (map recording (slots_of pairs.now))) }
 {
+    // A set of numbers: memory is fixed, there is no heap.
     let mut cells = [0u64; numbers::CELLS];
     enter_all(&mut cells, pairs, low, high)
 }

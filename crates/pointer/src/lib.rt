@@ -20,6 +20,7 @@ pub fn class(pointer: u64) -> u64
 }
 
 // The pointer of a recording number and a class.
+// The class is a number and no enum: the definitions count with it, and a call refuses a wrong one at its place among its tests.
 pub fn join(recording: u64, access: u64) -> u64
     requires recording_bound { recording < RECORDINGS }
     requires access_bound { access ≤ 2 }

@@ -16,8 +16,8 @@ use Rattle.model.specs.Writes.{middle, split}
 use Rattle.list_laws.proofs.Tools.{and-iff}
 use Rattle.tree_laws.proofs.Rows.{range-iff}
 use Rattle.table_laws.proofs.Nodes.{has-node-iff}
-use Rattle.orders.specs.declared.Pen.{Pen}
-use Rattle.orders.specs.Desk.{Desk, desk, stored_all, Room}
+use Rattle.orders.specs.declared.Writer.{Writer}
+use Rattle.orders.specs.Desk.{Desk, of, Becomes, Makes, stored_all, Room}
 use Rattle.orders.proofs.Rest.{Rest, rest-start, rest-same, rest-none, rest-first, rest-after}
 use Rattle.write.proofs.Parts.{part-table}
 use Rattle.node.specs.Word.{word_of}
@@ -127,44 +127,46 @@ way-pre N k (a ∷ rest) xs ys t ms u =
     go true e ih = rw (e, split_way) ih
     go false e ih = rw (e, split_way)
 
--- what is left of a run: it leads to desk x, with the marks and the node that takes the pair
-pub record Left (N k : ℕ) (rest : List ℕ) (t l ms : Words) (p : Pen) (u : ℕ) (x : Desk) (ms' : Words) (u' : ℕ) : Type 0 where
-  pub stores : Rest (split_way N k rest (going [] t ms u)).stores (desk t l p) x
-  pub marks : (split_way N k rest (going [] t ms u)).marks ≡ ms'
-  pub under : (split_way N k rest (going [] t ms u)).under ≡ u'
+-- what is left of a run, of a writer that was f at first: it leads to desk x, with the marks and the node that takes the pair
+pub record Left (N k : ℕ) (rest : List ℕ) (f w : Writer) (ms : Words) (u : ℕ) (x : Desk) (ms' : Words) (u' : ℕ) : Type 0 where
+  pub stores : Rest (split_way N k rest (going [] w.table.now ms u)).stores f w x
+  pub marks : (split_way N k rest (going [] w.table.now ms u)).marks ≡ ms'
+  pub under : (split_way N k rest (going [] w.table.now ms u)).under ≡ u'
 
-pub left-start : (N k : ℕ) (rest : List ℕ) (t l ms : Words) (p : Pen) (u : ℕ) → Room (split_way N k rest (going [] t ms u)).stores (desk t l p)
-    → let g = split_way N k rest (going [] t ms u) in Left N k rest t l ms p u (stored_all g.stores (desk t l p)) g.marks g.under
-left-start N k rest t l ms p u r = record { stores = rest-start r; marks = refl; under = refl }
+pub left-start : {N k : ℕ} {rest : List ℕ} {w : Writer} {ms : Words} {u : ℕ} → Room (split_way N k rest (going [] w.table.now ms u)).stores (of w)
+    → let g = split_way N k rest (going [] w.table.now ms u) in Left N k rest w w ms u (stored_all g.stores (of w)) g.marks g.under
+left-start r = record { stores = rest-start r; marks = refl; under = refl }
 
 -- the nodes that are left, written otherwise
-pub left-as : {N k : ℕ} (rest us : List ℕ) {t l ms : Words} {p : Pen} {u : ℕ} {x : Desk} {ms' : Words} {u' : ℕ} → rest ≡ us
-    → Left N k rest t l ms p u x ms' u' → Left N k us t l ms p u x ms' u'
-left-as {N} {k} rest us {t} {l} {ms} {p} {u} {x} {ms'} {u'} e w = subst (λ (y : List ℕ). Left N k y t l ms p u x ms' u') e w
+pub left-as : {N k : ℕ} (rest us : List ℕ) {f w : Writer} {ms : Words} {u : ℕ} {x : Desk} {ms' : Words} {u' : ℕ} → rest ≡ us
+    → Left N k rest f w ms u x ms' u' → Left N k us f w ms u x ms' u'
+left-as {N} {k} rest us {f} {w} {ms} {u} {x} {ms'} {u'} e l = subst (λ (y : List ℕ). Left N k y f w ms u x ms' u') e l
 
--- the same, by the whole state
-ended : {N k : ℕ} {rest : List ℕ} {t l ms : Words} {p : Pen} {u : ℕ} {x : Desk} {ms' : Words} {u' : ℕ} → Left N k rest t l ms p u x ms' u'
-    → split_way N k rest (going [] t ms u) ≡ going [] t ms u → (desk t l p ≡ x) × ((ms ≡ ms') × (u ≡ u'))
-ended w e =
-    (rest-none (rest-same (ap (λ (g : Going). g.stores) e) w.stores), (sym (ap (λ (g : Going). g.marks) e) ∙ w.marks, sym (ap (λ (g : Going). g.under) e) ∙ w.under))
+module _ {N k : ℕ} {f w : Writer} {ms : Words} {u : ℕ} {x : Desk} {ms' : Words} {u' : ℕ} where
+  -- the whole state stays
+  ended : {rest : List ℕ} → Left N k rest f w ms u x ms' u' → split_way N k rest (going [] w.table.now ms u) ≡ going [] w.table.now ms u → Becomes f x w × ((ms ≡ ms') × (u ≡ u'))
+  ended l e =
+      (rest-none (rest-same (ap (λ (g : Going). g.stores) e) l.stores), (sym (ap (λ (g : Going). g.marks) e) ∙ l.marks, sym (ap (λ (g : Going). g.under) e) ∙ l.under))
 
-module _ (N k : ℕ) (t l ms : Words) (p : Pen) (u : ℕ) (x : Desk) (ms' : Words) (u' : ℕ) where
-  pub left-end : Left N k [] t l ms p u x ms' u' → (desk t l p ≡ x) × ((ms ≡ ms') × (u ≡ u'))
+  pub left-end : Left N k [] f w ms u x ms' u' → Becomes f x w × ((ms ≡ ms') × (u ≡ u'))
   unfolding split_way
-  left-end w = ended w refl
+  left-end l = ended l refl
 
-  module _ (a : ℕ) (rest : List ℕ) (w : Left N k (a ∷ rest) t l ms p u x ms' u') (b : ℕ) (eb : b ≡ free_after N ms a) where
+  module _ {a : ℕ} {rest : List ℕ} (l : Left N k (a ∷ rest) f w ms u x ms' u') {b : ℕ} (eb : b ≡ free_after N ms a) where
+    abbrev t : Words
+    t = w.table.now
+
     stays : can_split N t a (free_after N ms a) u ≡ false → split_way N k (a ∷ rest) (going [] t ms u) ≡ going [] t ms u
     unfolding split_way
     stays e = rw (e, split_way)
 
-    pub left-stop : can_split N t a b u ≡ false → (desk t l p ≡ x) × ((ms ≡ ms') × (u ≡ u'))
-    left-stop e = ended w (stays (rw eb at e))
+    pub left-stop : can_split N t a b u ≡ false → Becomes f x w × ((ms ≡ ms') × (u ≡ u'))
+    left-stop e = ended l (stays (rw eb at e))
 
     module _ (ok : can_split N t a b u ≡ true) where
       goes : split_way N k (a ∷ rest) (going [] t ms u) ≡ split_way N k rest (going (split t a b u) (apply (split t a b u) t) (put ms b) (cond (ltb k (middle t a).key) a b))
       unfolding split_way
-      goes = let f : can_split N t a (free_after N ms a) u ≡ true = rw eb at ok in rw (f, split_way) (sym (rw eb))
+      goes = let e : can_split N t a (free_after N ms a) u ≡ true = rw eb at ok in rw (e, split_way) (sym (rw eb))
 
       after : (u₁ : ℕ) → u₁ ≡ cond (ltb k (middle t a).key) a b
           → split_way N k (a ∷ rest) (going [] t ms u) ≡ pre (split t a b u) (split_way N k rest (going [] (apply (split t a b u) t) (put ms b) u₁))
@@ -174,23 +176,23 @@ module _ (N k : ℕ) (t l ms : Words) (p : Pen) (u : ℕ) (x : Desk) (ms' : Word
           ∙ ap (λ (zs : List Store). split_way N k rest (going zs (apply ss t) (put ms b) u₁)) (sym (append-nil ss)) ∙ way-pre N k rest ss [] (apply ss t) (put ms b) u₁
 
       whole : (u₁ : ℕ) → u₁ ≡ cond (ltb k (middle t a).key) a b
-          → Rest (split t a b u ++ (split_way N k rest (going [] (apply (split t a b u) t) (put ms b) u₁)).stores) (desk t l p) x
-      whole u₁ e = rest-same (ap (λ (g : Going). g.stores) (after u₁ e)) w.stores
+          → Rest (split t a b u ++ (split_way N k rest (going [] (apply (split t a b u) t) (put ms b) u₁)).stores) f w x
+      whole u₁ e = rest-same (ap (λ (g : Going). g.stores) (after u₁ e)) l.stores
 
-      pub left-room : Room (split t a b u) (desk t l p)
+      pub left-room : Room (split t a b u) (of w)
       left-room = rest-first _ _ (whole _ refl)
 
-      pub left-next : (t₁ l₁ : Words) (p₁ : Pen) → desk t₁ l₁ p₁ ≡ stored_all (split t a b u) (desk t l p) → (ms₁ : Words) → ms₁ ≡ put ms b
-          → (u₁ : ℕ) → u₁ ≡ cond (ltb k (middle t a).key) a b → Left N k rest t₁ l₁ ms₁ p₁ u₁ x ms' u'
-      left-next t₁ l₁ p₁ q ms₁ em u₁ eu =
+      pub left-next : {v : Writer} → Makes (split t a b u) w v → {ms₁ : Words} → ms₁ ≡ put ms b
+          → {u₁ : ℕ} → u₁ ≡ cond (ltb k (middle t a).key) a b → Left N k rest f v ms₁ u₁ x ms' u'
+      left-next {v} q {ms₁} em {u₁} eu =
           let ss = split t a b u in
-          let et : t₁ ≡ apply ss t = part-table ss (λ (y : Words). []) t l p t₁ l₁ p₁ q in
-          let same : split_way N k rest (going [] (apply ss t) (put ms b) u₁) ≡ split_way N k rest (going [] t₁ ms₁ u₁) =
-          ap (λ (y : Words). split_way N k rest (going [] y (put ms b) u₁)) (sym et) ∙ ap (λ (y : Words). split_way N k rest (going [] t₁ y u₁)) (sym em) in
+          let same : split_way N k rest (going [] (apply ss t) (put ms b) u₁) ≡ split_way N k rest (going [] v.table.now ms₁ u₁) =
+          ap (λ (y : Words). split_way N k rest (going [] y (put ms b) u₁)) (sym (part-table ss (λ (y : Words). []) q))
+          ∙ ap (λ (y : Words). split_way N k rest (going [] v.table.now y u₁)) (sym em) in
           record {
             stores = rest-same (ap (λ (g : Going). g.stores) same) (rest-after ss _ (whole u₁ eu) q);
-            marks = sym (ap (λ (g : Going). g.marks) (after u₁ eu ∙ ap (pre ss) same)) ∙ w.marks;
-            under = sym (ap (λ (g : Going). g.under) (after u₁ eu ∙ ap (pre ss) same)) ∙ w.under;
+            marks = sym (ap (λ (g : Going). g.marks) (after u₁ eu ∙ ap (pre ss) same)) ∙ l.marks;
+            under = sym (ap (λ (g : Going). g.under) (after u₁ eu ∙ ap (pre ss) same)) ∙ l.under;
           }
 
 -- ---- the list of nodes, one fewer
@@ -201,9 +203,9 @@ rest-of ns i e h l =
     ∙ ap (λ (y : ℕ). get_or ns i 0 ∷ drop y (take e ns)) (sym (add-one i))
 
 -- the next node of those that are left
-pub left-at : {N k : ℕ} (ns : List ℕ) (i e : ℕ) {t l ms : Words} {p : Pen} {u : ℕ} {x : Desk} {ms' : Words} {u' : ℕ} → i < e → e ≤ length ns
-    → Left N k (drop i (take e ns)) t l ms p u x ms' u' → Left N k (get_or ns i 0 ∷ drop (i + 1) (take e ns)) t l ms p u x ms' u'
-left-at ns i e h l w = left-as _ _ (rest-of ns i e h l) w
+pub left-at : {N k : ℕ} (ns : List ℕ) (i e : ℕ) {f w : Writer} {ms : Words} {u : ℕ} {x : Desk} {ms' : Words} {u' : ℕ} → i < e → e ≤ length ns
+    → Left N k (drop i (take e ns)) f w ms u x ms' u' → Left N k (get_or ns i 0 ∷ drop (i + 1) (take e ns)) f w ms u x ms' u'
+left-at ns i e h n l = left-as _ _ (rest-of ns i e h n) l
 
 pub rest-past : (ns : List ℕ) (i e : ℕ) → e ≤ i → drop i (take e ns) ≡ []
 rest-past ns i e h = drop_of_length-le (take e ns) {i = i} (simp length-take (omega arith))

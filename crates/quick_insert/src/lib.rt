@@ -4,16 +4,9 @@
 ghost use Rattle.std.specs.Prelude.{◌≡◌, cond, [], ◌+◌, ◌*◌, ◌<◌, ◌≤◌, ltb, length, take, drop};
 ghost use Rattle.model.specs.Table.{in_range};
 ghost use Rattle.model.specs.Summary.{full_node, roomy, can_split, going, split_way};
-ghost use Rattle.orders.specs.Desk.{desk, stored_all, Room};
+ghost use Rattle.orders.specs.Desk.{of, Room, Makes};
 
-use orders::Pen;
-
-// An insertion under way: the pen, and the node that takes the next slot.
-#[derive(Clone, Copy)]
-pub struct Going {
-    pub pen: Pen,
-    pub under: u64,
-}
+use orders::Writer;
 
 // Whether node a is one of so many.
 fn in_range(nodes: u64, a: u64) -> bool
@@ -50,45 +43,46 @@ fn half(key: u64, fence: u64, a: u64, b: u64) -> u64
     if key < fence { a } else { b }
 }
 
-// Splits the nodes of the run, the highest first, each into the next node that is not marked.
+// Splits the nodes of the run, the highest first, each into the next node that is not marked. The first new slot goes under the given node,
+// each later one under the half of a split node that takes the key. The answer is the node that takes the next slot.
 pub fn split_run(
-    table: &mut [u64],
-    list: &mut [u64],
+    writer: &mut Writer<'_>,
     marks: &mut [u64],
-    from: Going,
+    under: u64,
     nodes: u64,
     key: u64,
     path: [u64; 16],
     first: usize,
     end: usize,
-) -> Going
-    requires table_len { length table.old ≡ 8 + 32 * nodes }
+) -> u64
+    requires table_len { length writer.old.table.now ≡ 8 + 32 * nodes }
     requires nodes_bound { nodes ≤ 65535 }
     requires nodes_bound_2 { nodes < 64 * length marks.old }
     requires end_bound { end ≤ 16 }
-    requires room { Room (split_way nodes key (drop first (take end path)) (going [] table.old marks.old from.under)).stores
-        (desk table.old list.old from.pen) }
-    ensures pen_after { desk table.new list.new result.pen
-        ≡ stored_all (split_way nodes key (drop first (take end path)) (going [] table.old marks.old from.under)).stores
-        (desk table.old list.old from.pen) }
+    requires room { Room (split_way nodes key (drop first (take end path)) (going [] writer.old.table.now marks.old under)).stores
+        (of writer.old) }
+    ensures stores { Makes (split_way nodes key (drop first (take end path)) (going [] writer.old.table.now marks.old under)).stores
+        writer.old writer.new }
     ensures marks_after { marks.new
-        ≡ (split_way nodes key (drop first (take end path)) (going [] table.old marks.old from.under)).marks }
-    ensures under_value { result.under ≡ (split_way nodes key (drop first (take end path)) (going [] table.old marks.old from.under)).under }
+        ≡ (split_way nodes key (drop first (take end path)) (going [] writer.old.table.now marks.old under)).marks }
+    ensures under_value { result
+        ≡ (split_way nodes key (drop first (take end path)) (going [] writer.old.table.now marks.old under)).under }
 {
-    let mut going = from;
+    let mut p = under;
     for i in first..end {
+        let table = writer.table();
         let a = path[i];
         if !full_node(table, nodes, a) {
-            return going;
+            return p;
         }
         let b = marks::free_after(marks, nodes, a);
-        if !can_split(table, nodes, a, b, going.under) {
-            return going;
+        if !can_split(table, nodes, a, b, p) {
+            return p;
         }
         let fence = node::word(table, a, 18);
-        going.pen = shift::split(table, list, going.pen, a, b, going.under);
+        shift::split(writer, a, b, p);
         bits::put(marks, b as usize);
-        going.under = half(key, fence, a, b);
+        p = half(key, fence, a, b);
     }
-    going
+    p
 }

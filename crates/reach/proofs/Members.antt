@@ -14,14 +14,15 @@ use Rattle.model.specs.SoundTest.{elem, sound_view, sound}
 use Rattle.model.specs.Writes.{standing_in}
 use Rattle.view_laws.proofs.NodeViews.{level_of}
 use Rattle.list_laws.proofs.Tools.{same-test, same-or-not}
-use Rattle.list_laws.proofs.Members.{elem-iff}
+use Rattle.list_laws.proofs.Members.{each-mem, elem-iff}
+use Rattle.list_laws.proofs.Distinct.{UpTo}
 use Rattle.table_laws.proofs.Header.{header-iff}
 use Rattle.tree_laws.proofs.Levels.{Orderly, sound-orderly}
 use Rattle.tree_laws.proofs.SearchLaw.{path-root, reached-iff}
 use Rattle.two_laws.proofs.SearchTwo.{sound-head}
 use Rattle.two_laws.proofs.Arrange.{root-in}
 use Rattle.two_laws.proofs.SameTwo.{first-there}
-use Rattle.two_laws.proofs.CollectionTwo.{root-range, collection-orderly, elem-alone, elem-beside}
+use Rattle.two_laws.proofs.CollectionTwo.{root-range, collection-orderly, elem-alone, elem-beside, reached-up}
 use Rattle.node.specs.Word.{word_of}
 use Rattle.node.proofs.WordLaws.{word-level, word-fence}
 use Rattle.search.proofs.Standing.{header-words}
@@ -91,3 +92,11 @@ root-few t s = omega (arith, sound-few t s, (root-range 1 t (sound-head t s) (fi
 
 pub root-taken : (t : Words) → sound t ≡ true → elem (at t 1) (reached_all t) ≡ true
 root-taken t s = sym (taken-first t (at t 1) true (sym ((elem-iff (at t 1) (reached (view_of 1 t))).1 (root-in (view_of 1 t) (root-orderly t s)))) refl)
+
+-- no node has number 0
+pub zero-free : (t : Words) → sound t ≡ true → elem 0 (reached_all t) ≡ false
+zero-free t s = go (elem 0 (reached_all t)) refl
+  where
+    go : (b : Bool) → elem 0 (reached_all t) ≡ b → elem 0 (reached_all t) ≡ false
+    go false e = e
+    go true e = let h = (each-mem (UpTo (nodes t)) (reached-up t s) ((elem-iff 0 (reached_all t)).0 e)).0 in absurd (omega (arith, h))

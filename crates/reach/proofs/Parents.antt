@@ -25,7 +25,7 @@ use Rattle.two_laws.proofs.Arrange.{trees-one, trees-two}
 use Rattle.two_laws.proofs.SameTwo.{first-there, second-there}
 use Rattle.two_laws.proofs.CollectionTwo.{collection-orderly, elem-beside}
 use Rattle.node.specs.Word.{word_of}
-use Rattle.node.proofs.WordLaws.{word-left, word-sibling, word-level}
+use Rattle.node.proofs.WordLaws.{word-sibling, word-level}
 use Rattle.reach.specs.Marks.{Taken, put_all, named_by, first_parent, named_leaves}
 use Rattle.reach.proofs.Members.{taken-first}
 use Rattle.reach.proofs.Marking.{put_all-append, named-by-taken}
@@ -35,17 +35,6 @@ use Rattle.reach.proofs.Marking.{put_all-append, named-by-taken}
 pub parent-start : (t : Words) (r l : ℕ) → l ≡ word_of t r 2 → leftmost (view_from t r) (l - 1) r ≡ first_parent (view_from t r)
 unfolding first_parent
 parent-start t r l q = rw (q ∙ word-level t r)
-
--- so many levels left, and one less
-pub parent-down : (t : Words) (r n more less m : ℕ) → less + 1 ≡ more → m ≡ word_of t n 0 → leftmost (view_from t r) less m ≡ leftmost (view_from t r) more n
-unfolding leftmost
-parent-down t r n more less m d e =
-    let q : more ≡ suc less = omega arith in
-    rw (q, e ∙ word-left t n)
-
-pub parent-here : (v : View) (n left m : ℕ) → left ≡ 0 → leftmost v left n ≡ m → n ≡ m
-unfolding leftmost
-parent-here v n left m d e = sym (ap (λ (k : ℕ). leftmost v k n) d) ∙ e
 
 -- ---- along the siblings, as the code goes
 

@@ -1,24 +1,24 @@
 -- Nodes passed in a search for a fresh one: which are reached, and which get a mark.
 use mathlib.Core.Path.{◌≡◌, refl, ap, sym, ◌∙◌}
-use mathlib.Core.Bool.{Bool, true, false, cond, ◌&&◌}
-use mathlib.Core.Logic.{◌≢◌}
-use Prim.Native.Nat.{ℕ, zero, suc, ◌+◌, ◌*◌, ◌-◌, ◌%◌, ◌≤◌, ◌<◌}
+use mathlib.Core.Bool.{Bool, true, false}
+use mathlib.Core.Logic.{◌≢◌, ⊎_elim}
+use Prim.Native.Nat.{ℕ, zero, suc, ◌+◌, ◌-◌, ◌≤◌, ◌<◌}
 use native.Mathlib.Numerals.{add-one}
 use native.Mathlib.Omega.{arith}
-use lib.Dec.{eqb, leb}
-use lib.ListN.{length}
-use borrow.Author.Tests.{eq-eqb, ne_eqb, eqb-true, leb-true, leb-false, lt-ltb, le-ltb}
+use lib.Dec.{leb}
+use borrow.Author.Tests.{eq-eqb, ne_eqb, leb-true, leb-false, lt-ltb, le-ltb}
 use Rattle.model.specs.Table.{Words, at, nodes}
 use Rattle.model.specs.Reached.{flat, trees, reached_all}
 use Rattle.model.specs.SoundTest.{elem, sound}
 use Rattle.model.specs.Writes.{numbers}
-use Rattle.bits.specs.Bits.{has, put, full}
-use Rattle.bits.proofs.Marks.{has-put-same, full-marked}
-use Rattle.reach.specs.Marks.{Taken, AllTaken, put_all, named_leaves, marked_once, marked_if, used_run, looked_at, looked_round, fresh_round, fresh_marks}
-use Rattle.reach.proofs.Members.{root-taken}
+use Rattle.list_laws.proofs.Tools.{same-or-not}
+use Rattle.bits.specs.Bits.{has, put}
+use Rattle.reach.specs.Marks.{Taken, AllTaken, put_all, named_leaves, marked_once, marked_if, looked_at, looked_round, fresh_round, fresh_marks}
+use Rattle.reach.proofs.Members.{root-taken, zero-free}
 use Rattle.reach.proofs.Marking.{put-taken, put_all-taken}
 use Rattle.reach.proofs.Parents.{leaves-taken}
-use Rattle.reach.proofs.Unreached.{row-more, first_from}
+use Rattle.marks.proofs.Rows.{first_from as unmarked_from, first-is, none-is}
+use Rattle.reach.proofs.Unreached.{row-more, first_from, first-none, first-here, first-later, first-past}
 
 -- ---- the leaves once
 
@@ -41,76 +41,9 @@ module _ (t ws : Words) (n : ℕ) where
   unfolding marked_if
   if-marked a e = rw (a n e, e)
 
-  pub if-free : elem n (reached_all t) ≡ false → ws ≡ marked_if t ws n
-  unfolding marked_if
-  if-free e = rw e
-
   pub if-new : Taken t n → has ws n ≡ false → (after : Words) → after ≡ put ws n → after ≡ marked_if t ws n
   unfolding marked_if
   if-new k e after q = rw (k, e, q)
-
-  has-if : n < 64 * length ws → Taken t n → has (marked_if t ws n) n ≡ true
-  unfolding marked_if
-  has-if h k = rw k (go (has ws n) refl)
-    where
-      go : (b : Bool) → has ws n ≡ b → has (cond b ws (put ws n)) n ≡ true
-      go true e = e
-      go false e = has-put-same ws n h
-
--- ---- so many at once
-
--- the nodes from n to n + r - 1 are reached; n is not, if r is 0
-pub record Used (t ws : Words) (n r : ℕ) : Type 0 where
-  pub short : r ≤ 64
-  pub run : (m : ℕ) → n ≤ m → m < n + r → Taken t m
-  pub marked : has ws n ≡ true → (m : ℕ) → n ≤ m → m < n + r → has ws m ≡ true
-  pub none : r ≡ 0 → elem n (reached_all t) ≡ false
-  pub some : r ≢ 0 → Taken t n
-
-module _ (t ws : Words) (n : ℕ) where
-  pub run-free : elem n (reached_all t) ≡ false → 0 ≡ used_run t ws n
-  unfolding used_run
-  run-free e = rw e
-
-  pub run-odd : Taken t n → n % 64 ≢ 0 → 1 ≡ used_run t ws n
-  unfolding used_run
-  run-odd k z = rw (k, ne_eqb (n % 64) 0 z)
-
-  pub run-one : Taken t n → n % 64 ≡ 0 → full ws n ≡ false → 1 ≡ used_run t ws n
-  unfolding used_run
-  run-one k z e = rw (k, eq-eqb (n % 64) 0 z, e)
-
-  pub run-word : Taken t n → n % 64 ≡ 0 → full ws n ≡ true → 64 ≡ used_run t ws n
-  unfolding used_run
-  run-word k z e = rw (k, eq-eqb (n % 64) 0 z, e)
-
-  used-none : elem n (reached_all t) ≡ false → Used t ws n 0
-  used-none e = record { short = omega arith; run = λ m a b. absurd (omega arith); marked = λ h m a b. absurd (omega arith); none = λ z. e; some = λ z. absurd (z refl) }
-
-  used-one : Taken t n → Used t ws n 1
-  used-one k =
-      record {
-        short = omega arith;
-        run = λ m a b. let e : m ≡ n = omega arith in rw e k;
-        marked = λ h m a b. let e : m ≡ n = omega arith in rw e h;
-        none = λ z. absurd (omega arith);
-        some = λ z. k;
-      }
-
-  used-word : Taken t n → AllTaken t ws → n % 64 ≡ 0 → full ws n ≡ true → Used t ws n 64
-  used-word k a z e =
-      let all : (m : ℕ) → n ≤ m → m < n + 64 → has ws m ≡ true = λ m p q. full-marked ws n m e (omega arith) in
-      record { short = omega arith; run = λ m p q. a m (all m p q); marked = λ h. all; none = λ z. absurd (omega arith); some = λ z. k }
-
-  pub used-of : (r : ℕ) → AllTaken t ws → r ≡ used_run t ws n → Used t ws n r
-  unfolding used_run
-  used-of r a q = rw q (go (elem n (reached_all t)) (eqb (n % 64) 0) (full ws n) refl refl refl)
-    where
-      go : (x y z : Bool) → elem n (reached_all t) ≡ x → eqb (n % 64) 0 ≡ y → full ws n ≡ z → Used t ws n (cond x (cond (y && z) 64 1) 0)
-      go false y z e f g = used-none e
-      go true false z e f g = used-one e
-      go true true false e f g = used-one e
-      go true true true e f g = used-word e a (eqb-true (n % 64) 0 f) g
 
 -- ---- one by one
 
@@ -130,6 +63,7 @@ module _ (t : Words) where
   unfolding looked_at
   look-one n last ws h k = rw (add-one n, row-more t n last h, k)
 
+  -- a run of marked ones
   look-past : (r n last : ℕ) (ws : Words) → AllTaken t ws → ((m : ℕ) → n ≤ m → m < n + r → has ws m ≡ true) → looked (n + r) last ws ≡ looked n last ws
   look-past zero n last ws a h = let e : n + 0 ≡ n = omega arith in rw e
   look-past (suc r) n last ws a h =
@@ -143,17 +77,52 @@ module _ (t : Words) where
       one true q = ap (looked (n + 1) last) (if-marked t ws n a here) ∙ look-one n last ws (leb-true n last q) (a n here)
       one false q = let g = leb-false n last q in sym (look-none (n + 1) last ws (omega arith)) ∙ look-none n last ws g
 
-  -- a run of them
-  pub look-run : (n last r : ℕ) (ws after : Words) → n ≤ last → n < 64 * length ws → r ≢ 0 → AllTaken t after → r ≡ used_run t after n → after ≡ marked_if t ws n
-      → looked (n + r) last after ≡ looked n last ws
-  look-run n last r ws after h l z a q e =
-      let u = used-of t after n r a q in
-      let k = u.some z in
-      let here : has after n ≡ true = rw e (has-if t ws n l k) in
-      look-past r n last after a (u.marked here)
-      ∙ sym (look-one n last after h k)
-      ∙ ap (looked (n + 1) last) (sym (if-marked t after n a here) ∙ e)
-      ∙ look-one n last ws h k
+  -- ---- the marked ones passed at once: f is the first from n on that is not marked, 0 if there is none
+
+  module _ (n last f : ℕ) (ws : Words) (a : AllTaken t ws) where
+    -- what is left of the row from m on comes to what the row comes to
+    abbrev pub SameFrom : (m : ℕ) → Words → Type 0
+    SameFrom m after = (first_from t m last ≡ first_from t n last) × (looked m last after ≡ looked n last ws)
+
+    same-past : (m : ℕ) → n ≤ m → ((i : ℕ) → n ≤ i → i < m → has ws i ≡ true) → SameFrom m ws
+    same-past m h k =
+        let e : n + (m - n) ≡ m = omega arith in
+        let some : (i : ℕ) → n ≤ i → i < n + (m - n) → has ws i ≡ true = rw e k in
+        rw (← e) (first-past t (m - n) n last (λ i p q. a i (some i p q)), look-past (m - n) n last ws a some)
+
+    module _ (q : f ≡ unmarked_from ws n last) where
+      pub same-here : f ≢ 0 → SameFrom f ws
+      same-here z = let s = first-is ws n last f q z in same-past f s.no-less s.before
+
+      -- a descent finds it reached, and it is marked
+      pub same-after : f ≢ 0 → Taken t f → (after : Words) → after ≡ put ws f → SameFrom (f + 1) after
+      same-after z k after e =
+          let s = first-is ws n last f q z in
+          let p = same-here z in (
+            first-later t f last s.within k ∙ p.0,
+            ap (looked (f + 1) last) (if-new t ws f k s.free after e) ∙ look-one f last ws s.within k ∙ p.1,
+          )
+
+      abbrev pub NoneLeft : Type 0
+      NoneLeft = (0 ≡ first_from t n last) × (ws ≡ looked n last ws)
+
+      pub none-more : sound t ≡ true → f ≡ 0 → NoneLeft
+      none-more s z = ⊎_elim of-none of-some (same-or-not n 0)
+        where
+          of-none : n ≡ 0 → NoneLeft
+          of-none o =
+              let free : elem n (reached_all t) ≡ false = rw o (zero-free t s) in
+              (sym o ∙ sym (first-here t n last (omega (arith, o)) free), look-free n last ws (omega (arith, o)) free)
+
+          row : n ≢ 0 → (b : Bool) → leb n last ≡ b → NoneLeft
+          row o false e = let h = leb-false n last e in (sym (first-none t n last h), look-none n last ws h)
+          row o true e =
+              let h = leb-true n last e in
+              let p = same-past (last + 1) (omega (arith, h)) (λ i b c. none-is ws n last f (omega (arith, o)) q z i b (omega arith)) in
+              (sym (first-none t (last + 1) last (omega arith)) ∙ p.0, look-none (last + 1) last ws (omega arith) ∙ p.1)
+
+          of-some : n ≢ 0 → NoneLeft
+          of-some o = row o (leb n last) refl
 
   -- ---- going round
 

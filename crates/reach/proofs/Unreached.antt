@@ -74,15 +74,15 @@ module _ (t : Words) where
   head-append (x ∷ xs) ys z = refl
 
   -- the two rows of `fresh`, as the code has them
-  rows : (a : ℕ) → 1 ≤ a → fresh t a ≡ head_or 0 (unreached t (numbers (a + 1) (nodes t + 1 - (a + 1))) ++ unreached t (numbers 1 (a - 1 + 1 - 1)))
+  rows : (a : ℕ) → fresh t a ≡ head_or 0 (unreached t (numbers (a + 1) (nodes t + 1 - (a + 1))) ++ unreached t (numbers 1 (a - 1 + 1 - 1)))
   unfolding fresh
-  rows a h =
+  rows a =
       let e : nodes t + 1 - (a + 1) ≡ nodes t - a = omega arith in
       let f : a - 1 + 1 - 1 ≡ pred a = ap (λ (n : ℕ). n + 1 - 1) (sub-one a) ∙ omega arith in
       rw (e, f, add-one a) (ap (head_or 0) (unreached-append (numbers (suc a) (nodes t - a)) (numbers 1 (pred a))))
 
-  pub fresh-after : (a n : ℕ) → 1 ≤ a → n ≡ first_from (a + 1) (nodes t) → n ≢ 0 → n ≡ fresh t a
-  fresh-after a n h e z = e ∙ sym (rows a h ∙ head-append (unreached t (numbers (a + 1) (nodes t + 1 - (a + 1)))) _ (λ y. z (e ∙ y)))
+  pub fresh-after : (a n : ℕ) → n ≡ first_from (a + 1) (nodes t) → n ≢ 0 → n ≡ fresh t a
+  fresh-after a n e z = e ∙ sym (rows a ∙ head-append (unreached t (numbers (a + 1) (nodes t + 1 - (a + 1)))) _ (λ y. z (e ∙ y)))
 
-  pub fresh-round : (a n r : ℕ) → 1 ≤ a → n ≡ first_from (a + 1) (nodes t) → n ≡ 0 → r ≡ first_from 1 (a - 1) → r ≡ fresh t a
-  fresh-round a n r h e z q = q ∙ sym (rows a h ∙ ap (λ (l : List ℕ). head_or 0 (l ++ unreached t (numbers 1 (a - 1 + 1 - 1)))) (empty-row (a + 1) (nodes t + 1 - (a + 1)) (omega arith) (sym e ∙ z)))
+  pub fresh-round : (a n r : ℕ) → n ≡ first_from (a + 1) (nodes t) → n ≡ 0 → r ≡ first_from 1 (a - 1) → r ≡ fresh t a
+  fresh-round a n r e z q = q ∙ sym (rows a ∙ ap (λ (l : List ℕ). head_or 0 (l ++ unreached t (numbers 1 (a - 1 + 1 - 1)))) (empty-row (a + 1) (nodes t + 1 - (a + 1)) (omega arith) (sym e ∙ z)))

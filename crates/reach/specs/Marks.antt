@@ -1,12 +1,12 @@
 -- Nodes marked as bits: which marks are allowed, and which the functions of this crate set.
-use Rattle.std.specs.Prelude.{◌≡◌, true, cond, not, ◌&&◌, List, [], ◌∷◌, ℕ, ◌+◌, ◌-◌, ◌%◌, eqb, ltb, length}
+use Rattle.std.specs.Prelude.{◌≡◌, true, cond, not, ◌&&◌, List, [], ◌∷◌, ℕ, ◌+◌, ◌-◌, eqb, ltb, length}
 use Rattle.model.specs.Table.{Words, at, nodes}
 use Rattle.model.specs.Slots.{View, node_view, view, height}
 use Rattle.model.specs.Reached.{flat, head_or, named, leaves_from, trees, reached_all}
 use Rattle.model.specs.SoundTest.{elem}
 use Rattle.model.specs.Writes.{numbers, unreached}
 use Rattle.walk_laws.specs.Chain.{leftmost}
-use Rattle.bits.specs.Bits.{has, put, full}
+use Rattle.bits.specs.Bits.{has, put}
 
 -- words for a bit of each node
 abbrev pub MARKS : ℕ
@@ -50,10 +50,6 @@ marked_once t marks = cond (has marks (at t 1)) marks (put (put_all (flat named_
 -- node n, if it is reached and not marked
 unfoldable pub marked_if : (t marks : Words) → (n : ℕ) → Words
 marked_if t marks n = cond (elem n (reached_all t)) (cond (has marks n) marks (put marks n)) marks
-
--- so many nodes from n on are passed at once: none if n is not reached, a whole word of marks if all of it is marked and begins with n
-unfoldable pub used_run : (t marks : Words) → (n : ℕ) → ℕ
-used_run t marks n = cond (elem n (reached_all t)) (cond (eqb (n % 64) 0 && full marks n) 64 1) 0
 
 -- nodes looked at one by one, up to the first that is not reached
 unfoldable pub looked_at : Words → List ℕ → (marks : Words) → Words

@@ -13,7 +13,7 @@ ghost use Rattle.bits.specs.Bits.{put};
 ghost use Rattle.slots.specs.Gathered.{slots_in};
 ghost use Rattle.reach.specs.Runs.{full_in, run_after, full_run};
 ghost use Rattle.reach.specs.Marks.{MARKS, Marked};
-ghost use Rattle.reach.specs.Marks.{put_all, named_by, first_parent, named_leaves, marked_once, marked_if, used_run, looked_at, fresh_round, fresh_marks};
+ghost use Rattle.reach.specs.Marks.{put_all, named_by, first_parent, named_leaves, marked_once, looked_at, fresh_round, fresh_marks};
 
 use slots::Ways;
 
@@ -77,18 +77,14 @@ pub fn is_taken(table: &[u64], n: u64) -> bool
     requires { sound table.now ≡ true }
     ensures { result ≡ elem n (reached_all table.now) }
 {
-    if is_reached(table, table[1], n) {
-        return true;
-    }
     let second = table[3];
-    second != 0 && is_reached(table, second, n)
+    is_reached(table, table[1], n) || (second != 0 && is_reached(table, second, n))
 }
 
 // ---- fresh nodes
 
 // Marks node n, if it is one that a table can have.
-fn mark(marks: &mut [u64], n: u64)
-    requires { length marks.old ≡ MARKS }
+fn mark(marks: &mut [u64; MARKS], n: u64)
     ensures { marks.new ≡ put marks.old n }
 {
     if LAST < n {
@@ -98,9 +94,8 @@ fn mark(marks: &mut [u64], n: u64)
 }
 
 // Marks the nodes that ways lead to.
-fn mark_ways(marks: &mut [u64], w: Ways)
-    requires marks_len { length marks.old ≡ MARKS }
-    requires count_bound { w.count ≤ 13 }
+fn mark_ways(marks: &mut [u64; MARKS], w: Ways)
+    requires { w.count ≤ 13 }
     ensures { marks.new ≡ put_all (pointers (slots_in w)) marks.old }
 {
     for &n in &w.pointers[..w.count] {
@@ -108,10 +103,10 @@ fn mark_ways(marks: &mut [u64], w: Ways)
     }
 }
 
-// Marks the children that node n names, if it is reached and no leaf.
-fn mark_children(table: &[u64], marks: &mut [u64], n: u64)
-    requires table_value { sound table.now ≡ true }
-    requires marks_len { length marks.old ≡ MARKS }
+// Marks the children that node n names, if it is reached and no leaf. Table and marks stay two parameters: the table is
+// lent by C, and the marks are an array of the call.
+fn mark_children(table: &[u64], marks: &mut [u64; MARKS], n: u64)
+    requires { sound table.now ≡ true }
     ensures { marks.new ≡ put_all (named_by table.now n) marks.old }
 {
     if node::word(table, n, 2) == 0 {
@@ -129,18 +124,14 @@ fn mark_children(table: &[u64], marks: &mut [u64], n: u64)
 fn first_parent(table: &[u64], root: u64) -> u64
     ensures { result ≡ first_parent (view_from table.now root) }
 {
-    let mut n = root;
-    for _ in 1..node::word(table, root, 2) {
-        n = node::word(table, n, 0);
-    }
-    n
+    let top = node::word(table, root, 2);
+    leaves::leftmost(table, root, top.saturating_sub(1))
 }
 
 // Marks the children that the nodes from this one on along the siblings name. A descent for each of these nodes, so that it need not be known
 // that they are reached.
-fn mark_along(table: &[u64], marks: &mut [u64], first: u64)
-    requires table_value { sound table.now ≡ true }
-    requires marks_len { length marks.old ≡ MARKS }
+fn mark_along(table: &[u64], marks: &mut [u64; MARKS], first: u64)
+    requires { sound table.now ≡ true }
     ensures { marks.new
         ≡ put_all (flat (named_by table.now) (along (view table.now) (nodes table.now) first)) marks.old }
 {
@@ -155,9 +146,8 @@ fn mark_along(table: &[u64], marks: &mut [u64], first: u64)
 }
 
 // Marks the leaves of both trees, but one that lacks its slot or is the root.
-fn mark_all(table: &[u64], marks: &mut [u64])
-    requires table_value { sound table.now ≡ true }
-    requires marks_len { length marks.old ≡ MARKS }
+fn mark_all(table: &[u64], marks: &mut [u64; MARKS])
+    requires { sound table.now ≡ true }
     ensures { marks.new ≡ put_all (flat named_leaves (trees table.now)) marks.old }
 {
     let first = first_parent(table, table[1]);
@@ -166,48 +156,9 @@ fn mark_all(table: &[u64], marks: &mut [u64])
     mark_along(table, marks, second);
 }
 
-// Whether node n is reached from either root: a descent only if it is not marked. What a descent finds is marked too.
-fn is_used(table: &[u64], marks: &mut [u64], n: u64) -> bool
-    requires table_value { sound table.now ≡ true }
-    requires marked { Marked table.now marks.old }
-    requires n_bound { n ≤ 65535 }
-    ensures value { result ≡ elem n (reached_all table.now) }
-    ensures marks_after { marks.new ≡ marked_if table.now marks.old n }
-    ensures marked_2 { Marked table.now marks.new }
-{
-    if bits::has(marks, n as usize) {
-        return true;
-    }
-    if !is_taken(table, n) {
-        return false;
-    }
-    mark(marks, n);
-    true
-}
-
-// So many nodes from node n on are reached: none if n is not, a whole word of marks at once if it begins with n.
-fn used_run(table: &[u64], marks: &mut [u64], n: u64) -> u64
-    requires table_value { sound table.now ≡ true }
-    requires marked { Marked table.now marks.old }
-    requires n_bound { n ≤ 65535 }
-    ensures value { result ≡ used_run table.now marks.new n }
-    ensures marks_after { marks.new ≡ marked_if table.now marks.old n }
-    ensures marked_2 { Marked table.now marks.new }
-{
-    if !is_used(table, marks, n) {
-        return 0;
-    }
-    if n % 64 != 0 {
-        return 1;
-    }
-    if !bits::full(marks, n as usize) {
-        return 1;
-    }
-    64
-}
-
-// The first unreachable node of these, from first to last; 0 if there is none.
-fn first_unreached(table: &[u64], marks: &mut [u64], first: u64, last: u64) -> u64
+// The first unreachable node of these, from first to last; 0 if there is none. A descent for each that is not marked; if it finds the node
+// reached, the node is marked.
+fn first_unreached(table: &[u64], marks: &mut [u64; MARKS], first: u64, last: u64) -> u64
     requires table_value { sound table.now ≡ true }
     requires marked { Marked table.now marks.old }
     requires last_bound { last ≤ 65535 }
@@ -216,19 +167,22 @@ fn first_unreached(table: &[u64], marks: &mut [u64], first: u64, last: u64) -> u
     ensures marked_2 { Marked table.now marks.new }
 {
     let mut n = first;
-    // No range: used_run gives each step.
-    while n <= last {
-        let run = used_run(table, marks, n);
-        if run == 0 {
-            return n;
+    for _ in first..=last {
+        let free = marks::first_free(marks, n, last);
+        if free == 0 {
+            return 0;
         }
-        n += run;
+        if !is_taken(table, free) {
+            return free;
+        }
+        bits::put(marks, free as usize);
+        n = free + 1;
     }
     0
 }
 
 // Marks the leaves, unless the root is marked: then they were.
-fn mark_once(table: &[u64], marks: &mut [u64])
+fn mark_once(table: &[u64], marks: &mut [u64; MARKS])
     requires table_value { sound table.now ≡ true }
     requires marked { Marked table.now marks.old }
     ensures marks_after { marks.new ≡ marked_once table.now marks.old }
@@ -242,10 +196,9 @@ fn mark_once(table: &[u64], marks: &mut [u64])
 }
 
 // The first unreachable node after node a, going round: the leaves are marked first.
-fn fresh_marked(table: &[u64], marks: &mut [u64], a: u64) -> u64
+fn fresh_marked(table: &[u64], marks: &mut [u64; MARKS], a: u64) -> u64
     requires table_value { sound table.now ≡ true }
     requires marked { Marked table.now marks.old }
-    requires le_a { 1 ≤ a }
     requires a_bound { a ≤ nodes table.now }
     ensures value { result ≡ fresh table.now a }
     ensures marks_after { marks.new ≡ fresh_round table.now marks.old a }
@@ -256,27 +209,23 @@ fn fresh_marked(table: &[u64], marks: &mut [u64], a: u64) -> u64
     if n != 0 {
         return n;
     }
-    first_unreached(table, marks, 1, a - 1)
+    first_unreached(table, marks, 1, a.saturating_sub(1))
 }
 
 // The first unreachable node after node a, going round from N to 1; 0 if there is none. The next node is tested by itself: if codes
 // come in order it is the one. Marks save descents, and what is found out is marked: they serve for the next fresh node too.
-pub fn fresh(table: &[u64], marks: &mut [u64], a: u64) -> u64
+pub fn fresh(table: &[u64], marks: &mut [u64; MARKS], a: u64) -> u64
     requires table_value { sound table.now ≡ true }
     requires marked { Marked table.now marks.old }
-    requires le_a { 1 ≤ a }
     requires a_bound { a ≤ nodes table.now }
     ensures value { result ≡ fresh table.now a }
     ensures marks_after { marks.new ≡ fresh_marks table.now marks.old a }
     ensures marked_2 { Marked table.now marks.new }
 {
-    if table[2] <= a {
-        return fresh_marked(table, marks, a);
+    if a < table[2] && !is_taken(table, a + 1) {
+        return a + 1;
     }
-    if is_taken(table, a + 1) {
-        return fresh_marked(table, marks, a);
-    }
-    a + 1
+    fresh_marked(table, marks, a)
 }
 
 // How many nodes are unreachable, from the count of those reached.
@@ -312,10 +261,7 @@ pub fn kept_count(table: &[u64], n: u64) -> u64
 pub fn frees_leaf(table: &[u64], root: u64, p: u64, x: u64) -> bool
     ensures { (n : ℕ) → root ≡ at table.now (root_word n) → result ≡ frees_leaf n table.now p x }
 {
-    if shown_count(table, x) != 1 {
-        return false;
-    }
-    node::word(table, root, 2) != 0 && node::word(table, p, 0) != x
+    shown_count(table, x) == 1 && (node::word(table, root, 2) != 0 && node::word(table, p, 0) != x)
 }
 
 // ---- the run of full nodes

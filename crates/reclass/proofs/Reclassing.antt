@@ -19,8 +19,8 @@ use Rattle.two_laws.proofs.CollectionTwo.{settled-head}
 use Rattle.two_laws.proofs.JudgedTwo.{map-later}
 use Rattle.two_laws.proofs.PartsTwo.{Plain, settled-plain, standing-reached, key-place}
 use Rattle.sound.specs.declared.Sound.{Sound}
-use Rattle.orders.specs.declared.Pen.{Pen}
-use Rattle.orders.specs.Desk.{Desk, desk, first_pen, stored_all, Room}
+use Rattle.orders.specs.declared.Writer.{Writer}
+use Rattle.orders.specs.Desk.{Desk, of, Makes, first_pen, Room}
 use Rattle.write.specs.Judged.{judged}
 use Rattle.write.proofs.Judging.{Passed, judged-ready, ready-accepted, ready-number}
 use Rattle.write.proofs.Ending.{Begun, begun-allows, mended-table, mended-settled, mended-collection, rest-room}
@@ -60,38 +60,37 @@ unfolding stores_of class_stores
 class-stores o t k c = refl
 
 -- an accepted class change, from its first pen on
-pub begun : (o k c dock : ℕ) (t lent : Words) (s : Sound) (pen : Pen) {a : Bool} {r : ℕ} {b : Bool} → judged (no_collection o t) (length lent) dock t ≡ Ok s
-    → a ≡ class_ok c → a ≡ true → r ≡ at t (root_word o) → b ≡ has_key k (mapping (view_from t r)) → b ≡ true → pen ≡ first_pen dock
-    → Begun (class_change o k c) t lent dock pen (classed o k c)
-begun o k c dock t lent s pen j q y f e h g =
-    let p = judged-ready (class_change o k c) (length lent) dock t s j in
-    record { is-sound = p.found.is-sound; accepted = class-accepted o k c (length lent) dock t s j q y f e h; first = g; stores = class-stores o t k c }
+pub begun : (o k c dock : ℕ) {d : Desk} (s : Sound) {a : Bool} {r : ℕ} {b : Bool} → judged (no_collection o d.table) (length d.list) dock d.table ≡ Ok s
+    → a ≡ class_ok c → a ≡ true → r ≡ at d.table (root_word o) → b ≡ has_key k (mapping (view_from d.table r)) → b ≡ true → d.pen ≡ first_pen dock
+    → Begun (class_change o k c) dock d (classed o k c)
+begun o k c dock {d} s j q y f e h g =
+    let p = judged-ready (class_change o k c) (length d.list) dock d.table s j in
+    record { is-sound = p.found.is-sound; accepted = class-accepted o k c (length d.list) dock d.table s j q y f e h; first = g; stores = class-stores o d.table k c }
 
 -- the repair is made
-module _ {o k c dock : ℕ} {t lent : Words} {pen : Pen} (b : Begun (class_change o k c) t lent dock pen (classed o k c)) {t₁ list : Words} {at₁ : Pen}
-    (g : desk t₁ list at₁ ≡ stored_all (repair_stores t) (desk t lent pen)) where
+module _ {o k c dock : ℕ} {w v : Writer} (b : Begun (class_change o k c) dock (of w) (classed o k c)) (g : Makes (repair_stores w.table.now) w v) where
   pub class-low : c ≤ 2
   class-low = (class-iff c).0 (begun-allows b).0
 
-  pub mended-header : header_ok t₁ ≡ true
-  mended-header = settled-head t₁ (mended-settled b g)
+  pub mended-header : header_ok v.table.now ≡ true
+  mended-header = settled-head v.table.now (mended-settled b g)
 
   -- the leaf, by the root that was read
-  module _ {r : ℕ} (f : r ≡ at t₁ (root_word o)) {n : ℕ} (q : n ≡ standing_in (view_from t₁ r) 0 k) where
-    leaf : n ≡ standing o t₁ 0 k
-    leaf = root-stands o t₁ r f n 0 k q
+  module _ {r : ℕ} (f : r ≡ at v.table.now (root_word o)) {n : ℕ} (q : n ≡ standing_in (view_from v.table.now r) 0 k) where
+    leaf : n ≡ standing o v.table.now 0 k
+    leaf = root-stands o v.table.now r f n 0 k q
 
-    pub leaf-plain : Plain t₁ n
+    pub leaf-plain : Plain v.table.now n
     leaf-plain =
         let h = mended-collection b g in
         let s = mended-settled b g in
-        rw leaf (settled-plain o t₁ h s _ (standing-reached o t₁ h s 0 k (omega arith)))
+        rw leaf (settled-plain o v.table.now h s _ (standing-reached o v.table.now h s 0 k (omega arith)))
 
-    pub leaf-place : place_of k (node_view t₁ n).shown < length (node_view t₁ n).shown
-    leaf-place = rw leaf (key-place o t₁ (mended-collection b g) (mended-settled b g) k (rw (mended-table b g) (begun-allows b).1))
+    pub leaf-place : place_of k (node_view v.table.now n).shown < length (node_view v.table.now n).shown
+    leaf-place = rw leaf (key-place o v.table.now (mended-collection b g) (mended-settled b g) k (rw (mended-table b g) (begun-allows b).1))
 
-    pub class-room : Room (set_class_at t₁ n k c) (desk t₁ list at₁)
+    pub class-room : Room (set_class_at v.table.now n k c) (of v)
     class-room = rw leaf (rest-room b g)
 
-    pub class-stored : {d : Desk} → d ≡ stored_all (set_class_at t₁ n k c) (desk t₁ list at₁) → d ≡ stored_all (classed o k c t₁) (desk t₁ list at₁)
+    pub class-stored : {z : Writer} → Makes (set_class_at v.table.now n k c) v z → Makes (classed o k c v.table.now) v z
     class-stored h = rw leaf at h

@@ -5,7 +5,8 @@ ghost use Rattle.std.specs.Prelude.{◌≡◌, length};
 ghost use Rattle.model.specs.Writes.{class_change};
 ghost use Rattle.model.specs.Refusals.{written, table_after, list_after};
 
-use model::{Counts, Refusal, Written};
+use model::{Refusal, Written};
+use orders::{Pen, Writer};
 use sound::Sound;
 
 pub fn set_class(
@@ -27,13 +28,14 @@ pub fn set_class(
     if !write::has_key(table, node::root_of(table, collection), key) {
         return Err(Refusal::KeyAbsent);
     }
-    let mended = write::mend(table, list, write::begin(dock), leftover);
-    let leaf = reach::standing(table, node::root_of(table, collection), 0, key);
-    let set = shift::set_class(table, list, mended, leaf, key, access);
-    let done = orders::finish(list, set);
-    Ok(Counts {
-        stores: done.stores,
-        flushes: done.flushes,
-        barriers: done.barriers,
-    })
+    let mut writer = Writer {
+        table,
+        list,
+        pen: Pen::new(dock),
+    };
+    write::mend(&mut writer, leftover);
+    let root = node::root_of(writer.table(), collection);
+    let leaf = reach::standing(writer.table(), root, 0, key);
+    shift::set_class(&mut writer, leaf, key, access);
+    Ok(writer.finish())
 }

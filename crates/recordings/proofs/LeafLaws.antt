@@ -1,6 +1,6 @@
 -- One leaf, a slot in use more: ranges, hits and entries; and the leaf that is read.
 use mathlib.Core.Path.{◌≡◌, refl, ap, sym, ◌∙◌}
-use mathlib.Core.Bool.{Bool, true, false, cond, ◌&&◌}
+use mathlib.Core.Bool.{Bool, true, false, ◌&&◌}
 use mathlib.Core.Logic.{◌≢◌}
 use mathlib.Core.List.{List, [], ◌∷◌, map, tail}
 use Prim.Native.Nat.{ℕ, zero, suc, ◌+◌, ◌-◌, ◌≤◌}
@@ -24,7 +24,7 @@ use Rattle.numbers.proofs.Once.{Last, known-last, full-last, goes-on, ends}
 use Rattle.slots.specs.declared.Ways.{Ways}
 use Rattle.slots.specs.Scan.{shown_from, keeps, kept_of, is_way}
 use Rattle.slots.specs.Gathered.{span, slots_in}
-use Rattle.slots.proofs.Kept.{kept-more}
+use Rattle.slots.proofs.Kept.{kept-taken, kept-passed}
 use Rattle.bits.specs.Bits.{has}
 use Rattle.recordings.specs.Marked.{uncut, own, kept_in}
 use Rattle.recordings.specs.Rounds.{Hits, hit_if, hit_all}
@@ -100,16 +100,6 @@ other-last Entered z = absurd (z refl)
 other-last Known z = known-last
 other-last Full z = full-last
 
--- by whether it is kept
-module _ (w : Bool) where
-  module _ (q : ℕ → Bool) (place : ℕ → ℕ) (r : ℕ) (h : Hits) where
-    pub hit-kept : (after : Hits) → w ≡ true → after ≡ hit_if q place r h → after ≡ cond w (hit_if q place r h) h
-    hit-kept after e f = f ∙ rw e
-
-  module _ (q : ℕ → Bool) (r : ℕ) (cs : Words) where
-    pub enter-kept : (o : Outcome) → w ≡ true → o ≡ entered_if q cs r → o ≡ cond w (entered_if q cs r) (outcome Entered cs)
-    enter-kept o e f = f ∙ rw e
-
 module _ (s b before : ℕ) where
   pub ok-none : true ≡ all pair_ok (kept_of s b (shown before []))
   unfolding all shown filter
@@ -124,47 +114,43 @@ module _ (s b before : ℕ) where
   enter-none q cs = refl
 
 module _ (s b before k p : ℕ) (ss : List Slot) (w : Bool) (e : w ≡ is_way s b before k p) where
+  abbrev all-slots : List Slot
+  all-slots = kept_of s b (shown before (slot k p ∷ ss))
+
   abbrev rest : List Slot
   rest = kept_of s b (shown p ss)
 
-  here : kept_of s b (shown before (slot k p ∷ ss)) ≡ cond w (slot k p ∷ rest) rest
-  here = kept-more s b before k p ss ∙ ap (λ (a : Bool). cond a (slot k p ∷ rest) rest) (sym e)
+  pub slot-passed : {A : Type 0} (F : List Slot → A) → w ≡ false → F all-slots ≡ F rest
+  slot-passed F n = ap F (kept-passed s b before k p ss e n)
 
-  ok-more : (r : Bool) → r ≡ cond w (pointer_ok p) true → all pair_ok (kept_of s b (shown before (slot k p ∷ ss))) ≡ (r && all pair_ok (kept_of s b (shown p ss)))
-  ok-more r q = ap (all pair_ok) here ∙ go w ∙ ap (λ (a : Bool). a && all pair_ok rest) (sym q)
-    where
-      go : (a : Bool) → all pair_ok (cond a (slot k p ∷ rest) rest) ≡ (cond a (pointer_ok p) true && all pair_ok rest)
-      go true = unfold all in refl
-      go false = refl
+  module _ (y : w ≡ true) where
+    ok-more : (r : Bool) → r ≡ pointer_ok p → all pair_ok all-slots ≡ (r && all pair_ok rest)
+    unfolding all
+    ok-more r q = ap (all pair_ok) (kept-taken s b before k p ss e y) ∙ ap (λ (a : Bool). a && all pair_ok rest) (sym q)
 
-  module _ (r : Bool) (q : r ≡ cond w (pointer_ok p) true) where
-    pub ok-wrong : r ≡ false → all pair_ok (kept_of s b (shown before (slot k p ∷ ss))) ≡ false
-    ok-wrong n = ok-more r q ∙ ap (λ (a : Bool). a && all pair_ok rest) n
+    module _ (r : Bool) (q : r ≡ pointer_ok p) where
+      pub ok-wrong : r ≡ false → all pair_ok all-slots ≡ false
+      ok-wrong n = ok-more r q ∙ ap (λ (a : Bool). a && all pair_ok rest) n
 
-    pub ok-next : r ≡ true → all pair_ok (kept_of s b (shown before (slot k p ∷ ss))) ≡ all pair_ok (kept_of s b (shown p ss))
-    ok-next n = ok-more r q ∙ ap (λ (a : Bool). a && all pair_ok rest) n
+      pub ok-next : r ≡ true → all pair_ok all-slots ≡ all pair_ok rest
+      ok-next n = ok-more r q ∙ ap (λ (a : Bool). a && all pair_ok rest) n
 
-  pub hit-more : (q : ℕ → Bool) (place : ℕ → ℕ) (h after : Hits) → after ≡ cond w (hit_if q place (recording_of p) h) h
-      → hit_all q place (map recording (kept_of s b (shown before (slot k p ∷ ss)))) h ≡ hit_all q place (map recording (kept_of s b (shown p ss))) after
-  hit-more q place h after f =
-      ap (λ (xs : List Slot). hit_all q place (map recording xs) h) here ∙ go w ∙ ap (hit_all q place (map recording rest)) (sym f)
-    where
-      go : (a : Bool) → hit_all q place (map recording (cond a (slot k p ∷ rest) rest)) h ≡ hit_all q place (map recording rest) (cond a (hit_if q place (recording_of p) h) h)
-      go true = unfold hit_all in refl
-      go false = refl
+    pub hit-more : (q : ℕ → Bool) (place : ℕ → ℕ) (h after : Hits) (n : ℕ) → n ≡ recording_of p → after ≡ hit_if q place n h
+        → hit_all q place (map recording all-slots) h ≡ hit_all q place (map recording rest) after
+    unfolding hit_all
+    hit-more q place h after n i f =
+        ap (λ (xs : List Slot). hit_all q place (map recording xs) h) (kept-taken s b before k p ss e y)
+        ∙ ap (hit_all q place (map recording rest)) (sym (f ∙ ap (λ (m : ℕ). hit_if q place m h) i))
 
-  module _ (q : ℕ → Bool) (cs : Words) (a : Entry) (after : Words) (f : outcome a after ≡ cond w (entered_if q cs (recording_of p)) (outcome Entered cs)) where
-    enter-more : entered_all q (map recording (kept_of s b (shown before (slot k p ∷ ss)))) cs ≡ followed (outcome a after) (entered_all q (map recording rest))
-    enter-more =
-        ap (λ (xs : List Slot). entered_all q (map recording xs) cs) here ∙ go w ∙ ap (λ (x : Outcome). followed x (entered_all q (map recording rest))) (sym f)
-      where
-        go : (a : Bool) → entered_all q (map recording (cond a (slot k p ∷ rest) rest)) cs
-            ≡ followed (cond a (entered_if q cs (recording_of p)) (outcome Entered cs)) (entered_all q (map recording rest))
-        go true = unfold entered_all in refl
-        go false = refl
+    module _ (q : ℕ → Bool) (cs : Words) (a : Entry) (after : Words) (n : ℕ) (i : n ≡ recording_of p) (f : outcome a after ≡ entered_if q cs n) where
+      enter-more : entered_all q (map recording all-slots) cs ≡ followed (outcome a after) (entered_all q (map recording rest))
+      unfolding entered_all
+      enter-more =
+          ap (λ (xs : List Slot). entered_all q (map recording xs) cs) (kept-taken s b before k p ss e y)
+          ∙ ap (λ (x : Outcome). followed x (entered_all q (map recording rest))) (sym (f ∙ ap (entered_if q cs) i))
 
-    pub enter-goes : a ≡ Entered → entered_all q (map recording (kept_of s b (shown before (slot k p ∷ ss)))) cs ≡ entered_all q (map recording (kept_of s b (shown p ss))) after
-    enter-goes g = sym (goes-on (entered_all q (map recording rest)) _ (outcome a after) a after enter-more refl g)
+      pub enter-goes : a ≡ Entered → entered_all q (map recording all-slots) cs ≡ entered_all q (map recording rest) after
+      enter-goes g = sym (goes-on (entered_all q (map recording rest)) _ (outcome a after) a after enter-more refl g)
 
-    pub enter-ends : (a ≡ Entered → ⊥) → entered_all q (map recording (kept_of s b (shown before (slot k p ∷ ss)))) cs ≡ outcome a after
-    enter-ends z = sym (ends (entered_all q (map recording rest)) _ (outcome a after) a after enter-more refl a (other-last a z) refl)
+      pub enter-ends : (a ≡ Entered → ⊥) → entered_all q (map recording all-slots) cs ≡ outcome a after
+      enter-ends z = sym (ends (entered_all q (map recording rest)) _ (outcome a after) a after enter-more refl a (other-last a z) refl)

@@ -1,10 +1,11 @@
 -- The nodes passed by their numbers: what is left, from a node on, and what functions of it come to with a node more.
-use mathlib.Core.Path.{◌≡◌, refl, ap, sym, ◌∙◌}
+use mathlib.Core.Path.{◌≡◌, refl, ap, ap₂, sym, ◌∙◌}
 use mathlib.Core.Bool.{Bool, true, false, not, ◌&&◌, ◌||◌, and_assoc}
 use mathlib.Core.List.{List, [], ◌∷◌, ◌++◌, map, map-append, append-nil}
 use Prim.Native.Nat.{ℕ, zero, suc, ◌+◌, ◌-◌, ◌≤◌, ◌<◌}
 use native.Mathlib.Numerals.{add-one}
 use native.Mathlib.Omega.{arith}
+use Rattle.std.specs.List.{list_all, list_any, range_with_len}
 use Rattle.model.specs.Table.{Words, nodes, header_ok}
 use Rattle.model.specs.Slots.{Slot, recording, View}
 use Rattle.model.specs.Reached.{flat}
@@ -19,7 +20,7 @@ use Rattle.numbers.specs.declared.Entry.{Entry}
 use Rattle.numbers.specs.declared.Entry.TheVariants.{Entered}
 use Rattle.numbers.specs.Cells.{outcome, followed, entered_all}
 use Rattle.numbers.proofs.Once.{all-append, goes-on, ends}
-use Rattle.recordings.specs.Marked.{LastMarked, own, own_from, marked_pairs}
+use Rattle.recordings.specs.Marked.{LastMarked, own, own_from, own_numbers, marked_pairs}
 use Rattle.recordings.specs.Rounds.{Hits, hit_if, hit_all}
 use Rattle.recordings.specs.Once.{once_before}
 use Rattle.recordings.proofs.LeafLaws.{other-last}
@@ -56,10 +57,6 @@ row-last v marks last q =
 
 -- A loop over the nodes keeps that F, what the present state and the nodes left come to, is x.
 module _ {A : Type 0} (F : List Slot → A) (v : View) (marks : Words) where
-  pub row-all : (last : ℕ) → last ≡ v.nodes → F (own_from v marks 1 (last + 1 - 1)) ≡ F (marked_pairs v marks)
-  unfolding marked_pairs
-  row-all last q = let e : last + 1 - 1 ≡ last = omega arith in ap (λ (c : ℕ). F (own_from v marks 1 c)) (e ∙ q)
-
   pub row-marked : (last : ℕ) → LastMarked v.nodes marks last → F (own_from v marks 1 (last + 1 - 1)) ≡ F (marked_pairs v marks)
   row-marked last q = ap F (row-last v marks last q)
 
@@ -79,10 +76,6 @@ few-marked t marks last n h q l = let few = q.0 in omega (arith, ((header-iff t)
 
 -- ---- no node left
 
-pub pairs-none : true ≡ all pair_ok []
-unfolding all
-pairs-none = refl
-
 pub hit-none : (q : ℕ → Bool) (place : ℕ → ℕ) (h : Hits) → h ≡ hit_all q place (map recording []) h
 unfolding hit_all
 hit-none q place h = refl
@@ -90,14 +83,6 @@ hit-none q place h = refl
 pub enter-none : (q : ℕ → Bool) (cs : Words) → outcome Entered cs ≡ entered_all q (map recording []) cs
 unfolding entered_all
 enter-none q cs = refl
-
-pub found-none : (r : ℕ) → false ≡ elem r (map recording [])
-unfolding elem
-found-none r = refl
-
-pub once-none : true ≡ distinct (map recording [])
-unfolding distinct
-once-none = refl
 
 -- ---- a node more: what its slots and those after them come to
 
@@ -117,17 +102,36 @@ unfolding hit_all
 hit-append q place [] ys h = refl
 hit-append q place (x ∷ xs) ys h = hit-append q place xs ys (hit_if q place x h)
 
+-- ---- node by node, as a range has their numbers
+
+module _ (v : View) (marks : Words) where
+  pub pairs-rows : (m n : ℕ) → list_all (λ i. all pair_ok (own v marks i)) (range_with_len n m) ≡ all pair_ok (own_from v marks n m)
+  unfolding numbers flat all
+  pairs-rows zero n = refl
+  pairs-rows (suc m) n =
+      ap (λ (b : Bool). all pair_ok (own v marks n) && b) (pairs-rows m (n + 1) ∙ ap (λ (i : ℕ). all pair_ok (own_from v marks i m)) (add-one n))
+      ∙ sym (all-join (own v marks n) (own_from v marks (suc n) m))
+
+  pub found-rows : (r m n : ℕ) → list_any (λ i. elem r (map recording (own v marks i))) (range_with_len n m) ≡ elem r (own_numbers v marks n m)
+  unfolding numbers flat elem
+  found-rows r zero n = refl
+  found-rows r (suc m) n =
+      ap (λ (b : Bool). elem r (map recording (own v marks n)) || b) (found-rows r m (n + 1) ∙ ap (λ (i : ℕ). elem r (own_numbers v marks i m)) (add-one n))
+      ∙ sym (ap (elem r) (map-append recording (own v marks n) (own_from v marks (suc n) m)) ∙ elem-join r (map recording (own v marks n)) (own_numbers v marks (suc n) m))
+
+  -- each node's numbers against those of the nodes after it, up to the last
+  pub once-rows : (last m n : ℕ) → n + m ≡ last + 1
+      → list_all (λ i. once_before (map recording (own v marks i)) (own_numbers v marks (i + 1) (last + 1 - (i + 1)))) (range_with_len n m) ≡ distinct (own_numbers v marks n m)
+  unfolding numbers flat distinct
+  once-rows last zero n e = refl
+  once-rows last (suc m) n e =
+      let left : last + 1 - (n + 1) ≡ m = omega arith in
+      let own-here : List ℕ = map recording (own v marks n) in
+      ap₂ (λ (l : ℕ) (b : Bool). once_before own-here (own_numbers v marks (n + 1) l) && b) left (once-rows last m (n + 1) (omega arith))
+      ∙ ap (λ (i : ℕ). once_before own-here (own_numbers v marks i m) && distinct (own_numbers v marks i m)) (add-one n)
+      ∙ sym (ap distinct (map-append recording (own v marks n) (own_from v marks (suc n) m)) ∙ distinct-append own-here (own_numbers v marks (suc n) m))
+
 module _ (xs ys : List Slot) where
-  module _ (b : Bool) (e : b ≡ all pair_ok xs) where
-    joined : all pair_ok (xs ++ ys) ≡ (b && all pair_ok ys)
-    joined = all-join xs ys ∙ ap (λ (a : Bool). a && all pair_ok ys) (sym e)
-
-    pub pairs-wrong : b ≡ false → all pair_ok (xs ++ ys) ≡ false
-    pairs-wrong n = joined ∙ ap (λ (a : Bool). a && all pair_ok ys) n
-
-    pub pairs-next : b ≡ true → all pair_ok (xs ++ ys) ≡ all pair_ok ys
-    pairs-next n = joined ∙ ap (λ (a : Bool). a && all pair_ok ys) n
-
   pub hit-next : (q : ℕ → Bool) (place : ℕ → ℕ) (h after : Hits) → after ≡ hit_all q place (map recording xs) h → hit_all q place (map recording (xs ++ ys)) h ≡ hit_all q place (map recording ys) after
   hit-next q place h after e =
       ap (λ (zs : List ℕ). hit_all q place zs h) (map-append recording xs ys) ∙ hit-append q place (map recording xs) (map recording ys) h
@@ -142,26 +146,6 @@ module _ (xs ys : List Slot) where
 
     pub enter-last : (a ≡ Entered → ⊥) → entered_all q (map recording (xs ++ ys)) cs ≡ outcome a after
     enter-last z = sym (ends (entered_all q (map recording ys)) _ (entered_all q (map recording xs) cs) a after enter-join e a (other-last a z) refl)
-
-  module _ (r : ℕ) (b : Bool) (e : b ≡ elem r (map recording xs)) where
-    found : elem r (map recording (xs ++ ys)) ≡ (b || elem r (map recording ys))
-    found = ap (elem r) (map-append recording xs ys) ∙ elem-join r (map recording xs) (map recording ys) ∙ ap (λ (a : Bool). a || elem r (map recording ys)) (sym e)
-
-    pub found-here : b ≡ true → elem r (map recording (xs ++ ys)) ≡ true
-    found-here y = found ∙ ap (λ (a : Bool). a || elem r (map recording ys)) y
-
-    pub found-later : b ≡ false → elem r (map recording (xs ++ ys)) ≡ elem r (map recording ys)
-    found-later n = found ∙ ap (λ (a : Bool). a || elem r (map recording ys)) n
-
-  module _ (b : Bool) (e : b ≡ once_before (map recording xs) (map recording ys)) where
-    once : distinct (map recording (xs ++ ys)) ≡ (b && distinct (map recording ys))
-    once = ap distinct (map-append recording xs ys) ∙ distinct-append (map recording xs) (map recording ys) ∙ ap (λ (a : Bool). a && distinct (map recording ys)) (sym e)
-
-    pub once-wrong : b ≡ false → distinct (map recording (xs ++ ys)) ≡ false
-    once-wrong n = once ∙ ap (λ (a : Bool). a && distinct (map recording ys)) n
-
-    pub once-next : b ≡ true → distinct (map recording (xs ++ ys)) ≡ distinct (map recording ys)
-    once-next y = once ∙ ap (λ (a : Bool). a && distinct (map recording ys)) y
 
 -- ---- both tests
 

@@ -2,30 +2,32 @@
 // are passed by number, in the order of memory.
 #![tactic(auto)]
 
-ghost use Rattle.std.specs.Prelude.{◌≡◌, true, false, cond, map, ◌+◌, ◌-◌, ◌≤◌, ◌<◌, length, take, drop};
+ghost use Rattle.std.specs.Prelude.{◌≡◌, true, false, map, ◌+◌, ◌-◌, ◌≤◌, ◌<◌, take, drop};
 ghost use Rattle.model.specs.Table.{nodes, header_ok};
-ghost use Rattle.model.specs.Slots.{recording_of, recording, view, pointer_ok};
+ghost use Rattle.model.specs.Slots.{recording_of, recording, view};
 ghost use Rattle.model.specs.SoundTest.{all, elem, distinct, pair_ok, recordings_ok};
 ghost use Rattle.node.specs.Word.{word_of};
-ghost use Rattle.numbers.specs.Cells.{CELLS, outcome, entered_if, entered_all, Tells};
-ghost use Rattle.recordings.specs.Marked.{MARKS, NoneOf, LastMarked, own, own_numbers, marked_pairs, marked_numbers, kept_in};
-ghost use Rattle.recordings.specs.Rounds.{PLACES, ONCE, TWICE, place_of, hits, hit, hit_if, hit_all, suspect, Stays};
+ghost use Rattle.numbers.specs.Cells.{outcome, entered_if, entered_all, Tells};
+ghost use Rattle.recordings.specs.Marked.{NoneOf, LastMarked, own, own_numbers, marked_pairs, marked_numbers, kept_in};
+ghost use Rattle.recordings.specs.Rounds.{PLACES, place_of, hits, hit, hit_if, hit_all, suspect, Stays};
 ghost use Rattle.recordings.specs.Once.{once_before};
 
 use model::Node;
-use numbers::Entry;
+use numbers::{CELLS, Entry};
 use slots::Ways;
 
 // ---- the leaves among the marked nodes
 
 // The word of the marks with the number of the node that may show slots from its sibling's fence up.
-const UNCUT: usize = 1024;
+pub const UNCUT: usize = 1024;
+
+// Words for a bit of each node, and that one.
+pub const MARKS: usize = 1025;
 
 // Node n, if it is marked and a leaf; else a record without slots. But for the one node a sibling is left out: its fence, which lies anywhere
 // in the table, need not be read.
-fn leaf(table: &[u64], marks: &[u64], n: u64) -> Node
-    requires marks_len { length marks.now ≡ MARKS }
-    requires n_bound { n ≤ 65535 }
+fn leaf(table: &[u64], marks: &[u64; MARKS], n: u64) -> Node
+    requires { n ≤ 65535 }
     ensures { kept_in result (word_of table.now result.sibling 3) ≡ own (view table.now) marks.now n }
 {
     if !bits::has(marks, n as usize) {
@@ -42,9 +44,8 @@ fn leaf(table: &[u64], marks: &[u64], n: u64) -> Node
 }
 
 // So many numbers from m down, at least, are not marked: those of its word if that is 0.
-fn unmarked(marks: &[u64], m: usize) -> usize
-    requires marks_len { length marks.now ≡ MARKS }
-    requires m_bound { m ≤ 65535 }
+fn unmarked(marks: &[u64; MARKS], m: usize) -> usize
+    requires { m ≤ 65535 }
     ensures none_of { NoneOf marks.now m result }
     ensures upper_bound { result ≤ 64 }
 {
@@ -58,9 +59,8 @@ fn unmarked(marks: &[u64], m: usize) -> usize
 }
 
 // A node above which none is marked, so that a pass takes as long as there are nodes in use, however many the table has.
-fn last_marked(table: &[u64], marks: &[u64]) -> u64
-    requires table_value { header_ok table.now ≡ true }
-    requires marks_len { length marks.now ≡ MARKS }
+fn last_marked(table: &[u64], marks: &[u64; MARKS]) -> u64
+    requires { header_ok table.now ≡ true }
     ensures { LastMarked (nodes table.now) marks.now result }
 {
     let mut m = leaves::word_at(table, 2);
@@ -77,16 +77,8 @@ fn last_marked(table: &[u64], marks: &[u64]) -> u64
 
 // ---- each pair in range
 
-// Walks over slots and nodes are loops, here and below, and no function with a closure: of one that writes to what it captures a proof knows nothing.
-
-// Whether a slot, if it is kept, has a recording number and a class that there are.
-fn slot_ok(kept: bool, pointer: u64) -> bool
-    ensures { result ≡ cond kept (pointer_ok pointer) true }
-{
-    !kept || pointer::ok(pointer)
-}
-
-// Whether each kept slot of a leaf has.
+// Whether each kept slot of a leaf has a recording number and a class that there are.
+// Loops, here and below: the pointer before a slot says if it is shown, and slots gathered first (as in ways) would be copied in each pass.
 fn leaf_ok(x: Node, bound: u64) -> bool
     ensures { result ≡ all pair_ok (kept_in x bound) }
 {
@@ -96,8 +88,7 @@ fn leaf_ok(x: Node, bound: u64) -> bool
         if p == 0 {
             return true;
         }
-        let kept = slots::is_way(x.sibling, bound, before, x.slots[2 * i], p);
-        if !slot_ok(kept, p) {
+        if slots::is_way(x.sibling, bound, before, x.slots[2 * i], p) && !pointer::ok(p) {
             return false;
         }
         before = p;
@@ -106,23 +97,21 @@ fn leaf_ok(x: Node, bound: u64) -> bool
 }
 
 // Whether each kept slot of all has.
-fn pairs_ok(table: &[u64], marks: &[u64]) -> bool
-    requires table_value { header_ok table.now ≡ true }
-    requires marks_len { length marks.now ≡ MARKS }
+fn pairs_ok(table: &[u64], marks: &[u64; MARKS]) -> bool
+    requires { header_ok table.now ≡ true }
     ensures { result ≡ all pair_ok (marked_pairs (view table.now) marks.now) }
 {
     let last = last_marked(table, marks);
-    for n in 1..last + 1 {
+    (1..last + 1).all(|n| {
         let x = leaf(table, marks, n);
-        let bound = node::word(table, x.sibling, 3);
-        if !leaf_ok(x, bound) {
-            return false;
-        }
-    }
-    true
+        leaf_ok(x, node::word(table, x.sibling, 3))
+    })
 }
 
 // ---- a round: suspects by bits
+
+// The walks that hit and those that enter differ in one step. A closure for it would write to what it captures, and of that a proof knows nothing.
+// What a round needs is lent part by part: the table is C's, the marks are the check's, and two of the three arrays change places after a round.
 
 // Words of a bit for each place of a round, and for each two of them.
 const ONCE: usize = 16384;
@@ -149,18 +138,16 @@ fn place(round: u64, number: u64) -> usize
 }
 
 // Whether a number is a suspect in a round, by the pairs of places of which one was hit twice in the round before.
-fn is_suspect(twice: &[u64], round: u64, number: u64) -> bool
-    requires { length twice.now ≡ TWICE }
+fn is_suspect(twice: &[u64; TWICE], round: u64, number: u64) -> bool
     ensures { result ≡ suspect round twice.now number }
 {
     round == 0 || bits::has(twice, place(round - 1, number) / 2)
 }
 
 // Hits a place: its first hit is marked, at a later one its pair. Whether any was hit twice, this one or one before.
-fn hit(once: &mut [u64], twice: &mut [u64], at: usize, crowded: bool) -> bool
-    requires once_len { length once.old ≡ ONCE }
-    requires twice_len { length twice.old ≡ TWICE }
-    requires at_bound { at < PLACES }
+// Whether one before was, crowded, is data: it becomes the answer, and chooses no step.
+fn hit(once: &mut [u64; ONCE], twice: &mut [u64; TWICE], at: usize, crowded: bool) -> bool
+    requires { at < PLACES }
     ensures { hits once.new twice.new result ≡ hit at (hits once.old twice.old crowded) }
 {
     if bits::has(once, at) {
@@ -171,27 +158,18 @@ fn hit(once: &mut [u64], twice: &mut [u64], at: usize, crowded: bool) -> bool
     crowded
 }
 
-// Hits the place of a slot's recording number, if the slot is kept and the number a suspect.
-fn hit_slot(
-    olds: &[u64],
-    once: &mut [u64],
-    twice: &mut [u64],
+// Hits the place of a recording number, if it is a suspect.
+fn hit_number(
+    olds: &[u64; TWICE],
+    once: &mut [u64; ONCE],
+    twice: &mut [u64; TWICE],
     round: u64,
-    kept: bool,
-    pointer: u64,
+    number: u64,
     crowded: bool,
 ) -> bool
-    requires olds_len { length olds.now ≡ TWICE }
-    requires once_len { length once.old ≡ ONCE }
-    requires twice_len { length twice.old ≡ TWICE }
-    ensures { hits once.new twice.new result ≡ cond kept
-        (hit_if (suspect round olds.now) (place_of round) (recording_of pointer) (hits once.old twice.old crowded))
-        (hits once.old twice.old crowded) }
+    ensures { hits once.new twice.new result
+        ≡ hit_if (suspect round olds.now) (place_of round) number (hits once.old twice.old crowded) }
 {
-    if !kept {
-        return crowded;
-    }
-    let number = pointer::recording(pointer);
     if !is_suspect(olds, round, number) {
         return crowded;
     }
@@ -201,17 +179,14 @@ fn hit_slot(
 
 // Hits the places of a leaf's suspects; crowded is the answer for those before it.
 fn hit_leaf(
-    olds: &[u64],
-    once: &mut [u64],
-    twice: &mut [u64],
+    olds: &[u64; TWICE],
+    once: &mut [u64; ONCE],
+    twice: &mut [u64; TWICE],
     round: u64,
     x: Node,
     bound: u64,
     mut crowded: bool,
 ) -> bool
-    requires olds_len { length olds.now ≡ TWICE }
-    requires once_len { length once.old ≡ ONCE }
-    requires twice_len { length twice.old ≡ TWICE }
     ensures { hits once.new twice.new result
         ≡ hit_all (suspect round olds.now) (place_of round) (map recording (kept_in x bound))
         (hits once.old twice.old crowded) }
@@ -222,8 +197,9 @@ fn hit_leaf(
         if p == 0 {
             return crowded;
         }
-        let kept = slots::is_way(x.sibling, bound, before, x.slots[2 * i], p);
-        crowded = hit_slot(olds, once, twice, round, kept, p, crowded);
+        if slots::is_way(x.sibling, bound, before, x.slots[2 * i], p) {
+            crowded = hit_number(olds, once, twice, round, pointer::recording(p), crowded);
+        }
         before = p;
     }
     crowded
@@ -231,18 +207,14 @@ fn hit_leaf(
 
 // Hits the places of all suspects; whether any was hit twice.
 fn hit_leaves(
-    olds: &[u64],
-    once: &mut [u64],
-    twice: &mut [u64],
+    olds: &[u64; TWICE],
+    once: &mut [u64; ONCE],
+    twice: &mut [u64; TWICE],
     table: &[u64],
-    marks: &[u64],
+    marks: &[u64; MARKS],
     round: u64,
 ) -> bool
-    requires olds_len { length olds.now ≡ TWICE }
-    requires once_len { length once.old ≡ ONCE }
-    requires twice_len { length twice.old ≡ TWICE }
-    requires table_value { header_ok table.now ≡ true }
-    requires marks_len { length marks.now ≡ MARKS }
+    requires { header_ok table.now ≡ true }
     ensures { hits once.new twice.new result
         ≡ hit_all (suspect round olds.now) (place_of round) (marked_numbers (view table.now) marks.now)
         (hits once.old twice.old false) }
@@ -259,17 +231,10 @@ fn hit_leaves(
 
 // ---- few suspects: entered into cells
 
-// Enters a slot's recording number, if the slot is kept and the number a suspect.
-fn enter_slot(cells: &mut [u64], twice: &[u64], round: u64, kept: bool, pointer: u64) -> Entry
-    requires cells_len { length cells.old ≡ CELLS }
-    requires twice_len { length twice.now ≡ TWICE }
-    ensures { outcome result cells.new ≡ cond kept
-        (entered_if (suspect round twice.now) cells.old (recording_of pointer)) (outcome Entry.Entered cells.old) }
+// Enters a recording number, if it is a suspect.
+fn enter_number(cells: &mut [u64; CELLS], twice: &[u64; TWICE], round: u64, number: u64) -> Entry
+    ensures { outcome result cells.new ≡ entered_if (suspect round twice.now) cells.old number }
 {
-    if !kept {
-        return Entry::Entered;
-    }
-    let number = pointer::recording(pointer);
     if !is_suspect(twice, round, number) {
         return Entry::Entered;
     }
@@ -277,9 +242,13 @@ fn enter_slot(cells: &mut [u64], twice: &[u64], round: u64, kept: bool, pointer:
 }
 
 // Enters a leaf's suspects.
-fn enter_leaf(cells: &mut [u64], twice: &[u64], round: u64, x: Node, bound: u64) -> Entry
-    requires cells_len { length cells.old ≡ CELLS }
-    requires twice_len { length twice.now ≡ TWICE }
+fn enter_leaf(
+    cells: &mut [u64; CELLS],
+    twice: &[u64; TWICE],
+    round: u64,
+    x: Node,
+    bound: u64,
+) -> Entry
     ensures { outcome result cells.new
         ≡ entered_all (suspect round twice.now) (map recording (kept_in x bound)) cells.old }
 {
@@ -289,10 +258,11 @@ fn enter_leaf(cells: &mut [u64], twice: &[u64], round: u64, x: Node, bound: u64)
         if p == 0 {
             return Entry::Entered;
         }
-        let kept = slots::is_way(x.sibling, bound, before, x.slots[2 * i], p);
-        match enter_slot(cells, twice, round, kept, p) {
-            Entry::Entered => {}
-            last => return last,
+        if slots::is_way(x.sibling, bound, before, x.slots[2 * i], p) {
+            match enter_number(cells, twice, round, pointer::recording(p)) {
+                Entry::Entered => {}
+                last => return last,
+            }
         }
         before = p;
     }
@@ -300,11 +270,14 @@ fn enter_leaf(cells: &mut [u64], twice: &[u64], round: u64, x: Node, bound: u64)
 }
 
 // Enters all suspects.
-fn enter_leaves(cells: &mut [u64], twice: &[u64], table: &[u64], marks: &[u64], round: u64) -> Entry
-    requires cells_len { length cells.old ≡ CELLS }
-    requires twice_len { length twice.now ≡ TWICE }
-    requires table_value { header_ok table.now ≡ true }
-    requires marks_len { length marks.now ≡ MARKS }
+fn enter_leaves(
+    cells: &mut [u64; CELLS],
+    twice: &[u64; TWICE],
+    table: &[u64],
+    marks: &[u64; MARKS],
+    round: u64,
+) -> Entry
+    requires { header_ok table.now ≡ true }
     ensures { outcome result cells.new
         ≡ entered_all (suspect round twice.now) (marked_numbers (view table.now) marks.now) cells.old }
 {
@@ -323,9 +296,8 @@ fn enter_leaves(cells: &mut [u64], twice: &[u64], table: &[u64], marks: &[u64], 
 // ---- the last resort: each number compared with all after it
 
 // The ways down from node n, if it is marked and a leaf: the first, then its kept slots.
-fn ways(table: &[u64], marks: &[u64], n: u64) -> Ways
-    requires marks_len { length marks.now ≡ MARKS }
-    requires n_bound { n ≤ 65535 }
+fn ways(table: &[u64], marks: &[u64; MARKS], n: u64) -> Ways
+    requires { n ≤ 65535 }
     ensures numbers { map recording_of (take (result.count - 1) (drop 1 result.pointers)) ≡ map recording (own (view table.now) marks.now n) }
     ensures count_low { 1 ≤ result.count }
     ensures count_high { result.count ≤ 13 }
@@ -343,55 +315,40 @@ fn repeats(pointers: &[u64], recording: u64) -> bool
 }
 
 // Whether a recording number is in a leaf from node first on.
-fn appears(table: &[u64], marks: &[u64], first: u64, recording: u64) -> bool
-    requires table_value { header_ok table.now ≡ true }
-    requires marks_len { length marks.now ≡ MARKS }
+fn appears(table: &[u64], marks: &[u64; MARKS], first: u64, recording: u64) -> bool
+    requires { header_ok table.now ≡ true }
     ensures { result
         ≡ elem recording (own_numbers (view table.now) marks.now first (nodes table.now + 1 - first)) }
 {
     let last = leaves::word_at(table, 2);
-    for n in first..last + 1 {
+    (first..last + 1).any(|n| {
         let w = ways(table, marks, n);
-        if repeats(&w.pointers[1..w.count], recording) {
-            return true;
-        }
-    }
-    false
+        repeats(&w.pointers[1..w.count], recording)
+    })
 }
 
 // Whether no recording number of a leaf's pointers comes again in it or in the leaves from the next node on.
-fn leaf_once(table: &[u64], marks: &[u64], pointers: &[u64], next: u64) -> bool
-    requires table_value { header_ok table.now ≡ true }
-    requires marks_len { length marks.now ≡ MARKS }
+fn leaf_once(table: &[u64], marks: &[u64; MARKS], pointers: &[u64], next: u64) -> bool
+    requires { header_ok table.now ≡ true }
     ensures { result ≡ once_before (map recording_of pointers.now)
         (own_numbers (view table.now) marks.now next (nodes table.now + 1 - next)) }
 {
-    for (i, &p) in pointers.iter().enumerate() {
+    pointers.iter().enumerate().all(|(i, &p)| {
         let number = pointer::recording(p);
-        if repeats(&pointers[i + 1..], number) {
-            return false;
-        }
-        if appears(table, marks, next, number) {
-            return false;
-        }
-    }
-    true
+        !repeats(&pointers[i + 1..], number) && !appears(table, marks, next, number)
+    })
 }
 
 // No recording number is there twice: each is compared with all after it. For numbers chosen so that they crowd the same places.
-fn compared_once(table: &[u64], marks: &[u64]) -> bool
-    requires table_value { header_ok table.now ≡ true }
-    requires marks_len { length marks.now ≡ MARKS }
+fn compared_once(table: &[u64], marks: &[u64; MARKS]) -> bool
+    requires { header_ok table.now ≡ true }
     ensures { result ≡ distinct (marked_numbers (view table.now) marks.now) }
 {
     let last = leaves::word_at(table, 2);
-    for n in 1..last + 1 {
+    (1..last + 1).all(|n| {
         let w = ways(table, marks, n);
-        if !leaf_once(table, marks, &w.pointers[1..w.count], n + 1) {
-            return false;
-        }
-    }
-    true
+        leaf_once(table, marks, &w.pointers[1..w.count], n + 1)
+    })
 }
 
 // ---- all of them
@@ -399,18 +356,14 @@ fn compared_once(table: &[u64], marks: &[u64]) -> bool
 // A round, and the suspects that it leaves entered into cells: whether a number is there twice, unless the cells get full. The words of
 // places serve as cells after it.
 fn step(
-    olds: &[u64],
-    once: &mut [u64],
-    twice: &mut [u64],
+    olds: &[u64; TWICE],
+    once: &mut [u64; ONCE],
+    twice: &mut [u64; TWICE],
     table: &[u64],
-    marks: &[u64],
+    marks: &[u64; MARKS],
     round: u64,
 ) -> Entry
-    requires olds_len { length olds.now ≡ TWICE }
-    requires once_len { length once.old ≡ ONCE }
-    requires twice_len { length twice.old ≡ TWICE }
     requires table_value { header_ok table.now ≡ true }
-    requires marks_len { length marks.now ≡ MARKS }
     requires round_bound { round ≤ 6 }
     requires stays { Stays (suspect round olds.now) (marked_numbers (view table.now) marks.now) }
     ensures tells { Tells result (marked_numbers (view table.now) marks.now) }
@@ -426,11 +379,11 @@ fn step(
 }
 
 // No recording number is there twice.
-fn once(table: &[u64], marks: &[u64]) -> bool
-    requires table_value { header_ok table.now ≡ true }
-    requires marks_len { length marks.now ≡ MARKS }
+fn once(table: &[u64], marks: &[u64; MARKS]) -> bool
+    requires { header_ok table.now ≡ true }
     ensures { result ≡ distinct (marked_numbers (view table.now) marks.now) }
 {
+    // Fixed memory, no heap. Three arrays, each lent by itself: after a round two of them change places by reference, and none is copied.
     let mut places = [0u64; ONCE];
     let mut even = [0u64; TWICE];
     let mut odd = [0u64; TWICE];
@@ -447,13 +400,9 @@ fn once(table: &[u64], marks: &[u64]) -> bool
 }
 
 // Whether the recording numbers and classes of the leaves among the marked nodes are right.
-pub fn ok(table: &[u64], marks: &[u64]) -> bool
-    requires table_value { header_ok table.now ≡ true }
-    requires marks_len { length marks.now ≡ MARKS }
+pub fn ok(table: &[u64], marks: &[u64; MARKS]) -> bool
+    requires { header_ok table.now ≡ true }
     ensures { result ≡ recordings_ok (marked_pairs (view table.now) marks.now) }
 {
-    if !pairs_ok(table, marks) {
-        return false;
-    }
-    once(table, marks)
+    pairs_ok(table, marks) && once(table, marks)
 }

@@ -25,7 +25,7 @@ fn enter_nodes(table: &[u64], top: u64, order: &mut [u16]) -> Counts
     requires { (header_ok table.now ≡ true) × (top ≡ nodes table.now) × (length order.old ≡ 65536) }
     ensures { Toured table.now top order.new result.first result.all }
 {
-    // A set of numbers as bits, and a stack in two arrays: memory is fixed, there is no heap.
+    // A set of numbers as bits, and a stack in two arrays, three bytes an entry: memory is fixed, there is no heap.
     let mut marks = [0u64; 1024];
     let mut stack = [0u16; 65536];
     let mut ways = [0u8; 65536];
@@ -53,7 +53,7 @@ fn needed_both(table: &[u64], pairs: Both<usize>) -> usize
 }
 
 // At least as many as the pairs kept, and too many for the table only if these are: the slots in use, if their packing fits; else the
-// pairs kept, which takes far longer to know.
+// pairs kept, which takes far longer to know. table and order come one by one: the one is C's, the other an array of the call.
 fn most_kept(table: &[u64], top: u64, order: &[u16], counts: Counts) -> Both<usize>
     requires { Toured table.now top order.now counts.first counts.all }
     ensures most { Most table.now result.one result.two }
@@ -66,12 +66,9 @@ fn most_kept(table: &[u64], top: u64, order: &[u16], counts: Counts) -> Both<usi
     if needed_both(table, used) <= top as usize {
         return used;
     }
-    let least = keeping::count_kept(table, top, &order[..first]);
-    let other = keeping::count_kept(table, top, &order[first..all]);
-    Both {
-        one: least,
-        two: other,
-    }
+    let one = keeping::count_kept(table, top, &order[..first]);
+    let two = keeping::count_kept(table, top, &order[first..all]);
+    Both { one, two }
 }
 
 // ---- the new table
@@ -108,7 +105,7 @@ fn fill(
     }
 }
 
-// The nodes of the new table, and the report, if at most so many pairs are kept of each collection. The second root is 0 where there is none.
+// The nodes of the new table, and the report, if at most so many pairs are kept of each collection. The second root is 0 if there is none.
 fn fill_both(
     table: &[u64],
     top: u64,

@@ -9,6 +9,7 @@ ghost use Rattle.script_bytes.specs.Input.{do_request, print_on, finished};
 ghost use Rattle.script.specs.Spoken.{desk_of, answer_to, silent, Left, Told};
 
 use model::Written;
+pub use node::first_table;
 use script_bytes::{LineState, Request};
 
 // What a piece of the input led to: the line so far, how many of its bytes were used, and how many bytes are to be written.
@@ -21,16 +22,7 @@ pub struct Said {
 
 // ---- what the printer starts with
 
-// The empty table of 4 nodes.
-pub fn first_table() -> [u64; 136]
-    ensures { result ≡ first_desk.table }
-{
-    let mut table = [0u64; 136];
-    let _ = node::make(&mut table, 1);
-    table
-}
-
-// The order list of zeros.
+// The order list of zeros; the table is the first table of `node`.
 pub fn first_list() -> [u64; 2560]
     ensures { result ≡ first_desk.list }
 {
@@ -53,6 +45,8 @@ fn act(table: &mut [u64], list: &mut [u64], request: Request) -> Written
 
 // A line carried out, and its text put at the buffer's start; how many bytes that is. The buffer has 24 bytes for each of the list's
 // words and 48 more, as below. A line of another form is refused with 0.
+// The caller chooses the list's length, and the buffer's goes by it, here and below: array types would fix both.
+// Table, list and buffer are three slices of the caller's, lent one by one.
 fn end_line(table: &mut [u64], list: &mut [u64], out: &mut [u8], line: LineState) -> usize
     requires { 24 * length list.old + 48 ≤ length out.old }
     ensures { Left (do_request (request line) (desk_of table.old list.old))

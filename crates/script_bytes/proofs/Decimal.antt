@@ -1,9 +1,9 @@
 -- Numbers in decimal: their digits, how many, and that they read back.
-use mathlib.Core.Path.{◌≡◌, refl, ap, ◌∙◌}
+use mathlib.Core.Path.{◌≡◌, refl, sym, ap, ◌∙◌}
 use mathlib.Core.Bool.{true}
 use mathlib.Core.List.{[], ◌∷◌, ◌++◌, map, map-append}
-use Prim.Native.Nat.{ℕ, zero, suc, ◌+◌, ◌-◌, ◌/◌, ◌%◌, ◌^◌, ◌≤◌, ◌<◌}
-use native.Mathlib.Nat.{pow-suc, div-lt_iff_lt-mul, mod-lt, mod-eq_of_lt, div-add-mod'}
+use Prim.Native.Nat.{ℕ, zero, suc, ◌+◌, ◌*◌, ◌/◌, ◌%◌, ◌^◌, max, ◌≤◌, ◌<◌}
+use native.Mathlib.Nat.{pow-suc, one-le-pow, div-lt_iff_lt-mul, mod-lt, mod-eq_of_lt, div-add-mod'}
 use native.Mathlib.Numerals.{add-one}
 use native.Mathlib.Decide.{dec_lt}
 use native.Mathlib.Omega.{arith}
@@ -38,13 +38,26 @@ one-digit (suc f) n p h = rw (decimal-small f n h)
 tenth : (f n : ℕ) → n < 10 ^ suc f → n / 10 < 10 ^ f
 tenth f n h = (div-lt_iff_lt-mul {k = 10} {x = n} {y = 10 ^ f} (lit< tt)).1 (rw (pow-suc 10 f) at h)
 
-pub digit-less : (f n : ℕ) → 10 ≤ n → n < 10 ^ f
-    → (1 < f) × (n / 10 < 10 ^ (f - 1)) × (length (decimal_from f n) ≡ length (decimal_from (f - 1) (n / 10)) + 1)
-digit-less zero n l h = absurd (omega arith)
-digit-less (suc zero) n l h = absurd (omega arith)
-digit-less (suc (suc f)) n l h =
-    let p : suc (suc f) - 1 ≡ suc f = omega arith in
-    rw (p, decimal-large (suc f) n l, length-append) (omega arith, tenth (suc f) n h, refl)
+digit-less : (f n : ℕ) → 10 ≤ n → length (decimal_from (suc f) n) ≡ length (decimal_from f (n / 10)) + 1
+digit-less f n l = rw (decimal-large f n l, length-append)
+
+digits-many : (k f n : ℕ) → k < f → 10 ^ k ≤ n → n < 10 * 10 ^ k → length (decimal_from f n) ≡ k + 1
+digits-many k zero n p l h = absurd (omega arith)
+digits-many zero (suc f) n p l h = one-digit (suc f) n (omega arith) (omega (arith, h))
+digits-many (suc k) (suc f) n p l h =
+    let a : 10 ^ suc k ≡ 10 ^ k * 10 = pow-suc 10 k in
+    let ih = digits-many k f (n / 10) (omega arith) (omega (arith, a, l)) (omega (arith, a, h)) in
+    omega (arith, digit-less f n (omega (arith, a, one-le-pow k 10 (lit< tt), l)), ih)
+
+-- a number has a digit more than the logarithm says; 0 has as many as 1
+pub digits-of : (n m k : ℕ) → m ≡ max n 1 → k < 20 → 10 ^ k ≤ m → m < 10 * 10 ^ k → length (decimal n) ≡ k + 1
+unfolding decimal
+digits-of n m k e p l h = go (dec_lt n 1)
+  where
+    go : Dec (n < 1) → length (decimal_from 20 n) ≡ k + 1
+    go (yes z) = one-digit 20 n (omega arith) (omega arith) ∙ sym (one-digit 20 1 (omega arith) (omega arith))
+        ∙ digits-many k 20 1 p (omega (arith, e, z, l)) (omega (arith, e, z, h))
+    go (no z) = digits-many k 20 n p (omega (arith, e, z, l)) (omega (arith, e, z, h))
 
 pub width-most : (f n : ℕ) → length (decimal_from f n) ≤ f
 unfolding decimal_from

@@ -4,7 +4,7 @@ use mathlib.Core.Bool.{Bool, true, false, cond, ◌&&◌, ◌||◌}
 use mathlib.Core.List.{List, [], ◌∷◌, ◌++◌, append-nil, append_assoc}
 use Prim.Native.Nat.{ℕ, ◌+◌, ◌*◌, ◌≤◌, ◌<◌}
 use native.Mathlib.Omega.{arith}
-use lib.Dec.{eqb, ltb, leb}
+use lib.Dec.{eqb, leb}
 use lib.ListN.{length, take}
 use borrow.Author.Tests.{eqb-true}
 use Rattle.std.specs.Prelude.{Ok, Err}
@@ -13,7 +13,7 @@ use Rattle.model.specs.Table.{MARK}
 use Rattle.model.specs.Codes.{is_digit, value, parse}
 use Rattle.model.specs.Writes.{insertion, deletion}
 use Rattle.model.specs.Printer.{Bytes, at_first, lines, fields, Form, plus, minus, other, form_of, Desk, Reply, reply, with_key, do_form, do_line, do_lines, first_desk, printer}
-use Rattle.script_bytes.specs.Line.{Asked, begin, next_place, with_character, with_digit, entered, step, after, further, line_in, insertion_of, deletion_of, request, request_of, begun}
+use Rattle.script_bytes.specs.Line.{Asked, begin, next_place, with_digit, entered, step, after, further, line_in, insertion_of, deletion_of, request, request_of, begun}
 use Rattle.script_bytes.specs.Input.{Reading, reading, read_byte, read_bytes, read_pieces, joined, line_done, finished, carried, do_request, print_on, opening}
 use Rattle.script_bytes.specs.declared.LineState.{LineState}
 use Rattle.script_bytes.specs.declared.LineRead.{LineRead}
@@ -42,11 +42,11 @@ placed-begun true x y e f = e
 placed-begun false x y e f = f
 
 entered-begun : (p : Place) (s : LineState) (b : ℕ) → begun p ≡ true → begun (entered p s b).place ≡ true
-unfolding begun entered with_character with_digit
+unfolding begun entered with_digit
 entered-begun Start s b e = e
 entered-begun Sign s b e = refl
 entered-begun CodeStart s b e = refl
-entered-begun Code s b e = placed-begun (ltb s.count 12) _ _ refl refl
+entered-begun Code s b e = refl
 entered-begun RecordingStart s b e = refl
 entered-begun Recording s b e = placed-begun (is_digit b && leb (s.recording * 10 + value b) MARK) _ _ refl refl
 entered-begun Other s b e = refl

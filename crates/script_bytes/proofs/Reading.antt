@@ -2,11 +2,11 @@
 use mathlib.Core.Path.{◌≡◌, refl, sym, ap, ◌∙◌}
 use mathlib.Core.Bool.{Bool, true, false, cond, ◌&&◌, and-false}
 use mathlib.Core.List.{List, [], ◌∷◌, ◌++◌, map, append-nil, append_assoc}
-use Prim.Native.Nat.{ℕ, min, ◌+◌, ◌*◌, ◌≤◌, ◌<◌}
+use Prim.Native.Nat.{ℕ, min, ◌+◌, ◌*◌, ◌≤◌}
 use native.Mathlib.Numerals.{add-one}
 use native.Mathlib.Omega.{arith}
 use lib.Dec.{eqb, ltb, leb}
-use lib.ListN.{length, take, set, replicate, length-append, length-set}
+use lib.ListN.{length, take, replicate, length-append, length-set}
 use lib.Seq.{take_all, take-suc-set}
 use borrow.Author.Tests.{ltb-true, ltb-false, leb-true, leb-false, eqb-true, eqb-false, le-leb, lt-leb, ne_eqb}
 use Rattle.isrc.proofs.Codes.{parse-other}
@@ -16,7 +16,8 @@ use Rattle.model.specs.Table.{MARK}
 use Rattle.model.specs.Codes.{is_digit, is_code, value, read_on, number, parse}
 use Rattle.model.specs.Lists.{all}
 use Rattle.model.specs.Printer.{Bytes, at_first, fields, plus, other, decimal_value, is_recording, just_is, form_of}
-use Rattle.script_bytes.specs.Line.{Asked, begin, next_place, moved, with_character, with_digit, entered, step, after, code_of, insertion_of, request_at, request, request_of}
+use Rattle.script_bytes.specs.Line.{Asked, begin, next_place, moved, longer, with_digit, entered, step, after, code_of, insertion_of, request_at, request, request_of}
+use Rattle.script_bytes.specs.declared.Characters.{Characters}
 use Rattle.script_bytes.specs.declared.LineState.{LineState}
 use Rattle.script_bytes.specs.declared.Place.{Place}
 use Rattle.script_bytes.specs.declared.Place.TheVariants.{Sign, CodeStart, Code, RecordingStart, Recording, Other}
@@ -37,11 +38,11 @@ reading-grows n (d ∷ ds) = omega (arith, reading-grows (n * 10 + d) ds)
 
 -- line s with the recording r so far
 abbrev recorded : LineState → ℕ → LineState
-recorded s r = record { place = Recording; plus = s.plus; code = s.code; count = s.count; recording = r }
+recorded s r = record { place = Recording; plus = s.plus; code = s.code; recording = r }
 
 -- what a recording that goes on with the bytes l comes to
 abbrev recorded_as : LineState → ℕ → Bytes → Asked
-recorded_as s r l = cond (all is_digit l && leb (read_on 10 r (map value l)) MARK) (insertion_of (code_of s) (read_on 10 r (map value l))) (Ok None)
+recorded_as s r l = cond (all is_digit l && leb (read_on 10 r (map value l)) MARK) (insertion_of (code_of s.code) (read_on 10 r (map value l))) (Ok None)
 
 digit-yes : (s : LineState) (r b : ℕ) → is_digit b ≡ true → leb (r * 10 + value b) MARK ≡ true
     → with_digit (recorded s r) b ≡ recorded s (r * 10 + value b)
@@ -69,7 +70,7 @@ after-recording s r (b ∷ bs) h = go (is_digit b) (leb (r * 10 + value b) MARK)
 
 -- from the space before it on
 after-recording-start : (s : LineState) (l : Bytes)
-    → request (after (moved (recorded s 0) RecordingStart) l) ≡ cond (is_recording l) (insertion_of (code_of s) (decimal_value l)) (Ok None)
+    → request (after (moved (recorded s 0) RecordingStart) l) ≡ cond (is_recording l) (insertion_of (code_of s.code) (decimal_value l)) (Ok None)
 unfolding after step entered next_place with_digit request_at is_recording number
 after-recording-start s [] = refl
 after-recording-start s (b ∷ bs) = after-recording s 0 (b ∷ bs) (omega arith)
@@ -153,49 +154,56 @@ no-code f l = go (cut l)
 -- ---- the code
 
 -- of the bytes that were read of a code the first 12 are kept, and their number up to 13
-record Held (code : List ℕ) (count : ℕ) (text : Bytes) : Type 0 where
-  long : length code ≡ 12
-  counted : count ≡ min (length text) 13
-  kept : length text ≤ 12 → take count code ≡ text
+record Held (code : Characters) (text : Bytes) : Type 0 where
+  long : length code.bytes ≡ 12
+  counted : code.count ≡ min (length text) 13
+  kept : length text ≤ 12 → take code.count code.bytes ≡ text
 
-held-start : Held (replicate 12 0) 0 []
+abbrev no-byte : Characters
+no-byte = record { bytes = replicate 12 0; count = 0 }
+
+held-start : Held no-byte []
 held-start = record { long = refl; counted = refl; kept = λ h. refl }
 
-held-more : (code : List ℕ) (count : ℕ) (text : Bytes) (b : ℕ) → Held code count text → count < 12
-    → Held (set code count b) (count + 1) (text ++ (b ∷ []))
-held-more code count text b h l =
-    let n = length-append text (b ∷ []) in
-    record {
-      long = rw length-set h.long;
-      counted = omega (arith, n, h.counted);
-      kept = λ g. rw (add-one, take-suc-set code count b (omega (arith, h.long)), h.kept (omega (arith, n)));
-    }
-
-held-full : (code : List ℕ) (count : ℕ) (text : Bytes) (b : ℕ) → Held code count text → 12 ≤ count
-    → Held code 13 (text ++ (b ∷ []))
-held-full code count text b h l =
-    let n = length-append text (b ∷ []) in
-    record {
-      long = h.long;
-      counted = omega (arith, n, h.counted);
-      kept = λ g. absurd (omega (arith, n, h.counted));
-    }
+held-more : (code : Characters) (text : Bytes) (b : ℕ) → Held code text → Held (longer code b) (text ++ (b ∷ []))
+unfolding longer
+held-more code text b h = go (ltb code.count 12) refl
+  where
+    go : (t : Bool) → ltb code.count 12 ≡ t → Held (longer code b) (text ++ (b ∷ []))
+    go true e =
+        let n = length-append text (b ∷ []) in
+        let l = ltb-true code.count 12 e in
+        rw e
+        (record {
+          long = rw length-set h.long;
+          counted = omega (arith, n, h.counted);
+          kept = λ g. rw (add-one, take-suc-set code.bytes code.count b (omega (arith, h.long)), h.kept (omega (arith, n)));
+        })
+    go false e =
+        let n = length-append text (b ∷ []) in
+        let l = ltb-false code.count 12 e in
+        rw e
+        (record {
+          long = h.long;
+          counted = omega (arith, n, h.counted);
+          kept = λ g. absurd (omega (arith, n, h.counted));
+        })
 
 -- a line whose code was read in part
-abbrev coded : Bool → List ℕ → ℕ → LineState
-coded p code count = record { place = Code; plus = p; code = code; count = count; recording = 0 }
+abbrev coded : Bool → Characters → LineState
+coded p code = record { place = Code; plus = p; code = code; recording = 0 }
 
 -- and so a code of 12 bytes is parsed, and any other is none
-held-code : (p : Bool) (code : List ℕ) (count : ℕ) (text : Bytes) → Held code count text → code_of (coded p code count) ≡ parse text
+held-code : (code : Characters) (text : Bytes) → Held code text → code_of code ≡ parse text
 unfolding code_of is_code
-held-code p code count text h = go (eqb count 12) refl
+held-code code text h = go (eqb code.count 12) refl
   where
-    go : (t : Bool) → eqb count 12 ≡ t → code_of (coded p code count) ≡ parse text
+    go : (t : Bool) → eqb code.count 12 ≡ t → code_of code ≡ parse text
     go true e =
-        let n : count ≡ 12 = eqb-true count 12 e in
-        rw (e, code_of) (ap parse (sym (take_all count code (omega (arith, h.long))) ∙ h.kept (omega (arith, h.counted))))
+        let n : code.count ≡ 12 = eqb-true code.count 12 e in
+        rw (e, code_of) (ap parse (sym (take_all code.count code.bytes (omega (arith, h.long))) ∙ h.kept (omega (arith, h.counted))))
     go false e =
-        let n : length text ≡ 12 → ⊥ = λ n. eqb-false count 12 e (omega (arith, h.counted)) in
+        let n : length text ≡ 12 → ⊥ = λ n. eqb-false code.count 12 e (omega (arith, h.counted)) in
         rw (e, code_of) (sym (parse-other text (rw (ne_eqb (length text) 12 n))))
 
 -- the first field goes on after these bytes
@@ -211,75 +219,61 @@ abbrev sign_of : Bool → ℕ
 sign_of true = 43
 sign_of false = 45
 
--- one character more
-character-more : (p : Bool) (code : List ℕ) (count : ℕ) (text : Bytes) (b : ℕ) → Held code count text
-    → (code' : List ℕ) × (count' : ℕ) × (with_character (coded p code count) b ≡ coded p code' count') × Held code' count' (text ++ (b ∷ []))
-unfolding with_character
-character-more p code count text b h = go (ltb count 12) refl
-  where
-    go : (t : Bool) → ltb count 12 ≡ t
-        → (code' : List ℕ) × (count' : ℕ) × (with_character (coded p code count) b ≡ coded p code' count') × Held code' count' (text ++ (b ∷ []))
-    go true e = (set code count b, count + 1, rw e, held-more code count text b h (ltb-true count 12 e))
-    go false e = (code, 13, rw e, held-full code count text b h (ltb-false count 12 e))
-
 asked-plus : (t : Bool) (x : Parsed) (text : Bytes) (r : ℕ) → x ≡ parse text
     → cond t (insertion_of x r) (Ok None) ≡ request_of (cond t (plus text r) other)
 asked-plus true x text r e = rw e
 asked-plus false x text r e = refl
 
 -- the space after the code
-code-space : (p : Bool) (code : List ℕ) (count c : ℕ) (cs l : Bytes) → Held code count (c ∷ cs)
-    → request (after (step (coded p code count) 32) l) ≡ request_of (form_of ((sign_of p ∷ []) ∷ (c ∷ cs) ∷ fields l))
+code-space : (p : Bool) (code : Characters) (c : ℕ) (cs l : Bytes) → Held code (c ∷ cs)
+    → request (after (step (coded p code) 32) l) ≡ request_of (form_of ((sign_of p ∷ []) ∷ (c ∷ cs) ∷ fields l))
 unfolding step entered next_place
-code-space true code count c cs l h =
+code-space true code c cs l h =
     rw (recording-form c cs l)
-    (after-recording-start (coded true code count) l ∙ asked-plus (is_recording l) _ (c ∷ cs) (decimal_value l) (held-code true code count (c ∷ cs) h))
-code-space false code count c cs l h = rw (no-field-more (c ∷ cs) l) (after-other (coded false code count) l)
+    (after-recording-start (coded true code) l ∙ asked-plus (is_recording l) _ (c ∷ cs) (decimal_value l) (held-code code (c ∷ cs) h))
+code-space false code c cs l h = rw (no-field-more (c ∷ cs) l) (after-other (coded false code) l)
 
-step-code : (p : Bool) (code : List ℕ) (count b : ℕ) → eqb b 32 ≡ false → step (coded p code count) b ≡ with_character (coded p code count) b
+step-code : (p : Bool) (code : Characters) (b : ℕ) → eqb b 32 ≡ false → step (coded p code) b ≡ coded p (longer code b)
 unfolding step entered next_place
-step-code p code count b e = rw e
+step-code p code b e = rw e
 
 -- what a line asks whose code was read up to these bytes and that goes on with l
 abbrev goes_on : Bool → Bytes → Bytes → Asked
 goes_on p text l = request_of (form_of ((sign_of p ∷ []) ∷ onward text (fields l)))
 
-code-byte : (p : Bool) (code : List ℕ) (count c : ℕ) (cs : Bytes) (b : ℕ) (bs : Bytes) → Held code count (c ∷ cs)
-    → ((code' : List ℕ) (count' : ℕ) → Held code' count' (c ∷ cs ++ (b ∷ [])) → request (after (coded p code' count') bs) ≡ goes_on p (c ∷ cs ++ (b ∷ [])) bs)
-    → request (after (step (coded p code count) b) bs) ≡ goes_on p (c ∷ cs) (b ∷ bs)
-code-byte p code count c cs b bs h ih = go (eqb b 32) refl
+code-byte : (p : Bool) (code : Characters) (c : ℕ) (cs : Bytes) (b : ℕ) (bs : Bytes) → Held code (c ∷ cs)
+    → ((code' : Characters) → Held code' (c ∷ cs ++ (b ∷ [])) → request (after (coded p code') bs) ≡ goes_on p (c ∷ cs ++ (b ∷ [])) bs)
+    → request (after (step (coded p code) b) bs) ≡ goes_on p (c ∷ cs) (b ∷ bs)
+code-byte p code c cs b bs h ih = go (eqb b 32) refl
   where
-    go : (t : Bool) → eqb b 32 ≡ t → request (after (step (coded p code count) b) bs) ≡ goes_on p (c ∷ cs) (b ∷ bs)
-    go true e = rw (eqb-true b 32 e, fields-space, append-nil) (code-space p code count c cs bs h)
-    go false e =
-        let m = character-more p code count (c ∷ cs) b h in
-        rw (step-code p code count b e, m.2, fields-other b bs e, onward-first) (ih m.0 m.1 m.3)
+    go : (t : Bool) → eqb b 32 ≡ t → request (after (step (coded p code) b) bs) ≡ goes_on p (c ∷ cs) (b ∷ bs)
+    go true e = rw (eqb-true b 32 e, fields-space, append-nil) (code-space p code c cs bs h)
+    go false e = rw (step-code p code b e, fields-other b bs e, onward-first) (ih (longer code b) (held-more code (c ∷ cs) b h))
 
-after-code : (p : Bool) (code : List ℕ) (count c : ℕ) (cs l : Bytes) → Held code count (c ∷ cs)
-    → request (after (coded p code count) l) ≡ goes_on p (c ∷ cs) l
+after-code : (p : Bool) (code : Characters) (c : ℕ) (cs l : Bytes) → Held code (c ∷ cs) → request (after (coded p code) l) ≡ goes_on p (c ∷ cs) l
 unfolding after request_at form_of fields
-after-code true code count c cs [] h = refl
-after-code false code count c cs [] h = rw (append-nil, held-code false code count (c ∷ cs) h)
-after-code p code count c cs (b ∷ bs) h = code-byte p code count c cs b bs h (λ code' count'. after-code p code' count' c (cs ++ (b ∷ [])) bs)
+after-code true code c cs [] h = refl
+after-code false code c cs [] h = rw (append-nil, held-code code (c ∷ cs) h)
+after-code p code c cs (b ∷ bs) h = code-byte p code c cs b bs h (λ code'. after-code p code' c (cs ++ (b ∷ [])) bs)
 
 -- ---- the space before the code, the sign, the whole line
 
 abbrev signed : Bool → Place → LineState
-signed p place = record { place = place; plus = p; code = replicate 12 0; count = 0; recording = 0 }
+signed p place = record { place = place; plus = p; code = no-byte; recording = 0 }
 
 first-onward : (b : ℕ) (fs : List Bytes) → at_first b fs ≡ onward (b ∷ []) fs
 first-onward b [] = refl
 first-onward b (f ∷ fs) = refl
 
 code-start-byte : (p : Bool) (b : ℕ) (bs : Bytes) → request (after (step (signed p CodeStart) b) bs) ≡ request_of (form_of ((sign_of p ∷ []) ∷ fields (b ∷ bs)))
-unfolding step entered next_place with_character
+unfolding step entered next_place
 code-start-byte p b bs = go (eqb b 32) refl
   where
     go : (t : Bool) → eqb b 32 ≡ t → request (after (step (signed p CodeStart) b) bs) ≡ request_of (form_of ((sign_of p ∷ []) ∷ fields (b ∷ bs)))
     go true e = rw (eqb-true b 32 e, fields-space, no-code) (after-other (signed p CodeStart) bs)
     go false e =
         rw (e, fields-other b bs e, first-onward b (fields bs))
-        (after-code p (set (replicate 12 0) 0 b) 1 b [] bs (held-more (replicate 12 0) 0 [] b held-start (omega arith)))
+        (after-code p (longer no-byte b) b [] bs (held-more no-byte [] b held-start))
 
 after-code-start : (p : Bool) (l : Bytes) → request (after (signed p CodeStart) l) ≡ request_of (form_of ((sign_of p ∷ []) ∷ fields l))
 unfolding after request_at form_of fields

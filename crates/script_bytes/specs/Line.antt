@@ -8,6 +8,7 @@ use Rattle.model.specs.Table.{MARK}
 use Rattle.model.specs.Printer.{Bytes, Form, plus, minus, other}
 use Rattle.script_bytes.specs.declared.Place.{Place}
 use Rattle.script_bytes.specs.declared.Place.TheVariants.{Start, Sign, CodeStart, Code, RecordingStart, Recording, Other}
+use Rattle.script_bytes.specs.declared.Characters.{Characters}
 use Rattle.script_bytes.specs.declared.LineState.{LineState}
 use Rattle.script_bytes.specs.declared.LineRead.{LineRead}
 use Rattle.script_bytes.specs.declared.Request.{Request}
@@ -15,7 +16,7 @@ use Rattle.script_bytes.specs.declared.Request.TheVariants.{Insertion, Deletion}
 
 -- no byte yet
 abbrev pub begin : LineState
-begin = record { place = Start; plus = false; code = replicate 12 0; count = 0; recording = 0 }
+begin = record { place = Start; plus = false; code = record { bytes = replicate 12 0; count = 0 }; recording = 0 }
 
 -- ---- one byte more
 
@@ -31,24 +32,26 @@ next_place Other p b = Other
 
 -- at another place, all else the same
 abbrev pub moved : LineState → Place → LineState
-moved s p = record { place = p; plus = s.plus; code = s.code; count = s.count; recording = s.recording }
+moved s p = record { place = p; plus = s.plus; code = s.code; recording = s.recording }
 
 -- with its sign b
 abbrev pub with_sign : LineState → ℕ → LineState
-with_sign s b = record { place = Sign; plus = eqb b 43; code = s.code; count = s.count; recording = s.recording }
+with_sign s b = record { place = Sign; plus = eqb b 43; code = s.code; recording = s.recording }
 
--- b is one character more of the code: the first 12 are kept, and any number above counts as 13
-unfoldable pub with_character : LineState → ℕ → LineState
-with_character s b =
-    cond (ltb s.count 12)
-    (record { place = Code; plus = s.plus; code = set s.code s.count b; count = s.count + 1; recording = s.recording })
-    (record { place = Code; plus = s.plus; code = s.code; count = 13; recording = s.recording })
+-- one character more: the first 12 are kept, and any number above counts as 13
+unfoldable pub longer : Characters → ℕ → Characters
+longer t b =
+    cond (ltb t.count 12) (record { bytes = set t.bytes t.count b; count = t.count + 1 }) (record { bytes = t.bytes; count = 13 })
+
+-- b is one character more of the code
+abbrev pub with_character : LineState → ℕ → LineState
+with_character s b = record { place = Code; plus = s.plus; code = longer s.code b; recording = s.recording }
 
 -- b is one byte more of the recording: a digit, which leaves it within a word
 unfoldable pub with_digit : LineState → ℕ → LineState
 with_digit s b =
     cond (is_digit b && leb (s.recording * 10 + value b) MARK)
-    (record { place = Recording; plus = s.plus; code = s.code; count = s.count; recording = s.recording * 10 + value b })
+    (record { place = Recording; plus = s.plus; code = s.code; recording = s.recording * 10 + value b })
     (moved s Other)
 
 -- byte b at the place that it leads to
@@ -87,8 +90,8 @@ abbrev pub Asked : Type 0
 Asked = Result (Option Request) Refusal
 
 -- the code that was read
-unfoldable pub code_of : LineState → Parsed
-code_of s = cond (eqb s.count 12) (parse s.code) (refused_with 1)
+unfoldable pub code_of : Characters → Parsed
+code_of t = cond (eqb t.count 12) (parse t.bytes) (refused_with 1)
 
 abbrev pub insertion_of : Parsed → ℕ → Asked
 insertion_of (Ok k) r = Ok (Some (Insertion k r))
@@ -103,9 +106,9 @@ unfoldable pub request_at : Place → LineState → Asked
 request_at Start s = Ok None
 request_at Sign s = Ok None
 request_at CodeStart s = Ok None
-request_at Code s = cond s.plus (Ok None) (deletion_of (code_of s))
+request_at Code s = cond s.plus (Ok None) (deletion_of (code_of s.code))
 request_at RecordingStart s = Ok None
-request_at Recording s = insertion_of (code_of s) s.recording
+request_at Recording s = insertion_of (code_of s.code) s.recording
 request_at Other s = Ok None
 
 abbrev pub request : LineState → Asked

@@ -6,7 +6,7 @@ ghost use Rattle.model.specs.Text.{ascii};
 ghost use Rattle.model.specs.Codes.{is_digit};
 ghost use Rattle.model.specs.Orders.{order_of, decode};
 ghost use Rattle.model.specs.Printer.{decimal, numbers_text, printed, order_text, refused_line};
-ghost use Rattle.script_bytes.specs.Line.{begin, next_place, moved, with_sign, with_character, with_digit, step};
+ghost use Rattle.script_bytes.specs.Line.{begin, next_place, moved, with_sign, longer, with_character, with_digit, step};
 ghost use Rattle.script_bytes.specs.Line.{line_in, code_of, request, begun};
 ghost use Rattle.script_bytes.specs.Text.{Put, Begins, order_lines, spoken};
 
@@ -24,14 +24,19 @@ pub enum Place {
     Other,
 }
 
-// A line so far, of any length: where its form stands, whether its sign is a plus, its code's first 12 bytes and how many bytes
-// the code has (13 for all above 12), and the value of its recording's digits.
+// Characters so far, of any number: the first 12 as bytes, and how many they are (13 for all above 12). Fixed memory, no heap.
+#[derive(Clone, Copy)]
+pub struct Characters {
+    pub bytes: [u8; 12],
+    pub count: usize,
+}
+
+// A line so far, of any length: where its form stands, whether its sign is a plus, its code, and the value of its recording's digits.
 #[derive(Clone, Copy)]
 pub struct LineState {
     pub place: Place,
     pub plus: bool,
-    pub code: [u8; 12],
-    pub count: usize,
+    pub code: Characters,
     pub recording: u64,
 }
 
@@ -62,8 +67,10 @@ pub fn start() -> LineState
     LineState {
         place: Place::Start,
         plus: false,
-        code: [0u8; 12],
-        count: 0,
+        code: Characters {
+            bytes: [0u8; 12],
+            count: 0,
+        },
         recording: 0,
     }
 }
@@ -123,20 +130,28 @@ fn with_sign(s: LineState, b: u8) -> LineState
     }
 }
 
+// One character more.
+fn longer(text: Characters, b: u8) -> Characters
+    ensures { result ≡ longer text b }
+{
+    if 12 <= text.count {
+        return Characters { count: 13, ..text };
+    }
+    let mut bytes = text.bytes;
+    bytes[text.count] = b;
+    Characters {
+        bytes,
+        count: text.count + 1,
+    }
+}
+
 // The line with one character more of its code.
 fn with_character(s: LineState, b: u8) -> LineState
     ensures { result ≡ with_character s b }
 {
-    let mut code = s.code;
-    let mut count = 13;
-    if s.count < 12 {
-        code[s.count] = b;
-        count = s.count + 1;
-    }
     LineState {
         place: Place::Code,
-        code,
-        count,
+        code: longer(s.code, b),
         ..s
     }
 }
@@ -196,15 +211,14 @@ pub fn read_line(line: LineState, piece: &[u8]) -> LineRead
 
 // ---- what a line asks
 
-// The code that was read.
-fn code_of(s: LineState) -> Parsed
-    ensures { result ≡ code_of s }
+// The key of a code that was read.
+fn code_of(code: Characters) -> Parsed
+    ensures { result ≡ code_of code }
 {
-    if s.count != 12 {
+    if code.count != 12 {
         return Err(Refusal::NoCode);
     }
-    let code = s.code;
-    isrc::parse(&code)
+    isrc::parse(&code.bytes)
 }
 
 // What the line asks, its bytes being all read.
@@ -213,9 +227,9 @@ pub fn judge(s: LineState) -> Asked
 {
     match s.place {
         Place::Code if s.plus => Ok(None),
-        Place::Code => Ok(Some(Request::Deletion(code_of(s)?))),
+        Place::Code => Ok(Some(Request::Deletion(code_of(s.code)?))),
         Place::Recording => {
-            let key = code_of(s)?;
+            let key = code_of(s.code)?;
             let recording = s.recording;
             Ok(Some(Request::Insertion { key, recording }))
         }
@@ -232,7 +246,8 @@ pub fn begun(s: LineState) -> bool
 
 // ---- printing
 
-fn put_byte(out: &mut [u8], at: usize, b: u8) -> usize
+// One byte. Buffer and place go apart, here and below: each function answers the next place.
+pub fn put_byte(out: &mut [u8], at: usize, b: u8) -> usize
     requires { at < length out.old }
     ensures { Put out.old at (b ∷ []) out.new result }
 {
@@ -253,14 +268,7 @@ fn put_text(out: &mut [u8], at: usize, text: &[u8]) -> usize
 fn width(n: u64) -> usize
     ensures { result ≡ length (decimal n) }
 {
-    let mut left = n;
-    let mut count = 1;
-    // What is left is divided: no range or iterator says that more plainly.
-    while 10 <= left {
-        left /= 10;
-        count += 1;
-    }
-    count
+    n.max(1).ilog10() as usize + 1
 }
 
 // n in decimal.
@@ -311,6 +319,7 @@ fn put_two(out: &mut [u8], at: usize, text: &[u8], m: u64, n: u64) -> usize
 }
 
 // The line of an order's two words in the list. 48 bytes are room for any line that is printed.
+// The room is a fact and no type, here and below: a line goes to any place of a longer buffer.
 pub fn put_order(out: &mut [u8], at: usize, first: u64, second: u64) -> usize
     requires { at + 48 ≤ length out.old }
     ensures { Put out.old at (order_text (order_of first second)) out.new result }
@@ -338,10 +347,11 @@ pub fn put_refused(out: &mut [u8], at: usize, number: u64) -> usize
 }
 
 // How many orders are printed: as many as the answer counts, and no more than the list has.
-fn spoken_count(words: usize, stores: u64, flushes: u64) -> usize
-    ensures { result ≡ min (stores + flushes) (words / 2) }
+fn spoken_count(words: usize, counts: Counts) -> usize
+    ensures { result ≡ min (counts.stores + counts.flushes) (words / 2) }
 {
-    stores.saturating_add(flushes).min(words as u64 / 2) as usize
+    let orders = counts.stores.saturating_add(counts.flushes);
+    orders.min(words as u64 / 2) as usize
 }
 
 // The lines of the first orders of a list, from the buffer's start on.
@@ -364,16 +374,10 @@ pub fn put_answer(out: &mut [u8], list: &[u64], answer: Written) -> usize
     ensures { Begins out.new result (spoken answer list.now) }
 {
     match answer {
-        Ok(
-            Counts {
-                stores,
-                flushes,
-                ..
-            },
-        ) => {
-            let count = spoken_count(list.len(), stores, flushes);
+        Ok(counts) => {
+            let count = spoken_count(list.len(), counts);
             let next = put_orders(out, list, count);
-            put_done(out, next, stores, flushes)
+            put_done(out, next, counts.stores, counts.flushes)
         }
         Err(refusal) => put_refused(out, 0, u64::from(refusal)),
     }

@@ -32,12 +32,8 @@ fn shown(rt: &impl Print, read: LineRead) -> io::Result<LineState> {
 
 fn read_piece(rt: &impl Print, line: LineState, piece: &[u8]) -> io::Result<LineState> {
     let mut s = line;
-    let mut i = 0;
-    // How many bytes a call uses is its answer: no range has that step.
-    while i < piece.len() {
-        let read = script_bytes::read_line(s, &piece[i..]);
-        s = shown(rt, read)?;
-        i += read.used;
+    for part in piece.split_inclusive(|&b| b == b'\n') {
+        s = shown(rt, script_bytes::read_line(s, part))?;
     }
     Ok(s)
 }
@@ -106,7 +102,7 @@ fn show_put<F: FnOnce(&mut [u8; 60]) -> usize>(
     }
 }
 
-// Past the start of the buffer, where the next two are at its start.
+// Past the start of the buffer, where the next two are at its start. What is put, and from where, is all that each of the three says.
 fn show_order(rt: &impl Print, first: u64, second: u64) -> io::Result<()> {
     show_put(rt, 7, |out| script_bytes::put_order(out, 7, first, second))
 }

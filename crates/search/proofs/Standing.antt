@@ -1,7 +1,7 @@
 -- Where a search stands on a level, by the tests in the order of the code, and what it answers from there.
 use mathlib.Core.Path.{◌≡◌, refl, ap, sym, ◌∙◌, subst}
 use mathlib.Core.Bool.{Bool, true, false, cond, ◌&&◌, ◌||◌, and-false, false≢true}
-use mathlib.Core.Logic.{◌≢◌, inl, inr}
+use mathlib.Core.Logic.{◌≢◌, inl}
 use mathlib.Core.Option.{Option, none, some, some-injective, none-ne-some}
 use Prim.Native.Nat.{ℕ, zero, suc, ◌-◌, ◌≤◌, ◌<◌}
 use native.Mathlib.Omega.{arith}
@@ -9,25 +9,24 @@ use lib.Dec.{eqb, leb, ltb}
 use mathlib.Core.List.{List, [], ◌∷◌}
 use lib.ListN.{length, length-take}
 use borrow.Author.Tests.{eqb-true, eqb-false, eq-eqb, ne_eqb, lt-ltb, le-ltb, le-leb, lt-leb, leb-true, leb-false}
-use Rattle.std.specs.Prelude.{Result, Err}
+use Rattle.std.specs.Prelude.{Err}
 use Rattle.model.specs.declared.Refusal.{Refusal}
 use Rattle.model.specs.declared.Refusal.TheVariants.{NoTable, NoCollection}
-use Rattle.model.specs.Numbers.{refusal_number, refusal_of}
-use Rattle.model.specs.Results.{refused_with}
+use Rattle.model.specs.Numbers.{refusal_number}
 use Rattle.model.specs.declared.Answer.{Answer}
 use Rattle.model.specs.declared.Answer.TheVariants.{Found, Refused}
 use Rattle.model.specs.declared.Node.{Node}
 use Rattle.model.specs.Table.{Words, in_range, header_ok, has_node, node, node_from, blank, at, nodes, root, root_word, no_collection}
 use Rattle.model.specs.Slots.{Slot, recording_of, class_of, View, node_view, view_from, view, height, used}
 use Rattle.model.specs.Search.{below, moved, route, down, on_level, passes, locate, first_with, next_from, answer_of, answer_in, search_view, search}
-use Rattle.model.proofs.Numbers.{Numbered, refusal-of-number, done-err}
+use Rattle.model.proofs.Numbers.{Numbered, numbered, handed-number}
 use Rattle.list_laws.proofs.Tools.{Each}
 use Rattle.list_laws.proofs.Slots.{each-shown, in-use-some}
 use Rattle.table_laws.proofs.Header.{header-iff}
 use Rattle.table_laws.proofs.Nodes.{has-node-range, node-in, node-out}
 use Rattle.view_laws.proofs.AnyRoot.{any-locate, any-answer}
 use Rattle.node.specs.Word.{root_in, number_in, found_root}
-use Rattle.node.proofs.Roots.{root-there}
+use Rattle.node.proofs.Roots.{root-there, found-err}
 use Rattle.slots.specs.Scan.{used_from, shown_from}
 use Rattle.slots.specs.Held.{pointer_in}
 use Rattle.slots.proofs.Scans.{used-past}
@@ -342,19 +341,14 @@ unfolding number_in
 number-numbered n t = go (header_ok t) (no_collection n t)
   where
     go : (a b : Bool) → Numbered (cond a (cond b 17 0) 2)
-    go true true = inr (ap refusal_number (refusal-of-number NoCollection))
+    go true true = numbered NoCollection
     go true false = inl refl
-    go false b = inr (ap refusal_number (refusal-of-number NoTable))
+    go false b = numbered NoTable
 
 pub root-refused : (n : ℕ) (t : Words) (k x : ℕ) (r : Refusal) → found_root n t ≡ Err r → x ≡ refusal_number r → Refused x ≡ search n t k
-unfolding found_root
 root-refused n t k x r e q =
-    let f = done-err (number_in n t) (root_in n t) e in
-    ap Refused (q ∙ go (number_in n t) f.0 f.1 (number-numbered n t)) ∙ bad-header n t k f.0
-  where
-    go : (m : ℕ) → m ≢ 0 → ◌≡◌ {A = Result ℕ Refusal} (refused_with m) (Err r) → Numbered m → refusal_number r ≡ m
-    go m z h (inl a) = absurd (z a)
-    go m z h (inr a) = let same : refusal_of m ≡ r = cc in ap refusal_number (sym same) ∙ a
+    let f = found-err {T = ℕ} n t e in
+    ap Refused (q ∙ handed-number (number_in n t) f.0 f.1 (number-numbered n t)) ∙ bad-header n t k f.0
 
 -- the leaf come to does not depend on the root that the reading started from
 pub any-within : (t : Words) (r q low high n k : ℕ) → locate_within (view_from t r) low high n k ≡ locate_within (view_from t q) low high n k

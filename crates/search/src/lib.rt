@@ -38,6 +38,7 @@ fn lost() -> Stood
 }
 
 // Coming to node n, which is read: what is seen of n or, after a move, of its sibling. Each is looked at once, and decides by that look alone.
+// What is asked is about a node in a table: no type of the node alone can carry it.
 pub fn stand(table: &[u64], n: u64, read: Node, key: u64) -> Stood
     requires table_value { header_ok table.now ≡ true }
     requires n_value { on_level (view table.now) read.level n ≡ true }

@@ -27,7 +27,7 @@ use Rattle.node.proofs.Roots.{root-there, found-ok}
 pub few-nodes : (t : Words) → header_ok t ≡ true → (3 ≤ length t) × (nodes t ≤ 65535)
 few-nodes t h = let f = (header-iff t).0 h in (omega (arith, f.size.long), f.size.few)
 
--- ---- the length: 19, where it is not 3 words a node
+-- ---- the length: 19 if it is not 3 words a node
 
 abbrev pub length_number : (m : ℕ) → Words → ℕ
 length_number m t = cond (eqb m (3 * nodes t)) 0 19
@@ -78,9 +78,9 @@ pub found-there : (n : ℕ) (t : Words) {r : ℕ} → found_root n t ≡ Ok r �
 found-there n t e = let f = found-ok n t e in let u = root-there n t _ f.0 f.1 in (u.0, u.1)
 
 -- a refusal of theirs is handed on
-pub handed-on : (n : ℕ) {m : ℕ} {r : Refusal} → n ≢ 0 → ◌≡◌ {A = Outcome} (refused_with n) (Err r) → m ≡ n → Err r ≡ passed m
-handed-on zero z e q = absurd (z refl)
-handed-on (suc n) z e q = sym e ∙ sym (ap passed q)
+pub passed-on : (n : ℕ) {m : ℕ} {r : Refusal} → n ≢ 0 → ◌≡◌ {A = Outcome} (refused_with n) (Err r) → m ≡ n → Err r ≡ passed m
+passed-on zero z e q = absurd (z refl)
+passed-on (suc n) z e q = sym e ∙ sym (ap passed q)
 
 -- ---- working them out: the answer, and the slice
 

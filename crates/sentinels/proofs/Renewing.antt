@@ -3,25 +3,25 @@ use mathlib.Core.Path.{◌≡◌, sym, ap, ◌∙◌}
 use mathlib.Core.Bool.{Bool, true, false, ◌&&◌, and-false, and-true}
 use mathlib.Core.Logic.{◌≢◌}
 use mathlib.Core.List.{[], ◌∷◌}
-use Prim.Native.Nat.{ℕ, ◌+◌, ◌*◌, ◌≤◌}
-use native.Mathlib.Omega.{arith}
+use Prim.Native.Nat.{ℕ}
 use lib.Dec.{eqb}
-use lib.ListN.{length}
 use borrow.Author.Tests.{eq-eqb, ne_eqb}
-use Rattle.model.specs.Table.{Words, nodes, node, node_from, node_start, has_node}
-use Rattle.model.specs.Slots.{used}
+use Rattle.model.specs.Table.{Words, nodes, node, has_node}
 use Rattle.model.specs.Reached.{reached_all}
 use Rattle.model.specs.SoundTest.{elem, sound}
-use Rattle.model.specs.Sentinels.{shown_on, first_key, leaves_all, sentinels_of}
-use Rattle.table_laws.proofs.Header.{header-iff}
-use Rattle.table_laws.proofs.Nodes.{has-node-iff, node-in}
+use Rattle.model.specs.Sentinels.{first_key, leaves_all, sentinels_of}
+use Rattle.list_laws.proofs.Tools.{and-iff}
+use Rattle.list_laws.proofs.Members.{each-mem, elem-iff}
+use Rattle.list_laws.proofs.Distinct.{UpTo}
+use Rattle.table_laws.proofs.Nodes.{has-node-range}
+use Rattle.tree_laws.proofs.Rows.{range-iff}
+use Rattle.two_laws.proofs.CollectionTwo.{reached-up}
 use Rattle.two_laws.proofs.SearchTwo.{sound-head}
 use Rattle.sentinel_laws.proofs.Leaves.{leaves-level}
-use Rattle.node.specs.Word.{word_of, start_of}
-use Rattle.node.proofs.Answers.{start-some}
+use Rattle.node.specs.Word.{word_of}
 use Rattle.node.proofs.WordLaws.{word-level}
-use Rattle.sentinels.specs.Lines.{line_of}
-use Rattle.sentinels.specs.Anew.{put_words}
+use Rattle.sentinels.proofs.Reading.{line-is}
+use Rattle.sentinels.specs.Lines.{words_at, line_of}
 
 -- ---- whether a node is a leaf
 
@@ -37,26 +37,17 @@ module _ (t : Words) (n l : ℕ) (s : sound t ≡ true) (e : l ≡ word_of t n 2
 
 -- ---- its words
 
-pub no-words : (t ws : Words) (n : ℕ) (r : Bool) → r ≡ elem n (leaves_all t) → r ≡ false → put_words ws n (0 ∷ 0 ∷ 0 ∷ []) ≡ put_words ws n (sentinels_of t n)
+pub no-words : (t : Words) (n : ℕ) (r : Bool) → r ≡ elem n (leaves_all t) → r ≡ false → 0 ∷ 0 ∷ 0 ∷ [] ≡ sentinels_of t n
 unfolding sentinels_of
-no-words t ws n r e z = rw (sym e ∙ z)
+no-words t n r e z = rw (sym e ∙ z)
 
-module _ (t : Words) (n w : ℕ) (s : sound t ≡ true) (some : 1 ≤ n) (few : n ≤ nodes t) (e : w ≡ start_of t n) where
-  has : has_node t n ≡ true
-  has = let f = (header-iff t).0 (sound-head t s) in (has-node-iff t n).1 (some, omega (arith, f.size.long))
+module _ (t : Words) (n : ℕ) (s : sound t ≡ true) (r : Bool) (q : r ≡ elem n (leaves_all t)) (z : r ≡ true) where
+  pub leaf-there : has_node t n ≡ true
+  leaf-there =
+      let l = (and-iff _ _).0 (sym (leaves-level t n s) ∙ sym q ∙ z) in
+      has-node-range t n (sound-head t s) ∙ (range-iff (nodes t) n).1 (each-mem (UpTo (nodes t)) (reached-up t s) ((elem-iff n (reached_all t)).0 l.0))
 
-  begins : w ≡ node_start n
-  begins = e ∙ start-some t n has
-
-  pub node-long : w + 32 ≤ length t
-  unfolding node_start
-  node-long = omega (arith, begins, (has-node-iff t n).0 has)
-
-  line-is : (j : ℕ) → line_of t w (4 * j) ≡ shown_on t n j
-  unfolding line_of shown_on used node_from
-  line-is j = rw (node-in t n has, begins)
-
-  pub leaf-words : (ws : Words) (r : Bool) (a b c : ℕ) → r ≡ elem n (leaves_all t) → r ≡ true → a ≡ first_key (line_of t w 0) → b ≡ first_key (line_of t w 4) → c ≡ first_key (line_of t w 8)
-      → put_words ws n (a ∷ b ∷ c ∷ []) ≡ put_words ws n (sentinels_of t n)
+  pub leaf-words : (vs : Words) (a b c : ℕ) → vs ≡ words_at t n → a ≡ first_key (line_of vs 0) → b ≡ first_key (line_of vs 4) → c ≡ first_key (line_of vs 8) → a ∷ b ∷ c ∷ [] ≡ sentinels_of t n
   unfolding sentinels_of
-  leaf-words ws r a b c q z x y u = rw (sym q ∙ z) (λ i. put_words ws n ((x ∙ ap first_key (line-is 0)) i ∷ (y ∙ ap first_key (line-is 1)) i ∷ (u ∙ ap first_key (line-is 2)) i ∷ []))
+  leaf-words vs a b c e x y u =
+      rw (sym q ∙ z) (λ i. (x ∙ ap first_key (line-is t n leaf-there 0 vs e)) i ∷ (y ∙ ap first_key (line-is t n leaf-there 1 vs e)) i ∷ (u ∙ ap first_key (line-is t n leaf-there 2 vs e)) i ∷ [])

@@ -1,83 +1,87 @@
 -- The search that takes the words, by the tests in the order of the code.
 use mathlib.Core.Path.{◌≡◌, refl, sym, ap, subst, ◌∙◌}
 use mathlib.Core.Bool.{Bool, true, false, cond}
-use mathlib.Core.Logic.{◌≢◌, inl, inr}
+use mathlib.Core.Logic.{◌≢◌}
 use mathlib.Core.List.{List}
 use mathlib.Core.Option.{Option, none, some}
-use Prim.Native.Nat.{ℕ, zero, suc, ◌+◌, ◌-◌, ◌*◌, ◌≤◌, ◌<◌}
+use Prim.Native.Nat.{ℕ, zero, suc, ◌*◌, ◌≤◌, ◌<◌}
 use native.Mathlib.Omega.{arith}
 use lib.Dec.{leb}
 use lib.ListN.{length}
 use borrow.Author.Tests.{le-leb, lt-leb, leb-true, leb-false}
-use Rattle.std.specs.Prelude.{Result, Ok, Err}
+use Rattle.std.specs.Prelude as rust
+use Rattle.std.specs.Bool.{then_some}
+use Rattle.std.specs.Prelude.{unwrap_or, Some, None, Ok, Err}
 use Rattle.model.specs.declared.Refusal.{Refusal}
-use Rattle.model.specs.Numbers.{refusal_number, refusal_of}
-use Rattle.model.proofs.Numbers.{Numbered, slice-numbered, done-err, failed-some, passed-zero}
-use Rattle.model.specs.Results.{refused_with, passed}
+use Rattle.model.specs.Numbers.{refusal_number}
+use Rattle.model.proofs.Numbers.{Numbered, slice-numbered, handed-number, failed-some, passed-zero}
+use Rattle.model.specs.Results.{passed}
 use Rattle.model.specs.declared.Answer.{Answer}
 use Rattle.model.specs.declared.Answer.TheVariants.{Found, Refused}
 use Rattle.model.specs.declared.Node.{Node}
-use Rattle.model.specs.Table.{Words, at, nodes, root, root_word, no_collection, node, node_from, has_node, node_start, header_ok}
-use Rattle.model.specs.Slots.{Slot, recording_of, class_of, View, view, view_of, height, node_view, used}
+use Rattle.model.specs.Table.{Words, at, nodes, root, root_word, no_collection, node, has_node, header_ok}
+use Rattle.model.specs.Slots.{Slot, recording_of, class_of, View, view, view_of, height, node_view}
 use Rattle.model.specs.Search.{on_level, passes, first_with, next_from, answer_of, answer_in, search_view, search}
 use Rattle.model.specs.Sentinels.{slice_number, line_for, on_line, led_to, leaf_sought, search_with, words_of, shown_on}
 use Rattle.list_laws.proofs.Tools.{and-iff}
-use Rattle.list_laws.proofs.Members.{each-mem}
-use Rattle.table_laws.proofs.Nodes.{has-node-iff, has-node-range, node-in}
+use Rattle.table_laws.proofs.Nodes.{has-node-range}
 use Rattle.tree_laws.proofs.Rows.{range-iff}
-use Rattle.sentinel_laws.proofs.NodeWords.{word-at}
-use Rattle.sentinel_laws.proofs.Lines.{line-shown}
 use Rattle.sentinel_laws.proofs.Searches.{with-tree, plain-tree}
-use Rattle.tree_laws.proofs.Rising.{first-mem}
-use Rattle.slots.specs.Held.{pointer_in}
+use Rattle.slots.specs.Held.{pointer_in, held_by}
 use Rattle.slots.specs.Scan.{shown_from}
-use Rattle.node.specs.Word.{start_of, root_in, number_in, found_root}
-use Rattle.node.proofs.Answers.{start-some}
-use Rattle.node.proofs.Roots.{root-there, found-ok}
+use Rattle.node.specs.Word.{root_in, number_in, found_root}
+use Rattle.node.proofs.Roots.{root-there, found-ok, found-err}
 use Rattle.search.specs.declared.Stood.{Stood}
 use Rattle.search.specs.Descent.{seen_in, stand_on, locate_within, answer_held}
 use Rattle.search.proofs.Standing.{Stands, held-read, held-answer, shown-some, any-within, within-in, within-high, come, by-root, answered-lost, stood-on as located-on}
 use Rattle.sentinels.proofs.Refusing.{length_number, length-is, length-nineteen, rest-number, collection-number, found-there}
-use Rattle.sentinels.specs.Lines.{line_number, line_of}
+use Rattle.sentinels.proofs.Reading.{line-is}
+use Rattle.sentinels.specs.Lines.{words_at, line_of, as_option}
 
 -- ---- the line
 
-module _ (ws : Words) (n k : ℕ) where
-  abbrev a : ℕ
-  a = 3 * (n - 1)
+-- the pointer of a slot found, 0 for none
+found-pointer : (s : Option Slot) → unwrap_or (held_by s) 0 ≡ pointer_in s
+found-pointer none = refl
+found-pointer (some s) = refl
 
-  pub third-line : at ws (3 * (n - 1) + 2) ≤ k → 2 ≡ line_number (line_for k (words_of ws n))
+module _ (ws : Words) (k : ℕ) where
+  pub third-line : at ws 2 ≤ k → Some 2 ≡ as_option (line_for k ws)
   unfolding line_for
-  third-line h = rw (word-at ws n 2 (omega arith), le-leb _ k h)
+  third-line h = rw (le-leb _ k h)
 
-  pub second-line : k < at ws (3 * (n - 1) + 2) → at ws (3 * (n - 1) + 1) ≤ k → 1 ≡ line_number (line_for k (words_of ws n))
+  pub second-line : k < at ws 2 → at ws 1 ≤ k → Some 1 ≡ as_option (line_for k ws)
   unfolding line_for
-  second-line h g = rw (word-at ws n 2 (omega arith), lt-leb _ k h, word-at ws n 1 (omega arith), le-leb _ k g)
+  second-line h g = rw (lt-leb _ k h, le-leb _ k g)
 
-  first-word : at (words_of ws n) 0 ≡ at ws (3 * (n - 1))
-  first-word = let q : 3 * (n - 1) + 0 ≡ 3 * (n - 1) = omega arith in word-at ws n 0 (omega arith) ∙ ap (at ws) q
-
-  pub first-line : k < at ws (3 * (n - 1) + 2) → k < at ws (3 * (n - 1) + 1) → at ws (3 * (n - 1)) ≤ k → 0 ≡ line_number (line_for k (words_of ws n))
+  pub other-line : k < at ws 2 → k < at ws 1 → then_some (leb (at ws 0) k) 0 ≡ as_option (line_for k ws)
   unfolding line_for
-  first-line h g f = rw (word-at ws n 2 (omega arith), lt-leb _ k h, word-at ws n 1 (omega arith), lt-leb _ k g, first-word, le-leb _ k f)
+  other-line h g = rw (lt-leb _ k h, lt-leb _ k g) (go (leb (at ws 0) k))
+    where
+      go : (b : Bool) → then_some b 0 ≡ as_option (cond b (some 0) none)
+      go true = refl
+      go false = refl
 
-  pub no-line : k < at ws (3 * (n - 1) + 2) → k < at ws (3 * (n - 1) + 1) → k < at ws (3 * (n - 1)) → 3 ≡ line_number (line_for k (words_of ws n))
+  pub few-lines : (j : ℕ) → as_option (line_for k ws) ≡ Some j → j ≤ 2
   unfolding line_for
-  no-line h g f = rw (word-at ws n 2 (omega arith), lt-leb _ k h, word-at ws n 1 (omega arith), lt-leb _ k g, first-word, lt-leb _ k f)
+  few-lines j = go (leb (at ws 2) k) (leb (at ws 1) k) (leb (at ws 0) k)
+    where
+      go : (x y u : Bool) → as_option (cond x (some 2) (cond y (some 1) (cond u (some 0) none))) ≡ Some j → j ≤ 2
+      go true y u e = let q : 2 ≡ j = cc in omega (arith, q)
+      go false true u e = let q : 1 ≡ j = cc in omega (arith, q)
+      go false false true e = let q : 0 ≡ j = cc in omega (arith, q)
+      go false false false e = cc
 
--- one of three lines, or none
-lines-of : (k : ℕ) (ws : Words) (P : Option ℕ → Type 0) → P (some 2) → P (some 1) → P (some 0) → P none → P (line_for k ws)
-unfolding line_for
-lines-of k ws P c b a z = go (leb (at ws 2) k) (leb (at ws 1) k) (leb (at ws 0) k)
-  where
-    go : (x y u : Bool) → P (cond x (some 2) (cond y (some 1) (cond u (some 0) none)))
-    go true y u = c
-    go false true u = b
-    go false false true = a
-    go false false false = z
+-- ---- the slot on it
 
-pub few-lines : (k j : ℕ) (ws : Words) → j ≡ line_number (line_for k ws) → j ≢ 3 → j ≤ 2
-few-lines k j ws = lines-of k ws (λ (o : Option ℕ). j ≡ line_number o → j ≢ 3 → j ≤ 2) (λ q z. omega arith) (λ q z. omega arith) (λ q z. omega arith) (λ q z. absurd (z q))
+pub on-some : (t : Words) (m : ℕ) → has_node t m ≡ true → (k j : ℕ) (o : Option ℕ) (vs : Words) (r : rust.Option ℕ) → as_option o ≡ Some j → vs ≡ words_at t m → r ≡ held_by (first_with k (line_of vs (4 * j)))
+    → r ≡ held_by (on_line t m k o)
+on-some t m h k j none vs r q e u = cc
+on-some t m h k j (some i) vs r q e u = let p : i ≡ j = cc in u ∙ ap (λ (ss : List Slot). held_by (first_with k ss)) (line-is t m h j vs e ∙ ap (shown_on t m) (sym p))
+
+pub on-none : (t : Words) (m k : ℕ) (o : Option ℕ) → as_option o ≡ None → None ≡ held_by (on_line t m k o)
+on-none t m k none q = refl
+on-none t m k (some i) q = cc
 
 -- ---- where the search stands on level 0
 
@@ -96,38 +100,20 @@ module _ (t : Words) (m : ℕ) (h : header_ok t ≡ true) (on : on_level (view t
   unfolding on_level
   in-range = (range-iff (nodes t) m).0 ((and-iff _ _).0 on).0
 
-  has : has_node t m ≡ true
+  pub leaf-has : has_node t m ≡ true
   unfolding on_level
-  has = has-node-range t m h ∙ ((and-iff _ _).0 on).0
+  leaf-has = has-node-range t m h ∙ ((and-iff _ _).0 on).0
 
   -- its words lie in the slice
   pub leaf-fits : (ws : Words) → length ws ≡ 3 * nodes t → (1 ≤ m) × (3 * m ≤ length ws)
   leaf-fits ws l = (in-range.0, omega (arith, in-range.1))
 
-  module _ (w : ℕ) (e : w ≡ start_of t m) where
-    begins : w ≡ node_start m
-    begins = e ∙ start-some t m has
-
-    pub leaf-long : w + 32 ≤ length t
-    unfolding node_start
-    leaf-long = omega (arith, begins, (has-node-iff t m).0 has)
-
-    line-is : (j : ℕ) → line_of t w (4 * j) ≡ shown_on t m j
-    unfolding line_of shown_on used node_from
-    line-is j = rw (node-in t m has, begins)
-
-    pub on-some : (k j r : ℕ) (o : Option ℕ) → j ≡ line_number o → j ≢ 3 → r ≡ pointer_in (first_with k (line_of t w (4 * j))) → r ≡ pointer_in (on_line t m k o)
-    on-some k j r none q z u = absurd (z q)
-    on-some k j r (some i) q z u = u ∙ ap (λ (l : ℕ). pointer_in (first_with k (line_of t w (4 * l)))) q ∙ ap (λ (ss : List Slot). pointer_in (first_with k ss)) (line-is i)
-
-  pub on-none : (k j : ℕ) (ws : Words) → j ≡ line_number (line_for k ws) → j ≡ 3 → 0 ≡ pointer_in (on_line t m k (line_for k ws))
-  on-none k j ws = lines-of k ws (λ (o : Option ℕ). j ≡ line_number o → j ≡ 3 → 0 ≡ pointer_in (on_line t m k o)) (λ q z. absurd (omega arith)) (λ q z. absurd (omega arith)) (λ q z. absurd (omega arith)) (λ q z. refl)
-
   -- what the whole of it answers
-  pub whole-answer : (k : ℕ) (x : Node) (held : ℕ) (r : Answer) → x ≡ node t m → held ≡ pointer_in (first_with k (shown_from x.left x.slots 0)) → r ≡ answer_held held (next_from (view t) (nodes t) m k)
+  pub whole-answer : (k : ℕ) (x : Node) (f : rust.Option ℕ) (held : ℕ) (r : Answer) → x ≡ node t m → f ≡ held_by (first_with k (shown_from x.left x.slots 0)) → held ≡ unwrap_or f 0 → r ≡ answer_held held (next_from (view t) (nodes t) m k)
       → r ≡ answer_in (view t) k (some m)
-  whole-answer k x held r q e u =
-      u ∙ ap (λ (p : ℕ). answer_held p (next_from (view t) (nodes t) m k)) (held-read t m k x held q e) ∙ held-answer k (node_view t m).shown (next_from (view t) (nodes t) m k) (shown-some t m)
+  whole-answer k x f held r q e o u =
+      let h = o ∙ ap (λ (p : rust.Option ℕ). unwrap_or p 0) e ∙ found-pointer (first_with k (shown_from x.left x.slots 0)) in
+      u ∙ ap (λ (p : ℕ). answer_held p (next_from (view t) (nodes t) m k)) (held-read t m k x held q h) ∙ held-answer k (node_view t m).shown (next_from (view t) (nodes t) m k) (shown-some t m)
 
 -- ---- the whole search
 
@@ -140,16 +126,11 @@ refused-with n ws t k x e z = go x e z
     go (suc y) q u = rw (← q)
 
 pub with-bad : (n : ℕ) (ws t : Words) (k x : ℕ) (r : Refusal) → found_root n t ≡ Err r → x ≡ refusal_number r → Refused x ≡ search_with n ws t k
-unfolding found_root
 with-bad n ws t k x r e q =
-    let f = done-err (number_in n t) (root_in n t) e in
+    let f = found-err {T = ℕ} n t e in
     let same = collection-number n (length ws) t f.0 in
-    let y : x ≡ number_in n t = q ∙ go (number_in n t) f.0 f.1 (subst (λ (m : ℕ). Numbered m) same (slice-numbered (no_collection n t) (length ws) t)) in
+    let y : x ≡ number_in n t = q ∙ handed-number (number_in n t) f.0 f.1 (subst (λ (m : ℕ). Numbered m) same (slice-numbered (no_collection n t) (length ws) t)) in
     refused-with n ws t k x (y ∙ sym same) (λ z. f.0 (sym y ∙ z))
-  where
-    go : (m : ℕ) → m ≢ 0 → ◌≡◌ {A = Result ℕ Refusal} (refused_with m) (Err r) → Numbered m → refusal_number r ≡ m
-    go m z h (inl a) = absurd (z a)
-    go m z h (inr a) = let s : refusal_of m ≡ r = cc in ap refusal_number (sym s) ∙ a
 
 pub with-wrong : (n : ℕ) (ws t : Words) (k : ℕ) {r : ℕ} {b : Refusal} → found_root n t ≡ Ok r → passed (length_number (length ws) t) ≡ Err b → Refused 19 ≡ search_with n ws t k
 with-wrong n ws t k f g =
@@ -165,13 +146,9 @@ leaf-within v k = go (leb (height v) 15) refl
     go false c = rw (c, leaf_sought) (within-high v 0 15 v.root k (omega arith) (leb-false _ _ c))
 
 -- no slot in use has pointer 0
-no-slot : (t : Words) (m k : ℕ) (o : Option ℕ) → pointer_in (on_line t m k o) ≡ 0 → on_line t m k o ≡ none
-no-slot t m k none e = refl
-no-slot t m k (some j) e = go (first_with k (shown_on t m j)) refl
-  where
-    go : (x : Option Slot) → first_with k (shown_on t m j) ≡ x → first_with k (shown_on t m j) ≡ none
-    go none q = q
-    go (some s) q = absurd (each-mem (λ (s : Slot). s.pointer ≢ 0) (shown-some t m) (line-shown t m j s (first-mem k s (shown_on t m j) q).0) (ap pointer_in (sym q) ∙ e))
+no-slot : (o : Option Slot) → held_by o ≡ None → o ≡ none
+no-slot none e = refl
+no-slot (some s) e = cc
 
 module _ (n : ℕ) (ws t : Words) (k r leaf : ℕ) (f : found_root n t ≡ Ok r) {u : Unit {0}} (g : passed (length_number (length ws) t) ≡ Ok u)
     (l : leaf ≡ (seen_in (view t) k (locate_within (view t) 0 15 r k)).node) where
@@ -224,15 +201,16 @@ module _ (n : ℕ) (ws t : Words) (k r leaf : ℕ) (f : found_root n t ≡ Ok r)
     with-slot : search_with n ws t k ≡ answer_of (on_line t leaf k (line_for k (words_of ws leaf))) (search_view v k)
     with-slot = with-led ∙ ap (λ (o : Option ℕ). answer_of (led_to ws t k o) (search_view v k)) (same-leaf ∙ here)
 
-    pub with-held : (held a c : ℕ) → held ≡ pointer_in (on_line t leaf k (line_for k (words_of ws leaf))) → held ≢ 0 → a ≡ recording_of held → c ≡ class_of held → Found a c ≡ search_with n ws t k
-    with-held held a c q u f g = go led refl ∙ sym with-slot
+    pub with-held : (held a c : ℕ) → held_by (on_line t leaf k (line_for k (words_of ws leaf))) ≡ Some held → a ≡ recording_of held → c ≡ class_of held → Found a c ≡ search_with n ws t k
+    with-held held a c q f g = go led refl ∙ sym with-slot
       where
         go : (o : Option Slot) → led ≡ o → Found a c ≡ answer_of led (search_view v k)
-        go none d = absurd (u (q ∙ ap pointer_in d))
+        go none d = let z : None ≡ Some held = sym (ap held_by d) ∙ q in cc
         go (some s) d =
-            let p : held ≡ s.pointer = q ∙ ap pointer_in d in
+            let y : Some s.pointer ≡ Some held = sym (ap held_by d) ∙ q in
+            let p : held ≡ s.pointer = cc in
             (λ i. Found ((f ∙ ap recording_of p) i) ((g ∙ ap class_of p) i)) ∙ sym (ap (λ (o : Option Slot). answer_of o (search_view v k)) d)
 
-    pub with-whole : (held : ℕ) (x : Answer) → held ≡ pointer_in (on_line t leaf k (line_for k (words_of ws leaf))) → held ≡ 0 → x ≡ answer_in (view t) k (some leaf) → x ≡ search_with n ws t k
-    with-whole held x q u g =
-        g ∙ ap (answer_in (view t) k) (sym here) ∙ by-root n t k r e z seen refl ∙ plain ∙ sym (with-slot ∙ ap (λ (o : Option Slot). answer_of o (search_view v k)) (no-slot t leaf k (line_for k (words_of ws leaf)) (sym q ∙ u)))
+    pub with-whole : (x : Answer) → held_by (on_line t leaf k (line_for k (words_of ws leaf))) ≡ None → x ≡ answer_in (view t) k (some leaf) → x ≡ search_with n ws t k
+    with-whole x q g =
+        g ∙ ap (answer_in (view t) k) (sym here) ∙ by-root n t k r e z seen refl ∙ plain ∙ sym (with-slot ∙ ap (λ (o : Option Slot). answer_of o (search_view v k)) (no-slot _ q))

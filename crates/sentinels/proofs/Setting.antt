@@ -2,14 +2,15 @@
 use mathlib.Core.Path.{◌≡◌, refl, sym, ap, ◌∙◌}
 use mathlib.Core.Bool.{Bool, true, false, cond, ◌&&◌, ◌||◌}
 use mathlib.Core.Logic.{◌≢◌, ◌⊎◌, inl, inr}
-use mathlib.Core.List.{[], ◌∷◌, ◌++◌}
-use Prim.Native.Nat.{ℕ, zero, suc, ◌+◌, ◌-◌, ◌*◌, ◌≤◌, ◌<◌}
+use mathlib.Core.List.{◌++◌}
+use Prim.Native.Nat.{ℕ, suc, ◌+◌, ◌-◌, ◌*◌, ◌≤◌, ◌<◌}
 use native.Mathlib.Numerals.{add-one}
 use native.Mathlib.Omega.{arith}
 use lib.Dec.{eqb, ltb}
-use lib.ListN.{length, take, drop, set, length-append, length-drop, get_or-append}
-use lib.Seq.{length-take-le, ext_get_or, get_or-take, get_or-drop, get_or-append-add}
+use lib.ListN.{length, take, drop, length-append, length-drop, get_or-append}
+use lib.Seq.{length-take-le, drop-drop, ext_get_or, get_or-take, get_or-drop, get_or-append-add}
 use borrow.Author.Tests.{eq-eqb, ne_eqb, lt-ltb, le-ltb, ltb-true}
+use borrow.Rule.Slice.PartMut.{put_mid}
 use Rattle.model.specs.Table.{Words, at, nodes}
 use Rattle.model.specs.Sentinels.{sentinels_of, sentinels, words_of, set_anew, node_of}
 use Rattle.list_laws.proofs.Tools.{same-or-not, compared, or-right}
@@ -17,26 +18,15 @@ use Rattle.sentinel_laws.proofs.NodeWords.{three-words, word-at, slices-same}
 use Rattle.sentinel_laws.proofs.TrueWords.{sentinels-three, length-sentinels, sentinels-at, length-anew, anew-at}
 use Rattle.sentinels.specs.Anew.{put_words, named}
 
--- ---- three stores
-
-three-sets : (i : ℕ) (ws : Words) (a b c : ℕ) → i + 3 ≤ length ws → set (set (set ws i a) (suc i) b) (suc (suc i)) c ≡ take i ws ++ (a ∷ b ∷ c ∷ drop (suc (suc (suc i))) ws)
-three-sets zero [] a b c h = absurd (omega arith)
-three-sets zero (x ∷ []) a b c h = absurd (omega arith)
-three-sets zero (x ∷ y ∷ []) a b c h = absurd (omega arith)
-three-sets zero (x ∷ y ∷ z ∷ ws) a b c h = refl
-three-sets (suc i) [] a b c h = absurd (omega arith)
-three-sets (suc i) (x ∷ ws) a b c h = ap (λ (l : Words). x ∷ l) (three-sets i ws a b c (omega arith))
-
-pub three-stored : (ws : Words) (n a b c : ℕ) → 1 ≤ n → 3 * n ≤ length ws → (let i = 3 * (n - 1) in set (set (set ws i a) (i + 1) b) (i + 2) c) ≡ put_words ws n (a ∷ b ∷ c ∷ [])
-unfolding put_words
-three-stored ws n a b c h l =
-    let i = 3 * (n - 1) in
-    let p : i + 1 ≡ suc i = omega arith in
-    let q : i + 2 ≡ suc (suc i) = omega arith in
-    let r : suc (suc (suc i)) ≡ 3 * n = omega arith in
-    rw (p, q) (three-sets i ws a b c (omega arith) ∙ ap (λ (j : ℕ). take i ws ++ (a ∷ b ∷ c ∷ drop j ws)) r)
-
 -- ---- the words of one node put in
+
+-- by a copy to their place
+pub copied : (ws x ys : Words) (n : ℕ) → ys ≡ x → 1 ≤ n → (let a = 3 * (n - 1) in put_mid a (a + 3 - a) ws ys) ≡ put_words ws n x
+unfolding put_words
+copied ws x ys n e h =
+    let a = 3 * (n - 1) in
+    let q : a + (a + 3 - a) ≡ 3 * n = omega arith in
+    rw e (ap (λ (l : Words). take a ws ++ (x ++ l)) (drop-drop (a + 3 - a) a ws ∙ ap (λ (m : ℕ). drop m ws) q))
 
 module _ (N : ℕ) (ws x : Words) (n : ℕ) (long : length ws ≡ 3 * N) (some : 1 ≤ n) (few : n ≤ N) (three : length x ≡ 3) where
   abbrev a : ℕ

@@ -2,8 +2,8 @@
 // appear in no order list.
 #![tactic(auto)]
 
-ghost use Rattle.std.specs.Prelude.{◌≡◌, true, false, cond, ◌||◌, [], ◌∷◌, ◌+◌, ◌*◌, ◌≤◌, ◌<◌, eqb, ltb, length};
-ghost use Rattle.model.specs.Table.{header_ok, no_collection, node, nodes};
+ghost use Rattle.std.specs.Prelude.{◌≡◌, ℕ, Bool, true, false, cond, ◌||◌, ◌+◌, ◌*◌, ◌≤◌, ◌<◌, eqb, ltb, length};
+ghost use Rattle.model.specs.Table.{header_ok, no_collection, has_node, node, nodes};
 ghost use Rattle.model.specs.Slots.{view};
 ghost use Rattle.model.specs.Search.{first_with, on_level, answer_in};
 ghost use Rattle.model.specs.SoundTest.{elem, sound};
@@ -12,9 +12,9 @@ ghost use Rattle.model.specs.Refusals.{orders_answered};
 ghost use Rattle.model.specs.Sentinels.{first_key, leaves_all, sentinels_of, sentinels, words_of, node_of, set_anew};
 ghost use Rattle.model.specs.Sentinels.{slice_number, work_out, worked_out, line_for, on_line, search_with};
 ghost use Rattle.std.proofs.Math.Option.{some};
-ghost use Rattle.slots.specs.Held.{pointer_in};
+ghost use Rattle.slots.specs.Held.{held_by};
 ghost use Rattle.search.specs.Descent.{seen_in, stand_on, locate_within};
-ghost use Rattle.sentinels.specs.Lines.{slots_at, left_at, begun_in, line_of, line_number};
+ghost use Rattle.sentinels.specs.Lines.{words_at, left_in, slots_in, begun_in, line_of, Tests, first_taken, as_option};
 ghost use Rattle.sentinels.specs.Anew.{put_words, named, Asks};
 
 use model::{Answer, Counts, MARK, Node, Outcome, Refusal, Written};
@@ -48,17 +48,25 @@ pub fn refusal_any(table: &[u64], words: usize) -> Outcome
     fits(table, words)
 }
 
-// ---- one line of a node that begins at word w, by the slot that the line begins with. Only the lines up to it are read.
+// ---- the words of a node of the table, and one slot line of them, by the slot that the line begins with
 
-// The pointer before slot first, if the slots up to it are in use.
-fn begin(table: &[u64], w: usize, first: usize) -> Option<u64>
-    requires w_in_bounds { w + 32 ≤ length table.now }
-    requires first_bound { first ≤ 12 }
-    ensures { result ≡ begun_in (left_at table.now w) first (slots_at table.now w) }
+// The 32 words of node n. That the table has the node is said of both together: so it is a clause.
+fn node_words(table: &[u64], n: u64) -> &[u64; 32]
+    requires { has_node table.now n ≡ true }
+    ensures { result.now ≡ words_at table.now n }
 {
-    let mut before = table[w];
+    table[node::start(table, n)..].first_chunk().unwrap()
+}
+
+// The pointer before slot first, if the slots up to it are in use. A loop of its own: before the line no slot is tested, so the walk over the
+// line compares no index.
+fn begin(node: &[u64; 32], first: usize) -> Option<u64>
+    requires { first ≤ 12 }
+    ensures { result ≡ begun_in (left_in node.now) first (slots_in node.now) }
+{
+    let mut before = node[0];
     for i in 0..first {
-        let p = table[w + 2 * i + 9];
+        let p = node[2 * i + 9];
         if p == 0 {
             return None;
         }
@@ -67,47 +75,41 @@ fn begin(table: &[u64], w: usize, first: usize) -> Option<u64>
     Some(before)
 }
 
-// The key of the first shown slot on the line, else MARK.
-fn line_key(table: &[u64], w: usize, first: usize) -> u64
-    requires w_in_bounds { w + 32 ≤ length table.now }
+// The key and the pointer of the first shown slot on the line whose key passes the test. Slots past the line are not read.
+fn line_slot<F: Fn(u64) -> bool>(node: &[u64; 32], first: usize, takes: F) -> Option<(u64, u64)>
     requires first_bound { first ≤ 8 }
-    ensures { result ≡ first_key (line_of table.now w first) }
+    requires callable { F.IsAlwaysCallable takes }
+    ensures { (p : ℕ → Bool) → Tests (F.post takes) p → result ≡ first_taken p (line_of node.now first) }
 {
-    let Some(before) = begin(table, w, first) else {
-        return MARK;
-    };
+    let mut before = begin(node, first)?;
     for i in first..first + 4 {
-        let p = table[w + 2 * i + 9];
+        let p = node[2 * i + 9];
         if p == 0 {
-            return MARK;
+            return None;
         }
-        if p != before {
-            return table[w + 2 * i + 8];
-        }
-    }
-    MARK
-}
-
-// The pointer of the first shown slot on the line with the key; 0 if there is none.
-fn line_find(table: &[u64], w: usize, first: usize, key: u64) -> u64
-    requires w_in_bounds { w + 32 ≤ length table.now }
-    requires first_bound { first ≤ 8 }
-    ensures { result ≡ pointer_in (first_with key (line_of table.now w first)) }
-{
-    let Some(mut before) = begin(table, w, first) else {
-        return 0;
-    };
-    for i in first..first + 4 {
-        let p = table[w + 2 * i + 9];
-        if p == 0 {
-            return 0;
-        }
-        if p != before && table[w + 2 * i + 8] == key {
-            return p;
+        let key = node[2 * i + 8];
+        if p != before && takes(key) {
+            return Some((key, p));
         }
         before = p;
     }
-    0
+    None
+}
+
+// The key of the first shown slot on the line, else MARK.
+fn line_key(node: &[u64; 32], first: usize) -> u64
+    requires { first ≤ 8 }
+    ensures { result ≡ first_key (line_of node.now first) }
+{
+    line_slot(node, first, |_| true).map_or(MARK, |(key, _)| key)
+}
+
+// The pointer of the first shown slot on the line with the key.
+fn line_find(node: &[u64; 32], first: usize, key: u64) -> Option<u64>
+    requires { first ≤ 8 }
+    ensures { result ≡ held_by (first_with key (line_of node.now first)) }
+{
+    line_slot(node, first, |k| k == key).map(|(_, pointer)| pointer)
 }
 
 // ---- the words
@@ -120,35 +122,28 @@ fn is_leaf(table: &[u64], n: u64) -> bool
     node::word(table, n, 2) == 0 && reach::is_taken(table, n)
 }
 
-// The words of node n in a slice.
-fn put_three(words: &mut [u64], n: u64, a: u64, b: u64, c: u64)
-    requires le_n { 1 ≤ n }
-    requires n_in_bounds { 3 * n ≤ length words.old }
-    ensures { words.new ≡ put_words words.old n (a ∷ b ∷ c ∷ []) }
-{
-    let at = 3 * (n as usize - 1);
-    words[at] = a;
-    words[at + 1] = b;
-    words[at + 2] = c;
-}
-
-// Sets the words of node n.
-fn renew(table: &[u64], words: &mut [u64], n: u64)
-    requires table_value { sound table.now ≡ true }
-    requires words_len { length words.old ≡ 3 * nodes table.now }
-    requires le_n { 1 ≤ n }
-    requires n_bound { n ≤ nodes table.now }
-    ensures { words.new ≡ put_words words.old n (sentinels_of table.now n) }
+// The words of node n: for a leaf the first keys of its lines.
+fn three_of(table: &[u64], n: u64) -> [u64; 3]
+    requires { sound table.now ≡ true }
+    ensures { result ≡ sentinels_of table.now n }
 {
     if !is_leaf(table, n) {
-        put_three(words, n, 0, 0, 0);
-        return;
+        return [0; 3];
     }
-    let w = node::start(table, n);
-    let a = line_key(table, w, 0);
-    let b = line_key(table, w, 4);
-    let c = line_key(table, w, 8);
-    put_three(words, n, a, b, c);
+    let node = node_words(table, n);
+    [line_key(node, 0), line_key(node, 4), line_key(node, 8)]
+}
+
+// Sets the words of node n. That the slice has them is a clause, here and below: for how many nodes it has words is known only once it is lent.
+fn renew(table: &[u64], words: &mut [u64], n: u64)
+    requires table_value { sound table.now ≡ true }
+    requires le_n { 1 ≤ n }
+    requires n_in_bounds { 3 * n ≤ length words.old }
+    ensures { words.new ≡ put_words words.old n (sentinels_of table.now n) }
+{
+    let three = three_of(table, n);
+    let at = 3 * (n as usize - 1);
+    words[at..at + 3].copy_from_slice(&three);
 }
 
 // Sets the words of every node.
@@ -191,8 +186,7 @@ fn stored_node(w: u64, len: usize) -> u64
 // Sets the words of node n, unless it is 0 or the last one that was set; which one is the last then.
 fn renew_once(table: &[u64], words: &mut [u64], n: u64, last: u64) -> u64
     requires table_value { sound table.now ≡ true }
-    requires words_len { length words.old ≡ 3 * nodes table.now }
-    requires n_bound { n ≤ nodes table.now }
+    requires n_in_bounds { 3 * n ≤ length words.old }
     ensures value { result ≡ cond (eqb n 0) last n }
     ensures words_after { words.new
         ≡ cond (eqb n 0 || eqb n last) words.old (put_words words.old n (sentinels_of table.now n)) }
@@ -205,6 +199,7 @@ fn renew_once(table: &[u64], words: &mut [u64], n: u64, last: u64) -> u64
 }
 
 // Sets the words of the nodes that the first count orders of a list store to. Stores to one node mostly come one after another.
+// Table, words and list are the three slices that C lends, here and in the calls above.
 fn renew_stored(table: &[u64], words: &mut [u64], list: &[u64], count: usize)
     requires table_value { header_ok table.now ≡ true }
     requires table_value_2 { 0 < count → sound table.now ≡ true }
@@ -242,38 +237,35 @@ pub fn keep(table: &[u64], words: &mut [u64], list: &[u64], answer: Written)
 
 // ---- a search that takes them
 
-// The number of the last line of node n whose word is at most the key; 3 for none.
-fn line_for(words: &[u64], n: u64, key: u64) -> usize
+// The words of node n in a slice.
+fn words_of(words: &[u64], n: u64) -> &[u64; 3]
     requires le_n { 1 ≤ n }
     requires n_in_bounds { 3 * n ≤ length words.now }
-    ensures { result ≡ line_number (line_for key (words_of words.now n)) }
+    ensures { result.now ≡ words_of words.now n }
 {
-    let at = 3 * (n as usize - 1);
-    if words[at + 2] <= key {
-        return 2;
-    }
-    if words[at + 1] <= key {
-        return 1;
-    }
-    if words[at] <= key {
-        return 0;
-    }
-    3
+    words[3 * (n as usize - 1)..].first_chunk().unwrap()
 }
 
-// The pointer of the first shown slot with the key on the line of leaf m that its words name; 0 if there is none.
-fn on_line(table: &[u64], words: &[u64], m: u64, key: u64) -> u64
-    requires table_value { header_ok table.now ≡ true }
-    requires m_value { on_level (view table.now) 0 m ≡ true }
-    requires words_len { length words.now ≡ 3 * nodes table.now }
-    ensures { result ≡ pointer_in (on_line table.now m key (line_for key (words_of words.now m))) }
+// The number of the last line whose word is at most the key. A word is read only if the key is below those of the later lines.
+fn line_for(three: &[u64; 3], key: u64) -> Option<usize>
+    ensures { result ≡ as_option (line_for key three.now) }
 {
-    let j = line_for(words, m, key);
-    if j == 3 {
-        return 0;
+    if three[2] <= key {
+        return Some(2);
     }
-    let w = node::start(table, m);
-    line_find(table, w, 4 * j, key)
+    if three[1] <= key {
+        return Some(1);
+    }
+    (three[0] <= key).then_some(0)
+}
+
+// The pointer of the first shown slot with the key on the line of leaf m that its words name.
+fn on_line(table: &[u64], three: &[u64; 3], m: u64, key: u64) -> Option<u64>
+    requires { has_node table.now m ≡ true }
+    ensures { result ≡ held_by (on_line table.now m key (line_for key three.now)) }
+{
+    let j = line_for(three, key)?;
+    line_find(node_words(table, m), 4 * j, key)
 }
 
 // The leaf that a search stands on, coming to node n on level 0, which is read: n or its sibling; 0 if a test fails.
@@ -335,9 +327,8 @@ fn whole_leaf(table: &[u64], m: u64, key: u64) -> Answer
     ensures { result ≡ answer_in (view table.now) key (some m) }
 {
     let x = node::read(table, m);
-    let slots = x.slots;
-    let seen = slots::scan(slots, x.left, key, 12);
-    search::answer(table, m, seen.held, key)
+    let held = slots::find(x.slots, x.left, key).unwrap_or(0);
+    search::answer(table, m, held, key)
 }
 
 // A search in a collection that looks first at the line of the leaf that its words name, then at the whole leaf.
@@ -355,8 +346,7 @@ pub fn search_with(table: &[u64], words: &[u64], collection: u64, key: u64) -> A
     if leaf == 0 {
         return Answer::Refused(3);
     }
-    let held = on_line(table, words, leaf, key);
-    if held != 0 {
+    if let Some(held) = on_line(table, words_of(words, leaf), leaf, key) {
         return Answer::Found {
             recording: pointer::recording(held),
             access: pointer::class(held),

@@ -1,7 +1,7 @@
 -- Split and new root, step by step on a desk.
 use mathlib.Core.Path.{◌≡◌, refl, ap, ◌∙◌}
 use mathlib.Core.Bool.{Bool, true, false}
-use mathlib.Core.List.{[], ◌∷◌, ◌++◌}
+use mathlib.Core.List.{List, [], ◌∷◌, ◌++◌}
 use Prim.Native.Nat.{ℕ, ◌+◌, ◌≤◌}
 use native.Mathlib.Numerals.{add-one}
 use native.Mathlib.Omega.{arith}
@@ -11,13 +11,14 @@ use borrow.Author.Tests.{eq-eqb, ne_eqb}
 use Rattle.model.specs.declared.Node.{Node}
 use Rattle.model.specs.Table.{MARK, Words, at, root_word, has_node, node}
 use Rattle.model.specs.Slots.{Slot, slot, node_view, view_from, height}
-use Rattle.model.specs.Orders.{put}
+use Rattle.model.specs.Orders.{Store, put}
 use Rattle.model.specs.Shifts.{pointer_to}
 use Rattle.model.specs.Writes.{fresh, put_all, node_words, middle, split_words, split, new_root_at, new_root}
 use Rattle.node.specs.Word.{start_of, word_of}
 use Rattle.node.proofs.WordLaws.{word-level}
-use Rattle.orders.specs.Desk.{Desk, stored, stored_all, Room}
-use Rattle.orders.proofs.Rest.{Rest, rest-start, rest-same, rest-next, rest-first, rest-after, rest-none}
+use Rattle.orders.specs.declared.Writer.{Writer}
+use Rattle.orders.specs.Desk.{of, Makes, stored_all, Room}
+use Rattle.orders.proofs.Rest.{Rest, rest-start, rest-same, rest-one, rest-all, rest-next, rest-first, rest-after, rest-none}
 use Rattle.slots.specs.Scan.{in_use_of}
 use Rattle.shift.specs.Stores.{in_from, slot_in, middle_of, upper_words}
 use Rattle.slots.proofs.Places.{in-use-at}
@@ -53,6 +54,11 @@ pub record Parts (t : Words) (a b p w u v : ℕ) (x y : Node) : Type 0 where
   pub above-read : y ≡ node t p
   pub above-plain : (node_view t p).hidden ≡ 0
 
+pub parts : {t : Words} {a b p w u v : ℕ} {x y : Node} → has_node t a ≡ true → (node_view t a).hidden ≡ 0 → 6 ≤ length (node_view t a).shown → has_node t b ≡ true → has_node t p ≡ true
+    → (node_view t p).hidden ≡ 0 → w ≡ start_of t a → x ≡ node t a → u ≡ start_of t b → v ≡ start_of t p → y ≡ node t p → Parts t a b p w u v x y
+parts l z m h o k ew ex eu ev ey =
+    record { lower = l; lower-start = ew; lower-read = ex; lower-plain = z; enough = m; upper = h; upper-start = eu; above = o; above-start = ev; above-read = ey; above-plain = k }
+
 module _ {t : Words} {a b p w u v : ℕ} {x y : Node} (c : Parts t a b p w u v x y) where
   all : (node_view t a).shown ≡ in_use_of x.slots
   all = shown-is t a w c.lower c.lower-start x c.lower-read c.lower-plain
@@ -74,10 +80,44 @@ module _ {t : Words} {a b p w u v : ℕ} {x y : Node} (c : Parts t a b p w u v x
   key-as : (middle t a).key ≡ at x.slots 10
   key-as = rw all (ap (λ (s : Slot). s.key) (middle-at x six))
 
-  pub split-steps : {ws : Words} → ws ≡ upper_words x → split t a b p ≡ put_all u ws ++ (put (w + 1) b ∷ in_from w (pointer_to 5 0) ∷ slot_in v y (at x.slots 10) b)
+  abbrev after : List Store
+  after = put (w + 1) b ∷ in_from w (pointer_to 5 0) ∷ slot_in v y (at x.slots 10) b
+
+  split-steps : {ws : Words} → ws ≡ upper_words x → split t a b p ≡ put_all u ws ++ after
   unfolding split
   split-steps q =
       rw (words-as, ← q, key-as, shift-in-as t p v c.above c.above-start y c.above-read c.above-plain, ← (starts t a w c.lower c.lower-start), ← (starts t b u c.upper c.upper-start), add-one)
+
+  module _ (ws : Words) (e : ws ≡ upper_words x) (f : Writer) (r : Room (split t a b p) (of f)) where
+    split₀ : Rest (put_all u ws ++ after) f f (stored_all (split t a b p) (of f))
+    split₀ = rest-same (split-steps e) (rest-start r)
+
+    pub split-words : Room (put_all u ws) (of f)
+    split-words = rest-first _ _ split₀
+
+    module _ {f₁ : Writer} (q₁ : Makes (put_all u ws) f f₁) where
+      split₁ : Rest after f f₁ (stored_all (split t a b p) (of f))
+      split₁ = rest-after (put_all u ws) _ split₀ q₁
+
+      pub split-link : Room (put (w + 1) b ∷ []) (of f₁)
+      split-link = rest-one split₁
+
+      module _ {f₂ : Writer} (q₂ : Makes (put (w + 1) b ∷ []) f₁ f₂) where
+        split₂ : Rest (in_from w (pointer_to 5 0) ∷ slot_in v y (at x.slots 10) b) f f₂ (stored_all (split t a b p) (of f))
+        split₂ = rest-next split₁ q₂
+
+        pub split-cut : Room (in_from w (pointer_to 5 0) ∷ []) (of f₂)
+        split-cut = rest-one split₂
+
+        module _ {f₃ : Writer} (q₃ : Makes (in_from w (pointer_to 5 0) ∷ []) f₂ f₃) where
+          split₃ : Rest (slot_in v y (at x.slots 10) b) f f₃ (stored_all (split t a b p) (of f))
+          split₃ = rest-next split₂ q₃
+
+          pub split-in : Room (slot_in v y (at x.slots 10) b) (of f₃)
+          split-in = split₃.room
+
+          pub split-done : {f₄ : Writer} → Makes (slot_in v y (at x.slots 10) b) f₃ f₄ → Makes (split t a b p) f f₄
+          split-done q₄ = rest-all split₃ q₄
 
 -- ---- new root
 
@@ -91,23 +131,26 @@ module _ (t : Words) (x o n w l : ℕ) (eo : o ≡ at t x) (h : has_node t n ≡
   pub level-is : l ≡ height (view_from t (at t x))
   level-is = el ∙ word-level t o ∙ ap (λ (m : ℕ). (node_view t m).level) eo
 
-  module _ (d : Desk) (r : Room (new_root_at x t n) d) where
-    abbrev words : Words
-    words = set (set (replicate 32 0) 0 o) 2 (l + 1)
+  abbrev words : Words
+  words = set (set (replicate 32 0) 0 o) 2 (l + 1)
 
-    root-steps : new_root_at x t n ≡ put_all w words ++ (put x n ∷ [])
-    unfolding node_words
-    root-steps = rw (eo, ← level-is, ← (starts t n w h e), add-one)
+  root-steps : new_root_at x t n ≡ put_all w words ++ (put x n ∷ [])
+  unfolding node_words
+  root-steps = rw (eo, ← level-is, ← (starts t n w h e), add-one)
 
-    pub root-words : Room (put_all w words) d
-    root-words = rest-first _ _ (rest-same root-steps (rest-start r))
+  module _ (f : Writer) (r : Room (new_root_at x t n) (of f)) where
+    root₀ : Rest (put_all w words ++ (put x n ∷ [])) f f (stored_all (new_root_at x t n) (of f))
+    root₀ = rest-same root-steps (rest-start r)
 
-    module _ (d₁ : Desk) (q₁ : d₁ ≡ stored_all (put_all w words) d) where
-      root₁ : Rest (put x n ∷ []) d₁ (stored_all (new_root_at x t n) d)
-      root₁ = rest-after (put_all w words) _ (rest-same root-steps (rest-start r)) q₁
+    pub root-words : Room (put_all w words) (of f)
+    root-words = rest-first _ _ root₀
 
-      pub root-link : Room (put x n ∷ []) d₁
+    module _ {g : Writer} (q : Makes (put_all w words) f g) where
+      root₁ : Rest (put x n ∷ []) f g (stored_all (new_root_at x t n) (of f))
+      root₁ = rest-after (put_all w words) _ root₀ q
+
+      pub root-link : Room (put x n ∷ []) (of g)
       root-link = root₁.room
 
-      pub root-done : (d₂ : Desk) → d₂ ≡ stored (put x n) d₁ → d₂ ≡ stored_all (new_root_at x t n) d
-      root-done d₂ q₂ = rest-none (rest-next root₁ q₂)
+      pub root-done : {h : Writer} → Makes (put x n ∷ []) g h → Makes (new_root_at x t n) f h
+      root-done u = rest-none (rest-next root₁ u)

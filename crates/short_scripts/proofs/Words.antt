@@ -22,18 +22,6 @@ use Rattle.short_laws.proofs.Rank.{grown, grown-suc, grown-rises, unrank-length,
 abbrev pub within : ℕ → Words → Bool
 within most ws = all (λ (w : ℕ). leb w most) ws
 
-pub within-next : (most : ℕ) (ws : Words) (i : ℕ) → i < length ws → get_or ws i 0 ≤ most → within most (drop i ws) ≡ within most (drop (i + 1) ws)
-unfolding all
-within-next most ws i h k = rw (drop-cons ws i 0 h, le-leb (get_or ws i 0) most k, add-one i)
-
-pub within-not : (most : ℕ) (ws : Words) (i : ℕ) → i < length ws → most < get_or ws i 0 → within most (drop i ws) ≡ false
-unfolding all
-within-not most ws i h k = rw (drop-cons ws i 0 h, lt-leb (get_or ws i 0) most k)
-
-pub within-none : (most : ℕ) (ws : Words) (i : ℕ) → length ws ≤ i → within most (drop i ws) ≡ true
-unfolding all
-within-none most ws i h = rw (drop_of_length-le ws {i = i} h)
-
 zeros-within : (ws : Words) → within 0 ws ≡ all_zero ws
 unfolding all all_zero
 zeros-within [] = refl

@@ -2,7 +2,6 @@
 #![tactic(auto)]
 
 ghost use Rattle.std.specs.Prelude.{◌≡◌, true, ◌+◌, ◌≤◌, ◌<◌, leb, length};
-ghost use Rattle.model.specs.Table.{empty};
 ghost use Rattle.model.specs.Search.{first_above, lookup, search};
 ghost use Rattle.model.specs.Reached.{map_of};
 ghost use Rattle.model.specs.SoundTest.{all, sound};
@@ -75,23 +74,15 @@ pub fn script_of(number: u64, out: &mut [u64; 5]) -> Outcome
 fn none_above(words: &[u64], most: u64) -> bool
     ensures { result ≡ all (λ w. leb w most) words.now }
 {
-    for &word in words {
-        if most < word {
-            return false;
-        }
-    }
-    true
+    words.iter().all(|&w| w <= most)
 }
 
 // At most four actions, each one of the six, and 0 past them.
 fn forms(words: [u64; 5]) -> bool
     ensures { result ≡ form_script words }
 {
-    if 4 < words[0] {
-        return false;
-    }
     let count = words[0] as usize;
-    none_above(&words[1..=count], 5) && none_above(&words[count + 1..], 0)
+    count <= 4 && none_above(&words[1..=count], 5) && none_above(&words[count + 1..], 0)
 }
 
 // The number that a script's actions make.
@@ -198,12 +189,11 @@ fn count_bad(table: [u64; 136], list: &[u64], count: u64, old: Held, new: Held) 
     bad
 }
 
-// The action's call. A caller gets the list's length from this contract: the list's type does not say it.
+// The action's call.
 fn call(table: &mut [u64; 136], list: &mut [u64; 2560], action: u64) -> Written
     ensures value { result ≡ written (call_of action) 2560 0 table.old }
     ensures table_after { table.new ≡ table_after (call_of action) 2560 0 table.old }
     ensures list_after { list.new ≡ list_after (call_of action) list.old 0 table.old }
-    ensures list_len { length list.old ≡ 2560 }
 {
     let key = action % 3 + 1;
     if action < 3 {
@@ -248,15 +238,7 @@ fn act(table: &mut [u64; 136], list: &mut [u64; 2560], held: &mut Held, action: 
 
 // ---- scripts
 
-// The empty table of 4 nodes, and an order list.
-fn first_table() -> [u64; 136]
-    ensures { result ≡ empty 4 }
-{
-    let mut table = [0u64; 136];
-    let _ = node::make(&mut table, 1);
-    table
-}
-
+// An order list. `script` makes one likewise: neither crate rests on the other, and `node` knows no order list.
 fn first_list() -> [u64; 2560] {
     [0u64; 2560]
 }
@@ -266,7 +248,7 @@ fn run(words: [u64; 5], list: &mut [u64; 2560]) -> Met
     requires { form_script words ≡ true }
     ensures { Runs (actions_in words) result }
 {
-    let mut table = first_table();
+    let mut table = node::first_table();
     let mut held = [false; 3];
     let mut tables = 0;
     let mut bad = 0;

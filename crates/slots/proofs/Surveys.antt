@@ -7,14 +7,24 @@ use native.Mathlib.Omega.{arith}
 use lib.Dec.{leb, eqb}
 use lib.ListN.{length}
 use borrow.Author.Tests.{eqb-true, eqb-false, eq-eqb, ne_eqb}
+use Rattle.model.specs.declared.Node.{Node}
 use Rattle.model.specs.Slots.{Slot, slot, shown, hidden_slots}
 use Rattle.model.specs.Reached.{filter}
 use Rattle.model.specs.SoundTest.{all, rising, come_first}
 use Rattle.list_laws.proofs.Filters.{filter-yes, filter-no}
+use Rattle.slots.specs.declared.Low.{Low}
+use Rattle.slots.specs.declared.Low.TheVariants.{AtLeast, Above}
 use Rattle.slots.specs.declared.Survey.{Survey}
-use Rattle.slots.specs.Scan.{keeps, is_kept}
-use Rattle.slots.specs.Surveyed.{reaches, still_fair, hiding, trailed, keeping, surveyed_slot, surveyed}
+use Rattle.slots.specs.Scan.{used_from, keeps, is_kept}
+use Rattle.slots.specs.Surveyed.{first_low, reaches, still_fair, hiding, trailed, keeping, surveyed_slot, surveyed, begun}
 use Rattle.slots.proofs.Scans.{shown-hide, shown-show, hidden-hide, hidden-show}
+
+-- ---- before the first slot
+
+pub survey-begun : (x : Node) (e : ℕ) {l : Low} → l ≡ first_low x.level x.fence
+    → surveyed x.sibling e (used_from x.slots 0) (record { fair = true; trailing = false; low = l; before = x.left; hidden = 0 })
+    ≡ surveyed x.sibling e (used_from x.slots 0) (begun x)
+survey-begun x e q = rw q
 
 -- ---- a slot of the survey
 
@@ -31,9 +41,9 @@ module _ (sibling e k p : ℕ) (s : Survey) where
   survey-trailing h c = ap (λ (b : Bool). cond b (keeping k p s) (trailed p s)) (sym c) ∙ survey-shown h
 
   pub survey-keeping : (f : Bool) → f ≡ still_fair s k → (p ≡ s.before → ⊥) → keeps sibling e k ≡ true
-      → record { fair = f; trailing = s.trailing; strict = true; low = k; before = p; hidden = s.hidden } ≡ surveyed_slot sibling e k p s
+      → record { fair = f; trailing = s.trailing; low = Above k; before = p; hidden = s.hidden } ≡ surveyed_slot sibling e k p s
   survey-keeping f q h c =
-      ap (λ (b : Bool). record { fair = b; trailing = s.trailing; strict = true; low = k; before = p; hidden = s.hidden }) q
+      ap (λ (b : Bool). record { fair = b; trailing = s.trailing; low = Above k; before = p; hidden = s.hidden }) q
       ∙ ap (λ (b : Bool). cond b (keeping k p s) (trailed p s)) (sym c) ∙ survey-shown h
 
   -- the loop: with none left, and with a slot more
@@ -65,13 +75,13 @@ unfolding come_first
 first-no q x xs c = rw (c, come_first)
 
 -- the lowest key that a kept slot may have
-abbrev pub lowest : Bool → ℕ → ℕ
-lowest strict low = cond strict (suc low) low
+abbrev pub lowest : Low → ℕ
+lowest (AtLeast k) = k
+lowest (Above k) = suc k
 
-reaches-lowest : (strict : Bool) (low k : ℕ) → leb (lowest strict low) k ≡ reaches strict low k
-unfolding reaches
-reaches-lowest true low k = refl
-reaches-lowest false low k = refl
+reaches-lowest : (low : Low) (k : ℕ) → leb (lowest low) k ≡ reaches low k
+reaches-lowest (AtLeast l) k = refl
+reaches-lowest (Above l) k = refl
 
 module _ (sibling e : ℕ) where
   abbrev kept : Slot → Bool
@@ -87,7 +97,7 @@ module _ (sibling e : ℕ) where
 
   abbrev fair_after : Survey → List Slot → Bool
   fair_after s sh =
-      s.fair && (rising (lowest s.strict s.low) (filter kept sh) && cond s.trailing (all (λ (y : Slot). not (kept y)) sh) (come_first kept sh))
+      s.fair && (rising (lowest s.low) (filter kept sh) && cond s.trailing (all (λ (y : Slot). not (kept y)) sh) (come_first kept sh))
 
   pub record Surveyed (s r : Survey) (h : ℕ) (sh : List Slot) : Type 0 where
     pub hidden-is : r.hidden ≡ hidden_after s h
@@ -115,8 +125,8 @@ module _ (sibling e : ℕ) where
       late false b n = rw n
 
       fair : (t b : Bool) → b ≡ false
-          → (s.fair && (rising (lowest s.strict s.low) (filter kept sh) && all (λ (y : Slot). not (kept y)) sh))
-          ≡ (s.fair && (rising (lowest s.strict s.low) (filter kept (x ∷ sh)) && cond t (not b && all (λ (y : Slot). not (kept y)) sh) (come_first kept (x ∷ sh))))
+          → (s.fair && (rising (lowest s.low) (filter kept sh) && all (λ (y : Slot). not (kept y)) sh))
+          ≡ (s.fair && (rising (lowest s.low) (filter kept (x ∷ sh)) && cond t (not b && all (λ (y : Slot). not (kept y)) sh) (come_first kept (x ∷ sh))))
       fair true b n = rw (filter-no kept x sh c, n)
       fair false b n = rw (filter-no kept x sh c, first-no kept x sh c)
 
@@ -137,11 +147,11 @@ module _ (sibling e : ℕ) where
       turn true false true a k z = refl
       turn true false false a k z = refl
 
-      fair : ((s.fair && (not s.trailing && reaches s.strict s.low x.key)) && (rising (suc x.key) (filter kept sh) && cond s.trailing (all (λ (y : Slot). not (kept y)) sh) (come_first kept sh)))
-          ≡ (s.fair && (rising (lowest s.strict s.low) (filter kept (x ∷ sh)) && cond s.trailing (not (kept x) && all (λ (y : Slot). not (kept y)) sh) (come_first kept (x ∷ sh))))
+      fair : ((s.fair && (not s.trailing && reaches s.low x.key)) && (rising (suc x.key) (filter kept sh) && cond s.trailing (all (λ (y : Slot). not (kept y)) sh) (come_first kept sh)))
+          ≡ (s.fair && (rising (lowest s.low) (filter kept (x ∷ sh)) && cond s.trailing (not (kept x) && all (λ (y : Slot). not (kept y)) sh) (come_first kept (x ∷ sh))))
       fair =
-          turn s.fair s.trailing (reaches s.strict s.low x.key) (rising (suc x.key) (filter kept sh)) (come_first kept sh) (all (λ (y : Slot). not (kept y)) sh)
-          ∙ rw (filter-yes kept x sh c, first-yes kept x sh c, c, rising-more (lowest s.strict s.low) x (filter kept sh), reaches-lowest s.strict s.low x.key)
+          turn s.fair s.trailing (reaches s.low x.key) (rising (suc x.key) (filter kept sh)) (come_first kept sh) (all (λ (y : Slot). not (kept y)) sh)
+          ∙ rw (filter-yes kept x sh c, first-yes kept x sh c, c, rising-more (lowest s.low) x (filter kept sh), reaches-lowest s.low x.key)
 
   abbrev Means : List Slot → Survey → Type 0
   Means ss s = Surveyed s (surveyed sibling e ss s) (length (hidden_slots s.before ss)) (shown s.before ss)

@@ -7,7 +7,7 @@ ghost use Rattle.model.specs.Search.{route, first_with, first_above};
 ghost use Rattle.model.specs.Shifts.{last_pointer, place_of, hidden_place};
 ghost use Rattle.slots.specs.Scan.{used_from, in_use_of, shown_from, keeps, kept_of, is_way, way_after, held_after};
 ghost use Rattle.slots.specs.Held.{pointer_in, held_by};
-ghost use Rattle.slots.specs.Surveyed.{reaches, still_fair, surveyed_slot, surveyed, begun};
+ghost use Rattle.slots.specs.Surveyed.{first_low, reaches, still_fair, surveyed_slot, surveyed, begun};
 ghost use Rattle.slots.specs.Gathered.{slots_in};
 
 use model::Node;
@@ -150,6 +150,7 @@ pub fn find(slots: [u64; 24], left: u64, key: u64) -> Option<u64>
 // ---- kept slots: their number, the next key up, and the ways down
 
 // Whether the key of a slot is below the sibling's fence, the bound; with sibling 0 every key is.
+// Two numbers, as a node and the definitions have them: an Option of the fence would be made anew at each call.
 #[tactic(auto, unfolding(crate::specs::Scan::keeps))]
 pub fn keeps(sibling: u64, bound: u64, key: u64) -> bool
     ensures { result ≡ keeps sibling bound key }
@@ -213,6 +214,7 @@ pub fn above(slots: [u64; 24], left: u64, sibling: u64, bound: u64, key: u64) ->
 }
 
 // The ways down from a node: left, with the node's fence as key, then its kept slots.
+// The pointers are an array of their own: callers lend a part of them on as a slice.
 #[derive(Clone, Copy)]
 pub struct Ways {
     pub count: usize,
@@ -258,24 +260,43 @@ pub fn gather(x: Node, bound: u64) -> Ways
 
 // ---- the survey of a node's slots
 
-// What is known after some of a node's slots in use: whether the kept ones rise and come first; whether some are not kept; the key that
-// the next kept one must reach, or exceed if strict; the pointer before it; how many are hidden.
+// Which keys the next kept slot may have.
+#[derive(Clone, Copy)]
+pub enum Low {
+    AtLeast(u64),
+    Above(u64),
+}
+
+// What is known after some of a node's slots in use: whether the kept ones rise and come first; whether some are not kept; which keys
+// the next kept one may have; the pointer before it; how many are hidden.
 #[derive(Clone, Copy)]
 pub struct Survey {
     pub fair: bool,
     pub trailing: bool,
-    pub strict: bool,
-    pub low: u64,
+    pub low: Low,
     pub before: u64,
     pub hidden: u64,
 }
 
-// Whether a key is above low; if not strict, or low itself.
-#[tactic(auto, unfolding(crate::specs::Surveyed::reaches))]
-fn reaches(strict: bool, low: u64, key: u64) -> bool
-    ensures { result ≡ reaches strict low key }
+// The keys that a node's first kept slot may have: in a leaf its fence too.
+fn first_low(level: u64, fence: u64) -> Low
+    ensures { result ≡ first_low level fence }
 {
-    if strict { low < key } else { low <= key }
+    if level == 0 {
+        Low::AtLeast(fence)
+    } else {
+        Low::Above(fence)
+    }
+}
+
+// Whether a slot with this key may come next.
+fn reaches(low: Low, key: u64) -> bool
+    ensures { result ≡ reaches low key }
+{
+    match low {
+        Low::AtLeast(k) => k <= key,
+        Low::Above(k) => k < key,
+    }
 }
 
 // Whether the kept slots rise and come first, one more of this key counted.
@@ -283,7 +304,7 @@ fn reaches(strict: bool, low: u64, key: u64) -> bool
 fn still_fair(s: Survey, key: u64) -> bool
     ensures { result ≡ still_fair s key }
 {
-    s.fair && !s.trailing && reaches(s.strict, s.low, key)
+    s.fair && !s.trailing && reaches(s.low, key)
 }
 
 // One slot in use more.
@@ -308,23 +329,21 @@ fn survey_slot(s: Survey, sibling: u64, bound: u64, key: u64, pointer: u64) -> S
     }
     Survey {
         fair: still_fair(s, key),
-        strict: true,
-        low: key,
+        low: Low::Above(key),
         before: pointer,
         ..s
     }
 }
 
 // All slots in use of a node whose sibling's fence is the bound; in an inner node the keys must be above its fence.
-pub fn survey_slots(x: Node, strict: bool, bound: u64) -> Survey
-    ensures { result ≡ surveyed x.sibling bound (used_from x.slots 0) (begun x.fence x.left strict) }
+pub fn survey_slots(x: Node, bound: u64) -> Survey
+    ensures { result ≡ surveyed x.sibling bound (used_from x.slots 0) (begun x) }
 {
     let slots = x.slots;
     let mut s = Survey {
         fair: true,
         trailing: false,
-        strict,
-        low: x.fence,
+        low: first_low(x.level, x.fence),
         before: x.left,
         hidden: 0,
     };

@@ -23,7 +23,9 @@ use Rattle.node.specs.Word.{word_of}
 use Rattle.walk_laws.specs.Walk.{alone_ok}
 use Rattle.slots.specs.declared.Survey.{Survey}
 use Rattle.slots.specs.Scan.{used_from, keeps, is_kept}
-use Rattle.slots.specs.Surveyed.{surveyed, begun}
+use Rattle.slots.specs.declared.Low.{Low}
+use Rattle.slots.specs.declared.Low.TheVariants.{AtLeast, Above}
+use Rattle.slots.specs.Surveyed.{first_low, surveyed, begun}
 use Rattle.slots.proofs.Surveys.{lowest, Surveyed, survey-means}
 use Rattle.leaves.proofs.WaysLaws.{bound_of, bound-is}
 use Rattle.sound.specs.Nodes.{leaf_fair, look_of}
@@ -41,7 +43,7 @@ module _ (t : Words) (n : ℕ) where
   kept_here = is_kept (node t n).sibling (bound_of t n)
 
   abbrev start : Survey
-  start = begun (node t n).fence (node t n).left (not (eqb (node t n).level 0))
+  start = begun (node t n)
 
   -- the survey of its slots
   abbrev seen : Survey
@@ -63,7 +65,7 @@ module _ (t : Words) (n : ℕ) where
       turn a true e = rw e
       turn a false e = rw e
 
-  seen-fair : seen.fair ≡ keys_ok (view t) n (lowest (not (eqb (node t n).level 0)) (node t n).fence)
+  seen-fair : seen.fair ≡ keys_ok (view t) n (lowest (first_low (node t n).level (node t n).fence))
   unfolding keys_ok kept below keeps
   seen-fair = means.fair-is
 
@@ -73,8 +75,11 @@ module _ (t : Words) (n : ℕ) where
       ap (λ (b : Bool). clear_in t n && (sibling_ok (view t) n && leaf_fair b (node t n).level (node t n).left)) seen-fair
       ∙ ap (λ (b : Bool). clear_in t n && (sibling_ok (view t) n && b)) (turn (eqb (node t n).level 0))
     where
+      low : Bool → Low
+      low b = cond b (AtLeast (node t n).fence) (Above (node t n).fence)
+
       turn : (b : Bool)
-          → cond b (eqb (node t n).left MARK && keys_ok (view t) n (lowest (not b) (node t n).fence)) (keys_ok (view t) n (lowest (not b) (node t n).fence))
+          → cond b (eqb (node t n).left MARK && keys_ok (view t) n (lowest (low b))) (keys_ok (view t) n (lowest (low b)))
           ≡ (elim b as (λ (c : Bool). Bool) [ true ↦ leaf_ok (view t) n | false ↦ keys_ok (view t) n (suc (node t n).fence) ])
       turn true = refl
       turn false = refl
@@ -87,7 +92,7 @@ module _ (t : Words) (n : ℕ) where
   -- ---- the node's record x as it was read, and its sibling's fence e
 
   abbrev survey_of : Node → ℕ → Survey
-  survey_of x e = surveyed x.sibling e (used_from x.slots 0) (begun x.fence x.left (not (eqb x.level 0)))
+  survey_of x e = surveyed x.sibling e (used_from x.slots 0) (begun x)
 
   module _ (x : Node) (e : ℕ) (is : x ≡ node t n) (fence : e ≡ word_of t x.sibling 3) (s : Survey) (q : s ≡ survey_of x e) where
     seen-is : s ≡ seen

@@ -1,18 +1,18 @@
 -- What the functions over one node answer, from what they read.
-use mathlib.Core.Path.{◌≡◌, ap, sym, ◌∙◌}
-use mathlib.Core.Bool.{true, false, ◌&&◌}
-use Prim.Native.Nat.{ℕ, ◌+◌, ◌-◌, ◌≤◌, ◌<◌}
+use mathlib.Core.Path.{◌≡◌, refl, ap, ap₂, sym, ◌∙◌}
+use mathlib.Core.Bool.{Bool, true, false, ◌&&◌, ◌||◌, and_assoc}
+use Prim.Native.Nat.{ℕ, zero, suc, ◌+◌, ◌≤◌, ◌<◌}
 use native.Mathlib.Omega.{arith}
 use lib.Dec.{ltb, eqb}
+use lib.ListN.{take, drop}
+use lib.Seq.{drop-cons}
+use Rattle.std.specs.List.{list_all, range_with_len}
 use borrow.Author.Tests.{eq-eqb, ne_eqb, lt-ltb}
-use borrow.Author.Count.{below_more}
-use Rattle.model.specs.Table.{Words, at, nodes, in_range, header_ok, node_start, has_node, node}
+use Rattle.model.specs.Table.{Words, at, nodes, in_range, header_ok, node_start, has_node, node, all_zero}
 use Rattle.model.specs.Slots.{view, clear_in}
 use Rattle.model.specs.Reached.{first_child, next_child}
 use Rattle.model.specs.SoundTest.{sibling_ok}
-use Rattle.list_laws.proofs.Tools.{decode, and-iff, refuted}
-use Rattle.table_laws.proofs.Words.{part-zero-iff}
-use Rattle.table_laws.proofs.Nodes.{has-node-range, spare-in}
+use Rattle.table_laws.proofs.Nodes.{has-node-iff, has-node-range, spare-in}
 use Rattle.node.specs.Word.{word_of}
 use Rattle.node.proofs.WordLaws.{word-left, word-sibling, word-level, word-fence, word-slot}
 use Rattle.walk_laws.specs.Walk.{stands}
@@ -24,67 +24,53 @@ word-at : (t : Words) (n j : ℕ) → has_node t n ≡ true → j < 32 → word_
 unfolding word_of
 word-at t n j h l = rw (h, lt-ltb j 32 l)
 
--- those of words 4 to 7 that are before j
-pub record Zeros (t : Words) (n j : ℕ) : Type 0 where
-  pub has : has_node t n ≡ true
-  pub low : 4 ≤ j
-  pub high : j ≤ 8
-  pub zero : (k : ℕ) → k < j → 4 ≤ k → word_of t n k ≡ 0
+-- some of a node's words in a row, read one by one
+module _ (t : Words) (n : ℕ) (h : has_node t n ≡ true) where
+  row-zero : (m a : ℕ) → a + m ≤ 32 → list_all (λ j. eqb (word_of t n j) 0) (range_with_len a m) ≡ all_zero (take m (drop (node_start n + a) t))
+  unfolding all_zero node_start
+  row-zero zero a l = refl
+  row-zero (suc m) a l =
+      let next : node_start n + (a + 1) ≡ suc (node_start n + a) = omega arith in
+      rw (drop-cons t (node_start n + a) 0 (omega (arith, (has-node-iff t n).0 h)))
+      (ap₂ (λ (w : ℕ) (b : Bool). eqb w 0 && b) (word-at t n a h (omega arith)) (row-zero m (a + 1) (omega arith) ∙ ap (λ (i : ℕ). all_zero (take m (drop i t))) next))
 
-module _ {t : Words} {n j : ℕ} (z : Zeros t n j) where
-  pub clear-not : (w : ℕ) → j < 8 → w ≡ word_of t n j → (w ≡ 0 → ⊥) → false ≡ clear_in t n
-  unfolding clear_in
-  clear-not w u q d =
-      sym
-      (refuted _
-      (λ e. d
-      (q ∙ word-at t n j z.has (omega arith)
-      ∙ (part-zero-iff t (node_start n + 4) 4).0 (rw (spare-in t n z.has) at (simp and-iff at e).0) (node_start n + j) (omega arith) (omega arith))))
+  module _ (b : Bool) (e : b ≡ list_all (λ j. eqb (word_of t n j) 0) (range_with_len 4 4)) where
+    clear-words : clear_in t n ≡ (b && eqb (word_of t n 31) 0)
+    unfolding clear_in
+    clear-words = ap₂ ◌&&◌ (ap all_zero (spare-in t n h) ∙ sym (row-zero 4 4 (omega arith)) ∙ sym e) (ap (λ (k : ℕ). eqb k 0) (sym (word-slot t n 23 (omega arith))))
 
-  pub clear-more : (w : ℕ) → j < 8 → w ≡ word_of t n j → w ≡ 0 → Zeros t n (j + 1)
-  clear-more w u q d = record { has = z.has; low = omega arith; high = omega arith; zero = below_more _ _ z.zero (λ l. sym q ∙ d) }
+    pub clear-then : b ≡ true → (w : ℕ) → w ≡ word_of t n 31 → eqb w 0 ≡ clear_in t n
+    clear-then y w q = ap (λ (k : ℕ). eqb k 0) q ∙ sym (clear-words ∙ ap (λ (a : Bool). a && eqb (word_of t n 31) 0) y)
 
-  pub clear-all : (w : ℕ) → 8 ≤ j → w ≡ word_of t n 31 → eqb w 0 ≡ clear_in t n
-  unfolding clear_in
-  clear-all w u q =
-      let zeros = (part-zero-iff t (node_start n + 4) 4).1 (λ i l v. inside i (i - node_start n) (omega arith) (omega arith) (omega arith)) in
-      rw (spare-in t n z.has, zeros) (ap (λ (k : ℕ). eqb k 0) (q ∙ word-slot t n 23 (omega arith)))
-    where
-      inside : (i k : ℕ) → k < 8 → 4 ≤ k → i ≡ node_start n + k → at t i ≡ 0
-      inside i k v l e = ap (at t) e ∙ sym (word-at t n k z.has (omega arith)) ∙ z.zero k (omega arith) l
+    pub clear-else : b ≡ false → b ≡ clear_in t n
+    clear-else z = z ∙ sym (clear-words ∙ ap (λ (a : Bool). a && eqb (word_of t n 31) 0) z)
+
+-- ---- tests joined, one more
+
+pub and-then : (a v x b : Bool) → a ≡ v → a ≡ true → x ≡ b → x ≡ (v && b)
+and-then a v x b e y q = q ∙ ap (λ (u : Bool). u && b) (sym y ∙ e)
+
+pub and-else : (a v b : Bool) → a ≡ v → a ≡ false → a ≡ (v && b)
+and-else a v b e z = z ∙ ap (λ (u : Bool). u && b) (sym z ∙ e)
 
 -- ---- the sibling, s, of node n
 
-pub record Sibling (t : Words) (n s : ℕ) : Type 0 where
-  pub header : header_ok t ≡ true
-  pub read : s ≡ word_of t n 1
+module _ (t : Words) (n s : ℕ) (h : header_ok t ≡ true) (e : s ≡ word_of t n 1) where
+  abbrev pub in-place : Bool
+  in-place = (has_node t s && eqb (word_of t s 2) (word_of t n 2)) && ltb (word_of t n 3) (word_of t s 3)
 
-module _ {t : Words} {n s : ℕ} (k : Sibling t n s) where
-  is-sibling : (node t n).sibling ≡ s
-  is-sibling = sym (k.read ∙ word-sibling t n)
-
-  pub sibling-none : s ≡ 0 → true ≡ sibling_ok (view t) n
+  sibling-joined : (eqb s 0 || in-place) ≡ sibling_ok (view t) n
   unfolding sibling_ok
-  sibling-none z = rw (eq-eqb (node t n).sibling 0 (is-sibling ∙ z))
+  sibling-joined =
+      let is : (node t n).sibling ≡ s = sym (e ∙ word-sibling t n) in
+      rw (is, has-node-range t s h, word-level t s, word-level t n, word-fence t s, word-fence t n)
+      (ap (λ (b : Bool). eqb s 0 || b) (and_assoc (in_range (nodes t) s) _ _))
 
-  module _ (z : s ≡ 0 → ⊥) where
-    some : sibling_ok (view t) n ≡ (in_range (nodes t) s && (eqb (node t s).level (node t n).level && ltb (node t n).fence (node t s).fence))
-    unfolding sibling_ok
-    some = rw (is-sibling, ne_eqb s 0 z)
+  pub sibling-none : s ≡ 0 → eqb s 0 ≡ sibling_ok (view t) n
+  sibling-none z = let f = eq-eqb s 0 z in f ∙ ap (λ (b : Bool). b || in-place) (sym f) ∙ sibling-joined
 
-    pub sibling-out : has_node t s ≡ false → false ≡ sibling_ok (view t) n
-    sibling-out o = sym (some ∙ rw (← has-node-range t s k.header, o))
-
-    module _ (a b : ℕ) (p : a ≡ word_of t s 2) (q : b ≡ word_of t n 2) where
-      pub sibling-other : (a ≡ b → ⊥) → false ≡ sibling_ok (view t) n
-      sibling-other d = sym (refuted _ (λ o. d (p ∙ word-level t s ∙ (simp decode at (sym some ∙ o)).1.0 ∙ sym (q ∙ word-level t n))))
-
-      pub sibling-right : (x y : ℕ) → has_node t s ≡ true → a ≡ b → x ≡ word_of t n 3 → y ≡ word_of t s 3 → ltb x y ≡ sibling_ok (view t) n
-      sibling-right x y o d f g =
-          let level : (node t s).level ≡ (node t n).level = sym (p ∙ word-level t s) ∙ d ∙ q ∙ word-level t n in
-          sym
-          (some
-          ∙ rw (← has-node-range t s k.header, o, eq-eqb (node t s).level (node t n).level level, ← word-fence t n, ← word-fence t s, ← f, ← g))
+  pub sibling-some : (s ≡ 0 → ⊥) → in-place ≡ sibling_ok (view t) n
+  sibling-some z = ap (λ (b : Bool). b || in-place) (sym (ne_eqb s 0 z)) ∙ sibling-joined
 
 -- ---- the node after the last child
 
@@ -100,23 +86,9 @@ next-some t n s w e z q =
 
 -- ---- where a node stands
 
-module _ (t : Words) (n l k r : ℕ) (h : header_ok t ≡ true) where
-  pub stands-out : has_node t n ≡ false → false ≡ stands (view t) (standing n l k r)
-  unfolding stands
-  stands-out o = rw (← has-node-range t n h, o)
-
-  pub stands-level : (w : ℕ) → w ≡ word_of t n 2 → (w ≡ l → ⊥) → false ≡ stands (view t) (standing n l k r)
-  unfolding stands
-  stands-level w q d = sym (refuted _ (λ e. d (q ∙ word-level t n ∙ (simp decode at e).1.0)))
-
-  pub stands-fence : (w : ℕ) → w ≡ word_of t n 3 → (w ≡ k → ⊥) → false ≡ stands (view t) (standing n l k r)
-  unfolding stands
-  stands-fence w q d = sym (refuted _ (λ e. d (q ∙ word-fence t n ∙ (simp decode at e).1.1.0)))
-
-  pub stands-all : (a b c : ℕ) → has_node t n ≡ true → a ≡ word_of t n 2 → a ≡ l → b ≡ word_of t n 3 → b ≡ k → c ≡ word_of t n 1
-      → eqb c r ≡ stands (view t) (standing n l k r)
-  unfolding stands
-  stands-all a b c o p p' q q' s =
-      let level : eqb (node t n).level l ≡ true = eq-eqb (node t n).level l (sym (p ∙ word-level t n) ∙ p') in
-      let fence : eqb (node t n).fence k ≡ true = eq-eqb (node t n).fence k (sym (q ∙ word-fence t n) ∙ q') in
-      rw (← has-node-range t n h, o, level, fence, s, word-sibling t n)
+pub stands-joined : (t : Words) (n l k r : ℕ) → header_ok t ≡ true
+    → (((has_node t n && eqb (word_of t n 2) l) && eqb (word_of t n 3) k) && eqb (word_of t n 1) r) ≡ stands (view t) (standing n l k r)
+unfolding stands
+stands-joined t n l k r h =
+    rw (has-node-range t n h, word-level t n, word-fence t n, word-sibling t n)
+    (and_assoc (in_range (nodes t) n && eqb (node t n).level l) _ _ ∙ and_assoc (in_range (nodes t) n) _ _)

@@ -1,7 +1,7 @@
 // The check of a whole table: whether it is sound, what is left over, how many nodes are reached.
 #![tactic(auto)]
 
-ghost use Rattle.std.specs.Prelude.{◌≡◌, true, cond, ◌&&◌, Some, ◌≤◌, length};
+ghost use Rattle.std.specs.Prelude.{◌≡◌, true, cond, ◌&&◌, Some, ◌≤◌};
 ghost use Rattle.std.proofs.Math.Option.{some};
 ghost use Rattle.model.specs.Table.{header_ok, has_node};
 ghost use Rattle.model.specs.Slots.{view, view_from, clear_in};
@@ -9,16 +9,13 @@ ghost use Rattle.model.specs.Reached.{head_or, next_child, reached};
 ghost use Rattle.model.specs.SoundTest.{sibling_ok, add_few, add_missing, together, times, leftover_of, leftover_from, room, has_room, is_nothing, sound};
 ghost use Rattle.walk_laws.specs.Walk.{stands, check, walk};
 ghost use Rattle.slots.specs.Gathered.{pointers_from};
-ghost use Rattle.recordings.specs.Marked.{MARKS};
 ghost use Rattle.sound.specs.Nodes.{standing, leaf_fair, look_of, noted, slot_checked};
 ghost use Rattle.sound.specs.Visited.{visited, slot_visited, Adds, Seen};
 ghost use Rattle.sound.specs.Checked.{meant, verdict_of, uncut_in, checked_tree, joined, checked};
 
 use model::{Few, MARK, Missing, Unfinished, Visited};
+use recordings::{MARKS, UNCUT};
 use slots::Ways;
-
-// Words for a bit of each node, and one more (`recordings`).
-const MARKS: usize = 1025;
 
 // ---- one node
 
@@ -45,12 +42,7 @@ fn clear(table: &[u64], n: u64) -> bool
     requires { has_node table.now n ≡ true }
     ensures { result ≡ clear_in table.now n }
 {
-    for j in 4..8 {
-        if node::word(table, n, j) != 0 {
-            return false;
-        }
-    }
-    node::word(table, n, 31) == 0
+    (4..8).all(|j| node::word(table, n, j) == 0) && node::word(table, n, 31) == 0
 }
 
 // A sibling other than 0 is in 1 to N, on the same level, with a higher fence.
@@ -58,18 +50,11 @@ fn sibling_ok(table: &[u64], n: u64) -> bool
     requires { header_ok table.now ≡ true }
     ensures { result ≡ sibling_ok (view table.now) n }
 {
-    // One by one: joined by && the search leaves goals over the joined values open.
     let s = node::word(table, n, 1);
-    if s == 0 {
-        return true;
-    }
-    if !node::has(table, s) {
-        return false;
-    }
-    if node::word(table, s, 2) != node::word(table, n, 2) {
-        return false;
-    }
-    node::word(table, n, 3) < node::word(table, s, 3)
+    s == 0
+        || node::has(table, s)
+            && node::word(table, s, 2) == node::word(table, n, 2)
+            && node::word(table, n, 3) < node::word(table, s, 3)
 }
 
 // A leaf's left is MARK.
@@ -97,7 +82,7 @@ fn look_at(table: &[u64], n: u64) -> Option<Unfinished>
 {
     let x = node::read(table, n);
     let bound = node::word(table, x.sibling, 3);
-    let s = slots::survey_slots(x, x.level != 0, bound);
+    let s = slots::survey_slots(x, bound);
     if !in_order(table, n, s.fair, x.level, x.left) {
         return None;
     }
@@ -121,22 +106,15 @@ fn stands(table: &[u64], n: u64, level: u64, fence: u64, right: u64) -> bool
     requires { header_ok table.now ≡ true }
     ensures { result ≡ stands (view table.now) (standing n level fence right) }
 {
-    // One by one, as in sibling_ok.
-    if !node::has(table, n) {
-        return false;
-    }
-    if node::word(table, n, 2) != level {
-        return false;
-    }
-    if node::word(table, n, 3) != fence {
-        return false;
-    }
-    node::word(table, n, 1) == right
+    node::has(table, n)
+        && node::word(table, n, 2) == level
+        && node::word(table, n, 3) == fence
+        && node::word(table, n, 1) == right
 }
 
 // ---- what is unfinished
 
-// The sums of what is unfinished: none, one, or more than one.
+// The sums of what is unfinished: none, one, or more than one, of each of the two enums of the model.
 fn add_few(a: Few, b: Few) -> Few
     ensures { result ≡ add_few a b }
 {
@@ -207,10 +185,9 @@ fn check_node(
     fence: u64,
     right: u64,
     seen: Visited,
-    marks: &mut [u64],
+    marks: &mut [u64; MARKS],
 ) -> Option<Visited>
-    requires table_value { header_ok table.now ≡ true }
-    requires marks_len { length marks.old ≡ MARKS }
+    requires { header_ok table.now ≡ true }
     ensures value { result ≡ check (view table.now) level (standing n level fence right) (Some seen) }
     ensures adds { Seen result → Adds (visited (view table.now) level n) marks.old marks.new }
 {
@@ -257,10 +234,9 @@ fn check_slot(
     child: u64,
     right: u64,
     seen: Visited,
-    marks: &mut [u64],
+    marks: &mut [u64; MARKS],
 ) -> Option<Visited>
-    requires table_value { header_ok table.now ≡ true }
-    requires marks_len { length marks.old ≡ MARKS }
+    requires { header_ok table.now ≡ true }
     ensures value { result ≡ slot_checked (view table.now) parent level key child right (Some seen) }
     ensures adds { Seen result → Adds (slot_visited (view table.now) level child right) marks.old marks.new }
 {
@@ -275,9 +251,8 @@ fn check_slot(
 }
 
 // The check of a whole tree but for the recording numbers, the classes and the leftover. Marks the nodes reached.
-fn walk(table: &[u64], root: u64, marks: &mut [u64]) -> Option<Visited>
-    requires table_value { header_ok table.now ≡ true }
-    requires marks_len { length marks.old ≡ MARKS }
+fn walk(table: &[u64], root: u64, marks: &mut [u64; MARKS]) -> Option<Visited>
+    requires { header_ok table.now ≡ true }
     ensures value { result ≡ walk (view_from table.now root) }
     ensures adds { Seen result → Adds (reached (view_from table.now root)) marks.old marks.new }
 {
@@ -412,13 +387,14 @@ pub fn check_tree(table: &[u64], root: u64) -> Option<Sound>
     requires { header_ok table.now ≡ true }
     ensures { result ≡ checked_tree (view_from table.now root) }
 {
+    // Fixed memory, no heap.
     let mut marks = [0u64; MARKS];
     let seen = walk(table, root, &mut marks)?;
     let leftover = judge(seen.unfinished)?;
     if !has_room(table, leftover) {
         return None;
     }
-    marks[1024] = uncut(leftover);
+    marks[UNCUT] = uncut(leftover);
     if !recordings::ok(table, &marks) {
         return None;
     }

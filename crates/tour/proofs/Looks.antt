@@ -1,59 +1,22 @@
 -- The laws that the small functions cite.
-use mathlib.Core.Path.{◌≡◌, refl, ap, sym, subst, ◌∙◌}
-use mathlib.Core.Bool.{Bool, true, false, not, ◌&&◌, cond}
+use mathlib.Core.Path.{◌≡◌, refl, ap, sym, ◌∙◌}
+use mathlib.Core.Bool.{Bool, true, false, cond}
 use mathlib.Core.Logic.{◌≢◌}
 use mathlib.Core.List.{List, [], ◌∷◌, ◌++◌}
 use Prim.Native.Nat.{ℕ, zero, suc, pred, ◌+◌, ◌-◌, ◌*◌, ◌≤◌, ◌<◌}
 use native.Mathlib.Omega.{arith}
 use native.Mathlib.Numerals.{add-one}
-use lib.Dec.{ltb, leb}
 use lib.ListN.{length, get_or, drop, length-drop}
 use lib.Seq.{length-take-le}
 use borrow.Author.Tests.{eq-eqb, ne_eqb}
 use Rattle.model.specs.declared.Node.{Node}
-use Rattle.model.specs.Table.{Words, in_range, nodes, node, node_from, node_start, has_node, blank}
+use Rattle.model.specs.Table.{Words, node, node_from, node_start, has_node, blank}
 use Rattle.model.specs.Slots.{Slot, slot, slots_of}
-use Rattle.list_laws.proofs.Tools.{decode, leb-iff, refuted, double-suc}
-use Rattle.tree_laws.proofs.Rows.{range-iff}
+use Rattle.list_laws.proofs.Tools.{decode, double-suc}
 use Rattle.model.specs.Salvage.{Meeting, meet, meetings, under_fence, in_reach}
-use Rattle.bits.specs.Bits.{has}
 use Rattle.tour_laws.specs.Walk.{slot_at, placed_at, before, ways_from}
 use Rattle.tour_laws.proofs.Ways.{ways-leaf, ways-left, ways-end, ways-hidden, ways-ignored, ways-next, ways-sibling}
-use Rattle.tour.specs.Loop.{pointer_before, unmarked}
-
-pub range-none : (top i : ℕ) → i ≡ 0 → false ≡ in_range top i
-range-none top i e = sym (refuted (in_range top i) (λ h. let u = (range-iff top i).0 h in omega (arith, u.0, e)))
-
-pub range-some : (top i : ℕ) → i ≢ 0 → leb i top ≡ in_range top i
-unfolding in_range
-range-some top i e = rw ((leb-iff 1 i).1 (omega (arith, e)))
-
-pub may-out : (t ms : Words) (top i l : ℕ) → top ≡ nodes t → in_range top i ≡ false → false ≡ unmarked t ms i l
-unfolding unmarked
-may-out t ms top i l e h = let q : in_range (nodes t) i ≡ false = subst (λ (m : ℕ). in_range m i ≡ false) e h in rw q
-
-pub may-level : (t ms : Words) (i l : ℕ) → (node t i).level ≢ l → false ≡ unmarked t ms i l
-unfolding unmarked
-may-level t ms i l h = rw (ne_eqb (node t i).level l h) (go (in_range (nodes t) i))
-  where
-    go : (b : Bool) → false ≡ (b && false)
-    go true = refl
-    go false = refl
-
-pub may-mark : (t ms : Words) (top i l : ℕ) → top ≡ nodes t → in_range top i ≡ true → (node t i).level ≡ l → not (has ms i) ≡ unmarked t ms i l
-unfolding unmarked
-may-mark t ms top i l e h k = let q : in_range (nodes t) i ≡ true = subst (λ (m : ℕ). in_range m i ≡ true) e h in rw (q, eq-eqb (node t i).level l k)
-
-pub range-most : (top i : ℕ) → in_range top i ≡ true → i ≤ top
-range-most top i h = ((range-iff top i).0 h).1
-
-pub leads-out : (t : Words) (top s k : ℕ) → top ≡ nodes t → in_range top s ≡ false → true ≡ under_fence t s k
-unfolding under_fence
-leads-out t top s k e h = let q : in_range (nodes t) s ≡ false = subst (λ (m : ℕ). in_range m s ≡ false) e h in rw q
-
-pub leads-in : (t : Words) (top s k : ℕ) → top ≡ nodes t → in_range top s ≡ true → ltb k (node t s).fence ≡ under_fence t s k
-unfolding under_fence
-leads-in t top s k e h = let q : in_range (nodes t) s ≡ true = subst (λ (m : ℕ). in_range m s ≡ true) e h in rw q
+use Rattle.tour.specs.Loop.{pointer_before}
 
 pub before-first : (n : Node) (j : ℕ) → j ≡ 0 → n.left ≡ pointer_before n j
 unfolding pointer_before

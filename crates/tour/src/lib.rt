@@ -31,6 +31,7 @@ fn in_range(top: u64, i: u64) -> bool
 }
 
 // The pointer before slot j.
+#[tactic(auto, unfolding(crate::specs::Loop::pointer_before))]
 fn pointer_before(n: Node, j: usize) -> u64
     requires { j ≤ 11 }
     ensures { result ≡ pointer_before n j }
@@ -42,15 +43,12 @@ fn pointer_before(n: Node, j: usize) -> u64
 }
 
 // Whether a slot of this key is followed or collected: below the sibling's fence, or no sibling in range.
+#[tactic(auto, unfolding(model::specs::Salvage::under_fence))]
 pub fn under_fence(table: &[u64], top: u64, sibling: u64, key: u64) -> bool
     requires { top ≡ nodes table.now }
     ensures { result ≡ under_fence table.now sibling key }
 {
-    // Two steps: without a sibling no fence is read.
-    if !in_range(top, sibling) {
-        return true;
-    }
-    key < node::read(table, sibling).fence
+    !in_range(top, sibling) || key < node::read(table, sibling).fence
 }
 
 // Way w of node n: 0 its left child, 1 to 12 its slots, 13 its sibling.
@@ -106,15 +104,12 @@ fn look(table: &[u64], top: u64, n: u64, w: u8) -> Sight
 }
 
 // Whether a node may be entered: its number in range, on the level that it must have, and not marked.
+#[tactic(auto, unfolding(crate::specs::Loop::unmarked, model::specs::Table::in_range))]
 fn may_enter(table: &[u64], top: u64, marks: &[u64], i: u64, level: u64) -> bool
     requires { (top ≡ nodes table.now) × (top ≤ 65535) × (length marks.now ≡ 1024) }
     ensures { result ≡ unmarked table.now marks.now i level }
 {
-    // Two steps: the range first, since the node is read only there.
-    if !in_range(top, i) {
-        return false;
-    }
-    node::read(table, i).level == level && !bits::has(marks, i as usize)
+    in_range(top, i) && (node::read(table, i).level == level && !bits::has(marks, i as usize))
 }
 
 // The nodes entered from a root, in order, put after so many that were entered before; the answer is how many there are then. Nodes are

@@ -243,10 +243,6 @@ module _ (ms : Words) (v : View) (n k : ℕ) where
   ok-not zero e = ok-leaf ms v n k ∙ e
   ok-not (suc l) e = ok-down ms v n k l ∙ ap (λ (b : Bool). b && ok_from ms v l (down v (moved v n k) k) k) e
 
-  step-passes : (l : ℕ) → step_ok ms v l n k ≡ true → passes v l n ≡ true
-  unfolding step_ok
-  step-passes l f = ((and-iff (passes v l n) (fit_node ms v (moved v n k))).0 f).0
-
   step-none : (l : ℕ) → step_of ms v l n k ≡ None → step_ok ms v l n k ≡ false
   unfolding step_of
   step-none l e = go (step_ok ms v l n k) refl

@@ -14,7 +14,8 @@ struct Step {
     shown: u64,
 }
 
-// The nodes that a search stands on, from the root's level down, and the length of the run of full nodes that ends them.
+// The nodes that a search stands on, from the root's level down, and the length of the run of full nodes that ends them. Memory is fixed, so
+// the nodes stand in an array for the 16 levels that a tree may have, and the height says how many they are.
 #[derive(Clone, Copy)]
 pub struct Way {
     pub height: u64,
@@ -37,7 +38,8 @@ pub fn plain_count(table: &[u64], m: u64) -> u64
     shown
 }
 
-// How many slots node m shows; 12 if it is not marked, hides a slot or shows more than 11.
+// How many slots node m shows; 12 if it is not marked, hides a slot or shows more than 11. The marks are part of a summary, whose length goes by
+// the table: a slice, and no array.
 fn shown_fit(table: &[u64], marks: &[u64], m: u64) -> u64
     requires m_bound { m < 64 * length marks.now }
     requires m_bound_2 { m ≤ 65535 }
@@ -95,6 +97,7 @@ pub fn find(table: &[u64], marks: &[u64], root: u64, key: u64) -> Option<Way>
     if 15 < top {
         return None;
     }
+    // Fixed memory: a place for each level.
     let mut nodes = [0u64; 16];
     let mut n = root;
     let mut run = 0;

@@ -10,9 +10,10 @@ use lib.Dec.{eqb, ltb}
 use lib.ListN.{length, drop, set, replicate}
 use lib.Seq.{get_or-set_same, get_or-set_other, ext_get_or, drop-length, drop-cons}
 use borrow.Author.Tests.{eq-eqb, ne_eqb, not-true, not-false, ltb-true, ltb-false}
+use mir.Val.{bool_byte}
 use Rattle.model.specs.Table.{Words, at, line}
 use Rattle.model.specs.Search.{filter}
-use Rattle.model.specs.Orders.{Order, order_of, store_count, decode}
+use Rattle.model.specs.Orders.{Order, store, flush, barrier, order_of, store_count, decode}
 use Rattle.model.specs.Wear.{stored_to, stores_to, wear_of, largest, first_at}
 use Rattle.list_laws.proofs.Tools.{Each, same-or-not}
 use Rattle.list_laws.proofs.Filters.{filter-short}
@@ -24,25 +25,32 @@ use Rattle.wear.proofs.Turns.{stored-one, stored-none, stores-order, count-order
 
 -- ---- one order
 
--- what counting the order of these words answers and leaves
-abbrev pub Tallied : (a b : ℕ) (lines : Words) (r : ℕ) (new : Words) → Type 0
-Tallied a b lines r new = (r ≡ store_count (order_of a b ∷ [])) × ((l : ℕ) → at new l ≡ at lines l + stores_to (order_of a b ∷ []) l)
+-- as a number: 1 for a store
+pub one-stored : (o : Order) (r : Bool) → r ≡ is_store o → bool_byte r ≡ store_count (o ∷ [])
+unfolding store_count
+one-stored (store s) r e = rw e
+one-stored (flush l) r e = rw e
+one-stored barrier r e = rw e
+
+-- what counting the order of these words leaves
+abbrev pub Tallied : (a b : ℕ) (lines new : Words) → Type 0
+Tallied a b lines new = (l : ℕ) → at new l ≡ at lines l + stores_to (order_of a b ∷ []) l
 
 module _ (a b : ℕ) (r : Bool) (e : r ≡ is_store (order_of a b)) (lines : Words) where
-  pub tally-none : not r ≡ true → Tallied a b lines 0 lines
+  pub tally-none : not r ≡ true → (false ≡ is_store (order_of a b)) × Tallied a b lines lines
   unfolding stores_to filter
   tally-none n =
       let s = stored-none a b (sym e ∙ not-true r n) in
-      (sym (stored-count (order_of a b ∷ []) ∙ ap length s), λ l. rw s (omega arith))
+      (sym (not-true r n) ∙ e, λ l. rw s (omega arith))
 
   pub tally-inside : not r ≡ false → Each (λ (w : ℕ). w < 8 * length lines) (stored_to (order_of a b ∷ [])) → a / 8 < length lines
   tally-inside n h = let l = (rw (stored-one a b (sym e ∙ not-false r n)) at h).0 in omega arith
 
-  pub tally-one : not r ≡ false → a / 8 < length lines → Tallied a b lines 1 (set lines (a / 8) (at lines (a / 8) + 1))
+  pub tally-one : not r ≡ false → a / 8 < length lines → (true ≡ is_store (order_of a b)) × Tallied a b lines (set lines (a / 8) (at lines (a / 8) + 1))
   unfolding stores_to filter
   tally-one n h =
       let s = stored-one a b (sym e ∙ not-false r n) in
-      (sym (stored-count (order_of a b ∷ []) ∙ ap length s), λ l. rw (s, on-line-cons a [] l) (⊎_elim (here l) (there l) (same-or-not l (a / 8))))
+      (sym (not-false r n) ∙ e, λ l. rw (s, on-line-cons a [] l) (⊎_elim (here l) (there l) (same-or-not l (a / 8))))
     where
       here : (l : ℕ) → l ≡ a / 8 → at (set lines (a / 8) (at lines (a / 8) + 1)) l ≡ at lines l + (one (line a) l + 0)
       here l q = rw (q, eq-eqb (a / 8) (a / 8) refl) (get_or-set_same lines (a / 8) (at lines (a / 8) + 1) 0 h ∙ omega arith)
@@ -82,10 +90,10 @@ module _ (list ws : Words) (total : ℕ) (lines : Words) (t : Tally list ws tota
     total-few r q =
         omega (arith, t.summed, ap store_count (next-order ws pair after p two), count-order o (decode after), stored-count (decode list), stored-few (decode list), decode-length list)
 
-    pub tally-next : (r : ℕ) (new : Words) → Tallied (at pair 0) (at pair 1) lines r new → Tally list after (total + r) new
-    tally-next r new q = record {
-      counted = λ l. omega (arith, t.counted l, q.1 l, ap (λ (os : List Order). stores_to os l) (next-order ws pair after p two), stores-order o (decode after) l);
-      summed = omega (arith, t.summed, q.0, ap store_count (next-order ws pair after p two), count-order o (decode after));
+    pub tally-next : (r : ℕ) → r ≡ store_count (o ∷ []) → (new : Words) → Tallied (at pair 0) (at pair 1) lines new → Tally list after (total + r) new
+    tally-next r e new q = record {
+      counted = λ l. omega (arith, t.counted l, q l, ap (λ (os : List Order). stores_to os l) (next-order ws pair after p two), stores-order o (decode after) l);
+      summed = omega (arith, t.summed, e, ap store_count (next-order ws pair after p two), count-order o (decode after));
     }
 
   module _ (h : length ws < 2) where
@@ -138,7 +146,3 @@ module _ (lines : Words) (i : ℕ) (h : i < length lines) (m : Most) (after : �
       go : (b : Bool) → ltb here m.largest ≡ b → MostFrom lines i (cond b m (record { largest = here; first = i }))
       go true q = stays (ltb-true here m.largest q)
       go false q = moves (ltb-false here m.largest q)
-
-pub most-all : (lines : Words) (m : Most) (i : ℕ) → i ≡ 0 → MostFrom lines i m → (m.largest ≡ largest lines) × (m.first ≡ first_at (largest lines) lines)
-most-all lines m i e was =
-    let f : MostFrom lines 0 m = rw e at was in (f.largest-is, omega (arith, f.first-is, ap (λ (n : ℕ). first_at n lines) f.largest-is))

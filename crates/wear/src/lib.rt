@@ -52,35 +52,35 @@ fn mark(marks: &mut [u64], list: &[u64])
     }
 }
 
-// A word whose bit is 1 where the given word's is as wanted.
-fn wanted_bits(word: u64, wanted: bool) -> u64
-    ensures { (i : ℕ) → i < 64 → bit result i ≡ beq (bit word i) wanted }
+// A word whose bit is 1 if the given word's is as wanted.
+fn wanted_bits<const WANTED: bool>(word: u64) -> u64
+    ensures { (i : ℕ) → i < 64 → bit result i ≡ beq (bit word i) WANTED }
 {
-    if wanted {
+    if WANTED {
         return word;
     }
     MARK - word
 }
 
 // How many numbers from w on, in w's word of marks, are not as wanted.
-fn unwanted(marks: &[u64], w: usize, wanted: bool) -> usize
+fn unwanted<const WANTED: bool>(marks: &[u64], w: usize) -> usize
     requires { w < 64 * length marks.now }
-    ensures { Sought (has marks.now) wanted w (w + (64 - w % 64)) (w + result) }
+    ensures { Sought (has marks.now) WANTED w (w + (64 - w % 64)) (w + result) }
 {
-    let bits = wanted_bits(marks[w / 64] >> (w % 64), wanted);
+    let bits = wanted_bits::<WANTED>(marks[w / 64] >> (w % 64));
     let n = u64::trailing_zeros(bits) as usize;
     n.min(64 - w % 64)
 }
 
 // The first number from a number on that is marked, or that is not, as wanted; len if there is none below it. A word of marks a turn.
-fn seek(marks: &[u64], from: usize, len: usize, wanted: bool) -> usize
+fn seek<const WANTED: bool>(marks: &[u64], from: usize, len: usize) -> usize
     requires { (from ≤ len) × (len ≤ 64 * length marks.now) }
-    ensures { Sought (has marks.now) wanted from len result }
+    ensures { Sought (has marks.now) WANTED from len result }
 {
     let mut w = from;
     // No fixed step: the marks say how far a turn goes.
     while w < len {
-        let n = unwanted(marks, w, wanted);
+        let n = unwanted::<WANTED>(marks, w);
         if len - w <= n {
             return len;
         }
@@ -98,12 +98,12 @@ fn count_pairs(marks: &[u64], len: usize) -> usize
     ensures { result ≡ length (extents_in (has marks.now) 0 len) }
 {
     let mut pairs = 0;
-    let mut w = seek(marks, 0, len, true);
+    let mut w = seek::<true>(marks, 0, len);
     // No fixed step: an extent a turn, of any length.
     while w < len {
-        let end = seek(marks, w, len, false);
+        let end = seek::<false>(marks, w, len);
         pairs += 1;
-        w = seek(marks, end, len, true);
+        w = seek::<true>(marks, end, len);
     }
     pairs
 }
@@ -114,28 +114,28 @@ fn write_pairs(pairs: &mut [u64], marks: &[u64], len: usize)
     requires pairs_len { length pairs.old ≡ 2 * length (extents_in (has marks.now) 0 len) }
     ensures { pairs.new ≡ extent_words (extents_in (has marks.now) 0 len) }
 {
-    let mut w = seek(marks, 0, len, true);
+    let mut w = seek::<true>(marks, 0, len);
     for k in 0..pairs.len() / 2 {
-        let end = seek(marks, w, len, false);
+        let end = seek::<false>(marks, w, len);
         pairs[2 * k] = w as u64;
         pairs[2 * k + 1] = (end - w) as u64;
-        w = seek(marks, end, len, true);
+        w = seek::<true>(marks, end, len);
     }
 }
 
-// One order counted at its line, if it is a store: 1, or 0.
-fn count_one(lines: &mut [u64], a: u64, b: u64) -> u64
+// One order counted at its line, if it is a store: whether it is.
+fn count_one(lines: &mut [u64], a: u64, b: u64) -> bool
     requires each { Each (λ (w : ℕ). w < 8 * length lines.old) (stored_to (order_of a b ∷ [])) }
     requires by_index { (l : ℕ) → at lines.old l < MARK }
-    ensures value { result ≡ store_count (order_of a b ∷ []) }
+    ensures value { result ≡ is_store (order_of a b) }
     ensures by_index_2 { (l : ℕ) → at lines.new l ≡ at lines.old l + stores_to (order_of a b ∷ []) l }
 {
     if !is_store(a, b) {
-        return 0;
+        return false;
     }
     let l = (a / 8) as usize;
     lines[l] += 1;
-    1
+    true
 }
 
 // Counts the list's stores at their lines, and in all.
@@ -147,7 +147,7 @@ fn count_stores(lines: &mut [u64], list: &[u64]) -> u64
     node::zero(lines);
     let mut total = 0;
     for pair in list.chunks_exact(2) {
-        total += count_one(lines, pair[0], pair[1]);
+        total += u64::from(count_one(lines, pair[0], pair[1]));
     }
     total
 }

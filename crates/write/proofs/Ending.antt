@@ -6,7 +6,8 @@ use mathlib.Core.Bool.{true, false}
 use mathlib.Core.List.{List, [], ◌++◌, append-nil}
 use Prim.Native.Nat.{ℕ, zero, suc, ◌*◌, ◌≤◌}
 use lib.ListN.{length}
-use Rattle.std.specs.Prelude.{Err}
+use Rattle.std.specs.Prelude.{Ok, Err}
+use Rattle.model.specs.declared.Counts.{Counts}
 use Rattle.model.specs.declared.Refusal.{Refusal}
 use Rattle.model.specs.Results as answer
 use Rattle.model.specs.Results.{refused_with, done_with}
@@ -20,8 +21,8 @@ use Rattle.two_laws.proofs.AcceptedTwo.{Allows, Accepted, accepted-iff}
 use Rattle.two_laws.proofs.MapsTwo.{Steps, accepted-steps}
 use Rattle.two_laws.proofs.DocksTwo.{list-fits}
 use Rattle.two_laws.proofs.CollectionTwo.{collection-repaired}
-use Rattle.orders.specs.declared.Pen.{Pen}
-use Rattle.orders.specs.Desk.{desk, first_pen, stored_all, finished, Room}
+use Rattle.orders.specs.declared.Writer.{Writer}
+use Rattle.orders.specs.Desk.{Desk, desk, first_pen, start, of, Becomes, Makes, stored_all, finished, counts_of, Room}
 use Rattle.orders.proofs.Rooms.{room-first, room-rest}
 use Rattle.orders.proofs.Rest.{room-as, stored-as}
 use Rattle.orders.proofs.Meaning.{Written, finished-means, start-room}
@@ -59,15 +60,21 @@ seventeen-later (deletion n k) t s h = collection-repaired n t s h
 seventeen-later (class_change n k c) t s h = collection-repaired n t s h
 seventeen-later repair t s h = refl
 
--- ---- an accepted call, from the first pen on: the repair, then what the repaired table calls for
+-- ---- an accepted call, from its writer's first pen on: the repair, then what the repaired table calls for
 
-pub record Begun (x : Call) (t lent : Words) (dock : ℕ) (pen : Pen) (rest : Words → List Store) : Type 0 where
-  pub is-sound : sound t ≡ true
-  pub accepted : refusal x (length lent) dock t ≡ 0
-  pub first : pen ≡ first_pen dock
-  pub stores : stores_of x t ≡ repair_stores t ++ rest (repaired t)
+pub record Begun (x : Call) (dock : ℕ) (d : Desk) (rest : Words → List Store) : Type 0 where
+  pub is-sound : sound d.table ≡ true
+  pub accepted : refusal x (length d.list) dock d.table ≡ 0
+  pub first : d.pen ≡ first_pen dock
+  pub stores : stores_of x d.table ≡ repair_stores d.table ++ rest (repaired d.table)
 
-module _ {x : Call} {t lent : Words} {dock : ℕ} {pen : Pen} {rest : Words → List Store} (b : Begun x t lent dock pen rest) where
+module _ {x : Call} {dock : ℕ} {d : Desk} {rest : Words → List Store} (b : Begun x dock d rest) where
+  abbrev t : Words
+  t = d.table
+
+  abbrev lent : Words
+  lent = d.list
+
   steps : Steps x t
   steps = accepted-steps x (length lent) dock t b.is-sound b.accepted
 
@@ -80,49 +87,54 @@ module _ {x : Call} {t lent : Words} {dock : ℕ} {pen : Pen} {rest : Words → 
   fits : 2 * length (barred dock (orders (stores_of x t))) ≤ length lent
   fits = list-fits x (length lent) dock t b.accepted
 
-  call-room : Room (stores_of x t) (desk t lent pen)
-  call-room = rw b.first (start-room (stores_of x t) t lent dock fits steps.stores-inside)
+  started : d ≡ start t lent dock
+  started = ap (desk t lent) b.first
 
-  all-room : Room (repair_stores t ++ rest (repaired t)) (desk t lent pen)
-  all-room = room-as _ _ (desk t lent pen) b.stores call-room
+  call-room : Room (stores_of x t) d
+  call-room = rw started (start-room (stores_of x t) t lent dock fits steps.stores-inside)
 
-  pub mend-room : Room (repair_stores t) (desk t lent pen)
-  mend-room = room-first _ _ (desk t lent pen) all-room
+  all-room : Room (repair_stores t ++ rest (repaired t)) d
+  all-room = room-as _ _ d b.stores call-room
 
-  -- the repair is made
-  module _ {t₁ list : Words} {at : Pen} (g : desk t₁ list at ≡ stored_all (repair_stores t) (desk t lent pen)) where
-    pub mended-table : t₁ ≡ repaired t
+  pub mend-room : Room (repair_stores t) d
+  mend-room = room-first _ _ d all-room
+
+-- the repair is made
+module _ {x : Call} {dock : ℕ} {w v : Writer} {rest : Words → List Store} (b : Begun x dock (of w) rest) (g : Makes (repair_stores w.table.now) w v) where
+  pub mended-table : v.table.now ≡ repaired w.table.now
+  unfolding repaired
+  mended-table = part-table (repair_stores w.table.now) rest g
+
+  pub mended-settled : settled v.table.now ≡ true
+  mended-settled = rw mended-table (repairs w.table.now b.is-sound).settles
+
+  pub mended-collection : seventeen_in x v.table.now ≡ false
+  mended-collection = rw mended-table (seventeen-later x w.table.now b.is-sound (passes b).collection)
+
+  pub rest-room : Room (rest v.table.now) (of v)
+  unfolding repaired
+  rest-room = part-room (repair_stores w.table.now) rest g (all-room b)
+
+  -- and the rest
+  module _ {z : Writer} (h : Makes (rest v.table.now) v z) where
+    all-stored : Makes (stores_of x w.table.now) w z
     unfolding repaired
-    mended-table = part-table (repair_stores t) rest t lent pen t₁ list at g
+    all-stored = stored-as b.stores (part-stored (repair_stores w.table.now) rest g h)
 
-    pub mended-settled : settled t₁ ≡ true
-    mended-settled = rw mended-table (repairs t b.is-sound).settles
+    pub finish-room : Room [] (of z)
+    finish-room = rw all-stored.is (room-rest (stores_of x w.table.now) [] (of w) (rw append-nil (call-room b)))
 
-    pub mended-collection : seventeen_in x t₁ ≡ false
-    mended-collection = rw mended-table (seventeen-later x t b.is-sound passes.collection)
-
-    pub rest-room : Room (rest t₁) (desk t₁ list at)
-    unfolding repaired
-    rest-room = part-room (repair_stores t) rest t lent pen t₁ list at g all-room
-
-    -- and the rest
-    module _ {t₂ list₂ : Words} {at₂ : Pen} (h : desk t₂ list₂ at₂ ≡ stored_all (rest t₁) (desk t₁ list at)) where
-      all-stored : desk t₂ list₂ at₂ ≡ stored_all (stores_of x t) (desk t lent pen)
-      unfolding repaired
-      all-stored = stored-as _ _ (desk t lent pen) b.stores _ (part-stored (repair_stores t) rest t lent pen t₁ list at g _ h)
-
-      pub finish-room : Room [] (desk [] list₂ at₂)
-      finish-room =
-          let r : Room [] (desk t₂ list₂ at₂) = rw all-stored (room-rest (stores_of x t) [] (desk t lent pen) (rw append-nil call-room)) in
-          record { inside = tt; space = r.space; counts = r.counts }
-
-      -- and it is finished
-      pub done-call : {list' : Words} {last : Pen} → ((u : Words) → desk u list' last ≡ finished (desk u list₂ at₂)) → Promised x t lent dock (done_with last.stores last.flushes last.barriers) t₂ list'
-      unfolding written table_after list_after
-      done-call {list'} {last} f =
-          let q = all-stored ∙ ap (λ (p : Pen). stored_all (stores_of x t) (desk t lent p)) b.first in
-          let w : Written (stores_of x t) t lent dock (desk t₂ list' last) = rw (f t₂ ∙ ap finished q) (finished-means (stores_of x t) t lent dock fits) in
-          rw (b.accepted, written, table_after, list_after) (done-same w.stores w.flushes w.barriers, (w.table, w.list))
+    -- and it is finished
+    pub done-call : {y : Writer} {r : Counts} → Becomes z (finished (of z)) y → r ≡ counts_of (finished (of z))
+        → Promised x w.table.now w.list.now dock (Ok r) y.table.now y.list.now × ((y.table.ghost_name ≡ w.table.ghost_name) × (y.list.ghost_name ≡ w.list.ghost_name))
+    unfolding written table_after list_after
+    done-call {y} {r} f e =
+        let t = w.table.now in
+        let q = ap finished (all-stored.is ∙ ap (stored_all (stores_of x t)) (started b)) in
+        let u : Written (stores_of x t) t w.list.now dock (finished (of z)) = rw q (finished-means (stores_of x t) t w.list.now dock (fits b)) in (
+          rw (b.accepted, written, table_after, list_after, e) (done-same u.stores u.flushes u.barriers, (ap (λ (d : Desk). d.table) f.is ∙ u.table, ap (λ (d : Desk). d.list) f.is ∙ u.list)),
+          (f.same_table ∙ all-stored.same_table, f.same_list ∙ all-stored.same_list),
+        )
 
 -- ---- the stores of a repair: nothing is left after it
 

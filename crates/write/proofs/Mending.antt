@@ -13,8 +13,8 @@ use Rattle.two_laws.proofs.MendTwo.{hidden-there, missing-plain, both-there, bot
 use Rattle.sound.specs.declared.Leftover as said
 use Rattle.sound.specs.declared.Leftover.TheVariants.{Nothing, HiddenIn, MissingIn, BothIn}
 use Rattle.sound.specs.Checked.{meant}
-use Rattle.orders.specs.declared.Pen.{Pen}
-use Rattle.orders.specs.Desk.{Desk, desk, stored_all, Room}
+use Rattle.orders.specs.declared.Writer.{Writer}
+use Rattle.orders.specs.Desk.{of, Makes, Room}
 use Rattle.orders.proofs.Rest.{room-as, stored-as}
 use Rattle.write.proofs.Parts.{part-table, part-room, part-stored}
 
@@ -61,16 +61,17 @@ module _ (t : Words) (l : said.Leftover) (s : sound t ≡ true) (e : leftover_al
     pub parent-there : has_node t p ≡ true
     parent-there = both-there t s p a both
 
-    -- the second part, on what the first part left
-    module _ (lent : Words) (pen : Pen) (t₁ list : Words) (at : Pen) (g : desk t₁ list at ≡ stored_all (close_at t p) (desk t lent pen)) where
-      abbrev attaching : Words → List Store
-      attaching u = attach u p a
+-- both: the second part, on what the first part left
+module _ (w : Writer) (l : said.Leftover) (s : sound w.table.now ≡ true) (e : leftover_all w.table.now ≡ some (meant l)) (p a : ℕ) (q : l ≡ BothIn p a) {v : Writer}
+    (g : Makes (close_at w.table.now p) w v) where
+  abbrev attaching : Words → List Store
+  attaching u = attach u p a
 
-      pub closed-plain : Plain t₁ p
-      closed-plain = rw (part-table (close_at t p) attaching t lent pen t₁ list at g) (both-closed t s p a both)
+  pub closed-plain : Plain v.table.now p
+  closed-plain = rw (part-table (close_at w.table.now p) attaching g) (both-closed w.table.now s p a (both w.table.now l s e p a q))
 
-      pub closed-room : Room (repair_stores t) (desk t lent pen) → Room (attach t₁ p a) (desk t₁ list at)
-      closed-room r = part-room (close_at t p) attaching t lent pen t₁ list at g (room-as (repair_stores t) _ (desk t lent pen) both-stores r)
+  pub closed-room : Room (repair_stores w.table.now) (of w) → Room (attach v.table.now p a) (of v)
+  closed-room r = part-room (close_at w.table.now p) attaching g (room-as _ _ (of w) (both-stores w.table.now l s e p a q) r)
 
-      pub closed-attached : (d : Desk) → d ≡ stored_all (attach t₁ p a) (desk t₁ list at) → d ≡ stored_all (repair_stores t) (desk t lent pen)
-      closed-attached d h = stored-as (repair_stores t) _ (desk t lent pen) both-stores d (part-stored (close_at t p) attaching t lent pen t₁ list at g d h)
+  pub closed-attached : {z : Writer} → Makes (attach v.table.now p a) v z → Makes (repair_stores w.table.now) w z
+  closed-attached h = stored-as (both-stores w.table.now l s e p a q) (part-stored (close_at w.table.now p) attaching g h)

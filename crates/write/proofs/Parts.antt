@@ -3,21 +3,21 @@ use mathlib.Core.Path.{◌≡◌, ap, sym, ◌∙◌}
 use mathlib.Core.List.{List, ◌++◌}
 use Rattle.model.specs.Table.{Words}
 use Rattle.model.specs.Orders.{Store, apply}
-use Rattle.orders.specs.declared.Pen.{Pen}
-use Rattle.orders.specs.Desk.{Desk, desk, stored_all, Room}
+use Rattle.orders.specs.declared.Writer.{Writer}
+use Rattle.orders.specs.Desk.{Desk, of, Makes, Room}
 use Rattle.orders.proofs.Steps.{stored_all-table}
 use Rattle.orders.proofs.Rest.{room-as, stored-as, then-room, then-stored}
 
--- the first part is made, and leaves the table t₁, the list and the pen
-module _ (ss : List Store) (rest : Words → List Store) (t lent : Words) (pen : Pen) (t₁ list : Words) (at : Pen) (q : desk t₁ list at ≡ stored_all ss (desk t lent pen)) where
-  pub part-table : t₁ ≡ apply ss t
-  part-table = ap (λ (d : Desk). d.table) q ∙ stored_all-table ss (desk t lent pen)
+-- the first part is made
+module _ (ss : List Store) (rest : Words → List Store) {w v : Writer} (q : Makes ss w v) where
+  pub part-table : v.table.now ≡ apply ss w.table.now
+  part-table = ap (λ (d : Desk). d.table) q.is ∙ stored_all-table ss (of w)
 
-  rest-as : rest (apply ss t) ≡ rest t₁
+  rest-as : rest (apply ss w.table.now) ≡ rest v.table.now
   rest-as = ap rest (sym part-table)
 
-  pub part-room : Room (ss ++ rest (apply ss t)) (desk t lent pen) → Room (rest t₁) (desk t₁ list at)
-  part-room r = room-as (rest (apply ss t)) (rest t₁) (desk t₁ list at) rest-as (then-room ss (rest (apply ss t)) (desk t lent pen) (desk t₁ list at) q r)
+  pub part-room : Room (ss ++ rest (apply ss w.table.now)) (of w) → Room (rest v.table.now) (of v)
+  part-room r = room-as _ _ (of v) rest-as (then-room ss (rest (apply ss w.table.now)) q r)
 
-  pub part-stored : (d : Desk) → d ≡ stored_all (rest t₁) (desk t₁ list at) → d ≡ stored_all (ss ++ rest (apply ss t)) (desk t lent pen)
-  part-stored d h = then-stored ss (rest (apply ss t)) (desk t lent pen) (desk t₁ list at) q d (stored-as (rest (apply ss t)) (rest t₁) (desk t₁ list at) rest-as d h)
+  pub part-stored : {z : Writer} → Makes (rest v.table.now) v z → Makes (ss ++ rest (apply ss w.table.now)) w z
+  part-stored h = then-stored ss (rest (apply ss w.table.now)) q (stored-as rest-as h)

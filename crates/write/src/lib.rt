@@ -1,4 +1,4 @@
-// What every writing call begins with: its refusals 2, 17, 4, 18 and 5, the first pen and the repair; and whether a map has a key.
+// What every writing call begins with: its refusals 2, 17, 4, 18 and 5, and the repair; and whether a map has a key.
 #![tactic(auto)]
 
 ghost use Rattle.std.specs.Prelude.{◌≡◌, true, false};
@@ -10,11 +10,11 @@ ghost use Rattle.model.specs.SoundTest.{leftover_all, sound_view, sound};
 ghost use Rattle.model.specs.Writes.{repair_stores};
 ghost use Rattle.model.specs.Refusals.{has_key, words_for};
 ghost use Rattle.sound.specs.Checked.{meant};
-ghost use Rattle.orders.specs.Desk.{desk, first_pen, stored_all, Room};
+ghost use Rattle.orders.specs.Desk.{of, Room, Makes};
 ghost use Rattle.write.specs.Judged.{judged};
 
 use model::Refusal;
-use orders::Pen;
+use orders::Writer;
 use sound::{Leftover, Sound};
 
 // What the tests that all writing calls share answer: what repair has to do and how many nodes are reached, or a refusal.
@@ -73,44 +73,30 @@ pub fn has_key(table: &[u64], root: u64, key: u64) -> bool
     slots::find(x.slots, x.left, key).is_some()
 }
 
-// A pen before the first order of a list for the dock.
-pub fn begin(dock: u64) -> Pen
-    ensures { result ≡ first_pen dock }
-{
-    Pen {
-        dock: dock,
-        at: 0,
-        line: 0,
-        stores: 0,
-        flushes: 0,
-        barriers: 0,
-    }
-}
-
 // Repairs a sound table.
-pub fn mend(table: &mut [u64], list: &mut [u64], pen: Pen, left: Leftover) -> Pen
-    requires table_value { sound table.old ≡ true }
-    requires table_value_2 { leftover_all table.old ≡ some (meant left) }
-    requires room { Room (repair_stores table.old) (desk table.old list.old pen) }
-    ensures { desk table.new list.new result
-        ≡ stored_all (repair_stores table.old) (desk table.old list.old pen) }
+pub fn mend(writer: &mut Writer<'_>, left: Leftover)
+    requires table_value { sound writer.old.table.now ≡ true }
+    requires table_value_2 { leftover_all writer.old.table.now ≡ some (meant left) }
+    requires room { Room (repair_stores writer.old.table.now) (of writer.old) }
+    ensures { Makes (repair_stores writer.old.table.now) writer.old writer.new }
 {
     match left {
-        Leftover::Nothing => pen,
-        Leftover::HiddenIn(x) => shift::close(table, list, pen, x),
+        Leftover::Nothing => {}
+        Leftover::HiddenIn(x) => shift::close(writer, x),
         Leftover::MissingIn {
             parent,
             node,
             trailing,
         } => {
             if trailing {
-                return shift::cut_attach(table, list, pen, parent, node);
+                shift::cut_attach(writer, parent, node);
+            } else {
+                shift::attach(writer, parent, node);
             }
-            shift::attach(table, list, pen, parent, node)
         }
         Leftover::BothIn { parent, node } => {
-            let closed = shift::close(table, list, pen, parent);
-            shift::attach(table, list, closed, parent, node)
+            shift::close(writer, parent);
+            shift::attach(writer, parent, node);
         }
     }
 }

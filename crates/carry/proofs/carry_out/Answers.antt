@@ -1,6 +1,6 @@
 -- `carry::carry_out` meets its contract, by the tests in their order.
 use mathlib.Core.Path.{sym, ◌∙◌}
-use Rattle.std.proofs.lemmas.Result.{err_from_is_err_and}
+use Rattle.list_laws.proofs.Tools.{handed-on}
 use Rattle.model.proofs.Numbers.{passed-zero, failed-some, failed-with}
 use Rattle.carry.proofs.Answers.{no-header, too-many, outside, done}
 use borrow.Author.Rules.{rules}
@@ -8,10 +8,9 @@ use Rattle.carry.proofs.carry_out.Goals as goal
 
 pub returns-in_err-header : goal.returns-in_err-header
 returns-in_err-header c =
-    let p = err_from_is_err_and c.from_residual.result c.from_residual.ensures.1 in
     let e = sym c.header.ensures ∙ c.in_err-header.was in
     let both = no-header _ _ _ (failed-some _ e) in
-    record { value = rw (p.1, p.2) (sym (failed-with _ e) ∙ both.0); table_after = both.1 }
+    record { value = rw (handed-on c.from_residual.ensures.1) (sym (failed-with _ e) ∙ both.0); table_after = both.1 }
 
 pub returns-then-list-c : goal.returns-then-list-c
 returns-then-list-c c =

@@ -1,18 +1,14 @@
 -- `clear::leaf_off` meets its contract.
-use borrow.Author.Rules.{rules}
-use mathlib.Core.Path.{refl, ap, ◌∙◌}
+use Rattle.std.proofs.Common.{rules, tests, refl, ◌∙◌}
+use Rattle.std.proofs.lemmas.Iterator.{YieldsList-from_range}
+use Rattle.std.proofs.lemmas.Iterator.Search.{all_from_yields_List}
+use lib.ListN.{get_or}
+use Rattle.model.specs.Slots.{recording_of}
 use Rattle.clear.specs.New.{off}
-use Rattle.clear.proofs.Looking.{look-end, look-wrong, look-next}
+use Rattle.clear.proofs.Looking.{listed-ways}
 use Rattle.clear.proofs.leaf_off.Goals as goal
 
-pub loop-i-init : goal.loop-i-init
-loop-i-init c = record { few = c.requires.count_bound; comes-to = refl }
-
-pub returns-then-not-is_off : goal.returns-then-not-is_off
-returns-then-not-is_off c = look-wrong c.loop-i.invariant c.loop-i-test.true _ (c.is_off.ensures ∙ ap (off _) c.recording.ensures) (search rules)
-
-pub loop-i-preserved : goal.loop-i-preserved
-loop-i-preserved c = look-next c.loop-i.invariant c.loop-i-test.true _ (c.is_off.ensures ∙ ap (off _) c.recording.ensures) (search rules)
-
 pub returns : goal.returns
-returns c = look-end c.loop-i.invariant c.loop-i-test.false
+returns c = let a = c.args in
+    all_from_yields_List (λ i. off a.cells.now (recording_of (get_or a.w.pointers i 0))) _ _ c.all.result c.all.ensures.ran
+    (YieldsList-from_range 1 a.w.count _ refl refl) (λ x b q k. search (rules, tests)) ∙ listed-ways a.cells.now a.w 1 _ refl

@@ -12,7 +12,7 @@ pub returns-then-leaf-eq0 : goal.returns-then-leaf-eq0
 returns-then-leaf-eq0 c = leaves-no-leaf c.loop.invariant c.if-leaf-eq0.true
 
 pub leaf_off-requires : goal.leaf_off-requires
-leaf_off-requires c = record { cells_len = c.requires; count_bound = c.ways_of-w.ensures.count_bound }
+leaf_off-requires c = c.ways_of-w.ensures.count_bound
 
 pub returns-then-not-leaf_off : goal.returns-then-not-leaf_off
 returns-then-not-leaf_off c = leaves-wrong c.loop.invariant _ c.ways_of-w.ensures.result_value c.if-leaf-eq0.false (omega arith) _ c.leaf_off.ensures (search rules)

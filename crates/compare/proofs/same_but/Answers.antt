@@ -1,8 +1,10 @@
 -- `compare::same_but` meets its contract. The loop keeps what is left to compare.
-use Rattle.std.proofs.Common.{arith, ap, sym, ◌∙◌}
-use Rattle.compare.specs.Cursors.{distance}
+use mathlib.Core.Bool.{true≢false}
+use Rattle.std.proofs.Common.{arith, ap, sym, ◌∙◌, ◌≡◌, false}
+use Rattle.compare.specs.Cursors.{distance, at_end}
 use Rattle.compare.proofs.Places.{no-pair, a-pair, compared-end, compared-differ, compared-both, compared-next, compared-all}
 use Rattle.compare.proofs.same_but.Goals as goal
+use Rattle.compare.proofs.same_but.Goals.{then-loop-a-test+else-same_pair, else-loop-a-test}
 
 pub loop-a-init : goal.loop-a-init
 loop-a-init c = record {
@@ -14,16 +16,12 @@ loop-a-init c = record {
 pub same_pair-requires : goal.same_pair-requires
 same_pair-requires c = let k = c.loop-a.invariant in (a-pair c.loop-a.a (sym c.at_end.ensures ∙ c.loop-a-test.true), k.first.0, k.second.0)
 
-pub returns-then-not-same_pair : goal.returns-then-not-same_pair
-returns-then-not-same_pair c =
-    compared-differ c.loop-a.invariant (a-pair c.loop-a.a (sym c.at_end.ensures ∙ c.loop-a-test.true)) _ c.same_pair.ensures c.if-not-same_pair.true
-
 pub past-requires-clause-at_lt_count : goal.past-requires-clause-at_lt_count
 past-requires-clause-at_lt_count c = a-pair c.loop-a.a (sym c.at_end.ensures ∙ c.loop-a-test.true)
 
 pub past-requires-in-loop-a-clause-at_lt_count : goal.past-requires-in-loop-a-clause-at_lt_count
 past-requires-in-loop-a-clause-at_lt_count c =
-    compared-both c.loop-a.invariant (a-pair c.loop-a.a (sym c.at_end.ensures ∙ c.loop-a-test.true)) _ c.same_pair.ensures c.if-not-same_pair.false
+    compared-both c.loop-a.invariant (a-pair c.loop-a.a (sym c.at_end.ensures ∙ c.loop-a-test.true)) _ c.same_pair.ensures c.if-same_pair.true
 
 pub loop-a-smaller : goal.loop-a-smaller
 loop-a-smaller c =
@@ -36,9 +34,18 @@ loop-a-preserved c = let a = c.seek-a-in-loop-a.ensures in
       first = (a.count_bound.0, a.count_bound.1);
       second = (b.count_bound.0, b.count_bound.1);
       comes-to =
-          compared-next c.loop-a.invariant (a-pair c.loop-a.a (sym c.at_end.ensures ∙ c.loop-a-test.true)) _ c.same_pair.ensures c.if-not-same_pair.false _ _
+          compared-next c.loop-a.invariant (a-pair c.loop-a.a (sym c.at_end.ensures ∙ c.loop-a-test.true)) _ c.same_pair.ensures c.if-same_pair.true _ _
           (rw c.past.ensures at a.result_value) (rw c.past-in-loop-a.ensures at b.result_value);
     }
 
-pub returns : goal.returns
-returns c = c.at_end-2.ensures ∙ compared-end c.loop-a.invariant (no-pair c.loop-a.a (sym c.at_end.ensures ∙ c.loop-a-test.false))
+pub returns-then-at_end : goal.returns-then-at_end
+returns-then-at_end c =
+    c.at_end-then-at_end.ensures ∙ compared-end c.loop-a.invariant (no-pair c.loop-a.a (sym c.at_end-2.ensures ∙ c.if-at_end.true))
+
+pub returns-else-at_end : goal.returns-else-at_end
+returns-else-at_end c =
+    let more : at_end c.loop-a.a ≡ false = sym c.at_end-2.ensures ∙ c.if-at_end.false in
+    c.if-at_end.false ∙ elim c.loop-a-test.branch [
+      | then-loop-a-test+else-same_pair w ↦ compared-differ c.loop-a.invariant (a-pair c.loop-a.a more) _ w.same_pair.ensures w.if-same_pair.false
+      | else-loop-a-test w ↦ absurd (true≢false (sym w.loop-a-test.false ∙ c.at_end.ensures ∙ more))
+    ]

@@ -1,15 +1,27 @@
 -- `compare::tree_ok` meets its contract.
+use mathlib.Core.Bool.{true≢false}
 use mathlib.Core.Logic.{inl, inr}
+use borrow.Author.Tests.{eqb-true, eqb-false}
+use Rattle.std.proofs.Common.{sym, ◌∙◌}
 use Rattle.compare.proofs.Trees.{tree-fixed, tree-other, tree-same}
 use Rattle.compare.proofs.tree_ok.Goals as goal
-use Rattle.compare.proofs.tree_ok.Goals.{then-after-held+else-not-own+else-after-pointer, else-after-held}
+use Rattle.compare.proofs.tree_ok.Goals.{then-after-before, else-after-before+then-own, else-after-before+else-own}
 
-pub returns-then-not-own : goal.returns-then-not-own
-returns-then-not-own c = tree-fixed c.args.image.now c.args.table.now c.args.top c.args.root _ _ _ c.requires.top_value c.requires.root_value _ _ c.held-after.ensures c.held.ensures c.if-after-held.true c.if-not-own.true
+pub returns-then-fits : goal.returns-then-fits
+returns-then-fits c = let a = c.args in
+    tree-same a.image.now a.table.now a.top a.root _ _ _ c.requires.top_value c.requires.root_value _ _ c.held-after.ensures c.held-before.ensures _ c.same_but.ensures
+    (elim c.if-after-before.branch [
+      | then-after-before w ↦ inl w.if-after-before.true
+      | else-after-before+then-own w ↦ inr (w.if-own.true, eqb-true _ _ (sym w.fits-is ∙ c.if-fits.true))
+      | else-after-before+else-own w ↦ absurd (true≢false (sym c.if-fits.true ∙ w.fits-is ∙ w.if-own.false))
+    ])
 
-pub returns-then-after-pointer : goal.returns-then-after-pointer
-returns-then-after-pointer c = tree-other c.args.image.now c.args.table.now c.args.top c.args.root _ _ _ c.requires.top_value c.requires.root_value _ _ c.held-after.ensures c.held.ensures c.if-after-held.true c.if-after-pointer.true
-
-pub returns : goal.returns
-returns c = tree-same c.args.image.now c.args.table.now c.args.top c.args.root _ _ _ c.requires.top_value c.requires.root_value _ _ c.held-after.ensures c.held.ensures _ c.same_but.ensures
-    (elim c.if-after-held.branch [ then-after-held+else-not-own+else-after-pointer w ↦ inr (w.if-not-own.false, w.if-after-pointer.false) | else-after-held w ↦ inl w.if-after-held.false ])
+pub returns-else-fits : goal.returns-else-fits
+returns-else-fits c = let a = c.args in
+    c.if-fits.false ∙ elim c.if-after-before.branch [
+      | then-after-before w ↦ absurd (eqb-false _ _ (sym w.fits-is ∙ c.if-fits.false) w.if-after-before.true)
+      | else-after-before+then-own w ↦ tree-other a.image.now a.table.now a.top a.root _ _ _ c.requires.top_value c.requires.root_value _ _
+          c.held-after.ensures c.held-before.ensures w.if-after-before.false (eqb-false _ _ (sym w.fits-is ∙ c.if-fits.false))
+      | else-after-before+else-own w ↦ tree-fixed a.image.now a.table.now a.top a.root _ _ _ c.requires.top_value c.requires.root_value _ _
+          c.held-after.ensures c.held-before.ensures w.if-after-before.false w.if-own.false
+    ]

@@ -15,6 +15,6 @@ may_insert_known-requires c = record {
   table_value = c.requires.table_value;
   table_value_2 = c.requires.table_value_2;
   count_value = c.requires.count_value;
-  known_value = found-here c.args.collection
+  known_value = found-here c.args.x.collection
       c.args.table.now _ c.root_of.ensures _ _ c.has_recording-known.ensures;
 }

@@ -6,18 +6,23 @@ use Rattle.insert.proofs.Splitting.{next-splittable, next-room, next-ready, next
 use Rattle.insert.proofs.split_run.Goals as goal
 
 pub loop-l-init : goal.loop-l-init
-loop-l-init c = (c.requires.marked, c.requires.ready, rest-start c.requires.room)
+loop-l-init c = record { marked = c.requires.marked; ready = c.requires.ready; left = rest-start c.requires.room }
 
-pub split_at-at-requires : goal.split_at-at-requires
-split_at-at-requires c = let l = c.loop-l in record { splittable = next-splittable _ _ _ l.l (omega arith) l.invariant.1; room = next-room _ _ _ l.l _ _ _ (omega arith) l.invariant.2; marked = l.invariant.0 }
+pub split_at-requires : goal.split_at-requires
+split_at-requires c =
+    let l = c.loop-l in
+    record { splittable = next-splittable _ _ _ l.l (omega arith) l.invariant.ready; room = next-room _ _ l.l (omega arith) l.invariant.left; marked = l.invariant.marked }
 
 pub loop-l-preserved : goal.loop-l-preserved
-loop-l-preserved c = let l = c.loop-l in
-    let q = c.split_at-at.ensures.result_after in (
-      next-marked _ _ _ l.l _ _ _ (omega arith) l.invariant.2 _ _ _ q l.invariant.1 _ c.split_at-at.ensures.marked_2,
-      next-ready _ _ _ l.l _ _ _ (omega arith) l.invariant.2 _ _ _ q l.invariant.1,
-      next-rest _ _ _ l.l _ _ _ (omega arith) l.invariant.2 _ _ _ q,
-    )
+loop-l-preserved c =
+    let l = c.loop-l in
+    let i = l.invariant in
+    let q = c.split_at.ensures.stores in
+    record {
+      marked = next-marked _ _ l.l (omega arith) i.left q i.ready _ c.split_at.ensures.marked_2;
+      ready = next-ready _ _ l.l (omega arith) i.left q i.ready;
+      left = next-rest _ _ l.l (omega arith) i.left q;
+    }
 
 pub returns : goal.returns
-returns c = let l = c.loop-l in record { result_after = splits-done _ l.l _ _ _ _ (omega arith) l.invariant.2; marked_2 = l.invariant.0 }
+returns c = let l = c.loop-l in record { stores = splits-done _ l.l _ (omega arith) l.invariant.left; marked_2 = l.invariant.marked }

@@ -3,10 +3,13 @@
 use Rattle.model.specs.Writes.{splits}
 use Rattle.two_laws.specs.Parts.{Ready}
 use Rattle.reach.specs.Marks.{Marked}
-use Rattle.orders.specs.Desk.{desk, stored_all}
+use Rattle.orders.specs.Desk.{of, stored_all}
 use Rattle.orders.proofs.Rest.{Rest}
 use Rattle.insert.proofs.split_run.Given as goal
 
 abbrev pub invariant-loop-l : goal.invariant-loop-l
-invariant-loop-l l = Marked l.table l.marks × Ready l.l l.collection l.table l.key
-    × Rest (splits l.collection l.l l.table l.key) (desk l.table l.list l.at) (stored_all (splits l.collection l.count l.initial.table l.key) (desk l.initial.table l.initial.list l.initial.at))
+invariant-loop-l l = record {
+  marked : Marked l.writer.table.now l.marks;
+  ready : Ready l.l l.collection l.writer.table.now l.key;
+  left : Rest (splits l.collection l.l l.writer.table.now l.key) l.initial.writer l.writer (stored_all (splits l.collection l.count l.initial.writer.table.now l.key) (of l.initial.writer));
+}

@@ -14,7 +14,7 @@ loop-i-init c = let q = c.requires in record {
   taken-are = refl;
   goes-on = refl;
   fit = record { is-sound = q.table_value; leftover-is = q.table_value_2; reached-are = q.reached_value; collection = q.table_value_3; dock-ok = q.dock_bound; filled = refl; inside = omega arith };
-  same = ahead-start _ _ _ _ _ _ refl refl refl refl refl refl;
+  same = ahead-start _ _ _ _ _ _ refl refl refl refl;
   new = none-new _ _ _ _ (omega arith);
   marked = none-taken _;
 }

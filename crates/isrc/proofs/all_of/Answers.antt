@@ -3,7 +3,7 @@ use Rattle.std.proofs.Common.{rules, tests, ◌∙◌}
 use Rattle.std.proofs.lemmas.Iterator.{YieldsList-from_slice}
 use Rattle.std.proofs.lemmas.Iterator.Search.{all_from_yields_List}
 use Rattle.isrc.specs.Kinds.{test}
-use Rattle.isrc.proofs.Characters.{listed-all}
+use Rattle.list_laws.proofs.Tests.{listed-all}
 use Rattle.isrc.proofs.all_of.Goals as goal
 
 pub returns : goal.returns

@@ -1,46 +1,56 @@
 -- `isrc::is_code` meets its contract.
-use borrow.Author.Rules.{rules}
-use mathlib.Core.Path.{◌≡◌, refl, sym, ap, ◌∙◌}
-use mathlib.Core.Bool.{Bool, true, false, ◌&&◌}
-use Prim.Native.Nat.{ℕ}
-use native.Mathlib.Omega.{arith}
-use lib.ListN.{length, take, drop}
-use lib.Seq.{length-take-le}
+use Rattle.std.proofs.Common.{◌≡◌, true, false, sym, ap, refl, ◌∙◌, ◌&&◌, List, ℕ, Bool, length, take, drop}
 use borrow.Author.Tests.{eq-eqb, ne_eqb}
+use lib.Dec.{eqb}
 use Rattle.model.specs.Codes.{is_code}
 use Rattle.model.specs.Lists.{all}
-use mathlib.Core.List.{List}
 use Rattle.isrc.specs.Kinds.{test}
 use Rattle.isrc.specs.declared.Kind.TheVariants.{Letter, LetterOrDigit, Digit}
 use Rattle.isrc.proofs.Codes.{rest}
+use Rattle.isrc.proofs.is_code.Goals.{then-text-eq12, else-text-eq12, then-all_of, else-all_of}
 use Rattle.isrc.proofs.is_code.Goals as goal
 
--- a text of 12 characters, with what the tests of its parts gave
-parts : (text : List ℕ) (a b d : Bool) → length text ≡ 12 → all (test Letter) (take 2 text) ≡ a → all (test LetterOrDigit) (take 3 (drop 2 text)) ≡ b → all (test Digit) (drop 5 text) ≡ d → (a && b && d) ≡ is_code text
+-- a test joined to those before it, if they were passed, and if not
+passed : (a b v : Bool) → a ≡ true → v ≡ b → v ≡ (a && b)
+passed a b v e q = q ∙ sym (ap (λ x. x && b) e)
+
+failed : (a b v : Bool) → a ≡ false → v ≡ a → v ≡ (a && b)
+failed a b v e q = q ∙ e ∙ sym (ap (λ x. x && b) e)
+
+grouped : (a b d g : Bool) → (((a && b) && d) && g) ≡ (a && b && d && g)
+grouped true true d g = refl
+grouped true false d g = refl
+grouped false b d g = refl
+
+-- the tests of all parts
+parts : (text : List ℕ) (v w x : Bool)
+    → v ≡ (eqb (length text) 12 && all (test Letter) (take 2 text)) → w ≡ (v && all (test LetterOrDigit) (take 3 (drop 2 text)))
+    → x ≡ (w && all (test Digit) (drop 5 text)) → x ≡ is_code text
 unfolding is_code test
-parts text a b d l e f g = rw (← e, ← f, ← g, eq-eqb (length text) 12 l)
+parts text v w x e f g = rw (g, f, e) (grouped (eqb (length text) 12) (all (test Letter) (take 2 text)) (all (test LetterOrDigit) (take 3 (drop 2 text))) (all (test Digit) (drop 5 text)))
 
-pub returns-then-text-ne12 : goal.returns-then-text-ne12
-unfolding is_code
-returns-then-text-ne12 c = rw (ne_eqb _ _ c.if-text-ne12.true)
+pub returns-then-all_of-2 : goal.returns-then-all_of-2
+returns-then-all_of-2 c =
+    parts c.args.text.now _ _ _
+    (elim c.if-text-eq12.branch [
+      | then-text-eq12 v ↦ passed _ _ _ (eq-eqb _ _ v.if-text-eq12.true) (v.value-is ∙ v.all_of.ensures)
+      | else-text-eq12 v ↦ failed _ _ _ (ne_eqb _ _ v.if-text-eq12.false) v.value-is
+    ])
+    (elim c.if-all_of.branch [
+      | then-all_of w ↦ passed _ _ _ w.if-all_of.true (w.value-is ∙ w.all_of-then-all_of.ensures)
+      | else-all_of w ↦ failed _ _ _ w.if-all_of.false w.value-is
+    ])
+    (passed _ _ _ c.if-all_of-2.true (c.all_of-then-all_of-2.ensures ∙ ap (all (test Digit)) (rest 5 c.args.text.now)))
 
-pub slice_bounds-all_of-end : goal.slice_bounds-all_of-end
-slice_bounds-all_of-end c = sym (length-take-le 2 c.args.text.now (omega arith))
-
-pub returns-then-not-all_of : goal.returns-then-not-all_of
-returns-then-not-all_of c =
-    let f : c.all_of.result ≡ false = search rules in
-    parts _ _ _ _ c.if-text-ne12.false (sym c.all_of.ensures ∙ f) refl refl
-
-pub returns-then-not-all_of-2 : goal.returns-then-not-all_of-2
-returns-then-not-all_of-2 c =
-    let e : c.all_of.result ≡ true = search rules in
-    let f : c.all_of-2.result ≡ false = search rules in
-    parts _ _ _ _ c.if-text-ne12.false (sym c.all_of.ensures ∙ e) (sym c.all_of-2.ensures ∙ f) refl
-
-pub returns : goal.returns
-returns c =
-    let e : c.all_of.result ≡ true = search rules in
-    let f : c.all_of-2.result ≡ true = search rules in
-    parts _ _ _ _ c.if-text-ne12.false (sym c.all_of.ensures ∙ e) (sym c.all_of-2.ensures ∙ f)
-    (sym (c.all_of-3.ensures ∙ ap (all (test Digit)) (rest 5 c.args.text.now)))
+pub returns-else-all_of-2 : goal.returns-else-all_of-2
+returns-else-all_of-2 c =
+    parts c.args.text.now _ _ _
+    (elim c.if-text-eq12.branch [
+      | then-text-eq12 v ↦ passed _ _ _ (eq-eqb _ _ v.if-text-eq12.true) (v.value-is ∙ v.all_of.ensures)
+      | else-text-eq12 v ↦ failed _ _ _ (ne_eqb _ _ v.if-text-eq12.false) v.value-is
+    ])
+    (elim c.if-all_of.branch [
+      | then-all_of w ↦ passed _ _ _ w.if-all_of.true (w.value-is ∙ w.all_of-then-all_of.ensures)
+      | else-all_of w ↦ failed _ _ _ w.if-all_of.false w.value-is
+    ])
+    (failed _ _ _ c.if-all_of-2.false refl)

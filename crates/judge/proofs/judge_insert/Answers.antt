@@ -1,7 +1,7 @@
 -- `judge::judge_insert` meets its contract.
 use mathlib.Core.Path.{refl, sym, ◌∙◌}
 use native.Mathlib.Omega.{arith}
-use Rattle.std.proofs.lemmas.Result.{err_from_is_err_and}
+use Rattle.list_laws.proofs.Tools.{handed-on}
 use Rattle.model.specs.declared.Refusal.TheVariants.{ChangeRefused}
 use Rattle.model.proofs.Numbers.{refused-by}
 use Rattle.model.specs.Writes.{insertion}
@@ -14,9 +14,8 @@ use Rattle.judge.proofs.judge_insert.Goals as goal
 
 pub returns-in_err-reached : goal.returns-in_err-reached
 returns-in_err-reached c = let a = c.args in
-    let p = err_from_is_err_and c.from_residual.result c.from_residual.ensures.1 in
     let both = refused-before (insertion a.collection a.key a.recording a.access) a.collection a.table.now a.list.now a.out.now refl (sym c.tests.ensures ∙ c.in_err-reached.was) in
-    record { value = rw (p.1, p.2) both.0; out_after = both.1 }
+    record { value = rw (handed-on c.from_residual.ensures.1) both.0; out_after = both.1 }
 
 pub root_of-requires : goal.root_of-requires
 root_of-requires c = let b = passed-tests _ _ _ _ _ (sym c.tests.ensures ∙ c.in_ok-reached.was) in record { table_value = settled-head _ b.settles; table_value_2 = b.collection }

@@ -1,6 +1,6 @@
 -- `judge::tests` meets its contract, test by test.
 use mathlib.Core.Path.{sym, ◌∙◌}
-use Rattle.std.proofs.lemmas.Result.{err_from_is_err_and}
+use Rattle.list_laws.proofs.Tools.{handed-on}
 use Rattle.model.specs.declared.Refusal.TheVariants.{NotSettled, BadOrders, OtherLength}
 use Rattle.model.proofs.Numbers.{refused-by}
 use Rattle.judge.proofs.Answers.{shared-refused, not-settled, not-inside, other-length, all-passed}
@@ -8,8 +8,7 @@ use Rattle.judge.proofs.tests.Goals as goal
 
 pub returns-in_err-ready : goal.returns-in_err-ready
 returns-in_err-ready c =
-    let p = err_from_is_err_and c.from_residual.result c.from_residual.ensures.1 in
-    rw (p.1, p.2) (shared-refused _ _ _ _ (sym c.judge.ensures ∙ c.in_err-ready.was))
+    rw (handed-on c.from_residual.ensures.1) (shared-refused _ _ _ _ (sym c.judge.ensures ∙ c.in_err-ready.was))
 
 pub returns-then-not-is_nothing : goal.returns-then-not-is_nothing
 returns-then-not-is_nothing c =

@@ -1,6 +1,6 @@
 -- `node::find_root` meets its contract.
 use mathlib.Core.Path.{sym, ◌∙◌}
-use Rattle.std.proofs.lemmas.Result.{err_from_is_err_and}
+use Rattle.list_laws.proofs.Tools.{handed-on}
 use Rattle.model.specs.declared.Refusal.TheVariants.{NoCollection}
 use Rattle.model.proofs.Numbers.{passed-zero, failed-some, failed-with, refused-by}
 use Rattle.node.proofs.Roots.{root-found, root-no-table, root-no-collection}
@@ -11,9 +11,8 @@ returns-then-root-ne0 c = root-found _ _ _ c.root-root.ensures c.if-root-ne0.tru
 
 pub returns-in_err-header : goal.returns-in_err-header
 returns-in_err-header c =
-    let p = err_from_is_err_and c.from_residual.result c.from_residual.ensures.1 in
     let e = sym c.header.ensures ∙ c.in_err-header.was in
-    rw (p.1, p.2) (sym (failed-with _ e) ∙ root-no-table _ _ (failed-some _ e))
+    rw (handed-on c.from_residual.ensures.1) (sym (failed-with _ e) ∙ root-no-table _ _ (failed-some _ e))
 
 pub returns : goal.returns
 returns c =

@@ -2,7 +2,7 @@
 use mathlib.Core.Path.{sym, ◌∙◌}
 use native.Mathlib.Omega.{arith}
 use lib.ListN.{length-set}
-use Rattle.std.proofs.lemmas.Result.{err_from_is_err_and}
+use Rattle.list_laws.proofs.Tools.{handed-on}
 use Rattle.model.proofs.Numbers.{passed-zero, failed-some, failed-with}
 use Rattle.table_laws.proofs.Making.{makes}
 use Rattle.node.proofs.Answers.{nodes-in-sized}
@@ -11,10 +11,9 @@ use Rattle.node.proofs.make.Goals as goal
 
 pub returns-in_err-may_make : goal.returns-in_err-may_make
 returns-in_err-may_make c =
-    let p = err_from_is_err_and c.from_residual.result c.from_residual.ensures.1 in
     let e = sym c.may_make.ensures ∙ c.in_err-may_make.was in
     let both = making-refused _ _ (failed-some _ e) in
-    record { value = rw (p.1, p.2) (sym (failed-with _ e) ∙ both.0); table_after = both.1 }
+    record { value = rw (handed-on c.from_residual.ensures.1) (sym (failed-with _ e) ∙ both.0); table_after = both.1 }
 
 pub bounds-table-0 : goal.bounds-table-0
 bounds-table-0 c = omega (arith, (makes _ _ (passed-zero _ (sym c.may_make.ensures ∙ c.in_ok-may_make.was))).size)

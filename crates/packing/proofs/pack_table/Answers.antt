@@ -1,7 +1,7 @@
 -- `packing::pack_table` meets its contract.
 use mathlib.Core.Path.{◌≡◌, sym, ◌∙◌}
 use lib.ListN.{length}
-use Rattle.std.proofs.lemmas.Result.{err_from_is_err_and}
+use Rattle.list_laws.proofs.Tools.{handed-on}
 use Rattle.model.specs.Table.{nodes_for, make_number}
 use Rattle.model.proofs.Numbers.{passed-zero, failed-some, failed-with}
 use Rattle.table_laws.proofs.Header.{LengthFacts, length-iff}
@@ -24,10 +24,9 @@ size c = ((length-iff _ _).1 (sized c)).1
 pub returns-in_err-may_make : goal.returns-in_err-may_make
 returns-in_err-may_make c =
     let a = c.args in
-    let p = err_from_is_err_and c.from_residual.result c.from_residual.ensures.1 in
     let e = sym c.may_make.ensures ∙ c.in_err-may_make.was in
     let both = refused-making a.collections a.pairs.now a.loans.now a.table.now (failed-some _ e) in
-    record { value = rw (p.1, p.2) (sym (failed-with _ e) ∙ both.0); table_after = both.1 }
+    record { value = rw (handed-on c.from_residual.ensures.1) (sym (failed-with _ e) ∙ both.0); table_after = both.1 }
 
 pub outgrows-requires : goal.outgrows-requires
 outgrows-requires c = (sized (goal.at.outgrows-requires c).After-nodes_in-top).few

@@ -1,14 +1,14 @@
--- `pairs::compared_once` meets its contract. The loop keeps that the numbers left are there once as all are.
-use Rattle.pairs.proofs.Slices.{once-end, once-twice, once-next}
+-- `pairs::compared_once` meets its contract.
+use Rattle.std.proofs.Common.{rules, tests, ◌*◌, ◌+◌, ◌/◌, not, length, drop, refl, ◌∙◌}
+use Rattle.std.proofs.lemmas.Iterator.{YieldsList-from_range}
+use Rattle.std.proofs.lemmas.Iterator.Search.{all_from_yields_List}
+use Rattle.model.specs.Table.{at}
+use Rattle.model.specs.Slots.{slots_of, recording_of}
+use Rattle.model.specs.Refusals.{has_recording}
+use Rattle.pairs.proofs.Slices.{listed-once}
 use Rattle.pairs.proofs.compared_once.Goals as goal
 
-pub returns-then-has_recording : goal.returns-then-has_recording
-returns-then-has_recording c = let l = c.loop-i in
-    once-twice _ l.i l.invariant c.loop-i-test.true _ c.recording-number.ensures _ c.has_recording.ensures c.if-has_recording.true
-
-pub loop-i-preserved : goal.loop-i-preserved
-loop-i-preserved c = let l = c.loop-i in
-    once-next _ l.i l.invariant c.loop-i-test.true _ c.recording-number.ensures _ c.has_recording.ensures c.if-has_recording.false
-
 pub returns : goal.returns
-returns c = let l = c.loop-i in once-end _ l.i l.invariant c.loop-i-test.false
+returns c = let ws = c.args.pairs.now in
+    all_from_yields_List (λ i. not (has_recording (recording_of (at ws (2 * i + 1))) (drop (i + 1) (slots_of ws)))) _ _ c.all.result c.all.ensures.ran
+    (YieldsList-from_range 0 (length ws / 2) _ refl refl) (λ x b q k. search (rules, tests)) ∙ listed-once ws 0 _ refl

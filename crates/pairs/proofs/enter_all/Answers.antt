@@ -1,6 +1,5 @@
 -- `pairs::enter_all` meets its contract. The loop keeps what entering the numbers that are left comes to.
 use mathlib.Core.Path.{refl}
-use borrow.Author.Rules.{rules}
 use Rattle.pairs.proofs.Passes.{last-unless, enter-end, enter-goes, enter-ends}
 use Rattle.pairs.proofs.enter_all.Goals as goal
 
@@ -14,4 +13,4 @@ returns-in_default c = let l = c.loop-i in
 pub loop-i-preserved : goal.loop-i-preserved
 loop-i-preserved c = let l = c.loop-i in
     let t = c.loop-i-test.true in
-    record { wide = search rules; comes-to = enter-goes l.invariant t _ c.recording-number.ensures _ _ c.enter_one.ensures c.in-Entered.is }
+    record { comes-to = enter-goes l.invariant t _ c.recording-number.ensures _ _ c.enter_one.ensures c.in-Entered.is }

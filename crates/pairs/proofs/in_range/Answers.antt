@@ -1,12 +1,13 @@
--- `pairs::in_range` meets its contract. The loop keeps that the pointers left are in range as all are.
-use Rattle.pairs.proofs.Slices.{range-end, range-wrong, range-next}
+-- `pairs::in_range` meets its contract.
+use Rattle.std.proofs.Common.{rules, tests, ◌*◌, ◌+◌, ◌/◌, length, refl, ◌∙◌}
+use Rattle.std.proofs.lemmas.Iterator.{YieldsList-from_range}
+use Rattle.std.proofs.lemmas.Iterator.Search.{all_from_yields_List}
+use Rattle.model.specs.Table.{at}
+use Rattle.model.specs.Slots.{pointer_ok}
+use Rattle.pairs.proofs.Slices.{listed-range}
 use Rattle.pairs.proofs.in_range.Goals as goal
 
-pub returns-then-not-ok : goal.returns-then-not-ok
-returns-then-not-ok c = let l = c.loop-i in range-wrong _ l.i l.invariant c.loop-i-test.true _ c.ok.ensures c.if-not-ok.true
-
-pub loop-i-preserved : goal.loop-i-preserved
-loop-i-preserved c = let l = c.loop-i in range-next _ l.i l.invariant c.loop-i-test.true _ c.ok.ensures c.if-not-ok.false
-
 pub returns : goal.returns
-returns c = let l = c.loop-i in range-end _ l.i l.invariant c.loop-i-test.false
+returns c = let ws = c.args.pairs.now in
+    all_from_yields_List (λ i. pointer_ok (at ws (2 * i + 1))) _ _ c.all.result c.all.ensures.ran
+    (YieldsList-from_range 0 (length ws / 2) _ refl refl) (λ x b q k. search (rules, tests)) ∙ listed-range ws 0 _ refl

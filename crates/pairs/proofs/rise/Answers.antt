@@ -1,16 +1,13 @@
--- `pairs::rise` meets its contract. The loop keeps that the keys behind the last pair seen rise as all do.
-use native.Mathlib.Omega.{arith}
-use Rattle.pairs.proofs.Slices.{rise-start, rise-end, rise-wrong, rise-next}
+-- `pairs::rise` meets its contract.
+use Rattle.std.proofs.Common.{rules, tests, ◌*◌, ◌-◌, ◌/◌, length, refl, ◌∙◌}
+use Rattle.std.proofs.lemmas.Iterator.{YieldsList-from_range}
+use Rattle.std.proofs.lemmas.Iterator.Search.{all_from_yields_List}
+use lib.Dec.{ltb}
+use Rattle.model.specs.Table.{at}
+use Rattle.pairs.proofs.Slices.{listed-rising}
 use Rattle.pairs.proofs.rise.Goals as goal
 
-pub loop-i-init : goal.loop-i-init
-loop-i-init c = rise-start _
-
-pub returns-then-pairs-i : goal.returns-then-pairs-i
-returns-then-pairs-i c = let l = c.loop-i in rise-wrong _ l.invariant c.loop-i-test.true (omega (arith, c.if-pairs-i.true))
-
-pub loop-i-preserved : goal.loop-i-preserved
-loop-i-preserved c = let l = c.loop-i in rise-next _ l.invariant c.loop-i-test.true c.if-pairs-i.false
-
 pub returns : goal.returns
-returns c = rise-end _ c.loop-i.invariant c.loop-i-test.false
+returns c = let ws = c.args.pairs.now in
+    all_from_yields_List (λ i. ltb (at ws (2 * i - 2)) (at ws (2 * i))) _ _ c.all.result c.all.ensures.ran
+    (YieldsList-from_range 1 (length ws / 2) _ refl refl) (λ x b q k. search (rules, tests)) ∙ listed-rising ws

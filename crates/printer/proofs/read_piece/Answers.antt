@@ -21,19 +21,14 @@ told s d piece i {r} {t} {l} {out} h =
     subst (λ (bs : Bytes). Told (silent s d) bs r t l out) (take_all (length piece - i) (drop i piece) (omega (arith, n))) h
 
 pub loop-i-init : goal.loop-i-init
-loop-i-init g c = (search rules, search rules, search rules, search rules, same-start _)
+loop-i-init g c = (search rules, same-start _)
 
 pub loop-i-preserved : goal.loop-i-preserved
 loop-i-preserved g c =
     let rest = drop c.loop-i.i c.args.piece.now in
     let long = length-drop c.loop-i.i c.args.piece.now in
-    let said = told c.loop-i.s (desk_of c.loop-i.table c.loop-i.list) c.args.piece.now c.loop-i.i c.read_line-said.ensures in (
-      omega (arith, said.used-within, long),
-      search rules,
-      search rules,
-      search rules,
-      same-line _ _ c.args.piece.now c.loop-i.i _ said c.loop-i.invariant.4,
-    )
+    let said = told c.loop-i.s (desk_of c.loop-i.table c.loop-i.list) c.args.piece.now c.loop-i.i c.read_line-said.ensures in
+    (omega (arith, said.used-within, long), same-line _ _ c.args.piece.now c.loop-i.i _ said c.loop-i.invariant.1)
 
 pub returns : goal.returns
-returns g c = same-end _ c.args.piece.now c.loop-i.i _ (omega arith) c.loop-i.invariant.4
+returns g c = same-end _ c.args.piece.now c.loop-i.i _ (omega arith) c.loop-i.invariant.1

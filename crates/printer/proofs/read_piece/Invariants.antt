@@ -1,5 +1,4 @@
 -- `printer::read_piece` meets its contract. The loop's invariant: what is left of the piece, read from the present state, ends as the whole.
-use mathlib.Core.Path.{◌≡◌}
 use Prim.Native.Nat.{◌-◌, ◌≤◌}
 use lib.ListN.{length, drop}
 use Rattle.script_bytes.specs.Input.{read_bytes, print_on}
@@ -8,8 +7,7 @@ use Rattle.script.proofs.Spoken.{Same}
 use Rattle.printer.proofs.read_piece.Given as goal
 
 abbrev pub invariant-loop-i : goal.invariant-loop-i
-invariant-loop-i g l = (l.i ≤ length l.piece) × (length l.table ≡ length l.initial.table) × (length l.list ≡ length l.initial.list)
-    × (length l.out ≡ length l.initial.out)
+invariant-loop-i g l = (l.i ≤ length l.piece)
     × Same (read_bytes print_on (silent l.s (desk_of l.table l.list)) (drop l.i l.piece))
     (read_bytes print_on (silent l.initial.s (desk_of l.initial.table l.initial.list)) l.piece)
 

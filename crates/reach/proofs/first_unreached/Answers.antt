@@ -1,33 +1,62 @@
 -- `reach::first_unreached` meets its contract.
-use Rattle.std.proofs.Common.{sym, ◌∙◌, arith}
-use Rattle.reach.proofs.Unreached.{first-none, first-here, first-past}
-use Rattle.reach.proofs.Passing.{if-free, used-of, look-none, look-free, look-run}
+use Rattle.std.proofs.Common.{◌+◌, ◌<◌, sym, ◌∙◌, arith}
+use Rattle.marks.proofs.Rows.{first-is}
+use Rattle.reach.proofs.Unreached.{first-none, first-here}
+use Rattle.reach.proofs.Marking.{put-taken}
+use Rattle.reach.proofs.Passing.{look-none, look-free, same-here, same-after, none-more}
 use Rattle.reach.proofs.first_unreached.Goals as goal
 
-pub returns-then-run-eq0 : goal.returns-then-run-eq0
-returns-then-run-eq0 c = let l = c.loop-n in
-    let free = (used-of _ _ _ _ c.used_run-run.ensures.marked_2.1 c.used_run-run.ensures.value).none c.if-run-eq0.true in
+pub returns-then-free-eq0 : goal.returns-then-free-eq0
+returns-then-free-eq0 c = let l = c.loop.invariant in
+    let p = none-more _ _ _ _ _ l.marked.1 c.first_free-free.ensures c.requires.table_value c.if-free-eq0.true in
+    record { value = p.0 ∙ l.first; marks_after = p.1 ∙ l.rest; marked_2 = l.marked }
+
+pub returns-then-not-is_taken : goal.returns-then-not-is_taken
+returns-then-not-is_taken c = let l = c.loop.invariant in
+    let s = first-is _ _ _ _ c.first_free-free.ensures c.if-free-eq0.false in
+    let p = same-here _ _ _ _ _ l.marked.1 c.first_free-free.ensures c.if-free-eq0.false in
+    let free = sym c.is_taken.ensures ∙ c.if-not-is_taken.true in
     record {
-      value = sym (first-here _ _ _ c.loop-n-test.true free) ∙ l.invariant.first;
-      marks_after = c.used_run-run.ensures.marks_after ∙ sym (if-free _ _ _ free) ∙ look-free _ _ _ _ c.loop-n-test.true free ∙ l.invariant.rest;
-      marked_2 = c.used_run-run.ensures.marked_2;
+      value = sym (first-here _ _ _ s.within free) ∙ p.0 ∙ l.first;
+      marks_after = look-free _ _ _ _ s.within free ∙ p.1 ∙ l.rest;
+      marked_2 = l.marked;
     }
 
-pub overflow_add-n : goal.overflow_add-n
-overflow_add-n c = omega (arith, (used-of _ _ _ _ c.used_run-run.ensures.marked_2.1 c.used_run-run.ensures.value).short)
+pub put-requires : goal.put-requires
+put-requires c = let l = c.loop.invariant in
+    omega (arith, l.marked.0, (first-is _ _ _ _ c.first_free-free.ensures c.if-free-eq0.false).within)
 
-pub loop-n-preserved : goal.loop-n-preserved
-loop-n-preserved c = let l = c.loop-n.invariant in record {
-  first = first-past _ _ _ _ (used-of _ _ _ _ c.used_run-run.ensures.marked_2.1 c.used_run-run.ensures.value).run ∙ l.first;
-  marked = c.used_run-run.ensures.marked_2;
-  rest = look-run _ _ _ _ _ _ c.loop-n-test.true (omega (arith, l.marked.0, l.last_bound)) c.if-run-eq0.false c.used_run-run.ensures.marked_2.1 c.used_run-run.ensures.value
-      c.used_run-run.ensures.marks_after ∙ l.rest;
-  last_bound = l.last_bound;
-}
+pub overflow_add-n : goal.overflow_add-n
+overflow_add-n c = let l = c.loop.invariant in
+    omega (arith, (first-is _ _ _ _ c.first_free-free.ensures c.if-free-eq0.false).within)
+
+pub loop-preserved : goal.loop-preserved
+loop-preserved c = let l = c.loop.invariant in
+    let s = first-is _ _ _ _ c.first_free-free.ensures c.if-free-eq0.false in
+    let taken = sym c.is_taken.ensures ∙ c.if-not-is_taken.false in
+    let p = same-after _ _ _ _ _ l.marked.1 c.first_free-free.ensures c.if-free-eq0.false taken _ c.put.ensures in
+    record {
+      ahead = omega (arith, s.no-less, l.ahead);
+      first = p.0 ∙ l.first;
+      marked = (omega (arith, c.put.auto.words, l.marked.0), rw c.put.ensures (put-taken _ _ _ l.marked.1 taken));
+      rest = p.1 ∙ l.rest;
+    }
 
 pub returns : goal.returns
-returns c = let l = c.loop-n.invariant in record {
-  value = sym (first-none _ _ _ c.loop-n-test.false) ∙ l.first;
-  marks_after = look-none _ _ _ _ c.loop-n-test.false ∙ l.rest;
+returns c = let l = c.loop.invariant in record {
+  value = sym (first-none _ _ _ (omega (arith, l.ahead))) ∙ l.first;
+  marks_after = look-none _ _ _ _ (omega (arith, l.ahead)) ∙ l.rest;
   marked_2 = l.marked;
 }
+
+pub returns-else-not-is_taken : goal.returns-else-not-is_taken
+returns-else-not-is_taken c = let l = c.loop.invariant in
+    let s = first-is _ _ _ _ c.first_free-free.ensures c.if-free-eq0.false in
+    let taken = sym c.is_taken.ensures ∙ c.if-not-is_taken.false in
+    let p = same-after _ _ _ _ _ l.marked.1 c.first_free-free.ensures c.if-free-eq0.false taken _ c.put.ensures in
+    let past : c.args.last < c.first_free-free.result + 1 = omega (arith, s.no-less, l.ahead) in
+    record {
+      value = sym (first-none _ _ _ past) ∙ p.0 ∙ l.first;
+      marks_after = look-none _ _ _ _ past ∙ p.1 ∙ l.rest;
+      marked_2 = (omega (arith, c.put.auto.words, l.marked.0), rw c.put.ensures (put-taken _ _ _ l.marked.1 taken));
+    }

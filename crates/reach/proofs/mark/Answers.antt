@@ -5,6 +5,3 @@ use Rattle.reach.proofs.mark.Goals as goal
 
 pub returns-then-n-gt-LAST : goal.returns-then-n-gt-LAST
 returns-then-n-gt-LAST c = put-out _ _ (omega arith)
-
-pub returns : goal.returns
-returns c = c.put.ensures

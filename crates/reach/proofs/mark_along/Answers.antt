@@ -5,16 +5,13 @@ use Rattle.reach.proofs.Parents.{along-stop, along-end, along-next}
 use Rattle.reach.proofs.mark_along.Goals as goal
 
 pub bounds-table-2 : goal.bounds-table-2
-bounds-table-2 c = omega (arith, sound-words _ c.requires.table_value)
+bounds-table-2 c = omega (arith, sound-words _ c.requires)
 
 pub returns-then-n-eq0 : goal.returns-then-n-eq0
-returns-then-n-eq0 c = along-stop _ _ _ _ c.if-n-eq0.true ∙ c.loop.invariant.rest
+returns-then-n-eq0 c = along-stop _ _ _ _ c.if-n-eq0.true ∙ c.loop.invariant
 
 pub loop-preserved : goal.loop-preserved
-loop-preserved c = record {
-  marks_len = omega (arith, c.mark_children.auto.marks, c.loop.invariant.marks_len);
-  rest = along-next _ _ _ _ _ _ _ c.if-n-eq0.false (omega arith) c.mark_children.ensures c.word-n.ensures ∙ c.loop.invariant.rest;
-}
+loop-preserved c = along-next _ _ _ _ _ _ _ c.if-n-eq0.false (omega arith) c.mark_children.ensures c.word-n.ensures ∙ c.loop.invariant
 
 pub returns : goal.returns
-returns c = along-end _ _ _ _ (omega arith) ∙ c.loop.invariant.rest
+returns c = along-end _ _ _ _ (omega arith) ∙ c.loop.invariant

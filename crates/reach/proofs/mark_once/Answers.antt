@@ -10,13 +10,13 @@ pub bounds-table-1 : goal.bounds-table-1
 bounds-table-1 c = omega (arith, sound-words _ c.requires.table_value)
 
 pub has-requires : goal.has-requires
-has-requires c = omega (arith, root-few _ c.requires.table_value, c.requires.marked.0)
+has-requires c = omega (arith, root-few _ c.requires.table_value)
 
 pub bounds-table-1-2 : goal.bounds-table-1-2
 bounds-table-1-2 c = omega (arith, sound-words _ c.requires.table_value)
 
-pub returns-then-has : goal.returns-then-has
-returns-then-has c = record { marks_after = once-known _ _ (sym c.has.ensures ∙ c.if-has.true); marked_2 = search rules }
+pub returns-then-has-clause-marks_after : goal.returns-then-has-clause-marks_after
+returns-then-has-clause-marks_after c = once-known _ _ (sym c.has.ensures ∙ c.if-has.true)
 
 pub returns : goal.returns
 returns c = let free = sym c.has.ensures ∙ c.if-has.false in record {

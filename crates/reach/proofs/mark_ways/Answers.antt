@@ -5,11 +5,8 @@ use Rattle.reach.proofs.Marking.{pointers-taken, put_all-more, put_all-end}
 use Rattle.reach.proofs.mark_ways.Goals as goal
 
 pub loop-n-preserved : goal.loop-n-preserved
-loop-n-preserved c = let l = c.loop-n in record {
-  marks_len = omega (arith, c.mark.auto.marks, l.invariant.marks_len);
-  rest = ap (put_all _) c.mark.ensures ∙ put_all-more _ _ _ c.loop-n-test.true ∙ l.invariant.rest;
-}
+loop-n-preserved c = ap (put_all _) c.mark.ensures ∙ put_all-more _ _ _ c.loop-n-test.true ∙ c.loop-n.invariant
 
 pub returns : goal.returns
 returns c = let w = c.args.w in let h : w.count ≤ length w.pointers = omega arith in
-    rw (pointers-taken w h) (put_all-end _ _ _ c.loop-n-test.false ∙ c.loop-n.invariant.rest)
+    rw (pointers-taken w h) (put_all-end _ _ _ c.loop-n-test.false ∙ c.loop-n.invariant)

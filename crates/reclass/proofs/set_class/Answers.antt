@@ -1,7 +1,8 @@
 -- `reclass::set_class` meets its contract.
 use mathlib.Core.Path.{sym, ◌∙◌}
-use native.Mathlib.Omega.{arith}
-use Rattle.std.proofs.lemmas.Result.{err_from_is_err_and}
+use Rattle.std.proofs.Common.{rules, arith}
+use Rattle.orders.specs.Desk.{desk}
+use Rattle.list_laws.proofs.Tools.{handed-on}
 use Rattle.model.specs.declared.Refusal.TheVariants.{KeyAbsent, BadClass}
 use Rattle.model.specs.Writes.{class_change}
 use Rattle.model.proofs.Numbers.{refused-by}
@@ -13,9 +14,8 @@ use Rattle.reclass.proofs.set_class.Goals as goal
 
 pub returns-in_err-leftover : goal.returns-in_err-leftover
 returns-in_err-leftover c =
-    let p = err_from_is_err_and c.from_residual.result c.from_residual.ensures.1 in
     let all = judge-refuses (class_change c.args.collection c.args.key c.args.access) _ _ _ _ (sym c.judge.ensures ∙ c.in_err-leftover.was) in
-    record { value = rw (p.1, p.2) all.0; table_after = all.1.0; list_after = all.1.1 }
+    record { value = rw (handed-on c.from_residual.ensures.1) all.0; table_after = all.1.0; list_after = all.1.1 }
 
 pub returns-then-not-class_ok : goal.returns-then-not-class_ok
 returns-then-not-class_ok c =
@@ -37,33 +37,41 @@ returns-then-not-has_key c =
     let all = refused-call (class_change c.args.collection c.args.key c.args.access) _ _ _ 9 (λ z. omega arith) n in
     record { value = sym (refused-by KeyAbsent) ∙ all.0; table_after = all.1.0; list_after = all.1.1 }
 
-pub mend-mended-requires : goal.mend-mended-requires
-mend-mended-requires c =
+pub mend-requires : goal.mend-requires
+mend-requires c =
     let f = (judged-ready (class_change c.args.collection c.args.key c.args.access) _ _ _ _ (sym c.judge.ensures ∙ c.in_ok-leftover.was)).found in
-    let b = begun _ _ _ _ _ _ _ _ (sym c.judge.ensures ∙ c.in_ok-leftover.was) c.class_ok.ensures c.if-not-class_ok.false c.root_of.ensures c.has_key.ensures c.if-not-has_key.false c.begin.ensures in
+    let b = begun _ _ _ _ _ (sym c.judge.ensures ∙ c.in_ok-leftover.was) c.class_ok.ensures c.if-not-class_ok.false c.root_of.ensures c.has_key.ensures c.if-not-has_key.false c.new.ensures in
     record { table_value = f.is-sound; table_value_2 = f.leftover-is; room = mend-room b }
 
-pub root_of-requires-2 : goal.root_of-requires-2
-root_of-requires-2 c =
-    let b = begun _ _ _ _ _ _ _ _ (sym c.judge.ensures ∙ c.in_ok-leftover.was) c.class_ok.ensures c.if-not-class_ok.false c.root_of.ensures c.has_key.ensures c.if-not-has_key.false c.begin.ensures in
-    record { table_value = mended-header b c.mend-mended.ensures; table_value_2 = mended-collection b c.mend-mended.ensures }
+pub root_of-root-requires : goal.root_of-root-requires
+root_of-root-requires c =
+    let b = begun _ _ _ _ {d = desk c.args.table.now c.args.list.now c.new.result} _ (sym c.judge.ensures ∙ c.in_ok-leftover.was) c.class_ok.ensures c.if-not-class_ok.false c.root_of.ensures
+    c.has_key.ensures c.if-not-has_key.false c.new.ensures in
+    rw c.table.ensures record { table_value = mended-header b c.mend.ensures; table_value_2 = mended-collection b c.mend.ensures }
 
-pub set_class-set-requires : goal.set_class-set-requires
-set_class-set-requires c =
-    let b = begun _ _ _ _ _ _ _ _ (sym c.judge.ensures ∙ c.in_ok-leftover.was) c.class_ok.ensures c.if-not-class_ok.false c.root_of.ensures c.has_key.ensures c.if-not-has_key.false c.begin.ensures in
-    let m = c.mend-mended.ensures in
-    let r = c.root_of-2.ensures in
-    let s = c.standing-leaf.ensures in
+pub set_class-requires : goal.set_class-requires
+set_class-requires c =
+    let b = begun _ _ _ _ {d = desk c.args.table.now c.args.list.now c.new.result} _ (sym c.judge.ensures ∙ c.in_ok-leftover.was) c.class_ok.ensures c.if-not-class_ok.false c.root_of.ensures
+    c.has_key.ensures c.if-not-has_key.false c.new.ensures in
+    let m = c.mend.ensures in
+    let r = rw c.table.ensures at c.root_of-root.ensures in
+    let s = rw c.table-2.ensures at c.standing-leaf.ensures in
     let n = leaf-plain b m r s in
     record { n_value = n.there; n_value_2 = n.plain; n_in_bounds = leaf-place b m r s; access_bound = omega (arith, class-low b m); room = class-room b m r s }
 
-pub finish-done-requires : goal.finish-done-requires
-finish-done-requires c =
-    let b = begun _ _ _ _ _ _ _ _ (sym c.judge.ensures ∙ c.in_ok-leftover.was) c.class_ok.ensures c.if-not-class_ok.false c.root_of.ensures c.has_key.ensures c.if-not-has_key.false c.begin.ensures in
-    finish-room b c.mend-mended.ensures (class-stored b c.mend-mended.ensures c.root_of-2.ensures c.standing-leaf.ensures c.set_class-set.ensures)
+pub finish-requires : goal.finish-requires
+finish-requires c =
+    let b = begun _ _ _ _ {d = desk c.args.table.now c.args.list.now c.new.result} _ (sym c.judge.ensures ∙ c.in_ok-leftover.was) c.class_ok.ensures c.if-not-class_ok.false c.root_of.ensures
+    c.has_key.ensures c.if-not-has_key.false c.new.ensures in
+    let r = rw c.table.ensures at c.root_of-root.ensures in
+    let s = rw c.table-2.ensures at c.standing-leaf.ensures in
+    finish-room b c.mend.ensures (class-stored b c.mend.ensures r s c.set_class.ensures)
 
 pub returns : goal.returns
 returns c =
-    let b = begun _ _ _ _ _ _ _ _ (sym c.judge.ensures ∙ c.in_ok-leftover.was) c.class_ok.ensures c.if-not-class_ok.false c.root_of.ensures c.has_key.ensures c.if-not-has_key.false c.begin.ensures in
-    let all = done-call b c.mend-mended.ensures (class-stored b c.mend-mended.ensures c.root_of-2.ensures c.standing-leaf.ensures c.set_class-set.ensures) c.finish-done.ensures in
-    record { value = all.0; table_after = all.1.0; list_after = all.1.1 }
+    let b = begun _ _ _ _ {d = desk c.args.table.now c.args.list.now c.new.result} _ (sym c.judge.ensures ∙ c.in_ok-leftover.was) c.class_ok.ensures c.if-not-class_ok.false c.root_of.ensures
+    c.has_key.ensures c.if-not-has_key.false c.new.ensures in
+    let r = rw c.table.ensures at c.root_of-root.ensures in
+    let s = rw c.table-2.ensures at c.standing-leaf.ensures in
+    let all = done-call b c.mend.ensures (class-stored b c.mend.ensures r s c.set_class.ensures) c.finish.ensures.writer c.finish.ensures.counts in
+    record { value = all.0.0; table_after = search (rules, all.1.0, all.0.1.0); list_after = search (rules, all.1.1, all.0.1.1) }

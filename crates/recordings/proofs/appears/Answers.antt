@@ -1,30 +1,22 @@
--- `recordings::appears` meets its contract. The loop keeps what the nodes from n on come to.
-use Rattle.std.proofs.Common.{Bool, List, ℕ, map, ap, ◌∙◌, arith}
-use Rattle.model.specs.Slots.{Slot, recording}
+-- `recordings::appears` meets its contract.
+use Rattle.std.proofs.Common.{◌≤◌, refl, ℕ, map, ap, ◌+◌, ◌-◌, ◌∙◌, arith, rules, tests}
+use Rattle.std.proofs.lemmas.Iterator.{serves_from_Range, YieldsList-from_range}
+use Rattle.std.proofs.lemmas.Iterator.Search.{any_from_yields_List}
+use Rattle.model.specs.Slots.{view, recording}
 use Rattle.model.specs.SoundTest.{elem}
-use Rattle.model.specs.Table.{nodes}
-use Rattle.recordings.proofs.RowLaws.{row-end, row-more, few-nodes, found-none, found-here, found-later}
+use Rattle.recordings.specs.Marked.{own}
+use Rattle.recordings.proofs.RowLaws.{few-nodes, found-rows}
 use Rattle.recordings.proofs.appears.Goals as goal
 
--- whether the number is among slots
-abbrev comes : ℕ → List Slot → Bool
-comes r ss = elem r (map recording ss)
+pub overflow_add-last : goal.overflow_add-last
+overflow_add-last c = omega (arith, few-nodes _ _ c.word_at-last.result c.requires c.word_at-last.ensures)
 
-pub overflow_add-n-end : goal.overflow_add-n-end
-overflow_add-n-end c = omega (arith, few-nodes _ _ c.word_at-last.result c.requires.table_value c.word_at-last.ensures)
-
-pub ways-w-requires-clause-n_bound : goal.ways-w-requires-clause-n_bound
-ways-w-requires-clause-n_bound c = few-nodes _ _ _ c.requires.table_value c.word_at-last.ensures (omega arith)
-
-pub returns-then-repeats : goal.returns-then-repeats
-returns-then-repeats c = let r = c.args.recording in
-    row-more (comes r) _ _ c.loop-n.n (nodes c.args.table.now) c.loop-n.invariant (omega arith)
-    (found-here _ _ r _ (c.repeats.ensures ∙ ap (elem r) c.ways-w.ensures.numbers) c.if-repeats.true)
-
-pub loop-n-preserved : goal.loop-n-preserved
-loop-n-preserved c = let r = c.args.recording in
-    row-more (comes r) _ _ c.loop-n.n (nodes c.args.table.now) c.loop-n.invariant (omega arith)
-    (found-later _ _ r _ (c.repeats.ensures ∙ ap (elem r) c.ways-w.ensures.numbers) c.if-repeats.false)
+pub any-requires-clause-callable : goal.any-requires-clause-callable
+any-requires-clause-callable c = serves_from_Range (λ x q k. search rules) (λ x l u.
+    let low : x ≤ 65535 = few-nodes _ _ _ c.requires c.word_at-last.ensures (omega arith) in search (rules, low))
 
 pub returns : goal.returns
-returns c = found-none _ ∙ row-end (comes c.args.recording) _ _ c.loop-n.n (nodes c.args.table.now) c.loop-n.invariant (omega arith)
+returns c = let a = c.args in
+    any_from_yields_List (λ n. elem a.recording (map recording (own (view a.table.now) a.marks.now n))) _ _ c.any.result c.any.ensures.ran
+    (YieldsList-from_range a.first (c.word_at-last.result + 1) _ refl (ap (λ (l : ℕ). l + 1 - a.first) c.word_at-last.ensures)) (λ x b q k. search (rules, tests))
+    ∙ found-rows _ _ _ _ _

@@ -7,8 +7,9 @@ use Rattle.numbers.specs.Cells.{Outcome, entered_all}
 use Rattle.slots.specs.Scan.{kept_of}
 use Rattle.slots.proofs.Scans.{scan-past, scan-stop, scan-more}
 use Rattle.recordings.specs.Rounds.{suspect}
-use Rattle.recordings.proofs.LeafLaws.{enter-none, enter-goes, enter-ends}
+use Rattle.recordings.proofs.LeafLaws.{slot-passed, enter-none, enter-goes, enter-ends}
 use Rattle.recordings.proofs.enter_leaf.Goals as goal
+use Rattle.recordings.proofs.enter_leaf.Goals.{then-is_way+in-Entered, else-is_way}
 
 -- what slots come to, with this pointer before them, from the cells as they are
 abbrev comes : (round : ℕ) (twice : Words) → Node → (bound before : ℕ) → Words → List Slot → Outcome
@@ -16,20 +17,24 @@ comes round twice x b before cs ss = entered_all (suspect round twice) (map reco
 
 pub returns-then-p-eq0 : goal.returns-then-p-eq0
 returns-then-p-eq0 c = let a = c.args in let l = c.loop-i in
-    enter-none _ _ _ _ _ ∙ scan-stop (comes a.round a.twice.now a.x a.bound l.before l.cells) _ l.i l.invariant.rest (omega arith) c.if-p-eq0.true
+    enter-none _ _ _ _ _ ∙ scan-stop (comes a.round a.twice.now a.x a.bound l.before l.cells) _ l.i l.invariant (omega arith) c.if-p-eq0.true
 
 pub returns-in_default : goal.returns-in_default
 returns-in_default c = let a = c.args in let l = c.loop-i in
-    scan-more (comes a.round a.twice.now a.x a.bound l.before l.cells) _ l.i l.invariant.rest (omega arith) c.if-p-eq0.false
-    (enter-ends _ _ _ _ _ _ _ c.is_way-kept.ensures _ _ _ _ c.enter_slot.ensures c.in_default.not-Entered)
+    scan-more (comes a.round a.twice.now a.x a.bound l.before l.cells) _ l.i l.invariant (omega arith) c.if-p-eq0.false
+    (enter-ends _ _ _ _ _ _ _ c.is_way.ensures c.if-is_way.true _ _ _ _ _ c.recording.ensures c.enter_number.ensures c.in_default.not-Entered)
 
 pub loop-i-preserved : goal.loop-i-preserved
-loop-i-preserved c = let a = c.args in let l = c.loop-i in record {
-  cells_len = omega (arith, c.enter_slot.auto.cells, l.invariant.cells_len);
-  rest = scan-more (comes a.round a.twice.now a.x a.bound l.before l.cells) _ l.i l.invariant.rest (omega arith) c.if-p-eq0.false
-      (enter-goes _ _ _ _ _ _ _ c.is_way-kept.ensures _ _ _ _ c.enter_slot.ensures c.in-Entered.is);
-}
+loop-i-preserved c = let a = c.args in let l = c.loop-i in
+    let F = comes a.round a.twice.now a.x a.bound l.before l.cells in
+    elim c.if-is_way.branch [
+      | then-is_way+in-Entered w ↦ scan-more F _ l.i l.invariant (omega arith) c.if-p-eq0.false
+          (rw w.cells-is (enter-goes _ _ _ _ _ _ _ c.is_way.ensures w.if-is_way.true _ _ _ _ _ w.recording.ensures w.enter_number.ensures w.in-Entered.is))
+      | else-is_way w ↦ scan-more F _ l.i l.invariant (omega arith) c.if-p-eq0.false
+          (rw w.cells-is
+          (slot-passed _ _ _ _ _ _ _ c.is_way.ensures (λ (ss : List Slot). entered_all (suspect a.round a.twice.now) (map recording ss) l.cells) w.if-is_way.false))
+    ]
 
 pub returns : goal.returns
 returns c = let a = c.args in let l = c.loop-i in
-    enter-none _ _ _ _ _ ∙ scan-past (comes a.round a.twice.now a.x a.bound l.before l.cells) _ l.i l.invariant.rest (omega arith)
+    enter-none _ _ _ _ _ ∙ scan-past (comes a.round a.twice.now a.x a.bound l.before l.cells) _ l.i l.invariant (omega arith)

@@ -1,15 +1,13 @@
 -- `recordings::enter_leaf` meets its contract. The loop keeps what entering the slots from i on comes to.
-use Rattle.std.proofs.Common.{◌≡◌, length, map}
+use Rattle.std.proofs.Common.{◌≡◌, map}
 use Rattle.model.specs.Slots.{recording}
-use Rattle.numbers.specs.Cells.{CELLS, entered_all}
+use Rattle.numbers.specs.Cells.{entered_all}
 use Rattle.slots.specs.Scan.{shown_from, kept_of}
 use Rattle.recordings.specs.Marked.{kept_in}
 use Rattle.recordings.specs.Rounds.{suspect}
 use Rattle.recordings.proofs.enter_leaf.Given as goal
 
 abbrev pub invariant-loop-i : goal.invariant-loop-i
-invariant-loop-i l = record {
-  cells_len : length l.cells ≡ CELLS;
-  rest : entered_all (suspect l.round l.twice) (map recording (kept_of l.x.sibling l.bound (shown_from l.before l.x.slots l.i))) l.cells
-      ≡ entered_all (suspect l.round l.twice) (map recording (kept_in l.x l.bound)) l.initial.cells;
-}
+invariant-loop-i l =
+    entered_all (suspect l.round l.twice) (map recording (kept_of l.x.sibling l.bound (shown_from l.before l.x.slots l.i))) l.cells
+    ≡ entered_all (suspect l.round l.twice) (map recording (kept_in l.x l.bound)) l.initial.cells

@@ -13,29 +13,24 @@ abbrev comes : (round : ℕ) (twice : Words) → Words → List Slot → Outcome
 comes round twice cs ss = entered_all (suspect round twice) (map recording ss) cs
 
 pub overflow_add-n-end : goal.overflow_add-n-end
-overflow_add-n-end c = omega (arith, few-marked _ _ _ c.last_marked-last.result c.requires.table_value c.last_marked-last.ensures)
+overflow_add-n-end c = omega (arith, few-marked _ _ _ c.last_marked-last.result c.requires c.last_marked-last.ensures)
 
 pub loop-n-init : goal.loop-n-init
-loop-n-init c = let a = c.args in record {
-  cells_len = c.requires.cells_len;
-  rest = row-marked (comes a.round a.twice.now a.cells.now) _ _ _ c.last_marked-last.ensures;
-}
+loop-n-init c = let a = c.args in row-marked (comes a.round a.twice.now a.cells.now) _ _ _ c.last_marked-last.ensures
 
-pub leaf-x-requires-clause-n_bound : goal.leaf-x-requires-clause-n_bound
-leaf-x-requires-clause-n_bound c = few-marked _ _ _ _ c.requires.table_value c.last_marked-last.ensures (omega arith)
+pub leaf-x-requires : goal.leaf-x-requires
+leaf-x-requires c = few-marked _ _ _ _ c.requires c.last_marked-last.ensures (omega arith)
 
 pub returns-in_default : goal.returns-in_default
 returns-in_default c = let a = c.args in let l = c.loop-n in
-    row-more (comes a.round a.twice.now l.cells) _ _ l.n _ l.invariant.rest (omega arith)
+    row-more (comes a.round a.twice.now l.cells) _ _ l.n _ l.invariant (omega arith)
     (enter-last _ _ _ l.cells _ _ (c.enter_leaf.ensures ∙ ap (comes a.round a.twice.now l.cells) (leaf-kept _ _ _ c.leaf-x.result _ c.leaf-x.ensures c.word-bound.ensures)) c.in_default.not-Entered)
 
 pub loop-n-preserved : goal.loop-n-preserved
-loop-n-preserved c = let a = c.args in let l = c.loop-n in record {
-  cells_len = omega (arith, c.enter_leaf.auto.cells, l.invariant.cells_len);
-  rest = row-more (comes a.round a.twice.now l.cells) _ _ l.n _ l.invariant.rest (omega arith)
-      (enter-next _ _ _ l.cells _ _ (c.enter_leaf.ensures ∙ ap (comes a.round a.twice.now l.cells) (leaf-kept _ _ _ c.leaf-x.result _ c.leaf-x.ensures c.word-bound.ensures)) c.in-Entered.is);
-}
+loop-n-preserved c = let a = c.args in let l = c.loop-n in
+    row-more (comes a.round a.twice.now l.cells) _ _ l.n _ l.invariant (omega arith)
+    (enter-next _ _ _ l.cells _ _ (c.enter_leaf.ensures ∙ ap (comes a.round a.twice.now l.cells) (leaf-kept _ _ _ c.leaf-x.result _ c.leaf-x.ensures c.word-bound.ensures)) c.in-Entered.is)
 
 pub returns : goal.returns
 returns c = let a = c.args in let l = c.loop-n in
-    enter-none _ _ ∙ row-end (comes a.round a.twice.now l.cells) _ _ l.n _ l.invariant.rest (omega arith)
+    enter-none _ _ ∙ row-end (comes a.round a.twice.now l.cells) _ _ l.n _ l.invariant (omega arith)

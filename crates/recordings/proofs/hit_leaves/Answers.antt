@@ -12,27 +12,20 @@ abbrev comes : (round : ℕ) (olds : Words) → Hits → List Slot → Hits
 comes round olds h ss = hit_all (suspect round olds) (place_of round) (map recording ss) h
 
 pub overflow_add-n-end : goal.overflow_add-n-end
-overflow_add-n-end c = omega (arith, few-marked _ _ _ c.last_marked-last.result c.requires.table_value c.last_marked-last.ensures)
+overflow_add-n-end c = omega (arith, few-marked _ _ _ c.last_marked-last.result c.requires c.last_marked-last.ensures)
 
 pub loop-n-init : goal.loop-n-init
-loop-n-init c = let a = c.args in record {
-  once_len = c.requires.once_len;
-  twice_len = c.requires.twice_len;
-  rest = row-marked (comes a.round a.olds.now (hits a.once.now a.twice.now false)) _ _ _ c.last_marked-last.ensures;
-}
+loop-n-init c = let a = c.args in row-marked (comes a.round a.olds.now (hits a.once.now a.twice.now false)) _ _ _ c.last_marked-last.ensures
 
-pub leaf-x-requires-clause-n_bound : goal.leaf-x-requires-clause-n_bound
-leaf-x-requires-clause-n_bound c = few-marked _ _ _ _ c.requires.table_value c.last_marked-last.ensures (omega arith)
+pub leaf-x-requires : goal.leaf-x-requires
+leaf-x-requires c = few-marked _ _ _ _ c.requires c.last_marked-last.ensures (omega arith)
 
 pub loop-n-preserved : goal.loop-n-preserved
 loop-n-preserved c = let a = c.args in let l = c.loop-n in
-    let h = hits l.once l.twice l.crowded in record {
-      once_len = omega (arith, c.hit_leaf-crowded.auto.once, l.invariant.once_len);
-      twice_len = omega (arith, c.hit_leaf-crowded.auto.twice, l.invariant.twice_len);
-      rest = row-more (comes a.round a.olds.now h) _ _ l.n _ l.invariant.rest (omega arith)
-          (hit-next _ _ _ _ h _ (c.hit_leaf-crowded.ensures ∙ ap (comes a.round a.olds.now h) (leaf-kept _ _ _ c.leaf-x.result _ c.leaf-x.ensures c.word-bound.ensures)));
-    }
+    let h = hits l.once l.twice l.crowded in
+    row-more (comes a.round a.olds.now h) _ _ l.n _ l.invariant (omega arith)
+    (hit-next _ _ _ _ h _ (c.hit_leaf-crowded.ensures ∙ ap (comes a.round a.olds.now h) (leaf-kept _ _ _ c.leaf-x.result _ c.leaf-x.ensures c.word-bound.ensures)))
 
 pub returns : goal.returns
 returns c = let a = c.args in let l = c.loop-n in
-    hit-none _ _ _ ∙ row-end (comes a.round a.olds.now (hits l.once l.twice l.crowded)) _ _ l.n _ l.invariant.rest (omega arith)
+    hit-none _ _ _ ∙ row-end (comes a.round a.olds.now (hits l.once l.twice l.crowded)) _ _ l.n _ l.invariant (omega arith)

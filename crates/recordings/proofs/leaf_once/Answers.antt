@@ -1,18 +1,16 @@
--- `recordings::leaf_once` meets its contract. The loop keeps whether a number from i on comes again.
-use Rattle.recordings.proofs.OnceLaws.{once-end, once-repeats, once-appears, once-next}
+-- `recordings::leaf_once` meets its contract.
+use Rattle.std.proofs.Common.{refl, ◌+◌, ◌-◌, ◌∙◌, rules, tests}
+use Rattle.std.proofs.lemmas.Iterator.{YieldsList-from_slice}
+use Rattle.std.proofs.lemmas.Iterator.Consumers.{YieldsList-from_enumerate}
+use Rattle.std.proofs.lemmas.Iterator.Search.{all_from_yields_List}
+use Rattle.model.specs.Slots.{view}
+use Rattle.model.specs.Table.{nodes}
+use Rattle.recordings.specs.Marked.{own_numbers}
+use Rattle.recordings.proofs.OnceLaws.{apart, once-places}
 use Rattle.recordings.proofs.leaf_once.Goals as goal
 
-pub returns-then-repeats : goal.returns-then-repeats
-returns-then-repeats c =
-    once-repeats _ _ _ c.loop-i.invariant c.loop-i-test.true _ c.recording-number.ensures _ c.if-repeats.true c.repeats.ensures
-
-pub returns-then-appears : goal.returns-then-appears
-returns-then-appears c =
-    once-appears _ _ _ c.loop-i.invariant c.loop-i-test.true _ c.recording-number.ensures _ c.if-appears.true c.appears.ensures
-
-pub loop-i-preserved : goal.loop-i-preserved
-loop-i-preserved c =
-    once-next _ _ _ c.loop-i.invariant c.loop-i-test.true _ c.recording-number.ensures _ _ c.if-repeats.false c.repeats.ensures c.if-appears.false c.appears.ensures
-
 pub returns : goal.returns
-returns c = once-end _ _ _ c.loop-i.invariant c.loop-i-test.false
+returns c = let a = c.args in
+    let ys = own_numbers (view a.table.now) a.marks.now a.next (nodes a.table.now + 1 - a.next) in
+    all_from_yields_List (apart a.pointers.now ys) _ _ c.all.result c.all.ensures.ran (YieldsList-from_enumerate (YieldsList-from_slice a.pointers.now (cc)) (cc))
+    (λ x b q k. search (rules, tests)) ∙ once-places a.pointers.now ys a.pointers.now 0 refl

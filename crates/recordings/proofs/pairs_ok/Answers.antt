@@ -1,28 +1,22 @@
--- `recordings::pairs_ok` meets its contract. The loop keeps what the nodes from n on come to.
-use Rattle.std.proofs.Common.{ap, ◌∙◌, arith}
+-- `recordings::pairs_ok` meets its contract.
+use Rattle.std.proofs.Common.{◌≤◌, refl, ◌+◌, ◌∙◌, arith, rules, tests}
+use Rattle.std.proofs.lemmas.Iterator.{serves_from_Range, YieldsList-from_range}
+use Rattle.std.proofs.lemmas.Iterator.Search.{all_from_yields_List}
+use Rattle.model.specs.Slots.{view}
 use Rattle.model.specs.SoundTest.{all, pair_ok}
-use Rattle.recordings.proofs.RowLaws.{row-marked, row-end, row-more, few-marked, pairs-none, pairs-wrong, pairs-next}
-use Rattle.recordings.proofs.LeafLaws.{leaf-kept}
+use Rattle.recordings.specs.Marked.{own}
+use Rattle.recordings.proofs.RowLaws.{few-marked, row-marked, pairs-rows}
 use Rattle.recordings.proofs.pairs_ok.Goals as goal
 
-pub overflow_add-n-end : goal.overflow_add-n-end
-overflow_add-n-end c = omega (arith, few-marked _ _ _ c.last_marked-last.result c.requires.table_value c.last_marked-last.ensures)
+pub overflow_add-last : goal.overflow_add-last
+overflow_add-last c = omega (arith, few-marked _ _ _ c.last_marked-last.result c.requires c.last_marked-last.ensures)
 
-pub loop-n-init : goal.loop-n-init
-loop-n-init c = row-marked (all pair_ok) _ _ _ c.last_marked-last.ensures
-
-pub leaf-x-requires-clause-n_bound : goal.leaf-x-requires-clause-n_bound
-leaf-x-requires-clause-n_bound c = few-marked _ _ _ _ c.requires.table_value c.last_marked-last.ensures (omega arith)
-
-pub returns-then-not-leaf_ok : goal.returns-then-not-leaf_ok
-returns-then-not-leaf_ok c = let l = c.loop-n in
-    row-more (all pair_ok) _ _ l.n _ l.invariant (omega arith)
-    (pairs-wrong _ _ _ (c.leaf_ok.ensures ∙ ap (all pair_ok) (leaf-kept _ _ _ c.leaf-x.result _ c.leaf-x.ensures c.word-bound.ensures)) c.if-not-leaf_ok.true)
-
-pub loop-n-preserved : goal.loop-n-preserved
-loop-n-preserved c = let l = c.loop-n in
-    row-more (all pair_ok) _ _ l.n _ l.invariant (omega arith)
-    (pairs-next _ _ _ (c.leaf_ok.ensures ∙ ap (all pair_ok) (leaf-kept _ _ _ c.leaf-x.result _ c.leaf-x.ensures c.word-bound.ensures)) c.if-not-leaf_ok.false)
+pub all-requires-clause-callable : goal.all-requires-clause-callable
+all-requires-clause-callable c = serves_from_Range (λ x q k. search rules) (λ x l u.
+    let low : x ≤ 65535 = few-marked _ _ _ _ c.requires c.last_marked-last.ensures (omega arith) in search (rules, low))
 
 pub returns : goal.returns
-returns c = pairs-none ∙ row-end (all pair_ok) _ _ c.loop-n.n _ c.loop-n.invariant (omega arith)
+returns c = let a = c.args in
+    all_from_yields_List (λ n. all pair_ok (own (view a.table.now) a.marks.now n)) _ _ c.all.result c.all.ensures.ran
+    (YieldsList-from_range 1 (c.last_marked-last.result + 1) _ refl refl) (λ x b q k. search (rules, tests))
+    ∙ pairs-rows _ _ _ _ ∙ row-marked (all pair_ok) _ _ _ c.last_marked-last.ensures

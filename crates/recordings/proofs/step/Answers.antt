@@ -1,17 +1,14 @@
 -- `recordings::step` meets its contract.
-use Rattle.std.proofs.Common.{◌≡◌, length, arith}
-use Rattle.recordings.specs.Rounds.{ONCE}
 use Rattle.recordings.proofs.RoundLaws.{round-stays, round-apart, from-zero, cells-tell}
 use Rattle.recordings.proofs.step.Goals as goal
 
 pub returns-then-not-hit_leaves : goal.returns-then-not-hit_leaves
 returns-then-not-hit_leaves c = let a = c.args in
-    let e = from-zero _ _ _ a.once.now a.twice.now _ _ _ c.requires.once_len c.requires.twice_len c.zero.ensures c.zero-2.ensures c.hit_leaves.ensures in
+    let e = from-zero _ _ _ a.once.now a.twice.now _ _ _ c.told-once c.told-twice c.zero.ensures c.zero-2.ensures c.hit_leaves.ensures in
     record { tells = round-apart _ _ _ c.requires.stays _ e c.if-not-hit_leaves.true; stays_2 = round-stays _ _ _ c.requires.stays _ e }
 
 pub returns : goal.returns
 returns c = let a = c.args in
-    let e = from-zero _ _ _ a.once.now a.twice.now _ _ _ c.requires.once_len c.requires.twice_len c.zero.ensures c.zero-2.ensures c.hit_leaves.ensures in
+    let e = from-zero _ _ _ a.once.now a.twice.now _ _ _ c.told-once c.told-twice c.zero.ensures c.zero-2.ensures c.hit_leaves.ensures in
     let stays = round-stays _ _ _ c.requires.stays _ e in
-    let once_len : length c.hit_leaves.new.once ≡ ONCE = omega (arith, c.hit_leaves.auto.once, c.zero.auto.table, c.requires.once_len) in
-    record { tells = cells-tell _ _ stays c.hit_leaves.new.once _ _ _ once_len c.zero-3.ensures c.enter_leaves.ensures; stays_2 = stays }
+    record { tells = cells-tell _ _ stays c.hit_leaves.new.once _ _ _ c.hit_leaves.array_long c.zero-3.ensures c.enter_leaves.ensures; stays_2 = stays }

@@ -5,13 +5,13 @@ use mathlib.Core.List.{List, []}
 use Prim.Native.Nat.{ℕ}
 use lib.ListN.{length}
 use Rattle.std.specs.Prelude.{Ok}
-use Rattle.std.proofs.lemmas.Result.{err_from_is_err_and}
+use Rattle.list_laws.proofs.Tools.{handed-on}
 use Rattle.model.specs.Table.{Words}
 use Rattle.model.specs.Orders.{Store}
 use Rattle.model.specs.Writes.{repair}
-use Rattle.orders.specs.declared.Pen.{Pen}
-use Rattle.orders.specs.Desk.{first_pen}
-use Rattle.orders.proofs.Steps.{stored_all-nil}
+use Rattle.std.proofs.Common.{rules}
+use Rattle.orders.specs.Desk.{Desk, desk, first_pen}
+use Rattle.orders.proofs.Rest.{stored-none}
 use Rattle.sound.specs.declared.Sound.{Sound}
 use Rattle.write.specs.Judged.{judged}
 use Rattle.write.proofs.Judging.{judged-ready, ready-accepted}
@@ -21,28 +21,29 @@ use Rattle.repair.proofs.repair.Goals as goal
 abbrev nothing : Words → List Store
 nothing t = []
 
-begun : (t list : Words) (dock : ℕ) (s : Sound) (pen : Pen) → judged false (length list) dock t ≡ Ok s → pen ≡ first_pen dock → Begun repair t list dock pen nothing
-begun t list dock s pen e f =
-    let p = judged-ready repair (length list) dock t s e in
-    record { is-sound = p.found.is-sound; accepted = ready-accepted repair (length list) dock t p tt; first = f; stores = repair-stores t }
+begun : (dock : ℕ) {d : Desk} (s : Sound) → judged false (length d.list) dock d.table ≡ Ok s → d.pen ≡ first_pen dock → Begun repair dock d nothing
+begun dock {d} s e f =
+    let p = judged-ready repair (length d.list) dock d.table s e in
+    record { is-sound = p.found.is-sound; accepted = ready-accepted repair (length d.list) dock d.table p tt; first = f; stores = repair-stores d.table }
 
 pub returns-in_err-leftover : goal.returns-in_err-leftover
 returns-in_err-leftover c =
-    let p = err_from_is_err_and c.from_residual.result c.from_residual.ensures.1 in
     let all = judge-refuses repair _ _ _ _ (sym c.judge_any.ensures ∙ c.in_err-leftover.was) in
-    record { value = rw (p.1, p.2) all.0; table_after = all.1.0; list_after = all.1.1 }
+    record { value = rw (handed-on c.from_residual.ensures.1) all.0; table_after = all.1.0; list_after = all.1.1 }
 
-pub mend-mended-requires : goal.mend-mended-requires
-mend-mended-requires c =
+pub mend-requires : goal.mend-requires
+mend-requires c =
     let e = sym c.judge_any.ensures ∙ c.in_ok-leftover.was in
     let p = judged-ready repair _ _ _ _ e in
-    record { table_value = p.found.is-sound; table_value_2 = p.found.leftover-is; room = mend-room (begun _ _ _ _ _ e c.begin.ensures) }
+    record { table_value = p.found.is-sound; table_value_2 = p.found.leftover-is; room = mend-room (begun _ _ e c.new.ensures) }
 
-pub finish-done-requires : goal.finish-done-requires
-finish-done-requires c = finish-room (begun _ _ _ _ _ (sym c.judge_any.ensures ∙ c.in_ok-leftover.was) c.begin.ensures) c.mend-mended.ensures (sym (stored_all-nil _))
+pub finish-requires : goal.finish-requires
+finish-requires c =
+    let b = begun _ {d = desk c.args.table.now c.args.list.now c.new.result} _ (sym c.judge_any.ensures ∙ c.in_ok-leftover.was) c.new.ensures in
+    finish-room b c.mend.ensures stored-none
 
 pub returns : goal.returns
 returns c =
-    let b = begun _ _ _ _ _ (sym c.judge_any.ensures ∙ c.in_ok-leftover.was) c.begin.ensures in
-    let all = done-call b c.mend-mended.ensures (sym (stored_all-nil _)) c.finish-done.ensures in
-    record { value = all.0; table_after = all.1.0; list_after = all.1.1 }
+    let b = begun _ {d = desk c.args.table.now c.args.list.now c.new.result} _ (sym c.judge_any.ensures ∙ c.in_ok-leftover.was) c.new.ensures in
+    let all = done-call b c.mend.ensures stored-none c.finish.ensures.writer c.finish.ensures.counts in
+    record { value = all.0.0; table_after = search (rules, all.1.0, all.0.1.0); list_after = search (rules, all.1.1, all.0.1.1) }

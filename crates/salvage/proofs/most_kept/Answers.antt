@@ -33,8 +33,8 @@ returns-then-needed_both-top c = record {
 pub slice_bounds-count_kept-end : goal.slice_bounds-count_kept-end
 slice_bounds-count_kept-end c = sym (one-long _ _ _ _ _ c.requires)
 
-pub count_kept-least-requires : goal.count_kept-least-requires
-count_kept-least-requires c = (c.requires.nodes-are, one-few _ _ _ _ _ c.requires)
+pub count_kept-one-requires : goal.count_kept-one-requires
+count_kept-one-requires c = (c.requires.nodes-are, one-few _ _ _ _ _ c.requires)
 
 pub offset_bounds-order-first-2 : goal.offset_bounds-order-first-2
 offset_bounds-order-first-2 c = let k = first-small _ _ _ _ _ c.requires in omega (arith, k)
@@ -42,8 +42,8 @@ offset_bounds-order-first-2 c = let k = first-small _ _ _ _ _ c.requires in omeg
 pub slice_bounds-count_kept-end-2 : goal.slice_bounds-count_kept-end-2
 slice_bounds-count_kept-end-2 c = all-fits _ _ _ _ _ c.requires
 
-pub count_kept-other-requires : goal.count_kept-other-requires
-count_kept-other-requires c = (c.requires.nodes-are, two-few _ _ _ _ _ c.requires)
+pub count_kept-two-requires : goal.count_kept-two-requires
+count_kept-two-requires c = (c.requires.nodes-are, two-few _ _ _ _ _ c.requires)
 
 pub returns : goal.returns
-returns c = let both = kept-bounds _ _ _ _ _ c.requires _ _ c.count_kept-least.ensures.1 c.count_kept-other.ensures.1 c.count_kept-least.ensures.0 c.count_kept-other.ensures.0 in record { most = both.0; two_value = both.1 }
+returns c = let both = kept-bounds _ _ _ _ _ c.requires _ _ c.count_kept-one.ensures.1 c.count_kept-two.ensures.1 c.count_kept-one.ensures.0 c.count_kept-two.ensures.0 in record { most = both.0; two_value = both.1 }

@@ -1,7 +1,7 @@
 -- `salvage::salvage` meets its contract.
 use mathlib.Core.Path.{refl, sym, ◌∙◌}
 use native.Mathlib.Omega.{arith}
-use Rattle.std.proofs.lemmas.Result.{err_from_is_err_and}
+use Rattle.list_laws.proofs.Tools.{handed-on}
 use Rattle.model.proofs.Numbers.{failed-some, failed-with}
 use Rattle.salvage.proofs.Entering.{words-some}
 use Rattle.salvage.proofs.Bounds.{grown, fits}
@@ -11,10 +11,9 @@ use Rattle.salvage.proofs.salvage.Goals as goal
 pub returns-in_err-header : goal.returns-in_err-header
 returns-in_err-header c =
     let a = c.args in
-    let p = err_from_is_err_and c.from_residual.result c.from_residual.ensures.1 in
     let e = sym c.header.ensures ∙ c.in_err-header.was in
     let all = refused-header a.table.now a.out.now a.report.now (failed-some _ e) in
-    record { value = rw (p.1, p.2) (sym (failed-with _ e) ∙ all.0); out_after = all.1.0; report_after = all.1.1 }
+    record { value = rw (handed-on c.from_residual.ensures.1) (sym (failed-with _ e) ∙ all.0); out_after = all.1.0; report_after = all.1.1 }
 
 pub returns-then-out-table : goal.returns-then-out-table
 returns-then-out-table c = let a = c.args in

@@ -6,10 +6,10 @@ use Rattle.model.proofs.Numbers.{refused-by}
 use Rattle.script_bytes.specs.Line.{code_of}
 use Rattle.script_bytes.proofs.code_of.Goals as goal
 
-pub returns-then-s-ne12 : goal.returns-then-s-ne12
+pub returns-then-code-ne12 : goal.returns-then-code-ne12
 unfolding code_of
-returns-then-s-ne12 c = rw (ne_eqb _ _ c.if-s-ne12.true) (sym (refused-by NoCode))
+returns-then-code-ne12 c = rw (ne_eqb _ _ c.if-code-ne12.true) (sym (refused-by NoCode))
 
 pub returns : goal.returns
 unfolding code_of
-returns c = rw (eq-eqb _ _ c.if-s-ne12.false) c.parse.ensures
+returns c = rw (eq-eqb _ _ c.if-code-ne12.false) c.parse.ensures

@@ -3,7 +3,7 @@ use mathlib.Core.Path.{◌≡◌, refl, sym, ◌∙◌}
 use mathlib.Core.Bool.{false}
 use mathlib.Core.Logic.{◌≢◌}
 use Rattle.std.specs.Prelude.{None, Ok}
-use Rattle.std.proofs.lemmas.Result.{err_from_is_err_and}
+use Rattle.list_laws.proofs.Tools.{handed-on}
 use Rattle.model.specs.Results.{Parsed}
 use Rattle.script_bytes.specs.Line.{code_of, insertion_of, deletion_of, request_at}
 use Rattle.script_bytes.specs.declared.LineState.{LineState}
@@ -12,11 +12,11 @@ use Rattle.script_bytes.specs.declared.Place.TheVariants.{Start, Sign, CodeStart
 use Rattle.script_bytes.proofs.judge.Goals as goal
 
 -- the two whole forms, by what their code is read as
-deletes : (s : LineState) (p : Place) (x : Parsed) → p ≡ Code → s.plus ≡ false → x ≡ code_of s → deletion_of x ≡ request_at p s
+deletes : (s : LineState) (p : Place) (x : Parsed) → p ≡ Code → s.plus ≡ false → x ≡ code_of s.code → deletion_of x ≡ request_at p s
 unfolding request_at
 deletes s p x e f h = rw (e, ← h, f)
 
-inserts : (s : LineState) (p : Place) (x : Parsed) → p ≡ Recording → x ≡ code_of s → insertion_of x s.recording ≡ request_at p s
+inserts : (s : LineState) (p : Place) (x : Parsed) → p ≡ Recording → x ≡ code_of s.code → insertion_of x s.recording ≡ request_at p s
 unfolding request_at
 inserts s p x e h = rw (e, ← h)
 
@@ -33,14 +33,11 @@ unfinished s Other h i = refl
 
 pub returns-in_err-code_of-in-Code-2 : goal.returns-in_err-code_of-in-Code-2
 returns-in_err-code_of-in-Code-2 c =
-    let p = err_from_is_err_and c.from_residual.result c.from_residual.ensures.1 in
-    rw (p.1, p.2) (deletes _ _ _ c.in-Code-2.is c.if-s.false (sym c.in_err-code_of-in-Code-2.was ∙ c.code_of.ensures))
+    rw (handed-on c.from_residual.ensures.1) (deletes _ _ _ c.in-Code-2.is c.if-s.false (sym c.in_err-code_of-in-Code-2.was ∙ c.code_of.ensures))
 
 pub returns-in_err-key-in-Recording : goal.returns-in_err-key-in-Recording
 returns-in_err-key-in-Recording c =
-    let r = c.from_residual-in_err-key-in-Recording in
-    let p = err_from_is_err_and r.result r.ensures.1 in
-    rw (p.1, p.2) (inserts _ _ _ c.in-Recording.is (sym c.in_err-key-in-Recording.was ∙ c.code_of-in-Recording.ensures))
+    rw (handed-on c.from_residual-in_err-key-in-Recording.ensures.1) (inserts _ _ _ c.in-Recording.is (sym c.in_err-key-in-Recording.was ∙ c.code_of-in-Recording.ensures))
 
 pub returns-in-Code : goal.returns-in-Code
 unfolding request_at

@@ -22,7 +22,7 @@ unfolding with_digit
 too_large s b d l =
     rw (d, value-digit b d, lt-leb (s.recording * 10 + (b - 48)) MARK (omega (arith, digit-range b d)))
 
-in-word : (s : LineState) (b : ℕ) → is_digit b ≡ true → s.recording ≤ (MARK - (b - 48)) / 10 → record { place = Recording; plus = s.plus; code = s.code; count = s.count; recording = s.recording * 10 + (b - 48) } ≡ with_digit s b
+in-word : (s : LineState) (b : ℕ) → is_digit b ≡ true → s.recording ≤ (MARK - (b - 48)) / 10 → record { place = Recording; plus = s.plus; code = s.code; recording = s.recording * 10 + (b - 48) } ≡ with_digit s b
 unfolding with_digit
 in-word s b d l =
     rw (d, value-digit b d, le-leb (s.recording * 10 + (b - 48)) MARK (omega (arith, digit-range b d)))

@@ -4,10 +4,10 @@ use Rattle.sentinels.proofs.Reading.{begun-stop, begun-on, begun-done}
 use Rattle.sentinels.proofs.begin.Goals as goal
 
 pub returns-then-p-eq0 : goal.returns-then-p-eq0
-returns-then-p-eq0 c = begun-stop c.args.table.now c.args.w _ _ _ _ c.requires.w_in_bounds c.requires.first_bound (omega arith) c.loop-i.invariant c.if-p-eq0.true
+returns-then-p-eq0 c = begun-stop c.args.node.now _ _ _ _ c.told-node c.requires (omega arith) c.loop-i.invariant c.if-p-eq0.true
 
 pub loop-i-preserved : goal.loop-i-preserved
-loop-i-preserved c = begun-on c.args.table.now c.args.w _ _ _ _ c.requires.w_in_bounds c.requires.first_bound (omega arith) c.loop-i.invariant c.if-p-eq0.false
+loop-i-preserved c = begun-on c.args.node.now _ _ _ _ c.told-node c.requires (omega arith) c.loop-i.invariant c.if-p-eq0.false
 
 pub returns : goal.returns
 returns c = begun-done _ _ _ _ _ (omega arith) c.loop-i.invariant

@@ -2,8 +2,8 @@
 use mathlib.Core.Path.{◌≡◌}
 use Prim.Native.Nat.{◌-◌}
 use Rattle.slots.specs.Scan.{used_from}
-use Rattle.sentinels.specs.Lines.{left_at, words_at, slots_at, begun_in}
+use Rattle.sentinels.specs.Lines.{left_in, words_in, slots_in, begun_in}
 use Rattle.sentinels.proofs.begin.Given as goal
 
 abbrev pub invariant-loop-i : goal.invariant-loop-i
-invariant-loop-i l = begun_in l.before (l.first - l.i) (used_from (words_at l.table l.w) l.i) ≡ begun_in (left_at l.table l.w) l.first (slots_at l.table l.w)
+invariant-loop-i l = begun_in l.before (l.first - l.i) (used_from (words_in l.node) l.i) ≡ begun_in (left_in l.node) l.first (slots_in l.node)

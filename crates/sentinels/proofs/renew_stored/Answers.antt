@@ -18,9 +18,9 @@ loop-i-init c = record {
 pub stored_node-n-requires : goal.stored_node-n-requires
 stored_node-n-requires c = let f = ((header-iff _).0 c.requires.table_value).size in omega (arith, f.long, f.few)
 
-pub renew_once-last-requires-clause-n_bound : goal.renew_once-last-requires-clause-n_bound
-renew_once-last-requires-clause-n_bound c = let size = ((header-iff _).0 c.requires.table_value).size.long in
-    stored-few c.args.table.now c.args.words.now _ c.requires.words_len _ _ _ size c.stored_node-n.ensures c.loop-i.invariant.had
+pub renew_once-last-requires-clause-n_in_bounds : goal.renew_once-last-requires-clause-n_in_bounds
+renew_once-last-requires-clause-n_in_bounds c = let size = ((header-iff _).0 c.requires.table_value).size.long in
+    omega (arith, c.loop-i.invariant.long, stored-few c.args.table.now c.args.words.now _ c.requires.words_len _ _ _ size c.stored_node-n.ensures c.loop-i.invariant.had)
 
 pub loop-i-preserved : goal.loop-i-preserved
 loop-i-preserved c = let t = c.args.table.now in let words = c.args.words.now in let l = c.loop-i in

@@ -1,6 +1,6 @@
 -- `sentinels::work_out` meets its contract.
 use mathlib.Core.Path.{refl, sym, ◌∙◌}
-use Rattle.std.proofs.lemmas.Result.{err_from_is_err_and}
+use Rattle.list_laws.proofs.Tools.{handed-on}
 use Rattle.model.specs.declared.Refusal.TheVariants.{NotSound}
 use Rattle.model.proofs.Numbers.{refused-by, passed-zero, failed-some, failed-with}
 use Rattle.sentinels.proofs.Refusing.{work-refused, work-unsound, work-done, work-long}
@@ -8,10 +8,9 @@ use Rattle.sentinels.proofs.work_out.Goals as goal
 
 pub returns-in_err-refusal_any : goal.returns-in_err-refusal_any
 returns-in_err-refusal_any c =
-    let p = err_from_is_err_and c.from_residual.result c.from_residual.ensures.1 in
     let e = sym c.refusal_any.ensures ∙ c.in_err-refusal_any.was in
     let both = work-refused c.args.words.now c.args.table.now _ refl (failed-some _ e) in
-    record { value = rw (p.1, p.2) (sym (failed-with _ e) ∙ both.0); words_after = both.1 }
+    record { value = rw (handed-on c.from_residual.ensures.1) (sym (failed-with _ e) ∙ both.0); words_after = both.1 }
 
 pub returns-then-not-is_sound : goal.returns-then-not-is_sound
 returns-then-not-is_sound c =

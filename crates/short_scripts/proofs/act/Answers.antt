@@ -6,23 +6,23 @@ use Rattle.short_scripts.proofs.act.Goals as goal
 
 pub overflow_add-count : goal.overflow_add-count
 overflow_add-count c = let k = c.call-answer in
-    omega (arith, few-orders c.args.action c.args.list.now c.args.table.now c.args.held.now k.ensures.list_len c.requires.table_value c.requires.table_value_2 _ _ k.ensures.value c.in-Ok.is)
+    omega (arith, few-orders c.args.action c.args.list.now c.args.table.now c.args.held.now (search rules) c.requires.table_value c.requires.table_value_2 _ _ k.ensures.value c.in-Ok.is)
 
 pub count_bad-bad-requires : goal.count_bad-bad-requires
 count_bad-bad-requires c = let k = c.call-answer in
-    omega (arith, few-orders c.args.action c.args.list.now c.args.table.now c.args.held.now k.ensures.list_len c.requires.table_value c.requires.table_value_2 _ _ k.ensures.value c.in-Ok.is)
+    omega (arith, few-orders c.args.action c.args.list.now c.args.table.now c.args.held.now (search rules) c.requires.table_value c.requires.table_value_2 _ _ k.ensures.value c.in-Ok.is)
 
 pub overflow_add-result : goal.overflow_add-result
 overflow_add-result c = let k = c.call-answer in
-    omega (arith, few-orders c.args.action c.args.list.now c.args.table.now c.args.held.now k.ensures.list_len c.requires.table_value c.requires.table_value_2 _ _ k.ensures.value c.in-Ok.is)
+    omega (arith, few-orders c.args.action c.args.list.now c.args.table.now c.args.held.now (search rules) c.requires.table_value c.requires.table_value_2 _ _ k.ensures.value c.in-Ok.is)
 
 pub returns-in-Ok : goal.returns-in-Ok
 returns-in-Ok c = let k = c.call-answer in record {
-  acts = acts-done c.args.action c.args.list.now c.args.table.now c.args.held.now k.ensures.list_len c.requires.table_value c.requires.table_value_2 _ _ k.ensures.value c.in-Ok.is
+  acts = acts-done c.args.action c.args.list.now c.args.table.now c.args.held.now (search rules) c.requires.table_value c.requires.table_value_2 _ _ k.ensures.value c.in-Ok.is
       (search rules) _ c.change-next.ensures _ k.ensures.list_after _ c.count_bad-bad.ensures;
   table_after = k.ensures.table_after;
 }
 
 pub returns-in-Err : goal.returns-in-Err
 returns-in-Err c = let k = c.call-answer in
-    record { acts = acts-refused c.args.action c.args.list.now c.args.table.now c.args.held.now k.ensures.list_len c.requires.table_value c.requires.table_value_2 _ _ k.ensures.value c.in-Err.is; table_after = k.ensures.table_after }
+    record { acts = acts-refused c.args.action c.args.list.now c.args.table.now c.args.held.now (search rules) c.requires.table_value c.requires.table_value_2 _ _ k.ensures.value c.in-Err.is; table_after = k.ensures.table_after }

@@ -17,7 +17,7 @@ returns-then-action-lt3 c = let e = call-inserts c.args.action (omega arith) in
     let l : length c.args.list.now ≡ 2560 = search rules in
     let v = rw l at c.insert.ensures.value in
     let t = rw l at c.insert.ensures.table_after in
-    record { value = rw (← e) v; table_after = rw (← e) t; list_after = rw (← e) c.insert.ensures.list_after; list_len = search rules }
+    record { value = rw (← e) v; table_after = rw (← e) t; list_after = rw (← e) c.insert.ensures.list_after }
 
 -- delete-requires
 
@@ -26,4 +26,4 @@ returns c = let e = call-deletes c.args.action (omega arith) in
     let l : length c.args.list.now ≡ 2560 = search rules in
     let v = rw l at c.delete.ensures.value in
     let t = rw l at c.delete.ensures.table_after in
-    record { value = rw (← e) v; table_after = rw (← e) t; list_after = rw (← e) c.delete.ensures.list_after; list_len = search rules }
+    record { value = rw (← e) v; table_after = rw (← e) t; list_after = rw (← e) c.delete.ensures.list_after }

@@ -1,14 +1,12 @@
--- `short_scripts::none_above` meets its contract. The loop's invariant: what is left decides.
-use mathlib.Core.Path.{sym, ◌∙◌}
-use native.Mathlib.Omega.{arith}
-use Rattle.short_scripts.proofs.Words.{within-next, within-not, within-none}
+-- `short_scripts::none_above` meets its contract.
+use Rattle.std.proofs.Common.{rules, tests, ◌∙◌}
+use Rattle.std.proofs.lemmas.Iterator.{YieldsList-from_slice}
+use Rattle.std.proofs.lemmas.Iterator.Search.{all_from_yields_List}
+use lib.Dec.{leb}
+use Rattle.list_laws.proofs.Tests.{listed-all}
 use Rattle.short_scripts.proofs.none_above.Goals as goal
 
-pub returns-then-most-word : goal.returns-then-most-word
-returns-then-most-word c = sym (within-not c.args.most c.args.words.now c.loop-word.word-index (omega arith) c.if-most-word.true) ∙ c.loop-word.invariant
-
-pub loop-word-preserved : goal.loop-word-preserved
-loop-word-preserved c = sym (within-next c.args.most c.args.words.now c.loop-word.word-index (omega arith) c.if-most-word.false) ∙ c.loop-word.invariant
-
 pub returns : goal.returns
-returns c = sym (within-none c.args.most c.args.words.now c.loop-word.word-index (omega arith)) ∙ c.loop-word.invariant
+returns c = let a = c.args in
+    all_from_yields_List (λ w. leb w a.most) _ _ c.all.result c.all.ensures.ran (YieldsList-from_slice a.words.now (cc)) (λ x b q k. search (rules, tests))
+    ∙ listed-all (λ w. leb w a.most) a.words.now

@@ -1,10 +1,7 @@
 -- `sound::check_node` and `sound::check_slot`: the level falls. The loop keeps what checking the ways from i on, from the present state, comes to.
 use Prim.Native.Nat.{◌+◌, ◌-◌, ◌*◌}
-use mathlib.Core.Path.{◌≡◌}
-use lib.ListN.{length}
 use Rattle.std.specs.Prelude.{Some}
 use Rattle.model.specs.Slots.{view}
-use Rattle.recordings.specs.Marked.{MARKS}
 use Rattle.sound.proofs.CheckLaws.{Rest}
 use Rattle.sound.proofs.MarkLaws.{Marking}
 use Rattle.sound.proofs.+check_node_check_slot.Given as goal
@@ -17,6 +14,5 @@ decreases-check_slot l = 2 * l.level + 1
 
 abbrev pub invariant-check_node-loop-i : goal.invariant-check_node-loop-i
 invariant-check_node-loop-i l =
-    (length l.marks ≡ MARKS)
-    × Rest (view l.table) l.n (l.level - 1) l.w l.next (Some l.initial.state) (Some l.state) l.i
+    Rest (view l.table) l.n (l.level - 1) l.w l.next (Some l.initial.state) (Some l.state) l.i
     × Marking (view l.table) (l.level - 1) l.w l.next l.initial.marks l.marks l.i

@@ -1,18 +1,27 @@
 -- `sound::sibling_ok` meets its contract.
-use mathlib.Core.Path.{sym, ◌∙◌}
-use Rattle.sound.proofs.NodeLaws.{sibling-none, sibling-out, sibling-other, sibling-right}
+use Rattle.std.proofs.Common.{◌≡◌, ℕ, ap₂, ◌==◌, nat_lt, ◌&&◌, ◌∙◌}
+use Rattle.model.specs.Table.{has_node}
+use Rattle.node.specs.Word.{word_of}
+use Rattle.sound.proofs.NodeLaws.{and-then, and-else, sibling-none, sibling-some}
 use Rattle.sound.proofs.sibling_ok.Goals as goal
+use Rattle.sound.proofs.sibling_ok.Goals.{then-has, else-has}
 
 pub returns-then-s-eq0 : goal.returns-then-s-eq0
-returns-then-s-eq0 c = sibling-none (record { header = c.requires; read = c.word-s.ensures }) c.if-s-eq0.true
-
-pub returns-then-not-has : goal.returns-then-not-has
-returns-then-not-has c = sibling-out (record { header = c.requires; read = c.word-s.ensures }) c.if-s-eq0.false (sym c.has.ensures ∙ c.if-not-has.true)
+returns-then-s-eq0 c = sibling-none _ _ _ c.requires c.word-s.ensures c.if-s-eq0.true
 
 pub returns-then-word : goal.returns-then-word
-returns-then-word c = sibling-other (record { header = c.requires; read = c.word-s.ensures }) c.if-s-eq0.false _ _ c.word.ensures c.word-2.ensures c.if-word.true
+returns-then-word c = let a = c.args in let t = a.table.now in let s = c.word-s.result in
+    let level : c.if-has.value ≡ (has_node t s && (word_of t s 2 == word_of t a.n 2)) = elim c.if-has.branch [
+      | then-has w ↦ w.value-is ∙ and-then _ _ _ _ c.has.ensures w.if-has.true (ap₂ (λ (x y : ℕ). x == y) w.word.ensures w.word-then-has.ensures)
+      | else-has w ↦ w.value-is ∙ and-else _ _ _ c.has.ensures w.if-has.false
+    ] in
+    and-then _ _ _ _ level c.if-word.true (ap₂ (λ (x y : ℕ). nat_lt x y) c.word-then-word.ensures c.word-then-word-2.ensures)
+    ∙ sibling-some _ _ _ c.requires c.word-s.ensures c.if-s-eq0.false
 
-pub returns : goal.returns
-returns c =
-    sibling-right (record { header = c.requires; read = c.word-s.ensures }) c.if-s-eq0.false _ _ c.word.ensures c.word-2.ensures _ _
-    (sym c.has.ensures ∙ c.if-not-has.false) c.if-word.false c.word-3.ensures c.word-4.ensures
+pub returns-else-word : goal.returns-else-word
+returns-else-word c = let a = c.args in let t = a.table.now in let s = c.word-s.result in
+    let level : c.if-has.value ≡ (has_node t s && (word_of t s 2 == word_of t a.n 2)) = elim c.if-has.branch [
+      | then-has w ↦ w.value-is ∙ and-then _ _ _ _ c.has.ensures w.if-has.true (ap₂ (λ (x y : ℕ). x == y) w.word.ensures w.word-then-has.ensures)
+      | else-has w ↦ w.value-is ∙ and-else _ _ _ c.has.ensures w.if-has.false
+    ] in
+    and-else _ _ _ level c.if-word.false ∙ sibling-some _ _ _ c.requires c.word-s.ensures c.if-s-eq0.false

@@ -1,18 +1,31 @@
 -- `sound::stands` meets its contract.
-use mathlib.Core.Path.{sym, ◌∙◌}
-use Rattle.sound.proofs.NodeLaws.{stands-out, stands-level, stands-fence, stands-all}
+use Rattle.std.proofs.Common.{◌≡◌, ℕ, ap, ◌==◌, ◌&&◌, ◌∙◌}
+use Rattle.model.specs.Table.{has_node}
+use Rattle.node.specs.Word.{word_of}
+use Rattle.sound.proofs.NodeLaws.{and-then, and-else, stands-joined}
 use Rattle.sound.proofs.stands.Goals as goal
-
-pub returns-then-not-has : goal.returns-then-not-has
-returns-then-not-has c = stands-out _ _ _ _ _ c.requires (sym c.has.ensures ∙ c.if-not-has.true)
-
-pub returns-then-word-level : goal.returns-then-word-level
-returns-then-word-level c = stands-level _ _ _ _ _ c.requires _ c.word.ensures c.if-word-level.true
+use Rattle.sound.proofs.stands.Goals.{then-has, else-has, then-word-level, else-word-level}
 
 pub returns-then-word-fence : goal.returns-then-word-fence
-returns-then-word-fence c = stands-fence _ _ _ _ _ c.requires _ c.word-2.ensures c.if-word-fence.true
+returns-then-word-fence c = let a = c.args in
+    let level : c.if-has.value ≡ (has_node a.table.now a.n && (word_of a.table.now a.n 2 == a.level)) = elim c.if-has.branch [
+      | then-has w ↦ w.value-is ∙ and-then _ _ _ _ c.has.ensures w.if-has.true (ap (λ (x : ℕ). x == a.level) w.word.ensures)
+      | else-has w ↦ w.value-is ∙ and-else _ _ _ c.has.ensures w.if-has.false
+    ] in
+    let fence : c.if-word-level.value ≡ ((has_node a.table.now a.n && (word_of a.table.now a.n 2 == a.level)) && (word_of a.table.now a.n 3 == a.fence)) = elim c.if-word-level.branch [
+      | then-word-level w ↦ w.value-is ∙ and-then _ _ _ _ level w.if-word-level.true (ap (λ (x : ℕ). x == a.fence) w.word-then-word-level.ensures)
+      | else-word-level w ↦ w.value-is ∙ and-else _ _ _ level w.if-word-level.false
+    ] in
+    and-then _ _ _ _ fence c.if-word-fence.true (ap (λ (x : ℕ). x == a.right) c.word-then-word-fence.ensures) ∙ stands-joined _ _ _ _ _ c.requires
 
-pub returns : goal.returns
-returns c =
-    stands-all _ _ _ _ _ c.requires _ _ _ (sym c.has.ensures ∙ c.if-not-has.false) c.word.ensures c.if-word-level.false
-    c.word-2.ensures c.if-word-fence.false c.word-3.ensures
+pub returns-else-word-fence : goal.returns-else-word-fence
+returns-else-word-fence c = let a = c.args in
+    let level : c.if-has.value ≡ (has_node a.table.now a.n && (word_of a.table.now a.n 2 == a.level)) = elim c.if-has.branch [
+      | then-has w ↦ w.value-is ∙ and-then _ _ _ _ c.has.ensures w.if-has.true (ap (λ (x : ℕ). x == a.level) w.word.ensures)
+      | else-has w ↦ w.value-is ∙ and-else _ _ _ c.has.ensures w.if-has.false
+    ] in
+    let fence : c.if-word-level.value ≡ ((has_node a.table.now a.n && (word_of a.table.now a.n 2 == a.level)) && (word_of a.table.now a.n 3 == a.fence)) = elim c.if-word-level.branch [
+      | then-word-level w ↦ w.value-is ∙ and-then _ _ _ _ level w.if-word-level.true (ap (λ (x : ℕ). x == a.fence) w.word-then-word-level.ensures)
+      | else-word-level w ↦ w.value-is ∙ and-else _ _ _ level w.if-word-level.false
+    ] in
+    and-else _ _ _ fence c.if-word-fence.false ∙ stands-joined _ _ _ _ _ c.requires

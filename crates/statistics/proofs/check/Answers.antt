@@ -1,6 +1,6 @@
 -- `statistics::check` meets its contract.
 use mathlib.Core.Path.{sym, ◌∙◌}
-use Rattle.std.proofs.lemmas.Result.{err_from_is_err_and}
+use Rattle.list_laws.proofs.Tools.{handed-on}
 use Rattle.model.specs.declared.Refusal.TheVariants.{NotSound}
 use Rattle.model.proofs.Numbers.{passed-zero, failed-some, failed-with, refused-by}
 use Rattle.statistics.proofs.Whole.{no-table, not-sound, is-sound}
@@ -8,10 +8,9 @@ use Rattle.statistics.proofs.check.Goals as goal
 
 pub returns-in_err-header : goal.returns-in_err-header
 returns-in_err-header c =
-    let p = err_from_is_err_and c.from_residual.result c.from_residual.ensures.1 in
     let e = sym c.header.ensures ∙ c.in_err-header.was in
     let both = no-table _ _ (failed-some _ e) in
-    record { value = rw (p.1, p.2) (sym (failed-with _ e) ∙ both.0); out_after = both.1 }
+    record { value = rw (handed-on c.from_residual.ensures.1) (sym (failed-with _ e) ∙ both.0); out_after = both.1 }
 
 pub returns-in_default : goal.returns-in_default
 returns-in_default c =

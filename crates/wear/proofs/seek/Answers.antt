@@ -5,19 +5,19 @@ use borrow.Author.Rules.{rules}
 use Rattle.wear.proofs.seek.Goals as goal
 
 pub loop-w-init : goal.loop-w-init
-loop-w-init c = (search rules, search rules, λ v a b. absurd (omega arith))
+loop-w-init g c = (search rules, search rules, λ v a b. absurd (omega arith))
 
 pub returns-then-len-w : goal.returns-then-len-w
-returns-then-len-w c = let l = c.loop-w in
+returns-then-len-w g c = let l = c.loop-w in
     seek-none _ _ _ l.w l.invariant.0 l.invariant.2 _ _ c.unwanted-n.ensures _ l.invariant.1 c.if-len-w.true
 
 pub returns-then-n-w : goal.returns-then-n-w
-returns-then-n-w c = let l = c.loop-w in
+returns-then-n-w g c = let l = c.loop-w in
     seek-found _ _ _ l.w l.invariant.0 l.invariant.2 _ _ c.unwanted-n.ensures _ (omega arith) (omega arith)
 
 pub loop-w-preserved : goal.loop-w-preserved
-loop-w-preserved c = let l = c.loop-w in
+loop-w-preserved g c = let l = c.loop-w in
     (omega arith, omega arith, seek-next _ _ _ l.w l.invariant.0 l.invariant.2 _ _ c.unwanted-n.ensures)
 
 pub returns : goal.returns
-returns c = let l = c.loop-w in seek-end _ _ _ l.w l.invariant.0 l.invariant.2 _ l.invariant.1 (omega arith)
+returns g c = let l = c.loop-w in seek-end _ _ _ l.w l.invariant.0 l.invariant.2 _ l.invariant.1 (omega arith)

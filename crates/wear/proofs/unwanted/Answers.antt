@@ -5,7 +5,7 @@ use Rattle.wear.proofs.Seeking.{word-least}
 use Rattle.wear.proofs.unwanted.Goals as goal
 
 pub overflow_cast-n : goal.overflow_cast-n
-overflow_cast-n c = omega (arith, trailing_le 64 c.wanted_bits-bits.result)
+overflow_cast-n g c = omega (arith, trailing_le 64 c.wanted_bits-bits.result)
 
 pub returns : goal.returns
-returns c = let args = c.args in rw c.min.ensures (word-least args.marks.now args.w _ _ c.wanted_bits-bits.ensures)
+returns g c = let args = c.args in rw c.min.ensures (word-least args.marks.now args.w _ _ c.wanted_bits-bits.ensures)

@@ -1,10 +1,13 @@
 -- `wear::wanted_bits` meets its contract.
+use mathlib.Core.Path.{ap}
+use mathlib.Core.Bool.{not}
 use native.Mathlib.Omega.{arith}
+use borrow.Author.Tests.{eq-eqb, ne_eqb}
 use Rattle.wear.proofs.Bits.{bits-marked, bits-unmarked}
 use Rattle.wear.proofs.wanted_bits.Goals as goal
 
-pub returns-then-wanted : goal.returns-then-wanted
-returns-then-wanted c = bits-marked _ _ c.if-wanted.true
+pub returns-then-this-ne0 : goal.returns-then-this-ne0
+returns-then-this-ne0 g c = bits-marked _ _ (ap not (ne_eqb g.row.WANTED 0 c.if-this-ne0.true))
 
 pub returns : goal.returns
-returns c = bits-unmarked _ _ c.if-wanted.false (omega (arith, c.ranges.word))
+returns g c = bits-unmarked _ _ (ap not (eq-eqb g.row.WANTED 0 c.if-this-ne0.false)) (omega (arith, c.ranges.word))

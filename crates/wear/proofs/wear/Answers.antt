@@ -6,7 +6,7 @@ use native.Mathlib.Omega.{arith}
 use lib.ListN.{length, drop}
 use Rattle.model.specs.Orders.{decode}
 use Rattle.model.specs.Wear.{wear_of}
-use Rattle.std.proofs.lemmas.Result.{err_from_is_err_and}
+use Rattle.list_laws.proofs.Tools.{handed-on}
 use Rattle.model.proofs.Numbers.{passed-zero, failed-some, failed-with}
 use lib.Seq.{length-take-le}
 use Rattle.wear.proofs.Answers.{Inside, part-length, part-most, no-header, outside, all-inside, few-lines, marks-enough, marks-hold, lines-hold, pairs-few, few-pairs, done}
@@ -19,10 +19,9 @@ inside c y = all-inside c.args.list.now c.args.table.now (passed-zero _ (sym c.h
 
 pub returns-in_err-header : goal.returns-in_err-header
 returns-in_err-header c =
-    let p = err_from_is_err_and c.from_residual.result c.from_residual.ensures.1 in
     let e = sym c.header.ensures ∙ c.in_err-header.was in
     let both = no-header c.args.list.now c.args.table.now (failed-some _ e) c.args.lines.now c.args.pairs.now in
-    record { value = rw (p.1, p.2) (sym (failed-with _ e) ∙ both.0); lines_after = both.1.0; pairs_after = both.1.1 }
+    record { value = rw (handed-on c.from_residual.ensures.1) (sym (failed-with _ e) ∙ both.0); lines_after = both.1.0; pairs_after = both.1.1 }
 
 pub returns-then-not-all_inside : goal.returns-then-not-all_inside
 returns-then-not-all_inside c =

@@ -1,18 +1,17 @@
 -- `write::judge` meets its contract.
 use mathlib.Core.Path.{sym, ◌∙◌}
-use Rattle.std.proofs.lemmas.Result.{err_from_is_err_and}
-use Rattle.model.proofs.Numbers.{done-ok, done-err}
+use Rattle.list_laws.proofs.Tools.{handed-on}
+use Rattle.model.proofs.Numbers.{done-ok}
 use Rattle.node.specs.Word.{root_in, number_in, found_root}
+use Rattle.node.proofs.Roots.{found-err}
 use Rattle.write.proofs.Judging.{wrong-collection, right-collection, judged-rest}
 use Rattle.write.proofs.judge.Goals as goal
 
 pub returns-in_err-find_root : goal.returns-in_err-find_root
-unfolding found_root
 returns-in_err-find_root c =
     let a = c.args in
-    let p = err_from_is_err_and c.from_residual.result c.from_residual.ensures.1 in
-    let f = done-err (number_in a.collection a.table.now) (root_in a.collection a.table.now) (sym c.find_root.ensures ∙ c.in_err-find_root.was) in
-    rw (p.1, p.2) (sym f.1 ∙ wrong-collection _ _ _ _ f.0)
+    let f = found-err a.collection a.table.now (sym c.find_root.ensures ∙ c.in_err-find_root.was) in
+    rw (handed-on c.from_residual.ensures.1) (sym f.1 ∙ wrong-collection _ _ _ _ f.0)
 
 pub judge_rest-requires : goal.judge_rest-requires
 unfolding found_root

@@ -1,0 +1,2 @@
+-- What a change that is handed over does.
+pub mod Changes
