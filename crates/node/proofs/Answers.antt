@@ -43,8 +43,8 @@ header-nodes t n e f = e ∙ nodes-in-some (length t) (nodes t) f.size
 pub has-none : (t : Words) (i : ℕ) → (1 ≤ i → 8 + 32 * i ≤ length t → ⊥) → has_node t i ≡ false
 has-none t i h = refuted _ (λ e. let u = (has-node-iff t i).0 e in h u.0 u.1)
 
-pub has-divided : (t : Words) (i : ℕ) → (i ≡ 0 → ⊥) → leb i ((length t - 8) / 32) ≡ has_node t i
-has-divided t i p =
+pub has-divided : (t : Words) (i : ℕ) → (i ≡ 0 → ⊥) → 8 ≤ length t → leb i ((length t - 8) / 32) ≡ has_node t i
+has-divided t i p l =
     same-test _ _ (λ e. (has-node-iff t i).1 (omega (arith, leb-true i ((length t - 8) / 32) e)), λ e. le-leb i ((length t - 8) / 32) (omega (arith, (has-node-iff t i).0 e)))
 
 pub start-none : (t : Words) (i : ℕ) → has_node t i ≡ false → start_of t i ≡ 0

@@ -109,7 +109,15 @@ pub fn root_of(table: &[u64], collection: u64) -> u64
 pub fn has(table: &[u64], i: u64) -> bool
     ensures { result ≡ has_node table.now i }
 {
-    i != 0 && i <= (table.len().saturating_sub(8) / 32) as u64
+    // One by one: as one condition, with the length cut off at 8, it makes each step of a descent longer.
+    if i == 0 {
+        return false;
+    }
+    let len = table.len();
+    if len < 8 {
+        return false;
+    }
+    i <= ((len - 8) / 32) as u64
 }
 
 // The index of node i's first word; 0 for a number that no node has.

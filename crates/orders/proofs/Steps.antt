@@ -27,10 +27,6 @@ unfolding stored_all
 stored_all-append [] b d = refl
 stored_all-append (s ∷ a) b d = stored_all-append a b (stored s d)
 
-pub stored_all-nil : (d : Desk) → stored_all [] d ≡ d
-unfolding stored_all
-stored_all-nil d = refl
-
 -- ---- orders
 
 pub noted-at : (os : List Order) (d : Desk) → (noted_all os d).pen.at ≡ d.pen.at + 2 * length os
