@@ -5,14 +5,14 @@ ghost use Rattle.std.specs.Prelude.{◌≡◌, MatchResult};
 ghost use Rattle.model.specs.Results.{answer_number};
 ghost use Rattle.model.specs.Answers.{Looked, Counted};
 
-use model::{Answer, Outcome, Refusal, Written};
+use model::{Answer, Refusal, Written};
 
-// The number of an outcome: 0 if the call did its work, else its refusal's.
-pub fn number_of(outcome: Outcome) -> u64
-    ensures { result ≡ answer_number outcome }
+// The number of an answer: 0 if the call did its work, else its refusal's.
+pub fn number_of<T: Copy>(answer: Result<T, Refusal>) -> u64
+    ensures { result ≡ answer_number answer }
 {
-    match outcome {
-        Ok(()) => 0,
+    match answer {
+        Ok(_) => 0,
         Err(r) => u64::from(r),
     }
 }
@@ -22,13 +22,10 @@ pub fn put(answer: Result<u64, Refusal>, word: &mut u64) -> u64
     ensures value { result ≡ answer_number answer }
     ensures word_after { MatchResult answer (λ x. word.new ≡ x) (λ _. word.new ≡ word.old) }
 {
-    match answer {
-        Ok(x) => {
-            *word = x;
-            0
-        }
-        Err(reason) => u64::from(reason),
+    if let Ok(x) = answer {
+        *word = x;
     }
+    number_of(answer)
 }
 
 // A search's number, and its answer into the lent words that it has one for. C lends each word by itself, here and below.
@@ -65,17 +62,14 @@ pub fn put_answer(
 }
 
 // A write's number; if it was done, its counts go into the lent words.
-pub fn put_counts(answer: Written, stores: &mut u64, flushes: &mut u64, barriers: &mut u64) -> u64
-    ensures { Counted answer result stores.old stores.new flushes.old flushes.new
+pub fn put_counts(written: Written, stores: &mut u64, flushes: &mut u64, barriers: &mut u64) -> u64
+    ensures { Counted written result stores.old stores.new flushes.old flushes.new
         barriers.old barriers.new }
 {
-    match answer {
-        Ok(counts) => {
-            *stores = counts.stores;
-            *flushes = counts.flushes;
-            *barriers = counts.barriers;
-            0
-        }
-        Err(refusal) => u64::from(refusal),
+    if let Ok(counts) = written {
+        *stores = counts.stores;
+        *flushes = counts.flushes;
+        *barriers = counts.barriers;
     }
+    number_of(written)
 }

@@ -6,11 +6,11 @@ use native.Mathlib.Omega.{arith}
 use lib.ListN.{length, take, drop, get_or}
 use Rattle.std.specs.Prelude.{Option, Some, None, Ok, Err}
 use Rattle.model.specs.declared.Refusal.{Refusal}
-use Rattle.model.specs.Results.{Written, done_with}
+use Rattle.model.specs.declared.Counts.{Counts}
+use Rattle.model.specs.Results.{Written, no_counts, counts_sum, orders_counted}
 use Rattle.model.specs.Table.{Words}
 use Rattle.model.specs.Slots.{Slot, slot, slots_of}
 use Rattle.model.specs.Refusals.{written, table_after, list_after}
-use Rattle.model.specs.declared.Batch.{Batch}
 use Rattle.model.specs.Batch.{insertion_of, Batched, stopped, behind, batch}
 
 -- ---- the pairs of a slice
@@ -44,19 +44,28 @@ pairs-past ws i h = go i (slots_of ws) (omega (arith, pairs-count ws))
 
 -- ---- behind pairs that are behind others
 
-same-batched : {a a' : Batch} {t t' l l' : Words} → a ≡ a' → t ≡ t' → l ≡ l' → ◌≡◌ {A = Batched} (record { answer = a; table = t; list = l }) (record { answer = a'; table = t'; list = l' })
-same-batched e f g = rw (e, f, g)
+pub same-counts : {a a' b b' c c' : ℕ} → a ≡ a' → b ≡ b' → c ≡ c'
+    → ◌≡◌ {A = Counts} (record { stores = a; flushes = b; barriers = c }) (record { stores = a'; flushes = b'; barriers = c' })
+same-counts e f g = rw (e, f, g)
 
-same-answer : {m : Option Refusal} {i i' a a' b b' c c' : ℕ} → i ≡ i' → a ≡ a' → b ≡ b' → c ≡ c'
-    → ◌≡◌ {A = Batch} (record { stop = m; taken = i; stores = a; flushes = b; barriers = c }) (record { stop = m; taken = i'; stores = a'; flushes = b'; barriers = c' })
-same-answer e f g h = rw (e, f, g, h)
+none-sum : (w : Counts) → counts_sum no_counts w ≡ w
+none-sum w = same-counts (omega arith) (omega arith) (omega arith)
 
-pub behind-none : (r : Batched) → behind 0 0 0 0 [] r ≡ r
-behind-none r = same-batched (same-answer (omega arith) (omega arith) (omega arith) (omega arith)) refl refl
+pub sum-none : (w : Counts) → counts_sum w no_counts ≡ w
+sum-none w = same-counts (omega arith) (omega arith) (omega arith)
 
-pub behind-behind : (i a b c j a' b' c' : ℕ) (f g : Words) (r : Batched) → behind i a b c f (behind j a' b' c' g r) ≡ behind (i + j) (a + a') (b + b') (c + c') (f ++ g) r
-behind-behind i a b c j a' b' c' f g r =
-    same-batched (same-answer (omega arith) (omega arith) (omega arith) (omega arith)) refl (sym (append_assoc f g r.list))
+sum-sum : (w x y : Counts) → counts_sum w (counts_sum x y) ≡ counts_sum (counts_sum w x) y
+sum-sum w x y = same-counts (omega arith) (omega arith) (omega arith)
+
+pub same-batched : {m m' : Option Refusal} {i i' : ℕ} {w w' : Counts} {t t' l l' : Words} → m ≡ m' → i ≡ i' → w ≡ w' → t ≡ t' → l ≡ l'
+    → ◌≡◌ {A = Batched} (record { answer = record { stop = m; taken = i; counts = w }; table = t; list = l }) (record { answer = record { stop = m'; taken = i'; counts = w' }; table = t'; list = l' })
+same-batched a b c d e = rw (a, b, c, d, e)
+
+pub behind-none : (r : Batched) → behind 0 no_counts [] r ≡ r
+behind-none r = same-batched refl (omega arith) (none-sum r.answer.counts) refl refl
+
+pub behind-behind : (i j : ℕ) (w x : Counts) (f g : Words) (r : Batched) → behind i w f (behind j x g r) ≡ behind (i + j) (counts_sum w x) (f ++ g) r
+behind-behind i j w x f g r = same-batched refl (omega arith) (sum-sum w x r.answer.counts) refl (sym (append_assoc f g r.list))
 
 -- ---- one pair
 
@@ -67,8 +76,8 @@ module _ (n dock : ℕ) (s : Slot) (ss : List Slot) (list t : Words) where
       let later = list_after (insertion_of n s) list dock t in
       elim w [
         | Ok w ↦
-            let filled = 2 * (w.stores + w.flushes + w.barriers) in
-            behind 1 w.stores w.flushes w.barriers (take filled later) (batch n dock ss (drop filled later) (table_after (insertion_of n s) (length list) dock t))
+            let filled = 2 * orders_counted w in
+            behind 1 w (take filled later) (batch n dock ss (drop filled later) (table_after (insertion_of n s) (length list) dock t))
         | Err r ↦ stopped (Some r) list t
       ]
 
@@ -76,11 +85,11 @@ module _ (n dock : ℕ) (s : Slot) (ss : List Slot) (list t : Words) where
   unfolding batch
   batch-stops r e = ap (λ (w : Written). next w) e
 
-  pub batch-goes : (a b c : ℕ) → written (insertion_of n s) (length list) dock t ≡ done_with a b c
+  pub batch-goes : (w : Counts) → written (insertion_of n s) (length list) dock t ≡ Ok w
       → batch n dock (s ∷ ss) list t
-      ≡ (let later = list_after (insertion_of n s) list dock t in behind 1 a b c (take (2 * (a + b + c)) later) (batch n dock ss (drop (2 * (a + b + c)) later) (table_after (insertion_of n s) (length list) dock t)))
+      ≡ (let later = list_after (insertion_of n s) list dock t in let filled = 2 * orders_counted w in behind 1 w (take filled later) (batch n dock ss (drop filled later) (table_after (insertion_of n s) (length list) dock t)))
   unfolding batch
-  batch-goes a b c e = ap (λ (w : Written). next w) e
+  batch-goes w e = ap (λ (w : Written). next w) e
 
 pub batch-none : (n dock : ℕ) (list t : Words) → batch n dock [] list t ≡ stopped None list t
 unfolding batch

@@ -2,8 +2,7 @@
 use mathlib.Core.Path.{◌≡◌, refl, sym, ◌∙◌}
 use mathlib.Core.Bool.{Bool, true, false, ◌&&◌}
 use mathlib.Core.Logic.{◌≢◌}
-use Prim.Native.Nat.{ℕ, ◌/◌, ◌≤◌, ◌<◌}
-use native.Mathlib.Nat.{sub-zero}
+use Prim.Native.Nat.{ℕ, ◌*◌, ◌/◌, ◌≤◌, ◌<◌}
 use lib.Dec.{leb}
 use lib.ListN.{length, take}
 use borrow.Author.Tests.{le-leb, lt-leb}
@@ -14,7 +13,7 @@ use Rattle.model.specs.Table.{Words, header_ok, header_number}
 use Rattle.model.specs.Orders.{decode, all_inside, carry, carry_number, carry_out, carried_out}
 use Rattle.model.proofs.Numbers.{refused-by}
 use Rattle.table_laws.proofs.Header.{header-number-iff, header-number-refused}
-use Rattle.carry.specs.Firsts.{firsts}
+use Rattle.carry.proofs.Turns.{decode-take}
 
 -- the answer, and the table left
 abbrev Answers : (c : ℕ) (list t : Words) (r : Outcome) (u : Words) → Type 0
@@ -33,17 +32,14 @@ module _ (c : ℕ) (list t : Words) where
     unfolding carry_number carry_out carried_out
     too-many h = rw (ok, lt-leb c (length list / 2) h) (sym (refused-by BadOrders), refl)
 
-    module _ (h : c ≤ length list / 2) (r : Bool) (q : r ≡ all_inside (length t) (firsts c list 0)) where
-      all : firsts c list 0 ≡ take c (decode list)
-      all = rw sub-zero
-
+    module _ (h : c ≤ length list / 2) (r : Bool) (q : r ≡ all_inside (length t) (decode (take (2 * c) list))) where
       within : leb c (length list / 2) && all_inside (length t) (take c (decode list)) ≡ r
-      within = rw (le-leb c (length list / 2) h, q, all)
+      within = rw (le-leb c (length list / 2) h, q, decode-take c list)
 
       pub outside : r ≡ false → Answers c list t (Err BadOrders) t
       unfolding carry_number carry_out carried_out
       outside f = rw (ok, within ∙ f) (sym (refused-by BadOrders), refl)
 
-      pub done : r ≡ true → (u : Words) → u ≡ carry (firsts c list 0) t → Answers c list t (Ok tt) u
+      pub done : r ≡ true → (u : Words) → u ≡ carry (decode (take (2 * c) list)) t → Answers c list t (Ok tt) u
       unfolding carry_number carry_out carried_out
-      done f u g = rw (ok, within ∙ f) (refl, rw (all) at g)
+      done f u g = rw (ok, within ∙ f) (refl, rw (decode-take c list) at g)

@@ -1,89 +1,100 @@
--- Orders taken one by one: the next of the first c, and the end.
+-- The orders of a list, two words each: the next one, the end, and the orders that the pairs of words give.
 use mathlib.Core.Path.{◌≡◌, refl, ap, sym, ◌∙◌}
-use mathlib.Core.Bool.{Bool, true, false, ◌&&◌}
-use mathlib.Core.List.{List, [], ◌∷◌}
-use Prim.Native.Nat.{ℕ, zero, suc, ◌+◌, ◌-◌, ◌*◌, ◌≤◌, ◌<◌}
-use native.Mathlib.Numerals.{add-one}
+use mathlib.Core.Bool.{true, ◌&&◌}
+use mathlib.Core.List.{List, [], ◌∷◌, ◌++◌}
+use Prim.Native.Nat.{ℕ, zero, suc, ◌*◌, ◌<◌}
 use native.Mathlib.Omega.{arith}
-use lib.Dec.{eqb}
-use borrow.Author.Tests.{eq-eqb, ne_eqb}
-use lib.ListN.{length, drop, set}
-use Rattle.std.specs.List.{list_all, range_with_len}
+use lib.ListN.{length, take}
+use Rattle.std.specs.List.{list_all}
+use Rattle.std.specs.declared.slice.ChunksExact.{ChunksExact}
+use Rattle.std.specs.Iterator.{AlwaysYields}
+use Rattle.std.specs.Slice.Iter.{chunks_exact_rest, chunks_exact_size, chunks_exact_steps}
+use Rattle.std.proofs.lemmas.Iterator.{YieldsList}
 use Rattle.list_laws.proofs.Tools.{and-iff}
+use Rattle.list_laws.proofs.Lists.{cons-same}
 use Rattle.cut_laws.proofs.Applying.{carry-append}
-use Rattle.model.specs.Table.{MARK, Words, at}
-use Rattle.model.specs.Orders.{Order, BAR, order_of, decode, inside, all_inside, carry}
-use Rattle.carry.specs.Firsts.{firsts}
+use Rattle.model.specs.Table.{Words, at}
+use Rattle.model.specs.Orders.{Order, order_of, decode, inside, all_inside, carry}
 
-double-suc : (i : ℕ) → 2 * suc i ≡ suc (suc (2 * i))
-double-suc i = omega arith
+double-suc : (n : ℕ) → 2 * suc n ≡ suc (suc (2 * n))
+double-suc n = omega arith
 
-double-one : (i : ℕ) → 2 * suc i + 1 ≡ suc (suc (2 * i + 1))
-double-one i = omega arith
-
--- the orders from order i on begin with words 2 i and 2 i + 1
-pub decode-cons : (ws : Words) (i : ℕ) → 2 * i + 1 < length ws → drop i (decode ws) ≡ order_of (at ws (2 * i)) (at ws (2 * i + 1)) ∷ drop (suc i) (decode ws)
+-- the first orders of a list are those of its first words
+pub decode-take : (n : ℕ) (ws : Words) → decode (take (2 * n) ws) ≡ take n (decode ws)
 unfolding decode
-decode-cons [] i h = absurd (omega arith)
-decode-cons (a ∷ []) i h = absurd (omega arith)
-decode-cons (a ∷ b ∷ ws) zero h = refl
-decode-cons (a ∷ b ∷ ws) (suc i) h = rw (double-one i, double-suc i) (decode-cons ws i (omega arith))
+decode-take zero ws = refl
+decode-take (suc n) [] = rw (double-suc n) refl
+decode-take (suc n) (a ∷ []) = rw (double-suc n) refl
+decode-take (suc n) (a ∷ b ∷ ws) = rw (double-suc n) (ap (λ (os : List Order). order_of a b ∷ os) (decode-take n ws))
 
-module _ (c : ℕ) (ws : Words) (i : ℕ) where
-  pub next : i < c → 2 * c ≤ length ws → firsts c ws i ≡ order_of (at ws (2 * i)) (at ws (2 * i + 1)) ∷ firsts c ws (i + 1)
-  next h l =
-      let e : c - i ≡ suc (c - (i + 1)) = omega arith in
-      let u : 2 * i + 1 < length ws = omega arith in
-      rw (e, decode-cons ws i u, add-one i)
+-- ---- the orders of the words left, of which a turn takes the first two
 
-  pub none-left : c ≤ i → firsts c ws i ≡ []
-  none-left h = let e : c - i ≡ 0 = omega arith in rw e
+pub no-order : (ws : Words) → length ws < 2 → decode ws ≡ []
+unfolding decode
+no-order [] h = refl
+no-order (a ∷ []) h = refl
+no-order (a ∷ b ∷ ws) h = absurd (omega arith)
 
--- ---- the test, over the numbers of the orders
+module _ (ws pair after : Words) (e : ws ≡ pair ++ after) (two : length pair ≡ 2) where
+  pub next-order : decode ws ≡ order_of (at pair 0) (at pair 1) ∷ decode after
+  unfolding decode
+  next-order = rw e (go pair two)
+    where
+      go : (p : Words) → length p ≡ 2 → decode (p ++ after) ≡ order_of (at p 0) (at p 1) ∷ decode after
+      go [] n = absurd (omega arith)
+      go (a ∷ []) n = absurd (omega arith)
+      go (a ∷ b ∷ []) n = refl
+      go (a ∷ b ∷ x ∷ p) n = absurd (omega arith)
 
-pub listed-orders : (n c : ℕ) (ws : Words) (i m : ℕ) → c - i ≡ m → 2 * c ≤ length ws
-    → list_all (λ k. inside n (order_of (at ws (2 * k)) (at ws (2 * k + 1)))) (range_with_len i m) ≡ all_inside n (firsts c ws i)
+  -- what is inside stays so, order by order
+  module _ (n : ℕ) (i : all_inside n (decode ws) ≡ true) where
+    both : (inside n (order_of (at pair 0) (at pair 1)) ≡ true) × (all_inside n (decode after) ≡ true)
+    unfolding all_inside
+    both = (and-iff _ _).0 (sym (ap (all_inside n) next-order) ∙ i)
+
+    pub inside-here : (m : ℕ) → m ≡ n → (o : Order) → o ≡ order_of (at pair 0) (at pair 1) → inside m o ≡ true
+    inside-here m q o p = rw (q, p) both.0
+
+    pub inside-next : all_inside n (decode after) ≡ true
+    inside-next = both.1
+
+  pub carry-next : (t y : Words) → carry (decode ws) t ≡ y → (o : Order) → o ≡ order_of (at pair 0) (at pair 1) → (u : Words) → u ≡ carry (o ∷ []) t → carry (decode after) u ≡ y
+  carry-next t y c o p u q = rw (q, p) (sym (carry-append (order_of (at pair 0) (at pair 1) ∷ []) _ t) ∙ sym (ap (λ (os : List Order). carry os t) next-order) ∙ c)
+
+pub carry-end : (ws t y : Words) → carry (decode ws) t ≡ y → length ws < 2 → t ≡ y
+unfolding carry
+carry-end ws t y c h = sym (ap (λ (os : List Order). carry os t) (no-order ws h)) ∙ c
+
+-- ---- the test, over the pairs of words
+
+-- two words before others are the first two
+two-first : (a b : ℕ) (ws pair after : Words) → a ∷ b ∷ ws ≡ pair ++ after → length pair ≡ 2 → (order_of (at pair 0) (at pair 1) ≡ order_of a b) × (after ≡ ws)
+two-first a b ws [] after e two = absurd (omega arith)
+two-first a b ws (x ∷ []) after e two = absurd (omega arith)
+two-first a b ws (x ∷ y ∷ []) after e two =
+    let p = cons-same a x (b ∷ ws) (y ∷ after) e in
+    let q = cons-same b y ws after p.1 in (rw (p.0, q.0) refl, sym q.1)
+two-first a b ws (x ∷ y ∷ z ∷ p) after e two = absurd (omega arith)
+
+too-short : (ws pair after : Words) → ws ≡ pair ++ after → length pair ≡ 2 → length ws < 2 → ⊥
+too-short ws pair after e two h =
+    let z : [] ≡ order_of (at pair 0) (at pair 1) ∷ decode after = sym (no-order ws h) ∙ next-order ws pair after e two in
+    let i : ◌≡◌ {A = ℕ} 0 1 = cc in
+    omega arith
+
+pairs-from : (ws : Words) (s : ChunksExact ℕ) → chunks_exact_rest s ≡ ws → chunks_exact_size s ≡ 2 → AlwaysYields chunks_exact_steps (λ x. order_of (at x.now 0) (at x.now 1)) s (decode ws)
+unfolding decode
+pairs-from [] s r e = λ x j p. too-short [] x.now (chunks_exact_rest j) (sym r ∙ p.1.0) (p.1.1 ∙ e) (omega arith)
+pairs-from (a ∷ []) s r e = λ x j p. too-short (a ∷ []) x.now (chunks_exact_rest j) (sym r ∙ p.1.0) (p.1.1 ∙ e) (omega arith)
+pairs-from (a ∷ b ∷ ws) s r e = (
+  (λ j p. omega (arith, p.1.0, e, ap length r)),
+  λ x j p. let t = two-first a b ws x.now (chunks_exact_rest j) (sym r ∙ p.1.0) (p.1.1 ∙ e) in (t.0, pairs-from ws j t.1 (p.0 ∙ e)),
+)
+
+pub pairs-give : {s : ChunksExact ℕ} (ws : Words) → chunks_exact_rest s ≡ ws → chunks_exact_size s ≡ 2 → YieldsList chunks_exact_steps (λ x. order_of (at x.now 0) (at x.now 1)) s (decode ws)
+pairs-give {s} ws r e = record { runs = pairs-from ws s r e }
+
+pub listed-inside : (n : ℕ) (os : List Order) → list_all (inside n) os ≡ all_inside n os
 unfolding all_inside
-listed-orders n c ws i zero e l = sym (ap (all_inside n) (none-left c ws i (omega arith)))
-listed-orders n c ws i (suc m) e l =
-    ap (λ b. inside n (order_of (at ws (2 * i)) (at ws (2 * i + 1))) && b) (listed-orders n c ws (i + 1) m (omega arith) l)
-    ∙ sym (ap (all_inside n) (next c ws i (omega arith) l))
-
--- ---- one turn of applying
-
-module _ (c : ℕ) (ws : Words) (i : ℕ) (t y : Words) (e : carry (firsts c ws i) t ≡ y) where
-  pub carry-next : i < c → 2 * c ≤ length ws → (u : Words) → u ≡ carry (order_of (at ws (2 * i)) (at ws (2 * i + 1)) ∷ []) t → carry (firsts c ws (i + 1)) u ≡ y
-  carry-next h l u q = rw q (sym (carry-append (order_of (at ws (2 * i)) (at ws (2 * i + 1)) ∷ []) _ t) ∙ sym (ap (λ (os : List Order). carry os t) (next c ws i h l)) ∙ e)
-
-  pub carry-end : c ≤ i → t ≡ y
-  unfolding carry
-  carry-end h = sym (ap (λ (os : List Order). carry os t) (none-left c ws i h)) ∙ e
-
--- what is inside stays so, order by order
-module _ (n c : ℕ) (ws : Words) (i : ℕ) (h : i < c) (l : 2 * c ≤ length ws) (e : all_inside n (firsts c ws i) ≡ true) where
-  both : (inside n (order_of (at ws (2 * i)) (at ws (2 * i + 1))) ≡ true) × (all_inside n (firsts c ws (i + 1)) ≡ true)
-  unfolding all_inside
-  both = (and-iff _ _).0 (sym (ap (all_inside n) (next c ws i h l)) ∙ e)
-
-  pub inside-here : (m : ℕ) → m ≡ n → inside m (order_of (at ws (2 * i)) (at ws (2 * i + 1))) ≡ true
-  inside-here m q = rw q both.0
-
-  pub inside-next : all_inside n (firsts c ws (i + 1)) ≡ true
-  inside-next = both.1
-
--- ---- one order, by its two words
-
-module _ (n a b : ℕ) where
-  pub flush-carry : (t : Words) → a ≡ MARK → t ≡ carry (order_of a b ∷ []) t
-  unfolding carry
-  flush-carry t e = rw (eq-eqb a MARK e, carry)
-
-  -- r tells whether it is a barrier
-  module _ (z : a ≡ MARK → ⊥) (r : Bool) (q : r ≡ (eqb a BAR && eqb b 0)) where
-    pub barrier-carry : (t : Words) → r ≡ true → t ≡ carry (order_of a b ∷ []) t
-    unfolding carry
-    barrier-carry t e = rw (ne_eqb a MARK z, sym q ∙ e, carry)
-
-    pub store-carry : (t : Words) → r ≡ false → set t a b ≡ carry (order_of a b ∷ []) t
-    unfolding carry
-    store-carry t e = rw (ne_eqb a MARK z, sym q ∙ e, carry)
+listed-inside n [] = refl
+listed-inside n (o ∷ os) = ap (λ b. inside n o && b) (listed-inside n os)

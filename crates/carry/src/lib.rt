@@ -1,60 +1,48 @@
 // Carry-out: the first c orders of a list, applied to a table.
 #![tactic(auto)]
 
-ghost use Rattle.std.specs.Prelude.{◌≡◌, true, ◌&&◌, [], ◌∷◌, ◌*◌, ◌≤◌, eqb, length};
-ghost use Rattle.model.specs.Orders.{BAR, order_of, inside, all_inside, carry, carry_out, carried_out};
-ghost use Rattle.carry.specs.Firsts.{firsts};
+ghost use Rattle.std.specs.Prelude.{◌≡◌, true, [], ◌∷◌, length};
+ghost use Rattle.model.specs.Orders.{decode, inside, all_inside, carry, carry_out, carried_out};
+ghost use Rattle.model.specs.ListedOrders.{meant};
 
-use model::{BAR, MARK, Outcome, Refusal};
+use model::{ListedOrder, Outcome, Refusal};
 
-// Whether these two words are a barrier.
-pub fn is_barrier(a: u64, b: u64) -> bool
-    ensures { result ≡ (eqb a BAR && eqb b 0) }
+// Whether an order lies in a table of so many words.
+fn is_inside(len: usize, order: ListedOrder) -> bool
+    ensures { result ≡ inside len (meant order) }
 {
-    a == BAR && b == 0
-}
-
-// Whether the order of these two words lies in a table of so many words.
-fn is_inside(len: usize, a: u64, b: u64) -> bool
-    ensures { result ≡ inside len (order_of a b) }
-{
-    if a == MARK {
-        return b < (len / 8) as u64;
+    match order {
+        ListedOrder::Store { word, .. } => word < len as u64,
+        ListedOrder::Flush { line } => line < (len / 8) as u64,
+        ListedOrder::Barrier => true,
     }
-    is_barrier(a, b) || a < len as u64
 }
 
-// Whether the first c orders do.
-pub fn all_inside(len: usize, list: &[u64], c: usize) -> bool
-    requires { 2 * c ≤ length list.now }
-    ensures { result ≡ all_inside len (firsts c list.now 0) }
+// Whether the orders of a list do.
+pub fn all_inside(len: usize, list: &[u64]) -> bool
+    ensures { result ≡ all_inside len (decode list.now) }
 {
-    (0..c).all(|i| is_inside(len, list[2 * i], list[2 * i + 1]))
+    list.chunks_exact(2).all(|pair| is_inside(len, ListedOrder::from((pair[0], pair[1]))))
 }
 
 // One order carried out: a store is made, a flush or a barrier changes no word.
-pub fn apply_one(table: &mut [u64], a: u64, b: u64)
-    requires { inside (length table.old) (order_of a b) ≡ true }
-    ensures { table.new ≡ carry (order_of a b ∷ []) table.old }
+pub fn apply_one(table: &mut [u64], order: ListedOrder)
+    requires { inside (length table.old) (meant order) ≡ true }
+    ensures { table.new ≡ carry (meant order ∷ []) table.old }
 {
-    if a == MARK {
-        return;
+    match order {
+        ListedOrder::Store { word, value } => table[word as usize] = value,
+        ListedOrder::Flush { .. } | ListedOrder::Barrier => {}
     }
-    if is_barrier(a, b) {
-        return;
-    }
-    let w = a as usize;
-    table[w] = b;
 }
 
-// The first c orders carried out. Table and list are the two slices that C lends.
-fn apply_all(table: &mut [u64], list: &[u64], c: usize)
-    requires c_in_bounds { 2 * c ≤ length list.now }
-    requires list_value { all_inside (length table.old) (firsts c list.now 0) ≡ true }
-    ensures { table.new ≡ carry (firsts c list.now 0) table.old }
+// The orders of a list carried out.
+fn apply_all(table: &mut [u64], list: &[u64])
+    requires { all_inside (length table.old) (decode list.now) ≡ true }
+    ensures { table.new ≡ carry (decode list.now) table.old }
 {
-    for i in 0..c {
-        apply_one(table, list[2 * i], list[2 * i + 1]);
+    for pair in list.chunks_exact(2) {
+        apply_one(table, ListedOrder::from((pair[0], pair[1])));
     }
 }
 
@@ -67,10 +55,10 @@ pub fn carry_out(table: &mut [u64], list: &[u64], c: u64) -> Outcome
     if ((list.len() / 2) as u64) < c {
         return Err(Refusal::BadOrders);
     }
-    let n = c as usize;
-    if !all_inside(table.len(), list, n) {
+    let first = &list[..2 * c as usize];
+    if !all_inside(table.len(), first) {
         return Err(Refusal::BadOrders);
     }
-    apply_all(table, list, n);
+    apply_all(table, first);
     Ok(())
 }

@@ -37,16 +37,9 @@ pub extern "C" fn catalogue_print(key: u64, text: &mut [u8; 12]) -> u64
     ensures value { result ≡ answer_number (print key) }
     ensures text_after { text.new ≡ characters_of (print key) }
 {
-    match isrc::print(key) {
-        Ok(code) => {
-            *text = code;
-            0
-        }
-        Err(refusal) => {
-            *text = [0u8; 12];
-            u64::from(refusal)
-        }
-    }
+    let code = isrc::print(key);
+    *text = code.unwrap_or([0; 12]);
+    answers::number_of(code)
 }
 
 // 0, or 2 or 17.
@@ -101,14 +94,12 @@ pub extern "C" fn catalogue_list(
         pairs.old pairs.new more.old more.new }
     ensures out_after { out.new ≡ list_out collection table.now low high out.old }
 {
-    match listing::list(table, collection, low, high, out) {
-        Ok(page) => {
-            *pairs = page.count;
-            *more = u64::from(page.more);
-            0
-        }
-        Err(refusal) => u64::from(refusal),
+    let listed = listing::list(table, collection, low, high, out);
+    if let Ok(page) = listed {
+        *pairs = page.count;
+        *more = u64::from(page.more);
     }
+    answers::number_of(listed)
 }
 
 // 0, or 2 or 13.

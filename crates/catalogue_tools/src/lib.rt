@@ -132,14 +132,12 @@ pub extern "C" fn catalogue_wear(
     ensures lines_after { lines.new ≡ lines_after orders.now lines.old extents.old table.now }
     ensures extents_after { extents.new ≡ pairs_after orders.now lines.old extents.old table.now }
 {
-    match wear::wear(table, orders, lines, extents) {
-        Ok(figures) => {
-            *total = figures.total;
-            *largest = figures.largest;
-            *first_line = figures.first_line;
-            *pairs = figures.pairs;
-            0
-        }
-        Err(refusal) => u64::from(refusal),
+    let worn = wear::wear(table, orders, lines, extents);
+    if let Ok(figures) = worn {
+        *total = figures.total;
+        *largest = figures.largest;
+        *first_line = figures.first_line;
+        *pairs = figures.pairs;
     }
+    answers::number_of(worn)
 }

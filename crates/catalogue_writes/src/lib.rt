@@ -63,10 +63,7 @@ fn put_sums(
     }
     *taken = answer.taken;
     *stop = number;
-    *stores = answer.stores;
-    *flushes = answer.flushes;
-    *barriers = answer.barriers;
-    0
+    answers::put_counts(Ok(answer.counts), stores, flushes, barriers)
 }
 
 // 0 with the counts and the number that stopped the batch, 0 if all pairs were taken; or the number that refused its first pair.

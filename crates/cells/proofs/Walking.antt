@@ -2,23 +2,16 @@
 use mathlib.Core.Path.{◌≡◌, refl, ap, sym, ◌∙◌}
 use mathlib.Core.Bool.{true, false}
 use mathlib.Core.Logic.{◌≢◌}
-use Prim.Native.Nat.{ℕ, suc, ◌-◌, ◌%◌, ◌≤◌, ◌<◌}
+use Prim.Native.Nat.{ℕ, suc, ◌-◌, ◌≤◌, ◌<◌}
 use native.Mathlib.Omega.{arith}
 use lib.Dec.{eqb, leb}
 use lib.ListN.{length, set}
 use lib.Seq.{set_out}
 use borrow.Author.Tests.{eq-eqb, ne_eqb, le-leb, lt-leb}
 use Rattle.model.specs.Table.{Words, at}
-use Rattle.model.specs.Cells.{mixed, next_cell, home_of, seek, cell_for, holds, entered, ahead, closed_up, without}
+use Rattle.model.specs.Cells.{next_cell, home_of, seek, cell_for, holds, entered, ahead, closed_up, without}
 use Rattle.list_laws.proofs.Tools.{or-right}
-use Rattle.set_laws.proofs.Holding.{past-zero, home-in}
-
-pub home-is : (m x q r : ℕ) → q ≡ mixed x → r ≡ q % m → r ≡ home_of m x
-unfolding home_of
-home-is m x q r e f = f ∙ ap (λ (z : ℕ). z % m) e
-
-pub home-below : (m x r : ℕ) → 0 < m → r ≡ home_of m x → r < m
-home-below m x r h e = rw e (home-in m x h)
+use Rattle.set_laws.proofs.Holding.{past-zero}
 
 pub ahead-up : (m i j : ℕ) → i ≤ j → j - i ≡ ahead m i j
 unfolding ahead

@@ -1,17 +1,9 @@
 // A set of numbers in a slice of cells, by open addressing: 0 is a free cell. A number that is taken out leaves no gap on another one's path.
 #![tactic(auto)]
 
-ghost use Rattle.std.specs.Prelude.{◌≡◌, ◌≢◌, ℕ, suc, ◌<◌, length};
+ghost use Rattle.std.specs.Prelude.{◌≡◌, ◌≢◌, ℕ, suc, ◌<◌, length, IfSome, IfNone};
 ghost use Rattle.model.specs.Table.{at as word_at};
-ghost use Rattle.model.specs.Cells.{next_cell, home_of, cell_for, holds, entered, ahead, closed_up, without};
-
-// Where a number's path begins, of so many cells.
-fn home(places: usize, number: u64) -> usize
-    requires { 0 < places }
-    ensures { result ≡ home_of places number }
-{
-    (numbers::mixed(number) % places as u64) as usize
-}
+ghost use Rattle.model.specs.Cells.{next_cell, cell_for, holds, entered, ahead, closed_up, without};
 
 // How far cell j comes after cell i of so many, going round.
 fn ahead(places: usize, i: usize, j: usize) -> usize
@@ -25,22 +17,24 @@ fn ahead(places: usize, i: usize, j: usize) -> usize
     places - (i - j)
 }
 
-// The cell that holds a number, or the first free one of its path; the number of cells where there is none. A caller lends cells out of a
-// longer slice: no type of theirs says that there are some.
-pub fn cell_for(cells: &[u64], number: u64) -> usize
+// The cell that holds a number, or the first free one of its path, if there is one. A caller lends cells out of a longer slice: no type of
+// theirs says that there are some. The walk is its own: numbers::enter ends after so many tries, and one walk for the two is slower.
+pub fn cell_for(cells: &[u64], number: u64) -> Option<usize>
     requires { 0 < length cells.now }
-    ensures { result ≡ cell_for cells.now number }
+    ensures some { IfSome result (λ at. (at ≡ cell_for cells.now number) × (at < length cells.now)) }
+    ensures none { IfNone result (length cells.now ≡ cell_for cells.now number) }
 {
     let places = cells.len();
-    let mut at = home(places, number);
+    let mut at = numbers::home(places, number);
+    // No iterator: each cell of a path is found from the one before.
     for _ in 0..places {
         let held = cells[at];
         if held == number || held == 0 {
-            return at;
+            return Some(at);
         }
         at = numbers::next_cell(places, at);
     }
-    places
+    None
 }
 
 // Whether the cells hold a number.
@@ -49,8 +43,11 @@ pub fn holds(cells: &[u64], number: u64) -> bool
     requires number_nonzero { 0 < number }
     ensures { result ≡ holds cells.now number }
 {
-    let at = cell_for(cells, number);
-    at < cells.len() && cells[at] == number
+    // No `is_some_and`: tried, and what it answers did not prove.
+    match cell_for(cells, number) {
+        Some(at) => cells[at] == number,
+        None => false,
+    }
 }
 
 // Enters a number that they do not hold.
@@ -58,8 +55,7 @@ pub fn enter(cells: &mut [u64], number: u64)
     requires { 0 < length cells.old }
     ensures { cells.new ≡ entered cells.old number }
 {
-    let at = cell_for(cells, number);
-    if at < cells.len() {
+    if let Some(at) = cell_for(cells, number) {
         cells[at] = number;
     }
 }
@@ -74,7 +70,7 @@ fn move_in(cells: &mut [u64], gap: usize, at: usize) -> usize
 {
     let places = cells.len();
     let held = cells[at];
-    if ahead(places, gap, at) <= ahead(places, home(places, held), at) {
+    if ahead(places, gap, at) <= ahead(places, numbers::home(places, held), at) {
         cells[gap] = held;
         return at;
     }
@@ -89,6 +85,7 @@ fn close_up(cells: &mut [u64], first: usize)
     let places = cells.len();
     let mut gap = first;
     let mut at = numbers::next_cell(places, first);
+    // No iterator: which cell is the gap, and which comes next, follows from the cell before.
     for _ in 0..places {
         if cells[at] == 0 {
             cells[gap] = 0;
@@ -106,12 +103,10 @@ pub fn take_out(cells: &mut [u64], number: u64)
     requires number_nonzero { 0 < number }
     ensures { cells.new ≡ without cells.old number }
 {
-    let at = cell_for(cells, number);
-    if cells.len() <= at {
+    let Some(at) = cell_for(cells, number) else {
         return;
+    };
+    if cells[at] == number {
+        close_up(cells, at);
     }
-    if cells[at] != number {
-        return;
-    }
-    close_up(cells, at);
 }

@@ -1,7 +1,6 @@
 -- The pairs' recordings entered, from the last to the first.
 use mathlib.Core.Path.{◌≡◌, refl, ap, sym, ◌∙◌, subst}
 use mathlib.Core.Bool.{Bool, true, false, false≢true}
-use mathlib.Core.Logic.{◌≢◌}
 use mathlib.Core.List.{List, [], ◌∷◌, map}
 use Prim.Native.Nat.{ℕ, suc, ◌+◌, ◌*◌, ◌-◌, ◌%◌, ◌≤◌, ◌<◌}
 use native.Mathlib.Omega.{arith}
@@ -11,9 +10,9 @@ use Rattle.model.specs.Slots.{Slot, slots_of, recording, recording_of, View}
 use Rattle.model.specs.SoundTest.{all, elem, distinct}
 use Rattle.list_laws.proofs.Distinct.{distinct-cons}
 use Rattle.batch_laws.proofs.Folds.{pair-at}
-use Rattle.numbers.specs.declared.Entry.{Entry}
-use Rattle.numbers.specs.declared.Entry.TheVariants.{Entered, Known, Full}
-use Rattle.numbers.specs.Cells.{CELLS, TRIES, mixed, Outcome, outcome, entered, followed}
+use Rattle.std.specs.Prelude.{Ok, Err, is_err}
+use Rattle.numbers.specs.declared.Stop.{Stop}
+use Rattle.numbers.specs.Cells.{CELLS, TRIES, Entry, mixed, Outcome, outcome, entered, followed}
 use Rattle.numbers.proofs.Filed.{Stored, Told, told, filed-none, new-number, filed-more}
 use Rattle.clear.specs.New.{off_pair, tree_pairs, recordings_of, Holds, is_entered, entered_down, clear_of, are_new}
 
@@ -22,7 +21,7 @@ unfolding elem distinct
 holds-none = record { filed = filed-none TRIES CELLS; some = tt; apart = refl }
 
 -- one number more
-pub holds-more : (cs : Words) (y : ℕ) (xs : List ℕ) (e : Entry) (after : Words) → Holds cs xs → outcome e after ≡ entered TRIES cs y → e ≡ Entered → Holds after (y ∷ xs)
+pub holds-more : (cs : Words) (y : ℕ) (xs : List ℕ) (e : Entry) (after : Words) → Holds cs xs → outcome e after ≡ entered TRIES cs y → e ≡ Ok tt → Holds after (y ∷ xs)
 unfolding elem
 holds-more cs y xs e after h q a =
     let s : Stored CELLS cs after y (mixed y % CELLS) TRIES =
@@ -54,7 +53,7 @@ holds-all pairs i from j cs e h = rw e at h
 
 -- the pair before them is entered
 pub holds-pair : (pairs : Words) (i j : ℕ) (cs : Words) (e : Entry) (after : Words) (x : ℕ) → Holds cs (recordings_of pairs i j) → 0 < i → i ≤ j → 2 * j ≤ length pairs
-    → x ≡ recording_of (get_or pairs (2 * (i - 1) + 1) 0) → outcome e after ≡ entered TRIES cs x → e ≡ Entered → Holds after (recordings_of pairs (i - 1) j)
+    → x ≡ recording_of (get_or pairs (2 * (i - 1) + 1) 0) → outcome e after ≡ entered TRIES cs x → e ≡ Ok tt → Holds after (recordings_of pairs (i - 1) j)
 holds-pair pairs i j cs e after x h p l m f q a =
     let d : suc (i - 1) ≡ i = omega arith in
     let g : recordings_of pairs (i - 1) j ≡ x ∷ recordings_of pairs i j =
@@ -64,7 +63,7 @@ holds-pair pairs i j cs e after x h p l m f q a =
 -- ---- one by one, as the code goes: i pairs are left, from `from` on
 
 module _ (pairs : Words) (from i : ℕ) (cs : Words) where
-  pub down-end : i ≤ from → outcome Entered cs ≡ entered_down pairs from (i - from) cs
+  pub down-end : i ≤ from → outcome (Ok tt) cs ≡ entered_down pairs from (i - from) cs
   unfolding entered_down
   down-end h = let e : i - from ≡ 0 = omega arith in rw e
 
@@ -76,21 +75,20 @@ module _ (pairs : Words) (from i : ℕ) (cs : Words) where
         let p : from + (i - 1 - from) ≡ i - 1 = omega arith in
         rw (d, p, ← f, ← q)
 
-    pub down-next : e ≡ Entered → entered_down pairs from (i - 1 - from) after ≡ entered_down pairs from (i - from) cs
+    pub down-next : e ≡ Ok tt → entered_down pairs from (i - 1 - from) after ≡ entered_down pairs from (i - from) cs
     down-next a = ap (λ (y : Entry). followed (outcome y after) (entered_down pairs from (i - 1 - from))) (sym a) ∙ down-step
 
-    pub down-ends : e ≢ Entered → outcome e after ≡ entered_down pairs from (i - from) cs
-    down-ends n = go e refl
-      where
-        go : (s : Entry) → e ≡ s → outcome e after ≡ entered_down pairs from (i - from) cs
-        go Entered a = absurd (n a)
-        go Known a = ap (λ (y : Entry). outcome y after) a ∙ ap (λ (y : Entry). followed (outcome y after) (entered_down pairs from (i - 1 - from))) (sym a) ∙ down-step
-        go Full a = ap (λ (y : Entry). outcome y after) a ∙ ap (λ (y : Entry). followed (outcome y after) (entered_down pairs from (i - 1 - from))) (sym a) ∙ down-step
+    pub down-ends : (s : Stop) → e ≡ Err s → outcome (Err s) after ≡ entered_down pairs from (i - from) cs
+    down-ends s a = ap (λ (y : Entry). followed (outcome y after) (entered_down pairs from (i - 1 - from))) (sym a) ∙ down-step
 
-pub not-entered : (e : Entry) → e ≢ Entered → false ≡ is_entered e
-not-entered Entered n = absurd (n refl)
-not-entered Known n = refl
-not-entered Full n = refl
+-- which answer is an error
+pub stopped : (e : Entry) → is_err e ≡ true → (s : Stop) × (e ≡ Err s)
+stopped (Ok x) h = absurd (false≢true h)
+stopped (Err s) h = (s, refl)
+
+pub entered-one : (e : Entry) → is_err e ≡ false → e ≡ Ok tt
+entered-one (Ok x) h = refl
+entered-one (Err s) h = absurd (false≢true (sym h))
 
 -- ---- the answer
 
@@ -103,17 +101,15 @@ module _ (v : View) (pairs : Words) (i j : ℕ) (b : Bool) (cs : Words) (e : b �
   clear-not o h = go o.answer h
     where
       go : (a : Entry) → false ≡ is_entered a → false ≡ clear_of v (outcome a o.cells)
-      go Entered h = absurd (false≢true h)
-      go Known h = refl
-      go Full h = refl
+      go (Ok x) h = absurd (false≢true h)
+      go (Err s) h = refl
 
   clear-all : (o : Outcome) → true ≡ is_entered o.answer → clear_of v o ≡ all (off_pair o.cells) (tree_pairs v)
   clear-all o h = go o.answer h
     where
       go : (a : Entry) → true ≡ is_entered a → clear_of v (outcome a o.cells) ≡ all (off_pair o.cells) (tree_pairs v)
-      go Entered h = refl
-      go Known h = absurd (false≢true (sym h))
-      go Full h = absurd (false≢true (sym h))
+      go (Ok x) h = refl
+      go (Err s) h = absurd (false≢true (sym h))
 
   pub new-not : b ≡ false → false ≡ are_new v pairs i j
   unfolding are_new

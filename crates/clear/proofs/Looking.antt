@@ -3,29 +3,24 @@ use mathlib.Core.Path.{◌≡◌, refl, ap, sym, ◌∙◌}
 use mathlib.Core.Bool.{Bool, true, false, ◌&&◌, and_assoc}
 use mathlib.Core.List.{List, [], ◌∷◌, ◌++◌}
 use mathlib.Core.Logic.{◌≢◌, inl, inr}
-use Prim.Native.Nat.{ℕ, zero, suc, ◌+◌, ◌-◌, ◌%◌, ◌<◌}
+use Prim.Native.Nat.{ℕ, zero, suc, ◌+◌, ◌-◌, ◌<◌}
 use native.Mathlib.Omega.{arith}
 use lib.Dec.{eqb}
 use lib.ListN.{get_or}
 use borrow.Author.Tests.{eq-eqb, ne_eqb}
 use Rattle.std.specs.List.{list_all, range_with_len}
-use Rattle.model.specs.Table.{Words, nodes}
-use Rattle.model.specs.Slots.{Slot, recording_of, node_view, view_from, view}
+use Rattle.model.specs.Table.{Words}
+use Rattle.model.specs.Slots.{Slot, recording_of, view_from, view}
+use Rattle.model.specs.Search.{below}
 use Rattle.model.specs.Reached.{flat, kept}
 use Rattle.model.specs.SoundTest.{all}
-use Rattle.node.specs.Word.{word_of}
-use Rattle.node.proofs.WordLaws.{word-sibling}
-use Rattle.walk_laws.specs.Walk.{ways}
-use Rattle.walk_laws.specs.Chain.{along, first_leaf}
-use Rattle.walk_laws.proofs.ChainLaw.{along-none, along-more}
-use Rattle.slots.specs.declared.Ways.{Ways}
-use Rattle.slots.specs.Gathered.{slots_in, ways_from}
+use Rattle.slots.specs.declared.ways.Ways.{Ways}
+use Rattle.slots.specs.Gathered.{ways_from}
 use Rattle.slots.proofs.Kept.{ways-end, ways-next}
-use Rattle.leaves.proofs.HitLaws.{kept-ways}
-use Rattle.leaves.proofs.FoundLaws.{whole-is}
-use Rattle.numbers.specs.Cells.{CELLS, TRIES, mixed, next_cell}
+use Rattle.model.specs.Cells.{home_of}
+use Rattle.numbers.specs.Cells.{CELLS, TRIES, next_cell}
 use Rattle.numbers.specs.Filed.{Closed}
-use Rattle.clear.specs.New.{off_from, off, off_pair, tree_pairs, pairs_along}
+use Rattle.clear.specs.New.{off_from, off, off_pair}
 
 all-join : (p : Slot → Bool) (xs ys : List Slot) → all p (xs ++ ys) ≡ (all p xs && all p ys)
 unfolding all
@@ -59,8 +54,8 @@ module _ (cs : Words) (r : ℕ) where
   unfolding off_from
   off-end i m e = rw e
 
-pub off-start : (cs : Words) (r i : ℕ) → i ≡ mixed r → off_from CELLS cs r (i % CELLS) TRIES ≡ off cs r
-unfolding off
+pub off-start : (cs : Words) (r i : ℕ) → i ≡ home_of CELLS r → off_from CELLS cs r i TRIES ≡ off cs r
+unfolding off home_of
 off-start cs r i e = rw e
 
 -- a number that the cells hold is met before a free one
@@ -85,47 +80,14 @@ listed-ways cs w i (suc m) e =
 
 -- ---- the leaves, one by one
 
--- what is left to look at, from this leaf of the tree on, comes to the answer
-pub record LeavesLeft (cs t : Words) (r leaf left : ℕ) : Type 0 where
-  pub comes-to : all (off_pair cs) (pairs_along (view_from t r) left leaf) ≡ all (off_pair cs) (tree_pairs (view_from t r))
+any-kept : (t : Words) (r n : ℕ) → kept (view t) n ≡ kept (view_from t r) n
+unfolding kept below
+any-kept t r n = refl
 
-pub leaves-start : (cs t : Words) (r first n : ℕ) → first ≡ first_leaf (view_from t r) → n ≡ nodes t → LeavesLeft cs t r first n
-leaves-start cs t r first n e q = record { comes-to = ap (λ (ns : List ℕ). all (off_pair cs) (flat (kept (view_from t r)) ns)) (whole-is (view_from t r) first n e q) }
-
-module _ {cs t : Words} {r leaf left : ℕ} (k : LeavesLeft cs t r leaf left) where
-  none-left : along (view_from t r) left leaf ≡ [] → true ≡ all (off_pair cs) (tree_pairs (view_from t r))
-  unfolding all flat
-  none-left z = sym (ap (λ (ns : List ℕ). all (off_pair cs) (flat (kept (view_from t r)) ns)) z) ∙ k.comes-to
-
-  pub leaves-no-leaf : leaf ≡ 0 → true ≡ all (off_pair cs) (tree_pairs (view_from t r))
-  leaves-no-leaf z = none-left (ap (along (view_from t r) left) z ∙ along-none (view_from t r) left)
-
-  pub leaves-no-more : left ≡ 0 → true ≡ all (off_pair cs) (tree_pairs (view_from t r))
-  unfolding along
-  leaves-no-more z = none-left (ap (λ (c : ℕ). along (view_from t r) c leaf) z)
-
-  module _ (w : Ways) (e : slots_in w ≡ ways (view t) leaf) (z : leaf ≡ 0 → ⊥) (y : left ≡ 0 → ⊥) (b : Bool) (h : b ≡ all (off_pair cs) (ways_from w 1)) where
-    abbrev later : Bool
-    later = all (off_pair cs) (pairs_along (view_from t r) (left - 1) (node_view t leaf).sibling)
-
-    leaves-step : (b && later) ≡ all (off_pair cs) (tree_pairs (view_from t r))
-    unfolding flat
-    leaves-step =
-        let v = view_from t r in
-        let more : left ≡ suc (left - 1) = omega arith in
-        let first : along v left leaf ≡ leaf ∷ along v (left - 1) (node_view t leaf).sibling =
-        ap (λ (c : ℕ). along v c leaf) more ∙ along-more v (left - 1) leaf z in
-        ap (λ (c : Bool). c && later) (h ∙ ap (all (off_pair cs)) (kept-ways t r leaf w e))
-        ∙ sym (ap (λ (ns : List ℕ). all (off_pair cs) (flat (kept v) ns)) first ∙ all-join (off_pair cs) (kept v leaf) (pairs_along v (left - 1) (node_view t leaf).sibling))
-        ∙ k.comes-to
-
-    pub leaves-wrong : b ≡ false → false ≡ all (off_pair cs) (tree_pairs (view_from t r))
-    leaves-wrong n = ap (λ (c : Bool). c && later) (sym n) ∙ leaves-step
-
-    pub leaves-next : b ≡ true → (next : ℕ) → next ≡ word_of t leaf 1 → LeavesLeft cs t r next (left - 1)
-    leaves-next n next q =
-        record {
-          comes-to =
-              ap (λ (x : ℕ). all (off_pair cs) (pairs_along (view_from t r) (left - 1) x)) (q ∙ word-sibling t leaf)
-              ∙ ap (λ (c : Bool). c && later) (sym n) ∙ leaves-step;
-        }
+pub leaves-all : (cs t : Words) (r : ℕ) (ns : List ℕ) → list_all (λ (n : ℕ). all (off_pair cs) (kept (view t) n)) ns ≡ all (off_pair cs) (flat (kept (view_from t r)) ns)
+unfolding all flat
+leaves-all cs t r [] = refl
+leaves-all cs t r (n ∷ ns) =
+    ap (λ (b : Bool). all (off_pair cs) (kept (view t) n) && b) (leaves-all cs t r ns)
+    ∙ ap (λ (ss : List Slot). all (off_pair cs) ss && all (off_pair cs) (flat (kept (view_from t r)) ns)) (any-kept t r n)
+    ∙ sym (all-join (off_pair cs) (kept (view_from t r) n) (flat (kept (view_from t r)) ns))

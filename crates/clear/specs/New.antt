@@ -1,5 +1,5 @@
 -- Recordings that are new to a map, and the cells that hold them.
-use Rattle.std.specs.Prelude.{◌≡◌, Bool, true, false, ◌≢◌, List, map, ℕ, zero, suc, ◌+◌, ◌*◌, ◌-◌, ◌%◌, eqb, get_or, take, drop, replicate}
+use Rattle.std.specs.Prelude.{◌≡◌, Bool, true, false, ◌≢◌, List, map, ℕ, zero, suc, ◌+◌, ◌*◌, ◌-◌, ◌%◌, eqb, get_or, take, drop, replicate, Ok, Err}
 use Rattle.model.specs.Table.{Words}
 use Rattle.model.specs.Slots.{Slot, slots_of, recording_of, recording, View}
 use Rattle.model.specs.Reached.{flat, kept}
@@ -7,9 +7,7 @@ use Rattle.model.specs.SoundTest.{all, elem, distinct}
 use Rattle.model.specs.Refusals.{has_recording}
 use Rattle.list_laws.specs.Each.{Each}
 use Rattle.walk_laws.specs.Chain.{along, chain}
-use Rattle.numbers.specs.declared.Entry.{Entry}
-use Rattle.numbers.specs.declared.Entry.TheVariants.{Entered, Known, Full}
-use Rattle.numbers.specs.Cells.{CELLS, TRIES, Outcome, outcome, mixed, next_cell, entered, followed}
+use Rattle.numbers.specs.Cells.{CELLS, TRIES, Entry, Outcome, outcome, mixed, next_cell, entered, followed}
 use Rattle.numbers.specs.Filed.{Filed}
 
 -- of n cells, m along the path from cell i on: a free one comes before r
@@ -52,18 +50,17 @@ pub record New (ps : List Slot) (rs : List ℕ) : Type 0 where
 -- ---- what is answered
 
 abbrev pub is_entered : Entry → Bool
-is_entered Entered = true
-is_entered Known = false
-is_entered Full = false
+is_entered (Ok x) = true
+is_entered (Err s) = false
 
 -- the recordings of so many pairs from i on entered, from the last to the first
 unfoldable pub entered_down : (pairs : Words) → (i count : ℕ) → Words → Outcome
-entered_down pairs i zero cs = outcome Entered cs
+entered_down pairs i zero cs = outcome (Ok tt) cs
 entered_down pairs i (suc c) cs = followed (entered TRIES cs (recording_of (get_or pairs (2 * (i + c) + 1) 0))) (entered_down pairs i c)
 
 -- each of them found a cell, and surely none of the tree is among them
 abbrev pub clear_of : View → Outcome → Bool
-clear_of v o = elim o.answer [ Entered ↦ all (off_pair o.cells) (tree_pairs v) | Known ↦ false | Full ↦ false ]
+clear_of v o = elim o.answer [ Ok x ↦ all (off_pair o.cells) (tree_pairs v) | Err s ↦ false ]
 
 -- the pairs from i on, before j, are known to have recordings that are new to the tree; else nothing is known of them
 unfoldable pub are_new : View → (pairs : Words) → (i j : ℕ) → Bool

@@ -3,20 +3,18 @@
 #![tactic(auto)]
 
 ghost use Rattle.std.specs.Prelude.{◌≡◌, true, [], ◌*◌, ◌-◌, ◌≤◌, length};
-ghost use Rattle.model.specs.Slots.{view_from};
-ghost use Rattle.model.specs.Reached.{mapping};
+ghost use Rattle.model.specs.Slots.{view_from, view};
+ghost use Rattle.model.specs.Reached.{kept, mapping};
 ghost use Rattle.model.specs.SoundTest.{all, sound_view};
-ghost use Rattle.slots.specs.Gathered.{ways_from};
 ghost use Rattle.clear.specs.New.{off, off_pair, tree_pairs, recordings_of, Holds, New, is_entered, entered_down, are_new};
 
-use numbers::Entry;
-use slots::Ways;
+use leaves::Siblings;
 
 // Whether a number is surely not in the cells: a free one comes before it on its path.
 fn is_off(cells: &[u64; numbers::CELLS], number: u64) -> bool
     ensures { result ≡ off cells.now number }
 {
-    let mut at = (numbers::mixed(number) % numbers::CELLS as u64) as usize;
+    let mut at = numbers::home(numbers::CELLS, number);
     // No `all`: each cell of a path is found from the one before, and the cell that ends it says which answer.
     for _ in 0..numbers::TRIES {
         let held = cells[at];
@@ -31,11 +29,11 @@ fn is_off(cells: &[u64; numbers::CELLS], number: u64) -> bool
     false
 }
 
-// Whether each recording of a leaf, its first way left aside, surely is not.
-fn leaf_off(cells: &[u64; numbers::CELLS], w: Ways) -> bool
-    requires { w.count ≤ 13 }
-    ensures { result ≡ all (off_pair cells.now) (ways_from w 1) }
+// Whether each recording of a leaf surely is not. The first of its ways is no slot.
+fn leaf_off(cells: &[u64; numbers::CELLS], table: &[u64], leaf: u64) -> bool
+    ensures { result ≡ all (off_pair cells.now) (kept (view table.now) leaf) }
 {
+    let w = leaves::ways_of(table, leaf);
     (1..w.count).all(|i| is_off(cells, pointer::recording(w.pointers[i])))
 }
 
@@ -43,20 +41,8 @@ fn leaf_off(cells: &[u64; numbers::CELLS], w: Ways) -> bool
 fn leaves_off(cells: &[u64; numbers::CELLS], table: &[u64], root: u64) -> bool
     ensures { result ≡ all (off_pair cells.now) (tree_pairs (view_from table.now root)) }
 {
-    let mut leaf = leaves::first_leaf(table, root);
-    let nodes = leaves::word_at(table, 2);
-    // No `all`: each leaf is found from the one before.
-    for _ in 0..nodes {
-        if leaf == 0 {
-            return true;
-        }
-        let w = leaves::ways_of(table, leaf);
-        if !leaf_off(cells, w) {
-            return false;
-        }
-        leaf = node::word(table, leaf, 1);
-    }
-    true
+    let first = leaves::first_leaf(table, root);
+    Siblings::new(table, first, leaves::word_at(table, 2)).all(|leaf| leaf_off(cells, table, leaf))
 }
 
 // Enters the recordings of the pairs from one on, before another, from the last to the first: whether each was entered.
@@ -71,9 +57,9 @@ fn enter_pairs(cells: &mut [u64; numbers::CELLS], pairs: &[u64], from: usize, to
     // No `all`: its closure would write to the cells, and a proof knows nothing of what a closure writes to.
     for i in (from..to).rev() {
         let number = pointer::recording(pairs[2 * i + 1]);
-        let Entry::Entered = numbers::enter(cells, numbers::TRIES, number) else {
+        if numbers::enter(cells, numbers::TRIES, number).is_err() {
             return false;
-        };
+        }
     }
     true
 }

@@ -6,21 +6,23 @@ use mathlib.Core.List.{List, [], ◌∷◌}
 use mathlib.Core.Option.{Option, none, some}
 use Prim.Native.Nat.{ℕ, suc, ◌≤◌, ◌<◌}
 use native.Mathlib.Omega.{arith}
-use lib.Dec.{ltb}
-use borrow.Author.Tests.{eq-eqb, ne_eqb, lt-ltb, le-ltb, ltb-true, ltb-false}
+use lib.Dec.{eqb, ltb}
+use borrow.Author.Tests.{eqb-true, eq-eqb, ne_eqb, lt-ltb, le-ltb, ltb-true, ltb-false}
+use Rattle.std.specs.Prelude.{Option as Known, Some, None, is_some, unwrap_or}
+use Rattle.std.specs.Option.{option_eq}
 use Rattle.model.specs.Slots.{Slot, slot}
 use Rattle.model.specs.Search.{first_with}
 use Rattle.model.specs.SoundTest.{rising}
 use Rattle.model.specs.Refusals.{has_key}
 use Rattle.model.specs.Ledger.{enter, leave}
 use Rattle.model.specs.Judge.{same_slots}
-use Rattle.list_laws.proofs.Tools.{Each, Each-map, Misses, same-or-not, first-nil, first-here, first-past}
+use Rattle.list_laws.proofs.Tools.{Each-map, Misses, same-or-not, first-nil, first-here, first-past}
 use Rattle.list_laws.proofs.Lists.{cons-same}
 use Rattle.list_laws.proofs.OrdinaryMap.{enter-first}
 use Rattle.tree_laws.proofs.Rising.{rising-cons, rising-weaken, rising-from}
 use Rattle.change_laws.proofs.Pairs.{has-key-iff}
 use Rattle.judge_laws.proofs.Compared.{slots-same}
-use Rattle.slots.specs.Held.{pointer_in}
+use Rattle.slots.specs.Held.{held_by}
 use Rattle.compare.specs.Cursors.{same_but}
 use Rattle.compare.specs.Pointers.{held, with_pointer, old_or_new}
 
@@ -96,28 +98,42 @@ rising-enter k x lo (s ∷ ss) h m r = go (ltb k s.key) refl (λ h. rising-enter
 
 -- ---- the slot of a key, by its pointer
 
--- a slot found for k has that key, and a pointer other than 0
-abbrev Proper : ℕ → Option Slot → Type 0
-Proper k none = Unit {0}
-Proper k (some s) = (s.key ≡ k) × (s.pointer ≢ 0)
+-- a slot found for k has that key
+abbrev Keyed : ℕ → Option Slot → Type 0
+Keyed k none = Unit {0}
+Keyed k (some s) = s.key ≡ k
 
 slot-is : (s u : Slot) → s.key ≡ u.key → s.pointer ≡ u.pointer → s ≡ u
 slot-is s u a b = ap (λ (k : ℕ). slot k s.pointer) a ∙ ap (slot u.key) b
 
-by-pointer : (k : ℕ) (a b : Option Slot) → Proper k a → Proper k b → pointer_in a ≡ pointer_in b → a ≡ b
+by-pointer : (k : ℕ) (a b : Option Slot) → Keyed k a → Keyed k b → held_by a ≡ held_by b → a ≡ b
 by-pointer k none none p q e = refl
-by-pointer k none (some u) p q e = absurd (q.1 (sym e))
-by-pointer k (some s) none p q e = absurd (p.1 e)
-by-pointer k (some s) (some u) p q e = ap some (slot-is s u (p.0 ∙ sym q.0) e)
+by-pointer k none (some u) p q e = let d : false ≡ true = ap is_some e in absurd (false≢true d)
+by-pointer k (some s) none p q e = let d : false ≡ true = ap is_some (sym e) in absurd (false≢true d)
+by-pointer k (some s) (some u) p q e = ap some (slot-is s u (p ∙ sym q) (ap (λ (o : Known ℕ). unwrap_or o 0) e))
 
-first-proper : (k : ℕ) (ss : List Slot) → Each (λ (s : Slot). s.pointer ≢ 0) ss → Proper k (first_with k ss)
+first-keyed : (k : ℕ) (ss : List Slot) → Keyed k (first_with k ss)
 unfolding first_with
-first-proper k [] h = tt
-first-proper k (s ∷ ss) h = go (same-or-not s.key k) (first-proper k ss h.1)
+first-keyed k [] = tt
+first-keyed k (s ∷ ss) = go (same-or-not s.key k) (first-keyed k ss)
   where
-    go : (s.key ≡ k) ⊎ (s.key ≢ k) → Proper k (first_with k ss) → Proper k (first_with k (s ∷ ss))
-    go (inl e) ih = rw (first-here k s ss e) (e, h.0)
+    go : (s.key ≡ k) ⊎ (s.key ≢ k) → Keyed k (first_with k ss) → Keyed k (first_with k (s ∷ ss))
+    go (inl e) ih = rw (first-here k s ss e) e
     go (inr z) ih = rw (first-past k s ss z) ih
+
+-- two pointers compared, where there may be none
+pub same-pointer : (a b : Known ℕ) → option_eq eqb a b ≡ true → a ≡ b
+same-pointer None None e = refl
+same-pointer None (Some y) e = absurd (false≢true e)
+same-pointer (Some x) None e = absurd (false≢true e)
+same-pointer (Some x) (Some y) e = ap Some (eqb-true x y e)
+
+pub own-pointer : (a b : Known ℕ) → a ≡ b → option_eq eqb a b ≡ true
+own-pointer a None e = rw e refl
+own-pointer a (Some y) e = rw e (eq-eqb y y refl)
+
+pub other-pointer : (a b : Known ℕ) → option_eq eqb a b ≡ false → a ≢ b
+other-pointer a b e q = false≢true (sym e ∙ own-pointer a b q)
 
 -- ---- the same but for a key, and the same slot for that
 
@@ -174,72 +190,41 @@ same-list k lo (p ∷ ps) (q ∷ qs) r s l f = go (same-or-not p.key k) (same-or
 
 -- ---- with another pointer
 
-module _ (k x : ℕ) (ps : List Slot) where
-  with-none : x ≡ 0 → with_pointer k x ps ≡ leave k ps
-  unfolding with_pointer
-  with-none e = rw (eq-eqb x 0 e)
+with-leave : (k : ℕ) (x : Known ℕ) (ps : List Slot) → leave k (with_pointer k x ps) ≡ leave k ps
+unfolding with_pointer
+with-leave k None ps = leave-none k (leave k ps) (leave-misses k ps)
+with-leave k (Some x) ps = leave-enter k x (leave k ps) (leave-misses k ps)
 
-  with-some : x ≢ 0 → with_pointer k x ps ≡ enter k x (leave k ps)
-  unfolding with_pointer
-  with-some z = rw (ne_eqb x 0 z)
+pub with-held : (k : ℕ) (x : Known ℕ) (ps : List Slot) → held k (with_pointer k x ps) ≡ x
+unfolding with_pointer
+with-held k None ps = ap held_by (first-nil k (leave k ps) (leave-misses k ps))
+with-held k (Some x) ps =
+    let e : first_with k (enter k x (leave k ps)) ≡ some (slot k x) = enter-first k k x (leave k ps) ((has-key-iff k (leave k ps)).1 (leave-misses k ps)) ∙ rw (eq-eqb k k refl) in
+    ap held_by e
 
-  with-leave : leave k (with_pointer k x ps) ≡ leave k ps
-  with-leave = go (same-or-not x 0)
-    where
-      go : (x ≡ 0) ⊎ (x ≢ 0) → leave k (with_pointer k x ps) ≡ leave k ps
-      go (inl e) = rw (with-none e) (leave-none k (leave k ps) (leave-misses k ps))
-      go (inr z) = rw (with-some z) (leave-enter k x (leave k ps) (leave-misses k ps))
+with-rising : (k : ℕ) (x : Known ℕ) (ps : List Slot) → rising 0 ps ≡ true → rising 0 (with_pointer k x ps) ≡ true
+unfolding with_pointer
+with-rising k None ps r = rising-leave k 0 ps r
+with-rising k (Some x) ps r = rising-enter k x 0 (leave k ps) (omega arith) (leave-misses k ps) (rising-leave k 0 ps r)
 
-  none-found : first_with k (leave k ps) ≡ none
-  none-found = first-nil k (leave k ps) (leave-misses k ps)
+-- ---- old or new, of pairs in the order of their keys
 
-  one-found : first_with k (enter k x (leave k ps)) ≡ some (slot k x)
-  one-found = enter-first k k x (leave k ps) ((has-key-iff k (leave k ps)).1 (leave-misses k ps)) ∙ rw (eq-eqb k k refl)
-
-  pub with-held : held k (with_pointer k x ps) ≡ x
-  with-held = go (same-or-not x 0)
-    where
-      go : (x ≡ 0) ⊎ (x ≢ 0) → held k (with_pointer k x ps) ≡ x
-      go (inl e) = rw (with-none e, none-found) (sym e)
-      go (inr z) = rw (with-some z, one-found)
-
-  with-proper : Proper k (first_with k (with_pointer k x ps))
-  with-proper = go (same-or-not x 0)
-    where
-      go : (x ≡ 0) ⊎ (x ≢ 0) → Proper k (first_with k (with_pointer k x ps))
-      go (inl e) = rw (with-none e, none-found) tt
-      go (inr z) = rw (with-some z, one-found) (refl, z)
-
-  with-rising : rising 0 ps ≡ true → rising 0 (with_pointer k x ps) ≡ true
-  with-rising r = go (same-or-not x 0)
-    where
-      go : (x ≡ 0) ⊎ (x ≢ 0) → rising 0 (with_pointer k x ps) ≡ true
-      go (inl e) = rw (with-none e) (rising-leave k 0 ps r)
-      go (inr z) = rw (with-some z) (rising-enter k x 0 (leave k ps) (omega arith) (leave-misses k ps) (rising-leave k 0 ps r))
-
--- ---- old or new
-
--- pairs in the order of their keys, with pointers other than 0
-pub record Ordered (ps : List Slot) : Type 0 where
-  pub rises : rising 0 ps ≡ true
-  pub pointers : Each (λ (s : Slot). s.pointer ≢ 0) ps
-
-module _ (k : ℕ) (ps qs : List Slot) (r : rising 0 ps ≡ true) (s : rising 0 qs ≡ true) (p : Proper k (first_with k ps)) (q : Proper k (first_with k qs)) where
+module _ (k : ℕ) (ps qs : List Slot) (r : rising 0 ps ≡ true) (s : rising 0 qs ≡ true) where
   same-iff : (same_slots ps qs ≡ true) ↔ ((held k ps ≡ held k qs) × (same_but k ps qs ≡ true))
   unfolding same_but
   same-iff = (
     λ e. let d = (slots-same ps qs).0 e in (ap (held k) d, (slots-same (leave k ps) (leave k qs)).1 (ap (leave k) d)),
-    λ h. (slots-same ps qs).1 (same-list k 0 ps qs r s ((slots-same (leave k ps) (leave k qs)).0 h.1) (by-pointer k (first_with k ps) (first_with k qs) p q h.0)),
+    λ h. (slots-same ps qs).1 (same-list k 0 ps qs r s ((slots-same (leave k ps) (leave k qs)).0 h.1) (by-pointer k (first_with k ps) (first_with k qs) (first-keyed k ps) (first-keyed k qs) h.0)),
   )
 
-module _ (k x : ℕ) (old ps : List Slot) (o : Ordered old) (n : Ordered ps) where
+module _ (k : ℕ) (x : Known ℕ) (old ps : List Slot) (o : rising 0 old ≡ true) (n : rising 0 ps ≡ true) where
   old-iff : (same_slots ps old ≡ true) ↔ ((held k ps ≡ held k old) × (same_but k ps old ≡ true))
-  old-iff = same-iff k ps old n.rises o.rises (first-proper k ps n.pointers) (first-proper k old o.pointers)
+  old-iff = same-iff k ps old n o
 
   new-iff : (same_slots ps (with_pointer k x old) ≡ true) ↔ ((held k ps ≡ x) × (same_but k ps old ≡ true))
   unfolding same_but
   new-iff =
-      let i = same-iff k ps (with_pointer k x old) n.rises (with-rising k x old o.rises) (first-proper k ps n.pointers) (with-proper k x old) in
+      let i = same-iff k ps (with_pointer k x old) n (with-rising k x old o) in
       (λ e. let u = i.0 e in (u.0 ∙ with-held k x old, rw (with-leave k x old) at u.1), λ h. i.1 (h.0 ∙ sym (with-held k x old), rw (with-leave k x old) h.1))
 
   -- the pointer is another one than the old, and none may change it, or it is not the new one
@@ -287,13 +272,11 @@ module _ (k x : ℕ) (old ps : List Slot) (o : Ordered old) (n : Ordered ps) whe
       go false false false p q r = refl
 
 -- the pointer that it has: nothing changes
-pub with-same : (k x : ℕ) (ps : List Slot) → Ordered ps → held k ps ≡ x → with_pointer k x ps ≡ ps
+pub with-same : (k : ℕ) (x : Known ℕ) (ps : List Slot) → rising 0 ps ≡ true → held k ps ≡ x → with_pointer k x ps ≡ ps
 unfolding same_but
 with-same k x ps o e = sym ((slots-same ps (with_pointer k x ps)).0 ((new-iff k x ps ps o o).1 (e, (slots-same (leave k ps) (leave k ps)).1 refl)))
 
--- a key that is not there enters, with a pointer other than 0; 0 takes the key out
-pub with-enters : (k x : ℕ) (ps : List Slot) → has_key k ps ≡ false → x ≢ 0 → with_pointer k x ps ≡ enter k x ps
-with-enters k x ps m z = with-some k x ps z ∙ ap (enter k x) (leave-none k ps ((has-key-iff k ps).0 m))
-
-pub with-leaves : (k : ℕ) (ps : List Slot) → with_pointer k 0 ps ≡ leave k ps
-with-leaves k ps = with-none k 0 ps refl
+-- a key that is not there enters
+pub with-enters : (k x : ℕ) (ps : List Slot) → has_key k ps ≡ false → with_pointer k (Some x) ps ≡ enter k x ps
+unfolding with_pointer
+with-enters k x ps m = ap (enter k x) (leave-none k ps ((has-key-iff k ps).0 m))

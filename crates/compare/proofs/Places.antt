@@ -17,7 +17,7 @@ use Rattle.node.proofs.WordLaws.{word-sibling}
 use Rattle.walk_laws.specs.Walk.{ways}
 use Rattle.walk_laws.specs.Chain.{along, first_leaf}
 use Rattle.walk_laws.proofs.ChainLaw.{along-none, along-more}
-use Rattle.slots.specs.declared.Ways.{Ways}
+use Rattle.slots.specs.declared.ways.Ways.{Ways}
 use Rattle.slots.specs.Gathered.{slots_in}
 use Rattle.slots.proofs.Kept.{ways-end, ways-next}
 use Rattle.leaves.proofs.HitLaws.{kept-ways}
@@ -99,11 +99,11 @@ any-pairs : (t : Words) (r q left leaf : ℕ) → pairs_along (view_from t r) le
 unfolding along kept below
 any-pairs t r q left leaf = refl
 
-pub pairs-start : (t : Words) (r : ℕ) (ks ps : Words) (n left : ℕ) → n ≡ first_leaf (view_from t r) → left ≡ nodes t
-    → pairs_at (view t) (record { ways = record { count = 0; keys = ks; pointers = ps }; at = 0; next = n; left = left }) ≡ all_pairs (view_from t r)
-pairs-start t r ks ps n left e q =
+pub pairs-start : (t : Words) (r : ℕ) (ks ps : Words) (few : 0 ≤ 13) (n left : ℕ) → n ≡ first_leaf (view_from t r) → left ≡ nodes t
+    → pairs_at (view t) (record { ways = record { count = 0; keys = ks; pointers = ps; count_bound = few }; at = 0; next = n; left = left }) ≡ all_pairs (view_from t r)
+pairs-start t r ks ps few n left e q =
     let v = view_from t r in
-    leaf-done (view t) (record { ways = record { count = 0; keys = ks; pointers = ps }; at = 0; next = n; left = left }) (omega arith)
+    leaf-done (view t) (record { ways = record { count = 0; keys = ks; pointers = ps; count_bound = few }; at = 0; next = n; left = left }) (omega arith)
     ∙ any-pairs t (at t 1) r left n ∙ ap (flat (kept v)) (whole-is v n left e q)
 
 -- ---- the pairs but for a key
@@ -135,8 +135,8 @@ compared-all v w k a a₀ b b₀ x p y q = rw (x, y) (rw (p, q) refl)
 
 -- what is left to compare comes to r
 pub record Comparing (v w : View) (k : ℕ) (r : Bool) (a b : Cursor) : Type 0 where
-  pub first : (a.ways.count ≤ 13) × (goes_on k a ≡ false)
-  pub second : (b.ways.count ≤ 13) × (goes_on k b ≡ false)
+  pub first : goes_on k a ≡ false
+  pub second : goes_on k b ≡ false
   pub comes-to : same_but k (pairs_at v a) (pairs_at w b) ≡ r
 
 module _ {v w : View} {k : ℕ} {r : Bool} {a b : Cursor} (q : Comparing v w k r a b) where
@@ -146,11 +146,11 @@ module _ {v w : View} {k : ℕ} {r : Bool} {a b : Cursor} (q : Comparing v w k r
   compared-end h = go (at_end b) refl
     where
       left : same_slots [] (leave k (pairs_at w b)) ≡ r
-      left = ap (λ (ss : List Slot). same_slots ss (leave k (pairs_at w b))) (sym (at-none v k a q.first.1 h)) ∙ q.comes-to
+      left = ap (λ (ss : List Slot). same_slots ss (leave k (pairs_at w b))) (sym (at-none v k a q.first h)) ∙ q.comes-to
 
       go : (e : Bool) → at_end b ≡ e → at_end b ≡ r
-      go true e = e ∙ sym (ap (same_slots []) (at-none w k b q.second.1 (no-pair b e))) ∙ left
-      go false e = e ∙ sym (ap (same_slots []) (at-pair w k b q.second.1 (a-pair b e))) ∙ left
+      go true e = e ∙ sym (ap (same_slots []) (at-none w k b q.second (no-pair b e))) ∙ left
+      go false e = e ∙ sym (ap (same_slots []) (at-pair w k b q.second (a-pair b e))) ∙ left
 
   module _ (h : a.at < a.ways.count) where
     abbrev rest : Bool
@@ -161,14 +161,14 @@ module _ {v w : View} {k : ℕ} {r : Bool} {a b : Cursor} (q : Comparing v w k r
     compared-step = go (at_end b) refl
       where
         left : same_slots (pair_at a ∷ leave k (pairs_at v (past a))) (leave k (pairs_at w b)) ≡ r
-        left = ap (λ (ss : List Slot). same_slots ss (leave k (pairs_at w b))) (sym (at-pair v k a q.first.1 h)) ∙ q.comes-to
+        left = ap (λ (ss : List Slot). same_slots ss (leave k (pairs_at w b))) (sym (at-pair v k a q.first h)) ∙ q.comes-to
 
         go : (e : Bool) → at_end b ≡ e → same_pair a b && rest ≡ r
-        go true e = rw e (sym (ap (same_slots (pair_at a ∷ leave k (pairs_at v (past a)))) (at-none w k b q.second.1 (no-pair b e))) ∙ left)
+        go true e = rw e (sym (ap (same_slots (pair_at a ∷ leave k (pairs_at v (past a)))) (at-none w k b q.second (no-pair b e))) ∙ left)
         go false e =
             rw e
             (and_assoc (eqb (pair_at a).key (pair_at b).key) (eqb (pair_at a).pointer (pair_at b).pointer) rest
-            ∙ sym (ap (same_slots (pair_at a ∷ leave k (pairs_at v (past a)))) (at-pair w k b q.second.1 (a-pair b e))) ∙ left)
+            ∙ sym (ap (same_slots (pair_at a ∷ leave k (pairs_at v (past a)))) (at-pair w k b q.second (a-pair b e))) ∙ left)
 
     module _ (s : Bool) (e : s ≡ same_pair a b) where
       pub compared-differ : s ≡ false → false ≡ r

@@ -12,11 +12,12 @@ use lib.ListN.{length, take, drop, length-append, length-drop}
 use lib.Seq.{take-length, take-append-add, take-append-le, take_at, drop_at, drop-drop}
 use borrow.Author.Tests.{leb-true, leb-false}
 use Rattle.std.specs.Prelude as rust
-use Rattle.std.specs.Prelude.{Some, None}
+use Rattle.std.specs.Prelude.{Some, None, Ok}
 use Rattle.model.specs.declared.Refusal.{Refusal}
 use Rattle.model.specs.Numbers.{refusal_number, refusal_of, stop_number}
 use Rattle.model.proofs.Numbers.{Numbered, refusal-numbered}
-use Rattle.model.specs.Results.{done_with}
+use Rattle.model.specs.declared.Counts.{Counts}
+use Rattle.model.specs.Results.{orders_counted}
 use Rattle.model.specs.Table.{Words, at, line, nodes}
 use Rattle.model.specs.Slots.{Slot, recording, class, pointer_of}
 use Rattle.model.specs.Reached.{flat, Maps, maps_of}
@@ -47,6 +48,9 @@ use Rattle.batch_laws.proofs.Folds.{batch-none, batch-stops, batch-goes}
 use Rattle.crash_laws.proofs.Demand3.{answered-all, listed-all, demand3-from, along}
 
 -- ---- the orders of a batch
+
+abbrev counts_in : List Order → Counts
+counts_in os = record { stores = store_count os; flushes = flush_count os; barriers = barrier_count os }
 
 -- the stores of each pair that is taken
 batch_stores : (n dock : ℕ) → List Slot → (list t : Words) → List (List Store)
@@ -223,9 +227,9 @@ module _ (n dock : ℕ) (s : Slot) (ss : List Slot) (list t : Words) where
   -- it is taken
   module _ (ok : refusal (insertion_of n s) (length list) dock t ≡ 0) where
     abbrev filled : ℕ
-    filled = 2 * (store_count own + flush_count own + barrier_count own)
+    filled = 2 * orders_counted (counts_in own)
 
-    is-written : written x (length list) dock t ≡ done_with (store_count own) (flush_count own) (barrier_count own)
+    is-written : written x (length list) dock t ≡ Ok (counts_in own)
     unfolding written
     is-written = rw ok
 
@@ -240,10 +244,10 @@ module _ (n dock : ℕ) (s : Slot) (ss : List Slot) (list t : Words) where
     long : length (encode own) ≡ filled
     long = omega (arith, length-encode own, counts-length own)
 
-    goes : batch n dock (s ∷ ss) list t ≡ behind 1 (store_count own) (flush_count own) (barrier_count own) (encode own) (batch n dock ss list₁ t₁)
+    goes : batch n dock (s ∷ ss) list t ≡ behind 1 (counts_in own) (encode own) (batch n dock ss list₁ t₁)
     goes =
-        let next : Words → Words → Words → Batched = λ (front back u : Words). behind 1 (store_count own) (flush_count own) (barrier_count own) front (batch n dock ss back u) in
-        batch-goes n dock s ss list t _ _ _ is-written
+        let next : Words → Words → Words → Batched = λ (front back u : Words). behind 1 (counts_in own) front (batch n dock ss back u) in
+        batch-goes n dock s ss list t _ is-written
         ∙ ap (λ (l : Words). next (take filled l) (drop filled l) (table_after x (length list) dock t)) is-list
         ∙ ap (next (take filled (encode own ++ list₁)) (drop filled (encode own ++ list₁))) is-table
         ∙ ap (λ (l : Words). next l (drop filled (encode own ++ list₁)) t₁) (take_at (encode own) list₁ filled long)
@@ -359,9 +363,9 @@ enter-first s ss taken ps =
 -- os are its orders
 record Facts (n dock : ℕ) (ss : List Slot) (list t : Words) (r : Batched) (os : List Order) : Type 0 where
   list-is : r.list ≡ list_with os list
-  stores-are : r.answer.stores ≡ store_count os
-  flushes-are : r.answer.flushes ≡ flush_count os
-  barriers-are : r.answer.barriers ≡ barrier_count os
+  stores-are : r.answer.counts.stores ≡ store_count os
+  flushes-are : r.answer.counts.flushes ≡ flush_count os
+  barriers-are : r.answer.counts.barriers ≡ barrier_count os
   inside : all_inside (length t) os ≡ true
   gives : carry os t ≡ r.table
   fine : sound r.table ≡ true
@@ -386,7 +390,7 @@ facts-none n dock ss list t stop s e = record {
 -- one pair first
 facts-first : (n dock : ℕ) (s : Slot) (ss : List Slot) (list t : Words) (r : Batched) (os : List Order) → sound t ≡ true → refusal (insertion_of n s) (length list) dock t ≡ 0
     → (let own = orders_of (insertion_of n s) dock t in Facts n dock ss (drop (2 * length own) list) (apply (stores_of (insertion_of n s) t) t) r os
-    → Facts n dock (s ∷ ss) list t (behind 1 (store_count own) (flush_count own) (barrier_count own) (encode own) r) (own ++ os))
+    → Facts n dock (s ∷ ss) list t (behind 1 (counts_in own) (encode own) r) (own ++ os))
 facts-first n dock s ss list t r os fine ok v =
     let x = insertion_of n s in
     let own = orders_of x dock t in
@@ -404,7 +408,7 @@ facts-first n dock s ss list t r os fine ok v =
           ∙ on-map-join n (enter_all (take r.answer.taken ss)) (enter s.key (pointer_of (recording s) (class s))) (maps_of t)
           ∙ on-map-same n _ (enter_all (take (1 + r.answer.taken) (s ∷ ss))) (maps_of t) (enter-first s ss r.answer.taken);
       stops =
-          let words : length (drop (2 * length own) list) - 2 * batch_answered r ≡ length list - 2 * batch_answered (behind 1 (store_count own) (flush_count own) (barrier_count own) (encode own) r) =
+          let words : length (drop (2 * length own) list) - 2 * batch_answered r ≡ length list - 2 * batch_answered (behind 1 (counts_in own) (encode own) r) =
           omega (arith, length-drop (2 * length own) list, counts-length own) in
           let one : suc r.answer.taken ≡ 1 + r.answer.taken = omega arith in
           stops-same n dock _ _ (stop_number r.answer.stop) r.table (drop r.answer.taken ss) _ words (ap (λ (k : ℕ). drop k (s ∷ ss)) one) v.stops;

@@ -2,12 +2,13 @@
 use mathlib.Core.Path.{◌≡◌, refl, ap, sym, ◌∙◌}
 use mathlib.Core.List.{List, [], ◌∷◌, ◌++◌, append_assoc}
 use mathlib.Core.Option.{some}
-use Prim.Native.Nat.{ℕ, zero, suc, ◌+◌, ◌*◌}
+use Prim.Native.Nat.{ℕ, zero, suc, ◌*◌}
 use native.Mathlib.Omega.{arith}
 use lib.ListN.{length, drop}
 use Rattle.std.specs.Prelude.{Ok, Err}
 use Rattle.model.specs.declared.Refusal.{Refusal}
-use Rattle.model.specs.Results.{Written, refused_with, done_with}
+use Rattle.model.specs.declared.Counts.{Counts}
+use Rattle.model.specs.Results.{Written, refused_with, orders_counted}
 use Rattle.model.specs.Table.{Words}
 use Rattle.model.specs.Slots.{Slot}
 use Rattle.model.specs.Sound.{Sound}
@@ -40,21 +41,21 @@ module _ (n dock : ℕ) (s : Slot) (ss : List Slot) (list ws u : Words) where
   rest used = singles n dock ss (drop used (quick_list x list dock ws u)) (quick_summary x (length list) dock ws u) (quick_table x (length list) dock ws u)
 
   abbrev next : Written → Acts
-  next w = elim w [ Ok w ↦ rest (2 * (w.stores + w.flushes + w.barriers)) ++ (quick (pair_event n dock list s) ∷ []) | Err r ↦ [] ]
+  next w = elim w [ Ok w ↦ rest (2 * orders_counted w) ++ (quick (pair_event n dock list s) ∷ []) | Err r ↦ [] ]
 
   singles-stop : (r : Refusal) → quick_written (insertion_of n s) (length list) dock ws u ≡ Err r → singles n dock (s ∷ ss) list ws u ≡ []
   unfolding singles
   singles-stop r e = ap (λ (w : Written). next w) e
 
-  singles-go : (a b c : ℕ) → quick_written (insertion_of n s) (length list) dock ws u ≡ done_with a b c → singles n dock (s ∷ ss) list ws u ≡ rest (2 * (a + b + c)) ++ (quick (pair_event n dock list s) ∷ [])
+  singles-go : (w : Counts) → quick_written (insertion_of n s) (length list) dock ws u ≡ Ok w → singles n dock (s ∷ ss) list ws u ≡ rest (2 * orders_counted w) ++ (quick (pair_event n dock list s) ∷ [])
   unfolding singles
-  singles-go a b c e = ap (λ (w : Written). next w) e
+  singles-go w e = ap (λ (w : Written). next w) e
 
-  accepted : (a b c : ℕ) → quick_written (insertion_of n s) (length list) dock ws u ≡ done_with a b c → quick_number (insertion_of n s) (length list) dock ws u ≡ 0
+  accepted : (w : Counts) → quick_written (insertion_of n s) (length list) dock ws u ≡ Ok w → quick_number (insertion_of n s) (length list) dock ws u ≡ 0
   unfolding quick_written
-  accepted a b c e = go (quick_number x (length list) dock ws u) _ e
+  accepted w e = go (quick_number x (length list) dock ws u) _ e
     where
-      go : (m : ℕ) (done : Written) → unless_refused m done (refused_with m) ≡ done_with a b c → m ≡ 0
+      go : (m : ℕ) (done : Written) → unless_refused m done (refused_with m) ≡ Ok w → m ≡ 0
       go zero done e = refl
       go (suc m) done e = let z : ◌≡◌ {A = ℕ} 0 1 = cc in absurd (omega arith)
 
@@ -101,14 +102,12 @@ module _ (t : Words) (q : Sound t) where
           → Come n dock (s ∷ ss) list ws u h
       go (Err k) e ih = record { may = rw (singles-stop n dock s ss list ws u k e) m; come = rw (singles-stop n dock s ss list ws u k e, quick-stops n dock s ss list ws u k e) is }
       go (Ok w) e ih =
-          let a = w.stores in
-          let b = w.flushes in
-          let c = w.barriers in
-          let r = ih (drop (2 * (a + b + c)) (quick_list (insertion_of n s) list dock ws u)) (accepted n dock s ss list ws u a b c e) in
-          let acts = singles n dock ss (drop (2 * (a + b + c)) (quick_list (insertion_of n s) list dock ws u)) (quick_summary (insertion_of n s) (length list) dock ws u) (quick_table (insertion_of n s) (length list) dock ws u) in
+          let filled = 2 * orders_counted w in
+          let r = ih (drop filled (quick_list (insertion_of n s) list dock ws u)) (accepted n dock s ss list ws u w e) in
+          let acts = singles n dock ss (drop filled (quick_list (insertion_of n s) list dock ws u)) (quick_summary (insertion_of n s) (length list) dock ws u) (quick_table (insertion_of n s) (length list) dock ws u) in
           let shape : singles n dock (s ∷ ss) list ws u ++ h ≡ acts ++ (quick (pair_event n dock list s) ∷ h) =
-          ap (λ (x : Acts). x ++ h) (singles-go n dock s ss list ws u a b c e) ∙ append_assoc acts (quick (pair_event n dock list s) ∷ []) h in
-          record { may = rw shape r.may; come = ap (run_acts (both t)) shape ∙ r.come ∙ rw (quick-goes n dock s ss list ws u a b c e) }
+          ap (λ (x : Acts). x ++ h) (singles-go n dock s ss list ws u w e) ∙ append_assoc acts (quick (pair_event n dock list s) ∷ []) h in
+          record { may = rw shape r.may; come = ap (run_acts (both t)) shape ∙ r.come ∙ rw (quick-goes n dock s ss list ws u w e) }
 
   -- ---- the carry-out of the whole list gives the batch's table
 

@@ -1,7 +1,8 @@
 -- A batch with a summary, carried out whole, in a history: it is the quick insertions of the pairs that it took, so that the claim over histories
 -- with quick calls holds of it and of what follows with the summary that it leaves. (A cut ends the summary: of a cut batch Batches.antt speaks.)
-use Rattle.std.specs.Prelude.{◌≡◌, List, [], ◌∷◌, ◌++◌, ℕ, ◌+◌, ◌*◌, length, drop, Ok, Err}
+use Rattle.std.specs.Prelude.{◌≡◌, List, [], ◌∷◌, ◌++◌, ℕ, ◌*◌, length, drop, Ok, Err}
 use Rattle.std.proofs.Math.Option.{none, some}
+use Rattle.model.specs.Results.{orders_counted}
 use Rattle.model.specs.Table.{Words}
 use Rattle.model.specs.Slots.{Slot}
 use Rattle.model.specs.Sound.{Sound}
@@ -24,7 +25,7 @@ singles n dock (s ∷ ss) list ws t =
     let t' = quick_table x (length list) dock ws t in
     elim (quick_written x (length list) dock ws t) [
       | Ok w ↦
-          let filled = 2 * (w.stores + w.flushes + w.barriers) in
+          let filled = 2 * orders_counted w in
           singles n dock ss (drop filled (quick_list x list dock ws t)) ws' t' ++ (quick (pair_event n dock list s) ∷ [])
       | Err r ↦ []
     ]

@@ -2,35 +2,41 @@
 // on a line each.
 #![tactic(auto)]
 
-ghost use Rattle.std.specs.Prelude.{[], ◌∷◌, ◌++◌, ◌+◌, ◌≤◌, length};
+ghost use Rattle.std.specs.Prelude.{◌≡◌, [], ◌∷◌, ◌++◌};
 ghost use Rattle.model.specs.Printer.{decimal};
 ghost use Rattle.model.specs.Scripts.{met_text};
-ghost use Rattle.script_bytes.specs.Text.{Put, Begins};
+ghost use Rattle.script_bytes.specs.Text.{bytes_of, Room, Puts};
 
+use script_bytes::Text;
 use std::io;
 
-// A number in decimal and a line feed; the place after them. Buffer and place go apart, as in `script_bytes`.
-fn put_line(out: &mut [u8], at: usize, n: u64) -> usize
-    requires { at + 21 ≤ length out.old }
-    ensures { Put out.old at (decimal n ++ (10 ∷ [])) out.new result }
+// A number in decimal and a line feed.
+fn put_line(text: &mut Text<'_>, n: u64)
+    requires { Room 21 text.old }
+    ensures { Puts (decimal n ++ (10 ∷ [])) text.old text.new }
 {
-    let end = script_bytes::put_number(out, at, n);
-    script_bytes::put_byte(out, end, b'\n')
+    text.put_number(n);
+    text.put_byte(b'\n');
 }
 
-// What is printed, at the buffer's start; how many bytes that is.
-fn report(out: &mut [u8]) -> usize
-    requires { 42 ≤ length out.old }
-    ensures { Begins out.new result met_text }
+// What is printed, in a text with nothing put yet.
+fn report(text: &mut Text<'_>)
+    requires empty { text.old.at ≡ 0 }
+    requires room { Room 42 text.old }
+    ensures { bytes_of text.new ≡ met_text }
 {
     let met = short_scripts::run_all();
-    let next = put_line(out, 0, met.tables);
-    put_line(out, next, met.bad)
+    put_line(text, met.tables);
+    put_line(text, met.bad);
 }
 
 fn main(rt: HostRuntime) -> io::Result<()> {
     // Room for two lines: memory is fixed, there is no heap.
     let mut out = [0u8; 42];
-    let n = report(&mut out);
-    rt.write_all(&out[..n])
+    let mut text = Text {
+        out: &mut out,
+        at: 0,
+    };
+    report(&mut text);
+    rt.write_all(text.bytes())
 }

@@ -16,6 +16,7 @@ fn seek_down(pairs: &mut [u64], kept: usize, at: usize, key: u64) -> usize
     ensures under { Under (around pairs.old at kept) key result }
 {
     let gap = pairs.len() - 2 * kept;
+    // By place: a pair moves to another place of the same slice.
     for i in (0..at).rev() {
         let k = pairs[2 * i];
         if k <= key {

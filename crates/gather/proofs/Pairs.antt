@@ -14,9 +14,9 @@ use Rattle.model.specs.Refusals.{has_key, has_recording}
 use Rattle.model.specs.Ledger.{enter}
 use Rattle.model.specs.Salvage.{out_of_range, reason_for}
 use Rattle.list_laws.proofs.Tools.{same-or-not}
-use Rattle.numbers.specs.declared.Entry.{Entry}
-use Rattle.numbers.specs.declared.Entry.TheVariants.{Entered, Known, Full}
-use Rattle.numbers.specs.Cells.{mixed, Outcome, outcome, entered}
+use Rattle.std.specs.Prelude.{Ok, Err}
+use Rattle.numbers.specs.declared.Stop.TheVariants.{Known, Full}
+use Rattle.numbers.specs.Cells.{Entry, mixed, Outcome, outcome, entered}
 use Rattle.numbers.specs.Filed.{Filed}
 use Rattle.numbers.proofs.Filed.{Told, told, known-number, new-number, filed-more, filed-full}
 use Rattle.pack.proofs.Leaves.{take-drop}
@@ -157,20 +157,20 @@ module _ (words : Words) (b : ℕ) (t : Tally) (r : ℕ) (s : Standing words b t
     told-as : (i : Entry) → e ≡ i → Told n (drop (2 * b) words) r (mixed r % n) n i cs
     told-as i z = subst (λ (x : Entry). Told n (drop (2 * b) words) r (mixed r % n) n x cs) z tells
 
-    pub new-entered : e ≡ Entered → (true ≡ not (mem r)) × Filing words b t r true (back cs)
+    pub new-entered : e ≡ Ok tt → (true ≡ not (mem r)) × Filing words b t r true (back cs)
     new-entered z =
-        let y = told-as Entered z in
+        let y = told-as (Ok tt) z in
         let f = new-number n n (drop (2 * b) words) mem s.recorded r cs y in
         (sym (ap not f), filing cs true (filed-more n n (drop (2 * b) words) mem s.recorded r cs y))
 
-    pub new-known : e ≡ Known → (false ≡ not (mem r)) × Filing words b t r false (back cs)
+    pub new-known : e ≡ Err Known → (false ≡ not (mem r)) × Filing words b t r false (back cs)
     new-known z =
-        let y = told-as Known z in
+        let y = told-as (Err Known) z in
         (sym (ap not (known-number n n (drop (2 * b) words) mem s.recorded r cs y)), filing cs false (rw y.0 s.recorded))
 
-    pub full-standing : e ≡ Full → Standing (back cs) b t
+    pub full-standing : e ≡ Err Full → Standing (back cs) b t
     full-standing z =
-        let y = told-as Full z in
+        let y = told-as (Err Full) z in
         let f = back-front cs in
         let l = back-long cs (ap length y.0 ∙ length-drop (2 * b) words) in
         record {
@@ -182,15 +182,15 @@ module _ (words : Words) (b : ℕ) (t : Tally) (r : ℕ) (s : Standing words b t
           recorded = rw (l, back-cells cs, f, y.0) s.recorded;
         }
 
-    pub new-full : e ≡ Full → (x : Bool) → x ≡ has_recording r (pairs_of (back cs) b t) → (not x ≡ not (mem r)) × Filing words b t r (not x) (back cs)
+    pub new-full : e ≡ Err Full → (x : Bool) → x ≡ has_recording r (pairs_of (back cs) b t) → (not x ≡ not (mem r)) × Filing words b t r (not x) (back cs)
     new-full z x h =
-        let y = told-as Full z in
+        let y = told-as (Err Full) z in
         let same : x ≡ mem r = h ∙ ap (λ (l : Words). has_recording r (around l t.at t.kept)) (back-front cs) in
         (ap not same, filing cs (not x) (held-either x))
       where
         held-either : (v : Bool) → Filed n n cs (λ (k : ℕ). (not v && eqb k r) || mem k)
-        held-either true = rw (told-as Full z).0 s.recorded
-        held-either false = filed-full n n (drop (2 * b) words) mem s.recorded r cs (told-as Full z)
+        held-either true = rw (told-as (Err Full) z).0 s.recorded
+        held-either false = filed-full n n (drop (2 * b) words) mem s.recorded r cs (told-as (Err Full) z)
 
 -- ---- the reasons
 

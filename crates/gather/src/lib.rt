@@ -5,14 +5,13 @@
 
 ghost use Rattle.std.specs.Prelude.{◌≡◌, not, [], ◌∷◌, ◌+◌, ◌-◌, ◌*◌, ◌≤◌, ◌<◌, eqb, length};
 ghost use Rattle.std.proofs.lemmas.List.Edits.{sets};
-ghost use Rattle.model.specs.Table.{nodes};
 ghost use Rattle.model.specs.Slots.{slot, recording_of};
 ghost use Rattle.model.specs.Refusals.{has_recording};
 ghost use Rattle.model.specs.Salvage.{reason_for, gather_slot, gather_slots, collected, gathered_along};
 ghost use Rattle.gap.specs.Around.{Under, Over};
 ghost use Rattle.gather.specs.Held.{placed, pairs_of, held, gathered_in, met, Standing, Filing, Room, Kept, none, Along, Ready};
 
-use numbers::Entry;
+use numbers::Stop;
 
 // How many pairs are kept, how many of them are below the gap, and how many slots were dropped.
 #[derive(Clone, Copy)]
@@ -46,11 +45,10 @@ fn is_new(words: &mut [u64], bound: usize, t: Tally, recording: u64) -> bool
 {
     let end = 2 * bound;
     let cells = words.len() - end;
-    let entry = numbers::enter(&mut words[end..], cells, recording);
-    match entry {
-        Entry::Entered => true,
-        Entry::Known => false,
-        Entry::Full => !is_kept(words, bound, t, recording),
+    match numbers::enter(&mut words[end..], cells, recording) {
+        Ok(()) => true,
+        Err(Stop::Known) => false,
+        Err(Stop::Full) => !is_kept(words, bound, t, recording),
     }
 }
 
@@ -125,7 +123,6 @@ fn gather_slot(words: &mut [u64], bound: usize, report: &mut [u64], t: Tally, s:
 // A slot, and before the pointer before it: a shown slot that is not past the sibling's fence is collected.
 fn gather_shown(
     table: &[u64],
-    top: u64,
     words: &mut [u64],
     bound: usize,
     report: &mut [u64],
@@ -134,7 +131,7 @@ fn gather_shown(
     before: u64,
     s: InUse,
 ) -> Tally
-    requires { (top ≡ nodes table.now) × Standing words.old bound t × Room report.old t 1
+    requires { Standing words.old bound t × Room report.old t 1
         × (length (gather_slots s.node (met table.now sibling before s.place s.key s.pointer) (held words.old bound report.old t)).kept
         ≤ bound) }
     ensures result_after { held words.new bound report.new result
@@ -144,7 +141,7 @@ fn gather_shown(
     if s.pointer == before {
         return t;
     }
-    if !tour::under_fence(table, top, sibling, s.key) {
+    if !tour::under_fence(table, sibling, s.key) {
         return t;
     }
     gather_slot(words, bound, report, t, s)
@@ -153,14 +150,13 @@ fn gather_shown(
 // The slots of node n, if it is a leaf.
 fn gather_node(
     table: &[u64],
-    top: u64,
     words: &mut [u64],
     bound: usize,
     report: &mut [u64],
     t: Tally,
     n: u64,
 ) -> Tally
-    requires { (top ≡ nodes table.now) × Standing words.old bound t × Room report.old t 12
+    requires { Standing words.old bound t × Room report.old t 12
         × (length (gather_slots n (collected table.now n) (held words.old bound report.old t)).kept ≤ bound) }
     ensures result_after { held words.new bound report.new result
         ≡ gather_slots n (collected table.now n) (held words.old bound report.old t) }
@@ -172,6 +168,7 @@ fn gather_node(
     }
     let mut p = t;
     let mut before = x.left;
+    // By place: a slot's place is in the report.
     for i in 0..12 {
         let pointer = x.slots[2 * i + 1];
         if pointer == 0 {
@@ -183,22 +180,21 @@ fn gather_node(
             key: x.slots[2 * i],
             pointer,
         };
-        p = gather_shown(table, top, words, bound, report, p, x.sibling, before, s);
+        p = gather_shown(table, words, bound, report, p, x.sibling, before, s);
         before = pointer;
     }
     p
 }
 
-// The slots of the leaves among these nodes, in order. top is word 2 of the table, read once by the caller that tested the header.
+// The slots of the leaves among these nodes, in order.
 fn gather_nodes(
     table: &[u64],
-    top: u64,
     order: &[u16],
     words: &mut [u64],
     bound: usize,
     report: &mut [u64],
 ) -> Tally
-    requires { (top ≡ nodes table.now) × Along order.now report.old × Standing words.old bound none
+    requires { Along order.now report.old × Standing words.old bound none
         × (length (gathered_along table.now order.now).kept ≤ bound) }
     ensures result_after { held words.new bound report.new result ≡ gathered_along table.now order.now }
     ensures standing { Standing words.new bound result
@@ -210,7 +206,7 @@ fn gather_nodes(
         dropped: 0,
     };
     for &n in order {
-        p = gather_node(table, top, words, bound, report, p, n as u64);
+        p = gather_node(table, words, bound, report, p, n as u64);
     }
     p
 }
@@ -218,19 +214,18 @@ fn gather_nodes(
 // What is gathered along these nodes, if at most so many pairs are kept: the pairs in the first words, the dropped slots in the report.
 pub fn gather(
     table: &[u64],
-    top: u64,
     order: &[u16],
     words: &mut [u64],
     bound: usize,
     report: &mut [u64],
 ) -> Tally
-    requires { (top ≡ nodes table.now) × Ready table.now order.now words.old bound report.old }
+    requires { Ready table.now order.now words.old bound report.old }
     ensures result_after { gathered_in words.new report.new result ≡ gathered_along table.now order.now }
     ensures kept_le_bound { (result.kept ≤ bound) × Kept report.old none report.new result (12 * length order.now) }
 {
     let end = 2 * bound;
     pack::clear(words, end);
-    let t = gather_nodes(table, top, order, words, bound, report);
+    let t = gather_nodes(table, order, words, bound, report);
     gap::close(&mut words[..end], t.kept, t.at);
     t
 }

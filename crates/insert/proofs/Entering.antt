@@ -26,6 +26,7 @@ use Rattle.write.proofs.Parts.{part-table, part-room, part-stored}
 use Rattle.write.proofs.Rooted.{root-stands}
 use Rattle.write.proofs.Ending.{Begun, begun-allows, mended-table}
 use Rattle.insert.specs.Tests.{run_of}
+use Rattle.insert.specs.Parts.{Enterable}
 
 -- the pair shifted in at its leaf; before it the splits of m nodes
 abbrev last : (o k y : ℕ) → Words → List Store
@@ -33,18 +34,6 @@ last o k y t = shift_in_at t (standing o t 0 k) k y
 
 abbrev later : (o k y m : ℕ) → Words → List Store
 later o k y m t = splits o m t k ++ last o k y (apply (splits o m t k) t)
-
--- what `enter` is handed: the pair goes into collection o
-pub record Enterable (o : ℕ) (w : Writer) (k r c : ℕ) (run : Run) : Type 0 where
-  pub collection : no_collection o w.table.now ≡ false
-  pub is-settled : settled w.table.now ≡ true
-  pub enters : Enters o k r c w.table.now
-  pub run-is : run ≡ run_of o w.table.now k
-  pub room : Room (insert_settled o w.table.now k (pointer_of r c)) (of w)
-
-pub enterable : {o : ℕ} (w : Writer) {k r c : ℕ} {run : Run} → no_collection o w.table.now ≡ false → settled w.table.now ≡ true → Enters o k r c w.table.now → run ≡ run_of o w.table.now k
-    → Room (insert_settled o w.table.now k (pointer_of r c)) (of w) → Enterable o w k r c run
-enterable w e s x f m = record { collection = e; is-settled = s; enters = x; run-is = f; room = m }
 
 module _ {o : ℕ} {w : Writer} {k r c : ℕ} {run : Run} (h : Enterable o w k r c run) where
   abbrev t : Words

@@ -7,9 +7,9 @@ use Prim.Native.Nat.{ℕ, ◌+◌, ◌≤◌, ◌<◌}
 use native.Mathlib.Omega.{arith}
 use lib.ListN.{length}
 use borrow.Author.Tests.{ltb-false}
-use Rattle.model.specs.Table.{MARK, Words, at, nodes, header_ok, root_word, no_collection, has_node}
+use Rattle.model.specs.Table.{MARK, Words, at, nodes, header_ok, root_word, has_node}
 use Rattle.model.specs.Slots.{height, view_of}
-use Rattle.model.specs.SoundTest.{sound, settled}
+use Rattle.model.specs.SoundTest.{sound}
 use Rattle.model.specs.Writes.{unreachable, fresh, run, root_in_run, root_stores, new_root_at}
 use Rattle.model.specs.Refusals.{too_few}
 use Rattle.two_laws.proofs.AcceptedTwo.{there}
@@ -17,16 +17,7 @@ use Rattle.two_laws.proofs.SameTwo.{settled-sound}
 use Rattle.two_laws.proofs.CollectionTwo.{settled-head, root-range, collection-orderly}
 use Rattle.two_laws.proofs.PartsTwo.{root-reached, fresh-there}
 use Rattle.shift.proofs.Splitting.{new-root-fresh}
-
--- what `grow` is handed: a settled table with collection n, enough nodes for the run, and whether the run includes the root
-pub record Growable (n : ℕ) (t : Words) (k : ℕ) (whole : Bool) : Type 0 where
-  pub collection : no_collection n t ≡ false
-  pub is-settled : settled t ≡ true
-  pub enough : too_few n t k ≡ false
-  pub whole-is : whole ≡ root_in_run n t k
-
-pub growable : {n : ℕ} {t : Words} {k : ℕ} {whole : Bool} → no_collection n t ≡ false → settled t ≡ true → too_few n t k ≡ false → whole ≡ root_in_run n t k → Growable n t k whole
-growable e s f w = record { collection = e; is-settled = s; enough = f; whole-is = w }
+use Rattle.insert.specs.Parts.{Growable}
 
 module _ {n : ℕ} {t : Words} {k : ℕ} {whole : Bool} (h : Growable n t k whole) where
   pub number-low : (1 ≤ n) × (n ≤ 2)

@@ -8,11 +8,12 @@ use Prim.Native.Nat.{ℕ, ◌+◌, ◌≤◌}
 use lib.Dec.{eqb}
 use lib.ListN.{length}
 use borrow.Author.Tests.{ne_eqb}
+use Rattle.std.specs.Prelude.{unwrap_or, Option as Known}
 use Rattle.model.specs.Results.{Outcome, passed}
 use Rattle.model.specs.Table.{Words, at, root_word, no_collection}
 use Rattle.model.specs.Slots.{node_view, view_from, view_of, full}
 use Rattle.model.specs.Search.{path}
-use Rattle.model.specs.Reached.{kept, reached, reached_all}
+use Rattle.model.specs.Reached.{kept, reached}
 use Rattle.model.specs.SoundTest.{Leftover, nothing, hidden_in, missing_in, both_in, leftover_all, sound}
 use Rattle.model.specs.Writes.{repaired, insertion}
 use Rattle.model.specs.Refusals.{too_high, too_few, words_for, refusal}
@@ -29,12 +30,14 @@ use Rattle.reach.specs.declared.Run.{Run}
 use Rattle.reach.specs.Runs.{full_in, full_run}
 use Rattle.reach.proofs.Running.{run-of}
 use Rattle.sound.specs.declared.Leftover as said
+use Rattle.sound.specs.declared.Sound.{Sound}
 use Rattle.sound.specs.Checked.{meant}
 use Rattle.write.proofs.Judging.{Passed, ready-number}
 use Rattle.insert.specs.Tests.{parent_of, run_of, number_for}
+use Rattle.insert.specs.Entered.{Found}
 
 -- the one slot more is that of the parent that lacks one
-lacking-is : (y : Leftover) (n : ℕ) → n ≢ 0 → cond (eqb n (parent_of y)) 1 0 ≡ lacking_in (some y) n
+lacking-is : (y : Leftover) (n : ℕ) → n ≢ 0 → cond (eqb n (unwrap_or (parent_of y) 0)) 1 0 ≡ lacking_in (some y) n
 lacking-is nothing n z = rw (ne_eqb n 0 z)
 lacking-is (hidden_in x) n z = rw (ne_eqb n 0 z)
 lacking-is (missing_in p a trailing) n z = refl
@@ -42,29 +45,29 @@ lacking-is (both_in p a) n z = refl
 
 -- the leftover of the whole table tells, whichever tree has it
 pub run-judged : (n : ℕ) (t : Words) (y : Leftover) (k : ℕ) → sound t ≡ true → no_collection n t ≡ false → leftover_all t ≡ some y
-    → full_run (view_of n t) k (parent_of y) ≡ run_of n (repaired t) k
+    → full_run (view_of n t) k (unwrap_or (parent_of y) 0) ≡ run_of n (repaired t) k
 run-judged n t y k s h e =
     let v = view_of n t in
     let i = (there n t h).1 in
     let o = collection-orderly n t s h in
-    let judged : (m : ℕ) → Memᴰ m (reached v) → full_in v (parent_of y) m ≡ full (node_view (repaired t) m).shown =
+    let judged : (m : ℕ) → Memᴰ m (reached v) → full_in v (unwrap_or (parent_of y) 0) m ≡ full (node_view (repaired t) m).shown =
     λ m j. unfold full_in in
     ap (λ (x : ℕ). eqb (length (kept v m) + x) 11)
     (lacking-is y m (not-zero v m ((shape-view v o).range j)) ∙ ap (λ (z : Option Leftover). lacking_in z m) (sym e) ∙ sym (lacking-all n t m s i j))
     ∙ sym (full-later n t s i k m j) in
-    run-of v n (repaired t) k (parent_of y) ((repaired-later t (root_word n) s i).path k)
-    (Each-map (λ (m : ℕ). Memᴰ m (reached v)) (λ (m : ℕ). full_in v (parent_of y) m ≡ full (node_view (repaired t) m).shown) (path v k) judged (path-reached v k o))
+    run-of v n (repaired t) k (unwrap_or (parent_of y) 0) ((repaired-later t (root_word n) s i).path k)
+    (Each-map (λ (m : ℕ). Memᴰ m (reached v)) (λ (m : ℕ). full_in v (unwrap_or (parent_of y) 0) m ≡ full (node_view (repaired t) m).shown) (path v k) judged (path-reached v k o))
 
 -- a sound table, with what is known of it
-pub handed : (o k r c : ℕ) {words dock : ℕ} {t : Words} {x : said.Leftover} {n : ℕ} → sound t ≡ true → leftover_all t ≡ some (meant x) → n ≡ length (reached_all t)
-    → no_collection o t ≡ false → dock ≤ 1 → words_for dock ≤ words → Passed (insertion o k r c) words dock t x n
-handed o k r c s l m h d w = record { found = record { is-sound = s; leftover-is = l; reached-are = m }; collection = h; dock-ok = d; long = w }
+pub handed : (o k r c : ℕ) {words dock : ℕ} {t : Words} {x : Sound} → Found t x → no_collection o t ≡ false → dock ≤ 1 → words_for dock ≤ words
+    → Passed (insertion o k r c) words dock t x.leftover x.reached
+handed o k r c f h d w = record { found = record { is-sound = f.is-sound; leftover-is = f.leftover-is; reached-are = f.reached-are }; collection = h; dock-ok = d; long = w }
 
 module _ {o k r c words dock : ℕ} {t : Words} {x : said.Leftover} {n : ℕ} (p : Passed (insertion o k r c) words dock t x n) where
-  pub run-later : {parent root : ℕ} {run : Run} → parent ≡ parent_of (meant x) → root ≡ at t (root_word o) → run ≡ full_run (view_from t root) k parent
+  pub run-later : {left : Known ℕ} {parent root : ℕ} {run : Run} → left ≡ parent_of (meant x) → parent ≡ unwrap_or left 0 → root ≡ at t (root_word o) → run ≡ full_run (view_from t root) k parent
       → run ≡ run_of o (repaired t) k
-  run-later {parent} b f e =
-      e ∙ ap (λ (z : ℕ). full_run (view_from t z) k parent) f ∙ ap (full_run (view_of o t) k) b ∙ run-judged o t (meant x) k p.found.is-sound p.collection p.found.leftover-is
+  run-later {left} {parent} b d f e =
+      e ∙ ap (λ (z : ℕ). full_run (view_from t z) k parent) f ∙ ap (full_run (view_of o t) k) (d ∙ ap (λ (z : Known ℕ). unwrap_or z 0) b) ∙ run-judged o t (meant x) k p.found.is-sound p.collection p.found.leftover-is
 
   number-is : number_for o t k r c (run_of o (repaired t) k) ≡ refusal (insertion o k r c) words dock t
   unfolding number_for too_high too_few

@@ -1,5 +1,5 @@
 -- The tests of an insertion from 6 on, by the run of full nodes.
-use Rattle.std.specs.Prelude.{Bool, cond, ◌&&◌, ℕ, ◌+◌, eqb, ltb, length}
+use Rattle.std.specs.Prelude.{Bool, cond, ◌&&◌, ℕ, ◌+◌, eqb, ltb, length, Option, Some, None}
 use Rattle.model.specs.Table.{Words}
 use Rattle.model.specs.Slots.{View, view_of, height}
 use Rattle.model.specs.Reached.{map_of}
@@ -8,12 +8,12 @@ use Rattle.model.specs.Writes.{unreachable, run, root_in_run, insertion}
 use Rattle.model.specs.Refusals.{first_number, map_tests}
 use Rattle.reach.specs.declared.Run.{Run}
 
--- the parent that repair will give a slot; 0 for none
-abbrev pub parent_of : Leftover → ℕ
-parent_of nothing = 0
-parent_of (hidden_in x) = 0
-parent_of (missing_in p a trailing) = p
-parent_of (both_in p a) = p
+-- the parent that repair will give a slot, if it gives one
+abbrev pub parent_of : Leftover → Option ℕ
+parent_of nothing = None
+parent_of (hidden_in x) = None
+parent_of (missing_in p a trailing) = Some p
+parent_of (both_in p a) = Some p
 
 -- the run for key k in collection n
 abbrev pub run_of : (n : ℕ) → Words → (k : ℕ) → Run

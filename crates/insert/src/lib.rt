@@ -2,20 +2,20 @@
 #![tactic(auto)]
 
 ghost use Rattle.std.specs.Prelude.{◌≡◌, true, false, cond, ◌+◌, ◌≤◌, length};
-ghost use Rattle.std.proofs.Math.Option.{some};
 ghost use Rattle.model.specs.Table.{no_collection};
 ghost use Rattle.model.specs.Slots.{pointer_of, view_from};
 ghost use Rattle.model.specs.Reached.{mapping, map_of, reached_all};
-ghost use Rattle.model.specs.SoundTest.{leftover_all, settled, sound_view, sound};
-ghost use Rattle.model.specs.Writes.{root_in_run, splits, root_stores, insert_settled, insertion};
+ghost use Rattle.model.specs.SoundTest.{sound_view, sound};
+ghost use Rattle.model.specs.Writes.{splits, root_stores, insert_settled, insertion};
 ghost use Rattle.model.specs.Results.{passed};
-ghost use Rattle.model.specs.Refusals.{too_few, has_recording, words_for, written, table_after, list_after};
-ghost use Rattle.two_laws.specs.Parts.{Enters, split_for, Splittable, Ready};
+ghost use Rattle.model.specs.Refusals.{has_recording, words_for, written, table_after, list_after};
+ghost use Rattle.two_laws.specs.Parts.{split_for, Splittable, Ready};
 ghost use Rattle.reach.specs.Marks.{Marked};
 ghost use Rattle.sound.specs.Checked.{meant};
 ghost use Rattle.orders.specs.Desk.{of, Room, Makes};
-ghost use Rattle.insert.specs.Tests.{parent_of, high_run, few_for, number_for, run_of};
-ghost use Rattle.insert.specs.Entered.{call_of, as_written, Reaches};
+ghost use Rattle.insert.specs.Tests.{parent_of, high_run, few_for, number_for};
+ghost use Rattle.insert.specs.Parts.{Growable, Enterable};
+ghost use Rattle.insert.specs.Entered.{Found, call_of, as_written, Reaches};
 
 use model::{Counts, Outcome, Refusal, Written};
 use orders::{Pen, Writer};
@@ -40,13 +40,13 @@ pub struct Insertion {
 
 // ---- the tests from 6 on
 
-// The parent that repair will give a slot; 0 for none.
-fn parent_of(left: Leftover) -> u64
+// The parent that repair will give a slot, if it gives one.
+fn parent_of(left: Leftover) -> Option<u64>
     ensures { result ≡ parent_of (meant left) }
 {
     match left {
-        Leftover::Nothing | Leftover::HiddenIn(_) => 0,
-        Leftover::MissingIn { parent, .. } | Leftover::BothIn { parent, .. } => parent,
+        Leftover::Nothing | Leftover::HiddenIn(_) => None,
+        Leftover::MissingIn { parent, .. } | Leftover::BothIn { parent, .. } => Some(parent),
     }
 }
 
@@ -70,13 +70,15 @@ fn too_few(free: u64, run: Run) -> bool
     ensures { result ≡ few_for free run }
 {
     if run.root {
-        return free <= run.length;
+        free <= run.length
+    } else {
+        free < run.length
     }
-    free < run.length
 }
 
-// The refusal of the first test from 6 on that holds, if one does. Whether the map has the recording is known; 10 counts the nodes that neither
-// root reaches. What the check found is said of this table, and each store makes another of it: so it is a clause here and below, and no type.
+// The refusal of the first test from 6 on that holds, if one does; 10 counts the nodes that neither root reaches. `known` is no switch: it is what
+// the caller found out, whether the map has the recording; a batch finds it out for many pairs at once.
+// What the check found is said of this table, and each store makes another of it: so it is a clause here and below, and no type.
 fn may_insert_known(table: &[u64], x: Insertion, run: Run, count: u64, known: bool) -> Outcome
     requires table_value { no_collection x.collection table.now ≡ false }
     requires table_value_2 { sound table.now ≡ true }
@@ -121,84 +123,59 @@ pub fn may_insert(table: &[u64], x: Insertion, run: Run, count: u64) -> Outcome
 
 // A new root of the collection's tree, if the run includes the root. The marks lie beside the writer, here and below: an insertion alone has them,
 // and a batch keeps them from pair to pair.
-fn grow(
-    writer: &mut Writer<'_>,
-    marks: &mut [u64; reach::MARKS],
-    collection: u64,
-    key: u64,
-    run: Run,
-)
-    requires table_value { no_collection collection writer.old.table.now ≡ false }
-    requires table_value_2 { settled writer.old.table.now ≡ true }
-    requires key_value { too_few collection writer.old.table.now key ≡ false }
-    requires run_value { run.root ≡ root_in_run collection writer.old.table.now key }
-    requires room { Room (root_stores collection writer.old.table.now key) (of writer.old) }
+fn grow(writer: &mut Writer<'_>, marks: &mut [u64; reach::MARKS], x: Insertion, run: Run)
+    requires growable { Growable x.collection writer.old.table.now x.key run.root }
+    requires room { Room (root_stores x.collection writer.old.table.now x.key) (of writer.old) }
     requires marked { Marked writer.old.table.now marks.old }
-    ensures stores { Makes (root_stores collection writer.old.table.now key) writer.old writer.new }
+    ensures stores { Makes (root_stores x.collection writer.old.table.now x.key) writer.old writer.new }
     ensures marked_2 { Marked writer.old.table.now marks.new }
 {
     if run.root {
         let table = writer.table();
-        let root = node::root_of(table, collection);
+        let root = node::root_of(table, x.collection);
         let fresh = reach::fresh(table, marks, root);
-        shift::new_root(writer, 2 * collection as usize - 1, fresh);
+        shift::new_root(writer, 2 * x.collection as usize - 1, fresh);
     }
 }
 
 // Splits the node on level l of the collection's tree that the search for the key stands on.
-fn split_at(
-    writer: &mut Writer<'_>,
-    marks: &mut [u64; reach::MARKS],
-    collection: u64,
-    key: u64,
-    l: u64,
-)
-    requires splittable { Splittable collection writer.old.table.now key l }
-    requires room { Room (split_for collection writer.old.table.now l key) (of writer.old) }
+fn split_at(writer: &mut Writer<'_>, marks: &mut [u64; reach::MARKS], x: Insertion, l: u64)
+    requires splittable { Splittable x.collection writer.old.table.now x.key l }
+    requires room { Room (split_for x.collection writer.old.table.now l x.key) (of writer.old) }
     requires marked { Marked writer.old.table.now marks.old }
-    ensures stores { Makes (split_for collection writer.old.table.now l key) writer.old writer.new }
+    ensures stores { Makes (split_for x.collection writer.old.table.now l x.key) writer.old writer.new }
     ensures marked_2 { Marked writer.old.table.now marks.new }
 {
     let table = writer.table();
-    let root = node::root_of(table, collection);
-    let a = reach::standing(table, root, l, key);
+    let root = node::root_of(table, x.collection);
+    let a = reach::standing(table, root, l, x.key);
     let b = reach::fresh(table, marks, a);
-    let parent = reach::standing(table, root, l + 1, key);
+    let parent = reach::standing(table, root, l + 1, x.key);
     shift::split(writer, a, b, parent);
 }
 
 // Splits the run's nodes, from the highest down.
-fn split_run(
-    writer: &mut Writer<'_>,
-    marks: &mut [u64; reach::MARKS],
-    collection: u64,
-    key: u64,
-    count: u64,
-)
-    requires ready { Ready count collection writer.old.table.now key }
-    requires room { Room (splits collection count writer.old.table.now key) (of writer.old) }
+fn split_run(writer: &mut Writer<'_>, marks: &mut [u64; reach::MARKS], x: Insertion, count: u64)
+    requires ready { Ready count x.collection writer.old.table.now x.key }
+    requires room { Room (splits x.collection count writer.old.table.now x.key) (of writer.old) }
     requires marked { Marked writer.old.table.now marks.old }
-    ensures stores { Makes (splits collection count writer.old.table.now key) writer.old writer.new }
+    ensures stores { Makes (splits x.collection count writer.old.table.now x.key) writer.old writer.new }
     ensures marked_2 { Marked writer.new.table.now marks.new }
 {
     for l in (0..count).rev() {
-        split_at(writer, marks, collection, key, l);
+        split_at(writer, marks, x, l);
     }
 }
 
 // Inserts the pair into a collection of a settled table that has room for it.
 fn enter(writer: &mut Writer<'_>, marks: &mut [u64; reach::MARKS], x: Insertion, run: Run)
-    requires table_value { no_collection x.collection writer.old.table.now ≡ false }
-    requires table_value_2 { settled writer.old.table.now ≡ true }
-    requires enters { Enters x.collection x.key x.recording x.access writer.old.table.now }
-    requires run_value { run ≡ run_of x.collection writer.old.table.now x.key }
-    requires room { Room (insert_settled x.collection writer.old.table.now x.key (pointer_of x.recording x.access)) (of writer.old) }
+    requires enterable { Enterable x.collection writer.old x.key x.recording x.access run }
     requires marked { Marked writer.old.table.now marks.old }
     ensures stores { Makes (insert_settled x.collection writer.old.table.now x.key (pointer_of x.recording x.access)) writer.old writer.new }
     ensures marked_2 { Marked writer.new.table.now marks.new }
 {
-    grow(writer, marks, x.collection, x.key, run);
-    split_run(writer, marks, x.collection, x.key, run.length);
+    grow(writer, marks, x, run);
+    split_run(writer, marks, x, run.length);
     let table = writer.table();
     let root = node::root_of(table, x.collection);
     let leaf = reach::standing(table, root, 0, x.key);
@@ -210,17 +187,14 @@ fn reached_after(reached: u64, run: Run) -> u64
     requires { reached + (run.length + cond run.root 1 0) ≤ 65535 }
     ensures { result ≡ reached + (run.length + cond run.root 1 0) }
 {
-    if run.root {
-        return reached + run.length + 1;
-    }
-    reached + run.length
+    reached + run.length + u64::from(run.root)
 }
 
 // ---- the call
 
-// The insertion into a sound table whose leftover and reached nodes are known, with a list that is long enough for the dock, if it is known
-// whether the map has the recording. Marks of reached nodes stay so: an insertion frees none. The dock is the call's number, by which the
-// definitions say what the call writes.
+// The insertion into a table that was found sound, with a list that is long enough for the dock, if it is known whether the map has the
+// recording. Marks of reached nodes stay so: an insertion frees none. The dock is the call's number, 0 or 1, by which the definitions say what the
+// call writes; the pen makes an enum of it.
 pub fn insert_known(
     table: &mut [u64],
     list: &mut [u64],
@@ -230,10 +204,8 @@ pub fn insert_known(
     checked: Sound,
     known: bool,
 ) -> Result<Entered, Refusal>
-    requires table_value { sound table.old ≡ true }
-    requires table_value_2 { leftover_all table.old ≡ some (meant checked.leftover) }
-    requires reached_value { checked.reached ≡ length (reached_all table.old) }
-    requires table_value_3 { no_collection x.collection table.old ≡ false }
+    requires found { Found table.old checked }
+    requires table_value { no_collection x.collection table.old ≡ false }
     requires dock_bound { dock ≤ 1 }
     requires dock_in_bounds { words_for dock ≤ length list.old }
     requires known_value { known ≡ has_recording x.recording (map_of x.collection table.old) }
@@ -245,7 +217,9 @@ pub fn insert_known(
     ensures marked_2 { Marked table.new marks.new }
 {
     let root = node::root_of(table, x.collection);
-    let run = reach::full_run(table, root, x.key, parent_of(checked.leftover));
+    // The run takes a node's number: 0, which no node has, is for none.
+    let parent = parent_of(checked.leftover).unwrap_or(0);
+    let run = reach::full_run(table, root, x.key, parent);
     may_insert_known(table, x, run, checked.reached, known)?;
     let mut writer = Writer {
         table,
@@ -276,6 +250,7 @@ pub fn insert(
 {
     let checked = write::judge(table, collection, list.len(), dock)?;
     let known = has_recording(table, node::root_of(table, collection), recording);
+    // A bit for each node that a table may have: memory is fixed, there is no heap.
     let mut marks = [0u64; reach::MARKS];
     let x = Insertion {
         collection,

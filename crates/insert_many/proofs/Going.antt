@@ -1,18 +1,18 @@
 -- A batch under way: one pair more, all pairs.
 use mathlib.Core.Path.{◌≡◌, refl, ap, sym, ◌∙◌}
-use mathlib.Core.Bool.{Bool, true, false, false≢true}
+use mathlib.Core.Bool.{Bool, true, false}
 use mathlib.Core.List.{List, [], ◌∷◌, ◌++◌, append-nil}
 use Prim.Native.Nat.{ℕ, zero, suc, ◌+◌, ◌*◌, ◌-◌, ◌/◌, ◌≤◌, ◌<◌}
 use native.Mathlib.Omega.{arith}
 use lib.ListN.{length, take, drop, get_or, length-append, length-drop}
 use lib.Seq.{take_all, take-append-add, drop-append-add, length-take-le, drop-length}
 use borrow.Rule.Slice.PartMut.{mid_of, put_mid, put_same}
-use Rattle.std.specs.Prelude.{Option, Some, None, is_some, Result, Ok, Err}
+use Rattle.std.specs.Prelude.{Some, None, Result, Ok, Err}
 use Rattle.model.specs.declared.Refusal.{Refusal}
 use Rattle.model.specs.declared.Refusal.TheVariants.{ShortList}
 use Rattle.model.specs.declared.Counts.{Counts}
 use Rattle.model.specs.declared.Batch.{Batch}
-use Rattle.model.specs.Results.{Written, done_with, refused_with}
+use Rattle.model.specs.Results.{Written, done_with, refused_with, no_counts, counts_sum, orders_counted}
 use Rattle.model.specs.Table.{Words, at, root_word, no_collection}
 use Rattle.model.specs.Slots.{Slot, slot, slots_of, recording_of, class_of, view_from}
 use Rattle.model.specs.Reached.{mapping, map_of}
@@ -26,15 +26,16 @@ use Rattle.cut_laws.proofs.Applying.{counts-length}
 use Rattle.cut_laws.proofs.Lent.{length-encode}
 use Rattle.two_laws.proofs.DocksTwo.{list-fits}
 use Rattle.batch_laws.proofs.After.{five, after-sound, after-nothing, after-collection, after-recordings}
-use Rattle.batch_laws.proofs.Folds.{pair-at, pairs-past, behind-behind, behind-none, batch-stops, batch-goes, batch-none}
+use Rattle.batch_laws.proofs.Folds.{pair-at, pairs-past, same-counts, same-batched, sum-none, behind-behind, behind-none, batch-stops, batch-goes, batch-none}
 use Rattle.write.specs.Judged.{judged}
 use Rattle.write.proofs.Ending.{refused-call, judge-refuses}
+use Rattle.sound.specs.declared.Sound.{Sound}
 use Rattle.sound.specs.declared.Leftover.TheVariants.{Nothing}
 use Rattle.clear.specs.New.{recordings_of, New}
 use Rattle.insert.specs.declared.Entered.{Entered}
 use Rattle.insert.specs.Entered.{as_written, Reaches}
 use Rattle.insert_many.specs.declared.Progress.{Progress}
-use Rattle.insert_many.specs.Going.{answer_of, outcome, onward, unless_stopped, ahead, Fit, Gains}
+use Rattle.insert_many.specs.Going.{answer_of, filled, ahead, goes_on, Fit, Gains}
 
 -- ---- what a single call's answer says
 
@@ -57,7 +58,7 @@ module _ (x : Call) (lent : Words) (dock : ℕ) (t : Words) where
   pub record IsDone (w : Counts) : Type 0 where
     pub accepted : refusal x (length lent) dock t ≡ 0
     pub new-table : table_after x (length lent) dock t ≡ apply (stores_of x t) t
-    pub fits : 2 * (w.stores + w.flushes + w.barriers) ≤ length lent
+    pub fits : 2 * orders_counted w ≤ length lent
     pub long : length (list_after x lent dock t) ≡ length lent
 
   pub is-done : (w : Counts) → written x (length lent) dock t ≡ Ok w → IsDone w
@@ -79,21 +80,6 @@ module _ (x : Call) (lent : Words) (dock : ℕ) (t : Words) where
 
 -- ---- one pair more
 
-unless-some : {A : Type 0} (s : Option Refusal) (a b : A) → is_some s ≡ true → unless_stopped s a b ≡ b
-unless-some None a b e = absurd (false≢true e)
-unless-some (Some r) a b e = refl
-
-pub stops-none : (s : Option Refusal) → is_some s ≡ false → s ≡ None
-stops-none None e = refl
-stops-none (Some r) e = absurd (false≢true (sym e))
-
-same-batched : {a a' : Batch} {t t' l l' : Words} → a ≡ a' → t ≡ t' → l ≡ l' → ◌≡◌ {A = Batched} (record { answer = a; table = t; list = l }) (record { answer = a'; table = t'; list = l' })
-same-batched e f g = rw (e, f, g)
-
-same-answer : {m : Option Refusal} {i i' a a' b b' c c' : ℕ} → i ≡ i' → a ≡ a' → b ≡ b' → c ≡ c'
-    → ◌≡◌ {A = Batch} (record { stop = m; taken = i; stores = a; flushes = b; barriers = c }) (record { stop = m; taken = i'; stores = a'; flushes = b'; barriers = c' })
-same-answer e f g h = rw (e, f, g, h)
-
 -- the rest of a list, lent
 pub rest-lent : (a : ℕ) (l : Words) → mid_of a (length l - a) l ≡ drop a l
 rest-lent a l = take_all (length l - a) (drop a l) (omega (arith, length-drop a l))
@@ -105,7 +91,14 @@ rest-back a l part =
     let f : drop (length l - a) (drop a l) ≡ [] = ap (λ (k : ℕ). drop k (drop a l)) e ∙ drop-length (drop a l) in
     ap (λ (z : Words). take a l ++ (part ++ z)) f ∙ ap (λ (z : Words). take a l ++ z) (append-nil part)
 
-module _ (n dock : ℕ) (pairs : Words) (p : Progress) (list t : Words) (fit : Fit n dock p list t) (none : p.stop ≡ None) (more : 2 * p.taken + 1 < length pairs) where
+-- the call with recording and class taken from the pointer
+as-pair : (n k x dock : ℕ) (t lent : Words) (r c : ℕ) → r ≡ recording_of x → c ≡ class_of x → (e : Result Entered Refusal) (t' list' : Words)
+    → (as_written e ≡ written (insertion n k r c) (length lent) dock t) × ((t' ≡ table_after (insertion n k r c) (length lent) dock t) × ((list' ≡ list_after (insertion n k r c) lent dock t) × Reaches e t'))
+    → (as_written e ≡ written (insertion n k (recording_of x) (class_of x)) (length lent) dock t)
+    × ((t' ≡ table_after (insertion n k (recording_of x) (class_of x)) (length lent) dock t) × ((list' ≡ list_after (insertion n k (recording_of x) (class_of x)) lent dock t) × Reaches e t'))
+as-pair n k x dock t lent r c f g e t' list' h = rw (f, g) at h
+
+module _ (n dock : ℕ) (pairs : Words) (p : Progress) (list t : Words) (fit : Fit n dock p list t) (more : 2 * p.taken + 1 < length pairs) where
   abbrev ss : List Slot
   ss = slots_of pairs
 
@@ -113,52 +106,51 @@ module _ (n dock : ℕ) (pairs : Words) (p : Progress) (list t : Words) (fit : F
   s = slot (get_or pairs (2 * p.taken) 0) (get_or pairs (2 * p.taken + 1) 0)
 
   abbrev lent : Words
-  lent = mid_of p.at (length list - p.at) list
+  lent = mid_of (filled p) (length list - filled p) list
 
-  here : ahead n dock (slots_of pairs) p list t ≡ behind p.taken p.counts.stores p.counts.flushes p.counts.barriers (take p.at list) (batch n dock (s ∷ drop (suc p.taken) ss) lent t)
+  here : ahead n dock (slots_of pairs) p list t ≡ behind p.taken p.counts (take (filled p) list) (batch n dock (s ∷ drop (suc p.taken) ss) lent t)
   unfolding ahead
   here =
-      ap (λ (m : Option Refusal). unless_stopped m (onward n dock ss p list t) (outcome p list t)) none
-      ∙ ap (λ (u : List Slot). behind p.taken p.counts.stores p.counts.flushes p.counts.barriers (take p.at list) (batch n dock u (drop p.at list) t)) (pair-at pairs p.taken more)
-      ∙ ap (λ (l : Words). behind p.taken p.counts.stores p.counts.flushes p.counts.barriers (take p.at list) (batch n dock (s ∷ drop (suc p.taken) ss) l t)) (sym (rest-lent p.at list))
+      ap (λ (u : List Slot). behind p.taken p.counts (take (filled p) list) (batch n dock u (drop (filled p) list) t)) (pair-at pairs p.taken more)
+      ∙ ap (λ (l : Words). behind p.taken p.counts (take (filled p) list) (batch n dock (s ∷ drop (suc p.taken) ss) l t)) (sym (rest-lent (filled p) list))
 
-  module _ (e : Result Entered Refusal) (t' part : Words) (g : as_written e ≡ written (insertion_of n (slot (get_or pairs (2 * p.taken) 0) (get_or pairs (2 * p.taken + 1) 0))) (length (mid_of p.at (length list - p.at) list)) dock t)
-      (h : t' ≡ table_after (insertion_of n (slot (get_or pairs (2 * p.taken) 0) (get_or pairs (2 * p.taken + 1) 0))) (length (mid_of p.at (length list - p.at) list)) dock t)
-      (k : part ≡ list_after (insertion_of n (slot (get_or pairs (2 * p.taken) 0) (get_or pairs (2 * p.taken + 1) 0))) (mid_of p.at (length list - p.at) list) dock t) (count : Reaches e t') where
+  module _ (e : Result Entered Refusal) (t' part : Words) {number access : ℕ} (er : number ≡ recording_of (get_or pairs (2 * p.taken + 1) 0)) (ec : access ≡ class_of (get_or pairs (2 * p.taken + 1) 0))
+      (answered : (as_written e ≡ written (insertion n (get_or pairs (2 * p.taken) 0) number access) (length (mid_of (filled p) (length list - filled p) list)) dock t)
+      × ((t' ≡ table_after (insertion n (get_or pairs (2 * p.taken) 0) number access) (length (mid_of (filled p) (length list - filled p) list)) dock t)
+      × ((part ≡ list_after (insertion n (get_or pairs (2 * p.taken) 0) number access) (mid_of (filled p) (length list - filled p) list) dock t) × Reaches e t'))) where
     abbrev x : Call
     x = insertion_of n s
 
+    here-written : (as_written e ≡ written x (length lent) dock t) × ((t' ≡ table_after x (length lent) dock t) × ((part ≡ list_after x lent dock t) × Reaches e t'))
+    here-written = as-pair n (get_or pairs (2 * p.taken) 0) (get_or pairs (2 * p.taken + 1) 0) dock t lent _ _ er ec e t' part answered
+
+    g : as_written e ≡ written x (length lent) dock t
+    g = here-written.0
+
+    h : t' ≡ table_after x (length lent) dock t
+    h = here-written.1.0
+
+    k : part ≡ list_after x lent dock t
+    k = here-written.1.1.0
+
     abbrev list' : Words
-    list' = put_mid p.at (length list - p.at) list part
+    list' = put_mid (filled p) (length list - filled p) list part
 
-    pub record Next (r : Progress) : Type 0 where
-      pub same : ahead n dock (slots_of pairs) r (put_mid p.at (length list - p.at) list part) t' ≡ ahead n dock (slots_of pairs) p list t
-      pub fits : Fit n dock r (put_mid p.at (length list - p.at) list part) t'
-      pub gains : Gains n (recording_of (get_or pairs (2 * p.taken + 1) 0)) p r t t'
+    pub record Next (r : Result Progress Refusal) : Type 0 where
+      pub same : goes_on n dock (slots_of pairs) p r (put_mid (filled p) (length list - filled p) list part) t' ≡ ahead n dock (slots_of pairs) p list t
+      pub gains : Gains n dock (recording_of (get_or pairs (2 * p.taken + 1) 0)) p r t (put_mid (filled p) (length list - filled p) list part) t'
 
-    pub next-refused : (r : Refusal) → e ≡ Err r
-        → Next (record { stop = Some r; taken = p.taken; at = p.at; counts = p.counts; checked = p.checked })
-    unfolding ahead
+    pub next-refused : (r : Refusal) → e ≡ Err r → Next (Err r)
     next-refused r q =
         let w : written x (length lent) dock t ≡ Err r = sym g ∙ ap as_written q in
         let u = is-refused x lent dock t r w in
-        let a : t' ≡ t = h ∙ u.same-table in
-        let b : list' ≡ list = ap (put_mid p.at (length list - p.at) list) (k ∙ u.same-list) ∙ put_same p.at (length list - p.at) list in
-        let f : take p.at list ++ lent ≡ list = sym (rest-back p.at list lent) ∙ put_same p.at (length list - p.at) list in
+        let b : list' ≡ list = ap (put_mid (filled p) (length list - filled p) list) (k ∙ u.same-list) ∙ put_same (filled p) (length list - filled p) list in
+        let f : take (filled p) list ++ lent ≡ list = sym (rest-back (filled p) list lent) ∙ put_same (filled p) (length list - filled p) list in
         record {
           same =
-              same-batched (same-answer (omega arith) (omega arith) (omega arith) (omega arith)) a (b ∙ sym f)
-              ∙ sym (here ∙ ap (behind p.taken p.counts.stores p.counts.flushes p.counts.barriers (take p.at list)) (batch-stops n dock s (drop (suc p.taken) ss) lent t r w));
-          fits = rw (a, b) (record {
-            is-sound = fit.is-sound;
-            leftover-is = fit.leftover-is;
-            reached-are = fit.reached-are;
-            collection = fit.collection;
-            dock-ok = fit.dock-ok;
-            filled = fit.filled;
-            inside = fit.inside;
-          });
-          gains = λ z. let i : ◌≡◌ {A = ℕ} 0 1 = cc in absurd (omega arith);
+              same-batched refl (omega arith) (sym (sum-none p.counts)) (h ∙ u.same-table) (b ∙ sym f)
+              ∙ sym (here ∙ ap (behind p.taken p.counts (take (filled p) list)) (batch-stops n dock s (drop (suc p.taken) ss) lent t r w));
+          gains = tt;
         }
 
     module _ (y : Entered) (q : e ≡ Ok y) where
@@ -171,81 +163,63 @@ module _ (n dock : ℕ) (pairs : Words) (p : Progress) (list t : Words) (fit : F
       done : IsDone x lent dock t o
       done = is-done x lent dock t o is-written
 
-      pub orders-fit : p.at + 2 * (y.counts.stores + y.counts.flushes + y.counts.barriers) ≤ length list
-      orders-fit = omega (arith, done.fits, fit.inside, ap length (rest-lent p.at list), length-drop p.at list)
+      pub orders-fit : filled p + 2 * orders_counted y.counts ≤ length list
+      orders-fit = omega (arith, done.fits, fit.inside, ap length (rest-lent (filled p) list), length-drop (filled p) list)
 
-      pub next-done : Next (record {
-        stop = None;
-        taken = p.taken + 1;
-        at = p.at + 2 * (y.counts.stores + y.counts.flushes + y.counts.barriers);
-        counts = record { stores = p.counts.stores + y.counts.stores; flushes = p.counts.flushes + y.counts.flushes; barriers = p.counts.barriers + y.counts.barriers };
-        checked = record { leftover = Nothing; reached = y.reached };
-      })
+      pub next-done : Next (Ok (record { taken = p.taken + 1; counts = counts_sum p.counts y.counts; checked = record { leftover = Nothing; reached = y.reached } }))
       unfolding ahead
       next-done =
-          let w = 2 * (o.stores + o.flushes + o.barriers) in
+          let w = 2 * orders_counted o in
           let later = list_after x lent dock t in
           let new : t' ≡ apply (stores_of x t) t = h ∙ done.new-table in
-          let front : length (take p.at list) ≡ p.at = length-take-le p.at list fit.inside in
-          let back : list' ≡ take p.at list ++ later = rest-back p.at list part ∙ ap (λ (l : Words). take p.at list ++ l) k in
-          let first : take (p.at + w) list' ≡ take p.at list ++ take w later =
-          ap (take (p.at + w)) back ∙ ap (λ (j : ℕ). take (j + w) (take p.at list ++ later)) (sym front) ∙ take-append-add (take p.at list) later w in
-          let rest : drop (p.at + w) list' ≡ drop w later =
-          ap (drop (p.at + w)) back ∙ ap (λ (j : ℕ). drop (j + w) (take p.at list ++ later)) (sym front) ∙ drop-append-add (take p.at list) later w in
+          let sum : filled (record { taken = p.taken + 1; counts = counts_sum p.counts y.counts; checked = record { leftover = Nothing; reached = y.reached } }) ≡ filled p + w = omega arith in
+          let front : length (take (filled p) list) ≡ filled p = length-take-le (filled p) list fit.inside in
+          let back : list' ≡ take (filled p) list ++ later = rest-back (filled p) list part ∙ ap (λ (l : Words). take (filled p) list ++ l) k in
+          let first : take (filled p + w) list' ≡ take (filled p) list ++ take w later =
+          ap (take (filled p + w)) back ∙ ap (λ (j : ℕ). take (j + w) (take (filled p) list ++ later)) (sym front) ∙ take-append-add (take (filled p) list) later w in
+          let rest : drop (filled p + w) list' ≡ drop w later =
+          ap (drop (filled p + w)) back ∙ ap (λ (j : ℕ). drop (j + w) (take (filled p) list ++ later)) (sym front) ∙ drop-append-add (take (filled p) list) later w in
           let one : p.taken + 1 ≡ suc p.taken = omega arith in
           let long : length list' ≡ length list =
-          omega (arith, ap length back, length-append (take p.at list) later, front, done.long, ap length (rest-lent p.at list), length-drop p.at list, fit.inside) in
+          omega (arith, ap length back, length-append (take (filled p) list) later, front, done.long, ap length (rest-lent (filled p) list), length-drop (filled p) list, fit.inside) in
           record {
             same =
-                rw (first, rest, h, one)
-                (rw one at (sym (behind-behind p.taken p.counts.stores p.counts.flushes p.counts.barriers 1 o.stores o.flushes o.barriers (take p.at list) (take w later)
+                rw (sum, first, rest, h, one)
+                (rw one at (sym (behind-behind p.taken 1 p.counts o (take (filled p) list) (take w later)
                 (batch n dock (drop (suc p.taken) ss) (drop w later) (table_after x (length lent) dock t)))))
-                ∙ sym (here ∙ ap (behind p.taken p.counts.stores p.counts.flushes p.counts.barriers (take p.at list)) (batch-goes n dock s (drop (suc p.taken) ss) lent t o.stores o.flushes o.barriers is-written));
-            fits = record {
-              is-sound = rw new (after-sound _ _ _ _ _ _ t done.accepted);
-              leftover-is = rw new (after-nothing _ _ _ _ _ _ t done.accepted);
-              reached-are = rw q at count;
-              collection = rw new (after-collection _ _ _ _ _ _ t done.accepted);
-              dock-ok = fit.dock-ok;
-              filled = omega (arith, fit.filled);
-              inside = omega (arith, orders-fit, long);
-            };
-            gains = λ z. (one, λ i. rw new (after-recordings _ _ _ _ _ _ t done.accepted i));
+                ∙ sym (here ∙ ap (behind p.taken p.counts (take (filled p) list)) (batch-goes n dock s (drop (suc p.taken) ss) lent t o is-written));
+            gains = (
+              record {
+                found = record { is-sound = rw new (after-sound _ _ _ _ _ _ t done.accepted); leftover-is = rw new (after-nothing _ _ _ _ _ _ t done.accepted); reached-are = rw q at here-written.1.1.1 };
+                collection = rw new (after-collection _ _ _ _ _ _ t done.accepted);
+                dock-ok = fit.dock-ok;
+                inside = omega (arith, orders-fit, long);
+              },
+              one,
+              λ i. rw new (after-recordings _ _ _ _ _ _ t done.accepted i),
+            );
           }
 
 -- ---- from the first pair to the last
 
-pub ahead-start : (n dock : ℕ) (ss : List Slot) (p : Progress) (list t : Words) → p.stop ≡ None → p.taken ≡ 0 → p.at ≡ 0
-    → p.counts ≡ record { stores = 0; flushes = 0; barriers = 0 } → ahead n dock ss p list t ≡ batch n dock ss list t
+pub ahead-start : (n dock : ℕ) (ss : List Slot) (w : Counts) (x : Sound) (list t : Words) → (w.stores ≡ 0) × ((w.flushes ≡ 0) × (w.barriers ≡ 0))
+    → ahead n dock ss (record { taken = 0; counts = w; checked = x }) list t ≡ batch n dock ss list t
 unfolding ahead
-ahead-start n dock ss p list t a b c d =
-    ap (λ (m : Option Refusal). unless_stopped m (onward n dock ss p list t) (outcome p list t)) a
-    ∙ ap (λ (i : ℕ). behind i p.counts.stores p.counts.flushes p.counts.barriers (take p.at list) (batch n dock (drop i ss) (drop p.at list) t)) b
-    ∙ ap (λ (i : ℕ). behind 0 p.counts.stores p.counts.flushes p.counts.barriers (take i list) (batch n dock ss (drop i list) t)) c
-    ∙ ap (λ (o : Counts). behind 0 o.stores o.flushes o.barriers [] (batch n dock ss list t)) d
-    ∙ behind-none (batch n dock ss list t)
-
--- stopped by a refusal
-pub ahead-stopped : (n dock : ℕ) (ss : List Slot) (p : Progress) (list t : Words) → is_some p.stop ≡ true → outcome p list t ≡ ahead n dock ss p list t
-unfolding ahead
-ahead-stopped n dock _ p list t z = sym (unless-some p.stop _ _ z)
+ahead-start n dock ss w x list t e =
+    let z : w ≡ no_counts = same-counts e.0 e.1.0 e.1.1 in
+    ap (λ (o : Counts). behind 0 o (take (2 * orders_counted o) list) (batch n dock ss (drop (2 * orders_counted o) list) t)) z ∙ behind-none (batch n dock ss list t)
 
 -- no pair is left
-pub ahead-all : (n dock : ℕ) (pairs : Words) (p : Progress) (list t : Words) → p.stop ≡ None → length pairs / 2 ≤ p.taken → p.at ≤ length list → outcome p list t ≡ ahead n dock (slots_of pairs) p list t
+pub ahead-all : (n dock : ℕ) (pairs : Words) (p : Progress) (list t : Words) → length pairs / 2 ≤ p.taken → filled p ≤ length list
+    → ◌≡◌ {A = Batched} (record { answer = answer_of p None; table = t; list = list }) (ahead n dock (slots_of pairs) p list t)
 unfolding ahead
-ahead-all n dock pairs p list t z h i =
+ahead-all n dock pairs p list t h i =
     sym (
-    ap (λ (m : Option Refusal). unless_stopped m (onward n dock (slots_of pairs) p list t) (outcome p list t)) z
-    ∙ ap (λ (u : List Slot). behind p.taken p.counts.stores p.counts.flushes p.counts.barriers (take p.at list) (batch n dock u (drop p.at list) t)) (pairs-past pairs p.taken h)
-    ∙ ap (behind p.taken p.counts.stores p.counts.flushes p.counts.barriers (take p.at list)) (batch-none n dock (drop p.at list) t)
-    ∙ same-batched (not-stopped z) refl (sym (rest-back p.at list (drop p.at list)) ∙ ap (put_mid p.at (length list - p.at) list) (sym (rest-lent p.at list)) ∙ put_same p.at (length list - p.at) list)
+    ap (λ (u : List Slot). behind p.taken p.counts (take (filled p) list) (batch n dock u (drop (filled p) list) t)) (pairs-past pairs p.taken h)
+    ∙ ap (behind p.taken p.counts (take (filled p) list)) (batch-none n dock (drop (filled p) list) t)
+    ∙ same-batched refl (omega arith) (sum-none p.counts) refl
+    (sym (rest-back (filled p) list (drop (filled p) list)) ∙ ap (put_mid (filled p) (length list - filled p) list) (sym (rest-lent (filled p) list)) ∙ put_same (filled p) (length list - filled p) list)
     )
-  where
-    not-stopped : p.stop ≡ None
-        → ◌≡◌ {A = Batch} (record { stop = None; taken = p.taken + 0; stores = p.counts.stores + 0; flushes = p.counts.flushes + 0; barriers = p.counts.barriers + 0 }) (answer_of p)
-    not-stopped z =
-        same-answer (omega arith) (omega arith) (omega arith) (omega arith)
-        ∙ ap (λ (m : Option Refusal). record { stop = m; taken = p.taken; stores = p.counts.stores; flushes = p.counts.flushes; barriers = p.counts.barriers }) (sym z)
 
 -- ---- a pair
 
@@ -254,19 +228,12 @@ pub known-pair : (n : ℕ) (t : Words) (root : ℕ) → root ≡ at t (root_word
 known-pair n t root e r x f b g = g ∙ ap (λ (q : ℕ). has_recording q (mapping (view_from t root))) f ∙ ap (λ (o : ℕ). has_recording (recording_of x) (mapping (view_from t o))) e
 
 -- the list is too short for one more
-pub short : (n k x dock : ℕ) (t lent : Words) → sound t ≡ true → no_collection n t ≡ false → dock ≤ 1 → (least : ℕ) → least ≡ words_for dock → length lent < least
-    → (◌≡◌ {A = Written} (Err ShortList) (written (insertion n k (recording_of x) (class_of x)) (length lent) dock t))
-    × ((t ≡ table_after (insertion n k (recording_of x) (class_of x)) (length lent) dock t) × ((lent ≡ list_after (insertion n k (recording_of x) (class_of x)) lent dock t) × Unit {0}))
-short n k x dock t lent s h d least e l =
-    let p = refused-call (insertion n k (recording_of x) (class_of x)) t lent dock 5 (λ z. omega arith) (five n k (recording_of x) (class_of x) (length lent) dock t s h d (omega (arith, e, l))) in
+pub short : (n k r c dock : ℕ) (t lent : Words) → sound t ≡ true → no_collection n t ≡ false → dock ≤ 1 → (least : ℕ) → least ≡ words_for dock → length lent < least
+    → (◌≡◌ {A = Written} (Err ShortList) (written (insertion n k r c) (length lent) dock t))
+    × ((t ≡ table_after (insertion n k r c) (length lent) dock t) × ((lent ≡ list_after (insertion n k r c) lent dock t) × Unit {0}))
+short n k r c dock t lent s h d least e l =
+    let p = refused-call (insertion n k r c) t lent dock 5 (λ z. omega arith) (five n k r c (length lent) dock t s h d (omega (arith, e, l))) in
     (sym (refused-by ShortList) ∙ p.0, (p.1.0, (p.1.1, tt)))
-
--- the call with recording and class taken from the pointer
-pub as-pair : (n k x dock : ℕ) (t lent : Words) (r c : ℕ) → r ≡ recording_of x → c ≡ class_of x → (e : Result Entered Refusal) (t' list' : Words)
-    → (as_written e ≡ written (insertion n k r c) (length lent) dock t) × ((t' ≡ table_after (insertion n k r c) (length lent) dock t) × ((list' ≡ list_after (insertion n k r c) lent dock t) × Reaches e t'))
-    → (as_written e ≡ written (insertion n k (recording_of x) (class_of x)) (length lent) dock t)
-    × ((t' ≡ table_after (insertion n k (recording_of x) (class_of x)) (length lent) dock t) × ((list' ≡ list_after (insertion n k (recording_of x) (class_of x)) lent dock t) × Reaches e t'))
-as-pair n k x dock t lent r c f g e t' list' h = rw (f, g) at h
 
 pub known-as : (n x : ℕ) (t : Words) (r : ℕ) → r ≡ recording_of x → (b : Bool) → b ≡ has_recording (recording_of x) (map_of n t) → b ≡ has_recording r (map_of n t)
 known-as n x t r f b h = h ∙ ap (λ (q : ℕ). has_recording q (map_of n t)) (sym f)
@@ -296,8 +263,8 @@ gives-refused n dock pairs list t h m j r e =
     let g = gives-as n dock pairs list t (stopped (Some m) list t) (sym (ap (λ (u : List Slot). batch n dock u list t) q ∙ batch-stops n dock s (drop 1 (slots_of pairs)) list t m (sym w))) in
     (e ∙ g.0, g.1)
 
-pub gives-all : (n dock : ℕ) (pairs list t : Words) (p : Progress) (list' t' : Words) → outcome p list' t' ≡ batch n dock (slots_of pairs) list t → Gives n dock pairs list t (answer_of p) t' list'
-gives-all n dock pairs list t p list' t' e = gives-as n dock pairs list t (outcome p list' t') e
+pub gives-all : (n dock : ℕ) (pairs list t : Words) (r : Batch) (list' t' : Words) → ◌≡◌ {A = Batched} (record { answer = r; table = t'; list = list' }) (batch n dock (slots_of pairs) list t) → Gives n dock pairs list t r t' list'
+gives-all n dock pairs list t r list' t' e = gives-as n dock pairs list t (record { answer = r; table = t'; list = list' }) e
 
 -- new recordings, by the root that was read
 pub new-here : (n : ℕ) (t : Words) (root : ℕ) → root ≡ at t (root_word n) → (rs : List ℕ) → New (mapping (view_from t root)) rs → New (map_of n t) rs

@@ -2,76 +2,60 @@
 // the words that it filled.
 #![tactic(auto)]
 
-ghost use Rattle.std.specs.Prelude.{◌≡◌, true, false, None, ◌+◌, ◌*◌, ◌/◌, ◌≤◌, ◌<◌, length, get_or};
-ghost use Rattle.std.proofs.Math.Option.{some};
+ghost use Rattle.std.specs.Prelude.{◌≡◌, true, false, ◌+◌, ◌*◌, ◌/◌, ◌≤◌, ◌<◌, length, get_or};
+ghost use Rattle.model.specs.Results.{no_counts};
 ghost use Rattle.model.specs.Table.{no_collection};
-ghost use Rattle.model.specs.Slots.{slot, slots_of, recording_of};
-ghost use Rattle.model.specs.Reached.{map_of, reached_all};
-ghost use Rattle.model.specs.SoundTest.{leftover_all, sound};
+ghost use Rattle.model.specs.Slots.{slots_of, recording_of};
+ghost use Rattle.model.specs.Reached.{map_of};
+ghost use Rattle.model.specs.SoundTest.{sound};
 ghost use Rattle.model.specs.Refusals.{has_recording, written, table_after, list_after};
-ghost use Rattle.model.specs.Batch.{insertion_of, batch};
+ghost use Rattle.model.specs.Batch.{batch};
 ghost use Rattle.reach.specs.Marks.{Marked};
-ghost use Rattle.sound.specs.Checked.{meant};
 ghost use Rattle.clear.specs.New.{recordings_of, New};
-ghost use Rattle.insert.specs.Entered.{as_written, Reaches};
-ghost use Rattle.insert_many.specs.Going.{outcome, ahead, Fit, Gains, new_end};
+ghost use Rattle.insert.specs.Entered.{Found, call_of, as_written, Reaches};
+ghost use Rattle.insert_many.specs.Going.{answer_of, ahead, goes_on, Fit, Gains, new_end};
 
 use insert::{Entered, Insertion};
 use model::{Batch, Counts, Refusal};
 use sound::{Leftover, Sound};
 
-// How far a batch has come: the refusal that stopped it, if one did; the pairs taken, the words of the list filled and its order counts; what
-// repair has to do, and how many nodes are reached.
+// How far a batch has come: the pairs taken and the counts of their orders; what repair has to do, and how many nodes are reached.
 #[derive(Clone, Copy)]
 pub struct Progress {
-    pub stop: Option<Refusal>,
     pub taken: usize,
-    pub at: usize,
     pub counts: Counts,
     pub checked: Sound,
 }
 
-// The single call for a pair, on a table that is known to be sound, if it is known whether the map has the recording. What is known of the table
-// is a clause, here and below, and slices and numbers are those that C lends and hands over.
+// The single call, on a table that was found sound, if it is known whether the map has the recording (`known` is what was found out,
+// here and below, and no switch). Slices and numbers are those that C lends and hands over, the dock's too.
 fn take_one(
     table: &mut [u64],
     list: &mut [u64],
     marks: &mut [u64; reach::MARKS],
     dock: u64,
-    collection: u64,
-    key: u64,
-    pointer: u64,
+    x: Insertion,
     checked: Sound,
     known: bool,
 ) -> Result<Entered, Refusal>
-    requires table_value { sound table.old ≡ true }
-    requires table_value_2 { leftover_all table.old ≡ some (meant checked.leftover) }
-    requires reached_value { checked.reached ≡ length (reached_all table.old) }
-    requires table_value_3 { no_collection collection table.old ≡ false }
+    requires found { Found table.old checked }
+    requires table_value { no_collection x.collection table.old ≡ false }
     requires dock_bound { dock ≤ 1 }
-    requires known_value { known ≡ has_recording (recording_of pointer) (map_of collection table.old) }
+    requires known_value { known ≡ has_recording x.recording (map_of x.collection table.old) }
     requires marked { Marked table.old marks.old }
-    ensures result_value { as_written result ≡ written (insertion_of collection (slot key pointer)) (length list.old) dock table.old }
-    ensures table_after { table.new ≡ table_after (insertion_of collection (slot key pointer)) (length list.old) dock table.old }
-    ensures list_after { list.new ≡ list_after (insertion_of collection (slot key pointer)) list.old dock table.old }
+    ensures result_value { as_written result ≡ written (call_of x) (length list.old) dock table.old }
+    ensures table_after { table.new ≡ table_after (call_of x) (length list.old) dock table.old }
+    ensures list_after { list.new ≡ list_after (call_of x) list.old dock table.old }
     ensures counts { Reaches result table.new }
     ensures marked_2 { Marked table.new marks.new }
 {
     if list.len() < write::words_for(dock) {
         return Err(Refusal::ShortList);
     }
-    let recording = pointer::recording(pointer);
-    let access = pointer::class(pointer);
-    let x = Insertion {
-        collection,
-        key,
-        recording,
-        access,
-    };
     insert::insert_known(table, list, marks, dock, x, checked, known)
 }
 
-// The next pair of a batch that is not stopped.
+// The next pair, or the refusal that stops the batch.
 fn take_next(
     table: &mut [u64],
     list: &mut [u64],
@@ -81,46 +65,40 @@ fn take_next(
     pairs: &[u64],
     p: Progress,
     known: bool,
-) -> Progress
+) -> Result<Progress, Refusal>
     requires fit { Fit collection dock p list.old table.old }
-    requires stop_value { p.stop ≡ None }
     requires taken_in_bounds { 2 * p.taken + 1 < length pairs.now }
     requires known_value { known ≡ has_recording (recording_of (get_or pairs.now (2 * p.taken + 1) 0)) (map_of collection table.old) }
     requires marked { Marked table.old marks.old }
-    ensures table_after { ahead collection dock (slots_of pairs.now) result list.new table.new
+    ensures table_after { goes_on collection dock (slots_of pairs.now) p result list.new table.new
         ≡ ahead collection dock (slots_of pairs.now) p list.old table.old }
-    ensures fit_2 { Fit collection dock result list.new table.new }
-    ensures gains { Gains collection (recording_of (get_or pairs.now (2 * p.taken + 1) 0)) p result table.old table.new }
+    ensures gains { Gains collection dock (recording_of (get_or pairs.now (2 * p.taken + 1) 0)) p result table.old list.new table.new }
     ensures marked_2 { Marked table.new marks.new }
 {
     let i = p.taken;
-    let at = p.at;
-    let key = pairs[2 * i];
+    let Counts {
+        stores,
+        flushes,
+        barriers,
+    } = p.counts;
+    let filled = 2 * (stores + flushes + barriers) as usize;
     let pointer = pairs[2 * i + 1];
-    let free = &mut list[at..];
-    let entered = take_one(
-        table, free, marks, dock, collection, key, pointer, p.checked, known,
-    );
-    match entered {
-        Err(refusal) => Progress {
-            stop: Some(refusal),
-            ..p
+    let x = Insertion {
+        collection,
+        key: pairs[2 * i],
+        recording: pointer::recording(pointer),
+        access: pointer::class(pointer),
+    };
+    let free = &mut list[filled..];
+    let entered = take_one(table, free, marks, dock, x, p.checked, known)?;
+    Ok(Progress {
+        taken: i + 1,
+        counts: p.counts + entered.counts,
+        checked: Sound {
+            leftover: Leftover::Nothing,
+            reached: entered.reached,
         },
-        Ok(Entered { counts, reached }) => Progress {
-            stop: None,
-            taken: i + 1,
-            at: at + 2 * (counts.stores + counts.flushes + counts.barriers) as usize,
-            counts: Counts {
-                stores: p.counts.stores + counts.stores,
-                flushes: p.counts.flushes + counts.flushes,
-                barriers: p.counts.barriers + counts.barriers,
-            },
-            checked: Sound {
-                leftover: Leftover::Nothing,
-                reached,
-            },
-        },
-    }
+    })
 }
 
 // Where pairs from pair i on that are known to have new recordings end: as known before, if pair i is one of them. Else a pass over the
@@ -160,6 +138,17 @@ fn is_known(table: &[u64], collection: u64, pairs: &[u64], i: usize, end: usize)
     end <= i && insert::has_recording(table, root, pointer::recording(pairs[2 * i + 1]))
 }
 
+// What a batch answers that ends here, stopped or not.
+fn answer_of(p: Progress, stop: Option<Refusal>) -> Batch
+    ensures { result ≡ answer_of p stop }
+{
+    Batch {
+        stop,
+        taken: p.taken as u64,
+        counts: p.counts,
+    }
+}
+
 // All pairs, from a table that the check found sound.
 fn take_all(
     table: &mut [u64],
@@ -168,50 +157,42 @@ fn take_all(
     collection: u64,
     pairs: &[u64],
     checked: Sound,
-) -> Progress
-    requires table_value { sound table.old ≡ true }
-    requires table_value_2 { leftover_all table.old ≡ some (meant checked.leftover) }
-    requires reached_value { checked.reached ≡ length (reached_all table.old) }
-    requires table_value_3 { no_collection collection table.old ≡ false }
+) -> Batch
+    requires found { Found table.old checked }
+    requires table_value { no_collection collection table.old ≡ false }
     requires dock_bound { dock ≤ 1 }
-    ensures { outcome result list.new table.new
+    ensures { record { answer = result; table = table.new; list = list.new }
         ≡ batch collection dock (slots_of pairs.now) list.old table.old }
 {
     let count = pairs.len() / 2;
     let mut p = Progress {
-        stop: None,
         taken: 0,
-        at: 0,
-        counts: Counts {
-            stores: 0,
-            flushes: 0,
-            barriers: 0,
-        },
+        counts: Counts::default(),
         checked,
     };
+    // A bit for each node that a table may have: memory is fixed, there is no heap.
     let mut marks = [0u64; reach::MARKS];
     let mut end = 0;
+    // By number, and no chunks of the slice: where the recordings known to be new end is a pair's number.
     for i in 0..count {
         end = new_end(table, collection, pairs, i, end);
         let known = is_known(table, collection, pairs, i, end);
-        p = take_next(table, list, &mut marks, dock, collection, pairs, p, known);
-        if p.stop.is_some() {
-            return p;
+        match take_next(table, list, &mut marks, dock, collection, pairs, p, known) {
+            Ok(next) => p = next,
+            Err(refusal) => return answer_of(p, Some(refusal)),
         }
     }
-    p
+    answer_of(p, None)
 }
 
 // A batch that is stopped before its first pair.
 fn stopped(stop: Option<Refusal>) -> Batch
-    ensures { result ≡ record { stop = stop; taken = 0; stores = 0; flushes = 0; barriers = 0 } }
+    ensures { result ≡ record { stop = stop; taken = 0; counts = no_counts } }
 {
     Batch {
         stop,
         taken: 0,
-        stores: 0,
-        flushes: 0,
-        barriers: 0,
+        counts: Counts::default(),
     }
 }
 
@@ -232,15 +213,6 @@ pub fn insert_many(
     }
     match write::judge(table, collection, list.len(), dock) {
         Err(refusal) => stopped(Some(refusal)),
-        Ok(checked) => {
-            let p = take_all(table, list, dock, collection, pairs, checked);
-            Batch {
-                stop: p.stop,
-                taken: p.taken as u64,
-                stores: p.counts.stores,
-                flushes: p.counts.flushes,
-                barriers: p.counts.barriers,
-            }
-        }
+        Ok(checked) => take_all(table, list, dock, collection, pairs, checked),
     }
 }

@@ -1,6 +1,6 @@
 -- Characters: what letters and digits count, alone and all along a text.
 use mathlib.Core.Path.{◌≡◌, refl, sym, ap, ap₂, ◌∙◌}
-use mathlib.Core.Bool.{Bool, true, false, ◌&&◌, ◌||◌, and-eq-true_iff, and-false, or-false, or-true}
+use mathlib.Core.Bool.{Bool, true, false, ◌&&◌, ◌||◌, and-eq-true_iff, and-false, or-true}
 use mathlib.Core.Logic.{◌⊎◌, inl, inr, ⊎_elim}
 use mathlib.Core.List.{List, [], ◌∷◌, ◌++◌, map}
 use Prim.Native.Nat.{ℕ, zero, suc, ◌+◌, ◌-◌, ◌*◌, ◌≤◌, ◌<◌}
@@ -10,7 +10,7 @@ use native.Mathlib.Omega.{arith}
 use lib.Dec.{leb, ltb, eqb}
 use lib.ListN.{length, get_or, drop}
 use lib.Seq.{drop-cons}
-use borrow.Author.Tests.{leb-true, lt-leb, lt-ltb, le-ltb, eq-eqb, ne_eqb}
+use borrow.Author.Tests.{leb-true, le-leb, lt-leb, lt-ltb, le-ltb, eq-eqb, ne_eqb}
 use Rattle.model.specs.Codes.{is_digit, is_letter, is_letter_or_digit, value, read_on, character, text_below}
 use Rattle.model.specs.Lists.{all}
 use Rattle.isrc.proofs.Digits.{Below}
@@ -58,9 +58,15 @@ letter-or-digit c e = ⊎_elim letter digit (either (is_letter c) (is_digit c) e
     digit : is_digit c ≡ true → ((65 ≤ c) × (c ≤ 90) × (value c ≡ c - 55)) ⊎ ((48 ≤ c) × (c ≤ 57) × (value c ≡ c - 48))
     digit q = let r = digit-range c q in inr (r.0, r.1, value-digit c q)
 
-pub letter-left : (c : ℕ) → is_letter_or_digit c ≡ true → is_digit c ≡ false → is_letter c ≡ true
-unfolding is_letter_or_digit
-letter-left c e f = sym (or-false (is_letter c)) ∙ (rw f at e)
+pub in-digits : (c : ℕ) → 48 ≤ c → c ≤ 57 → value c ≡ c - 48
+unfolding is_digit
+in-digits c l h =
+    let e : is_digit c ≡ true = rw (le-leb 48 c l, le-leb c 57 h) in
+    value-digit c e
+
+-- one that is no digit
+pub in-letters : (c : ℕ) → is_letter_or_digit c ≡ true → (48 ≤ c → c ≤ 57 → ⊥) → (65 ≤ c) × (value c ≡ c - 55)
+in-letters c e n = ⊎_elim (λ l. (l.0, l.2)) (λ d. absurd (n d.0 d.1)) (letter-or-digit c e)
 
 pub digit-is : (c : ℕ) → is_digit c ≡ true → is_letter_or_digit c ≡ true
 unfolding is_letter_or_digit

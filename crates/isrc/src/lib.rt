@@ -1,7 +1,7 @@
 // Reading and printing an ISRC code (document 01, "Codes").
 #![tactic(auto)]
 
-ghost use Rattle.std.specs.Prelude.{◌≡◌, true, ◌&&◌, map, ◌≤◌, leb, length};
+ghost use Rattle.std.specs.Prelude.{◌≡◌, true, map, ◌≤◌, length};
 ghost use Rattle.model.specs.Codes.{is_letter_or_digit, is_code, value, number, parse, character, digits, spelling, print};
 ghost use Rattle.model.specs.Lists.{all};
 ghost use Rattle.isrc.specs.Kinds.{test};
@@ -16,20 +16,13 @@ enum Kind {
     Digit,
 }
 
-// Whether a character lies from low to high.
-fn within(c: u8, low: u8, high: u8) -> bool
-    ensures { result ≡ (leb low c && leb c high) }
-{
-    (low..=high).contains(&c)
-}
-
 fn is_of(kind: Kind, c: u8) -> bool
     ensures { result ≡ test kind c }
 {
     match kind {
-        Kind::Letter => within(c, b'A', b'Z'),
-        Kind::Digit => within(c, b'0', b'9'),
-        Kind::LetterOrDigit => within(c, b'A', b'Z') || within(c, b'0', b'9'),
+        Kind::Letter => c.is_ascii_uppercase(),
+        Kind::Digit => c.is_ascii_digit(),
+        Kind::LetterOrDigit => c.is_ascii_uppercase() || c.is_ascii_digit(),
     }
 }
 
@@ -54,10 +47,10 @@ fn value_of(c: u8) -> u64
     requires { is_letter_or_digit c ≡ true }
     ensures { result ≡ value c }
 {
-    if within(c, b'0', b'9') {
-        return (c - 48) as u64;
+    match c {
+        b'0'..=b'9' => (c - b'0') as u64,
+        _ => (c - b'A') as u64 + 10,
     }
-    (c - 55) as u64
 }
 
 // Letters and digits read as one number; at most seven of them, so that it fits a word.
@@ -89,10 +82,10 @@ fn character_of(d: u64) -> u8
     requires { d ≤ 35 }
     ensures { result ≡ character d }
 {
-    if d < 10 {
-        return 48 + d as u8;
+    match d as u8 {
+        d @ 0..=9 => b'0' + d,
+        d => b'A' + (d - 10),
     }
-    55 + d as u8
 }
 
 // Fills the text with x's last digits, as characters.
@@ -101,9 +94,10 @@ pub fn write_digits(text: &mut [u8], base: u64, x: u64)
     ensures { text.new ≡ map character (digits base (length text.old) x) }
 {
     let mut left = x;
+    // Tried: `iter_mut().rev()`, of whose writes a proof knows nothing.
     for i in (0..text.len()).rev() {
         text[i] = character_of(left % base);
-        left = left / base;
+        left /= base;
     }
 }
 

@@ -5,7 +5,7 @@ use mathlib.Core.Logic.{◌≢◌}
 use Prim.Native.Nat.{ℕ, zero, suc, ◌≤◌, ◌<◌}
 use native.Mathlib.Omega.{arith}
 use lib.ListN.{length}
-use Rattle.std.specs.Prelude.{is_err}
+use Rattle.std.specs.Prelude.{is_err, Option as Known, Some, None}
 use Rattle.model.specs.Results.{Outcome, passed}
 use Rattle.model.specs.Table.{Words, at, root_word}
 use Rattle.model.specs.Slots.{RECORDINGS, pointer_of, view_from}
@@ -28,7 +28,8 @@ use Rattle.write.proofs.Rooted.{root-key}
 use Rattle.insert.specs.Tests.{number_for}
 use Rattle.insert.proofs.Judging.{run-later, insert-number}
 use Rattle.compare.specs.Pointers.{with_pointer}
-use Rattle.compare.proofs.Maps.{with-enters, with-leaves}
+use Rattle.compare.proofs.Maps.{with-enters}
+use Rattle.judge.specs.declared.Start.{Start}
 use Rattle.judge.specs.Wanted.{wanted, Suits}
 use Rattle.judge.proofs.Rest.{on-same}
 use Rattle.judge.proofs.Answers.{Before21}
@@ -42,18 +43,18 @@ settled-with t m s e =
       reached-are = e;
     }
 
-pub suits : {n : ℕ} {t list : Words} {out m : ℕ} → Before21 n t list out m → (k x : ℕ) → Suits (record { collection = n; key = k; pointer = x }) t
+pub suits : {n : ℕ} {t list : Words} {out : ℕ} {m : Start} → Before21 n t list out m → (k : ℕ) (x : Known ℕ) → Suits (record { collection = n; key = k; pointer = x }) t
 suits b k x = record { settles = b.settles; collection = b.collection }
 
 -- ---- an insertion
 
-module _ (n k r c : ℕ) (t list : Words) (out m : ℕ) (b : Before21 n t list out m) where
-  ready : Passed (insertion n k r c) 2560 0 t left.Nothing m
-  ready = record { found = settled-with t m b.settles b.reached; collection = b.collection; dock-ok = omega arith; long = omega arith }
+module _ (n k r c : ℕ) (t list : Words) (out : ℕ) (m : Start) (b : Before21 n t list out m) where
+  ready : Passed (insertion n k r c) 2560 0 t left.Nothing m.reached
+  ready = record { found = settled-with t m.reached b.settles b.reached; collection = b.collection; dock-ok = omega arith; long = omega arith }
 
   module _ (root : ℕ) (run : Run) {j : Outcome} (e : root ≡ at t (root_word n)) (q : run ≡ full_run (view_from t root) k 0) (d : j ≡ passed (number_for n t k r c run)) where
     judged-as : is_err (passed (refusal (insertion n k r c) 2560 0 t)) ≡ is_err j
-    judged-as = ap is_err (insert-number ready (run-later ready refl e q) d)
+    judged-as = ap is_err (insert-number ready (run-later ready refl refl e q) d)
 
     pub insert-refused : is_err j ≡ true → refusal (insertion n k r c) 2560 0 t ≢ 0
     insert-refused z y = false≢true (ap (λ (m : ℕ). is_err (passed m)) (sym y) ∙ judged-as ∙ z)
@@ -75,19 +76,15 @@ module _ (n k r c : ℕ) (t list : Words) (out m : ℕ) (b : Before21 n t list o
     no-key : has_key k (map_of n t) ≡ false
     no-key = rw (map-later n t (settled-sound t b.settles) b.collection) at allowed.allows.no-key
 
-    some-pointer : pointer_of r c ≢ 0
-    unfolding pointer_of
-    some-pointer z = let l = ((recording-iff r).0 allowed.allows.recording-ok).0 in omega arith
-
-    pub insert-wanted : (x : ℕ) → x ≡ pointer_of r c → wanted (record { collection = n; key = k; pointer = x }) t ≡ change (insertion n k r c) (maps_of t)
+    pub insert-wanted : (x : ℕ) → x ≡ pointer_of r c → wanted (record { collection = n; key = k; pointer = Some x }) t ≡ change (insertion n k r c) (maps_of t)
     unfolding wanted
-    insert-wanted x e = rw e (on-same n t (with_pointer k (pointer_of r c)) (enter k (pointer_of r c)) b.collection (with-enters k (pointer_of r c) (map_of n t) no-key some-pointer))
+    insert-wanted x e = rw e (on-same n t (with_pointer k (Some (pointer_of r c))) (enter k (pointer_of r c)) b.collection (with-enters k (pointer_of r c) (map_of n t) no-key))
 
 -- ---- a deletion
 
-module _ (n k : ℕ) (t list : Words) (out m : ℕ) (b : Before21 n t list out m) where
-  gone : Passed (deletion n k) 2560 0 t left.Nothing m
-  gone = record { found = settled-with t m b.settles b.reached; collection = b.collection; dock-ok = omega arith; long = omega arith }
+module _ (n k : ℕ) (t list : Words) (out : ℕ) (m : Start) (b : Before21 n t list out m) where
+  gone : Passed (deletion n k) 2560 0 t left.Nothing m.reached
+  gone = record { found = settled-with t m.reached b.settles b.reached; collection = b.collection; dock-ok = omega arith; long = omega arith }
 
   module _ (root : ℕ) (e : root ≡ at t (root_word n)) (h : Bool) (q : h ≡ has_key k (mapping (view_from t root))) where
     has : h ≡ has_key k (map_of n t)
@@ -99,6 +96,6 @@ module _ (n k : ℕ) (t list : Words) (out m : ℕ) (b : Before21 n t list out m
     pub delete-accepted : h ≡ true → refusal (deletion n k) 2560 0 t ≡ 0
     delete-accepted z = ready-number (deletion n k) 2560 0 t gone ∙ rw (sym has ∙ z)
 
-  pub delete-wanted : wanted (record { collection = n; key = k; pointer = 0 }) t ≡ change (deletion n k) (maps_of t)
-  unfolding wanted
-  delete-wanted = on-same n t (with_pointer k 0) (leave k) b.collection (with-leaves k (map_of n t))
+  pub delete-wanted : wanted (record { collection = n; key = k; pointer = None }) t ≡ change (deletion n k) (maps_of t)
+  unfolding wanted with_pointer
+  delete-wanted = on-same n t (with_pointer k None) (leave k) b.collection refl

@@ -4,12 +4,11 @@ use mathlib.Core.Bool.{Bool, true, false, cond, not, ◌&&◌}
 use mathlib.Core.Logic.{inl}
 use mathlib.Core.List.{List, [], ◌∷◌, ◌++◌}
 use mathlib.Core.Option.{Option, none}
-use Prim.Native.Nat.{ℕ, zero, suc, ◌+◌, ◌-◌, ◌*◌, ◌/◌, ◌≤◌, ◌<◌}
+use Prim.Native.Nat.{ℕ, zero, suc, ◌+◌, ◌-◌, ◌/◌, ◌≤◌, ◌<◌}
 use native.Mathlib.Numerals.{add-one}
 use native.Mathlib.Omega.{arith}
 use Rattle.std.specs.Prelude.{is_some, Option as Known, Some, None, Ok}
 use lib.ListN.{length, take, drop, length-drop, drop_of_length-le}
-use lib.Seq.{take_all}
 use Rattle.model.specs.Results.{Verdict}
 use Rattle.model.specs.Table.{Words, at}
 use Rattle.model.specs.Reached.{Maps, maps_of}
@@ -18,8 +17,7 @@ use Rattle.model.specs.Judge.{good_image, unflushed_after, second_line, complete
 use Rattle.list_laws.proofs.Tools.{and-iff}
 use Rattle.list_laws.proofs.Lists.{cons-same}
 use Rattle.cut_laws.proofs.Applying.{length-carry, carry-append}
-use Rattle.carry.specs.Firsts.{firsts}
-use Rattle.carry.proofs.Turns.{next, none-left, inside-here, inside-next}
+use Rattle.carry.proofs.Turns.{no-order, next-order, inside-here, inside-next}
 use Rattle.two_laws.proofs.SameTwo.{settled-sound}
 use Rattle.judge_laws.proofs.Judged.{good-maps, judged-goes, judged-stops}
 use Rattle.judge_laws.proofs.Calls.{decode-length}
@@ -31,27 +29,26 @@ use Rattle.judge.proofs.Rest.{ended-is}
 abbrev pub order_count : Words → ℕ
 order_count list = length list / 2
 
--- all of them are those from the first on
-pub all-orders : (list : Words) → firsts (order_count list) list 0 ≡ decode list
-all-orders list = take_all (order_count list - 0) (decode list) (omega (arith, decode-length list))
-
-pub record Going (old new : Maps) (t list u : Words) (line : Known ℕ) (i : ℕ) : Type 0 where
+-- the orders of the words left are those from order i on
+pub record Going (old new : Maps) (t list u : Words) (line : Known ℕ) (i : ℕ) (ws : Words) : Type 0 where
   pub up-to : i ≤ order_count list
+  pub place : drop i (decode list) ≡ decode ws
   pub image : u ≡ carry (take i (decode list)) t
   pub good : good_image old new u ≡ true
-  pub all-in : all_inside (length t) (firsts (order_count list) list i) ≡ true
-  pub rest : judged_from old new (firsts (order_count list) list i) i (line_of line) u ≡ judged_from old new (decode list) 0 none t
+  pub all-in : all_inside (length t) (decode ws) ≡ true
+  pub rest : judged_from old new (decode ws) i (line_of line) u ≡ judged_from old new (decode list) 0 none t
 
-pub going-start : (c : Change) (t list u : Words) → Suits c t → u ≡ t → all_inside (length t) (decode list) ≡ true → Going (maps_of t) (wanted c t) t list u None 0
+pub going-start : (c : Change) (t list u ws : Words) → Suits c t → u ≡ t → all_inside (length t) (decode list) ≡ true → ws ≡ list → Going (maps_of t) (wanted c t) t list u None 0 ws
 unfolding carry
-going-start c t list u b e a =
-    rw e
+going-start c t list u ws b e a q =
+    rw (e, q)
     (record {
       up-to = omega arith;
+      place = refl;
       image = refl;
       good = (good-maps (maps_of t) (wanted c t) t).1 (settled-sound t b.settles, inl refl);
-      all-in = rw (all-orders list) a;
-      rest = rw (all-orders list) refl;
+      all-in = a;
+      rest = refl;
     })
 
 -- one order more among the first ones
@@ -60,31 +57,35 @@ taken-more {A = A} i [] x r e = absurd (let z : [] ≡ x ∷ r = sym (drop_of_le
 taken-more zero (y ∷ xs) x r e = ap (λ q. q ∷ []) (cons-same y x xs r e).0
 taken-more (suc i) (y ∷ xs) x r e = ap (λ q. y ∷ q) (taken-more i xs x r e)
 
-firsts-drop : (list : Words) (i : ℕ) → firsts (order_count list) list i ≡ drop i (decode list)
-firsts-drop list i = take_all (order_count list - i) (drop i (decode list)) (simp length-drop (omega (arith, decode-length list)))
+left-length : (list : Words) (i : ℕ) → length (drop i (decode list)) ≡ order_count list - i
+left-length list i = omega (arith, length-drop i (decode list), decode-length list)
 
-module _ {old new : Maps} {t list u : Words} {line : Known ℕ} {i : ℕ} (g : Going old new t list u line i) where
+dropped-more : {A : Type 0} (i : ℕ) (xs : List A) (x : A) (r : List A) → drop i xs ≡ x ∷ r → drop (suc i) xs ≡ r
+dropped-more {A = A} i [] x r e = absurd (let z : [] ≡ x ∷ r = sym (drop_of_length-le [] {i = i} (omega arith)) ∙ e in let o : ◌≡◌ {A = ℕ} 0 1 = cc in omega arith)
+dropped-more zero (y ∷ xs) x r e = (cons-same y x xs r e).1
+dropped-more (suc i) (y ∷ xs) x r e = dropped-more i xs x r e
+
+module _ {old new : Maps} {t list u : Words} {line : Known ℕ} {i : ℕ} {ws : Words} (g : Going old new t list u line i ws) where
   pub going-length : length u ≡ length t
   going-length = ap length g.image ∙ length-carry (take i (decode list)) t
 
-  module _ (h : i < order_count list) where
-    abbrev o : Order
-    o = order_of (at list (2 * i)) (at list (2 * i + 1))
-
-    pub going-inside : inside (length u) (order_of (at list (2 * i)) (at list (2 * i + 1))) ≡ true
-    going-inside = inside-here (length t) (order_count list) list i h (omega arith) g.all-in (length u) going-length
+  module _ (pair after : Words) (p : ws ≡ pair ++ after) (two : length pair ≡ 2) (o : Order) (is : o ≡ order_of (at pair 0) (at pair 1)) where
+    pub going-inside : inside (length u) o ≡ true
+    going-inside = inside-here ws pair after p two (length t) g.all-in (length u) going-length o is
 
     abbrev later : List Order
-    later = firsts (order_count list) list (i + 1)
+    later = decode after
 
-    more : firsts (order_count list) list i ≡ o ∷ later
-    more = next (order_count list) list i h (omega arith)
+    more : decode ws ≡ o ∷ later
+    more = next-order ws pair after p two ∙ ap (λ (x : Order). x ∷ later) (sym is)
 
-    module _ (u' : Words) (e : u' ≡ carry (order_of (at list (2 * i)) (at list (2 * i + 1)) ∷ []) u) (r : Known (Known ℕ))
-        (k : Holds old new (line_of line) (order_of (at list (2 * i)) (at list (2 * i + 1))) u' r) where
+    pub going-up : i + 1 ≤ order_count list
+    going-up = omega (arith, ap length (g.place ∙ more), left-length list i)
+
+    module _ (u' : Words) (e : u' ≡ carry (o ∷ []) u) (r : Known (Known ℕ)) (k : Holds old new (line_of line) o u' r) where
       image-more : u' ≡ carry (take (i + 1) (decode list)) t
       image-more = e ∙ ap (carry (o ∷ [])) g.image
-          ∙ sym (rw (add-one i, taken-more i (decode list) o later (sym (firsts-drop list i) ∙ more)) (carry-append (take i (decode list)) (o ∷ []) t))
+          ∙ sym (rw (add-one i, taken-more i (decode list) o later (g.place ∙ more)) (carry-append (take i (decode list)) (o ∷ []) t))
 
       tested : is_some r ≡ (not (second_line (line_of line) o) && good_image old new (carry (o ∷ []) u))
       tested = rw e at k.is-held
@@ -100,23 +101,25 @@ module _ {old new : Maps} {t list u : Words} {line : Known ℕ} {i : ℕ} (g : G
       going-failed = image-more
 
       -- it holds
-      pub going-next : (l : Known ℕ) → r ≡ Some l → Going old new t list u' l (i + 1)
+      pub going-next : (l : Known ℕ) → r ≡ Some l → Going old new t list u' l (i + 1) after
       going-next l z =
           let w = (and-iff (not (second_line (line_of line) o)) (good_image old new (carry (o ∷ []) u))).0 (sym tested ∙ ap is_some z) in
           record {
-            up-to = omega arith;
+            up-to = going-up;
+            place = rw (add-one i) (dropped-more i (decode list) o later (g.place ∙ more));
             image = image-more;
             good = rw e w.1;
-            all-in = inside-next (length t) (order_count list) list i h (omega arith) g.all-in;
+            all-in = inside-next ws pair after p two (length t) g.all-in;
             rest =
                 ap (λ (m : ℕ). judged_from old new later m (line_of l) u') (add-one i) ∙ ap (λ (x : Option ℕ). judged_from old new later (suc i) x u') (k.line-is l z)
                 ∙ ap (judged_from old new later (suc i) (unflushed_after (line_of line) o)) e ∙ sym (judged-goes old new o later i (line_of line) u (sym tested ∙ ap is_some z)) ∙ rest-is;
           }
 
 -- all orders held
-module _ (c : Change) (t list u : Words) (line : Known ℕ) (i : ℕ) (b : Suits c t) (g : Going (maps_of t) (wanted c t) t list u line i) (h : order_count list ≤ i) (r : Verdict) (e : r ≡ ended (line_of line) u c (order_count list)) where
+module _ (c : Change) (t list u : Words) (line : Known ℕ) (i : ℕ) (ws : Words) (b : Suits c t) (g : Going (maps_of t) (wanted c t) t list u line i ws) (h : length ws < 2)
+    (r : Verdict) (e : r ≡ ended (line_of line) u c (order_count list)) where
   all : i ≡ order_count list
-  all = omega (arith, g.up-to)
+  all = omega (arith, g.up-to, ap length (g.place ∙ no-order ws h), left-length list i)
 
   answer-is : r ≡ cond (completes (wanted c t) (line_of line) u) (Ok None) (Ok (Some (order_count list)))
   answer-is = e ∙ ended-is c t b line u (order_count list) g.good
@@ -125,7 +128,7 @@ module _ (c : Change) (t list u : Words) (line : Known ℕ) (i : ℕ) (b : Suits
   unfolding judged_from
   going-ends =
       answer-is ∙ ap (λ (n : ℕ). judged_from (maps_of t) (wanted c t) [] n (line_of line) u) (sym all)
-      ∙ ap (λ (os : List Order). judged_from (maps_of t) (wanted c t) os i (line_of line) u) (sym (none-left (order_count list) list i h)) ∙ g.rest
+      ∙ ap (λ (os : List Order). judged_from (maps_of t) (wanted c t) os i (line_of line) u) (sym (no-order ws h)) ∙ g.rest
 
   pub going-ended : u ≡ carry (take (count_of r (order_count list)) (decode list)) t
   going-ended = g.image ∙ ap (λ (n : ℕ). carry (take n (decode list)) t) (all ∙ sym (ap (λ (x : Verdict). count_of x (order_count list)) answer-is ∙ counted (completes (wanted c t) (line_of line) u)))

@@ -1,26 +1,15 @@
 -- What one order comes to.
 use mathlib.Core.Path.{◌≡◌, refl, sym, ◌∙◌}
-use mathlib.Core.Bool.{true, false, ◌&&◌}
+use mathlib.Core.Bool.{true, false}
 use mathlib.Core.List.{[], ◌∷◌}
 use mathlib.Core.Option.{Option, none, some}
 use Prim.Native.Nat.{ℕ}
-use lib.Dec.{eqb}
 use Rattle.std.specs.Prelude.{Option as Known, Some}
-use borrow.Author.Tests.{eq-eqb, ne_eqb}
-use Rattle.model.specs.Table.{MARK, Words}
+use Rattle.model.specs.Table.{Words}
 use Rattle.model.specs.Reached.{Maps}
-use Rattle.model.specs.Orders.{Order, flush, barrier, BAR, order_of, carry}
+use Rattle.model.specs.Orders.{Order, flush, barrier, carry}
 use Rattle.model.specs.Judge.{good_image, unflushed_after, second_line}
 use Rattle.judge.specs.Wanted.{line_of, Holds}
-
--- ---- the order of two words
-
-module _ (a b : ℕ) where
-  pub is-flush : a ≡ MARK → order_of a b ≡ flush b
-  is-flush e = rw (eq-eqb a MARK e)
-
-  pub is-barrier : (a ≡ MARK → ⊥) → (eqb a BAR && eqb b 0) ≡ true → order_of a b ≡ barrier
-  is-barrier z e = rw (ne_eqb a MARK z, e)
 
 -- ---- one order more
 

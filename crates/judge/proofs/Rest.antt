@@ -7,6 +7,7 @@ use mathlib.Core.Option.{Option, none, some, map}
 use Prim.Native.Nat.{ℕ}
 use native.Mathlib.Omega.{arith}
 use lib.Dec.{eqb}
+use Rattle.std.specs.Option.{option_eq}
 use Rattle.std.specs.Prelude.{is_some, Option as Known, Some, None, Ok, MatchOption}
 use borrow.Author.Tests.{eq-eqb, ne_eqb}
 use Rattle.model.specs.Table.{Words, at, root_word, no_collection}
@@ -15,7 +16,7 @@ use Rattle.model.specs.Reached.{mapping, map_of, Maps, maps_of}
 use Rattle.model.specs.SoundTest.{is_nothing, sound, settled}
 use Rattle.model.specs.Ledger.{on_map, pairs_of}
 use Rattle.model.specs.Judge.{same_maps, good_image, completes}
-use Rattle.list_laws.proofs.Tools.{same-or-not, refuted}
+use Rattle.list_laws.proofs.Tools.{refuted}
 use Rattle.table_laws.proofs.Collections.{by-number}
 use Rattle.two_laws.proofs.SameTwo.{first-there, second-there, settled-sound}
 use Rattle.judge_laws.proofs.Compared.{maps-same}
@@ -26,8 +27,8 @@ use Rattle.sound.specs.declared.Sound.{Sound}
 use Rattle.sound.specs.Checked.{meant, checked}
 use Rattle.sound.proofs.JudgeLaws.{checked-sound, checked-unsound}
 use Rattle.compare.specs.Pointers.{held, with_pointer}
-use Rattle.compare.proofs.Maps.{with-held, with-same}
-use Rattle.compare.proofs.Trees.{map-ordered}
+use Rattle.compare.proofs.Maps.{same-pointer, own-pointer, other-pointer, with-held, with-same}
+use Rattle.compare.proofs.Trees.{map-rising}
 use Rattle.judge.specs.declared.Change.{Change}
 use Rattle.judge.specs.Wanted.{wanted, Suits, line_of, ended}
 
@@ -65,13 +66,13 @@ module _ (l : Known ℕ) (u : Words) (c : Change) (n : ℕ) where
     unfolding ended
     end-unsettled e = rw (z, e)
 
-    pub end-pointer : settled u ≡ true → (x : ℕ) → x ≡ held c.key (map_of c.collection u) → (x ≡ c.pointer → ⊥) → Ok (Some n) ≡ ended (line_of l) u c n
+    pub end-pointer : settled u ≡ true → (x : Known ℕ) → x ≡ held c.key (map_of c.collection u) → option_eq eqb x c.pointer ≡ false → Ok (Some n) ≡ ended (line_of l) u c n
     unfolding ended
-    end-pointer e x q y = rw (z, e, ← q, ne_eqb x c.pointer y)
+    end-pointer e x q y = rw (z, e, ← q, y)
 
-    pub end-yes : settled u ≡ true → (x : ℕ) → x ≡ held c.key (map_of c.collection u) → x ≡ c.pointer → Ok None ≡ ended (line_of l) u c n
+    pub end-yes : settled u ≡ true → (x : Known ℕ) → x ≡ held c.key (map_of c.collection u) → option_eq eqb x c.pointer ≡ true → Ok None ≡ ended (line_of l) u c n
     unfolding ended
-    end-yes e x q y = rw (z, e, ← q, eq-eqb x c.pointer y)
+    end-yes e x q y = rw (z, e, ← q, y)
 
 -- ---- what a good image has
 
@@ -110,6 +111,13 @@ on-none n m = go (eqb n 1) m.two
     go false none = refl
     go false (some ps) = refl
 
+pointer-or-not : (a b : Known ℕ) → (a ≡ b) ⊎ (a ≢ b)
+pointer-or-not a b = go (option_eq eqb a b) refl
+  where
+    go : (e : Bool) → option_eq eqb a b ≡ e → (a ≡ b) ⊎ (a ≢ b)
+    go true e = inl (same-pointer a b e)
+    go false e = inr (other-pointer a b e)
+
 module _ (c : Change) (t : Words) (b : Suits c t) where
   abbrev new : List Slot
   new = with_pointer c.key c.pointer (map_of c.collection t)
@@ -143,8 +151,8 @@ module _ (c : Change) (t : Words) (b : Suits c t) where
       by-number t (λ (n : ℕ). no_collection n u ≡ false) (first-there u) (λ z. second-there u (second-kept u ((good-maps (maps_of t) (wanted c t) u).0 g).1 z)) c.collection b.collection
 
   -- the new maps exactly if the key has the new pointer
-  new-pointer : (u : Words) → good_image (maps_of t) (wanted c t) u ≡ true → same_maps (maps_of u) (wanted c t) ≡ eqb (held c.key (map_of c.collection u)) c.pointer
-  new-pointer u g = go (m.0 g).1 (same-or-not (held k (map_of n t)) c.pointer)
+  new-pointer : (u : Words) → good_image (maps_of t) (wanted c t) u ≡ true → same_maps (maps_of u) (wanted c t) ≡ option_eq eqb (held c.key (map_of c.collection u)) c.pointer
+  new-pointer u g = go (m.0 g).1 (pointer-or-not (held k (map_of n t)) c.pointer)
     where
       n : ℕ
       n = c.collection
@@ -162,15 +170,15 @@ module _ (c : Change) (t : Words) (b : Suits c t) where
       as-new : maps_of u ≡ wanted c t → held k (map_of n u) ≡ c.pointer
       as-new e = ap (held k) (own ∙ ap (pick n) e ∙ pick-new) ∙ with-held k c.pointer (map_of n t)
 
-      is-new : maps_of u ≡ wanted c t → same_maps (maps_of u) (wanted c t) ≡ eqb (held k (map_of n u)) c.pointer
-      is-new e = (maps-same (maps_of u) (wanted c t)).1 e ∙ sym (eq-eqb _ _ (as-new e))
+      is-new : maps_of u ≡ wanted c t → same_maps (maps_of u) (wanted c t) ≡ option_eq eqb (held k (map_of n u)) c.pointer
+      is-new e = (maps-same (maps_of u) (wanted c t)).1 e ∙ sym (own-pointer _ _ (as-new e))
 
-      go : (maps_of u ≡ maps_of t) ⊎ (maps_of u ≡ wanted c t) → (held k (map_of n t) ≡ c.pointer) ⊎ (held k (map_of n t) ≢ c.pointer) → same_maps (maps_of u) (wanted c t) ≡ eqb (held k (map_of n u)) c.pointer
+      go : (maps_of u ≡ maps_of t) ⊎ (maps_of u ≡ wanted c t) → (held k (map_of n t) ≡ c.pointer) ⊎ (held k (map_of n t) ≢ c.pointer) → same_maps (maps_of u) (wanted c t) ≡ option_eq eqb (held k (map_of n u)) c.pointer
       go (inr e) q = is-new e
-      go (inl e) (inl q) = is-new (e ∙ sym (wanted-same (with-same k c.pointer (map_of n t) (map-ordered (view_of n t) (collection-sound n t (settled-sound t b.settles) b.collection)) q)))
+      go (inl e) (inl q) = is-new (e ∙ sym (wanted-same (with-same k c.pointer (map_of n t) (map-rising (view_of n t) (collection-sound n t (settled-sound t b.settles) b.collection)) q)))
       go (inl e) (inr z) =
           let y : held k (map_of n u) ≢ c.pointer = λ d. z (ap (held k) (sym (own ∙ ap (pick n) e ∙ pick-own n t b.collection)) ∙ d) in
-          refuted (same_maps (maps_of u) (wanted c t)) (λ d. y (as-new ((maps-same (maps_of u) (wanted c t)).0 d))) ∙ sym (ne_eqb _ _ y)
+          refuted (same_maps (maps_of u) (wanted c t)) (λ d. y (as-new ((maps-same (maps_of u) (wanted c t)).0 d))) ∙ sym (refuted (option_eq eqb (held k (map_of n u)) c.pointer) (λ d. y (same-pointer _ _ d)))
 
   -- So the answer after all orders is as the definition has it.
   pub ended-is : (l : Known ℕ) (u : Words) (n : ℕ) → good_image (maps_of t) (wanted c t) u ≡ true → ended (line_of l) u c n ≡ cond (completes (wanted c t) (line_of l) u) (Ok None) (Ok (Some n))
@@ -179,5 +187,5 @@ module _ (c : Change) (t : Words) (b : Suits c t) where
 
 -- ---- the tree of a collection, by the root that was read
 
-pub held-own : (t : Words) (n k r : ℕ) → r ≡ at t (root_word n) → (x : ℕ) → x ≡ held k (mapping (view_from t r)) → x ≡ held k (map_of n t)
+pub held-own : (t : Words) (n k r : ℕ) → r ≡ at t (root_word n) → (x : Known ℕ) → x ≡ held k (mapping (view_from t r)) → x ≡ held k (map_of n t)
 held-own t n k r e x q = rw e at q

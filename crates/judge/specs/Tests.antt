@@ -2,11 +2,12 @@
 use Rattle.std.specs.Prelude.{Bool, not, List, [], ◌∷◌, ℕ, ◌/◌, eqb, length, Result, Ok}
 use Rattle.model.specs.declared.Refusal.{Refusal}
 use Rattle.model.specs.Results.{refused_with}
-use Rattle.model.specs.Table.{Words, header_ok}
+use Rattle.model.specs.Table.{Words, at, root_word, header_ok, no_collection}
 use Rattle.model.specs.Reached.{reached_all}
 use Rattle.model.specs.SoundTest.{sound, settled}
 use Rattle.model.specs.Orders.{carry_number}
 use Rattle.model.specs.Refusals.{Test, test, first_number, unless_refused}
+use Rattle.judge.specs.declared.Start.{Start}
 
 -- 17 is handed in
 abbrev pub first_tests : (seventeen : Bool) → (t list : Words) → (out : ℕ) → List Test
@@ -14,8 +15,8 @@ first_tests seventeen t list out =
     test (not (header_ok t)) 2 ∷ test seventeen 17 ∷ test (not (sound t)) 4 ∷ test (not (settled t)) 20
     ∷ test (not (eqb (carry_number (length list / 2) list t) 0)) 13 ∷ test (not (eqb out (length t))) 15 ∷ []
 
--- how many nodes are reached, or that refusal
-unfoldable pub tested : (seventeen : Bool) → (t list : Words) → (out : ℕ) → Result ℕ Refusal
-tested seventeen t list out =
-    unless_refused (first_number (first_tests seventeen t list out)) (Ok (length (reached_all t)))
-    (refused_with (first_number (first_tests seventeen t list out)))
+-- the collection's root and how many nodes are reached, or that refusal
+unfoldable pub tested : (n : ℕ) → (t list : Words) → (out : ℕ) → Result Start Refusal
+tested n t list out =
+    let first = first_number (first_tests (no_collection n t) t list out) in
+    unless_refused first (Ok (record { root = at t (root_word n); reached = length (reached_all t) })) (refused_with first)

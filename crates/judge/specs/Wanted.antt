@@ -1,5 +1,6 @@
 -- The change that is wanted, as maps: one key of a collection gets another pointer. The line that holds unflushed stores.
 use Rattle.std.specs.Prelude.{◌≡◌, Bool, true, false, cond, not, ◌&&◌, ℕ, eqb, is_some, Option as Known, Some, None, Ok}
+use Rattle.std.specs.Option.{option_eq}
 use Rattle.std.proofs.Math.Option.{Option, none, some}
 use Rattle.model.specs.Results.{Verdict}
 use Rattle.model.specs.Table.{Words, no_collection}
@@ -37,4 +38,4 @@ pub record Holds (old new : Maps) (l : Option ℕ) (o : Order) (u : Words) (r : 
 
 -- the answer after so many orders, all, that left line l unflushed and u, whose maps are the old ones or the new ones
 unfoldable pub ended : (line : Option ℕ) → (u : Words) → Change → (count : ℕ) → Verdict
-ended l u c n = cond (is_none l && (settled u && eqb (held c.key (map_of c.collection u)) c.pointer)) (Ok None) (Ok (Some n))
+ended l u c n = cond (is_none l && (settled u && option_eq eqb (held c.key (map_of c.collection u)) c.pointer)) (Ok None) (Ok (Some n))

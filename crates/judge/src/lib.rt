@@ -2,39 +2,50 @@
 // one line ever holds unflushed stores, the images of a cut are what first parts of the list leave, and each is looked at once.
 #![tactic(auto)]
 
-ghost use Rattle.std.specs.Prelude.{◌≡◌, true, false, [], ◌∷◌, ◌*◌, ◌/◌, length, take};
+ghost use Rattle.std.specs.Prelude.{◌≡◌, true, false, [], ◌∷◌, ◌/◌, length, take};
 ghost use Rattle.std.proofs.Math.Option.{none};
 ghost use Rattle.model.specs.Table.{no_collection};
 ghost use Rattle.model.specs.Reached.{maps_of};
 ghost use Rattle.model.specs.SoundTest.{sound, settled};
-ghost use Rattle.model.specs.Orders.{flush, order_of, inside, all_inside, decode, carry};
+ghost use Rattle.model.specs.Orders.{flush, inside, all_inside, decode, carry};
+ghost use Rattle.model.specs.ListedOrders.{meant};
 ghost use Rattle.model.specs.Writes.{insertion, deletion};
 ghost use Rattle.model.specs.Judge.{good_image, unflushed_after, judged_from, count_of, judge, judge_out};
 ghost use Rattle.judge.specs.Tests.{tested};
 ghost use Rattle.judge.specs.Wanted.{wanted, Suits, line_of, other_line, Holds, ended};
 
 use insert::Insertion;
-use model::{MARK, Refusal, Verdict};
+use model::{ListedOrder, Refusal, Verdict};
 
-// The change that is wanted: a collection's key gets this pointer; 0 for none.
-// That it suits a table is said of both together, and the table is a lent slice: so it is a clause.
+// The change that is wanted: a collection's key gets this pointer, or goes.
 #[derive(Clone, Copy)]
 struct Change {
     collection: u64,
     key: u64,
-    pointer: u64,
+    pointer: Option<u64>,
+}
+
+// A table, and a change that it suits.
+#[derive(Clone, Copy)]
+struct Plan<'a> {
+    table: &'a [u64],
+    change: Change,
+    ghost suits: { Suits change table.now },
 }
 
 // ---- an image
 
 // Whether an image is sound with the table's maps or the new ones. It is tested before a root is used.
-fn image_ok(image: &[u64], table: &[u64], change: Change) -> bool
-    requires { Suits change table.now }
-    ensures { result ≡ good_image (maps_of table.now) (wanted change table.now) image.now }
+fn image_ok(image: &[u64], plan: &Plan<'_>) -> bool
+    ensures { result ≡ good_image (maps_of plan.now.table.now) (wanted plan.now.change plan.now.table.now) image.now }
 {
-    let key = change.key;
-    let pointer = change.pointer;
-    let own = change.collection == 1;
+    let table = plan.table;
+    let Change {
+        collection,
+        key,
+        pointer,
+    } = plan.change;
+    let own = collection == 1;
     let top = leaves::word_at(image, 1);
     let root = leaves::word_at(table, 1);
     let other = leaves::word_at(image, 3);
@@ -72,30 +83,27 @@ fn second_line(line: Option<u64>, stored: u64) -> bool
 // new image. An Option in an Option: that the count fails and that no line holds unflushed stores are two answers.
 fn turn(
     image: &mut [u64],
-    table: &[u64],
-    a: u64,
-    b: u64,
+    order: ListedOrder,
     line: Option<u64>,
-    change: Change,
+    plan: &Plan<'_>,
 ) -> Option<Option<u64>>
-    requires suits { Suits change table.now }
-    requires b_value { inside (length image.old) (order_of a b) ≡ true }
-    requires image_value { good_image (maps_of table.now) (wanted change table.now) image.old ≡ true }
-    ensures image_after { image.new ≡ carry (order_of a b ∷ []) image.old }
-    ensures holds { Holds (maps_of table.now) (wanted change table.now) (line_of line) (order_of a b) image.new result }
+    requires order_value { inside (length image.old) (meant order) ≡ true }
+    requires image_value { good_image (maps_of plan.now.table.now) (wanted plan.now.change plan.now.table.now) image.old ≡ true }
+    ensures image_after { image.new ≡ carry (meant order ∷ []) image.old }
+    ensures holds { Holds (maps_of plan.now.table.now) (wanted plan.now.change plan.now.table.now) (line_of line) (meant order) image.new result }
 {
-    carry::apply_one(image, a, b);
-    if a == MARK {
-        return Some(line_after(line, b));
+    carry::apply_one(image, order);
+    match order {
+        ListedOrder::Flush { line: flushed } => Some(line_after(line, flushed)),
+        ListedOrder::Barrier => Some(line),
+        ListedOrder::Store { word, .. } => {
+            let stored = word / 8;
+            if second_line(line, stored) || !image_ok(image, plan) {
+                return None;
+            }
+            Some(Some(stored))
+        }
     }
-    if carry::is_barrier(a, b) {
-        return Some(line);
-    }
-    let stored = a / 8;
-    if second_line(line, stored) || !image_ok(image, table, change) {
-        return None;
-    }
-    Some(Some(stored))
 }
 
 // The answer after all orders.
@@ -115,56 +123,66 @@ fn finish(image: &[u64], line: Option<u64>, change: Change, count: u64) -> Verdi
 }
 
 // All orders of a list, on an image that is the table.
-fn judge_orders(image: &mut [u64], table: &[u64], list: &[u64], change: Change) -> Verdict
-    requires suits { Suits change table.now }
-    requires image_value { image.old ≡ table.now }
-    requires list_value { all_inside (length table.now) (decode list.now) ≡ true }
-    ensures value { result ≡ judged_from (maps_of table.now) (wanted change table.now)
-        (decode list.now) 0 none table.now }
-    ensures image_after { image.new ≡ carry (take (count_of result (length list.now / 2)) (decode list.now)) table.now }
+fn judge_orders(image: &mut [u64], list: &[u64], plan: &Plan<'_>) -> Verdict
+    requires image_value { image.old ≡ plan.now.table.now }
+    requires list_value { all_inside (length plan.now.table.now) (decode list.now) ≡ true }
+    ensures value { result ≡ judged_from (maps_of plan.now.table.now) (wanted plan.now.change plan.now.table.now)
+        (decode list.now) 0 none plan.now.table.now }
+    ensures image_after { image.new ≡ carry (take (count_of result (length list.now / 2)) (decode list.now)) plan.now.table.now }
 {
-    let count = list.len() / 2;
     let mut line = None;
-    for i in 0..count {
-        let Some(after) = turn(image, table, list[2 * i], list[2 * i + 1], line, change) else {
+    for (i, pair) in list.chunks_exact(2).enumerate() {
+        let order = ListedOrder::from((pair[0], pair[1]));
+        let Some(after) = turn(image, order, line, plan) else {
             return Ok(Some(i as u64 + 1));
         };
         line = after;
     }
-    finish(image, line, change, count as u64)
+    finish(image, line, plan.change, list.len() as u64 / 2)
 }
 
 // ---- the call
 
 // Judges the list on a copy of the table.
-// Table, list and copy are the three slices that C lends.
-fn judge_copy(table: &[u64], list: &[u64], out: &mut [u64], change: Change) -> Verdict
-    requires suits { Suits change table.now }
-    requires out_len { length out.old ≡ length table.now }
-    requires list_value { all_inside (length table.now) (decode list.now) ≡ true }
-    ensures value { result ≡ judged_from (maps_of table.now) (wanted change table.now)
-        (decode list.now) 0 none table.now }
-    ensures out_after { out.new ≡ carry (take (count_of result (length list.now / 2)) (decode list.now)) table.now }
+fn judge_copy(list: &[u64], out: &mut [u64], plan: &Plan<'_>) -> Verdict
+    requires out_len { length out.old ≡ length plan.now.table.now }
+    requires list_value { all_inside (length plan.now.table.now) (decode list.now) ≡ true }
+    ensures value { result ≡ judged_from (maps_of plan.now.table.now) (wanted plan.now.change plan.now.table.now)
+        (decode list.now) 0 none plan.now.table.now }
+    ensures out_after { out.new ≡ carry (take (count_of result (length list.now / 2)) (decode list.now)) plan.now.table.now }
 {
-    out.copy_from_slice(table);
-    judge_orders(out, table, list, change)
+    out.copy_from_slice(plan.table);
+    judge_orders(out, list, plan)
 }
 
-// Refusals 2, 17, 4, 20, 13 and 15, for a second slice of so many words; else how many nodes are reached.
-fn tests(table: &[u64], list: &[u64], words: usize, collection: u64) -> Result<u64, Refusal>
-    ensures { result ≡ tested (no_collection collection table.now) table.now list.now words }
+// Where a judging starts: the collection's root, and how many nodes are reached.
+#[derive(Clone, Copy)]
+struct Start {
+    root: u64,
+    reached: u64,
+}
+
+// Refusals 2, 17, 4, 20, 13 and 15, for a second slice of so many words.
+fn tests(table: &[u64], list: &[u64], words: usize, collection: u64) -> Result<Start, Refusal>
+    ensures { result ≡ tested collection table.now list.now words }
 {
-    let ready = write::judge(table, collection, 2560, 0)?;
-    if !sound::is_nothing(ready.leftover) {
+    let root = node::find_root(table, collection)?;
+    let Some(found) = sound::check(table) else {
+        return Err(Refusal::NotSound);
+    };
+    if !sound::is_nothing(found.leftover) {
         return Err(Refusal::NotSettled);
     }
-    if !carry::all_inside(table.len(), list, list.len() / 2) {
+    if !carry::all_inside(table.len(), list) {
         return Err(Refusal::BadOrders);
     }
     if words != table.len() {
         return Err(Refusal::OtherLength);
     }
-    Ok(ready.reached)
+    Ok(Start {
+        root,
+        reached: found.reached,
+    })
 }
 
 // Judges a list for the insertion of a key with a recording and a class; 2, 17, 4, 20, 13, 15 and 21 in that order. A refusal changes no word;
@@ -182,8 +200,8 @@ pub fn judge_insert(
     ensures value { result ≡ judge (insertion collection key recording access) table.now list.now (length out.old) }
     ensures out_after { out.new ≡ judge_out (insertion collection key recording access) table.now list.now out.old }
 {
-    let reached = tests(table, list, out.len(), collection)?;
-    let run = reach::full_run(table, node::root_of(table, collection), key, 0);
+    let start = tests(table, list, out.len(), collection)?;
+    let run = reach::full_run(table, start.root, key, 0);
     let allowed = insert::may_insert(
         table,
         Insertion {
@@ -193,7 +211,7 @@ pub fn judge_insert(
             access,
         },
         run,
-        reached,
+        start.reached,
     );
     if allowed.is_err() {
         return Err(Refusal::ChangeRefused);
@@ -201,9 +219,9 @@ pub fn judge_insert(
     let change = Change {
         collection,
         key,
-        pointer: pointer::join(recording, access),
+        pointer: Some(pointer::join(recording, access)),
     };
-    judge_copy(table, list, out, change)
+    judge_copy(list, out, &Plan { table, change })
 }
 
 // The same for the deletion of a key.
@@ -217,14 +235,14 @@ pub fn judge_delete(
     ensures value { result ≡ judge (deletion collection key) table.now list.now (length out.old) }
     ensures out_after { out.new ≡ judge_out (deletion collection key) table.now list.now out.old }
 {
-    tests(table, list, out.len(), collection)?;
-    if !write::has_key(table, node::root_of(table, collection), key) {
+    let start = tests(table, list, out.len(), collection)?;
+    if !write::has_key(table, start.root, key) {
         return Err(Refusal::ChangeRefused);
     }
     let change = Change {
         collection,
         key,
-        pointer: 0,
+        pointer: None,
     };
-    judge_copy(table, list, out, change)
+    judge_copy(list, out, &Plan { table, change })
 }

@@ -1,6 +1,7 @@
 -- Marked slots stand for the pairs kept: the same codes, the same recordings, as many.
 use mathlib.Core.Path.{◌≡◌, refl, ap, sym, subst, ◌∙◌}
-use mathlib.Core.Bool.{Bool, true, false, not, ◌&&◌, ◌||◌}
+use mathlib.Core.Bool.{Bool, true, false, cond, not, ◌&&◌, ◌||◌}
+use mir.Val.{bool_byte}
 use mathlib.Core.Logic.{◌≢◌}
 use mathlib.Core.List.{List, [], ◌∷◌}
 use Prim.Native.Nat.{ℕ, zero, suc, ◌+◌, ◌*◌, ◌/◌, ◌%◌, ◌≤◌, ◌<◌}
@@ -22,6 +23,11 @@ use Rattle.gather.proofs.Pairs.{enter-key, enter-recording, enter-length}
 use Rattle.std.specs.List.{list_any}
 use Rattle.keeping.specs.Marks.{slot_of, marked_to, Matches, Unmarked, Marked}
 use Rattle.keeping.proofs.Downwards.{downwards}
+
+-- a bool as a number
+pub marked-one : (b : Bool) → bool_byte b ≡ cond b 1 0
+marked-one true = refl
+marked-one false = refl
 
 -- ---- the pairs kept and the marked ones
 

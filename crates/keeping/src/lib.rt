@@ -2,8 +2,7 @@
 // entered, 12 to a node, each slot compared with those marked before it.
 #![tactic(auto)]
 
-ghost use Rattle.std.specs.Prelude.{◌≡◌, ◌||◌, ◌+◌, ◌*◌, ◌≤◌, ◌<◌, eqb, length};
-ghost use Rattle.model.specs.Table.{nodes};
+ghost use Rattle.std.specs.Prelude.{◌≡◌, cond, ◌||◌, ◌+◌, ◌*◌, ◌≤◌, ◌<◌, eqb, length};
 ghost use Rattle.model.specs.Refusals.{has_key, has_recording};
 ghost use Rattle.model.specs.Slots.{recording_of};
 ghost use Rattle.model.specs.Salvage.{reason_for, collected, gathered_along};
@@ -65,8 +64,8 @@ fn clash(s: Pair, key: u64, recording: u64) -> bool
 }
 
 // Whether a marked slot before slot end has this pair's key or recording.
-fn clashes(table: &[u64], order: &[u16], marks: &[u64], end: usize, pair: Pair) -> bool
-    requires { (end ≤ 12 * length order.now) × (length order.now ≤ 65535) × (length marks.now ≡ 12288) }
+fn clashes(table: &[u64], order: &[u16], marks: &[u64; 12288], end: usize, pair: Pair) -> bool
+    requires { (end ≤ 12 * length order.now) × (length order.now ≤ 65535) }
     ensures { result ≡ (has_key pair.key (marked_to table.now order.now marks.now end)
         || has_recording (recording_of pair.pointer) (marked_to table.now order.now marks.now end)) }
 {
@@ -76,45 +75,45 @@ fn clashes(table: &[u64], order: &[u16], marks: &[u64], end: usize, pair: Pair) 
 }
 
 // Whether no reason holds against a pair.
-fn keeps(table: &[u64], order: &[u16], marks: &[u64], end: usize, pair: Pair) -> bool
-    requires { (end ≤ 12 * length order.now) × (length order.now ≤ 65535) × (length marks.now ≡ 12288) }
+fn keeps(table: &[u64], order: &[u16], marks: &[u64; 12288], end: usize, pair: Pair) -> bool
+    requires { (end ≤ 12 * length order.now) × (length order.now ≤ 65535) }
     ensures { result ≡ eqb (reason_for (marked_to table.now order.now marks.now end) (pair_of pair)) 0 }
 {
     pointer::ok(pair.pointer) && !clashes(table, order, marks, end, pair)
 }
 
-// Slot i in use of the node entered at place j, where before is the pointer before it: marked if it is kept; the answer is 1 then.
+// Slot i in use of the node entered at place j, where before is the pointer before it: marked, and true, if it is kept.
+// table, order and marks are three slices, and a struct of the numbers would be made anew for each slot.
 fn mark_slot(
     table: &[u64],
-    top: u64,
     order: &[u16],
-    marks: &mut [u64],
+    marks: &mut [u64; 12288],
     j: usize,
     i: usize,
     sibling: u64,
     before: u64,
     pair: Pair,
-) -> usize
-    requires { (top ≡ nodes table.now) × (j < length order.now) × (i < 12) × (length order.now ≤ 65535) × (length marks.old ≡ 12288) }
+) -> bool
+    requires { (j < length order.now) × (i < 12) × (length order.now ≤ 65535) }
     ensures { Marked table.now order.now marks.old marks.new (12 * j + i) pair.key pair.pointer
-        (met table.now sibling before i pair.key pair.pointer) result }
+        (met table.now sibling before i pair.key pair.pointer) (cond result 1 0) }
 {
     if pair.pointer == before {
-        return 0;
+        return false;
     }
-    if !tour::under_fence(table, top, sibling, pair.key) {
-        return 0;
+    if !tour::under_fence(table, sibling, pair.key) {
+        return false;
     }
     if !keeps(table, order, marks, 12 * j + i, pair) {
-        return 0;
+        return false;
     }
     bits::put(marks, 12 * j + i);
-    1
+    true
 }
 
 // The slots of the node entered at place j, if it is a leaf; the answer is how many are kept.
-fn mark_node(table: &[u64], top: u64, order: &[u16], marks: &mut [u64], j: usize) -> usize
-    requires { (top ≡ nodes table.now) × (j < length order.now) × (length order.now ≤ 65535) × (length marks.old ≡ 12288) }
+fn mark_node(table: &[u64], order: &[u16], marks: &mut [u64; 12288], j: usize) -> usize
+    requires { (j < length order.now) × (length order.now ≤ 65535) }
     ensures { NodeMarked table.now order.now marks.old marks.new j result }
 {
     let n = order[j] as u64;
@@ -124,15 +123,15 @@ fn mark_node(table: &[u64], top: u64, order: &[u16], marks: &mut [u64], j: usize
     }
     let mut kept = 0;
     let mut before = x.left;
+    // By place: a slot's place says which mark is its.
     for i in 0..12 {
         let pointer = x.slots[2 * i + 1];
         if pointer == 0 {
             return kept;
         }
         let key = x.slots[2 * i];
-        kept += mark_slot(
+        let marked = mark_slot(
             table,
-            top,
             order,
             marks,
             j,
@@ -141,21 +140,23 @@ fn mark_node(table: &[u64], top: u64, order: &[u16], marks: &mut [u64], j: usize
             before,
             Pair { key, pointer },
         );
+        kept += usize::from(marked);
         before = pointer;
     }
     kept
 }
 
 // How many pairs are kept along these nodes.
-pub fn count_kept(table: &[u64], top: u64, order: &[u16]) -> usize
-    requires { (top ≡ nodes table.now) × (length order.now ≤ 65535) }
+pub fn count_kept(table: &[u64], order: &[u16]) -> usize
+    requires { length order.now ≤ 65535 }
     ensures { (result ≡ length (gathered_along table.now order.now).kept) × (result ≤ 12 * length order.now) }
 {
     // A set of numbers as bits: memory is fixed, there is no heap.
     let mut marks = [0u64; 12288];
     let mut kept = 0;
+    // By place: a node's place says which marks are its.
     for j in 0..order.len() {
-        kept += mark_node(table, top, order, &mut marks, j);
+        kept += mark_node(table, order, &mut marks, j);
     }
     kept
 }

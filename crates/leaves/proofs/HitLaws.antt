@@ -16,13 +16,12 @@ use Rattle.view_laws.proofs.AnyRoot.{any-kept}
 use Rattle.node.specs.Word.{word_of}
 use Rattle.node.proofs.WordLaws.{word-left, word-sibling, word-level}
 use Rattle.walk_laws.specs.Walk.{ways}
-use Rattle.walk_laws.specs.Chain.{last_or, leftmost, along, or_sibling, last_child, rightmost, first_leaf, last_leaf}
-use Rattle.walk_laws.proofs.ChainLaw.{along-none, along-more}
+use Rattle.walk_laws.specs.Chain.{last_or, leftmost, or_sibling, last_child, rightmost, first_leaf, last_leaf}
 use Rattle.std.specs.Prelude.{Option, Some, None}
 use Rattle.leaves.specs.declared.Hit.{Hit}
-use Rattle.slots.specs.declared.Ways.{Ways}
+use Rattle.slots.specs.declared.ways.Ways.{Ways}
 use Rattle.slots.specs.Gathered.{span, slots_in, ways_from}
-use Rattle.leaves.specs.Hits.{numbers_from, recordings_from, hit_among, first_hit, hit_along}
+use Rattle.leaves.specs.Hits.{numbers_from, recordings_from, hit_among, first_hit}
 
 -- ---- the recording numbers of an array of pointers
 
@@ -149,53 +148,46 @@ last-down t r n d e m z q =
 
 -- ---- a number in the leaves
 
--- what is left: looking on from this leaf, through at most so many, comes to h
-pub record Ahead (t : Words) (r : ℕ) (h : Option Hit) (leaf left : ℕ) : Type 0 where
-  pub comes-to : hit_along (view t) left leaf r ≡ h
+-- what is left: looking on, through these leaves, comes to h
+pub record Ahead (t : Words) (r : ℕ) (h : Option Hit) (ns : List ℕ) : Type 0 where
+  pub comes-to : first_hit (view t) r ns ≡ h
 
--- and within the leaf, whose ways are m with the pointers ps, from way j on, with at most so many leaves after it
-pub record Within (t : Words) (r : ℕ) (h : Option Hit) (leaf left m : ℕ) (ps : List ℕ) (j : ℕ) : Type 0 where
-  pub comes-to : hit_among r leaf (j - 1) (numbers_from ps j (m - j)) (hit_along (view t) left (node_view t leaf).sibling r) ≡ h
+-- and within a leaf, whose ways are m with the pointers ps, from way j on, with these leaves after it
+pub record Within (t : Words) (r : ℕ) (h : Option Hit) (leaf : ℕ) (ns : List ℕ) (m : ℕ) (ps : List ℕ) (j : ℕ) : Type 0 where
+  pub comes-to : hit_among r leaf (j - 1) (numbers_from ps j (m - j)) (first_hit (view t) r ns) ≡ h
 
-module _ {t : Words} {r : ℕ} {h : Option Hit} {leaf left : ℕ} (k : Ahead t r h leaf left) where
-  pub hit-no-leaf : leaf ≡ 0 → None ≡ h
+module _ {t : Words} {r : ℕ} {h : Option Hit} {ns : List ℕ} (k : Ahead t r h ns) where
+  pub hit-no-more : ns ≡ [] → None ≡ h
   unfolding first_hit
-  hit-no-leaf z = sym (ap (first_hit (view t) r) (ap (along (view t) left) z ∙ along-none (view t) left)) ∙ k.comes-to
+  hit-no-more z = sym (ap (first_hit (view t) r) z) ∙ k.comes-to
 
-  pub hit-no-more : left ≡ 0 → None ≡ h
-  unfolding first_hit along
-  hit-no-more z = sym (ap (λ (c : ℕ). first_hit (view t) r (along (view t) c leaf)) z) ∙ k.comes-to
-
-  pub hit-enter : (fewer : ℕ) (w : Ways) → (leaf ≡ 0 → ⊥) → left ≡ suc fewer → slots_in w ≡ ways (view t) leaf → Within t r h leaf fewer w.count w.pointers 1
+  pub hit-enter : (leaf : ℕ) (later : List ℕ) (w : Ways) → ns ≡ leaf ∷ later → slots_in w ≡ ways (view t) leaf → Within t r h leaf later w.count w.pointers 1
   unfolding first_hit
-  hit-enter fewer w z more e =
+  hit-enter leaf later w more e =
       record {
         comes-to =
-            ap (λ (xs : List ℕ). hit_among r leaf 0 xs (hit_along (view t) fewer (node_view t leaf).sibling r)) (kept-numbers t (root t) leaf w e)
-            ∙ sym (ap (first_hit (view t) r) (ap (λ (c : ℕ). along (view t) c leaf) more ∙ along-more (view t) fewer leaf z)) ∙ k.comes-to;
+            ap (λ (xs : List ℕ). hit_among r leaf 0 xs (first_hit (view t) r later)) (kept-numbers t (root t) leaf w e)
+            ∙ sym (ap (first_hit (view t) r) more) ∙ k.comes-to;
       }
 
-module _ {t : Words} {r : ℕ} {h : Option Hit} {leaf left m : ℕ} {ps : List ℕ} {j : ℕ} (k : Within t r h leaf left m ps j) where
+module _ {t : Words} {r : ℕ} {h : Option Hit} {leaf : ℕ} {ns : List ℕ} {m : ℕ} {ps : List ℕ} {j : ℕ} (k : Within t r h leaf ns m ps j) where
   abbrev among : List ℕ → Option Hit
-  among xs = hit_among r leaf (j - 1) xs (hit_along (view t) left (node_view t leaf).sibling r)
+  among xs = hit_among r leaf (j - 1) xs (first_hit (view t) r ns)
 
   pub hit-here : j < m → recording_of (get_or ps j 0) ≡ r → Some (record { node = leaf; slot = j - 1 }) ≡ h
   unfolding hit_among
   hit-here l e = sym (ap among (numbers-next ps j m l) ∙ rw (eq-eqb (recording_of (get_or ps j 0)) r e, hit_among)) ∙ k.comes-to
 
-  pub hit-next : 1 ≤ j → j < m → (recording_of (get_or ps j 0) ≡ r → ⊥) → Within t r h leaf left m ps (j + 1)
+  pub hit-next : 1 ≤ j → j < m → (recording_of (get_or ps j 0) ≡ r → ⊥) → Within t r h leaf ns m ps (j + 1)
   unfolding hit_among
   hit-next b l e =
       let z : j + 1 - 1 ≡ suc (j - 1) = omega arith in
       record {
         comes-to =
-            ap (λ (c : ℕ). hit_among r leaf c (numbers_from ps (j + 1) (m - (j + 1))) (hit_along (view t) left (node_view t leaf).sibling r)) z
+            ap (λ (c : ℕ). hit_among r leaf c (numbers_from ps (j + 1) (m - (j + 1))) (first_hit (view t) r ns)) z
             ∙ sym (ap among (numbers-next ps j m l) ∙ rw (ne_eqb (recording_of (get_or ps j 0)) r e, hit_among)) ∙ k.comes-to;
       }
 
-  pub hit-leave : (next : ℕ) → m ≤ j → next ≡ word_of t leaf 1 → Ahead t r h next left
+  pub hit-leave : m ≤ j → Ahead t r h ns
   unfolding hit_among
-  hit-leave next l q =
-      record {
-        comes-to = ap (λ (n : ℕ). hit_along (view t) left n r) (q ∙ word-sibling t leaf) ∙ sym (ap among (numbers-end ps j m l)) ∙ k.comes-to;
-      }
+  hit-leave l = record { comes-to = sym (ap among (numbers-end ps j m l)) ∙ k.comes-to }

@@ -2,3 +2,4 @@
 pub mod WaysLaws
 pub mod HitLaws
 pub mod FoundLaws
+pub mod Along

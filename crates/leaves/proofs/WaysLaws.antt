@@ -11,7 +11,7 @@ use Rattle.model.specs.Reached.{kept}
 use Rattle.node.specs.Word.{word_of}
 use Rattle.node.proofs.WordLaws.{word-fence}
 use Rattle.walk_laws.specs.Walk.{ways}
-use Rattle.slots.specs.declared.Ways.{Ways}
+use Rattle.slots.specs.declared.ways.Ways.{Ways}
 use Rattle.slots.specs.Scan.{shown_from, keeps, kept_of}
 use Rattle.slots.specs.Gathered.{slots_in}
 

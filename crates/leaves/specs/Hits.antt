@@ -3,7 +3,7 @@ use Rattle.std.specs.Prelude.{true, false, List, [], ◌∷◌, map, ℕ, zero, 
 use Rattle.model.specs.Slots.{recording_of, recording, View}
 use Rattle.model.specs.Reached.{flat, kept}
 use Rattle.walk_laws.specs.Chain.{along, chain}
-use Rattle.slots.specs.declared.Ways.{Ways}
+use Rattle.slots.specs.declared.ways.Ways.{Ways}
 use Rattle.slots.specs.Gathered.{ways_from}
 use Rattle.leaves.specs.declared.Hit.{Hit}
 

@@ -1,2 +1,3 @@
 -- Where a recording number is.
 pub mod Hits
+pub mod Siblings

@@ -1,7 +1,7 @@
 // The leaves of a tree: the leftmost and the last one, and the finder of a recording number along the siblings.
 #![tactic(auto)]
 
-ghost use Rattle.std.specs.Prelude.{◌≡◌, ◌≤◌};
+ghost use Rattle.std.specs.Prelude.{◌≡◌};
 ghost use Rattle.model.specs.Table.{at};
 ghost use Rattle.model.specs.Slots.{view, view_from};
 ghost use Rattle.walk_laws.specs.Walk.{ways};
@@ -9,19 +9,21 @@ ghost use Rattle.walk_laws.specs.Chain.{leftmost, first_leaf, last_child, last_l
 ghost use Rattle.slots.specs.Gathered.{slots_in};
 ghost use Rattle.leaves.specs.Hits.{hit_along, hit_in};
 
+mod siblings;
+
+pub use siblings::Siblings;
 use slots::Ways;
 
 // A word of the table; 0 past the end.
 pub fn word_at(table: &[u64], w: usize) -> u64
     ensures { result ≡ at table.now w }
 {
-    if w < table.len() { table[w] } else { 0 }
+    table.get(w).copied().unwrap_or(0)
 }
 
 // The ways down from node n.
 pub fn ways_of(table: &[u64], n: u64) -> Ways
-    ensures result_value { slots_in result ≡ ways (view table.now) n }
-    ensures count_bound { result.count ≤ 13 }
+    ensures { slots_in result ≡ ways (view table.now) n }
 {
     let x = node::read(table, n);
     let bound = node::word(table, x.sibling, 3);
@@ -46,7 +48,7 @@ pub fn leftmost(table: &[u64], from: u64, levels: u64) -> u64
     n
 }
 
-// The leftmost leaf: from the root down by left; 0 if the root is too high.
+// The leftmost leaf: from the root down by left; 0 if the root is too high. 0 ends the leaves, as it does in a sibling word.
 pub fn first_leaf(table: &[u64], root: u64) -> u64
     ensures { result ≡ first_leaf (view_from table.now root) }
 {
@@ -83,12 +85,8 @@ pub fn last_leaf(table: &[u64], root: u64) -> u64
 fn find_from(table: &[u64], first: u64, most: u64, recording: u64) -> Option<Hit>
     ensures { result ≡ hit_along (view table.now) most first recording }
 {
-    let mut leaf = first;
     let mut hit = None;
-    'leaves: for _ in 0..most {
-        if leaf == 0 {
-            break;
-        }
+    'leaves: for leaf in Siblings::new(table, first, most) {
         let w = ways_of(table, leaf);
         for i in 1..w.count {
             if pointer::recording(w.pointers[i]) == recording {
@@ -99,7 +97,6 @@ fn find_from(table: &[u64], first: u64, most: u64, recording: u64) -> Option<Hit
                 break 'leaves;
             }
         }
-        leaf = node::word(table, leaf, 1);
     }
     hit
 }

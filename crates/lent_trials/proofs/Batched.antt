@@ -20,7 +20,7 @@ use Rattle.model.proofs.Tables.{table_of, stale, one_level}
 
 -- an answer, word by word
 abbrev pub sums : (stop : rust.Option Refusal) → (taken stores flushes barriers : ℕ) → Batch
-sums stop taken stores flushes barriers = record { stop = stop; taken = taken; stores = stores; flushes = flushes; barriers = barriers }
+sums stop taken stores flushes barriers = record { stop = stop; taken = taken; counts = record { stores = stores; flushes = flushes; barriers = barriers } }
 
 -- three pairs, of three classes, the second below the first; then one whose key is there
 abbrev pub three : List Slot

@@ -36,7 +36,7 @@ filled = list_after enters lent 1 before
 
 -- a batch's answer
 abbrev pub sums : (stop : Option Refusal) → (taken : ℕ) → Batch
-sums stop taken = record { stop = stop; taken = taken; stores = 5; flushes = 6; barriers = 7 }
+sums stop taken = record { stop = stop; taken = taken; counts = record { stores = 5; flushes = 6; barriers = 7 } }
 
 pub record CallWords : Type 0 where
   pub is-version : version ≡ 15

@@ -2,13 +2,13 @@
 use mathlib.Core.Path.{◌≡◌, refl, ap, sym, ◌∙◌}
 use mathlib.Core.Bool.{Bool, true, false, ◌&&◌}
 use mathlib.Core.List.{List, [], ◌∷◌, ◌++◌}
-use Prim.Native.Nat.{ℕ, suc, ◌-◌, ◌≤◌, ◌<◌}
+use Prim.Native.Nat.{ℕ, ◌-◌, ◌≤◌, ◌<◌}
 use native.Mathlib.Omega.{arith}
 use lib.Dec.{leb}
 use lib.ListN.{length, get_or}
 use Rattle.model.specs.declared.Node.{Node}
-use Rattle.model.specs.Table.{Words, in_range, node}
-use Rattle.model.specs.Slots.{Slot, View, node_view, view_from, height, used}
+use Rattle.model.specs.Table.{Words, root, nodes, in_range, node}
+use Rattle.model.specs.Slots.{Slot, View, node_view, view_from, view, height, used}
 use Rattle.model.specs.Search.{below, within, path}
 use Rattle.model.specs.Reached.{filter, flat, head_or, kept, mapping}
 use Rattle.model.specs.SoundTest.{sound_view}
@@ -17,13 +17,14 @@ use Rattle.model.specs.Writes.{standing_in}
 use Rattle.list_laws.proofs.Tools.{decode, refuted, Each, Each-map}
 use Rattle.list_laws.proofs.Filters.{filter-append}
 use Rattle.tree_laws.proofs.Members.{filter-none, UpTo, pigeonhole}
-use Rattle.tree_laws.proofs.Rows.{At, Row, linked-cons, range-iff}
+use Rattle.tree_laws.proofs.Rows.{At, Row}
 use Rattle.tree_laws.proofs.Levels.{Orderly, sound-orderly, level-leaves, ascending, row-tail, row-distinct}
 use Rattle.tree_laws.proofs.Rising.{rising-from}
 use Rattle.tree_laws.proofs.MapLaw.{row-rises, row-rest, leaf-part}
 use Rattle.tree_laws.proofs.SearchLaw.{leaf_for, leaf-mem, leaf-covers, path-leaf}
 use Rattle.walk_laws.specs.Chain.{along}
-use Rattle.walk_laws.proofs.ChainLaw.{along-none, along-more, along-row}
+use Rattle.walk_laws.proofs.AnyRoot.{any-along}
+use Rattle.walk_laws.proofs.ChainLaw.{along-row}
 use Rattle.node.specs.Word.{word_of}
 use Rattle.node.proofs.WordLaws.{word-fence}
 use Rattle.slots.specs.Scan.{shown_from, keeps}
@@ -70,70 +71,45 @@ unfolding in_range
 row-few v d ns r =
     pigeonhole v.nodes ns (row-distinct v ns (ascending v d ns r)) (Each-map (At v d) (UpTo v.nodes) ns (λ n a. simp decode at a.range) r.at)
 
--- the leaves from n on, and their pairs in the range
-abbrev pub onward : View → ℕ → List ℕ
+-- the leaves from n on
+abbrev onward : View → ℕ → List ℕ
 onward v n = along v v.nodes n
 
 onward-row : (v : View) (ns : List ℕ) → Row v 0 ns → onward v (head_or 0 ns) ≡ ns
 onward-row v ns r = along-row v 0 v.nodes ns r.at r.chain (row-few v 0 ns r)
 
-abbrev pairs_from : View → (low high n : ℕ) → List Slot
-pairs_from v low high n = in_range_of low high (flat (kept v) (onward v n))
+-- the pairs of leaves in the range
+abbrev pairs_of : View → (low high : ℕ) → List ℕ → List Slot
+pairs_of v low high ns = in_range_of low high (flat (kept v) ns)
 
-no-leaf : (v : View) (low high n : ℕ) (x : Sheet) → n ≡ 0 → all_taken (pairs_from v low high n) x ≡ x
+no-leaf : (v : View) (low high : ℕ) (x : Sheet) → all_taken (pairs_of v low high []) x ≡ x
 unfolding in_range_of flat filter all_taken
-no-leaf v low high n x z = ap (λ (ns : List ℕ). all_taken (in_range_of low high (flat (kept v) ns)) x) (ap (onward v) z ∙ along-none v v.nodes)
+no-leaf v low high x = refl
 
-module _ (v : View) (n : ℕ) (some : 1 ≤ v.nodes) (z : n ≡ 0 → ⊥) (row : Row v 0 (onward v n)) where
-  onward-cons : onward v n ≡ n ∷ onward v (v.node n).sibling
-  onward-cons =
-      let c = v.nodes - 1 in
-      let more : v.nodes ≡ suc c = omega arith in
-      let ns = along v c (v.node n).sibling in
-      let first : onward v n ≡ n ∷ ns = ap (λ (m : ℕ). along v m n) more ∙ along-more v c n z in
-      let tail : Row v 0 (n ∷ ns) = rw first at row in
-      let next : (v.node n).sibling ≡ head_or 0 ns = ((linked-cons v n ns 0).0 tail.chain).0 in
-      let rest = row-tail v 0 n ns tail in
-      first ∙ ap (λ (ms : List ℕ). n ∷ ms) (sym (ap (onward v) next ∙ onward-row v ns rest))
-
-  row-here : Row v 0 (n ∷ onward v (v.node n).sibling)
-  row-here = rw onward-cons at row
-
-  row-next : Row v 0 (onward v (v.node n).sibling)
-  row-next = row-tail v 0 n (onward v (v.node n).sibling) row-here
-
-  fewer : length (onward v (v.node n).sibling) < length (onward v n)
-  fewer = omega (arith, ap length onward-cons)
-
+module _ (v : View) (n : ℕ) (later : List ℕ) (row : Row v 0 (n ∷ later)) (low high : ℕ) where
   -- past the range
-  range-past : (low high : ℕ) → high < (v.node n).fence → pairs_from v low high n ≡ []
-  range-past low high h =
-      ap (λ (ns : List ℕ). in_range_of low high (flat (kept v) ns)) onward-cons
-      ∙ range-outside low high later
-      (Each-map (λ (s : Slot). (v.node n).fence ≤ s.key) (λ (s : Slot). low ≤ s.key → s.key ≤ high → ⊥) later (λ s f l u. omega arith)
-      (rising-from (v.node n).fence later (row-rises v 0 n (onward v (v.node n).sibling) row-here)))
-    where
-      later : List Slot
-      later = flat (kept v) (n ∷ onward v (v.node n).sibling)
+  range-past : high < (v.node n).fence → pairs_of v low high (n ∷ later) ≡ []
+  range-past h =
+      range-outside low high (flat (kept v) (n ∷ later))
+      (Each-map (λ (s : Slot). (v.node n).fence ≤ s.key) (λ (s : Slot). low ≤ s.key → s.key ≤ high → ⊥) (flat (kept v) (n ∷ later)) (λ s f l u. omega arith)
+      (rising-from (v.node n).fence (flat (kept v) (n ∷ later)) (row-rises v 0 n later row)))
 
   -- one leaf more
-  next-leaf : (low high : ℕ) (x : Sheet) → all_taken (pairs_from v low high (v.node n).sibling) (all_taken (in_range_of low high (kept v n)) x) ≡ all_taken (pairs_from v low high n) x
+  next-leaf : (x : Sheet) → all_taken (pairs_of v low high later) (all_taken (in_range_of low high (kept v n)) x) ≡ all_taken (pairs_of v low high (n ∷ later)) x
   unfolding flat
-  next-leaf low high x =
-      let ns = onward v (v.node n).sibling in
-      sym (ap (λ (ns : List ℕ). all_taken (in_range_of low high (flat (kept v) ns)) x) onward-cons
-      ∙ ap (λ (ss : List Slot). all_taken ss x) (range-append low high (kept v n) (flat (kept v) ns))
-      ∙ taken-append (in_range_of low high (kept v n)) (in_range_of low high (flat (kept v) ns)) x)
+  next-leaf x =
+      sym (ap (λ (ss : List Slot). all_taken ss x) (range-append low high (kept v n) (flat (kept v) later))
+      ∙ taken-append (in_range_of low high (kept v n)) (in_range_of low high (flat (kept v) later)) x)
 
 -- ---- in a sound tree
 
--- what is ahead at leaf n: a row of leaves, and the end that taking their pairs comes to
-pub record Ahead (v : View) (low high n : ℕ) (x end : Sheet) : Type 0 where
-  pub row : Row v 0 (onward v n)
-  pub rest : all_taken (pairs_from v low high n) x ≡ end
+-- what is ahead: a row of leaves, and the end that taking their pairs comes to
+pub record Ahead (v : View) (low high : ℕ) (ns : List ℕ) (x end : Sheet) : Type 0 where
+  pub row : Row v 0 ns
+  pub rest : all_taken (pairs_of v low high ns) x ≡ end
 
 -- the leaves before the one for the lowest key have no pair of the range
-ahead-from : (v : View) (low high : ℕ) (x : Sheet) → Orderly v → Ahead v low high (leaf_for v low) x (all_taken (in_range_of low high (mapping v)) x)
+ahead-from : (v : View) (low high : ℕ) (x : Sheet) → Orderly v → Ahead v low high (onward v (leaf_for v low)) x (all_taken (in_range_of low high (mapping v)) x)
 unfolding flat
 ahead-from v low high x o =
     let n = leaf_for v low in
@@ -147,44 +123,42 @@ ahead-from v low high x o =
     let whole : in_range_of low high (mapping v) ≡ in_range_of low high later = ap (in_range_of low high) p.parts ∙ range-append low high earlier later ∙ ap (λ (ss : List Slot). ss ++ in_range_of low high later) none in
     record { row = rw last row; rest = rw (last, whole) }
 
-pub ahead-end : (v : View) (low high n : ℕ) (x end : Sheet) → Ahead v low high n x end → n ≡ 0 → x ≡ end
-ahead-end v low high n x end a z = sym (no-leaf v low high n x z) ∙ a.rest
+pub ahead-end : (v : View) (low high : ℕ) (ns : List ℕ) (x end : Sheet) → Ahead v low high ns x end → ns ≡ [] → x ≡ end
+ahead-end v low high ns x end a z = sym (ap (λ (ms : List ℕ). all_taken (pairs_of v low high ms) x) z ∙ no-leaf v low high x) ∙ a.rest
 
-module _ (t : Words) (r low high n : ℕ) (x end : Sheet) (h : sound_view (view_from t r) ≡ true) where
+module _ (t : Words) (r low high : ℕ) (ns : List ℕ) (x end : Sheet) (h : sound_view (view_from t r) ≡ true) where
   abbrev v : View
   v = view_from t r
 
   ordered : Orderly v
   ordered = sound-orderly v h
 
-  some-node : 1 ≤ v.nodes
-  some-node = let u = (range-iff v.nodes r).0 ordered.top.range in omega arith
-
-  pub ahead-first : n ≡ standing_in v 0 low → Ahead v low high n x (all_taken (in_range_of low high (mapping v)) x)
+  pub ahead-first : (n c : ℕ) → n ≡ standing_in v 0 low → c ≡ nodes t → ns ≡ along (view t) c n → Ahead v low high ns x (all_taken (in_range_of low high (mapping v)) x)
   unfolding standing_in
-  ahead-first e =
+  ahead-first n c e f q =
       let o = ordered in
       let top : height v - 0 ≡ height v = omega arith in
       let here : n ≡ leaf_for v low = e ∙ ap (λ (i : ℕ). get_or (path v low) i 0) top ∙ path-leaf v low o in
-      rw here (ahead-from v low high x o)
+      let whole : ns ≡ onward v (leaf_for v low) = q ∙ any-along t (root t) r c n ∙ ap (λ (k : ℕ). along v k n) f ∙ ap (onward v) here in
+      rw whole (ahead-from v low high x o)
 
   -- from the record m of leaf n that the code has read
-  module _ (m : Node) (q : m ≡ node t n) (z : n ≡ 0 → ⊥) (a : Ahead v low high n x end) where
+  module _ (m : Node) (n : ℕ) (later : List ℕ) (q : m ≡ node t n) (z : ns ≡ n ∷ later) (a : Ahead v low high ns x end) where
+    row : Row v 0 (n ∷ later)
+    row = rw z at a.row
+
     pub ahead-past : high < m.fence → x ≡ end
     unfolding all_taken
     ahead-past f =
         let f : high < (node_view t n).fence = rw q at f in
-        sym (ap (λ (ss : List Slot). all_taken ss x) (range-past v n some-node z a.row low high f)) ∙ a.rest
-
-    next : m.sibling ≡ (node_view t n).sibling
-    next = ap (λ (k : Node). k.sibling) q
-
-    pub ahead-fewer : length (onward v m.sibling) < length (onward v n)
-    ahead-fewer = rw next (fewer v n some-node z a.row)
+        sym (ap (λ (ms : List ℕ). all_taken (pairs_of v low high ms) x) z ∙ ap (λ (ss : List Slot). all_taken ss x) (range-past v n later row low high f)) ∙ a.rest
 
     pub ahead-next : (b : ℕ) (y : Sheet) → b ≡ word_of t m.sibling 3
         → y ≡ all_taken (wanted (record { low = low; high = high; sibling = m.sibling; bound = b }) (shown_from m.left m.slots 0)) x
-        → Ahead v low high m.sibling y end
+        → Ahead v low high later y end
     ahead-next b y e w =
         let here : y ≡ all_taken (in_range_of low high (kept v n)) x = w ∙ ap (λ (ss : List Slot). all_taken ss x) (leaf-pairs t r low high n m b q e) in
-        rw (next, here) (record { row = row-next v n some-node z a.row; rest = next-leaf v n some-node z a.row low high x ∙ a.rest })
+        record {
+          row = row-tail v 0 n later row;
+          rest = ap (all_taken (pairs_of v low high later)) here ∙ next-leaf v n later row low high x ∙ sym (ap (λ (ms : List ℕ). all_taken (pairs_of v low high ms) x) z) ∙ a.rest;
+        }

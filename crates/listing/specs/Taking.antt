@@ -1,7 +1,7 @@
 -- A listing pair by pair: each is written while whole pairs fit, and the first that does not fit is noted.
-use Rattle.std.specs.Prelude.{Bool, true, false, cond, not, ◌&&◌, List, [], ◌∷◌, ℕ, ◌+◌, ◌*◌, ◌/◌, leb, eqb, length, set}
+use Rattle.std.specs.Prelude.{Bool, true, false, cond, ◌&&◌, List, [], ◌∷◌, ℕ, ◌+◌, ◌*◌, ◌/◌, leb, length, set}
 use Rattle.model.specs.Table.{Words}
-use Rattle.model.specs.Slots.{Slot, slot}
+use Rattle.model.specs.Slots.{Slot}
 use Rattle.model.specs.Reached.{filter}
 use Rattle.slots.specs.Scan.{keeps}
 use Rattle.listing.specs.declared.Progress.{Progress}
@@ -43,7 +43,3 @@ wants w k = keeps w.sibling w.bound k && (leb w.low k && leb k w.high)
 
 unfoldable pub wanted : Window → List Slot → List Slot
 wanted w ss = filter (λ (s : Slot). wants w s.key) ss
-
--- a slot (k, p) in use more, with the pointer before it
-unfoldable pub slot_taken : Window → (before k p : ℕ) → Sheet → Sheet
-slot_taken w before k p x = cond (not (eqb p before) && wants w k) (taken (slot k p) x) x

@@ -7,11 +7,13 @@ ghost use Rattle.model.specs.Reached.{mapping};
 ghost use Rattle.model.specs.SoundTest.{sound_view};
 ghost use Rattle.model.specs.Listing.{in_range_of, list, list_out};
 ghost use Rattle.slots.specs.Scan.{shown_from};
-ghost use Rattle.listing.specs.Taking.{sheet, begun, taken, all_taken, wants, wanted, slot_taken};
+ghost use Rattle.listing.specs.Taking.{sheet, begun, taken, all_taken, wants, wanted};
 
+use leaves::Siblings;
 use model::{Listed, Node, Page, Refusal};
+use slots::Shown;
 
-// How far a listing has come: the pairs written, and whether one was left that did not fit.
+// How far a listing has come: the pairs written, and whether one was left that did not fit. Both are what a page hands on: the flag is data.
 #[derive(Clone, Copy)]
 struct Progress {
     count: usize,
@@ -52,39 +54,15 @@ fn take_pair(out: &mut [u64], p: Progress, key: u64, pointer: u64) -> Progress
     }
 }
 
-// One slot in use more, where before is the pointer before it: a shown slot in the window is taken.
-#[tactic(auto, unfolding(crate::specs::Taking::slot_taken))]
-fn take_slot(
-    out: &mut [u64],
-    p: Progress,
-    w: Window,
-    before: u64,
-    key: u64,
-    pointer: u64,
-) -> Progress
-    ensures { sheet out.new result ≡ slot_taken w before key pointer (sheet out.old p) }
-{
-    if pointer != before && wants(w, key) {
-        take_pair(out, p, key, pointer)
-    } else {
-        p
-    }
-}
-
-// The slots of one leaf in turn.
+// The shown slots of one leaf in turn: those in the window are taken.
 fn list_leaf(out: &mut [u64], start: Progress, x: Node, w: Window) -> Progress
     ensures { sheet out.new result ≡ all_taken (wanted w (shown_from x.left x.slots 0)) (sheet out.old start) }
 {
-    let slots = x.slots;
     let mut p = start;
-    let mut before = x.left;
-    for i in 0..12 {
-        let pointer = slots[2 * i + 1];
-        if pointer == 0 {
-            return p;
+    for (key, pointer) in Shown::new(&x.slots, x.left) {
+        if wants(w, key) {
+            p = take_pair(out, p, key, pointer);
         }
-        p = take_slot(out, p, w, before, slots[2 * i], pointer);
-        before = pointer;
     }
     p
 }
@@ -99,9 +77,8 @@ fn list_leaves(table: &[u64], root: u64, low: u64, high: u64, out: &mut [u64]) -
         count: 0,
         more: false,
     };
-    let mut leaf = reach::standing(table, root, 0, low);
-    // Along the siblings: their number is not known before.
-    while leaf != 0 {
+    let first = reach::standing(table, root, 0, low);
+    for leaf in Siblings::new(table, first, leaves::word_at(table, 2)) {
         if p.more {
             return p;
         }
@@ -116,7 +93,6 @@ fn list_leaves(table: &[u64], root: u64, low: u64, high: u64, out: &mut [u64]) -
             bound: node::word(table, x.sibling, 3),
         };
         p = list_leaf(out, p, x, w);
-        leaf = x.sibling;
     }
     p
 }

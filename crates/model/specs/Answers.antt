@@ -57,9 +57,9 @@ pub record Summed (x : Batch) (number taken taken' stop stop' stores stores' flu
   pub number-is : number ≡ cond (puts x) 0 (stop_number x.stop)
   pub taken-are : taken' ≡ cond (puts x) x.taken taken
   pub stop-is : stop' ≡ cond (puts x) (stop_number x.stop) stop
-  pub stores-are : stores' ≡ cond (puts x) x.stores stores
-  pub flushes-are : flushes' ≡ cond (puts x) x.flushes flushes
-  pub barriers-are : barriers' ≡ cond (puts x) x.barriers barriers
+  pub stores-are : stores' ≡ cond (puts x) x.counts.stores stores
+  pub flushes-are : flushes' ≡ cond (puts x) x.counts.flushes flushes
+  pub barriers-are : barriers' ≡ cond (puts x) x.counts.barriers barriers
 
 -- many insertions into collection n
 pub record WroteMany (n : ℕ) (pairs : Words) (number : ℕ) (t t' lent lent' : Words)

@@ -1,7 +1,9 @@
 -- Scale 2: many insertions in one call, the fold of the single call: the pairs in the order given, one order list for all.
 use Rattle.std.specs.Prelude.{List, [], ◌∷◌, ◌++◌, ℕ, ◌+◌, ◌*◌, length, take, drop, Option, Some, None, Ok, Err}
 use Rattle.model.specs.declared.Refusal.{Refusal}
+use Rattle.model.specs.declared.Counts.{Counts}
 use Rattle.model.specs.declared.Batch.{Batch}
+use Rattle.model.specs.Results.{no_counts, counts_sum, orders_counted}
 use Rattle.model.specs.Table.{Words}
 use Rattle.model.specs.Slots.{Slot, recording, class}
 use Rattle.model.specs.Writes.{Call, insertion}
@@ -19,14 +21,14 @@ pub record Batched : Type 0 where
 
 -- it stops with a refusal before its first pair, and nothing changes; none: there is no pair
 abbrev pub stopped : Option Refusal → (list t : Words) → Batched
-stopped r list t = record { answer = record { stop = r; taken = 0; stores = 0; flushes = 0; barriers = 0 }; table = t; list = list }
+stopped r list t = record { answer = record { stop = r; taken = 0; counts = no_counts }; table = t; list = list }
 
--- what comes behind i pairs, which made so many stores, flushes and barriers and filled the front of the list
-abbrev pub behind : (i a b c : ℕ) → (front : Words) → Batched → Batched
-behind i a b c front r =
+-- what comes behind i pairs, whose orders have these counts and filled the front of the list
+abbrev pub behind : (i : ℕ) → Counts → (front : Words) → Batched → Batched
+behind i w front r =
     let x = r.answer in
     record {
-      answer = record { stop = x.stop; taken = i + x.taken; stores = a + x.stores; flushes = b + x.flushes; barriers = c + x.barriers };
+      answer = record { stop = x.stop; taken = i + x.taken; counts = counts_sum w x.counts };
       table = r.table;
       list = front ++ r.list;
     }
@@ -40,7 +42,7 @@ batch n dock (s ∷ ss) list t =
     let later = list_after x list dock t in
     elim (written x (length list) dock t) [
       | Ok w ↦
-          let filled = 2 * (w.stores + w.flushes + w.barriers) in
-          behind 1 w.stores w.flushes w.barriers (take filled later) (batch n dock ss (drop filled later) (table_after x (length list) dock t))
+          let filled = 2 * orders_counted w in
+          behind 1 w (take filled later) (batch n dock ss (drop filled later) (table_after x (length list) dock t))
       | Err r ↦ stopped (Some r) list t
     ]

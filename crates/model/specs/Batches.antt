@@ -1,8 +1,9 @@
 -- Scale 2: a batch in a history. Whole or cut, it is the insertions of its first pairs one after another, at most the last of them cut, fed
 -- onto the history before it; so demand 3 holds of histories with batches.
-use Rattle.std.specs.Prelude.{◌≡◌, ◌≢◌, Bool, false, List, [], ◌∷◌, ◌++◌, map, ℕ, ◌+◌, ◌-◌, ◌*◌, ◌≤◌, length, take, drop}
+use Rattle.std.specs.Prelude.{◌≡◌, ◌≢◌, Bool, false, List, [], ◌∷◌, ◌++◌, map, ℕ, ◌-◌, ◌*◌, ◌≤◌, length, take, drop}
 use Rattle.std.proofs.Math.Option.{none}
 use Rattle.model.specs.Numbers.{stop_number}
+use Rattle.model.specs.Results.{orders_counted}
 use Rattle.model.specs.Table.{Words, nodes}
 use Rattle.model.specs.Slots.{Slot, recording, class}
 use Rattle.model.specs.Reached.{maps_of}
@@ -18,7 +19,7 @@ use Rattle.model.specs.Batch.{Batched, batch}
 
 -- how many orders it answered; all its orders: as many of the lent list
 abbrev pub batch_answered : Batched → ℕ
-batch_answered r = r.answer.stores + r.answer.flushes + r.answer.barriers
+batch_answered r = orders_counted r.answer.counts
 
 abbrev pub batch_orders : Batched → List Order
 batch_orders r = take (batch_answered r) (decode r.list)
@@ -104,9 +105,9 @@ pub record RightBatch (s : State) (n : ℕ) (ss : List Slot) (list : Words) (r :
   -- its orders stand in front of the list; the words after them stay
   pub list-is : r.list ≡ list_with (batch_orders r) list
   -- the sums are the list's counts
-  pub stores-are : r.answer.stores ≡ store_count (batch_orders r)
-  pub flushes-are : r.answer.flushes ≡ flush_count (batch_orders r)
-  pub barriers-are : r.answer.barriers ≡ barrier_count (batch_orders r)
+  pub stores-are : r.answer.counts.stores ≡ store_count (batch_orders r)
+  pub flushes-are : r.answer.counts.flushes ≡ flush_count (batch_orders r)
+  pub barriers-are : r.answer.counts.barriers ≡ barrier_count (batch_orders r)
   -- the carry-out of the list with the answered sums is not refused, and gives its table
   pub carries : carry_number (batch_answered r) r.list s.memory ≡ 0
   pub gives : carried_out (batch_answered r) r.list s.memory ≡ r.table

@@ -12,6 +12,7 @@ pub mod SoundTest
 pub mod Sound
 pub mod Listing
 pub mod Orders
+pub mod ListedOrders
 pub mod Cuts
 pub mod Shifts
 pub mod Writes

@@ -1,5 +1,6 @@
 -- Scale 3: many insertions in one call with a summary, the fold of the quick call as Batch.antt is of the plain one.
-use Rattle.std.specs.Prelude.{List, [], ◌∷◌, ℕ, ◌+◌, ◌*◌, length, take, drop, Some, None, Ok, Err}
+use Rattle.std.specs.Prelude.{List, [], ◌∷◌, ℕ, ◌*◌, length, take, drop, Some, None, Ok, Err}
+use Rattle.model.specs.Results.{orders_counted}
 use Rattle.model.specs.Table.{Words}
 use Rattle.model.specs.Slots.{Slot}
 use Rattle.model.specs.Batch.{insertion_of, Batched, stopped, behind}
@@ -22,9 +23,9 @@ quick_batch n dock (s ∷ ss) list ws t =
     let later = quick_list x list dock ws t in
     elim (quick_written x (length list) dock ws t) [
       | Ok w ↦
-          let filled = 2 * (w.stores + w.flushes + w.barriers) in
+          let filled = 2 * orders_counted w in
           let next = drop filled later in
           let r = quick_batch n dock ss next (quick_summary x (length list) dock ws t) (quick_table x (length list) dock ws t) in
-          quick_batched (behind 1 w.stores w.flushes w.barriers (take filled later) r.batched) r.summary
+          quick_batched (behind 1 w (take filled later) r.batched) r.summary
       | Err r ↦ quick_batched (stopped (Some r) list t) ws
     ]

@@ -1,6 +1,6 @@
 -- Document 01, "What refuses, and with which number": for each writing call, the numbers in their order; and what a call answers.
 use Rattle.std.specs.Prelude.{Bool, false, cond, not, ◌&&◌, ◌||◌, List, [], ◌∷◌, ℕ, zero, suc, ◌+◌, eqb, ltb, length, Ok, Err}
-use Rattle.model.specs.Results.{Written, refused_with, done_with}
+use Rattle.model.specs.Results.{Written, refused_with, done_with, orders_counted}
 use Rattle.model.specs.Table.{Words, header_ok, no_collection}
 use Rattle.model.specs.Slots.{Slot, recording, recording_ok, class_ok, view_of, height}
 use Rattle.model.specs.Reached.{map_of}
@@ -118,7 +118,7 @@ list_after x lent dock t = unless_refused (refusal x (length lent) dock t) (list
 
 -- the orders that an accepted call answered
 abbrev pub orders_answered : Written → ℕ
-orders_answered (Ok w) = w.stores + w.flushes + w.barriers
+orders_answered (Ok w) = orders_counted w
 orders_answered (Err r) = 0
 
 -- the three counts that lent words then hold; they stay where there is none

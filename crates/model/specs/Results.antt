@@ -1,5 +1,5 @@
 -- What the calls answer: what a call that does its work has to say, or why it refuses.
-use Rattle.std.specs.Prelude.{Bool, List, ℕ, zero, suc, Option, Result, Ok, Err}
+use Rattle.std.specs.Prelude.{Bool, List, ℕ, zero, suc, ◌+◌, ◌^◌, ◌<◌, Option, Result, Ok, Err}
 use Rattle.model.specs.declared.Refusal.{Refusal}
 use Rattle.model.specs.declared.Counts.{Counts}
 use Rattle.model.specs.declared.Page.{Page}
@@ -47,6 +47,23 @@ passed (suc n) = refused_with (suc n)
 -- work that was done, by its numbers
 abbrev pub done_with : (stores flushes barriers : ℕ) → Written
 done_with s f b = Ok (record { stores = s; flushes = f; barriers = b })
+
+-- the counts of a list with those of what follows it; where each of the sums fits its word
+abbrev pub counts_sum : Counts → Counts → Counts
+counts_sum a b = record { stores = a.stores + b.stores; flushes = a.flushes + b.flushes; barriers = a.barriers + b.barriers }
+
+pub record CountsFit (a b : Counts) : Type 0 where
+  pub stores : a.stores + b.stores < 2 ^ 64
+  pub flushes : a.flushes + b.flushes < 2 ^ 64
+  pub barriers : a.barriers + b.barriers < 2 ^ 64
+
+-- those of no orders
+abbrev pub no_counts : Counts
+no_counts = record { stores = 0; flushes = 0; barriers = 0 }
+
+-- how many orders they count
+abbrev pub orders_counted : Counts → ℕ
+orders_counted a = a.stores + a.flushes + a.barriers
 
 abbrev pub page_with : (count : ℕ) → (more : Bool) → Listed
 page_with n m = Ok (record { count = n; more = m })

@@ -5,8 +5,7 @@ use Rattle.std.specs.Prelude.{Bool, true, false, cond, not, ◌&&◌, ◌||◌, 
 use Rattle.std.proofs.Math.Option.{Option, none, some}
 use Rattle.model.specs.declared.Few.{Few}
 use Rattle.model.specs.declared.Few.TheVariants.{Zero, One, Many}
-use Rattle.model.specs.declared.Missing.{Missing}
-use Rattle.model.specs.declared.Missing.TheVariants.{Nowhere, Under, Several}
+use Rattle.model.specs.declared.MissingSlot.{MissingSlot}
 use Rattle.model.specs.declared.Unfinished.{Unfinished}
 unfoldable pub use Rattle.model.specs.Lists.{all}
 use Rattle.model.specs.Table.{MARK, Words, in_range, header_ok}
@@ -88,25 +87,18 @@ orderly v = root_ok v && (all (node_ok v) (reached v) && (distinct (reached v) &
 -- ---- what is unfinished
 
 abbrev pub finished : Unfinished
-finished = record { hidden = Zero; trailing = Zero; missing = Nowhere }
+finished = record { hidden = Zero; trailing = Zero; missing = Zero }
 
-abbrev pub add_few : Few → Few → Few
+abbrev pub add_few : {A : Type 0} → Few A → Few A → Few A
 add_few Zero y = y
 add_few (One x) Zero = One x
 add_few (One x) (One y) = Many
 add_few (One x) Many = Many
 add_few Many y = Many
 
-abbrev pub add_missing : Missing → Missing → Missing
-add_missing Nowhere y = y
-add_missing (Under p a) Nowhere = Under p a
-add_missing (Under p a) (Under q b) = Several
-add_missing (Under p a) Several = Several
-add_missing Several y = Several
-
 abbrev pub together : Unfinished → Unfinished → Unfinished
 together x y =
-    record { hidden = add_few x.hidden y.hidden; trailing = add_few x.trailing y.trailing; missing = add_missing x.missing y.missing }
+    record { hidden = add_few x.hidden y.hidden; trailing = add_few x.trailing y.trailing; missing = add_few x.missing y.missing }
 
 -- a sum over a list
 abbrev pub total {ℓ} : {A : Type ℓ} {M : Type 0} → M → (M → M → M) → (A → M) → List A → M
@@ -114,20 +106,23 @@ total z op g [] = z
 total z op g (x ∷ xs) = op (g x) (total z op g xs)
 
 -- node n, so many times
-abbrev pub times : ℕ → ℕ → Few
+abbrev pub times : ℕ → ℕ → Few ℕ
 times n zero = Zero
 times n (suc zero) = One n
 times n (suc (suc k)) = Many
 
-unfoldable pub trailing_in : View → ℕ → Few
+unfoldable pub trailing_in : View → ℕ → Few ℕ
 trailing_in v n = elim (eqb (length (kept v n)) (length (v.node n).shown)) [ true ↦ Zero | false ↦ One n ]
 
 -- in node n itself
 unfoldable pub own : View → ℕ → Unfinished
-own v n = record { hidden = times n (v.node n).hidden; trailing = trailing_in v n; missing = Nowhere }
+own v n = record { hidden = times n (v.node n).hidden; trailing = trailing_in v n; missing = Zero }
+
+abbrev pub under : (p a : ℕ) → MissingSlot
+under p a = record { parent = p; node = a }
 
 abbrev pub missing_at : ℕ → ℕ → Unfinished
-missing_at p a = record { hidden = Zero; trailing = Zero; missing = Under p a }
+missing_at p a = record { hidden = Zero; trailing = Zero; missing = One (under p a) }
 
 -- in the row that p names, which e follows: a node whose sibling the row lacks
 module _ (v : View) (p : ℕ) where
@@ -154,17 +149,17 @@ pub data Leftover : Type 0 where
   both_in : (p a : ℕ) → Leftover
 
 -- the leftover that what is unfinished amounts to, if it is one of these
-abbrev pub leftover_from : Few → Few → Missing → Option Leftover
-leftover_from Zero Zero Nowhere = some nothing
-leftover_from Zero Zero (Under p a) = some (missing_in p a false)
-leftover_from Zero Zero Several = none
-leftover_from Zero (One x) Nowhere = none
-leftover_from Zero (One x) (Under p a) = cond (eqb x a) (some (missing_in p a true)) none
-leftover_from Zero (One x) Several = none
+abbrev pub leftover_from : Few ℕ → Few ℕ → Few MissingSlot → Option Leftover
+leftover_from Zero Zero Zero = some nothing
+leftover_from Zero Zero (One m) = some (missing_in m.parent m.node false)
+leftover_from Zero Zero Many = none
+leftover_from Zero (One x) Zero = none
+leftover_from Zero (One x) (One m) = cond (eqb x m.node) (some (missing_in m.parent m.node true)) none
+leftover_from Zero (One x) Many = none
 leftover_from Zero Many m = none
-leftover_from (One q) Zero Nowhere = some (hidden_in q)
-leftover_from (One q) Zero (Under p a) = cond (eqb q p) (some (both_in p a)) none
-leftover_from (One q) Zero Several = none
+leftover_from (One q) Zero Zero = some (hidden_in q)
+leftover_from (One q) Zero (One m) = cond (eqb q m.parent) (some (both_in m.parent m.node)) none
+leftover_from (One q) Zero Many = none
 leftover_from (One q) (One x) m = none
 leftover_from (One q) Many m = none
 leftover_from Many y m = none

@@ -3,11 +3,37 @@
 
 ghost use Rattle.std.specs.Prelude.{◌≡◌};
 
+use std::ops::Add;
+
 // The largest word (document 01's MARK): left of a leaf, and a flush in an order list.
 pub const MARK: u64 = 18446744073709551615;
 
 // The first word of a barrier in an order list; its second is 0.
 pub const BAR: u64 = 18446744073709551614;
+
+// An order of a list, as its two words say: a store's word and value, a flush's line, or a barrier.
+#[derive(Clone, Copy, PartialEq, Eq)]
+pub enum ListedOrder {
+    Store { word: u64, value: u64 },
+    Flush { line: u64 },
+    Barrier,
+}
+
+impl From<(u64, u64)> for ListedOrder {
+    ghost use Rattle.model.specs.Orders.{order_of};
+    ghost use Rattle.model.specs.ListedOrders.{meant};
+
+    ghost from_gives = { λ words order. meant order ≡ order_of words.0 words.1 };
+
+    // Each two words are one of the three: what is no flush and no barrier is a store.
+    fn from(words: (u64, u64)) -> ListedOrder {
+        match words {
+            (MARK, line) => ListedOrder::Flush { line },
+            (BAR, 0) => ListedOrder::Barrier,
+            (word, value) => ListedOrder::Store { word, value },
+        }
+    }
+}
 
 // A node by value (document 01's record): its header words, and its 12 slots as key word, pointer word, key word, ..
 #[derive(Clone, Copy)]
@@ -19,35 +45,35 @@ pub struct Node {
     pub slots: [u64; 24],
 }
 
-// Why a call refuses, in the order of the numbers. include/catalogue.h lists those that C's calls answer, with what each means; OtherSummary
-// refuses a summary, which no C call takes.
+// Why a call refuses, and its number: document 01's, then the requests', and our own from 25 on. No refusal has number 12. include/catalogue.h
+// lists those that C's calls answer, with what each means; OtherSummary refuses a summary, which no C call takes.
 #[derive(Clone, Copy, PartialEq, Eq)]
 pub enum Refusal {
-    NoCode,
-    NoTable,
-    SearchLost,
-    NotSound,
-    ShortList,
-    BadRecording,
-    KeyPresent,
-    RecordingPresent,
-    KeyAbsent,
-    NoNodes,
-    TooHigh,
-    BadOrders,
-    BadClass,
-    OtherLength,
-    ShortReport,
-    NoCollection,
-    NoDock,
-    OtherSentinels,
-    NotSettled,
-    ChangeRefused,
-    NoScript,
-    BadScript,
-    ShortFigures,
-    BadPairs,
-    OtherSummary,
+    NoCode = 1,
+    NoTable = 2,
+    SearchLost = 3,
+    NotSound = 4,
+    ShortList = 5,
+    BadRecording = 6,
+    KeyPresent = 7,
+    RecordingPresent = 8,
+    KeyAbsent = 9,
+    NoNodes = 10,
+    TooHigh = 11,
+    BadOrders = 13,
+    BadClass = 14,
+    OtherLength = 15,
+    ShortReport = 16,
+    NoCollection = 17,
+    NoDock = 18,
+    OtherSentinels = 19,
+    NotSettled = 20,
+    ChangeRefused = 21,
+    NoScript = 22,
+    BadScript = 23,
+    ShortFigures = 24,
+    BadPairs = 25,
+    OtherSummary = 26,
 }
 
 impl From<Refusal> for u8 {
@@ -55,35 +81,8 @@ impl From<Refusal> for u8 {
 
     ghost from_gives = { λ r n. n ≡ refusal_number r };
 
-    // Document 01's numbers, then the requests', and our own from 25 on. No refusal has number 12.
     fn from(refusal: Refusal) -> u8 {
-        match refusal {
-            Refusal::NoCode => 1,
-            Refusal::NoTable => 2,
-            Refusal::SearchLost => 3,
-            Refusal::NotSound => 4,
-            Refusal::ShortList => 5,
-            Refusal::BadRecording => 6,
-            Refusal::KeyPresent => 7,
-            Refusal::RecordingPresent => 8,
-            Refusal::KeyAbsent => 9,
-            Refusal::NoNodes => 10,
-            Refusal::TooHigh => 11,
-            Refusal::BadOrders => 13,
-            Refusal::BadClass => 14,
-            Refusal::OtherLength => 15,
-            Refusal::ShortReport => 16,
-            Refusal::NoCollection => 17,
-            Refusal::NoDock => 18,
-            Refusal::OtherSentinels => 19,
-            Refusal::NotSettled => 20,
-            Refusal::ChangeRefused => 21,
-            Refusal::NoScript => 22,
-            Refusal::BadScript => 23,
-            Refusal::ShortFigures => 24,
-            Refusal::BadPairs => 25,
-            Refusal::OtherSummary => 26,
-        }
+        refusal as u8
     }
 }
 
@@ -125,11 +124,30 @@ pub type Listed = Result<Page, Refusal>;
 pub type Outcome = Result<(), Refusal>;
 
 // What a write answers: how many stores, flushes and barriers its order list has.
-#[derive(Clone, Copy)]
+#[derive(Clone, Copy, Default)]
 pub struct Counts {
     pub stores: u64,
     pub flushes: u64,
     pub barriers: u64,
+}
+
+// The counts of a list with those of what follows it.
+impl Add for Counts {
+    type Output = Counts;
+
+    ghost use Rattle.model.specs.Results.{CountsFit, counts_sum};
+
+    ghost can_add = { CountsFit };
+
+    ghost add_gives = { λ a b r. r ≡ counts_sum a b };
+
+    fn add(self, rhs: Counts) -> Counts {
+        Counts {
+            stores: self.stores + rhs.stores,
+            flushes: self.flushes + rhs.flushes,
+            barriers: self.barriers + rhs.barriers,
+        }
+    }
 }
 
 pub type Written = Result<Counts, Refusal>;
@@ -152,29 +170,28 @@ pub struct Figures {
 
 pub type Worn = Result<Figures, Refusal>;
 
-// Nodes with something unfinished: none, one (which), or more than one.
+// How many nodes have something unfinished: none, one (what is known of it), or more than one.
 #[derive(Clone, Copy)]
-pub enum Few {
+pub enum Few<T> {
     Zero,
-    One(u64),
+    One(T),
     Many,
 }
 
-// Nodes whose sibling lacks its slot in the parent: none, one (the parent, and the node), or more than one.
+// A node whose sibling lacks its slot in the parent.
 #[derive(Clone, Copy)]
-pub enum Missing {
-    Nowhere,
-    Under { parent: u64, node: u64 },
-    Several,
+pub struct MissingSlot {
+    pub parent: u64,
+    pub node: u64,
 }
 
 // What a settled table has none of: hidden slots, each counted at its node; nodes that still show slots from their sibling's
 // fence up; nodes whose sibling lacks its slot in the parent.
 #[derive(Clone, Copy)]
 pub struct Unfinished {
-    pub hidden: Few,
-    pub trailing: Few,
-    pub missing: Missing,
+    pub hidden: Few<u64>,
+    pub trailing: Few<u64>,
+    pub missing: Few<MissingSlot>,
 }
 
 // How many nodes the check of a tree visited, from the root down, and what is unfinished in them. It answers this if none was unsound.
@@ -187,13 +204,11 @@ pub struct Visited {
 // What is answered if a script's number is asked for.
 pub type Ranked = Result<u64, Refusal>;
 
-// What many insertions in one call answer: the refusal that stopped it, none if all pairs were taken; how many pairs were taken, and how many
-// stores, flushes and barriers the order list has.
+// What many insertions in one call answer: the refusal that stopped it, none if all pairs were taken; how many pairs were taken, and what the
+// order list has of all of them.
 #[derive(Clone, Copy)]
 pub struct Batch {
     pub stop: Option<Refusal>,
     pub taken: u64,
-    pub stores: u64,
-    pub flushes: u64,
-    pub barriers: u64,
+    pub counts: Counts,
 }

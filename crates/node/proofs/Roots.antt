@@ -9,7 +9,7 @@ use borrow.Author.Tests.{ne_eqb, le-leb}
 use Rattle.std.specs.Prelude.{Result, Ok, Err}
 use Rattle.model.specs.declared.Refusal.{Refusal}
 use Rattle.model.specs.Results.{refused_with}
-use Rattle.model.specs.Table.{Words, at, header_ok, header_number, root_word, no_collection}
+use Rattle.model.specs.Table.{Words, at, in_range, header_ok, header_number, root_word, no_collection}
 use Rattle.model.proofs.Numbers.{done-ok, done-err}
 use Rattle.list_laws.proofs.Tools.{decode, refuted, same-or-not}
 use Rattle.table_laws.proofs.Header.{HeaderFacts, header-iff, header-number-iff, header-number-refused}
@@ -31,6 +31,16 @@ fits-not n s e f = go (same-or-not s 0)
     go : (s ≡ 0) ⊎ (s ≢ 0) → ⊥
     go (inl z) = false≢true (e ∙ rw z)
     go (inr z) = let u = f z in false≢true (e ∙ rw (ne_eqb s 0 z, le-leb s n u.0, le-leb 2 n u.1))
+
+-- ---- what the test of a node number says
+
+pub range-yes : (n i : ℕ) → in_range n i ≡ true → (1 ≤ i) × (i ≤ n)
+unfolding in_range
+range-yes n i e = simp decode at e
+
+pub range-not : (n i : ℕ) → in_range n i ≡ false → 1 ≤ i → i ≤ n → ⊥
+unfolding in_range
+range-not n i e a b = false≢true (sym e ∙ rw (le-leb 1 i a, le-leb i n b))
 
 -- ---- the root by the facts of the header
 

@@ -1,5 +1,5 @@
 -- The number of nodes by a slice's length, a collection's root, where a node begins, and one word of a node.
-use Rattle.std.specs.Prelude.{cond, ◌&&◌, ℕ, ◌+◌, ltb, Result, Ok}
+use Rattle.std.specs.Prelude.{cond, ◌&&◌, ℕ, ◌+◌, ltb, take, drop, Result, Ok}
 use Rattle.model.specs.declared.Refusal.{Refusal}
 use Rattle.model.specs.Results.{refused_with}
 use Rattle.model.specs.Refusals.{unless_refused}
@@ -24,6 +24,10 @@ found_root n t = unless_refused (number_in n t) (Ok (root_in n t)) (refused_with
 -- the index of node i's first word; 0 for a number that no node has
 unfoldable pub start_of : Words → ℕ → ℕ
 start_of t i = cond (has_node t i) (node_start i) 0
+
+-- the words of node i
+abbrev pub words_at : Words → ℕ → Words
+words_at t i = take 32 (drop (node_start i) t)
 
 -- word j of node i; 0 past the node's end and for a number that no node has
 unfoldable pub word_of : Words → ℕ → ℕ → ℕ

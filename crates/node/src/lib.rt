@@ -1,10 +1,10 @@
 // The header test, reading a node, and making a table.
 #![tactic(auto)]
 
-ghost use Rattle.std.specs.Prelude.{◌≡◌, true, false, ◌&&◌, ◌||◌, ◌+◌, ◌≤◌, eqb, leb, length, take, drop, replicate};
+ghost use Rattle.std.specs.Prelude.{◌≡◌, true, false, ◌&&◌, ◌||◌, ◌+◌, ◌≤◌, eqb, leb, length, take, drop};
 ghost use Rattle.model.specs.Results.{passed};
-ghost use Rattle.model.specs.Table.{at, header_ok, header_number, root_word, no_collection, has_node, node, make_number, making, made, empty};
-ghost use Rattle.node.specs.Word.{nodes_in, root_in, found_root, start_of, word_of};
+ghost use Rattle.model.specs.Table.{at, in_range, header_ok, header_number, root_word, no_collection, has_node, node, make_number, making, made, empty};
+ghost use Rattle.node.specs.Word.{nodes_in, root_in, found_root, start_of, words_at, word_of};
 
 use model::{MARK, Node, Outcome, Refusal};
 
@@ -32,7 +32,8 @@ fn second_fits(n: u64, second: u64) -> bool
     second == 0 || second <= n && 2 <= n
 }
 
-// The collection's root, in one look at the header; 0 if it or the collection is refused.
+// The collection's root, in one look at the header; 0 if it or the collection is refused. 0 is what word 3 holds for no second collection, and
+// goes on as it stands: an Option would be made of it and taken apart again.
 pub fn root(table: &[u64], collection: u64) -> u64
     ensures { result ≡ root_in collection table.now }
 {
@@ -52,10 +53,7 @@ pub fn root(table: &[u64], collection: u64) -> u64
         }
     }
     let first = table[1];
-    if first == 0 {
-        return 0;
-    }
-    if n < first {
+    if !in_range(n, first) {
         return 0;
     }
     let second = table[3];
@@ -105,6 +103,13 @@ pub fn root_of(table: &[u64], collection: u64) -> u64
     table[3]
 }
 
+// Whether i is one of so many nodes.
+pub fn in_range(nodes: u64, i: u64) -> bool
+    ensures { result ≡ in_range nodes i }
+{
+    (1..=nodes).contains(&i)
+}
+
 // Whether node i lies in the table. The length is divided, so that no number is too large to ask for.
 pub fn has(table: &[u64], i: u64) -> bool
     ensures { result ≡ has_node table.now i }
@@ -130,6 +135,14 @@ pub fn start(table: &[u64], i: u64) -> usize
     8 + 32 * (i as usize - 1)
 }
 
+// The 32 words of node i. That the table has the node is said of both together: so it is a clause.
+pub fn words(table: &[u64], i: u64) -> &[u64; 32]
+    requires { has_node table.now i ≡ true }
+    ensures { result.now ≡ words_at table.now i }
+{
+    table[start(table, i)..].first_chunk().unwrap()
+}
+
 // The 24 slot words from index first on, a slot a turn: the compiler then sees each word apart, and a reader of a few slots does not copy all.
 fn slots_from(table: &[u64], first: usize) -> [u64; 24]
     requires { first + 24 ≤ length table.now }
@@ -145,7 +158,7 @@ fn slots_from(table: &[u64], first: usize) -> [u64; 24]
     slots
 }
 
-// Node i by value; the blank record for a number that no node has.
+// Node i by value; the blank record for a number that no node has. The blank one is written out: this is the only place that makes one.
 pub fn read(table: &[u64], i: u64) -> Node
     ensures { result ≡ node table.now i }
 {
@@ -183,12 +196,6 @@ pub fn word(table: &[u64], i: u64, j: usize) -> u64
     table[w + j]
 }
 
-pub fn zero(table: &mut [u64])
-    ensures { table.new ≡ replicate (length table.old) 0 }
-{
-    table.fill(0);
-}
-
 // Whether a table of these collections can be made in a slice of this length, or why not.
 pub fn may_make(table: &[u64], collections: u64) -> Outcome
     ensures { result ≡ passed (make_number collections table.now) }
@@ -197,16 +204,12 @@ pub fn may_make(table: &[u64], collections: u64) -> Outcome
     if n == 0 {
         return Err(Refusal::NoTable);
     }
-    if collections == 1 {
-        return Ok(());
+    match collections {
+        1 => Ok(()),
+        2 if n == 1 => Err(Refusal::NoTable),
+        2 => Ok(()),
+        _ => Err(Refusal::NoCollection),
     }
-    if collections != 2 {
-        return Err(Refusal::NoCollection);
-    }
-    if n == 1 {
-        return Err(Refusal::NoTable);
-    }
-    Ok(())
 }
 
 // An empty table of one or two collections over the whole slice. Only the length is tested; a refusal changes no word.
@@ -216,7 +219,7 @@ pub fn make(table: &mut [u64], collections: u64) -> Outcome
 {
     may_make(table, collections)?;
     let n = nodes_in(table.len());
-    zero(table);
+    table.fill(0);
     table[0] = 1;
     table[1] = 1;
     table[2] = n;

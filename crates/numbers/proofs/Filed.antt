@@ -11,9 +11,9 @@ use lib.Seq.{get_or-set_same, get_or-set_other}
 use borrow.Author.Tests.{eqb-true, eqb-false, eq-eqb}
 use Rattle.model.specs.Table.{Words}
 use Rattle.list_laws.proofs.Tools.{same-or-not, refuted, or-right}
-use Rattle.numbers.specs.declared.Entry.{Entry}
-use Rattle.numbers.specs.declared.Entry.TheVariants.{Entered, Known, Full}
-use Rattle.numbers.specs.Cells.{mixed, next_cell, tried, entered}
+use Rattle.std.specs.Prelude.{Ok, Err}
+use Rattle.numbers.specs.declared.Stop.TheVariants.{Known, Full}
+use Rattle.numbers.specs.Cells.{Entry, mixed, next_cell, tried, entered}
 use Rattle.numbers.specs.Filed.{Closed, Filed}
 use Rattle.numbers.proofs.Trying.{next-below}
 
@@ -35,13 +35,13 @@ Crowded n cs i zero = Unit {0}
 Crowded n cs i (suc m) = (get_or cs i 0 ≢ 0) × Crowded n cs (next_cell n i) m
 
 abbrev pub Told : (n : ℕ) → Words → (r i m : ℕ) → Entry → Words → Type 0
-Told n cs r i m Entered after = Stored n cs after r i m
-Told n cs r i m Known after = (after ≡ cs) × (r ≢ 0) × (k : ℕ) × (get_or cs k 0 ≡ r)
-Told n cs r i m Full after = (after ≡ cs) × (r ≢ 0 → Crowded n cs i m)
+Told n cs r i m (Ok x) after = Stored n cs after r i m
+Told n cs r i m (Err Known) after = (after ≡ cs) × (r ≢ 0) × (k : ℕ) × (get_or cs k 0 ≡ r)
+Told n cs r i m (Err Full) after = (after ≡ cs) × (r ≢ 0 → Crowded n cs i m)
 
 module _ (n : ℕ) (cs : Words) (long : length cs ≡ n) (r : ℕ) (some : r ≢ 0) where
   told-more : (after : Words) (i m : ℕ) (e : Entry) → get_or cs i 0 ≢ r → get_or cs i 0 ≢ 0 → Told n cs r (next_cell n i) m e after → Told n cs r i (suc m) e after
-  told-more after i m Entered d z h =
+  told-more after i m (Ok x) d z h =
       record {
         some = some;
         at = h.at;
@@ -54,8 +54,8 @@ module _ (n : ℕ) (cs : Words) (long : length cs ≡ n) (r : ℕ) (some : r ≢
     where
       same : get_or after i 0 ≡ get_or cs i 0
       same = ap (λ (l : Words). get_or l i 0) h.stored ∙ get_or-set_other cs h.at i r 0 (λ e. z (ap (λ (k : ℕ). get_or cs k 0) e ∙ h.free))
-  told-more after i m Known d z h = h
-  told-more after i m Full d z h = (h.0, λ e. (z, h.1 e))
+  told-more after i m (Err Known) d z h = h
+  told-more after i m (Err Full) d z h = (h.0, λ e. (z, h.1 e))
 
   pub told-tried : (i m : ℕ) → i < n → Told n cs r i m (tried n cs r i m).answer (tried n cs r i m).cells
   unfolding tried
@@ -113,7 +113,7 @@ crowded-closed n cs r i zero c = tt
 crowded-closed n cs r i (suc m) c = inr (c.0, crowded-closed n cs r (next_cell n i) m c.1)
 
 module _ (m n : ℕ) (cs : Words) (mem : ℕ → Bool) (h : Filed m n cs mem) (r : ℕ) where
-  pub known-number : (after : Words) → Told n cs r (mixed r % n) m Known after → mem r ≡ true
+  pub known-number : (after : Words) → Told n cs r (mixed r % n) m (Err Known) after → mem r ≡ true
   known-number after s = let e = s.3 in ap mem (sym e) ∙ h.known s.2 (λ z. s.1 (sym e ∙ z))
 
   -- one number more, which has its place or a path without a free cell
@@ -128,7 +128,7 @@ module _ (m n : ℕ) (cs : Words) (mem : ℕ → Bool) (h : Filed m n cs mem) (r
           go true q = let z = eqb-true x r q in rw z (own (λ y. d (z ∙ y)))
           go false q = old x d (ap (λ (b : Bool). b || mem x) (sym q) ∙ e)
 
-  pub filed-full : (after : Words) → Told n cs r (mixed r % n) m Full after → Filed m n after (λ (x : ℕ). eqb x r || mem x)
+  pub filed-full : (after : Words) → Told n cs r (mixed r % n) m (Err Full) after → Filed m n after (λ (x : ℕ). eqb x r || mem x)
   filed-full after s = rw s.0 (held-more cs h.long (λ k d. or-right (eqb (get_or cs k 0) r) (mem (get_or cs k 0)) (h.known k d)) (λ d. crowded-closed n cs r (mixed r % n) m (s.1 d)) h.closed)
 
   module _ (after : Words) (s : Stored n cs after r (mixed r % n) m) where

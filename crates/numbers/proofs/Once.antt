@@ -12,9 +12,10 @@ use Rattle.list_laws.proofs.Tools.{refuted, same-test}
 use Rattle.list_laws.proofs.Members.{elem-append}
 use Rattle.list_laws.proofs.Filters.{filter-yes, filter-no}
 use Rattle.list_laws.proofs.Distinct.{distinct-cons, distinct-middle}
-use Rattle.numbers.specs.declared.Entry.{Entry}
-use Rattle.numbers.specs.declared.Entry.TheVariants.{Entered, Known, Full}
-use Rattle.numbers.specs.Cells.{TRIES, CELLS, mixed, Outcome, outcome, entered, followed, entered_if, entered_all, Tells}
+use Rattle.std.specs.Prelude.{Ok, Err}
+use Rattle.numbers.specs.declared.Stop.{Stop}
+use Rattle.numbers.specs.declared.Stop.TheVariants.{Known, Full}
+use Rattle.numbers.specs.Cells.{TRIES, CELLS, Entry, mixed, Outcome, outcome, entered, followed, entered_if, entered_all, Tells}
 use Rattle.numbers.specs.Filed.{Filed}
 use Rattle.numbers.proofs.Filed.{Told, told, filed-none, known-number, new-number, filed-more}
 
@@ -24,14 +25,13 @@ pub if-yes : (p : ℕ → Bool) (cs : Words) (x : ℕ) → p x ≡ true → ente
 unfolding entered_if
 if-yes p cs x e = rw (e, entered_if)
 
-pub if-no : (p : ℕ → Bool) (cs : Words) (x : ℕ) → p x ≡ false → entered_if p cs x ≡ outcome Entered cs
+pub if-no : (p : ℕ → Bool) (cs : Words) (x : ℕ) → p x ≡ false → entered_if p cs x ≡ outcome (Ok tt) cs
 unfolding entered_if
 if-no p cs x e = rw (e, entered_if)
 
 followed-twice : (f g h : Words → Outcome) → ((cs : Words) → h cs ≡ followed (f cs) g) → (e : Entry) (after : Words) → followed (outcome e after) h ≡ followed (followed (outcome e after) f) g
-followed-twice f g h q Entered after = q after
-followed-twice f g h q Known after = refl
-followed-twice f g h q Full after = refl
+followed-twice f g h q (Ok x) after = q after
+followed-twice f g h q (Err s) after = refl
 
 pub all-append : (p : ℕ → Bool) (xs ys : List ℕ) (cs : Words) → entered_all p (xs ++ ys) cs ≡ followed (entered_all p xs cs) (entered_all p ys)
 unfolding entered_all
@@ -44,18 +44,15 @@ all-append p (x ∷ xs) ys cs = followed-twice (entered_all p xs) (entered_all p
 abbrev pub Last : Entry → Type 0
 Last e = (next : Words → Outcome) (cs : Words) → followed (outcome e cs) next ≡ outcome e cs
 
-pub known-last : Last Known
-known-last next cs = refl
-
-pub full-last : Last Full
-full-last next cs = refl
+pub stop-last : (s : Stop) → Last (Err s)
+stop-last s next cs = refl
 
 module _ (next : Words → Outcome) (whole o : Outcome) (e : Entry) (after : Words) (h : whole ≡ followed o next) (q : outcome e after ≡ o) where
   answered : (s : Entry) → e ≡ s → whole ≡ followed (outcome s after) next
   answered s a = h ∙ ap (λ (x : Outcome). followed x next) (sym q) ∙ ap (λ (x : Entry). followed (outcome x after) next) a
 
-  pub goes-on : e ≡ Entered → next after ≡ whole
-  goes-on a = sym (answered Entered a)
+  pub goes-on : e ≡ Ok tt → next after ≡ whole
+  goes-on a = sym (answered (Ok tt) a)
 
   pub ends : (s : Entry) → Last s → e ≡ s → outcome s after ≡ whole
   ends s l a = sym (answered s a ∙ l next after)
@@ -75,19 +72,19 @@ twice : (y : ℕ) (xs zs : List ℕ) → elem y xs ≡ true → distinct (xs ++ 
 twice y xs zs e = refuted (distinct (xs ++ y ∷ zs)) (λ h. false≢true (sym ((elem-append y xs zs).0 ((distinct-middle y xs zs).0 h).0).0 ∙ e))
 
 pub tells-same : (e : Entry) (us vs : List ℕ) → distinct us ≡ distinct vs → Tells e us → Tells e vs
-tells-same Entered us vs q h = sym q ∙ h
-tells-same Known us vs q h = sym q ∙ h
-tells-same Full us vs q h = tt
+tells-same (Ok x) us vs q h = sym q ∙ h
+tells-same (Err Known) us vs q h = sym q ∙ h
+tells-same (Err Full) us vs q h = tt
 
 -- one number more
 module _ (y : ℕ) (xs zs : List ℕ) (cs : Words) (g : Rel cs xs) (next : Words → Outcome) (ih : (after : Words) → Rel after (y ∷ xs) → Tells (next after).answer (y ∷ (xs ++ zs))) where
   tells-told : (e : Entry) (after : Words) → Told CELLS cs y (mixed y % CELLS) TRIES e after → Tells (followed (outcome e after) next).answer (xs ++ y ∷ zs)
-  tells-told Entered after s =
+  tells-told (Ok x) after s =
       let new = new-number TRIES CELLS cs (λ (r : ℕ). elem r xs) g.filed y after s in
       tells-same (next after).answer (y ∷ (xs ++ zs)) (xs ++ y ∷ zs) (moved y xs zs)
       (ih after (record { filed = unfold elem in filed-more TRIES CELLS cs (λ (r : ℕ). elem r xs) g.filed y after s; apart = (distinct-cons y xs).1 (new, g.apart) }))
-  tells-told Known after s = twice y xs zs (known-number TRIES CELLS cs (λ (r : ℕ). elem r xs) g.filed y after s)
-  tells-told Full after s = tt
+  tells-told (Err Known) after s = twice y xs zs (known-number TRIES CELLS cs (λ (r : ℕ). elem r xs) g.filed y after s)
+  tells-told (Err Full) after s = tt
 
   tells-entered : Tells (followed (entered TRIES cs y) next).answer (xs ++ y ∷ zs)
   tells-entered = tells-told (entered TRIES cs y).answer (entered TRIES cs y).cells (told CELLS TRIES cs y g.filed.long (omega arith))

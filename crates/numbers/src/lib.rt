@@ -2,6 +2,7 @@
 #![tactic(auto)]
 
 ghost use Rattle.std.specs.Prelude.{◌≡◌, ◌<◌, length};
+ghost use Rattle.model.specs.Cells.{home_of};
 ghost use Rattle.numbers.specs.Cells.{mixed, next_cell, outcome, entered};
 
 // Numbers are scattered below this prime.
@@ -12,13 +13,14 @@ pub const CELLS: usize = 16384;
 
 pub const TRIES: usize = 128;
 
-// What entering a number came to. Full says only that its cells are taken; 0 is never entered.
-#[derive(Clone, Copy)]
-pub enum Entry {
-    Entered,
+// Why a number is not entered: it was met before, or all cells of its path are taken. 0 is never entered, and finds them taken.
+#[derive(Clone, Copy, PartialEq, Eq)]
+pub enum Stop {
     Known,
     Full,
 }
+
+pub type Entry = Result<(), Stop>;
 
 // A number scattered, so that numbers that follow each other, or in small equal steps, crowd no cells. Those that leave one rest by
 // 2,147,483,647 still do.
@@ -28,10 +30,20 @@ pub fn mixed(number: u64) -> u64
     (number % 2147483647) * 2246822519 % SPREAD
 }
 
+// The cell in which a number's path begins, of so many.
+pub fn home(places: usize, number: u64) -> usize
+    requires { 0 < places }
+    ensures value { result ≡ home_of places number }
+    ensures upper_bound { result < places }
+{
+    (mixed(number) % places as u64) as usize
+}
+
 // The cell after cell at of so many; the first comes after the last.
 pub fn next_cell(places: usize, at: usize) -> usize
     requires { at < places }
-    ensures { result ≡ next_cell places at }
+    ensures value { result ≡ next_cell places at }
+    ensures upper_bound { result < places }
 {
     let next = at + 1;
     if next == places {
@@ -48,20 +60,20 @@ pub fn enter(cells: &mut [u64], tries: usize, number: u64) -> Entry
     ensures { outcome result cells.new ≡ entered tries cells.old number }
 {
     if number == 0 {
-        return Entry::Full;
+        return Err(Stop::Full);
     }
     let places = cells.len();
-    let mut at = (mixed(number) % places as u64) as usize;
+    let mut at = home(places, number);
     for _ in 0..tries {
         let held = cells[at];
         if held == number {
-            return Entry::Known;
+            return Err(Stop::Known);
         }
         if held == 0 {
             cells[at] = number;
-            return Entry::Entered;
+            return Ok(());
         }
         at = next_cell(places, at);
     }
-    Entry::Full
+    Err(Stop::Full)
 }

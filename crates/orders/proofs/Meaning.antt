@@ -22,9 +22,9 @@ pub record Holds (t lent : Words) (os : List Order) (d : Desk) : Type 0 where
   pub table : d.table ≡ carry os t
   pub list : d.list ≡ list_with os lent
   pub at : d.pen.at ≡ 2 * length os
-  pub stores : d.pen.stores ≡ store_count os
-  pub flushes : d.pen.flushes ≡ flush_count os
-  pub barriers : d.pen.barriers ≡ barrier_count os
+  pub stores : d.pen.counts.stores ≡ store_count os
+  pub flushes : d.pen.counts.flushes ≡ flush_count os
+  pub barriers : d.pen.counts.barriers ≡ barrier_count os
 
 begun : (t lent : Words) (dock : ℕ) → Holds t lent [] (start t lent dock)
 unfolding carry store_count flush_count barrier_count
@@ -85,9 +85,9 @@ module _ (ss : List Store) (t lent : Words) (dock : ℕ) where
   pub record Written (d : Desk) : Type 0 where
     pub table : d.table ≡ apply ss t
     pub list : d.list ≡ list_with (barred dock (orders ss)) lent
-    pub stores : d.pen.stores ≡ store_count (barred dock (orders ss))
-    pub flushes : d.pen.flushes ≡ flush_count (barred dock (orders ss))
-    pub barriers : d.pen.barriers ≡ barrier_count (barred dock (orders ss))
+    pub stores : d.pen.counts.stores ≡ store_count (barred dock (orders ss))
+    pub flushes : d.pen.counts.flushes ≡ flush_count (barred dock (orders ss))
+    pub barriers : d.pen.counts.barriers ≡ barrier_count (barred dock (orders ss))
 
   module _ (fits : 2 * length (barred dock (orders ss)) ≤ length lent) where
     pub finished-means : Written (finished (stored_all ss (start t lent dock)))

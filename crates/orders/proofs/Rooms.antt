@@ -31,7 +31,7 @@ pub stored-table-length : (ss : List Store) (d : Desk) → length (stored_all ss
 stored-table-length ss d = rw (stored_all-noted ss d) (noted-table-length (added_on ss d) d)
 
 stored-counts : (ss : List Store) (d : Desk)
-    → (stored_all ss d).pen.stores + (stored_all ss d).pen.flushes + (stored_all ss d).pen.barriers ≡ d.pen.stores + d.pen.flushes + d.pen.barriers + length (added_on ss d)
+    → (stored_all ss d).pen.counts.stores + (stored_all ss d).pen.counts.flushes + (stored_all ss d).pen.counts.barriers ≡ d.pen.counts.stores + d.pen.counts.flushes + d.pen.counts.barriers + length (added_on ss d)
 stored-counts ss d = rw (stored_all-noted ss d) (noted-counts (added_on ss d) d)
 
 -- ---- closed lists

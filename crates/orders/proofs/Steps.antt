@@ -4,7 +4,6 @@ use mathlib.Core.Bool.{true, false, cond}
 use mathlib.Core.List.{List, [], ◌∷◌, ◌++◌, append_assoc}
 use mathlib.Core.Option.{Option, none, some}
 use Prim.Native.Nat.{ℕ, zero, suc, ◌+◌, ◌*◌}
-use native.Mathlib.Numerals.{add-one}
 use native.Mathlib.Omega.{arith}
 use lib.Dec.{eqb}
 use lib.ListN.{length, length-set}
@@ -55,7 +54,7 @@ noted-table-length os d = ap length (noted-table os d) ∙ length-carry os d.tab
 
 -- each order is counted once
 pub noted-counts : (os : List Order) (d : Desk)
-    → (noted_all os d).pen.stores + (noted_all os d).pen.flushes + (noted_all os d).pen.barriers ≡ d.pen.stores + d.pen.flushes + d.pen.barriers + length os
+    → (noted_all os d).pen.counts.stores + (noted_all os d).pen.counts.flushes + (noted_all os d).pen.counts.barriers ≡ d.pen.counts.stores + d.pen.counts.flushes + d.pen.counts.barriers + length os
 unfolding noted_all noted
 noted-counts [] d = omega arith
 noted-counts (store s ∷ os) d = omega (arith, noted-counts os (noted (store s) d))
@@ -87,8 +86,8 @@ closing-barred (suc n) (some l) = refl
 -- a store leaves its line open, on either dock
 open-after : (dock : ℕ) (s : Store) (d : Desk) → open_at (noted_all (barred dock (store s ∷ [])) d) ≡ some (line s.word)
 unfolding noted_all noted with_barriers
-open-after zero s d = rw add-one
-open-after (suc n) s d = rw add-one
+open-after zero s d = refl
+open-after (suc n) s d = refl
 
 pub stored-open : (s : Store) (d : Desk) → open_at (stored s d) ≡ some (line s.word)
 unfolding stored

@@ -1,7 +1,6 @@
 -- A write under way: the working copy, the lent list and the pen, and what an order, a store, stores and the end make of them.
-use Rattle.std.specs.Prelude.{◌≡◌, cond, List, [], ◌∷◌, ◌++◌, ℕ, zero, suc, ◌+◌, ◌*◌, ◌≤◌, eqb, length, set}
+use Rattle.std.specs.Prelude.{◌≡◌, Bool, false, cond, List, [], ◌∷◌, ◌++◌, ℕ, zero, suc, ◌+◌, ◌*◌, ◌≤◌, eqb, length, set, Option as Line, Some, None}
 use Rattle.std.proofs.Math.Option.{Option, none, some}
-use Rattle.model.specs.declared.Counts.{Counts}
 use Rattle.model.specs.Table.{MARK, Words, line}
 use Rattle.model.specs.Orders.{Store, Order, store, flush, barrier, barred, BAR}
 use Rattle.cut_laws.specs.Growing.{due, added, open_after, closing}
@@ -28,10 +27,6 @@ pub record Becomes (w : Writer) (d : Desk) (v : Writer) : Type 0 where
   pub same_table : v.table.ghost_name ≡ w.table.ghost_name
   pub same_list : v.list.ghost_name ≡ w.list.ghost_name
 
--- the three counts of a desk
-abbrev pub counts_of : Desk → Counts
-counts_of d = record { stores = d.pen.stores; flushes = d.pen.flushes; barriers = d.pen.barriers }
-
 -- the dock with a number, and the number of a dock
 abbrev pub dock_of : ℕ → Dock
 dock_of zero = Ordered
@@ -46,15 +41,15 @@ dock_at d = dock_number d.pen.dock
 
 -- the pen before the first store, and the desk
 abbrev pub first_pen : (dock : ℕ) → Pen
-first_pen dock = record { dock = dock_of dock; at = 0; line = 0; stores = 0; flushes = 0; barriers = 0 }
+first_pen dock = record { dock = dock_of dock; at = 0; line = None; counts = record { stores = 0; flushes = 0; barriers = 0 } }
 
 abbrev pub start : Words → Words → (dock : ℕ) → Desk
 start t l dock = desk t l (first_pen dock)
 
 -- the line that is open
-abbrev pub open_of : ℕ → Option ℕ
-open_of zero = none
-open_of (suc l) = some l
+abbrev pub open_of : Line ℕ → Option ℕ
+open_of None = none
+open_of (Some l) = some l
 
 abbrev pub open_at : Desk → Option ℕ
 open_at d = open_of d.pen.line
@@ -64,19 +59,28 @@ open_at d = open_of d.pen.line
 abbrev pub filled : Words → ℕ → ℕ → ℕ → Words
 filled l a x y = set (set l a x) (a + 1) y
 
+abbrev pub listed : (x y : ℕ) → Desk → Desk
+listed x y d = let p = d.pen in desk d.table (filled d.list p.at x y) (record { dock = p.dock; at = p.at + 2; line = p.line; counts = p.counts })
+
 unfoldable pub noted : Order → Desk → Desk
 noted (store s) d =
-    let p = d.pen in
-    desk (set d.table s.word s.value) (filled d.list p.at s.word s.value)
-    (record { dock = p.dock; at = p.at + 2; line = line s.word + 1; stores = p.stores + 1; flushes = p.flushes; barriers = p.barriers })
+    let e = listed s.word s.value d in
+    let p = e.pen in
+    let n = p.counts in
+    desk (set e.table s.word s.value) e.list
+    (record { dock = p.dock; at = p.at; line = Some (line s.word); counts = record { stores = n.stores + 1; flushes = n.flushes; barriers = n.barriers } })
 noted (flush l) d =
-    let p = d.pen in
-    desk d.table (filled d.list p.at MARK l)
-    (record { dock = p.dock; at = p.at + 2; line = 0; stores = p.stores; flushes = p.flushes + 1; barriers = p.barriers })
+    let e = listed MARK l d in
+    let p = e.pen in
+    let n = p.counts in
+    desk e.table e.list
+    (record { dock = p.dock; at = p.at; line = None; counts = record { stores = n.stores; flushes = n.flushes + 1; barriers = n.barriers } })
 noted barrier d =
-    let p = d.pen in
-    desk d.table (filled d.list p.at BAR 0)
-    (record { dock = p.dock; at = p.at + 2; line = p.line; stores = p.stores; flushes = p.flushes; barriers = p.barriers + 1 })
+    let e = listed BAR 0 d in
+    let p = e.pen in
+    let n = p.counts in
+    desk e.table e.list
+    (record { dock = p.dock; at = p.at; line = p.line; counts = record { stores = n.stores; flushes = n.flushes; barriers = n.barriers + 1 } })
 
 unfoldable pub noted_all : List Order → Desk → Desk
 noted_all [] d = d
@@ -98,9 +102,13 @@ Makes ss w v = Becomes w (stored_all ss (of w)) v
 unfoldable pub finished : Desk → Desk
 finished d = noted_all (closing (open_at d)) d
 
--- ready for a store to a line (plus 1): another line that is open is flushed
+-- ready for a store to a line: another line that is open is flushed
+abbrev pub is_open : ℕ → Line ℕ → Bool
+is_open l None = false
+is_open l (Some m) = eqb m l
+
 unfoldable pub turned : ℕ → Desk → Desk
-turned l d = cond (eqb d.pen.line l) d (finished d)
+turned l d = cond (is_open l d.pen.line) d (finished d)
 
 -- after a store: with the barrier that the dock needs
 unfoldable pub ruled : Desk → Desk
@@ -115,9 +123,9 @@ closed dock o ss = barred dock (added o ss ++ closing (open_after o ss))
 pub record Room (ss : List Store) (d : Desk) : Type 0 where
   pub inside : StoresInside (length d.table) ss
   pub space : d.pen.at + 2 * length (closed (dock_at d) (open_at d) ss) ≤ length d.list
-  pub counts : d.pen.stores + d.pen.flushes + d.pen.barriers ≤ d.pen.at
+  pub counts : d.pen.counts.stores + d.pen.counts.flushes + d.pen.counts.barriers ≤ d.pen.at
 
 -- room for the barrier
 pub record Ruling (d : Desk) : Type 0 where
   pub space : (d.pen.dock ≡ Ordered → ⊥) → d.pen.at + 2 ≤ length d.list
-  pub counts : d.pen.stores + d.pen.flushes + d.pen.barriers ≤ d.pen.at
+  pub counts : d.pen.counts.stores + d.pen.counts.flushes + d.pen.counts.barriers ≤ d.pen.at

@@ -1,9 +1,9 @@
 // The order list of a write: each store is made on the working copy and listed, after the flush that is due; for dock 1 its barrier follows.
 #![tactic(auto)]
 
-ghost use Rattle.std.specs.Prelude.{◌≡◌, [], ◌∷◌};
+ghost use Rattle.std.specs.Prelude.{◌≡◌, [], ◌∷◌, ◌+◌, ◌≤◌, length};
 ghost use Rattle.model.specs.Orders.{put};
-ghost use Rattle.orders.specs.Desk.{first_pen, of, turned, finished, ruled, Room, Ruling, Becomes, Makes, counts_of};
+ghost use Rattle.orders.specs.Desk.{first_pen, of, listed, turned, finished, ruled, Room, Ruling, Becomes, Makes};
 
 use model::{BAR, Counts, MARK};
 
@@ -28,16 +28,13 @@ impl From<u64> for Dock {
     }
 }
 
-// How far a write has come in its list, which is for this dock: the words filled, the line that is open plus 1 (0 for none), and the three
-// counts.
+// How far a write has come in its list, which is for this dock: the words filled, the line that is open, if one is, and what is counted.
 #[derive(Clone, Copy)]
 pub struct Pen {
     pub dock: Dock,
     pub at: usize,
-    pub line: u64,
-    pub stores: u64,
-    pub flushes: u64,
-    pub barriers: u64,
+    pub line: Option<u64>,
+    pub counts: Counts,
 }
 
 impl Pen {
@@ -48,10 +45,8 @@ impl Pen {
         Pen {
             dock: Dock::from(dock),
             at: 0,
-            line: 0,
-            stores: 0,
-            flushes: 0,
-            barriers: 0,
+            line: None,
+            counts: Counts::default(),
         }
     }
 }
@@ -77,15 +72,12 @@ impl Writer<'_> {
         requires { Room (put w x ∷ []) (of self.old) }
         ensures { Makes (put w x ∷ []) self.old self.new }
     {
-        let line = (w / 8) as u64 + 1;
+        let line = (w / 8) as u64;
         self.turn(line);
-        let at = self.pen.at;
         self.table[w] = x;
-        self.list[at] = w as u64;
-        self.list[at + 1] = x;
-        self.pen.at = at + 2;
-        self.pen.line = line;
-        self.pen.stores += 1;
+        self.put(w as u64, x);
+        self.pen.line = Some(line);
+        self.pen.counts.stores += 1;
         self.rule();
     }
 
@@ -94,14 +86,21 @@ impl Writer<'_> {
     pub fn finish(&mut self) -> Counts
         requires { Room [] (of self.old) }
         ensures writer { Becomes self.old (finished (of self.old)) self.new }
-        ensures counts { result ≡ counts_of (finished (of self.old)) }
+        ensures counts { result ≡ (finished (of self.old)).pen.counts }
     {
         self.flush();
-        Counts {
-            stores: self.pen.stores,
-            flushes: self.pen.flushes,
-            barriers: self.pen.barriers,
-        }
+        self.pen.counts
+    }
+
+    // Puts an order's two words behind those that are filled.
+    fn put(&mut self, first: u64, second: u64)
+        requires { self.old.pen.at + 2 ≤ length self.old.list.now }
+        ensures { Becomes self.old (listed first second (of self.old)) self.new }
+    {
+        let at = self.pen.at;
+        self.list[at] = first;
+        self.list[at + 1] = second;
+        self.pen.at = at + 2;
     }
 
     // Lists the flush of the open line, if there is one.
@@ -109,23 +108,18 @@ impl Writer<'_> {
         requires { Room [] (of self.old) }
         ensures { Becomes self.old (finished (of self.old)) self.new }
     {
-        if self.pen.line == 0 {
-            return;
+        if let Some(line) = self.pen.line.take() {
+            self.put(MARK, line);
+            self.pen.counts.flushes += 1;
         }
-        let at = self.pen.at;
-        self.list[at] = MARK;
-        self.list[at + 1] = self.pen.line - 1;
-        self.pen.at = at + 2;
-        self.pen.line = 0;
-        self.pen.flushes += 1;
     }
 
-    // Lists the flush that is due before a store to this line (plus 1).
+    // Lists the flush that is due before a store to this line.
     fn turn(&mut self, line: u64)
         requires { Room [] (of self.old) }
         ensures { Becomes self.old (turned line (of self.old)) self.new }
     {
-        if self.pen.line != line {
+        if self.pen.line != Some(line) {
             self.flush();
         }
     }
@@ -135,13 +129,9 @@ impl Writer<'_> {
         requires { Ruling (of self.old) }
         ensures { Becomes self.old (ruled (of self.old)) self.new }
     {
-        if self.pen.dock == Dock::Ordered {
-            return;
+        if self.pen.dock == Dock::Unordered {
+            self.put(BAR, 0);
+            self.pen.counts.barriers += 1;
         }
-        let at = self.pen.at;
-        self.list[at] = BAR;
-        self.list[at + 1] = 0;
-        self.pen.at = at + 2;
-        self.pen.barriers += 1;
     }
 }

@@ -1,19 +1,20 @@
 -- Words and slots written one by one.
 use mathlib.Core.Path.{◌≡◌, refl, ap, sym, ◌∙◌}
-use mathlib.Core.Logic.{◌≢◌}
+use mathlib.Core.Logic.{◌≢◌, ⊎_elim}
 use mathlib.Core.List.{List, [], ◌∷◌, ◌++◌, append_assoc}
-use Prim.Native.Nat.{ℕ, zero, suc, pred, ◌+◌, ◌-◌, ◌*◌, ◌/◌, ◌≤◌, ◌<◌}
+use Prim.Native.Nat.{ℕ, zero, suc, pred, min, ◌+◌, ◌-◌, ◌*◌, ◌/◌, ◌≤◌, ◌<◌}
 use native.Mathlib.Omega.{arith}
-use lib.ListN.{length, set, take, drop, replicate, length-take}
-use lib.Seq.{sets, sets-eq, drop-drop, get_or-take, length-take-le}
+use lib.ListN.{length, set, take, drop, replicate, length-drop}
+use lib.Seq.{sets, sets-eq, drop-drop, take-take, length-take-le}
 use borrow.Rule.Slice.PartMut.{put_mid}
 use borrow.Author.Tests.{eq-eqb, ne_eqb, lt-ltb, le-ltb}
 use Rattle.model.specs.Table.{MARK, Words, at}
-use Rattle.model.specs.Slots.{Slot, slot, slot_words}
+use Rattle.model.specs.Slots.{Slot, slot, slots_of, slot_words}
+use Rattle.list_laws.proofs.Tools.{compared}
 use Rattle.model.specs.Writes.{node_words}
-use Rattle.table_laws.proofs.SlotWords.{slots-cons, slots-end}
 use Rattle.pack_laws.specs.Needed.{nodes_above, nodes_needed}
 use Rattle.pack_laws.proofs.Counts.{above-one}
+use Rattle.pack.proofs.Leaves.{take-drop, take-swap, slots-take, slots-drop}
 use Rattle.pack.specs.Rows.{pairs_in, head_words, slotted, next_number, leaf_fence, children_from}
 
 -- ---- words
@@ -57,40 +58,44 @@ filled ss h =
 
 -- ---- the slots of a leaf
 
+even-words : (n : ℕ) (ws : Words) → length ws ≡ 2 * n → slot_words (slots_of ws) ≡ ws
+unfolding slots_of
+even-words zero [] h = refl
+even-words zero (a ∷ ws) h = absurd (omega arith)
+even-words (suc n) [] h = absurd (omega arith)
+even-words (suc n) (a ∷ []) h = absurd (omega arith)
+even-words (suc n) (a ∷ b ∷ ws) h = ap (λ (l : Words). a ∷ b ∷ l) (even-words n ws (omega arith))
+
+taken : (n k : ℕ) (l : Words) → k ≡ min n 22 → take 22 (take n l) ≡ take k l
+taken n k l q = ⊎_elim whole (⊎_elim (λ h. whole' h) less) (compared n 22)
+  where
+    less : 22 < n → take 22 (take n l) ≡ take k l
+    less h = let e : k ≡ 22 = omega arith in rw e (take-take 22 n l (omega arith))
+
+    whole : n < 22 → take 22 (take n l) ≡ take k l
+    whole h = let e : k ≡ n = omega arith in rw e (take-swap 22 n l ∙ take-take n 22 l (omega arith))
+
+    whole' : n ≡ 22 → take 22 (take n l) ≡ take k l
+    whole' h = let e : k ≡ 22 = omega arith in rw (e, h) (take-take 22 22 l (omega arith))
+
 module _ (ws : Words) (m j : ℕ) where
-  -- those still to be written, i are
-  abbrev pub leaf_rest : ℕ → List Slot
-  leaf_rest i = take (11 - i) (drop (11 * j + i) (pairs_in ws m))
-
-  pub leaf-start : sets (replicate 24 0) (2 * 0) (slot_words (leaf_rest 0)) ≡ slotted (take 11 (drop (11 * j) (pairs_in ws m)))
-  leaf-start =
-      let e : 11 * j + 0 ≡ 11 * j = omega arith in
-      rw e (filled (take 11 (drop (11 * j) (pairs_in ws m))) (let l = length-take 11 (drop (11 * j) (pairs_in ws m)) in omega arith))
-
-  leaf-next : (i : ℕ) → i < 11 → 11 * j + i < m → 2 * m ≤ length ws → leaf_rest i ≡ slot (at ws (2 * (11 * j + i))) (at ws (2 * (11 * j + i) + 1)) ∷ leaf_rest (i + 1)
-  leaf-next i h k l =
-      let p = 11 * j + i in
-      let n : length (take (2 * m) ws) ≡ 2 * m = length-take-le (2 * m) ws l in
-      let e : 11 - i ≡ suc (11 - (i + 1)) = omega arith in
-      let f : 11 * j + (i + 1) ≡ suc p = omega arith in
-      let s = slots-cons (take (2 * m) ws) p (omega arith) in
-      let a = get_or-take (2 * m) ws (2 * p) 0 (omega arith) in
-      let b = get_or-take (2 * m) ws (2 * p + 1) 0 (omega arith) in
-      ap (take (11 - i)) s ∙ rw (e, f, a, b)
-
-  pub leaf-step : (l : Words) (i : ℕ) → i < 11 → 11 * j + i < m → 2 * m ≤ length ws
-      → sets l (2 * i) (slot_words (leaf_rest i)) ≡ sets (set (set l (2 * i) (at ws (2 * (11 * j + i)))) (2 * i + 1) (at ws (2 * (11 * j + i) + 1))) (2 * (i + 1)) (slot_words (leaf_rest (i + 1)))
-  leaf-step l i h k n = ap (λ (ss : List Slot). sets l (2 * i) (slot_words ss)) (leaf-next i h k n) ∙ fill-step l i _ (leaf_rest (i + 1))
-
-  pub leaf-short : (l : Words) (i : ℕ) → m ≤ 11 * j + i → sets l (2 * i) (slot_words (leaf_rest i)) ≡ l
-  leaf-short l i h =
-      let n = length-take (2 * m) ws in
-      let e : drop (11 * j + i) (pairs_in ws m) ≡ [] = slots-end (take (2 * m) ws) (11 * j + i) (omega arith) in
-      ap (λ (ss : List Slot). sets l (2 * i) (slot_words (take (11 - i) ss))) e ∙ go (11 - i)
-    where
-      go : (n : ℕ) → sets l (2 * i) (slot_words (take n [])) ≡ l
-      go zero = refl
-      go (suc n) = refl
+  -- they are words of the slice, one after the other
+  pub leaf-copied : (k : ℕ) (vs : Words) → 2 * m ≤ length ws → 11 * j ≤ m → k ≡ min (2 * m - 22 * j) 22 → vs ≡ take k (drop (22 * j) ws)
+      → vs ++ drop k (replicate 24 0) ≡ slotted (take 11 (drop (11 * j) (pairs_in ws m)))
+  leaf-copied k vs l h q r =
+      let n = 2 * m - 22 * j in
+      let ss = take 11 (drop (11 * j) (pairs_in ws m)) in
+      let d : 2 * (11 * j) ≡ 22 * j = omega arith in
+      let s : 22 * j + n ≡ 2 * m = omega arith in
+      let a : ss ≡ slots_of (take 22 (drop (2 * (11 * j)) (take (2 * m) ws))) = ap (take 11) (slots-drop (11 * j) (take (2 * m) ws)) ∙ slots-take 11 (drop (2 * (11 * j)) (take (2 * m) ws)) in
+      let b : drop (22 * j) (take (2 * m) ws) ≡ take n (drop (22 * j) ws) = sym (take-drop (22 * j) n ws ∙ ap (λ (i : ℕ). drop (22 * j) (take i ws)) s) in
+      let y : ss ≡ slots_of (take k (drop (22 * j) ws)) = a ∙ ap slots_of (ap (λ (i : ℕ). take 22 (drop i (take (2 * m) ws))) d ∙ ap (take 22) b ∙ taken n k (drop (22 * j) ws) q) in
+      let c = length-take-le k (drop (22 * j) ws) (omega (arith, q, length-drop (22 * j) ws)) in
+      let e : slot_words ss ≡ take k (drop (22 * j) ws) = ap slot_words y ∙ even-words (min (m - 11 * j) 11) _ (omega (arith, c, q)) in
+      let t : k ≡ length (slot_words ss) = sym (ap length e ∙ c) in
+      ap (λ (v : Words). v ++ drop k (replicate 24 0)) (r ∙ sym e)
+      ∙ ap (λ (i : ℕ). slot_words ss ++ drop i (replicate 24 0)) t
+      ∙ sym (zeros-drop 24 (slot_words ss) (omega (arith, t, q)) 24 (omega arith))
 
 -- ---- the slots of an inner node
 

@@ -2,14 +2,14 @@
 // here: node k begins at word 32 * k, its number is k + 1. A slice of nodes is a table without its header.
 #![tactic(auto)]
 
-ghost use Rattle.std.specs.Prelude.{◌≡◌, ◌++◌, suc, min, ◌+◌, ◌-◌, ◌*◌, ◌/◌, ◌≤◌, ◌<◌, length, take, drop, replicate};
+ghost use Rattle.std.specs.Prelude.{◌≡◌, ◌++◌, ℕ, suc, min, ◌+◌, ◌-◌, ◌*◌, ◌/◌, ◌≤◌, ◌<◌, length, take, drop, replicate};
 ghost use Rattle.std.proofs.lemmas.List.Edits.{sets};
 ghost use Rattle.model.specs.Packing.{bottom, row_words, packed_count};
 ghost use Rattle.pack_laws.specs.Needed.{nodes_above, nodes_needed};
 ghost use Rattle.pack.specs.Rows.{pairs_in, slotted, head_words, next_number, children_from, leaf_fence, leaf_words, inner_words, row_over};
 ghost use Rattle.pack.specs.Rows.{raised, pairs_after, packed_after};
 
-use model::MARK;
+use model::{MARK, Node};
 
 // How many leaves so many pairs need.
 fn leaf_count(pairs: usize) -> usize
@@ -26,6 +26,7 @@ pub fn needed(pairs: usize) -> usize
 {
     let mut row = leaf_count(pairs);
     let mut total = row;
+    // No iterator: each row is counted from the one below.
     for _ in 0..15usize {
         if row <= 1 {
             return total;
@@ -39,16 +40,16 @@ pub fn needed(pairs: usize) -> usize
 // ---- one node
 
 // The 32 words of a node.
-fn node_words(left: u64, sibling: u64, level: u64, fence: u64, slots: [u64; 24]) -> [u64; 32]
-    ensures { result ≡ head_words left sibling level fence ++ slots }
+fn node_words(n: Node) -> [u64; 32]
+    ensures { result ≡ head_words n.left n.sibling n.level n.fence ++ n.slots }
 {
     // Nodes and slots are whole values of a fixed size: memory is fixed, there is no heap.
     let mut words = [0u64; 32];
-    words[0] = left;
-    words[1] = sibling;
-    words[2] = level;
-    words[3] = fence;
-    words[8..].copy_from_slice(&slots);
+    words[0] = n.left;
+    words[1] = n.sibling;
+    words[2] = n.level;
+    words[3] = n.fence;
+    words[8..].copy_from_slice(&n.slots);
     words
 }
 
@@ -75,18 +76,13 @@ fn next_number(k: usize, e: usize) -> u64
 
 // The slot words of leaf j.
 fn leaf_slots(nodes: &[u64], pairs: usize, j: usize) -> [u64; 24]
-    requires { (2 * pairs ≤ length nodes.now) × (j < 16777216) }
+    requires { (2 * pairs ≤ length nodes.now) × (11 * j ≤ pairs) × (j < 16777216) }
     ensures { result ≡ slotted (take 11 (drop (11 * j) (pairs_in nodes.now pairs))) }
 {
     let mut slots = [0u64; 24];
-    for i in 0..11 {
-        let p = 11 * j + i;
-        if pairs <= p {
-            return slots;
-        }
-        slots[2 * i] = nodes[2 * p];
-        slots[2 * i + 1] = nodes[2 * p + 1];
-    }
+    let w = 22 * j;
+    let count = (2 * pairs - w).min(22);
+    slots[..count].copy_from_slice(&nodes[w..w + count]);
     slots
 }
 
@@ -103,19 +99,19 @@ fn leaf_fence(nodes: &[u64], j: usize) -> u64
 
 // Leaf j of so many, in the slice from the first of them on. A struct of the three numbers would be made for one call, and taken apart here.
 fn put_leaf(nodes: &mut [u64], before: usize, pairs: usize, leaves: usize, j: usize)
-    requires { (2 * pairs ≤ length nodes.old) × (32 * leaves ≤ length nodes.old) × (j < leaves) × (before + leaves < 16777216) }
+    requires { (2 * pairs ≤ length nodes.old) × (32 * leaves ≤ length nodes.old) × (j < leaves) × (before + leaves < 16777216) × (11 * j ≤ pairs) }
     ensures { nodes.new ≡ sets nodes.old (32 * j) (leaf_words nodes.old before pairs leaves j) }
 {
     let slots = leaf_slots(nodes, pairs, j);
     let fence = leaf_fence(nodes, j);
-    let words = node_words(
-        MARK,
-        next_number(before + j, before + leaves),
-        0,
+    let leaf = Node {
+        left: MARK,
+        sibling: next_number(before + j, before + leaves),
+        level: 0,
         fence,
         slots,
-    );
-    put_words(nodes, 32 * j, words);
+    };
+    put_words(nodes, 32 * j, node_words(leaf));
 }
 
 // All leaves, from the last down: a leaf's words come after the pairs of the leaves before it.
@@ -138,6 +134,7 @@ fn child_slots(nodes: &[u64], first: usize, count: usize) -> [u64; 24]
     ensures { result ≡ slotted (children_from nodes.now first count) }
 {
     let mut slots = [0u64; 24];
+    // By place: a node's number is its place in the slice.
     for i in 0..count {
         let k = first + i;
         slots[2 * i] = nodes[32 * k + 3];
@@ -153,8 +150,14 @@ fn put_inner(nodes: &mut [u64], first: usize, count: usize, level: u64, k: usize
 {
     let slots = child_slots(nodes, first + 1, count - 1);
     let fence = nodes[32 * first + 3];
-    let words = node_words((first + 1) as u64, next_number(k, end), level, fence, slots);
-    put_words(nodes, 32 * k, words);
+    let inner = Node {
+        left: (first + 1) as u64,
+        sibling: next_number(k, end),
+        level,
+        fence,
+        slots,
+    };
+    put_words(nodes, 32 * k, node_words(inner));
 }
 
 // The row above so many nodes from node first on; the answer is how many it has.
@@ -207,7 +210,8 @@ pub fn clear(nodes: &mut [u64], w: usize)
 
 // The pairs in the words after the nodes before packed into the nodes that follow these, of so many in all. The answer is the root's number,
 // that of the last node in use; the words after it are 0.
-pub fn pack(nodes: &mut [u64], before: usize, pairs: usize, count: usize) -> usize
+pub fn pack(nodes: &mut [u64], before: usize, pairs: usize) -> usize
+    ghost count: { ℕ }
     requires { (length nodes.old ≡ 32 * count) × (count ≤ 65535) × (before + nodes_needed pairs ≤ count) × (pairs ≤ 16777216) }
     ensures nodes_after { nodes.new ≡ packed_after before count nodes.old (pairs_after before nodes.old pairs) }
     ensures value { result ≡ before + packed_count (pairs_after before nodes.old pairs) }

@@ -3,7 +3,7 @@ use mathlib.Core.Path.{◌≡◌, refl, ap, sym, ◌∙◌}
 use mathlib.Core.Bool.{Bool, true, false}
 use mathlib.Core.Logic.{◌≢◌}
 use mathlib.Core.List.{◌++◌}
-use Prim.Native.Nat.{ℕ, zero, suc, ◌+◌, ◌-◌, ◌*◌, ◌≤◌}
+use Prim.Native.Nat.{ℕ, zero, suc, ◌+◌, ◌-◌, ◌*◌, ◌/◌, ◌≤◌}
 use native.Mathlib.Omega.{arith}
 use lib.Dec.{ltb}
 use lib.ListN.{length, take, drop}
@@ -30,6 +30,10 @@ table-packed n m = refl
 module _ (t : Words) (top : ℕ) (long : length t ≡ 8 + 32 * top) where
   pub nodes-long : length (take (length t - 8) (drop 8 t)) ≡ 32 * top
   nodes-long = rest-long t 8 ∙ omega (arith, long)
+
+  -- the nodes of the slice
+  pub nodes-count : length (take (length t - 8) (drop 8 t)) / 32 ≡ top
+  nodes-count = omega (arith, nodes-long)
 
   pub put-back : (w : Words) → length w ≡ length (take (length t - 8) (drop 8 t)) → 8 ≤ length (take 8 t ++ (w ++ drop (length t - 8) (drop 8 t)))
   put-back w e = let n = ap length (back-is t 8 w) ∙ back-long t 8 (omega (arith, long)) w (e ∙ rest-long t 8) in omega (arith, n, long)

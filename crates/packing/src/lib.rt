@@ -2,7 +2,7 @@
 // already, and packed there.
 #![tactic(auto)]
 
-ghost use Rattle.std.specs.Prelude.{◌≡◌, ◌++◌, min, ◌+◌, ◌*◌, ◌/◌, ◌≤◌, ltb, length, drop};
+ghost use Rattle.std.specs.Prelude.{◌≡◌, ◌++◌, ℕ, min, ◌+◌, ◌*◌, ◌/◌, ◌≤◌, ltb, length, drop};
 ghost use Rattle.model.specs.Slots.{slots_of};
 ghost use Rattle.model.specs.Packing.{packed_count, packed_both, packed_table};
 ghost use Rattle.model.specs.Pack.{maps_in, maps_ok, packing, pack_out};
@@ -48,7 +48,8 @@ fn maps_ok(collections: u64, pairs: &[u64], loans: &[u64]) -> bool
 // ---- the table
 
 // The pairs of a slice packed behind the nodes before, of so many in all. The answer is the root's number.
-fn fill(words: &mut [u64], before: usize, pairs: &[u64], top: usize) -> usize
+fn fill(words: &mut [u64], before: usize, pairs: &[u64]) -> usize
+    ghost top: { ℕ }
     requires { (length words.old ≡ 32 * top) × (top ≤ 65535) × (before + nodes_needed (length pairs.now / 2) ≤ top) }
     ensures words_after { words.new ≡ packed_after before top words.old (slots_of pairs.now) }
     ensures value { result ≡ before + packed_count (slots_of pairs.now) }
@@ -57,7 +58,7 @@ fn fill(words: &mut [u64], before: usize, pairs: &[u64], top: usize) -> usize
     let w = 32 * before;
     let end = 2 * count;
     words[w..w + end].copy_from_slice(&pairs[..end]);
-    pack::pack(words, before, count, top)
+    pack::pack(words, before, count)
 }
 
 // A value for each collection.
@@ -68,32 +69,27 @@ pub struct Both<T> {
 }
 
 // The nodes of the table, collection 1 first; the answer is the roots' numbers, 0 for no second one.
-fn fill_both(
-    words: &mut [u64],
-    collections: u64,
-    pairs: &[u64],
-    loans: &[u64],
-    top: usize,
-) -> Both<usize>
+fn fill_both(words: &mut [u64], collections: u64, pairs: &[u64], loans: &[u64]) -> Both<usize>
+    ghost top: { ℕ }
     requires { (length words.old ≡ 32 * top) × (top ≤ 65535) × (packed_both (maps_in collections pairs.now loans.now) ≤ top) }
     ensures words_after { words.new ≡ packed_nodes top (maps_in collections pairs.now loans.now) }
     ensures one_value { (result.one ≡ packed_count (maps_in collections pairs.now loans.now).one)
         × (result.two ≡ second_root (maps_in collections pairs.now loans.now)) }
 {
-    let one = fill(words, 0, pairs, top);
+    let one = fill(words, 0, pairs);
     if collections == 1 {
         return Both { one, two: 0 };
     }
-    let two = fill(words, one, loans, top);
+    let two = fill(words, one, loans);
     Both { one, two }
 }
 
 // The header of a table with these roots, of so many nodes.
-pub fn put_header(table: &mut [u64], root: u64, second: u64, top: u64)
+pub fn put_header(table: &mut [u64], roots: Both<usize>, top: u64)
     requires { 8 ≤ length table.old }
-    ensures { table.new ≡ header_words root second top ++ drop 8 table.old }
+    ensures { table.new ≡ header_words roots.one roots.two top ++ drop 8 table.old }
 {
-    table[..8].copy_from_slice(&[1, root, top, second, 0, 0, 0, 0]);
+    table[..8].copy_from_slice(&[1, roots.one as u64, top, roots.two as u64, 0, 0, 0, 0]);
 }
 
 // The whole table, if the packing fits.
@@ -101,8 +97,8 @@ fn put_table(table: &mut [u64], top: u64, collections: u64, pairs: &[u64], loans
     requires { (length table.old ≡ 8 + 32 * top) × (top ≤ 65535) × (packed_both (maps_in collections pairs.now loans.now) ≤ top) }
     ensures { table.new ≡ packed_table top (maps_in collections pairs.now loans.now) }
 {
-    let roots = fill_both(&mut table[8..], collections, pairs, loans, top as usize);
-    put_header(table, roots.one as u64, roots.two as u64, top);
+    let roots = fill_both(&mut table[8..], collections, pairs, loans);
+    put_header(table, roots, top);
 }
 
 // ---- the call

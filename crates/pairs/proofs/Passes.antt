@@ -1,27 +1,28 @@
 -- Recording numbers entered in passes: one number, the pairs of a slice; what the passes come to, for any list of numbers.
 use mathlib.Core.Path.{◌≡◌, refl, ap, sym, subst, ◌∙◌}
 use mathlib.Core.Bool.{Bool, true, false, false≢true}
-use mathlib.Core.Logic.{◌↔◌, ◌≢◌, ◌⊎◌, inl, inr, ⊎_elim}
-use mathlib.Core.List.{List, [], ◌∷◌, Memᴰ}
-use Prim.Native.Nat.{ℕ, ◌+◌, ◌*◌, ◌/◌, ◌≤◌, ◌<◌}
+use mathlib.Core.Logic.{◌↔◌, ◌⊎◌, inl, inr, ⊎_elim}
+use mathlib.Core.List.{List, [], ◌∷◌, ◌++◌, map, Memᴰ}
+use Prim.Native.Nat.{ℕ, ◌+◌, ◌≤◌, ◌<◌}
 use native.Mathlib.Omega.{arith}
 use lib.Dec.{leb, ltb}
 use lib.ListN.{length}
 use borrow.Author.Tests.{le-leb, lt-ltb, leb-true, ltb-true, ltb-false}
 use Rattle.model.specs.Table.{Words, at}
-use Rattle.model.specs.Slots.{recording_of}
+use Rattle.model.specs.Slots.{Slot, slots_of, recording, recording_of}
 use Rattle.model.specs.Reached.{filter}
 use Rattle.model.specs.SoundTest.{elem, distinct}
 use Rattle.list_laws.proofs.Tools.{and-iff, refuted, same-test}
 use Rattle.list_laws.proofs.Members.{mem-each, elem-iff}
 use Rattle.list_laws.proofs.Filters.{filter-yes, filter-no, filter-all, filter-none, mem-filter}
 use Rattle.list_laws.proofs.Distinct.{distinct-cons}
-use Rattle.numbers.specs.declared.Entry.{Entry}
-use Rattle.numbers.specs.declared.Entry.TheVariants.{Entered, Known, Full}
-use Rattle.numbers.specs.Cells.{SPREAD, mixed, Outcome, outcome, followed, entered_if, entered_all, Tells}
-use Rattle.numbers.proofs.Once.{Last, known-last, full-last, goes-on, ends}
+use Rattle.std.specs.Prelude.{Ok, Err}
+use Rattle.numbers.specs.declared.Stop.{Stop}
+use Rattle.numbers.specs.declared.Stop.TheVariants.{Known}
+use Rattle.numbers.specs.Cells.{Entry, SPREAD, mixed, Outcome, outcome, followed, entered_if, entered_all, Tells}
+use Rattle.numbers.proofs.Once.{stop-last, goes-on, ends}
 use Rattle.pairs.specs.Passes.{in_pass}
-use Rattle.pairs.proofs.Slices.{numbers_of, number-next, number-none}
+use Rattle.pairs.proofs.Slices.{first-pair, no-pair}
 
 -- ---- one number
 
@@ -31,34 +32,28 @@ place-below r = omega arith
 
 -- ---- the pairs of a slice, number by number
 
--- entering ends at an answer other than Entered
-pub last-unless : (e : Entry) → e ≢ Entered → Last e
-last-unless Entered h = absurd (h refl)
-last-unless Known h = known-last
-last-unless Full h = full-last
+-- what is left to enter, the pairs of these words, into the cells as they are, comes to o
+pub record Entering (p : ℕ → Bool) (o : Outcome) (ws cs : Words) : Type 0 where
+  pub comes-to : entered_all p (map recording (slots_of ws)) cs ≡ o
 
--- what is left to enter, from pair i on, into the cells as they are, comes to o
-pub record Entering (p : ℕ → Bool) (ws : Words) (o : Outcome) (cs : Words) (i : ℕ) : Type 0 where
-  pub comes-to : entered_all p (numbers_of ws i) cs ≡ o
-
-module _ {p : ℕ → Bool} {ws : Words} {o : Outcome} {cs : Words} {i : ℕ} (k : Entering p ws o cs i) where
-  pub enter-end : length ws / 2 ≤ i → outcome Entered cs ≡ o
+module _ {p : ℕ → Bool} {o : Outcome} {ws cs : Words} (k : Entering p o ws cs) where
+  pub enter-end : length ws < 2 → outcome (Ok tt) cs ≡ o
   unfolding entered_all
-  enter-end h = sym (ap (λ (xs : List ℕ). entered_all p xs cs) (number-none ws i h)) ∙ k.comes-to
+  enter-end h = sym (ap (λ (ss : List Slot). entered_all p (map recording ss) cs) (no-pair ws h)) ∙ k.comes-to
 
-  module _ (h : i < length ws / 2) (r : ℕ) (own : r ≡ recording_of (at ws (2 * i + 1))) (e : Entry) (after : Words) (q : outcome e after ≡ entered_if p cs r) where
+  module _ (pair rest : Words) (w : ws ≡ pair ++ rest) (two : length pair ≡ 2) (r : ℕ) (own : r ≡ recording_of (at pair 1)) (e : Entry) (after : Words) (q : outcome e after ≡ entered_if p cs r) where
     abbrev later : Words → Outcome
-    later = entered_all p (numbers_of ws (i + 1))
+    later = entered_all p (map recording (slots_of rest))
 
     enter-next : o ≡ followed (entered_if p cs r) later
     unfolding entered_all
-    enter-next = sym k.comes-to ∙ ap (λ (xs : List ℕ). entered_all p xs cs) (number-next ws i h) ∙ ap (λ (n : ℕ). followed (entered_if p cs n) later) (sym own)
+    enter-next = sym k.comes-to ∙ ap (λ (ss : List Slot). entered_all p (map recording ss) cs) (first-pair ws pair rest w two) ∙ ap (λ (n : ℕ). followed (entered_if p cs n) later) (sym own)
 
-    pub enter-goes : e ≡ Entered → later after ≡ o
-    enter-goes a = goes-on later o (entered_if p cs r) e after enter-next q a
+    pub enter-goes : e ≡ Ok tt → Entering p o rest after
+    enter-goes a = record { comes-to = goes-on later o (entered_if p cs r) e after enter-next q a }
 
-    pub enter-ends : (s : Entry) → Last s → e ≡ s → outcome s after ≡ o
-    enter-ends s l a = ends later o (entered_if p cs r) e after enter-next q s l a
+    pub enter-ends : (s : Stop) → e ≡ Err s → outcome (Err s) after ≡ o
+    enter-ends s a = ends later o (entered_if p cs r) e after enter-next q (Err s) (stop-last s) a
 
 -- ---- the passes
 
@@ -124,7 +119,7 @@ module _ {xs : List ℕ} {low width : ℕ} (k : Passed xs low width) where
       sym (sym (ap distinct every) ∙ k.so-far)
 
   module _ (e : Entry) (h : Tells e (filter (in_pass low (low + width)) xs)) where
-    pub pass-more : e ≡ Entered → Passed xs (low + width) width
+    pub pass-more : e ≡ Ok tt → Passed xs (low + width) width
     pass-more q =
         record {
           some = k.some;
@@ -141,7 +136,7 @@ module _ {xs : List ℕ} {low width : ℕ} (k : Passed xs low width) where
             go true l = inl ((in-pass 0 low x).1 (omega arith, ltb-true (mixed x) low l))
             go false l = inr ((in-pass low (low + width) x).1 (ltb-false (mixed x) low l, ((in-pass 0 (low + width) x).0 u).1))
 
-    pub pass-twice : e ≡ Known → false ≡ distinct xs
+    pub pass-twice : e ≡ Err Known → false ≡ distinct xs
     pass-twice q =
         sym
         (twice-part (in_pass low (low + width)) xs (subst (λ (x : Entry). Tells x (filter (in_pass low (low + width)) xs)) q h))

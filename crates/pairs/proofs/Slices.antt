@@ -1,16 +1,20 @@
 -- The pairs of a slice, one by one: what is left from pair i on.
 use mathlib.Core.Path.{◌≡◌, refl, ap, ap₂, sym, ◌∙◌}
 use mathlib.Core.Bool.{Bool, true, false, not, ◌&&◌, ◌||◌}
-use mathlib.Core.List.{List, [], ◌∷◌, map}
+use mathlib.Core.List.{List, [], ◌∷◌, ◌++◌, map}
 use Prim.Native.Nat.{ℕ, zero, suc, ◌+◌, ◌-◌, ◌*◌, ◌/◌, ◌≤◌, ◌<◌}
 use native.Mathlib.Omega.{arith}
 use lib.Dec.{eqb, ltb}
-use lib.ListN.{length, drop}
+use lib.ListN.{length, get_or, drop}
 use borrow.Author.Tests.{le-leb, ltb-true, ltb-false}
+use Rattle.std.specs.Borrow.{Bor}
+use Rattle.std.specs.Iterator.{AlwaysYields}
+use Rattle.std.specs.Slice.Iter.{chunks_exact_rest, chunks_exact_size, chunks_exact_steps}
+use Rattle.std.proofs.lemmas.Iterator.{YieldsList}
 use Rattle.std.specs.List.{list_all, list_any, range_with_len}
 use Rattle.model.specs.Table.{Words, at}
-use Rattle.model.specs.Slots.{Slot, slot, slots_of, recording_of, recording, pointer_ok}
-use Rattle.model.specs.SoundTest.{all, distinct, pair_ok, rising}
+use Rattle.model.specs.Slots.{Slot, slot, slots_of, recording_of, recording}
+use Rattle.model.specs.SoundTest.{distinct, rising}
 use Rattle.model.specs.Refusals.{has_recording}
 use Rattle.table_laws.proofs.SlotWords.{slots-cons, slots-end}
 use Rattle.change_laws.proofs.Pairs.{has-recording}
@@ -55,15 +59,6 @@ module _ (ws : Words) where
       go true e = first-none (ltb-true _ _ e)
       go false e = first-some (ltb-false _ _ e)
 
-  -- ---- each pointer in range
-
-  pub listed-range : (i m : ℕ) → length ws / 2 - i ≡ m → list_all (λ k. pointer_ok (at ws (2 * k + 1))) (range_with_len i m) ≡ all pair_ok (drop i ps)
-  unfolding all
-  listed-range i zero e = sym (ap (all pair_ok) (pair-none i (omega arith)))
-  listed-range i (suc m) e =
-      ap (λ b. pointer_ok (at ws (2 * i + 1)) && b) (listed-range (i + 1) m (omega arith))
-      ∙ sym (ap (all pair_ok) (pair-next i (omega arith)))
-
   -- ---- a recording number among the pairs from pair i on
 
   pub listed-recording : (r i m : ℕ) → length ws / 2 - i ≡ m → list_any (λ k. eqb (recording_of (at ws (2 * k + 1))) r) (range_with_len i m) ≡ has_recording r (drop i ps)
@@ -91,3 +86,44 @@ module _ (ws : Words) where
   listed-once i (suc m) e =
       ap₂ (λ x y. not x && y) (has-recording (recording_of (at ws (2 * i + 1))) (drop (i + 1) ps)) (listed-once (i + 1) m (omega arith))
       ∙ sym (ap distinct (number-next i (omega arith)))
+
+-- ---- two words at a time
+
+module _ (ws pair after : Words) (e : ws ≡ pair ++ after) (two : length pair ≡ 2) where
+  pub first-pair : slots_of ws ≡ slot (at pair 0) (at pair 1) ∷ slots_of after
+  unfolding slots_of
+  first-pair = rw e (go pair two)
+    where
+      go : (p : Words) → length p ≡ 2 → slots_of (p ++ after) ≡ slot (at p 0) (at p 1) ∷ slots_of after
+      go [] n = absurd (omega arith)
+      go (a ∷ []) n = absurd (omega arith)
+      go (a ∷ b ∷ []) n = refl
+      go (a ∷ b ∷ x ∷ p) n = absurd (omega arith)
+
+pub no-pair : (ws : Words) → length ws < 2 → slots_of ws ≡ []
+unfolding slots_of
+no-pair [] h = refl
+no-pair (a ∷ []) h = refl
+no-pair (a ∷ b ∷ p) h = absurd (omega arith)
+
+abbrev pub pair_in : Bor (List ℕ) → Slot
+pair_in x = slot (at x.now 0) (at x.now 1)
+
+pairs-given : (ss : List Slot) (s : _) → chunks_exact_size s ≡ 2 → slots_of (chunks_exact_rest s) ≡ ss → AlwaysYields chunks_exact_steps pair_in s ss
+pairs-given [] s z e = λ x j p.
+    let q = first-pair _ x.now _ p.1.0 (p.1.1 ∙ z) in
+    let n : ◌≡◌ {A = ℕ} (suc (length (slots_of (chunks_exact_rest j)))) 0 = sym (ap length q) ∙ ap length e in
+    absurd (omega arith)
+pairs-given (y ∷ ys) s z e = (
+  (λ j p.
+      let q = no-pair (chunks_exact_rest s) (omega (arith, p.1.0, z)) in
+      let n : ◌≡◌ {A = ℕ} (suc (length ys)) 0 = sym (ap length e) ∙ ap length q in
+      absurd (omega arith)),
+  λ x j p.
+      let q = sym (first-pair _ x.now _ p.1.0 (p.1.1 ∙ z)) ∙ e in
+      (ap (λ (l : List Slot). get_or l 0 (slot 0 0)) q, pairs-given ys j (p.0 ∙ z) (ap (drop 1) q)),
+)
+
+-- the pairs of a slice come in order
+pub pairs-come : (ws : Words) (s : _) → chunks_exact_size s ≡ 2 → chunks_exact_rest s ≡ ws → YieldsList chunks_exact_steps pair_in s (slots_of ws)
+pairs-come ws s z e = record { runs = pairs-given (slots_of ws) s z (ap slots_of e) }

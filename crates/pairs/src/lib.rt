@@ -11,7 +11,7 @@ ghost use Rattle.model.specs.Pack.{pairs_ok};
 ghost use Rattle.numbers.specs.Cells.{outcome, entered_if, entered_all, Tells};
 ghost use Rattle.pairs.specs.Passes.{in_pass};
 
-use numbers::Entry;
+use numbers::{Entry, Stop};
 
 // If the cells get full, passes narrower than this are not tried.
 const NARROWEST: u64 = 4194304;
@@ -20,6 +20,7 @@ const NARROWEST: u64 = 4194304;
 fn rise(pairs: &[u64]) -> bool
     ensures { result ≡ rising 0 (slots_of pairs.now) }
 {
+    // By place: a pair and the one before it, as one iterator, would be a `zip`, whose fields targets/width.py refuses.
     (1..pairs.len() / 2).all(|i| pairs[2 * i - 2] < pairs[2 * i])
 }
 
@@ -27,7 +28,7 @@ fn rise(pairs: &[u64]) -> bool
 fn in_range(pairs: &[u64]) -> bool
     ensures { result ≡ all pair_ok (slots_of pairs.now) }
 {
-    (0..pairs.len() / 2).all(|i| pointer::ok(pairs[2 * i + 1]))
+    pairs.chunks_exact(2).all(|pair| pointer::ok(pair[1]))
 }
 
 // ---- each recording number compared with all after it
@@ -36,6 +37,7 @@ fn in_range(pairs: &[u64]) -> bool
 pub fn has_recording(pairs: &[u64], first: usize, recording: u64) -> bool
     ensures { result ≡ has_recording recording (drop first (slots_of pairs.now)) }
 {
+    // By place: the walk begins at the pair that the caller names.
     (first..pairs.len() / 2).any(|i| pointer::recording(pairs[2 * i + 1]) == recording)
 }
 
@@ -44,6 +46,7 @@ pub fn has_recording(pairs: &[u64], first: usize, recording: u64) -> bool
 fn compared_once(pairs: &[u64]) -> bool
     ensures { result ≡ distinct (map recording (slots_of pairs.now)) }
 {
+    // By place: each is compared with those after its place.
     (0..pairs.len() / 2).all(|i| !has_recording(pairs, i + 1, pointer::recording(pairs[2 * i + 1])))
 }
 
@@ -61,7 +64,7 @@ fn enter_one(cells: &mut [u64; numbers::CELLS], number: u64, low: u64, high: u64
     ensures { outcome result cells.new ≡ entered_if (in_pass low high) cells.old number }
 {
     if !in_pass(number, low, high) {
-        return Entry::Entered;
+        return Ok(());
     }
     numbers::enter(cells, numbers::TRIES, number)
 }
@@ -70,14 +73,11 @@ fn enter_one(cells: &mut [u64; numbers::CELLS], number: u64, low: u64, high: u64
 fn enter_all(cells: &mut [u64; numbers::CELLS], pairs: &[u64], low: u64, high: u64) -> Entry
     ensures { outcome result cells.new ≡ entered_all (in_pass low high) (map recording (slots_of pairs.now)) cells.old }
 {
-    for i in 0..pairs.len() / 2 {
-        let number = pointer::recording(pairs[2 * i + 1]);
-        match enter_one(cells, number, low, high) {
-            Entry::Entered => {}
-            ended => return ended,
-        }
+    for pair in pairs.chunks_exact(2) {
+        let number = pointer::recording(pair[1]);
+        enter_one(cells, number, low, high)?;
     }
-    Entry::Entered
+    Ok(())
 }
 
 // Whether a number of the pass is there twice, unless the cells get full.
@@ -98,9 +98,9 @@ fn once(pairs: &[u64]) -> bool
     // No range counts this: a pass is as wide as the cells let it be.
     while low < numbers::SPREAD {
         match pass(pairs, low, low + width) {
-            Entry::Entered => low += width,
-            Entry::Known => return false,
-            Entry::Full => {
+            Ok(()) => low += width,
+            Err(Stop::Known) => return false,
+            Err(Stop::Full) => {
                 if width <= NARROWEST {
                     return compared_once(pairs);
                 }

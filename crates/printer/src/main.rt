@@ -1,63 +1,45 @@
-// The order printer: reads standard input in pieces, hands each to `script`, and writes what that leaves in the buffer.
+// The order printer: reads standard input in pieces, hands each to `script`, and writes what that leaves as its text.
 #![tactic(auto)]
 
-ghost use Rattle.std.specs.Prelude.{◌≡◌, ◌≤◌, length};
+ghost use Rattle.std.specs.Prelude.{◌≡◌};
 ghost use Rattle.model.specs.Printer.{first_desk};
-ghost use Rattle.script.specs.Spoken.{desk_of, silent, After};
+ghost use Rattle.script.specs.Session.{desk, After};
 
-use script_bytes::LineState;
+use script::Session;
 use std::io;
 use std::io::Read;
 
 // Room for what the longest line prints: 24 bytes for each of the list's 2,560 words, and 48 more.
 const ROOM: usize = 61488;
 
-// The first n bytes of the buffer, written, unless an earlier write failed.
-fn print(rt: &impl Print, wrote: &mut io::Result<()>, out: &[u8], n: usize)
-    requires { n ≤ length out.now }
-{
-    if 0 < n && wrote.is_ok() {
-        *wrote = rt.write_all(&out[..n]);
+// A text, written, unless an earlier write failed.
+fn print(rt: &impl Print, wrote: &mut io::Result<()>, text: &[u8]) {
+    if !text.is_empty() && wrote.is_ok() {
+        *wrote = rt.write_all(text);
     }
 }
 
-// A piece of the input, line by line: the line so far, the table and the list after it.
-fn read_piece(
-    rt: &impl Print,
-    wrote: &mut io::Result<()>,
-    table: &mut [u64; 136],
-    list: &mut [u64; 2560],
-    out: &mut [u8; ROOM],
-    line: LineState,
-    piece: &[u8],
-) -> LineState
-    ensures { After (silent line (desk_of table.old list.old)) piece.now result table.new list.new }
+// A piece of the input, line by line. That a write failed is kept, and not handed on by `?`: what is promised of the table and the list
+// holds then too.
+fn read_piece(rt: &impl Print, wrote: &mut io::Result<()>, session: &mut Session<'_>, piece: &[u8])
+    ensures { After session.old piece.now session.new }
 {
-    let mut s = line;
-    let mut i = 0;
+    let mut rest = piece;
     // A call promises that it uses some bytes, and not that it uses a whole line: a split at line feeds would rest on that.
-    while i < piece.len() {
-        let said = script::read_line(table, list, out, s, &piece[i..]);
-        print(rt, wrote, out, said.printed);
-        s = said.line;
-        i += said.used;
+    while !rest.is_empty() {
+        let used = session.read_line(rest);
+        print(rt, wrote, session.text.bytes());
+        rest = &rest[used..];
     }
-    s
 }
 
 // All of standard input, up to more pieces than any input has, or up to a piece that is not read or whose lines are not written.
-fn read_input(
-    rt: &(impl Print + Input),
-    table: &mut [u64; 136],
-    list: &mut [u64; 2560],
-) -> io::Result<()>
-    requires { desk_of table.old list.old ≡ first_desk }
+fn read_input(rt: &(impl Print + Input), session: &mut Session<'_>) -> io::Result<()>
+    requires { desk session.old ≡ first_desk }
 {
     let mut input = rt.reader();
     let mut wrote = Ok(());
-    // What a line prints, and a piece: memory is fixed, there is no heap.
-    let mut out = [0u8; ROOM];
-    let mut s = script_bytes::start();
+    // A piece: memory is fixed, there is no heap.
     let mut buffer = [0u8; 4096];
     for _ in 0..1099511627776u64 {
         if wrote.is_err() {
@@ -67,15 +49,18 @@ fn read_input(
         if n == 0 {
             break;
         }
-        s = read_piece(rt, &mut wrote, table, list, &mut out, s, &buffer[..n]);
+        read_piece(rt, &mut wrote, session, &buffer[..n]);
     }
-    let last = script::finish(table, list, &mut out, s);
-    print(rt, &mut wrote, &out, last);
+    session.finish();
+    print(rt, &mut wrote, session.text.bytes());
     wrote
 }
 
 fn main(rt: HostRuntime) -> io::Result<()> {
     let mut table = script::first_table();
     let mut list = script::first_list();
-    read_input(&rt, &mut table, &mut list)
+    // What a line prints: memory is fixed, there is no heap.
+    let mut out = [0u8; ROOM];
+    let mut session = Session::new(&mut table, &mut list, &mut out);
+    read_input(&rt, &mut session)
 }

@@ -2,11 +2,11 @@
 use mathlib.Core.Path.{◌≡◌, refl, ap, sym, ◌∙◌, subst}
 use mathlib.Core.Bool.{Bool, true, false, cond, ◌&&◌}
 use mathlib.Core.List.{List, [], ◌∷◌, ◌++◌, append_assoc, append-nil}
-use Prim.Native.Nat.{ℕ, suc, ◌+◌, ◌*◌, ◌≤◌, ◌<◌}
+use Prim.Native.Nat.{ℕ, ◌+◌, ◌*◌, ◌≤◌, ◌<◌}
 use native.Mathlib.Omega.{arith}
 use lib.Dec.{eqb, leb, ltb}
-use lib.ListN.{length, get_or, take, drop, length-take, drop_of_length-le}
-use lib.Seq.{drop-cons, get_or-take, length-take-le}
+use lib.ListN.{length, get_or, drop, drop_of_length-le}
+use lib.Seq.{drop-cons}
 use native.Mathlib.Numerals.{add-one}
 use borrow.Author.Tests.{eqb-true}
 use Rattle.model.specs.Table.{Words, in_range, has_node, node}
@@ -22,9 +22,11 @@ use Rattle.orders.proofs.Rest.{Rest, rest-start, rest-same, rest-none, rest-firs
 use Rattle.write.proofs.Parts.{part-table}
 use Rattle.node.specs.Word.{word_of}
 use Rattle.node.proofs.WordLaws.{word-slot}
+use Rattle.std.specs.Prelude.{Option, Some, None, MatchOption}
+use Rattle.std.specs.Option.{option_eq}
 use Rattle.slots.specs.Scan.{in_use_of}
 use Rattle.slots.proofs.Places.{in-use-at}
-use Rattle.shift.proofs.AtNode.{shown-is}
+use Rattle.shift.proofs.AtNode.{shown-read}
 use Rattle.way.specs.Ways.{plain_count}
 use Rattle.model.specs.Marks.{put}
 use Rattle.model.specs.Summary.{full_node, roomy, can_split, free_after, Going, going, split_way}
@@ -40,24 +42,26 @@ module _ (N : ℕ) (t : Words) (a : ℕ) where
   unfolding roomy
   roomy-none e = rw e
 
-  module _ (r : in_range N a ≡ true) (c : ℕ) (e : c ≡ plain_count (node_view t a)) where
-    pub full-by : eqb c 11 ≡ full_node N t a
+  module _ (r : in_range N a ≡ true) where
+    pub full-by : (o : Option ℕ) (b : Bool) → o ≡ plain_count (node_view t a) → b ≡ option_eq eqb o (Some 11) → b ≡ full_node N t a
     unfolding full_node full plain_count
-    full-by = go (eqb (node_view t a).hidden 0) refl e
+    full-by o b e f = f ∙ ap (λ (x : Option ℕ). option_eq eqb x (Some 11)) e ∙ go (eqb (node_view t a).hidden 0) refl
       where
-        go : (b : Bool) → eqb (node_view t a).hidden 0 ≡ b → c ≡ cond b (length (node_view t a).shown) 12
-            → eqb c 11 ≡ (in_range N a && (eqb (node_view t a).hidden 0 && eqb (length (node_view t a).shown) 11))
-        go true z w = rw (r, z, w)
-        go false z w = rw (r, z, w)
+        go : (b : Bool) → eqb (node_view t a).hidden 0 ≡ b → option_eq eqb (cond b (Some (length (node_view t a).shown)) None) (Some 11)
+            ≡ (in_range N a && (eqb (node_view t a).hidden 0 && eqb (length (node_view t a).shown) 11))
+        go true z = rw (r, z)
+        go false z = rw (r, z)
 
-    pub roomy-by : leb c 10 ≡ roomy N t a
+    pub roomy-by : (o : Option ℕ) (b : Bool) (P : ℕ → Type 0) → ((x : ℕ) → P x → b ≡ leb x 10) → o ≡ plain_count (node_view t a) → MatchOption o (b ≡ false) P → b ≡ roomy N t a
     unfolding roomy plain_count
-    roomy-by = go (eqb (node_view t a).hidden 0) refl e
+    roomy-by o b P h e q = go (eqb (node_view t a).hidden 0) refl o e q
       where
-        go : (b : Bool) → eqb (node_view t a).hidden 0 ≡ b → c ≡ cond b (length (node_view t a).shown) 12
-            → leb c 10 ≡ (in_range N a && (eqb (node_view t a).hidden 0 && leb (length (node_view t a).shown) 10))
-        go true z w = rw (r, z, w)
-        go false z w = rw (r, z, w)
+        go : (d : Bool) → eqb (node_view t a).hidden 0 ≡ d → (o : Option ℕ) → o ≡ cond d (Some (length (node_view t a).shown)) None → MatchOption o (b ≡ false) P
+            → b ≡ (in_range N a && (eqb (node_view t a).hidden 0 && leb (length (node_view t a).shown) 10))
+        go true z (Some n) w q = let u : n ≡ length (node_view t a).shown = cc in rw (r, z) (h n q ∙ ap (λ (m : ℕ). leb m 10) u)
+        go true z None w q = cc
+        go false z (Some n) w q = cc
+        go false z None w q = rw (r, z) q
 
 module _ (N : ℕ) (t : Words) (a b p : ℕ) where
   pub split-unfull : full_node N t a ≡ false → false ≡ can_split N t a b p
@@ -101,7 +105,7 @@ upper-range N t a b p e = ((range-iff N b).0 ((and-iff (in_range N b) (roomy N t
 pub middle-word : (t : Words) (a b p : ℕ) → Splits t a b p → word_of t a 18 ≡ (middle t a).key
 middle-word t a b p s =
     let x = node t a in
-    let all = shown-is t a _ s.lower refl x refl s.plain in
+    let all = shown-read t a x refl s.plain in
     let six : 5 < length (in_use_of x.slots) = omega (arith, s.enough, ap length all) in
     word-slot t a 10 (omega arith) ∙ sym (ap (λ (ss : List Slot). (get_or ss 5 (slot 0 0)).key) all ∙ ap (λ (y : Slot). y.key) (in-use-at x.slots 5 six))
 
@@ -197,15 +201,10 @@ module _ {N k : ℕ} {f w : Writer} {ms : Words} {u : ℕ} {x : Desk} {ms' : Wor
 
 -- ---- the list of nodes, one fewer
 
-rest-of : (ns : List ℕ) (i e : ℕ) → i < e → e ≤ length ns → drop i (take e ns) ≡ get_or ns i 0 ∷ drop (i + 1) (take e ns)
-rest-of ns i e h l =
-    drop-cons (take e ns) i 0 (omega (arith, length-take-le e ns l)) ∙ ap (λ (x : ℕ). x ∷ drop (suc i) (take e ns)) (get_or-take e ns i 0 h)
-    ∙ ap (λ (y : ℕ). get_or ns i 0 ∷ drop y (take e ns)) (sym (add-one i))
-
 -- the next node of those that are left
-pub left-at : {N k : ℕ} (ns : List ℕ) (i e : ℕ) {f w : Writer} {ms : Words} {u : ℕ} {x : Desk} {ms' : Words} {u' : ℕ} → i < e → e ≤ length ns
-    → Left N k (drop i (take e ns)) f w ms u x ms' u' → Left N k (get_or ns i 0 ∷ drop (i + 1) (take e ns)) f w ms u x ms' u'
-left-at ns i e h n l = left-as _ _ (rest-of ns i e h n) l
+pub left-at : {N k : ℕ} (ns : List ℕ) (i : ℕ) {f w : Writer} {ms : Words} {u : ℕ} {x : Desk} {ms' : Words} {u' : ℕ} → i < length ns
+    → Left N k (drop i ns) f w ms u x ms' u' → Left N k (get_or ns i 0 ∷ drop (i + 1) ns) f w ms u x ms' u'
+left-at ns i h l = left-as _ _ (drop-cons ns i 0 h ∙ ap (λ (y : ℕ). get_or ns i 0 ∷ drop y ns) (sym (add-one i))) l
 
-pub rest-past : (ns : List ℕ) (i e : ℕ) → e ≤ i → drop i (take e ns) ≡ []
-rest-past ns i e h = drop_of_length-le (take e ns) {i = i} (simp length-take (omega arith))
+pub rest-past : (ns : List ℕ) (i : ℕ) → length ns ≤ i → drop i ns ≡ []
+rest-past ns i h = drop_of_length-le ns {i = i} h

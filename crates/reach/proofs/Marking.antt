@@ -10,11 +10,9 @@ use lib.Dec.{eqb}
 use lib.ListN.{length, get_or, take, drop, drop_of_length-le, replicate, length-replicate}
 use lib.Seq.{set_out, drop-cons}
 use borrow.Author.Tests.{eq-eqb, ne_eqb}
-use Rattle.model.specs.declared.Node.{Node}
-use Rattle.model.specs.Table.{Words, at, node, root}
-use Rattle.model.specs.Slots.{slot, View, node_view, view_from, view_of, view, used}
-use Rattle.model.specs.Search.{below}
-use Rattle.model.specs.Reached.{pointers, kept, named, next_child, children, reached, reached_all}
+use Rattle.model.specs.Table.{Words, at, root}
+use Rattle.model.specs.Slots.{View, node_view, view_from, view_of, view}
+use Rattle.model.specs.Reached.{pointers, named, next_child, children, reached, reached_all}
 use Rattle.model.specs.SoundTest.{elem, sound}
 use Rattle.list_laws.proofs.Tools.{Each, same-or-not, compared, or-right}
 use Rattle.list_laws.proofs.Members.{mem-each, elem-iff}
@@ -25,9 +23,9 @@ use Rattle.tree_laws.proofs.Parents.{child-reached}
 use Rattle.two_laws.proofs.SameTwo.{first-there, second-there}
 use Rattle.two_laws.proofs.CollectionTwo.{collection-orderly, elem-alone, elem-beside}
 use Rattle.node.specs.Word.{word_of}
-use Rattle.node.proofs.WordLaws.{word-level, word-fence}
-use Rattle.slots.specs.declared.Ways.{Ways}
-use Rattle.slots.specs.Scan.{shown_from, keeps, kept_of}
+use Rattle.node.proofs.WordLaws.{word-level}
+use Rattle.walk_laws.specs.Walk.{ways}
+use Rattle.slots.specs.declared.ways.Ways.{Ways}
 use Rattle.slots.specs.Gathered.{span, slots_in}
 use Rattle.bits.specs.Bits.{put}
 use Rattle.bits.proofs.Marks.{has-put-other, none-marked}
@@ -149,14 +147,5 @@ module _ (t : Words) (n l : ℕ) (q : l ≡ word_of t n 2) (ws : Words) where
     unfolding named_by
     names-all e = rw (inner-level, e)
 
-    module _ (x : Node) (b : ℕ) (w : Ways) (is : x ≡ node t n) (fence : b ≡ word_of t x.sibling 3)
-        (ways : slots_in w ≡ slot x.fence x.left ∷ kept_of x.sibling b (shown_from x.left x.slots 0)) where
-      are-named : pointers (slots_in w) ≡ named (view t) n
-      unfolding used kept below keeps
-      are-named =
-          ap pointers ways
-          ∙ ap (λ (e : ℕ). x.left ∷ pointers (kept_of x.sibling e (shown_from x.left x.slots 0))) (fence ∙ word-fence t x.sibling)
-          ∙ ap (λ (y : Node). y.left ∷ pointers (kept_of y.sibling (node t y.sibling).fence (shown_from y.left y.slots 0))) is
-
-      pub ways-named : Taken t n → (after : Words) → after ≡ put_all (pointers (slots_in w)) ws → after ≡ put_all (named_by t n) ws
-      ways-named e after p = p ∙ ap (λ (ns : List ℕ). put_all ns ws) (are-named ∙ sym (names-all e))
+    pub ways-named : (w : Ways) → slots_in w ≡ ways (view t) n → Taken t n → (after : Words) → after ≡ put_all (pointers (slots_in w)) ws → after ≡ put_all (named_by t n) ws
+    ways-named w is e after p = p ∙ ap (λ (ns : List ℕ). put_all ns ws) (ap pointers is ∙ sym (names-all e))

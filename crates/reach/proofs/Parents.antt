@@ -20,12 +20,12 @@ use Rattle.tree_laws.proofs.Rows.{At, first-child, head-children}
 use Rattle.tree_laws.proofs.Levels.{Orderly, Level, level-lower, level-down, level-root, mem-reached, reached-few}
 use Rattle.walk_laws.specs.Chain.{leftmost, along}
 use Rattle.walk_laws.proofs.AnyRoot.{any-along}
-use Rattle.walk_laws.proofs.ChainLaw.{along-none, along-more, along-row}
+use Rattle.walk_laws.proofs.ChainLaw.{along-none, along-row}
 use Rattle.two_laws.proofs.Arrange.{trees-one, trees-two}
 use Rattle.two_laws.proofs.SameTwo.{first-there, second-there}
 use Rattle.two_laws.proofs.CollectionTwo.{collection-orderly, elem-beside}
 use Rattle.node.specs.Word.{word_of}
-use Rattle.node.proofs.WordLaws.{word-sibling, word-level}
+use Rattle.node.proofs.WordLaws.{word-level}
 use Rattle.reach.specs.Marks.{Taken, put_all, named_by, first_parent, named_leaves}
 use Rattle.reach.proofs.Members.{taken-first}
 use Rattle.reach.proofs.Marking.{put_all-append, named-by-taken}
@@ -38,25 +38,15 @@ parent-start t r l q = rw (q ∙ word-level t r)
 
 -- ---- along the siblings, as the code goes
 
-module _ (t : Words) (n : ℕ) (ws : Words) where
-  abbrev passed : ℕ → ℕ → List ℕ
-  passed left m = flat (named_by t) (along (view t) left m)
-
-  pub along-stop : (left : ℕ) → n ≡ 0 → ws ≡ put_all (passed left n) ws
+module _ (t : Words) (ns : List ℕ) (ws : Words) where
+  pub row-end : ns ≡ [] → ws ≡ put_all (flat (named_by t) ns) ws
   unfolding put_all flat
-  along-stop left z = rw (z, along-none (view t) left)
+  row-end z = rw z
 
-  pub along-end : (left : ℕ) → left ≡ 0 → ws ≡ put_all (passed left n) ws
-  unfolding put_all flat along
-  along-end left z = rw z
-
-  -- so many nodes left, and one less
-  pub along-next : (more less m : ℕ) (after : Words) → n ≢ 0 → less + 1 ≡ more → after ≡ put_all (named_by t n) ws → m ≡ word_of t n 1 → put_all (passed less m) after ≡ put_all (passed more n) ws
+  pub row-next : (n : ℕ) (later : List ℕ) (after : Words) → ns ≡ n ∷ later → after ≡ put_all (named_by t n) ws
+      → put_all (flat (named_by t) later) after ≡ put_all (flat (named_by t) ns) ws
   unfolding flat
-  along-next more less m after z h e q =
-      let d : more ≡ suc less = omega arith in
-      let p : along (view t) more n ≡ n ∷ along (view t) less (node_view t n).sibling = ap (λ (c : ℕ). along (view t) c n) d ∙ along-more (view t) less n z in
-      rw (q ∙ word-sibling t n, e, p, put_all-append (named_by t n) (passed less (node_view t n).sibling) ws)
+  row-next n later after z e = rw (z, e, put_all-append (named_by t n) (flat (named_by t) later) ws)
 
 -- ---- a row i levels down
 

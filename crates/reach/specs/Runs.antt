@@ -15,9 +15,13 @@ unfoldable pub end_run : (ℕ → Bool) → List ℕ → ℕ
 end_run p [] = 0
 end_run p (n ∷ ns) = elim (all p (n ∷ ns)) [ true ↦ length (n ∷ ns) | false ↦ end_run p ns ]
 
--- the running count after an element, with the count so far: 0 after one that does not pass
+-- the running count after one more, which passes or not: 0 after one that does not
+abbrev pub counted : (count : ℕ) → Bool → ℕ
+counted count b = cond b (count + 1) 0
+
+-- after an element
 abbrev pub run_after : (ℕ → Bool) → (count n : ℕ) → ℕ
-run_after p count n = cond (p n) (count + 1) 0
+run_after p count n = counted count (p n)
 
 -- the running count over a list
 unfoldable pub run_from : (ℕ → Bool) → ℕ → List ℕ → ℕ

@@ -11,10 +11,11 @@ ghost use Rattle.model.specs.Writes.{numbers, unreached, unreachable, fresh, sta
 ghost use Rattle.walk_laws.specs.Chain.{along};
 ghost use Rattle.bits.specs.Bits.{put};
 ghost use Rattle.slots.specs.Gathered.{slots_in};
-ghost use Rattle.reach.specs.Runs.{full_in, run_after, full_run};
+ghost use Rattle.reach.specs.Runs.{full_in, counted, full_run};
 ghost use Rattle.reach.specs.Marks.{MARKS, Marked};
 ghost use Rattle.reach.specs.Marks.{put_all, named_by, first_parent, named_leaves, marked_once, looked_at, fresh_round, fresh_marks};
 
+use leaves::Siblings;
 use slots::Ways;
 
 // Words for a bit of each node.
@@ -23,7 +24,8 @@ pub const MARKS: usize = 1024;
 // The highest number that a node can have.
 const LAST: u64 = 65535;
 
-// The unbroken run of full nodes from the leaf upward: its length, and whether it includes the root.
+// The unbroken run of full nodes from the leaf upward: its length, and whether it includes the root. Both are data of every run, also of one of
+// length 0: no Option says them.
 #[derive(Clone, Copy)]
 pub struct Run {
     pub length: u64,
@@ -95,7 +97,6 @@ fn mark(marks: &mut [u64; MARKS], n: u64)
 
 // Marks the nodes that ways lead to.
 fn mark_ways(marks: &mut [u64; MARKS], w: Ways)
-    requires { w.count ≤ 13 }
     ensures { marks.new ≡ put_all (pointers (slots_in w)) marks.old }
 {
     for &n in &w.pointers[..w.count] {
@@ -115,9 +116,7 @@ fn mark_children(table: &[u64], marks: &mut [u64; MARKS], n: u64)
     if !is_taken(table, n) {
         return;
     }
-    let x = node::read(table, n);
-    let bound = node::word(table, x.sibling, 3);
-    mark_ways(marks, slots::gather(x, bound));
+    mark_ways(marks, leaves::ways_of(table, n));
 }
 
 // From a root down by left to the level above the leaves, if there is one.
@@ -135,13 +134,8 @@ fn mark_along(table: &[u64], marks: &mut [u64; MARKS], first: u64)
     ensures { marks.new
         ≡ put_all (flat (named_by table.now) (along (view table.now) (nodes table.now) first)) marks.old }
 {
-    let mut n = first;
-    for _ in 0..table[2] {
-        if n == 0 {
-            return;
-        }
+    for n in Siblings::new(table, first, table[2]) {
         mark_children(table, marks, n);
-        n = node::word(table, n, 1);
     }
 }
 
@@ -156,8 +150,8 @@ fn mark_all(table: &[u64], marks: &mut [u64; MARKS])
     mark_along(table, marks, second);
 }
 
-// The first unreachable node of these, from first to last; 0 if there is none. A descent for each that is not marked; if it finds the node
-// reached, the node is marked.
+// The first unreachable node of these, from first to last; 0 if there is none, as the definition `fresh` has it: who asks has counted that there
+// is one, and would only unwrap an Option. A descent for each that is not marked; if it finds the node reached, the node is marked.
 fn first_unreached(table: &[u64], marks: &mut [u64; MARKS], first: u64, last: u64) -> u64
     requires table_value { sound table.now ≡ true }
     requires marked { Marked table.now marks.old }
@@ -277,15 +271,12 @@ fn is_full(table: &[u64], n: u64, parent: u64) -> bool
     kept == 11
 }
 
-// The running count of full nodes after node n, with the count so far: 0 after one that is not full.
-fn run_after(table: &[u64], count: u64, n: u64, parent: u64) -> u64
+// The running count of full nodes after one more node: 0 after one that is not full.
+pub fn run_after(count: u64, full: bool) -> u64
     requires { count ≤ 15 }
-    ensures { result ≡ run_after (full_in (view table.now) parent) count n }
+    ensures { result ≡ counted count full }
 {
-    if is_full(table, n, parent) {
-        return count + 1;
-    }
-    0
+    if full { count + 1 } else { 0 }
 }
 
 // The run for a key from a root, on the table as repair would leave it.
@@ -298,11 +289,11 @@ pub fn full_run(table: &[u64], root: u64, key: u64, parent: u64) -> Run
     let mut count = 0;
     for _ in 0..top {
         let m = moved(table, n, key);
-        count = run_after(table, count, m, parent);
+        count = run_after(count, is_full(table, m, parent));
         n = search::down(table, m, key);
     }
     let leaf = moved(table, n, key);
-    let length = run_after(table, count, leaf, parent);
+    let length = run_after(count, is_full(table, leaf, parent));
     Run {
         length,
         root: length == top + 1,

@@ -34,8 +34,9 @@ pub fn set_class(
         pen: Pen::new(dock),
     };
     write::mend(&mut writer, leftover);
-    let root = node::root_of(writer.table(), collection);
-    let leaf = reach::standing(writer.table(), root, 0, key);
+    let table = writer.table();
+    let root = node::root_of(table, collection);
+    let leaf = reach::standing(table, root, 0, key);
     shift::set_class(&mut writer, leaf, key, access);
     Ok(writer.finish())
 }

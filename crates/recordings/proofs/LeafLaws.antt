@@ -9,61 +9,67 @@ use lib.ListN.{length, get_or, take, drop}
 use lib.Seq.{drop-cons}
 use borrow.Author.Tests.{eq-eqb, ne_eqb}
 use Rattle.model.specs.declared.Node.{Node}
-use Rattle.model.specs.Table.{Words, node, has_node}
-use Rattle.model.specs.Slots.{Slot, slot, slots_of, in_use, shown, used, recording_of, recording, pointer_ok, view}
+use Rattle.model.specs.Table.{Words, node}
+use Rattle.model.specs.Slots.{Slot, slot, shown, used, recording_of, recording, pointer_ok, view}
 use Rattle.model.specs.Search.{below}
 use Rattle.model.specs.Reached.{filter, kept}
 use Rattle.model.specs.SoundTest.{all, pair_ok}
 use Rattle.node.specs.Word.{word_of}
-use Rattle.node.proofs.Answers.{node-none}
 use Rattle.node.proofs.WordLaws.{word-level, word-fence}
-use Rattle.numbers.specs.declared.Entry.{Entry}
-use Rattle.numbers.specs.declared.Entry.TheVariants.{Entered, Known, Full}
-use Rattle.numbers.specs.Cells.{Outcome, outcome, followed, entered_if, entered_all}
-use Rattle.numbers.proofs.Once.{Last, known-last, full-last, goes-on, ends}
-use Rattle.slots.specs.declared.Ways.{Ways}
+use lib.Dec.{eqb}
+use Rattle.std.specs.Option.{option_eq}
+use Rattle.std.specs.Prelude.{Option, None, Some, Ok, Err}
+use Rattle.numbers.specs.declared.Stop.{Stop}
+use Rattle.numbers.specs.Cells.{Entry, Outcome, outcome, followed, entered_if, entered_all}
+use Rattle.numbers.proofs.Once.{stop-last, goes-on, ends}
+use Rattle.slots.specs.declared.ways.Ways.{Ways}
 use Rattle.slots.specs.Scan.{shown_from, keeps, kept_of, is_way}
 use Rattle.slots.specs.Gathered.{span, slots_in}
 use Rattle.slots.proofs.Kept.{kept-taken, kept-passed}
 use Rattle.bits.specs.Bits.{has}
-use Rattle.recordings.specs.Marked.{uncut, own, kept_in}
+use Rattle.recordings.specs.Marked.{is_one, own, kept_in, leaf_slots}
+use Rattle.recordings.specs.declared.Marks.{Marks}
 use Rattle.recordings.specs.Rounds.{Hits, hit_if, hit_all}
 
 -- ---- the leaf that is read
 
-module _ (t marks : Words) (n : ℕ) where
-  blank : (x : Node) → x ≡ node t 0 → (b : ℕ) → kept_in x b ≡ []
-  unfolding slots_of in_use shown filter
-  blank x e b = ap (λ (y : Node). kept_in y b) (e ∙ node-none t 0 (unfold has_node in refl))
-
-  pub leaf-unmarked : (x : Node) → x ≡ node t 0 → has marks n ≡ false → kept_in x (word_of t x.sibling 3) ≡ own (view t) marks n
+module _ (t : Words) (m : Marks) (n : ℕ) where
+  pub leaf-unmarked : has m.bits n ≡ false → [] ≡ own (view t) m n
   unfolding own
-  leaf-unmarked x e h = blank x e _ ∙ sym (rw h)
+  leaf-unmarked h = sym (rw h)
 
-  pub leaf-inner : (x : Node) → x ≡ node t 0 → has marks n ≡ true → (l : ℕ) → l ≡ word_of t n 2 → l ≢ 0 → kept_in x (word_of t x.sibling 3) ≡ own (view t) marks n
+  pub leaf-inner : has m.bits n ≡ true → (l : ℕ) → l ≡ word_of t n 2 → l ≢ 0 → [] ≡ own (view t) m n
   unfolding own
-  leaf-inner x e h l q z = blank x e _ ∙ sym (rw (h, ne_eqb (node t n).level 0 (λ y. z (q ∙ word-level t n ∙ y))))
+  leaf-inner h l q z = sym (rw (h, ne_eqb (node t n).level 0 (λ y. z (q ∙ word-level t n ∙ y))))
 
-  pub leaf-read : (x : Node) → x ≡ node t n → has marks n ≡ true → (l : ℕ) → l ≡ word_of t n 2 → l ≡ 0 → uncut marks ≡ n → kept_in x (word_of t x.sibling 3) ≡ own (view t) marks n
+  pub leaf-read : (x : Node) → x ≡ node t n → has m.bits n ≡ true → (l : ℕ) → l ≡ word_of t n 2 → l ≡ 0 → is_one m.uncut n ≡ true → kept_in x (word_of t x.sibling 3) ≡ own (view t) m n
   unfolding own used kept below keeps
   leaf-read x e h l q z u =
       ap (λ (y : Node). kept_in y (word_of t y.sibling 3)) e ∙ ap (kept_in (node t n)) (word-fence t (node t n).sibling)
-      ∙ sym (rw (h, eq-eqb (node t n).level 0 (sym (word-level t n) ∙ sym q ∙ z), eq-eqb n (uncut marks) (sym u)))
+      ∙ sym (rw (h, eq-eqb (node t n).level 0 (sym (word-level t n) ∙ sym q ∙ z), u))
 
   all-kept : (b : ℕ) (ss : List Slot) → kept_of 0 b ss ≡ ss
   unfolding filter keeps
   all-kept b [] = refl
   all-kept b (s ∷ ss) = ap (λ (l : List Slot). s ∷ l) (all-kept b ss)
 
-  pub leaf-whole : (x : Node) (b : ℕ) → x ≡ node t n → has marks n ≡ true → (l : ℕ) → l ≡ word_of t n 2 → l ≡ 0 → uncut marks ≢ n → kept_of 0 b (shown_from x.left x.slots 0) ≡ own (view t) marks n
+  pub leaf-whole : (x : Node) (b : ℕ) → x ≡ node t n → has m.bits n ≡ true → (l : ℕ) → l ≡ word_of t n 2 → l ≡ 0 → is_one m.uncut n ≡ false → kept_of 0 b (shown_from x.left x.slots 0) ≡ own (view t) m n
   unfolding own used
   leaf-whole x b e h l q z u =
       all-kept b (shown_from x.left x.slots 0) ∙ ap (λ (y : Node). shown_from y.left y.slots 0) e
-      ∙ sym (rw (h, eq-eqb (node t n).level 0 (sym (word-level t n) ∙ sym q ∙ z), ne_eqb n (uncut marks) (λ y. u (sym y))))
+      ∙ sym (rw (h, eq-eqb (node t n).level 0 (sym (word-level t n) ∙ sym q ∙ z), u))
+
+-- whether it is the one, as options are compared
+pub same-one : (o : Option ℕ) (n : ℕ) → option_eq eqb o (Some n) ≡ is_one o n
+same-one None n = refl
+same-one (Some x) n = refl
 
 -- as the code has it, with the bound read
-pub leaf-kept : (t marks : Words) (n : ℕ) (x : Node) (b : ℕ) → kept_in x (word_of t x.sibling 3) ≡ own (view t) marks n → b ≡ word_of t x.sibling 3 → kept_in x b ≡ own (view t) marks n
-leaf-kept t marks n x b e q = ap (kept_in x) q ∙ e
+pub leaf-kept : (t : Words) (m : Marks) (n : ℕ) (o : Option Node) (x : Node) (b : ℕ) → leaf_slots t o ≡ own (view t) m n → o ≡ Some x → b ≡ word_of t x.sibling 3 → kept_in x b ≡ own (view t) m n
+leaf-kept t m n o x b e z q = ap (kept_in x) q ∙ sym (ap (leaf_slots t) z) ∙ e
+
+pub leaf-none : (t : Words) (m : Marks) (n : ℕ) (o : Option Node) → leaf_slots t o ≡ own (view t) m n → o ≡ None → [] ≡ own (view t) m n
+leaf-none t m n o e z = sym (ap (leaf_slots t) z) ∙ e
 
 -- ---- the ways, of which the first is none of the slots
 
@@ -94,12 +100,6 @@ module _ (x : Node) (b : ℕ) (w : Ways) (is : slots_in w ≡ slot x.fence x.lef
 
 -- ---- slot by slot
 
--- an answer other than this one is the last
-pub other-last : (e : Entry) → (e ≡ Entered → ⊥) → Last e
-other-last Entered z = absurd (z refl)
-other-last Known z = known-last
-other-last Full z = full-last
-
 module _ (s b before : ℕ) where
   pub ok-none : true ≡ all pair_ok (kept_of s b (shown before []))
   unfolding all shown filter
@@ -109,7 +109,7 @@ module _ (s b before : ℕ) where
   unfolding hit_all shown filter
   hit-none q place h = refl
 
-  pub enter-none : (q : ℕ → Bool) (cs : Words) → outcome Entered cs ≡ entered_all q (map recording (kept_of s b (shown before []))) cs
+  pub enter-none : (q : ℕ → Bool) (cs : Words) → outcome (Ok tt) cs ≡ entered_all q (map recording (kept_of s b (shown before []))) cs
   unfolding entered_all shown filter
   enter-none q cs = refl
 
@@ -149,8 +149,8 @@ module _ (s b before k p : ℕ) (ss : List Slot) (w : Bool) (e : w ≡ is_way s 
           ap (λ (xs : List Slot). entered_all q (map recording xs) cs) (kept-taken s b before k p ss e y)
           ∙ ap (λ (x : Outcome). followed x (entered_all q (map recording rest))) (sym (f ∙ ap (entered_if q cs) i))
 
-      pub enter-goes : a ≡ Entered → entered_all q (map recording all-slots) cs ≡ entered_all q (map recording rest) after
+      pub enter-goes : a ≡ Ok tt → entered_all q (map recording all-slots) cs ≡ entered_all q (map recording rest) after
       enter-goes g = sym (goes-on (entered_all q (map recording rest)) _ (outcome a after) a after enter-more refl g)
 
-      pub enter-ends : (a ≡ Entered → ⊥) → entered_all q (map recording all-slots) cs ≡ outcome a after
-      enter-ends z = sym (ends (entered_all q (map recording rest)) _ (outcome a after) a after enter-more refl a (other-last a z) refl)
+      pub enter-ends : (s : Stop) → a ≡ Err s → entered_all q (map recording all-slots) cs ≡ outcome (Err s) after
+      enter-ends s z = sym (ends (entered_all q (map recording rest)) _ (outcome a after) a after enter-more refl (Err s) (stop-last s) z)

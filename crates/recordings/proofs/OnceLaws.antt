@@ -1,7 +1,7 @@
 -- The numbers of a leaf, each compared with those after it.
 use mathlib.Core.Path.{◌≡◌, refl, ap, ap₂, sym, ◌∙◌}
 use mathlib.Core.Bool.{Bool, true, false, not, ◌&&◌, ◌||◌}
-use mathlib.Core.List.{[], ◌∷◌, map, tail}
+use mathlib.Core.List.{List, [], ◌∷◌, map, tail}
 use Prim.Native.Nat.{ℕ, suc, ◌+◌, ◌-◌}
 use native.Mathlib.Omega.{arith}
 use lib.Dec.{eqb}
@@ -13,7 +13,14 @@ use Rattle.model.specs.Slots.{recording_of}
 use Rattle.model.specs.SoundTest.{elem}
 use Rattle.list_laws.proofs.Tools.{eqb-sym}
 use Rattle.list_laws.proofs.Members.{elem-join}
+use Rattle.std.specs.Prelude.{Option, None}
+use Rattle.slots.specs.declared.Ways.{Ways}
+use Rattle.recordings.specs.Marked.{rest_of}
 use Rattle.recordings.specs.Once.{once_before}
+
+-- no ways, no numbers
+pub none-there : (o : Option Ways) (xs : List ℕ) → map recording_of (rest_of o) ≡ xs → o ≡ None → [] ≡ xs
+none-there o xs e z = sym (ap (λ (w : Option Ways). map recording_of (rest_of w)) z) ∙ e
 
 -- one of these pointers has the number
 pub any-elem : (r : ℕ) (ps : Words) → list_any (λ p. eqb (recording_of p) r) ps ≡ elem r (map recording_of ps)

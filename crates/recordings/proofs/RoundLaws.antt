@@ -16,12 +16,11 @@ use Rattle.list_laws.proofs.Tools.{and-iff, same-test, same-or-not, refuted, or-
 use Rattle.list_laws.proofs.Members.{elem-iff}
 use Rattle.list_laws.proofs.Filters.{filter-yes, filter-no, mem-filter}
 use Rattle.list_laws.proofs.Distinct.{distinct-cons}
-use Rattle.numbers.specs.declared.Entry.{Entry}
-use Rattle.numbers.specs.Cells.{CELLS, outcome, entered_all, Tells}
+use Rattle.numbers.specs.Cells.{CELLS, Entry, outcome, entered_all, Tells}
 use Rattle.numbers.proofs.Once.{tells-same, all-tells}
 use Rattle.bits.specs.Bits.{has, put}
 use Rattle.bits.proofs.Marks.{has-put-same, has-put-other, put-length}
-use Rattle.recordings.specs.Rounds.{PLACES, ONCE, TWICE, prime_of, place_of, Hits, hits, hit, hit_if, hit_all, suspect, again, Stays}
+use Rattle.recordings.specs.Rounds.{PLACES, ONCE, TWICE, prime_of, place_of, Hits, hits, or_before, hit, hit_if, hit_all, suspect, again, Stays}
 
 -- ---- places
 
@@ -117,6 +116,23 @@ module _ (y : ℕ) (l : y < PLACES) (h : Hits) (w : Wide h) where
   caught-keeps : (x : ℕ) → Caught x h → Caught x (hit y h)
   caught-keeps x k = hit-cases (Caught x) (λ e. k) (λ e. (put-keeps h.twice (y / 2) (x / 2) room-twice k.0, refl))
 
+-- ---- whether some place was hit twice before is data
+
+or-more : (c : Bool) → (c || true) ≡ true
+or-more true = refl
+or-more false = refl
+
+or-none : (c : Bool) → (c || false) ≡ c
+or-none true = refl
+or-none false = refl
+
+hit-before : (y : ℕ) (c : Bool) (h : Hits) → hit y (or_before c h) ≡ or_before c (hit y h)
+hit-before y c h = go (has h.once y) refl
+  where
+    go : (b : Bool) → has h.once y ≡ b → hit y (or_before c h) ≡ or_before c (hit y h)
+    go true e = hit-later y (or_before c h) e ∙ sym (ap (or_before c) (hit-later y h e) ∙ ap (hits h.once (put h.twice (y / 2))) (or-more c))
+    go false e = hit-first y (or_before c h) e ∙ sym (ap (or_before c) (hit-first y h e))
+
 module _ (q : ℕ → Bool) (place : ℕ → ℕ) (x : ℕ) (h : Hits) where
   pub if-yes : q x ≡ true → hit_if q place x h ≡ hit (place x) h
   unfolding hit_if
@@ -125,6 +141,29 @@ module _ (q : ℕ → Bool) (place : ℕ → ℕ) (x : ℕ) (h : Hits) where
   pub if-no : q x ≡ false → hit_if q place x h ≡ h
   unfolding hit_if
   if-no e = rw e
+
+module _ (q : ℕ → Bool) (place : ℕ → ℕ) where
+  if-before : (x : ℕ) (c : Bool) (h : Hits) → hit_if q place x (or_before c h) ≡ or_before c (hit_if q place x h)
+  if-before x c h = go (q x) refl
+    where
+      go : (b : Bool) → q x ≡ b → hit_if q place x (or_before c h) ≡ or_before c (hit_if q place x h)
+      go true e = if-yes q place x (or_before c h) e ∙ hit-before (place x) c h ∙ sym (ap (or_before c) (if-yes q place x h e))
+      go false e = if-no q place x (or_before c h) e ∙ sym (ap (or_before c) (if-no q place x h e))
+
+  all-before : (xs : List ℕ) (c : Bool) (h : Hits) → hit_all q place xs (or_before c h) ≡ or_before c (hit_all q place xs h)
+  unfolding hit_all
+  all-before [] c h = refl
+  all-before (x ∷ xs) c h = ap (hit_all q place xs) (if-before x c h) ∙ all-before xs c (hit_if q place x h)
+
+  module _ (once twice : Words) (c : Bool) (o t : Words) (r : Bool) where
+    none-before : or_before c (hits once twice false) ≡ hits once twice c
+    none-before = ap (hits once twice) (or-none c)
+
+    pub if-joined : (x : ℕ) → hits o t r ≡ hit_if q place x (hits once twice false) → hits o t (c || r) ≡ hit_if q place x (hits once twice c)
+    if-joined x e = ap (or_before c) e ∙ sym (if-before x c (hits once twice false)) ∙ ap (hit_if q place x) none-before
+
+    pub all-joined : (xs : List ℕ) → hits o t r ≡ hit_all q place xs (hits once twice false) → hits o t (c || r) ≡ hit_all q place xs (hits once twice c)
+    all-joined xs e = ap (or_before c) e ∙ sym (all-before xs c (hits once twice false)) ∙ ap (hit_all q place xs) none-before
 
 module _ (q : ℕ → Bool) (place : ℕ → ℕ) (low : (x : ℕ) → place x < PLACES) where
   if-cases : (P : Hits → Type 0) (x : ℕ) (h : Hits) → P h → (q x ≡ true → P (hit (place x) h)) → P (hit_if q place x h)

@@ -16,34 +16,34 @@ use Rattle.list_laws.proofs.Members.{elem-join}
 use Rattle.list_laws.proofs.Counts.{numbers-append}
 use Rattle.table_laws.proofs.Header.{header-iff}
 use Rattle.bits.specs.Bits.{has}
-use Rattle.numbers.specs.declared.Entry.{Entry}
-use Rattle.numbers.specs.declared.Entry.TheVariants.{Entered}
-use Rattle.numbers.specs.Cells.{outcome, followed, entered_all}
-use Rattle.numbers.proofs.Once.{all-append, goes-on, ends}
+use Rattle.std.specs.Prelude.{Ok, Err}
+use Rattle.numbers.specs.declared.Stop.{Stop}
+use Rattle.numbers.specs.Cells.{Entry, outcome, followed, entered_all}
+use Rattle.numbers.proofs.Once.{all-append, stop-last, goes-on, ends}
+use Rattle.recordings.specs.declared.Marks.{Marks}
 use Rattle.recordings.specs.Marked.{LastMarked, own, own_from, own_numbers, marked_pairs}
 use Rattle.recordings.specs.Rounds.{Hits, hit_if, hit_all}
 use Rattle.recordings.specs.Once.{once_before}
-use Rattle.recordings.proofs.LeafLaws.{other-last}
 
 -- ---- rows of numbers
 
-row-none : (v : View) (marks : Words) (n last : ℕ) → last < n → own_from v marks n (last + 1 - n) ≡ []
+row-none : (v : View) (marks : Marks) (n last : ℕ) → last < n → own_from v marks n (last + 1 - n) ≡ []
 unfolding numbers flat
 row-none v marks n last h = let e : last + 1 - n ≡ 0 = omega arith in rw e
 
-row-next : (v : View) (marks : Words) (n last : ℕ) → n ≤ last → own_from v marks n (last + 1 - n) ≡ own v marks n ++ own_from v marks (n + 1) (last + 1 - (n + 1))
+row-next : (v : View) (marks : Marks) (n last : ℕ) → n ≤ last → own_from v marks n (last + 1 - n) ≡ own v marks n ++ own_from v marks (n + 1) (last + 1 - (n + 1))
 unfolding numbers flat
 row-next v marks n last h = let e : last + 1 - n ≡ suc (last + 1 - (n + 1)) = omega arith in rw (e, add-one n)
 
 -- nodes that are not marked have nothing
-row-unmarked : (v : View) (marks : Words) (n count : ℕ) → ((i : ℕ) → n ≤ i → i < n + count → has marks i ≡ false) → own_from v marks n count ≡ []
+row-unmarked : (v : View) (marks : Marks) (n count : ℕ) → ((i : ℕ) → n ≤ i → i < n + count → has marks.bits i ≡ false) → own_from v marks n count ≡ []
 unfolding numbers flat own
 row-unmarked v marks n zero h = refl
 row-unmarked v marks n (suc c) h =
-    let here : has marks n ≡ false = h n (omega arith) (omega arith) in
+    let here : has marks.bits n ≡ false = h n (omega arith) (omega arith) in
     rw here (row-unmarked v marks (suc n) c (λ i a b. h i (omega arith) (omega arith)))
 
-row-last : (v : View) (marks : Words) (last : ℕ) → LastMarked v.nodes marks last → own_from v marks 1 (last + 1 - 1) ≡ marked_pairs v marks
+row-last : (v : View) (marks : Marks) (last : ℕ) → LastMarked v.nodes marks.bits last → own_from v marks 1 (last + 1 - 1) ≡ marked_pairs v marks
 unfolding marked_pairs
 row-last v marks last q =
     let few = q.0 in
@@ -56,8 +56,8 @@ row-last v marks last q =
     ∙ flat-append (own v marks) (numbers 1 last) (numbers (1 + last) (v.nodes - last)) ∙ ap (λ (ss : List Slot). own_from v marks 1 last ++ ss) rest ∙ append-nil (own_from v marks 1 last))
 
 -- A loop over the nodes keeps that F, what the present state and the nodes left come to, is x.
-module _ {A : Type 0} (F : List Slot → A) (v : View) (marks : Words) where
-  pub row-marked : (last : ℕ) → LastMarked v.nodes marks last → F (own_from v marks 1 (last + 1 - 1)) ≡ F (marked_pairs v marks)
+module _ {A : Type 0} (F : List Slot → A) (v : View) (marks : Marks) where
+  pub row-marked : (last : ℕ) → LastMarked v.nodes marks.bits last → F (own_from v marks 1 (last + 1 - 1)) ≡ F (marked_pairs v marks)
   row-marked last q = ap F (row-last v marks last q)
 
   module _ (n last : ℕ) {x : A} (keeps : F (own_from v marks n (last + 1 - n)) ≡ x) where
@@ -66,6 +66,9 @@ module _ {A : Type 0} (F : List Slot → A) (v : View) (marks : Words) where
 
     pub row-more : n ≤ last → {y : A} → F (own v marks n ++ own_from v marks (n + 1) (last + 1 - (n + 1))) ≡ y → y ≡ x
     row-more h q = sym (ap F (row-next v marks n last h) ∙ q) ∙ keeps
+
+    pub row-skip : n ≤ last → [] ≡ own v marks n → F (own_from v marks (n + 1) (last + 1 - (n + 1))) ≡ x
+    row-skip h e = row-more h (ap (λ (ss : List Slot). F (ss ++ own_from v marks (n + 1) (last + 1 - (n + 1)))) (sym e))
 
 -- a node's number is small
 pub few-nodes : (t : Words) (last n : ℕ) → header_ok t ≡ true → last ≡ nodes t → n ≤ last → n ≤ 65535
@@ -80,7 +83,7 @@ pub hit-none : (q : ℕ → Bool) (place : ℕ → ℕ) (h : Hits) → h ≡ hit
 unfolding hit_all
 hit-none q place h = refl
 
-pub enter-none : (q : ℕ → Bool) (cs : Words) → outcome Entered cs ≡ entered_all q (map recording []) cs
+pub enter-none : (q : ℕ → Bool) (cs : Words) → outcome (Ok tt) cs ≡ entered_all q (map recording []) cs
 unfolding entered_all
 enter-none q cs = refl
 
@@ -104,7 +107,7 @@ hit-append q place (x ∷ xs) ys h = hit-append q place xs ys (hit_if q place x 
 
 -- ---- node by node, as a range has their numbers
 
-module _ (v : View) (marks : Words) where
+module _ (v : View) (marks : Marks) where
   pub pairs-rows : (m n : ℕ) → list_all (λ i. all pair_ok (own v marks i)) (range_with_len n m) ≡ all pair_ok (own_from v marks n m)
   unfolding numbers flat all
   pairs-rows zero n = refl
@@ -141,11 +144,11 @@ module _ (xs ys : List Slot) where
     enter-join : entered_all q (map recording (xs ++ ys)) cs ≡ followed (entered_all q (map recording xs) cs) (entered_all q (map recording ys))
     enter-join = ap (λ (zs : List ℕ). entered_all q zs cs) (map-append recording xs ys) ∙ all-append q (map recording xs) (map recording ys) cs
 
-    pub enter-next : a ≡ Entered → entered_all q (map recording (xs ++ ys)) cs ≡ entered_all q (map recording ys) after
+    pub enter-next : a ≡ Ok tt → entered_all q (map recording (xs ++ ys)) cs ≡ entered_all q (map recording ys) after
     enter-next g = sym (goes-on (entered_all q (map recording ys)) _ (entered_all q (map recording xs) cs) a after enter-join e g)
 
-    pub enter-last : (a ≡ Entered → ⊥) → entered_all q (map recording (xs ++ ys)) cs ≡ outcome a after
-    enter-last z = sym (ends (entered_all q (map recording ys)) _ (entered_all q (map recording xs) cs) a after enter-join e a (other-last a z) refl)
+    pub enter-last : (s : Stop) → a ≡ Err s → entered_all q (map recording (xs ++ ys)) cs ≡ outcome (Err s) after
+    enter-last s z = sym (ends (entered_all q (map recording ys)) _ (entered_all q (map recording xs) cs) a after enter-join e (Err s) (stop-last s) z)
 
 -- ---- both tests
 

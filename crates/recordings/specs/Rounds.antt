@@ -37,6 +37,10 @@ pub record Hits : Type 0 where
 abbrev pub hits : Words → Words → Bool → Hits
 hits once twice crowded = record { once = once; twice = twice; crowded = crowded }
 
+-- the same, if some place was hit twice before
+abbrev pub or_before : Bool → Hits → Hits
+or_before c h = hits h.once h.twice (c || h.crowded)
+
 -- place y is hit
 unfoldable pub hit : (y : ℕ) → Hits → Hits
 hit y h = cond (has h.once y) (hits h.once (put h.twice (y / 2)) true) (hits (put h.once y) h.twice h.crowded)

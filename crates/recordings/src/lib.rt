@@ -2,45 +2,49 @@
 // are passed by number, in the order of memory.
 #![tactic(auto)]
 
-ghost use Rattle.std.specs.Prelude.{◌≡◌, true, false, map, ◌+◌, ◌-◌, ◌≤◌, ◌<◌, take, drop};
+ghost use Rattle.std.specs.Prelude.{◌≡◌, true, false, map, ◌+◌, ◌-◌, ◌≤◌, ◌<◌, IfSome};
 ghost use Rattle.model.specs.Table.{nodes, header_ok};
 ghost use Rattle.model.specs.Slots.{recording_of, recording, view};
 ghost use Rattle.model.specs.SoundTest.{all, elem, distinct, pair_ok, recordings_ok};
-ghost use Rattle.node.specs.Word.{word_of};
 ghost use Rattle.numbers.specs.Cells.{outcome, entered_if, entered_all, Tells};
-ghost use Rattle.recordings.specs.Marked.{NoneOf, LastMarked, own, own_numbers, marked_pairs, marked_numbers, kept_in};
+ghost use Rattle.recordings.specs.Marked.{NoneOf, LastMarked, own, own_numbers, marked_pairs, marked_numbers, kept_in, leaf_slots, rest_of};
 ghost use Rattle.recordings.specs.Rounds.{PLACES, place_of, hits, hit, hit_if, hit_all, suspect, Stays};
 ghost use Rattle.recordings.specs.Once.{once_before};
 
 use model::Node;
-use numbers::{CELLS, Entry};
+use numbers::{CELLS, Entry, Stop};
 use slots::Ways;
 
 // ---- the leaves among the marked nodes
 
-// The word of the marks with the number of the node that may show slots from its sibling's fence up.
-pub const UNCUT: usize = 1024;
+// Words for a bit of each node.
+pub const MARKS: usize = 1024;
 
-// Words for a bit of each node, and that one.
-pub const MARKS: usize = 1025;
+// The marked nodes, a bit each, and the one that may show slots from its sibling's fence up, if one does. It is lent and never copied, for it
+// is 8 KB long.
+#[derive(Drop)]
+pub struct Marks {
+    pub bits: [u64; MARKS],
+    pub uncut: Option<u64>,
+}
 
-// Node n, if it is marked and a leaf; else a record without slots. But for the one node a sibling is left out: its fence, which lies anywhere
-// in the table, need not be read.
-fn leaf(table: &[u64], marks: &[u64; MARKS], n: u64) -> Node
+// Node n, if it is marked and a leaf. But for the one node a sibling is left out: its fence, which lies anywhere in the table, need not be
+// read.
+fn leaf(table: &[u64], marks: &Marks, n: u64) -> Option<Node>
     requires { n ≤ 65535 }
-    ensures { kept_in result (word_of table.now result.sibling 3) ≡ own (view table.now) marks.now n }
+    ensures { leaf_slots table.now result ≡ own (view table.now) marks.now n }
 {
-    if !bits::has(marks, n as usize) {
-        return node::read(table, 0);
+    if !bits::has(&marks.bits, n as usize) {
+        return None;
     }
     if node::word(table, n, 2) != 0 {
-        return node::read(table, 0);
+        return None;
     }
     let x = node::read(table, n);
-    if marks[UNCUT] == n {
-        return x;
+    if marks.uncut == Some(n) {
+        return Some(x);
     }
-    Node { sibling: 0, ..x }
+    Some(Node { sibling: 0, ..x })
 }
 
 // So many numbers from m down, at least, are not marked: those of its word if that is 0.
@@ -79,6 +83,7 @@ fn last_marked(table: &[u64], marks: &[u64; MARKS]) -> u64
 
 // Whether each kept slot of a leaf has a recording number and a class that there are.
 // Loops, here and below: the pointer before a slot says if it is shown, and slots gathered first (as in ways) would be copied in each pass.
+// Tried: over an iterator of the kept slots the check of a table takes 6 % more instructions.
 fn leaf_ok(x: Node, bound: u64) -> bool
     ensures { result ≡ all pair_ok (kept_in x bound) }
 {
@@ -96,22 +101,32 @@ fn leaf_ok(x: Node, bound: u64) -> bool
     true
 }
 
+// Whether each kept slot of node n has, if it is marked and a leaf.
+fn node_ok(table: &[u64], marks: &Marks, n: u64) -> bool
+    requires { n ≤ 65535 }
+    ensures { result ≡ all pair_ok (own (view table.now) marks.now n) }
+{
+    let Some(x) = leaf(table, marks, n) else {
+        return true;
+    };
+    let bound = node::word(table, x.sibling, 3);
+    leaf_ok(x, bound)
+}
+
 // Whether each kept slot of all has.
-fn pairs_ok(table: &[u64], marks: &[u64; MARKS]) -> bool
+fn pairs_ok(table: &[u64], marks: &Marks) -> bool
     requires { header_ok table.now ≡ true }
     ensures { result ≡ all pair_ok (marked_pairs (view table.now) marks.now) }
 {
-    let last = last_marked(table, marks);
-    (1..last + 1).all(|n| {
-        let x = leaf(table, marks, n);
-        leaf_ok(x, node::word(table, x.sibling, 3))
-    })
+    let last = last_marked(table, &marks.bits);
+    (1..last + 1).all(|n| node_ok(table, marks, n))
 }
 
 // ---- a round: suspects by bits
 
-// The walks that hit and those that enter differ in one step. A closure for it would write to what it captures, and of that a proof knows nothing.
-// What a round needs is lent part by part: the table is C's, the marks are the check's, and two of the three arrays change places after a round.
+// Hits and entries are written to arrays that are lent. Loops do that, and not a closure for each slot or node: after `for_each` a proof knows
+// nothing of what its closure wrote to. What a round needs is lent part by part: the table is C's, the marks are the check's, and two of the
+// three arrays change places after a round.
 
 // Words of a bit for each place of a round, and for each two of them.
 const ONCE: usize = 16384;
@@ -121,7 +136,7 @@ const TWICE: usize = 8192;
 // After so many rounds the numbers that are still suspects are compared.
 const ROUNDS: u64 = 6;
 
-// The place of a number in a round.
+// The place of a number in a round. The primes stand here and in no table: a remainder by a constant is a product, not a division.
 fn place(round: u64, number: u64) -> usize
     ensures value { result ≡ place_of round number }
     ensures upper_bound { result < PLACES }
@@ -144,18 +159,17 @@ fn is_suspect(twice: &[u64; TWICE], round: u64, number: u64) -> bool
     round == 0 || bits::has(twice, place(round - 1, number) / 2)
 }
 
-// Hits a place: its first hit is marked, at a later one its pair. Whether any was hit twice, this one or one before.
-// Whether one before was, crowded, is data: it becomes the answer, and chooses no step.
-fn hit(once: &mut [u64; ONCE], twice: &mut [u64; TWICE], at: usize, crowded: bool) -> bool
+// Hits a place: its first hit is marked, at a later one its pair. Whether it was hit before.
+fn hit(once: &mut [u64; ONCE], twice: &mut [u64; TWICE], at: usize) -> bool
     requires { at < PLACES }
-    ensures { hits once.new twice.new result ≡ hit at (hits once.old twice.old crowded) }
+    ensures { hits once.new twice.new result ≡ hit at (hits once.old twice.old false) }
 {
     if bits::has(once, at) {
         bits::put(twice, at / 2);
         return true;
     }
     bits::put(once, at);
-    crowded
+    false
 }
 
 // Hits the place of a recording number, if it is a suspect.
@@ -165,19 +179,14 @@ fn hit_number(
     twice: &mut [u64; TWICE],
     round: u64,
     number: u64,
-    crowded: bool,
 ) -> bool
     ensures { hits once.new twice.new result
-        ≡ hit_if (suspect round olds.now) (place_of round) number (hits once.old twice.old crowded) }
+        ≡ hit_if (suspect round olds.now) (place_of round) number (hits once.old twice.old false) }
 {
-    if !is_suspect(olds, round, number) {
-        return crowded;
-    }
-    let at = place(round, number);
-    hit(once, twice, at, crowded)
+    is_suspect(olds, round, number) && hit(once, twice, place(round, number))
 }
 
-// Hits the places of a leaf's suspects; crowded is the answer for those before it.
+// Hits the places of a leaf's suspects; whether any was hit before.
 fn hit_leaf(
     olds: &[u64; TWICE],
     once: &mut [u64; ONCE],
@@ -185,12 +194,12 @@ fn hit_leaf(
     round: u64,
     x: Node,
     bound: u64,
-    mut crowded: bool,
 ) -> bool
     ensures { hits once.new twice.new result
         ≡ hit_all (suspect round olds.now) (place_of round) (map recording (kept_in x bound))
-        (hits once.old twice.old crowded) }
+        (hits once.old twice.old false) }
 {
+    let mut crowded = false;
     let mut before = x.left;
     for i in 0..12 {
         let p = x.slots[2 * i + 1];
@@ -198,7 +207,7 @@ fn hit_leaf(
             return crowded;
         }
         if slots::is_way(x.sibling, bound, before, x.slots[2 * i], p) {
-            crowded = hit_number(olds, once, twice, round, pointer::recording(p), crowded);
+            crowded |= hit_number(olds, once, twice, round, pointer::recording(p));
         }
         before = p;
     }
@@ -211,7 +220,7 @@ fn hit_leaves(
     once: &mut [u64; ONCE],
     twice: &mut [u64; TWICE],
     table: &[u64],
-    marks: &[u64; MARKS],
+    marks: &Marks,
     round: u64,
 ) -> bool
     requires { header_ok table.now ≡ true }
@@ -219,12 +228,14 @@ fn hit_leaves(
         ≡ hit_all (suspect round olds.now) (place_of round) (marked_numbers (view table.now) marks.now)
         (hits once.old twice.old false) }
 {
-    let last = last_marked(table, marks);
+    let last = last_marked(table, &marks.bits);
     let mut crowded = false;
     for n in 1..last + 1 {
-        let x = leaf(table, marks, n);
+        let Some(x) = leaf(table, marks, n) else {
+            continue;
+        };
         let bound = node::word(table, x.sibling, 3);
-        crowded = hit_leaf(olds, once, twice, round, x, bound, crowded);
+        crowded |= hit_leaf(olds, once, twice, round, x, bound);
     }
     crowded
 }
@@ -236,7 +247,7 @@ fn enter_number(cells: &mut [u64; CELLS], twice: &[u64; TWICE], round: u64, numb
     ensures { outcome result cells.new ≡ entered_if (suspect round twice.now) cells.old number }
 {
     if !is_suspect(twice, round, number) {
-        return Entry::Entered;
+        return Ok(());
     }
     numbers::enter(cells, numbers::TRIES, number)
 }
@@ -256,17 +267,14 @@ fn enter_leaf(
     for i in 0..12 {
         let p = x.slots[2 * i + 1];
         if p == 0 {
-            return Entry::Entered;
+            return Ok(());
         }
         if slots::is_way(x.sibling, bound, before, x.slots[2 * i], p) {
-            match enter_number(cells, twice, round, pointer::recording(p)) {
-                Entry::Entered => {}
-                last => return last,
-            }
+            enter_number(cells, twice, round, pointer::recording(p))?;
         }
         before = p;
     }
-    Entry::Entered
+    Ok(())
 }
 
 // Enters all suspects.
@@ -274,37 +282,35 @@ fn enter_leaves(
     cells: &mut [u64; CELLS],
     twice: &[u64; TWICE],
     table: &[u64],
-    marks: &[u64; MARKS],
+    marks: &Marks,
     round: u64,
 ) -> Entry
     requires { header_ok table.now ≡ true }
     ensures { outcome result cells.new
         ≡ entered_all (suspect round twice.now) (marked_numbers (view table.now) marks.now) cells.old }
 {
-    let last = last_marked(table, marks);
+    let last = last_marked(table, &marks.bits);
     for n in 1..last + 1 {
-        let x = leaf(table, marks, n);
+        let Some(x) = leaf(table, marks, n) else {
+            continue;
+        };
         let bound = node::word(table, x.sibling, 3);
-        match enter_leaf(cells, twice, round, x, bound) {
-            Entry::Entered => {}
-            last => return last,
-        }
+        enter_leaf(cells, twice, round, x, bound)?;
     }
-    Entry::Entered
+    Ok(())
 }
 
 // ---- the last resort: each number compared with all after it
 
 // The ways down from node n, if it is marked and a leaf: the first, then its kept slots.
-fn ways(table: &[u64], marks: &[u64; MARKS], n: u64) -> Ways
+fn ways(table: &[u64], marks: &Marks, n: u64) -> Option<Ways>
     requires { n ≤ 65535 }
-    ensures numbers { map recording_of (take (result.count - 1) (drop 1 result.pointers)) ≡ map recording (own (view table.now) marks.now n) }
-    ensures count_low { 1 ≤ result.count }
-    ensures count_high { result.count ≤ 13 }
+    ensures numbers { map recording_of (rest_of result) ≡ map recording (own (view table.now) marks.now n) }
+    ensures count_low { IfSome result (λ w. 1 ≤ w.count) }
 {
-    let x = leaf(table, marks, n);
+    let x = leaf(table, marks, n)?;
     let bound = node::word(table, x.sibling, 3);
-    slots::gather(x, bound)
+    Some(slots::gather(x, bound))
 }
 
 // Whether one of these pointers has this recording number.
@@ -314,21 +320,29 @@ fn repeats(pointers: &[u64], recording: u64) -> bool
     pointers.iter().any(|&p| pointer::recording(p) == recording)
 }
 
+// Whether node n, if it is marked and a leaf, has this recording number.
+fn is_in(table: &[u64], marks: &Marks, n: u64, number: u64) -> bool
+    requires { n ≤ 65535 }
+    ensures { result ≡ elem number (map recording (own (view table.now) marks.now n)) }
+{
+    let Some(w) = ways(table, marks, n) else {
+        return false;
+    };
+    repeats(&w.pointers[1..w.count], number)
+}
+
 // Whether a recording number is in a leaf from node first on.
-fn appears(table: &[u64], marks: &[u64; MARKS], first: u64, recording: u64) -> bool
+fn appears(table: &[u64], marks: &Marks, first: u64, recording: u64) -> bool
     requires { header_ok table.now ≡ true }
     ensures { result
         ≡ elem recording (own_numbers (view table.now) marks.now first (nodes table.now + 1 - first)) }
 {
     let last = leaves::word_at(table, 2);
-    (first..last + 1).any(|n| {
-        let w = ways(table, marks, n);
-        repeats(&w.pointers[1..w.count], recording)
-    })
+    (first..last + 1).any(|n| is_in(table, marks, n, recording))
 }
 
 // Whether no recording number of a leaf's pointers comes again in it or in the leaves from the next node on.
-fn leaf_once(table: &[u64], marks: &[u64; MARKS], pointers: &[u64], next: u64) -> bool
+fn leaf_once(table: &[u64], marks: &Marks, pointers: &[u64], next: u64) -> bool
     requires { header_ok table.now ≡ true }
     ensures { result ≡ once_before (map recording_of pointers.now)
         (own_numbers (view table.now) marks.now next (nodes table.now + 1 - next)) }
@@ -339,16 +353,26 @@ fn leaf_once(table: &[u64], marks: &[u64; MARKS], pointers: &[u64], next: u64) -
     })
 }
 
+// Whether none of node n, if it is marked and a leaf, comes again in it or in the leaves after it.
+fn node_once(table: &[u64], marks: &Marks, n: u64) -> bool
+    requires table_value { header_ok table.now ≡ true }
+    requires n_bound { n ≤ 65535 }
+    ensures { result ≡ once_before (map recording (own (view table.now) marks.now n))
+        (own_numbers (view table.now) marks.now (n + 1) (nodes table.now + 1 - (n + 1))) }
+{
+    let Some(w) = ways(table, marks, n) else {
+        return true;
+    };
+    leaf_once(table, marks, &w.pointers[1..w.count], n + 1)
+}
+
 // No recording number is there twice: each is compared with all after it. For numbers chosen so that they crowd the same places.
-fn compared_once(table: &[u64], marks: &[u64; MARKS]) -> bool
+fn compared_once(table: &[u64], marks: &Marks) -> bool
     requires { header_ok table.now ≡ true }
     ensures { result ≡ distinct (marked_numbers (view table.now) marks.now) }
 {
     let last = leaves::word_at(table, 2);
-    (1..last + 1).all(|n| {
-        let w = ways(table, marks, n);
-        leaf_once(table, marks, &w.pointers[1..w.count], n + 1)
-    })
+    (1..last + 1).all(|n| node_once(table, marks, n))
 }
 
 // ---- all of them
@@ -360,7 +384,7 @@ fn step(
     once: &mut [u64; ONCE],
     twice: &mut [u64; TWICE],
     table: &[u64],
-    marks: &[u64; MARKS],
+    marks: &Marks,
     round: u64,
 ) -> Entry
     requires table_value { header_ok table.now ≡ true }
@@ -369,17 +393,17 @@ fn step(
     ensures tells { Tells result (marked_numbers (view table.now) marks.now) }
     ensures stays_2 { Stays (suspect (round + 1) twice.new) (marked_numbers (view table.now) marks.now) }
 {
-    node::zero(once);
-    node::zero(twice);
+    once.fill(0);
+    twice.fill(0);
     if !hit_leaves(olds, once, twice, table, marks, round) {
-        return Entry::Entered;
+        return Ok(());
     }
-    node::zero(once);
+    once.fill(0);
     enter_leaves(once, twice, table, marks, round + 1)
 }
 
 // No recording number is there twice.
-fn once(table: &[u64], marks: &[u64; MARKS]) -> bool
+fn once(table: &[u64], marks: &Marks) -> bool
     requires { header_ok table.now ≡ true }
     ensures { result ≡ distinct (marked_numbers (view table.now) marks.now) }
 {
@@ -391,16 +415,16 @@ fn once(table: &[u64], marks: &[u64; MARKS]) -> bool
     let mut twice = &mut even;
     for round in 0..ROUNDS {
         match step(olds, &mut places, twice, table, marks, round) {
-            Entry::Entered => return true,
-            Entry::Known => return false,
-            Entry::Full => std::mem::swap(&mut olds, &mut twice),
+            Ok(()) => return true,
+            Err(Stop::Known) => return false,
+            Err(Stop::Full) => std::mem::swap(&mut olds, &mut twice),
         }
     }
     compared_once(table, marks)
 }
 
 // Whether the recording numbers and classes of the leaves among the marked nodes are right.
-pub fn ok(table: &[u64], marks: &[u64; MARKS]) -> bool
+pub fn ok(table: &[u64], marks: &Marks) -> bool
     requires { header_ok table.now ≡ true }
     ensures { result ≡ recordings_ok (marked_pairs (view table.now) marks.now) }
 {

@@ -2,11 +2,10 @@
 use mathlib.Core.Path.{◌≡◌, ap, sym, ◌∙◌}
 use mathlib.Core.Bool.{Bool, true, false, cond}
 use mathlib.Core.Logic.{◌≢◌}
-use Prim.Native.Nat.{ℕ, ◌+◌, ◌-◌, ◌*◌, ◌≤◌, ◌<◌}
+use Prim.Native.Nat.{ℕ, ◌+◌, ◌*◌, ◌≤◌, ◌<◌}
 use native.Mathlib.Omega.{arith}
 use lib.Dec.{eqb, ltb}
-use lib.ListN.{length, take, drop, length-drop}
-use lib.Seq.{length-take-le}
+use lib.ListN.{length}
 use borrow.Author.Tests.{eq-eqb, ne_eqb, lt-ltb, le-ltb}
 use Rattle.model.specs.Table.{Words, at, nodes}
 use Rattle.model.specs.Reached.{unless_lacking}
@@ -45,76 +44,56 @@ both-more t a b c d h k = go (eqb (at t 3) 0)
 
 -- ---- by the nodes entered
 
-module _ (t order : Words) (top first all : ℕ) (r : Toured t top order first all) where
-  pub top-few : top ≤ 65535
-  top-few = let a = ((header-iff t).0 r.header).size.few in let b = r.nodes-are in omega arith
+module _ (t firsts seconds : Words) (r : Toured t firsts seconds) where
+  pub top-few : nodes t ≤ 65535
+  top-few = let a = ((header-iff t).0 r.header).size.few in omega arith
 
   pub words-some : 8 ≤ length t
   words-some = let a = ((header-iff t).0 r.header).size.long in omega arith
 
-  pub one-long : length (take first order) ≡ first
-  one-long = let a = top-few in let b = r.some in let c = r.few in let d = r.long in let e = r.nodes-are in length-take-le first order (omega arith)
+  pub one-few : length firsts ≤ 65535
+  one-few = let b = top-few in let d = r.few in omega arith
 
-  pub two-long : length (take (all - first) (drop first order)) ≡ all - first
-  two-long =
-      let a = top-few in
-      let b = r.some in
-      let c = r.few in
-      let d = r.long in
-      let e = r.nodes-are in
-      let f = length-drop first order in
-      length-take-le (all - first) (drop first order) (omega arith)
+  pub two-few : length seconds ≤ 65535
+  two-few = let b = top-few in let d = r.few in omega arith
 
-  pub one-few : length (take first order) ≤ 65535
-  one-few = let a = one-long in let b = top-few in let c = r.some in let d = r.few in let e = r.nodes-are in omega arith
-
-  pub two-few : length (take (all - first) (drop first order)) ≤ 65535
-  two-few = let a = two-long in let b = top-few in let d = r.few in let e = r.nodes-are in omega arith
-
-  pub first-small : first ≤ 65535
-  first-small = let b = top-few in let c = r.some in let d = r.few in let e = r.nodes-are in omega arith
-
-  pub all-fits : all ≤ length order
-  all-fits = let b = top-few in let d = r.few in let e = r.nodes-are in let f = r.long in omega arith
-
-  pub one-gathered : gathered_along t (take first order) ≡ gathered 1 t
+  pub one-gathered : gathered_along t firsts ≡ gathered 1 t
   unfolding gathered
   one-gathered = ap (gathered_along t) r.one
 
-  pub two-gathered : gathered_along t (take (all - first) (drop first order)) ≡ gathered 2 t
+  pub two-gathered : gathered_along t seconds ≡ gathered 2 t
   unfolding gathered
   two-gathered = ap (gathered_along t) r.two
 
   -- slots in use, and pairs kept, of each collection
-  module _ (a b : ℕ) (ea : a ≤ 12 * length (take first order)) (eb : b ≤ 12 * length (take (all - first) (drop first order))) where
+  module _ (a b : ℕ) (ea : a ≤ 12 * length firsts) (eb : b ≤ 12 * length seconds) where
     pub few : (a ≤ 16777216) × (b ≤ 16777216)
     few = let c = one-few in let d = two-few in (omega arith, omega arith)
 
-    module _ (ha : length (gathered_along t (take first order)).kept ≤ a) (hb : length (gathered_along t (take (all - first) (drop first order))).kept ≤ b) where
+    module _ (ha : length (gathered_along t firsts).kept ≤ a) (hb : length (gathered_along t seconds).kept ≤ b) where
       pub most : Most t a b
       most = let f = few in record { one = rw one-gathered at ha; two = rw two-gathered at hb; one-few = f.0; two-few = f.1 }
 
       -- more pairs fit, so those kept do
-      pub used-fit : (need : ℕ) → need ≡ needed_both t a b → need ≤ top → ltb top (needed_both t a b) ≡ outgrows t
+      pub used-fit : (need : ℕ) → need ≡ needed_both t a b → need ≤ (nodes t) → ltb (nodes t) (needed_both t a b) ≡ outgrows t
       unfolding outgrows
       used-fit need e h =
           let m = both-more t _ _ a b most.one most.two in
           let k = kept-needed t in
-          let n = r.nodes-are in
-          le-ltb top (needed_both t a b) (omega arith) ∙ sym (le-ltb (nodes t) (packed_both (kept_maps t)) (omega arith))
+          le-ltb (nodes t) (needed_both t a b) (omega arith) ∙ sym (le-ltb (nodes t) (packed_both (kept_maps t)) (omega arith))
 
   -- the pairs kept themselves
-  pub kept-bounds : (a b : ℕ) → a ≤ 12 * length (take first order) → b ≤ 12 * length (take (all - first) (drop first order))
-      → a ≡ length (gathered_along t (take first order)).kept → b ≡ length (gathered_along t (take (all - first) (drop first order))).kept
-      → Most t a b × (ltb top (needed_both t a b) ≡ outgrows t)
+  pub kept-bounds : (a b : ℕ) → a ≤ 12 * length firsts → b ≤ 12 * length seconds
+      → a ≡ length (gathered_along t firsts).kept → b ≡ length (gathered_along t seconds).kept
+      → Most t a b × (ltb (nodes t) (needed_both t a b) ≡ outgrows t)
   unfolding outgrows
   kept-bounds a b ea eb e f =
       let x : a ≡ length (gathered 1 t).kept = rw one-gathered at e in
       let y : b ≡ length (gathered 2 t).kept = rw two-gathered at f in
-      (most a b ea eb (omega (arith, e)) (omega (arith, f)), rw (r.nodes-are, x, y, kept-needed t))
+      (most a b ea eb (omega (arith, e)) (omega (arith, f)), rw (x, y, kept-needed t))
 
-  pub grown : (a b need : ℕ) → need ≡ needed_both t a b → ltb top (needed_both t a b) ≡ outgrows t → top < need → outgrows t ≡ true
-  grown a b need e f h = sym f ∙ lt-ltb top (needed_both t a b) (omega arith)
+  pub grown : (a b need : ℕ) → need ≡ needed_both t a b → ltb (nodes t) (needed_both t a b) ≡ outgrows t → (nodes t) < need → outgrows t ≡ true
+  grown a b need e f h = sym f ∙ lt-ltb (nodes t) (needed_both t a b) (omega arith)
 
-  pub fits : (a b need : ℕ) → need ≡ needed_both t a b → ltb top (needed_both t a b) ≡ outgrows t → need ≤ top → (needed_both t a b ≤ top) × (outgrows t ≡ false)
-  fits a b need e f h = (omega arith, sym f ∙ le-ltb top (needed_both t a b) (omega arith))
+  pub fits : (a b need : ℕ) → need ≡ needed_both t a b → ltb (nodes t) (needed_both t a b) ≡ outgrows t → need ≤ (nodes t) → (needed_both t a b ≤ (nodes t)) × (outgrows t ≡ false)
+  fits a b need e f h = (omega arith, sym f ∙ le-ltb (nodes t) (needed_both t a b) (omega arith))

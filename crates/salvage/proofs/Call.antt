@@ -5,7 +5,7 @@ use mathlib.Core.Logic.{◌≢◌}
 use mathlib.Core.List.{◌++◌}
 use Prim.Native.Nat.{ℕ, zero, suc, ◌+◌, ◌-◌, ◌*◌, ◌≤◌, ◌<◌}
 use native.Mathlib.Omega.{arith}
-use lib.ListN.{length, take, drop, replicate, length-replicate}
+use lib.ListN.{length, take, drop}
 use borrow.Author.Tests.{eq-eqb, ne_eqb, lt-ltb, le-ltb}
 use Rattle.std.specs.Prelude.{Ok, Err}
 use Rattle.model.specs.declared.Refusal.{Refusal}
@@ -23,22 +23,22 @@ use Rattle.salvage.specs.Parts.{Toured, Reported}
 
 -- ---- the second slice
 
-module _ (t order out : Words) (top first all : ℕ) (o : Toured t top order first all) (l : length out ≡ length t) where
-  long : length out ≡ 8 + 32 * top
-  long = let f = ((header-iff t).0 o.header).size.long in let n = o.nodes-are in omega arith
+module _ (t firsts seconds out : Words) (o : Toured t firsts seconds) (l : length out ≡ length t) where
+  long : length out ≡ 8 + 32 * nodes t
+  long = let f = ((header-iff t).0 o.header).size.long in omega arith
 
   pub out-long : 8 ≤ length out
   out-long = omega (arith, long)
 
-  pub part-long : length (take (length out - 8) (drop 8 out)) ≡ 32 * top
-  part-long = nodes-long out top long
+  pub part-long : length (take (length out - 8) (drop 8 out)) ≡ 32 * nodes t
+  part-long = nodes-long out (nodes t) long
 
   pub put-out : (w : Words) → length w ≡ length (take (length out - 8) (drop 8 out)) → 8 ≤ length (take 8 out ++ (w ++ drop (length out - 8) (drop 8 out)))
-  put-out w e = put-back out top long w e
+  put-out w e = put-back out (nodes t) long w e
 
-  pub rebuilt : (w x : Words) (one two : ℕ) → w ≡ packed_nodes top (kept_maps t) → (one ≡ packed_count (kept_maps t).one) × (two ≡ second_root (kept_maps t))
-      → x ≡ header_words one two top ++ drop 8 (take 8 out ++ (w ++ drop (length out - 8) (drop 8 out))) → x ≡ packed_table (nodes t) (kept_maps t)
-  rebuilt w x one two a b c = put-table out top long (kept_maps t) w x one two a b c ∙ ap (λ (n : ℕ). packed_table n (kept_maps t)) o.nodes-are
+  pub rebuilt : (w x : Words) (one two : ℕ) → w ≡ packed_nodes (nodes t) (kept_maps t) → (one ≡ packed_count (kept_maps t).one) × (two ≡ second_root (kept_maps t))
+      → x ≡ header_words one two (nodes t) ++ drop 8 (take 8 out ++ (w ++ drop (length out - 8) (drop 8 out))) → x ≡ packed_table (nodes t) (kept_maps t)
+  rebuilt w x one two a b c = put-table out (nodes t) long (kept_maps t) w x one two a b c
 
 -- ---- the call
 
@@ -86,10 +86,7 @@ module _ (t out report : Words) where
         unfolding salvage salvage_out salvage_report
         salvaged o d o' r' a b = let e = accepted o in (rw (e, b.0), (rw e a, rw e (b.1 ∙ ap (λ (i : ℕ). drop_words (dropped_all t) ++ drop (3 * i) report) b.0)))
 
--- ---- the header test, and the order slice
+-- ---- the header test
 
 pub header-good : (t : Words) {r : Outcome} {x : Unit {0}} → r ≡ passed (header_number t) → r ≡ Ok x → header_ok t ≡ true
 header-good t e w = (header-number-iff t).0 (passed-zero (header_number t) (sym e ∙ w))
-
-pub order-long : length (replicate 65536 zero) ≡ 65536
-order-long = length-replicate {A = ℕ} 65536 0

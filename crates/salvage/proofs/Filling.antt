@@ -1,7 +1,7 @@
 -- The nodes of one collection: gathered behind the nodes before, and packed there.
 use mathlib.Core.Path.{◌≡◌, ap, sym, ◌∙◌}
 use mathlib.Core.List.{List, ◌++◌}
-use Prim.Native.Nat.{ℕ, suc, ◌+◌, ◌-◌, ◌*◌, ◌≤◌}
+use Prim.Native.Nat.{ℕ, suc, ◌+◌, ◌-◌, ◌*◌, ◌/◌, ◌≤◌}
 use native.Mathlib.Omega.{arith}
 use lib.ListN.{length, take, drop, replicate, take-append-drop}
 use Rattle.model.specs.Table.{Words, nodes}
@@ -19,20 +19,20 @@ use Rattle.gather.proofs.Slots.{drops-length, drop-words}
 use Rattle.salvage.specs.Parts.{Fits, Reported}
 use Rattle.gather.specs.Held as held-specs
 
-module _ (t order words : Words) (top before b : ℕ) (report : Words) (n : top ≡ nodes t) (f : Fits t order words before b report) where
+module _ (t order words : Words) (before b : ℕ) (report : Words) (f : Fits t order words before b report) where
   abbrev w : ℕ
   w = 32 * before
 
   abbrev g : Gathered
   g = gathered_along t order
 
-  room : (2 * b ≤ 32 * (top - before)) × (before + nodes_needed b ≤ top)
-  room = let h : before + nodes_needed b ≤ top = let r = f.room in omega arith in ((room-facts before b top h).0, h)
+  room : (2 * b ≤ 32 * (nodes t - before)) × (before + nodes_needed b ≤ nodes t)
+  room = let h : before + nodes_needed b ≤ nodes t = let r = f.room in omega arith in ((room-facts before b (nodes t) h).0, h)
 
-  pub words-fit : (w ≤ length words) × (top ≤ 65535) × (before ≤ 65535)
+  pub words-fit : (w ≤ length words) × (nodes t ≤ 65535) × (before ≤ 65535)
   words-fit = let r = room.1 in let l = f.long in let s = f.small in (omega arith, omega arith, omega arith)
 
-  part-long : length (take (length words - w) (drop w words)) ≡ 32 * (top - before)
+  part-long : length (take (length words - w) (drop w words)) ≡ 32 * (nodes t - before)
   part-long = let l = f.long in rest-long words w ∙ omega arith
 
   pub gather-ready : held-specs.Ready t order (take (length words - w) (drop w words)) b report
@@ -40,7 +40,7 @@ module _ (t order words : Words) (top before b : ℕ) (report : Words) (n : top 
       let l = part-long in
       let s = f.small in
       let c = f.few in
-      let z = (room-facts before b top room.1).1 in
+      let z = (room-facts before b (nodes t) room.1).1 in
       record { along = record { few = omega arith; drops = f.drops }; cells = omega arith; small = omega arith; most = f.most }
 
   -- after the gathering
@@ -58,16 +58,26 @@ module _ (t order words : Words) (top before b : ℕ) (report : Words) (n : top 
     whole-pairs : pairs_after before whole p.kept ≡ g.kept
     whole-pairs = ap (λ (x : Words). pairs_in x p.kept) (ap (drop w) (back-is words w w') ∙ back-drop words w words-fit.0 w') ∙ pairs-are
 
-    pub pack-fits : (length whole ≡ 32 * top) × (top ≤ 65535) × (before + nodes_needed p.kept ≤ top) × (p.kept ≤ 16777216)
+    -- the nodes of the slice
+    abbrev n : ℕ
+    n = length whole / 32
+
+    all-nodes : n ≡ nodes t
+    all-nodes = let l = f.long in let e = whole-long in omega arith
+
+    pub pack-fits : (length whole ≡ 32 * n) × (n ≤ 65535) × (before + nodes_needed p.kept ≤ n) × (p.kept ≤ 16777216)
     pack-fits =
         let m = needed-more p.kept b few in
         let r = room.1 in
-        let z = (room-facts before b top r).1 in
+        let z = (room-facts before b (nodes t) r).1 in
         let s = f.small in
-        (whole-long ∙ (let l = f.long in omega arith), words-fit.1, omega arith, omega arith)
+        let l = f.long in
+        let e = whole-long in
+        let i = all-nodes in
+        (omega arith, omega arith, omega arith, omega arith)
 
-    pub filled : (x : Words) (root : ℕ) → x ≡ packed_after before top whole (pairs_after before whole p.kept) → root ≡ before + packed_count (pairs_after before whole p.kept)
-        → ((x ≡ packed_after before top words g.kept) × (root ≡ before + packed_count g.kept)) × (Reported report r' g.dropped p.dropped × (p.dropped ≤ 12 * length order))
+    pub filled : (x : Words) (root : ℕ) → x ≡ packed_after before n whole (pairs_after before whole p.kept) → root ≡ before + packed_count (pairs_after before whole p.kept)
+        → ((x ≡ packed_after before (nodes t) words g.kept) × (root ≡ before + packed_count g.kept)) × (Reported report r' g.dropped p.dropped × (p.dropped ≤ 12 * length order))
     filled x root a c =
         let ds : drops_in r' p.dropped ≡ g.dropped = ap (λ (y : Gathered). y.dropped) e in
         let s = k.sum in
@@ -75,7 +85,7 @@ module _ (t order words : Words) (top before b : ℕ) (report : Words) (n : top 
         let z : 3 * p.dropped ≤ length r' = omega arith in
         let same : take w whole ≡ take w words = ap (take w) (back-is words w w') ∙ back-take words w words-fit.0 w' in (
           (
-            a ∙ ap (packed_after before top whole) whole-pairs ∙ ap (λ (y : Words). y ++ (packed_words (suc before) g.kept ++ replicate (32 * (top - (before + packed_count g.kept))) 0)) same,
+            rw all-nodes at a ∙ ap (packed_after before (nodes t) whole) whole-pairs ∙ ap (λ (y : Words). y ++ (packed_words (suc before) g.kept ++ replicate (32 * (nodes t - (before + packed_count g.kept))) 0)) same,
             c ∙ ap (λ (ps : List Slot). before + packed_count ps) whole-pairs,
           ),
           (

@@ -1,20 +1,17 @@
 -- What the parts of a salvage take and give.
-use Rattle.std.specs.Prelude.{◌≡◌, true, cond, List, ◌++◌, ℕ, ◌+◌, ◌-◌, ◌*◌, ◌≤◌, eqb, length, take, drop}
+use Rattle.std.specs.Prelude.{◌≡◌, true, cond, List, ◌++◌, ℕ, ◌+◌, ◌*◌, ◌≤◌, eqb, length, drop}
 use Rattle.model.specs.Table.{Words, at, nodes, header_ok}
 use Rattle.model.specs.Salvage.{entered, Drop, gathered_along, gathered, drop_words}
 use Rattle.pack_laws.specs.Needed.{nodes_needed}
 
 -- ---- what is known of the damaged one
 
--- a table with a good header, and the nodes entered: so many for collection 1, then those for collection 2 up to the count
-pub record Toured (t : Words) (top : ℕ) (order : Words) (first count : ℕ) : Type 0 where
+-- a table with a good header, and the nodes entered for collection 1 and for collection 2
+pub record Toured (t firsts seconds : Words) : Type 0 where
   pub header : header_ok t ≡ true
-  pub nodes-are : top ≡ nodes t
-  pub long : length order ≡ 65536
-  pub one : take first order ≡ entered 1 t
-  pub two : take (count - first) (drop first order) ≡ entered 2 t
-  pub some : first ≤ count
-  pub few : count ≤ nodes t
+  pub one : firsts ≡ entered 1 t
+  pub two : seconds ≡ entered 2 t
+  pub few : length firsts + length seconds ≤ nodes t
 
 -- the nodes that so many pairs of each collection need; without collection 2 none for it
 unfoldable pub needed_both : Words → (a b : ℕ) → ℕ

@@ -2,7 +2,7 @@
 // comes first, in the tour, in the new nodes and in the report.
 #![tactic(auto)]
 
-ghost use Rattle.std.specs.Prelude.{◌≡◌, true, ◌+◌, ◌*◌, ◌≤◌, ltb, length};
+ghost use Rattle.std.specs.Prelude.{◌≡◌, true, ◌+◌, ◌-◌, ◌*◌, ◌≤◌, ltb, length, take, drop};
 ghost use Rattle.model.specs.Table.{header_ok, nodes};
 ghost use Rattle.model.specs.Packing.{packed_count, packed_table};
 ghost use Rattle.model.specs.Salvage.{gathered_along, kept_maps, dropped_all, outgrows, salvage, salvage_out, salvage_report};
@@ -21,19 +21,18 @@ struct Counts {
 }
 
 // The nodes entered, in order, into the order slice: for collection 1, then for collection 2. Without it its root is 0, which is no node.
-fn enter_nodes(table: &[u64], top: u64, order: &mut [u16]) -> Counts
-    requires { (header_ok table.now ≡ true) × (top ≡ nodes table.now) × (length order.old ≡ 65536) }
-    ensures { Toured table.now top order.new result.first result.all }
+fn enter_nodes(table: &[u64], order: &mut [u16; 65536]) -> Counts
+    requires { header_ok table.now ≡ true }
+    ensures toured { Toured table.now (take result.first order.new) (take (result.all - result.first) (drop result.first order.new)) }
+    ensures few { (result.first ≤ result.all) × (result.all ≤ 65535) }
 {
     // A set of numbers as bits, and a stack in two arrays, three bytes an entry: memory is fixed, there is no heap.
     let mut marks = [0u64; 1024];
     let mut stack = [0u16; 65536];
     let mut ways = [0u8; 65536];
-    let first = tour::tour(
-        table, top, table[1], &mut marks, &mut stack, &mut ways, order, 0,
-    );
+    let first = tour::tour(table, table[1], &mut marks, &mut stack, &mut ways, order, 0);
     let all = tour::tour(
-        table, top, table[3], &mut marks, &mut stack, &mut ways, order, first,
+        table, table[3], &mut marks, &mut stack, &mut ways, order, first,
     );
     Counts { first, all }
 }
@@ -53,21 +52,21 @@ fn needed_both(table: &[u64], pairs: Both<usize>) -> usize
 }
 
 // At least as many as the pairs kept, and too many for the table only if these are: the slots in use, if their packing fits; else the
-// pairs kept, which takes far longer to know. table and order come one by one: the one is C's, the other an array of the call.
-fn most_kept(table: &[u64], top: u64, order: &[u16], counts: Counts) -> Both<usize>
-    requires { Toured table.now top order.now counts.first counts.all }
+// pairs kept, which takes far longer to know. The nodes entered for each collection are two slices, here and below: a struct would be taken
+// apart in each function.
+fn most_kept(table: &[u64], first: &[u16], second: &[u16]) -> Both<usize>
+    requires { Toured table.now first.now second.now }
     ensures most { Most table.now result.one result.two }
-    ensures two_value { ltb top (needed_both table.now result.one result.two) ≡ outgrows table.now }
+    ensures two_value { ltb (nodes table.now) (needed_both table.now result.one result.two) ≡ outgrows table.now }
 {
-    let Counts { first, all } = counts;
-    let one = keeping::count_used(table, &order[..first]);
-    let two = keeping::count_used(table, &order[first..all]);
+    let one = keeping::count_used(table, first);
+    let two = keeping::count_used(table, second);
     let used = Both { one, two };
-    if needed_both(table, used) <= top as usize {
+    if needed_both(table, used) <= table[2] as usize {
         return used;
     }
-    let one = keeping::count_kept(table, top, &order[..first]);
-    let two = keeping::count_kept(table, top, &order[first..all]);
+    let one = keeping::count_kept(table, first);
+    let two = keeping::count_kept(table, second);
     Both { one, two }
 }
 
@@ -83,22 +82,21 @@ struct Filled<R> {
 // The pairs that these nodes hold, at most so many, packed behind the nodes before; and the report.
 fn fill(
     table: &[u64],
-    top: u64,
     order: &[u16],
     words: &mut [u64],
     before: usize,
     bound: usize,
     report: &mut [u64],
 ) -> Filled<usize>
-    requires { (top ≡ nodes table.now) × Fits table.now order.now words.old before bound report.old }
-    ensures words_after { (words.new ≡ packed_after before top words.old (gathered_along table.now order.now).kept)
+    requires { Fits table.now order.now words.old before bound report.old }
+    ensures words_after { (words.new ≡ packed_after before (nodes table.now) words.old (gathered_along table.now order.now).kept)
         × (result.root ≡ before + packed_count (gathered_along table.now order.now).kept) }
     ensures reported { Reported report.old report.new (gathered_along table.now order.now).dropped result.dropped }
     ensures dropped_bound { result.dropped ≤ 12 * length order.now }
 {
     let w = 32 * before;
-    let t = gather::gather(table, top, order, &mut words[w..], bound, report);
-    let root = pack::pack(words, before, t.kept, top as usize);
+    let t = gather::gather(table, order, &mut words[w..], bound, report);
+    let root = pack::pack(words, before, t.kept);
     Filled {
         root,
         dropped: t.dropped,
@@ -108,21 +106,20 @@ fn fill(
 // The nodes of the new table, and the report, if at most so many pairs are kept of each collection. The second root is 0 if there is none.
 fn fill_both(
     table: &[u64],
-    top: u64,
-    order: &[u16],
-    counts: Counts,
+    first: &[u16],
+    second: &[u16],
     words: &mut [u64],
     bounds: Both<usize>,
     report: &mut [u64],
 ) -> Filled<Both<usize>>
-    requires { Toured table.now top order.now counts.first counts.all × Most table.now bounds.one bounds.two
-        × (needed_both table.now bounds.one bounds.two ≤ top) × (length words.old ≡ 32 * top) × (36 * top ≤ length report.old) }
-    ensures words_after { words.new ≡ packed_nodes top (kept_maps table.now) }
+    requires { Toured table.now first.now second.now × Most table.now bounds.one bounds.two
+        × (needed_both table.now bounds.one bounds.two ≤ nodes table.now) × (length words.old ≡ 32 * nodes table.now)
+        × (36 * nodes table.now ≤ length report.old) }
+    ensures words_after { words.new ≡ packed_nodes (nodes table.now) (kept_maps table.now) }
     ensures one_value { (result.root.one ≡ packed_count (kept_maps table.now).one) × (result.root.two ≡ second_root (kept_maps table.now)) }
     ensures reported { Reported report.old report.new (dropped_all table.now) result.dropped }
 {
-    let Counts { first, all } = counts;
-    let f = fill(table, top, &order[..first], words, 0, bounds.one, report);
+    let f = fill(table, first, words, 0, bounds.one, report);
     if table[3] == 0 {
         let root = Both {
             one: f.root,
@@ -134,15 +131,7 @@ fn fill_both(
         };
     }
     let w = 3 * f.dropped;
-    let g = fill(
-        table,
-        top,
-        &order[first..all],
-        words,
-        f.root,
-        bounds.two,
-        &mut report[w..],
-    );
+    let g = fill(table, second, words, f.root, bounds.two, &mut report[w..]);
     let root = Both {
         one: f.root,
         two: g.root,
@@ -156,20 +145,20 @@ fn fill_both(
 // The second slice and the report, if the packing fits; the answer is how many slots were dropped.
 fn rebuild(
     table: &[u64],
-    top: u64,
-    order: &[u16],
-    counts: Counts,
+    first: &[u16],
+    second: &[u16],
     out: &mut [u64],
     bounds: Both<usize>,
     report: &mut [u64],
 ) -> usize
-    requires { Toured table.now top order.now counts.first counts.all × Most table.now bounds.one bounds.two
-        × (needed_both table.now bounds.one bounds.two ≤ top) × (length out.old ≡ length table.now) × (36 * top ≤ length report.old) }
+    requires { Toured table.now first.now second.now × Most table.now bounds.one bounds.two
+        × (needed_both table.now bounds.one bounds.two ≤ nodes table.now) × (length out.old ≡ length table.now)
+        × (36 * nodes table.now ≤ length report.old) }
     ensures out_after { out.new ≡ packed_table (nodes table.now) (kept_maps table.now) }
     ensures reported { Reported report.old report.new (dropped_all table.now) result }
 {
-    let f = fill_both(table, top, order, counts, &mut out[8..], bounds, report);
-    packing::put_header(out, f.root.one as u64, f.root.two as u64, top);
+    let f = fill_both(table, first, second, &mut out[8..], bounds, report);
+    packing::put_header(out, f.root, table[2]);
     f.dropped
 }
 
@@ -186,17 +175,19 @@ pub fn salvage(table: &[u64], out: &mut [u64], report: &mut [u64]) -> Salvaged
     if out.len() != table.len() {
         return Err(Refusal::OtherLength);
     }
-    let top = table[2];
-    if report.len() < 36 * top as usize {
+    let top = table[2] as usize;
+    if report.len() < 36 * top {
         return Err(Refusal::ShortReport);
     }
     // Room for every node that a table can have: memory is fixed, there is no heap.
     let mut order = [0u16; 65536];
-    let counts = enter_nodes(table, top, &mut order);
-    let bounds = most_kept(table, top, &order, counts);
-    if (top as usize) < needed_both(table, bounds) {
+    let entered = enter_nodes(table, &mut order);
+    let first = &order[..entered.first];
+    let second = &order[entered.first..entered.all];
+    let bounds = most_kept(table, first, second);
+    if top < needed_both(table, bounds) {
         return Err(Refusal::NoNodes);
     }
-    let dropped = rebuild(table, top, &order, counts, out, bounds, report);
+    let dropped = rebuild(table, first, second, out, bounds, report);
     Ok(dropped as u64)
 }

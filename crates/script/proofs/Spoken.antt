@@ -3,12 +3,11 @@ use mathlib.Core.Path.{◌≡◌, refl, sym, ap, ◌∙◌}
 use mathlib.Core.Bool.{Bool, true, false}
 use mathlib.Core.Logic.{inl, inr}
 use mathlib.Core.List.{List, [], ◌∷◌, ◌++◌, append-nil, append_assoc}
-use Prim.Native.Nat.{ℕ, zero, suc, ◌+◌, ◌≤◌, ◌<◌}
+use Prim.Native.Nat.{ℕ, zero, suc, ◌+◌, ◌≤◌}
 use native.Mathlib.Omega.{arith}
 use lib.Dec.{eqb}
-use lib.ListN.{length, take, drop, take-append-drop, drop_of_length-le}
-use lib.Seq.{drop-drop}
-use Rattle.std.specs.Prelude.{Some, None, Ok, Err}
+use lib.ListN.{length, take, drop, take-append-drop}
+use Rattle.std.specs.Prelude.{Some, None, is_some, Ok, Err}
 use Rattle.model.specs.declared.Refusal.{Refusal}
 use Rattle.model.specs.Numbers.{refusal_number, refusal_of}
 use Rattle.model.specs.Results.{Written}
@@ -20,21 +19,22 @@ use Rattle.model.specs.Printer.{Bytes, orders_text, refused_line, Desk, Reply, r
 use Rattle.script_bytes.specs.declared.Request.{Request}
 use Rattle.script_bytes.specs.declared.Request.TheVariants.{Insertion, Deletion}
 use Rattle.script_bytes.specs.declared.LineState.{LineState}
-use Rattle.script_bytes.specs.Line.{Asked, begin, line_in, request, begun}
+use Rattle.script_bytes.specs.Line.{Asked, begin, line_in, used_of, request, begun}
 use Rattle.script_bytes.specs.declared.LineRead.{LineRead}
-use Rattle.script_bytes.specs.Text.{Put, Begins, order_lines, done_line, spoken}
+use Rattle.script_bytes.specs.declared.Text.{Text}
+use Rattle.script_bytes.specs.Text.{order_lines, done_line, spoken, bytes_of, Puts}
 use Rattle.script_bytes.specs.Input.{Reading, reading, read_byte, read_bytes, do_request, print_on, read_pieces, joined, line_done, finished}
 use Rattle.model.proofs.Numbers.{Numbered, refusal-numbered}
-use Rattle.script_bytes.proofs.Decimal.{refused-most}
-use Rattle.script_bytes.proofs.Text.{put-begins}
+use Rattle.script_bytes.proofs.Puts.{puts-whole}
 use Rattle.script_bytes.proofs.Input.{bytes-append, line-done, line-used, printer-read}
 use Rattle.cut_laws.proofs.Applying.{counts-length}
 use Rattle.cut_laws.proofs.Lent.{list-read-back}
 use Rattle.two_laws.proofs.AcceptedTwo.{accepted-iff}
 use Rattle.two_laws.proofs.MapsTwo.{accepted-steps}
 use Rattle.two_laws.proofs.DocksTwo.{no-barriers}
-use Rattle.script.specs.Spoken.{desk_of, answer_of, answer_to, Left, silent, Told, After, told}
-use Rattle.script.specs.declared.Said.{Said}
+use Rattle.script.specs.declared.Session.{Session}
+use Rattle.script.specs.Spoken.{desk_of, answer_of, answer_to, silent, told}
+use Rattle.script.specs.Session.{desk, Same_slices, Told, After}
 
 -- ---- the table and the list after a call
 
@@ -105,10 +105,10 @@ request-spoken (Deletion k) d = rw call-list (call-spoken (deletion 1 k) d _ ref
 
 -- ---- what the calls leave
 
-pub ended-left : (q : Request) (s : LineState) (x : Asked) → x ≡ request s → x ≡ Ok (Some q) → (t l : Words) {a : Written} {t' l' : Words} → Acted q t l a t' l'
-    → {out : Bytes} {n : ℕ} → Begins out n (spoken a l') → Left (do_request (request s) (desk_of t l)) t' l' out n
-ended-left q s x e f t l h b =
-    record { whole = rw (b.first, h.0, h.1.0, h.1.1, ← e, f, request-spoken q (desk_of t l)); within = b.within }
+pub ended-left : (q : Request) (s : LineState) (x : Asked) → x ≡ request s → x ≡ Ok (Some q) → (d : Desk) {t l : Words} {v w : Text}
+    → t ≡ (do_request (Ok (Some q)) d).desk.table → l ≡ (do_request (Ok (Some q)) d).desk.list → v.at ≡ 0
+    → Puts (spoken (answer_to q d) l) v w → reply (bytes_of w) (desk_of t l) ≡ do_request (request s) d
+ended-left q s x e f d g h z p = rw (puts-whole z p, g, h, ← e, f, request-spoken q d)
 
 -- a line that asks nothing, and one that is refused
 pub asks-nothing : (s : LineState) (x : Asked) (d : Desk) → x ≡ request s → x ≡ Ok None → do_request (request s) d ≡ reply (refused_line 0) d
@@ -120,51 +120,41 @@ pub asks-refused : (s : LineState) (x : Asked) (r : Refusal) (n : ℕ) (d : Desk
 unfolding do_request
 asks-refused s x r n d e f m = rw (← e, f, m)
 
-pub refused-left : (n : ℕ) (x : Reply) (t l : Words) {out out' : Bytes} {r : ℕ} → x ≡ reply (refused_line n) (desk_of t l) → 48 ≤ length out
-    → Put out 0 (refused_line n) out' r → Left x t l out' r
-refused-left n x t l e h p =
-    let b = put-begins (omega (arith, refused-most n)) p in
-    record { whole = rw (e, b.first); within = b.within }
+pub refused-left : (n : ℕ) {x : Reply} {d : Desk} {v w : Text} → x ≡ reply (refused_line n) d → v.at ≡ 0 → Puts (refused_line n) v w → reply (bytes_of w) d ≡ x
+refused-left n e z p = rw (e, puts-whole z p)
 
 -- at the end of the input
-module _ (s : LineState) (b : Bool) (e : b ≡ begun s.place) {t l : Words} {out : Bytes} where
-  pub finish-line : b ≡ true → (d : Desk) {n : ℕ} → Left (do_request (request s) d) t l out n → Left (finished print_on (silent s d)) t l out n
+module _ (s : LineState) (b : Bool) (e : b ≡ begun s.place) where
+  pub finish-line : b ≡ true → (d : Desk) {x : Reply} → x ≡ do_request (request s) d → x ≡ finished print_on (silent s d)
   unfolding finished print_on
   finish-line f d h = rw (← e, f) h
 
-  pub finish-none : b ≡ false → Left (finished print_on (silent s (desk_of t l))) t l out 0
+  pub finish-none : b ≡ false → (d : Desk) → reply [] d ≡ finished print_on (silent s d)
   unfolding finished
-  finish-none f = rw (← e, f) (record { whole = refl; within = omega arith })
+  finish-none f d = rw (← e, f)
 
 -- the bytes of a piece up to its first line feed
-module _ (s : LineState) (piece : Bytes) (x : LineRead) (e : x ≡ line_in s piece) (d : Desk) where
-  used-part : (x.used ≤ length piece) × (0 < length piece → 0 < x.used)
-  used-part = rw e (line-used s piece)
+module _ (s : Session) (piece : Bytes) (x : LineRead) (e : x ≡ line_in s.line piece) where
+  told-as : {y : Session} → line_done print_on x (reply [] (desk s)) ≡ reading y.line (reply (bytes_of y.text) (desk y)) → Same_slices s y
+      → Told s piece (used_of x.end piece) y
+  told-as h k =
+      let u = line-used s.line piece in
+      record {
+        read = rw e (line-done print_on s.line (reply [] (desk s)) piece) ∙ h;
+        used-within = rw e u.0;
+        used-some = rw e u.1;
+        slices = k;
+      }
 
-  line-part : read_bytes print_on (silent s d) (take x.used piece) ≡ line_done print_on x (reply [] d)
-  line-part = rw e (line-done print_on s (reply [] d) piece)
-
-  pub part-read : {t l : Words} {out : Bytes} → d ≡ desk_of t l → x.ended ≡ false
-      → Told (silent s d) piece (record { line = x.line; used = x.used; printed = 0 }) t l out
+  pub part-read : {y : Session} (u : ℕ) → u ≡ used_of x.end piece → is_some x.end ≡ false
+      → silent x.line (desk s) ≡ reading y.line (reply (bytes_of y.text) (desk y)) → Same_slices s y → Told s piece u y
   unfolding line_done
-  part-read f g =
-      record {
-        read = line-part ∙ rw (g, f);
-        used-within = used-part.0;
-        used-some = used-part.1;
-        printed-within = omega arith;
-      }
+  part-read {y} u n g h k = rw n (told-as {y = y} (rw g h) k)
 
-  pub line-told : (s' : LineState) {t l : Words} {out : Bytes} {n : ℕ} → s' ≡ begin → x.ended ≡ true → Left (do_request (request x.line) d) t l out n
-      → Told (silent s d) piece (record { line = s'; used = x.used; printed = n }) t l out
+  pub line-told : {y : Session} (u : ℕ) → u ≡ used_of x.end piece → y.line ≡ begin → is_some x.end ≡ true
+      → reply (bytes_of y.text) (desk y) ≡ do_request (request x.line) (desk s) → Same_slices s y → Told s piece u y
   unfolding line_done print_on
-  line-told s' f g h =
-      record {
-        read = line-part ∙ rw (g, f, ← h.whole);
-        used-within = used-part.0;
-        used-some = used-part.1;
-        printed-within = h.within;
-      }
+  line-told {y} u n f g h k = rw n (told-as {y = y} (rw (g, f, ← h)) k)
 
 -- ---- what was printed before
 
@@ -206,32 +196,38 @@ pub record Same (x y : Reading Reply) : Type 0 where
 pub same-start : (x : Reading Reply) → Same x x
 same-start x = record { line-same = refl; desk-same = refl }
 
--- what is left of the piece, after one line more of it
-pub same-line : (s : LineState) (d : Desk) (piece : Bytes) (i : ℕ) (r : Said) {t l : Words} {out : Bytes} {y : Reading Reply}
-    → Told (silent s d) (drop i piece) r t l out → Same (read_bytes print_on (silent s d) (drop i piece)) y
-    → Same (read_bytes print_on (silent r.line (desk_of t l)) (drop (i + r.used) piece)) y
-same-line s d piece i r {t} {l} {out} h e =
-    let rest = drop i piece in
-    let bs = take r.printed out in
-    let on = read_bytes print_on (silent r.line (desk_of t l)) (drop (i + r.used) piece) in
-    let split : read_bytes print_on (silent s d) rest ≡ after bs on =
-    ap (read_bytes print_on (silent s d)) (sym (take-append-drop r.used rest))
-    ∙ bytes-append print_on (silent s d) (take r.used rest) (drop r.used rest)
-    ∙ ap (λ (x : Reading Reply). read_bytes print_on x (drop r.used rest)) (h.read ∙ silent-after r.line (desk_of t l) bs)
-    ∙ bytes-after bs (silent r.line (desk_of t l)) (drop r.used rest)
-    ∙ ap (λ (xs : Bytes). after bs (read_bytes print_on (silent r.line (desk_of t l)) xs)) (drop-drop r.used i piece) in
+-- what is left of a piece, after one line more of it
+pub same-line : (s : Session) (rest : Bytes) {used : ℕ} {v : Session} {y : Reading Reply}
+    → Told s rest used v → Same (read_bytes print_on (silent s.line (desk s)) rest) y
+    → Same (read_bytes print_on (silent v.line (desk v)) (drop used rest)) y
+same-line s rest {used} {v} h e =
+    let bs = bytes_of v.text in
+    let on = read_bytes print_on (silent v.line (desk v)) (drop used rest) in
+    let old = silent s.line (desk s) in
+    let split : read_bytes print_on old rest ≡ after bs on =
+    ap (read_bytes print_on old) (sym (take-append-drop used rest))
+    ∙ bytes-append print_on old (take used rest) (drop used rest)
+    ∙ ap (λ (x : Reading Reply). read_bytes print_on x (drop used rest)) (h.read ∙ silent-after v.line (desk v) bs)
+    ∙ bytes-after bs (silent v.line (desk v)) (drop used rest) in
     record {
       line-same = sym (ap (λ (x : Reading Reply). x.line) split) ∙ e.line-same;
       desk-same = sym (ap (λ (x : Reading Reply). x.state.desk) split) ∙ e.desk-same;
     }
 
+pub slices-then : {x y z : Session} → Same_slices x y → Same_slices y z → Same_slices x z
+slices-then h k =
+    record {
+      same_table = k.same_table ∙ h.same_table;
+      same_list = k.same_list ∙ h.same_list;
+      same_buffer = k.same_buffer ∙ h.same_buffer;
+    }
+
 -- at its end
-pub same-end : (x : Reading Reply) (piece : Bytes) (i : ℕ) (s : LineState) {t l : Words} → length piece ≤ i
-    → Same (read_bytes print_on (silent s (desk_of t l)) (drop i piece)) (read_bytes print_on x piece) → After x piece s t l
+pub same-end : (x : Session) (piece rest : Bytes) {v : Session} → length rest ≤ 0
+    → Same (read_bytes print_on (silent v.line (desk v)) rest) (read_bytes print_on (silent x.line (desk x)) piece) → Same_slices x v → After x piece v
 unfolding read_bytes
-same-end x piece i s {t} {l} h e =
-    let f : Same (silent s (desk_of t l)) (read_bytes print_on x piece) = rw (drop_of_length-le piece h) at e in
-    record { line-is = sym f.line-same; desk-is = sym f.desk-same }
+same-end x piece [] h e k = record { line-is = sym e.line-same; desk-is = sym e.desk-same; slices = k }
+same-end x piece (b ∷ rest) h e k = absurd (omega arith)
 
 -- ---- the whole input
 

@@ -4,20 +4,25 @@
 
 ghost use Rattle.std.specs.Prelude.{◌≡◌, ◌+◌, ◌*◌, ◌≤◌, length, Some, Ok};
 ghost use Rattle.model.specs.Printer.{first_desk};
-ghost use Rattle.script_bytes.specs.Line.{request};
+ghost use Rattle.script_bytes.specs.Line.{begin, request};
+ghost use Rattle.script_bytes.specs.Text.{spoken, Room, Puts};
 ghost use Rattle.script_bytes.specs.Input.{do_request, print_on, finished};
-ghost use Rattle.script.specs.Spoken.{desk_of, answer_to, silent, Left, Told};
+ghost use Rattle.script.specs.Spoken.{desk_of, answer_to, silent};
 
 use model::Written;
 pub use node::first_table;
-use script_bytes::{LineState, Request};
+use script_bytes::{LineState, Request, Text};
 
-// What a piece of the input led to: the line so far, how many of its bytes were used, and how many bytes are to be written.
-#[derive(Clone, Copy)]
-pub struct Said {
+// The printer between two pieces of its input: the table and the order list, the text that the last call left to be written, and the line
+// so far. All three slices are lent: memory is fixed, and the caller chooses the list's length. The text has 24 bytes for each of the list's
+// words and 48 more.
+#[derive(Drop)]
+pub struct Session<'a> {
+    pub table: &'a mut [u64],
+    pub list: &'a mut [u64],
+    pub text: Text<'a>,
     pub line: LineState,
-    pub used: usize,
-    pub printed: usize,
+    ghost room: { 24 * length list.now + 48 ≤ length text.out.now },
 }
 
 // ---- what the printer starts with
@@ -43,61 +48,76 @@ fn act(table: &mut [u64], list: &mut [u64], request: Request) -> Written
     }
 }
 
-// A line carried out, and its text put at the buffer's start; how many bytes that is. The buffer has 24 bytes for each of the list's
-// words and 48 more, as below. A line of another form is refused with 0.
-// The caller chooses the list's length, and the buffer's goes by it, here and below: array types would fix both.
-// Table, list and buffer are three slices of the caller's, lent one by one.
-fn end_line(table: &mut [u64], list: &mut [u64], out: &mut [u8], line: LineState) -> usize
-    requires { 24 * length list.old + 48 ≤ length out.old }
-    ensures { Left (do_request (request line) (desk_of table.old list.old))
-        table.new list.new out.new result }
+// The same, and the answer put.
+fn carry_out(table: &mut [u64], list: &mut [u64], text: &mut Text<'_>, request: Request)
+    requires { Room (24 * length list.old + 48) text.old }
+    ensures text_after { Puts (spoken (answer_to request (desk_of table.old list.old)) list.new) text.old text.new }
+    ensures table_after { table.new ≡ (do_request (Ok (Some request)) (desk_of table.old list.old)).desk.table }
+    ensures list_after { list.new ≡ (do_request (Ok (Some request)) (desk_of table.old list.old)).desk.list }
 {
-    match script_bytes::judge(line) {
-        Ok(Some(request)) => {
-            let answer = act(table, list, request);
-            script_bytes::put_answer(out, list, answer)
+    let answer = act(table, list, request);
+    text.put_answer(list, answer);
+}
+
+impl<'a> Session<'a> {
+    ghost use Rattle.script.specs.Session.{desk, Left, Told};
+
+    // Before the first byte of the input; it holds the lent slices themselves.
+    pub fn new(table: &'a mut [u64], list: &'a mut [u64], out: &'a mut [u8]) -> Self
+        requires { 24 * length list.old + 48 ≤ length out.old }
+        ensures desk { desk result ≡ desk_of table.old list.old }
+        ensures line { result.line ≡ begin }
+        ensures nothing_put { result.text.at ≡ 0 }
+        ensures table_lent { result.table ≡ table.entry }
+        ensures list_lent { result.list ≡ list.entry }
+        ensures buffer_lent { result.text.out ≡ out.entry }
+    {
+        let text = Text { out, at: 0 };
+        let line = script_bytes::start();
+        Session {
+            table,
+            list,
+            text,
+            line,
         }
-        Ok(None) => script_bytes::put_refused(out, 0, 0),
-        Err(refusal) => script_bytes::put_refused(out, 0, u64::from(refusal)),
     }
-}
 
-// The bytes of a piece up to its first line feed, at which the line is carried out; all of them if it has none.
-pub fn read_line(
-    table: &mut [u64],
-    list: &mut [u64],
-    out: &mut [u8],
-    line: LineState,
-    piece: &[u8],
-) -> Said
-    requires { 24 * length list.old + 48 ≤ length out.old }
-    ensures { Told (silent line (desk_of table.old list.old)) piece.now result
-        table.new list.new out.new }
-{
-    let read = script_bytes::read_line(line, piece);
-    if !read.ended {
-        return Said {
-            line: read.line,
-            used: read.used,
-            printed: 0,
-        };
+    // The line carried out, and its text put. A line of another form is refused with 0.
+    fn end_line(&mut self)
+        ensures { Left (do_request (request self.old.line) (desk self.old)) self.old self.new }
+    {
+        self.text.at = 0;
+        match script_bytes::judge(self.line) {
+            Ok(Some(request)) => carry_out(self.table, self.list, &mut self.text, request),
+            Ok(None) => self.text.put_refused(0),
+            Err(refusal) => self.text.put_refused(u64::from(refusal)),
+        }
     }
-    let printed = end_line(table, list, out, read.line);
-    Said {
-        line: script_bytes::start(),
-        used: read.used,
-        printed,
-    }
-}
 
-// The end of the input: an unfinished line counts unless it is empty.
-pub fn finish(table: &mut [u64], list: &mut [u64], out: &mut [u8], line: LineState) -> usize
-    requires { 24 * length list.old + 48 ≤ length out.old }
-    ensures { Left (finished print_on (silent line (desk_of table.old list.old)))
-        table.new list.new out.new result }
-{
-    if script_bytes::begun(line) {
-        return end_line(table, list, out, line);
+    // The bytes of a piece up to its first line feed, at which the line is carried out; all of them if it has none. How many they are.
+    pub fn read_line(&mut self, piece: &[u8]) -> usize
+        ensures { Told self.old piece.now result self.new }
+    {
+        let read = script_bytes::read_line(self.line, piece);
+        self.line = read.line;
+        let used = read.end.unwrap_or(piece.len());
+        if read.end.is_some() {
+            self.end_line();
+            self.line = script_bytes::start();
+            return used;
+        }
+        self.text.at = 0;
+        used
     }
-    0
+
+    // The end of the input: an unfinished line counts unless it is empty.
+    pub fn finish(&mut self)
+        ensures { Left (finished print_on (silent self.old.line (desk self.old))) self.old self.new }
+    {
+        if script_bytes::begun(self.line) {
+            self.end_line();
+            return;
+        }
+        self.text.at = 0;
+    }
 }

@@ -2,24 +2,31 @@
 use mathlib.Core.Path.{◌≡◌, refl, sym, ap, ◌∙◌}
 use mathlib.Core.Bool.{Bool, true, false, cond, ◌&&◌, ◌||◌}
 use mathlib.Core.List.{List, [], ◌∷◌, ◌++◌, append-nil, append_assoc}
-use Prim.Native.Nat.{ℕ, ◌+◌, ◌*◌, ◌≤◌, ◌<◌}
+use Prim.Native.Nat.{ℕ, suc, ◌+◌, ◌*◌, ◌≤◌, ◌<◌}
 use native.Mathlib.Omega.{arith}
 use lib.Dec.{eqb, leb}
 use lib.ListN.{length, take}
 use borrow.Author.Tests.{eqb-true}
-use Rattle.std.specs.Prelude.{Ok, Err}
+use Rattle.std.specs.Prelude.{Option, Some, None, is_some, Ok, Err}
 use Rattle.model.specs.Results.{Parsed}
 use Rattle.model.specs.Table.{MARK}
 use Rattle.model.specs.Codes.{is_digit, value, parse}
 use Rattle.model.specs.Writes.{insertion, deletion}
 use Rattle.model.specs.Printer.{Bytes, at_first, lines, fields, Form, plus, minus, other, form_of, Desk, Reply, reply, with_key, do_form, do_line, do_lines, first_desk, printer}
-use Rattle.script_bytes.specs.Line.{Asked, begin, next_place, with_digit, entered, step, after, further, line_in, insertion_of, deletion_of, request, request_of, begun}
+use Rattle.script_bytes.specs.Line.{Asked, begin, next_place, with_digit, entered, step, after, further_by, further, line_in, used_of, insertion_of, deletion_of, request, request_of, begun}
 use Rattle.script_bytes.specs.Input.{Reading, reading, read_byte, read_bytes, read_pieces, joined, line_done, finished, carried, do_request, print_on, opening}
 use Rattle.script_bytes.specs.declared.LineState.{LineState}
 use Rattle.script_bytes.specs.declared.LineRead.{LineRead}
 use Rattle.script_bytes.specs.declared.Place.{Place}
 use Rattle.script_bytes.specs.declared.Place.TheVariants.{Start, Sign, CodeStart, Code, RecordingStart, Recording, Other}
 use Rattle.script_bytes.proofs.Reading.{onward, onward-first, line-judged}
+
+some-further : (n : ℕ) (i : Option ℕ) → is_some (further_by n i) ≡ is_some i
+some-further n None = refl
+some-further n (Some i) = refl
+
+one-more : (i : ℕ) → 1 + i ≡ suc i
+one-more i = omega arith
 
 -- ---- a line with a byte has begun
 
@@ -139,16 +146,29 @@ module _ {A : Type 0} (act : Asked → A → A) where
   bytes-append x [] ys = refl
   bytes-append x (b ∷ xs) ys = bytes-append (read_byte act x b) xs ys
 
+  -- one byte more before it
+  done-further : (s : LineState) (a : A) (b : ℕ) (bs : Bytes) (x : LineRead) → eqb b 10 ≡ false
+      → read_bytes act (reading (step s b) a) (take (used_of x.end bs) bs) ≡ line_done act x a
+      → read_bytes act (reading s a) (take (used_of (further x).end (b ∷ bs)) (b ∷ bs)) ≡ line_done act (further x) a
+  unfolding read_bytes line_done
+  done-further s a b bs x e h = go x.end h ∙ ap (λ (t : Bool). cond t (reading begin (act (request x.line) a)) (reading x.line a)) (sym (some-further 1 x.end))
+    where
+      go : (i : Option ℕ) → read_bytes act (reading (step s b) a) (take (used_of i bs) bs) ≡ cond (is_some i) (reading begin (act (request x.line) a)) (reading x.line a)
+          → read_bytes act (reading s a) (take (used_of (further_by 1 i) (b ∷ bs)) (b ∷ bs))
+          ≡ cond (is_some i) (reading begin (act (request x.line) a)) (reading x.line a)
+      go None q = rw (read_bytes, byte-other act s a b e) q
+      go (Some i) q = rw (one-more i, read_bytes, byte-other act s a b e) q
+
   -- The first line of a piece, or all of it where it has no line feed.
-  pub line-done : (s : LineState) (a : A) (bs : Bytes) → read_bytes act (reading s a) (take (line_in s bs).used bs) ≡ line_done act (line_in s bs) a
+  pub line-done : (s : LineState) (a : A) (bs : Bytes) → read_bytes act (reading s a) (take (used_of (line_in s bs).end bs) bs) ≡ line_done act (line_in s bs) a
   unfolding read_bytes line_in line_done
   line-done s a [] = refl
   line-done s a (b ∷ bs) = go (eqb b 10) refl (line-done (step s b) a bs)
     where
-      go : (t : Bool) → eqb b 10 ≡ t → read_bytes act (reading (step s b) a) (take (line_in (step s b) bs).used bs) ≡ line_done act (line_in (step s b) bs) a
-          → read_bytes act (reading s a) (take (line_in s (b ∷ bs)).used (b ∷ bs)) ≡ line_done act (line_in s (b ∷ bs)) a
+      go : (t : Bool) → eqb b 10 ≡ t → read_bytes act (reading (step s b) a) (take (used_of (line_in (step s b) bs).end bs) bs) ≡ line_done act (line_in (step s b) bs) a
+          → read_bytes act (reading s a) (take (used_of (line_in s (b ∷ bs)).end (b ∷ bs)) (b ∷ bs)) ≡ line_done act (line_in s (b ∷ bs)) a
       go true e ih = rw (line_in, e, read_bytes, eqb-true b 10 e, byte-feed)
-      go false e ih = rw (line_in, e, read_bytes, byte-other act s a b e) ih
+      go false e ih = rw (line_in, e) (done-further s a b bs (line_in (step s b) bs) e ih)
 
   pub pieces-read : (x : Reading A) (ps : List Bytes) → read_pieces act x ps ≡ read_bytes act x (joined ps)
   unfolding read_pieces read_bytes joined
@@ -156,16 +176,21 @@ module _ {A : Type 0} (act : Asked → A → A) where
   pieces-read x (p ∷ ps) = pieces-read (read_bytes act x p) ps ∙ sym (bytes-append x p (joined ps))
 
 -- it uses no more than the piece has, and at least one byte of a piece that has any
-pub line-used : (s : LineState) (bs : Bytes) → ((line_in s bs).used ≤ length bs) × (0 < length bs → 0 < (line_in s bs).used)
+abbrev Used : Option ℕ → Bytes → Type 0
+Used i piece = (used_of i piece ≤ length piece) × (0 < length piece → 0 < used_of i piece)
+
+used-further : (b : ℕ) (bs : Bytes) (i : Option ℕ) → Used i bs → Used (further_by 1 i) (b ∷ bs)
+used-further b bs None h = (omega arith, λ p. omega arith)
+used-further b bs (Some i) h = (omega (arith, h.0), λ p. omega arith)
+
+pub line-used : (s : LineState) (bs : Bytes) → Used (line_in s bs).end bs
 unfolding line_in
 line-used s [] = (omega arith, λ h. h)
-line-used s (b ∷ bs) = go (eqb b 10) (line_in (step s b) bs) (line-used (step s b) bs).0
+line-used s (b ∷ bs) = go (eqb b 10) (line_in (step s b) bs) (line-used (step s b) bs)
   where
-    go : (t : Bool) (x : LineRead) → x.used ≤ length bs
-        → ((cond t (record { line = s; used = 1; ended = true }) (further x)).used ≤ length (b ∷ bs))
-        × (0 < length (b ∷ bs) → 0 < (cond t (record { line = s; used = 1; ended = true }) (further x)).used)
+    go : (t : Bool) (x : LineRead) → Used x.end bs → Used (cond t (record { line = s; end = Some 1 }) (further x)).end (b ∷ bs)
     go true x h = (omega arith, λ p. omega arith)
-    go false x h = (omega arith, λ p. omega arith)
+    go false x h = used-further b bs x.end h
 
 -- ---- the printer
 

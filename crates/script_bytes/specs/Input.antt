@@ -1,5 +1,5 @@
 -- The input read byte by byte, in pieces of any size: each line is carried out at its line feed, an unfinished one at the end of the input.
-use Rattle.std.specs.Prelude.{cond, List, [], ◌∷◌, ◌++◌, ℕ, eqb, Some, None, Ok, Err}
+use Rattle.std.specs.Prelude.{cond, List, [], ◌∷◌, ◌++◌, ℕ, eqb, Some, None, is_some, Ok, Err}
 use Rattle.model.specs.Numbers.{refusal_number}
 use Rattle.model.specs.Writes.{insertion, deletion}
 use Rattle.model.specs.Printer.{Bytes, fields, form_of, refused_line, Desk, Reply, reply, do_call, first_desk}
@@ -35,7 +35,7 @@ joined (p ∷ ps) = p ++ joined ps
 
 -- what a line read leaves: carried out if it has ended, and a new one begun
 unfoldable pub line_done : {A : Type 0} → (Asked → A → A) → LineRead → A → Reading A
-line_done act x a = cond x.ended (reading begin (act (request x.line) a)) (reading x.line a)
+line_done act x a = cond (is_some x.end) (reading begin (act (request x.line) a)) (reading x.line a)
 
 -- at the end of the input a line without a line feed counts unless it is empty
 unfoldable pub finished : {A : Type 0} → (Asked → A → A) → Reading A → A

@@ -1,6 +1,6 @@
 -- A line read byte by byte: the state after its bytes, and what that state asks.
-use Rattle.std.specs.Prelude.{Bool, true, false, cond, ◌&&◌, ◌||◌, [], ◌∷◌, ℕ, suc, ◌+◌, ◌*◌, eqb, ltb, leb}
-use Rattle.std.specs.Prelude.{set, replicate, Option, Some, None, Result, Ok, Err}
+use Rattle.std.specs.Prelude.{Bool, true, false, cond, ◌&&◌, ◌||◌, [], ◌∷◌, ℕ, ◌+◌, ◌*◌, eqb, ltb, leb, length}
+use Rattle.std.specs.Prelude.{set, replicate, Option, Some, None, unwrap_or, Result, Ok, Err}
 use Rattle.model.specs.declared.Refusal.{Refusal}
 use Rattle.model.specs.Results.{Parsed, refused_with}
 use Rattle.model.specs.Codes.{is_digit, value, parse}
@@ -47,6 +47,10 @@ longer t b =
 abbrev pub with_character : LineState → ℕ → LineState
 with_character s b = record { place = Code; plus = s.plus; code = longer s.code b; recording = s.recording }
 
+-- the number with byte b more: a digit, which leaves it within a word
+unfoldable pub next_number : ℕ → ℕ → Option ℕ
+next_number n b = cond (is_digit b && leb (n * 10 + value b) MARK) (Some (n * 10 + value b)) None
+
 -- b is one byte more of the recording: a digit, which leaves it within a word
 unfoldable pub with_digit : LineState → ℕ → LineState
 with_digit s b =
@@ -74,14 +78,22 @@ after s (b ∷ bs) = after (step s b) bs
 
 -- ---- the line that a piece of the input goes on with
 
--- the same read with one byte more before it
+-- a place further by n, and the same read with one byte more before it
+abbrev pub further_by : ℕ → Option ℕ → Option ℕ
+further_by n None = None
+further_by n (Some i) = Some (n + i)
+
 abbrev pub further : LineRead → LineRead
-further x = record { line = x.line; used = suc x.used; ended = x.ended }
+further x = record { line = x.line; end = further_by 1 x.end }
 
 -- up to the piece's first line feed, which is used too; all of it if it has none
 unfoldable pub line_in : LineState → Bytes → LineRead
-line_in s [] = record { line = s; used = 0; ended = false }
-line_in s (b ∷ bs) = cond (eqb b 10) (record { line = s; used = 1; ended = true }) (further (line_in (step s b) bs))
+line_in s [] = record { line = s; end = None }
+line_in s (b ∷ bs) = cond (eqb b 10) (record { line = s; end = Some 1 }) (further (line_in (step s b) bs))
+
+-- how many bytes of the piece are used
+abbrev pub used_of : Option ℕ → Bytes → ℕ
+used_of end piece = unwrap_or end (length piece)
 
 -- ---- what a line asks
 

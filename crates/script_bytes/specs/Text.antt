@@ -6,6 +6,7 @@ use Rattle.model.specs.Text.{ascii}
 use Rattle.model.specs.Table.{Words}
 use Rattle.model.specs.Orders.{Order, decode}
 use Rattle.model.specs.Printer.{Bytes, printed, order_text, refused_line}
+use Rattle.script_bytes.specs.declared.Text.{Text}
 
 -- ---- an answer's text, from the answer and the list after it
 
@@ -32,7 +33,17 @@ pub record Put (out : Bytes) (i : ℕ) (bs : Bytes) (out' : Bytes) (r : ℕ) : T
   pub buffer : out' ≡ put_at out i bs
   pub next : r ≡ i + length bs
 
--- the buffer's first n bytes are these
-pub record Begins (out : Bytes) (n : ℕ) (bs : Bytes) : Type 0 where
-  pub first : take n out ≡ bs
-  pub within : n ≤ length out
+-- ---- a text under way
+
+-- the bytes that are put
+abbrev pub bytes_of : Text → Bytes
+bytes_of x = take x.at x.out.now
+
+-- there is room for n bytes more
+abbrev pub Room : ℕ → Text → Type 0
+Room n x = x.at + n ≤ length x.out.now
+
+-- these bytes are put after those of text x, which leaves y, over the same buffer
+pub record Puts (bs : Bytes) (x y : Text) : Type 0 where
+  pub put : Put x.out.now x.at bs y.out.now y.at
+  pub same_buffer : y.out.ghost_name ≡ x.out.ghost_name

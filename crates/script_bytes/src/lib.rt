@@ -1,16 +1,14 @@
 // The order printer's bytes: a line read byte by byte, what it asks, and the text of an answer. No table is needed here.
 #![tactic(auto)]
 
-ghost use Rattle.std.specs.Prelude.{◌≡◌, cond, [], ◌∷◌, ◌+◌, ◌*◌, ◌/◌, ◌≤◌, ◌<◌, min, eqb, length, take};
+ghost use Rattle.std.specs.Prelude.{◌≡◌, [], ◌∷◌, ◌+◌, ◌*◌, ◌/◌, ◌≤◌, min, length, take};
 ghost use Rattle.model.specs.Text.{ascii};
-ghost use Rattle.model.specs.Codes.{is_digit};
 ghost use Rattle.model.specs.Orders.{order_of, decode};
-ghost use Rattle.model.specs.Printer.{decimal, numbers_text, printed, order_text, refused_line};
-ghost use Rattle.script_bytes.specs.Line.{begin, next_place, moved, with_sign, longer, with_character, with_digit, step};
+ghost use Rattle.model.specs.Printer.{decimal, printed, order_text, refused_line};
+ghost use Rattle.script_bytes.specs.Line.{begin, next_place, moved, with_sign, longer, with_character, next_number, with_digit, step};
 ghost use Rattle.script_bytes.specs.Line.{line_in, code_of, request, begun};
-ghost use Rattle.script_bytes.specs.Text.{Put, Begins, order_lines, spoken};
 
-use model::{Counts, MARK, Parsed, Refusal, Written};
+use model::{BAR, Counts, ListedOrder, Parsed, Refusal, Written};
 
 // Where in a line's form its bytes so far end.
 #[derive(Clone, Copy)]
@@ -40,12 +38,11 @@ pub struct LineState {
     pub recording: u64,
 }
 
-// A piece of the input read up to its first line feed: the line so far, how many bytes were used, and whether the line has ended.
+// A piece of the input read up to its first line feed: the line so far, and the place after the line feed, if there is one.
 #[derive(Clone, Copy)]
 pub struct LineRead {
     pub line: LineState,
-    pub used: usize,
-    pub ended: bool,
+    pub end: Option<usize>,
 }
 
 // What a line of document 01's two forms asks for.
@@ -75,40 +72,20 @@ pub fn start() -> LineState
     }
 }
 
-fn is_digit(b: u8) -> bool
-    ensures { result ≡ is_digit b }
-{
-    b.is_ascii_digit()
-}
-
-// One place or the other, by whether b is c.
-fn if_is(b: u8, c: u8, there: Place, otherwise: Place) -> Place
-    ensures { result ≡ cond (eqb b c) there otherwise }
-{
-    if b == c { there } else { otherwise }
-}
-
-// Where in the form byte b stands.
+// Where in the form byte b stands. Whether the sign is a plus is data, which the line's state has too.
+#[tactic(auto, unfolding(crate::specs::Line::next_place))]
 fn next_place(place: Place, plus: bool, b: u8) -> Place
     ensures { result ≡ next_place place plus b }
 {
-    match place {
-        Place::Start => {
-            if b == b'+' {
-                return Place::Sign;
-            }
-            if_is(b, b'-', Place::Sign, Place::Other)
-        }
-        Place::Sign => if_is(b, b' ', Place::CodeStart, Place::Other),
-        Place::CodeStart => if_is(b, b' ', Place::Other, Place::Code),
-        Place::Code => {
-            if plus {
-                return if_is(b, b' ', Place::RecordingStart, Place::Code);
-            }
-            if_is(b, b' ', Place::Other, Place::Code)
-        }
-        Place::RecordingStart | Place::Recording => Place::Recording,
-        Place::Other => Place::Other,
+    match (place, b) {
+        (Place::Start, b'+' | b'-') => Place::Sign,
+        (Place::Sign, b' ') => Place::CodeStart,
+        (Place::CodeStart, b' ') => Place::Other,
+        (Place::Code, b' ') if plus => Place::RecordingStart,
+        (Place::Code, b' ') => Place::Other,
+        (Place::CodeStart | Place::Code, _) => Place::Code,
+        (Place::RecordingStart | Place::Recording, _) => Place::Recording,
+        _ => Place::Other,
     }
 }
 
@@ -156,21 +133,27 @@ fn with_character(s: LineState, b: u8) -> LineState
     }
 }
 
-// The line with one byte more of its recording, which is to be a digit and leave it within a word.
+// The number with one byte more, which is to be a digit and leave it within a word.
+fn next_number(n: u64, b: u8) -> Option<u64>
+    ensures { result ≡ next_number n b }
+{
+    if !b.is_ascii_digit() {
+        return None;
+    }
+    n.checked_mul(10)?.checked_add((b - b'0') as u64)
+}
+
+// The line with one byte more of its recording.
 fn with_digit(s: LineState, b: u8) -> LineState
     ensures { result ≡ with_digit s b }
 {
-    if !is_digit(b) {
-        return moved(s, Place::Other);
-    }
-    let d = (b - b'0') as u64;
-    if (MARK - d) / 10 < s.recording {
-        return moved(s, Place::Other);
-    }
-    LineState {
-        place: Place::Recording,
-        recording: s.recording * 10 + d,
-        ..s
+    match next_number(s.recording, b) {
+        Some(recording) => LineState {
+            place: Place::Recording,
+            recording,
+            ..s
+        },
+        None => moved(s, Place::Other),
     }
 }
 
@@ -196,17 +179,12 @@ pub fn read_line(line: LineState, piece: &[u8]) -> LineRead
         if b == b'\n' {
             return LineRead {
                 line: s,
-                used: i + 1,
-                ended: true,
+                end: Some(i + 1),
             };
         }
         s = take(s, b);
     }
-    LineRead {
-        line: s,
-        used: piece.len(),
-        ended: false,
-    }
+    LineRead { line: s, end: None }
 }
 
 // ---- what a line asks
@@ -246,22 +224,12 @@ pub fn begun(s: LineState) -> bool
 
 // ---- printing
 
-// One byte. Buffer and place go apart, here and below: each function answers the next place.
-pub fn put_byte(out: &mut [u8], at: usize, b: u8) -> usize
-    requires { at < length out.old }
-    ensures { Put out.old at (b ∷ []) out.new result }
-{
-    out[at] = b;
-    at + 1
-}
-
-fn put_text(out: &mut [u8], at: usize, text: &[u8]) -> usize
-    requires { at + length text.now ≤ length out.old }
-    ensures { Put out.old at text.now out.new result }
-{
-    let end = at + text.len();
-    out[at..end].copy_from_slice(text);
-    end
+// A text under way: the lent buffer, and how many of its bytes are put. What each function below puts comes after them.
+#[derive(Drop)]
+pub struct Text<'a> {
+    pub out: &'a mut [u8],
+    pub at: usize,
+    ghost within: { at ≤ length out.now },
 }
 
 // How many digits n has.
@@ -269,81 +237,6 @@ fn width(n: u64) -> usize
     ensures { result ≡ length (decimal n) }
 {
     n.max(1).ilog10() as usize + 1
-}
-
-// n in decimal.
-pub fn put_number(out: &mut [u8], at: usize, n: u64) -> usize
-    requires { at + 20 ≤ length out.old }
-    ensures { Put out.old at (decimal n) out.new result }
-{
-    let end = at + width(n);
-    isrc::write_digits(&mut out[at..end], 10, n);
-    end
-}
-
-// A space and a number.
-fn put_field(out: &mut [u8], at: usize, n: u64) -> usize
-    requires { at + 21 ≤ length out.old }
-    ensures { Put out.old at (32 ∷ decimal n) out.new result }
-{
-    let next = put_byte(out, at, b' ');
-    put_number(out, next, n)
-}
-
-// The last number of a line, and the line feed.
-fn put_last(out: &mut [u8], at: usize, n: u64) -> usize
-    requires { at + 22 ≤ length out.old }
-    ensures { Put out.old at (numbers_text (n ∷ [])) out.new result }
-{
-    let next = put_field(out, at, n);
-    put_byte(out, next, b'\n')
-}
-
-// A line of a word of text and a number.
-fn put_one(out: &mut [u8], at: usize, text: &[u8], n: u64) -> usize
-    requires { at + (length text.now + 22) ≤ length out.old }
-    ensures { Put out.old at (printed text.now (n ∷ [])) out.new result }
-{
-    let next = put_text(out, at, text);
-    put_last(out, next, n)
-}
-
-// A line of a word of text and two numbers.
-fn put_two(out: &mut [u8], at: usize, text: &[u8], m: u64, n: u64) -> usize
-    requires { at + (length text.now + 43) ≤ length out.old }
-    ensures { Put out.old at (printed text.now (m ∷ n ∷ [])) out.new result }
-{
-    let next = put_text(out, at, text);
-    let last = put_field(out, next, m);
-    put_last(out, last, n)
-}
-
-// The line of an order's two words in the list. 48 bytes are room for any line that is printed.
-// The room is a fact and no type, here and below: a line goes to any place of a longer buffer.
-pub fn put_order(out: &mut [u8], at: usize, first: u64, second: u64) -> usize
-    requires { at + 48 ≤ length out.old }
-    ensures { Put out.old at (order_text (order_of first second)) out.new result }
-{
-    if first == MARK {
-        return put_one(out, at, b"flush", second);
-    }
-    put_two(out, at, b"store", first, second)
-}
-
-// The line after the orders, with their two counts.
-pub fn put_done(out: &mut [u8], at: usize, stores: u64, flushes: u64) -> usize
-    requires { at + 48 ≤ length out.old }
-    ensures { Put out.old at (printed (ascii "done") (stores ∷ flushes ∷ [])) out.new result }
-{
-    put_two(out, at, b"done", stores, flushes)
-}
-
-// The line of a refusal.
-pub fn put_refused(out: &mut [u8], at: usize, number: u64) -> usize
-    requires { at + 48 ≤ length out.old }
-    ensures { Put out.old at (refused_line number) out.new result }
-{
-    put_one(out, at, b"refused", number)
 }
 
 // How many orders are printed: as many as the answer counts, and no more than the list has.
@@ -354,31 +247,121 @@ fn spoken_count(words: usize, counts: Counts) -> usize
     orders.min(words as u64 / 2) as usize
 }
 
-// The lines of the first orders of a list, from the buffer's start on.
-fn put_orders(out: &mut [u8], list: &[u64], count: usize) -> usize
-    requires count_in_bounds { 2 * count ≤ length list.now }
-    requires count_in_bounds_2 { 48 * count ≤ length out.old }
-    ensures { Put out.old 0 (order_lines (take count (decode list.now))) out.new result }
-{
-    let mut at = 0;
-    for i in 0..count {
-        at = put_order(out, at, list[2 * i], list[2 * i + 1]);
-    }
-    at
-}
+impl Text<'_> {
+    ghost use Rattle.script_bytes.specs.Text.{bytes_of, Room, Puts, order_lines, spoken};
 
-// All that a request is answered with, from its answer and the list after it, at the buffer's start; how many bytes they are.
-// A list's word has 24 bytes, half an order's 48, and the last line has 48.
-pub fn put_answer(out: &mut [u8], list: &[u64], answer: Written) -> usize
-    requires { 24 * length list.now + 48 ≤ length out.old }
-    ensures { Begins out.new result (spoken answer list.now) }
-{
-    match answer {
-        Ok(counts) => {
-            let count = spoken_count(list.len(), counts);
-            let next = put_orders(out, list, count);
-            put_done(out, next, counts.stores, counts.flushes)
+    // The bytes that are put.
+    pub fn bytes(&self) -> &[u8]
+        ensures { result.now ≡ bytes_of self.now }
+    {
+        &self.out[..self.at]
+    }
+
+    // One byte. That there is room is a clause, here and below: each byte takes some of it.
+    pub fn put_byte(&mut self, b: u8)
+        requires { Room 1 self.old }
+        ensures { Puts (b ∷ []) self.old self.new }
+    {
+        let at = self.at;
+        self.out[at] = b;
+        self.at = at + 1;
+    }
+
+    fn put_word(&mut self, word: &[u8])
+        requires { Room (length word.now) self.old }
+        ensures { Puts word.now self.old self.new }
+    {
+        let at = self.at;
+        let end = at + word.len();
+        self.out[at..end].copy_from_slice(word);
+        self.at = end;
+    }
+
+    // n in decimal.
+    pub fn put_number(&mut self, n: u64)
+        requires { Room 20 self.old }
+        ensures { Puts (decimal n) self.old self.new }
+    {
+        let at = self.at;
+        let end = at + width(n);
+        isrc::write_digits(&mut self.out[at..end], 10, n);
+        self.at = end;
+    }
+
+    // A space and a number.
+    fn put_field(&mut self, n: u64)
+        requires { Room 21 self.old }
+        ensures { Puts (32 ∷ decimal n) self.old self.new }
+    {
+        self.put_byte(b' ');
+        self.put_number(n);
+    }
+
+    // A line of a word of text and some numbers.
+    fn put_line(&mut self, word: &[u8], numbers: &[u64])
+        requires { Room (length word.now + 21 * length numbers.now + 1) self.old }
+        ensures { Puts (printed word.now numbers.now) self.old self.new }
+    {
+        self.put_word(word);
+        for &n in numbers {
+            self.put_field(n);
         }
-        Err(refusal) => put_refused(out, 0, u64::from(refusal)),
+        self.put_byte(b'\n');
+    }
+
+    // The line of an order's two words in the list. 48 bytes are room for any line that is printed.
+    pub fn put_order(&mut self, first: u64, second: u64)
+        requires { Room 48 self.old }
+        ensures { Puts (order_text (order_of first second)) self.old self.new }
+    {
+        match ListedOrder::from((first, second)) {
+            ListedOrder::Flush { line } => self.put_line(b"flush", &[line]),
+            ListedOrder::Store { word, value } => self.put_line(b"store", &[word, value]),
+            // As a store of its two words.
+            ListedOrder::Barrier => self.put_line(b"store", &[BAR, 0]),
+        }
+    }
+
+    // The line after the orders, with their two counts.
+    pub fn put_done(&mut self, stores: u64, flushes: u64)
+        requires { Room 48 self.old }
+        ensures { Puts (printed (ascii "done") (stores ∷ flushes ∷ [])) self.old self.new }
+    {
+        self.put_line(b"done", &[stores, flushes]);
+    }
+
+    // The line of a refusal.
+    pub fn put_refused(&mut self, number: u64)
+        requires { Room 48 self.old }
+        ensures { Puts (refused_line number) self.old self.new }
+    {
+        self.put_line(b"refused", &[number]);
+    }
+
+    // The lines of the first orders of a list.
+    fn put_orders(&mut self, list: &[u64], count: usize)
+        requires count_in_bounds { 2 * count ≤ length list.now }
+        requires count_in_bounds_2 { Room (48 * count) self.old }
+        ensures { Puts (order_lines (take count (decode list.now))) self.old self.new }
+    {
+        for i in 0..count {
+            self.put_order(list[2 * i], list[2 * i + 1]);
+        }
+    }
+
+    // All that a request is answered with, from its answer and the list after it.
+    // A list's word has 24 bytes, half an order's 48, and the last line has 48.
+    pub fn put_answer(&mut self, list: &[u64], answer: Written)
+        requires { Room (24 * length list.now + 48) self.old }
+        ensures { Puts (spoken answer list.now) self.old self.new }
+    {
+        match answer {
+            Ok(counts) => {
+                let count = spoken_count(list.len(), counts);
+                self.put_orders(list, count);
+                self.put_done(counts.stores, counts.flushes);
+            }
+            Err(refusal) => self.put_refused(u64::from(refusal)),
+        }
     }
 }

@@ -2,7 +2,7 @@
 // and the lines that the printer prints.
 #![tactic(auto)]
 
-use script_bytes::{Asked, LineRead, LineState, Request};
+use script_bytes::{Asked, LineRead, LineState, Request, Text};
 use std::io;
 use std::io::Read;
 
@@ -23,7 +23,7 @@ fn show(rt: &impl Print, asked: Asked) -> io::Result<()> {
 // A line that has ended is shown, and a new one starts.
 fn shown(rt: &impl Print, read: LineRead) -> io::Result<LineState> {
     let line = read.line;
-    if read.ended {
+    if read.end.is_some() {
         show(rt, script_bytes::judge(line))?;
         return Ok(script_bytes::start());
     }
@@ -85,52 +85,60 @@ fn inputs(rt: &impl Print) -> io::Result<()> {
 
 // ---- printing
 
-// What a printing function puts into a buffer from a place on, up to the place that it answers.
-fn show_put<F: FnOnce(&mut [u8; 60]) -> usize>(
-    rt: &impl Print,
-    from: usize,
-    put: F,
-) -> io::Result<()>
-    requires { F.IsAlwaysCallable put }
-{
+// A line that the printer prints after a line of its input.
+enum Printed {
+    Order(u64, u64),
+    Done(u64, u64),
+    Refused(u64),
+}
+
+// What is put for a line, past the first seven bytes of its buffer.
+fn show_line(rt: &impl Print, line: Printed) -> io::Result<()> {
     // Room for one line: memory is fixed, there is no heap.
     let mut out = [0u8; 60];
-    let to = put(&mut out);
-    match out.get(from..to) {
+    let mut text = Text {
+        out: &mut out,
+        at: 7,
+    };
+    match line {
+        Printed::Order(first, second) => text.put_order(first, second),
+        Printed::Done(stores, flushes) => text.put_done(stores, flushes),
+        Printed::Refused(number) => text.put_refused(number),
+    }
+    match text.bytes().get(7..) {
         Some(part) => rt.write_all(part),
         None => Ok(()),
     }
 }
 
-// Past the start of the buffer, where the next two are at its start. What is put, and from where, is all that each of the three says.
-fn show_order(rt: &impl Print, first: u64, second: u64) -> io::Result<()> {
-    show_put(rt, 7, |out| script_bytes::put_order(out, 7, first, second))
-}
-
-fn show_done(rt: &impl Print, stores: u64, flushes: u64) -> io::Result<()> {
-    show_put(rt, 0, |out| script_bytes::put_done(out, 0, stores, flushes))
-}
-
-fn show_refused(rt: &impl Print, number: u64) -> io::Result<()> {
-    show_put(rt, 0, |out| script_bytes::put_refused(out, 0, number))
-}
-
 fn lines(rt: &impl Print) -> io::Result<()> {
-    show_order(rt, 16, 172627201912345)?;
-    show_order(rt, 17, 18446744073709551615)?;
-    show_order(rt, 0, 0)?;
-    show_order(rt, 9, 10)?;
-    show_order(rt, 99, 100)?;
-    show_order(rt, 18446744073709551614, 10000000000000000000)?;
-    show_order(rt, 18446744073709551614, 9999999999999999999)?;
-    show_order(rt, 18446744073709551615, 2)?;
-    show_order(rt, 18446744073709551615, 18446744073709551615)?;
-    show_done(rt, 4, 1)?;
-    show_done(rt, 0, 0)?;
-    show_done(rt, 18446744073709551615, 18446744073709551615)?;
-    show_refused(rt, 0)?;
-    show_refused(rt, 13)?;
-    show_refused(rt, 255)
+    show_line(rt, Printed::Order(16, 172627201912345))?;
+    show_line(rt, Printed::Order(17, 18446744073709551615))?;
+    show_line(rt, Printed::Order(0, 0))?;
+    show_line(rt, Printed::Order(9, 10))?;
+    show_line(rt, Printed::Order(99, 100))?;
+    show_line(
+        rt,
+        Printed::Order(18446744073709551614, 10000000000000000000),
+    )?;
+    show_line(
+        rt,
+        Printed::Order(18446744073709551614, 9999999999999999999),
+    )?;
+    show_line(rt, Printed::Order(18446744073709551615, 2))?;
+    show_line(
+        rt,
+        Printed::Order(18446744073709551615, 18446744073709551615),
+    )?;
+    show_line(rt, Printed::Done(4, 1))?;
+    show_line(rt, Printed::Done(0, 0))?;
+    show_line(
+        rt,
+        Printed::Done(18446744073709551615, 18446744073709551615),
+    )?;
+    show_line(rt, Printed::Refused(0))?;
+    show_line(rt, Printed::Refused(13))?;
+    show_line(rt, Printed::Refused(255))
 }
 
 fn main(rt: HostRuntime) -> io::Result<()> {

@@ -1,20 +1,21 @@
 -- The next key up, a leaf a turn: x is leaf n as it was read, y its sibling.
 use mathlib.Core.Path.{◌≡◌, refl, ap, sym, ◌∙◌}
-use mathlib.Core.Bool.{Bool, true, false, cond}
+use mathlib.Core.Bool.{Bool, true, false, cond, false≢true}
 use Prim.Native.Nat.{ℕ, zero, suc, ◌-◌, ◌<◌, ◌≤◌}
 use native.Mathlib.Omega.{arith}
 use lib.Dec.{eqb}
 use borrow.Author.Tests.{eq-eqb, ne_eqb}
-use Rattle.std.specs.Prelude.{Some, None}
+use Rattle.std.specs.Prelude.{Option, Some, None, is_some}
 use Rattle.model.specs.declared.Answer.{Answer}
 use Rattle.model.specs.declared.Answer.TheVariants.{Absent, Refused}
 use Rattle.model.specs.declared.Node.{Node}
-use Rattle.model.specs.Table.{Words, header_ok, has_node, node}
+use Rattle.model.specs.Table.{Words, node}
 use Rattle.model.specs.Slots.{View, view, used}
 use Rattle.model.specs.Search.{below, on_level, passes, kept, first_above, absent_or, next_from, Next}
 use Rattle.slots.specs.Scan.{shown_from, keeps, kept_of}
 use Rattle.slots.proofs.Kept.{all-kept}
-use Rattle.search.proofs.Standing.{level-out, level-in}
+use Rattle.search.specs.Descent.{read_if}
+use Rattle.search.proofs.Standing.{not-read, was-read}
 
 -- ---- one leaf
 
@@ -93,32 +94,36 @@ module _ (t : Words) (k : ℕ) (x : Node) (c : ℕ) (r : Answer) (u : Turn t k x
     pub turn-last : x.sibling ≡ 0 → (y : Next) → y ≡ first_above k (kept_of 0 0 (shown_from x.left x.slots 0)) → Absent y ≡ r
     turn-last z y e = ap Absent (e ∙ ap (first_above k) (kept-last t u.at x u.read z)) ∙ next-last (view t) c u.at k some u.on (sym sib ∙ z) ∙ u.rest
 
-    module _ (h : header_ok t ≡ true) (z : x.sibling ≡ 0 → ⊥) (b : Bool) (i : b ≡ has_node t x.sibling) where
+    module _ (z : x.sibling ≡ 0 → ⊥) (o : Option Node) (i : o ≡ read_if (on_level (view t) 0 x.sibling) (node t x.sibling)) where
       w : (node t u.at).sibling ≡ 0 → ⊥
       w q = z (sib ∙ q)
 
-      pub turn-out : b ≡ false → Refused 3 ≡ r
-      turn-out e = next-lost (view t) c u.at k some u.on w (rw sib at (level-out t 0 x.sibling h (sym i ∙ e))) ∙ u.rest
+      pub turn-lost : o ≡ None → Refused 3 ≡ r
+      turn-lost e = next-lost (view t) c u.at k some u.on w (rw sib at (not-read _ (node t x.sibling) (sym i ∙ e))) ∙ u.rest
 
-      module _ (f : b ≡ true) (y : Node) (q : y ≡ node t x.sibling) where
-        level : eqb y.level 0 ≡ on_level (view t) 0 x.sibling
-        level = level-in t 0 x.sibling y h (sym i ∙ f) q
+      module _ (y : Node) (e : o ≡ Some y) (a : Next) (f : a ≡ first_above k (kept_of x.sibling y.fence (shown_from x.left x.slots 0))) where
+        on-sib : on_level (view t) 0 x.sibling ≡ true
+        on-sib = (was-read _ (node t x.sibling) y (sym i ∙ e)).0
 
-        pub turn-high : (y.level ≡ 0 → ⊥) → Refused 3 ≡ r
-        turn-high e = next-lost (view t) c u.at k some u.on w (rw sib at (sym level ∙ ne_eqb y.level 0 e)) ∙ u.rest
+        is-sib : y ≡ node t x.sibling
+        is-sib = (was-read (on_level (view t) 0 x.sibling) (node t x.sibling) y (sym i ∙ e)).1
 
-        module _ (g : y.level ≡ 0) (a : Next) (e : a ≡ first_above k (kept_of x.sibling y.fence (shown_from x.left x.slots 0))) where
-          on-sib : on_level (view t) 0 x.sibling ≡ true
-          on-sib = sym level ∙ eq-eqb y.level 0 g
+        later : absent_or a (next_from (view t) (c - 1) x.sibling k) ≡ r
+        later =
+            ap (λ (o : Next). absent_or o (next_from (view t) (c - 1) x.sibling k)) (f ∙ ap (first_above k) (kept-read t u.at x y u.read is-sib))
+            ∙ ap (λ (m : ℕ). absent_or (first_above k (kept (view t) u.at)) (next_from (view t) (c - 1) m k)) sib
+            ∙ next-later (view t) c u.at k some u.on w (rw sib at on-sib) ∙ u.rest
 
-          later : absent_or a (next_from (view t) (c - 1) x.sibling k) ≡ r
-          later =
-              ap (λ (o : Next). absent_or o (next_from (view t) (c - 1) x.sibling k)) (e ∙ ap (first_above k) (kept-read t u.at x y u.read q))
-              ∙ ap (λ (m : ℕ). absent_or (first_above k (kept (view t) u.at)) (next_from (view t) (c - 1) m k)) sib
-              ∙ next-later (view t) c u.at k some u.on w (rw sib at on-sib) ∙ u.rest
+        pub turn-found : is_some a ≡ true → Absent a ≡ r
+        turn-found p = go a later p
+          where
+            go : (b : Next) → absent_or b (next_from (view t) (c - 1) x.sibling k) ≡ r → is_some b ≡ true → Absent b ≡ r
+            go None q p = absurd (false≢true p)
+            go (Some j) q p = q
 
-          pub turn-found : (j : ℕ) → a ≡ Some j → Absent (Some j) ≡ r
-          turn-found j p = ap (λ (o : Next). absent_or o (next_from (view t) (c - 1) x.sibling k)) (sym p) ∙ later
-
-          pub turn-on : a ≡ None → Turn t k y (c - 1) r
-          turn-on p = record { at = x.sibling; read = q; on = on-sib; rest = ap (λ (o : Next). absent_or o (next_from (view t) (c - 1) x.sibling k)) (sym p) ∙ later }
+        pub turn-on : is_some a ≡ false → Turn t k y (c - 1) r
+        turn-on p = record { at = x.sibling; read = is-sib; on = on-sib; rest = go a later p }
+          where
+            go : (b : Next) → absent_or b (next_from (view t) (c - 1) x.sibling k) ≡ r → is_some b ≡ false → next_from (view t) (c - 1) x.sibling k ≡ r
+            go None q p = q
+            go (Some j) q p = absurd (false≢true (sym p))

@@ -17,13 +17,12 @@ use Rattle.model.specs.Sentinels.{first_key, shown_on}
 use Rattle.model.specs.Shifts.{last_pointer}
 use Rattle.list_laws.proofs.Tools.{first-here, first-past}
 use Rattle.table_laws.proofs.Words.{at-part}
-use Rattle.table_laws.proofs.Nodes.{has-node-iff, node-in}
-use Rattle.node.specs.Word.{start_of}
-use Rattle.node.proofs.Answers.{start-some}
+use Rattle.table_laws.proofs.Nodes.{node-in}
+use Rattle.node.specs.Word.{words_at}
 use Rattle.slots.specs.Scan.{used_from}
 use Rattle.slots.specs.Held.{held_by}
 use Rattle.slots.proofs.Scans.{scan-stop, scan-more, shown-hide, shown-show}
-use Rattle.sentinels.specs.Lines.{words_at, left_in, words_in, slots_in, begun_in, line_of, first_taken}
+use Rattle.sentinels.specs.Lines.{left_in, words_in, slots_in, begun_in, line_of, first_taken}
 
 -- ---- the words of a node of a table
 
@@ -34,22 +33,6 @@ part-part (suc a) m (suc n) [] h = refl
 part-part (suc a) m (suc n) (x ∷ l) h = part-part a m n l (omega arith)
 
 module _ (t : Words) (n : ℕ) (h : has_node t n ≡ true) where
-  -- where the code begins to read them
-  module _ (w : ℕ) (e : w ≡ start_of t n) where
-    begins : w ≡ node_start n
-    begins = e ∙ start-some t n h
-
-    pub node-fits : w + 32 ≤ length t
-    unfolding node_start
-    node-fits = omega (arith, begins, (has-node-iff t n).0 h)
-
-    -- of what is left of the table from there
-    pub node-room : 32 ≤ length (take (length t - w) (drop w t))
-    node-room = simp (length-take, length-drop) (omega (arith, node-fits))
-
-    pub node-taken : {vs : Words} → vs ≡ take 32 (take (length t - w) (drop w t)) → vs ≡ words_at t n
-    node-taken q = q ∙ take-take 32 (length t - w) (drop w t) (omega (arith, node-fits)) ∙ ap (λ (i : ℕ). take 32 (drop i t)) begins
-
   pub line-is : (j : ℕ) (vs : Words) → vs ≡ words_at t n → line_of vs (4 * j) ≡ shown_on t n j
   unfolding line_of shown_on used node_from
   line-is j vs e =

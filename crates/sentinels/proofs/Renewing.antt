@@ -21,7 +21,8 @@ use Rattle.sentinel_laws.proofs.Leaves.{leaves-level}
 use Rattle.node.specs.Word.{word_of}
 use Rattle.node.proofs.WordLaws.{word-level}
 use Rattle.sentinels.proofs.Reading.{line-is}
-use Rattle.sentinels.specs.Lines.{words_at, line_of}
+use Rattle.node.specs.Word.{words_at}
+use Rattle.sentinels.specs.Lines.{line_of}
 
 -- ---- whether a node is a leaf
 

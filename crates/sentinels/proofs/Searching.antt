@@ -4,46 +4,43 @@ use mathlib.Core.Bool.{Bool, true, false, cond}
 use mathlib.Core.Logic.{◌≢◌}
 use mathlib.Core.List.{List}
 use mathlib.Core.Option.{Option, none, some}
-use Prim.Native.Nat.{ℕ, zero, suc, ◌*◌, ◌≤◌, ◌<◌}
+use Prim.Native.Nat.{ℕ, zero, suc, ◌-◌, ◌*◌, ◌≤◌, ◌<◌}
 use native.Mathlib.Omega.{arith}
 use lib.Dec.{leb}
 use lib.ListN.{length}
-use borrow.Author.Tests.{le-leb, lt-leb, leb-true, leb-false}
+use borrow.Author.Tests.{le-leb, lt-leb}
 use Rattle.std.specs.Prelude as rust
 use Rattle.std.specs.Bool.{then_some}
-use Rattle.std.specs.Prelude.{unwrap_or, Some, None, Ok, Err}
+use Rattle.std.specs.Prelude.{Some, None, Ok, Err}
 use Rattle.model.specs.declared.Refusal.{Refusal}
 use Rattle.model.specs.Numbers.{refusal_number}
-use Rattle.model.proofs.Numbers.{Numbered, slice-numbered, handed-number, failed-some, passed-zero}
+use Rattle.model.proofs.Numbers.{Numbered, slice-numbered, handed-number, failed-some, failed-with, passed-zero}
 use Rattle.model.specs.Results.{passed}
 use Rattle.model.specs.declared.Answer.{Answer}
-use Rattle.model.specs.declared.Answer.TheVariants.{Found, Refused}
+use Rattle.model.specs.declared.Answer.TheVariants.{Refused}
 use Rattle.model.specs.declared.Node.{Node}
 use Rattle.model.specs.Table.{Words, at, nodes, root, root_word, no_collection, node, has_node, header_ok}
-use Rattle.model.specs.Slots.{Slot, recording_of, class_of, View, view, view_of, height, node_view}
-use Rattle.model.specs.Search.{on_level, passes, first_with, next_from, answer_of, answer_in, search_view, search}
+use Rattle.model.specs.Slots.{Slot, View, view, view_of, height, node_view}
+use Rattle.model.specs.Search.{on_level, passes, locate, first_with, next_from, answer_of, answer_in, search_view, search}
 use Rattle.model.specs.Sentinels.{slice_number, line_for, on_line, led_to, leaf_sought, search_with, words_of, shown_on}
 use Rattle.list_laws.proofs.Tools.{and-iff}
 use Rattle.table_laws.proofs.Nodes.{has-node-range}
 use Rattle.tree_laws.proofs.Rows.{range-iff}
 use Rattle.sentinel_laws.proofs.Searches.{with-tree, plain-tree}
-use Rattle.slots.specs.Held.{pointer_in, held_by}
+use Rattle.slots.specs.Held.{held_by}
 use Rattle.slots.specs.Scan.{shown_from}
 use Rattle.node.specs.Word.{root_in, number_in, found_root}
 use Rattle.node.proofs.Roots.{root-there, found-ok, found-err}
 use Rattle.search.specs.declared.Stood.{Stood}
-use Rattle.search.specs.Descent.{seen_in, stand_on, locate_within, answer_held}
-use Rattle.search.proofs.Standing.{Stands, held-read, held-answer, shown-some, any-within, within-in, within-high, come, by-root, answered-lost, stood-on as located-on}
-use Rattle.sentinels.proofs.Refusing.{length_number, length-is, length-nineteen, rest-number, collection-number, found-there}
+use Rattle.search.specs.Descent.{seen_in, read_if, stand_on, locate_from, answer_held, found}
+use Rattle.search.proofs.Standing.{Stands, held-read, held-answer, any-within, within-in, within-high, within-on, by-root, stands-on, stands-off-on}
+use Rattle.search.proofs.Standing.{locate-leaf, locate-passed, locate-failed, stand-some, stand-none, pass-off, not-read, level-read}
+use Rattle.sentinels.proofs.Refusing.{length_number, length-is, rest-number, collection-number, found-there}
 use Rattle.sentinels.proofs.Reading.{line-is}
-use Rattle.sentinels.specs.Lines.{words_at, line_of, as_option}
+use Rattle.node.specs.Word.{words_at}
+use Rattle.sentinels.specs.Lines.{line_of, as_option}
 
 -- ---- the line
-
--- the pointer of a slot found, 0 for none
-found-pointer : (s : Option Slot) → unwrap_or (held_by s) 0 ≡ pointer_in s
-found-pointer none = refl
-found-pointer (some s) = refl
 
 module _ (ws : Words) (k : ℕ) where
   pub third-line : at ws 2 ≤ k → Some 2 ≡ as_option (line_for k ws)
@@ -85,13 +82,46 @@ on-none t m k (some i) q = cc
 
 -- ---- where the search stands on level 0
 
-pub stood-on : (v : View) (l n k m : ℕ) → Stands v l n k m → m ≡ (seen_in v k (stand_on v l n k)).node
-unfolding stand_on
-stood-on v l n k m s = rw s.passed (sym s.on)
+pub stood-on : (v : View) (l n k m : ℕ) → Stands v l n k m → Some m ≡ as_option (stand_on v l n k)
+stood-on v l n k m s = sym (ap as_option (stands-on v l n k m s))
 
-pub stood-lost : (v : View) (l n k : ℕ) → passes v l n ≡ false → 0 ≡ (seen_in v k (stand_on v l n k)).node
-unfolding stand_on
-stood-lost v l n k e = rw e
+pub stood-lost : (v : View) (l n k : ℕ) → passes v l n ≡ false → None ≡ as_option (stand_on v l n k)
+stood-lost v l n k e = sym (ap as_option (stands-off-on v l n k e))
+
+-- ---- the way down to it: s on the way, with so many levels below it
+
+pub leaf-lost : (o : Option ℕ) → o ≡ none → None ≡ as_option o
+leaf-lost o e = sym (ap as_option e)
+
+-- a leaf as the root
+pub root-leaf : (v : View) (l n k : ℕ) (r : rust.Option ℕ) (o : Option ℕ) → l ≡ 0 → r ≡ as_option (stand_on v l n k) → locate v l n k ≡ o → r ≡ as_option o
+root-leaf v l n k r o z e f = rw z at e ∙ ap as_option (locate-leaf v n k ∙ (rw z at f))
+
+module _ (v : View) (k levels n : ℕ) (s : Stood) (r : Option ℕ) (some-left : 0 < levels) where
+  steps : suc (levels - 1) ≡ levels
+  steps = omega arith
+
+  -- coming to n above the leaves
+  pub steps-down : (o : rust.Option Stood) → o ≡ seen_in v k (stand_on v levels n k) → o ≡ Some s → locate v levels n k ≡ r → locate v (levels - 1) s.way k ≡ r
+  steps-down o e z f =
+      let u = stand-some v levels n k s (sym e ∙ z) in
+      ap (λ (x : Stood). locate v (levels - 1) x.way k) u.1
+      ∙ sym (locate-passed v (levels - 1) n k (rw (← steps) at u.0)) ∙ ap (λ (l : ℕ). locate v l n k) steps ∙ f
+
+pub steps-lost : (v : View) (k levels n : ℕ) (r : Option ℕ) (o : rust.Option Stood) → o ≡ seen_in v k (stand_on v levels n k) → o ≡ None → locate v levels n k ≡ r → None ≡ as_option r
+steps-lost v k levels n r o e z f = sym (ap as_option (sym f ∙ locate-failed v levels n k (stand-none v levels n k (sym e ∙ z))))
+
+-- coming to n on level 0, which is l
+module _ (t : Words) (k l n : ℕ) (r : Option ℕ) (zero-left : l ≡ 0) (inv : locate (view t) l n k ≡ r) where
+  pub last-lost : read_if (on_level (view t) 0 n) (node t n) ≡ None → None ≡ as_option r
+  last-lost e =
+      let off = pass-off (view t) 0 n (not-read (on_level (view t) 0 n) (node t n) e) in
+      sym (ap as_option (sym inv ∙ ap (λ (m : ℕ). locate (view t) m n k) zero-left ∙ locate-failed (view t) 0 n k off))
+
+  pub last-leaf : (y : Node) (o : rust.Option ℕ) → read_if (on_level (view t) 0 n) (node t n) ≡ Some y → o ≡ as_option (stand_on (view t) y.level n k) → o ≡ as_option r
+  last-leaf y o e f =
+      let z = level-read t 0 n y e in
+      root-leaf (view t) y.level n k o r z f (ap (λ (m : ℕ). locate (view t) m n k) (z ∙ sym zero-left) ∙ inv)
 
 -- ---- the leaf
 
@@ -109,11 +139,10 @@ module _ (t : Words) (m : ℕ) (h : header_ok t ≡ true) (on : on_level (view t
   leaf-fits ws l = (in-range.0, omega (arith, in-range.1))
 
   -- what the whole of it answers
-  pub whole-answer : (k : ℕ) (x : Node) (f : rust.Option ℕ) (held : ℕ) (r : Answer) → x ≡ node t m → f ≡ held_by (first_with k (shown_from x.left x.slots 0)) → held ≡ unwrap_or f 0 → r ≡ answer_held held (next_from (view t) (nodes t) m k)
+  pub whole-answer : (k : ℕ) (x : Node) (held : rust.Option ℕ) (r : Answer) → x ≡ node t m → held ≡ held_by (first_with k (shown_from x.left x.slots 0)) → r ≡ answer_held held (next_from (view t) (nodes t) m k)
       → r ≡ answer_in (view t) k (some m)
-  whole-answer k x f held r q e o u =
-      let h = o ∙ ap (λ (p : rust.Option ℕ). unwrap_or p 0) e ∙ found-pointer (first_with k (shown_from x.left x.slots 0)) in
-      u ∙ ap (λ (p : ℕ). answer_held p (next_from (view t) (nodes t) m k)) (held-read t m k x held q h) ∙ held-answer k (node_view t m).shown (next_from (view t) (nodes t) m k) (shown-some t m)
+  whole-answer k x held r q h u =
+      u ∙ ap (λ (p : rust.Option ℕ). answer_held p (next_from (view t) (nodes t) m k)) (held-read t m k x held q h) ∙ held-answer (first_with k (node_view t m).shown) (next_from (view t) (nodes t) m k)
 
 -- ---- the whole search
 
@@ -132,31 +161,42 @@ with-bad n ws t k x r e q =
     let y : x ≡ number_in n t = q ∙ handed-number (number_in n t) f.0 f.1 (subst (λ (m : ℕ). Numbered m) same (slice-numbered (no_collection n t) (length ws) t)) in
     refused-with n ws t k x (y ∙ sym same) (λ z. f.0 (sym y ∙ z))
 
-pub with-wrong : (n : ℕ) (ws t : Words) (k : ℕ) {r : ℕ} {b : Refusal} → found_root n t ≡ Ok r → passed (length_number (length ws) t) ≡ Err b → Refused 19 ≡ search_with n ws t k
+pub with-wrong : (n : ℕ) (ws t : Words) (k : ℕ) {r : ℕ} {b : Refusal} → found_root n t ≡ Ok r → passed (length_number (length ws) t) ≡ Err b → Refused (refusal_number b) ≡ search_with n ws t k
 with-wrong n ws t k f g =
     let u = found-there n t f in
-    refused-with n ws t k 19 (sym (rest-number (no_collection n t) (length ws) t u.0 u.1 ∙ length-nineteen (length ws) t (failed-some (length_number (length ws) t) g))) (λ z. omega (arith, z))
+    let z = failed-some (length_number (length ws) t) g in
+    let m = slice_number (no_collection n t) (length ws) t in
+    let same = rest-number (no_collection n t) (length ws) t u.0 u.1 in
+    let y = handed-number (length_number (length ws) t) z (failed-with {T = Unit {0}} _ g) (subst (λ (i : ℕ). Numbered i) same (slice-numbered (no_collection n t) (length ws) t)) in
+    refused-with n ws t k _ (y ∙ sym same) (λ q. z (sym y ∙ q))
 
-leaf-within : (v : View) (k : ℕ) → leaf_sought v k ≡ locate_within v 0 15 v.root k
+leaf-within : (v : View) (k : ℕ) → leaf_sought v k ≡ locate_from v v.root k
 unfolding leaf_sought
 leaf-within v k = go (leb (height v) 15) refl
   where
-    go : (c : Bool) → leb (height v) 15 ≡ c → leaf_sought v k ≡ locate_within v 0 15 v.root k
-    go true c = rw (c, leaf_sought) (within-in v 0 15 v.root k (omega arith) (leb-true _ _ c))
-    go false c = rw (c, leaf_sought) (within-high v 0 15 v.root k (omega arith) (leb-false _ _ c))
+    go : (c : Bool) → leb (height v) 15 ≡ c → leaf_sought v k ≡ locate_from v v.root k
+    go true c = rw (c, leaf_sought) (sym (within-in v v.root k c))
+    go false c = rw (c, leaf_sought) (sym (within-high v v.root k c))
 
 -- no slot in use has pointer 0
 no-slot : (o : Option Slot) → held_by o ≡ None → o ≡ none
 no-slot none e = refl
 no-slot (some s) e = cc
 
-module _ (n : ℕ) (ws t : Words) (k r leaf : ℕ) (f : found_root n t ≡ Ok r) {u : Unit {0}} (g : passed (length_number (length ws) t) ≡ Ok u)
-    (l : leaf ≡ (seen_in (view t) k (locate_within (view t) 0 15 r k)).node) where
+as-none : (o : Option ℕ) → as_option o ≡ None → o ≡ none
+as-none none e = refl
+as-none (some m) e = cc
+
+as-some : (o : Option ℕ) (m : ℕ) → as_option o ≡ Some m → o ≡ some m
+as-some none m e = cc
+as-some (some n) m e = let p : n ≡ m = cc in ap some p
+
+module _ (n : ℕ) (ws t : Words) (k r : ℕ) (f : found_root n t ≡ Ok r) {u : Unit {0}} (g : passed (length_number (length ws) t) ≡ Ok u) where
   abbrev v : View
   v = view_of n t
 
-  abbrev found : Option ℕ
-  found = locate_within (view t) 0 15 r k
+  abbrev sought : Option ℕ
+  sought = locate_from (view t) r k
 
   e : r ≡ root_in n t
   e = (found-ok n t f).0
@@ -176,23 +216,20 @@ module _ (n : ℕ) (ws t : Words) (k r leaf : ℕ) (f : found_root n t ≡ Ok r)
   plain : search n t k ≡ search_view v k
   plain = plain-tree n ws t k long there.0 there.1
 
-  same-leaf : leaf_sought v k ≡ found
-  same-leaf = leaf-within v k ∙ sym (any-within t (root t) v.root 0 15 r k ∙ ap (λ (i : ℕ). locate_within v 0 15 i k) there.2)
+  same-leaf : leaf_sought v k ≡ sought
+  same-leaf = leaf-within v k ∙ sym (any-within t (root t) v.root r k ∙ ap (λ (i : ℕ). locate_from v i k) there.2)
 
-  abbrev seen : Stood
-  seen = seen_in (view t) k (locate_within (view t) 0 15 r k)
-
-  pub with-lost : leaf ≡ 0 → Refused 3 ≡ search_with n ws t k
+  pub with-lost : as_option sought ≡ None → Refused 3 ≡ search_with n ws t k
   with-lost y =
-      let none-there : found ≡ none = (come n t k r e z seen refl).0 (sym l ∙ y) in
-      answered-lost n t k r e z seen refl (sym l ∙ y) ∙ plain ∙ sym (with-led ∙ ap (λ (o : Option ℕ). answer_of (led_to ws t k o) (search_view v k)) (same-leaf ∙ none-there))
+      let none-there = as-none sought y in
+      ap (answer_in (view t) k) (sym none-there) ∙ by-root n t k r e z ∙ plain ∙ sym (with-led ∙ ap (λ (o : Option ℕ). answer_of (led_to ws t k o) (search_view v k)) (same-leaf ∙ none-there))
 
-  module _ (y : leaf ≢ 0) where
-    here : found ≡ some leaf
-    here = (come n t k r e z seen refl).1 (λ u. y (l ∙ u)) ∙ ap some (sym l)
+  module _ (leaf : ℕ) (l : as_option sought ≡ Some leaf) where
+    here : sought ≡ some leaf
+    here = as-some sought leaf l
 
     pub leaf-on : on_level (view t) 0 leaf ≡ true
-    leaf-on = rw l (located-on n t k r e z seen refl (λ u. y (l ∙ u)))
+    leaf-on = within-on (view t) r k leaf here
 
     -- the slot that the words lead to
     abbrev led : Option Slot
@@ -201,16 +238,16 @@ module _ (n : ℕ) (ws t : Words) (k r leaf : ℕ) (f : found_root n t ≡ Ok r)
     with-slot : search_with n ws t k ≡ answer_of (on_line t leaf k (line_for k (words_of ws leaf))) (search_view v k)
     with-slot = with-led ∙ ap (λ (o : Option ℕ). answer_of (led_to ws t k o) (search_view v k)) (same-leaf ∙ here)
 
-    pub with-held : (held a c : ℕ) → held_by (on_line t leaf k (line_for k (words_of ws leaf))) ≡ Some held → a ≡ recording_of held → c ≡ class_of held → Found a c ≡ search_with n ws t k
-    with-held held a c q f g = go led refl ∙ sym with-slot
+    pub with-held : (held : ℕ) (x : Answer) → held_by (on_line t leaf k (line_for k (words_of ws leaf))) ≡ Some held → x ≡ found held → x ≡ search_with n ws t k
+    with-held held x q f = f ∙ go led refl ∙ sym with-slot
       where
-        go : (o : Option Slot) → led ≡ o → Found a c ≡ answer_of led (search_view v k)
+        go : (o : Option Slot) → led ≡ o → found held ≡ answer_of led (search_view v k)
         go none d = let z : None ≡ Some held = sym (ap held_by d) ∙ q in cc
         go (some s) d =
             let y : Some s.pointer ≡ Some held = sym (ap held_by d) ∙ q in
             let p : held ≡ s.pointer = cc in
-            (λ i. Found ((f ∙ ap recording_of p) i) ((g ∙ ap class_of p) i)) ∙ sym (ap (λ (o : Option Slot). answer_of o (search_view v k)) d)
+            ap found p ∙ sym (ap (λ (o : Option Slot). answer_of o (search_view v k)) d)
 
     pub with-whole : (x : Answer) → held_by (on_line t leaf k (line_for k (words_of ws leaf))) ≡ None → x ≡ answer_in (view t) k (some leaf) → x ≡ search_with n ws t k
     with-whole x q g =
-        g ∙ ap (answer_in (view t) k) (sym here) ∙ by-root n t k r e z seen refl ∙ plain ∙ sym (with-slot ∙ ap (λ (o : Option Slot). answer_of o (search_view v k)) (no-slot _ q))
+        g ∙ ap (answer_in (view t) k) (sym here) ∙ by-root n t k r e z ∙ plain ∙ sym (with-slot ∙ ap (λ (o : Option Slot). answer_of o (search_view v k)) (no-slot _ q))

@@ -1,14 +1,10 @@
 -- One slot line of a node, from the node's words, by the slot that the line begins with.
 use Rattle.std.specs.Prelude.{◌≡◌, Bool, cond, List, [], ◌∷◌, ℕ, zero, suc, ◌^◌, ◌<◌, take, drop, Option as Answer, Some, None}
 use Rattle.std.proofs.Math.Option.{Option, none, some}
-use Rattle.model.specs.Table.{Words, at, node_start}
+use Rattle.model.specs.Table.{Words, at}
 use Rattle.model.specs.Slots.{Slot, shown}
 use Rattle.model.specs.Shifts.{last_pointer}
 use Rattle.slots.specs.Scan.{used_from}
-
--- the words of node n of a table
-abbrev pub words_at : Words → (n : ℕ) → Words
-words_at t n = take 32 (drop (node_start n) t)
 
 abbrev pub left_in : Words → ℕ
 left_in ws = at ws 0

@@ -13,8 +13,8 @@ ghost use Rattle.model.specs.Sentinels.{first_key, leaves_all, sentinels_of, sen
 ghost use Rattle.model.specs.Sentinels.{slice_number, work_out, worked_out, line_for, on_line, search_with};
 ghost use Rattle.std.proofs.Math.Option.{some};
 ghost use Rattle.slots.specs.Held.{held_by};
-ghost use Rattle.search.specs.Descent.{seen_in, stand_on, locate_within};
-ghost use Rattle.sentinels.specs.Lines.{words_at, left_in, slots_in, begun_in, line_of, Tests, first_taken, as_option};
+ghost use Rattle.search.specs.Descent.{stand_on, locate_from, numbered};
+ghost use Rattle.sentinels.specs.Lines.{left_in, slots_in, begun_in, line_of, Tests, first_taken, as_option};
 ghost use Rattle.sentinels.specs.Anew.{put_words, named, Asks};
 
 use model::{Answer, Counts, MARK, Node, Outcome, Refusal, Written};
@@ -49,14 +49,6 @@ pub fn refusal_any(table: &[u64], words: usize) -> Outcome
 }
 
 // ---- the words of a node of the table, and one slot line of them, by the slot that the line begins with
-
-// The 32 words of node n. That the table has the node is said of both together: so it is a clause.
-fn node_words(table: &[u64], n: u64) -> &[u64; 32]
-    requires { has_node table.now n ≡ true }
-    ensures { result.now ≡ words_at table.now n }
-{
-    table[node::start(table, n)..].first_chunk().unwrap()
-}
 
 // The pointer before slot first, if the slots up to it are in use. A loop of its own: before the line no slot is tested, so the walk over the
 // line compares no index.
@@ -130,7 +122,7 @@ fn three_of(table: &[u64], n: u64) -> [u64; 3]
     if !is_leaf(table, n) {
         return [0; 3];
     }
-    let node = node_words(table, n);
+    let node = node::words(table, n);
     [line_key(node, 0), line_key(node, 4), line_key(node, 8)]
 }
 
@@ -172,7 +164,8 @@ pub fn work_out(table: &[u64], words: &mut [u64]) -> Outcome
 
 // ---- the words of the nodes that were stored to
 
-// The node that a store to word w goes to, in a table of so many words; 0 for the header, and for what is no store.
+// The node that a store to word w goes to, in a table of so many words; 0 for the header, and for what is no store. The sum below gives the header
+// 0, which is no node: an Option would be made of it here, and taken apart by the next function.
 fn stored_node(w: u64, len: usize) -> u64
     requires { len ≤ 2097128 }
     ensures { result ≡ cond (ltb w len) (node_of w) 0 }
@@ -265,92 +258,74 @@ fn on_line(table: &[u64], three: &[u64; 3], m: u64, key: u64) -> Option<u64>
     ensures { result ≡ held_by (on_line table.now m key (line_for key three.now)) }
 {
     let j = line_for(three, key)?;
-    line_find(node_words(table, m), 4 * j, key)
+    line_find(node::words(table, m), 4 * j, key)
 }
 
-// The leaf that a search stands on, coming to node n on level 0, which is read: n or its sibling; 0 if a test fails.
-fn leaf_at(table: &[u64], n: u64, read: Node, key: u64) -> u64
+// The leaf that a search stands on, coming to node n on level 0, which is read: n or its sibling, if the tests pass. Put in where it is called,
+// so that the node is not copied.
+#[inline(always)]
+fn leaf_at(table: &[u64], n: u64, read: Node, key: u64) -> Option<u64>
     requires table_value { header_ok table.now ≡ true }
     requires n_value { on_level (view table.now) read.level n ≡ true }
     requires read_value { read ≡ node table.now n }
-    ensures { result ≡ (seen_in (view table.now) key (stand_on (view table.now) read.level n key)).node }
+    ensures { result ≡ as_option (stand_on (view table.now) read.level n key) }
 {
     let sibling = read.sibling;
     if sibling == 0 {
-        return n;
+        return Some(n);
     }
-    if !node::has(table, sibling) {
-        return 0;
-    }
-    let y = node::read(table, sibling);
-    if y.level != read.level {
-        return 0;
-    }
+    let y = search::read_on(table, sibling, read.level)?;
     if key < y.fence {
-        return n;
+        return Some(n);
     }
-    sibling
+    Some(sibling)
 }
 
-// The leaf that a search comes to from a root, as the plain one does, but without a look at its slots; 0 if a test fails.
-fn leaf_for(table: &[u64], root: u64, key: u64) -> u64
+// The leaf that a search comes to from a root, as the plain one does, but without a look at its slots. Tried: one descent for both, with a closure
+// for what is looked at, takes a fifth more instructions.
+fn leaf_for(table: &[u64], root: u64, key: u64) -> Option<u64>
     requires { header_ok table.now ≡ true }
-    ensures { result ≡ (seen_in (view table.now) key (locate_within (view table.now) 0 15 root key)).node }
+    ensures { result ≡ as_option (locate_from (view table.now) root key) }
 {
-    let mut n = root;
-    let mut low = 0;
-    let mut high = 15;
-    // No count of turns: the level that is read says how far down it is, and the first one is not known before.
-    loop {
-        if !node::has(table, n) {
-            return 0;
-        }
-        let x = node::read(table, n);
-        let level = x.level;
-        if level < low || high < level {
-            return 0;
-        }
-        if level == 0 {
-            return leaf_at(table, n, x, key);
-        }
-        let s = search::stand(table, n, x, key);
-        n = s.way;
-        low = level - 1;
-        high = level - 1;
+    let x = search::read_root(table, root)?;
+    if x.level == 0 {
+        return leaf_at(table, root, x, key);
     }
+    let mut s = search::stand(table, root, x, key)?;
+    for level in (1..x.level).rev() {
+        s = search::come(table, s.way, level, key)?;
+    }
+    let y = search::read_on(table, s.way, 0)?;
+    leaf_at(table, s.way, y, key)
 }
 
 // The answer from the whole of leaf m, as the plain search has it.
-fn whole_leaf(table: &[u64], m: u64, key: u64) -> Answer
+fn whole_leaf(table: &[u64], m: u64, key: u64) -> Result<Answer, Refusal>
     requires table_value { header_ok table.now ≡ true }
     requires m_value { on_level (view table.now) 0 m ≡ true }
-    ensures { result ≡ answer_in (view table.now) key (some m) }
+    ensures { numbered result ≡ answer_in (view table.now) key (some m) }
 {
     let x = node::read(table, m);
-    let held = slots::find(x.slots, x.left, key).unwrap_or(0);
+    let held = slots::find(x.slots, x.left, key);
     search::answer(table, m, held, key)
+}
+
+// What a search that takes the words answers, or why it refuses.
+fn find_with(table: &[u64], words: &[u64], collection: u64, key: u64) -> Result<Answer, Refusal>
+    ensures { numbered result ≡ search_with collection words.now table.now key }
+{
+    let root = node::find_root(table, collection)?;
+    fits(table, words.len())?;
+    let leaf = leaf_for(table, root, key).ok_or(Refusal::SearchLost)?;
+    if let Some(held) = on_line(table, words_of(words, leaf), leaf, key) {
+        return Ok(search::found(held));
+    }
+    whole_leaf(table, leaf, key)
 }
 
 // A search in a collection that looks first at the line of the leaf that its words name, then at the whole leaf.
 pub fn search_with(table: &[u64], words: &[u64], collection: u64, key: u64) -> Answer
     ensures { result ≡ search_with collection words.now table.now key }
 {
-    let root = match node::find_root(table, collection) {
-        Ok(root) => root,
-        Err(refusal) => return Answer::Refused(u8::from(refusal)),
-    };
-    let Ok(()) = fits(table, words.len()) else {
-        return Answer::Refused(19);
-    };
-    let leaf = leaf_for(table, root, key);
-    if leaf == 0 {
-        return Answer::Refused(3);
-    }
-    if let Some(held) = on_line(table, words_of(words, leaf), leaf, key) {
-        return Answer::Found {
-            recording: pointer::recording(held),
-            access: pointer::class(held),
-        };
-    }
-    whole_leaf(table, leaf, key)
+    search::numbered(find_with(table, words, collection, key))
 }

@@ -2,22 +2,23 @@
 use mathlib.Core.Path.{◌≡◌, refl, ap, ◌∙◌}
 use mathlib.Core.Bool.{Bool, true, false}
 use mathlib.Core.List.{List, [], ◌∷◌, map}
-use Prim.Native.Nat.{ℕ, ◌+◌, ◌*◌, ◌≤◌, ◌<◌}
+use Prim.Native.Nat.{ℕ, ◌+◌, ◌*◌, ◌<◌}
 use native.Mathlib.Omega.{arith}
 use lib.Dec.{eqb}
-use lib.ListN.{length, length-take, length-drop}
+use lib.ListN.{length}
 use Rattle.model.specs.declared.Node.{Node}
-use Rattle.model.specs.Table.{Words, at, node_start, has_node, node, node_from}
-use Rattle.model.specs.Slots.{Slot, with_class, shown, hidden_slots, used, node_view}
+use Rattle.model.specs.Table.{Words, at, node_start, has_node, node}
+use Rattle.model.specs.Slots.{Slot, with_class, shown, hidden_slots, used, node_view, view}
 use Rattle.model.specs.Shifts.{SlotStore, key_to, pointer_to, in_node, place_of, hidden_place}
-use Rattle.model.specs.Writes.{shift_in_at, shift_out_at, set_class_at, close_at, cut_off, attach}
+use Rattle.model.specs.Writes.{shift_in_at, shift_out_at, set_class_at, close_at, cut_off, attach, child_before}
 use Rattle.node.specs.Word.{start_of, word_of}
 use Rattle.node.proofs.Answers.{start-some}
 use Rattle.node.proofs.WordLaws.{word-sibling, word-fence}
-use Rattle.table_laws.proofs.Nodes.{has-node-iff, node-in}
 use Rattle.slots.specs.Scan.{in_use_of}
 use Rattle.slots.proofs.Places.{in-use-short, in-use-at}
-use Rattle.shift.specs.Stores.{in_from, slot_in, slot_out, gap_closed}
+use Rattle.shift.specs.declared.Opened.{Opened}
+use Rattle.shift.specs.declared.Place.{Place}
+use Rattle.shift.specs.Stores.{Opens, held, PlaceOf, in_from, slot_in, slot_out, gap_closed}
 
 in-node-from : (n : ℕ) (ss : List SlotStore) → map (in_node n) ss ≡ map (in_from (node_start n)) ss
 in-node-from n [] = refl
@@ -34,50 +35,50 @@ shown-all p (s ∷ ss) h = go (eqb s.pointer p) refl h (shown-all s.pointer ss)
     go true e g ih = absurd (omega (arith, rw (e, hidden_slots) at g))
     go false e g ih = rw (e, shown) (ap (λ (us : List Slot). s ∷ us) (ih (rw (e, hidden_slots) at g)))
 
-module _ (t : Words) (n w : ℕ) (h : has_node t n ≡ true) (e : w ≡ start_of t n) where
-  pub starts : w ≡ node_start n
-  starts = e ∙ start-some t n h
+pub shown-read : (t : Words) (n : ℕ) (x : Node) → x ≡ node t n → (node_view t n).hidden ≡ 0 → (node_view t n).shown ≡ in_use_of x.slots
+unfolding in_use_of used
+shown-read t n x q z = rw q (shown-all _ _ z)
 
-  pub node-fits : w + 32 ≤ length t
-  unfolding node_start
-  node-fits = omega (arith, starts, (has-node-iff t n).0 h)
+-- where a node begins, as the code finds it
+pub starts : (t : Words) (n w : ℕ) → has_node t n ≡ true → w ≡ start_of t n → w ≡ node_start n
+starts t n w h e = e ∙ start-some t n h
 
-  module _ (x : Node) (q : x ≡ node t n) where
-    slots-whole : length x.slots ≡ 24
-    unfolding node_from node_start
-    slots-whole = let u = (has-node-iff t n).0 h in rw (q, node-in t n h) (simp (length-take, length-drop) (omega arith))
+module _ {t : Words} {n : ℕ} {o : Opened} (q : Opens t n o) where
+  pub close-as : (p : ℕ) → p ≡ hidden_place o.node.left (held o) → close_at t n ≡ gap_closed o p
+  unfolding close_at gap_closed used in_use_of
+  close-as p g = rw (g, q.node_is, q.start_is, in-node-from)
 
-    pub close-as : (p : ℕ) → p ≡ hidden_place x.left (in_use_of x.slots) → close_at t n ≡ gap_closed w x.slots p
-    unfolding close_at gap_closed used in_use_of
-    close-as p g = rw (g, q, starts, in-node-from)
+  module _ (z : (node_view t n).hidden ≡ 0) where
+    pub shown-is : (node_view t n).shown ≡ held o
+    shown-is = shown-read t n o.node q.node_is z
 
-    module _ (z : (node_view t n).hidden ≡ 0) where
-      pub shown-is : (node_view t n).shown ≡ in_use_of x.slots
-      unfolding in_use_of used
-      shown-is = rw q (shown-all _ _ z)
+    pub shift-in-as : (k v : ℕ) → shift_in_at t n k v ≡ slot_in o k v
+    unfolding shift_in_at slot_in
+    shift-in-as k v = rw (shown-is, q.node_is, q.start_is, in-node-from)
 
-      pub shift-in-as : (k v : ℕ) → shift_in_at t n k v ≡ slot_in w x k v
-      unfolding shift_in_at slot_in
-      shift-in-as k v = rw (shown-is, q, starts, in-node-from)
+    pub shift-out-as : (k : ℕ) → shift_out_at t n k ≡ slot_out o k
+    unfolding shift_out_at slot_out
+    shift-out-as k = rw (shown-is, q.node_is, q.start_is, in-node-from)
 
-      pub shift-out-as : (k : ℕ) → shift_out_at t n k ≡ slot_out w x k
-      unfolding shift_out_at slot_out
-      shift-out-as k = rw (shown-is, q, starts, in-node-from)
+    pub cut-as : (f p : ℕ) → f ≡ word_of t o.node.sibling 3 → p ≡ place_of f (held o) → cut_off t n ≡ in_from o.start (pointer_to p 0) ∷ []
+    unfolding cut_off
+    cut-as f p ef ep = rw (shown-is, ep, ef, word-fence, q.node_is, q.start_is)
 
-      module _ (k c p y : ℕ) (ep : p ≡ place_of k (in_use_of x.slots)) (l : place_of k (node_view t n).shown < length (node_view t n).shown) where
-        place-used : p < length (in_use_of x.slots)
-        place-used = rw (ep, ← shown-is) l
+    module _ (k p : ℕ) (ep : p ≡ place_of k (held o)) (l : place_of k (node_view t n).shown < length (node_view t n).shown) where
+      place-used : p < length (held o)
+      place-used = rw (ep, ← shown-is) l
 
-        pub place-inside : p < 12
-        place-inside = omega (arith, place-used, in-use-short x.slots, slots-whole)
+      pub place-inside : length o.node.slots ≡ 24 → p < 12
+      place-inside s = omega (arith, place-used, in-use-short o.node.slots, s)
 
-        pub class-as : y ≡ with_class (at x.slots (2 * p + 1)) c → set_class_at t n k c ≡ in_from w (pointer_to p y) ∷ []
-        unfolding set_class_at
-        class-as ey = rw (shown-is, ← ep, in-use-at x.slots p place-used, ey, starts)
+      pub class-as : (c y : ℕ) → y ≡ with_class (at o.node.slots (2 * p + 1)) c → set_class_at t n k c ≡ in_from o.start (pointer_to p y) ∷ []
+      unfolding set_class_at
+      class-as c y ey = rw (shown-is, ← ep, in-use-at o.node.slots p place-used, ey, q.start_is)
 
-      pub cut-as : (f p : ℕ) → f ≡ word_of t x.sibling 3 → p ≡ place_of f (in_use_of x.slots) → cut_off t n ≡ in_from w (pointer_to p 0) ∷ []
-      unfolding cut_off
-      cut-as f p ef ep = rw (shown-is, ep, ef, word-fence, q, starts)
+    -- the child of n before its child x
+    pub before-as : (x f : ℕ) (p : Place) → f ≡ word_of t x 3 → PlaceOf o f p → p.before ≡ child_before (view t) n x
+    unfolding child_before
+    before-as x f p ef g = rw (shown-is, g.before_is, g.at_is, ef, word-fence, q.node_is)
 
 -- B by the words that the code reads: its number and its fence
 pub attach-as : (t : Words) (p a b f : ℕ) → b ≡ word_of t a 1 → f ≡ word_of t b 3 → attach t p a ≡ shift_in_at t p f b

@@ -1,7 +1,7 @@
 -- The moves that make and close a gap, slot by slot.
 use mathlib.Core.Path.{◌≡◌}
 use mathlib.Core.List.{List, [], ◌∷◌, ◌++◌, map}
-use Prim.Native.Nat.{ℕ, zero, suc, ◌+◌, ◌-◌, ◌*◌, ◌<◌, ◌≤◌}
+use Prim.Native.Nat.{ℕ, suc, ◌+◌, ◌-◌, ◌*◌, ◌<◌, ◌≤◌}
 use native.Mathlib.Numerals.{add-one}
 use native.Mathlib.Omega.{arith}
 use lib.ListN.{length, take, drop, length-drop, drop_of_length-le}
@@ -11,7 +11,8 @@ use Rattle.model.specs.Slots.{Slot, slot}
 use Rattle.model.specs.Orders.{Store}
 use Rattle.model.specs.Shifts.{key_to, pointer_to, move_up, move_down}
 use Rattle.slots.specs.Scan.{in_use_of}
-use Rattle.shift.specs.Stores.{in_from, moves_up, moves_down}
+use Rattle.shift.specs.declared.Opened.{Opened}
+use Rattle.shift.specs.Stores.{held, in_from, moves_up, moves_down}
 use Rattle.slots.proofs.Places.{in-use-cons, in-use-at}
 
 -- ---- up: the last slot moves first
@@ -22,14 +23,17 @@ move-up-snoc p [] s = let e : p + 0 ≡ p = omega arith in rw e
 move-up-snoc p (x ∷ ss) s = let e : suc p + length ss ≡ p + suc (length ss) = omega arith in rw (move-up-snoc (suc p) ss s, e)
 
 -- the moves of the slots from p on, below slot i
-abbrev pub up_to : (w : ℕ) → Words → (p i : ℕ) → List Store
-up_to w ws p i = map (in_from w) (move_up p (take (i - p) (drop p (in_use_of ws))))
+abbrev pub up_to : Opened → (p i : ℕ) → List Store
+up_to o p i = map (in_from o.start) (move_up p (take (i - p) (drop p (held o))))
 
-module _ (w : ℕ) (ws : Words) (p i : ℕ) where
-  pub up-start : i ≡ length (in_use_of ws) → moves_up w ws p ≡ up_to w ws p i
-  up-start e = rw (take_all (i - p) (drop p (in_use_of ws)) (rw length-drop (omega arith)))
+module _ (o : Opened) (p i : ℕ) where
+  abbrev ws : Words
+  ws = o.node.slots
 
-  pub up-end : i ≤ p → up_to w ws p i ≡ []
+  pub up-start : i ≡ length (held o) → moves_up o p ≡ up_to o p i
+  up-start e = rw (take_all (i - p) (drop p (held o)) (rw length-drop (omega arith)))
+
+  pub up-end : i ≤ p → up_to o p i ≡ []
   unfolding move_up
   up-end h = let e : i - p ≡ 0 = omega arith in rw e
 
@@ -45,21 +49,21 @@ module _ (w : ℕ) (ws : Words) (p i : ℕ) where
     last : suc (p + length (take (i - 1 - p) (drop p (in_use_of ws)))) ≡ i
     last = rw (length-take-le (i - 1 - p) (drop p (in_use_of ws)) (rw length-drop (omega arith))) (omega arith)
 
-    pub up-next : up_to w ws p i ≡ in_from w (pointer_to (i - 1 + 1) (at ws (2 * (i - 1) + 1))) ∷ in_from w (key_to (i - 1 + 1) (at ws (2 * (i - 1)))) ∷ up_to w ws p (i - 1)
+    pub up-next : up_to o p i
+        ≡ in_from o.start (pointer_to (i - 1 + 1) (at ws (2 * (i - 1) + 1))) ∷ in_from o.start (key_to (i - 1 + 1) (at ws (2 * (i - 1)))) ∷ up_to o p (i - 1)
     up-next = let e : i - 1 + 1 ≡ i = omega arith in rw (shorter, move-up-snoc, last, e)
 
 -- ---- down: the first slot moves first
 
-module _ (w : ℕ) (ws : Words) where
-  pub down-next : (i : ℕ) → 0 < i → i < length (in_use_of ws)
-      → moves_down w ws (i - 1) ≡ in_from w (key_to (i - 1) (at ws (2 * i))) ∷ in_from w (pointer_to (i - 1) (at ws (2 * i + 1))) ∷ moves_down w ws (i + 1 - 1)
+module _ (o : Opened) where
+  pub down-next : (i : ℕ) → suc i < length (held o)
+      → moves_down o i ≡ in_from o.start (key_to i (at o.node.slots (2 * i + 2))) ∷ in_from o.start (pointer_to i (at o.node.slots (2 * i + 3))) ∷ moves_down o (i + 1)
   unfolding move_down
-  down-next zero z h = absurd (omega arith)
-  down-next (suc i) z h =
-      let before : suc i - 1 ≡ i = omega arith in
-      let after : suc i + 1 - 1 ≡ suc i = omega arith in
-      rw (before, after, in-use-cons ws (suc i) h, add-one (suc i))
+  down-next i l =
+      let key : 2 * suc i ≡ 2 * i + 2 = omega arith in
+      let pointer : 2 * suc i + 1 ≡ 2 * i + 3 = omega arith in
+      rw (in-use-cons o.node.slots (suc i) l, pointer, key, add-one (suc i), add-one i)
 
-  pub down-end : (i : ℕ) → 0 < i → length (in_use_of ws) ≤ i → moves_down w ws (i - 1) ≡ []
+  pub down-end : (i : ℕ) → length (held o) ≤ suc i → moves_down o i ≡ []
   unfolding move_down
-  down-end i z h = rw (drop_of_length-le (in_use_of ws) {i = suc (i - 1)} (omega arith))
+  down-end i h = rw (drop_of_length-le (held o) {i = suc i} h)

@@ -1,12 +1,28 @@
--- Stores to the node that begins at a word and was read as a record.
-use Rattle.std.specs.Prelude.{cond, List, map, ℕ, suc, ◌+◌, ◌*◌, eqb, get_or, drop}
+-- Stores to a node of the table that was read before the first of them.
+use Rattle.std.specs.Prelude.{◌≡◌, cond, List, map, ℕ, suc, ◌+◌, ◌*◌, eqb, get_or, take, drop}
 use Rattle.model.specs.declared.Node.{Node}
-use Rattle.model.specs.Table.{MARK, Words}
+use Rattle.model.specs.Table.{MARK, Words, node_start, node}
 use Rattle.model.specs.Slots.{Slot, slot}
 use Rattle.model.specs.Orders.{Store, put}
-use Rattle.model.specs.Shifts.{SlotStore, key_to, pointer_to, move_up, move_down, shift_in, shift_out, close, place_of}
+use Rattle.model.specs.Shifts.{SlotStore, key_to, pointer_to, move_up, move_down, shift_in, shift_out, close, place_of, last_pointer}
 use Rattle.model.specs.Writes.{node_words}
 use Rattle.slots.specs.Scan.{in_use_of}
+use Rattle.shift.specs.declared.Opened.{Opened}
+use Rattle.shift.specs.declared.Place.{Place}
+
+-- what was read is node n of the table
+pub record Opens (t : Words) (n : ℕ) (o : Opened) : Type 0 where
+  pub start_is : o.start ≡ node_start n
+  pub node_is : o.node ≡ node t n
+
+-- the slots in use that were read
+abbrev pub held : Opened → List Slot
+held o = in_use_of o.node.slots
+
+-- the place of key k
+pub record PlaceOf (o : Opened) (k : ℕ) (p : Place) : Type 0 where
+  pub at_is : p.at ≡ place_of k (held o)
+  pub before_is : p.before ≡ last_pointer o.node.left (take p.at (held o))
 
 -- a store to a slot of the node that begins at word w
 abbrev pub in_from : ℕ → SlotStore → Store
@@ -14,25 +30,25 @@ in_from w (key_to i x) = put (w + (8 + 2 * i)) x
 in_from w (pointer_to i x) = put (w + (9 + 2 * i)) x
 
 -- the moves that make and close the gap at place p
-abbrev pub moves_up : (w : ℕ) → Words → (p : ℕ) → List Store
-moves_up w ws p = map (in_from w) (move_up p (drop p (in_use_of ws)))
+abbrev pub moves_up : Opened → (p : ℕ) → List Store
+moves_up o p = map (in_from o.start) (move_up p (drop p (held o)))
 
-abbrev pub moves_down : (w : ℕ) → Words → (p : ℕ) → List Store
-moves_down w ws p = map (in_from w) (move_down p (drop (suc p) (in_use_of ws)))
+abbrev pub moves_down : Opened → (p : ℕ) → List Store
+moves_down o p = map (in_from o.start) (move_down p (drop (suc p) (held o)))
 
--- ---- the shifts in the node that begins at word w and was read as n
+-- ---- the shifts
 
 -- (k, x) in at its place
-unfoldable pub slot_in : (w : ℕ) → Node → (k x : ℕ) → List Store
-slot_in w n k x = map (in_from w) (shift_in n.left (in_use_of n.slots) (place_of k (in_use_of n.slots)) k x)
+unfoldable pub slot_in : Opened → (k x : ℕ) → List Store
+slot_in o k x = map (in_from o.start) (shift_in o.node.left (held o) (place_of k (held o)) k x)
 
 -- the slot of key k out
-unfoldable pub slot_out : (w : ℕ) → Node → (k : ℕ) → List Store
-slot_out w n k = map (in_from w) (shift_out n.left (in_use_of n.slots) (place_of k (in_use_of n.slots)))
+unfoldable pub slot_out : Opened → (k : ℕ) → List Store
+slot_out o k = map (in_from o.start) (shift_out o.node.left (held o) (place_of k (held o)))
 
 -- the gap at place p closed
-unfoldable pub gap_closed : (w : ℕ) → Words → (p : ℕ) → List Store
-gap_closed w ws p = map (in_from w) (close (in_use_of ws) p)
+unfoldable pub gap_closed : Opened → (p : ℕ) → List Store
+gap_closed o p = map (in_from o.start) (close (held o) p)
 
 -- ---- split and new root
 

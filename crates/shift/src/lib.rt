@@ -1,16 +1,16 @@
 // Shifts, another class, cutting off, a leaf freed, split and new root on the nodes of the working copy: each store is made and listed.
 #![tactic(auto)]
 
-ghost use Rattle.std.specs.Prelude.{◌≡◌, true, [], ◌∷◌, ◌++◌, ◌+◌, ◌≤◌, ◌*◌, ◌<◌, length, drop};
+ghost use Rattle.std.specs.Prelude.{◌≡◌, true, [], ◌∷◌, ◌++◌, ◌+◌, ◌≤◌, ◌*◌, ◌<◌, length};
 ghost use Rattle.model.specs.Table.{MARK, at, has_node};
 ghost use Rattle.model.specs.Slots.{view_from, view, height};
 ghost use Rattle.model.specs.Orders.{put};
 ghost use Rattle.model.specs.Shifts.{place_of};
-ghost use Rattle.model.specs.Writes.{shift_in_at, shift_out_at, set_class_at, close_at, put_all, node_words, split, new_root_at, cut_off, attach, child_before};
+ghost use Rattle.model.specs.Writes.{shift_in_at, shift_out_at, set_class_at, close_at, put_all, split, new_root_at, cut_off, attach, child_before};
 ghost use Rattle.model.specs.Writes.{free_stores};
 ghost use Rattle.orders.specs.Desk.{of, Room, Makes};
 ghost use Rattle.slots.specs.Scan.{in_use_of};
-ghost use Rattle.shift.specs.Stores.{moves_up, moves_down, slot_in, slot_out, gap_closed, upper_words};
+ghost use Rattle.shift.specs.Stores.{Opens, PlaceOf, slot_in, slot_out, gap_closed, upper_words};
 
 use model::{MARK, Node};
 use orders::Writer;
@@ -20,85 +20,91 @@ const KEY: usize = 8;
 
 const POINTER: usize = 9;
 
-// Key or pointer i := x, in the node that begins at word w. That its 32 words are in the table is a clause: the writer has the table, and an array
-// of the words cannot be lent beside it.
-fn put<const HALF: usize>(writer: &mut Writer<'_>, w: usize, i: usize, x: u64)
-    requires half { HALF ≤ 9 }
-    requires i_bound { i ≤ 13 }
-    requires w_in_bounds { w + 32 ≤ length writer.old.table.now }
-    requires room { Room (put (w + (HALF + 2 * i)) x ∷ []) (of writer.old) }
-    ensures { Makes (put (w + (HALF + 2 * i)) x ∷ []) writer.old writer.new }
-{
-    writer.store(w + (HALF + 2 * i), x);
+// A node of the working copy, before the first store to it: where it begins, and what was read there.
+#[derive(Drop)]
+struct Opened {
+    start: usize,
+    node: Node,
 }
 
-// The slots from place p on move one up, the last first: the pointer, then the key. The node comes as its first word and the slots that were
-// read before the first store, here and below.
-fn move_up(writer: &mut Writer<'_>, w: usize, slots: [u64; 24], p: usize)
-    requires w_in_bounds { w + 32 ≤ length writer.old.table.now }
-    requires room { Room (moves_up w slots p) (of writer.old) }
-    ensures { Makes (moves_up w slots p) writer.old writer.new }
-{
-    for i in (p..slots::count(slots)).rev() {
-        put::<POINTER>(writer, w, i + 1, slots[2 * i + 1]);
-        put::<KEY>(writer, w, i + 1, slots[2 * i]);
+// A place in a node: a key's, or an absent key's, and the pointer before it.
+#[derive(Drop)]
+struct Place {
+    at: usize,
+    before: u64,
+}
+
+impl Opened {
+    fn new(writer: &Writer<'_>, n: u64) -> Self
+        requires { has_node writer.now.table.now n ≡ true }
+        ensures { Opens writer.now.table.now n result }
+    {
+        let table = writer.table();
+        Opened {
+            start: node::start(table, n),
+            node: node::read(table, n),
+        }
     }
-}
 
-// The slots after place p move one down, the first first: the key, then the pointer.
-fn move_down(writer: &mut Writer<'_>, w: usize, slots: [u64; 24], p: usize)
-    requires w_in_bounds { w + 32 ≤ length writer.old.table.now }
-    requires p_bound { p ≤ 12 }
-    requires room { Room (moves_down w slots p) (of writer.old) }
-    ensures { Makes (moves_down w slots p) writer.old writer.new }
-{
-    for i in p + 1..slots::count(slots) {
-        put::<KEY>(writer, w, i - 1, slots[2 * i]);
-        put::<POINTER>(writer, w, i - 1, slots[2 * i + 1]);
+    // The place of key k.
+    fn place(&self, k: u64) -> Place
+        ensures { PlaceOf self.now k result }
+    {
+        let slots = self.node.slots;
+        let at = slots::place(slots, k);
+        Place {
+            at,
+            before: slots::pointer_before(slots, self.node.left, at),
+        }
     }
-}
 
-// Shifts (k, x) in at its place, in the node that begins at word w and was read as n.
-fn slot_in(writer: &mut Writer<'_>, w: usize, n: Node, k: u64, x: u64)
-    requires w_in_bounds { w + 32 ≤ length writer.old.table.now }
-    requires room { Room (slot_in w n k x) (of writer.old) }
-    ensures { Makes (slot_in w n k x) writer.old writer.new }
-{
-    let slots = n.slots;
-    let left = n.left;
-    let p = slots::place(slots, k);
-    let m = slots::count(slots);
-    let before = slots::pointer_before(slots, left, p);
-    put::<POINTER>(writer, w, m + 1, 0);
-    move_up(writer, w, slots, p);
-    put::<POINTER>(writer, w, p, before);
-    put::<KEY>(writer, w, p, k);
-    put::<POINTER>(writer, w, p, x);
-}
+    // Key or pointer i := x.
+    fn put<const HALF: usize>(&self, writer: &mut Writer<'_>, i: usize, x: u64)
+        requires { Room (put (self.now.start + (HALF + 2 * i)) x ∷ []) (of writer.old) }
+        ensures { Makes (put (self.now.start + (HALF + 2 * i)) x ∷ []) writer.old writer.new }
+    {
+        writer.store(self.start + (HALF + 2 * i), x);
+    }
 
-// Closes the gap at place p: the slots after it move down, and the last pointer in use becomes 0.
-fn close_gap(writer: &mut Writer<'_>, w: usize, slots: [u64; 24], p: usize)
-    requires w_in_bounds { w + 32 ≤ length writer.old.table.now }
-    requires p_bound { p ≤ 12 }
-    requires room { Room (gap_closed w slots p) (of writer.old) }
-    ensures { Makes (gap_closed w slots p) writer.old writer.new }
-{
-    let last = slots::last(slots);
-    move_down(writer, w, slots, p);
-    put::<POINTER>(writer, w, last, 0);
-}
+    // Shifts (k, x) in at its place. The slots from there on move one up, the last first: the pointer, then the key.
+    fn slot_in(&self, writer: &mut Writer<'_>, k: u64, x: u64)
+        requires { Room (slot_in self.now k x) (of writer.old) }
+        ensures { Makes (slot_in self.now k x) writer.old writer.new }
+    {
+        let Place { at, before } = self.place(k);
+        let end = slots::count(self.node.slots);
+        self.put::<POINTER>(writer, end + 1, 0);
+        for i in (at..end).rev() {
+            self.put::<POINTER>(writer, i + 1, self.node.slots[2 * i + 1]);
+            self.put::<KEY>(writer, i + 1, self.node.slots[2 * i]);
+        }
+        self.put::<POINTER>(writer, at, before);
+        self.put::<KEY>(writer, at, k);
+        self.put::<POINTER>(writer, at, x);
+    }
 
-// Shifts the slot of key k out.
-fn slot_out(writer: &mut Writer<'_>, w: usize, n: Node, k: u64)
-    requires w_in_bounds { w + 32 ≤ length writer.old.table.now }
-    requires room { Room (slot_out w n k) (of writer.old) }
-    ensures { Makes (slot_out w n k) writer.old writer.new }
-{
-    let slots = n.slots;
-    let p = slots::place(slots, k);
-    let hidden = slots::pointer_before(slots, n.left, p);
-    put::<POINTER>(writer, w, p, hidden);
-    close_gap(writer, w, slots, p);
+    // Closes the gap at place p: the slots after it move one down, the first first, the key and then the pointer; the last pointer in use becomes 0.
+    fn close_gap(&self, writer: &mut Writer<'_>, p: usize)
+        requires { Room (gap_closed self.now p) (of writer.old) }
+        ensures { Makes (gap_closed self.now p) writer.old writer.new }
+    {
+        let last = slots::last(self.node.slots);
+        for i in p..last {
+            self.put::<KEY>(writer, i, self.node.slots[2 * i + 2]);
+            self.put::<POINTER>(writer, i, self.node.slots[2 * i + 3]);
+        }
+        self.put::<POINTER>(writer, last, 0);
+    }
+
+    // Shifts the slot of key k out.
+    fn slot_out(&self, writer: &mut Writer<'_>, k: u64)
+        requires { Room (slot_out self.now k) (of writer.old) }
+        ensures { Makes (slot_out self.now k) writer.old writer.new }
+    {
+        let Place { at, before: hidden } = self.place(k);
+        self.put::<POINTER>(writer, at, hidden);
+        self.close_gap(writer, at);
+    }
 }
 
 // ---- on a node of the table
@@ -111,10 +117,7 @@ pub fn shift_in(writer: &mut Writer<'_>, n: u64, k: u64, x: u64)
     requires room { Room (shift_in_at writer.old.table.now n k x) (of writer.old) }
     ensures { Makes (shift_in_at writer.old.table.now n k x) writer.old writer.new }
 {
-    let table = writer.table();
-    let w = node::start(table, n);
-    let read = node::read(table, n);
-    slot_in(writer, w, read, k, x);
+    Opened::new(writer, n).slot_in(writer, k, x);
 }
 
 // Shifts the slot of key k out of node n.
@@ -124,10 +127,7 @@ pub fn shift_out(writer: &mut Writer<'_>, n: u64, k: u64)
     requires room { Room (shift_out_at writer.old.table.now n k) (of writer.old) }
     ensures { Makes (shift_out_at writer.old.table.now n k) writer.old writer.new }
 {
-    let table = writer.table();
-    let w = node::start(table, n);
-    let read = node::read(table, n);
-    slot_out(writer, w, read, k);
+    Opened::new(writer, n).slot_out(writer, k);
 }
 
 // Gives the slot of key k in node n another class: its pointer := the one with that class.
@@ -139,13 +139,10 @@ pub fn set_class(writer: &mut Writer<'_>, n: u64, k: u64, access: u64)
     requires room { Room (set_class_at writer.old.table.now n k access) (of writer.old) }
     ensures { Makes (set_class_at writer.old.table.now n k access) writer.old writer.new }
 {
-    let table = writer.table();
-    let w = node::start(table, n);
-    let read = node::read(table, n);
-    let slots = read.slots;
-    let p = slots::place(slots, k);
-    let x = pointer::with_class(slots[2 * p + 1], access);
-    put::<POINTER>(writer, w, p, x);
+    let opened = Opened::new(writer, n);
+    let at = slots::place(opened.node.slots, k);
+    let x = pointer::with_class(opened.node.slots[2 * at + 1], access);
+    opened.put::<POINTER>(writer, at, x);
 }
 
 // Closes the hidden slot of node n.
@@ -154,13 +151,9 @@ pub fn close(writer: &mut Writer<'_>, n: u64)
     requires room { Room (close_at writer.old.table.now n) (of writer.old) }
     ensures { Makes (close_at writer.old.table.now n) writer.old writer.new }
 {
-    let table = writer.table();
-    let w = node::start(table, n);
-    let read = node::read(table, n);
-    let slots = read.slots;
-    let left = read.left;
-    let p = slots::hidden_place(slots, left);
-    close_gap(writer, w, slots, p);
+    let opened = Opened::new(writer, n);
+    let p = slots::hidden_place(opened.node.slots, opened.node.left);
+    opened.close_gap(writer, p);
 }
 
 // Stores 0 in the pointer of A's first slot from its sibling's fence up.
@@ -170,13 +163,10 @@ pub fn cut_off(writer: &mut Writer<'_>, a: u64)
     requires room { Room (cut_off writer.old.table.now a) (of writer.old) }
     ensures { Makes (cut_off writer.old.table.now a) writer.old writer.new }
 {
-    let table = writer.table();
-    let w = node::start(table, a);
-    let read = node::read(table, a);
-    let slots = read.slots;
-    let fence = node::word(table, read.sibling, 3);
-    let p = slots::place(slots, fence);
-    put::<POINTER>(writer, w, p, 0);
+    let opened = Opened::new(writer, a);
+    let fence = node::word(writer.table(), opened.node.sibling, 3);
+    let p = slots::place(opened.node.slots, fence);
+    opened.put::<POINTER>(writer, p, 0);
 }
 
 // Shifts B, the sibling of A, in at the parent p.
@@ -204,27 +194,12 @@ pub fn cut_attach(writer: &mut Writer<'_>, p: u64, a: u64)
     let table = writer.table();
     let b = node::word(table, a, 1);
     let fence = node::word(table, b, 3);
-    let w = node::start(table, p);
-    let parent = node::read(table, p);
+    let parent = Opened::new(writer, p);
     cut_off(writer, a);
-    slot_in(writer, w, parent, fence, b);
+    parent.slot_in(writer, fence, b);
 }
 
 // ---- a leaf freed
-
-// The child of p before its child x.
-fn child_before(table: &[u64], p: u64, x: u64) -> u64
-    requires p_value { has_node table.now p ≡ true }
-    requires p_value_2 { ((view table.now).node p).hidden ≡ 0 }
-    ensures { result ≡ child_before (view table.now) p x }
-{
-    let fence = node::word(table, x, 3);
-    let read = node::read(table, p);
-    let slots = read.slots;
-    let left = read.left;
-    let at = slots::place(slots, fence);
-    slots::pointer_before(slots, left, at)
-}
 
 // Shifts the slot of leaf x out at the parent p, then stores its sibling into its left neighbour's sibling word. Nothing is stored in x.
 pub fn free_leaf(writer: &mut Writer<'_>, p: u64, x: u64)
@@ -237,53 +212,39 @@ pub fn free_leaf(writer: &mut Writer<'_>, p: u64, x: u64)
     let table = writer.table();
     let fence = node::word(table, x, 3);
     let sibling = node::word(table, x, 1);
-    let neighbour = child_before(table, p, x);
-    let w = node::start(table, neighbour);
-    shift_out(writer, p, fence);
+    let parent = Opened::new(writer, p);
+    let neighbour = parent.place(fence).before;
+    let w = node::start(writer.table(), neighbour);
+    parent.slot_out(writer, fence);
     writer.store(w + 1, sibling);
 }
 
 // ---- split and new root
 
-// The 32 words of a node that takes the slots in use from slot `from` on; the rest is 0.
-fn node_words(
-    left: u64,
-    sibling: u64,
-    level: u64,
-    fence: u64,
-    slots: [u64; 24],
-    from: usize,
-) -> [u64; 32]
-    requires { from ≤ length (in_use_of slots) }
-    ensures { result ≡ node_words left sibling level fence (drop from (in_use_of slots)) }
+// The 32 words of B, where A was read as n: a leaf's upper slots from slot 5 on, an inner node's from slot 6 on; the rest is 0.
+fn upper_words(n: &Node) -> [u64; 32]
+    requires { 6 ≤ length (in_use_of n.now.slots) }
+    ensures { result ≡ upper_words n.now }
 {
+    let (left, from) = if n.level == 0 {
+        (MARK, 5)
+    } else {
+        (n.slots[11], 6)
+    };
     let mut words = [0u64; 32];
     words[0] = left;
-    words[1] = sibling;
-    words[2] = level;
-    words[3] = fence;
-    let used = &slots[2 * from..2 * slots::count(slots)];
+    words[1] = n.sibling;
+    words[2] = n.level;
+    words[3] = n.slots[10];
+    let used = &n.slots[2 * from..2 * slots::count(n.slots)];
     words[8..8 + used.len()].copy_from_slice(used);
     words
 }
 
-// The 32 words of B, where A was read as n: a leaf's upper slots from slot 5 on, an inner node's from slot 6 on.
-fn upper_words(n: Node) -> [u64; 32]
-    requires { 6 ≤ length (in_use_of n.slots) }
-    ensures { result ≡ upper_words n }
-{
-    let slots = n.slots;
-    if n.level == 0 {
-        return node_words(MARK, n.sibling, n.level, slots[10], slots, 5);
-    }
-    node_words(slots[11], n.sibling, n.level, slots[10], slots, 6)
-}
-
 // All 32 words of the node that begins at word w, in rising order.
-fn put_words(writer: &mut Writer<'_>, w: usize, words: [u64; 32])
-    requires w_in_bounds { w + 32 ≤ length writer.old.table.now }
-    requires room { Room (put_all w words) (of writer.old) }
-    ensures { Makes (put_all w words) writer.old writer.new }
+fn put_words(writer: &mut Writer<'_>, w: usize, words: &[u64; 32])
+    requires { Room (put_all w words.now) (of writer.old) }
+    ensures { Makes (put_all w words.now) writer.old writer.new }
 {
     for (j, &word) in words.iter().enumerate() {
         writer.store(w + j, word);
@@ -302,19 +263,13 @@ pub fn split(writer: &mut Writer<'_>, a: u64, b: u64, p: u64)
     requires room { Room (split writer.old.table.now a b p) (of writer.old) }
     ensures { Makes (split writer.old.table.now a b p) writer.old writer.new }
 {
-    let table = writer.table();
-    let w = node::start(table, a);
-    let full = node::read(table, a);
-    let upper = node::start(table, b);
-    let above = node::start(table, p);
-    let parent = node::read(table, p);
-    let slots = full.slots;
-    let key = slots[10];
-    let words = upper_words(full);
-    put_words(writer, upper, words);
-    writer.store(w + 1, b);
-    put::<POINTER>(writer, w, 5, 0);
-    slot_in(writer, above, parent, key, b);
+    let full = Opened::new(writer, a);
+    let upper = node::start(writer.table(), b);
+    let parent = Opened::new(writer, p);
+    put_words(writer, upper, &upper_words(&full.node));
+    writer.store(full.start + 1, b);
+    full.put::<POINTER>(writer, 5, 0);
+    parent.slot_in(writer, full.node.slots[10], b);
 }
 
 // A new root in node r, of the tree whose root stands in that header word: all its words, with left the old root, one level up; then the
@@ -333,6 +288,6 @@ pub fn new_root(writer: &mut Writer<'_>, word: usize, r: u64)
     let mut words = [0u64; 32];
     words[0] = root;
     words[2] = level + 1;
-    put_words(writer, w, words);
+    put_words(writer, w, &words);
     writer.store(word, r);
 }

@@ -1,45 +1,51 @@
--- A table held to a map, and the call of an action: from what the parts answered.
+-- The call of an action and the map after it, from the action that its number gives.
 use mathlib.Core.Path.{◌≡◌, refl}
-use mathlib.Core.Bool.{Bool, true, false, ◌&&◌}
-use mathlib.Core.List.{List}
-use Prim.Native.Nat.{ℕ, ◌+◌, ◌%◌, ◌≤◌, ◌<◌}
-use native.Mathlib.Numerals.{add-one}
-use borrow.Author.Tests.{lt-ltb, le-ltb}
-use Rattle.model.specs.Table.{Words}
-use Rattle.model.specs.Slots.{Slot}
-use Rattle.model.specs.Search.{lookup, search}
-use Rattle.model.specs.SoundTest.{all}
+use mathlib.Core.Bool.{Bool, true, false, cond}
+use Prim.Native.Nat.{ℕ, ◌+◌, ◌-◌, ◌%◌}
+use native.Mathlib.Omega.{arith}
+use lib.ListN.{set}
 use Rattle.model.specs.Writes.{insertion, deletion}
-use Rattle.model.specs.Scripts.{call_of, same_answer, agrees}
+use Rattle.model.specs.Scripts.{inserts, action_key, call_of}
+use Rattle.short_scripts.specs.Held.{Held, changed}
+use Rattle.short_scripts.specs.Actions.{action_of}
+use Rattle.short_scripts.specs.declared.Action.{Action}
+use Rattle.short_scripts.specs.declared.Action.TheVariants.{Insert, Delete}
 
--- ---- the three keys
+-- ---- the action's call, and the map after it
 
-abbrev answered : List Slot → Words → (k : ℕ) → Bool
-answered ps t k = same_answer (search 1 t k) (lookup k ps)
-
-module _ (ps : List Slot) (t : Words) where
-  pub first-fails : answered ps t 1 ≡ false → agrees ps t ≡ false
-  unfolding agrees all
-  first-fails e = rw e
-
-  pub second-fails : answered ps t 1 ≡ true → answered ps t 2 ≡ false → agrees ps t ≡ false
-  unfolding agrees all
-  second-fails e f = rw (e, f)
-
-  pub third-decides : answered ps t 1 ≡ true → answered ps t 2 ≡ true → agrees ps t ≡ answered ps t 3
-  unfolding agrees all
-  third-decides e f = rw (e, f) (go (answered ps t 3))
+module _ (n k : ℕ) (a : Action) (e : a ≡ action_of n) where
+  inserts-as : a ≡ Insert k → (inserts n ≡ true) × (k ≡ action_key n)
+  inserts-as f = go (inserts n) e
     where
-      go : (b : Bool) → b && true ≡ b
-      go true = refl
-      go false = refl
+      go : (t : Bool) → a ≡ cond t (Insert (action_key n)) (Delete (action_key n)) → (t ≡ true) × (k ≡ action_key n)
+      go true g = (refl, cc)
+      go false g = let z : ◌≡◌ {A = ℕ} 0 1 = cc in absurd (omega arith)
 
--- ---- the action's call
+  deletes-as : a ≡ Delete k → (inserts n ≡ false) × (k ≡ action_key n)
+  deletes-as f = go (inserts n) e
+    where
+      go : (t : Bool) → a ≡ cond t (Insert (action_key n)) (Delete (action_key n)) → (t ≡ false) × (k ≡ action_key n)
+      go true g = let z : ◌≡◌ {A = ℕ} 0 1 = cc in absurd (omega arith)
+      go false g = (refl, cc)
 
-pub call-inserts : (a : ℕ) → a < 3 → insertion 1 (a % 3 + 1) (10 + (a % 3 + 1)) 0 ≡ call_of a
-unfolding call_of
-call-inserts a h = rw (lt-ltb a 3 h, add-one (a % 3))
+  pub call-inserts : a ≡ Insert k → insertion 1 k (10 + k) 0 ≡ call_of n
+  unfolding call_of
+  call-inserts f = let u = inserts-as f in rw (u.0, u.1)
 
-pub call-deletes : (a : ℕ) → 3 ≤ a → deletion 1 (a % 3 + 1) ≡ call_of a
-unfolding call_of
-call-deletes a h = rw (le-ltb a 3 h, add-one (a % 3))
+  pub call-deletes : a ≡ Delete k → deletion 1 k ≡ call_of n
+  unfolding call_of
+  call-deletes f = let u = deletes-as f in rw (u.0, u.1)
+
+  pub change-inserts : (h : Held) → a ≡ Insert k → set h (k - 1) true ≡ changed h n
+  unfolding changed
+  change-inserts h f =
+      let u = inserts-as f in
+      let m : k - 1 ≡ n % 3 = omega (arith, u.1) in
+      rw (u.0, m)
+
+  pub change-deletes : (h : Held) → a ≡ Delete k → set h (k - 1) false ≡ changed h n
+  unfolding changed
+  change-deletes h f =
+      let u = deletes-as f in
+      let m : k - 1 ≡ n % 3 = omega (arith, u.1) in
+      rw (u.0, m)

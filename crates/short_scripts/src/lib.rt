@@ -14,7 +14,7 @@ ghost use Rattle.short_scripts.specs.Met.{is_bad, bad_among, Acts, Runs};
 
 use model::{Answer, Outcome, Ranked, Refusal, Written};
 
-// Which of the keys 1, 2 and 3 the map has, each with recording 10 plus the key and class 0.
+// Which of the keys 1, 2 and 3, each by its place, the map has, each with recording 10 plus the key and class 0.
 type Held = [bool; 3];
 
 // What was met: tables, and of these the bad ones, which agreed with the map neither before nor after the action.
@@ -22,6 +22,28 @@ type Held = [bool; 3];
 pub struct Met {
     pub tables: u64,
     pub bad: u64,
+}
+
+// An action of a script, with its key.
+#[derive(Clone, Copy)]
+enum Action {
+    Insert(u64),
+    Delete(u64),
+}
+
+impl From<u64> for Action {
+    ghost use Rattle.short_scripts.specs.Actions.{action_of};
+
+    ghost from_gives = { λ n a. a ≡ action_of n };
+
+    // Three insertions and then three deletions, of keys 1, 2 and 3. Any other number is that of a deletion, as in `call_of` of the model.
+    fn from(number: u64) -> Action {
+        let key = number % 3 + 1;
+        match number {
+            0..=2 => Action::Insert(key),
+            _ => Action::Delete(key),
+        }
+    }
 }
 
 // ---- a number's script
@@ -120,12 +142,7 @@ fn holds(held: Held, key: u64) -> bool
 fn next_of(held: Held, key: u64) -> Option<u64>
     ensures { result ≡ first_above key (pairs held) }
 {
-    for k in 1..4 {
-        if key < k && holds(held, k) {
-            return Some(k);
-        }
-    }
-    None
+    (1..4).find(|&k| key < k && holds(held, k))
 }
 
 // What a search for the key is to answer.
@@ -155,7 +172,7 @@ fn answers(table: &[u64], held: Held, key: u64) -> bool
 fn agrees(table: &[u64], held: Held) -> bool
     ensures { result ≡ agrees (pairs held) table.now }
 {
-    answers(table, held, 1) && answers(table, held, 2) && answers(table, held, 3)
+    (1..4).all(|key| answers(table, held, key))
 }
 
 // ---- what an action meets
@@ -195,11 +212,10 @@ fn call(table: &mut [u64; 136], list: &mut [u64; 2560], action: u64) -> Written
     ensures table_after { table.new ≡ table_after (call_of action) 2560 0 table.old }
     ensures list_after { list.new ≡ list_after (call_of action) list.old 0 table.old }
 {
-    let key = action % 3 + 1;
-    if action < 3 {
-        return insert::insert(table, list, 0, 1, key, 10 + key, 0);
+    match Action::from(action) {
+        Action::Insert(key) => insert::insert(table, list, 0, 1, key, 10 + key, 0),
+        Action::Delete(key) => delete::delete(table, list, 0, 1, key),
     }
-    delete::delete(table, list, 0, 1, key)
 }
 
 // The map after an accepted action.
@@ -207,7 +223,10 @@ fn change(held: Held, action: u64) -> Held
     ensures { result ≡ changed held action }
 {
     let mut next = held;
-    next[(action % 3) as usize] = action < 3;
+    match Action::from(action) {
+        Action::Insert(key) => next[(key - 1) as usize] = true,
+        Action::Delete(key) => next[(key - 1) as usize] = false,
+    }
     next
 }
 

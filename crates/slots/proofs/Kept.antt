@@ -10,7 +10,8 @@ use lib.Dec.{eqb, leb}
 use lib.ListN.{length, get_or, set, replicate}
 use lib.Seq.{get_or-set_same, get_or-set_other}
 use borrow.Author.Tests.{eqb-true, eqb-false, eq-eqb, ne_eqb}
-use Rattle.std.specs.Prelude.{Some, None}
+use Rattle.std.specs.Prelude.{unwrap_or, Some, None}
+use Rattle.std.proofs.Math.Option.{Option, none, some}
 use Rattle.model.specs.Table.{Words}
 use Rattle.model.specs.Slots.{Slot, slot, shown}
 use Rattle.model.specs.Search.{route, first_with, first_above}
@@ -19,7 +20,7 @@ use Rattle.list_laws.proofs.Tools.{first-here, first-past, above-here, above-pas
 use Rattle.list_laws.proofs.Members.{mem-each}
 use Rattle.list_laws.proofs.Filters.{filter-all}
 use Rattle.slots.specs.declared.Seen.{Seen}
-use Rattle.slots.specs.declared.Ways.{Ways}
+use Rattle.slots.specs.declared.ways.Ways.{Ways}
 use Rattle.slots.specs.Held.{pointer_in, held_by}
 use Rattle.slots.specs.Scan.{keeps, is_kept, kept_of, is_way, way_after, held_after}
 use Rattle.slots.specs.Gathered.{span, ways_from}
@@ -46,19 +47,10 @@ way-more key way before k p w ss h = go (eqb p before) (leb k key) refl refl h
 
 -- ---- the slot of a key
 
-pub found-none : (key before : ℕ) → held_by (first_with key (shown before [])) ≡ None
-unfolding first_with shown
-found-none key before = refl
-
-module _ (key before k p : ℕ) (ss : List Slot) where
-  pub found-here : (p ≡ before → ⊥) → k ≡ key → held_by (first_with key (shown before (slot k p ∷ ss))) ≡ Some p
-  found-here d q = ap (λ (x : List Slot). held_by (first_with key x)) (shown-show before (slot k p) ss d) ∙ ap held_by (first-here key (slot k p) (shown p ss) q)
-
-  pub found-later : (p ≡ before → ⊥) → (k ≡ key → ⊥) → held_by (first_with key (shown before (slot k p ∷ ss))) ≡ held_by (first_with key (shown p ss))
-  found-later d q = ap (λ (x : List Slot). held_by (first_with key x)) (shown-show before (slot k p) ss d) ∙ ap held_by (first-past key (slot k p) (shown p ss) q)
-
-  pub found-hidden : p ≡ before → held_by (first_with key (shown before (slot k p ∷ ss))) ≡ held_by (first_with key (shown p ss))
-  found-hidden d = ap (λ (x : List Slot). held_by (first_with key x)) (shown-hide before (slot k p) ss d)
+-- as its pointer, 0 for none
+pub found-pointer : (s : Option Slot) → unwrap_or (held_by s) 0 ≡ pointer_in s
+found-pointer none = refl
+found-pointer (some s) = refl
 
 -- ---- what shown slots tell of a key, after the way and the pointer so far
 
@@ -119,10 +111,6 @@ module _ (s b before k p : ℕ) where
 
     pub kept-passed : w ≡ false → kept_of s b (shown before (slot k p ∷ ss)) ≡ kept_of s b (shown p ss)
     kept-passed h = rw (kept-more ss, ← e, h)
-
-pub count-none : (count s b before : ℕ) → count + length (kept_of s b (shown before [])) ≡ count
-unfolding shown filter
-count-none count s b before = omega arith
 
 -- ---- the next key up
 

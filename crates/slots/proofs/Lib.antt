@@ -2,4 +2,5 @@
 pub mod Scans
 pub mod Places
 pub mod Kept
+pub mod Shows
 pub mod Surveys

@@ -99,9 +99,10 @@ unfolding last_pointer
 last-of-snoc left [] s = refl
 last-of-snoc left (x ∷ ss) s = last-of-snoc x.pointer ss s
 
-pub pointer-later : (left p : ℕ) (ws : Words) → p ≤ length (in_use_of ws) → (p ≡ 0 → ⊥) → at ws (2 * (p - 1) + 1) ≡ last_pointer left (take p (in_use_of ws))
+pub pointer-later : (left p : ℕ) (ws : Words) → p ≤ length (in_use_of ws) → (p ≡ 0 → ⊥) → at ws (2 * p - 1) ≡ last_pointer left (take p (in_use_of ws))
 pointer-later left p ws h z =
     let e : p ≡ suc (p - 1) = omega arith in
     let l : p - 1 < length (in_use_of ws) = omega arith in
-    sym (ap (λ (n : ℕ). last_pointer left (take n (in_use_of ws))) e ∙ ap (last_pointer left) (take-suc (in_use_of ws) (p - 1) (slot 0 0) l)
-    ∙ last-of-snoc left (take (p - 1) (in_use_of ws)) _ ∙ ap (λ (s : Slot). s.pointer) (in-use-at ws (p - 1) l))
+    let w : 2 * p - 1 ≡ 2 * (p - 1) + 1 = omega (arith, z) in
+    rw w (sym (ap (λ (n : ℕ). last_pointer left (take n (in_use_of ws))) e ∙ ap (last_pointer left) (take-suc (in_use_of ws) (p - 1) (slot 0 0) l)
+    ∙ last-of-snoc left (take (p - 1) (in_use_of ws)) _ ∙ ap (λ (s : Slot). s.pointer) (in-use-at ws (p - 1) l)))

@@ -3,7 +3,7 @@ use Rattle.std.specs.Prelude.{List, [], ◌∷◌, ℕ, zero, suc, ◌-◌, get_
 use Rattle.model.specs.Table.{Words}
 use Rattle.model.specs.Slots.{Slot, slot}
 use Rattle.model.specs.Reached.{pointers}
-use Rattle.slots.specs.declared.Ways.{Ways}
+use Rattle.slots.specs.declared.ways.Ways.{Ways}
 
 -- the slots i, i + 1 .. of two arrays, m of them
 unfoldable pub span : Words → Words → ℕ → ℕ → List Slot

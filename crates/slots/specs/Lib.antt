@@ -3,3 +3,4 @@ pub mod Scan
 pub mod Held
 pub mod Surveyed
 pub mod Gathered
+pub mod Shown

@@ -1,5 +1,5 @@
 -- A node's slots from one of them on, and what one slot in use does to a way down and to a count.
-use Rattle.std.specs.Prelude.{Bool, cond, not, ◌&&◌, ◌||◌, List, ℕ, eqb, leb, ltb, drop}
+use Rattle.std.specs.Prelude.{Bool, cond, not, ◌&&◌, ◌||◌, List, ℕ, ◌-◌, ◌*◌, eqb, leb, ltb, drop, get_or}
 use Rattle.model.specs.Table.{Words}
 use Rattle.model.specs.Slots.{Slot, slots_of, in_use, shown}
 use Rattle.model.specs.Reached.{filter}
@@ -11,6 +11,10 @@ used_from ws i = in_use (drop i (slots_of ws))
 -- all slots in use
 unfoldable pub in_use_of : Words → List Slot
 in_use_of ws = used_from ws 0
+
+-- the pointer before place p of slot words
+unfoldable pub pointer_before : (left : ℕ) → Words → ℕ → ℕ
+pointer_before left ws p = cond (eqb p 0) left (get_or ws (2 * p - 1) 0)
 
 -- the shown ones from slot i on, where p is the pointer before it
 abbrev pub shown_from : ℕ → Words → ℕ → List Slot

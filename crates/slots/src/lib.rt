@@ -5,12 +5,17 @@ ghost use Rattle.std.specs.Prelude.{◌≡◌, [], ◌∷◌, pred, ◌≤◌, �
 ghost use Rattle.model.specs.Slots.{slot};
 ghost use Rattle.model.specs.Search.{route, first_with, first_above};
 ghost use Rattle.model.specs.Shifts.{last_pointer, place_of, hidden_place};
-ghost use Rattle.slots.specs.Scan.{used_from, in_use_of, shown_from, keeps, kept_of, is_way, way_after, held_after};
+ghost use Rattle.slots.specs.Scan.{used_from, in_use_of, pointer_before, shown_from, keeps, kept_of, is_way, way_after, held_after};
 ghost use Rattle.slots.specs.Held.{pointer_in, held_by};
 ghost use Rattle.slots.specs.Surveyed.{first_low, reaches, still_fair, surveyed_slot, surveyed, begun};
 ghost use Rattle.slots.specs.Gathered.{slots_in};
 
+mod shown;
+mod ways;
+
 use model::Node;
+pub use shown::Shown;
+pub use ways::Ways;
 
 // ---- slots in use: places
 
@@ -50,7 +55,7 @@ pub fn place(slots: [u64; 24], k: u64) -> usize
     12
 }
 
-// The place of the first hidden slot.
+// The place of the first hidden slot. No `position`: each pointer is compared with the one before it.
 #[tactic(auto, unfolding(crate::specs::Scan::in_use_of))]
 pub fn hidden_place(slots: [u64; 24], left: u64) -> usize
     ensures value { result ≡ hidden_place left (in_use_of slots) }
@@ -67,15 +72,17 @@ pub fn hidden_place(slots: [u64; 24], left: u64) -> usize
     12
 }
 
-// The pointer before place p.
+// The pointer before place p; where slots are in use up to there, that of the last of them.
+#[tactic(auto, unfolding(crate::specs::Scan::pointer_before))]
 pub fn pointer_before(slots: [u64; 24], left: u64, p: usize) -> u64
-    requires { p ≤ length (in_use_of slots) }
-    ensures { result ≡ last_pointer left (take p (in_use_of slots)) }
+    requires { p ≤ 12 }
+    ensures value { result ≡ pointer_before left slots p }
+    ensures last { p ≤ length (in_use_of slots) → result ≡ last_pointer left (take p (in_use_of slots)) }
 {
     if p == 0 {
         return left;
     }
-    slots[2 * (p - 1) + 1]
+    slots[2 * p - 1]
 }
 
 // ---- shown slots: the way down, and the slot of a key
@@ -99,6 +106,7 @@ fn held_after(held: u64, before: u64, k: u64, p: u64, key: u64) -> u64
 }
 
 // What one look at a node's slots finds for a key: the way down, and the pointer of the first shown slot with the key, 0 for none.
+// 0, and no Option: as in a slot word, which it is. The look goes on to a search's answer as it is, and is taken apart there once.
 #[derive(Clone, Copy)]
 pub struct Seen {
     pub way: u64,
@@ -107,6 +115,7 @@ pub struct Seen {
 
 // For an inner node and for a leaf: the way down is by the last shown slot whose key is at most the key, else by left. None is in use from
 // slot end on: 12 will do, and then the compiler makes a copy for the caller, with no loop and no slot loaded before it is looked at.
+// It keeps the pointer before by itself: each search runs through it, and `Shown` here costs searches instructions.
 pub fn scan(slots: [u64; 24], left: u64, key: u64, end: usize) -> Seen
     requires end_bound { end ≤ 12 }
     requires end_value { used_from slots end ≡ [] }
@@ -133,18 +142,9 @@ pub fn scan(slots: [u64; 24], left: u64, key: u64, end: usize) -> Seen
 pub fn find(slots: [u64; 24], left: u64, key: u64) -> Option<u64>
     ensures { result ≡ held_by (first_with key (shown_from left slots 0)) }
 {
-    let mut before = left;
-    for i in 0..12 {
-        let p = slots[2 * i + 1];
-        if p == 0 {
-            return None;
-        }
-        if p != before && slots[2 * i] == key {
-            return Some(p);
-        }
-        before = p;
-    }
-    None
+    Shown::new(&slots, left)
+        .find(|&(k, _)| k == key)
+        .map(|(_, pointer)| pointer)
 }
 
 // ---- kept slots: their number, the next key up, and the ways down
@@ -170,19 +170,9 @@ pub fn is_way(sibling: u64, bound: u64, before: u64, key: u64, pointer: u64) -> 
 pub fn kept_count(slots: [u64; 24], left: u64, sibling: u64, bound: u64) -> u64
     ensures { result ≡ length (kept_of sibling bound (shown_from left slots 0)) }
 {
-    let mut count = 0;
-    let mut before = left;
-    for i in 0..12 {
-        let p = slots[2 * i + 1];
-        if p == 0 {
-            return count;
-        }
-        if is_way(sibling, bound, before, slots[2 * i], p) {
-            count += 1;
-        }
-        before = p;
-    }
-    count
+    Shown::new(&slots, left)
+        .filter(|&(key, _)| keeps(sibling, bound, key))
+        .count() as u64
 }
 
 // How many of a node's slots are shown.
@@ -193,6 +183,7 @@ pub fn shown_count(slots: [u64; 24], left: u64) -> u64
 }
 
 // The first key above the key among a leaf's kept slots, the bound being the sibling's fence.
+// Tried as a chain over `Shown`: a search that misses took a tenth more instructions.
 pub fn above(slots: [u64; 24], left: u64, sibling: u64, bound: u64, key: u64) -> Option<u64>
     ensures { result ≡ first_above key (kept_of sibling bound (shown_from left slots 0)) }
 {
@@ -213,19 +204,9 @@ pub fn above(slots: [u64; 24], left: u64, sibling: u64, bound: u64, key: u64) ->
     None
 }
 
-// The ways down from a node: left, with the node's fence as key, then its kept slots.
-// The pointers are an array of their own: callers lend a part of them on as a slice.
-#[derive(Clone, Copy)]
-pub struct Ways {
-    pub count: usize,
-    pub keys: [u64; 13],
-    pub pointers: [u64; 13],
-}
-
-// The ways down from a node whose sibling's fence is the bound.
+// The ways down from a node whose sibling's fence is the bound. Tried over `Shown`: a check took 3 in a hundred more instructions.
 pub fn gather(x: Node, bound: u64) -> Ways
-    ensures result_value { slots_in result ≡ slot x.fence x.left ∷ kept_of x.sibling bound (shown_from x.left x.slots 0) }
-    ensures count_bound { result.count ≤ 13 }
+    ensures { slots_in result ≡ slot x.fence x.left ∷ kept_of x.sibling bound (shown_from x.left x.slots 0) }
 {
     let slots = x.slots;
     let mut keys = [0u64; 13];
@@ -267,7 +248,7 @@ pub enum Low {
     Above(u64),
 }
 
-// What is known after some of a node's slots in use: whether the kept ones rise and come first; whether some are not kept; which keys
+// What is known after some of a node's slots in use, each fact by itself: whether the kept ones rise and come first; whether some are not kept; which keys
 // the next kept one may have; the pointer before it; how many are hidden.
 #[derive(Clone, Copy)]
 pub struct Survey {
@@ -336,6 +317,7 @@ fn survey_slot(s: Survey, sibling: u64, bound: u64, key: u64, pointer: u64) -> S
 }
 
 // All slots in use of a node whose sibling's fence is the bound; in an inner node the keys must be above its fence.
+// No `Shown`: the hidden ones count too.
 pub fn survey_slots(x: Node, bound: u64) -> Survey
     ensures { result ≡ surveyed x.sibling bound (used_from x.slots 0) (begun x) }
 {

@@ -25,7 +25,7 @@ use Rattle.walk_laws.proofs.Sums.{joint}
 use Rattle.walk_laws.proofs.Run.{visits, check-fold, fold-unsound, visit-yes, visit-unfit, visit-over, met}
 use Rattle.walk_laws.proofs.Local.{visits-yes, visits-no}
 use Rattle.walk_laws.proofs.AnyRoot.{any-check}
-use Rattle.slots.specs.declared.Ways.{Ways}
+use Rattle.slots.specs.declared.ways.Ways.{Ways}
 use Rattle.slots.specs.Gathered.{span, slots_in, ways_from, pointers_from}
 use Rattle.sound.specs.Nodes.{standing, look_of, noted, slot_checked}
 use Rattle.slots.proofs.Kept.{ways-end, ways-next}

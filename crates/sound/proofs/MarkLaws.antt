@@ -24,7 +24,7 @@ use Rattle.node.proofs.WordLaws.{word-sibling, word-level}
 use Rattle.walk_laws.specs.Walk.{stands, ways, Tally, walk}
 use Rattle.walk_laws.proofs.Sums.{Monoid, sum, depth_first, sum-depth-first}
 use Rattle.walk_laws.proofs.WalkLaw.{InOrder, in-order-iff, top-level, walk-iff}
-use Rattle.slots.specs.declared.Ways.{Ways}
+use Rattle.slots.specs.declared.ways.Ways.{Ways}
 use Rattle.slots.specs.Gathered.{span, slots_in, ways_from, pointers_from}
 use Rattle.slots.proofs.Kept.{ways-end, ways-next}
 use Rattle.bits.specs.Bits.{has, put}
@@ -54,7 +54,7 @@ adds-put ws n l x =
 -- ---- a node
 
 -- a node that stands somewhere has a bit
-pub stands-low : (t ws : Words) (n l k r : ℕ) → header_ok t ≡ true → length ws ≡ 1025 → (b : Bool) → b ≡ stands (view t) (standing n l k r) → b ≡ true → n < 64 * length ws
+pub stands-low : (t ws : Words) (n l k r : ℕ) → header_ok t ≡ true → length ws ≡ 1024 → (b : Bool) → b ≡ stands (view t) (standing n l k r) → b ≡ true → n < 64 * length ws
 unfolding stands
 stands-low t ws n l k r h e b q y =
     let range = ((range-iff (nodes t) n).0 ((and-iff (in_range (nodes t) n) _).0 (sym q ∙ y)).0).1 in

@@ -4,14 +4,13 @@ use mathlib.Core.Path.{◌≡◌, refl, ap, sym, ◌∙◌}
 use mathlib.Core.Bool.{Bool, true, false, cond, ◌&&◌, ◌||◌, false≢true}
 use mathlib.Core.Logic.{◌↔◌, ◌≢◌}
 use mathlib.Core.List.{List, [], ◌∷◌, map}
-use Prim.Native.Nat.{ℕ, zero, suc, ◌+◌, ◌/◌, ◌%◌, ◌^◌, ◌≤◌, ◌<◌}
+use Prim.Native.Nat.{ℕ, zero, suc, ◌+◌, ◌≤◌, ◌<◌}
 use native.Mathlib.Omega.{arith}
 use lib.Dec.{eqb}
-use lib.ListN.{length, set, replicate}
-use lib.Seq.{get_or-set_same, get_or-set_other}
+use lib.ListN.{replicate}
 use mathlib.Core.Option.{some}
 use borrow.Author.Tests.{eqb-true, eqb-false, eq-eqb, ne_eqb}
-use Rattle.std.specs.Prelude.{Some}
+use Rattle.std.specs.Prelude.{Option, Some}
 use Rattle.model.specs.declared.Unfinished.{Unfinished}
 use Rattle.model.specs.declared.Visited.{Visited}
 use Rattle.model.specs.Table.{Words, root, header_ok}
@@ -23,7 +22,6 @@ use Rattle.model.specs.Writes.{numbers}
 use Rattle.list_laws.proofs.Tools.{same-test, Each, Each-append, Each-map}
 use Rattle.list_laws.proofs.Members.{mem-each, each-elem}
 use Rattle.list_laws.proofs.Counts.{numbers-each}
-use Rattle.table_laws.proofs.Header.{header-iff}
 use Rattle.tree_laws.proofs.Leftovers.{Left, leftover-iff}
 use Rattle.list_laws.proofs.Distinct.{distinct-cons, UpTo}
 use Rattle.tree_laws.proofs.Rows.{At, range-iff}
@@ -34,7 +32,8 @@ use Rattle.walk_laws.proofs.Sums.{Monoid, sum, tests, unit-right, sum-append, su
 use Rattle.walk_laws.proofs.WalkLaw.{InOrder, top-level, in-order-once, walk-iff}
 use Rattle.bits.specs.Bits.{has}
 use Rattle.bits.proofs.Marks.{none-marked}
-use Rattle.recordings.specs.Marked.{MARKS, UNCUT, uncut, own, marked_pairs}
+use Rattle.recordings.specs.declared.Marks.{Marks}
+use Rattle.recordings.specs.Marked.{is_one, own, marked_pairs}
 use Rattle.sound.specs.Visited.{Adds}
 use Rattle.sound.specs.Checked.{uncut_in}
 use Rattle.sound.proofs.MarkLaws.{seen-order}
@@ -136,20 +135,20 @@ module _ {M : Type 0} (m : Monoid M) (g : Slot → M) (v : View) where
       ∙ leaves-sum d (flat (children v) ns) (level-lower v d ns l)
 
   -- The marks are those of the reached nodes, and every one of these but the uncut one keeps all that it shows.
-  module _ (marks : Words) (marked : (n : ℕ) → n ≤ v.nodes → has marks n ≡ elem n (reached v))
-      (keeps : (n : ℕ) → elem n (reached v) ≡ true → uncut marks ≢ n → kept v n ≡ (v.node n).shown) where
-    chosen : (n : ℕ) → elem n (reached v) ≡ true → cond (eqb n (uncut marks)) (kept v n) (v.node n).shown ≡ kept v n
-    chosen n e = go (eqb n (uncut marks)) refl
+  module _ (marks : Marks) (marked : (n : ℕ) → n ≤ v.nodes → has marks.bits n ≡ elem n (reached v))
+      (keeps : (n : ℕ) → elem n (reached v) ≡ true → is_one marks.uncut n ≡ false → kept v n ≡ (v.node n).shown) where
+    chosen : (n : ℕ) → elem n (reached v) ≡ true → cond (is_one marks.uncut n) (kept v n) (v.node n).shown ≡ kept v n
+    chosen n e = go (is_one marks.uncut n) refl
       where
-        go : (b : Bool) → eqb n (uncut marks) ≡ b → cond b (kept v n) (v.node n).shown ≡ kept v n
+        go : (b : Bool) → is_one marks.uncut n ≡ b → cond b (kept v n) (v.node n).shown ≡ kept v n
         go true c = refl
-        go false c = sym (keeps n e (λ q. eqb-false n (uncut marks) c (sym q)))
+        go false c = sym (keeps n e c)
 
     own-sum : (n : ℕ) → n ≤ v.nodes → sum m g (own v marks n) ≡ taken m (elem n (reached v)) (of_leaf n)
     unfolding own
-    own-sum n l = go (has marks n) (eqb (v.node n).level 0) refl
+    own-sum n l = go (has marks.bits n) (eqb (v.node n).level 0) refl
       where
-        go : (a b : Bool) → has marks n ≡ a → sum m g (cond (a && b) (cond (eqb n (uncut marks)) (kept v n) (v.node n).shown) []) ≡ taken m (elem n (reached v)) (taken m b (sum m g (kept v n)))
+        go : (a b : Bool) → has marks.bits n ≡ a → sum m g (cond (a && b) (cond (is_one marks.uncut n) (kept v n) (v.node n).shown) []) ≡ taken m (elem n (reached v)) (taken m b (sum m g (kept v n)))
         go true true c =
             let e : elem n (reached v) ≡ true = sym (marked n l) ∙ c in
             ap (sum m g) (chosen n e) ∙ sym (ap (λ (x : Bool). taken m x (sum m g (kept v n))) e)
@@ -214,19 +213,14 @@ distinct-same ss us e =
       λ d. (distinct-times ss).1 (λ x. omega (arith, e x, (distinct-times us).0 d x)),
     )
 
--- ---- the marks that a walk made, and the word after them
-
--- a mark below that word
-still-marked : (marks : Words) (x n : ℕ) → n < 65536 → has (set marks UNCUT x) n ≡ has marks n
-unfolding has
-still-marked marks x n l = ap (λ (w : ℕ). eqb (w / 2 ^ (n % 64) % 2) 1) (get_or-set_other marks UNCUT (n / 64) x 0 (λ e. omega arith))
+-- ---- the marks that a walk made, and the node that is cut
 
 -- where this is left, every reached node but the uncut one keeps all that it shows
-left-keeps : (v : View) (x : Leftover) → Left v x → (n : ℕ) → elem n (reached v) ≡ true → uncut_in x ≢ n → kept v n ≡ (v.node n).shown
+left-keeps : (v : View) (x : Leftover) → Left v x → (n : ℕ) → elem n (reached v) ≡ true → is_one (uncut_in x) n ≡ false → kept v n ≡ (v.node n).shown
 left-keeps v nothing h n e z = each-elem (λ (i : ℕ). kept v i ≡ (v.node i).shown) n (reached v) e h.1
 left-keeps v (hidden_in y) h n e z = each-elem (λ (i : ℕ). kept v i ≡ (v.node i).shown) n (reached v) e h.1
 left-keeps v (missing_in p a false) h n e z = each-elem (λ (i : ℕ). kept v i ≡ (v.node i).shown) n (reached v) e h.1
-left-keeps v (missing_in p a true) h n e z = each-elem (λ (i : ℕ). i ≢ a → kept v i ≡ (v.node i).shown) n (reached v) e h.1.others (λ y. z (sym y))
+left-keeps v (missing_in p a true) h n e z = each-elem (λ (i : ℕ). i ≢ a → kept v i ≡ (v.node i).shown) n (reached v) e h.1.others (λ y. eqb-false a n z (sym y))
 left-keeps v (both_in p a) h n e z = each-elem (λ (i : ℕ). kept v i ≡ (v.node i).shown) n (reached v) e h.1
 
 left-is : (v : View) (u : Unfinished) (x : Leftover) → u ≡ unfinished v → leftover_of u ≡ some x → leftover v ≡ some x
@@ -235,12 +229,12 @@ left-is v u x e l = ap leftover_of (sym e) ∙ l
 
 -- as the check meets it
 
-any-marked : (t : Words) (r q : ℕ) (marks : Words) → marked_pairs (view_from t r) marks ≡ marked_pairs (view_from t q) marks
+any-marked : (t : Words) (r q : ℕ) (marks : Marks) → marked_pairs (view_from t r) marks ≡ marked_pairs (view_from t q) marks
 unfolding marked_pairs own kept below
 any-marked t r q marks = refl
 
-module _ (v : View) (marks : Words) (marked : (n : ℕ) → n ≤ v.nodes → has marks n ≡ elem n (reached v))
-    (keeps : (n : ℕ) → elem n (reached v) ≡ true → uncut marks ≢ n → kept v n ≡ (v.node n).shown) (o : InOrder v) where
+module _ (v : View) (marks : Marks) (marked : (n : ℕ) → n ≤ v.nodes → has marks.bits n ≡ elem n (reached v))
+    (keeps : (n : ℕ) → elem n (reached v) ≡ true → is_one marks.uncut n ≡ false → kept v n ≡ (v.node n).shown) (o : InOrder v) where
   -- The recordings of the leaves among the nodes that a walk marked are right exactly if the map's are.
   pub marked-right : recordings_ok (marked_pairs v marks) ≡ recordings_ok (mapping v)
   unfolding recordings_ok
@@ -252,18 +246,15 @@ module _ (v : View) (marks : Words) (marked : (n : ℕ) → n ≤ v.nodes → ha
       ap (λ (b : Bool). b && distinct (map recording (marked_pairs v marks))) ranges ∙ ap (λ (b : Bool). all pair_ok (mapping v) && b) once
 
 -- a walk was not refused, and marked what it reached: the marked leaves tell of the map
-pub walk-right : (t : Words) (r n : ℕ) (s : Visited) (marks : Words) (y : ℕ) (x : Leftover) → header_ok t ≡ true → length marks ≡ MARKS → Some s ≡ walk (view_from t r)
-    → Adds (reached (view_from t r)) (replicate n 0) marks → leftover_of s.unfinished ≡ some x → y ≡ uncut_in x
-    → (b : Bool) → b ≡ recordings_ok (marked_pairs (view t) (set marks UNCUT y)) → b ≡ recordings_ok (mapping (view_from t r))
-walk-right t r n s marks y x hd len e a l w b g =
+pub walk-right : (t : Words) (r n : ℕ) (s : Visited) (marks : Marks) (x : Leftover) → header_ok t ≡ true → Some s ≡ walk (view_from t r)
+    → Adds (reached (view_from t r)) (replicate n 0) marks.bits → leftover_of s.unfinished ≡ some x → marks.uncut ≡ uncut_in x
+    → (b : Bool) → b ≡ recordings_ok (marked_pairs (view t) marks) → b ≡ recordings_ok (mapping (view_from t r))
+walk-right t r n s marks x hd e a l w b g =
     let v = view_from t r in
     let o = seen-order v (Some s) e tt in
     let p = (walk-iff v s.count s.unfinished).0 (sym e) in
-    let few = ((header-iff t).0 hd).size.few in
     let is-left = left-is v s.unfinished x p.unfinished-is l in
-    let after = set marks UNCUT y in
-    let at : uncut after ≡ uncut_in x = get_or-set_same marks UNCUT y 0 (omega (arith, len)) ∙ w in
-    let marked : (i : ℕ) → i ≤ v.nodes → has after i ≡ elem i (reached v) = λ i k.
-    still-marked marks y i (omega (arith, few)) ∙ a i ∙ ap (λ (z : Bool). z || elem i (reached v)) (none-marked n i) in
-    let keeps : (i : ℕ) → elem i (reached v) ≡ true → uncut after ≢ i → kept v i ≡ (v.node i).shown = λ i k z. left-keeps v x ((leftover-iff v p.once x).0 is-left) i k (λ d. z (at ∙ d)) in
-    g ∙ ap recordings_ok (any-marked t (root t) r after) ∙ marked-right v after marked keeps o
+    let marked : (i : ℕ) → i ≤ v.nodes → has marks.bits i ≡ elem i (reached v) = λ i k. a i ∙ ap (λ (z : Bool). z || elem i (reached v)) (none-marked n i) in
+    let keeps : (i : ℕ) → elem i (reached v) ≡ true → is_one marks.uncut i ≡ false → kept v i ≡ (v.node i).shown = λ i k z.
+    left-keeps v x ((leftover-iff v p.once x).0 is-left) i k (sym (ap (λ (u : Option ℕ). is_one u i) w) ∙ z) in
+    g ∙ ap recordings_ok (any-marked t (root t) r marks) ∙ marked-right v marks marked keeps o

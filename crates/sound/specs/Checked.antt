@@ -27,12 +27,12 @@ abbrev pub verdict_of : Option model.Leftover → rust.Option Leftover
 verdict_of none = None
 verdict_of (some x) = Some (said x)
 
--- the node that shows slots from its sibling's fence up; 0 if none does
-abbrev pub uncut_in : model.Leftover → ℕ
-uncut_in model.nothing = 0
-uncut_in (model.hidden_in x) = 0
-uncut_in (model.missing_in p a trailing) = cond trailing a 0
-uncut_in (model.both_in p a) = 0
+-- the node that shows slots from its sibling's fence up, if one does
+abbrev pub uncut_in : model.Leftover → rust.Option ℕ
+uncut_in model.nothing = None
+uncut_in (model.hidden_in x) = None
+uncut_in (model.missing_in p a trailing) = cond trailing (Some a) None
+uncut_in (model.both_in p a) = None
 
 -- what a check answers: the leftover and the number of nodes reached, if it is sound
 abbrev pub Checked : Type 0

@@ -1,5 +1,5 @@
 -- What is seen of one node, and what is noted on the way to another.
-use Rattle.std.specs.Prelude.{Bool, cond, ◌&&◌, Option, None, Some, [], ◌∷◌, ℕ, eqb}
+use Rattle.std.specs.Prelude.{Bool, cond, not, ◌||◌, Option, None, Some, [], ◌∷◌, ℕ, eqb}
 use Rattle.model.specs.Table.{MARK}
 use Rattle.model.specs.Slots.{slot, View}
 use Rattle.model.specs.SoundTest.{finished, together, missing_at, own}
@@ -11,8 +11,8 @@ abbrev pub standing : ℕ → ℕ → ℕ → ℕ → Visit
 standing n level fence right = record { node = n; level = level; fence = fence; right = right; way = finished }
 
 -- a leaf's left is MARK
-unfoldable pub leaf_fair : Bool → ℕ → ℕ → Bool
-leaf_fair fair level left = cond (eqb level 0) (eqb left MARK && fair) fair
+abbrev pub left_ok : (level left : ℕ) → Bool
+left_ok level left = not (eqb level 0) || eqb left MARK
 
 -- what is unfinished in n, if it is in order without its children
 unfoldable pub look_of : View → ℕ → Option Unfinished

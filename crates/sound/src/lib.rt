@@ -1,26 +1,26 @@
 // The check of a whole table: whether it is sound, what is left over, how many nodes are reached.
 #![tactic(auto)]
 
-ghost use Rattle.std.specs.Prelude.{◌≡◌, true, cond, ◌&&◌, Some, ◌≤◌};
+ghost use Rattle.std.specs.Prelude.{◌≡◌, true, ◌&&◌, Some};
 ghost use Rattle.std.proofs.Math.Option.{some};
 ghost use Rattle.model.specs.Table.{header_ok, has_node};
 ghost use Rattle.model.specs.Slots.{view, view_from, clear_in};
 ghost use Rattle.model.specs.Reached.{head_or, next_child, reached};
-ghost use Rattle.model.specs.SoundTest.{sibling_ok, add_few, add_missing, together, times, leftover_of, leftover_from, room, has_room, is_nothing, sound};
+ghost use Rattle.model.specs.SoundTest.{sibling_ok, add_few, together, times, leftover_of, room, has_room, is_nothing, sound};
 ghost use Rattle.walk_laws.specs.Walk.{stands, check, walk};
 ghost use Rattle.slots.specs.Gathered.{pointers_from};
-ghost use Rattle.sound.specs.Nodes.{standing, leaf_fair, look_of, noted, slot_checked};
+ghost use Rattle.sound.specs.Nodes.{standing, left_ok, look_of, noted, slot_checked};
 ghost use Rattle.sound.specs.Visited.{visited, slot_visited, Adds, Seen};
 ghost use Rattle.sound.specs.Checked.{meant, verdict_of, uncut_in, checked_tree, joined, checked};
 
-use model::{Few, MARK, Missing, Unfinished, Visited};
-use recordings::{MARKS, UNCUT};
+use model::{Few, MARK, MissingSlot, Unfinished, Visited};
+use recordings::{MARKS, Marks};
 use slots::Ways;
 
 // ---- one node
 
 // Node n, so many times.
-fn times(n: u64, k: u64) -> Few
+fn times(n: u64, k: u64) -> Few<u64>
     ensures { result ≡ times n k }
 {
     match k {
@@ -28,13 +28,6 @@ fn times(n: u64, k: u64) -> Few
         1 => Few::One(n),
         _ => Few::Many,
     }
-}
-
-// Node n, if something was found in it.
-fn if_found(n: u64, found: bool) -> Few
-    ensures { result ≡ cond found (Few.One n) Few.Zero }
-{
-    if found { Few::One(n) } else { Few::Zero }
 }
 
 // Words 4 to 7 and slot 11's pointer are 0.
@@ -57,21 +50,13 @@ fn sibling_ok(table: &[u64], n: u64) -> bool
             && node::word(table, n, 3) < node::word(table, s, 3)
 }
 
-// A leaf's left is MARK.
-#[tactic(auto, unfolding(crate::specs::Nodes::leaf_fair))]
-fn leaf_fair(fair: bool, level: u64, left: u64) -> bool
-    ensures { result ≡ leaf_fair fair level left }
-{
-    fair && (level != 0 || left == MARK)
-}
-
-// Whether node n is in order without its children, where fair says that its kept slots rise and come first.
-fn in_order(table: &[u64], n: u64, fair: bool, level: u64, left: u64) -> bool
+// Whether node n is in order but for its slots and its children. A leaf's left is MARK.
+fn in_order(table: &[u64], n: u64, level: u64, left: u64) -> bool
     requires table_value { header_ok table.now ≡ true }
     requires n_value { has_node table.now n ≡ true }
-    ensures { result ≡ (clear_in table.now n && (sibling_ok (view table.now) n && leaf_fair fair level left)) }
+    ensures { result ≡ (clear_in table.now n && (sibling_ok (view table.now) n && left_ok level left)) }
 {
-    clear(table, n) && sibling_ok(table, n) && leaf_fair(fair, level, left)
+    clear(table, n) && sibling_ok(table, n) && (level != 0 || left == MARK)
 }
 
 // What is unfinished in node n without its children, if it is in order.
@@ -83,13 +68,16 @@ fn look_at(table: &[u64], n: u64) -> Option<Unfinished>
     let x = node::read(table, n);
     let bound = node::word(table, x.sibling, 3);
     let s = slots::survey_slots(x, bound);
-    if !in_order(table, n, s.fair, x.level, x.left) {
+    if !s.fair {
+        return None;
+    }
+    if !in_order(table, n, x.level, x.left) {
         return None;
     }
     Some(Unfinished {
         hidden: times(n, s.hidden),
-        trailing: if_found(n, s.trailing),
-        missing: Missing::Nowhere,
+        trailing: times(n, u64::from(s.trailing)),
+        missing: Few::Zero,
     })
 }
 
@@ -114,8 +102,8 @@ fn stands(table: &[u64], n: u64, level: u64, fence: u64, right: u64) -> bool
 
 // ---- what is unfinished
 
-// The sums of what is unfinished: none, one, or more than one, of each of the two enums of the model.
-fn add_few(a: Few, b: Few) -> Few
+// The sum of two: none, one, or more than one.
+fn add_few<T: Copy>(a: Few<T>, b: Few<T>) -> Few<T>
     ensures { result ≡ add_few a b }
 {
     match (a, b) {
@@ -125,23 +113,13 @@ fn add_few(a: Few, b: Few) -> Few
     }
 }
 
-fn add_missing(a: Missing, b: Missing) -> Missing
-    ensures { result ≡ add_missing a b }
-{
-    match (a, b) {
-        (Missing::Nowhere, _) => b,
-        (_, Missing::Nowhere) => a,
-        _ => Missing::Several,
-    }
-}
-
 fn together(a: Unfinished, b: Unfinished) -> Unfinished
     ensures { result ≡ together a b }
 {
     Unfinished {
         hidden: add_few(a.hidden, b.hidden),
         trailing: add_few(a.trailing, b.trailing),
-        missing: add_missing(a.missing, b.missing),
+        missing: add_few(a.missing, b.missing),
     }
 }
 
@@ -152,10 +130,10 @@ fn note(seen: Visited, parent: u64, child: u64) -> Visited
     let lack = Unfinished {
         hidden: Few::Zero,
         trailing: Few::Zero,
-        missing: Missing::Under {
+        missing: Few::One(MissingSlot {
             parent,
             node: child,
-        },
+        }),
     };
     Visited {
         unfinished: together(seen.unfinished, lack),
@@ -167,7 +145,6 @@ fn note(seen: Visited, parent: u64, child: u64) -> Visited
 
 // The pointer of way i, or the next after the last one.
 fn pointer_from(w: Ways, i: usize, next: u64) -> u64
-    requires { w.count ≤ 13 }
     ensures { result ≡ head_or next (pointers_from w i) }
 {
     if w.count <= i {
@@ -265,7 +242,7 @@ fn walk(table: &[u64], root: u64, marks: &mut [u64; MARKS]) -> Option<Visited>
         unfinished: Unfinished {
             hidden: Few::Zero,
             trailing: Few::Zero,
-            missing: Missing::Nowhere,
+            missing: Few::Zero,
         },
     };
     check_node(table, root, top, 0, 0, start, marks)
@@ -274,7 +251,8 @@ fn walk(table: &[u64], root: u64, marks: &mut [u64; MARKS]) -> Option<Visited>
 // ---- the leftover, and the whole check
 
 // What a sound table has left: nothing; a hidden slot in a node; a node whose sibling lacks its slot in the parent, and whether it still
-// shows slots from that sibling's fence up; such a node, and a hidden slot in the parent.
+// shows slots from that sibling's fence up; such a node, and a hidden slot in the parent. Four cases, and each match
+// names them all: no Option of three.
 #[derive(Clone, Copy)]
 pub enum Leftover {
     Nothing,
@@ -297,55 +275,31 @@ pub struct Sound {
     pub reached: u64,
 }
 
-// The leftover if nothing is hidden and nothing trails.
-fn missing_alone(missing: Missing) -> Option<Leftover>
-    ensures { result ≡ verdict_of (leftover_from Few.Zero Few.Zero missing) }
-{
-    match missing {
-        Missing::Nowhere => Some(Leftover::Nothing),
-        Missing::Under { parent, node } => Some(Leftover::MissingIn {
-            parent,
-            node,
-            trailing: false,
-        }),
-        Missing::Several => None,
-    }
-}
-
-// The leftover if node x shows slots from its sibling's fence up.
-fn with_trailing(x: u64, missing: Missing) -> Option<Leftover>
-    ensures { result ≡ verdict_of (leftover_from Few.Zero (Few.One x) missing) }
-{
-    match missing {
-        Missing::Under { parent, node } if x == node => Some(Leftover::MissingIn {
-            parent,
-            node,
-            trailing: true,
-        }),
-        _ => None,
-    }
-}
-
-// The leftover if node q has a hidden slot.
-fn with_hidden(q: u64, missing: Missing) -> Option<Leftover>
-    ensures { result ≡ verdict_of (leftover_from (Few.One q) Few.Zero missing) }
-{
-    match missing {
-        Missing::Nowhere => Some(Leftover::HiddenIn(q)),
-        Missing::Under { parent, node } if q == parent => Some(Leftover::BothIn { parent, node }),
-        _ => None,
-    }
-}
-
 // The leftover that what is unfinished amounts to, if it is one.
 #[tactic(auto, unfolding(model::specs::SoundTest::leftover_of))]
 fn judge(u: Unfinished) -> Option<Leftover>
     ensures { result ≡ verdict_of (leftover_of u) }
 {
-    match (u.hidden, u.trailing) {
-        (Few::Zero, Few::Zero) => missing_alone(u.missing),
-        (Few::Zero, Few::One(x)) => with_trailing(x, u.missing),
-        (Few::One(q), Few::Zero) => with_hidden(q, u.missing),
+    match (u.hidden, u.trailing, u.missing) {
+        (Few::Zero, Few::Zero, Few::Zero) => Some(Leftover::Nothing),
+        (Few::Zero, Few::Zero, Few::One(MissingSlot { parent, node })) => Some(
+            Leftover::MissingIn {
+                parent,
+                node,
+                trailing: false,
+            },
+        ),
+        (Few::Zero, Few::One(x), Few::One(MissingSlot { parent, node })) if x == node => Some(
+            Leftover::MissingIn {
+                parent,
+                node,
+                trailing: true,
+            },
+        ),
+        (Few::One(q), Few::Zero, Few::Zero) => Some(Leftover::HiddenIn(q)),
+        (Few::One(q), Few::Zero, Few::One(MissingSlot { parent, node })) if q == parent => Some(
+            Leftover::BothIn { parent, node },
+        ),
         _ => None,
     }
 }
@@ -368,8 +322,8 @@ fn has_room(table: &[u64], left: Leftover) -> bool
     }
 }
 
-// The node that shows slots from its sibling's fence up; 0 if none does. A word as `recordings::ok` wants it, so no Option.
-fn uncut(left: Leftover) -> u64
+// The node that shows slots from its sibling's fence up, if one does.
+fn uncut(left: Leftover) -> Option<u64>
     ensures { result ≡ uncut_in (meant left) }
 {
     match left {
@@ -377,8 +331,8 @@ fn uncut(left: Leftover) -> u64
             node,
             trailing: true,
             ..
-        } => node,
-        _ => 0,
+        } => Some(node),
+        _ => None,
     }
 }
 
@@ -388,13 +342,16 @@ pub fn check_tree(table: &[u64], root: u64) -> Option<Sound>
     ensures { result ≡ checked_tree (view_from table.now root) }
 {
     // Fixed memory, no heap.
-    let mut marks = [0u64; MARKS];
-    let seen = walk(table, root, &mut marks)?;
+    let mut marks = Marks {
+        bits: [0u64; MARKS],
+        uncut: None,
+    };
+    let seen = walk(table, root, &mut marks.bits)?;
     let leftover = judge(seen.unfinished)?;
     if !has_room(table, leftover) {
         return None;
     }
-    marks[UNCUT] = uncut(leftover);
+    marks.uncut = uncut(leftover);
     if !recordings::ok(table, &marks) {
         return None;
     }
@@ -415,19 +372,12 @@ pub fn is_nothing(left: Leftover) -> bool
 fn joined(first: Leftover, second: Leftover, reached: u64) -> Option<Sound>
     ensures { result ≡ joined first second reached }
 {
-    if is_nothing(first) {
-        return Some(Sound {
-            leftover: second,
-            reached,
-        });
+    match (first, second) {
+        (Leftover::Nothing, leftover) | (leftover, Leftover::Nothing) => {
+            Some(Sound { leftover, reached })
+        }
+        _ => None,
     }
-    if is_nothing(second) {
-        return Some(Sound {
-            leftover: first,
-            reached,
-        });
-    }
-    None
 }
 
 // The whole check, on any slice: the leftover and the number of nodes reached, if the table is sound. Two sound trees share a node

@@ -1,10 +1,11 @@
 -- The codes of the leaves, passed one by one along the siblings.
 use mathlib.Core.Path.{◌≡◌, refl, ap, ◌∙◌}
-use mathlib.Core.Bool.{true}
+use mathlib.Core.Bool.{Bool, true, false}
 use mathlib.Core.List.{List, [], ◌∷◌}
-use Prim.Native.Nat.{ℕ, zero, suc, ◌+◌, ◌-◌, ◌*◌, ◌≤◌}
+use Prim.Native.Nat.{ℕ, zero, suc, ◌+◌, ◌*◌, ◌≤◌}
 use native.Mathlib.Numerals.{add-one}
 use native.Mathlib.Omega.{arith}
+use lib.Dec.{eqb}
 use lib.ListN.{length, length-append}
 use Rattle.model.specs.Table.{Words, at, node, header_ok}
 use Rattle.model.specs.Slots.{Slot, node_view, view_from, view, used}
@@ -18,10 +19,10 @@ use Rattle.tour_laws.proofs.Ends.{node-slots}
 use Rattle.slots.specs.Scan.{in_use_of}
 use Rattle.slots.proofs.Places.{in-use-short}
 use Rattle.node.specs.Word.{word_of}
-use Rattle.node.proofs.WordLaws.{word-sibling, word-level}
+use Rattle.node.proofs.WordLaws.{word-level}
 use Rattle.walk_laws.specs.Chain.{along, first_leaf, chain}
 use Rattle.walk_laws.proofs.WalkLaw.{sound-in-order}
-use Rattle.walk_laws.proofs.ChainLaw.{along-none, along-more, chain-leaves}
+use Rattle.walk_laws.proofs.ChainLaw.{chain-leaves}
 use Rattle.model.specs.Statistics.{tree_words}
 
 module _ (t : Words) where
@@ -32,49 +33,39 @@ module _ (t : Words) where
       let b = shown-and-hidden (node t n).left (used t n) in
       omega (arith, a, b, in-use-short (node t n).slots, node-slots t n)
 
+  -- in these leaves
+  abbrev pub codes_in : List ℕ → ℕ
+  codes_in ns = length (flat (kept (view t)) ns)
+
+  pub codes-none : (ns : List ℕ) → ns ≡ [] → codes_in ns ≡ 0
+  unfolding flat
+  codes-none ns z = rw z
+
+  pub codes-next : (ns later : List ℕ) (n : ℕ) → ns ≡ n ∷ later → codes_in ns ≡ length (kept (view t) n) + codes_in later
+  unfolding flat
+  codes-next ns later n z = rw z (length-append (kept (view t) n) (flat (kept (view t)) later))
+
+  codes-few : (ns : List ℕ) → codes_in ns ≤ 12 * length ns
+  unfolding flat
+  codes-few [] = omega arith
+  codes-few (n ∷ ns) = omega (arith, codes-few ns, kept-few n, length-append (kept (view t) n) (flat (kept (view t)) ns))
+
+  along-few : (c n : ℕ) → length (along (view t) c n) ≤ c
+  unfolding along
+  along-few zero n = omega arith
+  along-few (suc c) n = go (eqb n 0) (along-few c (node_view t n).sibling)
+    where
+      go : (b : Bool) → length (along (view t) c (node_view t n).sibling) ≤ c
+          → length (elim b as (λ b. List ℕ) [ true ↦ [] | false ↦ n ∷ along (view t) c (node_view t n).sibling ]) ≤ suc c
+      go true h = omega arith
+      go false h = omega (arith, h)
+
   -- of n and the leaves along the siblings, at most c
   abbrev pub codes_along : ℕ → ℕ → ℕ
-  codes_along c n = length (flat (kept (view t)) (along (view t) c n))
+  codes_along c n = codes_in (along (view t) c n)
 
-  no-leaf : (c : ℕ) → codes_along c 0 ≡ 0
-  unfolding flat
-  no-leaf c = ap (λ (ns : List ℕ). length (flat (kept (view t)) ns)) (along-none (view t) c)
-
-  no-more : (n : ℕ) → codes_along 0 n ≡ 0
-  unfolding flat along
-  no-more n = refl
-
-  one-leaf : (c n : ℕ) → (n ≡ 0 → ⊥) → codes_along (suc c) n ≡ length (kept (view t) n) + codes_along c (node_view t n).sibling
-  unfolding flat
-  one-leaf c n z =
-      ap (λ (ns : List ℕ). length (flat (kept (view t)) ns)) (along-more (view t) c n z)
-      ∙ length-append (kept (view t) n) (flat (kept (view t)) (along (view t) c (node_view t n).sibling))
-
-  -- so many codes of most leaves from the first on, before the present leaf
-  pub record Counted (most first leaf left codes : ℕ) : Type 0 where
-    pub comes-to : codes + codes_along left leaf ≡ codes_along most first
-    pub few : left ≤ most
-    pub small : codes ≤ 12 * (most - left)
-
-  pub counted-none : (most first : ℕ) → Counted most first first most 0
-  counted-none most first = record { comes-to = omega arith; few = omega arith; small = omega arith }
-
-  module _ {most first leaf left codes : ℕ} (h : Counted most first leaf left codes) where
-    pub counted-end : leaf ≡ 0 → codes ≡ codes_along most first
-    counted-end e = omega (arith, h.comes-to, ap (codes_along left) e, no-leaf left)
-
-    pub counted-out : left ≡ 0 → codes ≡ codes_along most first
-    counted-out e = omega (arith, h.comes-to, ap (λ (c : ℕ). codes_along c leaf) e, no-more leaf)
-
-  pub counted-leaf : (most first leaf left fewer codes k s : ℕ) → Counted most first leaf left codes → (leaf ≡ 0 → ⊥) → left ≡ suc fewer
-      → k ≡ length (kept (view t) leaf) → s ≡ word_of t leaf 1 → Counted most first s fewer (codes + k)
-  counted-leaf most first leaf left fewer codes k s h z o e q =
-      let here = ap (codes_along fewer) (q ∙ word-sibling t leaf) in
-      record {
-        comes-to = omega (arith, h.comes-to, ap (λ (c : ℕ). codes_along c leaf) o, one-leaf fewer leaf z, here, e);
-        few = omega (arith, h.few);
-        small = omega (arith, h.few, h.small, e, kept-few leaf);
-      }
+  pub codes-bound : (c n : ℕ) → codes_along c n ≤ 12 * c
+  codes-bound c n = omega (arith, codes-few (along (view t) c n), along-few c n)
 
 pub nodes-few : (t : Words) → header_ok t ≡ true → at t 2 ≤ 65535
 nodes-few t h = ((header-iff t).0 h).size.few

@@ -12,6 +12,7 @@ ghost use Rattle.sound.specs.Checked.{meant, found, checked};
 ghost use Rattle.model.specs.Statistics.{checking, hidden_slot, trailing_slots, left_words, left_in, tree_words, report, report_out};
 ghost use Rattle.statistics.specs.Parts.{left_part, tree_part};
 
+use leaves::Siblings;
 use model::{Outcome, Refusal};
 use sound::{Leftover, Sound};
 
@@ -22,14 +23,9 @@ fn codes_along(table: &[u64], first: u64, most: u64) -> u64
     requires { most ≤ 65535 }
     ensures { result ≡ length (flat (kept (view table.now)) (along (view table.now) most first)) }
 {
-    let mut leaf = first;
     let mut codes = 0;
-    for _ in 0..most {
-        if leaf == 0 {
-            return codes;
-        }
+    for leaf in Siblings::new(table, first, most) {
         codes += reach::kept_count(table, leaf);
-        leaf = node::word(table, leaf, 1);
     }
     codes
 }
@@ -71,7 +67,7 @@ fn tree_of(table: &[u64], root: u64, nodes: u64) -> Tree
     }
 }
 
-// Of the second collection, which has so many nodes; zeros if there is none.
+// Of the second collection, which has so many nodes; zeros, as the report has them, if there is none.
 fn second_tree(table: &[u64], nodes: u64) -> Tree
     requires table_value { sound table.now ≡ true }
     requires nodes_len { length (reached (view_of 1 table.now)) + nodes ≡ length (reached_all table.now) }
@@ -90,12 +86,31 @@ fn second_tree(table: &[u64], nodes: u64) -> Tree
 
 // ---- what is left over
 
-// Document 01's leftover by numbers: its kind, its collection; the node with the hidden slot, and the slot; the node that lacks its slot in
-// the parent, its left neighbour, and the parent; the slots that the neighbour shows from the node's fence up. The kind is a number, since
-// all are words of the report; the enum that it numbers is Leftover.
+// The kind of a leftover, by its number in the report.
+#[derive(Clone, Copy)]
+enum Kind {
+    Nothing = 0,
+    Hidden = 1,
+    Missing = 2,
+    Both = 3,
+}
+
+impl From<Kind> for u64 {
+    ghost use Rattle.statistics.specs.Parts.{kind_number};
+
+    ghost from_gives = { λ k n. n ≡ kind_number k };
+
+    fn from(kind: Kind) -> u64 {
+        kind as u64
+    }
+}
+
+// Document 01's leftover as the report has it: its kind, its collection; the node with the hidden slot, and the slot; the node that lacks its
+// slot in the parent, its left neighbour, and the parent; the slots that the neighbour shows from the node's fence up. What a kind has not is
+// 0, a word of the report.
 #[derive(Clone, Copy)]
 struct Left {
-    kind: u64,
+    kind: Kind,
     collection: u64,
     hidden: u64,
     slot: u64,
@@ -106,7 +121,7 @@ struct Left {
 }
 
 const NONE: Left = Left {
-    kind: 0,
+    kind: Kind::Nothing,
     collection: 0,
     hidden: 0,
     slot: 0,
@@ -132,14 +147,14 @@ fn trailing_slots(table: &[u64], n: u64) -> u64
     shown - reach::kept_count(table, n)
 }
 
-// The leftover of a collection, by numbers.
+// The leftover of a collection.
 fn left_of(table: &[u64], collection: u64, left: Leftover) -> Left
     ensures { left_part result ≡ left_words table.now collection (meant left) }
 {
     match left {
         Leftover::Nothing => NONE,
         Leftover::HiddenIn(x) => Left {
-            kind: 1,
+            kind: Kind::Hidden,
             collection,
             hidden: x,
             slot: hidden_slot(table, x),
@@ -150,7 +165,7 @@ fn left_of(table: &[u64], collection: u64, left: Leftover) -> Left
             node: a,
             ..
         } => Left {
-            kind: 2,
+            kind: Kind::Missing,
             collection,
             node: node::word(table, a, 1),
             neighbour: a,
@@ -159,7 +174,7 @@ fn left_of(table: &[u64], collection: u64, left: Leftover) -> Left
             ..NONE
         },
         Leftover::BothIn { parent, node: a } => Left {
-            kind: 3,
+            kind: Kind::Both,
             collection,
             hidden: parent,
             slot: hidden_slot(table, parent),
@@ -187,17 +202,17 @@ fn collection_of(left: Leftover) -> u64
     if sound::is_nothing(left) { 2 } else { 1 }
 }
 
-// Of a sound table with this leftover and so many nodes reached. If it has two collections, the first tree is checked once more: the check of
-// the table counts the nodes of both together.
-fn first_tree(table: &[u64], left: Leftover, count: u64) -> First
-    requires { checked table.now ≡ found left count }
+// Of a sound table, as its check found it. If it has two collections, the first tree is checked once more: the check of the table counts the
+// nodes of both together. A sound table has a sound first tree: None does not come.
+fn first_tree(table: &[u64], whole: Sound) -> First
+    requires { checked table.now ≡ found whole.leftover whole.reached }
     ensures nodes_value { result.nodes ≡ length (reached (view_of 1 table.now)) }
     ensures left_in_value { result.left_in ≡ left_in table.now }
 {
     if leaves::word_at(table, 3) == 0 {
         return First {
-            nodes: count,
-            left_in: collection_of(left),
+            nodes: whole.reached,
+            left_in: collection_of(whole.leftover),
         };
     }
     let root = leaves::word_at(table, 1);
@@ -213,21 +228,21 @@ fn first_tree(table: &[u64], left: Leftover, count: u64) -> First
     }
 }
 
-// The report of a sound table with this leftover and so many nodes reached.
-fn report_of(table: &[u64], left: Leftover, count: u64) -> [u64; 16]
-    requires { checked table.now ≡ found left count }
+// The report of a sound table, as its check found it.
+fn report_of(table: &[u64], whole: Sound) -> [u64; 16]
+    requires { checked table.now ≡ found whole.leftover whole.reached }
     ensures { result ≡ report table.now }
 {
-    let first = first_tree(table, left, count);
+    let first = first_tree(table, whole);
     let nodes = first.nodes;
-    let x = left_of(table, first.left_in, left);
+    let x = left_of(table, first.left_in, whole.leftover);
     let size = leaves::word_at(table, 2);
-    let free = reach::unreachable(table, count);
+    let free = reach::unreachable(table, whole.reached);
     let root = leaves::word_at(table, 1);
     let one = tree_of(table, root, nodes);
-    let two = second_tree(table, count - nodes);
+    let two = second_tree(table, whole.reached - nodes);
     [
-        x.kind,
+        u64::from(x.kind),
         x.collection,
         x.hidden,
         x.slot,
@@ -252,9 +267,9 @@ pub fn check(table: &[u64], out: &mut [u64; 16]) -> Outcome
     ensures out_after { out.new ≡ report_out table.now out.old }
 {
     node::header(table)?;
-    let Some(Sound { leftover, reached }) = sound::check(table) else {
+    let Some(whole) = sound::check(table) else {
         return Err(Refusal::NotSound);
     };
-    *out = report_of(table, leftover, reached);
+    *out = report_of(table, whole);
     Ok(())
 }

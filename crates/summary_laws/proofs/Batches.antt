@@ -1,11 +1,12 @@
 -- A batch with a summary that is true of the table is the plain one, and leaves a true summary.
 use mathlib.Core.Path.{◌≡◌, refl, ap, sym, ◌∙◌}
 use mathlib.Core.List.{List, [], ◌∷◌}
-use Prim.Native.Nat.{ℕ, ◌+◌, ◌*◌}
+use Prim.Native.Nat.{ℕ, ◌*◌}
 use lib.ListN.{length, take, drop}
 use Rattle.std.specs.Prelude.{Some, Ok, Err}
 use Rattle.model.specs.declared.Refusal.{Refusal}
-use Rattle.model.specs.Results.{Written, done_with}
+use Rattle.model.specs.declared.Counts.{Counts}
+use Rattle.model.specs.Results.{Written, orders_counted}
 use Rattle.model.specs.Table.{Words}
 use Rattle.model.specs.Slots.{Slot}
 use Rattle.model.specs.Refusals.{written}
@@ -29,8 +30,8 @@ module _ (n dock : ℕ) (s : Slot) (ss : List Slot) (list ws t : Words) where
   abbrev next : Written → QuickBatched
   next w = elim w [
     | Ok w ↦
-        let filled = 2 * (w.stores + w.flushes + w.barriers) in
-        quick_batched (behind 1 w.stores w.flushes w.barriers (take filled later) (rest filled).batched) (rest filled).summary
+        let filled = 2 * orders_counted w in
+        quick_batched (behind 1 w (take filled later) (rest filled).batched) (rest filled).summary
     | Err r ↦ quick_batched (stopped (Some r) list t) ws
   ]
 
@@ -38,10 +39,10 @@ module _ (n dock : ℕ) (s : Slot) (ss : List Slot) (list ws t : Words) where
   unfolding quick_batch
   quick-stops r e = ap (λ (w : Written). next w) e
 
-  pub quick-goes : (a b c : ℕ) → quick_written (insertion_of n s) (length list) dock ws t ≡ done_with a b c
-      → quick_batch n dock (s ∷ ss) list ws t ≡ quick_batched (behind 1 a b c (take (2 * (a + b + c)) later) (rest (2 * (a + b + c))).batched) (rest (2 * (a + b + c))).summary
+  pub quick-goes : (w : Counts) → quick_written (insertion_of n s) (length list) dock ws t ≡ Ok w
+      → (let filled = 2 * orders_counted w in quick_batch n dock (s ∷ ss) list ws t ≡ quick_batched (behind 1 w (take filled later) (rest filled).batched) (rest filled).summary)
   unfolding quick_batch
-  quick-goes a b c e = ap (λ (w : Written). next w) e
+  quick-goes w e = ap (λ (w : Written). next w) e
 
 -- ---- all pairs
 
@@ -63,14 +64,12 @@ quick-batch n dock (s ∷ ss) list ws t c =
         let q = quick-stops n dock s ss list ws t m (quick-written ws t c (insertion_of n s) (length list) dock ∙ e) in
         record { same = ap (λ (r : QuickBatched). r.batched) q ∙ sym (batch-stops n dock s ss list t m e); stays-true = rw q c }
     go (Ok w) e ih =
-        let a = w.stores in
-        let b = w.flushes in
-        let d = w.barriers in
-        let q = quick-goes n dock s ss list ws t a b d (quick-written ws t c (insertion_of n s) (length list) dock ∙ e) in
-        let h = ih (drop (2 * (a + b + d)) (quick_list (insertion_of n s) list dock ws t)) in
+        let filled = 2 * orders_counted w in
+        let q = quick-goes n dock s ss list ws t w (quick-written ws t c (insertion_of n s) (length list) dock ∙ e) in
+        let h = ih (drop filled (quick_list (insertion_of n s) list dock ws t)) in
         record {
           same =
-              ap (λ (r : QuickBatched). r.batched) q ∙ ap (behind 1 a b d (take (2 * (a + b + d)) (quick_list (insertion_of n s) list dock ws t))) h.same
-              ∙ rw (quick-list ws t c (insertion_of n s) list dock, quick-table ws t c (insertion_of n s) (length list) dock) (sym (batch-goes n dock s ss list t a b d e));
+              ap (λ (r : QuickBatched). r.batched) q ∙ ap (behind 1 w (take filled (quick_list (insertion_of n s) list dock ws t))) h.same
+              ∙ rw (quick-list ws t c (insertion_of n s) list dock, quick-table ws t c (insertion_of n s) (length list) dock) (sym (batch-goes n dock s ss list t w e));
           stays-true = rw q h.stays-true;
         }

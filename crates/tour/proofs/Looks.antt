@@ -16,13 +16,13 @@ use Rattle.list_laws.proofs.Tools.{decode, double-suc}
 use Rattle.model.specs.Salvage.{Meeting, meet, meetings, under_fence, in_reach}
 use Rattle.tour_laws.specs.Walk.{slot_at, placed_at, before, ways_from}
 use Rattle.tour_laws.proofs.Ways.{ways-leaf, ways-left, ways-end, ways-hidden, ways-ignored, ways-next, ways-sibling}
-use Rattle.tour.specs.Loop.{pointer_before}
+use Rattle.slots.specs.Scan.{pointer_before}
 
-pub before-first : (n : Node) (j : ℕ) → j ≡ 0 → n.left ≡ pointer_before n j
+pub before-first : (n : Node) (j : ℕ) → j ≡ 0 → n.left ≡ pointer_before n.left n.slots j
 unfolding pointer_before
 before-first n j e = rw (eq-eqb j 0 e)
 
-pub before-later : (n : Node) (j : ℕ) → j ≢ 0 → get_or n.slots (2 * j - 1) 0 ≡ pointer_before n j
+pub before-later : (n : Node) (j : ℕ) → j ≢ 0 → get_or n.slots (2 * j - 1) 0 ≡ pointer_before n.left n.slots j
 unfolding pointer_before
 before-later n j e = rw (ne_eqb j 0 e)
 
@@ -47,7 +47,7 @@ module _ (t : Words) (n : ℕ) (nd : Node) (q : nd ≡ node t n) where
   pub slot-words : (j : ℕ) → j ≤ 11 → slot_at t n j ≡ slot (get_or nd.slots (2 * j) 0) (get_or nd.slots (2 * j + 1) 0)
   slot-words j h = slots-at (node t n).slots j (omega (arith, node-words t n)) ∙ (rw (add-one (2 * j)) (ap (λ (x : Node). slot (get_or x.slots (2 * j) 0) (get_or x.slots (suc (2 * j)) 0)) (sym q)))
 
-  pub before-is : (j : ℕ) → j ≤ 11 → before t n j ≡ pointer_before nd j
+  pub before-is : (j : ℕ) → j ≤ 11 → before t n j ≡ pointer_before nd.left nd.slots j
   before-is zero h = ap (λ (x : Node). x.left) (sym q) ∙ before-first nd 0 refl
   before-is (suc i) h =
       let e : 2 * suc i - 1 ≡ 2 * i + 1 = omega arith in
@@ -112,17 +112,17 @@ module _ (t : Words) (n : ℕ) (nd : Node) (q : nd ≡ node t n) where
     pub sight-end : p ≡ 0 → Leads w [] 13
     sight-end h = (ap (ways_from t n) at-j ∙ ways-end t n j (omega (arith, few)) (pointer-is ∙ h), omega (arith, b, c), omega arith)
 
-    pub sight-hidden : (o : ℕ) → o ≡ pointer_before nd j → p ≢ 0 → p ≡ o → Leads w [] (w + 1)
+    pub sight-hidden : (o : ℕ) → o ≡ pointer_before nd.left nd.slots j → p ≢ 0 → p ≡ o → Leads w [] (w + 1)
     sight-hidden o e h i = (ap (ways_from t n) at-j ∙ ways-hidden t n j (omega (arith, few)) (λ z. h (sym pointer-is ∙ z)) (pointer-is ∙ i ∙ e ∙ sym (before-is j few)) ∙ ap (ways_from t n) (sym after), omega arith, omega (arith, b, c))
 
-    pub sight-ignored : (o : ℕ) → o ≡ pointer_before nd j → p ≢ 0 → p ≢ o → under_fence t nd.sibling k ≡ false → Leads w [] (w + 1)
+    pub sight-ignored : (o : ℕ) → o ≡ pointer_before nd.left nd.slots j → p ≢ 0 → p ≢ o → under_fence t nd.sibling k ≡ false → Leads w [] (w + 1)
     sight-ignored o e h i l = (
       ap (ways_from t n) at-j ∙ ways-ignored t n j (omega (arith, few)) (λ z. h (sym pointer-is ∙ z)) (λ z. i (sym pointer-is ∙ z ∙ before-is j few ∙ sym e)) (goes-is ∙ l) ∙ ap (ways_from t n) (sym after),
       omega arith,
       omega (arith, b, c),
     )
 
-    pub sight-next : (o m : ℕ) → o ≡ pointer_before nd j → m ≡ pred nd.level → p ≢ 0 → p ≢ o → under_fence t nd.sibling k ≡ true → Leads w (meet p m ∷ []) (w + 1)
+    pub sight-next : (o m : ℕ) → o ≡ pointer_before nd.left nd.slots j → m ≡ pred nd.level → p ≢ 0 → p ≢ o → under_fence t nd.sibling k ≡ true → Leads w (meet p m ∷ []) (w + 1)
     sight-next o m e f h i l = (
       ap (ways_from t n) at-j ∙ ways-next t n j (omega (arith, few)) (λ z. h (sym pointer-is ∙ z)) (λ z. i (sym pointer-is ∙ z ∙ before-is j few ∙ sym e)) (goes-is ∙ l)
           ∙ ap (λ (y : ℕ). meet y (pred (node t n).level) ∷ ways_from t n (suc (suc j))) pointer-is

@@ -1,18 +1,13 @@
 -- What the tour's functions take and give.
-use Rattle.std.specs.Prelude.{Option, None, Some, ◌≡◌, Bool, true, not, ◌&&◌, cond, List, [], ◌∷◌, ◌++◌, ℕ, ◌-◌, ◌*◌, ◌≤◌, ◌<◌, eqb, length, get_or, take}
+use Rattle.std.specs.Prelude.{Option, None, Some, ◌≡◌, Bool, true, not, ◌&&◌, List, [], ◌∷◌, ◌++◌, ℕ, ◌≤◌, ◌<◌, eqb, take}
 use Rattle.model.specs.Table.{Words, in_range, nodes, header_ok}
 use Rattle.model.specs.Slots.{node_view}
 use Rattle.model.specs.SoundTest.{all, elem, distinct}
-use Rattle.model.specs.declared.Node.{Node}
 use Rattle.model.specs.Salvage.{Meeting, meet}
 use Rattle.bits.specs.Bits.{has}
 use Rattle.tour_laws.specs.Walk.{ways_from}
 use Rattle.tour.specs.declared.Met.{Met}
 use Rattle.tour.specs.declared.Sight.{Sight}
-
--- the pointer before slot j of a node
-unfoldable pub pointer_before : Node → ℕ → ℕ
-pointer_before n j = cond (eqb j 0) n.left (get_or n.slots (2 * j - 1) 0)
 
 -- what a look at a way has met
 abbrev pub met_by : Option Met → List Meeting
@@ -31,15 +26,10 @@ unmarked t ms i l = in_range (nodes t) i && (eqb (node_view t i).level l && not 
 abbrev pub Marked : Words → Words → List ℕ → Type 0
 Marked t ms es = (n : ℕ) → in_range (nodes t) n ≡ true → has ms n ≡ elem n es
 
--- a table with a good header, of so many nodes; slices with a word, or a mark, for every number; so many nodes entered before, and these are marked
-pub record Ready (t : Words) (top : ℕ) (ms st ws os : Words) (before : ℕ) : Type 0 where
+-- a table with a good header; so many nodes entered before, and these are marked
+pub record Ready (t ms os : Words) (before : ℕ) : Type 0 where
   pub header : header_ok t ≡ true
-  pub nodes-are : top ≡ nodes t
-  pub marks : length ms ≡ 1024
-  pub stack : length st ≡ 65536
-  pub ways : length ws ≡ 65536
-  pub order : length os ≡ 65536
-  pub few : before ≤ top
+  pub few : before ≤ nodes t
   pub apart : distinct (take before os) ≡ true
   pub range : all (in_range (nodes t)) (take before os) ≡ true
   pub marked : Marked t ms (take before os)

@@ -1,12 +1,10 @@
 // The tour of a salvage: the nodes entered, in order. A stack of nodes, each with the way to look at next, stands for what is still to be met.
 #![tactic(auto)]
 
-ghost use Rattle.std.specs.Prelude.{◌≡◌, ◌++◌, ◌≤◌, length, take};
-ghost use Rattle.model.specs.Table.{nodes, in_range};
+ghost use Rattle.std.specs.Prelude.{◌≡◌, ◌++◌, ◌≤◌, take};
+ghost use Rattle.model.specs.Table.{nodes};
 ghost use Rattle.model.specs.Salvage.{under_fence, entered_from};
-ghost use Rattle.tour.specs.Loop.{Looked, Marked, Ready, pointer_before, unmarked};
-
-use model::Node;
+ghost use Rattle.tour.specs.Loop.{Looked, Marked, Ready, unmarked};
 
 // A node, and the level that it must have.
 #[derive(Clone, Copy)]
@@ -22,38 +20,24 @@ struct Sight {
     way: u8,
 }
 
-// Whether i is a node number of a table of so many nodes.
-#[tactic(auto, unfolding(model::specs::Table::in_range))]
-fn in_range(top: u64, i: u64) -> bool
-    ensures { result ≡ in_range top i }
+// N, as word 2 of the table has it; 0 for a slice that ends before.
+fn nodes(table: &[u64]) -> u64
+    ensures { result ≡ nodes table.now }
 {
-    i != 0 && i <= top
-}
-
-// The pointer before slot j.
-#[tactic(auto, unfolding(crate::specs::Loop::pointer_before))]
-fn pointer_before(n: Node, j: usize) -> u64
-    requires { j ≤ 11 }
-    ensures { result ≡ pointer_before n j }
-{
-    if j == 0 {
-        return n.left;
-    }
-    n.slots[2 * j - 1]
+    if 2 < table.len() { table[2] } else { 0 }
 }
 
 // Whether a slot of this key is followed or collected: below the sibling's fence, or no sibling in range.
 #[tactic(auto, unfolding(model::specs::Salvage::under_fence))]
-pub fn under_fence(table: &[u64], top: u64, sibling: u64, key: u64) -> bool
-    requires { top ≡ nodes table.now }
+pub fn under_fence(table: &[u64], sibling: u64, key: u64) -> bool
     ensures { result ≡ under_fence table.now sibling key }
 {
-    !in_range(top, sibling) || key < node::read(table, sibling).fence
+    !node::in_range(nodes(table), sibling) || key < node::read(table, sibling).fence
 }
 
 // Way w of node n: 0 its left child, 1 to 12 its slots, 13 its sibling.
-fn look(table: &[u64], top: u64, n: u64, w: u8) -> Sight
-    requires { (w ≤ 13) × (top ≡ nodes table.now) }
+fn look(table: &[u64], n: u64, w: u8) -> Sight
+    requires { w ≤ 13 }
     ensures { Looked table.now n w result }
 {
     let node = node::read(table, n);
@@ -87,10 +71,10 @@ fn look(table: &[u64], top: u64, n: u64, w: u8) -> Sight
         return Sight { met: None, way: 13 };
     }
     let way = w + 1;
-    if pointer == pointer_before(node, j) {
+    if pointer == slots::pointer_before(node.slots, node.left, j) {
         return Sight { met: None, way };
     }
-    if !under_fence(table, top, node.sibling, key) {
+    if !under_fence(table, node.sibling, key) {
         return Sight { met: None, way };
     }
     let met = Met {
@@ -104,33 +88,33 @@ fn look(table: &[u64], top: u64, n: u64, w: u8) -> Sight
 }
 
 // Whether a node may be entered: its number in range, on the level that it must have, and not marked.
-#[tactic(auto, unfolding(crate::specs::Loop::unmarked, model::specs::Table::in_range))]
-fn may_enter(table: &[u64], top: u64, marks: &[u64], i: u64, level: u64) -> bool
-    requires { (top ≡ nodes table.now) × (top ≤ 65535) × (length marks.now ≡ 1024) }
+#[tactic(auto, unfolding(crate::specs::Loop::unmarked))]
+fn may_enter(table: &[u64], marks: &[u64; 1024], i: u64, level: u64) -> bool
+    requires { nodes table.now ≤ 65535 }
     ensures { result ≡ unmarked table.now marks.now i level }
 {
-    in_range(top, i) && (node::read(table, i).level == level && !bits::has(marks, i as usize))
+    node::in_range(nodes(table), i)
+        && (node::read(table, i).level == level && !bits::has(marks, i as usize))
 }
 
 // The nodes entered from a root, in order, put after so many that were entered before; the answer is how many there are then. Nodes are
-// marked when they are entered.
+// marked when they are entered. The stack is lent: as an array of this function it is compiled wrongly.
 pub fn tour(
     table: &[u64],
-    top: u64,
     root: u64,
-    marks: &mut [u64],
-    stack: &mut [u16],
-    ways: &mut [u8],
-    order: &mut [u16],
+    marks: &mut [u64; 1024],
+    stack: &mut [u16; 65536],
+    ways: &mut [u8; 65536],
+    order: &mut [u16; 65536],
     before: usize,
 ) -> usize
-    requires { Ready table.now top marks.old stack.old ways.old order.old before }
+    requires { Ready table.now marks.old order.old before }
     ensures order_after { take result order.new
         ≡ take before order.old ++ entered_from table.now root (take before order.old) }
     ensures marked { Marked table.now marks.new (take result order.new) }
-    ensures lower_bound { (before ≤ result) × (result ≤ top) }
+    ensures lower_bound { (before ≤ result) × (result ≤ nodes table.now) }
 {
-    if !may_enter(table, top, marks, root, node::read(table, root).level) {
+    if !may_enter(table, marks, root, node::read(table, root).level) {
         return before;
     }
     bits::put(marks, root as usize);
@@ -147,10 +131,10 @@ pub fn tour(
         if 13 < w {
             depth = last;
         } else {
-            let seen = look(table, top, n, w);
+            let seen = look(table, n, w);
             ways[last] = seen.way;
             if let Some(met) = seen.met {
-                if may_enter(table, top, marks, met.node, met.level) {
+                if may_enter(table, marks, met.node, met.level) {
                     bits::put(marks, met.node as usize);
                     order[count] = met.node as u16;
                     count += 1;

@@ -8,15 +8,15 @@ use native.Mathlib.Omega.{arith}
 use lib.Dec.{eqb}
 use lib.ListN.{length}
 use borrow.Author.Tests.{eqb-true, eqb-false, eq-eqb, ne_eqb}
-use Rattle.model.specs.declared.Few.TheVariants.{Zero}
-use Rattle.model.specs.declared.Missing.{Missing}
-use Rattle.model.specs.declared.Missing.TheVariants.{Nowhere, Under, Several}
+use Rattle.model.specs.declared.Few.{Few}
+use Rattle.model.specs.declared.Few.TheVariants.{Zero, One, Many}
+use Rattle.model.specs.declared.MissingSlot.{MissingSlot}
 use Rattle.model.specs.Slots.{View}
 use Rattle.model.specs.Reached.{head_or, fill_row}
-use Rattle.model.specs.SoundTest.{linked, add_missing, together, missing_at, row_unfinished}
+use Rattle.model.specs.SoundTest.{linked, add_few, together, under, missing_at, row_unfinished}
 use Rattle.list_laws.proofs.Lists.{cons-same}
 use Rattle.tree_laws.proofs.Rows.{link-yes, link-no, linked-cons, head-append}
-use Rattle.tree_laws.proofs.Sums.{missing-atom}
+use Rattle.tree_laws.proofs.Sums.{few-atom}
 
 -- ---- what a row lacks
 
@@ -40,20 +40,20 @@ module _ (v : View) (p : ℕ) where
       go true c ih = rw (row-yes n ns e c) ih
       go false c ih = rw (row-no n ns e c) ih
 
-  pub row-nowhere : (ns : List ℕ) (e : ℕ) → ((row_unfinished v p ns e).missing ≡ Nowhere) ↔ (linked v ns e ≡ true)
+  pub row-nowhere : (ns : List ℕ) (e : ℕ) → ((row_unfinished v p ns e).missing ≡ Zero) ↔ (linked v ns e ≡ true)
   unfolding row_unfinished linked
   row-nowhere [] e = (λ q. refl, λ q. refl)
   row-nowhere (n ∷ ns) e = go (eqb (v.node n).sibling (head_or e ns)) refl (row-nowhere ns e)
     where
-      go : (b : Bool) → eqb (v.node n).sibling (head_or e ns) ≡ b → ((row_unfinished v p ns e).missing ≡ Nowhere) ↔ (linked v ns e ≡ true)
-          → ((row_unfinished v p (n ∷ ns) e).missing ≡ Nowhere) ↔ (linked v (n ∷ ns) e ≡ true)
+      go : (b : Bool) → eqb (v.node n).sibling (head_or e ns) ≡ b → ((row_unfinished v p ns e).missing ≡ Zero) ↔ (linked v ns e ≡ true)
+          → ((row_unfinished v p (n ∷ ns) e).missing ≡ Zero) ↔ (linked v (n ∷ ns) e ≡ true)
       go true c ih = rw (row-yes n ns e c) (λ q. (linked-cons v n ns e).1 (eqb-true _ _ c, ih.0 q), λ l. ih.1 ((linked-cons v n ns e).0 l).1)
       go false c ih = rw (row-no n ns e c) (λ q. absurd (at-least (row_unfinished v p ns e).missing n q), λ l. absurd (eqb-false _ _ c ((linked-cons v n ns e).0 l).0))
         where
-          at-least : (m : Missing) (n : ℕ) → add_missing (Under p n) m ≡ Nowhere → ⊥
-          at-least Nowhere n q = let z : ◌≡◌ {A = ℕ} 0 1 = cc in omega arith
-          at-least (Under r a) n q = let z : ◌≡◌ {A = ℕ} 0 1 = cc in omega arith
-          at-least Several n q = let z : ◌≡◌ {A = ℕ} 0 1 = cc in omega arith
+          at-least : (m : Few MissingSlot) (n : ℕ) → add_few (One (under p n)) m ≡ Zero → ⊥
+          at-least Zero n q = let z : ◌≡◌ {A = ℕ} 0 1 = cc in omega arith
+          at-least (One r) n q = let z : ◌≡◌ {A = ℕ} 0 1 = cc in omega arith
+          at-least Many n q = let z : ◌≡◌ {A = ℕ} 0 1 = cc in omega arith
 
 -- the row ns, which e follows, has a gap after a, and no other
 pub record Gap (v : View) (a : ℕ) (ns : List ℕ) (e : ℕ) : Type 0 where
@@ -64,8 +64,11 @@ pub record Gap (v : View) (a : ℕ) (ns : List ℕ) (e : ℕ) : Type 0 where
   pub lacks : (v.node a).sibling ≢ head_or e after
   pub joined-after : linked v after e ≡ true
 
-under-same : (p a q b : ℕ) → Under p a ≡ Under q b → (p ≡ q) × (a ≡ b)
-under-same p a q b e = ((cc), (cc))
+one-same : (x y : MissingSlot) → One x ≡ One y → x ≡ y
+one-same x y e = cc
+
+under-same : (p a q b : ℕ) → One (under p a) ≡ One (under q b) → (p ≡ q) × (a ≡ b)
+under-same p a q b e = let m = one-same _ _ e in (ap (λ (x : MissingSlot). x.parent) m, ap (λ (x : MissingSlot). x.node) m)
 
 pub gap-more : (v : View) (a n : ℕ) (ns : List ℕ) (e : ℕ) → (v.node n).sibling ≡ head_or e ns → Gap v a ns e → Gap v a (n ∷ ns) e
 gap-more v a n ns e c g = record {
@@ -97,7 +100,7 @@ gap-cases v a n ns e g = go g.before g.after g.shape g.joined-before g.lacks g.j
         )
 
 module _ (v : View) (p : ℕ) where
-  pub row-under : (ns : List ℕ) (e q a : ℕ) → ((row_unfinished v p ns e).missing ≡ Under q a) ↔ ((p ≡ q) × Gap v a ns e)
+  pub row-under : (ns : List ℕ) (e q a : ℕ) → ((row_unfinished v p ns e).missing ≡ One (under q a)) ↔ ((p ≡ q) × Gap v a ns e)
   unfolding row_unfinished
   row-under [] e q a = (λ h. (let z : ◌≡◌ {A = ℕ} 0 1 = cc in absurd (omega arith)), λ u. absurd (not-empty u.1.before u.1.after u.1.shape))
     where
@@ -106,8 +109,8 @@ module _ (v : View) (p : ℕ) where
       not-empty (x ∷ before) after s = let z : ◌≡◌ {A = ℕ} 0 1 = cc in omega arith
   row-under (n ∷ ns) e q a = go (eqb (v.node n).sibling (head_or e ns)) refl (row-under ns e q a)
     where
-      go : (b : Bool) → eqb (v.node n).sibling (head_or e ns) ≡ b → ((row_unfinished v p ns e).missing ≡ Under q a) ↔ ((p ≡ q) × Gap v a ns e)
-          → ((row_unfinished v p (n ∷ ns) e).missing ≡ Under q a) ↔ ((p ≡ q) × Gap v a (n ∷ ns) e)
+      go : (b : Bool) → eqb (v.node n).sibling (head_or e ns) ≡ b → ((row_unfinished v p ns e).missing ≡ One (under q a)) ↔ ((p ≡ q) × Gap v a ns e)
+          → ((row_unfinished v p (n ∷ ns) e).missing ≡ One (under q a)) ↔ ((p ≡ q) × Gap v a (n ∷ ns) e)
       go true c ih = rw (row-yes v p n ns e c) (
         λ h. let u = ih.0 h in (u.0, gap-more v a n ns e (eqb-true _ _ c) u.1),
         λ u. ⊎_elim (λ w. absurd (w.1 (eqb-true _ _ c))) (λ w. ih.1 (u.0, w.1)) (gap-cases v a n ns e u.1),
@@ -116,8 +119,8 @@ module _ (v : View) (p : ℕ) where
         λ h. ⊎_elim (λ w. let k = under-same p n q a w.0 in
             (k.0, record { before = []; after = ns; shape = ap (λ (x : ℕ). x ∷ ns) k.1; joined-before = unfold linked in refl; lacks = rw (← k.1) (eqb-false _ _ c); joined-after = (row-nowhere v p ns e).0 w.1 }))
             (λ w. (let x = w.0 in let z : ◌≡◌ {A = ℕ} 0 1 = cc in absurd (omega arith)))
-            ((missing-atom q a).one (Under p n) (row_unfinished v p ns e).missing h),
-        λ u. ⊎_elim (λ w. ap (add_missing (Under p n)) ((row-nowhere v p ns e).1 w.2) ∙ (λ i. Under (u.0 i) (sym w.0 i))) (λ w. absurd (eqb-false _ _ c w.0)) (gap-cases v a n ns e u.1),
+            ((few-atom (under q a)).one (One (under p n)) (row_unfinished v p ns e).missing h),
+        λ u. ⊎_elim (λ w. ap (add_few (One (under p n))) ((row-nowhere v p ns e).1 w.2) ∙ (λ i. One (under (u.0 i) (sym w.0 i)))) (λ w. absurd (eqb-false _ _ c w.0)) (gap-cases v a n ns e u.1),
       )
 
 -- ---- the row filled up

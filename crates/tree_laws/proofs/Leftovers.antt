@@ -12,19 +12,18 @@ use lib.ListN.{length}
 use borrow.Author.Tests.{eqb-true, eqb-false, eq-eqb, ne_eqb}
 use Rattle.model.specs.declared.Few.{Few}
 use Rattle.model.specs.declared.Few.TheVariants.{Zero, One, Many}
-use Rattle.model.specs.declared.Missing.{Missing}
-use Rattle.model.specs.declared.Missing.TheVariants.{Nowhere, Under}
+use Rattle.model.specs.declared.MissingSlot.{MissingSlot}
 use Rattle.model.specs.declared.Unfinished.{Unfinished}
 use Rattle.model.specs.Slots.{View}
 use Rattle.model.specs.Reached.{kept, named, next_child, fill_row, children, reached}
-use Rattle.model.specs.SoundTest.{distinct, linked, finished, add_few, add_missing, together, times, trailing_in, own, row_unfinished, unfinished_at, unfinished}
+use Rattle.model.specs.SoundTest.{distinct, linked, finished, add_few, together, under, times, trailing_in, own, row_unfinished, unfinished_at, unfinished}
 use Rattle.model.specs.SoundTest.{Leftover, nothing, hidden_in, missing_in, both_in, leftover, has_room, is_nothing, is_allowed, orderly, settled_view, sound_view}
 use Rattle.list_laws.proofs.Tools.{and-iff, Each}
 use Rattle.list_laws.proofs.Members.{each-mem, each-iff}
 use Rattle.tree_laws.proofs.Levels.{Orderly, orderly-iff}
 use Rattle.tree_laws.proofs.Gaps.{row-only, row-nowhere, Gap, row-under, fill-whole, fill-gap}
 use Rattle.tree_laws.proofs.Kept.{by-level, kept-whole}
-use Rattle.tree_laws.proofs.Sums.{same-unfinished, total-hidden, total-trailing, total-missing, few-atom, missing-atom, OnlyAt, only-map, total-none, total-only, total-finished, amount, leftover-amount}
+use Rattle.tree_laws.proofs.Sums.{same-unfinished, total-hidden, total-trailing, total-missing, few-atom, OnlyAt, only-map, total-none, total-only, total-finished, amount, leftover-amount}
 
 -- ---- hidden and trailing slots of one node
 
@@ -70,7 +69,7 @@ at-inner : (v : View) (n : ℕ) → (v.node n).level ≢ 0 → unfinished_at v n
 unfolding unfinished_at
 at-inner v n z = rw (ne_eqb (v.node n).level 0 z, unfinished_at)
 
-few-right : (x y : Few) → y ≡ Zero → add_few x y ≡ x
+few-right : {A : Type 0} (x y : Few A) → y ≡ Zero → add_few x y ≡ x
 few-right Zero y e = e
 few-right (One x) y e = rw e
 few-right Many y e = refl
@@ -86,7 +85,7 @@ pub at-trailing : (v : View) (n : ℕ) → (unfinished_at v n).trailing ≡ trai
 unfolding own
 at-trailing v n = by-leaf v _ n (λ e. rw (at-leaf v n e) (few-right _ Zero refl)) (λ z. rw (at-inner v n z) (few-right _ _ (row-only v n (named v n) (next_child v n)).1))
 
-pub missing-leaf : (v : View) (n : ℕ) → (v.node n).level ≡ 0 → (unfinished_at v n).missing ≡ Nowhere
+pub missing-leaf : (v : View) (n : ℕ) → (v.node n).level ≡ 0 → (unfinished_at v n).missing ≡ Zero
 unfolding own
 missing-leaf v n e = rw (at-leaf v n e)
 
@@ -121,16 +120,16 @@ trails-zero v n = rw (at-trailing v n) (trailing-zero v n)
 trails-one : (v : View) (n x : ℕ) → ((unfinished_at v n).trailing ≡ One x) ↔ ((n ≡ x) × (kept v n ≢ (v.node n).shown))
 trails-one v n x = rw (at-trailing v n) (trailing-one v n x)
 
-lacks-nowhere : (v : View) (n : ℕ) → ((unfinished_at v n).missing ≡ Nowhere) ↔ ((v.node n).level ≢ 0 → children v n ≡ named v n)
+lacks-nowhere : (v : View) (n : ℕ) → ((unfinished_at v n).missing ≡ Zero) ↔ ((v.node n).level ≢ 0 → children v n ≡ named v n)
 lacks-nowhere v n = (
   λ e z. children-of v n z ∙ (fill-whole v (named v n) (next_child v n)).1 ((row-nowhere v n (named v n) (next_child v n)).0 (sym (missing-inner v n z) ∙ e)),
   λ h. by-leaf v _ n (λ e. missing-leaf v n e)
       (λ z. missing-inner v n z ∙ (row-nowhere v n (named v n) (next_child v n)).1 ((fill-whole v (named v n) (next_child v n)).0 (sym (children-of v n z) ∙ h z))),
 )
 
-lacks-under : (v : View) (n q a : ℕ) → ((unfinished_at v n).missing ≡ Under q a) ↔ ((n ≡ q) × ((v.node n).level ≢ 0) × Gap v a (named v n) (next_child v n))
+lacks-under : (v : View) (n q a : ℕ) → ((unfinished_at v n).missing ≡ One (under q a)) ↔ ((n ≡ q) × ((v.node n).level ≢ 0) × Gap v a (named v n) (next_child v n))
 lacks-under v n q a = (
-  λ e. by-leaf v _ n (λ l. (let h : Nowhere ≡ Under q a = sym (missing-leaf v n l) ∙ e in let z : ◌≡◌ {A = ℕ} 0 1 = cc in absurd (omega arith)))
+  λ e. by-leaf v _ n (λ l. (let h : Zero ≡ One (under q a) = sym (missing-leaf v n l) ∙ e in let z : ◌≡◌ {A = ℕ} 0 1 = cc in absurd (omega arith)))
       (λ z. let u = (row-under v n (named v n) (next_child v n) q a).0 (sym (missing-inner v n z) ∙ e) in (u.0, z, u.1)),
   λ u. missing-inner v n u.1 ∙ (row-under v n (named v n) (next_child v n) q a).1 (u.0, u.2),
 )
@@ -189,9 +188,10 @@ none-trailing : (v : View) → ((unfinished v).trailing ≡ Zero) ↔ NoneTraili
 unfolding unfinished
 none-trailing v = rw (total-trailing (unfinished_at v) (reached v)) (Iff.trans (total-none Zero add_few (One 0) (few-atom 0) (λ (n : ℕ). (unfinished_at v n).trailing) (reached v)) (each-iff _ _ (reached v) (trails-zero v)))
 
-none-missing : (v : View) → ((unfinished v).missing ≡ Nowhere) ↔ NoneMissing v
+none-missing : (v : View) → ((unfinished v).missing ≡ Zero) ↔ NoneMissing v
 unfolding unfinished
-none-missing v = rw (total-missing (unfinished_at v) (reached v)) (Iff.trans (total-none Nowhere add_missing (Under 0 0) (missing-atom 0 0) (λ (n : ℕ). (unfinished_at v n).missing) (reached v)) (each-iff _ _ (reached v) (lacks-nowhere v)))
+none-missing v = rw (total-missing (unfinished_at v) (reached v))
+    (Iff.trans (total-none Zero add_few (One (under 0 0)) (few-atom (under 0 0)) (λ (n : ℕ). (unfinished_at v n).missing) (reached v)) (each-iff _ _ (reached v) (lacks-nowhere v)))
 
 both3 : {A B C A' B' C' : Type 0} → A ↔ A' → B ↔ B' → C ↔ C' → (A × B × C) ↔ (A' × B' × C')
 both3 a b c = (λ h. (a.0 h.0, b.0 h.1, c.0 h.2), λ h. (a.1 h.0, b.1 h.1, c.1 h.2))
@@ -203,22 +203,22 @@ module _ (v : View) (d : distinct (reached v) ≡ true) where
   hidden-only : (x : ℕ) → ((unfinished v).hidden ≡ One x) ↔ HiddenOnly v x
   unfolding unfinished
   hidden-only x =
-      let g : ℕ → Few = λ (n : ℕ). (unfinished_at v n).hidden in
+      let g : ℕ → Few ℕ = λ (n : ℕ). (unfinished_at v n).hidden in
       rw (total-hidden (unfinished_at v) (reached v)) (Iff.trans (total-only Zero add_few (One x) (few-atom x) g (reached v) x (λ n e. ((hidden-one v n x).0 e).0) d)
       (only-iff x (reached v) _ _ _ _ (λ e. ((hidden-one v x x).0 e).1, λ e. (hidden-one v x x).1 (refl, e)) (hidden-zero v)))
 
   trailing-only : (a : ℕ) → ((unfinished v).trailing ≡ One a) ↔ TrailingOnly v a
   unfolding unfinished
   trailing-only a =
-      let g : ℕ → Few = λ (n : ℕ). (unfinished_at v n).trailing in
+      let g : ℕ → Few ℕ = λ (n : ℕ). (unfinished_at v n).trailing in
       rw (total-trailing (unfinished_at v) (reached v)) (Iff.trans (total-only Zero add_few (One a) (few-atom a) g (reached v) a (λ n e. ((trails-one v n a).0 e).0) d)
       (only-iff a (reached v) _ _ _ _ (λ e. ((trails-one v a a).0 e).1, λ e. (trails-one v a a).1 (refl, e)) (trails-zero v)))
 
-  missing-only : (p a : ℕ) → ((unfinished v).missing ≡ Under p a) ↔ MissingOnly v p a
+  missing-only : (p a : ℕ) → ((unfinished v).missing ≡ One (under p a)) ↔ MissingOnly v p a
   unfolding unfinished
   missing-only p a =
-      let g : ℕ → Missing = λ (n : ℕ). (unfinished_at v n).missing in
-      rw (total-missing (unfinished_at v) (reached v)) (Iff.trans (total-only Nowhere add_missing (Under p a) (missing-atom p a) g (reached v) p (λ n e. ((lacks-under v n p a).0 e).0) d)
+      let g : ℕ → Few MissingSlot = λ (n : ℕ). (unfinished_at v n).missing in
+      rw (total-missing (unfinished_at v) (reached v)) (Iff.trans (total-only Zero add_few (One (under p a)) (few-atom (under p a)) g (reached v) p (λ n e. ((lacks-under v n p a).0 e).0) d)
       (only-iff p (reached v) _ _ _ _ (λ e. (let u = (lacks-under v p p a).0 e in (u.1, u.2)), λ e. (lacks-under v p p a).1 (refl, e.0, e.1)) (lacks-nowhere v)))
 
   sums-iff : (x : Leftover) → (unfinished v ≡ amount x) ↔ Left v x

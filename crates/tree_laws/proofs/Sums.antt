@@ -11,22 +11,21 @@ use lib.Dec.{eqb}
 use borrow.Author.Tests.{eqb-true, eq-eqb}
 use Rattle.model.specs.declared.Few.{Few}
 use Rattle.model.specs.declared.Few.TheVariants.{Zero, One, Many}
-use Rattle.model.specs.declared.Missing.{Missing}
-use Rattle.model.specs.declared.Missing.TheVariants.{Nowhere, Under, Several}
+use Rattle.model.specs.declared.MissingSlot.{MissingSlot}
 use Rattle.model.specs.declared.Unfinished.{Unfinished}
-use Rattle.model.specs.SoundTest.{distinct, finished, add_few, add_missing, together, total, Leftover, nothing, hidden_in, missing_in, both_in, leftover_from, leftover_of}
+use Rattle.model.specs.SoundTest.{distinct, finished, add_few, under, together, total, Leftover, nothing, hidden_in, missing_in, both_in, leftover_from, leftover_of}
 use Rattle.list_laws.proofs.Tools.{Each, Each-map}
 use Rattle.list_laws.proofs.Members.{each-mem, each-both, elem-false}
 use Rattle.list_laws.proofs.Distinct.{distinct-cons}
 
 -- ---- the sum is commutative and associative, with unit `finished`
 
-few-unit : (x : Few) → add_few x Zero ≡ x
+few-unit : {A : Type 0} (x : Few A) → add_few x Zero ≡ x
 few-unit Zero = refl
 few-unit (One x) = refl
 few-unit Many = refl
 
-few-assoc : (x y z : Few) → add_few (add_few x y) z ≡ add_few x (add_few y z)
+few-assoc : {A : Type 0} (x y z : Few A) → add_few (add_few x y) z ≡ add_few x (add_few y z)
 few-assoc Zero y z = refl
 few-assoc (One x) Zero z = refl
 few-assoc (One x) (One y) Zero = refl
@@ -35,7 +34,7 @@ few-assoc (One x) (One y) Many = refl
 few-assoc (One x) Many z = refl
 few-assoc Many y z = refl
 
-few-comm : (x y : Few) → add_few x y ≡ add_few y x
+few-comm : {A : Type 0} (x y : Few A) → add_few x y ≡ add_few y x
 few-comm Zero y = sym (few-unit y)
 few-comm (One x) Zero = refl
 few-comm (One x) (One y) = refl
@@ -44,37 +43,14 @@ few-comm Many Zero = refl
 few-comm Many (One y) = refl
 few-comm Many Many = refl
 
-missing-unit : (x : Missing) → add_missing x Nowhere ≡ x
-missing-unit Nowhere = refl
-missing-unit (Under p a) = refl
-missing-unit Several = refl
-
-missing-assoc : (x y z : Missing) → add_missing (add_missing x y) z ≡ add_missing x (add_missing y z)
-missing-assoc Nowhere y z = refl
-missing-assoc (Under p x) Nowhere z = refl
-missing-assoc (Under p x) (Under q y) Nowhere = refl
-missing-assoc (Under p x) (Under q y) (Under r z) = refl
-missing-assoc (Under p x) (Under q y) Several = refl
-missing-assoc (Under p x) Several z = refl
-missing-assoc Several y z = refl
-
-missing-comm : (x y : Missing) → add_missing x y ≡ add_missing y x
-missing-comm Nowhere y = sym (missing-unit y)
-missing-comm (Under p x) Nowhere = refl
-missing-comm (Under p x) (Under q y) = refl
-missing-comm (Under p x) Several = refl
-missing-comm Several Nowhere = refl
-missing-comm Several (Under q y) = refl
-missing-comm Several Several = refl
-
 pub same-unfinished : (x y : Unfinished) → x.hidden ≡ y.hidden → x.trailing ≡ y.trailing → x.missing ≡ y.missing → x ≡ y
 same-unfinished x y a b c = λ i. record { hidden = a i; trailing = b i; missing = c i }
 
 pub together-assoc : (x y z : Unfinished) → together (together x y) z ≡ together x (together y z)
-together-assoc x y z = same-unfinished _ _ (few-assoc x.hidden y.hidden z.hidden) (few-assoc x.trailing y.trailing z.trailing) (missing-assoc x.missing y.missing z.missing)
+together-assoc x y z = same-unfinished _ _ (few-assoc x.hidden y.hidden z.hidden) (few-assoc x.trailing y.trailing z.trailing) (few-assoc x.missing y.missing z.missing)
 
 pub together-comm : (x y : Unfinished) → together x y ≡ together y x
-together-comm x y = same-unfinished _ _ (few-comm x.hidden y.hidden) (few-comm x.trailing y.trailing) (missing-comm x.missing y.missing)
+together-comm x y = same-unfinished _ _ (few-comm x.hidden y.hidden) (few-comm x.trailing y.trailing) (few-comm x.missing y.missing)
 
 -- ---- the fields of a sum are sums of the fields
 
@@ -87,9 +63,9 @@ module _ {A : Type 0} (g : A → Unfinished) where
   total-trailing [] = refl
   total-trailing (x ∷ xs) = ap (add_few (g x).trailing) (total-trailing xs)
 
-  pub total-missing : (xs : List A) → (total finished together g xs).missing ≡ total Nowhere add_missing (λ (x : A). (g x).missing) xs
+  pub total-missing : (xs : List A) → (total finished together g xs).missing ≡ total Zero add_few (λ (x : A). (g x).missing) xs
   total-missing [] = refl
-  total-missing (x ∷ xs) = ap (add_missing (g x).missing) (total-missing xs)
+  total-missing (x ∷ xs) = ap (add_few (g x).missing) (total-missing xs)
 
 -- ---- sums of nothing, and of one
 
@@ -101,39 +77,22 @@ pub record Atom {M : Type 0} (z : M) (op : M → M → M) (u : M) : Type 0 where
   pub none : (a b : M) → op a b ≡ z → (a ≡ z) × (b ≡ z)
   pub one : (a b : M) → op a b ≡ u → ((a ≡ u) × (b ≡ z)) ⊎ ((a ≡ z) × (b ≡ u))
 
-few-none : (a b : Few) → add_few a b ≡ Zero → (a ≡ Zero) × (b ≡ Zero)
+few-none : {A : Type 0} (a b : Few A) → add_few a b ≡ Zero → (a ≡ Zero) × (b ≡ Zero)
 few-none Zero b e = (refl, e)
 few-none (One x) Zero e = (e, refl)
 few-none (One x) (One y) e = let q : ◌≡◌ {A = ℕ} 0 1 = cc in absurd (omega arith)
 few-none (One x) Many e = let q : ◌≡◌ {A = ℕ} 0 1 = cc in absurd (omega arith)
 few-none Many b e = let q : ◌≡◌ {A = ℕ} 0 1 = cc in absurd (omega arith)
 
-few-one : (x : ℕ) (a b : Few) → add_few a b ≡ One x → ((a ≡ One x) × (b ≡ Zero)) ⊎ ((a ≡ Zero) × (b ≡ One x))
+few-one : {A : Type 0} (x : A) (a b : Few A) → add_few a b ≡ One x → ((a ≡ One x) × (b ≡ Zero)) ⊎ ((a ≡ Zero) × (b ≡ One x))
 few-one x Zero b e = inr (refl, e)
 few-one x (One y) Zero e = inl (e, refl)
 few-one x (One y) (One w) e = let q : ◌≡◌ {A = ℕ} 0 1 = cc in absurd (omega arith)
 few-one x (One y) Many e = let q : ◌≡◌ {A = ℕ} 0 1 = cc in absurd (omega arith)
 few-one x Many b e = let q : ◌≡◌ {A = ℕ} 0 1 = cc in absurd (omega arith)
 
-pub few-atom : (x : ℕ) → Atom Zero add_few (One x)
+pub few-atom : {A : Type 0} (x : A) → Atom Zero add_few (One x)
 few-atom x = record { unit-l = λ a. refl; unit-r = refl; apart = λ e. (let q : ◌≡◌ {A = ℕ} 0 1 = cc in omega arith); none = few-none; one = few-one x }
-
-missing-none : (a b : Missing) → add_missing a b ≡ Nowhere → (a ≡ Nowhere) × (b ≡ Nowhere)
-missing-none Nowhere b e = (refl, e)
-missing-none (Under p x) Nowhere e = (e, refl)
-missing-none (Under p x) (Under q y) e = let q : ◌≡◌ {A = ℕ} 0 1 = cc in absurd (omega arith)
-missing-none (Under p x) Several e = let q : ◌≡◌ {A = ℕ} 0 1 = cc in absurd (omega arith)
-missing-none Several b e = let q : ◌≡◌ {A = ℕ} 0 1 = cc in absurd (omega arith)
-
-missing-one : (p x : ℕ) (a b : Missing) → add_missing a b ≡ Under p x → ((a ≡ Under p x) × (b ≡ Nowhere)) ⊎ ((a ≡ Nowhere) × (b ≡ Under p x))
-missing-one p x Nowhere b e = inr (refl, e)
-missing-one p x (Under q y) Nowhere e = inl (e, refl)
-missing-one p x (Under q y) (Under r w) e = let q : ◌≡◌ {A = ℕ} 0 1 = cc in absurd (omega arith)
-missing-one p x (Under q y) Several e = let q : ◌≡◌ {A = ℕ} 0 1 = cc in absurd (omega arith)
-missing-one p x Several b e = let q : ◌≡◌ {A = ℕ} 0 1 = cc in absurd (omega arith)
-
-pub missing-atom : (p a : ℕ) → Atom Nowhere add_missing (Under p a)
-missing-atom p a = record { unit-l = λ x. refl; unit-r = refl; apart = λ e. (let q : ◌≡◌ {A = ℕ} 0 1 = cc in omega arith); none = missing-none; one = missing-one p a }
 
 -- x is a member of the list, of which P holds; Q holds of every other member
 pub record OnlyAt (x : ℕ) (xs : List ℕ) (P : Type 0) (Q : ℕ → Type 0) : Type 0 where
@@ -186,7 +145,7 @@ module _ {M : Type 0} (z : M) (op : M → M → M) (u : M) (at : Atom z op u) (g
   total-only xs x tells d = (λ e. (let o = total-one xs e in rw (tells o.0 o.1.here) at o.1), one-total xs x d)
 
 -- a sum is finished exactly if each part is
-finished-fields : (x : Unfinished) → (x ≡ finished) ↔ ((x.hidden ≡ Zero) × (x.trailing ≡ Zero) × (x.missing ≡ Nowhere))
+finished-fields : (x : Unfinished) → (x ≡ finished) ↔ ((x.hidden ≡ Zero) × (x.trailing ≡ Zero) × (x.missing ≡ Zero))
 finished-fields x = (λ e. (ap (λ (y : Unfinished). y.hidden) e, ap (λ (y : Unfinished). y.trailing) e, ap (λ (y : Unfinished). y.missing) e), λ h. same-unfinished x finished h.0 h.1 h.2)
 
 pub total-finished {ℓ} : {A : Type ℓ} (g : A → Unfinished) (xs : List A) → (total finished together g xs ≡ finished) ↔ Each (λ (x : A). g x ≡ finished) xs
@@ -196,7 +155,7 @@ total-finished g (x ∷ xs) = (
       let u = (finished-fields (together (g x) (total finished together g xs))).0 e in
       let a = few-none (g x).hidden _ u.0 in
       let b = few-none (g x).trailing _ u.1 in
-      let c = missing-none (g x).missing _ u.2 in
+      let c = few-none (g x).missing _ u.2 in
       ((finished-fields (g x)).1 (a.0, b.0, c.0), (total-finished g xs).0 ((finished-fields (total finished together g xs)).1 (a.1, b.1, c.1))),
   λ h. ap (λ (y : Unfinished). together y (total finished together g xs)) h.0 ∙ (total-finished g xs).1 h.1,
 )
@@ -205,10 +164,10 @@ total-finished g (x ∷ xs) = (
 
 abbrev pub amount : Leftover → Unfinished
 amount nothing = finished
-amount (hidden_in x) = record { hidden = One x; trailing = Zero; missing = Nowhere }
-amount (missing_in p a false) = record { hidden = Zero; trailing = Zero; missing = Under p a }
-amount (missing_in p a true) = record { hidden = Zero; trailing = One a; missing = Under p a }
-amount (both_in p a) = record { hidden = One p; trailing = Zero; missing = Under p a }
+amount (hidden_in x) = record { hidden = One x; trailing = Zero; missing = Zero }
+amount (missing_in p a false) = record { hidden = Zero; trailing = Zero; missing = One (under p a) }
+amount (missing_in p a true) = record { hidden = Zero; trailing = One a; missing = One (under p a) }
+amount (both_in p a) = record { hidden = One p; trailing = Zero; missing = One (under p a) }
 
 some-same : (a b : Leftover) → some a ≡ some b → a ≡ b
 some-same a b e = cc
@@ -216,25 +175,25 @@ some-same a b e = cc
 some-none : (a : Leftover) → none ≡ some a → ⊥
 some-none a e = let q : ◌≡◌ {A = ℕ} 0 1 = cc in omega arith
 
-amount-of : (f g : Few) (m : Missing) (x : Leftover) → leftover_from f g m ≡ some x → record { hidden = f; trailing = g; missing = m } ≡ amount x
-amount-of Zero Zero Nowhere x e = ap amount (some-same _ x e)
-amount-of Zero Zero (Under p a) x e = ap amount (some-same _ x e)
-amount-of Zero Zero Several x e = absurd (some-none x e)
-amount-of Zero (One y) Nowhere x e = absurd (some-none x e)
-amount-of Zero (One y) (Under p a) x e = go (eqb y a) refl
+amount-of : (f g : Few ℕ) (m : Few MissingSlot) (x : Leftover) → leftover_from f g m ≡ some x → record { hidden = f; trailing = g; missing = m } ≡ amount x
+amount-of Zero Zero Zero x e = ap amount (some-same _ x e)
+amount-of Zero Zero (One m) x e = ap amount (some-same _ x e)
+amount-of Zero Zero Many x e = absurd (some-none x e)
+amount-of Zero (One y) Zero x e = absurd (some-none x e)
+amount-of Zero (One y) (One m) x e = go (eqb y m.node) refl
   where
-    go : (b : Bool) → eqb y a ≡ b → record { hidden = Zero; trailing = One y; missing = Under p a } ≡ amount x
-    go true c = let h : some (missing_in p a true) ≡ some x = rw c at e in rw (eqb-true y a c) (ap amount (some-same _ x h))
+    go : (b : Bool) → eqb y m.node ≡ b → record { hidden = Zero; trailing = One y; missing = One m } ≡ amount x
+    go true c = let h : some (missing_in m.parent m.node true) ≡ some x = rw c at e in rw (eqb-true y m.node c) (ap amount (some-same _ x h))
     go false c = absurd (some-none x (rw c at e))
-amount-of Zero (One y) Several x e = absurd (some-none x e)
+amount-of Zero (One y) Many x e = absurd (some-none x e)
 amount-of Zero Many m x e = absurd (some-none x e)
-amount-of (One q) Zero Nowhere x e = ap amount (some-same _ x e)
-amount-of (One q) Zero (Under p a) x e = go (eqb q p) refl
+amount-of (One q) Zero Zero x e = ap amount (some-same _ x e)
+amount-of (One q) Zero (One m) x e = go (eqb q m.parent) refl
   where
-    go : (b : Bool) → eqb q p ≡ b → record { hidden = One q; trailing = Zero; missing = Under p a } ≡ amount x
-    go true c = let h : some (both_in p a) ≡ some x = rw c at e in rw (eqb-true q p c) (ap amount (some-same _ x h))
+    go : (b : Bool) → eqb q m.parent ≡ b → record { hidden = One q; trailing = Zero; missing = One m } ≡ amount x
+    go true c = let h : some (both_in m.parent m.node) ≡ some x = rw c at e in rw (eqb-true q m.parent c) (ap amount (some-same _ x h))
     go false c = absurd (some-none x (rw c at e))
-amount-of (One q) Zero Several x e = absurd (some-none x e)
+amount-of (One q) Zero Many x e = absurd (some-none x e)
 amount-of (One q) (One y) m x e = absurd (some-none x e)
 amount-of (One q) Many m x e = absurd (some-none x e)
 amount-of Many g m x e = absurd (some-none x e)

@@ -1,30 +1,29 @@
 -- The way of a quick call, by the tests in the order of the code.
-use mathlib.Core.Path.{◌≡◌, refl, ap, sym, ◌∙◌, subst}
-use mathlib.Core.Bool.{Bool, true, false, cond, ◌&&◌, and-false, false≢true}
+use mathlib.Core.Path.{◌≡◌, refl, ap, sym, ◌∙◌}
+use mathlib.Core.Bool.{Bool, true, false, cond, ◌&&◌, and-false}
 use mathlib.Core.List.{List, [], ◌∷◌, ◌++◌, append_assoc}
-use mathlib.Core.Option.{none, some}
 use Prim.Native.Nat.{ℕ, zero, suc, ◌+◌, ◌-◌, ◌≤◌, ◌<◌}
 use native.Mathlib.Numerals.{add-one}
 use native.Mathlib.Omega.{arith}
 use lib.Dec.{eqb, leb}
 use Rattle.std.specs.Prelude.{Option, Some, None}
+use Rattle.std.specs.Bool.{then_some}
 use lib.ListN.{length, get_or, take, set, replicate, length-set}
 use lib.Seq.{take-suc-set, get_or-take}
-use borrow.Author.Tests.{eq-eqb, ne_eqb, le-leb, lt-leb, leb-true, leb-false}
+use borrow.Author.Tests.{eqb-true, eqb-false, eq-eqb, ne_eqb, le-leb, lt-leb, leb-true}
 use Rattle.model.specs.declared.Node.{Node}
-use Rattle.model.specs.Table.{Words, in_range, header_ok, has_node, node, nodes}
+use Rattle.model.specs.Table.{Words, in_range, header_ok, node, nodes}
 use Rattle.model.specs.Slots.{View, node_view, view_from, view_of, view, height, used, shown, full}
-use Rattle.model.specs.Search.{below, moved, down, on_level, passes, locate, path_from, path, first_with}
+use Rattle.model.specs.Search.{below, moved, down, on_level, passes, locate, path_from, path}
 use Rattle.model.specs.SoundTest.{all}
 use Rattle.model.specs.Writes.{run_in, run, standing_in, standing}
 use Rattle.list_laws.proofs.Tools.{and-iff}
 use Rattle.table_laws.proofs.Header.{header-iff}
 use Rattle.slot_laws.proofs.Hiding.{shown-and-hidden}
 use Rattle.slots.specs.Scan.{shown_from, in_use_of}
-use Rattle.slots.specs.Held.{pointer_in}
-use Rattle.search.specs.Descent.{stood, seen_in, stand_on}
+use Rattle.search.specs.Descent.{seen_of, seen_in, stand_on}
 use Rattle.search.specs.declared.Stood.{Stood}
-use Rattle.search.proofs.Standing.{level-in, on-moved}
+use Rattle.search.proofs.Standing.{stand-none, stand-some, on-moved}
 use Rattle.node.specs.Word.{word_of}
 use Rattle.node.proofs.WordLaws.{word-level}
 use Rattle.reach.specs.Runs.{run_from, run_after as after}
@@ -36,10 +35,6 @@ use Rattle.way.specs.declared.Way.{Way}
 use Rattle.way.specs.Ways.{plain_count, shown_fit, step_to, step_ok, step_of, run_after, ok_from, Walked, Along}
 
 -- ---- a fit node, from the record that the code has read: x is node m
-
-pub fit-off : (ms : Words) (v : View) (m : ℕ) → has ms m ≡ false → 12 ≡ shown_fit ms v m
-unfolding shown_fit fit_node
-fit-off ms v m e = rw e
 
 module _ (t : Words) (m : ℕ) (x : Node) (q : x ≡ node t m) (count s : ℕ) (c : count ≡ length (in_use_of x.slots)) (e : s ≡ length (shown_from x.left x.slots 0)) where
   shows : s ≡ length (node_view t m).shown
@@ -53,114 +48,102 @@ module _ (t : Words) (m : ℕ) (x : Node) (q : x ≡ node t m) (count s : ℕ) (
       let u : count ≡ length (used t m) = c ∙ ap (λ (y : Node). length (in_use_of y.slots)) q in
       omega (arith, w, u, shows)
 
-  pub plain-hides : (count ≡ s → ⊥) → 12 ≡ plain_count (node_view t m)
-  unfolding plain_count
-  plain-hides d = let h = ne_eqb (node_view t m).hidden 0 (λ z. d (omega (arith, both))) in rw h
+  module _ (r : Option ℕ) (f : r ≡ then_some (eqb count s) s) where
+    pub plain-is : r ≡ plain_count (node_view t m)
+    unfolding plain_count
+    plain-is = f ∙ go (eqb (node_view t m).hidden 0) refl
+      where
+        go : (b : Bool) → eqb (node_view t m).hidden 0 ≡ b → then_some (eqb count s) s ≡ cond b (Some (length (node_view t m).shown)) None
+        go true z = let h = eq-eqb count s (omega (arith, both, eqb-true _ _ z)) in rw h (ap Some shows)
+        go false z = let n = eqb-false _ _ z in let h = ne_eqb count s (λ w. n (omega (arith, both, w))) in rw h
 
-  pub plain-shown : count ≡ s → s ≡ plain_count (node_view t m)
-  unfolding plain_count
-  plain-shown d = let h = eq-eqb (node_view t m).hidden 0 (omega (arith, both)) in rw h shows
+    pub plain-few : count ≤ 12 → (n : ℕ) → r ≡ Some n → n ≤ 12
+    plain-few h n d = go (eqb count s) refl (sym f ∙ d)
+      where
+        go : (b : Bool) → eqb count s ≡ b → then_some b s ≡ Some n → n ≤ 12
+        go true z w = let u : s ≡ n = cc in omega (arith, u, h, eqb-true _ _ z)
+        go false z w = cc
 
 -- of a marked node
-pub fit-shown : (ms : Words) (v : View) (m s : ℕ) → has ms m ≡ true → s ≡ plain_count (v.node m) → s ≤ 12 → s ≡ shown_fit ms v m
-unfolding shown_fit fit_node plain_count
-fit-shown ms v m s g e b = go (eqb (v.node m).hidden 0) (leb (length (v.node m).shown) 11) refl refl
-  where
-    go : (c d : Bool) → eqb (v.node m).hidden 0 ≡ c → leb (length (v.node m).shown) 11 ≡ d
-        → s ≡ cond (has ms m && (eqb (v.node m).hidden 0 && leb (length (v.node m).shown) 11)) (length (v.node m).shown) 12
-    go true true z f = let w : s ≡ length (v.node m).shown = rw z at e in rw (g, z, f) w
-    go true false z f = let w : s ≡ length (v.node m).shown = rw z at e in rw (g, z, f) (omega (arith, leb-false (length (v.node m).shown) 11 f, w, b))
-    go false d z f = let w : s ≡ 12 = rw z at e in rw (g, z) w
+module _ (ms : Words) (v : View) (m : ℕ) where
+  pub fit-off : has ms m ≡ false → None ≡ shown_fit ms v m
+  unfolding shown_fit fit_node
+  fit-off e = rw e
 
--- a fit node shows at most 11
-fit-few : (ms : Words) (v : View) (m : ℕ) → fit_node ms v m ≡ true → length (v.node m).shown ≤ 11
-unfolding fit_node
-fit-few ms v m e = leb-true _ _ ((and-iff (eqb (v.node m).hidden 0) (leb (length (v.node m).shown) 11)).0 ((and-iff (has ms m) _).0 e).1).1
+  pub fit-hides : has ms m ≡ true → plain_count (v.node m) ≡ None → None ≡ shown_fit ms v m
+  unfolding shown_fit fit_node plain_count
+  fit-hides g e = go (eqb (v.node m).hidden 0) refl e
+    where
+      go : (b : Bool) → eqb (v.node m).hidden 0 ≡ b → cond b (Some (length (v.node m).shown)) None ≡ None
+          → None ≡ cond (has ms m && (eqb (v.node m).hidden 0 && leb (length (v.node m).shown) 11)) (Some (length (v.node m).shown)) None
+      go true z w = cc
+      go false z w = rw (g, z)
 
--- 0 is on no level
-some-level : (v : View) (l m : ℕ) → on_level v l m ≡ true → m ≡ 0 → ⊥
-unfolding on_level in_range
-some-level v l m p z = false≢true (subst (λ (x : ℕ). on_level v l x ≡ true) z p)
+  pub fit-shown : (s : ℕ) (r : Option ℕ) → has ms m ≡ true → plain_count (v.node m) ≡ Some s → r ≡ then_some (leb s 11) s → r ≡ shown_fit ms v m
+  unfolding shown_fit fit_node plain_count
+  fit-shown s r g e f = f ∙ go (eqb (v.node m).hidden 0) refl e
+    where
+      pick : (b : Bool) (n : ℕ) → then_some b n ≡ cond b (Some n) None
+      pick true n = refl
+      pick false n = refl
 
-pub off-level : (t : Words) (l n : ℕ) (x : Node) → header_ok t ≡ true → has_node t n ≡ true → x ≡ node t n → (x.level ≡ l → ⊥) → on_level (view t) l n ≡ false
-off-level t l n x h e q d = sym (level-in t l n x h e q) ∙ ne_eqb x.level l d
+      go : (b : Bool) → eqb (v.node m).hidden 0 ≡ b → cond b (Some (length (v.node m).shown)) None ≡ Some s
+          → then_some (leb s 11) s ≡ cond (has ms m && (eqb (v.node m).hidden 0 && leb (length (v.node m).shown) 11)) (Some (length (v.node m).shown)) None
+      go true z w = let u : (length (v.node m).shown) ≡ s = cc in rw (g, z, u) (pick (leb s 11) s)
+      go false z w = cc
 
 pub header-few : (t : Words) → header_ok t ≡ true → nodes t ≤ 65535
 header-few t h = ((header-iff t).0 h).size.few
 
--- the level that was read is the one asked for
-pub seen-level : (v : View) (k n l m : ℕ) (s : Stood) → s ≡ seen_in v k (stand_on v l n k) → l ≡ m → s ≡ seen_in v k (stand_on v m n k)
-seen-level v k n l m s e q = rw q at e
-
 -- ---- one level: coming to n, the search stands on m
 
 module _ (ms : Words) (v : View) (l n k : ℕ) where
-  pub step-lost : passes v l n ≡ false → None ≡ step_of ms v l n k
-  unfolding step_of step_ok
-  step-lost e = rw e
-
   step-off : (passes v l n && fit_node ms v (moved v n k)) ≡ false → None ≡ step_of ms v l n k
   unfolding step_of step_ok
   step-off e = rw e
+
+  pub step-lost : seen_in v k (stand_on v l n k) ≡ None → None ≡ step_of ms v l n k
+  step-lost e = step-off (ap (λ (b : Bool). b && fit_node ms v (moved v n k)) (stand-none v l n k e))
 
   step-on : passes v l n ≡ true → fit_node ms v (moved v n k) ≡ true → Some (step_to v k (moved v n k)) ≡ step_of ms v l n k
   unfolding step_of step_ok
   step-on e f = rw (e, f)
 
   -- s is what the search sees there
-  module _ (s : Stood) (e : s ≡ seen_in v k (stand_on v l n k)) where
-    pub step-nowhere : s.node ≡ 0 → None ≡ step_of ms v l n k
-    unfolding stand_on
-    step-nowhere z = go (passes v l n) refl (ap (λ (x : Stood). x.node) e)
-      where
-        go : (b : Bool) → passes v l n ≡ b → s.node ≡ (seen_in v k (cond b (some (moved v n k)) none)).node → None ≡ step_of ms v l n k
-        go true p q = absurd (some-level v l (moved v n k) (on-moved v l n k p) (sym q ∙ z))
-        go false p q = step-lost p
+  module _ (s : Stood) (e : seen_in v k (stand_on v l n k) ≡ Some s) where
+    stood : (passes v l n ≡ true) × (s ≡ seen_of v k (moved v n k))
+    stood = stand-some v l n k s e
 
-    -- it stands on a node
-    pub stood-on : (s.node ≡ 0 → ⊥) → (passes v l n ≡ true) × (s ≡ stood (moved v n k) (down v (moved v n k) k) (pointer_in (first_with k (v.node (moved v n k)).shown)))
-    unfolding stand_on
-    stood-on z = go (passes v l n) refl e
-      where
-        go : (b : Bool) → passes v l n ≡ b → s ≡ seen_in v k (cond b (some (moved v n k)) none)
-            → (passes v l n ≡ true) × (s ≡ stood (moved v n k) (down v (moved v n k) k) (pointer_in (first_with k (v.node (moved v n k)).shown)))
-        go true p q = (p, q)
-        go false p q = absurd (z (ap (λ (x : Stood). x.node) q))
+    on : s.node ≡ moved v n k
+    on = ap (λ (x : Stood). x.node) stood.1
 
-    -- which is one of the table
-    pub stood-few : (s.node ≡ 0 → ⊥) → s.node ≤ v.nodes
+    -- it stands on a node of the table
+    pub stood-few : s.node ≤ v.nodes
     unfolding on_level in_range
-    stood-few z =
-        let u = stood-on z in
-        let o = on-moved v l n k u.0 in
+    stood-few =
+        let o = on-moved v l n k stood.0 in
         let r = ((and-iff (in_range v.nodes (moved v n k)) (eqb (v.node (moved v n k)).level l)).0 o).0 in
-        rw (ap (λ (x : Stood). x.node) u.1) (leb-true _ _ ((and-iff (leb 1 (moved v n k)) (leb (moved v n k) v.nodes)).0 r).1)
+        rw on (leb-true _ _ ((and-iff (leb 1 (moved v n k)) (leb (moved v n k) v.nodes)).0 r).1)
 
-    module _ (z : s.node ≡ 0 → ⊥) (c : ℕ) (f : c ≡ shown_fit ms v s.node) where
-      on : s.node ≡ moved v n k
-      on = ap (λ (x : Stood). x.node) (stood-on z).1
+    pub step-unfit : shown_fit ms v s.node ≡ None → None ≡ step_of ms v l n k
+    unfolding shown_fit
+    step-unfit f = go (fit_node ms v (moved v n k)) refl (sym (ap (shown_fit ms v) on) ∙ f)
+      where
+        go : (b : Bool) → fit_node ms v (moved v n k) ≡ b → cond b (Some (length (v.node (moved v n k)).shown)) None ≡ None → None ≡ step_of ms v l n k
+        go true g w = cc
+        go false g w = step-off (ap (λ (b : Bool). passes v l n && b) g ∙ and-false (passes v l n))
 
-      fit : c ≡ cond (fit_node ms v (moved v n k)) (length (v.node (moved v n k)).shown) 12
-      unfolding shown_fit
-      fit = f ∙ ap (shown_fit ms v) on
-
-      pub step-unfit : c ≡ 12 → None ≡ step_of ms v l n k
-      step-unfit q = go (fit_node ms v (moved v n k)) refl fit
-        where
-          go : (b : Bool) → fit_node ms v (moved v n k) ≡ b → c ≡ cond b (length (v.node (moved v n k)).shown) 12 → None ≡ step_of ms v l n k
-          go true g w = absurd (omega (arith, fit-few ms v (moved v n k) g, w, q))
-          go false g w = step-off (ap (λ (b : Bool). passes v l n && b) g ∙ and-false (passes v l n))
-
-      pub step-fit : (c ≡ 12 → ⊥) → Some (record { node = s.node; way = s.way; shown = c }) ≡ step_of ms v l n k
-      step-fit q = go (fit_node ms v (moved v n k)) refl fit
-        where
-          go : (b : Bool) → fit_node ms v (moved v n k) ≡ b → c ≡ cond b (length (v.node (moved v n k)).shown) 12
-              → Some (record { node = s.node; way = s.way; shown = c }) ≡ step_of ms v l n k
-          go true g w =
-              let u = stood-on z in
-              ap (λ (x : Stood). Some (record { node = x.node; way = x.way; shown = c })) u.1
-              ∙ ap (λ (x : ℕ). Some (record { node = moved v n k; way = down v (moved v n k) k; shown = x })) w ∙ step-on u.0 g
-          go false g w = absurd (q w)
+    pub step-fit : (c : ℕ) → shown_fit ms v s.node ≡ Some c → Some (record { node = s.node; way = s.way; shown = c }) ≡ step_of ms v l n k
+    unfolding shown_fit
+    step-fit c f = go (fit_node ms v (moved v n k)) refl (sym (ap (shown_fit ms v) on) ∙ f)
+      where
+        go : (b : Bool) → fit_node ms v (moved v n k) ≡ b → cond b (Some (length (v.node (moved v n k)).shown)) None ≡ Some c
+            → Some (record { node = s.node; way = s.way; shown = c }) ≡ step_of ms v l n k
+        go true g w =
+            let u : length (v.node (moved v n k)).shown ≡ c = cc in
+            ap (λ (x : Stood). Some (record { node = x.node; way = x.way; shown = c })) stood.1
+            ∙ ap (λ (x : ℕ). Some (record { node = moved v n k; way = down v (moved v n k) k; shown = x })) (sym u) ∙ step-on stood.0 g
+        go false g w = cc
 
 -- ---- from one level to the next
 

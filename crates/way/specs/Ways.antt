@@ -1,21 +1,22 @@
 -- The way of a quick call, a level at a time.
-use Rattle.std.specs.Prelude.{◌≡◌, Bool, true, false, cond, ◌&&◌, ℕ, suc, ◌+◌, eqb, length, take, is_some, Option, Some, None}
+use Rattle.std.specs.Prelude.{◌≡◌, Bool, true, false, cond, ◌&&◌, ℕ, suc, eqb, length, take, is_some, Option, Some, None}
 use Rattle.model.specs.Table.{Words, header_ok, no_collection}
 use Rattle.model.specs.Slots.{NodeView, View, view_of, height}
 use Rattle.model.specs.Search.{passes, moved, down, locate, path_from, path}
 use Rattle.model.specs.SoundTest.{all}
 use Rattle.model.specs.Writes.{run_in}
 use Rattle.model.specs.Summary.{fit_node, is_there, way_ok}
+use Rattle.reach.specs.Runs.{counted}
 use Rattle.way.specs.declared.Step.{Step}
 use Rattle.way.specs.declared.Way.{Way}
 
--- how many slots a node shows; 12 if it hides one
-unfoldable pub plain_count : NodeView → ℕ
-plain_count x = cond (eqb x.hidden 0) (length x.shown) 12
+-- how many slots a node shows, if it hides none
+unfoldable pub plain_count : NodeView → Option ℕ
+plain_count x = cond (eqb x.hidden 0) (Some (length x.shown)) None
 
--- how many slots a fit node shows; 12 for another
-unfoldable pub shown_fit : (ms : Words) → View → ℕ → ℕ
-shown_fit ms v m = cond (fit_node ms v m) (length (v.node m).shown) 12
+-- how many slots a fit node shows
+unfoldable pub shown_fit : (ms : Words) → View → ℕ → Option ℕ
+shown_fit ms v m = cond (fit_node ms v m) (Some (length (v.node m).shown)) None
 
 abbrev pub step_to : View → (k m : ℕ) → Step
 step_to v k m = record { node = m; way = down v m k; shown = length (v.node m).shown }
@@ -29,7 +30,7 @@ step_of ms v l n k = cond (step_ok ms v l n k) (Some (step_to v k (moved v n k))
 
 -- the running count of full nodes after one that shows so many slots
 abbrev pub run_after : (run shown : ℕ) → ℕ
-run_after run shown = cond (eqb shown 11) (run + 1) 0
+run_after run shown = counted run (eqb shown 11)
 
 -- from node n on level l on, every test passes
 abbrev pub ok_from : (ms : Words) → View → (l n k : ℕ) → Bool

@@ -1,10 +1,10 @@
 // The way of a quick call: from a root down to the leaf for a key, by the tests of a search and of the summary. Nothing is written.
 #![tactic(auto)]
 
-ghost use Rattle.std.specs.Prelude.{◌≡◌, true, ◌-◌, ◌*◌, ◌<◌, ◌≤◌, length, get_or};
+ghost use Rattle.std.specs.Prelude.{◌≡◌, Some, ℕ, true, ◌-◌, ◌*◌, ◌<◌, ◌≤◌, length, get_or};
 ghost use Rattle.model.specs.Table.{header_ok, nodes};
 ghost use Rattle.model.specs.Slots.{view_from, view};
-ghost use Rattle.way.specs.Ways.{plain_count, shown_fit, step_of, run_after, Walked};
+ghost use Rattle.way.specs.Ways.{plain_count, shown_fit, step_of, Walked};
 
 // A node on the way: its number, the way down from it, and how many slots it shows.
 #[derive(Clone, Copy)]
@@ -23,32 +23,29 @@ pub struct Way {
     pub nodes: [u64; 16],
 }
 
-// How many slots node m shows; 12 if it hides one.
-pub fn plain_count(table: &[u64], m: u64) -> u64
+// How many slots node m shows, if it hides none.
+pub fn plain_count(table: &[u64], m: u64) -> Option<u64>
     ensures value { result ≡ plain_count ((view table.now).node m) }
-    ensures upper_bound { result ≤ 12 }
+    ensures upper_bound { (n : ℕ) → result ≡ Some n → n ≤ 12 }
 {
     let x = node::read(table, m);
     let slots = x.slots;
-    let left = x.left;
-    let shown = slots::shown_count(slots, left);
-    if slots::count(slots) as u64 != shown {
-        return 12;
-    }
-    shown
+    let shown = slots::shown_count(slots, x.left);
+    (slots::count(slots) as u64 == shown).then_some(shown)
 }
 
-// How many slots node m shows; 12 if it is not marked, hides a slot or shows more than 11. The marks are part of a summary, whose length goes by
+// How many slots node m shows, if it is marked, hides none and shows at most 11. The marks are part of a summary, whose length goes by
 // the table: a slice, and no array.
-fn shown_fit(table: &[u64], marks: &[u64], m: u64) -> u64
+fn shown_fit(table: &[u64], marks: &[u64], m: u64) -> Option<u64>
     requires m_bound { m < 64 * length marks.now }
     requires m_bound_2 { m ≤ 65535 }
     ensures { result ≡ shown_fit marks.now (view table.now) m }
 {
     if !bits::has(marks, m as usize) {
-        return 12;
+        return None;
     }
-    plain_count(table, m)
+    let shown = plain_count(table, m)?;
+    (shown <= 11).then_some(shown)
 }
 
 // Coming to node n on a level: the node that the search stands on there, n or its sibling, if every test passes.
@@ -57,34 +54,13 @@ fn take_step(table: &[u64], marks: &[u64], n: u64, level: u64, key: u64) -> Opti
     requires table_bound { nodes table.now < 64 * length marks.now }
     ensures { result ≡ step_of marks.now (view table.now) level n key }
 {
-    if !node::has(table, n) {
-        return None;
-    }
-    let x = node::read(table, n);
-    if x.level != level {
-        return None;
-    }
-    let s = search::stand(table, n, x, key);
-    if s.node == 0 {
-        return None;
-    }
-    let shown = shown_fit(table, marks, s.node);
-    if shown == 12 {
-        return None;
-    }
+    let s = search::come(table, n, level, key)?;
+    let shown = shown_fit(table, marks, s.node)?;
     Some(Step {
         node: s.node,
         way: s.way,
         shown,
     })
-}
-
-// The length of the run of full nodes after one that shows so many slots.
-fn run_after(run: u64, shown: u64) -> u64
-    requires { run ≤ 15 }
-    ensures { result ≡ run_after run shown }
-{
-    if shown == 11 { run + 1 } else { 0 }
 }
 
 // The way to the leaf for a key, a level a turn, if every test passes.
@@ -97,14 +73,14 @@ pub fn find(table: &[u64], marks: &[u64], root: u64, key: u64) -> Option<Way>
     if 15 < top {
         return None;
     }
-    // Fixed memory: a place for each level.
+    // Fixed memory: a place for each level, the root's first, whatever the height: so the index counts up, and the level is what is left.
     let mut nodes = [0u64; 16];
     let mut n = root;
     let mut run = 0;
     for i in 0..=top {
         let s = take_step(table, marks, n, top - i, key)?;
         nodes[i as usize] = s.node;
-        run = run_after(run, s.shown);
+        run = reach::run_after(run, s.shown == 11);
         n = s.way;
     }
     Some(Way {

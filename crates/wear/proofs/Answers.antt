@@ -4,7 +4,6 @@ use mathlib.Core.Bool.{Bool, true, false, ◌||◌, or-false}
 use mathlib.Core.Logic.{◌≢◌}
 use mathlib.Core.List.{List, ◌++◌}
 use Prim.Native.Nat.{ℕ, zero, suc, ◌+◌, ◌*◌, ◌/◌, ◌≤◌, ◌<◌}
-use native.Mathlib.Nat.{sub-zero}
 use native.Mathlib.Omega.{arith}
 use lib.ListN.{length, take, drop, replicate}
 use lib.Seq.{take_at}
@@ -21,7 +20,6 @@ use Rattle.model.specs.Wear.{stored_to, wear_of, largest, first_at, extents_of, 
 use Rattle.model.proofs.Numbers.{refused-by}
 use Rattle.list_laws.proofs.Tools.{Each, Each-map}
 use Rattle.table_laws.proofs.Header.{header-iff, header-number-iff, header-number-refused}
-use Rattle.carry.specs.Firsts.{firsts}
 use Rattle.wear_laws.specs.Wearing.{extents_in}
 use Rattle.wear_laws.proofs.Stored.{all-orders, stored-inside}
 use Rattle.wear_laws.proofs.Extents.{extents-few, extents-same}
@@ -65,19 +63,16 @@ module _ (list t : Words) where
   unfolding header_number wear_number carry_number
   no-header z lines pairs = let h : header_ok t ≡ false = header-number-refused t z in refused list lines pairs t (header_number t) (rw h) z
 
-  module _ (z : header_number t ≡ 0) (r : Bool) (q : r ≡ all_inside (length t) (firsts (length list / 2) list 0)) where
+  module _ (z : header_number t ≡ 0) (r : Bool) (q : r ≡ all_inside (length t) (decode list)) where
     ok : header_ok t ≡ true
     ok = (header-number-iff t).0 z
 
-    same : r ≡ all_inside (length t) (take (length list / 2) (decode list))
-    same = q ∙ rw sub-zero
-
     pub outside : r ≡ false → (lines pairs : Words) → Answers list lines pairs t (Err BadOrders) lines pairs
     unfolding wear_number carry_number
-    outside f lines pairs = refuses BadOrders list lines pairs t (rw (ok, le-leb (length list / 2) (length list / 2) (omega arith), sym same ∙ f)) (λ y. omega arith)
+    outside f lines pairs = refuses BadOrders list lines pairs t (rw (ok, le-leb (length list / 2) (length list / 2) (omega arith), all-orders list, sym q ∙ f)) (λ y. omega arith)
 
     pub all-inside : r ≡ true → Inside list t
-    all-inside f = record { header = ok; orders = ap (all_inside (length t)) (sym (all-orders list)) ∙ sym same ∙ f }
+    all-inside f = record { header = ok; orders = sym q ∙ f }
 
 -- ---- 24, and the figures
 

@@ -1,7 +1,7 @@
 -- Stores counted at their lines, order by order; and the most over the lines from a line on.
 use mathlib.Core.Path.{◌≡◌, refl, ap, sym, ◌∙◌}
 use mathlib.Core.Logic.{◌≢◌, ⊎_elim}
-use mathlib.Core.Bool.{Bool, true, false, cond, not}
+use mathlib.Core.Bool.{Bool, true, false, cond}
 use mathlib.Core.List.{List, [], ◌∷◌, ◌++◌}
 use Prim.Native.Nat.{ℕ, zero, suc, ◌+◌, ◌*◌, ◌/◌, ◌≤◌, ◌<◌}
 use native.Mathlib.Numerals.{add-one}
@@ -9,54 +9,43 @@ use native.Mathlib.Omega.{arith}
 use lib.Dec.{eqb, ltb}
 use lib.ListN.{length, drop, set, replicate}
 use lib.Seq.{get_or-set_same, get_or-set_other, ext_get_or, drop-length, drop-cons}
-use borrow.Author.Tests.{eq-eqb, ne_eqb, not-true, not-false, ltb-true, ltb-false}
-use mir.Val.{bool_byte}
+use borrow.Author.Tests.{eq-eqb, ne_eqb, ltb-true, ltb-false}
 use Rattle.model.specs.Table.{Words, at, line}
 use Rattle.model.specs.Search.{filter}
-use Rattle.model.specs.Orders.{Order, store, flush, barrier, order_of, store_count, decode}
+use Rattle.model.specs.declared.ListedOrder.{ListedOrder}
+use Rattle.model.specs.declared.ListedOrder.TheVariants.{Store}
+use Rattle.model.specs.ListedOrders.{meant}
+use Rattle.model.specs.Orders.{Order, order_of, store_count, decode}
 use Rattle.model.specs.Wear.{stored_to, stores_to, wear_of, largest, first_at}
 use Rattle.list_laws.proofs.Tools.{Each, same-or-not}
 use Rattle.list_laws.proofs.Filters.{filter-short}
+use Rattle.carry.proofs.Turns.{next-order, no-order}
 use Rattle.wear_laws.proofs.Stored.{decode-length, stored-count, stored-few}
 use Rattle.wear_laws.proofs.Lines.{one, on-line-cons, wear-length, wear-at, largest-here, largest-later, first-here, first-later}
-use Rattle.wear.specs.Counting.{is_store, or_here}
+use Rattle.wear.specs.Counting.{or_here}
 use Rattle.wear.specs.declared.Most.{Most}
-use Rattle.wear.proofs.Turns.{stored-one, stored-none, stores-order, count-order, next-order, no-order}
+use Rattle.wear.proofs.Turns.{stores-order, count-order}
 
 -- ---- one order
 
--- as a number: 1 for a store
-pub one-stored : (o : Order) (r : Bool) → r ≡ is_store o → bool_byte r ≡ store_count (o ∷ [])
-unfolding store_count
-one-stored (store s) r e = rw e
-one-stored (flush l) r e = rw e
-one-stored barrier r e = rw e
+-- what counting an order leaves
+abbrev pub Tallied : (o : Order) (lines new : Words) → Type 0
+Tallied o lines new = (l : ℕ) → at new l ≡ at lines l + stores_to (o ∷ []) l
 
--- what counting the order of these words leaves
-abbrev pub Tallied : (a b : ℕ) (lines new : Words) → Type 0
-Tallied a b lines new = (l : ℕ) → at new l ≡ at lines l + stores_to (order_of a b ∷ []) l
+module _ (order : ListedOrder) (word value : ℕ) (e : order ≡ Store word value) (lines : Words) where
+  pub tally-inside : Each (λ (w : ℕ). w < 8 * length lines) (stored_to (meant order ∷ [])) → word / 8 < length lines
+  unfolding stored_to
+  tally-inside h = let l = (rw e at h).0 in omega arith
 
-module _ (a b : ℕ) (r : Bool) (e : r ≡ is_store (order_of a b)) (lines : Words) where
-  pub tally-none : not r ≡ true → (false ≡ is_store (order_of a b)) × Tallied a b lines lines
-  unfolding stores_to filter
-  tally-none n =
-      let s = stored-none a b (sym e ∙ not-true r n) in
-      (sym (not-true r n) ∙ e, λ l. rw s (omega arith))
-
-  pub tally-inside : not r ≡ false → Each (λ (w : ℕ). w < 8 * length lines) (stored_to (order_of a b ∷ [])) → a / 8 < length lines
-  tally-inside n h = let l = (rw (stored-one a b (sym e ∙ not-false r n)) at h).0 in omega arith
-
-  pub tally-one : not r ≡ false → a / 8 < length lines → (true ≡ is_store (order_of a b)) × Tallied a b lines (set lines (a / 8) (at lines (a / 8) + 1))
-  unfolding stores_to filter
-  tally-one n h =
-      let s = stored-one a b (sym e ∙ not-false r n) in
-      (sym (not-false r n) ∙ e, λ l. rw (s, on-line-cons a [] l) (⊎_elim (here l) (there l) (same-or-not l (a / 8))))
+  pub tally-one : word / 8 < length lines → (1 ≡ store_count (meant order ∷ [])) × Tallied (meant order) lines (set lines (word / 8) (at lines (word / 8) + 1))
+  unfolding stored_to store_count stores_to filter
+  tally-one h = (rw e refl, λ l. rw (e, on-line-cons word [] l) (⊎_elim (here l) (there l) (same-or-not l (word / 8))))
     where
-      here : (l : ℕ) → l ≡ a / 8 → at (set lines (a / 8) (at lines (a / 8) + 1)) l ≡ at lines l + (one (line a) l + 0)
-      here l q = rw (q, eq-eqb (a / 8) (a / 8) refl) (get_or-set_same lines (a / 8) (at lines (a / 8) + 1) 0 h ∙ omega arith)
+      here : (l : ℕ) → l ≡ word / 8 → at (set lines (word / 8) (at lines (word / 8) + 1)) l ≡ at lines l + (one (line word) l + 0)
+      here l q = rw (q, eq-eqb (word / 8) (word / 8) refl) (get_or-set_same lines (word / 8) (at lines (word / 8) + 1) 0 h ∙ omega arith)
 
-      there : (l : ℕ) → l ≢ a / 8 → at (set lines (a / 8) (at lines (a / 8) + 1)) l ≡ at lines l + (one (line a) l + 0)
-      there l q = rw (ne_eqb (a / 8) l (λ z. q (sym z))) (get_or-set_other lines (a / 8) l (at lines (a / 8) + 1) 0 q ∙ omega arith)
+      there : (l : ℕ) → l ≢ word / 8 → at (set lines (word / 8) (at lines (word / 8) + 1)) l ≡ at lines l + (one (line word) l + 0)
+      there l q = rw (ne_eqb (word / 8) l (λ z. q (sym z))) (get_or-set_other lines (word / 8) l (at lines (word / 8) + 1) 0 q ∙ omega arith)
 
 -- ---- one turn
 
@@ -82,18 +71,18 @@ module _ (list ws : Words) (total : ℕ) (lines : Words) (t : Tally list ws tota
   pub tally-few : (l : ℕ) → at lines l ≤ length list / 2
   tally-few l = omega (arith, t.counted l, few l)
 
-  module _ (pair after : Words) (p : ws ≡ pair ++ after) (two : length pair ≡ 2) where
-    abbrev o : Order
-    o = order_of (at pair 0) (at pair 1)
+  module _ (pair after : Words) (p : ws ≡ pair ++ after) (two : length pair ≡ 2) (o : Order) (is : o ≡ order_of (at pair 0) (at pair 1)) where
+    next : decode ws ≡ o ∷ decode after
+    next = next-order ws pair after p two ∙ ap (λ (x : Order). x ∷ decode after) (sym is)
 
     pub total-few : (r : ℕ) → r ≡ store_count (o ∷ []) → total + r ≤ length list / 2
     total-few r q =
-        omega (arith, t.summed, ap store_count (next-order ws pair after p two), count-order o (decode after), stored-count (decode list), stored-few (decode list), decode-length list)
+        omega (arith, t.summed, ap store_count next, count-order o (decode after), stored-count (decode list), stored-few (decode list), decode-length list)
 
-    pub tally-next : (r : ℕ) → r ≡ store_count (o ∷ []) → (new : Words) → Tallied (at pair 0) (at pair 1) lines new → Tally list after (total + r) new
+    pub tally-next : (r : ℕ) → r ≡ store_count (o ∷ []) → (new : Words) → Tallied o lines new → Tally list after (total + r) new
     tally-next r e new q = record {
-      counted = λ l. omega (arith, t.counted l, q l, ap (λ (os : List Order). stores_to os l) (next-order ws pair after p two), stores-order o (decode after) l);
-      summed = omega (arith, t.summed, e, ap store_count (next-order ws pair after p two), count-order o (decode after));
+      counted = λ l. omega (arith, t.counted l, q l, ap (λ (os : List Order). stores_to os l) next, stores-order o (decode after) l);
+      summed = omega (arith, t.summed, e, ap store_count next, count-order o (decode after));
     }
 
   module _ (h : length ws < 2) where

@@ -5,14 +5,15 @@ ghost use Rattle.std.specs.Prelude.{◌≡◌, ◌||◌, [], ◌∷◌, ℕ, ◌
 ghost use Rattle.std.specs.Bool.{beq};
 ghost use Rattle.model.specs.Table.{MARK, at};
 ghost use Rattle.model.specs.SoundTest.{elem};
-ghost use Rattle.model.specs.Orders.{order_of, store_count, decode};
+ghost use Rattle.model.specs.Orders.{store_count, decode};
+ghost use Rattle.model.specs.ListedOrders.{meant};
 ghost use Rattle.model.specs.Wear.{stored_to, stores_to, wear_of, largest, first_at, extent_words, worn, lines_after, pairs_after};
 ghost use Rattle.list_laws.specs.Each.{Each};
 ghost use Rattle.wear_laws.specs.Wearing.{extents_in, Sought};
 ghost use Rattle.bits.specs.Bits.{has};
-ghost use Rattle.wear.specs.Counting.{is_store, bit, or_here};
+ghost use Rattle.wear.specs.Counting.{bit, or_here};
 
-use model::{Figures, MARK, Refusal, Worn};
+use model::{Figures, ListedOrder, MARK, Refusal, Worn};
 
 // Words for a mark each of the largest table's words: 8 + 32 times 65,535 of them, 64 to a word.
 const MARKS: usize = 32768;
@@ -24,31 +25,23 @@ struct Most {
     first: usize,
 }
 
-// Whether the order of these two words is a store.
-fn is_store(a: u64, b: u64) -> bool
-    ensures { result ≡ is_store (order_of a b) }
-{
-    a != MARK && !carry::is_barrier(a, b)
-}
-
 // One order's word marked, if it is a store.
-fn mark_one(marks: &mut [u64], a: u64, b: u64)
-    requires { Each (λ (w : ℕ). w < 64 * length marks.old) (stored_to (order_of a b ∷ [])) }
-    ensures { (w : ℕ) → has marks.new w ≡ elem w (stored_to (order_of a b ∷ [])) || has marks.old w }
+fn mark_one(marks: &mut [u64; MARKS], order: ListedOrder)
+    requires { Each (λ (w : ℕ). w < 64 * length marks.old) (stored_to (meant order ∷ [])) }
+    ensures { (w : ℕ) → has marks.new w ≡ elem w (stored_to (meant order ∷ [])) || has marks.old w }
 {
-    if !is_store(a, b) {
-        return;
+    if let ListedOrder::Store { word, .. } = order {
+        bits::put(marks, word as usize);
     }
-    bits::put(marks, a as usize);
 }
 
 // Marks the words that the list stores to.
-fn mark(marks: &mut [u64], list: &[u64])
+fn mark(marks: &mut [u64; MARKS], list: &[u64])
     requires { Each (λ (w : ℕ). w < 64 * length marks.old) (stored_to (decode list.now)) }
     ensures { (w : ℕ) → has marks.new w ≡ elem w (stored_to (decode list.now)) || has marks.old w }
 {
     for pair in list.chunks_exact(2) {
-        mark_one(marks, pair[0], pair[1]);
+        mark_one(marks, ListedOrder::from((pair[0], pair[1])));
     }
 }
 
@@ -63,7 +56,7 @@ fn wanted_bits<const WANTED: bool>(word: u64) -> u64
 }
 
 // How many numbers from w on, in w's word of marks, are not as wanted.
-fn unwanted<const WANTED: bool>(marks: &[u64], w: usize) -> usize
+fn unwanted<const WANTED: bool>(marks: &[u64; MARKS], w: usize) -> usize
     requires { w < 64 * length marks.now }
     ensures { Sought (has marks.now) WANTED w (w + (64 - w % 64)) (w + result) }
 {
@@ -73,7 +66,7 @@ fn unwanted<const WANTED: bool>(marks: &[u64], w: usize) -> usize
 }
 
 // The first number from a number on that is marked, or that is not, as wanted; len if there is none below it. A word of marks a turn.
-fn seek<const WANTED: bool>(marks: &[u64], from: usize, len: usize) -> usize
+fn seek<const WANTED: bool>(marks: &[u64; MARKS], from: usize, len: usize) -> usize
     requires { (from ≤ len) × (len ≤ 64 * length marks.now) }
     ensures { Sought (has marks.now) WANTED from len result }
 {
@@ -93,7 +86,7 @@ fn seek<const WANTED: bool>(marks: &[u64], from: usize, len: usize) -> usize
 }
 
 // How many extents the marked numbers below len come to.
-fn count_pairs(marks: &[u64], len: usize) -> usize
+fn count_pairs(marks: &[u64; MARKS], len: usize) -> usize
     requires { len ≤ 64 * length marks.now }
     ensures { result ≡ length (extents_in (has marks.now) 0 len) }
 {
@@ -109,12 +102,13 @@ fn count_pairs(marks: &[u64], len: usize) -> usize
 }
 
 // Writes them as pairs of offset and length; the slice has room for all and no more.
-fn write_pairs(pairs: &mut [u64], marks: &[u64], len: usize)
+fn write_pairs(pairs: &mut [u64], marks: &[u64; MARKS], len: usize)
     requires len_bound { len ≤ 64 * length marks.now }
     requires pairs_len { length pairs.old ≡ 2 * length (extents_in (has marks.now) 0 len) }
     ensures { pairs.new ≡ extent_words (extents_in (has marks.now) 0 len) }
 {
     let mut w = seek::<true>(marks, 0, len);
+    // Tried: over mutable chunks the proof did not close.
     for k in 0..pairs.len() / 2 {
         let end = seek::<false>(marks, w, len);
         pairs[2 * k] = w as u64;
@@ -123,19 +117,18 @@ fn write_pairs(pairs: &mut [u64], marks: &[u64], len: usize)
     }
 }
 
-// One order counted at its line, if it is a store: whether it is.
-fn count_one(lines: &mut [u64], a: u64, b: u64) -> bool
-    requires each { Each (λ (w : ℕ). w < 8 * length lines.old) (stored_to (order_of a b ∷ [])) }
+// One order counted at its line, if it is a store: how many stores it is.
+fn count_one(lines: &mut [u64], order: ListedOrder) -> u64
+    requires each { Each (λ (w : ℕ). w < 8 * length lines.old) (stored_to (meant order ∷ [])) }
     requires by_index { (l : ℕ) → at lines.old l < MARK }
-    ensures value { result ≡ is_store (order_of a b) }
-    ensures by_index_2 { (l : ℕ) → at lines.new l ≡ at lines.old l + stores_to (order_of a b ∷ []) l }
+    ensures value { result ≡ store_count (meant order ∷ []) }
+    ensures by_index_2 { (l : ℕ) → at lines.new l ≡ at lines.old l + stores_to (meant order ∷ []) l }
 {
-    if !is_store(a, b) {
-        return false;
-    }
-    let l = (a / 8) as usize;
-    lines[l] += 1;
-    true
+    let ListedOrder::Store { word, .. } = order else {
+        return 0;
+    };
+    lines[(word / 8) as usize] += 1;
+    1
 }
 
 // Counts the list's stores at their lines, and in all.
@@ -144,10 +137,10 @@ fn count_stores(lines: &mut [u64], list: &[u64]) -> u64
     ensures value { result ≡ store_count (decode list.now) }
     ensures lines_after { lines.new ≡ wear_of (8 * length lines.old) (decode list.now) }
 {
-    node::zero(lines);
+    lines.fill(0);
     let mut total = 0;
     for pair in list.chunks_exact(2) {
-        total += u64::from(count_one(lines, pair[0], pair[1]));
+        total += count_one(lines, ListedOrder::from((pair[0], pair[1])));
     }
     total
 }
@@ -174,6 +167,7 @@ fn worst(lines: &[u64]) -> Most
         largest: 0,
         first: lines.len(),
     };
+    // A loop: the library's max and position leave a byte and a pointer in one struct, which targets/width.py refuses for wasm32 (tried).
     for i in (0..lines.len()).rev() {
         m = or_here(m, i, lines[i]);
     }
@@ -189,7 +183,7 @@ pub fn wear(table: &[u64], list: &[u64], lines: &mut [u64], pairs: &mut [u64]) -
 {
     node::header(table)?;
     let len = table.len();
-    if !carry::all_inside(len, list, list.len() / 2) {
+    if !carry::all_inside(len, list) {
         return Err(Refusal::BadOrders);
     }
     let k = len / 8;

@@ -22,7 +22,7 @@ use Rattle.two_laws.proofs.MapsTwo.{Steps, accepted-steps}
 use Rattle.two_laws.proofs.DocksTwo.{list-fits}
 use Rattle.two_laws.proofs.CollectionTwo.{collection-repaired}
 use Rattle.orders.specs.declared.Writer.{Writer}
-use Rattle.orders.specs.Desk.{Desk, desk, first_pen, start, of, Becomes, Makes, stored_all, finished, counts_of, Room}
+use Rattle.orders.specs.Desk.{Desk, desk, first_pen, start, of, Becomes, Makes, stored_all, finished, Room}
 use Rattle.orders.proofs.Rooms.{room-first, room-rest}
 use Rattle.orders.proofs.Rest.{room-as, stored-as}
 use Rattle.orders.proofs.Meaning.{Written, finished-means, start-room}
@@ -125,7 +125,7 @@ module _ {x : Call} {dock : ℕ} {w v : Writer} {rest : Words → List Store} (b
     finish-room = rw all-stored.is (room-rest (stores_of x w.table.now) [] (of w) (rw append-nil (call-room b)))
 
     -- and it is finished
-    pub done-call : {y : Writer} {r : Counts} → Becomes z (finished (of z)) y → r ≡ counts_of (finished (of z))
+    pub done-call : {y : Writer} {r : Counts} → Becomes z (finished (of z)) y → r ≡ (finished (of z)).pen.counts
         → Promised x w.table.now w.list.now dock (Ok r) y.table.now y.list.now × ((y.table.ghost_name ≡ w.table.ghost_name) × (y.list.ghost_name ≡ w.list.ghost_name))
     unfolding written table_after list_after
     done-call {y} {r} f e =

@@ -37,6 +37,8 @@ use Rattle.sound.specs.declared.Leftover.{Leftover}
 use Rattle.sound.specs.declared.Sound.{Sound}
 use Rattle.sound.specs.Checked.{Checked, checked}
 use Rattle.sound.proofs.JudgeLaws.{SoundWith, checked-sound, checked-unsound}
+use Rattle.orders.specs.declared.Dock.TheVariants.{Ordered, Unordered}
+use Rattle.orders.specs.Desk.{dock_of, dock_number}
 use Rattle.write.specs.Judged.{shared_tests, shared, Judged, ready_with, judged}
 
 -- ---- the answer, test by test
@@ -88,12 +90,13 @@ module _ (words dock : ℕ) (t : Words) (header : header_ok t ≡ true) where
       all-passed h = rw (header, found.is-sound, le-ltb 1 dock ok, le-ltb words (words_for dock) (rw l at h), (checked-sound t x n).1 found, judged, shared)
 
 -- the words that a list for the dock must have
-pub words-zero : (dock : ℕ) → dock ≡ 0 → 2560 ≡ words_for dock
-words-zero dock e = rw e
+pub words-ordered : (dock : ℕ) → dock_of dock ≡ Ordered → 2560 ≡ words_for dock
+words-ordered zero e = refl
+words-ordered (suc n) e = absurd (omega (arith, ap dock_number e))
 
-pub words-one : (dock : ℕ) → (dock ≡ 0 → ⊥) → 5120 ≡ words_for dock
-words-one zero z = absurd (z refl)
-words-one (suc n) z = refl
+pub words-unordered : (dock : ℕ) → dock_of dock ≡ Unordered → 5120 ≡ words_for dock
+words-unordered zero e = absurd (omega (arith, ap dock_number e))
+words-unordered (suc n) e = refl
 
 -- ---- what the answer says
 

@@ -14,7 +14,7 @@ ghost use Rattle.orders.specs.Desk.{of, Room, Makes};
 ghost use Rattle.write.specs.Judged.{judged};
 
 use model::Refusal;
-use orders::Writer;
+use orders::{Dock, Writer};
 use sound::{Leftover, Sound};
 
 // What the tests that all writing calls share answer: what repair has to do and how many nodes are reached, or a refusal.
@@ -24,10 +24,10 @@ pub type Judged = Result<Sound, Refusal>;
 pub fn words_for(dock: u64) -> usize
     ensures { result ≡ words_for dock }
 {
-    if dock == 0 {
-        return 2560;
+    match Dock::from(dock) {
+        Dock::Ordered => 2560,
+        Dock::Unordered => 5120,
     }
-    5120
 }
 
 // Refusals 4, 18 and 5, on a table whose header is right, with an order list of so many words for a dock.

@@ -1,12 +1,14 @@
--- The orders from i on lie in the table, and carried out now they leave what all of them leave.
-use mathlib.Core.Path.{◌≡◌}
+-- The orders of the words left lie in the table, and carried out now they leave what all of them leave.
+use Rattle.std.proofs.Common.{◌≡◌, length}
+use Rattle.std.specs.Slice.Iter.{chunks_exact_rest, chunks_exact_size}
 use mathlib.Core.Bool.{true}
-use lib.ListN.{length}
-use Rattle.model.specs.Orders.{all_inside, carry}
-use Rattle.carry.specs.Firsts.{firsts}
+use Rattle.model.specs.Orders.{decode, all_inside, carry}
 use Rattle.carry.proofs.apply_all.Given as goal
 
-abbrev pub invariant-loop-i : goal.invariant-loop-i
-invariant-loop-i l =
-    (all_inside (length l.initial.table) (firsts l.c l.list l.i) ≡ true)
-    × (carry (firsts l.c l.list l.i) l.table ≡ carry (firsts l.c l.list 0) l.initial.table)
+abbrev pub invariant-loop-pair : goal.invariant-loop-pair
+invariant-loop-pair l = record {
+  pairs : chunks_exact_size l.pair-iterator ≡ 2;
+  room : length l.table ≡ length l.initial.table;
+  inside : all_inside (length l.initial.table) (decode (chunks_exact_rest l.pair-iterator)) ≡ true;
+  carried : carry (decode (chunks_exact_rest l.pair-iterator)) l.table ≡ carry (decode l.list) l.initial.table;
+}

@@ -25,7 +25,7 @@ returns-then-not-all_inside c =
     record { value = both.0; table_after = both.1 }
 
 pub apply_all-requires : goal.apply_all-requires
-apply_all-requires c = record { c_in_bounds = search rules; list_value = search rules }
+apply_all-requires c = search rules
 
 pub returns : goal.returns
 returns c =

@@ -1,11 +1,10 @@
 -- `cells::holds` meets its contract.
-use borrow.Author.Tests.{le-ltb}
-use mathlib.Core.Path.{◌∙◌}
+use native.Mathlib.Omega.{arith}
 use Rattle.cells.proofs.Walking.{holds-past, holds-at}
 use Rattle.cells.proofs.holds.Goals as goal
 
-pub returns-else-at-cells : goal.returns-else-at-cells
-returns-else-at-cells c = le-ltb _ _ c.if-at-cells.false ∙ holds-past _ _ _ c.cell_for-at.ensures c.if-at-cells.false c.requires.number_nonzero
+pub returns-in-Some : goal.returns-in-Some
+returns-in-Some c = holds-at _ _ _ c.in-Some.ensures.some.0
 
-pub returns-then-at-cells : goal.returns-then-at-cells
-returns-then-at-cells c = holds-at _ _ _ c.cell_for-at.ensures
+pub returns-in-None : goal.returns-in-None
+returns-in-None c = holds-past _ _ _ c.in-None.ensures.none (omega arith) c.requires.number_nonzero

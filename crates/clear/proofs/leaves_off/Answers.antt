@@ -1,25 +1,22 @@
 -- `clear::leaves_off` meets its contract.
-use borrow.Author.Rules.{rules}
-use native.Mathlib.Nat.{sub-zero, sub-add-eq}
-use native.Mathlib.Omega.{arith}
-use Rattle.clear.proofs.Looking.{leaves-start, leaves-no-leaf, leaves-no-more, leaves-wrong, leaves-next}
+use Rattle.std.proofs.Common.{ℕ, rules, tests, ap, ◌∙◌}
+use Rattle.std.proofs.lemmas.Iterator.Consumers.{YieldsList-from_first}
+use Rattle.std.proofs.lemmas.Iterator.Search.{all_from_yields_List}
+use Rattle.model.specs.Table.{root}
+use Rattle.model.specs.Slots.{view_from, view}
+use Rattle.model.specs.Reached.{flat, kept}
+use Rattle.model.specs.SoundTest.{all}
+use Rattle.walk_laws.proofs.AnyRoot.{any-along}
+use Rattle.leaves.specs.Siblings.{siblings_left}
+use Rattle.leaves.proofs.FoundLaws.{whole-is}
+use Rattle.clear.specs.New.{off_pair}
+use Rattle.clear.proofs.Looking.{leaves-all}
 use Rattle.clear.proofs.leaves_off.Goals as goal
 
-pub loop-init : goal.loop-init
-loop-init c = rw sub-zero (leaves-start _ _ _ _ _ c.first_leaf-leaf.ensures c.word_at-nodes.ensures)
-
-pub returns-then-leaf-eq0 : goal.returns-then-leaf-eq0
-returns-then-leaf-eq0 c = leaves-no-leaf c.loop.invariant c.if-leaf-eq0.true
-
-pub leaf_off-requires : goal.leaf_off-requires
-leaf_off-requires c = c.ways_of-w.ensures.count_bound
-
-pub returns-then-not-leaf_off : goal.returns-then-not-leaf_off
-returns-then-not-leaf_off c = leaves-wrong c.loop.invariant _ c.ways_of-w.ensures.result_value c.if-leaf-eq0.false (omega arith) _ c.leaf_off.ensures (search rules)
-
-pub loop-preserved : goal.loop-preserved
-loop-preserved c =
-    rw sub-add-eq (leaves-next c.loop.invariant _ c.ways_of-w.ensures.result_value c.if-leaf-eq0.false (omega arith) _ c.leaf_off.ensures (search rules) _ c.word-leaf.ensures)
-
 pub returns : goal.returns
-returns c = leaves-no-more c.loop.invariant (omega arith)
+returns c = let a = c.args in let t = a.table.now in let cs = a.cells.now in let v = view_from t a.root in
+    all_from_yields_List (λ (n : ℕ). all (off_pair cs) (kept (view t) n)) c.all.new.self _ c.all.result c.all.ensures.ran
+    (YieldsList-from_first (λ (x : ℕ). x) siblings_left _ c.new.ensures) (λ x b q k. search (rules, tests))
+    ∙ leaves-all cs t a.root _
+    ∙ ap (λ ns. all (off_pair cs) (flat (kept v) ns))
+    (any-along t (root t) a.root c.word_at.result c.first_leaf-first.result ∙ whole-is v _ _ c.first_leaf-first.ensures c.word_at.ensures)

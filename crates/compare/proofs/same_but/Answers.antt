@@ -8,31 +8,31 @@ use Rattle.compare.proofs.same_but.Goals.{then-loop-a-test+else-same_pair, else-
 
 pub loop-a-init : goal.loop-a-init
 loop-a-init c = record {
-  first = (c.seek-a.ensures.count_bound.0, c.seek-a.ensures.count_bound.1);
-  second = (c.seek-b.ensures.count_bound.0, c.seek-b.ensures.count_bound.1);
-  comes-to = compared-all _ _ _ _ _ _ _ c.seek-a.ensures.result_value c.start.ensures.result_value c.seek-b.ensures.result_value c.start-2.ensures.result_value;
+  first = c.seek-a.ensures.stops;
+  second = c.seek-b.ensures.stops;
+  comes-to = compared-all _ _ _ _ _ _ _ c.seek-a.ensures.result_value c.start.ensures c.seek-b.ensures.result_value c.start-2.ensures;
 }
 
 pub same_pair-requires : goal.same_pair-requires
-same_pair-requires c = let k = c.loop-a.invariant in (a-pair c.loop-a.a (sym c.at_end.ensures ∙ c.loop-a-test.true), k.first.0, k.second.0)
+same_pair-requires c = a-pair c.loop-a.a (sym c.at_end.ensures ∙ c.loop-a-test.true)
 
-pub past-requires-clause-at_lt_count : goal.past-requires-clause-at_lt_count
-past-requires-clause-at_lt_count c = a-pair c.loop-a.a (sym c.at_end.ensures ∙ c.loop-a-test.true)
+pub past-requires : goal.past-requires
+past-requires c = a-pair c.loop-a.a (sym c.at_end.ensures ∙ c.loop-a-test.true)
 
-pub past-requires-in-loop-a-clause-at_lt_count : goal.past-requires-in-loop-a-clause-at_lt_count
-past-requires-in-loop-a-clause-at_lt_count c =
+pub past-requires-in-loop-a : goal.past-requires-in-loop-a
+past-requires-in-loop-a c =
     compared-both c.loop-a.invariant (a-pair c.loop-a.a (sym c.at_end.ensures ∙ c.loop-a-test.true)) _ c.same_pair.ensures c.if-same_pair.true
 
 pub loop-a-smaller : goal.loop-a-smaller
 loop-a-smaller c =
-    omega (arith, c.seek-a-in-loop-a.ensures.count_bound.2, ap distance c.past.ensures, a-pair c.loop-a.a (sym c.at_end.ensures ∙ c.loop-a-test.true))
+    omega (arith, c.seek-a-in-loop-a.ensures.nearer, ap distance c.past.ensures, a-pair c.loop-a.a (sym c.at_end.ensures ∙ c.loop-a-test.true))
 
 pub loop-a-preserved : goal.loop-a-preserved
 loop-a-preserved c = let a = c.seek-a-in-loop-a.ensures in
     let b = c.seek-b-in-loop-a.ensures in
     record {
-      first = (a.count_bound.0, a.count_bound.1);
-      second = (b.count_bound.0, b.count_bound.1);
+      first = a.stops;
+      second = b.stops;
       comes-to =
           compared-next c.loop-a.invariant (a-pair c.loop-a.a (sym c.at_end.ensures ∙ c.loop-a-test.true)) _ c.same_pair.ensures c.if-same_pair.true _ _
           (rw c.past.ensures at a.result_value) (rw c.past-in-loop-a.ensures at b.result_value);

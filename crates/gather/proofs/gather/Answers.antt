@@ -7,7 +7,7 @@ use Rattle.gather.proofs.gather.Goals as goal
 pub gather_nodes-t-requires : goal.gather_nodes-t-requires
 gather_nodes-t-requires c = let a = c.args in
     let k = c.clear in
-    (c.requires.0, c.requires.1.along, cleared-standing a.table.now a.order.now a.words.now a.bound a.report.now c.requires.1 k.new.nodes k.ensures, c.requires.1.most)
+    (c.requires.along, cleared-standing a.table.now a.order.now a.words.now a.bound a.report.now c.requires k.new.nodes k.ensures, c.requires.most)
 
 pub slice_bounds-close-end-2 : goal.slice_bounds-close-end-2
 slice_bounds-close-end-2 c = let g = c.gather_nodes-t in

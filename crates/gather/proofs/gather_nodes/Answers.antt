@@ -4,12 +4,12 @@ use Rattle.gather.proofs.Leaves.{walking-start, walking-room, walking-most, walk
 use Rattle.gather.proofs.gather_nodes.Goals as goal
 
 pub loop-n-init : goal.loop-n-init
-loop-n-init c = (c.requires.1, c.requires.3, walking-start _ _ _ _ _ c.requires.1 c.requires.3 c.requires.2)
+loop-n-init c = (c.requires.0, c.requires.2, walking-start _ _ _ _ _ c.requires.0 c.requires.2 c.requires.1)
 
 pub gather_node-p-requires : goal.gather_node-p-requires
 gather_node-p-requires c = let l = c.loop-n.invariant in
     let t = c.loop-n-test.true in
-    (c.requires.0, l.2.standing, walking-room _ _ _ _ _ l.0 l.1 _ _ _ _ l.2 t, walking-most _ _ _ _ _ l.0 l.1 _ _ _ _ l.2 t)
+    (l.2.standing, walking-room _ _ _ _ _ l.0 l.1 _ _ _ _ l.2 t, walking-most _ _ _ _ _ l.0 l.1 _ _ _ _ l.2 t)
 
 pub loop-n-preserved : goal.loop-n-preserved
 loop-n-preserved c = let l = c.loop-n.invariant in

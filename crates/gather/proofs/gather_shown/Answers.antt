@@ -4,14 +4,14 @@ use Rattle.gather.proofs.Leaves.{met-hidden, met-past, met-taken, met-most, kept
 use Rattle.gather.proofs.gather_shown.Goals as goal
 
 pub returns-then-s-before : goal.returns-then-s-before
-returns-then-s-before c = record { result_after = met-hidden _ _ _ _ _ _ _ _ c.if-s-before.true; standing = (c.requires.1, kept-same _ _) }
+returns-then-s-before c = record { result_after = met-hidden _ _ _ _ _ _ _ _ c.if-s-before.true; standing = (c.requires.0, kept-same _ _) }
 
 pub returns-then-not-under_fence : goal.returns-then-not-under_fence
-returns-then-not-under_fence c = let u = c.under_fence in record { result_after = met-past _ _ _ _ _ _ _ _ c.if-s-before.false (sym u.ensures ∙ c.if-not-under_fence.true); standing = (c.requires.1, kept-same _ _) }
+returns-then-not-under_fence c = let u = c.under_fence in record { result_after = met-past _ _ _ _ _ _ _ _ c.if-s-before.false (sym u.ensures ∙ c.if-not-under_fence.true); standing = (c.requires.0, kept-same _ _) }
 
 pub gather_slot-requires : goal.gather_slot-requires
 gather_slot-requires c = let u = c.under_fence in
-    (c.requires.1, c.requires.2, met-most _ _ _ _ _ _ _ _ c.if-s-before.false (sym u.ensures ∙ c.if-not-under_fence.false) _ c.requires.3)
+    (c.requires.0, c.requires.1, met-most _ _ _ _ _ _ _ _ c.if-s-before.false (sym u.ensures ∙ c.if-not-under_fence.false) _ c.requires.2)
 
 pub returns : goal.returns
 returns c = record {

@@ -34,10 +34,8 @@ insert_known-requires c =
     let p = judged-ready (insertion a.collection a.key a.recording a.access) _ _ _ _ (sym c.judge.ensures ∙ c.in_ok-checked.was) in
     let f = p.found in
     record {
-      table_value = f.is-sound;
-      table_value_2 = f.leftover-is;
-      reached_value = f.reached-are;
-      table_value_3 = p.collection;
+      found = record { is-sound = f.is-sound; leftover-is = f.leftover-is; reached-are = f.reached-are };
+      table_value = p.collection;
       dock_bound = p.dock-ok;
       dock_in_bounds = p.long;
       known_value = found-here a.collection a.table.now _ c.root_of.ensures _ _ c.has_recording-known.ensures;

@@ -10,6 +10,6 @@ use Rattle.insert.proofs.split_run.Given as goal
 abbrev pub invariant-loop-l : goal.invariant-loop-l
 invariant-loop-l l = record {
   marked : Marked l.writer.table.now l.marks;
-  ready : Ready l.l l.collection l.writer.table.now l.key;
-  left : Rest (splits l.collection l.l l.writer.table.now l.key) l.initial.writer l.writer (stored_all (splits l.collection l.count l.initial.writer.table.now l.key) (of l.initial.writer));
+  ready : Ready l.l l.x.collection l.writer.table.now l.x.key;
+  left : Rest (splits l.x.collection l.l l.writer.table.now l.x.key) l.initial.writer l.writer (stored_all (splits l.x.collection l.count l.initial.writer.table.now l.x.key) (of l.initial.writer));
 }

@@ -11,9 +11,9 @@ returns-then-pairs-lt2 c = let a = c.args in
     let g = gives-none a.collection a.dock a.pairs.now a.list.now a.table.now c.if-pairs-lt2.true _ c.stopped.ensures in record { value = g.0; table_after = g.1.0; list_after = g.1.1 }
 
 -- the table is ready for the call of any pair
-pub take_all-p-requires : goal.take_all-p-requires
-take_all-p-requires c = let p = judged-ready (insertion_of c.args.collection (slot 0 0)) _ _ _ _ (sym c.judge.ensures ∙ c.in-Ok.is) in let f = p.found in
-    record { table_value = f.is-sound; table_value_2 = f.leftover-is; reached_value = f.reached-are; table_value_3 = p.collection; dock_bound = p.dock-ok }
+pub take_all-requires : goal.take_all-requires
+take_all-requires c = let p = judged-ready (insertion_of c.args.collection (slot 0 0)) _ _ _ _ (sym c.judge.ensures ∙ c.in-Ok.is) in let f = p.found in
+    record { found = record { is-sound = f.is-sound; leftover-is = f.leftover-is; reached-are = f.reached-are }; table_value = p.collection; dock_bound = p.dock-ok }
 
 pub returns-in-Err : goal.returns-in-Err
 returns-in-Err c = let a = c.args in
@@ -22,4 +22,4 @@ returns-in-Err c = let a = c.args in
 
 pub returns-in-Ok : goal.returns-in-Ok
 returns-in-Ok c = let a = c.args in
-    let g = gives-all a.collection a.dock a.pairs.now a.list.now a.table.now c.take_all-p.result _ _ c.take_all-p.ensures in record { value = g.0; table_after = g.1.0; list_after = g.1.1 }
+    let g = gives-all a.collection a.dock a.pairs.now a.list.now a.table.now c.take_all.result _ _ c.take_all.ensures in record { value = g.0; table_after = g.1.0; list_after = g.1.1 }

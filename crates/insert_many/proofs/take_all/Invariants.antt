@@ -3,7 +3,6 @@
 use mathlib.Core.Path.{◌≡◌}
 use Prim.Native.Nat.{◌/◌}
 use lib.ListN.{length}
-use Rattle.std.specs.Prelude.{None}
 use Rattle.model.specs.Slots.{slots_of}
 use Rattle.model.specs.Reached.{map_of}
 use Rattle.model.specs.Batch.{batch}
@@ -16,7 +15,6 @@ abbrev pub invariant-loop-i : goal.invariant-loop-i
 invariant-loop-i l = record {
   counted : l.count ≡ length l.pairs / 2;
   taken-are : l.p.taken ≡ l.i;
-  goes-on : l.p.stop ≡ None;
   fit : Fit l.collection l.dock l.p l.list l.table;
   same : ahead l.collection l.dock (slots_of l.pairs) l.p l.list l.table ≡ batch l.collection l.dock (slots_of l.pairs) l.initial.list l.initial.table;
   new : New (map_of l.collection l.table) (recordings_of l.pairs l.i l.end);

@@ -1,12 +1,11 @@
 -- `isrc::character_of` meets its contract.
 use mathlib.Core.Path.{sym}
+use native.Mathlib.Omega.{arith}
 use Rattle.isrc.proofs.Characters.{character-small, character-large}
 use Rattle.isrc.proofs.character_of.Goals as goal
 
--- src/lib.rt:116:9
-pub returns-then-d-lt10 : goal.returns-then-d-lt10
-returns-then-d-lt10 c = sym (character-small c.args.d c.if-d-lt10.true)
+pub returns-in-0-to-9 : goal.returns-in-0-to-9
+returns-in-0-to-9 c = sym (character-small c.args.d (omega arith))
 
--- src/lib.rt:111:1
-pub returns : goal.returns
-returns c = sym (character-large c.args.d c.if-d-lt10.false)
+pub returns-in_default : goal.returns-in_default
+returns-in_default c = omega (arith, character-large c.args.d (omega arith))

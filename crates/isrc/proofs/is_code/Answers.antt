@@ -7,7 +7,7 @@ use Rattle.model.specs.Lists.{all}
 use Rattle.isrc.specs.Kinds.{test}
 use Rattle.isrc.specs.declared.Kind.TheVariants.{Letter, LetterOrDigit, Digit}
 use Rattle.isrc.proofs.Codes.{rest}
-use Rattle.isrc.proofs.is_code.Goals.{then-text-eq12, else-text-eq12, then-all_of, else-all_of}
+use Rattle.isrc.proofs.is_code.Goals.{Joined-all_of, then-text-eq12, else-text-eq12, then-all_of, else-all_of}
 use Rattle.isrc.proofs.is_code.Goals as goal
 
 -- a test joined to those before it, if they were passed, and if not
@@ -29,9 +29,10 @@ parts : (text : List ℕ) (v w x : Bool)
 unfolding is_code test
 parts text v w x e f g = rw (g, f, e) (grouped (eqb (length text) 12) (all (test Letter) (take 2 text)) (all (test LetterOrDigit) (take 3 (drop 2 text))) (all (test Digit) (drop 5 text)))
 
-pub returns-then-all_of-2 : goal.returns-then-all_of-2
-returns-then-all_of-2 c =
-    parts c.args.text.now _ _ _
+-- the answer, where the tests but the last came together
+whole : (c : Joined-all_of) (x : Bool) → x ≡ (c.if-all_of.value && all (test Digit) (drop 5 c.args.text.now)) → x ≡ is_code c.args.text.now
+whole c x e =
+    parts c.args.text.now _ _ x
     (elim c.if-text-eq12.branch [
       | then-text-eq12 v ↦ passed _ _ _ (eq-eqb _ _ v.if-text-eq12.true) (v.value-is ∙ v.all_of.ensures)
       | else-text-eq12 v ↦ failed _ _ _ (ne_eqb _ _ v.if-text-eq12.false) v.value-is
@@ -40,17 +41,12 @@ returns-then-all_of-2 c =
       | then-all_of w ↦ passed _ _ _ w.if-all_of.true (w.value-is ∙ w.all_of-then-all_of.ensures)
       | else-all_of w ↦ failed _ _ _ w.if-all_of.false w.value-is
     ])
+    e
+
+pub returns-then-all_of-2 : goal.returns-then-all_of-2
+returns-then-all_of-2 c =
+    whole (goal.at.returns-then-all_of-2 c).Joined-all_of _
     (passed _ _ _ c.if-all_of-2.true (c.all_of-then-all_of-2.ensures ∙ ap (all (test Digit)) (rest 5 c.args.text.now)))
 
 pub returns-else-all_of-2 : goal.returns-else-all_of-2
-returns-else-all_of-2 c =
-    parts c.args.text.now _ _ _
-    (elim c.if-text-eq12.branch [
-      | then-text-eq12 v ↦ passed _ _ _ (eq-eqb _ _ v.if-text-eq12.true) (v.value-is ∙ v.all_of.ensures)
-      | else-text-eq12 v ↦ failed _ _ _ (ne_eqb _ _ v.if-text-eq12.false) v.value-is
-    ])
-    (elim c.if-all_of.branch [
-      | then-all_of w ↦ passed _ _ _ w.if-all_of.true (w.value-is ∙ w.all_of-then-all_of.ensures)
-      | else-all_of w ↦ failed _ _ _ w.if-all_of.false w.value-is
-    ])
-    (failed _ _ _ c.if-all_of-2.false refl)
+returns-else-all_of-2 c = whole (goal.at.returns-else-all_of-2 c).Joined-all_of _ (failed _ _ _ c.if-all_of-2.false refl)

@@ -1,5 +1,6 @@
 -- `judge::finish` meets its contract.
 use mathlib.Core.Path.{sym, ◌∙◌}
+use borrow.Author.Tests.{not-true, not-false}
 use Rattle.two_laws.proofs.SearchTwo.{sound-head}
 use Rattle.write.proofs.Rooted.{root-sound}
 use Rattle.judge.proofs.Rest.{end-line, end-unsettled, end-pointer, end-yes, held-own}
@@ -18,12 +19,12 @@ root_of-root-requires-clause-table_value c = sound-head c.args.image.now c.requi
 pub held-requires : goal.held-requires
 held-requires c = root-sound _ c.args.image.now _ c.root_of-root.ensures c.requires.image_value c.requires.image_value_2
 
-pub returns-then-held-change : goal.returns-then-held-change
-returns-then-held-change c =
+pub returns-then-ne : goal.returns-then-ne
+returns-then-ne c =
     end-pointer _ _ _ _ (sym c.is_some.ensures ∙ c.if-is_some.false) (sym c.is_settled.ensures ∙ c.if-not-is_settled.false)
-    _ (held-own c.args.image.now _ _ _ c.root_of-root.ensures _ c.held.ensures) c.if-held-change.true
+    _ (held-own c.args.image.now _ _ _ c.root_of-root.ensures _ c.held.ensures) (not-true _ (sym c.ne.ensures ∙ c.if-ne.true))
 
 pub returns : goal.returns
 returns c =
     end-yes _ _ _ _ (sym c.is_some.ensures ∙ c.if-is_some.false) (sym c.is_settled.ensures ∙ c.if-not-is_settled.false)
-    _ (held-own c.args.image.now _ _ _ c.root_of-root.ensures _ c.held.ensures) c.if-held-change.false
+    _ (held-own c.args.image.now _ _ _ c.root_of-root.ensures _ c.held.ensures) (not-false _ (sym c.ne.ensures ∙ c.if-ne.false))

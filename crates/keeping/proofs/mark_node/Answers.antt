@@ -1,4 +1,7 @@
 -- `keeping::mark_node` meets its contract.
+use mathlib.Core.Path.{◌≡◌, ◌∙◌}
+use mathlib.Core.Bool.{cond}
+use Rattle.keeping.proofs.Marks.{marked-one}
 use Rattle.keeping.proofs.Nodes.{looking-start, looking-step, looking-stop, looking-end, looking-none}
 use Rattle.keeping.proofs.mark_node.Goals as goal
 
@@ -15,7 +18,9 @@ returns-then-pointer-eq0 c = let l = c.loop-i.invariant in looking-stop _ _ _ _ 
 
 pub loop-i-preserved : goal.loop-i-preserved
 loop-i-preserved c = let l = c.loop-i.invariant in
-    (l.0, looking-step _ _ _ _ l.0 _ _ _ _ _ l.1 c.loop-i-test.true c.if-pointer-eq0.false _ _ c.mark_slot-kept.ensures)
+    let m = c.mark_slot-marked in
+    let e : c.from-kept.result ≡ cond m.result 1 0 = c.from-kept.ensures ∙ marked-one m.result in
+    (l.0, looking-step _ _ _ _ l.0 _ _ _ _ _ l.1 c.loop-i-test.true c.if-pointer-eq0.false _ _ (rw e m.ensures))
 
 pub returns : goal.returns
 returns c = let l = c.loop-i.invariant in looking-end _ _ _ _ l.0 _ _ _ _ _ l.1 c.loop-i-test.false

@@ -30,4 +30,4 @@ returns c = let a = c.args in
     subst (λ (ms : Words). Marked a.table.now a.order.now a.marks.now ms (12 * a.j + a.i) a.pair.key a.pair.pointer (met a.table.now a.sibling a.before a.i a.pair.key a.pair.pointer) 1)
     (sym c.put.ensures)
     (marked-kept a.table.now a.order.now a.marks.now (12 * a.j + a.i) a.pair.key a.pair.pointer a.sibling a.before a.i c.if-pair-before.false
-    (sym u.ensures ∙ c.if-not-under_fence.false) (sym k.ensures ∙ c.if-not-keeps.false) (omega (arith, c.requires.1, c.requires.2, c.requires.4)))
+    (sym u.ensures ∙ c.if-not-under_fence.false) (sym k.ensures ∙ c.if-not-keeps.false) (omega (arith, c.requires.0, c.requires.1)))

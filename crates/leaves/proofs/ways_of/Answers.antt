@@ -3,4 +3,4 @@ use Rattle.leaves.proofs.WaysLaws.{ways-are}
 use Rattle.leaves.proofs.ways_of.Goals as goal
 
 pub returns : goal.returns
-returns c = record { result_value = ways-are _ _ _ _ c.read-x.ensures c.word-bound.ensures _ c.gather.ensures.result_value; count_bound = c.gather.ensures.count_bound }
+returns c = ways-are _ _ _ _ c.read-x.ensures c.word-bound.ensures c.gather.result c.gather.ensures

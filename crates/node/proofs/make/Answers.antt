@@ -1,7 +1,6 @@
 -- `node::make` meets its contract.
-use mathlib.Core.Path.{sym, ◌∙◌}
-use native.Mathlib.Omega.{arith}
-use lib.ListN.{length-set}
+use Rattle.std.proofs.Common.{◌≡◌, sym, ◌∙◌, rules, arith, length}
+use Rattle.std.proofs.Math.ListN.{length-set, replicate}
 use Rattle.list_laws.proofs.Tools.{handed-on}
 use Rattle.model.proofs.Numbers.{passed-zero, failed-some, failed-with}
 use Rattle.table_laws.proofs.Making.{makes}
@@ -29,8 +28,9 @@ bounds-table-8 c = simp length-set (omega (arith, (makes _ _ (passed-zero _ (sym
 
 pub returns-then-collections-eq1 : goal.returns-then-collections-eq1
 returns-then-collections-eq1 c =
+    let f : c.fill.new.self ≡ replicate (length c.args.table.now) 0 = search rules in
     let z = passed-zero _ (sym c.may_make.ensures ∙ c.in_ok-may_make.was) in
-    let both = making-one _ _ _ z _ (nodes-in-sized _ _ _ c.nodes_in-n.ensures (makes _ _ z).size) c.zero.ensures c.if-collections-eq1.true in
+    let both = making-one _ _ _ z _ (nodes-in-sized _ _ _ c.nodes_in-n.ensures (makes _ _ z).size) f c.if-collections-eq1.true in
     record { value = both.0; table_after = both.1 }
 
 pub bounds-table-3 : goal.bounds-table-3
@@ -47,5 +47,6 @@ pub returns : goal.returns
 returns c =
     let z = passed-zero _ (sym c.may_make.ensures ∙ c.in_ok-may_make.was) in
     let m = makes _ _ z in
-    let both = making-two _ _ _ z _ (nodes-in-sized _ _ _ c.nodes_in-n.ensures m.size) c.zero.ensures (m.two c.if-collections-eq1.false).0 in
+    let f : c.fill.new.self ≡ replicate (length c.args.table.now) 0 = search rules in
+    let both = making-two _ _ _ z _ (nodes-in-sized _ _ _ c.nodes_in-n.ensures m.size) f (m.two c.if-collections-eq1.false).0 in
     record { value = both.0; table_after = both.1 }

@@ -1,5 +1,5 @@
 -- `node::may_make` meets its contract.
-use mathlib.Core.Path.{sym, ◌∙◌}
+use Rattle.std.proofs.Common.{sym, ◌∙◌, rules}
 use Rattle.model.specs.declared.Refusal.TheVariants.{NoTable, NoCollection}
 use Rattle.model.proofs.Numbers.{passes, fails}
 use Rattle.node.proofs.Answers.{nodes-in-refused, nodes-in-found}
@@ -9,15 +9,14 @@ use Rattle.node.proofs.may_make.Goals as goal
 pub returns-then-n-eq0 : goal.returns-then-n-eq0
 returns-then-n-eq0 c = fails NoTable (number-length _ _ (nodes-in-refused _ (sym c.nodes_in-n.ensures ∙ c.if-n-eq0.true)))
 
-pub returns-then-collections-eq1 : goal.returns-then-collections-eq1
-returns-then-collections-eq1 c = passes (number-one _ _ _ (nodes-in-found _ _ c.nodes_in-n.ensures c.if-n-eq0.false) c.if-collections-eq1.true)
+pub returns-in-1 : goal.returns-in-1
+returns-in-1 c = passes (number-one _ _ _ (nodes-in-found _ _ c.nodes_in-n.ensures c.if-n-eq0.false) c.in-1.is)
 
-pub returns-then-collections-ne2 : goal.returns-then-collections-ne2
-returns-then-collections-ne2 c =
-    fails NoCollection (number-other _ _ _ (nodes-in-found _ _ c.nodes_in-n.ensures c.if-n-eq0.false) c.if-collections-eq1.false c.if-collections-ne2.true)
+pub returns-in-2 : goal.returns-in-2
+returns-in-2 c = fails NoTable (number-small _ _ _ (nodes-in-found _ _ c.nodes_in-n.ensures c.if-n-eq0.false) c.in-2.is c.if-n-eq1.true)
 
-pub returns-then-n-eq1 : goal.returns-then-n-eq1
-returns-then-n-eq1 c = fails NoTable (number-small _ _ _ (nodes-in-found _ _ c.nodes_in-n.ensures c.if-n-eq0.false) c.if-collections-ne2.false c.if-n-eq1.true)
+pub returns-in-2-2 : goal.returns-in-2-2
+returns-in-2-2 c = passes (number-two _ _ _ (nodes-in-found _ _ c.nodes_in-n.ensures c.if-n-eq0.false) c.in-2.is c.if-n-eq1.false)
 
-pub returns : goal.returns
-returns c = passes (number-two _ _ _ (nodes-in-found _ _ c.nodes_in-n.ensures c.if-n-eq0.false) c.if-collections-ne2.false c.if-n-eq1.false)
+pub returns-in_default : goal.returns-in_default
+returns-in_default c = fails NoCollection (number-other _ _ _ (nodes-in-found _ _ c.nodes_in-n.ensures c.if-n-eq0.false) (search rules) (search rules))

@@ -10,7 +10,7 @@ use lib.ListN.{length}
 use Rattle.model.specs.Table.{Words, at}
 use Rattle.table_laws.proofs.Header.{LengthFacts, HeaderFacts}
 use Rattle.node.proofs.Answers.{header-nodes, nodes-in-found}
-use Rattle.node.proofs.Roots.{fits-two, fits-not, root-refused, root-first, root-second, root-other}
+use Rattle.node.proofs.Roots.{fits-two, fits-not, range-yes, range-not, root-refused, root-first, root-second, root-other}
 use Rattle.node.proofs.root.Goals as goal
 
 -- what the tests of all words of the header found
@@ -46,11 +46,10 @@ loop-w-init c = (nodes-in-found _ _ c.nodes_in-n.ensures c.if-n-eq0.false, λ k 
 pub returns-then-table-w-ne0 : goal.returns-then-table-w-ne0
 returns-then-table-w-ne0 c = sym (root-refused _ _ (λ f. omega (arith, f.zeros c.loop-w.w (omega arith) (omega arith))))
 
-pub returns-then-first-eq0 : goal.returns-then-first-eq0
-returns-then-first-eq0 c = sym (root-refused _ _ (λ f. omega arith))
-
-pub returns-then-n-first : goal.returns-then-n-first
-returns-then-n-first c = sym (root-refused _ _ (λ f. omega arith))
+pub returns-then-not-in_range : goal.returns-then-not-in_range
+returns-then-not-in_range c =
+    let r : c.in_range.result ≡ false = search rules in
+    sym (root-refused _ c.args.table.now (λ f. range-not _ _ (sym c.in_range.ensures ∙ r) f.root-some (omega (arith, f.root-in, header-nodes c.args.table.now _ c.nodes_in-n.ensures f))))
 
 pub returns-then-not-second_fits : goal.returns-then-not-second_fits
 returns-then-not-second_fits c =
@@ -59,10 +58,14 @@ returns-then-not-second_fits c =
 
 pub returns-in-1 : goal.returns-in-1
 returns-in-1 c = let inv = c.loop-w.invariant in
+    let r : c.in_range.result ≡ true = search rules in
+    let u = range-yes _ _ (sym c.in_range.ensures ∙ r) in
     rw c.in-1.is (sym (root-first _ (facts _ _ _ inv.0 (omega arith) (omega arith) (λ k h. inv.1 k (omega arith)) (omega arith) (omega arith) c.second_fits.ensures (search rules))))
 
 pub returns-in-2 : goal.returns-in-2
 returns-in-2 c = let inv = c.loop-w.invariant in
+    let r : c.in_range.result ≡ true = search rules in
+    let u = range-yes _ _ (sym c.in_range.ensures ∙ r) in
     rw c.in-2.is (sym (root-second _ (facts _ _ _ inv.0 (omega arith) (omega arith) (λ k h. inv.1 k (omega arith)) (omega arith) (omega arith) c.second_fits.ensures (search rules))))
 
 pub returns-in_default : goal.returns-in_default

@@ -2,8 +2,8 @@
 use Rattle.numbers.proofs.Trying.{next-first, next-up}
 use Rattle.numbers.proofs.next_cell.Goals as goal
 
-pub returns-then-next-places : goal.returns-then-next-places
-returns-then-next-places c = next-first _ _ c.if-next-places.true
+pub returns-then-next-places-clause-value : goal.returns-then-next-places-clause-value
+returns-then-next-places-clause-value c = next-first _ _ c.if-next-places.true
 
-pub returns : goal.returns
-returns c = next-up _ _ c.if-next-places.false
+pub returns-clause-value : goal.returns-clause-value
+returns-clause-value c = next-up _ _ c.if-next-places.false

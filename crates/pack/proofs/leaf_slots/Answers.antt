@@ -1,12 +1,13 @@
 -- `pack::leaf_slots` meets its contract.
-use mathlib.Core.Path.{sym, ◌∙◌}
-use Rattle.pack.proofs.Filling.{leaf-step, leaf-short}
+use mathlib.Core.Path.{◌≡◌}
+use Prim.Native.Nat.{◌+◌, ◌-◌, ◌*◌}
+use native.Mathlib.Omega.{arith}
+use Rattle.pack.proofs.Filling.{leaf-copied}
 use Rattle.pack.proofs.leaf_slots.Goals as goal
 
-pub returns-then-pairs-p : goal.returns-then-pairs-p
-returns-then-pairs-p c = let l = c.loop-i in sym (leaf-short _ _ _ _ _ c.if-pairs-p.true) ∙ l.invariant
-
-pub loop-i-preserved : goal.loop-i-preserved
-loop-i-preserved c = let l = c.loop-i in
-    let a = c.args in
-    sym (leaf-step a.nodes.now a.pairs a.j l.slots l.i c.loop-i-test.true c.if-pairs-p.false c.requires.0) ∙ l.invariant
+pub returns : goal.returns
+returns c = let a = c.args in
+    let r = c.requires in
+    let k = c.min-count.result in
+    let e : 22 * a.j + k - 22 * a.j ≡ k = omega arith in
+    leaf-copied a.nodes.now a.pairs a.j _ _ r.0 r.1 c.min-count.ensures (rw e at c.copy_from_slice.ensures.after)

@@ -10,5 +10,5 @@ pub returns-then-not-is_taken : goal.returns-then-not-is_taken
 returns-then-not-is_taken c = unreached-names-none _ _ _ c.word.ensures _ c.if-word-eq0.false (sym c.is_taken.ensures ∙ c.if-not-is_taken.true)
 
 pub returns : goal.returns
-returns c = ways-named _ _ _ c.word.ensures _ c.if-word-eq0.false _ _ _ c.read-x.ensures c.word-bound.ensures c.gather.ensures.result_value
+returns c = ways-named _ _ _ c.word.ensures _ c.if-word-eq0.false c.ways_of.result c.ways_of.ensures
     (sym c.is_taken.ensures ∙ c.if-not-is_taken.false) _ c.mark_ways.ensures

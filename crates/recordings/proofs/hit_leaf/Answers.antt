@@ -7,6 +7,7 @@ use Rattle.slots.specs.Scan.{kept_of}
 use Rattle.slots.proofs.Scans.{scan-past, scan-stop, scan-more}
 use Rattle.recordings.specs.Rounds.{Hits, hits, hit_all, place_of, suspect}
 use Rattle.recordings.proofs.LeafLaws.{slot-passed, hit-none, hit-more}
+use Rattle.recordings.proofs.RoundLaws.{if-joined}
 use Rattle.recordings.proofs.hit_leaf.Goals as goal
 use Rattle.recordings.proofs.hit_leaf.Goals.{then-is_way, else-is_way}
 
@@ -25,7 +26,7 @@ loop-i-preserved c = let a = c.args in let l = c.loop-i in
     let F = comes a.round a.olds.now a.x a.bound l.before h in
     elim c.if-is_way.branch [
       | then-is_way w ↦ scan-more F _ l.i l.invariant (omega arith) c.if-p-eq0.false
-          (rw (w.once-is, w.twice-is, w.crowded-is) (hit-more _ _ _ _ _ _ _ c.is_way.ensures w.if-is_way.true _ _ _ _ _ w.recording.ensures w.hit_number-crowded.ensures))
+          (rw (w.once-is, w.twice-is, w.crowded-is) (hit-more _ _ _ _ _ _ _ c.is_way.ensures w.if-is_way.true _ _ _ _ _ w.recording.ensures (if-joined _ _ l.once l.twice l.crowded _ _ _ _ w.hit_number-crowded.ensures)))
       | else-is_way w ↦ scan-more F _ l.i l.invariant (omega arith) c.if-p-eq0.false
           (rw (w.once-is, w.twice-is, w.crowded-is)
           (slot-passed _ _ _ _ _ _ _ c.is_way.ensures (λ (ss : List Slot). hit_all (suspect a.round a.olds.now) (place_of a.round) (map recording ss) h) w.if-is_way.false))

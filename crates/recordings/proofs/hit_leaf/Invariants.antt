@@ -1,5 +1,5 @@
 -- `recordings::hit_leaf` meets its contract. The loop keeps what hitting the places of the slots from i on comes to.
-use Rattle.std.proofs.Common.{◌≡◌, map}
+use Rattle.std.proofs.Common.{◌≡◌, false, map}
 use Rattle.model.specs.Slots.{recording}
 use Rattle.slots.specs.Scan.{shown_from, kept_of}
 use Rattle.recordings.specs.Marked.{kept_in}
@@ -9,4 +9,4 @@ use Rattle.recordings.proofs.hit_leaf.Given as goal
 abbrev pub invariant-loop-i : goal.invariant-loop-i
 invariant-loop-i l =
     hit_all (suspect l.round l.olds) (place_of l.round) (map recording (kept_of l.x.sibling l.bound (shown_from l.before l.x.slots l.i))) (hits l.once l.twice l.crowded)
-    ≡ hit_all (suspect l.round l.olds) (place_of l.round) (map recording (kept_in l.x l.bound)) (hits l.initial.once l.initial.twice l.initial.crowded)
+    ≡ hit_all (suspect l.round l.olds) (place_of l.round) (map recording (kept_in l.x l.bound)) (hits l.initial.once l.initial.twice false)

@@ -1,11 +1,11 @@
 -- `salvage::salvage` meets its contract.
-use mathlib.Core.Path.{refl, sym, ◌∙◌}
+use mathlib.Core.Path.{sym, ◌∙◌}
 use native.Mathlib.Omega.{arith}
 use Rattle.list_laws.proofs.Tools.{handed-on}
 use Rattle.model.proofs.Numbers.{failed-some, failed-with}
 use Rattle.salvage.proofs.Entering.{words-some}
 use Rattle.salvage.proofs.Bounds.{grown, fits}
-use Rattle.salvage.proofs.Call.{header-good, order-long, refused-header, refused-length, refused-report, refused-outgrown, salvaged}
+use Rattle.salvage.proofs.Call.{header-good, refused-header, refused-length, refused-report, refused-outgrown, salvaged}
 use Rattle.salvage.proofs.salvage.Goals as goal
 
 pub returns-in_err-header : goal.returns-in_err-header
@@ -36,10 +36,10 @@ returns-then-report-top c = let a = c.args in
     let h = header-good a.table.now c.header.ensures c.in_ok-header.was in let both = refused-report a.table.now a.out.now a.report.now h c.if-out-table.false c.if-report-top.true in
     record { value = both.0; out_after = both.1.0; report_after = both.1.1 }
 
-pub enter_nodes-counts-requires : goal.enter_nodes-counts-requires
-enter_nodes-counts-requires c = let a = c.args in
+pub enter_nodes-entered-requires : goal.enter_nodes-entered-requires
+enter_nodes-entered-requires c = let a = c.args in
     let h = header-good a.table.now c.header.ensures c.in_ok-header.was in
-    (h, refl, order-long)
+    h
 
 pub needed_both-requires : goal.needed_both-requires
 needed_both-requires c = let a = c.args in
@@ -50,22 +50,22 @@ needed_both-requires c = let a = c.args in
 pub returns-then-top-needed_both : goal.returns-then-top-needed_both
 returns-then-top-needed_both c = let a = c.args in
     let h = header-good a.table.now c.header.ensures c.in_ok-header.was in
-    let e = c.enter_nodes-counts in
+    let e = c.enter_nodes-entered in
     let m = c.most_kept-bounds in
-    let g = grown a.table.now e.new.order _ _ _ e.ensures m.result.one m.result.two _ c.needed_both.ensures m.ensures.two_value c.if-top-needed_both.true in let both =
+    let g = grown a.table.now _ _ e.ensures.toured m.result.one m.result.two _ c.needed_both.ensures m.ensures.two_value c.if-top-needed_both.true in let both =
     refused-outgrown a.table.now a.out.now a.report.now h c.if-out-table.false c.if-report-top.false g in record { value = both.0; out_after = both.1.0; report_after = both.1.1 }
 
 pub rebuild-dropped-requires : goal.rebuild-dropped-requires
-rebuild-dropped-requires c = let e = c.enter_nodes-counts in
+rebuild-dropped-requires c = let e = c.enter_nodes-entered in
     let m = c.most_kept-bounds in
-    let b = fits c.args.table.now e.new.order _ _ _ e.ensures m.result.one m.result.two _ c.needed_both.ensures m.ensures.two_value c.if-top-needed_both.false in
-    (e.ensures, m.ensures.most, b.0, c.if-out-table.false, c.if-report-top.false)
+    let b = fits c.args.table.now _ _ e.ensures.toured m.result.one m.result.two _ c.needed_both.ensures m.ensures.two_value c.if-top-needed_both.false in
+    (e.ensures.toured, m.ensures.most, b.0, c.if-out-table.false, c.if-report-top.false)
 
 pub returns : goal.returns
 returns c = let a = c.args in
     let h = header-good a.table.now c.header.ensures c.in_ok-header.was in
-    let e = c.enter_nodes-counts in
+    let e = c.enter_nodes-entered in
     let m = c.most_kept-bounds in
-    let b = fits a.table.now e.new.order _ _ _ e.ensures m.result.one m.result.two _ c.needed_both.ensures m.ensures.two_value c.if-top-needed_both.false in
+    let b = fits a.table.now _ _ e.ensures.toured m.result.one m.result.two _ c.needed_both.ensures m.ensures.two_value c.if-top-needed_both.false in
     let r = c.rebuild-dropped in let both = salvaged a.table.now a.out.now a.report.now h c.if-out-table.false c.if-report-top.false b.1 r.result r.new.out
     r.new.report r.ensures.out_after r.ensures.reported in record { value = both.0; out_after = both.1.0; report_after = both.1.1 }

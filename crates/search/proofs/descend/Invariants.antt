@@ -1,11 +1,9 @@
--- `search::descend` meets its contract. The loop keeps that from node n on the same leaf is come to as from the root.
+-- `search::descend` meets its contract. The loop keeps that from the node stood on the same is seen of the leaf as from the root.
 use mathlib.Core.Path.{◌≡◌}
 use Rattle.model.specs.Slots.{view}
-use Rattle.search.specs.Descent.{locate_within}
+use Rattle.search.specs.Descent.{seen_in, locate_from}
+use Rattle.search.proofs.Standing.{from_there}
 use Rattle.search.proofs.descend.Given as goal
 
-abbrev pub invariant-loop-root : goal.invariant-loop-root
-invariant-loop-root l = locate_within (view l.table) l.low l.high l.n l.key ≡ locate_within (view l.table) 0 15 l.root l.key
-
-abbrev pub decreases-loop-root : goal.decreases-loop-root
-decreases-loop-root l = l.high
+abbrev pub invariant-loop-level : goal.invariant-loop-level
+invariant-loop-level l = from_there (view l.table) l.key l.level l.s ≡ seen_in (view l.table) l.key (locate_from (view l.table) l.root l.key)

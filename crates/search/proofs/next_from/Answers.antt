@@ -1,9 +1,11 @@
 -- `search::next_from` meets its contract. The loop keeps that from the leaf that is read the same is found as from the first one.
 use Rattle.std.specs.Prelude.{◌≡◌, ◌+◌, ◌-◌}
 use native.Mathlib.Omega.{arith}
+use mathlib.Core.Path.{sym, ◌∙◌}
+use Rattle.list_laws.proofs.Tools.{handed-on}
 use Rattle.model.specs.Table.{nodes}
-use Rattle.search.proofs.Standing.{header-words}
-use Rattle.search.proofs.Following.{first-turn, turns-over, turn-last, turn-out, turn-high, turn-found, turn-on}
+use Rattle.search.proofs.Standing.{header-words, got-none, got-some}
+use Rattle.search.proofs.Following.{first-turn, turns-over, turn-last, turn-lost, turn-found, turn-on}
 use Rattle.search.proofs.next_from.Goals as goal
 
 pub bounds-table-2 : goal.bounds-table-2
@@ -16,26 +18,24 @@ loop-entered-init c =
     rw e (first-turn t c.args.key c.args.leaf _ c.args.read c.requires.leaf_value c.requires.read_value)
 
 pub returns-then-sibling-eq0 : goal.returns-then-sibling-eq0
-returns-then-sibling-eq0 c = turn-last _ _ _ _ _ c.loop-entered.invariant (omega arith) c.if-sibling-eq0.true _ c.above-last.ensures
+returns-then-sibling-eq0 c = turn-last _ _ _ _ _ c.loop-entered.invariant (omega arith) c.if-sibling-eq0.true _ c.above.ensures
 
-pub returns-then-not-has : goal.returns-then-not-has
-returns-then-not-has c = turn-out _ _ _ _ _ c.loop-entered.invariant (omega arith) c.requires.table_value c.if-sibling-eq0.false _ c.has.ensures (c.if-not-has.true)
+pub returns-in_err-y : goal.returns-in_err-y
+returns-in_err-y c = let u = got-none _ (sym c.ok_or.ensures.value ∙ c.in_err-y.was) in
+    rw (handed-on c.from_residual.ensures.1) (u.1 ∙ turn-lost _ _ _ _ _ c.loop-entered.invariant (omega arith) c.if-sibling-eq0.false _ c.read_on.ensures u.0)
 
-pub returns-then-y-ne0 : goal.returns-then-y-ne0
-returns-then-y-ne0 c =
-    turn-high _ _ _ _ _ c.loop-entered.invariant (omega arith) c.requires.table_value c.if-sibling-eq0.false _ c.has.ensures (c.if-not-has.false) _ c.read-y.ensures c.if-y-ne0.true
-
-pub returns-in-Some : goal.returns-in-Some
-returns-in-Some c = turn-found _ _ _ _ _ c.loop-entered.invariant (omega arith) c.requires.table_value c.if-sibling-eq0.false _ c.has.ensures (c.if-not-has.false) _ c.read-y.ensures
-    c.if-y-ne0.false _ c.above-next.ensures _ c.in-Some.is
+pub returns-then-is_some : goal.returns-then-is_some
+returns-then-is_some c =
+    turn-found _ _ _ _ _ c.loop-entered.invariant (omega arith) c.if-sibling-eq0.false _ c.read_on.ensures _ (got-some _ (sym c.ok_or.ensures.value ∙ c.in_ok-y.was))
+    _ c.above-next.ensures (sym c.is_some.ensures ∙ c.if-is_some.true)
 
 pub loop-entered-preserved : goal.loop-entered-preserved
 loop-entered-preserved c =
     let n = nodes c.args.table.now in
     let i = c.loop-entered.entered in
     let e : n - (i + 1) ≡ n - i - 1 = omega arith in
-    rw e (turn-on _ _ _ _ _ c.loop-entered.invariant (omega arith) c.requires.table_value c.if-sibling-eq0.false _ c.has.ensures (c.if-not-has.false) _ c.read-y.ensures
-    c.if-y-ne0.false _ c.above-next.ensures c.in_default.is)
+    rw e (turn-on _ _ _ _ _ c.loop-entered.invariant (omega arith) c.if-sibling-eq0.false _ c.read_on.ensures _ (got-some _ (sym c.ok_or.ensures.value ∙ c.in_ok-y.was))
+    _ c.above-next.ensures (sym c.is_some.ensures ∙ c.if-is_some.false))
 
 pub returns : goal.returns
 returns c = turns-over _ _ _ _ _ c.loop-entered.invariant (omega arith)

@@ -1,43 +1,51 @@
--- `sentinels::leaf_for` meets its contract. The loop keeps that from node n on the same leaf is come to as from the root.
-use mathlib.Core.Path.{refl, ap, sym, ◌∙◌}
-use mathlib.Core.Option.{Option}
-use Prim.Native.Nat.{ℕ}
-use borrow.Author.Tests.{eq-eqb}
-use Rattle.model.specs.Slots.{View, view}
-use Rattle.search.specs.declared.Stood.{Stood}
-use Rattle.search.specs.Descent.{seen_in}
-use Rattle.search.proofs.Standing.{level-in, turn-out, turn-low, turn-high, turn-leaf, turn-down}
+-- `sentinels::leaf_for` meets its contract. The loop keeps that from the node stood on the same leaf is come to as from the root.
+use Prim.Native.Nat.{◌-◌, ◌<◌}
+use mathlib.Core.Path.{sym, ◌∙◌}
+use native.Mathlib.Omega.{arith}
+use Rattle.model.specs.Slots.{view}
+use Rattle.search.proofs.Standing.{root-lost, root-on, from-level, come-on}
+use Rattle.sentinels.proofs.Searching.{leaf-lost, root-leaf, steps-down, steps-lost, last-lost, last-leaf}
 use Rattle.sentinels.proofs.leaf_for.Goals as goal
-use Rattle.sentinels.proofs.leaf_for.Goals.{then-level-low-via-then-level-low, then-level-low-via-else-level-low+then-high-level}
 
--- the leaf's number, 0 for none
-abbrev number : View → (k : ℕ) → Option ℕ → ℕ
-number v k o = (seen_in v k o).node
-
-pub returns-then-not-has : goal.returns-then-not-has
-returns-then-not-has c = let l = c.loop-root in
-    ap (number (view c.args.table.now) c.args.key) (turn-out c.args.table.now l.low l.high _ _ _ l.invariant c.requires (sym c.has.ensures ∙ c.if-not-has.true))
-
-pub returns-then-level-low : goal.returns-then-level-low
-returns-then-level-low c = let l = c.loop-root in let t = c.args.table.now in
-    ap (number (view t) c.args.key) (elim c.then-level-low.branch [
-      | then-level-low-via-then-level-low w ↦ turn-low t _ l.high _ _ _ l.invariant _ c.read-x.ensures w.if-level-low.true
-      | then-level-low-via-else-level-low+then-high-level w ↦ turn-high t _ _ _ _ _ l.invariant _ c.read-x.ensures w.if-level-low.false w.if-high-level.true
-    ])
+pub returns-in_err-x : goal.returns-in_err-x
+returns-in_err-x c = let a = c.args in c.from_residual.ensures ∙ leaf-lost _ (root-lost a.table.now a.root a.key c.requires _ c.read_root.ensures c.in_err-x.was)
 
 pub leaf_at-requires-clause-n_value : goal.leaf_at-requires-clause-n_value
-leaf_at-requires-clause-n_value c =
-    sym (level-in _ _ _ _ c.requires (sym c.has.ensures ∙ c.if-not-has.false) c.read-x.ensures) ∙ eq-eqb c.read-x.result.level _ refl
+leaf_at-requires-clause-n_value c = let a = c.args in root-on a.table.now a.root a.key c.requires _ c.read_root.ensures _ c.in_ok-x.was
 
-pub returns-then-level-eq0 : goal.returns-then-level-eq0
-returns-then-level-eq0 c =
-    c.leaf_at.ensures
-    ∙ ap (λ (s : Stood). s.node) (turn-leaf _ _ _ _ _ _ c.loop-root.invariant _ c.read-x.ensures c.if-level-low.false c.if-high-level.false _ refl c.if-level-eq0.true)
+pub returns-then-x-eq0 : goal.returns-then-x-eq0
+returns-then-x-eq0 c = let a = c.args in
+    root-leaf (view a.table.now) _ a.root a.key _ _ c.if-x-eq0.true c.leaf_at.ensures (from-level a.table.now a.root a.key c.requires _ c.read_root.ensures _ c.in_ok-x.was)
 
-pub stand-s-requires-clause-n_value : goal.stand-s-requires-clause-n_value
-stand-s-requires-clause-n_value c =
-    sym (level-in _ _ _ _ c.requires (sym c.has.ensures ∙ c.if-not-has.false) c.read-x.ensures) ∙ eq-eqb c.read-x.result.level _ refl
+pub stand-requires-clause-n_value : goal.stand-requires-clause-n_value
+stand-requires-clause-n_value c = let a = c.args in root-on a.table.now a.root a.key c.requires _ c.read_root.ensures _ c.in_ok-x.was
 
-pub loop-root-preserved : goal.loop-root-preserved
-loop-root-preserved c =
-    turn-down _ _ _ _ _ _ c.loop-root.invariant _ c.read-x.ensures c.if-level-low.false c.if-high-level.false _ c.stand-s.ensures c.if-level-eq0.false
+pub returns-in_err-s : goal.returns-in_err-s
+returns-in_err-s c = let a = c.args in
+    c.from_residual-in_err-s.ensures
+    ∙ steps-lost (view a.table.now) a.key _ a.root _ _ c.stand.ensures c.in_err-s.was (from-level a.table.now a.root a.key c.requires _ c.read_root.ensures _ c.in_ok-x.was)
+
+pub loop-level-init : goal.loop-level-init
+loop-level-init c = let a = c.args in
+    let some-left : 0 < c.in_ok-x.x.level = omega arith in
+    (steps-down (view a.table.now) a.key _ a.root _ _ some-left _ c.stand.ensures c.in_ok-s.was (from-level a.table.now a.root a.key c.requires _ c.read_root.ensures _ c.in_ok-x.was), some-left)
+
+pub returns-in_err-s-2 : goal.returns-in_err-s-2
+returns-in_err-s-2 c = c.from_residual-in_err-s-2.ensures ∙ steps-lost _ _ _ _ _ _ c.come.ensures c.in_err-s-2.was c.loop-level.invariant.0
+
+pub loop-level-preserved : goal.loop-level-preserved
+loop-level-preserved c =
+    let some-left : 0 < c.loop-level.level - 1 = omega arith in
+    (steps-down _ _ _ _ _ _ some-left _ c.come.ensures c.in_ok-s-2.was c.loop-level.invariant.0, some-left)
+
+pub returns-in_err-y : goal.returns-in_err-y
+returns-in_err-y c =
+    c.from_residual-in_err-y.ensures
+    ∙ last-lost c.args.table.now c.args.key _ _ _ (omega (arith, c.loop-level.invariant.1)) c.loop-level.invariant.0 (sym c.read_on.ensures ∙ c.in_err-y.was)
+
+pub leaf_at-requires-2-clause-n_value : goal.leaf_at-requires-2-clause-n_value
+leaf_at-requires-2-clause-n_value c = come-on c.args.table.now 0 _ _ (sym c.read_on.ensures ∙ c.in_ok-y.was)
+
+pub returns : goal.returns
+returns c =
+    last-leaf c.args.table.now c.args.key _ _ _ (omega (arith, c.loop-level.invariant.1)) c.loop-level.invariant.0 _ _ (sym c.read_on.ensures ∙ c.in_ok-y.was) c.leaf_at-2.ensures

@@ -1,11 +1,9 @@
--- `sentinels::leaf_for` meets its contract. The loop keeps that from node n on the same leaf is come to as from the root.
-use Rattle.std.proofs.Common.{◌≡◌}
+-- `sentinels::leaf_for` meets its contract. The loop keeps that from the node stood on the same leaf is come to as from the root.
+use Rattle.std.proofs.Common.{◌≡◌, ◌-◌, ◌<◌}
 use Rattle.model.specs.Slots.{view}
-use Rattle.search.specs.Descent.{locate_within}
+use Rattle.model.specs.Search.{locate}
+use Rattle.search.specs.Descent.{locate_from}
 use Rattle.sentinels.proofs.leaf_for.Given as goal
 
-abbrev pub invariant-loop-root : goal.invariant-loop-root
-invariant-loop-root l = locate_within (view l.table) l.low l.high l.n l.key ≡ locate_within (view l.table) 0 15 l.root l.key
-
-abbrev pub decreases-loop-root : goal.decreases-loop-root
-decreases-loop-root l = l.high
+abbrev pub invariant-loop-level : goal.invariant-loop-level
+invariant-loop-level l = (locate (view l.table) (l.level - 1) l.s.way l.key ≡ locate_from (view l.table) l.root l.key) × (0 < l.level)

@@ -14,4 +14,4 @@ pub line_find-requires : goal.line_find-requires
 line_find-requires c = omega (arith, few-lines c.args.three.now c.args.key _ (sym c.line_for.ensures ∙ c.in_ok-j.was))
 
 pub returns : goal.returns
-returns c = on-some c.args.table.now c.args.m c.requires c.args.key _ _ _ _ (sym c.line_for.ensures ∙ c.in_ok-j.was) c.node_words.ensures c.line_find.ensures
+returns c = on-some c.args.table.now c.args.m c.requires c.args.key _ _ _ _ (sym c.line_for.ensures ∙ c.in_ok-j.was) c.words.ensures c.line_find.ensures

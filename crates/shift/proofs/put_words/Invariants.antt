@@ -8,5 +8,5 @@ use Rattle.shift.proofs.put_words.Given as goal
 
 abbrev pub invariant-loop-j : goal.invariant-loop-j
 invariant-loop-j l = record {
-  left : Rest (put_all (l.w + l.j) (drop l.j l.fn.words)) l.initial.writer l.writer (stored_all (put_all l.w l.fn.words) (of l.initial.writer));
+  left : Rest (put_all (l.w + l.j) (drop l.j l.words)) l.initial.writer l.writer (stored_all (put_all l.w l.words) (of l.initial.writer));
 }

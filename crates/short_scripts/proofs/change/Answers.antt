@@ -1,8 +1,9 @@
 -- `short_scripts::change` meets its contract.
-use mathlib.Core.Path.{refl}
-use Rattle.short_scripts.specs.Held.{changed}
+use Rattle.short_scripts.proofs.Comparing.{change-inserts, change-deletes}
 use Rattle.short_scripts.proofs.change.Goals as goal
 
-pub returns : goal.returns
-unfolding changed
-returns c = refl
+pub returns-in-Insert : goal.returns-in-Insert
+returns-in-Insert c = change-inserts _ _ _ c.from.ensures _ c.in-Insert.is
+
+pub returns-in-Delete : goal.returns-in-Delete
+returns-in-Delete c = change-deletes _ _ _ c.from.ensures _ c.in-Delete.is

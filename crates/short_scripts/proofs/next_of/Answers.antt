@@ -1,27 +1,41 @@
 -- `short_scripts::next_of` meets its contract.
-use Rattle.std.proofs.Common.{arith, rules, refl, sym, ◌∙◌}
-use borrow.Author.Tests.{lt-ltb, le-ltb}
-use Rattle.short_scripts.specs.Held.{pairs}
+use Rattle.std.proofs.Common.{rules, tests, arith, refl, sym, ap, ℕ, Bool, cond, Option, Some, None, length, ◌∙◌, ◌≡◌, ◌&&◌}
+use Rattle.std.proofs.lemmas.Iterator.{YieldsList-from_range}
+use Rattle.std.proofs.lemmas.Iterator.Search.{find_from_yields_List}
+use Rattle.std.specs.Option.{option_map}
+use Rattle.std.specs.List.{find, range_with_len}
+use lib.Dec.{ltb}
+use Rattle.model.specs.Search.{first_above}
+use Rattle.model.specs.Refusals.{has_key}
+use Rattle.short_scripts.specs.Held.{Held, pairs}
 use Rattle.short_scripts.proofs.Keys.{next-held, next-none}
 use Rattle.short_scripts.proofs.next_of.Goals as goal
-use Rattle.short_scripts.proofs.next_of.Goals.{else-key-k-via-then-key-k+else-holds, else-key-k-via-else-key-k}
 
-pub loop-k-init : goal.loop-k-init
-unfolding pairs
-loop-k-init c = refl
+map-same : (r : Option ℕ) → r ≡ option_map (λ (x : ℕ). x) r
+map-same (Some x) = refl
+map-same None = refl
 
-pub returns-then-holds : goal.returns-then-holds
-returns-then-holds c = let l = c.loop-k in
-    sym (l.invariant ∙ next-held c.args.held c.args.key l.k (search rules) (omega arith) (omega arith)
-    ∙ rw (lt-ltb _ _ c.if-key-k.true, sym c.holds.ensures ∙ c.if-holds.true))
+module _ (h : Held) (q : ℕ) (n : length h ≡ 3) where
+  test : ℕ → Bool
+  test k = ltb q k && has_key k (pairs h)
 
-pub loop-k-preserved : goal.loop-k-preserved
-loop-k-preserved c = let l = c.loop-k in
-    let e = next-held c.args.held c.args.key l.k (search rules) (omega arith) (omega arith) in
-    l.invariant ∙ e ∙ elim c.else-key-k.branch [
-      | else-key-k-via-then-key-k+else-holds w ↦ rw (sym w.holds.ensures ∙ w.if-holds.false, lt-ltb c.args.key l.k w.if-key-k.true)
-      | else-key-k-via-else-key-k w ↦ rw (le-ltb c.args.key l.k w.if-key-k.false)
-    ]
+  -- the keys 1, 2 and 3, one by one
+  first : first_above q (pairs h) ≡ cond (test 1) (Some 1) (cond (test 2) (Some 2) (cond (test 3) (Some 3) None))
+  unfolding pairs test
+  first =
+      next-held h q 1 n (omega arith) (omega arith)
+      ∙ ap (λ (r : Option ℕ). cond (test 1) (Some 1) r) (next-held h q 2 n (omega arith) (omega arith)
+      ∙ ap (λ (r : Option ℕ). cond (test 2) (Some 2) r) (next-held h q 3 n (omega arith) (omega arith)
+      ∙ ap (λ (r : Option ℕ). cond (test 3) (Some 3) r) (next-none h q 4 n (omega arith))))
+
+  found : find (λ (k : ℕ). ltb q k && has_key k (pairs h)) (range_with_len 1 3) ≡ first_above q (pairs h)
+  unfolding test
+  found = sym first
 
 pub returns : goal.returns
-returns c = let l = c.loop-k in sym (l.invariant ∙ next-none c.args.held c.args.key l.k (search rules) (omega arith))
+returns c =
+    let a = c.args in
+    map-same c.find.result
+    ∙ find_from_yields_List (λ (k : ℕ). ltb a.key k && has_key k (pairs a.held)) _ _ c.find.result c.find.ensures.ran
+    (YieldsList-from_range 1 4 _ refl refl) (λ x b q k. search (rules, tests))
+    ∙ found a.held a.key (search rules)

@@ -15,8 +15,8 @@ comes sibling bound before ways ss = ways ++ kept_of sibling bound (shown before
 pub loop-i-init : goal.loop-i-init
 loop-i-init c = (omega arith, search rules, search rules, first-way _ _ _)
 
-pub returns-then-pointer-eq0-clause-result_value : goal.returns-then-pointer-eq0-clause-result_value
-returns-then-pointer-eq0-clause-result_value c = let a = c.args in let l = c.loop-i in
+pub returns-then-pointer-eq0 : goal.returns-then-pointer-eq0
+returns-then-pointer-eq0 c = let a = c.args in let l = c.loop-i in
     sym (ways-none _ _ l.before _)
     ∙ scan-stop (comes a.x.sibling a.bound l.before (span l.keys l.pointers 0 l.count)) _ l.i l.invariant.3 (omega arith) c.if-pointer-eq0.true
 
@@ -42,7 +42,7 @@ loop-i-preserved c = let a = c.args in let l = c.loop-i in
       )
     ]
 
-pub returns-clause-result_value : goal.returns-clause-result_value
-returns-clause-result_value c = let a = c.args in let l = c.loop-i in
+pub returns : goal.returns
+returns c = let a = c.args in let l = c.loop-i in
     sym (ways-none _ _ l.before _)
     ∙ scan-past (comes a.x.sibling a.bound l.before (span l.keys l.pointers 0 l.count)) _ l.i l.invariant.3 (omega arith)

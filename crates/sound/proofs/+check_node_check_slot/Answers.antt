@@ -37,7 +37,7 @@ check_node-loop-i-init t c =
 pub check_node-returns-in_err-state-clause-value : goal.check_node-returns-in_err-state-clause-value
 check_node-returns-in_err-state-clause-value t c =
     rw c.from_residual-in_err-state.ensures
-    (rest-refused (rest-next c.loop-i.invariant.0 _ None c.loop-i-test.true c.pointer_from-after.ensures c.in_err-state.ensures.value) refl c.ways_of-w.ensures.result_value c.next_child-next.ensures
+    (rest-refused (rest-next c.loop-i.invariant.0 _ None c.loop-i-test.true c.pointer_from-after.ensures c.in_err-state.ensures.value) refl c.ways_of-w.ensures c.next_child-next.ensures
     ∙ node-inner (node-met _ _ _ _ _ _ _ _ _ _ c.word_at.ensures c.if-word_at-seen.false c.stands.ensures c.if-not-stands.false c.in_ok-own.ensures c.together.ensures) c.if-level-eq0.false)
 
 pub check_node-loop-i-preserved : goal.check_node-loop-i-preserved
@@ -50,14 +50,14 @@ check_node-loop-i-preserved t c =
 
 pub check_node-returns-clause-value : goal.check_node-returns-clause-value
 check_node-returns-clause-value t c =
-    rest-done c.loop-i.invariant.0 c.loop-i-test.false c.ways_of-w.ensures.result_value c.next_child-next.ensures
+    rest-done c.loop-i.invariant.0 c.loop-i-test.false c.ways_of-w.ensures c.next_child-next.ensures
     ∙ node-inner (node-met _ _ _ _ _ _ _ _ _ _ c.word_at.ensures c.if-word_at-seen.false c.stands.ensures c.if-not-stands.false c.in_ok-own.ensures c.together.ensures) c.if-level-eq0.false
 
 pub check_node-returns-clause-adds : goal.check_node-returns-clause-adds
 check_node-returns-clause-adds t c =
     let low = stands-low _ c.args.marks.now _ _ _ _ c.requires c.told-marks _ c.stands.ensures c.if-not-stands.false in
     λ h. inner-marked _ _ _ _ _ low c.put.ensures _ c.if-level-eq0.false
-    (marking-done c.loop-i.invariant.1 _ c.loop-i-test.false c.ways_of-w.ensures.result_value c.next_child-next.ensures)
+    (marking-done c.loop-i.invariant.1 _ c.loop-i-test.false c.ways_of-w.ensures c.next_child-next.ensures)
 
 pub check_slot-returns-then-sibling-right-clause-value : goal.check_slot-returns-then-sibling-right-clause-value
 check_slot-returns-then-sibling-right-clause-value t c = slot-right _ _ _ _ _ _ _ _ c.word-sibling.ensures _ c.check_node.ensures.value c.if-sibling-right.true

@@ -24,7 +24,7 @@ returns-then-not-ok c =
     let a = c.args in
     let w = c.in_ok-seen.ensures in
     let l = c.in_ok-leftover.ensures in
-    let right = walk-right a.table.now a.root MARKS _ _ _ _ c.requires c.walk.array_long w.value (w.adds tt) (allowed _ _ w.value _ l) c.uncut.ensures _ c.ok.ensures in
+    let right = walk-right a.table.now a.root MARKS _ _ _ c.requires w.value (w.adds tt) (allowed _ _ w.value _ l) c.uncut-marks.ensures _ c.ok.ensures in
     wrong-recordings _ _ w.value _ l (sym right ∙ c.if-not-ok.true)
 
 pub returns : goal.returns
@@ -32,5 +32,5 @@ returns c =
     let a = c.args in
     let w = c.in_ok-seen.ensures in
     let l = c.in_ok-leftover.ensures in
-    let right = walk-right a.table.now a.root MARKS _ _ _ _ c.requires c.walk.array_long w.value (w.adds tt) (allowed _ _ w.value _ l) c.uncut.ensures _ c.ok.ensures in
+    let right = walk-right a.table.now a.root MARKS _ _ _ c.requires w.value (w.adds tt) (allowed _ _ w.value _ l) c.uncut-marks.ensures _ c.ok.ensures in
     all-right _ _ w.value _ l (sym (c.has_room.ensures ∙ room-any a.table.now (root a.table.now) a.root (meant c.in_ok-leftover.leftover)) ∙ c.if-not-has_room.false) (sym right ∙ c.if-not-ok.false)

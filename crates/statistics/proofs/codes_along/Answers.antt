@@ -1,21 +1,14 @@
--- `statistics::codes_along` meets its contract.
+-- `statistics::codes_along` meets its contract. The loop keeps what the codes so far and those of the leaves left come to.
 use Rattle.std.proofs.Common.{arith}
-use native.Mathlib.Numerals.{unary_clauses}
-use Rattle.statistics.proofs.Codes.{kept-few, counted-none, counted-end, counted-out, counted-leaf}
+use Rattle.statistics.proofs.Codes.{codes-none, codes-next, codes-bound}
 use Rattle.statistics.proofs.codes_along.Goals as goal
 
-pub loop-init : goal.loop-init
-loop-init c = simp unary_clauses (counted-none c.args.table.now c.args.most c.args.first)
-
-pub returns-then-leaf-eq0 : goal.returns-then-leaf-eq0
-returns-then-leaf-eq0 c = counted-end _ c.loop.invariant c.if-leaf-eq0.true
-
 pub overflow_add-codes : goal.overflow_add-codes
-overflow_add-codes c = let h = c.loop.invariant in
-    omega (arith, h.small, h.few, c.requires, c.kept_count-codes.ensures, kept-few c.args.table.now c.loop.leaf)
+overflow_add-codes c = let a = c.args in
+    omega (arith, c.loop-leaf.invariant, codes-next a.table.now _ _ _ c.in-Some.ensures.steps, c.kept_count-codes.ensures, codes-bound a.table.now a.most a.first, c.requires)
 
-pub loop-preserved : goal.loop-preserved
-loop-preserved c = counted-leaf _ _ _ _ _ _ _ _ _ c.loop.invariant c.if-leaf-eq0.false (omega arith) c.kept_count-codes.ensures c.word-leaf.ensures
+pub loop-leaf-preserved : goal.loop-leaf-preserved
+loop-leaf-preserved c = omega (arith, c.loop-leaf.invariant, codes-next c.args.table.now _ _ _ c.in-Some.ensures.steps, c.kept_count-codes.ensures)
 
 pub returns : goal.returns
-returns c = counted-out _ c.loop.invariant (omega arith)
+returns c = omega (arith, c.loop-leaf.invariant, codes-none c.args.table.now _ c.in-None.ensures.steps.0)

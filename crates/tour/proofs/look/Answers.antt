@@ -15,22 +15,22 @@ returns-then-w-eq13 c = sight-sibling _ _ c.read-node.result c.read-node.ensures
 
 pub returns-then-pointer-eq0 : goal.returns-then-pointer-eq0
 returns-then-pointer-eq0 c = sight-end _ _ c.read-node.result c.read-node.ensures _ c.if-w-eq0.false
-    c.if-w-eq13.false c.requires.0 c.if-pointer-eq0.true
+    c.if-w-eq13.false c.requires c.if-pointer-eq0.true
 
 pub returns-then-pointer-pointer_before : goal.returns-then-pointer-pointer_before
 returns-then-pointer-pointer_before c = sight-hidden _ _ c.read-node.result c.read-node.ensures _
-    c.if-w-eq0.false c.if-w-eq13.false c.requires.0
-    c.pointer_before.result c.pointer_before.ensures c.if-pointer-eq0.false c.if-pointer-pointer_before.true
+    c.if-w-eq0.false c.if-w-eq13.false c.requires
+    c.pointer_before.result c.pointer_before.ensures.value c.if-pointer-eq0.false c.if-pointer-pointer_before.true
 
 pub returns-then-not-under_fence : goal.returns-then-not-under_fence
 returns-then-not-under_fence c = sight-ignored _ _ c.read-node.result c.read-node.ensures _
     c.if-w-eq0.false c.if-w-eq13.false
-    c.requires.0 c.pointer_before.result c.pointer_before.ensures
+    c.requires c.pointer_before.result c.pointer_before.ensures.value
     c.if-pointer-eq0.false c.if-pointer-pointer_before.false (sym c.under_fence.ensures ∙ c.if-not-under_fence.true)
 
 pub returns : goal.returns
 returns c = sight-next _ _ c.read-node.result
     c.read-node.ensures _ c.if-w-eq0.false
-    c.if-w-eq13.false c.requires.0
-    c.pointer_before.result c.saturating_sub.result c.pointer_before.ensures (omega (arith, c.saturating_sub.ensures))
+    c.if-w-eq13.false c.requires
+    c.pointer_before.result c.saturating_sub.result c.pointer_before.ensures.value (omega (arith, c.saturating_sub.ensures))
     c.if-pointer-eq0.false c.if-pointer-pointer_before.false (sym c.under_fence.ensures ∙ c.if-not-under_fence.false)

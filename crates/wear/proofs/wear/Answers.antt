@@ -39,11 +39,11 @@ mark-requires c = let i = inside (goal.at.mark-requires c).After-all_inside c.if
 
 pub count_pairs-n-requires : goal.count_pairs-n-requires
 count_pairs-n-requires c = let i = inside (goal.at.count_pairs-n-requires c).After-all_inside c.if-not-all_inside.false in
-    marks-enough _ _ i _ c.mark.auto.marks
+    marks-enough _ _ i _ c.mark.array_long
 
 pub overflow_mul-end : goal.overflow_mul-end
 overflow_mul-end c = let i = inside (goal.at.overflow_mul-end c).After-all_inside c.if-not-all_inside.false in
-    omega (arith, marks-enough _ _ i _ c.mark.auto.marks, pairs-few _ _ i _ c.mark.ensures _ c.count_pairs-n.ensures)
+    omega (arith, marks-enough _ _ i _ c.mark.array_long, pairs-few _ _ i _ c.mark.ensures _ c.count_pairs-n.ensures)
 
 pub returns-then-pairs-end : goal.returns-then-pairs-end
 returns-then-pairs-end c = let i = inside (goal.at.returns-then-pairs-end c).After-all_inside c.if-not-all_inside.false in let both =
@@ -54,7 +54,7 @@ slice_bounds-write_pairs-end-2 c = sym (length-take-le _ c.args.pairs.now (omega
 
 pub write_pairs-requires : goal.write_pairs-requires
 write_pairs-requires c = let i = inside (goal.at.write_pairs-requires c).After-all_inside c.if-not-all_inside.false in
-    let cut = length-take-le (2 * c.count_pairs-n.result) c.args.pairs.now (omega arith) in record { len_bound = marks-enough _ _ i _ c.mark.auto.marks; pairs_len = omega (arith, cut, c.count_pairs-n.ensures) }
+    let cut = length-take-le (2 * c.count_pairs-n.result) c.args.pairs.now (omega arith) in record { len_bound = marks-enough _ _ i _ c.mark.array_long; pairs_len = omega (arith, cut, c.count_pairs-n.ensures) }
 
 pub slice_bounds-count_stores-end-2 : goal.slice_bounds-count_stores-end-2
 slice_bounds-count_stores-end-2 c = sym (length-take-le _ c.args.lines.now (omega arith))

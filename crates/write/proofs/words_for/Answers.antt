@@ -1,9 +1,10 @@
 -- `write::words_for` meets its contract.
-use Rattle.write.proofs.Judging.{words-zero, words-one}
+use mathlib.Core.Path.{sym, ◌∙◌}
+use Rattle.write.proofs.Judging.{words-ordered, words-unordered}
 use Rattle.write.proofs.words_for.Goals as goal
 
-pub returns-then-dock-eq0 : goal.returns-then-dock-eq0
-returns-then-dock-eq0 c = words-zero _ c.if-dock-eq0.true
+pub returns-in-Ordered : goal.returns-in-Ordered
+returns-in-Ordered c = words-ordered _ (sym c.from.ensures ∙ c.in-Ordered.is)
 
-pub returns : goal.returns
-returns c = words-one _ c.if-dock-eq0.false
+pub returns-in-Unordered : goal.returns-in-Unordered
+returns-in-Unordered c = words-unordered _ (sym c.from.ensures ∙ c.in-Unordered.is)

@@ -1,17 +1,15 @@
 -- `orders::Writer::flush` meets its contract.
-use Rattle.std.proofs.Common.{rules, arith}
-use lib.ListN.{length-set}
-use Rattle.orders.proofs.Turning.{stays, finish-none, finish-open, room-open}
+use Rattle.std.proofs.Common.{rules, refl}
+use Rattle.orders.proofs.Turning.{finish-none, finish-open, room-open}
 use Rattle.orders.proofs.Writer.flush.Goals as goal
 
-pub returns-then-self-eq0 : goal.returns-then-self-eq0
-returns-then-self-eq0 c = stays (finish-none _ c.if-self-eq0.true)
+pub put-requires : goal.put-requires
+put-requires c = room-open _ c.in-Some.line c.requires (search rules)
 
-pub bounds-self-at : goal.bounds-self-at
-bounds-self-at c = omega (arith, room-open _ c.requires c.if-self-eq0.false)
+pub returns-in-Some : goal.returns-in-Some
+returns-in-Some c =
+    let p = c.put.ensures in
+    record { is = finish-open _ c.in-Some.line _ (search rules) (search rules) p.is; same_table = p.same_table; same_list = p.same_list }
 
-pub bounds-self-at-2 : goal.bounds-self-at-2
-bounds-self-at-2 c = simp length-set (omega (arith, room-open _ c.requires c.if-self-eq0.false))
-
-pub returns : goal.returns
-returns c = record { is = finish-open _ c.if-self-eq0.false; same_table = search rules; same_list = search rules }
+pub returns-in_default : goal.returns-in_default
+returns-in_default c = record { is = finish-none _ _ (search rules) c.take.ensures.after; same_table = refl; same_list = refl }

@@ -1,9 +1,10 @@
 -- `orders::Writer::turn` meets its contract.
+use Rattle.std.proofs.Common.{rules}
 use Rattle.orders.proofs.Turning.{stays, becomes-as, turn-same, turn-other}
 use Rattle.orders.proofs.Writer.turn.Goals as goal
 
-pub returns-then-self-line : goal.returns-then-self-line
-returns-then-self-line c = becomes-as (turn-other _ _ c.if-self-line.true) c.flush.ensures
+pub returns-then-ne : goal.returns-then-ne
+returns-then-ne c = becomes-as (turn-other _ _ (search rules)) c.flush.ensures
 
-pub returns-else-self-line : goal.returns-else-self-line
-returns-else-self-line c = stays (turn-same _ _ c.if-self-line.false)
+pub returns-else-ne : goal.returns-else-ne
+returns-else-ne c = stays (turn-same _ _ (search rules))

@@ -1,0 +1,148 @@
+-- Bytes put into a text one after the other.
+use mathlib.Core.Path.{◌≡◌, refl, sym, ap, ap₂, ◌∙◌}
+use mathlib.Core.List.{List, [], ◌∷◌, ◌++◌, append-nil, append_assoc}
+use Prim.Native.Nat.{ℕ, zero, suc, ◌+◌, ◌*◌, ◌/◌, ◌≤◌, ◌<◌, min}
+use native.Mathlib.Decide.{dec_le}
+use native.Mathlib.Numerals.{add-one}
+use native.Mathlib.Omega.{arith}
+use lib.ListN.{length, get_or, take, drop, length-append, length-take, length-drop, take-append-drop, drop_of_length-le}
+use lib.Seq.{drop-cons, take_at, take_all, take-append_seam, drop-append-add, drop-drop, length-take-le}
+use Rattle.std.proofs.Common.{add-zero}
+use Rattle.std.specs.Prelude.{Ok, Err}
+use Rattle.model.specs.declared.Counts.{Counts}
+use Rattle.model.specs.declared.Refusal.{Refusal}
+use Rattle.model.specs.Numbers.{refusal_number}
+use Rattle.model.specs.Results.{Written}
+use Rattle.model.specs.Table.{Words}
+use Rattle.model.specs.Orders.{Order, order_of, decode}
+use Rattle.model.specs.declared.ListedOrder.{ListedOrder}
+use Rattle.model.specs.ListedOrders.{meant}
+use Rattle.model.specs.Printer.{Bytes, decimal, numbers_text, order_text, refused_line}
+use Rattle.script_bytes.specs.declared.Text.{Text}
+use Rattle.script_bytes.specs.Text.{put_at, Put, order_lines, done_line, spoken, bytes_of, Room, Puts}
+use Rattle.script_bytes.proofs.Decimal.{decimal-most, order-most}
+
+length-front : (out : Bytes) (i : ℕ) (bs : Bytes) → i + length bs ≤ length out → length (take i out ++ bs) ≡ i + length bs
+length-front out i bs h = simp (length-append, length-take-le i out (omega arith))
+
+pub length-put : (out : Bytes) (i : ℕ) (bs : Bytes) → i + length bs ≤ length out → length (put_at out i bs) ≡ length out
+length-put out i bs h = simp (length-append, length-drop, length-take-le i out (omega arith)) (omega arith)
+
+put-put : (out : Bytes) (i : ℕ) (xs ys : Bytes) → i + length xs ≤ length out → put_at (put_at out i xs) (i + length xs) ys ≡ put_at out i (xs ++ ys)
+put-put out i xs ys h =
+    let l = length-front out i xs h in
+    let t : take (i + length xs) (put_at out i xs) ≡ take i out ++ xs = take_at (take i out ++ xs) (drop (i + length xs) out) (i + length xs) l in
+    let n : i + length xs + length ys ≡ i + length (xs ++ ys) = omega (arith, length-append xs ys) in
+    let d : drop (i + length xs + length ys) (put_at out i xs) ≡ drop (i + length (xs ++ ys)) out =
+    ap (λ (k : ℕ). drop (k + length ys) (put_at out i xs)) (sym l)
+    ∙ drop-append-add (take i out ++ xs) (drop (i + length xs) out) (length ys)
+    ∙ drop-drop (length ys) (i + length xs) out
+    ∙ ap (λ (k : ℕ). drop k out) n in
+    ap₂ (λ (a b : Bytes). a ++ ys ++ b) t d ∙ simp append_assoc
+
+-- what is put first, and then what is put after it
+pub put-then : {out : Bytes} {i : ℕ} {xs ys out' out'' : Bytes} {r r'' : ℕ} → Put out i xs out' r → i + length xs ≤ length out
+    → Put out' r ys out'' r'' → Put out i (xs ++ ys) out'' r''
+put-then {out} {i} {xs} {ys} {out'} {out''} {r} {r''} p h q = record {
+  buffer = q.buffer ∙ ap₂ (λ (o : Bytes) (k : ℕ). put_at o k ys) p.buffer p.next ∙ put-put out i xs ys h;
+  next = omega (arith, p.next, q.next, length-append xs ys);
+}
+
+-- ---- the same of a text
+
+pub puts-none : {x : Text} → Puts [] x x
+puts-none {x} = record {
+  put = record { buffer = sym (take-append-drop x.at x.out.now) ∙ rw (append-nil, add-zero) refl; next = omega arith };
+  same_buffer = refl;
+}
+
+pub puts-then : {xs ys : Bytes} {x y z : Text} → Puts xs x y → Room (length xs) x → Puts ys y z → Puts (xs ++ ys) x z
+puts-then p h q = record { put = put-then p.put h q.put; same_buffer = q.same_buffer ∙ p.same_buffer }
+
+-- the room that is left
+pub room-after : {xs : Bytes} {x y : Text} (m n : ℕ) → Puts xs x y → length xs ≤ m → Room (m + n) x → Room n y
+room-after {xs} {x} {y} m n p h r =
+    let l : length y.out.now ≡ length x.out.now = ap length p.put.buffer ∙ length-put x.out.now x.at xs (omega arith) in
+    omega (arith, p.put.next, l, h, r)
+
+-- what is put at the buffer's start is all that is put
+pub puts-whole : {bs : Bytes} {x y : Text} → x.at ≡ 0 → Puts bs x y → bytes_of y ≡ bs
+puts-whole {bs} {x} {y} e p =
+    let n : y.at ≡ length bs = omega (arith, p.put.next, e) in
+    rw (n, p.put.buffer, e) (take-append_seam bs (drop (0 + length bs) x.out.now))
+
+-- ---- numbers, each after a space
+
+pub fields-next : (ns : List ℕ) (i : ℕ) {x y z : Text} → i < length ns → Room 21 x → Puts (32 ∷ decimal (get_or ns i 0)) x y
+    → Puts (numbers_text (drop (i + 1) ns)) y z → Puts (numbers_text (drop i ns)) x z
+unfolding numbers_text
+fields-next ns i {x} {y} {z} h r p q =
+    rw (drop-cons ns i 0 h) (puts-then p (omega (arith, r, decimal-most (get_or ns i 0))) (rw (add-one i) at q))
+
+pub fields-end : (ns : List ℕ) (i : ℕ) {x z : Text} → length ns ≤ i → Puts (10 ∷ []) x z → Puts (numbers_text (drop i ns)) x z
+unfolding numbers_text
+fields-end ns i h p = rw (drop_of_length-le ns {i = i} h) p
+
+-- ---- an answer's text
+
+lines-snoc : (os : List Order) (o : Order) → order_lines (os ++ (o ∷ [])) ≡ order_lines os ++ order_text o
+unfolding order_lines
+lines-snoc [] o = append-nil (order_text o)
+lines-snoc (p ∷ os) o = rw (lines-snoc os o, append_assoc)
+
+twice-suc : (i : ℕ) → 2 * suc i ≡ suc (suc (2 * i))
+twice-suc i = omega arith
+
+twice-suc-one : (i : ℕ) → 2 * suc i + 1 ≡ suc (suc (2 * i + 1))
+twice-suc-one i = omega arith
+
+decode-next : (ws : Words) (i : ℕ) → 2 * i + 1 < length ws
+    → take (suc i) (decode ws) ≡ take i (decode ws) ++ (order_of (get_or ws (2 * i) 0) (get_or ws (2 * i + 1) 0) ∷ [])
+unfolding decode
+decode-next [] i h = absurd (omega arith)
+decode-next (a ∷ []) i h = absurd (omega arith)
+decode-next (a ∷ b ∷ ws) zero h = refl
+decode-next (a ∷ b ∷ ws) (suc i) h = rw (twice-suc-one i, twice-suc i) (ap (λ (os : List Order). order_of a b ∷ os) (decode-next ws i (omega arith)))
+
+-- one order more of the list is put
+pub order-put : (list : Words) (i : ℕ) {x y z : Text} → 2 * i + 1 < length list → Room (length (order_lines (take i (decode list)))) x
+    → Puts (order_lines (take i (decode list))) x y
+    → Puts (order_text (order_of (get_or list (2 * i) 0) (get_or list (2 * i + 1) 0))) y z
+    → Puts (order_lines (take (i + 1) (decode list))) x z
+order-put list i h r p q = rw (add-one i, decode-next list i h, lines-snoc) (puts-then p r q)
+
+decode-most : (ws : Words) → 2 * length (decode ws) ≤ length ws
+unfolding decode
+decode-most [] = omega arith
+decode-most (a ∷ []) = omega arith
+decode-most (a ∷ b ∷ ws) = omega (arith, decode-most ws)
+
+lines-most : (os : List Order) → length (order_lines os) ≤ 48 * length os
+unfolding order_lines
+lines-most [] = omega arith
+lines-most (o ∷ os) = rw length-append (omega (arith, order-most o, lines-most os))
+
+pub orders-most : (list : Words) (n : ℕ) → length (order_lines (take n (decode list))) ≤ 48 * n
+orders-most list n = omega (arith, lines-most (take n (decode list)), length-take n (decode list))
+
+-- no more orders are taken than the list has
+first-orders : (list : Words) (n k : ℕ) → n ≡ min k (length list / 2) → take n (decode list) ≡ take k (decode list)
+first-orders list n k e = go (dec_le k (length list / 2))
+  where
+    go : Dec (k ≤ length list / 2) → take n (decode list) ≡ take k (decode list)
+    go (yes h) = let m : n ≡ k = omega arith in ap (λ (j : ℕ). take j (decode list)) m
+    go (no h) = take_all n (decode list) (omega (arith, decode-most list)) ∙ sym (take_all k (decode list) (omega (arith, decode-most list)))
+
+-- the orders and their counts, and the refusal, are all that is spoken
+pub puts-done : (list : Words) (a : Written) (c : Counts) (n : ℕ) → a ≡ Ok c → {x y z : Text} → n ≡ min (c.stores + c.flushes) (length list / 2)
+    → Room (48 * n) x → Puts (order_lines (take n (decode list))) x y → Puts (done_line c.stores c.flushes) y z → Puts (spoken a list) x z
+unfolding spoken
+puts-done list a c n b e h p q = rw (b, ← first-orders list n (c.stores + c.flushes) e) (puts-then p (omega (arith, orders-most list n)) q)
+
+pub puts-refused : (list : Words) (a : Written) (e : Refusal) (n : ℕ) → a ≡ Err e → n ≡ refusal_number e → {x y : Text} → Puts (refused_line n) x y → Puts (spoken a list) x y
+unfolding spoken
+puts-refused list a e n b m p = rw (b, ← m) p
+
+-- the line of two words is that of the order that they are
+pub order-line : (a b : ℕ) (o : ListedOrder) {x : ListedOrder} → meant o ≡ order_of a b → o ≡ x → order_text (order_of a b) ≡ order_text (meant x)
+order-line a b o e i = sym (ap order_text e) ∙ ap (λ y. order_text (meant y)) i
