@@ -7,7 +7,8 @@ ghost use Rattle.model.specs.Answers.{Looked, Counted};
 
 use model::{Answer, Refusal, Written};
 
-// The number of an answer: 0 if the call did its work, else its refusal's.
+// The number of an answer: 0 if the call did its work, else its refusal's. A batch's stop is an Option (`stop_number` of catalogue_writes): one function
+// for both would take an answer's `err`, and a proof that the two definitions agree, to save this match.
 pub fn number_of<T: Copy>(answer: Result<T, Refusal>) -> u64
     ensures { result ≡ answer_number answer }
 {

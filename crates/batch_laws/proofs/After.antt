@@ -1,50 +1,32 @@
 -- What an accepted insertion leaves: a settled table with the collection, the pair entered in its map, and more nodes reached.
 use mathlib.Core.Path.{◌≡◌, refl, ap, ◌∙◌}
-use mathlib.Core.Bool.{Bool, true, false, cond, ◌||◌}
+use mathlib.Core.Bool.{true, false, ◌||◌}
 use mathlib.Core.Logic.{◌↔◌, inl}
-use mathlib.Core.List.{List, [], ◌∷◌}
 use mathlib.Core.Option.{some}
 use Prim.Native.Nat.{ℕ, ◌<◌, ◌≤◌}
-use lib.Dec.{eqb, ltb}
+use lib.Dec.{eqb}
 use lib.ListN.{length}
 use lib.Seq.{take-length}
 use borrow.Author.Tests.{le-ltb, lt-ltb}
 use Rattle.model.specs.Table.{Words, at, root_word, no_collection}
-use Rattle.model.specs.Slots.{Slot, recording_of, recording, pointer_of}
+use Rattle.model.specs.Slots.{pointer_of}
 use Rattle.model.specs.Reached.{map_of}
 use Rattle.model.specs.SoundTest.{nothing, leftover_all, sound, settled}
 use Rattle.model.specs.Orders.{apply}
 use Rattle.model.specs.Writes.{insert_stores, insertion, stores_of}
 use Rattle.model.specs.Refusals.{has_recording, words_for, refusal}
 use Rattle.model.specs.Ledger.{enter}
-use Rattle.list_laws.proofs.Recordings.{recording-iff, recording-of}
+use Rattle.list_laws.proofs.Recordings.{enter-recording, recording-iff, recording-of}
 use Rattle.table_laws.proofs.Collections.{by-number}
 use Rattle.two_laws.proofs.Arrange.{left-all, settled-tree}
 use Rattle.two_laws.proofs.CallsTwo.{OwnSteps, arranged, insert-two}
 use Rattle.two_laws.proofs.AcceptedTwo.{there, Accepted, accepted-iff}
-use Rattle.two_laws.proofs.SameTwo.{first-there, second-there, settled-sound}
+use Rattle.two_laws.proofs.SameTwo.{first-there, second-there}
 use Rattle.two_laws.proofs.JudgedTwo.{number-on-sound}
 
 -- a settled table has nothing to repair
 pub settled-nothing : (t : Words) → settled t ≡ true → leftover_all t ≡ some nothing
 settled-nothing t s = let a = arranged 1 t (inl refl) in left-all 1 a.0 t nothing a.1 (settled-tree 1 a.0 t a.1 s)
-
--- the recordings of a map with one pair more
-pub enter-recording : (q k x : ℕ) (ps : List Slot) → has_recording q (enter k x ps) ≡ (eqb (recording_of x) q || has_recording q ps)
-unfolding has_recording enter
-enter-recording q k x [] = refl
-enter-recording q k x (s ∷ ss) = go (ltb k s.key) (enter-recording q k x ss)
-  where
-    swap : (a b c : Bool) → (a || (b || c)) ≡ (b || (a || c))
-    swap true true c = refl
-    swap true false c = refl
-    swap false true c = refl
-    swap false false c = refl
-
-    go : (b : Bool) → has_recording q (enter k x ss) ≡ (eqb (recording_of x) q || has_recording q ss)
-        → has_recording q (cond b (record { key = k; pointer = x } ∷ s ∷ ss) (s ∷ enter k x ss)) ≡ (eqb (recording_of x) q || (eqb (recording s) q || has_recording q ss))
-    go true ih = refl
-    go false ih = ap (λ (b : Bool). eqb (recording s) q || b) ih ∙ swap (eqb (recording s) q) (eqb (recording_of x) q) (has_recording q ss)
 
 -- ---- an accepted insertion
 
@@ -61,9 +43,6 @@ module _ (n k r c words dock : ℕ) (t : Words) (ok : refusal (insertion n k r c
   pub after-settled : settled (apply (stores_of (insertion n k r c) t) t) ≡ true
   unfolding stores_of
   after-settled = steps.settles
-
-  pub after-sound : sound (apply (stores_of (insertion n k r c) t) t) ≡ true
-  after-sound = settled-sound t₁ after-settled
 
   pub after-nothing : leftover_all (apply (stores_of (insertion n k r c) t) t) ≡ some nothing
   after-nothing = settled-nothing t₁ after-settled

@@ -1,7 +1,7 @@
 -- The batch pair by pair, as it goes on: what is behind pairs that were taken.
-use mathlib.Core.Path.{◌≡◌, refl, ap, sym, ◌∙◌}
+use mathlib.Core.Path.{◌≡◌, refl, ap, sym}
 use mathlib.Core.List.{List, [], ◌∷◌, ◌++◌, append_assoc}
-use Prim.Native.Nat.{ℕ, zero, suc, ◌+◌, ◌*◌, ◌/◌, ◌≤◌, ◌<◌}
+use Prim.Native.Nat.{ℕ, suc, ◌+◌, ◌*◌, ◌/◌, ◌≤◌, ◌<◌}
 use native.Mathlib.Omega.{arith}
 use lib.ListN.{length, take, drop, get_or}
 use Rattle.std.specs.Prelude.{Option, Some, None, Ok, Err}
@@ -12,35 +12,15 @@ use Rattle.model.specs.Table.{Words}
 use Rattle.model.specs.Slots.{Slot, slot, slots_of}
 use Rattle.model.specs.Refusals.{written, table_after, list_after}
 use Rattle.model.specs.Batch.{insertion_of, Batched, stopped, behind, batch}
+use Rattle.table_laws.proofs.SlotWords.{slots-cons, slots-end}
 
 -- ---- the pairs of a slice
 
-pub pairs-count : (ws : Words) → length (slots_of ws) ≡ length ws / 2
-unfolding slots_of
-pairs-count [] = refl
-pairs-count (k ∷ []) = refl
-pairs-count (k ∷ x ∷ ws) = omega (arith, pairs-count ws)
-
 pub pair-at : (ws : Words) (i : ℕ) → 2 * i + 1 < length ws → drop i (slots_of ws) ≡ slot (get_or ws (2 * i) 0) (get_or ws (2 * i + 1) 0) ∷ drop (suc i) (slots_of ws)
-unfolding slots_of
-pair-at [] i h = absurd (omega arith)
-pair-at (k ∷ []) i h = absurd (omega arith)
-pair-at (k ∷ x ∷ ws) zero h = refl
-pair-at (k ∷ x ∷ ws) (suc i) h =
-    let e : 2 * suc i ≡ suc (suc (2 * i)) = omega arith in
-    let f : 2 * suc i + 1 ≡ suc (suc (2 * i + 1)) = omega arith in
-    pair-at ws i (omega arith)
-    ∙ ap (λ (j : ℕ). slot (get_or (k ∷ x ∷ ws) j 0) (get_or ws (2 * i + 1) 0) ∷ drop (suc i) (slots_of ws)) (sym e)
-    ∙ ap (λ (j : ℕ). slot (get_or (k ∷ x ∷ ws) (2 * suc i) 0) (get_or (k ∷ x ∷ ws) j 0) ∷ drop (suc i) (slots_of ws)) (sym f)
+pair-at = slots-cons
 
 pub pairs-past : (ws : Words) (i : ℕ) → length ws / 2 ≤ i → drop i (slots_of ws) ≡ []
-pairs-past ws i h = go i (slots_of ws) (omega (arith, pairs-count ws))
-  where
-    go : (i : ℕ) (ss : List Slot) → length ss ≤ i → drop i ss ≡ []
-    go zero [] h = refl
-    go (suc i) [] h = refl
-    go zero (s ∷ ss) h = absurd (omega arith)
-    go (suc i) (s ∷ ss) h = go i ss (omega arith)
+pairs-past ws i h = slots-end ws i (omega (arith, h))
 
 -- ---- behind pairs that are behind others
 

@@ -1,6 +1,6 @@
 -- An accepted insertion makes as many unreachable nodes reached as its run has, and one more for a new root.
 use mathlib.Core.Path.{◌≡◌}
-use mathlib.Core.Bool.{true, cond}
+use mathlib.Core.Bool.{cond}
 use mathlib.Core.List.{List, ◌++◌}
 use Prim.Native.Nat.{ℕ, zero, suc, ◌+◌}
 use native.Mathlib.Omega.{arith}
@@ -12,8 +12,7 @@ use Rattle.model.specs.SoundTest.{nothing, sound}
 use Rattle.model.specs.Orders.{apply}
 use Rattle.model.specs.Writes.{shift_in_at, unreachable, standing, run, root_in_run, splits, root_stores, insert_settled, repair_stores, repaired, insert_stores, insertion, stores_of}
 use Rattle.model.specs.Refusals.{refusal}
-use Rattle.table_laws.proofs.Header.{header-iff}
-use Rattle.cut_laws.proofs.Applying.{apply-append, length-apply}
+use Rattle.cut_laws.proofs.Applying.{apply-append}
 use Rattle.two_laws.specs.Parts.{Enters, split_for, Ready}
 use Rattle.two_laws.proofs.TwoLaw.{Tree}
 use Rattle.two_laws.proofs.Arrange.{Arr, settled-tree}
@@ -21,9 +20,7 @@ use Rattle.two_laws.proofs.LeafStores.{in-unreachable, leaf-for}
 use Rattle.two_laws.proofs.InsertTwo.{first-takes, first-arr, ready-next, splits-course, splits-room, root-first, root-arr, root-take}
 use Rattle.two_laws.proofs.CallsTwo.{repairs, arranged, is-repaired}
 use Rattle.two_laws.proofs.AcceptedTwo.{there, Accepted, accepted-iff}
-use Rattle.two_laws.proofs.MapsTwo.{accepted-steps}
-use Rattle.two_laws.proofs.SearchTwo.{sound-head}
-use Rattle.two_laws.proofs.SameTwo.{settled-sound}
+use Rattle.two_laws.proofs.MapsTwo.{sound-after, nodes-after}
 use Rattle.two_laws.proofs.JudgedTwo.{unreachable-later}
 use Rattle.two_laws.proofs.CollectionTwo.{unreachable-all}
 
@@ -74,17 +71,12 @@ module _ (n k r c words dock : ℕ) (t : Words) (ok : refusal (insertion n k r c
       let tree = settled-tree (root_word n) beside.0 u beside.1 (repairs t s).settles in
       rw (apply-append (repair_stores t) (insert_settled n u k (pointer_of r c)) t, ← (unreachable-later t s)) (settled-take n beside.0 u k r c beside.1 tree passes.allows)
 
-  after-sound : sound t₁ ≡ true
-  after-sound = settled-sound t₁ (accepted-steps (insertion n k r c) words dock t passes.sound ok).all-settled
-
   pub reached-after : length (reached_all (apply (stores_of (insertion n k r c) t) t)) ≡ length (reached_all t) + takes n (repaired t) k
   reached-after =
       omega (
         arith,
         all-take,
         unreachable-all t passes.sound,
-        unreachable-all t₁ after-sound,
-        ((header-iff t).0 (sound-head t passes.sound)).size.long,
-        ((header-iff t₁).0 (sound-head t₁ after-sound)).size.long,
-        length-apply (stores_of (insertion n k r c) t) t,
+        unreachable-all t₁ (sound-after (insertion n k r c) words dock t ok),
+        nodes-after (insertion n k r c) words dock t ok,
       )

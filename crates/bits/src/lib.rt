@@ -4,6 +4,9 @@
 ghost use Rattle.std.specs.Prelude.{◌≡◌, ◌*◌, ◌<◌, length};
 ghost use Rattle.bits.specs.Bits.{has, put, full};
 
+// Words for a bit of each node that a table may have.
+pub const MARKS: usize = 1024;
+
 // Whether x is marked. The bound of x is required, not typed: the words are a slice, since sets differ in length and a summary's goes by its table.
 pub fn has(words: &[u64], x: usize) -> bool
     requires { x < 64 * length words.now }

@@ -13,7 +13,7 @@ use Rattle.model.specs.Table.{Words, header_ok, header_number}
 use Rattle.model.specs.Orders.{decode, all_inside, carry, carry_number, carry_out, carried_out}
 use Rattle.model.proofs.Numbers.{refused-by}
 use Rattle.table_laws.proofs.Header.{header-number-iff, header-number-refused}
-use Rattle.carry.proofs.Turns.{decode-take}
+use Rattle.wear_laws.proofs.Stored.{decode-take}
 
 -- the answer, and the table left
 abbrev Answers : (c : ℕ) (list t : Words) (r : Outcome) (u : Words) → Type 0

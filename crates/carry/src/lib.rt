@@ -18,7 +18,8 @@ fn is_inside(len: usize, order: ListedOrder) -> bool
     }
 }
 
-// Whether the orders of a list do.
+// Whether the orders of a list do. Words of two in turn, as in the other walks of a list, here, in judge, wear and script_bytes: an iterator of
+// orders would be no plainer, a type with its `next` and its laws in place of one call of `from` a walk.
 pub fn all_inside(len: usize, list: &[u64]) -> bool
     ensures { result ≡ all_inside len (decode list.now) }
 {

@@ -26,7 +26,7 @@ pub fn cell_for(cells: &[u64], number: u64) -> Option<usize>
 {
     let places = cells.len();
     let mut at = numbers::home(places, number);
-    // No iterator: each cell of a path is found from the one before.
+    // No `iter::successors` with `find`: its closure would take a contract, and its list a law that it is the path, where the loop has one invariant.
     for _ in 0..places {
         let held = cells[at];
         if held == number || held == 0 {
@@ -85,7 +85,7 @@ fn close_up(cells: &mut [u64], first: usize)
     let places = cells.len();
     let mut gap = first;
     let mut at = numbers::next_cell(places, first);
-    // No iterator: which cell is the gap, and which comes next, follows from the cell before.
+    // No `iter::successors` for the places: its closure would take a contract, and its list a law that it is the path, and the gap would stay by hand.
     for _ in 0..places {
         if cells[at] == 0 {
             cells[gap] = 0;

@@ -22,9 +22,6 @@ use Rattle.change_laws.proofs.Lists.{Off}
 use Rattle.change_laws.proofs.Parts.{KeysOk, LeafOk, leaf-iff, InnerOk, inner-iff, good-parts, good-leaf, good-inner, no-children, HasLeft, Keeps, same-room}
 use Rattle.change_laws.proofs.Parents.{sibling-reached, child-reached}
 
-filter-ext : (p q : Slot → Bool) → ((s : Slot) → p s ≡ q s) → (ss : List Slot) → filter p ss ≡ filter q ss
-filter-ext p q e ss = ap (λ (t : Slot → Bool). filter t ss) (λ i s. e s i)
-
 fill-names : (v : View) (P : ℕ → Type 0) (ns : List ℕ) (e : ℕ) → Each P (fill_row v ns e) → Each P ns
 fill-names v P [] e h = tt
 fill-names v P (n ∷ ns) e h = (link-head v P n ns e h, fill-names v P ns e (link-tail v P n ns e h))
@@ -58,7 +55,7 @@ module _ (v v' : View) (b : ℕ) (same-nodes : v'.nodes ≡ v.nodes) (same-root 
 
     kept-agree : kept v' n ≡ kept v n
     unfolding kept
-    kept-agree = ap (λ (m : NodeView). filter (λ (s : Slot). within v' n s.key) m.shown) (same.else n c.own) ∙ filter-ext _ _ (λ s. within-agree s.key) (v.node n).shown
+    kept-agree = ap (λ (m : NodeView). filter (λ (s : Slot). within v' n s.key) m.shown) (same.else n c.own) ∙ ap (λ (q : Slot → Bool). filter q (v.node n).shown) (λ i s. within-agree s.key i)
 
     next-agree : next_child v' n ≡ next_child v n
     next-agree = ap (λ (m : NodeView). first_child v' m.sibling) (same.else n c.own) ∙ first-agree (v.node n).sibling c.sibling

@@ -10,11 +10,11 @@ use Rattle.model.specs.Slots.{Slot, slots_of, recording, recording_of, View}
 use Rattle.model.specs.SoundTest.{all, elem, distinct}
 use Rattle.list_laws.proofs.Distinct.{distinct-cons}
 use Rattle.batch_laws.proofs.Folds.{pair-at}
-use Rattle.std.specs.Prelude.{Ok, Err, is_err}
+use Rattle.std.specs.Prelude.{Ok, Err, is_ok}
 use Rattle.numbers.specs.declared.Stop.{Stop}
 use Rattle.numbers.specs.Cells.{CELLS, TRIES, Entry, mixed, Outcome, outcome, entered, followed}
 use Rattle.numbers.proofs.Filed.{Stored, Told, told, filed-none, new-number, filed-more}
-use Rattle.clear.specs.New.{off_pair, tree_pairs, recordings_of, Holds, is_entered, entered_down, clear_of, are_new}
+use Rattle.clear.specs.New.{off_pair, tree_pairs, recordings_of, Holds, entered_down, clear_of, are_new}
 
 pub holds-none : Holds (replicate CELLS 0) []
 unfolding elem distinct
@@ -81,33 +81,24 @@ module _ (pairs : Words) (from i : ℕ) (cs : Words) where
     pub down-ends : (s : Stop) → e ≡ Err s → outcome (Err s) after ≡ entered_down pairs from (i - from) cs
     down-ends s a = ap (λ (y : Entry). followed (outcome y after) (entered_down pairs from (i - 1 - from))) (sym a) ∙ down-step
 
--- which answer is an error
-pub stopped : (e : Entry) → is_err e ≡ true → (s : Stop) × (e ≡ Err s)
-stopped (Ok x) h = absurd (false≢true h)
-stopped (Err s) h = (s, refl)
-
-pub entered-one : (e : Entry) → is_err e ≡ false → e ≡ Ok tt
-entered-one (Ok x) h = refl
-entered-one (Err s) h = absurd (false≢true (sym h))
-
 -- ---- the answer
 
-module _ (v : View) (pairs : Words) (i j : ℕ) (b : Bool) (cs : Words) (e : b ≡ is_entered (entered_down pairs i (j - i) (replicate CELLS 0)).answer)
+module _ (v : View) (pairs : Words) (i j : ℕ) (b : Bool) (cs : Words) (e : b ≡ is_ok (entered_down pairs i (j - i) (replicate CELLS 0)).answer)
     (c : cs ≡ (entered_down pairs i (j - i) (replicate CELLS 0)).cells) where
   abbrev came : Outcome
   came = entered_down pairs i (j - i) (replicate CELLS 0)
 
-  clear-not : (o : Outcome) → false ≡ is_entered o.answer → false ≡ clear_of v o
+  clear-not : (o : Outcome) → false ≡ is_ok o.answer → false ≡ clear_of v o
   clear-not o h = go o.answer h
     where
-      go : (a : Entry) → false ≡ is_entered a → false ≡ clear_of v (outcome a o.cells)
+      go : (a : Entry) → false ≡ is_ok a → false ≡ clear_of v (outcome a o.cells)
       go (Ok x) h = absurd (false≢true h)
       go (Err s) h = refl
 
-  clear-all : (o : Outcome) → true ≡ is_entered o.answer → clear_of v o ≡ all (off_pair o.cells) (tree_pairs v)
+  clear-all : (o : Outcome) → true ≡ is_ok o.answer → clear_of v o ≡ all (off_pair o.cells) (tree_pairs v)
   clear-all o h = go o.answer h
     where
-      go : (a : Entry) → true ≡ is_entered a → clear_of v (outcome a o.cells) ≡ all (off_pair o.cells) (tree_pairs v)
+      go : (a : Entry) → true ≡ is_ok a → clear_of v (outcome a o.cells) ≡ all (off_pair o.cells) (tree_pairs v)
       go (Ok x) h = refl
       go (Err s) h = absurd (false≢true (sym h))
 

@@ -3,23 +3,22 @@ use mathlib.Core.Path.{◌≡◌, refl, ap, sym, ◌∙◌}
 use mathlib.Core.Bool.{Bool, true, false, ◌&&◌, and_assoc}
 use mathlib.Core.List.{List, [], ◌∷◌, ◌++◌}
 use mathlib.Core.Logic.{◌≢◌, inl, inr}
-use Prim.Native.Nat.{ℕ, zero, suc, ◌+◌, ◌-◌, ◌<◌}
+use Prim.Native.Nat.{ℕ, zero, suc, ◌+◌, ◌-◌, ◌≤◌, ◌<◌}
 use native.Mathlib.Omega.{arith}
 use lib.Dec.{eqb}
-use lib.ListN.{get_or}
+use lib.ListN.{length, take, drop, get_or}
+use lib.Seq.{drop-cons}
 use borrow.Author.Tests.{eq-eqb, ne_eqb}
-use Rattle.std.specs.List.{list_all, range_with_len}
-use Rattle.model.specs.Table.{Words}
+use Rattle.std.specs.List.{list_all}
+use Rattle.model.specs.Table.{Words, root}
 use Rattle.model.specs.Slots.{Slot, recording_of, view_from, view}
-use Rattle.model.specs.Search.{below}
 use Rattle.model.specs.Reached.{flat, kept}
 use Rattle.model.specs.SoundTest.{all}
-use Rattle.slots.specs.declared.ways.Ways.{Ways}
-use Rattle.slots.specs.Gathered.{ways_from}
-use Rattle.slots.proofs.Kept.{ways-end, ways-next}
+use Rattle.slots.specs.Gathered.{span}
 use Rattle.model.specs.Cells.{home_of}
 use Rattle.numbers.specs.Cells.{CELLS, TRIES, next_cell}
 use Rattle.numbers.specs.Filed.{Closed}
+use Rattle.view_laws.proofs.AnyRoot.{any-kept}
 use Rattle.clear.specs.New.{off_from, off, off_pair}
 
 all-join : (p : Slot → Bool) (xs ys : List Slot) → all p (xs ++ ys) ≡ (all p xs && all p ys)
@@ -71,23 +70,17 @@ held-met n cs r i (suc m) z (inr c) = go (eqb (get_or cs i 0) r) (held-met n cs 
 
 -- ---- the slots of a leaf, from way i on
 
-pub listed-ways : (cs : Words) (w : Ways) (i m : ℕ) → w.count - i ≡ m → list_all (λ k. off cs (recording_of (get_or w.pointers k 0))) (range_with_len i m) ≡ all (off_pair cs) (ways_from w i)
-unfolding all
-listed-ways cs w i zero e = sym (ap (all (off_pair cs)) (ways-end w i (omega arith)))
-listed-ways cs w i (suc m) e =
-    ap (λ b. off cs (recording_of (get_or w.pointers i 0)) && b) (listed-ways cs w (i + 1) m (omega arith))
-    ∙ sym (ap (all (off_pair cs)) (ways-next w i (omega arith)))
+pub listed-ways : (cs ks ps : Words) (i m : ℕ) → i + m ≤ length ps → list_all (λ p. off cs (recording_of p)) (take m (drop i ps)) ≡ all (off_pair cs) (span ks ps i m)
+unfolding all span
+listed-ways cs ks ps i zero h = refl
+listed-ways cs ks ps i (suc m) h = rw (drop-cons ps i 0 (omega arith)) (ap (λ b. off cs (recording_of (get_or ps i 0)) && b) (listed-ways cs ks ps (suc i) m (omega arith)))
 
 -- ---- the leaves, one by one
-
-any-kept : (t : Words) (r n : ℕ) → kept (view t) n ≡ kept (view_from t r) n
-unfolding kept below
-any-kept t r n = refl
 
 pub leaves-all : (cs t : Words) (r : ℕ) (ns : List ℕ) → list_all (λ (n : ℕ). all (off_pair cs) (kept (view t) n)) ns ≡ all (off_pair cs) (flat (kept (view_from t r)) ns)
 unfolding all flat
 leaves-all cs t r [] = refl
 leaves-all cs t r (n ∷ ns) =
     ap (λ (b : Bool). all (off_pair cs) (kept (view t) n) && b) (leaves-all cs t r ns)
-    ∙ ap (λ (ss : List Slot). all (off_pair cs) ss && all (off_pair cs) (flat (kept (view_from t r)) ns)) (any-kept t r n)
+    ∙ ap (λ (ss : List Slot). all (off_pair cs) ss && all (off_pair cs) (flat (kept (view_from t r)) ns)) (any-kept t (root t) r n)
     ∙ sym (all-join (off_pair cs) (kept (view_from t r) n) (flat (kept (view_from t r)) ns))

@@ -7,7 +7,7 @@ use Rattle.model.specs.SoundTest.{all, elem, distinct}
 use Rattle.model.specs.Refusals.{has_recording}
 use Rattle.list_laws.specs.Each.{Each}
 use Rattle.walk_laws.specs.Chain.{along, chain}
-use Rattle.numbers.specs.Cells.{CELLS, TRIES, Entry, Outcome, outcome, mixed, next_cell, entered, followed}
+use Rattle.numbers.specs.Cells.{CELLS, TRIES, Outcome, outcome, mixed, next_cell, entered, followed}
 use Rattle.numbers.specs.Filed.{Filed}
 
 -- of n cells, m along the path from cell i on: a free one comes before r
@@ -48,10 +48,6 @@ pub record New (ps : List Slot) (rs : List ℕ) : Type 0 where
   pub absent : Each (λ (r : ℕ). has_recording r ps ≡ false) rs
 
 -- ---- what is answered
-
-abbrev pub is_entered : Entry → Bool
-is_entered (Ok x) = true
-is_entered (Err s) = false
 
 -- the recordings of so many pairs from i on entered, from the last to the first
 unfoldable pub entered_down : (pairs : Words) → (i count : ℕ) → Words → Outcome

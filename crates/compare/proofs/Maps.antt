@@ -21,7 +21,7 @@ use Rattle.list_laws.proofs.Lists.{cons-same}
 use Rattle.list_laws.proofs.OrdinaryMap.{enter-first}
 use Rattle.tree_laws.proofs.Rising.{rising-cons, rising-weaken, rising-from}
 use Rattle.change_laws.proofs.Pairs.{has-key-iff}
-use Rattle.judge_laws.proofs.Compared.{slots-same}
+use Rattle.judge_laws.proofs.Compared.{slot-same, slots-same}
 use Rattle.slots.specs.Held.{held_by}
 use Rattle.compare.specs.Cursors.{same_but}
 use Rattle.compare.specs.Pointers.{held, with_pointer, old_or_new}
@@ -103,14 +103,11 @@ abbrev Keyed : ℕ → Option Slot → Type 0
 Keyed k none = Unit {0}
 Keyed k (some s) = s.key ≡ k
 
-slot-is : (s u : Slot) → s.key ≡ u.key → s.pointer ≡ u.pointer → s ≡ u
-slot-is s u a b = ap (λ (k : ℕ). slot k s.pointer) a ∙ ap (slot u.key) b
-
 by-pointer : (k : ℕ) (a b : Option Slot) → Keyed k a → Keyed k b → held_by a ≡ held_by b → a ≡ b
 by-pointer k none none p q e = refl
 by-pointer k none (some u) p q e = let d : false ≡ true = ap is_some e in absurd (false≢true d)
 by-pointer k (some s) none p q e = let d : false ≡ true = ap is_some (sym e) in absurd (false≢true d)
-by-pointer k (some s) (some u) p q e = ap some (slot-is s u (p ∙ sym q) (ap (λ (o : Known ℕ). unwrap_or o 0) e))
+by-pointer k (some s) (some u) p q e = ap some (slot-same s u (p ∙ sym q) (ap (λ (o : Known ℕ). unwrap_or o 0) e))
 
 first-keyed : (k : ℕ) (ss : List Slot) → Keyed k (first_with k ss)
 unfolding first_with

@@ -14,8 +14,11 @@ use slots::Ways;
 
 // ---- the pairs of a tree, one by one
 
-// A place among the pairs of a tree: a leaf's ways, the next of them, the next leaf, and how many leaves may follow.
-// No `Siblings`: whether a leaf follows is asked before it is taken, and an iterator says that only by taking it.
+// A place among the pairs of a tree: a leaf's ways, the next of them, the next leaf, and how many leaves may follow. 0 for no leaf, as in a node:
+// an Option of it would be made anew from the word at each leaf.
+// No `Siblings`: whether a leaf follows is asked before it is taken. `peekable` could say so, but it changes what it looks at and keeps an Option in
+// an Option: `pairs_at` and `distance` would be of what was looked at and of the rest.
+// The table is none of its fields, and is handed in: tried and proved, but targets/width.py refuses numbers with a pointer that are copied whole.
 #[derive(Clone, Copy)]
 struct Cursor {
     ways: Ways,
@@ -29,6 +32,7 @@ impl Cursor {
     fn start(table: &[u64], root: u64) -> Cursor
         ensures { pairs_at (view table.now) result ≡ all_pairs (view_from table.now root) }
     {
+        // Written out: a `Default` of Ways would be an impl in slots that serves here alone.
         let ways = Ways {
             count: 0,
             keys: [0u64; 13],
@@ -118,15 +122,15 @@ impl Cursor {
     }
 }
 
-// Whether two trees have the same pairs, but for one key.
-// A table is a lent slice (document 01 says so), and each tree has a root of its own: they stay two parameters.
+// Whether two trees have the same pairs, but for one key. Table and root stay two parameters, here and below: a `Tree<'a> { table, root }` would be no
+// plainer. Judge would make each for one call, and `reach` and `leaves`, which take a table and a node, would have it taken apart.
 fn same_but(image: &[u64], top: u64, table: &[u64], root: u64, key: u64) -> bool
     ensures { result ≡ same_but key (all_pairs (view_from image.now top)) (all_pairs (view_from table.now root)) }
 {
     let mut a = Cursor::start(image, top).seek(image, key);
     let mut b = Cursor::start(table, root).seek(table, key);
-    // Two cursors that go on together, each past the key, while the pairs are the same: iterators side by side would be a zip, which
-    // targets/width.py refuses.
+    // Two cursors that go on together, each past the key, while the pairs are the same. `Iterator::eq` would be no plainer: the cursor would still be
+    // there, with `next` over `past` and `seek`, and the laws of what that yields besides those of a place.
     while !a.at_end() && a.same_pair(b) {
         a = a.past().seek(image, key);
         b = b.past().seek(table, key);
@@ -137,7 +141,8 @@ fn same_but(image: &[u64], top: u64, table: &[u64], root: u64, key: u64) -> bool
 // ---- two trees
 
 // The pointer of a key in the map of the tree under a root, if the key is there.
-// That the tree is sound is said of table and root together, and the table is a lent slice: so it is a clause.
+// That the tree is sound is a clause, here and below: a `Tree<'a> { table, root }` with the fact as a ghost field would be no plainer. Judge would
+// make each for one call, and `reach` and `leaves`, which take a table and a node, would have it taken apart.
 pub fn held(table: &[u64], root: u64, key: u64) -> Option<u64>
     requires { sound_view (view_from table.now root) ≡ true }
     ensures { result ≡ held key (mapping (view_from table.now root)) }
@@ -148,7 +153,8 @@ pub fn held(table: &[u64], root: u64, key: u64) -> Option<u64>
 }
 
 // Whether the map of an image's tree is the table's or, in the tree that is to change, the new one.
-// own is data: whether the change names this tree. With the new pointer, which may be none, it would be an Option in an Option, no plainer.
+// own is data: whether the change names this tree. With the new pointer, which may be none, it would be an Option in an Option: no
+// plainer, since each call would make it with `then_some` and this function would take it apart.
 pub fn tree_ok(
     image: &[u64],
     top: u64,

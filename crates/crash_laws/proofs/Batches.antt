@@ -40,9 +40,8 @@ use Rattle.cut_laws.proofs.LastFlush.{up_to_flush-nil, up_to_flush-after, later_
 use Rattle.cut_laws.proofs.Docks.{barred-images, list-flushed, list-apply}
 use Rattle.cut_laws.proofs.Cuts.{image-at-none}
 use Rattle.cut_laws.proofs.Lent.{length-encode, encode-append, list_with-nil, carry-list-all, header-length, orders-inside, read-back, listed-number, listed-carried}
-use Rattle.two_laws.proofs.MapsTwo.{Steps, accepted-steps}
+use Rattle.two_laws.proofs.MapsTwo.{Steps, accepted-steps, sound-after}
 use Rattle.two_laws.proofs.SearchTwo.{sound-head}
-use Rattle.two_laws.proofs.SameTwo.{settled-sound}
 use Rattle.two_laws.proofs.LedgerTwo.{number-in-ledger}
 use Rattle.batch_laws.proofs.Folds.{batch-none, batch-stops, batch-goes}
 use Rattle.crash_laws.proofs.Demand3.{answered-all, listed-all, demand3-from, along}
@@ -268,9 +267,6 @@ module _ (n dock : ℕ) (s : Slot) (ss : List Slot) (list t : Words) where
       steps : Steps x t
       steps = accepted-steps x (length list) dock t fine ok
 
-      sound₁ : sound t₁ ≡ true
-      sound₁ = settled-sound t₁ steps.all-settled
-
       step-whole : step (both t) (pair_event n dock list whole s) ≡ both t₁
       unfolding step written list_after table_after
       step-whole = rw (ok, counts-length own) (ap (λ (m : Words). record { memory = m; working = t₁ }) (carry-list-all dock us list t (sound-head t fine) steps.stores-inside))
@@ -425,7 +421,7 @@ facts n dock (s ∷ ss) list t fine = go (refusal (insertion_of n s) (length lis
     go : (k : ℕ) → refusal (insertion_of n s) (length list) dock t ≡ k
         → ((list t : Words) → sound t ≡ true → Facts n dock ss list t (batch n dock ss list t) (all_orders n dock ss list t))
         → Facts n dock (s ∷ ss) list t (batch n dock (s ∷ ss) list t) (all_orders n dock (s ∷ ss) list t)
-    go zero ok ih = rw (goes n dock s ss list t ok, joined n dock s ss list t ok) (facts-first n dock s ss list t _ _ fine ok (ih _ _ (sound₁ n dock s ss list t ok fine)))
+    go zero ok ih = rw (goes n dock s ss list t ok, joined n dock s ss list t ok) (facts-first n dock s ss list t _ _ fine ok (ih _ _ (sound-after (insertion_of n s) (length list) dock t ok)))
     go (suc k) f ih =
         let e = number-here n dock s ss list t k f in
         rw (stops-here n dock s ss list t k f, no-orders n dock s ss list t k f)
@@ -442,7 +438,7 @@ whole-ways n dock (s ∷ ss) list t fine = go (refusal (insertion_of n s) (lengt
         → (let r = batch n dock (s ∷ ss) list t in Ways n dock (s ∷ ss) t whole r.answer.taken (both r.table))
     go zero ok ih =
         rw (goes n dock s ss list t ok)
-        (ways-first n dock s ss list t _ whole _ _ ok (step-whole n dock s ss list t ok fine) (ih _ _ (sound₁ n dock s ss list t ok fine)))
+        (ways-first n dock s ss list t _ whole _ _ ok (step-whole n dock s ss list t ok fine) (ih _ _ (sound-after (insertion_of n s) (length list) dock t ok)))
     go (suc k) f ih = rw (stops-here n dock s ss list t k f) (no-ways n dock (s ∷ ss) t whole 0 t tt refl refl)
 
 -- no order has happened
@@ -485,7 +481,7 @@ module _ (n dock : ℕ) (s : Slot) (ss : List Slot) (ih : Cuts n dock ss) (list 
     past k =
         let d : length first + (c - length first) ≡ c = omega arith in
         let j : CutImage dock (length first + (c - length first)) t (barred dock (orders stores ++ later)) m = rw d image in
-        let w = ih rest (apply stores t) (c - length first) m (sound₁ n dock s ss list t ok fine) (omega (arith, l, lengths)) (cut-behind dock (c - length first) stores later t m j) in
+        let w = ih rest (apply stores t) (c - length first) m (sound-after (insertion_of n s) (length list) dock t ok) (omega (arith, l, lengths)) (cut-behind dock (c - length first) stores later t m j) in
         other-cut n dock (s ∷ ss) t (c - length first) c m _ _ (ways-first n dock s ss list t (apply stores t) (cut (c - length first) m) _ _ ok (step-whole n dock s ss list t ok fine) w)
 
     taken-cut : Ways n dock (s ∷ ss) t (cut c m) (batch n dock (s ∷ ss) list t).answer.taken (both m)

@@ -35,7 +35,7 @@ use Rattle.cut_laws.proofs.Applying.{counts-length, length-apply}
 use Rattle.cut_laws.proofs.Cuts.{image-is-stores, image-at-none, image-at-all}
 use Rattle.cut_laws.proofs.Lent.{list-read-back, carry-list-number, carry-list-all}
 use Rattle.model.specs.Judge.{OldOrNew}
-use Rattle.two_laws.proofs.MapsTwo.{Steps, accepted-steps}
+use Rattle.two_laws.proofs.MapsTwo.{Steps, accepted-steps, sound-after}
 use Rattle.two_laws.proofs.SearchTwo.{sound-head}
 use Rattle.two_laws.proofs.SameTwo.{sound-same, settled-same, settled-sound}
 use Rattle.two_laws.proofs.EmptyTwo.{empty-settled, empty-one-maps, empty-two-maps}
@@ -123,7 +123,7 @@ not-with zero n done left z = not-done n done left z
 not-with (suc r) n done left z = refl
 
 -- a call answers its number
-plain-answered : (x : Call) (words dock : ℕ) (t : Words) → answer_number (written x words dock t) ≡ refusal x words dock t
+pub plain-answered : (x : Call) (words dock : ℕ) (t : Words) → answer_number (written x words dock t) ≡ refusal x words dock t
 unfolding written
 plain-answered x words dock t =
     let n = refusal x words dock t in
@@ -295,7 +295,7 @@ module _ (s : State) (e : Event) (both : s.memory ≡ s.working) (fine : sound s
   left-all = accepted-table x e.lent dock t e.slice plain
 
   left-sound : sound left ≡ true
-  left-sound = rw left-all (settled-sound _ steps.all-settled)
+  left-sound = rw left-all (sound-after x (length e.lent) dock t plain.accepted)
 
   fate-inv : (N : ℕ) → nodes t ≡ N → (f : Fate) → FateMay f s e → Inv N (after_fate f s e) (cond (taken (end_of f s e) (chosen f new)) new old)
   fate-inv N size whole p =

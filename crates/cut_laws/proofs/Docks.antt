@@ -1,7 +1,7 @@
 -- The two docks: barriers make no difference to dock 0, and on orders with a barrier after each store dock 1 leaves the images that dock 0 does.
 use mathlib.Core.Path.{◌≡◌, refl, sym, ap, ◌∙◌}
 use mathlib.Core.Logic.{inl, inr, ◌↔◌}
-use mathlib.Core.Bool.{Bool, true, false, cond, ◌&&◌, ◌||◌}
+use mathlib.Core.Bool.{Bool, true, false, cond, ◌&&◌, ◌||◌, and-false}
 use mathlib.Core.List.{List, [], ◌∷◌, ◌++◌}
 use Prim.Native.Nat.{ℕ, zero, suc, ◌+◌}
 use native.Mathlib.Nat.{zero-add, suc-add}
@@ -17,7 +17,7 @@ use Rattle.cut_laws.specs.Unflushed.{stores_in, OneLine}
 use Rattle.cut_laws.proofs.Barriers.{without-carry, without-take, without-barred, barred-stores, barred-carry}
 use Rattle.cut_laws.proofs.FlushRule.{orders-without, orders-stores, orders-apply}
 use Rattle.cut_laws.proofs.Unflushed.{orders-flushed, orders-one-line}
-use Rattle.cut_laws.proofs.LastFlush.{and-none, flushed-append, up_to_flush-nil, later_stores-before}
+use Rattle.cut_laws.proofs.LastFlush.{flushed-append, up_to_flush-nil, later_stores-before}
 
 -- ---- dock 0: barriers make no difference
 
@@ -83,7 +83,7 @@ since-unflushed l (o ∷ os) = go (flushed l (o ∷ os)) refl (since-unflushed l
 -- an order that is flushed after it has nothing later
 later-front : (l : ℕ) (o : Order) (os : List Order) → flushed l (o ∷ os) ≡ true → later_stores l (o ∷ os) ≡ later_stores l os
 unfolding later_stores flushed
-later-front l (store s) os e = rw (e, and-none (eqb (line s.word) l))
+later-front l (store s) os e = rw (e, and-false (eqb (line s.word) l))
 later-front l (flush k) os e = refl
 later-front l barrier os e = refl
 

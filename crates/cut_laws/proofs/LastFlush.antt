@@ -1,7 +1,7 @@
 -- The last flush of a line and the later stores to it, in two lists of orders in a row; both together give what the orders leave.
 use mathlib.Core.Path.{◌≡◌, refl, sym, ap, ◌∙◌}
 use mathlib.Core.Logic.{◌≢◌}
-use mathlib.Core.Bool.{Bool, true, false, cond, not, ◌&&◌, ◌||◌}
+use mathlib.Core.Bool.{Bool, true, false, cond, not, ◌&&◌, ◌||◌, and-false, or-false, or_assoc}
 use mathlib.Core.List.{List, [], ◌∷◌, ◌++◌, append-nil}
 use Prim.Native.Nat.{ℕ}
 use native.Mathlib.Omega.{arith}
@@ -15,18 +15,6 @@ use Rattle.model.specs.Orders.{Store, Order, store, flush, barrier, apply, carry
 use Rattle.model.specs.Cuts.{flushed, up_to_flush, later_stores}
 use Rattle.cut_laws.proofs.Applying.{apply-agree, set-elsewhere}
 
-or-none : (a : Bool) → a || false ≡ a
-or-none true = refl
-or-none false = refl
-
-or-assoc : (a b c : Bool) → a || b || c ≡ a || (b || c)
-or-assoc true b c = refl
-or-assoc false b c = refl
-
-pub and-none : (a : Bool) → a && false ≡ false
-and-none true = refl
-and-none false = refl
-
 cond-append : {A : Type 0} (b : Bool) (x : A) (p q : List A) → cond b (x ∷ (p ++ q)) (p ++ q) ≡ cond b (x ∷ p) p ++ q
 cond-append true x p q = refl
 cond-append false x p q = refl
@@ -37,7 +25,7 @@ flushed-append l [] b = refl
 flushed-append l (store s ∷ a) b = flushed-append l a b
 flushed-append l (barrier ∷ a) b = flushed-append l a b
 flushed-append l (flush k ∷ a) b =
-    ap (λ (x : Bool). eqb k l || x) (flushed-append l a b) ∙ sym (or-assoc (eqb k l) (flushed l a) (flushed l b))
+    ap (λ (x : Bool). eqb k l || x) (flushed-append l a b) ∙ sym (or_assoc (eqb k l) (flushed l a) (flushed l b))
 
 -- orders that flush nothing
 pub no-flush : (l : ℕ) (os : List Order) → flush_count os ≡ 0 → flushed l os ≡ false
@@ -65,14 +53,14 @@ module _ (l : ℕ) (b : List Order) (e : flushed l b ≡ true) where
   pub later_stores-after : (a : List Order) → later_stores l (a ++ b) ≡ later_stores l b
   unfolding later_stores
   later_stores-after [] = refl
-  later_stores-after (store s ∷ a) = rw (flushed-after a, and-none (eqb (line s.word) l)) (later_stores-after a)
+  later_stores-after (store s ∷ a) = rw (flushed-after a, and-false (eqb (line s.word) l)) (later_stores-after a)
   later_stores-after (flush k ∷ a) = later_stores-after a
   later_stores-after (barrier ∷ a) = later_stores-after a
 
 -- b does not
 module _ (l : ℕ) (b : List Order) (e : flushed l b ≡ false) where
   flushed-before : (a : List Order) → flushed l (a ++ b) ≡ flushed l a
-  flushed-before a = rw (flushed-append l a b, e) (or-none (flushed l a))
+  flushed-before a = rw (flushed-append l a b, e) (or-false (flushed l a))
 
   pub up_to_flush-before : (a : List Order) → up_to_flush l (a ++ b) ≡ up_to_flush l a
   unfolding up_to_flush
@@ -95,7 +83,7 @@ unfolding later_stores
 flushed-front s os l f = go (ℕ_discrete (line s.word) l)
   where
     go : Dec (line s.word ≡ l) → later_stores l (store s ∷ os) ≡ later_stores l os
-    go (yes e) = rw (rw e at f, and-none (eqb (line s.word) l))
+    go (yes e) = rw (rw e at f, and-false (eqb (line s.word) l))
     go (no k) = rw (ne_eqb (line s.word) l k)
 
 pub other-front : (s : Store) (os : List Order) (l : ℕ) → line s.word ≢ l → later_stores l (store s ∷ os) ≡ later_stores l os

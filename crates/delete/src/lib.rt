@@ -34,7 +34,7 @@ fn take_out(writer: &mut Writer<'_>, collection: u64, key: u64)
     }
 }
 
-// The deletion call. Table, list and numbers come as C lends them, here and in the other calls.
+// The deletion call. Table, list and numbers come one by one, as C hands them in.
 pub fn delete(table: &mut [u64], list: &mut [u64], dock: u64, collection: u64, key: u64) -> Written
     ensures value { result ≡ written (deletion collection key) (length list.old) dock table.old }
     ensures table_after { table.new ≡ table_after (deletion collection key) (length list.old) dock table.old }

@@ -8,15 +8,16 @@ ghost use Rattle.gap.specs.Around.{around, Fits, Under, Over, ends_with};
 
 use model::MARK;
 
-// Pairs whose key is above this one go up across the gap; the answer is how many are below it then. kept and at are two numbers and no
-// struct: at is what each function here answers or changes, while kept stays.
+// Pairs whose key is above this one go up across the gap; the answer is how many are below it then. No struct of pairs, kept and at: gather
+// lends the words anew for each call, since its set has cells in the same slice, so that each call would make the struct and take it apart.
 fn seek_down(pairs: &mut [u64], kept: usize, at: usize, key: u64) -> usize
     requires { Fits pairs.old at kept }
     ensures kept_after { (around pairs.new result kept ≡ around pairs.old at kept) × (result ≤ at) }
     ensures under { Under (around pairs.old at kept) key result }
 {
     let gap = pairs.len() - 2 * kept;
-    // By place: a pair moves to another place of the same slice.
+    // By place, and no copy_within: `rposition` over the pairs would come first, with a law of which pair it finds, and the pairs that move would be
+    // passed twice.
     for i in (0..at).rev() {
         let k = pairs[2 * i];
         if k <= key {
@@ -37,6 +38,7 @@ fn seek_up(pairs: &mut [u64], kept: usize, at: usize, key: u64) -> usize
         × Over (around pairs.old at kept) key result }
 {
     let gap = pairs.len() - 2 * kept;
+    // By place, and no copy_within, as above.
     for i in at..kept {
         let k = pairs[gap + 2 * i];
         if key < k {

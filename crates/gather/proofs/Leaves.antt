@@ -1,6 +1,6 @@
 -- The slots of a leaf, and of all leaves among nodes entered.
 use mathlib.Core.Path.{◌≡◌, refl, ap, sym, subst, ◌∙◌}
-use mathlib.Core.Bool.{Bool, true, false}
+use mathlib.Core.Bool.{Bool, true, false, cond, not, ◌&&◌}
 use mathlib.Core.Logic.{◌≢◌}
 use mathlib.Core.List.{List, [], ◌∷◌, ◌++◌}
 use Prim.Native.Nat.{ℕ, zero, suc, ◌+◌, ◌-◌, ◌*◌, ◌≤◌, ◌<◌}
@@ -9,7 +9,7 @@ use native.Mathlib.Nat.{le_trans}
 use lib.Dec.{eqb}
 use lib.ListN.{length, get_or, take, drop, replicate, drop_of_length-le, length-append, length-replicate}
 use lib.Seq.{drop-cons, drop-drop, drop-length, drop_at, take-append-le, length-take-le}
-use borrow.Author.Tests.{eq-eqb, ne_eqb, eqb-true, eqb-false}
+use borrow.Author.Tests.{ne_eqb, eqb-true, eqb-false}
 use Rattle.model.specs.declared.Node.{Node}
 use Rattle.model.specs.Table.{Words, node}
 use Rattle.model.specs.Slots.{Slot, slot, slots_of, node_view}
@@ -19,7 +19,7 @@ use Rattle.model.specs.Salvage.{Placed, under_fence, in_reach, Gathered, reason_
 use Rattle.tour_laws.specs.Walk.{slot_at, before, slots_from}
 use Rattle.tour_laws.proofs.Gathering.{slot-kept, slot-dropped, collected-leaf, collected-inner}
 use Rattle.tour_laws.proofs.Ways.{slots-first, slots-end, slots-hidden, slots-ignored, slots-next, slots-past}
-use Rattle.tour.proofs.Looks.{slot-words}
+use Rattle.tour.proofs.Looks.{slot-words, met-then}
 use Rattle.numbers.proofs.Filed.{filed-none}
 use Rattle.pack.specs.Rows.{pairs_in}
 use Rattle.gap.specs.Around.{around}
@@ -48,21 +48,29 @@ nodes-grow t (n ∷ ns) g = le_trans (slots-grow n (collected t n) g) (nodes-gro
 
 -- ---- one slot of a leaf
 
+-- what `tour::is_met` answers is whether it is collected
+module _ (t : Words) (s b i k p : ℕ) where
+  pub unmet-is : (not (eqb p b) && under_fence t s k) ≡ false → met t s b i k p ≡ []
+  unfolding met
+  unmet-is e = go (eqb p b) refl
+    where
+      go : (c : Bool) → eqb p b ≡ c → cond (eqb p b) [] (cond (under_fence t s k) (placed i k p ∷ []) []) ≡ []
+      go true q = rw q refl
+      go false q = rw (q, (rw q at e)) refl
+
+  pub met-is : (not (eqb p b) && under_fence t s k) ≡ true → met t s b i k p ≡ placed i k p ∷ []
+  unfolding met
+  met-is e = let u = met-then p b (under_fence t s k) e in rw (ne_eqb p b u.0, u.1) refl
+
 module _ (t : Words) (s b i k p n : ℕ) (g : Gathered) where
-  pub met-hidden : p ≡ b → g ≡ gather_slots n (met t s b i k p) g
-  unfolding met gather_slots
-  met-hidden e = rw (eq-eqb p b e)
+  pub met-none : (not (eqb p b) && under_fence t s k) ≡ false → g ≡ gather_slots n (met t s b i k p) g
+  met-none e = rw (unmet-is t s b i k p e) (unfold gather_slots in refl)
 
-  pub met-past : p ≢ b → under_fence t s k ≡ false → g ≡ gather_slots n (met t s b i k p) g
-  unfolding met gather_slots
-  met-past e f = rw (ne_eqb p b e, f)
+  pub met-taken : (not (eqb p b) && under_fence t s k) ≡ true → (h : Gathered) → h ≡ gather_slot n g (placed i k p) → h ≡ gather_slots n (met t s b i k p) g
+  met-taken e h q = rw (met-is t s b i k p e) (unfold gather_slots in q)
 
-  pub met-taken : p ≢ b → under_fence t s k ≡ true → (h : Gathered) → h ≡ gather_slot n g (placed i k p) → h ≡ gather_slots n (met t s b i k p) g
-  unfolding met gather_slots
-  met-taken e f h q = rw (ne_eqb p b e, f) q
-
-  pub met-most : p ≢ b → under_fence t s k ≡ true → (m : ℕ) → length (gather_slots n (met t s b i k p) g).kept ≤ m → length (gather_slot n g (placed i k p)).kept ≤ m
-  met-most e f m h = rw (met-taken e f (gather_slot n g (placed i k p)) refl) h
+  pub met-most : (not (eqb p b) && under_fence t s k) ≡ true → (m : ℕ) → length (gather_slots n (met t s b i k p) g).kept ≤ m → length (gather_slot n g (placed i k p)).kept ≤ m
+  met-most e m h = rw (met-taken e (gather_slot n g (placed i k p)) refl) h
 
 pub kept-same : (report : Words) (t : Tally) → Kept report t report t 1
 kept-same report t = record { stay = refl; sum = omega arith; more = omega arith }

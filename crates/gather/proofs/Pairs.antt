@@ -1,6 +1,6 @@
 -- The pairs kept and their recordings: looked through, and one more among them.
 use mathlib.Core.Path.{◌≡◌, refl, ap, sym, subst, ◌∙◌}
-use mathlib.Core.Bool.{Bool, true, false, cond, not, ◌&&◌, ◌||◌}
+use mathlib.Core.Bool.{Bool, true, false, cond, not, ◌&&◌, ◌||◌, or_assoc}
 use mathlib.Core.Logic.{⊎_elim}
 use mathlib.Core.List.{List, [], ◌∷◌, ◌++◌, append-nil}
 use Prim.Native.Nat.{ℕ, suc, ◌+◌, ◌-◌, ◌*◌, ◌%◌}
@@ -8,18 +8,18 @@ use native.Mathlib.Omega.{arith}
 use lib.Dec.{eqb, ltb}
 use lib.ListN.{length, take, drop, length-drop, length-append, take-append-drop, drop_of_length-le}
 use lib.Seq.{take-take, take_all, take_at, drop_at, get_or-take, length-take-le}
+use Rattle.std.proofs.lemmas.List.{drop-take}
 use Rattle.model.specs.Table.{Words}
 use Rattle.model.specs.Slots.{Slot, slot, slots_of, recording_of, recording, pointer_ok}
 use Rattle.model.specs.Refusals.{has_key, has_recording}
 use Rattle.model.specs.Ledger.{enter}
 use Rattle.model.specs.Salvage.{out_of_range, reason_for}
-use Rattle.list_laws.proofs.Tools.{same-or-not}
+use Rattle.list_laws.proofs.Tools.{or-swap, same-or-not}
 use Rattle.std.specs.Prelude.{Ok, Err}
 use Rattle.numbers.specs.declared.Stop.TheVariants.{Known, Full}
 use Rattle.numbers.specs.Cells.{Entry, mixed, Outcome, outcome, entered}
 use Rattle.numbers.specs.Filed.{Filed}
 use Rattle.numbers.proofs.Filed.{Told, told, known-number, new-number, filed-more, filed-full}
-use Rattle.pack.proofs.Leaves.{take-drop}
 use Rattle.gap.specs.Around.{around, Under, Over, ends_with}
 use Rattle.gap.proofs.Around.{ends-none, ends-some}
 use Rattle.gap.proofs.Places.{ends-key}
@@ -27,11 +27,6 @@ use Rattle.gather.specs.declared.Tally.{Tally}
 use Rattle.gather.specs.Held.{pairs_of, Standing, Filing}
 
 -- ---- a pair more
-
-or-swap : (a b c : Bool) → (a || (b || c)) ≡ (b || (a || c))
-or-swap true true c = refl
-or-swap true false c = refl
-or-swap false b c = refl
 
 pub enter-key : (q k p : ℕ) (ps : List Slot) → has_key q (enter k p ps) ≡ (eqb k q || has_key q ps)
 unfolding enter has_key
@@ -41,16 +36,6 @@ enter-key q k p (s ∷ ss) = go (ltb k s.key) (enter-key q k p ss)
     go : (b : Bool) → has_key q (enter k p ss) ≡ (eqb k q || has_key q ss) → has_key q (cond b (slot k p ∷ s ∷ ss) (s ∷ enter k p ss)) ≡ (eqb k q || (eqb s.key q || has_key q ss))
     go true h = unfold has_key in refl
     go false h = unfold has_key in (ap (λ (b : Bool). eqb s.key q || b) h ∙ or-swap (eqb s.key q) (eqb k q) (has_key q ss))
-
-pub enter-recording : (q k p : ℕ) (ps : List Slot) → has_recording q (enter k p ps) ≡ (eqb (recording_of p) q || has_recording q ps)
-unfolding enter has_recording
-enter-recording q k p [] = refl
-enter-recording q k p (s ∷ ss) = go (ltb k s.key) (enter-recording q k p ss)
-  where
-    go : (b : Bool) → has_recording q (enter k p ss) ≡ (eqb (recording_of p) q || has_recording q ss)
-        → has_recording q (cond b (slot k p ∷ s ∷ ss) (s ∷ enter k p ss)) ≡ (eqb (recording_of p) q || (eqb (recording s) q || has_recording q ss))
-    go true h = unfold has_recording in refl
-    go false h = unfold has_recording in (ap (λ (b : Bool). eqb (recording s) q || b) h ∙ or-swap (eqb (recording s) q) (eqb (recording_of p) q) (has_recording q ss))
 
 pub enter-length : (k p : ℕ) (ps : List Slot) → length (enter k p ps) ≡ suc (length ps)
 unfolding enter
@@ -63,14 +48,10 @@ enter-length k p (s ∷ ss) = go (ltb k s.key) (enter-length k p ss)
 
 -- ---- the recordings of pairs in words
 
-or-assoc : (a b c : Bool) → (a || (b || c)) ≡ ((a || b) || c)
-or-assoc true b c = refl
-or-assoc false b c = refl
-
 has-append : (r : ℕ) (xs ys : List Slot) → has_recording r (xs ++ ys) ≡ (has_recording r xs || has_recording r ys)
 unfolding has_recording
 has-append r [] ys = refl
-has-append r (s ∷ ss) ys = ap (λ (b : Bool). eqb (recording s) r || b) (has-append r ss ys) ∙ or-assoc (eqb (recording s) r) (has_recording r ss) (has_recording r ys)
+has-append r (s ∷ ss) ys = ap (λ (b : Bool). eqb (recording s) r || b) (has-append r ss ys) ∙ sym (or_assoc (eqb (recording s) r) (has_recording r ss) (has_recording r ys))
 
 -- those below the gap, and those above it
 module _ (words : Words) (b : ℕ) (t : Tally) (r : ℕ) (s : Standing words b t) where
@@ -86,7 +67,7 @@ module _ (words : Words) (b : ℕ) (t : Tally) (r : ℕ) (s : Standing words b t
       let w : length front - 2 * (t.kept - t.at) ≡ high = omega arith in
       let sum : high + (end - high) ≡ 2 * b = omega arith in
       let lo : take (2 * t.at) front ≡ take (2 * t.at) words = take-take (2 * t.at) (2 * b) words (omega arith) in
-      let hi : drop high front ≡ take (end - high) (drop high words) = sym (take-drop high (end - high) words ∙ ap (λ (n : ℕ). drop high (take n words)) sum) in
+      let hi : drop high front ≡ take (end - high) (drop high words) = ap (λ (n : ℕ). drop high (take n words)) (sym sum) ∙ drop-take high (end - high) words in
       ap (λ (x : Words). slots_of x ++ slots_of (drop (length front - 2 * (t.kept - t.at)) front)) lo ∙ ap (λ (n : ℕ). slots_of (take (2 * t.at) words) ++ slots_of (drop n front)) w
       ∙ ap (λ (x : Words). slots_of (take (2 * t.at) words) ++ slots_of x) hi
 

@@ -15,6 +15,7 @@ use Rattle.model.specs.SoundTest.{rising}
 use Rattle.model.specs.Refusals.{has_key, has_recording}
 use Rattle.model.specs.Ledger.{enter}
 use Rattle.model.specs.Salvage.{Drop, Gathered, reason_for, gather_slot, drop_words}
+use Rattle.list_laws.proofs.Recordings.{enter-recording}
 use Rattle.list_laws.proofs.Tools.{eqb-sym}
 use Rattle.tree_laws.proofs.Rising.{lower, upper, lower-upper, lower-below, upper-above, rising-insert}
 use Rattle.change_laws.proofs.Pairs.{has-key-iff, enter-at}
@@ -24,8 +25,10 @@ use Rattle.gap.specs.Around.{around, Fits, Under, Over}
 use Rattle.gap.proofs.Around.{around-length, around-put}
 use Rattle.gap.proofs.Places.{enter-place}
 use Rattle.gather.specs.declared.Tally.{Tally}
-use Rattle.gather.specs.Held.{placed, drops_in, pairs_of, held, Standing, Filing, Room, Kept}
-use Rattle.gather.proofs.Pairs.{enter-recording, enter-length}
+use Rattle.gather.specs.declared.Cause.{Cause}
+use Rattle.gather.specs.declared.Cause.TheVariants.{OutOfRange, KeyHeld, RecordingHeld}
+use Rattle.gather.specs.Held.{placed, cause_number, drops_in, pairs_of, held, Standing, Filing, Room, Kept}
+use Rattle.gather.proofs.Pairs.{enter-length}
 
 abbrev pub tally : (m i d : ℕ) → Tally
 tally m i d = record { kept = m; at = i; dropped = d }
@@ -60,7 +63,7 @@ unfolding drops_in
 drops-length ws zero = refl
 drops-length ws (suc n) = let e = length-append (drops_in ws n) (record { node = at ws (3 * n); place = at ws (3 * n + 1); reason = at ws (3 * n + 2) } ∷ []) in let q = drops-length ws n in omega arith
 
-words-append : (xs ys : List Drop) → drop_words (xs ++ ys) ≡ drop_words xs ++ drop_words ys
+pub words-append : (xs ys : List Drop) → drop_words (xs ++ ys) ≡ drop_words xs ++ drop_words ys
 unfolding drop_words
 words-append [] ys = refl
 words-append (d ∷ xs) ys = ap (λ (l : Words). d.node ∷ d.place ∷ d.reason ∷ l) (words-append xs ys)
@@ -79,6 +82,12 @@ drop-words ws (suc n) h =
     words-append (drops_in ws n) _ ∙ ap (λ (l : Words). l ++ (at ws w ∷ at ws (w + 1) ∷ at ws (w + 2) ∷ [])) (drop-words ws n (omega arith))
     ∙ rw (e, f, g) (sym (c ∙ ap (λ (l : Words). l ++ (at ws (suc (suc w)) ∷ [])) (b ∙ ap (λ (l : Words). l ++ (at ws (suc w) ∷ [])) a)
     ∙ append_assoc (take w ws ++ (at ws w ∷ [])) (at ws (suc w) ∷ []) (at ws (suc (suc w)) ∷ []) ∙ append_assoc (take w ws) (at ws w ∷ []) (at ws (suc w) ∷ at ws (suc (suc w)) ∷ [])))
+
+-- a reason's number is not 0, which is none
+pub cause-some : (x : Cause) → cause_number x ≢ 0
+cause-some OutOfRange e = absurd (omega (arith, e))
+cause-some KeyHeld e = absurd (omega (arith, e))
+cause-some RecordingHeld e = absurd (omega (arith, e))
 
 -- ---- the keys kept go on rising
 
@@ -105,6 +114,14 @@ module _ (words : Words) (b : ℕ) (front : Words) (room : 2 * b ≤ length word
 
 -- ---- the gap at the key's place
 
+-- the gap went to the place of a key, before the pair i
+pub record Moved (words : Words) (b : ℕ) (t : Tally) (k i : ℕ) (front : Words) : Type 0 where
+  pub long : length front ≡ length (take (2 * b) words)
+  pub same : around front i t.kept ≡ around (take (2 * b) words) t.at t.kept
+  pub below : i ≤ t.kept
+  pub under : Under (around (take (2 * b) words) t.at t.kept) k i
+  pub over : Over (around (take (2 * b) words) t.at t.kept) k i
+
 module _ (words : Words) (b : ℕ) (t : Tally) (s : Standing words b t) where
   pub front-long : 2 * b ≡ length (take (2 * b) words)
   front-long = sym (length-take-le (2 * b) words (let c = s.cells in omega arith))
@@ -112,8 +129,7 @@ module _ (words : Words) (b : ℕ) (t : Tally) (s : Standing words b t) where
   pub front-fits : Fits (take (2 * b) words) t.at t.kept
   front-fits = record { below = s.below; room = let l = front-long in let f = s.few in omega arith; few = let f = s.few in let m = s.small in omega arith }
 
-  module _ (k i : ℕ) (front : Words) (long : length front ≡ length (take (2 * b) words)) (same : around front i t.kept ≡ around (take (2 * b) words) t.at t.kept) (l : i ≤ t.kept)
-      (place : Under (around (take (2 * b) words) t.at t.kept) k i × Over (around (take (2 * b) words) t.at t.kept) k i) where
+  module _ (k i : ℕ) (front : Words) (v : Moved words b t k i front) where
     abbrev sought : Words
     sought = front ++ drop (2 * b) words
 
@@ -124,10 +140,10 @@ module _ (words : Words) (b : ℕ) (t : Tally) (s : Standing words b t) where
     room = let c = s.cells in omega arith
 
     front-is : length front ≡ 2 * b
-    front-is = long ∙ sym front-long
+    front-is = v.long ∙ sym front-long
 
     pub sought-pairs : pairs_of sought b moved ≡ pairs_of words b t
-    sought-pairs = ap (λ (x : Words). around x i t.kept) (joined-front words b front room front-is) ∙ same
+    sought-pairs = ap (λ (x : Words). around x i t.kept) (joined-front words b front room front-is) ∙ v.same
 
     -- the words for the pairs, after the cells were looked at
     pub after-front-long : (after : Words) → length after ≡ length sought → 2 * b ≡ length (take (2 * b) after)
@@ -138,9 +154,9 @@ module _ (words : Words) (b : ℕ) (t : Tally) (s : Standing words b t) where
         let e = sought-pairs in
         let n = joined-long words b front room front-is in
         let c = joined-cells words b front room front-is in (
-          record { below = l; few = s.few; cells = let c = s.cells in omega arith; small = s.small; rise = rw e s.rise; recorded = rw (n, c, e) s.recorded },
-          rw e place.0,
-          rw e place.1,
+          record { below = v.below; few = s.few; cells = let c = s.cells in omega arith; small = s.small; rise = rw e s.rise; recorded = rw (n, c, e) s.recorded },
+          rw e v.under,
+          rw e v.over,
         )
 
 -- ---- one slot
@@ -246,8 +262,7 @@ kept-from : (report after : Words) (t u r : Tally) (n : ℕ) → t.kept ≡ u.ke
 kept-from report after t u r n e f k = record { stay = k.stay; sum = let s = k.sum in omega arith; more = let m = k.more in omega arith }
 
 module _ (words : Words) (b : ℕ) (t : Tally) (report : Words) (n i k p : ℕ) (s : Standing words b t) (room : Room report t 1) (most : length (gather_slot n (held words b report t) (placed i k p)).kept ≤ b)
-    (j : ℕ) (front : Words) (long : length front ≡ length (take (2 * b) words)) (same : around front j t.kept ≡ around (take (2 * b) words) t.at t.kept) (l : j ≤ t.kept)
-    (place : Under (around (take (2 * b) words) t.at t.kept) k j × Over (around (take (2 * b) words) t.at t.kept) k j) (r : ℕ) where
+    (j : ℕ) (front : Words) (v : Moved words b t k j front) (r : ℕ) where
   abbrev w₁ : Words
   w₁ = front ++ drop (2 * b) words
 
@@ -255,13 +270,13 @@ module _ (words : Words) (b : ℕ) (t : Tally) (report : Words) (n i k p : ℕ) 
   t₁ = tally t.kept j t.dropped
 
   pairs-are : pairs_of w₁ b t₁ ≡ pairs_of words b t
-  pairs-are = sought-pairs words b t s k j front long same l place
+  pairs-are = sought-pairs words b t s k j front v
 
   held-are : held w₁ b report t₁ ≡ held words b report t
   held-are = ap (λ (ps : List Slot). record { kept = ps; dropped = drops_in report t.dropped }) pairs-are
 
   standing : Standing w₁ b t₁ × Under (pairs_of w₁ b t₁) k j × Over (pairs_of w₁ b t₁) k j
-  standing = sought-standing words b t s k j front long same l place
+  standing = sought-standing words b t s k j front v
 
   room₁ : Room report t₁ 1
   room₁ = record { drops = room.drops; few = room.few }

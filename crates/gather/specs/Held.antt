@@ -1,5 +1,6 @@
 -- What a slice of nodes and a report hold while a salvage gathers.
-use Rattle.std.specs.Prelude.{◌≡◌, Bool, true, cond, ◌&&◌, ◌||◌, List, [], ◌∷◌, ◌++◌, ℕ, zero, suc, ◌+◌, ◌-◌, ◌*◌, ◌≤◌, ◌<◌, eqb, length, take, drop}
+use Rattle.std.specs.Prelude.{Option, None, Some, ◌≡◌, Bool, true, cond, ◌&&◌, ◌||◌, List, [], ◌∷◌, ◌++◌}
+use Rattle.std.specs.Prelude.{ℕ, zero, suc, ◌+◌, ◌-◌, ◌*◌, ◌≤◌, ◌<◌, eqb, length, take, drop}
 use Rattle.model.specs.Table.{Words, at}
 use Rattle.model.specs.Slots.{Slot, slot}
 use Rattle.model.specs.SoundTest.{rising}
@@ -9,9 +10,22 @@ use Rattle.numbers.specs.Filed.{Filed}
 use Rattle.pack.specs.Rows.{pairs_in}
 use Rattle.gap.specs.Around.{around}
 use Rattle.gather.specs.declared.Tally.{Tally}
+use Rattle.gather.specs.declared.Cause.{Cause}
+use Rattle.gather.specs.declared.Cause.TheVariants.{OutOfRange, KeyHeld, RecordingHeld}
 
 abbrev pub placed : (place key pointer : ℕ) → Placed
 placed i k p = record { place = i; slot = slot k p }
+
+-- a reason as the report has it
+abbrev pub cause_number : Cause → ℕ
+cause_number OutOfRange = 1
+cause_number KeyHeld = 2
+cause_number RecordingHeld = 3
+
+-- and 0 for none
+abbrev pub number_of : Option Cause → ℕ
+number_of None = 0
+number_of (Some r) = cause_number r
 
 -- ---- what is gathered so far
 

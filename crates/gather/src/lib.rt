@@ -9,7 +9,7 @@ ghost use Rattle.model.specs.Slots.{slot, recording_of};
 ghost use Rattle.model.specs.Refusals.{has_recording};
 ghost use Rattle.model.specs.Salvage.{reason_for, gather_slot, gather_slots, collected, gathered_along};
 ghost use Rattle.gap.specs.Around.{Under, Over};
-ghost use Rattle.gather.specs.Held.{placed, pairs_of, held, gathered_in, met, Standing, Filing, Room, Kept, none, Along, Ready};
+ghost use Rattle.gather.specs.Held.{placed, cause_number, number_of, pairs_of, held, gathered_in, met, Standing, Filing, Room, Kept, none, Along, Ready};
 
 use numbers::Stop;
 
@@ -23,8 +23,9 @@ pub struct Tally {
 
 // ---- the recordings kept
 
-// Whether a kept pair has this recording number. Here and below words, bound and tally come one by one: the words are a slice
-// that C lends, and the bound stays while the tally goes on.
+// Whether a kept pair has this recording number. Here and below words, bound, report and tally come one by one. A struct of them with methods
+// would be made by gather, of its own lent parameters, for one call; each clause would be of its fields, old and new. As a ghost field Standing
+// would fail in gather_slot: when the gap has gone to a key, the words have moved and the tally has not.
 fn is_kept(words: &[u64], bound: usize, t: Tally, recording: u64) -> bool
     requires { Standing words.now bound t }
     ensures { result ≡ has_recording recording (pairs_of words.now bound t) }
@@ -63,32 +64,49 @@ struct InUse {
     pointer: u64,
 }
 
-// A dropped slot is reported.
-fn put_drop(report: &mut [u64], count: usize, node: u64, place: u64, reason: u64)
-    requires { (3 * count + 3 ≤ length report.old) × (count < 16777216) }
-    ensures { report.new ≡ sets report.old (3 * count) (node ∷ place ∷ reason ∷ []) }
-{
-    report[3 * count..3 * count + 3].copy_from_slice(&[node, place, reason]);
+// Why a slot is dropped, by the number that the report has for it.
+#[derive(Clone, Copy)]
+enum Cause {
+    OutOfRange = 1,
+    KeyHeld = 2,
+    RecordingHeld = 3,
 }
 
-// The first reason against a pair whose place is at the gap; 0 for none, and then its recording is in the set.
-fn reason(words: &mut [u64], bound: usize, t: Tally, key: u64, pointer: u64) -> u64
-    requires { Standing words.old bound t × Under (pairs_of words.old bound t) key t.at × Over (pairs_of words.old bound t) key t.at }
-    ensures value { result ≡ reason_for (pairs_of words.old bound t) (slot key pointer) }
-    ensures filing { Filing words.old bound t (recording_of pointer) (eqb result 0) words.new }
+impl From<Cause> for u64 {
+    ghost use Rattle.gather.specs.Held.{cause_number};
+
+    ghost from_gives = { λ c n. n ≡ cause_number c };
+
+    fn from(cause: Cause) -> u64 {
+        cause as u64
+    }
+}
+
+// A dropped slot is reported.
+fn put_drop(report: &mut [u64], count: usize, node: u64, place: u64, why: Cause)
+    requires { (3 * count + 3 ≤ length report.old) × (count < 16777216) }
+    ensures { report.new ≡ sets report.old (3 * count) (node ∷ place ∷ cause_number why ∷ []) }
 {
-    // Numbers, and no enum: they are words of the report, as catalogue.h names them; 0 drops nothing.
+    report[3 * count..3 * count + 3].copy_from_slice(&[node, place, u64::from(why)]);
+}
+
+// The first reason against a pair whose place is at the gap. If there is none, its recording is in the set from now on.
+fn reason(words: &mut [u64], bound: usize, t: Tally, key: u64, pointer: u64) -> Option<Cause>
+    requires { Standing words.old bound t × Under (pairs_of words.old bound t) key t.at × Over (pairs_of words.old bound t) key t.at }
+    ensures value { number_of result ≡ reason_for (pairs_of words.old bound t) (slot key pointer) }
+    ensures filing { Filing words.old bound t (recording_of pointer) (eqb (number_of result) 0) words.new }
+{
     if !pointer::ok(pointer) {
-        return 1;
+        return Some(Cause::OutOfRange);
     }
     let at = t.at;
     if gap::ends_with(words, at, key) {
-        return 2;
+        return Some(Cause::KeyHeld);
     }
     if !is_new(words, bound, t, pointer::recording(pointer)) {
-        return 3;
+        return Some(Cause::RecordingHeld);
     }
-    0
+    None
 }
 
 // A slot that is collected: kept if no reason holds against it, else reported.
@@ -102,19 +120,22 @@ fn gather_slot(words: &mut [u64], bound: usize, report: &mut [u64], t: Tally, s:
     let end = 2 * bound;
     let at = gap::seek(&mut words[..end], t.kept, t.at, s.key);
     let sought = Tally { at, ..t };
-    let why = reason(words, bound, sought, s.key, s.pointer);
-    if why == 0 {
-        gap::put(&mut words[..end], at, s.key, s.pointer);
-        return Tally {
-            kept: t.kept + 1,
-            at: at + 1,
-            ..t
-        };
-    }
-    put_drop(report, t.dropped, s.node, s.place, why);
-    Tally {
-        dropped: t.dropped + 1,
-        ..sought
+    match reason(words, bound, sought, s.key, s.pointer) {
+        None => {
+            gap::put(&mut words[..end], at, s.key, s.pointer);
+            Tally {
+                kept: t.kept + 1,
+                at: at + 1,
+                ..t
+            }
+        }
+        Some(why) => {
+            put_drop(report, t.dropped, s.node, s.place, why);
+            Tally {
+                dropped: t.dropped + 1,
+                ..sought
+            }
+        }
     }
 }
 
@@ -138,16 +159,14 @@ fn gather_shown(
         ≡ gather_slots s.node (met table.now sibling before s.place s.key s.pointer) (held words.old bound report.old t) }
     ensures standing { Standing words.new bound result × Kept report.old t report.new result 1 }
 {
-    if s.pointer == before {
-        return t;
-    }
-    if !tour::under_fence(table, sibling, s.key) {
+    if !tour::is_met(table, sibling, before, s.key, s.pointer) {
         return t;
     }
     gather_slot(words, bound, report, t, s)
 }
 
-// The slots of node n, if it is a leaf.
+// The slots of node n, if it is a leaf. keeping walks them likewise, to mark them: one function for both would take a closure, which here
+// changes words, report and tally, and there marks; its promise on each step is longer than this walk.
 fn gather_node(
     table: &[u64],
     words: &mut [u64],
@@ -168,7 +187,8 @@ fn gather_node(
     }
     let mut p = t;
     let mut before = x.left;
-    // By place: a slot's place is in the report.
+    // By place, and not over slots::Shown: the report names the place, and hidden slots count for it. An iterator with the place and the
+    // pointer before in its items would be a type, its next, a contract and laws, for this loop and keeping's: longer than the two.
     for i in 0..12 {
         let pointer = x.slots[2 * i + 1];
         if pointer == 0 {
@@ -200,6 +220,7 @@ fn gather_nodes(
     ensures standing { Standing words.new bound result
         × Kept report.old none report.new result (12 * length order.now) }
 {
+    // Written out: a `Default` of Tally would serve here alone, and `none` says the three zeros as they stand.
     let mut p = Tally {
         kept: 0,
         at: 0,

@@ -1,23 +1,19 @@
 -- What an insertion into a sound table is handed and answers: what the check found; the call's answer, and the count of the nodes that are then
 -- reached.
-use Rattle.std.specs.Prelude.{◌≡◌, true, length, Result, Ok, Err}
-use Rattle.std.proofs.Math.Option.{some}
+use Rattle.std.specs.Prelude.{◌≡◌, length, Result, Ok, Err}
 use Rattle.model.specs.declared.Refusal.{Refusal}
 use Rattle.model.specs.Results.{Written}
 use Rattle.model.specs.Table.{Words}
 use Rattle.model.specs.Reached.{reached_all}
-use Rattle.model.specs.SoundTest.{leftover_all, sound}
 use Rattle.model.specs.Writes.{Call, insertion}
 use Rattle.sound.specs.declared.Sound.{Sound}
-use Rattle.sound.specs.Checked.{meant}
+use Rattle.sound.specs.Checked.{SoundWith}
 use Rattle.insert.specs.declared.Entered.{Entered}
 use Rattle.insert.specs.declared.Insertion.{Insertion}
 
 -- a sound table, with what the check of it found
-pub record Found (t : Words) (x : Sound) : Type 0 where
-  pub is-sound : sound t ≡ true
-  pub leftover-is : leftover_all t ≡ some (meant x.leftover)
-  pub reached-are : x.reached ≡ length (reached_all t)
+abbrev pub Found : Words → Sound → Type 0
+Found t x = SoundWith t x.leftover x.reached
 
 -- the call that enters this
 abbrev pub call_of : Insertion → Call

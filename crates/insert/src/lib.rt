@@ -29,7 +29,7 @@ pub struct Entered {
     pub reached: u64,
 }
 
-// What goes into a collection: a key with a recording and its class.
+// What goes into a collection: a key with a recording and its class. The collection is a number, for so C hands it in, here and below.
 #[derive(Clone, Copy)]
 pub struct Insertion {
     pub collection: u64,
@@ -51,6 +51,8 @@ fn parent_of(left: Leftover) -> Option<u64>
 }
 
 // Whether the map of the tree under a root has the recording number.
+// That the tree is sound is a clause: a `Tree<'a> { table, root }` with the fact as a ghost field would be made for one call by each caller, and taken
+// apart here, for `leaves` takes a table and a root's number (decision 351).
 pub fn has_recording(table: &[u64], root: u64, recording: u64) -> bool
     requires { sound_view (view_from table.now root) ≡ true }
     ensures { result ≡ has_recording recording (mapping (view_from table.now root)) }
@@ -65,7 +67,8 @@ fn too_high(table: &[u64], root: u64, run: Run) -> bool
     run.root && node::word(table, root, 2) == 15
 }
 
-// Whether so many unreachable nodes are fewer than the run's length, plus 1 for a new root.
+// Whether so many unreachable nodes are fewer than the run's length, plus 1 for a new root. No method of Run for the sum, here and
+// in reached_after: no clause bounds the length of a run here, so it would have to ask that the sum fits.
 fn too_few(free: u64, run: Run) -> bool
     ensures { result ≡ few_for free run }
 {
@@ -217,9 +220,7 @@ pub fn insert_known(
     ensures marked_2 { Marked table.new marks.new }
 {
     let root = node::root_of(table, x.collection);
-    // The run takes a node's number: 0, which no node has, is for none.
-    let parent = parent_of(checked.leftover).unwrap_or(0);
-    let run = reach::full_run(table, root, x.key, parent);
+    let run = reach::full_run(table, root, x.key, parent_of(checked.leftover));
     may_insert_known(table, x, run, checked.reached, known)?;
     let mut writer = Writer {
         table,
@@ -234,7 +235,7 @@ pub fn insert_known(
     })
 }
 
-// The insertion call.
+// The insertion call. Table, list and numbers come one by one, as C hands them in.
 pub fn insert(
     table: &mut [u64],
     list: &mut [u64],

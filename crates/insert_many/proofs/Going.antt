@@ -20,15 +20,15 @@ use Rattle.model.specs.SoundTest.{sound}
 use Rattle.model.specs.Orders.{apply, encode, list_with, store_count, flush_count, barrier_count}
 use Rattle.model.specs.Writes.{Call, insertion, stores_of}
 use Rattle.model.specs.Refusals.{has_recording, words_for, refusal, orders_of, written, table_after, list_after}
-use Rattle.model.proofs.Numbers.{refused-by}
 use Rattle.model.specs.Batch.{insertion_of, Batched, stopped, behind, batch}
 use Rattle.cut_laws.proofs.Applying.{counts-length}
 use Rattle.cut_laws.proofs.Lent.{length-encode}
 use Rattle.two_laws.proofs.DocksTwo.{list-fits}
-use Rattle.batch_laws.proofs.After.{five, after-sound, after-nothing, after-collection, after-recordings}
+use Rattle.two_laws.proofs.MapsTwo.{sound-after}
+use Rattle.batch_laws.proofs.After.{five, after-nothing, after-collection, after-recordings}
 use Rattle.batch_laws.proofs.Folds.{pair-at, pairs-past, same-counts, same-batched, sum-none, behind-behind, behind-none, batch-stops, batch-goes, batch-none}
 use Rattle.write.specs.Judged.{judged}
-use Rattle.write.proofs.Ending.{refused-call, judge-refuses}
+use Rattle.write.proofs.Ending.{refused-for, judge-refuses}
 use Rattle.sound.specs.declared.Sound.{Sound}
 use Rattle.sound.specs.declared.Leftover.TheVariants.{Nothing}
 use Rattle.clear.specs.New.{recordings_of, New}
@@ -190,7 +190,7 @@ module _ (n dock : ℕ) (pairs : Words) (p : Progress) (list t : Words) (fit : F
                 ∙ sym (here ∙ ap (behind p.taken p.counts (take (filled p) list)) (batch-goes n dock s (drop (suc p.taken) ss) lent t o is-written));
             gains = (
               record {
-                found = record { is-sound = rw new (after-sound _ _ _ _ _ _ t done.accepted); leftover-is = rw new (after-nothing _ _ _ _ _ _ t done.accepted); reached-are = rw q at here-written.1.1.1 };
+                found = record { is-sound = rw new (sound-after _ _ _ t done.accepted); leftover-is = rw new (after-nothing _ _ _ _ _ _ t done.accepted); reached-are = rw q at here-written.1.1.1 };
                 collection = rw new (after-collection _ _ _ _ _ _ t done.accepted);
                 dock-ok = fit.dock-ok;
                 inside = omega (arith, orders-fit, long);
@@ -232,8 +232,8 @@ pub short : (n k r c dock : ℕ) (t lent : Words) → sound t ≡ true → no_co
     → (◌≡◌ {A = Written} (Err ShortList) (written (insertion n k r c) (length lent) dock t))
     × ((t ≡ table_after (insertion n k r c) (length lent) dock t) × ((lent ≡ list_after (insertion n k r c) lent dock t) × Unit {0}))
 short n k r c dock t lent s h d least e l =
-    let p = refused-call (insertion n k r c) t lent dock 5 (λ z. omega arith) (five n k r c (length lent) dock t s h d (omega (arith, e, l))) in
-    (sym (refused-by ShortList) ∙ p.0, (p.1.0, (p.1.1, tt)))
+    let p = refused-for (insertion n k r c) t lent dock ShortList (λ z. omega arith) (five n k r c (length lent) dock t s h d (omega (arith, e, l))) in
+    (p.0, (p.1.0, (p.1.1, tt)))
 
 pub known-as : (n x : ℕ) (t : Words) (r : ℕ) → r ≡ recording_of x → (b : Bool) → b ≡ has_recording (recording_of x) (map_of n t) → b ≡ has_recording r (map_of n t)
 known-as n x t r f b h = h ∙ ap (λ (q : ℕ). has_recording q (map_of n t)) (sym f)

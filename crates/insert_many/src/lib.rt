@@ -28,7 +28,8 @@ pub struct Progress {
 }
 
 // The single call, on a table that was found sound, if it is known whether the map has the recording (`known` is what was found out,
-// here and below, and no switch). Slices and numbers are those that C lends and hands over, the dock's too.
+// here and below, and no switch). Slices and numbers are those that C lends and hands over, the dock's too; the marks are lent by take_all.
+// What is said of the table is a clause, here and below: each pair's stores make another table, so that a type with the fact would be made anew.
 fn take_one(
     table: &mut [u64],
     list: &mut [u64],
@@ -76,6 +77,7 @@ fn take_next(
     ensures marked_2 { Marked table.new marks.new }
 {
     let i = p.taken;
+    // Added here, by no method of Counts: it would need a clause that the sum fits a word, which each caller would have to answer.
     let Counts {
         stores,
         flushes,
@@ -185,7 +187,7 @@ fn take_all(
     answer_of(p, None)
 }
 
-// A batch that is stopped before its first pair.
+// A batch that is stopped before its first pair. Written out: a `Default` of Batch would serve here alone, and hide the two fields that say it.
 fn stopped(stop: Option<Refusal>) -> Batch
     ensures { result ≡ record { stop = stop; taken = 0; counts = no_counts } }
 {

@@ -2,7 +2,7 @@
 use mathlib.Core.Path.{◌≡◌, refl, sym, ap, ap₂, ◌∙◌}
 use mathlib.Core.Bool.{Bool, true, false, ◌&&◌, ◌||◌, and-eq-true_iff, and-false, or-true}
 use mathlib.Core.Logic.{◌⊎◌, inl, inr, ⊎_elim}
-use mathlib.Core.List.{List, [], ◌∷◌, ◌++◌, map}
+use mathlib.Core.List.{List, [], ◌∷◌, map}
 use Prim.Native.Nat.{ℕ, zero, suc, ◌+◌, ◌-◌, ◌*◌, ◌≤◌, ◌<◌}
 use native.Mathlib.Decide.{dec_lt}
 use native.Mathlib.Numerals.{add-one}
@@ -13,6 +13,7 @@ use lib.Seq.{drop-cons}
 use borrow.Author.Tests.{leb-true, le-leb, lt-leb, lt-ltb, le-ltb, eq-eqb, ne_eqb}
 use Rattle.model.specs.Codes.{is_digit, is_letter, is_letter_or_digit, value, read_on, character, text_below}
 use Rattle.model.specs.Lists.{all}
+use Rattle.list_laws.proofs.Tools.{Each-map, all-each}
 use Rattle.isrc.proofs.Digits.{Below}
 
 -- ---- one character
@@ -129,20 +130,9 @@ every-get_d p [] i e h = absurd (omega arith)
 every-get_d p (x ∷ xs) zero e h = (every-cons p x xs e).0
 every-get_d p (x ∷ xs) (suc i) e h = every-get_d p xs i (every-cons p x xs e).1 (omega arith)
 
-pub every-append : (p : ℕ → Bool) (xs ys : List ℕ) → all p xs ≡ true → all p ys ≡ true → all p (xs ++ ys) ≡ true
-unfolding all
-every-append p [] ys e f = f
-every-append p (x ∷ xs) ys e f =
-    let t = every-cons p x xs e in
-    rw t.0 (every-append p xs ys t.1 f)
-
 pub every-imply : (p q : ℕ → Bool) → ((c : ℕ) → p c ≡ true → q c ≡ true)
     → (xs : List ℕ) → all p xs ≡ true → all q xs ≡ true
-unfolding all
-every-imply p q h [] e = refl
-every-imply p q h (x ∷ xs) e =
-    let t = every-cons p x xs e in
-    rw (h x t.0) (every-imply p q h xs t.1)
+every-imply p q h xs e = (all-each q xs).1 (Each-map _ _ xs h ((all-each p xs).0 e))
 
 pub every-below : (p : ℕ → Bool) (b : ℕ) → ((c : ℕ) → p c ≡ true → value c < b)
     → (xs : List ℕ) → all p xs ≡ true → Below b (map value xs)

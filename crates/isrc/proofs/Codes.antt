@@ -14,8 +14,9 @@ use Rattle.std.specs.Prelude.{Ok}
 use Rattle.model.specs.Results.{refused_with}
 use Rattle.model.specs.Codes.{is_digit, is_letter, is_letter_or_digit, is_code, value, number, key_of, parse, digits, spelling, has_code, print, text_below}
 use Rattle.model.specs.Lists.{all}
+use Rattle.list_laws.proofs.Tools.{all-append}
 use Rattle.isrc.proofs.Digits.{Below, number-bound, read_on-number, digits-read_on, digits-number, number-below, readings-below}
-use Rattle.isrc.proofs.Characters.{digit-is, letter-is, value-bound, digit-bound, every-append, every-imply, every-below, characters-values, values-order}
+use Rattle.isrc.proofs.Characters.{digit-is, letter-is, value-bound, digit-bound, every-imply, every-below, characters-values, values-order}
 
 -- A slice from place k on holds the rest of the text.
 pub rest : (k : ℕ) (text : List ℕ) → take (length text - k) (drop k text) ≡ drop k text
@@ -45,7 +46,7 @@ code text e =
     let l = every-imply is_letter is_letter_or_digit letter-is (take 2 text) v.1 in
     record {
       long = eqb-true (length text) 12 v.0;
-      front = rw (take-add 2 3 text) (every-append is_letter_or_digit (take 2 text) (take 3 (drop 2 text)) l u.1);
+      front = rw (take-add 2 3 text) ((all-append is_letter_or_digit (take 2 text) (take 3 (drop 2 text))).1 (l, u.1));
       back = t.1;
     }
 
@@ -62,7 +63,7 @@ module _ (text : List ℕ) (c : Code text) where
   all-counted : all is_letter_or_digit text ≡ true
   all-counted =
       subst (λ (l : List ℕ). all is_letter_or_digit l ≡ true) (take-append-drop 5 text)
-      (every-append is_letter_or_digit (take 5 text) (drop 5 text) c.front back-counted)
+      ((all-append is_letter_or_digit (take 5 text) (drop 5 text)).1 (c.front, back-counted))
 
   length-high : length (high text) ≡ 5
   length-high = length-map (take 5 text) value ∙ length-front

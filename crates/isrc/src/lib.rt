@@ -42,7 +42,7 @@ fn is_code(text: &[u8]) -> bool
         && all_of(Kind::Digit, &text[5..])
 }
 
-// What a letter or digit counts.
+// What a letter or digit counts. `char::to_digit(36)` is no plainer: it takes lower-case letters too, and answers an Option.
 fn value_of(c: u8) -> u64
     requires { is_letter_or_digit c ≡ true }
     ensures { result ≡ value c }
@@ -54,6 +54,7 @@ fn value_of(c: u8) -> u64
 }
 
 // Letters and digits read as one number; at most seven of them, so that it fits a word.
+// `u64::from_str_radix` is no plainer: it takes a str, and answers a Result of what cannot fail here.
 fn number_of(text: &[u8], base: u64) -> u64
     requires { (all is_letter_or_digit text.now ≡ true) × (length text.now ≤ 7) × (base ≤ 36) }
     ensures { result ≡ number base (map value text.now) }
@@ -77,7 +78,7 @@ pub fn parse(text: &[u8]) -> Parsed
     Ok(first * 10000000 + last)
 }
 
-// The character that counts d.
+// The character that counts d. `char::from_digit` is no plainer: it gives lower-case letters, and answers an Option.
 fn character_of(d: u64) -> u8
     requires { d ≤ 35 }
     ensures { result ≡ character d }
@@ -88,7 +89,8 @@ fn character_of(d: u64) -> u8
     }
 }
 
-// Fills the text with x's last digits, as characters.
+// Fills the text with x's last digits, as characters. By hand: the library prints in no base 36, and the bytes of a decimal it promises only of a
+// `write!` to a String, which needs a heap.
 pub fn write_digits(text: &mut [u8], base: u64, x: u64)
     requires { (1 ≤ base) × (base ≤ 36) }
     ensures { text.new ≡ map character (digits base (length text.old) x) }

@@ -44,110 +44,121 @@ fn show_print(rt: &impl Print, key: u64) -> io::Result<()> {
     println!(rt; "")
 }
 
-// Codes: those worked on paper, the edges, and some in use.
-fn codes(rt: &impl Print) -> io::Result<()> {
-    show_parse(rt, b"AA0001912345")?;
-    show_parse(rt, b"ZZZZZ9999999")?;
-    show_parse(rt, b"ZZZZZ9999998")?;
-    show_parse(rt, b"AA0000000000")?;
-    show_parse(rt, b"AA0000000001")?;
-    show_parse(rt, b"AZZZZ9999999")?;
-    show_parse(rt, b"BA0000000000")?;
-    show_parse(rt, b"AAAAA0000000")?;
-    show_parse(rt, b"AA9990000000")?;
-    show_parse(rt, b"ZZ0000000000")?;
-    show_parse(rt, b"GBAYE6700149")?;
-    show_parse(rt, b"USRC17607839")?;
-    show_parse(rt, b"QZES52012345")
+// Each of these texts.
+fn show_parses(rt: &impl Print, texts: &[&[u8]]) -> io::Result<()> {
+    for text in texts {
+        show_parse(rt, text)?;
+    }
+    Ok(())
 }
+
+// Codes: those worked on paper, the edges, and some in use.
+const CODES: [&[u8]; 13] = [
+    b"AA0001912345",
+    b"ZZZZZ9999999",
+    b"ZZZZZ9999998",
+    b"AA0000000000",
+    b"AA0000000001",
+    b"AZZZZ9999999",
+    b"BA0000000000",
+    b"AAAAA0000000",
+    b"AA9990000000",
+    b"ZZ0000000000",
+    b"GBAYE6700149",
+    b"USRC17607839",
+    b"QZES52012345",
+];
 
 // Texts of other lengths.
-fn lengths(rt: &impl Print) -> io::Result<()> {
-    show_parse(rt, b"")?;
-    show_parse(rt, b"A")?;
-    show_parse(rt, b"AA000191234")?;
-    show_parse(rt, b"AA00019123456")?;
-    show_parse(rt, b"AA-000-19-12345")?;
-    show_parse(rt, b"ISRC AA0001912345")?;
-    show_parse(rt, b"AA0001912345AA0001912345")
-}
+const LENGTHS: [&[u8]; 7] = [
+    b"",
+    b"A",
+    b"AA000191234",
+    b"AA00019123456",
+    b"AA-000-19-12345",
+    b"ISRC AA0001912345",
+    b"AA0001912345AA0001912345",
+];
 
 // Characters of the wrong kind for their place.
-fn kinds(rt: &impl Print) -> io::Result<()> {
-    show_parse(rt, b"1A0001912345")?;
-    show_parse(rt, b"A10001912345")?;
-    show_parse(rt, b"aA0001912345")?;
-    show_parse(rt, b"Aa0001912345")?;
-    show_parse(rt, b"aa0001912345")?;
-    show_parse(rt, b"AAa001912345")?;
-    show_parse(rt, b"AA00z1912345")?;
-    show_parse(rt, b"AA000A912345")?;
-    show_parse(rt, b"AA00019A2345")?;
-    show_parse(rt, b"AA000191234Z")?;
-    show_parse(rt, b"AA000191234a")?;
-    show_parse(rt, b"AA-000191234")?;
-    show_parse(rt, b"AA0001-12345")?;
-    show_parse(rt, b" AA000191234")?;
-    show_parse(rt, b"AA000191234 ")?;
-    show_parse(rt, b"AA000 912345")
-}
+const KINDS: [&[u8]; 16] = [
+    b"1A0001912345",
+    b"A10001912345",
+    b"aA0001912345",
+    b"Aa0001912345",
+    b"aa0001912345",
+    b"AAa001912345",
+    b"AA00z1912345",
+    b"AA000A912345",
+    b"AA00019A2345",
+    b"AA000191234Z",
+    b"AA000191234a",
+    b"AA-000191234",
+    b"AA0001-12345",
+    b" AA000191234",
+    b"AA000191234 ",
+    b"AA000 912345",
+];
 
 // The characters just outside the ranges.
-fn neighbours(rt: &impl Print) -> io::Result<()> {
-    show_parse(rt, b"@A0001912345")?;
-    show_parse(rt, b"A[0001912345")?;
-    show_parse(rt, b"/A0001912345")?;
-    show_parse(rt, b"A:0001912345")?;
-    show_parse(rt, b"AA/001912345")?;
-    show_parse(rt, b"AA0:01912345")?;
-    show_parse(rt, b"AA00@1912345")?;
-    show_parse(rt, b"AA[001912345")?;
-    show_parse(rt, b"AA0`01912345")?;
-    show_parse(rt, b"AA000/912345")?;
-    show_parse(rt, b"AA000191234:")?;
-    show_parse(rt, b"AA000191234@")?;
-    show_parse(rt, b"AA00019123[5")
-}
+const NEIGHBOURS: [&[u8]; 13] = [
+    b"@A0001912345",
+    b"A[0001912345",
+    b"/A0001912345",
+    b"A:0001912345",
+    b"AA/001912345",
+    b"AA0:01912345",
+    b"AA00@1912345",
+    b"AA[001912345",
+    b"AA0`01912345",
+    b"AA000/912345",
+    b"AA000191234:",
+    b"AA000191234@",
+    b"AA00019123[5",
+];
 
 // Bytes that are no ASCII characters.
-fn bytes(rt: &impl Print) -> io::Result<()> {
-    show_parse(rt, b"\x00A0001912345")?;
-    show_parse(rt, b"A\xff0001912345")?;
-    show_parse(rt, b"AA\x00001912345")?;
-    show_parse(rt, b"AA00\xff1912345")?;
-    show_parse(rt, b"AA000\x00912345")?;
-    show_parse(rt, b"AA000191234\xff")?;
-    show_parse(rt, b"\x00\x00\x00\x00\x00\x00\x00\x00\x00\x00\x00\x00")?;
-    show_parse(rt, b"\xff\xff\xff\xff\xff\xff\xff\xff\xff\xff\xff\xff")?;
-    show_parse(rt, b"\xc1A0001912345")
-}
+const BYTES: [&[u8]; 9] = [
+    b"\x00A0001912345",
+    b"A\xff0001912345",
+    b"AA\x00001912345",
+    b"AA00\xff1912345",
+    b"AA000\x00912345",
+    b"AA000191234\xff",
+    b"\x00\x00\x00\x00\x00\x00\x00\x00\x00\x00\x00\x00",
+    b"\xff\xff\xff\xff\xff\xff\xff\xff\xff\xff\xff\xff",
+    b"\xc1A0001912345",
+];
 
 // Keys of codes and their neighbours, between codes, past the last, and the ends of a word.
-fn keys(rt: &impl Print) -> io::Result<()> {
-    show_print(rt, 172627201912345)?;
-    show_print(rt, 172627200000000)?;
-    show_print(rt, 172627200000001)?;
-    show_print(rt, 172627199999999)?;
-    show_print(rt, 184757759999999)?;
-    show_print(rt, 184757760000000)?;
-    show_print(rt, 189423359999999)?;
-    show_print(rt, 189423360000000)?;
-    show_print(rt, 604661759999998)?;
-    show_print(rt, 604661759999999)?;
-    show_print(rt, 604661760000000)?;
-    show_print(rt, 777288961912345)?;
-    show_print(rt, 0)?;
-    show_print(rt, 1)?;
-    show_print(rt, 9999999)?;
-    show_print(rt, 10000000)?;
-    show_print(rt, 18446744073709551615)
-}
+const KEYS: [u64; 17] = [
+    172627201912345,
+    172627200000000,
+    172627200000001,
+    172627199999999,
+    184757759999999,
+    184757760000000,
+    189423359999999,
+    189423360000000,
+    604661759999998,
+    604661759999999,
+    604661760000000,
+    777288961912345,
+    0,
+    1,
+    9999999,
+    10000000,
+    18446744073709551615,
+];
 
 fn main(rt: HostRuntime) -> io::Result<()> {
-    codes(&rt)?;
-    lengths(&rt)?;
-    kinds(&rt)?;
-    neighbours(&rt)?;
-    bytes(&rt)?;
-    keys(&rt)
+    show_parses(&rt, &CODES)?;
+    show_parses(&rt, &LENGTHS)?;
+    show_parses(&rt, &KINDS)?;
+    show_parses(&rt, &NEIGHBOURS)?;
+    show_parses(&rt, &BYTES)?;
+    for key in KEYS {
+        show_print(&rt, key)?;
+    }
+    Ok(())
 }

@@ -9,14 +9,16 @@ use native.Mathlib.Omega.{arith}
 use lib.Dec.{eqb}
 use borrow.Author.Tests.{eq-eqb, ne_eqb, eqb-true}
 use lib.ListN.{length, take}
-use Rattle.std.specs.Prelude.{None, Some, Ok, Err}
+use Rattle.std.specs.Prelude.{Option, None, Some, Result, Ok, Err, ok_or}
 use Rattle.model.specs.declared.Refusal.{Refusal}
+use Rattle.model.specs.declared.Refusal.TheVariants.{NotSound}
 use Rattle.model.specs.Results.{Verdict, refused_with}
 use Rattle.model.specs.Table.{Words, at, root_word, header_ok, no_collection}
 use Rattle.model.specs.Reached.{maps_of, reached_all}
-use Rattle.model.specs.SoundTest.{is_nothing, sound, settled}
+use Rattle.model.specs.Slots.{view_from}
+use Rattle.model.specs.SoundTest.{is_nothing, sound_view, sound, settled}
 use Rattle.model.specs.Orders.{decode, all_inside, carry, carry_number}
-use Rattle.model.proofs.Numbers.{done-ok, done-err}
+use Rattle.model.proofs.Numbers.{done-ok, done-err, refused-by}
 use Rattle.model.specs.Writes.{Call}
 use Rattle.model.specs.Refusals.{test, first_number, seventeen_in, refusal}
 use Rattle.model.specs.Ledger.{change}
@@ -31,8 +33,9 @@ use Rattle.sound.specs.declared.Sound.{Sound}
 use Rattle.sound.specs.Checked.{meant, checked}
 use Rattle.sound.proofs.JudgeLaws.{SoundWith, checked-sound, checked-unsound}
 use Rattle.node.specs.Word.{number_in, found_root}
-use Rattle.node.proofs.Roots.{root-there, found-ok, found-err}
+use Rattle.node.proofs.Roots.{found-there, found-err}
 use Rattle.write.proofs.Judging.{first-shared}
+use Rattle.write.proofs.Rooted.{root-sound}
 use Rattle.judge.specs.declared.Change.{Change}
 use Rattle.judge.specs.declared.Start.{Start}
 use Rattle.judge.specs.Tests.{first_tests, tested}
@@ -53,15 +56,22 @@ module _ (n : ℕ) (t list : Words) (out : ℕ) where
 
   module _ {root : ℕ} (o : found_root n t ≡ Ok root) where
     there : (header_ok t ≡ true) × (no_collection n t ≡ false) × (root ≡ at t (root_word n))
-    there = let f = found-ok n t o in root-there n t root f.0 f.1
+    there = found-there n t o
 
-    pub not-sound : checked t ≡ None → refused_with 4 ≡ tested n t list out
+    -- Statistics takes such an answer apart too, by grind in place: one law for both would stand in sound, and save a step in each.
+    pub not-sound : {k : Option Sound} {r : Refusal} → k ≡ checked t → ok_or k NotSound ≡ Err r → Err r ≡ tested n t list out
     unfolding tested
-    not-sound e = rw (there.0, there.1, (checked-unsound t).0 e)
+    not-sound {k = Some x} q e = cc
+    not-sound {k = None} q e =
+        let same : NotSound ≡ _ = cc in
+        ap Err (sym same) ∙ sym (refused-by NotSound) ∙ rw (there.0, there.1, (checked-unsound t).0 (sym q))
 
-    module _ {s : Sound} (e : checked t ≡ Some s) where
+    module _ {k : Option Sound} {s : Sound} (q : k ≡ checked t) (e : ok_or k NotSound ≡ Ok s) where
+      was-found : k ≡ Some s
+      was-found = grind arith
+
       found : SoundWith t s.leftover s.reached
-      found = (checked-sound t s.leftover s.reached).0 e
+      found = (checked-sound t s.leftover s.reached).0 (sym q ∙ was-found)
 
       whole : sound t ≡ true
       whole = found.is-sound
@@ -111,10 +121,10 @@ pub record Before21 (n : ℕ) (t list : Words) (out : ℕ) (m : Start) : Type 0 
   pub root : m.root ≡ at t (root_word n)
   pub reached : m.reached ≡ length (reached_all t)
 
-pub passed-tests : (n : ℕ) (t list : Words) (out : ℕ) (m : Start) → tested n t list out ≡ Ok m → Before21 n t list out m
+pub passed-tests : {n : ℕ} {t list : Words} {out : ℕ} {r : Result Start Refusal} {m : Start} → r ≡ tested n t list out → r ≡ Ok m → Before21 n t list out m
 unfolding tested
-passed-tests n t list out m e =
-    let u = done-ok (first_number (first_tests (no_collection n t) t list out)) (start_of n t) e in
+passed-tests {n = n} {t = t} {list = list} {out = out} q e =
+    let u = done-ok (first_number (first_tests (no_collection n t) t list out)) (start_of n t) (sym q ∙ e) in
     let h = (none-holds (first_tests (no_collection n t) t list out) ((λ e. omega arith), ((λ e. omega arith), ((λ e. omega arith), ((λ e. omega arith), ((λ e. omega arith), ((λ e. omega arith), tt))))))).0 u.0 in
     record {
       settles = (not-false-iff _).0 h.1.1.1.0;
@@ -124,6 +134,10 @@ passed-tests n t list out m e =
       root = ap (λ (x : Start). x.root) (sym u.1);
       reached = ap (λ (x : Start). x.reached) (sym u.1);
     }
+
+-- the collection's tree is sound, by the root that is handed on
+pub start-sound : {n : ℕ} {t list : Words} {out : ℕ} {m : Start} → Before21 n t list out m → sound_view (view_from t m.root) ≡ true
+start-sound {n = n} {t = t} {m = m} b = root-sound n t m.root b.root (settled-sound t b.settles) b.collection
 
 module _ (x : Call) (n : ℕ) (t list out : Words) (same : seventeen_in x t ≡ no_collection n t) where
   abbrev Answers : Verdict → Words → Type 0

@@ -52,9 +52,9 @@ module _ (n k r c : ℕ) (t list : Words) (out : ℕ) (m : Start) (b : Before21 
   ready : Passed (insertion n k r c) 2560 0 t left.Nothing m.reached
   ready = record { found = settled-with t m.reached b.settles b.reached; collection = b.collection; dock-ok = omega arith; long = omega arith }
 
-  module _ (root : ℕ) (run : Run) {j : Outcome} (e : root ≡ at t (root_word n)) (q : run ≡ full_run (view_from t root) k 0) (d : j ≡ passed (number_for n t k r c run)) where
+  module _ (root : ℕ) (run : Run) {j : Outcome} (e : root ≡ at t (root_word n)) (q : run ≡ full_run (view_from t root) k None) (d : j ≡ passed (number_for n t k r c run)) where
     judged-as : is_err (passed (refusal (insertion n k r c) 2560 0 t)) ≡ is_err j
-    judged-as = ap is_err (insert-number ready (run-later ready refl refl e q) d)
+    judged-as = ap is_err (insert-number ready (run-later ready refl e q) d)
 
     pub insert-refused : is_err j ≡ true → refusal (insertion n k r c) 2560 0 t ≢ 0
     insert-refused z y = false≢true (ap (λ (m : ℕ). is_err (passed m)) (sym y) ∙ judged-as ∙ z)

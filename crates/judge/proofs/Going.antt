@@ -20,7 +20,7 @@ use Rattle.cut_laws.proofs.Applying.{length-carry, carry-append}
 use Rattle.carry.proofs.Turns.{no-order, next-order, inside-here, inside-next}
 use Rattle.two_laws.proofs.SameTwo.{settled-sound}
 use Rattle.judge_laws.proofs.Judged.{good-maps, judged-goes, judged-stops}
-use Rattle.judge_laws.proofs.Calls.{decode-length}
+use Rattle.wear_laws.proofs.Stored.{decode-length}
 use Rattle.judge.specs.declared.Change.{Change}
 use Rattle.judge.specs.Wanted.{wanted, Suits, line_of, Holds, ended}
 use Rattle.judge.proofs.Rest.{ended-is}

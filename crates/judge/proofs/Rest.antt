@@ -19,7 +19,7 @@ use Rattle.model.specs.Judge.{same_maps, good_image, completes}
 use Rattle.list_laws.proofs.Tools.{refuted}
 use Rattle.table_laws.proofs.Collections.{by-number}
 use Rattle.two_laws.proofs.SameTwo.{first-there, second-there, settled-sound}
-use Rattle.judge_laws.proofs.Compared.{maps-same}
+use Rattle.judge_laws.proofs.Compared.{maps_with, maps-same}
 use Rattle.judge_laws.proofs.Judged.{good-maps}
 use Rattle.two_laws.proofs.CollectionTwo.{collection-sound}
 use Rattle.two_laws.proofs.CheckTwo.{nothing-settled}
@@ -93,9 +93,6 @@ unfolding maps_of
 pick-own n v h = by-number v (λ (n : ℕ). pick n (maps_of v) ≡ map_of n v) refl (λ z. ap pairs_of (has v z)) n h
 
 -- a change of one collection's pairs, by what it makes of them
-abbrev maps_with : List Slot → Option (List Slot) → Maps
-maps_with a b = record { one = a; two = b }
-
 pub on-same : (n : ℕ) (t : Words) (f g : List Slot → List Slot) → no_collection n t ≡ false → f (map_of n t) ≡ g (map_of n t) → on_map n f (maps_of t) ≡ on_map n g (maps_of t)
 unfolding on_map maps_of
 on-same n t f g h =

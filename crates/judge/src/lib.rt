@@ -35,7 +35,8 @@ struct Plan<'a> {
 
 // ---- an image
 
-// Whether an image is sound with the table's maps or the new ones. It is tested before a root is used.
+// Whether an image is sound with the table's maps or the new ones. It is tested before a root is used. 0 in word 3 is no second tree: document 01
+// says so, and each table's is read once. An Option of it would be taken apart here for the same two tests.
 fn image_ok(image: &[u64], plan: &Plan<'_>) -> bool
     ensures { result ≡ good_image (maps_of plan.now.table.now) (wanted plan.now.change plan.now.table.now) image.now }
 {
@@ -167,9 +168,7 @@ fn tests(table: &[u64], list: &[u64], words: usize, collection: u64) -> Result<S
     ensures { result ≡ tested collection table.now list.now words }
 {
     let root = node::find_root(table, collection)?;
-    let Some(found) = sound::check(table) else {
-        return Err(Refusal::NotSound);
-    };
+    let found = sound::check(table).ok_or(Refusal::NotSound)?;
     if !sound::is_nothing(found.leftover) {
         return Err(Refusal::NotSettled);
     }
@@ -201,7 +200,7 @@ pub fn judge_insert(
     ensures out_after { out.new ≡ judge_out (insertion collection key recording access) table.now list.now out.old }
 {
     let start = tests(table, list, out.len(), collection)?;
-    let run = reach::full_run(table, start.root, key, 0);
+    let run = reach::full_run(table, start.root, key, None);
     let allowed = insert::may_insert(
         table,
         Insertion {
@@ -213,6 +212,7 @@ pub fn judge_insert(
         run,
         start.reached,
     );
+    // No `map_err`: each refusal becomes the same one, so that its closure would drop what it is given.
     if allowed.is_err() {
         return Err(Refusal::ChangeRefused);
     }

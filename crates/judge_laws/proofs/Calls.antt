@@ -2,20 +2,20 @@
 use mathlib.Core.Path.{◌≡◌, refl, sym, ap, ◌∙◌}
 use mathlib.Core.Bool.{Bool, true, false, cond, false≢true}
 use mathlib.Core.Logic.{◌↔◌}
-use mathlib.Core.List.{List, [], ◌∷◌}
-use Prim.Native.Nat.{ℕ, zero, suc, ◌*◌, ◌/◌, ◌≤◌}
+use mathlib.Core.List.{List}
+use Prim.Native.Nat.{ℕ, suc, ◌*◌, ◌/◌, ◌≤◌}
 use native.Mathlib.Omega.{arith}
 use borrow.Author.Tests.{eqb-true, eq-eqb, le-leb}
 use lib.ListN.{length, take}
-use lib.Seq.{take_all}
 use Rattle.std.specs.Prelude.{Ok, Err, Some, None}
 use Rattle.model.specs.Results.{Verdict, refused_with}
 use Rattle.model.specs.Table.{Words, header_ok}
 use Rattle.model.specs.SoundTest.{sound, settled}
-use Rattle.model.specs.Orders.{Order, orders, carry, order_of, decode, all_inside, carry_number, carried_out}
+use Rattle.model.specs.Orders.{Order, orders, carry, decode, all_inside, carry_number, carried_out}
 use Rattle.model.specs.Writes.{Call, stores_of}
 use Rattle.model.specs.Refusals.{seventeen_in, refusal, orders_of, written, orders_answered, list_after}
-use Rattle.list_laws.proofs.Tools.{not-false-iff, double-suc}
+use Rattle.list_laws.proofs.Tools.{not-false-iff}
+use Rattle.wear_laws.proofs.Stored.{decode-length, decode-take, all-orders}
 use Rattle.cut_laws.proofs.Barriers.{barred-inside}
 use Rattle.cut_laws.proofs.Lent.{inside-take, header-length, orders-inside}
 use Rattle.step_laws.proofs.Accepted.{none-holds}
@@ -27,25 +27,6 @@ use Rattle.two_laws.proofs.DocksTwo.{same-refusal, call-read}
 use Rattle.model.specs.Judge.{Says, judged, judge_tests, judge_number, judge, count_of, judge_out}
 use Rattle.judge_laws.proofs.Judged.{judged-says, judged-iff}
 use Rattle.judge_laws.proofs.Ours.{ours-accepted}
-
--- ---- the orders of a slice
-
-half-suc : (n : ℕ) → suc (suc n) / 2 ≡ suc (n / 2)
-half-suc n = omega arith
-
-pub decode-length : (ws : Words) → length (decode ws) ≡ length ws / 2
-unfolding decode
-decode-length [] = refl
-decode-length (a ∷ []) = refl
-decode-length (a ∷ b ∷ ws) = ap suc (decode-length ws) ∙ sym (half-suc (length ws))
-
--- those of its first 2 n words are its first n
-decode-take : (n : ℕ) (ws : Words) → decode (take (2 * n) ws) ≡ take n (decode ws)
-unfolding decode
-decode-take zero ws = refl
-decode-take (suc n) [] = rw (double-suc n) refl
-decode-take (suc n) (a ∷ []) = rw (double-suc n) refl
-decode-take (suc n) (a ∷ b ∷ ws) = rw (double-suc n) (ap (λ q. order_of a b ∷ q) (decode-take n ws))
 
 -- ---- the refusals
 
@@ -61,7 +42,7 @@ pub record Judgeable (x : Call) (t list : Words) (out : ℕ) : Type 0 where
 -- 13 over the whole list
 pub whole-inside : (t list : Words) → header_ok t ≡ true → (carry_number (length list / 2) list t ≡ 0) ↔ (all_inside (length t) (decode list) ≡ true)
 unfolding carry_number
-whole-inside t list h = rw (h, le-leb (length list / 2) (length list / 2) (omega arith), take_all (length list / 2) (decode list) (omega (arith, decode-length list))) (passes (all_inside (length t) (decode list)))
+whole-inside t list h = rw (h, le-leb (length list / 2) (length list / 2) (omega arith), all-orders list) (passes (all_inside (length t) (decode list)))
   where
     passes : (b : Bool) → ◌≡◌ {A = ℕ} (cond b 0 13) 0 ↔ (b ≡ true)
     passes true = (λ e. refl, λ e. refl)

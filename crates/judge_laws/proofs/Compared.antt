@@ -11,7 +11,7 @@ use Rattle.model.specs.Reached.{Maps}
 use Rattle.list_laws.proofs.Tools.{and-iff, eqb-iff}
 use Rattle.model.specs.Judge.{same_slots, same_second, same_maps}
 
-slot-same : (p q : Slot) → p.key ≡ q.key → p.pointer ≡ q.pointer → p ≡ q
+pub slot-same : (p q : Slot) → p.key ≡ q.key → p.pointer ≡ q.pointer → p ≡ q
 slot-same p q a b = ap (λ (k : ℕ). slot k p.pointer) a ∙ ap (slot q.key) b
 
 pub slots-same : (ps qs : List Slot) → (same_slots ps qs ≡ true) ↔ (ps ≡ qs)
@@ -30,7 +30,7 @@ second-same none (some qs) = (λ e. absurd (false≢true e), λ e. absurd (let z
 second-same (some ps) none = (λ e. absurd (false≢true e), λ e. absurd (let z : ◌≡◌ {A = ℕ} 0 1 = cc in omega arith))
 second-same (some ps) (some qs) = (λ e. ap some ((slots-same ps qs).0 e), λ e. (slots-same ps qs).1 (let a : ps ≡ qs = cc in a))
 
-abbrev maps_with : List Slot → Option (List Slot) → Maps
+abbrev pub maps_with : List Slot → Option (List Slot) → Maps
 maps_with a b = record { one = a; two = b }
 
 pub maps-same : (a b : Maps) → (same_maps a b ≡ true) ↔ (a ≡ b)

@@ -20,21 +20,13 @@ use Rattle.model.specs.Orders.{Order, carry}
 use Rattle.model.specs.Cuts.{CutImage}
 use Rattle.model.specs.Writes.{Call}
 use Rattle.model.specs.Ledger.{change}
-use Rattle.list_laws.proofs.Tools.{and-iff, not-iff, compared}
+use Rattle.list_laws.proofs.Tools.{and-iff, or-iff, not-iff, compared}
 use Rattle.cut_laws.proofs.Applying.{carry-append}
 use Rattle.cut_laws.proofs.Images.{carry-image, cut-prefix}
 use Rattle.two_laws.proofs.SameTwo.{sound-same, settled-same, settled-sound}
 use Rattle.model.specs.Judge.{OneUnflushed, AllFlushed, OldOrNew, Completes, CountHolds, Says, same_maps, good_image, unflushed_after, second_line, is_none, completes, judged_from, judged}
 use Rattle.judge_laws.proofs.Compared.{maps-same}
 use Rattle.judge_laws.proofs.Unflushed.{Holding, holding-nil, holding-one, holding-more, second-two}
-
-or-iff : (a b : Bool) → (a || b ≡ true) ↔ ((a ≡ true) ⊎ (b ≡ true))
-or-iff true b = (λ e. inl refl, λ e. refl)
-or-iff false b = (λ e. inr e, go)
-  where
-    go : (false ≡ true) ⊎ (b ≡ true) → b ≡ true
-    go (inl e) = absurd (false≢true e)
-    go (inr e) = e
 
 -- ---- the two tests
 

@@ -30,12 +30,9 @@ pub holding-one : (l : Option ℕ) (os : List Order) → Holding l os → OneUnf
 holding-one none os h k j n = inl (h k)
 holding-one (some l) os h k j n = elim (ℕ_discrete k l) [ yes e ↦ inr (h.1 j (λ q. n (e ∙ sym q))) | no z ↦ inl (h.1 k z) ]
 
-snoc-not-nil : {A : Type 0} (p : List A) (x : A) → p ++ (x ∷ []) ≢ []
-snoc-not-nil p x e = omega (arith, simp length-append at (ap length e))
-
 -- a store to its line leaves later stores there
 store-leaves : (os : List Order) (s : Store) → later_stores (line s.word) (os ++ (store s ∷ [])) ≢ []
-store-leaves os s e = snoc-not-nil (later_stores (line s.word) os) s (sym (same-end os s) ∙ e)
+store-leaves os s e = omega (arith, simp length-append at (ap length (sym (same-end os s) ∙ e)))
 
 -- one order more, no second line
 holding-store : (l : Option ℕ) (os : List Order) (s : Store) → Holding l os → second_line l (store s) ≡ false → Holding (some (line s.word)) (os ++ (store s ∷ []))

@@ -8,18 +8,20 @@ use Prim.Native.Nat.{ℕ, zero, suc, ◌+◌, ◌*◌, ◌/◌, ◌%◌, ◌≤�
 use native.Mathlib.Omega.{arith}
 use lib.Dec.{eqb}
 use lib.ListN.{length, get_or}
-use borrow.Author.Tests.{eq-eqb, ne_eqb, eqb-true, eqb-false}
+use borrow.Author.Tests.{eqb-true, eqb-false}
 use Rattle.model.specs.declared.Node.{Node}
 use Rattle.model.specs.Table.{Words, node}
 use Rattle.model.specs.Slots.{Slot, slot, recording_of, recording, pointer_ok}
 use Rattle.model.specs.Refusals.{test, first_number, has_key, has_recording}
 use Rattle.model.specs.Ledger.{enter}
 use Rattle.model.specs.Salvage.{Placed, under_fence, Gathered, out_of_range, reason_for, gather_slot, gather_slots}
+use Rattle.list_laws.proofs.Recordings.{enter-recording}
 use Rattle.tour_laws.proofs.Gathering.{slot-kept, slot-dropped}
 use Rattle.bits.specs.Bits.{has, put}
 use Rattle.bits.proofs.Marks.{has-put-same, has-put-other, put-length}
 use Rattle.gather.specs.Held.{placed, met}
-use Rattle.gather.proofs.Pairs.{enter-key, enter-recording, enter-length}
+use Rattle.gather.proofs.Pairs.{enter-key, enter-length}
+use Rattle.gather.proofs.Leaves.{met-none, met-taken}
 use Rattle.std.specs.List.{list_any}
 use Rattle.keeping.specs.Marks.{slot_of, marked_to, Matches, Unmarked, Marked}
 use Rattle.keeping.proofs.Downwards.{downwards}
@@ -81,32 +83,28 @@ module _ (t order : Words) where
       );
     }
 
-    pub marked-hidden : (s b i : ℕ) → p ≡ b → Marked t order ms ms x k p (met t s b i k p) 0
-    marked-hidden s b i e = marked-none (met t s b i k p) (λ n g m. unfold met gather_slots in rw (eq-eqb p b e))
+    pub marked-unmet : (s b i : ℕ) → (not (eqb p b) && under_fence t s k) ≡ false → Marked t order ms ms x k p (met t s b i k p) 0
+    marked-unmet s b i e = marked-none (met t s b i k p) (λ n g m. ap (λ (h : Gathered). h.kept) (sym (met-none t s b i k p n g e)))
 
-    pub marked-past : (s b i : ℕ) → p ≢ b → under_fence t s k ≡ false → Marked t order ms ms x k p (met t s b i k p) 0
-    marked-past s b i e f = marked-none (met t s b i k p) (λ n g m. unfold met gather_slots in rw (ne_eqb p b e, f))
+    one : (s b i n : ℕ) (g : Gathered) → (not (eqb p b) && under_fence t s k) ≡ true → gather_slots n (met t s b i k p) g ≡ gather_slot n g (placed i k p)
+    one s b i n g e = sym (met-taken t s b i k p n g e (gather_slot n g (placed i k p)) refl)
 
-    one : (s b i n : ℕ) (g : Gathered) → p ≢ b → under_fence t s k ≡ true → gather_slots n (met t s b i k p) g ≡ gather_slot n g (placed i k p)
-    unfolding met gather_slots
-    one s b i n g e f = rw (ne_eqb p b e, f)
-
-    pub marked-left : (s b i : ℕ) → p ≢ b → under_fence t s k ≡ true → eqb (reason_for (marked_to t order ms x) (slot k p)) 0 ≡ false → Marked t order ms ms x k p (met t s b i k p) 0
-    marked-left s b i e f r = marked-none (met t s b i k p)
-        (λ n g m. ap (λ (h : Gathered). h.kept) (one s b i n g e f) ∙ left n g (reason_for g.kept (slot k p)) refl (λ z. eqb-false _ 0 r (sym (reason-same g.kept (marked_to t order ms x) (slot k p) m) ∙ z)))
+    pub marked-left : (s b i : ℕ) → (not (eqb p b) && under_fence t s k) ≡ true → eqb (reason_for (marked_to t order ms x) (slot k p)) 0 ≡ false → Marked t order ms ms x k p (met t s b i k p) 0
+    marked-left s b i e r = marked-none (met t s b i k p)
+        (λ n g m. ap (λ (h : Gathered). h.kept) (one s b i n g e) ∙ left n g (reason_for g.kept (slot k p)) refl (λ z. eqb-false _ 0 r (sym (reason-same g.kept (marked_to t order ms x) (slot k p) m) ∙ z)))
       where
         left : (n : ℕ) (g : Gathered) (y : ℕ) → reason_for g.kept (slot k p) ≡ y → reason_for g.kept (slot k p) ≢ 0 → (gather_slot n g (placed i k p)).kept ≡ g.kept
         left n g zero q z = absurd (z q)
         left n g (suc y) q z = ap (λ (h : Gathered). h.kept) (slot-dropped n g (placed i k p) y q)
 
-    pub marked-kept : (s b i : ℕ) → p ≢ b → under_fence t s k ≡ true → eqb (reason_for (marked_to t order ms x) (slot k p)) 0 ≡ true → x < 64 * length ms → Marked t order ms (put ms x) x k p (met t s b i k p) 1
-    marked-kept s b i e f r h = record {
+    pub marked-kept : (s b i : ℕ) → (not (eqb p b) && under_fence t s k) ≡ true → eqb (reason_for (marked_to t order ms x) (slot k p)) 0 ≡ true → x < 64 * length ms → Marked t order ms (put ms x) x k p (met t s b i k p) 1
+    marked-kept s b i e r h = record {
       long = put-length ms x;
       few = omega arith;
       beyond = λ z y l. has-put-other ms x y h (λ q. omega arith) ∙ z y (omega arith);
       goes = λ z q n g m.
           let none : reason_for g.kept (slot k p) ≡ 0 = reason-same g.kept (marked_to t order ms x) (slot k p) m ∙ eqb-true _ 0 r in
-          let now : (gather_slots n (met t s b i k p) g).kept ≡ enter k p g.kept = ap (λ (h : Gathered). h.kept) (one s b i n g e f ∙ slot-kept n g (placed i k p) none) in
+          let now : (gather_slots n (met t s b i k p) g).kept ≡ enter k p g.kept = ap (λ (h : Gathered). h.kept) (one s b i n g e ∙ slot-kept n g (placed i k p) none) in
           let list : marked_to t order (put ms x) (suc x) ≡ slot k p ∷ marked_to t order ms x = marked-yes (put ms x) x (has-put-same ms x h)
           ∙ ap (λ (u : Slot). u ∷ marked_to t order (put ms x) x) q ∙ ap (λ (l : List Slot). slot k p ∷ l) (marked-below ms x x h (omega arith)) in
           (rw (now, list) (matches-enter k p g.kept (marked_to t order ms x) m), ap length now ∙ enter-length k p g.kept ∙ omega arith);

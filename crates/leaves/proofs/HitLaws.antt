@@ -81,9 +81,13 @@ module _ (t : Words) (r l : ℕ) (q : l ≡ word_of t r 2) where
   unfolding last_leaf
   last-below = ap (λ (k : ℕ). rightmost v k r) top
 
+-- a walk down, d levels above the leaves, that is in its leaf
+in-leaf : (walk : ℕ → ℕ) (d n m : ℕ) → walk 0 ≡ n → d ≡ 0 → walk d ≡ m → n ≡ m
+in-leaf walk d n m e z i = sym e ∙ ap walk (sym z) ∙ i
+
 pub leaf-here : (v : View) (d n m : ℕ) → d ≡ 0 → leftmost v d n ≡ m → n ≡ m
 unfolding leftmost
-leaf-here v d n m z i = ap (λ (k : ℕ). leftmost v k n) (sym z) ∙ i
+leaf-here v d n m = in-leaf (λ (k : ℕ). leftmost v k n) d n m refl
 
 leftmost-left : (v : View) (d n : ℕ) → leftmost v d (v.node n).left ≡ leftmost v (suc d) n
 unfolding leftmost
@@ -131,7 +135,7 @@ module _ (t : Words) (n : ℕ) (w : Ways) (is : slots_in w ≡ ways (view t) n) 
 
 pub last-here : (v : View) (d n m : ℕ) → d ≡ 0 → rightmost v d n ≡ m → n ≡ m
 unfolding rightmost
-last-here v d n m z i = ap (λ (k : ℕ). rightmost v k n) (sym z) ∙ i
+last-here v d n m = in-leaf (λ (k : ℕ). rightmost v k n) d n m refl
 
 -- the last child does not depend on the root that the reading started from
 any-last : (t : Words) (r q n : ℕ) → last_child (view_from t r) n ≡ last_child (view_from t q) n

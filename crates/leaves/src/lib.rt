@@ -14,7 +14,7 @@ mod siblings;
 pub use siblings::Siblings;
 use slots::Ways;
 
-// A word of the table; 0 past the end.
+// A word of the table; 0 past the end, as in the definition, and no Option: each caller would put that 0 in the place of its None.
 pub fn word_at(table: &[u64], w: usize) -> u64
     ensures { result ≡ at table.now w }
 {

@@ -1,6 +1,6 @@
 // The nodes of a level, one by one along the siblings.
 
-// Those from a node on, at most so many; 0 is no node.
+// Those from a node on, at most so many; 0 is no node. 0, and no Option: the next one goes in as its sibling word has it, and is tested once.
 #[derive(Clone, Copy)]
 pub struct Siblings<'a> {
     table: &'a [u64],

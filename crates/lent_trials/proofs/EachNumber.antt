@@ -8,6 +8,7 @@ use native.Mathlib.Omega.{arith}
 use borrow.Author.Tests.{ne_eqb}
 use lib.ListN.{length}
 use Rattle.std.specs.Prelude.{cond, eqb, ltb, ◌/◌, Result, Ok}
+use Rattle.crash_laws.proofs.Demand3.{plain-answered}
 use Rattle.model.specs.declared.Refusal.{Refusal}
 use Rattle.model.specs.declared.Refusal.TheVariants.{NoCode, NoTable, NotSound, ShortList, BadRecording, KeyPresent, RecordingPresent, KeyAbsent}
 use Rattle.model.specs.declared.Refusal.TheVariants.{NoNodes, TooHigh, BadOrders, BadClass, OtherLength, ShortReport, NoCollection, NoDock}
@@ -24,12 +25,12 @@ use Rattle.model.specs.Pack.{pack_number, packing}
 use Rattle.model.specs.Salvage.{dropped_all, salvage_number, salvage}
 use Rattle.model.specs.Wear.{wear_number, figures, worn}
 use Rattle.model.specs.Writes.{Call, insertion, deletion, class_change, repair}
-use Rattle.model.specs.Refusals.{first_number, unless_refused, seventeen_in, orders_of, refusal, written}
+use Rattle.model.specs.Refusals.{first_number, unless_refused, seventeen_in, refusal, written}
 use Rattle.model.specs.Sentinels.{slice_number, work_number, work_out, refusal_with, written_with}
 use Rattle.model.specs.Summary.{open_number, opening, own_tests, marks_in, cells_in, quick_number, quick_orders, quick_written, page_of, quick_list_number, quick_listed}
 use Rattle.model.specs.Scripts.{SCRIPTS, rank, actions_in, form_script, script_answer, script_number}
 use Rattle.model.specs.Judge.{judged, judge_number, judge, verdict_number}
-use Rattle.model.proofs.Numbers.{refusal-of-number, Numbered, numbered, none-numbered, one-more, answered-number, itself, refusal-numbered, slice-numbered}
+use Rattle.model.proofs.Numbers.{refusal-of-number, Numbered, numbered, none-numbered, one-more, answered-number, itself, slice-numbered}
 
 -- ---- numbers of refusals
 
@@ -151,10 +152,7 @@ salvage-answers t out report =
 -- ---- the writing calls
 
 pub written-answers : (x : Call) (words dock : ℕ) (t : Words) → answer_number (written x words dock t) ≡ refusal x words dock t
-unfolding written
-written-answers x words dock t =
-    let os = orders_of x dock t in
-    by-refusal (refusal x words dock t) (done_with (store_count os) (flush_count os) (barrier_count os)) (refusal-numbered x words dock t) refl
+written-answers = plain-answered
 
 -- ---- sentinels: working them out, 4; the writing calls with them
 

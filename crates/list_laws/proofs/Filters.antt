@@ -1,14 +1,19 @@
 -- Filtered lists.
 use mathlib.Core.Path.{◌≡◌, refl, ap, sym, ◌∙◌}
-use mathlib.Core.Bool.{Bool, true, false, false≢true}
+use mathlib.Core.Bool.{Bool, true, false, ◌&&◌, false≢true}
 use mathlib.Core.Logic.{◌↔◌, ⊎_elim}
 use mathlib.Core.List.Memᴰ
 use mathlib.Core.List.{List, [], ◌∷◌, ◌++◌, Memᴰ}
-use Prim.Native.Nat.{suc, ◌≤◌}
+use Prim.Native.Nat.{ℕ, suc, ◌≤◌}
 use native.Mathlib.Omega.{arith}
+use lib.Dec.{leb}
 use lib.ListN.{length}
+use Rattle.model.specs.Slots.{Slot}
 use Rattle.model.specs.Reached.{filter}
-use Rattle.list_laws.proofs.Tools.{Each}
+use Rattle.model.specs.SoundTest.{elem}
+use Rattle.model.specs.Listing.{in_range_of}
+use Rattle.list_laws.proofs.Tools.{decode, refuted, same-test, Each, Each-map}
+use Rattle.list_laws.proofs.Members.{elem-iff}
 
 pub filter-yes {ℓ} : {A : Type ℓ} (q : A → Bool) (x : A) (xs : List A) → q x ≡ true → filter q (x ∷ xs) ≡ x ∷ filter q xs
 unfolding filter
@@ -25,6 +30,15 @@ filter-append {A = A} q (x ∷ a) b = go (q x) refl (filter-append q a b)
     go : (c : Bool) → q x ≡ c → filter q (a ++ b) ≡ filter q a ++ filter q b → filter q (x ∷ a ++ b) ≡ filter q (x ∷ a) ++ filter q b
     go true c ih = rw (filter-yes q x (a ++ b) c, filter-yes q x a c) (ap (λ (l : List A). x ∷ l) ih)
     go false c ih = rw (filter-no q x (a ++ b) c, filter-no q x a c) ih
+
+-- by two tests that agree on each element
+pub filter-same {ℓ} : {A : Type ℓ} (p q : A → Bool) (xs : List A) → Each (λ (x : A). p x ≡ q x) xs → filter p xs ≡ filter q xs
+filter-same p q [] h = unfold filter in refl
+filter-same {A = A} p q (x ∷ xs) h = go (q x) refl (filter-same p q xs h.1)
+  where
+    go : (b : Bool) → q x ≡ b → filter p xs ≡ filter q xs → filter p (x ∷ xs) ≡ filter q (x ∷ xs)
+    go true e ih = filter-yes p x xs (h.0 ∙ e) ∙ ap (λ (l : List A). x ∷ l) ih ∙ sym (filter-yes q x xs e)
+    go false e ih = filter-no p x xs (h.0 ∙ e) ∙ ih ∙ sym (filter-no q x xs e)
 
 pub mem-filter {ℓ} : {A : Type ℓ} (q : A → Bool) (x : A) (xs : List A) → Memᴰ x (filter q xs) ↔ (Memᴰ x xs × (q x ≡ true))
 unfolding filter
@@ -69,3 +83,21 @@ filter-whole {A = A} q (x ∷ xs) h = go (q x) refl (filter-whole q xs)
     go : (b : Bool) → q x ≡ b → (length (filter q xs) ≡ length xs → Each (λ (y : A). q y ≡ true) xs) → Each (λ (y : A). q y ≡ true) (x ∷ xs)
     go true c ih = let y : suc (length (filter q xs)) ≡ suc (length xs) = rw (filter-yes q x xs c) at h in (c, ih (omega arith))
     go false c ih = let y : length (filter q xs) ≡ suc (length xs) = rw (filter-no q x xs c) at h in absurd (omega (arith, filter-short q xs))
+
+-- a member that passes is a member of those that pass
+pub elem-filter : (p : ℕ → Bool) (x : ℕ) (xs : List ℕ) → p x ≡ true → elem x (filter p xs) ≡ elem x xs
+elem-filter p x xs e =
+    same-test (elem x (filter p xs)) (elem x xs)
+    ((λ h. (elem-iff x xs).1 ((mem-filter p x xs).0 ((elem-iff x (filter p xs)).0 h)).0), λ h. (elem-iff x (filter p xs)).1 ((mem-filter p x xs).1 ((elem-iff x xs).0 h, e)))
+
+-- ---- the pairs in a range
+
+pub range-append : (low high : ℕ) (a b : List Slot) → in_range_of low high (a ++ b) ≡ in_range_of low high a ++ in_range_of low high b
+unfolding in_range_of
+range-append low high a b = filter-append (λ (s : Slot). leb low s.key && leb s.key high) a b
+
+pub range-outside : (low high : ℕ) (ss : List Slot) → Each (λ (s : Slot). low ≤ s.key → s.key ≤ high → ⊥) ss → in_range_of low high ss ≡ []
+unfolding in_range_of
+range-outside low high ss h =
+    filter-none (λ (s : Slot). leb low s.key && leb s.key high) ss
+    (Each-map (λ (s : Slot). low ≤ s.key → s.key ≤ high → ⊥) (λ (s : Slot). leb low s.key && leb s.key high ≡ false) ss (λ s k. refuted _ (λ e. let u = simp decode at e in k u.0 u.1)) h)

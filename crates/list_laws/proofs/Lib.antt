@@ -5,6 +5,7 @@ pub mod Members
 pub mod Filters
 pub mod Distinct
 pub mod Lists
+pub mod Twos
 pub mod Counts
 pub mod Slots
 pub mod Recordings

@@ -1,12 +1,14 @@
 -- Lists cut, taken apart and mapped.
-use mathlib.Core.Path.{◌≡◌, ap}
+use mathlib.Core.Path.{◌≡◌, refl, ap}
 use mathlib.Core.Logic.{◌↔◌}
 use mathlib.Core.List.{List, [], ◌∷◌, ◌++◌, map}
 use Prim.Native.Nat.{ℕ, zero, suc, ◌-◌}
 use native.Mathlib.Omega.{arith}
 use native.Mathlib.Numerals.{unary_clauses}
-use lib.ListN.{length, take}
+use lib.ListN.{length, take, replicate}
 use lib.Seq.{take-nil}
+use Rattle.model.specs.Lists.{sum}
+use Rattle.model.specs.Table.{at}
 use Rattle.list_laws.proofs.Tools.{Each}
 
 -- a first part of two lists in a row
@@ -21,3 +23,13 @@ cons-same x y xs ys e = (cc, cc)
 pub each-map {ℓ} : {A B : Type ℓ} (P : B → Type 0) (g : A → B) (xs : List A) → Each P (map g xs) ↔ Each (λ (x : A). P (g x)) xs
 each-map P g [] = (λ h. h, λ h. h)
 each-map P g (x ∷ xs) = let u = each-map P g xs in (λ h. (h.0, u.0 h.1), λ h. (h.0, u.1 h.1))
+
+-- a word of zeros, or past them
+pub at-replicate : (n i : ℕ) → at (replicate n 0) i ≡ 0
+at-replicate zero i = refl
+at-replicate (suc n) zero = refl
+at-replicate (suc n) (suc i) = at-replicate n i
+
+pub sum-none : (f : ℕ → ℕ) (ns : List ℕ) → ((n : ℕ) → f n ≡ 0) → sum (map f ns) ≡ 0
+sum-none f [] e = refl
+sum-none f (n ∷ ns) e = omega (arith, e n, sum-none f ns e)

@@ -4,10 +4,10 @@ use mathlib.Core.Bool.{Bool, true, false, ◌||◌, or_assoc, false≢true}
 use mathlib.Core.Logic.{◌↔◌, ◌≢◌, ⊎_elim}
 use mathlib.Core.List.Memᴰ
 use mathlib.Core.List.{List, [], ◌∷◌, ◌++◌, map, map-append, Memᴰ}
-use Prim.Native.Nat.{ℕ, zero, suc, ◌<◌}
+use Prim.Native.Nat.{ℕ, zero, suc, ◌*◌, ◌≤◌, ◌<◌}
 use native.Mathlib.Omega.{arith}
 use lib.Dec.{eqb}
-use lib.ListN.{length, get_or, take, drop}
+use lib.ListN.{length, get_or, take, drop, length-append}
 use borrow.Author.Tests.{eqb-true, eqb-false, eq-eqb, ne_eqb}
 use Rattle.model.specs.Reached.{flat}
 use Rattle.model.specs.SoundTest.{elem}
@@ -117,6 +117,12 @@ pub flat-each : {A B : Type 0} (g h : A → List B) (ns : List A) → Each (λ (
 unfolding flat
 flat-each g h [] e = refl
 flat-each g h (n ∷ ns) e = rw (e.0, flat-each g h ns e.1)
+
+-- a list of lists, each at most so long
+pub flat-short : {A B : Type 0} (g : A → List B) (k : ℕ) (xs : List A) → Each (λ (x : A). length (g x) ≤ k) xs → length (flat g xs) ≤ k * length xs
+unfolding flat
+flat-short g k [] h = omega arith
+flat-short g k (x ∷ xs) h = let e = length-append (g x) (flat g xs) in let ih = flat-short g k xs h.1 in let l = h.0 in omega arith
 
 pub map-flat {ℓ} : {A B C : Type ℓ} (f : B → C) (g : A → List B) (xs : List A) → map f (flat g xs) ≡ flat (λ (x : A). map f (g x)) xs
 unfolding flat

@@ -1,18 +1,20 @@
 -- What a leaf's pointer says: recording and class taken apart and put together; recordings that differ make pointers that differ. All who
 -- need different pointers in a leaf rest on this.
-use mathlib.Core.Path.{◌≡◌, refl, ap}
-use mathlib.Core.Bool.{true, false}
+use mathlib.Core.Path.{◌≡◌, refl, ap, ◌∙◌}
+use mathlib.Core.Bool.{Bool, true, false, cond, ◌||◌}
 use mathlib.Core.Logic.{◌≢◌, ◌↔◌}
 use mathlib.Core.List.{List, [], ◌∷◌, ◌++◌, map, map-append}
 use Prim.Native.Nat.{ℕ, ◌≤◌, ◌<◌}
 use native.Mathlib.Omega.{arith}
-use lib.Dec.{leb, ltb}
+use lib.Dec.{eqb, leb, ltb}
 use borrow.Author.Tests.{lt-ltb, ltb-true}
 use Rattle.model.specs.Table.{MARK}
 use Rattle.model.specs.Slots.{Slot, slot, RECORDINGS, recording_of, class_of, pointer_of, with_class, recording, class, recording_ok, class_ok, pointer_ok}
 use Rattle.model.specs.Reached.{pointers}
 use Rattle.model.specs.SoundTest.{all, elem, distinct, pair_ok, recordings_ok}
-use Rattle.list_laws.proofs.Tools.{and-iff, leb-iff, Each, Each-append, Each-split, Each-map, all-each}
+use Rattle.model.specs.Refusals.{has_recording}
+use Rattle.model.specs.Ledger.{enter}
+use Rattle.list_laws.proofs.Tools.{and-iff, leb-iff, or-swap, Each, Each-append, Each-split, Each-map, all-each}
 use Rattle.list_laws.proofs.Members.{elem-cons, elem-false}
 use Rattle.list_laws.proofs.Distinct.{distinct-cons, distinct-middle}
 
@@ -91,6 +93,17 @@ recordings-middle s a b = (
   where
     Ok : Slot → Type 0
     Ok x = pair_ok x ≡ true
+
+-- the recordings of a map with one pair more
+pub enter-recording : (q k p : ℕ) (ps : List Slot) → has_recording q (enter k p ps) ≡ (eqb (recording_of p) q || has_recording q ps)
+unfolding enter has_recording
+enter-recording q k p [] = refl
+enter-recording q k p (s ∷ ss) = go (ltb k s.key) (enter-recording q k p ss)
+  where
+    go : (b : Bool) → has_recording q (enter k p ss) ≡ (eqb (recording_of p) q || has_recording q ss)
+        → has_recording q (cond b (slot k p ∷ s ∷ ss) (s ∷ enter k p ss)) ≡ (eqb (recording_of p) q || (eqb (recording s) q || has_recording q ss))
+    go true h = unfold has_recording in refl
+    go false h = unfold has_recording in (ap (λ (b : Bool). eqb (recording s) q || b) h ∙ or-swap (eqb (recording s) q) (eqb (recording_of p) q) (has_recording q ss))
 
 -- ---- pointers
 

@@ -3,12 +3,13 @@ use mathlib.Core.Path.{◌≡◌, refl}
 use mathlib.Core.Bool.{Bool, true, false}
 use mathlib.Core.Logic.{◌≢◌}
 use mathlib.Core.List.{List, [], ◌∷◌}
-use Prim.Native.Nat.{ℕ, ◌≤◌}
+use Prim.Native.Nat.{ℕ, ◌*◌, ◌/◌, ◌≤◌}
 use native.Mathlib.Omega.{arith}
 use lib.Dec.{eqb, ltb}
 use lib.ListN.{length}
 use borrow.Author.Tests.{eqb-false}
-use Rattle.model.specs.Slots.{Slot, in_use, shown}
+use Rattle.model.specs.Table.{Words}
+use Rattle.model.specs.Slots.{Slot, slots_of, slot_words, in_use, shown}
 use Rattle.model.specs.Shifts.{place_of}
 use Rattle.list_laws.proofs.Tools.{Each}
 
@@ -41,3 +42,14 @@ place-length k (s ∷ ss) = go (ltb s.key k) refl (place-length k ss)
     go : (b : Bool) → ltb s.key k ≡ b → place_of k ss ≤ length ss → place_of k (s ∷ ss) ≤ length (s ∷ ss)
     go true e ih = rw (e, place_of) (omega arith)
     go false e ih = rw (e, place_of) (omega arith)
+
+-- the words of slots, and the slots of words, of which a last one is left aside
+pub length-pairs : (ss : List Slot) → length (slot_words ss) ≡ 2 * length ss
+length-pairs [] = refl
+length-pairs (s ∷ ss) = omega (arith, length-pairs ss)
+
+pub pairs-count : (ws : Words) → length (slots_of ws) ≡ length ws / 2
+unfolding slots_of
+pairs-count [] = refl
+pairs-count (k ∷ []) = refl
+pairs-count (k ∷ x ∷ ws) = omega (arith, pairs-count ws)

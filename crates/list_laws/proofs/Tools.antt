@@ -60,9 +60,29 @@ pub or-right : (a b : Bool) → b ≡ true → a || b ≡ true
 or-right true b e = refl
 or-right false b e = e
 
+pub or-iff : (a b : Bool) → (a || b ≡ true) ↔ ((a ≡ true) ⊎ (b ≡ true))
+or-iff true b = (λ e. inl refl, λ e. refl)
+or-iff false b = (λ e. inr e, go)
+  where
+    go : (false ≡ true) ⊎ (b ≡ true) → b ≡ true
+    go (inl e) = absurd (false≢true e)
+    go (inr e) = e
+
 pub or-false-iff : (a b : Bool) → (a || b ≡ false) ↔ ((a ≡ false) × (b ≡ false))
 or-false-iff true b = (λ e. absurd (false≢true (sym e)), λ u. u.0)
 or-false-iff false b = (λ e. (refl, e), λ u. u.1)
+
+pub or-swap : (a b c : Bool) → a || (b || c) ≡ b || (a || c)
+or-swap true true c = refl
+or-swap true false c = refl
+or-swap false b c = refl
+
+-- a value so far, a, that is the test v, joined with one more test b, if a was passed, and if not
+pub and-then : (a v x b : Bool) → a ≡ v → a ≡ true → x ≡ b → x ≡ (v && b)
+and-then a v x b e y q = q ∙ ap (λ (u : Bool). u && b) (sym y ∙ e)
+
+pub and-else : (a v b : Bool) → a ≡ v → a ≡ false → a ≡ (v && b)
+and-else a v b e z = z ∙ ap (λ (u : Bool). u && b) (sym z ∙ e)
 
 -- ---- two numbers compared
 

@@ -7,14 +7,14 @@ use native.Mathlib.Omega.{arith}
 use borrow.Author.Tests.{ne_eqb}
 use Rattle.std.specs.Prelude.{Ok}
 use Rattle.model.specs.Results.{Listed, refused_with, page_with}
-use Rattle.model.specs.Table.{Words, at, header_ok, root_word, no_collection}
+use Rattle.model.specs.Table.{Words, at, header_ok, no_collection}
 use Rattle.model.specs.Slots.{view_from}
 use Rattle.model.specs.Reached.{mapping, map_of}
 use Rattle.model.specs.SoundTest.{sound}
 use Rattle.model.specs.Listing.{in_range_of, listed, list_number, list, list_out}
 use Rattle.node.specs.Word.{number_in, found_root}
-use Rattle.node.proofs.Roots.{root-there, found-ok}
-use Rattle.listing.specs.declared.Progress.{Progress}
+use Rattle.node.proofs.Roots.{found-there}
+use Rattle.model.specs.declared.Page.{Page}
 use Rattle.listing.specs.Taking.{Sheet, sheet, begun, all_taken}
 use Rattle.listing.proofs.Pairs.{taken-all}
 
@@ -39,19 +39,16 @@ module _ (i : ℕ) (t : Words) (low high : ℕ) (out : Words) where
 
   -- from the collection's root on
   module _ {r : ℕ} (e : found_root i t ≡ Ok r) where
-    pub there : (header_ok t ≡ true) × (no_collection i t ≡ false) × (r ≡ at t (root_word i))
-    there = let u = found-ok i t e in root-there i t r u.0 u.1
-
     number-sound : list_number i t ≡ cond (sound t) 0 4
     unfolding list_number
-    number-sound = rw (there.0, there.1)
+    number-sound = let u = found-there i t e in rw (u.0, u.1)
 
     pub not-sound : sound t ≡ false → Answers (refused_with 4) out
     not-sound f = refused 4 (sym (number-sound ∙ rw f)) (λ y. omega (arith, y))
 
-    pub done : (p : Progress) (u : Words) → sound t ≡ true → sheet u p ≡ all_taken (in_range_of low high (mapping (view_from t r))) (begun out) → Answers (page_with p.count p.more) u
+    pub done : (p : Page) (u : Words) → sound t ≡ true → sheet u p ≡ all_taken (in_range_of low high (mapping (view_from t r))) (begun out) → Answers (page_with p.count p.more) u
     unfolding list list_out listed
     done p u h w =
-        let all = (rw there.2 at w) ∙ taken-all (in_range_of low high (map_of i t)) out in
+        let all = (rw (found-there i t e).2 at w) ∙ taken-all (in_range_of low high (map_of i t)) out in
         let g : list_number i t ≡ 0 = number-sound ∙ rw h in
         rw g (ap (λ (x : Sheet). page_with x.count x.more) all, ap (λ (x : Sheet). x.words) all)

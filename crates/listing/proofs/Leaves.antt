@@ -5,23 +5,23 @@ use mathlib.Core.List.{List, [], ◌∷◌, ◌++◌}
 use Prim.Native.Nat.{ℕ, ◌-◌, ◌≤◌, ◌<◌}
 use native.Mathlib.Omega.{arith}
 use lib.Dec.{leb}
-use lib.ListN.{length, get_or}
+use lib.ListN.{get_or}
 use Rattle.model.specs.declared.Node.{Node}
-use Rattle.model.specs.Table.{Words, root, nodes, in_range, node}
+use Rattle.model.specs.Table.{Words, root, nodes, node}
 use Rattle.model.specs.Slots.{Slot, View, node_view, view_from, view, height, used}
 use Rattle.model.specs.Search.{below, within, path}
 use Rattle.model.specs.Reached.{filter, flat, head_or, kept, mapping}
 use Rattle.model.specs.SoundTest.{sound_view}
 use Rattle.model.specs.Listing.{in_range_of}
 use Rattle.model.specs.Writes.{standing_in}
-use Rattle.list_laws.proofs.Tools.{decode, refuted, Each, Each-map}
-use Rattle.list_laws.proofs.Filters.{filter-append}
-use Rattle.tree_laws.proofs.Members.{filter-none, UpTo, pigeonhole}
-use Rattle.tree_laws.proofs.Rows.{At, Row}
-use Rattle.tree_laws.proofs.Levels.{Orderly, sound-orderly, level-leaves, ascending, row-tail, row-distinct}
+use Rattle.list_laws.proofs.Tools.{Each-map}
+use Rattle.list_laws.proofs.Filters.{range-append, range-outside}
+use Rattle.tree_laws.proofs.Rows.{Row}
+use Rattle.tree_laws.proofs.Levels.{Orderly, sound-orderly, level-leaves, row-tail}
 use Rattle.tree_laws.proofs.Rising.{rising-from}
 use Rattle.tree_laws.proofs.MapLaw.{row-rises, row-rest, leaf-part}
 use Rattle.tree_laws.proofs.SearchLaw.{leaf_for, leaf-mem, leaf-covers, path-leaf}
+use Rattle.two_laws.proofs.LevelsTwo.{row-few}
 use Rattle.walk_laws.specs.Chain.{along}
 use Rattle.walk_laws.proofs.AnyRoot.{any-along}
 use Rattle.walk_laws.proofs.ChainLaw.{along-row}
@@ -32,16 +32,6 @@ use Rattle.listing.specs.Taking.{Sheet, all_taken, wants, wanted}
 use Rattle.listing.proofs.Pairs.{taken-append}
 
 -- ---- the pairs in a range
-
-range-append : (low high : ℕ) (a b : List Slot) → in_range_of low high (a ++ b) ≡ in_range_of low high a ++ in_range_of low high b
-unfolding in_range_of
-range-append low high a b = filter-append (λ (s : Slot). leb low s.key && leb s.key high) a b
-
-range-outside : (low high : ℕ) (ss : List Slot) → Each (λ (s : Slot). low ≤ s.key → s.key ≤ high → ⊥) ss → in_range_of low high ss ≡ []
-unfolding in_range_of
-range-outside low high ss h =
-    filter-none (λ (s : Slot). leb low s.key && leb s.key high) ss
-    (Each-map (λ (s : Slot). low ≤ s.key → s.key ≤ high → ⊥) (λ (s : Slot). leb low s.key && leb s.key high ≡ false) ss (λ s k. refuted _ (λ e. let u = simp decode at e in k u.0 u.1)) h)
 
 filter-both {ℓ} : {A : Type ℓ} (p q : A → Bool) (xs : List A) → filter p (filter q xs) ≡ filter (λ (x : A). q x && p x) xs
 unfolding filter
@@ -64,12 +54,6 @@ leaf-pairs t r low high n x b q e =
     ∙ sym (filter-both (λ (s : Slot). leb low s.key && leb s.key high) (λ (s : Slot). within (view_from t r) n s.key) (node_view t n).shown)
 
 -- ---- the leaves along the siblings
-
--- a row has at most N nodes
-row-few : (v : View) (d : ℕ) (ns : List ℕ) → Row v d ns → length ns ≤ v.nodes
-unfolding in_range
-row-few v d ns r =
-    pigeonhole v.nodes ns (row-distinct v ns (ascending v d ns r)) (Each-map (At v d) (UpTo v.nodes) ns (λ n a. simp decode at a.range) r.at)
 
 -- the leaves from n on
 abbrev onward : View → ℕ → List ℕ

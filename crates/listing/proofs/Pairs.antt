@@ -13,7 +13,7 @@ use borrow.Author.Tests.{lt-ltb, le-ltb, leb-true, leb-false}
 use Rattle.model.specs.Table.{Words}
 use Rattle.model.specs.Slots.{Slot, slot_words}
 use Rattle.model.specs.Listing.{fitting, listed_words}
-use Rattle.tree_laws.proofs.ListLaw.{length-pairs}
+use Rattle.list_laws.proofs.Slots.{length-pairs}
 use Rattle.listing.specs.Taking.{Sheet, begun, written, passed, taken, all_taken}
 use Rattle.listing.proofs.Steps.{pair-left, pair-written}
 

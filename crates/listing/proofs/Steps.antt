@@ -1,15 +1,16 @@
 -- What one more pair or slot does to a listing, as the code meets it.
-use mathlib.Core.Path.{◌≡◌, ap, sym}
-use mathlib.Core.Bool.{Bool, true, false, cond}
+use mathlib.Core.Path.{◌≡◌, refl, ap, sym, ◌∙◌}
+use mathlib.Core.Bool.{Bool, true, false, cond, not, ◌&&◌}
 use mathlib.Core.List.{List, [], ◌∷◌}
-use Prim.Native.Nat.{◌/◌, ◌≤◌, ◌<◌}
+use Prim.Native.Nat.{ℕ, ◌/◌, ◌≤◌, ◌<◌}
+use lib.Dec.{eqb}
 use lib.ListN.{length}
 use borrow.Author.Tests.{le-leb, lt-leb}
-use Rattle.model.specs.Slots.{Slot}
+use Rattle.model.specs.Slots.{Slot, slot, shown}
 use Rattle.model.specs.Reached.{filter}
-use Rattle.list_laws.proofs.Filters.{filter-yes, filter-no}
+use Rattle.slots.proofs.Scans.{picked}
 use Rattle.listing.specs.declared.Window.{Window}
-use Rattle.listing.specs.Taking.{Sheet, written, passed, taken, all_taken, wants, wanted}
+use Rattle.listing.specs.Taking.{Sheet, written, passed, taken, all_taken, wants, wanted, slot_taken}
 
 -- ---- a pair
 
@@ -21,18 +22,22 @@ pub pair-written : (s : Slot) (x : Sheet) → x.count < length x.words / 2 → w
 unfolding taken
 pair-written s x h = ap (λ (b : Bool). cond b (passed x) (written s x)) (sym (lt-leb _ _ h))
 
--- ---- a shown slot
+-- ---- a slot in use
 
--- what is left to take of a leaf, from the present sheet, with one slot more
-module _ (w : Window) (s : Slot) (ss ns : List Slot) (x : Sheet) (e : ns ≡ s ∷ ss) where
-  pub slot-taken : (y : Sheet) → wants w s.key ≡ true → y ≡ taken s x → all_taken (wanted w ss) y ≡ all_taken (wanted w ns) x
-  unfolding wanted all_taken
-  slot-taken y h q = rw (q, e, filter-yes (λ (a : Slot). wants w a.key) s ss h, all_taken)
+module _ (w : Window) (before k p : ℕ) (x : Sheet) where
+  -- the slots of a leaf, one more: what is left to take, from the present sheet
+  pub slots-more : (y : Sheet) (ss : List Slot) → y ≡ slot_taken w before k p x → all_taken (wanted w (shown before (slot k p ∷ ss))) x ≡ all_taken (wanted w (shown p ss)) y
+  unfolding wanted all_taken slot_taken
+  slots-more y ss q =
+      ap (λ (l : List Slot). all_taken l x) (picked (λ (s : Slot). wants w s.key) before (slot k p) ss) ∙ go (not (eqb p before) && wants w k) ∙ ap (all_taken rest) (sym q)
+    where
+      rest : List Slot
+      rest = wanted w (shown p ss)
 
-  pub slot-passed : wants w s.key ≡ false → all_taken (wanted w ss) x ≡ all_taken (wanted w ns) x
-  unfolding wanted
-  slot-passed h = rw (e, filter-no (λ (a : Slot). wants w a.key) s ss h)
+      go : (b : Bool) → all_taken (cond b (slot k p ∷ rest) rest) x ≡ all_taken rest (cond b (taken (slot k p) x) x)
+      go true = refl
+      go false = refl
 
-pub slots-none : (w : Window) (ns : List Slot) (x : Sheet) → ns ≡ [] → all_taken (wanted w ns) x ≡ x
-unfolding wanted filter all_taken
-slots-none w ns x e = rw e
+pub slots-none : (w : Window) (before : ℕ) (x : Sheet) → all_taken (wanted w (shown before [])) x ≡ x
+unfolding wanted filter all_taken shown
+slots-none w before x = refl

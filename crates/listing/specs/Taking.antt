@@ -1,10 +1,10 @@
 -- A listing pair by pair: each is written while whole pairs fit, and the first that does not fit is noted.
-use Rattle.std.specs.Prelude.{Bool, true, false, cond, ◌&&◌, List, [], ◌∷◌, ℕ, ◌+◌, ◌*◌, ◌/◌, leb, length, set}
+use Rattle.std.specs.Prelude.{Bool, true, false, cond, not, ◌&&◌, List, [], ◌∷◌, ℕ, ◌+◌, ◌*◌, ◌/◌, leb, eqb, length, set}
 use Rattle.model.specs.Table.{Words}
-use Rattle.model.specs.Slots.{Slot}
+use Rattle.model.specs.Slots.{Slot, slot}
 use Rattle.model.specs.Reached.{filter}
 use Rattle.slots.specs.Scan.{keeps}
-use Rattle.listing.specs.declared.Progress.{Progress}
+use Rattle.model.specs.declared.Page.{Page}
 use Rattle.listing.specs.declared.Window.{Window}
 
 -- the lent slice as it stands, and how far the listing has come
@@ -13,7 +13,7 @@ pub record Sheet : Type 0 where
   pub count : ℕ
   pub more : Bool
 
-abbrev pub sheet : Words → Progress → Sheet
+abbrev pub sheet : Words → Page → Sheet
 sheet ws p = record { words = ws; count = p.count; more = p.more }
 
 abbrev pub begun : Words → Sheet
@@ -43,3 +43,7 @@ wants w k = keeps w.sibling w.bound k && (leb w.low k && leb k w.high)
 
 unfoldable pub wanted : Window → List Slot → List Slot
 wanted w ss = filter (λ (s : Slot). wants w s.key) ss
+
+-- a slot (k, p) in use more, with the pointer before it
+unfoldable pub slot_taken : Window → (before k p : ℕ) → Sheet → Sheet
+slot_taken w before k p x = cond (not (eqb p before) && wants w k) (taken (slot k p) x) x

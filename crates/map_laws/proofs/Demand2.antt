@@ -9,7 +9,7 @@ use native.Mathlib.Omega.{arith}
 use lib.Dec.{eqb}
 use borrow.Author.Tests.{eq-eqb, ne_eqb}
 use Rattle.model.specs.declared.Answer.TheVariants.{Found, Absent}
-use Rattle.model.specs.Table.{Words, at, root_word, no_collection}
+use Rattle.model.specs.Table.{Words, at, no_collection}
 use Rattle.model.specs.Slots.{Slot, recording, class, pointer_of, view_of}
 use Rattle.model.specs.Search.{answer_of, first_with, first_above, lookup, within, kept, Next}
 use Rattle.model.specs.Listing.{list, list_out}
@@ -29,11 +29,12 @@ use Rattle.tree_laws.proofs.MapLaw.{map-rising}
 use Rattle.tree_laws.proofs.Levels.{sound-orderly}
 use Rattle.sound_laws.proofs.Same.{map-same}
 use Rattle.sound_laws.proofs.Same as sl
-use Rattle.two_laws.proofs.AcceptedTwo.{there, accepted-iff}
-use Rattle.two_laws.proofs.SearchTwo.{sound-view, search-law}
+use Rattle.two_laws.proofs.AcceptedTwo.{accepted-iff}
+use Rattle.two_laws.proofs.SearchTwo.{search-law}
 use Rattle.two_laws.proofs.SearchTwo as by_map
 use Rattle.two_laws.proofs.SameTwo.{sound-same, settled-same}
 use Rattle.two_laws.proofs.MapsTwo.{accepted-steps}
+use Rattle.two_laws.proofs.CollectionTwo.{collection-sound}
 use Rattle.two_laws.proofs.JudgedTwo.{number-on-sound}
 use Rattle.model.specs.Demand2.{InMap, Has, IsNext, Listing, Names, Demand2}
 use Rattle.map_laws.proofs.Pairs.{mem-enter, mem-leave, mem-reclass, next-once}
@@ -89,7 +90,7 @@ module _ (n : ℕ) (t : Words) (q : Sound t) (h : no_collection n t ≡ false) w
   s = (sound-same t).1 q
 
   v : sound_view (view_of n t) ≡ true
-  v = sound-view (root_word n) t s (there n t h).1
+  v = collection-sound n t s h
 
   rises : rising 0 (map_of n t) ≡ true
   rises = map-rising (view_of n t) (sound-orderly (view_of n t) v)

@@ -104,7 +104,7 @@ module _ (v v' : View) (nodes-same : v'.nodes ≡ v.nodes) (root-same : v'.root 
       go i true e = rw e
       go i false e = past i (ltb-false i M e) ∙ rw e
 
--- ---- paths and runs of two orderly views that agree on the reached nodes
+-- ---- paths and runs of two orderly views that agree on the reached nodes: SamePaths of step_laws asks that all nodes agree, but not in all that they have
 
 module _ (v w : View) (a : Orderly v) (b : Orderly w) (r : w.root ≡ v.root) (agree : (n : ℕ) → Memᴰ n (reached v) → w.node n ≡ v.node n) (e : reached w ≡ reached v) where
   abbrev In : ℕ → Type 0

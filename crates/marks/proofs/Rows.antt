@@ -1,4 +1,4 @@
--- The first node of a row of numbers that is not marked, and the first after a node, going round.
+-- The first of a row of numbers that does not pass a test, and the first after a number, going round: of nodes marked, or reached.
 use mathlib.Core.Path.{◌≡◌, refl, ap, sym, ◌∙◌}
 use mathlib.Core.Bool.{Bool, true, false, not}
 use mathlib.Core.Logic.{◌≢◌, ⊎_elim}
@@ -8,49 +8,44 @@ use native.Mathlib.Numerals.{add-one, sub-one}
 use native.Mathlib.Omega.{arith}
 use lib.Dec.{leb, ltb}
 use lib.ListN.{length}
-use borrow.Author.Tests.{leb-true, leb-false, lt-ltb}
-use Rattle.model.specs.Table.{Words}
+use borrow.Author.Tests.{leb-true, leb-false, lt-ltb, le-ltb}
 use Rattle.model.specs.Reached.{filter, head_or}
 use Rattle.model.specs.Writes.{numbers}
-use Rattle.model.specs.Marks.{has}
-use Rattle.model.specs.Summary.{unmarked, free_after}
 use Rattle.list_laws.proofs.Tools.{same-or-not}
 use Rattle.list_laws.proofs.Filters.{filter-yes, filter-no, filter-append}
 
-module _ (ms : Words) where
-  pub unmarked-yes : (n : ℕ) (ns : List ℕ) → has ms n ≡ false → unmarked ms (n ∷ ns) ≡ n ∷ unmarked ms ns
-  unfolding unmarked
-  unmarked-yes n ns e = filter-yes _ n ns (ap not e)
+pub row-more : (n last : ℕ) → n ≤ last → numbers n (last + 1 - n) ≡ n ∷ numbers (suc n) (last + 1 - suc n)
+unfolding numbers
+row-more n last h = let e : last + 1 - n ≡ suc (last + 1 - suc n) = omega arith in rw e
 
-  pub unmarked-no : (n : ℕ) (ns : List ℕ) → has ms n ≡ true → unmarked ms (n ∷ ns) ≡ unmarked ms ns
-  unfolding unmarked
-  unmarked-no n ns e = filter-no _ n ns (ap not e)
+module _ (p : ℕ → Bool) where
+  -- those that do not pass
+  abbrev pub others : List ℕ → List ℕ
+  others ns = filter (λ (m : ℕ). not (p m)) ns
 
-  unmarked-append : (xs ys : List ℕ) → unmarked ms (xs ++ ys) ≡ unmarked ms xs ++ unmarked ms ys
-  unfolding unmarked
-  unmarked-append xs ys = filter-append _ xs ys
+  others-yes : (n : ℕ) (ns : List ℕ) → p n ≡ false → others (n ∷ ns) ≡ n ∷ others ns
+  others-yes n ns e = filter-yes _ n ns (ap not e)
+
+  others-no : (n : ℕ) (ns : List ℕ) → p n ≡ true → others (n ∷ ns) ≡ others ns
+  others-no n ns e = filter-no _ n ns (ap not e)
 
   -- ---- the first from n on, up to last
 
   abbrev pub first_from : (n last : ℕ) → ℕ
-  first_from n last = head_or 0 (unmarked ms (numbers n (last + 1 - n)))
-
-  row-more : (n last : ℕ) → n ≤ last → numbers n (last + 1 - n) ≡ n ∷ numbers (suc n) (last + 1 - suc n)
-  unfolding numbers
-  row-more n last h = let e : last + 1 - n ≡ suc (last + 1 - suc n) = omega arith in rw e
+  first_from n last = head_or 0 (others (numbers n (last + 1 - n)))
 
   pub first-none : (n last : ℕ) → last < n → first_from n last ≡ 0
-  unfolding numbers unmarked filter
+  unfolding numbers filter
   first-none n last h = let e : last + 1 - n ≡ 0 = omega arith in rw e
 
-  pub first-here : (n last : ℕ) → n ≤ last → has ms n ≡ false → first_from n last ≡ n
-  first-here n last h e = rw (row-more n last h, unmarked-yes n (numbers (suc n) (last + 1 - suc n)) e)
+  pub first-here : (n last : ℕ) → n ≤ last → p n ≡ false → first_from n last ≡ n
+  first-here n last h e = rw (row-more n last h, others-yes n (numbers (suc n) (last + 1 - suc n)) e)
 
-  pub first-later : (n last : ℕ) → n ≤ last → has ms n ≡ true → first_from (n + 1) last ≡ first_from n last
-  first-later n last h e = rw (add-one n, row-more n last h, unmarked-no n (numbers (suc n) (last + 1 - suc n)) e)
+  pub first-later : (n last : ℕ) → n ≤ last → p n ≡ true → first_from (n + 1) last ≡ first_from n last
+  first-later n last h e = rw (add-one n, row-more n last h, others-no n (numbers (suc n) (last + 1 - suc n)) e)
 
   -- past a run of reached ones
-  pub first-past : (r n last : ℕ) → ((m : ℕ) → n ≤ m → m < n + r → has ms m ≡ true) → first_from (n + r) last ≡ first_from n last
+  pub first-past : (r n last : ℕ) → ((m : ℕ) → n ≤ m → m < n + r → p m ≡ true) → first_from (n + r) last ≡ first_from n last
   first-past zero n last h = let e : n + 0 ≡ n = omega arith in rw e
   first-past (suc r) n last h =
       let e : n + suc r ≡ n + 1 + r = omega arith in
@@ -64,18 +59,18 @@ module _ (ms : Words) where
   pub record First (n last f : ℕ) : Type 0 where
     pub no-less : n ≤ f
     pub within : f ≤ last
-    pub free : has ms f ≡ false
-    pub before : (m : ℕ) → n ≤ m → m < f → has ms m ≡ true
+    pub free : p f ≡ false
+    pub before : (m : ℕ) → n ≤ m → m < f → p m ≡ true
 
   -- a marked one more in front
-  first-more : (n last f : ℕ) → has ms n ≡ true → First (n + 1) last f → First n last f
+  first-more : (n last f : ℕ) → p n ≡ true → First (n + 1) last f → First n last f
   first-more n last f e r = record { no-less = omega (arith, r.no-less); within = r.within; free = r.free; before = λ m a b. ⊎_elim (λ q. rw q e) (λ q. r.before m (omega (arith, q)) b) (same-or-not m n) }
 
   first-at : (c n last f : ℕ) → last + 1 - n ≡ c → f ≡ first_from n last → f ≢ 0 → First n last f
   first-at zero n last f w q z = absurd (z (q ∙ first-none n last (omega arith)))
-  first-at (suc c) n last f w q z = go (has ms n) refl (λ p. first-at c (n + 1) last f (omega arith) p z)
+  first-at (suc c) n last f w q z = go (p n) refl (λ y. first-at c (n + 1) last f (omega arith) y z)
     where
-      go : (b : Bool) → has ms n ≡ b → (f ≡ first_from (n + 1) last → First (n + 1) last f) → First n last f
+      go : (b : Bool) → p n ≡ b → (f ≡ first_from (n + 1) last → First (n + 1) last f) → First n last f
       go true e later = first-more n last f e (later (q ∙ sym (first-later n last (omega arith) e)))
       go false e later =
           let here : f ≡ n = q ∙ first-here n last (omega arith) e in
@@ -85,83 +80,89 @@ module _ (ms : Words) where
   first-is n last f q z = first-at (last + 1 - n) n last f refl q z
 
   -- where 0 says that there is none, all are marked
-  pub none-is : (n last f : ℕ) → 1 ≤ n → f ≡ first_from n last → f ≡ 0 → (m : ℕ) → n ≤ m → m ≤ last → has ms m ≡ true
+  pub none-is : (n last f : ℕ) → 1 ≤ n → f ≡ first_from n last → f ≡ 0 → (m : ℕ) → n ≤ m → m ≤ last → p m ≡ true
   none-is n last f l q z = none-at (last + 1 - n) n refl l (sym q ∙ z)
     where
-      none-at : (c k : ℕ) → last + 1 - k ≡ c → 1 ≤ k → first_from k last ≡ 0 → (m : ℕ) → k ≤ m → m ≤ last → has ms m ≡ true
+      none-at : (c k : ℕ) → last + 1 - k ≡ c → 1 ≤ k → first_from k last ≡ 0 → (m : ℕ) → k ≤ m → m ≤ last → p m ≡ true
       none-at zero k w h y m a b = absurd (omega arith)
-      none-at (suc c) k w h y m a b = here (has ms k) refl (λ p. none-at c (k + 1) (omega arith) (omega arith) p)
+      none-at (suc c) k w h y m a b = here (p k) refl (none-at c (k + 1) (omega arith) (omega arith))
         where
-          here : (b : Bool) → has ms k ≡ b → (first_from (k + 1) last ≡ 0 → (j : ℕ) → k + 1 ≤ j → j ≤ last → has ms j ≡ true) → has ms m ≡ true
+          here : (b : Bool) → p k ≡ b → (first_from (k + 1) last ≡ 0 → (j : ℕ) → k + 1 ≤ j → j ≤ last → p j ≡ true) → p m ≡ true
           here true e later = ⊎_elim (λ r. rw r e) (λ r. later (first-later k last (omega arith) e ∙ y) m (omega (arith, r)) b) (same-or-not m k)
           here false e later = let none : k ≡ 0 = sym (first-here k last (omega arith) e) ∙ y in absurd (omega arith)
 
   -- ---- going round
 
   -- where 0 says that there is none
-  empty-row : (n c : ℕ) → 1 ≤ n → head_or 0 (unmarked ms (numbers n c)) ≡ 0 → unmarked ms (numbers n c) ≡ []
+  empty-row : (n c : ℕ) → 1 ≤ n → head_or 0 (others (numbers n c)) ≡ 0 → others (numbers n c) ≡ []
   unfolding numbers
-  empty-row n zero l h = unfold unmarked filter in refl
-  empty-row n (suc c) l h = go (has ms n) refl (empty-row (suc n) c (omega arith))
+  empty-row n zero l h = unfold filter in refl
+  empty-row n (suc c) l h = go (p n) refl (empty-row (suc n) c (omega arith))
     where
-      go : (b : Bool) → has ms n ≡ b → (head_or 0 (unmarked ms (numbers (suc n) c)) ≡ 0 → unmarked ms (numbers (suc n) c) ≡ []) → unmarked ms (n ∷ numbers (suc n) c) ≡ []
-      go true e ih = unmarked-no n _ e ∙ ih (sym (ap (head_or 0) (unmarked-no n (numbers (suc n) c) e)) ∙ h)
-      go false e ih = let z : n ≡ 0 = sym (ap (head_or 0) (unmarked-yes n (numbers (suc n) c) e)) ∙ h in absurd (omega arith)
+      go : (b : Bool) → p n ≡ b → (head_or 0 (others (numbers (suc n) c)) ≡ 0 → others (numbers (suc n) c) ≡ []) → others (n ∷ numbers (suc n) c) ≡ []
+      go true e ih = others-no n _ e ∙ ih (sym (ap (head_or 0) (others-no n (numbers (suc n) c) e)) ∙ h)
+      go false e ih = let z : n ≡ 0 = sym (ap (head_or 0) (others-yes n (numbers (suc n) c) e)) ∙ h in absurd (omega arith)
 
   head-append : (xs ys : List ℕ) → head_or 0 xs ≢ 0 → head_or 0 (xs ++ ys) ≡ head_or 0 xs
   head-append [] ys z = absurd (z refl)
   head-append (x ∷ xs) ys z = refl
 
-  -- the two rows of `fresh`, as the code has them
-  rows : (N a : ℕ) → free_after N ms a ≡ head_or 0 (unmarked ms (numbers (a + 1) (N + 1 - (a + 1))) ++ unmarked ms (numbers 1 (a - 1 + 1 - 1)))
-  unfolding free_after
+  -- the first after a, going round from N to 1
+  abbrev pub after_round : (N a : ℕ) → ℕ
+  after_round N a = head_or 0 (others (numbers (suc a) (N - a) ++ numbers 1 (pred a)))
+
+  -- its two rows, as the code has them
+  rows : (N a : ℕ) → after_round N a ≡ head_or 0 (others (numbers (a + 1) (N + 1 - (a + 1))) ++ others (numbers 1 (a - 1 + 1 - 1)))
   rows N a =
       let e : N + 1 - (a + 1) ≡ N - a = omega arith in
       let f : a - 1 + 1 - 1 ≡ pred a = ap (λ (n : ℕ). n + 1 - 1) (sub-one a) ∙ omega arith in
-      rw (e, f, add-one a) (ap (head_or 0) (unmarked-append (numbers (suc a) (N - a)) (numbers 1 (pred a))))
+      rw (e, f, add-one a) (ap (head_or 0) (filter-append (λ (m : ℕ). not (p m)) (numbers (suc a) (N - a)) (numbers 1 (pred a))))
 
-  pub free-next : (N a n : ℕ) → n ≡ first_from (a + 1) (N) → n ≢ 0 → n ≡ free_after N ms a
-  free-next N a n e z = e ∙ sym (rows N a ∙ head-append (unmarked ms (numbers (a + 1) (N + 1 - (a + 1)))) _ (λ y. z (e ∙ y)))
+  pub round-next : (N a n : ℕ) → n ≡ first_from (a + 1) N → n ≢ 0 → n ≡ after_round N a
+  round-next N a n e z = e ∙ sym (rows N a ∙ head-append (others (numbers (a + 1) (N + 1 - (a + 1)))) _ (λ y. z (e ∙ y)))
 
-  pub free-round : (N a n r : ℕ) → n ≡ first_from (a + 1) (N) → n ≡ 0 → r ≡ first_from 1 (a - 1) → r ≡ free_after N ms a
-  free-round N a n r e z q = q ∙ sym (rows N a ∙ ap (λ (l : List ℕ). head_or 0 (l ++ unmarked ms (numbers 1 (a - 1 + 1 - 1)))) (empty-row (a + 1) (N + 1 - (a + 1)) (omega arith) (sym e ∙ z)))
+  pub round-on : (N a n r : ℕ) → n ≡ first_from (a + 1) N → n ≡ 0 → r ≡ first_from 1 (a - 1) → r ≡ after_round N a
+  round-on N a n r e z q = q ∙ sym (rows N a ∙ ap (λ (l : List ℕ). head_or 0 (l ++ others (numbers 1 (a - 1 + 1 - 1)))) (empty-row (a + 1) (N + 1 - (a + 1)) (omega arith) (sym e ∙ z)))
 
   -- ---- how many
 
   -- where the first is f, the others come after it
-  pub count-next : (c a last f : ℕ) → last + 1 - a ≡ c → f ≡ first_from a last → f ≢ 0 → length (unmarked ms (numbers a (last + 1 - a))) ≡ suc (length (unmarked ms (numbers (f + 1) (last + 1 - (f + 1)))))
+  pub count-next : (c a last f : ℕ) → last + 1 - a ≡ c → f ≡ first_from a last → f ≢ 0 → length (others (numbers a (last + 1 - a))) ≡ suc (length (others (numbers (f + 1) (last + 1 - (f + 1)))))
   count-next zero a last f w e z = absurd (z (e ∙ first-none a last (omega arith)))
-  count-next (suc c) a last f w e z = go (has ms a) refl (count-next c (suc a) last f (omega arith))
+  count-next (suc c) a last f w e z = go (p a) refl (count-next c (suc a) last f (omega arith))
     where
-      go : (b : Bool) → has ms a ≡ b → (f ≡ first_from (suc a) last → f ≢ 0 → length (unmarked ms (numbers (suc a) (last + 1 - suc a))) ≡ suc (length (unmarked ms (numbers (f + 1) (last + 1 - (f + 1))))))
-          → length (unmarked ms (numbers a (last + 1 - a))) ≡ suc (length (unmarked ms (numbers (f + 1) (last + 1 - (f + 1)))))
-      go true q ih = ap length (ap (unmarked ms) (row-more a last (omega arith)) ∙ unmarked-no a _ q) ∙ ih (e ∙ sym (ap (λ (k : ℕ). first_from k last) (sym (add-one a)) ∙ first-later a last (omega arith) q)) z
+      go : (b : Bool) → p a ≡ b → (f ≡ first_from (suc a) last → f ≢ 0 → length (others (numbers (suc a) (last + 1 - suc a))) ≡ suc (length (others (numbers (f + 1) (last + 1 - (f + 1))))))
+          → length (others (numbers a (last + 1 - a))) ≡ suc (length (others (numbers (f + 1) (last + 1 - (f + 1)))))
+      go true q ih = ap length (ap others (row-more a last (omega arith)) ∙ others-no a _ q) ∙ ih (e ∙ sym (ap (λ (k : ℕ). first_from k last) (sym (add-one a)) ∙ first-later a last (omega arith) q)) z
       go false q ih =
           let here : f ≡ a = e ∙ first-here a last (omega arith) q in
-          ap length (ap (unmarked ms) (row-more a last (omega arith)) ∙ unmarked-yes a _ q) ∙ ap (λ (k : ℕ). suc (length (unmarked ms (numbers k (last + 1 - k))))) (sym (add-one a) ∙ ap (λ (k : ℕ). k + 1) (sym here))
+          ap length (ap others (row-more a last (omega arith)) ∙ others-yes a _ q) ∙ ap (λ (k : ℕ). suc (length (others (numbers k (last + 1 - k))))) (sym (add-one a) ∙ ap (λ (k : ℕ). k + 1) (sym here))
 
   -- where there is none, it is 0
-  pub count-none : (a last : ℕ) → 1 ≤ a → 0 ≡ first_from a last → length (unmarked ms (numbers a (last + 1 - a))) ≡ 0
+  pub count-none : (a last : ℕ) → 1 ≤ a → 0 ≡ first_from a last → length (others (numbers a (last + 1 - a))) ≡ 0
   count-none a last l e = ap length (empty-row a (last + 1 - a) l (sym e))
 
   -- the first is no later than the last
   pub first-last : (c a last : ℕ) → last + 1 - a ≡ c → first_from a last ≤ last
   first-last zero a last w = omega (arith, first-none a last (omega arith))
-  first-last (suc c) a last w = go (has ms a) refl (first-last c (suc a) last (omega arith))
+  first-last (suc c) a last w = go (p a) refl (first-last c (suc a) last (omega arith))
     where
-      go : (b : Bool) → has ms a ≡ b → first_from (suc a) last ≤ last → first_from a last ≤ last
+      go : (b : Bool) → p a ≡ b → first_from (suc a) last ≤ last → first_from a last ≤ last
       go true q ih = omega (arith, ih, ap (λ (k : ℕ). first_from k last) (sym (add-one a)) ∙ first-later a last (omega arith) q)
       go false q ih = omega (arith, first-here a last (omega arith) q)
 
   -- of so many nodes, those after one that are not marked
   abbrev pub rest_after : (N after : ℕ) → ℕ
-  rest_after N after = length (unmarked ms (numbers (after + 1) (N + 1 - (after + 1))))
+  rest_after N after = length (others (numbers (after + 1) (N + 1 - (after + 1))))
 
   abbrev pub total : (N : ℕ) → ℕ
-  total N = length (unmarked ms (numbers 1 N))
+  total N = length (others (numbers 1 N))
 
   pub few-yes : (N after f k want : ℕ) → total N ≡ rest_after N after + k → f ≡ first_from (after + 1) N → f ≡ 0 → k < want → true ≡ ltb (total N) want
   few-yes N after f k want e q z h = sym (lt-ltb (total N) want (omega (arith, e, count-none (after + 1) N (omega arith) (sym z ∙ q))))
+
+  pub few-no : (N after k want : ℕ) → total N ≡ rest_after N after + k → want ≤ k → false ≡ ltb (total N) want
+  few-no N after k want e h = sym (le-ltb (total N) want (omega (arith, e)))
 
   pub few-next : (N after f k : ℕ) → total N ≡ rest_after N after + k → f ≡ first_from (after + 1) N → f ≢ 0 → total N ≡ rest_after N f + (k + 1)
   few-next N after f k e q z = omega (arith, e, count-next (N + 1 - (after + 1)) (after + 1) N f refl q z)

@@ -35,8 +35,10 @@ fn taken_run(marks: &[u64], n: usize) -> u64
     }
 }
 
-// The first node from first to last that is not marked; 0 if there is none. The bounds are required, not typed: as u16 nodes would be cast from
-// a table's words and back at each call, and the marks of a summary are a slice whose length goes by the table.
+// The first node from first to last that is not marked; 0 if there is none, here and up to `reach::fresh`, and no Option: an insertion has counted
+// that there are enough, and would only unwrap it, and the test of a split refuses 0 as it does any number out of range. The bounds are required,
+// not typed: as u16 nodes would be cast from a table's words and back at each call, and the marks of a summary are a slice whose length goes by
+// the table.
 pub fn first_free(marks: &[u64], first: u64, last: u64) -> u64
     requires last_bound { last ≤ 65535 }
     requires last_bound_2 { last < 64 * length marks.now }

@@ -79,7 +79,7 @@ unfolding Numbers.first_of Numbers.refusal_of
     Scripts.script_answer Scripts.script_out Scripts.form_script Scripts.script_number Scripts.cut_tables Scripts.agrees Scripts.bad_tables Scripts.along
     Scripts.over_all Scripts.met_text
     Wear.stored_to Wear.stores_to Wear.wear_of Wear.largest Wear.first_at Wear.join_all Wear.extents_of Wear.extent_words Wear.wear_number Wear.figures
-    Wear.worn Wear.lines_after Wear.pairs_after Wear.sum Wear.covered
+    Wear.worn Wear.lines_after Wear.pairs_after Wear.covered
     Pack.pairs_ok Pack.maps_in Pack.maps_ok Pack.pack_number Pack.packing Pack.pack_out
     Batch.batch
     Statistics.check_number Statistics.checking Statistics.hidden_slot Statistics.trailing_slots Statistics.left_in Statistics.tree_words Statistics.report

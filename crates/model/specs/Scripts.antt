@@ -5,6 +5,7 @@ use Rattle.std.specs.Prelude.{take, drop, replicate}
 use Rattle.model.specs.Results.{Outcome, Ranked, refused_with}
 use Rattle.model.specs.declared.Answer.{Answer}
 use Rattle.model.specs.declared.Answer.TheVariants.{Found, Absent, Refused}
+use Rattle.model.specs.Lists.{sum}
 use Rattle.model.specs.Table.{Words, at, all_zero, empty}
 use Rattle.model.specs.Slots.{Slot}
 use Rattle.model.specs.Search.{lookup, search, Next}
@@ -140,10 +141,6 @@ bad_tables x t =
     filter (λ (u : Words). not (agrees old u || agrees new u)) (cut_tables x t)
 
 -- ---- over a script, and over all scripts; dock 0
-
-abbrev pub sum : List ℕ → ℕ
-sum [] = 0
-sum (n ∷ ns) = n + sum ns
 
 -- what is counted at the accepted actions of a script, run from table t on
 unfoldable pub along : (Call → Words → ℕ) → Script → Words → ℕ

@@ -2,6 +2,7 @@
 use Rattle.std.specs.Prelude.{◌≡◌, Bool, false, cond, ◌&&◌, ◌||◌, List, [], ◌∷◌, ◌++◌, map, ℕ, suc, ◌+◌, ◌*◌, ◌/◌, ◌≤◌, ◌<◌, max, eqb, leb, ltb}
 use Rattle.std.specs.Prelude.{length, drop, Ok, Err}
 use Rattle.model.specs.Results.{Worn, refused_with, worn_with}
+use Rattle.model.specs.Lists.{sum}
 use Rattle.model.specs.Table.{Words, line, at}
 use Rattle.model.specs.Search.{filter}
 use Rattle.model.specs.SoundTest.{elem}
@@ -109,10 +110,6 @@ pairs_or (Ok w) old = w.pairs
 pairs_or (Err r) old = old
 
 -- ---- what holds of the figures
-
-unfoldable pub sum : Words → ℕ
-sum [] = 0
-sum (n ∷ ns) = n + sum ns
 
 -- word w lies in one of the extents
 unfoldable pub covered : ℕ → List Extent → Bool

@@ -111,7 +111,7 @@ pub enum Answer {
     Refused(u8),
 }
 
-// What a listing answers: how many pairs it wrote, and whether more were left.
+// What a listing answers: how many pairs it wrote, and whether more were left. No Option of the count: it is there whether more were left or not.
 #[derive(Clone, Copy)]
 pub struct Page {
     pub count: u64,

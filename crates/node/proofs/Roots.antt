@@ -1,17 +1,21 @@
 -- The header test and a collection's root: the definitions' values, from the facts that the functions' tests establish.
-use mathlib.Core.Bool.{Bool, true, false, cond, ◌&&◌, ◌||◌, false≢true}
-use mathlib.Core.Path.{◌≡◌, refl, sym, ◌∙◌}
+use mathlib.Core.Bool.{Bool, true, false, not, cond, ◌&&◌, ◌||◌, false≢true}
+use mathlib.Core.List.{[], ◌∷◌}
+use mathlib.Core.Path.{◌≡◌, refl, ap, sym, ◌∙◌}
 use mathlib.Core.Logic.{◌≢◌, ◌⊎◌, inl, inr}
 use Prim.Native.Nat.{ℕ, ◌≤◌}
 use native.Mathlib.Omega.{arith}
 use lib.Dec.{eqb, leb}
+use lib.ListN.{length, take, drop, replicate, length-take, length-drop}
+use lib.Pointwise.{pointwise}
 use borrow.Author.Tests.{ne_eqb, le-leb}
 use Rattle.std.specs.Prelude.{Result, Ok, Err}
 use Rattle.model.specs.declared.Refusal.{Refusal}
 use Rattle.model.specs.Results.{refused_with}
-use Rattle.model.specs.Table.{Words, at, in_range, header_ok, header_number, root_word, no_collection}
+use Rattle.model.specs.Table.{Words, at, all_zero, in_range, header_ok, header_number, root_word, no_collection}
 use Rattle.model.proofs.Numbers.{done-ok, done-err}
-use Rattle.list_laws.proofs.Tools.{decode, refuted, same-or-not}
+use Rattle.list_laws.proofs.Tools.{decode, refuted, same-or-not, not-iff, not-false-iff}
+use Rattle.table_laws.proofs.Words.{part-zero-iff}
 use Rattle.table_laws.proofs.Header.{HeaderFacts, header-iff, header-number-iff, header-number-refused}
 use Rattle.table_laws.proofs.Collections.{by-number}
 use Rattle.node.specs.Word.{root_in, number_in, found_root}
@@ -19,6 +23,23 @@ use Rattle.node.specs.Word.{root_in, number_in, found_root}
 -- the one that is not 1 is 2
 pub second-root : (n : ℕ) (t : Words) → no_collection n t ≡ false → n ≢ 1 → at t 3 ≡ at t (root_word n)
 second-root n t h z = by-number t (λ (m : ℕ). m ≢ 1 → at t 3 ≡ at t (root_word m)) (λ y. absurd (y refl)) (λ s y. refl) n h z
+
+-- ---- what the test of words 4 to 7 says
+
+pub zeros-as-one : (ws : Words) (n : ℕ) → length ws ≡ n → pointwise eqb ws (replicate n 0) ≡ all_zero ws
+unfolding all_zero
+zeros-as-one [] n e = rw (← e) refl
+zeros-as-one (w ∷ ws) n e = rw (← e) (ap (λ (b : Bool). eqb w 0 && b) (zeros-as-one ws (length ws) refl))
+
+module _ (t : Words) (l : 8 ≤ length t) where
+  zeros-tested : pointwise eqb (take 4 (drop 4 t)) (replicate 4 0) ≡ all_zero (take 4 (drop 4 t))
+  zeros-tested = zeros-as-one _ 4 (simp (length-take, length-drop) (omega arith))
+
+  pub zeros-yes : not (pointwise eqb (take 4 (drop 4 t)) (replicate 4 0)) ≡ false → all_zero (take 4 (drop 4 t)) ≡ true
+  zeros-yes e = sym zeros-tested ∙ (not-false-iff _).0 e
+
+  pub zeros-not : not (pointwise eqb (take 4 (drop 4 t)) (replicate 4 0)) ≡ true → HeaderFacts t → ⊥
+  zeros-not e f = false≢true (sym ((not-iff _).0 e) ∙ zeros-tested ∙ (part-zero-iff t 4 4).1 f.zeros)
 
 -- ---- what the test of word 3 says
 
@@ -120,6 +141,9 @@ found-ok n t {r} e = go (header_ok t) (no_collection n t) refl refl (done-ok _ (
     go true false h c q = (sym q.1, λ z. root-some n t h c (q.1 ∙ z))
     go true true h c q = absurd (omega (arith, q.0))
     go false b h c q = absurd (omega (arith, q.0))
+
+pub found-there : (n : ℕ) (t : Words) {r : ℕ} → found_root n t ≡ Ok r → (header_ok t ≡ true) × (no_collection n t ≡ false) × (r ≡ at t (root_word n))
+found-there n t e = let f = found-ok n t e in root-there n t _ f.0 f.1
 
 pub found-err : {T : Type 0} (n : ℕ) (t : Words) {r : Refusal} → found_root n t ≡ Err r → (number_in n t ≢ 0) × ◌≡◌ {A = Result T Refusal} (refused_with (number_in n t)) (Err r)
 unfolding found_root

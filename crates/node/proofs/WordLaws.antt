@@ -8,7 +8,8 @@ use lib.Dec.{ltb, lit<}
 use borrow.Author.Tests.{lt-ltb}
 use Rattle.model.specs.declared.Node.{Node}
 use Rattle.model.specs.Table.{Words, at, node_start, has_node, blank, node_from, node}
-use Rattle.table_laws.proofs.Words.{at-part, at-replicate}
+use Rattle.list_laws.proofs.Lists.{at-replicate}
+use Rattle.table_laws.proofs.Words.{at-part}
 use Rattle.node.specs.Word.{word_of}
 
 -- word j, where a field f of the record holds it

@@ -8,7 +8,8 @@ ghost use Rattle.node.specs.Word.{nodes_in, root_in, found_root, start_of, words
 
 use model::{MARK, Node, Outcome, Refusal};
 
-// The N of a slice of this length; 0 for a wrong length.
+// The N of a slice of this length; 0 for a wrong length. 0 as in the definition, and no Option: `make` and packing know that the length is right,
+// and would only unwrap it.
 pub fn nodes_in(len: usize) -> u64
     ensures { result ≡ nodes_in len }
 {
@@ -47,10 +48,8 @@ pub fn root(table: &[u64], collection: u64) -> u64
     if table[2] != n {
         return 0;
     }
-    for w in 4..8 {
-        if table[w] != 0 {
-            return 0;
-        }
+    if table[4..8] != [0; 4] {
+        return 0;
     }
     let first = table[1];
     if !in_range(n, first) {
@@ -60,6 +59,7 @@ pub fn root(table: &[u64], collection: u64) -> u64
     if !second_fits(n, second) {
         return 0;
     }
+    // The definitions count collections by this number, which is C's; a call refuses a wrong one at its place.
     match collection {
         1 => first,
         2 => second,
@@ -90,8 +90,8 @@ pub fn find_root(table: &[u64], collection: u64) -> Result<u64, Refusal>
 }
 
 // The root of a collection that the table has, if its header is right.
-// Each function that rests on a right header asks for it: the table is a lent slice, and a value that carried the fact would be made anew after
-// each write.
+// Each function that rests on a right header asks for it, here and in the crates above: document 01 lays down a lent `&[u64]` for the table, and a
+// struct of it with the fact as a ghost field would be no plainer: made for a call, and taken apart there.
 pub fn root_of(table: &[u64], collection: u64) -> u64
     requires table_value { header_ok table.now ≡ true }
     requires table_value_2 { no_collection collection table.now ≡ false }
@@ -125,7 +125,8 @@ pub fn has(table: &[u64], i: u64) -> bool
     i <= ((len - 8) / 32) as u64
 }
 
-// The index of node i's first word; 0 for a number that no node has.
+// The index of node i's first word; 0 for a number that no node has. 0 as in the definition, and no Option: `words` and a shift know that the
+// table has the node, and would only unwrap it.
 pub fn start(table: &[u64], i: u64) -> usize
     ensures { result ≡ start_of table.now i }
 {
@@ -182,7 +183,8 @@ pub fn read(table: &[u64], i: u64) -> Node
     }
 }
 
-// Word j of node i; 0 past the node's end and for a number that no node has.
+// Word j of node i; 0 past the node's end and for a number that no node has. 0 as in the definition and in a word that holds nothing, and no
+// Option: each caller would put 0 in its place, or unwrap it.
 pub fn word(table: &[u64], i: u64, j: usize) -> u64
     ensures { result ≡ word_of table.now i j }
 {

@@ -11,6 +11,7 @@ use lib.Seq.{get_or-set_same, get_or-set_other}
 use borrow.Author.Tests.{eqb-true, eqb-false, eq-eqb}
 use Rattle.model.specs.Table.{Words}
 use Rattle.list_laws.proofs.Tools.{same-or-not, refuted, or-right}
+use Rattle.list_laws.proofs.Lists.{at-replicate}
 use Rattle.std.specs.Prelude.{Ok, Err}
 use Rattle.numbers.specs.declared.Stop.TheVariants.{Known, Full}
 use Rattle.numbers.specs.Cells.{Entry, mixed, next_cell, tried, entered}
@@ -97,12 +98,7 @@ closed-still n cs x at r i (suc m) d f c = ⊎_elim (λ e. inl (same (λ z. d (s
     same z = get_or-set_other cs at i r 0 (λ e. z (ap (λ (k : ℕ). get_or cs k 0) e ∙ f))
 
 pub filed-none : (m n : ℕ) → Filed m n (replicate n 0) (λ (r : ℕ). false)
-filed-none m n = record { long = length-replicate n 0; known = λ k h. absurd (h (zeros n k)); closed = λ r d e. absurd (false≢true e) }
-  where
-    zeros : (c k : ℕ) → get_or (replicate c zero) k 0 ≡ 0
-    zeros zero k = refl
-    zeros (suc c) zero = refl
-    zeros (suc c) (suc k) = zeros c k
+filed-none m n = record { long = length-replicate n 0; known = λ k h. absurd (h (at-replicate n k)); closed = λ r d e. absurd (false≢true e) }
 
 pub filed-same : (m n : ℕ) (cs : Words) (f g : ℕ → Bool) → ((x : ℕ) → f x ≡ g x) → Filed m n cs f → Filed m n cs g
 filed-same m n cs f g e h = record { long = h.long; known = λ k d. sym (e (get_or cs k 0)) ∙ h.known k d; closed = λ r d q. h.closed r d (e r ∙ q) }

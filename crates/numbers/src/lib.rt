@@ -1,4 +1,5 @@
-// A set of numbers in a slice of cells, by open addressing: 0 is a free cell.
+// A set of numbers in a slice of cells, by open addressing: 0 is a free cell. A cell is a word and no Option, for gather lends cells out of the
+// words that C lends.
 #![tactic(auto)]
 
 ghost use Rattle.std.specs.Prelude.{◌≡◌, ◌<◌, length};

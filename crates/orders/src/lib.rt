@@ -19,7 +19,8 @@ impl From<u64> for Dock {
 
     ghost from_gives = { λ n d. d ≡ dock_of n };
 
-    // Any number but 0 is that of the unordered dock, as in `barred` of the model.
+    // Any number but 0 is that of the unordered dock, as in `barred` of the model: so `Pen::new` needs no clause, and calls test the number where
+    // they are judged.
     fn from(number: u64) -> Dock {
         match number {
             0 => Dock::Ordered,
@@ -51,7 +52,8 @@ impl Pen {
     }
 }
 
-// A write under way: the working copy, the lent list and how far it has come.
+// A write under way: the working copy, the lent list and how far it has come. Four calls write it out: a `new` would take the same three and
+// need a clause that it holds them, which each proof reads off what is written. What begins is the pen, which has a `new`.
 #[derive(Drop)]
 pub struct Writer<'a> {
     pub table: &'a mut [u64],

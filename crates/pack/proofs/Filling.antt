@@ -2,19 +2,21 @@
 use mathlib.Core.Path.{◌≡◌, refl, ap, sym, ◌∙◌}
 use mathlib.Core.Logic.{◌≢◌, ⊎_elim}
 use mathlib.Core.List.{List, [], ◌∷◌, ◌++◌, append_assoc}
-use Prim.Native.Nat.{ℕ, zero, suc, pred, min, ◌+◌, ◌-◌, ◌*◌, ◌/◌, ◌≤◌, ◌<◌}
+use Prim.Native.Nat.{ℕ, zero, suc, pred, min, ◌+◌, ◌-◌, ◌*◌, ◌/◌, ◌%◌, ◌≤◌, ◌<◌}
 use native.Mathlib.Omega.{arith}
 use lib.ListN.{length, set, take, drop, replicate, length-drop}
 use lib.Seq.{sets, sets-eq, drop-drop, take-take, length-take-le}
 use borrow.Rule.Slice.PartMut.{put_mid}
 use borrow.Author.Tests.{eq-eqb, ne_eqb, lt-ltb, le-ltb}
+use Rattle.std.proofs.lemmas.List.{drop-take}
 use Rattle.model.specs.Table.{MARK, Words, at}
 use Rattle.model.specs.Slots.{Slot, slot, slots_of, slot_words}
+use Rattle.list_laws.proofs.Slots.{length-pairs}
 use Rattle.list_laws.proofs.Tools.{compared}
 use Rattle.model.specs.Writes.{node_words}
 use Rattle.pack_laws.specs.Needed.{nodes_above, nodes_needed}
 use Rattle.pack_laws.proofs.Counts.{above-one}
-use Rattle.pack.proofs.Leaves.{take-drop, take-swap, slots-take, slots-drop}
+use Rattle.pack.proofs.Leaves.{take-swap, slots-take, slots-drop}
 use Rattle.pack.specs.Rows.{pairs_in, head_words, slotted, next_number, leaf_fence, children_from}
 
 -- ---- words
@@ -28,6 +30,10 @@ written-over xs vs ys w k e n h =
 pub node-made : (left sibling level fence : ℕ) (ss : List Slot) → head_words left sibling level fence ++ slotted ss ≡ node_words left sibling level fence ss
 unfolding node_words
 node-made left sibling level fence ss = refl
+
+-- div_ceil by 12, as the contracts count a row above
+pub row-above : (n r : ℕ) → r ≡ n / 12 + min 1 (n % 12) → r ≡ (n + 11) / 12
+row-above n r e = omega (arith, e)
 
 -- ---- slots
 
@@ -44,13 +50,9 @@ zeros-drop (suc n) [] h (suc m) k = ap (λ (l : Words). 0 ∷ l) (zeros-drop n [
 zeros-drop zero (x ∷ xs) h m k = absurd (omega arith)
 zeros-drop (suc n) (x ∷ xs) h m k = ap (λ (l : Words). x ∷ l) (zeros-drop n xs (omega arith) m (omega arith))
 
-pub length-slot-words : (ss : List Slot) → length (slot_words ss) ≡ 2 * length ss
-length-slot-words [] = refl
-length-slot-words (s ∷ ss) = let e = length-slot-words ss in omega arith
-
 pub filled : (ss : List Slot) → length ss ≤ 12 → sets (replicate 24 0) 0 (slot_words ss) ≡ slotted ss
 filled ss h =
-    let l = length-slot-words ss in
+    let l = length-pairs ss in
     let e : 0 + length (slot_words ss) ≡ length (slot_words ss) = omega arith in
     sets-eq (slot_words ss) (replicate 24 0) 0 (omega arith)
     ∙ ap (λ (n : ℕ). slot_words ss ++ drop n (replicate 24 0)) e
@@ -88,7 +90,7 @@ module _ (ws : Words) (m j : ℕ) where
       let d : 2 * (11 * j) ≡ 22 * j = omega arith in
       let s : 22 * j + n ≡ 2 * m = omega arith in
       let a : ss ≡ slots_of (take 22 (drop (2 * (11 * j)) (take (2 * m) ws))) = ap (take 11) (slots-drop (11 * j) (take (2 * m) ws)) ∙ slots-take 11 (drop (2 * (11 * j)) (take (2 * m) ws)) in
-      let b : drop (22 * j) (take (2 * m) ws) ≡ take n (drop (22 * j) ws) = sym (take-drop (22 * j) n ws ∙ ap (λ (i : ℕ). drop (22 * j) (take i ws)) s) in
+      let b : drop (22 * j) (take (2 * m) ws) ≡ take n (drop (22 * j) ws) = ap (λ (i : ℕ). drop (22 * j) (take i ws)) (sym s) ∙ drop-take (22 * j) n ws in
       let y : ss ≡ slots_of (take k (drop (22 * j) ws)) = a ∙ ap slots_of (ap (λ (i : ℕ). take 22 (drop i (take (2 * m) ws))) d ∙ ap (take 22) b ∙ taken n k (drop (22 * j) ws) q) in
       let c = length-take-le k (drop (22 * j) ws) (omega (arith, q, length-drop (22 * j) ws)) in
       let e : slot_words ss ≡ take k (drop (22 * j) ws) = ap slot_words y ∙ even-words (min (m - 11 * j) 11) _ (omega (arith, c, q)) in

@@ -9,6 +9,7 @@ use lib.Dec.{eqb}
 use lib.ListN.{length, get_or, take, drop, length-drop, drop_of_length-le}
 use lib.Seq.{sets, sets-eq, length-sets, take-append-le, take-take, drop_at, drop-drop, get_or-take, length-take-le}
 use borrow.Author.Tests.{ne_eqb, lt-ltb, le-ltb}
+use Rattle.std.proofs.lemmas.List.{drop-map, drop-take}
 use Rattle.model.specs.Table.{MARK, Words}
 use Rattle.model.specs.Slots.{Slot, slot, slots_of}
 use Rattle.model.specs.Writes.{node_words}
@@ -22,11 +23,6 @@ use Rattle.pack.specs.Rows.{pairs_in, next_number, leaf_fence, leaf_words}
 
 -- ---- lists
 
-pub map-drop : {A B : Type 0} (f : A → B) (n : ℕ) (xs : List A) → drop n (map f xs) ≡ map f (drop n xs)
-map-drop f zero xs = refl
-map-drop f (suc n) [] = refl
-map-drop f (suc n) (x ∷ xs) = map-drop f n xs
-
 -- group g of a list
 pub groups-at : {A : Type 0} (k f g : ℕ) (xs : List A) → length xs ≤ f → suc k * g < length xs → drop g (groups (suc k) f xs) ≡ take (suc k) (drop (suc k * g) xs) ∷ drop (suc g) (groups (suc k) f xs)
 unfolding groups
@@ -38,12 +34,6 @@ groups-at k (suc f) (suc g) (x ∷ xs) h l =
     let e : suc k * suc g ≡ suc k + suc k * g = let q = mul-suc (suc k) g in omega arith in
     groups-at k f g (drop k xs) (omega arith) (omega (arith, e))
     ∙ ap (λ (ys : List _). take (suc k) ys ∷ drop (suc g) (groups (suc k) f (drop k xs))) (drop-drop (suc k * g) (suc k) (x ∷ xs) ∙ ap (λ (i : ℕ). drop i (x ∷ xs)) (sym e))
-
-pub take-drop : {A : Type 0} (a b : ℕ) (l : List A) → take b (drop a l) ≡ drop a (take (a + b) l)
-take-drop zero b l = let e : 0 + b ≡ b = omega arith in rw e
-take-drop (suc a) zero [] = let e : suc a + 0 ≡ suc a = omega arith in rw e
-take-drop (suc a) (suc b) [] = let e : suc a + suc b ≡ suc (a + suc b) = omega arith in rw e
-take-drop (suc a) b (x ∷ l) = let e : suc a + b ≡ suc (a + b) = omega arith in rw e (take-drop a b l)
 
 pub take-swap : {A : Type 0} (a b : ℕ) (l : List A) → take a (take b l) ≡ take b (take a l)
 take-swap zero zero l = refl
@@ -87,10 +77,10 @@ bottom-at ps (suc i) h =
     let e : 11 + 11 * i ≡ 11 * suc i = omega arith in
     let g : drop i gs ≡ take 11 (drop (11 * suc i) ps) ∷ drop (suc i) gs = groups-at 10 (length ps) i (drop 11 ps) (omega arith) (omega arith)
     ∙ ap (λ (l : List Slot). take 11 l ∷ drop (suc i) gs) (drop-drop (11 * i) 11 ps ∙ ap (λ (m : ℕ). drop m ps) e) in
-    map-drop leaf_from i gs ∙ ap (map leaf_from) g
+    drop-map leaf_from i gs ∙ ap (map leaf_from) g
     ∙ ap (λ (k : ℕ). leaf_with k (take 11 (drop (11 * suc i) ps)) ∷ map leaf_from (drop (suc i) gs))
     (lowest-take (drop (11 * suc i) ps) ∙ sym (ap (λ (b : Bool). cond b 0 (lowest (drop (11 * suc i) ps))) (ne_eqb (suc i) 0 (λ z. omega arith))))
-    ∙ ap (λ (l : List Made). leaf_with (fence_in ps (suc i)) (take 11 (drop (11 * suc i) ps)) ∷ l) (sym (map-drop leaf_from (suc i) gs))
+    ∙ ap (λ (l : List Made). leaf_with (fence_in ps (suc i)) (take 11 (drop (11 * suc i) ps)) ∷ l) (sym (drop-map leaf_from (suc i) gs))
 
 pub next-is : (k e : ℕ) (xs : List Made) → e ≡ suc k + length xs → next (suc k) xs ≡ next_number k e
 unfolding next_number
@@ -142,7 +132,7 @@ slots-same t ws m j h = part t ∙ ap (λ (l : Words). slots_of (drop (22 * j) (
         let f : 22 * j + 22 ≡ 22 * suc j = omega arith in
         ap (take 11) (slots-drop (11 * j) (take (2 * m) l) ∙ ap (λ (i : ℕ). slots_of (drop i (take (2 * m) l))) e)
         ∙ slots-take 11 (drop (22 * j) (take (2 * m) l))
-        ∙ ap slots_of (take-drop (22 * j) 22 (take (2 * m) l) ∙ ap (λ (i : ℕ). drop (22 * j) (take i (take (2 * m) l))) f ∙ ap (drop (22 * j)) (take-swap (22 * suc j) (2 * m) l))
+        ∙ ap slots_of (sym (drop-take (22 * j) 22 (take (2 * m) l)) ∙ ap (λ (i : ℕ). drop (22 * j) (take i (take (2 * m) l))) f ∙ ap (drop (22 * j)) (take-swap (22 * suc j) (2 * m) l))
 
 fence-same : (t ws : Words) (j : ℕ) → take (22 * suc j) t ≡ take (22 * suc j) ws → leaf_fence t j ≡ leaf_fence ws j
 unfolding leaf_fence

@@ -5,6 +5,7 @@ use Prim.Native.Nat.{ℕ, zero, suc, pred, min, ◌+◌, ◌-◌, ◌*◌, ◌/�
 use native.Mathlib.Omega.{arith}
 use lib.ListN.{length, get_or, set, take, drop, length-drop, length-map, drop_of_length-le}
 use lib.Seq.{sets, sets-eq, length-sets, take-append-le, take-take, get_or-take, length-take-le}
+use Rattle.std.proofs.lemmas.List.{drop-map}
 use Rattle.model.specs.Table.{Words, at}
 use Rattle.model.specs.Slots.{Slot, slot}
 use Rattle.model.specs.Writes.{node_words}
@@ -14,7 +15,7 @@ use Rattle.pack_laws.proofs.Groups.{groups-few}
 use Rattle.pack_laws.proofs.Counts.{groups-many}
 use Rattle.pack.specs.Rows.{next_number, children_from, inner_words, row_over}
 use Rattle.pack.proofs.Filling.{length-children}
-use Rattle.pack.proofs.Leaves.{map-drop, groups-at, next-is}
+use Rattle.pack.proofs.Leaves.{groups-at, next-is}
 
 pub sets-append : (xs ys t : Words) (w : ℕ) → sets t w (xs ++ ys) ≡ sets (sets t w xs) (w + length xs) ys
 sets-append [] ys t w = let e : w + 0 ≡ w = omega arith in rw e
@@ -68,8 +69,8 @@ module _ (ws : Words) (k c : ℕ) where
       let xs = children_from ws k c in
       let n = length-children ws k c in
       let e : take 12 (drop (12 * g) xs) ≡ children_from ws (k + 12 * g) (many g) = ap (take 12) (children-drop ws (12 * g) k c) ∙ children-take ws 12 (k + 12 * g) (c - 12 * g) in
-      map-drop inner_from g (groups 12 c xs) ∙ ap (map inner_from) (groups-at 11 c g xs (omega arith) (omega arith) ∙ ap (λ (l : List Slot). l ∷ drop (suc g) (groups 12 c xs)) e)
-      ∙ ap (λ (l : List Made). inner_from (children_from ws (k + 12 * g) (many g)) ∷ l) (sym (map-drop inner_from (suc g) (groups 12 c xs)))
+      drop-map inner_from g (groups 12 c xs) ∙ ap (map inner_from) (groups-at 11 c g xs (omega arith) (omega arith) ∙ ap (λ (l : List Slot). l ∷ drop (suc g) (groups 12 c xs)) e)
+      ∙ ap (λ (l : List Made). inner_from (children_from ws (k + 12 * g) (many g)) ∷ l) (sym (drop-map inner_from (suc g) (groups 12 c xs)))
 
   inner-row : (l b j n : ℕ) (rest : List Made) → 1 ≤ n
       → row_words l (suc b) (inner_from (children_from ws j n) ∷ rest) ≡ inner_words ws j n l b (suc b + length rest) ++ row_words l (suc (suc b)) rest

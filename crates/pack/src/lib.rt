@@ -11,12 +11,13 @@ ghost use Rattle.pack.specs.Rows.{raised, pairs_after, packed_after};
 
 use model::{MARK, Node};
 
-// How many leaves so many pairs need.
+// How many leaves so many pairs need. The bound stands in three contracts, two of them public: a struct of the one number, with it as a ghost
+// field, would be made by each caller for each call.
 fn leaf_count(pairs: usize) -> usize
     requires { pairs ≤ 16777216 }
     ensures { result ≡ suc ((pairs - 1) / 11) }
 {
-    pairs.saturating_sub(1) / 11 + 1
+    pairs.div_ceil(11).max(1)
 }
 
 // How many nodes so many pairs need.
@@ -26,12 +27,13 @@ pub fn needed(pairs: usize) -> usize
 {
     let mut row = leaf_count(pairs);
     let mut total = row;
-    // No iterator: each row is counted from the one below.
+    // No iter::successors: its closure would take a contract, and its list a law that it ends and what its sum is, where the loop has one
+    // invariant.
     for _ in 0..15usize {
         if row <= 1 {
             return total;
         }
-        row = (row + 11) / 12;
+        row = row.div_ceil(12);
         total += row;
     }
     total
@@ -39,7 +41,8 @@ pub fn needed(pairs: usize) -> usize
 
 // ---- one node
 
-// The 32 words of a node.
+// The 32 words of a node. No From: the node and the array are both another crate's, and in model, where Node is, it would stand for this crate
+// alone, without its definition head_words.
 fn node_words(n: Node) -> [u64; 32]
     ensures { result ≡ head_words n.left n.sibling n.level n.fence ++ n.slots }
 {
@@ -61,7 +64,8 @@ fn put_words(nodes: &mut [u64], w: usize, words: [u64; 32])
     nodes[w..w + 32].copy_from_slice(&words);
 }
 
-// The number of the node after node k, in a row that ends before node e; 0 for none.
+// The number of the node after node k, in a row that ends before node e. 0 for none, and no None: it goes into the sibling's word, where 0
+// is none.
 fn next_number(k: usize, e: usize) -> u64
     requires { k < 16777216 }
     ensures { result ≡ next_number k e }
@@ -74,11 +78,13 @@ fn next_number(k: usize, e: usize) -> u64
 
 // ---- leaves
 
-// The slot words of leaf j.
+// The slot words of leaf j. That the pairs lie in the slice is a clause, here and below, for the slice is written at each leaf; the bounds below
+// 16777216 are of five numbers, none of them in three contracts.
 fn leaf_slots(nodes: &[u64], pairs: usize, j: usize) -> [u64; 24]
     requires { (2 * pairs ≤ length nodes.now) × (11 * j ≤ pairs) × (j < 16777216) }
     ensures { result ≡ slotted (take 11 (drop (11 * j) (pairs_in nodes.now pairs))) }
 {
+    // A node's words are a whole value of a fixed size: memory is fixed, there is no heap.
     let mut slots = [0u64; 24];
     let w = 22 * j;
     let count = (2 * pairs - w).min(22);
@@ -120,6 +126,7 @@ fn put_leaves(nodes: &mut [u64], before: usize, pairs: usize, leaves: usize)
         × (before + leaves < 16777216) }
     ensures { nodes.new ≡ row_words 0 (suc before) (bottom (pairs_in nodes.old pairs)) ++ drop (32 * leaves) nodes.old }
 {
+    // By place, and no chunks_mut: a leaf's words stand in the slice whose pairs it is made of.
     for j in (0..leaves).rev() {
         put_leaf(nodes, before, pairs, leaves, j);
     }
@@ -133,8 +140,9 @@ fn child_slots(nodes: &[u64], first: usize, count: usize) -> [u64; 24]
     requires { (count ≤ 12) × (32 * (first + count) ≤ length nodes.now) × (first < 16777216) }
     ensures { result ≡ slotted (children_from nodes.now first count) }
 {
+    // A whole value of a fixed size, as above.
     let mut slots = [0u64; 24];
-    // By place: a node's number is its place in the slice.
+    // By place: with chunks_exact and enumerate the slots would be written by place all the same, and the nodes cut to these first.
     for i in 0..count {
         let k = first + i;
         slots[2 * i] = nodes[32 * k + 3];
@@ -167,7 +175,8 @@ fn put_row(nodes: &mut [u64], first: usize, count: usize, level: u64) -> usize
         (row_words level (suc (first + count)) (row_over nodes.old first count)) }
     ensures value { result ≡ (count + 11) / 12 }
 {
-    let row = (count + 11) / 12;
+    let row = count.div_ceil(12);
+    // By place, and no chunks: a node goes into the slice whose nodes it is made of.
     for g in 0..row {
         put_inner(
             nodes,
@@ -189,6 +198,7 @@ fn put_rows(nodes: &mut [u64], before: usize, leaves: usize) -> usize
 {
     let mut first = before;
     let mut row = leaves;
+    // No iterator: each row is made from the one below, and first, row and the nodes change with it.
     for level in 1..16 {
         if row <= 1 {
             return first + row;

@@ -3,7 +3,7 @@ use mathlib.Core.Path.{◌≡◌, refl}
 use mathlib.Core.Bool.{true}
 use mathlib.Core.Logic.{◌≢◌, ◌⊎◌, inl, inr}
 use mathlib.Core.List.{List, [], ◌∷◌}
-use Prim.Native.Nat.{ℕ, zero, suc, pred, ◌+◌, ◌*◌, ◌-◌, ◌/◌, ◌≤◌}
+use Prim.Native.Nat.{ℕ, zero, suc, pred, ◌+◌, ◌-◌, ◌/◌, ◌≤◌}
 use native.Mathlib.Omega.{arith}
 use lib.ListN.{length, length-append, length-map}
 use borrow.Author.Tests.{eq-eqb, ne_eqb, eqb-false}
@@ -13,7 +13,7 @@ use Rattle.model.specs.Reached.{flat, head_or, kept, children, reached_from, lea
 use Rattle.model.specs.SoundTest.{settled_view, sound}
 use Rattle.model.specs.Writes.{repair_stores, repaired}
 use Rattle.list_laws.proofs.Tools.{Each, Each-map, Each-split, same-or-not}
-use Rattle.list_laws.proofs.Members.{each-both}
+use Rattle.list_laws.proofs.Members.{each-both, flat-short}
 use Rattle.table_laws.proofs.Header.{header-iff}
 use Rattle.tree_laws.proofs.Rows.{Good, no-children, each-leaf}
 use Rattle.tree_laws.proofs.Kept.{by-level}
@@ -38,12 +38,6 @@ above-step zero c = omega arith
 above-step (suc f) zero = omega arith
 above-step (suc f) (suc zero) = omega arith
 above-step (suc f) (suc (suc c)) = omega arith
-
--- a list of lists, each at most so long
-flat-short : {A B : Type 0} (g : A → List B) (k : ℕ) (xs : List A) → Each (λ (x : A). length (g x) ≤ k) xs → length (flat g xs) ≤ k * length xs
-unfolding flat
-flat-short g k [] h = omega arith
-flat-short g k (x ∷ xs) h = let e = length-append (g x) (flat g xs) in let ih = flat-short g k xs h.1 in let l = h.0 in omega arith
 
 module _ (v : View) where
   -- a row of width nodes over rows of so many nodes all told; packed, these need no more but for the rows above

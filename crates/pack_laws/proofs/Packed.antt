@@ -16,8 +16,9 @@ use Rattle.list_laws.proofs.Tools.{Each, Each-map, Each-append}
 use Rattle.list_laws.proofs.Counts.{numbers-each}
 use Rattle.tree_laws.proofs.Rows.{range-iff, linked-cons}
 use Rattle.tree_laws.proofs.Leftovers.{SettledTree}
+use Rattle.tree_laws.proofs.Cover.{below-high}
 use Rattle.model.specs.Packing.{Made, next, bottom, numbered, row_above, rows_above, packed, rows_words, count_rows}
-use Rattle.pack_laws.proofs.Stacks.{way_to, ways_of, Plain, Fits, Stack, stack-leaves, stack-up, stack-map, stack-settled, lt-below, below-zero}
+use Rattle.pack_laws.proofs.Stacks.{way_to, ways_of, Plain, Fits, Stack, stack-leaves, stack-up, stack-map, stack-settled, below-zero}
 use Rattle.pack_laws.proofs.Standing.{Standing, RowsStanding, rows-standing}
 use Rattle.pack_laws.proofs.Groups.{Before, LeafRow, ways_made, above-ways, above-few, above-some, rows-writable, bottom-slots, bottom-left, bottom-writable, bottom-row}
 
@@ -64,7 +65,7 @@ module _ (v : View) where
   before-below : (l n : ℕ) (xs : List Made) → Standing v l n xs → (k : ℕ) → Before k xs → below v (head_or 0 (numbers n (length xs))) k ≡ true
   unfolding numbers
   before-below l n [] s k b = below-zero v k
-  before-below l n (x ∷ xs) s k b = lt-below v n k (omega (arith, fence-eq s.0))
+  before-below l n (x ∷ xs) s k b = below-high v k n (omega (arith, fence-eq s.0))
 
   row-fits : (l n : ℕ) (xs : List Made) → Standing v l n xs → LeafRow xs → Fits v (numbers n (length xs))
   unfolding numbers

@@ -3,10 +3,9 @@ use mathlib.Core.Path.{◌≡◌, refl, ap, sym, ◌∙◌}
 use mathlib.Core.Bool.{true}
 use mathlib.Core.Logic.{◌≢◌}
 use mathlib.Core.List.{List, [], ◌∷◌, ◌++◌, map, map-append, append-nil}
-use Prim.Native.Nat.{ℕ, suc, ◌≤◌, ◌<◌}
+use Prim.Native.Nat.{ℕ, suc, ◌≤◌}
 use native.Mathlib.Omega.{arith}
-use lib.Dec.{eqb, ltb}
-use borrow.Author.Tests.{ne_eqb, ltb-true}
+use lib.Dec.{eqb}
 use Rattle.model.specs.Table.{MARK, in_range}
 use Rattle.model.specs.Slots.{Slot, slot, View, height}
 use Rattle.model.specs.Search.{below, within}
@@ -18,6 +17,7 @@ use Rattle.list_laws.proofs.Members.{flat-each, mem-each}
 use Rattle.list_laws.proofs.Lists.{each-map}
 use Rattle.list_laws.proofs.Filters.{filter-all}
 use Rattle.tree_laws.proofs.Rows.{Good, not-zero, first-child, linked-cons, each-leaf}
+use Rattle.tree_laws.proofs.Cover.{below-high, below-true}
 use Rattle.tree_laws.proofs.Rising.{rising-cons, rising-apart}
 use Rattle.tree_laws.proofs.Kept.{each-first}
 use Rattle.tree_laws.proofs.Levels.{RootFacts, once-follows}
@@ -54,14 +54,6 @@ module _ (v : View) where
   unfolding below
   below-zero k = refl
 
-  below-lt : (m k : ℕ) → m ≢ 0 → below v m k ≡ true → k < (v.node m).fence
-  unfolding below
-  below-lt m k z h = ltb-true k (v.node m).fence (rw (ne_eqb m 0 z) at h)
-
-  pub lt-below : (m k : ℕ) → k < (v.node m).fence → below v m k ≡ true
-  unfolding below
-  lt-below m k h = or-right (eqb m 0) (ltb k (v.node m).fence) (simp decode (omega arith))
-
   record Stands (n : ℕ) : Type 0 where
     sib : sibling_ok v n ≡ true
     keeps : kept v n ≡ (v.node n).shown
@@ -70,7 +62,7 @@ module _ (v : View) where
   sib-ok : (d n : ℕ) (ns : List ℕ) → (v.node n).level ≡ d → Each (Plain v d) ns → (v.node n).sibling ≡ head_or 0 ns → below v (head_or 0 ns) (v.node n).fence ≡ true → sibling_ok v n ≡ true
   unfolding sibling_ok
   sib-ok d n [] l p e b = rw e
-  sib-ok d n (m ∷ ms) l p e b = rw e (or-right (eqb m 0) _ (simp decode (p.0.range, (p.0.level ∙ sym l, below-lt m (v.node n).fence (not-zero v m p.0.range) b))))
+  sib-ok d n (m ∷ ms) l p e b = rw e (or-right (eqb m 0) _ (simp decode (p.0.range, (p.0.level ∙ sym l, below-true v (v.node n).fence m (not-zero v m p.0.range) b))))
 
   fits-row : (d : ℕ) (ns : List ℕ) → Each (Plain v d) ns → linked v ns 0 ≡ true → Fits v ns → Each Stands ns
   unfolding kept
@@ -85,7 +77,7 @@ module _ (v : View) where
   fits-rise d low [] p f h = unfold rising in refl
   fits-rise d low (n ∷ []) p f h = (rising-cons low (way_to v n) []).1 (h, unfold rising in refl)
   fits-rise d low (n ∷ m ∷ ms) p f h = (rising-cons low (way_to v n) (map (way_to v) (m ∷ ms))).1
-      (h, fits-rise d (suc (v.node n).fence) (m ∷ ms) p.1 f.1 (omega (arith, below-lt m (v.node n).fence (not-zero v m p.1.0.range) f.0.0)))
+      (h, fits-rise d (suc (v.node n).fence) (m ∷ ms) p.1 f.1 (omega (arith, below-true v (v.node n).fence m (not-zero v m p.1.0.range) f.0.0)))
 
   -- ---- an inner row over the row below it
 
@@ -102,7 +94,7 @@ module _ (v : View) where
   ways-fit low (n ∷ []) r = (mem-each (λ (s : Slot). below v 0 s.key ≡ true) (ways_of v n) (λ s m. below-zero s.key), tt)
   ways-fit low (n ∷ m ∷ ms) r =
       let a = rising-apart low (ways_of v n) (flat (ways_of v) (m ∷ ms)) r in
-      (Each-map _ (λ (s : Slot). below v m s.key ≡ true) (ways_of v n) (λ s h. lt-below m s.key h.0) a.between, ways-fit low (m ∷ ms) a.right)
+      (Each-map _ (λ (s : Slot). below v m s.key ≡ true) (ways_of v n) (λ s h. below-high v s.key m h.0) a.between, ways-fit low (m ∷ ms) a.right)
 
   -- the child after n's last is the first of the next node
   next-child : (d n : ℕ) (ns : List ℕ) → Each (Plain v (suc d)) ns → (v.node n).sibling ≡ head_or 0 ns → next_child v n ≡ head_or 0 (pointers (flat (ways_of v) ns))

@@ -4,8 +4,8 @@ use mathlib.Core.Bool.{true}
 use mathlib.Core.List.{List, [], ◌∷◌, ◌++◌, append_assoc}
 use Prim.Native.Nat.{ℕ, suc, ◌+◌, ◌*◌, ◌≤◌}
 use native.Mathlib.Omega.{arith}
-use lib.ListN.{length, set, length-append}
-use lib.Seq.{sets, sets-eq, take-append_seam, drop-append_seam, drop-append-add}
+use lib.ListN.{length, length-append}
+use lib.Seq.{sets-eq, take-append_seam, drop-append_seam, drop-append-add}
 use Rattle.model.specs.Table.{Words, node_start, has_node}
 use Rattle.model.specs.Slots.{Slot, View, node_view, view_from}
 use Rattle.model.specs.Orders.{apply}
@@ -14,13 +14,9 @@ use Rattle.list_laws.proofs.Tools.{Each}
 use Rattle.view_laws.proofs.NodeViews.{new_node}
 use Rattle.table_laws.proofs.Nodes.{has-node-iff}
 use Rattle.slot_laws.proofs.Hiding.{AllShown}
+use Rattle.word_laws.proofs.NodeStores.{put-all-sets}
 use Rattle.word_laws.proofs.NewNodes.{new-node, length-node-words}
 use Rattle.model.specs.Packing.{Made, next, row_words, rows_words, count_rows}
-
-put-all-sets : (w : ℕ) (ws t : Words) → apply (put_all w ws) t ≡ sets t w ws
-unfolding put_all apply
-put-all-sets w [] t = refl
-put-all-sets w (x ∷ ws) t = put-all-sets (suc w) ws (set t w x)
 
 -- words stored where they stand
 put-same : (pre ws post : Words) → apply (put_all (length pre) ws) (pre ++ (ws ++ post)) ≡ pre ++ (ws ++ post)

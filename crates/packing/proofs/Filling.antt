@@ -12,13 +12,14 @@ use Rattle.model.specs.Slots.{Slot, slots_of}
 use Rattle.model.specs.Reached.{Maps}
 use Rattle.model.specs.Packing.{packed_count, packed_words, packed_both}
 use Rattle.model.specs.Pack.{maps_in}
+use Rattle.list_laws.proofs.Slots.{pairs-count}
 use Rattle.pack_laws.specs.Needed.{nodes_needed}
 use Rattle.pack_laws.proofs.Fresh.{words-long}
 use Rattle.pack.specs.Rows.{pairs_in, pairs_after, packed_after}
 use Rattle.pack.proofs.Leaves.{slots-take}
 use Rattle.pack.proofs.Raising.{room-facts}
 use Rattle.packing.specs.Parts.{second_root, packed_nodes}
-use Rattle.packing.proofs.Fits.{slots-half, slice-needs, both-beside}
+use Rattle.packing.proofs.Fits.{slice-needs, both-beside}
 
 -- ---- one collection
 
@@ -27,7 +28,7 @@ pairs-long ws = length-take-le (2 * (length ws / 2)) ws (omega arith)
 
 -- the first words of a slice hold all its pairs
 first-pairs : (ws : Words) → slots_of (take (2 * (length ws / 2)) ws) ≡ slots_of ws
-first-pairs ws = sym (slots-take (length ws / 2) ws) ∙ take_all (length ws / 2) (slots_of ws) (omega (arith, slots-half ws))
+first-pairs ws = sym (slots-take (length ws / 2) ws) ∙ take_all (length ws / 2) (slots_of ws) (omega (arith, pairs-count ws))
 
 module _ (words pairs : Words) (before top : ℕ) (long : length words ≡ 32 * top) (few : top ≤ 65535) (room : before + nodes_needed (length pairs / 2) ≤ top) where
   abbrev w : ℕ

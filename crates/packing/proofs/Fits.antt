@@ -1,37 +1,37 @@
 -- Whether the packing fits, by the lengths of the slices; whether the pairs of each collection may be its map.
-use mathlib.Core.Path.{◌≡◌, refl, ap, sym, ◌∙◌}
+use mathlib.Core.Path.{◌≡◌, ap, sym, ◌∙◌}
 use mathlib.Core.Bool.{Bool, true, false, ◌&&◌}
-use mathlib.Core.Logic.{◌≢◌}
-use mathlib.Core.List.{[], ◌∷◌}
-use Prim.Native.Nat.{ℕ, min, ◌+◌, ◌/◌, ◌≤◌, ◌<◌}
+use mathlib.Core.Logic.{◌≢◌, ⊎_elim}
+use Prim.Native.Nat.{ℕ, min, ◌+◌, ◌/◌, ◌≤◌}
 use native.Mathlib.Omega.{arith}
 use lib.Dec.{ltb}
 use lib.ListN.{length}
 use borrow.Author.Tests.{eq-eqb, ne_eqb, lt-ltb, ltb-true}
+use Rattle.std.proofs.lemmas.Bool.{cases_lt}
 use Rattle.model.specs.Table.{Words}
 use Rattle.model.specs.Slots.{slots_of}
 use Rattle.model.specs.Reached.{unless_lacking}
 use Rattle.model.specs.Packing.{packed_count, of_second, packed_both}
 use Rattle.model.specs.Pack.{pairs_ok, maps_in, maps_ok}
+use Rattle.list_laws.proofs.Slots.{pairs-count}
 use Rattle.list_laws.proofs.Tools.{same-test}
 use Rattle.pack_laws.specs.Needed.{nodes_needed}
 use Rattle.pack_laws.proofs.Counts.{count-needed}
 
 -- ---- the nodes needed
 
-pub needed-many : (pairs : ℕ) → 16777216 < pairs → 65536 ≡ min 65536 (nodes_needed pairs)
+needed-many : (pairs : ℕ) → 16777216 ≤ pairs → 65536 ≤ nodes_needed pairs
 unfolding nodes_needed
 needed-many pairs h = omega (arith, h)
 
--- half of the words, a last one left aside
-pub slots-half : (ws : Words) → length (slots_of ws) ≡ length ws / 2
-unfolding slots_of
-slots-half [] = refl
-slots-half (k ∷ []) = refl
-slots-half (k ∷ p ∷ ws) = let e = slots-half ws in omega arith
+-- the pairs that are counted, p of them, need as many nodes, or more than any table has
+pub needed-capped : (pairs p n : ℕ) → p ≡ min pairs 16777216 → n ≡ nodes_needed p → min n 65536 ≡ min 65536 (nodes_needed pairs)
+needed-capped pairs p n e f =
+    ⊎_elim (λ h. let a = needed-many pairs (omega (arith, h)) in let b = needed-many p (omega (arith, e, h)) in omega (arith, a, b, f))
+    (λ h. let same : p ≡ pairs = omega (arith, e, h) in let g : n ≡ nodes_needed pairs = rw same at f in omega (arith, g)) (cases_lt 16777216 pairs)
 
 pub slice-needs : (ws : Words) → packed_count (slots_of ws) ≡ nodes_needed (length ws / 2)
-slice-needs ws = count-needed (slots_of ws) ∙ ap nodes_needed (slots-half ws)
+slice-needs ws = count-needed (slots_of ws) ∙ ap nodes_needed (pairs-count ws)
 
 module _ (n : ℕ) (pairs loans : Words) where
   pub both-alone : n ≡ 1 → packed_both (maps_in n pairs loans) ≡ nodes_needed (length pairs / 2)

@@ -3,6 +3,12 @@ use Rattle.std.specs.Prelude.{List, [], ◌∷◌, ◌++◌, ℕ, suc, ◌+◌, 
 use Rattle.model.specs.Table.{Words}
 use Rattle.model.specs.Reached.{Maps}
 use Rattle.model.specs.Packing.{packed_count, packed_words, of_second, packed_both}
+use Rattle.model.specs.Pack.{maps_in}
+use Rattle.packing.specs.declared.Given.{Given}
+
+-- the maps that are handed in
+abbrev pub given : Given → Maps
+given g = maps_in g.collections g.pairs.now g.loans.now
 
 -- the header of a table of n nodes with these roots, 0 for no second one
 abbrev pub header_words : (root second n : ℕ) → Words

@@ -5,10 +5,10 @@
 ghost use Rattle.std.specs.Prelude.{◌≡◌, ◌++◌, ℕ, min, ◌+◌, ◌*◌, ◌/◌, ◌≤◌, ltb, length, drop};
 ghost use Rattle.model.specs.Slots.{slots_of};
 ghost use Rattle.model.specs.Packing.{packed_count, packed_both, packed_table};
-ghost use Rattle.model.specs.Pack.{maps_in, maps_ok, packing, pack_out};
+ghost use Rattle.model.specs.Pack.{maps_ok, packing, pack_out};
 ghost use Rattle.pack_laws.specs.Needed.{nodes_needed};
 ghost use Rattle.pack.specs.Rows.{packed_after};
-ghost use Rattle.packing.specs.Parts.{header_words, second_root, packed_nodes};
+ghost use Rattle.packing.specs.Parts.{given, header_words, second_root, packed_nodes};
 
 use model::{Outcome, Refusal};
 
@@ -18,31 +18,37 @@ use model::{Outcome, Refusal};
 fn needed_for(words: usize) -> usize
     ensures { result ≡ min 65536 (nodes_needed (words / 2)) }
 {
-    let pairs = words / 2;
-    if 16777216 < pairs {
-        return 65536;
-    }
-    pack::needed(pairs).min(65536)
+    pack::needed((words / 2).min(16777216)).min(65536)
 }
 
-// Whether the pairs need more than so many nodes. Pairs and loans are two slices that C lends.
-fn outgrows(top: usize, collections: u64, pairs: &[u64], loans: &[u64]) -> bool
+// The pairs of each collection, as C hands them in: loans are looked at only if collections is not 1. With an Option of the loans one field
+// goes, but the call would make it by a test of collections, and outgrows and fill_both match it in place of their test of collections.
+#[derive(Clone, Copy)]
+struct Given<'a> {
+    collections: u64,
+    pairs: &'a [u64],
+    loans: &'a [u64],
+}
+
+// Whether the pairs need more than so many nodes. A struct with the bound on top as a ghost field would be for this function and put_table
+// alone: for fill and fill_both top is a ghost number.
+fn outgrows(top: usize, maps: Given<'_>) -> bool
     requires { top ≤ 65535 }
-    ensures { result ≡ ltb top (packed_both (maps_in collections pairs.now loans.now)) }
+    ensures { result ≡ ltb top (packed_both (given maps.entry)) }
 {
-    let one = needed_for(pairs.len());
-    if collections == 1 {
+    let one = needed_for(maps.pairs.len());
+    if maps.collections == 1 {
         return top < one;
     }
-    let two = needed_for(loans.len());
+    let two = needed_for(maps.loans.len());
     top < one + two
 }
 
 // Whether the pairs of each collection may be its map.
-fn maps_ok(collections: u64, pairs: &[u64], loans: &[u64]) -> bool
-    ensures { result ≡ maps_ok (maps_in collections pairs.now loans.now) }
+fn maps_ok(maps: Given<'_>) -> bool
+    ensures { result ≡ maps_ok (given maps.entry) }
 {
-    pairs::ok(pairs) && (collections == 1 || pairs::ok(loans))
+    pairs::ok(maps.pairs) && (maps.collections == 1 || pairs::ok(maps.loans))
 }
 
 // ---- the table
@@ -68,19 +74,19 @@ pub struct Both<T> {
     pub two: T,
 }
 
-// The nodes of the table, collection 1 first; the answer is the roots' numbers, 0 for no second one.
-fn fill_both(words: &mut [u64], collections: u64, pairs: &[u64], loans: &[u64]) -> Both<usize>
+// The nodes of the table, collection 1 first; the answer is the roots' numbers. 0 for no second one, and no None: it goes into header word 3.
+fn fill_both(words: &mut [u64], maps: Given<'_>) -> Both<usize>
     ghost top: { ℕ }
-    requires { (length words.old ≡ 32 * top) × (top ≤ 65535) × (packed_both (maps_in collections pairs.now loans.now) ≤ top) }
-    ensures words_after { words.new ≡ packed_nodes top (maps_in collections pairs.now loans.now) }
-    ensures one_value { (result.one ≡ packed_count (maps_in collections pairs.now loans.now).one)
-        × (result.two ≡ second_root (maps_in collections pairs.now loans.now)) }
+    requires { (length words.old ≡ 32 * top) × (top ≤ 65535) × (packed_both (given maps) ≤ top) }
+    ensures words_after { words.new ≡ packed_nodes top (given maps.entry) }
+    ensures one_value { (result.one ≡ packed_count (given maps.entry).one)
+        × (result.two ≡ second_root (given maps.entry)) }
 {
-    let one = fill(words, 0, pairs);
-    if collections == 1 {
+    let one = fill(words, 0, maps.pairs);
+    if maps.collections == 1 {
         return Both { one, two: 0 };
     }
-    let two = fill(words, one, loans);
+    let two = fill(words, one, maps.loans);
     Both { one, two }
 }
 
@@ -93,11 +99,11 @@ pub fn put_header(table: &mut [u64], roots: Both<usize>, top: u64)
 }
 
 // The whole table, if the packing fits.
-fn put_table(table: &mut [u64], top: u64, collections: u64, pairs: &[u64], loans: &[u64])
-    requires { (length table.old ≡ 8 + 32 * top) × (top ≤ 65535) × (packed_both (maps_in collections pairs.now loans.now) ≤ top) }
-    ensures { table.new ≡ packed_table top (maps_in collections pairs.now loans.now) }
+fn put_table(table: &mut [u64], top: u64, maps: Given<'_>)
+    requires { (length table.old ≡ 8 + 32 * top) × (top ≤ 65535) × (packed_both (given maps) ≤ top) }
+    ensures { table.new ≡ packed_table top (given maps.entry) }
 {
-    let roots = fill_both(&mut table[8..], collections, pairs, loans);
+    let roots = fill_both(&mut table[8..], maps);
     put_header(table, roots, top);
 }
 
@@ -110,12 +116,17 @@ pub fn pack_table(table: &mut [u64], collections: u64, pairs: &[u64], loans: &[u
 {
     node::may_make(table, collections)?;
     let top = node::nodes_in(table.len());
-    if outgrows(top as usize, collections, pairs, loans) {
+    let maps = Given {
+        collections,
+        pairs,
+        loans,
+    };
+    if outgrows(top as usize, maps) {
         return Err(Refusal::NoNodes);
     }
-    if !maps_ok(collections, pairs, loans) {
+    if !maps_ok(maps) {
         return Err(Refusal::BadPairs);
     }
-    put_table(table, top, collections, pairs, loans);
+    put_table(table, top, maps);
     Ok(())
 }

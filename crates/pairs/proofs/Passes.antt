@@ -12,9 +12,9 @@ use Rattle.model.specs.Table.{Words, at}
 use Rattle.model.specs.Slots.{Slot, slots_of, recording, recording_of}
 use Rattle.model.specs.Reached.{filter}
 use Rattle.model.specs.SoundTest.{elem, distinct}
-use Rattle.list_laws.proofs.Tools.{and-iff, refuted, same-test}
-use Rattle.list_laws.proofs.Members.{mem-each, elem-iff}
-use Rattle.list_laws.proofs.Filters.{filter-yes, filter-no, filter-all, filter-none, mem-filter}
+use Rattle.list_laws.proofs.Tools.{and-iff, refuted}
+use Rattle.list_laws.proofs.Members.{mem-each}
+use Rattle.list_laws.proofs.Filters.{elem-filter, filter-yes, filter-no, filter-all, filter-none}
 use Rattle.list_laws.proofs.Distinct.{distinct-cons}
 use Rattle.std.specs.Prelude.{Ok, Err}
 use Rattle.numbers.specs.declared.Stop.{Stop}
@@ -56,11 +56,6 @@ module _ {p : ℕ → Bool} {o : Outcome} {ws cs : Words} (k : Entering p o ws c
     enter-ends s a = ends later o (entered_if p cs r) e after enter-next q (Err s) (stop-last s) a
 
 -- ---- the passes
-
-elem-filter : (p : ℕ → Bool) (x : ℕ) (xs : List ℕ) → p x ≡ true → elem x (filter p xs) ≡ elem x xs
-elem-filter p x xs e =
-    same-test (elem x (filter p xs)) (elem x xs)
-    ((λ h. (elem-iff x xs).1 ((mem-filter p x xs).0 ((elem-iff x (filter p xs)).0 h)).0), λ h. (elem-iff x (filter p xs)).1 ((mem-filter p x xs).1 ((elem-iff x xs).0 h, e)))
 
 once-cons : (p : ℕ → Bool) (x : ℕ) (xs : List ℕ) → (distinct (filter p (x ∷ xs)) ≡ true) ↔ ((p x ≡ true → elem x xs ≡ false) × (distinct (filter p xs) ≡ true))
 once-cons p x xs = go (p x) refl

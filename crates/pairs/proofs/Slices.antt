@@ -5,10 +5,8 @@ use mathlib.Core.List.{List, [], ◌∷◌, ◌++◌, map}
 use Prim.Native.Nat.{ℕ, zero, suc, ◌+◌, ◌-◌, ◌*◌, ◌/◌, ◌≤◌, ◌<◌}
 use native.Mathlib.Omega.{arith}
 use lib.Dec.{eqb, ltb}
-use lib.ListN.{length, get_or, drop}
+use lib.ListN.{length, drop}
 use borrow.Author.Tests.{le-leb, ltb-true, ltb-false}
-use Rattle.std.specs.Borrow.{Bor}
-use Rattle.std.specs.Iterator.{AlwaysYields}
 use Rattle.std.specs.Slice.Iter.{chunks_exact_rest, chunks_exact_size, chunks_exact_steps}
 use Rattle.std.proofs.lemmas.Iterator.{YieldsList}
 use Rattle.std.specs.List.{list_all, list_any, range_with_len}
@@ -16,6 +14,7 @@ use Rattle.model.specs.Table.{Words, at}
 use Rattle.model.specs.Slots.{Slot, slot, slots_of, recording_of, recording}
 use Rattle.model.specs.SoundTest.{distinct, rising}
 use Rattle.model.specs.Refusals.{has_recording}
+use Rattle.list_laws.proofs.Twos.{no-two, first-two, twos-come}
 use Rattle.table_laws.proofs.SlotWords.{slots-cons, slots-end}
 use Rattle.change_laws.proofs.Pairs.{has-recording}
 
@@ -89,41 +88,15 @@ module _ (ws : Words) where
 
 -- ---- two words at a time
 
-module _ (ws pair after : Words) (e : ws ≡ pair ++ after) (two : length pair ≡ 2) where
-  pub first-pair : slots_of ws ≡ slot (at pair 0) (at pair 1) ∷ slots_of after
-  unfolding slots_of
-  first-pair = rw e (go pair two)
-    where
-      go : (p : Words) → length p ≡ 2 → slots_of (p ++ after) ≡ slot (at p 0) (at p 1) ∷ slots_of after
-      go [] n = absurd (omega arith)
-      go (a ∷ []) n = absurd (omega arith)
-      go (a ∷ b ∷ []) n = refl
-      go (a ∷ b ∷ x ∷ p) n = absurd (omega arith)
+pub first-pair : (ws pair after : Words) → ws ≡ pair ++ after → length pair ≡ 2 → slots_of ws ≡ slot (at pair 0) (at pair 1) ∷ slots_of after
+unfolding slots_of
+first-pair = first-two slots_of slot refl (λ a. refl) (λ a b ws. refl)
 
 pub no-pair : (ws : Words) → length ws < 2 → slots_of ws ≡ []
 unfolding slots_of
-no-pair [] h = refl
-no-pair (a ∷ []) h = refl
-no-pair (a ∷ b ∷ p) h = absurd (omega arith)
-
-abbrev pub pair_in : Bor (List ℕ) → Slot
-pair_in x = slot (at x.now 0) (at x.now 1)
-
-pairs-given : (ss : List Slot) (s : _) → chunks_exact_size s ≡ 2 → slots_of (chunks_exact_rest s) ≡ ss → AlwaysYields chunks_exact_steps pair_in s ss
-pairs-given [] s z e = λ x j p.
-    let q = first-pair _ x.now _ p.1.0 (p.1.1 ∙ z) in
-    let n : ◌≡◌ {A = ℕ} (suc (length (slots_of (chunks_exact_rest j)))) 0 = sym (ap length q) ∙ ap length e in
-    absurd (omega arith)
-pairs-given (y ∷ ys) s z e = (
-  (λ j p.
-      let q = no-pair (chunks_exact_rest s) (omega (arith, p.1.0, z)) in
-      let n : ◌≡◌ {A = ℕ} (suc (length ys)) 0 = sym (ap length e) ∙ ap length q in
-      absurd (omega arith)),
-  λ x j p.
-      let q = sym (first-pair _ x.now _ p.1.0 (p.1.1 ∙ z)) ∙ e in
-      (ap (λ (l : List Slot). get_or l 0 (slot 0 0)) q, pairs-given ys j (p.0 ∙ z) (ap (drop 1) q)),
-)
+no-pair = no-two slots_of slot refl (λ a. refl) (λ a b ws. refl)
 
 -- the pairs of a slice come in order
-pub pairs-come : (ws : Words) (s : _) → chunks_exact_size s ≡ 2 → chunks_exact_rest s ≡ ws → YieldsList chunks_exact_steps pair_in s (slots_of ws)
-pairs-come ws s z e = record { runs = pairs-given (slots_of ws) s z (ap slots_of e) }
+pub pairs-come : (ws : Words) (s : _) → chunks_exact_size s ≡ 2 → chunks_exact_rest s ≡ ws → YieldsList chunks_exact_steps (λ x. slot (at x.now 0) (at x.now 1)) s (slots_of ws)
+unfolding slots_of
+pairs-come = twos-come slots_of slot refl (λ a. refl) (λ a b ws. refl)

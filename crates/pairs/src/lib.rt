@@ -8,7 +8,7 @@ ghost use Rattle.model.specs.Reached.{filter};
 ghost use Rattle.model.specs.SoundTest.{all, distinct, pair_ok, rising};
 ghost use Rattle.model.specs.Refusals.{has_recording};
 ghost use Rattle.model.specs.Pack.{pairs_ok};
-ghost use Rattle.numbers.specs.Cells.{outcome, entered_if, entered_all, Tells};
+ghost use Rattle.numbers.specs.Cells.{outcome, entered_all, Tells};
 ghost use Rattle.pairs.specs.Passes.{in_pass};
 
 use numbers::{Entry, Stop};
@@ -20,7 +20,7 @@ const NARROWEST: u64 = 4194304;
 fn rise(pairs: &[u64]) -> bool
     ensures { result ≡ rising 0 (slots_of pairs.now) }
 {
-    // By place: a pair and the one before it, as one iterator, would be a `zip`, whose fields targets/width.py refuses.
+    // By place: `chunks_exact(2).is_sorted_by(..)` promises its answer for the items of a run; no lemma of std's takes that to a list, as for `all`.
     (1..pairs.len() / 2).all(|i| pairs[2 * i - 2] < pairs[2 * i])
 }
 
@@ -37,7 +37,7 @@ fn in_range(pairs: &[u64]) -> bool
 pub fn has_recording(pairs: &[u64], first: usize, recording: u64) -> bool
     ensures { result ≡ has_recording recording (drop first (slots_of pairs.now)) }
 {
-    // By place: the walk begins at the pair that the caller names.
+    // By place: compared_once alone asks from a later pair on, and a slice cut there would take a bound, and a law of what pairs are left in it.
     (first..pairs.len() / 2).any(|i| pointer::recording(pairs[2 * i + 1]) == recording)
 }
 
@@ -46,47 +46,49 @@ pub fn has_recording(pairs: &[u64], first: usize, recording: u64) -> bool
 fn compared_once(pairs: &[u64]) -> bool
     ensures { result ≡ distinct (map recording (slots_of pairs.now)) }
 {
-    // By place: each is compared with those after its place.
+    // By place: `chunks_exact(2).enumerate()` would give the pair beside its place, and the place alone says both.
     (0..pairs.len() / 2).all(|i| !has_recording(pairs, i + 1, pointer::recording(pairs[2 * i + 1])))
 }
 
 // ---- the recording numbers, entered in passes
 
-// Whether a recording number is one of the pass from low on, below high.
-fn in_pass(number: u64, low: u64, high: u64) -> bool
-    ensures { result ≡ in_pass low high number }
-{
-    (low..high).contains(&numbers::mixed(number))
+// A pass takes the numbers that are scattered from low on, below high.
+#[derive(Clone, Copy)]
+struct Pass {
+    low: u64,
+    high: u64,
 }
 
-// Enters a number, if it is one of the pass.
-fn enter_one(cells: &mut [u64; numbers::CELLS], number: u64, low: u64, high: u64) -> Entry
-    ensures { outcome result cells.new ≡ entered_if (in_pass low high) cells.old number }
-{
-    if !in_pass(number, low, high) {
-        return Ok(());
+impl Pass {
+    // Whether it takes a recording number.
+    fn has(self, number: u64) -> bool
+        ensures { result ≡ in_pass self.low self.high number }
+    {
+        (self.low..self.high).contains(&numbers::mixed(number))
     }
-    numbers::enter(cells, numbers::TRIES, number)
 }
 
 // Enters those of the pairs' recording numbers that are of the pass.
-fn enter_all(cells: &mut [u64; numbers::CELLS], pairs: &[u64], low: u64, high: u64) -> Entry
-    ensures { outcome result cells.new ≡ entered_all (in_pass low high) (map recording (slots_of pairs.now)) cells.old }
+fn enter_all(cells: &mut [u64; numbers::CELLS], pairs: &[u64], pass: Pass) -> Entry
+    ensures { outcome result cells.new ≡ entered_all (in_pass pass.low pass.high) (map recording (slots_of pairs.now)) cells.old }
 {
     for pair in pairs.chunks_exact(2) {
         let number = pointer::recording(pair[1]);
-        enter_one(cells, number, low, high)?;
+        if !pass.has(number) {
+            continue;
+        }
+        numbers::enter(cells, numbers::TRIES, number)?;
     }
     Ok(())
 }
 
 // Whether a number of the pass is there twice, unless the cells get full.
-fn pass(pairs: &[u64], low: u64, high: u64) -> Entry
-    ensures { Tells result (filter (in_pass low high) (map recording (slots_of pairs.now))) }
+fn enter_pass(pairs: &[u64], pass: Pass) -> Entry
+    ensures { Tells result (filter (in_pass pass.low pass.high) (map recording (slots_of pairs.now))) }
 {
     // A set of numbers: memory is fixed, there is no heap.
     let mut cells = [0u64; numbers::CELLS];
-    enter_all(&mut cells, pairs, low, high)
+    enter_all(&mut cells, pairs, pass)
 }
 
 // No recording number is there twice. The first pass takes all; if the cells get full, half its range is tried.
@@ -97,7 +99,11 @@ fn once(pairs: &[u64]) -> bool
     let mut width = 4294967296;
     // No range counts this: a pass is as wide as the cells let it be.
     while low < numbers::SPREAD {
-        match pass(pairs, low, low + width) {
+        let pass = Pass {
+            low,
+            high: low + width,
+        };
+        match enter_pass(pairs, pass) {
             Ok(()) => low += width,
             Err(Stop::Known) => return false,
             Err(Stop::Full) => {

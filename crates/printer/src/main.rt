@@ -33,7 +33,8 @@ fn read_piece(rt: &impl Print, wrote: &mut io::Result<()>, session: &mut Session
     }
 }
 
-// All of standard input, up to more pieces than any input has, or up to a piece that is not read or whose lines are not written.
+// All of standard input, or up to a piece that is not read or whose lines are not written. A loop is proved to end, and of an input nothing
+// says that it does: the bound is more pieces than any has.
 fn read_input(rt: &(impl Print + Input), session: &mut Session<'_>) -> io::Result<()>
     requires { desk session.old ≡ first_desk }
 {

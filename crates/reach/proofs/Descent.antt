@@ -1,17 +1,18 @@
 -- One level of a search's descent from the words of a table, and the node on a level that it stands on.
 use mathlib.Core.Path.{◌≡◌, ap, sym, ◌∙◌}
+use mathlib.Core.Bool.{true, false}
 use mathlib.Core.List.{List}
 use Prim.Native.Nat.{ℕ, zero, suc, ◌+◌, ◌-◌, ◌≤◌, ◌<◌}
 use native.Mathlib.Omega.{arith}
 use lib.ListN.{get_or}
-use borrow.Author.Tests.{eq-eqb}
 use Rattle.model.specs.Table.{Words, root}
 use Rattle.model.specs.Slots.{View, node_view, view_from, view}
-use Rattle.model.specs.Search.{below, moved, down, path_from}
+use Rattle.model.specs.Search.{below, within, moved, down, path_from}
 use Rattle.model.specs.Writes.{standing_in}
 use Rattle.view_laws.proofs.NodeViews.{fence_of}
 use Rattle.view_laws.proofs.AnyRoot.{any-path}
-use Rattle.tree_laws.proofs.Cover.{stays, moves, below-low, below-high}
+use Rattle.tree_laws.proofs.Cover.{stays, moves}
+use Rattle.slots.specs.Scan.{keeps}
 use Rattle.node.specs.Word.{word_of}
 use Rattle.node.proofs.WordLaws.{word-level, word-sibling, word-fence}
 
@@ -21,19 +22,19 @@ module _ (t : Words) (n k s : ℕ) (e : s ≡ word_of t n 1) where
   q : s ≡ (node_view t n).sibling
   q = e ∙ word-sibling t n
 
-  pub moved-last : s ≡ 0 → n ≡ moved (view t) n k
-  unfolding below
-  moved-last z = let h : (node_view t n).sibling ≡ 0 = sym q ∙ z in sym (stays (view t) k n (rw (eq-eqb _ _ h)))
-
   module _ (f : ℕ) (g : f ≡ word_of t s 3) where
     bound : f ≡ (node_view t (node_view t n).sibling).fence
     bound = g ∙ word-fence t s ∙ ap (fence_of (view t)) q
 
-    pub moved-here : k < f → n ≡ moved (view t) n k
-    moved-here h = sym (stays (view t) k n (below-high (view t) k (node_view t n).sibling (rw bound at h)))
+    same-test : keeps s f k ≡ within (view t) n k
+    unfolding keeps below
+    same-test = rw (bound, q)
 
-    pub moved-right : (s ≡ 0 → ⊥) → f ≤ k → s ≡ moved (view t) n k
-    moved-right z h = q ∙ sym (moves (view t) k n (below-low (view t) k (node_view t n).sibling (λ y. z (q ∙ y)) (rw bound at h)))
+    pub moved-here : keeps s f k ≡ true → n ≡ moved (view t) n k
+    moved-here h = sym (stays (view t) k n (sym same-test ∙ h))
+
+    pub moved-right : keeps s f k ≡ false → s ≡ moved (view t) n k
+    moved-right h = q ∙ sym (moves (view t) k n (sym same-test ∙ h))
 
 -- ---- a descent
 

@@ -17,8 +17,8 @@ use Rattle.reach.specs.Marks.{Taken, AllTaken, put_all, named_leaves, marked_onc
 use Rattle.reach.proofs.Members.{root-taken, zero-free}
 use Rattle.reach.proofs.Marking.{put-taken, put_all-taken}
 use Rattle.reach.proofs.Parents.{leaves-taken}
-use Rattle.marks.proofs.Rows.{first_from as unmarked_from, first-is, none-is}
-use Rattle.reach.proofs.Unreached.{row-more, first_from, first-none, first-here, first-later, first-past}
+use Rattle.marks.proofs.Rows.{first_from as unmarked_from, row-more, first-is, none-is}
+use Rattle.reach.proofs.Unreached.{first_from, first-none, first-here, first-later, first-past}
 
 -- ---- the leaves once
 
@@ -57,11 +57,11 @@ module _ (t : Words) where
 
   pub look-free : (n last : ℕ) (ws : Words) → n ≤ last → elem n (reached_all t) ≡ false → ws ≡ looked n last ws
   unfolding looked_at
-  look-free n last ws h e = rw (row-more t n last h, e)
+  look-free n last ws h e = rw (row-more n last h, e)
 
   look-one : (n last : ℕ) (ws : Words) → n ≤ last → Taken t n → looked (n + 1) last (marked_if t ws n) ≡ looked n last ws
   unfolding looked_at
-  look-one n last ws h k = rw (add-one n, row-more t n last h, k)
+  look-one n last ws h k = rw (add-one n, row-more n last h, k)
 
   -- a run of marked ones
   look-past : (r n last : ℕ) (ws : Words) → AllTaken t ws → ((m : ℕ) → n ≤ m → m < n + r → has ws m ≡ true) → looked (n + r) last ws ≡ looked n last ws
@@ -90,14 +90,14 @@ module _ (t : Words) where
         let some : (i : ℕ) → n ≤ i → i < n + (m - n) → has ws i ≡ true = rw e k in
         rw (← e) (first-past t (m - n) n last (λ i p q. a i (some i p q)), look-past (m - n) n last ws a some)
 
-    module _ (q : f ≡ unmarked_from ws n last) where
+    module _ (q : f ≡ unmarked_from (has ws) n last) where
       pub same-here : f ≢ 0 → SameFrom f ws
-      same-here z = let s = first-is ws n last f q z in same-past f s.no-less s.before
+      same-here z = let s = first-is (has ws) n last f q z in same-past f s.no-less s.before
 
       -- a descent finds it reached, and it is marked
       pub same-after : f ≢ 0 → Taken t f → (after : Words) → after ≡ put ws f → SameFrom (f + 1) after
       same-after z k after e =
-          let s = first-is ws n last f q z in
+          let s = first-is (has ws) n last f q z in
           let p = same-here z in (
             first-later t f last s.within k ∙ p.0,
             ap (looked (f + 1) last) (if-new t ws f k s.free after e) ∙ look-one f last ws s.within k ∙ p.1,
@@ -118,7 +118,7 @@ module _ (t : Words) where
           row o false e = let h = leb-false n last e in (sym (first-none t n last h), look-none n last ws h)
           row o true e =
               let h = leb-true n last e in
-              let p = same-past (last + 1) (omega (arith, h)) (λ i b c. none-is ws n last f (omega (arith, o)) q z i b (omega arith)) in
+              let p = same-past (last + 1) (omega (arith, h)) (λ i b c. none-is (has ws) n last f (omega (arith, o)) q z i b (omega arith)) in
               (sym (first-none t (last + 1) last (omega arith)) ∙ p.0, look-none (last + 1) last ws (omega arith) ∙ p.1)
 
           of-some : n ≢ 0 → NoneLeft

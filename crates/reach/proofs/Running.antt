@@ -7,8 +7,10 @@ use native.Mathlib.Numerals.{add-one}
 use native.Mathlib.Nat.{add-zero}
 use native.Mathlib.Omega.{arith}
 use lib.Dec.{eqb}
+use Rattle.std.specs.Prelude.{Option, Some, None}
+use Rattle.std.specs.Option.{option_eq}
 use lib.ListN.{length}
-use borrow.Author.Tests.{eqb-true, eq-eqb, ne_eqb}
+use borrow.Author.Tests.{eqb-true, eq-eqb}
 use Rattle.model.specs.Table.{Words, root}
 use Rattle.model.specs.Slots.{Slot, View, node_view, view_from, view_of, view, height, full}
 use Rattle.model.specs.Search.{below, moved, down, path_from, path}
@@ -17,8 +19,6 @@ use Rattle.model.specs.SoundTest.{all, settled_view}
 use Rattle.model.specs.Writes.{run_in, run, root_in_run}
 use Rattle.view_laws.proofs.AnyRoot.{any-path}
 use Rattle.list_laws.proofs.Tools.{Each, Each-map, same-test, all-same}
-use Rattle.tree_laws.proofs.Rows.{not-zero}
-use Rattle.tree_laws.proofs.Shape.{shape-view}
 use Rattle.tree_laws.proofs.SearchLaw.{path-length, path-reached}
 use Rattle.tree_laws.proofs.Leftovers.{settled-iff, settled-node}
 use Rattle.node.specs.Word.{word_of}
@@ -79,14 +79,15 @@ run-in v (n ∷ ns) = ap (λ (x : ℕ). elim (all (λ (m : ℕ). full (v.node m)
 
 -- ---- the run, going down a path
 
-pub full-pending : (v : View) (parent n k : ℕ) → k ≡ length (kept v n) → n ≡ parent → eqb k 10 ≡ full_in v parent n
-unfolding full_in
-full-pending v parent n k e q =
-    rw (eq-eqb n parent q, ← e) (same-test (eqb k 10) (eqb (k + 1) 11) (λ b. eq-eqb (k + 1) 11 (omega (arith, eqb-true k 10 b)), λ b. eq-eqb k 10 (omega (arith, eqb-true (k + 1) 11 b))))
+module _ (v : View) (parent : Option ℕ) (n k : ℕ) (e : k ≡ length (kept v n)) where
+  pub full-pending : option_eq eqb parent (Some n) ≡ true → eqb k 10 ≡ full_in v parent n
+  unfolding full_in
+  full-pending q =
+      rw (q, ← e) (same-test (eqb k 10) (eqb (k + 1) 11) (λ b. eq-eqb (k + 1) 11 (omega (arith, eqb-true k 10 b)), λ b. eq-eqb k 10 (omega (arith, eqb-true (k + 1) 11 b))))
 
-pub full-other : (v : View) (parent n k : ℕ) → k ≡ length (kept v n) → (n ≡ parent → ⊥) → eqb k 11 ≡ full_in v parent n
-unfolding full_in
-full-other v parent n k e q = rw (ne_eqb n parent q, ← e, add-zero)
+  pub full-other : option_eq eqb parent (Some n) ≡ false → eqb k 11 ≡ full_in v parent n
+  unfolding full_in
+  full-other q = rw (q, ← e, add-zero)
 
 -- the count is at most one more
 pub after-most : (p : ℕ → Bool) (count n : ℕ) → run_after p count n ≤ count + 1
@@ -109,13 +110,13 @@ module _ (p : ℕ → Bool) (v : View) (n k m count r : ℕ) (e : m ≡ moved v 
   run-last (suc l) h = absurd (omega arith)
 
 -- the whole path from a root
-pub run-top : (t : Words) (r k parent top : ℕ) → top ≡ word_of t r 2
+pub run-top : (t : Words) (r k : ℕ) (parent : Option ℕ) (top : ℕ) → top ≡ word_of t r 2
     → run_from (full_in (view t) parent) 0 (path_from (view t) top r k) ≡ end_run (full_in (view_from t r) parent) (path (view_from t r) k)
 unfolding full_in kept below
 run-top t r k parent top e =
     rw (e ∙ word-level t r) (ap (run_from (full_in (view t) parent) 0) (any-path t (root t) r (node_view t r).level r k) ∙ run-end (full_in (view_from t r) parent) (path (view_from t r) k))
 
-pub run-read : (t : Words) (r k parent top len : ℕ) → top ≡ word_of t r 2 → len ≡ end_run (full_in (view_from t r) parent) (path (view_from t r) k)
+pub run-read : (t : Words) (r k : ℕ) (parent : Option ℕ) (top len : ℕ) → top ≡ word_of t r 2 → len ≡ end_run (full_in (view_from t r) parent) (path (view_from t r) k)
     → record { length = len; root = eqb len (top + 1) } ≡ full_run (view_from t r) k parent
 unfolding full_run
 run-read t r k parent top len e q = rw (add-one top, e ∙ word-level t r, q)
@@ -123,7 +124,7 @@ run-read t r k parent top len e q = rw (add-one top, e ∙ word-level t r, q)
 -- ---- the run of the model
 
 -- u has the run that was counted in a view where both have the same path, and each of its nodes is full in u as it was judged there
-pub run-of : (v : View) (n : ℕ) (u : Words) (k parent : ℕ) → path (view_of n u) k ≡ path v k → Each (λ (m : ℕ). full_in v parent m ≡ full (node_view u m).shown) (path v k)
+pub run-of : (v : View) (n : ℕ) (u : Words) (k : ℕ) (parent : Option ℕ) → path (view_of n u) k ≡ path v k → Each (λ (m : ℕ). full_in v parent m ≡ full (node_view u m).shown) (path v k)
     → full_run v k parent ≡ record { length = run n u k; root = root_in_run n u k }
 unfolding full_run root_in_run
 run-of v n u k parent e h =
@@ -138,10 +139,9 @@ unfolding full
 full-kept v n e = ap (λ (ss : List Slot). eqb (length ss) 11) e
 
 -- in a settled tree no node is to get a slot
-pub run-settled : (n : ℕ) (t : Words) (k : ℕ) → settled_view (view_of n t) ≡ true → full_run (view_of n t) k 0 ≡ record { length = run n t k; root = root_in_run n t k }
+pub run-settled : (n : ℕ) (t : Words) (k : ℕ) → settled_view (view_of n t) ≡ true → full_run (view_of n t) k None ≡ record { length = run n t k; root = root_in_run n t k }
 run-settled n t k h =
     let v = view_of n t in
     let s = (settled-iff v).0 h in
-    let some : (m : ℕ) → Memᴰ m (reached v) → m ≡ 0 → ⊥ = λ m i. not-zero v m ((shape-view v s.orderly).range i) in
-    let judged : (m : ℕ) → Memᴰ m (reached v) → full_in v 0 m ≡ full (v.node m).shown = λ m i. sym (full-other v 0 m _ refl (some m i)) ∙ full-kept v m (settled-node v m s i).keeps in
-    run-of v n t k 0 refl (Each-map (λ (m : ℕ). Memᴰ m (reached v)) (λ (m : ℕ). full_in v 0 m ≡ full (v.node m).shown) (path v k) judged (path-reached v k s.orderly))
+    let judged : (m : ℕ) → Memᴰ m (reached v) → full_in v None m ≡ full (v.node m).shown = λ m i. sym (full-other v None m _ refl refl) ∙ full-kept v m (settled-node v m s i).keeps in
+    run-of v n t k None refl (Each-map (λ (m : ℕ). Memᴰ m (reached v)) (λ (m : ℕ). full_in v None m ≡ full (v.node m).shown) (path v k) judged (path-reached v k s.orderly))

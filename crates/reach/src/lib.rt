@@ -19,7 +19,7 @@ use leaves::Siblings;
 use slots::Ways;
 
 // Words for a bit of each node.
-pub const MARKS: usize = 1024;
+pub use bits::MARKS;
 
 // The highest number that a node can have.
 const LAST: u64 = 65535;
@@ -38,15 +38,12 @@ pub struct Run {
 fn moved(table: &[u64], n: u64, key: u64) -> u64
     ensures { result ≡ moved (view table.now) n key }
 {
-    // Two returns: the condition joined by || was tried, and its proof is longer.
     let sibling = node::word(table, n, 1);
-    if sibling == 0 {
-        return n;
+    if slots::keeps(sibling, node::word(table, sibling, 3), key) {
+        n
+    } else {
+        sibling
     }
-    if key < node::word(table, sibling, 3) {
-        return n;
-    }
-    sibling
 }
 
 // The node on a level that the search for a key stands on, from a root. A level above the root's gives the root's.
@@ -74,7 +71,8 @@ pub fn is_reached(table: &[u64], root: u64, n: u64) -> bool
     standing(table, root, level, fence) == n
 }
 
-// Whether it is reached from either root; without a second collection there is one.
+// Whether it is reached from either root. 0 in word 3 is no second root, here and in `mark_all`: document 01 says so. An Option of it would be made
+// here to be taken apart at once, and there 0 is a root that leads to no node.
 pub fn is_taken(table: &[u64], n: u64) -> bool
     requires { sound table.now ≡ true }
     ensures { result ≡ elem n (reached_all table.now) }
@@ -104,8 +102,8 @@ fn mark_ways(marks: &mut [u64; MARKS], w: Ways)
     }
 }
 
-// Marks the children that node n names, if it is reached and no leaf. Table and marks stay two parameters: the table is
-// lent by C, and the marks are an array of the call.
+// Marks the children that node n names, if it is reached and no leaf. Table and marks are two parameters, here and below, and what is asked of
+// them is a clause: the marks outlive a split, the table changes at each, so a value of both would be made anew at each split.
 fn mark_children(table: &[u64], marks: &mut [u64; MARKS], n: u64)
     requires { sound table.now ≡ true }
     ensures { marks.new ≡ put_all (named_by table.now n) marks.old }
@@ -161,6 +159,7 @@ fn first_unreached(table: &[u64], marks: &mut [u64; MARKS], first: u64, last: u6
     ensures marked_2 { Marked table.now marks.new }
 {
     let mut n = first;
+    // The range bounds the turns, and n goes past the node that a turn finds: an iterator of the free nodes would hold the marks that turns write to.
     for _ in first..=last {
         let free = marks::first_free(marks, n, last);
         if free == 0 {
@@ -189,7 +188,7 @@ fn mark_once(table: &[u64], marks: &mut [u64; MARKS])
     mark(marks, table[1]);
 }
 
-// The first unreachable node after node a, going round: the leaves are marked first.
+// The first unreachable node after node a, going round: the leaves are marked first. 0 if there is none, as `fresh` answers it.
 fn fresh_marked(table: &[u64], marks: &mut [u64; MARKS], a: u64) -> u64
     requires table_value { sound table.now ≡ true }
     requires marked { Marked table.now marks.old }
@@ -206,8 +205,9 @@ fn fresh_marked(table: &[u64], marks: &mut [u64; MARKS], a: u64) -> u64
     first_unreached(table, marks, 1, a.saturating_sub(1))
 }
 
-// The first unreachable node after node a, going round from N to 1; 0 if there is none. The next node is tested by itself: if codes
-// come in order it is the one. Marks save descents, and what is found out is marked: they serve for the next fresh node too.
+// The first unreachable node after node a, going round from N to 1; 0 if there is none, as the definition has it: an insertion has counted that
+// there are enough, and would only unwrap an Option. The next node is tested by itself: if codes come in order it is the one. Marks save
+// descents, and what is found out is marked: they serve for the next fresh node too.
 pub fn fresh(table: &[u64], marks: &mut [u64; MARKS], a: u64) -> u64
     requires table_value { sound table.now ≡ true }
     requires marked { Marked table.now marks.old }
@@ -260,12 +260,12 @@ pub fn frees_leaf(table: &[u64], root: u64, p: u64, x: u64) -> bool
 
 // ---- the run of full nodes
 
-// Whether node n will be full when the table is repaired; parent is the node that is to get a slot then, 0 for none.
-fn is_full(table: &[u64], n: u64, parent: u64) -> bool
+// Whether node n will be full when the table is repaired; parent is the node that is to get a slot then.
+fn is_full(table: &[u64], n: u64, parent: Option<u64>) -> bool
     ensures { result ≡ full_in (view table.now) parent n }
 {
     let kept = kept_count(table, n);
-    if n == parent {
+    if parent == Some(n) {
         return kept == 10;
     }
     kept == 11
@@ -280,7 +280,7 @@ pub fn run_after(count: u64, full: bool) -> u64
 }
 
 // The run for a key from a root, on the table as repair would leave it.
-pub fn full_run(table: &[u64], root: u64, key: u64, parent: u64) -> Run
+pub fn full_run(table: &[u64], root: u64, key: u64, parent: Option<u64>) -> Run
     requires { sound_view (view_from table.now root) ≡ true }
     ensures { result ≡ full_run (view_from table.now root) key parent }
 {

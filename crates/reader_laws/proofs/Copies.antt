@@ -24,6 +24,11 @@ use Rattle.tree_laws.proofs.Cover.{stays, moves}
 use Rattle.two_laws.proofs.AcceptedTwo.{there as there-is}
 use Rattle.model.specs.Returns.{OfNode}
 
+-- the word of a root lies in the header
+pub root-low : (n : ℕ) → (n ≡ 1) ⊎ (n ≡ 2) → root_word n < 8
+root-low n (inl e) = omega arith
+root-low n (inr e) = omega arith
+
 -- node n of u is that of v, or it is missing: on a level that no search passes
 abbrev pub OrMissing : (u v : View) → ℕ → Type 0
 OrMissing u v n = (u.node n ≡ v.node n) ⊎ (15 < (u.node n).level)
@@ -244,11 +249,7 @@ module _ (t u : Words) (long : length u ≡ length t) (header : (w : ℕ) → w 
   copy-answers h n k = go (header_ok t) (no_collection n t) refl refl
     where
       root : no_collection n t ≡ false → at u (root_word n) ≡ at t (root_word n)
-      root q = header (root_word n) (low (there-is n t q).0)
-        where
-          low : (n ≡ 1) ⊎ (n ≡ 2) → root_word n < 8
-          low (inl e) = omega arith
-          low (inr e) = omega arith
+      root q = header (root_word n) (root-low n (there-is n t q).0)
 
       nodes-same : (m : ℕ) → OrMissing (view_of n u) (view_of n t) m
       nodes-same m = by (h m)

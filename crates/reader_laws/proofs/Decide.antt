@@ -1,7 +1,6 @@
 -- What a search by looks answers goes by its looks alone.
 use mathlib.Core.Path.{◌≡◌, refl, ap, ◌∙◌}
 use mathlib.Core.Bool.{Bool, true, false, not, ◌&&◌}
-use mathlib.Core.Logic.{◌⊎◌, inl, inr}
 use mathlib.Core.List.Memᴰ
 use mathlib.Core.List.{List, [], ◌∷◌, ◌++◌, Memᴰ}
 use mathlib.Core.Option.{Option, none, some}
@@ -18,7 +17,7 @@ use Rattle.model.specs.Slots.{Slot, NodeView, node_view, used, clear_in}
 use Rattle.model.specs.Search.{route, first_with, first_above, absent_or, answer_of, Next}
 use Rattle.model.specs.Looks.{seen_pass, stood, stood_on, seen_kept, next_looks, answer_looks, search_looks, Seen, seen, none_above, no_slot, sibling_seen, next_seen, answer_seen, search_seen, LooksDecide}
 use Rattle.two_laws.proofs.AcceptedTwo.{there}
-use Rattle.reader_laws.proofs.Copies.{head-same, lack-same}
+use Rattle.reader_laws.proofs.Copies.{root-low, head-same, lack-same}
 
 -- ---- what a turn answers, by its tests; it goes on only if they say so
 
@@ -164,13 +163,9 @@ pub looks-decide : LooksDecide
 unfolding search_looks search_seen
 looks-decide n k when when' long header same = go (header_ok (when 0)) (no_collection n (when 0)) refl refl
   where
-    low : (n ≡ 1) ⊎ (n ≡ 2) → root_word n < 8
-    low (inl e) = omega arith
-    low (inr e) = omega arith
-
     go : (c d : Bool) → header_ok (when 0) ≡ c → no_collection n (when 0) ≡ d → search_looks n when' k ≡ search_looks n when k
     go false d p q = rw (head-same (when 0) (when' 0) long header ∙ p, p, search_looks)
     go true true p q = rw (head-same (when 0) (when' 0) long header ∙ p, lack-same (when 0) (when' 0) long header n ∙ q, p, q, search_looks)
     go true false p q =
         rw (head-same (when 0) (when' 0) long header ∙ p, lack-same (when 0) (when' 0) long header n ∙ q, p, q, search_looks)
-        (answered-same n k when when' long header (header (root_word n) (low (there n (when 0) q).0)) (rw (p, q, search_seen) at same))
+        (answered-same n k when when' long header (header (root_word n) (root-low n (there n (when 0) q).0)) (rw (p, q, search_seen) at same))

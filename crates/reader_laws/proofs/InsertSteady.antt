@@ -17,13 +17,14 @@ use Rattle.model.specs.Returns.{OfNode}
 use Rattle.table_laws.proofs.Collections.{by-number}
 use Rattle.two_laws.proofs.SameTwo.{first-there, second-there}
 use Rattle.cut_laws.proofs.Applying.{apply-append}
+use Rattle.step_laws.proofs.WholeNode.{put-all-length}
 use Rattle.two_laws.specs.Parts.{split_for}
 use Rattle.two_laws.proofs.SplitTwo.{length-split}
 use Rattle.two_laws.proofs.InsertTwo.{first-course}
+use Rattle.two_laws.proofs.PartsTwo.{beside}
 use Rattle.reader_laws.proofs.Values.{values_to, values-append, value-same, steady-drop, drop-none}
-use Rattle.reader_laws.proofs.SettledNodes.{beside}
 use Rattle.reader_laws.proofs.SplitValues.{Going, rest, rest-zero, rest-suc, later-none, going-next}
-use Rattle.reader_laws.proofs.SplitLevels.{length-put-all, split-sight}
+use Rattle.reader_laws.proofs.SplitLevels.{split-sight}
 use Rattle.reader_laws.proofs.RestSteady.{Known, here-steady, rest-steady}
 use Rattle.reader_laws.proofs.Sights.{Sight, SteadyFrom, AllSteady, whole-steady, steady-append}
 
@@ -58,7 +59,7 @@ module _ (n k y : ℕ) where
         us = put (suc (node_start (standing n t l k))) b ∷ put (pointer_word (standing n t l k) 5) 0 ∷ shift_in_at t (standing n t (suc l) k) (middle t (standing n t l k)).key b
 
         long : length xs ≡ 32
-        long = length-put-all (node_start b) (split_words t (standing n t l k)) ∙ length-split t (standing n t l k)
+        long = put-all-length (node_start b) (split_words t (standing n t l k)) ∙ length-split t (standing n t l k)
 
         place : length xs + (a - 32) ≡ a
         place = omega (arith, long)

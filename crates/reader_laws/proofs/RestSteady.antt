@@ -22,10 +22,11 @@ use Rattle.step_laws.proofs.Split.{split-standing, split-height}
 use Rattle.two_laws.specs.Parts.{split_for}
 use Rattle.two_laws.proofs.SameTwo.{settled-sound}
 use Rattle.two_laws.proofs.CollectionTwo.{reached-up}
+use Rattle.two_laws.proofs.LeafStores.{shift-in-into}
 use Rattle.two_laws.proofs.PartsTwo.{Plain, settled-plain, standing-reached}
 use Rattle.reader_laws.proofs.Values.{values_to, values-append, values-here, values-past, value-same, value-one, Steady, steady-one, steady-lost, steady-after, inside-or-not, into-none}
 use Rattle.reader_laws.proofs.ShiftValues.{shift-in-steady, one-put, none-put, shown-word}
-use Rattle.reader_laws.proofs.SettledNodes.{shift-in-into, own-fine, reached-some, reached-few, standing-level}
+use Rattle.reader_laws.proofs.SettledNodes.{own-fine, reached-some, reached-few, standing-level}
 use Rattle.reader_laws.proofs.SplitValues.{one-node, no-header, shift-none, Going, new_at, key_at, rest, rest-zero, rest-suc, going-next, stays-reached, new-some, new-fresh, middle-new}
 use Rattle.reader_laws.proofs.SplitValues.{ns, a-reached, b-free, full-node, a-some, p-some, b-some, not-b, a-all, p-all, split-none, split-a, split-p}
 use Rattle.reader_laws.proofs.SplitLevels.{standing-split}

@@ -7,7 +7,6 @@ use mathlib.Core.List.{List, []}
 use Prim.Native.Nat.{ℕ, ◌+◌, ◌*◌, ◌≤◌, ◌<◌}
 use native.Mathlib.Omega.{arith}
 use lib.ListN.{length, take}
-use lib.Seq.{take-length}
 use Rattle.model.specs.Table.{Words, at, nodes, node_start}
 use Rattle.model.specs.Slots.{view_of}
 use Rattle.model.specs.Search.{search}
@@ -28,7 +27,7 @@ use Rattle.sound_laws.proofs.Same.{sound-orderly, reached-same}
 use Rattle.cut_laws.proofs.Applying.{apply-nil, length-apply, carry-stores, stores_in-take, store_count-take-le}
 use Rattle.cut_laws.proofs.Docks.{list-stores}
 use Rattle.two_laws.proofs.AcceptedTwo.{Accepted, Allows, accepted-iff}
-use Rattle.two_laws.proofs.MapsTwo.{Steps, accepted-steps}
+use Rattle.two_laws.proofs.MapsTwo.{Steps, accepted-steps, sound-after}
 use Rattle.two_laws.proofs.CallsTwo.{settled-repair}
 use Rattle.two_laws.proofs.SearchTwo.{sound-head}
 use Rattle.two_laws.proofs.LedgerTwo.{searched}
@@ -69,12 +68,9 @@ module _ (x : Call) (words dock : ℕ) (t : Words) (ok : refusal x words dock t 
       u : Words
       u = apply (take j (stores_of x t)) t
 
-      whole : sound (apply (stores_of x t) t) ≡ true
-      whole = rw take-length at (steps.part-sound (length (stores_of x t)))
-
       go : OldOrNew x t u → ((n k : ℕ) → search n u k ≡ search n t k) ⊎ ((n k : ℕ) → search n u k ≡ search n (table_after x words dock t) k)
       go (inl e) = inl (λ n k. by-maps n k u t (steps.part-sound j) accepted.sound e)
-      go (inr e) = inr (λ n k. by-maps n k u (apply (stores_of x t) t) (steps.part-sound j) whole (e ∙ sym steps.all-map) ∙ ap (λ (v : Words). search n v k) (sym after))
+      go (inr e) = inr (λ n k. by-maps n k u (apply (stores_of x t) t) (steps.part-sound j) (sound-after x words dock t ok) (e ∙ sym steps.all-map) ∙ ap (λ (v : Words). search n v k) (sym after))
 
   right : (b : ℕ) → ((n k : ℕ) → search n (table_at x dock t b) k ≡ search n t k) ⊎ ((n k : ℕ) → search n (table_at x dock t b) k ≡ search n (table_after x words dock t) k)
   right b = rw (moment x dock t b) (part-right (store_count (take b (orders_of x dock t))))

@@ -1,21 +1,18 @@
 -- A whole insertion into a settled table: the new root where there is one, the splits, the shift in.
 use mathlib.Core.Path.{◌≡◌, refl, sym, ap, subst, ◌∙◌}
-use mathlib.Core.Bool.{Bool, true, false, cond, ◌&&◌, false≢true}
+use mathlib.Core.Bool.{Bool, true, false, false≢true}
 use mathlib.Core.Logic.{◌≢◌, ◌⊎◌, inl, inr}
 use mathlib.Core.List.{List, [], ◌∷◌, ◌++◌, Memᴰ}
-use Prim.Native.Nat.{ℕ, suc, ◌+◌, ◌≤◌, ◌<◌}
+use Prim.Native.Nat.{ℕ, suc, ◌≤◌, ◌<◌}
 use native.Mathlib.Omega.{arith}
-use lib.Dec.{eqb}
 use lib.ListN.{length, take, length-append}
 use lib.Seq.{take-append-le}
-use borrow.Author.Tests.{eqb-false, ltb-false}
 use Rattle.model.specs.Table.{Words, at, nodes, node_start, root_word, no_collection}
 use Rattle.model.specs.Slots.{pointer_of, node_view, view_of, height}
 use Rattle.model.specs.Reached.{reached, reached_all, mapping, map_of}
 use Rattle.model.specs.SoundTest.{elem, nothing, settled}
 use Rattle.model.specs.Orders.{Store, put, apply}
 use Rattle.model.specs.Writes.{fresh, unreachable, put_all, node_words, new_root_at, new_root, root_stores, run, root_in_run, insert_settled, standing}
-use Rattle.model.specs.Refusals.{too_high, too_few}
 use Rattle.model.specs.Returns.{OfNode}
 use Rattle.list_laws.proofs.Tools.{same-or-not}
 use Rattle.list_laws.proofs.Recordings.{recording-iff, recording-of, pair-of}
@@ -24,6 +21,7 @@ use Rattle.tree_laws.proofs.Rows.{range-iff}
 use Rattle.step_laws.proofs.Rowwise.{OnRow}
 use Rattle.step_laws.proofs.LevelCourses.{Quiet}
 use Rattle.step_laws.proofs.LinkCourses.{whole-quiet}
+use Rattle.step_laws.proofs.WholeNode.{put-all-length}
 use Rattle.step_laws.proofs.Fresh.{Free}
 use Rattle.step_laws.proofs.TreeAt.{tree_at}
 use Rattle.two_laws.specs.Parts.{Enters}
@@ -32,13 +30,12 @@ use Rattle.two_laws.proofs.Arrange.{Arr, arr-low, arr-word, arr-others, free-fre
 use Rattle.two_laws.proofs.AcceptedTwo.{there}
 use Rattle.two_laws.proofs.CallsTwo.{arr-other}
 use Rattle.two_laws.proofs.RootTwo.{root-course, root-beside}
-use Rattle.two_laws.proofs.InsertTwo.{root-first}
-use Rattle.two_laws.proofs.PartsTwo.{root-reached, root-stays, root-ready}
+use Rattle.two_laws.proofs.InsertTwo.{some-free, not-top, root-first}
+use Rattle.two_laws.proofs.PartsTwo.{beside, tree as own-tree, root-reached, root-stays, root-ready}
 use Rattle.reader_laws.proofs.Values.{values_to, values-append, Steady, steady-then, steady-after, steady-drop}
 use Rattle.reader_laws.proofs.ShiftValues.{none-put, put-steady}
-use Rattle.reader_laws.proofs.SettledNodes.{beside, own-tree, own-fine}
+use Rattle.reader_laws.proofs.SettledNodes.{own-fine}
 use Rattle.reader_laws.proofs.SplitValues.{one-node, no-header, put-all-none, all-reach, Going, rest}
-use Rattle.reader_laws.proofs.SplitLevels.{length-put-all}
 use Rattle.reader_laws.proofs.RestSteady.{some-node, rest-none, rest-steady}
 use Rattle.reader_laws.proofs.Sights.{Sight, SteadyFrom, AllSteady, steady-append}
 use Rattle.reader_laws.proofs.InsertSteady.{same-there, rest-all}
@@ -89,10 +86,10 @@ module _ (n : ℕ) (t : Words) (h : no_collection n t ≡ false) (s : settled t 
     size = length-node-words (at t (root_word n)) 0 (suc (height (view_of n t))) 0 []
 
     words-part : (j : ℕ) → j ≤ 32 → take j ss ≡ take j (put_all (node_start q) words)
-    words-part j g = take-append-le j (put_all (node_start q) words) (put (root_word n) q ∷ []) (omega (arith, length-put-all (node_start q) words, size))
+    words-part j g = take-append-le j (put_all (node_start q) words) (put (root_word n) q ∷ []) (omega (arith, put-all-length (node_start q) words, size))
 
     long : length ss ≡ 33
-    long = length-append (put_all (node_start q) words) (put (root_word n) q ∷ []) ∙ omega (arith, length-put-all (node_start q) words, size)
+    long = length-append (put_all (node_start q) words) (put (root_word n) q ∷ []) ∙ omega (arith, put-all-length (node_start q) words, size)
 
     course : Course 38 (root_word n) ws t ss (mapping (tree_at (root_word n) t))
     course = root-course (root_word n) ws t (arr-low (root_word n) ws t arr) (arr-word (root_word n) ws t arr) (arr-others (root_word n) ws t arr) tree high q free
@@ -168,14 +165,6 @@ module _ (n : ℕ) (t : Words) (h : no_collection n t ≡ false) (s : settled t 
     unfolding insert_settled rest
     parts = refl
 
-    not-top : root_in_run n t k ≡ true → height (view_of n t) < 15
-    unfolding too_high
-    not-top i = let z = eqb-false (height (view_of n t)) 15 (sym (ap (λ (b : Bool). b && eqb (height (view_of n t)) 15) i) ∙ e.not-high) in omega (arith, tree.left.orderly.top.level, z)
-
-    some-free : root_in_run n t k ≡ true → 0 < length (unreachable t)
-    unfolding too_few
-    some-free i = let g : run n t k + 1 ≤ length (unreachable t) = rw i at (ltb-false (length (unreachable t)) (run n t k + cond (root_in_run n t k) 1 0) e.enough) in omega arith
-
     pub insert-steady : AllSteady t (insert_settled n t k (pointer_of r c))
     unfolding apply
     insert-steady = rw parts (go (root_in_run n t k) refl)
@@ -183,5 +172,5 @@ module _ (n : ℕ) (t : Words) (h : no_collection n t ≡ false) (s : settled t 
         go : (b : Bool) → root_in_run n t k ≡ b → AllSteady t (roots ++ rest n k y (run n t k) (apply roots t))
         go true i =
             subst (λ (us : List Store). Going n k y (run n t k) (apply us t) → ((x : ℕ) → elem x (reached_all t) ≡ true → elem x (reached_all (apply us t)) ≡ true) → AllSteady t (us ++ rest n k y (run n t k) (apply us t)))
-            (sym (roots-new n t k i)) (root-all (not-top i) (some-free i) k y (run n t k)) going (root-stays n t h s k e.not-high e.enough)
+            (sym (roots-new n t k i)) (root-all (not-top n ws t k arr tree e.not-high e.enough i) (some-free n ws t k arr tree e.not-high e.enough i) k y (run n t k)) going (root-stays n t h s k e.not-high e.enough)
         go false i = subst (λ (us : List Store). Going n k y (run n t k) (apply us t) → AllSteady t (us ++ rest n k y (run n t k) (apply us t))) (sym (roots-none n t k i)) (rest-all n k y (run n t k) t) going

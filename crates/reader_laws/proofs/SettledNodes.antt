@@ -12,67 +12,48 @@ use Rattle.model.specs.Slots.{node_view, view, view_of, height}
 use Rattle.model.specs.Reached.{reached, map_of}
 use Rattle.model.specs.SoundTest.{nothing, settled}
 use Rattle.model.specs.Orders.{Store, put, apply}
-use Rattle.model.specs.Shifts.{SlotStore, in_node, shift_in, shift_out, place_of}
-use Rattle.model.specs.Writes.{shift_in_at, shift_out_at, child_before, free_stores, standing, frees_leaf, delete_settled}
+use Rattle.model.specs.Shifts.{shift_out, place_of}
+use Rattle.model.specs.Writes.{shift_out_at, child_before, free_stores, standing, frees_leaf, delete_settled}
 use Rattle.model.specs.Refusals.{has_key}
-use Rattle.list_laws.proofs.Tools.{Each, Each-map, and-iff, same-or-not}
-use Rattle.list_laws.proofs.Lists.{each-map}
-use Rattle.list_laws.proofs.Slots.{place-length}
-use Rattle.slot_laws.proofs.Places.{Below, shift-in-places, shift-out-places}
+use Rattle.list_laws.proofs.Tools.{Each, and-iff, same-or-not}
+use Rattle.slot_laws.proofs.Places.{shift-out-places}
 use Rattle.word_laws.proofs.Outside.{Into}
-use Rattle.word_laws.proofs.SlotRuns.{slot-into}
 use Rattle.word_laws.proofs.ShiftViews.{shown-few}
 use Rattle.step_laws.proofs.Standing.{standing-stands}
 use Rattle.step_laws.proofs.Freeing.{Freeable}
 use Rattle.step_laws.proofs.TreeAt.{Fine}
-use Rattle.two_laws.proofs.TwoLaw.{Tree, taken, tree-fine, own-usable, own-other}
-use Rattle.two_laws.proofs.Arrange.{Arr, arr-low, settled-tree}
-use Rattle.two_laws.proofs.CallsTwo.{arranged}
+use Rattle.two_laws.proofs.TwoLaw.{taken, tree-fine, own-usable, own-other}
+use Rattle.two_laws.proofs.Arrange.{arr-low}
 use Rattle.two_laws.proofs.AcceptedTwo.{there}
+use Rattle.two_laws.proofs.LeafStores.{slots-into}
 use Rattle.two_laws.proofs.DeleteTwo.{can-free, stores-freeing, stores-plain}
-use Rattle.two_laws.proofs.PartsTwo.{settled-plain, standing-reached, key-place, out-settled, out-there, parent-plain}
+use Rattle.two_laws.proofs.PartsTwo.{beside, tree, settled-plain, standing-reached, key-place, out-settled, out-there, parent-plain}
 use Rattle.reader_laws.proofs.Values.{values_to, Steady, steady-one, steady-then, steady-after, inside-or-not, into-none, values-append}
 use Rattle.reader_laws.proofs.ShiftValues.{shift-out-steady, none-put, one-put}
 
 -- ---- the stores of a shift go to the node's slots
-
-in-slots : (x : ℕ) (qs : List SlotStore) → Each (Below 12) qs → Each (λ (q : SlotStore). Into (node_start x + 8) 24 (in_node x q)) qs
-in-slots x qs = Each-map (Below 12) (λ (q : SlotStore). Into (node_start x + 8) 24 (in_node x q)) qs (slot-into x)
-
-pub shift-in-into : (t : Words) (x k y : ℕ) → length (node_view t x).shown ≤ 10 → Each (Into (node_start x + 8) 24) (shift_in_at t x k y)
-unfolding shift_in_at
-shift-in-into t x k y few =
-    let ss = (node_view t x).shown in
-    let qs = shift_in (node_view t x).left ss (place_of k ss) k y in
-    (each-map (Into (node_start x + 8) 24) (in_node x) qs).1 (in-slots x qs (shift-in-places (node_view t x).left ss (place_of k ss) k y 12 (place-length k ss) (omega arith)))
 
 pub shift-out-into : (t : Words) (x k : ℕ) → length (node_view t x).shown ≤ 11 → place_of k (node_view t x).shown < length (node_view t x).shown → Each (Into (node_start x + 8) 24) (shift_out_at t x k)
 unfolding shift_out_at
 shift-out-into t x k few l =
     let ss = (node_view t x).shown in
     let qs = shift_out (node_view t x).left ss (place_of k ss) in
-    (each-map (Into (node_start x + 8) 24) (in_node x) qs).1 (in-slots x qs (shift-out-places (node_view t x).left ss (place_of k ss) 12 l (omega arith)))
+    slots-into x qs (shift-out-places (node_view t x).left ss (place_of k ss) 12 l (omega arith))
 
 -- ---- a collection of a settled table
 
 module _ (n : ℕ) (t : Words) (h : no_collection n t ≡ false) (s : settled t ≡ true) where
-  pub beside : (ws : List ℕ) × Arr (root_word n) ws t
-  beside = arranged (root_word n) t (there n t h).1
-
-  pub own-tree : Tree (root_word n) beside.0 t nothing
-  own-tree = settled-tree (root_word n) beside.0 t beside.1 s
-
-  pub own-fine : Fine (root_word n) (taken beside.0 t) t nothing
-  own-fine = tree-fine (root_word n) beside.0 t (arr-low (root_word n) beside.0 t beside.1) nothing own-tree
+  pub own-fine : Fine (root_word n) (taken (beside n t h s).0 t) t nothing
+  own-fine = tree-fine (root_word n) (beside n t h s).0 t (arr-low (root_word n) (beside n t h s).0 t (beside n t h s).1) nothing (tree n t h s)
 
   pub reached-some : (m : ℕ) → Memᴰ m (reached (view_of n t)) → 1 ≤ m
-  reached-some m i = (own-other (root_word n) beside.0 t nothing own-tree m i).some
+  reached-some m i = (own-other (root_word n) (beside n t h s).0 t nothing (tree n t h s) m i).some
 
   pub reached-few : (m : ℕ) → Memᴰ m (reached (view_of n t)) → length (node_view t m).shown ≤ 11
-  reached-few m i = shown-few t m (own-usable (root_word n) beside.0 t nothing own-tree m i).clear
+  reached-few m i = shown-few t m (own-usable (root_word n) (beside n t h s).0 t nothing (tree n t h s) m i).clear
 
   pub standing-level : (d k : ℕ) → d ≤ height (view_of n t) → (node_view t (standing n t d k)).level ≡ d
-  standing-level d k l = (standing-stands (root_word n) (taken beside.0 t) t own-fine k d l).covers.at.level
+  standing-level d k l = (standing-stands (root_word n) (taken (beside n t h s).0 t) t own-fine k d l).covers.at.level
 
 -- ---- deletion
 
@@ -104,7 +85,7 @@ module _ (n : ℕ) (t : Words) (h : no_collection n t ≡ false) (s : settled t 
     link = suc (node_start (child_before (view t₁) p x))
 
     freeable : Freeable (root_word n) (taken (beside n t h s).0 t₁) t₁ p x
-    freeable = can-free n (beside n t h s).0 t (beside n t h s).1 (own-tree n t h s) k has e
+    freeable = can-free n (beside n t h s).0 t (beside n t h s).1 (tree n t h s) k has e
 
     p-few : length (node_view t₁ p).shown ≤ 11
     p-few = reached-few n t₁ (out-there n t h s k has) (out-settled n t h s k has) p freeable.parent

@@ -27,6 +27,7 @@ use Rattle.tree_laws.proofs.SearchLaw.{Stands}
 use Rattle.step_laws.proofs.Rowwise.{OnRow, Comes, same-stands, same-comes, stands-comes}
 use Rattle.step_laws.proofs.LevelCourses.{Quiet, MayTurn}
 use Rattle.step_laws.proofs.LinkCourses.{whole-quiet}
+use Rattle.step_laws.proofs.WholeNode.{put-all-length}
 use Rattle.step_laws.proofs.Standing.{standing-stands, standing-is}
 use Rattle.step_laws.proofs.Split.{split-quiet, split-turn, split-settled}
 use Rattle.two_laws.specs.Parts.{split_for}
@@ -36,18 +37,13 @@ use Rattle.two_laws.proofs.AcceptedTwo.{there}
 use Rattle.two_laws.proofs.CallsTwo.{Is, arr-other}
 use Rattle.two_laws.proofs.SplitTwo.{length-split, split-beside}
 use Rattle.two_laws.proofs.InsertTwo.{first-course, first-others}
-use Rattle.two_laws.proofs.PartsTwo.{settled-plain}
+use Rattle.two_laws.proofs.PartsTwo.{beside, tree as own-tree, settled-plain}
 use Rattle.reader_laws.proofs.Values.{values-here, value-one}
 use Rattle.reader_laws.proofs.ShiftValues.{none-put}
 use Rattle.reader_laws.proofs.Histories.{History}
 use Rattle.reader_laws.proofs.StoresHistory.{stores-history}
-use Rattle.reader_laws.proofs.SettledNodes.{beside, own-tree, own-fine}
+use Rattle.reader_laws.proofs.SettledNodes.{own-fine}
 use Rattle.reader_laws.proofs.SplitValues.{all-reach, Going, ns, a-reached, b-free, full-node, split-a, going-next}
-
-pub length-put-all : (w : ℕ) (xs : Words) → length (put_all w xs) ≡ length xs
-unfolding put_all
-length-put-all w [] = refl
-length-put-all w (x ∷ xs) = ap suc (length-put-all (suc w) xs)
 
 -- a node that stood for k leads, by one move at most, to the one that stands for it later
 pub history-comes : (w : ℕ → View) → ((i : ℕ) → Orderly (w i)) → (l : ℕ) → History w l → (i j k m : ℕ) → i ≤ j → Stands (w i) k l m → Comes (w j) k l m
@@ -98,7 +94,7 @@ module _ (n k y l : ℕ) (t : Words) (g : Going n k y (suc l) t) where
   -- the first 32 stores are B's words: they change no node that is reached
   words-part : (j : ℕ) → j ≤ 32 → take j ss ≡ take j (put_all (node_start b) (split_words t a))
   unfolding split
-  words-part j h = take-append-le j (put_all (node_start b) (split_words t a)) _ (omega (arith, length-put-all (node_start b) (split_words t a), length-split t a))
+  words-part j h = take-append-le j (put_all (node_start b) (split_words t a)) _ (omega (arith, put-all-length (node_start b) (split_words t a), length-split t a))
 
   own-early : (j m : ℕ) → j ≤ 32 → Memᴰ m (reached (view_of n (part j))) → Memᴰ m (reached (view_of n t))
   own-early j m h i =

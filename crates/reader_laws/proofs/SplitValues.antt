@@ -36,10 +36,11 @@ use Rattle.two_laws.proofs.TwoLaw.{Tree, taken}
 use Rattle.two_laws.proofs.Arrange.{Arr, arr-covers, free-fresh, free-off}
 use Rattle.two_laws.proofs.SplitTwo.{length-split}
 use Rattle.two_laws.proofs.InsertTwo.{first-course}
-use Rattle.two_laws.proofs.PartsTwo.{standing-reached, ready-later, split-stays}
+use Rattle.two_laws.proofs.LeafStores.{shift-in-into}
+use Rattle.two_laws.proofs.PartsTwo.{beside, tree as own-tree, standing-reached, ready-later, split-stays}
 use Rattle.reader_laws.proofs.Values.{values_to, values-append, values-past, into-none}
 use Rattle.reader_laws.proofs.ShiftValues.{none-put}
-use Rattle.reader_laws.proofs.SettledNodes.{shift-in-into, beside, own-tree, reached-some, standing-level}
+use Rattle.reader_laws.proofs.SettledNodes.{reached-some, standing-level}
 
 -- ---- the words of a node
 

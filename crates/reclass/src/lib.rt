@@ -9,6 +9,7 @@ use model::{Refusal, Written};
 use orders::{Pen, Writer};
 use sound::Sound;
 
+// The call. Table, list and numbers come one by one, as C hands them in.
 pub fn set_class(
     table: &mut [u64],
     list: &mut [u64],

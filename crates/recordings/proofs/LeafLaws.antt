@@ -1,13 +1,11 @@
 -- One leaf, a slot in use more: ranges, hits and entries; and the leaf that is read.
 use mathlib.Core.Path.{◌≡◌, refl, ap, sym, ◌∙◌}
 use mathlib.Core.Bool.{Bool, true, false, ◌&&◌}
-use mathlib.Core.Logic.{◌≢◌}
 use mathlib.Core.List.{List, [], ◌∷◌, map, tail}
 use Prim.Native.Nat.{ℕ, zero, suc, ◌+◌, ◌-◌, ◌≤◌}
 use native.Mathlib.Omega.{arith}
 use lib.ListN.{length, get_or, take, drop}
 use lib.Seq.{drop-cons}
-use borrow.Author.Tests.{eq-eqb, ne_eqb}
 use Rattle.model.specs.declared.Node.{Node}
 use Rattle.model.specs.Table.{Words, node}
 use Rattle.model.specs.Slots.{Slot, slot, shown, used, recording_of, recording, pointer_ok, view}
@@ -25,51 +23,44 @@ use Rattle.numbers.proofs.Once.{stop-last, goes-on, ends}
 use Rattle.slots.specs.declared.ways.Ways.{Ways}
 use Rattle.slots.specs.Scan.{shown_from, keeps, kept_of, is_way}
 use Rattle.slots.specs.Gathered.{span, slots_in}
-use Rattle.slots.proofs.Kept.{kept-taken, kept-passed}
+use Rattle.slots.proofs.Kept.{all-kept, kept-taken, kept-passed}
 use Rattle.bits.specs.Bits.{has}
-use Rattle.recordings.specs.Marked.{is_one, own, kept_in, leaf_slots}
+use Rattle.recordings.specs.Marked.{is_one, is_leaf, own, kept_in}
+use Rattle.recordings.specs.declared.Leaf.{Leaf}
 use Rattle.recordings.specs.declared.Marks.{Marks}
 use Rattle.recordings.specs.Rounds.{Hits, hit_if, hit_all}
 
 -- ---- the leaf that is read
 
+-- a leaf of these
+abbrev leaf_of : Node → (bound : ℕ) → Leaf
+leaf_of x b = record { node = x; bound = b }
+
 module _ (t : Words) (m : Marks) (n : ℕ) where
-  pub leaf-unmarked : has m.bits n ≡ false → [] ≡ own (view t) m n
-  unfolding own
-  leaf-unmarked h = sym (rw h)
+  pub leaf-unmarked : (b : Bool) → b ≡ has m.bits n → b ≡ false → b ≡ is_leaf (view t) m n
+  leaf-unmarked b e z = z ∙ sym (ap (λ (x : Bool). x && eqb (node t n).level 0) (sym e ∙ z))
 
-  pub leaf-inner : has m.bits n ≡ true → (l : ℕ) → l ≡ word_of t n 2 → l ≢ 0 → [] ≡ own (view t) m n
-  unfolding own
-  leaf-inner h l q z = sym (rw (h, ne_eqb (node t n).level 0 (λ y. z (q ∙ word-level t n ∙ y))))
+  pub leaf-marked : (b : Bool) → b ≡ has m.bits n → b ≡ true → (l : ℕ) → l ≡ word_of t n 2 → eqb l 0 ≡ is_leaf (view t) m n
+  leaf-marked b e y l q = ap (λ (x : ℕ). eqb x 0) (q ∙ word-level t n) ∙ sym (ap (λ (x : Bool). x && eqb (node t n).level 0) (sym e ∙ y))
 
-  pub leaf-read : (x : Node) → x ≡ node t n → has m.bits n ≡ true → (l : ℕ) → l ≡ word_of t n 2 → l ≡ 0 → is_one m.uncut n ≡ true → kept_in x (word_of t x.sibling 3) ≡ own (view t) m n
+  pub none-own : (b : Bool) → b ≡ is_leaf (view t) m n → b ≡ false → [] ≡ own (view t) m n
+  unfolding own
+  none-own b e z = sym (rw (sym e ∙ z))
+
+  pub leaf-read : (x : Node) (b : ℕ) → x ≡ node t n → is_leaf (view t) m n ≡ true → b ≡ word_of t x.sibling 3 → is_one m.uncut n ≡ true → kept_in (leaf_of x b) ≡ own (view t) m n
   unfolding own used kept below keeps
-  leaf-read x e h l q z u =
-      ap (λ (y : Node). kept_in y (word_of t y.sibling 3)) e ∙ ap (kept_in (node t n)) (word-fence t (node t n).sibling)
-      ∙ sym (rw (h, eq-eqb (node t n).level 0 (sym (word-level t n) ∙ sym q ∙ z), u))
+  leaf-read x b e h q u =
+      ap (λ (y : ℕ). kept_in (leaf_of x y)) q ∙ ap (λ (y : Node). kept_in (leaf_of y (word_of t y.sibling 3))) e
+      ∙ ap (λ (y : ℕ). kept_in (leaf_of (node t n) y)) (word-fence t (node t n).sibling) ∙ sym (rw (h, u))
 
-  all-kept : (b : ℕ) (ss : List Slot) → kept_of 0 b ss ≡ ss
-  unfolding filter keeps
-  all-kept b [] = refl
-  all-kept b (s ∷ ss) = ap (λ (l : List Slot). s ∷ l) (all-kept b ss)
-
-  pub leaf-whole : (x : Node) (b : ℕ) → x ≡ node t n → has m.bits n ≡ true → (l : ℕ) → l ≡ word_of t n 2 → l ≡ 0 → is_one m.uncut n ≡ false → kept_of 0 b (shown_from x.left x.slots 0) ≡ own (view t) m n
+  pub leaf-whole : (x : Node) (b : ℕ) → x ≡ node t n → is_leaf (view t) m n ≡ true → is_one m.uncut n ≡ false → kept_of 0 b (shown_from x.left x.slots 0) ≡ own (view t) m n
   unfolding own used
-  leaf-whole x b e h l q z u =
-      all-kept b (shown_from x.left x.slots 0) ∙ ap (λ (y : Node). shown_from y.left y.slots 0) e
-      ∙ sym (rw (h, eq-eqb (node t n).level 0 (sym (word-level t n) ∙ sym q ∙ z), u))
+  leaf-whole x b e h u = all-kept b (shown_from x.left x.slots 0) ∙ ap (λ (y : Node). shown_from y.left y.slots 0) e ∙ sym (rw (h, u))
 
 -- whether it is the one, as options are compared
 pub same-one : (o : Option ℕ) (n : ℕ) → option_eq eqb o (Some n) ≡ is_one o n
 same-one None n = refl
 same-one (Some x) n = refl
-
--- as the code has it, with the bound read
-pub leaf-kept : (t : Words) (m : Marks) (n : ℕ) (o : Option Node) (x : Node) (b : ℕ) → leaf_slots t o ≡ own (view t) m n → o ≡ Some x → b ≡ word_of t x.sibling 3 → kept_in x b ≡ own (view t) m n
-leaf-kept t m n o x b e z q = ap (kept_in x) q ∙ sym (ap (leaf_slots t) z) ∙ e
-
-pub leaf-none : (t : Words) (m : Marks) (n : ℕ) (o : Option Node) → leaf_slots t o ≡ own (view t) m n → o ≡ None → [] ≡ own (view t) m n
-leaf-none t m n o e z = sym (ap (leaf_slots t) z) ∙ e
 
 -- ---- the ways, of which the first is none of the slots
 
@@ -78,24 +69,25 @@ unfolding span
 numbers-taken ks ps i zero h = refl
 numbers-taken ks ps i (suc m) h = rw (drop-cons ps i 0 (omega arith)) (ap (λ (ns : List ℕ). recording_of (get_or ps i 0) ∷ ns) (numbers-taken ks ps (suc i) m (omega arith)))
 
-module _ (x : Node) (b : ℕ) (w : Ways) (is : slots_in w ≡ slot x.fence x.left ∷ kept_in x b) where
+module _ (x : Leaf) (w : Ways) (is : slots_in w ≡ slot x.node.fence x.node.left ∷ kept_in x) where
+  -- `some-way` of leaves/HitLaws is of the ways that a table lists for a node; a leaf by value has no table
   pub ways-some : 1 ≤ w.count
   unfolding span
   ways-some = go w.count is
     where
-      go : (c : ℕ) → span w.keys w.pointers 0 c ≡ slot x.fence x.left ∷ kept_in x b → 1 ≤ c
+      go : (c : ℕ) → span w.keys w.pointers 0 c ≡ slot x.node.fence x.node.left ∷ kept_in x → 1 ≤ c
       go zero q = cc
       go (suc c) q = omega arith
 
-  ways-rest : span w.keys w.pointers 1 (w.count - 1) ≡ kept_in x b
+  ways-rest : span w.keys w.pointers 1 (w.count - 1) ≡ kept_in x
   unfolding span
   ways-rest = go w.count is
     where
-      go : (c : ℕ) → span w.keys w.pointers 0 c ≡ slot x.fence x.left ∷ kept_in x b → span w.keys w.pointers 1 (c - 1) ≡ kept_in x b
+      go : (c : ℕ) → span w.keys w.pointers 0 c ≡ slot x.node.fence x.node.left ∷ kept_in x → span w.keys w.pointers 1 (c - 1) ≡ kept_in x
       go zero q = ap tail q
       go (suc c) q = let z : suc c - 1 ≡ c = omega arith in ap (span w.keys w.pointers 1) z ∙ ap tail q
 
-  pub ways-kept : w.count ≤ length w.pointers → map recording_of (take (w.count - 1) (drop 1 w.pointers)) ≡ map recording (kept_in x b)
+  pub ways-kept : w.count ≤ length w.pointers → map recording_of (take (w.count - 1) (drop 1 w.pointers)) ≡ map recording (kept_in x)
   ways-kept h = let some = ways-some in numbers-taken w.keys w.pointers 1 (w.count - 1) (omega arith) ∙ ap (map recording) ways-rest
 
 -- ---- slot by slot

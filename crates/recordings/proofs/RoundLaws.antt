@@ -1,6 +1,6 @@
 -- What is there twice stays a suspect, round by round; where no place is hit twice, nothing is there twice.
 use mathlib.Core.Path.{◌≡◌, refl, ap, sym, ◌∙◌}
-use mathlib.Core.Bool.{Bool, true, false, cond, not, ◌&&◌, ◌||◌, false≢true}
+use mathlib.Core.Bool.{Bool, true, false, cond, not, ◌&&◌, ◌||◌, or-true, or-false, false≢true}
 use mathlib.Core.Logic.{◌≢◌, ⊎_elim}
 use mathlib.Core.List.{List, [], ◌∷◌}
 use Prim.Native.Nat.{ℕ, zero, suc, ◌+◌, ◌-◌, ◌*◌, ◌/◌, ◌%◌, ◌≤◌, ◌<◌}
@@ -12,9 +12,8 @@ use borrow.Author.Tests.{eqb-true, eq-eqb, ne_eqb}
 use Rattle.model.specs.Table.{Words}
 use Rattle.model.specs.Reached.{filter}
 use Rattle.model.specs.SoundTest.{elem, distinct}
-use Rattle.list_laws.proofs.Tools.{and-iff, same-test, same-or-not, refuted, or-right}
-use Rattle.list_laws.proofs.Members.{elem-iff}
-use Rattle.list_laws.proofs.Filters.{filter-yes, filter-no, mem-filter}
+use Rattle.list_laws.proofs.Tools.{and-iff, same-or-not, refuted, or-right}
+use Rattle.list_laws.proofs.Filters.{elem-filter, filter-yes, filter-no}
 use Rattle.list_laws.proofs.Distinct.{distinct-cons}
 use Rattle.numbers.specs.Cells.{CELLS, Entry, outcome, entered_all, Tells}
 use Rattle.numbers.proofs.Once.{tells-same, all-tells}
@@ -118,19 +117,11 @@ module _ (y : ℕ) (l : y < PLACES) (h : Hits) (w : Wide h) where
 
 -- ---- whether some place was hit twice before is data
 
-or-more : (c : Bool) → (c || true) ≡ true
-or-more true = refl
-or-more false = refl
-
-or-none : (c : Bool) → (c || false) ≡ c
-or-none true = refl
-or-none false = refl
-
 hit-before : (y : ℕ) (c : Bool) (h : Hits) → hit y (or_before c h) ≡ or_before c (hit y h)
 hit-before y c h = go (has h.once y) refl
   where
     go : (b : Bool) → has h.once y ≡ b → hit y (or_before c h) ≡ or_before c (hit y h)
-    go true e = hit-later y (or_before c h) e ∙ sym (ap (or_before c) (hit-later y h e) ∙ ap (hits h.once (put h.twice (y / 2))) (or-more c))
+    go true e = hit-later y (or_before c h) e ∙ sym (ap (or_before c) (hit-later y h e) ∙ ap (hits h.once (put h.twice (y / 2))) (or-true c))
     go false e = hit-first y (or_before c h) e ∙ sym (ap (or_before c) (hit-first y h e))
 
 module _ (q : ℕ → Bool) (place : ℕ → ℕ) (x : ℕ) (h : Hits) where
@@ -157,7 +148,7 @@ module _ (q : ℕ → Bool) (place : ℕ → ℕ) where
 
   module _ (once twice : Words) (c : Bool) (o t : Words) (r : Bool) where
     none-before : or_before c (hits once twice false) ≡ hits once twice c
-    none-before = ap (hits once twice) (or-none c)
+    none-before = ap (hits once twice) (or-false c)
 
     pub if-joined : (x : ℕ) → hits o t r ≡ hit_if q place x (hits once twice false) → hits o t (c || r) ≡ hit_if q place x (hits once twice c)
     if-joined x e = ap (or_before c) e ∙ sym (if-before x c (hits once twice false)) ∙ ap (hit_if q place x) none-before
@@ -225,11 +216,6 @@ again-here x ys e = or-left (eqb x x && elem x ys) (again x ys) ((and-iff (eqb x
 pub none-again : (xs : List ℕ) → ((x : ℕ) → again x xs ≡ true → ⊥) → distinct xs ≡ true
 none-again [] h = unfold distinct in refl
 none-again (x ∷ xs) h = (distinct-cons x xs).1 (refuted (elem x xs) (λ e. h x (again-here x xs e)), none-again xs (λ y e. h y (again-cons y x xs e)))
-
-elem-filter : (p : ℕ → Bool) (x : ℕ) (xs : List ℕ) → p x ≡ true → elem x (filter p xs) ≡ elem x xs
-elem-filter p x xs e =
-    same-test (elem x (filter p xs)) (elem x xs)
-    ((λ h. (elem-iff x xs).1 ((mem-filter p x xs).0 ((elem-iff x (filter p xs)).0 h)).0), λ h. (elem-iff x (filter p xs)).1 ((mem-filter p x xs).1 ((elem-iff x xs).0 h, e)))
 
 distinct-step : (x : ℕ) (xs : List ℕ) → distinct (x ∷ xs) ≡ (not (elem x xs) && distinct xs)
 unfolding distinct

@@ -7,7 +7,7 @@ ghost use Rattle.model.specs.Table.{nodes, header_ok};
 ghost use Rattle.model.specs.Slots.{recording_of, recording, view};
 ghost use Rattle.model.specs.SoundTest.{all, elem, distinct, pair_ok, recordings_ok};
 ghost use Rattle.numbers.specs.Cells.{outcome, entered_if, entered_all, Tells};
-ghost use Rattle.recordings.specs.Marked.{NoneOf, LastMarked, own, own_numbers, marked_pairs, marked_numbers, kept_in, leaf_slots, rest_of};
+ghost use Rattle.recordings.specs.Marked.{NoneOf, LastMarked, is_leaf, own, own_numbers, marked_pairs, marked_numbers, kept_in, rest_of};
 ghost use Rattle.recordings.specs.Rounds.{PLACES, place_of, hits, hit, hit_if, hit_all, suspect, Stays};
 ghost use Rattle.recordings.specs.Once.{once_before};
 
@@ -17,34 +17,49 @@ use slots::Ways;
 
 // ---- the leaves among the marked nodes
 
-// Words for a bit of each node.
-pub const MARKS: usize = 1024;
+pub use bits::MARKS;
 
 // The marked nodes, a bit each, and the one that may show slots from its sibling's fence up, if one does. It is lent and never copied, for it
-// is 8 KB long.
+// is 8 KB long. The table is lent beside it, here and below: a struct of both, with the header's fact in a ghost field, would hold two references
+// into two owners, and each clause would reach the table and the marks through it.
 #[derive(Drop)]
 pub struct Marks {
     pub bits: [u64; MARKS],
     pub uncut: Option<u64>,
 }
 
-// Node n, if it is marked and a leaf. But for the one node a sibling is left out: its fence, which lies anywhere in the table, need not be
-// read.
-fn leaf(table: &[u64], marks: &Marks, n: u64) -> Option<Node>
+// A leaf, and the fence of its sibling; 0 is in place of both the sibling and its fence if the sibling is left out.
+#[derive(Drop)]
+struct Leaf {
+    node: Node,
+    bound: u64,
+}
+
+// Whether node n is marked and a leaf. A test and a read apart: as one function that answered an Option of a node, whose bound each caller read, the
+// check of a table took 1 % more instructions, as measured, and its bar is no more than before.
+fn is_leaf(table: &[u64], marks: &Marks, n: u64) -> bool
     requires { n ≤ 65535 }
-    ensures { leaf_slots table.now result ≡ own (view table.now) marks.now n }
+    ensures { result ≡ is_leaf (view table.now) marks.now n }
 {
-    if !bits::has(&marks.bits, n as usize) {
-        return None;
-    }
-    if node::word(table, n, 2) != 0 {
-        return None;
-    }
+    bits::has(&marks.bits, n as usize) && node::word(table, n, 2) == 0
+}
+
+// Node n, which is marked and a leaf. But for the one node a sibling is left out: its fence, which lies anywhere in the table, need not be read.
+fn read_leaf(table: &[u64], marks: &Marks, n: u64) -> Leaf
+    requires { is_leaf (view table.now) marks.now n ≡ true }
+    ensures { kept_in result ≡ own (view table.now) marks.now n }
+{
     let x = node::read(table, n);
     if marks.uncut == Some(n) {
-        return Some(x);
+        return Leaf {
+            node: x,
+            bound: node::word(table, x.sibling, 3),
+        };
     }
-    Some(Node { sibling: 0, ..x })
+    Leaf {
+        node: Node { sibling: 0, ..x },
+        bound: 0,
+    }
 }
 
 // So many numbers from m down, at least, are not marked: those of its word if that is 0.
@@ -84,16 +99,18 @@ fn last_marked(table: &[u64], marks: &[u64; MARKS]) -> u64
 // Whether each kept slot of a leaf has a recording number and a class that there are.
 // Loops, here and below: the pointer before a slot says if it is shown, and slots gathered first (as in ways) would be copied in each pass.
 // Tried: over an iterator of the kept slots the check of a table takes 6 % more instructions.
-fn leaf_ok(x: Node, bound: u64) -> bool
-    ensures { result ≡ all pair_ok (kept_in x bound) }
+fn leaf_ok(x: Leaf) -> bool
+    ensures { result ≡ all pair_ok (kept_in x) }
 {
-    let mut before = x.left;
+    let mut before = x.node.left;
     for i in 0..12 {
-        let p = x.slots[2 * i + 1];
+        let p = x.node.slots[2 * i + 1];
         if p == 0 {
             return true;
         }
-        if slots::is_way(x.sibling, bound, before, x.slots[2 * i], p) && !pointer::ok(p) {
+        if slots::is_way(x.node.sibling, x.bound, before, x.node.slots[2 * i], p)
+            && !pointer::ok(p)
+        {
             return false;
         }
         before = p;
@@ -106,14 +123,15 @@ fn node_ok(table: &[u64], marks: &Marks, n: u64) -> bool
     requires { n ≤ 65535 }
     ensures { result ≡ all pair_ok (own (view table.now) marks.now n) }
 {
-    let Some(x) = leaf(table, marks, n) else {
+    if !is_leaf(table, marks, n) {
         return true;
-    };
-    let bound = node::word(table, x.sibling, 3);
-    leaf_ok(x, bound)
+    }
+    let x = read_leaf(table, marks, n);
+    leaf_ok(x)
 }
 
-// Whether each kept slot of all has.
+// Whether each kept slot of all has. A range to one more, here and below where no loop runs over it: the library's laws list what `a..b` yields, and no
+// lemma of std's lists `a..=b`, which would need a proof of its own.
 fn pairs_ok(table: &[u64], marks: &Marks) -> bool
     requires { header_ok table.now ≡ true }
     ensures { result ≡ all pair_ok (marked_pairs (view table.now) marks.now) }
@@ -125,8 +143,9 @@ fn pairs_ok(table: &[u64], marks: &Marks) -> bool
 // ---- a round: suspects by bits
 
 // Hits and entries are written to arrays that are lent. Loops do that, and not a closure for each slot or node: after `for_each` a proof knows
-// nothing of what its closure wrote to. What a round needs is lent part by part: the table is C's, the marks are the check's, and two of the
-// three arrays change places after a round.
+// nothing of what its closure wrote to. What a round needs is lent part by part: a struct of references to the three arrays would be lent again to
+// each call, and its clauses would name each array before and after as they do now. Nor are a round and its row a struct: step would make a
+// second one of the next round and the row that it writes to, and `suspect round row` is all that a clause says of either.
 
 // Words of a bit for each place of a round, and for each two of them.
 const ONCE: usize = 16384;
@@ -192,21 +211,20 @@ fn hit_leaf(
     once: &mut [u64; ONCE],
     twice: &mut [u64; TWICE],
     round: u64,
-    x: Node,
-    bound: u64,
+    x: Leaf,
 ) -> bool
     ensures { hits once.new twice.new result
-        ≡ hit_all (suspect round olds.now) (place_of round) (map recording (kept_in x bound))
+        ≡ hit_all (suspect round olds.now) (place_of round) (map recording (kept_in x))
         (hits once.old twice.old false) }
 {
     let mut crowded = false;
-    let mut before = x.left;
+    let mut before = x.node.left;
     for i in 0..12 {
-        let p = x.slots[2 * i + 1];
+        let p = x.node.slots[2 * i + 1];
         if p == 0 {
             return crowded;
         }
-        if slots::is_way(x.sibling, bound, before, x.slots[2 * i], p) {
+        if slots::is_way(x.node.sibling, x.bound, before, x.node.slots[2 * i], p) {
             crowded |= hit_number(olds, once, twice, round, pointer::recording(p));
         }
         before = p;
@@ -230,12 +248,12 @@ fn hit_leaves(
 {
     let last = last_marked(table, &marks.bits);
     let mut crowded = false;
-    for n in 1..last + 1 {
-        let Some(x) = leaf(table, marks, n) else {
+    for n in 1..=last {
+        if !is_leaf(table, marks, n) {
             continue;
-        };
-        let bound = node::word(table, x.sibling, 3);
-        crowded |= hit_leaf(olds, once, twice, round, x, bound);
+        }
+        let x = read_leaf(table, marks, n);
+        crowded |= hit_leaf(olds, once, twice, round, x);
     }
     crowded
 }
@@ -253,23 +271,17 @@ fn enter_number(cells: &mut [u64; CELLS], twice: &[u64; TWICE], round: u64, numb
 }
 
 // Enters a leaf's suspects.
-fn enter_leaf(
-    cells: &mut [u64; CELLS],
-    twice: &[u64; TWICE],
-    round: u64,
-    x: Node,
-    bound: u64,
-) -> Entry
+fn enter_leaf(cells: &mut [u64; CELLS], twice: &[u64; TWICE], round: u64, x: Leaf) -> Entry
     ensures { outcome result cells.new
-        ≡ entered_all (suspect round twice.now) (map recording (kept_in x bound)) cells.old }
+        ≡ entered_all (suspect round twice.now) (map recording (kept_in x)) cells.old }
 {
-    let mut before = x.left;
+    let mut before = x.node.left;
     for i in 0..12 {
-        let p = x.slots[2 * i + 1];
+        let p = x.node.slots[2 * i + 1];
         if p == 0 {
             return Ok(());
         }
-        if slots::is_way(x.sibling, bound, before, x.slots[2 * i], p) {
+        if slots::is_way(x.node.sibling, x.bound, before, x.node.slots[2 * i], p) {
             enter_number(cells, twice, round, pointer::recording(p))?;
         }
         before = p;
@@ -290,12 +302,12 @@ fn enter_leaves(
         ≡ entered_all (suspect round twice.now) (marked_numbers (view table.now) marks.now) cells.old }
 {
     let last = last_marked(table, &marks.bits);
-    for n in 1..last + 1 {
-        let Some(x) = leaf(table, marks, n) else {
+    for n in 1..=last {
+        if !is_leaf(table, marks, n) {
             continue;
-        };
-        let bound = node::word(table, x.sibling, 3);
-        enter_leaf(cells, twice, round, x, bound)?;
+        }
+        let x = read_leaf(table, marks, n);
+        enter_leaf(cells, twice, round, x)?;
     }
     Ok(())
 }
@@ -308,9 +320,11 @@ fn ways(table: &[u64], marks: &Marks, n: u64) -> Option<Ways>
     ensures numbers { map recording_of (rest_of result) ≡ map recording (own (view table.now) marks.now n) }
     ensures count_low { IfSome result (λ w. 1 ≤ w.count) }
 {
-    let x = leaf(table, marks, n)?;
-    let bound = node::word(table, x.sibling, 3);
-    Some(slots::gather(x, bound))
+    if !is_leaf(table, marks, n) {
+        return None;
+    }
+    let x = read_leaf(table, marks, n);
+    Some(slots::gather(x.node, x.bound))
 }
 
 // Whether one of these pointers has this recording number.

@@ -9,7 +9,7 @@ use model::Written;
 use orders::{Pen, Writer};
 use sound::Sound;
 
-// Finishes what a cut left unfinished.
+// Finishes what a cut left unfinished. Table, list and dock come one by one, as C hands them in.
 pub fn repair(table: &mut [u64], list: &mut [u64], dock: u64) -> Written
     ensures value { result ≡ written repair (length list.old) dock table.old }
     ensures table_after { table.new ≡ table_after repair (length list.old) dock table.old }

@@ -18,6 +18,7 @@ use Rattle.pack_laws.proofs.Fresh.{words-long}
 use Rattle.tour_laws.proofs.Sound.{alone-maps, beside-maps, alone-dropped}
 use Rattle.pack.specs.Rows.{packed_after}
 use Rattle.pack.proofs.Parts.{rest-is, rest-long, back-is}
+use Rattle.gather.proofs.Slots.{words-append}
 use Rattle.packing.specs.Parts.{second_root, packed_nodes}
 use Rattle.salvage.specs.Parts.{Toured, needed_both, Most, Fits, Reported}
 use Rattle.salvage.proofs.Bounds.{top-few, one-gathered, two-gathered}
@@ -28,11 +29,6 @@ drop-words-long : (ds : List Drop) → length (drop_words ds) ≡ 3 * length ds
 unfolding drop_words
 drop-words-long [] = refl
 drop-words-long (d ∷ ds) = let e = drop-words-long ds in omega arith
-
-drop-words-append : (ds es : List Drop) → drop_words (ds ++ es) ≡ drop_words ds ++ drop_words es
-unfolding drop_words
-drop-words-append [] es = refl
-drop-words-append (d ∷ ds) es = ap (λ (l : Words). d.node ∷ d.place ∷ d.reason ∷ l) (drop-words-append ds es)
 
 module _ (r r₁ : Words) (ds : List Drop) (d : ℕ) (a : Reported r r₁ ds d) where
   abbrev rest : Words
@@ -52,7 +48,7 @@ module _ (r r₁ : Words) (ds : List Drop) (d : ℕ) (a : Reported r r₁ ds d) 
             ∙ ap (λ (l : Words). l ++ r₂) (ap (take (3 * d)) a.1 ∙ take_at (drop_words ds) (drop (3 * d) r) (3 * d) written)
             ∙ ap (λ (l : Words). drop_words ds ++ l) (b.1 ∙ ap (λ (l : Words). drop_words es ++ drop (3 * e) l) rest-of)
             ∙ sym (append_assoc (drop_words ds) (drop_words es) (drop (3 * e) (drop (3 * d) r)))
-            ∙ ap (λ (l : Words). l ++ drop (3 * e) (drop (3 * d) r)) (sym (drop-words-append ds es))
+            ∙ ap (λ (l : Words). l ++ drop (3 * e) (drop (3 * d) r)) (sym (words-append ds es))
             ∙ ap (λ (l : Words). drop_words (ds ++ es) ++ l) (drop-drop (3 * e) (3 * d) r ∙ ap (λ (k : ℕ). drop k r) i),
       )
 

@@ -11,10 +11,10 @@ use Rattle.model.specs.Table.{Words, at, nodes}
 use Rattle.model.specs.Reached.{unless_lacking}
 use Rattle.model.specs.Packing.{packed_count, of_second, packed_both}
 use Rattle.model.specs.Salvage.{gathered_along, gathered, kept_maps, outgrows}
-use Rattle.table_laws.proofs.Header.{header-iff}
 use Rattle.pack_laws.specs.Needed.{nodes_needed}
 use Rattle.pack_laws.proofs.Counts.{count-needed, needed-more}
 use Rattle.salvage.specs.Parts.{Toured, needed_both, Most}
+use Rattle.salvage.proofs.Entering.{header-size}
 
 -- ---- both collections
 
@@ -46,10 +46,10 @@ both-more t a b c d h k = go (eqb (at t 3) 0)
 
 module _ (t firsts seconds : Words) (r : Toured t firsts seconds) where
   pub top-few : nodes t ≤ 65535
-  top-few = let a = ((header-iff t).0 r.header).size.few in omega arith
+  top-few = (header-size t r.header).1
 
   pub words-some : 8 ≤ length t
-  words-some = let a = ((header-iff t).0 r.header).size.long in omega arith
+  words-some = (header-size t r.header).0
 
   pub one-few : length firsts ≤ 65535
   one-few = let b = top-few in let d = r.few in omega arith

@@ -6,6 +6,7 @@ use Prim.Native.Nat.{ℕ, ◌+◌, ◌-◌, ◌≤◌}
 use native.Mathlib.Omega.{arith}
 use lib.ListN.{length, take, drop, replicate, length-drop}
 use lib.Seq.{length-take-le, take-take, take_at, drop_at}
+use Rattle.std.proofs.lemmas.List.{drop-take}
 use Rattle.model.specs.Table.{Words, at, nodes, in_range, header_ok}
 use Rattle.model.specs.SoundTest.{all, elem, distinct}
 use Rattle.model.specs.Salvage.{entered_from, entered}
@@ -16,12 +17,11 @@ use Rattle.tree_laws.proofs.Rows.{range-iff}
 use Rattle.tour_laws.proofs.Recursion.{first-numbers}
 use Rattle.bits.proofs.Marks.{none-marked}
 use Rattle.tour.specs.Loop.{Marked}
-use Rattle.pack.proofs.Leaves.{take-drop}
 use Rattle.salvage.specs.Parts.{Toured}
 use Rattle.tour.specs.Loop as tour-loop
 
-pub words-some : (t : Words) → header_ok t ≡ true → (8 ≤ length t) × (nodes t ≤ 65535)
-words-some t h = let f = ((header-iff t).0 h).size in (let a = f.long in omega arith, f.few)
+pub header-size : (t : Words) → header_ok t ≡ true → (8 ≤ length t) × (nodes t ≤ 65535)
+header-size t h = let f = ((header-iff t).0 h).size in (let a = f.long in omega arith, f.few)
 
 module _ (t os : Words) (h : header_ok t ≡ true) (l : length os ≡ 65536) where
   -- nothing is entered yet
@@ -65,7 +65,7 @@ module _ (t os : Words) (h : header_ok t ≡ true) (l : length os ≡ 65536) whe
           record {
             header = h;
             one = sym (take-take first count o₂ g.0) ∙ ap (take first) whole ∙ take_at (entered 1 t) (entered 2 t) first one-long;
-            two = take-drop first (count - first) o₂ ∙ ap (λ (k : ℕ). drop first (take k o₂)) s ∙ ap (drop first) whole ∙ drop_at (entered 1 t) (entered 2 t) first one-long;
+            two = sym (drop-take first (count - first) o₂) ∙ ap (λ (k : ℕ). drop first (take k o₂)) s ∙ ap (drop first) whole ∙ drop_at (entered 1 t) (entered 2 t) first one-long;
             few =
                 let d = length-drop first o₂ in
                 let a = length-take-le first o₂ (omega (arith, g.0, g.1, few, long)) in

@@ -37,6 +37,15 @@ fn enter_nodes(table: &[u64], order: &mut [u16; 65536]) -> Counts
     Counts { first, all }
 }
 
+// A damaged table with a good header, and the nodes entered: for collection 1, and for collection 2.
+#[derive(Clone, Copy)]
+struct Entered<'a> {
+    table: &'a [u64],
+    one: &'a [u16],
+    two: &'a [u16],
+    ghost toured: { Toured table.now one.now two.now },
+}
+
 // ---- whether the packing fits
 
 // How many nodes so many pairs of each collection need; without collection 2 none for it.
@@ -52,21 +61,20 @@ fn needed_both(table: &[u64], pairs: Both<usize>) -> usize
 }
 
 // At least as many as the pairs kept, and too many for the table only if these are: the slots in use, if their packing fits; else the
-// pairs kept, which takes far longer to know. The nodes entered for each collection are two slices, here and below: a struct would be taken
-// apart in each function.
-fn most_kept(table: &[u64], first: &[u16], second: &[u16]) -> Both<usize>
-    requires { Toured table.now first.now second.now }
-    ensures most { Most table.now result.one result.two }
-    ensures two_value { ltb (nodes table.now) (needed_both table.now result.one result.two) ≡ outgrows table.now }
+// pairs kept, which takes far longer to know.
+fn most_kept(entered: Entered<'_>) -> Both<usize>
+    ensures most { Most entered.entry.table.now result.one result.two }
+    ensures two_value { ltb (nodes entered.entry.table.now) (needed_both entered.entry.table.now result.one result.two)
+        ≡ outgrows entered.entry.table.now }
 {
-    let one = keeping::count_used(table, first);
-    let two = keeping::count_used(table, second);
+    let one = keeping::count_used(entered.table, entered.one);
+    let two = keeping::count_used(entered.table, entered.two);
     let used = Both { one, two };
-    if needed_both(table, used) <= table[2] as usize {
+    if needed_both(entered.table, used) <= entered.table[2] as usize {
         return used;
     }
-    let one = keeping::count_kept(table, first);
-    let two = keeping::count_kept(table, second);
+    let one = keeping::count_kept(entered.table, entered.one);
+    let two = keeping::count_kept(entered.table, entered.two);
     Both { one, two }
 }
 
@@ -103,24 +111,25 @@ fn fill(
     }
 }
 
-// The nodes of the new table, and the report, if at most so many pairs are kept of each collection. The second root is 0 if there is none.
+// The nodes of the new table, and the report, if at most so many pairs are kept of each collection. The second root is 0 if there is none,
+// and no None: it goes into header word 3. Only this function and rebuild, its caller, require Most and what follows it: a struct of entered
+// and bounds with them as ghost fields would be made for rebuild's one call, and the report's length is none of theirs.
 fn fill_both(
-    table: &[u64],
-    first: &[u16],
-    second: &[u16],
+    entered: Entered<'_>,
     words: &mut [u64],
     bounds: Both<usize>,
     report: &mut [u64],
 ) -> Filled<Both<usize>>
-    requires { Toured table.now first.now second.now × Most table.now bounds.one bounds.two
-        × (needed_both table.now bounds.one bounds.two ≤ nodes table.now) × (length words.old ≡ 32 * nodes table.now)
-        × (36 * nodes table.now ≤ length report.old) }
-    ensures words_after { words.new ≡ packed_nodes (nodes table.now) (kept_maps table.now) }
-    ensures one_value { (result.root.one ≡ packed_count (kept_maps table.now).one) × (result.root.two ≡ second_root (kept_maps table.now)) }
-    ensures reported { Reported report.old report.new (dropped_all table.now) result.dropped }
+    requires { Most entered.table.now bounds.one bounds.two
+        × (needed_both entered.table.now bounds.one bounds.two ≤ nodes entered.table.now) × (length words.old ≡ 32 * nodes entered.table.now)
+        × (36 * nodes entered.table.now ≤ length report.old) }
+    ensures words_after { words.new ≡ packed_nodes (nodes entered.entry.table.now) (kept_maps entered.entry.table.now) }
+    ensures one_value { (result.root.one ≡ packed_count (kept_maps entered.entry.table.now).one)
+        × (result.root.two ≡ second_root (kept_maps entered.entry.table.now)) }
+    ensures reported { Reported report.old report.new (dropped_all entered.entry.table.now) result.dropped }
 {
-    let f = fill(table, first, words, 0, bounds.one, report);
-    if table[3] == 0 {
+    let f = fill(entered.table, entered.one, words, 0, bounds.one, report);
+    if entered.table[3] == 0 {
         let root = Both {
             one: f.root,
             two: 0,
@@ -131,7 +140,14 @@ fn fill_both(
         };
     }
     let w = 3 * f.dropped;
-    let g = fill(table, second, words, f.root, bounds.two, &mut report[w..]);
+    let g = fill(
+        entered.table,
+        entered.two,
+        words,
+        f.root,
+        bounds.two,
+        &mut report[w..],
+    );
     let root = Both {
         one: f.root,
         two: g.root,
@@ -143,22 +159,15 @@ fn fill_both(
 }
 
 // The second slice and the report, if the packing fits; the answer is how many slots were dropped.
-fn rebuild(
-    table: &[u64],
-    first: &[u16],
-    second: &[u16],
-    out: &mut [u64],
-    bounds: Both<usize>,
-    report: &mut [u64],
-) -> usize
-    requires { Toured table.now first.now second.now × Most table.now bounds.one bounds.two
-        × (needed_both table.now bounds.one bounds.two ≤ nodes table.now) × (length out.old ≡ length table.now)
-        × (36 * nodes table.now ≤ length report.old) }
-    ensures out_after { out.new ≡ packed_table (nodes table.now) (kept_maps table.now) }
-    ensures reported { Reported report.old report.new (dropped_all table.now) result }
+fn rebuild(entered: Entered<'_>, out: &mut [u64], bounds: Both<usize>, report: &mut [u64]) -> usize
+    requires { Most entered.table.now bounds.one bounds.two
+        × (needed_both entered.table.now bounds.one bounds.two ≤ nodes entered.table.now) × (length out.old ≡ length entered.table.now)
+        × (36 * nodes entered.table.now ≤ length report.old) }
+    ensures out_after { out.new ≡ packed_table (nodes entered.entry.table.now) (kept_maps entered.entry.table.now) }
+    ensures reported { Reported report.old report.new (dropped_all entered.entry.table.now) result }
 {
-    let f = fill_both(table, first, second, &mut out[8..], bounds, report);
-    packing::put_header(out, f.root, table[2]);
+    let f = fill_both(entered, &mut out[8..], bounds, report);
+    packing::put_header(out, f.root, entered.table[2]);
     f.dropped
 }
 
@@ -181,13 +190,16 @@ pub fn salvage(table: &[u64], out: &mut [u64], report: &mut [u64]) -> Salvaged
     }
     // Room for every node that a table can have: memory is fixed, there is no heap.
     let mut order = [0u16; 65536];
-    let entered = enter_nodes(table, &mut order);
-    let first = &order[..entered.first];
-    let second = &order[entered.first..entered.all];
-    let bounds = most_kept(table, first, second);
+    let counts = enter_nodes(table, &mut order);
+    let entered = Entered {
+        table,
+        one: &order[..counts.first],
+        two: &order[counts.first..counts.all],
+    };
+    let bounds = most_kept(entered);
     if top < needed_both(table, bounds) {
         return Err(Refusal::NoNodes);
     }
-    let dropped = rebuild(table, first, second, out, bounds, report);
+    let dropped = rebuild(entered, out, bounds, report);
     Ok(dropped as u64)
 }

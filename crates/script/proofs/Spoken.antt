@@ -7,7 +7,7 @@ use Prim.Native.Nat.{ℕ, zero, suc, ◌+◌, ◌≤◌}
 use native.Mathlib.Omega.{arith}
 use lib.Dec.{eqb}
 use lib.ListN.{length, take, drop, take-append-drop}
-use Rattle.std.specs.Prelude.{Some, None, is_some, Ok, Err}
+use Rattle.std.specs.Prelude.{Some, None, Ok, Err}
 use Rattle.model.specs.declared.Refusal.{Refusal}
 use Rattle.model.specs.Numbers.{refusal_number, refusal_of}
 use Rattle.model.specs.Results.{Written}
@@ -105,10 +105,10 @@ request-spoken (Deletion k) d = rw call-list (call-spoken (deletion 1 k) d _ ref
 
 -- ---- what the calls leave
 
-pub ended-left : (q : Request) (s : LineState) (x : Asked) → x ≡ request s → x ≡ Ok (Some q) → (d : Desk) {t l : Words} {v w : Text}
-    → t ≡ (do_request (Ok (Some q)) d).desk.table → l ≡ (do_request (Ok (Some q)) d).desk.list → v.at ≡ 0
-    → Puts (spoken (answer_to q d) l) v w → reply (bytes_of w) (desk_of t l) ≡ do_request (request s) d
-ended-left q s x e f d g h z p = rw (puts-whole z p, g, h, ← e, f, request-spoken q d)
+pub ended-left : (q : Request) (s : LineState) (x : Asked) → x ≡ request s → x ≡ Ok (Some q) → (d : Desk) {a : Written} {t l : Words} {v w : Text}
+    → a ≡ answer_to q d → t ≡ (do_request (Ok (Some q)) d).desk.table → l ≡ (do_request (Ok (Some q)) d).desk.list → v.at ≡ 0
+    → Puts (spoken a l) v w → reply (bytes_of w) (desk_of t l) ≡ do_request (request s) d
+ended-left q s x e f d n g h z p = rw (puts-whole z p, n, g, h, ← e, f, request-spoken q d)
 
 -- a line that asks nothing, and one that is refused
 pub asks-nothing : (s : LineState) (x : Asked) (d : Desk) → x ≡ request s → x ≡ Ok None → do_request (request s) d ≡ reply (refused_line 0) d
@@ -146,15 +146,15 @@ module _ (s : Session) (piece : Bytes) (x : LineRead) (e : x ≡ line_in s.line 
         slices = k;
       }
 
-  pub part-read : {y : Session} (u : ℕ) → u ≡ used_of x.end piece → is_some x.end ≡ false
-      → silent x.line (desk s) ≡ reading y.line (reply (bytes_of y.text) (desk y)) → Same_slices s y → Told s piece u y
+  pub part-read : {y : Session} → x.end ≡ None → silent x.line (desk s) ≡ reading y.line (reply (bytes_of y.text) (desk y)) → Same_slices s y
+      → Told s piece (length piece) y
   unfolding line_done
-  part-read {y} u n g h k = rw n (told-as {y = y} (rw g h) k)
+  part-read {y} g h k = rw g at (told-as {y = y} (rw g h) k)
 
-  pub line-told : {y : Session} (u : ℕ) → u ≡ used_of x.end piece → y.line ≡ begin → is_some x.end ≡ true
+  pub line-told : {y : Session} (u : ℕ) → x.end ≡ Some u → y.line ≡ begin
       → reply (bytes_of y.text) (desk y) ≡ do_request (request x.line) (desk s) → Same_slices s y → Told s piece u y
   unfolding line_done print_on
-  line-told {y} u n f g h k = rw n (told-as {y = y} (rw (g, f, ← h)) k)
+  line-told {y} u g f h k = rw g at (told-as {y = y} (rw (g, f, ← h)) k)
 
 -- ---- what was printed before
 

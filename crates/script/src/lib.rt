@@ -5,7 +5,6 @@
 ghost use Rattle.std.specs.Prelude.{◌≡◌, ◌+◌, ◌*◌, ◌≤◌, length, Some, Ok};
 ghost use Rattle.model.specs.Printer.{first_desk};
 ghost use Rattle.script_bytes.specs.Line.{begin, request};
-ghost use Rattle.script_bytes.specs.Text.{spoken, Room, Puts};
 ghost use Rattle.script_bytes.specs.Input.{do_request, print_on, finished};
 ghost use Rattle.script.specs.Spoken.{desk_of, answer_to, silent};
 
@@ -48,17 +47,6 @@ fn act(table: &mut [u64], list: &mut [u64], request: Request) -> Written
     }
 }
 
-// The same, and the answer put.
-fn carry_out(table: &mut [u64], list: &mut [u64], text: &mut Text<'_>, request: Request)
-    requires { Room (24 * length list.old + 48) text.old }
-    ensures text_after { Puts (spoken (answer_to request (desk_of table.old list.old)) list.new) text.old text.new }
-    ensures table_after { table.new ≡ (do_request (Ok (Some request)) (desk_of table.old list.old)).desk.table }
-    ensures list_after { list.new ≡ (do_request (Ok (Some request)) (desk_of table.old list.old)).desk.list }
-{
-    let answer = act(table, list, request);
-    text.put_answer(list, answer);
-}
-
 impl<'a> Session<'a> {
     ghost use Rattle.script.specs.Session.{desk, Left, Told};
 
@@ -88,7 +76,12 @@ impl<'a> Session<'a> {
     {
         self.text.at = 0;
         match script_bytes::judge(self.line) {
-            Ok(Some(request)) => carry_out(self.table, self.list, &mut self.text, request),
+            Ok(Some(request)) => {
+                // Lent once for both: of a list that is lent again only the length is known.
+                let list = &mut *self.list;
+                let answer = act(self.table, list, request);
+                self.text.put_answer(list, answer);
+            }
             Ok(None) => self.text.put_refused(0),
             Err(refusal) => self.text.put_refused(u64::from(refusal)),
         }
@@ -100,13 +93,12 @@ impl<'a> Session<'a> {
     {
         let read = script_bytes::read_line(self.line, piece);
         self.line = read.line;
-        let used = read.end.unwrap_or(piece.len());
-        if read.end.is_some() {
-            self.end_line();
-            self.line = script_bytes::start();
-            return used;
-        }
-        self.text.at = 0;
+        let Some(used) = read.end else {
+            self.text.at = 0;
+            return piece.len();
+        };
+        self.end_line();
+        self.line = script_bytes::start();
         used
     }
 

@@ -10,14 +10,15 @@ use native.Mathlib.Omega.{arith}
 use lib.Dec.{lit<}
 use lib.ListN.{length, length-append}
 use borrow.Author.Tests.{lt-ltb, le-ltb, le-leb}
-use Rattle.isrc.proofs.Characters.{character-small, value-digit, every-append}
+use Rattle.list_laws.proofs.Tools.{all-append}
+use Rattle.isrc.proofs.Characters.{character-small, value-digit}
 use Rattle.isrc.proofs.Digits.{number-nil, number-snoc}
 use Rattle.model.specs.Table.{MARK}
 use Rattle.model.specs.Text.{ascii}
 use Rattle.model.specs.Orders.{Order, store, flush, barrier, BAR}
 use Rattle.model.specs.Codes.{is_digit, value, character, digits}
 use Rattle.model.specs.Lists.{all}
-use Rattle.model.specs.Printer.{Bytes, non_empty, decimal_value, is_recording, decimal_from, decimal, numbers_text, printed, order_text, refused_line}
+use Rattle.model.specs.Printer.{Bytes, non_empty, decimal_value, is_recording, decimal_from, decimal, numbers_text, printed, order_text}
 
 -- ---- digit by digit
 
@@ -113,7 +114,7 @@ reads-next f n ih = go (dec_lt n 10)
     go (no h) =
         let d = digit-counts (n % 10) (mod-lt n (lit< tt)) in
         rw (decimal-large f n (omega arith)) (
-          every-append is_digit (decimal_from f (n / 10)) ((48 + n % 10) ∷ []) ih.0 (rw d.0),
+          (all-append is_digit (decimal_from f (n / 10)) ((48 + n % 10) ∷ [])).1 (ih.0, rw d.0),
           rw (map-append, number-snoc, d.1, ih.1) (div-add-mod' n 10),
         )
 
@@ -166,9 +167,3 @@ unfolding order_text
 order-most (store s) = two-most (ascii "store") s.word s.value
 order-most (flush l) = omega (arith, one-most (ascii "flush") l)
 order-most barrier = two-most (ascii "store") BAR 0
-
-pub done-most : (stores flushes : ℕ) → length (printed (ascii "done") (stores ∷ flushes ∷ [])) ≤ 48
-done-most stores flushes = omega (arith, two-most (ascii "done") stores flushes)
-
-pub refused-most : (n : ℕ) → length (refused_line n) ≤ 48
-refused-most n = omega (arith, one-most (ascii "refused") n)

@@ -1,19 +1,19 @@
 -- Reading the input byte by byte, in pieces of any size, carries out document 01's lines in order; so the printer's bytes come out.
 use mathlib.Core.Path.{◌≡◌, refl, sym, ap, ◌∙◌}
-use mathlib.Core.Bool.{Bool, true, false, cond, ◌&&◌, ◌||◌}
+use mathlib.Core.Bool.{Bool, true, false, cond, ◌||◌}
 use mathlib.Core.List.{List, [], ◌∷◌, ◌++◌, append-nil, append_assoc}
-use Prim.Native.Nat.{ℕ, suc, ◌+◌, ◌*◌, ◌≤◌, ◌<◌}
+use Prim.Native.Nat.{ℕ, ◌≤◌, ◌<◌}
+use native.Mathlib.Numerals.{one-add}
 use native.Mathlib.Omega.{arith}
-use lib.Dec.{eqb, leb}
+use lib.Dec.{eqb}
 use lib.ListN.{length, take}
 use borrow.Author.Tests.{eqb-true}
 use Rattle.std.specs.Prelude.{Option, Some, None, is_some, Ok, Err}
 use Rattle.model.specs.Results.{Parsed}
-use Rattle.model.specs.Table.{MARK}
-use Rattle.model.specs.Codes.{is_digit, value, parse}
+use Rattle.model.specs.Codes.{parse}
 use Rattle.model.specs.Writes.{insertion, deletion}
 use Rattle.model.specs.Printer.{Bytes, at_first, lines, fields, Form, plus, minus, other, form_of, Desk, Reply, reply, with_key, do_form, do_line, do_lines, first_desk, printer}
-use Rattle.script_bytes.specs.Line.{Asked, begin, next_place, with_digit, entered, step, after, further_by, further, line_in, used_of, insertion_of, deletion_of, request, request_of, begun}
+use Rattle.script_bytes.specs.Line.{Asked, begin, next_place, next_number, with_number, with_digit, entered, step, after, further_by, further, line_in, used_of, insertion_of, deletion_of, request, request_of, begun}
 use Rattle.script_bytes.specs.Input.{Reading, reading, read_byte, read_bytes, read_pieces, joined, line_done, finished, carried, do_request, print_on, opening}
 use Rattle.script_bytes.specs.declared.LineState.{LineState}
 use Rattle.script_bytes.specs.declared.LineRead.{LineRead}
@@ -24,9 +24,6 @@ use Rattle.script_bytes.proofs.Reading.{onward, onward-first, line-judged}
 some-further : (n : ℕ) (i : Option ℕ) → is_some (further_by n i) ≡ is_some i
 some-further n None = refl
 some-further n (Some i) = refl
-
-one-more : (i : ℕ) → 1 + i ≡ suc i
-one-more i = omega arith
 
 -- ---- a line with a byte has begun
 
@@ -44,9 +41,10 @@ next-begun RecordingStart s b = refl
 next-begun Recording s b = refl
 next-begun Other s b = refl
 
-placed-begun : (t : Bool) (x y : LineState) → begun x.place ≡ true → begun y.place ≡ true → begun (cond t x y).place ≡ true
-placed-begun true x y e f = e
-placed-begun false x y e f = f
+numbered-begun : (s : LineState) (q : Option ℕ) → begun (with_number s q).place ≡ true
+unfolding begun
+numbered-begun s (Some n) = refl
+numbered-begun s None = refl
 
 entered-begun : (p : Place) (s : LineState) (b : ℕ) → begun p ≡ true → begun (entered p s b).place ≡ true
 unfolding begun entered with_digit
@@ -55,7 +53,7 @@ entered-begun Sign s b e = refl
 entered-begun CodeStart s b e = refl
 entered-begun Code s b e = refl
 entered-begun RecordingStart s b e = refl
-entered-begun Recording s b e = placed-begun (is_digit b && leb (s.recording * 10 + value b) MARK) _ _ refl refl
+entered-begun Recording s b e = numbered-begun s (next_number s.recording b)
 entered-begun Other s b e = refl
 
 step-begun : (s : LineState) (b : ℕ) → begun (step s b).place ≡ true
@@ -157,7 +155,7 @@ module _ {A : Type 0} (act : Asked → A → A) where
           → read_bytes act (reading s a) (take (used_of (further_by 1 i) (b ∷ bs)) (b ∷ bs))
           ≡ cond (is_some i) (reading begin (act (request x.line) a)) (reading x.line a)
       go None q = rw (read_bytes, byte-other act s a b e) q
-      go (Some i) q = rw (one-more i, read_bytes, byte-other act s a b e) q
+      go (Some i) q = rw (one-add i, read_bytes, byte-other act s a b e) q
 
   -- The first line of a piece, or all of it where it has no line feed.
   pub line-done : (s : LineState) (a : A) (bs : Bytes) → read_bytes act (reading s a) (take (used_of (line_in s bs).end bs) bs) ≡ line_done act (line_in s bs) a

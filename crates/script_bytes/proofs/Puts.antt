@@ -85,31 +85,22 @@ fields-end ns i h p = rw (drop_of_length-le ns {i = i} h) p
 
 -- ---- an answer's text
 
-lines-snoc : (os : List Order) (o : Order) → order_lines (os ++ (o ∷ [])) ≡ order_lines os ++ order_text o
-unfolding order_lines
-lines-snoc [] o = append-nil (order_text o)
-lines-snoc (p ∷ os) o = rw (lines-snoc os o, append_assoc)
+-- a turn of the loop puts the order of the first two words
+pub orders-next : (n m : ℕ) (ws pair after : Words) {x y z : Text} → m + 1 ≡ n → ws ≡ pair ++ after → length pair ≡ 2 → Room 48 x
+    → Puts (order_text (order_of (get_or pair 0 0) (get_or pair 1 0))) x y → Puts (order_lines (take m (decode after))) y z
+    → Puts (order_lines (take n (decode ws))) x z
+unfolding decode order_lines
+orders-next n m ws [] after e j two r p q = absurd (omega arith)
+orders-next n m ws (a ∷ []) after e j two r p q = absurd (omega arith)
+orders-next n m ws (a ∷ b ∷ []) after e j two r p q = rw (← e, add-one m, j) (puts-then p (omega (arith, r, order-most (order_of a b))) q)
+orders-next n m ws (a ∷ b ∷ c ∷ pair) after e j two r p q = absurd (omega arith)
 
-twice-suc : (i : ℕ) → 2 * suc i ≡ suc (suc (2 * i))
-twice-suc i = omega arith
-
-twice-suc-one : (i : ℕ) → 2 * suc i + 1 ≡ suc (suc (2 * i + 1))
-twice-suc-one i = omega arith
-
-decode-next : (ws : Words) (i : ℕ) → 2 * i + 1 < length ws
-    → take (suc i) (decode ws) ≡ take i (decode ws) ++ (order_of (get_or ws (2 * i) 0) (get_or ws (2 * i + 1) 0) ∷ [])
-unfolding decode
-decode-next [] i h = absurd (omega arith)
-decode-next (a ∷ []) i h = absurd (omega arith)
-decode-next (a ∷ b ∷ ws) zero h = refl
-decode-next (a ∷ b ∷ ws) (suc i) h = rw (twice-suc-one i, twice-suc i) (ap (λ (os : List Order). order_of a b ∷ os) (decode-next ws i (omega arith)))
-
--- one order more of the list is put
-pub order-put : (list : Words) (i : ℕ) {x y z : Text} → 2 * i + 1 < length list → Room (length (order_lines (take i (decode list)))) x
-    → Puts (order_lines (take i (decode list))) x y
-    → Puts (order_text (order_of (get_or list (2 * i) 0) (get_or list (2 * i + 1) 0))) y z
-    → Puts (order_lines (take (i + 1) (decode list))) x z
-order-put list i h r p q = rw (add-one i, decode-next list i h, lines-snoc) (puts-then p r q)
+pub orders-end : (n : ℕ) (ws : Words) {x : Text} → (0 < n → length ws < 2) → Puts (order_lines (take n (decode ws))) x x
+unfolding decode order_lines
+orders-end zero ws h = puts-none
+orders-end (suc n) [] h = puts-none
+orders-end (suc n) (a ∷ []) h = puts-none
+orders-end (suc n) (a ∷ b ∷ ws) h = absurd (omega (arith, h (omega arith)))
 
 decode-most : (ws : Words) → 2 * length (decode ws) ≤ length ws
 unfolding decode

@@ -16,7 +16,7 @@ use Rattle.model.specs.Table.{MARK}
 use Rattle.model.specs.Codes.{is_digit, is_code, value, read_on, number, parse}
 use Rattle.model.specs.Lists.{all}
 use Rattle.model.specs.Printer.{Bytes, at_first, fields, plus, other, decimal_value, is_recording, just_is, form_of}
-use Rattle.script_bytes.specs.Line.{Asked, begin, next_place, moved, longer, with_digit, entered, step, after, code_of, insertion_of, request_at, request, request_of}
+use Rattle.script_bytes.specs.Line.{Asked, begin, next_place, moved, longer, next_number, with_digit, entered, step, after, code_of, insertion_of, request_at, request, request_of}
 use Rattle.script_bytes.specs.declared.Characters.{Characters}
 use Rattle.script_bytes.specs.declared.LineState.{LineState}
 use Rattle.script_bytes.specs.declared.Place.{Place}
@@ -46,11 +46,11 @@ recorded_as s r l = cond (all is_digit l && leb (read_on 10 r (map value l)) MAR
 
 digit-yes : (s : LineState) (r b : ℕ) → is_digit b ≡ true → leb (r * 10 + value b) MARK ≡ true
     → with_digit (recorded s r) b ≡ recorded s (r * 10 + value b)
-unfolding with_digit
+unfolding with_digit next_number
 digit-yes s r b e f = rw (e, f)
 
 digit-no : (s : LineState) (b : ℕ) → (is_digit b && leb (s.recording * 10 + value b) MARK) ≡ false → with_digit s b ≡ moved s Other
-unfolding with_digit
+unfolding with_digit next_number
 digit-no s b e = rw e
 
 after-recording : (s : LineState) (r : ℕ) (l : Bytes) → r ≤ MARK → request (after (recorded s r) l) ≡ recorded_as s r l

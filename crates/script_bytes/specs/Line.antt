@@ -51,12 +51,14 @@ with_character s b = record { place = Code; plus = s.plus; code = longer s.code 
 unfoldable pub next_number : ℕ → ℕ → Option ℕ
 next_number n b = cond (is_digit b && leb (n * 10 + value b) MARK) (Some (n * 10 + value b)) None
 
--- b is one byte more of the recording: a digit, which leaves it within a word
+-- with the recording's number, if there is one
+abbrev pub with_number : LineState → Option ℕ → LineState
+with_number s (Some n) = record { place = Recording; plus = s.plus; code = s.code; recording = n }
+with_number s None = moved s Other
+
+-- b is one byte more of the recording
 unfoldable pub with_digit : LineState → ℕ → LineState
-with_digit s b =
-    cond (is_digit b && leb (s.recording * 10 + value b) MARK)
-    (record { place = Recording; plus = s.plus; code = s.code; recording = s.recording * 10 + value b })
-    (moved s Other)
+with_digit s b = with_number s (next_number s.recording b)
 
 -- byte b at the place that it leads to
 unfoldable pub entered : Place → LineState → ℕ → LineState

@@ -28,7 +28,7 @@ spoken (Err r) list = refused_line (refusal_number r)
 abbrev pub put_at : Bytes → ℕ → Bytes → Bytes
 put_at out i bs = take i out ++ bs ++ drop (i + length bs) out
 
--- what a function that puts bytes into a buffer leaves and answers: the buffer, and the place after them
+-- what putting bytes into a buffer leaves: the buffer, and the place after them
 pub record Put (out : Bytes) (i : ℕ) (bs : Bytes) (out' : Bytes) (r : ℕ) : Type 0 where
   pub buffer : out' ≡ put_at out i bs
   pub next : r ≡ i + length bs

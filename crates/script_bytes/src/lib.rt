@@ -22,7 +22,8 @@ pub enum Place {
     Other,
 }
 
-// Characters so far, of any number: the first 12 as bytes, and how many they are (13 for all above 12). Fixed memory, no heap.
+// Characters so far, of any number: the first 12 as bytes (fixed memory, no heap), and how many they are, 13 for any number above 12. None for
+// that is no plainer: `longer` compares the count with 12 and adds 1, and would match the Option first.
 #[derive(Clone, Copy)]
 pub struct Characters {
     pub bytes: [u8; 12],
@@ -30,6 +31,7 @@ pub struct Characters {
 }
 
 // A line so far, of any length: where its form stands, whether its sign is a plus, its code, and the value of its recording's digits.
+// An enum with these in its cases is no plainer: sign and code would stand in three cases each, and `line_in` speaks of one state.
 #[derive(Clone, Copy)]
 pub struct LineState {
     pub place: Place,
@@ -57,7 +59,7 @@ pub type Asked = Result<Option<Request>, Refusal>;
 
 // ---- reading a line
 
-// A line with no byte yet.
+// A line with no byte yet. `Default` derived on three types is no plainer: it spreads over them what stands here in one place.
 pub fn start() -> LineState
     ensures { result ≡ begin }
 {
@@ -133,7 +135,8 @@ fn with_character(s: LineState, b: u8) -> LineState
     }
 }
 
-// The number with one byte more, which is to be a digit and leave it within a word.
+// The number with one byte more, which is to be a digit and leave it within a word. `char::to_digit(10)` is no plainer: it takes a char and answers a
+// `u32`, so that the byte would be cast before it and the digit after it.
 fn next_number(n: u64, b: u8) -> Option<u64>
     ensures { result ≡ next_number n b }
 {
@@ -239,7 +242,7 @@ fn width(n: u64) -> usize
     n.max(1).ilog10() as usize + 1
 }
 
-// How many orders are printed: as many as the answer counts, and no more than the list has.
+// How many orders are printed: as many as the answer counts, and no more than the list has. Cut before the cast, as a `usize` may have 32 bits.
 fn spoken_count(words: usize, counts: Counts) -> usize
     ensures { result ≡ min (counts.stores + counts.flushes) (words / 2) }
 {
@@ -277,7 +280,7 @@ impl Text<'_> {
         self.at = end;
     }
 
-    // n in decimal.
+    // n in decimal. Only of a `write!` to a String are the bytes promised, and a String needs a heap.
     pub fn put_number(&mut self, n: u64)
         requires { Room 20 self.old }
         ensures { Puts (decimal n) self.old self.new }
@@ -340,12 +343,11 @@ impl Text<'_> {
 
     // The lines of the first orders of a list.
     fn put_orders(&mut self, list: &[u64], count: usize)
-        requires count_in_bounds { 2 * count ≤ length list.now }
-        requires count_in_bounds_2 { Room (48 * count) self.old }
+        requires { Room (48 * count) self.old }
         ensures { Puts (order_lines (take count (decode list.now))) self.old self.new }
     {
-        for i in 0..count {
-            self.put_order(list[2 * i], list[2 * i + 1]);
+        for pair in list.chunks_exact(2).take(count) {
+            self.put_order(pair[0], pair[1]);
         }
     }
 

@@ -51,6 +51,7 @@ fn read_input(rt: &(impl Print + Input)) -> io::Result<()> {
     let mut s = script_bytes::start();
     // Pieces that end within codes and numbers.
     let mut buffer = [0u8; 7];
+    // More pieces than the input has: a loop is proved to end.
     for _ in 0..10000 {
         let n = input.read(&mut buffer)?;
         if n == 0 {
@@ -68,24 +69,26 @@ fn input(rt: &impl Print, bytes: &[u8]) -> io::Result<()> {
     finish(rt, s)
 }
 
-fn inputs(rt: &impl Print) -> io::Result<()> {
-    input(rt, b"")?;
-    input(rt, b"\n")?;
-    input(rt, b"\n\n")?;
-    input(rt, b" ")?;
-    input(rt, b"-")?;
-    input(rt, b"\n-")?;
-    input(rt, b"- AA0001912345")?;
-    input(rt, b"- AA0001912345\n")?;
-    input(rt, b"- AA0001912345\n\n")?;
-    input(rt, b"- AA0001912345\n+")?;
-    input(rt, b"+ AA0001912345 7")?;
-    input(rt, b"+ AA0001912345 7\n- AA0001912345")
-}
+// Empty lines, none, unfinished ones, and more than one.
+const INPUTS: [&[u8]; 12] = [
+    b"",
+    b"\n",
+    b"\n\n",
+    b" ",
+    b"-",
+    b"\n-",
+    b"- AA0001912345",
+    b"- AA0001912345\n",
+    b"- AA0001912345\n\n",
+    b"- AA0001912345\n+",
+    b"+ AA0001912345 7",
+    b"+ AA0001912345 7\n- AA0001912345",
+];
 
 // ---- printing
 
 // A line that the printer prints after a line of its input.
+#[derive(Clone, Copy)]
 enum Printed {
     Order(u64, u64),
     Done(u64, u64),
@@ -111,38 +114,32 @@ fn show_line(rt: &impl Print, line: Printed) -> io::Result<()> {
     }
 }
 
-fn lines(rt: &impl Print) -> io::Result<()> {
-    show_line(rt, Printed::Order(16, 172627201912345))?;
-    show_line(rt, Printed::Order(17, 18446744073709551615))?;
-    show_line(rt, Printed::Order(0, 0))?;
-    show_line(rt, Printed::Order(9, 10))?;
-    show_line(rt, Printed::Order(99, 100))?;
-    show_line(
-        rt,
-        Printed::Order(18446744073709551614, 10000000000000000000),
-    )?;
-    show_line(
-        rt,
-        Printed::Order(18446744073709551614, 9999999999999999999),
-    )?;
-    show_line(rt, Printed::Order(18446744073709551615, 2))?;
-    show_line(
-        rt,
-        Printed::Order(18446744073709551615, 18446744073709551615),
-    )?;
-    show_line(rt, Printed::Done(4, 1))?;
-    show_line(rt, Printed::Done(0, 0))?;
-    show_line(
-        rt,
-        Printed::Done(18446744073709551615, 18446744073709551615),
-    )?;
-    show_line(rt, Printed::Refused(0))?;
-    show_line(rt, Printed::Refused(13))?;
-    show_line(rt, Printed::Refused(255))
-}
+// Numbers with few digits, and in orders and counts with all twenty.
+const LINES: [Printed; 15] = [
+    Printed::Order(16, 172627201912345),
+    Printed::Order(17, 18446744073709551615),
+    Printed::Order(0, 0),
+    Printed::Order(9, 10),
+    Printed::Order(99, 100),
+    Printed::Order(18446744073709551614, 10000000000000000000),
+    Printed::Order(18446744073709551614, 9999999999999999999),
+    Printed::Order(18446744073709551615, 2),
+    Printed::Order(18446744073709551615, 18446744073709551615),
+    Printed::Done(4, 1),
+    Printed::Done(0, 0),
+    Printed::Done(18446744073709551615, 18446744073709551615),
+    Printed::Refused(0),
+    Printed::Refused(13),
+    Printed::Refused(255),
+];
 
 fn main(rt: HostRuntime) -> io::Result<()> {
     read_input(&rt)?;
-    inputs(&rt)?;
-    lines(&rt)
+    for bytes in INPUTS {
+        input(&rt, bytes)?;
+    }
+    for line in LINES {
+        show_line(&rt, line)?;
+    }
+    Ok(())
 }

@@ -14,8 +14,7 @@ pub fn down(table: &[u64], m: u64, key: u64) -> u64
     ensures { result ≡ down (view table.now) m key }
 {
     let x = node::read(table, m);
-    let end = slots::count(x.slots);
-    slots::scan(x.slots, x.left, key, end).way
+    slots::scan(x.slots, x.left, key).way
 }
 
 // ---- a node on the way
@@ -28,13 +27,13 @@ pub struct Stood {
     pub held: Option<u64>,
 }
 
-// What is seen of node n, which is read, in one look at its slots. Here and below a call would copy the node, whose 28 words a search mostly
-// does not need: so these functions are put in where they are called.
+// What is seen of node n, which is read, in one look at its slots. A call would copy the node, whose 28 words a search mostly does not need: so
+// the functions that take or give one on each level are put in where they are called.
 #[inline(always)]
 fn look(n: u64, read: Node, key: u64) -> Stood
     ensures { result ≡ looked_at n read key }
 {
-    let seen = slots::scan(read.slots, read.left, key, 12);
+    let seen = slots::scan(read.slots, read.left, key);
     Stood {
         node: n,
         way: seen.way,
@@ -53,7 +52,9 @@ pub fn read_root(table: &[u64], root: u64) -> Option<Node>
     (x.level <= 15).then_some(x)
 }
 
-// Node n, read, if the table has it and it is on the level.
+// Node n, read, if the table has it and it is on the level. One look-up for this and the root's, filtered by `Option::filter`, would be a third
+// function beside the two and a closure in each. That the header is right is a clause, here and below: document 01 lays down a lent `&[u64]` for
+// the table.
 #[inline(always)]
 pub fn read_on(table: &[u64], n: u64, level: u64) -> Option<Node>
     requires { header_ok table.now ≡ true }
@@ -67,7 +68,8 @@ pub fn read_on(table: &[u64], n: u64, level: u64) -> Option<Node>
 }
 
 // Coming to node n, which is read: what is seen of n or, after a move, of its sibling, if the tests pass. Each is looked at once, and decides by
-// that look alone. What is asked is about a node in a table: no type of the node alone can carry it.
+// that look alone. A struct of table, number and read node could carry what is asked, here, in `next_from` and in sentinels' `leaf_at`: it would
+// be made for each node on the way, and be taken apart here.
 #[inline(always)]
 pub fn stand(table: &[u64], n: u64, read: Node, key: u64) -> Option<Stood>
     requires table_value { header_ok table.now ≡ true }
@@ -123,7 +125,8 @@ pub fn found(held: u64) -> Answer
     }
 }
 
-// The answer as document 01 names it, with the refusal's number in it.
+// The answer as document 01 names it, with the refusal's number in it. No `From`: it would stand in model, where both types are, for the two searches
+// that answer by it.
 pub fn numbered(answer: Result<Answer, Refusal>) -> Answer
     ensures { result ≡ numbered answer }
 {
@@ -133,7 +136,9 @@ pub fn numbered(answer: Result<Answer, Refusal>) -> Answer
     }
 }
 
-// The next key up, looked for from a leaf, which is read, and on along the siblings, in at most N leaves.
+// The next key up, looked for from a leaf, which is read, and on along the siblings, in at most N leaves. The leaf's number is there for what is
+// promised. No `Siblings`: it would look each node up once more, for the sibling that its record has, and goes on before the node's level is
+// tested.
 fn next_from(table: &[u64], leaf: u64, read: Node, key: u64) -> Result<Option<u64>, Refusal>
     requires table_value { header_ok table.now ≡ true }
     requires leaf_value { on_level (view table.now) 0 leaf ≡ true }

@@ -1,19 +1,18 @@
 -- An accepted call leaves each node that it does not store to reached, or not reached, as it was.
 use mathlib.Core.Path.{◌≡◌, refl, sym, ap, ◌∙◌}
-use mathlib.Core.Bool.{Bool, true, false, cond}
+use mathlib.Core.Bool.{Bool, true, false}
 use mathlib.Core.Logic.{◌≢◌}
 use mathlib.Core.List.{List, [], ◌∷◌, ◌++◌}
-use Prim.Native.Nat.{ℕ, zero, suc, ◌+◌, ◌≤◌, ◌<◌}
+use Prim.Native.Nat.{ℕ, zero, suc, ◌≤◌, ◌<◌}
 use native.Mathlib.Omega.{arith}
 use lib.ListN.{length}
-use borrow.Author.Tests.{ltb-false}
 use Rattle.model.specs.Table.{Words, at, node_start, root_word, no_collection}
 use Rattle.model.specs.Slots.{pointer_of, node_view, view_of, height}
 use Rattle.model.specs.Reached.{reached_all, map_of}
 use Rattle.model.specs.SoundTest.{elem, nothing, sound}
 use Rattle.model.specs.Orders.{Store, apply}
 use Rattle.model.specs.Shifts.{shift_out}
-use Rattle.model.specs.Writes.{shift_in_at, shift_out_at, put_all, split, split_words, node_words, new_root, unreachable, fresh, standing, run, root_in_run, splits, root_stores, insert_settled, insert_stores}
+use Rattle.model.specs.Writes.{shift_in_at, shift_out_at, put_all, split, split_words, node_words, new_root, fresh, standing, run, root_in_run, splits, root_stores, insert_settled, insert_stores}
 use Rattle.model.specs.Writes.{frees_leaf, delete_settled, delete_stores, class_stores, repair_stores, repaired, Call, insertion, deletion, class_change, repair, stores_of}
 use Rattle.model.specs.Refusals.{has_key, too_high, too_few, refusal}
 use Rattle.model.specs.Sentinels.{stores_to_node}
@@ -26,7 +25,7 @@ use Rattle.two_laws.proofs.TwoLaw.{Tree}
 use Rattle.two_laws.proofs.Arrange.{Arr, arr-low, root-in, settled-tree, free-fresh}
 use Rattle.two_laws.proofs.SplitTwo.{length-split}
 use Rattle.two_laws.proofs.LeafStores.{in-reached, class-reached, Leaf, leaf-for}
-use Rattle.two_laws.proofs.InsertTwo.{stands-reached, first-arr, ready-next, first-others, splits-course, splits-room, root-first, root-arr, first-root-others}
+use Rattle.two_laws.proofs.InsertTwo.{stands-reached, first-arr, ready-next, first-others, splits-course, splits-room, some-free, root-first, root-arr, first-root-others}
 use Rattle.two_laws.proofs.DeleteTwo.{stores-freeing, settled-others, settled-stays}
 use Rattle.two_laws.proofs.CallsTwo.{repairs, arranged, is-repaired}
 use Rattle.two_laws.proofs.AcceptedTwo.{there, accepted-iff}
@@ -69,16 +68,10 @@ splits-same (suc l) n ws t k x arr r =
 -- ---- the new root, where the run includes the root
 
 module _ (n : ℕ) (ws : List ℕ) (t : Words) (k : ℕ) (arr : Arr (root_word n) ws t) (f : Tree (root_word n) ws t nothing) (not-high : too_high n t k ≡ false) (enough : too_few n t k ≡ false) where
-  some-free : root_in_run n t k ≡ true → 0 < length (unreachable t)
-  unfolding too_few
-  some-free e =
-      let room : run n t k + 1 ≤ length (unreachable t) = rw e at (ltb-false (length (unreachable t)) (run n t k + cond (root_in_run n t k) 1 0) enough) in
-      omega arith
-
   new-root-same : root_in_run n t k ≡ true → (x : ℕ) → SameReach x (new_root n t) t
   new-root-same e x h =
       let b = fresh t (at t (root_word n)) in
-      let some = ((range-iff _ b).0 (free-fresh (root_word n) ws t (at t (root_word n)) arr f (root-in (view_of n t) f.left.orderly) (some-free e)).range).0 in
+      let some = ((range-iff _ b).0 (free-fresh (root_word n) ws t (at t (root_word n)) arr f (root-in (view_of n t) f.left.orderly) (some-free n ws t k arr f not-high enough e)).range).0 in
       first-root-others n ws t k arr f not-high enough e x (unfold new_root in new-stored b (node_words _ 0 _ 0 []) _ x some (omega (arith, length-node-words (at t (root_word n)) 0 (suc (height (view_of n t))) 0 [])) h)
 
   root-same : (x : ℕ) → SameReach x (root_stores n t k) t

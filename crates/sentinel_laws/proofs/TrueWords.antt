@@ -4,7 +4,6 @@ use mathlib.Core.Bool.{Bool, true, false, cond, ◌&&◌}
 use mathlib.Core.Logic.{◌≢◌}
 use mathlib.Core.List.{List, [], ◌∷◌, map}
 use Prim.Native.Nat.{ℕ, zero, suc, ◌*◌, ◌≤◌}
-use native.Mathlib.Omega.{arith}
 use lib.Dec.{eqb}
 use lib.ListN.{length, replicate}
 use Rattle.model.specs.declared.Node.{Node}
@@ -15,12 +14,8 @@ use Rattle.model.specs.Orders.{Store, apply}
 use Rattle.model.specs.Writes.{Call, stores_of}
 use Rattle.model.specs.Refusals.{refusal, unless_refused, table_after}
 use Rattle.model.specs.Sentinels.{shown_on, first_key, leaves_all, sentinels_of, sentinels, words_of, stores_to_node, set_anew, refusal_with, table_with, sentinels_with}
-use Rattle.table_laws.proofs.Header.{header-iff}
-use Rattle.cut_laws.proofs.Applying.{length-apply}
 use Rattle.two_laws.proofs.AcceptedTwo.{accepted-iff}
-use Rattle.two_laws.proofs.MapsTwo.{accepted-steps}
-use Rattle.two_laws.proofs.SearchTwo.{sound-head}
-use Rattle.two_laws.proofs.SameTwo.{settled-sound}
+use Rattle.two_laws.proofs.MapsTwo.{sound-after, nodes-after}
 use Rattle.sentinel_laws.proofs.Slices.{with-accepted}
 use Rattle.sentinel_laws.proofs.Unstored.{node-unstored, lines-unstored}
 use Rattle.sentinel_laws.proofs.Leaves.{leaves-level}
@@ -85,20 +80,11 @@ module _ (x : Call) (words dock : ℕ) (t : Words) (ok : refusal x words dock t 
   before : sound t ≡ true
   before = ((accepted-iff x words dock t).0 ok).sound
 
-  pub sound-after : sound (apply (stores_of x t) t) ≡ true
-  sound-after = settled-sound t' (accepted-steps x words dock t before ok).all-settled
-
-  pub nodes-after : nodes (apply (stores_of x t) t) ≡ nodes t
-  nodes-after =
-      let a = ((header-iff t).0 (sound-head t before)).size.long in
-      let b = ((header-iff t').0 (sound-head t' sound-after)).size.long in
-      omega (arith, a, b, length-apply ss t)
-
   -- of a node that it does not store to
   module _ (n : ℕ) (some : 1 ≤ n) (e : stores_to_node (stores_of x t) n ≡ false) where
     leaf-same : elem n (leaves_all t') ≡ elem n (leaves_all t)
     leaf-same =
-        leaves-level t' n sound-after ∙ ap (λ (b : Bool). b && eqb (node t' n).level 0) (reached-same x words dock t ok n e)
+        leaves-level t' n (sound-after x words dock t ok) ∙ ap (λ (b : Bool). b && eqb (node t' n).level 0) (reached-same x words dock t ok n e)
         ∙ ap (λ (l : ℕ). elem n (reached_all t) && eqb l 0) (ap (λ (y : Node). y.level) (node-unstored ss t n some e)) ∙ sym (leaves-level t n before)
 
     pub words-same : sentinels_of (apply (stores_of x t) t) n ≡ sentinels_of t n
@@ -108,12 +94,12 @@ module _ (x : Call) (words dock : ℕ) (t : Words) (ok : refusal x words dock t 
   -- True words stay true.
   pub stay-true : set_anew (stores_to_node (stores_of x t)) (apply (stores_of x t) t) (sentinels t) ≡ sentinels (apply (stores_of x t) t)
   stay-true =
-      let l : length (sentinels t) ≡ 3 * nodes t' = length-sentinels t ∙ ap (λ (n : ℕ). 3 * n) (sym nodes-after) in
+      let l : length (sentinels t) ≡ 3 * nodes t' = length-sentinels t ∙ ap (λ (n : ℕ). 3 * n) (sym (nodes-after x words dock t ok)) in
       slices-same (nodes t') _ _ (length-anew (stores_to_node ss) t' (sentinels t) l) (length-sentinels t') (λ n a b. anew-at (stores_to_node ss) t' (sentinels t) l n a b ∙ go n a b (stores_to_node ss n) refl ∙ sym (sentinels-at t' n a b))
     where
       go : (n : ℕ) → 1 ≤ n → n ≤ nodes t' → (c : Bool) → stores_to_node ss n ≡ c → cond (stores_to_node ss n) (sentinels_of t' n) (words_of (sentinels t) n) ≡ sentinels_of t' n
       go n a b true e = rw e
-      go n a b false e = rw e (sentinels-at t n a (rw nodes-after at b) ∙ sym (words-same n a e))
+      go n a b false e = rw e (sentinels-at t n a (rw (nodes-after x words dock t ok) at b) ∙ sym (words-same n a e))
 
 -- ---- the calls that take the slice
 

@@ -22,9 +22,9 @@ use Rattle.cut_laws.specs.Unflushed.{stores_in}
 use Rattle.cut_laws.proofs.Applying.{counts-length, length-apply}
 use Rattle.cut_laws.proofs.FlushRule.{orders-stores}
 use Rattle.cut_laws.proofs.Barriers.{barred-stores}
-use Rattle.list_laws.proofs.Tools.{double-suc}
+use Rattle.list_laws.proofs.Tools.{double-suc, or-swap}
 use Rattle.sentinel_laws.proofs.Slices.{Fits, fits, plain-call}
-use Rattle.sentinel_laws.proofs.TrueWords.{sound-after, nodes-after}
+use Rattle.two_laws.proofs.MapsTwo.{sound-after, nodes-after}
 use Rattle.two_laws.proofs.AcceptedTwo.{accepted-iff}
 use Rattle.two_laws.proofs.MapsTwo.{accepted-steps}
 use Rattle.two_laws.proofs.SearchTwo.{sound-head}
@@ -35,12 +35,6 @@ use Rattle.sentinels.specs.Anew.{named, Asks}
 
 -- ---- an order list from its front
 
--- the first order of a list whose first word is a
-front : (x y z : Bool) → x || (y || z) ≡ y || (x || z)
-front true true z = refl
-front true false z = refl
-front false y z = refl
-
 -- an order whose first word is w is a store to node n
 abbrev hits : (len w n : ℕ) → Bool
 hits len w n = ltb w len && eqb n (node_of w)
@@ -50,7 +44,7 @@ unfolding named
 named-front len a b ws zero n = refl
 named-front len a b ws (suc m) n =
     ap (λ (j : ℕ). hits len (at (a ∷ b ∷ ws) j) n || named len (a ∷ b ∷ ws) (suc m) n) (double-suc m)
-    ∙ ap (λ (z : Bool). hits len (at ws (2 * m)) n || z) (named-front len a b ws m n) ∙ front (hits len (at ws (2 * m)) n) (hits len a n) (named len ws m n)
+    ∙ ap (λ (z : Bool). hits len (at ws (2 * m)) n || z) (named-front len a b ws m n) ∙ or-swap (hits len (at ws (2 * m)) n) (hits len a n) (named len ws m n)
 
 -- a word that no table has
 missed : (len w n : ℕ) → len ≤ w → hits len w n ≡ false

@@ -19,8 +19,7 @@ use Rattle.model.specs.SoundTest.{sound}
 use Rattle.model.specs.Sentinels.{sentinels, slice_number, work_number, work_out, worked_out}
 use Rattle.table_laws.proofs.Header.{header-iff, header-number-refused}
 use Rattle.sentinel_laws.proofs.Slices.{slice-bad, slice-lacks, fits}
-use Rattle.node.specs.Word.{number_in, found_root}
-use Rattle.node.proofs.Roots.{root-there, found-ok}
+use Rattle.node.specs.Word.{number_in}
 
 -- ---- a right header
 
@@ -72,10 +71,6 @@ collection-number n m t z = go (header_ok t) (no_collection n t) refl refl
 pub header-number : (m : ℕ) (t : Words) → header_number t ≢ 0 → slice_number false m t ≡ header_number t
 unfolding header_number
 header-number m t z = let h = header-number-refused t z in slice-bad false m t h ∙ sym (rw h)
-
--- the collection is there
-pub found-there : (n : ℕ) (t : Words) {r : ℕ} → found_root n t ≡ Ok r → (header_ok t ≡ true) × (no_collection n t ≡ false)
-found-there n t e = let f = found-ok n t e in let u = root-there n t _ f.0 f.1 in (u.0, u.1)
 
 -- a refusal of theirs is handed on
 pub passed-on : (n : ℕ) {m : ℕ} {r : Refusal} → n ≢ 0 → ◌≡◌ {A = Outcome} (refused_with n) (Err r) → m ≡ n → Err r ≡ passed m

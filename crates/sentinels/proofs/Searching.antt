@@ -1,18 +1,25 @@
 -- The search that takes the words, by the tests in the order of the code.
 use mathlib.Core.Path.{◌≡◌, refl, sym, ap, subst, ◌∙◌}
-use mathlib.Core.Bool.{Bool, true, false, cond}
+use mathlib.Core.Bool.{Bool, true, false, cond, not}
 use mathlib.Core.Logic.{◌≢◌}
-use mathlib.Core.List.{List}
+use mathlib.Core.List.{List, [], ◌∷◌, reverse}
 use mathlib.Core.Option.{Option, none, some}
-use Prim.Native.Nat.{ℕ, zero, suc, ◌-◌, ◌*◌, ◌≤◌, ◌<◌}
+use Prim.Native.Nat.{ℕ, zero, suc, ◌+◌, ◌-◌, ◌*◌, ◌≤◌, ◌<◌}
 use native.Mathlib.Omega.{arith}
-use lib.Dec.{leb}
+use lib.Dec.{leb, ltb, eqb}
 use lib.ListN.{length}
-use borrow.Author.Tests.{le-leb, lt-leb}
+use denote.Param.Members.{Mut}
+use Rattle.std.specs.Iterator.{YieldsThen}
+use Rattle.std.specs.Fn.{Called}
+use Rattle.std.specs.List.{FoldsTo, position_or_len}
+use Rattle.std.specs.Option.{MatchOption, IsSomeAnd}
+use Rattle.std.proofs.lemmas.Iterator.{YieldsList}
+use Rattle.std.proofs.lemmas.Iterator.Search.{position_from_yields_List}
 use Rattle.std.specs.Prelude as rust
 use Rattle.std.specs.Bool.{then_some}
-use Rattle.std.specs.Prelude.{Some, None, Ok, Err}
+use Rattle.std.specs.Prelude.{Result, Some, None, Ok, Err, ok_or}
 use Rattle.model.specs.declared.Refusal.{Refusal}
+use Rattle.model.specs.declared.Refusal.TheVariants.{SearchLost}
 use Rattle.model.specs.Numbers.{refusal_number}
 use Rattle.model.proofs.Numbers.{Numbered, slice-numbered, handed-number, failed-some, failed-with, passed-zero}
 use Rattle.model.specs.Results.{passed}
@@ -30,35 +37,32 @@ use Rattle.sentinel_laws.proofs.Searches.{with-tree, plain-tree}
 use Rattle.slots.specs.Held.{held_by}
 use Rattle.slots.specs.Scan.{shown_from}
 use Rattle.node.specs.Word.{root_in, number_in, found_root}
-use Rattle.node.proofs.Roots.{root-there, found-ok, found-err}
+use Rattle.node.proofs.Roots.{found-there, found-ok, found-err}
 use Rattle.search.specs.declared.Stood.{Stood}
 use Rattle.search.specs.Descent.{seen_in, read_if, stand_on, locate_from, answer_held, found}
 use Rattle.search.proofs.Standing.{Stands, held-read, held-answer, any-within, within-in, within-high, within-on, by-root, stands-on, stands-off-on}
-use Rattle.search.proofs.Standing.{locate-leaf, locate-passed, locate-failed, stand-some, stand-none, pass-off, not-read, level-read}
-use Rattle.sentinels.proofs.Refusing.{length_number, length-is, rest-number, collection-number, found-there}
+use Rattle.search.proofs.Standing.{got-some, level-out, level-in, locate-leaf, locate-passed, locate-failed, stand-some, stand-none, pass-off, not-read, level-read}
+use Rattle.sentinels.proofs.Refusing.{length_number, length-is, rest-number, collection-number}
 use Rattle.sentinels.proofs.Reading.{line-is}
-use Rattle.node.specs.Word.{words_at}
+use Rattle.node.specs.Word.{words_at, word_of}
+use Rattle.node.proofs.WordLaws.{word-level, word-fence}
 use Rattle.sentinels.specs.Lines.{line_of, as_option}
 
 -- ---- the line
 
+-- Where a walk from the end stops, by the place in the list of what it yields.
+module _ {S A F : Type 0} {steps : S → rust.Option A → S → Type 0} {v : A → ℕ} {g : Mut F (A × Unit {0}) Bool} {s : S} {all : List ℕ} (test : ℕ → Bool) (u : S) (f : F) where
+  pub back-found : (n : ℕ) (r : rust.Option ℕ)
+      → (xs : List A) × (o : rust.Option A) × (j : F) × YieldsThen steps s xs o u × FoldsTo (λ p x q. Called g p (x, tt) false q) f xs j
+      × MatchOption o (r ≡ None) (λ x. IsSomeAnd r (λ i. i + 1 + length xs ≡ n) × ((h : F) × Called g j (x, tt) true h))
+      → YieldsList steps v s all → ((x : A) (b : Bool) (q : F) → Called g f (x, tt) b q → (q ≡ f) × (b ≡ test (v x)))
+      → MatchOption (cond (ltb (position_or_len test all) (length all)) (Some (position_or_len test all)) None) (r ≡ None) (λ m. IsSomeAnd r (λ i. i + 1 + m ≡ n))
+  back-found n r (xs, None, j, y, c, e) l k =
+      subst (λ p. MatchOption p (r ≡ None) (λ m. IsSomeAnd r (λ i. i + 1 + m ≡ n))) (position_from_yields_List test u f None (xs, None, j, y, c, refl) l k) e
+  back-found n r (xs, Some x, j, y, c, e) l k =
+      subst (λ p. MatchOption p (r ≡ None) (λ m. IsSomeAnd r (λ i. i + 1 + m ≡ n))) (position_from_yields_List test u f (Some (length xs)) (xs, Some x, j, y, c, (refl, e.1)) l k) e.0
+
 module _ (ws : Words) (k : ℕ) where
-  pub third-line : at ws 2 ≤ k → Some 2 ≡ as_option (line_for k ws)
-  unfolding line_for
-  third-line h = rw (le-leb _ k h)
-
-  pub second-line : k < at ws 2 → at ws 1 ≤ k → Some 1 ≡ as_option (line_for k ws)
-  unfolding line_for
-  second-line h g = rw (lt-leb _ k h, le-leb _ k g)
-
-  pub other-line : k < at ws 2 → k < at ws 1 → then_some (leb (at ws 0) k) 0 ≡ as_option (line_for k ws)
-  unfolding line_for
-  other-line h g = rw (lt-leb _ k h, lt-leb _ k g) (go (leb (at ws 0) k))
-    where
-      go : (b : Bool) → then_some b 0 ≡ as_option (cond b (some 0) none)
-      go true = refl
-      go false = refl
-
   pub few-lines : (j : ℕ) → as_option (line_for k ws) ≡ Some j → j ≤ 2
   unfolding line_for
   few-lines j = go (leb (at ws 2) k) (leb (at ws 1) k) (leb (at ws 0) k)
@@ -68,6 +72,32 @@ module _ (ws : Words) (k : ℕ) where
       go false true u e = let q : 1 ≡ j = cc in omega (arith, q)
       go false false true e = let q : 0 ≡ j = cc in omega (arith, q)
       go false false false e = cc
+
+pub last-line : (k : ℕ) (ws : Words) (r : rust.Option ℕ) → length ws ≡ 3 → (n : ℕ) → n ≡ 3
+    → MatchOption (cond (ltb (position_or_len (λ (w : ℕ). leb w k) (reverse ws)) (length (reverse ws))) (Some (position_or_len (λ (w : ℕ). leb w k) (reverse ws))) None)
+    (r ≡ None) (λ m. IsSomeAnd r (λ i. i + 1 + m ≡ n))
+    → r ≡ as_option (line_for k ws)
+unfolding line_for
+last-line k (a ∷ b ∷ c ∷ []) r l n e h = go r (leb c k) (leb b k) (leb a k) h
+  where
+    t : n ≡ 3
+    t = e
+
+    some-is : (r : rust.Option ℕ) (m j : ℕ) → j + 1 + m ≡ 3 → IsSomeAnd r (λ i. i + 1 + m ≡ n) → r ≡ Some j
+    some-is None m j e h = absurd h
+    some-is (Some i) m j e h = let p : i ≡ j = omega (arith, t, e, h) in ap Some p
+
+    go : (r : rust.Option ℕ) (x y z : Bool) → MatchOption (cond (ltb (cond (not x) (1 + cond (not y) (1 + cond (not z) (1 + 0) 0) 0) 0) 3) (Some (cond (not x) (1 + cond (not y) (1 + cond (not z) (1 + 0) 0) 0) 0)) None)
+        (r ≡ None) (λ m. IsSomeAnd r (λ i. i + 1 + m ≡ n))
+        → r ≡ as_option (cond x (some 2) (cond y (some 1) (cond z (some 0) none)))
+    go r true y z h = some-is r 0 2 refl h
+    go r false true z h = some-is r 1 1 refl h
+    go r false false true h = some-is r 2 0 refl h
+    go r false false false h = h
+last-line k [] r l n e h = absurd (omega (arith, l))
+last-line k (a ∷ []) r l n e h = absurd (omega (arith, l))
+last-line k (a ∷ b ∷ []) r l n e h = absurd (omega (arith, l))
+last-line k (a ∷ b ∷ c ∷ d ∷ ws) r l n e h = absurd (omega (arith, l))
 
 -- ---- the slot on it
 
@@ -87,6 +117,25 @@ stood-on v l n k m s = sym (ap as_option (stands-on v l n k m s))
 
 pub stood-lost : (v : View) (l n k : ℕ) → passes v l n ≡ false → None ≡ as_option (stand_on v l n k)
 stood-lost v l n k e = sym (ap as_option (stands-off-on v l n k e))
+
+-- the fence of the sibling, which is all that is read of it there
+pub fence-out : (t : Words) (l n : ℕ) → header_ok t ≡ true → has_node t n ≡ false → None ≡ then_some (on_level (view t) l n) (node t n).fence
+fence-out t l n h e = rw (level-out t l n h e)
+
+pub fence-in : (t : Words) (l n : ℕ) → header_ok t ≡ true → has_node t n ≡ true → (level fence : ℕ) → level ≡ word_of t n 2 → fence ≡ word_of t n 3
+    → then_some (eqb level l) fence ≡ then_some (on_level (view t) l n) (node t n).fence
+fence-in t l n h e level fence p q =
+    let u = p ∙ word-level t n in
+    let w = q ∙ word-fence t n in
+    (λ i. then_some (eqb (u i) l) (w i)) ∙ ap (λ (b : Bool). then_some b (node t n).fence) (level-in t l n (node t n) h e refl)
+
+pub no-fence : (b : Bool) (x : Node) → then_some b x.fence ≡ None → read_if b x ≡ None
+no-fence true x e = cc
+no-fence false x e = refl
+
+pub some-fence : (b : Bool) (x : Node) (f : ℕ) → then_some b x.fence ≡ Some f → (read_if b x ≡ Some x) × (f ≡ x.fence)
+some-fence true x f e = (refl, cc)
+some-fence false x f e = cc
 
 -- ---- the way down to it: s on the way, with so many levels below it
 
@@ -130,12 +179,12 @@ module _ (t : Words) (m : ℕ) (h : header_ok t ≡ true) (on : on_level (view t
   unfolding on_level
   in-range = (range-iff (nodes t) m).0 ((and-iff _ _).0 on).0
 
-  pub leaf-has : has_node t m ≡ true
+  leaf-has : has_node t m ≡ true
   unfolding on_level
   leaf-has = has-node-range t m h ∙ ((and-iff _ _).0 on).0
 
   -- its words lie in the slice
-  pub leaf-fits : (ws : Words) → length ws ≡ 3 * nodes t → (1 ≤ m) × (3 * m ≤ length ws)
+  leaf-fits : (ws : Words) → length ws ≡ 3 * nodes t → (1 ≤ m) × (3 * m ≤ length ws)
   leaf-fits ws l = (in-range.0, omega (arith, in-range.1))
 
   -- what the whole of it answers
@@ -205,9 +254,9 @@ module _ (n : ℕ) (ws t : Words) (k r : ℕ) (f : found_root n t ≡ Ok r) {u :
   z = (found-ok n t f).1
 
   there : (header_ok t ≡ true) × (no_collection n t ≡ false) × (r ≡ at t (root_word n))
-  there = root-there n t r e z
+  there = found-there n t f
 
-  pub long : length ws ≡ 3 * nodes t
+  long : length ws ≡ 3 * nodes t
   long = length-is (length ws) t (passed-zero (length_number (length ws) t) g)
 
   with-led : search_with n ws t k ≡ answer_of (led_to ws t k (leaf_sought v k)) (search_view v k)
@@ -224,12 +273,23 @@ module _ (n : ℕ) (ws t : Words) (k r : ℕ) (f : found_root n t ≡ Ok r) {u :
       let none-there = as-none sought y in
       ap (answer_in (view t) k) (sym none-there) ∙ by-root n t k r e z ∙ plain ∙ sym (with-led ∙ ap (λ (o : Option ℕ). answer_of (led_to ws t k o) (search_view v k)) (same-leaf ∙ none-there))
 
+  -- a leaf that was come to: it is one, and its words lie in the slice
+  pub record Came (leaf : ℕ) : Type 0 where
+    pub there : as_option sought ≡ Some leaf
+    pub on : on_level (view t) 0 leaf ≡ true
+    pub has : has_node t leaf ≡ true
+    pub fits : (1 ≤ leaf) × (3 * leaf ≤ length ws)
+
+  -- as the code has it
+  pub leaf-came : {o : rust.Option ℕ} {q : Result ℕ Refusal} {leaf : ℕ} → o ≡ as_option sought → q ≡ ok_or o SearchLost → q ≡ Ok leaf → Came leaf
+  leaf-came {o} {q} {leaf} e h y =
+      let l = sym e ∙ got-some o (sym h ∙ y) in
+      let on = within-on (view t) r k leaf (as-some sought leaf l) in
+      record { there = l; on = on; has = leaf-has t leaf there.0 on; fits = leaf-fits t leaf there.0 on ws long }
+
   module _ (leaf : ℕ) (l : as_option sought ≡ Some leaf) where
     here : sought ≡ some leaf
     here = as-some sought leaf l
-
-    pub leaf-on : on_level (view t) 0 leaf ≡ true
-    leaf-on = within-on (view t) r k leaf here
 
     -- the slot that the words lead to
     abbrev led : Option Slot

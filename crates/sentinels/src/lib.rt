@@ -11,17 +11,19 @@ ghost use Rattle.model.specs.Results.{passed};
 ghost use Rattle.model.specs.Refusals.{orders_answered};
 ghost use Rattle.model.specs.Sentinels.{first_key, leaves_all, sentinels_of, sentinels, words_of, node_of, set_anew};
 ghost use Rattle.model.specs.Sentinels.{slice_number, work_out, worked_out, line_for, on_line, search_with};
+ghost use Rattle.std.specs.Bool.{then_some};
 ghost use Rattle.std.proofs.Math.Option.{some};
 ghost use Rattle.slots.specs.Held.{held_by};
 ghost use Rattle.search.specs.Descent.{stand_on, locate_from, numbered};
 ghost use Rattle.sentinels.specs.Lines.{left_in, slots_in, begun_in, line_of, Tests, first_taken, as_option};
 ghost use Rattle.sentinels.specs.Anew.{put_words, named, Asks};
 
-use model::{Answer, Counts, MARK, Node, Outcome, Refusal, Written};
+use model::{Answer, MARK, Node, Outcome, Refusal, Written};
 
 // ---- refusals
 
-// Refusal 19: a slice of so many words has not 3 words for each node.
+// Refusal 19: a slice of so many words has not 3 words for each node. What is asked of the table is a clause, here and below: a struct of the lent
+// slice, with that fact in a ghost field, would be taken apart again at each read, for `node`, `reach` and `search` take the slice itself.
 fn fits(table: &[u64], words: usize) -> Outcome
     requires { header_ok table.now ≡ true }
     ensures { result ≡ passed (cond (eqb words (3 * nodes table.now)) 0 19) }
@@ -51,7 +53,7 @@ pub fn refusal_any(table: &[u64], words: usize) -> Outcome
 // ---- the words of a node of the table, and one slot line of them, by the slot that the line begins with
 
 // The pointer before slot first, if the slots up to it are in use. A loop of its own: before the line no slot is tested, so the walk over the
-// line compares no index.
+// line compares no index. By place, and no chunks of two: their words would be read by place as well, here and in the next function.
 fn begin(node: &[u64; 32], first: usize) -> Option<u64>
     requires { first ≤ 12 }
     ensures { result ≡ begun_in (left_in node.now) first (slots_in node.now) }
@@ -192,7 +194,8 @@ fn renew_once(table: &[u64], words: &mut [u64], n: u64, last: u64) -> u64
 }
 
 // Sets the words of the nodes that the first count orders of a list store to. Stores to one node mostly come one after another.
-// Table, words and list are the three slices that C lends, here and in the calls above.
+// Table, words and list are the three slices that C lends, here and in the calls above. By place: of `list.chunks_exact(2).take(count)` each pair's
+// first word would be read by place as well; `list[..2 * count].iter().step_by(2)` needs a measure, and std has no law of what it yields.
 fn renew_stored(table: &[u64], words: &mut [u64], list: &[u64], count: usize)
     requires table_value { header_ok table.now ≡ true }
     requires table_value_2 { 0 < count → sound table.now ≡ true }
@@ -215,15 +218,8 @@ pub fn keep(table: &[u64], words: &mut [u64], list: &[u64], answer: Written)
     ensures { words.new
         ≡ set_anew (named (length table.now) list.now (orders_answered answer)) table.now words.old }
 {
-    if let Ok(
-        Counts {
-            stores,
-            flushes,
-            barriers,
-        },
-    ) = answer
-    {
-        let count = stores + flushes + barriers;
+    if let Ok(counts) = answer {
+        let count = counts.stores + counts.flushes + counts.barriers;
         renew_stored(table, words, list, count as usize);
     }
 }
@@ -239,17 +235,11 @@ fn words_of(words: &[u64], n: u64) -> &[u64; 3]
     words[3 * (n as usize - 1)..].first_chunk().unwrap()
 }
 
-// The number of the last line whose word is at most the key. A word is read only if the key is below those of the later lines.
+// The number of the last line whose word is at most the key.
 fn line_for(three: &[u64; 3], key: u64) -> Option<usize>
     ensures { result ≡ as_option (line_for key three.now) }
 {
-    if three[2] <= key {
-        return Some(2);
-    }
-    if three[1] <= key {
-        return Some(1);
-    }
-    (three[0] <= key).then_some(0)
+    three.iter().rposition(|&word| word <= key)
 }
 
 // The pointer of the first shown slot with the key on the line of leaf m that its words name.
@@ -261,8 +251,21 @@ fn on_line(table: &[u64], three: &[u64; 3], m: u64, key: u64) -> Option<u64>
     line_find(node::words(table, m), 4 * j, key)
 }
 
+// The fence of node n, if the table has it and it is on the level. Word by word. Tried: `search::read_on` here is a call that copies the node, and a
+// search that takes the words needs 516 instructions for 486.
+#[inline(always)]
+fn fence_on(table: &[u64], n: u64, level: u64) -> Option<u64>
+    requires { header_ok table.now ≡ true }
+    ensures { result ≡ then_some (on_level (view table.now) level n) (node table.now n).fence }
+{
+    if !node::has(table, n) {
+        return None;
+    }
+    (node::word(table, n, 2) == level).then_some(node::word(table, n, 3))
+}
+
 // The leaf that a search stands on, coming to node n on level 0, which is read: n or its sibling, if the tests pass. Put in where it is called,
-// so that the node is not copied.
+// so that the node is not copied. No struct of table, number and node, as in `search::stand`.
 #[inline(always)]
 fn leaf_at(table: &[u64], n: u64, read: Node, key: u64) -> Option<u64>
     requires table_value { header_ok table.now ≡ true }
@@ -274,8 +277,8 @@ fn leaf_at(table: &[u64], n: u64, read: Node, key: u64) -> Option<u64>
     if sibling == 0 {
         return Some(n);
     }
-    let y = search::read_on(table, sibling, read.level)?;
-    if key < y.fence {
+    let fence = fence_on(table, sibling, read.level)?;
+    if key < fence {
         return Some(n);
     }
     Some(sibling)

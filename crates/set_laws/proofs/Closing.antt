@@ -1,6 +1,6 @@
 -- A number taken out of the cells: its cell becomes a gap, the gap moves on until a free cell comes, and is free then.
 use mathlib.Core.Path.{◌≡◌, refl, ap, sym, ◌∙◌}
-use mathlib.Core.Bool.{Bool, true, false, cond, not, ◌&&◌, false≢true}
+use mathlib.Core.Bool.{Bool, true, false, cond, not, ◌&&◌}
 use mathlib.Core.Logic.{◌≢◌, ◌⊎◌, inl, inr, ⊎_elim}
 use Prim.Native.Nat.{ℕ, zero, suc, ◌+◌, ◌≤◌, ◌<◌}
 use native.Mathlib.Omega.{arith}
@@ -51,9 +51,6 @@ module _ (m : ℕ) (cs : Words) (mem : ℕ → Bool) (q : Gapped m cs m mem) (x 
 -- ---- the gap moves, or is closed
 
 module _ (m : ℕ) (cs : Words) (mem : ℕ → Bool) (zeroless : mem 0 ≡ false) (i j : ℕ) (q : Gapped m cs i mem) (i-in : i < m) (j-in : j < m) (apart : j ≢ i) where
-  taken-real : (y : ℕ) → mem y ≡ true → y ≢ 0
-  taken-real y e z = false≢true (sym zeroless ∙ ap mem (sym z) ∙ e)
-
   -- the number of cell j, whose path leads over the gap, moves into it
   module _ (taken : at cs j ≢ 0) (over : ahead m i j ≤ ahead m (home_of m (at cs j)) j) where
     pub gap-moves : Gapped m (set cs i (at cs j)) j mem
@@ -172,7 +169,7 @@ module _ (m : ℕ) (cs : Words) (mem : ℕ → Bool) (zeroless : mem 0 ≡ false
                 omega (arith, w, sum)
 
             at-it : ahead m i k ≡ ahead m i j → ⊥
-            at-it n = taken-real y e (sym f.here ∙ ap (at cs) (ahead-only m i k j i-in f.inside j-in n) ∙ free)
+            at-it n = real mem zeroless y e (sym f.here ∙ ap (at cs) (ahead-only m i k j i-in f.inside j-in n) ∙ free)
 
             after-it : ahead m i j < ahead m i k → ⊥
             after-it n =
@@ -270,7 +267,7 @@ module _ (m : ℕ) (cs : Words) (mem : ℕ → Bool) (zeroless : mem 0 ≡ false
   some = omega arith
 
   real-x : x ≢ 0
-  real-x = real m cs mem some zeroless x member
+  real-x = real mem zeroless x member
 
   held : holds cs x ≡ true
   held = s.found x member

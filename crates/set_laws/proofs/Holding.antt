@@ -118,11 +118,12 @@ module _ (m : ℕ) (cs : Words) (g : ℕ) where
     pub found : (x : ℕ) → mem x ≡ true → Found x
     pub once : (i j : ℕ) → i ≢ g → j ≢ g → at cs i ≢ 0 → at cs i ≡ at cs j → i ≡ j
 
+-- 0 is no number of a set
+pub real : (mem : ℕ → Bool) → mem 0 ≡ false → (x : ℕ) → mem x ≡ true → x ≢ 0
+real mem zeroless x e z = false≢true (sym zeroless ∙ ap mem (sym z) ∙ e)
+
 -- no cell is the gap
 module _ (m : ℕ) (cs : Words) (mem : ℕ → Bool) (some : 0 < m) (zeroless : mem 0 ≡ false) where
-  pub real : (x : ℕ) → mem x ≡ true → x ≢ 0
-  real x e z = false≢true (sym zeroless ∙ ap mem (sym z) ∙ e)
-
   pub set-gapped : length cs ≡ m → SetOf cs mem → Gapped m cs m mem
   set-gapped long s = record { long = long; known = λ i z. s.known i; found = λ x e. at-place x e; once = λ i j y z. s.once i j }
     where
@@ -136,7 +137,7 @@ module _ (m : ℕ) (cs : Words) (mem : ℕ → Bool) (some : 0 < m) (zeroless : 
           here = ap (at cs) (sym (cell-for m cs x long)) ∙ holds-here cs x (s.found x e)
 
           go : Ended m cs long x m (home_of m x) p → Found m cs m x
-          go (inl t) = absurd (real x e (sym here ∙ past-zero cs p (omega (arith, t.0))))
+          go (inl t) = absurd (real mem zeroless x e (sym here ∙ past-zero cs p (omega (arith, t.0))))
           go (inr t) = record { place = p; inside = t.0; off = λ q. omega (arith, t.0); here = here; path = λ c l h. inr (t.2 c l h).1 }
 
   pub gapped-set : Gapped m cs m mem → SetOf cs mem
@@ -150,7 +151,7 @@ module _ (m : ℕ) (cs : Words) (mem : ℕ → Bool) (some : 0 < m) (zeroless : 
           let u = q.found x e in
           let h = home_of m x in
           let before : Before m cs q.long x h u.place = λ c l y. (
-            λ n. no (ap (ahead m h) (q.once c u.place (λ z. omega (arith, z)) u.off (λ z. real x e (sym n ∙ z)) (n ∙ sym u.here))) y,
+            λ n. no (ap (ahead m h) (q.once c u.place (λ z. omega (arith, z)) u.off (λ z. real mem zeroless x e (sym n ∙ z)) (n ∙ sym u.here))) y,
             ⊎_elim (λ z. absurd (omega (arith, z))) (λ z. z) (u.path c l y),
           ) in
           let k = seek-ends m cs q.long x m h u.place (home-in m x some) u.inside (inl u.here) before (ahead-in m h u.place (home-in m x some) u.inside) in
@@ -240,7 +241,7 @@ module _ (m : ℕ) (cs : Words) (mem : ℕ → Bool) (some : 0 < m) (zeroless : 
               })
           go false z =
               let u = (set-gapped m cs mem some zeroless long s).found y (ap (λ (b : Bool). b || mem y) (sym z) ∙ q) in
-              let w : at cs u.place ≢ 0 = λ o. real m cs mem some zeroless y (ap (λ (b : Bool). b || mem y) (sym z) ∙ q) (sym u.here ∙ o) in
+              let w : at cs u.place ≢ 0 = λ o. real mem zeroless y (ap (λ (b : Bool). b || mem y) (sym z) ∙ q) (sym u.here ∙ o) in
               record {
                 place = u.place;
                 inside = u.inside;

@@ -16,6 +16,7 @@ use Rattle.model.specs.Table.{Words, at}
 use Rattle.model.specs.SoundTest.{elem}
 use Rattle.model.specs.Marks.{has, put, cleared, put_each}
 use Rattle.list_laws.proofs.Tools.{Each, Each-map, same-or-not, compared}
+use Rattle.list_laws.proofs.Lists.{at-replicate}
 
 -- ---- the bits of a word
 
@@ -88,12 +89,7 @@ put-length ws x = length-set ws (x / 64) (bit_or (get_or ws (x / 64) 0) (2 ^ (x 
 
 pub none-marked : (n x : ℕ) → has (replicate n 0) x ≡ false
 unfolding has
-none-marked n x = ap (λ (w : ℕ). eqb (w / 2 ^ (x % 64) % 2) 1) (zeros n (x / 64)) ∙ ap (λ (q : ℕ). eqb (q % 2) 1) (div-eq_of_lt (pow_pos (x % 64)))
-  where
-    zeros : (m i : ℕ) → get_or (replicate m zero) i 0 ≡ 0
-    zeros zero i = refl
-    zeros (suc m) zero = refl
-    zeros (suc m) (suc i) = zeros m i
+none-marked n x = ap (λ (w : ℕ). eqb (w / 2 ^ (x % 64) % 2) 1) (at-replicate n (x / 64)) ∙ ap (λ (q : ℕ). eqb (q % 2) 1) (div-eq_of_lt (pow_pos (x % 64)))
 
 -- ---- a mark less
 
@@ -139,14 +135,14 @@ each-length (n ∷ ns) ms = each-length ns (put ms n) ∙ put-length ms n
 put-has : (ms : Words) (n x : ℕ) → n < 64 * length ms → has (put ms n) x ≡ (eqb x n || has ms x)
 put-has ms n x h = ⊎_elim (λ e. ap (has (put ms n)) e ∙ has-put-same ms n h ∙ sym (ap (λ (b : Bool). b || has ms x) (eq-eqb x n e))) (λ z. has-put-other ms n x h z ∙ sym (ap (λ (b : Bool). b || has ms x) (ne_eqb x n z))) (same-or-not x n)
 
+pub or-turn : (a b c : Bool) → (a || (b || c)) ≡ ((b || a) || c)
+or-turn true true c = refl
+or-turn true false c = refl
+or-turn false true c = refl
+or-turn false false c = refl
+
 pub each-marked : (ns : List ℕ) (ms : Words) (x : ℕ) → Each (λ (n : ℕ). n < 64 * length ms) ns → has (put_each ns ms) x ≡ (elem x ns || has ms x)
 unfolding put_each elem
 each-marked [] ms x h = refl
 each-marked (n ∷ ns) ms x h =
-    each-marked ns (put ms n) x (Each-map _ _ ns (λ y l. rw (put-length ms n) l) h.1) ∙ ap (λ (b : Bool). elem x ns || b) (put-has ms n x h.0) ∙ turn (elem x ns) (eqb x n) (has ms x)
-  where
-    turn : (a b c : Bool) → (a || (b || c)) ≡ ((b || a) || c)
-    turn true true c = refl
-    turn true false c = refl
-    turn false true c = refl
-    turn false false c = refl
+    each-marked ns (put ms n) x (Each-map _ _ ns (λ y l. rw (put-length ms n) l) h.1) ∙ ap (λ (b : Bool). elem x ns || b) (put-has ms n x h.0) ∙ or-turn (elem x ns) (eqb x n) (has ms x)

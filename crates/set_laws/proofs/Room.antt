@@ -3,7 +3,7 @@ use mathlib.Core.Path.{◌≡◌, refl, ap, sym, ◌∙◌}
 use mathlib.Core.Bool.{Bool, true, false, ◌||◌, false≢true}
 use mathlib.Core.Logic.{◌≢◌, ◌⊎◌, inl, inr, ⊎_elim}
 use mathlib.Core.List.{List, [], ◌∷◌, ◌++◌, map}
-use Prim.Native.Nat.{ℕ, zero, suc, ◌+◌, ◌≤◌, ◌<◌}
+use Prim.Native.Nat.{ℕ, suc, ◌+◌, ◌≤◌, ◌<◌}
 use native.Mathlib.Omega.{arith}
 use lib.Dec.{eqb}
 use lib.ListN.{length, get_or, replicate, length-append, length-set}
@@ -12,10 +12,12 @@ use Rattle.model.specs.Table.{Words, at}
 use Rattle.model.specs.SoundTest.{elem, distinct}
 use Rattle.model.specs.Cells.{cell_for, entered, entered_all}
 use Rattle.list_laws.proofs.Tools.{Each, same-or-not}
+use Rattle.list_laws.proofs.Lists.{at-replicate}
 use Rattle.list_laws.proofs.Members.{each-mem, mem-each, each-at, elem-cons, elem-join, elem-false}
 use Rattle.list_laws.proofs.Distinct.{distinct-cons, once-distinct}
 use Rattle.set_laws.specs.Sets.{SetOf}
 use Rattle.set_laws.proofs.Holding.{entered-set}
+use Rattle.set_laws.proofs.Marks.{or-turn}
 
 -- ---- a list without repetition of members of another one is no longer
 
@@ -91,13 +93,8 @@ room cs ns s l = ⊎_elim (λ f. f) (λ full. absurd (omega (arith, sub-length c
 
 -- ---- from nothing on
 
-zeros : (n i : ℕ) → at (replicate n 0) i ≡ 0
-zeros zero i = refl
-zeros (suc n) zero = refl
-zeros (suc n) (suc i) = zeros n i
-
 pub none-set : (n : ℕ) → SetOf (replicate n 0) (λ (x : ℕ). elem x [])
-none-set n = record { known = λ i z. absurd (z (zeros n i)); found = λ x e. absurd (false≢true (unfold elem in e)); once = λ i j z e. absurd (z (zeros n i)) }
+none-set n = record { known = λ i z. absurd (z (at-replicate n i)); found = λ x e. absurd (false≢true (unfold elem in e)); once = λ i j z e. absurd (z (at-replicate n i)) }
 
 pub same-set : (cs : Words) (f g : ℕ → Bool) → ((x : ℕ) → f x ≡ g x) → SetOf cs f → SetOf cs g
 same-set cs f g e s = record { known = λ i z. sym (e (at cs i)) ∙ s.known i z; found = λ x h. s.found x (e x ∙ h); once = s.once }
@@ -123,11 +120,5 @@ entered-all (x ∷ xs) ns cs s z r d n l =
     let later : Each (λ (y : ℕ). elem y (x ∷ ns) ≡ false) xs = mem-each _ xs (λ y m. (elem-cons y x ns).1 (each-mem (λ (w : ℕ). w ≢ x) ((elem-false x xs).0 u.0) m, each-mem (λ (w : ℕ). elem w ns ≡ false) n.1 m)) in
     same-set _ _ _ (λ y. swap y) (entered-all xs (x ∷ ns) (entered cs x) after ((elem-cons 0 x ns).1 ((λ q. r.0 (sym q)), z)) r.1 u.1 later (omega (arith, entered-length cs x)))
   where
-    turn : (a b c : Bool) → (a || (b || c)) ≡ ((b || a) || c)
-    turn true true c = refl
-    turn true false c = refl
-    turn false true c = refl
-    turn false false c = refl
-
     swap : (y : ℕ) → (elem y xs || elem y (x ∷ ns)) ≡ (elem y (x ∷ xs) || elem y ns)
-    swap y = turn (elem y xs) (eqb y x) (elem y ns)
+    swap y = or-turn (elem y xs) (eqb y x) (elem y ns)

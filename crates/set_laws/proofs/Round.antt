@@ -32,6 +32,7 @@ next m i = go (eqb (i + 1) m) refl
     go true e = rw e (inl (eqb-true (i + 1) m e, refl))
     go false e = rw e (inr (eqb-false (i + 1) m e, refl))
 
+-- numbers says so too, for its own walk: of the two crates neither rests on the other
 pub next-in : (m i : ℕ) → i < m → next_cell m i < m
 next-in m i h = go (next_cell m i) (next m i)
   where

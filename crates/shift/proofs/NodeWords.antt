@@ -8,7 +8,7 @@ use native.Mathlib.Omega.{arith}
 use lib.ListN.{length, take, drop, replicate, length-take, length-drop, drop_of_length-le}
 use lib.Seq.{drop-cons, take_all}
 use Rattle.cut_laws.proofs.Applying.{take-append}
-use Rattle.table_laws.proofs.Words.{take-replicate, drop-replicate}
+use Rattle.std.proofs.lemmas.List.{take-replicate, drop-replicate}
 use Rattle.model.specs.Table.{Words, at}
 use Rattle.model.specs.Slots.{slot_words}
 use Rattle.model.specs.Orders.{put}
@@ -41,7 +41,7 @@ pair-words (suc k) m ws e =
 
 -- words filled up with zeros
 padded : (s : Words) → length s ≤ 24 → take 24 (s ++ replicate 24 0) ≡ s ++ replicate (24 - length s) 0
-padded s h = rw (take-append 24 s (replicate 24 0), take_all 24 s h, take-replicate {A = ℕ} (24 - length s) 24 0 (omega arith))
+padded s h = rw (take-append 24 s (replicate 24 0), take_all 24 s h, take-replicate {X = ℕ} (24 - length s) 24 0 (omega arith))
 
 -- the words of the slots in use from slot `from` on, as they are copied over zeros
 module _ (left sibling level fence : ℕ) (ws : Words) (from count : ℕ) (c : count ≡ length (in_use_of ws)) (h : from ≤ count) (long : length ws ≡ 24) where
@@ -60,4 +60,4 @@ module _ (left sibling level fence : ℕ) (ws : Words) (from count : ℕ) (c : c
   unfolding node_words
   copied-words us e =
       let q : 8 + length copied - 8 ≡ length copied = omega arith in
-      rw (e, copied-padded, q, drop-replicate {A = ℕ} (length copied) 24 0)
+      rw (e, copied-padded, q, drop-replicate {X = ℕ} (length copied) 24 0)

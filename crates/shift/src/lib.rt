@@ -66,7 +66,8 @@ impl Opened {
         writer.store(self.start + (HALF + 2 * i), x);
     }
 
-    // Shifts (k, x) in at its place. The slots from there on move one up, the last first: the pointer, then the key.
+    // Shifts (k, x) in at its place. The slots from there on move one up, the last first: the pointer, then the key. By place,
+    // here and below: a store takes the number of a slot and a word of the one beside it.
     fn slot_in(&self, writer: &mut Writer<'_>, k: u64, x: u64)
         requires { Room (slot_in self.now k x) (of writer.old) }
         ensures { Makes (slot_in self.now k x) writer.old writer.new }
@@ -182,7 +183,8 @@ pub fn attach(writer: &mut Writer<'_>, p: u64, a: u64)
     shift_in(writer, p, fence, b);
 }
 
-// Cuts A off, then shifts B in at the parent; both nodes are read before the first store.
+// Cuts A off, then shifts B in at the parent. No call of attach: it would read both nodes after the cut, and to promise what it stores by the
+// table before, this would have to ask that the parent is not A.
 pub fn cut_attach(writer: &mut Writer<'_>, p: u64, a: u64)
     requires p_value { has_node writer.old.table.now p ≡ true }
     requires p_value_2 { ((view writer.old.table.now).node p).hidden ≡ 0 }
@@ -222,6 +224,7 @@ pub fn free_leaf(writer: &mut Writer<'_>, p: u64, x: u64)
 // ---- split and new root
 
 // The 32 words of B, where A was read as n: a leaf's upper slots from slot 5 on, an inner node's from slot 6 on; the rest is 0.
+// Word by word, here and in `new_root`: one function for both, as the definition `node_words` is, would take five values, of which `new_root` has two.
 fn upper_words(n: &Node) -> [u64; 32]
     requires { 6 ≤ length (in_use_of n.now.slots) }
     ensures { result ≡ upper_words n.now }

@@ -12,7 +12,7 @@ use lib.Seq.{take_at, drop_at, length-take-le}
 use borrow.Author.Tests.{ltb-false, lt-ltb, le-ltb, le-leb}
 use Rattle.std.specs.Prelude.{Ok}
 use Rattle.model.specs.Results.{Outcome, refused_with}
-use Rattle.model.specs.Table.{Words, at, all_zero}
+use Rattle.model.specs.Table.{Words, all_zero}
 use Rattle.model.specs.SoundTest.{all}
 use Rattle.list_laws.proofs.Tools.{and-iff, eqb-iff, leb-iff, refuted}
 use Rattle.model.specs.Scripts.{Script, is_script, SCRIPTS, rank, script_of, script_words, script_answer, script_out, actions_in, form_script, script_number}

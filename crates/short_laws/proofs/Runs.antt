@@ -2,7 +2,7 @@
 use mathlib.Core.Path.{◌≡◌, refl, sym, ap, ◌∙◌}
 use mathlib.Core.Logic.{inl, inr}
 use mathlib.Core.Bool.{true, not, ◌||◌}
-use mathlib.Core.List.{List, [], ◌∷◌, map}
+use mathlib.Core.List.{List, [], ◌∷◌}
 use mathlib.Core.Option.{Option, none, some}
 use Prim.Native.Nat.{ℕ, zero, suc}
 use native.Mathlib.Omega.{arith}
@@ -26,11 +26,12 @@ use Rattle.list_laws.proofs.Filters.{filter-none}
 use Rattle.cut_laws.proofs.Applying.{carry-stores, stores_in-take}
 use Rattle.cut_laws.proofs.FlushRule.{orders-stores}
 use Rattle.model.specs.Judge.{OldOrNew}
-use Rattle.two_laws.proofs.MapsTwo.{Steps, accepted-steps}
+use Rattle.list_laws.proofs.Lists.{sum-none}
+use Rattle.two_laws.proofs.MapsTwo.{Steps, accepted-steps, sound-after}
 use Rattle.two_laws.proofs.LedgerTwo.{searched}
 use Rattle.two_laws.proofs.SameTwo.{settled-sound}
 use Rattle.two_laws.proofs.EmptyTwo.{empty-settled}
-use Rattle.model.specs.Scripts.{Script, call_of, script_of, SCRIPTS, cut_tables, same_next, same_answer, agrees, bad_tables, sum, along, over_all, bad_count, bad_met}
+use Rattle.model.specs.Scripts.{Script, call_of, script_of, SCRIPTS, cut_tables, same_next, same_answer, agrees, bad_tables, along, over_all, bad_count, bad_met}
 
 -- ---- a sound table agrees with its own map
 
@@ -83,7 +84,7 @@ module _ (x : Call) (words : ℕ) (t : Words) (s : sound t ≡ true) (ok : refus
 
   after-sound : sound (table_after x words 0 t) ≡ true
   unfolding table_after
-  after-sound = rw ok (settled-sound _ steps.all-settled)
+  after-sound = rw ok (sound-after x words 0 t ok)
 
 -- No table of an accepted call is bad.
 pub none-bad : (x : Call) (t : Words) → sound t ≡ true → refusal x 2560 0 t ≡ 0 → bad_tables x t ≡ []
@@ -118,10 +119,6 @@ script-none-bad (a ∷ s) t f =
 pub start-sound : sound (empty 4) ≡ true
 unfolding empty_of
 start-sound = settled-sound _ (empty-settled 1 4 (inl refl) (omega arith) (omega arith))
-
-sum-none : (f : ℕ → ℕ) (ns : List ℕ) → ((n : ℕ) → f n ≡ 0) → sum (map f ns) ≡ 0
-sum-none f [] e = refl
-sum-none f (n ∷ ns) e = omega (arith, e n, sum-none f ns e)
 
 -- Over all scripts 0 tables agreed with the map neither before nor after the action.
 pub bad-met : bad_met ≡ 0

@@ -7,7 +7,8 @@ use native.Mathlib.Omega.{arith}
 use Rattle.model.specs.Table.{Words, empty}
 use Rattle.model.specs.Writes.{numbers, Call}
 use Rattle.model.specs.Refusals.{unless_refused, refusal, table_after}
-use Rattle.model.specs.Scripts.{Script, call_of, unrank, sum, along, over_all}
+use Rattle.model.specs.Lists.{sum}
+use Rattle.model.specs.Scripts.{Script, call_of, unrank, along, over_all}
 use Rattle.short_laws.proofs.Rank.{grown, grown-suc}
 
 -- ---- sums

@@ -1,22 +1,23 @@
 -- An action, from what its call answered and left: what it met, and the map after it.
 use mathlib.Core.Path.{◌≡◌, refl, sym, ap, ◌∙◌}
 use mathlib.Core.Bool.{Bool, true, false, cond}
+use mathlib.Core.Logic.{◌≢◌}
 use mathlib.Core.List.{List, [], ◌∷◌, map}
-use Prim.Native.Nat.{ℕ, zero, suc, ◌+◌, ◌%◌, ◌≤◌}
+use Prim.Native.Nat.{ℕ, suc, ◌+◌, ◌-◌, ◌%◌, ◌≤◌}
 use native.Mathlib.Omega.{arith}
 use lib.ListN.{length, take, set, length-map}
 use Rattle.std.specs.Prelude.{Ok, Err}
 use Rattle.model.specs.declared.Counts.{Counts}
 use Rattle.model.specs.declared.Refusal.{Refusal}
-use Rattle.model.specs.Results.{Written, refused_with, done_with}
-use Rattle.model.proofs.Numbers.{done-ok}
+use Rattle.model.specs.Results.{Written}
+use Rattle.model.proofs.Numbers.{done-ok, done-err}
 use Rattle.model.specs.Table.{Words}
 use Rattle.model.specs.Slots.{Slot}
 use Rattle.model.specs.Reached.{filter, map_of, Maps, maps_of}
 use Rattle.model.specs.SoundTest.{sound}
-use Rattle.model.specs.Orders.{store_count, flush_count, barrier_count, carry, carried_out}
+use Rattle.model.specs.Orders.{store_count, flush_count, carry, carried_out}
 use Rattle.model.specs.Writes.{numbers, Call, insertion, deletion, repair, stores_of, repaired}
-use Rattle.model.specs.Refusals.{has_key, unless_refused, refusal, orders_of, written, table_after, list_after}
+use Rattle.model.specs.Refusals.{has_key, refusal, orders_of, written, table_after, list_after}
 use Rattle.model.specs.Ledger.{on_map}
 use Rattle.model.specs.Scripts.{inserts, action_key, call_of, cut_tables, bad_tables, table_count, bad_count}
 use Rattle.list_laws.proofs.Tools.{Each, Each-map}
@@ -42,9 +43,6 @@ map-each f g (x ∷ xs) e = rw (e.0, map-each f g xs e.1)
 -- ---- what a call answered
 
 module _ (x : Call) (words : ℕ) (t : Words) where
-  abbrev told : (number : ℕ) → Written
-  told n = unless_refused n (done_with (store_count (orders_of x 0 t)) (flush_count (orders_of x 0 t)) (barrier_count (orders_of x 0 t))) (refused_with n)
-
   pub done-accepts : (w : Written) (k : Counts) → w ≡ written x words 0 t → w ≡ Ok k → (refusal x words 0 t ≡ 0) × (k.stores + k.flushes ≡ length (orders_of x 0 t))
   unfolding written
   done-accepts w k e d =
@@ -55,11 +53,10 @@ module _ (x : Call) (words : ℕ) (t : Words) where
 
   pub refused-not : (w : Written) (k : Refusal) → w ≡ written x words 0 t → w ≡ Err k → (n : ℕ) × (refusal x words 0 t ≡ suc n)
   unfolding written
-  refused-not w k e d = go (refusal x words 0 t) refl (sym d ∙ e)
-    where
-      go : (n : ℕ) → refusal x words 0 t ≡ n → Err k ≡ told n → (n : ℕ) × (refusal x words 0 t ≡ suc n)
-      go zero r q = let z : ◌≡◌ {A = ℕ} 0 1 = cc in absurd (omega arith)
-      go (suc n) r q = (n, r)
+  refused-not w k e d =
+      let n = refusal x words 0 t in
+      let some : n ≢ 0 = (done-err {U = Counts} n _ (sym e ∙ d)).0 in
+      (n - 1, omega (arith, some))
 
 -- ---- how many tables
 

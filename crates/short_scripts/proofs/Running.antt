@@ -7,12 +7,13 @@ use native.Mathlib.Numerals.{add-one}
 use native.Mathlib.Omega.{arith}
 use lib.ListN.{length, drop, get_or, replicate, drop_of_length-le}
 use lib.Seq.{drop-cons}
+use Rattle.model.specs.Lists.{sum}
 use Rattle.model.specs.Table.{Words, empty, empty_of}
 use Rattle.model.specs.Reached.{map_of, Maps, maps_of}
 use Rattle.model.specs.SoundTest.{sound}
 use Rattle.model.specs.Writes.{numbers, Call}
 use Rattle.model.specs.Refusals.{table_after}
-use Rattle.model.specs.Scripts.{Script, call_of, SCRIPTS, script_of, script_words, actions_in, form_script, sum, along, over_all, table_count, bad_count}
+use Rattle.model.specs.Scripts.{Script, call_of, SCRIPTS, script_of, script_words, actions_in, form_script, along, over_all, table_count, bad_count}
 use Rattle.two_laws.proofs.EmptyTwo.{empty-one-maps}
 use Rattle.short_laws.proofs.Rank.{script-is}
 use Rattle.short_laws.proofs.Calls.{words-form, words-actions}

@@ -3,12 +3,11 @@ use mathlib.Core.Path.{◌≡◌, refl, sym, ap, ◌∙◌}
 use mathlib.Core.Bool.{Bool, true, false}
 use mathlib.Core.List.{[], ◌∷◌, ◌++◌, append_assoc}
 use Prim.Native.Nat.{ℕ, zero, suc, ◌+◌, ◌-◌, ◌*◌, ◌/◌, ◌%◌, ◌≤◌, ◌<◌}
-use native.Mathlib.Nat.{sub-zero}
 use native.Mathlib.Numerals.{add-one}
 use native.Mathlib.Omega.{arith}
 use lib.Dec.{leb}
 use lib.ListN.{length, take, drop, get_or, set, replicate, length-set, length-drop, drop_of_length-le}
-use Rattle.std.proofs.lemmas.List.{length-take}
+use Rattle.std.proofs.lemmas.List.{length-take, drop-set, drop-replicate}
 use lib.Seq.{drop-cons, drop-drop, take_all}
 use borrow.Author.Tests.{le-leb, lt-leb, ne_eqb}
 use Rattle.model.specs.Table.{Words, at, all_zero}
@@ -43,9 +42,9 @@ past-cut : (ws : Words) (n m : ℕ) → length ws ≤ n + 1 + m → take m (drop
 past-cut ws n m h = let e : n + 1 ≡ 1 + n = omega arith in take_all m (drop (n + 1) ws) (omega (arith, length-drop (n + 1) ws)) ∙ rw e (sym (drop-drop n 1 ws))
 
 -- what they pass
-module _ (ws : Words) (h : at ws 0 ≤ 4) (a : Bool) (e : a ≡ within 5 (take (at ws 0 + 1 - 1) (drop 1 ws))) where
+module _ (ws : Words) (h : at ws 0 ≤ 4) (a : Bool) (e : a ≡ within 5 (actions_in ws)) where
   six : {t : Bool} → a ≡ t → within 5 (actions_in ws) ≡ t
-  six q = rw (actions-cut ws (at ws 0)) at (sym e ∙ q)
+  six q = sym e ∙ q
 
   pub form-past : a ≡ true → (m : ℕ) → length ws ≤ at ws 0 + 1 + m → (b : Bool) → b ≡ within 0 (take m (drop (at ws 0 + 1) ws)) → b ≡ form_script ws
   unfolding form_script
@@ -109,11 +108,6 @@ filled-next (suc i) (suc n) ws h k =
     let f : suc n - 1 ≡ n = omega arith in
     rw (e, f)
 
-drop-set : (ws : Words) (i x : ℕ) → i < length ws → drop i (set ws i x) ≡ x ∷ drop (suc i) ws
-drop-set [] i x h = absurd (omega arith)
-drop-set (w ∷ ws) zero x h = refl
-drop-set (w ∷ ws) (suc i) x h = drop-set ws i x (omega arith)
-
 -- all of it
 filled-all : (i n w : ℕ) (ws : Words) → i ≤ length ws → grown 0 i ≤ n → filled i n (w ∷ ws) ≡ w ∷ (unrank i n ++ drop i ws)
 unfolding unrank
@@ -121,12 +115,7 @@ filled-all zero n w ws h l = refl
 filled-all (suc i) zero w ws h l = absurd (omega (arith, l, grown-suc 0 i))
 filled-all (suc i) (suc n) w ws h l =
     filled-all i (n / 6) w (set ws i (n % 6)) (simp length-set (omega arith)) (omega (arith, l, grown-suc 0 i))
-    ∙ ap (λ (q : Words). w ∷ q) (rw (drop-set ws i (n % 6) (omega arith), append_assoc))
-
-drop-zeros : (l m : ℕ) → drop {A = ℕ} l (replicate m 0) ≡ replicate (m - l) 0
-drop-zeros zero m = rw sub-zero
-drop-zeros (suc l) zero = let e : 0 - suc l ≡ 0 = omega arith in rw e
-drop-zeros (suc l) (suc m) = let e : suc m - suc l ≡ m - l = omega arith in rw e (drop-zeros l m)
+    ∙ ap (λ (q : Words). w ∷ q) (rw (drop-set ws i (n % 6) (omega arith), add-one i, append_assoc))
 
 -- the script's words
 pub filled-words : (n : ℕ) → n < 1555 → filled (length (script_of n)) n (set (replicate 5 0) 0 (length (script_of n))) ≡ script_words (script_of n)
@@ -135,4 +124,4 @@ filled-words n h =
     let l = length (script_of n) in
     let few : l ≤ 4 = unrank-length 4 n in
     filled-all l n l (replicate 4 0) few (script-within n h).0
-    ∙ ap (λ (q : Words). l ∷ q) (rw (unrank-enough l n few (script-within n h).1, drop-zeros l 4))
+    ∙ ap (λ (q : Words). l ∷ q) (rw (unrank-enough l n few (script-within n h).1, drop-replicate {X = ℕ} l 4 0))

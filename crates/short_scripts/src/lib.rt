@@ -2,6 +2,7 @@
 #![tactic(auto)]
 
 ghost use Rattle.std.specs.Prelude.{◌≡◌, true, ◌+◌, ◌≤◌, ◌<◌, leb, length};
+ghost use Rattle.model.specs.Table.{at};
 ghost use Rattle.model.specs.Search.{first_above, lookup, search};
 ghost use Rattle.model.specs.Reached.{map_of};
 ghost use Rattle.model.specs.SoundTest.{all, sound};
@@ -71,6 +72,7 @@ fn words_of(number: u64) -> [u64; 5]
     let mut words = [0u64; 5];
     words[0] = count as u64;
     let mut n = number;
+    // By place, as in `isrc::write_digits`, for which an adapter of `iter_mut` was tried: of its writes a proof knows nothing.
     for i in (0..count).rev() {
         words[i + 1] = (n - 1) % 6;
         n = (n - 1) / 6;
@@ -78,7 +80,8 @@ fn words_of(number: u64) -> [u64; 5]
     words
 }
 
-// The script with this number, or 22.
+// The script with this number, or 22. The words are lent, as in `catalogue_script`: a `Result` of them is no plainer, as its caller would
+// match it and copy them.
 pub fn script_of(number: u64, out: &mut [u64; 5]) -> Outcome
     ensures value { result ≡ script_answer number }
     ensures out_after { out.new ≡ script_out number out.old }
@@ -104,7 +107,16 @@ fn forms(words: [u64; 5]) -> bool
     ensures { result ≡ form_script words }
 {
     let count = words[0] as usize;
-    count <= 4 && none_above(&words[1..=count], 5) && none_above(&words[count + 1..], 0)
+    count <= 4 && none_above(actions_in(&words), 5) && none_above(&words[count + 1..], 0)
+}
+
+// A script's actions.
+fn actions_in(words: &[u64; 5]) -> &[u64]
+    requires { at words.now 0 ≤ 4 }
+    ensures { result.now ≡ actions_in words.now }
+{
+    let count = words[0] as usize;
+    &words[1..=count]
 }
 
 // The number that a script's actions make.
@@ -112,8 +124,7 @@ fn rank(words: [u64; 5]) -> u64
     requires { form_script words ≡ true }
     ensures { result ≡ rank (actions_in words) }
 {
-    let count = words[0] as usize;
-    let actions = &words[1..=count];
+    let actions = actions_in(&words);
     let mut n = 0;
     for &action in actions {
         n = 6 * n + action + 1;
@@ -163,6 +174,7 @@ fn answers(table: &[u64], held: Held, key: u64) -> bool
     ensures { result ≡ same_answer (search 1 table.now key) (lookup key (pairs held)) }
 {
     match search::search(table, 1, key) {
+        // Tried: `==` alone. No proof was found that it is `same_answer`, for which the map's answer may be no refusal.
         Answer::Refused(_) => false,
         found => found == expected(held, key),
     }
@@ -197,16 +209,13 @@ fn count_bad(table: [u64; 136], list: &[u64], count: u64, old: Held, new: Held) 
     requires { count ≤ 1121 }
     ensures { result ≡ bad_among (pairs old) (pairs new) table list.now 0 (count + 1) }
 {
-    let mut bad = 0;
-    for c in 0..count + 1 {
-        if is_bad(cut_at(table, list, c), old, new) {
-            bad += 1;
-        }
-    }
-    bad
+    // Tried: `0..=count`. std has no law for what list an inclusive range yields.
+    (0..count + 1)
+        .filter(|&c| is_bad(cut_at(table, list, c), old, new))
+        .count() as u64
 }
 
-// The action's call.
+// The action's call. By number, as `call_of` of the model is: an `Action` in its place takes a definition more, here and in `change`.
 fn call(table: &mut [u64; 136], list: &mut [u64; 2560], action: u64) -> Written
     ensures value { result ≡ written (call_of action) 2560 0 table.old }
     ensures table_after { table.new ≡ table_after (call_of action) 2560 0 table.old }
@@ -251,16 +260,12 @@ fn act(table: &mut [u64; 136], list: &mut [u64; 2560], held: &mut Held, action: 
                 bad,
             }
         }
+        // `Met::default()` is no plainer: it would be called once, and hides that both numbers are 0.
         Err(_) => Met { tables: 0, bad: 0 },
     }
 }
 
 // ---- scripts
-
-// An order list. `script` makes one likewise: neither crate rests on the other, and `node` knows no order list.
-fn first_list() -> [u64; 2560] {
-    [0u64; 2560]
-}
 
 // One script on an empty table.
 fn run(words: [u64; 5], list: &mut [u64; 2560]) -> Met
@@ -271,8 +276,8 @@ fn run(words: [u64; 5], list: &mut [u64; 2560]) -> Met
     let mut held = [false; 3];
     let mut tables = 0;
     let mut bad = 0;
-    let count = words[0] as usize;
-    let actions = &words[1..=count];
+    let actions = actions_in(&words);
+    // Two sums, here and in `run_all`: an `impl Add` is no plainer, as it takes a definition of the sum and one of what fits.
     for &action in actions {
         let met = act(&mut table, list, &mut held, action);
         tables += met.tables;
@@ -286,7 +291,8 @@ pub fn run_all() -> Met
     ensures tables_value { result.tables ≡ tables_met }
     ensures bad_value { result.bad ≡ bad_met }
 {
-    let mut list = first_list();
+    // The order list: memory is fixed, there is no heap.
+    let mut list = [0u64; 2560];
     let mut tables = 0;
     let mut bad = 0;
     for number in 0..1555 {

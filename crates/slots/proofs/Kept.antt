@@ -112,6 +112,10 @@ module _ (s b before k p : ℕ) where
     pub kept-passed : w ≡ false → kept_of s b (shown before (slot k p ∷ ss)) ≡ kept_of s b (shown p ss)
     kept-passed h = rw (kept-more ss, ← e, h)
 
+pub count-none : (count s b before : ℕ) → count + length (kept_of s b (shown before [])) ≡ count
+unfolding shown filter
+count-none count s b before = omega arith
+
 -- ---- the next key up
 
 pub above-none : (key s b before : ℕ) → first_above key (kept_of s b (shown before [])) ≡ None

@@ -1,34 +1,60 @@
 -- Places among the slots in use, one slot more; and the slots in use as a node's first slot words.
 use mathlib.Core.Path.{◌≡◌, refl, ap, sym, ◌∙◌}
-use mathlib.Core.Bool.{Bool, true, false}
+use mathlib.Core.Bool.{Bool, true, false, ◌||◌, false≢true}
 use mathlib.Core.List.{List, [], ◌∷◌, ◌++◌}
 use Prim.Native.Nat.{ℕ, zero, suc, ◌+◌, ◌-◌, ◌*◌, ◌<◌, ◌≤◌}
 use native.Mathlib.Omega.{arith}
-use native.Mathlib.Nat.{add-zero}
+use native.Mathlib.Nat.{add-zero, zero-add}
 use lib.Seq.{get_or-drop, take-suc}
-use lib.Dec.{eqb}
+use lib.Dec.{eqb, leb}
 use lib.ListN.{length, get_or, take, drop, length-drop}
-use borrow.Author.Tests.{eq-eqb, ne_eqb, lt-ltb, le-ltb}
+use borrow.Author.Tests.{eqb-true, eqb-false, leb-true, leb-false, eq-eqb, ne_eqb, lt-ltb, le-ltb}
+use Rattle.std.specs.Prelude.{unwrap_or}
+use Rattle.std.specs.List.{find, range_with_len}
 use Rattle.model.specs.Table.{Words, at}
 use Rattle.model.specs.Slots.{Slot, slot, slots_of, in_use}
 use Rattle.model.specs.Shifts.{last_pointer, place_of, hidden_place}
 use Rattle.slots.specs.Scan.{used_from, in_use_of}
-use Rattle.slots.proofs.Scans.{used-stop, used-more}
+use Rattle.slots.proofs.Scans.{used-past, used-stop, used-more}
 
 -- ---- one slot more, where i slots are passed
 
-pub place-none : (i k : ℕ) → i + place_of k [] ≡ i
-unfolding place_of
-place-none i k = omega arith
+-- What a look for the first place that passes a test finds from place j on, with so many places left: g of the slots in use from there, counted from
+-- j, if g is 0 of none and of those from a place that passes, and one more than g of the later ones if it does not.
+module _ (test : ℕ → Bool) (g : List Slot → ℕ) (ws : Words) (none : g [] ≡ 0) (here : (i : ℕ) → 2 * i + 1 < length ws → test i ≡ true → g (used_from ws i) ≡ 0)
+    (later : (i : ℕ) → 2 * i + 1 < length ws → test i ≡ false → g (used_from ws i) ≡ suc (g (used_from ws (i + 1)))) where
+  place-found : (m j last : ℕ) → j + m ≡ last → length ws ≡ 2 * last → unwrap_or (find test (range_with_len j m)) last ≡ j + g (used_from ws j)
+  place-found zero j last e l = omega (arith, e, ap g (used-past ws j (omega (arith, e, l))) ∙ none)
+  place-found (suc m) j last e l = go (test j) refl (place-found m (j + 1) last (omega (arith, e)) l)
+    where
+      go : (b : Bool) → test j ≡ b → unwrap_or (find test (range_with_len (j + 1) m)) last ≡ j + 1 + g (used_from ws (j + 1))
+          → unwrap_or (find test (range_with_len j (suc m))) last ≡ j + g (used_from ws j)
+      go true q ih = rw q (omega (arith, here j (omega (arith, e, l)) q))
+      go false q ih = rw q (ih ∙ omega (arith, later j (omega (arith, e, l)) q))
 
-module _ (i k a p : ℕ) (ss : List Slot) where
-  pub place-here : k ≤ a → i + place_of k (slot a p ∷ ss) ≡ i
-  unfolding place_of
-  place-here h = rw (le-ltb a k h, place_of) (omega arith)
+  pub place-first : length ws ≡ 24 → unwrap_or (find test (range_with_len 0 12)) 12 ≡ g (used_from ws 0)
+  place-first l = place-found 12 0 12 refl (omega (arith, l)) ∙ zero-add _
 
-  pub place-later : a < k → i + place_of k (slot a p ∷ ss) ≡ i + 1 + place_of k ss
-  unfolding place_of
-  place-later h = rw (lt-ltb a k h, place_of) (omega arith)
+-- the first that is not in use
+pub count-found : (ws : Words) → length ws ≡ 24 → unwrap_or (find (λ (i : ℕ). eqb (at ws (2 * i + 1)) 0) (range_with_len 0 12)) 12 ≡ length (in_use_of ws)
+unfolding in_use_of
+count-found ws l =
+    place-first _ length ws refl (λ i h e. ap length (used-stop ws i h (eqb-true _ 0 e))) (λ i h e. ap length (used-more ws i h (eqb-false _ 0 e))) l
+
+-- the first that is not in use, or whose key is not below k
+pub key-found : (ws : Words) (k : ℕ) → length ws ≡ 24
+    → unwrap_or (find (λ (i : ℕ). eqb (at ws (2 * i + 1)) 0 || leb k (at ws (2 * i))) (range_with_len 0 12)) 12 ≡ place_of k (in_use_of ws)
+unfolding in_use_of place_of
+key-found ws k l = place-first _ (place_of k) ws refl (λ i h. here i h (eqb (at ws (2 * i + 1)) 0) refl) (λ i h. past i h (eqb (at ws (2 * i + 1)) 0) refl) l
+  where
+    here : (i : ℕ) → 2 * i + 1 < length ws → (b : Bool) → eqb (at ws (2 * i + 1)) 0 ≡ b → b || leb k (at ws (2 * i)) ≡ true → place_of k (used_from ws i) ≡ 0
+    here i h true q e = ap (place_of k) (used-stop ws i h (eqb-true _ 0 q))
+    here i h false q e = ap (place_of k) (used-more ws i h (eqb-false _ 0 q)) ∙ rw (le-ltb (at ws (2 * i)) k (leb-true k _ e), place_of)
+
+    past : (i : ℕ) → 2 * i + 1 < length ws → (b : Bool) → eqb (at ws (2 * i + 1)) 0 ≡ b → b || leb k (at ws (2 * i)) ≡ false
+        → place_of k (used_from ws i) ≡ suc (place_of k (used_from ws (i + 1)))
+    past i h true q e = absurd (false≢true (sym e))
+    past i h false q e = ap (place_of k) (used-more ws i h (eqb-false _ 0 q)) ∙ rw (lt-ltb (at ws (2 * i)) k (leb-false k _ e), place_of)
 
 pub hidden-none : (i b : ℕ) → i + hidden_place b [] ≡ i
 unfolding hidden_place

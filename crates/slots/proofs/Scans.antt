@@ -12,7 +12,7 @@ use Rattle.model.specs.Slots.{Slot, slot, slots_of, in_use, shown, hidden_slots}
 use Rattle.model.specs.Reached.{filter}
 use Rattle.list_laws.proofs.Filters.{filter-yes, filter-no}
 use Rattle.table_laws.proofs.SlotWords.{slots-cons, slots-end}
-use Rattle.slots.specs.Scan.{used_from, in_use_of}
+use Rattle.slots.specs.Scan.{used_from}
 
 in-use-stop : (k p : ℕ) (ss : List Slot) → p ≡ 0 → in_use (slot k p ∷ ss) ≡ []
 unfolding in_use
@@ -34,20 +34,6 @@ module _ (ws : Words) (i : ℕ) where
     pub used-more : (at ws (2 * i + 1) ≡ 0 → ⊥) → used_from ws i ≡ slot (at ws (2 * i)) (at ws (2 * i + 1)) ∷ used_from ws (i + 1)
     used-more e =
         rw (add-one i) (ap in_use (slots-cons ws i h) ∙ in-use-more (at ws (2 * i)) (at ws (2 * i + 1)) (drop (suc i) (slots_of ws)) e)
-
--- none is in use after as many as are in use
-used-end : (ss : List Slot) → in_use (drop (length (in_use ss)) ss) ≡ []
-unfolding in_use
-used-end [] = refl
-used-end (s ∷ ss) = go (eqb s.pointer 0) refl (used-end ss)
-  where
-    go : (b : Bool) → eqb s.pointer 0 ≡ b → in_use (drop (length (in_use ss)) ss) ≡ [] → in_use (drop (length (in_use (s ∷ ss))) (s ∷ ss)) ≡ []
-    go true e ih = rw (e, in_use) (rw (e, in_use))
-    go false e ih = rw (e, in_use) ih
-
-pub used-counted : (ws : Words) (n : ℕ) → n ≡ length (in_use_of ws) → used_from ws n ≡ []
-unfolding in_use_of
-used-counted ws n e = ap (used_from ws) e ∙ used-end (slots_of ws)
 
 -- A loop over the slots keeps that F, what the present state and the slots left come to, is x. With none left, F of none is x. With a slot
 -- more, what that slot and those after it come to is x: the answer at this slot, or F of the next state.

@@ -1,5 +1,5 @@
 -- What an iterator over shown slots has left.
-use Rattle.std.specs.Prelude.{List, ℕ, ◌-◌, ◌/◌, length}
+use Rattle.std.specs.Prelude.{List, ℕ}
 use Rattle.model.specs.Slots.{Slot, slot}
 use Rattle.slots.specs.declared.shown.Shown.{Shown}
 use Rattle.slots.specs.Scan.{shown_from}
@@ -8,8 +8,4 @@ abbrev pub slot_of : ℕ × ℕ → Slot
 slot_of x = slot x.0 x.1
 
 abbrev pub shown_left : Shown → List Slot
-shown_left s = shown_from s.before s.slots.now s.at
-
--- no more than so many
-abbrev pub most_left : Shown → ℕ
-most_left s = length s.slots.now / 2 - s.at
+shown_left s = shown_from s.before s.slots.now 0

@@ -1,7 +1,7 @@
 // The slots of one node, given by value: its slot words, or its record. No table is read, nothing is written.
 #![tactic(auto)]
 
-ghost use Rattle.std.specs.Prelude.{◌≡◌, [], ◌∷◌, pred, ◌≤◌, ◌<◌, length, take};
+ghost use Rattle.std.specs.Prelude.{◌≡◌, ◌∷◌, pred, ◌≤◌, ◌<◌, length, take};
 ghost use Rattle.model.specs.Slots.{slot};
 ghost use Rattle.model.specs.Search.{route, first_with, first_above};
 ghost use Rattle.model.specs.Shifts.{last_pointer, place_of, hidden_place};
@@ -20,20 +20,14 @@ pub use ways::Ways;
 // ---- slots in use: places
 
 // How many slots are in use.
-#[tactic(auto, unfolding(crate::specs::Scan::in_use_of))]
 pub fn count(slots: [u64; 24]) -> usize
     ensures value { result ≡ length (in_use_of slots) }
     ensures upper_bound { result ≤ 12 }
 {
-    for i in 0..12 {
-        if slots[2 * i + 1] == 0 {
-            return i;
-        }
-    }
-    12
+    (0..12).find(|&i| slots[2 * i + 1] == 0).unwrap_or(12)
 }
 
-// The place of the last slot in use; 0 if none is.
+// The place of the last slot in use; 0 if none is, as the definition has it: a shift, which asks, would put 0 in the place of an Option's None.
 pub fn last(slots: [u64; 24]) -> usize
     ensures value { result ≡ pred (length (in_use_of slots)) }
     ensures upper_bound { result ≤ 12 }
@@ -42,20 +36,19 @@ pub fn last(slots: [u64; 24]) -> usize
 }
 
 // The place of key k: before the first slot in use whose key is not below it.
-#[tactic(auto, unfolding(crate::specs::Scan::in_use_of))]
 pub fn place(slots: [u64; 24], k: u64) -> usize
     ensures value { result ≡ place_of k (in_use_of slots) }
     ensures upper_bound { result ≤ 12 }
 {
-    for i in 0..12 {
-        if slots[2 * i + 1] == 0 || k <= slots[2 * i] {
-            return i;
-        }
-    }
-    12
+    (0..12)
+        .find(|&i| slots[2 * i + 1] == 0 || k <= slots[2 * i])
+        .unwrap_or(12)
 }
 
-// The place of the first hidden slot. No `position`: each pointer is compared with the one before it.
+// The place of the first hidden slot. Tried as a `find` by `pointer_before`, and proved: no plainer, for at each place the pointer before is asked
+// for anew, by a test for place 0, where the loop has it at hand from the turn before; and a look took half as many instructions again.
+// Slots and left come by themselves, here and below, and not in a `&Node`: that asks for more than what is promised rests on, and to count all
+// shown slots a node without its sibling would be made.
 #[tactic(auto, unfolding(crate::specs::Scan::in_use_of))]
 pub fn hidden_place(slots: [u64; 24], left: u64) -> usize
     ensures value { result ≡ hidden_place left (in_use_of slots) }
@@ -88,6 +81,7 @@ pub fn pointer_before(slots: [u64; 24], left: u64, p: usize) -> u64
 // ---- shown slots: the way down, and the slot of a key
 
 // The way down after a slot in use: its pointer if it is shown and its key is at most the key looked for.
+// The slot and the pointer before it are numbers, here and below: each turn of a look has them so, and would make a struct to be taken apart here.
 fn way_after(way: u64, before: u64, k: u64, p: u64, key: u64) -> u64
     ensures { result ≡ way_after way before k p key }
 {
@@ -106,26 +100,26 @@ fn held_after(held: u64, before: u64, k: u64, p: u64, key: u64) -> u64
 }
 
 // What one look at a node's slots finds for a key: the way down, and the pointer of the first shown slot with the key, 0 for none.
-// 0, and no Option: as in a slot word, which it is. The look goes on to a search's answer as it is, and is taken apart there once.
+// 0, and no Option: the loop keeps it in one word and tests it at each slot, and an Option has two. A search makes an Option of it once a node.
 #[derive(Clone, Copy)]
 pub struct Seen {
     pub way: u64,
     pub held: u64,
 }
 
-// For an inner node and for a leaf: the way down is by the last shown slot whose key is at most the key, else by left. None is in use from
-// slot end on: 12 will do, and then the compiler makes a copy for the caller, with no loop and no slot loaded before it is looked at.
+// For an inner node and for a leaf: the way down is by the last shown slot whose key is at most the key, else by left. Put in where it is called:
+// then the node's record is not copied, the loop is unrolled, and no slot is loaded before it is looked at. Tried as a call: a descent of
+// `reach::standing` takes nearly three times as many instructions.
 // It keeps the pointer before by itself: each search runs through it, and `Shown` here costs searches instructions.
-pub fn scan(slots: [u64; 24], left: u64, key: u64, end: usize) -> Seen
-    requires end_bound { end ≤ 12 }
-    requires end_value { used_from slots end ≡ [] }
+#[inline(always)]
+pub fn scan(slots: [u64; 24], left: u64, key: u64) -> Seen
     ensures way_value { result.way ≡ route key left (shown_from left slots 0) }
     ensures held_value { result.held ≡ pointer_in (first_with key (shown_from left slots 0)) }
 {
     let mut way = left;
     let mut held = 0;
     let mut before = left;
-    for i in 0..end {
+    for i in 0..12 {
         let p = slots[2 * i + 1];
         if p == 0 {
             return Seen { way, held };
@@ -167,12 +161,23 @@ pub fn is_way(sibling: u64, bound: u64, before: u64, key: u64, pointer: u64) -> 
 }
 
 // How many of a node's slots are shown and kept, the bound being the sibling's fence; with sibling 0 all that are shown.
+// Tried over `Shown`, filtered and counted: a check took more instructions.
 pub fn kept_count(slots: [u64; 24], left: u64, sibling: u64, bound: u64) -> u64
     ensures { result ≡ length (kept_of sibling bound (shown_from left slots 0)) }
 {
-    Shown::new(&slots, left)
-        .filter(|&(key, _)| keeps(sibling, bound, key))
-        .count() as u64
+    let mut count = 0;
+    let mut before = left;
+    for i in 0..12 {
+        let p = slots[2 * i + 1];
+        if p == 0 {
+            return count;
+        }
+        if is_way(sibling, bound, before, slots[2 * i], p) {
+            count += 1;
+        }
+        before = p;
+    }
+    count
 }
 
 // How many of a node's slots are shown.

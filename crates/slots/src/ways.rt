@@ -3,7 +3,7 @@
 ghost use Rattle.std.specs.Prelude.{◌≤◌};
 
 // Left, with the node's fence as key, then the node's kept slots.
-// The pointers are an array of their own: callers lend a part of them on as a slice.
+// Memory is fixed: so a count stands beside the arrays. The pointers are an array of their own: callers lend a part of them on as a slice.
 #[derive(Clone, Copy)]
 pub struct Ways {
     pub count: usize,

@@ -25,6 +25,7 @@ use Rattle.sound.specs.declared.Leftover.{Leftover}
 use Rattle.sound.specs.declared.Leftover.TheVariants.{Nothing, HiddenIn, MissingIn, BothIn}
 use Rattle.sound.specs.declared.Sound.{Sound}
 use Rattle.slots.specs.Scan.{shown_from}
+pub use Rattle.sound.specs.Checked.{SoundWith}
 use Rattle.sound.specs.Checked.{meant, said, verdict_of, found, sound_with, checked_tree, checked}
 
 -- ---- room in the parent
@@ -150,11 +151,6 @@ module _ (v : View) where
   tree-unsound q = (with-unsound (sound_view v) (leftover v) (length (reached v)) some-left).0 q
 
 -- of a table
-pub record SoundWith (t : Words) (x : Leftover) (c : ℕ) : Type 0 where
-  pub is-sound : sound t ≡ true
-  pub leftover-is : leftover_all t ≡ some (meant x)
-  pub reached-are : c ≡ length (reached_all t)
-
 some-of : (vs : List View) → all sound_view vs ≡ true → leftover_in vs ≡ none → ⊥
 unfolding all leftover_in
 some-of [] s n = let z : ◌≡◌ {A = ℕ} 0 1 = cc in absurd (omega arith)

@@ -28,7 +28,7 @@ use Rattle.tree_laws.proofs.Rows.{At, range-iff}
 use Rattle.tree_laws.proofs.Levels.{Level, level-lower}
 use Rattle.walk_laws.specs.Walk.{walk}
 use Rattle.walk_laws.proofs.Sums as sums
-use Rattle.walk_laws.proofs.Sums.{Monoid, sum, tests, unit-right, sum-append, sum-flat, sum-both}
+use Rattle.walk_laws.proofs.Sums.{Monoid, sum, tests, unit-right, sum-append, sum-flat, sum-both, all-sum}
 use Rattle.walk_laws.proofs.WalkLaw.{InOrder, top-level, in-order-once, walk-iff}
 use Rattle.bits.specs.Bits.{has}
 use Rattle.bits.proofs.Marks.{none-marked}
@@ -166,11 +166,6 @@ module _ {M : Type 0} (m : Monoid M) (g : Slot → M) (v : View) where
         ∙ leaves-sum (height v) (v.root ∷ []) (top-level v o)
 
 -- ---- both tests are sums
-
-all-sum : (p : Slot → Bool) (ss : List Slot) → all p ss ≡ sum tests p ss
-unfolding all
-all-sum p [] = refl
-all-sum p (s ∷ ss) = ap (λ (b : Bool). p s && b) (all-sum p ss)
 
 -- how often a recording number is there
 abbrev one_if : Bool → ℕ

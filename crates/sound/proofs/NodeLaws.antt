@@ -1,19 +1,21 @@
 -- What the functions over one node answer, from what they read.
-use mathlib.Core.Path.{◌≡◌, refl, ap, ap₂, sym, ◌∙◌}
+use mathlib.Core.Path.{◌≡◌, ap, ap₂, sym, ◌∙◌}
 use mathlib.Core.Bool.{Bool, true, false, ◌&&◌, ◌||◌, and_assoc}
-use Prim.Native.Nat.{ℕ, zero, suc, ◌+◌, ◌≤◌, ◌<◌}
+use Prim.Native.Nat.{ℕ, ◌+◌, ◌<◌}
 use native.Mathlib.Omega.{arith}
 use lib.Dec.{ltb, eqb}
-use lib.ListN.{take, drop}
-use lib.Seq.{drop-cons}
-use Rattle.std.specs.List.{list_all, range_with_len}
+use lib.ListN.{length, take, drop, get_or, replicate, length-take, length-drop}
+use lib.Seq.{take-take, drop-drop}
+use lib.Pointwise.{pointwise}
+use Rattle.std.proofs.lemmas.List.{drop-take, get_or-take, get_or-drop}
 use borrow.Author.Tests.{eq-eqb, ne_eqb, lt-ltb}
-use Rattle.model.specs.Table.{Words, at, nodes, in_range, header_ok, node_start, has_node, node, all_zero}
+use Rattle.model.specs.Table.{Words, at, nodes, in_range, header_ok, node_start, has_node, node, spare, all_zero}
 use Rattle.model.specs.Slots.{view, clear_in}
 use Rattle.model.specs.Reached.{first_child, next_child}
 use Rattle.model.specs.SoundTest.{sibling_ok}
-use Rattle.table_laws.proofs.Nodes.{has-node-iff, has-node-range, spare-in}
-use Rattle.node.specs.Word.{word_of}
+use Rattle.table_laws.proofs.Nodes.{has-node-range, spare-in}
+use Rattle.node.specs.Word.{word_of, words_at}
+use Rattle.node.proofs.Roots.{zeros-as-one}
 use Rattle.node.proofs.WordLaws.{word-left, word-sibling, word-level, word-fence, word-slot}
 use Rattle.walk_laws.specs.Walk.{stands}
 use Rattle.sound.specs.Nodes.{standing}
@@ -24,34 +26,29 @@ word-at : (t : Words) (n j : ℕ) → has_node t n ≡ true → j < 32 → word_
 unfolding word_of
 word-at t n j h l = rw (h, lt-ltb j 32 l)
 
--- some of a node's words in a row, read one by one
-module _ (t : Words) (n : ℕ) (h : has_node t n ≡ true) where
-  row-zero : (m a : ℕ) → a + m ≤ 32 → list_all (λ j. eqb (word_of t n j) 0) (range_with_len a m) ≡ all_zero (take m (drop (node_start n + a) t))
-  unfolding all_zero node_start
-  row-zero zero a l = refl
-  row-zero (suc m) a l =
-      let next : node_start n + (a + 1) ≡ suc (node_start n + a) = omega arith in
-      rw (drop-cons t (node_start n + a) 0 (omega (arith, (has-node-iff t n).0 h)))
-      (ap₂ (λ (w : ℕ) (b : Bool). eqb w 0 && b) (word-at t n a h (omega arith)) (row-zero m (a + 1) (omega arith) ∙ ap (λ (i : ℕ). all_zero (take m (drop i t))) next))
+module _ (t : Words) (n : ℕ) (h : has_node t n ≡ true) (ws : Words) (w : ws ≡ words_at t n) where
+  spare-words : take 4 (drop 4 ws) ≡ spare t n
+  spare-words =
+      let s = node_start n in
+      ap (λ (xs : Words). take 4 (drop 4 xs)) w ∙ ap (take 4) (drop-take 4 28 (drop s t)) ∙ take-take 4 28 (drop 4 (drop s t)) (omega arith) ∙ ap (take 4) (drop-drop 4 s t) ∙ sym (spare-in t n h)
 
-  module _ (b : Bool) (e : b ≡ list_all (λ j. eqb (word_of t n j) 0) (range_with_len 4 4)) where
-    clear-words : clear_in t n ≡ (b && eqb (word_of t n 31) 0)
+  last-word : get_or ws 31 0 ≡ word_of t n 31
+  last-word =
+      let s = node_start n in
+      ap (λ (xs : Words). get_or xs 31 0) w ∙ get_or-take 32 (drop s t) 31 0 (omega arith) ∙ get_or-drop s t 31 0 ∙ sym (word-at t n 31 h (omega arith))
+
+  module _ (l : length ws ≡ 32) (b : Bool) (e : b ≡ pointwise eqb (take 4 (drop 4 ws)) (replicate 4 0)) where
+    clear-words : clear_in t n ≡ (b && eqb (get_or ws 31 0) 0)
     unfolding clear_in
-    clear-words = ap₂ ◌&&◌ (ap all_zero (spare-in t n h) ∙ sym (row-zero 4 4 (omega arith)) ∙ sym e) (ap (λ (k : ℕ). eqb k 0) (sym (word-slot t n 23 (omega arith))))
+    clear-words =
+        ap₂ ◌&&◌ (sym (e ∙ zeros-as-one (take 4 (drop 4 ws)) 4 (simp (length-take, length-drop) (omega arith)) ∙ ap all_zero spare-words))
+        (ap (λ (k : ℕ). eqb k 0) (sym (last-word ∙ word-slot t n 23 (omega arith))))
 
-    pub clear-then : b ≡ true → (w : ℕ) → w ≡ word_of t n 31 → eqb w 0 ≡ clear_in t n
-    clear-then y w q = ap (λ (k : ℕ). eqb k 0) q ∙ sym (clear-words ∙ ap (λ (a : Bool). a && eqb (word_of t n 31) 0) y)
+    pub clear-then : b ≡ true → eqb (get_or ws 31 0) 0 ≡ clear_in t n
+    clear-then y = sym (clear-words ∙ ap (λ (a : Bool). a && eqb (get_or ws 31 0) 0) y)
 
     pub clear-else : b ≡ false → b ≡ clear_in t n
-    clear-else z = z ∙ sym (clear-words ∙ ap (λ (a : Bool). a && eqb (word_of t n 31) 0) z)
-
--- ---- tests joined, one more
-
-pub and-then : (a v x b : Bool) → a ≡ v → a ≡ true → x ≡ b → x ≡ (v && b)
-and-then a v x b e y q = q ∙ ap (λ (u : Bool). u && b) (sym y ∙ e)
-
-pub and-else : (a v b : Bool) → a ≡ v → a ≡ false → a ≡ (v && b)
-and-else a v b e z = z ∙ ap (λ (u : Bool). u && b) (sym z ∙ e)
+    clear-else z = z ∙ sym (clear-words ∙ ap (λ (a : Bool). a && eqb (get_or ws 31 0) 0) z)
 
 -- ---- the sibling, s, of node n
 

@@ -1,13 +1,15 @@
 -- The check of a table by the checks of its trees.
 use mathlib.Core.Path.{◌≡◌, refl, ap, sym, ◌∙◌}
-use mathlib.Core.Bool.{Bool, true, false, cond, ◌&&◌, ◌||◌, and-false, and-true, false≢true}
+use mathlib.Core.Bool.{Bool, true, false, cond, ◌&&◌, ◌||◌, and-false, and-true}
 use mathlib.Core.Logic.{◌≢◌}
 use mathlib.Core.Option.{Option, some}
 use Prim.Native.Nat.{ℕ, zero, suc, ◌+◌, ◌≤◌}
 use native.Mathlib.Omega.{arith}
 use lib.ListN.{length}
 use borrow.Author.Tests.{eq-eqb, ne_eqb}
-use Rattle.std.specs.Prelude.{None, Some, is_err}
+use Rattle.std.specs.Prelude.{None, Some}
+use Rattle.std.specs.Result.{result_ok}
+use Rattle.std.proofs.lemmas.Option.{none-some}
 use Rattle.model.specs.Results.{Outcome, passed}
 use Rattle.model.specs.Table.{Words, at, header_ok, header_number}
 use Rattle.model.specs.Slots.{View, view_from, view_of}
@@ -45,15 +47,15 @@ module _ (t : Words) where
   unfolding checked
   refused e = rw (e, checked)
 
-  pub header-ok : (a : Outcome) → a ≡ passed (header_number t) → is_err a ≡ false → header_ok t ≡ true
-  header-ok a e z = (header-number-iff t).0 (go (header_number t) (ap is_err (sym e) ∙ z))
+  pub header-ok : (a : Outcome) {x : Unit {0}} → a ≡ passed (header_number t) → result_ok a ≡ Some x → header_ok t ≡ true
+  header-ok a {x} e z = (header-number-iff t).0 (go (header_number t) (ap result_ok (sym e) ∙ z))
     where
-      go : (n : ℕ) → is_err (passed n) ≡ false → n ≡ 0
+      go : (n : ℕ) → result_ok (passed n) ≡ Some x → n ≡ 0
       go zero h = refl
-      go (suc n) h = absurd (false≢true (sym h))
+      go (suc n) h = absurd (none-some x h)
 
-  pub wrong-header : (a : Outcome) → a ≡ passed (header_number t) → is_err a ≡ true → None ≡ checked t
-  wrong-header a e z = refused (unfold sound in rw (header-number-refused t (λ q. false≢true (sym (ap is_err (e ∙ ap passed q)) ∙ z))))
+  pub wrong-header : (a : Outcome) → a ≡ passed (header_number t) → result_ok a ≡ None → None ≡ checked t
+  wrong-header a e z = refused (unfold sound in rw (header-number-refused t (λ q. none-some tt (sym z ∙ ap result_ok (e ∙ ap passed q)))))
 
   answer-is : (b : Bool) (o : Option model.Leftover) (n : ℕ) → sound t ≡ b → leftover_all t ≡ o → length (reached_all t) ≡ n → sound_with b o n ≡ checked t
   unfolding checked

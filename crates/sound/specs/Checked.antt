@@ -1,6 +1,6 @@
 -- What the check of a table answers, in model's words.
 use Rattle.std.specs.Prelude as rust
-use Rattle.std.specs.Prelude.{Bool, true, false, cond, None, Some, ℕ, length}
+use Rattle.std.specs.Prelude.{◌≡◌, Bool, true, false, cond, None, Some, ℕ, length}
 use Rattle.std.proofs.Math.Option.{Option, none, some}
 use Rattle.model.specs.Table.{Words}
 use Rattle.model.specs.Slots.{View}
@@ -52,6 +52,12 @@ checked_tree v = sound_with (model.sound_view v) (model.leftover v) (length (rea
 
 unfoldable pub checked : Words → Checked
 checked t = sound_with (model.sound t) (model.leftover_all t) (length (reached_all t))
+
+-- a sound table, with what the check of it found
+pub record SoundWith (t : Words) (x : Leftover) (c : ℕ) : Type 0 where
+  pub is-sound : model.sound t ≡ true
+  pub leftover-is : model.leftover_all t ≡ some (meant x)
+  pub reached-are : c ≡ length (reached_all t)
 
 -- for two sound trees without a common node, with these leftovers and so many nodes: in one of them nothing may be left
 abbrev pub joined : Leftover → Leftover → ℕ → Checked

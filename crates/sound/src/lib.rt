@@ -19,6 +19,9 @@ use slots::Ways;
 
 // ---- one node
 
+// That the header is right is a clause of each function that reads nodes by it: it is a fact of the table, which is a lent slice (decision 331).
+// A struct of the slice with that fact in a ghost field would be taken apart again at each read, for node and leaves take the slice.
+
 // Node n, so many times.
 fn times(n: u64, k: u64) -> Few<u64>
     ensures { result ≡ times n k }
@@ -35,7 +38,8 @@ fn clear(table: &[u64], n: u64) -> bool
     requires { has_node table.now n ≡ true }
     ensures { result ≡ clear_in table.now n }
 {
-    (4..8).all(|j| node::word(table, n, j) == 0) && node::word(table, n, 31) == 0
+    let w = node::words(table, n);
+    w[4..8] == [0; 4] && w[31] == 0
 }
 
 // A sibling other than 0 is in 1 to N, on the same level, with a higher fence.
@@ -143,7 +147,7 @@ fn note(seen: Visited, parent: u64, child: u64) -> Visited
 
 // ---- the check from the root down
 
-// The pointer of way i, or the next after the last one.
+// The pointer of way i, or the next after the last one. A test and a read: `[..w.count].get(i).copied().unwrap_or(next)` says them in four steps.
 fn pointer_from(w: Ways, i: usize, next: u64) -> u64
     ensures { result ≡ head_or next (pointers_from w i) }
 {
@@ -153,7 +157,8 @@ fn pointer_from(w: Ways, i: usize, next: u64) -> u64
     w.pointers[i]
 }
 
-// Checks node n, which must stand on this level, with this fence and this sibling, and the nodes below it. Marks those that it visits.
+// Checks node n, which must stand on this level, with this fence and this sibling, and the nodes below it. Marks those that it visits. The four
+// words are no record: it would be written out at each of the four calls, and `stands` would take it apart at once.
 #[cycle(check_node_check_slot)]
 fn check_node(
     table: &[u64],
@@ -185,6 +190,7 @@ fn check_node(
     }
     let w = leaves::ways_of(table, n);
     let next = next_child(table, n);
+    // By place: a way's key and its pointer stand in two arrays, and the next way's pointer is read with them.
     for i in 0..w.count {
         let after = pointer_from(w, i + 1, next);
         state = check_slot(
@@ -237,6 +243,7 @@ fn walk(table: &[u64], root: u64, marks: &mut [u64; MARKS]) -> Option<Visited>
     if 15 < top {
         return None;
     }
+    // Written out, here and above: `Few::Zero` says the case, which `Unfinished::default()` would leave to be looked up in model.
     let start = Visited {
         count: 0,
         unfinished: Unfinished {
@@ -251,8 +258,8 @@ fn walk(table: &[u64], root: u64, marks: &mut [u64; MARKS]) -> Option<Visited>
 // ---- the leftover, and the whole check
 
 // What a sound table has left: nothing; a hidden slot in a node; a node whose sibling lacks its slot in the parent, and whether it still
-// shows slots from that sibling's fence up; such a node, and a hidden slot in the parent. Four cases, and each match
-// names them all: no Option of three.
+// shows slots from that sibling's fence up; such a node, and a hidden slot in the parent. Four cases, and no Option of three:
+// judge would answer an Option of an Option.
 #[derive(Clone, Copy)]
 pub enum Leftover {
     Nothing,
@@ -312,7 +319,8 @@ fn room(table: &[u64], n: u64) -> bool
     slots::shown_count(x.slots, x.left) <= 10
 }
 
-// Whether the parent that lacks a slot has room for it.
+// Whether the parent that lacks a slot has room for it. No function for the parent alone, with `is_none_or`, here and in insert: it would need a
+// definition of its own below both, and a closure with a law for `has_room`, to save two arms.
 fn has_room(table: &[u64], left: Leftover) -> bool
     ensures { result ≡ has_room (view table.now) (meant left) }
 {
@@ -382,12 +390,11 @@ fn joined(first: Leftover, second: Leftover, reached: u64) -> Option<Sound>
 
 // The whole check, on any slice: the leftover and the number of nodes reached, if the table is sound. Two sound trees share a node
 // exactly if they share their last leaf, since siblings and last children lead there from any node.
+// 0 in word 3 is no second tree: document 01 says so, and an Option of it would be made here to be taken apart at once.
 pub fn check(table: &[u64]) -> Option<Sound>
     ensures { result ≡ checked table.now }
 {
-    if node::header(table).is_err() {
-        return None;
-    }
+    node::header(table).ok()?;
     let first = leaves::word_at(table, 1);
     let second = leaves::word_at(table, 3);
     let one = check_tree(table, first)?;

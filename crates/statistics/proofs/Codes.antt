@@ -1,5 +1,5 @@
 -- The codes of the leaves, passed one by one along the siblings.
-use mathlib.Core.Path.{◌≡◌, refl, ap, ◌∙◌}
+use mathlib.Core.Path.{◌≡◌, refl, ap, sym, ◌∙◌}
 use mathlib.Core.Bool.{Bool, true, false}
 use mathlib.Core.List.{List, [], ◌∷◌}
 use Prim.Native.Nat.{ℕ, zero, suc, ◌+◌, ◌*◌, ◌≤◌}
@@ -7,6 +7,8 @@ use native.Mathlib.Numerals.{add-one}
 use native.Mathlib.Omega.{arith}
 use lib.Dec.{eqb}
 use lib.ListN.{length, length-append}
+use Rattle.std.specs.List.{sum_by}
+use Rattle.std.proofs.lemmas.List.Sums.{sum_by-cons}
 use Rattle.model.specs.Table.{Words, at, node, header_ok}
 use Rattle.model.specs.Slots.{Slot, node_view, view_from, view, used}
 use Rattle.model.specs.Search.{within, below}
@@ -34,16 +36,15 @@ module _ (t : Words) where
       omega (arith, a, b, in-use-short (node t n).slots, node-slots t n)
 
   -- in these leaves
-  abbrev pub codes_in : List ℕ → ℕ
+  abbrev codes_in : List ℕ → ℕ
   codes_in ns = length (flat (kept (view t)) ns)
 
-  pub codes-none : (ns : List ℕ) → ns ≡ [] → codes_in ns ≡ 0
+  -- the sum of what each has
+  pub codes-sum : (ns : List ℕ) → sum_by (λ (n : ℕ). length (kept (view t) n)) ns ≡ codes_in ns
   unfolding flat
-  codes-none ns z = rw z
-
-  pub codes-next : (ns later : List ℕ) (n : ℕ) → ns ≡ n ∷ later → codes_in ns ≡ length (kept (view t) n) + codes_in later
-  unfolding flat
-  codes-next ns later n z = rw z (length-append (kept (view t) n) (flat (kept (view t)) later))
+  codes-sum [] = refl
+  codes-sum (n ∷ ns) =
+      sum_by-cons (λ (n : ℕ). length (kept (view t) n)) n ns ∙ ap (λ (k : ℕ). length (kept (view t) n) + k) (codes-sum ns) ∙ sym (length-append (kept (view t) n) (flat (kept (view t)) ns))
 
   codes-few : (ns : List ℕ) → codes_in ns ≤ 12 * length ns
   unfolding flat

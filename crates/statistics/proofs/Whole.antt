@@ -7,7 +7,10 @@ use mathlib.Core.Option.{Option}
 use Prim.Native.Nat.{ℕ, ◌+◌, ◌-◌, ◌≤◌}
 use native.Mathlib.Omega.{arith}
 use lib.ListN.{length}
-use Rattle.std.specs.Prelude.{None, Ok}
+use Rattle.std.specs.Prelude as rust
+use Rattle.std.specs.Prelude.{Some, None, Ok, Err, ok_or}
+use Rattle.model.specs.declared.Refusal.{Refusal}
+use Rattle.model.specs.declared.Refusal.TheVariants.{NotSound}
 use Rattle.model.specs.Results.{Outcome, refused_with}
 use Rattle.model.specs.Table.{Words, at, nodes, header_number}
 use Rattle.model.specs.Slots.{view_from, view_of}
@@ -15,9 +18,11 @@ use Rattle.model.specs.Reached.{reached, reached_all}
 use Rattle.model.specs.SoundTest as model
 use Rattle.model.specs.SoundTest.{leftover_all, sound}
 use Rattle.model.specs.Writes.{unreachable}
+use Rattle.model.proofs.Numbers.{refused-by}
 use Rattle.table_laws.proofs.Header.{header-number-iff, header-number-refused}
 use Rattle.two_laws.proofs.SearchTwo.{sound-head}
 use Rattle.sound.specs.declared.Leftover.{Leftover}
+use Rattle.sound.specs.declared.Sound.{Sound}
 use Rattle.sound.specs.Checked.{meant, found, checked}
 use Rattle.sound.proofs.JudgeLaws.{checked-unsound}
 use Rattle.model.specs.Statistics.{check_number, checking, left_words, or_nothing, left_in, tree_words, report, report_out}
@@ -58,11 +63,17 @@ module _ (t lent : Words) where
   unfolding check_number checking report_out header_number
   no-table z = let q = header-number-refused t z in (rw q, rw q)
 
-  pub not-sound : header_number t ≡ 0 → None ≡ checked t → Answers (refused_with 4) lent
-  unfolding check_number checking report_out
-  not-sound z q =
-      let a = (header-number-iff t).0 z in
-      let b = (checked-unsound t).0 (sym q) in (rw (a, b), rw (a, b))
+  module _ {k : rust.Option Sound} (q : k ≡ checked t) where
+    pub not-sound : {e : Refusal} → header_number t ≡ 0 → ok_or k NotSound ≡ Err e → Answers (Err e) lent
+    unfolding check_number checking report_out
+    not-sound {e} z h =
+        let none : k ≡ None = grind arith in
+        let same : NotSound ≡ e = grind arith in
+        let a = (header-number-iff t).0 z in
+        let b = (checked-unsound t).0 (sym q ∙ none) in (ap Err (sym same) ∙ sym (refused-by NotSound) ∙ rw (a, b), rw (a, b))
+
+    pub was-found : {s : Sound} → ok_or k NotSound ≡ Ok s → checked t ≡ Some s
+    was-found {s} h = let some : k ≡ Some s = grind arith in sym q ∙ some
 
   pub is-sound : (x : Leftover) (c : ℕ) → checked t ≡ found x c → (ws : Words) → ws ≡ report t → Answers (Ok tt) ws
   unfolding check_number checking report_out

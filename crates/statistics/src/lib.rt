@@ -23,14 +23,14 @@ fn codes_along(table: &[u64], first: u64, most: u64) -> u64
     requires { most ≤ 65535 }
     ensures { result ≡ length (flat (kept (view table.now)) (along (view table.now) most first)) }
 {
-    let mut codes = 0;
-    for leaf in Siblings::new(table, first, most) {
-        codes += reach::kept_count(table, leaf);
-    }
-    codes
+    Siblings::new(table, first, most)
+        .map(|leaf| reach::kept_count(table, leaf))
+        .sum()
 }
 
 // The codes of a tree's map.
+// That the tree is sound is a clause, here and below: a struct of table and root with the fact as a ghost field would be no plainer: made by each
+// caller for one call, and taken apart for `leaves` and `node`, which take a table and a node.
 fn codes_of(table: &[u64], root: u64) -> u64
     requires table_value { header_ok table.now ≡ true }
     requires root_value { sound_view (view_from table.now root) ≡ true }
@@ -67,7 +67,9 @@ fn tree_of(table: &[u64], root: u64, nodes: u64) -> Tree
     }
 }
 
-// Of the second collection, which has so many nodes; zeros, as the report has them, if there is none.
+// Of the second collection, which has so many nodes; zeros, as the report has them, if there is none. 0 in word 3 is no
+// second tree, here and below: document 01 says so, and each reads it once. The zeros stand written: they are the report's, and a derived Default would
+// not show them.
 fn second_tree(table: &[u64], nodes: u64) -> Tree
     requires table_value { sound table.now ≡ true }
     requires nodes_len { length (reached (view_of 1 table.now)) + nodes ≡ length (reached_all table.now) }
@@ -120,6 +122,7 @@ struct Left {
     trailing: u64,
 }
 
+// Written out: a derived Default for Left would need one for Kind, and say no more of these zeros than this does.
 const NONE: Left = Left {
     kind: Kind::Nothing,
     collection: 0,
@@ -228,7 +231,7 @@ fn first_tree(table: &[u64], whole: Sound) -> First
     }
 }
 
-// The report of a sound table, as its check found it.
+// The report of a sound table, as its check found it. Word by word: C reads each at the place that include/catalogue.h gives it.
 fn report_of(table: &[u64], whole: Sound) -> [u64; 16]
     requires { checked table.now ≡ found whole.leftover whole.reached }
     ensures { result ≡ report table.now }
@@ -267,9 +270,7 @@ pub fn check(table: &[u64], out: &mut [u64; 16]) -> Outcome
     ensures out_after { out.new ≡ report_out table.now out.old }
 {
     node::header(table)?;
-    let Some(whole) = sound::check(table) else {
-        return Err(Refusal::NotSound);
-    };
+    let whole = sound::check(table).ok_or(Refusal::NotSound)?;
     *out = report_of(table, whole);
     Ok(())
 }

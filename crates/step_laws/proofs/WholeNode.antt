@@ -45,7 +45,7 @@ unfolding put_all
 put-all-below h w [] e = tt
 put-all-below h w (x ∷ ws) e = (omega arith, put-all-below h (suc w) ws (omega arith))
 
-put-all-length : (w : ℕ) (ws : Words) → length (put_all w ws) ≡ length ws
+pub put-all-length : (w : ℕ) (ws : Words) → length (put_all w ws) ≡ length ws
 unfolding put_all
 put-all-length w [] = refl
 put-all-length w (x ∷ ws) = ap suc (put-all-length (suc w) ws)

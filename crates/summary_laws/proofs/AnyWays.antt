@@ -9,7 +9,7 @@ use native.Mathlib.Omega.{arith}
 use lib.Dec.{eqb, ltb}
 use lib.ListN.{length, get_or, take}
 use borrow.Author.Tests.{eqb-true, ltb-true}
-use Rattle.model.specs.Table.{Words, nodes, in_range, node_start, has_node, node}
+use Rattle.model.specs.Table.{Words, nodes, in_range, node_start, has_node}
 use Rattle.model.specs.Slots.{NodeView, View, node_view, view, view_of, height}
 use Rattle.model.specs.Search.{below, within, moved, down, on_level, passes, locate, path_from, path}
 use Rattle.model.specs.Orders.{Store, apply}
@@ -44,6 +44,7 @@ module _ (v : View) (k : ℕ) where
           other false z c = ap (λ (b : Bool). b || on_level v l (v.node n).sibling) (sym z) ∙ c
           other true z c = absurd (false≢true (sym q ∙ unfold below in ap (λ (b : Bool). b || ltb k (v.node (v.node n).sibling).fence) z))
 
+  -- search says so too, as `locate-passed`: the laws that both crates name are list_laws and table_laws, and neither speaks of a descent
   locate-goes : (l n : ℕ) → passes v (suc l) n ≡ true → locate v (suc l) n k ≡ locate v l (down v (moved v n k) k) k
   unfolding locate
   locate-goes l n q = rw (q, locate)

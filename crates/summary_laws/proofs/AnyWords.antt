@@ -51,6 +51,7 @@ words-inside len w [] h = tt
 words-inside len w (x ∷ ws) h = (omega arith, words-inside len (suc w) ws (omega arith))
 
 module _ (N : ℕ) (t : Words) (size : length t ≡ 8 + 32 * N) where
+  -- quick_insert says so too: it needs laws of table_laws and of tree_laws, and no crate that both name rests on these two
   pub in-table : (a : ℕ) → in_range N a ≡ true → has_node t a ≡ true
   in-table a r = let u = (range-iff N a).0 r in (has-node-iff t a).1 (u.0, omega (arith, u.0, u.1, size))
 

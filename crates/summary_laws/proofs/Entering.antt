@@ -1,12 +1,11 @@
 -- An insertion by marks on a settled table: the stores of the plain one, and true marks after them.
 use mathlib.Core.Path.{◌≡◌, refl, ap, sym, ◌∙◌}
-use mathlib.Core.Bool.{Bool, true, false, cond, ◌&&◌}
+use mathlib.Core.Bool.{Bool, true, false, ◌&&◌}
 use mathlib.Core.List.{List, [], ◌++◌, append_assoc, Memᴰ}
-use Prim.Native.Nat.{ℕ, suc, ◌+◌, ◌≤◌, ◌<◌}
+use Prim.Native.Nat.{ℕ, suc, ◌≤◌, ◌<◌}
 use native.Mathlib.Omega.{arith}
-use lib.Dec.{eqb}
 use lib.ListN.{length}
-use borrow.Author.Tests.{eqb-true, eqb-false, eq-eqb, ltb-false}
+use borrow.Author.Tests.{eqb-true, eq-eqb}
 use Rattle.model.specs.Table.{Words, at, nodes, root_word, in_range}
 use Rattle.model.specs.Slots.{node_view, height, view_of}
 use Rattle.model.specs.Reached.{reached, reached_all}
@@ -30,7 +29,7 @@ use Rattle.two_laws.proofs.TwoLaw.{taken, Tree, Low, tree-fine}
 use Rattle.two_laws.proofs.RootTwo.{root-two-nodes}
 use Rattle.two_laws.proofs.Arrange.{Arr, root-in, arr-low, arr-word, arr-others, settled-tree, free-fresh}
 use Rattle.two_laws.proofs.LeafStores.{in-reached, leaf-for}
-use Rattle.two_laws.proofs.InsertTwo.{stands-reached, root-first, root-arr, first-root-others, splits-course, splits-room, two-run-short}
+use Rattle.two_laws.proofs.InsertTwo.{stands-reached, some-free, not-top as below-top, root-first, root-arr, first-root-others, splits-course, splits-room, two-run-short}
 use Rattle.summary_laws.proofs.Marks.{reached-own, MarksTrue, free-fresh as marks-fresh, marks-more, marks-same}
 use Rattle.summary_laws.proofs.Splitting.{ways_down, run-down, same-down, WayOf, splits-way}
 
@@ -73,12 +72,10 @@ module _ (n : ℕ) (ws : List ℕ) (t : Words) (k : ℕ) (a : Arr (root_word n) 
     whole = eqb-true (run n t k) (suc (height (view_of n t))) e
 
     some : 0 < length (unreachable t)
-    unfolding too_few
-    some = let room : run n t k + 1 ≤ length (unreachable t) = rw e at (ltb-false (length (unreachable t)) (run n t k + cond (root_in_run n t k) 1 0) enough) in omega arith
+    some = some-free n ws t k a f not-high enough e
 
     not-top : height (view_of n t) < 15
-    unfolding too_high
-    not-top = let z = eqb-false (height (view_of n t)) 15 (sym (ap (λ (b : Bool). b && eqb (height (view_of n t)) 15) e) ∙ not-high) in omega (arith, o.top.level, z)
+    not-top = below-top n ws t k a f not-high enough e
 
     abbrev r : ℕ
     r = fresh t (at t (root_word n))

@@ -1,20 +1,20 @@
 -- Marks that are true of a table: fresh nodes by them, a mark more, a mark less.
 use mathlib.Core.Path.{◌≡◌, refl, ap, sym, ◌∙◌}
-use mathlib.Core.Bool.{Bool, true, false, not, ◌||◌}
+use mathlib.Core.Bool.{Bool, true, false, not, ◌||◌, or-false}
 use mathlib.Core.Logic.{◌≢◌, ⊎_elim}
-use mathlib.Core.List.{List, [], ◌∷◌, Memᴰ}
+use mathlib.Core.List.{List, Memᴰ}
 use Prim.Native.Nat.{ℕ, zero, suc, ◌+◌, ◌-◌, ◌*◌, ◌/◌, ◌≤◌, ◌<◌}
 use native.Mathlib.Omega.{arith}
 use lib.ListN.{length, length-replicate, replicate}
 use Rattle.model.specs.Table.{Words, nodes, in_range}
-use Rattle.model.specs.Reached.{filter, head_or, reached, reached_all}
+use Rattle.model.specs.Reached.{head_or, reached, reached_all}
 use Rattle.model.specs.SoundTest.{elem}
 use Rattle.model.specs.Writes.{numbers, unreached, unreachable, fresh}
 use Rattle.model.specs.Marks.{has, put, cleared, put_each}
 use Rattle.model.specs.Summary.{mark_words, unmarked, free_after}
 use Rattle.list_laws.proofs.Tools.{Each, Each-append, Each-map, same-or-not}
 use Rattle.list_laws.proofs.Members.{elem-none}
-use Rattle.list_laws.proofs.Filters.{filter-yes, filter-no}
+use Rattle.list_laws.proofs.Filters.{filter-same}
 use Rattle.list_laws.proofs.Counts.{numbers-each}
 use Rattle.tree_laws.proofs.Rows.{range-iff}
 use Rattle.step_laws.proofs.TreeAt.{tree_at}
@@ -34,14 +34,6 @@ reached-own w ws t m r i = go (elem m (reached_all t)) refl
 pub record MarksTrue (ms t : Words) : Type 0 where
   pub long : length ms ≡ mark_words (nodes t)
   pub same : (n : ℕ) → in_range (nodes t) n ≡ true → has ms n ≡ elem n (reached_all t)
-
-filter-same : (p q : ℕ → Bool) (xs : List ℕ) → Each (λ (x : ℕ). p x ≡ q x) xs → filter p xs ≡ filter q xs
-filter-same p q [] h = unfold filter in refl
-filter-same p q (x ∷ xs) h = go (q x) refl (filter-same p q xs h.1)
-  where
-    go : (b : Bool) → q x ≡ b → filter p xs ≡ filter q xs → filter p (x ∷ xs) ≡ filter q (x ∷ xs)
-    go true e ih = filter-yes p x xs (h.0 ∙ e) ∙ ap (λ (l : List ℕ). x ∷ l) ih ∙ sym (filter-yes q x xs e)
-    go false e ih = filter-no p x xs (h.0 ∙ e) ∙ ih ∙ sym (filter-no q x xs e)
 
 module _ (ms t : Words) (m : MarksTrue ms t) where
   abbrev In : ℕ → Type 0
@@ -98,9 +90,5 @@ marks-opened t h = record {
   long = each-length (reached_all t) _ ∙ length-replicate (mark_words (nodes t)) 0;
   same = λ n r.
       each-marked (reached_all t) (replicate (mark_words (nodes t)) 0) n (Each-map _ _ (reached_all t) (λ y q. omega (arith, length-replicate {A = ℕ} (suc (nodes t / 64)) 0, ((range-iff (nodes t) y).0 q).1)) h)
-      ∙ ap (λ (b : Bool). elem n (reached_all t) || b) (none-marked (mark_words (nodes t)) n) ∙ no (elem n (reached_all t));
+      ∙ ap (λ (b : Bool). elem n (reached_all t) || b) (none-marked (mark_words (nodes t)) n) ∙ or-false (elem n (reached_all t));
 }
-  where
-    no : (b : Bool) → (b || false) ≡ b
-    no true = refl
-    no false = refl

@@ -1,32 +1,33 @@
 -- The recordings of a settled table: how many, all different; and the summary that opening it gives is true of it.
 use mathlib.Core.Path.{◌≡◌, refl, ap, ◌∙◌}
-use mathlib.Core.Bool.{Bool, true, false, ◌&&◌, ◌||◌}
+use mathlib.Core.Bool.{Bool, true, false, ◌&&◌, ◌||◌, or-false, and-false}
 use mathlib.Core.Logic.{◌≢◌, ◌⊎◌, inl, inr}
 use mathlib.Core.List.{List, [], ◌∷◌, ◌++◌, map, append-nil}
-use Prim.Native.Nat.{ℕ, zero, suc, ◌*◌, ◌≤◌, ◌<◌}
+use Prim.Native.Nat.{ℕ, suc, ◌*◌, ◌≤◌, ◌<◌}
 use native.Mathlib.Omega.{arith}
 use lib.Dec.{eqb}
 use lib.ListN.{length, take, drop, replicate, length-append, length-replicate}
 use lib.Seq.{take_at, drop_at}
 use borrow.Author.Tests.{eq-eqb, ne_eqb}
 use Rattle.model.specs.Table.{Words, at, nodes, in_range}
-use Rattle.model.specs.Slots.{Slot, RECORDINGS, recording, pointer_of, View, height, view_of}
+use Rattle.model.specs.Slots.{Slot, RECORDINGS, recording, pointer_of, height, view_of}
 use Rattle.model.specs.Search.{within}
-use Rattle.model.specs.Reached.{flat, kept, children, reached_from, leaves_from, reached, leaves, mapping, map_of, reached_all, maps_of}
+use Rattle.model.specs.Reached.{kept, reached, leaves, mapping, map_of, reached_all, maps_of}
 use Rattle.model.specs.SoundTest.{elem, distinct, settled}
-use Rattle.model.specs.Refusals.{has_recording}
 use Rattle.model.specs.Marks.{has, put_each}
 use Rattle.model.specs.Cells.{entered, entered_all}
 use Rattle.model.specs.Summary.{mark_words, cell_words, cell_of, cells_of, recordings_of, recordings_in, opened}
-use Rattle.list_laws.proofs.Tools.{Each, Each-map, Each-append, same-or-not, eqb-sym}
-use Rattle.list_laws.proofs.Members.{each-mem, mem-each, elem-false}
+use Rattle.list_laws.proofs.Tools.{Each, Each-map, Each-append, same-or-not}
+use Rattle.list_laws.proofs.Members.{each-mem, mem-each, elem-false, flat-short}
 use Rattle.list_laws.proofs.Distinct.{distinct-cons, distinct-append, UpTo}
 use Rattle.list_laws.proofs.Filters.{filter-short}
 use Rattle.list_laws.proofs.Recordings.{recordings-iff, recording-below}
 use Rattle.tree_laws.proofs.Rows.{Good, range-iff}
 use Rattle.tree_laws.proofs.Levels.{Orderly, orderly-iff, mem-leaves}
+use Rattle.tree_laws.proofs.NextLaw.{leaves-few}
 use Rattle.word_laws.proofs.ShiftViews.{shown-few}
 use Rattle.change_laws.proofs.Parts.{good-parts}
+use Rattle.change_laws.proofs.Pairs.{has-recording}
 use Rattle.set_laws.specs.Sets.{SetOf}
 use Rattle.set_laws.proofs.Room.{none-set, same-set, entered-length, entered-all}
 use Rattle.two_laws.proofs.Arrange.{all-one, all-two}
@@ -38,23 +39,13 @@ use Rattle.summary_laws.proofs.Recordings.{cells-elem}
 
 -- ---- how many
 
-flat-few : (g : ℕ → List Slot) (ns : List ℕ) → Each (λ (n : ℕ). length (g n) ≤ 11) ns → length (flat g ns) ≤ 11 * length ns
-unfolding flat
-flat-few g [] h = omega arith
-flat-few g (n ∷ ns) h = omega (arith, length-append (g n) (flat g ns), h.0, flat-few g ns h.1)
-
-leaves-few : (v : View) (d : ℕ) (ns : List ℕ) → length (leaves_from v d ns) ≤ length (reached_from v d ns)
-unfolding leaves_from reached_from
-leaves-few v zero ns = omega arith
-leaves-few v (suc d) ns = omega (arith, leaves-few v d (flat (children v) ns), length-append ns (reached_from v d (flat (children v) ns)))
-
 map-few : (n : ℕ) (t : Words) → Orderly (view_of n t) → length (map_of n t) ≤ 11 * length (reached (view_of n t))
 unfolding mapping kept
 map-few n t o =
     let v = view_of n t in
     let few : Each (λ (x : ℕ). length (kept v x) ≤ 11) (leaves v) = mem-each (λ (x : ℕ). length (kept v x) ≤ 11) (leaves v) (λ x m.
     omega (arith, filter-short (λ (s : Slot). within v x s.key) (v.node x).shown, shown-few t x (good-parts v x (each-mem (Good v) o.good ((mem-leaves v x o).0 m).0)).0)) in
-    omega (arith, flat-few (kept v) (leaves v) few, leaves-few v (height v) (v.root ∷ []))
+    omega (arith, flat-short (kept v) 11 (leaves v) few, leaves-few v (height v) (v.root ∷ []))
 
 cells-length : (n : ℕ) (ps : List Slot) → length (cells_of n ps) ≡ length ps
 cells-length n [] = refl
@@ -110,24 +101,15 @@ module _ (t : Words) (s : settled t ≡ true) where
 
 -- ---- all different
 
-pub has-elem : (r : ℕ) (ps : List Slot) → has_recording r ps ≡ elem r (map recording ps)
-unfolding has_recording elem
-has-elem r [] = refl
-has-elem r (s ∷ ps) = ap (λ (b : Bool). b || has_recording r ps) (eqb-sym (recording s) r) ∙ ap (λ (b : Bool). eqb r (recording s) || b) (has-elem r ps)
-
 cells-distinct : (n : ℕ) (ps : List Slot) → distinct (map recording ps) ≡ true → distinct (cells_of n ps) ≡ true
 cells-distinct n [] d = unfold distinct in refl
 cells-distinct n (s ∷ ps) d =
     let u = (distinct-cons (recording s) (map recording ps)).0 d in
     let r = recording s in
     (distinct-cons (cell_of n r) (cells_of n ps)).1 (
-      cells-elem n n r ps (recording-below s.pointer) ∙ ap (λ (b : Bool). eqb n n && b) (has-elem r ps ∙ u.0) ∙ no (eqb n n),
+      cells-elem n n r ps (recording-below s.pointer) ∙ ap (λ (b : Bool). eqb n n && b) (has-recording r ps ∙ u.0) ∙ and-false (eqb n n),
       cells-distinct n ps u.1,
     )
-  where
-    no : (b : Bool) → (b && false) ≡ false
-    no true = refl
-    no false = refl
 
 cells-each : (P : ℕ → Type 0) (n : ℕ) (ps : List Slot) → ((r : ℕ) → r < RECORDINGS → P (cell_of n r)) → Each P (cells_of n ps)
 cells-each P n [] h = tt
@@ -181,13 +163,9 @@ module _ (t : Words) (s : settled t ≡ true) where
   cells : SetOf (entered_all (replicate (cell_words (nodes t)) 0) (recordings_in t)) (λ (y : ℕ). elem y (recordings_in t))
   unfolding cell_words elem
   cells =
-      same-set (entered_all blanks (recordings_in t)) (λ (y : ℕ). elem y (recordings_in t) || elem y []) (λ (y : ℕ). elem y (recordings_in t)) (λ y. no (elem y (recordings_in t)))
+      same-set (entered_all blanks (recordings_in t)) (λ (y : ℕ). elem y (recordings_in t) || elem y []) (λ (y : ℕ). elem y (recordings_in t)) (λ y. or-false (elem y (recordings_in t)))
       (entered-all (recordings_in t) [] blanks (none-set (cell_words (nodes t))) refl recordings-some recordings-distinct (mem-each (λ (x : ℕ). elem x [] ≡ false) (recordings_in t) (λ x m. refl))
       (omega (arith, recordings-few t s, length-replicate {A = ℕ} (16 * nodes t) 0)))
-    where
-      no : (b : Bool) → (b || false) ≡ b
-      no true = refl
-      no false = refl
 
   -- The summary that opening gives is true of the table.
   pub opened-current : Current (opened t) t

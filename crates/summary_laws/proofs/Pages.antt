@@ -1,11 +1,11 @@
 -- A quick listing with a summary that is true of the table is the plain one.
 use mathlib.Core.Path.{◌≡◌, refl, ap, sym, ◌∙◌}
-use mathlib.Core.Bool.{Bool, true, false, ◌&&◌}
+use mathlib.Core.Bool.{Bool, true, false}
 use mathlib.Core.Logic.{◌≢◌, ◌⊎◌, inl, inr, ⊎_elim}
 use mathlib.Core.List.{List, [], ◌∷◌, ◌++◌}
 use Prim.Native.Nat.{ℕ, zero, suc, ◌≤◌, ◌<◌}
 use native.Mathlib.Omega.{arith}
-use lib.Dec.{eqb, leb, ltb}
+use lib.Dec.{eqb, ltb}
 use lib.ListN.{length}
 use borrow.Author.Tests.{eq-eqb, ne_eqb, ltb-true, ltb-false, lt-ltb, le-ltb}
 use Rattle.model.specs.Results.{refused_with}
@@ -17,28 +17,19 @@ use Rattle.model.specs.Listing.{in_range_of, listed, listed_words, list_number, 
 use Rattle.model.specs.Writes.{standing}
 use Rattle.model.specs.Refusals.{unless_refused}
 use Rattle.model.specs.Summary.{summary_words, marks_in, leaves_up_to, page_of, quick_list_number, quick_listed, quick_list_out}
-use Rattle.list_laws.proofs.Tools.{decode, refuted, Each, Each-map, or-right}
-use Rattle.list_laws.proofs.Filters.{filter-append, filter-none}
-use Rattle.list_laws.proofs.Distinct.{UpTo, pigeonhole}
-use Rattle.tree_laws.proofs.Rows.{At, Row, linked-cons, not-zero, range-iff}
-use Rattle.tree_laws.proofs.Levels.{level-leaves, mem-leaves, ascending, row-tail, row-distinct}
+use Rattle.list_laws.proofs.Tools.{Each-map, or-right}
+use Rattle.list_laws.proofs.Filters.{range-append, range-outside}
+use Rattle.tree_laws.proofs.Rows.{Row, linked-cons, not-zero}
+use Rattle.tree_laws.proofs.Levels.{level-leaves, mem-leaves, row-tail}
 use Rattle.tree_laws.proofs.Rising.{rising-from}
 use Rattle.tree_laws.proofs.MapLaw.{row-rises, row-rest, leaf-part}
+use Rattle.two_laws.proofs.LevelsTwo.{row-few}
 use Rattle.two_laws.proofs.SearchTwo.{sound-head}
 use Rattle.two_laws.proofs.SameTwo.{settled-sound}
+use Rattle.two_laws.proofs.PartsTwo.{tree}
 use Rattle.summary_laws.specs.Current.{Current}
-use Rattle.summary_laws.proofs.Testing.{tree, stands, way-ok}
+use Rattle.summary_laws.proofs.Testing.{stands, way-ok}
 use Rattle.summary_laws.proofs.Quick.{marks-true}
-
-range-append : (low high : ℕ) (a b : List Slot) → in_range_of low high (a ++ b) ≡ in_range_of low high a ++ in_range_of low high b
-unfolding in_range_of
-range-append low high a b = filter-append (λ (s : Slot). leb low s.key && leb s.key high) a b
-
-range-outside : (low high : ℕ) (ss : List Slot) → Each (λ (s : Slot). low ≤ s.key → s.key ≤ high → ⊥) ss → in_range_of low high ss ≡ []
-unfolding in_range_of
-range-outside low high ss h =
-    filter-none (λ (s : Slot). leb low s.key && leb s.key high) ss
-    (Each-map (λ (s : Slot). low ≤ s.key → s.key ≤ high → ⊥) (λ (s : Slot). leb low s.key && leb s.key high ≡ false) ss (λ s k. refuted _ (λ e. let u = simp decode at e in k u.0 u.1)) h)
 
 module _ (v : View) (low high : ℕ) where
   up-ends : (c n : ℕ) → (n ≡ 0) ⊎ (high < (v.node n).fence) → leaves_up_to v high c n ≡ []
@@ -80,9 +71,6 @@ module _ (v : View) (low high : ℕ) where
 -- ---- on a settled table
 
 module _ (n : ℕ) (t : Words) (h : no_collection n t ≡ false) (s : settled t ≡ true) where
-  row-few : (v : View) (ns : List ℕ) → Row v 0 ns → length ns ≤ v.nodes
-  row-few v ns r = pigeonhole v.nodes ns (row-distinct v ns (ascending v 0 ns r)) (Each-map (At v 0) (UpTo v.nodes) ns (λ n a. (range-iff v.nodes n).0 a.range) r.at)
-
   pub page-same : (low high : ℕ) → page_of n t low high ≡ in_range_of low high (map_of n t)
   unfolding page_of flat
   page-same low high =
@@ -96,7 +84,7 @@ module _ (n : ℕ) (t : Words) (h : no_collection n t ≡ false) (s : settled t 
       let later = flat (kept v) (x ∷ p.right) in
       let f = u.covers.fence in
       let none : in_range_of low high earlier ≡ [] = range-outside low high earlier (Each-map (λ (s : Slot). s.key < (v.node x).fence) (λ (s : Slot). low ≤ s.key → s.key ≤ high → ⊥) earlier (λ s k l u. omega arith) p.low) in
-      row-pages v low high (x ∷ p.right) (nodes t) row (row-few v (x ∷ p.right) row)
+      row-pages v low high (x ∷ p.right) (nodes t) row (row-few v 0 (x ∷ p.right) row)
       ∙ sym (ap (in_range_of low high) p.parts ∙ range-append low high earlier later ∙ ap (λ (ss : List Slot). ss ++ in_range_of low high later) none)
 
 module _ (ws t : Words) (c : Current ws t) (n low high : ℕ) (out : Words) where

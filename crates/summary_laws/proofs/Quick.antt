@@ -3,7 +3,6 @@ use mathlib.Core.Path.{◌≡◌, refl, ap, sym, ◌∙◌}
 use mathlib.Core.Bool.{Bool, true, false, cond, not, ◌&&◌, ◌||◌, false≢true}
 use mathlib.Core.Logic.{◌≢◌, inl, inr, ⊎_elim}
 use mathlib.Core.List.{List, [], ◌∷◌, ◌++◌, map}
-use mathlib.Core.Option.{some}
 use Prim.Native.Nat.{ℕ, zero, suc, ◌≤◌, ◌<◌}
 use native.Mathlib.Omega.{arith}
 use lib.Dec.{eqb, ltb}
@@ -28,7 +27,6 @@ use Rattle.list_laws.proofs.Distinct.{distinct-cons}
 use Rattle.list_laws.proofs.Recordings.{recording-iff, recording-below, recording-of}
 use Rattle.table_laws.proofs.Header.{header-iff}
 use Rattle.table_laws.proofs.Collections.{by-number}
-use Rattle.cut_laws.proofs.Applying.{length-apply}
 use Rattle.tree_laws.proofs.MapLaw.{MapRises, map-rises}
 use Rattle.set_laws.specs.Sets.{SetOf}
 use Rattle.set_laws.proofs.Holding.{holds-member}
@@ -40,15 +38,17 @@ use Rattle.two_laws.proofs.DeleteTwo.{settled-frees, settled-others, settled-sta
 use Rattle.two_laws.proofs.Arrange.{arr-covers, course-arr}
 use Rattle.two_laws.proofs.CallsTwo.{settled-repair}
 use Rattle.two_laws.proofs.AcceptedTwo.{there, Accepted, accepted-iff}
-use Rattle.two_laws.proofs.MapsTwo.{Steps, accepted-steps}
+use Rattle.two_laws.proofs.PartsTwo.{beside, tree}
+use Rattle.two_laws.proofs.MapsTwo.{Steps, accepted-steps, nodes-after}
 use Rattle.two_laws.proofs.SearchTwo.{sound-head}
 use Rattle.two_laws.proofs.SameTwo.{settled-sound}
 use Rattle.summary_laws.specs.Current.{Current}
 use Rattle.summary_laws.proofs.Marks.{MarksTrue, marks-less, marks-same}
 use Rattle.summary_laws.proofs.Entering.{insert-stores, insert-marks}
 use Rattle.summary_laws.proofs.Recordings.{Has, KeyOnce, recordings-elem, recordings-more, recordings-less, recordings-class}
-use Rattle.summary_laws.proofs.Opened.{recordings-few, no-zero, has-elem}
-use Rattle.summary_laws.proofs.Testing.{beside, tree, in-range, stands, way-ok, too-few, leaf-first, leaf-key, neighbour}
+use Rattle.change_laws.proofs.Pairs.{has-recording}
+use Rattle.summary_laws.proofs.Opened.{recordings-few, no-zero}
+use Rattle.summary_laws.proofs.Testing.{in-range, stands, way-ok, too-few, leaf-first, leaf-key, neighbour}
 
 -- ---- the parts of a summary
 
@@ -105,12 +105,12 @@ key-once k (s ∷ ps) d e h =
           key = z;
           has = refl;
           no-key = (refl, key-elem k ps ∙ ap (λ (j : ℕ). elem j (map (λ (s : Slot). s.key) ps)) (sym z) ∙ off);
-          no-other = (refl, has-elem (recording s) ps ∙ other);
+          no-other = (refl, has-recording (recording s) ps ∙ other);
         })
     go false q off other ih =
         let r = recording_in (first_with k ps) in
         let o = ih (ap (λ (b : Bool). b || has_key k ps) (sym q) ∙ h) in
-        let differs : recording s ≢ r = λ z. false≢true (sym other ∙ ap (λ (j : ℕ). elem j (map recording ps)) z ∙ sym (has-elem r ps) ∙ ap (has_recording r) o.shape ∙ member r o.before o.it o.after o.has) in
+        let differs : recording s ≢ r = λ z. false≢true (sym other ∙ ap (λ (j : ℕ). elem j (map recording ps)) z ∙ sym (has-recording r ps) ∙ ap (has_recording r) o.shape ∙ member r o.before o.it o.after o.has) in
         rw (first-past k s ps (eqb-false s.key k q)) (record {
           before = s ∷ o.before;
           it = o.it;
@@ -223,11 +223,6 @@ module _ (ws t : Words) (c : Current ws t) where
     steps : Steps x t
     steps = accepted-steps x words dock t snd ok
 
-    pub size-after : nodes (apply (stores_of x t) t) ≡ nodes t
-    size-after =
-        let t' = apply (stores_of x t) t in
-        omega (arith, ((header-iff t).0 header).size.long, ((header-iff t').0 (sound-head t' (settled-sound t' steps.all-settled))).size.long, length-apply (stores_of x t) t)
-
   enters : (n k r d words dock : ℕ) → refusal (insertion n k r d) words dock t ≡ 0 → Enters n k r d t
   enters n k r d words dock ok = rw same-repaired at (accepted (insertion n k r d) words dock ok).allows
 
@@ -270,7 +265,7 @@ module _ (ws t : Words) (c : Current ws t) where
     marks-then : MarksTrue (way_made n (marks_in (nodes t) ws) t k).marks t'
     marks-then =
         rw stores-are (insert-marks n (beside n t there' s).0 t k (beside n t there' s).1 (tree n t there' s) e.not-high e.enough ms marks-true (pointer_of r d)
-        (rw stores-are at (size-after x words dock ok)))
+        (rw stores-are at (nodes-after x words dock t ok)))
 
     recordings-then : (y : ℕ) → elem y (cell_of n r ∷ recordings_in t) ≡ elem y (recordings_in t')
     unfolding elem
@@ -281,7 +276,7 @@ module _ (ws t : Words) (c : Current ws t) where
     pub insert-current : Current ((way_made n (marks_in (nodes t) ws) t k).marks ++ entered (cells_in (nodes t) ws) (cell_of n r)) (apply (stores_of (insertion n k r d) t) t)
     insert-current =
         current t' _ (entered cs (cell_of n r)) (steps x words dock ok).all-settled marks-then
-        (entered-length cs (cell_of n r) ∙ cells-long ∙ ap cell_words (sym (size-after x words dock ok)))
+        (entered-length cs (cell_of n r) ∙ cells-long ∙ ap cell_words (sym (nodes-after x words dock t ok)))
         (same-set (entered cs (cell_of n r)) (λ (y : ℕ). elem y (cell_of n r ∷ recordings_in t)) (λ (y : ℕ). elem y (recordings_in t')) recordings-then
         (entered-one cs (recordings_in t) (cell_of n r) c.cells (no-zero t s) (cell-real n r r-ok.0) (recordings-elem n r (map_of n t) (maps_of t) r-ok.1 (has-map n t there') ∙ e.no-recording) fewer))
 
@@ -306,7 +301,7 @@ module _ (ws t : Words) (c : Current ws t) where
     leaf = standing n t 0 k
 
     size₁ : nodes (apply (delete_settled n t k) t) ≡ nodes t
-    size₁ = rw deletes at (size-after y words dock ok)
+    size₁ = rw deletes at (nodes-after y words dock t ok)
 
     marks₁ : MarksTrue (cond (frees n t k) (cleared (marks_in (nodes t) ws) (standing n t 0 k)) (marks_in (nodes t) ws)) t₁
     marks₁ = rw deletes (go (frees n t k) refl)
@@ -342,7 +337,7 @@ module _ (ws t : Words) (c : Current ws t) where
     pub delete-current : Current (cond (frees n t k) (cleared (marks_in (nodes t) ws) (standing n t 0 k)) (marks_in (nodes t) ws) ++ without (cells_in (nodes t) ws) (cell_of n (recording_at n t k))) (apply (stores_of (deletion n k) t) t)
     delete-current =
         let f = free in
-        current t₁ _ (without cs (cell_of n r)) (steps y words dock ok).all-settled marks₁ (without-length cs (cell_of n r) ∙ cells-long ∙ ap cell_words (sym (size-after y words dock ok)))
+        current t₁ _ (without cs (cell_of n r)) (steps y words dock ok).all-settled marks₁ (without-length cs (cell_of n r) ∙ cells-long ∙ ap cell_words (sym (nodes-after y words dock t ok)))
         (same-set (without cs (cell_of n r)) (λ (z : ℕ). not (eqb z (cell_of n r)) && elem z (recordings_in t)) (λ (z : ℕ). elem z (recordings_in t₁))
         (λ z. sym (ap (λ (m : Maps). elem z (recordings_of m)) (steps y words dock ok).all-map ∙ recordings-less n k r (map_of n t) (maps_of t) (has-map n t there₁) r-in once z))
         (without-set (length cs) cs (λ (z : ℕ). elem z (recordings_in t)) (no-zero t s) refl c.cells f.cell f.inside f.free (cell_of n r) held))
@@ -362,7 +357,7 @@ module _ (ws t : Words) (c : Current ws t) where
       let h = (accepted x words dock ok).collection in
       let leaf = leaf-for n t k (tree n t h s).left.orderly in
       let stores : stores_of x t ≡ set_class_at t (standing n t 0 k) k d = class-stores n k d in
-      stays-current (apply (stores_of x t) t) (size-after x words dock ok) (steps x words dock ok).all-settled
+      stays-current (apply (stores_of x t) t) (nodes-after x words dock t ok) (steps x words dock ok).all-settled
       (λ m. ap (λ (ss : List Store). elem m (reached_all (apply ss t))) stores ∙ ap (elem m) (class-reached t (standing n t 0 k) leaf.some leaf.level k d leaf.few))
       (λ z. sym (ap (λ (m : Maps). elem z (recordings_of m)) (steps x words dock ok).all-map ∙ recordings-class n k d (map_of n t) (maps_of t) (has-map n t h) z))
 

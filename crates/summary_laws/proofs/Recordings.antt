@@ -1,6 +1,6 @@
 -- The recordings of the maps as cells hold them: one more, one less, and how many there are.
 use mathlib.Core.Path.{◌≡◌, refl, ap, sym, ◌∙◌}
-use mathlib.Core.Bool.{Bool, true, false, cond, not, ◌&&◌, ◌||◌, or_assoc}
+use mathlib.Core.Bool.{Bool, true, false, cond, not, ◌&&◌, ◌||◌, or_assoc, or-false, or_comm, and-false}
 use mathlib.Core.Logic.{◌⊎◌, inl, inr}
 use mathlib.Core.List.{List, [], ◌∷◌, ◌++◌, map}
 use mathlib.Core.Option
@@ -14,7 +14,7 @@ use Rattle.model.specs.SoundTest.{elem}
 use Rattle.model.specs.Refusals.{has_key, has_recording}
 use Rattle.model.specs.Ledger.{enter, leave, reclass, on_map, pairs_of}
 use Rattle.model.specs.Summary.{cell_of, cells_of, recordings_of}
-use Rattle.list_laws.proofs.Tools.{same-test, and-iff, or-false-iff}
+use Rattle.list_laws.proofs.Tools.{or-swap, same-test, and-iff, or-false-iff}
 use Rattle.list_laws.proofs.Members.{elem-join}
 use Rattle.list_laws.proofs.Recordings.{recording-of, class-of, recording-below}
 use Rattle.list_laws.proofs.OrdinaryMap.{reclass-recordings}
@@ -34,11 +34,7 @@ cell-same m n r q a b = same-test _ _ (
 
 pub cells-elem : (m n r : ℕ) (ps : List Slot) → r < RECORDINGS → elem (cell_of m r) (cells_of n ps) ≡ (eqb m n && has_recording r ps)
 unfolding elem has_recording
-cells-elem m n r [] h = sym (no (eqb m n))
-  where
-    no : (b : Bool) → (b && false) ≡ false
-    no true = refl
-    no false = refl
+cells-elem m n r [] h = sym (and-false (eqb m n))
 cells-elem m n r (s ∷ ps) h =
     ap (λ (b : Bool). b || elem (cell_of m r) (cells_of n ps)) (cell-same m n r (recording s) h (recording-below s.pointer))
     ∙ ap (λ (b : Bool). (eqb m n && eqb (recording s) r) || b) (cells-elem m n r ps h) ∙ both (eqb m n) (eqb (recording s) r) (has_recording r ps)
@@ -46,11 +42,6 @@ cells-elem m n r (s ∷ ps) h =
     both : (a b c : Bool) → ((a && b) || (a && c)) ≡ (a && (b || c))
     both true b c = refl
     both false b c = refl
-
-swap : (a b c : Bool) → (a || (b || c)) ≡ (b || (a || c))
-swap true true c = refl
-swap true false c = refl
-swap false b c = refl
 
 -- a pair more
 pub enter-cells : (y n k x : ℕ) (ps : List Slot) → elem y (cells_of n (enter k x ps)) ≡ (eqb y (cell_of n (recording_of x)) || elem y (cells_of n ps))
@@ -61,7 +52,7 @@ enter-cells y n k x (s ∷ ps) = go (ltb k s.key) (enter-cells y n k x ps)
     go : (b : Bool) → elem y (cells_of n (enter k x ps)) ≡ (eqb y (cell_of n (recording_of x)) || elem y (cells_of n ps))
         → elem y (cells_of n (cond b (slot k x ∷ s ∷ ps) (s ∷ enter k x ps))) ≡ (eqb y (cell_of n (recording_of x)) || (eqb y (cell_of n (recording s)) || elem y (cells_of n ps)))
     go true ih = refl
-    go false ih = ap (λ (b : Bool). eqb y (cell_of n (recording s)) || b) ih ∙ swap (eqb y (cell_of n (recording s))) (eqb y (cell_of n (recording_of x))) (elem y (cells_of n ps))
+    go false ih = ap (λ (b : Bool). eqb y (cell_of n (recording s)) || b) ih ∙ or-swap (eqb y (cell_of n (recording s))) (eqb y (cell_of n (recording_of x))) (elem y (cells_of n ps))
 
 -- where k is not, nothing leaves
 leave-none : (k : ℕ) (ps : List Slot) → has_key k ps ≡ false → leave k ps ≡ ps
@@ -104,11 +95,7 @@ leave-cells y n k r ps l o =
     left ∙ sym (ap (λ (c : Bool). not (eqb y (cell_of n r)) && c) all ∙ go (eqb y (cell_of n r)) refl)
   where
     off : (qs : List Slot) → has_recording r qs ≡ false → eqb y (cell_of n r) ≡ true → elem y (cells_of n qs) ≡ false
-    off qs h e = ap (λ (z : ℕ). elem z (cells_of n qs)) (eqb-true y (cell_of n r) e) ∙ cells-elem n n r qs l ∙ ap (λ (c : Bool). eqb n n && c) h ∙ no (eqb n n)
-      where
-        no : (b : Bool) → (b && false) ≡ false
-        no true = refl
-        no false = refl
+    off qs h e = ap (λ (z : ℕ). elem z (cells_of n qs)) (eqb-true y (cell_of n r) e) ∙ cells-elem n n r qs l ∙ ap (λ (c : Bool). eqb n n && c) h ∙ and-false (eqb n n)
 
     go : (c : Bool) → eqb y (cell_of n r) ≡ c → (not (eqb y (cell_of n r)) && (elem y (cells_of n o.before) || (eqb y (cell_of n r) || elem y (cells_of n o.after)))) ≡ (elem y (cells_of n o.before) || elem y (cells_of n o.after))
     go true e = rw e (sym (ap (λ (b : Bool). b || elem y (cells_of n o.after)) (off o.before o.no-other.0 e) ∙ off o.after o.no-other.1 e))
@@ -134,11 +121,7 @@ recordings-elem n r ps m l (inl h) =
     elem-join _ (cells_of 1 m.one) (cells_of 2 (pairs_of m.two))
     ∙ ap (λ (q : ℕ). elem (cell_of q r) (cells_of 1 m.one) || elem (cell_of q r) (cells_of 2 (pairs_of m.two))) h.0
     ∙ ap (λ (b : Bool). b || elem (cell_of 1 r) (cells_of 2 (pairs_of m.two))) (cells-elem 1 1 r m.one l ∙ ap (has_recording r) h.1)
-    ∙ ap (λ (b : Bool). has_recording r ps || b) (cells-elem 1 2 r (pairs_of m.two) l) ∙ no (has_recording r ps)
-  where
-    no : (b : Bool) → (b || false) ≡ b
-    no true = refl
-    no false = refl
+    ∙ ap (λ (b : Bool). has_recording r ps || b) (cells-elem 1 2 r (pairs_of m.two) l) ∙ or-false (has_recording r ps)
 recordings-elem n r ps m l (inr h) =
     elem-join _ (cells_of 1 m.one) (cells_of 2 (pairs_of m.two))
     ∙ ap (λ (q : ℕ). elem (cell_of q r) (cells_of 1 m.one) || elem (cell_of q r) (cells_of 2 (pairs_of m.two))) h.0
@@ -155,21 +138,15 @@ module _ (n : ℕ) (ps : List Slot) (m : Maps) (h : Has n ps m) (f : List Slot �
   unfolding recordings_of on_map other
   split-cells = go h
     where
-      or-swap : (a b : Bool) → (a || b) ≡ (b || a)
-      or-swap true true = refl
-      or-swap true false = refl
-      or-swap false true = refl
-      or-swap false false = refl
-
       go : Has n ps m → (elem y (recordings_of m) ≡ (elem y (cells_of n ps) || other)) × (elem y (recordings_of (on_map n f m)) ≡ (elem y (cells_of n (f ps)) || other))
       go (inl q) = (
         elem-join y (cells_of 1 m.one) (cells_of 2 (pairs_of m.two)) ∙ rw (q.0, q.1),
         elem-join y (cells_of 1 (cond (eqb n 1) (f m.one) m.one)) (cells_of 2 (pairs_of (cond (eqb n 1) m.two (Option.map f m.two)))) ∙ rw (q.0, q.1),
       )
       go (inr q) = (
-        elem-join y (cells_of 1 m.one) (cells_of 2 (pairs_of m.two)) ∙ or-swap (elem y (cells_of 1 m.one)) (elem y (cells_of 2 (pairs_of m.two))) ∙ rw (q.0, q.1),
+        elem-join y (cells_of 1 m.one) (cells_of 2 (pairs_of m.two)) ∙ or_comm (elem y (cells_of 1 m.one)) (elem y (cells_of 2 (pairs_of m.two))) ∙ rw (q.0, q.1),
         elem-join y (cells_of 1 (cond (eqb n 1) (f m.one) m.one)) (cells_of 2 (pairs_of (cond (eqb n 1) m.two (Option.map f m.two))))
-            ∙ or-swap (elem y (cells_of 1 (cond (eqb n 1) (f m.one) m.one))) (elem y (cells_of 2 (pairs_of (cond (eqb n 1) m.two (Option.map f m.two))))) ∙ rw (q.0, q.1),
+            ∙ or_comm (elem y (cells_of 1 (cond (eqb n 1) (f m.one) m.one))) (elem y (cells_of 2 (pairs_of (cond (eqb n 1) m.two (Option.map f m.two))))) ∙ rw (q.0, q.1),
       )
 
   -- the other map has no cell of this collection

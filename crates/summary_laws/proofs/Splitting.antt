@@ -7,7 +7,7 @@ use Prim.Native.Nat.{ℕ, zero, suc, ◌-◌, ◌≤◌, ◌<◌}
 use native.Mathlib.Omega.{arith}
 use lib.Dec.{ltb}
 use lib.ListN.{length, drop, get_or}
-use lib.Seq.{drop-cons}
+use lib.Seq.{drop-cons, drop-length}
 use borrow.Author.Tests.{eq-eqb}
 use Rattle.model.specs.Table.{Words, nodes, root_word, in_range}
 use Rattle.model.specs.Slots.{node_view, height, view_of, full}
@@ -42,15 +42,9 @@ unfoldable pub ways_down : (n : ℕ) → Words → (m k : ℕ) → List ℕ
 ways_down n t zero k = []
 ways_down n t (suc l) k = standing n t l k ∷ ways_down n t l k
 
-drop-all : (j : ℕ) (xs : List ℕ) → length xs ≤ j → drop j xs ≡ []
-drop-all zero [] h = refl
-drop-all (suc j) [] h = refl
-drop-all zero (x ∷ xs) h = absurd (omega arith)
-drop-all (suc j) (x ∷ xs) h = drop-all j xs (omega arith)
-
 drop-down : (n : ℕ) (t : Words) (m k : ℕ) → m ≤ suc (height (view_of n t)) → drop (suc (height (view_of n t)) - m) (path (view_of n t) k) ≡ ways_down n t m k
 unfolding ways_down standing_in
-drop-down n t zero k h = let e : suc (height (view_of n t)) - 0 ≡ length (path (view_of n t) k) = omega (arith, path-length (view_of n t) k) in rw e (drop-all (length (path (view_of n t) k)) (path (view_of n t) k) (omega arith))
+drop-down n t zero k h = let e : suc (height (view_of n t)) - 0 ≡ length (path (view_of n t) k) = omega (arith, path-length (view_of n t) k) in rw e (drop-length (path (view_of n t) k))
 drop-down n t (suc m) k h =
     let v = view_of n t in
     let e : suc (height v) - suc m ≡ height v - m = omega arith in

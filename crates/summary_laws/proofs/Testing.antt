@@ -10,11 +10,11 @@ use native.Mathlib.Omega.{arith}
 use lib.Dec.{eqb, ltb}
 use lib.ListN.{length, take}
 use borrow.Author.Tests.{eqb-false, eq-eqb, ne_eqb, ltb-true, lt-ltb}
-use Rattle.model.specs.Table.{Words, at, nodes, root_word, in_range, no_collection}
+use Rattle.model.specs.Table.{Words, nodes, root_word, in_range, no_collection}
 use Rattle.model.specs.Slots.{Slot, View, node_view, height, view_of}
 use Rattle.model.specs.Search.{path, first_with}
 use Rattle.model.specs.Reached.{pointers, kept, named, children, reached, map_of, reached_all}
-use Rattle.model.specs.SoundTest.{all, elem, nothing, settled}
+use Rattle.model.specs.SoundTest.{elem, settled}
 use Rattle.model.specs.Shifts.{last_pointer, place_of}
 use Rattle.model.specs.Writes.{standing_in, standing, run, root_in_run, child_before, frees_leaf}
 use Rattle.model.specs.Refusals.{has_key, too_few}
@@ -29,10 +29,9 @@ use Rattle.tree_laws.proofs.Parents.{child-reached}
 use Rattle.word_laws.proofs.ShiftViews.{shown-few}
 use Rattle.change_laws.proofs.Parts.{good-parts}
 use Rattle.change_laws.proofs.Pairs.{has-key-iff, has-key-found}
-use Rattle.two_laws.proofs.TwoLaw.{Tree, Low}
-use Rattle.two_laws.proofs.Arrange.{Arr, arr-low, settled-tree}
-use Rattle.two_laws.proofs.CallsTwo.{arranged}
-use Rattle.two_laws.proofs.AcceptedTwo.{there}
+use Rattle.two_laws.proofs.TwoLaw.{Low}
+use Rattle.two_laws.proofs.Arrange.{arr-low}
+use Rattle.two_laws.proofs.PartsTwo.{beside, tree}
 use Rattle.summary_laws.proofs.Marks.{reached-own, MarksTrue, unmarked-all}
 
 -- the place of a key that is there
@@ -50,23 +49,17 @@ module _ (n : ℕ) (t : Words) (h : no_collection n t ≡ false) (s : settled t 
   abbrev v : View
   v = view_of n t
 
-  pub beside : (ws : List ℕ) × Arr (root_word n) ws t
-  beside = arranged (root_word n) t (there n t h).1
-
-  pub tree : Tree (root_word n) beside.0 t nothing
-  tree = settled-tree (root_word n) beside.0 t beside.1 s
-
   o : Orderly (view_of n t)
-  o = tree.left.orderly
+  o = (tree n t h s).left.orderly
 
-  low : Low (root_word n) beside.0
-  low = arr-low (root_word n) beside.0 t beside.1
+  low : Low (root_word n) (beside n t h s).0
+  low = arr-low (root_word n) (beside n t h s).0 t (beside n t h s).1
 
   pub in-range : (m : ℕ) → Memᴰ m (reached (view_of n t)) → in_range (nodes t) m ≡ true
   in-range m i = (range-iff (nodes t) m).1 (each-mem (UpTo (nodes t)) (reached-numbers (view_of n t) o) i)
 
   in-all : (m : ℕ) → Memᴰ m (reached (view_of n t)) → elem m (reached_all t) ≡ true
-  in-all m i = reached-own (root_word n) beside.0 t m beside.1 i
+  in-all m i = reached-own (root_word n) (beside n t h s).0 t m (beside n t h s).1 i
 
   -- ---- the way
 
@@ -76,7 +69,7 @@ module _ (n : ℕ) (t : Words) (h : no_collection n t ≡ false) (s : settled t 
     fit m i = (and-iff _ _).1 (
       c.same m (in-range m i) ∙ in-all m i,
       (and-iff _ _).1 (
-        eq-eqb _ _ (each-mem (λ (m : ℕ). (node_view t m).hidden ≡ 0) tree.left.left.0 i),
+        eq-eqb _ _ (each-mem (λ (m : ℕ). (node_view t m).hidden ≡ 0) (tree n t h s).left.left.0 i),
         (leb-iff _ _).1 (shown-few t m (good-parts (view_of n t) m (each-mem (Good (view_of n t)) o.good i)).0),
       ),
     )
@@ -141,8 +134,8 @@ module _ (n : ℕ) (t : Words) (h : no_collection n t ≡ false) (s : settled t 
       let p = standing n t 1 k in
       let u = path-stands (view_of n t) k 1 o high in
       let level : ((view_of n t).node p).level ≢ 0 = λ z. omega (arith, z, u.covers.at.level) in
-      let keeps : kept (view_of n t) p ≡ (node_view t p).shown = each-mem (λ (m : ℕ). kept (view_of n t) m ≡ (node_view t m).shown) tree.left.left.1 u.reached in
-      let names : children (view_of n t) p ≡ named (view_of n t) p = each-mem (λ (m : ℕ). ((view_of n t).node m).level ≢ 0 → children (view_of n t) m ≡ named (view_of n t) m) tree.left.left.2 u.reached level in
+      let keeps : kept (view_of n t) p ≡ (node_view t p).shown = each-mem (λ (m : ℕ). kept (view_of n t) m ≡ (node_view t m).shown) (tree n t h s).left.left.1 u.reached in
+      let names : children (view_of n t) p ≡ named (view_of n t) p = each-mem (λ (m : ℕ). ((view_of n t).node m).level ≢ 0 → children (view_of n t) m ≡ named (view_of n t) m) (tree n t h s).left.left.2 u.reached level in
       let all : children (view_of n t) p ≡ (node_view t p).left ∷ pointers (node_view t p).shown = names ∙ ap (λ (ss : List Slot). (node_view t p).left ∷ pointers ss) keeps in
       child-reached (view_of n t) p _ o u.reached (rw all (last-in (node_view t p).left (node_view t p).shown (place_of (node_view t x).fence (node_view t p).shown)))
 
@@ -166,8 +159,8 @@ module _ (n : ℕ) (t : Words) (h : no_collection n t ≡ false) (s : settled t 
       let x = standing n t 0 k in
       let u = path-stands (view_of n t) k 1 o high in
       let level : ((view_of n t).node p).level ≢ 0 = λ q. omega (arith, q, u.covers.at.level) in
-      let keeps : kept (view_of n t) p ≡ (node_view t p).shown = each-mem (λ (m : ℕ). kept (view_of n t) m ≡ (node_view t m).shown) tree.left.left.1 u.reached in
-      let names : children (view_of n t) p ≡ named (view_of n t) p = each-mem (λ (m : ℕ). ((view_of n t).node m).level ≢ 0 → children (view_of n t) m ≡ named (view_of n t) m) tree.left.left.2 u.reached level in
+      let keeps : kept (view_of n t) p ≡ (node_view t p).shown = each-mem (λ (m : ℕ). kept (view_of n t) m ≡ (node_view t m).shown) (tree n t h s).left.left.1 u.reached in
+      let names : children (view_of n t) p ≡ named (view_of n t) p = each-mem (λ (m : ℕ). ((view_of n t).node m).level ≢ 0 → children (view_of n t) m ≡ named (view_of n t) m) (tree n t h s).left.left.2 u.reached level in
       let child : Memᴰ x ((node_view t p).left ∷ pointers (kept (view_of n t) p)) = rw names at (path-step (view_of n t) k 0 o high).child in
       let slots : Each (Named (view_of n t) 0) (kept (view_of n t) p) = (inner (view_of n t) 0 p u.covers.good u.covers.at.level).names in
       let w = pointer-key (Named (view_of n t) 0) x (kept (view_of n t) p) slots (⊎_elim (λ e. absurd (z (sym e))) (λ i. i) (mathlib.Core.List.Memᴰ.cases_cons child)) in

@@ -7,8 +7,10 @@ use native.Mathlib.Nat.{add-zero}
 use native.Mathlib.Omega.{arith}
 use lib.ListN.{length, take, drop, replicate, length-replicate}
 use lib.Seq.{drop-append-add, get_or-drop}
+use Rattle.std.proofs.lemmas.List.{take-replicate, drop-replicate}
 use Rattle.model.specs.Table.{MARK, at, table_length, all_zero, header_ok, node_start, has_node, blank, node_from, node, spare, empty}
-use Rattle.table_laws.proofs.Words.{at-replicate, take-replicate, drop-replicate, part-zero-iff}
+use Rattle.list_laws.proofs.Lists.{at-replicate}
+use Rattle.table_laws.proofs.Words.{part-zero-iff}
 use Rattle.table_laws.proofs.Header.{header-iff}
 use Rattle.table_laws.proofs.Nodes.{has-node-iff, node-in, node-out, spare-in}
 

@@ -8,6 +8,7 @@ use Rattle.model.specs.Table.{Words, at}
 use Rattle.model.specs.Slots.{slot, slots_of}
 use Rattle.list_laws.proofs.Tools.{double-suc}
 
+-- double-suc for the odd word: from it alone the sum with 1 does not compute
 double-one : (i : ℕ) → 2 * suc i + 1 ≡ suc (suc (2 * i + 1))
 double-one i = omega arith
 

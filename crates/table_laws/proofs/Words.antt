@@ -4,28 +4,12 @@ use mathlib.Core.Path.{◌≡◌, refl}
 use mathlib.Core.Logic.{◌↔◌}
 use mathlib.Core.List.{[], ◌∷◌}
 use Prim.Native.Nat.{ℕ, zero, suc, ◌+◌, ◌-◌, ◌≤◌, ◌<◌}
-use native.Mathlib.Nat.{sub-zero, zero-sub, suc-sub-suc, le_of_suc-le-suc}
 use native.Mathlib.Decide.{dec_lt}
 use native.Mathlib.Omega.{arith}
-use lib.ListN.{take, drop, replicate, length-take, get_or-eq_default}
+use lib.ListN.{take, drop, length-take, get_or-eq_default}
 use lib.Seq.{get_or-take, get_or-drop}
 use Rattle.model.specs.Table.{Words, at, all_zero}
 use Rattle.list_laws.proofs.Tools.{decode}
-
-pub at-replicate : (n i : ℕ) → at (replicate n 0) i ≡ 0
-at-replicate zero i = refl
-at-replicate (suc n) zero = refl
-at-replicate (suc n) (suc i) = at-replicate n i
-
-pub drop-replicate {ℓ} : {A : Type ℓ} (k n : ℕ) (a : A) → drop k (replicate n a) ≡ replicate (n - k) a
-drop-replicate zero n a = rw sub-zero
-drop-replicate (suc k) zero a = rw zero-sub
-drop-replicate (suc k) (suc n) a = rw suc-sub-suc (drop-replicate k n a)
-
-pub take-replicate {ℓ} : {A : Type ℓ} (k n : ℕ) (a : A) → k ≤ n → take k (replicate n a) ≡ replicate k a
-take-replicate zero n a h = refl
-take-replicate (suc k) zero a h = absurd (omega arith)
-take-replicate (suc k) (suc n) a h = rw (take-replicate k n a (le_of_suc-le-suc h))
 
 pub all-zero-iff : (ws : Words) → (all_zero ws ≡ true) ↔ ((i : ℕ) → at ws i ≡ 0)
 unfolding all_zero

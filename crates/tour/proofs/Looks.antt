@@ -1,6 +1,6 @@
 -- The laws that the small functions cite.
 use mathlib.Core.Path.{◌≡◌, refl, ap, sym, ◌∙◌}
-use mathlib.Core.Bool.{Bool, true, false, cond}
+use mathlib.Core.Bool.{Bool, true, false, cond, not, ◌&&◌, false≢true}
 use mathlib.Core.Logic.{◌≢◌}
 use mathlib.Core.List.{List, [], ◌∷◌, ◌++◌}
 use Prim.Native.Nat.{ℕ, zero, suc, pred, ◌+◌, ◌-◌, ◌*◌, ◌≤◌, ◌<◌}
@@ -8,7 +8,8 @@ use native.Mathlib.Omega.{arith}
 use native.Mathlib.Numerals.{add-one}
 use lib.ListN.{length, get_or, drop, length-drop}
 use lib.Seq.{length-take-le}
-use borrow.Author.Tests.{eq-eqb, ne_eqb}
+use lib.Dec.{eqb}
+use borrow.Author.Tests.{eq-eqb, ne_eqb, eqb-true, eqb-false}
 use Rattle.model.specs.declared.Node.{Node}
 use Rattle.model.specs.Table.{Words, node, node_from, node_start, has_node, blank}
 use Rattle.model.specs.Slots.{Slot, slot, slots_of}
@@ -25,6 +26,14 @@ before-first n j e = rw (eq-eqb j 0 e)
 pub before-later : (n : Node) (j : ℕ) → j ≢ 0 → get_or n.slots (2 * j - 1) 0 ≡ pointer_before n.left n.slots j
 unfolding pointer_before
 before-later n j e = rw (ne_eqb j 0 e)
+
+-- what `is_met` answers for a slot that is met
+pub met-then : (p o : ℕ) (u : Bool) → (not (eqb p o) && u) ≡ true → (p ≢ o) × (u ≡ true)
+met-then p o u i = go (eqb p o) refl
+  where
+    go : (b : Bool) → eqb p o ≡ b → (p ≢ o) × (u ≡ true)
+    go true q = absurd (false≢true (rw q at i))
+    go false q = (eqb-false p o q, rw q at i)
 
 -- ---- the slots of a node by its words
 
@@ -112,17 +121,17 @@ module _ (t : Words) (n : ℕ) (nd : Node) (q : nd ≡ node t n) where
     pub sight-end : p ≡ 0 → Leads w [] 13
     sight-end h = (ap (ways_from t n) at-j ∙ ways-end t n j (omega (arith, few)) (pointer-is ∙ h), omega (arith, b, c), omega arith)
 
-    pub sight-hidden : (o : ℕ) → o ≡ pointer_before nd.left nd.slots j → p ≢ 0 → p ≡ o → Leads w [] (w + 1)
+    sight-hidden : (o : ℕ) → o ≡ pointer_before nd.left nd.slots j → p ≢ 0 → p ≡ o → Leads w [] (w + 1)
     sight-hidden o e h i = (ap (ways_from t n) at-j ∙ ways-hidden t n j (omega (arith, few)) (λ z. h (sym pointer-is ∙ z)) (pointer-is ∙ i ∙ e ∙ sym (before-is j few)) ∙ ap (ways_from t n) (sym after), omega arith, omega (arith, b, c))
 
-    pub sight-ignored : (o : ℕ) → o ≡ pointer_before nd.left nd.slots j → p ≢ 0 → p ≢ o → under_fence t nd.sibling k ≡ false → Leads w [] (w + 1)
+    sight-ignored : (o : ℕ) → o ≡ pointer_before nd.left nd.slots j → p ≢ 0 → p ≢ o → under_fence t nd.sibling k ≡ false → Leads w [] (w + 1)
     sight-ignored o e h i l = (
       ap (ways_from t n) at-j ∙ ways-ignored t n j (omega (arith, few)) (λ z. h (sym pointer-is ∙ z)) (λ z. i (sym pointer-is ∙ z ∙ before-is j few ∙ sym e)) (goes-is ∙ l) ∙ ap (ways_from t n) (sym after),
       omega arith,
       omega (arith, b, c),
     )
 
-    pub sight-next : (o m : ℕ) → o ≡ pointer_before nd.left nd.slots j → m ≡ pred nd.level → p ≢ 0 → p ≢ o → under_fence t nd.sibling k ≡ true → Leads w (meet p m ∷ []) (w + 1)
+    sight-next : (o m : ℕ) → o ≡ pointer_before nd.left nd.slots j → m ≡ pred nd.level → p ≢ 0 → p ≢ o → under_fence t nd.sibling k ≡ true → Leads w (meet p m ∷ []) (w + 1)
     sight-next o m e f h i l = (
       ap (ways_from t n) at-j ∙ ways-next t n j (omega (arith, few)) (λ z. h (sym pointer-is ∙ z)) (λ z. i (sym pointer-is ∙ z ∙ before-is j few ∙ sym e)) (goes-is ∙ l)
           ∙ ap (λ (y : ℕ). meet y (pred (node t n).level) ∷ ways_from t n (suc (suc j))) pointer-is
@@ -131,3 +140,13 @@ module _ (t : Words) (n : ℕ) (nd : Node) (q : nd ≡ node t n) where
       omega arith,
       omega (arith, b, c),
     )
+
+    pub sight-unmet : (o : ℕ) → o ≡ pointer_before nd.left nd.slots j → p ≢ 0 → (not (eqb p o) && under_fence t nd.sibling k) ≡ false → Leads w [] (w + 1)
+    sight-unmet o e h i = go (eqb p o) refl
+      where
+        go : (b : Bool) → eqb p o ≡ b → Leads w [] (w + 1)
+        go true q = sight-hidden o e h (eqb-true p o q)
+        go false q = sight-ignored o e h (eqb-false p o q) (rw q at i)
+
+    pub sight-met : (o m : ℕ) → o ≡ pointer_before nd.left nd.slots j → m ≡ pred nd.level → p ≢ 0 → (not (eqb p o) && under_fence t nd.sibling k) ≡ true → Leads w (meet p m ∷ []) (w + 1)
+    sight-met o m e f h i = let u = met-then p o (under_fence t nd.sibling k) i in sight-next o m e f h u.0 u.1

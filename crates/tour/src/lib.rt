@@ -1,7 +1,7 @@
 // The tour of a salvage: the nodes entered, in order. A stack of nodes, each with the way to look at next, stands for what is still to be met.
 #![tactic(auto)]
 
-ghost use Rattle.std.specs.Prelude.{◌≡◌, ◌++◌, ◌≤◌, take};
+ghost use Rattle.std.specs.Prelude.{◌≡◌, not, ◌&&◌, ◌++◌, ◌≤◌, eqb, take};
 ghost use Rattle.model.specs.Table.{nodes};
 ghost use Rattle.model.specs.Salvage.{under_fence, entered_from};
 ghost use Rattle.tour.specs.Loop.{Looked, Marked, Ready, unmarked};
@@ -13,18 +13,20 @@ struct Met {
     level: u64,
 }
 
-// What a way leads to, if it meets a node; and the way after it. Ways are bytes in the slice that the caller lends, so they are no enum.
+// What a way leads to, if it meets a node; and the way after it. Ways are numbers, and no enum: with a slot's place in it one
+// takes two bytes, which is 64 KB more of salvage's stack (memory is fixed, no heap); with a variant for each slot it is turned to a place again.
 #[derive(Clone, Copy)]
 struct Sight {
     met: Option<Met>,
     way: u8,
 }
 
-// N, as word 2 of the table has it; 0 for a slice that ends before.
+// N, as word 2 of the table has it; 0 for a slice that ends before. `leaves::word_at(table, 2)` answers the same, but this crate rests on no leaves, and
+// would rest on one crate more for this one word.
 fn nodes(table: &[u64]) -> u64
     ensures { result ≡ nodes table.now }
 {
-    if 2 < table.len() { table[2] } else { 0 }
+    table.get(2).copied().unwrap_or(0)
 }
 
 // Whether a slot of this key is followed or collected: below the sibling's fence, or no sibling in range.
@@ -33,6 +35,13 @@ pub fn under_fence(table: &[u64], sibling: u64, key: u64) -> bool
     ensures { result ≡ under_fence table.now sibling key }
 {
     !node::in_range(nodes(table), sibling) || key < node::read(table, sibling).fence
+}
+
+// Whether a slot in use is met, where before is the pointer before it: shown, and followed or collected.
+pub fn is_met(table: &[u64], sibling: u64, before: u64, key: u64, pointer: u64) -> bool
+    ensures { result ≡ (not (eqb pointer before) && under_fence table.now sibling key) }
+{
+    pointer != before && under_fence(table, sibling, key)
 }
 
 // Way w of node n: 0 its left child, 1 to 12 its slots, 13 its sibling.
@@ -71,10 +80,8 @@ fn look(table: &[u64], n: u64, w: u8) -> Sight
         return Sight { met: None, way: 13 };
     }
     let way = w + 1;
-    if pointer == slots::pointer_before(node.slots, node.left, j) {
-        return Sight { met: None, way };
-    }
-    if !under_fence(table, node.sibling, key) {
+    let before = slots::pointer_before(node.slots, node.left, j);
+    if !is_met(table, node.sibling, before, key, pointer) {
         return Sight { met: None, way };
     }
     let met = Met {
@@ -98,7 +105,9 @@ fn may_enter(table: &[u64], marks: &[u64; 1024], i: u64, level: u64) -> bool
 }
 
 // The nodes entered from a root, in order, put after so many that were entered before; the answer is how many there are then. Nodes are
-// marked when they are entered. The stack is lent: as an array of this function it is compiled wrongly.
+// marked when they are entered. The stack and its ways are lent: as arrays of this function they are compiled wrongly. They are two arrays, since
+// one of structs takes four bytes an entry in place of three, 64 KB more. They, the marks, the order and its count come one by one: a struct
+// of them would be made for salvage's two calls, and taken apart in this function.
 pub fn tour(
     table: &[u64],
     root: u64,
@@ -117,6 +126,7 @@ pub fn tour(
     if !may_enter(table, marks, root, node::read(table, root).level) {
         return before;
     }
+    // The root is put as a node met is, below: one function for both would take four arrays, count and depth, for these four lines.
     bits::put(marks, root as usize);
     stack[0] = root as u16;
     ways[0] = 0;

@@ -5,38 +5,20 @@ use mathlib.Core.List.{List, [], ◌∷◌, ◌++◌, map}
 use Prim.Native.Nat.{ℕ, zero, suc, pred, ◌+◌, ◌-◌, ◌*◌, ◌≤◌}
 use native.Mathlib.Omega.{arith}
 use lib.Dec.{eqb}
-use lib.ListN.{length, take, drop, replicate, length-append}
+use lib.ListN.{length, drop, length-append, length-take, length-map, length-replicate}
 use Rattle.model.specs.Table.{Words, nodes, node, node_from, node_start, has_node, blank}
-use Rattle.model.specs.Slots.{Slot, slot, node_view, slots_of, in_use, used}
+use Rattle.model.specs.Slots.{Slot, node_view, slots_of, in_use, used}
 use Rattle.model.specs.SoundTest.{elem, distinct}
 use Rattle.list_laws.proofs.Tools.{Each, Each-split, Each-append}
 use Rattle.list_laws.proofs.Filters.{filter-short}
 use Rattle.list_laws.proofs.Distinct.{distinct-cons, distinct-middle, UpTo, pigeonhole}
 use Rattle.tree_laws.proofs.Rows.{range-iff}
 use Rattle.model.specs.Salvage.{Placed, Meeting, meet, shown_at, followed, meetings, may_enter, start}
+use Rattle.list_laws.proofs.Slots.{pairs-count}
 use Rattle.tour_laws.specs.Visits.{order, unmet, toured_from}
 use Rattle.tour_laws.proofs.Steps.{order-yes, order-no, unmet-yes, unmet-no, may-iff, may-elem}
 
 -- ---- a node meets 14 at most
-
-take-most : {A : Type 0} (n : ℕ) (xs : List A) → length (take n xs) ≤ n
-take-most zero xs = omega arith
-take-most (suc n) [] = omega arith
-take-most (suc n) (x ∷ xs) = omega (arith, take-most n xs)
-
-map-length : {A B : Type 0} (f : A → B) (xs : List A) → length (map f xs) ≡ length xs
-map-length f [] = refl
-map-length f (x ∷ xs) = ap suc (map-length f xs)
-
-replicate-length : (n x : ℕ) → length (replicate n x) ≡ n
-replicate-length zero x = refl
-replicate-length (suc n) x = ap suc (replicate-length n x)
-
-pub slots-half : (ws : Words) → 2 * length (slots_of ws) ≤ length ws
-unfolding slots_of
-slots-half [] = omega arith
-slots-half (k ∷ []) = omega arith
-slots-half (k ∷ p ∷ ws) = omega (arith, slots-half ws)
 
 use-short : (ss : List Slot) → length (in_use ss) ≤ length ss
 unfolding in_use
@@ -62,14 +44,14 @@ unfolding node node_from blank
 node-slots t n = go (has_node t n)
   where
     go : (b : Bool) → length (cond b (node_from t (node_start n)) blank).slots ≤ 24
-    go true = take-most 24 (drop (node_start n + 8) t)
-    go false = omega (arith, replicate-length 24 0)
+    go true = omega (arith, length-take 24 (drop (node_start n + 8) t))
+    go false = omega (arith, length-replicate {A = ℕ} 24 0)
 
 followed-few : (t : Words) (n : ℕ) → length (followed t n) ≤ 12
 unfolding followed used
 followed-few t n =
     let a = node-slots t n in
-    let b = slots-half (node t n).slots in
+    let b = pairs-count (node t n).slots in
     let c = use-short (slots_of (node t n).slots) in
     let d = shown-short (node_view t n).left 0 (in_use (slots_of (node t n).slots)) in
     let e : length (followed t n) ≤ length (shown_at (node_view t n).left 0 (in_use (slots_of (node t n).slots))) = filter-short _ _ in
@@ -81,7 +63,7 @@ meetings-few t n = go (eqb (node_view t n).level 0)
   where
     few : length (map (λ (x : Placed). meet x.slot.pointer (pred (node_view t n).level)) (followed t n) ++ (meet (node_view t n).sibling (node_view t n).level ∷ [])) ≤ 13
     few = let e = length-append (map (λ (x : Placed). meet x.slot.pointer (pred (node_view t n).level)) (followed t n)) (meet (node_view t n).sibling (node_view t n).level ∷ []) in
-        omega (arith, e, map-length (λ (x : Placed). meet x.slot.pointer (pred (node_view t n).level)) (followed t n), followed-few t n)
+        omega (arith, e, length-map (followed t n) (λ (x : Placed). meet x.slot.pointer (pred (node_view t n).level)), followed-few t n)
 
     go : (b : Bool) → length {A = Meeting} (elim b as (λ b. List Meeting) [
       | true ↦ meet (node_view t n).sibling (node_view t n).level ∷ []

@@ -13,14 +13,15 @@ use Rattle.model.specs.Table.{Words, in_range, nodes}
 use Rattle.model.specs.Slots.{View, node_view, view_from, height}
 use Rattle.model.specs.Reached.{filter, flat, head_or, children, leaves_from, reached, leaves}
 use Rattle.model.specs.SoundTest.{elem, distinct}
-use Rattle.list_laws.proofs.Tools.{Each, Each-append, Each-map}
+use Rattle.list_laws.proofs.Tools.{Each, Each-append}
 use Rattle.list_laws.proofs.Members.{each-mem, mem-each, elem-false, elem-none, elem-cons}
 use Rattle.list_laws.proofs.Filters.{filter-yes, filter-no}
-use Rattle.list_laws.proofs.Distinct.{distinct-cons, UpTo, pigeonhole}
+use Rattle.list_laws.proofs.Distinct.{distinct-cons}
 use Rattle.tree_laws.proofs.Rows.{At, Row, not-zero, linked-cons, head-children, first-child, range-iff}
 use Rattle.tree_laws.proofs.Levels.{Orderly, Level, level-root, level-lower, level-leaves, mem-leaves, ascending, row-distinct, row-tail}
 use Rattle.tree_laws.proofs.Kept.{by-level}
 use Rattle.tree_laws.proofs.Parents.{reached-children}
+use Rattle.two_laws.proofs.LevelsTwo.{row-few}
 use Rattle.model.specs.Salvage.{Meeting, meet, meetings, may_enter, start}
 use Rattle.tour_laws.specs.Visits.{order, toured_from}
 use Rattle.tour_laws.proofs.Steps.{order-yes, order-no, may-iff}
@@ -143,9 +144,7 @@ module _ (t : Words) (r : ℕ) (o : Orderly (view_from t r)) where
           (Each-append (Known v) (further_met t d n) todo (further-known t r o d n l.row.at.0.level m) k) (omega arith))
 
   leaves-few : length (leaves v) ≤ v.nodes
-  leaves-few =
-      let l = level-leaves v o in
-      pigeonhole v.nodes (leaves v) (row-distinct v (leaves v) (ascending v 0 (leaves v) l.row)) (Each-map (At v 0) (UpTo v.nodes) (leaves v) (λ n a. (range-iff v.nodes n).0 a.range) l.row.at)
+  leaves-few = row-few v 0 (leaves v) (level-leaves v o).row
 
   root-known : Memᴰ r (reached v)
   root-known = rw (reached-children v o) (Memᴰ.head refl)

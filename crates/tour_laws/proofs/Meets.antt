@@ -8,7 +8,7 @@ use native.Mathlib.Omega.{arith}
 use lib.Dec.{eqb, ltb}
 use borrow.Author.Tests.{ne_eqb}
 use Rattle.model.specs.Table.{Words, in_range}
-use Rattle.model.specs.Slots.{Slot, slot, View, node_view, view_from, shown, used}
+use Rattle.model.specs.Slots.{Slot, View, node_view, view_from, shown, used}
 use Rattle.model.specs.Search.{below, within}
 use Rattle.model.specs.Reached.{filter, pointers, kept, named, next_child, reached}
 use Rattle.list_laws.proofs.Tools.{Each, Each-append, same-or-not, refuted}

@@ -5,7 +5,7 @@ use mathlib.Core.Logic.{◌≢◌}
 use mathlib.Core.List.{List, [], ◌∷◌, ◌++◌, map}
 use Prim.Native.Nat.{ℕ, zero, suc, pred, ◌≤◌, ◌<◌}
 use native.Mathlib.Omega.{arith}
-use lib.ListN.{length, get_or, drop}
+use lib.ListN.{get_or, drop, drop_of_length-le}
 use borrow.Author.Tests.{eq-eqb, ne_eqb}
 use Rattle.model.specs.Table.{Words, node}
 use Rattle.model.specs.Slots.{Slot, slot, node_view, slots_of, in_use, used}
@@ -14,7 +14,8 @@ use Rattle.list_laws.proofs.Filters.{filter-yes, filter-no}
 use Rattle.list_laws.proofs.Tools.{leb-iff}
 use Rattle.model.specs.Salvage.{Placed, Meeting, meet, shown_at, in_reach, followed, meetings}
 use Rattle.tour_laws.specs.Walk.{slot_at, placed_at, before, slots_from, onward, ways_from}
-use Rattle.tour_laws.proofs.Ends.{node-slots, slots-half}
+use Rattle.list_laws.proofs.Slots.{pairs-count}
+use Rattle.tour_laws.proofs.Ends.{node-slots}
 use Rattle.tour_laws.proofs.Meets.{meetings-leaf, meetings-inner}
 
 drop-next : (d : Slot) (j : ℕ) (ss : List Slot) → get_or ss j d ≢ d → drop j ss ≡ get_or ss j d ∷ drop (suc j) ss
@@ -25,12 +26,6 @@ drop-next d j [] h = absurd (h (past d j))
     past d (suc j) = refl
 drop-next d zero (s ∷ ss) h = refl
 drop-next d (suc j) (s ∷ ss) h = drop-next d j ss h
-
-drop-past : (j : ℕ) (ss : List Slot) → length ss ≤ j → drop j ss ≡ []
-drop-past zero [] h = refl
-drop-past zero (s ∷ ss) h = absurd (omega arith)
-drop-past (suc j) [] h = refl
-drop-past (suc j) (s ∷ ss) h = drop-past j ss (omega arith)
 
 use-none : (j : ℕ) (ss : List Slot) → (get_or ss j (slot 0 0)).pointer ≡ 0 → in_use (drop j ss) ≡ []
 unfolding in_use
@@ -82,8 +77,8 @@ module _ (t : Words) (n : ℕ) where
   unfolding slots_from shown_at filter in_use
   slots-past =
       let a = node-slots t n in
-      let b = slots-half (node t n).slots in
-      ap (λ (l : List Slot). filter (in_reach t n) (shown_at (before t n 12) 12 (in_use l))) (drop-past 12 (slots_of (node t n).slots) (omega (arith, a, b)))
+      let b = pairs-count (node t n).slots in
+      ap (λ (l : List Slot). filter (in_reach t n) (shown_at (before t n 12) 12 (in_use l))) (drop_of_length-le (slots_of (node t n).slots) {i = 12} (omega (arith, a, b)))
 
   pub ways-at : (j : ℕ) → j ≤ 12 → ways_from t n (suc j) ≡ onward t n (slots_from t n j)
   unfolding ways_from

@@ -61,7 +61,7 @@ trailing-one v n x = (λ e. go (eqb (length (kept v n)) (length (v.node n).shown
 
 -- ---- one node
 
-at-leaf : (v : View) (n : ℕ) → (v.node n).level ≡ 0 → unfinished_at v n ≡ together (own v n) finished
+pub at-leaf : (v : View) (n : ℕ) → (v.node n).level ≡ 0 → unfinished_at v n ≡ together (own v n) finished
 unfolding unfinished_at
 at-leaf v n e = rw (eq-eqb (v.node n).level 0 e, unfinished_at)
 

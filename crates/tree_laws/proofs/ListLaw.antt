@@ -3,7 +3,7 @@ use mathlib.Core.Path.{◌≡◌, refl, ap, sym, ◌∙◌}
 use mathlib.Core.Bool.{Bool, true, false, ◌&&◌}
 use mathlib.Core.Logic.{◌↔◌, ◌⊎◌, inl, inr, ⊎_elim}
 use mathlib.Core.List.{List, [], ◌∷◌, ◌++◌, Memᴰ}
-use Prim.Native.Nat.{ℕ, ◌+◌, ◌*◌, ◌/◌, ◌≤◌, ◌<◌}
+use Prim.Native.Nat.{ℕ, ◌+◌, ◌/◌, ◌≤◌, ◌<◌}
 use native.Mathlib.Omega.{arith}
 use native.Mathlib.Nat.{div-mul-le_self}
 use lib.Dec.{leb, ltb}
@@ -12,7 +12,7 @@ use lib.Seq.{take-nil}
 use borrow.Author.Tests.{ltb-true, lt-ltb, leb-true, lt-leb}
 use Rattle.model.specs.Results.{page_with}
 use Rattle.model.specs.Table.{Words}
-use Rattle.model.specs.Slots.{Slot, slot_words}
+use Rattle.model.specs.Slots.{Slot}
 use Rattle.model.specs.SoundTest.{rising}
 use Rattle.model.specs.Demand2.{Listing}
 use Rattle.model.specs.Listing.{in_range_of, listed, listed_words}
@@ -20,10 +20,6 @@ use Rattle.list_laws.proofs.Tools.{decode, Each}
 use Rattle.list_laws.proofs.Members.{each-mem, mem-each}
 use Rattle.list_laws.proofs.Filters.{mem-filter, filter-none}
 use Rattle.tree_laws.proofs.Rising.{rising-filter, rise-from-rising, Apart, rising-apart}
-
-pub length-pairs : (ss : List Slot) → length (slot_words ss) ≡ 2 * length ss
-length-pairs [] = refl
-length-pairs (s ∷ ss) = omega (arith, length-pairs ss)
 
 pub mem-range : (low high : ℕ) (s : Slot) (ps : List Slot) → Memᴰ s (in_range_of low high ps) ↔ (Memᴰ s ps × (low ≤ s.key) × (s.key ≤ high))
 unfolding in_range_of

@@ -49,7 +49,7 @@ module _ (v : View) (k : ℕ) where
       let ih = next-row c m ns (omega arith) (row-tail v 0 n (m ∷ ns) r) in
       rw (passes-good v 0 n r.good.0 r.at.0, next_from, ne_eqb (v.node n).sibling 0 z, e, ih) (absent-append k (kept v n) (flat (kept v) (m ∷ ns)))
 
-leaves-few : (v : View) (d : ℕ) (ns : List ℕ) → length (leaves_from v d ns) ≤ length (reached_from v d ns)
+pub leaves-few : (v : View) (d : ℕ) (ns : List ℕ) → length (leaves_from v d ns) ≤ length (reached_from v d ns)
 unfolding leaves_from reached_from
 leaves-few v zero ns = omega arith
 leaves-few v (suc d) ns = simp length-append (omega (arith, leaves-few v d (flat (children v) ns)))

@@ -169,7 +169,7 @@ amount (missing_in p a false) = record { hidden = Zero; trailing = Zero; missing
 amount (missing_in p a true) = record { hidden = Zero; trailing = One a; missing = One (under p a) }
 amount (both_in p a) = record { hidden = One p; trailing = Zero; missing = One (under p a) }
 
-some-same : (a b : Leftover) → some a ≡ some b → a ≡ b
+pub some-same : (a b : Leftover) → some a ≡ some b → a ≡ b
 some-same a b e = cc
 
 some-none : (a : Leftover) → none ≡ some a → ⊥

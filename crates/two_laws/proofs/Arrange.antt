@@ -306,16 +306,16 @@ left-first (hidden_in n) later e = refl
 left-first (missing_in p a trailing) later e = refl
 left-first (both_in p a) later e = refl
 
+pub left-is : (t : Words) (x : ℕ) (z : Leftover) → HasLeft (tree_at x t) z → leftover (tree_at x t) ≡ some z
+left-is t x z l = ((has-left-iff (tree_at x t) z).1 l).1
+
 -- It is that of the tree that a write would repair.
 pub left-all : (w : ℕ) (ws : List ℕ) (t : Words) (y : Leftover) → Arr w ws t → Tree w ws t y → leftover_all t ≡ some y
 unfolding leftover_in
 left-all w ws t y r = by-arr w ws t (λ w ws. Tree w ws t y → leftover_all t ≡ some y) r
-    (λ z f. rw (trees-one t z, is 1 y f.left) (left-first y (some nothing) refl))
-    (λ z f. rw (trees-two t z, is 1 y f.left, is 3 nothing f.others.0) (left-first y (some nothing) refl))
-    (λ z f. rw (trees-two t z, is 1 nothing f.others.0, is 3 y f.left) (left-first y (some nothing) refl))
-  where
-    is : (x : ℕ) (z : Leftover) → HasLeft (tree_at x t) z → leftover (tree_at x t) ≡ some z
-    is x z l = ((has-left-iff (tree_at x t) z).1 l).1
+    (λ z f. rw (trees-one t z, left-is t 1 y f.left) (left-first y (some nothing) refl))
+    (λ z f. rw (trees-two t z, left-is t 1 y f.left, left-is t 3 nothing f.others.0) (left-first y (some nothing) refl))
+    (λ z f. rw (trees-two t z, left-is t 1 nothing f.others.0, left-is t 3 y f.left) (left-first y (some nothing) refl))
 
 -- the collection of an arrangement is there
 pub arr-there : (n : ℕ) (ws : List ℕ) (t : Words) → Arr (root_word n) ws t → no_collection n t ≡ false

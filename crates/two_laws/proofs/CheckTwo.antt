@@ -1,6 +1,6 @@
 -- The soundness test of one or two collections, tree by tree. That no node is reached from both roots is one comparison: the last leaves differ.
 use mathlib.Core.Path.{◌≡◌, refl, ap, sym, ◌∙◌}
-use mathlib.Core.Bool.{Bool, true, false, cond, not, ◌&&◌, ◌||◌, false≢true}
+use mathlib.Core.Bool.{Bool, true, cond, not, ◌&&◌, ◌||◌, false≢true}
 use mathlib.Core.Logic.{◌≢◌, ◌↔◌, ◌⊎◌, inl, inr, ⊎_map}
 use mathlib.Core.List.{List, [], ◌++◌, append-nil}
 use mathlib.Core.Option.{Option, none, some}
@@ -12,21 +12,13 @@ use Rattle.model.specs.Table.{Words, at, header_ok}
 use Rattle.model.specs.Slots.{View, view_of}
 use Rattle.model.specs.Reached.{reached, reached_all}
 use Rattle.model.specs.SoundTest.{distinct, orderly, Leftover, nothing, hidden_in, missing_in, both_in, leftover, is_nothing, settled_view, sound_view, leftover_in, leftover_all, sound, settled}
-use Rattle.list_laws.proofs.Tools.{and-iff, not-iff, same-test, same-or-not}
+use Rattle.list_laws.proofs.Tools.{and-iff, or-iff, not-iff, same-test, same-or-not}
 use Rattle.tree_laws.proofs.Levels.{orderly-iff}
 use Rattle.sound_laws.proofs.Same.{sound-orderly}
 use Rattle.walk_laws.specs.Chain.{last_leaf}
 use Rattle.two_laws.proofs.Arrange.{head-iff, trees-one, trees-two, all-one, all-two, tree-settled, settled-tree, sound-tree, left-all}
 use Rattle.two_laws.proofs.SameTwo.{EachSound, each-sound}
 use Rattle.two_laws.proofs.ApartIff.{apart-iff}
-
-or-iff : (a b : Bool) → ((a || b) ≡ true) ↔ ((a ≡ true) ⊎ (b ≡ true))
-or-iff true b = (λ e. inl refl, λ e. refl)
-or-iff false b = (λ e. inr e, go)
-  where
-    go : (false ≡ true) ⊎ (b ≡ true) → b ≡ true
-    go (inl e) = absurd (false≢true e)
-    go (inr e) = e
 
 -- a sound tree is settled exactly if nothing is left
 nothing-left : (v : View) → sound_view v ≡ true → settled_view v ≡ is_nothing (leftover v)

@@ -261,7 +261,10 @@ module _ (n : ℕ) (ws : List ℕ) (t : Words) (k : ℕ) (a : Arr (root_word n) 
     unfolding too_few
     room = ltb-false (length (unreachable t)) (run n t k + cond (root_in_run n t k) 1 0) enough
 
-    not-top : root_in_run n t k ≡ true → height (view_of n t) < 15
+    pub some-free : root_in_run n t k ≡ true → 0 < length (unreachable t)
+    some-free e = let g : m + 1 ≤ length (unreachable t) = rw e at room in omega arith
+
+    pub not-top : root_in_run n t k ≡ true → height (view_of n t) < 15
     unfolding too_high
     not-top e = let z = eqb-false h 15 (sym (ap (λ (b : Bool). b && eqb h 15) e) ∙ not-high) in omega (arith, f.left.orderly.top.level, z)
 
@@ -273,7 +276,7 @@ module _ (n : ℕ) (ws : List ℕ) (t : Words) (k : ℕ) (a : Arr (root_word n) 
         go true e =
             let whole : m ≡ suc h = unfold root_in_run in eqb-true m (suc h) e in
             let g : m + 1 ≤ length (unreachable t) = rw e at room in
-            let some : 0 < length (unreachable t) = omega arith in
+            let some = some-free e in
             rw (e, root_stores) (rw (same-root (not-top e) some) (rooted (not-top e) some, root-ready (not-top e) some whole g))
         go false e =
             let z : m ≡ suc h → ⊥ = unfold root_in_run in eqb-false m (suc h) e in
@@ -294,16 +297,14 @@ module _ (n : ℕ) (ws : List ℕ) (t : Words) (k : ℕ) (a : Arr (root_word n) 
       where
         go : (b : Bool) → root_in_run n t k ≡ b → length (unreachable t) ≡ length (unreachable (apply (root_stores n t k) t)) + cond (root_in_run n t k) 1 0
         go true e =
-            let g : m + 1 ≤ length (unreachable t) = rw e at room in
-            let some : 0 < length (unreachable t) = omega arith in
+            let some = some-free e in
             rw (e, root_stores) (rw (same-root (not-top e) some) (omega (arith, rooted-takes (not-top e) some)))
         go false e = rw (e, root_stores) (omega arith)
 
     -- of the nodes but the new root the same are reached
     pub first-root-others : root_in_run n t k ≡ true → (x : ℕ) → x ≢ fresh t (at t (root_word n)) → elem x (reached_all (apply (new_root n t) t)) ≡ elem x (reached_all t)
     first-root-others e x z =
-        let g : m + 1 ≤ length (unreachable t) = rw e at room in
-        let some : 0 < length (unreachable t) = omega arith in
+        let some = some-free e in
         rw (same-root (not-top e) some) (root-others (not-top e) some x z)
 
     -- each level is quiet, or it is the new root's and above the run
@@ -314,12 +315,10 @@ module _ (n : ℕ) (ws : List ℕ) (t : Words) (k : ℕ) (a : Arr (root_word n) 
         go : (b : Bool) → root_in_run n t k ≡ b → (d ≡ suc h) ⊎ (d ≢ suc h) → Quiet (tree_at (root_word n)) d t (root_stores n t k) ⊎ (Turn (tree_at (root_word n)) d t (root_stores n t k) × (run n t k ≤ d))
         go true e (inl i) =
             let whole : m ≡ suc h = unfold root_in_run in eqb-true m (suc h) e in
-            let g : m + 1 ≤ length (unreachable t) = rw e at room in
-            let some : 0 < length (unreachable t) = omega arith in
+            let some = some-free e in
             rw (e, root_stores) (rw (same-root (not-top e) some) (inr (rw i (rooted-turn (not-top e) some), omega arith)))
         go true e (inr z) =
-            let g : m + 1 ≤ length (unreachable t) = rw e at room in
-            let some : 0 < length (unreachable t) = omega arith in
+            let some = some-free e in
             rw (e, root_stores) (rw (same-root (not-top e) some) (inl (rooted-quiet (not-top e) some d z)))
         go false e c = rw (e, root_stores) (inl (quiet-nil (tree_at (root_word n)) d t (none-straight (view_of n t) f.left.left.2 d)))
 
@@ -329,8 +328,7 @@ module _ (n : ℕ) (ws : List ℕ) (t : Words) (k : ℕ) (a : Arr (root_word n) 
       where
         go : (b : Bool) → root_in_run n t k ≡ b → OthersQuiet ws t (root_stores n t k)
         go true e =
-            let g : m + 1 ≤ length (unreachable t) = rw e at room in
-            let some : 0 < length (unreachable t) = omega arith in
+            let some = some-free e in
             rw (e, root_stores) (rw (same-root (not-top e) some) (rooted-others (not-top e) some))
         go false e = rw (e, root_stores) (nil-others (root_word n) ws t f)
 

@@ -22,12 +22,12 @@ use Rattle.list_laws.proofs.Members.{each-mem, mem-each, elem-iff, mem-flat}
 use Rattle.tree_laws.proofs.Levels.{sound-orderly}
 use Rattle.tree_laws.proofs.SearchLaw.{path-reached}
 use Rattle.cut_laws.proofs.Applying.{length-apply}
-use Rattle.change_laws.proofs.Parts.{HasLeft, has-left-iff}
+use Rattle.change_laws.proofs.Parts.{HasLeft}
 use Rattle.step_laws.proofs.RepairedView.{lacking_in}
 use Rattle.step_laws.proofs.Judged.{run-same, full_later, run_later}
 use Rattle.step_laws.proofs.TreeAt.{tree_at}
 use Rattle.two_laws.proofs.TwoLaw.{taken, Tree}
-use Rattle.two_laws.proofs.Arrange.{Arr, all-one, all-two, sound-parts, settled-parts, SoundAs, sound-tree, left-all}
+use Rattle.two_laws.proofs.Arrange.{Arr, all-one, all-two, sound-parts, settled-parts, SoundAs, sound-tree, left-is, left-all}
 use Rattle.two_laws.proofs.CallsTwo.{Is, arr-other, repairs}
 use Rattle.two_laws.proofs.AcceptedTwo.{there}
 use Rattle.two_laws.proofs.SearchTwo.{sound-head, sound-view}
@@ -80,14 +80,11 @@ lacking-off w ws t (both_in p a) m f e = rw (not-in w ws t _ m p f e f.left.left
 pub lacking-all : (n : ℕ) (t : Words) (m : ℕ) → sound t ≡ true → Is (root_word n) t → Memᴰ m (reached (view_of n t)) → lacking_in (leftover (view_of n t)) m ≡ lacking_in (leftover_all t) m
 lacking-all n t m s i h = let u = sound-tree t s in go u (same-or-not (root_word n) u.word) ∙ ap (λ (y : Option Leftover). lacking_in y m) (sym (left-all u.word u.others t u.leftover u.arranged u.tree))
   where
-    is : (x : ℕ) (z : Leftover) → HasLeft (tree_at x t) z → leftover (tree_at x t) ≡ some z
-    is x z l = ((has-left-iff (tree_at x t) z).1 l).1
-
     go : (u : SoundAs t) → (root_word n ≡ u.word) ⊎ (root_word n ≢ u.word) → lacking_in (leftover (view_of n t)) m ≡ lacking_in (some u.leftover) m
-    go u (inl e) = ap (λ (x : ℕ). lacking_in (leftover (tree_at x t)) m) e ∙ ap (λ (y : Option Leftover). lacking_in y m) (is u.word u.leftover u.tree.left)
+    go u (inl e) = ap (λ (x : ℕ). lacking_in (leftover (tree_at x t)) m) e ∙ ap (λ (y : Option Leftover). lacking_in y m) (left-is t u.word u.leftover u.tree.left)
     go u (inr z) =
         let l = arr-other u.word u.others t (root_word n) (λ (x : ℕ). HasLeft (tree_at x t) nothing) u.arranged i z u.tree.others in
-        ap (λ (y : Option Leftover). lacking_in y m) (is (root_word n) nothing l)
+        ap (λ (y : Option Leftover). lacking_in y m) (left-is t (root_word n) nothing l)
         ∙ sym (lacking-off u.word u.others t u.leftover m u.tree (in-taken u.word u.others t (root_word n) m u.arranged i z h))
 
 -- ---- the run

@@ -131,6 +131,12 @@ pub slots-into : (x : ℕ) (qs : List SlotStore) → Each (Below 12) qs → Each
 slots-into x [] b = tt
 slots-into x (q ∷ qs) b = (slot-into x q b.0, slots-into x qs b.1)
 
+pub shift-in-into : (t : Words) (x k y : ℕ) → length (node_view t x).shown ≤ 10 → Each (Into (node_start x + 8) 24) (shift_in_at t x k y)
+unfolding shift_in_at
+shift-in-into t x k y few =
+    let ss = (node_view t x).shown in
+    slots-into x (shift_in (node_view t x).left ss (place_of k ss) k y) (shift-in-places (node_view t x).left ss (place_of k ss) k y 12 (place-length k ss) (omega arith))
+
 module _ (t : Words) (x : ℕ) (some : 1 ≤ x) (leaf : (node t x).level ≡ 0) where
   outside : (ss : List Store) → Each (Into (node_start x + 8) 24) ss → Outside (node_start x + 8) 24 t (apply ss t)
   outside ss i = outside-apply (node_start x + 8) 24 t ss t i (outside-start (node_start x + 8) 24 t)
@@ -140,20 +146,14 @@ module _ (t : Words) (x : ℕ) (some : 1 ≤ x) (leaf : (node t x).level ≡ 0) 
 
   -- a pair shifted in, where there is room
   module _ (k y : ℕ) (room : length (node_view t x).shown ≤ 10) where
-    in-slots : Each (Into (node_start x + 8) 24) (shift_in_at t x k y)
-    unfolding shift_in_at
-    in-slots =
-        let ss = (node_view t x).shown in
-        slots-into x (shift_in (node_view t x).left ss (place_of k ss) k y) (shift-in-places (node_view t x).left ss (place_of k ss) k y 12 (place-length k ss) (omega arith))
-
     pub in-reached : reached_all (apply (shift_in_at t x k y) t) ≡ reached_all t
-    in-reached = into-reached _ in-slots
+    in-reached = into-reached _ (shift-in-into t x k y room)
 
     pub in-unreachable : unreachable (apply (shift_in_at t x k y) t) ≡ unreachable t
     unfolding unreachable unreached
     in-unreachable =
         ap (λ (l : List ℕ). filter (λ (m : ℕ). not (elem m l)) (numbers 1 (nodes (apply (shift_in_at t x k y) t)))) in-reached
-        ∙ ap (λ (N : ℕ). filter (λ (m : ℕ). not (elem m (reached_all t))) (numbers 1 N)) (low t _ x some leaf (outside _ in-slots) 2 (omega arith))
+        ∙ ap (λ (N : ℕ). filter (λ (m : ℕ). not (elem m (reached_all t))) (numbers 1 N)) (low t _ x some leaf (outside _ (shift-in-into t x k y room)) 2 (omega arith))
 
   -- another class, where the key is
   pub class-reached : (k c : ℕ) → length (node_view t x).shown ≤ 11 → reached_all (apply (set_class_at t x k c) t) ≡ reached_all t

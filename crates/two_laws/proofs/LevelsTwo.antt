@@ -2,16 +2,19 @@
 use mathlib.Core.Path.{refl}
 use mathlib.Core.Logic.{inl}
 use mathlib.Core.List.{List, [], ◌∷◌, ◌++◌, Memᴰ}
-use Prim.Native.Nat.{ℕ, ◌<◌}
+use Prim.Native.Nat.{ℕ, ◌<◌, ◌≤◌}
 use native.Mathlib.Omega.{arith}
-use lib.ListN.{take}
+use lib.ListN.{length, take}
 use Rattle.model.specs.Table.{Words, at, node_start}
-use Rattle.model.specs.Slots.{view_from}
+use Rattle.model.specs.Slots.{View, view_from}
 use Rattle.model.specs.Reached.{reached}
 use Rattle.model.specs.SoundTest.{Leftover, nothing}
 use Rattle.model.specs.Orders.{Store, apply}
 use Rattle.list_laws.proofs.Tools.{Each, Each-map}
 use Rattle.list_laws.proofs.Members.{each-take, each-both, each-mem, mem-each}
+use Rattle.list_laws.proofs.Distinct.{UpTo, pigeonhole}
+use Rattle.tree_laws.proofs.Rows.{At, Row, range-iff}
+use Rattle.tree_laws.proofs.Levels.{ascending, row-distinct}
 use Rattle.word_laws.proofs.Outside.{outside-start, outside-store}
 use Rattle.word_laws.proofs.Stores.{do_store}
 use Rattle.word_laws.proofs.Frames.{same-nodes, else-header, view-else}
@@ -22,6 +25,10 @@ use Rattle.step_laws.proofs.LinkCourses.{unreached-quiet}
 use Rattle.two_laws.proofs.Frame.{Away, away-keeps}
 use Rattle.step_laws.proofs.TreeAt.{tree_at}
 use Rattle.two_laws.proofs.TwoLaw.{taken, Tree, Low, head-same, away-one}
+
+-- a row has at most N nodes
+pub row-few : (v : View) (d : ℕ) (ns : List ℕ) → Row v d ns → length ns ≤ v.nodes
+row-few v d ns r = pigeonhole v.nodes ns (row-distinct v ns (ascending v d ns r)) (Each-map (At v d) (UpTo v.nodes) ns (λ n a. (range-iff v.nodes n).0 a.range) r.at)
 
 -- ---- a tree that the stores do not go to
 

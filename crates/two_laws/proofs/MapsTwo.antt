@@ -11,7 +11,7 @@ use lib.Dec.{eqb}
 use lib.ListN.{length, take}
 use lib.Seq.{take-length}
 use borrow.Author.Tests.{eq-eqb, ne_eqb}
-use Rattle.model.specs.Table.{Words, at, root_word}
+use Rattle.model.specs.Table.{Words, at, nodes, root_word}
 use Rattle.model.specs.Slots.{Slot, pointer_of}
 use Rattle.model.specs.Orders.{Store, apply, orders, orders_after, store_count, flush_count}
 use Rattle.model.specs.Ledger.{enter, leave, reclass, on_map, change}
@@ -21,10 +21,14 @@ use Rattle.model.specs.Writes.{repair_stores, repaired, set_class_at, class_stor
 use Rattle.model.specs.Refusals.{orders_of, seventeen_in, refusal}
 use Rattle.model.specs.Judge.{OldOrNew}
 use Rattle.list_laws.proofs.Tools.{same-or-not}
+use Rattle.table_laws.proofs.Header.{header-iff}
 use Rattle.cut_laws.specs.Inside.{StoresInside}
+use Rattle.cut_laws.proofs.Applying.{length-apply}
 use Rattle.cut_laws.proofs.Barriers.{barred-store_count, barred-flush_count}
 use Rattle.two_laws.proofs.CallsTwo.{OwnSteps, repairs, settled-repair, delete-two, class-two, insert-two}
 use Rattle.two_laws.proofs.AcceptedTwo.{there, Allows, accepted-iff}
+use Rattle.two_laws.proofs.SearchTwo.{sound-head}
+use Rattle.two_laws.proofs.SameTwo.{settled-sound}
 
 abbrev maps_with : List Slot → Option (List Slot) → Maps
 maps_with a b = record { one = a; two = b }
@@ -120,6 +124,20 @@ call-steps repair t s i a =
 -- Every accepted call of either collection, on any sound table.
 pub accepted-steps : (x : Call) (words dock : ℕ) (t : Words) → sound t ≡ true → refusal x words dock t ≡ 0 → Steps x t
 accepted-steps x words dock t s e = let a = (accepted-iff x words dock t).0 e in call-steps x t s a.collection a.allows
+
+-- The table that it leaves is sound, and has as many nodes.
+module _ (x : Call) (words dock : ℕ) (t : Words) (ok : refusal x words dock t ≡ 0) where
+  before : sound t ≡ true
+  before = ((accepted-iff x words dock t).0 ok).sound
+
+  pub sound-after : sound (apply (stores_of x t) t) ≡ true
+  sound-after = settled-sound (apply (stores_of x t) t) (accepted-steps x words dock t before ok).all-settled
+
+  pub nodes-after : nodes (apply (stores_of x t) t) ≡ nodes t
+  nodes-after =
+      let a = ((header-iff t).0 (sound-head t before)).size.long in
+      let b = ((header-iff (apply (stores_of x t) t)).0 (sound-head (apply (stores_of x t) t) sound-after)).size.long in
+      omega (arith, a, b, length-apply (stores_of x t) t)
 
 -- On a settled table a class change is one store and one flush.
 pub class-orders : (n dock : ℕ) (t : Words) (k c : ℕ) → settled t ≡ true → (store_count (orders_of (class_change n k c) dock t) ≡ 1) × (flush_count (orders_of (class_change n k c) dock t) ≡ 1)

@@ -14,6 +14,7 @@ use Rattle.model.specs.SoundTest.{Leftover, hidden_in, missing_in, both_in, room
 use Rattle.model.specs.Orders.{apply}
 use Rattle.model.specs.Writes.{close_at}
 use Rattle.list_laws.proofs.Members.{each-mem}
+use Rattle.tree_laws.proofs.Sums.{some-same}
 use Rattle.tree_laws.proofs.Leftovers.{NoneHidden}
 use Rattle.step_laws.proofs.Repair.{a-reached}
 use Rattle.step_laws.proofs.TreeAt.{tree_at}
@@ -21,9 +22,6 @@ use Rattle.two_laws.proofs.TwoLaw.{Tree, own-usable}
 use Rattle.two_laws.proofs.RepairTwo.{close-tree}
 use Rattle.two_laws.proofs.Arrange.{Arr, arr-low, sound-tree, left-all}
 use Rattle.two_laws.proofs.PartsTwo.{Plain}
-
-some-same : (x y : Leftover) → some x ≡ some y → x ≡ y
-some-same x y e = cc
 
 module _ (w : ℕ) (ws : List ℕ) (t : Words) (y : Leftover) (f : Tree w ws t y) (n : ℕ) (m : Memᴰ n (reached (tree_at w t))) where
   reached-there : has_node t n ≡ true

@@ -1,12 +1,11 @@
 -- The parts of a write of collection n on a settled table: the nodes that it reads and stores to, the run that is split, the leaf that is freed.
 use mathlib.Core.Path.{◌≡◌, refl, sym, ap, ◌∙◌}
-use mathlib.Core.Bool.{Bool, true, false, cond, false≢true}
+use mathlib.Core.Bool.{Bool, true, false, false≢true}
 use mathlib.Core.Logic.{◌≢◌}
 use mathlib.Core.List.{List, Memᴰ}
-use Prim.Native.Nat.{ℕ, suc, ◌+◌, ◌*◌, ◌≤◌, ◌<◌}
+use Prim.Native.Nat.{ℕ, suc, ◌*◌, ◌≤◌, ◌<◌}
 use native.Mathlib.Omega.{arith}
 use lib.ListN.{length}
-use borrow.Author.Tests.{ltb-false}
 use Rattle.model.specs.Table.{Words, at, has_node, root_word, no_collection}
 use Rattle.model.specs.Slots.{node_view, view, height, view_of}
 use Rattle.model.specs.Reached.{reached, reached_all, map_of}
@@ -23,7 +22,7 @@ use Rattle.two_laws.proofs.Leaf.{leaf-place, leaf-out}
 use Rattle.two_laws.proofs.Arrange.{Arr, arr-low, arr-there, root-in, tree-settled, settled-tree, free-fresh, free-off, course-arr}
 use Rattle.two_laws.proofs.LeafStores.{in-reached, leaf-for}
 use Rattle.two_laws.proofs.DeleteTwo.{p-reached, before-reached, can-free}
-use Rattle.two_laws.proofs.InsertTwo.{stands-reached, ready-next, first-others, splits-course, splits-room, root-first, first-root-others}
+use Rattle.two_laws.proofs.InsertTwo.{stands-reached, ready-next, first-others, splits-course, splits-room, some-free, root-first, first-root-others}
 use Rattle.two_laws.proofs.CallsTwo.{arranged}
 use Rattle.two_laws.proofs.AcceptedTwo.{there}
 
@@ -48,13 +47,13 @@ module _ (n : ℕ) (t : Words) (h : no_collection n t ≡ false) (s : settled t 
   abbrev w : ℕ
   w = root_word n
 
-  beside : (ws : List ℕ) × Arr w ws t
+  pub beside : (ws : List ℕ) × Arr (root_word n) ws t
   beside = arranged w t (there n t h).1
 
   low : Low w beside.0
   low = arr-low w beside.0 t beside.1
 
-  tree : Tree w beside.0 t nothing
+  pub tree : Tree (root_word n) beside.0 t nothing
   tree = settled-tree w beside.0 t beside.1 s
 
   pub settled-plain : (m : ℕ) → Memᴰ m (reached (view_of n t)) → Plain t m
@@ -77,13 +76,12 @@ module _ (n : ℕ) (t : Words) (h : no_collection n t ≡ false) (s : settled t 
 
   -- the old root and all below it stay reached
   pub root-stays : (k : ℕ) → too_high n t k ≡ false → too_few n t k ≡ false → Stays (root_stores n t k) t
-  unfolding root_stores apply too_few
+  unfolding root_stores apply
   root-stays k a b = go (root_in_run n t k) refl
     where
       go : (c : Bool) → root_in_run n t k ≡ c → Stays (root_stores n t k) t
       go true e =
-          let room : run n t k + 1 ≤ length (unreachable t) = rw e at (ltb-false (length (unreachable t)) (run n t k + cond (root_in_run n t k) 1 0) b) in
-          let free = free-fresh w beside.0 t (at t w) beside.1 tree root-reached (omega arith) in
+          let free = free-fresh w beside.0 t (at t w) beside.1 tree root-reached (some-free n beside.0 t k beside.1 tree a b e) in
           rw (e, root_stores) (but-free (new_root n t) t _ (free-off w beside.0 t _ beside.1 free) (first-root-others n beside.0 t k beside.1 tree a b e))
       go false e = rw (e, root_stores) (λ x q. q)
 

@@ -4,15 +4,16 @@ use mathlib.Core.Bool.{true}
 use mathlib.Core.List.{List, [], ◌∷◌}
 use Prim.Native.Nat.{ℕ, zero, suc, ◌≤◌}
 use native.Mathlib.Omega.{arith}
-use lib.ListN.{length, length-append}
+use lib.ListN.{length}
 use borrow.Author.Tests.{ne_eqb, le-leb}
 use Rattle.model.specs.Slots.{View, height}
-use Rattle.model.specs.Reached.{flat, head_or, children, reached_from, leaves_from, leaves}
+use Rattle.model.specs.Reached.{flat, head_or, children, leaves_from, leaves}
 use Rattle.model.specs.SoundTest.{linked}
 use Rattle.view_laws.proofs.NodeViews.{left_of}
 use Rattle.list_laws.proofs.Tools.{Each}
 use Rattle.tree_laws.proofs.Rows.{At, not-zero, linked-cons, first-child, head-children}
 use Rattle.tree_laws.proofs.Levels.{Level, level-lower, level-down}
+use Rattle.tree_laws.proofs.NextLaw.{leaves-few}
 use Rattle.walk_laws.specs.Chain.{leftmost, along, first_leaf, chain}
 use Rattle.walk_laws.proofs.WalkLaw.{InOrder, top-level, in-order-few}
 
@@ -39,11 +40,6 @@ leftmost-head v zero n ns l e = sym e
 leftmost-head v (suc d) n ns l e =
     let first : head_or 0 (flat (children v) ns) ≡ (v.node n).left = head-children v d ns l.row.at ∙ first-child v (head_or 0 ns) l.some ∙ ap (left_of v) e in
     leftmost-head v d (v.node n).left (flat (children v) ns) (level-lower v d ns l) first
-
-leaves-few : (v : View) (d : ℕ) (ns : List ℕ) → length (leaves_from v d ns) ≤ length (reached_from v d ns)
-unfolding leaves_from reached_from
-leaves-few v zero ns = omega arith
-leaves-few v (suc d) ns = simp length-append (omega (arith, leaves-few v d (flat (children v) ns)))
 
 first-leaf : (v : View) → height v ≤ 15 → first_leaf v ≡ leftmost v (height v) v.root
 unfolding first_leaf

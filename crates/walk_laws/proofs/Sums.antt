@@ -7,7 +7,7 @@ use native.Mathlib.Omega.{arith}
 use Rattle.model.specs.declared.Unfinished.{Unfinished}
 use Rattle.model.specs.Slots.{View}
 use Rattle.model.specs.Reached.{flat, children, reached_from}
-use Rattle.model.specs.SoundTest.{finished, together, total}
+use Rattle.model.specs.SoundTest.{all, finished, together, total}
 use Rattle.list_laws.proofs.Tools.{flat-flat, flat-single}
 use Rattle.tree_laws.proofs.Sums.{together-assoc, together-comm}
 
@@ -54,6 +54,12 @@ module _ {M : Type 0} (m : Monoid M) where
   pub sum-both {ℓ} : {A : Type ℓ} (g h : A → M) (xs : List A) → sum m (λ (x : A). m.op (g x) (h x)) xs ≡ m.op (sum m g xs) (sum m h xs)
   sum-both g h [] = sym (m.unit-left m.unit)
   sum-both g h (x ∷ xs) = ap (m.op (m.op (g x) (h x))) (sum-both g h xs) ∙ swap (g x) (h x) (sum m g xs) (sum m h xs)
+
+-- a test of all is the sum of the tests
+pub all-sum {ℓ} : {A : Type ℓ} (p : A → Bool) (xs : List A) → all p xs ≡ sum tests p xs
+unfolding all
+all-sum p [] = refl
+all-sum p (x ∷ xs) = ap (λ (b : Bool). p x && b) (all-sum p xs)
 
 -- ---- depth first
 

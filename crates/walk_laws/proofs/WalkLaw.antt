@@ -8,7 +8,7 @@ use native.Mathlib.Omega.{arith}
 use native.Mathlib.Nat.{zero-add}
 use lib.Dec.{eqb, leb}
 use lib.ListN.{length, length-append}
-use borrow.Author.Tests.{eq-eqb, ne_eqb, leb-true, le-leb}
+use borrow.Author.Tests.{ne_eqb, leb-true, le-leb}
 use Rattle.std.specs.Prelude.{None, Some}
 use Rattle.std.proofs.lemmas.Option.{same_Some}
 use Rattle.model.specs.declared.Unfinished.{Unfinished}
@@ -21,8 +21,9 @@ use Rattle.list_laws.proofs.Tools.{decode, and-iff, refuted, same-test, Each, Ea
 use Rattle.tree_laws.proofs.Members.{UpTo, pigeonhole}
 use Rattle.tree_laws.proofs.Rows.{Good, At, Deep, children-inner}
 use Rattle.tree_laws.proofs.Levels.{RootFacts, root-iff, Level, level-root, level-lower, once-follows, sound-orderly}
+use Rattle.tree_laws.proofs.Leftovers.{at-leaf}
 use Rattle.walk_laws.specs.Walk.{Visit, fits, visits_of, ways, visits_below, Tally, tally, check, root_visit, walk}
-use Rattle.walk_laws.proofs.Sums.{Monoid, joint, tests, numbers, sum, swap, unit-right, sum-append, depth_first, sum-depth-first}
+use Rattle.walk_laws.proofs.Sums.{Monoid, joint, tests, numbers, sum, swap, unit-right, sum-append, all-sum, depth_first, sum-depth-first}
 use Rattle.walk_laws.proofs.Run.{visits, check-fold, met, allowed, outcome, fold-outcome}
 use Rattle.walk_laws.proofs.Local.{Fits, fits-iff, nodes_of, visits-nodes, visits-level, visits-good, good-alone}
 
@@ -38,10 +39,6 @@ ways-row v p d (s ∷ ss) e = go (eqb (v.node s.pointer).sibling (head_or e (poi
         → sum joint (λ (x : Visit). x.way) (visits_of v p d (s ∷ ss) e) ≡ row_unfinished v p (pointers (s ∷ ss)) e
     go true c ih = rw (c, visits_of, row_unfinished) ih
     go false c ih = rw (c, visits_of, row_unfinished) (ap (together (missing_at p s.pointer)) ih)
-
-unfinished-leaf : (v : View) (n : ℕ) → (v.node n).level ≡ 0 → unfinished_at v n ≡ together (own v n) finished
-unfolding unfinished_at
-unfinished-leaf v n e = rw (eq-eqb (v.node n).level 0 e)
 
 unfinished-inner : (v : View) (d n : ℕ) → (v.node n).level ≡ suc d → unfinished_at v n ≡ together (own v n) (row_unfinished v n (named v n) (next_child v n))
 unfolding unfinished_at
@@ -73,7 +70,7 @@ met-all : (v : View) (d : ℕ) → Met v d
 unfolding visits depth_first met visits_below
 met-all v zero x e h =
     let n = x.node in
-    joint.assoc x.way (own v n) finished ∙ ap (together x.way) (sym (unfinished-leaf v n (h.0.level ∙ e)) ∙ sym (unit-right joint (unfinished_at v n)))
+    joint.assoc x.way (own v n) finished ∙ ap (together x.way) (sym (at-leaf v n (h.0.level ∙ e)) ∙ sym (unit-right joint (unfinished_at v n)))
 met-all v (suc d) x e h =
     let n = x.node in
     let y = sum joint (unfinished_at v) (flat (depth_first v d) (children v n)) in
@@ -109,11 +106,6 @@ counted-all v (suc d) x e h =
 sum-one : {M : Type 0} (m : Monoid M) (g : ℕ → M) (v : View) (d n : ℕ) → sum m g (depth_first v d n) ≡ sum m g (reached_from v d (n ∷ []))
 unfolding flat
 sum-one m g v d n = ap (sum m g) (sym (append-nil (depth_first v d n))) ∙ sum-depth-first m g v d (n ∷ [])
-
-all-sum : (p : ℕ → Bool) (l : List ℕ) → all p l ≡ sum tests p l
-unfolding all
-all-sum p [] = refl
-all-sum p (x ∷ l) = ap (λ (b : Bool). p x && b) (all-sum p l)
 
 length-sum : (l : List ℕ) → length l ≡ sum numbers (λ (x : ℕ). 1) l
 length-sum [] = refl

@@ -48,7 +48,8 @@ fn shown_fit(table: &[u64], marks: &[u64], m: u64) -> Option<u64>
     (shown <= 11).then_some(shown)
 }
 
-// Coming to node n on a level: the node that the search stands on there, n or its sibling, if every test passes.
+// Coming to node n on a level: the node that the search stands on there, n or its sibling, if every test passes. That the header is right is a
+// clause, here and below: document 01 lays down a lent `&[u64]` for the table.
 fn take_step(table: &[u64], marks: &[u64], n: u64, level: u64, key: u64) -> Option<Step>
     requires table_value { header_ok table.now ≡ true }
     requires table_bound { nodes table.now < 64 * length marks.now }
@@ -73,7 +74,8 @@ pub fn find(table: &[u64], marks: &[u64], root: u64, key: u64) -> Option<Way>
     if 15 < top {
         return None;
     }
-    // Fixed memory: a place for each level, the root's first, whatever the height: so the index counts up, and the level is what is left.
+    // Fixed memory: a place for each level, the root's first, whatever the height. By place: `(0..=top).rev().enumerate()` would give place and level,
+    // and each node would be written by its place all the same.
     let mut nodes = [0u64; 16];
     let mut n = root;
     let mut run = 0;

@@ -2,13 +2,12 @@
 use mathlib.Core.Path.{◌≡◌, refl, ap, sym, ◌∙◌}
 use mathlib.Core.Logic.{◌≢◌, ⊎_elim}
 use mathlib.Core.Bool.{Bool, true, false, cond}
-use mathlib.Core.List.{List, [], ◌∷◌, ◌++◌}
-use Prim.Native.Nat.{ℕ, zero, suc, ◌+◌, ◌*◌, ◌/◌, ◌≤◌, ◌<◌}
-use native.Mathlib.Numerals.{add-one}
+use mathlib.Core.List.{List, [], ◌∷◌, ◌++◌, append-nil, append_assoc}
+use Prim.Native.Nat.{ℕ, ◌+◌, ◌*◌, ◌/◌, ◌≤◌, ◌<◌}
 use native.Mathlib.Omega.{arith}
 use lib.Dec.{eqb, ltb}
-use lib.ListN.{length, drop, set, replicate}
-use lib.Seq.{get_or-set_same, get_or-set_other, ext_get_or, drop-length, drop-cons}
+use lib.ListN.{length, length-append, set, replicate}
+use lib.Seq.{get_or-set_same, get_or-set_other, ext_get_or}
 use borrow.Author.Tests.{eq-eqb, ne_eqb, ltb-true, ltb-false}
 use Rattle.model.specs.Table.{Words, at, line}
 use Rattle.model.specs.Search.{filter}
@@ -19,6 +18,7 @@ use Rattle.model.specs.Orders.{Order, order_of, store_count, decode}
 use Rattle.model.specs.Wear.{stored_to, stores_to, wear_of, largest, first_at}
 use Rattle.list_laws.proofs.Tools.{Each, same-or-not}
 use Rattle.list_laws.proofs.Filters.{filter-short}
+use Rattle.list_laws.proofs.Lists.{at-replicate}
 use Rattle.carry.proofs.Turns.{next-order, no-order}
 use Rattle.wear_laws.proofs.Stored.{decode-length, stored-count, stored-few}
 use Rattle.wear_laws.proofs.Lines.{one, on-line-cons, wear-length, wear-at, largest-here, largest-later, first-here, first-later}
@@ -54,13 +54,8 @@ pub record Tally (list ws : Words) (total : ℕ) (lines : Words) : Type 0 where
   pub counted : (l : ℕ) → at lines l + stores_to (decode ws) l ≡ stores_to (decode list) l
   pub summed : total + store_count (decode ws) ≡ store_count (decode list)
 
-zero-at : (n l : ℕ) → at (replicate n 0) l ≡ 0
-zero-at zero l = refl
-zero-at (suc n) zero = refl
-zero-at (suc n) (suc l) = zero-at n l
-
 pub tally-begins : (list : Words) (n : ℕ) (lines : Words) → lines ≡ replicate n 0 → Tally list list 0 lines
-tally-begins list n lines e = record { counted = λ l. rw (e, zero-at n l) (omega arith); summed = omega arith }
+tally-begins list n lines e = record { counted = λ l. rw (e, at-replicate n l) (omega arith); summed = omega arith }
 
 module _ (list ws : Words) (total : ℕ) (lines : Words) (t : Tally list ws total lines) where
   -- no number, and no total, is above the number of orders
@@ -97,41 +92,49 @@ module _ (list ws : Words) (total : ℕ) (lines : Words) (t : Tally list ws tota
         ext_get_or 0 lines (wear_of (8 * n) (decode list)) (omega (arith, wear-length (8 * n) (decode list)))
         (λ l u. omega (arith, t.counted l, ap (λ (os : List Order). stores_to os l) (no-order ws h), wear-at (8 * n) (decode list) l (omega arith)))
 
--- ---- the most over the lines from line i on
+-- ---- the most over the lines from the last on
 
--- m has the largest number of the lines from i on, and the first of these lines that has it
-pub record MostFrom (lines : Words) (i : ℕ) (m : Most) : Type 0 where
-  pub largest-is : m.largest ≡ largest (drop i lines)
-  pub first-is : m.first ≡ i + first_at m.largest (drop i lines)
+-- m has the largest number of the lines after the rest, and the first of these lines that has it
+pub record MostAfter (lines rest : Words) (m : Most) : Type 0 where
+  pub later : Words
+  pub parts : rest ++ later ≡ lines
+  pub largest-is : m.largest ≡ largest later
+  pub first-is : m.first ≡ length rest + first_at m.largest later
 
-pub most-none : (lines : Words) → MostFrom lines (length lines) (record { largest = 0; first = length lines })
+pub most-none : (lines : Words) → MostAfter lines lines (record { largest = 0; first = length lines })
 unfolding largest first_at
-most-none lines = record { largest-is = rw (drop-length lines); first-is = rw (drop-length lines) (omega arith) }
+most-none lines = record { later = []; parts = append-nil lines; largest-is = refl; first-is = omega arith }
 
-module _ (lines : Words) (i : ℕ) (h : i < length lines) (m : Most) (after : ℕ) (next : after ≡ i + 1) (was : MostFrom lines after m) where
-  f : MostFrom lines (i + 1) m
-  f = rw next at was
+pub most-all : (lines rest : Words) (m : Most) → length rest ≡ 0 → MostAfter lines rest m → (m.largest ≡ largest lines) × (m.first ≡ first_at (largest lines) lines)
+most-all lines [] m e was =
+    let all = was.largest-is ∙ ap largest was.parts in
+    (all, omega (arith, was.first-is, ap (first_at m.largest) was.parts, ap (λ (n : ℕ). first_at n lines) all))
+most-all lines (x ∷ rest) m e was = omega (arith, e)
 
-  abbrev here : ℕ
-  here = at lines i
+module _ (lines rest : Words) (m : Most) (was : MostAfter lines rest m) (before : Words) (here : ℕ) (last : rest ≡ before ++ here ∷ []) where
+  abbrev i : ℕ
+  i = length before
 
-  more : drop i lines ≡ here ∷ drop (i + 1) lines
-  more = rw (add-one i) (drop-cons lines i 0 h)
+  one-more : length rest ≡ i + 1
+  one-more = ap length last ∙ length-append before (here ∷ [])
 
-  stays : here < m.largest → MostFrom lines i m
+  parts-next : before ++ (here ∷ was.later) ≡ lines
+  parts-next = sym (append_assoc before (here ∷ []) was.later) ∙ ap (λ (l : Words). l ++ was.later) (sym last) ∙ was.parts
+
+  stays : here < m.largest → MostAfter lines before m
   stays l =
-      let later = largest-later here (drop (i + 1) lines) (omega (arith, f.largest-is)) in
-      let past = first-later here (drop (i + 1) lines) m.largest (λ e. omega arith) in
-      record { largest-is = rw more (f.largest-is ∙ sym later); first-is = rw more (omega (arith, f.first-is, past)) }
+      let rest-most = largest-later here was.later (omega (arith, was.largest-is)) in
+      let past = first-later here was.later m.largest (λ e. omega arith) in
+      record { later = here ∷ was.later; parts = parts-next; largest-is = was.largest-is ∙ sym rest-most; first-is = omega (arith, was.first-is, past, one-more) }
 
-  moves : m.largest ≤ here → MostFrom lines i (record { largest = here; first = i })
+  moves : m.largest ≤ here → MostAfter lines before (record { largest = here; first = i })
   moves l =
-      let first = first-here here (drop (i + 1) lines) here refl in
-      record { largest-is = rw more (sym (largest-here here (drop (i + 1) lines) (omega (arith, f.largest-is)))); first-is = rw more (omega (arith, first)) }
+      let first = first-here here was.later here refl in
+      record { later = here ∷ was.later; parts = parts-next; largest-is = sym (largest-here here was.later (omega (arith, was.largest-is))); first-is = omega (arith, first) }
 
-  pub most-next : (r : Most) → r ≡ or_here m i here → MostFrom lines i r
-  most-next r e = rw e (go (ltb here m.largest) refl)
+  pub most-next : (at : ℕ) → at ≡ i → (r : Most) → r ≡ or_here m at here → MostAfter lines before r
+  most-next at q r e = rw (e, q) (go (ltb here m.largest) refl)
     where
-      go : (b : Bool) → ltb here m.largest ≡ b → MostFrom lines i (cond b m (record { largest = here; first = i }))
+      go : (b : Bool) → ltb here m.largest ≡ b → MostAfter lines before (cond b m (record { largest = here; first = i }))
       go true q = stays (ltb-true here m.largest q)
       go false q = moves (ltb-false here m.largest q)

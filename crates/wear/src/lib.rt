@@ -13,7 +13,7 @@ ghost use Rattle.wear_laws.specs.Wearing.{extents_in, Sought};
 ghost use Rattle.bits.specs.Bits.{has};
 ghost use Rattle.wear.specs.Counting.{bit, or_here};
 
-use model::{Figures, ListedOrder, MARK, Refusal, Worn};
+use model::{Figures, ListedOrder, Refusal, Worn};
 
 // Words for a mark each of the largest table's words: 8 + 32 times 65,535 of them, 64 to a word.
 const MARKS: usize = 32768;
@@ -35,7 +35,8 @@ fn mark_one(marks: &mut [u64; MARKS], order: ListedOrder)
     }
 }
 
-// Marks the words that the list stores to.
+// Marks the words that the list stores to. A walk of its own, as carry's and the one of the lines: one for all would take a closure that writes to
+// what it captures, and of that a proof knows nothing.
 fn mark(marks: &mut [u64; MARKS], list: &[u64])
     requires { Each (λ (w : ℕ). w < 64 * length marks.old) (stored_to (decode list.now)) }
     ensures { (w : ℕ) → has marks.new w ≡ elem w (stored_to (decode list.now)) || has marks.old w }
@@ -52,7 +53,7 @@ fn wanted_bits<const WANTED: bool>(word: u64) -> u64
     if WANTED {
         return word;
     }
-    MARK - word
+    !word
 }
 
 // How many numbers from w on, in w's word of marks, are not as wanted.
@@ -61,11 +62,12 @@ fn unwanted<const WANTED: bool>(marks: &[u64; MARKS], w: usize) -> usize
     ensures { Sought (has marks.now) WANTED w (w + (64 - w % 64)) (w + result) }
 {
     let bits = wanted_bits::<WANTED>(marks[w / 64] >> (w % 64));
-    let n = u64::trailing_zeros(bits) as usize;
+    let n = bits.trailing_zeros() as usize;
     n.min(64 - w % 64)
 }
 
-// The first number from a number on that is marked, or that is not, as wanted; len if there is none below it. A word of marks a turn.
+// The first number from a number on that is marked, or that is not, as wanted. A word of marks a turn. If there is none below len it is len,
+// no Option: an extent that goes on to the end ends there, and both walks below end at len.
 fn seek<const WANTED: bool>(marks: &[u64; MARKS], from: usize, len: usize) -> usize
     requires { (from ≤ len) × (len ≤ 64 * length marks.now) }
     ensures { Sought (has marks.now) WANTED from len result }
@@ -92,7 +94,8 @@ fn count_pairs(marks: &[u64; MARKS], len: usize) -> usize
 {
     let mut pairs = 0;
     let mut w = seek::<true>(marks, 0, len);
-    // No fixed step: an extent a turn, of any length.
+    // No fixed step: an extent a turn, of any length. An iterator of extents would be no plainer: a type of marks, place and length, its `next` and
+    // its laws, in place of two calls here and two in the next function.
     while w < len {
         let end = seek::<false>(marks, w, len);
         pairs += 1;
@@ -139,6 +142,7 @@ fn count_stores(lines: &mut [u64], list: &[u64]) -> u64
 {
     lines.fill(0);
     let mut total = 0;
+    // No `sum`: its closure would write to the lines, and of what it captures and changes a proof knows nothing.
     for pair in list.chunks_exact(2) {
         total += count_one(lines, ListedOrder::from((pair[0], pair[1])));
     }
@@ -168,8 +172,8 @@ fn worst(lines: &[u64]) -> Most
         first: lines.len(),
     };
     // A loop: the library's max and position leave a byte and a pointer in one struct, which targets/width.py refuses for wasm32 (tried).
-    for i in (0..lines.len()).rev() {
-        m = or_here(m, i, lines[i]);
+    for (i, &stores) in lines.iter().enumerate().rev() {
+        m = or_here(m, i, stores);
     }
     m
 }

@@ -1,5 +1,5 @@
 -- Extents: a word lies in one exactly if it has a store; they rise and do not touch; and they are found run by run.
-use mathlib.Core.Path.{◌≡◌, refl, ap, ap₂, sym, ◌∙◌}
+use mathlib.Core.Path.{◌≡◌, refl, ap, sym, ◌∙◌}
 use mathlib.Core.Bool.{Bool, true, false, ◌&&◌, ◌||◌, or_assoc, false≢true}
 use mathlib.Core.Logic.{◌≢◌, ⊎_elim}
 use mathlib.Core.List.{List, [], ◌∷◌}
@@ -222,10 +222,5 @@ module _ (f : ℕ → Bool) where
 
 -- tests that agree give the same extents
 module _ (f g : ℕ → Bool) (h : (w : ℕ) → f w ≡ g w) where
-  filter-same : (ws : List ℕ) → filter f ws ≡ filter g ws
-  unfolding filter
-  filter-same [] = refl
-  filter-same (w ∷ ws) = ap₂ (λ (b : Bool) (l : List ℕ). elim b as (λ _. List ℕ) [ true ↦ w ∷ l | false ↦ l ]) (h w) (filter-same ws)
-
   pub extents-same : (from count : ℕ) → extents_in f from count ≡ extents_in g from count
-  extents-same from count = ap join_all (filter-same (numbers from count))
+  extents-same from count = ap (λ (q : ℕ → Bool). extents_in q from count) (λ i w. h w i)

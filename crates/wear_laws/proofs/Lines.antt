@@ -9,14 +9,16 @@ use native.Mathlib.Omega.{arith}
 use lib.Dec.{eqb}
 use lib.ListN.{length, length-map}
 use borrow.Author.Tests.{eq-eqb, ne_eqb}
+use Rattle.model.specs.Lists.{sum}
 use Rattle.model.specs.Table.{Words, at, line}
 use Rattle.model.specs.Search.{filter}
 use Rattle.model.specs.Orders.{Order, store_count, all_inside}
 use Rattle.model.specs.Writes.{numbers}
-use Rattle.model.specs.Wear.{stored_to, stores_to, wear_of, largest, first_at, sum}
+use Rattle.model.specs.Wear.{stored_to, stores_to, wear_of, largest, first_at}
 use Rattle.list_laws.proofs.Tools.{Each, Each-map, same-or-not, compared}
 use Rattle.list_laws.proofs.Filters.{filter-yes, filter-no}
 use Rattle.list_laws.proofs.Counts.{numbers-length}
+use Rattle.list_laws.proofs.Lists.{sum-none}
 use Rattle.wear_laws.proofs.Stored.{stored-count, stored-inside}
 
 -- ---- counts
@@ -39,23 +41,16 @@ on-line-cons w ws l = go (eqb (line w) l) refl
 -- ---- the sum
 
 sum-add : (f g : ℕ → ℕ) (ls : List ℕ) → sum (map (λ (l : ℕ). f l + g l) ls) ≡ sum (map f ls) + sum (map g ls)
-unfolding sum
 sum-add f g [] = refl
 sum-add f g (l ∷ ls) = omega (arith, sum-add f g ls)
 
 sum-same : (f g : ℕ → ℕ) (ls : List ℕ) → ((l : ℕ) → f l ≡ g l) → sum (map f ls) ≡ sum (map g ls)
-unfolding sum
 sum-same f g [] e = refl
 sum-same f g (l ∷ ls) e = omega (arith, sum-same f g ls e, e l)
 
-sum-none : (f : ℕ → ℕ) (ls : List ℕ) → ((l : ℕ) → f l ≡ 0) → sum (map f ls) ≡ 0
-unfolding sum
-sum-none f [] e = refl
-sum-none f (l ∷ ls) e = omega (arith, sum-none f ls e, e l)
-
 -- line k counts once in a row of lines that has it, and not in one that begins after it
 sum-past : (k from count : ℕ) → k < from → sum (map (one k) (numbers from count)) ≡ 0
-unfolding sum numbers
+unfolding numbers
 sum-past k from zero h = refl
 sum-past k from (suc c) h = rw (ne_eqb k from (omega arith)) (omega (arith, sum-past k (suc from) c (omega arith)))
 
@@ -71,7 +66,7 @@ module _ (k from c : ℕ) where
   sum-after ih e = rw (ne_eqb k from e) (omega arith)
 
 sum-one : (k from count : ℕ) → from ≤ k → k < from + count → sum (map (one k) (numbers from count)) ≡ 1
-unfolding sum numbers row
+unfolding numbers row
 sum-one k from zero h l = absurd (omega arith)
 sum-one k from (suc c) h l = ⊎_elim (sum-here k from c) (λ e. sum-after k from c (sum-one k (suc from) c (omega arith) (omega arith)) e) (same-or-not k from)
 
@@ -170,7 +165,7 @@ first-before n (m ∷ ms) (suc l) h =
 -- ---- no stores
 
 largest-sum : (ns : Words) → largest ns ≤ sum ns
-unfolding largest sum
+unfolding largest
 largest-sum [] = omega arith
 largest-sum (n ∷ ns) = max-le (omega arith) (omega (arith, largest-sum ns))
 

@@ -2,15 +2,15 @@
 use mathlib.Core.Path.{◌≡◌, refl, ap}
 use mathlib.Core.Bool.{true}
 use mathlib.Core.List.{List, [], ◌∷◌}
-use Prim.Native.Nat.{ℕ, suc, ◌/◌, ◌≤◌, ◌<◌}
+use Prim.Native.Nat.{ℕ, zero, suc, ◌*◌, ◌/◌, ◌≤◌, ◌<◌}
 use native.Mathlib.Omega.{arith}
 use lib.ListN.{length, take}
 use lib.Seq.{take_all}
 use borrow.Author.Tests.{ltb-true}
 use Rattle.model.specs.Table.{Words}
-use Rattle.model.specs.Orders.{Order, store, flush, barrier, without_barriers, store_count, decode, inside, all_inside}
+use Rattle.model.specs.Orders.{Order, store, flush, barrier, without_barriers, store_count, order_of, decode, inside, all_inside}
 use Rattle.model.specs.Wear.{stored_to}
-use Rattle.list_laws.proofs.Tools.{Each, and-iff}
+use Rattle.list_laws.proofs.Tools.{Each, and-iff, double-suc}
 
 -- an odd last word is no order
 pub decode-length : (ws : Words) → length (decode ws) ≡ length ws / 2
@@ -18,6 +18,14 @@ unfolding decode
 decode-length [] = refl
 decode-length (a ∷ []) = refl
 decode-length (a ∷ b ∷ ws) = omega (arith, decode-length ws)
+
+-- the first orders of a list are those of its first words
+pub decode-take : (n : ℕ) (ws : Words) → decode (take (2 * n) ws) ≡ take n (decode ws)
+unfolding decode
+decode-take zero ws = refl
+decode-take (suc n) [] = rw (double-suc n) refl
+decode-take (suc n) (a ∷ []) = rw (double-suc n) refl
+decode-take (suc n) (a ∷ b ∷ ws) = rw (double-suc n) (ap (λ (os : List Order). order_of a b ∷ os) (decode-take n ws))
 
 -- all orders of a list are its first so many
 pub all-orders : (list : Words) → take (length list / 2) (decode list) ≡ decode list

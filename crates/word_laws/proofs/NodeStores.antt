@@ -32,7 +32,7 @@ put-all-elsewhere t b ws h = after-whole (Elsewhere b t) (Elsewhere b t) (put_al
 
 -- ---- the words stored
 
-put-all-sets : (w : ℕ) (ws t : Words) → apply (put_all w ws) t ≡ sets t w ws
+pub put-all-sets : (w : ℕ) (ws t : Words) → apply (put_all w ws) t ≡ sets t w ws
 unfolding put_all apply
 put-all-sets w [] t = refl
 put-all-sets w (x ∷ ws) t = put-all-sets (suc w) ws (set t w x)

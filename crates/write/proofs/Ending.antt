@@ -11,11 +11,13 @@ use Rattle.model.specs.declared.Counts.{Counts}
 use Rattle.model.specs.declared.Refusal.{Refusal}
 use Rattle.model.specs.Results as answer
 use Rattle.model.specs.Results.{refused_with, done_with}
+use Rattle.model.specs.Numbers.{refusal_number}
 use Rattle.model.specs.Table.{Words}
 use Rattle.model.specs.SoundTest.{sound, settled}
 use Rattle.model.specs.Orders.{Store, orders, barred}
 use Rattle.model.specs.Writes.{repair_stores, repaired, Call, insertion, deletion, class_change, repair, stores_of}
 use Rattle.model.specs.Refusals.{seventeen_in, refusal, written, table_after, list_after}
+use Rattle.model.proofs.Numbers.{refused-by}
 use Rattle.two_laws.proofs.CallsTwo.{repairs}
 use Rattle.two_laws.proofs.AcceptedTwo.{Allows, Accepted, accepted-iff}
 use Rattle.two_laws.proofs.MapsTwo.{Steps, accepted-steps}
@@ -39,7 +41,7 @@ done-same e f g = rw (e, f, g)
 
 -- ---- a refused call
 
-pub refused-call : (x : Call) (t lent : Words) (dock n : ℕ) → n ≢ 0 → refusal x (length lent) dock t ≡ n → Promised x t lent dock (refused_with n) t lent
+refused-call : (x : Call) (t lent : Words) (dock n : ℕ) → n ≢ 0 → refusal x (length lent) dock t ≡ n → Promised x t lent dock (refused_with n) t lent
 unfolding written table_after list_after
 refused-call x t lent dock zero z e = absurd (z refl)
 refused-call x t lent dock (suc n) z e = rw (e, written, table_after, list_after) (refl, (refl, refl))
@@ -48,6 +50,10 @@ pub refused-as : (x : Call) (t lent : Words) (dock : ℕ) (r : Refusal) → refu
     → ◌≡◌ {A = answer.Written} (refused_with (refusal x (length lent) dock t)) (Err r) → Promised x t lent dock (Err r) t lent
 refused-as x t lent dock r z e =
     subst (λ (w : answer.Written). Promised x t lent dock w t lent) e (refused-call x t lent dock (refusal x (length lent) dock t) z refl)
+
+-- by a test of its own
+pub refused-for : (x : Call) (t lent : Words) (dock : ℕ) (r : Refusal) → refusal_number r ≢ 0 → refusal x (length lent) dock t ≡ refusal_number r → Promised x t lent dock (Err r) t lent
+refused-for x t lent dock r z e = subst (λ (w : answer.Written). Promised x t lent dock w t lent) (refused-by r) (refused-call x t lent dock (refusal_number r) z e)
 
 -- by one of the tests that all share
 pub judge-refuses : (x : Call) (t lent : Words) (dock : ℕ) (r : Refusal) → judged (seventeen_in x t) (length lent) dock t ≡ Err r → Promised x t lent dock (Err r) t lent

@@ -35,9 +35,8 @@ fn judge_rest(table: &[u64], words: usize, dock: u64) -> Judged
     requires { header_ok table.now ≡ true }
     ensures { result ≡ judged false words dock table.now }
 {
-    let Some(sound) = sound::check(table) else {
-        return Err(Refusal::NotSound);
-    };
+    let sound = sound::check(table).ok_or(Refusal::NotSound)?;
+    // A number that is no dock is refused here; `Dock::from` is total, as the definitions' dock_of and barred are.
     if 1 < dock {
         return Err(Refusal::NoDock);
     }

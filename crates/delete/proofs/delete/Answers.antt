@@ -5,11 +5,10 @@ use Rattle.list_laws.proofs.Tools.{handed-on}
 use Rattle.model.specs.declared.Refusal.TheVariants.{KeyAbsent}
 use Rattle.model.specs.Table.{Words}
 use Rattle.model.specs.Writes.{delete_settled, deletion}
-use Rattle.model.proofs.Numbers.{refused-by}
 use Rattle.two_laws.proofs.SearchTwo.{sound-head}
 use Rattle.orders.specs.Desk.{desk}
 use Rattle.write.proofs.Judging.{judged-ready}
-use Rattle.write.proofs.Ending.{Begun, refused-call, judge-refuses, begun-allows, mend-room, mended-table, mended-settled, mended-collection, rest-room, finish-room, done-call}
+use Rattle.write.proofs.Ending.{Begun, refused-for, judge-refuses, begun-allows, mend-room, mended-table, mended-settled, mended-collection, rest-room, finish-room, done-call}
 use Rattle.delete.proofs.Deleting.{tree-sound, delete-refused, begun}
 use Rattle.delete.proofs.delete.Goals.{After-new}
 use Rattle.delete.proofs.delete.Goals as goal
@@ -34,8 +33,8 @@ has_key-requires c = tree-sound _ c.args.key _ _ _ _ (sym c.judge.ensures ∙ c.
 pub returns-then-not-has_key : goal.returns-then-not-has_key
 returns-then-not-has_key c =
     let n = delete-refused _ _ _ _ _ _ (sym c.judge.ensures ∙ c.in_ok-leftover.was) c.root_of.ensures c.has_key.ensures c.if-not-has_key.true in
-    let all = refused-call (deletion c.args.collection c.args.key) _ _ _ 9 (λ z. omega arith) n in
-    record { value = sym (refused-by KeyAbsent) ∙ all.0; table_after = all.1.0; list_after = all.1.1 }
+    let all = refused-for (deletion c.args.collection c.args.key) _ _ _ KeyAbsent (λ z. omega arith) n in
+    record { value = all.0; table_after = all.1.0; list_after = all.1.1 }
 
 pub mend-requires : goal.mend-requires
 mend-requires c =

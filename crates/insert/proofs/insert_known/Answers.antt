@@ -25,7 +25,7 @@ passed c = let a = c.args in let q = c.requires in
     handed a.x.collection a.x.key a.x.recording a.x.access q.found q.table_value q.dock_bound q.dock_in_bounds
 
 running : (c : After-new) → let a = c.args in c.full_run-run.result ≡ run_of a.x.collection (repaired a.table.now) a.x.key
-running c = run-later (passed c) c.parent_of.ensures c.unwrap_or-parent.ensures c.root_of-root.ensures c.full_run-run.ensures
+running c = run-later (passed c) c.parent_of.ensures c.root_of-root.ensures c.full_run-run.ensures
 
 accepts : (c : After-new) → let a = c.args in refusal (insertion a.x.collection a.x.key a.x.recording a.x.access) (length a.list.now) a.dock a.table.now ≡ 0
 accepts c = passed-zero _ (insert-number (passed c) (running c) c.may_insert_known.ensures ∙ c.in_ok-may_insert_known.was)
@@ -45,7 +45,7 @@ returns-in_err-may_insert_known c =
     let a = c.args in
     let q = c.requires in
     let h = handed a.x.collection a.x.key a.x.recording a.x.access q.found q.table_value q.dock_bound q.dock_in_bounds in
-    let e = insert-number h (run-later h c.parent_of.ensures c.unwrap_or-parent.ensures c.root_of-root.ensures c.full_run-run.ensures) c.may_insert_known.ensures ∙ c.in_err-may_insert_known.was in
+    let e = insert-number h (run-later h c.parent_of.ensures c.root_of-root.ensures c.full_run-run.ensures) c.may_insert_known.ensures ∙ c.in_err-may_insert_known.was in
     let all = refused-as (insertion a.x.collection a.x.key a.x.recording a.x.access) _ _ _ _ (failed-some _ e) (failed-with _ e) in
     record { result_value = rw (handed-on c.from_residual.ensures.1) all.0; table_after = all.1.0; list_after = all.1.1; counts = rw (handed-on c.from_residual.ensures.1) tt; marked_2 = q.marked }
 

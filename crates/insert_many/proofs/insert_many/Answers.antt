@@ -12,8 +12,8 @@ returns-then-pairs-lt2 c = let a = c.args in
 
 -- the table is ready for the call of any pair
 pub take_all-requires : goal.take_all-requires
-take_all-requires c = let p = judged-ready (insertion_of c.args.collection (slot 0 0)) _ _ _ _ (sym c.judge.ensures ∙ c.in-Ok.is) in let f = p.found in
-    record { found = record { is-sound = f.is-sound; leftover-is = f.leftover-is; reached-are = f.reached-are }; table_value = p.collection; dock_bound = p.dock-ok }
+take_all-requires c = let p = judged-ready (insertion_of c.args.collection (slot 0 0)) _ _ _ _ (sym c.judge.ensures ∙ c.in-Ok.is) in
+    record { found = p.found; table_value = p.collection; dock_bound = p.dock-ok }
 
 pub returns-in-Err : goal.returns-in-Err
 returns-in-Err c = let a = c.args in

@@ -1,21 +1,15 @@
 -- `isrc::is_code` meets its contract.
-use Rattle.std.proofs.Common.{◌≡◌, true, false, sym, ap, refl, ◌∙◌, ◌&&◌, List, ℕ, Bool, length, take, drop}
+use Rattle.std.proofs.Common.{◌≡◌, true, false, ap, refl, ◌∙◌, ◌&&◌, List, ℕ, Bool, length, take, drop}
 use borrow.Author.Tests.{eq-eqb, ne_eqb}
 use lib.Dec.{eqb}
 use Rattle.model.specs.Codes.{is_code}
 use Rattle.model.specs.Lists.{all}
 use Rattle.isrc.specs.Kinds.{test}
 use Rattle.isrc.specs.declared.Kind.TheVariants.{Letter, LetterOrDigit, Digit}
+use Rattle.list_laws.proofs.Tools.{and-then, and-else}
 use Rattle.isrc.proofs.Codes.{rest}
 use Rattle.isrc.proofs.is_code.Goals.{Joined-all_of, then-text-eq12, else-text-eq12, then-all_of, else-all_of}
 use Rattle.isrc.proofs.is_code.Goals as goal
-
--- a test joined to those before it, if they were passed, and if not
-passed : (a b v : Bool) → a ≡ true → v ≡ b → v ≡ (a && b)
-passed a b v e q = q ∙ sym (ap (λ x. x && b) e)
-
-failed : (a b v : Bool) → a ≡ false → v ≡ a → v ≡ (a && b)
-failed a b v e q = q ∙ e ∙ sym (ap (λ x. x && b) e)
 
 grouped : (a b d g : Bool) → (((a && b) && d) && g) ≡ (a && b && d && g)
 grouped true true d g = refl
@@ -34,19 +28,19 @@ whole : (c : Joined-all_of) (x : Bool) → x ≡ (c.if-all_of.value && all (test
 whole c x e =
     parts c.args.text.now _ _ x
     (elim c.if-text-eq12.branch [
-      | then-text-eq12 v ↦ passed _ _ _ (eq-eqb _ _ v.if-text-eq12.true) (v.value-is ∙ v.all_of.ensures)
-      | else-text-eq12 v ↦ failed _ _ _ (ne_eqb _ _ v.if-text-eq12.false) v.value-is
+      | then-text-eq12 v ↦ and-then _ _ _ _ refl (eq-eqb _ _ v.if-text-eq12.true) (v.value-is ∙ v.all_of.ensures)
+      | else-text-eq12 v ↦ v.value-is ∙ and-else _ _ _ refl (ne_eqb _ _ v.if-text-eq12.false)
     ])
     (elim c.if-all_of.branch [
-      | then-all_of w ↦ passed _ _ _ w.if-all_of.true (w.value-is ∙ w.all_of-then-all_of.ensures)
-      | else-all_of w ↦ failed _ _ _ w.if-all_of.false w.value-is
+      | then-all_of w ↦ and-then _ _ _ _ refl w.if-all_of.true (w.value-is ∙ w.all_of-then-all_of.ensures)
+      | else-all_of w ↦ w.value-is ∙ and-else _ _ _ refl w.if-all_of.false
     ])
     e
 
 pub returns-then-all_of-2 : goal.returns-then-all_of-2
 returns-then-all_of-2 c =
     whole (goal.at.returns-then-all_of-2 c).Joined-all_of _
-    (passed _ _ _ c.if-all_of-2.true (c.all_of-then-all_of-2.ensures ∙ ap (all (test Digit)) (rest 5 c.args.text.now)))
+    (and-then _ _ _ _ refl c.if-all_of-2.true (c.all_of-then-all_of-2.ensures ∙ ap (all (test Digit)) (rest 5 c.args.text.now)))
 
 pub returns-else-all_of-2 : goal.returns-else-all_of-2
-returns-else-all_of-2 c = whole (goal.at.returns-else-all_of-2 c).Joined-all_of _ (failed _ _ _ c.if-all_of-2.false refl)
+returns-else-all_of-2 c = whole (goal.at.returns-else-all_of-2 c).Joined-all_of _ (and-else _ _ _ refl c.if-all_of-2.false)

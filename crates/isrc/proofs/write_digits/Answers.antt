@@ -1,17 +1,13 @@
 -- `isrc::write_digits` meets its contract.
 use mathlib.Core.Path.{◌≡◌, refl, ◌∙◌}
-use mathlib.Core.List.{List, ◌∷◌, ◌++◌, map, append_assoc, map-append}
+use mathlib.Core.List.{List, ◌++◌, map, append_assoc, map-append}
 use Prim.Native.Nat.{ℕ, zero, suc, ◌/◌, ◌%◌, ◌≤◌, ◌<◌, ◌-◌}
-use native.Mathlib.Nat.{le_refl}
 use native.Mathlib.Omega.{arith}
 use lib.ListN.{length, drop, set}
-use lib.Seq.{lt-length-set, drop-cons, get_or-set_same, drop-set-lt}
+use native.Mathlib.Numerals.{add-one}
+use Rattle.std.proofs.lemmas.List.{drop-set}
 use Rattle.model.specs.Codes.{character, digits}
 use Rattle.isrc.proofs.write_digits.Goals as goal
-
-drop-set : (text : List ℕ) (i v : ℕ) → i < length text → drop i (set text i v) ≡ v ∷ drop (suc i) text
-drop-set text i v l =
-    rw (drop-cons (set text i v) i 0 (lt-length-set text i v l), get_or-set_same text i v 0 l, drop-set-lt (suc i) text i v (le_refl (suc i)))
 
 -- the last of the i digits that are still to be written goes to place i - 1
 write : (base left i v : ℕ) (text : List ℕ) → 0 < i → i ≤ length text → v ≡ character (left % base) → map character (digits base (i - 1) (left / base)) ++ drop (i - 1) (set text (i - 1) v) ≡ map character (digits base i left) ++ drop i text
@@ -19,7 +15,7 @@ unfolding digits
 write base left zero v text h l e = absurd (omega arith)
 write base left (suc i) v text h l e =
     let p : suc i - 1 ≡ i = omega arith in
-    rw (p, drop-set text i v l, map-append, append_assoc, e)
+    rw (p, drop-set text i v l, add-one i, map-append, append_assoc, e)
 
 -- with no digit left the text is written
 done : (base left i : ℕ) (text : List ℕ) → i ≤ 0 → text ≡ map character (digits base i left) ++ drop i text

@@ -1,4 +1,4 @@
--- `judge::image_ok` meets its contract, tree by tree.
+-- `judge::image_ok` meets its contract, tree by tree. Each answer names what was read by itself: the facts of its place have a type of their own, which no one lemma takes for all.
 use mathlib.Core.Path.{sym, ◌∙◌}
 use borrow.Author.Rules.{rules}
 use Rattle.two_laws.proofs.SameTwo.{settled-sound}

@@ -6,12 +6,12 @@ use Rattle.keeping.proofs.Nodes.{looking-start, looking-step, looking-stop, look
 use Rattle.keeping.proofs.mark_node.Goals as goal
 
 pub returns-then-x-ne0 : goal.returns-then-x-ne0
-returns-then-x-ne0 c = let a = c.args in let r = c.read-x in looking-none a.table.now a.order.now a.j r.result r.ensures a.marks.now c.if-x-ne0.true
+returns-then-x-ne0 c = let a = c.args in let r = c.read-x in looking-none a.entered.table.now a.entered.order.now a.j r.result r.ensures a.marks.now c.if-x-ne0.true
 
 pub loop-i-init : goal.loop-i-init
 loop-i-init c = let a = c.args in
     let r = c.read-x in
-    (r.ensures, looking-start a.table.now a.order.now a.j r.result r.ensures a.marks.now c.if-x-ne0.false)
+    (r.ensures, looking-start a.entered.table.now a.entered.order.now a.j r.result r.ensures a.marks.now c.if-x-ne0.false)
 
 pub returns-then-pointer-eq0 : goal.returns-then-pointer-eq0
 returns-then-pointer-eq0 c = let l = c.loop-i.invariant in looking-stop _ _ _ _ l.0 _ _ _ _ _ l.1 c.loop-i-test.true c.if-pointer-eq0.true

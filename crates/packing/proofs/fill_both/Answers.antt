@@ -6,11 +6,11 @@ use borrow.Author.Rules.{rules}
 use Rattle.packing.proofs.fill_both.Goals as goal
 
 pub fill-one-requires : goal.fill-one-requires
-fill-one-requires g c = let a = c.args in (c.requires.0, c.requires.1, first-fits a.collections a.pairs.now a.loans.now a.words.now g.top c.requires.2)
+fill-one-requires g c = let a = c.args in (c.requires.0, c.requires.1, first-fits a.maps.collections a.maps.pairs.now a.maps.loans.now a.words.now g.top c.requires.2)
 
-pub returns-then-collections-eq1 : goal.returns-then-collections-eq1
-returns-then-collections-eq1 g c = let a = c.args in
-    let f = c.fill-one in let both = alone a.collections a.pairs.now a.loans.now a.words.now g.top c.requires.2 f.new.words f.result f.ensures.words_after f.ensures.value c.if-collections-eq1.true in
+pub returns-then-maps-eq1 : goal.returns-then-maps-eq1
+returns-then-maps-eq1 g c = let a = c.args in
+    let f = c.fill-one in let both = alone a.maps.collections a.maps.pairs.now a.maps.loans.now a.words.now g.top c.requires.2 f.new.words f.result f.ensures.words_after f.ensures.value c.if-maps-eq1.true in
     record { words_after = both.0; one_value = both.1 }
 
 pub fill-two-requires : goal.fill-two-requires
@@ -18,11 +18,11 @@ fill-two-requires g c = let a = c.args in
     let f = c.fill-one in
     let w = f.new.words in
     let u : length w ≡ length a.words.now = search rules in
-    (u ∙ c.requires.0, c.requires.1, second-fits a.collections a.pairs.now a.loans.now a.words.now g.top c.requires.2 w f.result f.ensures.words_after f.ensures.value c.if-collections-eq1.false)
+    (u ∙ c.requires.0, c.requires.1, second-fits a.maps.collections a.maps.pairs.now a.maps.loans.now a.words.now g.top c.requires.2 w f.result f.ensures.words_after f.ensures.value c.if-maps-eq1.false)
 
 pub returns : goal.returns
 returns g c = let a = c.args in
     let f = c.fill-one in
     let h = c.fill-two in let both =
-    beside a.collections a.pairs.now a.loans.now a.words.now g.top c.requires.2 f.new.words f.result f.ensures.words_after f.ensures.value c.if-collections-eq1.false h.new.words h.result h.ensures.words_after h.ensures.value in
+    beside a.maps.collections a.maps.pairs.now a.maps.loans.now a.words.now g.top c.requires.2 f.new.words f.result f.ensures.words_after f.ensures.value c.if-maps-eq1.false h.new.words h.result h.ensures.words_after h.ensures.value in
     record { words_after = both.0; one_value = both.1 }

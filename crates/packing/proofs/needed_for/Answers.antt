@@ -1,6 +1,7 @@
 -- `packing::needed_for` meets its contract.
-use Rattle.packing.proofs.Fits.{needed-many}
+use mathlib.Core.Path.{◌∙◌}
+use Rattle.packing.proofs.Fits.{needed-capped}
 use Rattle.packing.proofs.needed_for.Goals as goal
 
-pub returns-then-pairs-gt16777216 : goal.returns-then-pairs-gt16777216
-returns-then-pairs-gt16777216 c = needed-many _ c.if-pairs-gt16777216.true
+pub returns : goal.returns
+returns c = c.min-2.ensures ∙ needed-capped _ _ _ c.min.ensures c.needed.ensures

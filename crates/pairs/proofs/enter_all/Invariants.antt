@@ -11,5 +11,5 @@ use Rattle.pairs.proofs.enter_all.Given as goal
 abbrev pub invariant-loop-pair : goal.invariant-loop-pair
 invariant-loop-pair l = record {
   pairs : chunks_exact_size l.pair-iterator ≡ 2;
-  entering : Entering (in_pass l.low l.high) (entered_all (in_pass l.low l.high) (map recording (slots_of l.pairs)) l.initial.cells) (chunks_exact_rest l.pair-iterator) l.cells;
+  entering : Entering (in_pass l.pass.low l.pass.high) (entered_all (in_pass l.pass.low l.pass.high) (map recording (slots_of l.pairs)) l.initial.cells) (chunks_exact_rest l.pair-iterator) l.cells;
 }

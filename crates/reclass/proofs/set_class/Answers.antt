@@ -5,10 +5,9 @@ use Rattle.orders.specs.Desk.{desk}
 use Rattle.list_laws.proofs.Tools.{handed-on}
 use Rattle.model.specs.declared.Refusal.TheVariants.{KeyAbsent, BadClass}
 use Rattle.model.specs.Writes.{class_change}
-use Rattle.model.proofs.Numbers.{refused-by}
 use Rattle.two_laws.proofs.SearchTwo.{sound-head}
 use Rattle.write.proofs.Judging.{judged-ready}
-use Rattle.write.proofs.Ending.{Begun, refused-call, judge-refuses, mend-room, mended-collection, finish-room, done-call}
+use Rattle.write.proofs.Ending.{Begun, refused-for, judge-refuses, mend-room, mended-collection, finish-room, done-call}
 use Rattle.reclass.proofs.Reclassing.{tree-sound, class-refused, key-refused, classed, begun, class-low, mended-header, leaf-plain, leaf-place, class-room, class-stored}
 use Rattle.reclass.proofs.set_class.Goals.{After-new}
 use Rattle.reclass.proofs.set_class.Goals as goal
@@ -26,8 +25,8 @@ returns-in_err-leftover c =
 pub returns-then-not-class_ok : goal.returns-then-not-class_ok
 returns-then-not-class_ok c =
     let n = class-refused c.args.collection c.args.key _ _ _ _ _ (sym c.judge.ensures ∙ c.in_ok-leftover.was) c.class_ok.ensures c.if-not-class_ok.true in
-    let all = refused-call (class_change c.args.collection c.args.key c.args.access) _ _ _ 14 (λ z. omega arith) n in
-    record { value = sym (refused-by BadClass) ∙ all.0; table_after = all.1.0; list_after = all.1.1 }
+    let all = refused-for (class_change c.args.collection c.args.key c.args.access) _ _ _ BadClass (λ z. omega arith) n in
+    record { value = all.0; table_after = all.1.0; list_after = all.1.1 }
 
 pub root_of-requires : goal.root_of-requires
 root_of-requires c =
@@ -40,8 +39,8 @@ has_key-requires c = tree-sound _ c.args.key _ _ _ _ _ (sym c.judge.ensures ∙ 
 pub returns-then-not-has_key : goal.returns-then-not-has_key
 returns-then-not-has_key c =
     let n = key-refused _ _ _ _ _ _ _ (sym c.judge.ensures ∙ c.in_ok-leftover.was) c.class_ok.ensures c.if-not-class_ok.false c.root_of.ensures c.has_key.ensures c.if-not-has_key.true in
-    let all = refused-call (class_change c.args.collection c.args.key c.args.access) _ _ _ 9 (λ z. omega arith) n in
-    record { value = sym (refused-by KeyAbsent) ∙ all.0; table_after = all.1.0; list_after = all.1.1 }
+    let all = refused-for (class_change c.args.collection c.args.key c.args.access) _ _ _ KeyAbsent (λ z. omega arith) n in
+    record { value = all.0; table_after = all.1.0; list_after = all.1.1 }
 
 pub mend-requires : goal.mend-requires
 mend-requires c =

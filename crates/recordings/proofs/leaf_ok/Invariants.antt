@@ -6,4 +6,4 @@ use Rattle.recordings.specs.Marked.{kept_in}
 use Rattle.recordings.proofs.leaf_ok.Given as goal
 
 abbrev pub invariant-loop-i : goal.invariant-loop-i
-invariant-loop-i l = all pair_ok (kept_of l.x.sibling l.bound (shown_from l.before l.x.slots l.i)) ≡ all pair_ok (kept_in l.x l.bound)
+invariant-loop-i l = all pair_ok (kept_of l.x.node.sibling l.x.bound (shown_from l.before l.x.node.slots l.i)) ≡ all pair_ok (kept_in l.x)

@@ -1,17 +1,17 @@
 -- `salvage::enter_nodes` meets its contract.
 use native.Mathlib.Omega.{arith}
 use borrow.Author.Rules.{rules}
-use Rattle.salvage.proofs.Entering.{words-some, first-ready, second-ready, both-toured}
+use Rattle.salvage.proofs.Entering.{header-size, first-ready, second-ready, both-toured}
 use Rattle.salvage.proofs.enter_nodes.Goals as goal
 
 pub bounds-table-1 : goal.bounds-table-1
-bounds-table-1 c = let h = words-some _ c.requires in omega (arith, h)
+bounds-table-1 c = let h = header-size _ c.requires in omega (arith, h)
 
 pub tour-first-requires : goal.tour-first-requires
 tour-first-requires c = first-ready _ _ c.requires c.told-order
 
 pub bounds-table-3 : goal.bounds-table-3
-bounds-table-3 c = let h = words-some _ c.requires in omega (arith, h)
+bounds-table-3 c = let h = header-size _ c.requires in omega (arith, h)
 
 pub tour-all-requires : goal.tour-all-requires
 tour-all-requires c = let a = c.args in

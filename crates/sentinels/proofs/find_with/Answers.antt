@@ -1,9 +1,9 @@
 -- `sentinels::find_with` meets its contract.
 use mathlib.Core.Path.{refl, sym, ◌∙◌}
 use Rattle.list_laws.proofs.Tools.{handed-on}
-use Rattle.search.proofs.Standing.{got-none, got-some}
-use Rattle.sentinels.proofs.Refusing.{found-there}
-use Rattle.sentinels.proofs.Searching.{with-bad, with-wrong, long, with-lost, leaf-on, leaf-has, leaf-fits, with-held, with-whole}
+use Rattle.search.proofs.Standing.{got-none}
+use Rattle.node.proofs.Roots.{found-there}
+use Rattle.sentinels.proofs.Searching.{with-bad, with-wrong, with-lost, leaf-came, with-held, with-whole}
 use Rattle.sentinels.proofs.find_with.Goals as goal
 
 pub returns-in_err-root : goal.returns-in_err-root
@@ -31,34 +31,37 @@ pub words_of-requires-clause-le_n : goal.words_of-requires-clause-le_n
 words_of-requires-clause-le_n c = let a = c.args in
     let f = sym c.find_root.ensures ∙ c.in_ok-root.was in
     let g = sym c.fits.ensures ∙ c.in_ok-fits.was in
-    let on = leaf-on a.collection a.words.now a.table.now a.key _ f g _ (sym c.leaf_for.ensures ∙ got-some _ (sym c.ok_or.ensures.value ∙ c.in_ok-leaf.was)) in
-    (leaf-fits a.table.now _ (found-there _ _ f).0 on a.words.now (long a.collection a.words.now a.table.now a.key _ f g)).0
+    (leaf-came a.collection a.words.now a.table.now a.key _ f g c.leaf_for.ensures c.ok_or.ensures.value c.in_ok-leaf.was).fits.0
 
 pub words_of-requires-clause-n_in_bounds : goal.words_of-requires-clause-n_in_bounds
 words_of-requires-clause-n_in_bounds c = let a = c.args in
     let f = sym c.find_root.ensures ∙ c.in_ok-root.was in
     let g = sym c.fits.ensures ∙ c.in_ok-fits.was in
-    let on = leaf-on a.collection a.words.now a.table.now a.key _ f g _ (sym c.leaf_for.ensures ∙ got-some _ (sym c.ok_or.ensures.value ∙ c.in_ok-leaf.was)) in
-    (leaf-fits a.table.now _ (found-there _ _ f).0 on a.words.now (long a.collection a.words.now a.table.now a.key _ f g)).1
+    (leaf-came a.collection a.words.now a.table.now a.key _ f g c.leaf_for.ensures c.ok_or.ensures.value c.in_ok-leaf.was).fits.1
 
 pub on_line-requires : goal.on_line-requires
 on_line-requires c = let a = c.args in
     let f = sym c.find_root.ensures ∙ c.in_ok-root.was in
-    let l = sym c.leaf_for.ensures ∙ got-some _ (sym c.ok_or.ensures.value ∙ c.in_ok-leaf.was) in
-    leaf-has a.table.now _ (found-there _ _ f).0 (leaf-on a.collection a.words.now a.table.now a.key _ f (sym c.fits.ensures ∙ c.in_ok-fits.was) _ l)
+    let g = sym c.fits.ensures ∙ c.in_ok-fits.was in
+    (leaf-came a.collection a.words.now a.table.now a.key _ f g c.leaf_for.ensures c.ok_or.ensures.value c.in_ok-leaf.was).has
 
 pub returns-in-Some : goal.returns-in-Some
 returns-in-Some c = let a = c.args in
-    with-held a.collection a.words.now a.table.now a.key _ (sym c.find_root.ensures ∙ c.in_ok-root.was) (sym c.fits.ensures ∙ c.in_ok-fits.was)
-    _ (sym c.leaf_for.ensures ∙ got-some _ (sym c.ok_or.ensures.value ∙ c.in_ok-leaf.was)) _ _ (rw c.words_of.ensures at (sym c.on_line.ensures ∙ c.in-Some.is)) c.found.ensures
+    let f = sym c.find_root.ensures ∙ c.in_ok-root.was in
+    let g = sym c.fits.ensures ∙ c.in_ok-fits.was in
+    let came = leaf-came a.collection a.words.now a.table.now a.key _ f g c.leaf_for.ensures c.ok_or.ensures.value c.in_ok-leaf.was in
+    with-held a.collection a.words.now a.table.now a.key _ f g _ came.there _ _ (rw c.words_of.ensures at (sym c.on_line.ensures ∙ c.in-Some.is)) c.found.ensures
 
 pub whole_leaf-requires : goal.whole_leaf-requires
 whole_leaf-requires c = let a = c.args in
     let f = sym c.find_root.ensures ∙ c.in_ok-root.was in
-    let l = sym c.leaf_for.ensures ∙ got-some _ (sym c.ok_or.ensures.value ∙ c.in_ok-leaf.was) in
-    record { table_value = (found-there _ _ f).0; m_value = leaf-on a.collection a.words.now a.table.now a.key _ f (sym c.fits.ensures ∙ c.in_ok-fits.was) _ l }
+    let g = sym c.fits.ensures ∙ c.in_ok-fits.was in
+    let came = leaf-came a.collection a.words.now a.table.now a.key _ f g c.leaf_for.ensures c.ok_or.ensures.value c.in_ok-leaf.was in
+    record { table_value = (found-there _ _ f).0; m_value = came.on }
 
 pub returns : goal.returns
 returns c = let a = c.args in
-    with-whole a.collection a.words.now a.table.now a.key _ (sym c.find_root.ensures ∙ c.in_ok-root.was) (sym c.fits.ensures ∙ c.in_ok-fits.was)
-    _ (sym c.leaf_for.ensures ∙ got-some _ (sym c.ok_or.ensures.value ∙ c.in_ok-leaf.was)) _ (rw c.words_of.ensures at (sym c.on_line.ensures ∙ c.in_default.is)) c.whole_leaf.ensures
+    let f = sym c.find_root.ensures ∙ c.in_ok-root.was in
+    let g = sym c.fits.ensures ∙ c.in_ok-fits.was in
+    let came = leaf-came a.collection a.words.now a.table.now a.key _ f g c.leaf_for.ensures c.ok_or.ensures.value c.in_ok-leaf.was in
+    with-whole a.collection a.words.now a.table.now a.key _ f g _ came.there _ (rw c.words_of.ensures at (sym c.on_line.ensures ∙ c.in_default.is)) c.whole_leaf.ensures

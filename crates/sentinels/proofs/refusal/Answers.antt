@@ -2,8 +2,8 @@
 use mathlib.Core.Path.{ap, sym, ◌∙◌}
 use Rattle.list_laws.proofs.Tools.{handed-on}
 use Rattle.model.specs.Results.{passed}
-use Rattle.node.proofs.Roots.{found-err}
-use Rattle.sentinels.proofs.Refusing.{rest-number, collection-number, found-there, passed-on}
+use Rattle.node.proofs.Roots.{found-there, found-err}
+use Rattle.sentinels.proofs.Refusing.{rest-number, collection-number, passed-on}
 use Rattle.sentinels.proofs.refusal.Goals as goal
 
 pub returns-in_err-find_root : goal.returns-in_err-find_root

@@ -1,18 +1,16 @@
 -- `short_scripts::count_bad` meets its contract.
-use mathlib.Core.Path.{◌∙◌}
-use native.Mathlib.Omega.{arith}
-use Rattle.short_scripts.proofs.Counting.{among-first, among-all, among-next}
+use Rattle.std.proofs.Common.{rules, tests, arith, refl, ◌+◌, ◌∙◌}
+use Rattle.std.proofs.lemmas.Iterator.{YieldsList-from_range}
+use Rattle.std.proofs.lemmas.Iterator.Consumers.{YieldsList-from_filter, count_from_yields_List, YieldsList-at}
+use Rattle.model.specs.Orders.{carried_out}
+use Rattle.short_scripts.specs.Held.{pairs}
+use Rattle.short_scripts.specs.Met.{is_bad}
+use Rattle.short_scripts.proofs.Counting.{counted}
 use Rattle.short_scripts.proofs.count_bad.Goals as goal
-use Rattle.short_scripts.proofs.count_bad.Goals.{then-is_bad, else-is_bad}
-
-pub loop-c-init : goal.loop-c-init
-loop-c-init c = (omega arith, among-first _ _ _ _ _)
-
-pub loop-c-preserved : goal.loop-c-preserved
-loop-c-preserved c = let l = c.loop-c in let j = c.if-is_bad in elim j.branch [
-  | then-is_bad w ↦ (omega arith, among-next _ _ _ _ l.c _ l.bad j.bad c.is_bad.result _ (omega arith) c.is_bad.ensures c.cut_at.ensures (rw w.if-is_bad.true w.bad-is) ∙ l.invariant.1)
-  | else-is_bad w ↦ (omega arith, among-next _ _ _ _ l.c _ l.bad j.bad c.is_bad.result _ (omega arith) c.is_bad.ensures c.cut_at.ensures (rw w.if-is_bad.false (omega arith)) ∙ l.invariant.1)
-]
 
 pub returns : goal.returns
-returns c = let l = c.loop-c in among-all _ _ _ _ l.c c.args.count l.bad (omega arith) l.invariant.1
+returns c = let a = c.args in
+    count_from_yields_List c.filter.result c.count.result c.count.ensures.ran
+    (YieldsList-from_filter _ (λ k. is_bad (pairs a.old) (pairs a.new) (carried_out k a.list.now a.table)) (YieldsList-at c.filter.ensures.source (YieldsList-from_range 0 (a.count + 1) (a.count + 1) refl (omega arith)))
+    c.filter.ensures.closure (λ x r q k. search (rules, tests)))
+    ∙ counted (pairs a.old) (pairs a.new) a.table a.list.now 0 (a.count + 1)

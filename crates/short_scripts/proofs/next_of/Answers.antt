@@ -1,8 +1,8 @@
 -- `short_scripts::next_of` meets its contract.
 use Rattle.std.proofs.Common.{rules, tests, arith, refl, sym, ap, ℕ, Bool, cond, Option, Some, None, length, ◌∙◌, ◌≡◌, ◌&&◌}
 use Rattle.std.proofs.lemmas.Iterator.{YieldsList-from_range}
+use Rattle.std.proofs.lemmas.Iterator.Adapters.{option_map_id}
 use Rattle.std.proofs.lemmas.Iterator.Search.{find_from_yields_List}
-use Rattle.std.specs.Option.{option_map}
 use Rattle.std.specs.List.{find, range_with_len}
 use lib.Dec.{ltb}
 use Rattle.model.specs.Search.{first_above}
@@ -10,10 +10,6 @@ use Rattle.model.specs.Refusals.{has_key}
 use Rattle.short_scripts.specs.Held.{Held, pairs}
 use Rattle.short_scripts.proofs.Keys.{next-held, next-none}
 use Rattle.short_scripts.proofs.next_of.Goals as goal
-
-map-same : (r : Option ℕ) → r ≡ option_map (λ (x : ℕ). x) r
-map-same (Some x) = refl
-map-same None = refl
 
 module _ (h : Held) (q : ℕ) (n : length h ≡ 3) where
   test : ℕ → Bool
@@ -35,7 +31,7 @@ module _ (h : Held) (q : ℕ) (n : length h ≡ 3) where
 pub returns : goal.returns
 returns c =
     let a = c.args in
-    map-same c.find.result
+    sym (option_map_id c.find.result)
     ∙ find_from_yields_List (λ (k : ℕ). ltb a.key k && has_key k (pairs a.held)) _ _ c.find.result c.find.ensures.ran
     (YieldsList-from_range 1 4 _ refl refl) (λ x b q k. search (rules, tests))
     ∙ found a.held a.key (search rules)

@@ -1,19 +1,14 @@
 -- `short_scripts::run` meets its contract.
 use native.Mathlib.Omega.{arith}
-use borrow.Author.Rules.{rules}
-use Rattle.model.specs.Table.{at}
-use Rattle.short_scripts.proofs.Words.{actions-cut, form-says}
+use Rattle.short_scripts.proofs.Words.{form-says}
 use Rattle.short_scripts.proofs.Running.{running-start, running-next, running-end}
 use Rattle.short_scripts.proofs.run.Goals as goal
 
-pub overflow_add-actions : goal.overflow_add-actions
-overflow_add-actions c = omega (arith, (form-says c.args.words c.requires).0)
-
-pub slice_bounds-actions-end : goal.slice_bounds-actions-end
-slice_bounds-actions-end c = let h = (form-says c.args.words c.requires).0 in search rules
+pub actions_in-actions-requires : goal.actions_in-actions-requires
+actions_in-actions-requires c = (form-says c.args.words c.requires).0
 
 pub loop-action-init : goal.loop-action-init
-loop-action-init c = rw (actions-cut c.args.words (at c.args.words 0)) (running-start c.args.words c.first_table-table.result c.requires c.first_table-table.ensures)
+loop-action-init c = rw c.actions_in-actions.ensures (running-start c.args.words c.first_table-table.result c.requires c.first_table-table.ensures)
 
 pub act-met-requires : goal.act-met-requires
 act-met-requires c = let r = c.loop-action.invariant in record { table_value = r.fine; table_value_2 = r.map-is }
@@ -28,4 +23,4 @@ pub loop-action-preserved : goal.loop-action-preserved
 loop-action-preserved c = let a = c.act-met in running-next c.loop-action.invariant a.result a.new.held a.new.table (omega arith) a.ensures.acts a.ensures.table_after
 
 pub returns : goal.returns
-returns c = rw (actions-cut c.args.words (at c.args.words 0)) at (running-end c.loop-action.invariant (omega arith))
+returns c = rw c.actions_in-actions.ensures at (running-end c.loop-action.invariant (omega arith))

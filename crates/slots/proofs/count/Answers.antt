@@ -1,16 +1,18 @@
--- `slots::count` meets its contract. The loop keeps that i and the slots in use from i on make the whole.
-use Rattle.std.proofs.Common.{arith, List, ◌+◌, length}
-use Rattle.model.specs.Slots.{Slot}
-use Rattle.slots.proofs.Scans.{scan-past, scan-stop, scan-more}
+-- `slots::count` meets its contract.
+use Rattle.std.proofs.Common.{rules, tests, refl, sym, ap, ℕ, Option, eqb, ◌+◌, ◌*◌, ◌∙◌}
+use Rattle.std.proofs.lemmas.Iterator.{YieldsList-from_range}
+use Rattle.std.proofs.lemmas.Iterator.Search.{find_from_yields_List}
+use Rattle.std.specs.Prelude.{unwrap_or}
+use Rattle.model.specs.Table.{at}
+use Rattle.std.proofs.lemmas.Iterator.Adapters.{option_map_id}
+use Rattle.slots.proofs.Places.{count-found}
 use Rattle.slots.proofs.count.Goals as goal
 
-pub returns-then-slots-i-eq0-clause-value : goal.returns-then-slots-i-eq0-clause-value
-returns-then-slots-i-eq0-clause-value c = let l = c.loop-i in
-    omega (arith, scan-stop (λ (ss : List Slot). l.i + length ss) _ l.i l.invariant (omega arith) c.if-slots-i-eq0.true)
-
-pub loop-i-preserved : goal.loop-i-preserved
-loop-i-preserved c = let l = c.loop-i in
-    scan-more (λ (ss : List Slot). l.i + length ss) _ l.i l.invariant (omega arith) c.if-slots-i-eq0.false (omega arith)
-
 pub returns-clause-value : goal.returns-clause-value
-returns-clause-value c = let l = c.loop-i in omega (arith, scan-past (λ (ss : List Slot). l.i + length ss) _ l.i l.invariant (omega arith))
+returns-clause-value c = let a = c.args in
+    c.unwrap_or.ensures
+    ∙ ap (λ (r : Option ℕ). unwrap_or r 12) (
+    sym (option_map_id c.find.result)
+    ∙ find_from_yields_List (λ (i : ℕ). eqb (at a.slots (2 * i + 1)) 0) _ _ c.find.result c.find.ensures.ran (YieldsList-from_range 0 12 _ refl refl) (λ x b q k. search (rules, tests))
+    )
+    ∙ count-found a.slots (search rules)

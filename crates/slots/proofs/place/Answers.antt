@@ -1,26 +1,18 @@
--- `slots::place` meets its contract. The loop keeps that i and the place among the slots from i on make the whole.
-use Rattle.std.proofs.Common.{◌≡◌, arith, sym, List, ◌+◌, ◌∙◌}
-use Rattle.model.specs.Slots.{Slot}
-use Rattle.model.specs.Shifts.{place_of}
-use Rattle.slots.proofs.Scans.{scan-past, scan-stop, scan-more}
-use Rattle.slots.proofs.Places.{place-none, place-here, place-later}
+-- `slots::place` meets its contract.
+use Rattle.std.proofs.Common.{rules, tests, refl, sym, ap, ℕ, Option, eqb, leb, ◌+◌, ◌*◌, ◌||◌, ◌∙◌}
+use Rattle.std.proofs.lemmas.Iterator.{YieldsList-from_range}
+use Rattle.std.proofs.lemmas.Iterator.Search.{find_from_yields_List}
+use Rattle.std.specs.Prelude.{unwrap_or}
+use Rattle.model.specs.Table.{at}
+use Rattle.std.proofs.lemmas.Iterator.Adapters.{option_map_id}
+use Rattle.slots.proofs.Places.{key-found}
 use Rattle.slots.proofs.place.Goals as goal
-use Rattle.slots.proofs.place.Goals.{then-slots-i-eq0-via-then-slots-i-eq0, then-slots-i-eq0-via-else-slots-i-eq0+then-k-slots}
-
-pub returns-then-slots-i-eq0-clause-value : goal.returns-then-slots-i-eq0-clause-value
-returns-then-slots-i-eq0-clause-value c = let l = c.loop-i in
-    elim c.then-slots-i-eq0.branch [
-      | then-slots-i-eq0-via-then-slots-i-eq0 w ↦
-          sym (place-none _ _) ∙ scan-stop (λ (ss : List Slot). l.i + place_of c.args.k ss) _ l.i l.invariant (omega arith) w.if-slots-i-eq0.true
-      | then-slots-i-eq0-via-else-slots-i-eq0+then-k-slots w ↦
-          scan-more (λ (ss : List Slot). l.i + place_of c.args.k ss) _ l.i l.invariant (omega arith) w.if-slots-i-eq0.false (place-here _ _ _ _ _ w.if-k-slots.true)
-    ]
-
-pub loop-i-preserved : goal.loop-i-preserved
-loop-i-preserved c = let l = c.loop-i in
-    scan-more (λ (ss : List Slot). l.i + place_of c.args.k ss) _ l.i l.invariant (omega arith) c.if-slots-i-eq0.false (place-later _ _ _ _ _ c.if-k-slots.false)
 
 pub returns-clause-value : goal.returns-clause-value
-returns-clause-value c = let l = c.loop-i in
-    let i : 12 ≡ l.i = omega arith in
-    i ∙ sym (place-none _ _) ∙ scan-past (λ (ss : List Slot). l.i + place_of c.args.k ss) _ l.i l.invariant (omega arith)
+returns-clause-value c = let a = c.args in
+    c.unwrap_or.ensures
+    ∙ ap (λ (r : Option ℕ). unwrap_or r 12) (
+    sym (option_map_id c.find.result)
+    ∙ find_from_yields_List (λ (i : ℕ). eqb (at a.slots (2 * i + 1)) 0 || leb a.k (at a.slots (2 * i))) _ _ c.find.result c.find.ensures.ran (YieldsList-from_range 0 12 _ refl refl) (λ x b q k. search (rules, tests))
+    )
+    ∙ key-found a.slots a.k (search rules)

@@ -1,9 +1,8 @@
 -- `slots::scan` meets its contract. The loop keeps that the slots from i on say, after what was seen so far, what all of them do.
-use Rattle.std.proofs.Common.{◌≡◌, arith, ap, sym, List, ◌∙◌}
+use Rattle.std.proofs.Common.{arith, ap, sym, List, ◌∙◌}
 use Rattle.model.specs.Slots.{Slot, shown}
 use Rattle.slots.specs.declared.Seen.{Seen}
-use Rattle.slots.specs.Scan.{used_from}
-use Rattle.slots.proofs.Scans.{scan-stop, scan-more}
+use Rattle.slots.proofs.Scans.{scan-past, scan-stop, scan-more}
 use Rattle.slots.proofs.Kept.{seen_after, seen-none, seen-more}
 use Rattle.slots.proofs.scan.Goals as goal
 
@@ -21,8 +20,7 @@ loop-i-preserved c = let l = c.loop-i in
 
 pub returns : goal.returns
 returns c = let l = c.loop-i in
-    let i : l.i ≡ c.args.end = omega arith in
     let e =
     sym (seen-none _ l.way l.held l.before)
-    ∙ sym (ap (λ (ss : List Slot). seen_after c.args.key l.way l.held (shown l.before ss)) (ap (used_from _) i ∙ c.requires.end_value)) ∙ l.invariant in
+    ∙ scan-past (λ (ss : List Slot). seen_after c.args.key l.way l.held (shown l.before ss)) _ l.i l.invariant (omega arith) in
     record { way_value = ap (λ (s : Seen). s.way) e; held_value = ap (λ (s : Seen). s.held) e }

@@ -2,7 +2,8 @@
 use Rattle.std.proofs.Common.{◌≡◌, ℕ, ap₂, ◌==◌, nat_lt, ◌&&◌, ◌∙◌}
 use Rattle.model.specs.Table.{has_node}
 use Rattle.node.specs.Word.{word_of}
-use Rattle.sound.proofs.NodeLaws.{and-then, and-else, sibling-none, sibling-some}
+use Rattle.list_laws.proofs.Tools.{and-then, and-else}
+use Rattle.sound.proofs.NodeLaws.{sibling-none, sibling-some}
 use Rattle.sound.proofs.sibling_ok.Goals as goal
 use Rattle.sound.proofs.sibling_ok.Goals.{Joined-has, then-has, else-has}
 

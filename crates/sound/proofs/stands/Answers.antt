@@ -2,7 +2,8 @@
 use Rattle.std.proofs.Common.{◌≡◌, ℕ, ap, ◌==◌, ◌&&◌, ◌∙◌}
 use Rattle.model.specs.Table.{has_node}
 use Rattle.node.specs.Word.{word_of}
-use Rattle.sound.proofs.NodeLaws.{and-then, and-else, stands-joined}
+use Rattle.list_laws.proofs.Tools.{and-then, and-else}
+use Rattle.sound.proofs.NodeLaws.{stands-joined}
 use Rattle.sound.proofs.stands.Goals as goal
 use Rattle.sound.proofs.stands.Goals.{Joined-word-level, then-has, else-has, then-word-level, else-word-level}
 

@@ -1,7 +1,7 @@
 -- `tour::look` meets its contract.
 use mathlib.Core.Path.{sym, ◌∙◌}
 use native.Mathlib.Omega.{arith}
-use Rattle.tour.proofs.Looks.{sight-leaf, sight-left, sight-sibling, sight-end, sight-hidden, sight-ignored, sight-next}
+use Rattle.tour.proofs.Looks.{sight-leaf, sight-left, sight-sibling, sight-end, sight-unmet, sight-met}
 use Rattle.tour.proofs.look.Goals as goal
 
 pub returns-then-node-eq0 : goal.returns-then-node-eq0
@@ -17,20 +17,14 @@ pub returns-then-pointer-eq0 : goal.returns-then-pointer-eq0
 returns-then-pointer-eq0 c = sight-end _ _ c.read-node.result c.read-node.ensures _ c.if-w-eq0.false
     c.if-w-eq13.false c.requires c.if-pointer-eq0.true
 
-pub returns-then-pointer-pointer_before : goal.returns-then-pointer-pointer_before
-returns-then-pointer-pointer_before c = sight-hidden _ _ c.read-node.result c.read-node.ensures _
+pub returns-then-not-is_met : goal.returns-then-not-is_met
+returns-then-not-is_met c = sight-unmet _ _ c.read-node.result c.read-node.ensures _
     c.if-w-eq0.false c.if-w-eq13.false c.requires
-    c.pointer_before.result c.pointer_before.ensures.value c.if-pointer-eq0.false c.if-pointer-pointer_before.true
-
-pub returns-then-not-under_fence : goal.returns-then-not-under_fence
-returns-then-not-under_fence c = sight-ignored _ _ c.read-node.result c.read-node.ensures _
-    c.if-w-eq0.false c.if-w-eq13.false
-    c.requires c.pointer_before.result c.pointer_before.ensures.value
-    c.if-pointer-eq0.false c.if-pointer-pointer_before.false (sym c.under_fence.ensures ∙ c.if-not-under_fence.true)
+    c.pointer_before-before.result c.pointer_before-before.ensures.value c.if-pointer-eq0.false (sym c.is_met.ensures ∙ c.if-not-is_met.true)
 
 pub returns : goal.returns
-returns c = sight-next _ _ c.read-node.result
+returns c = sight-met _ _ c.read-node.result
     c.read-node.ensures _ c.if-w-eq0.false
     c.if-w-eq13.false c.requires
-    c.pointer_before.result c.saturating_sub.result c.pointer_before.ensures.value (omega (arith, c.saturating_sub.ensures))
-    c.if-pointer-eq0.false c.if-pointer-pointer_before.false (sym c.under_fence.ensures ∙ c.if-not-under_fence.false)
+    c.pointer_before-before.result c.saturating_sub.result c.pointer_before-before.ensures.value (omega (arith, c.saturating_sub.ensures))
+    c.if-pointer-eq0.false (sym c.is_met.ensures ∙ c.if-not-is_met.false)

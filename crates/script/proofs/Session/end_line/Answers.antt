@@ -6,10 +6,11 @@ use Rattle.script.proofs.Session.end_line.Goals as goal
 
 pub returns-in-Ok-Some : goal.returns-in-Ok-Some
 returns-in-Ok-Some c =
-    let a = c.carry_out.ensures in
+    let a = c.act-answer.ensures in
+    let p = c.put_answer.ensures in
     record {
-      is = ended-left _ _ _ c.judge.ensures (c.in-Ok-Some.is ∙ ap Ok c.in-Ok-Some.field-0-is) _ a.table_after a.list_after refl a.text_after;
-      slices = record { same_table = refl; same_list = refl; same_buffer = a.text_after.same_buffer };
+      is = ended-left _ _ _ c.judge.ensures (c.in-Ok-Some.is ∙ ap Ok c.in-Ok-Some.field-0-is) _ a.value a.table_after a.list_after refl p;
+      slices = record { same_table = refl; same_list = refl; same_buffer = p.same_buffer };
     }
 
 pub returns-in-Ok-None : goal.returns-in-Ok-None

@@ -1,27 +1,16 @@
 -- `script_bytes::Text::put_orders` meets its contract.
-use mathlib.Core.Path.{◌≡◌}
-use Prim.Native.Nat.{◌+◌, ◌-◌, ◌*◌}
-use native.Mathlib.Omega.{arith}
-use Rattle.script_bytes.specs.Text.{order_lines}
+use Rattle.std.proofs.Common.{◌∙◌, ◌*◌, arith}
+use Rattle.std.specs.Iterator.Adapters.{take_count}
 use Rattle.script_bytes.proofs.Decimal.{order-most}
-use Rattle.script_bytes.proofs.Puts.{puts-none, room-after, order-put, orders-most}
+use Rattle.script_bytes.proofs.Puts.{room-after, orders-next, orders-end}
 use Rattle.script_bytes.proofs.Text.put_orders.Goals as goal
 
-pub loop-i-init : goal.loop-i-init
-unfolding order_lines
-loop-i-init c = (omega (arith, c.requires.count_in_bounds_2), puts-none)
-
-pub put_order-requires : goal.put_order-requires
-put_order-requires c = omega (arith, c.loop-i.invariant.0)
-
-pub loop-i-preserved : goal.loop-i-preserved
-loop-i-preserved c = let a = c.loop-i in
-    let n = c.args.list.now in (
-      room-after 48 (48 * (c.args.count - (a.i + 1))) c.put_order.ensures (order-most _) (omega (arith, a.invariant.0)),
-      order-put n a.i (omega arith) (omega (arith, orders-most n a.i, c.requires.count_in_bounds_2)) a.invariant.1 c.put_order.ensures,
-    )
+pub loop-pair-preserved : goal.loop-pair-preserved
+loop-pair-preserved c = let l = c.loop-pair in let s = c.in-Some.ensures.steps in record {
+  pairs = s.0.0 ∙ l.invariant.pairs;
+  room = room-after 48 (48 * take_count c.next.new.self) c.put_order.ensures (order-most _) (omega (arith, l.invariant.room, s.1));
+  text = λ z p. l.invariant.text z (orders-next _ _ _ _ _ s.1 s.0.1.0 (s.0.1.1 ∙ l.invariant.pairs) (omega (arith, l.invariant.room, s.1)) c.put_order.ensures p);
+}
 
 pub returns : goal.returns
-returns c = let a = c.loop-i in
-    let n : c.args.count ≡ a.i = omega arith in
-    rw n a.invariant.1
+returns c = let l = c.loop-pair in l.invariant.text _ (orders-end _ _ (λ h. omega (arith, l.invariant.pairs, (c.in-None.ensures.steps h).1.0)))

@@ -1,35 +1,24 @@
--- `next` of `slots::Shown` meets its contract. The loop keeps what is left.
-use Rattle.std.proofs.Common.{◌≡◌, length, [], arith, refl, ap, sym, ◌∙◌}
-use Rattle.slots.specs.Scan.{shown_from}
-use Rattle.slots.specs.Shown.{shown_left}
+-- `next` of `slots::Shown` meets its contract. What is left stays the same until a slot is given.
+use Rattle.std.proofs.Common.{sym, ap, length, ◌∙◌, arith}
 use Rattle.slots.proofs.Shows.{left-shown, left-hidden, left-stop, left-past}
 use Rattle.slots.proofs.shown.ShownIterator.next.Goals as goal
 
-pub returns-then-pointer-before-clause-steps : goal.returns-then-pointer-before-clause-steps
-returns-then-pointer-before-clause-steps c = let l = c.loop-i in
-    let n : length l.self.slots.now ≡ length c.args.self.now.slots.now = ap length l.invariant.1 in
-    sym l.invariant.2 ∙ ap (shown_from l.self.before l.self.slots.now) l.invariant.0
-    ∙ left-shown l.self.slots.now l.i l.self.before (omega arith) c.if-pointer-eq0.false c.if-pointer-before.true
-
-pub loop-i-preserved : goal.loop-i-preserved
-loop-i-preserved c = let l = c.loop-i in
-    let n : length l.self.slots.now ≡ length c.args.self.now.slots.now = ap length l.invariant.1 in (
-      refl,
-      l.invariant.1,
-      sym (ap (shown_from l.self.before l.self.slots.now) l.invariant.0
-          ∙ left-hidden l.self.slots.now l.i l.self.before (omega arith) c.if-pointer-eq0.false c.if-pointer-before.false)
-          ∙ l.invariant.2,
-    )
-
-pub returns-after-loop-i-clause-steps : goal.returns-after-loop-i-clause-steps
-returns-after-loop-i-clause-steps c = let l = c.loop-i in
-    let n : length l.self.slots.now ≡ length c.args.self.now.slots.now = ap length l.invariant.1 in
-    let e : shown_left l.self ≡ [] = ap (shown_from l.self.before l.self.slots.now) l.invariant.0 ∙ left-past l.self.slots.now l.i l.self.before (omega arith) in
-    (sym l.invariant.2 ∙ e, e)
-
 pub returns-then-pointer-eq0-clause-steps : goal.returns-then-pointer-eq0-clause-steps
-returns-then-pointer-eq0-clause-steps c = let l = c.loop-i in
-    let n : length l.self.slots.now ≡ length c.args.self.now.slots.now = ap length l.invariant.1 in
-    let e : shown_left l.self ≡ [] =
-    ap (shown_from l.self.before l.self.slots.now) l.invariant.0 ∙ left-stop l.self.slots.now l.i l.self.before (omega arith) c.if-pointer-eq0.true in
-    (sym l.invariant.2 ∙ e, e)
+returns-then-pointer-eq0-clause-steps c =
+    let e = left-stop _ _ c.in-len2-up.len_at_least c.if-pointer-eq0.true in (sym c.loop-self.invariant ∙ e, e)
+
+pub returns-then-pointer-before-clause-steps : goal.returns-then-pointer-before-clause-steps
+returns-then-pointer-before-clause-steps c =
+    sym c.loop-self.invariant ∙ left-shown _ _ c.in-len2-up.len_at_least c.if-pointer-eq0.false c.if-pointer-before.true
+
+pub returns-then-pointer-before-clause-goes : goal.returns-then-pointer-before-clause-goes
+returns-then-pointer-before-clause-goes c =
+    let e = sym c.loop-self.invariant ∙ left-shown _ _ c.in-len2-up.len_at_least c.if-pointer-eq0.false c.if-pointer-before.true in
+    record { on = λ f. (tt, tt, omega (arith, ap length e)); keeps = tt; rests = λ f. tt }
+
+pub loop-self-preserved : goal.loop-self-preserved
+loop-self-preserved c =
+    sym (left-hidden _ _ c.in-len2-up.len_at_least c.if-pointer-eq0.false c.if-pointer-before.false) ∙ c.loop-self.invariant
+
+pub returns-clause-steps : goal.returns-clause-steps
+returns-clause-steps c = let e = left-past _ _ c.in_default.len_below in (sym c.loop-self.invariant ∙ e, e)

@@ -1,7 +1,10 @@
--- `next` of `slots::Shown` meets its contract. The loop keeps what is left.
-use Rattle.std.proofs.Common.{◌≡◌}
+-- `next` of `slots::Shown` meets its contract. What is left stays the same until a slot is given.
+use Rattle.std.proofs.Common.{◌≡◌, length}
 use Rattle.slots.specs.Shown.{shown_left}
 use Rattle.slots.proofs.shown.ShownIterator.next.Given as goal
 
-abbrev pub invariant-loop-i : goal.invariant-loop-i
-invariant-loop-i l = (l.self.at ≡ l.i) × (l.self.slots.now ≡ l.fn.self.slots.now) × (shown_left l.self ≡ shown_left l.fn.self)
+abbrev pub invariant-loop-self : goal.invariant-loop-self
+invariant-loop-self l = shown_left l.self ≡ shown_left l.initial.self
+
+abbrev pub decreases-loop-self : goal.decreases-loop-self
+decreases-loop-self l = length l.self.slots.now

@@ -1,9 +1,9 @@
--- `pairs::in_pass` meets its contract.
+-- `pairs::Pass::has` meets its contract.
 use Rattle.std.proofs.Common.{ℕ, ◌≡◌, ◌∙◌, arith, nat_cmp, is_le, is_lt}
 use lib.Dec.{leb, ltb}
 use Rattle.std.proofs.lemmas.Bool.Decides.{nat_tests}
 use Rattle.pairs.specs.Passes.{in_pass}
-use Rattle.pairs.proofs.in_pass.Goals as goal
+use Rattle.pairs.proofs.Pass.has.Goals as goal
 
 le-same : (a b : ℕ) → is_le (nat_cmp a b) ≡ leb a b
 le-same a b = grind (arith, nat_tests)

@@ -1,8 +1,0 @@
--- `slots::place` meets its contract. The loop keeps that i and the place among the slots from i on make the whole.
-use Rattle.std.proofs.Common.{◌≡◌, ◌+◌}
-use Rattle.model.specs.Shifts.{place_of}
-use Rattle.slots.specs.Scan.{used_from, in_use_of}
-use Rattle.slots.proofs.place.Given as goal
-
-abbrev pub invariant-loop-i : goal.invariant-loop-i
-invariant-loop-i l = l.i + place_of l.k (used_from l.slots l.i) ≡ place_of l.k (in_use_of l.slots)
