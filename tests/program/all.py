@@ -2,6 +2,7 @@
 import multiprocessing
 import os
 import shutil
+import signal
 import sys
 import tempfile
 import time
@@ -55,6 +56,9 @@ def roomy(folder):
 
 
 def main():
+    # Whoever runs the tests may have had signals ignored, which what is started here would ignore too.
+    signal.signal(signal.SIGINT, signal.default_int_handler)
+    signal.signal(signal.SIGTERM, signal.SIG_DFL)
     plain = Program([sys.argv[1]], "plain", True)
     sanitized = Program([sys.argv[2]], "with sanitizers", False)
     watched = ["valgrind", "-q", "--leak-check=full", "--errors-for-leak-kinds=all", f"--error-exitcode={FOUND_SOMETHING}", sys.argv[1]]

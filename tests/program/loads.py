@@ -265,9 +265,7 @@ def a_line_without_an_end(program, folder):
     for lines, there in itertools.product(("/dev/zero", csv), ([], [(code(0), 9999)])):
         for number in (signal.SIGINT, signal.SIGTERM):
             fill(program, t, 40, there)
-            # Whoever runs the tests may have had signals ignored.
-            run = program.start("load", t, lines, stdout=subprocess.PIPE, stderr=subprocess.PIPE,
-                                preexec_fn=lambda: signal.signal(number, signal.SIG_DFL))
+            run = program.start("load", t, lines, stdout=subprocess.PIPE, stderr=subprocess.PIPE)
             while not catches(run.pid, number):
                 time.sleep(0.01)
             time.sleep(0.2)
