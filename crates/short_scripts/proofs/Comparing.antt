@@ -36,16 +36,13 @@ module _ (n k : ℕ) (a : Action) (e : a ≡ action_of n) where
   unfolding call_of
   call-deletes f = let u = deletes-as f in rw (u.0, u.1)
 
-  pub change-inserts : (h : Held) → a ≡ Insert k → set h (k - 1) true ≡ changed h n
+  -- the flag of the key that the action's number names, set to whether the action inserts
+  set-as : (h : Held) (b : Bool) → (inserts n ≡ b) × (k ≡ action_key n) → set h (k - 1) b ≡ changed h n
   unfolding changed
-  change-inserts h f =
-      let u = inserts-as f in
-      let m : k - 1 ≡ n % 3 = omega (arith, u.1) in
-      rw (u.0, m)
+  set-as h b u = let m : k - 1 ≡ n % 3 = omega (arith, u.1) in rw (u.0, m)
+
+  pub change-inserts : (h : Held) → a ≡ Insert k → set h (k - 1) true ≡ changed h n
+  change-inserts h f = set-as h true (inserts-as f)
 
   pub change-deletes : (h : Held) → a ≡ Delete k → set h (k - 1) false ≡ changed h n
-  unfolding changed
-  change-deletes h f =
-      let u = deletes-as f in
-      let m : k - 1 ≡ n % 3 = omega (arith, u.1) in
-      rw (u.0, m)
+  change-deletes h f = set-as h false (deletes-as f)
