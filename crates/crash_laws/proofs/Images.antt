@@ -10,7 +10,7 @@ use borrow.Author.Tests.{ltb-true, ltb-false}
 use lib.ListN.{length, take, get_or-eq_default}
 use Rattle.model.specs.Table.{Words, at, line}
 use Rattle.model.specs.Orders.{Store, Order, apply, carry}
-use Rattle.model.specs.Cuts.{up_to_flush, since_flush, later_stores, to_barrier, choice, MayArrive, Image}
+use Rattle.model.specs.Cuts.{up_to_flush, since_flush, line_stores, later_stores, to_barrier, choice, MayArrive, Image}
 use Rattle.cut_laws.proofs.Applying.{length-apply, length-carry}
 
 -- the first n values of g
@@ -70,12 +70,12 @@ module _ (arrived : ℕ → ℕ) (t : Words) (os : List Order) where
 -- on dock 1: of each line a choice of its later stores up to the first barrier
 module _ (marks : ℕ → List Bool) (t : Words) (os : List Order) where
   abbrev chosen : ℕ → List Store
-  chosen l = choice (marks l) (later_stores l (to_barrier (since_flush l os)))
+  chosen l = choice (marks l) (line_stores l (to_barrier (since_flush l os)))
 
   abbrev pub image_with : Words
-  image_with = image_by (λ (l : ℕ). choice (marks l) (later_stores l (to_barrier (since_flush l os)))) t os
+  image_with = image_by (λ (l : ℕ). choice (marks l) (line_stores l (to_barrier (since_flush l os)))) t os
 
-  pub image_with-image : Image 1 t os (image_by (λ (l : ℕ). choice (marks l) (later_stores l (to_barrier (since_flush l os)))) t os)
-  unfolding later_stores
+  pub image_with-image : Image 1 t os (image_by (λ (l : ℕ). choice (marks l) (line_stores l (to_barrier (since_flush l os)))) t os)
+  unfolding line_stores
   image_with-image =
       image_by-image chosen t os 1 (λ l. record { before = []; rest = since_flush l os; marks = marks l; parted = refl; up-to = inr refl; holds = refl })

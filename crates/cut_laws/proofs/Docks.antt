@@ -1,23 +1,22 @@
 -- The two docks: barriers make no difference to dock 0, and on orders with a barrier after each store dock 1 leaves the images that dock 0 does.
 use mathlib.Core.Path.{◌≡◌, refl, sym, ap, ◌∙◌}
 use mathlib.Core.Logic.{inl, inr, ◌↔◌}
-use mathlib.Core.Bool.{Bool, true, false, cond, ◌&&◌, ◌||◌, and-false}
+use mathlib.Core.Bool.{Bool, true, false, cond, ◌||◌}
 use mathlib.Core.List.{List, [], ◌∷◌, ◌++◌}
 use Prim.Native.Nat.{ℕ, zero, suc, ◌+◌}
 use native.Mathlib.Nat.{zero-add, suc-add}
 use lib.Dec.{eqb}
 use lib.ListN.{length, take}
 use lib.Seq.{take-nil}
-use Rattle.list_laws.proofs.Tools.{or-false-iff}
 use Rattle.model.specs.Table.{Words, line}
 use Rattle.model.specs.Orders.{Store, Order, store, flush, barrier, apply, carry, orders, with_barriers, barred, without_barriers}
-use Rattle.model.specs.Cuts.{flushed, up_to_flush, since_flush, later_stores, FirstPart, UpToBarrier, to_barrier, choice, AnyChoice, Image, CutImage}
+use Rattle.model.specs.Cuts.{flushed, up_to_flush, since_flush, line_stores, later_stores, FirstPart, UpToBarrier, to_barrier, choice, AnyChoice, Image, CutImage}
 use Rattle.model.specs.Judge.{AllFlushed}
 use Rattle.cut_laws.specs.Unflushed.{stores_in, OneLine}
 use Rattle.cut_laws.proofs.Barriers.{without-carry, without-take, without-barred, barred-stores, barred-carry}
 use Rattle.cut_laws.proofs.FlushRule.{orders-without, orders-stores, orders-apply}
 use Rattle.cut_laws.proofs.Unflushed.{orders-flushed, orders-one-line}
-use Rattle.cut_laws.proofs.LastFlush.{flushed-append, up_to_flush-nil, later_stores-before}
+use Rattle.cut_laws.proofs.LastFlush.{up_to_flush-nil, since-all, line-stores-append}
 
 -- ---- dock 0: barriers make no difference
 
@@ -28,31 +27,48 @@ flushed-without l (store s ∷ os) = flushed-without l os
 flushed-without l (flush k ∷ os) = ap (λ (b : Bool). eqb k l || b) (flushed-without l os)
 flushed-without l (barrier ∷ os) = flushed-without l os
 
-pub later-without : (l : ℕ) (os : List Order) → later_stores l (without_barriers os) ≡ later_stores l os
-unfolding later_stores without_barriers
-later-without l [] = refl
-later-without l (store s ∷ os) = rw (flushed-without l os, later-without l os)
-later-without l (flush k ∷ os) = later-without l os
-later-without l (barrier ∷ os) = later-without l os
+stores-without : (l : ℕ) (os : List Order) → line_stores l (without_barriers os) ≡ line_stores l os
+unfolding line_stores without_barriers
+stores-without l [] = refl
+stores-without l (store s ∷ os) = rw (stores-without l os)
+stores-without l (flush k ∷ os) = stores-without l os
+stores-without l (barrier ∷ os) = stores-without l os
 
-without-cond : (b : Bool) (os r : List Order) → without_barriers os ≡ r → without_barriers (cond b os []) ≡ cond b r []
+without-cond : (b : Bool) (os rest r q : List Order) → without_barriers os ≡ r → without_barriers rest ≡ q → without_barriers (cond b os rest) ≡ cond b r q
 unfolding without_barriers
-without-cond true os r e = e
-without-cond false os r e = refl
+without-cond true os rest r q e f = e
+without-cond false os rest r q e f = f
 
 up_to-without : (l : ℕ) (os : List Order) → without_barriers (up_to_flush l os) ≡ up_to_flush l (without_barriers os)
 unfolding up_to_flush without_barriers
 up_to-without l [] = refl
 up_to-without l (store s ∷ os) =
-    rw (flushed-without l (store s ∷ os)) (without-cond (flushed l (store s ∷ os)) (store s ∷ up_to_flush l os) _ (ap (λ q. store s ∷ q) (up_to-without l os)))
+    rw (flushed-without l (store s ∷ os)) (without-cond (flushed l (store s ∷ os)) (store s ∷ up_to_flush l os) [] _ [] (ap (λ q. store s ∷ q) (up_to-without l os)) refl)
 up_to-without l (flush k ∷ os) =
-    rw (flushed-without l (flush k ∷ os)) (without-cond (flushed l (flush k ∷ os)) (flush k ∷ up_to_flush l os) _ (ap (λ q. flush k ∷ q) (up_to-without l os)))
+    rw (flushed-without l (flush k ∷ os)) (without-cond (flushed l (flush k ∷ os)) (flush k ∷ up_to_flush l os) [] _ [] (ap (λ q. flush k ∷ q) (up_to-without l os)) refl)
 up_to-without l (barrier ∷ os) = go (flushed l (barrier ∷ os)) refl (up_to-without l os)
   where
     go : (b : Bool) → flushed l (barrier ∷ os) ≡ b → without_barriers (up_to_flush l os) ≡ up_to_flush l (without_barriers os)
         → without_barriers (cond b (barrier ∷ up_to_flush l os) []) ≡ up_to_flush l (without_barriers os)
     go true e ih = ih
     go false e ih = sym (up_to_flush-nil l (without_barriers os) (flushed-without l (barrier ∷ os) ∙ e))
+
+since-without : (l : ℕ) (os : List Order) → without_barriers (since_flush l os) ≡ since_flush l (without_barriers os)
+unfolding since_flush without_barriers
+since-without l [] = refl
+since-without l (store s ∷ os) =
+    rw (flushed-without l (store s ∷ os)) (without-cond (flushed l (store s ∷ os)) (since_flush l os) (store s ∷ os) _ _ (since-without l os) refl)
+since-without l (flush k ∷ os) =
+    rw (flushed-without l (flush k ∷ os)) (without-cond (flushed l (flush k ∷ os)) (since_flush l os) (flush k ∷ os) _ _ (since-without l os) refl)
+since-without l (barrier ∷ os) = go (flushed l (barrier ∷ os)) refl (since-without l os)
+  where
+    go : (b : Bool) → flushed l (barrier ∷ os) ≡ b → without_barriers (since_flush l os) ≡ since_flush l (without_barriers os)
+        → without_barriers (cond b (since_flush l os) (barrier ∷ os)) ≡ since_flush l (without_barriers os)
+    go true e ih = ih
+    go false e ih = sym (since-all l (without_barriers os) (flushed-without l (barrier ∷ os) ∙ e))
+
+pub later-without : (l : ℕ) (os : List Order) → later_stores l (without_barriers os) ≡ later_stores l os
+later-without l os = ap (line_stores l) (sym (since-without l os)) ∙ stores-without l (since_flush l os)
 
 carry-without : (l : ℕ) (os : List Order) (t : Words) → carry (up_to_flush l (without_barriers os)) t ≡ carry (up_to_flush l os) t
 carry-without l os t = ap (λ (q : List Order). carry q t) (sym (up_to-without l os)) ∙ without-carry (up_to_flush l os) t
@@ -68,33 +84,6 @@ image-without t os m = (
     lines = λ l. let (part, (n, e), h) = i.lines l in (part, (n, rw (later-without l os) at e), λ w q. rw (carry-without l os t) at (h w q));
   },
 )
-
--- ---- the later orders
-
-since-unflushed : (l : ℕ) (os : List Order) → flushed l (since_flush l os) ≡ false
-unfolding since_flush flushed
-since-unflushed l [] = refl
-since-unflushed l (o ∷ os) = go (flushed l (o ∷ os)) refl (since-unflushed l os)
-  where
-    go : (b : Bool) → flushed l (o ∷ os) ≡ b → flushed l (since_flush l os) ≡ false → flushed l (cond b (since_flush l os) (o ∷ os)) ≡ false
-    go true e ih = ih
-    go false e ih = e
-
--- an order that is flushed after it has nothing later
-later-front : (l : ℕ) (o : Order) (os : List Order) → flushed l (o ∷ os) ≡ true → later_stores l (o ∷ os) ≡ later_stores l os
-unfolding later_stores flushed
-later-front l (store s) os e = rw (e, and-false (eqb (line s.word) l))
-later-front l (flush k) os e = refl
-later-front l barrier os e = refl
-
-since-later : (l : ℕ) (os : List Order) → later_stores l (since_flush l os) ≡ later_stores l os
-unfolding since_flush
-since-later l [] = refl
-since-later l (o ∷ os) = go (flushed l (o ∷ os)) refl (since-later l os)
-  where
-    go : (b : Bool) → flushed l (o ∷ os) ≡ b → later_stores l (since_flush l os) ≡ later_stores l os → later_stores l (cond b (since_flush l os) (o ∷ os)) ≡ later_stores l (o ∷ os)
-    go true e ih = ih ∙ sym (later-front l o os e)
-    go false e ih = refl
 
 -- ---- a barrier after each store: between two barriers there is one at most
 
@@ -154,32 +143,28 @@ take-past (s ∷ a) b n = rw suc-add (ap (λ q. s ∷ q) (take-past a b n))
 
 module _ (l : ℕ) where
   -- what is chosen up to the next barrier
-  chosen-first : (marks : List Bool) {os : List Order} → Spaced os → flushed l os ≡ false → (n : ℕ) × (choice marks (later_stores l (to_barrier os)) ≡ take n (later_stores l os))
-  unfolding later_stores to_barrier flushed
-  chosen-first marks none-left e = (0, choice-nil marks)
-  chosen-first marks (flushing {k = k} {os = os} a) e = chosen-first marks a ((or-false-iff (eqb k l) (flushed l os)).0 e).1
-  chosen-first marks (barring a) e = (0, choice-nil marks)
-  chosen-first marks (last-store {s = s}) e = let (n, q) = choice-one (eqb (line s.word) l && true) s marks in (n, q [])
-  chosen-first marks (storing {s = s} {os = os} a) e = let (n, q) = choice-one (eqb (line s.word) l && true) s marks in (n, rw e (q (later_stores l os)))
-
-  rest-unflushed : (a b : List Order) → flushed l (a ++ b) ≡ false → (flushed l a ≡ false) × (flushed l b ≡ false)
-  rest-unflushed a b e = (or-false-iff (flushed l a) (flushed l b)).0 (sym (flushed-append l a b) ∙ e)
+  chosen-first : (marks : List Bool) {os : List Order} → Spaced os → (n : ℕ) × (choice marks (line_stores l (to_barrier os)) ≡ take n (line_stores l os))
+  unfolding line_stores to_barrier
+  chosen-first marks none-left = (0, choice-nil marks)
+  chosen-first marks (flushing a) = chosen-first marks a
+  chosen-first marks (barring a) = (0, choice-nil marks)
+  chosen-first marks (last-store {s = s}) = let (n, q) = choice-one (eqb (line s.word) l) s marks in (n, q [])
+  chosen-first marks (storing {s = s} {os = os} a) = let (n, q) = choice-one (eqb (line s.word) l) s marks in (n, q (line_stores l os))
 
   -- with all that comes before it
-  pub choice-first : (os : List Order) (part : List Store) → Spaced os → flushed l os ≡ false → AnyChoice l os part → FirstPart (later_stores l os) part
-  choice-first os part a e c =
-      let b = (rest-unflushed c.before c.rest (ap (flushed l) (sym c.parted) ∙ e)).1 in
-      let u = chosen-first c.marks (spaced-rest c.before c.rest (rw c.parted at a)) b in
-      let all : later_stores l os ≡ later_stores l c.before ++ later_stores l c.rest = ap (later_stores l) c.parted ∙ later_stores-before l c.rest b c.before in (
-        length (later_stores l c.before) + u.0,
-        c.holds ∙ ap (λ q. later_stores l c.before ++ q) u.1 ∙ sym (take-past (later_stores l c.before) (later_stores l c.rest) u.0) ∙ ap (take (length (later_stores l c.before) + u.0)) (sym all),
+  pub choice-first : (os : List Order) (part : List Store) → Spaced os → AnyChoice l os part → FirstPart (line_stores l os) part
+  choice-first os part a c =
+      let u = chosen-first c.marks (spaced-rest c.before c.rest (rw c.parted at a)) in
+      let all : line_stores l os ≡ line_stores l c.before ++ line_stores l c.rest = ap (line_stores l) c.parted ∙ line-stores-append l c.before c.rest in (
+        length (line_stores l c.before) + u.0,
+        c.holds ∙ ap (λ q. line_stores l c.before ++ q) u.1 ∙ sym (take-past (line_stores l c.before) (line_stores l c.rest) u.0) ∙ ap (take (length (line_stores l c.before) + u.0)) (sym all),
       )
 
   -- ---- and a first part is a choice
 
   -- an order in front that is not this line's, or with the store that it is
   flush-front : (k : ℕ) (os : List Order) (part : List Store) → AnyChoice l os part → AnyChoice l (flush k ∷ os) part
-  unfolding later_stores to_barrier
+  unfolding line_stores to_barrier
   flush-front k os part c = go c.up-to
     where
       go : UpToBarrier c.before → AnyChoice l (flush k ∷ os) part
@@ -190,7 +175,7 @@ module _ (l : ℕ) where
         marks = c.marks;
         parted = ap (λ q. flush k ∷ q) (c.parted ∙ ap (λ q. q ++ c.rest) e);
         up-to = inr refl;
-        holds = c.holds ∙ ap (λ q. later_stores l q ++ choice c.marks (later_stores l (to_barrier c.rest))) e;
+        holds = c.holds ∙ ap (λ q. line_stores l q ++ choice c.marks (line_stores l (to_barrier c.rest))) e;
       }
 
   barrier-ends : (a : List Order) → UpToBarrier a → (p : List Order) × (barrier ∷ a ≡ p ++ (barrier ∷ []))
@@ -198,14 +183,14 @@ module _ (l : ℕ) where
   barrier-ends a (inr e) = ([], ap (λ q. barrier ∷ q) e)
 
   barrier-front : (os : List Order) (part : List Store) → AnyChoice l os part → AnyChoice l (barrier ∷ os) part
-  unfolding later_stores
+  unfolding line_stores
   barrier-front os part c =
       record { before = barrier ∷ c.before; rest = c.rest; marks = c.marks; parted = ap (λ q. barrier ∷ q) c.parted; up-to = inl (barrier-ends c.before c.up-to); holds = c.holds }
 
-  store-front : (s : Store) (os : List Order) (part : List Store) → flushed l os ≡ false → AnyChoice l os part
-      → AnyChoice l (store s ∷ barrier ∷ os) (cond (eqb (line s.word) l && true) (s ∷ part) part)
-  unfolding later_stores flushed
-  store-front s os part e c =
+  store-front : (s : Store) (os : List Order) (part : List Store) → AnyChoice l os part
+      → AnyChoice l (store s ∷ barrier ∷ os) (cond (eqb (line s.word) l) (s ∷ part) part)
+  unfolding line_stores
+  store-front s os part c =
       let (p, q) = barrier-ends c.before c.up-to in
       record {
         before = store s ∷ barrier ∷ c.before;
@@ -213,21 +198,21 @@ module _ (l : ℕ) where
         marks = c.marks;
         parted = ap (λ q. store s ∷ barrier ∷ q) c.parted;
         up-to = inl (store s ∷ p, ap (λ q. store s ∷ q) q);
-        holds = rw (rest-unflushed c.before c.rest (ap (flushed l) (sym c.parted) ∙ e)).0 (held (eqb (line s.word) l && true));
+        holds = held (eqb (line s.word) l);
       }
     where
-      held : (b : Bool) → cond b (s ∷ part) part ≡ cond b (s ∷ later_stores l c.before) (later_stores l c.before) ++ choice c.marks (later_stores l (to_barrier c.rest))
+      held : (b : Bool) → cond b (s ∷ part) part ≡ cond b (s ∷ line_stores l c.before) (line_stores l c.before) ++ choice c.marks (line_stores l (to_barrier c.rest))
       held true = ap (λ q. s ∷ q) c.holds
       held false = c.holds
 
   -- nothing yet, of what is left
   nothing-yet : (os : List Order) → AnyChoice l os []
-  unfolding later_stores choice
+  unfolding line_stores choice
   nothing-yet os = record { before = []; rest = os; marks = []; parted = refl; up-to = inr refl; holds = refl }
 
-  last-taken : (s : Store) (n : ℕ) → AnyChoice l (store s ∷ []) (take (suc n) (later_stores l (store s ∷ [])))
-  unfolding later_stores to_barrier flushed choice
-  last-taken s n = record { before = []; rest = store s ∷ []; marks = true ∷ []; parted = refl; up-to = inr refl; holds = go (eqb (line s.word) l && true) }
+  last-taken : (s : Store) (n : ℕ) → AnyChoice l (store s ∷ []) (take (suc n) (line_stores l (store s ∷ [])))
+  unfolding line_stores to_barrier choice
+  last-taken s n = record { before = []; rest = store s ∷ []; marks = true ∷ []; parted = refl; up-to = inr refl; holds = go (eqb (line s.word) l) }
     where
       go : (b : Bool) → take (suc n) (cond b (s ∷ []) []) ≡ choice (true ∷ []) (cond b (s ∷ []) [])
       go true = ap (λ q. s ∷ q) (take-nil {A = Store} n)
@@ -238,17 +223,17 @@ module _ (l : ℕ) where
   more true s r n = (n, refl)
   more false s r n = (suc n, refl)
 
-  pub first-choice : {os : List Order} → Spaced os → flushed l os ≡ false → (n : ℕ) → AnyChoice l os (take n (later_stores l os))
-  unfolding later_stores flushed
-  first-choice none-left e n = rw (take-nil {A = Store} n) (nothing-yet [])
-  first-choice (flushing {k = k} {os = os} a) e n = flush-front k os (take n (later_stores l os)) (first-choice a ((or-false-iff (eqb k l) (flushed l os)).0 e).1 n)
-  first-choice (barring {os = os} a) e n = barrier-front os (take n (later_stores l os)) (first-choice a e n)
-  first-choice (last-store {s = s}) e zero = nothing-yet (store s ∷ [])
-  first-choice (last-store {s = s}) e (suc n) = last-taken s n
-  first-choice (storing {s = s} {os = os} a) e zero = nothing-yet (store s ∷ barrier ∷ os)
-  first-choice (storing {s = s} {os = os} a) e (suc n) =
-      let u = more (eqb (line s.word) l && true) s (later_stores l os) n in
-      rw e (rw u.1 at (store-front s os (take u.0 (later_stores l os)) e (first-choice a e u.0)))
+  pub first-choice : {os : List Order} → Spaced os → (n : ℕ) → AnyChoice l os (take n (line_stores l os))
+  unfolding line_stores
+  first-choice none-left n = rw (take-nil {A = Store} n) (nothing-yet [])
+  first-choice (flushing {k = k} {os = os} a) n = flush-front k os (take n (line_stores l os)) (first-choice a n)
+  first-choice (barring {os = os} a) n = barrier-front os (take n (line_stores l os)) (first-choice a n)
+  first-choice (last-store {s = s}) zero = nothing-yet (store s ∷ [])
+  first-choice (last-store {s = s}) (suc n) = last-taken s n
+  first-choice (storing {s = s} {os = os} a) zero = nothing-yet (store s ∷ barrier ∷ os)
+  first-choice (storing {s = s} {os = os} a) (suc n) =
+      let u = more (eqb (line s.word) l) s (line_stores l os) n in
+      rw u.1 at (store-front s os (take u.0 (line_stores l os)) (first-choice a u.0))
 
 -- ---- images
 
@@ -257,11 +242,11 @@ pub same-images : (n : ℕ) (t : Words) (os : List Order) (m : Words) → Spaced
 same-images n t os m a = (
   λ i. record {
     long = i.long;
-    lines = λ l. let (part, c, h) = i.lines l in (part, rw since-later at (choice-first l (since_flush l os) part (spaced-since l os a) (since-unflushed l os) c), h);
+    lines = λ l. let (part, c, h) = i.lines l in (part, choice-first l (since_flush l os) part (spaced-since l os a) c, h);
   },
   λ i. record {
     long = i.long;
-    lines = λ l. let (part, (j, e), h) = i.lines l in (part, rw (e, ← (since-later l os)) (first-choice l (spaced-since l os a) (since-unflushed l os) j), h);
+    lines = λ l. let (part, (j, e), h) = i.lines l in (part, rw e (first-choice l (spaced-since l os a) j), h);
   },
 )
 

@@ -9,7 +9,7 @@ use lib.ListN.{length, get_or, take, drop, length-append, length-take, drop_of_l
 use lib.Seq.{take_all, take-suc, split_at, drop-append-le}
 use Rattle.model.specs.Table.{Words, line}
 use Rattle.model.specs.Orders.{Store, Order, store, flush, barrier, carry, orders_after, orders, barred, without_barriers, store_count, flush_count}
-use Rattle.model.specs.Cuts.{CutImage, later_stores}
+use Rattle.model.specs.Cuts.{CutImage, since_flush, line_stores, later_stores}
 use Rattle.model.specs.Judge.{AllFlushed}
 use Rattle.cut_laws.proofs.Applying.{flush_count-append}
 use Rattle.cut_laws.proofs.FlushRule.{after-same, after-other}
@@ -110,7 +110,7 @@ module _ (dock : ℕ) (ss : List Store) (t : Words) where
       go (inr q) = at-cut (suc c) m q
 
   image-since-flush : (c : ℕ) (m : Words) → CutImage 0 c t list m → SinceFlush c m
-  unfolding later_stores
+  unfolding since_flush line_stores
   image-since-flush zero m i = at-cut 0 m (flushed-image [] t m (λ l. refl) i)
   image-since-flush (suc c) m i = go (dec_lt c (length list)) (image-since-flush c)
     where

@@ -8,13 +8,13 @@ use native.Mathlib.Omega.{arith}
 use native.Mathlib.Decide.{ℕ_discrete, dec_le, dec_lt}
 use lib.ListN.{length, get_or, take, drop, length-append, take-append-drop}
 use lib.Seq.{take-nil, ext_get_or, take_all, take-suc, take-take, take-length, take-append-le, take-append_seam}
-use Rattle.model.specs.Table.{Words, at, line}
+use Rattle.model.specs.Table.{Words, line}
 use Rattle.model.specs.Orders.{Store, Order, store, flush, barrier, carry, flush_count}
-use Rattle.model.specs.Cuts.{flushed, up_to_flush, later_stores, Holds, Image, CutImage}
+use Rattle.model.specs.Cuts.{flushed, up_to_flush, since_flush, line_stores, later_stores, Holds, Image, CutImage}
 use Rattle.model.specs.Judge.{AllFlushed}
 use Rattle.cut_laws.specs.Unflushed.{OneLine}
 use Rattle.cut_laws.proofs.Applying.{length-carry, carry-append, apply-nil}
-use Rattle.cut_laws.proofs.LastFlush.{no-flush, up_to_flush-after, up_to_flush-before, later_stores-after, later_stores-before, same-end, other-end, line-current}
+use Rattle.cut_laws.proofs.LastFlush.{no-flush, up_to_flush-after, up_to_flush-before, later_stores-after, later_stores-before, flush-alone, same-end, other-end, line-current}
 
 -- ---- each line by how many of its later stores it has: only these two read what may arrive
 
@@ -57,21 +57,20 @@ carry-one-flush l k t = elim (flushed l (flush k ∷ [])) as (λ b. carry (cond 
 
 -- a flush leaves no new image
 flush-fewer : (os : List Order) (k : ℕ) (t m : Words) → Image 0 t (os ++ (flush k ∷ [])) m → Image 0 t os m
-unfolding later_stores
 flush-fewer os k t m i = by-first-parts t os m i.long (λ l. go l (flushed l (flush k ∷ [])) refl)
   where
     go : (l : ℕ) (b : Bool) → flushed l (flush k ∷ []) ≡ b → (n : ℕ) × HoldsFirst t os m l n
     go l true e = (
       length (later_stores l os),
-      λ w h. rw (up_to_flush-after l (flush k ∷ []) e os, later_stores-after l (flush k ∷ []) e os, take-nil, apply-nil, carry-append, carry-one-flush) at ((first-parts i l).1 w h)
+      λ w h. rw (up_to_flush-after l (flush k ∷ []) e os, later_stores-after l (flush k ∷ []) e os, flush-alone l k, take-nil, apply-nil, carry-append, carry-one-flush) at ((first-parts i l).1 w h)
           ∙ rw take-length (rw h at (sym (line-current os t w))),
     )
     go l false e =
-        ((first-parts i l).0, λ w h. rw (up_to_flush-before l (flush k ∷ []) e os, later_stores-before l (flush k ∷ []) e os, append-nil) at ((first-parts i l).1 w h))
+        ((first-parts i l).0, λ w h. rw (up_to_flush-before l (flush k ∷ []) e os, later_stores-before l (flush k ∷ []) e os, flush-alone l k, append-nil) at ((first-parts i l).1 w h))
 
 -- nor does a barrier
 barrier-fewer : (os : List Order) (t m : Words) → Image 0 t (os ++ (barrier ∷ [])) m → Image 0 t os m
-unfolding later_stores flushed
+unfolding since_flush line_stores flushed
 barrier-fewer os t m i =
     by-first-parts t os m i.long (λ l. ((first-parts i l).0, λ w h. rw (up_to_flush-before l (barrier ∷ []) refl os, later_stores-before l (barrier ∷ []) refl os, append-nil) at ((first-parts i l).1 w h)))
 
@@ -141,7 +140,7 @@ module _ (os : List Order) (t : Words) (one : OneLine os) where
 
   -- A cut leaves what some first part of the orders leaves.
   pub cut-prefix : (c : ℕ) (m : Words) → CutImage 0 c t os m → (j : ℕ) × (j ≤ c) × (m ≡ carry (take j os) t)
-  unfolding later_stores
+  unfolding since_flush line_stores
   cut-prefix zero m i = (0, omega arith, flushed-image [] t m (λ l. refl) i)
   cut-prefix (suc c) m i = go (dec_lt c (length os)) (cut-prefix c)
     where

@@ -1,7 +1,7 @@
 -- The last flush of a line and the later stores to it, in two lists of orders in a row; both together give what the orders leave.
 use mathlib.Core.Path.{◌≡◌, refl, sym, ap, ◌∙◌}
 use mathlib.Core.Logic.{◌≢◌}
-use mathlib.Core.Bool.{Bool, true, false, cond, not, ◌&&◌, ◌||◌, and-false, or-false, or_assoc}
+use mathlib.Core.Bool.{Bool, true, false, cond, ◌||◌, or-false, or_assoc}
 use mathlib.Core.List.{List, [], ◌∷◌, ◌++◌, append-nil}
 use Prim.Native.Nat.{ℕ}
 use native.Mathlib.Omega.{arith}
@@ -12,12 +12,38 @@ use lib.ListN.{set, length-set}
 use Rattle.list_laws.proofs.Tools.{or-right, or-false-iff}
 use Rattle.model.specs.Table.{Words, at, line}
 use Rattle.model.specs.Orders.{Store, Order, store, flush, barrier, apply, carry, flush_count}
-use Rattle.model.specs.Cuts.{flushed, up_to_flush, later_stores}
-use Rattle.cut_laws.proofs.Applying.{apply-agree, set-elsewhere}
+use Rattle.model.specs.Cuts.{flushed, up_to_flush, since_flush, line_stores, later_stores}
+use Rattle.cut_laws.proofs.Applying.{apply-agree, set-elsewhere, carry-append}
 
-cond-append : {A : Type 0} (b : Bool) (x : A) (p q : List A) → cond b (x ∷ (p ++ q)) (p ++ q) ≡ cond b (x ∷ p) p ++ q
-cond-append true x p q = refl
-cond-append false x p q = refl
+-- ---- the stores to a line
+
+pub line-stores-append : (l : ℕ) (a b : List Order) → line_stores l (a ++ b) ≡ line_stores l a ++ line_stores l b
+unfolding line_stores
+line-stores-append l [] b = refl
+line-stores-append l (store s ∷ a) b = go (eqb (line s.word) l) (line-stores-append l a b)
+  where
+    go : (q : Bool) → line_stores l (a ++ b) ≡ line_stores l a ++ line_stores l b
+        → cond q (s ∷ line_stores l (a ++ b)) (line_stores l (a ++ b)) ≡ cond q (s ∷ line_stores l a) (line_stores l a) ++ line_stores l b
+    go true ih = ap (λ q. s ∷ q) ih
+    go false ih = ih
+line-stores-append l (flush k ∷ a) b = line-stores-append l a b
+line-stores-append l (barrier ∷ a) b = line-stores-append l a b
+
+-- With them a line is as the orders leave it.
+line-stores-current : (os : List Order) (t : Words) (w : ℕ) → at (apply (line_stores (line w) os) t) w ≡ at (carry os t) w
+unfolding carry apply line_stores
+line-stores-current [] t w = refl
+line-stores-current (flush k ∷ os) t w = line-stores-current os t w
+line-stores-current (barrier ∷ os) t w = line-stores-current os t w
+line-stores-current (store s ∷ os) t w = go (eqb (line s.word) (line w)) refl (line-stores-current os (set t s.word s.value) w)
+  where
+    go : (q : Bool) → eqb (line s.word) (line w) ≡ q → at (apply (line_stores (line w) os) (set t s.word s.value)) w ≡ at (carry os (set t s.word s.value)) w
+        → at (apply (cond q (s ∷ line_stores (line w) os) (line_stores (line w) os)) t) w ≡ at (carry os (set t s.word s.value)) w
+    go true e ih = ih
+    go false e ih =
+        apply-agree (line_stores (line w) os) t (set t s.word s.value) w (sym (length-set t _ _)) (sym (set-elsewhere t s w (eqb-false _ _ e))) ∙ ih
+
+-- ---- the last flush of a line
 
 pub flushed-append : (l : ℕ) (a b : List Order) → flushed l (a ++ b) ≡ flushed l a || flushed l b
 unfolding flushed
@@ -40,6 +66,21 @@ unfolding up_to_flush
 up_to_flush-nil l [] e = refl
 up_to_flush-nil l (o ∷ os) e = rw e
 
+pub since-all : (l : ℕ) (os : List Order) → flushed l os ≡ false → since_flush l os ≡ os
+unfolding since_flush
+since-all l [] e = refl
+since-all l (o ∷ os) e = rw e
+
+-- the orders are those up to it and those since
+up-to-since : (l : ℕ) (os : List Order) → up_to_flush l os ++ since_flush l os ≡ os
+unfolding up_to_flush since_flush
+up-to-since l [] = refl
+up-to-since l (o ∷ os) = go (flushed l (o ∷ os)) (up-to-since l os)
+  where
+    go : (b : Bool) → up_to_flush l os ++ since_flush l os ≡ os → cond b (o ∷ up_to_flush l os) [] ++ cond b (since_flush l os) (o ∷ os) ≡ o ∷ os
+    go true ih = ap (λ q. o ∷ q) ih
+    go false ih = refl
+
 -- b flushes l
 module _ (l : ℕ) (b : List Order) (e : flushed l b ≡ true) where
   flushed-after : (a : List Order) → flushed l (a ++ b) ≡ true
@@ -50,12 +91,13 @@ module _ (l : ℕ) (b : List Order) (e : flushed l b ≡ true) where
   up_to_flush-after [] = refl
   up_to_flush-after (o ∷ a) = rw (flushed-after (o ∷ a), up_to_flush) (ap (λ q. o ∷ q) (up_to_flush-after a))
 
+  since-after : (a : List Order) → since_flush l (a ++ b) ≡ since_flush l b
+  unfolding since_flush
+  since-after [] = refl
+  since-after (o ∷ a) = rw (flushed-after (o ∷ a)) (since-after a)
+
   pub later_stores-after : (a : List Order) → later_stores l (a ++ b) ≡ later_stores l b
-  unfolding later_stores
-  later_stores-after [] = refl
-  later_stores-after (store s ∷ a) = rw (flushed-after a, and-false (eqb (line s.word) l)) (later_stores-after a)
-  later_stores-after (flush k ∷ a) = later_stores-after a
-  later_stores-after (barrier ∷ a) = later_stores-after a
+  later_stores-after a = ap (line_stores l) (since-after a)
 
 -- b does not
 module _ (l : ℕ) (b : List Order) (e : flushed l b ≡ false) where
@@ -67,61 +109,64 @@ module _ (l : ℕ) (b : List Order) (e : flushed l b ≡ false) where
   up_to_flush-before [] = up_to_flush-nil l b e
   up_to_flush-before (o ∷ a) = rw (flushed-before (o ∷ a), up_to_flush-before a)
 
-  pub later_stores-before : (a : List Order) → later_stores l (a ++ b) ≡ later_stores l a ++ later_stores l b
-  unfolding later_stores
-  later_stores-before [] = refl
-  later_stores-before (store s ∷ a) =
-      rw (flushed-before a, later_stores-before a) (cond-append (eqb (line s.word) l && not (flushed l a)) s (later_stores l a) (later_stores l b))
-  later_stores-before (flush k ∷ a) = later_stores-before a
-  later_stores-before (barrier ∷ a) = later_stores-before a
+  since-before : (a : List Order) → since_flush l (a ++ b) ≡ since_flush l a ++ b
+  unfolding since_flush
+  since-before [] = since-all l b e
+  since-before (o ∷ a) = rw (flushed-before (o ∷ a)) (go (flushed l (o ∷ a)) (since-before a))
+    where
+      go : (q : Bool) → since_flush l (a ++ b) ≡ since_flush l a ++ b → cond q (since_flush l (a ++ b)) (o ∷ (a ++ b)) ≡ cond q (since_flush l a) (o ∷ a) ++ b
+      go true ih = ih
+      go false ih = refl
 
--- ---- one store in front, or at the end
+  pub later_stores-before : (a : List Order) → later_stores l (a ++ b) ≡ later_stores l a ++ later_stores l b
+  later_stores-before a = rw (since-before a, since-all l b e) (line-stores-append l (since_flush l a) b)
+
+-- ---- one flush; one store in front, or at the end
+
+pub flush-front : (l k : ℕ) (os : List Order) → later_stores l (flush k ∷ os) ≡ later_stores l os
+unfolding since_flush line_stores flushed
+flush-front l k os = go (eqb k l || flushed l os) refl
+  where
+    go : (b : Bool) → eqb k l || flushed l os ≡ b → line_stores l (cond b (since_flush l os) (flush k ∷ os)) ≡ line_stores l (since_flush l os)
+    go true e = refl
+    go false e = ap (line_stores l) (sym (since-all l os ((or-false-iff (eqb k l) (flushed l os)).0 e).1))
+
+pub flush-alone : (l k : ℕ) → later_stores l (flush k ∷ []) ≡ []
+unfolding since_flush line_stores
+flush-alone l k = flush-front l k []
+
+other-one : (s : Store) (os : List Order) (l : ℕ) → line s.word ≢ l → line_stores l (store s ∷ os) ≡ line_stores l os
+unfolding line_stores
+other-one s os l k = rw (ne_eqb (line s.word) l k)
+
+pub other-front : (s : Store) (os : List Order) (l : ℕ) → line s.word ≢ l → later_stores l (store s ∷ os) ≡ later_stores l os
+unfolding since_flush flushed
+other-front s os l k = go (flushed l os) refl
+  where
+    go : (b : Bool) → flushed l os ≡ b → line_stores l (cond b (since_flush l os) (store s ∷ os)) ≡ line_stores l (since_flush l os)
+    go true e = refl
+    go false e = rw (since-all l os e) (other-one s os l k)
 
 -- a store to a line that is flushed after it is no later store
 pub flushed-front : (s : Store) (os : List Order) (l : ℕ) → flushed (line s.word) os ≡ true → later_stores l (store s ∷ os) ≡ later_stores l os
-unfolding later_stores
+unfolding since_flush flushed
 flushed-front s os l f = go (ℕ_discrete (line s.word) l)
   where
     go : Dec (line s.word ≡ l) → later_stores l (store s ∷ os) ≡ later_stores l os
-    go (yes e) = rw (rw e at f, and-false (eqb (line s.word) l))
-    go (no k) = rw (ne_eqb (line s.word) l k)
-
-pub other-front : (s : Store) (os : List Order) (l : ℕ) → line s.word ≢ l → later_stores l (store s ∷ os) ≡ later_stores l os
-unfolding later_stores
-other-front s os l k = rw (ne_eqb (line s.word) l k)
+    go (yes e) = rw (rw e at f)
+    go (no k) = other-front s os l k
 
 pub same-end : (os : List Order) (s : Store) → later_stores (line s.word) (os ++ (store s ∷ [])) ≡ later_stores (line s.word) os ++ (s ∷ [])
-unfolding flushed later_stores
+unfolding flushed since_flush line_stores
 same-end os s = rw (later_stores-before (line s.word) (store s ∷ []) refl os, eq-eqb (line s.word) (line s.word) refl)
 
 pub other-end : (os : List Order) (s : Store) (l : ℕ) → l ≢ line s.word → later_stores l (os ++ (store s ∷ [])) ≡ later_stores l os
-unfolding flushed later_stores
+unfolding flushed since_flush line_stores
 other-end os s l k = rw (later_stores-before l (store s ∷ []) refl os, ne_eqb (line s.word) l (λ q. k (sym q)), append-nil)
 
 -- ---- with all its later stores a line is as the orders leave it
 
 pub line-current : (os : List Order) (t : Words) (w : ℕ) → at (apply (later_stores (line w) os) (carry (up_to_flush (line w) os) t)) w ≡ at (carry os t) w
-unfolding carry apply up_to_flush later_stores flushed
-line-current [] t w = refl
-line-current (barrier ∷ os) t w = go (flushed (line w) os) refl (line-current os t w)
-  where
-    go : (b : Bool) → flushed (line w) os ≡ b → at (apply (later_stores (line w) os) (carry (up_to_flush (line w) os) t)) w ≡ at (carry os t) w
-        → at (apply (later_stores (line w) os) (carry (cond b (barrier ∷ up_to_flush (line w) os) []) t)) w ≡ at (carry os t) w
-    go true e ih = ih
-    go false e ih = rw (up_to_flush-nil (line w) os e) at ih
-line-current (flush k ∷ os) t w = go (flushed (line w) (flush k ∷ os)) refl (line-current os t w)
-  where
-    go : (b : Bool) → flushed (line w) (flush k ∷ os) ≡ b → at (apply (later_stores (line w) os) (carry (up_to_flush (line w) os) t)) w ≡ at (carry os t) w
-        → at (apply (later_stores (line w) os) (carry (up_to_flush (line w) (flush k ∷ os)) t)) w ≡ at (carry os t) w
-    go true e ih = rw e ih
-    go false e ih = rw e (rw (up_to_flush-nil (line w) os ((or-false-iff (eqb k (line w)) (flushed (line w) os)).0 e).1) at ih)
-line-current (store s ∷ os) t w =
-    go (flushed (line w) os) (eqb (line s.word) (line w)) refl refl (line-current os _ w)
-  where
-    go : (b q : Bool) → flushed (line w) os ≡ b → eqb (line s.word) (line w) ≡ q → at (apply (later_stores (line w) os) (carry (up_to_flush (line w) os) (set t s.word s.value))) w ≡ at (carry os (set t s.word s.value)) w
-        → at (apply (cond (q && not b) (s ∷ later_stores (line w) os) (later_stores (line w) os)) (carry (cond b (store s ∷ up_to_flush (line w) os) []) t)) w ≡ at (carry os (set t s.word s.value)) w
-    go true true e f ih = ih
-    go true false e f ih = ih
-    go false true e f ih = rw (up_to_flush-nil (line w) os e) at ih
-    go false false e f ih =
-        apply-agree (later_stores (line w) os) t (set t s.word s.value) w (sym (length-set t _ _)) (sym (set-elsewhere t s w (eqb-false _ _ f))) ∙ rw (up_to_flush-nil (line w) os e) at ih
+line-current os t w =
+    line-stores-current (since_flush (line w) os) (carry (up_to_flush (line w) os) t) w
+    ∙ ap (λ (u : Words). at u w) (sym (carry-append (up_to_flush (line w) os) (since_flush (line w) os) t) ∙ ap (λ (q : List Order). carry q t) (up-to-since (line w) os))

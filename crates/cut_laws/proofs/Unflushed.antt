@@ -9,12 +9,12 @@ use borrow.Author.Tests.{eq-eqb}
 use lib.ListN.{take}
 use lib.Seq.{take-nil}
 use Rattle.model.specs.Table.{line}
-use Rattle.model.specs.Orders.{Store, Order, store, orders_after, orders}
-use Rattle.model.specs.Cuts.{flushed, later_stores}
+use Rattle.model.specs.Orders.{Store, Order, store, flush, orders_after, orders}
+use Rattle.model.specs.Cuts.{flushed, since_flush, line_stores, later_stores}
 use Rattle.model.specs.Judge.{OneUnflushed, AllFlushed}
 use Rattle.cut_laws.specs.Unflushed.{OneLine}
 use Rattle.cut_laws.proofs.FlushRule.{after-same, after-other}
-use Rattle.cut_laws.proofs.LastFlush.{flushed-front, other-front}
+use Rattle.cut_laws.proofs.LastFlush.{flush-front, flush-alone, flushed-front, other-front}
 
 -- ---- at the end
 
@@ -28,18 +28,18 @@ after-flushes (s ∷ ss) l = go (ℕ_discrete (line s.word) l) (after-flushes ss
     go (no k) ih = rw (after-other l s ss k, eq-eqb l l refl)
 
 after-flushed : (ss : List Store) (d : ℕ) → AllFlushed (orders_after d ss)
-unfolding orders_after later_stores
-after-flushed [] d l = refl
+unfolding orders_after since_flush line_stores
+after-flushed [] d l = flush-alone l d
 after-flushed (s ∷ ss) d l = go (ℕ_discrete (line s.word) d) (after-flushed ss)
   where
     go : Dec (line s.word ≡ d) → ((d : ℕ) → AllFlushed (orders_after d ss)) → later_stores l (orders_after d (s ∷ ss)) ≡ []
     go (yes e) ih = rw (after-same d s ss e) (flushed-front s (orders_after d ss) l (rw e (after-flushes ss d)) ∙ ih d l)
     go (no k) ih =
-        rw (after-other d s ss k) (flushed-front s (orders_after (line s.word) ss) l (after-flushes ss (line s.word)) ∙ ih (line s.word) l)
+        rw (after-other d s ss k, flush-front l d) (flushed-front s (orders_after (line s.word) ss) l (after-flushes ss (line s.word)) ∙ ih (line s.word) l)
 
 -- No store is left unflushed.
 pub orders-flushed : (ss : List Store) → AllFlushed (orders ss)
-unfolding orders later_stores
+unfolding orders since_flush line_stores
 orders-flushed [] l = refl
 orders-flushed (s ∷ ss) l =
     flushed-front s (orders_after (line s.word) ss) l (after-flushes ss (line s.word)) ∙ after-flushed ss (line s.word) l
@@ -61,24 +61,27 @@ fits-one d os (inl a) k l n = a.1 k l n
 fits-one d os (inr only) k l n = elim (ℕ_discrete d k) [ yes e ↦ inr (only l (λ q. n (sym e ∙ q))) | no j ↦ inl (only k j) ]
 
 fits-start : (s : Store) (ss : List Store) → ((d c : ℕ) → Fits d (take c (orders_after d ss))) → (c : ℕ) → OneUnflushed (take c (store s ∷ orders_after (line s.word) ss))
-unfolding later_stores
+unfolding since_flush line_stores
 fits-start s ss ih zero = λ k l n. inl refl
 fits-start s ss ih (suc c) =
     fits-one (line s.word) _ (fits-store s (take c (orders_after (line s.word) ss)) (line s.word) refl (ih (line s.word) c))
 
+fits-flush : (d : ℕ) (os : List Order) → OneUnflushed os → OneUnflushed (flush d ∷ os)
+fits-flush d os one k l n = rw (flush-front k d os, flush-front l d os) (one k l n)
+
 fits-after : (ss : List Store) (d c : ℕ) → Fits d (take c (orders_after d ss))
-unfolding orders_after later_stores flushed
+unfolding orders_after since_flush line_stores flushed
 fits-after [] d zero = inr (λ l k. refl)
-fits-after [] d (suc c) = inr (λ l k. rw (take-nil {A = Order} c))
+fits-after [] d (suc c) = inr (λ l k. rw (take-nil {A = Order} c) (flush-alone l d))
 fits-after (s ∷ ss) d zero = inr (λ l k. refl)
 fits-after (s ∷ ss) d (suc c) = go (ℕ_discrete (line s.word) d) (fits-after ss)
   where
     go : Dec (line s.word ≡ d) → ((d c : ℕ) → Fits d (take c (orders_after d ss))) → Fits d (take (suc c) (orders_after d (s ∷ ss)))
     go (yes e) ih = rw (after-same d s ss e) (fits-store s (take c (orders_after d ss)) d e (ih d c))
-    go (no k) ih = rw (after-other d s ss k) (inl (rw (eq-eqb d d refl) refl, fits-start s ss ih c))
+    go (no k) ih = rw (after-other d s ss k) (inl (rw (eq-eqb d d refl) refl, fits-flush d (take c (store s ∷ orders_after (line s.word) ss)) (fits-start s ss ih c)))
 
 -- No two lines ever hold unflushed stores.
 pub orders-one-line : (ss : List Store) → OneLine (orders ss)
-unfolding orders later_stores
+unfolding orders since_flush line_stores
 orders-one-line [] c k l n = inl (rw (take-nil {A = Order} c))
 orders-one-line (s ∷ ss) c k l n = fits-start s ss (fits-after ss) c k l n

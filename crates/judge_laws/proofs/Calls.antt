@@ -10,7 +10,7 @@ use lib.ListN.{length, take}
 use Rattle.std.specs.Prelude.{Ok, Err, Some, None}
 use Rattle.model.specs.Results.{Verdict, refused_with}
 use Rattle.model.specs.Table.{Words, header_ok}
-use Rattle.model.specs.SoundTest.{sound, settled}
+use Rattle.model.specs.SoundTest.{settled}
 use Rattle.model.specs.Orders.{Order, orders, carry, decode, all_inside, carry_number, carried_out}
 use Rattle.model.specs.Writes.{Call, stores_of}
 use Rattle.model.specs.Refusals.{seventeen_in, refusal, orders_of, written, orders_answered, list_after}

@@ -12,8 +12,8 @@ use borrow.Author.Tests.{eqb-true, eqb-false, eq-eqb, ne_eqb}
 use lib.ListN.{length, length-append}
 use Rattle.model.specs.Table.{line}
 use Rattle.model.specs.Orders.{Store, Order, store, flush, barrier}
-use Rattle.model.specs.Cuts.{flushed, later_stores}
-use Rattle.cut_laws.proofs.LastFlush.{later_stores-after, later_stores-before, same-end, other-end}
+use Rattle.model.specs.Cuts.{flushed, since_flush, line_stores, later_stores}
+use Rattle.cut_laws.proofs.LastFlush.{later_stores-after, later_stores-before, flush-alone, same-end, other-end}
 use Rattle.model.specs.Judge.{OneUnflushed, AllFlushed, unflushed_after, second_line}
 
 -- l is the line that holds unflushed stores after these orders; with none, no line does
@@ -22,7 +22,7 @@ Holding none os = AllFlushed os
 Holding (some l) os = (later_stores l os ≢ []) × ((k : ℕ) → k ≢ l → later_stores k os ≡ [])
 
 pub holding-nil : Holding none []
-unfolding later_stores
+unfolding since_flush line_stores
 holding-nil l = refl
 
 -- then no two lines do
@@ -48,12 +48,13 @@ holding-store (some l) os s h e = (store-leaves os s, λ k z. other-end os s k z
 
 -- a flush of line k empties it and leaves the others
 flush-own : (os : List Order) (k : ℕ) → later_stores k (os ++ (flush k ∷ [])) ≡ []
-unfolding later_stores flushed
-flush-own os k = later_stores-after k (flush k ∷ []) (rw (eq-eqb k k refl)) os
+unfolding flushed
+flush-own os k = later_stores-after k (flush k ∷ []) (rw (eq-eqb k k refl)) os ∙ flush-alone k k
 
 flush-other : (os : List Order) (k j : ℕ) → k ≢ j → later_stores j (os ++ (flush k ∷ [])) ≡ later_stores j os
-unfolding later_stores flushed
-flush-other os k j z = later_stores-before j (flush k ∷ []) (rw (ne_eqb k j z)) os ∙ append-nil (later_stores j os)
+unfolding flushed
+flush-other os k j z =
+    later_stores-before j (flush k ∷ []) (rw (ne_eqb k j z)) os ∙ rw (flush-alone j k) (append-nil (later_stores j os))
 
 flush-empty : (os : List Order) (k j : ℕ) → later_stores j os ≡ [] → later_stores j (os ++ (flush k ∷ [])) ≡ []
 flush-empty os k j e = elim (ℕ_discrete k j) [ yes q ↦ rw q (flush-own os j) | no z ↦ flush-other os k j z ∙ e ]
@@ -67,7 +68,7 @@ holding-flush (some l) os k h = go (eqb k l) refl
     go false e = (λ q. h.0 (sym (flush-other os k l (eqb-false k l e)) ∙ q), λ j z. flush-empty os k j (h.1 j z))
 
 barrier-same : (os : List Order) (j : ℕ) → later_stores j (os ++ (barrier ∷ [])) ≡ later_stores j os
-unfolding later_stores flushed
+unfolding since_flush line_stores flushed
 barrier-same os j = later_stores-before j (barrier ∷ []) refl os ∙ append-nil (later_stores j os)
 
 holding-barrier : (l : Option ℕ) (os : List Order) → Holding l os → Holding l (os ++ (barrier ∷ []))

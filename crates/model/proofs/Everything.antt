@@ -52,7 +52,7 @@ unfolding Numbers.first_of Numbers.refusal_of
     Listing.in_range_of Listing.listed Listing.listed_words Listing.list_number Listing.list Listing.list_out
     Orders.apply Orders.carry Orders.orders_after Orders.orders Orders.with_barriers Orders.without_barriers Orders.store_count Orders.flush_count
     Orders.barrier_count Orders.encode Orders.decode Orders.list_with Orders.all_inside Orders.carry_number Orders.carry_out Orders.carried_out
-    Cuts.flushed Cuts.up_to_flush Cuts.since_flush Cuts.later_stores Cuts.to_barrier Cuts.choice
+    Cuts.flushed Cuts.up_to_flush Cuts.since_flush Cuts.line_stores Cuts.to_barrier Cuts.choice
     Shifts.last_pointer Shifts.move_up Shifts.move_down Shifts.shift_in Shifts.close Shifts.shift_out Shifts.place_of Shifts.hidden_place
     Writes.shift_in_at Writes.shift_out_at Writes.close_at Writes.numbers Writes.unreached Writes.unreachable Writes.fresh Writes.put_all Writes.node_words
     Writes.split_words Writes.split Writes.new_root Writes.cut_off Writes.attach Writes.repair_of Writes.repair_stores Writes.repaired Writes.standing_in

@@ -1,5 +1,5 @@
 -- Document 01, "Orders", and request 7: what memory may hold after a cut, line by line, on each dock.
-use Rattle.std.specs.Prelude.{◌≡◌, ◌⊎◌, Bool, false, cond, not, ◌&&◌, ◌||◌, List, [], ◌∷◌, ◌++◌, ℕ, zero, suc, eqb, length, take}
+use Rattle.std.specs.Prelude.{◌≡◌, ◌⊎◌, Bool, false, cond, ◌||◌, List, [], ◌∷◌, ◌++◌, ℕ, zero, suc, eqb, length, take}
 use Rattle.model.specs.Table.{Words, at, line}
 use Rattle.model.specs.Orders.{Store, Order, store, flush, barrier, apply, carry}
 
@@ -20,13 +20,16 @@ unfoldable pub since_flush : ℕ → List Order → List Order
 since_flush l [] = []
 since_flush l (o ∷ os) = cond (flushed l (o ∷ os)) (since_flush l os) (o ∷ os)
 
--- the later stores to line l: those after its last flush; with none, all stores to it. They are the stores to it of `since_flush`:
--- `since-later` in crates/cut_laws/proofs/Docks.antt.
-unfoldable pub later_stores : ℕ → List Order → List Store
-later_stores l [] = []
-later_stores l (flush k ∷ os) = later_stores l os
-later_stores l (barrier ∷ os) = later_stores l os
-later_stores l (store s ∷ os) = cond (eqb (line s.word) l && not (flushed l os)) (s ∷ later_stores l os) (later_stores l os)
+-- the stores to line l among orders
+unfoldable pub line_stores : ℕ → List Order → List Store
+line_stores l [] = []
+line_stores l (store s ∷ os) = cond (eqb (line s.word) l) (s ∷ line_stores l os) (line_stores l os)
+line_stores l (flush k ∷ os) = line_stores l os
+line_stores l (barrier ∷ os) = line_stores l os
+
+-- the later stores to line l: those after its last flush; with none, all stores to it
+abbrev pub later_stores : ℕ → List Order → List Store
+later_stores l os = line_stores l (since_flush l os)
 
 -- ---- what of a line's later stores may have reached memory
 
@@ -58,7 +61,7 @@ pub record AnyChoice (l : ℕ) (later : List Order) (part : List Store) : Type 0
   pub marks : List Bool
   pub parted : later ≡ before ++ rest
   pub up-to : UpToBarrier before
-  pub holds : part ≡ later_stores l before ++ choice marks (later_stores l (to_barrier rest))
+  pub holds : part ≡ line_stores l before ++ choice marks (line_stores l (to_barrier rest))
 
 abbrev pub MayArrive : (dock l : ℕ) → List Order → List Store → Type 0
 MayArrive zero l os part = FirstPart (later_stores l os) part

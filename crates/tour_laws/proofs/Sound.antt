@@ -50,14 +50,14 @@ module _ (all : List Slot) (f : MapRises all) where
       })
 
   -- what is gathered in their order drops nothing: the rest stays the rest
-  record Kept (g h : Gathered) (ss : List Slot) : Type 0 where
+  record DropsNone (g h : Gathered) (ss : List Slot) : Type 0 where
     rest : Rest h ss
     dropped : h.dropped ≡ g.dropped
 
-  kept-then : (g h k : Gathered) (ss us : List Slot) → Kept g h ss → Kept h k us → Kept g k us
+  kept-then : (g h k : Gathered) (ss us : List Slot) → DropsNone g h ss → DropsNone h k us → DropsNone g k us
   kept-then g h k ss us a b = record { rest = b.rest; dropped = b.dropped ∙ a.dropped }
 
-  slot-gathers : (n : ℕ) (g : Gathered) (x : Placed) (ss : List Slot) → Rest g (x.slot ∷ ss) → Kept g (gather_slot n g x) ss
+  slot-gathers : (n : ℕ) (g : Gathered) (x : Placed) (ss : List Slot) → Rest g (x.slot ∷ ss) → DropsNone g (gather_slot n g x) ss
   slot-gathers n g x ss e =
       let ps = g.kept in
       let s = x.slot in
@@ -65,7 +65,7 @@ module _ (all : List Slot) (f : MapRises all) where
       let q = slot-kept n g x (reason-none ps s ss e) in
       record { rest = ap (λ (h : Gathered). h.kept ++ ss) q ∙ ap (λ (l : List Slot). l ++ ss) at-end ∙ append_assoc ps (s ∷ []) ss ∙ e; dropped = ap (λ (h : Gathered). h.dropped) q }
 
-  slots-gather : (n : ℕ) (xs : List Placed) (g : Gathered) (ss : List Slot) → Rest g (map (λ (x : Placed). x.slot) xs ++ ss) → Kept g (gather_slots n xs g) ss
+  slots-gather : (n : ℕ) (xs : List Placed) (g : Gathered) (ss : List Slot) → Rest g (map (λ (x : Placed). x.slot) xs ++ ss) → DropsNone g (gather_slots n xs g) ss
   unfolding gather_slots
   slots-gather n [] g ss e = record { rest = e; dropped = refl }
   slots-gather n (x ∷ xs) g ss e =
@@ -76,24 +76,24 @@ module _ (all : List Slot) (f : MapRises all) where
     abbrev v : View
     v = view_from t r
 
-    leaf-gathers : (n : ℕ) (g : Gathered) (ss : List Slot) → (v.node n).level ≡ 0 → SiblingIn v n → Rest g (kept v n ++ ss) → Kept g (gather_slots n (collected t n) g) ss
+    leaf-gathers : (n : ℕ) (g : Gathered) (ss : List Slot) → (v.node n).level ≡ 0 → SiblingIn v n → Rest g (kept v n ++ ss) → DropsNone g (gather_slots n (collected t n) g) ss
     leaf-gathers n g ss l s e =
         rw (collected-leaf t n l) (slots-gather n (followed t n) g ss (ap (λ (l : List Slot). g.kept ++ (l ++ ss)) (followed-kept t r n s) ∙ e))
 
-    inner-gathers : (d n : ℕ) (g : Gathered) (ss : List Slot) → (v.node n).level ≡ suc d → Rest g ss → Kept g (gather_slots n (collected t n) g) ss
+    inner-gathers : (d n : ℕ) (g : Gathered) (ss : List Slot) → (v.node n).level ≡ suc d → Rest g ss → DropsNone g (gather_slots n (collected t n) g) ss
     inner-gathers d n g ss l e = rw (collected-inner t n (λ z. omega arith)) (slots-gather n [] g ss e)
 
     -- along nodes entered, the leaves among which hold the rest
-    nodes-gather : (ns : List ℕ) (g : Gathered) → Each (SiblingIn v) (leaves_in t ns) → Rest g (flat (kept v) (leaves_in t ns)) → Kept g (gather_nodes t ns g) []
+    nodes-gather : (ns : List ℕ) (g : Gathered) → Each (SiblingIn v) (leaves_in t ns) → Rest g (flat (kept v) (leaves_in t ns)) → DropsNone g (gather_nodes t ns g) []
     unfolding gather_nodes leaves_in filter flat
     nodes-gather [] g s e = record { rest = e; dropped = refl }
     nodes-gather (n ∷ ns) g s e = node-gathers n ns g (nodes-gather ns (gather_slots n (collected t n) g)) s e
       where
-        node-gathers : (n : ℕ) (ns : List ℕ) (g : Gathered) → (let h = gather_slots n (collected t n) g in Each (SiblingIn v) (leaves_in t ns) → Rest h (flat (kept v) (leaves_in t ns)) → Kept h (gather_nodes t ns h) [])
-            → Each (SiblingIn v) (leaves_in t (n ∷ ns)) → Rest g (flat (kept v) (leaves_in t (n ∷ ns))) → Kept g (gather_nodes t ns (gather_slots n (collected t n) g)) []
+        node-gathers : (n : ℕ) (ns : List ℕ) (g : Gathered) → (let h = gather_slots n (collected t n) g in Each (SiblingIn v) (leaves_in t ns) → Rest h (flat (kept v) (leaves_in t ns)) → DropsNone h (gather_nodes t ns h) [])
+            → Each (SiblingIn v) (leaves_in t (n ∷ ns)) → Rest g (flat (kept v) (leaves_in t (n ∷ ns))) → DropsNone g (gather_nodes t ns (gather_slots n (collected t n) g)) []
         node-gathers n ns g ih s e =
             let h = gather_slots n (collected t n) g in
-            by-level v (λ (k : ℕ). Kept g (gather_nodes t ns h) []) n
+            by-level v (λ (k : ℕ). DropsNone g (gather_nodes t ns h) []) n
             (λ l.
             let q = leaf-in t n ns l in
             let s' : Each (SiblingIn v) (n ∷ leaves_in t ns) = subst (λ (x : List ℕ). Each (SiblingIn v) x) q s in

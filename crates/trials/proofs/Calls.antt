@@ -52,8 +52,8 @@ runs =
     ∷ []
 
 -- leftover (a) in a leaf and in an inner node, at slot 0, between two slots and at the end; with a full leaf
-abbrev pub hidden_slots : List Trial
-hidden_slots =
+abbrev pub hidden_trials : List Trial
+hidden_trials =
     small (apply (put (pointer_word 1 0) MARK ∷ []) (one_level 3 (stale 1))) (repair ∷ insertion 1 5 7 0 ∷ deletion 1 30 ∷ [])
     ∷ small (apply (put (pointer_word 1 1) 101 ∷ []) (one_level 3 (stale 1))) (repair ∷ insertion 1 20 7 0 ∷ deletion 1 10 ∷ [])
     ∷ small (apply (put (pointer_word 1 2) 102 ∷ []) (one_level 3 (stale 1))) (repair ∷ insertion 1 35 7 0 ∷ deletion 1 20 ∷ [])
@@ -150,9 +150,9 @@ split-two : all (passes view) runs ≡ true
 unfolding everything ten_slots quick
 split-two = quickly runs refl
 
-hidden-slots : all (passes view) hidden_slots ≡ true
+hidden-slots : all (passes view) hidden_trials ≡ true
 unfolding everything ten_slots quick
-hidden-slots = quickly hidden_slots refl
+hidden-slots = quickly hidden_trials refl
 
 missing-slots : all (passes view) missing_slots ≡ true
 unfolding everything ten_slots quick
@@ -186,9 +186,9 @@ and-more (t ∷ ts) us e f =
     join (passes view t) (all (passes view) ts) (all (passes view) (ts ++ us)) e (λ h. and-more ts us h f)
 
 abbrev pub all_trials : List Trial
-all_trials = in_leaf ++ (splitting ++ (runs ++ (hidden_slots ++ (missing_slots ++ (cuts ++ (freeing ++ (classes ++ refusals)))))))
+all_trials = in_leaf ++ (splitting ++ (runs ++ (hidden_trials ++ (missing_slots ++ (cuts ++ (freeing ++ (classes ++ refusals)))))))
 
 pub trials : all (passes view) all_trials ≡ true
 trials =
-    and-more in_leaf _ in-leaf (and-more splitting _ split-one (and-more runs _ split-two (and-more hidden_slots _ hidden-slots
+    and-more in_leaf _ in-leaf (and-more splitting _ split-one (and-more runs _ split-two (and-more hidden_trials _ hidden-slots
     (and-more missing_slots _ missing-slots (and-more cuts _ cut-calls (and-more freeing _ freed-leaves (and-more classes refusals class-changes refused-calls)))))))

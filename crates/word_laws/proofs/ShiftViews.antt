@@ -6,7 +6,7 @@ use Prim.Native.Nat.{ℕ, ◌≤◌, ◌<◌}
 use native.Mathlib.Omega.{arith}
 use lib.Dec.{eqb}
 use lib.ListN.{length, take, set, length-take, length-drop}
-use Rattle.model.specs.Table.{Words, at, has_node, node_start, node, spare, all_zero}
+use Rattle.model.specs.Table.{Words, has_node, node_start, node, spare, all_zero}
 use Rattle.model.specs.Slots.{Slot, slots_of, clear_in, used, node_view}
 use Rattle.model.specs.Shifts.{SlotStore, pointer_to, pointer_word, shift_in, shift_out, close, place_of, hidden_place}
 use Rattle.model.specs.Writes.{shift_in_at, shift_out_at, close_at}

@@ -31,15 +31,15 @@ holding t x ss =
     }
 
 module _ (t t' : Words) (x : ℕ) (ss : List Slot) (h : has_node t x ≡ true) (o : Only t t' x ss) where
-  abbrev slot_words : ℕ
-  slot_words = node_start x + 8
+  abbrev slots_start : ℕ
+  slots_start = node_start x + 8
 
   pub only-elsewhere : Elsewhere x t t'
-  only-elsewhere = outside-wider slot_words 24 (node_start x) 32 t t' (omega arith) (omega arith) o.outside
+  only-elsewhere = outside-wider slots_start 24 (node_start x) 32 t t' (omega arith) (omega arith) o.outside
 
   lefts : (node t' x).left ≡ (node t x).left
   unfolding node_start
-  lefts = left-same slot_words 24 t t' o.outside x (omega arith)
+  lefts = left-same slots_start 24 t t' o.outside x (omega arith)
 
   useds : used t' x ≡ in_use ss
   unfolding used
@@ -47,7 +47,7 @@ module _ (t t' : Words) (x : ℕ) (ss : List Slot) (h : has_node t x ≡ true) (
 
   clears : clear_in t' x ≡ (all_zero (spare t x) && eqb (pointer_at ss 11) 0)
   unfolding node_start clear_in
-  clears = rw (spare-same slot_words 24 t t' o.outside x (omega arith), at-pointer 11 (node t' x).slots, o.own)
+  clears = rw (spare-same slots_start 24 t t' o.outside x (omega arith), at-pointer 11 (node t' x).slots, o.own)
 
   pub only-view : ButAt (node_view t) (node_view t') x (holding t x ss)
   unfolding node_start
@@ -55,9 +55,9 @@ module _ (t t' : Words) (x : ℕ) (ss : List Slot) (h : has_node t x ≡ true) (
     else = (view-else t t' x only-elsewhere ((has-node-iff t x).0 h).0).else;
     here = λ i. record {
       left = lefts i;
-      sibling = sibling-same slot_words 24 t t' o.outside x (omega arith) i;
-      level = level-same slot_words 24 t t' o.outside x (omega arith) i;
-      fence = fence-same slot_words 24 t t' o.outside x (omega arith) i;
+      sibling = sibling-same slots_start 24 t t' o.outside x (omega arith) i;
+      level = level-same slots_start 24 t t' o.outside x (omega arith) i;
+      fence = fence-same slots_start 24 t t' o.outside x (omega arith) i;
       shown = shown (lefts i) (useds i);
       hidden = length (hidden_slots (lefts i) (useds i));
       clear = clears i;
