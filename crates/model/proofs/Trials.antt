@@ -14,7 +14,7 @@ use Rattle.model.specs.Slots.{Slot, slot, View, view}
 use Rattle.model.specs.Search.{search_view, lookup}
 use Rattle.model.specs.Reached.{mapping, map_of, reached, flat}
 use Rattle.model.specs.SoundTest.{all, leftover, sound_view, settled_view, settled}
-use Rattle.model.specs.Orders.{Store, put, apply, Order, store, barrier, carry, orders, BAR, carry_number, carried_out}
+use Rattle.model.specs.Orders.{Store, put, apply, Order, store, flush, barrier, carry, orders, BAR, carry_number, carried_out}
 use Rattle.model.specs.Cuts.{up_to_flush, later_stores, MayArrive}
 use Rattle.model.specs.Shifts.{pointer_word}
 use Rattle.model.specs.Writes.{node_words, Call, insertion, deletion, class_change, repair, stores_of, repair_of, numbers}
@@ -263,3 +263,19 @@ few-docked = record {
     holds = refl;
   };
 }
+
+-- ---- later stores
+
+-- stores to lines 1 and 2, and a flush of line 1 after the first
+abbrev pub flushed_once : List Order
+flushed_once = store (put 8 1) ∷ flush 1 ∷ store (put 9 2) ∷ store (put 16 3) ∷ barrier ∷ store (put 8 4) ∷ []
+
+pub record Later : Type 0 where
+  -- of a line the stores to it after its last flush; with none, all stores to it
+  pub after-flush : later_stores 1 flushed_once ≡ put 9 2 ∷ put 8 4 ∷ []
+  pub unflushed : (later_stores 2 flushed_once ≡ put 16 3 ∷ []) × (later_stores 0 flushed_once ≡ [])
+  pub up-to : up_to_flush 1 flushed_once ≡ store (put 8 1) ∷ flush 1 ∷ []
+
+pub few-later : Later
+unfolding everything
+few-later = record { after-flush = refl; unflushed = (refl, refl); up-to = refl }
