@@ -1,13 +1,13 @@
 -- Document 02, request 10: a search whose looks fall between the orders of one call. With one table throughout it is the search of Search.antt:
 -- `looks-still` in crates/reader_laws/proofs/Still.antt.
-use Rattle.std.specs.Prelude.{◌≡◌, ◌⊎◌, Bool, true, false, cond, not, ◌&&◌, ◌||◌, ℕ, zero, suc, ◌≤◌, ◌<◌, leb, ltb, eqb, length, take, Some, None}
+use Rattle.std.specs.Prelude.{◌≡◌, ◌⊎◌, Bool, true, false, cond, not, ◌&&◌, ◌||◌, ℕ, zero, suc, ◌≤◌, ◌<◌, leb, eqb, length, take, Some, None}
 use mathlib.Core.List.{List, [], ◌∷◌, ◌++◌, Memᴰ}
 use Rattle.std.proofs.Math.Option.{Option, none, some}
 use Rattle.model.specs.declared.Answer.{Answer}
 use Rattle.model.specs.declared.Answer.TheVariants.{Found, Absent, Refused}
-use Rattle.model.specs.Table.{Words, at, nodes, root_word, in_range, header_ok, no_collection}
-use Rattle.model.specs.Slots.{Slot, NodeView, node_view}
-use Rattle.model.specs.Search.{filter, route, first_with, first_above, absent_or, answer_of, search, Next}
+use Rattle.model.specs.Table.{Words, at, nodes, root_word, header_ok, no_collection}
+use Rattle.model.specs.Slots.{Slot, NodeView, View, node_view}
+use Rattle.model.specs.Search.{filter, below, on_level, route, first_with, first_above, absent_or, answer_of, search, Next}
 use Rattle.model.specs.Sound.{Settled}
 use Rattle.model.specs.Orders.{Order, carry}
 use Rattle.model.specs.Writes.{Call}
@@ -15,9 +15,13 @@ use Rattle.model.specs.Refusals.{refusal, orders_of, table_after}
 
 -- ---- two looks: node n is seen as x, then its sibling, where it has one, as y; the search decides by these two alone
 
+-- a tree of N nodes of which each is seen as x: what the search's tests say of it, they say of the one node that is seen
+abbrev pub as_seen : (N : ℕ) → (x : NodeView) → View
+as_seen N x = record { nodes = N; root = 0; node = λ (m : ℕ). x }
+
 -- node n, seen as x, is in 1 to N and on level l
 unfoldable pub seen_on : (N l n : ℕ) → NodeView → Bool
-seen_on N l n x = in_range N n && eqb x.level l
+seen_on N l n x = on_level (as_seen N x) l n
 
 -- coming to n on level l: it is on that level, and so is its sibling, where it has one
 unfoldable pub seen_pass : (N l n : ℕ) → (x y : NodeView) → Bool
@@ -25,7 +29,7 @@ seen_pass N l n x y = seen_on N l n x && (eqb x.sibling 0 || seen_on N l x.sibli
 
 -- k is below the fence of the sibling; with sibling 0 every key is
 unfoldable pub seen_within : (x y : NodeView) → ℕ → Bool
-seen_within x y k = eqb x.sibling 0 || ltb k y.fence
+seen_within x y k = below (as_seen 0 y) x.sibling k
 
 -- what the search stands on: if the sibling is not 0 and k is at least the sibling's fence, it has moved there; and its number
 unfoldable pub stood : (x y : NodeView) → (k : ℕ) → NodeView

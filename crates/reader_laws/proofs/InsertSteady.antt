@@ -9,7 +9,7 @@ use lib.ListN.{length, take, drop, take-append-drop}
 use lib.Seq.{take-append-le, drop-append-le, drop-append-add}
 use Rattle.model.specs.Table.{Words, at, node_start, no_collection}
 use Rattle.model.specs.Reached.{reached_all}
-use Rattle.model.specs.SoundTest.{elem, settled}
+use Rattle.model.specs.SoundTest.{elem}
 use Rattle.model.specs.Orders.{Store, put, apply}
 use Rattle.model.specs.Shifts.{pointer_word}
 use Rattle.model.specs.Writes.{shift_in_at, fresh, put_all, middle, split_words, split, standing}

@@ -11,7 +11,7 @@ use Rattle.model.specs.declared.Answer.{Answer}
 use Rattle.model.specs.declared.Answer.TheVariants.{Absent}
 use Rattle.model.specs.Table.{Words, at, nodes, root_word, header_ok, no_collection}
 use Rattle.model.specs.Slots.{Slot, NodeView, View, node_view, view_of, height}
-use Rattle.model.specs.Search.{below, down, route, first_with, first_above, answer_of, lookup, search, Next}
+use Rattle.model.specs.Search.{below, on_level, down, route, first_with, first_above, answer_of, lookup, search, Next}
 use Rattle.model.specs.Reached.{mapping}
 use Rattle.model.specs.SoundTest.{sound}
 use Rattle.model.specs.Looks.{seen_on, seen_pass, stood, stood_on, next_looks, answer_looks, search_looks, Forward, without_next}
@@ -93,7 +93,7 @@ module _ (w : ℕ → View) (N k : ℕ) (orderly : (i : ℕ) → Orderly (w i)) 
 -- ---- the whole search
 
 seen-level : (N l n : ℕ) (x y : NodeView) → seen_pass N l n x y ≡ true → x.level ≡ l
-unfolding seen_pass seen_on
+unfolding seen_pass seen_on on_level
 seen-level N l n x y h = (simp decode at h).0.1
 
 -- the header and the root's level, then the rest

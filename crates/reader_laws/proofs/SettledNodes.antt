@@ -24,7 +24,6 @@ use Rattle.step_laws.proofs.Freeing.{Freeable}
 use Rattle.step_laws.proofs.TreeAt.{Fine}
 use Rattle.two_laws.proofs.TwoLaw.{taken, tree-fine, own-usable, own-other}
 use Rattle.two_laws.proofs.Arrange.{arr-low}
-use Rattle.two_laws.proofs.AcceptedTwo.{there}
 use Rattle.two_laws.proofs.LeafStores.{slots-into}
 use Rattle.two_laws.proofs.DeleteTwo.{can-free, stores-freeing, stores-plain}
 use Rattle.two_laws.proofs.PartsTwo.{beside, tree, settled-plain, standing-reached, key-place, out-settled, out-there, parent-plain}

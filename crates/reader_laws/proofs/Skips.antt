@@ -8,7 +8,7 @@ use lib.Dec.{eqb, ltb, leb}
 use borrow.Author.Tests.{ltb-true, ltb-false, eqb-true, eqb-false, leb-true, leb-false, lt-ltb}
 use Rattle.model.specs.Table.{in_range}
 use Rattle.model.specs.Slots.{NodeView, View}
-use Rattle.model.specs.Search.{below, within}
+use Rattle.model.specs.Search.{below, within, on_level}
 use Rattle.model.specs.Looks.{seen_on, seen_pass, seen_within}
 use Rattle.view_laws.proofs.NodeViews.{left_of, sibling_of, fence_of, shown_of}
 use Rattle.list_laws.proofs.Tools.{or-right, same-or-not}
@@ -107,11 +107,11 @@ module _ (l a b : ℕ) (v w : View) (ov : Orderly v) (ow : Orderly w) (s : Skipp
 -- ---- a node seen with the same level and sibling
 
 same-pass : (N l n : ℕ) (x x' : NodeView) (g : ℕ → NodeView) → x.level ≡ x'.level → x.sibling ≡ x'.sibling → seen_pass N l n x (g x.sibling) ≡ seen_pass N l n x' (g x'.sibling)
-unfolding seen_pass seen_on
+unfolding seen_pass seen_on on_level
 same-pass N l n x x' g e f = λ i. (in_range N n && eqb (e i) l) && (eqb (f i) 0 || (in_range N (f i) && eqb (g (f i)).level l))
 
 same-inside : (x x' : NodeView) (g : ℕ → NodeView) (k : ℕ) → x.sibling ≡ x'.sibling → seen_within x (g x.sibling) k ≡ seen_within x' (g x'.sibling) k
-unfolding seen_within
+unfolding seen_within below
 same-inside x x' g k f = λ i. eqb (f i) 0 || ltb k (g (f i)).fence
 
 -- ---- over the moments

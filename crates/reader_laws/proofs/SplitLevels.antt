@@ -14,7 +14,7 @@ use Rattle.model.specs.Table.{Words, at, node_start, node_from, root_word, no_co
 use Rattle.model.specs.Slots.{node_view, View, view_of}
 use Rattle.model.specs.Search.{within}
 use Rattle.model.specs.Reached.{reached, reached_all}
-use Rattle.model.specs.SoundTest.{elem, settled}
+use Rattle.model.specs.SoundTest.{elem}
 use Rattle.model.specs.Orders.{Store, put, apply}
 use Rattle.model.specs.Shifts.{pointer_word}
 use Rattle.model.specs.Writes.{fresh, put_all, split_words, split, standing}

@@ -6,7 +6,7 @@ use mathlib.Core.List.{List, [], ◌∷◌, ◌++◌, append-nil, append_assoc, 
 use Prim.Native.Nat.{ℕ, zero, suc, ◌+◌, ◌≤◌, ◌<◌}
 use native.Mathlib.Omega.{arith}
 use lib.ListN.{length}
-use Rattle.model.specs.Table.{Words, at, nodes, node_start, root_word, no_collection}
+use Rattle.model.specs.Table.{Words, nodes, node_start, root_word, no_collection}
 use Rattle.model.specs.Slots.{Slot, slot, node_view, view_of}
 use Rattle.model.specs.Reached.{kept, named, reached, reached_all, mapping}
 use Rattle.model.specs.SoundTest.{elem, nothing, settled}

@@ -7,7 +7,7 @@ use lib.Dec.{eqb, ltb}
 use borrow.Author.Tests.{eqb-false}
 use Rattle.model.specs.Table.{in_range}
 use Rattle.model.specs.Slots.{NodeView, View}
-use Rattle.model.specs.Search.{below, within}
+use Rattle.model.specs.Search.{below, within, on_level}
 use Rattle.model.specs.Looks.{seen_on, seen_pass, seen_within, stood, stood_on}
 use Rattle.list_laws.proofs.Tools.{decode, or-right}
 use Rattle.tree_laws.proofs.Levels.{Orderly}
@@ -36,7 +36,7 @@ module _ (x y : NodeView) (k : ℕ) where
 
 -- the tests, from what they ask
 pub seen-pass : (N l n : ℕ) (x y : NodeView) → in_range N n ≡ true → x.level ≡ l → (x.sibling ≢ 0 → (in_range N x.sibling ≡ true) × (y.level ≡ l)) → seen_pass N l n x y ≡ true
-unfolding seen_pass seen_on
+unfolding seen_pass seen_on on_level
 seen-pass N l n x y r e h = simp decode ((r, e), go (eqb x.sibling 0) refl)
   where
     go : (b : Bool) → eqb x.sibling 0 ≡ b → eqb x.sibling 0 || seen_on N l x.sibling y ≡ true
