@@ -1,7 +1,7 @@
 // What quick calls share: the words of a summary, the tests up to the way, those of the order list, and what a leaf has for a key.
 #![tactic(auto)]
 
-ghost use Rattle.std.specs.Prelude.{◌≡◌, Ok, ℕ, ◌≤◌, length};
+ghost use Rattle.std.specs.Prelude.{◌≡◌, Ok, ◌≤◌, length};
 ghost use Rattle.model.specs.Results.{passed, answer_number};
 ghost use Rattle.model.specs.Table.{nodes};
 ghost use Rattle.model.specs.Slots.{node_view};
