@@ -102,6 +102,11 @@ words-room : (dock : ℕ) (os : List Order) → length os ≤ 1137 → 2 * lengt
 words-room zero os h = omega arith
 words-room (suc d) os h = omega (arith, barred-length (suc d) os)
 
+-- its orders fit the list
+pub quick-room : (x : Call) (lent : Words) (dock : ℕ) (ws t : Words) → quick_number x (length lent) dock ws t ≡ 0 → words_for dock ≤ length lent
+    → 2 * length (barred dock (orders (quick_stores x ws t))) ≤ length lent
+quick-room x lent dock ws t ok long = omega (arith, words-room dock (orders (quick_stores x ws t)) (quick-fits x (length lent) dock ws t ok).few, long)
+
 pub record Begun (x : Call) (dock : ℕ) (ws : Words) (d : Desk) : Type 0 where
   pub accepted : quick_number x (length d.list) dock ws d.table ≡ 0
   pub long : words_for dock ≤ length d.list
@@ -109,7 +114,7 @@ pub record Begun (x : Call) (dock : ℕ) (ws : Words) (d : Desk) : Type 0 where
 
 module _ {x : Call} {dock : ℕ} {ws : Words} {d : Desk} (b : Begun x dock ws d) where
   fits : 2 * length (barred dock (orders (quick_stores x ws d.table))) ≤ length d.list
-  fits = omega (arith, words-room dock (orders (quick_stores x ws d.table)) (quick-fits x (length d.list) dock ws d.table b.accepted).few, b.long)
+  fits = quick-room x d.list dock ws d.table b.accepted b.long
 
   started : d ≡ start d.table d.list dock
   started = ap (desk d.table d.list) b.first

@@ -2,7 +2,7 @@
 use mathlib.Core.Path.{◌≡◌, refl, sym, ◌∙◌}
 use mathlib.Core.Bool.{Bool, true, false}
 use mathlib.Core.List.{List, ◌++◌}
-use Prim.Native.Nat.{ℕ, ◌≤◌, ◌<◌}
+use Prim.Native.Nat.{ℕ, zero, suc, ◌≤◌, ◌<◌}
 use native.Mathlib.Omega.{arith}
 use lib.ListN.{length, drop, length-drop}
 use Rattle.std.specs.Prelude.{Ok, Err}
@@ -12,7 +12,7 @@ use Rattle.model.specs.Numbers.{refusal_number}
 use Rattle.model.specs.Table.{Words, nodes}
 use Rattle.model.specs.Slots.{pointer_of, recording_ok, class_ok}
 use Rattle.model.specs.Writes.{insertion}
-use Rattle.model.specs.Refusals.{Test, first_number}
+use Rattle.model.specs.Refusals.{Test, first_number, words_for}
 use Rattle.model.specs.Cells.{entered}
 use Rattle.model.specs.Summary.{mark_words, cell_words, summary_words, marks_in, cells_in, way_made, quick_insert, own_tests, quick_list_number, quick_number, quick_stores, quick_words}
 use Rattle.model.proofs.Numbers.{passed-zero, failed-some}
@@ -51,6 +51,20 @@ module _ (n k r c dock : ℕ) (t lent ws : Words) where
   parts : quick_number (insertion n k r c) (length lent) dock ws t ≡ first_number (begin_tests n ws t k ++ (lent_tests (length lent) dock ++ own))
   unfolding quick_number
   parts = refl
+
+  -- an accepted call has a list that is long enough
+  pub accepted-long : quick_number (insertion n k r c) (length lent) dock ws t ≡ 0 → words_for dock ≤ length lent
+  accepted-long ok = go (quick_list_number n ws t k) (lent_number (length lent) dock) refl refl
+    where
+      go : (a b : ℕ) → quick_list_number n ws t k ≡ a → lent_number (length lent) dock ≡ b → words_for dock ≤ length lent
+      go (suc a) b e f =
+          let z : ◌≡◌ {A = ℕ} 0 (suc a) = sym ok ∙ parts ∙ begin-refused n ws t k (lent_tests (length lent) dock ++ own) (λ q. omega (arith, e, q)) ∙ e in
+          absurd (omega (arith, z))
+      go zero (suc b) e f =
+          let z : ◌≡◌ {A = ℕ} 0 (suc b) =
+          sym ok ∙ parts ∙ begin-passed n ws t k (lent_tests (length lent) dock ++ own) e ∙ lent-refused (length lent) dock own (λ q. omega (arith, f, q)) ∙ f in
+          absurd (omega (arith, z))
+      go zero zero e f = list-long (length lent) dock f
 
   pub begin-refuses : (e : Refusal) → refusal_number e ≡ quick_list_number n ws t k → Promised (insertion n k r c) t lent ws dock (Err e) t lent ws
   begin-refuses e q =

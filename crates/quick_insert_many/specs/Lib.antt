@@ -1,0 +1,2 @@
+-- A batch with a summary under way.
+pub mod Going
