@@ -6,7 +6,7 @@ ghost use Rattle.model.specs.Reached.{head_or};
 ghost use Rattle.model.specs.Writes.{numbers};
 ghost use Rattle.model.specs.Marks.{cleared};
 ghost use Rattle.model.specs.Summary.{unmarked, free_after};
-ghost use Rattle.marks.specs.Runs.{Taken};
+ghost use Rattle.marks.specs.Runs.{Taken, FullWords};
 
 // Takes a mark away.
 pub fn clear(marks: &mut [u64], x: usize)
@@ -20,19 +20,33 @@ pub fn clear(marks: &mut [u64], x: usize)
     marks[i] ^= 1 << (x % 64);
 }
 
-// So many nodes from node n on are marked: none where n is not, a whole word at once where it begins with n.
-fn taken_run(marks: &[u64], n: usize) -> u64
-    requires { n < 64 * length marks.now }
+// The first word from one on, before another, in which some node is not marked; that other one, if there is none.
+fn open_word(marks: &[u64], from: usize, to: usize) -> usize
+    requires from_le_to { from ≤ to }
+    requires to_in_bounds { to ≤ length marks.now }
+    ensures { FullWords marks.now from to result }
+{
+    for i in from..to {
+        if marks[i] != u64::MAX {
+            return i;
+        }
+    }
+    to
+}
+
+// So many nodes from node n on are marked, none if n is not: those of n's word before the first that is not; or those of a run of full words, up to
+// the last node's. In a large table nearly all words are full: so a loop of its own passes them.
+fn taken_run(marks: &[u64], n: usize, last: usize) -> u64
+    requires n_le_last { n ≤ last }
+    requires last_bound { last ≤ 65535 }
+    requires last_bound_2 { last < 64 * length marks.now }
     ensures { Taken marks.now n result }
 {
-    if !bits::has(marks, n) {
-        return 0;
+    if !bits::full(marks, n) {
+        return u64::from((marks[n / 64] >> (n % 64)).trailing_ones());
     }
-    if n % 64 == 0 && bits::full(marks, n) {
-        64
-    } else {
-        1
-    }
+    let open = open_word(marks, n / 64 + 1, last / 64 + 1);
+    (64 * open - n) as u64
 }
 
 // The first node from first to last that is not marked; 0 if there is none, here and up to `reach::fresh`, and no Option: an insertion has counted
@@ -47,7 +61,7 @@ pub fn first_free(marks: &[u64], first: u64, last: u64) -> u64
     let mut n = first;
     // The step is the run that a call gives, so no range counts it.
     while n <= last {
-        let run = taken_run(marks, n as usize);
+        let run = taken_run(marks, n as usize, last as usize);
         if run == 0 {
             return n;
         }
