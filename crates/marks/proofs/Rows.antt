@@ -8,7 +8,7 @@ use native.Mathlib.Numerals.{add-one, sub-one}
 use native.Mathlib.Omega.{arith}
 use lib.Dec.{leb, ltb}
 use lib.ListN.{length}
-use borrow.Author.Tests.{leb-true, leb-false, lt-ltb, le-ltb}
+use borrow.Author.Tests.{leb-true, leb-false, ltb-false, lt-ltb, le-ltb}
 use Rattle.model.specs.Reached.{filter, head_or}
 use Rattle.model.specs.Writes.{numbers}
 use Rattle.list_laws.proofs.Tools.{same-or-not}
@@ -158,14 +158,37 @@ module _ (p : ℕ → Bool) where
   abbrev pub total : (N : ℕ) → ℕ
   total N = length (others (numbers 1 N))
 
-  pub few-yes : (N after f k want : ℕ) → total N ≡ rest_after N after + k → f ≡ first_from (after + 1) N → f ≡ 0 → k < want → true ≡ ltb (total N) want
-  few-yes N after f k want e q z h = sym (lt-ltb (total N) want (omega (arith, e, count-none (after + 1) N (omega arith) (sym z ∙ q))))
+  pub few-yes : (all N after f k want : ℕ) → all ≡ rest_after N after + k → f ≡ first_from (after + 1) N → f ≡ 0 → k < want → true ≡ ltb all want
+  few-yes all N after f k want e q z h = sym (lt-ltb all want (omega (arith, e, count-none (after + 1) N (omega arith) (sym z ∙ q))))
 
-  pub few-no : (N after k want : ℕ) → total N ≡ rest_after N after + k → want ≤ k → false ≡ ltb (total N) want
-  few-no N after k want e h = sym (le-ltb (total N) want (omega (arith, e)))
+  pub few-no : (all N after k want : ℕ) → all ≡ rest_after N after + k → want ≤ k → false ≡ ltb all want
+  few-no all N after k want e h = sym (le-ltb all want (omega (arith, e)))
 
-  pub few-next : (N after f k : ℕ) → total N ≡ rest_after N after + k → f ≡ first_from (after + 1) N → f ≢ 0 → total N ≡ rest_after N f + (k + 1)
-  few-next N after f k e q z = omega (arith, e, count-next (N + 1 - (after + 1)) (after + 1) N f refl q z)
+  pub few-next : (all N after f k : ℕ) → all ≡ rest_after N after + k → f ≡ first_from (after + 1) N → f ≢ 0 → all ≡ rest_after N f + (k + 1)
+  few-next all N after f k e q z = omega (arith, e, count-next (N + 1 - (after + 1)) (after + 1) N f refl q z)
 
   pub first-small : (N after f : ℕ) → N ≤ 65535 → f ≡ first_from (after + 1) N → f ≤ 65535
   first-small N after f h e = omega (arith, e, first-last (N + 1 - (after + 1)) (after + 1) N refl)
+
+  -- those after a later one are no more
+  row-less : (n last : ℕ) → length (others (numbers (n + 1) (last + 1 - (n + 1)))) ≤ length (others (numbers n (last + 1 - n)))
+  row-less n last = go (leb n last) refl (p n) refl
+    where
+      go : (a : Bool) → leb n last ≡ a → (b : Bool) → p n ≡ b → length (others (numbers (n + 1) (last + 1 - (n + 1)))) ≤ length (others (numbers n (last + 1 - n)))
+      go true q true e = rw (row-more n last (leb-true n last q), add-one n) (omega (arith, ap length (others-no n (numbers (suc n) (last + 1 - suc n)) e)))
+      go true q false e = rw (row-more n last (leb-true n last q), add-one n) (omega (arith, ap length (others-yes n (numbers (suc n) (last + 1 - suc n)) e)))
+      go false q b e =
+          let g = leb-false n last q in
+          let z : last + 1 - (n + 1) ≡ 0 = omega arith in
+          rw z (unfold numbers filter in omega arith)
+
+  rest-all : (N : ℕ) → rest_after N 0 ≡ total N
+  rest-all N = let e : N + 1 - (0 + 1) ≡ N = omega arith in let f : 0 + 1 ≡ 1 = omega arith in rw (e, f)
+
+  rest-less : (N a : ℕ) → rest_after N a ≤ total N
+  rest-less N zero = omega (arith, rest-all N)
+  rest-less N (suc a) = let e : suc a ≡ a + 1 = omega arith in rw e (omega (arith, rest-less N a, row-less (a + 1) N))
+
+  -- of all nodes by those after one of them
+  pub few-end : (N a want : ℕ) {b : Bool} → b ≡ ltb (rest_after N a) want → b ≡ false → false ≡ ltb (total N) want
+  few-end N a want e h = sym (le-ltb (total N) want (omega (arith, rest-less N a, ltb-false (rest_after N a) want (sym e ∙ h))))

@@ -84,13 +84,14 @@ pub fn free_after(marks: &[u64], nodes: u64, a: u64) -> u64
     first_free(marks, 1, a.saturating_sub(1))
 }
 
-// Whether fewer than so many of the nodes are not marked.
-pub fn few(marks: &[u64], nodes: u64, want: u64) -> bool
+// Whether fewer than so many of the nodes after one are not marked.
+fn few_after(marks: &[u64], nodes: u64, node: u64, want: u64) -> bool
     requires nodes_bound { nodes ≤ 65535 }
     requires nodes_bound_2 { nodes < 64 * length marks.now }
-    ensures { result ≡ ltb (length (unmarked marks.now (numbers 1 nodes))) want }
+    requires node_le_nodes { node ≤ nodes }
+    ensures { result ≡ ltb (length (unmarked marks.now (numbers (node + 1) (nodes + 1 - (node + 1))))) want }
 {
-    let mut after = 0;
+    let mut after = node;
     // No `any`: of a closure that writes `after` for the next turn the proof knows nothing.
     for _ in 0..want {
         after = first_free(marks, after + 1, nodes);
@@ -99,4 +100,14 @@ pub fn few(marks: &[u64], nodes: u64, want: u64) -> bool
         }
     }
     false
+}
+
+// Whether fewer than so many of the nodes are not marked. The last nodes are asked first: in a table that grows they are free, and the marks of all others
+// need not be read.
+pub fn few(marks: &[u64], nodes: u64, want: u64) -> bool
+    requires nodes_bound { nodes ≤ 65535 }
+    requires nodes_bound_2 { nodes < 64 * length marks.now }
+    ensures { result ≡ ltb (length (unmarked marks.now (numbers 1 nodes))) want }
+{
+    few_after(marks, nodes, nodes.saturating_sub(64), want) && few_after(marks, nodes, 0, want)
 }

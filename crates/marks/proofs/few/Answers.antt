@@ -1,17 +1,9 @@
 -- `marks::few` meets its contract.
+use mathlib.Core.Path.{◌∙◌}
 use Rattle.model.specs.Summary.{unmarked}
-use Rattle.marks.proofs.Rows.{few-yes, few-no, few-next, first-small}
+use Rattle.marks.proofs.Rows.{few-end}
 use Rattle.marks.proofs.few.Goals as goal
 
-pub returns-then-after-eq0 : goal.returns-then-after-eq0
+pub returns-else-few_after : goal.returns-else-few_after
 unfolding unmarked
-returns-then-after-eq0 c = few-yes _ _ _ _ _ _ c.loop.invariant.1 c.first_free-after.ensures c.if-after-eq0.true c.loop-test.true
-
-pub loop-preserved : goal.loop-preserved
-unfolding unmarked
-loop-preserved c = let f = c.first_free-after.ensures in
-    (first-small _ _ _ _ c.requires.nodes_bound f, few-next _ _ _ _ _ c.loop.invariant.1 f c.if-after-eq0.false)
-
-pub returns : goal.returns
-unfolding unmarked
-returns c = few-no _ _ _ _ _ c.loop.invariant.1 c.loop-test.false
+returns-else-few_after c = c.if-few_after.false ∙ few-end _ _ _ _ c.few_after.ensures c.if-few_after.false

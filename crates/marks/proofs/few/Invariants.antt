@@ -1,9 +1,0 @@
--- The nodes that are left, and those that are passed, come to all of them.
-use mathlib.Core.Path.{◌≡◌}
-use Prim.Native.Nat.{◌+◌, ◌≤◌}
-use Rattle.model.specs.Marks.{has}
-use Rattle.marks.proofs.Rows.{total, rest_after}
-use Rattle.marks.proofs.few.Given as goal
-
-abbrev pub invariant-loop : goal.invariant-loop
-invariant-loop l = (l.after ≤ 65535) × (total (has l.marks) l.nodes ≡ rest_after (has l.marks) l.nodes l.after + l.counter)
