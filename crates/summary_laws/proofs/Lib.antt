@@ -11,3 +11,4 @@ pub mod Batches
 pub mod AnyWords
 pub mod AnyWays
 pub mod AnyCalls
+pub mod ShiftedOut
