@@ -1,0 +1,2 @@
+-- What the functions of this crate find and store.
+pub mod Finds
