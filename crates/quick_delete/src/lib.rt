@@ -26,7 +26,7 @@ struct Found {
     pointer: Option<u64>,
 }
 
-// Whether parent p has a slot for leaf x, and the leaf before x lies in the table.
+// Whether parent p, which hides nothing, has a slot for leaf x, and the leaf before x lies in the table.
 fn neighbour_there(table: &[u64], p: u64, x: u64) -> bool
     requires table_value { header_ok table.now ≡ true }
     requires p_value { ((view table.now).node p).hidden ≡ 0 }
@@ -38,7 +38,7 @@ fn neighbour_there(table: &[u64], p: u64, x: u64) -> bool
     at < slots::count(parent.slots) && node::in_range(table[2], neighbour)
 }
 
-// The tests of the way, and of the leaf before one that is to be freed.
+// The tests of the way, and of the leaf before one that is to be freed. 4 comes before 18 and 5, so all of it is looked up first.
 fn find(table: &[u64], summary: &[u64], collection: u64, key: u64) -> Result<Found, Refusal>
     ensures number { answer_number result ≡ found_number collection summary.now table.now key }
     ensures found { (f : Found) → result ≡ Ok f → f ≡ found_for collection table.now key }
@@ -91,7 +91,7 @@ fn forget(summary: &mut [u64], nodes: u64, found: Found, collection: u64, pointe
     );
 }
 
-// The call. Table, list and numbers come one by one, as C hands them in.
+// The call. Table, list, summary and numbers come one by one, as C hands them in.
 pub fn delete(
     table: &mut [u64],
     list: &mut [u64],

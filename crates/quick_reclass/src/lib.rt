@@ -8,7 +8,7 @@ ghost use Rattle.model.specs.Summary.{quick_written, quick_table, quick_list};
 use model::{Refusal, Written};
 use orders::{Pen, Writer};
 
-// The call. Table, list and numbers come one by one, as C hands them in.
+// The call. Table, list, summary and numbers come one by one, as C hands them in.
 pub fn set_class(
     table: &mut [u64],
     list: &mut [u64],

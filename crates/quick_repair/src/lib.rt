@@ -1,4 +1,4 @@
-// The quick repair: a table with a true summary is settled, so that nothing is stored.
+// The quick repair: a table with a true summary is settled, so nothing is stored, and what is lent is only read.
 #![tactic(auto)]
 
 ghost use Rattle.std.specs.Prelude.{◌≡◌, length};
