@@ -1,0 +1,119 @@
+-- The pairs of a settled table, leaf by leaf, are its maps, and their recordings are entered one after the other.
+use mathlib.Core.Path.{◌≡◌, refl, ap, sym, ◌∙◌}
+use mathlib.Core.Bool.{true}
+use mathlib.Core.Logic.{◌≢◌, ⊎_elim}
+use mathlib.Core.List.{List, [], ◌∷◌, ◌++◌, map}
+use Prim.Native.Nat.{ℕ, zero, suc, ◌+◌, ◌-◌, ◌≤◌, ◌<◌}
+use native.Mathlib.Omega.{arith}
+use native.Mathlib.Numerals.{add-one}
+use lib.ListN.{length, get_or, take, drop, drop_of_length-le}
+use lib.Seq.{drop-cons}
+use borrow.Author.Tests.{eq-eqb, ne_eqb}
+use Rattle.std.proofs.lemmas.List.{map-append}
+use Rattle.model.specs.Table.{Words, at, nodes, has_node, root}
+use Rattle.model.specs.Slots.{Slot, recording_of, recording, view_from, view_of, view}
+use Rattle.model.specs.Search.{below}
+use Rattle.model.specs.Reached.{flat, kept, map_of, maps_of}
+use Rattle.model.specs.SoundTest.{settled}
+use Rattle.model.specs.Cells.{entered, entered_all}
+use Rattle.model.specs.Summary.{cell_of, cells_of, recordings_of, recordings_in}
+use Rattle.list_laws.proofs.Tools.{same-or-not}
+use Rattle.walk_laws.specs.Chain.{leftmost, along, first_leaf, chain}
+use Rattle.walk_laws.specs.Walk.{ways}
+use Rattle.walk_laws.proofs.AnyRoot.{any-along}
+use Rattle.walk_laws.proofs.ChainLaw.{along-none}
+use Rattle.walk_laws.proofs.WalkLaw.{sound-in-order}
+use Rattle.two_laws.proofs.SameTwo.{first-there, second-there, settled-sound}
+use Rattle.two_laws.proofs.CollectionTwo.{collection-sound}
+use Rattle.node.specs.Word.{word_of}
+use Rattle.slots.specs.declared.ways.Ways.{Ways}
+use Rattle.slots.specs.Gathered.{span, slots_in, ways_from}
+use Rattle.leaves.proofs.HitLaws.{kept-ways, leaf-below}
+use Rattle.leaves.proofs.FoundLaws.{whole-is, chain-mapping}
+use Rattle.opening.specs.Passes.{pairs_along}
+
+-- ---- numbers entered one after the other
+
+pub entered-append : (xs ys : List ℕ) (cs : Words) → entered_all cs (xs ++ ys) ≡ entered_all (entered_all cs xs) ys
+unfolding entered_all
+entered-append [] ys cs = refl
+entered-append (x ∷ xs) ys cs = entered-append xs ys (entered cs x)
+
+-- ---- a leaf, way by way
+
+-- the cells of these pointers' recordings
+abbrev pub cells_at : (n : ℕ) → List ℕ → List ℕ
+cells_at n ps = map (λ (p : ℕ). cell_of n (recording_of p)) ps
+
+pub leaf-next : (n : ℕ) (ps : List ℕ) (i : ℕ) (cs after : Words) → i < length ps → after ≡ entered cs (cell_of n (recording_of (get_or ps i 0)))
+    → entered_all after (cells_at n (drop (i + 1) ps)) ≡ entered_all cs (cells_at n (drop i ps))
+unfolding entered_all
+leaf-next n ps i cs after h e = rw (add-one i, drop-cons ps i 0 h, e)
+
+pub leaf-end : (n : ℕ) (ps : List ℕ) (i : ℕ) (cs : Words) → length ps ≤ i → cs ≡ entered_all cs (cells_at n (drop i ps))
+unfolding entered_all
+leaf-end n ps i cs h = rw (drop_of_length-le ps h)
+
+span-cells : (n : ℕ) (ks ps : Words) (i m : ℕ) → i + m ≤ length ps → cells_at n (take m (drop i ps)) ≡ cells_of n (span ks ps i m)
+unfolding span
+span-cells n ks ps i zero h = refl
+span-cells n ks ps i (suc m) h = rw (drop-cons ps i 0 (omega arith)) (ap (λ (xs : List ℕ). cell_of n (recording_of (get_or ps i 0)) ∷ xs) (span-cells n ks ps (suc i) m (omega arith)))
+
+pub leaf-cells : (t : Words) (n leaf : ℕ) (w : Ways) → slots_in w ≡ ways (view t) leaf → 1 ≤ w.count → w.count ≤ length w.pointers
+    → cells_at n (take (w.count - 1) (drop 1 w.pointers)) ≡ cells_of n (kept (view t) leaf)
+unfolding ways_from
+leaf-cells t n leaf w is some high = span-cells n w.keys w.pointers 1 (w.count - 1) (omega arith) ∙ ap (cells_of n) (kept-ways t (root t) leaf w is)
+
+-- ---- the leaves, one by one
+
+module _ (t : Words) (n : ℕ) (ns : List ℕ) (cs : Words) where
+  abbrev among : List ℕ → List ℕ
+  among ms = cells_of n (flat (kept (view t)) ms)
+
+  pub leaves-end : ns ≡ [] → cs ≡ entered_all cs (among ns)
+  unfolding entered_all flat
+  leaves-end z = rw z
+
+  pub leaves-next : (leaf : ℕ) (later : List ℕ) (after : Words) → ns ≡ leaf ∷ later → after ≡ entered_all cs (cells_of n (kept (view t) leaf))
+      → entered_all after (among later) ≡ entered_all cs (among ns)
+  unfolding flat
+  leaves-next leaf later after z e =
+      let xs = cells_of n (kept (view t) leaf) in
+      rw z (ap (λ (ds : Words). entered_all ds (among later)) e ∙ sym (entered-append xs (among later) cs)
+      ∙ ap (entered_all cs) (sym (map-append (λ (s : Slot). cell_of n (recording s)) (kept (view t) leaf) (flat (kept (view t)) later))))
+
+pub chain-cells : (t : Words) (r n first most : ℕ) → first ≡ first_leaf (view_from t r) → most ≡ nodes t
+    → cells_of n (flat (kept (view t)) (along (view t) most first)) ≡ cells_of n (pairs_along (view_from t r))
+unfolding kept below
+chain-cells t r n first most e q = ap (λ (ns : List ℕ). cells_of n (flat (kept (view t)) ns)) (any-along t (root t) r most first ∙ whole-is (view_from t r) first most e q)
+
+-- ---- both maps
+
+-- 0 is no root
+no-leaf : (t : Words) → first_leaf (view_from t 0) ≡ 0
+unfolding leftmost word_of has_node
+no-leaf t = sym (leaf-below t 0 0 refl (omega arith))
+
+pairs-none : (t : Words) → pairs_along (view_from t 0) ≡ []
+unfolding chain flat
+pairs-none t = let v = view_from t 0 in ap (flat (kept v)) (ap (along v (nodes t)) (no-leaf t) ∙ along-none v (nodes t))
+
+module _ (t : Words) (s : settled t ≡ true) (a b : ℕ) (p : a ≡ at t 1) (q : b ≡ at t 3) where
+  first : pairs_along (view_from t a) ≡ map_of 1 t
+  first = ap (λ (r : ℕ). pairs_along (view_from t r)) p ∙ chain-mapping (view_of 1 t) (sound-in-order (view_of 1 t) (collection-sound 1 t (settled-sound t s) (first-there t)))
+
+  second : at t 3 ≢ 0 → pairs_along (view_from t b) ≡ map_of 2 t
+  second z = ap (λ (r : ℕ). pairs_along (view_from t r)) q ∙ chain-mapping (view_of 2 t) (sound-in-order (view_of 2 t) (collection-sound 2 t (settled-sound t s) (second-there t z)))
+
+  no-second : at t 3 ≡ 0 → pairs_along (view_from t b) ≡ []
+  no-second z = ap (λ (r : ℕ). pairs_along (view_from t r)) (q ∙ z) ∙ pairs-none t
+
+  all-cells : cells_of 1 (pairs_along (view_from t a)) ++ cells_of 2 (pairs_along (view_from t b)) ≡ recordings_in t
+  unfolding recordings_of maps_of
+  all-cells = ⊎_elim (λ z. rw (first, no-second z, eq-eqb (at t 3) 0 z)) (λ z. rw (first, second z, ne_eqb (at t 3) 0 z)) (same-or-not (at t 3) 0)
+
+  pub all-entered : (cs one two : Words) → one ≡ entered_all cs (cells_of 1 (pairs_along (view_from t a))) → two ≡ entered_all one (cells_of 2 (pairs_along (view_from t b)))
+      → two ≡ entered_all cs (recordings_in t)
+  all-entered cs one two e f =
+      f ∙ ap (λ (ds : Words). entered_all ds (cells_of 2 (pairs_along (view_from t b)))) e
+      ∙ sym (entered-append (cells_of 1 (pairs_along (view_from t a))) (cells_of 2 (pairs_along (view_from t b))) cs) ∙ ap (entered_all cs) all-cells

@@ -1,0 +1,4 @@
+-- Laws that the proofs of the functions cite.
+pub mod Marking
+pub mod Entering
+pub mod Call

@@ -1,0 +1,114 @@
+-- The nodes of a settled table, level by level, are the nodes reached, in their order.
+use mathlib.Core.Path.{◌≡◌, refl, ap, sym, ◌∙◌}
+use mathlib.Core.Bool.{true}
+use mathlib.Core.Logic.{◌≢◌, ⊎_elim}
+use mathlib.Core.List.{List, [], ◌∷◌, ◌++◌, append-nil}
+use Prim.Native.Nat.{ℕ, zero, suc, ◌+◌, ◌-◌, ◌/◌, ◌≤◌, ◌<◌}
+use native.Mathlib.Omega.{arith}
+use lib.ListN.{length, length-append}
+use lib.Seq.{set_out}
+use Rattle.model.specs.Table.{Words, at, nodes, has_node, root}
+use Rattle.model.specs.Slots.{View, node_view, view_from, view_of, view, height}
+use Rattle.model.specs.Reached.{flat, head_or, children, reached_from, reached, reached_all}
+use Rattle.model.specs.SoundTest.{settled}
+use Rattle.model.specs.Marks.{put, put_each}
+use Rattle.list_laws.proofs.Tools.{same-or-not}
+use Rattle.view_laws.proofs.NodeViews.{left_of}
+use Rattle.tree_laws.proofs.Rows.{first-child, head-children}
+use Rattle.tree_laws.proofs.Levels.{Orderly, Level, level-lower, level-root, reached-few}
+use Rattle.walk_laws.specs.Chain.{along}
+use Rattle.walk_laws.proofs.AnyRoot.{any-along}
+use Rattle.walk_laws.proofs.ChainLaw.{along-none, along-row}
+use Rattle.two_laws.proofs.Arrange.{all-one, all-two}
+use Rattle.two_laws.proofs.SameTwo.{first-there, second-there, settled-sound}
+use Rattle.two_laws.proofs.CollectionTwo.{collection-orderly}
+use Rattle.node.specs.Word.{word_of}
+use Rattle.node.proofs.WordLaws.{word-left, word-level}
+use Rattle.opening.specs.Passes.{rows_from, rows}
+
+-- ---- marks
+
+-- a number past the marks gets none
+pub put-out : (ws : Words) (n : ℕ) → length ws ≤ n / 64 → ws ≡ put ws n
+unfolding put
+put-out ws n h = sym (set_out ws (n / 64) _ h)
+
+pub each-append : (ms ns : List ℕ) (ws : Words) → put_each (ms ++ ns) ws ≡ put_each ns (put_each ms ws)
+unfolding put_each
+each-append [] ns ws = refl
+each-append (m ∷ ms) ns ws = each-append ms ns (put ws m)
+
+-- ---- a level, node by node
+
+module _ (ns : List ℕ) (ws : Words) where
+  pub level-end : ns ≡ [] → ws ≡ put_each ns ws
+  unfolding put_each
+  level-end z = rw z
+
+  pub level-next : (n : ℕ) (later : List ℕ) (after : Words) → ns ≡ n ∷ later → after ≡ put ws n → put_each later after ≡ put_each ns ws
+  unfolding put_each
+  level-next n later after z e = rw (z, e)
+
+-- ---- a tree, level by level, as the code goes
+
+module _ (t : Words) (r l : ℕ) (q : l ≡ word_of t r 2) where
+  abbrev v : View
+  v = view_from t r
+
+  top : l ≡ height (view_from t r)
+  top = q ∙ word-level t r
+
+  here : (n : ℕ) → along (view t) (nodes t) n ≡ along (view_from t r) (nodes t) n
+  here n = any-along t (root t) r (nodes t) n
+
+  pub rows-start : (ws : Words) → put_each (rows_from v (height v - 0) r) ws ≡ put_each (rows v) ws
+  rows-start ws = let e : height v - 0 ≡ height v = omega arith in ap (λ (d : ℕ). put_each (rows_from v d r) ws) e
+
+  module _ (i n : ℕ) (ws after : Words) (e : after ≡ put_each (along (view t) (nodes t) n) ws) where
+    pub rows-next : i < l → (m : ℕ) → m ≡ word_of t n 0 → put_each (rows_from v (height v - (i + 1)) m) after ≡ put_each (rows_from v (height v - i) n) ws
+    unfolding rows_from
+    rows-next h m f =
+        let d : height v - i ≡ suc (height v - (i + 1)) = omega (arith, top) in
+        let k = height v - (i + 1) in
+        ap (λ (x : ℕ). put_each (rows_from v k x) after) (f ∙ word-left t n) ∙ ap (put_each (rows_from v k (node_view t n).left)) (e ∙ ap (λ (ns : List ℕ). put_each ns ws) (here n))
+        ∙ sym (each-append (along v (nodes t) n) (rows_from v k (node_view t n).left) ws) ∙ ap (λ (x : ℕ). put_each (rows_from v x n) ws) (sym d)
+
+    pub rows-end : l ≤ i → after ≡ put_each (rows_from v (height v - i) n) ws
+    unfolding rows_from
+    rows-end h = let d : height v - i ≡ 0 = omega (arith, top) in e ∙ ap (λ (ns : List ℕ). put_each ns ws) (here n) ∙ ap (λ (x : ℕ). put_each (rows_from v x n) ws) (sym d)
+
+-- ---- a tree, level by level
+
+rows-are : (v : View) (d n : ℕ) (ns : List ℕ) → Level v d ns → head_or 0 ns ≡ n → length (reached_from v d ns) ≤ v.nodes → rows_from v d n ≡ reached_from v d ns
+unfolding rows_from reached_from
+rows-are v zero n ns l e h = ap (along v v.nodes) (sym e) ∙ along-row v 0 v.nodes ns l.row.at l.row.chain h
+rows-are v (suc d) n ns l e h =
+    let below = flat (children v) ns in
+    let first : head_or 0 below ≡ (v.node n).left = head-children v d ns l.row.at ∙ first-child v (head_or 0 ns) l.some ∙ ap (left_of v) e in
+    let count : length (ns ++ reached_from v d below) ≡ length ns + length (reached_from v d below) = length-append ns (reached_from v d below) in
+    let here : along v v.nodes n ≡ ns = ap (along v v.nodes) (sym e) ∙ along-row v (suc d) v.nodes ns l.row.at l.row.chain (omega arith) in
+    ap (λ (ms : List ℕ). ms ++ rows_from v d (v.node n).left) here ∙ ap (λ (ms : List ℕ). ns ++ ms) (rows-are v d (v.node n).left below (level-lower v d ns l) first (omega arith))
+
+rows-reached : (v : View) → Orderly v → rows v ≡ reached v
+rows-reached v o = rows-are v (height v) v.root (v.root ∷ []) (level-root v o.top o.good) refl (reached-few v o)
+
+-- 0 is no root
+rows-none : (t : Words) → rows (view_from t 0) ≡ []
+unfolding rows_from word_of has_node
+rows-none t = let e : (node_view t 0).level ≡ 0 = sym (word-level t 0) in rw e (along-none (view_from t 0) (nodes t))
+
+module _ (t : Words) (s : settled t ≡ true) (a b : ℕ) (p : a ≡ at t 1) (q : b ≡ at t 3) where
+  first : rows (view_from t a) ≡ reached (view_of 1 t)
+  first = ap (λ (r : ℕ). rows (view_from t r)) p ∙ rows-reached (view_of 1 t) (collection-orderly 1 t (settled-sound t s) (first-there t))
+
+  second : at t 3 ≢ 0 → rows (view_from t b) ≡ reached (view_of 2 t)
+  second z = ap (λ (r : ℕ). rows (view_from t r)) q ∙ rows-reached (view_of 2 t) (collection-orderly 2 t (settled-sound t s) (second-there t z))
+
+  no-second : at t 3 ≡ 0 → rows (view_from t b) ≡ []
+  no-second z = ap (λ (r : ℕ). rows (view_from t r)) (q ∙ z) ∙ rows-none t
+
+  rows-all : rows (view_from t a) ++ rows (view_from t b) ≡ reached_all t
+  rows-all = ⊎_elim (λ z. rw (first, no-second z, all-one t z)) (λ z. rw (first, second z, all-two t z, append-nil (reached (view_of 2 t)))) (same-or-not (at t 3) 0)
+
+  pub all-marked : (ws one two : Words) → one ≡ put_each (rows (view_from t a)) ws → two ≡ put_each (rows (view_from t b)) one → two ≡ put_each (reached_all t) ws
+  all-marked ws one two e f = f ∙ ap (put_each (rows (view_from t b))) e ∙ sym (each-append (rows (view_from t a)) (rows (view_from t b)) ws) ∙ ap (λ (ns : List ℕ). put_each ns ws) rows-all

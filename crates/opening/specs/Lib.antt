@@ -1,0 +1,2 @@
+-- In which order the passes meet nodes and pairs.
+pub mod Passes

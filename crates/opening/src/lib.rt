@@ -1,0 +1,125 @@
+// Opening a summary: which nodes of a settled table are reached, and which recordings are in use, worked out by a check and two passes.
+#![tactic(auto)]
+
+ghost use Rattle.std.specs.Prelude.{◌≡◌, true, ◌<◌, ◌≤◌, length};
+ghost use Rattle.model.specs.Table.{nodes};
+ghost use Rattle.model.specs.Slots.{view, view_from};
+ghost use Rattle.model.specs.Reached.{kept, reached_all};
+ghost use Rattle.model.specs.SoundTest.{settled};
+ghost use Rattle.model.specs.Marks.{put, put_each};
+ghost use Rattle.model.specs.Cells.{entered_all};
+ghost use Rattle.model.specs.Summary.{summary_words, cells_of, recordings_in, opened, opening, opened_words};
+ghost use Rattle.walk_laws.specs.Chain.{along};
+ghost use Rattle.opening.specs.Passes.{rows, pairs_along};
+
+use leaves::Siblings;
+use model::{Outcome, Refusal};
+
+// ---- the nodes reached
+
+// Marks node n, if there is a bit for it.
+fn mark(marks: &mut [u64], n: u64)
+    ensures { marks.new ≡ put marks.old n }
+{
+    let x = n as usize;
+    if x / 64 < marks.len() {
+        bits::put(marks, x);
+    }
+}
+
+// Marks the nodes of a level, from the first along the siblings.
+fn mark_level(table: &[u64], first: u64, marks: &mut [u64])
+    ensures { marks.new ≡ put_each (along (view table.now) (nodes table.now) first) marks.old }
+{
+    for n in Siblings::new(table, first, leaves::word_at(table, 2)) {
+        mark(marks, n);
+    }
+}
+
+// Marks the nodes of a tree, level by level from the root down.
+fn mark_tree(table: &[u64], root: u64, marks: &mut [u64])
+    ensures { marks.new ≡ put_each (rows (view_from table.now root)) marks.old }
+{
+    let mut first = root;
+    for _ in 0..node::word(table, root, 2) {
+        mark_level(table, first, marks);
+        first = node::word(table, first, 0);
+    }
+    mark_level(table, first, marks);
+}
+
+// Marks the nodes that a settled table reaches. 0 is no second root: it leads to no node.
+fn mark_reached(table: &[u64], marks: &mut [u64])
+    requires { settled table.now ≡ true }
+    ensures { marks.new ≡ put_each (reached_all table.now) marks.old }
+{
+    mark_tree(table, leaves::word_at(table, 1), marks);
+    mark_tree(table, leaves::word_at(table, 3), marks);
+}
+
+// ---- the recordings in use
+
+// Enters the recordings of a leaf of a collection. The first of its ways is no slot.
+fn enter_leaf(table: &[u64], collection: u64, leaf: u64, cells: &mut [u64])
+    requires collection_bound { collection ≤ 2 }
+    requires cells_nonzero { 0 < length cells.old }
+    ensures { cells.new ≡ entered_all cells.old (cells_of collection (kept (view table.now) leaf)) }
+{
+    let w = leaves::ways_of(table, leaf);
+    for &p in &w.pointers[1..w.count] {
+        cells::enter(cells, pointer::join(pointer::recording(p), collection));
+    }
+}
+
+// Enters those of a collection's leaves, from left to right.
+fn enter_leaves(table: &[u64], collection: u64, root: u64, cells: &mut [u64])
+    requires collection_bound { collection ≤ 2 }
+    requires cells_nonzero { 0 < length cells.old }
+    ensures { cells.new ≡ entered_all cells.old (cells_of collection (pairs_along (view_from table.now root))) }
+{
+    let first = leaves::first_leaf(table, root);
+    for leaf in Siblings::new(table, first, leaves::word_at(table, 2)) {
+        enter_leaf(table, collection, leaf, cells);
+    }
+}
+
+// Enters those of a settled table, collection 1 first.
+fn enter_recordings(table: &[u64], cells: &mut [u64])
+    requires table_value { settled table.now ≡ true }
+    requires cells_nonzero { 0 < length cells.old }
+    ensures { cells.new ≡ entered_all cells.old (recordings_in table.now) }
+{
+    enter_leaves(table, 1, leaves::word_at(table, 1), cells);
+    enter_leaves(table, 2, leaves::word_at(table, 3), cells);
+}
+
+// ---- the call
+
+// The summary of a settled table, in a slice of its length.
+fn write_summary(table: &[u64], summary: &mut [u64])
+    requires table_value { settled table.now ≡ true }
+    requires summary_len { length summary.old ≡ summary_words (nodes table.now) }
+    ensures { summary.new ≡ opened table.now }
+{
+    summary.fill(0);
+    let w = quick::mark_words(leaves::word_at(table, 2)) as usize;
+    mark_reached(table, &mut summary[..w]);
+    enter_recordings(table, &mut summary[w..]);
+}
+
+// Works the summary of a table out; 2, 26, 4 and 20 in that order. A refusal changes no word.
+pub fn open(table: &[u64], summary: &mut [u64]) -> Outcome
+    ensures value { result ≡ opening (length summary.old) table.now }
+    ensures summary_after { summary.new ≡ opened_words summary.old table.now }
+{
+    node::header(table)?;
+    if summary.len() as u64 != quick::summary_words(leaves::word_at(table, 2)) {
+        return Err(Refusal::OtherSummary);
+    }
+    let whole = sound::check(table).ok_or(Refusal::NotSound)?;
+    if !sound::is_nothing(whole.leftover) {
+        return Err(Refusal::NotSettled);
+    }
+    write_summary(table, summary);
+    Ok(())
+}
