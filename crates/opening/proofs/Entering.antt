@@ -1,34 +1,32 @@
 -- The pairs of a settled table, leaf by leaf, are its maps, and their recordings are entered one after the other.
 use mathlib.Core.Path.{◌≡◌, refl, ap, sym, ◌∙◌}
-use mathlib.Core.Bool.{true}
+use mathlib.Core.Bool.{Bool, true, false}
 use mathlib.Core.Logic.{◌≢◌, ⊎_elim}
-use mathlib.Core.List.{List, [], ◌∷◌, ◌++◌, map}
-use Prim.Native.Nat.{ℕ, zero, suc, ◌+◌, ◌-◌, ◌≤◌, ◌<◌}
+use mathlib.Core.List.{List, [], ◌∷◌, ◌++◌}
+use Prim.Native.Nat.{ℕ}
 use native.Mathlib.Omega.{arith}
-use native.Mathlib.Numerals.{add-one}
-use lib.ListN.{length, get_or, take, drop, drop_of_length-le}
-use lib.Seq.{drop-cons}
 use borrow.Author.Tests.{eq-eqb, ne_eqb}
 use Rattle.std.proofs.lemmas.List.{map-append}
-use Rattle.model.specs.Table.{Words, at, nodes, has_node, root}
-use Rattle.model.specs.Slots.{Slot, recording_of, recording, view_from, view_of, view}
+use Rattle.model.specs.declared.Node.{Node}
+use Rattle.model.specs.Table.{node, Words, at, nodes, has_node, root}
+use Rattle.model.specs.Slots.{Slot, slot, shown, used, recording_of, recording, view_from, view_of, view}
 use Rattle.model.specs.Search.{below}
-use Rattle.model.specs.Reached.{flat, kept, map_of, maps_of}
+use Rattle.model.specs.Reached.{filter, flat, kept, map_of, maps_of}
 use Rattle.model.specs.SoundTest.{settled}
 use Rattle.model.specs.Cells.{entered, entered_all}
 use Rattle.model.specs.Summary.{cell_of, cells_of, recordings_of, recordings_in}
 use Rattle.list_laws.proofs.Tools.{same-or-not}
 use Rattle.walk_laws.specs.Chain.{leftmost, along, first_leaf, chain}
-use Rattle.walk_laws.specs.Walk.{ways}
 use Rattle.walk_laws.proofs.AnyRoot.{any-along}
 use Rattle.walk_laws.proofs.ChainLaw.{along-none}
 use Rattle.walk_laws.proofs.WalkLaw.{sound-in-order}
 use Rattle.two_laws.proofs.SameTwo.{first-there, second-there, settled-sound}
 use Rattle.two_laws.proofs.CollectionTwo.{collection-sound}
 use Rattle.node.specs.Word.{word_of}
-use Rattle.slots.specs.declared.ways.Ways.{Ways}
-use Rattle.slots.specs.Gathered.{span, slots_in, ways_from}
-use Rattle.leaves.proofs.HitLaws.{kept-ways, leaf-below}
+use Rattle.node.proofs.WordLaws.{word-fence}
+use Rattle.slots.specs.Scan.{shown_from, keeps, kept_of, is_way}
+use Rattle.slots.proofs.Kept.{kept-taken, kept-passed}
+use Rattle.leaves.proofs.HitLaws.{leaf-below}
 use Rattle.leaves.proofs.FoundLaws.{whole-is, chain-mapping}
 use Rattle.opening.specs.Passes.{pairs_along}
 
@@ -39,30 +37,32 @@ unfolding entered_all
 entered-append [] ys cs = refl
 entered-append (x ∷ xs) ys cs = entered-append xs ys (entered cs x)
 
--- ---- a leaf, way by way
+-- ---- a leaf, slot by slot
 
--- the cells of these pointers' recordings
-abbrev pub cells_at : (n : ℕ) → List ℕ → List ℕ
-cells_at n ps = map (λ (p : ℕ). cell_of n (recording_of p)) ps
+-- what slots come to, with this pointer before them, from the cells as they are
+abbrev pub slots_come : (n s b : ℕ) (cs : Words) (before : ℕ) → List Slot → Words
+slots_come n s b cs before ss = entered_all cs (cells_of n (kept_of s b (shown before ss)))
 
-pub leaf-next : (n : ℕ) (ps : List ℕ) (i : ℕ) (cs after : Words) → i < length ps → after ≡ entered cs (cell_of n (recording_of (get_or ps i 0)))
-    → entered_all after (cells_at n (drop (i + 1) ps)) ≡ entered_all cs (cells_at n (drop i ps))
-unfolding entered_all
-leaf-next n ps i cs after h e = rw (add-one i, drop-cons ps i 0 h, e)
+module _ (n s b : ℕ) (cs : Words) (before : ℕ) where
+  pub slots-none : cs ≡ slots_come n s b cs before []
+  unfolding entered_all shown filter
+  slots-none = refl
 
-pub leaf-end : (n : ℕ) (ps : List ℕ) (i : ℕ) (cs : Words) → length ps ≤ i → cs ≡ entered_all cs (cells_at n (drop i ps))
-unfolding entered_all
-leaf-end n ps i cs h = rw (drop_of_length-le ps h)
+  module _ (k p : ℕ) (ss : List Slot) (w : Bool) (e : w ≡ is_way s b before k p) where
+    pub slot-passed : w ≡ false → slots_come n s b cs before (slot k p ∷ ss) ≡ slots_come n s b cs p ss
+    slot-passed f = ap (λ (ks : List Slot). entered_all cs (cells_of n ks)) (kept-passed s b before k p ss e f)
 
-span-cells : (n : ℕ) (ks ps : Words) (i m : ℕ) → i + m ≤ length ps → cells_at n (take m (drop i ps)) ≡ cells_of n (span ks ps i m)
-unfolding span
-span-cells n ks ps i zero h = refl
-span-cells n ks ps i (suc m) h = rw (drop-cons ps i 0 (omega arith)) (ap (λ (xs : List ℕ). cell_of n (recording_of (get_or ps i 0)) ∷ xs) (span-cells n ks ps (suc i) m (omega arith)))
+    pub slot-taken : w ≡ true → (r x : ℕ) (after : Words) → r ≡ recording_of p → x ≡ cell_of n r → after ≡ entered cs x → slots_come n s b cs before (slot k p ∷ ss) ≡ slots_come n s b after p ss
+    unfolding entered_all
+    slot-taken y r x after f g h =
+        ap (λ (ks : List Slot). entered_all cs (cells_of n ks)) (kept-taken s b before k p ss e y)
+        ∙ ap (λ (ds : Words). entered_all ds (cells_of n (kept_of s b (shown p ss)))) (sym (h ∙ ap (entered cs) (g ∙ ap (cell_of n) f)))
 
-pub leaf-cells : (t : Words) (n leaf : ℕ) (w : Ways) → slots_in w ≡ ways (view t) leaf → 1 ≤ w.count → w.count ≤ length w.pointers
-    → cells_at n (take (w.count - 1) (drop 1 w.pointers)) ≡ cells_of n (kept (view t) leaf)
-unfolding ways_from
-leaf-cells t n leaf w is some high = span-cells n w.keys w.pointers 1 (w.count - 1) (omega arith) ∙ ap (cells_of n) (kept-ways t (root t) leaf w is)
+pub leaf-slots : (t : Words) (leaf : ℕ) (x : Node) (b : ℕ) → x ≡ node t leaf → b ≡ word_of t x.sibling 3 → kept_of x.sibling b (shown_from x.left x.slots 0) ≡ kept (view t) leaf
+unfolding used kept below keeps
+leaf-slots t leaf x b e q =
+    ap (λ (y : ℕ). kept_of x.sibling y (shown_from x.left x.slots 0)) q ∙ ap (λ (y : Node). kept_of y.sibling (word_of t y.sibling 3) (shown_from y.left y.slots 0)) e
+    ∙ ap (λ (y : ℕ). kept_of (node t leaf).sibling y (shown_from (node t leaf).left (node t leaf).slots 0)) (word-fence t (node t leaf).sibling)
 
 -- ---- the leaves, one by one
 

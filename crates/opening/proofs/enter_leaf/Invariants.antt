@@ -1,8 +1,10 @@
--- What the cells come to with the ways that are left.
-use Rattle.std.proofs.Common.{◌≡◌, drop}
-use Rattle.model.specs.Cells.{entered_all}
-use Rattle.opening.proofs.Entering.{cells_at}
+-- What the cells come to with the slots from i on.
+use Rattle.std.proofs.Common.{◌≡◌}
+use Rattle.slots.specs.Scan.{used_from}
+use Rattle.opening.proofs.Entering.{slots_come}
 use Rattle.opening.proofs.enter_leaf.Given as goal
 
-abbrev pub invariant-loop-p : goal.invariant-loop-p
-invariant-loop-p l = entered_all l.cells (cells_at l.collection (drop l.p-index l.p-items)) ≡ entered_all l.initial.cells (cells_at l.collection l.p-items)
+abbrev pub invariant-loop-i : goal.invariant-loop-i
+invariant-loop-i l =
+    slots_come l.collection l.x.sibling l.bound l.cells l.before (used_from l.x.slots l.i)
+    ≡ slots_come l.collection l.x.sibling l.bound l.initial.cells l.x.left (used_from l.x.slots 0)
