@@ -2,15 +2,14 @@
 use mathlib.Core.Path.{◌≡◌, ap, sym, ◌∙◌}
 use mathlib.Core.Bool.{true, false}
 use mathlib.Core.Logic.{◌≢◌}
-use mathlib.Core.List.{[], ◌++◌, append-nil}
+use mathlib.Core.List.{◌++◌}
 use Prim.Native.Nat.{ℕ, ◌*◌, ◌-◌, ◌≤◌, ◌<◌}
 use native.Mathlib.Omega.{arith}
-use lib.ListN.{length, take, drop, replicate, length-append, length-replicate, drop_of_length-le}
-use lib.Seq.{take_at, drop_at}
+use lib.ListN.{length, take, drop, replicate, length-replicate}
 use borrow.Author.Tests.{eq-eqb, ne_eqb}
 use Rattle.std.specs.Prelude as rust
 use Rattle.std.specs.Prelude.{None, Ok, Err, ok_or}
-use Rattle.std.proofs.lemmas.List.{take_all, take-replicate, drop-replicate}
+use Rattle.std.proofs.lemmas.List.{take-replicate, drop-replicate}
 use Rattle.std.proofs.Math.Option.{some}
 use Rattle.model.specs.declared.Refusal.{Refusal}
 use Rattle.model.specs.declared.Refusal.TheVariants.{NotSound}
@@ -22,7 +21,6 @@ use Rattle.model.specs.Marks.{put_each}
 use Rattle.model.specs.Cells.{entered_all}
 use Rattle.model.specs.Summary.{mark_words, cell_words, summary_words, recordings_in, opened, open_number, opening, opened_words}
 use Rattle.model.proofs.Numbers.{refused-by}
-use Rattle.set_laws.proofs.Marks.{each-length}
 use Rattle.table_laws.proofs.Header.{header-iff, header-number-refused}
 use Rattle.two_laws.proofs.CheckTwo.{nothing-settled}
 use Rattle.two_laws.proofs.CollectionTwo.{settled-head}
@@ -53,36 +51,15 @@ module _ (t : Words) (n : ℕ) (f : Words) (w : ℕ) (l : n ≡ summary_words (n
   others : drop w f ≡ replicate (cell_words N) 0
   others = let h : n - w ≡ cell_words N = omega arith in ap (drop w) z ∙ drop-replicate {X = ℕ} w n 0 ∙ ap (λ (k : ℕ). replicate k 0) h
 
-  module _ (marks : Words) (e : marks ≡ put_each (reached_all t) (take w f)) where
-    marks-are : marks ≡ put_each (reached_all t) (replicate (mark_words N) 0)
-    marks-are = e ∙ ap (put_each (reached_all t)) first-words
+  pub some-cells : 1 ≤ N → (cells : Words) → cells ≡ drop w f → 0 < length cells
+  unfolding cell_words
+  some-cells h cells e = omega (arith, ap length (e ∙ others), length-replicate {A = ℕ} (16 * N) 0)
 
-    marks-long : length marks ≡ w
-    marks-long = ap length marks-are ∙ each-length (reached_all t) (replicate (mark_words N) 0) ∙ length-replicate {A = ℕ} (mark_words N) 0 ∙ sym q
-
-    abbrev whole : Words
-    whole = marks ++ drop w f
-
-    blank : drop w whole ≡ replicate (cell_words N) 0
-    blank = drop_at marks (drop w f) w marks-long ∙ others
-
-    whole-long : length whole - w ≡ length (drop w whole)
-    whole-long = omega (arith, length-append marks (drop w f), marks-long, ap length blank, ap length others)
-
-    all-blank : take (length whole - w) (drop w whole) ≡ replicate (cell_words N) 0
-    all-blank = take_all (length whole - w) (drop w whole) (omega (arith, whole-long)) ∙ blank
-
-    pub some-cells : 1 ≤ N → 0 < length (take (length whole - w) (drop w whole))
-    unfolding cell_words
-    some-cells h = omega (arith, ap length all-blank, length-replicate {A = ℕ} (16 * N) 0)
-
-    pub is-written : (cells : Words) → cells ≡ entered_all (take (length whole - w) (drop w whole)) (recordings_in t)
-        → take w whole ++ (cells ++ drop (length whole - w) (drop w whole)) ≡ opened t
-    unfolding opened
-    is-written cells c =
-        let none : drop (length whole - w) (drop w whole) ≡ [] = drop_of_length-le (drop w whole) (omega (arith, whole-long)) in
-        rw none (ap (λ (ws : Words). ws ++ (cells ++ [])) (take_at marks (drop w f) w marks-long ∙ marks-are)
-        ∙ ap (λ (ws : Words). put_each (reached_all t) (replicate (mark_words N) 0) ++ ws) (append-nil cells ∙ c ∙ ap (λ (cs : Words). entered_all cs (recordings_in t)) all-blank))
+  pub is-written : (marks cells ms cs : Words) → marks ≡ take w f → cells ≡ drop w f → ms ≡ put_each (reached_all t) marks → cs ≡ entered_all cells (recordings_in t) → ms ++ cs ≡ opened t
+  unfolding opened
+  is-written marks cells ms cs e c i j =
+      ap (λ (ws : Words). ws ++ cs) (i ∙ ap (put_each (reached_all t)) (e ∙ first-words))
+      ∙ ap (λ (ws : Words). put_each (reached_all t) (replicate (mark_words N) 0) ++ ws) (j ∙ ap (λ (ds : Words). entered_all ds (recordings_in t)) (c ∙ others))
 
 -- ---- the answer, and the slice after it
 

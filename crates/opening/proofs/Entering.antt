@@ -4,11 +4,10 @@ use mathlib.Core.Bool.{Bool, true, false}
 use mathlib.Core.Logic.{◌≢◌, ⊎_elim}
 use mathlib.Core.List.{List, [], ◌∷◌, ◌++◌}
 use Prim.Native.Nat.{ℕ}
-use native.Mathlib.Omega.{arith}
 use borrow.Author.Tests.{eq-eqb, ne_eqb}
 use Rattle.std.proofs.lemmas.List.{map-append}
 use Rattle.model.specs.declared.Node.{Node}
-use Rattle.model.specs.Table.{node, Words, at, nodes, has_node, root}
+use Rattle.model.specs.Table.{node, Words, at, nodes, root}
 use Rattle.model.specs.Slots.{Slot, slot, shown, used, recording_of, recording, view_from, view_of, view}
 use Rattle.model.specs.Search.{below}
 use Rattle.model.specs.Reached.{filter, flat, kept, map_of, maps_of}
@@ -16,9 +15,8 @@ use Rattle.model.specs.SoundTest.{settled}
 use Rattle.model.specs.Cells.{entered, entered_all}
 use Rattle.model.specs.Summary.{cell_of, cells_of, recordings_of, recordings_in}
 use Rattle.list_laws.proofs.Tools.{same-or-not}
-use Rattle.walk_laws.specs.Chain.{leftmost, along, first_leaf, chain}
+use Rattle.walk_laws.specs.Chain.{along, first_leaf}
 use Rattle.walk_laws.proofs.AnyRoot.{any-along}
-use Rattle.walk_laws.proofs.ChainLaw.{along-none}
 use Rattle.walk_laws.proofs.WalkLaw.{sound-in-order}
 use Rattle.two_laws.proofs.SameTwo.{first-there, second-there, settled-sound}
 use Rattle.two_laws.proofs.CollectionTwo.{collection-sound}
@@ -26,9 +24,9 @@ use Rattle.node.specs.Word.{word_of}
 use Rattle.node.proofs.WordLaws.{word-fence}
 use Rattle.slots.specs.Scan.{shown_from, keeps, kept_of, is_way}
 use Rattle.slots.proofs.Kept.{kept-taken, kept-passed}
-use Rattle.leaves.proofs.HitLaws.{leaf-below}
 use Rattle.leaves.proofs.FoundLaws.{whole-is, chain-mapping}
 use Rattle.opening.specs.Passes.{pairs_along}
+use Rattle.opening.proofs.Marking.{chain-none}
 
 -- ---- numbers entered one after the other
 
@@ -90,13 +88,9 @@ chain-cells t r n first most e q = ap (λ (ns : List ℕ). cells_of n (flat (kep
 -- ---- both maps
 
 -- 0 is no root
-no-leaf : (t : Words) → first_leaf (view_from t 0) ≡ 0
-unfolding leftmost word_of has_node
-no-leaf t = sym (leaf-below t 0 0 refl (omega arith))
-
 pairs-none : (t : Words) → pairs_along (view_from t 0) ≡ []
-unfolding chain flat
-pairs-none t = let v = view_from t 0 in ap (flat (kept v)) (ap (along v (nodes t)) (no-leaf t) ∙ along-none v (nodes t))
+unfolding flat
+pairs-none t = ap (flat (kept (view_from t 0))) (chain-none t)
 
 module _ (t : Words) (s : settled t ≡ true) (a b : ℕ) (p : a ≡ at t 1) (q : b ≡ at t 3) where
   first : pairs_along (view_from t a) ≡ map_of 1 t

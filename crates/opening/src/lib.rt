@@ -1,4 +1,4 @@
-// Opening a summary: which nodes of a settled table are reached, and which recordings are in use, worked out by a check and two passes.
+// Opening a summary: which nodes of a settled table are reached, and which recordings are in use, worked out by a check and one pass.
 #![tactic(auto)]
 
 ghost use Rattle.std.specs.Prelude.{◌≡◌, true, ◌<◌, ◌≤◌, length};
@@ -9,8 +9,8 @@ ghost use Rattle.model.specs.SoundTest.{settled};
 ghost use Rattle.model.specs.Marks.{put, put_each};
 ghost use Rattle.model.specs.Cells.{entered_all};
 ghost use Rattle.model.specs.Summary.{summary_words, cells_of, recordings_in, opened, opening, opened_words};
-ghost use Rattle.walk_laws.specs.Chain.{along};
-ghost use Rattle.opening.specs.Passes.{rows, pairs_along};
+ghost use Rattle.walk_laws.specs.Chain.{along, chain};
+ghost use Rattle.opening.specs.Passes.{above, rows, pairs_along};
 
 use leaves::Siblings;
 use model::{Outcome, Refusal};
@@ -36,28 +36,18 @@ fn mark_level(table: &[u64], first: u64, marks: &mut [u64])
     }
 }
 
-// Marks the nodes of a tree, level by level from the root down.
-fn mark_tree(table: &[u64], root: u64, marks: &mut [u64])
-    ensures { marks.new ≡ put_each (rows (view_from table.now root)) marks.old }
+// Marks the nodes of a tree above its leaves, level by level from the root down.
+fn mark_above(table: &[u64], root: u64, marks: &mut [u64])
+    ensures { marks.new ≡ put_each (above (view_from table.now root)) marks.old }
 {
     let mut first = root;
     for _ in 0..node::word(table, root, 2) {
         mark_level(table, first, marks);
         first = node::word(table, first, 0);
     }
-    mark_level(table, first, marks);
 }
 
-// Marks the nodes that a settled table reaches. 0 is no second root: it leads to no node.
-fn mark_reached(table: &[u64], marks: &mut [u64])
-    requires { settled table.now ≡ true }
-    ensures { marks.new ≡ put_each (reached_all table.now) marks.old }
-{
-    mark_tree(table, leaves::word_at(table, 1), marks);
-    mark_tree(table, leaves::word_at(table, 3), marks);
-}
-
-// ---- the recordings in use
+// ---- the leaves, and the recordings in use
 
 // Enters the recordings of a leaf of a collection. A loop over the slots: with ways gathered first an opening takes a third more time, as measured.
 fn enter_leaf(table: &[u64], collection: u64, leaf: u64, cells: &mut [u64])
@@ -80,26 +70,40 @@ fn enter_leaf(table: &[u64], collection: u64, leaf: u64, cells: &mut [u64])
     }
 }
 
-// Enters those of a collection's leaves, from left to right.
-fn enter_leaves(table: &[u64], collection: u64, root: u64, cells: &mut [u64])
+// Marks the leaves of a collection, from left to right, and enters their recordings. One pass: a node that is not in the cache is waited for once.
+fn enter_leaves(table: &[u64], collection: u64, root: u64, marks: &mut [u64], cells: &mut [u64])
     requires collection_bound { collection ≤ 2 }
     requires cells_nonzero { 0 < length cells.old }
-    ensures { cells.new ≡ entered_all cells.old (cells_of collection (pairs_along (view_from table.now root))) }
+    ensures marks_after { marks.new ≡ put_each (chain (view_from table.now root)) marks.old }
+    ensures cells_after { cells.new ≡ entered_all cells.old (cells_of collection (pairs_along (view_from table.now root))) }
 {
     let first = leaves::first_leaf(table, root);
     for leaf in Siblings::new(table, first, leaves::word_at(table, 2)) {
+        mark(marks, leaf);
         enter_leaf(table, collection, leaf, cells);
     }
 }
 
-// Enters those of a settled table, collection 1 first.
-fn enter_recordings(table: &[u64], cells: &mut [u64])
+// A collection's nodes and recordings. 0 is no second root: it leads to no node.
+fn enter_tree(table: &[u64], collection: u64, root: u64, marks: &mut [u64], cells: &mut [u64])
+    requires collection_bound { collection ≤ 2 }
+    requires cells_nonzero { 0 < length cells.old }
+    ensures marks_after { marks.new ≡ put_each (rows (view_from table.now root)) marks.old }
+    ensures cells_after { cells.new ≡ entered_all cells.old (cells_of collection (pairs_along (view_from table.now root))) }
+{
+    mark_above(table, root, marks);
+    enter_leaves(table, collection, root, marks, cells);
+}
+
+// Those of a settled table, collection 1 first.
+fn enter_both(table: &[u64], marks: &mut [u64], cells: &mut [u64])
     requires table_value { settled table.now ≡ true }
     requires cells_nonzero { 0 < length cells.old }
-    ensures { cells.new ≡ entered_all cells.old (recordings_in table.now) }
+    ensures marks_after { marks.new ≡ put_each (reached_all table.now) marks.old }
+    ensures cells_after { cells.new ≡ entered_all cells.old (recordings_in table.now) }
 {
-    enter_leaves(table, 1, leaves::word_at(table, 1), cells);
-    enter_leaves(table, 2, leaves::word_at(table, 3), cells);
+    enter_tree(table, 1, leaves::word_at(table, 1), marks, cells);
+    enter_tree(table, 2, leaves::word_at(table, 3), marks, cells);
 }
 
 // ---- the call
@@ -112,8 +116,8 @@ fn write_summary(table: &[u64], summary: &mut [u64])
 {
     summary.fill(0);
     let w = quick::mark_words(leaves::word_at(table, 2)) as usize;
-    mark_reached(table, &mut summary[..w]);
-    enter_recordings(table, &mut summary[w..]);
+    let (marks, cells) = summary.split_at_mut(w);
+    enter_both(table, marks, cells);
 }
 
 // Works the summary of a table out; 2, 26, 4 and 20 in that order. A refusal changes no word.

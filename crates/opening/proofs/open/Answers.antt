@@ -33,7 +33,8 @@ summary_words-requires c = words-few _ _ (good (goal.at.summary_words-requires c
 
 pub returns-then-summary-summary_words : goal.returns-then-summary-summary_words
 returns-then-summary-summary_words c = let a = c.args in
-    let both = other-length a.table.now a.summary.now (good (goal.at.returns-then-summary-summary_words c).In_ok-header) (λ e. c.if-summary-summary_words.true (e ∙ ap summary_words (sym c.word_at.ensures) ∙ sym c.summary_words.ensures)) in
+    let other = λ (e : length a.summary.now ≡ summary_words (nodes a.table.now)). c.if-summary-summary_words.true (e ∙ ap summary_words (sym c.word_at.ensures) ∙ sym c.summary_words.ensures) in
+    let both = other-length a.table.now a.summary.now (good (goal.at.returns-then-summary-summary_words c).In_ok-header) other in
     record { value = sym (refused-by OtherSummary) ∙ both.0; summary_after = both.1 }
 
 pub returns-in_err-whole : goal.returns-in_err-whole
