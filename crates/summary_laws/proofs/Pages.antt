@@ -11,24 +11,25 @@ use borrow.Author.Tests.{eq-eqb, ne_eqb, ltb-true, ltb-false, lt-ltb, le-ltb}
 use Rattle.model.specs.Results.{refused_with}
 use Rattle.model.specs.Table.{Words, nodes, no_collection}
 use Rattle.model.specs.Slots.{Slot, View, view_of}
-use Rattle.model.specs.Reached.{flat, head_or, kept, map_of}
+use Rattle.model.specs.Reached.{flat, head_or, kept, mapping, map_of}
 use Rattle.model.specs.SoundTest.{settled, sound}
 use Rattle.model.specs.Listing.{in_range_of, listed, listed_words, list_number, list, list_out}
-use Rattle.model.specs.Writes.{standing}
+use Rattle.model.specs.Writes.{standing_in}
 use Rattle.model.specs.Refusals.{unless_refused}
 use Rattle.model.specs.Summary.{summary_words, marks_in, leaves_up_to, page_of, quick_list_number, quick_listed, quick_list_out}
 use Rattle.list_laws.proofs.Tools.{Each-map, or-right}
 use Rattle.list_laws.proofs.Filters.{range-append, range-outside}
 use Rattle.tree_laws.proofs.Rows.{Row, linked-cons, not-zero}
-use Rattle.tree_laws.proofs.Levels.{level-leaves, mem-leaves, row-tail}
+use Rattle.tree_laws.proofs.Levels.{Orderly, level-leaves, mem-leaves, row-tail}
 use Rattle.tree_laws.proofs.Rising.{rising-from}
 use Rattle.tree_laws.proofs.MapLaw.{row-rises, row-rest, leaf-part}
+use Rattle.tree_laws.proofs.SearchLaw.{Stands, path-stands}
 use Rattle.two_laws.proofs.LevelsTwo.{row-few}
 use Rattle.two_laws.proofs.SearchTwo.{sound-head}
 use Rattle.two_laws.proofs.SameTwo.{settled-sound}
 use Rattle.two_laws.proofs.PartsTwo.{tree}
 use Rattle.summary_laws.specs.Current.{Current}
-use Rattle.summary_laws.proofs.Testing.{stands, way-ok}
+use Rattle.summary_laws.proofs.Testing.{way-ok}
 use Rattle.summary_laws.proofs.Quick.{marks-true}
 
 module _ (v : View) (low high : ℕ) where
@@ -68,24 +69,28 @@ module _ (v : View) (low high : ℕ) where
           ap (λ (ms : List ℕ). in_range_of low high (flat (kept v) ms)) (up-goes c n (not-zero v n r.at.0.range) h ∙ ap (λ (m : ℕ). n ∷ leaves_up_to v high c m) ((linked-cons v n ns 0).0 r.chain).0)
           ∙ range-append low high (kept v n) (flat (kept v) (leaves_up_to v high c (head_or 0 ns))) ∙ ap (λ (ss : List Slot). in_range_of low high (kept v n) ++ ss) ih ∙ sym (range-append low high (kept v n) (flat (kept v) ns))
 
--- ---- on a settled table
+-- ---- the pairs in a range are those of the leaves from the one for the lowest key on
 
-module _ (n : ℕ) (t : Words) (h : no_collection n t ≡ false) (s : settled t ≡ true) where
-  pub page-same : (low high : ℕ) → page_of n t low high ≡ in_range_of low high (map_of n t)
-  unfolding page_of flat
-  page-same low high =
-      let v = view_of n t in
-      let o = (tree n t h s).left.orderly in
-      let u = stands n t h s low in
-      let x = standing n t 0 low in
-      let p = leaf-part v x o ((mem-leaves v x o).1 (u.reached, u.covers.at.level)) in
-      let row : Row v 0 (x ∷ p.right) = row-rest v 0 p.left (x ∷ p.right) (rw p.shape at (level-leaves v o).row) in
-      let earlier = flat (kept v) p.left in
-      let later = flat (kept v) (x ∷ p.right) in
-      let f = u.covers.fence in
-      let none : in_range_of low high earlier ≡ [] = range-outside low high earlier (Each-map (λ (s : Slot). s.key < (v.node x).fence) (λ (s : Slot). low ≤ s.key → s.key ≤ high → ⊥) earlier (λ s k l u. omega arith) p.low) in
-      row-pages v low high (x ∷ p.right) (nodes t) row (row-few v 0 (x ∷ p.right) row)
-      ∙ sym (ap (in_range_of low high) p.parts ∙ range-append low high earlier later ∙ ap (λ (ss : List Slot). ss ++ in_range_of low high later) none)
+-- in any tree in order, one with something unfinished too
+pub pages-map : (v : View) (low high : ℕ) → Orderly v
+    → in_range_of low high (flat (kept v) (leaves_up_to v high v.nodes (standing_in v 0 low))) ≡ in_range_of low high (mapping v)
+unfolding flat standing_in
+pages-map v low high o =
+    let x = standing_in v 0 low in
+    let u : Stands v low 0 x = path-stands v low 0 o (omega arith) in
+    let p = leaf-part v x o ((mem-leaves v x o).1 (u.reached, u.covers.at.level)) in
+    let row : Row v 0 (x ∷ p.right) = row-rest v 0 p.left (x ∷ p.right) (rw p.shape at (level-leaves v o).row) in
+    let earlier = flat (kept v) p.left in
+    let later = flat (kept v) (x ∷ p.right) in
+    let f = u.covers.fence in
+    let none : in_range_of low high earlier ≡ [] = range-outside low high earlier (Each-map (λ (s : Slot). s.key < (v.node x).fence) (λ (s : Slot). low ≤ s.key → s.key ≤ high → ⊥) earlier (λ s k l u. omega arith) p.low) in
+    row-pages v low high (x ∷ p.right) v.nodes row (row-few v 0 (x ∷ p.right) row)
+    ∙ sym (ap (in_range_of low high) p.parts ∙ range-append low high earlier later ∙ ap (λ (ss : List Slot). ss ++ in_range_of low high later) none)
+
+-- on a settled table
+pub page-same : (n : ℕ) (t : Words) → no_collection n t ≡ false → settled t ≡ true → (low high : ℕ) → page_of n t low high ≡ in_range_of low high (map_of n t)
+unfolding page_of
+page-same n t h s low high = pages-map (view_of n t) low high (tree n t h s).left.orderly
 
 module _ (ws t : Words) (c : Current ws t) (n low high : ℕ) (out : Words) where
   snd : sound t ≡ true
