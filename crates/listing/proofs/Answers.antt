@@ -7,16 +7,19 @@ use native.Mathlib.Omega.{arith}
 use borrow.Author.Tests.{ne_eqb}
 use Rattle.std.specs.Prelude.{Ok}
 use Rattle.model.specs.Results.{Listed, refused_with, page_with}
-use Rattle.model.specs.Table.{Words, at, header_ok, no_collection}
-use Rattle.model.specs.Slots.{view_from}
-use Rattle.model.specs.Reached.{mapping, map_of}
+use Rattle.model.specs.Table.{Words, at, root_word, header_ok, no_collection}
+use Rattle.model.specs.Slots.{view_from, view}
+use Rattle.model.specs.Reached.{map_of}
 use Rattle.model.specs.SoundTest.{sound}
 use Rattle.model.specs.Listing.{in_range_of, listed, list_number, list, list_out}
+use Rattle.model.specs.Writes.{standing_in, standing}
+use Rattle.two_laws.proofs.CollectionTwo.{collection-sound}
 use Rattle.node.specs.Word.{number_in, found_root}
 use Rattle.node.proofs.Roots.{found-there}
 use Rattle.model.specs.declared.Page.{Page}
-use Rattle.listing.specs.Taking.{Sheet, sheet, begun, all_taken}
+use Rattle.listing.specs.Taking.{Sheet, sheet, begun, all_taken, pairs_from}
 use Rattle.listing.proofs.Pairs.{taken-all}
+use Rattle.listing.proofs.Leaves.{map-pairs}
 
 module _ (i : ℕ) (t : Words) (low high : ℕ) (out : Words) where
   -- the answer, and the lent slice then
@@ -46,9 +49,13 @@ module _ (i : ℕ) (t : Words) (low high : ℕ) (out : Words) where
     pub not-sound : sound t ≡ false → Answers (refused_with 4) out
     not-sound f = refused 4 (sym (number-sound ∙ rw f)) (λ y. omega (arith, y))
 
-    pub done : (p : Page) (u : Words) → sound t ≡ true → sheet u p ≡ all_taken (in_range_of low high (mapping (view_from t r))) (begun out) → Answers (page_with p.count p.more) u
+    pub done : (p : Page) (u : Words) (n : ℕ) → sound t ≡ true → n ≡ standing_in (view_from t r) 0 low
+        → sheet u p ≡ all_taken (pairs_from (view t) low high n) (begun out) → Answers (page_with p.count p.more) u
     unfolding list list_out listed
-    done p u h w =
-        let all = (rw (found-there i t e).2 at w) ∙ taken-all (in_range_of low high (map_of i t)) out in
+    done p u n h s w =
+        let there = found-there i t e in
+        let here : n ≡ standing i t 0 low = rw there.2 at s in
+        let pairs = map-pairs t (at t (root_word i)) low high n (collection-sound i t h there.1) here in
+        let all = (rw pairs at w) ∙ taken-all (in_range_of low high (map_of i t)) out in
         let g : list_number i t ≡ 0 = number-sound ∙ rw h in
         rw g (ap (λ (x : Sheet). page_with x.count x.more) all, ap (λ (x : Sheet). x.words) all)

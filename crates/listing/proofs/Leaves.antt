@@ -1,35 +1,28 @@
--- The leaves of a listing: from the leaf for the lowest key on, one by one, as long as a pair of the range may follow.
+-- The leaves of a listing: from one on, one by one, as long as a pair of the range may follow.
 use mathlib.Core.Path.{◌≡◌, refl, ap, sym, ◌∙◌}
 use mathlib.Core.Bool.{Bool, true, false, ◌&&◌}
 use mathlib.Core.List.{List, [], ◌∷◌, ◌++◌}
-use Prim.Native.Nat.{ℕ, ◌-◌, ◌≤◌, ◌<◌}
-use native.Mathlib.Omega.{arith}
-use lib.Dec.{leb}
-use lib.ListN.{get_or}
+use Prim.Native.Nat.{ℕ, zero, suc, ◌≤◌, ◌<◌}
+use lib.Dec.{leb, ltb, eqb}
+use borrow.Author.Tests.{lt-ltb, le-ltb}
 use Rattle.model.specs.declared.Node.{Node}
 use Rattle.model.specs.Table.{Words, root, nodes, node}
-use Rattle.model.specs.Slots.{Slot, View, node_view, view_from, view, height, used}
-use Rattle.model.specs.Search.{below, within, path}
-use Rattle.model.specs.Reached.{filter, flat, head_or, kept, mapping}
+use Rattle.model.specs.Slots.{Slot, View, node_view, view_from, view, used}
+use Rattle.model.specs.Search.{below, within}
+use Rattle.model.specs.Reached.{filter, flat, kept, mapping}
 use Rattle.model.specs.SoundTest.{sound_view}
 use Rattle.model.specs.Listing.{in_range_of}
 use Rattle.model.specs.Writes.{standing_in}
-use Rattle.list_laws.proofs.Tools.{Each-map}
-use Rattle.list_laws.proofs.Filters.{range-append, range-outside}
-use Rattle.tree_laws.proofs.Rows.{Row}
-use Rattle.tree_laws.proofs.Levels.{Orderly, sound-orderly, level-leaves, row-tail}
-use Rattle.tree_laws.proofs.Rising.{rising-from}
-use Rattle.tree_laws.proofs.MapLaw.{row-rises, row-rest, leaf-part}
-use Rattle.tree_laws.proofs.SearchLaw.{leaf_for, leaf-mem, leaf-covers, path-leaf}
-use Rattle.two_laws.proofs.LevelsTwo.{row-few}
+use Rattle.model.specs.Summary.{leaves_up_to}
+use Rattle.list_laws.proofs.Filters.{range-append}
+use Rattle.tree_laws.proofs.Levels.{sound-orderly}
 use Rattle.walk_laws.specs.Chain.{along}
-use Rattle.walk_laws.proofs.AnyRoot.{any-along}
-use Rattle.walk_laws.proofs.ChainLaw.{along-row}
+use Rattle.summary_laws.proofs.Pages.{pages-map}
 use Rattle.node.specs.Word.{word_of}
 use Rattle.node.proofs.WordLaws.{word-fence}
 use Rattle.slots.specs.Scan.{shown_from, keeps}
-use Rattle.listing.specs.Taking.{Sheet, all_taken, wants, wanted}
-use Rattle.listing.proofs.Pairs.{taken-append}
+use Rattle.listing.specs.Taking.{Sheet, all_taken, wants, wanted, pairs_from}
+use Rattle.listing.proofs.Pairs.{taken-append, Spent, spent-stop}
 
 -- ---- the pairs in a range
 
@@ -55,94 +48,82 @@ leaf-pairs t r low high n x b q e =
 
 -- ---- the leaves along the siblings
 
--- the leaves from n on
-abbrev onward : View → ℕ → List ℕ
-onward v n = along v v.nodes n
+-- of these leaves those before the first whose fence is above the highest key
+unfoldable pub up_to : View → (high : ℕ) → List ℕ → List ℕ
+up_to v high [] = []
+up_to v high (n ∷ ns) = elim (ltb high (v.node n).fence) [ true ↦ [] | false ↦ n ∷ up_to v high ns ]
 
-onward-row : (v : View) (ns : List ℕ) → Row v 0 ns → onward v (head_or 0 ns) ≡ ns
-onward-row v ns r = along-row v 0 v.nodes ns r.at r.chain (row-few v 0 ns r)
+-- their pairs in the range
+abbrev pub pairs_of : View → (low high : ℕ) → List ℕ → List Slot
+pairs_of v low high ns = in_range_of low high (flat (kept v) (up_to v high ns))
 
--- the pairs of leaves in the range
-abbrev pairs_of : View → (low high : ℕ) → List ℕ → List Slot
-pairs_of v low high ns = in_range_of low high (flat (kept v) ns)
+up-along : (v : View) (high c n : ℕ) → leaves_up_to v high c n ≡ up_to v high (along v c n)
+unfolding leaves_up_to along up_to
+up-along v high zero n = refl
+up-along v high (suc c) n = go (eqb n 0) (ltb high (v.node n).fence) refl refl (up-along v high c (v.node n).sibling)
+  where
+    go : (a b : Bool) → eqb n 0 ≡ a → ltb high (v.node n).fence ≡ b
+        → leaves_up_to v high c (v.node n).sibling ≡ up_to v high (along v c (v.node n).sibling)
+        → leaves_up_to v high (suc c) n ≡ up_to v high (along v (suc c) n)
+    go true b e f ih = rw (e, leaves_up_to, along) refl
+    go false true e f ih = rw (e, f, leaves_up_to, along, up_to) refl
+    go false false e f ih = rw (e, f, leaves_up_to, along, up_to) (ap (λ (ms : List ℕ). n ∷ ms) ih)
 
-no-leaf : (v : View) (low high : ℕ) (x : Sheet) → all_taken (pairs_of v low high []) x ≡ x
-unfolding in_range_of flat filter all_taken
-no-leaf v low high x = refl
+module _ (t : Words) (low high : ℕ) where
+  -- what is ahead: taking the pairs of the leaves ns comes to the end
+  pub record Ahead (ns : List ℕ) (x end : Sheet) : Type 0 where
+    pub rest : all_taken (pairs_of (view t) low high ns) x ≡ end
 
-module _ (v : View) (n : ℕ) (later : List ℕ) (row : Row v 0 (n ∷ later)) (low high : ℕ) where
-  -- past the range
-  range-past : high < (v.node n).fence → pairs_of v low high (n ∷ later) ≡ []
-  range-past h =
-      range-outside low high (flat (kept v) (n ∷ later))
-      (Each-map (λ (s : Slot). (v.node n).fence ≤ s.key) (λ (s : Slot). low ≤ s.key → s.key ≤ high → ⊥) (flat (kept v) (n ∷ later)) (λ s f l u. omega arith)
-      (rising-from (v.node n).fence (flat (kept v) (n ∷ later)) (row-rises v 0 n later row)))
+  pub ahead-first : (n c : ℕ) (ns : List ℕ) (x : Sheet) → c ≡ nodes t → ns ≡ along (view t) c n → Ahead ns x (all_taken (pairs_from (view t) low high n) x)
+  ahead-first n c ns x f q =
+      let v = view t in
+      let whole : up_to v high ns ≡ leaves_up_to v high (nodes t) n = ap (up_to v high) q ∙ ap (λ (k : ℕ). up_to v high (along v k n)) f ∙ sym (up-along v high (nodes t) n) in
+      record { rest = ap (λ (ms : List ℕ). all_taken (in_range_of low high (flat (kept v) ms)) x) whole }
 
-  -- one leaf more
-  next-leaf : (x : Sheet) → all_taken (pairs_of v low high later) (all_taken (in_range_of low high (kept v n)) x) ≡ all_taken (pairs_of v low high (n ∷ later)) x
-  unfolding flat
-  next-leaf x =
-      sym (ap (λ (ss : List Slot). all_taken ss x) (range-append low high (kept v n) (flat (kept v) later))
-      ∙ taken-append (in_range_of low high (kept v n)) (in_range_of low high (flat (kept v) later)) x)
+  pub ahead-end : (ns : List ℕ) (x end : Sheet) → Ahead ns x end → ns ≡ [] → x ≡ end
+  unfolding in_range_of flat filter all_taken up_to
+  ahead-end ns x end a z = sym (ap (λ (ms : List ℕ). all_taken (pairs_of (view t) low high ms) x) z) ∙ a.rest
 
--- ---- in a sound tree
-
--- what is ahead: a row of leaves, and the end that taking their pairs comes to
-pub record Ahead (v : View) (low high : ℕ) (ns : List ℕ) (x end : Sheet) : Type 0 where
-  pub row : Row v 0 ns
-  pub rest : all_taken (pairs_of v low high ns) x ≡ end
-
--- the leaves before the one for the lowest key have no pair of the range
-ahead-from : (v : View) (low high : ℕ) (x : Sheet) → Orderly v → Ahead v low high (onward v (leaf_for v low)) x (all_taken (in_range_of low high (mapping v)) x)
-unfolding flat
-ahead-from v low high x o =
-    let n = leaf_for v low in
-    let p = leaf-part v n o (leaf-mem v low o) in
-    let row : Row v 0 (n ∷ p.right) = row-rest v 0 p.left (n ∷ p.right) (rw p.shape at (level-leaves v o).row) in
-    let last : onward v n ≡ n ∷ p.right = onward-row v (n ∷ p.right) row in
-    let earlier = flat (kept v) p.left in
-    let later = flat (kept v) (n ∷ p.right) in
-    let f = (leaf-covers v low o).fence in
-    let none : in_range_of low high earlier ≡ [] = range-outside low high earlier (Each-map (λ (s : Slot). s.key < (v.node n).fence) (λ (s : Slot). low ≤ s.key → s.key ≤ high → ⊥) earlier (λ s k l u. omega arith) p.low) in
-    let whole : in_range_of low high (mapping v) ≡ in_range_of low high later = ap (in_range_of low high) p.parts ∙ range-append low high earlier later ∙ ap (λ (ss : List Slot). ss ++ in_range_of low high later) none in
-    record { row = rw last row; rest = rw (last, whole) }
-
-pub ahead-end : (v : View) (low high : ℕ) (ns : List ℕ) (x end : Sheet) → Ahead v low high ns x end → ns ≡ [] → x ≡ end
-ahead-end v low high ns x end a z = sym (ap (λ (ms : List ℕ). all_taken (pairs_of v low high ms) x) z ∙ no-leaf v low high x) ∙ a.rest
-
-module _ (t : Words) (r low high : ℕ) (ns : List ℕ) (x end : Sheet) (h : sound_view (view_from t r) ≡ true) where
-  abbrev v : View
-  v = view_from t r
-
-  ordered : Orderly v
-  ordered = sound-orderly v h
-
-  pub ahead-first : (n c : ℕ) → n ≡ standing_in v 0 low → c ≡ nodes t → ns ≡ along (view t) c n → Ahead v low high ns x (all_taken (in_range_of low high (mapping v)) x)
-  unfolding standing_in
-  ahead-first n c e f q =
-      let o = ordered in
-      let top : height v - 0 ≡ height v = omega arith in
-      let here : n ≡ leaf_for v low = e ∙ ap (λ (i : ℕ). get_or (path v low) i 0) top ∙ path-leaf v low o in
-      let whole : ns ≡ onward v (leaf_for v low) = q ∙ any-along t (root t) r c n ∙ ap (λ (k : ℕ). along v k n) f ∙ ap (onward v) here in
-      rw whole (ahead-from v low high x o)
+  -- once a pair is left
+  pub ahead-left : (ns : List ℕ) (x end : Sheet) → Ahead ns x end → Spent x → x.more ≡ true → x ≡ end
+  ahead-left ns x end a s m = sym (spent-stop (pairs_of (view t) low high ns) x s m) ∙ a.rest
 
   -- from the record m of leaf n that the code has read
-  module _ (m : Node) (n : ℕ) (later : List ℕ) (q : m ≡ node t n) (z : ns ≡ n ∷ later) (a : Ahead v low high ns x end) where
-    row : Row v 0 (n ∷ later)
-    row = rw z at a.row
-
+  module _ (m : Node) (n : ℕ) (ns later : List ℕ) (x end : Sheet) (q : m ≡ node t n) (z : ns ≡ n ∷ later) (a : Ahead ns x end) where
     pub ahead-past : high < m.fence → x ≡ end
-    unfolding all_taken
+    unfolding in_range_of flat filter all_taken up_to
     ahead-past f =
-        let f : high < (node_view t n).fence = rw q at f in
-        sym (ap (λ (ms : List ℕ). all_taken (pairs_of v low high ms) x) z ∙ ap (λ (ss : List Slot). all_taken ss x) (range-past v n later row low high f)) ∙ a.rest
+        let past : ltb high (node_view t n).fence ≡ true = lt-ltb high (node_view t n).fence (rw q at f) in
+        let none : up_to (view t) high (n ∷ later) ≡ [] = rw (past, up_to) refl in
+        sym (ap (λ (ms : List ℕ). all_taken (pairs_of (view t) low high ms) x) z ∙ ap (λ (ms : List ℕ). all_taken (in_range_of low high (flat (kept (view t)) ms)) x) none) ∙ a.rest
 
-    pub ahead-next : (b : ℕ) (y : Sheet) → b ≡ word_of t m.sibling 3
-        → y ≡ all_taken (wanted (record { low = low; high = high; sibling = m.sibling; bound = b }) (shown_from m.left m.slots 0)) x
-        → Ahead v low high later y end
-    ahead-next b y e w =
-        let here : y ≡ all_taken (in_range_of low high (kept v n)) x = w ∙ ap (λ (ss : List Slot). all_taken ss x) (leaf-pairs t r low high n m b q e) in
+    pub ahead-next : (b : ℕ) (y : Sheet) → m.fence ≤ high → b ≡ word_of t m.sibling 3
+        → y ≡ all_taken (wanted (record { low = low; high = high; sibling = m.sibling; bound = b }) (shown_from m.left m.slots 0)) x → Ahead later y end
+    unfolding flat up_to
+    ahead-next b y f e w =
+        let v = view t in
+        let more : ltb high (node_view t n).fence ≡ false = le-ltb high (node_view t n).fence (rw q at f) in
+        let some : up_to v high (n ∷ later) ≡ n ∷ up_to v high later = rw (more, up_to) refl in
+        let here : y ≡ all_taken (in_range_of low high (kept v n)) x = w ∙ ap (λ (ss : List Slot). all_taken ss x) (leaf-pairs t (root t) low high n m b q e) in
+        let parts : pairs_of v low high (n ∷ later) ≡ in_range_of low high (kept v n) ++ pairs_of v low high later =
+        ap (λ (ms : List ℕ). in_range_of low high (flat (kept v) ms)) some ∙ range-append low high (kept v n) (flat (kept v) (up_to v high later)) in
         record {
-          row = row-tail v 0 n later row;
-          rest = ap (all_taken (pairs_of v low high later)) here ∙ next-leaf v n later row low high x ∙ sym (ap (λ (ms : List ℕ). all_taken (pairs_of v low high ms) x) z) ∙ a.rest;
+          rest = ap (all_taken (pairs_of v low high later)) here
+              ∙ sym (ap (λ (ms : List ℕ). all_taken (pairs_of v low high ms) x) z ∙ ap (λ (ss : List Slot). all_taken ss x) parts
+              ∙ taken-append (in_range_of low high (kept v n)) (pairs_of v low high later) x)
+              ∙ a.rest;
         }
+
+-- ---- from the leaf for the lowest key
+
+-- the pairs along the siblings do not depend on the root that the reading started from
+pub any-pairs : (t : Words) (r q low high n : ℕ) → pairs_from (view_from t r) low high n ≡ pairs_from (view_from t q) low high n
+unfolding leaves_up_to kept below
+any-pairs t r q low high n = refl
+
+-- in a sound tree they are those of its map
+pub map-pairs : (t : Words) (r low high n : ℕ) → sound_view (view_from t r) ≡ true → n ≡ standing_in (view_from t r) 0 low
+    → pairs_from (view t) low high n ≡ in_range_of low high (mapping (view_from t r))
+map-pairs t r low high n h e =
+    let v = view_from t r in
+    any-pairs t (root t) r low high n ∙ ap (pairs_from v low high) e ∙ pages-map v low high (sound-orderly v h)

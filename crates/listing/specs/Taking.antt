@@ -1,8 +1,10 @@
 -- A listing pair by pair: each is written while whole pairs fit, and the first that does not fit is noted.
 use Rattle.std.specs.Prelude.{Bool, true, false, cond, not, ◌&&◌, List, [], ◌∷◌, ℕ, ◌+◌, ◌*◌, ◌/◌, leb, eqb, length, set}
 use Rattle.model.specs.Table.{Words}
-use Rattle.model.specs.Slots.{Slot, slot}
-use Rattle.model.specs.Reached.{filter}
+use Rattle.model.specs.Slots.{Slot, slot, View}
+use Rattle.model.specs.Reached.{filter, flat, kept}
+use Rattle.model.specs.Listing.{in_range_of}
+use Rattle.model.specs.Summary.{leaves_up_to}
 use Rattle.slots.specs.Scan.{keeps}
 use Rattle.model.specs.declared.Page.{Page}
 use Rattle.listing.specs.declared.Window.{Window}
@@ -47,3 +49,9 @@ wanted w ss = filter (λ (s : Slot). wants w s.key) ss
 -- a slot (k, p) in use more, with the pointer before it
 unfoldable pub slot_taken : Window → (before k p : ℕ) → Sheet → Sheet
 slot_taken w before k p x = cond (not (eqb p before) && wants w k) (taken (slot k p) x) x
+
+-- ---- the leaves along the siblings
+
+-- the pairs in a range of the leaves from n on, as a page of a quick listing has them
+abbrev pub pairs_from : View → (low high n : ℕ) → List Slot
+pairs_from v low high n = in_range_of low high (flat (kept v) (leaves_up_to v high v.nodes n))

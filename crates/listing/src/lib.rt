@@ -1,13 +1,11 @@
 // A listing: the map's pairs in a range of keys, written into a lent slice while whole pairs fit.
 #![tactic(auto)]
 
-ghost use Rattle.std.specs.Prelude.{◌≡◌, true};
-ghost use Rattle.model.specs.Slots.{slot, view_from};
-ghost use Rattle.model.specs.Reached.{mapping};
-ghost use Rattle.model.specs.SoundTest.{sound_view};
-ghost use Rattle.model.specs.Listing.{in_range_of, list, list_out};
+ghost use Rattle.std.specs.Prelude.{◌≡◌};
+ghost use Rattle.model.specs.Slots.{slot, view};
+ghost use Rattle.model.specs.Listing.{list, list_out};
 ghost use Rattle.slots.specs.Scan.{shown_from};
-ghost use Rattle.listing.specs.Taking.{sheet, begun, taken, all_taken, wants, wanted, slot_taken};
+ghost use Rattle.listing.specs.Taking.{sheet, begun, taken, all_taken, wants, wanted, slot_taken, pairs_from};
 
 use leaves::Siblings;
 use model::{Listed, Node, Page, Refusal};
@@ -32,7 +30,7 @@ fn wants(w: Window, key: u64) -> bool
 
 // One pair more: written if it fits whole, else noted as left. A page so far: the pairs written, and whether one was left that did not fit.
 // Slice and page stay two parameters, here and below: a struct of both, as `Text` of script_bytes is, would be no plainer. A page alone is answered, so
-// that each function would have the struct and `list_leaves` the making and taking apart besides.
+// that each function would have the struct and `list_from` the making and taking apart besides.
 #[tactic(auto, unfolding(crate::specs::Taking::taken))]
 fn take_pair(out: &mut [u64], p: Page, key: u64, pointer: u64) -> Page
     ensures { sheet out.new result ≡ taken (slot key pointer) (sheet out.old p) }
@@ -81,19 +79,15 @@ fn list_leaf(out: &mut [u64], start: Page, x: Node, w: Window) -> Page
     p
 }
 
-// The leaves from the one for the lowest key along the siblings, until a pair is left or the range ends.
-// That the tree is sound is a clause: a `Tree<'a> { table, root }` with the fact as a ghost field would be no plainer: made by the one caller for
-// this one call, and taken apart at the first step.
-fn list_leaves(table: &[u64], root: u64, low: u64, high: u64, out: &mut [u64]) -> Page
-    requires { sound_view (view_from table.now root) ≡ true }
-    ensures { sheet out.new result
-        ≡ all_taken (in_range_of low high (mapping (view_from table.now root))) (begun out.old) }
+// The leaves from one on along the siblings, up to one whose fence is above the range, until a pair is left. Of the words nothing is asked: on
+// any of them at most N leaves are looked at.
+pub fn list_from(table: &[u64], first: u64, low: u64, high: u64, out: &mut [u64]) -> Page
+    ensures { sheet out.new result ≡ all_taken (pairs_from (view table.now) low high first) (begun out.old) }
 {
     let mut p = Page {
         count: 0,
         more: false,
     };
-    let first = reach::standing(table, root, 0, low);
     for leaf in Siblings::new(table, first, leaves::word_at(table, 2)) {
         if p.more {
             return p;
@@ -123,5 +117,6 @@ pub fn list(table: &[u64], collection: u64, low: u64, high: u64, out: &mut [u64]
     if !sound::is_sound(table) {
         return Err(Refusal::NotSound);
     }
-    Ok(list_leaves(table, root, low, high, out))
+    let first = reach::standing(table, root, 0, low);
+    Ok(list_from(table, first, low, high, out))
 }

@@ -3,8 +3,7 @@ use Rattle.std.proofs.Common.{sym, ◌∙◌}
 use Rattle.list_laws.proofs.Tools.{handed-on}
 use Rattle.model.specs.declared.Refusal.TheVariants.{NotSound}
 use Rattle.model.proofs.Numbers.{refused-by}
-use Rattle.node.proofs.Roots.{found-there, found-err}
-use Rattle.two_laws.proofs.CollectionTwo.{collection-sound}
+use Rattle.node.proofs.Roots.{found-err}
 use Rattle.listing.proofs.Answers.{no-collection, not-sound, done}
 use Rattle.listing.proofs.list.Goals as goal
 
@@ -20,13 +19,7 @@ returns-then-not-is_sound c =
     let both = not-sound _ _ _ _ _ (sym c.find_root.ensures ∙ c.in_ok-root.was) (sym c.is_sound.ensures ∙ c.if-not-is_sound.true) in
     record { value = sym (refused-by NotSound) ∙ both.0; out_after = both.1 }
 
-pub list_leaves-requires : goal.list_leaves-requires
-list_leaves-requires c =
-    let a = c.args in
-    let h = found-there a.collection a.table.now (sym c.find_root.ensures ∙ c.in_ok-root.was) in
-    rw h.2 (collection-sound _ _ (sym c.is_sound.ensures ∙ c.if-not-is_sound.false) h.1)
-
 pub returns : goal.returns
 returns c =
-    let both = done _ _ _ _ _ (sym c.find_root.ensures ∙ c.in_ok-root.was) _ _ (sym c.is_sound.ensures ∙ c.if-not-is_sound.false) c.list_leaves.ensures in
+    let both = done _ _ _ _ _ (sym c.find_root.ensures ∙ c.in_ok-root.was) _ _ _ (sym c.is_sound.ensures ∙ c.if-not-is_sound.false) c.standing-first.ensures c.list_from.ensures in
     record { value = both.0; out_after = both.1 }
