@@ -1,5 +1,5 @@
 -- What a listing answers and leaves, from the tests in their order.
-use mathlib.Core.Path.{◌≡◌, refl, ap, sym, ◌∙◌}
+use mathlib.Core.Path.{◌≡◌, refl, sym, ◌∙◌}
 use mathlib.Core.Bool.{Bool, true, false, cond}
 use mathlib.Core.Logic.{◌≢◌}
 use Prim.Native.Nat.{ℕ}
@@ -11,14 +11,14 @@ use Rattle.model.specs.Table.{Words, at, root_word, header_ok, no_collection}
 use Rattle.model.specs.Slots.{view_from, view}
 use Rattle.model.specs.Reached.{map_of}
 use Rattle.model.specs.SoundTest.{sound}
-use Rattle.model.specs.Listing.{in_range_of, listed, list_number, list, list_out}
+use Rattle.model.specs.Listing.{in_range_of, list_number, list, list_out}
 use Rattle.model.specs.Writes.{standing_in, standing}
 use Rattle.two_laws.proofs.CollectionTwo.{collection-sound}
 use Rattle.node.specs.Word.{number_in, found_root}
 use Rattle.node.proofs.Roots.{found-there}
 use Rattle.model.specs.declared.Page.{Page}
-use Rattle.listing.specs.Taking.{Sheet, sheet, begun, all_taken, pairs_from}
-use Rattle.listing.proofs.Pairs.{taken-all}
+use Rattle.listing.specs.Taking.{sheet, begun, all_taken, pairs_from}
+use Rattle.listing.proofs.Pairs.{all-listed}
 use Rattle.listing.proofs.Leaves.{map-pairs}
 
 module _ (i : ℕ) (t : Words) (low high : ℕ) (out : Words) where
@@ -51,11 +51,11 @@ module _ (i : ℕ) (t : Words) (low high : ℕ) (out : Words) where
 
     pub done : (p : Page) (u : Words) (n : ℕ) → sound t ≡ true → n ≡ standing_in (view_from t r) 0 low
         → sheet u p ≡ all_taken (pairs_from (view t) low high n) (begun out) → Answers (page_with p.count p.more) u
-    unfolding list list_out listed
+    unfolding list list_out
     done p u n h s w =
         let there = found-there i t e in
         let here : n ≡ standing i t 0 low = rw there.2 at s in
         let pairs = map-pairs t (at t (root_word i)) low high n (collection-sound i t h there.1) here in
-        let all = (rw pairs at w) ∙ taken-all (in_range_of low high (map_of i t)) out in
+        let both = all-listed (in_range_of low high (map_of i t)) out u p (rw pairs at w) in
         let g : list_number i t ≡ 0 = number-sound ∙ rw h in
-        rw g (ap (λ (x : Sheet). page_with x.count x.more) all, ap (λ (x : Sheet). x.words) all)
+        rw g both

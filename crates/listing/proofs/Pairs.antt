@@ -12,9 +12,11 @@ use lib.Seq.{length-take-le, take_all, take-append-le, take_at, drop_at, drop-dr
 use borrow.Author.Tests.{lt-ltb, le-ltb, leb-true, leb-false}
 use Rattle.model.specs.Table.{Words}
 use Rattle.model.specs.Slots.{Slot, slot_words}
-use Rattle.model.specs.Listing.{fitting, listed_words}
+use Rattle.model.specs.Results.{page_with}
+use Rattle.model.specs.declared.Page.{Page}
+use Rattle.model.specs.Listing.{fitting, listed, listed_words}
 use Rattle.list_laws.proofs.Slots.{length-pairs}
-use Rattle.listing.specs.Taking.{Sheet, begun, written, passed, taken, all_taken}
+use Rattle.listing.specs.Taking.{Sheet, sheet, begun, written, passed, taken, all_taken}
 use Rattle.listing.proofs.Steps.{pair-left, pair-written}
 
 -- the sheet after pairs, by the definitions
@@ -85,8 +87,13 @@ taken-after (s ∷ ps) ss out =
     ap (all_taken ps) (next ss out s) ∙ taken-after ps (ss ++ s ∷ []) out ∙ ap (λ (l : List Slot). after l out) (append_assoc ss (s ∷ []) ps)
 
 -- all the pairs of a listing
-pub taken-all : (ps : List Slot) (out : Words) → all_taken ps (begun out) ≡ after ps out
+taken-all : (ps : List Slot) (out : Words) → all_taken ps (begun out) ≡ after ps out
 taken-all ps out = ap (all_taken ps) (sym (after-few [] out (omega arith))) ∙ taken-after ps [] out
+
+-- answer and slice are then the definitions'
+pub all-listed : (ps : List Slot) (out u : Words) (p : Page) → sheet u p ≡ all_taken ps (begun out) → (page_with p.count p.more ≡ listed ps (length out)) × (u ≡ listed_words ps out)
+unfolding listed
+all-listed ps out u p w = let all = w ∙ taken-all ps out in (ap (λ (x : Sheet). page_with x.count x.more) all, ap (λ (x : Sheet). x.words) all)
 
 -- ---- pairs taken in parts
 
