@@ -3,9 +3,9 @@
 
 ghost use Rattle.std.specs.Prelude.{◌≡◌, MatchResult};
 ghost use Rattle.model.specs.Results.{answer_number};
-ghost use Rattle.model.specs.Answers.{Looked, Counted};
+ghost use Rattle.model.specs.Answers.{Looked, Counted, Showed};
 
-use model::{Answer, Refusal, Written};
+use model::{Answer, Listed, Refusal, Written};
 
 // The number of an answer: 0 if the call did its work, else its refusal's. A batch's stop is an Option (`stop_number` of catalogue_writes): one function
 // for both would take an answer's `err`, and a proof that the two definitions agree, to save this match.
@@ -73,4 +73,15 @@ pub fn put_counts(written: Written, stores: &mut u64, flushes: &mut u64, barrier
         *barriers = counts.barriers;
     }
     number_of(written)
+}
+
+// A listing's number; if it was done, its count of pairs and whether more are left go into the lent words.
+pub fn put_page(listed: Listed, pairs: &mut u64, more: &mut u64) -> u64
+    ensures { Showed listed result pairs.old pairs.new more.old more.new }
+{
+    if let Ok(page) = listed {
+        *pairs = page.count;
+        *more = u64::from(page.more);
+    }
+    number_of(listed)
 }

@@ -1,5 +1,6 @@
 // The C entry points, on numbers and slices: include/catalogue.h has their prototypes. Here those of codes, making, searching, checking, listing
-// and carry-out; catalogue_writes, catalogue_sentinels and catalogue_tools have the others. One archive, libcatalogue.a, has them all (shell/build-library).
+// and carry-out; catalogue_writes, catalogue_sentinels and catalogue_tools have the others. One archive, libcatalogue.a, has
+// them all (shell/build-library).
 // C calls each by its own name: bodies that differ in the inner call alone stay apart.
 // C hands over each number, slice and lent word by itself: those that calls take together stay parameters.
 #![tactic(auto)]
@@ -95,11 +96,7 @@ pub extern "C" fn catalogue_list(
     ensures out_after { out.new ≡ list_out collection table.now low high out.old }
 {
     let listed = listing::list(table, collection, low, high, out);
-    if let Ok(page) = listed {
-        *pairs = page.count;
-        *more = u64::from(page.more);
-    }
-    answers::number_of(listed)
+    answers::put_page(listed, pairs, more)
 }
 
 // 0, or 2 or 13.
