@@ -30,6 +30,7 @@ static const struct {
     {CATALOGUE_BAD_SCRIPT, "the actions form no script"},
     {CATALOGUE_SHORT_FIGURES, "there is too little room for the wear figures"},
     {CATALOGUE_BAD_PAIRS, "the pairs to be packed do not rise, or one is out of range or there twice"},
+    {CATALOGUE_OTHER_SUMMARY, "the summary has another length"},
     {CATALOGUE_NO, "no: the orders do not make the change at every cut"},
     {CATALOGUE_ABSENT, "the code is not in the collection"},
     {CATALOGUE_FILE_NO_FILE, "there is no file of that name"},

@@ -40,6 +40,7 @@ const struct refusal refusals[] = {
     {CATALOGUE_BAD_SCRIPT, "actions that are no script", NULL},
     {CATALOGUE_SHORT_FIGURES, "too little room for wear figures", "there is too little room for the wear figures"},
     {CATALOGUE_BAD_PAIRS, "pairs that cannot be packed", "{table}: the pairs to be packed do not rise, or one is out of range or there twice"},
+    {CATALOGUE_OTHER_SUMMARY, "summary of another length", NULL},
     {BAD_USAGE, "wrong command line", NULL},
     {BAD_LINE, "wrong line in a file", NULL},
     {BAD_FILE, "a file cannot be read or written, or another program uses it or changed it", NULL},

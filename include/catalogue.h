@@ -12,11 +12,13 @@
  * No call asks for memory. Stack that a call takes, whatever the words hold, rounded up (KB of 1,024 bytes, on x86-64):
  *
  *       2 KB: catalogue_version, catalogue_parse, catalogue_print, catalogue_make, catalogue_search, catalogue_search_with,
- *             catalogue_carry_out, catalogue_script, catalogue_script_number
+ *             catalogue_carry_out, catalogue_script, catalogue_script_number, catalogue_summary_words, catalogue_quick_delete,
+ *             catalogue_quick_set_class, catalogue_quick_repair, catalogue_quick_list
+ *       4 KB: catalogue_quick_insert
  *     150 KB: catalogue_pack
  *     320 KB: catalogue_list, catalogue_check, catalogue_insert, catalogue_delete, catalogue_set_class, catalogue_repair, catalogue_sentinels,
  *             catalogue_insert_with, catalogue_delete_with, catalogue_set_class_with, catalogue_repair_with, catalogue_judge_insert,
- *             catalogue_judge_delete, catalogue_wear
+ *             catalogue_judge_delete, catalogue_wear, catalogue_summary
  *     450 KB: catalogue_insert_many, catalogue_salvage
  *
  * A table has one collection or two, as it was made: the archive's own, 1, and the loan collection, 2. Each is a tree of its own codes, and
@@ -54,6 +56,14 @@
  * that they name. The writing calls that take them set those of the nodes that they store to; a change without them leaves them as they
  * were. Wrong ones do no harm in a sound table: every call with them answers as without them, and so do the list and the table.
  *
+ * A summary is words beside a table too, catalogue_summary_words(N) of them in a slice of their own, half as long as the table: which nodes a
+ * root leads to, and which recordings are in use. It lies in ordinary memory: no order stores to it. catalogue_summary checks a table whole
+ * and works its summary out, if no change is unfinished. The calls that take it, the quick calls, do not check the table: they look at the
+ * nodes on the way to their key alone. With a summary that is true of the table a quick call returns, lists, stores and counts what the plain
+ * call does, and leaves the summary true. It is true until something else changes the table: a plain call, one with sentinels, a list that
+ * was cut off, another table in its place. Work it out anew then. With any other words a quick call ends and writes to its own slices alone.
+ * It may leave a table that is not sound; if it meets a node that does not fit the words, it returns 4 and changes nothing.
+ *
  *     static uint64_t memory[8 + 32 * 100], working[8 + 32 * 100], orders[CATALOGUE_LIST_WORDS];
  *     uint64_t key, recording, access, next, higher, stores, flushes, barriers;
  *     size_t words = sizeof working / sizeof working[0];
@@ -81,7 +91,7 @@ extern "C" {
  * The version of these declarations. It is raised by each change of a name, a parameter or the meaning of a word, so a program that was
  * compiled with one header and linked with another library sees it: catalogue_version() is the library's.
  */
-#define CATALOGUE_VERSION 15
+#define CATALOGUE_VERSION 16
 
 #define CATALOGUE_MARK UINT64_MAX
 #define CATALOGUE_BARRIER (UINT64_MAX - 1)
@@ -117,7 +127,8 @@ enum {
     CATALOGUE_NO_CODE = 1,          /* text is not a code, or a key has no code */
     CATALOGUE_NO_TABLE = 2,         /* wrong length or header, a root outside 1 to N, or two collections with N = 1 */
     CATALOGUE_SEARCH_LOST = 3,      /* search: a node number, level or sibling is wrong on its way, or its leaves go round in a ring */
-    CATALOGUE_NOT_SOUND = 4,        /* check, listing, write or judging: the table is not sound, in this collection or in the other */
+    CATALOGUE_NOT_SOUND = 4,        /* check, listing, write or judging: the table is not sound, in this collection or in the other; quick calls: a
+                                     * node on the way does not fit the summary or fails a test, which no true summary gives */
     CATALOGUE_SHORT_LIST = 5,       /* order list under 2,560 words, for dock 1 under 5,120 */
     CATALOGUE_BAD_RECORDING = 6,    /* recording is 0 or above CATALOGUE_MOST_RECORDING */
     CATALOGUE_KEY_PRESENT = 7,      /* code already in the collection */
@@ -132,12 +143,13 @@ enum {
     CATALOGUE_NO_COLLECTION = 17,   /* collection not 1 or 2, or 2 if the table has one; comes straight after 2 */
     CATALOGUE_NO_DOCK = 18,         /* dock neither 0 nor 1; comes straight before 5 */
     CATALOGUE_OTHER_SENTINELS = 19, /* sentinels not 3 words for each node; comes straight after 17 */
-    CATALOGUE_NOT_SETTLED = 20,     /* judging: the table is sound, but a change is unfinished; comes straight after 4 */
+    CATALOGUE_NOT_SETTLED = 20,     /* judging, catalogue_summary: the table is sound, but a change is unfinished; comes straight after 4 */
     CATALOGUE_CHANGE_REFUSED = 21,  /* judging: the change itself would be refused on this table; comes last */
     CATALOGUE_NO_SCRIPT = 22,       /* script: number above 1,554 */
     CATALOGUE_BAD_SCRIPT = 23,      /* a script's number: actions that form no such script */
     CATALOGUE_SHORT_FIGURES = 24,   /* wear: a lent slice too short for the lines or for the pairs needed */
     CATALOGUE_BAD_PAIRS = 25,       /* packing: keys that do not rise, a recording or class out of range, or a recording there twice */
+    CATALOGUE_OTHER_SUMMARY = 26,   /* summary not catalogue_summary_words(N) words; comes straight after 17 */
     CATALOGUE_NO = 254,             /* judging: no */
     CATALOGUE_ABSENT = 255          /* search: the key is absent */
 };
@@ -286,6 +298,42 @@ uint64_t catalogue_set_class_with(uint64_t *table, size_t words, uint64_t *senti
 
 uint64_t catalogue_repair_with(uint64_t *table, size_t words, uint64_t *sentinels, size_t sentinel_words, uint64_t *orders,
                                size_t order_words, uint64_t dock, uint64_t *stores, uint64_t *flushes, uint64_t *barriers);
+
+/* The words of the summary of a table of so many nodes; 0 for 0 and above 65,535. */
+uint64_t catalogue_summary_words(uint64_t nodes);
+
+/*
+ * The summary of a table, of both collections, into exactly so many words. 0, or 2, 26, 4, or 20 if a change is unfinished: catalogue_repair
+ * finishes it.
+ */
+uint64_t catalogue_summary(const uint64_t *table, size_t words, uint64_t *summary, size_t summary_words);
+
+/*
+ * As the writing calls, with 26 after 17, and 4 by the nodes on the way alone. A refusal changes no lent word. A table that has a true summary
+ * has nothing to repair: a repair gives 0 orders.
+ */
+uint64_t catalogue_quick_insert(uint64_t *table, size_t words, uint64_t *summary, size_t summary_words, uint64_t collection,
+                                uint64_t *orders, size_t order_words, uint64_t dock, uint64_t key, uint64_t recording, uint64_t access,
+                                uint64_t *stores, uint64_t *flushes, uint64_t *barriers);
+
+uint64_t catalogue_quick_delete(uint64_t *table, size_t words, uint64_t *summary, size_t summary_words, uint64_t collection,
+                                uint64_t *orders, size_t order_words, uint64_t dock, uint64_t key, uint64_t *stores, uint64_t *flushes,
+                                uint64_t *barriers);
+
+uint64_t catalogue_quick_set_class(uint64_t *table, size_t words, const uint64_t *summary, size_t summary_words, uint64_t collection,
+                                   uint64_t *orders, size_t order_words, uint64_t dock, uint64_t key, uint64_t access, uint64_t *stores,
+                                   uint64_t *flushes, uint64_t *barriers);
+
+uint64_t catalogue_quick_repair(const uint64_t *table, size_t words, const uint64_t *summary, size_t summary_words, const uint64_t *orders,
+                                size_t order_words, uint64_t dock, uint64_t *stores, uint64_t *flushes, uint64_t *barriers);
+
+/*
+ * As catalogue_list, with 26 after 17, and 4 by the nodes on the way to low alone. It looks at the leaves of the range, up to the first pair
+ * that does not fit: so it serves as a walk too. A page of twenty is a listing from a key to CATALOGUE_MARK into 40 words; if *more is 1, the
+ * next page begins at the last key plus 1.
+ */
+uint64_t catalogue_quick_list(const uint64_t *table, size_t words, const uint64_t *summary, size_t summary_words, uint64_t collection,
+                              uint64_t low, uint64_t high, uint64_t *out, size_t out_words, uint64_t *pairs, uint64_t *more);
 
 /* Applies the first c orders of a list to a table; barriers are counted and passed over. 0, or 2 or 13. */
 uint64_t catalogue_carry_out(uint64_t *table, size_t words, const uint64_t *orders, size_t order_words, uint64_t c);

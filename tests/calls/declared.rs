@@ -22,6 +22,13 @@ extern "C" {
     pub fn catalogue_delete_with(table: *mut u64, words: usize, sentinels: *mut u64, sentinel_words: usize, collection: u64, orders: *mut u64, order_words: usize, dock: u64, key: u64, stores: *mut u64, flushes: *mut u64, barriers: *mut u64) -> u64;
     pub fn catalogue_set_class_with(table: *mut u64, words: usize, sentinels: *mut u64, sentinel_words: usize, collection: u64, orders: *mut u64, order_words: usize, dock: u64, key: u64, access: u64, stores: *mut u64, flushes: *mut u64, barriers: *mut u64) -> u64;
     pub fn catalogue_repair_with(table: *mut u64, words: usize, sentinels: *mut u64, sentinel_words: usize, orders: *mut u64, order_words: usize, dock: u64, stores: *mut u64, flushes: *mut u64, barriers: *mut u64) -> u64;
+    pub fn catalogue_summary_words(nodes: u64) -> u64;
+    pub fn catalogue_summary(table: *const u64, words: usize, summary: *mut u64, summary_words: usize) -> u64;
+    pub fn catalogue_quick_insert(table: *mut u64, words: usize, summary: *mut u64, summary_words: usize, collection: u64, orders: *mut u64, order_words: usize, dock: u64, key: u64, recording: u64, access: u64, stores: *mut u64, flushes: *mut u64, barriers: *mut u64) -> u64;
+    pub fn catalogue_quick_delete(table: *mut u64, words: usize, summary: *mut u64, summary_words: usize, collection: u64, orders: *mut u64, order_words: usize, dock: u64, key: u64, stores: *mut u64, flushes: *mut u64, barriers: *mut u64) -> u64;
+    pub fn catalogue_quick_set_class(table: *mut u64, words: usize, summary: *const u64, summary_words: usize, collection: u64, orders: *mut u64, order_words: usize, dock: u64, key: u64, access: u64, stores: *mut u64, flushes: *mut u64, barriers: *mut u64) -> u64;
+    pub fn catalogue_quick_repair(table: *const u64, words: usize, summary: *const u64, summary_words: usize, orders: *const u64, order_words: usize, dock: u64, stores: *mut u64, flushes: *mut u64, barriers: *mut u64) -> u64;
+    pub fn catalogue_quick_list(table: *const u64, words: usize, summary: *const u64, summary_words: usize, collection: u64, low: u64, high: u64, out: *mut u64, out_words: usize, pairs: *mut u64, more: *mut u64) -> u64;
     pub fn catalogue_carry_out(table: *mut u64, words: usize, orders: *const u64, order_words: usize, c: u64) -> u64;
     pub fn catalogue_salvage(table: *const u64, words: usize, out: *mut u64, out_words: usize, report: *mut u64, report_words: usize, dropped: *mut u64) -> u64;
     pub fn catalogue_judge_insert(table: *const u64, words: usize, orders: *const u64, order_words: usize, out: *mut u64, out_words: usize, collection: u64, key: u64, recording: u64, access: u64, count: *mut u64) -> u64;

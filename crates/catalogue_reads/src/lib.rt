@@ -1,5 +1,5 @@
 // The C entry points, on numbers and slices: include/catalogue.h has their prototypes. Here those of codes, making, searching, checking, listing
-// and carry-out; catalogue_writes, catalogue_sentinels and catalogue_tools have the others. One archive, libcatalogue.a, has
+// and carry-out; catalogue_writes, catalogue_sentinels, catalogue_quick and catalogue_tools have the others. One archive, libcatalogue.a, has
 // them all (shell/build-library).
 // C calls each by its own name: bodies that differ in the inner call alone stay apart.
 // C hands over each number, slice and lent word by itself: those that calls take together stay parameters.
@@ -20,7 +20,7 @@ ghost use Rattle.model.specs.Listing.{list, list_out};
 pub extern "C" fn catalogue_version() -> u64
     ensures { result ≡ version }
 {
-    15
+    16
 }
 
 // 0 and the code's key, or 1.

@@ -13,13 +13,14 @@ use Rattle.model.specs.Listing.{count_or, more_or}
 use Rattle.model.specs.Refusals.{written, table_after, list_after, stores_or, flushes_or, barriers_or}
 use Rattle.model.specs.Salvage.{dropped_or}
 use Rattle.model.specs.Sentinels.{written_with, table_with, orders_with, sentinels_with}
+use Rattle.model.specs.Summary.{quick_written, quick_table, quick_list, quick_summary}
 use Rattle.model.specs.Judge.{verdict_number, fails_or}
 use Rattle.model.specs.Batch.{batch}
 use Rattle.model.specs.Wear.{total_or, largest_or, first_line_or, pairs_or}
 
 -- the version of the calls' shapes: raised by each change of a name, a parameter or what a word means
 abbrev pub version : ℕ
-version = 15
+version = 16
 
 -- a search of C's: 0 for found, 255 for absent
 abbrev pub search_number : Answer → ℕ
@@ -74,6 +75,13 @@ pub record WroteWith (x : Call) (number : ℕ) (t t' ws ws' lent lent' : Words) 
   pub table-is : t' ≡ table_with x (length ws) (length lent) dock t
   pub list-is : lent' ≡ orders_with x (length ws) lent dock t
   pub sentinels-are : ws' ≡ sentinels_with x ws (length lent) dock t
+
+-- a quick call: a writing call that takes a summary
+pub record WroteQuick (x : Call) (number : ℕ) (t t' ws ws' lent lent' : Words) (dock stores stores' flushes flushes' barriers barriers' : ℕ) : Type 0 where
+  pub answer-is : Counted (quick_written x (length lent) dock ws t) number stores stores' flushes flushes' barriers barriers'
+  pub table-is : t' ≡ quick_table x (length lent) dock ws t
+  pub list-is : lent' ≡ quick_list x lent dock ws t
+  pub summary-is : ws' ≡ quick_summary x (length lent) dock ws t
 
 -- a listing's answer: its number, the count, and 1 or 0 for more left
 pub record Showed (x : Listed) (number pairs pairs' more more' : ℕ) : Type 0 where

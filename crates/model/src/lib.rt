@@ -46,7 +46,7 @@ pub struct Node {
 }
 
 // Why a call refuses, and its number: document 01's, then the requests', and our own from 25 on. No refusal has number 12. include/catalogue.h
-// lists those that C's calls answer, with what each means; OtherSummary refuses a summary, which no C call takes.
+// lists them with what each means.
 #[derive(Clone, Copy, PartialEq, Eq)]
 pub enum Refusal {
     NoCode = 1,

@@ -1,0 +1,2 @@
+-- What the entry points' proofs cite.
+pub mod Kept
