@@ -252,7 +252,7 @@ pub fn search_with(t: &[u64], words: &[u64], collection: u64, key: u64) -> Looke
     answer
 }
 
-/// What a write with sentinels left, and the sentinels after it.
+/// What a write with sentinels or a summary left, and that slice after it.
 pub type Kept = (Wrote, Vec<u64>);
 
 fn kept(t: &[u64], words: &[u64], list: &[u64], call: impl FnOnce(*mut u64, *mut u64, *mut u64, *mut u64, *mut u64, *mut u64) -> u64) -> Kept {
@@ -279,6 +279,52 @@ pub fn set_class_with(t: &[u64], words: &[u64], collection: u64, list: &[u64], d
 
 pub fn repair_with(t: &[u64], words: &[u64], list: &[u64], dock: u64) -> Kept {
     kept(t, words, list, |a, w, b, s, f, r| unsafe { catalogue_repair_with(a, t.len(), w, words.len(), b, list.len(), dock, s, f, r) })
+}
+
+// ---- with a summary
+
+pub fn summary_words(nodes: u64) -> usize {
+    unsafe { catalogue_summary_words(nodes) as usize }
+}
+
+/// The number, and the summary after it.
+pub fn summary(t: &[u64], words: &[u64]) -> (u64, Vec<u64>) {
+    let (mut table, mut slice) = (Lent::new(t), Lent::new(words));
+    let n = unsafe { catalogue_summary(table.pointer(), t.len(), slice.pointer(), words.len()) };
+    assert!(table.back() == t, "working a summary out wrote to the table");
+    (n, slice.back().to_vec())
+}
+
+pub fn quick_insert(t: &[u64], words: &[u64], collection: u64, list: &[u64], dock: u64, key: u64, recording: u64, access: u64) -> Kept {
+    kept(t, words, list, |a, w, b, s, f, r| unsafe {
+        catalogue_quick_insert(a, t.len(), w, words.len(), collection, b, list.len(), dock, key, recording, access, s, f, r)
+    })
+}
+
+pub fn quick_delete(t: &[u64], words: &[u64], collection: u64, list: &[u64], dock: u64, key: u64) -> Kept {
+    kept(t, words, list, |a, w, b, s, f, r| unsafe { catalogue_quick_delete(a, t.len(), w, words.len(), collection, b, list.len(), dock, key, s, f, r) })
+}
+
+pub fn quick_set_class(t: &[u64], words: &[u64], collection: u64, list: &[u64], dock: u64, key: u64, access: u64) -> Kept {
+    kept(t, words, list, |a, w, b, s, f, r| unsafe {
+        catalogue_quick_set_class(a, t.len(), w, words.len(), collection, b, list.len(), dock, key, access, s, f, r)
+    })
+}
+
+pub fn quick_repair(t: &[u64], words: &[u64], list: &[u64], dock: u64) -> Kept {
+    kept(t, words, list, |a, w, b, s, f, r| unsafe { catalogue_quick_repair(a, t.len(), w, words.len(), b, list.len(), dock, s, f, r) })
+}
+
+/// The number; the count and whether more were left, each if the call put it; and the slice after it.
+pub fn quick_list(t: &[u64], words: &[u64], collection: u64, low: u64, high: u64, out: &[u64]) -> (u64, [Option<u64>; 2], Vec<u64>) {
+    let (mut table, mut summary, mut slice) = (Lent::new(t), Lent::new(words), Lent::new(out));
+    let (mut pairs, mut more) = (Word::new(), Word::new());
+    let n = unsafe {
+        let (a, w, o) = (table.pointer(), summary.pointer(), slice.pointer());
+        catalogue_quick_list(a, t.len(), w, words.len(), collection, low, high, o, out.len(), pairs.pointer(), more.pointer())
+    };
+    assert!(table.back() == t && summary.back() == words, "a listing wrote to the table or to the summary");
+    (n, [pairs.put(), more.put()], slice.back().to_vec())
 }
 
 /// The number, the count if it was put, and the second slice: of a list for an insertion of a recording and a class, or for a deletion.

@@ -521,7 +521,7 @@ impl Writer {
         Writer { t: t.to_vec(), stores: Vec::new() }
     }
 
-    fn store(&mut self, w: usize, x: u64) {
+    pub fn store(&mut self, w: usize, x: u64) {
         self.t[w] = x;
         self.stores.push((w, x));
     }
@@ -539,7 +539,7 @@ impl Writer {
         if p == 0 { x.left } else { x.slots[p - 1].pointer }
     }
 
-    fn shift_in(&mut self, n: u64, k: u64, x: u64) {
+    pub fn shift_in(&mut self, n: u64, k: u64, x: u64) {
         let shown = node(&self.t, n).shown();
         let p = shown.iter().position(|s| s.key > k).unwrap_or(shown.len());
         self.pointer(n, shown.len() + 1, 0);
@@ -563,7 +563,7 @@ impl Writer {
         self.pointer(n, used - 1, 0);
     }
 
-    fn shift_out(&mut self, n: u64, k: u64) {
+    pub fn shift_out(&mut self, n: u64, k: u64) {
         let shown = node(&self.t, n).shown();
         let p = shown.iter().position(|s| s.key == k).unwrap();
         let before = self.before(n, p);

@@ -103,6 +103,7 @@ extern "C" fn enter(job: *mut Job) {
 struct Lent {
     table: Vec<u64>,
     sentinels: Vec<u64>,
+    summary: Vec<u64>,
     collection: u64,
     dock: u64,
     key: u64,
@@ -151,6 +152,13 @@ const CALLS: &[(&str, fn(&mut Lent) -> u64)] = &[
     call!(catalogue_delete_with, l, l.table.as_mut_ptr(), l.table.len(), l.sentinels.as_mut_ptr(), l.sentinels.len(), l.collection, l.orders.as_mut_ptr(), l.orders.len(), l.dock, l.key, &mut l.a, &mut l.b, &mut l.c),
     call!(catalogue_set_class_with, l, l.table.as_mut_ptr(), l.table.len(), l.sentinels.as_mut_ptr(), l.sentinels.len(), l.collection, l.orders.as_mut_ptr(), l.orders.len(), l.dock, l.key, l.access, &mut l.a, &mut l.b, &mut l.c),
     call!(catalogue_repair_with, l, l.table.as_mut_ptr(), l.table.len(), l.sentinels.as_mut_ptr(), l.sentinels.len(), l.orders.as_mut_ptr(), l.orders.len(), l.dock, &mut l.a, &mut l.b, &mut l.c),
+    ("catalogue_summary_words", |l| unsafe { (catalogue_summary_words(l.table.len() as u64 / 32) == 0) as u64 }),
+    call!(catalogue_summary, l, l.table.as_ptr(), l.table.len(), l.summary.as_mut_ptr(), l.summary.len()),
+    call!(catalogue_quick_insert, l, l.table.as_mut_ptr(), l.table.len(), l.summary.as_mut_ptr(), l.summary.len(), l.collection, l.orders.as_mut_ptr(), l.orders.len(), l.dock, l.key, l.recording, l.access, &mut l.a, &mut l.b, &mut l.c),
+    call!(catalogue_quick_delete, l, l.table.as_mut_ptr(), l.table.len(), l.summary.as_mut_ptr(), l.summary.len(), l.collection, l.orders.as_mut_ptr(), l.orders.len(), l.dock, l.key, &mut l.a, &mut l.b, &mut l.c),
+    call!(catalogue_quick_set_class, l, l.table.as_mut_ptr(), l.table.len(), l.summary.as_ptr(), l.summary.len(), l.collection, l.orders.as_mut_ptr(), l.orders.len(), l.dock, l.key, l.access, &mut l.a, &mut l.b, &mut l.c),
+    call!(catalogue_quick_repair, l, l.table.as_ptr(), l.table.len(), l.summary.as_ptr(), l.summary.len(), l.orders.as_ptr(), l.orders.len(), l.dock, &mut l.a, &mut l.b, &mut l.c),
+    call!(catalogue_quick_list, l, l.table.as_ptr(), l.table.len(), l.summary.as_ptr(), l.summary.len(), l.collection, 0, MARK, l.room.as_mut_ptr(), l.room.len(), &mut l.a, &mut l.b),
     call!(catalogue_carry_out, l, l.table.as_mut_ptr(), l.table.len(), l.list.as_ptr(), l.list.len(), l.list.len() as u64 / 2),
     call!(catalogue_salvage, l, l.table.as_ptr(), l.table.len(), l.out.as_mut_ptr(), l.out.len(), l.room.as_mut_ptr(), l.room.len(), &mut l.a),
     call!(catalogue_judge_insert, l, l.table.as_ptr(), l.table.len(), l.list.as_ptr(), l.list.len(), l.out.as_mut_ptr(), l.out.len(), l.collection, l.key, l.recording, l.access, &mut l.a),
@@ -217,6 +225,7 @@ fn lend(t: Vec<u64>, key: Option<u64>, random: &mut Random) -> Lent {
     let nodes = t.len() / 32;
     let mut lent = Lent { key: key.unwrap_or_else(|| some_key(&t, random)), collection: 1 + random.below(2), dock: random.below(2), recording: 1 + random.below(MOST_RECORDING), access: random.below(3), ..Lent::default() };
     lent.sentinels = vec![0; 3 * nodes];
+    lent.summary = vec![0; nodes / 64 + 1 + 16 * nodes];
     lent.orders = vec![0; 5120 + 2 * random.below(20000) as usize];
     lent.out = vec![0; t.len()];
     lent.room = vec![0; 36 * nodes + 4096];
@@ -271,6 +280,8 @@ fn main() {
                 *accepted += (job.number == 0) as u64;
                 if *name == "catalogue_sentinels" && job.number == 0 {
                     lent.sentinels = job.lent.sentinels;
+                } else if *name == "catalogue_summary" && job.number == 0 {
+                    lent.summary = job.lent.summary;
                 }
             }
         }
