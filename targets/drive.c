@@ -58,6 +58,7 @@ SLICE(second, TABLE);
 SLICE(third, TABLE);
 SLICE(list, LIST);
 SLICE(sentinels, 3 * MOST_NODES + 8);
+SLICE(summary, 17 * MOST_NODES + 8);
 SLICE(report, REPORT);
 SLICE(pairs, 2 * 12 * MOST_NODES);
 SLICE(loans, 2 * 12 * MOST_NODES);
@@ -177,40 +178,112 @@ static void read_some(struct slice t, uint64_t words, uint64_t span)
     take_slice(t, words);
 }
 
-/* ---- writing: one call of any kind; with is the number of sentinel words, or 0 for the plain call */
+/* ---- writing: one call of any kind, plain, with sentinels or with a summary */
 
-static uint64_t write_one(uint64_t words, uint64_t with, uint64_t span, bool shrinks)
+enum beside { NOTHING, SENTINELS, SUMMARY };
+enum kind { INSERT, DELETE, SET_CLASS, REPAIR };
+
+/* One call: what is lent beside the table, with how many words; then the call's own numbers, room being the words of its list. */
+struct call {
+    enum beside beside;
+    uint64_t with;
+    enum kind kind;
+    uint64_t collection, dock, key, recording, access, room;
+};
+
+static uint64_t plain(uint64_t words, const struct call *c)
 {
-    uint64_t collection = some_collection(), dock = some_dock(), key = some_key(span), recording = some_recording(), access = some_class();
-    uint64_t room = below(20) ? CATALOGUE_LONG_LIST_WORDS : below(6000);
-    uint64_t *o = out.words, number, kind = below(16);
+    uint64_t *t = table.words, *o = out.words, *l = list.words;
+    switch (c->kind) {
+    case INSERT: return catalogue_insert(t, words, c->collection, l, c->room, c->dock, c->key, c->recording, c->access, o, o + 1, o + 2);
+    case DELETE: return catalogue_delete(t, words, c->collection, l, c->room, c->dock, c->key, o, o + 1, o + 2);
+    case SET_CLASS: return catalogue_set_class(t, words, c->collection, l, c->room, c->dock, c->key, c->access, o, o + 1, o + 2);
+    default: return catalogue_repair(t, words, l, c->room, c->dock, o, o + 1, o + 2);
+    }
+}
+
+static uint64_t with_sentinels(uint64_t words, const struct call *c)
+{
+    uint64_t *t = table.words, *s = sentinels.words, *o = out.words, *l = list.words, with = c->with;
+    switch (c->kind) {
+    case INSERT:
+        return catalogue_insert_with(t, words, s, with, c->collection, l, c->room, c->dock, c->key, c->recording, c->access, o, o + 1, o + 2);
+    case DELETE: return catalogue_delete_with(t, words, s, with, c->collection, l, c->room, c->dock, c->key, o, o + 1, o + 2);
+    case SET_CLASS:
+        return catalogue_set_class_with(t, words, s, with, c->collection, l, c->room, c->dock, c->key, c->access, o, o + 1, o + 2);
+    default: return catalogue_repair_with(t, words, s, with, l, c->room, c->dock, o, o + 1, o + 2);
+    }
+}
+
+static uint64_t with_summary(uint64_t words, const struct call *c)
+{
+    uint64_t *t = table.words, *s = summary.words, *o = out.words, *l = list.words, with = c->with;
+    switch (c->kind) {
+    case INSERT:
+        return catalogue_quick_insert(t, words, s, with, c->collection, l, c->room, c->dock, c->key, c->recording, c->access, o, o + 1, o + 2);
+    case DELETE: return catalogue_quick_delete(t, words, s, with, c->collection, l, c->room, c->dock, c->key, o, o + 1, o + 2);
+    case SET_CLASS:
+        return catalogue_quick_set_class(t, words, s, with, c->collection, l, c->room, c->dock, c->key, c->access, o, o + 1, o + 2);
+    default: return catalogue_quick_repair(t, words, s, with, l, c->room, c->dock, o, o + 1, o + 2);
+    }
+}
+
+static uint64_t write_one(uint64_t words, enum beside beside, uint64_t with, uint64_t span, bool shrinks)
+{
+    struct call c = {.beside = beside, .with = with};
+    c.collection = some_collection();
+    c.dock = some_dock();
+    c.key = some_key(span);
+    c.recording = some_recording();
+    c.access = some_class();
+    c.room = below(20) ? CATALOGUE_LONG_LIST_WORDS : below(6000);
+    uint64_t number, kind = below(16);
+    c.kind = kind < (shrinks ? 3 : 8) ? INSERT : kind < 13 ? DELETE : kind < 15 ? SET_CLASS : REPAIR;
     if (shrinks || below(2)) {
         uint64_t at = 8 + 32 * below((words - 8) / 32);
         at += 8 + 2 * below(6);
-        key = below(3) ? table.words[at] : key;
+        c.key = below(3) ? table.words[at] : c.key;
     }
     fill(out, 8);
-    fill(list, room);
-    if (kind < (shrinks ? 3 : 8))
-        number = with ? catalogue_insert_with(table.words, words, sentinels.words, with, collection, list.words, room, dock, key, recording,
-                                              access, o, o + 1, o + 2)
-                      : catalogue_insert(table.words, words, collection, list.words, room, dock, key, recording, access, o, o + 1, o + 2);
-    else if (kind < 13)
-        number = with ? catalogue_delete_with(table.words, words, sentinels.words, with, collection, list.words, room, dock, key, o, o + 1,
-                                              o + 2)
-                      : catalogue_delete(table.words, words, collection, list.words, room, dock, key, o, o + 1, o + 2);
-    else if (kind < 15)
-        number = with ? catalogue_set_class_with(table.words, words, sentinels.words, with, collection, list.words, room, dock, key, access,
-                                                 o, o + 1, o + 2)
-                      : catalogue_set_class(table.words, words, collection, list.words, room, dock, key, access, o, o + 1, o + 2);
+    fill(list, c.room);
+    if (beside == SENTINELS)
+        number = with_sentinels(words, &c);
+    else if (beside == SUMMARY)
+        number = with_summary(words, &c);
     else
-        number = with ? catalogue_repair_with(table.words, words, sentinels.words, with, list.words, room, dock, o, o + 1, o + 2)
-                      : catalogue_repair(table.words, words, list.words, room, dock, o, o + 1, o + 2);
+        number = plain(words, &c);
     done(number);
-    take_slice(list, room);
-    if (with)
+    take_slice(list, c.room);
+    if (beside == SENTINELS)
         take_slice(sentinels, with);
+    if (beside == SUMMARY)
+        take_slice(summary, with);
     return number;
+}
+
+/* A summary of the table, which is repaired first if a change is unfinished. */
+static void open_summary(uint64_t words, uint64_t with)
+{
+    uint64_t number = catalogue_summary(table.words, words, summary.words, with);
+    done(number);
+    if (number == CATALOGUE_NOT_SETTLED) {
+        fill(list, CATALOGUE_LIST_WORDS);
+        done(catalogue_repair(table.words, words, list.words, CATALOGUE_LIST_WORDS, 0, out.words, out.words + 1, out.words + 2));
+        copy(memory, table, words);
+        done(catalogue_summary(table.words, words, summary.words, with));
+    }
+    take_slice(summary, with);
+}
+
+/* A page of a listing by a summary. */
+static void read_page(uint64_t words, uint64_t with, uint64_t collection, uint64_t low, uint64_t high, uint64_t room)
+{
+    fill(out, 8);
+    fill(pairs, room);
+    done(catalogue_quick_list(table.words, words, summary.words, with, collection, low, high, pairs.words, room, &out.words[0],
+                              &out.words[1]));
+    take_slice(pairs, room);
+    take_slice(summary, with);
 }
 
 static void write_many(uint64_t words, uint64_t span)
@@ -237,25 +310,29 @@ static void write_many(uint64_t words, uint64_t span)
 static void scripts(void)
 {
     uint64_t nodes = 1 + (below(3) ? below(12) : below(below(4) ? 60 : MOST_NODES)), words = 8 + 32 * nodes, span = 1 + below(40 * nodes);
-    uint64_t with = below(3) ? 0 : 3 * nodes;
+    enum beside beside = (enum beside)below(3);
+    uint64_t with = beside == SENTINELS ? 3 * nodes : catalogue_summary_words(nodes);
     fill(table, words);
     fill(memory, words);
     fill(sentinels, 3 * nodes);
+    fill(summary, with);
     done(catalogue_make(table.words, words, 1 + below(2)));
     copy(memory, table, words);
-    if (with)
+    if (beside == SENTINELS)
         done(catalogue_sentinels(table.words, words, sentinels.words, with));
+    if (beside == SUMMARY)
+        open_summary(words, with);
     bool shrinks = false;
     for (uint64_t i = 0, steps = 20 + below(12 * nodes); i < steps; i++) {
         if (below(30) == 0)
             shrinks = !shrinks;
         uint64_t number;
-        if (!with && below(12) == 0) {
+        if (beside == NOTHING && below(12) == 0) {
             write_many(words, span);
             copy(memory, table, words);
             number = 99;
         } else
-            number = write_one(words, with, span, shrinks);
+            number = write_one(words, beside, with, span, shrinks);
         if (number == 0) {
             drive_long[drive_part] += out.words[0] + out.words[1] > 60;
             uint64_t all = out.words[0] + out.words[1] + out.words[2], c = below(10) ? all : below(all + 3);
@@ -265,18 +342,24 @@ static void scripts(void)
             if (c < all) {
                 read_some(memory, words, span);
                 copy(table, memory, words);
-                if (with)
+                if (beside == SENTINELS)
                     done(catalogue_sentinels(table.words, words, sentinels.words, with));
+                if (beside == SUMMARY)
+                    open_summary(words, with);
             }
         }
         take_slice(table, words);
         if (below(8) == 0)
             read_some(table, words, span);
-        if (with && below(4) == 0)
+        if (beside == SENTINELS && below(4) == 0)
             for (int k = 0; k < 3; k++) {
                 uint64_t collection = some_collection(), key = some_key(span);
                 search_with(table, words, with, collection, key);
             }
+        if (beside == SUMMARY && below(4) == 0) {
+            uint64_t collection = some_collection(), low = some_key(span), room = below(80);
+            read_page(words, with, collection, low, below(2) ? CATALOGUE_MARK : low + span / 4, room);
+        }
     }
 }
 
@@ -334,7 +417,7 @@ static uint64_t some_nodes(void)
     return 1 + (below(4) ? below(20) : below(MOST_NODES));
 }
 
-/* Reading, sentinels and writes on tables of any sort. */
+/* Reading, sentinels, summaries and writes on tables of any sort. */
 static void damaged(void)
 {
     uint64_t nodes = some_nodes(), words = packed(table, nodes), span = UINT64_C(1) << below(60);
@@ -354,11 +437,18 @@ static void damaged(void)
         uint64_t collection = some_collection(), key = below(2) ? table.words[below(words)] : some_key(span);
         search_with(table, words, with, collection, key);
     }
+    uint64_t count = below(10) ? catalogue_summary_words(nodes) : below(17 * nodes + 8);
+    fill(summary, count);
+    done(catalogue_summary(table.words, words, summary.words, count));
+    for (uint64_t i = 0; i < count && below(2); i++)
+        summary.words[i] = any();
+    uint64_t collection = some_collection(), low = below(2) ? 0 : table.words[below(words)], room = below(200);
+    read_page(words, count, collection, low, CATALOGUE_MARK, room);
     if (words >= 40)
-        for (int k = 0; k < 3; k++) {
-            uint64_t used = below(2) ? with : 0;
+        for (int k = 0; k < 4; k++) {
+            enum beside beside = (enum beside)below(3);
             bool shrinks = below(2);
-            write_one(words, used, span, shrinks);
+            write_one(words, beside, beside == SENTINELS ? with : count, span, shrinks);
             take_slice(table, words);
         }
 }
@@ -388,11 +478,11 @@ static void judging(void)
     bool inserts = below(2);
     uint64_t count = below(12), span = 12 * nodes;
     for (uint64_t i = 0; i < count; i++)
-        write_one(words, 0, span, false);
+        write_one(words, NOTHING, 0, span, false);
     /* Now and then what a cut leaves, which is sound but not settled. */
     if (below(8) == 0) {
         copy(memory, table, words);
-        if (write_one(words, 0, span, false) == 0) {
+        if (write_one(words, NOTHING, 0, span, false) == 0) {
             uint64_t c = below(out.words[0] + out.words[1] + out.words[2] + 1);
             take(catalogue_carry_out(memory.words, words, list.words, CATALOGUE_LONG_LIST_WORDS, c));
             copy(table, memory, words);
