@@ -3,11 +3,12 @@
 
 ghost use Rattle.std.specs.Prelude.{◌≡◌, MatchResult};
 ghost use Rattle.model.specs.Results.{answer_number};
-ghost use Rattle.model.specs.Answers.{Looked, Counted, Showed};
+ghost use Rattle.model.specs.Answers.{Looked, Counted, puts, Summed, Showed};
+ghost use Rattle.model.specs.Numbers.{stop_number};
 
-use model::{Answer, Listed, Refusal, Written};
+use model::{Answer, Batch, Listed, Refusal, Written};
 
-// The number of an answer: 0 if the call did its work, else its refusal's. A batch's stop is an Option (`stop_number` of catalogue_writes): one function
+// The number of an answer: 0 if the call did its work, else its refusal's. A batch's stop is an Option (`stop_number`): one function
 // for both would take an answer's `err`, and a proof that the two definitions agree, to save this match.
 pub fn number_of<T: Copy>(answer: Result<T, Refusal>) -> u64
     ensures { result ≡ answer_number answer }
@@ -73,6 +74,41 @@ pub fn put_counts(written: Written, stores: &mut u64, flushes: &mut u64, barrier
         *barriers = counts.barriers;
     }
     number_of(written)
+}
+
+// The number of the refusal that stopped a batch; 0 for none.
+fn stop_number(stop: Option<Refusal>) -> u64
+    ensures { result ≡ stop_number stop }
+{
+    stop.map_or(0, u64::from)
+}
+
+// Whether a batch does its work: a pair was taken, or none was refused.
+fn puts(answer: Batch) -> bool
+    ensures { result ≡ puts answer }
+{
+    answer.stop.is_none() || 0 < answer.taken
+}
+
+// 0 with a batch's counts and the number that stopped it in the lent words, or the number that refused its first pair.
+pub fn put_sums(
+    answer: Batch,
+    taken: &mut u64,
+    stop: &mut u64,
+    stores: &mut u64,
+    flushes: &mut u64,
+    barriers: &mut u64,
+) -> u64
+    ensures { Summed answer result taken.old taken.new stop.old stop.new
+        stores.old stores.new flushes.old flushes.new barriers.old barriers.new }
+{
+    let number = stop_number(answer.stop);
+    if !puts(answer) {
+        return number;
+    }
+    *taken = answer.taken;
+    *stop = number;
+    put_counts(Ok(answer.counts), stores, flushes, barriers)
 }
 
 // A listing's number; if it was done, its count of pairs and whether more are left go into the lent words.

@@ -2,12 +2,8 @@
 // C hands over each number, slice and lent word by itself: those that calls take together stay parameters.
 #![tactic(auto)]
 
-ghost use Rattle.std.specs.Prelude.{◌≡◌};
-ghost use Rattle.model.specs.Numbers.{stop_number};
 ghost use Rattle.model.specs.Writes.{insertion, deletion, class_change, repair};
-ghost use Rattle.model.specs.Answers.{Wrote, puts, Summed, WroteMany};
-
-use model::{Batch, Refusal};
+ghost use Rattle.model.specs.Answers.{Wrote, WroteMany};
 
 // 0 and the three counts, or the refusal number; likewise below.
 #[unsafe(no_mangle)]
@@ -31,41 +27,6 @@ pub extern "C" fn catalogue_insert(
     answers::put_counts(answer, stores, flushes, barriers)
 }
 
-// The number of the refusal that stopped a batch; 0 for none.
-fn stop_number(stop: Option<Refusal>) -> u64
-    ensures { result ≡ stop_number stop }
-{
-    stop.map_or(0, u64::from)
-}
-
-// Whether a batch does its work: a pair was taken, or none was refused.
-fn puts(answer: Batch) -> bool
-    ensures { result ≡ puts answer }
-{
-    answer.stop.is_none() || 0 < answer.taken
-}
-
-// 0 with a batch's counts and the number that stopped it in the lent words, or the number that refused its first pair.
-fn put_sums(
-    answer: Batch,
-    taken: &mut u64,
-    stop: &mut u64,
-    stores: &mut u64,
-    flushes: &mut u64,
-    barriers: &mut u64,
-) -> u64
-    ensures { Summed answer result taken.old taken.new stop.old stop.new
-        stores.old stores.new flushes.old flushes.new barriers.old barriers.new }
-{
-    let number = stop_number(answer.stop);
-    if !puts(answer) {
-        return number;
-    }
-    *taken = answer.taken;
-    *stop = number;
-    answers::put_counts(Ok(answer.counts), stores, flushes, barriers)
-}
-
 // 0 with the counts and the number that stopped the batch, 0 if all pairs were taken; or the number that refused its first pair.
 #[unsafe(no_mangle)]
 pub extern "C" fn catalogue_insert_many(
@@ -85,7 +46,7 @@ pub extern "C" fn catalogue_insert_many(
         flushes.old flushes.new barriers.old barriers.new }
 {
     let answer = insert_many::insert_many(table, orders, dock, collection, pairs);
-    put_sums(answer, taken, stop, stores, flushes, barriers)
+    answers::put_sums(answer, taken, stop, stores, flushes, barriers)
 }
 
 #[unsafe(no_mangle)]
