@@ -14,7 +14,7 @@
  *       2 KB: catalogue_version, catalogue_parse, catalogue_print, catalogue_make, catalogue_search, catalogue_search_with,
  *             catalogue_carry_out, catalogue_script, catalogue_script_number, catalogue_summary_words, catalogue_quick_delete,
  *             catalogue_quick_set_class, catalogue_quick_repair, catalogue_quick_list
- *       4 KB: catalogue_quick_insert
+ *       4 KB: catalogue_quick_insert, catalogue_quick_insert_many
  *     150 KB: catalogue_pack
  *     320 KB: catalogue_list, catalogue_check, catalogue_insert, catalogue_delete, catalogue_set_class, catalogue_repair, catalogue_sentinels,
  *             catalogue_insert_with, catalogue_delete_with, catalogue_set_class_with, catalogue_repair_with, catalogue_judge_insert,
@@ -326,6 +326,14 @@ uint64_t catalogue_quick_set_class(uint64_t *table, size_t words, const uint64_t
 
 uint64_t catalogue_quick_repair(const uint64_t *table, size_t words, const uint64_t *summary, size_t summary_words, const uint64_t *orders,
                                 size_t order_words, uint64_t dock, uint64_t *stores, uint64_t *flushes, uint64_t *barriers);
+
+/*
+ * As catalogue_insert_many, with 26 after 17: the quick insertions of the pairs, one after another. It is refused, or stops, with 4 by the
+ * nodes on the way of a pair.
+ */
+uint64_t catalogue_quick_insert_many(uint64_t *table, size_t words, uint64_t *summary, size_t summary_words, uint64_t collection,
+                                     uint64_t *orders, size_t order_words, uint64_t dock, const uint64_t *pairs, size_t pair_words,
+                                     uint64_t *taken, uint64_t *stop, uint64_t *stores, uint64_t *flushes, uint64_t *barriers);
 
 /*
  * As catalogue_list, with 26 after 17, and 4 by the nodes on the way to low alone. It looks at the leaves of the range, up to the first pair

@@ -152,7 +152,7 @@ FAULTS = [
     (2, "orders: &[u64], c: u64", "c: u64, orders: &[u64]"),
     (2, "#[unsafe(no_mangle)]\npub extern \"C\" fn catalogue_make", "pub extern \"C\" fn catalogue_make"),
     (2, "-> u64\n    ensures", "-> usize\n    ensures"),
-    (2, "fn stop_number", "#[unsafe(no_mangle)]\nfn stop_number"),
+    (2, "fn put_count", "#[unsafe(no_mangle)]\nfn put_count"),
     (2, "next: &mut u64", "next: u64"),
     (2, "out: &mut [u64], collection: u64", "collection: u64, out: &mut [u64]"),
     (2, "orders: &mut [u64], dock: u64", "dock: u64, orders: &mut [u64]"),

@@ -25,6 +25,7 @@ extern "C" {
     pub fn catalogue_summary_words(nodes: u64) -> u64;
     pub fn catalogue_summary(table: *const u64, words: usize, summary: *mut u64, summary_words: usize) -> u64;
     pub fn catalogue_quick_insert(table: *mut u64, words: usize, summary: *mut u64, summary_words: usize, collection: u64, orders: *mut u64, order_words: usize, dock: u64, key: u64, recording: u64, access: u64, stores: *mut u64, flushes: *mut u64, barriers: *mut u64) -> u64;
+    pub fn catalogue_quick_insert_many(table: *mut u64, words: usize, summary: *mut u64, summary_words: usize, collection: u64, orders: *mut u64, order_words: usize, dock: u64, pairs: *const u64, pair_words: usize, taken: *mut u64, stop: *mut u64, stores: *mut u64, flushes: *mut u64, barriers: *mut u64) -> u64;
     pub fn catalogue_quick_delete(table: *mut u64, words: usize, summary: *mut u64, summary_words: usize, collection: u64, orders: *mut u64, order_words: usize, dock: u64, key: u64, stores: *mut u64, flushes: *mut u64, barriers: *mut u64) -> u64;
     pub fn catalogue_quick_set_class(table: *mut u64, words: usize, summary: *const u64, summary_words: usize, collection: u64, orders: *mut u64, order_words: usize, dock: u64, key: u64, access: u64, stores: *mut u64, flushes: *mut u64, barriers: *mut u64) -> u64;
     pub fn catalogue_quick_repair(table: *const u64, words: usize, summary: *const u64, summary_words: usize, orders: *const u64, order_words: usize, dock: u64, stores: *mut u64, flushes: *mut u64, barriers: *mut u64) -> u64;

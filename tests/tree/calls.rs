@@ -301,6 +301,17 @@ pub fn quick_insert(t: &[u64], words: &[u64], collection: u64, list: &[u64], doc
     })
 }
 
+/// What many insertions left: the write with its summary, and the pairs taken and the number that stopped them, each if it was put.
+pub fn quick_insert_many(t: &[u64], words: &[u64], collection: u64, list: &[u64], dock: u64, pairs: &[u64]) -> (Kept, Option<u64>, Option<u64>) {
+    let (mut lent, mut taken, mut stop) = (Lent::new(pairs), Word::new(), Word::new());
+    let (p, n, e) = (lent.pointer(), taken.pointer(), stop.pointer());
+    let after = kept(t, words, list, |a, w, b, s, f, r| unsafe {
+        catalogue_quick_insert_many(a, t.len(), w, words.len(), collection, b, list.len(), dock, p, pairs.len(), n, e, s, f, r)
+    });
+    assert!(lent.back() == pairs, "a batch wrote to its pairs");
+    (after, taken.put(), stop.put())
+}
+
 pub fn quick_delete(t: &[u64], words: &[u64], collection: u64, list: &[u64], dock: u64, key: u64) -> Kept {
     kept(t, words, list, |a, w, b, s, f, r| unsafe { catalogue_quick_delete(a, t.len(), w, words.len(), collection, b, list.len(), dock, key, s, f, r) })
 }

@@ -52,7 +52,7 @@ fn must_say(sound: &Sound) -> Says {
 }
 
 fn is_true(t: &[u64], words: &[u64]) -> bool {
-    let Some(sound) = judge(t).filter(|x| x.leftover == Leftover::Nothing) else { return false };
+    let Some(sound) = judge_header(t).and_then(|_| judge(t)).filter(|x| x.leftover == Leftover::Nothing) else { return false };
     words.len() == summary_words(t[2]) && says(t[2], words) == must_say(&sound)
 }
 
@@ -204,6 +204,9 @@ struct Met {
     given: BTreeMap<u64, u64>,
     any: BTreeMap<u64, u64>,
     listed: BTreeMap<u64, u64>,
+    /// Batches by the number that stopped them, and how many had a true summary.
+    batched: BTreeMap<u64, u64>,
+    true_batches: u64,
     splits: u64,
     roots: u64,
     freed: u64,
@@ -632,6 +635,69 @@ fn some_words(n: u64, right: Option<&[u64]>, random: &mut Random) -> Vec<u64> {
     words
 }
 
+/// Batches: number, stop, counts, table, list and summary are those of the quick insertions of their pairs, one after another; with a true summary
+/// those of the plain batch too, and the summary stays true.
+fn batches(size: u64, random: &mut Random, met: &mut Met) {
+    for i in 0..size {
+        let collections = 1 + random.below(2);
+        let grown = grown(9, collections, random);
+        let right = met.open(&grown, random);
+        let t = if i % 4 == 3 { damaged(&grown, random) } else { grown };
+        let n = judge_header(&t).unwrap_or(2);
+        let words = match &right {
+            Some(w) if i % 2 == 0 => w.clone(),
+            _ => some_words(n, right.as_deref(), random),
+        };
+        let words = if random.below(20) == 0 { vec![7; summary_words(n) + 1] } else { words };
+        let (c, dock) = (if random.below(8) == 0 { any_collection(random) } else { 1 + random.below(collections) }, any_dock(random));
+        let list: Vec<u64> = (0..LIST_WORDS + random.below(9_000) as usize).map(|_| random.next()).collect();
+        let mut pairs: Vec<u64> = vec![];
+        for _ in 0..random.below(60) {
+            let x = match random.below(100) {
+                0 => pointer(0, random.below(3)),
+                1 => random.next(),
+                2 => pairs.last().copied().unwrap_or(1),
+                _ => some_pointer(random),
+            };
+            pairs.extend([random.below(400), x]);
+        }
+        batch(&t, &words, c, &list, dock, &pairs, met);
+    }
+}
+
+fn batch(t: &[u64], words: &[u64], c: u64, list: &[u64], dock: u64, pairs: &[u64], met: &mut Met) {
+    let (mut table, mut summary, mut lent, mut at) = (t.to_vec(), words.to_vec(), list.to_vec(), 0);
+    let (mut number, mut sums, mut count) = (0, [0; 3], 0);
+    for pair in pairs.chunks(2) {
+        let call = Call::Insert(c, pair[0], recording(pair[1]), class(pair[1]));
+        let (after, slice) = quick(&table, &summary, &lent[at..], dock, call);
+        number = after.number;
+        if number != 0 {
+            break;
+        }
+        lent[at..].copy_from_slice(&after.list);
+        at += 2 * after.orders() as usize;
+        count += 1;
+        sums = std::array::from_fn(|i| sums[i] + after.counts[i].expect("a count"));
+        (table, summary) = (after.table, slice);
+    }
+    // Refused is a batch whose first pair is; one that stops later returns 0 and puts the number into a word.
+    let put = number == 0 || count > 0;
+    let want = (if put { 0 } else { number }, put.then_some(count), put.then_some(number), sums.map(|n| put.then_some(n)));
+    let ((got, slice), taken, stop) = calls::quick_insert_many(t, words, c, list, dock, pairs);
+    let seed = met.seed;
+    let what = || format!("{} pairs {pairs:?} into collection {c} for dock {dock} with {} words for orders and {words:?}", pairs.len() / 2, list.len());
+    expect((got.number, taken, stop, got.counts) == want, seed, t, || format!("{}: wanted {want:?}, got {} {taken:?} {stop:?} {:?}", what(), got.number, got.counts));
+    expect(got.table == table && got.list == lent && slice == summary, seed, t, || format!("{}: table, list or summary of the single calls are others", what()));
+    *met.batched.entry(number).or_default() += 1;
+    if is_true(t, words) {
+        let plain = calls::insert_many(t, c, list, dock, pairs);
+        expect(plain == (got, taken, stop), seed, t, || format!("{}: the plain batch is another", what()));
+        expect(is_true(&table, &slice), seed, t, || format!("{}: the summary is not true", what()));
+        met.true_batches += 1;
+    }
+}
+
 /// Tables sound, with leftovers, damaged and of any words, with summaries true of them, true of another table, and of any words.
 fn any(size: u64, random: &mut Random, met: &mut Met) {
     for i in 0..size {
@@ -735,13 +801,14 @@ fn main() {
     let mut met = Met { seed, ..Met::default() };
 
     let random = &mut random;
-    let parts: [(u64, fn(u64, &mut Random, &mut Met)); 9] = [
+    let parts: [(u64, fn(u64, &mut Random, &mut Met)); 10] = [
         (1, by_hand),
         (size / 40, scripts),
         (size / 60, crowds),
         (10 * size, churn),
         ((size / 1_000).max(2), towers),
         (size / 10, cuts),
+        (size, batches),
         (size, any),
         (size / 20, beside),
         (size / 10, astray),
@@ -754,7 +821,7 @@ fn main() {
 
     println!("opened by number: {:?}", met.opened);
     println!("quick calls with a true summary by number: {:?}; by dock {:?}; {} split, {} with a new root, {} freed a leaf", met.given, met.docks, met.splits, met.roots, met.freed);
-    println!("with any words by number: {:?}", met.any);
+    println!("with any words by number: {:?}; batches {:?}, of these {} with a true summary", met.any, met.batched, met.true_batches);
     println!("listings by number: {:?}, pages of walks {}; images of cuts {}", met.listed, met.pages, met.images);
     all_met(&met.kinds, seed);
     let all = |of: &BTreeMap<u64, u64>, numbers: &[u64]| numbers.iter().all(|n| of.get(n).is_some_and(|&count| count > 2));
@@ -762,6 +829,7 @@ fn main() {
     expect(all(&met.given, &[0, 17, 18, 5, 6, 14, 7, 8, 9, 11, 10]), seed, &[], || "a number was not met with a true summary".into());
     expect(!met.given.contains_key(&4), seed, &[], || "4 with a true summary".into());
     expect(all(&met.any, &[0, 2, 17, 26, 4, 18, 5, 6, 14, 7, 8, 9, 10]), seed, &[], || "a number was not met with any words".into());
+    expect(all(&met.batched, &[0, 2, 17, 26, 4, 18, 5, 6, 14, 7, 8, 10]) && met.true_batches > 0, seed, &[], || "a number of a batch was not met".into());
     expect(all(&met.listed, &[0, 2, 17, 26, 4]), seed, &[], || "a number of a listing was not met".into());
     expect(met.splits > 0 && met.roots > 0 && met.freed > 0 && met.docks.iter().all(|&n| n > 0), seed, &[], || "a case was not met".into());
     println!("{passed} passed, 0 failed");

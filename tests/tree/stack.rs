@@ -155,6 +155,7 @@ const CALLS: &[(&str, fn(&mut Lent) -> u64)] = &[
     ("catalogue_summary_words", |l| unsafe { (catalogue_summary_words(l.table.len() as u64 / 32) == 0) as u64 }),
     call!(catalogue_summary, l, l.table.as_ptr(), l.table.len(), l.summary.as_mut_ptr(), l.summary.len()),
     call!(catalogue_quick_insert, l, l.table.as_mut_ptr(), l.table.len(), l.summary.as_mut_ptr(), l.summary.len(), l.collection, l.orders.as_mut_ptr(), l.orders.len(), l.dock, l.key, l.recording, l.access, &mut l.a, &mut l.b, &mut l.c),
+    call!(catalogue_quick_insert_many, l, l.table.as_mut_ptr(), l.table.len(), l.summary.as_mut_ptr(), l.summary.len(), l.collection, l.orders.as_mut_ptr(), l.orders.len(), l.dock, l.pairs.as_ptr(), l.pairs.len(), &mut l.a, &mut l.e, &mut l.b, &mut l.c, &mut l.d),
     call!(catalogue_quick_delete, l, l.table.as_mut_ptr(), l.table.len(), l.summary.as_mut_ptr(), l.summary.len(), l.collection, l.orders.as_mut_ptr(), l.orders.len(), l.dock, l.key, &mut l.a, &mut l.b, &mut l.c),
     call!(catalogue_quick_set_class, l, l.table.as_mut_ptr(), l.table.len(), l.summary.as_ptr(), l.summary.len(), l.collection, l.orders.as_mut_ptr(), l.orders.len(), l.dock, l.key, l.access, &mut l.a, &mut l.b, &mut l.c),
     call!(catalogue_quick_repair, l, l.table.as_ptr(), l.table.len(), l.summary.as_ptr(), l.summary.len(), l.orders.as_ptr(), l.orders.len(), l.dock, &mut l.a, &mut l.b, &mut l.c),

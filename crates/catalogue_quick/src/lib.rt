@@ -5,7 +5,9 @@
 ghost use Rattle.std.specs.Prelude.{◌≡◌, ◌&&◌, cond, leb, length};
 ghost use Rattle.model.specs.Results.{answer_number};
 ghost use Rattle.model.specs.Writes.{insertion, deletion, class_change, repair};
-ghost use Rattle.model.specs.Answers.{Showed, WroteQuick};
+ghost use Rattle.model.specs.Answers.{Showed, Summed, WroteQuick};
+ghost use Rattle.model.specs.QuickBatch.{quick_batch};
+ghost use Rattle.model.specs.Slots.{slots_of};
 ghost use Rattle.model.specs.Summary.{summary_words, opening, opened_words, quick_listed, quick_list_out};
 
 // The words of a summary of a table of so many nodes; 0 if no table has so many.
@@ -53,6 +55,32 @@ pub extern "C" fn catalogue_quick_insert(
         table, orders, summary, dock, collection, key, recording, access,
     );
     answers::put_counts(answer, stores, flushes, barriers)
+}
+
+// As the plain batch, with 26 after 17.
+#[unsafe(no_mangle)]
+pub extern "C" fn catalogue_quick_insert_many(
+    table: &mut [u64],
+    summary: &mut [u64],
+    collection: u64,
+    orders: &mut [u64],
+    dock: u64,
+    pairs: &[u64],
+    taken: &mut u64,
+    stop: &mut u64,
+    stores: &mut u64,
+    flushes: &mut u64,
+    barriers: &mut u64,
+) -> u64
+    ensures sums { Summed (quick_batch collection dock (slots_of pairs.now) orders.old summary.old table.old).batched.answer result
+        taken.old taken.new stop.old stop.new stores.old stores.new
+        flushes.old flushes.new barriers.old barriers.new }
+    ensures table_after { table.new ≡ (quick_batch collection dock (slots_of pairs.now) orders.old summary.old table.old).batched.table }
+    ensures list_after { orders.new ≡ (quick_batch collection dock (slots_of pairs.now) orders.old summary.old table.old).batched.list }
+    ensures summary_after { summary.new ≡ (quick_batch collection dock (slots_of pairs.now) orders.old summary.old table.old).summary }
+{
+    let answer = quick_insert_many::insert_many(table, orders, summary, dock, collection, pairs);
+    answers::put_sums(answer, taken, stop, stores, flushes, barriers)
 }
 
 #[unsafe(no_mangle)]
