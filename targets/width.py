@@ -3,7 +3,7 @@
 
 What could be wrong there: an address turned into a number, but for two that are compared, or back; a pointer in a struct, a vector or a constant;
 an access or a copy past the place that it is to. A pointer may be kept in a place of 8 bytes that is only ever written and read as a pointer: the
-4 bytes above it are then never read. For this each place, made by alloca or handed in, is followed through the functions that it is handed to. A
+4 bytes above it are then never read. Zeros may be put over the whole of it: they are the null pointer at either width. For this each place, made by alloca or handed in, is followed through the functions that it is handed to. A
 struct of numbers alone, as a small result, lies alike everywhere. Every use of every place made by alloca is followed, with its constant offsets.
 The last line is what was found; the status is 1 if that is not nothing."""
 import re
@@ -161,7 +161,8 @@ class Handed:
             amount = [a.split()[-1] for a in given if a.startswith('i64')]
             for i, value in enumerate(a.split()[-1] for a in given):
                 if 'llvm.mem' in name:
-                    self.do(value, 0, int(amount[-1]) if amount[-1].isdigit() else 1 << 60, 'bytes', line)
+                    kind = 'zeros' if 'llvm.memset' in name and given[1] == 'i8 0' else 'bytes'
+                    self.do(value, 0, int(amount[-1]) if amount[-1].isdigit() else 1 << 60, kind, line)
                 elif value in self.of:
                     self.calls.append((name, i, *self.of[value], line))
         elif not line.startswith(';'):
@@ -174,6 +175,11 @@ class Handed:
             self.done[root][at + inside if at is not None and inside is not None else None, size, kind] = line
         elif kind == 'ptr':
             self.astray.append(line)
+
+
+def keeps(kind, at, size, start):
+    """What is done to bytes of a pointer's place from start on leaves it one: the same pointer, or zeros over all of it."""
+    return kind == 'ptr' and at == start or kind == 'zeros' and at <= start and start + 8 <= at + size
 
 
 def kept(functions):
@@ -198,7 +204,7 @@ def kept(functions):
                 if f.shared and root in f.parameters:
                     yield 'a pointer in a place that C hands in', line
                 for (at, size, kind), where in done.items():
-                    if at is None or start is None or kind == 'ptr' and 0 < abs(at - start) < 8 or kind != 'ptr' and at < start + 8 and start < at + size:
+                    if at is None or start is None or at < start + 8 and start < at + max(size, 8 if kind == 'ptr' else 0) and not keeps(kind, at, size, start):
                         yield 'a place that holds a pointer is used otherwise', where
 
 
