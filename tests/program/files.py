@@ -320,6 +320,18 @@ def a_disk_that_is_full(program, folder):
     assert os.listdir(folder) == []
 
 
+def rights_of_new_files(program, folder):
+    """Whoever may read and write a new file is the caller's choice, by its mask; nobody may execute it."""
+    t, u = f"{folder}/t", f"{folder}/u"
+    fill(program, t, 9, [(code(i), i) for i in range(1, 20)])
+    for mask in (0o000, 0o022, 0o077, 0o002):
+        for command in (["make", u, 9], ["copy", t, u], ["salvage", t, u], ["list", t, "--output", u]):
+            program.done(*command, preexec_fn=lambda: os.umask(mask))
+            mode = os.stat(u).st_mode & 0o7777
+            assert mode == 0o666 & ~mask, (command, oct(mask), oct(mode))
+            os.remove(u)
+
+
 def little_memory(program, folder):
     """However little memory there is: the answer, or a clear error."""
     t = f"{folder}/t"
@@ -361,4 +373,5 @@ def little_memory_for_a_salvage(program, folder):
 
 
 TESTS = [no_tables, other_files, read_only, a_folder_that_cannot_be_read, in_use, waiting, a_writer_among_readers, changed_meanwhile,
-         changed_by_a_mapping, closed_streams, printed_into_the_table, a_disk_that_is_full]
+         changed_by_a_mapping, closed_streams, printed_into_the_table, a_disk_that_is_full,
+         rights_of_new_files]

@@ -43,6 +43,12 @@ def a_film_of_a_list(program, folder):
         assert own["own"] and not given["own"] and (own["beside"], given["beside"], given["list"]) == (-1, 0, list)
         barriers = sum(o[0] == "barrier" for o in given["orders"])
         assert barriers == dock * sum(o[0] == "store" for o in own["orders"]) and given["judge"] == -1 and given["lost"] is None
+    # The same with another recording, another class, or another code: no cut leaves the new map.
+    kinds = lambda scene: {m[0] for m in scene["maps"]}
+    for wrong in ([code(25), 26], [code(25), 25, "closed"], [code(26), 25]):
+        write(list, program.done("orders", t, "add", *wrong))
+        own, given, *_ = states(program.done("film", t, *add, "--list", list))
+        assert kinds(own) == {"old", "new"} and kinds(given) == {"old", "neither"}, (wrong, kinds(own), kinds(given))
     write(list, "store 17 0\nflush 2\n")
     given = states(program.done("film", t, *add, "--list", list))[1]
     assert (given["judge"], given["lost"]["order"], given["lost"]["key"]) == (1, 1, str(key(code(20))))

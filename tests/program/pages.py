@@ -195,6 +195,40 @@ def mixes_with_fast(program, folder):
     return f"{said}, {wrong} of them not sound"
 
 
+def fast_lasts_in_the_end(program, folder):
+    """What --fast answers has been waited for by then, all of it: after the last sync no page may be older than what was answered. In place
+    and by a new file."""
+    t, second, csv, tried = f"{folder}/t", f"{folder}/second", f"{folder}/csv", 0
+    lines_to_load(program, folder, t, csv)
+    whole = contents(t)
+    changes = [["add", t, code(8), 9000], ["remove", t, code(5)], ["class", t, code(0), "room"], ["repair", t], ["load", t, csv], ["load", t, csv, "--pause", 1],
+               ["add", t, code(8), 9000, *docked(1)], ["add", t, code(8), 9000, "--flush", "none"]]
+    for cut in range(0, 60, 11):
+        changes += [["add", t, code(8), 9000, "--cut", cut]]
+    for in_place in (True, False):
+        for command in changes:
+            with open(t, "wb") as f:
+                f.write(whole)
+            if in_place:
+                os.link(t, second)
+            disk = Disk(whole)
+            syncs, _ = recorded(program, folder, *command, "--fast")
+            for call, image in syncs:
+                # A new file was written and synced before it took the place.
+                disk = Disk(image) if call[0] == "replace" else disk
+                if call[0] == "msync":
+                    assert call[3] == "0", (command, "answered before it was waited for")
+                    disk.written(image)
+                    disk.synced(int(call[1]), int(call[2]))
+            disk.written(contents(t))
+            assert disk.mixes(random.Random(1)) == [without_trailer(contents(t))], (command, "answered before it lasts")
+            tried += 1
+            os.remove(t)
+            if in_place:
+                os.remove(second)
+    return f"{tried} changes"
+
+
 def lines_to_load(program, folder, t, csv):
     """A table with codes, and lines most of which split a leaf: the map before, and the lines."""
     have = full_leaves(program, t, 30, 200)
@@ -464,6 +498,18 @@ def a_read_that_fails(program, folder):
     assert listed(program.done("list", t)) == [(code(1), 1), (code(2), 2)]
 
 
+def a_file_that_appears(program, folder):
+    """A file that comes to the name of a new table while that is being made stays as it is; also where a rename cannot keep it."""
+    t, u = f"{folder}/t", f"{folder}/u"
+    fill(program, t, 9, [(code(i), i) for i in range(1, 20)])
+    for more in ({}, {"SYNCS_NO_RENAME": "1"}):
+        for command in (["make", u, 9], ["copy", t, u], ["salvage", t, u]):
+            status, out, err = preloaded(program, folder, *command, SYNCS_APPEARS="1", **more)
+            assert (status, out) == (BAD_FILE, "") and err == f"catalogue: {u} exists already and stays as it is\n", (command, status, out, err)
+            assert contents(u) == b"" and sorted(os.listdir(folder)) == ["printed", "syncs", "t", "u"], os.listdir(folder)
+            os.remove(u)
+
+
 def a_new_table_is_there_whole(program, folder):
     """Written under another name, synced, renamed, the folder synced; nothing else stays."""
     t = f"{folder}/t"
@@ -480,6 +526,6 @@ def a_new_table_is_there_whole(program, folder):
 
 
 TESTS = [any_mix_of_pages, mixes_on_the_unordered_dock, changes_of_two_collections, leaves_that_come_back, mixes_with_fast,
-         a_load_and_its_acknowledgements, a_load_by_new_files, what_a_killed_program_left, killed_before_the_folder, a_write_error_that_passes,
+         fast_lasts_in_the_end, a_file_that_appears, a_load_and_its_acknowledgements, a_load_by_new_files, what_a_killed_program_left, killed_before_the_folder, a_write_error_that_passes,
          a_write_error_of_the_sync_before, killed_before_it_knew, counts_after_a_failure,
          counts_without_memory, a_read_that_fails, a_new_table_is_there_whole]

@@ -1,5 +1,7 @@
 """Many questions in one find, by code and by recording; the exit status of each mistake; guesses at mistyped words."""
 import json
+import os
+import shutil
 import subprocess
 
 from drive import *
@@ -32,6 +34,39 @@ def many_codes(program, folder):
     assert piped(program, f"{code(5)}\n", "find", t, "-") == (0, line(5), "")
     status, out, err = piped(program, f"{code(50)}\n{code(5)}\n", "find", t, "-")
     assert (status, out) == (ABSENT, line(5)) and f"{code(50)} is not in {t}" in err, (status, out, err)
+
+
+def a_next_code_far_away(program, folder):
+    """The next code up is found however many empty leaves are between: a table whose codes are all removed but the first and the last keeps the
+    leaf of each parent that is its leftmost child. In either collection."""
+    t, count = f"{folder}/t", 300
+    for named in ([], naming(2)):
+        pairs = [(code(2 * i), 1 + i) for i in range(count)]
+        fill(program, t, 120, *([pairs] if not named else [[], pairs]))
+        gone = pairs[1:-1]
+        for c, _ in gone:
+            program.done("remove", t, c, *named)
+        assert len(listed(program.done("list", t, *named))) == 2 and "settled" in program.done("check", t)
+        leaves = max(part.count("\n  node ") for part in program.done("show", t).split("level 0:")[1:])
+        assert leaves >= 8, leaves
+        for i in (1, 2, 101, 2 * count - 3):
+            status, out, err = program("find", t, code(i), *named)
+            assert (status, out) == (ABSENT, "") and f"the next code up is {code(2 * count - 2)}\n" in err, (i, status, out, err)
+        assert program("find", t, code(2 * count - 1), *named)[0] == ABSENT
+        os.remove(t)
+    return f"{leaves} leaves"
+
+
+def no_word_unset(program, folder):
+    """What a find prints depends on no word that was never set: codes that are there and absent ones, in either collection, one and several."""
+    if not shutil.which("valgrind"):
+        return "valgrind is not there"
+    t = f"{folder}/t"
+    fill(program, t, 9, [(code(i), f"{100 + i},{CLASSES[i % 3]}") for i in range(1, 40)], [(code(i), i) for i in range(1, 5)])
+    watched = Program(["valgrind", "-q", f"--error-exitcode={FOUND_SOMETHING}", program.command[-1]], "under valgrind", False)
+    for words in ([code(7)], [code(7), code(50)], [code(3), *naming(2)], [code(9), *naming(2)], ["--recording", 105], [code(7), "--json"], [code(50), "--json"]):
+        watched("find", t, *words)
+    return "under valgrind"
 
 
 def answers_before_the_next_question(program, folder):
@@ -136,4 +171,5 @@ def guesses(program, folder):
     program.refuses(BAD_USAGE, r"there is no option --frobnicate \(catalogue --help lists them\)$", "load", t, "x", "--frobnicate")
 
 
-TESTS = [many_codes, answers_before_the_next_question, the_status_of_an_absent_code, by_recording, one_mistake_one_status, guesses]
+TESTS = [many_codes, answers_before_the_next_question, the_status_of_an_absent_code, by_recording, one_mistake_one_status, guesses,
+         a_next_code_far_away]

@@ -160,6 +160,28 @@ def full_tables(program, folder):
         os.remove(t), os.remove(u)
 
 
+def full_beside_another(program, folder):
+    """The same beside a second collection that has codes, whichever of the two is loaded into: as many lines as there are nodes for beside the other's."""
+    t, csv, chance = f"{folder}/t", f"{folder}/csv", random.Random(20)
+    for there in (1, 11, 12, 140, 300):
+        held, theirs = some_lines(chance, there)
+        for free in (1, 2, 3, 13, 14, 30):
+            nodes = nodes_for(there) + free
+            most = max(n for n in range(11 * free + 1) if nodes_for(n) <= free)
+            lines, _ = some_lines(chance, most + 5, 9000)
+            found = everything("\n".join(lines[:most]))
+            for first in (1, 2):
+                program.done("make", t, nodes, "--loan")
+                write(csv, held)
+                loaded(program, t, csv, *naming(3 - first))
+                write(csv, lines)
+                status, out, err = program("load", t, csv, *naming(first))
+                assert (status, out) == (NO_NODES, f"{most} added, 0 there already\n"), (there, free, first, status, out, err)
+                assert f"stopped before line {most + 1}; what came before is kept" in err, err
+                assert read_words(t) == packed_table(nodes, *((found, theirs) if first == 1 else (theirs, found))), (there, free, first)
+                os.remove(t)
+
+
 # ---- judged line by line
 
 def spoilt_lines(chance, count, there):
@@ -328,11 +350,12 @@ def the_same_rights(program, folder):
     """The new file has the old one's owner, group and rights; a link to the table stays one; nothing is left beside it."""
     t, csv, link = f"{folder}/t", f"{folder}/csv", f"{folder}/link"
     write(csv, some_lines(random.Random(8), 50)[0])
-    for mode in (0o644, 0o600, 0o664, 0o640):
+    for mode in (0o644, 0o600, 0o664, 0o640, 0o750, 0o2755):
         program.done("make", t, 20)
         os.chmod(t, mode)
         if os.geteuid() == 0:
             os.chown(t, 1234, 4321)
+            os.chmod(t, mode)
         before = os.stat(t)
         os.symlink("t", link)
         loaded(program, link, csv)
@@ -586,6 +609,37 @@ def others_that_wait(program, folder):
     assert out == "0 added, 0 there already\n" and left_over(folder) == [], out
 
 
+def writers_between_batches(program, folder):
+    """Each batch of a load puts a new file in the table's place, which is locked from the first: while the load waits for its next lines no other
+    writer comes in, neither one that began to wait for an older file nor a new one."""
+    t = f"{folder}/t"
+    rising = [(code(30 * leaf + 6 * i), 1 + 30 * leaf + 6 * i) for leaf in range(60) for i in range(5)]
+    between = [(code(30 * leaf + i), 1 + 30 * leaf + i) for leaf in range(60) for i in (1, 2, 3, 4, 5, 7)]
+    fill(program, t, 200, rising + between)
+    lines = [(code(30 * leaf + 13), 10001 + leaf) for leaf in range(60)]
+    load = program.start("load", t, "-", "--each", stdin=subprocess.PIPE, stdout=subprocess.PIPE, stderr=subprocess.PIPE)
+    waiting, files = [], {os.stat(t).st_ino}
+    for piece in parts(lines, 20):
+        load.stdin.write("".join(f"{c},{r}\n" for c, r in piece))
+        load.stdin.flush()
+        assert [load.stdout.readline() for _ in piece] == [f"{c},{r},open\n" for c, r in piece]
+        files.add(os.stat(t).st_ino)
+        i = len(waiting)
+        program.refuses(BAD_FILE, "is in use by another writer", "add", t, code(90000 + i), 90000 + i)
+        waiting.append(program.start("add", t, code(91000 + i), 91000 + i, "--wait", 60, stdout=subprocess.PIPE, stderr=subprocess.PIPE))
+        time.sleep(0.1)
+        assert all(run.poll() is None for run in waiting), "a writer came in between two batches"
+    out, err = load.communicate(timeout=60)
+    assert (load.returncode, out, err) == (0, "60 added, 0 there already\n", ""), (out, err)
+    # Files of one folder may have numbers that come back.
+    assert len(files) >= 2, files
+    for run in waiting:
+        out, err = run.communicate(timeout=60)
+        assert run.returncode == 0 and out.startswith("added "), (out, err)
+    some = rising + between + lines + [(code(91000 + i), 91000 + i) for i in range(len(waiting))]
+    assert everything(program.done("list", t)) == {c: (r, "open") for c, r in some}
+
+
 # ---- killed
 
 def kill(program, chance, most, *words):
@@ -757,7 +811,7 @@ def little_memory_for_a_load(program, folder):
     return f"{ended[0]} loads, {ended[BAD_FILE]} errors"
 
 
-TESTS = [packed_words, packed_beside_another, emptied_tables, full_tables, refused_lines, batches_are_single_additions,
+TESTS = [packed_words, packed_beside_another, emptied_tables, full_tables, full_beside_another, writers_between_batches, refused_lines, batches_are_single_additions,
          acknowledged_one_by_one, loads_back, the_same_rights, the_same_attributes, a_file_of_the_same_name, files_of_dead_programs,
          changed_in_place, no_room_for_a_file, in_other_places, others_that_wait, killed_while_it_packs, killed_between_batches,
          a_signal_while_it_packs]

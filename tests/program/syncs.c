@@ -2,7 +2,8 @@
  * Loaded before the program's libraries: writes down, into the file that SYNCS names, each call by which the program waits for the disk or
  * gives a file its name, in order and before it is done, with how much the program has printed to standard output, a file. At an msync also
  * what the mapped file holds at that moment, if a file takes another one's place what it holds. With SYNCS_NO_RENAME there is no rename
- * that keeps a file that is there, as on some file systems. With SYNCS_KILL the program is killed at the fsync of that number; with
+ * that keeps a file that is there, as on some file systems; with SYNCS_APPEARS a file comes to the new name just before one is renamed to it.
+ * What the program prints to standard output is there at once, and in no buffer. A sync that does not wait is none. With SYNCS_KILL the program is killed at the fsync of that number; with
  * SYNCS_FAIL_FSYNC that fsync fails, with SYNCS_FAIL_READ the pread of that number, with SYNCS_FAIL_MEMORY the allocation.
  *
  * With SYNCS_FAIL the msync of that number fails, as on a disk that does; with SYNCS_DIE the program is killed before it learns that. The
@@ -24,6 +25,12 @@
 #include <sys/stat.h>
 #include <sys/syscall.h>
 #include <unistd.h>
+
+/* Lines that are printed too early must not be hidden by a buffer. */
+__attribute__((constructor)) static void print_at_once(void)
+{
+    setvbuf(stdout, NULL, _IONBF, 0);
+}
 
 /* ---- memory */
 
@@ -166,6 +173,8 @@ static size_t printed(void)
 
 int msync(void *address, size_t bytes, int flags)
 {
+    if (!(flags & MS_SYNC))
+        return (int)syscall(SYS_msync, address, bytes, flags);
     int file = record();
     dprintf(file, "msync %zu %zu %zu %zu\n", (size_t)((char *)address - mapped), bytes, printed(), mapped_bytes);
     if (write(file, mapped, mapped_bytes) != (ssize_t)mapped_bytes)
@@ -222,6 +231,8 @@ int renameat2(int from_folder, const char *from, int to_folder, const char *to, 
     int file = record();
     dprintf(file, "rename %s %s %zu\n", from, to, printed());
     close(file);
+    if (getenv("SYNCS_APPEARS"))
+        close(open(to, O_WRONLY | O_CREAT | O_EXCL, 0644));
     if (getenv("SYNCS_NO_RENAME")) {
         errno = EINVAL;
         return -1;
