@@ -110,7 +110,8 @@ class Tree:
         made = self.top / "catalogue"
         if not made.exists():
             sources = sorted((self.top / "shell").glob("*.c")) + sorted((self.top / "film").glob("*.c"))
-            objects = [self.compiled(source) for source in sources + [self.top / "file" / "stack.c"]]
+            with concurrent.futures.ThreadPoolExecutor(AT_ONCE) as pool:
+                objects = list(pool.map(self.compiled, sources + [self.top / "file" / "stack.c"]))
             subprocess.run(["gcc", *objects, self.file_library(), self.library, "-ldl", "-o", made], check=True)
         return made
 
@@ -207,6 +208,8 @@ def main(library, words):
         (work / "first").mkdir()
         first = Tree(work / "first" / "tree", library)
         subprocess.run(["gcc", "-shared", "-o", first.top / "library.so", "-Wl,--whole-archive", library, "-Wl,--no-whole-archive"], check=True)
+        # Its objects are the other trees' too.
+        first.program()
         # In the gate the tests of the program run by themselves.
         unspoilt([edit for edit in edits if "--gate" not in words or edit.test[0] != "program"], first)
         passed = 0
