@@ -210,7 +210,6 @@ static uint64_t lines_there(struct loading *l, size_t from, uint64_t taken)
     struct batch *b = l->batch;
     uint64_t there = 0;
     bool known = true;
-    l->f->stale = true;
     if (refresh(l->f) != 0)
         return taken;
     for (; from < b->count && there < taken && known; from++) {
@@ -229,6 +228,8 @@ static uint64_t lines_there(struct loading *l, size_t from, uint64_t taken)
 static void failed(struct loading *l, size_t from, uint64_t taken, uint64_t number, bool by_file)
 {
     struct batch *b = l->batch;
+    /* The working copy is ahead of memory. */
+    l->f->stale = true;
     uint64_t left = taken > 0 ? lines_there(l, from, taken) : 0;
     load_ends(l, number);
     for (; from < b->count && left > 0; from++) {

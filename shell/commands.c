@@ -507,5 +507,7 @@ int command_finish(const struct command_line *l, int status)
     if (fflush(stdout) == 0 && !ferror(stdout))
         return status;
     int failed = fail(BAD_FILE, "%s%s cannot be printed", l->made ? l->made : "the answer", l->made ? ", but the answer" : "");
-    return status != 0 ? status : failed;
+    /* That of an absent code would say that the others are answered. */
+    bool answered = status == 0 || status == CATALOGUE_NO_CODE || status == l->absent;
+    return answered ? failed : status;
 }

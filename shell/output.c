@@ -34,6 +34,22 @@ static int open_beside(struct output *o, const char *name)
     return open(o->made, O_WRONLY | O_CREAT | O_TRUNC | O_CLOEXEC, 0666);
 }
 
+/* What is printed goes to the open file from now on. */
+static bool redirect(struct output *o, int file)
+{
+    fflush(stdout);
+    o->before = fcntl(STDOUT_FILENO, F_DUPFD_CLOEXEC, STDERR_FILENO + 1);
+    bool redirected = o->before >= 0 && dup2(file, STDOUT_FILENO) >= 0;
+    int why = errno;
+    close(file);
+    if (!redirected && o->before >= 0) {
+        close(o->before);
+        o->before = -1;
+    }
+    errno = why;
+    return redirected;
+}
+
 int output_begin(struct output *o, const char *name, const char *table)
 {
     struct stat about;
@@ -44,12 +60,8 @@ int output_begin(struct output *o, const char *name, const char *table)
     if (there && is_table(&about, table))
         return fail(BAD_FILE, "%s is the table itself: nothing was done", name);
     int file = there && !S_ISREG(about.st_mode) ? open(name, O_WRONLY | O_CLOEXEC) : open_beside(o, name);
-    if (file < 0)
+    if (file < 0 || !redirect(o, file))
         return fail(BAD_FILE, "%s cannot be written: %s", name, strerror(errno));
-    fflush(stdout);
-    o->before = fcntl(STDOUT_FILENO, F_DUPFD_CLOEXEC, STDERR_FILENO + 1);
-    dup2(file, STDOUT_FILENO);
-    close(file);
     return 0;
 }
 
