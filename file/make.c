@@ -45,8 +45,10 @@ uint64_t catalogue_file_about(catalogue_file *f, struct catalogue_file_about *ab
         number = follow_name(f);
     if (number != 0)
         return number;
+    /* A writer does not look at the mapped words but for a change: the file may have become shorter. */
+    const uint64_t *words = f->writing ? f->expected : f->mapped;
     *about = (struct catalogue_file_about){.nodes = (f->words - HEADER_WORDS) / NODE_WORDS,
-                                           .collections = shared_load(&f->mapped[SECOND_ROOT]) == 0 ? 1 : 2,
+                                           .collections = shared_load(&words[SECOND_ROOT]) == 0 ? 1 : 2,
                                            .words = f->words,
                                            .writing = f->writing,
                                            .persistent = f->writing && f->persistent,

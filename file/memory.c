@@ -2,6 +2,7 @@
 #include "memory.h"
 
 #include <errno.h>
+#include <fcntl.h>
 #include <inttypes.h>
 #include <stdlib.h>
 #include <string.h>
@@ -85,6 +86,13 @@ uint64_t refresh(struct catalogue_file *f)
     return number;
 }
 
+/* Nobody has cut the file short: a word behind its end that is touched would end the program. */
+static bool is_whole(const struct catalogue_file *f)
+{
+    struct stat now;
+    return fstat(f->file, &now) == 0 && (uint64_t)now.st_size >= bytes_of(f->words, true);
+}
+
 /* ---- waiting for the disk */
 
 /*
@@ -95,8 +103,8 @@ uint64_t refresh(struct catalogue_file *f)
 static void store_again(struct catalogue_file *f)
 {
     int why = errno;
-    size_t page = (size_t)sysconf(_SC_PAGESIZE) / sizeof(uint64_t);
-    for (size_t at = 0; at < f->words; at += page)
+    size_t page = (size_t)sysconf(_SC_PAGESIZE) / sizeof(uint64_t), words = is_whole(f) ? f->words : 0;
+    for (size_t at = 0; at < words; at += page)
         shared_store(&f->mapped[at], shared_load(&f->mapped[at]));
     errno = why;
 }
@@ -134,6 +142,24 @@ bool waits_for_disk(const struct catalogue_file *f)
 }
 
 /* ---- beginning */
+
+/*
+ * A file that was copied without its zeros has no place on the disk for them: the first store to such a page would end the program if the disk
+ * is full. A file system that cannot say so beforehand goes on.
+ */
+static uint64_t take_room(struct catalogue_file *f)
+{
+    uint64_t bytes = bytes_of(f->words, f->trailer);
+    if ((uint64_t)f->left.st_blocks * 512 >= bytes)
+        return 0;
+    int status;
+    do
+        status = fallocate(f->file, 0, 0, (off_t)bytes);
+    while (status != 0 && errno == EINTR);
+    if (status == 0 || (errno != ENOSPC && errno != EDQUOT && errno != EIO))
+        return 0;
+    return fails_for(f, CATALOGUE_FILE_DISK, "%s has no room on its disk for all its words", f->name);
+}
 
 /* A line more behind the table's words; a cut may take it away again, which does no harm. */
 static uint64_t begin_trailer(struct catalogue_file *f)
@@ -195,6 +221,8 @@ uint64_t begin_writing(struct catalogue_file *f)
     /* Carry-out of no orders tests the header alone. */
     if (number == 0 && catalogue_carry_out(f->working, f->words, &none, 1, 0) != 0)
         number = wrong_header(f, f->working);
+    if (number == 0)
+        number = take_room(f);
     if (number == 0)
         number = begin_trailer(f);
     if (number == 0)
@@ -294,20 +322,27 @@ static void take_over(struct catalogue_file *f, int file, uint64_t *mapped, bool
     fstat(f->file, &f->left);
 }
 
-/* Readers look at the name from now on, so that none misses the new file; nothing can fail behind the rename but the folder's sync. */
+/* Readers look at the name from now on, or need not any more. */
+static void mark_replaced(struct catalogue_file *f, uint64_t replaced)
+{
+    if (is_whole(f))
+        shared_store(&trailer_of(f)[TRAILER_REPLACED], replaced);
+}
+
+/* Marked before, so that no reader misses the new file; nothing can fail behind the rename but the folder's sync. */
 static bool put(struct catalogue_file *f, struct successor *s)
 {
     bool persistent;
     uint64_t *mapped = map_words(s->file, f->words, true, &persistent);
     if (!mapped)
         return false;
-    shared_store(&trailer_of(f)[TRAILER_REPLACED], 1);
+    mark_replaced(f, 1);
     if (successor_put(s)) {
         take_over(f, s->file, mapped, persistent);
         return true;
     }
     int why = errno;
-    shared_store(&trailer_of(f)[TRAILER_REPLACED], 0);
+    mark_replaced(f, 0);
     unmap_words(mapped, f->words);
     fstat(f->file, &f->left);
     errno = why;

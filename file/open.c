@@ -199,6 +199,9 @@ uint64_t follow_name(struct catalogue_file *f)
         return 0;
     struct stat named;
     bool ours = stat(f->path, &named) == 0 && same_file(&f->left, &named);
+    /* What is mapped behind a file's end may not be looked at. */
+    if (ours && (uint64_t)named.st_size < bytes_of(f->words, f->trailer))
+        return fails(f, CATALOGUE_FILE_CHANGED, "%s was cut short by another program", f->name);
     uint64_t number = ours ? 0 : open_anew(f);
     if (number == 0)
         f->named = now;

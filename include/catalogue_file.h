@@ -42,7 +42,8 @@
  * Threads. A handle is for one thread at a time. Threads that search side by side open a handle each; an open reading handle costs a mapping
  * and the pages that its finds touch. Two handles for writing exclude each other within a process too. Do not use a handle in a child
  * after fork. The library has no global state, prints nothing, ends nothing and installs no signal handler. If another program cuts
- * a mapped file short, or its disk fails, the system sends SIGBUS to the thread that reads it, as for every mapped file.
+ * a mapped file short, a call that looks at the file's name first returns CATALOGUE_FILE_CHANGED: a reader's does 50 milliseconds after the
+ * last look, a change always does. Before that, or if the disk fails, the system sends SIGBUS to the thread, as for every mapped file.
  * Reading needs 16 KB of stack, everything else 512 KB.
  *
  * Numbers. Calls return 0, a number of catalogue.h, or one from 300 on. The handle keeps a message about the last call that failed, with the
@@ -54,7 +55,8 @@
  *     CATALOGUE_FILE_IN_USE           another writer has the file open: wait longer, or ask it
  *     CATALOGUE_FILE_BUSY             the writer changes the table faster than it can be read: ask again
  *     CATALOGUE_FILE_REPLACED         another file has the name now, or none: close the handle and open it again
- *     CATALOGUE_FILE_CHANGED          a program without the lock stored into the file: nothing more was changed; check the table
+ *     CATALOGUE_FILE_CHANGED          a program without the lock stored into the file, or cut it short: nothing more was changed; check the
+ *                                     table
  *     CATALOGUE_FILE_DISK             a read or a wait for the disk failed: see catalogue_file_outcome. The next change waits for the whole
  *                                     file first; while the disk fails it is not made
  *     CATALOGUE_FILE_FOLDER           a new file took the table's place and has all changes, but its folder was not synced: a power cut can

@@ -2,11 +2,13 @@
  * One call of the file library, while something in it fails: calls CALL TABLE NEW. The table has the keys 10, 20, .. of recordings 1000 + key. What is
  * between the fcntl and the getppid is the call's (failing.c), and between them the allocation of the number FAIL_MEMORY fails, with 'N+' all
  * from it on. Prints what the call gave, its outcome, errno and message; what another handle finds then; the same call again on the same handle,
- * when nothing fails any more; a find by it; its sync and its close.
+ * when nothing fails any more; a find by it; its sync and its close. With WAIT the call comes 60 milliseconds after the fcntl. A SIGBUS ends it with
+ * the line 'bus'.
  */
 #include <errno.h>
 #include <fcntl.h>
 #include <inttypes.h>
+#include <signal.h>
 #include <stdbool.h>
 #include <stdio.h>
 #include <stdlib.h>
@@ -274,10 +276,19 @@ static bool open_before(int how)
     return f && catalogue_file_open(f, table, flags, 0) == 0 && (how != UNSETTLED || add(15) == 0);
 }
 
+static void on_bus_error(int number)
+{
+    static const char line[] = "bus\n";
+    (void)number;
+    _exit(write(STDOUT_FILENO, line, sizeof line - 1) < 0);
+}
+
 static void one(const char *name, uint64_t (*call)(void))
 {
     counting = true;
     (void)fcntl(STDIN_FILENO, F_GETFD);
+    if (getenv("WAIT"))
+        usleep(60000);
     uint64_t number = call();
     (void)getppid();
     counting = false;
@@ -291,6 +302,7 @@ int main(int count, char **words)
     if (count < 4)
         return 2;
     const char *number = getenv("FAIL_MEMORY");
+    signal(SIGBUS, on_bus_error);
     failing = number ? atol(number) : 0;
     failing_on = number && strchr(number, '+');
     table = words[2];

@@ -1,7 +1,7 @@
 /*
  * failing REPORT CALL WHICH ERROR PROGRAM WORDS..: runs the program, and lets one of its system calls fail: the WHICHth of the name CALL, with that
- * error, without being made; 'WHICH+' lets all from there on fail. With the error SHORT a read or a write is made, of half its bytes. A CALL of
- * - fails none. REPORT gets a line for each call, in order: its name, whether it failed, and the files that it names. Calls count from the first
+ * error, without being made; 'WHICH+' lets all from there on fail. With the error SHORT a read or a write is made, of half its bytes; with DOES
+ * the call is made once the shell has carried out FAILING_DOES. A CALL of - fails none, and 'any' is every call. REPORT gets a line for each call, in order: its name, whether it failed, and the files that it names. Calls count from the first
  * fcntl on, with which the program's work begins, up to a getppid. Ends with the program's status, or 128 and its signal. For x86-64.
  */
 #include <errno.h>
@@ -82,10 +82,11 @@ static const struct {
     int number;
 } errors[] = {{"EIO", EIO},       {"ENOSPC", ENOSPC}, {"EDQUOT", EDQUOT}, {"ENOMEM", ENOMEM}, {"EINTR", EINTR},   {"EACCES", EACCES}, {"EPERM", EPERM},
               {"EROFS", EROFS},   {"EMFILE", EMFILE}, {"ENOENT", ENOENT}, {"EINVAL", EINVAL}, {"ENOSYS", ENOSYS}, {"ENOLCK", ENOLCK}, {"EXDEV", EXDEV},
-              {"EFBIG", EFBIG},   {"EPIPE", EPIPE},   {"EAGAIN", EAGAIN}, {"SHORT", 0}};
+              {"EFBIG", EFBIG},   {"EPIPE", EPIPE},   {"EAGAIN", EAGAIN}, {"SHORT", 0},        {"DOES", 0}};
 
 static pid_t child;
 static FILE *report;
+static const char *does; /* what happens meanwhile; null for nothing */
 
 static _Noreturn void lost(const char *why)
 {
@@ -173,9 +174,11 @@ static void one_call(const struct call *c, bool fails, int error)
     ptrace(PTRACE_GETREGS, child, 0, &r);
     write_down(c, &r, fails);
     bool made_short = fails && error == 0;
+    if (fails && does && system(does) != 0)
+        lost(does);
     if (fails && !made_short)
         r.orig_rax = (unsigned long long)-1;
-    if (made_short)
+    if (made_short && !does)
         r.rdx = (r.rdx + 1) / 2;
     if (fails)
         ptrace(PTRACE_SETREGS, child, 0, &r);
@@ -195,6 +198,7 @@ int main(int count, char **words)
     long which = atol(words[3]), met = 0;
     bool on = strchr(words[3], '+') != NULL, begun = false, over = false;
     int error = error_of(words[4]);
+    does = strcmp(words[4], "DOES") == 0 ? getenv("FAILING_DOES") : NULL;
     if ((child = fork()) == 0) {
         ptrace(PTRACE_TRACEME, 0, 0, 0);
         raise(SIGSTOP);
@@ -211,12 +215,14 @@ int main(int count, char **words)
         const struct call *c = call_of(number);
         begun = begun || number == SYS_fcntl;
         over = over || (begun && number == SYS_getppid);
+        bool any = strcmp(words[2], "any") == 0;
         /* To ask whether a stream is open cannot fail if it is. */
-        if (!c || !begun || over || (number == SYS_fcntl && r.rsi == F_GETFD)) {
+        if (!c || !begun || over || (!any && number == SYS_fcntl && r.rsi == F_GETFD)) {
             to_stop();
             continue;
         }
-        met += strcmp(c->name, words[2]) == 0;
-        one_call(c, strcmp(c->name, words[2]) == 0 && (met == which || (on && met > which)), error);
+        bool meant = any || strcmp(c->name, words[2]) == 0;
+        met += meant;
+        one_call(c, meant && (met == which || (on && met > which)), error);
     }
 }

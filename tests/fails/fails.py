@@ -109,6 +109,7 @@ class Command:
         return [{"T": self.t, "N": self.n}.get(word, str(word)) for word in self.words]
 
     def run(self, words, call="-", which="0", error="EIO", **environment):
+        self.error = error
         with open(f"{self.place}/out", "w") as out, open(f"{self.place}/err", "w") as err:
             # What is loaded before the program would be loaded before what follows it.
             follow = [] if environment else [FAILING, f"{self.place}/report", call, which, error]
@@ -150,7 +151,7 @@ class Command:
         except AssertionError as e:
             return f"the table is not sound: {e}"
         loads = self.name.startswith("load")
-        if loads and (wrong := self.wrong_load(status, out, err, now)):
+        if loads and (wrong := self.wrong_load(status, out, err if not to_error else "cannot be printed", now)):
             return wrong
         if not loads and now not in (self.before, self.after):
             return "neither the map before nor the one after"
@@ -193,7 +194,7 @@ class Command:
             return "the second name leads elsewhere"
         spoilt = set()
         for name, made, *files in self.report:
-            if made == "failed" and name in ("write", "fsync") and files:
+            if made == "failed" and name in ("write", "fsync") and files and self.error not in ("EINTR", "SHORT"):
                 spoilt.add(files[0])
             if made == "made" and name in ("rename", "renameat2") and files and files[0] in spoilt:
                 return "a file that could not be written got the name"
@@ -421,9 +422,77 @@ class DiskCall(Call):
         return tried, wrong
 
 
+# ---- files that change meanwhile
+
+# What another program does to the table T, by the shell, at the moment of any system call of ours.
+MEDDLING = {
+    "cut to nothing": "truncate -s 0 T", "cut in half": "truncate -s 8192 T", "cut by a node": "truncate -s -256 T", "made longer": "truncate -s +4096 T",
+    "replaced": "cp OTHER T.o && mv T.o T", "removed": "rm T", "read-only": "chmod 0444 T", "overwritten": "head -c 4000 /dev/zero | dd of=T conv=notrunc bs=4000 2>/dev/null",
+    "a folder": "rm T && mkdir T", "a link to itself": "rm T && ln -s T T"}
+# In the gate.
+SOME = ["cut to nothing", "cut by a node", "replaced", "removed"]
+
+
+class Changed(Command):
+    """A command whose table changes meanwhile: an end by a number, with a message if it is none of success; no file that another program put there
+    is spoilt."""
+
+    def all_tries(self, every):
+        self.unspoilt()
+        count = len(self.report) + 3
+        tried, wrong = 0, []
+        for name in MEDDLING if every else SOME:
+            for which in range(1, count + 1, 1 if every else 5):
+                words = self.prepare()
+                does = MEDDLING[name].replace("OTHER", f"{self.base}/{self.start}").replace("T", self.t)
+                os.environ["FAILING_DOES"] = self.program.environment["FAILING_DOES"] = does
+                status, out, err = self.run(words, "any", str(which), "DOES")
+                tried += 1
+                why = None
+                if status < 0 or status >= 99 and status != 255:
+                    why = f"status {status}"
+                elif status not in (0, self.good[0]) and not re.match("(catalogue: [^\n]*\n)+", err):
+                    why = "no message"
+                elif name == "replaced" and self.name in IN_PLACE and everything(self.program.done("list", self.t)) not in (self.before, self.after) and "load" not in self.name:
+                    why = "the file that came is spoilt"
+                elif [left for left in os.listdir(self.place) if left.endswith((".new", ".part"))]:
+                    why = "left behind"
+                if why:
+                    wrong.append((f"changed:{self.name}", name, which, why, status, out[-60:], err[-200:]))
+        return tried, wrong
+
+
+class ChangedCall(Call):
+    """A call whose table is cut short before it or meanwhile: a number with a message, and a call that looks at the name first is never ended by
+    SIGBUS."""
+
+    def all_tries(self, every):
+        self.unspoilt()
+        count = len(self.report) + 1
+        tried, wrong, buses = 0, [], 0
+        for name in MEDDLING if every else SOME:
+            for which in range(1, count + 1, 1 if every else 3):
+                does = MEDDLING[name].replace("OTHER", f"{self.base}/tens").replace("T", f"{self.place}/T")
+                waits = which == 1
+                os.environ["FAILING_DOES"] = self.program.environment["FAILING_DOES"] = does
+                status, said, err = self.run("any", str(which), "DOES", **({"WAIT": "1"} if waits else {}))
+                tried += 1
+                buses += "bus" in said
+                why = None
+                if status != 0:
+                    why = f"status {status}"
+                elif "bus" in said and (waits or "cut" not in name):
+                    why = "SIGBUS"
+                elif "bus" not in said and int(said["call"][0]) >= OWN and len(said["call"]) < 5:
+                    why = "no message"
+                if why:
+                    wrong.append((f"changedcall:{self.name}", name, which, why, said.get("call"), err[-200:]))
+        return tried, wrong
+
+
 # ---- running
 
-KINDS = {"command": Command, "call": Call, "disk": Disk, "diskcall": DiskCall}
+KINDS = {"command": Command, "call": Call, "disk": Disk, "diskcall": DiskCall, "changed": Changed, "changedcall": ChangedCall}
 
 
 def work(job):
@@ -450,6 +519,8 @@ def main(path, words):
     all_commands = commands(program, base)
     jobs += [("disk", name, all_commands[name], base) for name in IN_PLACE if not named or f"disk:{name}" in named]
     jobs += [("diskcall", name, None, base) for name in ("add", "remove", "class", "repair", "load_in_place", "fast_add") if not named or f"diskcall:{name}" in named]
+    jobs += [("changed", name, words, base) for name, words in all_commands.items() if "T" in words[1] and (not named or f"changed:{name}" in named)]
+    jobs += [("changedcall", name, None, base) for name in CALL_NAMES if name != "create" and (not named or f"changedcall:{name}" in named)]
     jobs = [(*job, f"{place}/{i}", every, path) for i, job in enumerate(jobs)]
     failed = tried = 0
     with multiprocessing.Pool(os.cpu_count()) as pool:

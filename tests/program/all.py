@@ -10,6 +10,7 @@ import traceback
 
 import commands
 import cuts
+import disks
 import docks
 import files
 import films
@@ -75,7 +76,7 @@ def main():
     place = tempfile.mkdtemp(prefix="catalogue-", dir="/dev/shm" if roomy("/dev/shm") else None)
     os.chmod(place, 0o755)
     works = [(plain, loads.progress_elsewhere, place)] + [(valgrind, t, place) for t in once]
-    works += [(plain, t, place) for t in everything + pages.TESTS + installing.TESTS + instructions.TESTS + [questions.no_word_unset] + readers.ONCE + memory.ONCE + scale.ONCE + [files.little_memory, files.little_memory_for_a_salvage]]
+    works += [(plain, t, place) for t in everything + pages.TESTS + installing.TESTS + instructions.TESTS + disks.TESTS + [questions.no_word_unset] + readers.ONCE + memory.ONCE + scale.ONCE + [files.little_memory, files.little_memory_for_a_salvage]]
     works += [(sanitized, t, place) for t in everything]
     # One more than there are processors: some tests wait for the clock.
     with multiprocessing.Pool(os.cpu_count() + 1) as pool:
