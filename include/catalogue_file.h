@@ -42,8 +42,9 @@
  * Threads. A handle is for one thread at a time. Threads that search side by side open a handle each; an open reading handle costs a mapping
  * and the pages that its finds touch. Two handles for writing exclude each other within a process too. Do not use a handle in a child
  * after fork. The library has no global state, prints nothing, ends nothing and installs no signal handler. If another program cuts
- * a mapped file short, a call that looks at the file's name first returns CATALOGUE_FILE_CHANGED: a reader's does 50 milliseconds after the
- * last look, a change always does. Before that, or if the disk fails, the system sends SIGBUS to the thread, as for every mapped file.
+ * a mapped file short, a call that looks at the file's name first returns CATALOGUE_FILE_CHANGED: a reader's does a twentieth of a second
+ * after the last look, a change always does. Before that, or if the disk fails, the system sends SIGBUS to the thread, as for every mapped
+ * file.
  * Reading needs 16 KB of stack, everything else 512 KB.
  *
  * Numbers. Calls return 0, a number of catalogue.h, or one from 300 on. The handle keeps a message about the last call that failed, with the
