@@ -1,8 +1,9 @@
 /*
  * failing REPORT CALL WHICH ERROR PROGRAM WORDS..: runs the program, and lets one of its system calls fail: the WHICHth of the name CALL, with that
  * error, without being made; 'WHICH+' lets all from there on fail. With the error SHORT a read or a write is made, of half its bytes; with DOES
- * the call is made once the shell has carried out FAILING_DOES. A CALL of - fails none, and 'any' is every call. REPORT gets a line for each call, in order: its name, whether it failed, and the files that it names. Calls count from the first
- * fcntl on, with which the program's work begins, up to a getppid. Ends with the program's status, or 128 and its signal. For x86-64.
+ * the call is made once the shell has carried out FAILING_DOES. A CALL of - fails none, and 'any' is every call. REPORT gets a line for each
+ * call, in order: its name, whether it failed, and the files that it names. Calls count from the first fcntl on, with which the program's work
+ * begins, up to a getppid. Ends with the program's status, or 128 and its signal. For x86-64.
  */
 #include <errno.h>
 #include <fcntl.h>

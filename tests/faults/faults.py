@@ -14,7 +14,8 @@ and as many file:, old: and new: as it takes. Tests:
     film                         tests/film/compare.py
     placing                      tests/readers/placing.c, over file/looks.c
     moments                      tests/readers/moments.c, over file/moment.c
-    fails WORDS                  tests/fails/fails.py
+    fails NAME ..                tests/fails/fails.py
+    fuzz                         tests/fuzz, some of its inputs
 Each test passes without a fault first; in the gate those of the program do so by themselves."""
 import concurrent.futures
 import os
@@ -124,6 +125,27 @@ class Tree:
                         self.file_library(), self.library, "-lpthread", "-o", made], check=True)
         return made
 
+    def fuzz(self):
+        """As tests/fuzz/run builds it."""
+        made, folder, watched = self.top / "fuzz", self.top / "watched", ["-g", "-fsanitize=address,undefined", "-fno-sanitize-recover=all"]
+        folder.mkdir()
+        defined = ["-Dmain=program_main", '-DPROGRAM_VERSION="0"', f'-DMODULE_TEXT="{self.top}/module.txt"', "-I", self.top / "include", "-I", self.top / "film"]
+
+        def compiled(source, *flags):
+            name = folder / f"{source.parent.name}-{source.stem}{'-shown' if not flags else ''}.o"
+            subprocess.run(["gcc", *FLAGS, *watched, *flags, *defined, "-c", source, "-o", name], cwd=self.top / "shell", check=True)
+            return name
+
+        with concurrent.futures.ThreadPoolExecutor(AT_ONCE) as pool:
+            hidden = list(pool.map(lambda source: compiled(source, "-fPIC", "-fvisibility=hidden"), sorted((self.top / "file").glob("*.c"))))
+            shown = list(pool.map(compiled, [*(self.top / "shell").glob("*.c"), *(self.top / "film").glob("*.c"), self.top / "file/stack.c"]))
+        joined = folder / "file_joined.o"
+        subprocess.run(["ld", "-r", *hidden, "-o", joined], check=True)
+        subprocess.run(["objcopy", "--localize-hidden", joined], check=True)
+        subprocess.run(["gcc", *FLAGS, *watched, "-I", TOP / "include", TOP / "tests/fuzz/fuzz.c", TOP / "tests/fuzz/drive.c", *shown, joined, self.library, "-ldl",
+                        "-o", made], check=True)
+        return made
+
     def command(self, test):
         """What runs a test on this tree."""
         kind, *words = test
@@ -144,7 +166,12 @@ class Tree:
                             *[self.top / "file" / name for name in parts], self.library, "-pthread", "-o", made], check=True)
             return [made, *words]
         if kind == "fails":
-            return [sys.executable, TOP / "tests/fails/fails.py", self.program(), *words]
+            made, sources = self.top / "calls", [TOP / "tests/fails/calls.c"]
+            subprocess.run(["gcc", *FLAGS, "-I", TOP / "include", *sources, self.file_library(), self.library, "-o", made], check=True)
+            return ["env", f"CALLS_PROGRAM={made}", sys.executable, TOP / "tests/fails/fails.py", self.program(), *[word if "call:" in word else word.replace("_", " ") for word in words]]
+        if kind == "fuzz":
+            texts = sorted((TOP / "samples/drawings").iterdir()) + sorted((TOP / "tests/fuzz/corpus").iterdir())
+            return [self.fuzz(), "1", "0", "600", *texts]
         sys.exit(f"there is no test {kind}")
 
     def passes(self, test):
@@ -166,6 +193,8 @@ def libraries(work):
     for name, source in (("SYNCS_LIBRARY", "syncs"), ("ALLOCATIONS_LIBRARY", "allocations")):
         os.environ[name] = f"{work}/{source}.so"
         subprocess.run(["gcc", *FLAGS, "-shared", "-fPIC", TOP / f"tests/program/{source}.c", "-o", os.environ[name]], check=True)
+    os.environ["FAILING_PROGRAM"] = f"{work}/failing"
+    subprocess.run(["gcc", *FLAGS, TOP / "tests/fails/failing.c", "-o", os.environ["FAILING_PROGRAM"]], check=True)
     os.environ["STEPS_PROGRAM"] = f"{work}/steps"
     subprocess.run(["gcc", *FLAGS, TOP / "tests/program/steps.c", "-o", os.environ["STEPS_PROGRAM"]], check=True)
     os.environ["PYTHONDONTWRITEBYTECODE"] = "1"

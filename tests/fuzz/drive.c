@@ -1,6 +1,7 @@
 /*
  * Inputs for fuzz.c, by a seed: drive SEED FIRST COUNT TEXT .. makes the inputs with the numbers from FIRST on, each from one of the texts, which are
- * files, or from none. The same seed and number is the same input. Prints 'COUNT passed, 0 failed'; a crash says which input it was.
+ * files, or from none. The same seed and number is the same input. Prints 'COUNT passed, 0 failed'; a crash says which input it was. With
+ * FUZZ_KEEP the inputs are files in that folder, and are not tried.
  */
 #include <inttypes.h>
 #include <stdint.h>
@@ -35,7 +36,8 @@ static void say_which(void)
 
 static size_t with_number(uint8_t *at, size_t room)
 {
-    static const char *const numbers[] = {"0", "1", "8", "12", "25", "40", "391", "400", "18446744073709551615", "18446744073709551614", "72057594037927935", "72057594037927936"};
+    static const char *const numbers[] = {"0", "1", "8", "12", "25", "40", "391", "400", "18446744073709551615",
+                                          "18446744073709551614", "72057594037927935", "72057594037927936"};
     const char *some = numbers[below(sizeof numbers / sizeof numbers[0])];
     size_t length = strlen(some) < room ? strlen(some) : room;
     memcpy(at, some, length);
@@ -64,7 +66,8 @@ static size_t mutate(uint8_t *at, size_t size)
         memmove(at + place + length, at + place, size - place);
         return size + length;
     case 4:
-        return place + with_number(at + place, MOST - place) > size ? size : size;
+        length = place + with_number(at + place, MOST - place);
+        return length > size ? length : size;
     default: { /* the rest of another text */
         size_t other = below(64);
         length = texts[other].size < MOST - place ? texts[other].size : MOST - place;
@@ -95,6 +98,15 @@ static size_t make_input(size_t count)
     return head + size;
 }
 
+static void keep(const char *within, size_t size)
+{
+    char name[4096];
+    snprintf(name, sizeof name, "%s/%" PRIu64, within, number);
+    FILE *file = fopen(name, "wb");
+    if (!file || fwrite(input, 1, size, file) != size || fclose(file) != 0)
+        exit(2);
+}
+
 int main(int count, char **words)
 {
     if (count < 4)
@@ -112,8 +124,14 @@ int main(int count, char **words)
     __sanitizer_set_death_callback(say_which);
     int out = dup(STDOUT_FILENO);
     LLVMFuzzerInitialize(&count, &words);
-    for (number = first; number < first + inputs; number++)
-        LLVMFuzzerTestOneInput(input, make_input(all));
+    const char *within = getenv("FUZZ_KEEP");
+    for (number = first; number < first + inputs; number++) {
+        size_t size = make_input(all);
+        if (within)
+            keep(within, size);
+        else
+            LLVMFuzzerTestOneInput(input, size);
+    }
     dprintf(out, "%" PRIu64 " passed, 0 failed\n", inputs);
     return 0;
 }

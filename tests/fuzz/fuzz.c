@@ -247,22 +247,34 @@ static int count_drop(void *context, const struct catalogue_file_drop *drop)
     return 0;
 }
 
-/* A reader's answer is the core's on the same words. */
-static void compare_find(catalogue_file *f, uint64_t collection, uint64_t key)
+/* A reader's answer is the core's on these words. */
+static void compare_find(catalogue_file *f, const uint64_t *words, size_t count, uint64_t collection, uint64_t key)
 {
-    const uint64_t *words;
-    size_t count;
     struct catalogue_file_pair found;
     uint64_t recording = 0, access = 0, next = 0, higher = 0;
     uint64_t number = catalogue_file_find(f, collection, key, &found);
-    if (catalogue_file_table(f, &words, &count) != 0)
-        return;
     uint64_t core = catalogue_search(words, count, collection, key, &recording, &access, &next, &higher);
     bool bad_slot = core == 0 && (access > CATALOGUE_CLOSED || recording == 0);
     bool same = bad_slot ? number == CATALOGUE_NOT_SOUND : number == core;
     if (!same || (number == 0 && (found.recording != recording || found.access != access))
         || (number == CATALOGUE_ABSENT && (found.higher != higher || (higher && found.next != next))))
         wrong("a find is not the core's search", "");
+}
+
+/* Of every code that was there, and of one more. */
+static void compare_finds(catalogue_file *f, uint64_t key)
+{
+    static uint64_t copy[WORDS];
+    const uint64_t *words;
+    size_t count;
+    if (catalogue_file_table(f, &words, &count) != 0 || count > WORDS)
+        return;
+    memcpy(copy, words, count * sizeof *copy);
+    for (uint64_t collection = 1; collection <= 2; collection++) {
+        compare_find(f, copy, count, collection, key);
+        for (uint64_t there = 10; there <= 380; there += 10)
+            compare_find(f, copy, count, collection, there);
+    }
 }
 
 static void read_by_calls(uint64_t key)
@@ -273,8 +285,7 @@ static void read_by_calls(uint64_t key)
     const uint64_t *orders;
     size_t count = 0;
     if (catalogue_file_open(f, table, CATALOGUE_FILE_READING, 0) == 0) {
-        compare_find(f, 1, key);
-        compare_find(f, 2, key);
+        compare_finds(f, key);
         (void)catalogue_file_walk(f, 1, key, UINT64_MAX, count_pair, &count);
         bool sound = catalogue_file_check(f, report) == 0;
         (void)catalogue_file_plan(f, &change, &orders);

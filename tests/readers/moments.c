@@ -144,7 +144,8 @@ int main(int words, char **word)
         uint64_t number = whole_table(&f);
         bool right = number == 0 ? was_there(f.working) : number == CATALOGUE_FILE_BUSY && made < count;
         if (!right) {
-            printf("trial %" PRIu64 ": %" PRIu64 ", and memory never held what the reader has, from step %zu to %zu of %zu\n", trial, number, begun, made, count);
+            printf("trial %" PRIu64 ": %" PRIu64 ", and memory never held what the reader has, from step %zu to %zu of %zu\n", trial, number, begun,
+                   made, count);
             return 1;
         }
         between += begun < made;
