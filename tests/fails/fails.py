@@ -413,7 +413,8 @@ class DiskCall(Call):
             tried += 1
             met = status == 0 and said["call"][0] != self.good["call"][0]
             why = self.wrong(status, said, err) if status != 3 else None
-            if not why and status == 0 and (said["sync"], said["close"]) == (["0"], ["0"]) and table_bytes(f"{self.place}/T") != table_bytes(f"{self.base}/disk-{self.name}"):
+            synced = status == 0 and ((said["sync"], said["close"]) == (["0"], ["0"]) or (self.name == "close" and said["call"][0] == "0"))
+            if not why and synced and table_bytes(f"{self.place}/T") != table_bytes(f"{self.base}/disk-{self.name}"):
                 why = "it was synced, and the disk has other words"
             if why:
                 wrong.append((f"diskcall:{self.name}", failing, why, said.get("call"), said.get("again"), said.get("find"), err[-200:]))
@@ -518,7 +519,7 @@ def main(path, words):
     jobs += [("call", name, None, base) for name in CALL_NAMES if not named or f"call:{name}" in named]
     all_commands = commands(program, base)
     jobs += [("disk", name, all_commands[name], base) for name in IN_PLACE if not named or f"disk:{name}" in named]
-    jobs += [("diskcall", name, None, base) for name in ("add", "remove", "class", "repair", "load_in_place", "fast_add") if not named or f"diskcall:{name}" in named]
+    jobs += [("diskcall", name, None, base) for name in ("add", "remove", "class", "repair", "load_in_place", "fast_add", "sync", "close") if not named or f"diskcall:{name}" in named]
     jobs += [("changed", name, words, base) for name, words in all_commands.items() if "T" in words[1] and (not named or f"changed:{name}" in named)]
     jobs += [("changedcall", name, None, base) for name in CALL_NAMES if name != "create" and (not named or f"changedcall:{name}" in named)]
     jobs = [(*job, f"{place}/{i}", every, path) for i, job in enumerate(jobs)]

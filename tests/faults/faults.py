@@ -10,8 +10,6 @@ An edit's first line says what is wrong; then come
     new:  what is put there
 and as many file:, old: and new: as it takes. Tests:
     program MODULE.FUNCTION ..   of tests/program, on the program
-    file                         the program of tests/file
-    film                         tests/film/compare.py
     placing                      tests/readers/placing.c, over file/looks.c
     moments                      tests/readers/moments.c, over file/moment.c
     fails NAME ..                tests/fails/fails.py
@@ -116,15 +114,6 @@ class Tree:
             subprocess.run(["gcc", *objects, self.file_library(), self.library, "-ldl", "-o", made], check=True)
         return made
 
-    def file_tests(self):
-        made, numbers = self.top / "file_tests", self.top / "numbers.inc"
-        with open(numbers, "w") as out:
-            subprocess.run([TOP / "tests/file/numbers.sh", TOP / "include/catalogue.h", TOP / "include/catalogue_file.h"], stdout=out, check=True)
-        wraps = [f"-Wl,--wrap={name}" for name in ("malloc", "calloc", "realloc", "mmap")]
-        subprocess.run(["gcc", *FLAGS, "-I", TOP / "include", "-I", self.top, "-I", TOP / "tests/file", *wraps, *sorted((TOP / "tests/file").glob("*.c")),
-                        self.file_library(), self.library, "-lpthread", "-o", made], check=True)
-        return made
-
     def fuzz(self):
         """As tests/fuzz/run builds it."""
         made, folder, watched = self.top / "fuzz", self.top / "watched", ["-g", "-fsanitize=address,undefined", "-fno-sanitize-recover=all"]
@@ -151,13 +140,6 @@ class Tree:
         kind, *words = test
         if kind == "program":
             return [sys.executable, TOP / "tests/program/one.py", self.program(), *words]
-        if kind == "file":
-            (self.top / "files").mkdir()
-            return [self.file_tests(), self.top / "files", "watched"]
-        if kind == "film":
-            (self.top / "films").mkdir()
-            return [sys.executable, TOP / "tests/film/compare.py", self.program(), self.first.top / "library.so" if self.first else self.top / "library.so",
-                    self.top / "films"]
         if kind in ("moments", "placing"):
             made, words = self.top / kind, ["1", "1000000"] if kind == "moments" else []
             names = ["moments.c"] if kind == "moments" else ["placing.c", "scenes.c", "writer.c"]
@@ -236,7 +218,6 @@ def main(library, words):
         libraries(work)
         (work / "first").mkdir()
         first = Tree(work / "first" / "tree", library)
-        subprocess.run(["gcc", "-shared", "-o", first.top / "library.so", "-Wl,--whole-archive", library, "-Wl,--no-whole-archive"], check=True)
         # Its objects are the other trees' too.
         first.program()
         # In the gate the tests of the program run by themselves.
