@@ -14,7 +14,7 @@ uint64_t begin_change(struct catalogue_file *f)
     f->outcome = CATALOGUE_FILE_NOT_MADE;
     uint64_t number = must_write(f);
     if (number == 0)
-        number = refresh(f);
+        number = whole_table(f);
     if (number == 0 && !f->fast)
         number = settle(f);
     return number;
@@ -179,7 +179,7 @@ uint64_t catalogue_file_plan(catalogue_file *f, struct catalogue_file_change *c,
 {
     uint64_t number = must_be_open(f);
     if (number == 0)
-        number = f->writing ? refresh(f) : whole_table(f);
+        number = whole_table(f);
     if (number == 0 && !f->orders)
         f->orders = malloc(2 * LIST_WORDS * sizeof *f->orders);
     if (number == 0 && !f->orders)

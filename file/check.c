@@ -7,7 +7,7 @@ uint64_t catalogue_file_check(catalogue_file *f, uint64_t *report)
 {
     uint64_t number = must_be_open(f);
     if (number == 0)
-        number = f->writing ? refresh(f) : whole_table(f);
+        number = whole_table(f);
     if (number == 0 && !stack_left())
         number = no_memory(f);
     if (number != 0)

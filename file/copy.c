@@ -35,7 +35,7 @@ uint64_t catalogue_file_copy(catalogue_file *f, const char *name, uint64_t *node
     struct held h = {0};
     uint64_t number = must_be_open(f);
     if (number == 0)
-        number = f->writing ? refresh(f) : whole_table(f);
+        number = whole_table(f);
     if (number == 0)
         number = stack_left() ? held_read(&h, f) : no_memory(f);
     if (number == 0)

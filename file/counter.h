@@ -6,7 +6,7 @@
 #include <stdint.h>
 
 /* The trailer, the line behind the table's words: what its words are. Those not named are 0. */
-enum { TRAILER_FORMAT, TRAILER_COUNTER, TRAILER_REPLACED, TRAILER_WORDS = 8 };
+enum { TRAILER_FORMAT, TRAILER_COUNTER, TRAILER_REPLACED, TRAILER_SUMS, TRAILER_WORDS = 8 };
 
 /*
  * Words that processes share: whole loads and stores of 8 bytes. Loads are made in their order, and so are stores, on every processor. A

@@ -1,19 +1,41 @@
 /* Finding a code, and walking from one on: each step is a search of its own, beside any writer. */
 #include "memory.h"
 #include "open.h"
+#include "sums.h"
+
+static uint64_t look(struct catalogue_file *f, uint64_t collection, uint64_t key, struct looks_answer *a)
+{
+    uint64_t number = follow_name(f);
+    if (number == 0)
+        number = sums_refuse(f);
+    if (number == 0)
+        number = looks_search(&f->looks, collection, key, a);
+    return number == LOOKS_DECAYED ? sums_doubt(f, f->looks.doubted, f->looks.valid) : number;
+}
+
+/* What the sums refuse is looked at once more with the table and the sums that are there now: another file may just have taken their place. */
+static uint64_t look_twice(struct catalogue_file *f, uint64_t collection, uint64_t key, struct looks_answer *a)
+{
+    uint64_t number = look(f, collection, key, a);
+    if (!sums_refused(number))
+        return number;
+    number = open_sums(f);
+    return number == 0 ? look(f, collection, key, a) : number;
+}
 
 /* A reader's search looks at memory, a writer's at its copy. */
 static uint64_t search(struct catalogue_file *f, uint64_t collection, uint64_t key, struct looks_answer *a)
 {
     if (f->writing) {
         uint64_t number = refresh(f);
+        if (number == 0)
+            number = sums_refuse(f);
         if (number != 0)
             return number;
         *a = (struct looks_answer){0};
         return catalogue_search(f->working, f->words, collection, key, &a->recording, &a->access, &a->next, &a->higher);
     }
-    uint64_t number = follow_name(f);
-    return number != 0 ? number : looks_search(&f->looks, collection, key, a);
+    return look_twice(f, collection, key, a);
 }
 
 /* Why there is no answer. */

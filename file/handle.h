@@ -8,6 +8,7 @@
 
 #include "carry.h"
 #include "catalogue_file.h"
+#include "crc.h"
 #include "looks.h"
 
 #define HEADER_WORDS 8
@@ -18,6 +19,23 @@
 #define MOST_NODES 65535
 
 #define MESSAGE_ROOM 1024
+
+/* The file of sums beside a table, as it is open. */
+struct sums {
+    uint64_t *mapped;  /* null: the table has none, or it cannot be used */
+    size_t words;      /* that are mapped */
+    uint64_t lines;    /* of the table */
+    uint64_t *room;    /* for two journals that are read, the later one first, and for one that is made */
+    const struct crc *crc;
+    bool persistent;   /* a flush is an instruction */
+    uint64_t identity; /* the trailer's word when it was opened */
+    uint64_t trouble;  /* the number with which finds and changes are refused; 0 for none */
+    uint64_t node;     /* the first that does not fit; 0 for the header */
+    uint64_t counter;  /* the table's, when a node was found that does not fit */
+    int why;           /* errno, if the file cannot be used */
+    unsigned slot;     /* of a writer: of the next journal, and its number */
+    uint64_t number;
+};
 
 struct catalogue_file {
     char *name;    /* as the caller gives it, for messages; null if nothing is open */
@@ -38,6 +56,7 @@ struct catalogue_file {
     uint64_t *orders;   /* room for a repair's list and a change's */
     struct looks looks; /* of a reader */
     bool looking;       /* looks was begun */
+    struct sums sums;   /* beside the table */
     struct stat left;   /* the file as this handle left it */
     struct timespec named; /* when a reader last looked at the name */
     struct carrying carrying;

@@ -11,6 +11,7 @@
 
 #define HEADER_WORDS 8
 #define NODE_WORDS 32
+#define LINE_WORDS 8
 #define SLOTS 12
 #define MOST_LEVEL 15
 #define PAGE_BYTES 4096
@@ -35,7 +36,7 @@ enum { LEFT, SIBLING, LEVEL, FENCE, KEYS = 8, POINTERS };
 bool looks_begin(struct looks *l, const uint64_t *shared, const uint64_t *counter, size_t count)
 {
     uint64_t nodes = count < HEADER_WORDS ? 0 : (count - HEADER_WORDS) / NODE_WORDS;
-    *l = (struct looks){.shared = shared, .counter = counter, .count = count, .nodes = nodes};
+    *l = (struct looks){.shared = shared, .counter = counter, .count = count, .nodes = nodes, .doubted = LOOKS_NO_DOUBT};
     l->size = PAGE_BYTES + count * sizeof *l->words;
     l->mapping = mmap(NULL, l->size, PROT_READ | PROT_WRITE, MAP_PRIVATE | MAP_ANONYMOUS | MAP_NORESERVE, -1, 0);
     if (l->mapping == MAP_FAILED) {
@@ -89,6 +90,26 @@ static bool same(const struct looks *l, size_t from, size_t count)
     return true;
 }
 
+/* Words of node n, or of the header, as they were loaded. The first that do not fit their sums are kept. */
+static void test(struct looks *l, uint64_t n, const uint64_t *words, size_t lines)
+{
+    size_t first = n == 0 ? 0 : start_of(n);
+    if (!l->fit || l->doubted != LOOKS_NO_DOUBT || l->fit(l->sums, words, first / LINE_WORDS, lines))
+        return;
+    l->doubted = n;
+    l->doubtful_lines = lines;
+    memcpy(l->doubtful, words, lines * LINE_WORDS * sizeof *words);
+}
+
+/* They are there still: they were the table's at one moment. */
+static bool doubtful_still(const struct looks *l)
+{
+    size_t first = l->doubted == 0 ? 0 : start_of(l->doubted), w = 0;
+    while (w < l->doubtful_lines * LINE_WORDS && shared_load(&l->shared[first + w]) == l->doubtful[w])
+        w++;
+    return w == l->doubtful_lines * LINE_WORDS;
+}
+
 /* No search passes node n before it is looked at: its words in the copy are zeros, which are a leaf, or those of a copy that was forgotten. */
 static void guard(struct looks *l, uint64_t n)
 {
@@ -127,6 +148,7 @@ static bool look(struct looks *l, uint64_t n)
         return false;
     if (l->state[n] != LOOKS_WHOLE) {
         load(l, start_of(n), NODE_WORDS);
+        test(l, n, copy_of(l, n), NODE_WORDS / LINE_WORDS);
         record(l, n, LOOKS_WHOLE);
         guard_named(l, n);
     }
@@ -140,7 +162,11 @@ static bool look_at_fence(struct looks *l, uint64_t n)
         return false;
     if (l->state[n] < LOOKS_FENCE) {
         uint64_t *words = copy_of(l, n);
-        load(l, start_of(n) + LEVEL, FENCE + 1 - LEVEL);
+        if (l->fit)
+            load(l, start_of(n), LINE_WORDS);
+        else
+            load(l, start_of(n) + LEVEL, FENCE + 1 - LEVEL);
+        test(l, n, words, 1);
         words[LEFT] = 0;
         words[SIBLING] = CATALOGUE_MARK;
         words[POINTERS] = 0;
@@ -169,8 +195,10 @@ static void begin_anew(struct looks *l)
 {
     forget(l);
     l->holds = false;
+    l->doubted = LOOKS_NO_DOUBT;
     load(l, 0, l->count < HEADER_WORDS ? l->count : HEADER_WORDS);
     if (l->count >= HEADER_WORDS) {
+        test(l, 0, l->words, 1);
         guard(l, l->words[1]);
         guard(l, l->words[3]);
     }
@@ -286,6 +314,11 @@ static bool answers(struct looks *l, uint64_t collection, uint64_t key, struct l
     uint64_t end = shared_load(l->counter);
     l->holds = start % 2 == 0 && end == start;
     l->valid = start;
+    if (l->doubted != LOOKS_NO_DOUBT) {
+        l->holds = false;
+        *number = LOOKS_DECAYED;
+        return end == start && doubtful_still(l) && shared_load(l->counter) == start;
+    }
     if (l->holds)
         return true;
     /* Copies of earlier searches are too many to compare. */

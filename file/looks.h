@@ -33,6 +33,12 @@ struct looks {
     bool forgot;      /* unguarded nodes may have words that were forgotten; else they are zeros */
     uint64_t valid;   /* the even counter that all copies hold for, if .. */
     bool holds;
+    /* Whether so many copied lines of the table, from the first on, fit their sums; null if they have none. */
+    bool (*fit)(const void *sums, const uint64_t *words, uint64_t first, size_t count);
+    const void *sums;
+    uint64_t doubted;      /* the first node of a round that did not fit, 0 for the header, or LOOKS_NO_DOUBT; .. */
+    uint64_t doubtful[32]; /* .. and its words, as far as they were looked at */
+    size_t doubtful_lines;
 };
 
 /* What a search gives besides its number; words that a case does not name are 0. */
@@ -42,6 +48,10 @@ struct looks_answer {
 
 /* What looks_search returns besides the numbers of catalogue_search: brackets ran all the time, two or more in each of very many rounds. */
 #define LOOKS_BUSY UINT64_C(256)
+
+/* And this: a node on the way, or the header, has words that do not fit their sums. Its number is in doubted. */
+#define LOOKS_DECAYED UINT64_C(257)
+#define LOOKS_NO_DOUBT UINT64_MAX
 
 /*
  * So many words of a table, and the counter that its writer raises. Any words are taken, and any count. False if memory is short; looks_end

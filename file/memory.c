@@ -10,6 +10,7 @@
 
 #include "mapping.h"
 #include "newfile.h"
+#include "sums.h"
 
 static uint64_t *trailer_of(const struct catalogue_file *f)
 {
@@ -80,6 +81,10 @@ uint64_t refresh(struct catalogue_file *f)
     if (number != 0)
         return number;
     number = read_copies(f);
+    if (number == 0 && f->sums.mapped && !f->fast)
+        number = settle(f);
+    if (number == 0)
+        number = sums_take(f);
     if (number == 0)
         f->left = ours;
     f->stale = number != 0;
@@ -111,7 +116,7 @@ static void store_again(struct catalogue_file *f)
 
 static bool sync_words(struct catalogue_file *f)
 {
-    if (flush_pages(f->mapped, bytes_of(f->words, true))) {
+    if (flush_pages(f->mapped, bytes_of(f->words, true)) && sums_sync(f)) {
         f->unsettled = false;
         return true;
     }
@@ -227,6 +232,10 @@ uint64_t begin_writing(struct catalogue_file *f)
         number = begin_trailer(f);
     if (number == 0)
         number = begin_on_disk(f);
+    if (number == 0)
+        number = sums_open(f);
+    if (number == 0)
+        number = sums_take(f);
     choose_flush(f);
     return number;
 }
@@ -285,6 +294,28 @@ uint64_t still_ours(struct catalogue_file *f, const uint64_t *orders, uint64_t c
     return number;
 }
 
+/* As many orders as one journal of the sums has room for; all, if the table has no sums. */
+static uint64_t carry_some(struct catalogue_file *f, const uint64_t *orders, uint64_t count, const struct counter *counter, uint64_t *carried,
+                           uint64_t *some)
+{
+    uint64_t number = sums_before(f, orders, count, counter->brackets, some);
+    if (number != 0) {
+        f->stale = true;
+        return number;
+    }
+    if (!carry_out(f->mapped, orders, *some, counter, &f->carrying, carried)) {
+        store_again(f);
+        f->unsettled = f->stale = true;
+        return fails_for(f, CATALOGUE_FILE_DISK, "%s: the change was cut off and did not reach the disk", f->name);
+    }
+    /* The lines' sums say that they have reached the disk; else they get them when the copies are read again. */
+    if (f->fast || orders[2 * (*some - 1)] == CATALOGUE_MARK)
+        sums_after(f);
+    else if (f->sums.mapped)
+        f->stale = true;
+    return 0;
+}
+
 uint64_t carry_list(struct catalogue_file *f, const uint64_t *orders, uint64_t count, enum brackets brackets, uint64_t *carried)
 {
     const struct counter counter = counter_start(&trailer_of(f)[TRAILER_COUNTER], brackets);
@@ -295,14 +326,11 @@ uint64_t carry_list(struct catalogue_file *f, const uint64_t *orders, uint64_t c
     /* A list that ends with a flush of its page, or of its line in persistent memory, leaves nothing on the way. */
     if (count > 0 && ((!f->persistent && !waits_for_disk(f)) || orders[2 * (count - 1)] != CATALOGUE_MARK))
         f->unsettled = true;
-    if (!carry_out(f->mapped, orders, count, &counter, &f->carrying, carried)) {
-        store_again(f);
-        f->unsettled = f->stale = true;
-        return fails_for(f, CATALOGUE_FILE_DISK, "%s: the change was cut off and did not reach the disk", f->name);
-    }
+    for (uint64_t at = 0, some; number == 0 && at < count; at += some)
+        number = carry_some(f, orders + 2 * at, count - at, &counter, carried, &some);
     /* Our own stores move the file's times. */
     fstat(f->file, &f->left);
-    return 0;
+    return number;
 }
 
 /* ---- a new file */
@@ -349,14 +377,26 @@ static bool put(struct catalogue_file *f, struct successor *s)
     return false;
 }
 
+/* Under the name that they keep; if that fails they are found under the other one. */
+static uint64_t take_new_sums(struct catalogue_file *f)
+{
+    sums_put(f);
+    uint64_t number = sums_open(f);
+    return number == 0 ? sums_take(f) : number;
+}
+
 uint64_t replace(struct catalogue_file *f, bool *done)
 {
-    struct successor s;
+    struct successor s = {.file = -1};
     uint64_t number = still_ours(f, NULL, 0);
     *done = false;
     if (number != 0)
         return number;
-    *done = successor_make(&s, f->path, f->file, f->working, f->words) && put(f, &s);
+    uint64_t sums = f->sums.mapped ? sums_identity() : 0;
+    bool ready = sums == 0 || sums_prepare(f, f->working, sums, 0);
+    *done = ready && successor_make(&s, f->path, f->file, f->working, f->words, sums) && put(f, &s);
     successor_free(&s);
-    return *done ? settle(f) : 0;
+    if (*done && sums != 0)
+        number = take_new_sums(f);
+    return *done && number == 0 ? settle(f) : number;
 }

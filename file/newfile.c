@@ -30,9 +30,9 @@ static bool write_bytes(int file, const void *from, size_t left)
 }
 
 /* A table's words and a trailer, on the disk. */
-static bool write_table(int file, const uint64_t *words, size_t count)
+static bool write_table(int file, const uint64_t *words, size_t count, uint64_t sums)
 {
-    const uint64_t trailer[TRAILER_WORDS] = {[TRAILER_FORMAT] = CATALOGUE_FILE_FORMAT};
+    const uint64_t trailer[TRAILER_WORDS] = {[TRAILER_FORMAT] = CATALOGUE_FILE_FORMAT, [TRAILER_SUMS] = sums};
     return write_bytes(file, words, count * sizeof *words) && write_bytes(file, trailer, sizeof trailer) && fsync(file) == 0;
 }
 
@@ -205,7 +205,7 @@ static uint64_t write_new(struct catalogue_file *f, const char *made, const char
     if (file < 0)
         return not_made(f, name);
     uint64_t number;
-    if (write_table(file, words, count)) {
+    if (write_table(file, words, count, 0)) {
         number = finish(f, file, made, name);
     } else {
         number = fails_for(f, CATALOGUE_FILE_DISK, "%s cannot be written", name);
@@ -229,6 +229,26 @@ uint64_t new_file(struct catalogue_file *f, const char *name, const uint64_t *wo
 }
 
 /* ---- in the place of a file */
+
+bool put_file(const char *name, int like, const uint64_t *words, size_t count)
+{
+    char *made = name_meanwhile(name);
+    if (!made)
+        return false;
+    remove_all_dead(name);
+    int file = open_meanwhile(made, 0600);
+    bool there = file >= 0;
+    bool done = there && same_rights(file, like) && write_bytes(file, words, count * sizeof *words) && fsync(file) == 0
+                && rename(made, name) == 0 && sync_folder(name, file);
+    int why = errno;
+    if (there && !done)
+        unlink(made);
+    if (there)
+        close(file);
+    free(made);
+    errno = why;
+    return done;
+}
 
 /* Has one of these marks, as far as the file system says. */
 static bool is_marked(const char *path, uint64_t marks)
@@ -259,7 +279,7 @@ bool replaceable(const char *name, const struct stat *old)
     return may;
 }
 
-bool successor_make(struct successor *s, const char *name, int old, const uint64_t *words, size_t count)
+bool successor_make(struct successor *s, const char *name, int old, const uint64_t *words, size_t count, uint64_t sums)
 {
     *s = (struct successor){.file = -1, .place = realpath(name, NULL)};
     char *made = s->place ? name_meanwhile(s->place) : NULL;
@@ -273,7 +293,7 @@ bool successor_make(struct successor *s, const char *name, int old, const uint64
         return false;
     }
     s->made = made;
-    return same_rights(s->file, old) && write_table(s->file, words, count);
+    return same_rights(s->file, old) && write_table(s->file, words, count, sums);
 }
 
 bool successor_put(struct successor *s)

@@ -26,12 +26,15 @@ struct successor {
 };
 
 /*
- * A file with these words and a trailer, with the old one's owner, rights and attributes, locked as a writer does, on the disk. False, with
- * errno, if there is none. successor_free in either case, which takes the file away unless it was put.
+ * A file with these words and a trailer, with the old one's owner, rights and attributes, locked as a writer does, on the disk. sums: the word
+ * that the trailer has of a file of sums. False, with errno, if there is none. successor_free in either case, which takes the file away unless it was put.
  */
-bool successor_make(struct successor *s, const char *name, int old, const uint64_t *words, size_t count);
+bool successor_make(struct successor *s, const char *name, int old, const uint64_t *words, size_t count, uint64_t sums);
 bool successor_put(struct successor *s);
 void successor_free(struct successor *s);
+
+/* A file of that name with these words, in the place of one that is there, with another file's owner, rights and attributes; it lasts. False, with errno. */
+bool put_file(const char *name, int like, const uint64_t *words, size_t count);
 
 /* Waits until the name of a file is on the disk. */
 bool sync_name(const char *name, int file);

@@ -12,6 +12,7 @@
 
 #include "mapping.h"
 #include "memory.h"
+#include "sums.h"
 
 /* Milliseconds between two tries to lock the file, and until the caller hears of the wait. */
 #define LOCK_PAUSE 20
@@ -131,6 +132,15 @@ static uint64_t map(struct catalogue_file *f)
 
 /* ---- a reader's */
 
+uint64_t open_sums(struct catalogue_file *f)
+{
+    uint64_t number = sums_open(f);
+    f->looks.fit = f->sums.mapped ? sums_fit : NULL;
+    f->looks.sums = &f->sums;
+    f->looks.holds = false;
+    return number;
+}
+
 static uint64_t open_to_look(struct catalogue_file *f)
 {
     uint64_t number = open_file(f);
@@ -145,6 +155,9 @@ static uint64_t open_to_look(struct catalogue_file *f)
         looks_end(&f->looks);
         return no_memory(f);
     }
+    number = open_sums(f);
+    if (number != 0)
+        return number;
     /* Any search finds out a header that is none. */
     struct looks_answer answer;
     return looks_search(&f->looks, 1, 0, &answer) == CATALOGUE_NO_TABLE ? wrong_header(f, f->looks.words) : 0;
@@ -155,6 +168,7 @@ static void release(struct catalogue_file *f)
 {
     if (f->looking)
         looks_end(&f->looks);
+    sums_close(f);
     unmap_words(f->mapped, f->words);
     free(f->expected);
     free(f->working);
@@ -185,10 +199,19 @@ static uint64_t open_anew(struct catalogue_file *f)
     f->trailer = made.trailer;
     f->persistent = made.persistent;
     f->mapped = made.mapped;
+    f->sums = made.sums;
     f->looks = made.looks;
+    f->looks.sums = &f->sums;
     f->looking = true;
     f->left = made.left;
     return 0;
+}
+
+/* They were switched on or off; or what there was could not be used, and may now. */
+static uint64_t follow_sums(struct catalogue_file *f)
+{
+    bool same = shared_load(&f->mapped[f->words + TRAILER_SUMS]) == f->sums.identity;
+    return same && f->sums.trouble == 0 ? 0 : open_sums(f);
 }
 
 uint64_t follow_name(struct catalogue_file *f)
@@ -196,7 +219,7 @@ uint64_t follow_name(struct catalogue_file *f)
     struct timespec now;
     bool due = milliseconds_since(&f->named, &now) >= NAME_PERIOD;
     if (!due && shared_load(&f->mapped[f->words + TRAILER_REPLACED]) == 0)
-        return 0;
+        return follow_sums(f);
     struct stat named;
     bool ours = stat(f->path, &named) == 0 && same_file(&f->left, &named);
     /* What is mapped behind a file's end may not be looked at. */
@@ -205,7 +228,7 @@ uint64_t follow_name(struct catalogue_file *f)
     uint64_t number = ours ? 0 : open_anew(f);
     if (number == 0)
         f->named = now;
-    return number;
+    return number == 0 ? follow_sums(f) : number;
 }
 
 /* ---- handles */

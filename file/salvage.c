@@ -68,7 +68,7 @@ uint64_t catalogue_file_salvage(catalogue_file *f, const char *name, int (*each)
 {
     uint64_t number = must_be_open(f);
     if (number == 0)
-        number = f->writing ? refresh(f) : whole_table(f);
+        number = whole_words(f);
     if (number != 0)
         return number;
     struct salvaged s = {.from = f->name, .words = f->working, .count = f->words};

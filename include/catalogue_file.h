@@ -18,8 +18,9 @@
  *
  * The file. A table of N nodes is 8 + 32 * N words of 8 bytes, as catalogue.h describes them, from the file's first byte on. Behind them lies
  * the trailer, one line of 8 words: CATALOGUE_FILE_FORMAT, the change counter, 1 while another file takes this one's place or has taken it,
- * and five zeros. Words are little-endian. A file without a trailer, as older programs made them, is a table too: the first handle that is
- * opened for writing adds it. The length distinguishes the two: 64 or 128 bytes above a multiple of 256. Nothing else is a table.
+ * a word that its file of sums has too or 0, and four zeros. Words are little-endian. A file without a trailer, as older programs made them, is a
+ * table too: the first handle that is opened for writing adds it. The length distinguishes the two: 64 or 128 bytes above a multiple of 256.
+ * Nothing else is a table.
  *
  * The lock. A handle opened for writing holds an exclusive flock on the file from its opening to its closing. A handle opened for reading
  * takes no lock, stores nothing, and never waits for a writer nor for the disk. So there is one writer and any number of readers, in threads,
@@ -64,6 +65,10 @@
  *                                     bring the old file back. catalogue_file_sync tries again
  *     CATALOGUE_FILE_NO_FLUSH         nothing was changed: in persistent memory take a flush instruction; a processor whose cache lines have
  *                                     less than 64 bytes can only read
+ *     CATALOGUE_FILE_DECAYED          nothing may play: catalogue_file_scrub names the nodes. Compare their codes with another list, or take a copy.
+ *                                     catalogue_file_sums with 0, then with 1, takes the table as it stands
+ *     CATALOGUE_FILE_UNSUMMED         a program that keeps no sums has changed the table: if that is right, catalogue_file_sums with 0, then with 1
+ *     CATALOGUE_FILE_BAD_SUMS         nothing may play before TABLE.sums is brought back, or catalogue_file_sums with 0 has taken it away
  */
 #ifndef CATALOGUE_FILE_H
 #define CATALOGUE_FILE_H
@@ -102,7 +107,11 @@ enum {
     CATALOGUE_FILE_THERE = 316,       /* load: the table has all that the line says */
     CATALOGUE_FILE_NOT_TAKEN = 317,   /* load: it ended before this line */
     CATALOGUE_FILE_CUT = 318,         /* only the first orders were carried out, as asked for */
-    CATALOGUE_FILE_NO_FLUSH = 319     /* persistent memory and the flush "none", or a processor with cache lines of less than 64 bytes */
+    CATALOGUE_FILE_NO_FLUSH = 319,    /* persistent memory and the flush "none", or a processor with cache lines of less than 64 bytes */
+    CATALOGUE_FILE_DECAYED = 320,     /* words do not fit their sum: a bit has decayed, or a program that keeps no sums has stored to them */
+    CATALOGUE_FILE_UNSUMMED = 321,    /* the same, and a program that keeps no sums has changed the table */
+    CATALOGUE_FILE_BAD_SUMS = 322,    /* a file of sums lies beside the table, but is damaged, cannot be read, or is another table's */
+    CATALOGUE_FILE_NO_SUMS = 323      /* scrub: the table has no file of sums */
 };
 
 /* A text for every number that a call here or in catalogue.h returns: no name, no full stop, never null. */
@@ -352,6 +361,27 @@ uint64_t catalogue_file_rescue(catalogue_file *f, const char *table, uint64_t no
 
 /* What a sound table has: the report of catalogue_check, CATALOGUE_CHECK_WORDS words. 0; 4 if it is not sound, 2, or one from 300 on. */
 uint64_t catalogue_file_check(catalogue_file *f, uint64_t *report);
+
+/* ---- a file of sums: words that decay are noticed */
+
+/*
+ * For a handle that writes. on 1: makes the file of sums TABLE.sums for a sound table, if there is none; if there is one, and words do not fit it, it is
+ * refused as a change is. on 0: takes it away, whatever it is: the table is then taken as it stands. Both last. From then on every change keeps the
+ * sums, and every find, walk and call on a whole table is refused if it meets words that do not fit, but for a salvage. 0, 4, or one from 300 on.
+ */
+uint64_t catalogue_file_sums(catalogue_file *f, uint64_t on);
+
+/* A line of the table that does not fit its sum. */
+struct catalogue_file_doubt {
+    uint64_t node, line; /* node 0 is the header; line 0 to 3 within the node: left, sibling, level and fence, or four slots each */
+    uint64_t sum, words; /* the sum that is kept, and that of the words that stand there */
+};
+
+/*
+ * Looks at every line of the table of one moment, and hands those that do not fit to the callback, if it is not null, which returns 0 to go on. 0 if all
+ * fit; 320 or 321 if not; 4 if all fit and the table is not sound; 322, 323 or another from 300 on.
+ */
+uint64_t catalogue_file_scrub(catalogue_file *f, int (*each)(void *context, const struct catalogue_file_doubt *doubt), void *context);
 
 /* ---- codes as people write them */
 
