@@ -9,6 +9,7 @@
 
 #include "changes.h"
 #include "class.h"
+#include "decay.h"
 #include "draw.h"
 #include "film.h"
 #include "lookup.h"
@@ -313,6 +314,17 @@ static int command_salvage(struct command_line *l)
     return status;
 }
 
+static int command_sums(struct command_line *l)
+{
+    bool known = strcmp(l->words[2], "on") == 0 || strcmp(l->words[2], "off") == 0;
+    return known ? with_file(l, true, switch_sums) : WRONG_FORM;
+}
+
+static int command_scrub(struct command_line *l)
+{
+    return with_file(l, false, scrub);
+}
+
 static int command_show(struct command_line *l)
 {
     return with_table(l, show_table);
@@ -428,6 +440,15 @@ const struct command commands[] = {
      "wear room.cat orders.txt", 3, 3, DRAWING | WAITING | STRUCTURED | WRITING, command_wear},
     {"check", "TABLE", "says whether the table is settled, sound with a leftover, or not sound, and how many\nnodes are free for more codes",
      "check room.cat", 2, 2, WAITING | STRUCTURED, command_check},
+    {"sums", "TABLE on | off",
+     "on: makes the file TABLE.sums, with a sum for each line of the table, which every change\n"
+     "keeps from then on; find, list and every change refuse words that do not fit. off: takes\n"
+     "it away; the table is then taken as it stands",
+     "sums room.cat on", 3, 3, WAITING, command_sums},
+    {"scrub", "TABLE",
+     "looks at every word of a table that has sums, and names the nodes that do not fit: a bit\n"
+     "has decayed there, or a program that keeps no sums has changed them",
+     "scrub room.cat", 2, 2, WAITING, command_scrub},
     {"stat", "TABLE",
      "prints what the table has: its bytes, its nodes and those that are free, and for each\n"
      "collection its codes, levels, nodes and fill: how many it has of the 11 codes for each\n"

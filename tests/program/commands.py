@@ -14,7 +14,7 @@ HUNDRED = os.path.join(SHELL, "hundred.csv")
 BEFORE = os.path.join(os.path.dirname(os.path.abspath(__file__)), "before_classes")
 
 
-COMMANDS = "make add remove class find list load repair copy salvage orders judge film wear check stat show key script help".split()
+COMMANDS = "make add remove class find list load repair copy salvage orders judge film wear check sums scrub stat show key script help".split()
 OPTIONS = "--loan --collection --recording --absent --json --header --schema --from --to --output --nodes --root --loan-root --again --keep-going --columns --each --wear --svg --list --drawings --data --words --cut --dock --force --wait --fast --flush --pause --help --version".split()
 
 
