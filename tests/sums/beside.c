@@ -115,7 +115,7 @@ static void threads(double seconds)
     for (int i = 0; i < 3; i++)
         pthread_join(readers[i], NULL);
     catalogue_file_free(f);
-    MUST(finds > 1000 && scrubs > 20 && changes > 200 && busy < finds / 100, "%lu finds, %lu scrubs, %lu changes, %lu busy", finds, scrubs, changes, busy);
+    MUST(finds > 1000 && scrubs > 5 && changes > 50 && busy < finds / 100, "%lu finds, %lu scrubs, %lu changes, %lu busy", finds, scrubs, changes, busy);
     passed("%lu finds and %lu scrubs beside %lu changes", finds, scrubs, changes);
 }
 
