@@ -8,6 +8,7 @@
 #include "mapping.h"
 #include "memory.h"
 #include "newfile.h"
+#include "summary.h"
 
 /* Lines of a batch, at most, and words of its order list. */
 #define BATCH_LINES 4096
@@ -251,6 +252,7 @@ static size_t carry_some(struct loading *l, size_t from)
     bool by_file = false;
     size_t pairs = gather(l, from);
     uint64_t broken = pairs > 0 ? repair_first(l) : 0;
+    summary_ends(f);
     if (pairs > 0 && broken == 0)
         number = catalogue_insert_many(f->working, f->words, l->load->collection, b->orders, BATCH_WORDS, f->dock, b->pairs, 2 * pairs,
                                        &taken, &stop, &stores, &flushes, &barriers);

@@ -8,6 +8,7 @@
 #include "mapping.h"
 #include "memory.h"
 #include "moment.h"
+#include "summary.h"
 
 uint64_t begin_change(struct catalogue_file *f)
 {
@@ -53,11 +54,29 @@ static uint64_t make_list(struct catalogue_file *f, const struct catalogue_file_
     }
 }
 
-/* One call's list behind the orders so far; its counts come to the sums. */
-static uint64_t plan_one(struct catalogue_file *f, struct catalogue_file_change *c, uint64_t kind)
+/* The same by the summary, which stays true. */
+static uint64_t make_quick_list(struct catalogue_file *f, const struct catalogue_file_change *c, uint64_t *orders, uint64_t *stores,
+                                uint64_t *flushes, uint64_t *barriers)
 {
-    uint64_t stores = 0, flushes = 0, barriers = 0;
-    uint64_t number = make_list(f, c, kind, f->orders + 2 * orders_of(c), &stores, &flushes, &barriers);
+    switch (c->kind) {
+    case CATALOGUE_FILE_ADD:
+        return catalogue_quick_insert(f->working, f->words, f->summary, f->summary_words, c->collection, orders, LIST_WORDS, f->dock, c->key,
+                                      c->recording, c->access, stores, flushes, barriers);
+    case CATALOGUE_FILE_REMOVE:
+        return catalogue_quick_delete(f->working, f->words, f->summary, f->summary_words, c->collection, orders, LIST_WORDS, f->dock, c->key,
+                                      stores, flushes, barriers);
+    default:
+        return catalogue_quick_set_class(f->working, f->words, f->summary, f->summary_words, c->collection, orders, LIST_WORDS, f->dock, c->key,
+                                         c->access, stores, flushes, barriers);
+    }
+}
+
+/* One call's list behind the orders so far; its counts come to the sums. */
+static uint64_t plan_one(struct catalogue_file *f, struct catalogue_file_change *c, uint64_t kind, bool quick)
+{
+    uint64_t stores = 0, flushes = 0, barriers = 0, *orders = f->orders + 2 * orders_of(c);
+    uint64_t number = quick ? summary_number(f, make_quick_list(f, c, orders, &stores, &flushes, &barriers))
+                            : make_list(f, c, kind, orders, &stores, &flushes, &barriers);
     c->stores += stores;
     c->flushes += flushes;
     c->barriers += barriers;
@@ -72,21 +91,43 @@ static bool lacks_collection(const struct catalogue_file *f, const struct catalo
            && catalogue_search(f->working, f->words, c->collection, 0, &recording, &access, &next, &higher) == CATALOGUE_NO_COLLECTION;
 }
 
+/* The repair, on the working copy, if it may have something to repair. */
+static uint64_t plan_repair(struct catalogue_file *f, struct catalogue_file_change *c)
+{
+    uint64_t number = f->repaired ? 0 : plan_one(f, c, CATALOGUE_FILE_REPAIR, false);
+    c->repair = orders_of(c);
+    return number;
+}
+
+/* The change, by the summary of the repaired copy if there is memory for one. */
+static uint64_t plan_quick(struct catalogue_file *f, struct catalogue_file_change *c)
+{
+    uint64_t number = summary_begin(f);
+    f->repaired = f->repaired || f->summarized;
+    if (number == 0)
+        number = plan_repair(f, c);
+    if (number == 0)
+        number = summary_begin(f);
+    return number == 0 ? plan_one(f, c, c->kind, f->summarized) : number;
+}
+
 /*
  * What was left to repair first, by a list of its own, then the change's. Readers go by it: within a change words do not come back, if it
- * begins with a settled table.
+ * begins with a settled table. A plan that is not carried out leaves the summary as it is: the copy comes back to it.
  */
-static uint64_t plan(struct catalogue_file *f, struct catalogue_file_change *c)
+static uint64_t plan(struct catalogue_file *f, struct catalogue_file_change *c, bool quick)
 {
     c->stores = c->flushes = c->barriers = c->repair = c->carried = 0;
     if (c->kind > CATALOGUE_FILE_REPAIR)
         return fails(f, CATALOGUE_FILE_BAD_OPTION, "there is no change %" PRIu64, c->kind);
     uint64_t number = lacks_collection(f, c) ? CATALOGUE_NO_COLLECTION : 0;
-    if (number == 0 && !f->repaired)
-        number = plan_one(f, c, CATALOGUE_FILE_REPAIR);
-    c->repair = orders_of(c);
-    if (number == 0 && c->kind != CATALOGUE_FILE_REPAIR)
-        number = plan_one(f, c, c->kind);
+    bool repair = c->kind == CATALOGUE_FILE_REPAIR;
+    if (number == 0 && quick && !repair)
+        number = plan_quick(f, c);
+    else if (number == 0)
+        number = plan_repair(f, c);
+    if (number == 0 && !quick && !repair)
+        number = plan_one(f, c, c->kind, false);
     return number == 0 ? 0 : refuses(f, number);
 }
 
@@ -158,11 +199,13 @@ static void unplan(struct catalogue_file *f)
 
 uint64_t make_change(struct catalogue_file *f, struct catalogue_file_change *c)
 {
-    uint64_t number = plan(f, c);
+    uint64_t number = plan(f, c, true);
     if (number == 0)
         return carry_planned(f, c);
-    if (c->repair > 0)
+    if (c->repair > 0) {
+        summary_ends(f);
         unplan(f);
+    }
     return number;
 }
 
@@ -186,7 +229,7 @@ uint64_t catalogue_file_plan(catalogue_file *f, struct catalogue_file_change *c,
         number = no_memory(f);
     if (number != 0)
         return number;
-    number = plan(f, c);
+    number = plan(f, c, false);
     *orders = f->orders;
     if (f->writing)
         unplan(f);

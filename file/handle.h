@@ -53,6 +53,9 @@ struct catalogue_file {
     uint64_t *mapped;   /* the file's words and the trailer: persistent memory, if the file system gives it */
     uint64_t *expected; /* of a writer: what the mapped words should hold, to notice another program's stores */
     uint64_t *working;  /* of a writer: the copy that the core's calls change; of a reader: the table of one moment */
+    uint64_t *summary;  /* of a writer: the working copy's; null if memory was short for it */
+    size_t summary_words;
+    bool summarized;    /* the summary is true of the working copy, which has no leftover then */
     uint64_t *orders;   /* room for a repair's list and a change's */
     struct looks looks; /* of a reader */
     bool looking;       /* looks was begun */

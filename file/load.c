@@ -6,6 +6,7 @@
 #include "newfile.h"
 #include "packing.h"
 #include "stack.h"
+#include "summary.h"
 
 /* ---- the lines */
 
@@ -66,7 +67,7 @@ static uint64_t begin(struct loading *l)
         return fails(f, CATALOGUE_FILE_BAD_OPTION, "a load has no such flags, or no source");
     if (!stack_left())
         return no_memory(f);
-    l->refusal = catalogue_list(f->working, f->words, l->load->collection, 0, UINT64_MAX, none, 0, &pairs, &more);
+    l->refusal = summary_list(f, l->load->collection, 0, UINT64_MAX, none, 0, &pairs, &more);
     if (l->refusal == CATALOGUE_NO_COLLECTION)
         return refuses(f, l->refusal);
     struct stat ours;

@@ -10,7 +10,7 @@
 
 #include "mapping.h"
 #include "newfile.h"
-#include "sums.h"
+#include "summary.h"
 
 static uint64_t *trailer_of(const struct catalogue_file *f)
 {
@@ -58,6 +58,7 @@ static uint64_t read_copies(struct catalogue_file *f)
         return not_read(f);
     memcpy(f->working, f->expected, bytes_of(f->words, false));
     f->repaired = false;
+    summary_ends(f);
     return 0;
 }
 
@@ -222,6 +223,7 @@ uint64_t begin_writing(struct catalogue_file *f)
     f->orders = malloc(2 * LIST_WORDS * sizeof *f->orders);
     if (!f->expected || !f->working || !f->orders)
         return no_memory(f);
+    summary_room(f);
     number = read_copies(f);
     /* Carry-out of no orders tests the header alone. */
     if (number == 0 && catalogue_carry_out(f->working, f->words, &none, 1, 0) != 0)

@@ -172,12 +172,14 @@ static void release(struct catalogue_file *f)
     unmap_words(f->mapped, f->words);
     free(f->expected);
     free(f->working);
+    free(f->summary);
     free(f->orders);
     if (f->file >= 0)
         close(f->file);
     f->file = -1;
     f->looking = false;
-    f->mapped = f->expected = f->working = f->orders = NULL;
+    f->summarized = false;
+    f->mapped = f->expected = f->working = f->summary = f->orders = NULL;
 }
 
 /* The file that has the name now, in the old one's place; if it cannot be opened the old one stays, and the next call tries again. */

@@ -8,6 +8,7 @@
 #include "memory.h"
 #include "pairs.h"
 #include "stack.h"
+#include "summary.h"
 #include "taken.h"
 
 /* Lines that come into an empty collection by a new file, in the end. */
@@ -152,6 +153,7 @@ static uint64_t pack(struct loading *l, const uint64_t *sorted)
     count[l->load->collection - 1] = p->taken.count;
     if (p->held.collections > 1)
         pairs[2 - l->load->collection] = p->held.words;
+    summary_ends(f);
     uint64_t number = catalogue_pack(f->working, f->words, p->held.collections, pairs[0], 2 * count[0], pairs[1], 2 * count[1]);
     return number == 0 ? 0 : refuses(f, number);
 }

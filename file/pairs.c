@@ -3,6 +3,8 @@
 
 #include <stdlib.h>
 
+#include "summary.h"
+
 /* A node of a sound table has at most so many pairs. */
 #define MOST_PAIRS 11
 #define MOST_CHILDREN 12
@@ -15,7 +17,7 @@ uint64_t held_read(struct held *h, struct catalogue_file *f)
     if (!h->words)
         return no_memory(f);
     for (uint64_t i = 0; i < h->collections; i++) {
-        uint64_t more, number = catalogue_list(f->working, f->words, i + 1, 0, UINT64_MAX, h->words + used, room - used, &h->count[i], &more);
+        uint64_t more, number = summary_list(f, i + 1, 0, UINT64_MAX, h->words + used, room - used, &h->count[i], &more);
         if (number != 0)
             return refuses(f, number);
         used += 2 * h->count[i];

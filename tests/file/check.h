@@ -34,7 +34,7 @@ struct test {
 };
 
 /* The tests of each file; the last one has no name. */
-extern const struct test codes_tests[], files_tests[], reading_tests[], change_tests[], load_tests[], disk_tests[], hard_tests[];
+extern const struct test codes_tests[], files_tests[], reading_tests[], change_tests[], quick_tests[], load_tests[], disk_tests[], hard_tests[];
 
 /* So many rounds of a test, or a tenth of them if it runs under a program that watches it and takes its time. */
 uint64_t rounds(uint64_t all);
@@ -49,6 +49,10 @@ uint64_t get_word(const char *name, size_t word);
 
 /* A new table with keys 10, 20, .. 10 * count, recordings 1000 + key, all open; true if it was made. */
 bool table_with(const char *name, uint64_t nodes, uint64_t count);
+
+/* The allocation of that number from now on fails. Then whether it came; no further one fails. */
+void fail_allocation(uint64_t number);
+bool allocation_failed(void);
 
 /* ---- the disk: what the calls mmap, msync, fsync, rename and renameat2 of the library do */
 

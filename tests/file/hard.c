@@ -355,6 +355,19 @@ void *__wrap_realloc(void *from, size_t bytes)
     return short_now() ? NULL : __real_realloc(from, bytes);
 }
 
+void fail_allocation(uint64_t number)
+{
+    allocations = 0;
+    failing = number;
+}
+
+bool allocation_failed(void)
+{
+    bool met = allocations >= failing;
+    failing = 0;
+    return met;
+}
+
 /* Calls that ask for memory, one after the other; the first number that is not 0. */
 static uint64_t some_calls(catalogue_file *f, bool *loaded)
 {
@@ -394,11 +407,9 @@ static bool short_memory(void)
         unlink(at("short copy"));
         unlink(at("short saved"));
         catalogue_file *f = catalogue_file_new();
-        allocations = 0;
-        failing = at_call;
+        fail_allocation(at_call);
         uint64_t number = some_calls(f, &loaded);
-        met = allocations >= failing;
-        failing = 0;
+        met = allocation_failed();
         /* Lines that cannot be packed for that come by batches. */
         CHECK(number == 0 || (met && number == CATALOGUE_FILE_NO_MEMORY));
         refused += number != 0;

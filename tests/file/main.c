@@ -151,6 +151,7 @@ int main(int count, char **words)
     run(files_tests);
     run(reading_tests);
     run(change_tests);
+    run(quick_tests);
     run(load_tests);
     run(disk_tests);
     run(hard_tests);
