@@ -243,31 +243,53 @@ static void failed(struct loading *l, size_t from, uint64_t taken, uint64_t numb
     hand_back(l, from, 0);
 }
 
+/* What the core says of a list. */
+struct listed {
+    uint64_t taken, stop, stores, flushes, barriers;
+};
+
+/*
+ * The core's call: by the summary, which stays true, if it is true of the copy. It is worked out for a full batch, since others may follow; for
+ * one alone that takes longer than the call's own check.
+ */
+static uint64_t insert_many(struct loading *l, size_t pairs, struct listed *n)
+{
+    struct batch *b = l->batch;
+    struct catalogue_file *f = l->f;
+    uint64_t number = batch_due(l) ? summary_begin(f) : 0;
+    if (number != 0)
+        return number;
+    if (!f->summarized)
+        return catalogue_insert_many(f->working, f->words, l->load->collection, b->orders, BATCH_WORDS, f->dock, b->pairs, 2 * pairs, &n->taken,
+                                     &n->stop, &n->stores, &n->flushes, &n->barriers);
+    number = catalogue_quick_insert_many(f->working, f->words, f->summary, f->summary_words, l->load->collection, b->orders, BATCH_WORDS, f->dock,
+                                         b->pairs, 2 * pairs, &n->taken, &n->stop, &n->stores, &n->flushes, &n->barriers);
+    return summary_number(f, number == 0 ? n->stop : number);
+}
+
 /* One order list, from a line on; the line to go on with. */
 static size_t carry_some(struct loading *l, size_t from)
 {
     struct batch *b = l->batch;
-    struct catalogue_file *f = l->f;
-    uint64_t number = 0, taken = 0, stop = 0, stores = 0, flushes = 0, barriers = 0, carried = 0;
+    uint64_t number = 0, carried = 0;
+    struct listed n = {0};
     bool by_file = false;
     size_t pairs = gather(l, from);
     uint64_t broken = pairs > 0 ? repair_first(l) : 0;
-    summary_ends(f);
     if (pairs > 0 && broken == 0)
-        number = catalogue_insert_many(f->working, f->words, l->load->collection, b->orders, BATCH_WORDS, f->dock, b->pairs, 2 * pairs,
-                                       &taken, &stop, &stores, &flushes, &barriers);
+        number = insert_many(l, pairs, &n);
     if (number == 0)
-        number = stop;
-    if (taken > 0)
-        broken = carry_orders(l, stores + flushes + barriers, flushes, &by_file, &carried);
+        number = n.stop;
+    if (n.taken > 0)
+        broken = carry_orders(l, n.stores + n.flushes + n.barriers, n.flushes, &by_file, &carried);
     if (broken != 0) {
         /* Before the first order none was on its way. */
-        failed(l, from, by_file || carried > 0 ? taken : 0, broken, by_file);
+        failed(l, from, by_file || carried > 0 ? n.taken : 0, broken, by_file);
         return b->count;
     }
-    from = hand_back(l, from, taken);
+    from = hand_back(l, from, n.taken);
     /* A list that is full: the next one goes on. */
-    if (from < b->count && number != 0 && !(number == CATALOGUE_SHORT_LIST && taken > 0))
+    if (from < b->count && number != 0 && !(number == CATALOGUE_SHORT_LIST && n.taken > 0))
         refused(l, &b->lines[from++], number);
     return from;
 }

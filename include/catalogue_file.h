@@ -50,8 +50,8 @@
  *
  * Summaries. A handle opened for writing keeps the table's summary, as catalogue.h describes it, beside its copies. The first change checks the
  * whole table and works the summary out; from then on a change looks at the nodes on the way to its key alone, and stores what it would store
- * without a summary. After a load, and if something went wrong, the next change checks the whole table again. If there is no memory for a
- * summary, half as much as the table takes, every change checks the whole table.
+ * without a summary. So do the lines of a load, once there are many. After some lines alone, and if something went wrong, the next change checks
+ * the whole table again. If there is no memory for a summary, half as much as the table takes, every change checks the whole table.
  *
  * Numbers. Calls return 0, a number of catalogue.h, or one from 300 on. The handle keeps a message about the last call that failed, with the
  * file's name and the system's reason, and catalogue_file_strerror has a text for every number. After a failed change

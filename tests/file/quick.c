@@ -51,6 +51,14 @@ static bool same_words(const char *name, const uint64_t *words)
     return same;
 }
 
+static bool write_all(const char *name, const uint64_t *words)
+{
+    int file = open(name, O_WRONLY);
+    bool done = pwrite(file, words, 8 * WORDS, 0) == 8 * WORDS;
+    close(file);
+    return done;
+}
+
 /* From here on plain calls start from what the file has. */
 static void take_words(const char *name)
 {
@@ -162,12 +170,18 @@ static bool between_loads(void)
 {
     uint64_t seed = 8, nodes = 0, pairs[2 * 20];
     catalogue_file *f = catalogue_file_new(), *r = catalogue_file_new();
+    GIVES(0, catalogue_file_create(r, at("twin"), NODES, 2));
     CHECK(begin(f, at("loads"), 200));
     for (uint64_t round = 0; round < rounds(60); round++) {
         for (uint64_t i = 0; i < 20; i++)
             pairs[2 * i] = 1000 + pick(&seed, 100), pairs[2 * i + 1] = 1000 + pick(&seed, 200);
-        catalogue_file_load_pairs(f, 1 + round % 2, CATALOGUE_FILE_KEEP_GOING | (round % 3 == 0 ? CATALOGUE_FILE_IN_PLACE : 0), pairs, 20, NULL);
-        take_words(at("loads"));
+        /* A handle that has just opened the same table has no summary. */
+        uint64_t flags = CATALOGUE_FILE_KEEP_GOING | (round % 3 == 0 ? CATALOGUE_FILE_IN_PLACE : 0), numbers[20], others[20];
+        CHECK(write_all(at("twin"), plain) && open_writing(r, at("twin")));
+        uint64_t number = catalogue_file_load_pairs(r, 1 + round % 2, flags, pairs, 20, others);
+        take_words(at("twin"));
+        GIVES(number, catalogue_file_load_pairs(f, 1 + round % 2, flags, pairs, 20, numbers));
+        CHECK(memcmp(numbers, others, sizeof numbers) == 0 && same_words(at("loads"), plain));
         for (uint64_t i = 0; i < 10; i++)
             CHECK(as_plain(f, at("loads"), some_change(&seed, 700)));
         struct catalogue_file_change plan = some_change(&seed, round), same = plan;
@@ -211,14 +225,6 @@ static bool packed_load(void)
 }
 
 /* ---- what others do */
-
-static bool write_all(const char *name, const uint64_t *words)
-{
-    int file = open(name, O_WRONLY);
-    bool done = pwrite(file, words, 8 * WORDS, 0) == 8 * WORDS;
-    close(file);
-    return done;
-}
 
 /* A program without the lock changes the file between two changes: the first one after that says so, the next goes on from what is there. */
 static bool other_writer(void)
