@@ -13,9 +13,11 @@
  * - A round whose whole copy has been the table is not compared: it ends the find or another one begins, at any moment.
  * - The readers are alike: the second begins its first find after the first has begun one.
  *
- * A processor that does not keep stores in order, for the faults of that kind: a store waits until it is delivered, and one that is not a release
- * may pass those before it, but for a store to the same word. All stores of the protocol are releases, and all loads acquires: those are made in
- * order, and a store that is delivered later is a slower writer's. So without such a fault each is delivered at once.
+ * A processor that does not keep stores in order: a store waits until it is delivered, and one that is not a release may pass those before it,
+ * but for a store to the same word. All stores of the protocol are releases, and all loads acquires: those are made in order, and a store that is
+ * delivered later is a slower writer's. So unless stores may pass, each is delivered at once. They may for the faults of that kind, and with
+ * STORES_PASS: then a bracket's stores to words pass each other, its first store to the counter is followed by a barrier, and its last one is a
+ * release. That is less than the protocol keeps, and readers need no more.
  *
  * Each fault below is planted by its name.
  */
@@ -43,10 +45,10 @@
 
 /* ---- the faults */
 
-#if defined(FENCE_MISSING_AT_BEGIN) || defined(FENCE_MISSING_AT_END)
+#if defined(FENCE_MISSING_AT_BEGIN) || defined(FENCE_MISSING_AT_END) || defined(STORES_PASS)
 #define WEAK
 #endif
-#ifdef FENCE_MISSING_AT_BEGIN
+#if defined(FENCE_MISSING_AT_BEGIN) || defined(STORES_PASS)
 #define WORD_RELEASE 0
 #else
 #define WORD_RELEASE 1
@@ -220,6 +222,9 @@ end:
            :: else
            fi
        };
+#ifdef STORES_PASS
+       atomic { waiting == 0 };
+#endif
        do
        :: atomic { stores < STORES && !first_done -> stores++; put(FIRST, 1 - MINE(FIRST), WORD_RELEASE); first_done = 1 }
        :: atomic { stores < STORES && !node_done -> stores++; put(NODE + MINE(LINK), 1 - MINE(NODE + MINE(LINK)), WORD_RELEASE); node_done = 1 }
