@@ -5,61 +5,19 @@ const assert = require("assert");
 const fs = require("fs");
 const path = require("path");
 const { Browser } = require("./browser.js");
+const { MISTAKES, Drawings, chooseTask, tapOrder } = require("./drawing.js");
 const look = require("./look.js");
 
 const [browser, folder, pictures, drawings] = process.argv.slice(2);
 const SIZES = { tablet: [1024, 768], upright: [768, 1024], projector: [1280, 800] };
-const MISTAKES = { "key-before-pointer": "shift order", "one-movement": "one movement", "flush-at-the-end": "flush at the end", "linked-before-flush": "linked before flushed",
-  "sibling-by-first-key": "first key", "hidden-by-equal-keys": "equal keys", "search-tidies": "a search that tidies" };
+const drawn = new Drawings(drawings);
 let passed = 0;
 function done(what) { passed++; console.log(what); }
-
-function drawing(name) {
-  const text = fs.readFileSync(path.join(drawings, name + ".txt"), "utf8"), lines = text.split("\n").filter((l) => l && l[0] !== "#").map((l) => l.split(/\s+/));
-  return { orders: lines, change: /# catalogue judge \w+\.cat \S+ ([+-] \w+)/.exec(text)[1], no: /# no: after (\d+) of/.exec(text) };
-}
 
 /* A picture to be looked at. */
 async function keep(b, name) {
   b.pictures = folder;
   await b.picture(name);
-}
-
-async function chooseTask(b, change) {
-  const index = await b.run(`window.board.tasks.findIndex(function (t) { return t.change.sign + " " + t.change.code === ${JSON.stringify(change)}; })`);
-  assert(index >= 0, "no task " + change);
-  /* A select is opened by the system: its choice is made as a finger makes it there. */
-  await b.run(`(function () { var s = document.getElementById("task"); s.value = "${index}"; s.dispatchEvent(new Event("change")); })()`);
-  await b.until('window.board.orders().length === 0 && window.film.state.order === 0 && document.querySelectorAll("#working-stage .word").length > 0');
-}
-
-async function tapOrder(b, order, count) {
-  if (order[0] === "flush") await b.tap('#working-stage [data-flush="' + order[1] + '"]');
-  else {
-    if (!(await b.run(`Boolean(document.querySelector('#working-stage [data-word="${order[1]}"]'))`))) {
-      const node = Math.floor((order[1] - 8) / 32) + 1;
-      await b.tap('[data-use="' + node + '"]');
-      await b.until(`Boolean(document.querySelector('#working-stage [data-word="${order[1]}"]'))`);
-    }
-    await b.tap('#working-stage [data-word="' + order[1] + '"]');
-    await b.until('!document.getElementById("chooser").hidden');
-    await b.tap('#chooser-values [data-value="' + order[2] + '"]');
-  }
-  await b.until("window.board.orders().length === " + count + " && window.film.state.order === " + count);
-}
-
-async function draw(b, name) {
-  const d = drawing(name);
-  await chooseTask(b, d.change);
-  for (let i = 0; i < d.orders.length; i++) await tapOrder(b, d.orders[i], i + 1);
-  const drawn = await b.run("window.board.orders().map(function (o) { return o.join(' '); })");
-  assert.deepStrictEqual(drawn, d.orders.map((o) => o.slice(0, o[0] === "store" ? 3 : 2).join(" ")), name);
-  await b.tap("#judge");
-  const said = await b.run('(function () { var p = document.querySelector("#verdict [data-judge]"); return p && { judge: p.dataset.judge, count: p.dataset.count, mistake: p.dataset.mistake }; })()');
-  assert(said, "no verdict of " + name);
-  assert.strictEqual(said.judge, d.no ? "no" : "yes", name);
-  if (d.no) assert.deepStrictEqual([said.count, said.mistake], [d.no[1], MISTAKES[name]], name);
-  return { count: d.orders.length, said, took: Number(await b.run('document.getElementById("verdict").dataset.took')) };
 }
 
 async function rightLists(b) {
@@ -72,7 +30,7 @@ async function rightLists(b) {
     await b.tap("#judge");
     assert.strictEqual(await b.run('document.querySelector("#verdict [data-judge]").dataset.judge'), "yes", size);
     await keep(b, "board-leaf-" + size + ".png");
-    const split = await draw(b, "right");
+    const split = await drawn.draw(b, "right");
     assert.deepStrictEqual(await b.run(look.LAYOUT), [], size);
     await keep(b, "board-split-" + size + ".png");
     done(`${size}, ${width} x ${height}: an insertion of ${own.length} orders and a split of ${split.count}, by taps, are right`);
@@ -90,7 +48,7 @@ async function forReadme(b) {
 async function mistakes(b) {
   await b.screen(...SIZES.tablet, true);
   for (const name of Object.keys(MISTAKES)) {
-    const { count, said, took } = await draw(b, name);
+    const { count, said, took } = await drawn.draw(b, name);
     await b.tap('[data-board="compare"]');
     await b.until('document.querySelectorAll("#lists .list").length === 2');
     const odd = await b.run('document.querySelectorAll("#lists .odd").length'), right = await b.run("window.film.data.scenes[window.film.data.scenes.length - 1].judge");
@@ -153,7 +111,7 @@ async function ownTable(b) {
 async function times(b) {
   const took = {};
   for (const name of ["key-before-pointer", "right", "flush-at-the-end"]) {
-    const text = fs.readFileSync(path.join(drawings, name + ".txt"), "utf8"), change = drawing(name).change;
+    const text = fs.readFileSync(path.join(drawings, name + ".txt"), "utf8"), change = drawn.drawing(name).change;
     took[name] = await b.run(`(async function () {
       var t = window.board.tasks.find(function (t) { return t.change.sign + " " + t.change.code === ${JSON.stringify(change)}; }), best = {};
       for (var what of ["judge", "board", "compare"]) {
