@@ -123,6 +123,11 @@ impl Orders {
         Orders { words: vec![0; LIST_WORDS], stores: 0, flushes: 0, barriers: 0 }
     }
 
+    /// Room for so many words, for a batch.
+    pub fn with_room(words: usize) -> Orders {
+        Orders { words: vec![0; words], stores: 0, flushes: 0, barriers: 0 }
+    }
+
     pub fn too_short() -> Orders {
         Orders { words: vec![0; LIST_WORDS - 1], stores: 0, flushes: 0, barriers: 0 }
     }
@@ -134,6 +139,11 @@ impl Orders {
     /// The indices of the words that the stores are to; a flush begins with MARK.
     pub fn stored(&self) -> impl Iterator<Item = usize> + '_ {
         self.words.chunks_exact(2).take(self.count() as usize).filter(|order| order[0] != u64::MAX).map(|order| order[0] as usize)
+    }
+
+    /// The line numbers of the flushes, in order.
+    pub fn flushed(&self) -> impl Iterator<Item = u64> + '_ {
+        self.words.chunks_exact(2).take(self.count() as usize).filter(|order| order[0] == u64::MAX).map(|order| order[1])
     }
 
     /// Only the orders, so that many lists lie close together. Not for another call.
@@ -205,6 +215,69 @@ pub fn list(table: &[u64]) -> Vec<(u64, u64)> {
     let number = unsafe { catalogue_list(table.as_ptr(), table.len(), COLLECTION, 0, u64::MAX, words.as_mut_ptr(), words.len(), &mut pairs, &mut more) };
     assert!(number == 0 && more == 0, "a listing answers {number}, {more} for more");
     words.chunks(2).take(pairs as usize).map(|pair| (pair[0], pair[1])).collect()
+}
+
+/// Pairs from a key on, as key and pointer in turn, as many as out has room for; their number.
+pub fn range(table: &[u64], low: u64, out: &mut [u64]) -> usize {
+    let (mut pairs, mut more) = (0, 0);
+    let number = unsafe { catalogue_list(table.as_ptr(), table.len(), COLLECTION, low, u64::MAX, out.as_mut_ptr(), out.len(), &mut pairs, &mut more) };
+    assert_eq!(number, 0, "a range was refused");
+    pairs as usize
+}
+
+/// Many insertions, all of which must be taken; pairs are key and pointer in turn.
+pub fn insert_many(table: &mut [u64], orders: &mut Orders, pairs: &[u64]) {
+    let (mut taken, mut stop) = (0, 0);
+    let list = orders.words.as_mut_ptr();
+    let number = unsafe { catalogue_insert_many(table.as_mut_ptr(), table.len(), COLLECTION, list, orders.words.len(), DOCK, pairs.as_ptr(), pairs.len(), &mut taken, &mut stop, &mut orders.stores, &mut orders.flushes, &mut orders.barriers) };
+    assert_eq!((number, stop, taken as usize), (0, 0, pairs.len() / 2), "a batch was refused");
+}
+
+pub fn check(table: &[u64]) {
+    let mut report = [0; 16];
+    assert_eq!(unsafe { catalogue_check(table.as_ptr(), table.len(), report.as_mut_ptr()) }, 0, "the table is not sound");
+}
+
+// ---- with a summary
+
+/// Room for the summary of a table.
+pub fn summary_room(table: &[u64]) -> Words {
+    Words::zeroed(unsafe { catalogue_summary_words(table[2]) } as usize)
+}
+
+pub fn summarize(table: &[u64], summary: &mut [u64]) {
+    let number = unsafe { catalogue_summary(table.as_ptr(), table.len(), summary.as_mut_ptr(), summary.len()) };
+    assert_eq!(number, 0, "a summary was refused");
+}
+
+/// With class 0.
+pub fn quick_insert(table: &mut [u64], summary: &mut [u64], orders: &mut Orders, key: u64, recording: u64) -> u64 {
+    let list = orders.words.as_mut_ptr();
+    unsafe { catalogue_quick_insert(table.as_mut_ptr(), table.len(), summary.as_mut_ptr(), summary.len(), COLLECTION, list, orders.words.len(), DOCK, key, recording, 0, &mut orders.stores, &mut orders.flushes, &mut orders.barriers) }
+}
+
+pub fn quick_set_class(table: &mut [u64], summary: &[u64], orders: &mut Orders, key: u64, access: u64) -> u64 {
+    let list = orders.words.as_mut_ptr();
+    unsafe { catalogue_quick_set_class(table.as_mut_ptr(), table.len(), summary.as_ptr(), summary.len(), COLLECTION, list, orders.words.len(), DOCK, key, access, &mut orders.stores, &mut orders.flushes, &mut orders.barriers) }
+}
+
+pub fn quick_delete(table: &mut [u64], summary: &mut [u64], orders: &mut Orders, key: u64) -> u64 {
+    let list = orders.words.as_mut_ptr();
+    unsafe { catalogue_quick_delete(table.as_mut_ptr(), table.len(), summary.as_mut_ptr(), summary.len(), COLLECTION, list, orders.words.len(), DOCK, key, &mut orders.stores, &mut orders.flushes, &mut orders.barriers) }
+}
+
+pub fn quick_range(table: &[u64], summary: &[u64], low: u64, out: &mut [u64]) -> usize {
+    let (mut pairs, mut more) = (0, 0);
+    let number = unsafe { catalogue_quick_list(table.as_ptr(), table.len(), summary.as_ptr(), summary.len(), COLLECTION, low, u64::MAX, out.as_mut_ptr(), out.len(), &mut pairs, &mut more) };
+    assert_eq!(number, 0, "a range was refused");
+    pairs as usize
+}
+
+pub fn quick_insert_many(table: &mut [u64], summary: &mut [u64], orders: &mut Orders, pairs: &[u64]) {
+    let (mut taken, mut stop) = (0, 0);
+    let list = orders.words.as_mut_ptr();
+    let number = unsafe { catalogue_quick_insert_many(table.as_mut_ptr(), table.len(), summary.as_mut_ptr(), summary.len(), COLLECTION, list, orders.words.len(), DOCK, pairs.as_ptr(), pairs.len(), &mut taken, &mut stop, &mut orders.stores, &mut orders.flushes, &mut orders.barriers) };
+    assert_eq!((number, stop, taken as usize), (0, 0, pairs.len() / 2), "a batch was refused");
 }
 
 pub fn salvage(table: &[u64], out: &mut [u64], report: &mut [u64], dropped: &mut u64) -> u64 {

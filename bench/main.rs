@@ -8,10 +8,12 @@ mod lines;
 mod machine;
 mod numbers;
 mod plot;
+mod quick;
 mod report;
 mod results;
 mod salvage;
 mod search;
+mod waits;
 mod walk;
 mod wear;
 
@@ -41,6 +43,7 @@ pub const SALVAGE: &str = "salvage";
 pub const LINES: &str = "lines of a leaf";
 pub const JUDGE: &str = "judge";
 pub const WEAR: &str = "wear";
+pub const QUICK_CALLS: &str = "quick calls";
 pub const OURS: &str = "ours";
 pub const PLAIN: &str = "plain C";
 pub const LED: &str = "ours, sentinels";
@@ -72,6 +75,7 @@ fn measure(sizes: &Sizes) -> Results {
     let mut results = Results::default();
     search::measure(&mut results, sizes.search);
     change::measure(&mut results, sizes.nodes);
+    quick::measure(&mut results, sizes.search);
     numbers::measure(&mut results, sizes.numbered);
     walk::measure(&mut results, sizes.nodes);
     salvage::measure(&mut results, sizes.search);
@@ -88,19 +92,21 @@ fn write(folder: &Path, name: &str, what: &str) {
 
 fn report(results: &Results, sizes: &Sizes, folder: &Path) {
     let machine = machine::lines();
-    let ratios = report::ratios(results, sizes.counted);
+    let (ratios, summaries) = (report::ratios(results, sizes.counted), report::quick_calls(results));
     println!("{}\nMedians of {RUNS} runs.\n", machine.join("\n"));
-    for table in report::times(results).iter().chain(&ratios) {
+    for table in report::times(results).iter().chain(&ratios).chain(&summaries) {
         println!("{}", table.text());
     }
     let facts: String = machine.iter().map(|line| format!("- {line}\n")).collect();
-    let tables: Vec<String> = ratios.iter().map(|table| table.markdown()).collect();
-    write(folder, "tables.md", &format!("{facts}\n{}", tables.join("\n")));
+    let markdown = |tables: &[report::Table]| format!("{facts}\n{}", tables.iter().map(report::Table::markdown).collect::<Vec<_>>().join("\n"));
+    write(folder, "tables.md", &markdown(&ratios));
+    write(folder, "summaries.md", &markdown(&summaries));
     write(folder, "results.tsv", &results.tsv());
     write(folder, "plot.svg", &plot::svg(results, &machine[0], sizes.counted.0));
 }
 
-/// Only the salvages or the judge, of rising numbers of codes, the wear figures, of orders, the changes or the recording numbers, of nodes; nothing is written.
+/// Only the salvages, the judge or the quick calls, of rising numbers of codes, the wear figures, of orders, the changes or the recording numbers, of
+/// nodes; nothing is written.
 fn only(sizes: &[&str], measure: fn(&mut Results, &[usize]), tables: fn(&Results) -> Vec<report::Table>) {
     let sizes: Vec<usize> = sizes.iter().map(|size| size.parse().expect("a number of codes, orders or nodes")).collect();
     let mut results = Results::default();
@@ -116,23 +122,34 @@ fn end_on_mismatch() {
     }));
 }
 
+fn number(word: &str) -> usize {
+    word.parse().expect("a number")
+}
+
+const USAGE: &str = "usage: bench [--quick] FOLDER | bench --only-search ours|plain KEYS QUERIES | bench --only-salvage CODES .. | bench --only-judge CODES .. | \
+    bench --only-wear ORDERS .. | bench --only-changes NODES .. | bench --only-numbers NODES .. | bench --only-quick CODES .. | bench --only-waits CODES | \
+    bench --only-calls changes|split|ten|twenty CODES CALLS";
+
 fn main() {
     end_on_mismatch();
     let words: Vec<String> = std::env::args().skip(1).collect();
     let words: Vec<&str> = words.iter().map(String::as_str).collect();
     let (sizes, folder) = match words[..] {
         ["--only-search", which @ (OURS | "plain"), keys, queries] => {
-            return search::only(which, keys.parse().expect("a number of keys"), queries.parse().expect("a number of queries"));
+            return search::only(which, number(keys), number(queries));
         }
         ["--only-salvage", ref sizes @ ..] if !sizes.is_empty() => return only(sizes, salvage::measure, report::salvages),
         ["--only-judge", ref sizes @ ..] if !sizes.is_empty() => return only(sizes, judge::measure, report::judgements),
         ["--only-wear", ref sizes @ ..] if !sizes.is_empty() => return only(sizes, wear::measure, report::wears),
         ["--only-changes", ref sizes @ ..] if !sizes.is_empty() => return only(sizes, change::measure, report::changes),
+        ["--only-quick", ref sizes @ ..] if !sizes.is_empty() => return only(sizes, quick::measure, report::quick_calls),
+        ["--only-waits", codes] => return print!("{}", report::waits(&waits::count(number(codes))).markdown()),
+        ["--only-calls", which, codes, count] => return quick::only(which, number(codes), number(count)),
         ["--only-numbers", ref sizes @ ..] if !sizes.is_empty() => return only(sizes, numbers::measure, report::numbers),
         ["--quick", folder] => (QUICK, folder),
         [folder] if !folder.starts_with('-') => (WHOLE, folder),
         _ => {
-            eprintln!("usage: bench [--quick] FOLDER | bench --only-search ours|plain KEYS QUERIES | bench --only-salvage CODES .. | bench --only-judge CODES .. | bench --only-wear ORDERS .. | bench --only-changes NODES .. | bench --only-numbers NODES ..");
+            eprintln!("{USAGE}");
             std::process::exit(2);
         }
     };

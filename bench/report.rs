@@ -2,11 +2,13 @@
 use crate::counts::{self, CHANGES, ORDERS};
 use crate::judge::LISTS;
 use crate::numbers::KINDS;
+use crate::quick;
 use crate::results::{Results, Spread};
 use crate::salvage::TABLES;
+use crate::waits;
 use crate::wear;
 use crate::{
-    CLASS_CHANGE, COUNTS, DELETION, HITS, INSERTION, JUDGE, LED, LINES, MISSES, NODES, NUMBERS, OTHERS, OURS, PAPER_FLUSHES, SALVAGE, SPLITTING, TABLE, TREE, TRUSTING, WALK, WEAR,
+    CLASS_CHANGE, COUNTS, DELETION, HITS, INSERTION, JUDGE, LED, LINES, MISSES, NODES, NUMBERS, OTHERS, OURS, PAPER_FLUSHES, QUICK_CALLS, SALVAGE, SPLITTING, TABLE, TREE, TRUSTING, WALK, WEAR,
 };
 use std::fmt::Write;
 
@@ -354,6 +356,68 @@ fn change_growth(results: &Results) -> Table {
 /// Only these, for the terminal.
 pub fn changes(results: &Results) -> Vec<Table> {
     vec![change_ratios(results), split_ratios(results), change_growth(results)]
+}
+
+// ---- quick calls
+
+/// A call without a summary and with one.
+fn quick_times(results: &Results) -> Table {
+    let head = ["call", "codes", "plain, µs", "with a summary, µs", "plain / with a summary"];
+    let mut table = Table::new("Calls with a summary beside the plain ones, changes carried out with each line flushed", &head);
+    for call in quick::CALLS {
+        for codes in results.sizes(QUICK_CALLS, quick::CHECK) {
+            let [plain, quick] = quick::WAYS.map(|way| results.median(QUICK_CALLS, &format!("{call}, {way}"), codes));
+            let mut row = vec![call.to_string(), grouped(codes)];
+            row.extend([plain, quick].map(|ns| or_dash(ns.map(|ns| ns / 1e3))));
+            row.push(ratio(plain, quick));
+            table.rows.push(row);
+        }
+    }
+    table
+}
+
+fn openings(results: &Results) -> Table {
+    let head = ["codes", "nodes", "check, µs", "summary worked out, µs", "summary / check"];
+    let mut table = Table::new("A summary worked out, and a check of the same table", &head);
+    for codes in results.sizes(QUICK_CALLS, quick::CHECK) {
+        let [check, opening] = [quick::CHECK, quick::OPENING].map(|what| results.median(QUICK_CALLS, what, codes));
+        let nodes = results.median(QUICK_CALLS, "nodes", codes).map_or("-".to_string(), |n| grouped(n as usize));
+        let mut row = vec![grouped(codes), nodes];
+        row.extend([check, opening].map(|ns| or_dash(ns.map(|ns| ns / 1e3))));
+        row.push(ratio(opening, check));
+        table.rows.push(row);
+    }
+    table
+}
+
+fn quick_growth(results: &Results) -> Table {
+    let names = quick::CALLS.map(|call| (call, format!("{call}, {}", quick::WAYS[1])));
+    let mut figures = vec![(quick::SEARCH, QUICK_CALLS, quick::SEARCH)];
+    figures.extend(names.iter().map(|(call, name)| (*call, QUICK_CALLS, name.as_str())));
+    let sizes = results.sizes(QUICK_CALLS, quick::CHECK);
+    growth(results, "Growth of calls with a summary, and of a search beside them: times as long for twice as many codes", "codes", &sizes, None, &figures)
+}
+
+/// A part of the document of its own.
+pub fn quick_calls(results: &Results) -> Vec<Table> {
+    vec![quick_times(results), openings(results), quick_growth(results)]
+}
+
+// ---- waits for a disk
+
+pub fn waits(all: &waits::All) -> Table {
+    let columns: Vec<String> = (1..=waits::MOST).map(|n| n.to_string()).chain([format!("over {}", waits::MOST)]).collect();
+    let head: Vec<&str> = ["change", "a wait for", "changes", "mean"].into_iter().chain(columns.iter().map(String::as_str)).collect();
+    let mut table = Table::new("Waits of a change on an ordinary disk: the mean, and of a hundred changes so many with 1, 2, .. of them", &head);
+    for (kind, counts) in waits::KINDS.iter().zip(all) {
+        for (what, c) in waits::WAITS.iter().zip(counts) {
+            let share = |n: &usize| if *n == 0 { "-".to_string() } else { figure(100.0 * *n as f64 / c.changes as f64) };
+            let mut row = vec![kind.to_string(), what.to_string(), grouped(c.changes), figure(c.waits as f64 / c.changes as f64)];
+            row.extend(c.by_waits.iter().map(share));
+            table.rows.push(row);
+        }
+    }
+    table
 }
 
 // ---- recording numbers

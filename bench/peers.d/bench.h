@@ -8,8 +8,9 @@
 
 #define SEED 20180212
 
-/* A range of ten. */
-#define RANGE 10
+/* Ranges of ten and of twenty. */
+#define TEN 10
+#define TWENTY 20
 
 /* Nanoseconds that a contender's changes or ranges of a row may take. */
 #define BUDGET 2.5e9
@@ -51,8 +52,6 @@ size_t to_insert(const struct sizes *s);
 /* Those asked for that are absent, as many as there are queries. */
 const struct pair *absent_pairs(const struct bench *b);
 
-typedef size_t range_call(void *store, uint64_t low, struct pair *out, size_t count);
-
 /* What a scan of these pairs must see, but for their order. */
 struct scanned sum_of(const struct pair *pairs, size_t count);
 
@@ -61,6 +60,9 @@ void compare_scan(const struct peer *peer, void *store, const struct scanned *ex
 
 /* Every contender's answers beside the pairs put in: finds, ranges, a scan, and what is refused. */
 void compare_all(const struct bench *b);
+
+/* A row again with another figure of ours, to be filled; its name ends so. */
+struct row *with_other(const struct bench *b, const char *what, const char *ending);
 
 /* Finds, scans and ranges, as rows. */
 void measure_reading(struct bench *b);
@@ -75,12 +77,13 @@ void measure_loads(struct bench *b);
 #define LOAD_ANY "load of all, as they come"
 const char *load_in_batches(const struct sizes *s);
 #define BY_FILE ", ours by a new file each"
+#define PLAIN ", ours without a summary"
 
 /* Closes the stores and compares what their files hold with all that was taken; the files go. */
 void end_stores(struct bench *b);
 
 /* The bytes of a contender's files, and the end of these. */
-double bytes_of(const struct peer *peer, const char *folder);
+double bytes_in_files(const struct peer *peer, const char *folder);
 void remove_files(const struct peer *peer, const char *folder);
 
 #endif

@@ -66,11 +66,10 @@ static void measure_changes(struct bench *b, const char *what, size_t batch, siz
     b->next += most * batch;
 }
 
-/* A row again with another figure of ours, to be filled. */
-static struct row *with_other(const struct bench *b, const char *what)
+struct row *with_other(const struct bench *b, const char *what, const char *ending)
 {
     char name[80];
-    snprintf(name, sizeof name, "%s" BY_FILE, what);
+    snprintf(name, sizeof name, "%s%s", what, ending);
     struct row *row = row_new(name, b->codes, NANOSECONDS);
     const struct row *others = row_named(what, b->codes);
     memcpy(row->figure + 1, others->figure + 1, (PEERS - 1) * sizeof row->figure[0]);
@@ -79,27 +78,36 @@ static struct row *with_other(const struct bench *b, const char *what)
     return row;
 }
 
-static void measure_by_file(struct bench *b, const char *what, size_t batch, size_t most)
+/* The same changes by other calls of ours. */
+static void measure_other(struct bench *b, const char *what, const char *ending, const struct peer *peer, size_t batch, size_t most)
 {
-    struct row *row = with_other(b, what);
-    struct changes made = {.count = 0};
+    static struct changes made;
+    struct row *row = with_other(b, what, ending);
+    memset(&made, 0, sizeof made);
     while (made.count < most && (made.count == 0 || made.spent < BUDGET))
-        change(b, &ours_by_file, 0, batch, &made);
+        change(b, peer, 0, batch, &made);
     row->figure[0] = median(made.times, made.count);
     row->measured[0] = made.count;
-    compare_scan(&ours_by_file, b->stores[0], &b->expected[0], "after new files");
+    if (peer == &ours_by_library)
+        ours_library_ends(b->stores[0]);
+    compare_scan(peer, b->stores[0], &b->expected[0], "after changes by other calls");
     b->next += most * batch;
 }
 
 void measure_inserting(struct bench *b)
 {
-    measure_changes(b, "insertion one by one", 1, b->sizes->single);
+    const char *single = "insertion one by one";
+    measure_changes(b, single, 1, b->sizes->single);
+    measure_other(b, single, PLAIN, &ours_plain, 1, b->sizes->single);
+    measure_other(b, single, ", ours by the file library", &ours_by_library, 1, b->sizes->single);
     for (size_t k = 0; k < 2; k++) {
         char what[80];
         snprintf(what, sizeof what, "insertion in batches of %s, a code", text_count(b->sizes->batch[k]));
         measure_changes(b, what, b->sizes->batch[k], b->sizes->batches[k]);
-        if (!b->place.memory)
-            measure_by_file(b, what, b->sizes->batch[k], b->sizes->batches[k]);
+        if (b->place.memory)
+            measure_other(b, what, PLAIN, &ours_plain, b->sizes->batch[k], b->sizes->batches[k]);
+        else
+            measure_other(b, what, BY_FILE, &ours_by_file, b->sizes->batch[k], b->sizes->batches[k]);
     }
 }
 
@@ -181,7 +189,7 @@ static void measure_after_load(struct bench *b)
         peers[i]->close(loaded);
         b->stores[i] = peers[i]->open(&b->place);
         b->expected[i] = sum_of(b->pairs, b->codes);
-        size->figure[i] = peers[i]->used ? (double)peers[i]->used(b->stores[i]) : bytes_of(peers[i], b->place.folder);
+        size->figure[i] = peers[i]->used ? (double)peers[i]->used(b->stores[i]) : bytes_in_files(peers[i], b->place.folder);
     }
     b->next = b->codes;
     measure_changes(b, "insertion one by one, straight after a load", 1, b->sizes->single);
@@ -196,7 +204,7 @@ static void measure_load_in_batches(struct bench *b)
         if (!too_long(b, i, b->sizes->batch[1]))
             load_by_batches(b, peers[i], i, b->place.memory ? LOAD_BUDGET : DISK_BUDGET, row);
     if (!b->place.memory)
-        load_by_batches(b, &ours_by_file, 0, LOAD_BUDGET, with_other(b, what));
+        load_by_batches(b, &ours_by_file, 0, LOAD_BUDGET, with_other(b, what, BY_FILE));
 }
 
 void measure_loads(struct bench *b)

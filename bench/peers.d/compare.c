@@ -34,17 +34,17 @@ static void compare_finds(const struct bench *b, size_t i)
 }
 
 /* Ranges from random places of the sorted pairs, from a key and from beside one, with the end among them. */
-static void compare_ranges(const struct bench *b, size_t i, range_call *range)
+static void compare_ranges(const struct bench *b, size_t i, range_call *range, size_t most)
 {
     struct random r = {SEED};
-    struct pair out[RANGE];
+    struct pair out[TWENTY];
     for (size_t turn = 0; turn < 20; turn++) {
         size_t at = turn == 0 ? b->codes - 3 : random_below(&r, b->codes), left = b->codes - at;
-        size_t there = left < RANGE ? left : RANGE;
+        size_t there = left < most ? left : most;
         uint64_t low = turn % 2 == 0 || at == 0 ? b->rising[at].key : b->rising[at - 1].key + 1;
-        size_t found = range(b->stores[i], low, out, RANGE);
+        size_t found = range(b->stores[i], low, out, most);
         if (found != there || memcmp(out, &b->rising[at], there * sizeof *out) != 0)
-            die("%s: a range of ten is not as it was put in", peers[i]->name);
+            die("%s: a range of %zu is not as it was put in", peers[i]->name, most);
     }
 }
 
@@ -64,8 +64,10 @@ void compare_all(const struct bench *b)
         compare_scan(peers[i], b->stores[i], &b->expected[i], "at first");
         peers[i]->begin(b->stores[i]);
         compare_finds(b, i);
-        compare_ranges(b, i, peers[i]->range);
+        compare_ranges(b, i, peers[i]->range, TEN);
+        compare_ranges(b, i, peers[i]->range, TWENTY);
         peers[i]->end(b->stores[i]);
     }
-    compare_ranges(b, 0, ours_range_by_search);
+    compare_ranges(b, 0, ours_plain.range, TEN);
+    compare_ranges(b, 0, ours_range_by_search, TEN);
 }

@@ -20,7 +20,7 @@ static const struct sizes quick = {{1000, 4000}, 2, 1000, 20, 20, {10, 100}, {3,
 
 size_t to_insert(const struct sizes *s)
 {
-    return 2 * (s->single + s->batch[0] * s->batches[0] + s->batch[1] * s->batches[1]) + 2;
+    return 4 * s->single + 2 * (s->batch[0] * s->batches[0] + s->batch[1] * s->batches[1]) + 2;
 }
 
 const struct pair *absent_pairs(const struct bench *b)
@@ -36,7 +36,7 @@ void remove_files(const struct peer *peer, const char *folder)
         remove_file(folder, peer->files[i]);
 }
 
-double bytes_of(const struct peer *peer, const char *folder)
+double bytes_in_files(const struct peer *peer, const char *folder)
 {
     uint64_t bytes = 0;
     /* A lock file holds nothing. */
@@ -85,7 +85,7 @@ static size_t measure_size(struct bench *b)
     struct row *file = row_new("file, with room to grow", b->codes, BYTES), *used = row_new("of it in use", b->codes, BYTES);
     for (size_t i = 0; i < PEERS; i++) {
         b->stores[i] = peers[i]->grown(&b->place, b->pairs, b->codes);
-        file->figure[i] = bytes_of(peers[i], b->place.folder);
+        file->figure[i] = bytes_in_files(peers[i], b->place.folder);
         used->figure[i] = peers[i]->used ? (double)peers[i]->used(b->stores[i]) : file->figure[i];
     }
     size_t nodes = ours_nodes(b->stores[0]);

@@ -72,8 +72,14 @@ struct peer {
 
 extern const struct peer ours, lmdb, sqlite, pmdk;
 
-/* As ours and over its stores, a batch as a whole new file in the old one's place. */
-extern const struct peer ours_by_file;
+/* The first pairs from a key up. */
+typedef size_t range_call(void *store, uint64_t low, struct pair *out, size_t count);
+
+/* As ours and over its stores: by calls without a summary; a batch as a whole new file in the old one's place; by the file library. */
+extern const struct peer ours_plain, ours_by_file, ours_by_library;
+
+/* Ends the changes by the file library. */
+void ours_library_ends(void *store);
 
 /* As ours, a range by searches for the next code up. */
 size_t ours_range_by_search(void *store, uint64_t low, struct pair *out, size_t count);

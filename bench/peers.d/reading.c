@@ -56,33 +56,38 @@ static void measure_finds(struct bench *b, const char *what, bool there, bool ea
     free(order);
 }
 
+static void time_scans(struct bench *b, const struct peer *peer, size_t i, struct row *row)
+{
+    double times[RUNS];
+    for (size_t run = 0; run < RUNS; run++) {
+        double start = now();
+        compare_scan(peer, b->stores[i], &b->expected[i], "at a scan");
+        times[run] = now() - start;
+    }
+    row->figure[i] = median(times, RUNS);
+    row->measured[i] = RUNS;
+}
+
 static void measure_scan(struct bench *b)
 {
     struct row *row = row_new("scan of all", b->codes, NANOSECONDS);
-    for (size_t i = 0; i < PEERS; i++) {
-        double times[RUNS];
-        for (size_t run = 0; run < RUNS; run++) {
-            double start = now();
-            compare_scan(peers[i], b->stores[i], &b->expected[i], "at a scan");
-            times[run] = now() - start;
-        }
-        row->figure[i] = median(times, RUNS);
-        row->measured[i] = RUNS;
-    }
+    for (size_t i = 0; i < PEERS; i++)
+        time_scans(b, peers[i], i, row);
+    time_scans(b, &ours_plain, 0, with_other(b, "scan of all", PLAIN));
 }
 
-/* Ranges of ten from random places, as many as the budget allows: the median of their times. */
-static double time_ranges(struct bench *b, size_t i, range_call *range, size_t *measured)
+/* Ranges from random places, as many as the budget allows: the median of their times. */
+static double time_ranges(struct bench *b, size_t i, range_call *range, size_t pairs, size_t *measured)
 {
     double times[MOST_CHANGES], begun = now();
     struct random r = {SEED};
-    struct pair out[RANGE];
+    struct pair out[TWENTY];
     size_t n = 0;
     while (n < b->sizes->ranges && (n < 3 || now() - begun < BUDGET)) {
         uint64_t low = b->pairs[random_below(&r, b->codes)].key;
         double start = now();
         peers[i]->begin(b->stores[i]);
-        size_t found = range(b->stores[i], low, out, RANGE);
+        size_t found = range(b->stores[i], low, out, pairs);
         peers[i]->end(b->stores[i]);
         times[n++] = now() - start;
         if (found == 0 || out[0].key != low)
@@ -92,15 +97,18 @@ static double time_ranges(struct bench *b, size_t i, range_call *range, size_t *
     return median(times, n);
 }
 
-static void measure_ranges(struct bench *b)
+static void measure_ranges(struct bench *b, const char *what, size_t pairs)
 {
-    struct row *row = row_new("range of ten", b->codes, NANOSECONDS);
+    struct row *row = row_new(what, b->codes, NANOSECONDS);
     for (size_t i = 0; i < PEERS; i++)
-        row->figure[i] = time_ranges(b, i, peers[i]->range, &row->measured[i]);
-    struct row *other = row_new("range of ten, ours by searches", b->codes, NANOSECONDS);
-    memcpy(other->figure, row->figure, sizeof row->figure);
-    memcpy(other->measured, row->measured, sizeof row->measured);
-    other->figure[0] = time_ranges(b, 0, ours_range_by_search, &other->measured[0]);
+        row->figure[i] = time_ranges(b, i, peers[i]->range, pairs, &row->measured[i]);
+}
+
+/* The same by other calls of ours. */
+static void measure_other_range(struct bench *b, const char *what, const char *ending, range_call *range, size_t pairs)
+{
+    struct row *row = with_other(b, what, ending);
+    row->figure[0] = time_ranges(b, 0, range, pairs, &row->measured[0]);
 }
 
 void measure_reading(struct bench *b)
@@ -109,5 +117,8 @@ void measure_reading(struct bench *b)
     measure_finds(b, "find, miss", false, false);
     measure_finds(b, "find, hit, a transaction each", true, true);
     measure_scan(b);
-    measure_ranges(b);
+    measure_ranges(b, "range of ten", TEN);
+    measure_other_range(b, "range of ten", PLAIN, ours_plain.range, TEN);
+    measure_other_range(b, "range of ten", ", ours by searches", ours_range_by_search, TEN);
+    measure_ranges(b, "range of twenty", TWENTY);
 }

@@ -8,7 +8,7 @@
 
 #include "files.h"
 
-#define MOST_ROWS 80
+#define MOST_ROWS 120
 
 static struct row rows[MOST_ROWS];
 static size_t count;
