@@ -51,12 +51,12 @@ static const struct {
     {CATALOGUE_FILE_THERE, "the table has the line already"},
     {CATALOGUE_FILE_NOT_TAKEN, "the load ended before this line"},
     {CATALOGUE_FILE_CUT, "cut off after the orders that were asked for"},
-    {CATALOGUE_FILE_OVERWRITTEN, "the table in this program's memory was changed by somebody else"},
     {CATALOGUE_FILE_NO_FLUSH, "no flush of this processor makes a line of the table last"},
     {CATALOGUE_FILE_DECAYED, "a word has decayed in the table or in its sums, or a program that keeps no sums has stored to it"},
     {CATALOGUE_FILE_UNSUMMED, "a program that keeps no sums has changed the table"},
     {CATALOGUE_FILE_BAD_SUMS, "the file of sums beside the table is damaged, cannot be read, or is another table's"},
     {CATALOGUE_FILE_NO_SUMS, "the table has no file of sums"},
+    {CATALOGUE_FILE_OVERWRITTEN, "the table in this program's memory was changed by somebody else"},
 };
 
 const char *catalogue_file_strerror(uint64_t number)
