@@ -127,6 +127,14 @@ static size_t gather(const struct loading *l, size_t from)
     return pairs;
 }
 
+/* A new file gets the whole copy, of which a call by the summary has looked at its way alone. */
+static uint64_t copy_is_sound(struct catalogue_file *f)
+{
+    uint64_t report[CATALOGUE_CHECK_WORDS];
+    uint64_t number = f->summarized ? summary_number(f, catalogue_check(f->working, f->words, report)) : 0;
+    return number == 0 ? 0 : refuses(f, number);
+}
+
 /*
  * A batch's orders, in place or, if a flush is a wait for the disk and these are many, by a new file with what they come to. The waits for a
  * new file are three and the writing of its pages, about 64 of which are one more.
@@ -136,8 +144,10 @@ static uint64_t carry_orders(struct loading *l, uint64_t count, uint64_t flushes
     struct batch *b = l->batch;
     struct catalogue_file *f = l->f;
     uint64_t number = 0;
-    if (b->by_file && flushes > 8 + bytes_of(f->words, true) / PAGE_BYTES / 64)
-        b->by_file = (number = replace(f, by_file)) == 0 && *by_file;
+    if (b->by_file && !f->stale && flushes > 8 + bytes_of(f->words, true) / PAGE_BYTES / 64) {
+        number = copy_is_sound(f);
+        b->by_file = number == 0 && (number = replace(f, by_file)) == 0 && *by_file;
+    }
     if (number == 0 && !*by_file)
         number = still_ours(f, b->orders, count);
     if (number == 0 && !*by_file)

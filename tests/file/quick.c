@@ -2,6 +2,7 @@
 #include <fcntl.h>
 #include <stdlib.h>
 #include <string.h>
+#include <sys/stat.h>
 #include <unistd.h>
 
 #include "check.h"
@@ -268,13 +269,18 @@ static uint64_t *node_of(uint64_t *table, uint64_t node)
     return table + 8 + 32 * (node - 1);
 }
 
-/* The leftmost leaf of collection 1: its left is no node. */
-static uint64_t *first_leaf(uint64_t *table)
+/* The leftmost leaf below a root: its left is no node. */
+static uint64_t *leaf_below(uint64_t *table, uint64_t root)
 {
-    uint64_t *node = node_of(table, table[1]);
+    uint64_t *node = node_of(table, root);
     while (node[2] > 0)
         node = node_of(table, node[0]);
     return node;
+}
+
+static uint64_t *first_leaf(uint64_t *table)
+{
+    return leaf_below(table, table[1]);
 }
 
 static struct catalogue_file_change add(uint64_t key)
@@ -313,6 +319,32 @@ static bool stored_into(void)
         CHECK(strstr(catalogue_file_message(f), "somebody else"));
         CHECK(as_plain(f, at("stored"), some_change(&seed, 700)));
     }
+    catalogue_file_free(f);
+    return true;
+}
+
+/* A batch that would come by a new file: what is damaged in the copy, off the way of its lines, does not come into the file. */
+static bool stored_into_and_loaded(void)
+{
+    uint64_t seed = 12, pairs[2 * 64];
+    struct stat before, after;
+    catalogue_file *f = catalogue_file_new();
+    CHECK(begin(f, at("stored and loaded"), 300));
+    GIVES(0, catalogue_file_close(f));
+    GIVES(0, catalogue_file_open(f, at("stored and loaded"), CATALOGUE_FILE_WRITING, 0));
+    CHECK(as_plain(f, at("stored and loaded"), add(3000)));
+    for (uint64_t i = 0; i < 64; i++)
+        pairs[2 * i] = 4000 + i, pairs[2 * i + 1] = 4000 + i;
+    uint64_t *table = copy_of(f);
+    leaf_below(table, table[3])[8] = UINT64_MAX - 5;
+    GIVES(CATALOGUE_FILE_OVERWRITTEN, catalogue_file_load_pairs(f, 1, 0, pairs, 64, NULL));
+    CHECK(catalogue_file_outcome(f) == CATALOGUE_FILE_NOT_MADE && same_words(at("stored and loaded"), plain));
+    CHECK(as_plain(f, at("stored and loaded"), some_change(&seed, 700)));
+    CHECK(stat(at("stored and loaded"), &before) == 0);
+    GIVES(0, catalogue_file_load_pairs(f, 1, 0, pairs, 64, NULL));
+    CHECK(stat(at("stored and loaded"), &after) == 0 && after.st_ino != before.st_ino);
+    take_words(at("stored and loaded"));
+    CHECK(as_plain(f, at("stored and loaded"), some_change(&seed, 700)));
     catalogue_file_free(f);
     return true;
 }
@@ -376,6 +408,7 @@ const struct test quick_tests[] = {
     {"quick changes after a packed load", packed_load},
     {"quick changes beside another writer", other_writer},
     {"a copy that was stored into", stored_into},
+    {"a copy that was stored into, and a load", stored_into_and_loaded},
     {"quick changes of a damaged file", damaged},
     {"no memory for a summary", no_summary},
     {NULL, NULL},
