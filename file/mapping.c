@@ -1,6 +1,8 @@
 /* A table's file: its length, its name, its words mapped. */
 #include "mapping.h"
 
+#include <errno.h>
+#include <fcntl.h>
 #include <sys/mman.h>
 
 #if __BYTE_ORDER__ != __ORDER_LITTLE_ENDIAN__
@@ -26,6 +28,17 @@ bool has_name(const struct catalogue_file *f, struct stat *ours)
 {
     struct stat named;
     return fstat(f->file, ours) == 0 && stat(f->path, &named) == 0 && same_file(ours, &named);
+}
+
+bool fill_holes(int file, const struct stat *about, uint64_t bytes)
+{
+    if ((uint64_t)about->st_blocks * 512 >= bytes)
+        return true;
+    int status;
+    do
+        status = fallocate(file, 0, 0, (off_t)bytes);
+    while (status != 0 && errno == EINTR);
+    return status == 0 || (errno != ENOSPC && errno != EDQUOT && errno != EIO);
 }
 
 /*

@@ -16,6 +16,12 @@ bool same_file(const struct stat *a, const struct stat *b);
 bool has_name(const struct catalogue_file *f, struct stat *ours);
 
 /*
+ * A file that was copied without its zeros has no place on the disk for them: the first store to such a page would end the program if the disk
+ * is full. Takes the place for so many bytes. False, with errno, if there is none; a file system that cannot say so beforehand goes on.
+ */
+bool fill_holes(int file, const struct stat *about, uint64_t bytes);
+
+/*
  * So many words and a trailer of an open file, for writing if asked for; null, with errno, if they cannot be mapped. *persistent: flush
  * instructions are enough.
  */

@@ -2,7 +2,6 @@
 #include "memory.h"
 
 #include <errno.h>
-#include <fcntl.h>
 #include <inttypes.h>
 #include <stdlib.h>
 #include <string.h>
@@ -149,20 +148,9 @@ bool waits_for_disk(const struct catalogue_file *f)
 
 /* ---- beginning */
 
-/*
- * A file that was copied without its zeros has no place on the disk for them: the first store to such a page would end the program if the disk
- * is full. A file system that cannot say so beforehand goes on.
- */
 static uint64_t take_room(struct catalogue_file *f)
 {
-    uint64_t bytes = bytes_of(f->words, f->trailer);
-    if ((uint64_t)f->left.st_blocks * 512 >= bytes)
-        return 0;
-    int status;
-    do
-        status = fallocate(f->file, 0, 0, (off_t)bytes);
-    while (status != 0 && errno == EINTR);
-    if (status == 0 || (errno != ENOSPC && errno != EDQUOT && errno != EIO))
+    if (fill_holes(f->file, &f->left, bytes_of(f->words, f->trailer)))
         return 0;
     return fails_for(f, CATALOGUE_FILE_DISK, "%s has no room on its disk for all its words", f->name);
 }

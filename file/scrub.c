@@ -122,6 +122,8 @@ static uint64_t look_at_all(struct catalogue_file *f, struct doubts *d)
 {
     const uint64_t *counter;
     uint64_t number, moment, gathered;
+    /* A writer's copies are as old as its last reading. */
+    f->stale = f->stale || (f->writing && f->sums.mapped);
     do {
         number = whole_table(f);
         if (!is_doubt(number))

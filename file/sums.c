@@ -75,6 +75,8 @@ static bool map_file(struct catalogue_file *f, int file)
     errno = f->writing && (about.st_mode & (S_IWUSR | S_IWGRP | S_IWOTH)) == 0 ? EACCES : 0;
     if (errno != 0 || !S_ISREG(about.st_mode) || (uint64_t)about.st_size != words * sizeof(uint64_t))
         return false;
+    if (f->writing && !fill_holes(file, &about, words * sizeof(uint64_t)))
+        return false;
     uint64_t *mapped = map_words(file, words, f->writing, &s->persistent);
     if (!mapped)
         return false;
@@ -151,6 +153,9 @@ uint64_t sums_open(struct catalogue_file *f)
     if (!s->mapped || s->room)
         return 0;
     sums_close(f);
+    /* Nor is a change made without them: a writer is refused until it is opened again, a reader's next call tries again. */
+    s->trouble = CATALOGUE_FILE_BAD_SUMS;
+    s->why = ENOMEM;
     return no_memory(f);
 }
 

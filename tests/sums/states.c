@@ -9,6 +9,7 @@
 #include <unistd.h>
 
 #include "crc.h"
+#include "handle.h"
 #include "try.h"
 
 #define GIVES(number, call) gives((number), (call), __LINE__, #call)
@@ -286,6 +287,135 @@ static void open_before(void)
     passed("a reader that was open before");
 }
 
+/* ---- a writer with a summary */
+
+/* A change of code i of a collection, as its ledger has it, perhaps cut off; the ledger gets what the handle finds then. */
+static uint64_t change_some(uint64_t c, uint64_t i, uint64_t recording, uint64_t cut)
+{
+    bool there = ledger.recording[c][i] != 0;
+    uint64_t kind = !there ? CATALOGUE_FILE_ADD : drawn() % 2 ? CATALOGUE_FILE_REMOVE : CATALOGUE_FILE_SET_CLASS;
+    struct catalogue_file_change change = {.kind = kind, .collection = c + 1, .key = 10 * i, .recording = recording, .access = drawn() % 3, .cut = cut};
+    struct catalogue_file_pair pair;
+    uint64_t number = catalogue_file_change(f, &change);
+    ledger.recording[c][i] = catalogue_file_find(f, c + 1, 10 * i, &pair) == 0 ? pair.recording : 0;
+    MUST(number != 0 || (ledger.recording[c][i] == 0) == (kind == CATALOGUE_FILE_REMOVE), "code %lu is as before", (unsigned long)i);
+    return number;
+}
+
+/* The codes that a collection lacks, by batches. */
+static void load_the_rest(uint64_t c, uint64_t recording)
+{
+    static uint64_t pairs[2 * MOST_CODES];
+    size_t count = 0;
+    for (uint64_t i = 1; i <= ledger.codes; i++)
+        if (ledger.recording[c][i] == 0) {
+            pairs[2 * count] = 10 * i;
+            pairs[2 * count++ + 1] = ledger.recording[c][i] = recording + i;
+        }
+    GIVES(0, catalogue_file_load_pairs(f, c + 1, drawn() % 2 ? CATALOGUE_FILE_IN_PLACE : 0, pairs, count, NULL));
+}
+
+static void all_fit(catalogue_file *reader)
+{
+    struct named n;
+    MUST(scrub(reader, &n) == 0 && ask_all(reader, &ledger, &ledger, 5).refused == 0, "%s", catalogue_file_message(reader));
+}
+
+/* Changes by the summary, changes that are cut off, loads, a scrub by the handle: a reader beside it finds that all words fit. */
+static void with_a_summary(uint64_t flags, uint64_t dock)
+{
+    const struct catalogue_file_options options = {.flags = CATALOGUE_FILE_WRITING | flags, .dock = dock};
+    unsigned quick = 0, cut = 0;
+    make_table("t", 80, 2, 150, true, &ledger);
+    catalogue_file *reader = catalogue_file_new();
+    GIVES(0, catalogue_file_open_with(f, at("t"), &options));
+    MUST(catalogue_file_open(reader, at("t"), 0, 0) == 0, "%s", catalogue_file_message(reader));
+    for (uint64_t round = 1; round <= 1200; round++) {
+        uint64_t orders = round % 15 == 0 ? drawn() % 5 : CATALOGUE_FILE_ALL;
+        uint64_t number = change_some(drawn() % 2, 1 + drawn() % 150, 10000 * round, orders);
+        MUST(number == 0 || (number == CATALOGUE_FILE_CUT && orders < 5) || number == CATALOGUE_FILE_BAD_OPTION, "%s", catalogue_file_message(f));
+        quick += number == 0 && f->summarized && f->sums.mapped;
+        cut += number == CATALOGUE_FILE_CUT;
+        if (round % 15 == 0 || round % 40 == 1)
+            all_fit(reader);
+        if (round % 100 == 0)
+            load_the_rest(drawn() % 2, 10000 * round);
+        if (round % 200 == 0)
+            GIVES(0, scrubbed());
+    }
+    all_fit(reader);
+    MUST(quick > 1000 && cut > 20, "%u changes by a summary, %u cut off", quick, cut);
+    GIVES(0, catalogue_file_close(f));
+    all_fit(reader);
+    catalogue_file_free(reader);
+    passed("%u changes by a summary, %u cut off, and loads%s, dock %lu", quick, cut, flags ? ", fast" : "", (unsigned long)dock);
+}
+
+/* A word decays while a writer has the table open, which has read it before: its scrub reads it again. */
+static void decay_behind_a_writer(void)
+{
+    struct catalogue_file_pair pair;
+    struct named n;
+    size_t word = 8 + 9; /* the first pointer of node 1 */
+    make_table("t", 20, 2, 20, true, &ledger);
+    GIVES(0, open_for(CATALOGUE_FILE_WRITING, "t"));
+    GIVES(0, add_one());
+    for (int bit = 0; bit < 64; bit += 9) {
+        f->mapped[word] ^= UINT64_C(1) << bit;
+        GIVES(CATALOGUE_FILE_DECAYED, scrub(f, &n));
+        MUST(n.count == 1 && n.node == 1 && n.line == 1, "%lu lines, the first in node %lu", (unsigned long)n.count, (unsigned long)n.node);
+        GIVES(CATALOGUE_FILE_DECAYED, catalogue_file_find(f, 1, 10, &pair));
+        GIVES(CATALOGUE_FILE_DECAYED, catalogue_file_remove(f, 1, 7));
+        f->mapped[word] ^= UINT64_C(1) << bit;
+        GIVES(0, scrubbed());
+        GIVES(0, catalogue_file_remove(f, 1, 7));
+        GIVES(0, add_one());
+    }
+    passed("words that decay while a writer has the table open");
+}
+
+static bool disk_is_full;
+
+int __real_fallocate(int file, int mode, off_t from, off_t bytes);
+int __wrap_fallocate(int file, int mode, off_t from, off_t bytes)
+{
+    if (!disk_is_full)
+        return __real_fallocate(file, mode, from, bytes);
+    errno = ENOSPC;
+    return -1;
+}
+
+/* A file of sums that was copied without its zeros gets its place on the disk before anything is stored; if there is none nothing is changed. */
+static void with_holes(void)
+{
+    struct stat about;
+    size_t bytes, page = 4096;
+    make_table("t", 20, 2, 20, true, &ledger);
+    uint8_t *all = read_file(sums_of("t"), &bytes), *zeros = calloc(1, page);
+    MUST(unlink(sums_of("t")) == 0, "not removed");
+    int file = open(sums_of("t"), O_WRONLY | O_CREAT, 0644);
+    MUST(file >= 0 && ftruncate(file, (off_t)bytes) == 0, "not made");
+    for (size_t at = 0, some; at < bytes; at += some) {
+        some = bytes - at < page ? bytes - at : page;
+        if (memcmp(all + at, zeros, some) != 0)
+            MUST(pwrite(file, all + at, some, (off_t)at) == (ssize_t)some, "not written");
+    }
+    MUST(fstat(file, &about) == 0 && (size_t)about.st_blocks * 512 < bytes, "no holes");
+    disk_is_full = true;
+    GIVES(0, open_for(CATALOGUE_FILE_WRITING, "t"));
+    GIVES(CATALOGUE_FILE_BAD_SUMS, add_one());
+    MUST(strstr(catalogue_file_message(f), strerror(ENOSPC)), "%s", catalogue_file_message(f));
+    disk_is_full = false;
+    GIVES(0, open_for(CATALOGUE_FILE_WRITING, "t"));
+    MUST(fstat(file, &about) == 0 && (size_t)about.st_blocks * 512 >= bytes, "holes stay");
+    GIVES(0, add_one());
+    GIVES(0, scrubbed());
+    close(file);
+    free(all);
+    free(zeros);
+    passed("a file of sums with holes");
+}
+
 /* ---- short memory */
 
 static long left = -1;
@@ -349,6 +479,8 @@ static void short_memory(void)
         left = -1;
         MUST(number == 0 || number == CATALOGUE_FILE_NO_MEMORY || number == CATALOGUE_FILE_BAD_SUMS, "%lu: %s", (unsigned long)number,
              catalogue_file_message(f));
+        /* The same handle makes no change without the sums. */
+        add_one();
         GIVES(0, open_for(CATALOGUE_FILE_READING, "t"));
         MUST(ask_all(f, &ledger, &ledger, 5).refused == 0, "%s", catalogue_file_message(f));
         GIVES(0, open_for(CATALOGUE_FILE_WRITING, "t"));
@@ -439,6 +571,12 @@ int main(int count, char **words)
     copies();
     without_sums();
     open_before();
+    for (uint64_t dock = 0; dock < 2; dock++) {
+        with_a_summary(0, dock);
+        with_a_summary(CATALOGUE_FILE_FAST, dock);
+    }
+    decay_behind_a_writer();
+    with_holes();
     short_memory();
     failing_disk();
     catalogue_file_free(f);
